@@ -1,0 +1,20 @@
+//! Lists that come one by one, and the want of memory.
+#![tactic(auto)]
+
+use std::alloc::{AllocError, AllocFailed};
+
+/// Memory was wanting. What was to be changed is as before, unless the call says otherwise.
+#[derive(Clone, Copy, Debug, PartialEq, Eq)]
+pub struct NoMemory;
+
+impl From<AllocError> for NoMemory {
+    fn from(_refused: AllocError) -> NoMemory {
+        NoMemory
+    }
+}
+
+impl<T: Drop> From<AllocFailed<T>> for NoMemory {
+    fn from(_refused: AllocFailed<T>) -> NoMemory {
+        NoMemory
+    }
+}
