@@ -1,0 +1,7 @@
+pub mod Halves
+pub mod Reach
+pub mod Tiles
+pub mod Lines
+pub mod Rows
+pub mod Winding
+pub mod Trapezoids

@@ -1,0 +1,11 @@
+//! The geometry that everything stands on: the half grid's triangles, the lines of its four directions,
+//! and the trapezoids between two such lines.
+//!
+//! All numbers are half units: a layout coordinate of `n` grid steps is `2n`. Nothing here takes memory.
+#![tactic(auto)]
+
+mod plane;
+mod rows;
+
+pub use plane::{Line, Point, Side, Strips, Tile};
+pub use rows::{diagonal_of, line_at, number_of, place_of, strips, x_at};
