@@ -1,3 +1,4 @@
 pub mod Halves
 pub mod StripBounds
 pub mod Places
+pub mod LineLemmas

@@ -2,7 +2,7 @@
 --
 -- Upright(c) is X = c, Rising(c) is X - Y = 2c, Falling(c) is X + Y = 2c. A tile is right of Upright(c) where
 -- i >= c, of Rising(c) where q >= c, of Falling(c) where p >= c. A tile that isn't right of a line is left of it.
-use Rattle.std.specs.Prelude.{ℤ, pos, ◌+ℤ◌, ◌-ℤ◌, ◌≤ℤ◌, ◌<ℤ◌, ◌≡◌, ◌≢◌, Option, Some, None, if◌then◌else◌, ◌&&◌}
+use Rattle.std.specs.Prelude.{ℤ, pos, ◌+ℤ◌, ◌-ℤ◌, ◌≤ℤ◌, ◌<ℤ◌, ◌≡◌, ◌≢◌, Bool, Option, Some, None, if◌then◌else◌, ◌&&◌}
 use Rattle.std.specs.Ordering.{int_eq}
 use Rattle.half_grid.specs.Halves.{twice, half, is_even}
 use Rattle.half_grid.specs.Tiles.{strips_of}
@@ -39,11 +39,19 @@ x_on (Falling c) y = twice c -ℤ y
 abbrev pub Passes : Line → Point → Type 0
 Passes line p = p.x ≡ x_on line p.y
 
+-- two points lie on one line X - Y = 2c
+abbrev pub share_rising : Point → Point → Bool
+share_rising a b = is_even (a.x -ℤ a.y) && int_eq (a.x -ℤ a.y) (b.x -ℤ b.y)
+
+-- two points lie on one line X + Y = 2c
+abbrev pub share_falling : Point → Point → Bool
+share_falling a b = is_even (a.x +ℤ a.y) && int_eq (a.x +ℤ a.y) (b.x +ℤ b.y)
+
 -- The line through two points of different Y, where there is one of the three kinds.
 unfoldable pub line_of : Point → Point → Option Line
 line_of a b =
     if int_eq a.y b.y then None
     else if int_eq a.x b.x then Some (Upright a.x)
-    else if is_even (a.x -ℤ a.y) && int_eq (a.x -ℤ a.y) (b.x -ℤ b.y) then Some (Rising (half (a.x -ℤ a.y)))
-    else if is_even (a.x +ℤ a.y) && int_eq (a.x +ℤ a.y) (b.x +ℤ b.y) then Some (Falling (half (a.x +ℤ a.y)))
+    else if share_rising a b then Some (Rising (half (a.x -ℤ a.y)))
+    else if share_falling a b then Some (Falling (half (a.x +ℤ a.y)))
     else None

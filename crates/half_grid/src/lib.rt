@@ -4,8 +4,10 @@
 //! All numbers are half units: a layout coordinate of `n` grid steps is `2n`. Nothing here takes memory.
 #![tactic(auto)]
 
+mod outline;
 mod plane;
 mod rows;
 
+pub use outline::line_through;
 pub use plane::{Line, Point, Side, Strips, Tile};
 pub use rows::{diagonal_of, line_at, number_of, place_of, strips, x_at};

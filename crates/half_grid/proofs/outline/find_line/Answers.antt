@@ -1,0 +1,20 @@
+use Rattle.std.proofs.Common.{◌∙◌, sym, w64, to_z, of_z, FitsSigned, rules, arith}
+use Rattle.std.proofs.lemmas.Int.{ints, to_z-of_z}
+use Rattle.half_grid.proofs.LineLemmas.{bits_differ, line_of_rising, line_of_falling, line_of_no}
+use Rattle.half_grid.proofs.outline.find_line.Goals as goal
+
+pub returns-then-share_rising : goal.returns-then-share_rising
+returns-then-share_rising c =
+    let fits : FitsSigned w64 c.half_difference.result = search rules in
+    line_of_rising c.args.a c.args.b _ (bits_differ w64 c.args.a.y c.args.b.y c.if-a-b.false) (bits_differ w64 c.args.a.x c.args.b.x c.if-a-b-2.false) (sym c.share_rising.ensures ∙ c.if-share_rising.true)
+    (to_z-of_z w64 c.half_difference.result fits ∙ c.half_difference.ensures)
+
+pub returns-then-share_falling : goal.returns-then-share_falling
+returns-then-share_falling c =
+    let fits : FitsSigned w64 c.half_sum.result = search rules in
+    line_of_falling c.args.a c.args.b _ (bits_differ w64 c.args.a.y c.args.b.y c.if-a-b.false) (bits_differ w64 c.args.a.x c.args.b.x c.if-a-b-2.false) (sym c.share_rising.ensures ∙ c.if-share_rising.false) (sym c.share_falling.ensures ∙ c.if-share_falling.true)
+    (to_z-of_z w64 c.half_sum.result fits ∙ c.half_sum.ensures)
+
+pub returns : goal.returns
+returns c =
+    line_of_no c.args.a c.args.b (bits_differ w64 c.args.a.y c.args.b.y c.if-a-b.false) (bits_differ w64 c.args.a.x c.args.b.x c.if-a-b-2.false) (sym c.share_rising.ensures ∙ c.if-share_rising.false) (sym c.share_falling.ensures ∙ c.if-share_falling.false)
