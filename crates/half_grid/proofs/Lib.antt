@@ -2,3 +2,4 @@ pub mod Halves
 pub mod StripBounds
 pub mod Places
 pub mod LineLemmas
+pub mod WindingLemmas

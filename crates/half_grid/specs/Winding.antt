@@ -16,13 +16,17 @@ abbrev pub is_right_of : Tile → Option Line → Bool
 is_right_of t None = false
 is_right_of t (Some line) = int_le (first_strip line) (strip_along line t)
 
+-- the row of the tile lies between the Y of the first point and that of the second, which is higher
+abbrev pub rises_past : Tile → Point → Point → Bool
+rises_past t a b = int_le a.y t.j && int_lt t.j b.y
+
 -- an edge goes up through the tile's row, and has the tile on its right
 abbrev pub counts_up : Tile → Point × Point → Bool
-counts_up t (a, b) = (int_le a.y t.j && int_lt t.j b.y) && is_right_of t (line_of a b)
+counts_up t (a, b) = rises_past t a b && is_right_of t (line_of a b)
 
 -- an edge goes down through the tile's row, and has the tile on its right
 abbrev pub counts_down : Tile → Point × Point → Bool
-counts_down t (a, b) = (int_le b.y t.j && int_lt t.j a.y) && is_right_of t (line_of a b)
+counts_down t (a, b) = rises_past t b a && is_right_of t (line_of a b)
 
 -- the edges of a point list: each point with the next
 abbrev pub edges_of : List Point → List (Point × Point)
@@ -35,3 +39,11 @@ winding points t = pos (count_by (counts_up t) (edges_of points)) -ℤ pos (coun
 
 abbrev pub IsInPolygon : List Point → Tile → Type 0
 IsInPolygon points t = winding points t ≢ pos 0
+
+abbrev pub count_one : Bool → ℕ
+count_one true = 1
+count_one false = 0
+
+-- what one edge adds to the winding
+abbrev pub crossing_of : Tile → Point → Point → ℤ
+crossing_of t a b = pos (count_one (counts_up t (a, b))) -ℤ pos (count_one (counts_down t (a, b)))
