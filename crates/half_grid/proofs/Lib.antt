@@ -3,3 +3,4 @@ pub mod StripBounds
 pub mod Places
 pub mod LineLemmas
 pub mod WindingLemmas
+pub mod ReachLemmas

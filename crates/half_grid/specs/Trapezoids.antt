@@ -17,6 +17,9 @@ pub record Trapezoid : Type 0 where
   pub left : Line
   pub right : Line
 
+abbrev pub trapezoid : ℤ → ℤ → Line → Line → Trapezoid
+trapezoid y0 y1 left right = record { y0 = y0; y1 = y1; left = left; right = right }
+
 pub record IsInTrapezoid (z : Trapezoid) (t : Tile) : Type 0 where
   pub above_bottom : z.y0 ≤ℤ t.j
   pub below_top : t.j <ℤ z.y1

@@ -7,7 +7,9 @@
 mod outline;
 mod plane;
 mod rows;
+mod shot;
 
 pub use outline::{line_through, winding_at};
 pub use plane::{Line, Point, Side, Strips, Tile};
 pub use rows::{diagonal_of, line_at, number_of, place_of, strips, x_at};
+pub use shot::{Limits, REACH, Trap};

@@ -1,7 +1,7 @@
 ghost use Rattle.std.specs.Prelude.{◌≡◌, pos, ◌-ℤ◌, ◌+ℤ◌, ◌≤ℤ◌, ◌<ℤ◌};
 ghost use Rattle.half_grid.specs.Halves.{half, is_even, twice};
 ghost use Rattle.half_grid.specs.Tiles.{strips_of, sum_strip, difference_strip};
-ghost use Rattle.half_grid.specs.Lines.{x_on};
+ghost use Rattle.half_grid.specs.Lines.{x_on, first_strip};
 ghost use Rattle.half_grid.specs.Rows.{number_in_row, place};
 ghost use Rattle.half_grid.specs.Reach.{IsWithinReach, IsTileWithinReach};
 
@@ -50,10 +50,28 @@ pub fn x_at(line: Line, y: i64) -> i64
     requires y { IsWithinReach y }
     ensures { result ≡ x_on line y }
 {
+    x_near(line, y)
+}
+
+// The X of a line whose own number is within reach.
+pub(crate) fn x_near(line: Line, y: i64) -> i64
+    requires line { IsWithinReach (first_strip line) }
+    requires y { IsWithinReach y }
+    ensures { result ≡ x_on line y }
+{
     match line {
         Line::Upright(c) => c,
         Line::Rising(c) => 2 * c + y,
         Line::Falling(c) => 2 * c - y,
+    }
+}
+
+// The number of the first strip right of the line.
+pub(crate) fn first_strip(line: Line) -> i64
+    ensures { result ≡ first_strip line }
+{
+    match line {
+        Line::Upright(c) | Line::Rising(c) | Line::Falling(c) => c,
     }
 }
 

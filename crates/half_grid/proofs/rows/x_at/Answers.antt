@@ -1,6 +1,5 @@
-use Rattle.std.proofs.Common.{arith}
-use Rattle.std.proofs.lemmas.Int.{ints}
+use Rattle.half_grid.proofs.ReachLemmas.{strip_within}
 use Rattle.half_grid.proofs.rows.x_at.Goals as goal
 
-pub returns-in-Falling : goal.returns-in-Falling
-returns-in-Falling c = let reach = rw c.in-Falling.is at c.requires.x in rw c.in-Falling.is (omega (arith, ints))
+pub x_near-requires-clause-line : goal.x_near-requires-clause-line
+x_near-requires-clause-line c = strip_within c.args.line c.args.y c.requires.y c.requires.x
