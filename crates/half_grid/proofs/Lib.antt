@@ -4,3 +4,4 @@ pub mod Places
 pub mod LineLemmas
 pub mod WindingLemmas
 pub mod ReachLemmas
+pub mod SideLemmas

@@ -5,3 +5,4 @@ pub mod Lines
 pub mod Rows
 pub mod Winding
 pub mod Trapezoids
+pub mod Sides

@@ -1,6 +1,7 @@
 ghost use Rattle.std.specs.Prelude.{◌≡◌, pos, ◌-ℤ◌, ◌+ℤ◌, ◌≤ℤ◌, ◌<ℤ◌, ◌↔◌, IsTrue, SomeIff};
 ghost use Rattle.half_grid.specs.Lines.{x_on};
 ghost use Rattle.half_grid.specs.Reach.{IsWithinReach};
+ghost use Rattle.half_grid.specs.Sides.{IsSide, side_length};
 
 use std::marker::Model;
 
@@ -55,4 +56,73 @@ fn x_within(line: Line, y: i64) -> Option<i64>
     }
     let x = x_near(line, y);
     if is_within_reach(x) { Some(x) } else { None }
+}
+
+// The length of the side between the lines at y, where it is one.
+fn side_length(left: Line, right: Line, y: i64) -> Option<i64>
+    requires { IsWithinReach y }
+    ensures { SomeIff result (IsSide left right y) (side_length left right y) }
+{
+    let left_end = x_within(left, y)?;
+    let right_end = x_within(right, y)?;
+    if right_end < left_end {
+        return None;
+    }
+    Some(right_end - left_end)
+}
+
+impl Trap {
+    ghost use Rattle.half_grid.specs.Trapezoids.{IsShot, trapezoid};
+
+    /// The trapezoid of the rows from `y0` up to below `y1` between the two lines. None exactly where it isn't
+    /// legal, or a corner is beyond reach.
+    pub fn new(y0: i64, y1: i64, left: Line, right: Line) -> Option<Trap>
+        ensures { SomeIff result (IsShot (trapezoid y0 y1 left right)) (trapezoid y0 y1 left right) }
+    {
+        if !is_within_reach(y0) || !is_within_reach(y1) || y1 <= y0 {
+            return None;
+        }
+        let Some(bottom) = side_length(left, right, y0) else {
+            return None;
+        };
+        let Some(top) = side_length(left, right, y1) else {
+            return None;
+        };
+        if bottom + top <= 0 {
+            return None;
+        }
+        Some(Trap { y0, y1, left, right })
+    }
+
+    /// Its lowest Y, which is its first row.
+    pub fn y0(&self) -> i64
+        ensures value { result ≡ self.now.y0 }
+        ensures shot { IsShot self.now }
+    {
+        self.y0
+    }
+
+    /// Its highest Y, which is the row after its last.
+    pub fn y1(&self) -> i64
+        ensures value { result ≡ self.now.y1 }
+        ensures shot { IsShot self.now }
+    {
+        self.y1
+    }
+
+    /// The line at its left.
+    pub fn left(&self) -> Line
+        ensures value { result ≡ self.now.left }
+        ensures shot { IsShot self.now }
+    {
+        self.left
+    }
+
+    /// The line at its right.
+    pub fn right(&self) -> Line
+        ensures value { result ≡ self.now.right }
+        ensures shot { IsShot self.now }
+    {
+        self.right
+    }
 }
