@@ -1,7 +1,6 @@
 -- Halves rounded down, by what lies above and below zero: the integer z is up z less down z.
-use Rattle.std.proofs.Common.{◌≡◌, ℕ, ◌+◌, ◌*◌, ◌/◌, ◌%◌, ◌==◌, ◌≤◌, Bool, true, false, ℤ, pos, negsuc, arith, eqb-true, cond, ◌+ℤ◌, ◌-ℤ◌, refl, ap}
+use Rattle.std.proofs.Common.{◌≡◌, ◌+◌, ◌*◌, ◌≤◌, Bool, true, false, ℤ, pos, negsuc, arith, cond, refl}
 use borrow.Author.Differences.{up, down}
-use Rattle.std.proofs.lemmas.Int.{ints}
 use Rattle.std.proofs.lemmas.Bool.Decides.{nat_tests}
 use Rattle.half_grid.specs.Halves.{half, is_even}
 

@@ -1,11 +1,11 @@
 -- The line through two points, as a fact on points.
-use Rattle.std.proofs.Common.{◌≡◌, ◌≢◌, ℕ, Bool, true, false, ℤ, pos, negsuc, ◌+ℤ◌, ◌-ℤ◌, arith, refl, ap, ◌∙◌, sym, Option, Some, None, cond, if◌then◌else◌, ◌&&◌, IfSome, IfNone}
+use Rattle.std.proofs.Common.{◌≡◌, ◌≢◌, Bool, true, false, ℤ, ◌+ℤ◌, ◌-ℤ◌, arith, refl, ap, ◌∙◌, sym, Some, None, if◌then◌else◌, ◌&&◌, IfSome, IfNone}
 use Rattle.std.proofs.lemmas.Int.{ints}
-use Rattle.std.proofs.Common.{of_z, to_z, w64, FitsSigned}
+use Rattle.std.proofs.Common.{of_z}
 use mir.Syntax.{Width}
 use Rattle.std.specs.Ordering.{int_eq}
 use Rattle.half_grid.specs.Halves.{half, is_even, twice}
-use Rattle.half_grid.specs.Lines.{Passes, line_of, share_rising, share_falling, x_on}
+use Rattle.half_grid.specs.Lines.{Passes, line_of, share_rising, share_falling}
 use Rattle.half_grid.specs.declared.plane.Point.{Point}
 use Rattle.half_grid.specs.declared.plane.Line.{Line}
 use Rattle.half_grid.specs.declared.plane.Line.TheVariants.{Upright, Rising, Falling}
@@ -79,7 +79,7 @@ falling_shared a b c ha hb =
 
 through_by : (ty tx tr tf : Bool) (a b : Point) → int_eq a.y b.y ≡ ty → int_eq a.x b.x ≡ tx → share_rising a b ≡ tr → share_falling a b ≡ tf
     → IfSome (if ty then None else if tx then Some (Upright a.x) else if tr then Some (Rising (half (a.x -ℤ a.y))) else if tf then Some (Falling (half (a.x +ℤ a.y))) else None)
-        (λ line. Passes line a × Passes line b × (a.y ≢ b.y))
+    (λ line. Passes line a × Passes line b × (a.y ≢ b.y))
 through_by true tx tr tf a b ey ex er ef = tt
 through_by false true tr tf a b ey ex er ef = (refl, sym (int_eq_true _ _ ex), int_eq_false _ _ ey)
 through_by false false true tf a b ey ex er ef = let p = rising_through a b er in (p.0, p.1, int_eq_false _ _ ey)
@@ -101,7 +101,7 @@ no_line a b ex er ef (Falling c) pa pb = no_clash _ ef (falling_shared a b c pa 
 
 none_by : (ty tx tr tf : Bool) (a b : Point) → int_eq a.y b.y ≡ ty → int_eq a.x b.x ≡ tx → share_rising a b ≡ tr → share_falling a b ≡ tf
     → IfNone (if ty then None else if tx then Some (Upright a.x) else if tr then Some (Rising (half (a.x -ℤ a.y))) else if tf then Some (Falling (half (a.x +ℤ a.y))) else None)
-        ((line : Line) → Passes line a → Passes line b → a.y ≡ b.y)
+    ((line : Line) → Passes line a → Passes line b → a.y ≡ b.y)
 none_by true tx tr tf a b ey ex er ef = λ line pa pb. int_eq_true _ _ ey
 none_by false true tr tf a b ey ex er ef = tt
 none_by false false true tf a b ey ex er ef = tt

@@ -1,10 +1,8 @@
 -- Places of lines in a row against numbers of tiles: the arithmetic of one row, for all crates.
-use Rattle.std.proofs.Common.{◌≡◌, ℕ, ◌+◌, ◌*◌, ◌≤◌, ◌<◌, Bool, true, false, ℤ, pos, negsuc, ◌+ℤ◌, ◌-ℤ◌, ◌≤ℤ◌, ◌<ℤ◌, arith, refl, ap, ◌∙◌}
-use borrow.Author.Differences.{up, down}
+use Rattle.std.proofs.Common.{◌≡◌, ℤ, ◌≤ℤ◌, ◌<ℤ◌, arith, refl, ap, ◌∙◌}
 use Rattle.std.proofs.lemmas.Int.{ints}
-use Rattle.half_grid.specs.Halves.{half, is_even, twice}
 use Rattle.half_grid.specs.Tiles.{strips_of}
-use Rattle.half_grid.specs.Lines.{IsRightOf, IsLeftOf, strip_along, first_strip, x_on}
+use Rattle.half_grid.specs.Lines.{IsRightOf, IsLeftOf}
 use Rattle.half_grid.specs.Rows.{number_at, number_in_row, place}
 use Rattle.half_grid.specs.declared.plane.Side.{Side}
 use Rattle.half_grid.specs.declared.plane.Side.TheVariants.{Left, Right}

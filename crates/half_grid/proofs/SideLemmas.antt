@@ -1,9 +1,9 @@
 -- A trapezoid is a shot exactly where its parallel sides are sides, not both of length 0, one above the other.
-use Rattle.std.proofs.Common.{◌≡◌, ℤ, pos, ◌+ℤ◌, ◌-ℤ◌, ◌≤ℤ◌, ◌<ℤ◌, arith}
+use Rattle.std.proofs.Common.{◌≡◌, ℤ, pos, ◌+ℤ◌, ◌<ℤ◌, arith}
 use Rattle.std.proofs.lemmas.Int.{ints}
 use Rattle.half_grid.specs.Reach.{IsWithinReach}
 use Rattle.half_grid.specs.Sides.{IsSide, side_length}
-use Rattle.half_grid.specs.Trapezoids.{IsShot, IsLegal, HasCornersWithinReach, trapezoid}
+use Rattle.half_grid.specs.Trapezoids.{IsShot, trapezoid}
 use Rattle.half_grid.specs.declared.plane.Line.{Line}
 
 pub bottom_side : (y0 y1 : ℤ) (left right : Line) → IsShot (trapezoid y0 y1 left right) → IsSide left right y0

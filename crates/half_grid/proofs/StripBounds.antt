@@ -1,6 +1,6 @@
 -- The strips of a tile, by its number in the row. With n the number, 2i <= n <= 2i + 1,
 -- 4p <= n + 2j + 1 <= 4p + 3 and 4q <= n - 2j - 1 <= 4q + 3.
-use Rattle.std.proofs.Common.{◌≡◌, ℕ, ◌+◌, ◌*◌, ◌≤◌, Bool, true, false, ℤ, pos, ◌+ℤ◌, ◌-ℤ◌, arith, refl, cond}
+use Rattle.std.proofs.Common.{◌≡◌, ◌+◌, ◌*◌, ◌≤◌, Bool, true, false, ℤ, pos, ◌+ℤ◌, ◌-ℤ◌, arith, refl, cond}
 use borrow.Author.Differences.{up, down}
 use Rattle.std.proofs.lemmas.Int.{ints}
 use Rattle.half_grid.specs.Halves.{half, is_even}

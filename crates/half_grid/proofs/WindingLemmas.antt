@@ -1,5 +1,5 @@
 -- The winding along a point list, edge by edge.
-use Rattle.std.proofs.Common.{◌≡◌, ◌≢◌, ℕ, ◌+◌, Bool, true, false, ℤ, pos, negsuc, ◌+ℤ◌, ◌-ℤ◌, ◌&&◌, arith, refl, ap, ◌∙◌, sym, List, [], ◌∷◌, count_by, neg_ℤ, int_le, int_lt, cond}
+use Rattle.std.proofs.Common.{◌≡◌, ℕ, ◌+◌, Bool, true, false, ℤ, pos, ◌+ℤ◌, ◌-ℤ◌, arith, refl, ap, ◌∙◌, List, [], ◌∷◌, count_by, neg_ℤ, cond}
 use Rattle.std.proofs.Common.{◌≤◌, ◌≤ℤ◌, length}
 use Rattle.std.proofs.lemmas.Int.{ints}
 use Rattle.std.proofs.lemmas.List.Sums.{sum_by-cons}
@@ -51,7 +51,6 @@ pub winding_along : (t : Tile) (a : Point) (points : List Point) → winding (a 
 unfolding winding
 winding_along t a [] = refl
 winding_along t a (b ∷ points) = winding-cons t a b points ∙ ap (λ w. crossing_of t a b +ℤ w) (winding_along t b points)
-
 
 one_small : (b : Bool) → count_one b ≤ 1
 one_small true = omega arith

@@ -1,5 +1,5 @@
 -- Half of a whole number, rounded down, and whether it is even.
-use Rattle.std.specs.Prelude.{ℕ, ◌+◌, ◌*◌, ◌/◌, ◌%◌, ◌==◌, Bool, ℤ, pos, negsuc, ◌+ℤ◌}
+use Rattle.std.specs.Prelude.{◌/◌, ◌%◌, ◌==◌, Bool, ℤ, pos, negsuc, ◌+ℤ◌}
 
 abbrev pub half : ℤ → ℤ
 half (pos n) = pos (n / 2)

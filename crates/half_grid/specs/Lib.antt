@@ -6,3 +6,4 @@ pub mod Rows
 pub mod Winding
 pub mod Trapezoids
 pub mod Sides
+pub mod RowLaws

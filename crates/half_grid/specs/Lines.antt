@@ -2,7 +2,7 @@
 --
 -- Upright(c) is X = c, Rising(c) is X - Y = 2c, Falling(c) is X + Y = 2c. A tile is right of Upright(c) where
 -- i >= c, of Rising(c) where q >= c, of Falling(c) where p >= c. A tile that isn't right of a line is left of it.
-use Rattle.std.specs.Prelude.{ℤ, pos, ◌+ℤ◌, ◌-ℤ◌, ◌≤ℤ◌, ◌<ℤ◌, ◌≡◌, ◌≢◌, Bool, Option, Some, None, if◌then◌else◌, ◌&&◌}
+use Rattle.std.specs.Prelude.{ℤ, ◌+ℤ◌, ◌-ℤ◌, ◌≤ℤ◌, ◌<ℤ◌, ◌≡◌, Bool, Option, Some, None, if◌then◌else◌, ◌&&◌}
 use Rattle.std.specs.Ordering.{int_eq}
 use Rattle.half_grid.specs.Halves.{twice, half, is_even}
 use Rattle.half_grid.specs.Tiles.{strips_of}

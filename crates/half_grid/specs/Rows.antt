@@ -4,7 +4,7 @@
 -- numbers count up by one. The place of a line in the row j is the sum of its X at the bottom and at the top of
 -- the row: 2c for Upright(c), 2j + 4c + 1 for Rising(c) and 4c - 2j - 1 for Falling(c). A tile is right of a line
 -- exactly where the place is at most the tile's number.
-use Rattle.std.specs.Prelude.{if◌then◌else◌, ℤ, pos, ◌+ℤ◌, ◌-ℤ◌, ◌≤ℤ◌, ◌<ℤ◌, ◌≡◌, ◌↔◌}
+use Rattle.std.specs.Prelude.{if◌then◌else◌, ℤ, pos, ◌+ℤ◌, ◌-ℤ◌}
 use Rattle.half_grid.specs.Halves.{twice, half, is_even}
 use Rattle.half_grid.specs.Lines.{x_on}
 use Rattle.half_grid.specs.declared.plane.Tile.{Tile}

@@ -3,7 +3,7 @@
 -- The tiles of a trapezoid are those of the rows y0 <= j < y1 that are right of its left line and left of its
 -- right line. It is legal where y0 < y1, neither parallel side is negative, and they aren't both 0. Its box width
 -- is its greatest X less its least X.
-use Rattle.std.specs.Prelude.{ℕ, ℤ, pos, negsuc, ◌+ℤ◌, ◌-ℤ◌, ◌≤ℤ◌, ◌<ℤ◌, ◌≡◌, ◌≢◌, ◌^◌, Bool, ◌&&◌, List, count_by, int_le, int_lt, neg_ℤ}
+use Rattle.std.specs.Prelude.{ℕ, ℤ, pos, ◌+ℤ◌, ◌-ℤ◌, ◌≤ℤ◌, ◌<ℤ◌, ◌≡◌, Bool, ◌&&◌, List, count_by, int_le, int_lt}
 use Rattle.std.specs.Int.{int_min, int_max}
 use Rattle.half_grid.specs.Reach.{IsWithinReach}
 use Rattle.half_grid.specs.Lines.{IsRightOf, IsLeftOf, strip_along, first_strip, x_on}

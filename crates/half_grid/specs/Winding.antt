@@ -5,7 +5,7 @@
 -- that goes down counts -1. A tile is in the polygon where its winding isn't 0: the nonzero rule, also where the
 -- polygon crosses itself. Repeated points and horizontal edges count nothing. This is the textbook's winding
 -- number by crossings of a ray, here of the ray from the tile to the left.
-use Rattle.std.specs.Prelude.{ℕ, ℤ, pos, ◌-ℤ◌, ◌≡◌, ◌≢◌, Bool, true, false, ◌&&◌, List, [], ◌∷◌, Option, Some, None, count_by, int_le, int_lt}
+use Rattle.std.specs.Prelude.{ℕ, ℤ, pos, ◌-ℤ◌, ◌≢◌, Bool, true, false, ◌&&◌, List, [], ◌∷◌, Option, Some, None, count_by, int_le, int_lt}
 use Rattle.half_grid.specs.Lines.{strip_along, first_strip, line_of}
 use Rattle.half_grid.specs.declared.plane.Tile.{Tile}
 use Rattle.half_grid.specs.declared.plane.Point.{Point}

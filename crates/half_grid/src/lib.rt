@@ -4,12 +4,14 @@
 //! All numbers are half units: a layout coordinate of `n` grid steps is `2n`. Nothing here takes memory.
 #![tactic(auto)]
 
+mod laws;
 mod outline;
 mod plane;
 mod rows;
 mod shot;
 
+pub use laws::row_laws;
 pub use outline::{line_through, winding_at};
 pub use plane::{Line, Point, Side, Strips, Tile};
 pub use rows::{diagonal_of, line_at, number_of, place_of, strips, x_at};
-pub use shot::{Limits, REACH, Trap};
+pub use shot::{Limits, REACH, Trap, covers, fits};

@@ -6,7 +6,7 @@ ghost use Rattle.half_grid.specs.Reach.{IsTileWithinReach};
 ghost use Rattle.half_grid.specs.Winding.{winding, crossing_of, is_right_of, rises_past, count_one};
 
 use crate::plane::{Line, Point, Tile};
-use crate::rows::strips;
+use crate::rows::is_right_of;
 
 // X - Y.
 fn difference(point: Point) -> i128
@@ -105,24 +105,22 @@ fn crossing(tile: Tile, a: Point, b: Point) -> i128
     ensures { result ≡ crossing_of tile a b }
 {
     if rises_past(tile, a, b) {
-        return one_if(is_right_of(tile, find_line(a, b)));
+        return one_if(is_right_of_any(tile, find_line(a, b)));
     }
     if rises_past(tile, b, a) {
-        return -one_if(is_right_of(tile, find_line(a, b)));
+        return -one_if(is_right_of_any(tile, find_line(a, b)));
     }
     0
 }
 
 // Whether the tile is right of the line, where there is one.
-fn is_right_of(tile: Tile, line: Option<Line>) -> bool
+fn is_right_of_any(tile: Tile, line: Option<Line>) -> bool
     requires { IsTileWithinReach tile }
     ensures { result ≡ is_right_of tile line }
 {
     match line {
         None => false,
-        Some(Line::Upright(c)) => c <= tile.i,
-        Some(Line::Rising(c)) => c <= strips(tile).q,
-        Some(Line::Falling(c)) => c <= strips(tile).p,
+        Some(line) => is_right_of(tile, line),
     }
 }
 

@@ -1,7 +1,7 @@
-ghost use Rattle.std.specs.Prelude.{◌≡◌, pos, ◌-ℤ◌, ◌+ℤ◌, ◌≤ℤ◌, ◌<ℤ◌};
+ghost use Rattle.std.specs.Prelude.{◌≡◌, int_le, pos, ◌-ℤ◌, ◌+ℤ◌, ◌≤ℤ◌, ◌<ℤ◌};
 ghost use Rattle.half_grid.specs.Halves.{half, is_even, twice};
 ghost use Rattle.half_grid.specs.Tiles.{strips_of, sum_strip, difference_strip};
-ghost use Rattle.half_grid.specs.Lines.{x_on, first_strip};
+ghost use Rattle.half_grid.specs.Lines.{x_on, first_strip, strip_along};
 ghost use Rattle.half_grid.specs.Rows.{number_in_row, place};
 ghost use Rattle.half_grid.specs.Reach.{IsWithinReach, IsTileWithinReach};
 
@@ -135,4 +135,16 @@ pub fn line_at(row: i64, number: i64) -> Line
         return Line::Upright(column);
     }
     diagonal_of(column, row)
+}
+
+// Whether the tile is right of the line.
+pub(crate) fn is_right_of(tile: Tile, line: Line) -> bool
+    requires { IsTileWithinReach tile }
+    ensures { result ≡ int_le (first_strip line) (strip_along line tile) }
+{
+    match line {
+        Line::Upright(c) => c <= tile.i,
+        Line::Rising(c) => c <= strips(tile).q,
+        Line::Falling(c) => c <= strips(tile).p,
+    }
 }

@@ -1,12 +1,13 @@
 ghost use Rattle.std.specs.Prelude.{◌≡◌, pos, ◌-ℤ◌, ◌+ℤ◌, ◌≤ℤ◌, ◌<ℤ◌, ◌↔◌, IsTrue, SomeIff};
 ghost use Rattle.half_grid.specs.Lines.{x_on};
 ghost use Rattle.half_grid.specs.Reach.{IsWithinReach};
+ghost use Rattle.std.specs.Int.{int_min, int_max};
+ghost use Rattle.half_grid.specs.Trapezoids.{IsInTrapezoid, FitsLimits, box_width};
 ghost use Rattle.half_grid.specs.Sides.{IsSide, side_length};
 
-use std::marker::Model;
-
 use crate::plane::{Line, Tile};
-use crate::rows::{first_strip, strips, x_at, x_near};
+use crate::rows::{first_strip, is_right_of, x_at, x_near};
+use std::marker::Model;
 
 /// No vertex of a shape that the program makes is further from 0 than this, in half units.
 pub const REACH: i64 = 1 << 44;
@@ -91,7 +92,12 @@ impl Trap {
         if bottom + top <= 0 {
             return None;
         }
-        Some(Trap { y0, y1, left, right })
+        Some(Trap {
+            y0,
+            y1,
+            left,
+            right,
+        })
     }
 
     /// Its lowest Y, which is its first row.
@@ -125,4 +131,95 @@ impl Trap {
     {
         self.right
     }
+
+    /// The X of its lower left corner.
+    pub fn bottom_left(&self) -> i64
+        ensures value { result ≡ x_on self.now.left self.now.y0 }
+        ensures reach { IsWithinReach result }
+    {
+        x_at(self.left(), self.y0())
+    }
+
+    /// The X of its lower right corner.
+    pub fn bottom_right(&self) -> i64
+        ensures value { result ≡ x_on self.now.right self.now.y0 }
+        ensures reach { IsWithinReach result }
+    {
+        x_at(self.right(), self.y0())
+    }
+
+    /// The X of its upper left corner.
+    pub fn top_left(&self) -> i64
+        ensures value { result ≡ x_on self.now.left self.now.y1 }
+        ensures reach { IsWithinReach result }
+    {
+        x_at(self.left(), self.y1())
+    }
+
+    /// The X of its upper right corner.
+    pub fn top_right(&self) -> i64
+        ensures value { result ≡ x_on self.now.right self.now.y1 }
+        ensures reach { IsWithinReach result }
+    {
+        x_at(self.right(), self.y1())
+    }
+
+    /// How many rows it has.
+    pub fn height(&self) -> i64
+        ensures value { result ≡ self.now.y1 -ℤ self.now.y0 }
+    {
+        self.y1() - self.y0()
+    }
+
+    /// Its least X.
+    pub fn least_x(&self) -> i64
+        ensures value { result ≡ int_min (x_on self.now.left self.now.y0) (x_on self.now.left self.now.y1) }
+        ensures reach { IsWithinReach result }
+    {
+        self.bottom_left().min(self.top_left())
+    }
+
+    /// Its greatest X.
+    pub fn greatest_x(&self) -> i64
+        ensures value { result ≡ int_max (x_on self.now.right self.now.y0) (x_on self.now.right self.now.y1) }
+        ensures reach { IsWithinReach result }
+    {
+        self.bottom_right().max(self.top_right())
+    }
+
+    /// The width of its box: its greatest X less its least X.
+    pub fn box_width(&self) -> i64
+        ensures value { result ≡ box_width self.now }
+    {
+        self.greatest_x() - self.least_x()
+    }
+}
+
+/// Whether the tile, which may lie anywhere, is in the trapezoid.
+pub fn covers(trap: &Trap, tile: Tile) -> bool
+    ensures { IsTrue result ↔ IsInTrapezoid trap.now tile }
+{
+    if tile.j < trap.y0() {
+        return false;
+    }
+    if trap.y1() <= tile.j {
+        return false;
+    }
+    if !is_within_reach(tile.i) {
+        return false;
+    }
+    if !is_right_of(tile, trap.left()) {
+        return false;
+    }
+    !is_right_of(tile, trap.right())
+}
+
+/// Whether the trapezoid's height and the width of its box are within the limits.
+pub fn fits(trap: &Trap, limits: &Limits) -> bool
+    ensures { IsTrue result ↔ FitsLimits limits.now.height limits.now.width trap.now }
+{
+    if limits.height < trap.height() {
+        return false;
+    }
+    trap.box_width() <= limits.width
 }

@@ -1,5 +1,5 @@
-use Rattle.std.proofs.Common.{◌∙◌, sym, w64, to_z, of_z, FitsSigned, rules, arith}
-use Rattle.std.proofs.lemmas.Int.{ints, to_z-of_z}
+use Rattle.std.proofs.Common.{◌∙◌, sym, w64, FitsSigned, rules}
+use Rattle.std.proofs.lemmas.Int.{to_z-of_z}
 use Rattle.half_grid.proofs.LineLemmas.{bits_differ, line_of_rising, line_of_falling, line_of_no}
 use Rattle.half_grid.proofs.outline.find_line.Goals as goal
 

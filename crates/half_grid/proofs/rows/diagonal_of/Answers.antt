@@ -1,6 +1,6 @@
 use Rattle.std.proofs.Common.{arith, ◌≡◌, pos, ◌+ℤ◌, ◌-ℤ◌, w64, FitsSigned, false, sym, ◌∙◌}
 use Rattle.std.proofs.lemmas.Int.{ints, to_z-of_z}
-use Rattle.half_grid.specs.Halves.{half, is_even}
+use Rattle.half_grid.specs.Halves.{is_even}
 use Rattle.half_grid.proofs.Halves.{half_odd, half_low, half_high}
 use Rattle.half_grid.proofs.rows.diagonal_of.Goals as goal
 

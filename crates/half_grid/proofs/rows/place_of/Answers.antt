@@ -1,6 +1,5 @@
-use Rattle.std.proofs.Common.{arith, ◌≡◌, pos, ◌+ℤ◌, w64, FitsSigned}
+use Rattle.std.proofs.Common.{arith, pos, ◌+ℤ◌, w64, FitsSigned}
 use Rattle.std.proofs.lemmas.Int.{ints, to_z-of_z}
-use Rattle.half_grid.specs.Reach.{IsWithinReach}
 use Rattle.half_grid.proofs.rows.place_of.Goals as goal
 
 pub x_at-requires-2-clause-y : goal.x_at-requires-2-clause-y

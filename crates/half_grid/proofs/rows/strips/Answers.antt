@@ -1,7 +1,6 @@
-use Rattle.std.proofs.Common.{rules, ◌≡◌, to_z, of_z, w64, FitsSigned, arith, ap, ◌∙◌, refl}
-use Rattle.std.proofs.lemmas.Int.{ints, to_z-of_z}
-use Rattle.half_grid.specs.Tiles.{strips_of, sum_strip, difference_strip}
-use Rattle.half_grid.specs.declared.plane.Strips.{Strips}
+use Rattle.std.proofs.Common.{arith}
+use Rattle.std.proofs.lemmas.Int.{to_z-of_z}
+use Rattle.half_grid.specs.Tiles.{strips_of}
 use Rattle.half_grid.proofs.rows.strips.Goals as goal
 
 pub returns : goal.returns

@@ -1,6 +1,5 @@
-use Rattle.std.proofs.Common.{◌≡◌, true, false, FitsSigned, w64, rules, arith, IsTrue}
-use Rattle.std.proofs.lemmas.Int.{ints, to_z-of_z}
-use Rattle.half_grid.specs.Reach.{IsWithinReach}
+use Rattle.std.proofs.Common.{◌≡◌, true, false, FitsSigned, w64, rules}
+use Rattle.std.proofs.lemmas.Int.{to_z-of_z}
 use Rattle.half_grid.proofs.ReachLemmas.{strip_within}
 use Rattle.half_grid.proofs.shot.x_within.Goals as goal
 

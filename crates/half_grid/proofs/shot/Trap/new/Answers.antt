@@ -1,7 +1,6 @@
-use Rattle.std.proofs.Common.{rules, arith, ◌≡◌, pos, ◌+ℤ◌, ◌≤ℤ◌, ◌<ℤ◌, ℤ, w64, FitsSigned, to_z, of_z, IsTrue, refl}
+use Rattle.std.proofs.Common.{arith, pos, ◌+ℤ◌, ◌<ℤ◌, w64, FitsSigned, refl}
 use Rattle.std.proofs.lemmas.Int.{ints, to_z-of_z}
-use Rattle.half_grid.specs.Reach.{IsWithinReach}
-use Rattle.half_grid.specs.Sides.{IsSide, side_length}
+use Rattle.half_grid.specs.Sides.{side_length}
 use Rattle.half_grid.specs.Trapezoids.{IsShot, trapezoid}
 use Rattle.half_grid.proofs.SideLemmas.{shot_of_sides}
 use Rattle.half_grid.proofs.shot.Trap.new.Goals as goal
@@ -26,9 +25,9 @@ invariant_of-result c =
     let high = simp to_z-of_z at (c.if-not-is_within_reach-2.ensures.0 refl) in
     let rows : c.args.y0 <ℤ c.args.y1 = omega (arith, ints) in
     let area : pos 0 <ℤ (side_length c.args.left c.args.right c.args.y0 +ℤ side_length c.args.left c.args.right c.args.y1) =
-        omega (arith, ints, bottom_side.left_end, bottom_side.right_end, top_side.left_end, top_side.right_end) in
+    omega (arith, ints, bottom_side.left_end, bottom_side.right_end, top_side.left_end, top_side.right_end) in
     let shot : IsShot (trapezoid c.args.y0 c.args.y1 c.args.left c.args.right) =
-        shot_of_sides c.args.y0 c.args.y1 c.args.left c.args.right low high rows bottom_side top_side area in
+    shot_of_sides c.args.y0 c.args.y1 c.args.left c.args.right low high rows bottom_side top_side area in
     simp to_z-of_z shot
 
 pub returns : goal.returns
@@ -43,7 +42,7 @@ returns c =
     let high = simp to_z-of_z at (c.if-not-is_within_reach-2.ensures.0 refl) in
     let rows : c.args.y0 <ℤ c.args.y1 = omega (arith, ints) in
     let area : pos 0 <ℤ (side_length c.args.left c.args.right c.args.y0 +ℤ side_length c.args.left c.args.right c.args.y1) =
-        omega (arith, ints, bottom_side.left_end, bottom_side.right_end, top_side.left_end, top_side.right_end) in
+    omega (arith, ints, bottom_side.left_end, bottom_side.right_end, top_side.left_end, top_side.right_end) in
     let shot : IsShot (trapezoid c.args.y0 c.args.y1 c.args.left c.args.right) =
-        shot_of_sides c.args.y0 c.args.y1 c.args.left c.args.right low high rows bottom_side top_side area in
+    shot_of_sides c.args.y0 c.args.y1 c.args.left c.args.right low high rows bottom_side top_side area in
     (shot, simp to_z-of_z)
