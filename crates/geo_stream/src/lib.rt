@@ -3,6 +3,10 @@
 
 use std::alloc::{AllocError, AllocFailed};
 
+mod list;
+
+pub use list::List;
+
 /// Memory was wanting. What was to be changed is as before, unless the call says otherwise.
 #[derive(Clone, Copy, Debug, PartialEq, Eq)]
 pub struct NoMemory;
