@@ -3,9 +3,15 @@
 
 use std::alloc::{AllocError, AllocFailed};
 
+mod from_slice;
+mod gathering;
 mod list;
+mod stream;
 
+pub use from_slice::FromSlice;
+pub use gathering::gather;
 pub use list::List;
+pub use stream::Stream;
 
 /// Memory was wanting. What was to be changed is as before, unless the call says otherwise.
 #[derive(Clone, Copy, Debug, PartialEq, Eq)]

@@ -1,0 +1,42 @@
+//! The items of a slice, one by one.
+ghost use Rattle.std.specs.Prelude.{◌≡◌, ◌^◌, ◌<◌, length};
+ghost use Rattle.std.proofs.Common.{sym, ◌∙◌, ap, arith};
+
+use crate::Stream;
+
+/// The items of a slice in order.
+#[derive(Clone, Copy, Debug)]
+pub struct FromSlice<'a, T> {
+    items: &'a [T],
+}
+
+impl<'a, T: Copy> FromSlice<'a, T> {
+    /// A stream of the items of the slice.
+    pub fn new(items: &'a [T]) -> FromSlice<'a, T>
+        ensures { ⟦<FromSlice<'a, T> as Stream>⟧.stands_for result items.entry.now }
+    {
+        FromSlice { items }
+    }
+}
+
+impl<'a, T: Copy> Stream for FromSlice<'a, T> {
+    type Item = T;
+
+    ghost stands_for = { λ stream items. (items ≡ stream.items.now) × (length items < 2 ^ 64) };
+
+    ghost size = { λ stream. length stream.items.now };
+
+    ghost most = { 2 ^ 64 };
+
+    fn next(&mut self) -> Option<T> {
+        let (first, rest) = self.items.split_first()?;
+        self.items = rest;
+        Some(*first)
+    }
+
+    ghost one_list = { λ stream xs ys p q. p.0 ∙ sym q.0 };
+
+    ghost no_longer = { λ stream xs p. Prim.omega (arith, ap length p.0) };
+
+    ghost bounded = { λ stream xs p. Prim.omega (arith, ap length p.0, p.1) };
+}
