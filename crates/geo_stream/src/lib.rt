@@ -5,12 +5,16 @@ use std::alloc::{AllocError, AllocFailed};
 
 mod from_slice;
 mod gathering;
+mod joined;
 mod list;
+mod mapped;
 mod stream;
 
 pub use from_slice::FromSlice;
 pub use gathering::gather;
+pub use joined::Joined;
 pub use list::List;
+pub use mapped::Mapped;
 pub use stream::Stream;
 
 /// Memory was wanting. What was to be changed is as before, unless the call says otherwise.
