@@ -1,1 +1,2 @@
 mod Flattening
+mod Merging

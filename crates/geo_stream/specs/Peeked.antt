@@ -16,6 +16,10 @@ abbrev pub head_of : {A : Type 0} → List A → Option A
 head_of [] = None
 head_of (item ∷ items) = Some item
 
+at_most_one : {A : Type 0} (head : Option A) → length (option_to_list head) ≤ 1
+at_most_one None = omega arith
+at_most_one (Some item) = omega arith
+
 module _ {S A : Type 0} {stands_for : S → List A → Type 0} where
   pub Peeked-one_list : ((s : S) (xs ys : List A) → stands_for s xs → stands_for s ys → xs ≡ ys)
       → (s : S) (head : Option A) (xs ys : List A) → StandsForPeeked stands_for s head xs → StandsForPeeked stands_for s head ys → xs ≡ ys
@@ -27,10 +31,6 @@ module _ {S A : Type 0} {stands_for : S → List A → Type 0} where
       → (s : S) (head : Option A) (xs : List A) → StandsForPeeked stands_for s head xs → length xs ≤ length (option_to_list head) + size s
   Peeked-no_longer short s head xs p =
       omega (arith, ap length p.is, length-append (option_to_list head) p.others, short s p.others p.given)
-
-  at_most_one : (head : Option A) → length (option_to_list head) ≤ 1
-  at_most_one None = omega arith
-  at_most_one (Some item) = omega arith
 
   pub Peeked-bounded : {size : S → ℕ} {most : ℕ} → ((s : S) (xs : List A) → stands_for s xs → size s ≤ most)
       → (s : S) (head : Option A) (xs : List A) → StandsForPeeked stands_for s head xs → length (option_to_list head) + size s ≤ 1 + most
