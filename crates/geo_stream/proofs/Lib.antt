@@ -1,2 +1,3 @@
 mod Flattening
 mod Merging
+mod StableMerge
