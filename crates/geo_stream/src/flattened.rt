@@ -1,9 +1,9 @@
 //! The items of a stream of streams.
-ghost use Rattle.std.specs.Prelude.{◌≡◌, ◌+◌, ◌*◌, ◌≤◌, List, length, IfNone, OnSome, MatchOption};
+ghost use Rattle.std.specs.Prelude.{All, ◌≡◌, ◌+◌, ◌*◌, ◌≤◌, List, length, IfNone, OnSome, MatchOption};
 ghost use Rattle.std.specs.List.{AllZip};
 ghost use Rattle.std.specs.Option.{option_to_list, option_map_or};
 ghost use Rattle.geo_stream.specs.Flattened.{StandsForFlattened, InHandStandsFor, end_to_end, size_in_hand, Flattened-one_list, Flattened-no_longer, Flattened-bounded};
-ghost use Rattle.geo_stream.specs.Stream.{TakesFirst};
+ghost use Rattle.geo_stream.specs.Stream.{HasList, TakesFirst};
 
 use crate::Stream;
 
@@ -20,7 +20,8 @@ where
 {
     /// A stream of the items of the first stream that `source` gives, then those of the second, and so on.
     pub fn new(source: S) -> Flattened<S>
-        ensures { (streams : List S.Item) (lists : List (List S.Item.Item)) → S.stands_for source streams → AllZip S.Item.stands_for streams lists → ⟦<Flattened<S> as Stream>⟧.stands_for result (end_to_end lists) }
+        ensures some_list { (streams : List S.Item) → S.stands_for source streams → All (HasList S.Item.stands_for) streams → HasList ⟦<Flattened<S> as Stream>⟧.stands_for result }
+        ensures list { (streams : List S.Item) (lists : List (List S.Item.Item)) → S.stands_for source streams → AllZip S.Item.stands_for streams lists → ⟦<Flattened<S> as Stream>⟧.stands_for result (end_to_end lists) }
     {
         Flattened {
             source,

@@ -1,6 +1,7 @@
 //! Two streams, one after the other.
 ghost use Rattle.std.specs.Prelude.{◌≡◌, ◌+◌, ◌++◌, List};
 ghost use Rattle.std.proofs.Common.{ap, arith, length-append, sym, ◌∙◌};
+ghost use Rattle.geo_stream.specs.Stream.{HasList};
 ghost use Rattle.geo_stream.specs.Joined.{StandsForJoined, Joined-one_list, Joined-no_longer, Joined-bounded};
 
 use crate::Stream;
@@ -15,7 +16,8 @@ pub struct Joined<A, B> {
 impl<A: Stream, B: Stream<Item = A::Item>> Joined<A, B> {
     /// A stream of the items of `first`, then those of `second`.
     pub fn new(first: A, second: B) -> Joined<A, B>
-        ensures { (xs ys : List A.Item) → A.stands_for first xs → B.stands_for second ys → ⟦<Joined<A, B> as Stream>⟧.stands_for result (xs ++ ys) }
+        ensures some_list { HasList A.stands_for first → HasList B.stands_for second → HasList ⟦<Joined<A, B> as Stream>⟧.stands_for result }
+        ensures list { (xs ys : List A.Item) → A.stands_for first xs → B.stands_for second ys → ⟦<Joined<A, B> as Stream>⟧.stands_for result (xs ++ ys) }
     {
         Joined { first, second }
     }

@@ -12,6 +12,8 @@ mod mapped;
 mod merged;
 mod peeked;
 mod stream;
+#[cfg(test)]
+mod tests;
 
 pub use flattened::Flattened;
 pub use from_slice::FromSlice;

@@ -19,7 +19,8 @@ impl<S: Stream, U, F: Fn(S::Item) -> U> Mapped<S, F> {
     /// The function may be called on every item to come, and its promise allows one answer for each of them.
     pub fn new(source: S, function: F) -> Mapped<S, F>
         requires { (items : List S.Item) × S.stands_for source items × All (HasOneAnswer (F.pre function) (F.post function)) items }
-        ensures { (items : List S.Item) (answers : List U) → S.stands_for source items → AllZip (IsTheAnswer (F.pre function) (F.post function)) items answers → ⟦<Mapped<S, F> as Stream>⟧.stands_for result answers }
+        ensures some_list { HasList ⟦<Mapped<S, F> as Stream>⟧.stands_for result }
+        ensures list { (items : List S.Item) (answers : List U) → S.stands_for source items → AllZip (IsTheAnswer (F.pre function) (F.post function)) items answers → ⟦<Mapped<S, F> as Stream>⟧.stands_for result answers }
     {
         Mapped { source, function }
     }
