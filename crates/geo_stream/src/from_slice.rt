@@ -1,19 +1,34 @@
 //! The items of a slice, one by one.
-ghost use Rattle.std.specs.Prelude.{◌≡◌, ◌^◌, ◌<◌, length};
+ghost use Rattle.std.specs.Prelude.{◌≡◌, ◌^◌, ◌<◌, length, ⊤};
 ghost use Rattle.std.proofs.Common.{sym, ◌∙◌, ap, arith};
 
 use crate::Stream;
+use std::alloc::AllocError;
 
 /// The items of a slice in order.
-#[derive(Clone, Copy, Debug)]
+#[derive(Debug)]
 pub struct FromSlice<'a, T> {
     items: &'a [T],
+    ghost fits: { length items.now < 2 ^ 64 },
 }
+
+impl<'a, T> Clone for FromSlice<'a, T> {
+    ghost is_clone = { λ stream copy. copy ≡ stream };
+
+    ghost is_infallible = { λ _. ⊤ };
+
+    fn clone(&self) -> Result<FromSlice<'a, T>, AllocError> {
+        Ok(*self)
+    }
+}
+
+impl<'a, T> Copy for FromSlice<'a, T> {}
 
 impl<'a, T: Copy> FromSlice<'a, T> {
     /// A stream of the items of the slice.
     pub fn new(items: &'a [T]) -> FromSlice<'a, T>
-        ensures { ⟦<FromSlice<'a, T> as Stream>⟧.stands_for result items.entry.now }
+        ensures items { result.items ≡ items.entry }
+        ensures list { ⟦<FromSlice<'a, T> as Stream>⟧.stands_for result items.entry.now }
     {
         FromSlice { items }
     }
@@ -22,7 +37,7 @@ impl<'a, T: Copy> FromSlice<'a, T> {
 impl<'a, T: Copy> Stream for FromSlice<'a, T> {
     type Item = T;
 
-    ghost stands_for = { λ stream items. (items ≡ stream.items.now) × (length items < 2 ^ 64) };
+    ghost stands_for = { λ stream items. items ≡ stream.items.now };
 
     ghost size = { λ stream. length stream.items.now };
 
@@ -34,9 +49,9 @@ impl<'a, T: Copy> Stream for FromSlice<'a, T> {
         Some(*first)
     }
 
-    ghost one_list = { λ stream xs ys p q. p.0 ∙ sym q.0 };
+    ghost one_list = { λ stream xs ys p q. p ∙ sym q };
 
-    ghost no_longer = { λ stream xs p. Prim.omega (arith, ap length p.0) };
+    ghost no_longer = { λ stream xs p. Prim.omega (arith, ap length p) };
 
-    ghost bounded = { λ stream xs p. Prim.omega (arith, ap length p.0, p.1) };
+    ghost bounded = { λ stream xs p. Prim.omega (arith, stream.fits) };
 }

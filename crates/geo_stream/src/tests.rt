@@ -3,6 +3,7 @@ ghost use Rattle.geo_stream.specs.Stream.{HasList};
 ghost use Rattle.std.specs.Prelude.{◌≡◌, ◌+◌, ◌*◌};
 
 use crate::{Flattened, FromSlice, Joined, List, Mapped, Merged, NoMemory, Stream, gather};
+use std::alloc::Global;
 
 /// Whether the stream gives just these items, and then none.
 fn gives<S: Stream<Item = u16> + Drop>(mut stream: S, wanted: &[u16]) -> bool
@@ -50,6 +51,11 @@ fn streams_are_flattened_past_empty_ones(rt: HostRuntime) {
         FromSlice::new(&none),
     ];
     assert!(rt; gives(Flattened::new(FromSlice::new(&streams)), &[5, 6, 4]));
+    let same = |row: FromSlice<'static, u16>| -> FromSlice<'static, u16>
+        ensures { result ≡ row }
+    { row };
+    let mapped = Mapped::new(FromSlice::new(&streams), same);
+    assert!(rt; gives(Flattened::new(mapped), &[5, 6, 4]));
 }
 
 #[test]
@@ -61,8 +67,46 @@ fn sorted_streams_are_merged(rt: HostRuntime) {
     assert!(rt; gives(merged, &[0, 1, 2, 4, 4, 4, 5]));
 }
 
+/// An item that is ordered by its key alone.
+#[derive(Clone, Copy)]
+#[derive_where(PartialEq, Eq, PartialOrd, Ord)]
+struct Tagged {
+    key: u16,
+    #[derive_where(skip(EqHashOrd))]
+    tag: u16,
+}
+
+#[test]
+fn ties_come_from_the_first_stream_first(rt: HostRuntime) {
+    let first = [
+        Tagged { key: 1, tag: 10 },
+        Tagged { key: 2, tag: 11 },
+        Tagged { key: 2, tag: 12 },
+    ];
+    let second = [
+        Tagged { key: 1, tag: 20 },
+        Tagged { key: 2, tag: 21 },
+        Tagged { key: 3, tag: 22 },
+    ];
+    assert!(rt; first.is_sorted() && second.is_sorted());
+    let merged = Merged::new(FromSlice::new(&first), FromSlice::new(&second));
+    let tags = Mapped::new(
+        merged,
+        |item: Tagged| -> u16
+            ensures { result ≡ item.tag }
+        { item.tag },
+    );
+    assert!(rt; gives(tags, &[10, 20, 11, 12, 21, 22]));
+}
+
+/// A vector with room, which is refused where memory is wanting.
+fn with_room(alloc: Global, room: usize) -> Result<Vec<u8>, NoMemory> {
+    Ok(Vec::with_capacity(alloc, room)?)
+}
+
 #[test]
 fn a_list_holds_what_was_pushed(rt: HostRuntime) -> Result<(), NoMemory> {
+    assert!(rt; with_room(rt.alloc(), 4)?.is_empty());
     let mut list = List::new(rt.alloc());
     assert!(rt; list.as_slice().is_empty());
     for item in [4u16, 1, 4] {
