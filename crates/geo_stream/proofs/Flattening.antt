@@ -1,7 +1,7 @@
 -- What one turn of a flattened stream does to the list that it stands for.
-use Rattle.std.proofs.Common.{◌≡◌, ℕ, ◌+◌, ◌*◌, ◌≤◌, List, [], ◌∷◌, ◌++◌, Option, Some, None, refl, ap, ◌∙◌, subst, sym, length, arith, mul-suc, mul-le-mul_left}
+use Rattle.std.proofs.Common.{◌≡◌, ℕ, ◌+◌, ◌*◌, ◌≤◌, List, [], ◌∷◌, ◌++◌, Option, Some, None, refl, ap, ◌∙◌, subst, sym, arith, mul-suc, mul-le-mul_left}
 use Rattle.std.specs.List.{AllZip}
-use Rattle.geo_stream.specs.Stream.{HasList, TakesFirst}
+use Rattle.geo_stream.specs.Stream.{TakesFirst}
 use Rattle.geo_stream.specs.Flattened.{StandsForFlattened, InHandStandsFor, end_to_end, size_in_hand}
 
 -- a source that has one stream fewer makes room for the greatest size

@@ -1,8 +1,8 @@
 -- What a caller of the adapters may want: the list that a mapped stream stands for, by the function that its closure computes, and the stable merge.
-use Rattle.std.proofs.Common.{◌≡◌, ℕ, List, [], ◌∷◌, All, map, refl}
+use Rattle.std.proofs.Common.{◌≡◌, List, [], ◌∷◌, All, map}
 use Rattle.std.specs.List.{AllZip, AllByRecursion}
 use Rattle.std.proofs.lemmas.List.Elements.{recursion_from_All}
-use Rattle.geo_stream.specs.Mapped.{HasOneAnswer, IsTheAnswer}
+use Rattle.geo_stream.specs.Mapped.{IsTheAnswer}
 -- the merge of two sorted lists is sorted, has the items of both, and keeps the order of those that tie
 pub use Rattle.geo_stream.proofs.StableMerge.{merge_is_stable}
 

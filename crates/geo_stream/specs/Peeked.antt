@@ -1,7 +1,7 @@
 -- A stream of which the first item was taken stands for this item, followed by what it still stands for. Where there was none, nothing follows.
 use Rattle.std.specs.Prelude.{◌≡◌, ℕ, ◌+◌, ◌≤◌, List, [], ◌∷◌, ◌++◌, length, Option, Some, None, IfNone}
 use Rattle.std.specs.Option.{option_to_list}
-use Rattle.std.proofs.Common.{arith, ap, length-append, refl, ◌∙◌}
+use Rattle.std.proofs.Common.{arith, ap, length-append}
 
 module _ {S A : Type 0} (stands_for : S → List A → Type 0) where
   -- the item that was taken, and the stream after it, stand for this list
