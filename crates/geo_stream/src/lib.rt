@@ -3,6 +3,27 @@
 
 use std::alloc::{AllocError, AllocFailed};
 
+mod flattened;
+mod from_slice;
+mod gathering;
+mod joined;
+mod list;
+mod mapped;
+mod merged;
+mod peeked;
+mod stream;
+#[cfg(test)]
+mod tests;
+
+pub use flattened::Flattened;
+pub use from_slice::FromSlice;
+pub use gathering::gather;
+pub use joined::Joined;
+pub use list::List;
+pub use mapped::Mapped;
+pub use merged::Merged;
+pub use stream::Stream;
+
 /// Memory was wanting. What was to be changed is as before, unless the call says otherwise.
 #[derive(Clone, Copy, Debug, PartialEq, Eq)]
 pub struct NoMemory;

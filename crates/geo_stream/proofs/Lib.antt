@@ -1,0 +1,4 @@
+mod Flattening
+pub mod ForCallers
+mod Merging
+mod StableMerge

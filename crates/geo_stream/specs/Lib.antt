@@ -1,0 +1,6 @@
+pub mod Flattened
+pub mod Joined
+pub mod Mapped
+pub mod Merged
+pub mod Peeked
+pub mod Stream
