@@ -1,0 +1,4 @@
+pub mod NumberLemmas
+pub mod RealLemmas
+pub mod HeadLemmas
+pub mod ForCallers
