@@ -1,4 +1,5 @@
-pub mod NumberLemmas
-pub mod RealLemmas
-pub mod HeadLemmas
 pub mod ForCallers
+mod FramingLemmas
+mod HeadLemmas
+mod NumberLemmas
+mod RealLemmas

@@ -10,6 +10,11 @@ abbrev pub IsRun : List ℕ → ℕ → List Record → ℕ → Type 0
 IsRun bytes from [] to = from ≡ to
 IsRun bytes from (r ∷ rs) to = IsRecordAt bytes from r × IsRun bytes r.next rs to
 
+-- no record ends the library
+abbrev pub NoneEnds : List Record → Type 0
+NoneEnds [] = ⊤
+NoneEnds (r ∷ rs) = (r.kind ≢ EndLib) × NoneEnds rs
+
 -- no record but the last ends the library
 abbrev pub EndsOnlyLast : List Record → Type 0
 EndsOnlyLast [] = ⊤
@@ -34,3 +39,9 @@ pub record IsFramed (bytes : List ℕ) (rs : List Record) : Type 0 where
   pub records : IsRecordsOf bytes rs to
   pub closed : IsClosed rs
   pub blank : (k : ℕ) → to ≤ k → k < length bytes → slice_index bytes k ≡ 0
+
+-- a file has one list of records, and it ends at one offset
+abbrev pub RecordsUnique : Type 0
+RecordsUnique =
+    (bytes : List ℕ) (rs ss : List Record) (to up : ℕ) → IsRecordsOf bytes rs to → IsRecordsOf bytes ss up
+    → (rs ≡ ss) × (to ≡ up)

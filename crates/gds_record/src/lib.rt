@@ -3,11 +3,16 @@
 #![tactic(auto)]
 
 mod kinds;
+mod laws;
 mod numbers;
 mod reals;
 mod records;
 
 pub use kinds::Kind;
+pub use laws::records_law;
 pub use numbers::{int2, int4, int8};
 pub use reals::{real_whole, unit_agrees};
 pub use records::{Framing, Record, record_at};
+
+#[cfg(test)]
+mod tests;

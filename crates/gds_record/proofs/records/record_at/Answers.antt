@@ -4,7 +4,7 @@ use Rattle.gds_record.specs.Faults.{IsFaultAt, HasUnknownHead, HasBadContent}
 use Rattle.gds_record.specs.Framing.{length_at, head_at, IsWhole, IsRecordAt}
 use Rattle.gds_record.specs.Heads.{head_of, content_of, IsAllowed}
 use Rattle.gds_record.proofs.HeadLemmas.{head_of-kind_with_head, no_kind}
-use Rattle.gds_record.proofs.ForCallers.{allowed_along, whole_record, only_record, record_no_fault, only_fault, fault_no_record}
+use Rattle.gds_record.proofs.FramingLemmas.{allowed_along, whole_record, only_record, record_no_fault, only_fault, fault_no_record}
 use Rattle.gds_record.proofs.records.record_at.Goals as goal
 
 pub returns-in_default-clause-found : goal.returns-in_default-clause-found
