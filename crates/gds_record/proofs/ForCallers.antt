@@ -15,6 +15,8 @@ use Rattle.gds_record.specs.Numbers.{number_at, signed_at}
 use Rattle.gds_record.specs.Runs.{IsRun, NoneEnds, EndsOnlyLast, IsClosed, IsRecordsOf, RecordsUnique}
 use Rattle.gds_record.proofs.NumberLemmas.{cast_signed-two}
 pub use Rattle.gds_record.proofs.FramingLemmas.{record_unique, record_or_fault, fault_unique}
+pub use Rattle.gds_record.proofs.RealLemmas.{real_value_unique}
+pub use Rattle.gds_record.proofs.RecordLists.{Answer, some_answer}
 
 -- ---- a record
 

@@ -3,3 +3,4 @@ mod FramingLemmas
 mod HeadLemmas
 mod NumberLemmas
 mod RealLemmas
+mod RecordLists

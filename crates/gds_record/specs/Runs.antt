@@ -40,6 +40,10 @@ pub record IsFramed (bytes : List ℕ) (rs : List Record) : Type 0 where
   pub closed : IsClosed rs
   pub blank : (k : ℕ) → to ≤ k → k < length bytes → slice_index bytes k ≡ 0
 
+-- each file has a list of records
+abbrev pub RecordsExist : Type 0
+RecordsExist = (bytes : List ℕ) → (rs : List Record) × (to : ℕ) × IsRecordsOf bytes rs to
+
 -- a file has one list of records, and it ends at one offset
 abbrev pub RecordsUnique : Type 0
 RecordsUnique =

@@ -1,10 +1,11 @@
 //! Laws of the definitions, for crates that read files.
 
-ghost use Rattle.gds_record.specs.Runs.{RecordsUnique};
+ghost use Rattle.gds_record.specs.Runs.{RecordsExist, RecordsUnique};
 
-/// The list of a file's records, up to the first end of library or to where no record stands, is the
-/// only one. There is nothing to run.
+/// Each file has one list of records, up to the first end of library or to where no record stands.
+/// There is nothing to run.
 pub fn records_law()
-    ensures { RecordsUnique }
+    ensures exist { RecordsExist }
+    ensures unique { RecordsUnique }
 {
 }

@@ -7,6 +7,9 @@ ghost use Rattle.gds_record.specs.Reals.{sign_of, exponent_of, fraction_of, IsWh
 /// of the exponent.
 const SHIFT_AT_0: u32 = 56 + 4 * 64;
 
+/// The micrometres in a metre.
+const MICROMETRES: u128 = 1_000_000;
+
 /// An eight-byte real: `fraction / 2^56 * 16^(exponent - 64)`, below 0 where it is negative.
 #[derive(Clone, Copy)]
 struct Real {
@@ -52,6 +55,7 @@ pub fn real_whole(bits: u64) -> Option<i64>
     if real.fraction == 0 {
         return Some(0);
     }
+    // The shift is 0 to 56.
     if real.exponent < 64 || real.exponent > 78 {
         return None;
     }
@@ -68,11 +72,12 @@ pub fn unit_agrees(bits: u64, unit: u32) -> bool
     ensures { IsTrue result ↔ Agrees bits unit }
 {
     let real = real_of(bits);
+    // The shift is 40 to 110; it goes by fours.
     if real.is_negative || real.exponent < 51 || real.exponent > 68 {
         return false;
     }
     let shift = SHIFT_AT_0 - 4 * real.exponent;
     let one = 1u128 << shift;
-    let product = u128::from(real.fraction) * u128::from(unit) * 1_000_000;
+    let product = u128::from(real.fraction) * u128::from(unit) * MICROMETRES;
     product.abs_diff(one) <= 1u128 << (shift - 40)
 }

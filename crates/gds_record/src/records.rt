@@ -11,7 +11,7 @@ use crate::numbers::unsigned2;
 /// The bytes of a record before its content: its length, record type and data type.
 const HEAD: usize = 4;
 
-/// A whole record of a file. Its content are the bytes from `first` up to `next`.
+/// A whole record of a file. Its content is the bytes from `first` up to `next`.
 #[derive(Clone, Copy, Debug, PartialEq, Eq)]
 pub struct Record {
     /// What the record holds.
