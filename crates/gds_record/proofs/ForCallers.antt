@@ -148,7 +148,7 @@ same_records bytes from (r ∷ t ∷ rs) (s ∷ []) to up p ends stop q ends' (i
 same_records bytes from (r ∷ t ∷ rs) (s ∷ u ∷ ss) to up p ends stop q ends' stop' =
     let first : r ≡ s = record_unique bytes from r s p.0 q.0 in
     let rest = same_records bytes s.next (t ∷ rs) (u ∷ ss) to up
-        (subst (λ x. IsRun bytes x.next (t ∷ rs) to) first p.1) ends.1 stop q.1 ends'.1 stop' in
+    (subst (λ x. IsRun bytes x.next (t ∷ rs) to) first p.1) ends.1 stop q.1 ends'.1 stop' in
     let tails : t ∷ rs ≡ u ∷ ss = rest.0 in
     (cc, rest.1)
 

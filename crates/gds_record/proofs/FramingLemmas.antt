@@ -1,11 +1,11 @@
 -- One record or one fault stands at an offset.
-use Rattle.std.proofs.Common.{◌≡◌, ℕ, ◌+◌, ◌-◌, ◌*◌, ◌%◌, ◌<◌, ◌≤◌, ◌⊎◌, inl, inr, List, length, Result, Ok, Err, ◌↔◌, refl, sym, ap, subst, ◌∙◌, arith}
+use Rattle.std.proofs.Common.{◌≡◌, ℕ, ◌+◌, ◌-◌, ◌%◌, ◌<◌, ◌≤◌, ◌⊎◌, inl, inr, List, length, Result, Ok, Err, ◌↔◌, refl, sym, ap, subst, ◌∙◌, arith}
 use Rattle.gds_record.specs.declared.kinds.Kind.{Kind}
 use Rattle.gds_record.specs.declared.kinds.ContentLength.{ContentLength}
 use Rattle.gds_record.specs.declared.records.Record.{Record}
 use Rattle.gds_record.specs.declared.records.Framing.{Framing}
 use Rattle.gds_record.specs.declared.records.Framing.TheVariants as faults
-use Rattle.gds_record.specs.Faults.{HasNoHead, HasBadLength, IsCutOff, HasUnknownHead, HasBadContent, IsFaultAt}
+use Rattle.gds_record.specs.Faults.{HasNoHead, HasBadLength, IsCutOff, HasBadContent, IsFaultAt}
 use Rattle.gds_record.specs.Framing.{length_at, head_at, IsRecordLength, IsWhole, IsRecordAt}
 use Rattle.gds_record.specs.Heads.{head_of, content_of, IsAllowed}
 use Rattle.gds_record.proofs.HeadLemmas.{head_of_unique}

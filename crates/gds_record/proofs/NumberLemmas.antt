@@ -1,5 +1,5 @@
 -- Bytes read with a sign are in two's complement.
-use Rattle.std.proofs.Common.{◌≡◌, ℕ, ◌<◌, ◌^◌, refl, arith}
+use Rattle.std.proofs.Common.{◌≡◌, ℕ, ◌<◌, ◌^◌, arith}
 use Rattle.std.proofs.lemmas.Int.{ints}
 use Rattle.std.specs.Int.{cast_signed, w16, w32}
 use Rattle.byteorder.specs.Endian.{twos_complement}

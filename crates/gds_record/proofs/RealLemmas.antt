@@ -1,11 +1,11 @@
 -- The value of an eight-byte real.
-use Rattle.std.proofs.Common.{◌≡◌, ℕ, zero, suc, ◌<◌, ◌≤◌, ◌+◌, ◌*◌, ◌^◌, ◌/◌, ◌%◌, ◌-◌, ◌⊎◌, ◌↔◌, inl, inr, Option, Some, None, refl, sym, ap, subst, ◌∙◌, arith, lit<, w64, to_z, of_z}
+use Rattle.std.proofs.Common.{◌≡◌, ℕ, zero, suc, ◌<◌, ◌≤◌, ◌+◌, ◌*◌, ◌^◌, ◌/◌, ◌%◌, ◌-◌, ◌↔◌, inr, Option, Some, None, refl, sym, ap, subst, ◌∙◌, arith, lit<, w64, to_z, of_z}
 use Rattle.std.proofs.Math.Nat.{eq_of_mul-eq-mul_right, mul-le-mul_right, mul_assoc, one-le-pow, div-add-mod', div-eq_of_eq-mul_left}
 use Rattle.std.proofs.lemmas.Int.{ints, unsigned_abs-mul}
 use Rattle.std.proofs.lemmas.Nat.{pow-add, mul-pow, one_shl, pow_pos}
 use Rattle.std.specs.Int.RustNames.{unsigned_abs}
 use Rattle.std.specs.Prelude.{ℤ, pos, negsuc, ◌*ℤ◌, ◌-ℤ◌, neg_ℤ}
-use Rattle.gds_record.specs.Reals.{sign_of, exponent_of, fraction_of, with_sign, IsRealValue, IsShift, IsInScope, IsWholeReal}
+use Rattle.gds_record.specs.Reals.{sign_of, exponent_of, fraction_of, with_sign, IsRealValue, IsShift, IsWholeReal}
 
 -- 16^e in powers of two
 sixteen : (e : ℕ) → 16 ^ e ≡ 2 ^ (4 * e)
@@ -56,7 +56,7 @@ exact : (sign m e s q : ℕ) → s + 4 * e ≡ 56 + 4 * 64 → m ≡ q * 2 ^ s
     → with_sign sign (m * 16 ^ e) ≡ with_sign sign q *ℤ pos (16 ^ 64 * 2 ^ 56)
 exact sign m e s q shift h =
     let product : m * 16 ^ e ≡ q * (16 ^ 64 * 2 ^ 56) =
-        ap (λ x. x * 16 ^ e) h ∙ mul_assoc q (2 ^ s) (16 ^ e) ∙ ap (λ x. q * x) (scale e s shift) in
+    ap (λ x. x * 16 ^ e) h ∙ mul_assoc q (2 ^ s) (16 ^ e) ∙ ap (λ x. q * x) (scale e s shift) in
     ap (with_sign sign) product ∙ with_sign-mul sign q (16 ^ 64 * 2 ^ 56)
 
 -- a whole number that the real is gives the fraction over 2^s
@@ -64,9 +64,9 @@ divides : (sign m e s : ℕ) (n : ℤ) → s + 4 * e ≡ 56 + 4 * 64
     → with_sign sign (m * 16 ^ e) ≡ n *ℤ pos (16 ^ 64 * 2 ^ 56) → m ≡ unsigned_abs n * 2 ^ s
 divides sign m e s n shift h =
     let size : m * 16 ^ e ≡ unsigned_abs n * (16 ^ 64 * 2 ^ 56) =
-        sym (abs_of sign (m * 16 ^ e)) ∙ ap unsigned_abs h ∙ unsigned_abs-mul n (pos (16 ^ 64 * 2 ^ 56)) in
+    sym (abs_of sign (m * 16 ^ e)) ∙ ap unsigned_abs h ∙ unsigned_abs-mul n (pos (16 ^ 64 * 2 ^ 56)) in
     let split : unsigned_abs n * (16 ^ 64 * 2 ^ 56) ≡ unsigned_abs n * 2 ^ s * 16 ^ e =
-        ap (λ x. unsigned_abs n * x) (sym (scale e s shift)) ∙ sym (mul_assoc (unsigned_abs n) (2 ^ s) (16 ^ e)) in
+    ap (λ x. unsigned_abs n * x) (sym (scale e s shift)) ∙ sym (mul_assoc (unsigned_abs n) (2 ^ s) (16 ^ e)) in
     eq_of_mul-eq-mul_right (16 ^ e) (one-le-pow e 16 (omega arith)) m (unsigned_abs n * 2 ^ s) (size ∙ split)
 
 -- a real is at most one whole number

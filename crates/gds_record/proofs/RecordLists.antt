@@ -9,10 +9,10 @@ use Rattle.gds_record.specs.declared.kinds.Kind.TheVariants.{EndLib}
 use Rattle.gds_record.specs.declared.records.Record.{Record}
 use Rattle.gds_record.specs.declared.records.Framing.{Framing}
 use Rattle.gds_record.specs.declared.records.Framing.TheVariants as faults
-use Rattle.gds_record.specs.Faults.{IsFaultAt, HasBadContent}
+use Rattle.gds_record.specs.Faults.{IsFaultAt}
 use Rattle.gds_record.specs.Framing.{length_at, head_at, IsRecordLength, IsWhole, IsRecordAt}
 use Rattle.gds_record.specs.Heads.{head_of, content_of, kind_with_head, IsAllowed}
-use Rattle.gds_record.specs.Runs.{IsRun, EndsOnlyLast, IsClosed, IsRecordsOf, RecordsExist}
+use Rattle.gds_record.specs.Runs.{IsRun, EndsOnlyLast, IsClosed, RecordsExist}
 use Rattle.gds_record.proofs.FramingLemmas.{record_or_fault}
 use Rattle.gds_record.proofs.HeadLemmas.{head_of_unique, head_of-kind_with_head, no_kind}
 
@@ -55,9 +55,9 @@ with_head bytes at begins =
     elim (cases_lt (length_at bytes at) 4) [
       | inl low ↦ inr (faults.Length, record { begins = begins; bad = inl low })
       | inr least ↦ elim (cases_eq (length_at bytes at % 2) 1) [
-          | inl odd ↦ inr (faults.Length, record { begins = begins; bad = inr odd })
-          | inr not_odd ↦ with_length bytes at begins (record { least = least; even = omega (arith, not_odd) })
-        ]
+        | inl odd ↦ inr (faults.Length, record { begins = begins; bad = inr odd })
+        | inr not_odd ↦ with_length bytes at begins (record { least = least; even = omega (arith, not_odd) })
+      ]
     ]
 
 -- a record or a fault stands at each offset
@@ -94,24 +94,24 @@ list_from (suc steps) bytes at past =
     elim (some_answer bytes at) [
       | inr fault ↦ stopped bytes at (λ r p. record_or_fault bytes at r fault.0 p fault.1)
       | inl found ↦ elim (cases_eq (head_of found.0.kind) (head_of EndLib)) [
-          | inl same ↦ record {
-              items = found.0 ∷ [];
-              to = found.0.next;
-              run = (found.1, refl);
-              ends = tt;
-              longest = inl (head_of_unique found.0.kind EndLib same);
+        | inl same ↦ record {
+          items = found.0 ∷ [];
+          to = found.0.next;
+          run = (found.1, refl);
+          ends = tt;
+          longest = inl (head_of_unique found.0.kind EndLib same);
+        }
+        | inr other ↦
+            let rest : ListFrom bytes found.0.next =
+            list_from steps bytes found.0.next (omega (arith, found.1.next, found.1.whole.sized.least)) in
+            record {
+              items = found.0 ∷ rest.items;
+              to = rest.to;
+              run = (found.1, rest.run);
+              ends = ends_cons found.0 rest.items (λ e. other (ap head_of e)) rest.ends;
+              longest = longest_cons bytes found.0 rest.items rest.to rest.longest;
             }
-          | inr other ↦
-              let rest : ListFrom bytes found.0.next =
-                  list_from steps bytes found.0.next (omega (arith, found.1.next, found.1.whole.sized.least)) in
-              record {
-                items = found.0 ∷ rest.items;
-                to = rest.to;
-                run = (found.1, rest.run);
-                ends = ends_cons found.0 rest.items (λ e. other (ap head_of e)) rest.ends;
-                longest = longest_cons bytes found.0 rest.items rest.to rest.longest;
-              }
-        ]
+      ]
     ]
 
 -- each file has a list of records

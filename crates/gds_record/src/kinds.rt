@@ -199,16 +199,11 @@ pub(crate) fn content_length(kind: Kind) -> ContentLength
         | Kind::StrClass
         | Kind::Format
         | Kind::LibDirSize => ContentLength::Exactly(2),
-        Kind::Width
-        | Kind::ColRow
-        | Kind::Plex
-        | Kind::BgnExtn
-        | Kind::EndExtn => ContentLength::Exactly(4),
-        Kind::Mag
-        | Kind::Angle => ContentLength::Exactly(8),
+        Kind::Width | Kind::ColRow | Kind::Plex | Kind::BgnExtn | Kind::EndExtn =>
+            ContentLength::Exactly(4),
+        Kind::Mag | Kind::Angle => ContentLength::Exactly(8),
         Kind::Units => ContentLength::Exactly(16),
-        Kind::BgnLib
-        | Kind::BgnStr => ContentLength::Exactly(24),
+        Kind::BgnLib | Kind::BgnStr => ContentLength::Exactly(24),
         Kind::LibName
         | Kind::StrName
         | Kind::Sname

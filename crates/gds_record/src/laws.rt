@@ -7,5 +7,4 @@ ghost use Rattle.gds_record.specs.Runs.{RecordsExist, RecordsUnique};
 pub fn records_law()
     ensures exist { RecordsExist }
     ensures unique { RecordsUnique }
-{
-}
+{}

@@ -1,4 +1,4 @@
-use Rattle.std.proofs.Common.{rules, ◌∙◌, ap, arith, SFits, w16, to_z-of_z}
+use Rattle.std.proofs.Common.{rules, ◌∙◌, ap, SFits, w16, to_z-of_z}
 use Rattle.byteorder.specs.Endian.{twos_complement}
 use Rattle.gds_record.proofs.NumberLemmas.{cast_signed-two}
 use Rattle.gds_record.proofs.numbers.int2.Goals as goal

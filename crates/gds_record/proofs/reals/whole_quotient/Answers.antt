@@ -1,4 +1,3 @@
-use Rattle.std.proofs.Common.{◌≡◌, ◌*◌, ◌/◌, ◌^◌, ◌%◌, ◌∙◌, Some, arith, ap, sym}
 use Rattle.gds_record.proofs.RealLemmas.{quotient_exact}
 use Rattle.gds_record.proofs.reals.whole_quotient.Goals as goal
 
