@@ -1,0 +1,6 @@
+pub mod ForCallers
+mod FramingLemmas
+mod HeadLemmas
+mod NumberLemmas
+mod RealLemmas
+mod RecordLists

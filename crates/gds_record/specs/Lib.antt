@@ -1,0 +1,6 @@
+pub mod Heads
+pub mod Numbers
+pub mod Framing
+pub mod Faults
+pub mod Reals
+pub mod Runs

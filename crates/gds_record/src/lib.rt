@@ -1,0 +1,18 @@
+//! Records of a GDSII stream file: the record at an offset or what is wrong there, and the numbers
+//! that records hold.
+#![tactic(auto)]
+
+mod kinds;
+mod laws;
+mod numbers;
+mod reals;
+mod records;
+
+pub use kinds::Kind;
+pub use laws::records_law;
+pub use numbers::{int2, int4, int8};
+pub use reals::{real_whole, unit_agrees};
+pub use records::{Framing, Record, record_at};
+
+#[cfg(test)]
+mod tests;
