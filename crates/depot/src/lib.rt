@@ -1,0 +1,10 @@
+//! The outside of the program: files by name, and what it says. Files in memory, real files, and whole reads and writes.
+#![tactic(auto)]
+
+mod outside;
+mod real;
+mod whole;
+
+pub use outside::{Depot, DepotBad};
+pub use real::FileDepot;
+pub use whole::{Refused, make_file, read_all, say_whole, write_whole};
