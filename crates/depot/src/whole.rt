@@ -1,5 +1,5 @@
 // Whole files over a depot that takes and gives bytes in pieces.
-ghost use Rattle.std.specs.Prelude.{◌≡◌, ◌⊎◌, ◌<◌, ◌≤◌, [], Some, IsTrue, IsSome, IfOk, OnOk, OnErr, IsErrOf, length, vec_len};
+ghost use Rattle.std.specs.Prelude.{◌≡◌, ◌⊎◌, ◌<◌, ◌≤◌, [], Some, IsTrue, IsSome, IfOk, OnOk, OnErr, IsErr, IsErrOf, ◌++◌, length, vec_len};
 ghost use Rattle.depot.specs.Content.{held_as, IsNotThere, IsLongerThan, with_left, ChangesLeftOnly, with_file, with_written, IsPartWritten, with_said, IsPartSaid, IsPartMade};
 ghost use Rattle.depot.specs.Counts.{Rose, NeverFall};
 
@@ -66,28 +66,50 @@ pub fn read_all<D: Depot>(
     ensures others { IsTrue D.tells → ChangesLeftOnly (D.content depot.old) (D.content depot.new) }
     ensures too_long { IsErrOf result Refused.TooLong → IsTrue D.tells
         → IsLongerThan limit (D.content depot.old) name.now }
-    ensures long { IsTrue D.tells → IsLongerThan limit (D.content depot.old) name.now
-        → IsErrOf result Refused.TooLong ⊎ IsErrOf result Refused.Fault
-        ⊎ IsErrOf result Refused.NoMemory }
+    ensures long { IsTrue D.tells → IsLongerThan limit (D.content depot.old) name.now → IsErr result }
     ensures fault { IsErrOf result Refused.Fault
         → Rose (D.counts depot.old).read_faults (D.counts depot.new).read_faults
         ⊎ (IsTrue D.tells × IsNotThere (D.content depot.old) name.now) }
-    ensures missing { IsTrue D.tells → IsNotThere (D.content depot.old) name.now
-        → IsErrOf result Refused.Fault ⊎ IsErrOf result Refused.NoMemory }
+    ensures missing { IsTrue D.tells → IsNotThere (D.content depot.old) name.now → IsErr result }
     ensures counted { NeverFall (D.counts depot.old) (D.counts depot.new) }
 {
-    let mut buf = vec![in alloc; 0u8; CHUNK]?;
+    let mut chunk = vec![in alloc; 0u8; CHUNK]?;
     depot.start_read(name)?;
     let mut bytes = Vec::new(alloc);
+    read_rest(depot, &mut chunk, &mut bytes, limit)?;
+    Ok(bytes)
+}
+
+// Puts what is left of the started file behind the bytes, a chunk at a time.
+fn read_rest<D: Depot>(
+    depot: &mut D,
+    chunk: &mut [u8],
+    bytes: &mut Vec<u8>,
+    limit: usize,
+) -> Result<(), Refused>
+    requires room { 0 < length chunk.old }
+    requires short { vec_len bytes.old ≤ limit }
+    ensures ok { OnOk result (IsTrue D.tells
+        → bytes.new.items ≡ bytes.old.items ++ (D.content depot.old).left) }
+    ensures within { vec_len bytes.new ≤ limit }
+    ensures whole { OnOk result (IsTrue D.tells
+        → D.content depot.new ≡ with_left (D.content depot.old) []) }
+    ensures others { IsTrue D.tells → ChangesLeftOnly (D.content depot.old) (D.content depot.new) }
+    ensures too_long { IsErrOf result Refused.TooLong → IsTrue D.tells
+        → limit < length (bytes.old.items ++ (D.content depot.old).left) }
+    ensures fault { IsErrOf result Refused.Fault
+        → Rose (D.counts depot.old).read_faults (D.counts depot.new).read_faults }
+    ensures counted { NeverFall (D.counts depot.old) (D.counts depot.new) }
+{
     loop {
-        let count = depot.read(&mut buf)?;
+        let count = depot.read(chunk)?;
         if count == 0 {
-            return Ok(bytes);
+            return Ok(());
         }
         if limit - bytes.len() < count {
             return Err(Refused::TooLong);
         }
-        bytes.extend_from_slice(&buf[..count])?;
+        bytes.extend_from_slice(&chunk[..count])?;
     }
 }
 
