@@ -2,7 +2,10 @@
 -- pieces that are written one after another add up.
 use Rattle.std.proofs.Common.{◌≡◌, ◌≢◌, ◌⊎◌, ℕ, ◌+◌, ◌≤◌, ◌<◌, Bool, true, false, cond, List, [], ◌∷◌, ◌++◌, length, take, drop, Option, None, Some, unwrap_or, refl, sym, ap, ◌∙◌, arith, append_assoc, subst, inl, inr}
 use Rattle.std.proofs.lemmas.List.{append-nil, take-take, drop-take, take-append-drop}
-use Rattle.std.specs.Ordering.{nat_cmp, eq_by_cmp}
+use Rattle.std.specs.Ordering.{nat_cmp, eq_by_cmp, is_eq}
+use Rattle.std.specs.declared.cmp.Ordering.{Ordering}
+use Rattle.std.specs.declared.cmp.Ordering.TheVariants.{Less, Equal, Greater}
+use Rattle.std.proofs.lemmas.Bool.{false_from_ne_true}
 use Rattle.std.specs.Cmp.{eq_by_cmp_equiv}
 use Rattle.std.specs.Cmp.Lexicographic.{slice_cmp, nat_list_cmp_total}
 use Rattle.std.specs.FinMap.{FinMap, get, insert, get-insert, same_map, slice_cmp-IsAntisymmetric, nat_cmp-IsAntisymmetric}
@@ -102,3 +105,38 @@ Rose-later a b c le (inr full) = inr full
 pub Rose-earlier : (a b c : ℕ) → Rose a b → b ≤ c → Rose a c
 Rose-earlier a b c (inl lt) le = inl (omega arith)
 Rose-earlier a b c (inr full) le = inr (omega arith)
+
+tied : (a b : List ℕ) → tie a b ≡ true → a ≡ b
+tied a b e = slice_cmp-IsAntisymmetric nat_cmp-IsAntisymmetric a b (is_eq-true (slice_cmp nat_cmp a b) e)
+  where
+    is_eq-true : (r : Ordering) → is_eq r ≡ true → r ≡ Equal
+    is_eq-true Less e = cc
+    is_eq-true Equal e = refl
+    is_eq-true Greater e = cc
+
+-- another name keeps what it has
+pub get-insert_other : (m : Files) (k q v : List ℕ) → (k ≡ q → ⊥) → get (insert m k v) q ≡ get m q
+get-insert_other m k q v differs =
+    get-insert-tie m k v q ∙ ap (λ b. cond b (Some v) (get m q)) (false_from_ne_true (tie q k) (λ e. differs (sym (tied q k e))))
+
+chosen : (a b : Bool) (v w o : Option (List ℕ)) → (a ≡ true → b ≡ true → ⊥) → cond a v (cond b w o) ≡ cond b w (cond a v o)
+chosen true true v w o apart = absurd (apart refl refl)
+chosen true false v w o apart = refl
+chosen false b v w o apart = refl
+
+-- files of two names may be put in either order
+pub insert_comm : (m : Files) (k j v w : List ℕ) → (k ≡ j → ⊥) → insert (insert m k v) j w ≡ insert (insert m j w) k v
+insert_comm m k j v w differs =
+    same_files _ _ (λ q.
+      get-insert-tie (insert m k v) j w q ∙ ap (cond (tie q j) (Some w)) (get-insert-tie m k v q)
+      ∙ chosen (tie q j) (tie q k) (Some w) (Some v) (get m q) (λ a b. differs (sym (tied q k b) ∙ tied q j a))
+      ∙ sym (get-insert-tie (insert m j w) k v q ∙ ap (cond (tie q k) (Some v)) (get-insert-tie m j w q)))
+
+as_it_was : (b : Bool) (v o : Option (List ℕ)) → (b ≡ true → o ≡ v) → cond b v o ≡ o
+as_it_was true v o same = sym (same refl)
+as_it_was false v o same = refl
+
+-- to put what a name has already changes nothing
+pub insert_same : (m : Files) (k v : List ℕ) → get m k ≡ Some v → insert m k v ≡ m
+insert_same m k v had =
+    same_files _ _ (λ q. get-insert-tie m k v q ∙ as_it_was (tie q k) (Some v) (get m q) (λ t. ap (get m) (tied q k t) ∙ had))
