@@ -1,6 +1,7 @@
 //! The outside of the program: files by name, and what it says. Files in memory, real files, and whole reads and writes.
 #![tactic(auto)]
 
+mod filing;
 mod outside;
 mod real;
 mod whole;
