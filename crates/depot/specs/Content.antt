@@ -1,15 +1,18 @@
 -- What stands outside a program, as a depot shows it: the files that can be read, what the started file has
 -- still to give, the files that were made, the name that writes go to, and what was said to standard output.
 -- A call changes one of these and leaves the rest, so each outcome is one equation between two contents.
-use Rattle.std.specs.Prelude.{◌≡◌, ◌⊎◌, ℕ, ◌<◌, ◌≤◌, Bool, List, [], ◌∷◌, ◌++◌, length, take, drop, Option, None, Some, unwrap_or, if◌then◌else◌, IsSomeAnd}
+use Rattle.std.specs.Prelude.{◌≡◌, ◌⊎◌, ℕ, ◌<◌, ◌≤◌, Bool, List, [], ◌∷◌, ◌++◌, length, take, drop, Option, None, Some, unwrap_or, if◌then◌else◌, IsSomeAnd, false, refl}
 use Rattle.std.specs.Ordering.{nat_cmp}
 use Rattle.std.specs.Cmp.Lexicographic.{slice_cmp}
-use Rattle.std.specs.Coded.{Coded, coded×, coded_list, coded_ℕ, code_by}
-use Rattle.std.specs.FinMap.{FinMap, get, insert}
+use Rattle.std.specs.Coded.{Coded, coded×, coded_list, coded_ℕ, coded_bool, coded_option, code_by}
+use Rattle.std.specs.FinMap.{FinMap, empty, get, insert, code}
 
 -- Files by name. A name and the bytes of a file are lists of numbers below 256.
 abbrev pub Files : Type 0
 Files = FinMap (slice_cmp nat_cmp) (List ℕ)
+
+abbrev pub files_code : Coded Files
+files_code = code (coded_list coded_ℕ) (coded_list coded_ℕ)
 
 pub record Content : Type 0 where
   -- the files that can be read
@@ -24,6 +27,19 @@ pub record Content : Type 0 where
   pub current : Option (List ℕ)
   -- what was said
   pub said : List ℕ
+
+-- no file, and nothing said
+abbrev pub nothing : Content
+nothing = record { held = empty; blank = false; left = []; made = empty; current = None; said = [] }
+
+-- A content is stored as the tuple of its parts.
+abbrev pub content_code : Coded Content
+content_code =
+    code_by (Files × (Bool × (List ℕ × (Files × (Option (List ℕ) × List ℕ)))))
+    (coded× files_code (coded× coded_bool (coded× (coded_list coded_ℕ) (coded× files_code (coded× (coded_option (coded_list coded_ℕ)) (coded_list coded_ℕ))))))
+    (λ c. (c.held, (c.blank, (c.left, (c.made, (c.current, c.said))))))
+    (λ p. record { held = p.0; blank = p.1.0; left = p.1.1.0; made = p.1.1.1.0; current = p.1.1.1.1.0; said = p.1.1.1.1.1 })
+    (λ _. refl)
 
 -- what a name holds, or None where it isn't there
 abbrev pub held_as : Content → List ℕ → Option (List ℕ)
@@ -64,6 +80,10 @@ with_current c name = record c { current = name }
 -- the name is made with these bytes, and writes go on to it
 abbrev pub with_file : Content → List ℕ → List ℕ → Content
 with_file c name bytes = record c { made = insert c.made name bytes; current = Some name }
+
+-- a file can be read: the name holds these bytes in place of older ones, and nothing is left of a started file
+abbrev pub with_held : Content → List ℕ → List ℕ → Content
+with_held c name bytes = record c { held = insert c.held name bytes; left = [] }
 
 -- a file is begun: the name is made with no bytes, and writes go to it
 abbrev pub begun : Content → List ℕ → Content

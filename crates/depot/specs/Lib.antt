@@ -1,5 +1,5 @@
 pub mod Content
 pub mod Counts
 pub mod Refusals
-pub mod Real
+pub mod StoreView
 pub mod Filing

@@ -4,6 +4,7 @@
 mod filing;
 mod outside;
 mod real;
+mod store;
 mod whole;
 
 pub use outside::{Depot, DepotBad};

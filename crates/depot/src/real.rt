@@ -1,6 +1,6 @@
 // Real files and standard output. What a file holds no clause can say, so this depot tells its counts alone.
 ghost use Rattle.std.specs.Prelude.{◌≡◌, false};
-ghost use Rattle.depot.specs.Real.{untold};
+ghost use Rattle.depot.specs.Content.{nothing};
 
 use crate::outside::{Depot, DepotBad};
 use std::fs::File;
