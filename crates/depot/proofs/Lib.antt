@@ -1,0 +1,3 @@
+pub mod ForCallers
+mod Reading
+mod FilingLemmas

@@ -1,0 +1,5 @@
+pub mod Content
+pub mod Counts
+pub mod Refusals
+pub mod StoreView
+pub mod Filing

@@ -1,0 +1,12 @@
+//! The outside of the program: files by name, and what it says. Files in memory, real files, and whole reads and writes.
+#![tactic(auto)]
+
+mod filing;
+mod outside;
+mod real;
+mod store;
+mod whole;
+
+pub use outside::{Depot, DepotBad};
+pub use real::FileDepot;
+pub use whole::{Refused, make_file, read_all, say_whole, write_whole};

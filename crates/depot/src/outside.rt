@@ -1,0 +1,97 @@
+// What a program uses of the outside.
+ghost use Rattle.std.specs.Prelude.{◌≡◌, ◌⊎◌, ℕ, ◌<◌, ◌≤◌, [], Bool, IsTrue, IsSome, IfOk, OnOk, OnErr, IsErrOf, length, take};
+ghost use Rattle.depot.specs.Content.{Content, IsNotThere, with_left, StartsReading, TakesFirst, begun, IsNotBegun, with_written, with_said};
+ghost use Rattle.depot.specs.Counts.{Counts, Rose, NeverFall};
+
+/// Why a call of a depot was refused.
+#[derive(Clone, Copy, Debug, PartialEq, Eq)]
+pub enum DepotBad {
+    /// The outside refused it. The depot has counted it, unless a name to be read isn't there.
+    Failed,
+    /// Memory was wanting. The depot has counted it.
+    NoMemory,
+}
+
+/// A store of files, and standard output: all that the program uses of the outside. One file at a time is
+/// read, and one is written. Files that are made aren't seen by a read.
+pub trait Depot {
+    /// Whether the depot tells its content. The clauses on content hold for one that does.
+    ghost tells: { Bool };
+
+    /// What it holds, gives, has made and said.
+    ghost content: { Self → Content };
+
+    /// How often it refused, by kind.
+    ghost counts: { Self → Counts };
+
+    /// Starts to read a file from its first byte. After a refusal nothing is left to be read.
+    /// A name that isn't there is answered `Failed`.
+    fn start_read(&mut self, name: &str) -> Result<(), DepotBad>
+        ensures ok { OnOk result (IsTrue tells → StartsReading (content self.old) name.now (content self.new)) }
+        ensures refused { OnErr result (IsTrue tells → content self.new ≡ with_left (content self.old) []) }
+        ensures missing { IsTrue tells → IsNotThere (content self.old) name.now
+            → IsErrOf result DepotBad.Failed ⊎ IsErrOf result DepotBad.NoMemory }
+        ensures failed { IsErrOf result DepotBad.Failed
+            → Rose (counts self.old).read_faults (counts self.new).read_faults
+            ⊎ (IsTrue tells × IsNotThere (content self.old) name.now) }
+        ensures no_memory { IsErrOf result DepotBad.NoMemory
+            → Rose (counts self.old).refused (counts self.new).refused }
+        ensures counted { NeverFall (counts self.old) (counts self.new) };
+
+    /// Puts the next bytes of the started file first in the buffer and answers how many. It answers 0 at a
+    /// buffer that isn't empty only at the file's end. A refusal takes nothing.
+    fn read(&mut self, buf: &mut [u8]) -> Result<usize, DepotBad>
+        ensures bound { IfOk result (λ n. n ≤ length buf.old) }
+        ensures ok { IfOk result (λ n. IsTrue tells
+            → TakesFirst (content self.old) n buf.old buf.new (content self.new)) }
+        ensures end { IfOk result (λ n. IsTrue tells → n ≡ 0 → 0 < length buf.old
+            → (content self.old).left ≡ []) }
+        ensures refused { OnErr result (IsTrue tells
+            → (content self.new ≡ content self.old) × (buf.new ≡ buf.old)) }
+        ensures failed { IsErrOf result DepotBad.Failed
+            → Rose (counts self.old).read_faults (counts self.new).read_faults }
+        ensures no_memory { IsErrOf result DepotBad.NoMemory
+            → Rose (counts self.old).refused (counts self.new).refused }
+        ensures counted { NeverFall (counts self.old) (counts self.new) };
+
+    /// Makes the file with no bytes; later writes go to it. After a refusal writes go nowhere, and the name
+    /// is as before or has no bytes.
+    fn start_write(&mut self, name: &str) -> Result<(), DepotBad>
+        ensures ok { OnOk result (IsTrue tells → content self.new ≡ begun (content self.old) name.now) }
+        ensures refused { OnErr result (IsTrue tells
+            → IsNotBegun (content self.old) name.now (content self.new)) }
+        ensures failed { IsErrOf result DepotBad.Failed
+            → Rose (counts self.old).write_faults (counts self.new).write_faults }
+        ensures no_memory { IsErrOf result DepotBad.NoMemory
+            → Rose (counts self.old).refused (counts self.new).refused }
+        ensures counted { NeverFall (counts self.old) (counts self.new) };
+
+    /// Appends the first bytes of the piece to the started file and answers how many: at least one of a
+    /// piece that isn't empty. A refusal appends nothing.
+    fn write(&mut self, bytes: &[u8]) -> Result<usize, DepotBad>
+        requires { IsTrue tells → IsSome (content self.old).current }
+        ensures bound { IfOk result (λ n. n ≤ length bytes.now) }
+        ensures progress { IfOk result (λ n. 0 < length bytes.now → 0 < n) }
+        ensures ok { IfOk result (λ n. IsTrue tells
+            → content self.new ≡ with_written (content self.old) (take n bytes.now)) }
+        ensures refused { OnErr result (IsTrue tells → content self.new ≡ content self.old) }
+        ensures failed { IsErrOf result DepotBad.Failed
+            → Rose (counts self.old).write_faults (counts self.new).write_faults }
+        ensures no_memory { IsErrOf result DepotBad.NoMemory
+            → Rose (counts self.old).refused (counts self.new).refused }
+        ensures counted { NeverFall (counts self.old) (counts self.new) };
+
+    /// Says the first bytes of the piece on standard output and answers how many: at least one of a piece
+    /// that isn't empty. A refusal says nothing.
+    fn say(&mut self, bytes: &[u8]) -> Result<usize, DepotBad>
+        ensures bound { IfOk result (λ n. n ≤ length bytes.now) }
+        ensures progress { IfOk result (λ n. 0 < length bytes.now → 0 < n) }
+        ensures ok { IfOk result (λ n. IsTrue tells
+            → content self.new ≡ with_said (content self.old) (take n bytes.now)) }
+        ensures refused { OnErr result (IsTrue tells → content self.new ≡ content self.old) }
+        ensures failed { IsErrOf result DepotBad.Failed
+            → Rose (counts self.old).write_faults (counts self.new).write_faults }
+        ensures no_memory { IsErrOf result DepotBad.NoMemory
+            → Rose (counts self.old).refused (counts self.new).refused }
+        ensures counted { NeverFall (counts self.old) (counts self.new) };
+}
