@@ -4,6 +4,7 @@ pub mod Tiles
 pub mod Lines
 pub mod Rows
 pub mod Winding
+pub mod Outlines
 pub mod Trapezoids
 pub mod Sides
 pub mod RowLaws

@@ -1,0 +1,6 @@
+-- The words of the program, each as its bytes.
+use Rattle.std.specs.Prelude.{◌≡◌, ℕ, List, [], ◌∷◌, codes}
+
+-- `fracture LAYOUT DECK`
+abbrev pub IsFracture : List (List ℕ) → List ℕ → List ℕ → Type 0
+IsFracture words layout deck = words ≡ codes "fracture" ∷ layout ∷ deck ∷ []

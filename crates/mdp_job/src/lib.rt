@@ -1,0 +1,15 @@
+//! All that the program does: `run` takes the words of a command, reads deck and layout from a depot and
+//! writes the shot files.
+#![tactic(auto)]
+
+ghost use Rattle.std.specs.Prelude.{◌≡◌};
+ghost use Rattle.mdp_job.specs.Words.{IsFracture};
+ghost use Rattle.mdp_job.specs.FirstDeck.{IsDeckOf};
+ghost use Rattle.mdp_job.specs.FirstLayout.{IsLayoutOf};
+
+/// nothing yet
+pub fn nothing() -> u8
+    ensures { result ≡ 0 }
+{
+    0
+}
