@@ -13,5 +13,5 @@ mod shot;
 pub use laws::row_laws;
 pub use outline::{line_through, winding_at};
 pub use plane::{Line, Point, Side, Strips, Tile};
-pub use rows::{diagonal_of, line_at, number_of, place_of, strips, x_at};
+pub use rows::{diagonal_of, line_at, number_of, place_of, strips, tile_at, x_at};
 pub use shot::{Limits, REACH, Trap, covers, fits};

@@ -98,6 +98,26 @@ pub fn place_of(line: Line, row: i64) -> i64
     x_at(line, row) + x_at(line, row + 1)
 }
 
+/// The tile of the row with this number.
+pub fn tile_at(row: i64, number: i64) -> Tile
+    ensures row { result.j ≡ row }
+    ensures number { number_in_row result ≡ number }
+{
+    let column = half_of(number);
+    if is_even_number(number) {
+        return Tile {
+            i: column,
+            j: row,
+            side: Side::Left,
+        };
+    }
+    Tile {
+        i: column,
+        j: row,
+        side: Side::Right,
+    }
+}
+
 // Half of a number, rounded down.
 fn half_of(number: i64) -> i64
     ensures { result ≡ half number }
