@@ -1,3 +1,4 @@
 pub mod Words
 pub mod FirstDeck
 pub mod FirstLayout
+pub mod Inside

@@ -7,6 +7,8 @@ ghost use Rattle.mdp_job.specs.Words.{IsFracture};
 ghost use Rattle.mdp_job.specs.FirstDeck.{IsDeckOf};
 ghost use Rattle.mdp_job.specs.FirstLayout.{IsLayoutOf};
 
+mod row_walk;
+
 /// nothing yet
 pub fn nothing() -> u8
     ensures { result ≡ 0 }

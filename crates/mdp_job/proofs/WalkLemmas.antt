@@ -1,0 +1,115 @@
+-- Runs of a row: what was found tile by tile, and the trapezoid of a run.
+use Rattle.std.proofs.Common.{◌≡◌, ◌+◌, ℕ, Bool, true, false, not, ℤ, pos, ◌+ℤ◌, ◌-ℤ◌, ◌≤ℤ◌, ◌<ℤ◌, ◌&&◌, arith, refl, ap, ◌∙◌, sym, List, [], ◌∷◌, ◌++◌, int_le, int_lt, cond, add_assoc}
+use Rattle.std.proofs.lemmas.List.Sums.{sum_by-append}
+use Rattle.half_grid.proofs.LineLemmas.{int_eq_true}
+use mathlib.Core.Bool.{beq}
+use Rattle.std.proofs.lemmas.Int.{ints, by_lt_z}
+use Rattle.std.specs.Ordering.{int_eq}
+use Rattle.half_grid.specs.Lines.{x_on}
+use Rattle.half_grid.specs.Rows.{number_in_row, place}
+use Rattle.half_grid.specs.Winding.{count_one}
+use Rattle.half_grid.specs.Trapezoids.{Trapezoid, trapezoid, trapezoid_has, count_in}
+use Rattle.half_grid.specs.declared.plane.Tile.{Tile}
+use Rattle.half_grid.specs.declared.plane.Point.{Point}
+use Rattle.half_grid.specs.declared.plane.Line.{Line}
+use Rattle.half_grid.proofs.Places.{same_number}
+use Rattle.half_grid.proofs.OneRow.{in_row, row_has}
+use Rattle.half_grid.proofs.OutlineLemmas.{le_yes, le_no}
+use Rattle.mdp_job.specs.Inside.{is_inside}
+
+pub beq_yes : (a b : Bool) → beq a b ≡ true → a ≡ b
+beq_yes true true h = refl
+beq_yes true false h = absurd (let bad : ⊥ = cc in bad)
+beq_yes false true h = absurd (let bad : ⊥ = cc in bad)
+beq_yes false false h = refl
+
+pub beq_no : (a b : Bool) → beq a b ≡ false → a ≡ not b
+beq_no true true h = absurd (let bad : ⊥ = cc in bad)
+beq_no true false h = refl
+beq_no false true h = refl
+beq_no false false h = absurd (let bad : ⊥ = cc in bad)
+
+-- each tile of the row from one number up to below another is inside, or each is outside
+abbrev pub AllSo : List Point → ℤ → ℤ → ℤ → Bool → Type 0
+AllSo points row first end so =
+    (t : Tile) → t.j ≡ row → first ≤ℤ number_in_row t → number_in_row t <ℤ end → is_inside points t ≡ so
+
+pub so_at : (points : List Point) (row n : ℤ) (so : Bool) (u : Tile) → u.j ≡ row → number_in_row u ≡ n → is_inside points u ≡ so
+    → (t : Tile) → t.j ≡ row → number_in_row t ≡ n → is_inside points t ≡ so
+so_at points row n so u uj un us t tj tn = ap (is_inside points) (same_number t u (tj ∙ sym uj) (tn ∙ sym un)) ∙ us
+
+pub so_more : (points : List Point) (row first n : ℤ) (so : Bool) → AllSo points row first n so → ((t : Tile) → t.j ≡ row → number_in_row t ≡ n → is_inside points t ≡ so)
+    → AllSo points row first (n +ℤ pos 1) so
+so_more points row first n so before here t tj low high =
+    by_lt_z (number_in_row t) n (λ below. before t tj low below) (λ above. here t tj (omega (arith, ints)))
+
+lt_yes : (x y : ℤ) → x <ℤ y → int_lt x y ≡ true
+lt_yes x y h = grind (arith, ints)
+
+lt_no : (x y : ℤ) → y ≤ℤ x → int_lt x y ≡ false
+lt_no x y h = grind (arith, ints)
+
+and_no : (p : Bool) → p && false ≡ false
+and_no true = refl
+and_no false = refl
+
+-- tests of a number against the bounds of one run, where it stands in the row
+count_step : (k first n b s : ℤ) (ins : Bool) → first ≤ℤ n → n ≤ℤ b → b ≤ℤ s → (n ≤ℤ k → k <ℤ b → ins ≡ false) → (b ≤ℤ k → k <ℤ s → ins ≡ true)
+    → count_one ((int_le first k && int_lt k n) && ins) + count_one (int_le b k && int_lt k s) ≡ count_one ((int_le first k && int_lt k s) && ins)
+count_step k first n b s ins fn nb bs out into =
+    by_lt_z k n
+    (λ before. rw (lt_yes k n before, lt_yes k s (omega (arith, ints)), le_no b k (omega (arith, ints))) (omega arith))
+    (λ from_n. by_lt_z k b
+        (λ gap. rw (out from_n gap, and_no (int_le first k && int_lt k n), and_no (int_le first k && int_lt k s), le_no b k gap) refl)
+        (λ from_b. by_lt_z k s
+            (λ inside. rw (into from_b inside, lt_no k n from_n, le_yes b k from_b, lt_yes k s inside, le_yes first k (omega (arith, ints))) refl)
+            (λ after. rw (lt_no k n from_n, lt_no k s after, and_no (int_le first k), and_no (int_le b k)) refl)))
+
+-- the same, wherever the tile stands
+run_step : (e : Bool) (k first n b s : ℤ) (ins : Bool) → first ≤ℤ n → n ≤ℤ b → b ≤ℤ s → (e ≡ true → n ≤ℤ k → k <ℤ b → ins ≡ false) → (e ≡ true → b ≤ℤ k → k <ℤ s → ins ≡ true)
+    → count_one ((e && (int_le first k && int_lt k n)) && ins) + count_one (e && (int_le b k && int_lt k s)) ≡ count_one ((e && (int_le first k && int_lt k s)) && ins)
+run_step true k first n b s ins fn nb bs out into = count_step k first n b s ins fn nb bs (out refl) (into refl)
+run_step false k first n b s ins fn nb bs out into = refl
+
+-- the tiles of a row, from one number up to below another, that are inside
+abbrev pub inside_part : List Point → ℤ → ℤ → ℤ → Tile → Bool
+inside_part points row first end t = in_row row first end t && is_inside points t
+
+-- the list has grown by trapezoids that have just these tiles, each once
+abbrev pub AddsPart : List Point → ℤ → ℤ → ℤ → List Trapezoid → List Trapezoid → Type 0
+AddsPart points row first end before now = (t : Tile) → count_in now t ≡ count_in before t + count_one (inside_part points row first end t)
+
+one_count : (b : Bool) → 0 + cond b 1 0 ≡ count_one b
+one_count true = refl
+one_count false = refl
+
+count_in-push : (shots : List Trapezoid) (z : Trapezoid) (t : Tile) → count_in (shots ++ z ∷ []) t ≡ count_in shots t + count_one (trapezoid_has t z)
+count_in-push shots z t = sum_by-append (λ y. cond (trapezoid_has t y) 1 0) shots (z ∷ []) ∙ ap (λ n. count_in shots t + n) (one_count (trapezoid_has t z))
+
+-- one run more
+pub adds_run : (points : List Point) (row first n b s : ℤ) (before now : List Trapezoid) (z : Trapezoid) → first ≤ℤ n → n ≤ℤ b → b ≤ℤ s
+    → AllSo points row n b false → AllSo points row b s true → ((t : Tile) → trapezoid_has t z ≡ in_row row b s t)
+    → AddsPart points row first n before now → AddsPart points row first s before (now ++ z ∷ [])
+adds_run points row first n b s before now z fn nb bs out into has adds t =
+    count_in-push now z t
+    ∙ ap (λ m. m + count_one (trapezoid_has t z)) (adds t)
+    ∙ ap (λ h. (count_in before t + count_one (inside_part points row first n t)) + count_one h) (has t)
+    ∙ add_assoc (count_in before t) (count_one (inside_part points row first n t)) (count_one (in_row row b s t))
+    ∙ ap (λ m. count_in before t + m) (run_step (int_eq t.j row) (number_in_row t) first n b s (is_inside points t) fn nb bs
+        (λ e low high. out t (int_eq_true t.j row e) low high) (λ e low high. into t (int_eq_true t.j row e) low high))
+
+rest_step : (e : Bool) (k first n s : ℤ) (ins : Bool) → first ≤ℤ n → n ≤ℤ s → (e ≡ true → n ≤ℤ k → k <ℤ s → ins ≡ false)
+    → count_one ((e && (int_le first k && int_lt k n)) && ins) ≡ count_one ((e && (int_le first k && int_lt k s)) && ins)
+rest_step false k first n s ins fn ns out = refl
+rest_step true k first n s ins fn ns out =
+    by_lt_z k n
+    (λ before. rw (lt_yes k n before, lt_yes k s (omega (arith, ints))) refl)
+    (λ from_n. by_lt_z k s
+        (λ gap. rw (out refl from_n gap, and_no (int_le first k && int_lt k n), and_no (int_le first k && int_lt k s)) refl)
+        (λ after. rw (lt_no k n from_n, lt_no k s after) refl))
+
+-- the rest of the row holds nothing
+pub adds_rest : (points : List Point) (row first n end : ℤ) (before now : List Trapezoid) → first ≤ℤ n → n ≤ℤ end → AllSo points row n end false
+    → AddsPart points row first n before now → AddsPart points row first end before now
+adds_rest points row first n end before now fn ne out adds t =
+    adds t ∙ ap (λ m. count_in before t + m) (rest_step (int_eq t.j row) (number_in_row t) first n end (is_inside points t) fn ne (λ e low high. out t (int_eq_true t.j row e) low high))
