@@ -1,7 +1,6 @@
 -- A stream of which the first item was taken stands for this item, followed by what it still stands for. Where there was none, nothing follows.
-use Rattle.std.specs.Prelude.{◌≡◌, ℕ, ◌+◌, ◌≤◌, List, [], ◌∷◌, ◌++◌, length, Option, Some, None, IfNone}
+use Rattle.std.specs.Prelude.{◌≡◌, List, [], ◌∷◌, ◌++◌, Option, Some, None, IfNone}
 use Rattle.std.specs.Option.{option_to_list}
-use Rattle.std.proofs.Common.{arith, ap, length-append}
 
 module _ {S A : Type 0} (stands_for : S → List A → Type 0) where
   -- the item that was taken, and the stream after it, stand for this list
@@ -15,23 +14,3 @@ module _ {S A : Type 0} (stands_for : S → List A → Type 0) where
 abbrev pub head_of : {A : Type 0} → List A → Option A
 head_of [] = None
 head_of (item ∷ items) = Some item
-
-at_most_one : {A : Type 0} (head : Option A) → length (option_to_list head) ≤ 1
-at_most_one None = omega arith
-at_most_one (Some item) = omega arith
-
-module _ {S A : Type 0} {stands_for : S → List A → Type 0} where
-  pub Peeked-one_list : ((s : S) (xs ys : List A) → stands_for s xs → stands_for s ys → xs ≡ ys)
-      → (s : S) (head : Option A) (xs ys : List A) → StandsForPeeked stands_for s head xs → StandsForPeeked stands_for s head ys → xs ≡ ys
-  Peeked-one_list one s head xs ys p q =
-      let others = one s p.others q.others p.given q.given in
-      cc (p.is, q.is)
-
-  pub Peeked-no_longer : {size : S → ℕ} → ((s : S) (xs : List A) → stands_for s xs → length xs ≤ size s)
-      → (s : S) (head : Option A) (xs : List A) → StandsForPeeked stands_for s head xs → length xs ≤ length (option_to_list head) + size s
-  Peeked-no_longer short s head xs p =
-      omega (arith, ap length p.is, length-append (option_to_list head) p.others, short s p.others p.given)
-
-  pub Peeked-bounded : {size : S → ℕ} {most : ℕ} → ((s : S) (xs : List A) → stands_for s xs → size s ≤ most)
-      → (s : S) (head : Option A) (xs : List A) → StandsForPeeked stands_for s head xs → length (option_to_list head) + size s ≤ 1 + most
-  Peeked-bounded below s head xs p = omega (arith, at_most_one head, below s p.others p.given)

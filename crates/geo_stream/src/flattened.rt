@@ -1,8 +1,9 @@
 //! The items of a stream of streams.
-ghost use Rattle.std.specs.Prelude.{All, ◌≡◌, ◌+◌, ◌*◌, ◌≤◌, List, length, IfNone, OnSome, MatchOption};
+ghost use Rattle.std.specs.Prelude.{◌+◌, ◌*◌, ◌≤◌, All, List, length};
 ghost use Rattle.std.specs.List.{AllZip};
-ghost use Rattle.std.specs.Option.{option_to_list, option_map_or};
-ghost use Rattle.geo_stream.specs.Flattened.{StandsForFlattened, InHandStandsFor, end_to_end, size_in_hand, Flattened-one_list, Flattened-no_longer, Flattened-bounded};
+ghost use Rattle.std.specs.Option.{option_to_list};
+ghost use Rattle.geo_stream.specs.Flattened.{StandsForFlattened, InHandStandsFor, end_to_end, size_in_hand};
+ghost use Rattle.geo_stream.specs.Laws.Flattened.{Flattened-one_list, Flattened-no_longer, Flattened-bounded};
 ghost use Rattle.geo_stream.specs.Stream.{HasList, TakesFirst};
 
 use crate::Stream;

@@ -1,6 +1,6 @@
 //! The items of a slice, one by one.
 ghost use Rattle.std.specs.Prelude.{◌≡◌, ◌^◌, ◌<◌, length, ⊤};
-ghost use Rattle.std.proofs.Common.{sym, ◌∙◌, ap, arith};
+ghost use Rattle.geo_stream.specs.Laws.FromSlice.{FromSlice-one_list, FromSlice-no_longer, FromSlice-bounded};
 
 use crate::Stream;
 use std::alloc::AllocError;
@@ -49,9 +49,9 @@ impl<'a, T: Copy> Stream for FromSlice<'a, T> {
         Some(*first)
     }
 
-    ghost one_list = { λ stream xs ys p q. p ∙ sym q };
+    ghost one_list = { λ stream. FromSlice-one_list stream.items.now };
 
-    ghost no_longer = { λ stream xs p. Prim.omega (arith, ap length p) };
+    ghost no_longer = { λ stream. FromSlice-no_longer stream.items.now };
 
-    ghost bounded = { λ stream xs p. Prim.omega (arith, stream.fits) };
+    ghost bounded = { λ stream xs p. FromSlice-bounded (length stream.items.now) (2 ^ 64) stream.fits };
 }

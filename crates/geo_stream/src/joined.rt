@@ -1,8 +1,8 @@
 //! Two streams, one after the other.
-ghost use Rattle.std.specs.Prelude.{◌≡◌, ◌+◌, ◌++◌, List};
-ghost use Rattle.std.proofs.Common.{ap, arith, length-append, sym, ◌∙◌};
+ghost use Rattle.std.specs.Prelude.{◌+◌, ◌++◌, List};
 ghost use Rattle.geo_stream.specs.Stream.{HasList};
-ghost use Rattle.geo_stream.specs.Joined.{StandsForJoined, Joined-one_list, Joined-no_longer, Joined-bounded};
+ghost use Rattle.geo_stream.specs.Joined.{StandsForJoined};
+ghost use Rattle.geo_stream.specs.Laws.Joined.{Joined-one_list, Joined-no_longer, Joined-bounded};
 
 use crate::Stream;
 

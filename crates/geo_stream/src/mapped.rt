@@ -1,7 +1,8 @@
 //! A function's answers at the items of a stream.
 ghost use Rattle.std.specs.Prelude.{All, List};
 ghost use Rattle.std.specs.List.{AllZip};
-ghost use Rattle.geo_stream.specs.Mapped.{HasOneAnswer, IsTheAnswer, StandsForMapped, Mapped-one_list, Mapped-no_longer, Mapped-bounded};
+ghost use Rattle.geo_stream.specs.Mapped.{HasOneAnswer, IsTheAnswer, StandsForMapped};
+ghost use Rattle.geo_stream.specs.Laws.Mapped.{Mapped-one_list, Mapped-no_longer, Mapped-bounded};
 ghost use Rattle.geo_stream.specs.Stream.{HasList};
 
 use crate::Stream;

@@ -1,7 +1,8 @@
 //! A stream whose first item can be looked at.
 ghost use Rattle.std.specs.Prelude.{◌+◌, List, length};
 ghost use Rattle.std.specs.Option.{option_to_list};
-ghost use Rattle.geo_stream.specs.Peeked.{StandsForPeeked, Peeked-one_list, Peeked-no_longer, Peeked-bounded};
+ghost use Rattle.geo_stream.specs.Peeked.{StandsForPeeked};
+ghost use Rattle.geo_stream.specs.Laws.Peeked.{Peeked-one_list, Peeked-no_longer, Peeked-bounded};
 ghost use Rattle.geo_stream.specs.Stream.{HasList};
 
 use crate::Stream;

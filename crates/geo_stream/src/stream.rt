@@ -13,7 +13,7 @@ pub trait Stream {
     // The items still to come are this list.
     ghost stands_for: { Self → List Self.Item → Type 0 };
 
-    // No more items than this are still to come. It falls with each item, so a loop over a stream has it as its measure.
+    // No more items than this are still to come. It falls with each item and never rises, so a loop over a stream has it as its measure.
     ghost size: { Self → ℕ };
 
     // The size of no stream of this type is greater. A stream of streams has its size by this number.

@@ -1,6 +1,6 @@
 //! Each call at concrete types.
 ghost use Rattle.geo_stream.specs.Stream.{HasList};
-ghost use Rattle.std.specs.Prelude.{◌≡◌, ◌+◌, ◌*◌};
+ghost use Rattle.std.specs.Prelude.{◌≡◌, ◌+◌};
 
 use crate::{Flattened, FromSlice, Joined, List, Mapped, Merged, NoMemory, Stream, gather};
 use std::alloc::Global;
