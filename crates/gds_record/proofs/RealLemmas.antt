@@ -4,8 +4,8 @@ use Rattle.std.proofs.Math.Nat.{eq_of_mul-eq-mul_right, mul-le-mul_right, mul_as
 use Rattle.std.proofs.lemmas.Int.{ints, unsigned_abs-mul}
 use Rattle.std.proofs.lemmas.Nat.{pow-add, mul-pow, one_shl, pow_pos}
 use Rattle.std.specs.Int.RustNames.{unsigned_abs}
-use Rattle.std.specs.Prelude.{ℤ, pos, negsuc, ◌*ℤ◌, ◌-ℤ◌, neg_ℤ}
-use Rattle.gds_record.specs.Reals.{sign_of, exponent_of, fraction_of, with_sign, IsRealValue, IsShift, IsWholeReal}
+use Rattle.std.specs.Prelude.{IsTrue, Bool, ℤ, pos, negsuc, ◌*ℤ◌, ◌-ℤ◌, neg_ℤ}
+use Rattle.gds_record.specs.Reals.{sign_of, exponent_of, fraction_of, with_sign, IsRealValue, IsShift, IsWholeReal, IsWithin, Agrees}
 
 -- 16^e in powers of two
 sixteen : (e : ℕ) → 16 ^ e ≡ 2 ^ (4 * e)
@@ -128,3 +128,29 @@ signed_magnitude q f bits small fraction = omega (arith, ints)
 
 pub negated_magnitude : (q f bits : ℕ) → q ≤ f → f ≡ fraction_of bits → to_z w64 (of_z w64 (pos 0 -ℤ to_z w64 q)) ≡ neg_ℤ (pos q)
 negated_magnitude q f bits small fraction = omega (arith, ints)
+
+-- what the test of a unit has to show, where the shift is in range and the sign isn't set
+pub agrees_at : (bits unit f u e : ℕ) (result : Bool) → sign_of bits ≡ 0 → f ≡ fraction_of bits → u ≡ unit → e ≡ exponent_of bits
+    → 51 ≤ e → e ≤ 68
+    → (IsTrue result ↔ IsWithin (f * u * 1000000) ((1 * 2 ^ (312 - 4 * e)) % 2 ^ 128) ((1 * 2 ^ (312 - 4 * e - 40)) % 2 ^ 128))
+    → IsTrue result ↔ Agrees bits unit
+agrees_at bits unit f u e result signed fraction units exponent large small test =
+    let one : (1 * 2 ^ (312 - 4 * e)) % 2 ^ 128 ≡ 2 ^ (312 - 4 * e) = one_shl (312 - 4 * e) 128 (omega (arith, large)) in
+    let tolerance : (1 * 2 ^ (312 - 4 * e - 40)) % 2 ^ 128 ≡ 2 ^ (312 - 4 * e - 40) =
+    one_shl (312 - 4 * e - 40) 128 (omega (arith, large)) in
+    let near = rw (one, tolerance, fraction, units) at test in (
+      λ yes. (
+        312 - 4 * e,
+        record {
+          shift = omega (arith, exponent, small);
+          least = omega (arith, small);
+          most = omega (arith, large);
+          positive = signed;
+          near = near.0 yes;
+        },
+      ),
+      λ agrees.
+          let shift : agrees.0 + 4 * exponent_of bits ≡ 312 = agrees.1.shift in
+          let same : agrees.0 ≡ 312 - 4 * e = omega (arith, exponent, shift) in
+          near.1 (subst (λ k. IsWithin (fraction_of bits * unit * 10 ^ 6) (2 ^ k) (2 ^ (k - 40))) same agrees.1.near),
+    )

@@ -35,6 +35,11 @@ pub record IsWholeReal (bits : ℕ) (n : ℤ) : Type 0 where
   pub scope : IsInScope bits
   pub value : IsRealValue bits n
 
+-- two numbers differ by at most the tolerance
+pub record IsWithin (a b tolerance : ℕ) : Type 0 where
+  pub above : a ≤ b + tolerance
+  pub below : b ≤ a + tolerance
+
 -- the real is its fraction over 2^s, it isn't below 0, and times the units in a metre it is 1 but for one part in 2^40,
 -- where a micrometre has this many units: |M * unit * 10^6 - 2^s| is at most 2^(s - 40)
 pub record AgreesBy (bits unit s : ℕ) : Type 0 where
@@ -42,8 +47,7 @@ pub record AgreesBy (bits unit s : ℕ) : Type 0 where
   pub least : 40 ≤ s
   pub most : s ≤ 110
   pub positive : sign_of bits ≡ 0
-  pub above : fraction_of bits * unit * 10 ^ 6 ≤ 2 ^ s + 2 ^ (s - 40)
-  pub below : 2 ^ s ≤ fraction_of bits * unit * 10 ^ 6 + 2 ^ (s - 40)
+  pub near : IsWithin (fraction_of bits * unit * 10 ^ 6) (2 ^ s) (2 ^ (s - 40))
 
 -- the real, in metres, is the length of a unit of which a micrometre has this many
 abbrev pub Agrees : ℕ → ℕ → Type 0

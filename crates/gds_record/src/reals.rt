@@ -1,7 +1,7 @@
 //! Eight-byte reals, by exact arithmetic on their bits (GDSII Stream Format Manual 6.0, data types).
 
 ghost use Rattle.std.specs.Prelude.{◌≡◌, ◌<◌, ◌≤◌, ◌*◌, ◌^◌, ◌↔◌, ℕ, ℤ, IsTrue, IfSome};
-ghost use Rattle.gds_record.specs.Reals.{sign_of, exponent_of, fraction_of, IsWholeReal, Agrees};
+ghost use Rattle.gds_record.specs.Reals.{sign_of, exponent_of, fraction_of, IsWholeReal, IsWithin, Agrees};
 
 /// The `s` at which a real with the exponent 0 is its fraction over `2^s`; it falls by 4 with each step
 /// of the exponent.
@@ -66,6 +66,13 @@ pub fn real_whole(bits: u64) -> Option<i64>
     Some(magnitude as i64)
 }
 
+/// Whether two numbers differ by at most the tolerance.
+fn is_within(a: u128, b: u128, tolerance: u128) -> bool
+    ensures { IsTrue result ↔ IsWithin a b tolerance }
+{
+    a.abs_diff(b) <= tolerance
+}
+
 /// Whether the real with these bits, as a length in metres, is that of a unit of which a micrometre has
 /// `unit`: the real times `unit * 10^6` is 1 but for one part in `2^40`.
 pub fn unit_agrees(bits: u64, unit: u32) -> bool
@@ -79,5 +86,5 @@ pub fn unit_agrees(bits: u64, unit: u32) -> bool
     let shift = SHIFT_AT_0 - 4 * real.exponent;
     let one = 1u128 << shift;
     let product = u128::from(real.fraction) * u128::from(unit) * MICROMETRES;
-    product.abs_diff(one) <= 1u128 << (shift - 40)
+    is_within(product, one, 1u128 << (shift - 40))
 }
