@@ -5,7 +5,7 @@ use Rattle.std.proofs.lemmas.Int.{ints, clamps}
 use Rattle.std.specs.Ordering.{int_eq}
 use Rattle.half_grid.specs.Lines.{x_on, strip_along, first_strip, IsRightOf, IsLeftOf}
 use Rattle.half_grid.specs.Reach.{IsWithinReach}
-use Rattle.half_grid.specs.Rows.{number_in_row, place}
+use Rattle.half_grid.specs.Rows.{number_in_row, place, in_row}
 use Rattle.half_grid.specs.Sides.{IsSide, side_length}
 use Rattle.half_grid.specs.Trapezoids.{IsShot, trapezoid, trapezoid_has}
 use Rattle.half_grid.specs.declared.plane.Tile.{Tile}
@@ -14,10 +14,6 @@ use Rattle.half_grid.specs.declared.plane.Line.TheVariants.{Upright, Rising, Fal
 use Rattle.half_grid.proofs.LineLemmas.{int_eq_true}
 use Rattle.half_grid.proofs.Places.{right_by_place, place_at_most, number_below, left_by_place}
 use Rattle.half_grid.proofs.SideLemmas.{shot_of_sides}
-
--- the tests of a row's tiles from one number up to below another
-abbrev pub in_row : ℤ → ℤ → ℤ → Tile → Bool
-in_row j first end t = int_eq t.j j && (int_le first (number_in_row t) && int_lt (number_in_row t) end)
 
 bottom_order : (l r : Line) (j : ℤ) → place l j <ℤ place r j → x_on l j ≤ℤ x_on r j
 bottom_order (Upright c) (Upright d) j h = omega (arith, ints)

@@ -4,7 +4,8 @@
 -- numbers count up by one. The place of a line in the row j is the sum of its X at the bottom and at the top of
 -- the row: 2c for Upright(c), 2j + 4c + 1 for Rising(c) and 4c - 2j - 1 for Falling(c). A tile is right of a line
 -- exactly where the place is at most the tile's number.
-use Rattle.std.specs.Prelude.{if◌then◌else◌, ℤ, pos, ◌+ℤ◌, ◌-ℤ◌}
+use Rattle.std.specs.Ordering.{int_eq}
+use Rattle.std.specs.Prelude.{Bool, ◌&&◌, int_le, int_lt, if◌then◌else◌, ℤ, pos, ◌+ℤ◌, ◌-ℤ◌}
 use Rattle.half_grid.specs.Halves.{twice, half, is_even}
 use Rattle.half_grid.specs.Lines.{x_on}
 use Rattle.half_grid.specs.declared.plane.Tile.{Tile}
@@ -32,3 +33,7 @@ line_with_place n j =
     if is_even n then Upright (half n)
     else if is_even (half n -ℤ j) then Rising (half (half n -ℤ j))
     else Falling (half ((half n +ℤ j) +ℤ pos 1))
+
+-- whether the tile stands in the row, with a number from `first` up to below `end`
+abbrev pub in_row : ℤ → ℤ → ℤ → Tile → Bool
+in_row j first end t = int_eq t.j j && (int_le first (number_in_row t) && int_lt (number_in_row t) end)

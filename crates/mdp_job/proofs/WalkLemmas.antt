@@ -1,21 +1,23 @@
 -- Runs of a row: what was found tile by tile, and the trapezoid of a run.
-use Rattle.std.proofs.Common.{◌≡◌, ◌+◌, ℕ, Bool, true, false, not, ℤ, pos, ◌+ℤ◌, ◌-ℤ◌, ◌≤ℤ◌, ◌<ℤ◌, ◌&&◌, arith, refl, ap, ◌∙◌, sym, List, [], ◌∷◌, ◌++◌, int_le, int_lt, cond, add_assoc}
+use Rattle.std.proofs.Common.{◌≡◌, ◌+◌, ℕ, Bool, true, false, not, ℤ, pos, ◌+ℤ◌, ◌-ℤ◌, ◌≤ℤ◌, ◌<ℤ◌, ◌&&◌, arith, refl, ap, ◌∙◌, sym, List, [], ◌∷◌, ◌++◌, int_le, int_lt, cond, add_assoc, add-zero}
+use Rattle.std.specs.List.{AllByRecursion}
 use Rattle.std.proofs.lemmas.List.Sums.{sum_by-append}
 use Rattle.half_grid.proofs.LineLemmas.{int_eq_true}
 use mathlib.Core.Bool.{beq}
-use Rattle.std.proofs.lemmas.Int.{ints, by_lt_z}
+use Rattle.std.proofs.lemmas.Int.{ints, clamps, by_lt_z}
+use Rattle.std.proofs.Common.{Option, Some, None, SomeIff}
 use Rattle.std.specs.Ordering.{int_eq}
 use Rattle.half_grid.specs.Lines.{x_on}
-use Rattle.half_grid.specs.Rows.{number_in_row, place}
+use Rattle.half_grid.specs.Rows.{number_in_row, place, in_row}
 use Rattle.half_grid.specs.Winding.{count_one}
 use Rattle.half_grid.specs.Trapezoids.{Trapezoid, trapezoid, trapezoid_has, count_in}
 use Rattle.half_grid.specs.declared.plane.Tile.{Tile}
 use Rattle.half_grid.specs.declared.plane.Point.{Point}
 use Rattle.half_grid.specs.declared.plane.Line.{Line}
 use Rattle.half_grid.proofs.Places.{same_number}
-use Rattle.half_grid.proofs.OneRow.{in_row, row_has}
+use Rattle.half_grid.proofs.OneRow.{row_has, row_shot, bottom_close, top_close}
 use Rattle.half_grid.proofs.OutlineLemmas.{le_yes, le_no}
-use Rattle.mdp_job.specs.Inside.{is_inside}
+use Rattle.mdp_job.specs.Inside.{is_inside, IsClose, IsFirstShot, inside_part, AddsPart}
 
 pub beq_yes : (a b : Bool) → beq a b ≡ true → a ≡ b
 beq_yes true true h = refl
@@ -71,14 +73,6 @@ run_step : (e : Bool) (k first n b s : ℤ) (ins : Bool) → first ≤ℤ n → 
 run_step true k first n b s ins fn nb bs out into = count_step k first n b s ins fn nb bs (out refl) (into refl)
 run_step false k first n b s ins fn nb bs out into = refl
 
--- the tiles of a row, from one number up to below another, that are inside
-abbrev pub inside_part : List Point → ℤ → ℤ → ℤ → Tile → Bool
-inside_part points row first end t = in_row row first end t && is_inside points t
-
--- the list has grown by trapezoids that have just these tiles, each once
-abbrev pub AddsPart : List Point → ℤ → ℤ → ℤ → List Trapezoid → List Trapezoid → Type 0
-AddsPart points row first end before now = (t : Tile) → count_in now t ≡ count_in before t + count_one (inside_part points row first end t)
-
 one_count : (b : Bool) → 0 + cond b 1 0 ≡ count_one b
 one_count true = refl
 one_count false = refl
@@ -113,3 +107,46 @@ pub adds_rest : (points : List Point) (row first n end : ℤ) (before now : List
     → AddsPart points row first n before now → AddsPart points row first end before now
 adds_rest points row first n end before now fn ne out adds t =
     adds t ∙ ap (λ m. count_in before t + m) (rest_step (int_eq t.j row) (number_in_row t) first n end (is_inside points t) fn ne (λ e low high. out t (int_eq_true t.j row e) low high))
+
+pub some_iff : (o : Option Trapezoid) (P : Type 0) (v : Trapezoid) → SomeIff o P v → P → o ≡ Some v
+some_iff None P v h p = absurd (h p)
+some_iff (Some x) P v h p = ap Some h.1
+
+-- the trapezoid of a run close to 0 is a shot within the limits
+pub run_is_shot : (l r : Line) (row first end : ℤ) → IsClose row → IsClose first → IsClose end → first <ℤ end → place l row ≡ first → place r row ≡ end → IsFirstShot (trapezoid row (row +ℤ pos 1) l r)
+run_is_shot l r row first end row_close first_close end_close order pl pr =
+    let lb = bottom_close l row in
+    let lt = top_close l row in
+    let rb = bottom_close r row in
+    let rt = top_close r row in
+    record {
+      shot = row_shot l r row (record { low = omega (arith, ints, row_close.low); high = omega (arith, ints, row_close.high) })
+          (record { low = omega (arith, ints, row_close.low); high = omega (arith, ints, row_close.high) })
+          (record { low = omega (arith, ints, first_close.low); high = omega (arith, ints, first_close.high) })
+          (record { low = omega (arith, ints, end_close.low); high = omega (arith, ints, end_close.high) })
+          (omega (arith, ints, order));
+      fits = record {
+        not_too_high = omega (arith, ints);
+        not_too_wide = omega (arith, ints, clamps, lb.0, lb.1, lt.0, lt.1, rb.0, rb.1, rt.0, rt.1, first_close.low, end_close.high);
+      };
+    }
+
+pub run_has : (l r : Line) (row first end : ℤ) → place l row ≡ first → place r row ≡ end → (t : Tile) → trapezoid_has t (trapezoid row (row +ℤ pos 1) l r) ≡ in_row row first end t
+run_has l r row first end pl pr t = row_has t l r row ∙ ap (λ x. in_row row x (place r row) t) pl ∙ ap (λ x. in_row row first x t) pr
+
+-- one number before the others
+pub so_first : (points : List Point) (row b s : ℤ) (so : Bool) → ((t : Tile) → t.j ≡ row → number_in_row t ≡ b → is_inside points t ≡ so) → AllSo points row (b +ℤ pos 1) s so → AllSo points row b s so
+so_first points row b s so here after t tj low high =
+    by_lt_z b (number_in_row t) (λ above. after t tj (omega (arith, ints)) high) (λ at_most. here t tj (omega (arith, ints)))
+
+none_step : (e : Bool) (k first : ℤ) (ins : Bool) → count_one ((e && (int_le first k && int_lt k first)) && ins) ≡ 0
+none_step false k first ins = refl
+none_step true k first ins = by_lt_z k first (λ before. rw (le_no first k before) refl) (λ after. rw (lt_no k first after, and_no (int_le first k)) refl)
+
+-- nothing is added for no tiles
+pub adds_none : (points : List Point) (row first : ℤ) (shots : List Trapezoid) → AddsPart points row first first shots shots
+adds_none points row first shots t = sym (ap (λ n. count_in shots t + n) (none_step (int_eq t.j row) (number_in_row t) first (is_inside points t)) ∙ add-zero (count_in shots t))
+
+pub all_push : (P : Trapezoid → Type 0) (zs : List Trapezoid) (z : Trapezoid) → AllByRecursion P zs → P z → AllByRecursion P (zs ++ z ∷ [])
+all_push P [] z all p = (p, tt)
+all_push P (y ∷ zs) z all p = (all.0, all_push P zs z all.1 p)

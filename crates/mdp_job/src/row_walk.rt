@@ -4,10 +4,17 @@
 ghost use Rattle.std.specs.Prelude.{◌≡◌, ◌≤ℤ◌, ◌<ℤ◌, ◌+ℤ◌, pos, not};
 ghost use Rattle.half_grid.specs.declared.plane.Tile.{Tile};
 ghost use Rattle.half_grid.specs.Reach.{IsTileWithinReach, IsWithinReach};
-ghost use Rattle.half_grid.specs.Rows.{number_in_row};
-ghost use Rattle.mdp_job.specs.Inside.{is_inside};
+ghost use Rattle.half_grid.specs.Rows.{number_in_row, in_row};
+ghost use Rattle.std.specs.Prelude.{IsSome, IfSome};
+ghost use Rattle.std.specs.Int.{int_min, int_max};
+ghost use Rattle.half_grid.specs.Trapezoids.{trapezoid_has};
 
-use half_grid::{Point, Tile, tile_at, winding_at};
+ghost use Rattle.mdp_job.specs.Inside.{is_inside, IsClose, IsInBox, IsFirstShot, AddsPart};
+ghost use Rattle.std.specs.List.{AllByRecursion};
+ghost use Rattle.std.specs.Prelude.{OnOk};
+
+use geo_stream::NoMemory;
+use half_grid::{Point, Tile, Trap, line_at, tile_at, winding_at};
 
 fn is_inside(points: &[Point], tile: Tile) -> bool
     requires { IsTileWithinReach tile }
@@ -37,4 +44,72 @@ fn first_where(points: &[Point], row: i64, first: i64, end: i64, wanted: bool) -
         number += 1;
     }
     end
+}
+
+// The trapezoid of the row's tiles from one number up to below another.
+fn run_shot(row: i64, first: i64, end: i64) -> Option<Trap>
+    requires row { IsClose row }
+    requires first { IsClose first }
+    requires end { IsClose end }
+    requires order { first <ℤ end }
+    ensures some { IsSome result }
+    ensures tiles { IfSome result (λ z. (t : Tile) → trapezoid_has t z ≡ in_row row first end t) }
+    ensures shot { IfSome result (IsFirstShot) }
+{
+    Trap::new(row, row + 1, line_at(row, first), line_at(row, end))
+}
+
+/// The box of a point list.
+#[derive(Clone, Copy, Debug, PartialEq, Eq)]
+struct Bounds {
+    x0: i64,
+    y0: i64,
+    x1: i64,
+    y1: i64,
+}
+
+// The box made so wide that it has the point.
+fn widened(bounds: Bounds, point: Point) -> Bounds
+    ensures left { result.x0 ≡ int_min bounds.x0 point.x }
+    ensures bottom { result.y0 ≡ int_min bounds.y0 point.y }
+    ensures right { result.x1 ≡ int_max bounds.x1 point.x }
+    ensures top { result.y1 ≡ int_max bounds.y1 point.y }
+{
+    Bounds {
+        x0: bounds.x0.min(point.x),
+        y0: bounds.y0.min(point.y),
+        x1: bounds.x1.max(point.x),
+        y1: bounds.y1.max(point.y),
+    }
+}
+
+// Puts the shots of the row's tiles from the number `first` up to below `end` that are inside behind the others.
+fn push_row(
+    points: &[Point],
+    row: i64,
+    first: i64,
+    end: i64,
+    shots: &mut Vec<Trap>,
+) -> Result<(), NoMemory>
+    requires row { IsClose row }
+    requires first { IsClose first }
+    requires end { IsClose end }
+    requires order { first ≤ℤ end }
+    requires shots { AllByRecursion IsFirstShot shots.old.items }
+    ensures tiles { OnOk result (AddsPart points.now row first end shots.old.items shots.new.items) }
+    ensures shots { AllByRecursion IsFirstShot shots.new.items }
+{
+    let mut number = first;
+    while number < end {
+        let begin = first_where(points, row, number, end, true);
+        if begin == end {
+            break;
+        }
+        let stop = first_where(points, row, begin + 1, end, false);
+        if let Some(shot) = run_shot(row, begin, stop) {
+            shots.push(shot)?;
+        }
+        number = stop;
+    }
+    Ok(())
 }
