@@ -17,6 +17,10 @@ use Rattle.half_grid.specs.declared.plane.Line.{Line}
 use Rattle.half_grid.proofs.Places.{same_number}
 use Rattle.half_grid.proofs.OneRow.{row_has, row_shot, bottom_close, top_close}
 use Rattle.half_grid.proofs.OutlineLemmas.{le_yes, le_no}
+use Rattle.std.specs.Int.{int_min, int_max}
+use Rattle.mdp_job.specs.declared.row_walk.Bounds.{Bounds}
+use Rattle.mdp_job.specs.Bounds.{IsInBounds, AreNearBounds}
+use Rattle.mdp_job.specs.FirstLayout.{IsNearOrigin}
 use Rattle.mdp_job.specs.Inside.{is_inside, IsClose, IsFirstShot, inside_part, AddsPart}
 
 pub beq_yes : (a b : Bool) → beq a b ≡ true → a ≡ b
@@ -45,13 +49,13 @@ pub so_more : (points : List Point) (row first n : ℤ) (so : Bool) → AllSo po
 so_more points row first n so before here t tj low high =
     by_lt_z (number_in_row t) n (λ below. before t tj low below) (λ above. here t tj (omega (arith, ints)))
 
-lt_yes : (x y : ℤ) → x <ℤ y → int_lt x y ≡ true
+pub lt_yes : (x y : ℤ) → x <ℤ y → int_lt x y ≡ true
 lt_yes x y h = grind (arith, ints)
 
-lt_no : (x y : ℤ) → y ≤ℤ x → int_lt x y ≡ false
+pub lt_no : (x y : ℤ) → y ≤ℤ x → int_lt x y ≡ false
 lt_no x y h = grind (arith, ints)
 
-and_no : (p : Bool) → p && false ≡ false
+pub and_no : (p : Bool) → p && false ≡ false
 and_no true = refl
 and_no false = refl
 
@@ -150,3 +154,48 @@ adds_none points row first shots t = sym (ap (λ n. count_in shots t + n) (none_
 pub all_push : (P : Trapezoid → Type 0) (zs : List Trapezoid) (z : Trapezoid) → AllByRecursion P zs → P z → AllByRecursion P (zs ++ z ∷ [])
 all_push P [] z all p = (p, tt)
 all_push P (y ∷ zs) z all p = (all.0, all_push P zs z all.1 p)
+
+abbrev pub origin : Point
+origin = record { x = pos 0; y = pos 0 }
+
+-- the tiles below a row that are inside are each in one shot, and no others are in any
+abbrev pub CountsBelow : List Point → ℤ → List Trapezoid → Type 0
+CountsBelow points row shots = (t : Tile) → count_in shots t ≡ count_one (int_lt t.j row && is_inside points t)
+
+-- the box that was widened to have a point has the points that it had
+pub still_in : (b c : Bounds) (p q : Point) → c.x0 ≡ int_min b.x0 p.x → c.y0 ≡ int_min b.y0 p.y → c.x1 ≡ int_max b.x1 p.x → c.y1 ≡ int_max b.y1 p.y → IsInBounds b q → IsInBounds c q
+still_in b c p q l o r t h = record {
+  left = omega (arith, ints, clamps, l, h.left);
+  bottom = omega (arith, ints, clamps, o, h.bottom);
+  right = omega (arith, ints, clamps, r, h.right);
+  top = omega (arith, ints, clamps, t, h.top);
+}
+
+pub now_in : (b c : Bounds) (p : Point) → c.x0 ≡ int_min b.x0 p.x → c.y0 ≡ int_min b.y0 p.y → c.x1 ≡ int_max b.x1 p.x → c.y1 ≡ int_max b.y1 p.y → IsInBounds c p
+now_in b c p l o r t = record {
+  left = omega (arith, ints, clamps, l);
+  bottom = omega (arith, ints, clamps, o);
+  right = omega (arith, ints, clamps, r);
+  top = omega (arith, ints, clamps, t);
+}
+
+pub still_near : (b c : Bounds) (p : Point) → c.x0 ≡ int_min b.x0 p.x → c.y0 ≡ int_min b.y0 p.y → c.x1 ≡ int_max b.x1 p.x → c.y1 ≡ int_max b.y1 p.y → IsNearOrigin p → AreNearBounds b → AreNearBounds c
+still_near b c p l o r t n h = record {
+  left = omega (arith, ints, clamps, l, h.left, n.left);
+  bottom = omega (arith, ints, clamps, o, h.bottom, n.bottom);
+  right = omega (arith, ints, clamps, r, h.right, n.right);
+  top = omega (arith, ints, clamps, t, h.top, n.top);
+  columns = omega (arith, ints, clamps, l, r, h.columns);
+  rows = omega (arith, ints, clamps, o, t, h.rows);
+}
+
+-- the box of one point
+pub near_point : (b : Bounds) (p : Point) → b.x0 ≡ p.x → b.y0 ≡ p.y → b.x1 ≡ p.x → b.y1 ≡ p.y → IsNearOrigin p → AreNearBounds b
+near_point b p l o r t n = record {
+  left = omega (arith, ints, l, n.left);
+  bottom = omega (arith, ints, o, n.bottom);
+  right = omega (arith, ints, r, n.right);
+  top = omega (arith, ints, t, n.top);
+  columns = omega (arith, ints, l, r);
+  rows = omega (arith, ints, o, t);
+}

@@ -2,3 +2,4 @@ pub mod Words
 pub mod FirstDeck
 pub mod FirstLayout
 pub mod Inside
+pub mod Bounds

@@ -11,7 +11,15 @@ ghost use Rattle.half_grid.specs.Trapezoids.{trapezoid_has};
 
 ghost use Rattle.mdp_job.specs.Inside.{is_inside, IsClose, IsInBox, IsFirstShot, AddsPart};
 ghost use Rattle.std.specs.List.{AllByRecursion};
-ghost use Rattle.std.specs.Prelude.{OnOk};
+ghost use Rattle.std.specs.Prelude.{neg_ℤ, OnOk, IfOk, All, ◌<◌, length};
+ghost use Rattle.half_grid.specs.Halves.{twice};
+ghost use Rattle.half_grid.specs.Outlines.{IsClosed, HasGridEdges};
+ghost use Rattle.half_grid.specs.Trapezoids.{CoversExactly};
+ghost use Rattle.half_grid.specs.Winding.{IsInPolygon};
+ghost use Rattle.mdp_job.specs.Bounds.{IsInBounds, AreNearBounds};
+ghost use Rattle.mdp_job.specs.FirstLayout.{IsNearOrigin};
+
+use std::alloc::Global;
 
 use geo_stream::NoMemory;
 use half_grid::{Point, Tile, Trap, line_at, tile_at, winding_at};
@@ -112,4 +120,54 @@ fn push_row(
         number = stop;
     }
     Ok(())
+}
+
+// The box of a point list, which isn't empty.
+fn bounds_of(points: &[Point]) -> Bounds
+    requires some { 0 < length points.now }
+    requires near { All IsNearOrigin points.now }
+    ensures all { All (IsInBounds result) points.now }
+    ensures near { AreNearBounds result }
+{
+    let mut bounds = Bounds {
+        x0: points[0].x,
+        y0: points[0].y,
+        x1: points[0].x,
+        y1: points[0].y,
+    };
+    for point in points {
+        bounds = widened(bounds, *point);
+    }
+    bounds
+}
+
+// The number of a column's left tile.
+fn left_number(column: i64) -> i64
+    requires low { neg_ℤ (pos 4096) ≤ℤ column }
+    requires high { column ≤ℤ pos 4096 }
+    ensures number { result ≡ twice column }
+    ensures close { IsClose result }
+{
+    column + column
+}
+
+/// The polygon's tiles as one-row shots: from the lowest row up, in each row from left to right, one shot for each
+/// maximal run.
+pub fn row_list(alloc: Global, points: &[Point]) -> Result<Vec<Trap>, NoMemory>
+    requires closed { IsClosed points.now }
+    requires edges { HasGridEdges points.now }
+    requires near { All IsNearOrigin points.now }
+    ensures covers { IfOk result (λ v. CoversExactly v.items (IsInPolygon points.now)) }
+    ensures shots { IfOk result (λ v. AllByRecursion IsFirstShot v.items) }
+{
+    let bounds = bounds_of(points);
+    let first = left_number(bounds.x0);
+    let end = left_number(bounds.x1);
+    let mut shots = Vec::new(alloc);
+    let mut row = bounds.y0;
+    while row < bounds.y1 {
+        push_row(points, row, first, end, &mut shots)?;
+        row += 1;
+    }
+    Ok(shots)
 }
