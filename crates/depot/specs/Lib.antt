@@ -3,3 +3,4 @@ pub mod Counts
 pub mod Refusals
 pub mod StoreView
 pub mod Filing
+pub mod Memory

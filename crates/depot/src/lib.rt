@@ -2,11 +2,13 @@
 #![tactic(auto)]
 
 mod filing;
+mod memory;
 mod outside;
 mod real;
 mod store;
 mod whole;
 
+pub use memory::MemDepot;
 pub use outside::{Depot, DepotBad};
 pub use real::FileDepot;
 pub use whole::{Refused, make_file, read_all, say_whole, write_whole};
