@@ -128,9 +128,9 @@ chosen false b v w o apart = refl
 pub insert_comm : (m : Files) (k j v w : List ℕ) → (k ≡ j → ⊥) → insert (insert m k v) j w ≡ insert (insert m j w) k v
 insert_comm m k j v w differs =
     same_files _ _ (λ q.
-      get-insert-tie (insert m k v) j w q ∙ ap (cond (tie q j) (Some w)) (get-insert-tie m k v q)
-      ∙ chosen (tie q j) (tie q k) (Some w) (Some v) (get m q) (λ a b. differs (sym (tied q k b) ∙ tied q j a))
-      ∙ sym (get-insert-tie (insert m j w) k v q ∙ ap (cond (tie q k) (Some v)) (get-insert-tie m j w q)))
+    get-insert-tie (insert m k v) j w q ∙ ap (cond (tie q j) (Some w)) (get-insert-tie m k v q)
+    ∙ chosen (tie q j) (tie q k) (Some w) (Some v) (get m q) (λ a b. differs (sym (tied q k b) ∙ tied q j a))
+    ∙ sym (get-insert-tie (insert m j w) k v q ∙ ap (cond (tie q k) (Some v)) (get-insert-tie m j w q)))
 
 as_it_was : (b : Bool) (v o : Option (List ℕ)) → (b ≡ true → o ≡ v) → cond b v o ≡ o
 as_it_was true v o same = sym (same refl)

@@ -4,3 +4,4 @@ pub mod Refusals
 pub mod StoreView
 pub mod Filing
 pub mod Memory
+pub mod Sure

@@ -27,7 +27,7 @@ memory_code =
       counts = record { read_faults = p.1.0.0; write_faults = p.1.0.1.0; refused = p.1.0.1.1 };
       calls = p.1.1.0;
       failing = p.1.1.1.0;
-      is_short = p.1.1.1.1
+      is_short = p.1.1.1.1;
     })
     (λ _. refl)
 
@@ -38,7 +38,7 @@ new_memory = record {
   counts = record { read_faults = 0; write_faults = 0; refused = 0 };
   calls = 0;
   failing = [];
-  is_short = false
+  is_short = false;
 }
 
 -- what the depot tells: a name that isn't held isn't there

@@ -46,12 +46,7 @@ pub(crate) fn rest(files: &[File], at: usize, given: usize) -> &[u8]
 }
 
 // Puts a file behind the others, where none has its name.
-fn push(
-    alloc: Global,
-    files: &mut Vec<File>,
-    name: &str,
-    bytes: Vec<u8>,
-) -> Result<usize, NoMemory>
+fn push(alloc: Global, files: &mut Vec<File>, name: &str, bytes: Vec<u8>) -> Result<usize, NoMemory>
     requires { HasNone files.old.items name.now }
     ensures ok { OnOk result (files_of files.new.items
         ≡ insert (files_of files.old.items) name.now bytes.items) }

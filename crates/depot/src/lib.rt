@@ -6,9 +6,11 @@ mod memory;
 mod outside;
 mod real;
 mod store;
+mod sure;
 mod whole;
 
 pub use memory::MemDepot;
 pub use outside::{Depot, DepotBad};
 pub use real::FileDepot;
+pub use sure::SureDepot;
 pub use whole::{Refused, make_file, read_all, say_whole, write_whole};

@@ -34,11 +34,11 @@ impl Model for MemDepot {
     ghost coded = { memory_code };
 
     ghost view = { λ s. record {
-        content = s.store;
-        counts = record { read_faults = s.read_faults; write_faults = s.write_faults; refused = s.refused };
-        calls = s.calls;
-        failing = s.failing.items;
-        is_short = s.short
+      content = s.store;
+      counts = record { read_faults = s.read_faults; write_faults = s.write_faults; refused = s.refused };
+      calls = s.calls;
+      failing = s.failing.items;
+      is_short = s.short;
     } };
 }
 
@@ -170,6 +170,7 @@ impl Depot for MemDepot {
             → get self.old.content.held name.now ≡ Some bytes
             → (result ≡ Ok tt)
             × (self.new ≡ next_call (with_content self.old (with_left self.old.content bytes))) }
+        ensures counted { NeverFall self.old.counts self.new.counts }
     {
         if self.next_fails() {
             self.store.stop_read();
@@ -189,8 +190,9 @@ impl Depot for MemDepot {
         ensures given { is_told self.old ≡ false → IsOkAnd result (λ n.
             (n ≡ min (min (length self.old.content.left) (length buf.old)) (most_moved self.old))
             × (self.new ≡ next_call (with_content self.old
-                (with_left self.old.content (drop n self.old.content.left))))
+            (with_left self.old.content (drop n self.old.content.left))))
             × (buf.new ≡ take n self.old.content.left ++ drop n buf.old)) }
+        ensures counted { NeverFall self.old.counts self.new.counts }
     {
         if self.next_fails() {
             return Err(self.read_fault());
@@ -203,11 +205,12 @@ impl Depot for MemDepot {
     fn start_write(&mut self, name: &str) -> Result<(), DepotBad>
         ensures told { IsTrue (is_told self.old) → (result ≡ Err Failed)
             × (self.new ≡ write_fault (next_call
-                (with_content self.old (with_current self.old.content None)))) }
+            (with_content self.old (with_current self.old.content None)))) }
         ensures begun { is_told self.old ≡ false → MatchResult result
             (λ _. self.new ≡ next_call (with_content self.old (begun self.old.content name.now)))
             (λ bad. (bad ≡ Wanting) × (self.new ≡ memory_refused (next_call
-                (with_content self.old (with_current self.old.content None))))) }
+            (with_content self.old (with_current self.old.content None))))) }
+        ensures counted { NeverFall self.old.counts self.new.counts }
     {
         if self.next_fails() {
             self.store.stop_write();
@@ -226,9 +229,10 @@ impl Depot for MemDepot {
             × (self.new ≡ write_fault (next_call self.old)) }
         ensures written { is_told self.old ≡ false → MatchResult result
             (λ n. (n ≡ min (length bytes.now) (most_moved self.old))
-                × (self.new ≡ next_call (with_content self.old
-                    (with_written self.old.content (take n bytes.now)))))
+            × (self.new ≡ next_call (with_content self.old
+            (with_written self.old.content (take n bytes.now)))))
             (λ bad. (bad ≡ Wanting) × (self.new ≡ memory_refused (next_call self.old))) }
+        ensures counted { NeverFall self.old.counts self.new.counts }
     {
         if self.next_fails() {
             return Err(self.write_fault());
@@ -246,9 +250,10 @@ impl Depot for MemDepot {
             × (self.new ≡ write_fault (next_call self.old)) }
         ensures said { is_told self.old ≡ false → MatchResult result
             (λ n. (n ≡ min (length bytes.now) (most_moved self.old))
-                × (self.new ≡ next_call (with_content self.old
-                    (with_said self.old.content (take n bytes.now)))))
+            × (self.new ≡ next_call (with_content self.old
+            (with_said self.old.content (take n bytes.now)))))
             (λ bad. (bad ≡ Wanting) × (self.new ≡ memory_refused (next_call self.old))) }
+        ensures counted { NeverFall self.old.counts self.new.counts }
     {
         if self.next_fails() {
             return Err(self.write_fault());

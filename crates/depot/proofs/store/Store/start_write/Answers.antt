@@ -16,5 +16,5 @@ pub returns-clause-ok : goal.returns-clause-ok
 returns-clause-ok c =
     rw (← c.self.view_is)
     (both_changed (store_content c.self.inside) _ _ _ _
-      (c.in_ok-at.ensures.ok ∙ ap (λ bytes. insert (files_of c.self.inside.made.items) c.args.name.now bytes) c.new.ensures.items)
-      (ap (λ k. Some k) (name_at-place c.put.new.files.items c.args.name.now c.in_ok-at.at c.in_ok-at.ensures.place)))
+    (c.in_ok-at.ensures.ok ∙ ap (λ bytes. insert (files_of c.self.inside.made.items) c.args.name.now bytes) c.new.ensures.items)
+    (ap (λ k. Some k) (name_at-place c.put.new.files.items c.args.name.now c.in_ok-at.at c.in_ok-at.ensures.place)))

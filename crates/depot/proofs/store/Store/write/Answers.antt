@@ -16,8 +16,8 @@ returns-clause-ok c =
     let new = c.append.new.files.items in
     rw (← c.self.view_is)
     (on_ok_weaker c.append.result
-      (λ ok. both_changed (store_content c.self.inside) _ _ _ _ (ok ∙ appended_current old _ c.in-Some.at c.args.piece.now c.in-Some.is) (current_kept old new _ c.in-Some.at c.in-Some.is c.append.ensures.place))
-      c.append.ensures.ok)
+    (λ ok. both_changed (store_content c.self.inside) _ _ _ _ (ok ∙ appended_current old _ c.in-Some.at c.args.piece.now c.in-Some.is) (current_kept old new _ c.in-Some.at c.in-Some.is c.append.ensures.place))
+    c.append.ensures.ok)
 
 pub returns-clause-refused : goal.returns-clause-refused
 returns-clause-refused c =
@@ -25,5 +25,5 @@ returns-clause-refused c =
     let new = c.append.new.files.items in
     rw (← c.self.view_is)
     (on_err_weaker c.append.result
-      (λ same. both_changed (store_content c.self.inside) _ _ _ _ same (current_kept old new _ c.in-Some.at c.in-Some.is c.append.ensures.place))
-      c.append.ensures.refused)
+    (λ same. both_changed (store_content c.self.inside) _ _ _ _ same (current_kept old new _ c.in-Some.at c.in-Some.is c.append.ensures.place))
+    c.append.ensures.refused)
