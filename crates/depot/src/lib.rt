@@ -14,3 +14,6 @@ pub use outside::{Depot, DepotBad};
 pub use real::FileDepot;
 pub use sure::SureDepot;
 pub use whole::{Refused, make_file, read_all, say_whole, write_whole};
+
+#[cfg(test)]
+mod tests;
