@@ -4,7 +4,7 @@ use Rattle.std.specs.Prelude.{◌≡◌, ℕ, Bool, false, List, ◌==◌, ◌-�
 use Rattle.std.specs.List.{list_any}
 use Rattle.std.specs.Coded.{Coded, coded×, coded_list, coded_ℕ, coded_bool, code_by}
 use Rattle.depot.specs.Content.{Content, content_code, nothing}
-use Rattle.depot.specs.Counts.{Counts, raised}
+use Rattle.depot.specs.Counts.{Counts, no_counts, raised}
 
 pub record Memory : Type 0 where
   -- the content, but for `blank`, which stands for nothing here
@@ -35,7 +35,7 @@ memory_code =
 abbrev pub new_memory : Memory
 new_memory = record {
   content = nothing;
-  counts = record { read_faults = 0; write_faults = 0; refused = 0 };
+  counts = no_counts;
   calls = 0;
   failing = [];
   is_short = false;

@@ -1,9 +1,9 @@
 -- A depot in memory that never fails: every name that it hasn't is an empty file, and it counts no fault. Only
 -- memory may be wanting.
-use Rattle.std.specs.Prelude.{◌≡◌, ℕ, true, refl}
+use Rattle.std.specs.Prelude.{◌≡◌, ℕ, List, true, refl}
 use Rattle.std.specs.Coded.{Coded, coded×, coded_ℕ, code_by}
-use Rattle.depot.specs.Content.{Content, content_code, nothing}
-use Rattle.depot.specs.Counts.{Counts, raised}
+use Rattle.depot.specs.Content.{Content, IsNotThere, content_code, nothing}
+use Rattle.depot.specs.Counts.{Counts, Rose, raised}
 
 pub record Sure : Type 0 where
   -- the content, but for `blank`, which stands for nothing here
@@ -34,3 +34,11 @@ with_content s content = record s { content = content }
 -- a want of memory was counted
 abbrev pub sure_refused : Sure → Sure
 sure_refused s = record s { refused = raised s.refused }
+
+-- Neither count of faults ever rises, and each name is there. So no call answers `Failed`.
+abbrev pub NothingFails : Type 0
+NothingFails =
+    (before now : Sure) (name : List ℕ)
+    → (Rose (sure_counts before).read_faults (sure_counts now).read_faults → ⊥)
+    × (Rose (sure_counts before).write_faults (sure_counts now).write_faults → ⊥)
+    × (IsNotThere (sure_content before) name → ⊥)

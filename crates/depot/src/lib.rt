@@ -12,7 +12,7 @@ mod whole;
 pub use memory::MemDepot;
 pub use outside::{Depot, DepotBad};
 pub use real::FileDepot;
-pub use sure::SureDepot;
+pub use sure::{SureDepot, nothing_fails};
 pub use whole::{Refused, make_file, read_all, say_whole, write_whole};
 
 #[cfg(test)]

@@ -1,6 +1,6 @@
 // Real files and standard output. What a file holds no clause can say, so this depot tells its counts alone.
-ghost use Rattle.std.specs.Prelude.{◌≡◌, ◌≤◌, false};
-ghost use Rattle.depot.specs.Counts.{Rose, raised};
+ghost use Rattle.std.specs.Prelude.{◌≡◌, ◌≤◌, false, IsNone};
+ghost use Rattle.depot.specs.Counts.{Rose, no_counts, raised};
 ghost use Rattle.depot.specs.declared.outside.DepotBad.TheVariants.{Failed, NoMemory as Wanting};
 ghost use Rattle.depot.specs.Content.{nothing};
 
@@ -24,9 +24,9 @@ pub struct FileDepot<R: Runtime> {
 impl<R: Runtime> FileDepot<R> {
     /// A depot that has started no file and counted nothing.
     pub fn new(rt: R) -> FileDepot<R>
-        ensures read_faults { result.read_faults ≡ 0 }
-        ensures write_faults { result.write_faults ≡ 0 }
-        ensures refused { result.refused ≡ 0 }
+        ensures counts { ⟦<FileDepot<R> as Depot>⟧.counts result ≡ no_counts }
+        ensures reading { IsNone result.reading }
+        ensures writing { IsNone result.writing }
     {
         FileDepot {
             rt,

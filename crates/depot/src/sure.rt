@@ -3,7 +3,7 @@ ghost use Rattle.std.specs.Prelude.{◌≡◌, ◌≤◌, true, [], ◌++◌, No
 ghost use Rattle.std.specs.Option.{option_copied};
 ghost use Rattle.std.specs.FinMap.{get};
 ghost use Rattle.depot.specs.Content.{with_held, with_left, begun, with_current, with_written, with_said};
-ghost use Rattle.depot.specs.Sure.{new_sure, sure_content, sure_counts, with_content, sure_refused};
+ghost use Rattle.depot.specs.Sure.{NothingFails, new_sure, sure_content, sure_counts, with_content, sure_refused};
 ghost use Rattle.depot.specs.declared.outside.DepotBad.TheVariants.{NoMemory as Wanting};
 
 use crate::outside::{Depot, DepotBad};
@@ -74,6 +74,11 @@ impl SureDepot {
         DepotBad::NoMemory
     }
 }
+
+/// The law that no call over a `SureDepot` answers `Failed`: neither count of faults rises, and each name is there.
+pub fn nothing_fails()
+    ensures { NothingFails }
+{}
 
 impl Depot for SureDepot {
     ghost tells = { true };

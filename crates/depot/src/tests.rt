@@ -1,5 +1,7 @@
 // One happy path of each public call over each depot, and a refusal of each kind.
-use crate::{Depot, FileDepot, MemDepot, Refused, SureDepot, make_file, read_all, say_whole, write_whole};
+use crate::{
+    Depot, FileDepot, MemDepot, Refused, SureDepot, make_file, read_all, say_whole, write_whole,
+};
 use std::alloc::Global;
 use std::fs;
 use std::test::Fail;
