@@ -75,11 +75,6 @@ impl SureDepot {
     }
 }
 
-/// The law that no call over a `SureDepot` answers `Failed`: neither count of faults rises, and each name is there.
-pub fn nothing_fails()
-    ensures { NothingFails }
-{}
-
 impl Depot for SureDepot {
     ghost tells = { true };
 
@@ -150,3 +145,8 @@ impl Depot for SureDepot {
         }
     }
 }
+
+/// The law that no call over a `SureDepot` answers `Failed`: neither count of faults rises, and each name is there.
+pub fn nothing_fails()
+    ensures { NothingFails }
+{}
