@@ -1,6 +1,6 @@
 -- A depot in memory that can be told to fail. Its calls are numbered from 0, and the calls whose numbers it was
 -- given fail. It counts those refusals by kind, and wants of memory. A name that it hasn't isn't there.
-use Rattle.std.specs.Prelude.{◌≡◌, ℕ, Bool, false, List, ◌==◌, ◌-◌, ◌^◌, if◌then◌else◌, refl, [], ◌∷◌, ◌++◌}
+use Rattle.std.specs.Prelude.{ℕ, Bool, false, List, ◌==◌, ◌-◌, ◌^◌, if◌then◌else◌, refl, [], ◌∷◌, ◌++◌}
 use Rattle.std.specs.List.{list_any}
 use Rattle.std.specs.Coded.{Coded, coded×, coded_list, coded_ℕ, coded_bool, code_by}
 use Rattle.depot.specs.Content.{Content, content_code, nothing}

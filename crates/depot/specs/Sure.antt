@@ -1,6 +1,6 @@
 -- A depot in memory that never fails: every name that it hasn't is an empty file, and it counts no fault. Only
 -- memory may be wanting.
-use Rattle.std.specs.Prelude.{◌≡◌, ℕ, List, true, refl}
+use Rattle.std.specs.Prelude.{ℕ, List, true, refl}
 use Rattle.std.specs.Coded.{Coded, coded×, coded_ℕ, code_by}
 use Rattle.depot.specs.Content.{Content, IsNotThere, content_code, nothing}
 use Rattle.depot.specs.Counts.{Counts, Rose, raised}

@@ -1,4 +1,4 @@
-use Rattle.std.proofs.Common.{◌∙◌, arith}
+use Rattle.std.proofs.Common.{◌∙◌}
 use Rattle.depot.proofs.FilingLemmas.{bytes_of-place}
 use Rattle.depot.proofs.filing.bytes_of.Goals as goal
 

@@ -1,4 +1,4 @@
-use Rattle.std.proofs.Common.{Some, sym, ap, ◌∙◌, arith}
+use Rattle.std.proofs.Common.{Some, sym, ap, ◌∙◌}
 use Rattle.std.specs.Option.{option_copied}
 use Rattle.depot.specs.Filing.{bytes_at}
 use Rattle.depot.proofs.FilingLemmas.{get-none, get-place, place_within}
