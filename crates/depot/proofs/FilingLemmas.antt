@@ -1,13 +1,13 @@
 -- Files in a list against the map from names to bytes.
-use Rattle.std.proofs.Common.{◌≡◌, ◌≢◌, ℕ, zero, suc, ◌+◌, ◌≤◌, ◌<◌, Bool, true, false, cond, List, [], ◌∷◌, ◌++◌, length, get_or, set, take, drop, Option, None, Some, unwrap_or, Result, Ok, Err, OnErr, refl, sym, ap, ◌∙◌, arith, subst}
+use Rattle.std.proofs.Common.{◌≡◌, ℕ, zero, suc, ◌+◌, ◌<◌, Bool, true, false, List, [], ◌∷◌, ◌++◌, length, get_or, set, take, None, Some, unwrap_or, Result, Ok, Err, OnErr, refl, sym, ap, ◌∙◌, arith, subst}
 use Rattle.std.specs.Str.{bytes_eq}
 use Rattle.std.proofs.lemmas.Slice.Eq.{bytes_eq-Decides}
 use Rattle.std.proofs.lemmas.Bool.{both_ways}
 use Rattle.std.specs.String.{string_bytes}
-use Rattle.std.specs.Ordering.{nat_cmp, eq_by_cmp}
+use Rattle.std.specs.Ordering.{nat_cmp}
 use Rattle.std.specs.Cmp.Lexicographic.{slice_cmp}
 use Rattle.std.specs.FinMap.{get, insert, empty, get-empty}
-use Rattle.depot.specs.Content.{Files, appended}
+use Rattle.depot.specs.Content.{appended}
 use Rattle.depot.specs.declared.filing.File.{File}
 use Rattle.depot.specs.Filing.{files_of, IsPlace, HasNone, bytes_at, name_at}
 use Rattle.depot.proofs.ForCallers.{get-insert_same, get-insert_other, insert-insert_same, insert_comm, insert_same}

@@ -1,6 +1,6 @@
 -- Facts about files and contents, for the proofs of callers: what a name has after a file was made, and how
 -- pieces that are written one after another add up.
-use Rattle.std.proofs.Common.{◌≡◌, ◌≢◌, ◌⊎◌, ℕ, ◌+◌, ◌≤◌, ◌<◌, Bool, true, false, cond, List, [], ◌∷◌, ◌++◌, length, take, drop, Option, None, Some, unwrap_or, refl, sym, ap, ◌∙◌, arith, append_assoc, subst, inl, inr}
+use Rattle.std.proofs.Common.{◌≡◌, ℕ, ◌+◌, ◌≤◌, ◌<◌, Bool, true, false, cond, List, [], ◌∷◌, ◌++◌, length, take, drop, Option, None, Some, unwrap_or, IsSomeAnd, refl, sym, ap, ◌∙◌, arith, append_assoc, subst, inl, inr}
 use Rattle.std.proofs.lemmas.List.{append-nil, take-take, drop-take, take-append-drop}
 use Rattle.std.specs.Ordering.{nat_cmp, eq_by_cmp, is_eq}
 use Rattle.std.specs.declared.cmp.Ordering.{Ordering}
@@ -8,8 +8,9 @@ use Rattle.std.specs.declared.cmp.Ordering.TheVariants.{Less, Equal, Greater}
 use Rattle.std.proofs.lemmas.Bool.{false_from_ne_true}
 use Rattle.std.specs.Cmp.{eq_by_cmp_equiv}
 use Rattle.std.specs.Cmp.Lexicographic.{slice_cmp, nat_list_cmp_total}
-use Rattle.std.specs.FinMap.{FinMap, get, insert, get-insert, same_map, slice_cmp-IsAntisymmetric, nat_cmp-IsAntisymmetric}
-use Rattle.depot.specs.Content.{Files, Content, appended, with_written, with_said, with_file, with_current, begun, IsPartWritten, IsPartMade}
+use Rattle.std.specs.FinMap.{get, insert, get-insert, same_map, slice_cmp-IsAntisymmetric, nat_cmp-IsAntisymmetric}
+use Rattle.depot.specs.Content.{Files, Content, appended, with_written, with_said, with_file, with_current, begun, IsPartWritten, IsPartMade, IsNotThere, IsLongerThan}
+use Rattle.depot.specs.Sure.{Sure, sure_content}
 use Rattle.depot.specs.Counts.{Counts, NeverFall, Rose}
 
 -- two names tie in the order of names
@@ -128,9 +129,9 @@ chosen false b v w o apart = refl
 pub insert_comm : (m : Files) (k j v w : List ℕ) → (k ≡ j → ⊥) → insert (insert m k v) j w ≡ insert (insert m j w) k v
 insert_comm m k j v w differs =
     same_files _ _ (λ q.
-      get-insert-tie (insert m k v) j w q ∙ ap (cond (tie q j) (Some w)) (get-insert-tie m k v q)
-      ∙ chosen (tie q j) (tie q k) (Some w) (Some v) (get m q) (λ a b. differs (sym (tied q k b) ∙ tied q j a))
-      ∙ sym (get-insert-tie (insert m j w) k v q ∙ ap (cond (tie q k) (Some v)) (get-insert-tie m j w q)))
+    get-insert-tie (insert m k v) j w q ∙ ap (cond (tie q j) (Some w)) (get-insert-tie m k v q)
+    ∙ chosen (tie q j) (tie q k) (Some w) (Some v) (get m q) (λ a b. differs (sym (tied q k b) ∙ tied q j a))
+    ∙ sym (get-insert-tie (insert m j w) k v q ∙ ap (cond (tie q k) (Some v)) (get-insert-tie m j w q)))
 
 as_it_was : (b : Bool) (v o : Option (List ℕ)) → (b ≡ true → o ≡ v) → cond b v o ≡ o
 as_it_was true v o same = sym (same refl)
@@ -140,3 +141,16 @@ as_it_was false v o same = refl
 pub insert_same : (m : Files) (k v : List ℕ) → get m k ≡ Some v → insert m k v ≡ m
 insert_same m k v had =
     same_files _ _ (λ q. get-insert-tie m k v q ∙ as_it_was (tie q k) (Some v) (get m q) (λ t. ap (get m) (tied q k t) ∙ had))
+
+-- a name that isn't there holds nothing that is too long
+pub longer_there : (limit : ℕ) (c : Content) (name : List ℕ) → IsNotThere c name → IsLongerThan limit c name → ⊥
+longer_there limit c name missing long = subst (λ held. IsSomeAnd held (λ bytes. limit < length bytes)) missing long
+
+-- a count that stays 0 hasn't risen
+pub zero_stays : Rose 0 0 → ⊥
+zero_stays (inl lt) = omega arith
+zero_stays (inr full) = omega arith
+
+-- over a depot that never fails each name is there
+pub sure_there : (s : Sure) (name : List ℕ) → IsNotThere (sure_content s) name → ⊥
+sure_there s name e = cc

@@ -1,3 +1,4 @@
 pub mod ForCallers
 mod Reading
 mod FilingLemmas
+mod StoreLemmas

@@ -2,7 +2,6 @@
 use Rattle.std.proofs.Common.{◌≡◌, ℕ, ◌<◌, ◌≤◌, List, length, Option, None, Some, Result, Err, IsSomeAnd, arith}
 use Rattle.depot.specs.declared.outside.DepotBad.{DepotBad}
 use Rattle.depot.specs.declared.outside.DepotBad.TheVariants as depot
-use Rattle.depot.specs.declared.whole.Refused.{Refused}
 use Rattle.depot.specs.declared.whole.Refused.TheVariants as whole
 use Rattle.depot.specs.Refusals.{refused_as}
 

@@ -10,6 +10,10 @@ pub record Counts : Type 0 where
   -- wants of memory
   pub refused : ℕ
 
+-- nothing was counted
+abbrev pub no_counts : Counts
+no_counts = record { read_faults = 0; write_faults = 0; refused = 0 }
+
 -- the count rose from `before` to `now`, or stands at its greatest value
 abbrev pub Rose : ℕ → ℕ → Type 0
 Rose before now = (before < now) ⊎ (2 ^ 64 - 1 ≤ now)

@@ -3,3 +3,5 @@ pub mod Counts
 pub mod Refusals
 pub mod StoreView
 pub mod Filing
+pub mod Memory
+pub mod Sure

@@ -11,7 +11,7 @@ store_content s = record {
   left = left_of s.held.items s.reading s.given;
   made = files_of s.made.items;
   current = option_map (name_at s.made.items) s.writing;
-  said = s.said.items
+  said = s.said.items;
 }
 
 pub record IsSound (s : Inside) : Type 0 where

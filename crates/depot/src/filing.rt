@@ -1,5 +1,5 @@
 // Files in memory: a list in which the first file of a name counts.
-ghost use Rattle.std.specs.Prelude.{◌≡◌, ◌<◌, ◌≤◌, [], ◌++◌, Some, None, IfOk, OnOk, OnErr, MatchOption, length};
+ghost use Rattle.std.specs.Prelude.{◌≡◌, ◌<◌, ◌≤◌, ◌^◌, [], ◌++◌, Some, None, IfOk, OnOk, OnErr, MatchOption, length, drop};
 ghost use Rattle.std.specs.FinMap.{insert};
 ghost use Rattle.depot.specs.Content.{appended};
 ghost use Rattle.depot.specs.Filing.{files_of, bytes_at, name_at, IsPlace, HasNone};
@@ -25,13 +25,28 @@ pub(crate) fn place(files: &[File], name: &str) -> Option<usize>
     None
 }
 
+// The bytes of a file.
+pub(crate) fn bytes_of(files: &[File], at: usize) -> &[u8]
+    requires { at < length files.now }
+    ensures { result.now ≡ bytes_at files.now at }
+{
+    files[at].bytes.as_slice()
+}
+
+// The bytes of a file behind the first so many.
+pub(crate) fn rest(files: &[File], at: usize, given: usize) -> &[u8]
+    requires at { at < length files.now }
+    requires given { given ≤ length (bytes_at files.now at) }
+    ensures value { result.now ≡ drop given (bytes_at files.now at) }
+    ensures small { length (bytes_at files.now at) < 2 ^ 64 }
+{
+    let bytes = bytes_of(files, at);
+    let len = bytes.len();
+    &bytes[given..len]
+}
+
 // Puts a file behind the others, where none has its name.
-fn push(
-    alloc: Global,
-    files: &mut Vec<File>,
-    name: &str,
-    bytes: Vec<u8>,
-) -> Result<usize, NoMemory>
+fn push(alloc: Global, files: &mut Vec<File>, name: &str, bytes: Vec<u8>) -> Result<usize, NoMemory>
     requires { HasNone files.old.items name.now }
     ensures ok { OnOk result (files_of files.new.items
         ≡ insert (files_of files.old.items) name.now bytes.items) }

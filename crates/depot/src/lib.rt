@@ -2,11 +2,18 @@
 #![tactic(auto)]
 
 mod filing;
+mod memory;
 mod outside;
 mod real;
 mod store;
+mod sure;
 mod whole;
 
+pub use memory::MemDepot;
 pub use outside::{Depot, DepotBad};
 pub use real::FileDepot;
+pub use sure::{SureDepot, nothing_fails};
 pub use whole::{Refused, make_file, read_all, say_whole, write_whole};
+
+#[cfg(test)]
+mod tests;

@@ -1,10 +1,10 @@
 // What a depot in memory has: the files to be read, the files that are made, and what was said.
-ghost use Rattle.std.specs.Prelude.{◌≡◌, ◌≤◌, [], None, IsSome, OnOk, OnErr, length, min, is_some, unwrap_or};
+ghost use Rattle.std.specs.Prelude.{◌≡◌, ◌≤◌, [], ◌++◌, None, IsSome, OnOk, OnErr, length, take, drop, min, is_some, unwrap_or};
 ghost use Rattle.std.specs.Option.{option_copied};
 ghost use Rattle.std.specs.FinMap.{get};
 ghost use Rattle.depot.specs.Content.{nothing, with_held, with_left, TakesFirst, begun, with_current, with_written, with_said};
 
-use crate::filing::{File, append, place, put};
+use crate::filing::{File, append, bytes_of, place, put, rest};
 use geo_stream::NoMemory;
 use std::alloc::Global;
 use std::marker::Model;
@@ -85,9 +85,7 @@ impl Store {
         let Some(at) = self.reading else {
             return 0;
         };
-        let left = &self.held[at].bytes[self.given..];
-        let count = left.len().min(buf.len()).min(most);
-        buf[..count].copy_from_slice(&left[..count]);
+        let count = give(rest(&self.held, at, self.given), buf, most);
         self.given += count;
         count
     }
@@ -131,7 +129,7 @@ impl Store {
         ensures { option_copied result ≡ get self.now.made name.now }
     {
         let at = place(&self.made, name)?;
-        Some(self.made[at].bytes.as_slice())
+        Some(bytes_of(&self.made, at))
     }
 
     pub(crate) fn said(&self) -> &[u8]
@@ -139,4 +137,14 @@ impl Store {
     {
         &self.said
     }
+}
+
+// Puts as many bytes as both have and `most` allows first in a buffer.
+fn give(left: &[u8], buf: &mut [u8], most: usize) -> usize
+    ensures count { result ≡ min (min (length left.now) (length buf.old)) most }
+    ensures given { buf.new ≡ take result left.now ++ drop result buf.old }
+{
+    let count = left.len().min(buf.len()).min(most);
+    buf[..count].copy_from_slice(&left[..count]);
+    count
 }

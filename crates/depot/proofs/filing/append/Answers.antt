@@ -11,7 +11,7 @@ returns-in_err-extend_from_slice-clause-refused c =
     let fs = c.args.files.now.items in
     let name = name_at fs c.args.at in
     on_err_from _ (files_of-set_same fs name c.args.at c.index_mut.result.now _ c.requires c.index_mut.ensures.value
-      (name_read fs name c.args.at c.index_mut.result.now c.requires c.index_mut.ensures.value) c.in_err-extend_from_slice.ensures.items)
+    (name_read fs name c.args.at c.index_mut.result.now c.requires c.index_mut.ensures.value) c.in_err-extend_from_slice.ensures.items)
 
 pub returns-in_err-extend_from_slice-clause-place : goal.returns-in_err-extend_from_slice-clause-place
 returns-in_err-extend_from_slice-clause-place c =

@@ -1,5 +1,5 @@
-use Rattle.std.proofs.Common.{◌≡◌, length, ap, sym, ◌∙◌, subst, arith}
-use Rattle.depot.specs.Filing.{files_of, IsPlace}
+use Rattle.std.proofs.Common.{◌≡◌, length, ap, ◌∙◌, arith}
+use Rattle.depot.specs.Filing.{files_of}
 use Rattle.depot.proofs.FilingLemmas.{files_of-push, place-push}
 use Rattle.depot.proofs.filing.push.Goals as goal
 

@@ -1,4 +1,4 @@
-use Rattle.std.proofs.Common.{◌≡◌, ◌≤◌, length, ◌++◌, [], Some, Err, sym, ap, ◌∙◌, inl, arith}
+use Rattle.std.proofs.Common.{◌≤◌, length, ◌++◌, [], Some, Err, sym, ap, ◌∙◌, inl, arith}
 use Rattle.std.proofs.lemmas.Result.{err_from_is_err_and}
 use Rattle.depot.specs.Content.{Content, with_left}
 use Rattle.depot.proofs.ForCallers.{Rose-later}

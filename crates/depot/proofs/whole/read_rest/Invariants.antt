@@ -1,4 +1,4 @@
-use Rattle.std.proofs.Common.{length, ◌-◌, ◌≡◌, ◌≤◌, ◌<◌, ◌++◌, IsTrue, vec_len}
+use Rattle.std.proofs.Common.{◌-◌, ◌≡◌, ◌≤◌, ◌++◌, IsTrue, vec_len}
 use Rattle.depot.specs.Content.{ChangesLeftOnly}
 use Rattle.depot.specs.Counts.{NeverFall}
 use Rattle.depot.proofs.whole.read_rest.Given as goal

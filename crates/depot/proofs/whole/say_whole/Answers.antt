@@ -1,4 +1,4 @@
-use Rattle.std.proofs.Common.{arith, length, drop}
+use Rattle.std.proofs.Common.{arith}
 use Rattle.std.proofs.lemmas.List.{length-drop, take_rest}
 use Rattle.depot.proofs.ForCallers.{with_said-more, NeverFall-trans}
 use Rattle.depot.proofs.whole.say_whole.Goals as goal
