@@ -1,0 +1,2 @@
+pub mod DeckParts
+pub mod DeckUnique
