@@ -1,16 +1,16 @@
 -- Each part of a deck: what is read is there, and what is there is read.
-use Rattle.std.proofs.Common.{◌≡◌, ◌≢◌, ◌⊎◌, ℕ, zero, suc, ◌+◌, ◌-◌, ◌*◌, ◌^◌, ◌<◌, ◌≤◌, Bool, true, false, cond, eqb, ltb, leb, List, [], ◌∷◌, ◌++◌, length, get_or, take, drop, All, Option, Some, None, Decides, refl, sym, ap, subst, ◌∙◌, arith, rules, inl, inr}
-use Rattle.std.specs.Prelude.{pos, neg_ℤ, codes, IsTrue, ◌||◌}
+use Rattle.std.proofs.Common.{◌≡◌, ◌⊎◌, ℕ, ◌^◌, ◌<◌, ◌≤◌, Bool, true, false, cond, eqb, ltb, List, [], ◌∷◌, ◌++◌, length, get_or, take, drop, All, Option, Some, None, Decides, refl, sym, ap, subst, ◌∙◌, arith, inl, inr}
+use Rattle.std.specs.Prelude.{pos, neg_ℤ}
 use Rattle.std.specs.List.{prefix_len, list_all}
 use Rattle.std.specs.Str.{bytes_eq, IsAscii, IsUtf8}
 use Rattle.std.specs.Char.{is_ascii_graphic, is_ascii_digit, is_ascii_alphabetic, is_ascii_uppercase, is_ascii_lowercase}
 use Rattle.std.proofs.lemmas.Str.{IsUtf8-from_ascii}
-use Rattle.std.proofs.lemmas.Bool.{cases_lt, false≢true, ltb-true, ltb-false, le-ltb, lt-ltb, eqb-true}
+use Rattle.std.proofs.lemmas.Bool.{cases_lt, false≢true, ltb-false, le-ltb, eqb-true}
 use Rattle.std.proofs.lemmas.Bool.Decides.{nat_tests, Decides-by_and, Decides-or, Decides-like, Decides-eqb}
 use Rattle.std.proofs.lemmas.Int.{ints}
 use Rattle.std.proofs.lemmas.List.{take_at, drop_at, take-append-drop, length-take, get_or-take, get_or_past}
 use Rattle.std.proofs.lemmas.List.Sums.{prefix_len_passes}
-use Rattle.std.proofs.lemmas.List.Elements.{All-nil, All-cons, All-head, All-tail, All-weaker}
+use Rattle.std.proofs.lemmas.List.Elements.{All-cons, All-head, All-tail, All-weaker}
 use Rattle.std.proofs.lemmas.Slice.Eq.{bytes_eq-Decides}
 use Rattle.std.proofs.Math.Nat.{pow-le-pow_right}
 use Rattle.mdp_job.specs.FirstDeck.{IsTokenByte, IsToken, IsDigit, IsLetter, IsName, decimal_value, AreDigits, IsNumber}
@@ -101,7 +101,7 @@ pub token_again : (stop : ℕ) (t rest : List ℕ) → All IsTokenByte t → sto
 unfolding token_at
 token_again stop t rest h lt =
     rw (front_length t stop rest h lt, take_at t (stop ∷ rest) (length t) refl, drop_at t (stop ∷ rest) (length t) refl)
-        (bind (behind (stop ∷ []) (stop ∷ rest)) (λ r. Some (t, r)) rest (Some (t, rest)) (behind_again (stop ∷ []) rest) refl)
+    (bind (behind (stop ∷ []) (stop ∷ rest)) (λ r. Some (t, r)) rest (Some (t, rest)) (behind_again (stop ∷ []) rest) refl)
 
 pub sized_takes : (most stop : ℕ) (bytes : List ℕ) (x : List ℕ × List ℕ) → sized_at most stop bytes ≡ Some x → (bytes ≡ x.0 ++ (stop ∷ x.1)) × IsToken most x.0
 unfolding sized_at
@@ -112,7 +112,7 @@ sized_takes most stop bytes x e =
     let t = token_takes stop bytes a.0 a.1 in
     let some_there : 0 < length a.0.0 = grind (arith, nat_tests) in
     subst (λ (y : List ℕ × List ℕ). (bytes ≡ y.0 ++ (stop ∷ y.1)) × IsToken most y.0) (some_is a.0 x c.1)
-        (t.0, record { visible = t.1; some = some_there; short = ltb-false most (length a.0.0) c.0 })
+    (t.0, record { visible = t.1; some = some_there; short = ltb-false most (length a.0.0) c.0 })
 
 pub sized_again : (most stop : ℕ) (t rest : List ℕ) → IsToken most t → stop < 33 → sized_at most stop (t ++ (stop ∷ rest)) ≡ Some (t, rest)
 unfolding sized_at
@@ -293,13 +293,13 @@ number_takes most stop bytes x e =
     let t = token_takes stop bytes a.0 a.1 in
     let n = number_of_takes most a.0.0 b.0 b.1 in
     subst (λ (y : ℕ × List ℕ). HasNumber most stop bytes y.0 y.1) (some_is (b.0, a.0.1) x b.2)
-        (record { token = a.0.0; parts = t.0; number = n.0; within = n.1 })
+    (record { token = a.0.0; parts = t.0; number = n.0; within = n.1 })
 
 pub number_again : (most stop : ℕ) (t rest : List ℕ) (n : ℕ) → IsNumber t (pos n) → n ≤ most → stop < 33 → number_at most stop (t ++ (stop ∷ rest)) ≡ Some (n, rest)
 unfolding number_at
 number_again most stop t rest n h le lt =
     bind (token_at stop (t ++ (stop ∷ rest))) (λ t. number_of most t.0 >>= λ n. Some (n, t.1)) (t, rest) (Some (n, rest)) (token_again stop t rest (number_visible t n h) lt)
-        (bind (number_of most t) (λ n. Some (n, rest)) n (Some (n, rest)) (number_of_again most t n h le) refl)
+    (bind (number_of most t) (λ n. Some (n, rest)) n (Some (n, rest)) (number_of_again most t n h le) refl)
 
 -- ---- layer and datatype
 
@@ -309,13 +309,13 @@ pair_takes bytes x e =
     let a = bound (number_at 4294967295 32 bytes) (λ l. number_at 4294967295 10 l.1 >>= λ d. Some ((l.0, d.0), d.1)) x e in
     let b = bound (number_at 4294967295 10 a.0.1) (λ d. Some ((a.0.0, d.0), d.1)) x a.2 in
     subst (λ (y : (ℕ × ℕ) × List ℕ). (middle : List ℕ) × HasNumber 4294967295 32 bytes y.0.0 middle × HasNumber 4294967295 10 middle y.0.1 y.1) (some_is ((a.0.0, b.0.0), b.0.1) x b.2)
-        (a.0.1, number_takes 4294967295 32 bytes a.0 a.1, number_takes 4294967295 10 a.0.1 b.0 b.1)
+    (a.0.1, number_takes 4294967295 32 bytes a.0 a.1, number_takes 4294967295 10 a.0.1 b.0 b.1)
 
 pub pair_again : (s t rest : List ℕ) (l d : ℕ) → IsNumber s (pos l) → l ≤ 4294967295 → IsNumber t (pos d) → d ≤ 4294967295 → pair_at (s ++ (32 ∷ (t ++ (10 ∷ rest)))) ≡ Some ((l, d), rest)
 unfolding pair_at
 pair_again s t rest l d hl ll hd ld =
     bind (number_at 4294967295 32 (s ++ (32 ∷ (t ++ (10 ∷ rest))))) (λ l. number_at 4294967295 10 l.1 >>= λ d. Some ((l.0, d.0), d.1)) (l, t ++ (10 ∷ rest)) (Some ((l, d), rest)) (number_again 4294967295 32 s (t ++ (10 ∷ rest)) l hl ll (omega arith))
-        (bind (number_at 4294967295 10 (t ++ (10 ∷ rest))) (λ d. Some ((l, d.0), d.1)) (d, rest) (Some ((l, d), rest)) (number_again 4294967295 10 t rest d hd ld (omega arith)) refl)
+    (bind (number_at 4294967295 10 (t ++ (10 ∷ rest))) (λ d. Some ((l, d.0), d.1)) (d, rest) (Some ((l, d), rest)) (number_again 4294967295 10 t rest d hd ld (omega arith)) refl)
 
 -- the text of a pair at the end of a line
 pub pair_parts : (bytes middle rest : List ℕ) (l d : ℕ) (a : HasNumber 4294967295 32 bytes l middle) (b : HasNumber 4294967295 10 middle d rest) → bytes ≡ a.token ++ (32 ∷ (b.token ++ (10 ∷ rest)))
@@ -330,9 +330,9 @@ room i n lt small = omega (arith, pow-le-pow_right {n = 10} (omega arith) {i = i
 
 is_ascii_if : (t : List ℕ) → All IsTokenByte t → IsAscii t
 is_ascii_if t h i = elim (cases_lt i (length t)) [
-    | inl lt ↦ omega (arith, (h i 0 lt).1)
-    | inr le ↦ rw (get_or_past t i 0 le) (omega arith)
-  ]
+  | inl lt ↦ omega (arith, (h i 0 lt).1)
+  | inr le ↦ rw (get_or_past t i 0 le) (omega arith)
+]
 
 pub file_is_text : (most stop : ℕ) (bytes : List ℕ) (x : List ℕ × List ℕ) → sized_at most stop bytes ≡ Some x → IsUtf8 x.0
 file_is_text most stop bytes x e = IsUtf8-from_ascii x.0 (is_ascii_if x.0 (sized_takes most stop bytes x e).1.visible)

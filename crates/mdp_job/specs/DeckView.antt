@@ -4,11 +4,11 @@ use Rattle.mdp_job.specs.FirstDeck.{DeckData}
 
 abbrev pub deck_data : FirstDeck → DeckData
 deck_data d = record {
-    unit = d.unit;
-    top = d.top.now;
-    layer = d.layer;
-    datatype = d.datatype;
-    file = d.file.now;
-    out_layer = d.out_layer;
-    out_datatype = d.out_datatype;
-  }
+  unit = d.unit;
+  top = d.top.now;
+  layer = d.layer;
+  datatype = d.datatype;
+  file = d.file.now;
+  out_layer = d.out_layer;
+  out_datatype = d.out_datatype;
+}

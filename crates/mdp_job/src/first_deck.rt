@@ -9,7 +9,7 @@ ghost use Rattle.mdp_job.specs.DeckView.{deck_data};
 
 /// A deck of the first path, lent from its bytes.
 #[derive(Clone, Copy, Debug, PartialEq, Eq)]
-pub struct FirstDeck<'a> {
+pub(crate) struct FirstDeck<'a> {
     /// Grid steps in a micrometre, from 1 to 1,000,000.
     pub unit: u32,
     /// The name of the top cell.
@@ -71,18 +71,21 @@ fn sized_of(bytes: &[u8], most: usize, stop: u8) -> Option<(&[u8], &[u8])>
     Some((token, rest))
 }
 
+/// Whether the byte is a letter or `_`.
 fn is_letter(byte: u8) -> bool
     ensures { result ≡ is_letter byte }
 {
     byte.is_ascii_alphabetic() || byte == b'_'
 }
 
+/// Whether the byte is a letter, a digit or `_`.
 fn is_word(byte: u8) -> bool
     ensures { result ≡ is_word byte }
 {
     is_letter(byte) || byte.is_ascii_digit()
 }
 
+/// Whether each byte is a letter, a digit or `_`.
 fn are_word(bytes: &[u8]) -> bool
     ensures { result ≡ list_all is_word bytes.now }
 {
@@ -113,6 +116,7 @@ fn is_name(token: &[u8]) -> bool
     }
 }
 
+/// A name at the front, and the bytes behind its stop.
 #[tactic(auto, unfolding(crate::specs::DeckReading::name_at))]
 fn name_of(bytes: &[u8], stop: u8) -> Option<(&[u8], &[u8])>
     ensures { Gives (λ x. (x.0.now, x.1.now)) result (name_at stop bytes.now) }
@@ -125,6 +129,7 @@ fn name_of(bytes: &[u8], stop: u8) -> Option<(&[u8], &[u8])>
     }
 }
 
+/// Whether each byte is a digit.
 fn all_digits(bytes: &[u8]) -> bool
     ensures { result ≡ list_all is_ascii_digit bytes.now }
 {
@@ -162,6 +167,7 @@ fn decimal_value(digits: &[u8]) -> u64
     value
 }
 
+/// What 1 to 18 digits say, where it is at most so much.
 #[tactic(auto, unfolding(crate::specs::DeckReading::value_of))]
 fn value_of(digits: &[u8], most: u32) -> Option<u32>
     ensures { Gives (λ n. n) result (value_of most digits.now) }
@@ -188,6 +194,7 @@ fn number_of(token: &[u8], most: u32) -> Option<u32>
     }
 }
 
+/// A number at the front, and the bytes behind its stop.
 #[tactic(auto, unfolding(crate::specs::DeckReading::number_at))]
 fn number_at(bytes: &[u8], most: u32, stop: u8) -> Option<(u32, &[u8])>
     ensures { Gives (λ x. (x.0, x.1.now)) result (number_at most stop bytes.now) }
@@ -197,14 +204,21 @@ fn number_at(bytes: &[u8], most: u32, stop: u8) -> Option<(u32, &[u8])>
     Some((number, rest))
 }
 
+/// What stands at the end of a line.
+#[derive(Clone, Copy)]
+struct Pair {
+    layer: u32,
+    datatype: u32,
+}
+
 /// Layer and datatype at the end of a line.
 #[tactic(auto, unfolding(crate::specs::DeckReading::pair_at))]
-fn pair_of(bytes: &[u8]) -> Option<((u32, u32), &[u8])>
-    ensures { Gives (λ x. ((x.0.0, x.0.1), x.1.now)) result (pair_at bytes.now) }
+fn pair_of(bytes: &[u8]) -> Option<(Pair, &[u8])>
+    ensures { Gives (λ x. ((x.0.layer, x.0.datatype), x.1.now)) result (pair_at bytes.now) }
 {
     let (layer, rest) = number_at(bytes, u32::MAX, b' ')?;
     let (datatype, rest) = number_at(rest, u32::MAX, b'\n')?;
-    Some(((layer, datatype), rest))
+    Some((Pair { layer, datatype }, rest))
 }
 
 /// The unit of the line `unit N`.
@@ -231,8 +245,8 @@ fn top_of(bytes: &[u8]) -> Option<(&[u8], &[u8])>
 
 /// Name and pair of the line `layer NAME L D`.
 #[tactic(auto, unfolding(crate::specs::DeckReading::layer_at))]
-fn layer_of(bytes: &[u8]) -> Option<(&[u8], (u32, u32), &[u8])>
-    ensures { Gives (λ x. (x.0.now, (x.1.0, x.1.1), x.2.now)) result (layer_at bytes.now) }
+fn layer_of(bytes: &[u8]) -> Option<(&[u8], Pair, &[u8])>
+    ensures { Gives (λ x. (x.0.now, (x.1.layer, x.1.datatype), x.2.now)) result (layer_at bytes.now) }
 {
     let rest = behind(bytes, b"layer ")?;
     let (name, rest) = name_of(rest, b' ')?;
@@ -253,8 +267,8 @@ fn file_of(bytes: &[u8]) -> Option<(&str, &[u8])>
 
 /// File and pair of the line `write NAME FILE L D` with this name.
 #[tactic(auto, unfolding(crate::specs::DeckReading::write_at))]
-fn write_of<'a>(bytes: &'a [u8], name: &[u8]) -> Option<(&'a str, (u32, u32), &'a [u8])>
-    ensures { Gives (λ x. (x.0.now, (x.1.0, x.1.1), x.2.now)) result (write_at name.now bytes.now) }
+fn write_of<'a>(bytes: &'a [u8], name: &[u8]) -> Option<(&'a str, Pair, &'a [u8])>
+    ensures { Gives (λ x. (x.0.now, (x.1.layer, x.1.datatype), x.2.now)) result (write_at name.now bytes.now) }
 {
     let rest = behind(bytes, b"write ")?;
     let rest = behind(rest, name)?;
@@ -271,26 +285,30 @@ fn deck_of(bytes: &[u8]) -> Option<FirstDeck<'_>>
 {
     let (unit, rest) = unit_of(bytes)?;
     let (top, rest) = top_of(rest)?;
-    let (name, (layer, datatype), rest) = layer_of(rest)?;
-    let (file, (out_layer, out_datatype), rest) = write_of(rest, name)?;
+    let (name, from, rest) = layer_of(rest)?;
+    let (file, to, rest) = write_of(rest, name)?;
     if !rest.is_empty() {
         return None;
     }
     Some(FirstDeck {
         unit,
         top,
-        layer,
-        datatype,
+        layer: from.layer,
+        datatype: from.datatype,
         file,
-        out_layer,
-        out_datatype,
+        out_layer: to.layer,
+        out_datatype: to.datatype,
     })
 }
 
 /// The deck that the bytes are, where the command gives these names of layout and deck: the lines `unit N`,
 /// `top CELL`, `layer NAME L D` and `write NAME FILE L D`, where both NAMEs are the same and FILE is neither
 /// the layout nor the deck. Anything else is `None`. It takes no memory.
-pub fn read_first_deck<'a>(bytes: &'a [u8], layout: &str, deck: &str) -> Option<FirstDeck<'a>>
+pub(crate) fn read_first_deck<'a>(
+    bytes: &'a [u8],
+    layout: &str,
+    deck: &str,
+) -> Option<FirstDeck<'a>>
     // What is read is a deck that says so.
     ensures found { IfSome result (λ d. IsDeckOf bytes.now layout.now deck.now (deck_data d)) }
     // A deck is read, whatever it says.

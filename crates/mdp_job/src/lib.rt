@@ -9,8 +9,6 @@ ghost use Rattle.mdp_job.specs.FirstLayout.{IsLayoutOf};
 
 mod first_deck;
 
-pub use first_deck::{FirstDeck, read_first_deck};
-
 /// nothing yet
 pub fn nothing() -> u8
     ensures { result ≡ 0 }

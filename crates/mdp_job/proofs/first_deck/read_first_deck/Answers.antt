@@ -20,5 +20,5 @@ pub returns-clause-found : goal.returns-clause-found
 returns-clause-found c =
     let d = c.in_ok-found.found in
     deck_takes c.args.bytes.now c.args.layout.now c.args.deck.now (deck_data d) c.in_ok-found.ensures
-        (not_same d.file.now c.args.layout.now c.eq.result c.eq.ensures c.if-eq.false)
-        (not_same d.file.now c.args.deck.now c.eq-2.result c.eq-2.ensures c.if-eq-2.false)
+    (not_same d.file.now c.args.layout.now c.eq.result c.eq.ensures c.if-eq.false)
+    (not_same d.file.now c.args.deck.now c.eq-2.result c.eq-2.ensures c.if-eq-2.false)
