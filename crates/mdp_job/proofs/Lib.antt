@@ -1,2 +1,4 @@
 pub mod WalkLemmas
 pub mod CoverLemmas
+pub mod DeckParts
+pub mod DeckUnique

@@ -3,3 +3,5 @@ pub mod FirstDeck
 pub mod FirstLayout
 pub mod Inside
 pub mod Bounds
+pub mod DeckReading
+pub mod DeckView

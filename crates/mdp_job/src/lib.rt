@@ -8,6 +8,7 @@ ghost use Rattle.mdp_job.specs.FirstDeck.{IsDeckOf};
 ghost use Rattle.mdp_job.specs.FirstLayout.{IsLayoutOf};
 
 mod row_walk;
+mod first_deck;
 
 /// nothing yet
 pub fn nothing() -> u8
