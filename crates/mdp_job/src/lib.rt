@@ -7,6 +7,14 @@ ghost use Rattle.mdp_job.specs.Words.{IsFracture};
 ghost use Rattle.mdp_job.specs.FirstDeck.{IsDeckOf};
 ghost use Rattle.mdp_job.specs.FirstLayout.{IsLayoutOf};
 
+mod first_layout;
+mod layout_parts;
+mod layout_points;
+#[cfg(test)]
+mod tests;
+
+pub use first_layout::{FirstLayout, read_first_layout};
+
 /// nothing yet
 pub fn nothing() -> u8
     ensures { result ≡ 0 }
