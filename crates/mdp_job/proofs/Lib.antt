@@ -1,0 +1,3 @@
+pub mod LayoutFacts
+mod LayoutLemmas
+mod PartsLemmas

@@ -1,6 +1,6 @@
 //! The records of a layout of the first path (GDSII Stream Format Manual 6.0, record description).
 
-ghost use Rattle.std.specs.Prelude.{◌≡◌, ◌↔◌, ◌≤◌, ◌+◌, ℕ, List, length, IfOk, IfSome, IfNone, IsTrue};
+ghost use Rattle.std.specs.Prelude.{◌≡◌, ◌↔◌, ◌≤◌, ◌+◌, ℕ, List, length, All, IfOk, IfSome, IfNone, IsTrue};
 ghost use Rattle.gds_record.specs.declared.records.Record.{Record};
 ghost use Rattle.gds_record.specs.Numbers.{number_at};
 ghost use Rattle.mdp_job.specs.FirstLayout.{LayoutRecords, listed, content_of_record};
@@ -38,6 +38,12 @@ pub(crate) struct LayoutParts {
     pub xy: Record,
 }
 
+fn has_kind(record: Record, kind: Kind) -> bool
+    ensures { IsTrue result ↔ (record.kind ≡ kind) }
+{
+    record.kind == kind
+}
+
 /// All records of the file, where they have a layout's kinds.
 fn layout_records(alloc: Global, bytes: &[u8]) -> Result<Option<Vec<Record>>, NoMemory>
     ensures found { IfOk result (λ o. IfSome o (λ rs. IsLayoutRun bytes.now rs.items)) }
@@ -49,7 +55,7 @@ fn layout_records(alloc: Global, bytes: &[u8]) -> Result<Option<Vec<Record>>, No
         let Ok(record) = record_at(bytes, at) else {
             return Ok(None);
         };
-        if record.kind != kind {
+        if !has_kind(record, kind) {
             return Ok(None);
         }
         at = record.next;
@@ -86,14 +92,20 @@ pub(crate) fn find_parts(alloc: Global, bytes: &[u8]) -> Result<Option<LayoutPar
     Ok(Some(parts_of(&records)))
 }
 
+fn are_nuls(bytes: &[u8]) -> bool
+    ensures { IsTrue result ↔ All (λ byte. byte ≡ 0) bytes.now }
+{
+    bytes.iter().all(|byte| *byte == 0)
+}
+
 /// Whether the content is this name, with any number of NULs behind it.
 fn is_padded(content: &[u8], name: &[u8]) -> bool
     ensures { IsTrue result ↔ IsPadded content.now name.now }
 {
-    match content.strip_prefix(name) {
-        Some(padding) => padding.iter().all(|byte| *byte == 0),
-        None => false,
+    if !content.starts_with(name) {
+        return false;
     }
+    are_nuls(&content[name.len()..])
 }
 
 /// Whether UNITS and STRNAME are those of a deck with this unit and top cell.

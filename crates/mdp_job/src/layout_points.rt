@@ -1,6 +1,7 @@
 //! The points of a layout of the first path, and what must hold of its polygon.
 
 ghost use Rattle.std.specs.Prelude.{◌≡◌, ◌↔◌, ◌≤◌, ◌+◌, ◌*◌, ◌-◌, ℕ, pos, neg_ℤ, ◌-ℤ◌, ◌+ℤ◌, ◌≤ℤ◌, length, All, IfOk, IfSome, IfNone, IsTrue};
+ghost use Rattle.std.specs.Ordering.{int_eq};
 ghost use Rattle.half_grid.specs.Halves.{twice};
 ghost use Rattle.half_grid.specs.Outlines.{IsClosed};
 ghost use Rattle.half_grid.specs.Winding.{edges_of};
@@ -58,11 +59,31 @@ fn sum(point: Point) -> i128
     i128::from(point.x) + i128::from(point.y)
 }
 
+/// Whether the moves from a to b in x and in y are equal.
+fn has_equal_moves(a: Point, b: Point) -> bool
+    ensures { result ≡ int_eq (a.x -ℤ a.y) (b.x -ℤ b.y) }
+{
+    difference(a) == difference(b)
+}
+
+/// Whether the moves from a to b in x and in y are each other's opposites.
+fn has_opposite_moves(a: Point, b: Point) -> bool
+    ensures { result ≡ int_eq (a.x +ℤ a.y) (b.x +ℤ b.y) }
+{
+    sum(a) == sum(b)
+}
+
 /// Whether an edge is horizontal, vertical or has equal absolute moves.
 fn is_octilinear(a: Point, b: Point) -> bool
     ensures { IsTrue result ↔ IsOctilinear (a, b) }
 {
-    a.y == b.y || a.x == b.x || difference(a) == difference(b) || sum(a) == sum(b)
+    if a.y == b.y || a.x == b.x {
+        return true;
+    }
+    if has_equal_moves(a, b) {
+        return true;
+    }
+    has_opposite_moves(a, b)
 }
 
 /// Whether each edge is horizontal, vertical or has equal absolute moves.
