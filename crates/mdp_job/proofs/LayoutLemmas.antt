@@ -1,8 +1,9 @@
 -- The steps of the loops that read a layout, and its names.
-use Rattle.std.proofs.Common.{◌≡◌, ◌≢◌, ◌↔◌, ◌⊎◌, inl, inr, Bool, true, false, IsTrue, ℕ, zero, suc, ◌+◌, ◌*◌, ◌-◌, ◌/◌, ◌<◌, ◌≤◌, ℤ, ◌+ℤ◌, ◌-ℤ◌, List, [], ◌∷◌, ◌++◌, length, map, take, drop, replicate, get_or, All, refl, sym, ap, subst, ◌∙◌, arith, add-one, append_assoc}
+use Rattle.std.proofs.Common.{◌≡◌, ◌≢◌, ◌↔◌, ◌⊎◌, inl, inr, Bool, true, false, IsTrue, ℕ, zero, suc, ◌+◌, ◌*◌, ◌-◌, ◌/◌, ◌<◌, ◌≤◌, ℤ, ◌+ℤ◌, ◌-ℤ◌, FitsSigned, to_z, of_z, List, [], ◌∷◌, ◌++◌, length, map, take, drop, replicate, get_or, All, refl, sym, ap, subst, ◌∙◌, arith, add-one, append_assoc}
+use mir.Syntax.{w64}
 use Rattle.std.proofs.Math.Seq.{drop-cons, drop-length, drop-append_seam}
 use Rattle.std.proofs.lemmas.Bool.Decides.{Decides-int_eq}
-use Rattle.std.proofs.lemmas.Int.{ints}
+use Rattle.std.proofs.lemmas.Int.{ints, to_z-of_z}
 use Rattle.std.proofs.lemmas.List.{take_more}
 use Rattle.std.proofs.lemmas.List.Elements.{All-nil, All-cons, All-head, All-tail, All-same, All-replicate}
 use Rattle.std.specs.Ordering.{int_eq}
@@ -86,6 +87,14 @@ only_end bytes at from = no_more bytes at from.rest from.run from.kinds_are
 
 -- ---- points
 
+-- a point as it was read
+pub point_read : (x y a b : ℤ) → FitsSigned w64 x → FitsSigned w64 y → x ≡ a → y ≡ b
+    → (let p : Point = record { x = to_z w64 (of_z w64 x); y = to_z w64 (of_z w64 y) } in p) ≡ record { x = a; y = b }
+point_read x y a b x_fits y_fits x_is y_is =
+    let left : to_z w64 (of_z w64 x) ≡ a = to_z-of_z w64 x x_fits ∙ x_is in
+    let up : to_z w64 (of_z w64 y) ≡ b = to_z-of_z w64 y y_fits ∙ y_is in
+    cc
+
 points_next : (bytes : List ℕ) (at i rest : ℕ) (done whole : List Point) (p : Point)
     → p ≡ record { x = twice (signed_at 4 bytes (at + 8 * i)); y = twice (signed_at 4 bytes (at + 8 * i + 4)) }
     → done ++ points_at bytes (at + 8 * i) (suc rest) ≡ whole
@@ -163,7 +172,7 @@ moves_opposite : (a b : Point) → a.x +ℤ a.y ≡ b.x +ℤ b.y → b.x -ℤ a.
 moves_opposite a b sums = omega (arith, ints)
 
 true_false : (b : Bool) → b ≡ true → b ≡ false → ⊥
-true_false b yes no = cc
+true_false b t f = cc
 
 octilinear_sums : (a b : Point) → ¬ (a.y ≡ b.y) → ¬ (a.x ≡ b.x) → ¬ (a.x -ℤ a.y ≡ b.x -ℤ b.y) → IsOctilinear (a, b)
     → a.x +ℤ a.y ≡ b.x +ℤ b.y
@@ -194,12 +203,11 @@ zeros_replicate (b ∷ bytes) zeros =
     ap (λ c. c ∷ bytes) head ∙ ap (λ t. 0 ∷ t) tail
 
 -- a content that begins with the name is the name and NULs where the rest is NULs
-pub padded_name : (content name : List ℕ) → content ≡ name ++ drop (length name) content
-    → All (λ b. b ≡ 0) (drop (length name) content) ↔ IsPadded content name
-padded_name content name begins = (
-  λ zeros. (length (drop (length name) content), begins ∙ ap (λ t. name ++ t) (zeros_replicate (drop (length name) content) zeros)),
+pub padded_name : (content name padding : List ℕ) → content ≡ name ++ padding → All (λ b. b ≡ 0) padding ↔ IsPadded content name
+padded_name content name padding begins = (
+  λ zeros. (length padding, begins ∙ ap (λ t. name ++ t) (zeros_replicate padding zeros)),
   λ padded.
-      let same : drop (length name) content ≡ replicate padded.0 0 =
-      ap (drop (length name)) padded.1 ∙ drop-append_seam name (replicate padded.0 0) in
+      let same : padding ≡ replicate padded.0 0 =
+      sym (drop-append_seam name padding) ∙ ap (drop (length name)) (sym begins ∙ padded.1) ∙ drop-append_seam name (replicate padded.0 0) in
       All-same (λ b. b ≡ 0) _ _ same (All-replicate (λ b. b ≡ 0) padded.0 0 refl),
 )

@@ -98,7 +98,7 @@ pub record PartsLie (bytes : List ℕ) (p : LayoutParts) : Type 0 where
   pub name : (p.name.first ≤ p.name.next) × (p.name.next ≤ length bytes)
   pub layer : p.layer.first + 2 ≤ length bytes
   pub datatype : p.datatype.first + 2 ≤ length bytes
-  pub xy : p.xy.next ≤ length bytes
+  pub xy : (p.xy.first ≤ p.xy.next) × (p.xy.next ≤ length bytes)
 
 -- a record of a kind whose content has n bytes
 exact_content : (bytes : List ℕ) (at : ℕ) (r : Record) (k : Kind) (n : ℕ) → IsRecordAt bytes at r → r.kind ≡ k
@@ -127,7 +127,7 @@ records_lie bytes r p =
       name = (omega (arith, name.first, name.next, name.whole.sized.least), record_within bytes _ r.str_name name);
       layer = holds_content bytes _ r.layer 2 layer (exact_content bytes _ r.layer Layer 2 layer layer_kind refl);
       datatype = holds_content bytes _ r.datatype 2 datatype (exact_content bytes _ r.datatype DataType 2 datatype datatype_kind refl);
-      xy = record_within bytes _ r.xy xy;
+      xy = (omega (arith, xy.first, xy.next, xy.whole.sized.least), record_within bytes _ r.xy xy);
     }
 
 pub parts_lie : (bytes : List ℕ) (p : LayoutParts) → ArePartsOf bytes p → PartsLie bytes p

@@ -102,10 +102,10 @@ fn are_nuls(bytes: &[u8]) -> bool
 fn is_padded(content: &[u8], name: &[u8]) -> bool
     ensures { IsTrue result ↔ IsPadded content.now name.now }
 {
-    if !content.starts_with(name) {
-        return false;
+    match content.strip_prefix(name) {
+        Some(padding) => are_nuls(padding),
+        None => false,
     }
-    are_nuls(&content[name.len()..])
 }
 
 /// Whether UNITS and STRNAME are those of a deck with this unit and top cell.

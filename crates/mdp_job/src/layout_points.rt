@@ -18,6 +18,10 @@ use std::alloc::Global;
 /// The bytes of a point in an XY record.
 const POINT: usize = 8;
 
+/// The fewest and the most points that a polygon may have.
+const FEWEST: usize = 4;
+const MOST: usize = 8191;
+
 /// How far a point may lie from 0 in x and in y, in half units: 2,048 grid steps.
 const FARTHEST: i64 = 4096;
 
@@ -136,6 +140,13 @@ fn are_near_origin(points: &[Point]) -> bool
     points.iter().all(|point| is_near_origin(*point))
 }
 
+/// Whether a polygon may have so many points.
+fn is_count(count: usize) -> bool
+    ensures { IsTrue result ↔ ((4 ≤ count) × (count ≤ 8191)) }
+{
+    FEWEST <= count && count <= MOST
+}
+
 /// Whether the points are closed, octilinear and near the origin.
 fn is_polygon(points: &[Point]) -> bool
     ensures { IsTrue result ↔ IsPolygon points.now }
@@ -146,12 +157,13 @@ fn is_polygon(points: &[Point]) -> bool
 /// The points of an XY record, in half units, where they are a layout's polygon: 4 to 8,191 points, the last of which
 /// is the first, with octilinear edges, near the origin.
 pub(crate) fn read_outline(alloc: Global, bytes: &[u8], xy: Record) -> Result<Option<Vec<Point>>, NoMemory>
-    requires { xy.next ≤ length bytes.now }
+    requires behind_head { xy.first ≤ xy.next }
+    requires within { xy.next ≤ length bytes.now }
     ensures found { IfOk result (λ o. IfSome o (λ v. (v.items ≡ points_of_record bytes.now xy) × IsOutline v.items)) }
     ensures none { IfOk result (λ o. IfNone o (IsOutline (points_of_record bytes.now xy) → ⊥)) }
 {
-    let count = xy.next.saturating_sub(xy.first) / POINT;
-    if !(4..=8191).contains(&count) {
+    let count = (xy.next - xy.first) / POINT;
+    if !is_count(count) {
         return Ok(None);
     }
     let points = read_points(alloc, bytes, xy.first, count)?;

@@ -11,4 +11,4 @@ returns-in_default-clause-none c p parts =
 pub returns-clause-found : goal.returns-clause-found
 returns-clause-found c =
     let run = rw c.in-Some.is at c.in_ok-records.ensures.found in
-    parts_found c.args.bytes.now c.in-Some.records.items c.parts_of.result run ?
+    parts_found c.args.bytes.now c.in-Some.records.items c.parts_of.result run (λ r same. let value = c.deref.ensures.value in c.parts_of.ensures r (cc))

@@ -1,14 +1,13 @@
-use Rattle.std.proofs.Common.{◌≡◌, ◌<◌, ◌+◌, ◌*◌, ◌++◌, ◌∷◌, [], pos, to_z, FitsSigned, rules}
-use Rattle.half_grid.specs.Halves.{twice}
-use Rattle.gds_record.specs.Numbers.{signed_at}
-use Rattle.half_grid.specs.declared.plane.Point.{Point}
-use Rattle.mdp_job.specs.FirstLayout.{points_at}
-use Rattle.mdp_job.proofs.LayoutLemmas.{points_step}
+use Rattle.std.proofs.Common.{FitsSigned, rules}
+use mir.Syntax.{w64}
+use Rattle.mdp_job.proofs.LayoutLemmas.{point_read, points_step}
 use Rattle.mdp_job.proofs.layout_points.read_points.Goals as goal
 
 pub loop-i-preserved : goal.loop-i-preserved
 loop-i-preserved c =
-    let items = c.in_ok-push.ensures.items in
-    let x = c.twice_int4.ensures in
-    let inside : c.loop-i.i < c.args.count = c.loop-i-test.true in
-    ?
+    let x_fits : FitsSigned w64 c.twice_int4.result = search rules in
+    let y_fits : FitsSigned w64 c.twice_int4-in-loop-i.result = search rules in
+    let point = point_read c.twice_int4.result c.twice_int4-in-loop-i.result _ _ x_fits y_fits c.twice_int4.ensures c.twice_int4-in-loop-i.ensures in
+    rw c.in_ok-push.ensures.items (
+      points_step c.args.bytes.now c.args.at c.loop-i.i c.args.count c.loop-i.points.items _ _ c.loop-i-test.true point c.loop-i.invariant
+    )
