@@ -2,3 +2,6 @@ pub mod WalkLemmas
 pub mod CoverLemmas
 pub mod DeckParts
 pub mod DeckUnique
+pub mod LayoutFacts
+mod LayoutLemmas
+mod PartsLemmas

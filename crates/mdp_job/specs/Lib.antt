@@ -5,3 +5,5 @@ pub mod Inside
 pub mod Bounds
 pub mod DeckReading
 pub mod DeckView
+pub mod LayoutParts
+pub mod LayoutView

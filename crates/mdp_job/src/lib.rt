@@ -9,6 +9,13 @@ ghost use Rattle.mdp_job.specs.FirstLayout.{IsLayoutOf};
 
 mod row_walk;
 mod first_deck;
+mod first_layout;
+mod layout_parts;
+mod layout_points;
+#[cfg(test)]
+mod tests;
+
+pub use first_layout::{FirstLayout, read_first_layout};
 
 /// nothing yet
 pub fn nothing() -> u8
