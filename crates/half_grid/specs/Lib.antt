@@ -7,3 +7,5 @@ pub mod Winding
 pub mod Trapezoids
 pub mod Sides
 pub mod RowLaws
+pub mod Edges
+pub mod Windows

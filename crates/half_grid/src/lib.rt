@@ -4,12 +4,16 @@
 //! All numbers are half units: a layout coordinate of `n` grid steps is `2n`. Nothing here takes memory.
 #![tactic(auto)]
 
+mod border;
+mod extent;
 mod laws;
 mod outline;
 mod plane;
 mod rows;
 mod shot;
 
+pub use border::{Edge, Operand};
+pub use extent::{Frame, Window};
 pub use laws::row_laws;
 pub use outline::{line_through, winding_at};
 pub use plane::{Line, Point, Side, Strips, Tile};
