@@ -36,6 +36,14 @@ impl Model for Edge {
     ghost inverse = { λ e. record { y0 = e.y0; y1 = e.y1; line = e.line; up = e.up; operand = e.operand } };
 }
 
+// Whether the line's point at y is within reach.
+fn has_end(line: Line, y: i64) -> bool
+    requires { IsWithinReach y }
+    ensures { IsTrue result ↔ IsWithinReach (x_on line y) }
+{
+    x_within(line, y).is_some()
+}
+
 impl Edge {
     ghost use Rattle.half_grid.specs.Edges.{IsEdge, edge_parts, left_edge, right_edge};
 
@@ -47,10 +55,7 @@ impl Edge {
         if !is_within_reach(y0) || !is_within_reach(y1) || y1 <= y0 {
             return None;
         }
-        if x_within(line, y0).is_none() {
-            return None;
-        }
-        if x_within(line, y1).is_none() {
+        if !has_end(line, y0) || !has_end(line, y1) {
             return None;
         }
         Some(Edge {
