@@ -5,3 +5,4 @@ pub mod LineLemmas
 pub mod WindingLemmas
 pub mod ReachLemmas
 pub mod SideLemmas
+pub mod RingLemmas

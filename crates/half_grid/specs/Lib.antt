@@ -9,3 +9,4 @@ pub mod Sides
 pub mod RowLaws
 pub mod Edges
 pub mod Windows
+pub mod Quads

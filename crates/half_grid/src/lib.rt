@@ -9,6 +9,7 @@ mod extent;
 mod laws;
 mod outline;
 mod plane;
+mod ring;
 mod rows;
 mod shot;
 
@@ -17,5 +18,6 @@ pub use extent::{Frame, Window};
 pub use laws::row_laws;
 pub use outline::{line_through, winding_at};
 pub use plane::{Line, Point, Side, Strips, Tile};
+pub use ring::Quad;
 pub use rows::{diagonal_of, line_at, number_of, place_of, strips, x_at};
 pub use shot::{Limits, REACH, Trap, covers, fits};
