@@ -6,3 +6,4 @@ pub mod WindingLemmas
 pub mod ReachLemmas
 pub mod SideLemmas
 pub mod RingLemmas
+pub mod SizeLemmas

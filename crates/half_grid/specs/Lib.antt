@@ -10,3 +10,4 @@ pub mod RowLaws
 pub mod Edges
 pub mod Windows
 pub mod Quads
+pub mod Sizes

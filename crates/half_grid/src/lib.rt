@@ -4,6 +4,7 @@
 //! All numbers are half units: a layout coordinate of `n` grid steps is `2n`. Nothing here takes memory.
 #![tactic(auto)]
 
+mod amount;
 mod border;
 mod extent;
 mod laws;
@@ -13,6 +14,7 @@ mod ring;
 mod rows;
 mod shot;
 
+pub use amount::size_of;
 pub use border::{Edge, Operand};
 pub use extent::{Frame, Window};
 pub use laws::row_laws;
