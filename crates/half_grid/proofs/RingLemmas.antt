@@ -93,9 +93,15 @@ flat_side t a b e = crossing_none t a b (rw (← e) (no_row t a.y)) (rw (← e) 
 -- the winding of the corners: one where the tile is beyond the left line, less one where it is beyond the right line
 pub ring_winding : (z : Trapezoid) (t : Tile) → z.y0 <ℤ z.y1 → winding (ring_of (corners_of z)) t ≡ pos (count_one (is_beyond t z.left z.y0 z.y1)) -ℤ pos (count_one (is_beyond t z.right z.y0 z.y1))
 ring_winding z t h =
-    omega (arith, ints, winding_along t (corners_of z).a ((corners_of z).b ∷ (corners_of z).c ∷ (corners_of z).d ∷ (corners_of z).a ∷ []),
-    side_up t z.left z.y0 z.y1 h, side_down t z.right z.y0 z.y1 h,
-    flat_side t (point_on z.left z.y1) (point_on z.right z.y1) refl, flat_side t (point_on z.right z.y0) (point_on z.left z.y0) refl)
+    omega (
+      arith,
+      ints,
+      winding_along t (corners_of z).a ((corners_of z).b ∷ (corners_of z).c ∷ (corners_of z).d ∷ (corners_of z).a ∷ []),
+      side_up t z.left z.y0 z.y1 h,
+      side_down t z.right z.y0 z.y1 h,
+      flat_side t (point_on z.left z.y1) (point_on z.right z.y1) refl,
+      flat_side t (point_on z.right z.y0) (point_on z.left z.y0) refl,
+    )
 
 same_by : (p q l r : Bool) (z : Trapezoid) (t : Tile) → int_le z.y0 t.j ≡ p → int_lt t.j z.y1 ≡ q
     → int_le (first_strip z.left) (strip_along z.left t) ≡ l → int_le (first_strip z.right) (strip_along z.right t) ≡ r
@@ -105,7 +111,11 @@ same_by true false l r z t ep eq el er legal apart = refl
 same_by true true true true z t ep eq el er legal apart = refl
 same_by true true false false z t ep eq el er legal apart = refl
 same_by true true true false z t ep eq el er legal apart = absurd (apart (record {
-  above_bottom = int_le_true _ _ ep; below_top = int_lt_true _ _ eq; right_of_left = int_le_true _ _ el; left_of_right = int_le_false _ _ er }))
+  above_bottom = int_le_true _ _ ep;
+  below_top = int_lt_true _ _ eq;
+  right_of_left = int_le_true _ _ el;
+  left_of_right = int_le_false _ _ er;
+}))
 same_by true true false true z t ep eq el er legal apart =
     let right : place z.right t.j ≤ℤ number_in_row t = place_at_most t z.right (int_le_true _ _ er) in
     let places : place z.left t.j <ℤ place z.right t.j = legal_places z t.j legal (int_le_true _ _ ep) (int_lt_true _ _ eq) in

@@ -13,6 +13,8 @@ mod plane;
 mod ring;
 mod rows;
 mod shot;
+#[cfg(test)]
+mod tests;
 
 pub use amount::size_of;
 pub use border::{Edge, Operand};

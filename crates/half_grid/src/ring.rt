@@ -48,10 +48,22 @@ impl Quad {
     {
         let (bottom, top) = (trap.y0(), trap.y1());
         Quad::new(
-            Point { x: trap.bottom_left(), y: bottom },
-            Point { x: trap.top_left(), y: top },
-            Point { x: trap.top_right(), y: top },
-            Point { x: trap.bottom_right(), y: bottom },
+            Point {
+                x: trap.bottom_left(),
+                y: bottom,
+            },
+            Point {
+                x: trap.top_left(),
+                y: top,
+            },
+            Point {
+                x: trap.top_right(),
+                y: top,
+            },
+            Point {
+                x: trap.bottom_right(),
+                y: bottom,
+            },
         )
     }
 
