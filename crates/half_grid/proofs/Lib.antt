@@ -7,3 +7,5 @@ pub mod ReachLemmas
 pub mod SideLemmas
 pub mod RingLemmas
 pub mod SizeLemmas
+pub mod MeetingLemmas
+pub mod EdgeLemmas

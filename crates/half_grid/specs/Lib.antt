@@ -11,3 +11,7 @@ pub mod Edges
 pub mod Windows
 pub mod Quads
 pub mod Sizes
+pub mod Nearness
+pub mod Meetings
+pub mod LineLaws
+pub mod EdgeLaws
