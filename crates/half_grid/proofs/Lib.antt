@@ -9,3 +9,4 @@ pub mod RingLemmas
 pub mod SizeLemmas
 pub mod MeetingLemmas
 pub mod EdgeLemmas
+pub mod JoinedLemmas

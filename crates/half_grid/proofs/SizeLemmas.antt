@@ -86,14 +86,14 @@ next_number : (t : Tile) → number_in_row (next_tile t) ≡ number_in_row t +�
 next_number t = next_by_side t.i t.j t.side
 
 -- the tile of this number in the row
-abbrev tile_with : ℤ → ℤ → Tile
+abbrev pub tile_with : ℤ → ℤ → Tile
 tile_with n j = record { i = half n; j = j; side = if is_even n then Left else Right }
 
 tile_with_by : (b : Bool) (n j : ℤ) → is_even n ≡ b → number_in_row (tile_with n j) ≡ n
 tile_with_by true n j e = rw e (omega (arith, ints, half_even n e))
 tile_with_by false n j e = rw e (omega (arith, ints, half_odd n e))
 
-tile_with_number : (n j : ℤ) → number_in_row (tile_with n j) ≡ n
+pub tile_with_number : (n j : ℤ) → number_in_row (tile_with n j) ≡ n
 tile_with_number n j = tile_with_by _ n j refl
 
 -- so many tiles of the row, from this one on
@@ -136,7 +136,7 @@ abbrev pub natural : ℤ → ℕ
 natural (pos n) = n
 natural (negsuc n) = 0
 
-natural_is : (z : ℤ) → pos 0 ≤ℤ z → pos (natural z) ≡ z
+pub natural_is : (z : ℤ) → pos 0 ≤ℤ z → pos (natural z) ≡ z
 natural_is (pos n) h = refl
 natural_is (negsuc n) h = absurd (omega (arith, ints, h))
 

@@ -15,3 +15,4 @@ pub mod Nearness
 pub mod Meetings
 pub mod LineLaws
 pub mod EdgeLaws
+pub mod JoinedLists

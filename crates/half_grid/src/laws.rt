@@ -1,6 +1,7 @@
 ghost use Rattle.half_grid.specs.RowLaws.{RightByPlace, LeftByPlace, StripsNameTile, NumberNamesTile, PlaceNamesLine, LegalPlaces};
 ghost use Rattle.half_grid.specs.LineLaws.{PlacesDiffer, OrderChanges, NumbersOfRow, LineWithinReach};
 ghost use Rattle.half_grid.specs.EdgeLaws.{WindingsAdd, OneInside, NoneOutside, WindingIsCount, OperandsApart};
+ghost use Rattle.half_grid.specs.JoinedLists.{OneJoinedList};
 
 /// The arithmetic of one row, on which everything above stands: it holds of all tiles and lines, and costs nothing.
 pub fn row_laws()
@@ -28,4 +29,9 @@ pub fn edge_laws()
     ensures none_outside { NoneOutside }
     ensures winding_is_count { WindingIsCount }
     ensures operands_apart { OperandsApart }
+{}
+
+/// A window and a set of tiles have at most one joined list: it holds of all lists, and costs nothing.
+pub fn joined_law()
+    ensures { OneJoinedList }
 {}

@@ -21,7 +21,7 @@ mod tests;
 pub use amount::size_of;
 pub use border::{Edge, Operand};
 pub use extent::{Frame, Window};
-pub use laws::{edge_laws, line_laws, row_laws};
+pub use laws::{edge_laws, joined_law, line_laws, row_laws};
 pub use meet::meeting_y;
 pub use neighbours::near;
 pub use outline::{line_through, winding_at};
