@@ -7,3 +7,8 @@ pub mod ReachLemmas
 pub mod SideLemmas
 pub mod OutlineLemmas
 pub mod OneRow
+pub mod RingLemmas
+pub mod SizeLemmas
+pub mod MeetingLemmas
+pub mod EdgeLemmas
+pub mod JoinedLemmas

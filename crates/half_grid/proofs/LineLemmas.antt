@@ -39,7 +39,7 @@ pub line_of_no : (a b : Point) → int_eq a.y b.y ≡ false → int_eq a.x b.x �
 unfolding line_of
 line_of_no a b ey ex er ef = rw (ey, ex, er, ef) refl
 
-and_both : (p q : Bool) → p && q ≡ true → (p ≡ true) × (q ≡ true)
+pub and_both : (p q : Bool) → p && q ≡ true → (p ≡ true) × (q ≡ true)
 and_both true q h = (refl, h)
 and_both false q h = absurd (let no : ⊥ = cc in no)
 

@@ -8,3 +8,12 @@ pub mod Outlines
 pub mod Trapezoids
 pub mod Sides
 pub mod RowLaws
+pub mod Edges
+pub mod Windows
+pub mod Quads
+pub mod Sizes
+pub mod Nearness
+pub mod Meetings
+pub mod LineLaws
+pub mod EdgeLaws
+pub mod JoinedLists

@@ -41,14 +41,14 @@ impl Model for Trap {
     ghost inverse = { λ z. record { y0 = z.y0; y1 = z.y1; left = z.left; right = z.right } };
 }
 
-fn is_within_reach(z: i64) -> bool
+pub(crate) fn is_within_reach(z: i64) -> bool
     ensures { IsTrue result ↔ IsWithinReach z }
 {
     -REACH <= z && z <= REACH
 }
 
 // The X of the line at y, where it is within reach.
-fn x_within(line: Line, y: i64) -> Option<i64>
+pub(crate) fn x_within(line: Line, y: i64) -> Option<i64>
     requires { IsWithinReach y }
     ensures { SomeIff result (IsWithinReach (x_on line y)) (x_on line y) }
 {
