@@ -1,18 +1,16 @@
 -- What follows from what a layout says, for those who build on it.
-use Rattle.std.proofs.Common.{◌≡◌, ◌⊎◌, inl, inr, ℕ, zero, suc, ℤ, pos, ◌+ℤ◌, ◌-ℤ◌, ◌+◌, ◌-◌, ◌/◌, List, [], ◌∷◌, length, All, refl, sym, ap, subst, ◌∙◌, arith}
+use Rattle.std.proofs.Common.{◌≡◌, inl, inr, ℕ, zero, suc, ℤ, ◌+ℤ◌, ◌-ℤ◌, ◌+◌, ◌-◌, ◌/◌, List, [], ◌∷◌, length, All, refl, sym, ap, subst, ◌∙◌, arith}
 use Rattle.std.proofs.lemmas.Int.{ints}
 use Rattle.std.proofs.lemmas.List.Elements.{All-nil, All-cons, All-head, All-tail}
 use Rattle.gds_record.specs.Numbers.{number_at, signed_at}
 use Rattle.gds_record.specs.declared.records.Record.{Record}
 use Rattle.gds_record.proofs.ForCallers.{run_unique}
 use Rattle.half_grid.specs.Halves.{twice}
-use Rattle.half_grid.specs.Lines.{Passes}
 use Rattle.half_grid.specs.Outlines.{ShareLine, IsOnGrid, HasGridEdges}
 use Rattle.half_grid.specs.Winding.{edges_of}
 use Rattle.half_grid.specs.declared.plane.Point.{Point}
-use Rattle.half_grid.specs.declared.plane.Line.{Line}
 use Rattle.half_grid.specs.declared.plane.Line.TheVariants.{Upright, Rising, Falling}
-use Rattle.mdp_job.specs.FirstLayout.{LayoutData, LayoutRecords, listed, points_at, IsOctilinear, IsLayoutOf}
+use Rattle.mdp_job.specs.FirstLayout.{LayoutData, listed, points_at, IsOctilinear, IsLayoutOf}
 
 -- a point whose coordinates are twice whole numbers
 record IsEven (p : Point) : Type 0 where

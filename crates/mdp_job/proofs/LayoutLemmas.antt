@@ -1,15 +1,14 @@
 -- The steps of the loops that read a layout, and its names.
-use Rattle.std.proofs.Common.{◌≡◌, ◌≢◌, ◌↔◌, ◌⊎◌, inl, inr, Bool, true, false, IsTrue, ℕ, zero, suc, ◌+◌, ◌*◌, ◌-◌, ◌/◌, ◌<◌, ◌≤◌, ℤ, ◌+ℤ◌, ◌-ℤ◌, FitsSigned, to_z, of_z, List, [], ◌∷◌, ◌++◌, length, map, take, drop, replicate, get_or, All, refl, sym, ap, subst, ◌∙◌, arith, add-one, append_assoc}
+use Rattle.std.proofs.Common.{◌≡◌, ◌↔◌, inl, inr, Bool, true, false, IsTrue, ℕ, zero, suc, ◌+◌, ◌*◌, ◌-◌, ◌/◌, ◌<◌, ◌≤◌, ℤ, ◌+ℤ◌, ◌-ℤ◌, FitsSigned, to_z, of_z, List, [], ◌∷◌, ◌++◌, length, map, take, drop, replicate, get_or, All, refl, sym, ap, subst, ◌∙◌, arith, add-one, append_assoc}
 use mir.Syntax.{w64}
-use Rattle.std.proofs.Math.Seq.{drop-cons, drop-length, drop-append_seam}
+use Rattle.std.proofs.Math.Seq.{drop-cons, drop-append_seam}
 use Rattle.std.proofs.lemmas.Bool.Decides.{Decides-int_eq}
 use Rattle.std.proofs.lemmas.Int.{ints, to_z-of_z}
 use Rattle.std.proofs.lemmas.List.{take_more}
-use Rattle.std.proofs.lemmas.List.Elements.{All-nil, All-cons, All-head, All-tail, All-same, All-replicate}
+use Rattle.std.proofs.lemmas.List.Elements.{All-cons, All-head, All-tail, All-same, All-replicate}
 use Rattle.std.specs.Ordering.{int_eq}
 use Rattle.gds_record.specs.Framing.{IsRecordAt}
-use Rattle.gds_record.specs.Heads.{content_of, IsAllowed}
-use Rattle.gds_record.specs.Numbers.{signed_at, number_at}
+use Rattle.gds_record.specs.Numbers.{signed_at}
 use Rattle.gds_record.specs.Runs.{IsRun}
 use Rattle.gds_record.specs.declared.kinds.Kind.{Kind}
 use Rattle.gds_record.specs.declared.records.Record.{Record}
@@ -17,7 +16,7 @@ use Rattle.gds_record.proofs.ForCallers.{record_unique, run_push}
 use Rattle.half_grid.specs.Halves.{twice}
 use Rattle.half_grid.specs.Winding.{edges_of}
 use Rattle.half_grid.specs.declared.plane.Point.{Point}
-use Rattle.mdp_job.specs.FirstLayout.{layout_kinds, points_at, IsOctilinear}
+use Rattle.mdp_job.specs.FirstLayout.{points_at, IsOctilinear}
 use Rattle.mdp_job.specs.LayoutParts.{IsLayoutRun, IsPadded, IsOutline, IsPolygon, points_of_record}
 
 -- ---- records
@@ -130,8 +129,7 @@ pub outline_of_count : (bytes : List ℕ) (r : Record) (count : ℕ) (points : L
     → 4 ≤ count → count ≤ 8191 → points ≡ points_at bytes r.first count → IsPolygon points
     → (points ≡ points_of_record bytes r) × IsOutline points
 outline_of_count bytes r count points count_is least most same polygon =
-    let size : count ≡ length points = sym (length_points_at bytes r.first count) ∙ ap length (sym same) in
-    (
+    let size : count ≡ length points = sym (length_points_at bytes r.first count) ∙ ap length (sym same) in (
       same ∙ ap (points_at bytes r.first) count_is,
       record { count = (subst (λ n. 4 ≤ n) size least, subst (λ n. n ≤ 8191) size most); polygon = polygon },
     )
@@ -187,8 +185,7 @@ pub octilinear_last : (a b : Point) (equal opposite : Bool) → equal ≡ int_eq
     → (IsTrue opposite → IsOctilinear (a, b)) × (IsOctilinear (a, b) → IsTrue opposite)
 octilinear_last a b equal opposite equal_is opposite_is level upright not_equal =
     let e = Decides-int_eq (a.x -ℤ a.y) (b.x -ℤ b.y) in
-    let o = Decides-int_eq (a.x +ℤ a.y) (b.x +ℤ b.y) in
-    (
+    let o = Decides-int_eq (a.x +ℤ a.y) (b.x +ℤ b.y) in (
       λ t. inr (inr (inr (moves_opposite a b (o.0 (sym opposite_is ∙ t))))),
       λ oct. opposite_is ∙ o.1 (octilinear_sums a b level upright (λ d. true_false equal (equal_is ∙ e.1 d) not_equal) oct),
     )

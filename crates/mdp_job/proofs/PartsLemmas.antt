@@ -1,25 +1,27 @@
 -- The records of a layout that are looked at: that they are one, where they lie, and what they say.
-use Rattle.std.proofs.Common.{◌≡◌, ℕ, ◌+◌, ◌-◌, ◌/◌, ◌≤◌, List, [], ◌∷◌, length, map, refl, sym, ap, subst, ◌∙◌, arith}
-use Rattle.gds_record.specs.Framing.{IsRecordAt}
-use Rattle.gds_record.specs.Heads.{content_of, IsAllowed}
-use Rattle.gds_record.specs.Numbers.{number_at}
-use Rattle.gds_record.specs.Runs.{IsRun}
-use Rattle.gds_record.specs.declared.kinds.Kind.{Kind}
-use Rattle.gds_record.specs.declared.kinds.Kind.TheVariants.{Units, Layer, DataType}
-use Rattle.gds_record.specs.declared.kinds.ContentLength.{ContentLength}
-use Rattle.gds_record.specs.declared.kinds.ContentLength.TheVariants.{Exactly}
+use Rattle.std.proofs.Common.{◌≡◌, ℕ, List, [], ◌∷◌, map, refl, subst}
 use Rattle.gds_record.specs.declared.records.Record.{Record}
-use Rattle.gds_record.proofs.ForCallers.{run_unique, record_within, content_allowed}
 use Rattle.mdp_job.specs.FirstLayout.{LayoutData, LayoutRecords, listed, layout_kinds, IsLayoutOf}
-use Rattle.mdp_job.specs.LayoutParts.{IsLayoutRun, parts_in, ArePartsOf, ArePartsFor, PartsSay, IsOutline, IsPolygon}
+use Rattle.mdp_job.specs.LayoutParts.{IsLayoutRun, parts_in, ArePartsOf}
 use Rattle.mdp_job.specs.declared.layout_parts.LayoutParts.{LayoutParts}
 
 -- thirteen records of a layout's kinds, by name
 as_listed : (rs : List Record) → map (λ r. r.kind) rs ≡ layout_kinds → (r : LayoutRecords) × (rs ≡ listed r)
 as_listed (a ∷ b ∷ c ∷ d ∷ e ∷ f ∷ g ∷ h ∷ i ∷ j ∷ k ∷ l ∷ m ∷ []) kinds = (
   record {
-    header = a; bgn_lib = b; lib_name = c; units = d; bgn_str = e; str_name = f; boundary = g;
-    layer = h; datatype = i; xy = j; end_el = k; end_str = l; end_lib = m;
+    header = a;
+    bgn_lib = b;
+    lib_name = c;
+    units = d;
+    bgn_str = e;
+    str_name = f;
+    boundary = g;
+    layer = h;
+    datatype = i;
+    xy = j;
+    end_el = k;
+    end_str = l;
+    end_lib = m;
   },
   refl,
 )

@@ -1,4 +1,4 @@
--- The records of a layout that say something, and what they say. A file has the thirteen records of a layout, laid end
+-- The records of a layout that say something, and what must hold of them. A file has the thirteen records of a layout, laid end
 -- to end, or it hasn't; UNITS, STRNAME, LAYER, DATATYPE and XY are the ones that are looked at.
 use Rattle.std.specs.Prelude.{◌≡◌, ℕ, ◌+◌, ◌-◌, ◌/◌, ◌≤◌, List, ◌++◌, length, map, replicate, All}
 use Rattle.half_grid.specs.Outlines.{IsClosed}
@@ -8,7 +8,7 @@ use Rattle.gds_record.specs.Numbers.{number_at}
 use Rattle.gds_record.specs.Reals.{Agrees}
 use Rattle.gds_record.specs.Runs.{IsRun}
 use Rattle.gds_record.specs.declared.records.Record.{Record}
-use Rattle.mdp_job.specs.FirstLayout.{LayoutData, LayoutRecords, listed, layout_kinds, content_of_record, points_at, IsOctilinear, IsNearOrigin}
+use Rattle.mdp_job.specs.FirstLayout.{LayoutRecords, listed, layout_kinds, content_of_record, points_at, IsOctilinear, IsNearOrigin}
 use Rattle.mdp_job.specs.declared.layout_parts.LayoutParts.{LayoutParts}
 
 -- these are all records of the file, and they have a layout's kinds
@@ -49,11 +49,3 @@ pub record IsPolygon (points : List Point) : Type 0 where
 pub record IsOutline (points : List Point) : Type 0 where
   pub count : (4 ≤ length points) × (length points ≤ 8191)
   pub polygon : IsPolygon points
-
--- these records say this
-pub record PartsSay (bytes : List ℕ) (p : LayoutParts) (deck_unit : ℕ) (top : List ℕ) (l : LayoutData) : Type 0 where
-  pub deck : ArePartsFor bytes p deck_unit top
-  pub layer : l.layer ≡ number_at 2 bytes p.layer.first
-  pub datatype : l.datatype ≡ number_at 2 bytes p.datatype.first
-  pub points : l.points ≡ points_of_record bytes p.xy
-  pub outline : IsOutline l.points

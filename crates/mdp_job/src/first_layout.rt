@@ -23,7 +23,12 @@ pub struct FirstLayout {
 
 /// What the layout in these bytes says, for a deck with this unit and top cell. None where they aren't such a
 /// layout: a GDSII stream with one structure that has one BOUNDARY, and no optional record.
-pub fn read_first_layout(alloc: Global, bytes: &[u8], unit: u32, top: &[u8]) -> Result<Option<FirstLayout>, NoMemory>
+pub fn read_first_layout(
+    alloc: Global,
+    bytes: &[u8],
+    unit: u32,
+    top: &[u8],
+) -> Result<Option<FirstLayout>, NoMemory>
     ensures found { IfOk result (λ o. IfSome o (λ l. IsLayoutOf bytes.now unit top.now (layout_data l))) }
     ensures none { IfOk result (λ o. IfNone o ((l : LayoutData) → IsLayoutOf bytes.now unit top.now l → ⊥)) }
 {

@@ -38,6 +38,7 @@ pub(crate) struct LayoutParts {
     pub xy: Record,
 }
 
+/// Whether the record is of this kind.
 fn has_kind(record: Record, kind: Kind) -> bool
     ensures { IsTrue result ↔ (record.kind ≡ kind) }
 {
@@ -92,6 +93,7 @@ pub(crate) fn find_parts(alloc: Global, bytes: &[u8]) -> Result<Option<LayoutPar
     Ok(Some(parts_of(&records)))
 }
 
+/// Whether all bytes are 0.
 fn are_nuls(bytes: &[u8]) -> bool
     ensures { IsTrue result ↔ All (λ byte. byte ≡ 0) bytes.now }
 {

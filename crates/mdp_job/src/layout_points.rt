@@ -20,6 +20,7 @@ const POINT: usize = 8;
 
 /// The fewest and the most points that a polygon may have.
 const FEWEST: usize = 4;
+
 const MOST: usize = 8191;
 
 /// How far a point may lie from 0 in x and in y, in half units: 2,048 grid steps.
@@ -121,6 +122,7 @@ fn is_closed(points: &[Point]) -> bool
     last == *first
 }
 
+/// Whether the number is at most 2,048 grid steps from 0.
 fn is_near_zero(number: i64) -> bool
     ensures { IsTrue result ↔ ((neg_ℤ (pos 4096) ≤ℤ number) × (number ≤ℤ pos 4096)) }
 {
@@ -134,6 +136,7 @@ fn is_near_origin(point: Point) -> bool
     is_near_zero(point.x) && is_near_zero(point.y)
 }
 
+/// Whether all points are within 2,048 grid steps of 0.
 fn are_near_origin(points: &[Point]) -> bool
     ensures { IsTrue result ↔ All IsNearOrigin points.now }
 {
@@ -156,7 +159,11 @@ fn is_polygon(points: &[Point]) -> bool
 
 /// The points of an XY record, in half units, where they are a layout's polygon: 4 to 8,191 points, the last of which
 /// is the first, with octilinear edges, near the origin.
-pub(crate) fn read_outline(alloc: Global, bytes: &[u8], xy: Record) -> Result<Option<Vec<Point>>, NoMemory>
+pub(crate) fn read_outline(
+    alloc: Global,
+    bytes: &[u8],
+    xy: Record,
+) -> Result<Option<Vec<Point>>, NoMemory>
     requires behind_head { xy.first ≤ xy.next }
     requires within { xy.next ≤ length bytes.now }
     ensures found { IfOk result (λ o. IfSome o (λ v. (v.items ≡ points_of_record bytes.now xy) × IsOutline v.items)) }

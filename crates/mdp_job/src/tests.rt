@@ -47,13 +47,13 @@ const SIDE_2049: [u8; 24] = [
 fn other_files_are_refused(rt: HostRuntime) -> Result<(), Fail> {
     // an offset, and the bytes that stand there in place of the square's
     let rows: [(usize, &[u8]); 7] = [
-        (108, &[0x0F, 0x03]),     // WIDTH in place of DATATYPE
-        (148, &[0, 0, 0, 5]),     // the last point is (5, 0)
-        (124, &SIDE_2049),        // points at 2,049 grid steps
-        (132, &[0, 0, 0, 9]),     // an edge that isn't octilinear
-        (94, &[0x50, 0x20]),      // the name is `TOP `
-        (98, &[0x09, 0x00]),      // PATH in place of BOUNDARY
-        (53, &[0x45]),            // another unit
+        (108, &[0x0F, 0x03]), // WIDTH in place of DATATYPE
+        (148, &[0, 0, 0, 5]), // the last point is (5, 0)
+        (124, &SIDE_2049), // points at 2,049 grid steps
+        (132, &[0, 0, 0, 9]), // an edge that isn't octilinear
+        (94, &[0x50, 0x20]), // the name is `TOP `
+        (98, &[0x09, 0x00]), // PATH in place of BOUNDARY
+        (53, &[0x45]), // another unit
     ];
     for (at, changed) in rows {
         let mut bytes = SQUARE.to_vec(rt.alloc())?;

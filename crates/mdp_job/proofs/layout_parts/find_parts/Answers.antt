@@ -1,4 +1,3 @@
-use Rattle.std.proofs.Common.{◌≡◌, length}
 use Rattle.mdp_job.specs.FirstLayout.{listed}
 use Rattle.mdp_job.proofs.PartsLemmas.{parts_found}
 use Rattle.mdp_job.proofs.layout_parts.find_parts.Goals as goal

@@ -1,11 +1,10 @@
-use Rattle.std.proofs.Common.{◌≡◌, ◌<◌, ◌≤◌, ◌-◌, length, drop, get_or, IsTrue, [], arith, sym, ap, subst, ◌∙◌, Ok, refl}
+use Rattle.std.proofs.Common.{◌≡◌, ◌<◌, ◌≤◌, length, drop, get_or, [], arith, ap, subst, ◌∙◌, refl}
 use Rattle.std.proofs.Math.ListN.{drop_of_length-le}
 use Rattle.gds_record.specs.Framing.{IsRecordAt}
-use Rattle.gds_record.specs.declared.kinds.Kind.{Kind}
 use Rattle.gds_record.specs.declared.kinds.Kind.TheVariants.{Header}
 use Rattle.gds_record.specs.declared.records.Record.{Record}
 use Rattle.mdp_job.specs.FirstLayout.{layout_kinds}
-use Rattle.mdp_job.proofs.LayoutLemmas.{FirstOf, RunFrom, GoesOn, run_first, run_step, kinds_step, only_step, only_end}
+use Rattle.mdp_job.proofs.LayoutLemmas.{RunFrom, run_first, run_step, kinds_step, only_step, only_end}
 use Rattle.mdp_job.proofs.layout_parts.layout_records.Goals as goal
 
 pub returns-in_default-clause-none : goal.returns-in_default-clause-none

@@ -1,6 +1,5 @@
-use Rattle.std.proofs.Common.{◌≡◌, ◌≤◌, List, length, map, take, drop}
+use Rattle.std.proofs.Common.{◌≡◌, ◌≤◌, length, map, take, drop}
 use Rattle.gds_record.specs.Runs.{IsRun}
-use Rattle.gds_record.specs.declared.records.Record.{Record}
 use Rattle.mdp_job.specs.FirstLayout.{layout_kinds}
 use Rattle.mdp_job.proofs.LayoutLemmas.{GoesOn}
 use Rattle.mdp_job.proofs.layout_parts.layout_records.Given as goal

@@ -11,6 +11,6 @@ returns c =
     let fits : FitsSigned w16 c.int2.result = search rules in
     c.cast_unsigned.ensures ∙ ap (cast_unsigned w16) (to_z-of_z w16 c.int2.result fits ∙ c.int2.ensures)
     ∙ unsigned_two c.args.bytes.now c.args.at (
-      number_at-lt 2 c.args.bytes.now c.args.at
-      (λ i. let byte = c.type_inv.bytes i in let small : slice_index c.args.bytes.now i < 256 = omega arith in small)
+    number_at-lt 2 c.args.bytes.now c.args.at
+    (λ i. let byte = c.type_inv.bytes i in let small : slice_index c.args.bytes.now i < 256 = omega arith in small)
     )

@@ -1,4 +1,4 @@
-use Rattle.std.proofs.Common.{◌≡◌, ◌<◌, ◌+◌, ◌∷◌, length, drop, get_or, pos}
+use Rattle.std.proofs.Common.{◌<◌, length, get_or, pos}
 use Rattle.half_grid.specs.declared.plane.Point.{Point}
 use Rattle.mdp_job.specs.FirstLayout.{IsOctilinear}
 use Rattle.mdp_job.proofs.LayoutLemmas.{edges_init, edges_step, edges_stop, drop_next}
@@ -10,8 +10,7 @@ loop-point-init c = edges_init c.args.points.now c.in-Some.first.now c.in-Some.r
 pub returns-then-not-is_octilinear : goal.returns-then-not-is_octilinear
 returns-then-not-is_octilinear c =
     let point : Point = get_or c.in-Some.rest.now c.loop-point.point-index (record { x = pos 0; y = pos 0 }) in
-    let inside : c.loop-point.point-index < length c.in-Some.rest.now = c.loop-point-test.true in
-    (
+    let inside : c.loop-point.point-index < length c.in-Some.rest.now = c.loop-point-test.true in (
       λ never. absurd (cc),
       λ all.
           let octilinear : IsOctilinear (c.loop-point.previous, point) =

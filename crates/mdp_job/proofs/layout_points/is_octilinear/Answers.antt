@@ -1,4 +1,3 @@
-use Rattle.std.proofs.Common.{ap}
 use Rattle.mdp_job.proofs.LayoutLemmas.{octilinear_last}
 use Rattle.mdp_job.proofs.layout_points.is_octilinear.Goals as goal
 

@@ -9,5 +9,5 @@ loop-i-preserved c =
     let y_fits : FitsSigned w64 c.twice_int4-in-loop-i.result = search rules in
     let point = point_read c.twice_int4.result c.twice_int4-in-loop-i.result _ _ x_fits y_fits c.twice_int4.ensures c.twice_int4-in-loop-i.ensures in
     rw c.in_ok-push.ensures.items (
-      points_step c.args.bytes.now c.args.at c.loop-i.i c.args.count c.loop-i.points.items _ _ c.loop-i-test.true point c.loop-i.invariant
+    points_step c.args.bytes.now c.args.at c.loop-i.i c.args.count c.loop-i.points.items _ _ c.loop-i-test.true point c.loop-i.invariant
     )
