@@ -1,13 +1,11 @@
 -- A joined list is named by its tiles.
-use Rattle.std.proofs.Common.{◌≡◌, ◌≢◌, ℕ, zero, suc, ◌+◌, ◌≤◌, Bool, true, false, ℤ, pos, negsuc, ◌+ℤ◌, ◌-ℤ◌, ◌≤ℤ◌, ◌<ℤ◌, arith, refl, ap, subst, eqb, ◌∙◌, sym, List, [], ◌∷◌, count_by}
+use Rattle.std.proofs.Common.{◌≡◌, ℕ, zero, suc, ◌≤◌, Bool, true, false, ℤ, pos, ◌+ℤ◌, ◌-ℤ◌, ◌≤ℤ◌, ◌<ℤ◌, arith, refl, ap, subst, eqb, ◌∙◌, sym, List, [], ◌∷◌}
 use Rattle.std.proofs.lemmas.Int.{ints, by_lt_z}
 use Rattle.std.proofs.lemmas.List.Elements.{All-contains, Contains-push_cases, Contains-append_cases, Contains-append_right, Contains-append_left, Contains-push}
 use Rattle.std.proofs.lemmas.Bool.Decides.{nat_tests}
-use Rattle.std.specs.List.{All, Contains}
+use Rattle.std.specs.List.{Contains}
 use mathlib.Core.Logic.{◌⊎◌, inl, inr}
-use Rattle.half_grid.specs.Rows.{number_in_row, place}
-use Rattle.half_grid.specs.Winding.{count_one}
-use Rattle.half_grid.specs.LineLaws.{HasNumberBetween}
+use Rattle.half_grid.specs.Rows.{place}
 use Rattle.half_grid.specs.Trapezoids.{Trapezoid, IsInTrapezoid, IsLegal, CoversExactly, count_in, trapezoid_has, trapezoid}
 use Rattle.half_grid.specs.Windows.{RowRange}
 use Rattle.half_grid.specs.JoinedLists.{IsBeside, StandsBefore, StandInOrder, IsJoined}
