@@ -1,5 +1,5 @@
 -- The winding of edges, list by list.
-use Rattle.std.proofs.Common.{◌≡◌, ◌≢◌, ℕ, ◌+◌, Bool, true, false, not, ◌&&◌, ℤ, pos, ◌+ℤ◌, ◌-ℤ◌, arith, refl, ap, ◌∙◌, sym, List, [], ◌∷◌, ◌++◌, count_by}
+use Rattle.std.proofs.Common.{◌≡◌, ◌≢◌, ℕ, ◌+◌, Bool, true, false, ◌&&◌, pos, ◌+ℤ◌, ◌-ℤ◌, arith, refl, ◌∙◌, List, [], ◌∷◌, ◌++◌, count_by}
 use Rattle.std.proofs.lemmas.Int.{ints}
 use Rattle.std.proofs.lemmas.List.Sums.{sum_by-append}
 use Rattle.std.proofs.lemmas.List.Elements.{All-head, All-tail}
@@ -8,14 +8,13 @@ use Rattle.std.specs.Prelude.{int_le, int_lt}
 use Rattle.half_grid.specs.Lines.{strip_along, first_strip}
 use Rattle.half_grid.specs.Winding.{count_one}
 use Rattle.half_grid.specs.Trapezoids.{Trapezoid, IsInTrapezoid, IsLegal, count_in, trapezoid_has}
-use Rattle.half_grid.specs.Edges.{EdgeParts, edges_of_trapezoid, edges_winding, winds_up, winds_down, is_of, left_edge, right_edge, has_on_right}
+use Rattle.half_grid.specs.Edges.{EdgeParts, edges_of_trapezoid, edges_winding, winds_up, winds_down, is_of, left_edge, right_edge}
 use Rattle.half_grid.specs.declared.plane.Tile.{Tile}
 use Rattle.half_grid.specs.declared.border.Operand.{Operand}
 use Rattle.half_grid.specs.declared.border.Operand.TheVariants.{A, B}
 use Rattle.half_grid.proofs.WindingLemmas.{count_by-cons}
 use Rattle.half_grid.proofs.RingLemmas.{is_beyond, inside_left, inside_right, outside_same, int_le_true, int_lt_true, int_le_yes, int_lt_yes}
 use Rattle.half_grid.proofs.LineLemmas.{and_both}
-use Rattle.half_grid.proofs.SizeLemmas.{not_true}
 
 sum_of_differences : (a b c d e f : ℕ) → a ≡ c + e → b ≡ d + f → pos a -ℤ pos b ≡ (pos c -ℤ pos d) +ℤ (pos e -ℤ pos f)
 sum_of_differences a b c d e f h k = omega (arith, ints)

@@ -1,13 +1,11 @@
 -- A joined list is named by its tiles.
-use Rattle.std.proofs.Common.{◌≡◌, ◌≢◌, ℕ, zero, suc, ◌+◌, ◌≤◌, Bool, true, false, ℤ, pos, negsuc, ◌+ℤ◌, ◌-ℤ◌, ◌≤ℤ◌, ◌<ℤ◌, arith, refl, ap, subst, eqb, ◌∙◌, sym, List, [], ◌∷◌, count_by}
+use Rattle.std.proofs.Common.{◌≡◌, ℕ, zero, suc, ◌≤◌, Bool, true, false, ℤ, pos, ◌+ℤ◌, ◌-ℤ◌, ◌≤ℤ◌, ◌<ℤ◌, arith, refl, ap, subst, eqb, ◌∙◌, sym, List, [], ◌∷◌}
 use Rattle.std.proofs.lemmas.Int.{ints, by_lt_z}
 use Rattle.std.proofs.lemmas.List.Elements.{All-contains, Contains-push_cases, Contains-append_cases, Contains-append_right, Contains-append_left, Contains-push}
 use Rattle.std.proofs.lemmas.Bool.Decides.{nat_tests}
-use Rattle.std.specs.List.{All, Contains}
+use Rattle.std.specs.List.{Contains}
 use mathlib.Core.Logic.{◌⊎◌, inl, inr}
-use Rattle.half_grid.specs.Rows.{number_in_row, place}
-use Rattle.half_grid.specs.Winding.{count_one}
-use Rattle.half_grid.specs.LineLaws.{HasNumberBetween}
+use Rattle.half_grid.specs.Rows.{place}
 use Rattle.half_grid.specs.Trapezoids.{Trapezoid, IsInTrapezoid, IsLegal, CoversExactly, count_in, trapezoid_has, trapezoid}
 use Rattle.half_grid.specs.Windows.{RowRange}
 use Rattle.half_grid.specs.JoinedLists.{IsBeside, StandsBefore, StandInOrder, IsJoined}
@@ -78,8 +76,8 @@ one_only : (t : Tile) (xs : List Trapezoid) (y z : Trapezoid) → count_in xs t 
 one_only t [] y z n hy hz ey ez = absurd (none_in_empty y hy)
 one_only t (x ∷ xs) y z n hy hz ey ez =
     elim (first_or_later x y xs hy) [
-      inl sy ↦ elim (first_or_later x z xs hz) [ inl sz ↦ sym sy ∙ sz | inr sz ↦ twice_counted t x z xs n (rw sy ey) sz ez ]
-    | inr sy ↦ elim (first_or_later x z xs hz) [ inl sz ↦ twice_counted t x y xs n (rw sz ez) sy ey | inr sz ↦ one_only t xs y z (let more = counted_later t x xs in omega (arith, n, more)) sy sz ey ez ]
+      | inl sy ↦ elim (first_or_later x z xs hz) [ inl sz ↦ sym sy ∙ sz | inr sz ↦ twice_counted t x z xs n (rw sy ey) sz ez ]
+      | inr sy ↦ elim (first_or_later x z xs hz) [ inl sz ↦ twice_counted t x y xs n (rw sz ez) sy ey | inr sz ↦ one_only t xs y z (let more = counted_later t x xs in omega (arith, n, more)) sy sz ey ez ]
     ]
 
 -- ---- tiles of a row, by number
@@ -155,8 +153,8 @@ module _ (window : RowRange) (xs ys : List Trapezoid) (first : IsJoined window x
       by_lt_z (place w.right j) (place z.right j)
       (λ lt. absurd (clash window ys xs w z (tile_with (place w.right j) j) second (λ t. sym (same t)) hw (beside_right w (place w.right j) j c d refl) hz (in_at z (place w.right j) j a b (omega (arith, ints, r)) lt)))
       (λ ge. by_lt_z (place z.right j) (place w.right j)
-        (λ lt. absurd (clash window xs ys z w (tile_with (place z.right j) j) first same hz (beside_right z (place z.right j) j a b refl) hw (in_at w (place z.right j) j c d (omega (arith, ints, zz, l)) lt)))
-        (λ le. omega (arith, ints, ge, le)))
+      (λ lt. absurd (clash window xs ys z w (tile_with (place z.right j) j) first same hz (beside_right z (place z.right j) j a b refl) hw (in_at w (place z.right j) j c d (omega (arith, ints, zz, l)) lt)))
+      (λ le. omega (arith, ints, ge, le)))
 
   row_of : (z : Trapezoid) (j : ℤ) → Contains xs z → z.y0 ≤ℤ j → j <ℤ z.y1 → Meets ys z j j
   row_of z j hz a b =
@@ -181,12 +179,12 @@ module _ (window : RowRange) (xs ys : List Trapezoid) (first : IsJoined window x
       by_lt_z (j +ℤ pos 1) m.w.y1
       (λ lt. record { w = m.w; member = m.member; legal = m.legal; left = m.left; right = m.right; from = m.from; to = lt })
       (λ le. by_lt_z v.w.y0 (j +ℤ pos 1)
-        (λ lt. (let e = one_only (tile_with (place z.left j) j) ys m.w v.w (second.apart (tile_with (place z.left j) j)) m.member v.member
-          (has_at m.w z.left j m.legal m.left (omega (arith, ints, m.from, a)) m.to)
-          (has_at v.w z.left j v.legal v.left (omega (arith, ints, lt)) (omega (arith, ints, v.to))) in
-          let top : m.w.y1 ≡ v.w.y1 = ap (λ (u : Trapezoid). u.y1) e in
-          absurd (omega (arith, ints, top, le, v.to))))
-        (λ ge. absurd (second.not_stacked m.w v.w m.member v.member (m.left ∙ sym v.left) (m.right ∙ sym v.right) (omega (arith, ints, le, ge, m.to, v.from)))))
+      (λ lt. (let e = one_only (tile_with (place z.left j) j) ys m.w v.w (second.apart (tile_with (place z.left j) j)) m.member v.member
+      (has_at m.w z.left j m.legal m.left (omega (arith, ints, m.from, a)) m.to)
+      (has_at v.w z.left j v.legal v.left (omega (arith, ints, lt)) (omega (arith, ints, v.to))) in
+      let top : m.w.y1 ≡ v.w.y1 = ap (λ (u : Trapezoid). u.y1) e in
+      absurd (omega (arith, ints, top, le, v.to))))
+      (λ ge. absurd (second.not_stacked m.w v.w m.member v.member (m.left ∙ sym v.left) (m.right ∙ sym v.right) (omega (arith, ints, le, ge, m.to, v.from)))))
 
   tall : (z : Trapezoid) (k : ℕ) → Contains xs z → (z.y0 +ℤ pos k) <ℤ z.y1 → Meets ys z z.y0 (z.y0 +ℤ pos k)
   tall z zero hz b = moved ys z z.y0 z.y0 (z.y0 +ℤ pos 0) (omega (arith, ints)) (row_of z z.y0 hz (omega (arith, ints)) (omega (arith, ints, b)))
@@ -233,18 +231,20 @@ not_both y z (inr a) (inr b) = omega (arith, ints, a.1, b.1)
 same_first : (x y : Trapezoid) (xs ys : List Trapezoid) → StandInOrder (x ∷ xs) → StandInOrder (y ∷ ys) → Contains (y ∷ ys) x → Contains (x ∷ xs) y → x ≡ y
 same_first x y xs ys ox oy hx hy =
     elim (first_or_later y x ys hx) [
-      inl e ↦ sym e
-    | inr later_x ↦ elim (first_or_later x y xs hy) [
-        inl e ↦ e
-      | inr later_y ↦ absurd (not_both x y (All-contains (StandsBefore x) xs y ox.0 later_y) (All-contains (StandsBefore y) ys x oy.0 later_x)) ]
+      | inl e ↦ sym e
+      | inr later_x ↦ elim (first_or_later x y xs hy) [
+        | inl e ↦ e
+        | inr later_y ↦ absurd (not_both x y (All-contains (StandsBefore x) xs y ox.0 later_y) (All-contains (StandsBefore y) ys x oy.0 later_x))
+      ]
     ]
 
 later_member : (x y : Trapezoid) (xs ys : List Trapezoid) → x ≡ y → StandInOrder (x ∷ xs) → ((z : Trapezoid) → Contains (x ∷ xs) z → Contains (y ∷ ys) z) → (z : Trapezoid) → Contains xs z → Contains ys z
 later_member x y xs ys e ox f z hz =
     let before = All-contains (StandsBefore x) xs z ox.0 hz in
     elim (first_or_later y z ys (f z (among_rest x z xs hz))) [
-      inl s ↦ (let b = subst (λ (u : Trapezoid). StandsBefore u z) (e ∙ s) before in absurd (not_both z z b b))
-    | inr later ↦ later ]
+      | inl s ↦ (let b = subst (λ (u : Trapezoid). StandsBefore u z) (e ∙ s) before in absurd (not_both z z b b))
+      | inr later ↦ later
+    ]
 
 same_list : (xs ys : List Trapezoid) → StandInOrder xs → StandInOrder ys → ((z : Trapezoid) → Contains xs z → Contains ys z) → ((z : Trapezoid) → Contains ys z → Contains xs z) → xs ≡ ys
 same_list [] [] ox oy f g = refl

@@ -12,3 +12,4 @@ pub mod SizeLemmas
 pub mod MeetingLemmas
 pub mod EdgeLemmas
 pub mod JoinedLemmas
+pub mod ForCallers

@@ -1,10 +1,10 @@
 -- The order of two places changes only where the lines meet.
-use Rattle.std.proofs.Common.{◌≡◌, ◌≢◌, ℤ, pos, ◌+ℤ◌, ◌-ℤ◌, ◌≤ℤ◌, ◌<ℤ◌, arith, refl}
+use Rattle.std.proofs.Common.{◌≡◌, ◌≢◌, ℤ, ◌-ℤ◌, ◌≤ℤ◌, ◌<ℤ◌, arith}
 use Rattle.std.proofs.lemmas.Int.{ints}
 use Rattle.half_grid.specs.Halves.{twice}
 use Rattle.half_grid.specs.Lines.{x_on}
-use Rattle.half_grid.specs.Rows.{place, number_in_row}
-use Rattle.half_grid.specs.Meetings.{MeetBetween, MeetAt}
+use Rattle.half_grid.specs.Rows.{place}
+use Rattle.half_grid.specs.Meetings.{MeetBetween}
 use Rattle.half_grid.specs.LineLaws.{HasNumberBetween}
 use Rattle.half_grid.specs.Trapezoids.{Trapezoid, IsInTrapezoid}
 use Rattle.half_grid.specs.declared.plane.Tile.{Tile}

@@ -1,22 +1,19 @@
 -- The winding of a trapezoid's corners, and of its two edges, at each tile.
-use Rattle.std.proofs.Common.{◌≡◌, ◌≢◌, ℕ, Bool, true, false, ◌&&◌, ℤ, pos, ◌+ℤ◌, ◌-ℤ◌, ◌≤ℤ◌, ◌<ℤ◌, neg_ℤ, arith, refl, ap, ◌∙◌, sym, Option, Some, None, IfSome, IfNone, [], ◌∷◌}
+use Rattle.std.proofs.Common.{◌≡◌, ◌≢◌, Bool, true, false, ◌&&◌, ℤ, pos, ◌-ℤ◌, ◌≤ℤ◌, ◌<ℤ◌, neg_ℤ, arith, refl, ap, ◌∙◌, Option, Some, None, IfSome, IfNone, [], ◌∷◌}
 use Rattle.std.proofs.lemmas.Int.{ints}
 use Rattle.std.specs.Prelude.{int_le, int_lt}
-use Rattle.half_grid.specs.Reach.{IsWithinReach, IsPointWithinReach}
-use Rattle.half_grid.specs.Lines.{Passes, IsRightOf, IsLeftOf, line_of, strip_along, first_strip, x_on}
+use Rattle.half_grid.specs.Lines.{Passes, IsRightOf, line_of, strip_along, first_strip, x_on}
 use Rattle.half_grid.specs.Rows.{place, number_in_row}
-use Rattle.half_grid.specs.Winding.{winding, crossing_of, rises_past, count_one, is_right_of, counts_up, counts_down}
+use Rattle.half_grid.specs.Winding.{winding, crossing_of, count_one}
 use Rattle.half_grid.specs.Trapezoids.{Trapezoid, IsInTrapezoid, IsLegal, IsShot}
-use Rattle.half_grid.specs.Edges.{EdgeParts, left_edge, right_edge, has_on_right, spans}
 use Rattle.half_grid.specs.Quads.{IsQuad, corners, corners_of, ring_of, point_on}
 use Rattle.half_grid.specs.declared.plane.Tile.{Tile}
 use Rattle.half_grid.specs.declared.plane.Point.{Point}
 use Rattle.half_grid.specs.declared.plane.Line.{Line}
 use Rattle.half_grid.specs.declared.plane.Line.TheVariants.{Upright, Rising, Falling}
-use Rattle.half_grid.specs.declared.border.Operand.{Operand}
 use Rattle.half_grid.proofs.LineLemmas.{line_of_through, line_of_none}
-use Rattle.half_grid.proofs.Places.{place_at_most, right_by_place, legal_places, number_below}
-use Rattle.half_grid.proofs.WindingLemmas.{winding_along, winding_from, crossing_none}
+use Rattle.half_grid.proofs.Places.{place_at_most, right_by_place, legal_places}
+use Rattle.half_grid.proofs.WindingLemmas.{winding_along, crossing_none}
 
 pub int_le_true : (x y : ℤ) → int_le x y ≡ true → x ≤ℤ y
 int_le_true x y h = grind (arith, ints)

@@ -6,7 +6,7 @@ use Rattle.std.proofs.Math.IntN.{zero-*ℤ, suc_ℤ-*ℤ}
 use Rattle.std.specs.Prelude.{int_le, int_lt}
 use Rattle.std.specs.Ordering.{int_eq}
 use Rattle.half_grid.specs.Halves.{half, is_even}
-use Rattle.half_grid.specs.Lines.{IsRightOf, IsLeftOf, x_on}
+use Rattle.half_grid.specs.Lines.{x_on}
 use Rattle.half_grid.specs.Rows.{place, number_in_row}
 use Rattle.half_grid.specs.Winding.{count_one}
 use Rattle.half_grid.specs.Sizes.{is_tile, is_same_side, IsNumberOfTiles}

@@ -1,5 +1,5 @@
 -- The winding of the two edges of each trapezoid of a list, as laws over all lists.
-use Rattle.std.specs.Prelude.{ℤ, pos, ◌+ℤ◌, ◌≡◌, ◌≢◌, List, ◌++◌}
+use Rattle.std.specs.Prelude.{pos, ◌+ℤ◌, ◌≡◌, ◌≢◌, List, ◌++◌}
 use Rattle.std.specs.List.{All, flat_map}
 use Rattle.half_grid.specs.Trapezoids.{Trapezoid, IsInTrapezoid, IsLegal, count_in}
 use Rattle.half_grid.specs.Edges.{EdgeParts, edges_of_trapezoid, edges_winding}

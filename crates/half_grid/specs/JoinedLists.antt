@@ -4,7 +4,7 @@
 -- tile is in two. In each row of a trapezoid the tile just left of it and the tile just right of it are in no
 -- trapezoid of the list. No two with the same left and the same right line have the top of one at the bottom of
 -- the other. They stand by ascending top, those with one top from left to right.
-use Rattle.std.specs.Prelude.{ℤ, pos, ◌+ℤ◌, ◌-ℤ◌, ◌≤ℤ◌, ◌<ℤ◌, ◌≤◌, ◌≡◌, ◌≢◌, ◌⊎◌, List, [], ◌∷◌}
+use Rattle.std.specs.Prelude.{pos, ◌+ℤ◌, ◌-ℤ◌, ◌≤ℤ◌, ◌<ℤ◌, ◌≤◌, ◌≡◌, ◌≢◌, ◌⊎◌, List, [], ◌∷◌}
 use Rattle.std.specs.List.{All, Contains}
 use Rattle.half_grid.specs.Rows.{number_in_row, place}
 use Rattle.half_grid.specs.Trapezoids.{Trapezoid, IsLegal, count_in}

@@ -1,7 +1,7 @@
 use crate::{
     Edge, Frame, Limits, Line, Operand, Point, Quad, Side, Strips, Tile, Trap, Window, covers,
-    diagonal_of, fits, line_at, line_through, number_of, place_of, row_laws, size_of, strips,
-    winding_at, x_at,
+    diagonal_of, edge_laws, fits, joined_law, line_at, line_laws, line_through, meeting_y, near,
+    number_of, place_of, row_laws, size_of, strips, winding_at, x_at,
 };
 use std::process::Abort;
 
@@ -16,6 +16,9 @@ fn trap(rt: &impl Abort, y0: i64, y1: i64, left: Line, right: Line) -> Trap {
 #[test]
 fn tiles_and_lines_of_a_row(rt: HostRuntime) {
     row_laws();
+    line_laws();
+    edge_laws();
+    joined_law();
     // The strips of tiles, by hand from a drawing of the half grid.
     let even_left = Tile {
         i: 0,
@@ -327,5 +330,116 @@ fn windows_and_frames(rt: HostRuntime) {
             x1: 2,
             y1: 3
         }
+    );
+}
+
+#[test]
+fn meetings(rt: HostRuntime) {
+    assert_eq!(rt; meeting_y(Line::Upright(3), Line::Rising(1)), Some(1));
+    assert_eq!(rt; meeting_y(Line::Falling(1), Line::Upright(3)), Some(-1));
+    assert_eq!(rt; meeting_y(Line::Rising(1), Line::Falling(4)), Some(3));
+    assert_eq!(rt; meeting_y(Line::Rising(1), Line::Rising(2)), None);
+    assert_eq!(rt; meeting_y(Line::Upright(1), Line::Upright(1)), None);
+}
+
+#[test]
+fn nearness(rt: HostRuntime) {
+    // A square grows the right triangle of a cell to a pentagon, which cuts the cell above to the left along its
+    // diagonal.
+    let triangle = Tile {
+        i: 0,
+        j: 0,
+        side: Side::Right,
+    };
+    assert!(rt;
+        near(
+            triangle,
+            Tile {
+                i: -1,
+                j: 1,
+                side: Side::Right
+            },
+            1,
+            1
+        )
+    );
+    assert!(rt;
+        !near(
+            triangle,
+            Tile {
+                i: -1,
+                j: 1,
+                side: Side::Left
+            },
+            1,
+            1
+        )
+    );
+    // In a cell with the other diagonal it is the cell below to the left.
+    let other = Tile {
+        i: 1,
+        j: 0,
+        side: Side::Right,
+    };
+    assert!(rt;
+        near(
+            other,
+            Tile {
+                i: 0,
+                j: -1,
+                side: Side::Right
+            },
+            1,
+            1
+        )
+    );
+    assert!(rt;
+        !near(
+            other,
+            Tile {
+                i: 0,
+                j: -1,
+                side: Side::Left
+            },
+            1,
+            1
+        )
+    );
+    // By a rectangle.
+    assert!(rt;
+        near(
+            triangle,
+            Tile {
+                i: 1,
+                j: 3,
+                side: Side::Left
+            },
+            1,
+            3
+        )
+    );
+    assert!(rt;
+        !near(
+            triangle,
+            Tile {
+                i: 1,
+                j: 3,
+                side: Side::Left
+            },
+            3,
+            1
+        )
+    );
+    assert!(rt;
+        !near(
+            triangle,
+            Tile {
+                i: 2,
+                j: -2,
+                side: Side::Left
+            },
+            1,
+            3
+        )
     );
 }

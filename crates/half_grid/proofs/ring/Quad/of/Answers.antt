@@ -1,6 +1,6 @@
 use Rattle.std.proofs.Common.{◌≡◌, ◌∙◌, w64, FitsSigned, rules}
 use Rattle.std.proofs.lemmas.Int.{to_z-of_z}
-use Rattle.half_grid.specs.Quads.{Corners, corners_of, IsQuad}
+use Rattle.half_grid.specs.Quads.{corners_of}
 use Rattle.half_grid.proofs.RingLemmas.{quad_of_shot, corners_at, ring_inside, ring_outside}
 use Rattle.half_grid.proofs.ring.Quad.of.Goals as goal
 
