@@ -1,5 +1,11 @@
-//! The words of OASIS (SEMI P39, version 1.0): integers, and the one text of a shot file.
+//! The words of OASIS (SEMI P39, version 1.0): integers both ways, and the one text of a shot file.
+//!
+//! Nothing here takes memory.
 #![tactic(auto)]
+
+mod spell;
+
+pub use spell::{ROOM, Spell, put_signed, put_unsigned};
 
 /// An unsigned number, a signed one or a string wasn't read.
 #[derive(Clone, Copy, Debug, PartialEq, Eq)]
