@@ -1,2 +1,4 @@
 pub mod Groups
 pub mod PutUnsigned
+pub mod Wholes
+pub mod Reading

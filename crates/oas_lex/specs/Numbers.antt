@@ -3,7 +3,7 @@
 -- An unsigned number is spelled in groups of 7 bits, lowest first, one group a byte. The byte's top bit is set on
 -- all bytes but the last. Groups of zeros may stand at the end. In the spelling of a signed number bit 0 is the sign
 -- and the bits above it are the magnitude. A number of more than 63 bits as spelled, sign bit included, is too wide.
-use Rattle.std.specs.Prelude.{ℕ, ◌+◌, ◌-◌, ◌*◌, ◌/◌, ◌%◌, ◌^◌, ◌<◌, ◌≤◌, ◌≡◌, ◌==◌, ◌⊎◌, ℤ, pos, neg_ℤ, List, [], ◌∷◌, length, take, drop, slice_range, if◌then◌else◌}
+use Rattle.std.specs.Prelude.{ℕ, ◌+◌, ◌*◌, ◌/◌, ◌%◌, ◌^◌, ◌<◌, ◌≤◌, ◌≡◌, ◌==◌, ◌⊎◌, ℤ, pos, neg_ℤ, List, [], ◌∷◌, length, take, drop, slice_range, if◌then◌else◌}
 
 -- the top bit is set on each byte, so the number goes on after them
 abbrev pub GoesOn : List ℕ → Type 0
@@ -56,11 +56,11 @@ pub record EndsFirst (bytes : List ℕ) (at : ℕ) : Type 0 where
   pub goes_on : GoesOn (drop at bytes)
   pub narrow : value_of (drop at bytes) < 2 ^ 63
 
--- the number that begins at `at` is too wide once `count` of its groups were read
-pub record IsWideAfter (bytes : List ℕ) (at count : ℕ) : Type 0 where
-  pub within : at + count ≤ length bytes
-  pub goes_on : GoesOn (take (count - 1) (drop at bytes))
-  pub wide : 2 ^ 63 ≤ value_of (take count (drop at bytes))
+-- the number that begins at `at` is too wide once the group after `before` groups is read
+pub record IsWideAfter (bytes : List ℕ) (at before : ℕ) : Type 0 where
+  pub within : at + before < length bytes
+  pub goes_on : GoesOn (take before (drop at bytes))
+  pub wide : 2 ^ 63 ≤ value_of (take (before + 1) (drop at bytes))
 
 abbrev pub IsWide : List ℕ → ℕ → Type 0
-IsWide bytes at = (count : ℕ) × IsWideAfter bytes at count
+IsWide bytes at = (before : ℕ) × IsWideAfter bytes at before

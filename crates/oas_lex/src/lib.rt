@@ -3,8 +3,10 @@
 //! Nothing here takes memory.
 #![tactic(auto)]
 
+mod numbers;
 mod spell;
 
+pub use numbers::{signed, unsigned};
 pub use spell::{ROOM, Spell, put_signed, put_unsigned};
 
 /// An unsigned number, a signed one or a string wasn't read.
