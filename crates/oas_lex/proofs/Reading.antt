@@ -1,9 +1,9 @@
 -- What the groups read so far make, and what follows once a number ends, the bytes end or it is too wide.
-use Rattle.std.proofs.Common.{◌≡◌, ◌≢◌, ℕ, zero, suc, ◌+◌, ◌-◌, ◌*◌, ◌/◌, ◌%◌, ◌^◌, ◌<◌, ◌≤◌, ◌⊎◌, List, [], ◌∷◌, ◌++◌, length, take, drop, get_or, min, refl, arith, inl, inr, ap, sym, ◌∙◌, subst, add-one, slice_range, length-drop}
+use Rattle.std.proofs.Common.{◌≡◌, ◌≢◌, ℕ, zero, suc, ◌+◌, ◌-◌, ◌*◌, ◌/◌, ◌%◌, ◌^◌, ◌<◌, ◌≤◌, ◌⊎◌, List, [], ◌∷◌, ◌++◌, length, take, drop, get_or, min, refl, arith, inl, inr, ap, sym, ◌∙◌, subst, add-one, slice_range, length-drop, ℤ}
 use Rattle.std.proofs.lemmas.List.{length-take-le, take_more}
 use Rattle.std.proofs.Math.Nat.{mul-le-mul_left}
 use Rattle.std.proofs.Math.Seq.{take-length}
-use Rattle.oas_lex.specs.Numbers.{GoesOn, IsWhole, value_of, IsUnsigned, HasUnsigned, EndsFirst, IsWide, IsWideAfter}
+use Rattle.oas_lex.specs.Numbers.{GoesOn, IsWhole, value_of, IsUnsigned, HasUnsigned, HasSigned, EndsFirst, IsWide, IsWideAfter}
 use Rattle.oas_lex.proofs.Wholes.{whole_not_on, value_take-le, whole_reaches, whole_some, one_whole}
 
 -- what the group after so many weighs
@@ -153,3 +153,7 @@ full_by rest k v w g s h group full none = sum_full rest k v w s h full (sym gro
 
 pub more_by : (rest : List ℕ) (k v w g : ℕ) → Summed rest k v w → k < length rest → g ≡ get_or rest k 0 % 128 → w ≢ 2 ^ 63 → Summed rest (k + 1) (v + g * w) (w * 128)
 more_by rest k v w g s h group other = rw group (sum_more rest k v w s h other)
+
+-- a signed number stands where the unsigned number of the same bytes does
+pub unsigned_of_signed : (bytes : List ℕ) (at : ℕ) (z : ℤ) (next : ℕ) → HasSigned bytes at z next → HasUnsigned bytes at (value_of (take (next - at) (drop at bytes))) next
+unsigned_of_signed bytes at z next h = record { within = h.within; spells = record { whole = h.spells.whole; value = refl }; narrow = h.narrow }

@@ -4,9 +4,11 @@
 #![tactic(auto)]
 
 mod numbers;
+mod shots;
 mod spell;
 
 pub use numbers::{signed, unsigned};
+pub use shots::{end_text, head_text, spell_shot};
 pub use spell::{ROOM, Spell, put_signed, put_unsigned};
 
 /// An unsigned number, a signed one or a string wasn't read.

@@ -6,9 +6,6 @@ use std::marker::Model;
 /// How many bytes a spelling has room for. A shot's record has at most 74, a shot file's head at most 48.
 pub const ROOM: usize = 80;
 
-/// The most bytes that a number of at most 63 bits is spelled in.
-const MOST_GROUPS: usize = 9;
-
 /// A few bytes that spell something, in a buffer of their own. Contracts see the list of the bytes.
 #[derive(Drop)]
 pub struct Spell {
@@ -60,6 +57,17 @@ impl Spell {
     {
         self.buffer[self.used] = byte;
         self.used += 1;
+    }
+
+    /// Appends bytes.
+    pub fn put_bytes(&mut self, bytes: &[u8])
+        requires { length self.old + length bytes.now ≤ ROOM }
+        ensures value { self.new ≡ self.old ++ bytes.now }
+        ensures size { length self.new ≡ length self.old + length bytes.now }
+    {
+        for byte in bytes {
+            self.push(*byte);
+        }
     }
 
     /// Appends the shortest spelling of an unsigned number.
