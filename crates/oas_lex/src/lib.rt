@@ -3,10 +3,12 @@
 //! Nothing here takes memory.
 #![tactic(auto)]
 
+mod laws;
 mod numbers;
 mod shots;
 mod spell;
 
+pub use laws::spelling_laws;
 pub use numbers::{signed, unsigned};
 pub use shots::{end_text, head_text, spell_shot};
 pub use spell::{ROOM, Spell, put_signed, put_unsigned};

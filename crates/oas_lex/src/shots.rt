@@ -68,14 +68,15 @@ fn width(trap: &Trap) -> u64
     ensures value { result ≡ unsigned_abs (box_width trap.now) }
     ensures narrow { result < 2 ^ 63 }
 {
-    trap.box_width().unsigned_abs()
+    (trap.greatest_x() - trap.least_x()).unsigned_abs()
 }
 
+// How many rows it has.
 fn height(trap: &Trap) -> u64
     ensures value { result ≡ unsigned_abs (trap.now.y1 -ℤ trap.now.y0) }
     ensures narrow { result < 2 ^ 63 }
 {
-    trap.height().unsigned_abs()
+    (trap.y1() - trap.y0()).unsigned_abs()
 }
 
 /// The record of one shot, for a layer and a datatype: RECTANGLE or TRAPEZOID, each field written, each number in its
