@@ -1,14 +1,11 @@
 -- Signed numbers and their codes, which have the sign in bit 0.
-use Rattle.std.proofs.Common.{◌≡◌, ℕ, zero, suc, ◌+◌, ◌-◌, ◌*◌, ◌/◌, ◌%◌, ◌^◌, ◌<◌, ◌≤◌, ◌⊎◌, ℤ, pos, negsuc, neg_ℤ, unsigned_abs, List, [], ◌∷◌, ◌++◌, length, take, drop, refl, arith, inl, inr, ap, sym, ◌∙◌, add-one, length-append}
+use Rattle.std.proofs.Common.{◌≡◌, ℕ, suc, ◌+◌, ◌*◌, ◌/◌, ◌%◌, ◌^◌, ◌<◌, ◌≤◌, ℤ, pos, negsuc, neg_ℤ, unsigned_abs, refl, arith, inl, inr, ap, sym, ◌∙◌}
 use Rattle.std.proofs.lemmas.Int.{ints}
 use Rattle.std.proofs.lemmas.Bool.{cases_lt}
 use Rattle.std.proofs.lemmas.Bool.Decides.{nat_tests}
-use Rattle.std.proofs.Math.Seq.{take-append_seam}
-use Rattle.std.proofs.lemmas.List.Prefix.{front_rest}
 use Rattle.oas_lex.specs.Spelling.{unsigned_text, signed_code, signed_text}
-use Rattle.oas_lex.specs.Numbers.{IsWhole, IsUnsigned, IsSigned, IsShortest, HasUnsigned, HasSigned, value_of, signed_value}
-use Rattle.oas_lex.proofs.Groups.{unsigned_spells, unsigned_least, length_unsigned}
-use Rattle.oas_lex.proofs.Reading.{has_one, unsigned_of_signed}
+use Rattle.oas_lex.specs.Numbers.{IsUnsigned, IsSigned, signed_value}
+use Rattle.oas_lex.proofs.Groups.{unsigned_spells}
 
 value_even : (code : ℕ) → code % 2 ≡ 0 → signed_value code ≡ pos (code / 2)
 value_even code h = grind (arith, nat_tests)
@@ -51,6 +48,6 @@ least_odd code (negsuc n) h e = let half : code / 2 ≡ n + 1 = omega (arith, in
 pub least_code : (code : ℕ) (z : ℤ) → signed_value code ≡ z → signed_code z ≤ code
 least_code code z e =
     elim (cases_lt (code % 2) 1) [
-        inl even ↦ let none : code % 2 ≡ 0 = omega arith in least_even code z none (sym (value_even code none) ∙ e)
+      | inl even ↦ let none : code % 2 ≡ 0 = omega arith in least_even code z none (sym (value_even code none) ∙ e)
       | inr odd ↦ let one : code % 2 ≡ 1 = omega arith in least_odd code z one (sym (value_odd code one) ∙ e)
     ]

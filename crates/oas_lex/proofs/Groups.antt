@@ -1,9 +1,9 @@
 -- The groups of a number: what they spell, and how many there are.
-use Rattle.std.proofs.Common.{◌≡◌, ℕ, zero, suc, ◌+◌, ◌-◌, ◌*◌, ◌/◌, ◌%◌, ◌^◌, ◌<◌, ◌≤◌, ◌⊎◌, List, [], ◌∷◌, ◌++◌, length, refl, arith, inl, inr, ap, sym, ◌∙◌, append_assoc, length-append}
+use Rattle.std.proofs.Common.{◌≡◌, ℕ, zero, suc, ◌+◌, ◌*◌, ◌/◌, ◌%◌, ◌^◌, ◌<◌, ◌≤◌, List, [], ◌∷◌, length, refl, arith, inl, inr, ap}
 use Rattle.std.proofs.lemmas.Bool.{cases_lt}
 use Rattle.std.proofs.lemmas.Bool.Decides.{nat_tests}
 use Rattle.oas_lex.specs.Spelling.{groups, unsigned_text}
-use Rattle.oas_lex.specs.Numbers.{IsWhole, IsUnsigned, IsShortest, value_of}
+use Rattle.oas_lex.specs.Numbers.{IsUnsigned, IsShortest, value_of}
 
 -- what a number of so many groups more than one is below
 abbrev pub limit : ℕ → ℕ

@@ -5,3 +5,7 @@ pub mod Reading
 pub mod Codes
 pub mod SpellingLemmas
 pub mod ShotLemmas
+pub mod ShotNames
+pub mod Peels
+pub mod ShotTexts
+pub mod ForCallers

@@ -1,9 +1,9 @@
 -- What the groups read so far make, and what follows once a number ends, the bytes end or it is too wide.
-use Rattle.std.proofs.Common.{◌≡◌, ◌≢◌, ℕ, zero, suc, ◌+◌, ◌-◌, ◌*◌, ◌/◌, ◌%◌, ◌^◌, ◌<◌, ◌≤◌, ◌⊎◌, List, [], ◌∷◌, ◌++◌, length, take, drop, get_or, min, refl, arith, inl, inr, ap, sym, ◌∙◌, subst, add-one, slice_range, length-drop, ℤ}
+use Rattle.std.proofs.Common.{◌≡◌, ◌≢◌, ℕ, zero, suc, ◌+◌, ◌-◌, ◌*◌, ◌%◌, ◌^◌, ◌<◌, ◌≤◌, List, [], ◌∷◌, ◌++◌, length, take, drop, get_or, min, refl, arith, inl, inr, ap, sym, ◌∙◌, add-one, length-drop, ℤ}
 use Rattle.std.proofs.lemmas.List.{length-take-le, take_more}
 use Rattle.std.proofs.Math.Nat.{mul-le-mul_left}
 use Rattle.std.proofs.Math.Seq.{take-length}
-use Rattle.oas_lex.specs.Numbers.{GoesOn, IsWhole, value_of, IsUnsigned, HasUnsigned, HasSigned, EndsFirst, IsWide, IsWideAfter}
+use Rattle.oas_lex.specs.Numbers.{GoesOn, IsWhole, value_of, HasUnsigned, HasSigned, EndsFirst, IsWide}
 use Rattle.oas_lex.proofs.Wholes.{whole_not_on, value_take-le, whole_reaches, whole_some, one_whole}
 
 -- what the group after so many weighs
@@ -113,8 +113,7 @@ pub has_one : (bytes : List ℕ) (at n next m last : ℕ) → HasUnsigned bytes 
 has_one bytes at n next m last h g =
     let size : length (drop at bytes) ≡ length bytes - at = length-drop at bytes in
     let same : next - at ≡ last - at = one_whole (drop at bytes) (next - at) (last - at) (omega (arith, h.within)) (omega (arith, g.within)) h.spells.whole g.spells.whole in
-    let value : value_of (take (next - at) (drop at bytes)) ≡ value_of (take (last - at) (drop at bytes)) = ap (λ k. value_of (take k (drop at bytes))) same in
-    (
+    let value : value_of (take (next - at) (drop at bytes)) ≡ value_of (take (last - at) (drop at bytes)) = ap (λ k. value_of (take k (drop at bytes))) same in (
       sym h.spells.value ∙ (value ∙ g.spells.value),
       omega (arith, whole_some (drop at bytes) (next - at) h.spells.whole, whole_some (drop at bytes) (last - at) g.spells.whole),
     )

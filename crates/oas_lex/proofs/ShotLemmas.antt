@@ -1,5 +1,5 @@
 -- A record that is put together field by field is the spelling of its shot.
-use Rattle.std.proofs.Common.{◌≡◌, ℕ, ℤ, ◌-ℤ◌, List, [], ◌∷◌, ◌++◌, append_assoc, unsigned_abs, ap, sym, ◌∙◌, FitsSigned, w64}
+use Rattle.std.proofs.Common.{◌≡◌, ℕ, ℤ, ◌-ℤ◌, List, [], ◌∷◌, ◌++◌, append_assoc, unsigned_abs, ap, ◌∙◌, FitsSigned, w64}
 use Rattle.std.proofs.lemmas.Int.{to_z-of_z}
 use mir.Val.{to_z, of_z}
 use Rattle.half_grid.specs.Trapezoids.{Trapezoid, box_width}

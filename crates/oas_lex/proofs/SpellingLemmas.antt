@@ -1,11 +1,11 @@
 -- The laws of the spellings of integers.
-use Rattle.std.proofs.Common.{◌≡◌, ℕ, zero, suc, ◌+◌, ◌-◌, ◌/◌, ◌%◌, ◌*◌, ◌^◌, ◌<◌, ◌≤◌, ◌⊎◌, ℤ, pos, negsuc, unsigned_abs, List, [], ◌∷◌, ◌++◌, length, take, drop, refl, arith, inl, inr, ap, sym, ◌∙◌, length-append}
+use Rattle.std.proofs.Common.{◌≡◌, ℕ, zero, suc, ◌+◌, ◌-◌, ◌/◌, ◌^◌, ◌<◌, ◌≤◌, ℤ, unsigned_abs, List, [], ◌∷◌, ◌++◌, length, take, drop, refl, arith, inl, inr, ap, sym, ◌∙◌, length-append}
 use Rattle.std.proofs.lemmas.Bool.{cases_lt}
 use Rattle.std.proofs.Math.Seq.{take-append_seam}
 use Rattle.std.proofs.lemmas.List.Prefix.{front_rest}
 use Rattle.oas_lex.specs.Spelling.{groups, unsigned_text, signed_code, signed_text}
 use Rattle.oas_lex.specs.Numbers.{IsWhole, IsUnsigned, IsSigned, HasUnsigned, HasSigned, value_of, signed_value}
-use Rattle.oas_lex.proofs.Groups.{limit, groups_last, groups_next, unsigned_spells, unsigned_least}
+use Rattle.oas_lex.proofs.Groups.{groups_last, groups_next, unsigned_spells}
 use Rattle.oas_lex.proofs.Reading.{has_one, unsigned_of_signed}
 use Rattle.oas_lex.proofs.Codes.{code_below, signed_spells, least_code}
 
@@ -15,13 +15,13 @@ fewer_groups more n [] h e = absurd h
 fewer_groups zero n (b ∷ other) h e = omega arith
 fewer_groups (suc more) n (b ∷ other) h e =
     elim (cases_lt n 128) [
-        inl small ↦ rw groups_last (omega arith)
+      | inl small ↦ rw groups_last (omega arith)
       | inr large ↦ elim h [
-            inl last ↦ let nothing : value_of other ≡ 0 = ap value_of last.1 in absurd (omega arith)
-          | inr next ↦
-                let rest : n / 128 ≤ value_of other = omega arith in
-                rw groups_next (omega (arith, fewer_groups more (n / 128) other next.1 rest))
-        ]
+        | inl last ↦ let nothing : value_of other ≡ 0 = ap value_of last.1 in absurd (omega arith)
+        | inr next ↦
+            let rest : n / 128 ≤ value_of other = omega arith in
+            rw groups_next (omega (arith, fewer_groups more (n / 128) other next.1 rest))
+      ]
     ]
 
 pub signed_least : (z : ℤ) (other : List ℕ) → unsigned_abs z < 2 ^ 62 → IsSigned other z → length (signed_text z) ≤ length other

@@ -1,5 +1,5 @@
 -- Where the spelling of a number ends: in one place at most, and nothing that follows it changes that.
-use Rattle.std.proofs.Common.{◌≡◌, ℕ, zero, suc, ◌+◌, ◌-◌, ◌*◌, ◌%◌, ◌^◌, ◌<◌, ◌≤◌, ◌⊎◌, List, [], ◌∷◌, ◌++◌, length, take, drop, refl, arith, inl, inr, ap, sym, ◌∙◌, subst}
+use Rattle.std.proofs.Common.{◌≡◌, ℕ, zero, suc, ◌<◌, ◌≤◌, List, [], ◌∷◌, ◌++◌, length, take, arith, inl, inr, ap}
 use Rattle.std.proofs.lemmas.List.{length-take-le}
 use Rattle.oas_lex.specs.Numbers.{GoesOn, IsWhole, value_of}
 
@@ -41,12 +41,12 @@ one_whole (x ∷ xs) (suc m) (suc k) a b h g =
     let shorter : m ≤ length xs = omega arith in
     let other : k ≤ length xs = omega arith in
     elim h [
-        inl last ↦ elim g [
-            inl end ↦ let first : length (take m xs) ≡ 0 = ap length last.1 in
-                let second : length (take k xs) ≡ 0 = ap length end.1 in
-                omega (arith, length-take-le m xs shorter, length-take-le k xs other)
-          | inr next ↦ absurd (omega arith)
-        ]
+      | inl last ↦ elim g [
+        | inl end ↦ let first : length (take m xs) ≡ 0 = ap length last.1 in
+            let second : length (take k xs) ≡ 0 = ap length end.1 in
+            omega (arith, length-take-le m xs shorter, length-take-le k xs other)
+        | inr next ↦ absurd (omega arith)
+      ]
       | inr next ↦ elim g [ inl end ↦ absurd (omega arith) | inr more ↦ ap suc (one_whole xs m k shorter other next.1 more.1) ]
     ]
 
@@ -58,15 +58,15 @@ none_begins (p ∷ a) (q ∷ b) x y h g e =
     let same : p ≡ q = cc in
     let rest : a ++ x ≡ b ++ y = cc in
     elim h [
-        inl last ↦ elim g [
-            inl end ↦ let equal : a ≡ b = cc in
-                let left : a ++ x ≡ x = ap (λ t. t ++ x) last.1 in
-                let right : b ++ y ≡ y = ap (λ t. t ++ y) end.1 in
-                (cc, cc)
-          | inr next ↦ absurd (omega arith)
-        ]
+      | inl last ↦ elim g [
+        | inl end ↦ let equal : a ≡ b = cc in
+            let left : a ++ x ≡ x = ap (λ t. t ++ x) last.1 in
+            let right : b ++ y ≡ y = ap (λ t. t ++ y) end.1 in
+            (cc, cc)
+        | inr next ↦ absurd (omega arith)
+      ]
       | inr next ↦ elim g [
-            inl end ↦ absurd (omega arith)
-          | inr more ↦ let both : (a ≡ b) × (x ≡ y) = none_begins a b x y next.1 more.1 rest in (cc, both.1)
-        ]
+        | inl end ↦ absurd (omega arith)
+        | inr more ↦ let both : (a ≡ b) × (x ≡ y) = none_begins a b x y next.1 more.1 rest in (cc, both.1)
+      ]
     ]

@@ -1,6 +1,6 @@
 -- What the spellings of integers keep: they are shortest, none begins another, and each is read back with its end.
 use Rattle.std.specs.Prelude.{ℕ, ◌+◌, ◌^◌, ◌<◌, ◌≤◌, ◌≡◌, ℤ, List, ◌++◌, length, unsigned_abs}
-use Rattle.oas_lex.specs.Spelling.{unsigned_text, signed_text, signed_code}
+use Rattle.oas_lex.specs.Spelling.{unsigned_text, signed_text}
 use Rattle.oas_lex.specs.Numbers.{IsWhole, IsShortest, IsSigned, HasUnsigned, HasSigned}
 
 -- The text of an unsigned number spells it, and no spelling is shorter.

@@ -8,7 +8,7 @@ mod numbers;
 mod shots;
 mod spell;
 
-pub use laws::spelling_laws;
+pub use laws::{shot_laws, spelling_laws};
 pub use numbers::{signed, unsigned};
 pub use shots::{end_text, head_text, spell_shot};
 pub use spell::{ROOM, Spell, put_signed, put_unsigned};
@@ -23,3 +23,6 @@ pub enum LexBad {
     /// A real's kind is above 7.
     RealKind,
 }
+
+#[cfg(test)]
+mod tests;

@@ -3,13 +3,15 @@ ghost use Rattle.half_grid.specs.Trapezoids.{box_width};
 ghost use Rattle.oas_lex.specs.Spelling.{signed_text, unsigned_text};
 ghost use Rattle.oas_lex.specs.ShotText.{head, end, spelling_of, record_id, delta_text, left_delta, right_delta};
 
-use crate::spell::Spell;
+use crate::spell::{ROOM, Spell};
 use half_grid::Trap;
 
 const RECTANGLE: u8 = 20;
 /// A trapezoid with both deltas, with delta a alone and with delta b alone.
 const TRAPEZOID: u8 = 23;
+
 const TRAPEZOID_A: u8 = 24;
+
 const TRAPEZOID_B: u8 = 25;
 /// Width, height, x, y, datatype and layer are written: no square, no repetition, and a trapezoid is horizontal.
 const INFO: u8 = 0x7B;
@@ -43,7 +45,11 @@ fn record_id(trap: &Trap) -> u8
     ensures { result ≡ record_id trap.now }
 {
     if left_delta(trap) == 0 {
-        if right_delta(trap) == 0 { RECTANGLE } else { TRAPEZOID_B }
+        if right_delta(trap) == 0 {
+            RECTANGLE
+        } else {
+            TRAPEZOID_B
+        }
     } else if right_delta(trap) == 0 {
         TRAPEZOID_A
     } else {
@@ -54,7 +60,7 @@ fn record_id(trap: &Trap) -> u8
 // Appends a delta, which isn't written where it is 0.
 fn put_delta(spell: &mut Spell, delta: i64)
     requires narrow { unsigned_abs delta < 2 ^ 62 }
-    requires room { length spell.old + 9 ≤ 80 }
+    requires room { length spell.old + 9 ≤ ROOM }
     ensures value { spell.new ≡ spell.old ++ delta_text delta }
     ensures size { length spell.new ≤ length spell.old + 9 }
 {

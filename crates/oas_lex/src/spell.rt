@@ -42,9 +42,10 @@ impl Spell {
         }
     }
 
-    /// Its bytes.
+    /// Its bytes, of which there are at most `ROOM`.
     pub fn bytes(&self) -> &[u8]
-        ensures { result.now ≡ self.now }
+        ensures value { result.now ≡ self.now }
+        ensures room { length result.now ≤ ROOM }
     {
         &self.buffer[..self.used]
     }

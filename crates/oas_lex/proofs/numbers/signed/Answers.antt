@@ -1,6 +1,6 @@
-use Rattle.std.proofs.Common.{◌≡◌, ℤ, FitsSigned, w64, refl, rules, ap, sym, ◌∙◌, take, drop, ◌-◌}
+use Rattle.std.proofs.Common.{◌≡◌, FitsSigned, w64, rules, ap, ◌∙◌, take, drop, ◌-◌}
 use Rattle.std.proofs.lemmas.Int.{to_z-of_z}
-use Rattle.oas_lex.specs.Numbers.{HasUnsigned, signed_value, value_of}
+use Rattle.oas_lex.specs.Numbers.{signed_value, value_of}
 use Rattle.oas_lex.proofs.Reading.{has_one, unsigned_of_signed}
 use Rattle.oas_lex.proofs.numbers.signed.Goals as goal
 

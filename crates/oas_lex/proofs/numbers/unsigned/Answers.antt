@@ -1,5 +1,5 @@
-use Rattle.std.proofs.Common.{◌≡◌, ◌+◌, ◌<◌, ◌≤◌, ◌*◌, ◌%◌, ◌≢◌, ◌^◌, length, take, drop, get_or, refl, arith, sym}
-use Rattle.oas_lex.specs.Numbers.{GoesOn, HasUnsigned, EndsFirst, IsWide}
+use Rattle.std.proofs.Common.{◌≡◌, ◌+◌, ◌<◌, ◌≤◌, ◌*◌, ◌^◌, drop, refl, arith}
+use Rattle.oas_lex.specs.Numbers.{EndsFirst, IsWide}
 use Rattle.oas_lex.proofs.Reading.{Summed, rest_is, wide_by, full_by, more_by, sum_below, on_more, has_unsigned, ends_first, has_not_wide, ends_not_has, ends_not_wide, has_one}
 use Rattle.oas_lex.proofs.numbers.unsigned.Goals as goal
 use Rattle.oas_lex.proofs.numbers.unsigned.Goals.{then-weight+else-group-ne0, else-weight}
@@ -48,7 +48,7 @@ returns-then-byte-lt128-clause-ok c =
     let last = rw whole at c.if-byte-lt128.true in
     let sum : Summed (drop c.args.at c.args.bytes.now) (c.loop-index.index + 1) c.if-weight.value c.if-weight.weight =
     elim c.if-weight.branch [
-        then-weight+else-group-ne0 w ↦ rw (w.value-is, w.weight-is) (full_by (drop c.args.at c.args.bytes.now) c.loop-index.index c.loop-index.value c.loop-index.weight c.from-group.result c.loop-index.invariant.sum test group w.if-weight.true w.if-group-ne0.false)
+      | then-weight+else-group-ne0 w ↦ rw (w.value-is, w.weight-is) (full_by (drop c.args.at c.args.bytes.now) c.loop-index.index c.loop-index.value c.loop-index.weight c.from-group.result c.loop-index.invariant.sum test group w.if-weight.true w.if-group-ne0.false)
       | else-weight w ↦ rw (w.value-is, w.weight-is) (more_by (drop c.args.at c.args.bytes.now) c.loop-index.index c.loop-index.value c.loop-index.weight c.from-group.result c.loop-index.invariant.sum test group w.if-weight.false)
     ] in
     has_unsigned c.args.bytes.now c.args.at c.loop-index.index c.if-weight.value c.if-weight.weight sum c.loop-index.invariant.goes_on test last
@@ -80,7 +80,7 @@ loop-index-preserved c =
     record {
       goes_on = on_more (drop c.args.at c.args.bytes.now) c.loop-index.index test c.loop-index.invariant.goes_on next;
       sum = elim c.if-weight.branch [
-          then-weight+else-group-ne0 w ↦ rw (w.value-is, w.weight-is) (full_by (drop c.args.at c.args.bytes.now) c.loop-index.index c.loop-index.value c.loop-index.weight c.from-group.result c.loop-index.invariant.sum test group w.if-weight.true w.if-group-ne0.false)
+        | then-weight+else-group-ne0 w ↦ rw (w.value-is, w.weight-is) (full_by (drop c.args.at c.args.bytes.now) c.loop-index.index c.loop-index.value c.loop-index.weight c.from-group.result c.loop-index.invariant.sum test group w.if-weight.true w.if-group-ne0.false)
         | else-weight w ↦ rw (w.value-is, w.weight-is) (more_by (drop c.args.at c.args.bytes.now) c.loop-index.index c.loop-index.value c.loop-index.weight c.from-group.result c.loop-index.invariant.sum test group w.if-weight.false)
       ];
     }
