@@ -1,4 +1,4 @@
-ghost use Rattle.std.specs.Prelude.{◌≡◌, ◌≤◌, ◌<◌, ◌^◌, ℕ, ℤ, ◌↔◌, length, IfOk};
+ghost use Rattle.std.specs.Prelude.{◌≡◌, ◌≢◌, ◌≤◌, ◌<◌, ◌^◌, ℕ, ℤ, ◌↔◌, length, IfOk};
 ghost use Rattle.oas_lex.specs.Numbers.{HasUnsigned, HasSigned, EndsFirst, IsWide, signed_value};
 
 use crate::LexBad;
@@ -16,6 +16,7 @@ pub fn unsigned(bytes: &[u8], at: usize) -> Result<(u64, usize), LexBad>
     ensures read { (n next : ℕ) → HasUnsigned bytes.now at n next → result ≡ Ok (n, next) }
     ensures short { (result ≡ Err LexBad.Short) ↔ EndsFirst bytes.now at }
     ensures wide { (result ≡ Err LexBad.Wide) ↔ IsWide bytes.now at }
+    ensures no_real { result ≢ Err LexBad.RealKind }
 {
     let rest = &bytes[at..];
     let mut value: u64 = 0;
@@ -46,6 +47,7 @@ pub fn signed(bytes: &[u8], at: usize) -> Result<(i64, usize), LexBad>
     ensures read { (z : ℤ) (next : ℕ) → HasSigned bytes.now at z next → result ≡ Ok (z, next) }
     ensures short { (result ≡ Err LexBad.Short) ↔ EndsFirst bytes.now at }
     ensures wide { (result ≡ Err LexBad.Wide) ↔ IsWide bytes.now at }
+    ensures no_real { result ≢ Err LexBad.RealKind }
 {
     let (code, next) = unsigned(bytes, at)?;
     Ok((value_of_code(code), next))

@@ -1,18 +1,22 @@
 ghost use Rattle.std.specs.Prelude.{◌≡◌, ◌+◌, ◌-ℤ◌, ◌^◌, ◌<◌, ◌≤◌, ◌++◌, length, unsigned_abs};
 ghost use Rattle.half_grid.specs.Trapezoids.{box_width};
-ghost use Rattle.oas_lex.specs.Spelling.{signed_text, unsigned_text};
 ghost use Rattle.oas_lex.specs.ShotText.{head, end, spelling_of, record_id, delta_text, left_delta, right_delta};
 
 use crate::spell::{ROOM, Spell};
 use half_grid::Trap;
 
+/// The record of a shot with both sides upright.
 const RECTANGLE: u8 = 20;
-/// A trapezoid with both deltas, with delta a alone and with delta b alone.
+
+/// The record of a shot with neither side upright.
 const TRAPEZOID: u8 = 23;
 
+/// The record of a shot whose right side alone is upright.
 const TRAPEZOID_A: u8 = 24;
 
+/// The record of a shot whose left side alone is upright.
 const TRAPEZOID_B: u8 = 25;
+
 /// Width, height, x, y, datatype and layer are written: no square, no repetition, and a trapezoid is horizontal.
 const INFO: u8 = 0x7B;
 

@@ -14,7 +14,7 @@ fn trap(rt: &impl Abort, y0: i64, y1: i64, left: Line, right: Line) -> Trap {
 }
 
 #[test]
-fn reads_numbers(rt: HostRuntime) {
+fn reads_unsigned_numbers(rt: HostRuntime) {
     spelling_laws();
     assert_eq!(rt; unsigned(&[0x00], 0), Ok((0, 1)));
     assert_eq!(rt; unsigned(&[0x7F, 0x80, 0x01], 1), Ok((128, 3)));
@@ -53,6 +53,10 @@ fn reads_numbers(rt: HostRuntime) {
         Err(LexBad::Short)
     );
     assert_eq!(rt; unsigned(&[0x01], 1), Err(LexBad::Short));
+}
+
+#[test]
+fn reads_signed_numbers(rt: HostRuntime) {
     assert_eq!(rt; signed(&[0x00], 0), Ok((0, 1)));
     assert_eq!(rt; signed(&[0x01], 0), Ok((0, 1)));
     assert_eq!(rt; signed(&[0x09, 0x81, 0x01], 1), Ok((-64, 3)));
