@@ -1,0 +1,11 @@
+pub mod Groups
+pub mod PutUnsigned
+pub mod Wholes
+pub mod Reading
+pub mod Codes
+pub mod SpellingLemmas
+pub mod ShotLemmas
+pub mod ShotNames
+pub mod Peels
+pub mod ShotTexts
+pub mod ForCallers

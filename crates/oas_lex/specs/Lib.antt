@@ -1,2 +1,5 @@
 pub mod Spelling
+pub mod Numbers
+pub mod SpellingLaws
 pub mod ShotText
+pub mod ShotLaws

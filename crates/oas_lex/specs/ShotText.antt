@@ -1,6 +1,6 @@
 -- The one text of a shot file: an OASIS file (SEMI P39 1.0) in half units with one cell SHOTS and one RECTANGLE or
 -- TRAPEZOID record a shot, each with all its fields and each number in its shortest spelling.
-use Rattle.std.specs.Prelude.{ℕ, ◌+◌, ℤ, pos, ◌-ℤ◌, Bool, List, [], ◌∷◌, ◌++◌, replicate, flat_map, codes, unsigned_abs, if◌then◌else◌}
+use Rattle.std.specs.Prelude.{ℕ, ℤ, pos, ◌-ℤ◌, List, [], ◌∷◌, ◌++◌, replicate, flat_map, codes, unsigned_abs, if◌then◌else◌}
 use Rattle.std.specs.Ordering.{int_eq}
 use Rattle.std.specs.Int.{int_min}
 use Rattle.half_grid.specs.Lines.{x_on}
