@@ -78,7 +78,7 @@ has_by true t l r j e =
     let same : t.j ≡ j = int_eq_true t.j j e in
     rw (← same)
     (ap (λ x. x && int_lt (strip_along r t) (first_strip r)) (same_le (first_strip l) (strip_along l t) (place l t.j) (number_in_row t) (place_at_most t l) (right_by_place t l))
-     ∙ ap (λ x. int_le (place l t.j) (number_in_row t) && x) (same_lt (strip_along r t) (first_strip r) (number_in_row t) (place r t.j) (number_below t r) (left_by_place t r)))
+    ∙ ap (λ x. int_le (place l t.j) (number_in_row t) && x) (same_lt (strip_along r t) (first_strip r) (number_in_row t) (place r t.j) (number_below t r) (left_by_place t r)))
 
 -- the tiles of a row's trapezoid
 pub row_has : (t : Tile) (l r : Line) (j : ℤ) → trapezoid_has t (trapezoid j (j +ℤ pos 1) l r) ≡ in_row j (place l j) (place r j) t

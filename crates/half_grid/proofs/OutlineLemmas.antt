@@ -87,12 +87,12 @@ right_by_spans t a b x true d eu ed grid ax bx n =
     let low = rises_low t a b eu in
     let high = rises_high t a b eu in
     crossing_rising t a b eu (any_right t a b (line_of a b) (line_of_through a b) (line_of_none a b) grid (λ e. omega (arith, ints, low, high, e))
-        (λ l pa pb. line_left l t a b x pa pb low high ax bx n))
+    (λ l pa pb. line_left l t a b x pa pb low high ax bx n))
 right_by_spans t a b x false true eu ed grid ax bx n =
     let low = rises_low t b a ed in
     let high = rises_high t b a ed in
     crossing_falling t a b ed (any_right t a b (line_of a b) (line_of_through a b) (line_of_none a b) grid (λ e. omega (arith, ints, low, high, e))
-        (λ l pa pb. line_left l t b a x pb pa low high bx ax n))
+    (λ l pa pb. line_left l t b a x pb pa low high bx ax n))
 right_by_spans t a b x false false eu ed grid ax bx n = crossing_none t a b eu ed ∙ sym (level t a b eu ed)
 
 -- an edge on the grid with both ends left of X adds, at a tile right of X, what its ends differ in being below the row

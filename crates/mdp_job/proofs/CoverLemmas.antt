@@ -73,8 +73,8 @@ in_the_row k first end ins left right =
     by_lt_z k first
     (λ before. rw (left before, and_no (int_le first k && int_lt k end)) refl)
     (λ from. by_lt_z k end
-        (λ inside. rw (le_yes first k from, lt_yes k end inside) (omega arith))
-        (λ after. rw (right after, and_no (int_le first k && int_lt k end)) refl))
+    (λ inside. rw (le_yes first k from, lt_yes k end inside) (omega arith))
+    (λ after. rw (right after, and_no (int_le first k && int_lt k end)) refl))
 
 row_step : (x row k first end : ℤ) (ins : Bool) → (k <ℤ first → ins ≡ false) → (end ≤ℤ k → ins ≡ false)
     → count_one (int_lt x row && ins) + count_one ((int_eq x row && (int_le first k && int_lt k end)) && ins) ≡ count_one (int_lt x (row +ℤ pos 1) && ins)
@@ -82,11 +82,11 @@ row_step x row k first end ins left right =
     by_lt_z x row
     (λ below. rw (int_eq_other x row (λ e. omega (arith, ints, below, e)), lt_yes x row below, lt_yes x (row +ℤ pos 1) (omega (arith, ints))) (omega arith))
     (λ from. by_lt_z row x
-        (λ above. rw (int_eq_other x row (λ e. omega (arith, ints, above, e)), lt_no x row from, lt_no x (row +ℤ pos 1) (omega (arith, ints))) refl)
-        (λ at_most.
-            let same : x ≡ row = omega (arith, ints) in
-            rw (int_eq_same x row same, lt_no x row from, lt_yes x (row +ℤ pos 1) (omega (arith, ints)))
-            (in_the_row k first end ins left right)))
+    (λ above. rw (int_eq_other x row (λ e. omega (arith, ints, above, e)), lt_no x row from, lt_no x (row +ℤ pos 1) (omega (arith, ints))) refl)
+    (λ at_most.
+    let same : x ≡ row = omega (arith, ints) in
+    rw (int_eq_same x row same, lt_no x row from, lt_yes x (row +ℤ pos 1) (omega (arith, ints)))
+    (in_the_row k first end ins left right)))
 
 -- one row more
 pub counts_row : (points : List Point) (b : Bounds) (row : ℤ) (before now : List Trapezoid) → HasBox points b → AddsPart points row (twice b.x0) (twice b.x1) before now
@@ -108,8 +108,8 @@ counts_all points b row shots h done counts = record {
   once = λ t inside. counts t ∙ by_lt_z t.j row
       (λ below. rw (lt_yes t.j row below, inside_yes points t inside) refl)
       (λ above.
-          let no : is_inside points t ≡ false = over_out points b t h (omega (arith, ints)) in
-          let clash : true ≡ false = sym (inside_yes points t inside) ∙ no in
-          let bad : ⊥ = cc in absurd bad);
+      let no : is_inside points t ≡ false = over_out points b t h (omega (arith, ints)) in
+      let clash : true ≡ false = sym (inside_yes points t inside) ∙ no in
+      let bad : ⊥ = cc in absurd bad);
   never = λ t not_inside. counts t ∙ (rw (inside_no points t _ refl not_inside, and_no (int_lt t.j row)) refl);
 }

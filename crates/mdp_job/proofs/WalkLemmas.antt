@@ -66,10 +66,10 @@ count_step k first n b s ins fn nb bs out into =
     by_lt_z k n
     (λ before. rw (lt_yes k n before, lt_yes k s (omega (arith, ints)), le_no b k (omega (arith, ints))) (omega arith))
     (λ from_n. by_lt_z k b
-        (λ gap. rw (out from_n gap, and_no (int_le first k && int_lt k n), and_no (int_le first k && int_lt k s), le_no b k gap) refl)
-        (λ from_b. by_lt_z k s
-            (λ inside. rw (into from_b inside, lt_no k n from_n, le_yes b k from_b, lt_yes k s inside, le_yes first k (omega (arith, ints))) refl)
-            (λ after. rw (lt_no k n from_n, lt_no k s after, and_no (int_le first k), and_no (int_le b k)) refl)))
+    (λ gap. rw (out from_n gap, and_no (int_le first k && int_lt k n), and_no (int_le first k && int_lt k s), le_no b k gap) refl)
+    (λ from_b. by_lt_z k s
+    (λ inside. rw (into from_b inside, lt_no k n from_n, le_yes b k from_b, lt_yes k s inside, le_yes first k (omega (arith, ints))) refl)
+    (λ after. rw (lt_no k n from_n, lt_no k s after, and_no (int_le first k), and_no (int_le b k)) refl)))
 
 -- the same, wherever the tile stands
 run_step : (e : Bool) (k first n b s : ℤ) (ins : Bool) → first ≤ℤ n → n ≤ℤ b → b ≤ℤ s → (e ≡ true → n ≤ℤ k → k <ℤ b → ins ≡ false) → (e ≡ true → b ≤ℤ k → k <ℤ s → ins ≡ true)
@@ -94,7 +94,7 @@ adds_run points row first n b s before now z fn nb bs out into has adds t =
     ∙ ap (λ h. (count_in before t + count_one (inside_part points row first n t)) + count_one h) (has t)
     ∙ add_assoc (count_in before t) (count_one (inside_part points row first n t)) (count_one (in_row row b s t))
     ∙ ap (λ m. count_in before t + m) (run_step (int_eq t.j row) (number_in_row t) first n b s (is_inside points t) fn nb bs
-        (λ e low high. out t (int_eq_true t.j row e) low high) (λ e low high. into t (int_eq_true t.j row e) low high))
+    (λ e low high. out t (int_eq_true t.j row e) low high) (λ e low high. into t (int_eq_true t.j row e) low high))
 
 rest_step : (e : Bool) (k first n s : ℤ) (ins : Bool) → first ≤ℤ n → n ≤ℤ s → (e ≡ true → n ≤ℤ k → k <ℤ s → ins ≡ false)
     → count_one ((e && (int_le first k && int_lt k n)) && ins) ≡ count_one ((e && (int_le first k && int_lt k s)) && ins)
@@ -103,8 +103,8 @@ rest_step true k first n s ins fn ns out =
     by_lt_z k n
     (λ before. rw (lt_yes k n before, lt_yes k s (omega (arith, ints))) refl)
     (λ from_n. by_lt_z k s
-        (λ gap. rw (out refl from_n gap, and_no (int_le first k && int_lt k n), and_no (int_le first k && int_lt k s)) refl)
-        (λ after. rw (lt_no k n from_n, lt_no k s after) refl))
+    (λ gap. rw (out refl from_n gap, and_no (int_le first k && int_lt k n), and_no (int_le first k && int_lt k s)) refl)
+    (λ after. rw (lt_no k n from_n, lt_no k s after) refl))
 
 -- the rest of the row holds nothing
 pub adds_rest : (points : List Point) (row first n end : ℤ) (before now : List Trapezoid) → first ≤ℤ n → n ≤ℤ end → AllSo points row n end false

@@ -7,11 +7,11 @@ ghost use Rattle.mdp_job.specs.Words.{IsFracture};
 ghost use Rattle.mdp_job.specs.FirstDeck.{IsDeckOf};
 ghost use Rattle.mdp_job.specs.FirstLayout.{IsLayoutOf};
 
-mod row_walk;
 mod first_deck;
 mod first_layout;
 mod layout_parts;
 mod layout_points;
+mod row_walk;
 #[cfg(test)]
 mod tests;
 

@@ -8,7 +8,6 @@ ghost use Rattle.half_grid.specs.Rows.{number_in_row, in_row};
 ghost use Rattle.std.specs.Prelude.{IsSome, IfSome};
 ghost use Rattle.std.specs.Int.{int_min, int_max};
 ghost use Rattle.half_grid.specs.Trapezoids.{trapezoid_has};
-
 ghost use Rattle.mdp_job.specs.Inside.{is_inside, IsClose, IsInBox, IsFirstShot, AddsPart};
 ghost use Rattle.std.specs.List.{AllByRecursion};
 ghost use Rattle.std.specs.Prelude.{neg_ℤ, OnOk, IfOk, All, ◌<◌, length};
@@ -19,10 +18,9 @@ ghost use Rattle.half_grid.specs.Winding.{IsInPolygon};
 ghost use Rattle.mdp_job.specs.Bounds.{IsInBounds, AreNearBounds};
 ghost use Rattle.mdp_job.specs.FirstLayout.{IsNearOrigin};
 
-use std::alloc::Global;
-
 use geo_stream::NoMemory;
 use half_grid::{Point, Tile, Trap, line_at, tile_at, winding_at};
+use std::alloc::Global;
 
 fn is_inside(points: &[Point], tile: Tile) -> bool
     requires { IsTileWithinReach tile }

@@ -20,8 +20,8 @@ loop-number-preserved-in_ok-push c =
     let tiles = simp to_z-of_z at c.in-Some.ensures.tiles in
     let so_far = simp to_z-of_z at c.loop-number.invariant.2 in
     let added = adds_run c.args.points.now c.args.row c.args.first (to_z w64 c.loop-number.number-bits) c.first_where-begin.result c.first_where-stop.result
-        c.args.shots.now.items c.loop-number.shots.items c.in-Some.shot (omega (arith, ints)) (omega (arith, ints)) (omega (arith, ints))
-        outside (so_first c.args.points.now c.args.row c.first_where-begin.result c.first_where-stop.result _ (begins early) inside) tiles so_far in
+    c.args.shots.now.items c.loop-number.shots.items c.in-Some.shot (omega (arith, ints)) (omega (arith, ints)) (omega (arith, ints))
+    outside (so_first c.args.points.now c.args.row c.first_where-begin.result c.first_where-stop.result _ (begins early) inside) tiles so_far in
     let all = all_push IsFirstShot c.loop-number.shots.items c.in-Some.shot c.loop-number.invariant.3 c.in-Some.ensures.shot in
     (omega (arith, ints), omega (arith, ints), rw c.in_ok-push.ensures.items (simp to_z-of_z added), rw c.in_ok-push.ensures.items all)
 
@@ -45,4 +45,4 @@ returns-then-begin-end-clause-tiles c =
     let all : c.first_where-begin.result ≡ c.args.end = sym (to_z-of_z w64 c.first_where-begin.result begin) ∙ ap (to_z w64) c.if-begin-end.true ∙ to_z-of_z w64 c.args.end end in
     subst (λ n. AddsPart c.args.points.now c.args.row c.args.first n c.args.shots.now.items c.loop-number.shots.items) all
     (adds_rest c.args.points.now c.args.row c.args.first (to_z w64 c.loop-number.number-bits) c.first_where-begin.result c.args.shots.now.items c.loop-number.shots.items
-        (omega (arith, ints)) (omega (arith, ints)) outside so_far)
+    (omega (arith, ints)) (omega (arith, ints)) outside so_far)

@@ -15,10 +15,10 @@ returns c =
     let left : place c.line_at.result c.args.row ≡ c.args.first = simp to_z-of_z at c.line_at.ensures.place in
     let right : place c.line_at-2.result c.args.row ≡ c.args.end = simp to_z-of_z at c.line_at-2.ensures.place in
     let shot : IsFirstShot (trapezoid c.args.row (c.args.row +ℤ pos 1) c.line_at.result c.line_at-2.result) =
-        run_is_shot c.line_at.result c.line_at-2.result c.args.row c.args.first c.args.end c.requires.row c.requires.first c.requires.end c.requires.order left right in
+    run_is_shot c.line_at.result c.line_at-2.result c.args.row c.args.first c.args.end c.requires.row c.requires.first c.requires.end c.requires.order left right in
     let made = simp to_z-of_z at c.new.ensures in
     let is : c.new.result ≡ Some (trapezoid c.args.row (c.args.row +ℤ pos 1) c.line_at.result c.line_at-2.result) =
-        some_iff c.new.result _ _ made shot.shot in
+    some_iff c.new.result _ _ made shot.shot in
     record {
       some = rw is refl;
       tiles = rw is (run_has c.line_at.result c.line_at-2.result c.args.row c.args.first c.args.end left right);
