@@ -5,3 +5,4 @@ pub mod DeckUnique
 pub mod LayoutFacts
 mod LayoutLemmas
 mod PartsLemmas
+pub mod Goes

@@ -7,3 +7,7 @@ pub mod DeckReading
 pub mod DeckView
 pub mod LayoutParts
 pub mod LayoutView
+pub mod Answers
+pub mod Codes
+pub mod Fit
+pub mod Parts

@@ -12,7 +12,7 @@ use std::alloc::Global;
 
 /// A layout of the first path: one polygon.
 #[derive(Drop, Debug)]
-pub struct FirstLayout {
+pub(crate) struct FirstLayout {
     /// The layer of the polygon.
     pub layer: u16,
     /// Its datatype.
@@ -23,7 +23,7 @@ pub struct FirstLayout {
 
 /// What the layout in these bytes says, for a deck with this unit and top cell. None where they aren't such a
 /// layout: a GDSII stream with one structure that has one BOUNDARY, and no optional record.
-pub fn read_first_layout(
+pub(crate) fn read_first_layout(
     alloc: Global,
     bytes: &[u8],
     unit: u32,

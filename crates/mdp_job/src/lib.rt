@@ -1,25 +1,17 @@
 //! All that the program does: `run` takes the words of a command, reads deck and layout from a depot and
-//! writes the shot files.
+//! writes the shot files. Today it takes `fracture LAYOUT DECK` for a layout of one polygon.
 #![tactic(auto)]
-
-ghost use Rattle.std.specs.Prelude.{◌≡◌};
-ghost use Rattle.mdp_job.specs.Words.{IsFracture};
-ghost use Rattle.mdp_job.specs.FirstDeck.{IsDeckOf};
-ghost use Rattle.mdp_job.specs.FirstLayout.{IsLayoutOf};
 
 mod first_deck;
 mod first_layout;
+mod job;
 mod layout_parts;
 mod layout_points;
 mod row_walk;
+mod status;
 #[cfg(test)]
 mod tests;
+mod writing;
 
-pub use first_layout::{FirstLayout, read_first_layout};
-
-/// nothing yet
-pub fn nothing() -> u8
-    ensures { result ≡ 0 }
-{
-    0
-}
+pub use job::{refuse};
+pub use status::{DeckFault, LayoutFault, Status};

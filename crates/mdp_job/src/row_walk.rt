@@ -151,7 +151,7 @@ fn left_number(column: i64) -> i64
 
 /// The polygon's tiles as one-row shots: from the lowest row up, in each row from left to right, one shot for each
 /// maximal run.
-pub fn row_list(alloc: Global, points: &[Point]) -> Result<Vec<Trap>, NoMemory>
+pub(crate) fn row_list(alloc: Global, points: &[Point]) -> Result<Vec<Trap>, NoMemory>
     requires closed { IsClosed points.now }
     requires edges { HasGridEdges points.now }
     requires near { All IsNearOrigin points.now }

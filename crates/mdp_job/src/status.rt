@@ -1,0 +1,56 @@
+/// How a command ended.
+#[derive(Clone, Copy, Debug, PartialEq, Eq)]
+pub enum Status {
+    /// The command was done.
+    Done,
+    /// The words are no command.
+    Words,
+    /// The deck was read and is refused.
+    Deck(DeckFault),
+    /// The deck is accepted, and the layout was read and is refused.
+    Layout(LayoutFault),
+    /// A read failed, or a file that has to be read isn't there.
+    ReadFault,
+    /// A write failed.
+    WriteFault,
+    /// Memory was wanting.
+    NoMemory,
+}
+
+/// Why a deck is refused.
+#[derive(Clone, Copy, Debug, PartialEq, Eq)]
+pub enum DeckFault {
+    /// It has more than 65,536 bytes.
+    Long,
+    /// It isn't of the form that is built so far.
+    Early,
+}
+
+/// Why a layout is refused.
+#[derive(Clone, Copy, Debug, PartialEq, Eq)]
+pub enum LayoutFault {
+    /// It has more than 268,435,456 bytes.
+    Long,
+    /// It isn't of the form that is built so far.
+    Early,
+}
+
+impl Status {
+    ghost use Rattle.std.specs.Prelude.{◌≡◌};
+    ghost use Rattle.mdp_job.specs.Codes.{code_of};
+
+    /// The number with which the program ends.
+    pub fn code(&self) -> u8
+        ensures { result ≡ code_of self.now }
+    {
+        match self {
+            Status::Done => 0,
+            Status::Words => 1,
+            Status::Deck(_) => 2,
+            Status::Layout(_) => 3,
+            Status::ReadFault => 4,
+            Status::WriteFault => 5,
+            Status::NoMemory => 6,
+        }
+    }
+}
