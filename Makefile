@@ -1,0 +1,27 @@
+# Builds the program with the kit, and runs it on the example.
+
+# the kit's command: the one on PATH, else where the kit stands
+RT := $(shell command -v rt 2>/dev/null || echo /opt/rattle/bin/rt)
+
+PROGRAM := build/nettletide
+SOURCES := crates.txt HANDLES $(shell find crates -name out -prune -o \( -name '*.rt' -o -name '*.antt' \) -print)
+
+.PHONY: all example clean
+
+all: $(PROGRAM)
+
+# The kit proves the program before it builds it, and then runs it. Without words the program ends with status 1, so
+# what tells of success is that a program stands there.
+$(PROGRAM): $(SOURCES)
+	mkdir -p build
+	rm -f crates/mdp_cli/out/mdp_cli crates/mdp_cli/out/mdp_cli.stamp
+	cd crates/mdp_cli && { $(RT) run; test -x out/mdp_cli; }
+	cp crates/mdp_cli/out/mdp_cli $(PROGRAM)
+
+example: $(PROGRAM)
+	cd example && ../$(PROGRAM) fracture square.gds square.deck
+	wc -c example/square.oas
+
+# What the kit has proved stays in crates/*/out, since to prove it again takes minutes.
+clean:
+	rm -rf build example/square.oas
