@@ -42,3 +42,29 @@ written_answers b a o n p layout d l answers.ReadFault holds le w = absurd w
 written_answers b a o n p layout d l answers.WriteFault holds le w = (Rose-later o.write_faults n.write_faults p.write_faults le w.0, l, holds, (w.1, w.2, w.3))
 written_answers b a o n p layout d l answers.NoMemory holds le (inl e) = inl (left_only b a e)
 written_answers b a o n p layout d l answers.NoMemory holds le (inr part) = inr (l, holds, part)
+
+-- what a name holds doesn't rest on what is left to be read
+same_layout : (b : Content) (layout : List ℕ) (d : DeckData) (l : LayoutData) → HoldsLayout (with_left b []) layout d l → HoldsLayout b layout d l
+same_layout b layout d l h = record { bytes = h.bytes; held = h.held; short = h.short; form = h.form }
+
+refuses : (b : Content) (layout : List ℕ) (d : DeckData) → RefusesLayout (with_left b []) layout d → RefusesLayout b layout d
+refuses b layout d h = record { bytes = h.bytes; held = h.held; short = h.short; no_form = h.no_form }
+
+both : (b : Content) (layout deck : List ℕ) (d : DeckData) (l : LayoutData) → HoldsDeck b layout deck d → HoldsLayout (with_left b []) layout d l → HoldsBoth b layout deck d l
+both b layout deck d l holds h = record { holds_deck = holds; holds_layout = same_layout b layout d l h }
+
+-- what the layout owes for an accepted deck is what the command owes
+pub layout_answers : (b a : Content) (o n p : Counts) (layout deck : List ℕ) (d : DeckData) (s : Status)
+    → HoldsDeck b layout deck d → o.read_faults ≤ n.read_faults → o.write_faults ≤ n.write_faults
+    → IsLayoutAnswer (run_of (with_left b []) a n p) layout d s → IsAnswer (run_of b a o p) layout deck s
+layout_answers b a o n p layout deck d answers.Done holds reads writes (l, layout_holds, w) = (d, l, both b layout deck d l holds layout_holds, w)
+layout_answers b a o n p layout deck d answers.Words holds reads writes w = w
+layout_answers b a o n p layout deck d (answers.Deck fault) holds reads writes w = absurd w
+layout_answers b a o n p layout deck d (answers.Layout layout_faults.Long) holds reads writes w = (d, holds, w.0, w.1)
+layout_answers b a o n p layout deck d (answers.Layout layout_faults.Early) holds reads writes w = (d, holds, refuses b layout d w.0, w.1)
+layout_answers b a o n p layout deck d answers.ReadFault holds reads writes (inl rose, rest) = (inl (Rose-later o.read_faults n.read_faults p.read_faults reads rose), rest)
+layout_answers b a o n p layout deck d answers.ReadFault holds reads writes (inr missing, rest) = (inr (inr (d, holds, missing)), rest)
+layout_answers b a o n p layout deck d answers.WriteFault holds reads writes (rose, l, layout_holds, w) =
+    (Rose-later o.write_faults n.write_faults p.write_faults writes rose, d, l, both b layout deck d l holds layout_holds, w)
+layout_answers b a o n p layout deck d answers.NoMemory holds reads writes (inl rest) = inl rest
+layout_answers b a o n p layout deck d answers.NoMemory holds reads writes (inr (l, layout_holds, w)) = inr (d, l, both b layout deck d l holds layout_holds, w)

@@ -6,3 +6,5 @@ pub mod LayoutFacts
 mod LayoutLemmas
 mod PartsLemmas
 pub mod Goes
+pub mod WordLemmas
+pub mod RowLemmas

@@ -11,3 +11,4 @@ pub mod Answers
 pub mod Codes
 pub mod Fit
 pub mod Parts
+pub mod Clauses

@@ -5,7 +5,7 @@ use Rattle.depot.specs.Content.{Content, IsNotThere, IsLongerThan, ChangesLeftOn
 use Rattle.depot.specs.Counts.{Counts, Rose}
 use Rattle.depot.specs.declared.whole.Refused.{Refused}
 use Rattle.depot.specs.declared.whole.Refused.TheVariants as reading
-use Rattle.mdp_job.specs.Words.{IsFracture}
+use Rattle.mdp_job.specs.Words.{IsFracture, IsNoCommand}
 use Rattle.mdp_job.specs.FirstDeck.{DeckData}
 use Rattle.mdp_job.specs.FirstLayout.{LayoutData}
 use Rattle.mdp_job.specs.Answers.{Run, IsAnswer, HoldsLayout, RefusesLayout, IsShotFile, ReadRose, WriteRose, Writes, WritesPart}
@@ -46,7 +46,8 @@ IsLayoutAnswer r layout d answers.WriteFault = WriteRose r × (l : LayoutData) �
 IsLayoutAnswer r layout d answers.NoMemory =
     ChangesLeftOnly r.before r.after ⊎ ((l : LayoutData) × HoldsLayout r.before layout d l × WritesPart r.before r.after d l)
 
--- the answer to the words
-pub record IsAnswerTo (r : Run) (words : List (List ℕ)) (result : Status) : Type 0 where
-  pub fracture : (layout deck : List ℕ) → IsFracture words layout deck → IsAnswer r layout deck result
-  pub other : ((layout deck : List ℕ) → IsFracture words layout deck → ⊥) → (result ≡ answers.Words) × (r.after ≡ r.before)
+-- The answer to the words: that of the command `fracture` with its two names, or Words where they aren't that command.
+abbrev pub IsAnswerTo : Run → List (List ℕ) → Status → Type 0
+IsAnswerTo r words result =
+    ((layout deck : List ℕ) × IsFracture words layout deck × IsAnswer r layout deck result)
+    ⊎ (IsNoCommand words × (result ≡ answers.Words) × (r.after ≡ r.before))

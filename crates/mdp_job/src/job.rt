@@ -1,10 +1,11 @@
 //! The command `fracture`, and the answers to all words.
 
-ghost use Rattle.std.specs.Prelude.{◌≡◌, ◌⊎◌, IsTrue, IfSome, IfNone};
+ghost use Rattle.std.specs.Prelude.{◌≡◌, ◌⊎◌, ◌↔◌, IsTrue, IfSome, IfNone};
 ghost use Rattle.depot.specs.Counts.{NeverFall, Rose};
 ghost use Rattle.depot.specs.declared.whole.Refused.{Refused};
-ghost use Rattle.mdp_job.specs.Answers.{texts};
-ghost use Rattle.mdp_job.specs.Words.{IsFracture};
+ghost use Rattle.mdp_job.specs.Answers.{IsAnswer, texts};
+ghost use Rattle.mdp_job.specs.Clauses.{Covers, Accepts, DeckLong, DeckEarly, LayoutLong, LayoutEarly, ReadFaults, WriteFaults, Spares, Spoils};
+ghost use Rattle.mdp_job.specs.Words.{IsFracture, IsNoCommand};
 ghost use Rattle.mdp_job.specs.Fit.{IsFit};
 ghost use Rattle.mdp_job.specs.DeckView.{deck_data};
 ghost use Rattle.mdp_job.specs.LayoutView.{layout_data};
@@ -90,9 +91,111 @@ fn take_layout<D: Depot>(alloc: Global, layout: &str, deck: &FirstDeck, depot: &
     }
 }
 
-/// nothing
-pub fn refuse() -> Status
-    ensures { result ≡ Status.Words }
+// Reads the deck, and goes on with it.
+fn fracture<D: Depot>(alloc: Global, layout: &str, deck: &str, depot: &mut D) -> Status
+    ensures answer { IsTrue D.tells → IsAnswer
+        (run_of (D.content depot.old) (D.content depot.new) (D.counts depot.old) (D.counts depot.new))
+        layout.now deck.now result }
+    ensures write_fault { result ≡ Status.WriteFault
+        → Rose (D.counts depot.old).write_faults (D.counts depot.new).write_faults }
+    ensures read_fault { result ≡ Status.ReadFault
+        → Rose (D.counts depot.old).read_faults (D.counts depot.new).read_faults ⊎ IsTrue D.tells }
+    ensures words { result ≡ Status.Words → ⊥ }
+    ensures counted { NeverFall (D.counts depot.old) (D.counts depot.new) }
 {
-    Status::Words
+    let bytes = match read_all(alloc, depot, deck, DECK_LIMIT) {
+        Ok(bytes) => bytes,
+        Err(refused) => return refused_status(refused, Status::Deck(DeckFault::Long)),
+    };
+    match read_first_deck(&bytes, layout, deck) {
+        Some(accepted) => take_layout(alloc, layout, &accepted, depot),
+        None => Status::Deck(DeckFault::Early),
+    }
+}
+
+// The names of layout and deck, where the words are `fracture LAYOUT DECK`.
+fn fracture_names(words: &[String]) -> Option<(&str, &str)>
+    ensures some { IfSome result (λ names. IsFracture (texts words.now) names.0.now names.1.now) }
+    ensures none { IfNone result (IsNoCommand (texts words.now)) }
+{
+    if words.len() != 3 {
+        return None;
+    }
+    if words[0].as_str() != "fracture" {
+        return None;
+    }
+    Some((words[1].as_str(), words[2].as_str()))
+}
+
+// The answer, by the table of answers.
+fn answered<D: Depot>(alloc: Global, words: &[String], depot: &mut D) -> Status
+    ensures table { IsTrue D.tells → IsAnswerTo
+        (run_of (D.content depot.old) (D.content depot.new) (D.counts depot.old) (D.counts depot.new))
+        (texts words.now) result }
+    ensures words { (result ≡ Status.Words) ↔ IsNoCommand (texts words.now) }
+    ensures idle { result ≡ Status.Words → depot.new ≡ depot.old }
+    ensures write_fault { result ≡ Status.WriteFault
+        → Rose (D.counts depot.old).write_faults (D.counts depot.new).write_faults }
+    ensures read_fault { result ≡ Status.ReadFault
+        → Rose (D.counts depot.old).read_faults (D.counts depot.new).read_faults ⊎ IsTrue D.tells }
+    ensures counted { NeverFall (D.counts depot.old) (D.counts depot.new) }
+{
+    match fracture_names(words) {
+        Some((layout, deck)) => fracture(alloc, layout, deck, depot),
+        None => Status::Words,
+    }
+}
+
+/// Does what the words say, and answers how it ended. The words don't have the program's own name in them. Today they are
+/// `fracture LAYOUT DECK`: the layout's polygon is cut into shots, which are written to the file that the deck names.
+///
+/// The clauses on content hold over a depot that tells it. The causes of the two faults hold over every depot.
+pub fn run<D: Depot>(alloc: Global, words: &[String], depot: &mut D) -> Status
+    ensures words { (result ≡ Status.Words) ↔ IsNoCommand (texts words.now) }
+    ensures idle { result ≡ Status.Words → depot.new ≡ depot.old }
+
+    // After Done: exact cover, and no other name has changed.
+    ensures cover { IsTrue D.tells → Covers
+        (run_of (D.content depot.old) (D.content depot.new) (D.counts depot.old) (D.counts depot.new))
+        (texts words.now) result }
+    // Done comes exactly where the input is accepted.
+    ensures accepted { IsTrue D.tells → Accepts
+        (run_of (D.content depot.old) (D.content depot.new) (D.counts depot.old) (D.counts depot.new))
+        (texts words.now) result }
+
+    // The cause of each refusal.
+    ensures deck_long { IsTrue D.tells → DeckLong
+        (run_of (D.content depot.old) (D.content depot.new) (D.counts depot.old) (D.counts depot.new))
+        (texts words.now) result }
+    ensures deck_early { IsTrue D.tells → DeckEarly
+        (run_of (D.content depot.old) (D.content depot.new) (D.counts depot.old) (D.counts depot.new))
+        (texts words.now) result }
+    ensures layout_long { IsTrue D.tells → LayoutLong
+        (run_of (D.content depot.old) (D.content depot.new) (D.counts depot.old) (D.counts depot.new))
+        (texts words.now) result }
+    ensures layout_early { IsTrue D.tells → LayoutEarly
+        (run_of (D.content depot.old) (D.content depot.new) (D.counts depot.old) (D.counts depot.new))
+        (texts words.now) result }
+
+    // The causes of faults: first over a depot that tells, then over every depot.
+    ensures read_fault { IsTrue D.tells → ReadFaults
+        (run_of (D.content depot.old) (D.content depot.new) (D.counts depot.old) (D.counts depot.new))
+        (texts words.now) result }
+    ensures write_fault { IsTrue D.tells → WriteFaults
+        (run_of (D.content depot.old) (D.content depot.new) (D.counts depot.old) (D.counts depot.new))
+        (texts words.now) result }
+    ensures read_counted { result ≡ Status.ReadFault
+        → Rose (D.counts depot.old).read_faults (D.counts depot.new).read_faults ⊎ IsTrue D.tells }
+    ensures write_counted { result ≡ Status.WriteFault
+        → Rose (D.counts depot.old).write_faults (D.counts depot.new).write_faults }
+
+    // What refusals and faults leave.
+    ensures refusals { IsTrue D.tells → Spares
+        (run_of (D.content depot.old) (D.content depot.new) (D.counts depot.old) (D.counts depot.new)) result }
+    ensures spoiled { IsTrue D.tells → Spoils
+        (run_of (D.content depot.old) (D.content depot.new) (D.counts depot.old) (D.counts depot.new))
+        (texts words.now) result }
+    ensures counted { NeverFall (D.counts depot.old) (D.counts depot.new) }
+{
+    answered(alloc, words, depot)
 }

@@ -13,5 +13,5 @@ mod status;
 mod tests;
 mod writing;
 
-pub use job::{refuse};
+pub use job::run;
 pub use status::{DeckFault, LayoutFault, Status};

@@ -1,0 +1,17 @@
+-- Three words as texts.
+use Rattle.std.proofs.Common.{◌≡◌, ℕ, List, [], ◌∷◌, length, get_or, refl, ap, arith, ◌∙◌, sym}
+use Rattle.std.specs.Prelude.{String, string_bytes}
+use Rattle.std.specs.declared.alloc.Global.{Global}
+use Rattle.mdp_job.specs.Answers.{texts}
+
+pub three_texts : (words : List (String Global)) (x y z : String Global) → length words ≡ 3 → x ≡ get_or words 0 x → y ≡ get_or words 1 y → z ≡ get_or words 2 z
+    → texts words ≡ string_bytes x ∷ string_bytes y ∷ string_bytes z ∷ []
+three_texts [] x y z n ex ey ez = absurd (omega (arith, n))
+three_texts (a ∷ []) x y z n ex ey ez = absurd (omega (arith, n))
+three_texts (a ∷ b ∷ []) x y z n ex ey ez = absurd (omega (arith, n))
+three_texts (a ∷ b ∷ c ∷ []) x y z n ex ey ez =
+    let px : a ≡ x = sym ex in
+    let py : b ≡ y = sym ey in
+    let pz : c ≡ z = sym ez in
+    rw (px, py, pz) refl
+three_texts (a ∷ b ∷ c ∷ d ∷ rest) x y z n ex ey ez = absurd (omega (arith, n))
