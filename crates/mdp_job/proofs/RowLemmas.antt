@@ -72,3 +72,137 @@ answer_for r words s (inl (l, d, frac, answer)) layout deck is =
     let same = same_names words l d layout deck frac is in
     subst (λ (x : List ℕ). IsAnswer r x deck s) same.0 (subst (λ (y : List ℕ). IsAnswer r l y s) same.1 answer)
 answer_for r words s (inr (none, e, rest)) layout deck is = absurd (none layout deck is)
+
+-- ---- what comes where a cause holds
+
+deck_long_due : (r : Run) (layout deck : List ℕ) (s : Status) → IsAnswer r layout deck s → IsLongerThan 65536 r.before deck
+    → (s ≡ answers.Deck deck_faults.Long) ⊎ (s ≡ answers.NoMemory) ⊎ ((s ≡ answers.ReadFault) × ReadRose r)
+deck_long_due r layout deck answers.Done (d, l, b, w) long = absurd (deck_short r.before layout deck d b.holds_deck long)
+deck_long_due r layout deck answers.Words a long = absurd a
+deck_long_due r layout deck (answers.Deck deck_faults.Long) a long = inl refl
+deck_long_due r layout deck (answers.Deck deck_faults.Early) (refused, rest) long = absurd (too_long 65536 r.before deck refused.bytes long refused.held refused.short)
+deck_long_due r layout deck (answers.Layout layout_faults.Long) (d, h, more, rest) long = absurd (deck_short r.before layout deck d h long)
+deck_long_due r layout deck (answers.Layout layout_faults.Early) (d, h, more, rest) long = absurd (deck_short r.before layout deck d h long)
+deck_long_due r layout deck answers.ReadFault (inl rose, rest) long = inr (inr (refl, rose))
+deck_long_due r layout deck answers.ReadFault (inr (inl missing), rest) long = absurd (longer_there 65536 r.before deck missing long)
+deck_long_due r layout deck answers.ReadFault (inr (inr (d, h, missing)), rest) long = absurd (deck_short r.before layout deck d h long)
+deck_long_due r layout deck answers.WriteFault (rose, d, l, b, w) long = absurd (deck_short r.before layout deck d b.holds_deck long)
+deck_long_due r layout deck answers.NoMemory a long = inr (inl refl)
+
+deck_early_due : (r : Run) (layout deck : List ℕ) (s : Status) → IsAnswer r layout deck s → RefusesDeck r.before layout deck
+    → (s ≡ answers.Deck deck_faults.Early) ⊎ (s ≡ answers.NoMemory) ⊎ ((s ≡ answers.ReadFault) × ReadRose r)
+deck_early_due r layout deck answers.Done (d, l, b, w) bad = absurd (deck_both r.before layout deck d b.holds_deck bad)
+deck_early_due r layout deck answers.Words a bad = absurd a
+deck_early_due r layout deck (answers.Deck deck_faults.Long) (long, rest) bad = absurd (too_long 65536 r.before deck bad.bytes long bad.held bad.short)
+deck_early_due r layout deck (answers.Deck deck_faults.Early) a bad = inl refl
+deck_early_due r layout deck (answers.Layout layout_faults.Long) (d, h, more, rest) bad = absurd (deck_both r.before layout deck d h bad)
+deck_early_due r layout deck (answers.Layout layout_faults.Early) (d, h, more, rest) bad = absurd (deck_both r.before layout deck d h bad)
+deck_early_due r layout deck answers.ReadFault (inl rose, rest) bad = inr (inr (refl, rose))
+deck_early_due r layout deck answers.ReadFault (inr (inl missing), rest) bad = absurd (there (held_as r.before deck) bad.bytes bad.held missing)
+deck_early_due r layout deck answers.ReadFault (inr (inr (d, h, missing)), rest) bad = absurd (deck_both r.before layout deck d h bad)
+deck_early_due r layout deck answers.WriteFault (rose, d, l, b, w) bad = absurd (deck_both r.before layout deck d b.holds_deck bad)
+deck_early_due r layout deck answers.NoMemory a bad = inr (inl refl)
+
+layout_long_due : (r : Run) (layout deck : List ℕ) (s : Status) → IsAnswer r layout deck s → (d : DeckData) → HoldsDeck r.before layout deck d → IsLongerThan 268435456 r.before layout
+    → (s ≡ answers.Layout layout_faults.Long) ⊎ (s ≡ answers.NoMemory) ⊎ ((s ≡ answers.ReadFault) × ReadRose r)
+layout_long_due r layout deck answers.Done (e, l, b, w) d h long = absurd (layout_short r.before layout e l b.holds_layout long)
+layout_long_due r layout deck answers.Words a d h long = absurd a
+layout_long_due r layout deck (answers.Deck deck_faults.Long) (more, rest) d h long = absurd (deck_short r.before layout deck d h more)
+layout_long_due r layout deck (answers.Deck deck_faults.Early) (bad, rest) d h long = absurd (deck_both r.before layout deck d h bad)
+layout_long_due r layout deck (answers.Layout layout_faults.Long) a d h long = inl refl
+layout_long_due r layout deck (answers.Layout layout_faults.Early) (e, k, bad, rest) d h long = absurd (too_long 268435456 r.before layout bad.bytes long bad.held bad.short)
+layout_long_due r layout deck answers.ReadFault (inl rose, rest) d h long = inr (inr (refl, rose))
+layout_long_due r layout deck answers.ReadFault (inr (inl missing), rest) d h long = absurd (deck_there r.before layout deck d h missing)
+layout_long_due r layout deck answers.ReadFault (inr (inr (e, k, missing)), rest) d h long = absurd (longer_there 268435456 r.before layout missing long)
+layout_long_due r layout deck answers.WriteFault (rose, e, l, b, w) d h long = absurd (layout_short r.before layout e l b.holds_layout long)
+layout_long_due r layout deck answers.NoMemory a d h long = inr (inl refl)
+
+layout_early_due : (r : Run) (layout deck : List ℕ) (s : Status) → IsAnswer r layout deck s → (d : DeckData) → HoldsDeck r.before layout deck d → RefusesLayout r.before layout d
+    → (s ≡ answers.Layout layout_faults.Early) ⊎ (s ≡ answers.NoMemory) ⊎ ((s ≡ answers.ReadFault) × ReadRose r)
+layout_early_due r layout deck answers.Done (e, l, b, w) d h bad = absurd (layout_both r.before layout deck d e l h b bad)
+layout_early_due r layout deck answers.Words a d h bad = absurd a
+layout_early_due r layout deck (answers.Deck deck_faults.Long) (more, rest) d h bad = absurd (deck_short r.before layout deck d h more)
+layout_early_due r layout deck (answers.Deck deck_faults.Early) (refused, rest) d h bad = absurd (deck_both r.before layout deck d h refused)
+layout_early_due r layout deck (answers.Layout layout_faults.Long) (e, k, long, rest) d h bad = absurd (too_long 268435456 r.before layout bad.bytes long bad.held bad.short)
+layout_early_due r layout deck (answers.Layout layout_faults.Early) a d h bad = inl refl
+layout_early_due r layout deck answers.ReadFault (inl rose, rest) d h bad = inr (inr (refl, rose))
+layout_early_due r layout deck answers.ReadFault (inr (inl missing), rest) d h bad = absurd (deck_there r.before layout deck d h missing)
+layout_early_due r layout deck answers.ReadFault (inr (inr (e, k, missing)), rest) d h bad = absurd (there (held_as r.before layout) bad.bytes bad.held missing)
+layout_early_due r layout deck answers.WriteFault (rose, e, l, b, w) d h bad = absurd (layout_both r.before layout deck d e l h b bad)
+layout_early_due r layout deck answers.NoMemory a d h bad = inr (inl refl)
+
+wanting_due : (r : Run) (layout deck : List ℕ) (s : Status) → IsAnswer r layout deck s → IsWanting r.before layout deck → (s ≡ answers.ReadFault) ⊎ (s ≡ answers.NoMemory)
+wanting_due r layout deck answers.Done (d, l, b, w) (inl missing) = absurd (deck_there r.before layout deck d b.holds_deck missing)
+wanting_due r layout deck answers.Done (d, l, b, w) (inr (e, k, missing)) = absurd (layout_there r.before layout d l b.holds_layout missing)
+wanting_due r layout deck answers.Words a want = absurd a
+wanting_due r layout deck (answers.Deck deck_faults.Long) (long, rest) (inl missing) = absurd (longer_there 65536 r.before deck missing long)
+wanting_due r layout deck (answers.Deck deck_faults.Long) (long, rest) (inr (e, k, missing)) = absurd (deck_short r.before layout deck e k long)
+wanting_due r layout deck (answers.Deck deck_faults.Early) (bad, rest) (inl missing) = absurd (there (held_as r.before deck) bad.bytes bad.held missing)
+wanting_due r layout deck (answers.Deck deck_faults.Early) (bad, rest) (inr (e, k, missing)) = absurd (deck_both r.before layout deck e k bad)
+wanting_due r layout deck (answers.Layout layout_faults.Long) (d, h, long, rest) (inl missing) = absurd (deck_there r.before layout deck d h missing)
+wanting_due r layout deck (answers.Layout layout_faults.Long) (d, h, long, rest) (inr (e, k, missing)) = absurd (longer_there 268435456 r.before layout missing long)
+wanting_due r layout deck (answers.Layout layout_faults.Early) (d, h, bad, rest) (inl missing) = absurd (deck_there r.before layout deck d h missing)
+wanting_due r layout deck (answers.Layout layout_faults.Early) (d, h, bad, rest) (inr (e, k, missing)) = absurd (there (held_as r.before layout) bad.bytes bad.held missing)
+wanting_due r layout deck answers.ReadFault a want = inl refl
+wanting_due r layout deck answers.WriteFault (rose, d, l, b, w) (inl missing) = absurd (deck_there r.before layout deck d b.holds_deck missing)
+wanting_due r layout deck answers.WriteFault (rose, d, l, b, w) (inr (e, k, missing)) = absurd (layout_there r.before layout d l b.holds_layout missing)
+wanting_due r layout deck answers.NoMemory a want = inr refl
+
+done_due : (r : Run) (layout deck : List ℕ) (s : Status) → IsAnswer r layout deck s → (ReadRose r → ⊥) → (WriteRose r → ⊥) → s ≢ answers.NoMemory
+    → (d : DeckData) (l : LayoutData) → HoldsBoth r.before layout deck d l → s ≡ answers.Done
+done_due r layout deck answers.Done a reads writes memory d l b = refl
+done_due r layout deck answers.Words a reads writes memory d l b = absurd a
+done_due r layout deck (answers.Deck deck_faults.Long) (long, rest) reads writes memory d l b = absurd (deck_short r.before layout deck d b.holds_deck long)
+done_due r layout deck (answers.Deck deck_faults.Early) (bad, rest) reads writes memory d l b = absurd (deck_both r.before layout deck d b.holds_deck bad)
+done_due r layout deck (answers.Layout layout_faults.Long) (e, k, long, rest) reads writes memory d l b = absurd (layout_short r.before layout d l b.holds_layout long)
+done_due r layout deck (answers.Layout layout_faults.Early) (e, k, bad, rest) reads writes memory d l b = absurd (layout_both r.before layout deck e d l k b bad)
+done_due r layout deck answers.ReadFault (inl rose, rest) reads writes memory d l b = absurd (reads rose)
+done_due r layout deck answers.ReadFault (inr (inl missing), rest) reads writes memory d l b = absurd (deck_there r.before layout deck d b.holds_deck missing)
+done_due r layout deck answers.ReadFault (inr (inr (e, k, missing)), rest) reads writes memory d l b = absurd (layout_there r.before layout d l b.holds_layout missing)
+done_due r layout deck answers.WriteFault (rose, e, m, k, w) reads writes memory d l b = absurd (writes rose)
+done_due r layout deck answers.NoMemory a reads writes memory d l b = absurd (memory refl)
+
+-- ---- the rows
+
+accepted_by : (r : Run) (words : List (List ℕ)) (s : Status) → IsAnswerTo r words s → s ≡ answers.Done → IsAccepted words r.before
+accepted_by r words s (inl (layout, deck, is, answer)) e =
+    let a = subst (λ (x : Status). IsAnswer r layout deck x) e answer in
+    (layout, deck, is, a.0, a.1, a.2)
+accepted_by r words s (inr (none, e, rest)) f = let clash : answers.Words ≡ answers.Done = sym e ∙ f in let bad : ⊥ = cc in absurd bad
+
+pub accepts : (r : Run) (words : List (List ℕ)) (s : Status) → IsAnswerTo r words s → Accepts r words s
+accepts r words s table reads writes memory =
+    (λ done. accepted_by r words s table done,
+     λ (layout, deck, is, d, l, b). done_due r layout deck s (answer_for r words s table layout deck is) reads writes memory d l b)
+
+pub deck_early : (r : Run) (words : List (List ℕ)) (s : Status) → IsAnswerTo r words s → DeckEarly r words s
+deck_early r words s table layout deck is =
+    let answer = answer_for r words s table layout deck is in
+    record { only = λ e. (subst (λ (x : Status). IsAnswer r layout deck x) e answer).0; whenever = deck_early_due r layout deck s answer }
+
+pub layout_long : (r : Run) (words : List (List ℕ)) (s : Status) → IsAnswerTo r words s → LayoutLong r words s
+layout_long r words s table layout deck is =
+    let answer = answer_for r words s table layout deck is in
+    record {
+      only = λ e. let a = subst (λ (x : Status). IsAnswer r layout deck x) e answer in (a.0, a.1, a.2);
+      whenever = λ (d, h, long). layout_long_due r layout deck s answer d h long;
+    }
+
+pub layout_early : (r : Run) (words : List (List ℕ)) (s : Status) → IsAnswerTo r words s → LayoutEarly r words s
+layout_early r words s table layout deck is =
+    let answer = answer_for r words s table layout deck is in
+    record {
+      only = λ e. let a = subst (λ (x : Status). IsAnswer r layout deck x) e answer in (a.0, a.1, a.2);
+      whenever = λ (d, h, bad). layout_early_due r layout deck s answer d h bad;
+    }
+
+pub read_faults : (r : Run) (words : List (List ℕ)) (s : Status) → IsAnswerTo r words s → ReadFaults r words s
+read_faults r words s table layout deck is =
+    let answer = answer_for r words s table layout deck is in
+    (λ e. (subst (λ (x : Status). IsAnswer r layout deck x) e answer).0, wanting_due r layout deck s answer)
+
+pub spoils : (r : Run) (words : List (List ℕ)) (s : Status) → IsAnswerTo r words s → Spoils r words s
+spoils r words s table layout deck is (inl e) =
+    let a = subst (λ (x : Status). IsAnswer r layout deck x) e (answer_for r words s table layout deck is) in
+    inr (a.1, a.2, a.3, a.4)
+spoils r words s table layout deck is (inr e) = subst (λ (x : Status). IsAnswer r layout deck x) e (answer_for r words s table layout deck is)
