@@ -171,9 +171,10 @@ accepted_by r words s (inl (layout, deck, is, answer)) e =
 accepted_by r words s (inr (none, e, rest)) f = let clash : answers.Words ≡ answers.Done = sym e ∙ f in let bad : ⊥ = cc in absurd bad
 
 pub accepts : (r : Run) (words : List (List ℕ)) (s : Status) → IsAnswerTo r words s → Accepts r words s
-accepts r words s table reads writes memory =
-    (λ done. accepted_by r words s table done,
-     λ (layout, deck, is, d, l, b). done_due r layout deck s (answer_for r words s table layout deck is) reads writes memory d l b)
+accepts r words s table reads writes memory = (
+  λ done. accepted_by r words s table done,
+  λ (layout, deck, is, d, l, b). done_due r layout deck s (answer_for r words s table layout deck is) reads writes memory d l b,
+)
 
 pub deck_early : (r : Run) (words : List (List ℕ)) (s : Status) → IsAnswerTo r words s → DeckEarly r words s
 deck_early r words s table layout deck is =

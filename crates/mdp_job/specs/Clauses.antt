@@ -40,14 +40,14 @@ abbrev pub LayoutLong : Run → List (List ℕ) → Status → Type 0
 LayoutLong r words result =
     (layout deck : List ℕ) → IsFracture words layout deck
     → ComesExactlyWhere r result (answers.Layout layout_faults.Long)
-        ((d : DeckData) × HoldsDeck r.before layout deck d × IsLongerThan 268435456 r.before layout)
+    ((d : DeckData) × HoldsDeck r.before layout deck d × IsLongerThan 268435456 r.before layout)
 
 -- the deck is accepted, and the layout isn't of its form
 abbrev pub LayoutEarly : Run → List (List ℕ) → Status → Type 0
 LayoutEarly r words result =
     (layout deck : List ℕ) → IsFracture words layout deck
     → ComesExactlyWhere r result (answers.Layout layout_faults.Early)
-        ((d : DeckData) × HoldsDeck r.before layout deck d × RefusesLayout r.before layout d)
+    ((d : DeckData) × HoldsDeck r.before layout deck d × RefusesLayout r.before layout d)
 
 -- A read fault was counted, or a name that has to be read isn't there; where such a name isn't there no other answer
 -- comes but want of memory.

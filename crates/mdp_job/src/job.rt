@@ -11,15 +11,13 @@ ghost use Rattle.mdp_job.specs.DeckView.{deck_data};
 ghost use Rattle.mdp_job.specs.LayoutView.{layout_data};
 ghost use Rattle.mdp_job.specs.Parts.{refused_status, IsWritten, IsLayoutAnswer, IsAnswerTo, run_of};
 
-use std::alloc::Global;
-
-use depot::{Depot, DepotBad, Refused, make_file, read_all};
-use geo_stream::NoMemory;
-
 use crate::first_deck::{FirstDeck, read_first_deck};
 use crate::first_layout::{FirstLayout, read_first_layout};
 use crate::status::{DeckFault, LayoutFault, Status};
 use crate::writing::{shots_of, text_of};
+use depot::{Depot, DepotBad, Refused, SureDepot, make_file, read_all};
+use geo_stream::NoMemory;
+use std::alloc::Global;
 
 /// A deck has at most so many bytes.
 const DECK_LIMIT: usize = 65_536;
@@ -198,4 +196,12 @@ pub fn run<D: Depot>(alloc: Global, words: &[String], depot: &mut D) -> Status
     ensures counted { NeverFall (D.counts depot.old) (D.counts depot.new) }
 {
     answered(alloc, words, depot)
+}
+
+/// Does what the words say over a depot that never fails: the answer is then neither of the two faults.
+pub fn run_surely(alloc: Global, words: &[String], depot: &mut SureDepot) -> Status
+    ensures no_read_fault { result ≡ Status.ReadFault → ⊥ }
+    ensures no_write_fault { result ≡ Status.WriteFault → ⊥ }
+{
+    run(alloc, words, depot)
 }

@@ -8,10 +8,12 @@ mod job;
 mod layout_parts;
 mod layout_points;
 mod row_walk;
+#[cfg(test)]
+mod run_tests;
 mod status;
 #[cfg(test)]
 mod tests;
 mod writing;
 
-pub use job::run;
+pub use job::{run, run_surely};
 pub use status::{DeckFault, LayoutFault, Status};

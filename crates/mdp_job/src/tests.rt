@@ -1,11 +1,11 @@
 //! Outside vectors: a small layout, and the same with each fault.
 
-use crate::read_first_layout;
+use crate::first_layout::read_first_layout;
 use half_grid::Point;
 use std::test::Fail;
 
 /// A library with one structure that holds one square of side 10 on layer 1, datatype 0.
-const SQUARE: [u8; 168] = [
+pub(crate) const SQUARE: [u8; 168] = [
     0x00, 0x06, 0x00, 0x02, 0x02, 0x58, // HEADER, version 600
     0x00, 0x1C, 0x01, 0x02, 0, 0, 0, 0, 0, 0, 0, 0, 0, 0, 0, 0, // BGNLIB
     0, 0, 0, 0, 0, 0, 0, 0, 0, 0, 0, 0, //

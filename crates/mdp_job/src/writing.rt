@@ -11,15 +11,13 @@ ghost use Rattle.mdp_job.specs.LayoutView.{layout_data};
 ghost use Rattle.mdp_job.specs.Inside.{IsFirstShot};
 ghost use Rattle.mdp_job.specs.Fit.{IsFit};
 
-use std::alloc::Global;
-
-use geo_stream::NoMemory;
-use half_grid::Trap;
-use oas_lex::{end_text, head_text, spell_shot};
-
 use crate::first_deck::FirstDeck;
 use crate::first_layout::FirstLayout;
 use crate::row_walk::row_list;
+use geo_stream::NoMemory;
+use half_grid::Trap;
+use oas_lex::{end_text, head_text, spell_shot};
+use std::alloc::Global;
 
 /// The shots of the area that the deck denotes of the layout.
 pub(crate) fn shots_of(
@@ -48,7 +46,11 @@ pub(crate) fn text_of(alloc: Global, deck: &FirstDeck, shots: &[Trap]) -> Result
     let mut text = Vec::new(alloc);
     text.extend_from_slice(head_text(2 * u64::from(deck.unit)).bytes())?;
     for shot in shots {
-        let record = spell_shot(shot, u64::from(deck.out_layer), u64::from(deck.out_datatype));
+        let record = spell_shot(
+            shot,
+            u64::from(deck.out_layer),
+            u64::from(deck.out_datatype),
+        );
         text.extend_from_slice(record.bytes())?;
     }
     text.extend_from_slice(&end_text())?;

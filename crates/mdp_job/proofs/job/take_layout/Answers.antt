@@ -15,8 +15,8 @@ returns-in-Ok-Some-clause-answer g c = λ tells.
     let found = rw c.in-Ok-Some.field-0-is at c.in-Ok-Some.ensures.found in
     let form = rw c.deref.ensures.value at found in
     let holds : HoldsLayout (g.D.Depot.content c.args.depot.now) c.args.layout.now (deck_data c.args.deck.now) (layout_data c.in-Ok-Some.polygon) =
-        record { bytes = c.in-Ok.bytes.items; held = c.in-Ok.ensures.ok tells; short = omega (arith, ap length c.deref.ensures.value, c.deref.ensures.len, c.in-Ok.ensures.within); form = form } in
+    record { bytes = c.in-Ok.bytes.items; held = c.in-Ok.ensures.ok tells; short = omega (arith, ap length c.deref.ensures.value, c.deref.ensures.len, c.in-Ok.ensures.within); form = form } in
     written_answers (g.D.Depot.content c.args.depot.now) (g.D.Depot.content c.write_shots.new.depot) (g.D.Depot.counts c.args.depot.now) (g.D.Depot.counts c.read_all.new.depot) (g.D.Depot.counts c.write_shots.new.depot)
-        c.args.layout.now (deck_data c.args.deck.now) (layout_data c.in-Ok-Some.polygon) c.write_shots.result holds c.in-Ok.ensures.counted.write_faults
-        (subst (λ (m : Content). IsWritten (run_of m (g.D.Depot.content c.write_shots.new.depot) (g.D.Depot.counts c.read_all.new.depot) (g.D.Depot.counts c.write_shots.new.depot)) (deck_data c.args.deck.now) (layout_data c.in-Ok-Some.polygon) c.write_shots.result)
-            (c.in-Ok.ensures.whole tells) (c.write_shots.ensures.written tells))
+    c.args.layout.now (deck_data c.args.deck.now) (layout_data c.in-Ok-Some.polygon) c.write_shots.result holds c.in-Ok.ensures.counted.write_faults
+    (subst (λ (m : Content). IsWritten (run_of m (g.D.Depot.content c.write_shots.new.depot) (g.D.Depot.counts c.read_all.new.depot) (g.D.Depot.counts c.write_shots.new.depot)) (deck_data c.args.deck.now) (layout_data c.in-Ok-Some.polygon) c.write_shots.result)
+    (c.in-Ok.ensures.whole tells) (c.write_shots.ensures.written tells))

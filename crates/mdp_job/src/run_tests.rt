@@ -1,0 +1,231 @@
+//! The command from end to end: files that were worked out by hand, refusals with their codes, and the cover of shapes
+//! against the plain test of each tile.
+
+use crate::status::{DeckFault, LayoutFault, Status};
+use crate::tests::SQUARE;
+use crate::{run, run_surely};
+use depot::{MemDepot, SureDepot};
+use geo_stream::NoMemory;
+use half_grid::{Point, Side, Tile, winding_at};
+use std::alloc::Global;
+use std::test::Fail;
+
+const DECK: &[u8] = b"unit 1000\ntop TOP\nlayer A 1 0\nwrite A out.oas 1 0\n";
+
+/// The magic bytes, START and CELL of a shot file for 1,000 grid steps a micrometre.
+const HEAD: [u8; 41] = [
+    0x25, 0x53, 0x45, 0x4D, 0x49, 0x2D, 0x4F, 0x41, 0x53, 0x49, 0x53, 0x0D, 0x0A, //
+    0x01, 0x03, 0x31, 0x2E, 0x30, 0x00, 0xD0, 0x0F, 0x00, 0, 0, 0, 0, 0, 0, 0, 0, 0, 0, 0, 0, //
+    0x0E, 0x05, 0x53, 0x48, 0x4F, 0x54, 0x53,
+];
+
+// The shot file of the square: twenty shots of one row.
+fn square_file(alloc: Global) -> Result<Vec<u8>, NoMemory> {
+    let mut file = Vec::new(alloc);
+    file.extend_from_slice(&HEAD)?;
+    for row in 0..20u8 {
+        file.extend_from_slice(&[0x14, 0x7B, 0x01, 0x00, 0x14, 0x01, 0x00])?;
+        file.push(2 * row)?;
+    }
+    file.extend_from_slice(&[0x02, 0xFC, 0x01])?;
+    for _ in 0..253 {
+        file.push(0)?;
+    }
+    Ok(file)
+}
+
+fn words(alloc: Global, parts: &[&str]) -> Result<Vec<String>, NoMemory> {
+    let mut words = Vec::new(alloc);
+    for part in parts {
+        words.push(String::from_str(alloc, part)?)?;
+    }
+    Ok(words)
+}
+
+#[test]
+fn the_square_is_written(rt: HostRuntime) -> Result<(), Fail> {
+    let alloc = rt.alloc();
+    let want = square_file(alloc)?;
+    assert_eq!(rt; want.len(), 457);
+    let command = words(alloc, &["fracture", "G.gds", "K"])?;
+    for short in [false, true] {
+        let mut depot = MemDepot::new(alloc);
+        depot.add("G.gds", &SQUARE)?;
+        depot.add("K", DECK)?;
+        if short {
+            depot.short();
+        }
+        assert!(rt; run(alloc, &command, &mut depot) == Status::Done);
+        let made = depot.made("out.oas").ok_or("no file")?;
+        assert_eq!(rt; made, want.as_slice());
+    }
+    let mut sure = SureDepot::new(alloc);
+    sure.add("G.gds", &SQUARE)?;
+    sure.add("K", DECK)?;
+    assert!(rt; run_surely(alloc, &command, &mut sure) == Status::Done);
+    let made = sure.made("out.oas").ok_or("no file")?;
+    assert_eq!(rt; made, want.as_slice());
+    Ok(())
+}
+
+#[test]
+fn refusals_have_their_codes(rt: HostRuntime) -> Result<(), Fail> {
+    let alloc = rt.alloc();
+    let mut other = SQUARE.to_vec(alloc)?;
+    other[108..110].copy_from_slice(&[0x0F, 0x03]);
+    let early_layout = Status::Layout(LayoutFault::Early);
+    let early_deck = Status::Deck(DeckFault::Early);
+    // the words, whether the layout is there, whether it is the other one, how much of the deck is there, the answer
+    let rows: [(&[&str], bool, bool, usize, Status); 6] = [
+        (&["fracture", "G.gds", "K"], true, true, 50, early_layout),
+        (&["fracture", "G.gds", "K"], true, false, 30, early_deck),
+        (
+            &["fracture", "G.gds", "K"],
+            false,
+            false,
+            50,
+            Status::ReadFault,
+        ),
+        (&["fracture", "G.gds"], true, false, 50, Status::Words),
+        (&[], true, false, 50, Status::Words),
+        (&["generate", "0", "F"], true, false, 50, Status::Words),
+    ];
+    for (parts, there, changed, deck, want) in rows {
+        let mut depot = MemDepot::new(alloc);
+        if there {
+            depot.add("G.gds", if changed { &other } else { &SQUARE })?;
+        }
+        assert!(rt; deck <= DECK.len());
+        depot.add("K", &DECK[..deck])?;
+        let command = words(alloc, parts)?;
+        assert!(rt; run(alloc, &command, &mut depot) == want);
+        assert!(rt; depot.made("out.oas").is_none());
+        assert_eq!(rt; depot.counts(), (0, 0, 0));
+    }
+    Ok(())
+}
+
+#[test]
+fn a_failing_call_is_a_fault(rt: HostRuntime) -> Result<(), Fail> {
+    let alloc = rt.alloc();
+    let command = words(alloc, &["fracture", "G.gds", "K"])?;
+    // the calls are: start, read, read the deck; the same for the layout; start, write the file
+    for (call, want) in [
+        (1, Status::ReadFault),
+        (4, Status::ReadFault),
+        (6, Status::WriteFault),
+        (7, Status::WriteFault),
+    ] {
+        let mut depot = MemDepot::new(alloc);
+        depot.add("G.gds", &SQUARE)?;
+        depot.add("K", DECK)?;
+        depot.fail_at(call)?;
+        assert!(rt; run(alloc, &command, &mut depot) == want, "at {call}");
+        let made = depot.made("out.oas").map_or(0, |bytes| bytes.len());
+        assert_eq!(rt; made, 0);
+    }
+    Ok(())
+}
+
+// The library with the square's corners in place of these, in grid steps.
+fn layout_of(alloc: Global, corners: &[(u8, u8)]) -> Result<Vec<u8>, NoMemory> {
+    let mut layout = SQUARE[..112].to_vec(alloc)?;
+    let length = corners
+        .iter()
+        .fold(4u8, |length, _| length.saturating_add(8));
+    layout.extend_from_slice(&[0, length, 0x10, 0x03])?;
+    for (x, y) in corners {
+        layout.extend_from_slice(&[0, 0, 0, *x, 0, 0, 0, *y])?;
+    }
+    layout.extend_from_slice(&SQUARE[156..])?;
+    Ok(layout)
+}
+
+// The triangles of a file of one-row shots whose numbers have one byte each: two for each column of the shot's box, less
+// one for each side that isn't upright.
+fn triangles(file: &[u8]) -> u64 {
+    let mut rest = file;
+    let mut count: u64 = 0;
+    for _ in 0..file.len() {
+        let (width, sides, tail) = match rest {
+            [0x14, _, _, _, width, 1, _, _, tail @ ..] => (*width, 0, tail),
+            [0x18 | 0x19, _, _, _, width, 1, _, _, _, tail @ ..] => (*width, 1, tail),
+            [0x17, _, _, _, width, 1, _, _, _, _, tail @ ..] => (*width, 2, tail),
+            _ => break,
+        };
+        count = count.saturating_add((2 * u64::from(width)).saturating_sub(sides));
+        rest = tail;
+    }
+    count
+}
+
+#[test]
+fn shapes_have_their_triangles(rt: HostRuntime) -> Result<(), Fail> {
+    let alloc = rt.alloc();
+    let command = words(alloc, &["fracture", "G.gds", "K"])?;
+    let rows: [(&[(u8, u8)], u64); 4] = [
+        // a triangle
+        (&[(0, 0), (10, 0), (10, 10), (0, 0)], 400),
+        // a figure eight, which crosses itself
+        (&[(0, 0), (10, 10), (10, 0), (0, 10), (0, 0)], 400),
+        // a square with repeated points
+        (
+            &[(0, 0), (0, 0), (0, 10), (10, 10), (10, 10), (10, 0), (0, 0)],
+            800,
+        ),
+        // a square that is run round twice
+        (
+            &[
+                (0, 0),
+                (0, 10),
+                (10, 10),
+                (10, 0),
+                (0, 0),
+                (0, 10),
+                (10, 10),
+                (10, 0),
+                (0, 0),
+            ],
+            800,
+        ),
+    ];
+    for (corners, want) in rows {
+        let layout = layout_of(alloc, corners)?;
+        let mut points = Vec::new(alloc);
+        for (x, y) in corners {
+            points.push(Point {
+                x: 2 * i64::from(*x),
+                y: 2 * i64::from(*y),
+            })?;
+        }
+        assert_eq!(rt; inside(&points), want);
+        let mut depot = MemDepot::new(alloc);
+        depot.add("G.gds", &layout)?;
+        depot.add("K", DECK)?;
+        assert!(rt; run(alloc, &command, &mut depot) == Status::Done);
+        let made = depot.made("out.oas").ok_or("no file")?;
+        assert!(rt; 41 <= made.len());
+        assert_eq!(rt; triangles(&made[41..]), want);
+    }
+    Ok(())
+}
+
+// How many tiles beside the origin are in the polygon, asked one at a time.
+fn inside(points: &[Point]) -> u64 {
+    let mut count: u64 = 0;
+    for i in 0..24u8 {
+        for j in 0..24u8 {
+            for side in [Side::Left, Side::Right] {
+                let tile = Tile {
+                    i: i64::from(i),
+                    j: i64::from(j),
+                    side,
+                };
+                if winding_at(points, tile) != 0 {
+                    count = count.saturating_add(1);
+                }
+            }
+        }
+    }
+    count
+}
