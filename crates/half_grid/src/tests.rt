@@ -1,7 +1,9 @@
+ghost use Rattle.std.specs.Prelude.{◌≡◌};
+
 use crate::{
-    Edge, Frame, Limits, Line, Operand, Point, Quad, Side, Strips, Tile, Trap, Window, covers,
-    diagonal_of, edge_laws, fits, joined_law, line_at, line_laws, line_through, meeting_y, near,
-    number_of, place_of, row_laws, size_of, strips, winding_at, x_at,
+    Edge, Frame, Limits, Line, Operand, Point, Quad, REACH, Side, Strips, Tile, Trap, Window,
+    covers, diagonal_of, edge_laws, fits, joined_law, line_at, line_laws, line_through, meeting_y,
+    near, number_of, place_of, row_laws, size_of, strips, winding_at, x_at,
 };
 use std::process::Abort;
 
@@ -9,74 +11,57 @@ fn point(x: i64, y: i64) -> Point {
     Point { x, y }
 }
 
+// The left tile of a cell.
+fn left(i: i64, j: i64) -> Tile
+    ensures column { result.i ≡ i }
+    ensures row { result.j ≡ j }
+{
+    let side = Side::Left;
+    Tile { i, j, side }
+}
+
+// The right tile of a cell.
+fn right(i: i64, j: i64) -> Tile
+    ensures column { result.i ≡ i }
+    ensures row { result.j ≡ j }
+{
+    let side = Side::Right;
+    Tile { i, j, side }
+}
+
+fn numbers(strips: Strips) -> (i64, i64, i64, i64) {
+    (strips.i, strips.j, strips.p, strips.q)
+}
+
 fn trap(rt: &impl Abort, y0: i64, y1: i64, left: Line, right: Line) -> Trap {
     Trap::new(y0, y1, left, right).expect(rt, "a legal trapezoid")
 }
 
+// The triangle with the tip (11, 11) over the side from (0, 0) to (22, 0).
+fn tip(rt: &impl Abort) -> Trap {
+    trap(rt, 0, 11, Line::Rising(0), Line::Falling(11))
+}
+
 #[test]
-fn tiles_and_lines_of_a_row(rt: HostRuntime) {
+fn laws() {
     row_laws();
     line_laws();
     edge_laws();
     joined_law();
-    // The strips of tiles, by hand from a drawing of the half grid.
-    let even_left = Tile {
-        i: 0,
-        j: 0,
-        side: Side::Left,
-    };
-    let even_right = Tile {
-        i: -3,
-        j: 5,
-        side: Side::Right,
-    };
-    let odd_left = Tile {
-        i: 1,
-        j: 0,
-        side: Side::Left,
-    };
-    let odd_right = Tile {
-        i: -1,
-        j: 0,
-        side: Side::Right,
-    };
-    assert_eq!(rt;
-        strips(even_left),
-        Strips {
-            i: 0,
-            j: 0,
-            p: 0,
-            q: -1
-        }
-    );
-    assert_eq!(rt;
-        strips(even_right),
-        Strips {
-            i: -3,
-            j: 5,
-            p: 1,
-            q: -4
-        }
-    );
-    assert_eq!(rt;
-        strips(odd_left),
-        Strips {
-            i: 1,
-            j: 0,
-            p: 0,
-            q: 0
-        }
-    );
-    assert_eq!(rt;
-        strips(odd_right),
-        Strips {
-            i: -1,
-            j: 0,
-            p: 0,
-            q: -1
-        }
-    );
-    assert_eq!(rt; number_of(odd_right), -1);
+}
+
+// By hand, from a drawing of the half grid.
+#[test]
+fn strips_of_tiles(rt: HostRuntime) {
+    assert_eq!(rt; numbers(strips(left(0, 0))), (0, 0, 0, -1));
+    assert_eq!(rt; numbers(strips(right(-3, 5))), (-3, 5, 1, -4));
+    assert_eq!(rt; numbers(strips(left(1, 0))), (1, 0, 0, 0));
+    assert_eq!(rt; numbers(strips(right(-1, 0))), (-1, 0, 0, -1));
+    assert_eq!(rt; number_of(right(-1, 0)), -1);
+}
+
+#[test]
+fn places_of_lines(rt: HostRuntime) {
     assert_eq!(rt; x_at(Line::Upright(3), 7), 3);
     assert_eq!(rt; x_at(Line::Rising(2), 5), 9);
     assert_eq!(rt; x_at(Line::Falling(2), 5), -1);
@@ -106,145 +91,46 @@ fn lines_through_two_points(rt: HostRuntime) {
 
 #[test]
 fn windings_of_a_figure_eight(rt: HostRuntime) {
-    let eight = [
-        point(0, 0),
-        point(20, 20),
-        point(20, 0),
-        point(0, 20),
-        point(0, 0),
-    ];
-    assert_eq!(rt;
-        winding_at(
-            &eight,
-            Tile {
-                i: 1,
-                j: 9,
-                side: Side::Left
-            }
-        ),
-        -1
-    );
-    assert_eq!(rt;
-        winding_at(
-            &eight,
-            Tile {
-                i: 18,
-                j: 9,
-                side: Side::Right
-            }
-        ),
-        1
-    );
-    assert_eq!(rt;
-        winding_at(
-            &eight,
-            Tile {
-                i: 10,
-                j: 2,
-                side: Side::Left
-            }
-        ),
-        0
-    );
-    assert_eq!(rt;
-        winding_at(
-            &[],
-            Tile {
-                i: 10,
-                j: 2,
-                side: Side::Left
-            }
-        ),
-        0
-    );
+    let (low, high) = (point(0, 0), point(20, 20));
+    let eight = [low, high, point(20, 0), point(0, 20), low];
+    assert_eq!(rt; winding_at(&eight, left(1, 9)), -1);
+    assert_eq!(rt; winding_at(&eight, right(18, 9)), 1);
+    assert_eq!(rt; winding_at(&eight, left(10, 2)), 0);
+    assert_eq!(rt; winding_at(&[], left(10, 2)), 0);
 }
 
 #[test]
 fn trapezoids(rt: HostRuntime) {
-    let tip = trap(&rt, 0, 11, Line::Rising(0), Line::Falling(11));
-    assert_eq!(rt; (tip.y0(), tip.y1()), (0, 11));
+    let tip = tip(&rt);
+    assert_eq!(rt; (tip.y0(), tip.y1(), tip.height()), (0, 11, 11));
     assert_eq!(rt;
         (tip.left(), tip.right()),
         (Line::Rising(0), Line::Falling(11))
     );
     assert_eq!(rt; (tip.bottom_left(), tip.bottom_right()), (0, 22));
     assert_eq!(rt; (tip.top_left(), tip.top_right()), (11, 11));
-    assert_eq!(rt; (tip.height(), tip.box_width()), (11, 22));
-    assert_eq!(rt; (tip.least_x(), tip.greatest_x()), (0, 22));
-    assert!(rt;
-        covers(
-            &tip,
-            Tile {
-                i: 10,
-                j: 10,
-                side: Side::Right
-            }
-        )
+    assert_eq!(rt;
+        (tip.least_x(), tip.greatest_x(), tip.box_width()),
+        (0, 22, 22)
     );
-    assert!(rt;
-        !covers(
-            &tip,
-            Tile {
-                i: 10,
-                j: 10,
-                side: Side::Left
-            }
-        )
-    );
-    assert!(rt;
-        !covers(
-            &tip,
-            Tile {
-                i: 10,
-                j: 11,
-                side: Side::Right
-            }
-        )
-    );
-    assert!(rt;
-        !covers(
-            &tip,
-            Tile {
-                i: i64::MAX,
-                j: 10,
-                side: Side::Right
-            }
-        )
-    );
-    assert!(rt;
-        fits(
-            &tip,
-            &Limits {
-                height: 11,
-                width: 22
-            }
-        )
-    );
-    assert!(rt;
-        !fits(
-            &tip,
-            &Limits {
-                height: 10,
-                width: 22
-            }
-        )
-    );
-    assert!(rt;
-        !fits(
-            &tip,
-            &Limits {
-                height: 11,
-                width: 21
-            }
-        )
-    );
-    let beyond = Line::Upright(crate::REACH + 1);
+    assert!(rt; covers(&tip, right(10, 10)));
+    assert!(rt; !covers(&tip, left(10, 10)));
+    assert!(rt; !covers(&tip, right(10, 11)));
+    assert!(rt; !covers(&tip, right(i64::MAX, 10)));
+    for (height, width, fit) in [(11, 22, true), (10, 22, false), (11, 21, false)] {
+        assert_eq!(rt; fits(&tip, &Limits { height, width }), fit);
+    }
+}
+
+#[test]
+fn no_trapezoids(rt: HostRuntime) {
+    let (zero, nine) = (Line::Upright(0), Line::Upright(9));
     for (y0, y1, left, right) in [
-        (5, 5, Line::Upright(0), Line::Upright(9)),
-        (0, 5, Line::Upright(9), Line::Upright(0)),
-        (0, 5, Line::Upright(9), Line::Upright(9)),
+        (5, 5, zero, nine),
+        (0, 5, nine, zero),
+        (0, 5, nine, nine),
         (0, 12, Line::Rising(0), Line::Falling(11)),
-        (0, 5, Line::Upright(0), beyond),
+        (0, 5, zero, Line::Upright(REACH + 1)),
     ] {
         assert_eq!(rt; Trap::new(y0, y1, left, right), None);
     }
@@ -255,59 +141,39 @@ fn numbers_of_tiles(rt: HostRuntime) {
     let (zero, twenty) = (Line::Upright(0), Line::Upright(20));
     assert_eq!(rt; size_of(&trap(&rt, 0, 20, zero, twenty)), 800);
     assert_eq!(rt; size_of(&trap(&rt, 0, 20, Line::Rising(0), twenty)), 400);
+    assert_eq!(rt; size_of(&tip(&rt)), 242);
+}
+
+#[test]
+fn edges(rt: HostRuntime) {
+    let tip = tip(&rt);
+    let up = Edge::left_of(&tip, Operand::A);
+    let down = Edge::right_of(&tip, Operand::B);
     assert_eq!(rt;
-        size_of(&trap(&rt, 0, 11, Line::Rising(0), Line::Falling(11))),
-        242
+        Edge::new(0, 11, Line::Rising(0), true, Operand::A),
+        Some(up)
+    );
+    assert_eq!(rt;
+        (down.y0(), down.y1(), down.line()),
+        (0, 11, Line::Falling(11))
+    );
+    assert_eq!(rt; (down.is_up(), down.operand()), (false, Operand::B));
+    assert_eq!(rt; Edge::new(3, 3, Line::Upright(0), true, Operand::A), None);
+    assert_eq!(rt;
+        Edge::new(0, REACH, Line::Rising(1), true, Operand::A),
+        None
     );
 }
 
 #[test]
-fn edges_and_quadrilaterals(rt: HostRuntime) {
-    let tip = trap(&rt, 0, 11, Line::Rising(0), Line::Falling(11));
-    let left = Edge::left_of(&tip, Operand::A);
-    let right = Edge::right_of(&tip, Operand::B);
-    assert_eq!(rt;
-        Edge::new(0, 11, Line::Rising(0), true, Operand::A),
-        Some(left)
-    );
-    assert_eq!(rt;
-        (right.y0(), right.y1(), right.line()),
-        (0, 11, Line::Falling(11))
-    );
-    assert_eq!(rt; (right.is_up(), right.operand()), (false, Operand::B));
-    assert_eq!(rt; Edge::new(3, 3, Line::Upright(0), true, Operand::A), None);
-    assert_eq!(rt;
-        Edge::new(0, crate::REACH, Line::Rising(1), true, Operand::A),
-        None
-    );
-    let quad = Quad::of(&tip);
+fn quadrilaterals(rt: HostRuntime) {
+    let quad = Quad::of(&tip(&rt));
     let same = Quad::new(quad.a(), quad.b(), quad.c(), quad.d());
     assert_eq!(rt; same, quad);
     let ring = [quad.a(), quad.b(), quad.c(), quad.d(), quad.a()];
-    assert_eq!(rt; ring[0], point(0, 0));
-    assert_eq!(rt; ring[3], point(22, 0));
-    assert_eq!(rt;
-        winding_at(
-            &ring,
-            Tile {
-                i: 10,
-                j: 10,
-                side: Side::Right
-            }
-        ),
-        1
-    );
-    assert_eq!(rt;
-        winding_at(
-            &ring,
-            Tile {
-                i: 10,
-                j: 10,
-                side: Side::Left
-            }
-        ),
-        0
-    );
+    assert_eq!(rt; (ring[0], ring[3]), (point(0, 0), point(22, 0)));
+    assert_eq!(rt; winding_at(&ring, right(10, 10)), 1);
+    assert_eq!(rt; winding_at(&ring, left(10, 10)), 0);
 }
 
 #[test]
@@ -316,21 +182,9 @@ fn windows_and_frames(rt: HostRuntime) {
     assert_eq!(rt; (window.y0(), window.y1()), (-4, 9));
     assert_eq!(rt; Window::new(9, 8), None);
     assert!(rt; Window::new(9, 9).is_some());
-    let frame = Frame {
-        x0: 0,
-        y0: 1,
-        x1: 2,
-        y1: 3,
-    };
-    assert_eq!(rt;
-        frame,
-        Frame {
-            x0: 0,
-            y0: 1,
-            x1: 2,
-            y1: 3
-        }
-    );
+    let (x0, y0, x1, y1) = (0, 1, 2, 3);
+    let frame = Frame { x0, y0, x1, y1 };
+    assert_eq!(rt; (frame.x0, frame.y0, frame.x1, frame.y1), (0, 1, 2, 3));
 }
 
 #[test]
@@ -342,104 +196,15 @@ fn meetings(rt: HostRuntime) {
     assert_eq!(rt; meeting_y(Line::Upright(1), Line::Upright(1)), None);
 }
 
+// A square grows a triangle to a pentagon, which cuts one cell at a corner along its diagonal.
 #[test]
 fn nearness(rt: HostRuntime) {
-    // A square grows the right triangle of a cell to a pentagon, which cuts the cell above to the left along its
-    // diagonal.
-    let triangle = Tile {
-        i: 0,
-        j: 0,
-        side: Side::Right,
-    };
-    assert!(rt;
-        near(
-            triangle,
-            Tile {
-                i: -1,
-                j: 1,
-                side: Side::Right
-            },
-            1,
-            1
-        )
-    );
-    assert!(rt;
-        !near(
-            triangle,
-            Tile {
-                i: -1,
-                j: 1,
-                side: Side::Left
-            },
-            1,
-            1
-        )
-    );
-    // In a cell with the other diagonal it is the cell below to the left.
-    let other = Tile {
-        i: 1,
-        j: 0,
-        side: Side::Right,
-    };
-    assert!(rt;
-        near(
-            other,
-            Tile {
-                i: 0,
-                j: -1,
-                side: Side::Right
-            },
-            1,
-            1
-        )
-    );
-    assert!(rt;
-        !near(
-            other,
-            Tile {
-                i: 0,
-                j: -1,
-                side: Side::Left
-            },
-            1,
-            1
-        )
-    );
+    assert!(rt; near(right(0, 0), right(-1, 1), 1, 1));
+    assert!(rt; !near(right(0, 0), left(-1, 1), 1, 1));
+    assert!(rt; near(right(1, 0), right(0, -1), 1, 1));
+    assert!(rt; !near(right(1, 0), left(0, -1), 1, 1));
     // By a rectangle.
-    assert!(rt;
-        near(
-            triangle,
-            Tile {
-                i: 1,
-                j: 3,
-                side: Side::Left
-            },
-            1,
-            3
-        )
-    );
-    assert!(rt;
-        !near(
-            triangle,
-            Tile {
-                i: 1,
-                j: 3,
-                side: Side::Left
-            },
-            3,
-            1
-        )
-    );
-    assert!(rt;
-        !near(
-            triangle,
-            Tile {
-                i: 2,
-                j: -2,
-                side: Side::Left
-            },
-            1,
-            3
-        )
-    );
+    assert!(rt; near(right(0, 0), left(1, 3), 1, 3));
+    assert!(rt; !near(right(0, 0), left(1, 3), 3, 1));
+    assert!(rt; !near(right(0, 0), left(2, -2), 1, 3));
 }
