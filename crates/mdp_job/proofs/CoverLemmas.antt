@@ -1,21 +1,21 @@
 -- The cover of a polygon by the rows of its box.
-use Rattle.std.proofs.Common.{◌≡◌, ◌≢◌, ◌+◌, ℕ, Bool, true, false, not, ℤ, pos, ◌+ℤ◌, ◌≤ℤ◌, ◌<ℤ◌, ◌&&◌, arith, refl, ap, ◌∙◌, sym, List, [], ◌∷◌, int_le, int_lt, All}
+use Rattle.std.proofs.Common.{◌≡◌, ◌+◌, Bool, true, false, not, ℤ, pos, ◌+ℤ◌, ◌≤ℤ◌, ◌<ℤ◌, ◌&&◌, arith, refl, ap, ◌∙◌, sym, List, [], ◌∷◌, int_le, int_lt, All}
 use Rattle.std.proofs.lemmas.Int.{ints, by_lt_z}
 use Rattle.std.proofs.lemmas.List.Elements.{recursion_from_All}
 use Rattle.std.specs.List.{AllByRecursion}
 use Rattle.std.specs.Ordering.{int_eq}
 use Rattle.half_grid.specs.Halves.{twice}
 use Rattle.half_grid.specs.Outlines.{IsClosed, IsOnGrid, HasGridEdges}
-use Rattle.half_grid.specs.Rows.{number_in_row, in_row}
+use Rattle.half_grid.specs.Rows.{number_in_row}
 use Rattle.half_grid.specs.Trapezoids.{Trapezoid, count_in, CoversExactly}
 use Rattle.half_grid.specs.Winding.{winding, count_one, edges_of, IsInPolygon}
 use Rattle.half_grid.specs.declared.plane.Tile.{Tile}
 use Rattle.half_grid.specs.declared.plane.Point.{Point}
-use Rattle.half_grid.proofs.LineLemmas.{int_eq_true, int_eq_false, int_eq_same, int_eq_other}
-use Rattle.half_grid.proofs.OutlineLemmas.{closed_right, closed_left, closed_under, closed_over, le_yes, le_no}
+use Rattle.half_grid.proofs.LineLemmas.{int_eq_false, int_eq_same, int_eq_other}
+use Rattle.half_grid.proofs.OutlineLemmas.{closed_right, closed_left, closed_under, closed_over, le_yes}
 use Rattle.mdp_job.specs.declared.row_walk.Bounds.{Bounds}
-use Rattle.mdp_job.specs.Inside.{is_inside, IsInBox, AddsPart, inside_part}
-use Rattle.mdp_job.specs.Bounds.{IsInBounds, AreNearBounds}
+use Rattle.mdp_job.specs.Inside.{is_inside, AddsPart, inside_part}
+use Rattle.mdp_job.specs.Bounds.{IsInBounds}
 use Rattle.mdp_job.proofs.WalkLemmas.{CountsBelow, lt_yes, lt_no, and_no}
 
 -- what holds of a polygon and its box

@@ -1,22 +1,19 @@
 -- How the parts of the table of answers fit together: what the writing owes becomes what the layout owes, and that becomes
 -- what the command owes.
-use Rattle.std.proofs.Common.{◌≡◌, ◌⊎◌, inl, inr, ℕ, ◌≤◌, ◌<◌, List, [], ◌∷◌, ◌++◌, length, drop, flat_map, refl, sym, ap, subst, ◌∙◌, arith, Some}
+use Rattle.std.proofs.Common.{◌≡◌, inl, inr, ℕ, ◌≤◌, List, [], ◌++◌, length, drop, flat_map, refl, sym, ap, subst, ◌∙◌}
 use Rattle.std.proofs.Math.ListN.{drop_of_length-le}
 use Rattle.std.proofs.lemmas.List.{append-nil}
 use Rattle.half_grid.specs.Trapezoids.{Trapezoid}
-use Rattle.depot.specs.Content.{Content, held_as, IsNotThere, IsLongerThan, ChangesLeftOnly, with_left, with_file, IsPartMade}
-use Rattle.depot.specs.Counts.{Counts, Rose, NeverFall}
-use Rattle.depot.proofs.ForCallers.{Rose-later, Rose-earlier}
-use Rattle.mdp_job.specs.FirstDeck.{DeckData, IsDeckOf}
+use Rattle.depot.specs.Content.{Content, ChangesLeftOnly, with_left}
+use Rattle.depot.specs.Counts.{Counts}
+use Rattle.depot.proofs.ForCallers.{Rose-later}
+use Rattle.mdp_job.specs.FirstDeck.{DeckData}
 use Rattle.mdp_job.specs.FirstLayout.{LayoutData, IsLayoutOf}
 use Rattle.mdp_job.specs.Fit.{IsFit}
-use Rattle.mdp_job.specs.Answers.{Run, IsAnswer, HoldsDeck, HoldsLayout, HoldsBoth, RefusesDeck, RefusesLayout, IsShotFile, Writes, WritesPart}
+use Rattle.mdp_job.specs.Answers.{IsAnswer, HoldsDeck, HoldsLayout, HoldsBoth, RefusesLayout}
 use Rattle.mdp_job.specs.Parts.{run_of, IsWritten, IsLayoutAnswer}
 use Rattle.mdp_job.specs.declared.status.Status.{Status}
 use Rattle.mdp_job.specs.declared.status.Status.TheVariants as answers
-use Rattle.mdp_job.specs.declared.status.DeckFault.{DeckFault}
-use Rattle.mdp_job.specs.declared.status.DeckFault.TheVariants as deck_faults
-use Rattle.mdp_job.specs.declared.status.LayoutFault.{LayoutFault}
 use Rattle.mdp_job.specs.declared.status.LayoutFault.TheVariants as layout_faults
 use Rattle.mdp_job.proofs.LayoutFacts.{layout_grid}
 

@@ -1,20 +1,17 @@
 -- The rows of the table of answers, from the table.
-use Rattle.std.proofs.Common.{◌≡◌, ◌≢◌, ◌⊎◌, inl, inr, ℕ, ◌≤◌, ◌<◌, List, [], ◌∷◌, length, refl, sym, ap, subst, ◌∙◌, arith, Some, None, Option}
-use Rattle.std.specs.Prelude.{◌↔◌, IsSomeAnd}
-use Rattle.depot.specs.Content.{Content, held_as, IsNotThere, IsLongerThan, ChangesLeftOnly}
-use Rattle.depot.specs.Counts.{Rose}
+use Rattle.std.proofs.Common.{◌≡◌, ◌≢◌, ◌⊎◌, inl, inr, ℕ, ◌≤◌, ◌<◌, List, length, refl, sym, subst, ◌∙◌, arith, Some, None, Option}
+use Rattle.std.specs.Prelude.{IsSomeAnd}
+use Rattle.depot.specs.Content.{Content, held_as, IsNotThere, IsLongerThan}
 use Rattle.depot.proofs.ForCallers.{longer_there}
-use Rattle.mdp_job.specs.Words.{IsFracture, IsNoCommand}
+use Rattle.mdp_job.specs.Words.{IsFracture}
 use Rattle.mdp_job.specs.FirstDeck.{DeckData, IsDeckOf}
 use Rattle.mdp_job.specs.FirstLayout.{LayoutData, IsLayoutOf}
-use Rattle.mdp_job.specs.Answers.{Run, IsAnswer, IsAccepted, IsWanting, HoldsDeck, HoldsLayout, HoldsBoth, RefusesDeck, RefusesLayout, Writes, WritesPart, ReadRose, WriteRose, ComesExactlyWhere}
+use Rattle.mdp_job.specs.Answers.{Run, IsAnswer, IsAccepted, IsWanting, HoldsDeck, HoldsLayout, HoldsBoth, RefusesDeck, RefusesLayout, ReadRose, WriteRose}
 use Rattle.mdp_job.specs.Parts.{IsAnswerTo}
-use Rattle.mdp_job.specs.Clauses.{Covers, Accepts, DeckLong, DeckEarly, LayoutLong, LayoutEarly, ReadFaults, WriteFaults, Spares, Spoils, IsRefusal}
+use Rattle.mdp_job.specs.Clauses.{Accepts, DeckEarly, LayoutLong, LayoutEarly, ReadFaults, Spoils}
 use Rattle.mdp_job.specs.declared.status.Status.{Status}
 use Rattle.mdp_job.specs.declared.status.Status.TheVariants as answers
-use Rattle.mdp_job.specs.declared.status.DeckFault.{DeckFault}
 use Rattle.mdp_job.specs.declared.status.DeckFault.TheVariants as deck_faults
-use Rattle.mdp_job.specs.declared.status.LayoutFault.{LayoutFault}
 use Rattle.mdp_job.specs.declared.status.LayoutFault.TheVariants as layout_faults
 use Rattle.mdp_job.proofs.DeckUnique.{deck_unique}
 

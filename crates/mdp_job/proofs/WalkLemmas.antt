@@ -1,5 +1,5 @@
 -- Runs of a row: what was found tile by tile, and the trapezoid of a run.
-use Rattle.std.proofs.Common.{◌≡◌, ◌+◌, ℕ, Bool, true, false, not, ℤ, pos, ◌+ℤ◌, ◌-ℤ◌, ◌≤ℤ◌, ◌<ℤ◌, ◌&&◌, arith, refl, ap, ◌∙◌, sym, List, [], ◌∷◌, ◌++◌, int_le, int_lt, cond, add_assoc, add-zero}
+use Rattle.std.proofs.Common.{◌≡◌, ◌+◌, Bool, true, false, not, ℤ, pos, ◌+ℤ◌, ◌≤ℤ◌, ◌<ℤ◌, ◌&&◌, arith, refl, ap, ◌∙◌, sym, List, [], ◌∷◌, ◌++◌, int_le, int_lt, cond, add_assoc, add-zero}
 use Rattle.std.specs.List.{AllByRecursion}
 use Rattle.std.proofs.lemmas.List.Sums.{sum_by-append}
 use Rattle.half_grid.proofs.LineLemmas.{int_eq_true}
@@ -7,7 +7,6 @@ use mathlib.Core.Bool.{beq}
 use Rattle.std.proofs.lemmas.Int.{ints, clamps, by_lt_z}
 use Rattle.std.proofs.Common.{Option, Some, None, SomeIff}
 use Rattle.std.specs.Ordering.{int_eq}
-use Rattle.half_grid.specs.Lines.{x_on}
 use Rattle.half_grid.specs.Rows.{number_in_row, place, in_row}
 use Rattle.half_grid.specs.Winding.{count_one}
 use Rattle.half_grid.specs.Trapezoids.{Trapezoid, trapezoid, trapezoid_has, count_in}

@@ -1,6 +1,6 @@
 -- What the program owes for `fracture LAYOUT DECK` as long as it takes one polygon: which input is accepted, what is
 -- then written, and the cause of each answer.
-use Rattle.std.specs.Prelude.{◌≡◌, ◌≢◌, ◌⊎◌, ◌↔◌, ℕ, ◌*◌, ◌<◌, ◌≤◌, List, [], length, Option, Some, None, map, string_bytes, String}
+use Rattle.std.specs.Prelude.{◌≡◌, ◌⊎◌, ℕ, ◌*◌, ◌≤◌, List, [], length, Some, map, string_bytes, String}
 use Rattle.std.specs.List.{AllByRecursion}
 use Rattle.std.specs.declared.alloc.Global.{Global}
 use Rattle.half_grid.specs.Trapezoids.{Trapezoid, CoversExactly}
@@ -15,9 +15,7 @@ use Rattle.mdp_job.specs.FirstLayout.{LayoutData, IsLayoutOf}
 use Rattle.mdp_job.specs.Inside.{IsFirstShot}
 use Rattle.mdp_job.specs.declared.status.Status.{Status}
 use Rattle.mdp_job.specs.declared.status.Status.TheVariants as answers
-use Rattle.mdp_job.specs.declared.status.DeckFault.{DeckFault}
 use Rattle.mdp_job.specs.declared.status.DeckFault.TheVariants as deck_faults
-use Rattle.mdp_job.specs.declared.status.LayoutFault.{LayoutFault}
 use Rattle.mdp_job.specs.declared.status.LayoutFault.TheVariants as layout_faults
 
 -- ---- what is accepted

@@ -1,5 +1,5 @@
 -- The box of a polygon.
-use Rattle.std.specs.Prelude.{ℤ, pos, neg_ℤ, ◌≤ℤ◌}
+use Rattle.std.specs.Prelude.{pos, neg_ℤ, ◌≤ℤ◌}
 use Rattle.half_grid.specs.declared.plane.Point.{Point}
 use Rattle.mdp_job.specs.declared.row_walk.Bounds.{Bounds}
 use Rattle.mdp_job.specs.Inside.{IsInBox}

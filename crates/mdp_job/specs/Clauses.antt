@@ -1,7 +1,7 @@
 -- The rows of the table of answers, each as it stands on the program's call: about what was there before the command and
 -- after it, the words, and the answer.
 use Rattle.std.specs.Prelude.{◌≡◌, ◌≢◌, ◌⊎◌, ◌↔◌, ℕ, List, ⊤}
-use Rattle.depot.specs.Content.{Content, IsNotThere, IsLongerThan, ChangesLeftOnly}
+use Rattle.depot.specs.Content.{IsLongerThan, ChangesLeftOnly}
 use Rattle.mdp_job.specs.Words.{IsFracture}
 use Rattle.mdp_job.specs.FirstDeck.{DeckData}
 use Rattle.mdp_job.specs.FirstLayout.{LayoutData}

@@ -5,7 +5,7 @@
 -- UNITS agrees with the deck's unit, and the structure's name without trailing NULs is that of the top cell. XY has 4 to
 -- 8,191 points, its last point is its first, and each edge is horizontal, vertical or has equal absolute moves in x and
 -- y. All points are within 2,048 grid steps of 0.
-use Rattle.std.specs.Prelude.{◌≡◌, ◌⊎◌, ℕ, zero, suc, ◌+◌, ◌-◌, ◌*◌, ◌/◌, ◌≤◌, ℤ, pos, ◌+ℤ◌, ◌-ℤ◌, ◌≤ℤ◌, neg_ℤ, List, [], ◌∷◌, ◌++◌, length, take, drop, map, replicate, All}
+use Rattle.std.specs.Prelude.{◌≡◌, ◌⊎◌, ℕ, zero, suc, ◌+◌, ◌-◌, ◌/◌, ◌≤◌, pos, ◌-ℤ◌, ◌≤ℤ◌, neg_ℤ, List, [], ◌∷◌, ◌++◌, length, take, drop, map, replicate, All}
 use Rattle.half_grid.specs.Halves.{twice}
 use Rattle.half_grid.specs.Outlines.{IsClosed}
 use Rattle.half_grid.specs.Winding.{edges_of}

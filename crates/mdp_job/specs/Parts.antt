@@ -1,8 +1,8 @@
 -- The table of answers, part by part: what the writing of an accepted layout owes, what the reading of a layout owes
 -- for an accepted deck, and the whole.
-use Rattle.std.specs.Prelude.{◌≡◌, ◌⊎◌, ℕ, List, []}
-use Rattle.depot.specs.Content.{Content, IsNotThere, IsLongerThan, ChangesLeftOnly, with_left, with_file, IsPartMade}
-use Rattle.depot.specs.Counts.{Counts, Rose}
+use Rattle.std.specs.Prelude.{◌≡◌, ◌⊎◌, ℕ, List}
+use Rattle.depot.specs.Content.{Content, IsNotThere, IsLongerThan, ChangesLeftOnly, with_file, IsPartMade}
+use Rattle.depot.specs.Counts.{Counts}
 use Rattle.depot.specs.declared.whole.Refused.{Refused}
 use Rattle.depot.specs.declared.whole.Refused.TheVariants as reading
 use Rattle.mdp_job.specs.Words.{IsFracture, IsNoCommand}
@@ -11,8 +11,6 @@ use Rattle.mdp_job.specs.FirstLayout.{LayoutData}
 use Rattle.mdp_job.specs.Answers.{Run, IsAnswer, HoldsLayout, RefusesLayout, IsShotFile, ReadRose, WriteRose, Writes, WritesPart}
 use Rattle.mdp_job.specs.declared.status.Status.{Status}
 use Rattle.mdp_job.specs.declared.status.Status.TheVariants as answers
-use Rattle.mdp_job.specs.declared.status.DeckFault.{DeckFault}
-use Rattle.mdp_job.specs.declared.status.LayoutFault.{LayoutFault}
 use Rattle.mdp_job.specs.declared.status.LayoutFault.TheVariants as layout_faults
 
 abbrev pub run_of : Content → Content → Counts → Counts → Run

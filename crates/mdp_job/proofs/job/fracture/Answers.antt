@@ -1,4 +1,4 @@
-use Rattle.std.proofs.Common.{◌≡◌, subst, ap, arith, length}
+use Rattle.std.proofs.Common.{subst, ap, arith, length}
 use Rattle.depot.specs.Content.{Content}
 use Rattle.mdp_job.specs.Answers.{HoldsDeck}
 use Rattle.mdp_job.specs.Parts.{run_of, IsLayoutAnswer}

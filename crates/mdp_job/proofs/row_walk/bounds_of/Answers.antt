@@ -1,8 +1,7 @@
-use Rattle.std.proofs.Common.{arith, ◌≡◌, ℕ, ◌<◌, pos, get_or, w64, FitsSigned, below_more, rules, ap, refl}
-use Rattle.std.proofs.lemmas.Int.{ints, to_z-of_z}
+use Rattle.std.proofs.Common.{arith, get_or, w64, FitsSigned, below_more, rules}
+use Rattle.std.proofs.lemmas.Int.{to_z-of_z}
 use Rattle.std.proofs.lemmas.List.{get_or_default}
 use Rattle.half_grid.specs.declared.plane.Point.{Point}
-use Rattle.mdp_job.specs.Bounds.{IsInBounds, AreNearBounds}
 use Rattle.mdp_job.proofs.WalkLemmas.{origin, still_in, now_in, still_near, near_point}
 use Rattle.mdp_job.proofs.row_walk.bounds_of.Goals as goal
 

@@ -1,5 +1,4 @@
-use Rattle.std.proofs.Common.{ℕ, ◌<◌, pos, get_or}
-use Rattle.half_grid.specs.declared.plane.Point.{Point}
+use Rattle.std.proofs.Common.{ℕ, ◌<◌, get_or}
 use Rattle.mdp_job.specs.Bounds.{IsInBounds, AreNearBounds}
 use Rattle.mdp_job.proofs.WalkLemmas.{origin}
 use Rattle.mdp_job.proofs.row_walk.bounds_of.Given as goal

@@ -1,6 +1,5 @@
-use Rattle.std.proofs.Common.{◌≡◌, ◌+ℤ◌, pos, sym, ◌∙◌, arith, w64, FitsSigned, to_z, rules, not}
+use Rattle.std.proofs.Common.{◌+ℤ◌, pos, sym, ◌∙◌, arith, w64, FitsSigned, to_z, rules, not}
 use Rattle.std.proofs.lemmas.Int.{ints, to_z-of_z}
-use Rattle.mdp_job.specs.Inside.{is_inside}
 use Rattle.mdp_job.proofs.WalkLemmas.{beq_yes, beq_no, so_at, so_more}
 use Rattle.mdp_job.proofs.row_walk.first_where.Goals as goal
 

@@ -1,4 +1,4 @@
-use Rattle.std.proofs.Common.{arith, ◌≡◌, ◌≤ℤ◌, ◌<ℤ◌, ◌+ℤ◌, pos, w64, FitsSigned, to_z, of_z, rules, subst, sym, ap, ◌∙◌}
+use Rattle.std.proofs.Common.{arith, ◌≡◌, ◌<ℤ◌, ◌+ℤ◌, pos, w64, FitsSigned, to_z, rules, subst, sym, ap, ◌∙◌}
 use Rattle.std.proofs.lemmas.Int.{ints, to_z-of_z}
 use Rattle.mdp_job.specs.Inside.{AddsPart, IsFirstShot}
 use Rattle.mdp_job.proofs.WalkLemmas.{so_first, adds_run, adds_rest, all_push}

@@ -1,7 +1,5 @@
-use Rattle.std.proofs.Common.{arith, ◌≡◌, ◌≤ℤ◌, ◌+ℤ◌, pos, w64, FitsSigned, to_z, of_z, rules, refl, []}
+use Rattle.std.proofs.Common.{arith, ◌+ℤ◌, pos, w64, FitsSigned, to_z, rules}
 use Rattle.std.proofs.lemmas.Int.{ints, to_z-of_z}
-use Rattle.std.specs.List.{AllByRecursion}
-use Rattle.mdp_job.specs.Inside.{IsFirstShot, AddsPart}
 use Rattle.mdp_job.proofs.CoverLemmas.{HasBox, has_box, counts_start, counts_row, counts_all}
 use Rattle.mdp_job.proofs.row_walk.row_list.Goals as goal
 

@@ -1,11 +1,7 @@
-use Rattle.std.proofs.Common.{◌≡◌, ◌≤ℤ◌, ◌+◌, ◌-◌, ◌&&◌, int_lt, true, false, ℤ}
+use Rattle.std.proofs.Common.{◌≤ℤ◌, ◌+◌, ◌-◌}
 use borrow.Author.Differences.{up, down}
 use Rattle.std.specs.List.{AllByRecursion}
-use Rattle.half_grid.specs.Trapezoids.{count_in}
-use Rattle.half_grid.specs.Winding.{count_one}
-use Rattle.half_grid.specs.declared.plane.Tile.{Tile}
-use Rattle.mdp_job.specs.Inside.{is_inside, IsFirstShot}
-use Rattle.mdp_job.specs.Bounds.{AreNearBounds, IsInBounds}
+use Rattle.mdp_job.specs.Inside.{IsFirstShot}
 use Rattle.mdp_job.proofs.WalkLemmas.{CountsBelow}
 use Rattle.mdp_job.proofs.row_walk.row_list.Given as goal
 

@@ -1,4 +1,4 @@
-use Rattle.std.proofs.Common.{◌≡◌, ◌+ℤ◌, pos, arith, w64, FitsSigned, Some, refl, ◌∙◌}
+use Rattle.std.proofs.Common.{◌≡◌, ◌+ℤ◌, pos, arith, w64, FitsSigned, Some, refl}
 use Rattle.std.proofs.lemmas.Int.{ints, to_z-of_z}
 use Rattle.half_grid.specs.Trapezoids.{trapezoid}
 use Rattle.half_grid.specs.Rows.{place}

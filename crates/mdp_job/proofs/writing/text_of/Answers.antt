@@ -1,4 +1,4 @@
-use Rattle.std.proofs.Common.{◌≡◌, ◌++◌, ◌≤◌, ap, ◌∙◌, arith, length}
+use Rattle.std.proofs.Common.{◌++◌, ap, ◌∙◌, arith}
 use Rattle.oas_lex.specs.ShotText.{shot_text, spelling_of, end}
 use Rattle.mdp_job.proofs.Goes.{text_whole}
 use Rattle.mdp_job.proofs.writing.text_of.Goals as goal
