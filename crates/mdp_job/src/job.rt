@@ -1,9 +1,10 @@
 //! The command `fracture`, and the answers to all words.
 
-ghost use Rattle.std.specs.Prelude.{◌≡◌, ◌⊎◌, ◌↔◌, IsTrue, IfSome, IfNone};
+ghost use Rattle.std.specs.Prelude.{◌≡◌, ◌≢◌, ◌⊎◌, ◌↔◌, IsTrue, IfSome, IfNone};
 ghost use Rattle.depot.specs.Counts.{NeverFall, Rose};
+ghost use Rattle.depot.specs.Sure.{sure_content, sure_counts};
 ghost use Rattle.depot.specs.declared.whole.Refused.{Refused};
-ghost use Rattle.mdp_job.specs.Answers.{IsAnswer, texts};
+ghost use Rattle.mdp_job.specs.Answers.{IsAccepted, IsAnswer, texts};
 ghost use Rattle.mdp_job.specs.Clauses.{Covers, Accepts, DeckLong, DeckEarly, LayoutLong, LayoutEarly, ReadFaults, WriteFaults, Spares, Spoils};
 ghost use Rattle.mdp_job.specs.Words.{IsFracture, IsNoCommand};
 ghost use Rattle.mdp_job.specs.Fit.{IsFit};
@@ -198,8 +199,15 @@ pub fn run<D: Depot>(alloc: Global, words: &[String], depot: &mut D) -> Status
     answered(alloc, words, depot)
 }
 
-/// Does what the words say over a depot that never fails: the answer is then neither of the two faults.
+/// Does what the words say over a depot that never fails: the answer is then neither of the two faults, and memory aside
+/// it is Done exactly where the input is accepted.
 pub fn run_surely(alloc: Global, words: &[String], depot: &mut SureDepot) -> Status
+    ensures words { (result ≡ Status.Words) ↔ IsNoCommand (texts words.now) }
+    ensures accepted { result ≢ Status.NoMemory
+        → (result ≡ Status.Done) ↔ IsAccepted (texts words.now) (sure_content depot.old) }
+    ensures cover { Covers
+        (run_of (sure_content depot.old) (sure_content depot.new) (sure_counts depot.old) (sure_counts depot.new))
+        (texts words.now) result }
     ensures no_read_fault { result ≡ Status.ReadFault → ⊥ }
     ensures no_write_fault { result ≡ Status.WriteFault → ⊥ }
 {

@@ -1,0 +1,6 @@
+use Rattle.std.proofs.Common.{refl}
+use Rattle.depot.proofs.ForCallers.{zero_stays}
+use Rattle.mdp_job.proofs.job.run_surely.Goals as goal
+
+pub returns-clause-accepted : goal.returns-clause-accepted
+returns-clause-accepted c = λ memory. c.run.ensures.accepted refl zero_stays zero_stays memory
