@@ -17,3 +17,17 @@ pub use Rattle.half_grid.proofs.EdgeLemmas.{windings_add, one_inside, none_outsi
 pub use Rattle.half_grid.proofs.SizeLemmas.{size_is, tile_with, tile_with_number}
 -- Joined lists, and lists that cover one set.
 pub use Rattle.half_grid.proofs.JoinedLemmas.{one_joined_list, same_tiles}
+-- Where the winding of a closed outline is 0, and tests on whole numbers by the facts that they decide.
+pub use Rattle.half_grid.proofs.OutlineLemmas.{closed_right, closed_left, closed_under, closed_over, le_yes, le_no}
+pub use Rattle.half_grid.proofs.LineLemmas.{int_eq_true, int_eq_false, int_eq_same, int_eq_other}
+-- The trapezoid of one row: that it is a shot, its tiles by number, and its corners by places.
+pub use Rattle.half_grid.proofs.OneRow.{row_shot, row_has, bottom_close, top_close}
+
+-- for `omega`: where a tile's strips lie, by its number
+pub ruleset tile_bounds = (i_low, i_high, p_low, p_high, q_low, q_high)
+
+-- for `search` and `grind`: right and left of a line, by number and place, both ways
+pub ruleset sides_by_place = (place_at_most, right_by_place, number_below, left_by_place)
+
+-- what names a tile, and what names a line
+pub ruleset names = (same_strips, same_number, one_line)

@@ -11,8 +11,8 @@ use Rattle.half_grid.specs.Trapezoids.{Trapezoid, count_in, CoversExactly}
 use Rattle.half_grid.specs.Winding.{winding, count_one, edges_of, IsInPolygon}
 use Rattle.half_grid.specs.declared.plane.Tile.{Tile}
 use Rattle.half_grid.specs.declared.plane.Point.{Point}
-use Rattle.half_grid.proofs.LineLemmas.{int_eq_false, int_eq_same, int_eq_other}
-use Rattle.half_grid.proofs.OutlineLemmas.{closed_right, closed_left, closed_under, closed_over, le_yes}
+use Rattle.half_grid.proofs.ForCallers.{int_eq_false, int_eq_same, int_eq_other}
+use Rattle.half_grid.proofs.ForCallers.{closed_right, closed_left, closed_under, closed_over, le_yes}
 use Rattle.mdp_job.specs.declared.row_walk.Bounds.{Bounds}
 use Rattle.mdp_job.specs.Inside.{is_inside, AddsPart, inside_part}
 use Rattle.mdp_job.specs.Bounds.{IsInBounds}

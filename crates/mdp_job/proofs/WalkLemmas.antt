@@ -2,7 +2,7 @@
 use Rattle.std.proofs.Common.{◌≡◌, ◌+◌, Bool, true, false, not, ℤ, pos, ◌+ℤ◌, ◌≤ℤ◌, ◌<ℤ◌, ◌&&◌, arith, refl, ap, ◌∙◌, sym, List, [], ◌∷◌, ◌++◌, int_le, int_lt, cond, add_assoc, add-zero}
 use Rattle.std.specs.List.{AllByRecursion}
 use Rattle.std.proofs.lemmas.List.Sums.{sum_by-append}
-use Rattle.half_grid.proofs.LineLemmas.{int_eq_true}
+use Rattle.half_grid.proofs.ForCallers.{int_eq_true}
 use mathlib.Core.Bool.{beq}
 use Rattle.std.proofs.lemmas.Int.{ints, clamps, by_lt_z}
 use Rattle.std.proofs.Common.{Option, Some, None, SomeIff}
@@ -13,9 +13,9 @@ use Rattle.half_grid.specs.Trapezoids.{Trapezoid, trapezoid, trapezoid_has, coun
 use Rattle.half_grid.specs.declared.plane.Tile.{Tile}
 use Rattle.half_grid.specs.declared.plane.Point.{Point}
 use Rattle.half_grid.specs.declared.plane.Line.{Line}
-use Rattle.half_grid.proofs.Places.{same_number}
-use Rattle.half_grid.proofs.OneRow.{row_has, row_shot, bottom_close, top_close}
-use Rattle.half_grid.proofs.OutlineLemmas.{le_yes, le_no}
+use Rattle.half_grid.proofs.ForCallers.{same_number}
+use Rattle.half_grid.proofs.ForCallers.{row_has, row_shot, bottom_close, top_close}
+use Rattle.half_grid.proofs.ForCallers.{le_yes, le_no}
 use Rattle.std.specs.Int.{int_min, int_max}
 use Rattle.mdp_job.specs.declared.row_walk.Bounds.{Bounds}
 use Rattle.mdp_job.specs.Bounds.{IsInBounds, AreNearBounds}
