@@ -1,0 +1,14 @@
+//! The one text of a shot file, written through a buffer: its head, the record of each shot, and its end.
+//!
+//! Nothing here takes memory.
+#![tactic(auto)]
+
+mod buffer;
+mod parts;
+mod pouring;
+#[cfg(test)]
+mod tests;
+mod writer;
+
+pub use parts::{Head, Sums, encode};
+pub use writer::ShotWriter;
