@@ -68,7 +68,7 @@ one_more {S} {stands_for} {tells} {pair} {before} {old} {items} {now} {sums} {he
 }
 
 -- what is held makes a prefix of the whole, where a prefix of it was written
-part_of : (w h r : List ℕ) (n : ℕ) → n ≤ length h → w ++ take n h ≡ take (length w + n) ((w ++ h) ++ r)
+pub part_of : (w h r : List ℕ) (n : ℕ) → n ≤ length h → w ++ take n h ≡ take (length w + n) ((w ++ h) ++ r)
 part_of w h r n le =
     sym (ap (take (length w + n)) (append_assoc w h r) ∙ take-append-add w (h ++ r) n ∙ ap (λ l. w ++ l) (take-append-le n h r le))
 

@@ -4,11 +4,13 @@
 #![tactic(auto)]
 
 mod buffer;
+mod laws;
 mod parts;
 mod pouring;
 #[cfg(test)]
 mod tests;
 mod writer;
 
+pub use laws::writing_law;
 pub use parts::{Head, Sums, encode};
 pub use writer::ShotWriter;
