@@ -1,6 +1,6 @@
 // The shot file of one square by its bytes, and what a fault at each call leaves.
 ghost use Rattle.std.specs.Prelude.{◌^◌, ◌<◌};
-ghost use Rattle.shot_writer.specs.Writing.{triangles_in};
+ghost use Rattle.shot_writer.specs.Writing.{triangles_of};
 
 use crate::parts::triangles_in;
 use crate::{Head, ShotWriter, Sums, encode, writing_law};
@@ -26,17 +26,16 @@ fn square() -> Option<Trap> {
     Trap::new(0, 20, Line::Upright(0), Line::Upright(20))
 }
 
-// Writes the file of a shot.
-fn write_one(depot: &mut MemDepot, shot: Trap) -> Result<Sums, DepotBad>
-    requires { triangles_in shot < 2 ^ 64 }
+// Writes the file of these shots.
+fn write_file(depot: &mut MemDepot, shots: &[Trap]) -> Result<Sums, DepotBad>
+    requires { triangles_of shots.now < 2 ^ 127 }
 {
     let head = Head {
         unit: 2000,
         pair: PAIR,
     };
-    let shots = [shot];
     let mut writer = ShotWriter::start(depot, "out", head)?;
-    writer.put(depot, &mut FromSlice::new(&shots))?;
+    writer.put(depot, &mut FromSlice::new(shots))?;
     writer.finish(depot)
 }
 
@@ -47,7 +46,7 @@ fn one_square(rt: HostRuntime) -> Result<(), Fail> {
     assert_eq!(rt; encode(&shot, PAIR).bytes(), SQUARE);
     let mut depot = MemDepot::new(rt.alloc());
     if triangles_in(&shot) < 1000 {
-        let sums = write_one(&mut depot, shot)?;
+        let sums = write_file(&mut depot, &[shot])?;
         assert_eq!(rt;
             sums,
             Sums {
@@ -57,11 +56,10 @@ fn one_square(rt: HostRuntime) -> Result<(), Fail> {
         );
     }
     let made = depot.made("out").ok_or("no file")?;
-    assert_eq!(rt; made.len(), 305);
-    assert_eq!(rt; &made[..41], HEAD);
-    assert_eq!(rt; &made[41..49], SQUARE);
-    assert_eq!(rt; &made[49..52], [0x02, 0xFC, 0x01].as_slice());
-    assert!(rt; made[52..].iter().all(|byte: &u8| *byte == 0));
+    let records = made.strip_prefix(HEAD).ok_or("another head")?;
+    let end = records.strip_prefix(SQUARE).ok_or("another record")?;
+    let zeros = end.strip_prefix(&[0x02, 0xFC, 0x01]).ok_or("no end")?;
+    assert_eq!(rt; zeros, [0u8; 253].as_slice());
     Ok(())
 }
 
@@ -71,7 +69,7 @@ fn made_after_fault(alloc: Global, call: u64) -> Result<Option<usize>, Fail> {
     let mut depot = MemDepot::new(alloc);
     depot.fail_at(call)?;
     if triangles_in(&shot) < 1000 {
-        let _sums = write_one(&mut depot, shot);
+        let _sums = write_file(&mut depot, &[shot]);
     }
     Ok(depot.made("out").map(|bytes| bytes.len()))
 }

@@ -30,6 +30,8 @@ pub struct ShotWriter {
 }
 
 impl ShotWriter {
+    ghost use Rattle.shot_writer.specs.WriterView.{pair_of, sums_of, refusal_of};
+
     /// Makes the file with the head of a shot file alone, for the unit and the pair. After a refusal the name is
     /// as before, or holds a prefix of the head.
     pub fn start<D: Depot>(depot: &mut D, name: &str, head: Head) -> Result<ShotWriter, DepotBad>
@@ -38,9 +40,9 @@ impl ShotWriter {
         requires datatype { head.pair.datatype < 2 ^ 63 }
         ensures ok { OnOk result (IsTrue D.tells
             → D.content depot.new ≡ with_file (D.content depot.old) name.now (head_of head.unit)) }
-        ensures pair { IfOk result (λ writer. writer.pair ≡ head.pair) }
-        ensures sums { IfOk result (λ writer. writer.sums ≡ no_sums) }
-        ensures kept { IfOk result (λ writer. writer.refusal ≡ None) }
+        ensures pair { IfOk result (λ writer. pair_of writer ≡ head.pair) }
+        ensures sums { IfOk result (λ writer. sums_of writer ≡ no_sums) }
+        ensures kept { IfOk result (λ writer. refusal_of writer ≡ None) }
         ensures refused { OnErr result (IsTrue D.tells
             → IsPartMade (D.content depot.old) name.now (head_of head.unit) (D.content depot.new)) }
         ensures failed { IsErrOf result DepotBad.Failed
@@ -70,24 +72,24 @@ impl ShotWriter {
         requires current { IsTrue D.tells → IsSome (D.content depot.old).current }
         requires list { HasList S.stands_for shots.old }
         requires room { (items : List Trapezoid) → S.stands_for shots.old items
-            → self.old.sums.triangles + triangles_of items < 2 ^ 127 }
+            → (sums_of self.old).triangles + triangles_of items < 2 ^ 127 }
         ensures ok { (items : List Trapezoid) → S.stands_for shots.old items → OnOk result (IsTrue D.tells
-            → D.content depot.new ≡ with_written (D.content depot.old) (records_of self.old.pair items)) }
+            → D.content depot.new ≡ with_written (D.content depot.old) (records_of (pair_of self.old) items)) }
         ensures sums { (items : List Trapezoid) → S.stands_for shots.old items
-            → OnOk result (AreSumsAfter self.old.sums items self.new.sums) }
+            → OnOk result (AreSumsAfter (sums_of self.old) items (sums_of self.new)) }
         ensures taken { OnOk result (S.stands_for shots.new []) }
         ensures refused { (items : List Trapezoid) → S.stands_for shots.old items → OnErr result (IsTrue D.tells
-            → IsPartWritten (D.content depot.old) (records_of self.old.pair items) (D.content depot.new)) }
-        ensures same_sums { OnErr result (self.new.sums ≡ self.old.sums) }
+            → IsPartWritten (D.content depot.old) (records_of (pair_of self.old) items) (D.content depot.new)) }
+        ensures same_sums { OnErr result (sums_of self.new ≡ sums_of self.old) }
         ensures left { (items : List Trapezoid) → S.stands_for shots.old items
             → StandsForSuffix S.stands_for items shots.new }
-        ensures pair { self.new.pair ≡ self.old.pair }
-        ensures keeps { self.new.refusal ≡ result_err result }
-        ensures kept { (bad : Bad) → self.old.refusal ≡ Some bad
+        ensures pair { pair_of self.new ≡ pair_of self.old }
+        ensures keeps { refusal_of self.new ≡ result_err result }
+        ensures kept { (bad : Bad) → refusal_of self.old ≡ Some bad
             → (result ≡ Err bad) × (depot.new ≡ depot.old) × (shots.new ≡ shots.old) }
-        ensures failed { IsErrOf result DepotBad.Failed → (self.old.refusal ≡ Some Failed)
+        ensures failed { IsErrOf result DepotBad.Failed → (refusal_of self.old ≡ Some Failed)
             ⊎ Rose (D.counts depot.old).write_faults (D.counts depot.new).write_faults }
-        ensures no_memory { IsErrOf result DepotBad.NoMemory → (self.old.refusal ≡ Some NoMemory)
+        ensures no_memory { IsErrOf result DepotBad.NoMemory → (refusal_of self.old ≡ Some NoMemory)
             ⊎ Rose (D.counts depot.old).refused (D.counts depot.new).refused }
         ensures counted { NeverFall (D.counts depot.old) (D.counts depot.new) }
     {
@@ -111,13 +113,13 @@ impl ShotWriter {
         requires { IsTrue D.tells → IsSome (D.content depot.old).current }
         ensures ok { OnOk result (IsTrue D.tells
             → D.content depot.new ≡ with_written (D.content depot.old) end) }
-        ensures sums { IfOk result (λ sums. sums ≡ self.sums) }
+        ensures sums { IfOk result (λ sums. sums ≡ sums_of self) }
         ensures refused { OnErr result (IsTrue D.tells
             → IsPartWritten (D.content depot.old) end (D.content depot.new)) }
-        ensures kept { (bad : Bad) → self.refusal ≡ Some bad → (result ≡ Err bad) × (depot.new ≡ depot.old) }
-        ensures failed { IsErrOf result DepotBad.Failed → (self.refusal ≡ Some Failed)
+        ensures kept { (bad : Bad) → refusal_of self ≡ Some bad → (result ≡ Err bad) × (depot.new ≡ depot.old) }
+        ensures failed { IsErrOf result DepotBad.Failed → (refusal_of self ≡ Some Failed)
             ⊎ Rose (D.counts depot.old).write_faults (D.counts depot.new).write_faults }
-        ensures no_memory { IsErrOf result DepotBad.NoMemory → (self.refusal ≡ Some NoMemory)
+        ensures no_memory { IsErrOf result DepotBad.NoMemory → (refusal_of self ≡ Some NoMemory)
             ⊎ Rose (D.counts depot.old).refused (D.counts depot.new).refused }
         ensures counted { NeverFall (D.counts depot.old) (D.counts depot.new) }
     {
