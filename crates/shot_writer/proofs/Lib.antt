@@ -1,0 +1,2 @@
+mod SoFar
+pub mod ForCallers

@@ -1,0 +1,5 @@
+use Rattle.shot_writer.proofs.SoFar.{some_triangles}
+use Rattle.shot_writer.proofs.parts.triangles_in.Goals as goal
+
+pub returns-clause-some : goal.returns-clause-some
+returns-clause-some c = some_triangles c.args.trap.now c.size_of.result c.y0-bottom.ensures.shot.legal c.size_of.ensures.value

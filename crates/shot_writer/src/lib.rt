@@ -1,0 +1,16 @@
+//! The one text of a shot file, written through a buffer: its head, the record of each shot, and its end.
+//!
+//! Nothing here takes memory.
+#![tactic(auto)]
+
+mod buffer;
+mod laws;
+mod parts;
+mod pouring;
+#[cfg(test)]
+mod tests;
+mod writer;
+
+pub use laws::writing_law;
+pub use parts::{Head, Sums, encode};
+pub use writer::ShotWriter;

@@ -1,0 +1,55 @@
+//! The shots of a stream, poured into a depot.
+ghost use Rattle.std.specs.Prelude.{◌≡◌, ◌+◌, ◌^◌, ◌<◌, ◌≤◌, List, [], IsTrue, IsSome, IfOk, OnOk, OnErr, IsErrOf, length};
+ghost use Rattle.depot.specs.Content.{with_written, IsPartWritten};
+ghost use Rattle.depot.specs.Counts.{Rose, NeverFall};
+ghost use Rattle.geo_stream.specs.Stream.{HasList};
+ghost use Rattle.half_grid.specs.Trapezoids.{Trapezoid};
+ghost use Rattle.shot_writer.specs.Writing.{triangles_of, records_of, StandsForSuffix, AreSumsAfter};
+
+use crate::buffer::{Buffer, flush, put_bytes};
+use crate::parts::{Sums, encode, triangles_in};
+use depot::{Depot, DepotBad};
+use geo_stream::Stream;
+use half_grid::Trap;
+use layout_model::Pair;
+
+/// Appends the records of the stream's list to the started file, and answers the sums with those of the list.
+pub(crate) fn pour<D: Depot, S: Stream<Item = Trap>>(
+    depot: &mut D,
+    pair: Pair,
+    before: Sums,
+    shots: &mut S,
+) -> Result<Sums, DepotBad>
+    requires current { IsTrue D.tells → IsSome (D.content depot.old).current }
+    requires layer { pair.layer < 2 ^ 63 }
+    requires datatype { pair.datatype < 2 ^ 63 }
+    requires list { HasList S.stands_for shots.old }
+    requires fewer { before.shots ≤ before.triangles }
+    requires room { (items : List Trapezoid) → S.stands_for shots.old items
+        → before.triangles + triangles_of items < 2 ^ 127 }
+    ensures ok { (items : List Trapezoid) → S.stands_for shots.old items → OnOk result (IsTrue D.tells
+        → D.content depot.new ≡ with_written (D.content depot.old) (records_of pair items)) }
+    ensures sums { (items : List Trapezoid) → S.stands_for shots.old items
+        → IfOk result (λ sums. AreSumsAfter before items sums) }
+    ensures fewer { IfOk result (λ sums. sums.shots ≤ sums.triangles) }
+    ensures taken { OnOk result (S.stands_for shots.new []) }
+    ensures refused { (items : List Trapezoid) → S.stands_for shots.old items → OnErr result (IsTrue D.tells
+        → IsPartWritten (D.content depot.old) (records_of pair items) (D.content depot.new)) }
+    ensures left { (items : List Trapezoid) → S.stands_for shots.old items
+        → StandsForSuffix S.stands_for items shots.new }
+    ensures failed { IsErrOf result DepotBad.Failed
+        → Rose (D.counts depot.old).write_faults (D.counts depot.new).write_faults }
+    ensures no_memory { IsErrOf result DepotBad.NoMemory
+        → Rose (D.counts depot.old).refused (D.counts depot.new).refused }
+    ensures counted { NeverFall (D.counts depot.old) (D.counts depot.new) }
+{
+    let mut sums = before;
+    let mut buffer = Buffer::new();
+    while let Some(shot) = shots.next() {
+        put_bytes(depot, &mut buffer, encode(&shot, pair).bytes())?;
+        sums.shots += 1;
+        sums.triangles += triangles_in(&shot);
+    }
+    flush(depot, &mut buffer)?;
+    Ok(sums)
+}

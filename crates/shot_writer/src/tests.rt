@@ -1,0 +1,90 @@
+// The shot file of one square by its bytes, and what a fault at each call leaves.
+ghost use Rattle.std.specs.Prelude.{◌^◌, ◌<◌};
+ghost use Rattle.shot_writer.specs.Writing.{triangles_of};
+
+use crate::parts::triangles_in;
+use crate::{Head, ShotWriter, Sums, encode, writing_law};
+use depot::{DepotBad, MemDepot};
+use geo_stream::FromSlice;
+use half_grid::{Line, Trap};
+use layout_model::Pair;
+use std::alloc::Global;
+use std::test::Fail;
+
+const PAIR: Pair = Pair {
+    layer: 1,
+    datatype: 0,
+};
+
+// Up to the first record, for the unit 2000.
+const HEAD: &[u8] =
+    b"%SEMI-OASIS\r\n\x01\x031.0\x00\xD0\x0F\x00\0\0\0\0\0\0\0\0\0\0\0\0\x0E\x05SHOTS";
+
+const SQUARE: &[u8] = &[0x14, 0x7B, 0x01, 0x00, 0x14, 0x14, 0x00, 0x00];
+
+fn square() -> Option<Trap> {
+    Trap::new(0, 20, Line::Upright(0), Line::Upright(20))
+}
+
+// Writes the file of these shots.
+fn write_file(depot: &mut MemDepot, shots: &[Trap]) -> Result<Sums, DepotBad>
+    requires { triangles_of shots.now < 2 ^ 127 }
+{
+    let head = Head {
+        unit: 2000,
+        pair: PAIR,
+    };
+    let mut writer = ShotWriter::start(depot, "out", head)?;
+    writer.put(depot, &mut FromSlice::new(shots))?;
+    writer.finish(depot)
+}
+
+#[test]
+fn one_square(rt: HostRuntime) -> Result<(), Fail> {
+    writing_law();
+    let shot = square().ok_or("no square")?;
+    assert_eq!(rt; encode(&shot, PAIR).bytes(), SQUARE);
+    let mut depot = MemDepot::new(rt.alloc());
+    if triangles_in(&shot) < 1000 {
+        let sums = write_file(&mut depot, &[shot])?;
+        assert_eq!(rt;
+            sums,
+            Sums {
+                shots: 1,
+                triangles: 800
+            }
+        );
+    }
+    let made = depot.made("out").ok_or("no file")?;
+    let records = made.strip_prefix(HEAD).ok_or("another head")?;
+    let end = records.strip_prefix(SQUARE).ok_or("another record")?;
+    let zeros = end.strip_prefix(&[0x02, 0xFC, 0x01]).ok_or("no end")?;
+    assert_eq!(rt; zeros, [0u8; 253].as_slice());
+    Ok(())
+}
+
+// How many bytes are made where the call of that number fails.
+fn made_after_fault(alloc: Global, call: u64) -> Result<Option<usize>, Fail> {
+    let shot = square().ok_or("no square")?;
+    let mut depot = MemDepot::new(alloc);
+    depot.fail_at(call)?;
+    if triangles_in(&shot) < 1000 {
+        let _sums = write_file(&mut depot, &[shot]);
+    }
+    Ok(depot.made("out").map(|bytes| bytes.len()))
+}
+
+#[test]
+fn each_call_fails_in_turn(rt: HostRuntime) -> Result<(), Fail> {
+    let table = [
+        (0, None),
+        (1, Some(0)),
+        (2, Some(41)),
+        (3, Some(49)),
+        (4, Some(305)),
+    ];
+    for (call, made) in table {
+        assert_eq!(rt; made_after_fault(rt.alloc(), call)?, made);
+    }
+    Ok(())
+}
