@@ -4,8 +4,9 @@
 --
 -- GDSII Stream Format Manual 6.0, STRANS, MAG and ANGLE: reflection about the X axis comes before rotation. SEMI P39,
 -- PLACEMENT records, say the same.
-use Rattle.std.specs.Prelude.{ℕ, zero, suc, ℤ, pos, neg_ℤ, ◌+ℤ◌, ◌*ℤ◌, ◌<ℤ◌, ◌<◌, ◌≤◌, Bool, true, false, List, map}
+use Rattle.std.specs.Prelude.{ℕ, zero, suc, ℤ, pos, neg_ℤ, ◌+ℤ◌, ◌*ℤ◌, ◌<◌, ◌≤◌, Bool, true, false, List, map}
 use Rattle.half_grid.specs.declared.plane.Point.{Point}
+use Rattle.layout_model.specs.Products.{IsProduct}
 use Rattle.layout_model.specs.declared.orient.Orient.{Orient}
 use Rattle.layout_model.specs.declared.orient.Wide.{Wide}
 
@@ -41,9 +42,6 @@ pub record IsOrient (orient : Orient) : Type 0 where
 abbrev pub wide_point : Wide → Point
 wide_point w = record { x = w.x; y = w.y }
 
--- both coordinates are less than so much from 0
-pub record IsBelow (bound : ℕ) (w : Wide) : Type 0 where
-  pub x_low : neg_ℤ (pos bound) <ℤ w.x
-  pub x_high : w.x <ℤ pos bound
-  pub y_low : neg_ℤ (pos bound) <ℤ w.y
-  pub y_high : w.y <ℤ pos bound
+pub record IsWide (w : Wide) : Type 0 where
+  pub x : IsProduct w.x
+  pub y : IsProduct w.y

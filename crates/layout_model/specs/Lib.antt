@@ -1,3 +1,4 @@
+pub mod Products
 pub mod Names
 pub mod Points
 pub mod Grids

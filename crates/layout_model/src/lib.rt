@@ -9,6 +9,7 @@ mod offsets;
 mod orient;
 mod pair;
 mod points;
+mod products;
 mod shapes;
 #[cfg(test)]
 mod tests;

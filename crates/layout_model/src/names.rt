@@ -1,4 +1,4 @@
-ghost use Rattle.std.specs.Prelude.{◌≡◌, ◌≤◌, ◌⊎◌, ◌↔◌, length, IsTrue, IfOk, IfErr, IsOk, Err};
+ghost use Rattle.std.specs.Prelude.{◌≡◌, ◌≤◌, ◌↔◌, length, slice_index, EachIndex, IsTrue, IfOk, IsOk, Err};
 ghost use Rattle.layout_model.specs.Names.{IsName, IsNameByte};
 ghost use Rattle.layout_model.specs.declared.names.NameBad.TheVariants.{Form, NoMemory as Wanting};
 
@@ -44,18 +44,30 @@ impl From<AllocError> for NameBad {
     }
 }
 
-fn is_name(bytes: &[u8]) -> bool
-    ensures { IsTrue result ↔ IsName bytes.now }
+fn is_printable(bytes: &[u8]) -> bool
+    ensures { IsTrue result ↔ EachIndex bytes.now (λ k. IsNameByte (slice_index bytes.now k)) }
 {
-    if bytes.is_empty() || bytes.len() > 1024 {
-        return false;
-    }
     for byte in bytes {
-        if *byte < 0x20 || *byte > 0x7E {
+        if *byte < 0x20 {
+            return false;
+        }
+        if *byte > 0x7E {
             return false;
         }
     }
     true
+}
+
+fn is_name(bytes: &[u8]) -> bool
+    ensures { IsTrue result ↔ IsName bytes.now }
+{
+    if bytes.is_empty() {
+        return false;
+    }
+    if bytes.len() > 1024 {
+        return false;
+    }
+    is_printable(bytes)
 }
 
 impl Name {

@@ -1,6 +1,9 @@
-ghost use Rattle.std.specs.Prelude.{◌≡◌, ◌<◌, ◌*◌, Some, length, slice_get, IfOk, IsOk};
+ghost use Rattle.std.specs.Prelude.{◌≡◌, ◌<◌, ◌*◌, ◌^◌, pos, ◌+ℤ◌, ◌*ℤ◌, Some, length, slice_get, IfOk, IsOk};
+ghost use Rattle.half_grid.specs.Reach.{IsWithinReach};
+ghost use Rattle.layout_model.specs.Products.{IsProduct};
 ghost use Rattle.layout_model.specs.Grids.{IsGrid, grid_place, grid_places, nth_place};
 
+use crate::products::times;
 use geo_stream::NoMemory;
 use half_grid::Point;
 use std::alloc::Global;
@@ -42,6 +45,26 @@ impl Model for Offsets {
     ghost invariant = { λ offsets. IsSound offsets.places };
 }
 
+// The coordinate `a*u + b*v`.
+fn combine(a: u64, u: i64, b: u64, v: i64) -> i64
+    requires a { a < 2 ^ 32 }
+    requires b { b < 2 ^ 32 }
+    requires reach { IsWithinReach ((pos a *ℤ u) +ℤ (pos b *ℤ v)) }
+    ensures { result ≡ (pos a *ℤ u) +ℤ (pos b *ℤ v) }
+{
+    sum(times(a, u), times(b, v))
+}
+
+// The sum of two products, which is within reach.
+fn sum(first: i128, second: i128) -> i64
+    requires first { IsProduct first }
+    requires second { IsProduct second }
+    requires reach { IsWithinReach (first +ℤ second) }
+    ensures { result ≡ first +ℤ second }
+{
+    (first + second) as i64
+}
+
 impl Grid {
     // The place with these two numbers.
     fn at(self, a: u64, b: u64) -> Point
@@ -50,10 +73,9 @@ impl Grid {
         requires second { b < self.nv }
         ensures { result ≡ grid_place self.u self.v a b }
     {
-        let (a, b) = (a as i64, b as i64);
         Point {
-            x: a * self.u.x + b * self.v.x,
-            y: a * self.u.y + b * self.v.y,
+            x: combine(a, self.u.x, b, self.v.x),
+            y: combine(a, self.u.y, b, self.v.y),
         }
     }
 

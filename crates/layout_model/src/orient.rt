@@ -1,7 +1,9 @@
-ghost use Rattle.std.specs.Prelude.{◌≡◌, ◌^◌};
+ghost use Rattle.std.specs.Prelude.{◌≡◌, ◌+ℤ◌};
 ghost use Rattle.half_grid.specs.Reach.{IsPointWithinReach};
-ghost use Rattle.layout_model.specs.Images.{IsOrient, IsBelow, image_of, enlarged, flipped, turned, wide_point};
+ghost use Rattle.layout_model.specs.Products.{IsProduct};
+ghost use Rattle.layout_model.specs.Images.{IsOrient, IsWide, image_of, enlarged, flipped, turned, moved, wide_point};
 
+use crate::products::times;
 use half_grid::Point;
 
 /// How a placed cell is enlarged, mirrored and turned, in this order: both coordinates are multiplied by `mag`; y is
@@ -26,18 +28,18 @@ struct Wide {
 fn enlarge(orient: Orient, point: Point) -> Wide
     requires { IsOrient orient }
     ensures value { wide_point result ≡ enlarged orient.mag point }
-    ensures small { IsBelow (2 ^ 68) result }
+    ensures small { IsWide result }
 {
     Wide {
-        x: point.x as i128 * orient.mag as i128,
-        y: point.y as i128 * orient.mag as i128,
+        x: times(u64::from(orient.mag), point.x),
+        y: times(u64::from(orient.mag), point.y),
     }
 }
 
 fn flip(orient: Orient, point: Wide) -> Wide
-    requires { IsBelow (2 ^ 68) point }
+    requires { IsWide point }
     ensures value { wide_point result ≡ flipped orient.flip (wide_point point) }
-    ensures small { IsBelow (2 ^ 68) result }
+    ensures small { IsWide result }
 {
     if orient.flip {
         return Wide {
@@ -50,9 +52,9 @@ fn flip(orient: Orient, point: Wide) -> Wide
 
 fn turn(orient: Orient, point: Wide) -> Wide
     requires orient { IsOrient orient }
-    requires small { IsBelow (2 ^ 68) point }
+    requires small { IsWide point }
     ensures value { wide_point result ≡ turned orient.turns (wide_point point) }
-    ensures small { IsBelow (2 ^ 68) result }
+    ensures small { IsWide result }
 {
     let Wide { x, y } = point;
     match orient.turns {
@@ -60,6 +62,35 @@ fn turn(orient: Orient, point: Wide) -> Wide
         1 => Wide { x: -y, y: x },
         2 => Wide { x: -x, y: -y },
         _ => Wide { x: y, y: -x },
+    }
+}
+
+// The sum, which is a little wider.
+fn sum(wide: i128, move_by: i64) -> i128
+    requires { IsProduct wide }
+    ensures { result ≡ wide +ℤ move_by }
+{
+    wide + move_by as i128
+}
+
+// The point moved.
+fn shift(at: Point, point: Wide) -> Wide
+    requires { IsWide point }
+    ensures { wide_point result ≡ moved at (wide_point point) }
+{
+    Wide {
+        x: sum(point.x, at.x),
+        y: sum(point.y, at.y),
+    }
+}
+
+fn narrow(point: Wide) -> Point
+    requires { IsPointWithinReach (wide_point point) }
+    ensures { result ≡ wide_point point }
+{
+    Point {
+        x: point.x as i64,
+        y: point.y as i64,
     }
 }
 
@@ -72,8 +103,5 @@ pub fn image(orient: Orient, at: Point, p: Point) -> Point
     ensures { result ≡ image_of orient at p }
 {
     let turned = turn(orient, flip(orient, enlarge(orient, p)));
-    Point {
-        x: (turned.x + at.x as i128) as i64,
-        y: (turned.y + at.y as i128) as i64,
-    }
+    narrow(shift(at, turned))
 }
