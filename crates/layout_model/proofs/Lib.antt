@@ -1,0 +1,3 @@
+mod SlantLemmas
+mod GridLemmas
+mod ProductLemmas

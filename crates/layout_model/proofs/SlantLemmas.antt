@@ -1,0 +1,71 @@
+-- The edges that a walk along a point list has passed, all of them on the grid.
+use Rattle.std.proofs.Common.{◌≡◌, ◌<◌, ◌≤◌, ℕ, ◌+◌, List, [], ◌∷◌, length, get_or, drop, All, refl, sym, ap, ◌∙◌, subst, arith, below_more, pos, suc, zero, inl, inr}
+use Rattle.std.proofs.lemmas.Bool.{cases_lt}
+use Rattle.std.specs.List.{AllWithin}
+use Rattle.std.proofs.Math.Seq.{drop-cons}
+use Rattle.half_grid.specs.declared.plane.Point.{Point}
+use Rattle.half_grid.specs.Outlines.{IsOnGrid, HasGridEdges}
+use Rattle.half_grid.specs.Winding.{edges_of}
+use Rattle.layout_model.specs.Slants.{IsFirstSlant}
+
+-- what stands where a list is cut
+record Cut {A : Type 0} (xs : List A) (n : ℕ) (x : A) (ys : List A) : Type 0 where
+  inside : n < length xs
+  item : (d : A) → get_or xs n d ≡ x
+  rest : drop (suc n) xs ≡ ys
+
+cut_at : {A : Type 0} (xs : List A) (n : ℕ) (x : A) (ys : List A) → drop n xs ≡ x ∷ ys → Cut xs n x ys
+cut_at [] zero x ys e = absurd (cc)
+cut_at [] (suc n) x ys e = absurd (cc)
+cut_at (z ∷ xs) zero x ys e = record { inside = omega arith; item = λ d. cc; rest = cc }
+cut_at (z ∷ xs) (suc n) x ys e = let c = cut_at xs n x ys e in record { inside = omega (arith, c.inside); item = λ d. c.item d; rest = c.rest }
+
+past_end : {A : Type 0} (xs : List A) (n : ℕ) → drop n xs ≡ [] → length xs ≤ n
+past_end [] n e = omega arith
+past_end (z ∷ xs) zero e = absurd (cc)
+past_end (z ∷ xs) (suc n) e = omega (arith, past_end xs n e)
+
+-- the walk has passed so many edges and stands at the point before the rest
+pub record Passed (points : List Point) (at : Point) (rest : List Point) (number : ℕ) : Type 0 where
+  pub edges : drop number (edges_of points) ≡ edges_of (at ∷ rest)
+  pub on_grid : AllWithin IsOnGrid (edges_of points) 0 number
+
+pub passed_start : (a : Point) (rest : List Point) → Passed (a ∷ rest) a rest 0
+passed_start a rest = record { edges = refl; on_grid = λ k d low high. absurd (omega (arith, high)) }
+
+one_more : (P : ℕ → Type 0) (n : ℕ) → ((k : ℕ) → k < n → P k) → P n → (k : ℕ) → k < n + 1 → P k
+one_more P n = below_more P n
+
+pub passed_more : (points : List Point) (a b : Point) (rest : List Point) (k : ℕ) → Passed points a (b ∷ rest) k → IsOnGrid (a, b) → Passed points b rest (k + 1)
+passed_more points a b rest k p on =
+    let c = cut_at (edges_of points) k (a, b) (edges_of (b ∷ rest)) p.edges in
+    record {
+      edges = let e : k + 1 ≡ suc k = omega arith in rw e c.rest;
+      on_grid = λ j d low high. one_more (λ i. IsOnGrid (get_or (edges_of points) i d)) k (λ i h. p.on_grid i d (omega arith) h) (subst IsOnGrid (sym (c.item d)) on) j high;
+    }
+
+pub passed_slant : (points : List Point) (a b : Point) (rest : List Point) (k : ℕ) → Passed points a (b ∷ rest) k → (IsOnGrid (a, b) → ⊥) → IsFirstSlant points k
+passed_slant points a b rest k p off =
+    let c = cut_at (edges_of points) k (a, b) (edges_of (b ∷ rest)) p.edges in
+    record {
+      inside = c.inside;
+      on_grid = p.on_grid;
+      slanted = λ d on. off (subst IsOnGrid (c.item d) on);
+    }
+
+pub passed_end : (points : List Point) (a : Point) (k : ℕ) → Passed points a [] k → HasGridEdges points
+passed_end points a k p j d lt = p.on_grid j d (omega arith) (omega (arith, lt, past_end (edges_of points) k p.edges))
+
+some_edge : Point × Point
+some_edge = (record { x = pos 0; y = pos 0 }, record { x = pos 0; y = pos 0 })
+
+pub one_slant : (points : List Point) (j k : ℕ) → IsFirstSlant points j → IsFirstSlant points k → j ≡ k
+one_slant points j k a b =
+    elim (cases_lt j k) [
+      | inl h ↦ absurd (a.slanted some_edge (b.on_grid j some_edge (omega arith) h))
+      | inr h ↦ elim (cases_lt k j) [
+          | inl g ↦ absurd (b.slanted some_edge (a.on_grid k some_edge (omega arith) g))
+          | inr g ↦ omega (arith, h, g) ] ]
+
+pub no_slant : (points : List Point) (k : ℕ) → HasGridEdges points → IsFirstSlant points k → ⊥
+no_slant points k all a = a.slanted some_edge (all k some_edge a.inside)

@@ -1,0 +1,57 @@
+use crate::names::Name;
+use crate::offsets::Offsets;
+use crate::orient::Orient;
+use crate::shapes::Shape;
+use geo_stream::List;
+use half_grid::Point;
+
+/// The placement of a cell: it stands once at each of the offsets, enlarged, mirrored and turned as `orient` says and
+/// then moved by `at` and by the offset.
+#[derive(Debug, Drop)]
+pub struct Placement {
+    /// The name of the placed cell.
+    pub target: Name,
+    /// How the placed cell is enlarged, mirrored and turned.
+    pub orient: Orient,
+    /// The move.
+    pub at: Point,
+    /// Further moves, one for each copy.
+    pub offsets: Offsets,
+}
+
+/// A named cell.
+#[derive(Debug, Drop)]
+pub struct Cell {
+    /// Its name.
+    pub name: Name,
+    /// Its own shapes.
+    pub shapes: List<Shape>,
+    /// The cells that it places.
+    pub placements: List<Placement>,
+}
+
+/// How many things of each kind a layout file has.
+#[derive(Clone, Copy, Debug, PartialEq, Eq)]
+pub struct Counts {
+    /// Shapes on the wanted pairs, as the file writes them.
+    pub kept: u64,
+    /// Shapes on other pairs.
+    pub other: u64,
+    /// Texts.
+    pub texts: u64,
+    /// Nodes.
+    pub nodes: u64,
+    /// Boxes.
+    pub boxes: u64,
+    /// Properties.
+    pub properties: u64,
+}
+
+/// A layout: its cells, in the order of the file, and the counts.
+#[derive(Debug, Drop)]
+pub struct Layout {
+    /// The cells.
+    pub cells: List<Cell>,
+    /// How many things of each kind the file has.
+    pub counts: Counts,
+}

@@ -1,0 +1,139 @@
+ghost use Rattle.std.specs.Prelude.{◌≡◌, ◌<◌, ◌*◌, ◌^◌, pos, ◌+ℤ◌, ◌*ℤ◌, Some, length, slice_get, IfOk, IsOk};
+ghost use Rattle.half_grid.specs.Reach.{IsWithinReach};
+ghost use Rattle.layout_model.specs.Products.{IsProduct};
+ghost use Rattle.layout_model.specs.Grids.{IsGrid, grid_place, grid_places, nth_place};
+
+use crate::products::times;
+use geo_stream::NoMemory;
+use half_grid::Point;
+use std::alloc::Global;
+use std::marker::Model;
+
+// The places `a*u + b*v` for `a < nu`, `b < nv`, where `a` runs fastest.
+#[derive(Clone, Copy, Debug)]
+struct Grid {
+    nu: u64,
+    nv: u64,
+    u: Point,
+    v: Point,
+}
+
+#[derive(Debug, Drop)]
+enum Places {
+    One(Point),
+    Listed(Vec<Point>),
+    Regular(Grid),
+}
+
+/// The places at which a shape or a placed cell stands: a list of moves. A grid is kept by its four numbers, and one
+/// place takes no memory. Contracts see the list.
+#[derive(Debug, Drop)]
+pub struct Offsets {
+    places: Places,
+}
+
+impl Model for Offsets {
+    ghost use Rattle.std.specs.Prelude.{List};
+    ghost use Rattle.half_grid.specs.declared.plane.Point.{Point as APoint};
+
+    ghost Value = { List APoint };
+
+    ghost use Rattle.layout_model.specs.Offsets.{list_of, IsSound};
+
+    ghost view = { λ offsets. list_of offsets.places };
+
+    ghost invariant = { λ offsets. IsSound offsets.places };
+}
+
+// The coordinate `a*u + b*v`.
+fn combine(a: u64, u: i64, b: u64, v: i64) -> i64
+    requires a { a < 2 ^ 32 }
+    requires b { b < 2 ^ 32 }
+    requires reach { IsWithinReach ((pos a *ℤ u) +ℤ (pos b *ℤ v)) }
+    ensures { result ≡ (pos a *ℤ u) +ℤ (pos b *ℤ v) }
+{
+    sum(times(a, u), times(b, v))
+}
+
+// The sum of two products, which is within reach.
+fn sum(first: i128, second: i128) -> i64
+    requires first { IsProduct first }
+    requires second { IsProduct second }
+    requires reach { IsWithinReach (first +ℤ second) }
+    ensures { result ≡ first +ℤ second }
+{
+    (first + second) as i64
+}
+
+impl Grid {
+    // The place with these two numbers.
+    fn at(self, a: u64, b: u64) -> Point
+        requires grid { IsGrid self.nu self.nv self.u self.v }
+        requires first { a < self.nu }
+        requires second { b < self.nv }
+        ensures { result ≡ grid_place self.u self.v a b }
+    {
+        Point {
+            x: combine(a, self.u.x, b, self.v.x),
+            y: combine(a, self.u.y, b, self.v.y),
+        }
+    }
+
+    // Place `k` of the list.
+    fn place(self, k: u64) -> Point
+        requires grid { IsGrid self.nu self.nv self.u self.v }
+        requires inside { k < self.nu * self.nv }
+        ensures { result ≡ nth_place self.nu self.u self.v k }
+    {
+        self.at(k % self.nu, k / self.nu)
+    }
+}
+
+impl Offsets {
+    /// These places. One place takes no memory.
+    pub fn list(alloc: Global, places: &[Point]) -> Result<Offsets, NoMemory>
+        ensures ok { IfOk result (λ offsets. offsets ≡ places.now) }
+        ensures one { length places.now ≡ 1 → IsOk result }
+    {
+        if places.len() == 1 {
+            let places = Places::One(places[0]);
+            return Ok(Offsets { places });
+        }
+        let places = Places::Listed(Vec::from_slice(alloc, places)?);
+        Ok(Offsets { places })
+    }
+
+    /// The places `a*u + b*v` for `a < nu`, `b < nv`, where `a` runs fastest: place `k` is
+    /// `(k mod nu)*u + (k div nu)*v`. Both counts are 1 to 16,777,216, and all places are within reach. This is the
+    /// order of an array of a GDSII stream and of the regular repetitions of OASIS.
+    pub fn grid(nu: u64, nv: u64, u: Point, v: Point) -> Offsets
+        requires { IsGrid nu nv u v }
+        ensures { result ≡ grid_places nu nv u v }
+    {
+        let places = Places::Regular(Grid { nu, nv, u, v });
+        Offsets { places }
+    }
+
+    /// How many places there are.
+    pub fn count(&self) -> u64
+        ensures { result ≡ length self.now }
+    {
+        match &self.places {
+            Places::One(_) => 1,
+            Places::Listed(places) => places.len() as u64,
+            Places::Regular(grid) => grid.nu * grid.nv,
+        }
+    }
+
+    /// Place `k`, counted from 0.
+    pub fn nth(&self, k: u64) -> Point
+        requires { k < length self.now }
+        ensures { slice_get self.now k ≡ Some result }
+    {
+        match &self.places {
+            Places::One(place) => *place,
+            Places::Listed(places) => places[k as usize],
+            Places::Regular(grid) => grid.place(k),
+        }
+    }
+}

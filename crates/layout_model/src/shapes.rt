@@ -1,0 +1,99 @@
+ghost use Rattle.std.specs.Prelude.{◌≡◌, ◌≤◌, ◌↔◌, ℕ, All, length, false, IsTrue, IsOk, IfOk, IfSome, IfNone, Err};
+ghost use Rattle.half_grid.specs.Outlines.{IsClosed, IsOnGrid, HasGridEdges};
+ghost use Rattle.half_grid.specs.Reach.{IsPointWithinReach};
+ghost use Rattle.layout_model.specs.Slants.{IsFirstSlant};
+ghost use Rattle.layout_model.specs.declared.shapes.ShapeBad.TheVariants.{Slant, NoMemory as Wanting};
+
+use crate::offsets::Offsets;
+use crate::pair::Pair;
+use crate::points::Points;
+use geo_stream::NoMemory;
+use half_grid::{Point, line_through};
+use std::alloc::Global;
+
+/// A closed outline on a layer, which stands once at each of its offsets.
+#[derive(Debug, Drop)]
+pub struct Shape {
+    /// Its layer and datatype.
+    pub pair: Pair,
+    /// Its outline; the last point is the first.
+    pub points: Points,
+    /// The moves at which it stands.
+    pub offsets: Offsets,
+    /// Whether it may not be enlarged.
+    pub fixed: bool,
+}
+
+/// Why a shape can't be made.
+#[derive(Clone, Copy, Debug, PartialEq, Eq)]
+pub enum ShapeBad {
+    /// The edge from the point of this number to the next isn't at a multiple of 45 degrees on the half grid. It is
+    /// the first such edge.
+    Slant(usize),
+    /// Memory was wanting.
+    NoMemory,
+}
+
+impl From<NoMemory> for ShapeBad {
+    ghost from_gives = { λ _ bad. bad ≡ Wanting };
+
+    fn from(_wanting: NoMemory) -> ShapeBad {
+        ShapeBad::NoMemory
+    }
+}
+
+fn is_on_grid(a: Point, b: Point) -> bool
+    ensures { IsTrue result ↔ IsOnGrid (a, b) }
+{
+    a.y == b.y || line_through(a, b).is_some()
+}
+
+// The number of the first edge that isn't on the grid.
+fn first_slant(points: &[Point]) -> Option<usize>
+    ensures some { IfSome result (IsFirstSlant points.now) }
+    ensures none { IfNone result (HasGridEdges points.now) }
+{
+    let Some((first, rest)) = points.split_first() else {
+        return None;
+    };
+    let mut previous = *first;
+    for (k, point) in rest.iter().enumerate() {
+        if !is_on_grid(previous, *point) {
+            return Some(k);
+        }
+        previous = *point;
+    }
+    None
+}
+
+impl Shape {
+    /// The shape of this outline, which may be enlarged. A shape of up to eight points takes no memory. The list isn't
+    /// empty, its last point is its first, and all points are within reach.
+    pub fn new(
+        alloc: Global,
+        pair: Pair,
+        points: &[Point],
+        offsets: Offsets,
+    ) -> Result<Shape, ShapeBad>
+        requires closed { IsClosed points.now }
+        requires reach { All IsPointWithinReach points.now }
+        ensures pair { IfOk result (λ shape. shape.pair ≡ pair) }
+        ensures points { IfOk result (λ shape. shape.points ≡ points.now) }
+        ensures offsets { IfOk result (λ shape. shape.offsets ≡ offsets) }
+        ensures free { IfOk result (λ shape. shape.fixed ≡ false) }
+        ensures grid { IfOk result (λ _. HasGridEdges points.now) }
+        ensures slant { (k : ℕ) → (result ≡ Err (Slant k)) ↔ IsFirstSlant points.now k }
+        ensures few { length points.now ≤ 8 → HasGridEdges points.now → IsOk result }
+    {
+        if let Some(k) = first_slant(points) {
+            return Err(ShapeBad::Slant(k));
+        }
+        let points = Points::new(alloc, points)?;
+        Ok(Shape {
+            pair,
+            points,
+            offsets,
+            fixed: false,
+        })
+    }
+}
