@@ -8,3 +8,5 @@ mod PartsLemmas
 pub mod Goes
 pub mod WordLemmas
 pub mod RowLemmas
+pub mod Triangles
+pub mod FileLemmas

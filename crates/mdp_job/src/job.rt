@@ -7,7 +7,7 @@ ghost use Rattle.depot.specs.declared.whole.Refused.{Refused};
 ghost use Rattle.mdp_job.specs.Answers.{IsAccepted, IsAnswer, texts};
 ghost use Rattle.mdp_job.specs.Clauses.{Covers, Accepts, DeckLong, DeckEarly, LayoutLong, LayoutEarly, ReadFaults, WriteFaults, Spares, Spoils};
 ghost use Rattle.mdp_job.specs.Words.{IsFracture, IsNoCommand};
-ghost use Rattle.mdp_job.specs.Fit.{IsFit};
+ghost use Rattle.mdp_job.specs.Fit.{IsFit, IsDeckUnit};
 ghost use Rattle.mdp_job.specs.DeckView.{deck_data};
 ghost use Rattle.mdp_job.specs.LayoutView.{layout_data};
 ghost use Rattle.mdp_job.specs.Parts.{refused_status, IsWritten, IsLayoutAnswer, IsAnswerTo, run_of};
@@ -15,8 +15,8 @@ ghost use Rattle.mdp_job.specs.Parts.{refused_status, IsWritten, IsLayoutAnswer,
 use crate::first_deck::{FirstDeck, read_first_deck};
 use crate::first_layout::{FirstLayout, read_first_layout};
 use crate::status::{DeckFault, LayoutFault, Status};
-use crate::writing::{shots_of, text_of};
-use depot::{Depot, DepotBad, Refused, SureDepot, make_file, read_all};
+use crate::writing::{shots_of, write_file};
+use depot::{Depot, DepotBad, Refused, SureDepot, read_all};
 use geo_stream::NoMemory;
 use std::alloc::Global;
 
@@ -44,7 +44,8 @@ fn write_shots<D: Depot>(
     layout: &FirstLayout,
     depot: &mut D,
 ) -> Status
-    requires { IsFit layout.now.points.items }
+    requires outline { IsFit layout.now.points.items }
+    requires unit { IsDeckUnit deck.now.unit }
     ensures written { IsTrue D.tells → IsWritten
         (run_of (D.content depot.old) (D.content depot.new) (D.counts depot.old) (D.counts depot.new))
         (deck_data deck.now) (layout_data layout.now) result }
@@ -57,10 +58,7 @@ fn write_shots<D: Depot>(
     let Ok(shots) = shots_of(alloc, deck, layout) else {
         return Status::NoMemory;
     };
-    let Ok(text) = text_of(alloc, deck, &shots) else {
-        return Status::NoMemory;
-    };
-    match make_file(depot, deck.file, &text) {
+    match write_file(depot, deck, &shots) {
         Ok(()) => Status::Done,
         Err(DepotBad::Failed) => Status::WriteFault,
         Err(DepotBad::NoMemory) => Status::NoMemory,
@@ -69,6 +67,7 @@ fn write_shots<D: Depot>(
 
 // Reads the layout of an accepted deck, and goes on with it.
 fn take_layout<D: Depot>(alloc: Global, layout: &str, deck: &FirstDeck, depot: &mut D) -> Status
+    requires { IsDeckUnit deck.now.unit }
     ensures answer { IsTrue D.tells → IsLayoutAnswer
         (run_of (D.content depot.old) (D.content depot.new) (D.counts depot.old) (D.counts depot.new))
         layout.now (deck_data deck.now) result }

@@ -109,20 +109,28 @@ fn refusals_have_their_codes(rt: HostRuntime) -> Result<(), Fail> {
 fn a_failing_call_is_a_fault(rt: HostRuntime) -> Result<(), Fail> {
     let alloc = rt.alloc();
     let command = words(alloc, &["fracture", "G.gds", "K"])?;
-    // the calls are: start, read, read the deck; the same for the layout; start, write the file
-    for (call, want) in [
-        (1, Status::ReadFault),
-        (4, Status::ReadFault),
-        (6, Status::WriteFault),
-        (7, Status::WriteFault),
-    ] {
+    // the calls are: start, read, read the deck; the same for the layout; start the file, write head, records, END
+    let rows = [
+        (1, Status::ReadFault, None),
+        (4, Status::ReadFault, None),
+        (6, Status::WriteFault, None),
+        (7, Status::WriteFault, Some(0)),
+        (8, Status::WriteFault, Some(41)),
+        (9, Status::WriteFault, Some(201)),
+    ];
+    let want = square_file(alloc)?;
+    for (call, answer, length) in rows {
         let mut depot = MemDepot::new(alloc);
         depot.add("G.gds", &SQUARE)?;
         depot.add("K", DECK)?;
         depot.fail_at(call)?;
-        assert!(rt; run(alloc, &command, &mut depot) == want, "at {call}");
-        let made = depot.made("out.oas").map_or(0, |bytes| bytes.len());
-        assert_eq!(rt; made, 0);
+        assert!(rt; run(alloc, &command, &mut depot) == answer, "at {call}");
+        let made = depot.made("out.oas");
+        assert_eq!(rt; made.map(|bytes| bytes.len()), length, "at {call}");
+        assert!(rt;
+            made.is_none_or(|bytes| want.starts_with(bytes)),
+            "at {call}"
+        );
     }
     Ok(())
 }

@@ -1,22 +1,25 @@
 //! What is written: the shots of the area, as the one text of a shot file.
 
-ghost use Rattle.std.specs.Prelude.{◌≡◌, ◌*◌, ◌++◌, IfOk, IsTrue};
+ghost use Rattle.std.specs.Prelude.{◌≡◌, ◌^◌, ◌<◌, IfOk, OnOk, OnErr, IsErrOf, IsTrue};
 ghost use Rattle.std.specs.List.{AllByRecursion};
-ghost use Rattle.half_grid.specs.Outlines.{IsClosed, HasGridEdges};
 ghost use Rattle.half_grid.specs.Trapezoids.{CoversExactly};
-ghost use Rattle.oas_lex.specs.ShotText.{shot_text};
+ghost use Rattle.depot.specs.Content.{with_file, IsPartMade};
+ghost use Rattle.depot.specs.Counts.{NeverFall, Rose};
+ghost use Rattle.shot_writer.specs.Writing.{triangles_of};
 ghost use Rattle.mdp_job.specs.Answers.{IsInArea};
 ghost use Rattle.mdp_job.specs.DeckView.{deck_data};
 ghost use Rattle.mdp_job.specs.LayoutView.{layout_data};
 ghost use Rattle.mdp_job.specs.Inside.{IsFirstShot};
-ghost use Rattle.mdp_job.specs.Fit.{IsFit};
+ghost use Rattle.mdp_job.specs.Fit.{IsFit, IsDeckUnit, text_for};
 
 use crate::first_deck::FirstDeck;
 use crate::first_layout::FirstLayout;
 use crate::row_walk::row_list;
-use geo_stream::NoMemory;
+use depot::{Depot, DepotBad};
+use geo_stream::{FromSlice, NoMemory};
 use half_grid::Trap;
-use oas_lex::{end_text, head_text, spell_shot};
+use layout_model::Pair;
+use shot_writer::{Head, ShotWriter};
 use std::alloc::Global;
 
 /// The shots of the area that the deck denotes of the layout.
@@ -38,21 +41,40 @@ pub(crate) fn shots_of(
     row_list(alloc, &layout.points)
 }
 
-/// The text of the shot file.
-pub(crate) fn text_of(alloc: Global, deck: &FirstDeck, shots: &[Trap]) -> Result<Vec<u8>, NoMemory>
-    ensures { IfOk result (λ v. v.items
-        ≡ shot_text (2 * deck.now.unit) deck.now.out_layer deck.now.out_datatype shots.now) }
+/// Writes the shot file. After a refusal the name is as before, or holds a prefix of the file's text.
+pub(crate) fn write_file<D: Depot>(
+    depot: &mut D,
+    deck: &FirstDeck,
+    shots: &[Trap],
+) -> Result<(), DepotBad>
+    requires unit { IsDeckUnit deck.now.unit }
+    requires room { triangles_of shots.now < 2 ^ 127 }
+    ensures ok { OnOk result (IsTrue D.tells → D.content depot.new
+        ≡ with_file (D.content depot.old) deck.now.file.now (text_for (deck_data deck.now) shots.now)) }
+    ensures refused { OnErr result (IsTrue D.tells → IsPartMade
+        (D.content depot.old) deck.now.file.now (text_for (deck_data deck.now) shots.now) (D.content depot.new)) }
+    ensures failed { IsErrOf result DepotBad.Failed
+        → Rose (D.counts depot.old).write_faults (D.counts depot.new).write_faults }
+    ensures counted { NeverFall (D.counts depot.old) (D.counts depot.new) }
 {
-    let mut text = Vec::new(alloc);
-    text.extend_from_slice(head_text(2 * u64::from(deck.unit)).bytes())?;
-    for shot in shots {
-        let record = spell_shot(
-            shot,
-            u64::from(deck.out_layer),
-            u64::from(deck.out_datatype),
-        );
-        text.extend_from_slice(record.bytes())?;
+    let pair = Pair {
+        layer: u64::from(deck.out_layer),
+        datatype: u64::from(deck.out_datatype),
+    };
+    let head = Head {
+        unit: 2 * deck.unit,
+        pair,
+    };
+    let mut writer = match ShotWriter::start(depot, deck.file, head) {
+        Ok(writer) => writer,
+        Err(bad) => return Err(bad),
+    };
+    let mut list = FromSlice::new(shots);
+    if let Err(bad) = writer.put(depot, &mut list) {
+        return Err(bad);
     }
-    text.extend_from_slice(&end_text())?;
-    Ok(text)
+    match writer.finish(depot) {
+        Ok(_sums) => Ok(()),
+        Err(bad) => Err(bad),
+    }
 }

@@ -7,8 +7,8 @@ use Rattle.mdp_job.specs.LayoutView.{layout_data}
 use Rattle.mdp_job.proofs.Goes.{fit_of, written_answers}
 use Rattle.mdp_job.proofs.job.take_layout.Goals as goal
 
-pub write_shots-requires : goal.write_shots-requires
-write_shots-requires g c = let found = rw c.in-Ok-Some.field-0-is at c.in-Ok-Some.ensures.found in fit_of _ _ _ _ found
+pub write_shots-requires-clause-outline : goal.write_shots-requires-clause-outline
+write_shots-requires-clause-outline g c = let found = rw c.in-Ok-Some.field-0-is at c.in-Ok-Some.ensures.found in fit_of _ _ _ _ found
 
 pub returns-in-Ok-Some-clause-answer : goal.returns-in-Ok-Some-clause-answer
 returns-in-Ok-Some-clause-answer g c = λ tells.
