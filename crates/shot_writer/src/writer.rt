@@ -123,8 +123,8 @@ impl ShotWriter {
             ⊎ Rose (D.counts depot.old).refused (D.counts depot.new).refused }
         ensures counted { NeverFall (D.counts depot.old) (D.counts depot.new) }
     {
-        if let Some(bad) = self.refusal {
-            return Err(bad);
+        if let Some(kept) = self.refusal {
+            return Err(kept);
         }
         write_whole(depot, &end_text())?;
         Ok(self.sums)
