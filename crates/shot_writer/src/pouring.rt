@@ -37,6 +37,7 @@ pub(crate) fn pour<D: Depot, S: Stream<Item = Trap>>(
         → IsPartWritten (D.content depot.old) (records_of pair items) (D.content depot.new)) }
     ensures left { (items : List Trapezoid) → S.stands_for shots.old items
         → StandsForSuffix S.stands_for items shots.new }
+    ensures current { IsTrue D.tells → (D.content depot.new).current ≡ (D.content depot.old).current }
     ensures failed { IsErrOf result DepotBad.Failed
         → Rose (D.counts depot.old).write_faults (D.counts depot.new).write_faults }
     ensures no_memory { IsErrOf result DepotBad.NoMemory

@@ -63,13 +63,13 @@ fn one_square(rt: HostRuntime) -> Result<(), Fail> {
     Ok(())
 }
 
-// How many bytes are made where the call of that number fails.
+// How many bytes are made of more shots than the buffer holds, where the call of that number fails.
 fn made_after_fault(alloc: Global, call: u64) -> Result<Option<usize>, Fail> {
     let shot = square().ok_or("no square")?;
     let mut depot = MemDepot::new(alloc);
     depot.fail_at(call)?;
     if triangles_in(&shot) < 1000 {
-        let _sums = write_file(&mut depot, &[shot]);
+        let _sums = write_file(&mut depot, &[shot; 1100]);
     }
     Ok(depot.made("out").map(|bytes| bytes.len()))
 }
@@ -80,8 +80,9 @@ fn each_call_fails_in_turn(rt: HostRuntime) -> Result<(), Fail> {
         (0, None),
         (1, Some(0)),
         (2, Some(41)),
-        (3, Some(49)),
-        (4, Some(305)),
+        (3, Some(41 + 1015 * 8)),
+        (4, Some(41 + 1100 * 8)),
+        (5, Some(41 + 1100 * 8 + 256)),
     ];
     for (call, made) in table {
         assert_eq!(rt; made_after_fault(rt.alloc(), call)?, made);

@@ -87,6 +87,7 @@ impl ShotWriter {
         ensures keeps { refusal_of self.new ≡ result_err result }
         ensures kept { (bad : Bad) → refusal_of self.old ≡ Some bad
             → (result ≡ Err bad) × (depot.new ≡ depot.old) × (shots.new ≡ shots.old) }
+        ensures current { IsTrue D.tells → (D.content depot.new).current ≡ (D.content depot.old).current }
         ensures failed { IsErrOf result DepotBad.Failed → (refusal_of self.old ≡ Some Failed)
             ⊎ Rose (D.counts depot.old).write_faults (D.counts depot.new).write_faults }
         ensures no_memory { IsErrOf result DepotBad.NoMemory → (refusal_of self.old ≡ Some NoMemory)
@@ -117,14 +118,15 @@ impl ShotWriter {
         ensures refused { OnErr result (IsTrue D.tells
             → IsPartWritten (D.content depot.old) end (D.content depot.new)) }
         ensures kept { (bad : Bad) → refusal_of self ≡ Some bad → (result ≡ Err bad) × (depot.new ≡ depot.old) }
+        ensures current { IsTrue D.tells → (D.content depot.new).current ≡ (D.content depot.old).current }
         ensures failed { IsErrOf result DepotBad.Failed → (refusal_of self ≡ Some Failed)
             ⊎ Rose (D.counts depot.old).write_faults (D.counts depot.new).write_faults }
         ensures no_memory { IsErrOf result DepotBad.NoMemory → (refusal_of self ≡ Some NoMemory)
             ⊎ Rose (D.counts depot.old).refused (D.counts depot.new).refused }
         ensures counted { NeverFall (D.counts depot.old) (D.counts depot.new) }
     {
-        if let Some(bad) = self.refusal {
-            return Err(bad);
+        if let Some(kept) = self.refusal {
+            return Err(kept);
         }
         write_whole(depot, &end_text())?;
         Ok(self.sums)

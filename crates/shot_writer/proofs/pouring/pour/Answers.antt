@@ -1,4 +1,5 @@
 use Rattle.std.proofs.Common.{◌++◌, ◌∷◌, [], ℕ, ap, subst, append_assoc, List, OnErr, Result, Ok, Err, arith, sym, ◌∙◌}
+use Rattle.depot.specs.Content.{Content}
 use Rattle.depot.proofs.ForCallers.{NeverFall-trans}
 use Rattle.shot_writer.specs.Writing.{IsWrittenButFor}
 use Rattle.shot_writer.proofs.SoFar.{one_more, refused_part, all_poured}
@@ -36,3 +37,14 @@ pub returns-clause-ok : goal.returns-clause-ok
 returns-clause-ok g c = λ items stands told.
     let p = c.loop-shot.invariant.poured items stands in
     all_poured p (c.in_default.ensures.first p.rest p.stands).0 (g.D.Depot.content c.flush.new.depot) told (c.in_ok-flush.ensures.ok told)
+
+pub returns-in_err-put_bytes-clause-current : goal.returns-in_err-put_bytes-clause-current
+returns-in_err-put_bytes-clause-current g c = λ told.
+    ap (λ (now : Content). now.current) (refused_part (c.loop-shot.invariant.poured c.requires.list.0 c.requires.list.1) (g.D.Depot.content c.put_bytes.new.depot) told (c.in_err-put_bytes.ensures.refused told)).2
+
+pub returns-in_err-flush-clause-current : goal.returns-in_err-flush-clause-current
+returns-in_err-flush-clause-current g c = λ told.
+    ap (λ (now : Content). now.current) (refused_part (c.loop-shot.invariant.poured c.requires.list.0 c.requires.list.1) (g.D.Depot.content c.flush.new.depot) told (c.in_err-flush.ensures.refused told)).2
+
+pub returns-clause-current : goal.returns-clause-current
+returns-clause-current g c = λ told. ap (λ (now : Content). now.current) (returns-clause-ok g c c.requires.list.0 c.requires.list.1 told)
