@@ -64,8 +64,10 @@ one_slant points j k a b =
     elim (cases_lt j k) [
       | inl h ↦ absurd (a.slanted some_edge (b.on_grid j some_edge (omega arith) h))
       | inr h ↦ elim (cases_lt k j) [
-          | inl g ↦ absurd (b.slanted some_edge (a.on_grid k some_edge (omega arith) g))
-          | inr g ↦ omega (arith, h, g) ] ]
+        | inl g ↦ absurd (b.slanted some_edge (a.on_grid k some_edge (omega arith) g))
+        | inr g ↦ omega (arith, h, g)
+      ]
+    ]
 
 pub no_slant : (points : List Point) (k : ℕ) → HasGridEdges points → IsFirstSlant points k → ⊥
 no_slant points k all a = a.slanted some_edge (all k some_edge a.inside)
