@@ -1,8 +1,7 @@
 -- The edges that a walk along a point list has passed, all of them on the grid.
-use Rattle.std.proofs.Common.{◌≡◌, ◌<◌, ◌≤◌, ℕ, ◌+◌, List, [], ◌∷◌, length, get_or, drop, All, refl, sym, ap, ◌∙◌, subst, arith, below_more, pos, suc, zero, inl, inr}
+use Rattle.std.proofs.Common.{◌≡◌, ◌<◌, ◌≤◌, ℕ, ◌+◌, List, [], ◌∷◌, length, get_or, drop, refl, sym, subst, arith, below_more, pos, suc, zero, inl, inr}
 use Rattle.std.proofs.lemmas.Bool.{cases_lt}
 use Rattle.std.specs.List.{AllWithin}
-use Rattle.std.proofs.Math.Seq.{drop-cons}
 use Rattle.half_grid.specs.declared.plane.Point.{Point}
 use Rattle.half_grid.specs.Outlines.{IsOnGrid, HasGridEdges}
 use Rattle.half_grid.specs.Winding.{edges_of}
