@@ -1,10 +1,9 @@
 -- The list of a grid's places by their numbers.
-use Rattle.std.proofs.Common.{◌≡◌, ◌<◌, ◌≤◌, ℕ, ◌+◌, ◌*◌, ◌%◌, ◌/◌, Some, List, length, get_or, map, slice_get, refl, sym, ◌∙◌, ap, arith, pos}
-use Rattle.std.specs.List.{range_with_len}
+use Rattle.std.proofs.Common.{◌≡◌, ◌<◌, ℕ, ◌*◌, Some, length, slice_get, ◌∙◌, ap, arith}
 use Rattle.std.proofs.lemmas.Option.{slice_get-get_or}
 use Rattle.std.proofs.lemmas.List.FromFn.{get_or-map-range_with_len, length-map-range_with_len}
 use Rattle.half_grid.specs.declared.plane.Point.{Point}
-use Rattle.layout_model.specs.Grids.{IsGrid, grid_place, grid_places, nth_place}
+use Rattle.layout_model.specs.Grids.{grid_places, nth_place}
 
 pub grid_count : (nu nv : ℕ) (u v : Point) → length (grid_places nu nv u v) ≡ nu * nv
 grid_count nu nv u v = length-map-range_with_len (nth_place nu u v) 0 (nu * nv)

@@ -1,8 +1,7 @@
 -- The edges that a walk along a point list has passed, all of them on the grid.
-use Rattle.std.proofs.Common.{◌≡◌, ◌<◌, ◌≤◌, ℕ, ◌+◌, List, [], ◌∷◌, length, get_or, drop, All, refl, sym, ap, ◌∙◌, subst, arith, below_more, pos, suc, zero, inl, inr}
+use Rattle.std.proofs.Common.{◌≡◌, ◌<◌, ◌≤◌, ℕ, ◌+◌, List, [], ◌∷◌, length, get_or, drop, refl, sym, subst, arith, below_more, pos, suc, zero, inl, inr}
 use Rattle.std.proofs.lemmas.Bool.{cases_lt}
 use Rattle.std.specs.List.{AllWithin}
-use Rattle.std.proofs.Math.Seq.{drop-cons}
 use Rattle.half_grid.specs.declared.plane.Point.{Point}
 use Rattle.half_grid.specs.Outlines.{IsOnGrid, HasGridEdges}
 use Rattle.half_grid.specs.Winding.{edges_of}
@@ -64,8 +63,10 @@ one_slant points j k a b =
     elim (cases_lt j k) [
       | inl h ↦ absurd (a.slanted some_edge (b.on_grid j some_edge (omega arith) h))
       | inr h ↦ elim (cases_lt k j) [
-          | inl g ↦ absurd (b.slanted some_edge (a.on_grid k some_edge (omega arith) g))
-          | inr g ↦ omega (arith, h, g) ] ]
+        | inl g ↦ absurd (b.slanted some_edge (a.on_grid k some_edge (omega arith) g))
+        | inr g ↦ omega (arith, h, g)
+      ]
+    ]
 
 pub no_slant : (points : List Point) (k : ℕ) → HasGridEdges points → IsFirstSlant points k → ⊥
 no_slant points k all a = a.slanted some_edge (all k some_edge a.inside)

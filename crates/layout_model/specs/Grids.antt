@@ -1,6 +1,6 @@
 -- Places in a regular grid: a*u + b*v for a < nu and b < nv, where a runs fastest. So place k is
 -- (k mod nu)*u + (k div nu)*v. An AREF of a GDSII stream and the repetitions 1 and 8 of OASIS have this order.
-use Rattle.std.specs.Prelude.{ℕ, pos, ◌*◌, ◌%◌, ◌/◌, ◌^◌, ◌<◌, ◌≤◌, ◌+ℤ◌, ◌*ℤ◌, List, map}
+use Rattle.std.specs.Prelude.{ℕ, pos, ◌*◌, ◌%◌, ◌/◌, ◌<◌, ◌≤◌, ◌+ℤ◌, ◌*ℤ◌, List, map}
 use Rattle.std.specs.List.{range_with_len}
 use Rattle.half_grid.specs.declared.plane.Point.{Point}
 use Rattle.half_grid.specs.Reach.{IsPointWithinReach}

@@ -4,7 +4,7 @@
 --
 -- GDSII Stream Format Manual 6.0, STRANS, MAG and ANGLE: reflection about the X axis comes before rotation. SEMI P39,
 -- PLACEMENT records, say the same.
-use Rattle.std.specs.Prelude.{ℕ, zero, suc, ℤ, pos, neg_ℤ, ◌+ℤ◌, ◌*ℤ◌, ◌<◌, ◌≤◌, Bool, true, false, List, map}
+use Rattle.std.specs.Prelude.{ℕ, zero, suc, pos, neg_ℤ, ◌+ℤ◌, ◌*ℤ◌, ◌<◌, ◌≤◌, Bool, true, false, List, map}
 use Rattle.half_grid.specs.declared.plane.Point.{Point}
 use Rattle.layout_model.specs.Products.{IsProduct}
 use Rattle.layout_model.specs.declared.orient.Orient.{Orient}

@@ -1,7 +1,7 @@
 -- What every layout that is read meets. It is on the grid where each outline is closed and each of its edges lies on a
 -- line of the half grid's four directions, each move and offset has even coordinates within 2^41 of 0, each point is
 -- within 2^42 of 0, the cells' names differ, and no list of offsets is empty.
-use Rattle.std.specs.Prelude.{◌≡◌, ◌≢◌, ◌^◌, ℕ, ℤ, pos, neg_ℤ, ◌≤ℤ◌, true, List, [], ◌∷◌, map, All}
+use Rattle.std.specs.Prelude.{◌≡◌, ◌≢◌, ◌^◌, ℕ, pos, neg_ℤ, ◌≤ℤ◌, true, List, [], ◌∷◌, map, All}
 use Rattle.half_grid.specs.Halves.{is_even}
 use Rattle.half_grid.specs.Outlines.{IsClosed, HasGridEdges}
 use Rattle.half_grid.specs.declared.plane.Point.{Point}

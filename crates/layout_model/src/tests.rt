@@ -1,11 +1,24 @@
 //! Each call at its happy path, and the refusals.
+ghost use Rattle.std.specs.Prelude.{◌≡◌};
+
 use crate::{Name, NameBad, Offsets, Orient, Pair, Points, Shape, ShapeBad, image};
 use half_grid::Point;
 use std::process::Abort;
 use std::test::Fail;
 
-fn point(x: i64, y: i64) -> Point {
+fn point(x: i64, y: i64) -> Point
+    ensures x { result.x ≡ x }
+    ensures y { result.y ≡ y }
+{
     Point { x, y }
+}
+
+fn orient(flip: bool, turns: u8, mag: u8) -> Orient
+    ensures flip { result.flip ≡ flip }
+    ensures turns { result.turns ≡ turns }
+    ensures mag { result.mag ≡ mag }
+{
+    Orient { flip, turns, mag }
 }
 
 #[test]
@@ -26,28 +39,27 @@ fn names_are_printable(rt: HostRuntime) {
     assert!(rt; Name::new(rt.alloc(), &[0x7E; 1024]).is_ok());
 }
 
+// By hand: (3, 5) and (9, 15), mirrored and turned on paper, then moved by (100, 200).
 #[test]
 fn all_eight_orientations(rt: HostRuntime) {
-    let rows = [
-        (false, 0, (103, 205), (109, 215)),
-        (false, 1, (95, 203), (85, 209)),
-        (false, 2, (97, 195), (91, 185)),
-        (false, 3, (105, 197), (115, 191)),
-        (true, 0, (103, 195), (109, 185)),
-        (true, 1, (105, 203), (115, 209)),
-        (true, 2, (97, 205), (91, 215)),
-        (true, 3, (95, 197), (85, 191)),
-    ];
-    for (flip, turns, once, thrice) in &rows {
-        let (flip, turns) = (*flip, *turns);
-        let at = point(100, 200);
-        let mag = 1;
-        let placed = image(Orient { flip, turns, mag }, at, point(3, 5));
-        assert_eq!(rt; placed, point(once.0, once.1));
-        let mag = 3;
-        let placed = image(Orient { flip, turns, mag }, at, point(3, 5));
-        assert_eq!(rt; placed, point(thrice.0, thrice.1));
-    }
+    let at = point(100, 200);
+    let p = point(3, 5);
+    assert_eq!(rt; image(orient(false, 0, 1), at, p), point(103, 205));
+    assert_eq!(rt; image(orient(false, 0, 3), at, p), point(109, 215));
+    assert_eq!(rt; image(orient(false, 1, 1), at, p), point(95, 203));
+    assert_eq!(rt; image(orient(false, 1, 3), at, p), point(85, 209));
+    assert_eq!(rt; image(orient(false, 2, 1), at, p), point(97, 195));
+    assert_eq!(rt; image(orient(false, 2, 3), at, p), point(91, 185));
+    assert_eq!(rt; image(orient(false, 3, 1), at, p), point(105, 197));
+    assert_eq!(rt; image(orient(false, 3, 3), at, p), point(115, 191));
+    assert_eq!(rt; image(orient(true, 0, 1), at, p), point(103, 195));
+    assert_eq!(rt; image(orient(true, 0, 3), at, p), point(109, 185));
+    assert_eq!(rt; image(orient(true, 1, 1), at, p), point(105, 203));
+    assert_eq!(rt; image(orient(true, 1, 3), at, p), point(115, 209));
+    assert_eq!(rt; image(orient(true, 2, 1), at, p), point(97, 205));
+    assert_eq!(rt; image(orient(true, 2, 3), at, p), point(91, 215));
+    assert_eq!(rt; image(orient(true, 3, 1), at, p), point(95, 197));
+    assert_eq!(rt; image(orient(true, 3, 3), at, p), point(85, 191));
 }
 
 #[test]

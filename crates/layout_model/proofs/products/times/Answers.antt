@@ -1,4 +1,4 @@
-use Rattle.layout_model.proofs.ProductLemmas.{product_small, product_fits, product_bits}
+use Rattle.layout_model.proofs.ProductLemmas.{product_small, product_bits}
 use Rattle.layout_model.proofs.products.times.Goals as goal
 
 pub returns-clause-value : goal.returns-clause-value

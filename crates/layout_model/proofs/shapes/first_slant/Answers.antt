@@ -1,7 +1,7 @@
-use Rattle.std.proofs.Common.{get_or, drop, length, pos, sym, subst, suc, ◌≡◌, ◌<◌, ◌≤◌, ◌+◌, ◌∙◌, ◌∷◌, [], arith}
+use Rattle.std.proofs.Common.{get_or, drop, pos, subst, ◌≡◌, ◌+◌, ◌∷◌, [], arith}
 use Rattle.std.proofs.lemmas.List.{drop_more}
 use Rattle.std.proofs.Math.ListN.{drop_of_length-le}
-use Rattle.layout_model.proofs.SlantLemmas.{Passed, passed_start, passed_more, passed_slant, passed_end}
+use Rattle.layout_model.proofs.SlantLemmas.{Passed, passed_more, passed_slant, passed_end}
 use Rattle.half_grid.specs.declared.plane.Point.{Point}
 use Rattle.layout_model.proofs.shapes.first_slant.Goals as goal
 

@@ -1,5 +1,4 @@
-use Rattle.std.proofs.Common.{sym, ap, length, ◌∙◌, arith}
-use Rattle.layout_model.specs.Offsets.{list_of}
+use Rattle.std.proofs.Common.{sym}
 use Rattle.layout_model.proofs.GridLemmas.{grid_count}
 use Rattle.layout_model.proofs.offsets.Offsets.count.Goals as goal
 

@@ -1,7 +1,6 @@
 use Rattle.std.proofs.Common.{sym, ap, ◌≡◌, ◌<◌, ◌*◌, ◌∙◌, Some, length, slice_get, arith}
 use Rattle.std.proofs.lemmas.Option.{slice_get-get_or}
 use Rattle.layout_model.specs.Offsets.{list_of}
-use Rattle.layout_model.specs.Grids.{grid_places}
 use Rattle.layout_model.specs.declared.offsets.Places.TheVariants.{Regular, Listed}
 use Rattle.layout_model.proofs.GridLemmas.{grid_count, grid_nth}
 use Rattle.layout_model.proofs.offsets.Offsets.nth.Goals as goal

@@ -1,4 +1,4 @@
-use Rattle.std.proofs.Common.{◌≡◌, refl, sym, subst, ap, arith}
+use Rattle.std.proofs.Common.{◌≡◌, subst, arith}
 use Rattle.layout_model.specs.Slants.{IsFirstSlant}
 use Rattle.layout_model.proofs.SlantLemmas.{one_slant, no_slant}
 use Rattle.layout_model.proofs.shapes.Shape.new.Goals as goal
