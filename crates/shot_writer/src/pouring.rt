@@ -27,17 +27,20 @@ pub(crate) fn pour<D: Depot, S: Stream<Item = Trap>>(
     requires fewer { before.shots ≤ before.triangles }
     requires room { (items : List Trapezoid) → S.stands_for shots.old items
         → before.triangles + triangles_of items < 2 ^ 127 }
-    ensures ok { (items : List Trapezoid) → S.stands_for shots.old items → OnOk result (IsTrue D.tells
+    ensures ok { (items : List Trapezoid) → S.stands_for shots.old items
+        → OnOk result (IsTrue D.tells
         → D.content depot.new ≡ with_written (D.content depot.old) (records_of pair items)) }
     ensures sums { (items : List Trapezoid) → S.stands_for shots.old items
         → IfOk result (λ sums. AreSumsAfter before items sums) }
     ensures fewer { IfOk result (λ sums. sums.shots ≤ sums.triangles) }
     ensures taken { OnOk result (S.stands_for shots.new []) }
-    ensures refused { (items : List Trapezoid) → S.stands_for shots.old items → OnErr result (IsTrue D.tells
+    ensures refused { (items : List Trapezoid) → S.stands_for shots.old items
+        → OnErr result (IsTrue D.tells
         → IsPartWritten (D.content depot.old) (records_of pair items) (D.content depot.new)) }
     ensures left { (items : List Trapezoid) → S.stands_for shots.old items
         → StandsForSuffix S.stands_for items shots.new }
-    ensures current { IsTrue D.tells → (D.content depot.new).current ≡ (D.content depot.old).current }
+    ensures current { IsTrue D.tells
+        → (D.content depot.new).current ≡ (D.content depot.old).current }
     ensures failed { IsErrOf result DepotBad.Failed
         → Rose (D.counts depot.old).write_faults (D.counts depot.new).write_faults }
     ensures no_memory { IsErrOf result DepotBad.NoMemory

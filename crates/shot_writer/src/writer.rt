@@ -73,13 +73,15 @@ impl ShotWriter {
         requires list { HasList S.stands_for shots.old }
         requires room { (items : List Trapezoid) → S.stands_for shots.old items
             → (sums_of self.old).triangles + triangles_of items < 2 ^ 127 }
-        ensures ok { (items : List Trapezoid) → S.stands_for shots.old items → OnOk result (IsTrue D.tells
-            → D.content depot.new ≡ with_written (D.content depot.old) (records_of (pair_of self.old) items)) }
+        ensures ok { (items : List Trapezoid) → S.stands_for shots.old items
+            → OnOk result (IsTrue D.tells → D.content depot.new
+            ≡ with_written (D.content depot.old) (records_of (pair_of self.old) items)) }
         ensures sums { (items : List Trapezoid) → S.stands_for shots.old items
             → OnOk result (AreSumsAfter (sums_of self.old) items (sums_of self.new)) }
         ensures taken { OnOk result (S.stands_for shots.new []) }
-        ensures refused { (items : List Trapezoid) → S.stands_for shots.old items → OnErr result (IsTrue D.tells
-            → IsPartWritten (D.content depot.old) (records_of (pair_of self.old) items) (D.content depot.new)) }
+        ensures refused { (items : List Trapezoid) → S.stands_for shots.old items
+            → OnErr result (IsTrue D.tells → IsPartWritten
+            (D.content depot.old) (records_of (pair_of self.old) items) (D.content depot.new)) }
         ensures same_sums { OnErr result (sums_of self.new ≡ sums_of self.old) }
         ensures left { (items : List Trapezoid) → S.stands_for shots.old items
             → StandsForSuffix S.stands_for items shots.new }
@@ -87,7 +89,8 @@ impl ShotWriter {
         ensures keeps { refusal_of self.new ≡ result_err result }
         ensures kept { (bad : Bad) → refusal_of self.old ≡ Some bad
             → (result ≡ Err bad) × (depot.new ≡ depot.old) × (shots.new ≡ shots.old) }
-        ensures current { IsTrue D.tells → (D.content depot.new).current ≡ (D.content depot.old).current }
+        ensures current { IsTrue D.tells
+            → (D.content depot.new).current ≡ (D.content depot.old).current }
         ensures failed { IsErrOf result DepotBad.Failed → (refusal_of self.old ≡ Some Failed)
             ⊎ Rose (D.counts depot.old).write_faults (D.counts depot.new).write_faults }
         ensures no_memory { IsErrOf result DepotBad.NoMemory → (refusal_of self.old ≡ Some NoMemory)
@@ -117,8 +120,10 @@ impl ShotWriter {
         ensures sums { IfOk result (λ sums. sums ≡ sums_of self) }
         ensures refused { OnErr result (IsTrue D.tells
             → IsPartWritten (D.content depot.old) end (D.content depot.new)) }
-        ensures kept { (bad : Bad) → refusal_of self ≡ Some bad → (result ≡ Err bad) × (depot.new ≡ depot.old) }
-        ensures current { IsTrue D.tells → (D.content depot.new).current ≡ (D.content depot.old).current }
+        ensures kept { (bad : Bad) → refusal_of self ≡ Some bad
+            → (result ≡ Err bad) × (depot.new ≡ depot.old) }
+        ensures current { IsTrue D.tells
+            → (D.content depot.new).current ≡ (D.content depot.old).current }
         ensures failed { IsErrOf result DepotBad.Failed → (refusal_of self ≡ Some Failed)
             ⊎ Rose (D.counts depot.old).write_faults (D.counts depot.new).write_faults }
         ensures no_memory { IsErrOf result DepotBad.NoMemory → (refusal_of self ≡ Some NoMemory)
