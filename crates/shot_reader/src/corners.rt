@@ -1,15 +1,15 @@
 //! The shot that the fields of a record name.
-ghost use Rattle.std.specs.Prelude.{◌≡◌, ◌≤◌, ◌↔◌, ℤ, pos, ◌+ℤ◌, ◌≤ℤ◌, neg_ℤ, ◌^◌, IsTrue, IsSome, IfSome};
+ghost use Rattle.std.specs.Prelude.{◌≡◌, ◌≤◌, ◌↔◌, ℤ, pos, ◌+ℤ◌, ◌≤ℤ◌, unsigned_abs, ◌^◌, IsTrue, IsSome, IfSome};
 ghost use Rattle.std.specs.Int.{int_min, int_max};
 ghost use Rattle.half_grid.specs.Trapezoids.{Trapezoid, IsShot};
 ghost use Rattle.shot_reader.specs.Fields.{HasShape, AreCorners, IsCornered};
-ghost use Rattle.shot_reader.specs.Near.{IsNear, AreNear};
+ghost use Rattle.shot_reader.specs.Near.{AreNear};
 
 use crate::fields::Fields;
 use half_grid::{Point, Trap, line_through};
 
 /// No size and no place of a shot is further from 0.
-const FAR: i64 = 1 << 46;
+const FAR: u64 = 1 << 46;
 
 /// The corners of a trapezoid.
 #[derive(Clone, Copy)]
@@ -20,37 +20,25 @@ pub(crate) struct Corners {
     pub(crate) top_right: Point,
 }
 
-fn is_near(z: i64) -> bool
-    ensures { IsTrue result ↔ IsNear z }
-{
-    -FAR <= z && z <= FAR
-}
-
 fn are_near(fields: &Fields) -> bool
     ensures { IsTrue result ↔ AreNear fields.now }
 {
-    if fields.width > FAR as u64 {
+    if fields.width > FAR || fields.height > FAR {
         return false;
     }
-    if fields.height > FAR as u64 {
+    if fields.left_delta.unsigned_abs() > FAR || fields.right_delta.unsigned_abs() > FAR {
         return false;
     }
-    if !is_near(fields.left_delta) {
+    if fields.x.unsigned_abs() > FAR || fields.y.unsigned_abs() > FAR {
         return false;
     }
-    if !is_near(fields.right_delta) {
-        return false;
-    }
-    if !is_near(fields.x) {
-        return false;
-    }
-    is_near(fields.y)
+    true
 }
 
 // The two X whose least is x and whose second is so much greater than the first.
 fn with_least(x: i64, delta: i64) -> (i64, i64)
-    requires x { IsNear x }
-    requires delta { IsNear delta }
+    requires x { unsigned_abs x ≤ 2 ^ 46 }
+    requires delta { unsigned_abs delta ≤ 2 ^ 46 }
     ensures least { int_min result.0 result.1 ≡ x }
     ensures delta { result.1 ≡ result.0 +ℤ delta }
 {
@@ -59,9 +47,9 @@ fn with_least(x: i64, delta: i64) -> (i64, i64)
 
 // The two X whose greatest is x + width and whose second is so much greater than the first.
 fn with_greatest(x: i64, width: u64, delta: i64) -> (i64, i64)
-    requires x { IsNear x }
+    requires x { unsigned_abs x ≤ 2 ^ 46 }
     requires width { width ≤ 2 ^ 46 }
-    requires delta { IsNear delta }
+    requires delta { unsigned_abs delta ≤ 2 ^ 46 }
     ensures greatest { int_max result.0 result.1 ≡ x +ℤ pos width }
     ensures delta { result.1 ≡ result.0 +ℤ delta }
 {

@@ -1,5 +1,5 @@
 //! The fields of one record, and their one spelling.
-ghost use Rattle.std.specs.Prelude.{◌≡◌, ◌≢◌, ◌+◌, ◌^◌, ◌<◌, ◌≤◌, ◌++◌, ◌↔◌, ℕ, ℤ, pos, List, length, drop, unsigned_abs, IsTrue};
+ghost use Rattle.std.specs.Prelude.{◌≡◌, ◌≢◌, ◌+◌, ◌^◌, ◌<◌, ◌≤◌, ◌++◌, ◌↔◌, ℕ, ℤ, pos, List, length, drop, get_or, nat_eq, ◌||◌, unsigned_abs, IsTrue};
 ghost use Rattle.half_grid.specs.Trapezoids.{Trapezoid, IsShot};
 ghost use Rattle.oas_lex.specs.Spelling.{unsigned_text, signed_text};
 ghost use Rattle.oas_lex.specs.ShotText.{delta_text, spelling_of};
@@ -85,6 +85,28 @@ fn delta_at(bytes: &[u8], at: usize, is_there: bool) -> (i64, usize)
     signed_at(bytes, at)
 }
 
+// The byte at `at`.
+fn byte_at(bytes: &[u8], at: usize) -> u8
+    requires { at < length bytes.now }
+    ensures { result ≡ get_or bytes.now at 0 }
+{
+    bytes[at]
+}
+
+// Whether the record of this id has delta a.
+fn has_left(id: u8) -> bool
+    ensures { result ≡ (nat_eq id 23 || nat_eq id 24) }
+{
+    id == TRAPEZOID || id == TRAPEZOID_A
+}
+
+// Whether the record of this id has delta b.
+fn has_right(id: u8) -> bool
+    ensures { result ≡ (nat_eq id 23 || nat_eq id 25) }
+{
+    id == TRAPEZOID || id == TRAPEZOID_B
+}
+
 /// The fields of the record at `at`, as far as they can be read.
 pub(crate) fn fields_at(bytes: &[u8], at: usize) -> Fields
     requires { at < length bytes.now }
@@ -92,16 +114,16 @@ pub(crate) fn fields_at(bytes: &[u8], at: usize) -> Fields
     ensures read { (l d : ℕ) (z : Trapezoid) (after : List ℕ) → IsNarrowPair l d → IsShot z
         → drop at bytes.now ≡ spelling_of l d z ++ after → (result.layer ≡ l) × (result.datatype ≡ d) × HasShape result z }
 {
-    let id = bytes[at];
-    let has_left = id == TRAPEZOID || id == TRAPEZOID_A;
-    let has_right = id == TRAPEZOID || id == TRAPEZOID_B;
+    let id = byte_at(bytes, at);
+    let left_there = has_left(id);
+    let right_there = has_right(id);
     let start = (at + 2).min(bytes.len());
     let (layer, after_layer) = unsigned_at(bytes, start);
     let (datatype, after_datatype) = unsigned_at(bytes, after_layer);
     let (width, after_width) = unsigned_at(bytes, after_datatype);
     let (height, after_height) = unsigned_at(bytes, after_width);
-    let (left_delta, after_left) = delta_at(bytes, after_height, has_left);
-    let (right_delta, after_right) = delta_at(bytes, after_left, has_right);
+    let (left_delta, after_left) = delta_at(bytes, after_height, left_there);
+    let (right_delta, after_right) = delta_at(bytes, after_left, right_there);
     let (x, after_x) = signed_at(bytes, after_right);
     let (y, _after_y) = signed_at(bytes, after_x);
     Fields {

@@ -33,11 +33,12 @@ pub(crate) fn head_of(bytes: &[u8]) -> Option<(u32, usize)>
 fn in_common(bytes: &[u8], text: &[u8]) -> usize
     ensures { result ≤ length bytes.now }
 {
-    let mut count = 0;
-    while count < bytes.len() && count < text.len() && bytes[count] == text[count] {
-        count += 1;
+    for (index, byte) in bytes.iter().enumerate() {
+        if text.len() <= index || text[index] != *byte {
+            return index;
+        }
     }
-    count
+    bytes.len()
 }
 
 // How many of the bytes begin the spelling of some unit, and whether they are all of one.
