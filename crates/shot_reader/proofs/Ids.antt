@@ -33,3 +33,6 @@ left_there z id b e f = rw (f, e) (left_by (int_eq (left_delta z) (pos 0)) (int_
 
 pub right_there : (z : Trapezoid) (id : ℕ) (b : Bool) → id ≡ record_id z → b ≡ (nat_eq id 23 || nat_eq id 25) → IsTrue b ↔ (right_delta z ≢ pos 0)
 right_there z id b e f = rw (f, e) (right_by (int_eq (left_delta z) (pos 0)) (int_eq (right_delta z) (pos 0)) (right_delta z) (Decides-int_eq (right_delta z) (pos 0)).0 (Decides-int_eq (right_delta z) (pos 0)).1)
+
+pub first_byte : (bytes : List ℕ) (at : ℕ) → get_or (drop at bytes) 0 0 ≡ get_or bytes at 0
+first_byte bytes at = get_or-drop at bytes 0 0 ∙ ap (λ (n : ℕ). get_or bytes n 0) (sym (plus_none at))

@@ -1,9 +1,10 @@
 -- A number that stands next among the bytes is read, and what follows it stands after it.
-use Rattle.std.proofs.Common.{◌≡◌, ℕ, ◌+◌, ◌-◌, ◌<◌, ◌≤◌, ◌^◌, ℤ, unsigned_abs, List, [], ◌∷◌, ◌++◌, Bool, true, false, nat_eq, length, take, drop, refl, arith, ap, sym, subst, ◌∙◌}
+use Rattle.std.proofs.Common.{◌≡◌, ℕ, ◌+◌, ◌-◌, ◌<◌, ◌≤◌, ◌^◌, ℤ, unsigned_abs, List, [], ◌∷◌, ◌++◌, Bool, true, false, nat_eq, length, take, drop, min, codes, replicate, append_assoc, refl, arith, ap, sym, subst, ◌∙◌}
 use Rattle.std.proofs.lemmas.List.{take-append-drop, length-append, length-drop, take_all, drop-drop}
 use Rattle.std.proofs.Math.Seq.{drop-append_seam, drop-append-add, take-append_seam}
 use Rattle.std.specs.Cmp.Lexicographic.{same_text, other_text}
 use lib.Pointwise.{pointwise}
+use Rattle.oas_lex.specs.ShotText.{head, magic, cell}
 use Rattle.oas_lex.specs.Spelling.{unsigned_text, signed_text}
 use Rattle.oas_lex.specs.Numbers.{HasUnsigned, HasSigned}
 use Rattle.oas_lex.proofs.ForCallers.{unsigned_back, signed_back}
@@ -52,3 +53,20 @@ begins_by rest text after false e w = absurd (other_text text (take (length text
 pub same_by : (xs ys : List ℕ) (r : Bool) → r ≡ pointwise nat_eq xs ys → xs ≡ ys → r ≡ true
 same_by xs ys true e w = refl
 same_by xs ys false e w = absurd (other_text xs ys e w)
+
+-- the unit of a head
+abbrev before_unit : List ℕ
+before_unit = magic ++ 1 ∷ 3 ∷ codes "1.0" ++ 0 ∷ []
+
+abbrev after_unit : List ℕ
+after_unit = 0 ∷ replicate 12 0 ++ cell
+
+head_is : (unit : ℕ) (x : List ℕ) → head unit ++ x ≡ before_unit ++ (unsigned_text unit ++ (after_unit ++ x))
+unfolding head
+head_is unit x = simp append_assoc
+
+pub unit_there : (unit at : ℕ) (bytes after : List ℕ) → at ≡ min 19 (length bytes) → bytes ≡ head unit ++ after → drop at bytes ≡ unsigned_text unit ++ (after_unit ++ after)
+unit_there unit at bytes after h e =
+    let whole : bytes ≡ before_unit ++ (unsigned_text unit ++ (after_unit ++ after)) = e ∙ head_is unit after in
+    let place : at ≡ 19 = omega (arith, h, ap length whole, length-append before_unit (unsigned_text unit ++ (after_unit ++ after))) in
+    ap (λ (n : ℕ). drop n bytes) place ∙ (ap (drop 19) whole ∙ drop-append_seam before_unit (unsigned_text unit ++ (after_unit ++ after)))

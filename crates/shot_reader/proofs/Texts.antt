@@ -1,5 +1,5 @@
 -- The text of the fields of a shot is its record.
-use Rattle.std.proofs.Common.{◌≡◌, ℕ, ℤ, pos, ◌-ℤ◌, ◌<◌, ◌≤◌, ◌^◌, List, [], ◌∷◌, ◌++◌, append_assoc, unsigned_abs, ap, sym, refl, ◌∙◌, FitsSigned, w64}
+use Rattle.std.proofs.Common.{◌≡◌, ℕ, ℤ, pos, ◌-ℤ◌, ◌<◌, ◌≤◌, ◌^◌, List, [], ◌∷◌, ◌++◌, length, arith, append_assoc, unsigned_abs, ap, sym, refl, ◌∙◌, FitsSigned, w64}
 use Rattle.std.proofs.lemmas.Int.{to_z-of_z}
 use mir.Val.{to_z, of_z}
 use Rattle.half_grid.specs.Trapezoids.{Trapezoid, box_width}
@@ -26,3 +26,7 @@ handed text z before after fits e = e ∙ ap (λ v. before ++ text v) (to_z-of_z
 pub text_is : (f : Fields) (l d : ℕ) (z : Trapezoid) → f.layer ≡ l → f.datatype ≡ d → HasShape f z → text_of f ≡ spelling_of l d z
 unfolding text_of spelling_of
 text_is f l d z a b h = rw (a, b, h.width, h.height, h.left, h.right, h.x, h.y) refl
+
+pub text_some : (f : Fields) (text : List ℕ) → text ≡ text_of f → 0 < length text
+unfolding text_of
+text_some f text e = omega (arith, ap length e)

@@ -107,7 +107,10 @@ pub fn read_shots(alloc: Global, bytes: &[u8]) -> Result<ShotFile, ShotBad>
     let mut shots = List::new(alloc);
     while at < bytes.len() && bytes[at] != END {
         let record = read_record(bytes, at, pair)?;
-        shots.push(record.shot)?;
+        match shots.push(record.shot) {
+            Ok(()) => {}
+            Err(_refused) => return Err(ShotBad::NoMemory),
+        }
         pair = Some(record.pair);
         at = record.next;
     }
