@@ -12,7 +12,6 @@ plus_none n = omega arith
 pub byte_is : (bytes rest : List ℕ) (at x : ℕ) → drop at bytes ≡ x ∷ rest → get_or bytes at 0 ≡ x
 byte_is bytes rest at x e = ap (λ (n : ℕ). get_or bytes n 0) (plus_none at) ∙ (sym (get_or-drop at bytes 0 0) ∙ ap (λ (l : List ℕ). get_or l 0 0) e)
 
-
 differ : false ≡ true → ⊥
 differ e = absurd (cc)
 

@@ -68,10 +68,18 @@ not_nil (x ∷ shots) z e = absurd (cc)
 pub file_of : (bytes rest last : List ℕ) (unit : ℕ) (pair : Option Pair) (shots : List Trapezoid) → IsUnit unit → bytes ≡ head unit ++ rest → IsPairOf pair shots
     → rest ≡ records_with pair shots ++ last → last ≡ end → IsFileOf bytes unit pair shots
 file_of bytes rest last unit None shots u e h f g = record {
-  unit_fits = u; pair_fits = h; layer = 0; datatype = 0; agrees = tt;
+  unit_fits = u;
+  pair_fits = h;
+  layer = 0;
+  datatype = 0;
+  agrees = tt;
   text = e ∙ (ap (λ (t : List ℕ). head unit ++ t) (f ∙ (g ∙ ap (λ (zs : List Trapezoid). body 0 0 zs) (sym h))) ∙ sym (text_parts unit 0 0 shots));
 }
 file_of bytes rest last unit (Some p) shots u e h f g = record {
-  unit_fits = u; pair_fits = h; layer = p.layer; datatype = p.datatype; agrees = (refl, refl);
+  unit_fits = u;
+  pair_fits = h;
+  layer = p.layer;
+  datatype = p.datatype;
+  agrees = (refl, refl);
   text = e ∙ (ap (λ (t : List ℕ). head unit ++ t) (f ∙ ap (λ (t : List ℕ). flat_map (spelling_of p.layer p.datatype) shots ++ t) g) ∙ sym (text_parts unit p.layer p.datatype shots));
 }

@@ -42,7 +42,11 @@ fn with_least(x: i64, delta: i64) -> (i64, i64)
     ensures least { int_min result.0 result.1 ≡ x }
     ensures delta { result.1 ≡ result.0 +ℤ delta }
 {
-    if delta < 0 { (x - delta, x) } else { (x, x + delta) }
+    if delta < 0 {
+        (x - delta, x)
+    } else {
+        (x, x + delta)
+    }
 }
 
 // The two X whose greatest is x + width and whose second is so much greater than the first.
@@ -54,7 +58,11 @@ fn with_greatest(x: i64, width: u64, delta: i64) -> (i64, i64)
     ensures delta { result.1 ≡ result.0 +ℤ delta }
 {
     let most = x + width as i64;
-    if delta < 0 { (most, most + delta) } else { (most - delta, most) }
+    if delta < 0 {
+        (most, most + delta)
+    } else {
+        (most - delta, most)
+    }
 }
 
 // The corners that the fields say.

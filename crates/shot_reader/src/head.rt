@@ -66,8 +66,7 @@ fn unit_prefix(bytes: &[u8]) -> (usize, bool)
     let Some(third) = bytes.get(2) else {
         return (2, false);
     };
-    let unit =
-        u64::from(*first % 128) + u64::from(*second % 128) * 128 + u64::from(*third) * 16384;
+    let unit = u64::from(*first % 128) + u64::from(*second % 128) * 128 + u64::from(*third) * 16384;
     if *third == 0 || MOST < unit {
         return (2, false);
     }

@@ -94,7 +94,10 @@ fn refuses_the_first_fault(rt: HostRuntime) -> Result<(), Fail> {
         ),
     ];
     for (records, bad) in table {
-        assert_eq!(rt; refusal(rt.alloc(), &file_of(rt.alloc(), HEAD, records)?), Some(bad));
+        assert_eq!(rt;
+            refusal(rt.alloc(), &file_of(rt.alloc(), HEAD, records)?),
+            Some(bad)
+        );
     }
     Ok(())
 }

@@ -25,12 +25,15 @@ returns-clause-read c = λ l d z after p shot e.
     let fl : FitsSigned w64 c.delta_at-left_delta.result.0 = search rules in
     let fr : FitsSigned w64 c.delta_at-right_delta.result.0 = search rules in
     let fx : FitsSigned w64 c.signed_at-x.result.0 = search rules in
-    let fy : FitsSigned w64 c.signed_at-y.result.0 = search rules in
-    (a.0, b.0, record {
-      width = w.0;
-      height = h.0;
-      left = to_z-of_z w64 c.delta_at-left_delta.result.0 fl ∙ lefts.0;
-      right = to_z-of_z w64 c.delta_at-right_delta.result.0 fr ∙ rights.0;
-      x = to_z-of_z w64 c.signed_at-x.result.0 fx ∙ xs.0;
-      y = to_z-of_z w64 c.signed_at-y.result.0 fy ∙ ys.0;
-    })
+    let fy : FitsSigned w64 c.signed_at-y.result.0 = search rules in (
+      a.0,
+      b.0,
+      record {
+        width = w.0;
+        height = h.0;
+        left = to_z-of_z w64 c.delta_at-left_delta.result.0 fl ∙ lefts.0;
+        right = to_z-of_z w64 c.delta_at-right_delta.result.0 fr ∙ rights.0;
+        x = to_z-of_z w64 c.signed_at-x.result.0 fx ∙ xs.0;
+        y = to_z-of_z w64 c.signed_at-y.result.0 fy ∙ ys.0;
+      },
+    )
