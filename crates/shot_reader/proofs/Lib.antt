@@ -1,0 +1,6 @@
+mod Places
+mod Shapes
+mod Texts
+mod Nears
+mod Ids
+mod Rests

@@ -1,0 +1,72 @@
+-- A number that stands next among the bytes is read, and what follows it stands after it.
+use Rattle.std.proofs.Common.{◌≡◌, ℕ, ◌+◌, ◌-◌, ◌<◌, ◌≤◌, ◌^◌, ℤ, unsigned_abs, List, [], ◌∷◌, ◌++◌, Bool, true, false, nat_eq, length, take, drop, min, codes, replicate, append_assoc, refl, arith, ap, sym, subst, ◌∙◌}
+use Rattle.std.proofs.lemmas.List.{take-append-drop, length-append, length-drop, take_all, drop-drop}
+use Rattle.std.proofs.Math.Seq.{drop-append_seam, drop-append-add, take-append_seam}
+use Rattle.std.specs.Cmp.Lexicographic.{same_text, other_text}
+use lib.Pointwise.{pointwise}
+use Rattle.oas_lex.specs.ShotText.{head, magic, cell}
+use Rattle.oas_lex.specs.Spelling.{unsigned_text, signed_text}
+use Rattle.oas_lex.specs.Numbers.{HasUnsigned, HasSigned}
+use Rattle.oas_lex.proofs.ForCallers.{unsigned_back, signed_back}
+
+take_size : (at : ℕ) (bytes : List ℕ) → at ≤ length bytes → length (take at bytes) ≡ at
+take_size at bytes h = omega (arith, ap length (take-append-drop at bytes), length-append (take at bytes) (drop at bytes), length-drop at bytes, h)
+
+split_at : (at : ℕ) (bytes text after : List ℕ) → drop at bytes ≡ text ++ after → bytes ≡ take at bytes ++ (text ++ after)
+split_at at bytes text after e = sym (take-append-drop at bytes) ∙ ap (λ (l : List ℕ). take at bytes ++ l) e
+
+after_by : (front text after : List ℕ) → drop (length front + length text) (front ++ (text ++ after)) ≡ after
+after_by front text after = drop-append-add front (text ++ after) (length text) ∙ drop-append_seam text after
+
+-- what follows a text that stands at `at`
+pub after_text : (at : ℕ) (bytes text after : List ℕ) → at ≤ length bytes → drop at bytes ≡ text ++ after → drop (at + length text) bytes ≡ after
+after_text at bytes text after h e =
+    ap (λ (n : ℕ). drop (n + length text) bytes) (sym (take_size at bytes h))
+    ∙ (ap (λ (l : List ℕ). drop (length (take at bytes) + length text) l) (split_at at bytes text after e) ∙ after_by (take at bytes) text after)
+
+pub unsigned_there : (at n : ℕ) (bytes after : List ℕ) → at ≤ length bytes → n < 2 ^ 63 → drop at bytes ≡ unsigned_text n ++ after → HasUnsigned bytes at n (at + length (unsigned_text n))
+unsigned_there at n bytes after h narrow e =
+    subst (λ (p : ℕ). HasUnsigned bytes p n (p + length (unsigned_text n))) (take_size at bytes h)
+    (subst (λ (l : List ℕ). HasUnsigned l (length (take at bytes)) n (length (take at bytes) + length (unsigned_text n))) (sym (split_at at bytes (unsigned_text n) after e)) (unsigned_back n (take at bytes) after narrow))
+
+pub signed_there : (at : ℕ) (z : ℤ) (bytes after : List ℕ) → at ≤ length bytes → unsigned_abs z < 2 ^ 62 → drop at bytes ≡ signed_text z ++ after → HasSigned bytes at z (at + length (signed_text z))
+signed_there at z bytes after h narrow e =
+    subst (λ (p : ℕ). HasSigned bytes p z (p + length (signed_text z))) (take_size at bytes h)
+    (subst (λ (l : List ℕ). HasSigned l (length (take at bytes)) z (length (take at bytes) + length (signed_text z))) (sym (split_at at bytes (signed_text z) after e)) (signed_back z (take at bytes) after narrow))
+
+-- the offset and what follows, for a number that was read
+pub read_next : {A : Type 0} (z w : A) (at next : ℕ) (bytes text after : List ℕ) → at ≤ length bytes → drop at bytes ≡ text ++ after → w ≡ z → next ≡ at + length text → (w ≡ z) × (drop next bytes ≡ after)
+read_next z w at next bytes text after h e is n = (is, ap (λ (k : ℕ). drop k bytes) n ∙ after_text at bytes text after h e)
+
+-- a text that begins what stands at `at`, by the test of a slice
+pub rest_is : (bytes : List ℕ) (at : ℕ) → take (length bytes - at) (drop at bytes) ≡ drop at bytes
+rest_is bytes at = take_all (length bytes - at) (drop at bytes) (omega (arith, length-drop at bytes))
+
+pub stands_by : (rest text : List ℕ) (r : Bool) → r ≡ pointwise nat_eq text (take (length text) rest) → r ≡ true → rest ≡ text ++ drop (length text) rest
+stands_by rest text r e told =
+    sym (take-append-drop (length text) rest) ∙ ap (λ (l : List ℕ). l ++ drop (length text) rest) (sym (same_text text (take (length text) rest) (sym told ∙ e)))
+
+pub begins_by : (rest text after : List ℕ) (r : Bool) → r ≡ pointwise nat_eq text (take (length text) rest) → rest ≡ text ++ after → r ≡ true
+begins_by rest text after true e w = refl
+begins_by rest text after false e w = absurd (other_text text (take (length text) rest) e (sym (ap (take (length text)) w ∙ take-append_seam text after)))
+
+pub same_by : (xs ys : List ℕ) (r : Bool) → r ≡ pointwise nat_eq xs ys → xs ≡ ys → r ≡ true
+same_by xs ys true e w = refl
+same_by xs ys false e w = absurd (other_text xs ys e w)
+
+-- the unit of a head
+abbrev before_unit : List ℕ
+before_unit = magic ++ 1 ∷ 3 ∷ codes "1.0" ++ 0 ∷ []
+
+abbrev after_unit : List ℕ
+after_unit = 0 ∷ replicate 12 0 ++ cell
+
+head_is : (unit : ℕ) (x : List ℕ) → head unit ++ x ≡ before_unit ++ (unsigned_text unit ++ (after_unit ++ x))
+unfolding head
+head_is unit x = simp append_assoc
+
+pub unit_there : (unit at : ℕ) (bytes after : List ℕ) → at ≡ min 19 (length bytes) → bytes ≡ head unit ++ after → drop at bytes ≡ unsigned_text unit ++ (after_unit ++ after)
+unit_there unit at bytes after h e =
+    let whole : bytes ≡ before_unit ++ (unsigned_text unit ++ (after_unit ++ after)) = e ∙ head_is unit after in
+    let place : at ≡ 19 = omega (arith, h, ap length whole, length-append before_unit (unsigned_text unit ++ (after_unit ++ after))) in
+    ap (λ (n : ℕ). drop n bytes) place ∙ (ap (drop 19) whole ∙ drop-append_seam before_unit (unsigned_text unit ++ (after_unit ++ after)))

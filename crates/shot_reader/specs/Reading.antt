@@ -1,0 +1,44 @@
+-- What a shot file says: how many half units a micron has, the layer and the datatype of its records, and the shots. It
+-- says a pair exactly where it has shots.
+use Rattle.std.specs.Prelude.{ℕ, ◌≡◌, ◌≢◌, ◌*◌, ◌%◌, ◌≤◌, List, [], Option, Some, None, flat_map}
+use Rattle.half_grid.specs.Trapezoids.{Trapezoid}
+use Rattle.layout_model.specs.declared.pair.Pair.{Pair}
+use Rattle.oas_lex.specs.ShotLaws.{IsNarrowPair}
+use Rattle.oas_lex.specs.ShotText.{spelling_of, shot_text}
+
+-- how many half units a micron has: twice a number of grid steps from 1 to a million
+pub record IsUnit (unit : ℕ) : Type 0 where
+  pub even : unit % 2 ≡ 0
+  pub some : 2 ≤ unit
+  pub few : unit ≤ 2 * 1000000
+
+-- the pair of the records of these shots: none where there are no shots
+abbrev pub IsPairOf : Option Pair → List Trapezoid → Type 0
+IsPairOf None shots = shots ≡ []
+IsPairOf (Some pair) shots = (shots ≢ []) × IsNarrowPair pair.layer pair.datatype
+
+-- the records of the shots, one after another
+abbrev pub records_with : Option Pair → List Trapezoid → List ℕ
+records_with None shots = []
+records_with (Some pair) shots = flat_map (spelling_of pair.layer pair.datatype) shots
+
+-- a record with this pair may stand next
+abbrev pub Agrees : Option Pair → ℕ → ℕ → Type 0
+Agrees None layer datatype = Unit {0}
+Agrees (Some pair) layer datatype = (pair.layer ≡ layer) × (pair.datatype ≡ datatype)
+
+-- the bytes are the text of this unit, this pair and these shots
+pub record IsFileOf (bytes : List ℕ) (unit : ℕ) (pair : Option Pair) (shots : List Trapezoid) : Type 0 where
+  pub unit_fits : IsUnit unit
+  pub pair_fits : IsPairOf pair shots
+  pub layer : ℕ
+  pub datatype : ℕ
+  pub agrees : Agrees pair layer datatype
+  pub text : bytes ≡ shot_text unit layer datatype shots
+
+-- this pair, this shot and what follows them are the other's
+pub record IsReadSo (pair : Pair) (shot : Trapezoid) (rest : List ℕ) (layer datatype : ℕ) (z : Trapezoid) (after : List ℕ) : Type 0 where
+  pub layer_is : pair.layer ≡ layer
+  pub datatype_is : pair.datatype ≡ datatype
+  pub shot_is : shot ≡ z
+  pub rest_is : rest ≡ after

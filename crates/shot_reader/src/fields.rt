@@ -1,0 +1,186 @@
+//! The fields of one record, and their one spelling.
+ghost use Rattle.std.specs.Prelude.{◌≡◌, ◌≢◌, ◌+◌, ◌^◌, ◌<◌, ◌≤◌, ◌++◌, ◌↔◌, ℕ, ℤ, pos, List, length, drop, get_or, nat_eq, ◌||◌, unsigned_abs, IsTrue};
+ghost use Rattle.half_grid.specs.Trapezoids.{Trapezoid, IsShot};
+ghost use Rattle.oas_lex.specs.Spelling.{unsigned_text, signed_text};
+ghost use Rattle.oas_lex.specs.ShotText.{delta_text, spelling_of};
+ghost use Rattle.oas_lex.specs.ShotLaws.{IsNarrowPair};
+ghost use Rattle.shot_reader.specs.Fields.{HasShape, AreNarrow, text_of, id_for};
+
+use oas_lex::{Spell, signed, unsigned};
+
+/// The record of a shot with both sides upright.
+const RECTANGLE: u8 = 20;
+/// The record of a shot with neither side upright.
+const TRAPEZOID: u8 = 23;
+/// The record of a shot whose right side alone is upright.
+const TRAPEZOID_A: u8 = 24;
+/// The record of a shot whose left side alone is upright.
+const TRAPEZOID_B: u8 = 25;
+/// Width, height, x, y, datatype and layer are written.
+pub(crate) const INFO: u8 = 0x7B;
+
+/// The fields of a record. A delta that isn't there is 0.
+#[derive(Clone, Copy)]
+pub(crate) struct Fields {
+    pub(crate) layer: u64,
+    pub(crate) datatype: u64,
+    pub(crate) width: u64,
+    pub(crate) height: u64,
+    pub(crate) left_delta: i64,
+    pub(crate) right_delta: i64,
+    pub(crate) x: i64,
+    pub(crate) y: i64,
+}
+
+/// Whether the text stands among the bytes at `at`.
+pub(crate) fn stands_at(bytes: &[u8], at: usize, text: &[u8]) -> bool
+    requires { at ≤ length bytes.now }
+    ensures stands { IsTrue result → drop at bytes.now ≡ text.now ++ drop (at + length text.now) bytes.now }
+    ensures within { IsTrue result → at + length text.now ≤ length bytes.now }
+    ensures all { (after : List ℕ) → drop at bytes.now ≡ text.now ++ after → IsTrue result }
+{
+    bytes[at..].starts_with(text)
+}
+
+// The unsigned number at `at`, and the offset after it. One that can't be read counts as 0, which is spelled otherwise.
+pub(crate) fn unsigned_at(bytes: &[u8], at: usize) -> (u64, usize)
+    requires { at ≤ length bytes.now }
+    ensures within { result.1 ≤ length bytes.now }
+    ensures narrow { result.0 < 2 ^ 63 }
+    ensures read { (n : ℕ) (after : List ℕ) → n < 2 ^ 63 → drop at bytes.now ≡ unsigned_text n ++ after
+        → (result.0 ≡ n) × (drop result.1 bytes.now ≡ after) }
+{
+    match unsigned(bytes, at) {
+        Ok(read) => read,
+        Err(_bad) => (0, at),
+    }
+}
+
+// The signed number at `at`, and the offset after it. One that can't be read counts as 0, which is spelled otherwise.
+fn signed_at(bytes: &[u8], at: usize) -> (i64, usize)
+    requires { at ≤ length bytes.now }
+    ensures within { result.1 ≤ length bytes.now }
+    ensures narrow { unsigned_abs result.0 < 2 ^ 62 }
+    ensures read { (z : ℤ) (after : List ℕ) → unsigned_abs z < 2 ^ 62 → drop at bytes.now ≡ signed_text z ++ after
+        → (result.0 ≡ z) × (drop result.1 bytes.now ≡ after) }
+{
+    match signed(bytes, at) {
+        Ok(read) => read,
+        Err(_bad) => (0, at),
+    }
+}
+
+// The delta at `at`, where the record has it, and the offset after it.
+fn delta_at(bytes: &[u8], at: usize, is_there: bool) -> (i64, usize)
+    requires { at ≤ length bytes.now }
+    ensures within { result.1 ≤ length bytes.now }
+    ensures narrow { unsigned_abs result.0 < 2 ^ 62 }
+    ensures read { (z : ℤ) (after : List ℕ) → unsigned_abs z < 2 ^ 62 → (IsTrue is_there ↔ (z ≢ pos 0))
+        → drop at bytes.now ≡ delta_text z ++ after
+        → (result.0 ≡ z) × (drop result.1 bytes.now ≡ after) }
+{
+    if !is_there {
+        return (0, at);
+    }
+    signed_at(bytes, at)
+}
+
+// The byte at `at`.
+fn byte_at(bytes: &[u8], at: usize) -> u8
+    requires { at < length bytes.now }
+    ensures { result ≡ get_or bytes.now at 0 }
+{
+    bytes[at]
+}
+
+// Whether the record of this id has delta a.
+fn has_left(id: u8) -> bool
+    ensures { result ≡ (nat_eq id 23 || nat_eq id 24) }
+{
+    id == TRAPEZOID || id == TRAPEZOID_A
+}
+
+// Whether the record of this id has delta b.
+fn has_right(id: u8) -> bool
+    ensures { result ≡ (nat_eq id 23 || nat_eq id 25) }
+{
+    id == TRAPEZOID || id == TRAPEZOID_B
+}
+
+/// The fields of the record at `at`, as far as they can be read.
+pub(crate) fn fields_at(bytes: &[u8], at: usize) -> Fields
+    requires { at < length bytes.now }
+    ensures narrow { AreNarrow result }
+    ensures read { (l d : ℕ) (z : Trapezoid) (after : List ℕ) → IsNarrowPair l d → IsShot z
+        → drop at bytes.now ≡ spelling_of l d z ++ after → (result.layer ≡ l) × (result.datatype ≡ d) × HasShape result z }
+{
+    let id = byte_at(bytes, at);
+    let left_there = has_left(id);
+    let right_there = has_right(id);
+    let start = (at + 2).min(bytes.len());
+    let (layer, after_layer) = unsigned_at(bytes, start);
+    let (datatype, after_datatype) = unsigned_at(bytes, after_layer);
+    let (width, after_width) = unsigned_at(bytes, after_datatype);
+    let (height, after_height) = unsigned_at(bytes, after_width);
+    let (left_delta, after_left) = delta_at(bytes, after_height, left_there);
+    let (right_delta, after_right) = delta_at(bytes, after_left, right_there);
+    let (x, after_x) = signed_at(bytes, after_right);
+    let (y, _after_y) = signed_at(bytes, after_x);
+    Fields {
+        layer,
+        datatype,
+        width,
+        height,
+        left_delta,
+        right_delta,
+        x,
+        y,
+    }
+}
+
+fn id_for(left_delta: i64, right_delta: i64) -> u8
+    ensures { result ≡ id_for left_delta right_delta }
+{
+    if left_delta == 0 {
+        if right_delta == 0 {
+            RECTANGLE
+        } else {
+            TRAPEZOID_B
+        }
+    } else if right_delta == 0 {
+        TRAPEZOID_A
+    } else {
+        TRAPEZOID
+    }
+}
+
+// Appends a delta, which isn't written where it is 0.
+fn put_delta(spell: &mut Spell, delta: i64)
+    requires narrow { unsigned_abs delta < 2 ^ 62 }
+    requires room { length spell.old + 9 ≤ 80 }
+    ensures value { spell.new ≡ spell.old ++ delta_text delta }
+    ensures size { length spell.new ≤ length spell.old + 9 }
+{
+    if delta != 0 {
+        spell.put_signed(delta);
+    }
+}
+
+/// The one spelling of the fields.
+pub(crate) fn spell_fields(fields: &Fields) -> Spell
+    requires { AreNarrow fields.now }
+    ensures { result ≡ text_of fields.now }
+{
+    let mut spell = Spell::new();
+    spell.push(id_for(fields.left_delta, fields.right_delta));
+    spell.push(INFO);
+    spell.put_unsigned(fields.layer);
+    spell.put_unsigned(fields.datatype);
+    spell.put_unsigned(fields.width);
+    spell.put_unsigned(fields.height);
+    put_delta(&mut spell, fields.left_delta);
+    put_delta(&mut spell, fields.right_delta);
+    spell.put_signed(fields.x);
+    spell.put_signed(fields.y);
+    spell
+}
