@@ -52,7 +52,9 @@ fn reads_one_square(rt: HostRuntime) -> Result<(), Fail> {
 fn refuses_the_first_fault(rt: HostRuntime) -> Result<(), Fail> {
     // The unit's first byte is odd.
     let mut odd = file_of(rt.alloc(), HEAD, SQUARE)?;
-    odd[19] = 0xD1;
+    if let Some(first) = odd.get_mut(19) {
+        *first = 0xD1;
+    }
     assert_eq!(rt; refusal(rt.alloc(), &odd), Some(ShotBad::Head(19)));
     // One byte more than END.
     let mut more = file_of(rt.alloc(), HEAD, SQUARE)?;
