@@ -37,6 +37,7 @@ written_answers b a o n p layout d l (answers.Deck fault) holds le w = w
 written_answers b a o n p layout d l (answers.Layout fault) holds le w = absurd w
 written_answers b a o n p layout d l answers.ReadFault holds le w = absurd w
 written_answers b a o n p layout d l answers.WriteFault holds le w = (Rose-later o.write_faults n.write_faults p.write_faults le w.0, l, holds, (w.1, w.2, w.3))
+written_answers b a o n p layout d l (answers.No place fault) holds le w = absurd w
 written_answers b a o n p layout d l answers.NoMemory holds le (inl e) = inl (left_only b a e)
 written_answers b a o n p layout d l answers.NoMemory holds le (inr part) = inr (l, holds, part)
 
@@ -63,5 +64,6 @@ layout_answers b a o n p layout deck d answers.ReadFault holds reads writes (inl
 layout_answers b a o n p layout deck d answers.ReadFault holds reads writes (inr missing, rest) = (inr (inr (d, holds, missing)), rest)
 layout_answers b a o n p layout deck d answers.WriteFault holds reads writes (rose, l, layout_holds, w) =
     (Rose-later o.write_faults n.write_faults p.write_faults writes rose, d, l, both b layout deck d l holds layout_holds, w)
+layout_answers b a o n p layout deck d (answers.No place fault) holds reads writes w = absurd w
 layout_answers b a o n p layout deck d answers.NoMemory holds reads writes (inl rest) = inl rest
 layout_answers b a o n p layout deck d answers.NoMemory holds reads writes (inr (l, layout_holds, w)) = inr (d, l, both b layout deck d l holds layout_holds, w)

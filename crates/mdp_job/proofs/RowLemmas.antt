@@ -3,12 +3,12 @@ use Rattle.std.proofs.Common.{◌≡◌, ◌≢◌, ◌⊎◌, inl, inr, ℕ, �
 use Rattle.std.specs.Prelude.{IsSomeAnd}
 use Rattle.depot.specs.Content.{Content, held_as, IsNotThere, IsLongerThan}
 use Rattle.depot.proofs.ForCallers.{longer_there}
-use Rattle.mdp_job.specs.Words.{IsFracture}
+use Rattle.mdp_job.specs.Words.{IsFracture, IsShots}
 use Rattle.mdp_job.specs.FirstDeck.{DeckData, IsDeckOf}
 use Rattle.mdp_job.specs.FirstLayout.{LayoutData, IsLayoutOf}
-use Rattle.mdp_job.specs.Answers.{Run, IsAnswer, IsAccepted, IsWanting, HoldsDeck, HoldsLayout, HoldsBoth, RefusesDeck, RefusesLayout, ReadRose, WriteRose}
+use Rattle.mdp_job.specs.Answers.{Run, IsAnswer, IsWanting, HoldsDeck, HoldsLayout, HoldsBoth, RefusesDeck, RefusesLayout, ReadRose, WriteRose}
 use Rattle.mdp_job.specs.Parts.{IsAnswerTo}
-use Rattle.mdp_job.specs.Clauses.{Accepts, DeckEarly, LayoutLong, LayoutEarly, ReadFaults, Spoils}
+use Rattle.mdp_job.specs.Clauses.{DeckLong, DeckEarly, LayoutLong, LayoutEarly}
 use Rattle.mdp_job.specs.declared.status.Status.{Status}
 use Rattle.mdp_job.specs.declared.status.Status.TheVariants as answers
 use Rattle.mdp_job.specs.declared.status.DeckFault.TheVariants as deck_faults
@@ -18,13 +18,13 @@ use Rattle.mdp_job.proofs.DeckUnique.{deck_unique}
 -- ---- facts that exclude one another
 
 -- a name holds one list of bytes
-one_content : (o : Option (List ℕ)) (x y : List ℕ) → o ≡ Some x → o ≡ Some y → x ≡ y
+pub one_content : (o : Option (List ℕ)) (x y : List ℕ) → o ≡ Some x → o ≡ Some y → x ≡ y
 one_content o x y e f = let h : Some x ≡ Some y = sym e ∙ f in cc
 
-there : (o : Option (List ℕ)) (x : List ℕ) → o ≡ Some x → o ≡ None → ⊥
+pub there : (o : Option (List ℕ)) (x : List ℕ) → o ≡ Some x → o ≡ None → ⊥
 there o x e f = let h : Some x ≡ None = sym e ∙ f in let bad : ⊥ = cc in bad
 
-too_long : (limit : ℕ) (c : Content) (name bytes : List ℕ) → IsLongerThan limit c name → held_as c name ≡ Some bytes → length bytes ≤ limit → ⊥
+pub too_long : (limit : ℕ) (c : Content) (name bytes : List ℕ) → IsLongerThan limit c name → held_as c name ≡ Some bytes → length bytes ≤ limit → ⊥
 too_long limit c name bytes long held short =
     let more : limit < length bytes = subst (λ o. IsSomeAnd o (λ b. limit < length b)) held long in
     omega (arith, more, short)
@@ -64,11 +64,16 @@ layout_short c layout d l h long = too_long 268435456 c layout h.bytes long h.he
 same_names : (words : List (List ℕ)) (l d m e : List ℕ) → IsFracture words l d → IsFracture words m e → (l ≡ m) × (d ≡ e)
 same_names words l d m e h k = (let left : l ≡ m = cc in left, let right : d ≡ e = cc in right)
 
-answer_for : (r : Run) (words : List (List ℕ)) (s : Status) → IsAnswerTo r words s → (layout deck : List ℕ) → IsFracture words layout deck → IsAnswer r layout deck s
+-- the words aren't both commands
+pub not_both : (words : List (List ℕ)) (layout deck file : List ℕ) → IsFracture words layout deck → IsShots words file → ⊥
+not_both words layout deck file h k = let bad : ⊥ = cc in bad
+
+pub answer_for : (r : Run) (words : List (List ℕ)) (s : Status) → IsAnswerTo r words s → (layout deck : List ℕ) → IsFracture words layout deck → IsAnswer r layout deck s
 answer_for r words s (inl (l, d, frac, answer)) layout deck is =
     let same = same_names words l d layout deck frac is in
     subst (λ (x : List ℕ). IsAnswer r x deck s) same.0 (subst (λ (y : List ℕ). IsAnswer r l y s) same.1 answer)
-answer_for r words s (inr (none, e, rest)) layout deck is = absurd (none layout deck is)
+answer_for r words s (inr (inl (file, is_shots, answer))) layout deck is = absurd (not_both words layout deck file is is_shots)
+answer_for r words s (inr (inr (none, e, rest))) layout deck is = absurd (none.no_fracture layout deck is)
 
 -- ---- what comes where a cause holds
 
@@ -84,6 +89,7 @@ deck_long_due r layout deck answers.ReadFault (inl rose, rest) long = inr (inr (
 deck_long_due r layout deck answers.ReadFault (inr (inl missing), rest) long = absurd (longer_there 65536 r.before deck missing long)
 deck_long_due r layout deck answers.ReadFault (inr (inr (d, h, missing)), rest) long = absurd (deck_short r.before layout deck d h long)
 deck_long_due r layout deck answers.WriteFault (rose, d, l, b, w) long = absurd (deck_short r.before layout deck d b.holds_deck long)
+deck_long_due r layout deck (answers.No place fault) a long = absurd a
 deck_long_due r layout deck answers.NoMemory a long = inr (inl refl)
 
 deck_early_due : (r : Run) (layout deck : List ℕ) (s : Status) → IsAnswer r layout deck s → RefusesDeck r.before layout deck
@@ -98,6 +104,7 @@ deck_early_due r layout deck answers.ReadFault (inl rose, rest) bad = inr (inr (
 deck_early_due r layout deck answers.ReadFault (inr (inl missing), rest) bad = absurd (there (held_as r.before deck) bad.bytes bad.held missing)
 deck_early_due r layout deck answers.ReadFault (inr (inr (d, h, missing)), rest) bad = absurd (deck_both r.before layout deck d h bad)
 deck_early_due r layout deck answers.WriteFault (rose, d, l, b, w) bad = absurd (deck_both r.before layout deck d b.holds_deck bad)
+deck_early_due r layout deck (answers.No place fault) a bad = absurd a
 deck_early_due r layout deck answers.NoMemory a bad = inr (inl refl)
 
 layout_long_due : (r : Run) (layout deck : List ℕ) (s : Status) → IsAnswer r layout deck s → (d : DeckData) → HoldsDeck r.before layout deck d → IsLongerThan 268435456 r.before layout
@@ -112,6 +119,7 @@ layout_long_due r layout deck answers.ReadFault (inl rose, rest) d h long = inr 
 layout_long_due r layout deck answers.ReadFault (inr (inl missing), rest) d h long = absurd (deck_there r.before layout deck d h missing)
 layout_long_due r layout deck answers.ReadFault (inr (inr (e, k, missing)), rest) d h long = absurd (longer_there 268435456 r.before layout missing long)
 layout_long_due r layout deck answers.WriteFault (rose, e, l, b, w) d h long = absurd (layout_short r.before layout e l b.holds_layout long)
+layout_long_due r layout deck (answers.No place fault) a d h long = absurd a
 layout_long_due r layout deck answers.NoMemory a d h long = inr (inl refl)
 
 layout_early_due : (r : Run) (layout deck : List ℕ) (s : Status) → IsAnswer r layout deck s → (d : DeckData) → HoldsDeck r.before layout deck d → RefusesLayout r.before layout d
@@ -126,9 +134,10 @@ layout_early_due r layout deck answers.ReadFault (inl rose, rest) d h bad = inr 
 layout_early_due r layout deck answers.ReadFault (inr (inl missing), rest) d h bad = absurd (deck_there r.before layout deck d h missing)
 layout_early_due r layout deck answers.ReadFault (inr (inr (e, k, missing)), rest) d h bad = absurd (there (held_as r.before layout) bad.bytes bad.held missing)
 layout_early_due r layout deck answers.WriteFault (rose, e, l, b, w) d h bad = absurd (layout_both r.before layout deck d e l h b bad)
+layout_early_due r layout deck (answers.No place fault) a d h bad = absurd a
 layout_early_due r layout deck answers.NoMemory a d h bad = inr (inl refl)
 
-wanting_due : (r : Run) (layout deck : List ℕ) (s : Status) → IsAnswer r layout deck s → IsWanting r.before layout deck → (s ≡ answers.ReadFault) ⊎ (s ≡ answers.NoMemory)
+pub wanting_due : (r : Run) (layout deck : List ℕ) (s : Status) → IsAnswer r layout deck s → IsWanting r.before layout deck → (s ≡ answers.ReadFault) ⊎ (s ≡ answers.NoMemory)
 wanting_due r layout deck answers.Done (d, l, b, w) (inl missing) = absurd (deck_there r.before layout deck d b.holds_deck missing)
 wanting_due r layout deck answers.Done (d, l, b, w) (inr (e, k, missing)) = absurd (layout_there r.before layout d l b.holds_layout missing)
 wanting_due r layout deck answers.Words a want = absurd a
@@ -143,9 +152,10 @@ wanting_due r layout deck (answers.Layout layout_faults.Early) (d, h, bad, rest)
 wanting_due r layout deck answers.ReadFault a want = inl refl
 wanting_due r layout deck answers.WriteFault (rose, d, l, b, w) (inl missing) = absurd (deck_there r.before layout deck d b.holds_deck missing)
 wanting_due r layout deck answers.WriteFault (rose, d, l, b, w) (inr (e, k, missing)) = absurd (layout_there r.before layout d l b.holds_layout missing)
+wanting_due r layout deck (answers.No place fault) a want = absurd a
 wanting_due r layout deck answers.NoMemory a want = inr refl
 
-done_due : (r : Run) (layout deck : List ℕ) (s : Status) → IsAnswer r layout deck s → (ReadRose r → ⊥) → (WriteRose r → ⊥) → s ≢ answers.NoMemory
+pub done_due : (r : Run) (layout deck : List ℕ) (s : Status) → IsAnswer r layout deck s → (ReadRose r → ⊥) → (WriteRose r → ⊥) → s ≢ answers.NoMemory
     → (d : DeckData) (l : LayoutData) → HoldsBoth r.before layout deck d l → s ≡ answers.Done
 done_due r layout deck answers.Done a reads writes memory d l b = refl
 done_due r layout deck answers.Words a reads writes memory d l b = absurd a
@@ -157,21 +167,15 @@ done_due r layout deck answers.ReadFault (inl rose, rest) reads writes memory d 
 done_due r layout deck answers.ReadFault (inr (inl missing), rest) reads writes memory d l b = absurd (deck_there r.before layout deck d b.holds_deck missing)
 done_due r layout deck answers.ReadFault (inr (inr (e, k, missing)), rest) reads writes memory d l b = absurd (layout_there r.before layout d l b.holds_layout missing)
 done_due r layout deck answers.WriteFault (rose, e, m, k, w) reads writes memory d l b = absurd (writes rose)
+done_due r layout deck (answers.No place fault) a reads writes memory d l b = absurd a
 done_due r layout deck answers.NoMemory a reads writes memory d l b = absurd (memory refl)
 
 -- ---- the rows
 
-accepted_by : (r : Run) (words : List (List ℕ)) (s : Status) → IsAnswerTo r words s → s ≡ answers.Done → IsAccepted words r.before
-accepted_by r words s (inl (layout, deck, is, answer)) e =
-    let a = subst (λ (x : Status). IsAnswer r layout deck x) e answer in
-    (layout, deck, is, a.0, a.1, a.2)
-accepted_by r words s (inr (none, e, rest)) f = let clash : answers.Words ≡ answers.Done = sym e ∙ f in let bad : ⊥ = cc in absurd bad
-
-pub accepts : (r : Run) (words : List (List ℕ)) (s : Status) → IsAnswerTo r words s → Accepts r words s
-accepts r words s table reads writes memory = (
-  λ done. accepted_by r words s table done,
-  λ (layout, deck, is, d, l, b). done_due r layout deck s (answer_for r words s table layout deck is) reads writes memory d l b,
-)
+pub deck_long : (r : Run) (words : List (List ℕ)) (s : Status) → IsAnswerTo r words s → DeckLong r words s
+deck_long r words s table layout deck is =
+    let answer = answer_for r words s table layout deck is in
+    record { only = λ e. (subst (λ (x : Status). IsAnswer r layout deck x) e answer).0; whenever = deck_long_due r layout deck s answer }
 
 pub deck_early : (r : Run) (words : List (List ℕ)) (s : Status) → IsAnswerTo r words s → DeckEarly r words s
 deck_early r words s table layout deck is =
@@ -193,14 +197,3 @@ layout_early r words s table layout deck is =
       only = λ e. let a = subst (λ (x : Status). IsAnswer r layout deck x) e answer in (a.0, a.1, a.2);
       whenever = λ (d, h, bad). layout_early_due r layout deck s answer d h bad;
     }
-
-pub read_faults : (r : Run) (words : List (List ℕ)) (s : Status) → IsAnswerTo r words s → ReadFaults r words s
-read_faults r words s table layout deck is =
-    let answer = answer_for r words s table layout deck is in
-    (λ e. (subst (λ (x : Status). IsAnswer r layout deck x) e answer).0, wanting_due r layout deck s answer)
-
-pub spoils : (r : Run) (words : List (List ℕ)) (s : Status) → IsAnswerTo r words s → Spoils r words s
-spoils r words s table layout deck is (inl e) =
-    let a = subst (λ (x : Status). IsAnswer r layout deck x) e (answer_for r words s table layout deck is) in
-    inr (a.1, a.2, a.3, a.4)
-spoils r words s table layout deck is (inr e) = subst (λ (x : Status). IsAnswer r layout deck x) e (answer_for r words s table layout deck is)

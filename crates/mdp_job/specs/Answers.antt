@@ -53,11 +53,6 @@ pub record HoldsBoth (c : Content) (layout deck : List ℕ) (d : DeckData) (l : 
   pub holds_deck : HoldsDeck c layout deck d
   pub holds_layout : HoldsLayout c layout d l
 
--- words, deck and layout are accepted
-abbrev pub IsAccepted : List (List ℕ) → Content → Type 0
-IsAccepted words c =
-    (layout deck : List ℕ) × IsFracture words layout deck × (d : DeckData) × (l : LayoutData) × HoldsBoth c layout deck d l
-
 -- a name that has to be read isn't there: the deck's, or the layout's where the deck is accepted
 abbrev pub IsWanting : Content → List ℕ → List ℕ → Type 0
 IsWanting c layout deck =
@@ -116,6 +111,7 @@ IsAnswer r layout deck answers.WriteFault =
 IsAnswer r layout deck answers.NoMemory =
     ChangesLeftOnly r.before r.after
     ⊎ ((d : DeckData) × (l : LayoutData) × HoldsBoth r.before layout deck d l × WritesPart r.before r.after d l)
+IsAnswer r layout deck (answers.No place fault) = ⊥
 
 -- ---- the rows of the table, each by itself
 

@@ -10,5 +10,7 @@ pub mod LayoutView
 pub mod Answers
 pub mod Codes
 pub mod Fit
+pub mod Listings
+pub mod Lines
 pub mod Parts
 pub mod Clauses

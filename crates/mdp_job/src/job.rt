@@ -1,22 +1,25 @@
 //! The command `fracture`, and the answers to all words.
 
-ghost use Rattle.std.specs.Prelude.{◌≡◌, ◌≢◌, ◌⊎◌, ◌↔◌, IsTrue, IfSome, IfNone};
+ghost use Rattle.std.specs.Prelude.{◌≡◌, ◌≢◌, ◌⊎◌, ◌↔◌, IsTrue};
 ghost use Rattle.depot.specs.Counts.{NeverFall, Rose};
 ghost use Rattle.depot.specs.Sure.{sure_content, sure_counts};
-ghost use Rattle.depot.specs.declared.whole.Refused.{Refused};
-ghost use Rattle.mdp_job.specs.Answers.{IsAccepted, IsAnswer, texts};
-ghost use Rattle.mdp_job.specs.Clauses.{Covers, Accepts, DeckLong, DeckEarly, LayoutLong, LayoutEarly, ReadFaults, WriteFaults, Spares, Spoils};
-ghost use Rattle.mdp_job.specs.Words.{IsFracture, IsNoCommand};
+ghost use Rattle.mdp_job.specs.Answers.{IsAnswer, texts};
+ghost use Rattle.mdp_job.specs.Clauses.{IsAccepted, Belongs, Covers, Lists, Accepts, DeckLong, DeckEarly, LayoutLong, LayoutEarly, ShotsLong, ShotsBad, ReadFaults, WriteFaults, Says, Spares, Keeps, Spoils};
+ghost use Rattle.mdp_job.specs.Words.{IsNoCommand};
 ghost use Rattle.mdp_job.specs.Fit.{IsFit, IsDeckUnit};
 ghost use Rattle.mdp_job.specs.DeckView.{deck_data};
 ghost use Rattle.mdp_job.specs.LayoutView.{layout_data};
-ghost use Rattle.mdp_job.specs.Parts.{refused_status, IsWritten, IsLayoutAnswer, IsAnswerTo, run_of};
+ghost use Rattle.mdp_job.specs.Parts.{IsWritten, IsLayoutAnswer, IsAnswerTo, run_of};
 
 use crate::first_deck::{FirstDeck, read_first_deck};
 use crate::first_layout::{FirstLayout, read_first_layout};
+use crate::lines::say_line;
+use crate::listing::list_shots;
+use crate::reading::refused_status;
 use crate::status::{DeckFault, LayoutFault, Status};
+use crate::words::{file_word, fracture_names, shots_name};
 use crate::writing::{shots_of, write_file};
-use depot::{Depot, DepotBad, Refused, SureDepot, read_all};
+use depot::{Depot, DepotBad, SureDepot, read_all};
 use geo_stream::NoMemory;
 use std::alloc::Global;
 
@@ -25,17 +28,6 @@ const DECK_LIMIT: usize = 65_536;
 
 /// A layout has at most so many bytes.
 const LAYOUT_LIMIT: usize = 268_435_456;
-
-// The answer to a file that wasn't read, where `long` is that to a file past its limit.
-fn refused_status(refused: Refused, long: Status) -> Status
-    ensures { result ≡ refused_status refused long }
-{
-    match refused {
-        Refused::Fault => Status::ReadFault,
-        Refused::TooLong => long,
-        Refused::NoMemory => Status::NoMemory,
-    }
-}
 
 // Writes the shot file of an accepted layout.
 fn write_shots<D: Depot>(
@@ -111,21 +103,7 @@ fn fracture<D: Depot>(alloc: Global, layout: &str, deck: &str, depot: &mut D) ->
     }
 }
 
-// The names of layout and deck, where the words are `fracture LAYOUT DECK`.
-fn fracture_names(words: &[String]) -> Option<(&str, &str)>
-    ensures some { IfSome result (λ names. IsFracture (texts words.now) names.0.now names.1.now) }
-    ensures none { IfNone result (IsNoCommand (texts words.now)) }
-{
-    if words.len() != 3 {
-        return None;
-    }
-    if words[0].as_str() != "fracture" {
-        return None;
-    }
-    Some((words[1].as_str(), words[2].as_str()))
-}
-
-// The answer, by the table of answers.
+// Does the command, by the table of answers.
 fn answered<D: Depot>(alloc: Global, words: &[String], depot: &mut D) -> Status
     ensures table { IsTrue D.tells → IsAnswerTo
         (run_of (D.content depot.old) (D.content depot.new) (D.counts depot.old) (D.counts depot.new))
@@ -138,22 +116,30 @@ fn answered<D: Depot>(alloc: Global, words: &[String], depot: &mut D) -> Status
         → Rose (D.counts depot.old).read_faults (D.counts depot.new).read_faults ⊎ IsTrue D.tells }
     ensures counted { NeverFall (D.counts depot.old) (D.counts depot.new) }
 {
-    match fracture_names(words) {
-        Some((layout, deck)) => fracture(alloc, layout, deck, depot),
-        None => Status::Words,
+    if let Some((layout, deck)) = fracture_names(words) {
+        return fracture(alloc, layout, deck, depot);
     }
+    if let Some(file) = shots_name(words) {
+        return list_shots(alloc, file, depot);
+    }
+    Status::Words
 }
 
 /// Does what the words say, and answers how it ended. The words don't have the program's own name in them. Today they are
-/// `fracture LAYOUT DECK`: the layout's polygon is cut into shots, which are written to the file that the deck names.
+/// `fracture LAYOUT DECK`, where the layout's polygon is cut into shots which are written to the file that the deck names,
+/// or `shots FILE`, where the shots of a shot file are listed on standard output. An answer other than Done is said in one
+/// line; a failure to say that line changes nothing.
 ///
 /// The clauses on content hold over a depot that tells it. The causes of the two faults hold over every depot.
 pub fn run<D: Depot>(alloc: Global, words: &[String], depot: &mut D) -> Status
     ensures words { (result ≡ Status.Words) ↔ IsNoCommand (texts words.now) }
-    ensures idle { result ≡ Status.Words → depot.new ≡ depot.old }
+    ensures belongs { Belongs (texts words.now) result }
 
-    // After Done: exact cover, and no other name has changed.
+    // After Done: exact cover and no other name has changed, or the listing was said.
     ensures cover { IsTrue D.tells → Covers
+        (run_of (D.content depot.old) (D.content depot.new) (D.counts depot.old) (D.counts depot.new))
+        (texts words.now) result }
+    ensures listed { IsTrue D.tells → Lists
         (run_of (D.content depot.old) (D.content depot.new) (D.counts depot.old) (D.counts depot.new))
         (texts words.now) result }
     // Done comes exactly where the input is accepted.
@@ -174,6 +160,12 @@ pub fn run<D: Depot>(alloc: Global, words: &[String], depot: &mut D) -> Status
     ensures layout_early { IsTrue D.tells → LayoutEarly
         (run_of (D.content depot.old) (D.content depot.new) (D.counts depot.old) (D.counts depot.new))
         (texts words.now) result }
+    ensures shots_long { IsTrue D.tells → ShotsLong
+        (run_of (D.content depot.old) (D.content depot.new) (D.counts depot.old) (D.counts depot.new))
+        (texts words.now) result }
+    ensures shots_bad { IsTrue D.tells → ShotsBad
+        (run_of (D.content depot.old) (D.content depot.new) (D.counts depot.old) (D.counts depot.new))
+        (texts words.now) result }
 
     // The causes of faults: first over a depot that tells, then over every depot.
     ensures read_fault { IsTrue D.tells → ReadFaults
@@ -187,15 +179,23 @@ pub fn run<D: Depot>(alloc: Global, words: &[String], depot: &mut D) -> Status
     ensures write_counted { result ≡ Status.WriteFault
         → Rose (D.counts depot.old).write_faults (D.counts depot.new).write_faults }
 
-    // What refusals and faults leave.
+    // What is said, and what refusals, faults and listings leave.
+    ensures said { IsTrue D.tells → Says
+        (run_of (D.content depot.old) (D.content depot.new) (D.counts depot.old) (D.counts depot.new))
+        (texts words.now) result }
     ensures refusals { IsTrue D.tells → Spares
         (run_of (D.content depot.old) (D.content depot.new) (D.counts depot.old) (D.counts depot.new)) result }
+    ensures keeps { IsTrue D.tells → Keeps
+        (run_of (D.content depot.old) (D.content depot.new) (D.counts depot.old) (D.counts depot.new))
+        (texts words.now) }
     ensures spoiled { IsTrue D.tells → Spoils
         (run_of (D.content depot.old) (D.content depot.new) (D.counts depot.old) (D.counts depot.new))
         (texts words.now) result }
     ensures counted { NeverFall (D.counts depot.old) (D.counts depot.new) }
 {
-    answered(alloc, words, depot)
+    let status = answered(alloc, words, depot);
+    say_line(depot, file_word(words), &status);
+    status
 }
 
 /// Does what the words say over a depot that never fails: the answer is then neither of the two faults, and memory aside

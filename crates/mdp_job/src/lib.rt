@@ -1,5 +1,5 @@
 //! All that the program does: `run` takes the words of a command, reads deck and layout from a depot and
-//! writes the shot files. Today it takes `fracture LAYOUT DECK` for a layout of one polygon.
+//! writes the shot files. Today it takes `fracture LAYOUT DECK` for a layout of one polygon, and `shots FILE`.
 #![tactic(auto)]
 
 mod first_deck;
@@ -7,13 +7,17 @@ mod first_layout;
 mod job;
 mod layout_parts;
 mod layout_points;
+mod lines;
+mod listing;
+mod reading;
 mod row_walk;
 #[cfg(test)]
 mod run_tests;
 mod status;
 #[cfg(test)]
 mod tests;
+mod words;
 mod writing;
 
 pub use job::{run, run_surely};
-pub use status::{DeckFault, LayoutFault, Status};
+pub use status::{CheckFault, DeckFault, LayoutFault, Status};

@@ -1,3 +1,5 @@
+use shot_reader::ShotBad;
+
 /// How a command ended.
 #[derive(Clone, Copy, Debug, PartialEq, Eq)]
 pub enum Status {
@@ -15,6 +17,8 @@ pub enum Status {
     WriteFault,
     /// Memory was wanting.
     NoMemory,
+    /// A shot file was read and is refused. The number is its output's place from 0; it is 0 for `shots`.
+    No(usize, CheckFault),
 }
 
 /// Why a deck is refused.
@@ -35,6 +39,15 @@ pub enum LayoutFault {
     Early,
 }
 
+/// Why a shot file is refused.
+#[derive(Clone, Copy, Debug, PartialEq, Eq)]
+pub enum CheckFault {
+    /// It has more than 268,435,456 bytes.
+    Long,
+    /// It isn't the text of a list of shots. This is its first fault, which is never want of memory.
+    Bad(ShotBad),
+}
+
 impl Status {
     ghost use Rattle.std.specs.Prelude.{◌≡◌};
     ghost use Rattle.mdp_job.specs.Codes.{code_of};
@@ -51,6 +64,7 @@ impl Status {
             Status::ReadFault => 4,
             Status::WriteFault => 5,
             Status::NoMemory => 6,
+            Status::No(_, _) => 7,
         }
     }
 }

@@ -2,7 +2,7 @@ use Rattle.std.proofs.Common.{sym, ◌∙◌, refl}
 use Rattle.std.proofs.lemmas.Bool.{not-false}
 use Rattle.std.specs.Cmp.Lexicographic.{same_text}
 use Rattle.mdp_job.proofs.WordLemmas.{three_texts}
-use Rattle.mdp_job.proofs.job.fracture_names.Goals as goal
+use Rattle.mdp_job.proofs.words.fracture_names.Goals as goal
 
 pub returns-clause-some : goal.returns-clause-some
 returns-clause-some c =

@@ -1,0 +1,66 @@
+-- What the program owes for `shots FILE`: the listing of a shot file that is read, and the cause of each other answer.
+use Rattle.std.specs.Prelude.{◌≡◌, ◌⊎◌, ℕ, ◌≤◌, List, [], length, Option, Some}
+use Rattle.half_grid.specs.Trapezoids.{Trapezoid}
+use Rattle.depot.specs.Content.{Content, held_as, IsNotThere, IsLongerThan, ChangesLeftOnly, with_left, with_said, IsPartSaid}
+use Rattle.layout_model.specs.declared.pair.Pair.{Pair}
+use Rattle.shot_reader.specs.Reading.{IsFileOf}
+use Rattle.shot_reader.specs.Refusals.{IsFirstFault}
+use Rattle.shot_reader.specs.declared.refusing.ShotBad.{ShotBad}
+use Rattle.shot_reader.specs.declared.reading.ShotFile.{ShotFile}
+use Rattle.shot_listing.specs.Listing.{listing}
+use Rattle.mdp_job.specs.Answers.{Run, ReadRose, WriteRose}
+use Rattle.mdp_job.specs.declared.status.Status.{Status}
+use Rattle.mdp_job.specs.declared.status.Status.TheVariants as answers
+use Rattle.mdp_job.specs.declared.status.CheckFault.TheVariants as check_faults
+
+-- what a shot file says
+pub record ShotData : Type 0 where
+  pub unit : ℕ
+  pub pair : Option Pair
+  pub shots : List Trapezoid
+
+-- the lines that are said of it
+abbrev pub listed : ShotData → List ℕ
+listed s = listing s.unit s.pair s.shots
+
+-- the name holds the one text of this unit, this pair and these shots
+pub record HoldsShots (c : Content) (file : List ℕ) (s : ShotData) : Type 0 where
+  pub bytes : List ℕ
+  pub held : held_as c file ≡ Some bytes
+  pub short : length bytes ≤ 268435456
+  pub form : IsFileOf bytes s.unit s.pair s.shots
+
+-- the name holds bytes within the limit with this first fault
+pub record HoldsFault (c : Content) (file : List ℕ) (bad : ShotBad) : Type 0 where
+  pub bytes : List ℕ
+  pub held : held_as c file ≡ Some bytes
+  pub short : length bytes ≤ 268435456
+  pub fault : IsFirstFault bytes bad
+
+-- what holds where the command with this name gives the answer, up to the line of a refusal
+abbrev pub IsListingAnswer : Run → List ℕ → Status → Type 0
+IsListingAnswer r file answers.Done = (s : ShotData) × HoldsShots r.before file s × (r.after ≡ with_said (with_left r.before []) (listed s))
+IsListingAnswer r file answers.Words = ⊥
+IsListingAnswer r file (answers.Deck fault) = ⊥
+IsListingAnswer r file (answers.Layout fault) = ⊥
+IsListingAnswer r file answers.ReadFault = (ReadRose r ⊎ IsNotThere r.before file) × ChangesLeftOnly r.before r.after
+IsListingAnswer r file answers.WriteFault = WriteRose r × (s : ShotData) × HoldsShots r.before file s × IsPartSaid (with_left r.before []) (listed s) r.after
+IsListingAnswer r file answers.NoMemory =
+    ChangesLeftOnly r.before r.after ⊎ ((s : ShotData) × HoldsShots r.before file s × IsPartSaid (with_left r.before []) (listed s) r.after)
+IsListingAnswer r file (answers.No place check_faults.Long) = (place ≡ 0) × IsLongerThan 268435456 r.before file × ChangesLeftOnly r.before r.after
+IsListingAnswer r file (answers.No place (check_faults.Bad bad)) = (place ≡ 0) × HoldsFault r.before file bad × ChangesLeftOnly r.before r.after
+
+-- what a shot file says that was read
+abbrev pub shot_data : ShotFile → ShotData
+shot_data file = record { unit = file.unit; pair = file.pair; shots = file.shots }
+
+-- what holds where saying the listing of an accepted shot file gives the answer
+abbrev pub IsTold : Run → ShotData → Status → Type 0
+IsTold r s answers.Done = r.after ≡ with_said r.before (listed s)
+IsTold r s answers.Words = ⊥
+IsTold r s (answers.Deck fault) = ⊥
+IsTold r s (answers.Layout fault) = ⊥
+IsTold r s answers.ReadFault = ⊥
+IsTold r s answers.WriteFault = WriteRose r × IsPartSaid r.before (listed s) r.after
+IsTold r s answers.NoMemory = IsPartSaid r.before (listed s) r.after
+IsTold r s (answers.No place fault) = ⊥
