@@ -20,7 +20,7 @@ pub record IsLeft (l d : ℕ) (zs : List Trapezoid) (pair : Option Pair) (shots 
   pub agrees : Agrees pair l d
   pub text : bytes ≡ body l d others
 
-unit_small : (u : ℕ) → IsUnit u → u < 2 ^ 63
+pub unit_small : (u : ℕ) → IsUnit u → u < 2 ^ 63
 unit_small u h = omega (arith, h.few)
 
 text_parts : (u l d : ℕ) (zs : List Trapezoid) → shot_text u l d zs ≡ head u ++ body l d zs
