@@ -38,7 +38,7 @@ delta_peel n m x y s h g e =
     delta_peel_by (int_eq n (pos 0)) (int_eq m (pos 0)) n m x y s (Decides-int_eq n (pos 0)).0 (Decides-int_eq m (pos 0)).0 h g e
 
 -- the id, by whether the deltas are 0
-abbrev id_of : Bool → Bool → ℕ
+abbrev pub id_of : Bool → Bool → ℕ
 id_of p q = cond p (cond q 20 25) (cond q 24 23)
 
 -- an id says which deltas are 0
@@ -60,8 +60,11 @@ id_by false false true false e = absurd (omega arith)
 id_by false false false true e = absurd (omega arith)
 id_by false false false false e = (refl, refl)
 
+pub id_tests : (a b c d : ℤ) → id_of (int_eq a (pos 0)) (int_eq b (pos 0)) ≡ id_of (int_eq c (pos 0)) (int_eq d (pos 0)) → (int_eq a (pos 0) ≡ int_eq c (pos 0)) × (int_eq b (pos 0) ≡ int_eq d (pos 0))
+id_tests a b c d e = id_by (int_eq a (pos 0)) (int_eq b (pos 0)) (int_eq c (pos 0)) (int_eq d (pos 0)) e
+
 pub id_names : (y z : Trapezoid) → record_id y ≡ record_id z → (int_eq (left_delta y) (pos 0) ≡ int_eq (left_delta z) (pos 0)) × (int_eq (right_delta y) (pos 0) ≡ int_eq (right_delta z) (pos 0))
-id_names y z e = id_by (int_eq (left_delta y) (pos 0)) (int_eq (right_delta y) (pos 0)) (int_eq (left_delta z) (pos 0)) (int_eq (right_delta z) (pos 0)) e
+id_names y z e = id_tests (left_delta y) (right_delta y) (left_delta z) (right_delta z) e
 
 not_end_by : (p q : Bool) → id_of p q ≡ 2 → ⊥
 not_end_by true true e = omega arith

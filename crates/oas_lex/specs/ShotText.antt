@@ -1,11 +1,17 @@
 -- The one text of a shot file: an OASIS file (SEMI P39 1.0) in half units with one cell SHOTS and one RECTANGLE or
 -- TRAPEZOID record a shot, each with all its fields and each number in its shortest spelling.
-use Rattle.std.specs.Prelude.{ℕ, ℤ, pos, ◌-ℤ◌, List, [], ◌∷◌, ◌++◌, replicate, flat_map, codes, unsigned_abs, if◌then◌else◌}
+use Rattle.std.specs.Prelude.{ℕ, ◌≡◌, ◌≤◌, ◌*◌, ◌%◌, ℤ, pos, ◌-ℤ◌, List, [], ◌∷◌, ◌++◌, replicate, flat_map, codes, unsigned_abs, if◌then◌else◌}
 use Rattle.std.specs.Ordering.{int_eq}
 use Rattle.std.specs.Int.{int_min}
 use Rattle.half_grid.specs.Lines.{x_on}
 use Rattle.half_grid.specs.Trapezoids.{Trapezoid, box_width}
 use Rattle.oas_lex.specs.Spelling.{unsigned_text, signed_text}
+
+-- how many half units a micron has: twice a number of grid steps from 1 to a million
+pub record IsUnit (unit : ℕ) : Type 0 where
+  pub even : unit % 2 ≡ 0
+  pub some : 2 ≤ unit
+  pub few : unit ≤ 2 * 1000000
 
 -- `%SEMI-OASIS`, CR, LF
 abbrev pub magic : List ℕ

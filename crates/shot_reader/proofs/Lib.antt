@@ -1,6 +1,9 @@
-mod Places
-mod Shapes
-mod Texts
-mod Nears
-mod Ids
-mod Rests
+pub mod Places
+pub mod Shapes
+pub mod Texts
+pub mod Nears
+pub mod Ids
+pub mod Rests
+pub mod Ends
+pub mod Names
+pub mod Faults

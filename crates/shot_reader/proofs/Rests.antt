@@ -4,10 +4,9 @@ use Rattle.std.proofs.lemmas.List.{append-nil, flat_map_more}
 use Rattle.std.specs.Prelude.{All, flat_map}
 use Rattle.half_grid.specs.Trapezoids.{Trapezoid, IsShot}
 use Rattle.layout_model.specs.declared.pair.Pair.{Pair}
-use Rattle.oas_lex.specs.ShotText.{head, record_id, spelling_of, shot_text, end}
-use Rattle.oas_lex.proofs.ForCallers.{head_peel, spelling_is, not_end}
-use Rattle.oas_lex.proofs.Peels.{fields_of}
-use Rattle.shot_reader.specs.Reading.{Agrees, IsUnit, IsPairOf, IsFileOf, records_with}
+use Rattle.oas_lex.specs.ShotText.{IsUnit, head, record_id, spelling_of, shot_text, end}
+use Rattle.oas_lex.proofs.ForCallers.{head_peel, spelling_is, not_end, fields_of}
+use Rattle.shot_reader.specs.Reading.{Agrees, IsPairOf, IsFileOf, records_with}
 
 -- what follows the head
 abbrev pub body : ℕ → ℕ → List Trapezoid → List ℕ
@@ -21,7 +20,7 @@ pub record IsLeft (l d : ℕ) (zs : List Trapezoid) (pair : Option Pair) (shots 
   pub agrees : Agrees pair l d
   pub text : bytes ≡ body l d others
 
-unit_small : (u : ℕ) → IsUnit u → u < 2 ^ 63
+pub unit_small : (u : ℕ) → IsUnit u → u < 2 ^ 63
 unit_small u h = omega (arith, h.few)
 
 text_parts : (u l d : ℕ) (zs : List Trapezoid) → shot_text u l d zs ≡ head u ++ body l d zs

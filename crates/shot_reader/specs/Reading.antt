@@ -1,16 +1,10 @@
 -- What a shot file says: how many half units a micron has, the layer and the datatype of its records, and the shots. It
 -- says a pair exactly where it has shots.
-use Rattle.std.specs.Prelude.{ℕ, ◌≡◌, ◌≢◌, ◌*◌, ◌%◌, ◌≤◌, List, [], Option, Some, None, flat_map}
+use Rattle.std.specs.Prelude.{ℕ, ◌≡◌, ◌≢◌, List, [], Option, Some, None, flat_map}
 use Rattle.half_grid.specs.Trapezoids.{Trapezoid}
 use Rattle.layout_model.specs.declared.pair.Pair.{Pair}
 use Rattle.oas_lex.specs.ShotLaws.{IsNarrowPair}
-use Rattle.oas_lex.specs.ShotText.{spelling_of, shot_text}
-
--- how many half units a micron has: twice a number of grid steps from 1 to a million
-pub record IsUnit (unit : ℕ) : Type 0 where
-  pub even : unit % 2 ≡ 0
-  pub some : 2 ≤ unit
-  pub few : unit ≤ 2 * 1000000
+use Rattle.oas_lex.specs.ShotText.{IsUnit, spelling_of, shot_text}
 
 -- the pair of the records of these shots: none where there are no shots
 abbrev pub IsPairOf : Option Pair → List Trapezoid → Type 0

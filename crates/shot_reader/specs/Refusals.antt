@@ -11,9 +11,9 @@ use Rattle.std.specs.List.{concat}
 use Rattle.half_grid.specs.Trapezoids.{Trapezoid, IsShot}
 use Rattle.layout_model.specs.declared.pair.Pair.{Pair}
 use Rattle.oas_lex.specs.ShotLaws.{IsNarrowPair}
-use Rattle.oas_lex.specs.ShotText.{head, end, spelling_of}
+use Rattle.oas_lex.specs.ShotText.{IsUnit, head, end, spelling_of}
 use Rattle.shot_reader.specs.Fields.{HasShape, AreNarrow, text_of}
-use Rattle.shot_reader.specs.Reading.{IsUnit, IsPairOf, Agrees}
+use Rattle.shot_reader.specs.Reading.{IsPairOf, Agrees}
 use Rattle.shot_reader.specs.declared.fields.Fields.{Fields}
 use Rattle.shot_reader.specs.declared.refusing.ShotBad.{ShotBad}
 use Rattle.shot_reader.specs.declared.refusing.ShotBad.TheVariants as faults

@@ -1,7 +1,6 @@
 //! The head of a shot file.
 ghost use Rattle.std.specs.Prelude.{◌≡◌, ◌++◌, ◌≤◌, ℕ, List, length, drop, IfSome, IsSome};
-ghost use Rattle.oas_lex.specs.ShotText.{head};
-ghost use Rattle.shot_reader.specs.Reading.{IsUnit};
+ghost use Rattle.oas_lex.specs.ShotText.{IsUnit, head};
 
 use crate::fields::{stands_at, unsigned_at};
 use oas_lex::head_text;

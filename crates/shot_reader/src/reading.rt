@@ -1,9 +1,9 @@
 //! The whole file.
 ghost use Rattle.std.specs.Prelude.{◌≡◌, ◌≢◌, ◌++◌, ◌<◌, ◌≤◌, ℕ, List as Items, [], ◌∷◌, length, drop, All, flat_map, IsTrue, ◌↔◌, IfOk, IfErr, IsOkAnd};
 ghost use Rattle.half_grid.specs.Trapezoids.{Trapezoid, IsShot};
-ghost use Rattle.oas_lex.specs.ShotText.{spelling_of, shot_text, end};
+ghost use Rattle.oas_lex.specs.ShotText.{IsUnit, spelling_of, shot_text, end};
 ghost use Rattle.oas_lex.specs.ShotLaws.{IsNarrowPair};
-ghost use Rattle.shot_reader.specs.Reading.{IsUnit, IsPairOf, Agrees, IsFileOf, IsReadSo};
+ghost use Rattle.shot_reader.specs.Reading.{IsPairOf, Agrees, IsFileOf, IsReadSo};
 
 use crate::corners::trap_of;
 use crate::fields::{fields_at, spell_fields, stands_at};

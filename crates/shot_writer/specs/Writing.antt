@@ -1,6 +1,6 @@
 -- A shot file is its head, the records of its shots in order, and its end. Shots are put bit by bit: each piece of the
 -- list appends its records. What is summed up are the shots and their triangles.
-use Rattle.std.specs.Prelude.{ℕ, ◌≡◌, ◌+◌, ◌*◌, ◌%◌, ◌≤◌, ◌-ℤ◌, ◌+ℤ◌, ◌*ℤ◌, List, ◌++◌, length, flat_map, sum_by, unsigned_abs}
+use Rattle.std.specs.Prelude.{ℕ, ◌≡◌, ◌+◌, ◌-ℤ◌, ◌+ℤ◌, ◌*ℤ◌, List, ◌++◌, length, flat_map, sum_by, unsigned_abs}
 use Rattle.depot.specs.Content.{Content, with_written}
 use Rattle.half_grid.specs.Trapezoids.{Trapezoid, bottom_of, top_of}
 use Rattle.oas_lex.specs.ShotText.{spelling_of}
@@ -27,12 +27,6 @@ no_sums = record { shots = 0; triangles = 0 }
 pub record AreSumsAfter (before : Sums) (items : List Trapezoid) (sums : Sums) : Type 0 where
   pub shots : sums.shots ≡ before.shots + length items
   pub triangles : sums.triangles ≡ before.triangles + triangles_of items
-
--- how many half units a micron has: twice a number of grid steps from 1 to a million
-pub record IsUnit (unit : ℕ) : Type 0 where
-  pub even : unit % 2 ≡ 0
-  pub some : 2 ≤ unit
-  pub few : unit ≤ 2 * 1000000
 
 -- of these bytes all were written but the last, which are held back
 pub record IsWrittenButFor (before : Content) (bytes held : List ℕ) (now : Content) : Type 0 where

@@ -6,8 +6,8 @@ ghost use Rattle.depot.specs.declared.outside.DepotBad.{DepotBad as Bad};
 ghost use Rattle.depot.specs.declared.outside.DepotBad.TheVariants.{Failed, NoMemory};
 ghost use Rattle.geo_stream.specs.Stream.{HasList};
 ghost use Rattle.half_grid.specs.Trapezoids.{Trapezoid};
-ghost use Rattle.oas_lex.specs.ShotText.{head as head_of, end};
-ghost use Rattle.shot_writer.specs.Writing.{triangles_of, records_of, StandsForSuffix, AreSumsAfter, IsUnit, no_sums};
+ghost use Rattle.oas_lex.specs.ShotText.{IsUnit, head as head_of, end};
+ghost use Rattle.shot_writer.specs.Writing.{triangles_of, records_of, StandsForSuffix, AreSumsAfter, no_sums};
 
 use crate::parts::{Head, Sums};
 use crate::pouring::pour;

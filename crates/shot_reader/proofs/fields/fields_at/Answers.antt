@@ -3,8 +3,7 @@ use Rattle.std.proofs.lemmas.Int.{to_z-of_z}
 use Rattle.std.proofs.lemmas.List.{drop-drop, length-drop}
 use Rattle.half_grid.specs.Trapezoids.{box_width}
 use Rattle.oas_lex.specs.ShotText.{record_id, left_delta, right_delta, least_x}
-use Rattle.oas_lex.proofs.ForCallers.{left_narrow, right_narrow, x_narrow, width_narrow, rows_narrow, bottom_narrow, spelling_is}
-use Rattle.oas_lex.proofs.Peels.{fields_of}
+use Rattle.oas_lex.proofs.ForCallers.{left_narrow, right_narrow, x_narrow, width_narrow, rows_narrow, bottom_narrow, spelling_is, fields_of}
 use Rattle.shot_reader.proofs.Ids.{byte_is, left_there, right_there}
 use Rattle.shot_reader.proofs.fields.fields_at.Goals as goal
 

@@ -1,0 +1,189 @@
+-- Bytes have one first fault at most, and a shot file has none.
+use Rattle.std.proofs.Common.{◌≡◌, ◌≢◌, ◌⊎◌, ℕ, suc, ◌<◌, ◌≤◌, ◌^◌, ◌*◌, Option, Some, None, List, [], ◌∷◌, ◌++◌, length, take, drop, append_assoc, refl, arith, ap, sym, subst, ◌∙◌, inl, inr}
+use Rattle.std.proofs.lemmas.List.{append_cancel_left, take-append-drop, length-drop}
+use Rattle.std.specs.Prelude.{All, flat_map}
+use Rattle.half_grid.specs.Trapezoids.{Trapezoid, IsShot}
+use Rattle.layout_model.specs.declared.pair.Pair.{Pair}
+use Rattle.oas_lex.specs.ShotText.{IsUnit, head, record_id, spelling_of, shot_text, end}
+use Rattle.oas_lex.specs.ShotLaws.{IsNarrowPair}
+use Rattle.oas_lex.proofs.ForCallers.{head_peel, record_names}
+use Rattle.shot_reader.specs.declared.fields.Fields.{Fields}
+use Rattle.shot_reader.specs.declared.refusing.ShotBad.{ShotBad}
+use Rattle.shot_reader.specs.declared.refusing.ShotBad.TheVariants as faults
+use Rattle.shot_reader.specs.Fields.{HasShape, AreNarrow, text_of}
+use Rattle.shot_reader.specs.Reading.{Agrees, IsPairOf, IsFileOf}
+use Rattle.shot_reader.specs.Refusals.{BeginsHead, IsHeadFault, IsWhole, IsSpelled, BeginsEnd, IsRecordFault, IsReadUpTo, IsFirstFault}
+use Rattle.shot_reader.proofs.Ends.{whole_not_end}
+use Rattle.shot_reader.proofs.Names.{fields_of, text_names, text_whole, shot_shape, shot_text_is, shot_narrow}
+use Rattle.shot_reader.proofs.Rests.{unit_small, body, text_head}
+
+-- ---- at one record
+
+spelled_whole : (first : Option Pair) (rest : List ℕ) (f : Fields) → IsSpelled first rest f → IsWhole rest
+spelled_whole first rest f s = text_whole f rest s.after s.narrow s.text
+
+whole_apart : (rest : List ℕ) → IsWhole rest → BeginsEnd rest → ⊥
+whole_apart rest w e = whole_not_end rest e.0 w e.1
+
+pub record_one : (first : Option Pair) (rest : List ℕ) (at : ℕ) (bad other : ShotBad) → IsRecordFault first rest at bad → IsRecordFault first rest at other → bad ≡ other
+record_one first rest at bad other (inl a) (inl b) = a.0 ∙ sym b.0
+record_one first rest at bad other (inl a) (inr (inl b)) = absurd (b.1 a.1)
+record_one first rest at bad other (inl a) (inr (inr (inl b))) = absurd (whole_apart rest b.1 a.1)
+record_one first rest at bad other (inl a) (inr (inr (inr b))) = absurd (whole_apart rest (spelled_whole first rest b.1.0 b.1.1) a.1)
+record_one first rest at bad other (inr (inl a)) (inl b) = absurd (a.1 b.1)
+record_one first rest at bad other (inr (inl a)) (inr (inl b)) = a.0 ∙ sym b.0
+record_one first rest at bad other (inr (inl a)) (inr (inr (inl b))) = absurd (a.2 b.1)
+record_one first rest at bad other (inr (inl a)) (inr (inr (inr b))) = absurd (a.2 (spelled_whole first rest b.1.0 b.1.1))
+record_one first rest at bad other (inr (inr (inl a))) (inl b) = absurd (whole_apart rest a.1 b.1)
+record_one first rest at bad other (inr (inr (inl a))) (inr (inl b)) = absurd (b.2 a.1)
+record_one first rest at bad other (inr (inr (inl a))) (inr (inr (inl b))) = a.0 ∙ sym b.0
+record_one first rest at bad other (inr (inr (inl a))) (inr (inr (inr b))) = absurd (a.2 b.1.0 b.1.1)
+record_one first rest at bad other (inr (inr (inr a))) (inl b) = absurd (whole_apart rest (spelled_whole first rest a.1.0 a.1.1) b.1)
+record_one first rest at bad other (inr (inr (inr a))) (inr (inl b)) = absurd (b.2 (spelled_whole first rest a.1.0 a.1.1))
+record_one first rest at bad other (inr (inr (inr a))) (inr (inr (inl b))) = absurd (b.2 a.1.0 a.1.1)
+record_one first rest at bad other (inr (inr (inr a))) (inr (inr (inr b))) = a.0 ∙ sym b.0
+
+-- ---- where the records end
+
+-- no record of a shot with this pair begins here
+abbrev Stops : ℕ → ℕ → List ℕ → Type 0
+Stops l d rest = (z : Trapezoid) (after : List ℕ) → IsShot z → rest ≡ spelling_of l d z ++ after → ⊥
+
+-- a shot's record is spelled, and by its fields alone
+shot_spelled : (first : Option Pair) (l d : ℕ) (z : Trapezoid) (rest after : List ℕ) → IsNarrowPair l d → IsShot z → Agrees first l d → rest ≡ spelling_of l d z ++ after → IsSpelled first rest (fields_of l d z)
+shot_spelled first l d z rest after p h g e = record {
+  narrow = shot_narrow l d z p h;
+  agrees = g;
+  after = after;
+  text = e ∙ ap (λ (t : List ℕ). t ++ after) (sym (shot_text_is l d z));
+}
+
+spelled_shape : (first : Option Pair) (l d : ℕ) (z : Trapezoid) (rest : List ℕ) (f : Fields) → IsSpelled first rest (fields_of l d z) → IsSpelled first rest f → HasShape f z
+spelled_shape first l d z rest f s t =
+    let same = text_names (fields_of l d z) f s.after t.after s.narrow t.narrow (sym s.text ∙ t.text) in
+    subst (λ (g : Fields). HasShape g z) same.0 (shot_shape l d z)
+
+fault_stops : (first : Option Pair) (l d : ℕ) (rest : List ℕ) (at : ℕ) (bad : ShotBad) → IsNarrowPair l d → Agrees first l d → IsRecordFault first rest at bad → Stops l d rest
+fault_stops first l d rest at bad p g (inl a) = λ z after h e. whole_apart rest (spelled_whole first rest (fields_of l d z) (shot_spelled first l d z rest after p h g e)) a.1
+fault_stops first l d rest at bad p g (inr (inl a)) = λ z after h e. a.2 (spelled_whole first rest (fields_of l d z) (shot_spelled first l d z rest after p h g e))
+fault_stops first l d rest at bad p g (inr (inr (inl a))) = λ z after h e. a.2 (fields_of l d z) (shot_spelled first l d z rest after p h g e)
+fault_stops first l d rest at bad p g (inr (inr (inr a))) = λ z after h e. a.1.2 z h (spelled_shape first l d z rest a.1.0 (shot_spelled first l d z rest after p h g e) a.1.1)
+
+end_stops : (l d : ℕ) (rest : List ℕ) → IsNarrowPair l d → rest ≡ end → Stops l d rest
+end_stops l d rest p e z after h f =
+    whole_not_end rest _ (spelled_whole None rest (fields_of l d z) (shot_spelled None l d z rest after p h tt f)) e
+
+more : (l d : ℕ) (z : Trapezoid) (zs : List Trapezoid) (x : List ℕ) → flat_map (spelling_of l d) (z ∷ zs) ++ x ≡ spelling_of l d z ++ (flat_map (spelling_of l d) zs ++ x)
+more l d z zs x = append_assoc (spelling_of l d z) (flat_map (spelling_of l d) zs) x
+
+tail : (z : Trapezoid) (zs : List Trapezoid) → All IsShot (z ∷ zs) → All IsShot zs
+tail z zs h = λ k x below. h (suc k) x (omega arith)
+
+meet : (l d : ℕ) (ys zs : List Trapezoid) (x y : List ℕ) → IsNarrowPair l d → All IsShot ys → All IsShot zs → Stops l d x → Stops l d y
+    → flat_map (spelling_of l d) ys ++ x ≡ flat_map (spelling_of l d) zs ++ y → (ys ≡ zs) × (x ≡ y)
+meet l d [] [] x y p h g s t e = (refl, e)
+meet l d [] (z ∷ zs) x y p h g s t e = absurd (s z (flat_map (spelling_of l d) zs ++ y) (g 0 z (omega arith)) (e ∙ more l d z zs y))
+meet l d (z ∷ ys) [] x y p h g s t e = absurd (t z (flat_map (spelling_of l d) ys ++ x) (h 0 z (omega arith)) (sym e ∙ more l d z ys x))
+meet l d (v ∷ ys) (z ∷ zs) x y p h g s t e =
+    let one = record_names l d l d v z (flat_map (spelling_of l d) ys ++ x) (flat_map (spelling_of l d) zs ++ y) p p (h 0 v (omega arith)) (g 0 z (omega arith)) (sym (more l d v ys x) ∙ (e ∙ more l d z zs y)) in
+    let rest = meet l d ys zs x y p (tail v ys h) (tail z zs g) s t one.3 in
+    (ap (λ (w : Trapezoid). w ∷ ys) one.2 ∙ ap (λ (ws : List Trapezoid). z ∷ ws) rest.0, rest.1)
+
+-- ---- one reading of the bytes
+
+-- nothing of a shot's record with a pair that may stand next begins here
+abbrev pub Ends : Option Pair → List ℕ → Type 0
+Ends first rest = (l d : ℕ) → IsNarrowPair l d → Agrees first l d → Stops l d rest
+
+same_records : (l d m e : ℕ) (zs : List Trapezoid) (y : List ℕ) → l ≡ m → d ≡ e → flat_map (spelling_of m e) zs ++ y ≡ flat_map (spelling_of l d) zs ++ y
+same_records l d m e zs y p q = rw (p, q) refl
+
+agrees_too : (other : Option Pair) (l d m e : ℕ) → l ≡ m → d ≡ e → Agrees other m e → Agrees other l d
+agrees_too other l d m e p q h = rw (p, q) h
+
+-- the records of both, and what follows them
+record Same (l d m e : ℕ) (ys zs : List Trapezoid) (x y : List ℕ) : Type 0 where
+  shots : ys ≡ zs
+  rest : x ≡ y
+  layer : ys ≢ [] → l ≡ m
+  datatype : ys ≢ [] → d ≡ e
+
+meet_pairs : (l d m e : ℕ) (first other : Option Pair) (ys zs : List Trapezoid) (x y : List ℕ) → IsNarrowPair l d → IsNarrowPair m e → All IsShot ys → All IsShot zs
+    → IsPairOf first ys → IsPairOf other zs → Agrees first l d → Agrees other m e → Ends first x → Ends other y
+    → flat_map (spelling_of l d) ys ++ x ≡ flat_map (spelling_of m e) zs ++ y → Same l d m e ys zs x y
+meet_pairs l d m e first other [] [] x y p q h g i j a b s t w = record { shots = refl; rest = w; layer = λ n. absurd (n refl); datatype = λ n. absurd (n refl) }
+meet_pairs l d m e None other [] (z ∷ zs) x y p q h g i j a b s t w = absurd (s m e q tt z (flat_map (spelling_of m e) zs ++ y) (g 0 z (omega arith)) (w ∙ more m e z zs y))
+meet_pairs l d m e (Some r) other [] (z ∷ zs) x y p q h g i j a b s t w = absurd (i.0 refl)
+meet_pairs l d m e first None (z ∷ ys) [] x y p q h g i j a b s t w = absurd (t l d p tt z (flat_map (spelling_of l d) ys ++ x) (h 0 z (omega arith)) (sym w ∙ more l d z ys x))
+meet_pairs l d m e first (Some r) (z ∷ ys) [] x y p q h g i j a b s t w = absurd (j.0 refl)
+meet_pairs l d m e first other (v ∷ ys) (z ∷ zs) x y p q h g i j a b s t w =
+    let one = record_names l d m e v z (flat_map (spelling_of l d) ys ++ x) (flat_map (spelling_of m e) zs ++ y) p q (h 0 v (omega arith)) (g 0 z (omega arith)) (sym (more l d v ys x) ∙ (w ∙ more m e z zs y)) in
+    let rest = meet l d ys zs x y p (tail v ys h) (tail z zs g) (s l d p a) (t l d p (agrees_too other l d m e one.0 one.1 b)) (one.3 ∙ same_records l d m e zs y one.0 one.1) in
+    record {
+      shots = ap (λ (c : Trapezoid). c ∷ ys) one.2 ∙ ap (λ (ws : List Trapezoid). z ∷ ws) rest.0;
+      rest = rest.1;
+      layer = λ n. one.0;
+      datatype = λ n. one.1;
+    }
+
+pair : ℕ → ℕ → Pair
+pair layer datatype = record { layer = layer; datatype = datatype }
+
+pair_by : (a b c d : ℕ) → a ≡ c → b ≡ d → pair a b ≡ pair c d
+pair_by a b c d p q = rw (p, q) refl
+
+same_pair : (p q : Pair) → p.layer ≡ q.layer → p.datatype ≡ q.datatype → p ≡ q
+unfolding pair
+same_pair p q a b = pair_by p.layer p.datatype q.layer q.datatype a b
+
+pair_one : (l d m e : ℕ) (first other : Option Pair) (ys zs : List Trapezoid) (x y : List ℕ) → IsPairOf first ys → IsPairOf other zs → Agrees first l d → Agrees other m e → Same l d m e ys zs x y → first ≡ other
+pair_one l d m e None None ys zs x y i j a b s = refl
+pair_one l d m e None (Some q) ys zs x y i j a b s = absurd (j.0 (sym s.shots ∙ i))
+pair_one l d m e (Some p) None ys zs x y i j a b s = absurd (i.0 (s.shots ∙ j))
+pair_one l d m e (Some p) (Some q) ys zs x y i j a b s = ap Some (same_pair p q (a.0 ∙ (s.layer i.0 ∙ sym b.0)) (a.1 ∙ (s.datatype i.0 ∙ sym b.1)))
+
+pub up_whole : (bytes : List ℕ) (at : ℕ) (first : Option Pair) (u : IsReadUpTo bytes at first) → bytes ≡ head u.unit ++ (flat_map (spelling_of u.layer u.datatype) u.shots ++ drop at bytes)
+up_whole bytes at first u =
+    sym (take-append-drop at bytes) ∙ (ap (λ (t : List ℕ). t ++ drop at bytes) u.text ∙ append_assoc (head u.unit) (flat_map (spelling_of u.layer u.datatype) u.shots) (drop at bytes))
+
+up_same : (bytes : List ℕ) (at to : ℕ) (first other : Option Pair) (u : IsReadUpTo bytes at first) (v : IsReadUpTo bytes to other) → Ends first (drop at bytes) → Ends other (drop to bytes)
+    → Same u.layer u.datatype v.layer v.datatype u.shots v.shots (drop at bytes) (drop to bytes)
+up_same bytes at to first other u v s t =
+    let rest = head_peel u.unit v.unit (flat_map (spelling_of u.layer u.datatype) u.shots ++ drop at bytes) (flat_map (spelling_of v.layer v.datatype) v.shots ++ drop to bytes) (unit_small u.unit u.unit_fits) (unit_small v.unit v.unit_fits)
+    (sym (up_whole bytes at first u) ∙ up_whole bytes to other v) in
+    meet_pairs u.layer u.datatype v.layer v.datatype first other u.shots v.shots (drop at bytes) (drop to bytes) u.narrow v.narrow u.legal v.legal u.pair_fits v.pair_fits u.agrees v.agrees s t rest.1
+
+fault_ends : (first : Option Pair) (rest : List ℕ) (at : ℕ) (bad : ShotBad) → IsRecordFault first rest at bad → Ends first rest
+fault_ends first rest at bad f l d p g = fault_stops first l d rest at bad p g f
+
+-- ---- at the whole file
+
+at_one : (bytes : List ℕ) (at to : ℕ) → at ≤ length bytes → to ≤ length bytes → drop at bytes ≡ drop to bytes → to ≡ at
+at_one bytes at to h g e = omega (arith, length-drop at bytes, length-drop to bytes, ap length e)
+
+pub one_fault : (bytes : List ℕ) (bad other : ShotBad) → IsFirstFault bytes bad → IsFirstFault bytes other → bad ≡ other
+one_fault bytes bad other (inl a) (inl b) =
+    let same : a.0 ≡ b.0 = omega (arith, b.2.longest a.0 a.2.begins, a.2.longest b.0 b.2.begins) in
+    a.1 ∙ (ap faults.Head same ∙ sym b.1)
+one_fault bytes bad other (inl a) (inr b) = absurd (a.2.no_head b.2.unit _ b.2.unit_fits (up_whole bytes b.0 b.1 b.2))
+one_fault bytes bad other (inr a) (inl b) = absurd (b.2.no_head a.2.unit _ a.2.unit_fits (up_whole bytes a.0 a.1 a.2))
+one_fault bytes bad other (inr a) (inr b) =
+    let same = up_same bytes a.0 b.0 a.1 b.1 a.2 b.2 (fault_ends a.1 (drop a.0 bytes) a.0 bad a.3) (fault_ends b.1 (drop b.0 bytes) b.0 other b.3) in
+    let pairs : b.1 ≡ a.1 = sym (pair_one a.2.layer a.2.datatype b.2.layer b.2.datatype a.1 b.1 a.2.shots b.2.shots (drop a.0 bytes) (drop b.0 bytes) a.2.pair_fits b.2.pair_fits a.2.agrees b.2.agrees same) in
+    let place : b.0 ≡ a.0 = at_one bytes a.0 b.0 a.2.within b.2.within same.rest in
+    let moved = subst (λ (n : ℕ). IsRecordFault b.1 (drop n bytes) n other) place b.3 in
+    let own = subst (λ (p : Option Pair). IsRecordFault p (drop a.0 bytes) a.0 other) pairs moved in
+    record_one a.1 (drop a.0 bytes) a.0 bad other a.3 own
+
+end_right : (first : Option Pair) (rest : List ℕ) (at : ℕ) (bad : ShotBad) → rest ≡ end → IsRecordFault first rest at bad → ⊥
+end_right first rest at bad e (inl a) = a.2 e
+end_right first rest at bad e (inr (inl a)) = a.1 (_, e)
+end_right first rest at bad e (inr (inr (inl a))) = whole_apart rest a.1 (_, e)
+end_right first rest at bad e (inr (inr (inr a))) = whole_apart rest (spelled_whole first rest a.1.0 a.1.1) (_, e)
+
+-- bytes that were read up to END have no fault
+pub no_fault : (bytes : List ℕ) (at : ℕ) (first : Option Pair) (bad : ShotBad) → IsReadUpTo bytes at first → drop at bytes ≡ end → IsFirstFault bytes bad → ⊥
+no_fault bytes at first bad u e (inl b) = b.2.no_head u.unit _ u.unit_fits (up_whole bytes at first u)
+no_fault bytes at first bad u e (inr b) =
+    let same = up_same bytes at b.0 first b.1 u b.2 (λ l d p g. end_stops l d (drop at bytes) p e) (fault_ends b.1 (drop b.0 bytes) b.0 bad b.3) in
+    end_right b.1 (drop b.0 bytes) b.0 bad (sym same.rest ∙ e) b.3
