@@ -10,3 +10,7 @@ pub mod WordLemmas
 pub mod RowLemmas
 pub mod Triangles
 pub mod FileLemmas
+pub mod ListingRows
+pub mod ListingGoes
+pub mod Finals
+pub mod LineLemmas

@@ -5,7 +5,7 @@ use Rattle.depot.proofs.ForCallers.{longer_there}
 use Rattle.shot_reader.specs.Reading.{IsFileOf}
 use Rattle.shot_reader.specs.Refusals.{IsFirstFault}
 use Rattle.shot_reader.specs.declared.refusing.ShotBad.{ShotBad}
-use Rattle.shot_reader.proofs.ForCallers.{no_fault, one_fault}
+use Rattle.shot_reader.proofs.ForCallers.{file_right, one_fault}
 use Rattle.mdp_job.specs.Words.{IsFracture, IsShots}
 use Rattle.mdp_job.specs.Answers.{Run, IsAnswer, ReadRose, WriteRose}
 use Rattle.mdp_job.specs.Listings.{ShotData, HoldsShots, HoldsFault, IsListingAnswer}
@@ -36,7 +36,7 @@ fault_short c file bad h long = too_long 268435456 c file h.bytes long h.held h.
 -- a shot file has no fault
 shots_right : (c : Content) (file : List ℕ) (s : ShotData) (bad : ShotBad) → HoldsShots c file s → HoldsFault c file bad → ⊥
 shots_right c file s bad h k =
-    no_fault k.bytes s.unit s.pair s.shots bad
+    file_right k.bytes s.unit s.pair s.shots bad
     (subst (λ (b : List ℕ). IsFileOf b s.unit s.pair s.shots) (one_content (held_as c file) h.bytes k.bytes h.held k.held) h.form) k.fault
 
 -- a file has one first fault
@@ -101,7 +101,7 @@ listing_due r file (answers.Deck fault) a reads writes memory d h = absurd a
 listing_due r file (answers.Layout fault) a reads writes memory d h = absurd a
 listing_due r file answers.ReadFault (inl rose, rest) reads writes memory d h = absurd (reads rose)
 listing_due r file answers.ReadFault (inr missing, rest) reads writes memory d h = absurd (shots_there r.before file d h missing)
-listing_due r file answers.WriteFault (rose, rest) reads writes memory d h = absurd (writes rose)
+listing_due r file answers.WriteFault a reads writes memory d h = absurd (writes a.0)
 listing_due r file answers.NoMemory a reads writes memory d h = absurd (memory refl)
 listing_due r file (answers.No place check_faults.Long) (e, long, rest) reads writes memory d h = absurd (shots_short r.before file d h long)
 listing_due r file (answers.No place (check_faults.Bad bad)) (e, k, rest) reads writes memory d h = absurd (shots_right r.before file d bad h k)
@@ -111,12 +111,12 @@ listing_due r file (answers.No place (check_faults.Bad bad)) (e, k, rest) reads 
 pub shots_long : (r : Run) (words : List (List ℕ)) (s : Status) → IsAnswerTo r words s → ShotsLong r words s
 shots_long r words s table file is =
     let answer = listing_for r words s table file is in
-    record { only = λ e. (subst (λ (x : Status). IsListingAnswer r file x) e answer).1.0; whenever = long_due r file s answer }
+    record { only = λ e. (subst (λ (x : Status). IsListingAnswer r file x) e answer).1; whenever = long_due r file s answer }
 
 pub shots_bad : (r : Run) (words : List (List ℕ)) (s : Status) → IsAnswerTo r words s → ShotsBad r words s
 shots_bad r words s table file is bad =
     let answer = listing_for r words s table file is in
-    record { only = λ e. (subst (λ (x : Status). IsListingAnswer r file x) e answer).1.0; whenever = bad_due r file s bad answer }
+    record { only = λ e. (subst (λ (x : Status). IsListingAnswer r file x) e answer).1; whenever = bad_due r file s bad answer }
 
 accepted_by : (r : Run) (words : List (List ℕ)) (s : Status) → IsAnswerTo r words s → s ≡ answers.Done → IsAccepted words r.before
 accepted_by r words s (inl (layout, deck, is, answer)) e =
@@ -164,8 +164,8 @@ write_faults r words s (inr (inl (file, is, answer))) e =
 write_faults r words s (inr (inr (none, e, rest))) f = let clash : answers.Words ≡ answers.WriteFault = sym e ∙ f in let bad : ⊥ = cc in absurd bad
 
 first_place : (r : Run) (file : List ℕ) (place : ℕ) (fault : CheckFault) → IsListingAnswer r file (answers.No place fault) → place ≡ 0
-first_place r file place check_faults.Long (e, rest) = e
-first_place r file place (check_faults.Bad bad) (e, rest) = e
+first_place r file place check_faults.Long a = a.0
+first_place r file place (check_faults.Bad bad) a = a.0
 
 pub belongs : (r : Run) (words : List (List ℕ)) (s : Status) → IsAnswerTo r words s → Belongs words s
 belongs r words s (inl (layout, deck, is, answer)) = record {

@@ -1,4 +1,4 @@
--- Three words as texts.
+-- Two words, and three, as texts.
 use Rattle.std.proofs.Common.{◌≡◌, List, [], ◌∷◌, length, get_or, refl, arith, sym}
 use Rattle.std.specs.Prelude.{String, string_bytes}
 use Rattle.std.specs.declared.alloc.Global.{Global}
@@ -15,3 +15,13 @@ three_texts (a ∷ b ∷ c ∷ []) x y z n ex ey ez =
     let pz : c ≡ z = sym ez in
     rw (px, py, pz) refl
 three_texts (a ∷ b ∷ c ∷ d ∷ rest) x y z n ex ey ez = absurd (omega (arith, n))
+
+pub two_texts : (words : List (String Global)) (x y : String Global) → length words ≡ 2 → x ≡ get_or words 0 x → y ≡ get_or words 1 y
+    → texts words ≡ string_bytes x ∷ string_bytes y ∷ []
+two_texts [] x y n ex ey = absurd (omega (arith, n))
+two_texts (a ∷ []) x y n ex ey = absurd (omega (arith, n))
+two_texts (a ∷ b ∷ []) x y n ex ey =
+    let px : a ≡ x = sym ex in
+    let py : b ≡ y = sym ey in
+    rw (px, py) refl
+two_texts (a ∷ b ∷ c ∷ rest) x y n ex ey = absurd (omega (arith, n))

@@ -117,9 +117,9 @@ IsAnswer r layout deck (answers.No place fault) = ⊥
 
 -- The answer comes only where its cause holds, and where it holds no other comes but want of memory and a counted
 -- fault of reading.
-pub record ComesExactlyWhere (r : Run) (result answer : Status) (cause : Type 0) : Type 0 where
+pub record ComesExactlyWhere (read_rose : Type 0) (result answer : Status) (cause : Type 0) : Type 0 where
   pub only : result ≡ answer → cause
-  pub whenever : cause → (result ≡ answer) ⊎ (result ≡ answers.NoMemory) ⊎ ((result ≡ answers.ReadFault) × ReadRose r)
+  pub whenever : cause → (result ≡ answer) ⊎ (result ≡ answers.NoMemory) ⊎ ((result ≡ answers.ReadFault) × read_rose)
 
 -- the bytes of each word
 abbrev pub texts : List (String Global) → List (List ℕ)

@@ -64,39 +64,39 @@ Accepts r words result =
 abbrev pub DeckLong : Run → List (List ℕ) → Status → Type 0
 DeckLong r words result =
     (layout deck : List ℕ) → IsFracture words layout deck
-    → ComesExactlyWhere r result (answers.Deck deck_faults.Long) (IsLongerThan 65536 r.before deck)
+    → ComesExactlyWhere (ReadRose r) result (answers.Deck deck_faults.Long) (IsLongerThan 65536 r.before deck)
 
 -- the deck isn't of its form
 abbrev pub DeckEarly : Run → List (List ℕ) → Status → Type 0
 DeckEarly r words result =
     (layout deck : List ℕ) → IsFracture words layout deck
-    → ComesExactlyWhere r result (answers.Deck deck_faults.Early) (RefusesDeck r.before layout deck)
+    → ComesExactlyWhere (ReadRose r) result (answers.Deck deck_faults.Early) (RefusesDeck r.before layout deck)
 
 -- the deck is accepted, and the layout has more than 268,435,456 bytes
 abbrev pub LayoutLong : Run → List (List ℕ) → Status → Type 0
 LayoutLong r words result =
     (layout deck : List ℕ) → IsFracture words layout deck
-    → ComesExactlyWhere r result (answers.Layout layout_faults.Long)
+    → ComesExactlyWhere (ReadRose r) result (answers.Layout layout_faults.Long)
     ((d : DeckData) × HoldsDeck r.before layout deck d × IsLongerThan 268435456 r.before layout)
 
 -- the deck is accepted, and the layout isn't of its form
 abbrev pub LayoutEarly : Run → List (List ℕ) → Status → Type 0
 LayoutEarly r words result =
     (layout deck : List ℕ) → IsFracture words layout deck
-    → ComesExactlyWhere r result (answers.Layout layout_faults.Early)
+    → ComesExactlyWhere (ReadRose r) result (answers.Layout layout_faults.Early)
     ((d : DeckData) × HoldsDeck r.before layout deck d × RefusesLayout r.before layout d)
 
 -- the shot file has more than 268,435,456 bytes
 abbrev pub ShotsLong : Run → List (List ℕ) → Status → Type 0
 ShotsLong r words result =
     (file : List ℕ) → IsShots words file
-    → ComesExactlyWhere r result (answers.No 0 check_faults.Long) (IsLongerThan 268435456 r.before file)
+    → ComesExactlyWhere (ReadRose r) result (answers.No 0 check_faults.Long) (IsLongerThan 268435456 r.before file)
 
 -- the shot file has this first fault
 abbrev pub ShotsBad : Run → List (List ℕ) → Status → Type 0
 ShotsBad r words result =
     (file : List ℕ) → IsShots words file → (bad : ShotBad)
-    → ComesExactlyWhere r result (answers.No 0 (check_faults.Bad bad)) (HoldsFault r.before file bad)
+    → ComesExactlyWhere (ReadRose r) result (answers.No 0 (check_faults.Bad bad)) (HoldsFault r.before file bad)
 
 -- Refusals of a deck and of a layout come for `fracture` alone, and those of a shot file for `shots` alone, of place 0.
 pub record Belongs (words : List (List ℕ)) (result : Status) : Type 0 where

@@ -6,6 +6,7 @@ use Rattle.layout_model.specs.declared.pair.Pair.{Pair}
 use Rattle.shot_reader.specs.Reading.{IsFileOf}
 use Rattle.shot_reader.specs.Refusals.{IsFirstFault}
 use Rattle.shot_reader.specs.declared.refusing.ShotBad.{ShotBad}
+use Rattle.shot_reader.specs.declared.refusing.ShotBad.TheVariants.{Head, Record, Spelling, Illegal, End, NoMemory as Wanting}
 use Rattle.shot_reader.specs.declared.reading.ShotFile.{ShotFile}
 use Rattle.shot_listing.specs.Listing.{listing}
 use Rattle.mdp_job.specs.Answers.{Run, ReadRose, WriteRose}
@@ -64,3 +65,12 @@ IsTold r s answers.ReadFault = ⊥
 IsTold r s answers.WriteFault = WriteRose r × IsPartSaid r.before (listed s) r.after
 IsTold r s answers.NoMemory = IsPartSaid r.before (listed s) r.after
 IsTold r s (answers.No place fault) = ⊥
+
+-- the answer to bytes that are no shot file, or that no memory was left to read
+abbrev pub refused_shots : ShotBad → Status
+refused_shots (Head at) = answers.No 0 (check_faults.Bad (Head at))
+refused_shots (Record at) = answers.No 0 (check_faults.Bad (Record at))
+refused_shots (Spelling at) = answers.No 0 (check_faults.Bad (Spelling at))
+refused_shots (Illegal at) = answers.No 0 (check_faults.Bad (Illegal at))
+refused_shots (End at) = answers.No 0 (check_faults.Bad (End at))
+refused_shots Wanting = answers.NoMemory

