@@ -1,6 +1,14 @@
-//! Stub.
+//! The listing of a shot file, said on a depot: its unit, its layer and datatype, a line of numbers for each shot, and
+//! the sums. Texts of a few pieces are said here too.
+//!
+//! What is said goes through a buffer on the stack. Nothing here takes memory.
 #![tactic(auto)]
 
+mod buffer;
+mod lines;
 mod saying;
+mod shots;
+#[cfg(test)]
+mod tests;
 
-pub use saying::{say_each, say_listing};
+pub use saying::{MOST_SHOTS, say_each, say_listing};

@@ -1,48 +1,83 @@
-//! Stub.
-ghost use Rattle.std.specs.Prelude.{◌≡◌, ◌≤◌, IsTrue, OnOk, OnErr, IsErrOf, length};
+//! Whole texts, said on a depot.
+ghost use Rattle.std.specs.Prelude.{◌≡◌, ◌+◌, ◌≤◌, IsTrue, OnOk, OnErr, IsErrOf, [], ◌++◌, length};
 ghost use Rattle.depot.specs.Content.{with_said, IsPartSaid};
 ghost use Rattle.depot.specs.Counts.{Rose, NeverFall};
-ghost use Rattle.shot_listing.specs.Listing.{listing};
+ghost use Rattle.shot_listing.specs.Listing.{listing, sums_line};
 ghost use Rattle.shot_listing.specs.Saying.{joined};
 
+use crate::buffer::{Buffer, flush, make_room, put_piece};
+use crate::lines::{put_layer, put_sums, put_unit};
+use crate::shots::put_shots;
 use depot::{Depot, DepotBad};
 use half_grid::Trap;
 use layout_model::Pair;
 
-/// Stub.
-pub fn say_listing<D: Depot>(
-    _depot: &mut D,
-    _unit: u32,
-    _pair: Option<Pair>,
-    _shots: &[Trap],
+/// As many shots as a listing has at most: a shot file has at most so many bytes.
+pub const MOST_SHOTS: usize = 268_435_456;
+
+// Says what the buffer has, and then the line of the sums.
+fn say_last<D: Depot>(
+    depot: &mut D,
+    buffer: &mut Buffer,
+    shots: usize,
+    triangles: u128,
 ) -> Result<(), DepotBad>
-    requires few { length _shots.now ≤ 268435456 }
-    requires stub { ⊥ }
-    ensures ok { OnOk result (IsTrue D.tells → D.content _depot.new
-        ≡ with_said (D.content _depot.old) (listing _unit _pair _shots.now)) }
+    ensures ok { OnOk result (IsTrue D.tells → D.content depot.new
+        ≡ with_said (D.content depot.old) (buffer.old ++ sums_line shots triangles)) }
     ensures refused { OnErr result (IsTrue D.tells → IsPartSaid
-        (D.content _depot.old) (listing _unit _pair _shots.now) (D.content _depot.new)) }
+        (D.content depot.old) (buffer.old ++ sums_line shots triangles) (D.content depot.new)) }
     ensures failed { IsErrOf result DepotBad.Failed
-        → Rose (D.counts _depot.old).write_faults (D.counts _depot.new).write_faults }
+        → Rose (D.counts depot.old).write_faults (D.counts depot.new).write_faults }
     ensures no_memory { IsErrOf result DepotBad.NoMemory
-        → Rose (D.counts _depot.old).refused (D.counts _depot.new).refused }
-    ensures counted { NeverFall (D.counts _depot.old) (D.counts _depot.new) }
+        → Rose (D.counts depot.old).refused (D.counts depot.new).refused }
+    ensures counted { NeverFall (D.counts depot.old) (D.counts depot.new) }
 {
-    Ok(())
+    make_room(depot, buffer)?;
+    put_sums(buffer, shots, triangles);
+    flush(depot, buffer)
 }
 
-/// Stub.
-pub fn say_each<D: Depot>(_depot: &mut D, _pieces: &[&[u8]]) -> Result<(), DepotBad>
-    requires stub { ⊥ }
-    ensures ok { OnOk result (IsTrue D.tells → D.content _depot.new
-        ≡ with_said (D.content _depot.old) (joined _pieces.now)) }
+/// Says the listing of a unit, of a layer and a datatype where there is one, and of these shots. After a refusal a
+/// prefix of it was said. It takes time linear in the text, and no memory.
+pub fn say_listing<D: Depot>(
+    depot: &mut D,
+    unit: u32,
+    pair: Option<Pair>,
+    shots: &[Trap],
+) -> Result<(), DepotBad>
+    requires few { length shots.now ≤ 268435456 }
+    ensures ok { OnOk result (IsTrue D.tells → D.content depot.new
+        ≡ with_said (D.content depot.old) (listing unit pair shots.now)) }
     ensures refused { OnErr result (IsTrue D.tells → IsPartSaid
-        (D.content _depot.old) (joined _pieces.now) (D.content _depot.new)) }
+        (D.content depot.old) (listing unit pair shots.now) (D.content depot.new)) }
     ensures failed { IsErrOf result DepotBad.Failed
-        → Rose (D.counts _depot.old).write_faults (D.counts _depot.new).write_faults }
+        → Rose (D.counts depot.old).write_faults (D.counts depot.new).write_faults }
     ensures no_memory { IsErrOf result DepotBad.NoMemory
-        → Rose (D.counts _depot.old).refused (D.counts _depot.new).refused }
-    ensures counted { NeverFall (D.counts _depot.old) (D.counts _depot.new) }
+        → Rose (D.counts depot.old).refused (D.counts depot.new).refused }
+    ensures counted { NeverFall (D.counts depot.old) (D.counts depot.new) }
 {
-    Ok(())
+    let mut buffer = Buffer::new();
+    put_unit(&mut buffer, unit);
+    put_layer(&mut buffer, pair);
+    let triangles = put_shots(depot, &mut buffer, shots)?;
+    say_last(depot, &mut buffer, shots.len(), triangles)
+}
+
+/// Says the pieces one after another. After a refusal a prefix of the whole was said.
+pub fn say_each<D: Depot>(depot: &mut D, pieces: &[&[u8]]) -> Result<(), DepotBad>
+    ensures ok { OnOk result (IsTrue D.tells → D.content depot.new
+        ≡ with_said (D.content depot.old) (joined pieces.now)) }
+    ensures refused { OnErr result (IsTrue D.tells → IsPartSaid
+        (D.content depot.old) (joined pieces.now) (D.content depot.new)) }
+    ensures failed { IsErrOf result DepotBad.Failed
+        → Rose (D.counts depot.old).write_faults (D.counts depot.new).write_faults }
+    ensures no_memory { IsErrOf result DepotBad.NoMemory
+        → Rose (D.counts depot.old).refused (D.counts depot.new).refused }
+    ensures counted { NeverFall (D.counts depot.old) (D.counts depot.new) }
+{
+    let mut buffer = Buffer::new();
+    for piece in pieces {
+        put_piece(depot, &mut buffer, piece)?;
+    }
+    flush(depot, &mut buffer)
 }

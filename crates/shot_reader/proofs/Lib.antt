@@ -7,5 +7,8 @@ pub mod Rests
 pub mod Ends
 pub mod Names
 pub mod Faults
+pub mod Alikes
+pub mod Nearest
+pub mod Records
 pub mod Files
 pub mod ForCallers

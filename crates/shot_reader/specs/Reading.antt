@@ -21,7 +21,7 @@ abbrev pub Agrees : Option Pair → ℕ → ℕ → Type 0
 Agrees None layer datatype = Unit {0}
 Agrees (Some pair) layer datatype = (pair.layer ≡ layer) × (pair.datatype ≡ datatype)
 
--- the bytes are the text of this unit, this pair and these shots
+-- the bytes are the text of this unit, this pair and these shots, each of which is legal and within reach
 pub record IsFileOf (bytes : List ℕ) (unit : ℕ) (pair : Option Pair) (shots : List Trapezoid) : Type 0 where
   pub unit_fits : IsUnit unit
   pub legal : All IsShot shots
@@ -30,10 +30,3 @@ pub record IsFileOf (bytes : List ℕ) (unit : ℕ) (pair : Option Pair) (shots 
   pub datatype : ℕ
   pub agrees : Agrees pair layer datatype
   pub text : bytes ≡ shot_text unit layer datatype shots
-
--- this pair, this shot and what follows them are the other's
-pub record IsReadSo (pair : Pair) (shot : Trapezoid) (rest : List ℕ) (layer datatype : ℕ) (z : Trapezoid) (after : List ℕ) : Type 0 where
-  pub layer_is : pair.layer ≡ layer
-  pub datatype_is : pair.datatype ≡ datatype
-  pub shot_is : shot ≡ z
-  pub rest_is : rest ≡ after

@@ -1,0 +1,3 @@
+pub mod SaidSoFar
+pub mod Triangles
+pub mod Fields

@@ -1,0 +1,64 @@
+//! The shots of a listing, one after another.
+ghost use Rattle.std.specs.Prelude.{◌≡◌, ◌+◌, ◌^◌, ◌<◌, ◌≤◌, IsTrue, IfOk, OnOk, OnErr, IsErrOf, ◌++◌, length, flat_map};
+ghost use Rattle.depot.specs.Content.{IsPartSaid};
+ghost use Rattle.depot.specs.Counts.{Rose, NeverFall};
+ghost use Rattle.shot_writer.specs.Writing.{triangles_in, triangles_of};
+ghost use Rattle.shot_listing.specs.Listing.{shot_line};
+ghost use Rattle.shot_listing.specs.Saying.{IsSaidButFor};
+
+use crate::buffer::{Buffer, make_room};
+use crate::lines::put_shot;
+use depot::{Depot, DepotBad};
+use half_grid::{Trap, size_of};
+
+// How many triangles a shot has.
+fn triangles_in(shot: &Trap) -> u128
+    ensures value { result ≡ triangles_in shot.now }
+    ensures few { result ≤ 2 ^ 91 }
+{
+    let _bottom = shot.y0();
+    size_of(shot)
+}
+
+// Puts the line of a shot into the buffer, which is said first where it has no room.
+fn put_line<D: Depot>(depot: &mut D, buffer: &mut Buffer, shot: &Trap) -> Result<(), DepotBad>
+    ensures ok { OnOk result (IsTrue D.tells → IsSaidButFor
+        (D.content depot.old) (buffer.old ++ shot_line shot.now) buffer.new (D.content depot.new)) }
+    ensures refused { OnErr result (IsTrue D.tells
+        → IsPartSaid (D.content depot.old) buffer.old (D.content depot.new)) }
+    ensures failed { IsErrOf result DepotBad.Failed
+        → Rose (D.counts depot.old).write_faults (D.counts depot.new).write_faults }
+    ensures no_memory { IsErrOf result DepotBad.NoMemory
+        → Rose (D.counts depot.old).refused (D.counts depot.new).refused }
+    ensures counted { NeverFall (D.counts depot.old) (D.counts depot.new) }
+{
+    make_room(depot, buffer)?;
+    put_shot(buffer, shot);
+    Ok(())
+}
+
+/// Puts the lines of the shots, and answers the number of their triangles.
+pub(crate) fn put_shots<D: Depot>(
+    depot: &mut D,
+    buffer: &mut Buffer,
+    shots: &[Trap],
+) -> Result<u128, DepotBad>
+    requires few { length shots.now ≤ 268435456 }
+    ensures triangles { IfOk result (λ triangles. triangles ≡ triangles_of shots.now) }
+    ensures ok { OnOk result (IsTrue D.tells → IsSaidButFor (D.content depot.old)
+        (buffer.old ++ flat_map shot_line shots.now) buffer.new (D.content depot.new)) }
+    ensures refused { OnErr result (IsTrue D.tells → IsPartSaid
+        (D.content depot.old) (buffer.old ++ flat_map shot_line shots.now) (D.content depot.new)) }
+    ensures failed { IsErrOf result DepotBad.Failed
+        → Rose (D.counts depot.old).write_faults (D.counts depot.new).write_faults }
+    ensures no_memory { IsErrOf result DepotBad.NoMemory
+        → Rose (D.counts depot.old).refused (D.counts depot.new).refused }
+    ensures counted { NeverFall (D.counts depot.old) (D.counts depot.new) }
+{
+    let mut triangles = 0;
+    for shot in shots {
+        put_line(depot, buffer, shot)?;
+        triangles += triangles_in(shot);
+    }
+    Ok(triangles)
+}
