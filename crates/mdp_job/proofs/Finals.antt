@@ -119,17 +119,26 @@ middle b m o p words s (inr (inr (none, e, same))) n = silent b m words s (ap (�
 says_by : (b m a : Content) (o p q : Counts) (words : List (List ℕ)) (s : Status) → Middle b m words s → NeverFall o p → IsPartSaid m (line_of (file_word words) s) a
     → (a ≡ with_said m (line_of (file_word words) s)) ⊎ Rose p.write_faults q.write_faults ⊎ Rose p.refused q.refused → SaysLine (run_of b a o q) words s
 says_by b m a o p q words s k earlier part (inl e) = record {
-  text = k.text; may = k.may; of_text = k.of_text; of_line = length (line_of (file_word words) s);
+  text = k.text;
+  may = k.may;
+  of_text = k.of_text;
+  of_line = length (line_of (file_word words) s);
   said = ap (λ (c : Content). c.said) e ∙ (ap (λ t. t ++ line_of (file_word words) s) k.said ∙ ap (λ t. (b.said ++ take k.of_text k.text) ++ t) (sym (take-length (line_of (file_word words) s))));
   whole = inl (take-length (line_of (file_word words) s));
 }
 says_by b m a o p q words s k earlier (n, few, e) (inr (inl rose)) = record {
-  text = k.text; may = k.may; of_text = k.of_text; of_line = n;
+  text = k.text;
+  may = k.may;
+  of_text = k.of_text;
+  of_line = n;
   said = ap (λ (c : Content). c.said) e ∙ ap (λ t. t ++ take n (line_of (file_word words) s)) k.said;
   whole = inr (inl (Rose-later o.write_faults p.write_faults q.write_faults earlier.write_faults rose));
 }
 says_by b m a o p q words s k earlier (n, few, e) (inr (inr rose)) = record {
-  text = k.text; may = k.may; of_text = k.of_text; of_line = n;
+  text = k.text;
+  may = k.may;
+  of_text = k.of_text;
+  of_line = n;
   said = ap (λ (c : Content). c.said) e ∙ ap (λ t. t ++ take n (line_of (file_word words) s)) k.said;
   whole = inr (inr (Rose-later o.refused p.refused q.refused earlier.refused rose));
 }

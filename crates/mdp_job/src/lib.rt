@@ -9,6 +9,8 @@ mod layout_parts;
 mod layout_points;
 mod lines;
 mod listing;
+#[cfg(test)]
+mod listing_tests;
 mod reading;
 mod row_walk;
 #[cfg(test)]

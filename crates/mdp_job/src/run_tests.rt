@@ -13,28 +13,34 @@ use std::test::Fail;
 const DECK: &[u8] = b"unit 1000\ntop TOP\nlayer A 1 0\nwrite A out.oas 1 0\n";
 
 /// The magic bytes, START and CELL of a shot file for 1,000 grid steps a micrometre.
-const HEAD: [u8; 41] = [
+pub(crate) const HEAD: [u8; 41] = [
     0x25, 0x53, 0x45, 0x4D, 0x49, 0x2D, 0x4F, 0x41, 0x53, 0x49, 0x53, 0x0D, 0x0A, //
     0x01, 0x03, 0x31, 0x2E, 0x30, 0x00, 0xD0, 0x0F, 0x00, 0, 0, 0, 0, 0, 0, 0, 0, 0, 0, 0, 0, //
     0x0E, 0x05, 0x53, 0x48, 0x4F, 0x54, 0x53,
 ];
 
-// The shot file of the square: twenty shots of one row.
-fn square_file(alloc: Global) -> Result<Vec<u8>, NoMemory> {
+/// The shot file of this head and these records.
+pub(crate) fn file_of(alloc: Global, head: &[u8], records: &[u8]) -> Result<Vec<u8>, NoMemory> {
     let mut file = Vec::new(alloc);
-    file.extend_from_slice(&HEAD)?;
-    for row in 0..20u8 {
-        file.extend_from_slice(&[0x14, 0x7B, 0x01, 0x00, 0x14, 0x01, 0x00])?;
-        file.push(2 * row)?;
-    }
+    file.extend_from_slice(head)?;
+    file.extend_from_slice(records)?;
     file.extend_from_slice(&[0x02, 0xFC, 0x01])?;
-    for _ in 0..253 {
-        file.push(0)?;
-    }
+    file.extend_from_slice(&[0; 253])?;
     Ok(file)
 }
 
-fn words(alloc: Global, parts: &[&str]) -> Result<Vec<String>, NoMemory> {
+// The shot file of the square: twenty shots of one row.
+fn square_file(alloc: Global) -> Result<Vec<u8>, NoMemory> {
+    let mut records = Vec::new(alloc);
+    for row in 0..20u8 {
+        records.extend_from_slice(&[0x14, 0x7B, 0x01, 0x00, 0x14, 0x01, 0x00])?;
+        records.push(2 * row)?;
+    }
+    file_of(alloc, &HEAD, &records)
+}
+
+/// These words, as a command has them.
+pub(crate) fn words(alloc: Global, parts: &[&str]) -> Result<Vec<String>, NoMemory> {
     let mut words = Vec::new(alloc);
     for part in parts {
         words.push(String::from_str(alloc, part)?)?;
@@ -75,22 +81,61 @@ fn refusals_have_their_codes(rt: HostRuntime) -> Result<(), Fail> {
     other[108..110].copy_from_slice(&[0x0F, 0x03]);
     let early_layout = Status::Layout(LayoutFault::Early);
     let early_deck = Status::Deck(DeckFault::Early);
-    // the words, whether the layout is there, whether it is the other one, how much of the deck is there, the answer
-    let rows: [(&[&str], bool, bool, usize, Status); 6] = [
-        (&["fracture", "G.gds", "K"], true, true, 50, early_layout),
-        (&["fracture", "G.gds", "K"], true, false, 30, early_deck),
+    let fracture = ["fracture", "G.gds", "K"];
+    // the words, whether the layout is there, whether it is the other one, how much of the deck is there, the answer,
+    // what is said
+    let rows: [(&[&str], bool, bool, usize, Status, &str); 7] = [
         (
-            &["fracture", "G.gds", "K"],
+            &fracture,
+            true,
+            true,
+            50,
+            early_layout,
+            "layout refused: not built\n",
+        ),
+        (
+            &fracture,
+            true,
+            false,
+            30,
+            early_deck,
+            "deck refused: not built\n",
+        ),
+        (
+            &fracture,
             false,
             false,
             50,
             Status::ReadFault,
+            "read fault\n",
         ),
-        (&["fracture", "G.gds"], true, false, 50, Status::Words),
-        (&[], true, false, 50, Status::Words),
-        (&["generate", "0", "F"], true, false, 50, Status::Words),
+        (
+            &["fracture", "G.gds"],
+            true,
+            false,
+            50,
+            Status::Words,
+            "words refused\n",
+        ),
+        (&[], true, false, 50, Status::Words, "words refused\n"),
+        (
+            &["generate", "0", "F"],
+            true,
+            false,
+            50,
+            Status::Words,
+            "words refused\n",
+        ),
+        (
+            &["shots", "F"],
+            true,
+            false,
+            50,
+            Status::ReadFault,
+            "read fault\n",
+        ),
     ];
-    for (parts, there, changed, deck, want) in rows {
+    for (parts, there, changed, deck, want, line) in rows {
         let mut depot = MemDepot::new(alloc);
         if there {
             depot.add("G.gds", if changed { &other } else { &SQUARE })?;
@@ -100,6 +145,7 @@ fn refusals_have_their_codes(rt: HostRuntime) -> Result<(), Fail> {
         let command = words(alloc, parts)?;
         assert!(rt; run(alloc, &command, &mut depot) == want);
         assert!(rt; depot.made("out.oas").is_none());
+        assert_eq!(rt; depot.said(), line.as_bytes());
         assert_eq!(rt; depot.counts(), (0, 0, 0));
     }
     Ok(())
@@ -125,6 +171,12 @@ fn a_failing_call_is_a_fault(rt: HostRuntime) -> Result<(), Fail> {
         depot.add("K", DECK)?;
         depot.fail_at(call)?;
         assert!(rt; run(alloc, &command, &mut depot) == answer, "at {call}");
+        let line: &str = if answer == Status::ReadFault {
+            "read fault\n"
+        } else {
+            "write fault\n"
+        };
+        assert_eq!(rt; depot.said(), line.as_bytes(), "at {call}");
         let made = depot.made("out.oas");
         assert_eq!(rt; made.map(|bytes| bytes.len()), length, "at {call}");
         assert!(rt;
@@ -149,56 +201,60 @@ fn layout_of(alloc: Global, corners: &[(u8, u8)]) -> Result<Vec<u8>, NoMemory> {
     Ok(layout)
 }
 
-// The triangles of a file of one-row shots whose numbers have one byte each: two for each column of the shot's box, less
-// one for each side that isn't upright.
-fn triangles(file: &[u8]) -> u64 {
-    let mut rest = file;
-    let mut count: u64 = 0;
-    for _ in 0..file.len() {
-        let (width, sides, tail) = match rest {
-            [0x14, _, _, _, width, 1, _, _, tail @ ..] => (*width, 0, tail),
-            [0x18 | 0x19, _, _, _, width, 1, _, _, _, tail @ ..] => (*width, 1, tail),
-            [0x17, _, _, _, width, 1, _, _, _, _, tail @ ..] => (*width, 2, tail),
-            _ => break,
-        };
-        count = count.saturating_add((2 * u64::from(width)).saturating_sub(sides));
-        rest = tail;
-    }
-    count
-}
+// Polygons by their corners in grid steps, and the number of their triangles.
+const SHAPES: [(&[(u8, u8)], &str); 4] = [
+    // a triangle
+    (&[(0, 0), (10, 0), (10, 10), (0, 0)], " triangles 400\n"),
+    // a figure eight, which crosses itself
+    (
+        &[(0, 0), (10, 10), (10, 0), (0, 10), (0, 0)],
+        " triangles 400\n",
+    ),
+    // a square with repeated points
+    (
+        &[(0, 0), (0, 0), (0, 10), (10, 10), (10, 10), (10, 0), (0, 0)],
+        " triangles 800\n",
+    ),
+    // a square that is run round twice
+    (
+        &[
+            (0, 0),
+            (0, 10),
+            (10, 10),
+            (10, 0),
+            (0, 0),
+            (0, 10),
+            (10, 10),
+            (10, 0),
+            (0, 0),
+        ],
+        " triangles 800\n",
+    ),
+];
 
 #[test]
 fn shapes_have_their_triangles(rt: HostRuntime) -> Result<(), Fail> {
     let alloc = rt.alloc();
-    let command = words(alloc, &["fracture", "G.gds", "K"])?;
-    let rows: [(&[(u8, u8)], u64); 4] = [
-        // a triangle
-        (&[(0, 0), (10, 0), (10, 10), (0, 0)], 400),
-        // a figure eight, which crosses itself
-        (&[(0, 0), (10, 10), (10, 0), (0, 10), (0, 0)], 400),
-        // a square with repeated points
-        (
-            &[(0, 0), (0, 0), (0, 10), (10, 10), (10, 10), (10, 0), (0, 0)],
-            800,
-        ),
-        // a square that is run round twice
-        (
-            &[
-                (0, 0),
-                (0, 10),
-                (10, 10),
-                (10, 0),
-                (0, 0),
-                (0, 10),
-                (10, 10),
-                (10, 0),
-                (0, 0),
-            ],
-            800,
-        ),
-    ];
-    for (corners, want) in rows {
+    for (corners, want) in SHAPES {
         let layout = layout_of(alloc, corners)?;
+        let mut depot = MemDepot::new(alloc);
+        depot.add("G.gds", &layout)?;
+        depot.add("K", DECK)?;
+        assert!(rt;
+            run(
+                alloc,
+                &words(alloc, &["fracture", "G.gds", "K"])?,
+                &mut depot
+            ) == Status::Done
+        );
+        let file = depot.made("out.oas").ok_or("no file")?;
+        let mut listing = MemDepot::new(alloc);
+        listing.add("out.oas", file)?;
+        assert!(rt;
+            run(alloc, &words(alloc, &["shots", "out.oas"])?, &mut listing) == Status::Done
+        );
+        assert!(rt; listing.said().ends_with(want.as_bytes()));
+        // the plain test of each tile counts as many
         let mut points = Vec::new(alloc);
         for (x, y) in corners {
             points.push(Point {
@@ -206,14 +262,7 @@ fn shapes_have_their_triangles(rt: HostRuntime) -> Result<(), Fail> {
                 y: 2 * i64::from(*y),
             })?;
         }
-        assert_eq!(rt; inside(&points), want);
-        let mut depot = MemDepot::new(alloc);
-        depot.add("G.gds", &layout)?;
-        depot.add("K", DECK)?;
-        assert!(rt; run(alloc, &command, &mut depot) == Status::Done);
-        let made = depot.made("out.oas").ok_or("no file")?;
-        assert!(rt; 41 <= made.len());
-        assert_eq!(rt; triangles(&made[41..]), want);
+        assert!(rt; want.contains(&inside(&points).to_string(alloc)?));
     }
     Ok(())
 }

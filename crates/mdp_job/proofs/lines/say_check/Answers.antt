@@ -7,12 +7,12 @@ use Rattle.mdp_job.proofs.lines.say_check.Goals as goal
 
 pub returns-in-Long-clause-ok : goal.returns-in-Long-clause-ok
 returns-in-Long-clause-ok g c =
-    subst (λ (t : List ℕ). OnOk c.say_each.result (IsTrue g.D.Depot.tells → g.D.Depot.content c.say_each.new._depot ≡ with_said (g.D.Depot.content c.args.depot.now) t))
+    subst (λ (t : List ℕ). OnOk c.say_each.result (IsTrue g.D.Depot.tells → g.D.Depot.content c.say_each.new.depot ≡ with_said (g.D.Depot.content c.args.depot.now) t))
     (long_spoken c.as_bytes.result.now c.args.file.now c.as_bytes.ensures.value ∙ ap (check_line c.args.file.now) (sym c.in-Long.is)) c.say_each.ensures.ok
 
 pub returns-in-Long-clause-refused : goal.returns-in-Long-clause-refused
 returns-in-Long-clause-refused g c =
-    subst (λ (t : List ℕ). OnErr c.say_each.result (IsTrue g.D.Depot.tells → IsPartSaid (g.D.Depot.content c.args.depot.now) t (g.D.Depot.content c.say_each.new._depot)))
+    subst (λ (t : List ℕ). OnErr c.say_each.result (IsTrue g.D.Depot.tells → IsPartSaid (g.D.Depot.content c.args.depot.now) t (g.D.Depot.content c.say_each.new.depot)))
     (long_spoken c.as_bytes.result.now c.args.file.now c.as_bytes.ensures.value ∙ ap (check_line c.args.file.now) (sym c.in-Long.is)) c.say_each.ensures.refused
 
 pub returns-in-Some-clause-ok : goal.returns-in-Some-clause-ok

@@ -1,0 +1,178 @@
+//! The command `shots` from end to end: what it says of files that were worked out by hand.
+
+use crate::run_tests::{HEAD, file_of, words};
+use crate::status::{CheckFault, Status};
+use crate::{run, run_surely};
+use depot::{MemDepot, SureDepot};
+use geo_stream::{FromSlice, NoMemory};
+use half_grid::{Line, Trap};
+use layout_model::Pair;
+use shot_reader::{ShotBad, read_shots};
+use shot_writer::{Head, ShotWriter};
+use std::alloc::Global;
+use std::test::Fail;
+
+const SQUARE: &[u8] = &[0x14, 0x7B, 0x01, 0x00, 0x14, 0x14, 0x00, 0x00];
+
+const LISTING: &str = "unit 2000\nlayer 1 0\n0 20 0 20 0 20\nshots 1 triangles 800\n";
+
+// A file by the first byte of its unit, its records and the bytes after END.
+fn other_file(alloc: Global, first: u8, records: &[u8], after: &[u8]) -> Result<Vec<u8>, NoMemory> {
+    let mut file = file_of(alloc, &HEAD, records)?;
+    if let Some(byte) = file.get_mut(19) {
+        *byte = first;
+    }
+    file.extend_from_slice(after)?;
+    Ok(file)
+}
+
+#[test]
+fn files_are_listed_or_refused(rt: HostRuntime) -> Result<(), Fail> {
+    let alloc = rt.alloc();
+    let no_width: &[u8] = &[0x14, 0x7B, 0x01, 0x00, 0x14, 0x00, 0x00, 0x00];
+    let long_width: &[u8] = &[0x14, 0x7B, 0x01, 0x00, 0x94, 0x00, 0x14, 0x00, 0x00];
+    // the unit's first byte, the records, the bytes after END, the fault if there is one, what is said
+    let rows: [(u8, &[u8], &[u8], Option<ShotBad>, &str); 6] = [
+        (0xD0, SQUARE, &[], None, LISTING),
+        (0xD0, &[], &[], None, "unit 2000\nshots 0 triangles 0\n"),
+        (
+            0xD1,
+            SQUARE,
+            &[],
+            Some(ShotBad::Head(19)),
+            "check refused: F: head at 19\n",
+        ),
+        (
+            0xD0,
+            no_width,
+            &[],
+            Some(ShotBad::Illegal(41)),
+            "check refused: F: illegal at 41\n",
+        ),
+        (
+            0xD0,
+            SQUARE,
+            &[0],
+            Some(ShotBad::End(49)),
+            "check refused: F: end at 49\n",
+        ),
+        (
+            0xD0,
+            long_width,
+            &[],
+            Some(ShotBad::Spelling(41)),
+            "check refused: F: spelling at 41\n",
+        ),
+    ];
+    for (first, records, after, bad, said) in rows {
+        let mut depot = MemDepot::new(alloc);
+        depot.add("F", &other_file(alloc, first, records, after)?)?;
+        let answer = run(alloc, &words(alloc, &["shots", "F"])?, &mut depot);
+        let want = match bad {
+            None => Status::Done,
+            Some(bad) => Status::No(0, CheckFault::Bad(bad)),
+        };
+        assert!(rt; answer == want);
+        assert_eq!(rt; depot.said(), said.as_bytes());
+    }
+    Ok(())
+}
+
+#[test]
+fn cut_files_are_refused(rt: HostRuntime) -> Result<(), Fail> {
+    let alloc = rt.alloc();
+    let whole = file_of(alloc, &HEAD, SQUARE)?;
+    let command = words(alloc, &["shots", "a b"])?;
+    for (length, line) in [
+        (0, "head at 0\n"),
+        (45, "record at 41\n"),
+        (50, "end at 49\n"),
+    ] {
+        let mut depot = SureDepot::new(alloc);
+        assert!(rt; length <= whole.len());
+        depot.add("a b", &whole[..length])?;
+        assert!(rt; run_surely(alloc, &command, &mut depot).code() == 7);
+        let tail = depot
+            .said()
+            .strip_prefix(b"check refused: a b: ")
+            .ok_or("other line")?;
+        assert_eq!(rt; tail, line.as_bytes());
+    }
+    Ok(())
+}
+
+#[test]
+fn each_failing_call_is_a_fault(rt: HostRuntime) -> Result<(), Fail> {
+    let alloc = rt.alloc();
+    let command = words(alloc, &["shots", "F"])?;
+    let file = file_of(alloc, &HEAD, SQUARE)?;
+    // the calls are: start, read, read the end; say
+    let rows = [
+        (0, Status::ReadFault, "read fault\n"),
+        (1, Status::ReadFault, "read fault\n"),
+        (2, Status::ReadFault, "read fault\n"),
+        (3, Status::WriteFault, "write fault\n"),
+        (4, Status::Done, LISTING),
+    ];
+    for (call, answer, said) in rows {
+        let mut depot = MemDepot::new(alloc);
+        depot.add("F", &file)?;
+        depot.fail_at(call)?;
+        assert!(rt; run(alloc, &command, &mut depot) == answer, "at {call}");
+        assert_eq!(rt; depot.said(), said.as_bytes(), "at {call}");
+    }
+    // one byte a call: 305 are read, and the end; the eleventh that is said fails
+    let mut depot = MemDepot::new(alloc);
+    depot.add("F", &file)?;
+    depot.short();
+    depot.fail_at(317)?;
+    assert!(rt; run(alloc, &command, &mut depot) == Status::WriteFault);
+    assert_eq!(rt; depot.said(), b"unit 2000\nwrite fault\n".as_slice());
+    Ok(())
+}
+
+#[test]
+fn a_line_that_cannot_be_said_changes_nothing(rt: HostRuntime) -> Result<(), Fail> {
+    let alloc = rt.alloc();
+    let mut depot = MemDepot::new(alloc);
+    depot.fail_at(0)?;
+    assert!(rt; run(alloc, &[], &mut depot) == Status::Words);
+    assert_eq!(rt; depot.said(), b"".as_slice());
+    assert_eq!(rt; depot.counts(), (0, 1, 0));
+    Ok(())
+}
+
+#[test]
+fn each_kind_of_record_is_read_back(rt: HostRuntime) -> Result<(), Fail> {
+    let alloc = rt.alloc();
+    let sides = [
+        (Line::Upright(0), Line::Upright(20)),
+        (Line::Rising(0), Line::Upright(30)),
+        (Line::Upright(-5), Line::Falling(40)),
+        (Line::Rising(-7), Line::Falling(50)),
+    ];
+    let mut shots = Vec::new(alloc);
+    for (left, right) in sides {
+        shots.push(Trap::new(-3, 15, left, right).ok_or("no shot")?)?;
+    }
+    let pair = Pair {
+        layer: 300,
+        datatype: 7,
+    };
+    let mut depot = MemDepot::new(alloc);
+    let mut writer = ShotWriter::start(&mut depot, "F", Head { unit: 2000, pair })
+        .ok()
+        .ok_or("start")?;
+    writer
+        .put(&mut depot, &mut FromSlice::new(&shots))
+        .ok()
+        .ok_or("put")?;
+    writer.finish(&mut depot).ok().ok_or("finish")?;
+    let file = read_shots(alloc, depot.made("F").ok_or("no file")?)
+        .ok()
+        .ok_or("refused")?;
+    assert_eq!(rt; file.unit, 2000);
+    assert_eq!(rt; file.pair, Some(pair));
+    assert_eq!(rt; file.shots.as_slice(), shots.as_slice());
+    Ok(())
+}
