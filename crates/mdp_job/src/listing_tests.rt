@@ -26,45 +26,49 @@ fn other_file(alloc: Global, first: u8, records: &[u8], after: &[u8]) -> Result<
     Ok(file)
 }
 
+// A width of 0, and a width with a group of zeros at its end.
+const NO_WIDTH: &[u8] = &[0x14, 0x7B, 0x01, 0x00, 0x14, 0x00, 0x00, 0x00];
+
+const LONG_WIDTH: &[u8] = &[0x14, 0x7B, 0x01, 0x00, 0x94, 0x00, 0x14, 0x00, 0x00];
+
+// The unit's first byte, the records, the bytes after END, the fault if there is one, what is said.
+const FILES: [(u8, &[u8], &[u8], Option<ShotBad>, &str); 6] = [
+    (0xD0, SQUARE, &[], None, LISTING),
+    (0xD0, &[], &[], None, "unit 2000\nshots 0 triangles 0\n"),
+    (
+        0xD1,
+        SQUARE,
+        &[],
+        Some(ShotBad::Head(19)),
+        "check refused: F: head at 19\n",
+    ),
+    (
+        0xD0,
+        NO_WIDTH,
+        &[],
+        Some(ShotBad::Illegal(41)),
+        "check refused: F: illegal at 41\n",
+    ),
+    (
+        0xD0,
+        SQUARE,
+        &[0],
+        Some(ShotBad::End(49)),
+        "check refused: F: end at 49\n",
+    ),
+    (
+        0xD0,
+        LONG_WIDTH,
+        &[],
+        Some(ShotBad::Spelling(41)),
+        "check refused: F: spelling at 41\n",
+    ),
+];
+
 #[test]
 fn files_are_listed_or_refused(rt: HostRuntime) -> Result<(), Fail> {
     let alloc = rt.alloc();
-    let no_width: &[u8] = &[0x14, 0x7B, 0x01, 0x00, 0x14, 0x00, 0x00, 0x00];
-    let long_width: &[u8] = &[0x14, 0x7B, 0x01, 0x00, 0x94, 0x00, 0x14, 0x00, 0x00];
-    // the unit's first byte, the records, the bytes after END, the fault if there is one, what is said
-    let rows: [(u8, &[u8], &[u8], Option<ShotBad>, &str); 6] = [
-        (0xD0, SQUARE, &[], None, LISTING),
-        (0xD0, &[], &[], None, "unit 2000\nshots 0 triangles 0\n"),
-        (
-            0xD1,
-            SQUARE,
-            &[],
-            Some(ShotBad::Head(19)),
-            "check refused: F: head at 19\n",
-        ),
-        (
-            0xD0,
-            no_width,
-            &[],
-            Some(ShotBad::Illegal(41)),
-            "check refused: F: illegal at 41\n",
-        ),
-        (
-            0xD0,
-            SQUARE,
-            &[0],
-            Some(ShotBad::End(49)),
-            "check refused: F: end at 49\n",
-        ),
-        (
-            0xD0,
-            long_width,
-            &[],
-            Some(ShotBad::Spelling(41)),
-            "check refused: F: spelling at 41\n",
-        ),
-    ];
-    for (first, records, after, bad, said) in rows {
+    for (first, records, after, bad, said) in FILES {
         let mut depot = MemDepot::new(alloc);
         depot.add("F", &other_file(alloc, first, records, after)?)?;
         let answer = run(alloc, &words(alloc, &["shots", "F"])?, &mut depot);

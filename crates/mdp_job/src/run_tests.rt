@@ -74,68 +74,72 @@ fn the_square_is_written(rt: HostRuntime) -> Result<(), Fail> {
     Ok(())
 }
 
+const FRACTURE: [&str; 3] = ["fracture", "G.gds", "K"];
+
+const EARLY_LAYOUT: Status = Status::Layout(LayoutFault::Early);
+
+const EARLY_DECK: Status = Status::Deck(DeckFault::Early);
+
+// The words, whether the layout is there, whether it is one with WIDTH in place of DATATYPE, how much of the deck is
+// there, the answer, what is said.
+const REFUSALS: [(&[&str], bool, bool, usize, Status, &str); 7] = [
+    (
+        &FRACTURE,
+        true,
+        true,
+        50,
+        EARLY_LAYOUT,
+        "layout refused: not built\n",
+    ),
+    (
+        &FRACTURE,
+        true,
+        false,
+        30,
+        EARLY_DECK,
+        "deck refused: not built\n",
+    ),
+    (
+        &FRACTURE,
+        false,
+        false,
+        50,
+        Status::ReadFault,
+        "read fault\n",
+    ),
+    (
+        &["fracture", "G.gds"],
+        true,
+        false,
+        50,
+        Status::Words,
+        "words refused\n",
+    ),
+    (&[], true, false, 50, Status::Words, "words refused\n"),
+    (
+        &["generate", "0", "F"],
+        true,
+        false,
+        50,
+        Status::Words,
+        "words refused\n",
+    ),
+    (
+        &["shots", "F"],
+        true,
+        false,
+        50,
+        Status::ReadFault,
+        "read fault\n",
+    ),
+];
+
 #[test]
 fn refusals_have_their_codes(rt: HostRuntime) -> Result<(), Fail> {
     let alloc = rt.alloc();
     let mut other = SQUARE.to_vec(alloc)?;
     other[108..110].copy_from_slice(&[0x0F, 0x03]);
-    let early_layout = Status::Layout(LayoutFault::Early);
-    let early_deck = Status::Deck(DeckFault::Early);
-    let fracture = ["fracture", "G.gds", "K"];
-    // the words, whether the layout is there, whether it is the other one, how much of the deck is there, the answer,
-    // what is said
-    let rows: [(&[&str], bool, bool, usize, Status, &str); 7] = [
-        (
-            &fracture,
-            true,
-            true,
-            50,
-            early_layout,
-            "layout refused: not built\n",
-        ),
-        (
-            &fracture,
-            true,
-            false,
-            30,
-            early_deck,
-            "deck refused: not built\n",
-        ),
-        (
-            &fracture,
-            false,
-            false,
-            50,
-            Status::ReadFault,
-            "read fault\n",
-        ),
-        (
-            &["fracture", "G.gds"],
-            true,
-            false,
-            50,
-            Status::Words,
-            "words refused\n",
-        ),
-        (&[], true, false, 50, Status::Words, "words refused\n"),
-        (
-            &["generate", "0", "F"],
-            true,
-            false,
-            50,
-            Status::Words,
-            "words refused\n",
-        ),
-        (
-            &["shots", "F"],
-            true,
-            false,
-            50,
-            Status::ReadFault,
-            "read fault\n",
-        ),
-    ];
-    for (parts, there, changed, deck, want, line) in rows {
+    for (parts, there, changed, deck, want, line) in REFUSALS {
         let mut depot = MemDepot::new(alloc);
         if there {
             depot.add("G.gds", if changed { &other } else { &SQUARE })?;

@@ -6,7 +6,7 @@ use crate::parts::triangles_in;
 use crate::{Head, ShotWriter, Sums, encode, writing_law};
 use depot::{DepotBad, MemDepot};
 use geo_stream::FromSlice;
-use half_grid::{Line, Trap};
+use half_grid::{Line, REACH, Trap};
 use layout_model::Pair;
 use std::alloc::Global;
 use std::test::Fail;
@@ -26,56 +26,56 @@ fn square() -> Option<Trap> {
     Trap::new(0, 20, Line::Upright(0), Line::Upright(20))
 }
 
+// The rows and the lines of a shot, and its record.
+const RECORDS: [(i64, i64, Line, Line, &[u8]); 7] = [
+    (0, 20, Line::Upright(0), Line::Upright(20), SQUARE),
+    (
+        0,
+        20,
+        Line::Rising(0),
+        Line::Upright(20),
+        b"\x18\x7B\x01\x00\x14\x14\x28\x00\x00",
+    ),
+    (
+        0,
+        11,
+        Line::Rising(0),
+        Line::Falling(11),
+        b"\x17\x7B\x01\x00\x16\x0B\x16\x17\x00\x00",
+    ),
+    (
+        -1,
+        0,
+        Line::Upright(-1),
+        Line::Upright(23),
+        b"\x14\x7B\x01\x00\x18\x01\x03\x03",
+    ),
+    (
+        0,
+        1,
+        Line::Upright(-1),
+        Line::Upright(23),
+        b"\x14\x7B\x01\x00\x18\x01\x03\x00",
+    ),
+    (
+        1,
+        12,
+        Line::Rising(-1),
+        Line::Falling(12),
+        b"\x17\x7B\x01\x00\x18\x0B\x16\x17\x03\x02",
+    ),
+    (
+        -REACH,
+        1 - REACH,
+        Line::Upright(-REACH),
+        Line::Upright(1 - REACH),
+        b"\x14\x7B\x01\x00\x01\x01\x81\x80\x80\x80\x80\x80\x08\x81\x80\x80\x80\x80\x80\x08",
+    ),
+];
+
 #[test]
 fn records_of_shots(rt: HostRuntime) -> Result<(), Fail> {
-    let reach = half_grid::REACH;
-    // the rows and the lines of a shot, and its record
-    let rows: [(i64, i64, Line, Line, &[u8]); 7] = [
-        (0, 20, Line::Upright(0), Line::Upright(20), SQUARE),
-        (
-            0,
-            20,
-            Line::Rising(0),
-            Line::Upright(20),
-            b"\x18\x7B\x01\x00\x14\x14\x28\x00\x00",
-        ),
-        (
-            0,
-            11,
-            Line::Rising(0),
-            Line::Falling(11),
-            b"\x17\x7B\x01\x00\x16\x0B\x16\x17\x00\x00",
-        ),
-        (
-            -1,
-            0,
-            Line::Upright(-1),
-            Line::Upright(23),
-            b"\x14\x7B\x01\x00\x18\x01\x03\x03",
-        ),
-        (
-            0,
-            1,
-            Line::Upright(-1),
-            Line::Upright(23),
-            b"\x14\x7B\x01\x00\x18\x01\x03\x00",
-        ),
-        (
-            1,
-            12,
-            Line::Rising(-1),
-            Line::Falling(12),
-            b"\x17\x7B\x01\x00\x18\x0B\x16\x17\x03\x02",
-        ),
-        (
-            -reach,
-            1 - reach,
-            Line::Upright(-reach),
-            Line::Upright(1 - reach),
-            b"\x14\x7B\x01\x00\x01\x01\x81\x80\x80\x80\x80\x80\x08\x81\x80\x80\x80\x80\x80\x08",
-        ),
-    ];
-    for (y0, y1, left, right, record) in rows {
+    for (y0, y1, left, right, record) in RECORDS {
         let shot = Trap::new(y0, y1, left, right).ok_or("no shot")?;
         assert_eq!(rt; encode(&shot, PAIR).bytes(), record);
     }
