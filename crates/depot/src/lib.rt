@@ -1,6 +1,7 @@
 //! The outside of the program: files by name, and what it says. Files in memory, real files, and whole reads and writes.
 #![tactic(auto)]
 
+mod buffer;
 mod filing;
 mod memory;
 mod outside;
@@ -9,6 +10,7 @@ mod store;
 mod sure;
 mod whole;
 
+pub use buffer::{BUFFER_SIZE, Buffer};
 pub use memory::MemDepot;
 pub use outside::{Depot, DepotBad};
 pub use real::FileDepot;

@@ -25,7 +25,7 @@ text_whole text all f shots i h e = sym (append-nil text) ∙ ap (λ zs. text ++
 pub fit_of : (bytes : List ℕ) (unit : ℕ) (top : List ℕ) (l : LayoutData) → IsLayoutOf bytes unit top l → IsFit l.points
 fit_of bytes unit top l h = record { closed = h.closed; edges = layout_grid bytes unit top l h; near = h.near }
 
-left_only : (b a : Content) → a ≡ with_left b [] → ChangesLeftOnly b a
+pub left_only : (b a : Content) → a ≡ with_left b [] → ChangesLeftOnly b a
 left_only b a e = subst (λ (c : Content). c ≡ with_left b c.left) (sym e) refl
 
 -- what the writing of an accepted layout owes is what the layout owes

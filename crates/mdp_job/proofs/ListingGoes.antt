@@ -15,6 +15,7 @@ use Rattle.mdp_job.specs.Listings.{ShotData, HoldsShots, HoldsFault, IsListingAn
 use Rattle.mdp_job.specs.Parts.{run_of}
 use Rattle.mdp_job.specs.declared.status.Status.{Status}
 use Rattle.mdp_job.specs.declared.status.Status.TheVariants as answers
+use Rattle.mdp_job.proofs.Goes.{left_only}
 
 pub told_answers : (b a : Content) (o n p : Counts) (file : List ℕ) (s : ShotData) (result : Status)
     → HoldsShots b file s → o.write_faults ≤ n.write_faults → IsTold (run_of (with_left b []) a n p) s result → IsListingAnswer (run_of b a o p) file result
@@ -27,21 +28,18 @@ told_answers b a o n p file s answers.WriteFault holds le (rose, part) = (Rose-l
 told_answers b a o n p file s answers.NoMemory holds le part = inr (s, holds, part)
 told_answers b a o n p file s (answers.No place fault) holds le w = absurd w
 
-left_by : (b a : Content) → a ≡ with_left b [] → ChangesLeftOnly b a
-left_by b a e = subst (λ (c : Content). c ≡ with_left b c.left) (sym e) refl
-
 fault_held : (b : Content) (file bytes : List ℕ) (bad : ShotBad) → held_as b file ≡ Some bytes → length bytes ≤ 268435456 → IsFirstFault bytes bad → HoldsFault b file bad
 fault_held b file bytes bad held short fault = record { bytes = bytes; held = held; short = short; fault = fault }
 
 -- what the refusal of a shot file owes
 pub refused_answers : (b a : Content) (o p : Counts) (file bytes : List ℕ) (bad : ShotBad) → held_as b file ≡ Some bytes → length bytes ≤ 268435456 → (bad ≢ Wanting → IsFirstFault bytes bad)
     → a ≡ with_left b [] → IsListingAnswer (run_of b a o p) file (refused_shots bad)
-refused_answers b a o p file bytes (Head at) held short fault rest = (refl, fault_held b file bytes (Head at) held short (fault (λ e. let no : ⊥ = cc in no)), left_by b a rest)
-refused_answers b a o p file bytes (Record at) held short fault rest = (refl, fault_held b file bytes (Record at) held short (fault (λ e. let no : ⊥ = cc in no)), left_by b a rest)
-refused_answers b a o p file bytes (Spelling at) held short fault rest = (refl, fault_held b file bytes (Spelling at) held short (fault (λ e. let no : ⊥ = cc in no)), left_by b a rest)
-refused_answers b a o p file bytes (Illegal at) held short fault rest = (refl, fault_held b file bytes (Illegal at) held short (fault (λ e. let no : ⊥ = cc in no)), left_by b a rest)
-refused_answers b a o p file bytes (End at) held short fault rest = (refl, fault_held b file bytes (End at) held short (fault (λ e. let no : ⊥ = cc in no)), left_by b a rest)
-refused_answers b a o p file bytes Wanting held short fault rest = inl (left_by b a rest)
+refused_answers b a o p file bytes (Head at) held short fault rest = (refl, fault_held b file bytes (Head at) held short (fault (λ e. let no : ⊥ = cc in no)), left_only b a rest)
+refused_answers b a o p file bytes (Record at) held short fault rest = (refl, fault_held b file bytes (Record at) held short (fault (λ e. let no : ⊥ = cc in no)), left_only b a rest)
+refused_answers b a o p file bytes (Spelling at) held short fault rest = (refl, fault_held b file bytes (Spelling at) held short (fault (λ e. let no : ⊥ = cc in no)), left_only b a rest)
+refused_answers b a o p file bytes (Illegal at) held short fault rest = (refl, fault_held b file bytes (Illegal at) held short (fault (λ e. let no : ⊥ = cc in no)), left_only b a rest)
+refused_answers b a o p file bytes (End at) held short fault rest = (refl, fault_held b file bytes (End at) held short (fault (λ e. let no : ⊥ = cc in no)), left_only b a rest)
+refused_answers b a o p file bytes Wanting held short fault rest = inl (left_only b a rest)
 
 some : (l d : ℕ) (z : Trapezoid) → 1 ≤ length (spelling_of l d z)
 unfolding spelling_of

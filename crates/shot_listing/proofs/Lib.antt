@@ -1,3 +1,2 @@
 pub mod SaidSoFar
-pub mod Triangles
 pub mod Fields

@@ -23,6 +23,14 @@ pub say_held : {old now : Content} {bytes held : List ℕ} (later : Content) →
 say_held {old} {now} {bytes} {held} later p e =
     e ∙ ap (λ c. with_said c held) p.content ∙ with_said-twice old p.said held ∙ ap (with_said old) p.whole
 
+-- one more piece is put behind what is held, of which some is said before
+pub said_then : {old now later : Content} {bytes held rest : List ℕ} (more : List ℕ) → IsSaidButFor old bytes held now → IsSaidButFor now (held ++ more) rest later → IsSaidButFor old (bytes ++ more) rest later
+said_then {old} {now} {later} {bytes} {held} {rest} more p q = record {
+  said = p.said ++ q.said;
+  content = q.content ∙ ap (λ c. with_said c q.said) p.content ∙ with_said-twice old p.said q.said;
+  whole = append_assoc p.said q.said rest ∙ ap (λ l. p.said ++ l) q.whole ∙ sym (append_assoc p.said held more) ∙ ap (λ l. l ++ more) p.whole;
+}
+
 -- a refusal of what was held leaves a prefix of all
 pub part_held : {old now : Content} {bytes held : List ℕ} (later : Content) → IsSaidButFor old bytes held now → IsPartSaid now held later → IsPartSaid old bytes later
 part_held {old} {now} {bytes} {held} later p part = (
@@ -47,7 +55,7 @@ texts_cut f bytes xs i =
     ∙ ap (λ l. bytes ++ l) (sym (flat_map-append f (take i xs) (drop i xs)) ∙ ap (flat_map f) (take-append-drop i xs))
 
 -- one more text behind those of the first items
-texts_more : {X : Type 0} (f : X → List ℕ) (bytes : List ℕ) (xs : List X) (i : ℕ) (x : X) → take (i + 1) xs ≡ take i xs ++ x ∷ [] → (bytes ++ flat_map f (take i xs)) ++ f x ≡ bytes ++ flat_map f (take (i + 1) xs)
+pub texts_more : {X : Type 0} (f : X → List ℕ) (bytes : List ℕ) (xs : List X) (i : ℕ) (x : X) → take (i + 1) xs ≡ take i xs ++ x ∷ [] → (bytes ++ flat_map f (take i xs)) ++ f x ≡ bytes ++ flat_map f (take (i + 1) xs)
 texts_more f bytes xs i x e = flat_map_more f bytes (take i xs) x ∙ ap (λ l. bytes ++ flat_map f l) (sym e)
 
 -- a refusal after what was held is said leaves a prefix of it and of the next piece

@@ -5,10 +5,10 @@ ghost use Rattle.depot.specs.Counts.{Rose, NeverFall};
 ghost use Rattle.shot_listing.specs.Listing.{listing, sums_line};
 ghost use Rattle.shot_listing.specs.Saying.{joined};
 
-use crate::buffer::{Buffer, flush, make_room, put_piece};
+use crate::buffer::{flush, make_room, put_piece};
 use crate::lines::{put_layer, put_sums, put_unit};
 use crate::shots::put_shots;
-use depot::{Depot, DepotBad};
+use depot::{Buffer, Depot, DepotBad};
 use half_grid::Trap;
 use layout_model::Pair;
 

@@ -2,23 +2,15 @@
 ghost use Rattle.std.specs.Prelude.{◌≡◌, ◌+◌, ◌^◌, ◌<◌, ◌≤◌, IsTrue, IfOk, OnOk, OnErr, IsErrOf, ◌++◌, length, flat_map};
 ghost use Rattle.depot.specs.Content.{IsPartSaid};
 ghost use Rattle.depot.specs.Counts.{Rose, NeverFall};
-ghost use Rattle.shot_writer.specs.Writing.{triangles_in, triangles_of};
+ghost use Rattle.shot_writer.specs.Writing.{triangles_of};
 ghost use Rattle.shot_listing.specs.Listing.{shot_line};
 ghost use Rattle.shot_listing.specs.Saying.{IsSaidButFor};
 
-use crate::buffer::{Buffer, make_room};
+use crate::buffer::make_room;
 use crate::lines::put_shot;
-use depot::{Depot, DepotBad};
-use half_grid::{Trap, size_of};
-
-// How many triangles a shot has.
-fn triangles_in(shot: &Trap) -> u128
-    ensures value { result ≡ triangles_in shot.now }
-    ensures few { result ≤ 2 ^ 91 }
-{
-    let _bottom = shot.y0();
-    size_of(shot)
-}
+use depot::{Buffer, Depot, DepotBad};
+use half_grid::Trap;
+use shot_writer::triangles_in;
 
 // Puts the line of a shot into the buffer, which is said first where it has no room.
 fn put_line<D: Depot>(depot: &mut D, buffer: &mut Buffer, shot: &Trap) -> Result<(), DepotBad>

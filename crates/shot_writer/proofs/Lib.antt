@@ -1,2 +1,3 @@
 mod SoFar
+mod Triangles
 pub mod ForCallers

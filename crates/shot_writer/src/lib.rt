@@ -12,5 +12,5 @@ mod tests;
 mod writer;
 
 pub use laws::writing_law;
-pub use parts::{Head, Sums, encode};
+pub use parts::{Head, Sums, encode, triangles_in};
 pub use writer::ShotWriter;

@@ -1,4 +1,4 @@
-ghost use Rattle.std.specs.Prelude.{◌≡◌, ◌^◌, ◌<◌};
+ghost use Rattle.std.specs.Prelude.{◌≡◌, ◌^◌, ◌<◌, ◌≤◌};
 ghost use Rattle.oas_lex.specs.ShotText.{spelling_of};
 ghost use Rattle.shot_writer.specs.Writing.{triangles_in};
 
@@ -33,10 +33,11 @@ pub fn encode(trap: &Trap, pair: Pair) -> Spell
     spell_shot(trap, pair.layer, pair.datatype)
 }
 
-// How many triangles a shot has.
-pub(crate) fn triangles_in(trap: &Trap) -> u128
+/// How many triangles a shot has.
+pub fn triangles_in(trap: &Trap) -> u128
     ensures value { result ≡ triangles_in trap.now }
     ensures some { 0 < result }
+    ensures few { result ≤ 2 ^ 91 }
 {
     let _bottom = trap.y0();
     size_of(trap)

@@ -6,9 +6,9 @@ ghost use Rattle.geo_stream.specs.Stream.{HasList};
 ghost use Rattle.half_grid.specs.Trapezoids.{Trapezoid};
 ghost use Rattle.shot_writer.specs.Writing.{triangles_of, records_of, StandsForSuffix, AreSumsAfter};
 
-use crate::buffer::{Buffer, flush, put_bytes};
+use crate::buffer::{flush, put_bytes};
 use crate::parts::{Sums, encode, triangles_in};
-use depot::{Depot, DepotBad};
+use depot::{Buffer, Depot, DepotBad};
 use geo_stream::Stream;
 use half_grid::Trap;
 use layout_model::Pair;

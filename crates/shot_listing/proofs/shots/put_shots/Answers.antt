@@ -1,5 +1,10 @@
+use Rattle.std.proofs.Common.{◌≡◌, ℕ, ◌+◌, List, ◌∷◌, [], ◌++◌, take, sym, ap, subst, ◌∙◌, rules, arith}
+use Rattle.std.proofs.lemmas.List.{take_more}
+use Rattle.std.proofs.lemmas.List.Sums.{sum_by_more}
+use Rattle.shot_writer.specs.Writing.{triangles_in, triangles_of}
 use Rattle.shot_listing.specs.Listing.{shot_line}
-use Rattle.shot_listing.proofs.SaidSoFar.{refused, part_of_texts}
+use Rattle.shot_listing.specs.Saying.{IsSaidButFor}
+use Rattle.shot_listing.proofs.SaidSoFar.{refused, part_of_texts, said_then, texts_more}
 use Rattle.shot_listing.proofs.shots.put_shots.Goals as goal
 
 pub returns-in_err-put_line-clause-refused : goal.returns-in_err-put_line-clause-refused
@@ -7,3 +12,20 @@ returns-in_err-put_line-clause-refused g c =
     let at = g.D.Depot.content in
     let l = c.loop-shot in
     refused c.from_residual.result _ (λ told. part_of_texts (at c.put_line.new.depot) shot_line c.args.buffer.now c.args.shots.now l.shot-index (l.invariant.said told) (c.in_err-put_line.ensures.refused told))
+
+pub loop-shot-preserved : goal.loop-shot-preserved
+loop-shot-preserved g c =
+    let at = g.D.Depot.content in
+    let l = c.loop-shot in
+    let xs = c.args.shots.now in
+    let z = c.shot-item.result in
+    let more = take_more xs l.shot-index z c.loop-shot-test.true ∙ ap (λ x. take l.shot-index xs ++ x ∷ []) (sym c.shot-item.is) in
+    record {
+      triangles = ap (λ n. n + c.triangles_in-triangles.result) l.invariant.triangles
+          ∙ ap (λ n. triangles_of (take l.shot-index xs) + n) (c.triangles_in-triangles.ensures.value ∙ ap triangles_in c.shot-item.is)
+          ∙ sym (sum_by_more triangles_in xs l.shot-index z c.loop-shot-test.true);
+      few = search rules;
+      said = λ told. subst (λ (t : List ℕ). IsSaidButFor (at c.args.depot.now) t c.put_line.new.buffer (at c.put_line.new.depot)) (texts_more shot_line c.args.buffer.now xs l.shot-index z more)
+          (said_then (shot_line z) (l.invariant.said told) (c.in_ok-put_line.ensures.ok told));
+      counted = search rules;
+    }
