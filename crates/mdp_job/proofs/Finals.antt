@@ -1,18 +1,18 @@
 -- From the table of answers, and the line that is said after it, to the rows of the program's call.
-use Rattle.std.proofs.Common.{◌≡◌, ◌≢◌, ◌⊎◌, inl, inr, ℕ, ◌≤◌, List, [], ◌++◌, length, take, refl, sym, ap, subst, ◌∙◌, arith}
+use Rattle.std.proofs.Common.{◌≡◌, ◌≢◌, ◌⊎◌, inl, inr, ℕ, List, [], ◌++◌, length, take, refl, sym, ap, subst, ◌∙◌}
 use Rattle.std.proofs.lemmas.List.{append-nil}
 use Rattle.std.proofs.Math.Seq.{take-length}
 use Rattle.depot.specs.Content.{Content, ChangesLeftOnly, with_left, with_said, IsPartSaid, IsPartMade}
 use Rattle.depot.specs.Counts.{Counts, NeverFall, Rose}
 use Rattle.depot.proofs.ForCallers.{Rose-later, Rose-earlier}
-use Rattle.mdp_job.specs.Words.{IsFracture, IsShots, file_word}
+use Rattle.mdp_job.specs.Words.{IsShots, file_word}
 use Rattle.mdp_job.specs.FirstDeck.{DeckData}
 use Rattle.mdp_job.specs.FirstLayout.{LayoutData}
 use Rattle.mdp_job.specs.Answers.{IsAnswer, HoldsBoth, WritesPart}
 use Rattle.mdp_job.specs.Listings.{ShotData, HoldsShots, IsListingAnswer, listed}
 use Rattle.mdp_job.specs.Lines.{line_of}
 use Rattle.mdp_job.specs.Parts.{run_of, IsAnswerTo}
-use Rattle.mdp_job.specs.Clauses.{MaySay, SaysLine, Says, IsRefusal, Spares, Keeps, Spoils, Covers, Lists, quiet}
+use Rattle.mdp_job.specs.Clauses.{MaySay, SaysLine, Says, IsRefusal, Spares, Keeps, Spoils, Covers, Lists}
 use Rattle.mdp_job.specs.declared.status.Status.{Status}
 use Rattle.mdp_job.specs.declared.status.Status.TheVariants as answers
 use Rattle.mdp_job.specs.declared.status.DeckFault.TheVariants as deck_faults

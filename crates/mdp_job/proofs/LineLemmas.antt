@@ -1,5 +1,5 @@
 -- Lines that are said piece by piece.
-use Rattle.std.proofs.Common.{◌≡◌, ℕ, List, ◌++◌, append_assoc, refl, ◌∙◌}
+use Rattle.std.proofs.Common.{◌≡◌, ℕ, List, ◌++◌, append_assoc}
 use Rattle.std.specs.Prelude.{codes, decimal}
 use Rattle.mdp_job.specs.Lines.{fault_line, check_line}
 use Rattle.mdp_job.specs.declared.status.CheckFault.TheVariants as check_faults

@@ -1,8 +1,8 @@
 -- What saying a listing owes is what the command `shots` owes, and a shot file hasn't more shots than bytes.
-use Rattle.std.proofs.Common.{◌≡◌, ◌≢◌, Some, inl, inr, ℕ, zero, suc, ◌≤◌, ◌+◌, List, [], ◌∷◌, ◌++◌, length, refl, sym, ap, subst, ◌∙◌, arith, length-append, Option}
+use Rattle.std.proofs.Common.{◌≡◌, ◌≢◌, Some, inl, inr, ℕ, ◌≤◌, List, [], ◌∷◌, ◌++◌, length, refl, ap, arith, length-append, Option}
 use Rattle.std.specs.Prelude.{flat_map}
 use Rattle.half_grid.specs.Trapezoids.{Trapezoid}
-use Rattle.depot.specs.Content.{Content, held_as, ChangesLeftOnly, with_left}
+use Rattle.depot.specs.Content.{Content, held_as, with_left}
 use Rattle.depot.specs.Counts.{Counts}
 use Rattle.depot.proofs.ForCallers.{Rose-later}
 use Rattle.layout_model.specs.declared.pair.Pair.{Pair}

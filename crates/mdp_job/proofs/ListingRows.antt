@@ -1,5 +1,5 @@
 -- The rows of the table of answers that speak of shot files, and those that speak of both commands, from the table.
-use Rattle.std.proofs.Common.{◌≡◌, ◌≢◌, ◌⊎◌, inl, inr, ℕ, ◌≤◌, List, length, refl, sym, subst, ◌∙◌}
+use Rattle.std.proofs.Common.{◌≡◌, ◌≢◌, ◌⊎◌, inl, inr, ℕ, List, refl, sym, subst, ◌∙◌}
 use Rattle.depot.specs.Content.{Content, held_as, IsNotThere, IsLongerThan}
 use Rattle.depot.proofs.ForCallers.{longer_there}
 use Rattle.shot_reader.specs.Reading.{IsFileOf}
@@ -13,8 +13,6 @@ use Rattle.mdp_job.specs.Parts.{IsAnswerTo}
 use Rattle.mdp_job.specs.Clauses.{IsAccepted, Accepts, IsUnreadable, ReadFaults, WriteFaults, ShotsLong, ShotsBad, Belongs}
 use Rattle.mdp_job.specs.declared.status.Status.{Status}
 use Rattle.mdp_job.specs.declared.status.Status.TheVariants as answers
-use Rattle.mdp_job.specs.declared.status.DeckFault.{DeckFault}
-use Rattle.mdp_job.specs.declared.status.LayoutFault.{LayoutFault}
 use Rattle.mdp_job.specs.declared.status.CheckFault.{CheckFault}
 use Rattle.mdp_job.specs.declared.status.CheckFault.TheVariants as check_faults
 use Rattle.mdp_job.proofs.RowLemmas.{one_content, there, too_long, not_both, answer_for, wanting_due, done_due}

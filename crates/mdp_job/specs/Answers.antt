@@ -9,7 +9,6 @@ use Rattle.half_grid.specs.declared.plane.Tile.{Tile}
 use Rattle.depot.specs.Content.{Content, held_as, IsNotThere, IsLongerThan, ChangesLeftOnly, with_left, with_file, IsPartMade}
 use Rattle.depot.specs.Counts.{Counts, Rose}
 use Rattle.oas_lex.specs.ShotText.{shot_text}
-use Rattle.mdp_job.specs.Words.{IsFracture}
 use Rattle.mdp_job.specs.FirstDeck.{DeckData, IsDeckOf}
 use Rattle.mdp_job.specs.FirstLayout.{LayoutData, IsLayoutOf}
 use Rattle.mdp_job.specs.Inside.{IsFirstShot}

@@ -1,9 +1,8 @@
 use Rattle.std.proofs.Common.{ap}
-use Rattle.depot.specs.Content.{Content}
-use Rattle.mdp_job.specs.Parts.{run_of, IsAnswerTo}
+use Rattle.mdp_job.specs.Parts.{run_of}
 use Rattle.mdp_job.proofs.RowLemmas.{deck_long, deck_early, layout_long, layout_early}
 use Rattle.mdp_job.proofs.ListingRows.{accepts, shots_long, shots_bad, read_faults, write_faults, belongs}
-use Rattle.mdp_job.proofs.Finals.{Ends, table_later, says, spares, keeps, spoils, covers, lists}
+use Rattle.mdp_job.proofs.Finals.{table_later, says, spares, keeps, spoils, covers, lists}
 use Rattle.mdp_job.proofs.job.run.Goals as goal
 
 pub returns-clause-accepted : goal.returns-clause-accepted

@@ -1,5 +1,3 @@
-use Rattle.std.proofs.Common.{subst, sym, ◌^◌, ◌<◌, length}
-use Rattle.shot_writer.specs.Writing.{triangles_of}
 use Rattle.mdp_job.proofs.Triangles.{few_triangles}
 use Rattle.mdp_job.proofs.job.write_shots.Goals as goal
 

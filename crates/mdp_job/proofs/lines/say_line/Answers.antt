@@ -1,4 +1,4 @@
-use Rattle.std.proofs.Common.{inl, ℕ, List, length, take, refl, sym, ap, subst, ◌∙◌, arith}
+use Rattle.std.proofs.Common.{inl, length, sym, ap, ◌∙◌, arith}
 use Rattle.std.proofs.Math.Seq.{take-length}
 use Rattle.depot.specs.Content.{with_said}
 use Rattle.mdp_job.specs.Lines.{line_of}

@@ -1,4 +1,4 @@
-use Rattle.std.proofs.Common.{◌≡◌, ℕ, List, subst, ap, arith, length, sym}
+use Rattle.std.proofs.Common.{subst, ap, arith, length, sym}
 use Rattle.depot.specs.Content.{Content}
 use Rattle.mdp_job.specs.Listings.{HoldsShots, IsListingAnswer, IsTold, shot_data}
 use Rattle.mdp_job.specs.Parts.{run_of}

@@ -1,4 +1,4 @@
-use Rattle.std.proofs.Common.{◌≡◌, ℕ, ◌+◌, List, ◌∷◌, [], ◌++◌, take, sym, ap, subst, ◌∙◌, rules, arith}
+use Rattle.std.proofs.Common.{ℕ, ◌+◌, List, ◌∷◌, [], ◌++◌, take, sym, ap, subst, ◌∙◌, rules}
 use Rattle.std.proofs.lemmas.List.{take_more}
 use Rattle.std.proofs.lemmas.List.Sums.{sum_by_more}
 use Rattle.shot_writer.specs.Writing.{triangles_in, triangles_of}
