@@ -1,5 +1,5 @@
 -- What crates above may cite: the spellings of integers and of shots, over plain variables.
-pub use Rattle.oas_lex.proofs.Groups.{unsigned_spells, unsigned_least, length_unsigned}
+pub use Rattle.oas_lex.proofs.Groups.{groups_last, groups_next, unsigned_spells, unsigned_least, length_unsigned}
 pub use Rattle.oas_lex.proofs.Codes.{signed_spells, code_below, code_names}
 pub use Rattle.oas_lex.proofs.Wholes.{none_begins}
 pub use Rattle.oas_lex.proofs.Reading.{has_one, has_not_wide, ends_not_has, ends_not_wide}

@@ -1,6 +1,7 @@
 -- A record is whole exactly where enough numbers end after its id and its info byte.
-use Rattle.std.proofs.Common.{◌≡◌, ℕ, zero, suc, ◌+◌, ◌<◌, ◌≤◌, Bool, true, false, cond, nat_lt, List, [], ◌∷◌, ◌++◌, length, refl, arith, ap, sym, ◌∙◌, inl, inr, append_assoc}
-use Rattle.std.specs.Prelude.{All}
+use Rattle.std.proofs.Common.{◌≡◌, ℕ, zero, suc, ◌+◌, ◌-◌, ◌<◌, ◌≤◌, Bool, true, false, cond, nat_lt, nat_le, List, [], ◌∷◌, ◌++◌, length, get_or, take, drop, refl, arith, ap, sym, subst, ◌∙◌, inl, inr, append_assoc}
+use Rattle.std.specs.Prelude.{All, IsTrue, Some as Just}
+use Rattle.shot_reader.proofs.Places.{rest_is}
 use Rattle.std.specs.List.{concat, count_by}
 use Rattle.std.proofs.lemmas.Bool.{cases_lt}
 use Rattle.std.proofs.lemmas.Bool.Decides.{nat_tests}
@@ -139,3 +140,35 @@ pub whole_not_end : (rest after : List ℕ) → IsWhole rest → rest ≡ 2 ∷ 
 whole_not_end rest after w e =
     let same : w.id ∷ 123 ∷ concat w.numbers ++ w.after ≡ 2 ∷ after = sym w.text ∙ e in
     id_not_end w.id (length w.numbers) w.count (cc)
+
+-- ---- the same, by what a function reads
+
+pub record Shown (rest : List ℕ) : Type 0 where
+  pub size : 2 ≤ length rest
+  pub info : get_or rest 1 0 ≡ 123
+  pub count : ℕ
+  pub has : HasNumbers (get_or rest 0 0) count
+  pub enough : count ≤ ends (drop 2 rest)
+
+shown_by : (id count : ℕ) (body : List ℕ) → HasNumbers id count → count ≤ ends body → Shown (id ∷ 123 ∷ body)
+shown_by id count body h g = record { size = omega arith; info = refl; count = count; has = h; enough = g }
+
+pub whole_shown : (rest : List ℕ) → IsWhole rest → Shown rest
+whole_shown rest w = let b : Begun rest = whole_begun rest w in subst (λ (t : List ℕ). Shown t) (sym b.text) (shown_by b.id b.count b.body b.has b.enough)
+
+pub whole_if : (rest : List ℕ) (count : ℕ) → 2 ≤ length rest → get_or rest 1 0 ≡ 123 → HasNumbers (get_or rest 0 0) count → count ≤ ends (drop 2 rest) → IsWhole rest
+whole_if [] count h info has enough = absurd (omega arith)
+whole_if (a ∷ []) count h info has enough = absurd (omega arith)
+whole_if (a ∷ b ∷ xs) count h info has enough = subst (λ (n : ℕ). IsWhole (a ∷ n ∷ xs)) (sym info) (whole_by a count xs has enough)
+
+pub ends_is : (rest : List ℕ) (n : ℕ) → n ≡ count_by (λ b. nat_lt b 128) (take (length rest - 2) (drop 2 rest)) → n ≡ ends (drop 2 rest)
+ends_is rest n e = e ∙ (ap (λ (t : List ℕ). count_by (λ b. nat_lt b 128) t) (rest_is rest 2) ∙ sym (ends_count (drop 2 rest)))
+
+pub le_by : (count n m : ℕ) → n ≡ m → IsTrue (nat_le count n) → count ≤ m
+le_by count n m e h = grind (arith, nat_tests)
+
+pub le_true : (count own n m : ℕ) → count ≡ own → n ≡ m → own ≤ m → IsTrue (nat_le count n)
+le_true count own n m e f h = grind (arith, nat_tests)
+
+pub some_one : (a b : ℕ) → Just a ≡ Just b → a ≡ b
+some_one a b e = cc

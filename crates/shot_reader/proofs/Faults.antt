@@ -1,7 +1,9 @@
 -- Bytes have one first fault at most, and a shot file has none.
-use Rattle.std.proofs.Common.{◌≡◌, ◌≢◌, ◌⊎◌, ℕ, suc, ◌<◌, ◌≤◌, ◌^◌, ◌*◌, Option, Some, None, List, [], ◌∷◌, ◌++◌, length, take, drop, append_assoc, refl, arith, ap, sym, subst, ◌∙◌, inl, inr}
-use Rattle.std.proofs.lemmas.List.{append_cancel_left, take-append-drop, length-drop}
-use Rattle.std.specs.Prelude.{All, flat_map}
+use Rattle.std.proofs.Common.{◌≡◌, ◌≢◌, ◌⊎◌, ℕ, suc, ◌<◌, ◌≤◌, ◌^◌, ◌*◌, Option, Some, None, List, [], ◌∷◌, ◌++◌, length, take, drop, get_or, append_assoc, refl, arith, ap, sym, subst, ◌∙◌, inl, inr}
+use Rattle.std.proofs.lemmas.List.{take-append-drop, length-drop, length-append}
+use Rattle.std.proofs.Math.Seq.{take-append_seam, drop-append_seam}
+use Rattle.std.specs.Prelude.{All, flat_map, Result, Err}
+use Rattle.std.specs.List.{concat}
 use Rattle.half_grid.specs.Trapezoids.{Trapezoid, IsShot}
 use Rattle.layout_model.specs.declared.pair.Pair.{Pair}
 use Rattle.oas_lex.specs.ShotText.{IsUnit, head, record_id, spelling_of, shot_text, end}
@@ -11,11 +13,11 @@ use Rattle.shot_reader.specs.declared.fields.Fields.{Fields}
 use Rattle.shot_reader.specs.declared.refusing.ShotBad.{ShotBad}
 use Rattle.shot_reader.specs.declared.refusing.ShotBad.TheVariants as faults
 use Rattle.shot_reader.specs.Fields.{HasShape, AreNarrow, text_of}
-use Rattle.shot_reader.specs.Reading.{Agrees, IsPairOf, IsFileOf}
+use Rattle.shot_reader.specs.Reading.{Agrees, IsPairOf, records_with}
 use Rattle.shot_reader.specs.Refusals.{BeginsHead, IsHeadFault, IsWhole, IsSpelled, BeginsEnd, IsRecordFault, IsReadUpTo, IsFirstFault}
 use Rattle.shot_reader.proofs.Ends.{whole_not_end}
 use Rattle.shot_reader.proofs.Names.{fields_of, text_names, text_whole, shot_shape, shot_text_is, shot_narrow}
-use Rattle.shot_reader.proofs.Rests.{unit_small, body, text_head}
+use Rattle.shot_reader.proofs.Rests.{unit_small, up_to}
 
 -- ---- at one record
 
@@ -146,12 +148,16 @@ pub up_whole : (bytes : List ℕ) (at : ℕ) (first : Option Pair) (u : IsReadUp
 up_whole bytes at first u =
     sym (take-append-drop at bytes) ∙ (ap (λ (t : List ℕ). t ++ drop at bytes) u.text ∙ append_assoc (head u.unit) (flat_map (spelling_of u.layer u.datatype) u.shots) (drop at bytes))
 
+up_rest : (bytes : List ℕ) (at to : ℕ) (first other : Option Pair) (u : IsReadUpTo bytes at first) (v : IsReadUpTo bytes to other)
+    → (u.unit ≡ v.unit) × (flat_map (spelling_of u.layer u.datatype) u.shots ++ drop at bytes ≡ flat_map (spelling_of v.layer v.datatype) v.shots ++ drop to bytes)
+up_rest bytes at to first other u v =
+    head_peel u.unit v.unit (flat_map (spelling_of u.layer u.datatype) u.shots ++ drop at bytes) (flat_map (spelling_of v.layer v.datatype) v.shots ++ drop to bytes) (unit_small u.unit u.unit_fits) (unit_small v.unit v.unit_fits)
+    (sym (up_whole bytes at first u) ∙ up_whole bytes to other v)
+
 up_same : (bytes : List ℕ) (at to : ℕ) (first other : Option Pair) (u : IsReadUpTo bytes at first) (v : IsReadUpTo bytes to other) → Ends first (drop at bytes) → Ends other (drop to bytes)
     → Same u.layer u.datatype v.layer v.datatype u.shots v.shots (drop at bytes) (drop to bytes)
 up_same bytes at to first other u v s t =
-    let rest = head_peel u.unit v.unit (flat_map (spelling_of u.layer u.datatype) u.shots ++ drop at bytes) (flat_map (spelling_of v.layer v.datatype) v.shots ++ drop to bytes) (unit_small u.unit u.unit_fits) (unit_small v.unit v.unit_fits)
-    (sym (up_whole bytes at first u) ∙ up_whole bytes to other v) in
-    meet_pairs u.layer u.datatype v.layer v.datatype first other u.shots v.shots (drop at bytes) (drop to bytes) u.narrow v.narrow u.legal v.legal u.pair_fits v.pair_fits u.agrees v.agrees s t rest.1
+    meet_pairs u.layer u.datatype v.layer v.datatype first other u.shots v.shots (drop at bytes) (drop to bytes) u.narrow v.narrow u.legal v.legal u.pair_fits v.pair_fits u.agrees v.agrees s t (up_rest bytes at to first other u v).1
 
 fault_ends : (first : Option Pair) (rest : List ℕ) (at : ℕ) (bad : ShotBad) → IsRecordFault first rest at bad → Ends first rest
 fault_ends first rest at bad f l d p g = fault_stops first l d rest at bad p g f
@@ -187,3 +193,85 @@ no_fault bytes at first bad u e (inl b) = b.2.no_head u.unit _ u.unit_fits (up_w
 no_fault bytes at first bad u e (inr b) =
     let same = up_same bytes at b.0 first b.1 u b.2 (λ l d p g. end_stops l d (drop at bytes) p e) (fault_ends b.1 (drop b.0 bytes) b.0 bad b.3) in
     end_right b.1 (drop b.0 bytes) b.0 bad (sym same.rest ∙ e) b.3
+
+-- ---- the text of shots
+
+front_of : ℕ → ℕ → ℕ → List Trapezoid → List ℕ
+front_of unit l d shots = head unit ++ flat_map (spelling_of l d) shots
+
+text_front : (unit l d : ℕ) (shots : List Trapezoid) → shot_text unit l d shots ≡ front_of unit l d shots ++ end
+unfolding shot_text front_of
+text_front unit l d shots = refl
+
+pair_for : ℕ → ℕ → List Trapezoid → Option Pair
+pair_for l d [] = None
+pair_for l d (z ∷ zs) = Some (record { layer = l; datatype = d })
+
+pair_for_fits : (l d : ℕ) (shots : List Trapezoid) → IsNarrowPair l d → IsPairOf (pair_for l d shots) shots
+unfolding pair_for
+pair_for_fits l d [] p = refl
+pair_for_fits l d (z ∷ zs) p = (λ e. absurd (cc), p)
+
+pair_for_agrees : (l d : ℕ) (shots : List Trapezoid) → Agrees (pair_for l d shots) l d
+unfolding pair_for
+pair_for_agrees l d [] = tt
+pair_for_agrees l d (z ∷ zs) = (refl, refl)
+
+text_up : (bytes : List ℕ) (unit l d : ℕ) (shots : List Trapezoid) → IsUnit unit → IsNarrowPair l d → All IsShot shots → bytes ≡ shot_text unit l d shots
+    → IsReadUpTo bytes (length (front_of unit l d shots)) (pair_for l d shots)
+unfolding front_of
+text_up bytes unit l d shots h p all e =
+    let whole = e ∙ text_front unit l d shots in
+    record {
+      within = omega (arith, ap length whole, length-append (front_of unit l d shots) end);
+      unit = unit;
+      unit_fits = h;
+      shots = shots;
+      legal = all;
+      layer = l;
+      datatype = d;
+      narrow = p;
+      pair_fits = pair_for_fits l d shots p;
+      agrees = pair_for_agrees l d shots;
+      text = ap (take (length (front_of unit l d shots))) whole ∙ take-append_seam (front_of unit l d shots) end;
+    }
+
+text_rest : (bytes : List ℕ) (unit l d : ℕ) (shots : List Trapezoid) → bytes ≡ shot_text unit l d shots → drop (length (front_of unit l d shots)) bytes ≡ end
+text_rest bytes unit l d shots e = ap (drop (length (front_of unit l d shots))) (e ∙ text_front unit l d shots) ∙ drop-append_seam (front_of unit l d shots) end
+
+-- the text of shots has no fault
+pub text_right : (bytes : List ℕ) (unit l d : ℕ) (shots : List Trapezoid) (bad : ShotBad) → IsUnit unit → IsNarrowPair l d → All IsShot shots → bytes ≡ shot_text unit l d shots → IsFirstFault bytes bad → ⊥
+text_right bytes unit l d shots bad h p all e =
+    no_fault bytes (length (front_of unit l d shots)) (pair_for l d shots) bad (text_up bytes unit l d shots h p all e) (text_rest bytes unit l d shots e)
+
+agrees_by : (first : Option Pair) (ys : List Trapezoid) (l d m e : ℕ) → IsPairOf first ys → Agrees first l d → (ys ≢ [] → l ≡ m) → (ys ≢ [] → d ≡ e) → Agrees first m e
+agrees_by None ys l d m e h g p q = tt
+agrees_by (Some r) ys l d m e h g p q = (g.0 ∙ p h.0, g.1 ∙ q h.0)
+
+-- what was read up to END is what the text says
+pub text_read : (bytes : List ℕ) (at : ℕ) (first : Option Pair) (u : IsReadUpTo bytes at first) (unit l d : ℕ) (shots : List Trapezoid) → drop at bytes ≡ end → IsUnit unit → IsNarrowPair l d → All IsShot shots → bytes ≡ shot_text unit l d shots
+    → (u.unit ≡ unit) × (u.shots ≡ shots) × Agrees first l d
+unfolding text_up
+text_read bytes at first u unit l d shots last h p all e =
+    let v = text_up bytes unit l d shots h p all e in
+    let same = up_same bytes at (length (front_of unit l d shots)) first (pair_for l d shots) u v (λ m k q g. end_stops m k (drop at bytes) q last) (λ m k q g. end_stops m k (drop (length (front_of unit l d shots)) bytes) q (text_rest bytes unit l d shots e)) in
+    ((up_rest bytes at (length (front_of unit l d shots)) first (pair_for l d shots) u v).0, same.shots, agrees_by first u.shots u.layer u.datatype l d u.pair_fits u.agrees same.layer same.datatype)
+
+-- ---- what was told
+
+pub read_fault : (bytes : List ℕ) (from at unit : ℕ) (pair : Option Pair) (shots : List Trapezoid) (bad : ShotBad) → IsUnit unit → at ≤ length bytes → bytes ≡ head unit ++ drop from bytes → IsPairOf pair shots → All IsShot shots
+    → drop from bytes ≡ records_with pair shots ++ drop at bytes → IsRecordFault pair (drop at bytes) at bad → IsFirstFault bytes bad
+read_fault bytes from at unit pair shots bad u within e h all f fault = inr (at, pair, up_to bytes from at unit pair shots u within e h all f, fault)
+
+pub cut_fault : (first : Option Pair) (rest : List ℕ) (at : ℕ) → rest ≡ [] → IsRecordFault first rest at (faults.Record at)
+cut_fault first rest at e =
+    inr (inl (refl, (λ b. let w : [] ≡ 2 ∷ b.0 = sym e ∙ b.1 in absurd (cc)), (λ b. let w : [] ≡ b.id ∷ 123 ∷ concat b.numbers ++ b.after = sym e ∙ b.text in absurd (cc))))
+
+pub end_fault : (first : Option Pair) (rest : List ℕ) (at : ℕ) → get_or rest 0 0 ≡ 2 → rest ≢ end → IsRecordFault first rest at (faults.End at)
+end_fault first [] at e n = absurd (omega arith)
+end_fault first (x ∷ rest) at e n = inl (refl, (rest, ap (λ (b : ℕ). b ∷ rest) e), n)
+
+pub told : {T : Type 0} (bytes : List ℕ) (own : ShotBad) (result : Result T ShotBad) → result ≡ Err own → IsFirstFault bytes own → (bad : ShotBad) → IsFirstFault bytes bad → (result ≡ Err bad) ⊎ (result ≡ Err faults.NoMemory)
+told {T} bytes own result e f bad w =
+    let wrong : ShotBad → Result T ShotBad = λ b. Err b in
+    inl (e ∙ ap wrong (one_fault bytes own bad f w))

@@ -3,8 +3,7 @@ use Rattle.std.proofs.Common.{◌≡◌, ◌≢◌, ◌+◌, ◌↔◌, ℕ, ℤ
 use Rattle.std.specs.Ordering.{int_eq}
 use Rattle.std.proofs.lemmas.List.{get_or-drop}
 use Rattle.std.proofs.lemmas.Bool.Decides.{Decides-int_eq}
-use Rattle.half_grid.specs.Trapezoids.{Trapezoid}
-use Rattle.oas_lex.specs.ShotText.{record_id, left_delta, right_delta}
+use Rattle.shot_reader.specs.Fields.{id_for}
 
 plus_none : (n : ℕ) → n ≡ n + 0
 plus_none n = omega arith
@@ -27,11 +26,11 @@ right_by true false z h g = (λ e n. absurd (differ (g n)), λ n. refl)
 right_by false true z h g = (λ e. absurd (cc), λ n. absurd (n (h refl)))
 right_by false false z h g = (λ e n. absurd (differ (g n)), λ n. refl)
 
-pub left_there : (z : Trapezoid) (id : ℕ) (b : Bool) → id ≡ record_id z → b ≡ (nat_eq id 23 || nat_eq id 24) → IsTrue b ↔ (left_delta z ≢ pos 0)
-left_there z id b e f = rw (f, e) (left_by (int_eq (left_delta z) (pos 0)) (int_eq (right_delta z) (pos 0)) (left_delta z) (Decides-int_eq (left_delta z) (pos 0)).0 (Decides-int_eq (left_delta z) (pos 0)).1)
+pub left_there : (left right : ℤ) (id : ℕ) (b : Bool) → id ≡ id_for left right → b ≡ (nat_eq id 23 || nat_eq id 24) → IsTrue b ↔ (left ≢ pos 0)
+left_there left right id b e f = rw (f, e) (left_by (int_eq left (pos 0)) (int_eq right (pos 0)) left (Decides-int_eq left (pos 0)).0 (Decides-int_eq left (pos 0)).1)
 
-pub right_there : (z : Trapezoid) (id : ℕ) (b : Bool) → id ≡ record_id z → b ≡ (nat_eq id 23 || nat_eq id 25) → IsTrue b ↔ (right_delta z ≢ pos 0)
-right_there z id b e f = rw (f, e) (right_by (int_eq (left_delta z) (pos 0)) (int_eq (right_delta z) (pos 0)) (right_delta z) (Decides-int_eq (right_delta z) (pos 0)).0 (Decides-int_eq (right_delta z) (pos 0)).1)
+pub right_there : (left right : ℤ) (id : ℕ) (b : Bool) → id ≡ id_for left right → b ≡ (nat_eq id 23 || nat_eq id 25) → IsTrue b ↔ (right ≢ pos 0)
+right_there left right id b e f = rw (f, e) (right_by (int_eq left (pos 0)) (int_eq right (pos 0)) right (Decides-int_eq right (pos 0)).0 (Decides-int_eq right (pos 0)).1)
 
 pub first_byte : (bytes : List ℕ) (at : ℕ) → get_or (drop at bytes) 0 0 ≡ get_or bytes at 0
 first_byte bytes at = get_or-drop at bytes 0 0 ∙ ap (λ (n : ℕ). get_or bytes n 0) (sym (plus_none at))

@@ -7,3 +7,6 @@ pub mod Rests
 pub mod Ends
 pub mod Names
 pub mod Faults
+pub mod Alikes
+pub mod Nearest
+pub mod Records

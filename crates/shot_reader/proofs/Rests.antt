@@ -1,11 +1,14 @@
 -- How far the reading of a file has come, and what is left of it.
-use Rattle.std.proofs.Common.{◌≡◌, ◌≢◌, ℕ, suc, ◌<◌, ◌*◌, ◌^◌, Option, Some, None, List, [], ◌∷◌, ◌++◌, get_or, append_assoc, refl, arith, ap, sym, ◌∙◌}
-use Rattle.std.proofs.lemmas.List.{append-nil, flat_map_more}
+use Rattle.std.proofs.Common.{◌≡◌, ◌≢◌, ℕ, suc, ◌<◌, ◌≤◌, ◌*◌, ◌^◌, length, take, drop, Option, Some, None, List, [], ◌∷◌, ◌++◌, get_or, append_assoc, refl, arith, ap, sym, ◌∙◌}
+use Rattle.std.proofs.lemmas.List.{append-nil, flat_map_more, append_cancel_right, take-append-drop}
+use Rattle.std.proofs.lemmas.List.Elements.{All-cons}
 use Rattle.std.specs.Prelude.{All, flat_map}
 use Rattle.half_grid.specs.Trapezoids.{Trapezoid, IsShot}
 use Rattle.layout_model.specs.declared.pair.Pair.{Pair}
 use Rattle.oas_lex.specs.ShotText.{IsUnit, head, record_id, spelling_of, shot_text, end}
 use Rattle.oas_lex.proofs.ForCallers.{head_peel, spelling_is, not_end, fields_of}
+use Rattle.oas_lex.specs.ShotLaws.{IsNarrowPair}
+use Rattle.shot_reader.specs.Refusals.{IsReadUpTo}
 use Rattle.shot_reader.specs.Reading.{Agrees, IsPairOf, IsFileOf, records_with}
 
 -- what follows the head
@@ -82,3 +85,51 @@ file_of bytes rest last unit (Some p) shots u e h f g = record {
   agrees = (refl, refl);
   text = e ∙ (ap (λ (t : List ℕ). head unit ++ t) (f ∙ ap (λ (t : List ℕ). flat_map (spelling_of p.layer p.datatype) shots ++ t) g) ∙ sym (text_parts unit p.layer p.datatype shots));
 }
+
+-- ---- how far a file was read
+
+abbrev pub layer_of : Option Pair → ℕ
+layer_of None = 0
+layer_of (Some p) = p.layer
+
+abbrev pub datatype_of : Option Pair → ℕ
+datatype_of None = 0
+datatype_of (Some p) = p.datatype
+
+pub own_narrow : (pair : Option Pair) (shots : List Trapezoid) → IsPairOf pair shots → IsNarrowPair (layer_of pair) (datatype_of pair)
+own_narrow None shots h = record { layer_bits = omega arith; datatype_bits = omega arith }
+own_narrow (Some p) shots h = h.1
+
+pub own_agrees : (pair : Option Pair) → Agrees pair (layer_of pair) (datatype_of pair)
+own_agrees None = tt
+own_agrees (Some p) = (refl, refl)
+
+own_records : (pair : Option Pair) (shots : List Trapezoid) → IsPairOf pair shots → records_with pair shots ≡ flat_map (spelling_of (layer_of pair) (datatype_of pair)) shots
+own_records None shots h = sym (ap (λ (zs : List Trapezoid). flat_map (spelling_of 0 0) zs) h)
+own_records (Some p) shots h = refl
+
+pub own_text : (bytes : List ℕ) (from at unit : ℕ) (pair : Option Pair) (shots : List Trapezoid) → bytes ≡ head unit ++ drop from bytes → IsPairOf pair shots → drop from bytes ≡ records_with pair shots ++ drop at bytes
+    → take at bytes ≡ head unit ++ flat_map (spelling_of (layer_of pair) (datatype_of pair)) shots
+own_text bytes from at unit pair shots e h f =
+    append_cancel_right (take at bytes) (head unit ++ flat_map (spelling_of (layer_of pair) (datatype_of pair)) shots) (drop at bytes)
+    (take-append-drop at bytes ∙ (e ∙ (ap (λ (t : List ℕ). head unit ++ t) (f ∙ ap (λ (t : List ℕ). t ++ drop at bytes) (own_records pair shots h)) ∙ sym (append_assoc (head unit) (flat_map (spelling_of (layer_of pair) (datatype_of pair)) shots) (drop at bytes)))))
+
+abbrev pub up_to : (bytes : List ℕ) (from at unit : ℕ) (pair : Option Pair) (shots : List Trapezoid) → IsUnit unit → at ≤ length bytes → bytes ≡ head unit ++ drop from bytes → IsPairOf pair shots → All IsShot shots → drop from bytes ≡ records_with pair shots ++ drop at bytes
+    → IsReadUpTo bytes at pair
+up_to bytes from at unit pair shots u within e h all f = record {
+  within = within;
+  unit = unit;
+  unit_fits = u;
+  shots = shots;
+  legal = all;
+  layer = layer_of pair;
+  datatype = datatype_of pair;
+  narrow = own_narrow pair shots h;
+  pair_fits = h;
+  agrees = own_agrees pair;
+  text = own_text bytes from at unit pair shots e h f;
+}
+
+pub all_more : (zs : List Trapezoid) (z : Trapezoid) → All IsShot zs → IsShot z → All IsShot (zs ++ z ∷ [])
+all_more [] z h g = All-cons IsShot z [] g (λ k d below. absurd (omega arith))
+all_more (y ∷ zs) z h g = All-cons IsShot y (zs ++ z ∷ []) (h 0 y (omega arith)) (all_more zs z (λ k d below. h (suc k) d (omega arith)) g)

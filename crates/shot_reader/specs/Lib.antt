@@ -1,4 +1,5 @@
 pub mod Reading
 pub mod Fields
 pub mod Near
+pub mod Alike
 pub mod Refusals

@@ -1,10 +1,8 @@
 //! The fields of one record, and their one spelling.
 ghost use Rattle.std.specs.Prelude.{◌≡◌, ◌≢◌, ◌+◌, ◌^◌, ◌<◌, ◌≤◌, ◌++◌, ◌↔◌, ℕ, ℤ, pos, List, length, drop, get_or, nat_eq, ◌||◌, unsigned_abs, IsTrue};
-ghost use Rattle.half_grid.specs.Trapezoids.{Trapezoid, IsShot};
 ghost use Rattle.oas_lex.specs.Spelling.{unsigned_text, signed_text};
-ghost use Rattle.oas_lex.specs.ShotText.{delta_text, spelling_of};
-ghost use Rattle.oas_lex.specs.ShotLaws.{IsNarrowPair};
-ghost use Rattle.shot_reader.specs.Fields.{HasShape, AreNarrow, text_of, id_for};
+ghost use Rattle.oas_lex.specs.ShotText.{delta_text};
+ghost use Rattle.shot_reader.specs.Fields.{AreNarrow, text_of, id_for};
 
 use oas_lex::{Spell, signed, unsigned};
 
@@ -111,8 +109,7 @@ fn has_right(id: u8) -> bool
 pub(crate) fn fields_at(bytes: &[u8], at: usize) -> Fields
     requires { at < length bytes.now }
     ensures narrow { AreNarrow result }
-    ensures read { (l d : ℕ) (z : Trapezoid) (after : List ℕ) → IsNarrowPair l d → IsShot z
-        → drop at bytes.now ≡ spelling_of l d z ++ after → (result.layer ≡ l) × (result.datatype ≡ d) × HasShape result z }
+    ensures read { (f : Fields) (after : List ℕ) → AreNarrow f → drop at bytes.now ≡ text_of f ++ after → result ≡ f }
 {
     let id = byte_at(bytes, at);
     let left_there = has_left(id);

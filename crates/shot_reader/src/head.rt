@@ -1,14 +1,16 @@
 //! The head of a shot file.
-ghost use Rattle.std.specs.Prelude.{◌≡◌, ◌++◌, ◌≤◌, ℕ, List, length, drop, IfSome, IsSome};
+ghost use Rattle.std.specs.Prelude.{◌≡◌, ◌++◌, ◌<◌, ◌≤◌, ℕ, List, length, drop, slice_index, IfSome, IsSome};
 ghost use Rattle.oas_lex.specs.ShotText.{IsUnit, head};
+ghost use Rattle.shot_reader.specs.Refusals.{BeginsHead};
+ghost use Rattle.shot_reader.specs.Alike.{BeginAlike};
 
 use crate::fields::{stands_at, unsigned_at};
 use oas_lex::head_text;
 
-/// The bytes before the unit: the magic bytes, and START up to its real of kind 0.
-const BEFORE: &[u8] = b"%SEMI-OASIS\r\n\x01\x031.0\x00";
-/// The bytes after the unit: the table offsets, and CELL.
-const AFTER: &[u8] = b"\0\0\0\0\0\0\0\0\0\0\0\0\0\x0E\x05SHOTS";
+/// How many bytes stand before the unit: the magic bytes, and START up to its real of kind 0.
+const BEFORE: usize = 19;
+/// The least unit.
+const LEAST: u64 = 2;
 /// The greatest unit.
 const MOST: u64 = 2_000_000;
 
@@ -17,8 +19,8 @@ pub(crate) fn head_of(bytes: &[u8]) -> Option<(u32, usize)>
     ensures found { IfSome result (λ r. IsUnit r.0 × (r.1 ≤ length bytes.now) × (bytes.now ≡ head r.0 ++ drop r.1 bytes.now)) }
     ensures read { (unit : ℕ) (after : List ℕ) → IsUnit unit → bytes.now ≡ head unit ++ after → IsSome result }
 {
-    let (unit, _after) = unsigned_at(bytes, BEFORE.len().min(bytes.len()));
-    if unit < 2 || MOST < unit || unit % 2 != 0 {
+    let (unit, _after) = unsigned_at(bytes, BEFORE.min(bytes.len()));
+    if unit < LEAST || MOST < unit || unit % 2 != 0 {
         return None;
     }
     let spelled = head_text(unit);
@@ -30,7 +32,8 @@ pub(crate) fn head_of(bytes: &[u8]) -> Option<(u32, usize)>
 
 // How many bytes the two have in common at their beginning.
 fn in_common(bytes: &[u8], text: &[u8]) -> usize
-    ensures { result ≤ length bytes.now }
+    ensures alike { BeginAlike bytes.now text.now result }
+    ensures longest { (count : ℕ) → BeginAlike bytes.now text.now count → count ≤ result }
 {
     for (index, byte) in bytes.iter().enumerate() {
         if text.len() <= index || text[index] != *byte {
@@ -40,48 +43,55 @@ fn in_common(bytes: &[u8], text: &[u8]) -> usize
     bytes.len()
 }
 
-// How many of the bytes begin the spelling of some unit, and whether they are all of one.
-fn unit_prefix(bytes: &[u8]) -> (usize, bool)
-    ensures { result.0 ≤ length bytes.now }
+// The byte at `at`, or 0 past the end.
+fn byte_or_zero(bytes: &[u8], at: usize) -> u64
+    ensures value { result ≡ slice_index bytes.now at }
+    ensures byte { result < 256 }
 {
-    let Some(first) = bytes.first() else {
-        return (0, false);
-    };
-    if *first == 0 || *first % 2 != 0 {
-        return (0, false);
+    match bytes.get(at) {
+        Some(byte) => u64::from(*byte),
+        None => 0,
     }
-    if *first < 128 {
-        return (1, true);
+}
+
+// A unit whose head has as many bytes in common with these as that of any other unit.
+fn nearest_unit(bytes: &[u8]) -> u64
+    ensures unit { IsUnit result }
+    ensures nearest { (unit count : ℕ) → IsUnit unit → BeginAlike bytes.now (head unit) count → BeginAlike bytes.now (head result) count }
+{
+    let first = byte_or_zero(bytes, BEFORE);
+    if first == 0 {
+        return LEAST;
     }
-    let Some(second) = bytes.get(1) else {
-        return (1, false);
-    };
-    if *second == 0 {
-        return (1, false);
+    if first % 2 != 0 {
+        return LEAST;
     }
-    if *second < 128 {
-        return (2, true);
+    if first < 128 {
+        return first;
     }
-    let Some(third) = bytes.get(2) else {
-        return (2, false);
-    };
-    let unit = u64::from(*first % 128) + u64::from(*second % 128) * 128 + u64::from(*third) * 16384;
-    if *third == 0 || MOST < unit {
-        return (2, false);
+    let second = byte_or_zero(bytes, BEFORE + 1);
+    if second == 0 {
+        return first;
     }
-    (3, true)
+    if second < 128 {
+        return first % 128 + second * 128;
+    }
+    let third = byte_or_zero(bytes, BEFORE + 2);
+    let low = first % 128 + second % 128 * 128;
+    if third == 0 {
+        return low + 16384;
+    }
+    if MOST < low + third * 16384 {
+        return low + 16384;
+    }
+    low + third * 16384
 }
 
 /// The length of the longest prefix of the bytes that begins some head.
-pub(crate) fn longest_head(bytes: &[u8]) -> usize {
-    let before = in_common(bytes, BEFORE);
-    if before < BEFORE.len() {
-        return before;
-    }
-    let rest = &bytes[before..];
-    let (unit, is_whole) = unit_prefix(rest);
-    if !is_whole {
-        return before + unit;
-    }
-    before + unit + in_common(&rest[unit..], AFTER)
+pub(crate) fn longest_head(bytes: &[u8]) -> usize
+    ensures begins { BeginsHead bytes.now result }
+    ensures longest { (count : ℕ) → BeginsHead bytes.now count → count ≤ result }
+{
+    let spelled = head_text(nearest_unit(bytes));
+    in_common(bytes, spelled.bytes())
 }

@@ -1,9 +1,11 @@
 //! The whole file.
-ghost use Rattle.std.specs.Prelude.{◌≡◌, ◌≢◌, ◌++◌, ◌<◌, ◌≤◌, ℕ, List as Items, [], ◌∷◌, length, drop, All, flat_map, IsTrue, ◌↔◌, IfOk, IfErr, IsOkAnd};
+ghost use Rattle.std.specs.Prelude.{◌≡◌, ◌≢◌, ◌⊎◌, ◌++◌, ◌<◌, ◌≤◌, ℕ, List as Items, [], ◌∷◌, length, drop, slice_index, All, flat_map, IsTrue, ◌↔◌, IfOk, IfErr};
 ghost use Rattle.half_grid.specs.Trapezoids.{Trapezoid, IsShot};
 ghost use Rattle.oas_lex.specs.ShotText.{IsUnit, spelling_of, shot_text, end};
 ghost use Rattle.oas_lex.specs.ShotLaws.{IsNarrowPair};
-ghost use Rattle.shot_reader.specs.Reading.{IsPairOf, Agrees, IsFileOf, IsReadSo};
+ghost use Rattle.shot_reader.specs.Reading.{IsPairOf, Agrees, IsFileOf};
+ghost use Rattle.shot_reader.specs.Refusals.{IsRecordFault, IsFirstFault};
+ghost use Rattle.shot_reader.specs.declared.refusing.ShotBad.{ShotBad};
 
 use crate::corners::trap_of;
 use crate::fields::{fields_at, spell_fields, stands_at};
@@ -49,13 +51,13 @@ fn agrees(first: Option<Pair>, pair: Pair) -> bool
 
 // The record at `at`, after records with the first pair.
 fn read_record(bytes: &[u8], at: usize, first: Option<Pair>) -> Result<Record, ShotBad>
-    requires { at < length bytes.now }
+    requires here { at < length bytes.now }
+    requires no_end { slice_index bytes.now at ≢ 2 }
     ensures pair { IfOk result (λ r. IsNarrowPair r.pair.layer r.pair.datatype × Agrees first r.pair.layer r.pair.datatype) }
     ensures next { IfOk result (λ r. (at < r.next) × (r.next ≤ length bytes.now)) }
+    ensures shot { IfOk result (λ r. IsShot r.shot) }
     ensures found { IfOk result (λ r. drop at bytes.now ≡ spelling_of r.pair.layer r.pair.datatype r.shot ++ drop r.next bytes.now) }
-    ensures read { (l d : ℕ) (z : Trapezoid) (after : Items ℕ) → IsNarrowPair l d → IsShot z → Agrees first l d
-        → drop at bytes.now ≡ spelling_of l d z ++ after
-        → IsOkAnd result (λ r. IsReadSo r.pair r.shot (drop r.next bytes.now) l d z after) }
+    ensures refused { IfErr result (λ bad. IsRecordFault first (drop at bytes.now) at bad) }
 {
     let fields = fields_at(bytes, at);
     let spelled = spell_fields(&fields);
@@ -89,7 +91,7 @@ fn ends_at(bytes: &[u8], at: usize) -> bool
 }
 
 /// The unit, the pair and the shots of which the bytes are the text. Bytes that are no such text are refused, by the
-/// first fault, whatever comes after it.
+/// first fault, whatever comes after it. NoMemory may come in place of any answer where memory is wanting.
 pub fn read_shots(alloc: Global, bytes: &[u8]) -> Result<ShotFile, ShotBad>
     ensures found { IfOk result (λ file. IsFileOf bytes.now file.unit file.pair file.shots) }
     ensures read { (unit l d : ℕ) (shots : Items Trapezoid) → IsUnit unit → IsNarrowPair l d → All IsShot shots
@@ -98,6 +100,8 @@ pub fn read_shots(alloc: Global, bytes: &[u8]) -> Result<ShotFile, ShotBad>
     ensures refused { (unit l d : ℕ) (shots : Items Trapezoid) → IsUnit unit → IsNarrowPair l d → All IsShot shots
         → bytes.now ≡ shot_text unit l d shots
         → IfErr result (λ bad. bad ≡ ShotBad.NoMemory) }
+    ensures first_fault { IfErr result (λ bad. bad ≢ ShotBad.NoMemory → IsFirstFault bytes.now bad) }
+    ensures every_fault { (bad : ShotBad) → IsFirstFault bytes.now bad → (result ≡ Err bad) ⊎ (result ≡ Err ShotBad.NoMemory) }
 {
     let Some((unit, first)) = head_of(bytes) else {
         return Err(ShotBad::Head(longest_head(bytes)));

@@ -1,5 +1,6 @@
 //! Why bytes are no shot file.
-ghost use Rattle.std.specs.Prelude.{◌≡◌, ◌≢◌, ◌≤◌, length};
+ghost use Rattle.std.specs.Prelude.{◌≡◌, ◌≢◌, ◌⊎◌, ◌≤◌, ℕ, length, drop, nat_lt, count_by, IsTrue, IfSome};
+ghost use Rattle.shot_reader.specs.Refusals.{HasNumbers, IsWhole};
 
 use crate::fields::INFO;
 use geo_stream::NoMemory;
@@ -31,7 +32,10 @@ impl From<NoMemory> for ShotBad {
 }
 
 // How many numbers the record of this id has.
-fn numbers_of(id: u8) -> Option<usize> {
+fn numbers_of(id: u8) -> Option<usize>
+    ensures some { IfSome result (λ count. HasNumbers id count) }
+    ensures all { (count : ℕ) → HasNumbers id count → result ≡ Some count }
+{
     match id {
         20 => Some(6),
         23 => Some(8),
@@ -41,27 +45,38 @@ fn numbers_of(id: u8) -> Option<usize> {
 }
 
 // How many numbers end among the bytes.
-fn ends_in(bytes: &[u8]) -> usize {
-    let mut count = 0;
-    for byte in bytes {
-        if *byte < 128 {
-            count += 1;
-        }
+fn ends_in(bytes: &[u8]) -> usize
+    ensures { result ≡ count_by (λ b. nat_lt b 128) bytes.now }
+{
+    bytes.iter().filter(|byte| **byte < 128).count()
+}
+
+// Whether the bytes begin with an id of a shot's record, its info byte and all its numbers.
+fn is_whole(rest: &[u8]) -> bool
+    ensures yes { IsTrue result → IsWhole rest.now }
+    ensures all { IsWhole rest.now → IsTrue result }
+{
+    if rest.len() < 2 {
+        return false;
     }
-    count
+    if rest[1] != INFO {
+        return false;
+    }
+    match numbers_of(rest[0]) {
+        Some(count) => count <= ends_in(&rest[2..]),
+        None => false,
+    }
 }
 
 /// The refusal of a record that isn't spelled as a shot is: Record where its id or its info byte is another or the
 /// bytes end inside it, and else Spelling.
 pub(crate) fn record_refusal(bytes: &[u8], at: usize) -> ShotBad
     requires { at ≤ length bytes.now }
+    ensures { ((result ≡ ShotBad.Spelling at) × IsWhole (drop at bytes.now)) ⊎ ((result ≡ ShotBad.Record at) × (IsWhole (drop at bytes.now) → ⊥)) }
 {
-    let rest = &bytes[at..];
-    if rest.len() < 2 || rest[1] != INFO {
-        return ShotBad::Record(at);
-    }
-    match numbers_of(rest[0]) {
-        Some(count) if count <= ends_in(&rest[2..]) => ShotBad::Spelling(at),
-        _ => ShotBad::Record(at),
+    if is_whole(&bytes[at..]) {
+        ShotBad::Spelling(at)
+    } else {
+        ShotBad::Record(at)
     }
 }

@@ -1,25 +1,57 @@
-use Rattle.std.proofs.Common.{◌≡◌, ◌≢◌, ◌++◌, ◌∷◌, [], ℕ, List, length, drop, get_or, refl, ap, sym, ◌∙◌, arith, append_assoc, rules}
-use Rattle.std.specs.Prelude.{flat_map}
+use Rattle.std.proofs.Common.{◌≡◌, ◌≢◌, ◌++◌, ◌∷◌, [], ℕ, List, length, drop, get_or, refl, ap, sym, subst, ◌∙◌, arith, inl}
+use Rattle.std.specs.Prelude.{flat_map, All}
 use Rattle.std.proofs.Math.Seq.{drop-length}
-use Rattle.half_grid.specs.Trapezoids.{Trapezoid}
+use Rattle.std.proofs.lemmas.Result.{err_from_is_err_and}
+use Rattle.half_grid.specs.Trapezoids.{Trapezoid, IsShot}
 use Rattle.oas_lex.specs.ShotText.{spelling_of}
+use Rattle.shot_reader.specs.Refusals.{IsFirstFault}
+use Rattle.shot_reader.specs.declared.refusing.ShotBad.TheVariants as faults
 use Rattle.shot_reader.proofs.Ids.{first_byte}
-use Rattle.shot_reader.proofs.Rests.{body, after_head, text_head, not_empty, at_end, at_record, found_next, not_nil, file_of}
+use Rattle.shot_reader.proofs.Rests.{found_next, not_nil, file_of, up_to, all_more}
+use Rattle.shot_reader.proofs.Faults.{no_fault, text_right, text_read, read_fault, cut_fault, end_fault, told}
 use Rattle.shot_reader.proofs.reading.read_shots.Goals as goal
 use Rattle.shot_reader.proofs.reading.read_shots.Goals.{then-loop-at-test+else-bytes-at-ne-END, else-loop-at-test}
 
+-- ---- no head
+
+no_head : (c : goal.After-longest_head) → IsFirstFault c.args.bytes.now (faults.Head c.longest_head.result)
+no_head c =
+    inl (
+      c.longest_head.result,
+      refl,
+      record {
+        no_head = λ unit after h e. let some = c.in_default.ensures.read unit after h e in absurd (cc);
+        begins = c.longest_head.ensures.begins;
+        longest = c.longest_head.ensures.longest;
+      },
+    )
+
 pub returns-in_default-clause-refused : goal.returns-in_default-clause-refused
-returns-in_default-clause-refused c = λ unit l d shots h p all e.
-    let some = c.in_default.ensures.read unit (body l d shots) h (text_head c.args.bytes.now unit l d shots e) in
-    absurd (cc)
+returns-in_default-clause-refused c = λ unit l d shots h p all e. absurd (text_right c.args.bytes.now unit l d shots _ h p all e (no_head c))
+
+pub returns-in_default-clause-first_fault : goal.returns-in_default-clause-first_fault
+returns-in_default-clause-first_fault c = λ other. no_head c
+
+pub returns-in_default-clause-every_fault : goal.returns-in_default-clause-every_fault
+returns-in_default-clause-every_fault c = told c.args.bytes.now _ _ refl (no_head c)
+
+-- ---- a record
+
+record_fault : (c : goal.After-drop-shots-inside) → IsFirstFault c.args.bytes.now c.in_err-record.field-0.0
+record_fault c =
+    read_fault c.args.bytes.now c.in-Some.first c.loop-at.at c.in-Some.unit c.loop-at.pair c.loop-at.shots _ c.in-Some.ensures.found.0 c.loop-at.invariant.within c.in-Some.ensures.found.2 c.loop-at.invariant.pair c.loop-at.invariant.legal c.loop-at.invariant.found
+    c.in_err-record.ensures.refused
 
 pub returns-in_err-record-clause-refused : goal.returns-in_err-record-clause-refused
-returns-in_err-record-clause-refused c = λ unit l d shots h p all e.
-    let part = after_head c.args.bytes.now (drop c.in-Some.first c.args.bytes.now) c.in-Some.unit unit l d shots c.in-Some.ensures.found.0 h c.in-Some.ensures.found.2 e in
-    let k = c.loop-at.invariant.left l d shots p all part.1 in
-    let other : get_or (drop c.loop-at.at c.args.bytes.now) 0 0 ≢ 2 = λ w. absurd (omega (arith, w, first_byte c.args.bytes.now c.loop-at.at, c.if-bytes-at-ne-END.true)) in
-    let n = at_record l d k.others (drop c.loop-at.at c.args.bytes.now) k.all k.text other in
-    absurd (c.in_err-record.ensures.read l d n.0 (body l d n.1) p n.2 k.agrees n.5)
+returns-in_err-record-clause-refused c = λ unit l d shots h p all e. absurd (text_right c.args.bytes.now unit l d shots _ h p all e (record_fault c))
+
+pub returns-in_err-record-clause-first_fault : goal.returns-in_err-record-clause-first_fault
+returns-in_err-record-clause-first_fault c =
+    let p = err_from_is_err_and c.from_residual.result c.from_residual.ensures.1 in rw (p.1, p.2) (λ other. record_fault c)
+
+pub returns-in_err-record-clause-every_fault : goal.returns-in_err-record-clause-every_fault
+returns-in_err-record-clause-every_fault c =
+    let p = err_from_is_err_and c.from_residual.result c.from_residual.ensures.1 in told c.args.bytes.now _ _ (rw (p.1, p.2) refl) (record_fault c)
 
 pub loop-at-preserved : goal.loop-at-preserved
 loop-at-preserved c =
@@ -27,54 +59,63 @@ loop-at-preserved c =
     let z = c.in_ok-record.record.shot in
     let m = c.in_ok-record.record.pair.layer in
     let e = c.in_ok-record.record.pair.datatype in
-    let other : get_or (drop c.loop-at.at c.args.bytes.now) 0 0 ≢ 2 = λ w. absurd (omega (arith, w, first_byte c.args.bytes.now c.loop-at.at, c.if-bytes-at-ne-END.true)) in
     record {
       within = c.in_ok-record.ensures.next.1;
       pair = (λ w. not_nil c.loop-at.shots z (sym pushed ∙ w), c.in_ok-record.ensures.pair.0);
+      legal = subst (λ (zs : List Trapezoid). All IsShot zs) (sym pushed) (all_more c.loop-at.shots z c.loop-at.invariant.legal c.in_ok-record.ensures.shot);
       found = found_next c.loop-at.pair m e c.loop-at.shots z (drop c.in-Some.first c.args.bytes.now) (drop c.loop-at.at c.args.bytes.now) (drop c.in_ok-record.record.next c.args.bytes.now) c.loop-at.invariant.pair c.in_ok-record.ensures.pair.1 c.loop-at.invariant.found c.in_ok-record.ensures.found
           ∙ ap (λ (zs : List Trapezoid). flat_map (spelling_of m e) zs ++ drop c.in_ok-record.record.next c.args.bytes.now) (sym pushed);
-      left = λ l d zs p all w.
-          let k = c.loop-at.invariant.left l d zs p all w in
-          let n = at_record l d k.others (drop c.loop-at.at c.args.bytes.now) k.all k.text other in
-          let r = c.in_ok-record.ensures.read l d n.0 (body l d n.1) p n.2 k.agrees n.5 in
-          record {
-            others = n.1;
-            whole = k.whole ∙ (ap (λ (t : List Trapezoid). c.loop-at.shots ++ t) (n.4 ∙ ap (λ (x : Trapezoid). x ∷ n.1) (sym r.shot_is)) ∙ (sym (append_assoc c.loop-at.shots (z ∷ []) n.1) ∙ ap (λ (t : List Trapezoid). t ++ n.1) (sym pushed)));
-            all = n.3;
-            agrees = (r.layer_is, r.datatype_is);
-            text = r.rest_is;
-          };
     }
 
-pub returns-then-at-bytes-clause-refused : goal.returns-then-at-bytes-clause-refused
-returns-then-at-bytes-clause-refused c = λ unit l d shots h p all e.
-    let part = after_head c.args.bytes.now (drop c.in-Some.first c.args.bytes.now) c.in-Some.unit unit l d shots c.in-Some.ensures.found.0 h c.in-Some.ensures.found.2 e in
-    let k = c.loop-at.invariant.left l d shots p all part.1 in
-    let last : c.loop-at.at ≡ length c.args.bytes.now = omega (arith, c.if-at-bytes.true) in
-    absurd (not_empty l d k.others (drop c.loop-at.at c.args.bytes.now) (ap (λ (n : ℕ). drop n c.args.bytes.now) last ∙ drop-length c.args.bytes.now) k.text)
+-- ---- the bytes end
 
-pub returns-then-not-ends_at-clause-refused : goal.returns-then-not-ends_at-clause-refused
-returns-then-not-ends_at-clause-refused c = λ unit l d shots h p all e.
-    let part = after_head c.args.bytes.now (drop c.in-Some.first c.args.bytes.now) c.in-Some.unit unit l d shots c.in-Some.ensures.found.0 h c.in-Some.ensures.found.2 e in
-    let k = c.loop-at.invariant.left l d shots p all part.1 in
+cut : (c : goal.After-drop-shots-inside-then-at-bytes) → IsFirstFault c.args.bytes.now (faults.Record c.loop-at.at)
+cut c =
+    read_fault c.args.bytes.now c.in-Some.first c.loop-at.at c.in-Some.unit c.loop-at.pair c.loop-at.shots _ c.in-Some.ensures.found.0 c.loop-at.invariant.within c.in-Some.ensures.found.2 c.loop-at.invariant.pair c.loop-at.invariant.legal c.loop-at.invariant.found
+    (cut_fault c.loop-at.pair (drop c.loop-at.at c.args.bytes.now) c.loop-at.at (ap (λ (n : ℕ). drop n c.args.bytes.now) c.if-at-bytes.true ∙ drop-length c.args.bytes.now))
+
+pub returns-then-at-bytes-clause-refused : goal.returns-then-at-bytes-clause-refused
+returns-then-at-bytes-clause-refused c = λ unit l d shots h p all e. absurd (text_right c.args.bytes.now unit l d shots _ h p all e (cut c))
+
+pub returns-then-at-bytes-clause-first_fault : goal.returns-then-at-bytes-clause-first_fault
+returns-then-at-bytes-clause-first_fault c = λ other. cut c
+
+pub returns-then-at-bytes-clause-every_fault : goal.returns-then-at-bytes-clause-every_fault
+returns-then-at-bytes-clause-every_fault c = told c.args.bytes.now _ _ refl (cut c)
+
+-- ---- END
+
+last : (c : goal.After-drop-shots-inside-then-not-ends_at) → IsFirstFault c.args.bytes.now (faults.End c.loop-at.at)
+last c =
     let two : get_or (drop c.loop-at.at c.args.bytes.now) 0 0 ≡ 2 = elim c.loop-at-test.branch [
       | then-loop-at-test+else-bytes-at-ne-END w ↦ omega (arith, first_byte c.args.bytes.now c.loop-at.at, w.if-bytes-at-ne-END.false)
       | else-loop-at-test w ↦ absurd (omega (arith, w.loop-at-test.false, c.if-at-bytes.false, c.loop-at.invariant.within))
     ] in
-    let done = at_end l d k.others c.loop-at.shots shots (drop c.loop-at.at c.args.bytes.now) k.text two k.whole in
-    let yes = c.ends_at.ensures.1 done.0 in
-    absurd (cc)
+    read_fault c.args.bytes.now c.in-Some.first c.loop-at.at c.in-Some.unit c.loop-at.pair c.loop-at.shots _ c.in-Some.ensures.found.0 c.loop-at.invariant.within c.in-Some.ensures.found.2 c.loop-at.invariant.pair c.loop-at.invariant.legal c.loop-at.invariant.found
+    (end_fault c.loop-at.pair (drop c.loop-at.at c.args.bytes.now) c.loop-at.at two (λ e. let w = c.ends_at.ensures.1 e in absurd (cc)))
+
+pub returns-then-not-ends_at-clause-refused : goal.returns-then-not-ends_at-clause-refused
+returns-then-not-ends_at-clause-refused c = λ unit l d shots h p all e. absurd (text_right c.args.bytes.now unit l d shots _ h p all e (last c))
+
+pub returns-then-not-ends_at-clause-first_fault : goal.returns-then-not-ends_at-clause-first_fault
+returns-then-not-ends_at-clause-first_fault c = λ other. last c
+
+pub returns-then-not-ends_at-clause-every_fault : goal.returns-then-not-ends_at-clause-every_fault
+returns-then-not-ends_at-clause-every_fault c = told c.args.bytes.now _ _ refl (last c)
+
+-- ---- a shot file
 
 pub returns-clause-found : goal.returns-clause-found
 returns-clause-found c = file_of c.args.bytes.now (drop c.in-Some.first c.args.bytes.now) (drop c.loop-at.at c.args.bytes.now) c.in-Some.unit c.loop-at.pair c.loop-at.shots c.in-Some.ensures.found.0 c.in-Some.ensures.found.2 c.loop-at.invariant.pair c.loop-at.invariant.found (c.ends_at.ensures.0 c.if-not-ends_at.false)
 
 pub returns-clause-read : goal.returns-clause-read
 returns-clause-read c = λ unit l d shots h p all e.
-    let part = after_head c.args.bytes.now (drop c.in-Some.first c.args.bytes.now) c.in-Some.unit unit l d shots c.in-Some.ensures.found.0 h c.in-Some.ensures.found.2 e in
-    let k = c.loop-at.invariant.left l d shots p all part.1 in
-    let two : get_or (drop c.loop-at.at c.args.bytes.now) 0 0 ≡ 2 = elim c.loop-at-test.branch [
-      | then-loop-at-test+else-bytes-at-ne-END w ↦ omega (arith, first_byte c.args.bytes.now c.loop-at.at, w.if-bytes-at-ne-END.false)
-      | else-loop-at-test w ↦ absurd (omega (arith, w.loop-at-test.false, c.if-at-bytes.false, c.loop-at.invariant.within))
-    ] in
-    let done = at_end l d k.others c.loop-at.shots shots (drop c.loop-at.at c.args.bytes.now) k.text two k.whole in
-    (part.0, sym done.1, k.agrees)
+    let same = text_read c.args.bytes.now c.loop-at.at c.loop-at.pair (up_to c.args.bytes.now c.in-Some.first c.loop-at.at c.in-Some.unit c.loop-at.pair c.loop-at.shots c.in-Some.ensures.found.0 c.loop-at.invariant.within c.in-Some.ensures.found.2 c.loop-at.invariant.pair c.loop-at.invariant.legal c.loop-at.invariant.found)
+    unit l d shots (c.ends_at.ensures.0 c.if-not-ends_at.false) h p all e in
+    (same.0, same.1, same.2)
+
+pub returns-clause-every_fault : goal.returns-clause-every_fault
+returns-clause-every_fault c = λ bad w.
+    absurd (no_fault c.args.bytes.now c.loop-at.at c.loop-at.pair bad
+    (up_to c.args.bytes.now c.in-Some.first c.loop-at.at c.in-Some.unit c.loop-at.pair c.loop-at.shots c.in-Some.ensures.found.0 c.loop-at.invariant.within c.in-Some.ensures.found.2 c.loop-at.invariant.pair c.loop-at.invariant.legal c.loop-at.invariant.found)
+    (c.ends_at.ensures.0 c.if-not-ends_at.false) w)
