@@ -86,13 +86,13 @@ unfolding spelling_of
 spelling_is layer datatype z after = simp append_assoc
 
 -- the head up to its unit, and after it
-abbrev before_unit : List ℕ
+abbrev pub before_unit : List ℕ
 before_unit = magic ++ 1 ∷ 3 ∷ codes "1.0" ++ 0 ∷ []
 
-abbrev after_unit : List ℕ
+abbrev pub after_unit : List ℕ
 after_unit = 0 ∷ replicate 12 0 ++ cell
 
-head_is : (unit : ℕ) (x : List ℕ) → head unit ++ x ≡ before_unit ++ (unsigned_text unit ++ (after_unit ++ x))
+pub head_is : (unit : ℕ) (x : List ℕ) → head unit ++ x ≡ before_unit ++ (unsigned_text unit ++ (after_unit ++ x))
 unfolding head
 head_is unit x = simp append_assoc
 

@@ -1,10 +1,10 @@
 -- The bytes of a head, and what bytes have in common with heads.
 use Rattle.std.proofs.Common.{◌≡◌, ◌≢◌, ℕ, suc, ◌+◌, ◌*◌, ◌/◌, ◌%◌, ◌<◌, ◌≤◌, List, [], ◌∷◌, ◌++◌, length, take, drop, get_or, codes, replicate, append_assoc, refl, arith, ap, sym, subst, ◌∙◌, inl, inr}
 use Rattle.std.proofs.lemmas.Bool.{cases_lt}
-use Rattle.std.proofs.lemmas.List.{take-append-drop, length-append, length-take-le, get_or-take, get_or_append_left, get_or-append-add, ext_get_or}
-use Rattle.oas_lex.specs.ShotText.{IsUnit, head, magic, cell}
+use Rattle.std.proofs.lemmas.List.{append-nil, take-append-drop, length-append, length-take-le, get_or-take, get_or_append_left, get_or-append-add, ext_get_or}
+use Rattle.oas_lex.specs.ShotText.{IsUnit, head}
 use Rattle.oas_lex.specs.Spelling.{unsigned_text}
-use Rattle.oas_lex.proofs.ForCallers.{groups_last, groups_next}
+use Rattle.oas_lex.proofs.ForCallers.{groups_last, groups_next, before_unit, after_unit, head_is}
 use Rattle.shot_reader.specs.Alike.{BeginAlike}
 use Rattle.shot_reader.specs.Refusals.{BeginsHead}
 
@@ -24,15 +24,8 @@ unit_three v h g =
     groups_next 8 v (omega arith)
     ∙ ap (λ (t : List ℕ). (v % 128 + 128) ∷ t) (groups_next 7 (v / 128) (omega arith) ∙ ap (λ (t : List ℕ). (v / 128 % 128 + 128) ∷ t) (groups_last 7 (v / 128 / 128) (omega arith)))
 
-abbrev before_unit : List ℕ
-before_unit = magic ++ 1 ∷ 3 ∷ codes "1.0" ++ 0 ∷ []
-
-abbrev after_unit : List ℕ
-after_unit = 0 ∷ replicate 12 0 ++ cell
-
 head_opens : (v : ℕ) → head v ≡ before_unit ++ (unsigned_text v ++ after_unit)
-unfolding head
-head_opens v = simp append_assoc
+head_opens v = sym (append-nil (head v)) ∙ (head_is v [] ∙ ap (λ (t : List ℕ). before_unit ++ (unsigned_text v ++ t)) (append-nil after_unit))
 
 head_at : (v k : ℕ) → get_or (head v) (19 + k) 0 ≡ get_or (unsigned_text v ++ after_unit) k 0
 head_at v k = ap (λ (t : List ℕ). get_or t (19 + k) 0) (head_opens v) ∙ get_or-append-add before_unit (unsigned_text v ++ after_unit) k 0

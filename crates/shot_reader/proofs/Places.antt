@@ -4,10 +4,10 @@ use Rattle.std.proofs.lemmas.List.{take-append-drop, length-append, length-drop,
 use Rattle.std.proofs.Math.Seq.{drop-append_seam, drop-append-add, take-append_seam}
 use Rattle.std.specs.Cmp.Lexicographic.{same_text, other_text}
 use lib.Pointwise.{pointwise}
-use Rattle.oas_lex.specs.ShotText.{head, magic, cell}
+use Rattle.oas_lex.specs.ShotText.{head}
 use Rattle.oas_lex.specs.Spelling.{unsigned_text, signed_text}
 use Rattle.oas_lex.specs.Numbers.{HasUnsigned, HasSigned}
-use Rattle.oas_lex.proofs.ForCallers.{unsigned_back, signed_back}
+use Rattle.oas_lex.proofs.ForCallers.{unsigned_back, signed_back, before_unit, after_unit, head_is}
 
 take_size : (at : ℕ) (bytes : List ℕ) → at ≤ length bytes → length (take at bytes) ≡ at
 take_size at bytes h = omega (arith, ap length (take-append-drop at bytes), length-append (take at bytes) (drop at bytes), length-drop at bytes, h)
@@ -55,16 +55,6 @@ same_by xs ys true e w = refl
 same_by xs ys false e w = absurd (other_text xs ys e w)
 
 -- the unit of a head
-abbrev before_unit : List ℕ
-before_unit = magic ++ 1 ∷ 3 ∷ codes "1.0" ++ 0 ∷ []
-
-abbrev after_unit : List ℕ
-after_unit = 0 ∷ replicate 12 0 ++ cell
-
-head_is : (unit : ℕ) (x : List ℕ) → head unit ++ x ≡ before_unit ++ (unsigned_text unit ++ (after_unit ++ x))
-unfolding head
-head_is unit x = simp append_assoc
-
 pub unit_there : (unit at : ℕ) (bytes after : List ℕ) → at ≡ min 19 (length bytes) → bytes ≡ head unit ++ after → drop at bytes ≡ unsigned_text unit ++ (after_unit ++ after)
 unit_there unit at bytes after h e =
     let whole : bytes ≡ before_unit ++ (unsigned_text unit ++ (after_unit ++ after)) = e ∙ head_is unit after in

@@ -1,60 +1,21 @@
--- How far the reading of a file has come, and what is left of it.
+-- How far the reading of a file has come.
 use Rattle.std.proofs.Common.{◌≡◌, ◌≢◌, ℕ, suc, ◌<◌, ◌≤◌, ◌*◌, ◌^◌, length, take, drop, Option, Some, None, List, [], ◌∷◌, ◌++◌, get_or, append_assoc, refl, arith, ap, sym, ◌∙◌}
 use Rattle.std.proofs.lemmas.List.{append-nil, flat_map_more, append_cancel_right, take-append-drop}
 use Rattle.std.proofs.lemmas.List.Elements.{All-cons}
 use Rattle.std.specs.Prelude.{All, flat_map}
 use Rattle.half_grid.specs.Trapezoids.{Trapezoid, IsShot}
 use Rattle.layout_model.specs.declared.pair.Pair.{Pair}
-use Rattle.oas_lex.specs.ShotText.{IsUnit, head, record_id, spelling_of, shot_text, end}
-use Rattle.oas_lex.proofs.ForCallers.{head_peel, spelling_is, not_end, fields_of}
+use Rattle.oas_lex.specs.ShotText.{IsUnit, head, spelling_of, shot_text, end}
 use Rattle.oas_lex.specs.ShotLaws.{IsNarrowPair}
 use Rattle.shot_reader.specs.Refusals.{IsReadUpTo}
 use Rattle.shot_reader.specs.Reading.{Agrees, IsPairOf, IsFileOf, records_with}
 
--- what follows the head
-abbrev pub body : ℕ → ℕ → List Trapezoid → List ℕ
-body l d zs = flat_map (spelling_of l d) zs ++ end
-
--- some shots were read, and the bytes that are left are the text of the others
-pub record IsLeft (l d : ℕ) (zs : List Trapezoid) (pair : Option Pair) (shots : List Trapezoid) (bytes : List ℕ) : Type 0 where
-  pub others : List Trapezoid
-  pub whole : zs ≡ shots ++ others
-  pub all : All IsShot others
-  pub agrees : Agrees pair l d
-  pub text : bytes ≡ body l d others
-
 pub unit_small : (u : ℕ) → IsUnit u → u < 2 ^ 63
 unit_small u h = omega (arith, h.few)
 
-text_parts : (u l d : ℕ) (zs : List Trapezoid) → shot_text u l d zs ≡ head u ++ body l d zs
+text_parts : (u l d : ℕ) (zs : List Trapezoid) → shot_text u l d zs ≡ head u ++ (flat_map (spelling_of l d) zs ++ end)
 unfolding shot_text
 text_parts u l d zs = simp append_assoc
-
-pub after_head : (bytes rest : List ℕ) (u v l d : ℕ) (zs : List Trapezoid) → IsUnit u → IsUnit v → bytes ≡ head u ++ rest → bytes ≡ shot_text v l d zs → (u ≡ v) × (rest ≡ body l d zs)
-after_head bytes rest u v l d zs h g e f = head_peel u v rest (body l d zs) (unit_small u h) (unit_small v g) (sym e ∙ (f ∙ text_parts v l d zs))
-
-pub text_head : (bytes : List ℕ) (u l d : ℕ) (zs : List Trapezoid) → bytes ≡ shot_text u l d zs → bytes ≡ head u ++ body l d zs
-text_head bytes u l d zs e = e ∙ text_parts u l d zs
-
-body_more : (l d : ℕ) (z : Trapezoid) (zs : List Trapezoid) → body l d (z ∷ zs) ≡ spelling_of l d z ++ body l d zs
-body_more l d z zs = append_assoc (spelling_of l d z) (flat_map (spelling_of l d) zs) end
-
-first_more : (l d : ℕ) (z : Trapezoid) (zs : List Trapezoid) → body l d (z ∷ zs) ≡ record_id z ∷ 123 ∷ fields_of l d z (body l d zs)
-first_more l d z zs = body_more l d z zs ∙ spelling_is l d z (body l d zs)
-
-pub not_empty : (l d : ℕ) (zs : List Trapezoid) (rest : List ℕ) → rest ≡ [] → rest ≡ body l d zs → ⊥
-not_empty l d [] rest e f = absurd (cc)
-not_empty l d (z ∷ zs) rest e f = let g = sym e ∙ (f ∙ first_more l d z zs) in absurd (cc)
-
-pub at_end : (l d : ℕ) (zs shots all : List Trapezoid) (rest : List ℕ) → rest ≡ body l d zs → get_or rest 0 0 ≡ 2 → all ≡ shots ++ zs → (rest ≡ end) × (all ≡ shots)
-at_end l d [] shots all rest e f g = (e, g ∙ append-nil shots)
-at_end l d (z ∷ zs) shots all rest e f g =
-    absurd (not_end z (sym (ap (λ (t : List ℕ). get_or t 0 0) (e ∙ first_more l d z zs)) ∙ f))
-
-pub at_record : (l d : ℕ) (zs : List Trapezoid) (rest : List ℕ) → All IsShot zs → rest ≡ body l d zs → get_or rest 0 0 ≢ 2
-    → (z : Trapezoid) × (others : List Trapezoid) × IsShot z × All IsShot others × (zs ≡ z ∷ others) × (rest ≡ spelling_of l d z ++ body l d others)
-at_record l d [] rest all e f = absurd (f (ap (λ (t : List ℕ). get_or t 0 0) e))
-at_record l d (z ∷ zs) rest all e f = (z, zs, all 0 z (omega arith), (λ k x below. all (suc k) x (omega arith)), refl, e ∙ body_more l d z zs)
 
 pub found_next : (pair : Option Pair) (l d : ℕ) (shots : List Trapezoid) (z : Trapezoid) (bytes rest after : List ℕ) → IsPairOf pair shots → Agrees pair l d
     → bytes ≡ records_with pair shots ++ rest → rest ≡ spelling_of l d z ++ after → bytes ≡ flat_map (spelling_of l d) (shots ++ z ∷ []) ++ after
@@ -75,7 +36,7 @@ file_of bytes rest last unit None shots u e h f g = record {
   layer = 0;
   datatype = 0;
   agrees = tt;
-  text = e ∙ (ap (λ (t : List ℕ). head unit ++ t) (f ∙ (g ∙ ap (λ (zs : List Trapezoid). body 0 0 zs) (sym h))) ∙ sym (text_parts unit 0 0 shots));
+  text = e ∙ (ap (λ (t : List ℕ). head unit ++ t) (f ∙ (g ∙ ap (λ (zs : List Trapezoid). flat_map (spelling_of 0 0) zs ++ end) (sym h))) ∙ sym (text_parts unit 0 0 shots));
 }
 file_of bytes rest last unit (Some p) shots u e h f g = record {
   unit_fits = u;

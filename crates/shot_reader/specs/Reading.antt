@@ -29,10 +29,3 @@ pub record IsFileOf (bytes : List ℕ) (unit : ℕ) (pair : Option Pair) (shots 
   pub datatype : ℕ
   pub agrees : Agrees pair layer datatype
   pub text : bytes ≡ shot_text unit layer datatype shots
-
--- this pair, this shot and what follows them are the other's
-pub record IsReadSo (pair : Pair) (shot : Trapezoid) (rest : List ℕ) (layer datatype : ℕ) (z : Trapezoid) (after : List ℕ) : Type 0 where
-  pub layer_is : pair.layer ≡ layer
-  pub datatype_is : pair.datatype ≡ datatype
-  pub shot_is : shot ≡ z
-  pub rest_is : rest ≡ after
