@@ -1,20 +1,20 @@
 -- Bytes have one first fault at most, and a shot file has none.
-use Rattle.std.proofs.Common.{◌≡◌, ◌≢◌, ◌⊎◌, ℕ, suc, ◌<◌, ◌≤◌, ◌^◌, ◌*◌, Option, Some, None, List, [], ◌∷◌, ◌++◌, length, take, drop, get_or, append_assoc, refl, arith, ap, sym, subst, ◌∙◌, inl, inr}
+use Rattle.std.proofs.Common.{◌≡◌, ◌≢◌, ◌⊎◌, ℕ, suc, ◌≤◌, Option, Some, None, List, [], ◌∷◌, ◌++◌, length, take, drop, get_or, append_assoc, refl, arith, ap, sym, subst, ◌∙◌, inl, inr}
 use Rattle.std.proofs.lemmas.List.{take-append-drop, length-drop, length-append}
 use Rattle.std.proofs.Math.Seq.{take-append_seam, drop-append_seam}
 use Rattle.std.specs.Prelude.{All, flat_map, Result, Err}
 use Rattle.std.specs.List.{concat}
 use Rattle.half_grid.specs.Trapezoids.{Trapezoid, IsShot}
 use Rattle.layout_model.specs.declared.pair.Pair.{Pair}
-use Rattle.oas_lex.specs.ShotText.{IsUnit, head, record_id, spelling_of, shot_text, end}
+use Rattle.oas_lex.specs.ShotText.{IsUnit, head, spelling_of, shot_text, end}
 use Rattle.oas_lex.specs.ShotLaws.{IsNarrowPair}
 use Rattle.oas_lex.proofs.ForCallers.{head_peel, record_names}
 use Rattle.shot_reader.specs.declared.fields.Fields.{Fields}
 use Rattle.shot_reader.specs.declared.refusing.ShotBad.{ShotBad}
 use Rattle.shot_reader.specs.declared.refusing.ShotBad.TheVariants as faults
-use Rattle.shot_reader.specs.Fields.{HasShape, AreNarrow, text_of}
+use Rattle.shot_reader.specs.Fields.{HasShape}
 use Rattle.shot_reader.specs.Reading.{Agrees, IsPairOf, records_with}
-use Rattle.shot_reader.specs.Refusals.{BeginsHead, IsHeadFault, IsWhole, IsSpelled, BeginsEnd, IsRecordFault, IsReadUpTo, IsFirstFault}
+use Rattle.shot_reader.specs.Refusals.{IsWhole, IsSpelled, BeginsEnd, IsRecordFault, IsReadUpTo, IsFirstFault}
 use Rattle.shot_reader.proofs.Ends.{whole_not_end}
 use Rattle.shot_reader.proofs.Names.{fields_of, text_names, text_whole, shot_shape, shot_text_is, shot_narrow}
 use Rattle.shot_reader.proofs.Rests.{unit_small, up_to}
