@@ -1,5 +1,5 @@
 //! Why bytes are no shot file.
-ghost use Rattle.std.specs.Prelude.{◌≡◌, ◌≢◌, ◌⊎◌, ◌≤◌, ℕ, length, drop, nat_lt, count_by, IsTrue, IfSome};
+ghost use Rattle.std.specs.Prelude.{◌≡◌, ◌⊎◌, ◌≤◌, ℕ, length, drop, nat_lt, count_by, IsTrue, IfSome};
 ghost use Rattle.shot_reader.specs.Refusals.{HasNumbers, IsWhole};
 
 use crate::fields::INFO;
