@@ -1,20 +1,20 @@
 -- Bytes have one first fault at most, and a shot file has none.
-use Rattle.std.proofs.Common.{◌≡◌, ◌≢◌, ◌⊎◌, ℕ, suc, ◌<◌, ◌≤◌, ◌^◌, ◌*◌, Option, Some, None, List, [], ◌∷◌, ◌++◌, length, take, drop, get_or, append_assoc, refl, arith, ap, sym, subst, ◌∙◌, inl, inr}
+use Rattle.std.proofs.Common.{◌≡◌, ◌≢◌, ◌⊎◌, ℕ, suc, ◌≤◌, Option, Some, None, List, [], ◌∷◌, ◌++◌, length, take, drop, get_or, append_assoc, refl, arith, ap, sym, subst, ◌∙◌, inl, inr}
 use Rattle.std.proofs.lemmas.List.{take-append-drop, length-drop, length-append}
 use Rattle.std.proofs.Math.Seq.{take-append_seam, drop-append_seam}
 use Rattle.std.specs.Prelude.{All, flat_map, Result, Err}
 use Rattle.std.specs.List.{concat}
 use Rattle.half_grid.specs.Trapezoids.{Trapezoid, IsShot}
 use Rattle.layout_model.specs.declared.pair.Pair.{Pair}
-use Rattle.oas_lex.specs.ShotText.{IsUnit, head, record_id, spelling_of, shot_text, end}
+use Rattle.oas_lex.specs.ShotText.{IsUnit, head, spelling_of, shot_text, end}
 use Rattle.oas_lex.specs.ShotLaws.{IsNarrowPair}
 use Rattle.oas_lex.proofs.ForCallers.{head_peel, record_names}
 use Rattle.shot_reader.specs.declared.fields.Fields.{Fields}
 use Rattle.shot_reader.specs.declared.refusing.ShotBad.{ShotBad}
 use Rattle.shot_reader.specs.declared.refusing.ShotBad.TheVariants as faults
-use Rattle.shot_reader.specs.Fields.{HasShape, AreNarrow, text_of}
+use Rattle.shot_reader.specs.Fields.{HasShape}
 use Rattle.shot_reader.specs.Reading.{Agrees, IsPairOf, records_with}
-use Rattle.shot_reader.specs.Refusals.{BeginsHead, IsHeadFault, IsWhole, IsSpelled, BeginsEnd, IsRecordFault, IsReadUpTo, IsFirstFault}
+use Rattle.shot_reader.specs.Refusals.{IsWhole, IsSpelled, BeginsEnd, IsRecordFault, IsReadUpTo, IsFirstFault}
 use Rattle.shot_reader.proofs.Ends.{whole_not_end}
 use Rattle.shot_reader.proofs.Names.{fields_of, text_names, text_whole, shot_shape, shot_text_is, shot_narrow}
 use Rattle.shot_reader.proofs.Rests.{unit_small, up_to}
@@ -48,7 +48,7 @@ record_one first rest at bad other (inr (inr (inr a))) (inr (inr (inr b))) = a.0
 -- ---- where the records end
 
 -- no record of a shot with this pair begins here
-abbrev Stops : ℕ → ℕ → List ℕ → Type 0
+abbrev pub Stops : ℕ → ℕ → List ℕ → Type 0
 Stops l d rest = (z : Trapezoid) (after : List ℕ) → IsShot z → rest ≡ spelling_of l d z ++ after → ⊥
 
 -- a shot's record is spelled, and by its fields alone
@@ -93,9 +93,9 @@ meet l d (v ∷ ys) (z ∷ zs) x y p h g s t e =
 
 -- ---- one reading of the bytes
 
--- nothing of a shot's record with a pair that may stand next begins here
-abbrev pub Ends : Option Pair → List ℕ → Type 0
-Ends first rest = (l d : ℕ) → IsNarrowPair l d → Agrees first l d → Stops l d rest
+-- no record of a shot with a pair that may stand next begins here
+abbrev pub IsStop : Option Pair → List ℕ → Type 0
+IsStop first rest = (l d : ℕ) → IsNarrowPair l d → Agrees first l d → Stops l d rest
 
 same_records : (l d m e : ℕ) (zs : List Trapezoid) (y : List ℕ) → l ≡ m → d ≡ e → flat_map (spelling_of m e) zs ++ y ≡ flat_map (spelling_of l d) zs ++ y
 same_records l d m e zs y p q = rw (p, q) refl
@@ -111,7 +111,7 @@ record Same (l d m e : ℕ) (ys zs : List Trapezoid) (x y : List ℕ) : Type 0 w
   datatype : ys ≢ [] → d ≡ e
 
 meet_pairs : (l d m e : ℕ) (first other : Option Pair) (ys zs : List Trapezoid) (x y : List ℕ) → IsNarrowPair l d → IsNarrowPair m e → All IsShot ys → All IsShot zs
-    → IsPairOf first ys → IsPairOf other zs → Agrees first l d → Agrees other m e → Ends first x → Ends other y
+    → IsPairOf first ys → IsPairOf other zs → Agrees first l d → Agrees other m e → IsStop first x → IsStop other y
     → flat_map (spelling_of l d) ys ++ x ≡ flat_map (spelling_of m e) zs ++ y → Same l d m e ys zs x y
 meet_pairs l d m e first other [] [] x y p q h g i j a b s t w = record { shots = refl; rest = w; layer = λ n. absurd (n refl); datatype = λ n. absurd (n refl) }
 meet_pairs l d m e None other [] (z ∷ zs) x y p q h g i j a b s t w = absurd (s m e q tt z (flat_map (spelling_of m e) zs ++ y) (g 0 z (omega arith)) (w ∙ more m e z zs y))
@@ -154,12 +154,12 @@ up_rest bytes at to first other u v =
     head_peel u.unit v.unit (flat_map (spelling_of u.layer u.datatype) u.shots ++ drop at bytes) (flat_map (spelling_of v.layer v.datatype) v.shots ++ drop to bytes) (unit_small u.unit u.unit_fits) (unit_small v.unit v.unit_fits)
     (sym (up_whole bytes at first u) ∙ up_whole bytes to other v)
 
-up_same : (bytes : List ℕ) (at to : ℕ) (first other : Option Pair) (u : IsReadUpTo bytes at first) (v : IsReadUpTo bytes to other) → Ends first (drop at bytes) → Ends other (drop to bytes)
+up_same : (bytes : List ℕ) (at to : ℕ) (first other : Option Pair) (u : IsReadUpTo bytes at first) (v : IsReadUpTo bytes to other) → IsStop first (drop at bytes) → IsStop other (drop to bytes)
     → Same u.layer u.datatype v.layer v.datatype u.shots v.shots (drop at bytes) (drop to bytes)
 up_same bytes at to first other u v s t =
     meet_pairs u.layer u.datatype v.layer v.datatype first other u.shots v.shots (drop at bytes) (drop to bytes) u.narrow v.narrow u.legal v.legal u.pair_fits v.pair_fits u.agrees v.agrees s t (up_rest bytes at to first other u v).1
 
-fault_ends : (first : Option Pair) (rest : List ℕ) (at : ℕ) (bad : ShotBad) → IsRecordFault first rest at bad → Ends first rest
+fault_ends : (first : Option Pair) (rest : List ℕ) (at : ℕ) (bad : ShotBad) → IsRecordFault first rest at bad → IsStop first rest
 fault_ends first rest at bad f l d p g = fault_stops first l d rest at bad p g f
 
 -- ---- at the whole file

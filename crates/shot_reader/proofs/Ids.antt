@@ -1,5 +1,5 @@
 -- The id of a record says which deltas it has.
-use Rattle.std.proofs.Common.{◌≡◌, ◌≢◌, ◌+◌, ◌↔◌, ℕ, ℤ, pos, Bool, true, false, cond, nat_eq, ◌||◌, IsTrue, List, [], ◌∷◌, drop, get_or, refl, arith, ap, sym, subst, ◌∙◌}
+use Rattle.std.proofs.Common.{◌≡◌, ◌≢◌, ◌+◌, ◌↔◌, ℕ, ℤ, pos, Bool, true, false, cond, nat_eq, ◌||◌, IsTrue, List, ◌∷◌, drop, get_or, refl, arith, ap, sym, ◌∙◌}
 use Rattle.std.specs.Ordering.{int_eq}
 use Rattle.std.proofs.lemmas.List.{get_or-drop}
 use Rattle.std.proofs.lemmas.Bool.Decides.{Decides-int_eq}

@@ -1,5 +1,5 @@
 -- The text of fields names them, and is a whole record.
-use Rattle.std.proofs.Common.{◌≡◌, ◌+◌, ℕ, ℤ, pos, ◌-ℤ◌, ◌<◌, ◌≤◌, ◌^◌, Bool, true, false, cond, List, [], ◌∷◌, ◌++◌, length, arith, append_assoc, unsigned_abs, ap, sym, refl, ◌∙◌, inl, inr}
+use Rattle.std.proofs.Common.{◌≡◌, ◌+◌, ℕ, ℤ, pos, ◌-ℤ◌, ◌<◌, ◌≤◌, ◌^◌, Bool, true, false, cond, List, [], ◌∷◌, ◌++◌, arith, append_assoc, unsigned_abs, ap, sym, refl, ◌∙◌, inl, inr}
 use Rattle.std.specs.Ordering.{int_eq}
 use Rattle.half_grid.specs.Trapezoids.{Trapezoid, IsShot, box_width}
 use Rattle.oas_lex.specs.Spelling.{unsigned_text, signed_text}

@@ -1,11 +1,10 @@
 -- The fields of a shot are near to 0.
-use Rattle.std.proofs.Common.{◌≡◌, ◌≤◌, ◌^◌, ℕ, ℤ, pos, negsuc, ◌-ℤ◌, ◌≤ℤ◌, neg_ℤ, unsigned_abs, arith, ap, sym, subst, ◌∙◌, Option, Some, None, IfSome}
+use Rattle.std.proofs.Common.{◌≤◌, ◌^◌, ℕ, ℤ, pos, negsuc, ◌-ℤ◌, ◌≤ℤ◌, neg_ℤ, unsigned_abs, arith, sym, subst, Option, Some, None, IfSome}
 use Rattle.std.proofs.lemmas.Int.{ints, clamps}
 use Rattle.std.specs.Int.{int_min, int_max}
 use Rattle.half_grid.specs.Lines.{x_on}
 use Rattle.half_grid.specs.Reach.{IsWithinReach}
-use Rattle.half_grid.specs.Trapezoids.{Trapezoid, IsShot, box_width}
-use Rattle.oas_lex.specs.ShotText.{left_delta, right_delta, least_x}
+use Rattle.half_grid.specs.Trapezoids.{Trapezoid, IsShot}
 use Rattle.shot_reader.specs.declared.fields.Fields.{Fields}
 use Rattle.shot_reader.specs.Fields.{HasShape}
 use Rattle.shot_reader.specs.Near.{AreNear}

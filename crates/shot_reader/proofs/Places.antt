@@ -1,6 +1,6 @@
 -- A number that stands next among the bytes is read, and what follows it stands after it.
-use Rattle.std.proofs.Common.{◌≡◌, ℕ, ◌+◌, ◌-◌, ◌<◌, ◌≤◌, ◌^◌, ℤ, unsigned_abs, List, [], ◌∷◌, ◌++◌, Bool, true, false, nat_eq, length, take, drop, min, codes, replicate, append_assoc, refl, arith, ap, sym, subst, ◌∙◌}
-use Rattle.std.proofs.lemmas.List.{take-append-drop, length-append, length-drop, take_all, drop-drop}
+use Rattle.std.proofs.Common.{◌≡◌, ℕ, ◌+◌, ◌-◌, ◌<◌, ◌≤◌, ◌^◌, ℤ, unsigned_abs, List, ◌++◌, Bool, true, false, nat_eq, length, take, drop, min, refl, arith, ap, sym, subst, ◌∙◌}
+use Rattle.std.proofs.lemmas.List.{take-append-drop, length-append, length-drop, take_all}
 use Rattle.std.proofs.Math.Seq.{drop-append_seam, drop-append-add, take-append_seam}
 use Rattle.std.specs.Cmp.Lexicographic.{same_text, other_text}
 use lib.Pointwise.{pointwise}

@@ -1,5 +1,5 @@
 -- What a record's bytes say of its fault.
-use Rattle.std.proofs.Common.{◌≡◌, ◌≢◌, ◌⊎◌, ℕ, ◌<◌, Option, List, ◌∷◌, ◌++◌, drop, get_or, refl, ap, sym, subst, ◌∙◌, inl, inr}
+use Rattle.std.proofs.Common.{◌≡◌, ◌≢◌, ◌⊎◌, ℕ, Option, List, ◌++◌, drop, get_or, refl, sym, subst, inl, inr}
 use Rattle.half_grid.specs.Trapezoids.{Trapezoid, IsShot}
 use Rattle.layout_model.specs.declared.pair.Pair.{Pair}
 use Rattle.shot_reader.specs.declared.fields.Fields.{Fields}
@@ -7,7 +7,7 @@ use Rattle.shot_reader.specs.declared.refusing.ShotBad.{ShotBad}
 use Rattle.shot_reader.specs.declared.refusing.ShotBad.TheVariants as faults
 use Rattle.shot_reader.specs.Fields.{HasShape, AreNarrow, text_of}
 use Rattle.shot_reader.specs.Reading.{Agrees}
-use Rattle.shot_reader.specs.Refusals.{IsWhole, IsSpelled, BeginsEnd, IsRecordFault}
+use Rattle.shot_reader.specs.Refusals.{IsWhole, BeginsEnd, IsRecordFault}
 use Rattle.shot_reader.proofs.Ids.{byte_is}
 use Rattle.shot_reader.proofs.Names.{text_whole}
 

@@ -1,6 +1,6 @@
 -- How far the reading of a file has come.
-use Rattle.std.proofs.Common.{◌≡◌, ◌≢◌, ℕ, suc, ◌<◌, ◌≤◌, ◌*◌, ◌^◌, length, take, drop, Option, Some, None, List, [], ◌∷◌, ◌++◌, get_or, append_assoc, refl, arith, ap, sym, ◌∙◌}
-use Rattle.std.proofs.lemmas.List.{append-nil, flat_map_more, append_cancel_right, take-append-drop}
+use Rattle.std.proofs.Common.{◌≡◌, ◌≢◌, ℕ, suc, ◌<◌, ◌≤◌, ◌^◌, length, take, drop, Option, Some, None, List, [], ◌∷◌, ◌++◌, append_assoc, refl, arith, ap, sym, ◌∙◌}
+use Rattle.std.proofs.lemmas.List.{flat_map_more, append_cancel_right, take-append-drop}
 use Rattle.std.proofs.lemmas.List.Elements.{All-cons}
 use Rattle.std.specs.Prelude.{All, flat_map}
 use Rattle.half_grid.specs.Trapezoids.{Trapezoid, IsShot}

@@ -1,10 +1,10 @@
 -- The text of the fields of a shot is its record.
-use Rattle.std.proofs.Common.{◌≡◌, ℕ, ℤ, pos, ◌-ℤ◌, ◌<◌, ◌≤◌, ◌^◌, List, [], ◌∷◌, ◌++◌, length, arith, append_assoc, unsigned_abs, ap, sym, refl, ◌∙◌, FitsSigned, w64}
+use Rattle.std.proofs.Common.{◌≡◌, ℕ, ℤ, ◌<◌, List, [], ◌∷◌, ◌++◌, length, arith, append_assoc, ap, refl, ◌∙◌, FitsSigned, w64}
 use Rattle.std.proofs.lemmas.Int.{to_z-of_z}
 use mir.Val.{to_z, of_z}
-use Rattle.half_grid.specs.Trapezoids.{Trapezoid, box_width}
+use Rattle.half_grid.specs.Trapezoids.{Trapezoid}
 use Rattle.oas_lex.specs.Spelling.{unsigned_text, signed_text}
-use Rattle.oas_lex.specs.ShotText.{spelling_of, delta_text, left_delta, right_delta, least_x}
+use Rattle.oas_lex.specs.ShotText.{spelling_of, delta_text}
 use Rattle.shot_reader.specs.declared.fields.Fields.{Fields}
 use Rattle.shot_reader.specs.Fields.{HasShape, text_of, id_for}
 

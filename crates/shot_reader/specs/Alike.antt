@@ -1,7 +1,7 @@
--- What two lists of bytes have in common at their beginning.
+-- What two lists of bytes have in common from their beginning on.
 use Rattle.std.specs.Prelude.{ℕ, ◌≡◌, ◌<◌, ◌≤◌, List, length, slice_index}
 
--- the two begin with the same bytes, at least so many
+-- the first so many bytes of the two are the same
 pub record BeginAlike (xs ys : List ℕ) (count : ℕ) : Type 0 where
   pub within : count ≤ length xs
   pub fits : count ≤ length ys

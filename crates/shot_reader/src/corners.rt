@@ -1,5 +1,5 @@
 //! The shot that the fields of a record name.
-ghost use Rattle.std.specs.Prelude.{◌≡◌, ◌≤◌, ◌↔◌, ℤ, pos, ◌+ℤ◌, ◌≤ℤ◌, unsigned_abs, ◌^◌, IsTrue, IsSome, IfSome};
+ghost use Rattle.std.specs.Prelude.{◌≡◌, ◌≤◌, ◌↔◌, ℤ, pos, ◌+ℤ◌, unsigned_abs, ◌^◌, IsTrue, IsSome, IfSome};
 ghost use Rattle.std.specs.Int.{int_min, int_max};
 ghost use Rattle.half_grid.specs.Trapezoids.{Trapezoid, IsShot};
 ghost use Rattle.shot_reader.specs.Fields.{HasShape, AreCorners, IsCornered};

@@ -30,7 +30,7 @@ pub(crate) fn head_of(bytes: &[u8]) -> Option<(u32, usize)>
     Some((unit as u32, spelled.bytes().len()))
 }
 
-// How many bytes the two have in common at their beginning.
+// How many bytes the two have in common from their beginning on.
 fn in_common(bytes: &[u8], text: &[u8]) -> usize
     ensures alike { BeginAlike bytes.now text.now result }
     ensures longest { (count : ℕ) → BeginAlike bytes.now text.now count → count ≤ result }
@@ -54,7 +54,8 @@ fn byte_or_zero(bytes: &[u8], at: usize) -> u64
     }
 }
 
-// A unit whose head has as many bytes in common with these as that of any other unit.
+// A unit whose head has as many bytes in common with these as that of any other unit. A unit is spelled in one to three
+// groups of 7 bits, the lowest first; the first group is even, and the last isn't 0.
 fn nearest_unit(bytes: &[u8]) -> u64
     ensures unit { IsUnit result }
     ensures nearest { (unit count : ℕ) → IsUnit unit → BeginAlike bytes.now (head unit) count → BeginAlike bytes.now (head result) count }

@@ -1,9 +1,9 @@
 //! The whole file.
-ghost use Rattle.std.specs.Prelude.{◌≡◌, ◌≢◌, ◌⊎◌, ◌++◌, ◌<◌, ◌≤◌, ℕ, List as Items, [], ◌∷◌, length, drop, slice_index, All, flat_map, IsTrue, ◌↔◌, IfOk, IfErr};
+ghost use Rattle.std.specs.Prelude.{◌≡◌, ◌≢◌, ◌⊎◌, ◌++◌, ◌<◌, ◌≤◌, ℕ, List as Items, length, drop, slice_index, All, IsTrue, ◌↔◌, IfOk, IfErr};
 ghost use Rattle.half_grid.specs.Trapezoids.{Trapezoid, IsShot};
 ghost use Rattle.oas_lex.specs.ShotText.{IsUnit, spelling_of, shot_text, end};
 ghost use Rattle.oas_lex.specs.ShotLaws.{IsNarrowPair};
-ghost use Rattle.shot_reader.specs.Reading.{IsPairOf, Agrees, IsFileOf};
+ghost use Rattle.shot_reader.specs.Reading.{Agrees, IsFileOf};
 ghost use Rattle.shot_reader.specs.Refusals.{IsRecordFault, IsFirstFault};
 ghost use Rattle.shot_reader.specs.declared.refusing.ShotBad.{ShotBad};
 

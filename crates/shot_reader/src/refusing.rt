@@ -1,5 +1,5 @@
 //! Why bytes are no shot file.
-ghost use Rattle.std.specs.Prelude.{◌≡◌, ◌≢◌, ◌⊎◌, ◌≤◌, ℕ, length, drop, nat_lt, count_by, IsTrue, IfSome};
+ghost use Rattle.std.specs.Prelude.{◌≡◌, ◌⊎◌, ◌≤◌, ℕ, length, drop, nat_lt, count_by, IsTrue, IfSome};
 ghost use Rattle.shot_reader.specs.Refusals.{HasNumbers, IsWhole};
 
 use crate::fields::INFO;
@@ -10,7 +10,7 @@ use geo_stream::NoMemory;
 pub enum ShotBad {
     /// No head begins the bytes. The longest prefix that begins some head has this length.
     Head(usize),
-    /// An id or an info byte isn't one of a shot's record, or the bytes end inside it.
+    /// An id or an info byte isn't one of a shot's record, or the bytes end before it or inside it.
     Record(usize),
     /// A number isn't in its shortest form or is too wide, the kind isn't the one for the deltas, or the layer and
     /// the datatype aren't those of the first record.

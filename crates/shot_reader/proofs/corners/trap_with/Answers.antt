@@ -1,4 +1,4 @@
-use Rattle.std.proofs.Common.{FitsSigned, w64, rules, sym, subst, arith}
+use Rattle.std.proofs.Common.{FitsSigned, w64, rules, sym, subst}
 use Rattle.std.proofs.lemmas.Int.{to_z-of_z}
 use Rattle.half_grid.specs.Trapezoids.{Trapezoid, trapezoid, IsShot}
 use Rattle.shot_reader.proofs.Shapes.{same_trap}

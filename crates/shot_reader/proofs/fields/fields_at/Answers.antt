@@ -1,4 +1,4 @@
-use Rattle.std.proofs.Common.{◌≡◌, ◌+◌, ◌∷◌, ◌≤◌, ℕ, List, length, drop, ap, sym, ◌∙◌, arith, FitsSigned, w64, rules}
+use Rattle.std.proofs.Common.{◌≡◌, ◌+◌, ℕ, length, drop, ap, sym, ◌∙◌, arith, FitsSigned, w64, rules}
 use Rattle.std.proofs.lemmas.Int.{to_z-of_z}
 use Rattle.std.proofs.lemmas.List.{drop-drop, length-drop}
 use Rattle.shot_reader.specs.Fields.{id_for}

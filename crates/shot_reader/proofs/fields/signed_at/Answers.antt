@@ -1,4 +1,4 @@
-use Rattle.std.proofs.Common.{◌≡◌, ◌+◌, length}
+use Rattle.std.proofs.Common.{◌+◌, length}
 use Rattle.oas_lex.specs.Spelling.{signed_text}
 use Rattle.shot_reader.proofs.Places.{signed_there, read_next}
 use Rattle.shot_reader.proofs.fields.signed_at.Goals as goal

@@ -1,4 +1,4 @@
-use Rattle.std.proofs.Common.{◌≡◌, ◌+◌, ◌++◌, length, drop, ap, sym, ◌∙◌}
+use Rattle.std.proofs.Common.{◌++◌, length, drop, ap, ◌∙◌}
 use Rattle.std.proofs.lemmas.List.{drop-drop}
 use Rattle.shot_reader.proofs.Places.{rest_is, stands_by, begins_by}
 use Rattle.shot_reader.proofs.fields.stands_at.Goals as goal

@@ -1,4 +1,4 @@
-use Rattle.std.proofs.Common.{◌≡◌, ◌+◌, length}
+use Rattle.std.proofs.Common.{◌+◌, length}
 use Rattle.oas_lex.specs.Spelling.{unsigned_text}
 use Rattle.shot_reader.proofs.Places.{unsigned_there, read_next}
 use Rattle.shot_reader.proofs.fields.unsigned_at.Goals as goal

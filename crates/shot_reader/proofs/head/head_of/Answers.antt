@@ -1,4 +1,4 @@
-use Rattle.std.proofs.Common.{◌≡◌, ◌<◌, ◌^◌, ◌++◌, arith, ap, sym, ◌∙◌}
+use Rattle.std.proofs.Common.{◌++◌, arith, ap, sym, ◌∙◌}
 use Rattle.oas_lex.specs.ShotText.{head}
 use Rattle.shot_reader.proofs.Places.{unit_there}
 use Rattle.shot_reader.proofs.head.head_of.Goals as goal

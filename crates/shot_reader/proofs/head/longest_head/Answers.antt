@@ -1,6 +1,5 @@
-use Rattle.std.proofs.Common.{◌≡◌, List, ℕ, subst, ◌∙◌}
+use Rattle.std.proofs.Common.{◌≡◌, ◌∙◌}
 use Rattle.oas_lex.specs.ShotText.{head}
-use Rattle.shot_reader.specs.Alike.{BeginAlike}
 use Rattle.shot_reader.proofs.Alikes.{alike_of, begins_by}
 use Rattle.shot_reader.proofs.head.longest_head.Goals as goal
 

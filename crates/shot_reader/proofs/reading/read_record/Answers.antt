@@ -1,4 +1,4 @@
-use Rattle.std.proofs.Common.{◌≡◌, ◌+◌, ◌<◌, ◌++◌, length, drop, ap, refl, sym, ◌∙◌, arith, true, false}
+use Rattle.std.proofs.Common.{◌≡◌, ◌+◌, ◌++◌, length, drop, ap, refl, sym, ◌∙◌, arith}
 use Rattle.oas_lex.specs.ShotText.{spelling_of}
 use Rattle.shot_reader.specs.Fields.{text_of}
 use Rattle.shot_reader.proofs.Texts.{text_is, text_some}

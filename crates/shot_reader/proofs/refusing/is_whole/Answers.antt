@@ -1,4 +1,4 @@
-use Rattle.std.proofs.Common.{◌≡◌, ◌≤◌, arith}
+use Rattle.std.proofs.Common.{arith}
 use Rattle.shot_reader.proofs.Ends.{ends_is, le_by, le_true, whole_if, whole_shown, some_one, Shown}
 use Rattle.shot_reader.proofs.refusing.is_whole.Goals as goal
 
