@@ -1,3 +1,5 @@
 mod SlantLemmas
 mod GridLemmas
 mod ProductLemmas
+mod RectangleLemmas
+mod WalkLemmas

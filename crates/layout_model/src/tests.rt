@@ -122,3 +122,14 @@ fn shapes_have_grid_edges(rt: HostRuntime) {
     let refused = Shape::new(rt.alloc(), pair, &slanted, place);
     assert!(rt; matches!(refused, Err(ShapeBad::Slant(2))));
 }
+
+// A closed outline clockwise from the lower left corner.
+fn ring(x0: i64, y0: i64, x1: i64, y1: i64) -> [Point; 5] {
+    [
+        point(x0, y0),
+        point(x0, y1),
+        point(x1, y1),
+        point(x1, y0),
+        point(x0, y0),
+    ]
+}

@@ -1,0 +1,28 @@
+-- What holds of the outline of each rectangle: it is closed, its edges are on the grid, and it winds once round the
+-- tiles of the rectangle and round no other.
+use Rattle.std.specs.Prelude.{◌≡◌, ℤ, pos, ◌≤ℤ◌, ◌<ℤ◌}
+use Rattle.half_grid.specs.Outlines.{IsClosed, HasGridEdges}
+use Rattle.half_grid.specs.Winding.{winding}
+use Rattle.half_grid.specs.declared.plane.Tile.{Tile}
+use Rattle.layout_model.specs.declared.rectangles.Rectangle.{Rectangle}
+use Rattle.layout_model.specs.Paths.{rectangle_ring}
+use Rattle.layout_model.specs.PathBounds.{HasTiles}
+
+-- the tile's column and row are among those of the rectangle
+pub record IsInRectangle (r : Rectangle) (t : Tile) : Type 0 where
+  pub left : r.x0 ≤ℤ t.i
+  pub right : t.i <ℤ r.x1
+  pub bottom : r.y0 ≤ℤ t.j
+  pub top : t.j <ℤ r.y1
+
+abbrev pub RingIsClosed : Type 0
+RingIsClosed = (r : Rectangle) → IsClosed (rectangle_ring r)
+
+abbrev pub RingIsOnGrid : Type 0
+RingIsOnGrid = (r : Rectangle) → HasGridEdges (rectangle_ring r)
+
+abbrev pub RingWindsInside : Type 0
+RingWindsInside = (r : Rectangle) (t : Tile) → HasTiles r → IsInRectangle r t → winding (rectangle_ring r) t ≡ pos 1
+
+abbrev pub RingWindsNotOutside : Type 0
+RingWindsNotOutside = (r : Rectangle) (t : Tile) → HasTiles r → (IsInRectangle r t → ⊥) → winding (rectangle_ring r) t ≡ pos 0
