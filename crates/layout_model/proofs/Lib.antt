@@ -1,5 +1,10 @@
+mod Cuts
 mod SlantLemmas
 mod GridLemmas
 mod ProductLemmas
 mod RectangleLemmas
+mod DirectionLemmas
+mod CourseLemmas
 mod WalkLemmas
+mod EndLemmas
+mod DrawLemmas

@@ -1,61 +1,17 @@
 -- A walk along a path, and the segments from corner to corner.
-use Rattle.std.proofs.Common.{◌≡◌, ℕ, ℤ, Bool, true, false, not, ◌&&◌, List, [], ◌∷◌, All, ap, ◌∙◌, sym, refl, subst, arith, inl, inr}
-use Rattle.std.proofs.lemmas.Int.{ints}
-use Rattle.std.proofs.lemmas.Bool.{cases_Bool, and_parts}
+use Rattle.std.proofs.Common.{◌≡◌, ℕ, ℤ, Bool, true, false, not, if◌then◌else◌, List, [], ◌∷◌, All, ap, ◌∙◌, sym, refl, subst, arith, inl, inr}
+use Rattle.std.proofs.lemmas.Bool.{cases_Bool}
 use Rattle.std.proofs.lemmas.List.Elements.{All-cons, All-nil}
 use Rattle.half_grid.specs.Winding.{edges_of}
 use Rattle.half_grid.specs.declared.plane.Point.{Point}
-use Rattle.half_grid.proofs.ForCallers.{int_eq_true}
 use Rattle.layout_model.specs.declared.directions.Direction.{Direction}
 use Rattle.layout_model.specs.declared.directions.Direction.TheVariants.{Still, East, West, North, South}
 use Rattle.layout_model.specs.declared.stretches.Stretch.{Stretch}
 use Rattle.layout_model.specs.declared.stretches.Brush.{Brush}
 use Rattle.layout_model.specs.declared.stretches.Walk.{Walk}
 use Rattle.layout_model.specs.Paths.{direction_of, are_one, later, same_point, without_repeats_after, corners_after, extended, stretch, stretches, HasNoLength}
+use Rattle.layout_model.proofs.DirectionLemmas.{same_is, same_self, still_self, other_direction, later_direction, later_first, turn_still, turn_by}
 use Rattle.layout_model.specs.Walks.{is_direction, is_turn, turns_at, walk_from, walk_on, walk_round, stretch_of}
-
--- ---- directions
-
-pub same_is : (a b : Point) → same_point a b ≡ true → a ≡ b
-same_is a b h =
-    let x : a.x ≡ b.x = int_eq_true a.x b.x (and_parts _ _ h).0 in
-    let y : a.y ≡ b.y = int_eq_true a.y b.y (and_parts _ _ h).1 in
-    cc
-
-same_self : (a : Point) → same_point a a ≡ true
-same_self a = grind (arith, ints)
-
-still_self : (a : Point) → direction_of a a ≡ Still
-still_self a = grind (arith, ints)
-
-other_direction : (a b : Point) → same_point a b ≡ false → is_direction (direction_of a b) ≡ true
-other_direction a b h = grind (arith, ints)
-
-later_direction : (d e : Direction) → is_direction e ≡ true → later d e ≡ e
-later_direction d Still h = absurd (let bad : ⊥ = cc in bad)
-later_direction d East h = refl
-later_direction d West h = refl
-later_direction d North h = refl
-later_direction d South h = refl
-
-later_first : (e : Direction) → later Still e ≡ e
-later_first Still = refl
-later_first East = refl
-later_first West = refl
-later_first North = refl
-later_first South = refl
-
-turn_still : (d : Direction) → is_turn d Still ≡ false
-turn_still Still = refl
-turn_still East = refl
-turn_still West = refl
-turn_still North = refl
-turn_still South = refl
-
-turn_by : (d e : Direction) (b : Bool) → is_direction d ≡ true → is_direction e ≡ true → are_one d e ≡ b → is_turn d e ≡ not b
-turn_by d e b hd he h = rw (hd, he, h) refl
-
--- ---- the walk
 
 -- the segments from here on
 abbrev pub walk_list : Brush → Walk → List Point → List Stretch
@@ -95,15 +51,66 @@ extended_corner half before end s a b rest =
 abbrev by_corners : Brush → Point → Point → ℤ → List Point → List Stretch
 by_corners b from previous before points = extended b.half before b.end (edges_of (from ∷ corners_after previous points))
 
+corners_same : (b : Brush) (from previous last : Point) (before : ℤ) (ps : List Point)
+    → by_corners b from previous before (last ∷ without_repeats_after last (last ∷ ps)) ≡ by_corners b from previous before (last ∷ without_repeats_after last ps)
+corners_same b from previous last before ps = rw (same_self last) refl
+
+corners_straight : (b : Brush) (from previous last p : Point) (before : ℤ) (ps : List Point) → same_point last p ≡ false → are_one (direction_of previous last) (direction_of last p) ≡ true
+    → by_corners b from previous before (last ∷ without_repeats_after last (p ∷ ps)) ≡ by_corners b from last before (p ∷ without_repeats_after p ps)
+corners_straight b from previous last p before ps s t = rw (s, t) refl
+
+corners_turn : (b : Brush) (from previous last p : Point) (before : ℤ) (ps : List Point) → same_point last p ≡ false → are_one (direction_of previous last) (direction_of last p) ≡ false
+    → by_corners b from previous before (last ∷ without_repeats_after last (p ∷ ps)) ≡ stretch b.half before b.half (from, last) ∷ by_corners b last last b.half (p ∷ without_repeats_after p ps)
+corners_turn b from previous last p before ps s t = rw (s, t) (extended_corner b.half before b.end (from, last) last p (without_repeats_after p ps))
+
+walk_same : (b : Brush) (from last : Point) (heading : Direction) (before : ℤ) (ps : List Point) → walk_list b (walk from last heading before) (last ∷ ps) ≡ walk_list b (walk from last heading before) ps
+walk_same b from last heading before ps =
+    let still = still_self last in
+    walk_straight b (walk from last heading before) last ps (ap (is_turn heading) still ∙ turn_still heading) ∙ ap (λ d. walk_list b (walk from last (later heading d) before) ps) still
+
 from_corner : (b : Brush) (ps : List Point) (from previous last : Point) (heading : Direction) (before : ℤ)
     → heading ≡ direction_of previous last → is_direction heading ≡ true
     → walk_list b (walk from last heading before) ps ≡ by_corners b from previous before (last ∷ without_repeats_after last ps)
 from_corner b [] from previous last heading before eh dh = refl
 from_corner b (p ∷ ps) from previous last heading before eh dh =
     elim (cases_Bool (same_point last p)) [
-      | inl s ↦ ?
-      | inr s ↦ elim (cases_Bool (are_one heading (direction_of last p))) [
-        | inl t ↦ ?
-        | inr t ↦ ?
-      ]
+      | inl s ↦
+        subst (λ (q : Point). walk_list b (walk from last heading before) (q ∷ ps) ≡ by_corners b from previous before (last ∷ without_repeats_after last (q ∷ ps))) (same_is last p s)
+        (walk_same b from last heading before ps ∙ from_corner b ps from previous last heading before eh dh ∙ sym (corners_same b from previous last before ps))
+      | inr s ↦ (let moves = other_direction last p s in elim (cases_Bool (are_one heading (direction_of last p))) [
+        | inl t ↦
+          walk_straight b (walk from last heading before) p ps (turn_by heading (direction_of last p) true dh moves t)
+          ∙ ap (λ d. walk_list b (walk from p d before) ps) (later_direction heading (direction_of last p) moves)
+          ∙ from_corner b ps from last p (direction_of last p) before refl moves
+          ∙ sym (corners_straight b from previous last p before ps s (subst (λ d. are_one d (direction_of last p) ≡ true) eh t))
+        | inr t ↦
+          walk_turn b (walk from last heading before) p ps (turn_by heading (direction_of last p) false dh moves t)
+          ∙ ap (λ (rest : List Stretch). stretch b.half before b.half (from, last) ∷ rest) (from_corner b ps last last p (direction_of last p) b.half refl moves)
+          ∙ sym (corners_turn b from previous last p before ps s (subst (λ d. are_one d (direction_of last p) ≡ false) eh t))
+      ])
+    ]
+
+start_same : (b : Brush) (a : Point) (ps : List Point) → walk_list b (walk_from b a) (a ∷ ps) ≡ walk_list b (walk_from b a) ps
+start_same b a ps = walk_same b a a Still b.begin ps
+
+stretches_same : (b : Brush) (a : Point) (ps : List Point) → stretches (a ∷ a ∷ ps) b.half b.begin b.end ≡ stretches (a ∷ ps) b.half b.begin b.end
+stretches_same b a ps = rw (same_self a) refl
+
+stretches_other : (b : Brush) (a p : Point) (ps : List Point) → same_point a p ≡ false → stretches (a ∷ p ∷ ps) b.half b.begin b.end ≡ by_corners b a a b.begin (p ∷ without_repeats_after p ps)
+stretches_other b a p ps s = rw s refl
+
+-- the walk from a path's first point goes along its segments
+pub whole_walk : (b : Brush) (ps : List Point) (a : Point) → (HasNoLength (a ∷ ps) → ⊥) → walk_list b (walk_from b a) ps ≡ stretches (a ∷ ps) b.half b.begin b.end
+whole_walk b [] a long = absurd (long (All-nil (λ p. p ≡ a)))
+whole_walk b (p ∷ ps) a long =
+    elim (cases_Bool (same_point a p)) [
+      | inl s ↦
+        subst (λ (q : Point). (HasNoLength (a ∷ q ∷ ps) → ⊥) → walk_list b (walk_from b a) (q ∷ ps) ≡ stretches (a ∷ q ∷ ps) b.half b.begin b.end) (same_is a p s)
+        (λ far. start_same b a ps ∙ whole_walk b ps a (λ all. far (All-cons (λ p. p ≡ a) a ps refl all)) ∙ sym (stretches_same b a ps))
+        long
+      | inr s ↦
+        walk_straight b (walk_from b a) p ps refl
+        ∙ ap (λ d. walk_list b (walk a p d b.begin) ps) (later_first (direction_of a p))
+        ∙ from_corner b ps a a p (direction_of a p) b.begin refl (other_direction a p s)
+        ∙ sym (stretches_other b a p ps s)
     ]
