@@ -1,13 +1,14 @@
 -- A walk along a path's points, as far as no move was diagonal or none went back, and the points that equal the first.
-use Rattle.std.proofs.Common.{◌≡◌, ◌<◌, ◌≤◌, ℕ, ◌+◌, suc, Bool, true, false, List, [], ◌∷◌, length, get_or, drop, take, fold, Some, None, slice_get, refl, ap, ◌∙◌, sym, subst, arith, inl, inr}
-use Rattle.std.proofs.lemmas.Bool.{cases_lt}
+use Rattle.std.proofs.Common.{◌≡◌, ◌<◌, ◌≤◌, ℕ, ◌+◌, zero, suc, below_more, Bool, true, false, List, [], ◌∷◌, length, get_or, drop, take, fold, Some, None, slice_get, refl, ap, ◌∙◌, sym, subst, arith, inl, inr}
+use Rattle.std.proofs.lemmas.Bool.{cases_lt, both_ways}
 use Rattle.std.proofs.lemmas.List.Sums.{fold_more}
 use Rattle.std.specs.Prelude.{IsSomeAnd}
 use Rattle.half_grid.specs.Winding.{edges_of}
 use Rattle.half_grid.specs.declared.plane.Point.{Point}
 use Rattle.layout_model.specs.declared.directions.Direction.{Direction}
 use Rattle.layout_model.specs.declared.directions.Direction.TheVariants.{Still}
-use Rattle.layout_model.specs.Paths.{direction_of, are_opposite, later, last_direction, moves, is_diagonal, IsFirst, IsDiagonalAt, HasNoDiagonal, IsFirstDiagonal, IsTurnBackAt, HasNoTurnBack, IsFirstTurnBack}
+use Rattle.layout_model.specs.Paths.{direction_of, are_opposite, later, last_direction, moves, is_diagonal, IsFirst, IsDiagonalAt, HasNoDiagonal, IsFirstDiagonal, IsTurnBackAt, HasNoTurnBack, IsFirstTurnBack, HasNoLength, same_point}
+use Rattle.layout_model.proofs.DirectionLemmas.{same_is, same_self}
 use Rattle.layout_model.proofs.Cuts.{Cut, cut_at, get_at, get_past, HasNone, none_more}
 
 one_more : (k : ℕ) → k + 1 ≡ suc k
@@ -15,7 +16,7 @@ one_more k = omega arith
 
 -- what a look at some place of a list decides
 no_look : {A : Type 0} (P : A → Type 0) (xs : List A) (k : ℕ) (x : A) → slice_get xs k ≡ Some x → (P x → ⊥) → IsSomeAnd (slice_get xs k) P → ⊥
-no_look P xs k x e no = rw e no
+no_look P xs k x e never = rw e never
 
 no_place : {A : Type 0} (P : A → Type 0) (xs : List A) (k : ℕ) → slice_get xs k ≡ None → IsSomeAnd (slice_get xs k) P → ⊥
 no_place P xs k e = rw e (λ h. h)
@@ -88,3 +89,27 @@ onward_end points a heading k p j =
       | inl h ↦ p.none j h
       | inr h ↦ (let past = get_past (moves points) k j p.left h in rw past (λ on. on))
     ]
+
+-- ---- points that equal the first
+
+get_either : (xs : List Point) (k : ℕ) (d e : Point) → k < length xs → get_or xs k d ≡ get_or xs k e
+get_either [] k d e h = absurd (omega (arith, h))
+get_either (x ∷ xs) zero d e h = refl
+get_either (x ∷ xs) (suc k) d e h = get_either xs k d e (omega (arith, h))
+
+-- the first so many points equal this one
+abbrev pub AreSame : Point → List Point → ℕ → Type 0
+AreSame a rest number = (k : ℕ) → k < number → (other : Point) → get_or rest k other ≡ a
+
+pub same_more : (a : Point) (rest : List Point) (k : ℕ) (d : Point) → AreSame a rest k → k < length rest → same_point (get_or rest k d) a ≡ true → AreSame a rest (k + 1)
+same_more a rest k d all h s = below_more (λ j. (other : Point) → get_or rest j other ≡ a) k all (λ other. get_either rest k other d h ∙ same_is (get_or rest k d) a s)
+
+pub same_all : (points : List Point) (a : Point) (rest : List Point) (k : ℕ) → points ≡ a ∷ rest → AreSame a rest k → length rest ≤ k → HasNoLength points
+same_all points a rest k e all h = subst HasNoLength (sym e) (λ j d low. all j (omega (arith, low, h)) d)
+
+pub same_not : (points : List Point) (a : Point) (rest : List Point) (k : ℕ) (d : Point) → points ≡ a ∷ rest → k < length rest → same_point (get_or rest k d) a ≡ false → HasNoLength points → ⊥
+same_not points a rest k d e h s all =
+    let equal : get_or rest k d ≡ a = (subst HasNoLength e all) k d h in
+    let other = subst (λ q. same_point q a ≡ false) equal s in
+    let one = same_self a in
+    both_ways (same_point a a) other one

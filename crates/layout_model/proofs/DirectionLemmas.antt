@@ -1,12 +1,12 @@
 -- Directions between points.
-use Rattle.std.proofs.Common.{◌≡◌, ℤ, Bool, true, false, not, refl, arith}
+use Rattle.std.proofs.Common.{◌≡◌, ℤ, pos, ◌≤ℤ◌, Bool, true, false, not, refl, arith}
 use Rattle.std.proofs.lemmas.Int.{ints}
 use Rattle.std.proofs.lemmas.Bool.{and_parts}
 use Rattle.half_grid.specs.declared.plane.Point.{Point}
 use Rattle.half_grid.proofs.ForCallers.{int_eq_true}
 use Rattle.layout_model.specs.declared.directions.Direction.{Direction}
 use Rattle.layout_model.specs.declared.directions.Direction.TheVariants.{Still, East, West, North, South}
-use Rattle.layout_model.specs.Paths.{direction_of, are_one, later, same_point, point_at}
+use Rattle.layout_model.specs.Paths.{direction_of, are_one, later, same_point, point_at, distance_along}
 use Rattle.layout_model.specs.Walks.{is_direction, is_turn}
 
 one_point : (x y u v : ℤ) → x ≡ u → y ≡ v → point_at x y ≡ point_at u v
@@ -50,3 +50,15 @@ turn_still South = refl
 pub turn_by : (d e : Direction) (b : Bool) → is_direction d ≡ true → is_direction e ≡ true → are_one d e ≡ b → is_turn d e ≡ not b
 turn_by d e b hd he h = rw (hd, he, h) refl
 
+
+-- no distance in the direction from a to b is below 0
+pub distance_low : (a b : Point) (d : Direction) → direction_of a b ≡ d → pos 0 ≤ℤ distance_along d a b
+distance_low a b Still h = omega (arith, ints)
+distance_low a b East h = grind (arith, ints)
+distance_low a b West h = grind (arith, ints)
+distance_low a b North h = grind (arith, ints)
+distance_low a b South h = grind (arith, ints)
+
+-- where there is no direction, X stays as it is
+pub still_x : (a b : Point) → direction_of a b ≡ Still → a.x ≡ b.x
+still_x a b h = grind (arith, ints)

@@ -50,3 +50,6 @@ last_number done s = omega (arith, length-append done (s ∷ []))
 
 pub ended_last : (b : Brush) (whole : List Stretch) (w : Walk) (first : Option Stretch) → Ended b whole w first [] → slice_get whole (length whole - 1) ≡ Some (stretch_of b b.end w)
 ended_last b whole w first e = rw (← e.split, last_number e.done (stretch_of b b.end w)) (last_of_more e.done (stretch_of b b.end w))
+
+pub ended_as : (b : Brush) (whole : List Stretch) (w v : Walk) (f g : Option Stretch) (rest : List Point) → v ≡ w → g ≡ f → Ended b whole w f rest → Ended b whole v g rest
+ended_as b whole w v f g rest e h d = rw (e, h) d

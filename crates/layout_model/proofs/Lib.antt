@@ -8,3 +8,4 @@ mod CourseLemmas
 mod WalkLemmas
 mod EndLemmas
 mod DrawLemmas
+mod AreaLemmas
