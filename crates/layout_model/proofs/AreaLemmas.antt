@@ -12,6 +12,9 @@ use Rattle.layout_model.specs.Paths.{direction_of, distance_along, length_of, Is
 use Rattle.layout_model.specs.PathBounds.{HasTiles}
 use Rattle.layout_model.proofs.DirectionLemmas.{distance_low, still_x}
 
+pub above_zero : (z : ℤ) → pos 0 ≤ℤ z → (z ≡ pos 0 → ⊥) → pos 0 <ℤ z
+above_zero z low other = by_lt_z (pos 0) z (λ h. h) (λ h. absurd (let zero : z ≡ pos 0 = omega (arith, ints, low, h) in other zero))
+
 -- a length in a direction
 abbrev length_along : Direction → Stretch → ℤ
 length_along d s = (distance_along d s.from s.to +ℤ s.before) +ℤ s.after

@@ -70,9 +70,9 @@ onward_more points a b rest heading k p off =
     record {
       left = rw (one_more k) cut.rest;
       last =
-        ap (λ h. later h (direction_of a b)) p.last
-        ∙ ap (later (last_direction (take k (moves points)))) (sym (cut.item Still))
-        ∙ sym (fold_more later Still (moves points) k Still cut.inside);
+          ap (λ h. later h (direction_of a b)) p.last
+          ∙ ap (later (last_direction (take k (moves points)))) (sym (cut.item Still))
+          ∙ sym (fold_more later Still (moves points) k Still cut.inside);
       none = none_more (IsTurnBackAt points) k p.none (rw at (λ back. absurd (let bad : ⊥ = cc in bad)));
     }
 

@@ -50,7 +50,6 @@ turn_still South = refl
 pub turn_by : (d e : Direction) (b : Bool) → is_direction d ≡ true → is_direction e ≡ true → are_one d e ≡ b → is_turn d e ≡ not b
 turn_by d e b hd he h = rw (hd, he, h) refl
 
-
 -- no distance in the direction from a to b is below 0
 pub distance_low : (a b : Point) (d : Direction) → direction_of a b ≡ d → pos 0 ≤ℤ distance_along d a b
 distance_low a b Still h = omega (arith, ints)

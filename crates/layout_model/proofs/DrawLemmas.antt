@@ -53,8 +53,8 @@ pub drawn_turn : (pair : Pair) (offsets : List Point) (fixed : Bool) (b : Brush)
     → Drawn pair offsets fixed b whole (shapes ++ drawn pair offsets fixed (stretch_of b b.half w) ∷ []) (walk_round b w p) rest
 drawn_turn pair offsets fixed b whole shapes w p rest hb d t = record {
   split =
-    append_assoc shapes (drawn pair offsets fixed (stretch_of b b.half w) ∷ []) (map (drawn pair offsets fixed) (walk_list b (walk_round b w p) rest))
-    ∙ ap (λ (xs : List Stretch). shapes ++ map (drawn pair offsets fixed) xs) (sym (walk_turn b w p rest t)) ∙ d.split;
+      append_assoc shapes (drawn pair offsets fixed (stretch_of b b.half w) ∷ []) (map (drawn pair offsets fixed) (walk_list b (walk_round b w p) rest))
+      ∙ ap (λ (xs : List Stretch). shapes ++ map (drawn pair offsets fixed) xs) (sym (walk_turn b w p rest t)) ∙ d.split;
   near = record { from = d.near.last; last = All-head IsNearPoint p rest d.rest_near; before = hb.half };
   rest_near = All-tail IsNearPoint p rest d.rest_near;
 }

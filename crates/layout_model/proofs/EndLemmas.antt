@@ -25,8 +25,8 @@ pub ended_turn : (b : Brush) (whole : List Stretch) (w : Walk) (first : Option S
 ended_turn b whole w first p rest e t = record {
   done = e.done ++ stretch_of b b.half w ∷ [];
   split =
-    append_assoc e.done (stretch_of b b.half w ∷ []) (walk_list b (walk_round b w p) rest)
-    ∙ ap (λ (xs : List Stretch). e.done ++ xs) (sym (walk_turn b w p rest t)) ∙ e.split;
+      append_assoc e.done (stretch_of b b.half w ∷ []) (walk_list b (walk_round b w p) rest)
+      ∙ ap (λ (xs : List Stretch). e.done ++ xs) (sym (walk_turn b w p rest t)) ∙ e.split;
   start = first_of_more e.done first (stretch_of b b.half w) [] e.start;
 }
 

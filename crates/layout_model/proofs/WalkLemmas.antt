@@ -75,18 +75,18 @@ from_corner b [] from previous last heading before eh dh = refl
 from_corner b (p ∷ ps) from previous last heading before eh dh =
     elim (cases_Bool (same_point last p)) [
       | inl s ↦
-        subst (λ (q : Point). walk_list b (walk from last heading before) (q ∷ ps) ≡ by_corners b from previous before (last ∷ without_repeats_after last (q ∷ ps))) (same_is last p s)
-        (walk_same b from last heading before ps ∙ from_corner b ps from previous last heading before eh dh ∙ sym (corners_same b from previous last before ps))
+          subst (λ (q : Point). walk_list b (walk from last heading before) (q ∷ ps) ≡ by_corners b from previous before (last ∷ without_repeats_after last (q ∷ ps))) (same_is last p s)
+          (walk_same b from last heading before ps ∙ from_corner b ps from previous last heading before eh dh ∙ sym (corners_same b from previous last before ps))
       | inr s ↦ (let moves = other_direction last p s in elim (cases_Bool (are_one heading (direction_of last p))) [
         | inl t ↦
-          walk_straight b (walk from last heading before) p ps (turn_by heading (direction_of last p) true dh moves t)
-          ∙ ap (λ d. walk_list b (walk from p d before) ps) (later_direction heading (direction_of last p) moves)
-          ∙ from_corner b ps from last p (direction_of last p) before refl moves
-          ∙ sym (corners_straight b from previous last p before ps s (subst (λ d. are_one d (direction_of last p) ≡ true) eh t))
+            walk_straight b (walk from last heading before) p ps (turn_by heading (direction_of last p) true dh moves t)
+            ∙ ap (λ d. walk_list b (walk from p d before) ps) (later_direction heading (direction_of last p) moves)
+            ∙ from_corner b ps from last p (direction_of last p) before refl moves
+            ∙ sym (corners_straight b from previous last p before ps s (subst (λ d. are_one d (direction_of last p) ≡ true) eh t))
         | inr t ↦
-          walk_turn b (walk from last heading before) p ps (turn_by heading (direction_of last p) false dh moves t)
-          ∙ ap (λ (rest : List Stretch). stretch b.half before b.half (from, last) ∷ rest) (from_corner b ps last last p (direction_of last p) b.half refl moves)
-          ∙ sym (corners_turn b from previous last p before ps s (subst (λ d. are_one d (direction_of last p) ≡ false) eh t))
+            walk_turn b (walk from last heading before) p ps (turn_by heading (direction_of last p) false dh moves t)
+            ∙ ap (λ (rest : List Stretch). stretch b.half before b.half (from, last) ∷ rest) (from_corner b ps last last p (direction_of last p) b.half refl moves)
+            ∙ sym (corners_turn b from previous last p before ps s (subst (λ d. are_one d (direction_of last p) ≡ false) eh t))
       ])
     ]
 
@@ -105,12 +105,12 @@ whole_walk b [] a long = absurd (long (All-nil (λ p. p ≡ a)))
 whole_walk b (p ∷ ps) a long =
     elim (cases_Bool (same_point a p)) [
       | inl s ↦
-        subst (λ (q : Point). (HasNoLength (a ∷ q ∷ ps) → ⊥) → walk_list b (walk_from b a) (q ∷ ps) ≡ stretches (a ∷ q ∷ ps) b.half b.begin b.end) (same_is a p s)
-        (λ far. start_same b a ps ∙ whole_walk b ps a (λ all. far (All-cons (λ p. p ≡ a) a ps refl all)) ∙ sym (stretches_same b a ps))
-        long
+          subst (λ (q : Point). (HasNoLength (a ∷ q ∷ ps) → ⊥) → walk_list b (walk_from b a) (q ∷ ps) ≡ stretches (a ∷ q ∷ ps) b.half b.begin b.end) (same_is a p s)
+          (λ far. start_same b a ps ∙ whole_walk b ps a (λ all. far (All-cons (λ p. p ≡ a) a ps refl all)) ∙ sym (stretches_same b a ps))
+          long
       | inr s ↦
-        walk_straight b (walk_from b a) p ps refl
-        ∙ ap (λ d. walk_list b (walk a p d b.begin) ps) (later_first (direction_of a p))
-        ∙ from_corner b ps a a p (direction_of a p) b.begin refl (other_direction a p s)
-        ∙ sym (stretches_other b a p ps s)
+          walk_straight b (walk_from b a) p ps refl
+          ∙ ap (λ d. walk_list b (walk a p d b.begin) ps) (later_first (direction_of a p))
+          ∙ from_corner b ps a a p (direction_of a p) b.begin refl (other_direction a p s)
+          ∙ sym (stretches_other b a p ps s)
     ]

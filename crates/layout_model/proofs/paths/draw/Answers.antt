@@ -25,12 +25,12 @@ loop-point-preserved c =
     let before = subst (λ rest. Drawn c.args.pair c.args.offsets.now c.args.fixed c.args.brush whole c.loop-point.shapes.items c.loop-point.walk rest) here c.loop-point.invariant in
     elim c.if-turns_at.branch [
       | then-turns_at+in_ok-shape+in_ok-push w ↦ (let made : w.in_ok-shape.shape ≡ draws (stretch_of c.args.brush c.args.brush.half c.loop-point.walk) = w.in_ok-shape.ensures ∙ ap draws w.joint.ensures in
-        drawn_as c.args.pair c.args.offsets.now c.args.fixed c.args.brush whole _ _ _ _ left (w.walk-is ∙ w.round-walk.ensures)
-        (ap (λ (v : Vec Shape Global). v.items) w.shapes-is ∙ w.in_ok-push.ensures.items ∙ ap (λ shape. c.loop-point.shapes.items ++ shape ∷ []) made)
-        (drawn_turn c.args.pair c.args.offsets.now c.args.fixed c.args.brush whole c.loop-point.shapes.items c.loop-point.walk point left c.requires.brush before (sym c.turns_at.ensures ∙ w.if-turns_at.true)))
+          drawn_as c.args.pair c.args.offsets.now c.args.fixed c.args.brush whole _ _ _ _ left (w.walk-is ∙ w.round-walk.ensures)
+          (ap (λ (v : Vec Shape Global). v.items) w.shapes-is ∙ w.in_ok-push.ensures.items ∙ ap (λ shape. c.loop-point.shapes.items ++ shape ∷ []) made)
+          (drawn_turn c.args.pair c.args.offsets.now c.args.fixed c.args.brush whole c.loop-point.shapes.items c.loop-point.walk point left c.requires.brush before (sym c.turns_at.ensures ∙ w.if-turns_at.true)))
       | else-turns_at w ↦
-        drawn_as c.args.pair c.args.offsets.now c.args.fixed c.args.brush whole _ _ _ _ left (w.walk-is ∙ w.on-walk.ensures) (ap (λ (v : Vec Shape Global). v.items) w.shapes-is)
-        (drawn_on c.args.pair c.args.offsets.now c.args.fixed c.args.brush whole c.loop-point.shapes.items c.loop-point.walk point left before (sym c.turns_at.ensures ∙ w.if-turns_at.false))
+          drawn_as c.args.pair c.args.offsets.now c.args.fixed c.args.brush whole _ _ _ _ left (w.walk-is ∙ w.on-walk.ensures) (ap (λ (v : Vec Shape Global). v.items) w.shapes-is)
+          (drawn_on c.args.pair c.args.offsets.now c.args.fixed c.args.brush whole c.loop-point.shapes.items c.loop-point.walk point left before (sym c.turns_at.ensures ∙ w.if-turns_at.false))
     ]
 
 pub returns : goal.returns

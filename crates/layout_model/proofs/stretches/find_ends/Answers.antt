@@ -18,11 +18,11 @@ loop-point-preserved c =
     let before = subst (λ rest. Ended c.args.brush whole c.loop-point.walk c.loop-point.first rest) here c.loop-point.invariant in
     elim c.if-turns_at.branch [
       | then-turns_at w ↦
-        ended_as c.args.brush whole _ _ _ _ left (w.walk-is ∙ w.round-walk.ensures) (w.first-is ∙ ap Some (w.unwrap_or.ensures ∙ ap (unwrap_or c.loop-point.first) w.joint.ensures))
-        (ended_turn c.args.brush whole c.loop-point.walk c.loop-point.first point left before (sym c.turns_at.ensures ∙ w.if-turns_at.true))
+          ended_as c.args.brush whole _ _ _ _ left (w.walk-is ∙ w.round-walk.ensures) (w.first-is ∙ ap Some (w.unwrap_or.ensures ∙ ap (unwrap_or c.loop-point.first) w.joint.ensures))
+          (ended_turn c.args.brush whole c.loop-point.walk c.loop-point.first point left before (sym c.turns_at.ensures ∙ w.if-turns_at.true))
       | else-turns_at w ↦
-        ended_as c.args.brush whole _ _ _ _ left (w.walk-is ∙ w.on-walk.ensures) w.first-is
-        (ended_on c.args.brush whole c.loop-point.walk c.loop-point.first point left before (sym c.turns_at.ensures ∙ w.if-turns_at.false))
+          ended_as c.args.brush whole _ _ _ _ left (w.walk-is ∙ w.on-walk.ensures) w.first-is
+          (ended_on c.args.brush whole c.loop-point.walk c.loop-point.first point left before (sym c.turns_at.ensures ∙ w.if-turns_at.false))
     ]
 
 pub returns-clause-first : goal.returns-clause-first
