@@ -9,3 +9,4 @@ mod WalkLemmas
 mod EndLemmas
 mod DrawLemmas
 mod AreaLemmas
+mod NearLemmas

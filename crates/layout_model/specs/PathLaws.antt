@@ -1,9 +1,11 @@
 -- What holds of the outline of each rectangle: it is closed, its edges are on the grid, and it winds once round the
 -- tiles of the rectangle and round no other.
-use Rattle.std.specs.Prelude.{◌≡◌, ℤ, pos, ◌≤ℤ◌, ◌<ℤ◌}
+use Rattle.std.specs.Prelude.{◌≡◌, ◌^◌, ℤ, pos, ◌≤ℤ◌, ◌<ℤ◌, List, All}
 use Rattle.half_grid.specs.Outlines.{IsClosed, HasGridEdges}
 use Rattle.half_grid.specs.Winding.{winding}
 use Rattle.half_grid.specs.declared.plane.Tile.{Tile}
+use Rattle.half_grid.specs.declared.plane.Point.{Point}
+use Rattle.layout_model.specs.Layouts.{IsWithin}
 use Rattle.layout_model.specs.declared.rectangles.Rectangle.{Rectangle}
 use Rattle.layout_model.specs.Paths.{rectangle_ring}
 use Rattle.layout_model.specs.PathBounds.{HasTiles}
@@ -26,3 +28,9 @@ RingWindsInside = (r : Rectangle) (t : Tile) → HasTiles r → IsInRectangle r 
 
 abbrev pub RingWindsNotOutside : Type 0
 RingWindsNotOutside = (r : Rectangle) (t : Tile) → HasTiles r → (IsInRectangle r t → ⊥) → winding (rectangle_ring r) t ≡ pos 0
+
+-- an outline of a layout: it is closed, its edges are on the grid, and its points are within 2^42 of 0
+pub record IsOutline (points : List Point) : Type 0 where
+  pub closed : IsClosed points
+  pub edges : HasGridEdges points
+  pub near : All (IsWithin (2 ^ 42)) points

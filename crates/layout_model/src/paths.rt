@@ -1,7 +1,7 @@
 ghost use Rattle.std.specs.Prelude.{◌≡◌, ◌≢◌, ◌↔◌, ◌≤ℤ◌, ◌⊎◌, ℕ, pos, [], map, All, Some, IfSome, IfNone, IfOk, IsOk, IsOkAnd, Err};
 ghost use Rattle.layout_model.specs.Paths.{HasNoLength, HasNoDiagonal, HasNoTurnBack, IsFirstDiagonal, IsFirstTurnBack, HasEmptyEnd, IsDrawable, stretches, rectangles, rectangle_shape};
 ghost use Rattle.layout_model.specs.PathBounds.{IsNear, IsNearPoint, IsNearBrush, HasTiles};
-ghost use Rattle.layout_model.specs.PathLaws.{RingIsClosed, RingIsOnGrid, RingWindsInside, RingWindsNotOutside};
+ghost use Rattle.layout_model.specs.PathLaws.{RingIsClosed, RingIsOnGrid, RingWindsInside, RingWindsNotOutside, IsOutline};
 ghost use Rattle.layout_model.specs.declared.paths.PathBad.TheVariants.{NoLength, Diagonal, TurnBack, EmptyEnd, NoMemory as Wanting};
 
 use crate::courses::{first_diagonal, first_turn_back, has_no_length};
@@ -115,6 +115,7 @@ pub fn path_shapes(
     ensures turn_back { (k : ℕ) → (result ≡ Err (TurnBack k)) ↔ ((half ≢ pos 0) × (HasNoLength points.now → ⊥) × HasNoDiagonal points.now × IsFirstTurnBack points.now k) }
     ensures empty_end { (result ≡ Err EmptyEnd) ↔ ((half ≢ pos 0) × (HasNoLength points.now → ⊥) × HasNoDiagonal points.now × HasNoTurnBack points.now × HasEmptyEnd (stretches points.now half begin end)) }
     ensures ok { half ≢ pos 0 → IsDrawable points.now half begin end → IsOk result ⊎ (result ≡ Err Wanting) }
+    ensures outlines { IfOk result (λ shapes. All (λ shape. IsOutline shape.points) shapes.items) }
     ensures area { half ≢ pos 0 → IfOk result (λ _. All HasTiles (rectangles points.now half begin end)) }
 {
     if half == 0 {

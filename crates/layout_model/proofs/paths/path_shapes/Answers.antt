@@ -2,6 +2,10 @@ use Rattle.std.proofs.Common.{◌≡◌, ◌<ℤ◌, pos, ap, of_z, w64, arith, 
 use Rattle.std.proofs.lemmas.Int.{ints, to_z-of_z}
 use Rattle.layout_model.specs.declared.paths.PathBad.TheVariants.{Diagonal, TurnBack, EmptyEnd}
 use Rattle.layout_model.specs.Paths.{segments_of}
+use Rattle.std.proofs.lemmas.List.Elements.{All-same}
+use Rattle.layout_model.specs.declared.shapes.Shape.{Shape}
+use Rattle.layout_model.specs.PathLaws.{IsOutline}
+use Rattle.layout_model.proofs.NearLemmas.{all_outlines}
 use Rattle.layout_model.proofs.AreaLemmas.{above_zero, all_tiles}
 use Rattle.layout_model.proofs.paths.path_shapes.Goals as goal
 
@@ -37,3 +41,12 @@ returns-in-Ok-clause-area c nonzero =
     let some : pos 0 <ℤ c.args.half = above_zero c.args.half c.requires.half_low nonzero in
     let drawable = simp to_z-of_z at c.in_default.ensures.none in
     all_tiles c.args.half c.args.begin c.args.end (segments_of c.args.points.now) some (λ empty. drawable.ends (inl empty)) (λ empty. drawable.ends (inr empty))
+
+pub returns-in-Ok-clause-outlines : goal.returns-in-Ok-clause-outlines
+returns-in-Ok-clause-outlines c =
+    let half : FitsSigned w64 c.args.half = c.ranges.half in
+    let begin : FitsSigned w64 c.args.begin = c.ranges.begin in
+    let end : FitsSigned w64 c.args.end = c.ranges.end in
+    let items = simp to_z-of_z at c.in-Ok.ensures in
+    All-same (λ (shape : Shape). IsOutline shape.points) c.in-Ok.shapes.items _ items
+    (all_outlines c.args.pair c.args.offsets.now c.args.fixed c.args.points.now c.args.half c.args.begin c.args.end c.requires.points c.requires.half c.requires.begin c.requires.end)
