@@ -1,8 +1,8 @@
 -- What a walk draws: no numbers too far from 0, and a rectangle with tiles of each segment.
-use Rattle.std.proofs.Common.{◌≡◌, ℕ, ℤ, pos, ◌+ℤ◌, ◌-ℤ◌, ◌≤ℤ◌, ◌<ℤ◌, ◌-◌, suc, zero, Bool, true, false, List, [], ◌∷◌, ◌++◌, length, map, All, Some, slice_get, refl, ap, ◌∙◌, sym, subst, arith, append_assoc}
+use Rattle.std.proofs.Common.{◌≡◌, ◌^◌, ℕ, ℤ, pos, ◌+ℤ◌, ◌-ℤ◌, ◌≤ℤ◌, ◌<ℤ◌, ◌-◌, suc, zero, Bool, true, false, List, [], ◌∷◌, ◌++◌, length, map, All, Some, slice_get, refl, ap, ◌∙◌, sym, subst, arith, append_assoc}
 use Rattle.std.specs.Prelude.{IsSomeAnd}
 use Rattle.std.proofs.lemmas.Int.{ints}
-use Rattle.std.proofs.lemmas.List.Elements.{All-head, All-tail, All-cons, All-nil}
+use Rattle.std.proofs.lemmas.List.Elements.{All-weaker, All-head, All-tail, All-cons, All-nil}
 use Rattle.half_grid.specs.declared.plane.Point.{Point}
 use Rattle.layout_model.specs.declared.pair.Pair.{Pair}
 use Rattle.layout_model.specs.declared.shapes.Shape.{Shape}
@@ -11,6 +11,7 @@ use Rattle.layout_model.specs.declared.stretches.Brush.{Brush}
 use Rattle.layout_model.specs.declared.stretches.Walk.{Walk}
 use Rattle.layout_model.specs.declared.rectangles.Rectangle.{Rectangle}
 use Rattle.layout_model.specs.Paths.{rectangle, rectangle_of, rectangle_shape, rectangles, stretches, HasNoLength}
+use Rattle.layout_model.specs.Layouts.{IsWithin}
 use Rattle.layout_model.specs.PathBounds.{IsNear, IsNearPoint, IsNearBrush, IsNearStretch}
 use Rattle.layout_model.specs.Walks.{turns_at, walk_from, walk_on, walk_round, stretch_of}
 use Rattle.layout_model.proofs.WalkLemmas.{walk_list, walk_straight, walk_turn, whole_walk}
@@ -19,6 +20,12 @@ pub rectangle_at : (x0 y0 x1 y1 a b c d : ℤ) → x0 ≡ a → y0 ≡ b → x1 
 rectangle_at x0 y0 x1 y1 a b c d e f g h = rw (e, f, g, h) refl
 
 -- ---- the bounds
+
+near_point : (p : Point) → IsWithin (2 ^ 41) p → IsNearPoint p
+near_point p h = record { x = record { low = h.x_low; high = h.x_high }; y = record { low = h.y_low; high = h.y_high } }
+
+pub near_points : (points : List Point) → All (IsWithin (2 ^ 41)) points → All IsNearPoint points
+near_points points all = All-weaker (IsWithin (2 ^ 41)) IsNearPoint near_point points all
 
 pub record IsNearWalk (w : Walk) : Type 0 where
   pub from : IsNearPoint w.from

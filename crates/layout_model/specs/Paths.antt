@@ -5,8 +5,8 @@
 -- longer by half the width, so that the rectangles of a corner share a square; at the path's beginning and at its end
 -- it is longer by what the path says, or shorter where that is negative.
 --
--- GDSII Stream Format Manual 6.0, PATHTYPE, BGNEXTN and ENDEXTN: square ends are those of type 0 (no extension), 2
--- (half the width) and 4 (as given). SEMI P39, PATH records, say the same.
+-- GDSII Stream Format Manual 6.0, PATHTYPE, BGNEXTN and ENDEXTN: square ends are those of type 0 (no longer), 2 (longer
+-- by half the width) and 4 (as given). The PATH records of SEMI P39 have the same three.
 use Rattle.std.specs.Prelude.{◌≡◌, ℕ, ℤ, pos, ◌+ℤ◌, ◌-ℤ◌, ◌≤ℤ◌, ◌<ℤ◌, ◌<◌, ◌-◌, ◌⊎◌, Bool, true, false, not, ◌&&◌, if◌then◌else◌, int_lt, List, [], ◌∷◌, length, map, fold, take, All, IsTrue, IsSomeAnd, slice_get}
 use Rattle.std.specs.Ordering.{int_eq}
 use Rattle.half_grid.specs.Quads.{corners, ring_of}

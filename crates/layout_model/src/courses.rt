@@ -5,7 +5,7 @@ ghost use Rattle.layout_model.specs.Paths.{same_point, is_diagonal, HasNoLength,
 use crate::directions::{Direction, are_opposite, direction_to, later};
 use half_grid::Point;
 
-pub(crate) fn is_same(a: Point, b: Point) -> bool
+fn is_same(a: Point, b: Point) -> bool
     ensures { result ≡ same_point a b }
 {
     a.x == b.x && a.y == b.y

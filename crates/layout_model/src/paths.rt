@@ -1,5 +1,6 @@
-ghost use Rattle.std.specs.Prelude.{◌≡◌, ◌≢◌, ◌↔◌, ◌≤ℤ◌, ◌⊎◌, ℕ, pos, [], map, All, Some, IfSome, IfNone, IfOk, IsOk, IsOkAnd, Err};
+ghost use Rattle.std.specs.Prelude.{◌≡◌, ◌≢◌, ◌^◌, ◌↔◌, ◌≤ℤ◌, ◌⊎◌, ℕ, pos, [], map, All, Some, IfSome, IfNone, IfOk, IsOk, IsOkAnd, Err};
 ghost use Rattle.layout_model.specs.Paths.{HasNoLength, HasNoDiagonal, HasNoTurnBack, IsFirstDiagonal, IsFirstTurnBack, HasEmptyEnd, IsDrawable, stretches, rectangles, rectangle_shape};
+ghost use Rattle.layout_model.specs.Layouts.{IsWithin};
 ghost use Rattle.layout_model.specs.PathBounds.{IsNear, IsNearPoint, IsNearBrush, HasTiles};
 ghost use Rattle.layout_model.specs.PathLaws.{RingIsClosed, RingIsOnGrid, RingWindsInside, RingWindsNotOutside, IsOutline};
 ghost use Rattle.layout_model.specs.declared.paths.PathBad.TheVariants.{NoLength, Diagonal, TurnBack, EmptyEnd, NoMemory as Wanting};
@@ -17,7 +18,7 @@ use std::alloc::Global;
 /// Why a path can't be drawn.
 #[derive(Clone, Copy, Debug, PartialEq, Eq)]
 pub enum PathBad {
-    /// All its points are equal.
+    /// All its points are equal, or there are none.
     NoLength,
     /// The point of this number, counted from 0, and the next differ in both coordinates. It is the first such point.
     Diagonal(usize),
@@ -90,7 +91,7 @@ fn fault(points: &[Point], brush: Brush) -> Option<PathBad>
 /// it. A segment is longer by `half` at an inner corner, by `begin` at the path's beginning and by `end` at its end,
 /// or shorter where these are negative. Points that repeat the one before them, and points between two segments of one
 /// direction, are no corners. Each shape has the pair, a copy of the offsets, and `fixed` as given. Lengths are half
-/// units, and all of them are at most 2^41 from 0.
+/// units, and none is more than 2^41 from 0.
 ///
 /// There are no shapes where `half` is 0. Elsewhere the refusals are tried in the order in which `PathBad` lists them.
 pub fn path_shapes(
@@ -103,7 +104,7 @@ pub fn path_shapes(
     offsets: &Offsets,
     fixed: bool,
 ) -> Result<Vec<Shape>, PathBad>
-    requires points { All IsNearPoint points.now }
+    requires points { All (IsWithin (2 ^ 41)) points.now }
     requires half_low { pos 0 ≤ℤ half }
     requires half { IsNear half }
     requires begin { IsNear begin }

@@ -1,6 +1,7 @@
 //! Each call at its happy path, and the refusals.
-ghost use Rattle.std.specs.Prelude.{◌≡◌, pos, ◌≤ℤ◌, All};
-ghost use Rattle.layout_model.specs.PathBounds.{IsNear, IsNearPoint};
+ghost use Rattle.std.specs.Prelude.{◌≡◌, ◌^◌, pos, ◌≤ℤ◌, All};
+ghost use Rattle.layout_model.specs.Layouts.{IsWithin};
+ghost use Rattle.layout_model.specs.PathBounds.{IsNear};
 
 use crate::{
     Name, NameBad, Offsets, Orient, Pair, PathBad, Points, Shape, ShapeBad, image, path_shapes,
@@ -149,7 +150,7 @@ fn draw(
     begin: i64,
     end: i64,
 ) -> Result<Vec<Shape>, PathBad>
-    requires points { All IsNearPoint points.now }
+    requires points { All (IsWithin (2 ^ 41)) points.now }
     requires half_low { pos 0 ≤ℤ half }
     requires half { IsNear half }
     requires begin { IsNear begin }

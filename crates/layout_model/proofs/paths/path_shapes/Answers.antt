@@ -6,6 +6,7 @@ use Rattle.std.proofs.lemmas.List.Elements.{All-same}
 use Rattle.layout_model.specs.declared.shapes.Shape.{Shape}
 use Rattle.layout_model.specs.PathLaws.{IsOutline}
 use Rattle.layout_model.proofs.NearLemmas.{all_outlines}
+use Rattle.layout_model.proofs.DrawLemmas.{near_points}
 use Rattle.layout_model.proofs.AreaLemmas.{above_zero, all_tiles}
 use Rattle.layout_model.proofs.paths.path_shapes.Goals as goal
 
@@ -49,4 +50,7 @@ returns-in-Ok-clause-outlines c =
     let end : FitsSigned w64 c.args.end = c.ranges.end in
     let items = simp to_z-of_z at c.in-Ok.ensures in
     All-same (λ (shape : Shape). IsOutline shape.points) c.in-Ok.shapes.items _ items
-    (all_outlines c.args.pair c.args.offsets.now c.args.fixed c.args.points.now c.args.half c.args.begin c.args.end c.requires.points c.requires.half c.requires.begin c.requires.end)
+    (all_outlines c.args.pair c.args.offsets.now c.args.fixed c.args.points.now c.args.half c.args.begin c.args.end (near_points c.args.points.now c.requires.points) c.requires.half c.requires.begin c.requires.end)
+
+pub draw-requires-clause-points : goal.draw-requires-clause-points
+draw-requires-clause-points c = near_points c.args.points.now c.requires.points
