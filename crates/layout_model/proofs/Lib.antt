@@ -10,3 +10,4 @@ mod EndLemmas
 mod DrawLemmas
 mod AreaLemmas
 mod NearLemmas
+mod SegmentLemmas

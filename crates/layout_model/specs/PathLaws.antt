@@ -1,14 +1,29 @@
--- What holds of the outline of each rectangle: it is closed, its edges are on the grid, and it winds once round the
--- tiles of the rectangle and round no other.
-use Rattle.std.specs.Prelude.{◌≡◌, ◌^◌, ℤ, pos, ◌≤ℤ◌, ◌<ℤ◌, List, All}
+-- What holds of every path: each of its segments goes somewhere, and where no move is diagonal along one axis. And what
+-- holds of the outline of every rectangle: it is closed, its edges are on the grid, and it winds once round the tiles
+-- of the rectangle and round no other.
+use Rattle.std.specs.Prelude.{◌≡◌, ◌≢◌, ◌⊎◌, ◌^◌, pos, ◌≤ℤ◌, ◌<ℤ◌, List, All}
 use Rattle.half_grid.specs.Outlines.{IsClosed, HasGridEdges}
 use Rattle.half_grid.specs.Winding.{winding}
 use Rattle.half_grid.specs.declared.plane.Tile.{Tile}
 use Rattle.half_grid.specs.declared.plane.Point.{Point}
+use Rattle.layout_model.specs.declared.directions.Direction.TheVariants.{Still}
 use Rattle.layout_model.specs.Layouts.{IsWithin}
 use Rattle.layout_model.specs.declared.rectangles.Rectangle.{Rectangle}
-use Rattle.layout_model.specs.Paths.{rectangle_ring}
+use Rattle.layout_model.specs.Paths.{direction_of, segments_of, rectangle_ring, HasNoDiagonal}
 use Rattle.layout_model.specs.PathBounds.{HasTiles}
+
+abbrev pub GoesSomewhere : Point × Point → Type 0
+GoesSomewhere (a, b) = direction_of a b ≢ Still
+
+abbrev pub SegmentsGoSomewhere : Type 0
+SegmentsGoSomewhere = (points : List Point) → All GoesSomewhere (segments_of points)
+
+-- the two points agree in X or in Y
+abbrev pub IsAlongAxis : Point × Point → Type 0
+IsAlongAxis (a, b) = (a.x ≡ b.x) ⊎ (a.y ≡ b.y)
+
+abbrev pub SegmentsAreAlongAxes : Type 0
+SegmentsAreAlongAxes = (points : List Point) → HasNoDiagonal points → All IsAlongAxis (segments_of points)
 
 -- the tile's column and row are among those of the rectangle
 pub record IsInRectangle (r : Rectangle) (t : Tile) : Type 0 where
