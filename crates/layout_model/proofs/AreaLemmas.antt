@@ -1,5 +1,5 @@
 -- The rectangle of each segment has tiles, where the half width is above 0 and neither end is empty.
-use Rattle.std.proofs.Common.{◌≡◌, ℕ, ℤ, pos, ◌+ℤ◌, ◌-ℤ◌, ◌≤ℤ◌, ◌<ℤ◌, ◌-◌, suc, zero, List, [], ◌∷◌, length, map, All, Some, slice_get, refl, subst, arith}
+use Rattle.std.proofs.Common.{◌≡◌, ℤ, pos, ◌+ℤ◌, ◌≤ℤ◌, ◌<ℤ◌, ◌-◌, suc, List, [], ◌∷◌, length, map, All, slice_get, refl, arith}
 use Rattle.std.specs.Prelude.{IsSomeAnd}
 use Rattle.std.proofs.lemmas.Int.{ints, by_lt_z}
 use Rattle.std.proofs.lemmas.List.Elements.{All-cons, All-nil}
@@ -7,7 +7,6 @@ use Rattle.half_grid.specs.declared.plane.Point.{Point}
 use Rattle.layout_model.specs.declared.directions.Direction.{Direction}
 use Rattle.layout_model.specs.declared.directions.Direction.TheVariants.{Still, East, West, North, South}
 use Rattle.layout_model.specs.declared.stretches.Stretch.{Stretch}
-use Rattle.layout_model.specs.declared.rectangles.Rectangle.{Rectangle}
 use Rattle.layout_model.specs.Paths.{direction_of, distance_along, length_of, IsEmpty, extended, stretch, rectangle_along, rectangle_of}
 use Rattle.layout_model.specs.PathBounds.{HasTiles}
 use Rattle.layout_model.proofs.DirectionLemmas.{distance_low, still_x}

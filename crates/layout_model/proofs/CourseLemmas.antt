@@ -1,5 +1,5 @@
 -- A walk along a path's points, as far as no move was diagonal or none went back, and the points that equal the first.
-use Rattle.std.proofs.Common.{◌≡◌, ◌<◌, ◌≤◌, ℕ, ◌+◌, zero, suc, below_more, Bool, true, false, List, [], ◌∷◌, length, get_or, drop, take, fold, Some, None, slice_get, refl, ap, ◌∙◌, sym, subst, arith, inl, inr}
+use Rattle.std.proofs.Common.{◌≡◌, ◌<◌, ◌≤◌, ℕ, ◌+◌, zero, suc, below_more, true, false, List, [], ◌∷◌, length, get_or, drop, take, Some, None, slice_get, refl, ap, ◌∙◌, sym, subst, arith, inl, inr}
 use Rattle.std.proofs.lemmas.Bool.{cases_lt, both_ways}
 use Rattle.std.proofs.lemmas.List.Sums.{fold_more}
 use Rattle.std.specs.Prelude.{IsSomeAnd}
@@ -7,9 +7,9 @@ use Rattle.half_grid.specs.Winding.{edges_of}
 use Rattle.half_grid.specs.declared.plane.Point.{Point}
 use Rattle.layout_model.specs.declared.directions.Direction.{Direction}
 use Rattle.layout_model.specs.declared.directions.Direction.TheVariants.{Still}
-use Rattle.layout_model.specs.Paths.{direction_of, are_opposite, later, last_direction, moves, is_diagonal, IsFirst, IsDiagonalAt, HasNoDiagonal, IsFirstDiagonal, IsTurnBackAt, HasNoTurnBack, IsFirstTurnBack, HasNoLength, same_point}
+use Rattle.layout_model.specs.Paths.{direction_of, are_opposite, later, last_direction, moves, is_diagonal, IsDiagonalAt, HasNoDiagonal, IsFirstDiagonal, IsTurnBackAt, HasNoTurnBack, IsFirstTurnBack, HasNoLength, same_point}
 use Rattle.layout_model.proofs.DirectionLemmas.{same_is, same_self}
-use Rattle.layout_model.proofs.Cuts.{Cut, cut_at, get_at, get_past, HasNone, none_more}
+use Rattle.layout_model.proofs.Cuts.{cut_at, get_at, get_past, HasNone, none_more}
 
 one_more : (k : ℕ) → k + 1 ≡ suc k
 one_more k = omega arith

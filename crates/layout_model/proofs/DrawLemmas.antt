@@ -1,15 +1,12 @@
 -- What a walk draws: no numbers too far from 0, and a rectangle with tiles of each segment.
-use Rattle.std.proofs.Common.{◌≡◌, ◌^◌, ℕ, ℤ, pos, ◌+ℤ◌, ◌-ℤ◌, ◌≤ℤ◌, ◌<ℤ◌, ◌-◌, suc, zero, Bool, true, false, List, [], ◌∷◌, ◌++◌, length, map, All, Some, slice_get, refl, ap, ◌∙◌, sym, subst, arith, append_assoc}
-use Rattle.std.specs.Prelude.{IsSomeAnd}
-use Rattle.std.proofs.lemmas.Int.{ints}
-use Rattle.std.proofs.lemmas.List.Elements.{All-weaker, All-head, All-tail, All-cons, All-nil}
+use Rattle.std.proofs.Common.{◌≡◌, ◌^◌, ℤ, Bool, true, false, List, [], ◌∷◌, ◌++◌, map, All, refl, ap, ◌∙◌, sym, subst, append_assoc}
+use Rattle.std.proofs.lemmas.List.Elements.{All-weaker, All-head, All-tail}
 use Rattle.half_grid.specs.declared.plane.Point.{Point}
 use Rattle.layout_model.specs.declared.pair.Pair.{Pair}
 use Rattle.layout_model.specs.declared.shapes.Shape.{Shape}
 use Rattle.layout_model.specs.declared.stretches.Stretch.{Stretch}
 use Rattle.layout_model.specs.declared.stretches.Brush.{Brush}
 use Rattle.layout_model.specs.declared.stretches.Walk.{Walk}
-use Rattle.layout_model.specs.declared.rectangles.Rectangle.{Rectangle}
 use Rattle.layout_model.specs.Paths.{rectangle, rectangle_of, rectangle_shape, rectangles, stretches, HasNoLength}
 use Rattle.layout_model.specs.Layouts.{IsWithin}
 use Rattle.layout_model.specs.PathBounds.{IsNear, IsNearPoint, IsNearBrush, IsNearStretch}

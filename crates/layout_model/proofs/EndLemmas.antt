@@ -1,5 +1,5 @@
 -- The first and the last segment, as a walk finds them.
-use Rattle.std.proofs.Common.{◌≡◌, ℕ, ◌+◌, ◌-◌, suc, zero, Bool, true, false, List, [], ◌∷◌, ◌++◌, length, Option, Some, None, unwrap_or, slice_get, refl, ap, ◌∙◌, sym, subst, arith, append_assoc, length-append}
+use Rattle.std.proofs.Common.{◌≡◌, ◌-◌, true, false, List, [], ◌∷◌, ◌++◌, length, Option, Some, None, unwrap_or, slice_get, refl, ap, ◌∙◌, sym, arith, append_assoc, length-append}
 use Rattle.half_grid.specs.declared.plane.Point.{Point}
 use Rattle.layout_model.specs.declared.stretches.Stretch.{Stretch}
 use Rattle.layout_model.specs.declared.stretches.Brush.{Brush}

@@ -1,5 +1,5 @@
 -- The rectangles of a path whose numbers are at most 2^41 from 0 have corners at most 2^42 from 0.
-use Rattle.std.proofs.Common.{◌≡◌, ◌^◌, ℤ, pos, neg_ℤ, ◌+ℤ◌, ◌-ℤ◌, ◌≤ℤ◌, Bool, true, false, List, [], ◌∷◌, map, All, refl, arith, inl, inr}
+use Rattle.std.proofs.Common.{◌^◌, ℤ, pos, neg_ℤ, ◌+ℤ◌, ◌-ℤ◌, ◌≤ℤ◌, Bool, List, [], ◌∷◌, map, All, refl, arith, inl, inr}
 use Rattle.std.proofs.lemmas.Int.{ints}
 use Rattle.std.proofs.lemmas.Bool.{cases_Bool}
 use Rattle.std.proofs.lemmas.List.Elements.{All-head, All-tail, All-cons, All-nil, All-map, All-weaker, All-from_recursion}
@@ -12,7 +12,7 @@ use Rattle.layout_model.specs.declared.shapes.Shape.{Shape}
 use Rattle.layout_model.specs.declared.stretches.Stretch.{Stretch}
 use Rattle.layout_model.specs.declared.rectangles.Rectangle.{Rectangle}
 use Rattle.layout_model.specs.Layouts.{IsWithin}
-use Rattle.layout_model.specs.Paths.{direction_of, are_one, same_point, without_repeats, without_repeats_after, without_straight_joints, corners_after, segments_of, extended, stretch, stretches, rectangle_along, rectangle_of, rectangles, rectangle_ring, rectangle_shape, point_at}
+use Rattle.layout_model.specs.Paths.{direction_of, are_one, same_point, without_repeats_after, corners_after, segments_of, extended, stretch, stretches, rectangle_along, rectangle_of, rectangles, rectangle_ring, rectangle_shape, point_at}
 use Rattle.layout_model.specs.PathBounds.{IsNear, IsNearPoint, IsNearStretch}
 use Rattle.layout_model.specs.PathLaws.{IsOutline}
 use Rattle.layout_model.proofs.RectangleLemmas.{ring_on_grid}

@@ -1,11 +1,10 @@
 -- The outline of a rectangle: its edges, and its winding at each tile.
-use Rattle.std.proofs.Common.{◌≡◌, ℤ, pos, ◌+ℤ◌, ◌-ℤ◌, ◌≤ℤ◌, ◌<ℤ◌, zero, suc, ◌<◌, List, [], ◌∷◌, All, arith, refl, inl, inr}
+use Rattle.std.proofs.Common.{◌≡◌, pos, zero, suc, [], ◌∷◌, All, arith, refl, inl, inr}
 use Rattle.std.proofs.lemmas.Int.{ints}
 use Rattle.half_grid.specs.Outlines.{IsOnGrid, HasGridEdges}
 use Rattle.half_grid.specs.Winding.{winding}
-use Rattle.half_grid.specs.Trapezoids.{Trapezoid, trapezoid, IsLegal, IsInTrapezoid}
+use Rattle.half_grid.specs.Trapezoids.{Trapezoid, trapezoid, IsLegal}
 use Rattle.half_grid.specs.declared.plane.Tile.{Tile}
-use Rattle.half_grid.specs.declared.plane.Point.{Point}
 use Rattle.half_grid.specs.declared.plane.Line.TheVariants.{Upright}
 use Rattle.half_grid.proofs.ForCallers.{ring_inside, ring_outside}
 use Rattle.layout_model.specs.declared.rectangles.Rectangle.{Rectangle}

@@ -1,7 +1,6 @@
 -- The segments of a path go somewhere, and where no move is diagonal each goes along one axis.
-use Rattle.std.proofs.Common.{◌≡◌, ◌≢◌, ◌⊎◌, ◌<ℤ◌, ℤ, Bool, true, false, not, List, [], ◌∷◌, get_or, slice_get, All, refl, sym, ap, ◌∙◌, subst, arith, inl, inr}
+use Rattle.std.proofs.Common.{◌≡◌, ◌≢◌, ◌<ℤ◌, true, false, not, List, [], ◌∷◌, get_or, All, refl, sym, ◌∙◌, subst, arith, inl, inr}
 use Rattle.std.specs.Ordering.{int_eq}
-use Rattle.std.specs.Prelude.{IsSomeAnd, IsTrue}
 use Rattle.std.proofs.lemmas.Int.{ints}
 use Rattle.std.proofs.lemmas.Bool.{cases_Bool, and_cases, not-false, false_from_ne_true}
 use Rattle.std.proofs.lemmas.Option.{slice_get-get_or}
@@ -11,7 +10,7 @@ use Rattle.half_grid.specs.declared.plane.Point.{Point}
 use Rattle.half_grid.proofs.ForCallers.{int_eq_true}
 use Rattle.layout_model.specs.declared.directions.Direction.{Direction}
 use Rattle.layout_model.specs.declared.directions.Direction.TheVariants.{Still, East, West, North, South}
-use Rattle.layout_model.specs.Paths.{direction_of, are_one, same_point, is_diagonal, without_repeats_after, corners_after, segments_of, IsDiagonalAt, HasNoDiagonal}
+use Rattle.layout_model.specs.Paths.{direction_of, are_one, same_point, is_diagonal, without_repeats_after, corners_after, segments_of, HasNoDiagonal}
 use Rattle.layout_model.specs.PathLaws.{GoesSomewhere, IsAlongAxis}
 use Rattle.layout_model.proofs.DirectionLemmas.{same_is, other_direction}
 use Rattle.layout_model.specs.Walks.{is_direction}
@@ -97,7 +96,7 @@ module _ (P : Point × Point → Type 0) (on : HandsOn P) where
       let rest = All-tail P (last, q) (edges_of (q ∷ points)) all in
       elim (cases_Bool (are_one (direction_of previous last) (direction_of last q))) [
         | inl t ↦ (let same = e ∙ one_direction (direction_of previous last) (direction_of last q) t in
-          rw t (corners_keep from last q points (on_and_on from last q (direction_of last q) same refl) (on from last q same p next) rest))
+            rw t (corners_keep from last q points (on_and_on from last q (direction_of last q) same refl) (on from last q same p next) rest))
         | inr t ↦ rw t (All-cons P (from, last) (edges_of (last ∷ corners_after last (q ∷ points))) p (corners_keep last last q points refl next rest))
       ]
 

@@ -1,12 +1,12 @@
 -- The edges that a walk along a point list has passed, all of them on the grid.
-use Rattle.std.proofs.Common.{◌≡◌, ◌<◌, ◌≤◌, ℕ, ◌+◌, List, [], ◌∷◌, length, get_or, drop, refl, sym, subst, arith, below_more, pos, suc, zero, inl, inr}
+use Rattle.std.proofs.Common.{◌≡◌, ◌<◌, ℕ, ◌+◌, List, [], ◌∷◌, get_or, drop, refl, sym, subst, arith, below_more, pos, suc, inl, inr}
 use Rattle.std.proofs.lemmas.Bool.{cases_lt}
 use Rattle.std.specs.List.{AllWithin}
 use Rattle.half_grid.specs.declared.plane.Point.{Point}
 use Rattle.half_grid.specs.Outlines.{IsOnGrid, HasGridEdges}
 use Rattle.half_grid.specs.Winding.{edges_of}
 use Rattle.layout_model.specs.Slants.{IsFirstSlant}
-use Rattle.layout_model.proofs.Cuts.{Cut, cut_at, past_end}
+use Rattle.layout_model.proofs.Cuts.{cut_at, past_end}
 
 -- the walk has passed so many edges and stands at the point before the rest
 pub record Passed (points : List Point) (at : Point) (rest : List Point) (number : ℕ) : Type 0 where

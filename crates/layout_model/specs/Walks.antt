@@ -1,9 +1,9 @@
 -- One step along a path: where the current segment began, the last point reached, the direction of the last move that
 -- has one, and what the current segment is longer by at its beginning.
-use Rattle.std.specs.Prelude.{Bool, true, false, ℤ, ◌&&◌, not, if◌then◌else◌}
+use Rattle.std.specs.Prelude.{Bool, true, false, ℤ, ◌&&◌, not}
 use Rattle.half_grid.specs.declared.plane.Point.{Point}
 use Rattle.layout_model.specs.declared.directions.Direction.{Direction}
-use Rattle.layout_model.specs.declared.directions.Direction.TheVariants.{Still, East, West, North, South}
+use Rattle.layout_model.specs.declared.directions.Direction.TheVariants.{Still}
 use Rattle.layout_model.specs.declared.stretches.Stretch.{Stretch}
 use Rattle.layout_model.specs.declared.stretches.Brush.{Brush}
 use Rattle.layout_model.specs.declared.stretches.Walk.{Walk}

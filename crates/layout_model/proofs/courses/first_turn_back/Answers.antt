@@ -1,4 +1,4 @@
-use Rattle.std.proofs.Common.{get_or, drop, pos, subst, sym, ap, ◌∙◌, ◌≡◌, ◌+◌, ◌∷◌, [], arith}
+use Rattle.std.proofs.Common.{get_or, drop, pos, subst, sym, ap, ◌∙◌, ◌≡◌, ◌+◌, ◌∷◌, []}
 use Rattle.std.proofs.lemmas.List.{drop_more}
 use Rattle.std.proofs.Math.ListN.{drop_of_length-le}
 use Rattle.layout_model.proofs.CourseLemmas.{Onward, onward_more, onward_back, onward_end}

@@ -3,7 +3,7 @@ use Rattle.std.proofs.lemmas.List.{drop_more}
 use Rattle.std.proofs.Math.ListN.{drop_of_length-le}
 use Rattle.layout_model.specs.declared.shapes.Shape.{Shape}
 use Rattle.layout_model.specs.declared.stretches.Stretch.{Stretch}
-use Rattle.layout_model.specs.Walks.{walk_from, stretch_of}
+use Rattle.layout_model.specs.Walks.{stretch_of}
 use Rattle.layout_model.proofs.WalkLemmas.{walk_list}
 use Rattle.layout_model.proofs.DrawLemmas.{Drawn, drawn, drawn_begin, drawn_turn, drawn_on, drawn_as, drawn_end}
 use Rattle.half_grid.specs.declared.plane.Point.{Point}

@@ -1,5 +1,4 @@
 use Rattle.std.proofs.Common.{drop}
-use Rattle.layout_model.specs.Walks.{walk_from}
 use Rattle.layout_model.proofs.WalkLemmas.{walk_list}
 use Rattle.layout_model.proofs.DrawLemmas.{Drawn}
 use Rattle.layout_model.proofs.paths.draw.Given as goal

@@ -1,5 +1,5 @@
-use Rattle.std.proofs.Common.{◌≡◌, ◌<ℤ◌, pos, ap, of_z, w64, arith, FitsSigned, Some, inl, inr}
-use Rattle.std.proofs.lemmas.Int.{ints, to_z-of_z}
+use Rattle.std.proofs.Common.{◌≡◌, ◌<ℤ◌, pos, ap, of_z, w64, FitsSigned, Some, inl, inr}
+use Rattle.std.proofs.lemmas.Int.{to_z-of_z}
 use Rattle.layout_model.specs.declared.paths.PathBad.TheVariants.{Diagonal, TurnBack, EmptyEnd}
 use Rattle.layout_model.specs.Paths.{segments_of}
 use Rattle.std.proofs.lemmas.List.Elements.{All-same}

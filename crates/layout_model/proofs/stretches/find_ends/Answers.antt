@@ -1,4 +1,4 @@
-use Rattle.std.proofs.Common.{get_or, drop, pos, subst, sym, ap, ◌∙◌, ◌≡◌, ◌+◌, ◌-◌, ◌∷◌, [], Some, List, length, unwrap_or, slice_get, arith}
+use Rattle.std.proofs.Common.{get_or, drop, pos, subst, sym, ap, ◌∙◌, ◌≡◌, ◌+◌, ◌-◌, ◌∷◌, [], Some, List, length, unwrap_or, slice_get}
 use Rattle.std.proofs.lemmas.List.{drop_more}
 use Rattle.std.proofs.Math.ListN.{drop_of_length-le}
 use Rattle.layout_model.specs.declared.stretches.Stretch.{Stretch}
