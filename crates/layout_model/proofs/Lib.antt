@@ -11,3 +11,4 @@ mod DrawLemmas
 mod AreaLemmas
 mod NearLemmas
 mod SegmentLemmas
+mod CornerLemmas

@@ -15,7 +15,7 @@ use Rattle.layout_model.specs.PathLaws.{GoesSomewhere, IsAlongAxis}
 use Rattle.layout_model.proofs.DirectionLemmas.{same_is, other_direction}
 use Rattle.layout_model.specs.Walks.{is_direction}
 
-one_direction : (d e : Direction) → are_one d e ≡ true → d ≡ e
+pub one_direction : (d e : Direction) → are_one d e ≡ true → d ≡ e
 one_direction Still Still h = refl
 one_direction East East h = refl
 one_direction West West h = refl
@@ -24,7 +24,7 @@ one_direction South South h = refl
 one_direction _ _ h = absurd (let bad : ⊥ = cc in bad)
 
 -- on and on in one direction is that direction
-on_and_on : (a b c : Point) (d : Direction) → direction_of a b ≡ d → direction_of b c ≡ d → direction_of a c ≡ d
+pub on_and_on : (a b c : Point) (d : Direction) → direction_of a b ≡ d → direction_of b c ≡ d → direction_of a c ≡ d
 on_and_on a b c Still h k = grind (arith, ints)
 on_and_on a b c East h k = grind (arith, ints)
 on_and_on a b c West h k = grind (arith, ints)
@@ -66,7 +66,7 @@ goes_by d h e = let still : is_direction Still ≡ true = subst (λ x. is_direct
 goes : (a b : Point) → same_point a b ≡ false → GoesSomewhere (a, b)
 goes a b s = goes_by (direction_of a b) (other_direction a b s)
 
-repeats_go : (a : Point) (points : List Point) → All GoesSomewhere (edges_of (a ∷ without_repeats_after a points))
+pub repeats_go : (a : Point) (points : List Point) → All GoesSomewhere (edges_of (a ∷ without_repeats_after a points))
 repeats_go a [] = All-nil GoesSomewhere
 repeats_go a (p ∷ points) =
     elim (cases_Bool (same_point a p)) [

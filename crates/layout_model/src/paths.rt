@@ -2,7 +2,7 @@ ghost use Rattle.std.specs.Prelude.{◌≡◌, ◌≢◌, ◌^◌, ◌↔◌, �
 ghost use Rattle.layout_model.specs.Paths.{HasNoLength, HasNoDiagonal, HasNoTurnBack, IsFirstDiagonal, IsFirstTurnBack, HasEmptyEnd, IsDrawable, stretches, rectangles, rectangle_shape};
 ghost use Rattle.layout_model.specs.Layouts.{IsWithin};
 ghost use Rattle.layout_model.specs.PathBounds.{IsNear, IsNearPoint, IsNearBrush, HasTiles};
-ghost use Rattle.layout_model.specs.PathLaws.{SegmentsGoSomewhere, SegmentsAreAlongAxes, RingIsClosed, RingIsOnGrid, RingWindsInside, RingWindsNotOutside, IsOutline};
+ghost use Rattle.layout_model.specs.PathLaws.{SegmentsGoSomewhere, SegmentsAreAlongAxes, SegmentsTurnSquarely, RingIsClosed, RingIsOnGrid, RingWindsInside, RingWindsNotOutside, IsOutline};
 ghost use Rattle.layout_model.specs.declared.paths.PathBad.TheVariants.{NoLength, Diagonal, TurnBack, EmptyEnd, NoMemory as Wanting};
 
 use crate::courses::{first_diagonal, first_turn_back, has_no_length};
@@ -132,12 +132,13 @@ pub fn path_shapes(
     }
 }
 
-/// What holds of every path and of every rectangle, and costs nothing: each segment goes somewhere, and along an axis
-/// where no move is diagonal. The outline of a rectangle is closed, its edges are on the grid, and it winds once round
-/// the tiles of the rectangle and round no other.
+/// What holds of every path and of every rectangle, and costs nothing: each segment goes somewhere, along an axis where
+/// no move is diagonal, and square to the one before it where none goes back. The outline of a rectangle is closed, its
+/// edges are on the grid, and it winds once round the tiles of the rectangle and round no other.
 pub fn path_laws()
     ensures somewhere { SegmentsGoSomewhere }
     ensures axes { SegmentsAreAlongAxes }
+    ensures square { SegmentsTurnSquarely }
     ensures closed { RingIsClosed }
     ensures grid { RingIsOnGrid }
     ensures inside { RingWindsInside }

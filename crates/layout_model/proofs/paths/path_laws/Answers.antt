@@ -1,4 +1,5 @@
 use Rattle.layout_model.proofs.RectangleLemmas.{ring_on_grid, ring_winds_inside, ring_winds_not_outside}
+use Rattle.layout_model.proofs.CornerLemmas.{segments_square}
 use Rattle.layout_model.proofs.SegmentLemmas.{segments_go, segments_along}
 use Rattle.layout_model.proofs.paths.path_laws.Goals as goal
 
@@ -16,3 +17,6 @@ returns-clause-somewhere c = segments_go
 
 pub returns-clause-axes : goal.returns-clause-axes
 returns-clause-axes c = segments_along
+
+pub returns-clause-square : goal.returns-clause-square
+returns-clause-square c = segments_square
