@@ -27,9 +27,9 @@ repeats_go_on heading a [] on = tt
 repeats_go_on heading a (p ∷ points) on =
     elim (cases_Bool (same_point a p)) [
       | inl s ↦ (let same = same_is a p s in
-        let rest = subst (λ q. GoOn heading (direction_of q p ∷ moves (p ∷ points))) same on in
-        let kept = subst (λ d. GoOn (later heading d) (moves (p ∷ points))) (still_self p) rest.1 in
-        rw (s, same) (repeats_go_on heading p points kept))
+          let rest = subst (λ q. GoOn heading (direction_of q p ∷ moves (p ∷ points))) same on in
+          let kept = subst (λ d. GoOn (later heading d) (moves (p ∷ points))) (still_self p) rest.1 in
+          rw (s, same) (repeats_go_on heading p points kept))
       | inr s ↦ rw s (on.0, repeats_go_on (later heading (direction_of a p)) p points on.1)
     ]
 
@@ -54,10 +54,10 @@ corners_turn before from previous last (q ∷ points) e turn on go =
     let further = subst (λ d. GoOn d (moves (q ∷ points))) (later_direction (direction_of previous last) (direction_of last q) next) on.1 in
     elim (cases_Bool (are_one (direction_of previous last) (direction_of last q))) [
       | inl t ↦ (let same = e ∙ one_direction (direction_of previous last) (direction_of last q) t in
-        let onward = on_and_on from last q (direction_of last q) same refl in
-        rw t (corners_turn before from last q points onward (subst (IsSquareTurn before) (same ∙ sym onward) turn) further rest))
+          let onward = on_and_on from last q (direction_of last q) same refl in
+          rw t (corners_turn before from last q points onward (subst (IsSquareTurn before) (same ∙ sym onward) turn) further rest))
       | inr t ↦ (let square : IsSquareTurn (direction_of from last) (direction_of last q) = subst (λ d. IsSquareTurn d (direction_of last q)) (sym e) (t, on.0) in
-        rw t (turn, corners_turn (direction_of from last) last last q points refl square further rest))
+          rw t (turn, corners_turn (direction_of from last) last last q points refl square further rest))
     ]
 
 square_start : (d : Direction) → d ≢ Still → IsSquareTurn Still d

@@ -70,6 +70,9 @@ abbrev pub HasNoLength : List Point → Type 0
 HasNoLength [] = Unit {0}
 HasNoLength (first ∷ points) = All (λ point. point ≡ first) points
 
+abbrev pub HasLength : List Point → Type 0
+HasLength points = HasNoLength points → ⊥
+
 -- the two points differ in both coordinates
 abbrev pub is_diagonal : Point × Point → Bool
 is_diagonal (a, b) = not (int_eq a.x b.x) && not (int_eq a.y b.y)
@@ -165,7 +168,7 @@ HasEmptyEnd s = IsSomeAnd (slice_get s 0) IsEmpty ⊎ IsSomeAnd (slice_get s (le
 -- a path can be drawn: some of its points differ, each move is along an axis and none goes back, and neither its first
 -- nor its last segment is empty
 pub record IsDrawable (points : List Point) (half begin end : ℤ) : Type 0 where
-  pub long : HasNoLength points → ⊥
+  pub long : HasLength points
   pub straight : HasNoDiagonal points
   pub onward : HasNoTurnBack points
   pub ends : HasEmptyEnd (stretches points half begin end) → ⊥
@@ -198,3 +201,7 @@ rectangle_ring r = ring_of (corners (point_at r.x0 r.y0) (point_at r.x0 r.y1) (p
 -- the shape of a rectangle
 abbrev pub rectangle_shape : Pair → List Point → Bool → Rectangle → Shape
 rectangle_shape pair offsets fixed r = record { pair = pair; points = rectangle_ring r; offsets = offsets; fixed = fixed }
+
+-- the shapes of a path in order
+abbrev pub drawn_path : Pair → List Point → Bool → List Point → ℤ → ℤ → ℤ → List Shape
+drawn_path pair offsets fixed points half begin end = map (rectangle_shape pair offsets fixed) (rectangles points half begin end)

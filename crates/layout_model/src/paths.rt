@@ -1,5 +1,5 @@
-ghost use Rattle.std.specs.Prelude.{◌≡◌, ◌≢◌, ◌^◌, ◌↔◌, ◌≤ℤ◌, ◌⊎◌, ℕ, pos, [], map, All, Some, IfSome, IfNone, IfOk, IsOk, IsOkAnd, Err};
-ghost use Rattle.layout_model.specs.Paths.{HasNoLength, HasNoDiagonal, HasNoTurnBack, IsFirstDiagonal, IsFirstTurnBack, HasEmptyEnd, IsDrawable, stretches, rectangles, rectangle_shape};
+ghost use Rattle.std.specs.Prelude.{◌≡◌, ◌≢◌, ◌^◌, ◌↔◌, ◌≤ℤ◌, ◌⊎◌, ℕ, pos, [], All, Some, IfSome, IfNone, IfOk, IsOk, IsOkAnd, Err};
+ghost use Rattle.layout_model.specs.Paths.{HasNoLength, HasLength, HasNoDiagonal, HasNoTurnBack, IsFirstDiagonal, IsFirstTurnBack, HasEmptyEnd, IsDrawable, stretches, rectangles, drawn_path};
 ghost use Rattle.layout_model.specs.Layouts.{IsWithin};
 ghost use Rattle.layout_model.specs.PathBounds.{IsNear, IsNearPoint, IsNearBrush, HasTiles};
 ghost use Rattle.layout_model.specs.PathLaws.{SegmentsGoSomewhere, SegmentsAreAlongAxes, SegmentsTurnSquarely, RingIsClosed, RingIsOnGrid, RingWindsInside, RingWindsNotOutside, IsOutline};
@@ -39,10 +39,11 @@ fn draw(
     offsets: &Offsets,
     fixed: bool,
 ) -> Result<Vec<Shape>, NoMemory>
-    requires long { HasNoLength points.now → ⊥ }
+    requires long { HasLength points.now }
     requires points { All IsNearPoint points.now }
     requires brush { IsNearBrush brush }
-    ensures { IfOk result (λ shapes. shapes.items ≡ map (rectangle_shape pair offsets.now fixed) (rectangles points.now brush.half brush.begin brush.end)) }
+    ensures { IfOk result (λ shapes.
+        shapes.items ≡ drawn_path pair offsets.now fixed points.now brush.half brush.begin brush.end) }
 {
     let mut shapes = Vec::new(alloc);
     let Some((start, rest)) = points.split_first() else {
@@ -66,9 +67,12 @@ fn draw(
 // The first reason why the path can't be drawn, memory aside.
 fn fault(points: &[Point], brush: Brush) -> Option<PathBad>
     ensures no_length { (result ≡ Some NoLength) ↔ HasNoLength points.now }
-    ensures diagonal { (k : ℕ) → (result ≡ Some (Diagonal k)) ↔ ((HasNoLength points.now → ⊥) × IsFirstDiagonal points.now k) }
-    ensures turn_back { (k : ℕ) → (result ≡ Some (TurnBack k)) ↔ ((HasNoLength points.now → ⊥) × HasNoDiagonal points.now × IsFirstTurnBack points.now k) }
-    ensures empty_end { (result ≡ Some EmptyEnd) ↔ ((HasNoLength points.now → ⊥) × HasNoDiagonal points.now × HasNoTurnBack points.now × HasEmptyEnd (stretches points.now brush.half brush.begin brush.end)) }
+    ensures diagonal { (k : ℕ) → (result ≡ Some (Diagonal k)) ↔ (HasLength points.now × IsFirstDiagonal points.now k) }
+    ensures turn_back { (k : ℕ) → (result ≡ Some (TurnBack k))
+        ↔ (HasLength points.now × HasNoDiagonal points.now × IsFirstTurnBack points.now k) }
+    ensures empty_end { (result ≡ Some EmptyEnd)
+        ↔ (HasLength points.now × HasNoDiagonal points.now × HasNoTurnBack points.now
+        × HasEmptyEnd (stretches points.now brush.half brush.begin brush.end)) }
     ensures some { IfSome result (λ _. IsDrawable points.now brush.half brush.begin brush.end → ⊥) }
     ensures none { IfNone result (IsDrawable points.now brush.half brush.begin brush.end) }
 {
@@ -110,11 +114,16 @@ pub fn path_shapes(
     requires begin { IsNear begin }
     requires end { IsNear end }
     ensures none { half ≡ pos 0 → IsOkAnd result (λ shapes. shapes.items ≡ []) }
-    ensures shapes { half ≢ pos 0 → IfOk result (λ shapes. shapes.items ≡ map (rectangle_shape pair offsets.now fixed) (rectangles points.now half begin end)) }
+    ensures shapes { half ≢ pos 0 → IfOk result (λ shapes.
+        shapes.items ≡ drawn_path pair offsets.now fixed points.now half begin end) }
     ensures no_length { (result ≡ Err NoLength) ↔ ((half ≢ pos 0) × HasNoLength points.now) }
-    ensures diagonal { (k : ℕ) → (result ≡ Err (Diagonal k)) ↔ ((half ≢ pos 0) × (HasNoLength points.now → ⊥) × IsFirstDiagonal points.now k) }
-    ensures turn_back { (k : ℕ) → (result ≡ Err (TurnBack k)) ↔ ((half ≢ pos 0) × (HasNoLength points.now → ⊥) × HasNoDiagonal points.now × IsFirstTurnBack points.now k) }
-    ensures empty_end { (result ≡ Err EmptyEnd) ↔ ((half ≢ pos 0) × (HasNoLength points.now → ⊥) × HasNoDiagonal points.now × HasNoTurnBack points.now × HasEmptyEnd (stretches points.now half begin end)) }
+    ensures diagonal { (k : ℕ) → (result ≡ Err (Diagonal k))
+        ↔ ((half ≢ pos 0) × HasLength points.now × IsFirstDiagonal points.now k) }
+    ensures turn_back { (k : ℕ) → (result ≡ Err (TurnBack k))
+        ↔ ((half ≢ pos 0) × HasLength points.now × HasNoDiagonal points.now × IsFirstTurnBack points.now k) }
+    ensures empty_end { (result ≡ Err EmptyEnd)
+        ↔ ((half ≢ pos 0) × HasLength points.now × HasNoDiagonal points.now × HasNoTurnBack points.now
+        × HasEmptyEnd (stretches points.now half begin end)) }
     ensures ok { half ≢ pos 0 → IsDrawable points.now half begin end → IsOk result ⊎ (result ≡ Err Wanting) }
     ensures outlines { IfOk result (λ shapes. All (λ shape. IsOutline shape.points) shapes.items) }
     ensures area { half ≢ pos 0 → IfOk result (λ _. All HasTiles (rectangles points.now half begin end)) }

@@ -1,6 +1,6 @@
 //! The segments of a path, each with what it is longer by at its two ends.
 ghost use Rattle.std.specs.Prelude.{◌≡◌, ◌-ℤ◌, ◌∷◌, Some, slice_get, length, ◌-◌, IsTrue, ◌↔◌};
-ghost use Rattle.layout_model.specs.Paths.{direction_of, later, distance_along, length_of, stretches, HasNoLength, HasEmptyEnd, IsEmpty};
+ghost use Rattle.layout_model.specs.Paths.{direction_of, later, distance_along, length_of, stretches, HasLength, HasEmptyEnd, IsEmpty};
 ghost use Rattle.layout_model.specs.PathBounds.{IsShort};
 ghost use Rattle.layout_model.specs.Walks.{turns_at, walk_from, walk_on, walk_round, stretch_of};
 
@@ -118,9 +118,10 @@ struct Ends {
 
 // The first and the last segment of the path from this point along the rest, which aren't all equal to it.
 fn find_ends(start: Point, rest: &[Point], brush: Brush) -> Ends
-    requires { HasNoLength (start ∷ rest.now) → ⊥ }
+    requires { HasLength (start ∷ rest.now) }
     ensures first { slice_get (stretches (start ∷ rest.now) brush.half brush.begin brush.end) 0 ≡ Some result.first }
-    ensures last { let s = stretches (start ∷ rest.now) brush.half brush.begin brush.end in slice_get s (length s - 1) ≡ Some result.last }
+    ensures last { let all = stretches (start ∷ rest.now) brush.half brush.begin brush.end in
+        slice_get all (length all - 1) ≡ Some result.last }
 {
     let mut walk = Walk::new(start, brush);
     let mut first = None;
@@ -183,7 +184,7 @@ fn is_empty(s: Stretch) -> bool
 
 // Whether the first or the last segment of a path, whose points aren't all equal, has no positive length.
 pub(crate) fn has_empty_end(points: &[Point], brush: Brush) -> bool
-    requires { HasNoLength points.now → ⊥ }
+    requires { HasLength points.now }
     ensures { IsTrue result ↔ HasEmptyEnd (stretches points.now brush.half brush.begin brush.end) }
 {
     let Some((start, rest)) = points.split_first() else {
