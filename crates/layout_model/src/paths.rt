@@ -75,6 +75,7 @@ fn fault(points: &[Point], brush: Brush) -> Option<PathBad>
         × HasEmptyEnd (stretches points.now brush.half brush.begin brush.end)) }
     ensures some { IfSome result (λ _. IsDrawable points.now brush.half brush.begin brush.end → ⊥) }
     ensures none { IfNone result (IsDrawable points.now brush.half brush.begin brush.end) }
+    ensures memory { result ≢ Some Wanting }
 {
     if has_no_length(points) {
         return Some(PathBad::NoLength);
@@ -125,6 +126,8 @@ pub fn path_shapes(
         ↔ ((half ≢ pos 0) × HasLength points.now × HasNoDiagonal points.now × HasNoTurnBack points.now
         × HasEmptyEnd (stretches points.now half begin end)) }
     ensures ok { half ≢ pos 0 → IsDrawable points.now half begin end → IsOk result ⊎ (result ≡ Err Wanting) }
+    ensures drawable { half ≢ pos 0 → IfOk result (λ _. IsDrawable points.now half begin end) }
+    ensures memory { result ≡ Err Wanting → (half ≢ pos 0) × IsDrawable points.now half begin end }
     ensures outlines { IfOk result (λ shapes. All (λ shape. IsOutline shape.points) shapes.items) }
     ensures area { half ≢ pos 0 → IfOk result (λ _. All HasTiles (rectangles points.now half begin end)) }
 {
