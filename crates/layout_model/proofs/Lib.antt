@@ -1,3 +1,14 @@
+mod Cuts
 mod SlantLemmas
 mod GridLemmas
 mod ProductLemmas
+mod RectangleLemmas
+mod DirectionLemmas
+mod CourseLemmas
+mod WalkLemmas
+mod EndLemmas
+mod DrawLemmas
+mod AreaLemmas
+mod NearLemmas
+mod SegmentLemmas
+mod CornerLemmas

@@ -1,28 +1,12 @@
 -- The edges that a walk along a point list has passed, all of them on the grid.
-use Rattle.std.proofs.Common.{◌≡◌, ◌<◌, ◌≤◌, ℕ, ◌+◌, List, [], ◌∷◌, length, get_or, drop, refl, sym, subst, arith, below_more, pos, suc, zero, inl, inr}
+use Rattle.std.proofs.Common.{◌≡◌, ◌<◌, ℕ, ◌+◌, List, [], ◌∷◌, get_or, drop, refl, sym, subst, arith, below_more, pos, suc, inl, inr}
 use Rattle.std.proofs.lemmas.Bool.{cases_lt}
 use Rattle.std.specs.List.{AllWithin}
 use Rattle.half_grid.specs.declared.plane.Point.{Point}
 use Rattle.half_grid.specs.Outlines.{IsOnGrid, HasGridEdges}
 use Rattle.half_grid.specs.Winding.{edges_of}
 use Rattle.layout_model.specs.Slants.{IsFirstSlant}
-
--- what stands where a list is cut
-record Cut {A : Type 0} (xs : List A) (n : ℕ) (x : A) (ys : List A) : Type 0 where
-  inside : n < length xs
-  item : (d : A) → get_or xs n d ≡ x
-  rest : drop (suc n) xs ≡ ys
-
-cut_at : {A : Type 0} (xs : List A) (n : ℕ) (x : A) (ys : List A) → drop n xs ≡ x ∷ ys → Cut xs n x ys
-cut_at [] zero x ys e = absurd (cc)
-cut_at [] (suc n) x ys e = absurd (cc)
-cut_at (z ∷ xs) zero x ys e = record { inside = omega arith; item = λ d. cc; rest = cc }
-cut_at (z ∷ xs) (suc n) x ys e = let c = cut_at xs n x ys e in record { inside = omega (arith, c.inside); item = λ d. c.item d; rest = c.rest }
-
-past_end : {A : Type 0} (xs : List A) (n : ℕ) → drop n xs ≡ [] → length xs ≤ n
-past_end [] n e = omega arith
-past_end (z ∷ xs) zero e = absurd (cc)
-past_end (z ∷ xs) (suc n) e = omega (arith, past_end xs n e)
+use Rattle.layout_model.proofs.Cuts.{cut_at, past_end}
 
 -- the walk has passed so many edges and stands at the point before the rest
 pub record Passed (points : List Point) (at : Point) (rest : List Point) (number : ℕ) : Type 0 where

@@ -5,4 +5,8 @@ pub mod Grids
 pub mod Offsets
 pub mod Images
 pub mod Slants
+pub mod Paths
+pub mod PathBounds
+pub mod PathLaws
+pub mod Walks
 pub mod Layouts

@@ -4,13 +4,18 @@
 #![tactic(auto)]
 
 mod cells;
+mod courses;
+mod directions;
 mod names;
 mod offsets;
 mod orient;
 mod pair;
+mod paths;
 mod points;
 mod products;
+mod rectangles;
 mod shapes;
+mod stretches;
 #[cfg(test)]
 mod tests;
 
@@ -19,5 +24,6 @@ pub use names::{Name, NameBad};
 pub use offsets::Offsets;
 pub use orient::{Orient, image};
 pub use pair::Pair;
+pub use paths::{PathBad, path_laws, path_shapes};
 pub use points::Points;
 pub use shapes::{Shape, ShapeBad};

@@ -114,6 +114,22 @@ impl Offsets {
         Offsets { places }
     }
 
+    /// The same places again. One place and a grid take no memory.
+    pub fn copy(&self, alloc: Global) -> Result<Offsets, NoMemory>
+        ensures ok { IfOk result (λ copy. copy ≡ self.now) }
+        ensures one { length self.now ≡ 1 → IsOk result }
+    {
+        match &self.places {
+            Places::One(place) => Ok(Offsets {
+                places: Places::One(*place),
+            }),
+            Places::Listed(places) => Offsets::list(alloc, places.as_slice()),
+            Places::Regular(grid) => Ok(Offsets {
+                places: Places::Regular(*grid),
+            }),
+        }
+    }
+
     /// How many places there are.
     pub fn count(&self) -> u64
         ensures { result ≡ length self.now }

@@ -1,8 +1,13 @@
 //! Each call at its happy path, and the refusals.
-ghost use Rattle.std.specs.Prelude.{◌≡◌};
+ghost use Rattle.std.specs.Prelude.{◌≡◌, ◌^◌, pos, ◌≤ℤ◌, All};
+ghost use Rattle.layout_model.specs.Layouts.{IsWithin};
+ghost use Rattle.layout_model.specs.PathBounds.{IsNear};
 
-use crate::{Name, NameBad, Offsets, Orient, Pair, Points, Shape, ShapeBad, image};
-use half_grid::Point;
+use crate::{
+    Name, NameBad, Offsets, Orient, Pair, PathBad, Points, Shape, ShapeBad, image, path_shapes,
+};
+use half_grid::{Point, Side, Tile, winding_at};
+use std::alloc::Global;
 use std::process::Abort;
 use std::test::Fail;
 
@@ -11,6 +16,14 @@ fn point(x: i64, y: i64) -> Point
     ensures y { result.y ≡ y }
 {
     Point { x, y }
+}
+
+fn tile(i: i64, j: i64) -> Tile
+    ensures i { result.i ≡ i }
+    ensures j { result.j ≡ j }
+{
+    let side = Side::Left;
+    Tile { i, j, side }
 }
 
 fn orient(flip: bool, turns: u8, mag: u8) -> Orient
@@ -121,4 +134,188 @@ fn shapes_have_grid_edges(rt: HostRuntime) {
     let place = Offsets::list(rt.alloc(), &[point(0, 0)]).expect(&rt, "memory");
     let refused = Shape::new(rt.alloc(), pair, &slanted, place);
     assert!(rt; matches!(refused, Err(ShapeBad::Slant(2))));
+}
+
+const PAIR: Pair = Pair {
+    layer: 7,
+    datatype: 2,
+};
+
+// The shapes of a path that stands at (2, 4) and may not be enlarged.
+fn draw(
+    rt: &impl Abort,
+    alloc: Global,
+    points: &[Point],
+    half: i64,
+    begin: i64,
+    end: i64,
+) -> Result<Vec<Shape>, PathBad>
+    requires points { All (IsWithin (2 ^ 41)) points.now }
+    requires half_low { pos 0 ≤ℤ half }
+    requires half { IsNear half }
+    requires begin { IsNear begin }
+    requires end { IsNear end }
+{
+    let place = Offsets::list(alloc, &[point(2, 4)]).expect(rt, "memory");
+    path_shapes(alloc, PAIR, points, half, begin, end, &place, true)
+}
+
+// Whether this is one shape of the path, the rectangle from the first corner to the second.
+fn is_box(shapes: &[Shape], k: usize, low: Point, high: Point) -> bool {
+    let ring = [low, point(low.x, high.y), high, point(high.x, low.y), low];
+    match shapes.get(k) {
+        None => false,
+        Some(shape) => {
+            let placed = shape.offsets.count() == 1 && shape.offsets.nth(0) == point(2, 4);
+            shape.points.as_slice() == ring.as_slice()
+                && shape.pair == PAIR
+                && shape.fixed
+                && placed
+        }
+    }
+}
+
+#[test]
+fn a_segment_with_both_ends(rt: HostRuntime) {
+    let line = [point(0, 0), point(200, 0)];
+    let shapes = draw(&rt, rt.alloc(), &line, 20, 20, 20).expect(&rt, "a path");
+    assert_eq!(rt; shapes.len(), 1);
+    assert!(rt; is_box(shapes.as_slice(), 0, point(-20, -20), point(220, 20)));
+    let shapes = draw(&rt, rt.alloc(), &line, 20, -30, 7).expect(&rt, "a path");
+    assert_eq!(rt; shapes.len(), 1);
+    assert!(rt; is_box(shapes.as_slice(), 0, point(30, -20), point(207, 20)));
+}
+
+#[test]
+fn a_segment_each_way(rt: HostRuntime) {
+    let west = [point(200, 0), point(0, 0)];
+    let shapes = draw(&rt, rt.alloc(), &west, 20, 1, 3).expect(&rt, "a path");
+    assert!(rt; is_box(shapes.as_slice(), 0, point(-3, -20), point(201, 20)));
+    let north = [point(0, 0), point(0, 200)];
+    let shapes = draw(&rt, rt.alloc(), &north, 20, 1, 3).expect(&rt, "a path");
+    assert!(rt; is_box(shapes.as_slice(), 0, point(-20, -1), point(20, 203)));
+    let south = [point(0, 200), point(0, 0)];
+    let shapes = draw(&rt, rt.alloc(), &south, 20, 1, 3).expect(&rt, "a path");
+    assert!(rt; is_box(shapes.as_slice(), 0, point(-20, -3), point(20, 201)));
+}
+
+#[test]
+fn a_corner_with_its_square(rt: HostRuntime) {
+    let corner = [point(0, 0), point(200, 0), point(200, 100)];
+    let shapes = draw(&rt, rt.alloc(), &corner, 20, 0, 0).expect(&rt, "a path");
+    assert_eq!(rt; shapes.len(), 2);
+    assert!(rt; is_box(shapes.as_slice(), 0, point(0, -20), point(220, 20)));
+    assert!(rt; is_box(shapes.as_slice(), 1, point(180, -20), point(220, 100)));
+}
+
+#[test]
+fn three_segments(rt: HostRuntime) {
+    let steps = [
+        point(0, 0),
+        point(100, 0),
+        point(100, -100),
+        point(300, -100),
+    ];
+    let shapes = draw(&rt, rt.alloc(), &steps, 10, -5, -6).expect(&rt, "a path");
+    assert_eq!(rt; shapes.len(), 3);
+    assert!(rt; is_box(shapes.as_slice(), 0, point(5, -10), point(110, 10)));
+    assert!(rt; is_box(shapes.as_slice(), 1, point(90, -110), point(110, 10)));
+    assert!(rt; is_box(shapes.as_slice(), 2, point(90, -110), point(294, -90)));
+}
+
+#[test]
+fn repeats_and_straight_joints_are_no_corners(rt: HostRuntime) {
+    let straight = [point(0, 0), point(50, 0), point(200, 0)];
+    let shapes = draw(&rt, rt.alloc(), &straight, 20, 0, 0).expect(&rt, "a path");
+    assert_eq!(rt; shapes.len(), 1);
+    assert!(rt; is_box(shapes.as_slice(), 0, point(0, -20), point(200, 20)));
+    let repeated = [
+        point(0, 0),
+        point(0, 0),
+        point(50, 0),
+        point(50, 0),
+        point(200, 0),
+        point(200, 0),
+        point(200, 100),
+        point(200, 100),
+    ];
+    let shapes = draw(&rt, rt.alloc(), &repeated, 20, 0, 0).expect(&rt, "a path");
+    assert_eq!(rt; shapes.len(), 2);
+    assert!(rt; is_box(shapes.as_slice(), 0, point(0, -20), point(220, 20)));
+    assert!(rt; is_box(shapes.as_slice(), 1, point(180, -20), point(220, 100)));
+}
+
+#[test]
+fn paths_are_refused_in_order(rt: HostRuntime) {
+    let still = [point(5, 5), point(5, 5), point(5, 5)];
+    let refused = draw(&rt, rt.alloc(), &still, 20, 20, 20);
+    assert!(rt; matches!(refused, Err(PathBad::NoLength)));
+    let refused = draw(&rt, rt.alloc(), &[], 20, 20, 20);
+    assert!(rt; matches!(refused, Err(PathBad::NoLength)));
+    // Point 3 goes back before point 4 is diagonal: the diagonal is told.
+    let both = [
+        point(0, 0),
+        point(0, 0),
+        point(100, 0),
+        point(100, 0),
+        point(50, 0),
+        point(60, 10),
+        point(70, 20),
+    ];
+    let refused = draw(&rt, rt.alloc(), &both, 20, 0, 0);
+    assert!(rt; matches!(refused, Err(PathBad::Diagonal(4))));
+    // The repeated point doesn't hide that the path goes back.
+    let back = [point(0, 0), point(100, 0), point(100, 0), point(50, 0)];
+    let refused = draw(&rt, rt.alloc(), &back, 20, -100, 0);
+    assert!(rt; matches!(refused, Err(PathBad::TurnBack(2))));
+    // A U turn isn't refused.
+    let around = [point(0, 0), point(100, 0), point(100, 10), point(0, 10)];
+    assert!(rt; draw(&rt, rt.alloc(), &around, 20, 0, 0).is_ok());
+}
+
+#[test]
+fn an_end_may_be_empty(rt: HostRuntime) {
+    let line = [point(0, 0), point(200, 0)];
+    let refused = draw(&rt, rt.alloc(), &line, 20, -100, -100);
+    assert!(rt; matches!(refused, Err(PathBad::EmptyEnd)));
+    assert!(rt; draw(&rt, rt.alloc(), &line, 20, -100, -99).is_ok());
+    let corner = [point(0, 0), point(200, 0), point(200, 100)];
+    let refused = draw(&rt, rt.alloc(), &corner, 20, -220, 0);
+    assert!(rt; matches!(refused, Err(PathBad::EmptyEnd)));
+    assert!(rt; draw(&rt, rt.alloc(), &corner, 20, -219, 0).is_ok());
+    let refused = draw(&rt, rt.alloc(), &corner, 20, 0, -120);
+    assert!(rt; matches!(refused, Err(PathBad::EmptyEnd)));
+    assert!(rt; draw(&rt, rt.alloc(), &corner, 20, 0, -119).is_ok());
+}
+
+#[test]
+fn no_width_has_no_shapes(rt: HostRuntime) {
+    let bad = [point(0, 0), point(10, 20), point(0, 0)];
+    let shapes = draw(&rt, rt.alloc(), &bad, 0, 20, 20).expect(&rt, "no shapes");
+    assert_eq!(rt; shapes.len(), 0);
+}
+
+// The corner's two rectangles cover the corner itself, and not the square that lies across it.
+#[test]
+fn the_windings_of_a_corner(rt: HostRuntime) {
+    let corner = [point(0, 0), point(200, 0), point(200, 100)];
+    let shapes = draw(&rt, rt.alloc(), &corner, 20, 0, 0).expect(&rt, "a path");
+    let wanted = [
+        (tile(0, 0), 1, 0),
+        (tile(-1, 0), 0, 0),
+        (tile(219, -20), 1, 1),
+        (tile(219, -21), 0, 0),
+        (tile(220, 0), 0, 0),
+        (tile(179, 20), 0, 0),
+        (tile(180, 99), 0, 1),
+        (tile(180, 100), 0, 0),
+    ];
+    if let [first, second] = shapes.as_slice() {
+        for (at, one, two) in wanted {
+            assert_eq!(rt; winding_at(first.points.as_slice(), at), one);
+            assert_eq!(rt; winding_at(second.points.as_slice(), at), two);
+        }
+    } else {
+        assert!(rt; false, "two shapes");
+    }
 }
