@@ -39,10 +39,10 @@ pub(crate) struct LayoutParts {
 }
 
 /// Whether the record is of this kind.
-fn has_kind(record: Record, kind: Kind) -> bool
-    ensures { IsTrue result ↔ (record.kind ≡ kind) }
+fn has_kind(found: Record, kind: Kind) -> bool
+    ensures { IsTrue result ↔ (found.kind ≡ kind) }
 {
-    record.kind == kind
+    found.kind == kind
 }
 
 /// All records of the file, where they have a layout's kinds.
