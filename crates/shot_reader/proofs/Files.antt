@@ -28,7 +28,16 @@ right_of bytes unit l d pair shots bad u all p fits agrees e fault =
     let rest : drop at bytes ≡ end = ap (drop at) text ∙ drop-append_seam (before unit l d shots) end in
     let up : IsReadUpTo bytes at pair = record {
       within = omega (arith, ap length text, length-append (before unit l d shots) end);
-      unit = unit; unit_fits = u; shots = shots; legal = all; layer = l; datatype = d; narrow = p; pair_fits = fits; agrees = agrees; text = first;
+      unit = unit;
+      unit_fits = u;
+      shots = shots;
+      legal = all;
+      layer = l;
+      datatype = d;
+      narrow = p;
+      pair_fits = fits;
+      agrees = agrees;
+      text = first;
     } in
     no_fault bytes at pair bad up rest fault
 
