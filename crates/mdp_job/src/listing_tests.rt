@@ -1,14 +1,16 @@
 //! The command `shots` from end to end: what it says of files that were worked out by hand.
+ghost use Rattle.std.specs.Prelude.{◌^◌, ◌<◌};
+ghost use Rattle.shot_writer.specs.Writing.{triangles_of};
 
 use crate::run_tests::{HEAD, file_of, words};
 use crate::status::{CheckFault, Status};
 use crate::{run, run_surely};
-use depot::{MemDepot, SureDepot};
+use depot::{DepotBad, MemDepot, SureDepot};
 use geo_stream::{FromSlice, NoMemory};
 use half_grid::{Line, Trap};
 use layout_model::Pair;
 use shot_reader::{ShotBad, read_shots};
-use shot_writer::{Head, ShotWriter};
+use shot_writer::{Head, ShotWriter, Sums, triangles_in};
 use std::alloc::Global;
 use std::test::Fail;
 
@@ -146,37 +148,48 @@ fn a_line_that_cannot_be_said_changes_nothing(rt: HostRuntime) -> Result<(), Fai
     Ok(())
 }
 
+const PAIR: Pair = Pair {
+    layer: 300,
+    datatype: 7,
+};
+
+// Writes the file of these shots under the name F.
+fn write_shots(depot: &mut MemDepot, shots: &[Trap]) -> Result<Sums, DepotBad>
+    requires { triangles_of shots.now < 2 ^ 127 }
+{
+    let head = Head {
+        unit: 2000,
+        pair: PAIR,
+    };
+    let mut writer = ShotWriter::start(depot, "F", head)?;
+    writer.put(depot, &mut FromSlice::new(shots))?;
+    writer.finish(depot)
+}
+
+// A shot of eighteen rows, between these lines.
+fn between(left: Line, right: Line) -> Option<Trap> {
+    Trap::new(-3, 15, left, right)
+}
+
 #[test]
 fn each_kind_of_record_is_read_back(rt: HostRuntime) -> Result<(), Fail> {
     let alloc = rt.alloc();
-    let sides = [
-        (Line::Upright(0), Line::Upright(20)),
-        (Line::Rising(0), Line::Upright(30)),
-        (Line::Upright(-5), Line::Falling(40)),
-        (Line::Rising(-7), Line::Falling(50)),
-    ];
-    let mut shots = Vec::new(alloc);
-    for (left, right) in sides {
-        shots.push(Trap::new(-3, 15, left, right).ok_or("no shot")?)?;
-    }
-    let pair = Pair {
-        layer: 300,
-        datatype: 7,
-    };
+    let a = between(Line::Upright(0), Line::Upright(20)).ok_or("no shot")?;
+    let b = between(Line::Rising(0), Line::Upright(30)).ok_or("no shot")?;
+    let c = between(Line::Upright(-5), Line::Falling(40)).ok_or("no shot")?;
+    let d = between(Line::Rising(-7), Line::Falling(50)).ok_or("no shot")?;
+    assert_eq!(rt; triangles_in(&a), 720);
+    assert_eq!(rt; triangles_in(&b), 864);
+    assert_eq!(rt; triangles_in(&c), 2844);
+    assert_eq!(rt; triangles_in(&d), 3672);
     let mut depot = MemDepot::new(alloc);
-    let mut writer = ShotWriter::start(&mut depot, "F", Head { unit: 2000, pair })
-        .ok()
-        .ok_or("start")?;
-    writer
-        .put(&mut depot, &mut FromSlice::new(&shots))
-        .ok()
-        .ok_or("put")?;
-    writer.finish(&mut depot).ok().ok_or("finish")?;
+    let sums = write_shots(&mut depot, &[a, b, c, d])?;
+    assert_eq!(rt; sums.triangles, 8100);
     let file = read_shots(alloc, depot.made("F").ok_or("no file")?)
         .ok()
         .ok_or("refused")?;
     assert_eq!(rt; file.unit, 2000);
-    assert_eq!(rt; file.pair, Some(pair));
-    assert_eq!(rt; file.shots.as_slice(), shots.as_slice());
+    assert_eq!(rt; file.pair, Some(PAIR));
+    assert_eq!(rt; file.shots.as_slice(), [a, b, c, d].as_slice());
     Ok(())
 }

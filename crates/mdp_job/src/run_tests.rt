@@ -236,6 +236,18 @@ const SHAPES: [(&[(u8, u8)], &str); 4] = [
     ),
 ];
 
+// The corners in half units.
+fn points_of(alloc: Global, corners: &[(u8, u8)]) -> Result<Vec<Point>, NoMemory> {
+    let mut points = Vec::new(alloc);
+    for (x, y) in corners {
+        points.push(Point {
+            x: 2 * i64::from(*x),
+            y: 2 * i64::from(*y),
+        })?;
+    }
+    Ok(points)
+}
+
 #[test]
 fn shapes_have_their_triangles(rt: HostRuntime) -> Result<(), Fail> {
     let alloc = rt.alloc();
@@ -259,13 +271,7 @@ fn shapes_have_their_triangles(rt: HostRuntime) -> Result<(), Fail> {
         );
         assert!(rt; listing.said().ends_with(want.as_bytes()));
         // the plain test of each tile counts as many
-        let mut points = Vec::new(alloc);
-        for (x, y) in corners {
-            points.push(Point {
-                x: 2 * i64::from(*x),
-                y: 2 * i64::from(*y),
-            })?;
-        }
+        let points = points_of(alloc, corners)?;
         assert!(rt; want.contains(&inside(&points).to_string(alloc)?));
     }
     Ok(())
