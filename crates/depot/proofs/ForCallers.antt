@@ -1,6 +1,6 @@
 -- Facts about files and contents, for the proofs of callers: what a name has after a file was made, and how
 -- pieces that are written one after another add up.
-use Rattle.std.proofs.Common.{◌≡◌, ℕ, ◌+◌, ◌≤◌, ◌<◌, Bool, true, false, cond, List, [], ◌∷◌, ◌++◌, length, take, drop, Option, None, Some, unwrap_or, IsSomeAnd, refl, sym, ap, ◌∙◌, arith, append_assoc, subst, inl, inr}
+use Rattle.std.proofs.Common.{Result, Ok, Err, OnErr, ◌≡◌, ℕ, ◌+◌, ◌≤◌, ◌<◌, Bool, true, false, cond, List, [], ◌∷◌, ◌++◌, length, take, drop, Option, None, Some, unwrap_or, IsSomeAnd, refl, sym, ap, ◌∙◌, arith, append_assoc, subst, inl, inr}
 use Rattle.std.proofs.lemmas.List.{append-nil, take-take, drop-take, take-append-drop}
 use Rattle.std.specs.Ordering.{nat_cmp, eq_by_cmp, is_eq}
 use Rattle.std.specs.declared.cmp.Ordering.{Ordering}
@@ -154,3 +154,8 @@ zero_stays (inr full) = omega arith
 -- over a depot that never fails each name is there
 pub sure_there : (s : Sure) (name : List ℕ) → IsNotThere (sure_content s) name → ⊥
 sure_there s name e = cc
+
+-- what holds anyhow holds after a refusal
+pub refused : {T E : Type 0} (r : Result T E) (P : Type 0) → P → OnErr r P
+refused (Ok answer) P p = tt
+refused (Err bad) P p = p

@@ -1,7 +1,9 @@
 //! Outside vectors: a small layout record by record, bytes with each fault, and reals whose values are
 //! known.
 
-use crate::{Framing, Kind, Record, int2, int4, int8, real_whole, record_at, unit_agrees};
+use crate::{
+    Framing, Kind, Record, int2, int4, int8, real_whole, record_at, unit_agrees, unsigned2,
+};
 
 /// A library with one structure that holds one square of side 10 on layer 1, datatype 0.
 const SQUARE: [u8; 168] = [
@@ -90,6 +92,7 @@ fn numbers_in_records(rt: HostRuntime) {
     assert_eq!(rt; int2(&bytes, 0), 32767);
     assert_eq!(rt; int2(&bytes, 2), -2);
     assert_eq!(rt; int2(&bytes, 4), -32768);
+    assert_eq!(rt; unsigned2(&bytes, 2), 65534);
     assert_eq!(rt; int2(&bytes, 8), 258);
     assert_eq!(rt; int4(&bytes, 0), 2147483646);
     assert_eq!(rt; int4(&bytes, 4), -2147483638);

@@ -2,6 +2,8 @@
 --
 -- Numbers and places in a row, and what names a tile or a line.
 pub use Rattle.half_grid.proofs.Places.{place_at_most, right_by_place, number_below, left_by_place, same_strips, same_number, one_line, legal_places}
+-- What names a line by two of its points, and a trapezoid by its parts.
+pub use Rattle.half_grid.proofs.Naming.{line_names, same_trapezoid}
 -- The strips of a tile by its number n: 2i <= n <= 2i + 1, 4p <= n + 2j + 1 <= 4p + 3, 4q <= n - 2j - 1 <= 4q + 3.
 pub use Rattle.half_grid.proofs.StripBounds.{i_low, i_high, p_low, p_high, q_low, q_high}
 -- The order of two places from row to row, and a trapezoid's tiles by numbers.

@@ -1,6 +1,7 @@
 pub mod Halves
 pub mod StripBounds
 pub mod Places
+pub mod Naming
 pub mod LineLemmas
 pub mod WindingLemmas
 pub mod ReachLemmas

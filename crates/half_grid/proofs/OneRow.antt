@@ -1,12 +1,12 @@
 -- The trapezoid of one row between two lines: it is a shot where the left line's place is below the right line's, and
 -- its tiles are the row's numbers from the one place up to below the other.
-use Rattle.std.proofs.Common.{◌≡◌, Bool, true, false, ℤ, pos, ◌+ℤ◌, ◌-ℤ◌, ◌≤ℤ◌, ◌<ℤ◌, ◌&&◌, arith, refl, ap, ◌∙◌, sym, int_le, int_lt}
-use Rattle.std.proofs.lemmas.Int.{ints, clamps}
+use Rattle.std.proofs.Common.{◌≡◌, Bool, true, false, ℤ, pos, ◌+ℤ◌, ◌-ℤ◌, ◌≤ℤ◌, ◌<ℤ◌, ◌&&◌, arith, refl, ap, ◌∙◌, int_le, int_lt}
+use Rattle.std.proofs.lemmas.Int.{ints}
 use Rattle.std.specs.Ordering.{int_eq}
-use Rattle.half_grid.specs.Lines.{x_on, strip_along, first_strip, IsRightOf, IsLeftOf}
+use Rattle.half_grid.specs.Lines.{x_on, strip_along, first_strip}
 use Rattle.half_grid.specs.Reach.{IsWithinReach}
 use Rattle.half_grid.specs.Rows.{number_in_row, place, in_row}
-use Rattle.half_grid.specs.Sides.{IsSide, side_length}
+use Rattle.half_grid.specs.Sides.{IsSide}
 use Rattle.half_grid.specs.Trapezoids.{IsShot, trapezoid, trapezoid_has}
 use Rattle.half_grid.specs.declared.plane.Tile.{Tile}
 use Rattle.half_grid.specs.declared.plane.Line.{Line}

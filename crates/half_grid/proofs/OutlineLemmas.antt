@@ -1,10 +1,10 @@
 -- Where the winding of a closed outline is 0: left of all its points, right of all its points, and in each row that
 -- isn't between its lowest and its highest Y.
-use Rattle.std.proofs.Common.{◌≡◌, ◌≢◌, ◌⊎◌, inl, inr, ℕ, ◌+◌, Bool, true, false, ℤ, pos, ◌+ℤ◌, ◌-ℤ◌, ◌≤ℤ◌, ◌<ℤ◌, ◌&&◌, arith, refl, ap, ◌∙◌, sym, List, [], ◌∷◌, Option, Some, None, IfSome, IfNone, int_le, int_lt, not}
+use Rattle.std.proofs.Common.{◌≡◌, ◌≢◌, inl, inr, ℕ, Bool, true, false, ℤ, pos, ◌-ℤ◌, ◌≤ℤ◌, ◌<ℤ◌, ◌&&◌, arith, refl, ap, ◌∙◌, sym, List, [], ◌∷◌, Option, Some, None, IfSome, IfNone, int_le, int_lt, not}
 use Rattle.std.proofs.lemmas.Int.{ints}
 use Rattle.std.specs.List.{AllByRecursion}
 use Rattle.half_grid.specs.Halves.{twice}
-use Rattle.half_grid.specs.Lines.{Passes, line_of, x_on, strip_along, first_strip}
+use Rattle.half_grid.specs.Lines.{Passes, line_of}
 use Rattle.half_grid.specs.Rows.{number_in_row, place}
 use Rattle.half_grid.specs.Outlines.{IsOnGrid, IsClosed, last_of}
 use Rattle.half_grid.specs.Winding.{is_right_of, rises_past, edges_of, crossing_of, count_one, winding}
@@ -13,7 +13,7 @@ use Rattle.half_grid.specs.declared.plane.Point.{Point}
 use Rattle.half_grid.specs.declared.plane.Line.{Line}
 use Rattle.half_grid.specs.declared.plane.Line.TheVariants.{Upright, Rising, Falling}
 use Rattle.half_grid.proofs.LineLemmas.{line_of_through, line_of_none}
-use Rattle.half_grid.proofs.Places.{right_by_place, place_at_most, number_below, left_by_place}
+use Rattle.half_grid.proofs.Places.{right_by_place, left_by_place}
 use Rattle.half_grid.proofs.WindingLemmas.{winding_from, winding_along, crossing_up, crossing_down, crossing_none}
 
 -- a test on two numbers, by the order that it decides

@@ -15,6 +15,7 @@ mod plane;
 mod ring;
 mod rows;
 mod shot;
+mod sums;
 #[cfg(test)]
 mod tests;
 

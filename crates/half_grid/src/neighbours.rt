@@ -1,23 +1,10 @@
-ghost use Rattle.std.specs.Prelude.{◌≡◌, ◌↔◌, IsTrue, ◌+ℤ◌, ◌-ℤ◌};
-ghost use Rattle.half_grid.specs.Halves.{half};
+ghost use Rattle.std.specs.Prelude.{◌↔◌, IsTrue};
 ghost use Rattle.half_grid.specs.Nearness.{DifferAtMost, IsNear};
 ghost use Rattle.half_grid.specs.Reach.{IsTileWithinReach};
 
 use crate::plane::Tile;
 use crate::rows::strips;
-
-// Half the sum of the half sides.
-fn half_sum(dx: i64, dy: i64) -> i64
-    ensures { result ≡ half (dx +ℤ dy) }
-{
-    ((dx as i128 + dy as i128) >> 1) as i64
-}
-
-fn difference(a: i64, b: i64) -> i128
-    ensures { result ≡ a -ℤ b }
-{
-    a as i128 - b as i128
-}
+use crate::sums::{difference, half_sum};
 
 fn differ_at_most(limit: i64, a: i64, b: i64) -> bool
     ensures { IsTrue result ↔ DifferAtMost limit a b }

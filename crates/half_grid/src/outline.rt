@@ -1,5 +1,4 @@
-ghost use Rattle.std.specs.Prelude.{◌≡◌, ◌≢◌, pos, ◌-ℤ◌, ◌+ℤ◌, ◌≤ℤ◌, ◌<ℤ◌, ◌⊎◌, IfSome, IfNone};
-ghost use Rattle.half_grid.specs.Halves.{half, is_even};
+ghost use Rattle.std.specs.Prelude.{◌≡◌, ◌≢◌, pos, ◌≤ℤ◌, ◌<ℤ◌, ◌⊎◌, IfSome, IfNone};
 ghost use Rattle.half_grid.specs.declared.plane.Line.{Line};
 ghost use Rattle.half_grid.specs.Lines.{Passes, line_of, share_rising, share_falling};
 ghost use Rattle.half_grid.specs.Reach.{IsTileWithinReach};
@@ -7,53 +6,20 @@ ghost use Rattle.half_grid.specs.Winding.{winding, crossing_of, is_right_of, ris
 
 use crate::plane::{Line, Point, Tile};
 use crate::rows::is_right_of;
-
-// X - Y.
-fn difference(point: Point) -> i128
-    ensures { result ≡ point.x -ℤ point.y }
-{
-    point.x as i128 - point.y as i128
-}
-
-// X + Y.
-fn sum(point: Point) -> i128
-    ensures { result ≡ point.x +ℤ point.y }
-{
-    point.x as i128 + point.y as i128
-}
-
-fn is_even_number(number: i128) -> bool
-    ensures { result ≡ is_even number }
-{
-    number % 2 == 0
-}
+use crate::sums::{half_difference, half_sum, is_even_number};
 
 fn share_rising(a: Point, b: Point) -> bool
     ensures { result ≡ share_rising a b }
 {
-    let along = difference(a);
-    is_even_number(along) && along == difference(b)
+    let along = a.difference();
+    is_even_number(along) && along == b.difference()
 }
 
 fn share_falling(a: Point, b: Point) -> bool
     ensures { result ≡ share_falling a b }
 {
-    let along = sum(a);
-    is_even_number(along) && along == sum(b)
-}
-
-// Half of X - Y, rounded down.
-fn half_difference(point: Point) -> i64
-    ensures { result ≡ half (point.x -ℤ point.y) }
-{
-    (difference(point) >> 1) as i64
-}
-
-// Half of X + Y, rounded down.
-fn half_sum(point: Point) -> i64
-    ensures { result ≡ half (point.x +ℤ point.y) }
-{
-    (sum(point) >> 1) as i64
+    let along = a.sum();
+    is_even_number(along) && along == b.sum()
 }
 
 #[tactic(auto, unfolding(crate::specs::Lines::line_of))]
@@ -67,10 +33,10 @@ fn find_line(a: Point, b: Point) -> Option<Line>
         return Some(Line::Upright(a.x));
     }
     if share_rising(a, b) {
-        return Some(Line::Rising(half_difference(a)));
+        return Some(Line::Rising(half_difference(a.x, a.y)));
     }
     if share_falling(a, b) {
-        return Some(Line::Falling(half_sum(a)));
+        return Some(Line::Falling(half_sum(a.x, a.y)));
     }
     None
 }

@@ -1,3 +1,7 @@
+ghost use Rattle.std.specs.Prelude.{◌≡◌, ◌+ℤ◌, ◌-ℤ◌};
+
+use crate::sums::{difference, sum};
+
 /// A point of the plane, in half units.
 #[derive(Clone, Copy, Debug, PartialEq, Eq, Hash)]
 pub struct Point {
@@ -5,6 +9,22 @@ pub struct Point {
     pub x: i64,
     /// How far it lies above the origin.
     pub y: i64,
+}
+
+impl Point {
+    /// `X + Y`, which is the same at all points of a line that goes up to the left.
+    pub fn sum(self) -> i128
+        ensures { result ≡ self.x +ℤ self.y }
+    {
+        sum(self.x, self.y)
+    }
+
+    /// `X - Y`, which is the same at all points of a line that goes up to the right.
+    pub fn difference(self) -> i128
+        ensures { result ≡ self.x -ℤ self.y }
+    {
+        difference(self.x, self.y)
+    }
 }
 
 /// Which of the two triangles of a cell.

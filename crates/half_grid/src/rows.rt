@@ -1,11 +1,12 @@
 ghost use Rattle.std.specs.Prelude.{◌≡◌, int_le, pos, ◌-ℤ◌, ◌+ℤ◌, ◌≤ℤ◌, ◌<ℤ◌};
-ghost use Rattle.half_grid.specs.Halves.{half, is_even, twice};
+ghost use Rattle.half_grid.specs.Halves.{half, twice};
 ghost use Rattle.half_grid.specs.Tiles.{strips_of, sum_strip, difference_strip};
 ghost use Rattle.half_grid.specs.Lines.{x_on, first_strip, strip_along};
 ghost use Rattle.half_grid.specs.Rows.{number_in_row, place};
 ghost use Rattle.half_grid.specs.Reach.{IsWithinReach, IsTileWithinReach};
 
 use crate::plane::{Line, Side, Strips, Tile};
+use crate::sums::{half_of, is_even_number};
 
 /// The four strips of a tile: its column, its row, and the strips along the two diagonals.
 pub fn strips(tile: Tile) -> Strips
@@ -104,7 +105,7 @@ pub fn tile_at(row: i64, number: i64) -> Tile
     ensures number { number_in_row result ≡ number }
 {
     let column = half_of(number);
-    if is_even_number(number) {
+    if is_even_number(number as i128) {
         return Tile {
             i: column,
             j: row,
@@ -118,19 +119,6 @@ pub fn tile_at(row: i64, number: i64) -> Tile
     }
 }
 
-// Half of a number, rounded down.
-fn half_of(number: i64) -> i64
-    ensures { result ≡ half number }
-{
-    number >> 1
-}
-
-fn is_even_number(number: i64) -> bool
-    ensures { result ≡ is_even number }
-{
-    number % 2 == 0
-}
-
 /// The line along the diagonal of the cell in this column and row.
 pub fn diagonal_of(column: i64, row: i64) -> Line
     requires column { IsWithinReach column }
@@ -138,7 +126,7 @@ pub fn diagonal_of(column: i64, row: i64) -> Line
     ensures place { place result row ≡ twice column +ℤ pos 1 }
 {
     let difference = column - row;
-    if is_even_number(difference) {
+    if is_even_number(difference as i128) {
         return Line::Rising(half_of(difference));
     }
     Line::Falling(half_of(column + row + 1))
@@ -151,7 +139,7 @@ pub fn line_at(row: i64, number: i64) -> Line
     ensures place { place result row ≡ number }
 {
     let column = half_of(number);
-    if is_even_number(number) {
+    if is_even_number(number as i128) {
         return Line::Upright(column);
     }
     diagonal_of(column, row)

@@ -87,6 +87,8 @@ fn lines_through_two_points(rt: HostRuntime) {
     ] {
         assert_eq!(rt; line_through(a, b), line);
     }
+    assert_eq!(rt; point(3, -5).sum(), -2);
+    assert_eq!(rt; point(3, -5).difference(), 8);
 }
 
 #[test]

@@ -7,6 +7,7 @@ use Rattle.depot.specs.Counts.{Counts}
 use Rattle.depot.proofs.ForCallers.{Rose-later}
 use Rattle.layout_model.specs.declared.pair.Pair.{Pair}
 use Rattle.oas_lex.specs.ShotText.{head, end, spelling_of, shot_text}
+use Rattle.oas_lex.proofs.ForCallers.{spelling_some}
 use Rattle.shot_reader.specs.Reading.{IsFileOf}
 use Rattle.shot_reader.specs.Refusals.{IsFirstFault}
 use Rattle.shot_reader.specs.declared.refusing.ShotBad.{ShotBad}
@@ -41,15 +42,11 @@ refused_answers b a o p file bytes (Illegal at) held short fault rest = (refl, f
 refused_answers b a o p file bytes (End at) held short fault rest = (refl, fault_held b file bytes (End at) held short (fault (λ e. let no : ⊥ = cc in no)), left_only b a rest)
 refused_answers b a o p file bytes Wanting held short fault rest = inl (left_only b a rest)
 
-some : (l d : ℕ) (z : Trapezoid) → 1 ≤ length (spelling_of l d z)
-unfolding spelling_of
-some l d z = omega (arith)
-
 -- each record has a byte at least
 records_long : (l d : ℕ) (shots : List Trapezoid) → length shots ≤ length (flat_map (spelling_of l d) shots)
 records_long l d [] = omega (arith)
 records_long l d (z ∷ shots) =
-    omega (arith, some l d z, records_long l d shots, length-append (spelling_of l d z) (flat_map (spelling_of l d) shots))
+    omega (arith, spelling_some l d z, records_long l d shots, length-append (spelling_of l d z) (flat_map (spelling_of l d) shots))
 
 text_long : (unit l d : ℕ) (shots : List Trapezoid) → length shots ≤ length (shot_text unit l d shots)
 unfolding shot_text

@@ -4,8 +4,9 @@ ghost use Rattle.std.specs.Prelude.{IfOk, IfSome, IfNone};
 ghost use Rattle.mdp_job.specs.FirstLayout.{LayoutData, IsLayoutOf};
 ghost use Rattle.mdp_job.specs.LayoutView.{layout_data};
 
-use crate::layout_parts::{are_for_deck, find_parts, unsigned2};
+use crate::layout_parts::{are_for_deck, find_parts};
 use crate::layout_points::read_outline;
+use gds_record::unsigned2;
 use geo_stream::NoMemory;
 use half_grid::Point;
 use std::alloc::Global;

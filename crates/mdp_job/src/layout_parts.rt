@@ -1,13 +1,12 @@
 //! The records of a layout of the first path (GDSII Stream Format Manual 6.0, record description).
 
-ghost use Rattle.std.specs.Prelude.{◌≡◌, ◌↔◌, ◌≤◌, ◌+◌, ℕ, List, length, All, IfOk, IfSome, IfNone, IsTrue};
+ghost use Rattle.std.specs.Prelude.{◌≡◌, ◌↔◌, ℕ, List, length, All, IfOk, IfSome, IfNone, IsTrue};
 ghost use Rattle.gds_record.specs.declared.records.Record.{Record};
-ghost use Rattle.gds_record.specs.Numbers.{number_at};
 ghost use Rattle.mdp_job.specs.FirstLayout.{LayoutRecords, listed, content_of_record};
 ghost use Rattle.mdp_job.specs.LayoutParts.{IsLayoutRun, parts_in, ArePartsOf, ArePartsFor, IsPadded};
 ghost use Rattle.mdp_job.specs.declared.layout_parts.LayoutParts.{LayoutParts};
 
-use gds_record::{Kind, Record, int2, int8, record_at, unit_agrees};
+use gds_record::{Kind, Record, int8, record_at, unit_agrees};
 use geo_stream::NoMemory;
 use std::alloc::Global;
 
@@ -120,12 +119,4 @@ pub(crate) fn are_for_deck(bytes: &[u8], parts: LayoutParts, unit: u32, top: &[u
         return false;
     }
     is_padded(&bytes[parts.name.first..parts.name.next], top)
-}
-
-/// The number without a sign in the two bytes from `at` on, as of a layer or a datatype.
-pub(crate) fn unsigned2(bytes: &[u8], at: usize) -> u16
-    requires { at + 2 ≤ length bytes.now }
-    ensures { result ≡ number_at 2 bytes.now at }
-{
-    int2(bytes, at).cast_unsigned()
 }

@@ -50,32 +50,18 @@ fn read_points(alloc: Global, bytes: &[u8], at: usize, count: usize) -> Result<V
     Ok(points)
 }
 
-/// X - Y.
-fn difference(point: Point) -> i128
-    ensures { result ≡ point.x -ℤ point.y }
-{
-    i128::from(point.x) - i128::from(point.y)
-}
-
-/// X + Y.
-fn sum(point: Point) -> i128
-    ensures { result ≡ point.x +ℤ point.y }
-{
-    i128::from(point.x) + i128::from(point.y)
-}
-
 /// Whether the moves from a to b in x and in y are equal.
 fn has_equal_moves(a: Point, b: Point) -> bool
     ensures { result ≡ int_eq (a.x -ℤ a.y) (b.x -ℤ b.y) }
 {
-    difference(a) == difference(b)
+    a.difference() == b.difference()
 }
 
 /// Whether the moves from a to b in x and in y are each other's opposites.
 fn has_opposite_moves(a: Point, b: Point) -> bool
     ensures { result ≡ int_eq (a.x +ℤ a.y) (b.x +ℤ b.y) }
 {
-    sum(a) == sum(b)
+    a.sum() == b.sum()
 }
 
 /// Whether an edge is horizontal, vertical or has equal absolute moves.

@@ -4,8 +4,9 @@ pub mod Wholes
 pub mod Reading
 pub mod Codes
 pub mod SpellingLemmas
-pub mod ShotLemmas
+pub mod ShotBounds
 pub mod ShotNames
 pub mod Peels
+pub mod FieldTexts
 pub mod ShotTexts
 pub mod ForCallers

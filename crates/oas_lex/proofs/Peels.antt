@@ -1,12 +1,11 @@
 -- What two texts that begin with fields have in common: the fields, and what follows them.
-use Rattle.std.proofs.Common.{◌≡◌, ℕ, ◌^◌, ◌<◌, ℤ, pos, ◌-ℤ◌, Bool, true, false, cond, unsigned_abs, List, [], ◌∷◌, ◌++◌, refl, arith, ap, sym, ◌∙◌, append_assoc, codes, replicate}
+use Rattle.std.proofs.Common.{◌≡◌, ℕ, ◌^◌, ◌<◌, ℤ, pos, Bool, true, false, cond, unsigned_abs, List, [], ◌∷◌, ◌++◌, refl, arith, ap, sym, ◌∙◌, append_assoc, codes, replicate}
 use Rattle.std.specs.Ordering.{int_eq}
 use Rattle.std.proofs.lemmas.List.{append_cancel_left}
 use Rattle.std.proofs.lemmas.Bool.Decides.{Decides-int_eq}
-use Rattle.half_grid.specs.Trapezoids.{Trapezoid, box_width}
 use Rattle.oas_lex.specs.Spelling.{unsigned_text, signed_text}
 use Rattle.oas_lex.specs.Numbers.{value_of, signed_value, IsUnsigned, IsSigned}
-use Rattle.oas_lex.specs.ShotText.{magic, cell, head, record_id, delta_text, left_delta, right_delta, least_x, spelling_of}
+use Rattle.oas_lex.specs.ShotText.{magic, cell, head, id_for, delta_text}
 use Rattle.oas_lex.proofs.Groups.{unsigned_spells}
 use Rattle.oas_lex.proofs.Codes.{signed_spells}
 use Rattle.oas_lex.proofs.Wholes.{none_begins}
@@ -63,9 +62,6 @@ id_by false false false false e = (refl, refl)
 pub id_tests : (a b c d : ℤ) → id_of (int_eq a (pos 0)) (int_eq b (pos 0)) ≡ id_of (int_eq c (pos 0)) (int_eq d (pos 0)) → (int_eq a (pos 0) ≡ int_eq c (pos 0)) × (int_eq b (pos 0) ≡ int_eq d (pos 0))
 id_tests a b c d e = id_by (int_eq a (pos 0)) (int_eq b (pos 0)) (int_eq c (pos 0)) (int_eq d (pos 0)) e
 
-pub id_names : (y z : Trapezoid) → record_id y ≡ record_id z → (int_eq (left_delta y) (pos 0) ≡ int_eq (left_delta z) (pos 0)) × (int_eq (right_delta y) (pos 0) ≡ int_eq (right_delta z) (pos 0))
-id_names y z e = id_tests (left_delta y) (right_delta y) (left_delta z) (right_delta z) e
-
 not_end_by : (p q : Bool) → id_of p q ≡ 2 → ⊥
 not_end_by true true e = omega arith
 not_end_by true false e = omega arith
@@ -73,17 +69,8 @@ not_end_by false true e = omega arith
 not_end_by false false e = omega arith
 
 -- no record has the id of END
-pub not_end : (z : Trapezoid) → record_id z ≡ 2 → ⊥
-not_end z e = not_end_by (int_eq (left_delta z) (pos 0)) (int_eq (right_delta z) (pos 0)) e
-
--- a record's fields after its id and its info byte, and what follows them
-abbrev pub fields_of : ℕ → ℕ → Trapezoid → List ℕ → List ℕ
-fields_of layer datatype z after =
-    unsigned_text layer ++ (unsigned_text datatype ++ (unsigned_text (unsigned_abs (box_width z)) ++ (unsigned_text (unsigned_abs (z.y1 -ℤ z.y0)) ++ (delta_text (left_delta z) ++ (delta_text (right_delta z) ++ (signed_text (least_x z) ++ (signed_text z.y0 ++ after)))))))
-
-pub spelling_is : (layer datatype : ℕ) (z : Trapezoid) (after : List ℕ) → spelling_of layer datatype z ++ after ≡ record_id z ∷ 123 ∷ fields_of layer datatype z after
-unfolding spelling_of
-spelling_is layer datatype z after = simp append_assoc
+pub not_end : (a b : ℤ) → id_for a b ≡ 2 → ⊥
+not_end a b e = not_end_by (int_eq a (pos 0)) (int_eq b (pos 0)) e
 
 -- the head up to its unit, and after it
 abbrev pub before_unit : List ℕ

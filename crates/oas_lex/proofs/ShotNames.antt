@@ -1,30 +1,17 @@
 -- The numbers of a record name its shot.
-use Rattle.std.proofs.Common.{◌≡◌, ℤ, pos, negsuc, ◌-ℤ◌, ◌≤ℤ◌, ◌<ℤ◌, unsigned_abs, refl, arith, ap, sym, ◌∙◌}
+use Rattle.std.proofs.Common.{◌≡◌, ℤ, pos, negsuc, ◌-ℤ◌, ◌≤ℤ◌, unsigned_abs, arith, ap, sym, ◌∙◌}
 use Rattle.std.proofs.lemmas.Int.{ints, clamps}
 use Rattle.std.specs.Int.{int_min, int_max}
 use Rattle.half_grid.specs.Lines.{x_on}
-use Rattle.half_grid.specs.Trapezoids.{Trapezoid, trapezoid, IsShot, box_width}
-use Rattle.half_grid.specs.declared.plane.Line.{Line}
-use Rattle.half_grid.specs.declared.plane.Line.TheVariants.{Upright, Rising, Falling}
+use Rattle.half_grid.specs.Trapezoids.{Trapezoid, IsShot, box_width}
+use Rattle.half_grid.proofs.ForCallers.{line_names, same_trapezoid}
 use Rattle.oas_lex.specs.ShotText.{left_delta, right_delta, least_x}
 
--- two points of different Y name the line through them
-pub line_names : (l m : Line) (y0 y1 : ℤ) → y0 <ℤ y1 → x_on l y0 ≡ x_on m y0 → x_on l y1 ≡ x_on m y1 → l ≡ m
-line_names (Upright a) (Upright b) y0 y1 h p q = ap Upright p
-line_names (Upright a) (Rising b) y0 y1 h p q = absurd (omega (arith, ints))
-line_names (Upright a) (Falling b) y0 y1 h p q = absurd (omega (arith, ints))
-line_names (Rising a) (Upright b) y0 y1 h p q = absurd (omega (arith, ints))
-line_names (Rising a) (Rising b) y0 y1 h p q = let same : a ≡ b = omega (arith, ints) in ap Rising same
-line_names (Rising a) (Falling b) y0 y1 h p q = absurd (omega (arith, ints))
-line_names (Falling a) (Upright b) y0 y1 h p q = absurd (omega (arith, ints))
-line_names (Falling a) (Rising b) y0 y1 h p q = absurd (omega (arith, ints))
-line_names (Falling a) (Falling b) y0 y1 h p q = let same : a ≡ b = omega (arith, ints) in ap Falling same
-
 -- two numbers of one least and one difference are the same, and of one greatest
-least_names : (a b c d : ℤ) → int_min a b ≡ int_min c d → b -ℤ a ≡ d -ℤ c → (a ≡ c) × (b ≡ d)
+pub least_names : (a b c d : ℤ) → int_min a b ≡ int_min c d → b -ℤ a ≡ d -ℤ c → (a ≡ c) × (b ≡ d)
 least_names a b c d e f = (omega (arith, ints, clamps), omega (arith, ints, clamps))
 
-greatest_names : (a b c d : ℤ) → int_max a b ≡ int_max c d → b -ℤ a ≡ d -ℤ c → (a ≡ c) × (b ≡ d)
+pub greatest_names : (a b c d : ℤ) → int_max a b ≡ int_max c d → b -ℤ a ≡ d -ℤ c → (a ≡ c) × (b ≡ d)
 greatest_names a b c d e f = (omega (arith, ints, clamps), omega (arith, ints, clamps))
 
 size_names : (a b : ℤ) → pos 0 ≤ℤ a → pos 0 ≤ℤ b → unsigned_abs a ≡ unsigned_abs b → a ≡ b
@@ -33,14 +20,11 @@ size_names (pos a) (negsuc b) h g e = absurd (omega (arith, ints))
 size_names (negsuc a) b h g e = absurd (omega (arith, ints))
 
 -- a box is as wide as the longer of the parallel sides at least
-width_some : (a b c d : ℤ) → pos 0 ≤ℤ (c -ℤ a) → pos 0 ≤ℤ (int_max c d -ℤ int_min a b)
+pub width_some : (a b c d : ℤ) → pos 0 ≤ℤ (c -ℤ a) → pos 0 ≤ℤ (int_max c d -ℤ int_min a b)
 width_some a b c d h = omega (arith, ints, clamps)
 
 add_back : (a b c d : ℤ) → a -ℤ b ≡ c -ℤ d → b ≡ d → a ≡ c
 add_back a b c d e f = omega (arith, ints)
-
-same_parts : (a b c d : ℤ) (l m r s : Line) → a ≡ b → c ≡ d → l ≡ m → r ≡ s → trapezoid a c l r ≡ trapezoid b d m s
-same_parts a b c d l m r s e f g h = rw (e, f, g, h) refl
 
 pub shot_names : (y z : Trapezoid) → IsShot y → IsShot z
     → unsigned_abs (box_width y) ≡ unsigned_abs (box_width z) → unsigned_abs (y.y1 -ℤ y.y0) ≡ unsigned_abs (z.y1 -ℤ z.y0)
@@ -58,4 +42,4 @@ shot_names y z h g width height left right x bottom =
     greatest_names (x_on y.right y.y0) (x_on y.right y.y1) (x_on z.right z.y0) (x_on z.right z.y1) most right in
     let left_line : y.left ≡ z.left = line_names y.left z.left y.y0 y.y1 h.legal.has_rows (lefts.0 ∙ ap (x_on z.left) (sym bottom)) (lefts.1 ∙ ap (x_on z.left) (sym top)) in
     let right_line : y.right ≡ z.right = line_names y.right z.right y.y0 y.y1 h.legal.has_rows (rights.0 ∙ ap (x_on z.right) (sym bottom)) (rights.1 ∙ ap (x_on z.right) (sym top)) in
-    same_parts y.y0 z.y0 y.y1 z.y1 y.left z.left y.right z.right bottom top left_line right_line
+    same_trapezoid y.y0 z.y0 y.y1 z.y1 y.left z.left y.right z.right bottom top left_line right_line

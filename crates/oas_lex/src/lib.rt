@@ -3,11 +3,13 @@
 //! Nothing here takes memory.
 #![tactic(auto)]
 
+mod fields;
 mod laws;
 mod numbers;
 mod shots;
 mod spell;
 
+pub use fields::{INFO, RECTANGLE, ShotFields, TRAPEZOID, TRAPEZOID_A, TRAPEZOID_B, spell_fields};
 pub use laws::{shot_laws, spelling_laws};
 pub use numbers::{signed, unsigned};
 pub use shots::{end_text, head_text, spell_shot};

@@ -1,6 +1,6 @@
 use crate::{
-    LexBad, ROOM, Spell, end_text, head_text, put_signed, put_unsigned, shot_laws, signed,
-    spell_shot, spelling_laws, unsigned,
+    LexBad, ROOM, ShotFields, Spell, end_text, head_text, put_signed, put_unsigned, shot_laws,
+    signed, spell_fields, spell_shot, spelling_laws, unsigned,
 };
 use half_grid::{Line, REACH, Trap};
 use std::process::Abort;
@@ -132,6 +132,24 @@ fn spells_shots(rt: HostRuntime) {
     assert_eq!(rt;
         spell_shot(&roof, 1, 0).bytes(),
         [0x17, 0x7B, 1, 0, 0x18, 0x0B, 0x16, 0x17, 3, 2].as_slice()
+    );
+}
+
+#[test]
+fn spells_fields_of_any_numbers(rt: HostRuntime) {
+    let fields = ShotFields {
+        layer: 300,
+        datatype: 0,
+        width: 5,
+        height: 1,
+        left_delta: -1,
+        right_delta: 0,
+        x: -1,
+        y: 64,
+    };
+    assert_eq!(rt;
+        spell_fields(&fields).bytes(),
+        [0x18, 0x7B, 0xAC, 2, 0, 5, 1, 3, 3, 0x80, 1].as_slice()
     );
 }
 

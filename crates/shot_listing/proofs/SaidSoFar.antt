@@ -1,5 +1,5 @@
 -- What is said through a buffer, as one more piece is put, said or refused.
-use Rattle.std.proofs.Common.{Result, Ok, Err, OnErr, ◌≡◌, ℕ, ◌+◌, List, [], ◌∷◌, ◌++◌, length, take, drop, flat_map, sym, ap, subst, ◌∙◌, arith, append_assoc}
+use Rattle.std.proofs.Common.{◌≡◌, ℕ, ◌+◌, List, [], ◌∷◌, ◌++◌, length, take, drop, flat_map, sym, ap, subst, ◌∙◌, arith, append_assoc}
 use Rattle.std.proofs.lemmas.List.{length-append, take-append-le, take-append-drop, flat_map_more}
 use Rattle.std.proofs.lemmas.Grind.{flat_map-append}
 use Rattle.std.proofs.Math.Seq.{take-append-add}
@@ -76,8 +76,3 @@ part_of_texts {X} {old} {now} {held} later f bytes xs i p part =
 pub part_of_more_texts : {X : Type 0} {old now : Content} {held : List ℕ} (later : Content) (f : X → List ℕ) (bytes : List ℕ) (xs : List X) (i : ℕ) (x : X) → take (i + 1) xs ≡ take i xs ++ x ∷ [] → IsSaidButFor old (bytes ++ flat_map f (take i xs)) held now → IsPartSaid now (held ++ f x) later → IsPartSaid old (bytes ++ flat_map f xs) later
 part_of_more_texts {X} {old} {now} {held} later f bytes xs i x e p part =
     part_of_texts later f bytes xs (i + 1) (subst (λ (l : List ℕ). IsSaidButFor old l (held ++ f x) now) (texts_more f bytes xs i x e) (hold_more (f x) p)) part
-
--- what holds anyhow holds after a refusal
-pub refused : {T E : Type 0} (r : Result T E) (P : Type 0) → P → OnErr r P
-refused (Ok answer) P p = tt
-refused (Err bad) P p = p

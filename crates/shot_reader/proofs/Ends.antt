@@ -1,7 +1,7 @@
 -- A record is whole exactly where enough numbers end after its id and its info byte.
 use Rattle.std.proofs.Common.{◌≡◌, ℕ, zero, suc, ◌+◌, ◌-◌, ◌<◌, ◌≤◌, cond, nat_lt, nat_le, List, [], ◌∷◌, ◌++◌, length, get_or, take, drop, refl, arith, ap, sym, subst, ◌∙◌, inl, inr, append_assoc}
 use Rattle.std.specs.Prelude.{All, IsTrue, Some as Just}
-use Rattle.shot_reader.proofs.Places.{rest_is}
+use Rattle.oas_lex.proofs.ForCallers.{rest_is}
 use Rattle.std.specs.List.{concat, count_by}
 use Rattle.std.proofs.lemmas.Bool.{cases_lt}
 use Rattle.std.proofs.lemmas.Bool.Decides.{nat_tests}

@@ -6,22 +6,22 @@ use Rattle.std.specs.Prelude.{All, flat_map, Result, Err}
 use Rattle.std.specs.List.{concat}
 use Rattle.half_grid.specs.Trapezoids.{Trapezoid, IsShot}
 use Rattle.layout_model.specs.declared.pair.Pair.{Pair}
-use Rattle.oas_lex.specs.ShotText.{IsUnit, head, spelling_of, shot_text, end}
+use Rattle.oas_lex.specs.ShotText.{IsUnit, head, fields_of, spelling_of, shot_text, end}
 use Rattle.oas_lex.specs.ShotLaws.{IsNarrowPair}
-use Rattle.oas_lex.proofs.ForCallers.{head_peel, record_names}
-use Rattle.shot_reader.specs.declared.fields.Fields.{Fields}
+use Rattle.oas_lex.proofs.ForCallers.{head_peel, record_names, spelling_is, one_record, shot_narrow}
+use Rattle.oas_lex.specs.declared.fields.ShotFields.{ShotFields}
 use Rattle.shot_reader.specs.declared.refusing.ShotBad.{ShotBad}
 use Rattle.shot_reader.specs.declared.refusing.ShotBad.TheVariants as faults
 use Rattle.shot_reader.specs.Fields.{HasShape}
 use Rattle.shot_reader.specs.Reading.{Agrees, IsPairOf, records_with}
 use Rattle.shot_reader.specs.Refusals.{IsWhole, IsSpelled, BeginsEnd, IsRecordFault, IsReadUpTo, IsFirstFault}
 use Rattle.shot_reader.proofs.Ends.{whole_not_end}
-use Rattle.shot_reader.proofs.Names.{fields_of, text_names, text_whole, shot_shape, shot_text_is, shot_narrow}
+use Rattle.shot_reader.proofs.Wholes.{text_whole}
 use Rattle.shot_reader.proofs.Rests.{unit_small, up_to}
 
 -- ---- at one record
 
-spelled_whole : (first : Option Pair) (rest : List ℕ) (f : Fields) → IsSpelled first rest f → IsWhole rest
+spelled_whole : (first : Option Pair) (rest : List ℕ) (f : ShotFields) → IsSpelled first rest f → IsWhole rest
 spelled_whole first rest f s = text_whole f rest s.after s.narrow s.text
 
 whole_apart : (rest : List ℕ) → IsWhole rest → BeginsEnd rest → ⊥
@@ -57,13 +57,13 @@ shot_spelled first l d z rest after p h g e = record {
   narrow = shot_narrow l d z p h;
   agrees = g;
   after = after;
-  text = e ∙ ap (λ (t : List ℕ). t ++ after) (sym (shot_text_is l d z));
+  text = e ∙ ap (λ (t : List ℕ). t ++ after) (spelling_is l d z);
 }
 
-spelled_shape : (first : Option Pair) (l d : ℕ) (z : Trapezoid) (rest : List ℕ) (f : Fields) → IsSpelled first rest (fields_of l d z) → IsSpelled first rest f → HasShape f z
+spelled_shape : (first : Option Pair) (l d : ℕ) (z : Trapezoid) (rest : List ℕ) (f : ShotFields) → IsSpelled first rest (fields_of l d z) → IsSpelled first rest f → HasShape f z
 spelled_shape first l d z rest f s t =
-    let same = text_names (fields_of l d z) f s.after t.after s.narrow t.narrow (sym s.text ∙ t.text) in
-    subst (λ (g : Fields). HasShape g z) same.0 (shot_shape l d z)
+    let same = one_record (fields_of l d z) f s.after t.after s.narrow t.narrow (sym s.text ∙ t.text) in
+    subst (λ (g : ShotFields). HasShape g z) same.0 refl
 
 fault_stops : (first : Option Pair) (l d : ℕ) (rest : List ℕ) (at : ℕ) (bad : ShotBad) → IsNarrowPair l d → Agrees first l d → IsRecordFault first rest at bad → Stops l d rest
 fault_stops first l d rest at bad p g (inl a) = λ z after h e. whole_apart rest (spelled_whole first rest (fields_of l d z) (shot_spelled first l d z rest after p h g e)) a.1

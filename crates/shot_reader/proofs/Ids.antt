@@ -3,7 +3,7 @@ use Rattle.std.proofs.Common.{◌≡◌, ◌≢◌, ◌+◌, ◌↔◌, ℕ, ℤ
 use Rattle.std.specs.Ordering.{int_eq}
 use Rattle.std.proofs.lemmas.List.{get_or-drop}
 use Rattle.std.proofs.lemmas.Bool.Decides.{Decides-int_eq}
-use Rattle.shot_reader.specs.Fields.{id_for}
+use Rattle.oas_lex.specs.ShotText.{id_for}
 
 plus_none : (n : ℕ) → n ≡ n + 0
 plus_none n = omega arith

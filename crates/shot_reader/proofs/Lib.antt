@@ -1,11 +1,10 @@
 pub mod Places
 pub mod Shapes
-pub mod Texts
 pub mod Nears
 pub mod Ids
 pub mod Rests
 pub mod Ends
-pub mod Names
+pub mod Wholes
 pub mod Faults
 pub mod Alikes
 pub mod Nearest

@@ -1,6 +1,6 @@
 -- A number that stands next among the bytes is read, and what follows it stands after it.
-use Rattle.std.proofs.Common.{◌≡◌, ℕ, ◌+◌, ◌-◌, ◌<◌, ◌≤◌, ◌^◌, ℤ, unsigned_abs, List, ◌++◌, Bool, true, false, nat_eq, length, take, drop, min, refl, arith, ap, sym, subst, ◌∙◌}
-use Rattle.std.proofs.lemmas.List.{take-append-drop, length-append, length-drop, take_all}
+use Rattle.std.proofs.Common.{◌≡◌, ℕ, ◌+◌, ◌<◌, ◌≤◌, ◌^◌, ℤ, unsigned_abs, List, ◌++◌, Bool, true, false, nat_eq, length, take, drop, min, refl, arith, ap, sym, subst, ◌∙◌}
+use Rattle.std.proofs.lemmas.List.{take-append-drop, length-append, length-drop}
 use Rattle.std.proofs.Math.Seq.{drop-append_seam, drop-append-add, take-append_seam}
 use Rattle.std.specs.Cmp.Lexicographic.{same_text, other_text}
 use lib.Pointwise.{pointwise}
@@ -39,9 +39,6 @@ pub read_next : {A : Type 0} (z w : A) (at next : ℕ) (bytes text after : List 
 read_next z w at next bytes text after h e is n = (is, ap (λ (k : ℕ). drop k bytes) n ∙ after_text at bytes text after h e)
 
 -- a text that begins what stands at `at`, by the test of a slice
-pub rest_is : (bytes : List ℕ) (at : ℕ) → take (length bytes - at) (drop at bytes) ≡ drop at bytes
-rest_is bytes at = take_all (length bytes - at) (drop at bytes) (omega (arith, length-drop at bytes))
-
 pub stands_by : (rest text : List ℕ) (r : Bool) → r ≡ pointwise nat_eq text (take (length text) rest) → r ≡ true → rest ≡ text ++ drop (length text) rest
 stands_by rest text r e told =
     sym (take-append-drop (length text) rest) ∙ ap (λ (l : List ℕ). l ++ drop (length text) rest) (sym (same_text text (take (length text) rest) (sym told ∙ e)))

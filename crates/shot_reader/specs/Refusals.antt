@@ -11,10 +11,10 @@ use Rattle.std.specs.List.{concat}
 use Rattle.half_grid.specs.Trapezoids.{Trapezoid, IsShot}
 use Rattle.layout_model.specs.declared.pair.Pair.{Pair}
 use Rattle.oas_lex.specs.ShotLaws.{IsNarrowPair}
-use Rattle.oas_lex.specs.ShotText.{IsUnit, head, end, spelling_of}
-use Rattle.shot_reader.specs.Fields.{HasShape, AreNarrow, text_of}
+use Rattle.oas_lex.specs.ShotText.{IsUnit, head, end, AreNarrow, text_of, spelling_of}
+use Rattle.shot_reader.specs.Fields.{HasShape}
 use Rattle.shot_reader.specs.Reading.{IsPairOf, Agrees}
-use Rattle.shot_reader.specs.declared.fields.Fields.{Fields}
+use Rattle.oas_lex.specs.declared.fields.ShotFields.{ShotFields}
 use Rattle.shot_reader.specs.declared.refusing.ShotBad.{ShotBad}
 use Rattle.shot_reader.specs.declared.refusing.ShotBad.TheVariants as faults
 
@@ -55,7 +55,7 @@ pub record IsWhole (rest : List ℕ) : Type 0 where
   pub text : rest ≡ id ∷ 123 ∷ concat numbers ++ after
 
 -- the bytes begin with the one spelling of these fields, whose pair may stand after the first record's
-pub record IsSpelled (first : Option Pair) (rest : List ℕ) (f : Fields) : Type 0 where
+pub record IsSpelled (first : Option Pair) (rest : List ℕ) (f : ShotFields) : Type 0 where
   pub narrow : AreNarrow f
   pub agrees : Agrees first f.layer f.datatype
   pub after : List ℕ
@@ -70,8 +70,8 @@ abbrev pub IsRecordFault : Option Pair → List ℕ → ℕ → ShotBad → Type
 IsRecordFault first rest at bad =
     ((bad ≡ faults.End at) × BeginsEnd rest × (rest ≢ end))
     ⊎ ((bad ≡ faults.Record at) × (BeginsEnd rest → ⊥) × (IsWhole rest → ⊥))
-    ⊎ ((bad ≡ faults.Spelling at) × IsWhole rest × ((f : Fields) → IsSpelled first rest f → ⊥))
-    ⊎ ((bad ≡ faults.Illegal at) × ((f : Fields) × IsSpelled first rest f × ((z : Trapezoid) → IsShot z → HasShape f z → ⊥)))
+    ⊎ ((bad ≡ faults.Spelling at) × IsWhole rest × ((f : ShotFields) → IsSpelled first rest f → ⊥))
+    ⊎ ((bad ≡ faults.Illegal at) × ((f : ShotFields) × IsSpelled first rest f × ((z : Trapezoid) → IsShot z → HasShape f z → ⊥)))
 
 -- ---- the file
 

@@ -5,8 +5,8 @@ ghost use Rattle.half_grid.specs.Trapezoids.{Trapezoid, IsShot};
 ghost use Rattle.shot_reader.specs.Fields.{HasShape, AreCorners, IsCornered};
 ghost use Rattle.shot_reader.specs.Near.{AreNear};
 
-use crate::fields::Fields;
 use half_grid::{Point, Trap, line_through};
+use oas_lex::ShotFields;
 
 /// No size and no place of a shot is further from 0.
 const FAR: u64 = 1 << 46;
@@ -20,7 +20,7 @@ pub(crate) struct Corners {
     pub(crate) top_right: Point,
 }
 
-fn are_near(fields: &Fields) -> bool
+fn are_near(fields: &ShotFields) -> bool
     ensures { IsTrue result ↔ AreNear fields.now }
 {
     if fields.width > FAR || fields.height > FAR {
@@ -66,7 +66,7 @@ fn with_greatest(x: i64, width: u64, delta: i64) -> (i64, i64)
 }
 
 // The corners that the fields say.
-fn corners_of(fields: &Fields) -> Corners
+fn corners_of(fields: &ShotFields) -> Corners
     requires { AreNear fields.now }
     ensures { AreCorners fields.now result }
 {
@@ -107,7 +107,7 @@ fn trap_with(corners: &Corners) -> Option<Trap>
 }
 
 /// The shot that the fields name. None exactly where they are those of no shot.
-pub(crate) fn trap_of(fields: &Fields) -> Option<Trap>
+pub(crate) fn trap_of(fields: &ShotFields) -> Option<Trap>
     ensures some { IfSome result (λ z. IsShot z × HasShape fields.now z) }
     ensures all { (z : Trapezoid) → IsShot z → HasShape fields.now z → IsSome result }
 {

@@ -1,34 +1,9 @@
-//! The fields of one record, and their one spelling.
+//! The fields of one record, as far as they can be read.
 ghost use Rattle.std.specs.Prelude.{◌≡◌, ◌≢◌, ◌+◌, ◌^◌, ◌<◌, ◌≤◌, ◌++◌, ◌↔◌, ℕ, ℤ, pos, List, length, drop, get_or, nat_eq, ◌||◌, unsigned_abs, IsTrue};
 ghost use Rattle.oas_lex.specs.Spelling.{unsigned_text, signed_text};
-ghost use Rattle.oas_lex.specs.ShotText.{delta_text};
-ghost use Rattle.shot_reader.specs.Fields.{AreNarrow, text_of, id_for};
+ghost use Rattle.oas_lex.specs.ShotText.{AreNarrow, delta_text, text_of};
 
-use oas_lex::{Spell, signed, unsigned};
-
-/// The record of a shot with both sides upright.
-const RECTANGLE: u8 = 20;
-/// The record of a shot with neither side upright.
-const TRAPEZOID: u8 = 23;
-/// The record of a shot whose right side alone is upright.
-const TRAPEZOID_A: u8 = 24;
-/// The record of a shot whose left side alone is upright.
-const TRAPEZOID_B: u8 = 25;
-/// Width, height, x, y, datatype and layer are written.
-pub(crate) const INFO: u8 = 0x7B;
-
-/// The fields of a record. A delta that isn't there is 0.
-#[derive(Clone, Copy)]
-pub(crate) struct Fields {
-    pub(crate) layer: u64,
-    pub(crate) datatype: u64,
-    pub(crate) width: u64,
-    pub(crate) height: u64,
-    pub(crate) left_delta: i64,
-    pub(crate) right_delta: i64,
-    pub(crate) x: i64,
-    pub(crate) y: i64,
-}
+use oas_lex::{ShotFields, TRAPEZOID, TRAPEZOID_A, TRAPEZOID_B, signed, unsigned};
 
 /// Whether the text stands among the bytes at `at`.
 pub(crate) fn stands_at(bytes: &[u8], at: usize, text: &[u8]) -> bool
@@ -106,10 +81,10 @@ fn has_right(id: u8) -> bool
 }
 
 /// The fields of the record at `at`, as far as they can be read.
-pub(crate) fn fields_at(bytes: &[u8], at: usize) -> Fields
+pub(crate) fn fields_at(bytes: &[u8], at: usize) -> ShotFields
     requires { at < length bytes.now }
     ensures narrow { AreNarrow result }
-    ensures read { (f : Fields) (after : List ℕ) → AreNarrow f → drop at bytes.now ≡ text_of f ++ after → result ≡ f }
+    ensures read { (f : ShotFields) (after : List ℕ) → AreNarrow f → drop at bytes.now ≡ text_of f ++ after → result ≡ f }
 {
     let id = byte_at(bytes, at);
     let left_there = has_left(id);
@@ -123,7 +98,7 @@ pub(crate) fn fields_at(bytes: &[u8], at: usize) -> Fields
     let (right_delta, after_right) = delta_at(bytes, after_left, right_there);
     let (x, after_x) = signed_at(bytes, after_right);
     let (y, _after_y) = signed_at(bytes, after_x);
-    Fields {
+    ShotFields {
         layer,
         datatype,
         width,
@@ -133,51 +108,4 @@ pub(crate) fn fields_at(bytes: &[u8], at: usize) -> Fields
         x,
         y,
     }
-}
-
-fn id_for(left_delta: i64, right_delta: i64) -> u8
-    ensures { result ≡ id_for left_delta right_delta }
-{
-    if left_delta == 0 {
-        if right_delta == 0 {
-            RECTANGLE
-        } else {
-            TRAPEZOID_B
-        }
-    } else if right_delta == 0 {
-        TRAPEZOID_A
-    } else {
-        TRAPEZOID
-    }
-}
-
-// Appends a delta, which isn't written where it is 0.
-fn put_delta(spell: &mut Spell, delta: i64)
-    requires narrow { unsigned_abs delta < 2 ^ 62 }
-    requires room { length spell.old + 9 ≤ 80 }
-    ensures value { spell.new ≡ spell.old ++ delta_text delta }
-    ensures size { length spell.new ≤ length spell.old + 9 }
-{
-    if delta != 0 {
-        spell.put_signed(delta);
-    }
-}
-
-/// The one spelling of the fields.
-pub(crate) fn spell_fields(fields: &Fields) -> Spell
-    requires { AreNarrow fields.now }
-    ensures { result ≡ text_of fields.now }
-{
-    let mut spell = Spell::new();
-    spell.push(id_for(fields.left_delta, fields.right_delta));
-    spell.push(INFO);
-    spell.put_unsigned(fields.layer);
-    spell.put_unsigned(fields.datatype);
-    spell.put_unsigned(fields.width);
-    spell.put_unsigned(fields.height);
-    put_delta(&mut spell, fields.left_delta);
-    put_delta(&mut spell, fields.right_delta);
-    spell.put_signed(fields.x);
-    spell.put_signed(fields.y);
-    spell
 }

@@ -8,13 +8,13 @@ ghost use Rattle.shot_reader.specs.Refusals.{IsRecordFault, IsFirstFault};
 ghost use Rattle.shot_reader.specs.declared.refusing.ShotBad.{ShotBad};
 
 use crate::corners::trap_of;
-use crate::fields::{fields_at, spell_fields, stands_at};
+use crate::fields::{fields_at, stands_at};
 use crate::head::{head_of, longest_head};
 use crate::refusing::{ShotBad, record_refusal};
 use geo_stream::List;
 use half_grid::Trap;
 use layout_model::Pair;
-use oas_lex::end_text;
+use oas_lex::{end_text, spell_fields};
 use std::alloc::Global;
 
 /// The first byte of END.

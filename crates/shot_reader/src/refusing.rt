@@ -2,8 +2,8 @@
 ghost use Rattle.std.specs.Prelude.{◌≡◌, ◌⊎◌, ◌≤◌, ℕ, length, drop, nat_lt, count_by, IsTrue, IfSome};
 ghost use Rattle.shot_reader.specs.Refusals.{HasNumbers, IsWhole};
 
-use crate::fields::INFO;
 use geo_stream::NoMemory;
+use oas_lex::{INFO, RECTANGLE, TRAPEZOID, TRAPEZOID_A, TRAPEZOID_B};
 
 /// The first fault of bytes that are no shot file, by the offset of the record that has it.
 #[derive(Clone, Copy, Debug, PartialEq, Eq)]
@@ -37,9 +37,9 @@ fn numbers_of(id: u8) -> Option<usize>
     ensures all { (count : ℕ) → HasNumbers id count → result ≡ Some count }
 {
     match id {
-        20 => Some(6),
-        23 => Some(8),
-        24 | 25 => Some(7),
+        RECTANGLE => Some(6),
+        TRAPEZOID => Some(8),
+        TRAPEZOID_A | TRAPEZOID_B => Some(7),
         _ => None,
     }
 }

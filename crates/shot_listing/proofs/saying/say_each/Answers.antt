@@ -1,7 +1,8 @@
 use Rattle.std.proofs.Common.{Bor, ℕ, List, []}
 use Rattle.std.proofs.lemmas.List.{take_more}
 use Rattle.std.proofs.lemmas.Result.{on_err_weaker}
-use Rattle.shot_listing.proofs.SaidSoFar.{refused, part_of_texts, part_of_more_texts}
+use Rattle.depot.proofs.ForCallers.{refused}
+use Rattle.shot_listing.proofs.SaidSoFar.{part_of_texts, part_of_more_texts}
 use Rattle.shot_listing.proofs.saying.say_each.Goals as goal
 
 pub returns-in_err-put_piece-clause-refused : goal.returns-in_err-put_piece-clause-refused

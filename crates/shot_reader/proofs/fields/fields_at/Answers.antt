@@ -1,9 +1,9 @@
 use Rattle.std.proofs.Common.{◌≡◌, ◌+◌, ℕ, length, drop, ap, sym, ◌∙◌, arith, FitsSigned, w64, rules}
 use Rattle.std.proofs.lemmas.Int.{to_z-of_z}
 use Rattle.std.proofs.lemmas.List.{drop-drop, length-drop}
-use Rattle.shot_reader.specs.Fields.{id_for}
+use Rattle.oas_lex.specs.ShotText.{id_for}
+use Rattle.oas_lex.proofs.ForCallers.{text_opens, same_fields}
 use Rattle.shot_reader.proofs.Ids.{byte_is, left_there, right_there}
-use Rattle.shot_reader.proofs.Names.{text_opens, same_fields}
 use Rattle.shot_reader.proofs.fields.fields_at.Goals as goal
 
 pub returns-clause-read : goal.returns-clause-read

@@ -1,6 +1,7 @@
 use Rattle.std.proofs.Common.{◌++◌, length, drop, ap, ◌∙◌}
 use Rattle.std.proofs.lemmas.List.{drop-drop}
-use Rattle.shot_reader.proofs.Places.{rest_is, stands_by, begins_by}
+use Rattle.oas_lex.proofs.ForCallers.{rest_is}
+use Rattle.shot_reader.proofs.Places.{stands_by, begins_by}
 use Rattle.shot_reader.proofs.fields.stands_at.Goals as goal
 
 pub returns-clause-stands : goal.returns-clause-stands

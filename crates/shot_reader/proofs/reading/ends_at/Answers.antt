@@ -1,7 +1,8 @@
 use Rattle.std.proofs.Common.{drop, sym, ◌∙◌}
 use Rattle.std.specs.Cmp.Lexicographic.{same_text}
 use Rattle.oas_lex.specs.ShotText.{end}
-use Rattle.shot_reader.proofs.Places.{rest_is, same_by}
+use Rattle.oas_lex.proofs.ForCallers.{rest_is}
+use Rattle.shot_reader.proofs.Places.{same_by}
 use Rattle.shot_reader.proofs.reading.ends_at.Goals as goal
 
 pub returns : goal.returns

@@ -1,7 +1,6 @@
-use Rattle.std.proofs.Common.{◌≡◌, ◌+◌, ◌++◌, length, drop, ap, refl, sym, ◌∙◌, arith}
-use Rattle.oas_lex.specs.ShotText.{spelling_of}
-use Rattle.shot_reader.specs.Fields.{text_of}
-use Rattle.shot_reader.proofs.Texts.{text_is, text_some}
+use Rattle.std.proofs.Common.{◌≡◌, ◌+◌, ◌++◌, length, drop, ap, sym, ◌∙◌, arith}
+use Rattle.oas_lex.specs.ShotText.{spelling_of, text_of}
+use Rattle.oas_lex.proofs.ForCallers.{spelling_is, text_some}
 use Rattle.shot_reader.proofs.Records.{not_begun, unspelled, other_pair, no_shot}
 use Rattle.shot_reader.proofs.reading.read_record.Goals as goal
 
@@ -29,7 +28,7 @@ returns-in-None-clause-refused c =
     (c.agrees.ensures.0 c.if-not-agrees.false) (λ z h s. let w = c.in-None.ensures.all z h s in absurd (cc))
 
 spelled : (c : goal.After-bytes-in-Some) → c.bytes-in-Some.result.now ≡ spelling_of c.fields_at-fields.result.layer c.fields_at-fields.result.datatype c.in-Some.shot
-spelled c = c.bytes-in-Some.ensures.value ∙ (c.spell_fields-spelled.ensures ∙ text_is c.fields_at-fields.result c.fields_at-fields.result.layer c.fields_at-fields.result.datatype c.in-Some.shot refl refl c.in-Some.ensures.some.1)
+spelled c = c.bytes-in-Some.ensures.value ∙ (c.spell_fields-spelled.ensures ∙ (ap text_of c.in-Some.ensures.some.1 ∙ sym (spelling_is c.fields_at-fields.result.layer c.fields_at-fields.result.datatype c.in-Some.shot)))
 
 stood : (c : goal.After-bytes-in-Some) → drop c.args.at c.args.bytes.now ≡ c.bytes-in-Some.result.now ++ drop (c.args.at + length c.bytes-in-Some.result.now) c.args.bytes.now
 stood c =

@@ -1,13 +1,9 @@
-use Rattle.std.proofs.Common.{◌++◌, ◌∷◌, [], ℕ, ap, subst, append_assoc, List, OnErr, Result, Ok, Err, arith, sym, ◌∙◌}
+use Rattle.std.proofs.Common.{◌++◌, ◌∷◌, [], ℕ, ap, subst, append_assoc, List, arith, sym, ◌∙◌}
 use Rattle.depot.specs.Content.{Content}
-use Rattle.depot.proofs.ForCallers.{NeverFall-trans}
+use Rattle.depot.proofs.ForCallers.{NeverFall-trans, refused}
 use Rattle.shot_writer.specs.Writing.{IsWrittenButFor}
 use Rattle.shot_writer.proofs.SoFar.{one_more, refused_part, all_poured}
 use Rattle.shot_writer.proofs.pouring.pour.Goals as goal
-
-refused : {T E : Type 0} (r : Result T E) (P : Type 0) → P → OnErr r P
-refused (Ok answer) P p = tt
-refused (Err bad) P p = p
 
 pub returns-in_err-put_bytes-clause-refused : goal.returns-in_err-put_bytes-clause-refused
 returns-in_err-put_bytes-clause-refused g c = λ items stands.

@@ -13,8 +13,9 @@ returns-then-bottom-top-le0 c = λ shot.
     let top = simp to_z-of_z at c.in-Some-side_length.ensures.1 in
     omega (arith, ints, shot.legal.not_flat, shot.legal.bottom, shot.legal.top, shot.reach.bottom_left, shot.reach.bottom_right, shot.reach.top_left, shot.reach.top_right)
 
-pub invariant_of-result : goal.invariant_of-result
-invariant_of-result c =
+-- what the four numbers are, where each test was passed
+shot : (c : goal.Else-bottom-top-le0) → IsShot (trapezoid c.args.y0 c.args.y1 c.args.left c.args.right)
+shot c =
     let first : FitsSigned w64 c.args.y0 = c.ranges.y0 in
     let last : FitsSigned w64 c.args.y1 = c.ranges.y1 in
     let bottom_side = simp to_z-of_z at c.in-Some.ensures.0 in
@@ -26,23 +27,16 @@ invariant_of-result c =
     let rows : c.args.y0 <ℤ c.args.y1 = omega (arith, ints) in
     let area : pos 0 <ℤ (side_length c.args.left c.args.right c.args.y0 +ℤ side_length c.args.left c.args.right c.args.y1) =
     omega (arith, ints, bottom_side.left_end, bottom_side.right_end, top_side.left_end, top_side.right_end) in
-    let shot : IsShot (trapezoid c.args.y0 c.args.y1 c.args.left c.args.right) =
-    shot_of_sides c.args.y0 c.args.y1 c.args.left c.args.right low high rows bottom_side top_side area in
-    simp to_z-of_z shot
+    shot_of_sides c.args.y0 c.args.y1 c.args.left c.args.right low high rows bottom_side top_side area
+
+pub invariant_of-result : goal.invariant_of-result
+invariant_of-result c =
+    let first : FitsSigned w64 c.args.y0 = c.ranges.y0 in
+    let last : FitsSigned w64 c.args.y1 = c.ranges.y1 in
+    simp to_z-of_z (shot c)
 
 pub returns : goal.returns
 returns c =
     let first : FitsSigned w64 c.args.y0 = c.ranges.y0 in
     let last : FitsSigned w64 c.args.y1 = c.ranges.y1 in
-    let bottom_side = simp to_z-of_z at c.in-Some.ensures.0 in
-    let top_side = simp to_z-of_z at c.in-Some-side_length.ensures.0 in
-    let bottom = simp to_z-of_z at c.in-Some.ensures.1 in
-    let top = simp to_z-of_z at c.in-Some-side_length.ensures.1 in
-    let low = simp to_z-of_z at (c.if-not-is_within_reach.ensures.0 refl) in
-    let high = simp to_z-of_z at (c.if-not-is_within_reach-2.ensures.0 refl) in
-    let rows : c.args.y0 <ℤ c.args.y1 = omega (arith, ints) in
-    let area : pos 0 <ℤ (side_length c.args.left c.args.right c.args.y0 +ℤ side_length c.args.left c.args.right c.args.y1) =
-    omega (arith, ints, bottom_side.left_end, bottom_side.right_end, top_side.left_end, top_side.right_end) in
-    let shot : IsShot (trapezoid c.args.y0 c.args.y1 c.args.left c.args.right) =
-    shot_of_sides c.args.y0 c.args.y1 c.args.left c.args.right low high rows bottom_side top_side area in
-    (shot, simp to_z-of_z)
+    (shot c, simp to_z-of_z)
