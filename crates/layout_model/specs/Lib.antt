@@ -1,6 +1,5 @@
 pub mod Products
 pub mod Names
-pub mod Points
 pub mod Grids
 pub mod Offsets
 pub mod Images

@@ -6,27 +6,28 @@ ghost use Rattle.layout_model.specs.Grids.{IsGrid, grid_place, grid_places, nth_
 use crate::products::times;
 use geo_stream::NoMemory;
 use half_grid::Point;
+use smallvec::SmallVec;
 use std::alloc::Global;
 use std::marker::Model;
 
-// The places `a*u + b*v` for `a < nu`, `b < nv`, where `a` runs fastest.
+// The places `a*u + b*v` for `a < nu`, `b < nv`, where `a` runs fastest. The counts are below 2^32, and so narrow that
+// a shape stays small.
 #[derive(Clone, Copy, Debug)]
 struct Grid {
-    nu: u64,
-    nv: u64,
+    nu: u32,
+    nv: u32,
     u: Point,
     v: Point,
 }
 
 #[derive(Debug, Drop)]
 enum Places {
-    One(Point),
-    Listed(Vec<Point>),
+    Listed(SmallVec<Point, 1>),
     Regular(Grid),
 }
 
-/// The places at which a shape or a placed cell stands: a list of moves. A grid is kept by its four numbers, and one
-/// place takes no memory. Contracts see the list.
+/// The places at which a shape or a placed cell stands: a list of moves. A grid is kept by its two counts and two
+/// steps, and one place takes no memory. Contracts see the list.
 #[derive(Debug, Drop)]
 pub struct Offsets {
     places: Places,
@@ -85,7 +86,8 @@ impl Grid {
         requires inside { k < self.nu * self.nv }
         ensures { result ≡ nth_place self.nu self.u self.v k }
     {
-        self.at(k % self.nu, k / self.nu)
+        let columns = u64::from(self.nu);
+        self.at(k % columns, k / columns)
     }
 }
 
@@ -95,11 +97,7 @@ impl Offsets {
         ensures ok { IfOk result (λ offsets. offsets ≡ places.now) }
         ensures one { length places.now ≡ 1 → IsOk result }
     {
-        if places.len() == 1 {
-            let places = Places::One(places[0]);
-            return Ok(Offsets { places });
-        }
-        let places = Places::Listed(Vec::from_slice(alloc, places)?);
+        let places = Places::Listed(SmallVec::from_slice(alloc, places)?);
         Ok(Offsets { places })
     }
 
@@ -110,6 +108,7 @@ impl Offsets {
         requires { IsGrid nu nv u v }
         ensures { result ≡ grid_places nu nv u v }
     {
+        let (nu, nv) = (nu as u32, nv as u32);
         let places = Places::Regular(Grid { nu, nv, u, v });
         Offsets { places }
     }
@@ -120,9 +119,6 @@ impl Offsets {
         ensures one { length self.now ≡ 1 → IsOk result }
     {
         match &self.places {
-            Places::One(place) => Ok(Offsets {
-                places: Places::One(*place),
-            }),
             Places::Listed(places) => Offsets::list(alloc, places.as_slice()),
             Places::Regular(grid) => Ok(Offsets {
                 places: Places::Regular(*grid),
@@ -135,9 +131,8 @@ impl Offsets {
         ensures { result ≡ length self.now }
     {
         match &self.places {
-            Places::One(_) => 1,
             Places::Listed(places) => places.len() as u64,
-            Places::Regular(grid) => grid.nu * grid.nv,
+            Places::Regular(grid) => u64::from(grid.nu) * u64::from(grid.nv),
         }
     }
 
@@ -147,8 +142,7 @@ impl Offsets {
         ensures { slice_get self.now k ≡ Some result }
     {
         match &self.places {
-            Places::One(place) => *place,
-            Places::Listed(places) => places[k as usize],
+            Places::Listed(places) => places.as_slice()[k as usize],
             Places::Regular(grid) => grid.place(k),
         }
     }

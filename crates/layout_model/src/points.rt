@@ -1,26 +1,18 @@
-ghost use Rattle.std.specs.Prelude.{◌≡◌, ◌≤◌, length, take, IfOk, IsOk};
+ghost use Rattle.std.specs.Prelude.{◌≡◌, ◌≤◌, length, IfOk, IsOk};
 
 use geo_stream::NoMemory;
 use half_grid::Point;
+use smallvec::SmallVec;
 use std::alloc::Global;
 use std::marker::Model;
 
 // So many points take no memory.
 const FEW: usize = 8;
 
-const ORIGIN: Point = Point { x: 0, y: 0 };
-
-#[derive(Debug, Drop)]
-enum Kept {
-    // The first so many points of the array.
-    Few([Point; FEW], usize),
-    Many(Vec<Point>),
-}
-
 /// A list of points. Up to eight of them take no memory. Contracts see the list.
 #[derive(Debug, Drop)]
 pub struct Points {
-    kept: Kept,
+    kept: SmallVec<Point, FEW>,
 }
 
 impl Model for Points {
@@ -29,21 +21,7 @@ impl Model for Points {
 
     ghost Value = { List APoint };
 
-    ghost use Rattle.layout_model.specs.Points.{kept_points, IsKept};
-
-    ghost view = { λ points. kept_points points.kept };
-
-    ghost invariant = { λ points. IsKept points.kept };
-}
-
-// The array that begins with the points.
-fn in_place(points: &[Point]) -> [Point; FEW]
-    requires { length points.now ≤ FEW }
-    ensures { take (length points.now) result ≡ points.now }
-{
-    let mut few = [ORIGIN; FEW];
-    few[..points.len()].copy_from_slice(points);
-    few
+    ghost view = { λ points. points.kept.items };
 }
 
 impl Points {
@@ -52,11 +30,7 @@ impl Points {
         ensures ok { IfOk result (λ list. list ≡ points.now) }
         ensures few { length points.now ≤ 8 → IsOk result }
     {
-        if points.len() <= FEW {
-            let kept = Kept::Few(in_place(points), points.len());
-            return Ok(Points { kept });
-        }
-        let kept = Kept::Many(Vec::from_slice(alloc, points)?);
+        let kept = SmallVec::from_slice(alloc, points)?;
         Ok(Points { kept })
     }
 
@@ -64,9 +38,6 @@ impl Points {
     pub fn as_slice(&self) -> &[Point]
         ensures { result.now ≡ self.now }
     {
-        match &self.kept {
-            Kept::Few(points, used) => &points[..*used],
-            Kept::Many(points) => points.as_slice(),
-        }
+        self.kept.as_slice()
     }
 }

@@ -1,7 +1,6 @@
 use Rattle.std.proofs.Common.{sym, ap, ◌≡◌, ◌<◌, ◌*◌, ◌∙◌, Some, length, slice_get, arith}
-use Rattle.std.proofs.lemmas.Option.{slice_get-get_or}
 use Rattle.layout_model.specs.Offsets.{list_of}
-use Rattle.layout_model.specs.declared.offsets.Places.TheVariants.{Regular, Listed}
+use Rattle.layout_model.specs.declared.offsets.Places.TheVariants.{Regular}
 use Rattle.layout_model.proofs.GridLemmas.{grid_count, grid_nth}
 use Rattle.layout_model.proofs.offsets.Offsets.nth.Goals as goal
 
@@ -10,12 +9,6 @@ place-requires-clause-inside c =
     let list : list_of (Regular c.in-Regular.grid) ≡ c.args.self.now = ap list_of (sym c.in-Regular.is) ∙ c.self.view_is in
     let count = sym (ap length list) ∙ grid_count c.in-Regular.grid.nu c.in-Regular.grid.nv c.in-Regular.grid.u c.in-Regular.grid.v in
     omega (arith, count, c.requires)
-
-pub returns-in-Listed : goal.returns-in-Listed
-returns-in-Listed c =
-    let list : list_of (Listed c.in-Listed.places) ≡ c.args.self.now = ap list_of (sym c.in-Listed.is) ∙ c.self.view_is in
-    let inside : c.args.k < length c.in-Listed.places.items = omega (arith, ap length list, c.requires) in
-    sym (ap (λ xs. slice_get xs c.args.k) list) ∙ slice_get-get_or c.in-Listed.places.items c.args.k c.index.result.now inside ∙ ap Some (sym c.index.ensures)
 
 pub returns-in-Regular : goal.returns-in-Regular
 returns-in-Regular c =
