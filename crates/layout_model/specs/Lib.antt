@@ -1,3 +1,4 @@
+pub mod Pairs
 pub mod Products
 pub mod Names
 pub mod Grids

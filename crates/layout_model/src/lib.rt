@@ -23,7 +23,7 @@ pub use cells::{Cell, Counts, Layout, Placement};
 pub use names::{Name, NameBad};
 pub use offsets::Offsets;
 pub use orient::{Orient, image};
-pub use pair::Pair;
+pub use pair::{Pair, pair_law};
 pub use paths::{PathBad, path_laws, path_shapes};
 pub use points::Points;
 pub use shapes::{Shape, ShapeBad};
