@@ -1,11 +1,14 @@
 //! Each call at its happy path, and the refusals.
-ghost use Rattle.std.specs.Prelude.{◌≡◌, ◌^◌, pos, ◌≤ℤ◌, All};
-ghost use Rattle.layout_model.specs.Layouts.{IsWithin};
+ghost use Rattle.std.specs.Prelude.{◌≡◌, ◌^◌, pos, ◌≤ℤ◌, [], ◌∷◌, All};
+ghost use Rattle.layout_model.specs.Layouts.{IsWithin, IsShapeOnGrid, IsPlacementOnGrid, IsLayoutOnGrid};
+ghost use Rattle.layout_model.specs.Names.{IsName};
 ghost use Rattle.layout_model.specs.PathBounds.{IsNear};
 
 use crate::{
-    Name, NameBad, Offsets, Orient, Pair, PathBad, Points, Shape, ShapeBad, image, path_shapes,
+    Cell, Counts, Layout, Name, NameBad, Offsets, Orient, Pair, PathBad, Placement, Points, Shape,
+    ShapeBad, image, pair_law, path_laws, path_shapes,
 };
+use geo_stream::List;
 use half_grid::{Point, Side, Tile, winding_at};
 use std::alloc::Global;
 use std::process::Abort;
@@ -32,6 +35,19 @@ fn orient(flip: bool, turns: u8, mag: u8) -> Orient
     ensures mag { result.mag ≡ mag }
 {
     Orient { flip, turns, mag }
+}
+
+#[test]
+fn laws() {
+    pair_law();
+    path_laws();
+}
+
+#[test]
+fn pairs_by_layer_then_datatype(rt: HostRuntime) {
+    let pair = |layer: u64, datatype: u64| Pair { layer, datatype };
+    assert!(rt; pair(1, 9) < pair(2, 0) && pair(1, 0) < pair(1, 9));
+    assert!(rt; pair(2, 0) > pair(1, 9) && pair(1, 9) <= pair(1, 9));
 }
 
 #[test]
@@ -134,6 +150,97 @@ fn shapes_have_grid_edges(rt: HostRuntime) {
     let place = Offsets::list(rt.alloc(), &[point(0, 0)]).expect(&rt, "memory");
     let refused = Shape::new(rt.alloc(), pair, &slanted, place);
     assert!(rt; matches!(refused, Err(ShapeBad::Slant(2))));
+}
+
+// A layout may have millions of shapes. One takes 216 bytes: 16 for its pair, 144 for its points, 48 for its offsets
+// and 8 for its mark.
+#[test]
+fn a_shape_is_lean(rt: HostRuntime) {
+    assert_eq!(rt; size_of::<Points>(), 144);
+    assert_eq!(rt; size_of::<Offsets>(), 48);
+    assert_eq!(rt; size_of::<Shape>(), 216);
+}
+
+fn name(rt: &impl Abort, alloc: Global, bytes: &[u8]) -> Name
+    ensures { result ≡ bytes.now }
+{
+    Name::new(alloc, bytes).expect(rt, "a name")
+}
+
+fn only<T: Drop>(rt: &impl Abort, alloc: Global, item: T) -> List<T>
+    ensures { result ≡ item ∷ [] }
+{
+    let mut list = List::new(alloc);
+    assert!(rt; list.push(item).is_ok(), "memory");
+    list
+}
+
+const RING: [Point; 5] = [
+    Point { x: 0, y: 0 },
+    Point { x: 20, y: 0 },
+    Point { x: 20, y: 20 },
+    Point { x: 0, y: 20 },
+    Point { x: 0, y: 0 },
+];
+
+const PLACES: [Point; 2] = [Point { x: 0, y: 0 }, Point { x: 40, y: -2 }];
+
+// A square of 10 grid steps, at two places.
+fn square(rt: &impl Abort, alloc: Global) -> Shape
+    ensures { IsShapeOnGrid result }
+{
+    let places = Offsets::list(alloc, &PLACES).expect(rt, "memory");
+    Shape::new(alloc, PAIR, &RING, places).expect(rt, "a shape")
+}
+
+// PART, mirrored and turned once.
+fn part_placed(rt: &impl Abort, alloc: Global) -> Placement
+    ensures { IsPlacementOnGrid result }
+{
+    Placement {
+        target: name(rt, alloc, b"PART"),
+        orient: orient(true, 1, 1),
+        at: point(100, -40),
+        offsets: Offsets::list(alloc, &[point(0, 0)]).expect(rt, "memory"),
+    }
+}
+
+// A cell with a square, and one that places it.
+fn two_cells(rt: &impl Abort, alloc: Global) -> Layout
+    ensures { IsLayoutOnGrid result }
+{
+    let part = Cell {
+        name: name(rt, alloc, b"PART"),
+        shapes: only(rt, alloc, square(rt, alloc)),
+        placements: List::new(alloc),
+    };
+    let top = Cell {
+        name: name(rt, alloc, b"TOP"),
+        shapes: List::new(alloc),
+        placements: only(rt, alloc, part_placed(rt, alloc)),
+    };
+    let mut cells = only(rt, alloc, part);
+    assert!(rt; cells.push(top).is_ok(), "memory");
+    let counts = Counts {
+        kept: 1,
+        other: 0,
+        texts: 0,
+        nodes: 0,
+        boxes: 0,
+        properties: 0,
+    };
+    Layout { cells, counts }
+}
+
+#[test]
+fn a_layout_with_a_placement_is_on_the_grid(rt: HostRuntime) {
+    let layout = two_cells(&rt, rt.alloc());
+    let cells = layout.cells.as_slice();
+    assert_eq!(rt; cells.len(), 2);
+    assert_eq!(rt; cells[0].shapes.as_slice().len(), 1);
+    let placed = cells[1].placements.as_slice();
+    assert_eq!(rt; placed.len(), 1);
+    assert!(rt; placed[0].target == cells[0].name);
 }
 
 const PAIR: Pair = Pair {
