@@ -12,3 +12,4 @@ mod AreaLemmas
 mod NearLemmas
 mod SegmentLemmas
 mod CornerLemmas
+mod HullLemmas

@@ -2,6 +2,7 @@ pub mod Pairs
 pub mod Products
 pub mod Names
 pub mod Grids
+pub mod Hulls
 pub mod Offsets
 pub mod Images
 pub mod Slants

@@ -1,11 +1,13 @@
-ghost use Rattle.std.specs.Prelude.{◌≡◌, ◌<◌, ◌*◌, ◌^◌, pos, ◌+ℤ◌, ◌*ℤ◌, Some, length, slice_get, IfOk, IsOk};
+ghost use Rattle.std.specs.Int.{int_min, int_max};
+ghost use Rattle.std.specs.Prelude.{◌≢◌, [], ◌∷◌, ℕ, ◌≤◌, ◌≤ℤ◌, ◌≡◌, ◌<◌, ◌*◌, ◌^◌, pos, ◌+ℤ◌, ◌*ℤ◌, Some, length, slice_get, IfOk, IsOk};
 ghost use Rattle.half_grid.specs.Reach.{IsWithinReach};
 ghost use Rattle.layout_model.specs.Products.{IsProduct};
 ghost use Rattle.layout_model.specs.Grids.{IsGrid, grid_place, grid_places, nth_place};
+ghost use Rattle.layout_model.specs.Hulls.{IsLeastBoxOf};
 
 use crate::products::times;
 use geo_stream::NoMemory;
-use half_grid::Point;
+use half_grid::{Frame, Point};
 use smallvec::SmallVec;
 use std::alloc::Global;
 use std::marker::Model;
@@ -91,6 +93,124 @@ impl Grid {
     }
 }
 
+// Which of so many steps from 0 on goes least far to the right.
+fn left_step(count: u32, step: Point) -> u64
+    requires { 1 ≤ count }
+    ensures inside { result < count }
+    ensures least { (a : ℕ) → a < count → (pos result *ℤ step.x) ≤ℤ (pos a *ℤ step.x) }
+{
+    if step.x < 0 {
+        u64::from(count) - 1
+    } else {
+        0
+    }
+}
+
+// Which of them goes least far up.
+fn bottom_step(count: u32, step: Point) -> u64
+    requires { 1 ≤ count }
+    ensures inside { result < count }
+    ensures least { (a : ℕ) → a < count → (pos result *ℤ step.y) ≤ℤ (pos a *ℤ step.y) }
+{
+    if step.y < 0 {
+        u64::from(count) - 1
+    } else {
+        0
+    }
+}
+
+// Which of them goes farthest to the right.
+fn right_step(count: u32, step: Point) -> u64
+    requires { 1 ≤ count }
+    ensures inside { result < count }
+    ensures greatest { (a : ℕ) → a < count → (pos a *ℤ step.x) ≤ℤ (pos result *ℤ step.x) }
+{
+    if step.x < 0 {
+        0
+    } else {
+        u64::from(count) - 1
+    }
+}
+
+// Which of them goes farthest up.
+fn top_step(count: u32, step: Point) -> u64
+    requires { 1 ≤ count }
+    ensures inside { result < count }
+    ensures greatest { (a : ℕ) → a < count → (pos a *ℤ step.y) ≤ℤ (pos result *ℤ step.y) }
+{
+    if step.y < 0 {
+        0
+    } else {
+        u64::from(count) - 1
+    }
+}
+
+impl Grid {
+    // The least box of its places, by four of its corners.
+    fn hull(self) -> Frame
+        requires { IsGrid self.nu self.nv self.u self.v }
+        ensures { IsLeastBoxOf (grid_places self.nu self.nv self.u self.v) result }
+    {
+        let left = self.at(left_step(self.nu, self.u), left_step(self.nv, self.v));
+        let bottom = self.at(bottom_step(self.nu, self.u), bottom_step(self.nv, self.v));
+        let right = self.at(right_step(self.nu, self.u), right_step(self.nv, self.v));
+        let top = self.at(top_step(self.nu, self.u), top_step(self.nv, self.v));
+        box_between(left, bottom, right, top)
+    }
+}
+
+// The box with these points on its sides.
+fn box_between(left: Point, bottom: Point, right: Point, top: Point) -> Frame
+    ensures x0 { result.x0 ≡ left.x }
+    ensures y0 { result.y0 ≡ bottom.y }
+    ensures x1 { result.x1 ≡ right.x }
+    ensures y1 { result.y1 ≡ top.y }
+{
+    Frame {
+        x0: left.x,
+        y0: bottom.y,
+        x1: right.x,
+        y1: top.y,
+    }
+}
+
+// The least box that has a box and a point.
+fn box_with(hull: &Frame, p: &Point) -> Frame
+    ensures x0 { result.x0 ≡ int_min hull.now.x0 p.now.x }
+    ensures y0 { result.y0 ≡ int_min hull.now.y0 p.now.y }
+    ensures x1 { result.x1 ≡ int_max hull.now.x1 p.now.x }
+    ensures y1 { result.y1 ≡ int_max hull.now.y1 p.now.y }
+{
+    Frame {
+        x0: hull.x0.min(p.x),
+        y0: hull.y0.min(p.y),
+        x1: hull.x1.max(p.x),
+        y1: hull.y1.max(p.y),
+    }
+}
+
+// The least box of a point and more.
+fn box_from(first: Point, rest: &[Point]) -> Frame
+    ensures { IsLeastBoxOf (first ∷ rest.now) result }
+{
+    let mut hull = box_between(first, first, first, first);
+    for p in rest {
+        hull = box_with(&hull, p);
+    }
+    hull
+}
+
+// The least box of points, of which there is one.
+fn box_of(points: &[Point]) -> Frame
+    requires { points.now ≢ [] }
+    ensures { IsLeastBoxOf points.now result }
+{
+    match points.split_first() {
+        Some((first, rest)) => box_from(*first, rest),
+        None => unreachable!(),
+    }
+}
+
 impl Offsets {
     /// These places. One place takes no memory.
     pub fn list(alloc: Global, places: &[Point]) -> Result<Offsets, NoMemory>
@@ -123,6 +243,18 @@ impl Offsets {
             Places::Regular(grid) => Ok(Offsets {
                 places: Places::Regular(*grid),
             }),
+        }
+    }
+
+    /// The least box of its places, of which there is one at least. That of a grid comes from its corners, so it takes
+    /// no longer for many places.
+    pub fn hull(&self) -> Frame
+        requires { self.now ≢ [] }
+        ensures { IsLeastBoxOf self.now result }
+    {
+        match &self.places {
+            Places::Listed(places) => box_of(places.as_slice()),
+            Places::Regular(grid) => grid.hull(),
         }
     }
 
