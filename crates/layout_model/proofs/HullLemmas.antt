@@ -35,10 +35,13 @@ pub grid_any : (P : Point → Type 0) (nu nv : ℕ) (u v : Point) (a b : ℕ) �
 grid_any P nu nv u v a b ha hb p =
     let k : ℕ = b * nu + a in
     let few : k < nu * nv = let m : (b + 1) * nu ≤ nv * nu = mul-le-mul (omega arith) (omega arith) in omega (arith, m) in
-    let is : nth_place nu u v k ≡ grid_place u v a b = rw (mod-mul-add b nu a ha, div-mul-add b nu a ha) refl in
-    (k, nth_place nu u v k, subst (λ n. k < n) (sym (grid_count nu nv u v)) few,
+    let is : nth_place nu u v k ≡ grid_place u v a b = rw (mod-mul-add b nu a ha, div-mul-add b nu a ha) refl in (
+      k,
+      nth_place nu u v k,
+      subst (λ n. k < n) (sym (grid_count nu nv u v)) few,
       get_or_from_slice_get (grid_places nu nv u v) k (nth_place nu u v k) (nth_place nu u v k) (grid_nth nu nv u v k few),
-      subst P (sym is) p)
+      subst P (sym is) p,
+    )
 
 -- both numbers of a place are within their counts
 pub column_inside : (nu k : ℕ) → 1 ≤ nu → k % nu < nu

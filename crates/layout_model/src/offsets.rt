@@ -99,11 +99,7 @@ fn left_step(count: u32, step: Point) -> u64
     ensures inside { result < count }
     ensures least { (a : ℕ) → a < count → (pos result *ℤ step.x) ≤ℤ (pos a *ℤ step.x) }
 {
-    if step.x < 0 {
-        u64::from(count) - 1
-    } else {
-        0
-    }
+    if step.x < 0 { u64::from(count) - 1 } else { 0 }
 }
 
 // Which of them goes least far up.
@@ -112,11 +108,7 @@ fn bottom_step(count: u32, step: Point) -> u64
     ensures inside { result < count }
     ensures least { (a : ℕ) → a < count → (pos result *ℤ step.y) ≤ℤ (pos a *ℤ step.y) }
 {
-    if step.y < 0 {
-        u64::from(count) - 1
-    } else {
-        0
-    }
+    if step.y < 0 { u64::from(count) - 1 } else { 0 }
 }
 
 // Which of them goes farthest to the right.
@@ -125,11 +117,7 @@ fn right_step(count: u32, step: Point) -> u64
     ensures inside { result < count }
     ensures greatest { (a : ℕ) → a < count → (pos a *ℤ step.x) ≤ℤ (pos result *ℤ step.x) }
 {
-    if step.x < 0 {
-        0
-    } else {
-        u64::from(count) - 1
-    }
+    if step.x < 0 { 0 } else { u64::from(count) - 1 }
 }
 
 // Which of them goes farthest up.
@@ -138,11 +126,7 @@ fn top_step(count: u32, step: Point) -> u64
     ensures inside { result < count }
     ensures greatest { (a : ℕ) → a < count → (pos a *ℤ step.y) ≤ℤ (pos result *ℤ step.y) }
 {
-    if step.y < 0 {
-        0
-    } else {
-        u64::from(count) - 1
-    }
+    if step.y < 0 { 0 } else { u64::from(count) - 1 }
 }
 
 impl Grid {

@@ -426,3 +426,14 @@ fn the_windings_of_a_corner(rt: HostRuntime) {
         assert!(rt; false, "two shapes");
     }
 }
+
+#[test]
+fn least_boxes(rt: HostRuntime) {
+    let grid = Offsets::grid(3, 2, point(-10, 4), point(0, 100));
+    let hull = grid.hull();
+    assert!(rt; hull.x0 == -20 && hull.y0 == 0 && hull.x1 == 0 && hull.y1 == 108);
+    let listed = [point(4, -2), point(-6, 0), point(0, 8)];
+    let listed = Offsets::list(rt.alloc(), &listed).expect(&rt, "places");
+    let hull = listed.hull();
+    assert!(rt; hull.x0 == -6 && hull.y0 == -2 && hull.x1 == 4 && hull.y1 == 8);
+}

@@ -16,14 +16,14 @@ returns c =
     let right = c.box_between.ensures.x1 ∙ ap (λ p. p.x) c.at-right.ensures in
     let top = c.box_between.ensures.y1 ∙ ap (λ p. p.y) c.at-top.ensures in
     let each : (k : ℕ) → k < nu * nv → IsInBox c.box_between.result (nth_place nu u v k) = λ k h.
-      let column : k % nu < nu = column_inside nu k c.requires.some_columns in
-      let row : k / nu < nv = row_inside nu nv k c.requires.some_columns h in
-      record {
-        left = rw left (sums_ordered _ _ _ _ (c.left_step.ensures.least (k % nu) column) (c.left_step-2.ensures.least (k / nu) row));
-        bottom = rw bottom (sums_ordered _ _ _ _ (c.bottom_step.ensures.least (k % nu) column) (c.bottom_step-2.ensures.least (k / nu) row));
-        right = rw right (sums_ordered _ _ _ _ (c.right_step.ensures.greatest (k % nu) column) (c.right_step-2.ensures.greatest (k / nu) row));
-        top = rw top (sums_ordered _ _ _ _ (c.top_step.ensures.greatest (k % nu) column) (c.top_step-2.ensures.greatest (k / nu) row));
-      } in
+    let column : k % nu < nu = column_inside nu k c.requires.some_columns in
+    let row : k / nu < nv = row_inside nu nv k c.requires.some_columns h in
+    record {
+      left = rw left (sums_ordered _ _ _ _ (c.left_step.ensures.least (k % nu) column) (c.left_step-2.ensures.least (k / nu) row));
+      bottom = rw bottom (sums_ordered _ _ _ _ (c.bottom_step.ensures.least (k % nu) column) (c.bottom_step-2.ensures.least (k / nu) row));
+      right = rw right (sums_ordered _ _ _ _ (c.right_step.ensures.greatest (k % nu) column) (c.right_step-2.ensures.greatest (k / nu) row));
+      top = rw top (sums_ordered _ _ _ _ (c.top_step.ensures.greatest (k % nu) column) (c.top_step-2.ensures.greatest (k / nu) row));
+    } in
     record {
       around = grid_all (IsInBox c.box_between.result) nu nv u v each;
       left = grid_any (λ p. p.x ≡ c.box_between.result.x0) nu nv u v c.left_step.result c.left_step-2.result c.left_step.ensures.inside c.left_step-2.ensures.inside (sym left);
