@@ -36,6 +36,7 @@ pub trait Depot {
             ⊎ (IsTrue tells × IsNotThere (content self.old) name.now) }
         ensures no_memory { IsErrOf result DepotBad.NoMemory
             → Rose (counts self.old).refused (counts self.new).refused }
+        ensures uncounted { OnOk result (counts self.new ≡ counts self.old) }
         ensures counted { NeverFall (counts self.old) (counts self.new) };
 
     /// Puts the next bytes of the started file first in the buffer and answers how many. It answers 0 at a
@@ -52,6 +53,7 @@ pub trait Depot {
             → Rose (counts self.old).read_faults (counts self.new).read_faults }
         ensures no_memory { IsErrOf result DepotBad.NoMemory
             → Rose (counts self.old).refused (counts self.new).refused }
+        ensures uncounted { OnOk result (counts self.new ≡ counts self.old) }
         ensures counted { NeverFall (counts self.old) (counts self.new) };
 
     /// Makes the file with no bytes; later writes go to it. After a refusal writes go nowhere, and the name
@@ -64,6 +66,8 @@ pub trait Depot {
             → Rose (counts self.old).write_faults (counts self.new).write_faults }
         ensures no_memory { IsErrOf result DepotBad.NoMemory
             → Rose (counts self.old).refused (counts self.new).refused }
+        ensures uncounted { OnOk result (counts self.new ≡ counts self.old) }
+        ensures reads { (counts self.new).read_faults ≡ (counts self.old).read_faults }
         ensures counted { NeverFall (counts self.old) (counts self.new) };
 
     /// Appends the first bytes of the piece to the started file and answers how many: at least one of a
@@ -79,6 +83,8 @@ pub trait Depot {
             → Rose (counts self.old).write_faults (counts self.new).write_faults }
         ensures no_memory { IsErrOf result DepotBad.NoMemory
             → Rose (counts self.old).refused (counts self.new).refused }
+        ensures uncounted { OnOk result (counts self.new ≡ counts self.old) }
+        ensures reads { (counts self.new).read_faults ≡ (counts self.old).read_faults }
         ensures counted { NeverFall (counts self.old) (counts self.new) };
 
     /// Says the first bytes of the piece on standard output and answers how many: at least one of a piece
@@ -93,5 +99,7 @@ pub trait Depot {
             → Rose (counts self.old).write_faults (counts self.new).write_faults }
         ensures no_memory { IsErrOf result DepotBad.NoMemory
             → Rose (counts self.old).refused (counts self.new).refused }
+        ensures uncounted { OnOk result (counts self.new ≡ counts self.old) }
+        ensures reads { (counts self.new).read_faults ≡ (counts self.old).read_faults }
         ensures counted { NeverFall (counts self.old) (counts self.new) };
 }
