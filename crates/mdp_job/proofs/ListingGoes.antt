@@ -3,7 +3,7 @@ use Rattle.std.proofs.Common.{◌≡◌, ◌≢◌, Some, inl, inr, ℕ, ◌≤�
 use Rattle.std.specs.Prelude.{flat_map}
 use Rattle.half_grid.specs.Trapezoids.{Trapezoid}
 use Rattle.depot.specs.Content.{Content, held_as, with_left}
-use Rattle.depot.specs.Counts.{Counts, NeverFall, Rose}
+use Rattle.depot.specs.Counts.{Counts, NeverFall}
 use Rattle.depot.proofs.ForCallers.{Rose-later}
 use Rattle.layout_model.specs.declared.pair.Pair.{Pair}
 use Rattle.oas_lex.specs.ShotText.{head, end, spelling_of, shot_text}

@@ -2,8 +2,8 @@
 use Rattle.std.proofs.Common.{◌≡◌, ℕ, zero, suc, ◌+◌, ◌-◌, ◌<◌, ◌≤◌, length, take, drop, Option, Some, None, List, [], ◌∷◌, ◌++◌, append_assoc, refl, arith, ap, sym, ◌∙◌, inl, inr, length-append}
 use Rattle.std.proofs.lemmas.List.{flat_map_more, append-nil, length-take-le, take-append-drop}
 use Rattle.std.proofs.lemmas.Bool.{cases_lt}
-use Rattle.std.proofs.Math.Seq.{take-append_seam, drop-append_seam}
-use Rattle.std.specs.Prelude.{All, flat_map}
+use Rattle.std.proofs.Math.Seq.{take-append_seam}
+use Rattle.std.specs.Prelude.{flat_map}
 use Rattle.half_grid.specs.Trapezoids.{Trapezoid, IsShot}
 use Rattle.layout_model.specs.declared.pair.Pair.{Pair}
 use Rattle.oas_lex.specs.ShotText.{IsUnit, head, end, spelling_of, text_of}
