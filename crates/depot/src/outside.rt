@@ -13,7 +13,8 @@ pub enum DepotBad {
 }
 
 /// A store of files, and standard output: all that the program uses of the outside. One file at a time is
-/// read, and one is written. Files that are made aren't seen by a read.
+/// read, and one is written. Files that are made aren't seen by a read. A call that succeeds counts nothing, and
+/// those that write or say never count a fault of reading.
 pub trait Depot {
     /// Whether the depot tells its content. The clauses on content hold for one that does.
     ghost tells: { Bool };

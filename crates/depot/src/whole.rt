@@ -51,7 +51,8 @@ impl From<AllocError> for Refused {
 
 /// All bytes of a file, if it has at most `limit`. A longer one is `TooLong`, and a name that isn't there is
 /// `Fault`. Each turn takes at least one byte. But for what is left to be read, the content of the depot is
-/// as before, also after a refusal.
+/// as before, also after a refusal. `NoMemory` comes where the depot counted a want of memory; where it counted
+/// nothing the memory for the bytes was wanting, and then the file is there.
 pub fn read_all<D: Depot>(
     alloc: Global,
     depot: &mut D,

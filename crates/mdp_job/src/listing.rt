@@ -31,7 +31,7 @@ fn refused_shots(bad: ShotBad) -> Status
 
 // Says the listing of a shot file.
 fn say_file<D: Depot>(file: &ShotFile, depot: &mut D) -> Status
-    requires { length file.now.shots ≤ 268435456 }
+    requires { length file.now.shots ≤ MOST_SHOTS }
     ensures told { IsTrue D.tells → IsTold
         (run_of (D.content depot.old) (D.content depot.new) (D.counts depot.old) (D.counts depot.new))
         (shot_data file.now) result }
