@@ -187,7 +187,7 @@ pub fn run<D: Depot>(alloc: Global, words: &[String], depot: &mut D) -> Status
     ensures write_counted { result ≡ Status.WriteFault
         → Rose (D.counts depot.old).write_faults (D.counts depot.new).write_faults }
 
-    // A fault is never told as another answer.
+    // After Done nothing was counted, and a counted fault of reading is answered as that.
     ensures faults_told { FaultsTold (D.counts depot.old) (D.counts depot.new) result }
 
     // What is said, and what refusals, faults and listings leave.
