@@ -1,4 +1,4 @@
-# Builds the program with the kit, and runs it on the example.
+# Tries, tests and builds the program with the kit, and runs it on the example.
 
 # the kit's command: the one on PATH, else where the kit stands
 RT := $(shell command -v rt 2>/dev/null || echo /opt/rattle/bin/rt)
@@ -6,7 +6,7 @@ RT := $(shell command -v rt 2>/dev/null || echo /opt/rattle/bin/rt)
 PROGRAM := build/nettletide
 SOURCES := crates.txt HANDLES $(shell find crates -name out -prune -o \( -name '*.rt' -o -name '*.antt' \) -print)
 
-.PHONY: all example clean
+.PHONY: all try test example clean
 
 all: $(PROGRAM)
 
@@ -17,6 +17,21 @@ $(PROGRAM): $(SOURCES)
 	rm -f crates/mdp_cli/out/mdp_cli crates/mdp_cli/out/mdp_cli.stamp
 	cd crates/mdp_cli && { $(RT) run; test -x out/mdp_cli; }
 	cp crates/mdp_cli/out/mdp_cli $(PROGRAM)
+
+# The kit runs the program on the example without any proof.
+try:
+	mkdir -p build
+	sed 's|square.oas|$(CURDIR)/build/try.oas|' example/square.deck >build/try.deck
+	cd crates/mdp_cli && $(RT) try -- fracture $(CURDIR)/example/square.gds $(CURDIR)/build/try.deck
+	cd crates/mdp_cli && $(RT) try -- shots $(CURDIR)/build/try.oas
+	@echo 'Nothing was proved here. make example proves and builds the program, and bash .ci/run proves and tests all.'
+
+# The kit runs each crate's tests without any proof.
+test:
+	@for crate in $$(grep -rl --include='*.rt' '#\[test\]' crates/*/src | cut -d/ -f2 | sort -u); do \
+	    echo "$$crate"; (cd crates/$$crate && $(RT) try --test) || exit 1; \
+	done
+	@echo 'Nothing was proved here. bash .ci/run proves and tests all.'
 
 example: $(PROGRAM)
 	cd example && ../$(PROGRAM) fracture square.gds square.deck

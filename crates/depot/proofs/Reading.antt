@@ -1,5 +1,6 @@
 -- What the reading of a whole file concludes from its parts.
-use Rattle.std.proofs.Common.{◌≡◌, ℕ, ◌<◌, ◌≤◌, List, length, Option, None, Some, Result, Err, IsSomeAnd, arith}
+use Rattle.std.proofs.Common.{◌≡◌, ◌⊎◌, inl, inr, ℕ, ◌<◌, ◌≤◌, List, [], ◌++◌, length, Option, None, Some, Result, Err, IsSomeAnd, arith, sym, subst, ◌∙◌}
+use Rattle.depot.specs.Counts.{Counts, Rose}
 use Rattle.depot.specs.declared.outside.DepotBad.{DepotBad}
 use Rattle.depot.specs.declared.outside.DepotBad.TheVariants as depot
 use Rattle.depot.specs.declared.whole.Refused.TheVariants as whole
@@ -28,3 +29,14 @@ not_longer (Some b) bytes limit e le long =
 
 pub not_missing : (held : Option (List ℕ)) (bytes : List ℕ) → held ≡ Some bytes → held ≡ None → ⊥
 not_missing held bytes e f = cc
+
+-- what is left of a file is longer than the limit, and so is the file
+pub longer : (held : Option (List ℕ)) (first left : List ℕ) (limit : ℕ) → held ≡ Some left → first ≡ [] → limit < length (first ++ left) → IsSomeAnd held (λ b. limit < length b)
+longer held first left limit e none more =
+    let whole : limit < length left = subst (λ (t : List ℕ). limit < length (t ++ left)) none more in
+    subst (λ o. IsSomeAnd o (λ b. limit < length b)) (sym e) whole
+
+-- nothing was counted, and then a want of memory or nothing
+pub want_or_nothing : (o p q : Counts) → p ≡ o → Rose p.refused q.refused ⊎ (q ≡ p) → Rose o.refused q.refused ⊎ (q ≡ o)
+want_or_nothing o p q e (inl rose) = inl (subst (λ (c : Counts). Rose c.refused q.refused) e rose)
+want_or_nothing o p q e (inr same) = inr (same ∙ e)

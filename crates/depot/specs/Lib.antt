@@ -5,3 +5,4 @@ pub mod StoreView
 pub mod Filing
 pub mod Memory
 pub mod Sure
+pub mod System

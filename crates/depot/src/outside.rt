@@ -13,7 +13,8 @@ pub enum DepotBad {
 }
 
 /// A store of files, and standard output: all that the program uses of the outside. One file at a time is
-/// read, and one is written. Files that are made aren't seen by a read.
+/// read, and one is written. Files that are made aren't seen by a read. A call that succeeds counts nothing, and
+/// those that write or say never count a fault of reading.
 pub trait Depot {
     /// Whether the depot tells its content. The clauses on content hold for one that does.
     ghost tells: { Bool };
@@ -36,6 +37,7 @@ pub trait Depot {
             ⊎ (IsTrue tells × IsNotThere (content self.old) name.now) }
         ensures no_memory { IsErrOf result DepotBad.NoMemory
             → Rose (counts self.old).refused (counts self.new).refused }
+        ensures uncounted { OnOk result (counts self.new ≡ counts self.old) }
         ensures counted { NeverFall (counts self.old) (counts self.new) };
 
     /// Puts the next bytes of the started file first in the buffer and answers how many. It answers 0 at a
@@ -52,6 +54,7 @@ pub trait Depot {
             → Rose (counts self.old).read_faults (counts self.new).read_faults }
         ensures no_memory { IsErrOf result DepotBad.NoMemory
             → Rose (counts self.old).refused (counts self.new).refused }
+        ensures uncounted { OnOk result (counts self.new ≡ counts self.old) }
         ensures counted { NeverFall (counts self.old) (counts self.new) };
 
     /// Makes the file with no bytes; later writes go to it. After a refusal writes go nowhere, and the name
@@ -64,6 +67,8 @@ pub trait Depot {
             → Rose (counts self.old).write_faults (counts self.new).write_faults }
         ensures no_memory { IsErrOf result DepotBad.NoMemory
             → Rose (counts self.old).refused (counts self.new).refused }
+        ensures uncounted { OnOk result (counts self.new ≡ counts self.old) }
+        ensures reads { (counts self.new).read_faults ≡ (counts self.old).read_faults }
         ensures counted { NeverFall (counts self.old) (counts self.new) };
 
     /// Appends the first bytes of the piece to the started file and answers how many: at least one of a
@@ -79,6 +84,8 @@ pub trait Depot {
             → Rose (counts self.old).write_faults (counts self.new).write_faults }
         ensures no_memory { IsErrOf result DepotBad.NoMemory
             → Rose (counts self.old).refused (counts self.new).refused }
+        ensures uncounted { OnOk result (counts self.new ≡ counts self.old) }
+        ensures reads { (counts self.new).read_faults ≡ (counts self.old).read_faults }
         ensures counted { NeverFall (counts self.old) (counts self.new) };
 
     /// Says the first bytes of the piece on standard output and answers how many: at least one of a piece
@@ -93,5 +100,7 @@ pub trait Depot {
             → Rose (counts self.old).write_faults (counts self.new).write_faults }
         ensures no_memory { IsErrOf result DepotBad.NoMemory
             → Rose (counts self.old).refused (counts self.new).refused }
+        ensures uncounted { OnOk result (counts self.new ≡ counts self.old) }
+        ensures reads { (counts self.new).read_faults ≡ (counts self.old).read_faults }
         ensures counted { NeverFall (counts self.old) (counts self.new) };
 }

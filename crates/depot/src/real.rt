@@ -1,6 +1,7 @@
 // Real files and standard output. What a file holds no clause can say, so this depot tells its counts alone.
-ghost use Rattle.std.specs.Prelude.{◌≡◌, ◌≤◌, false, IsNone};
+ghost use Rattle.std.specs.Prelude.{◌≡◌, ◌⊎◌, ◌↔◌, ◌<◌, ◌≤◌, false, IsNone, IfOk, IfErr, OnOk, Ok, Err, length};
 ghost use Rattle.depot.specs.Counts.{Rose, no_counts, raised};
+ghost use Rattle.depot.specs.System.{IsOutOfMemory, faults_after, wants_after};
 ghost use Rattle.depot.specs.declared.outside.DepotBad.TheVariants.{Failed, NoMemory as Wanting};
 ghost use Rattle.depot.specs.Content.{nothing};
 
@@ -48,19 +49,75 @@ impl<R: Runtime> FileDepot<R> {
     }
 }
 
-// A refusal of the system, as a depot answers it.
-fn counted(error: &io::Error, failed: &mut u64, refused: &mut u64) -> DepotBad
-    ensures failed { result ≡ Failed → Rose failed.old failed.new }
-    ensures refused { result ≡ Wanting → Rose refused.old refused.new }
-    ensures failed_grows { failed.old ≤ failed.new }
-    ensures refused_grows { refused.old ≤ refused.new }
+// A refusal of the system, as a depot answers and counts it.
+fn counted(error: &io::Error, faults: &mut u64, refused: &mut u64) -> DepotBad
+    ensures no_memory { (result ≡ Wanting) ↔ IsOutOfMemory error.now }
+    ensures failed { (result ≡ Failed) ↔ ¬ IsOutOfMemory error.now }
+    ensures faults { faults.new ≡ faults_after result faults.old }
+    ensures refused { refused.new ≡ wants_after result refused.old }
+    ensures faults_rise { result ≡ Failed → Rose faults.old faults.new }
+    ensures refused_rise { result ≡ Wanting → Rose refused.old refused.new }
+    ensures faults_grow { faults.old ≤ faults.new }
+    ensures refused_grow { refused.old ≤ refused.new }
 {
     if error.kind() == ErrorKind::OutOfMemory {
         *refused = refused.saturating_add(1);
         return DepotBad::NoMemory;
     }
-    *failed = failed.saturating_add(1);
+    *faults = faults.saturating_add(1);
     DepotBad::Failed
+}
+
+// How many bytes the system took or gave, as a depot answers it: a count stays that count.
+fn moved(answer: io::Result<usize>, faults: &mut u64, refused: &mut u64) -> Result<usize, DepotBad>
+    ensures count { IfOk answer (λ n. result ≡ Ok n) }
+    ensures its_count { IfOk result (λ n. answer ≡ Ok n) }
+    ensures no_memory { IfErr answer (λ error. (result ≡ Err Wanting) ↔ IsOutOfMemory error) }
+    ensures failed { IfErr answer (λ error. (result ≡ Err Failed) ↔ ¬ IsOutOfMemory error) }
+    ensures uncounted { OnOk result ((faults.new ≡ faults.old) × (refused.new ≡ refused.old)) }
+    ensures faults { IfErr result (λ bad. faults.new ≡ faults_after bad faults.old) }
+    ensures refused { IfErr result (λ bad. refused.new ≡ wants_after bad refused.old) }
+    ensures faults_rise { result ≡ Err Failed → Rose faults.old faults.new }
+    ensures refused_rise { result ≡ Err Wanting → Rose refused.old refused.new }
+    ensures faults_grow { faults.old ≤ faults.new }
+    ensures refused_grow { refused.old ≤ refused.new }
+{
+    match answer {
+        Ok(bytes) => Ok(bytes),
+        Err(error) => Err(counted(&error, faults, refused)),
+    }
+}
+
+// How many bytes of a piece the system took, as a depot answers it: a count stays that count, but for none
+// of a piece that isn't empty, which is a fault.
+fn taken(
+    piece: &[u8],
+    answer: io::Result<usize>,
+    faults: &mut u64,
+    refused: &mut u64,
+) -> Result<usize, DepotBad>
+    ensures count { IfOk answer (λ n. (0 < n) ⊎ (length piece.now ≡ 0) → result ≡ Ok n) }
+    ensures none { IfOk answer (λ n. n ≡ 0 → 0 < length piece.now → result ≡ Err Failed) }
+    ensures its_count { IfOk result (λ n. answer ≡ Ok n) }
+    ensures progress { IfOk result (λ n. 0 < length piece.now → 0 < n) }
+    ensures no_memory { IfErr answer (λ error. (result ≡ Err Wanting) ↔ IsOutOfMemory error) }
+    ensures failed { IfErr answer (λ error. (result ≡ Err Failed) ↔ ¬ IsOutOfMemory error) }
+    ensures uncounted { OnOk result ((faults.new ≡ faults.old) × (refused.new ≡ refused.old)) }
+    ensures faults { IfErr result (λ bad. faults.new ≡ faults_after bad faults.old) }
+    ensures refused { IfErr result (λ bad. refused.new ≡ wants_after bad refused.old) }
+    ensures faults_rise { result ≡ Err Failed → Rose faults.old faults.new }
+    ensures refused_rise { result ≡ Err Wanting → Rose refused.old refused.new }
+    ensures faults_grow { faults.old ≤ faults.new }
+    ensures refused_grow { refused.old ≤ refused.new }
+{
+    match answer {
+        Ok(0) if !piece.is_empty() => {
+            *faults = faults.saturating_add(1);
+            Err(DepotBad::Failed)
+        }
+        Ok(count) => Ok(count),
+        Err(error) => Err(counted(&error, faults, refused)),
+    }
 }
 
 impl<R: Runtime> Depot for FileDepot<R> {
@@ -85,10 +142,7 @@ impl<R: Runtime> Depot for FileDepot<R> {
         let Some(file) = &mut self.reading else {
             return Ok(0);
         };
-        match file.read(buf) {
-            Ok(count) => Ok(count),
-            Err(error) => Err(counted(&error, &mut self.read_faults, &mut self.refused)),
-        }
+        moved(file.read(buf), &mut self.read_faults, &mut self.refused)
     }
 
     fn start_write(&mut self, name: &str) -> Result<(), DepotBad> {
@@ -106,18 +160,20 @@ impl<R: Runtime> Depot for FileDepot<R> {
         let Some(file) = &mut self.writing else {
             return Err(self.write_fault());
         };
-        match file.write(bytes) {
-            Ok(0) if !bytes.is_empty() => Err(self.write_fault()),
-            Ok(count) => Ok(count),
-            Err(error) => Err(counted(&error, &mut self.write_faults, &mut self.refused)),
-        }
+        taken(
+            bytes,
+            file.write(bytes),
+            &mut self.write_faults,
+            &mut self.refused,
+        )
     }
 
     fn say(&mut self, bytes: &[u8]) -> Result<usize, DepotBad> {
-        match self.rt.write_some(bytes) {
-            Ok(0) if !bytes.is_empty() => Err(self.write_fault()),
-            Ok(count) => Ok(count),
-            Err(error) => Err(counted(&error, &mut self.write_faults, &mut self.refused)),
-        }
+        taken(
+            bytes,
+            self.rt.write_some(bytes),
+            &mut self.write_faults,
+            &mut self.refused,
+        )
     }
 }

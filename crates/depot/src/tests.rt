@@ -1,6 +1,7 @@
 // One happy path of each public call over each depot, and a refusal of each kind.
 use crate::{
-    Depot, FileDepot, MemDepot, Refused, SureDepot, make_file, read_all, say_whole, write_whole,
+    Depot, FileDepot, MemDepot, Refused, SureDepot, make_file, nothing_fails, read_all, say_whole,
+    write_whole,
 };
 use std::alloc::Global;
 use std::fs;
@@ -55,6 +56,7 @@ fn one_byte_a_call(rt: HostRuntime) -> Result<(), Fail> {
 
 #[test]
 fn a_depot_that_never_fails(rt: HostRuntime) -> Result<(), Fail> {
+    nothing_fails();
     let mut depot = SureDepot::new(rt.alloc());
     copy(rt.alloc(), &mut depot)?;
     depot.add("in", b"abc")?;

@@ -51,7 +51,8 @@ impl From<AllocError> for Refused {
 
 /// All bytes of a file, if it has at most `limit`. A longer one is `TooLong`, and a name that isn't there is
 /// `Fault`. Each turn takes at least one byte. But for what is left to be read, the content of the depot is
-/// as before, also after a refusal.
+/// as before, also after a refusal. `NoMemory` comes where the depot counted a want of memory; where it counted
+/// nothing the memory for the bytes was wanting, and then the file is there.
 pub fn read_all<D: Depot>(
     alloc: Global,
     depot: &mut D,
@@ -70,11 +71,17 @@ pub fn read_all<D: Depot>(
     ensures fault { IsErrOf result Refused.Fault
         → Rose (D.counts depot.old).read_faults (D.counts depot.new).read_faults
         ⊎ (IsTrue D.tells × IsNotThere (D.content depot.old) name.now) }
-    ensures missing { IsTrue D.tells → IsNotThere (D.content depot.old) name.now → IsErr result }
+    ensures missing { IsTrue D.tells → IsNotThere (D.content depot.old) name.now
+        → IsErrOf result Refused.Fault
+        ⊎ (IsErrOf result Refused.NoMemory × Rose (D.counts depot.old).refused (D.counts depot.new).refused) }
+    ensures uncounted { OnOk result (D.counts depot.new ≡ D.counts depot.old) }
+    ensures long_uncounted { IsErrOf result Refused.TooLong → D.counts depot.new ≡ D.counts depot.old }
+    ensures no_memory { IsErrOf result Refused.NoMemory
+        → Rose (D.counts depot.old).refused (D.counts depot.new).refused ⊎ (D.counts depot.new ≡ D.counts depot.old) }
     ensures counted { NeverFall (D.counts depot.old) (D.counts depot.new) }
 {
-    let mut chunk = vec![in alloc; 0u8; CHUNK]?;
     depot.start_read(name)?;
+    let mut chunk = vec![in alloc; 0u8; CHUNK]?;
     let mut bytes = Vec::new(alloc);
     read_rest(depot, &mut chunk, &mut bytes, limit)?;
     Ok(bytes)
@@ -99,6 +106,10 @@ fn read_rest<D: Depot>(
         → limit < length (bytes.old.items ++ (D.content depot.old).left) }
     ensures fault { IsErrOf result Refused.Fault
         → Rose (D.counts depot.old).read_faults (D.counts depot.new).read_faults }
+    ensures uncounted { OnOk result (D.counts depot.new ≡ D.counts depot.old) }
+    ensures long_uncounted { IsErrOf result Refused.TooLong → D.counts depot.new ≡ D.counts depot.old }
+    ensures no_memory { IsErrOf result Refused.NoMemory
+        → Rose (D.counts depot.old).refused (D.counts depot.new).refused ⊎ (D.counts depot.new ≡ D.counts depot.old) }
     ensures counted { NeverFall (D.counts depot.old) (D.counts depot.new) }
 {
     loop {
@@ -124,6 +135,8 @@ pub fn write_whole<D: Depot>(depot: &mut D, bytes: &[u8]) -> Result<(), DepotBad
         → Rose (D.counts depot.old).write_faults (D.counts depot.new).write_faults }
     ensures no_memory { IsErrOf result DepotBad.NoMemory
         → Rose (D.counts depot.old).refused (D.counts depot.new).refused }
+    ensures uncounted { OnOk result (D.counts depot.new ≡ D.counts depot.old) }
+    ensures reads { (D.counts depot.new).read_faults ≡ (D.counts depot.old).read_faults }
     ensures counted { NeverFall (D.counts depot.old) (D.counts depot.new) }
 {
     let mut done = 0;
@@ -143,6 +156,8 @@ pub fn say_whole<D: Depot>(depot: &mut D, bytes: &[u8]) -> Result<(), DepotBad>
         → Rose (D.counts depot.old).write_faults (D.counts depot.new).write_faults }
     ensures no_memory { IsErrOf result DepotBad.NoMemory
         → Rose (D.counts depot.old).refused (D.counts depot.new).refused }
+    ensures uncounted { OnOk result (D.counts depot.new ≡ D.counts depot.old) }
+    ensures reads { (D.counts depot.new).read_faults ≡ (D.counts depot.old).read_faults }
     ensures counted { NeverFall (D.counts depot.old) (D.counts depot.new) }
 {
     let mut done = 0;
@@ -163,6 +178,8 @@ pub fn make_file<D: Depot>(depot: &mut D, name: &str, bytes: &[u8]) -> Result<()
         → Rose (D.counts depot.old).write_faults (D.counts depot.new).write_faults }
     ensures no_memory { IsErrOf result DepotBad.NoMemory
         → Rose (D.counts depot.old).refused (D.counts depot.new).refused }
+    ensures uncounted { OnOk result (D.counts depot.new ≡ D.counts depot.old) }
+    ensures reads { (D.counts depot.new).read_faults ≡ (D.counts depot.old).read_faults }
     ensures counted { NeverFall (D.counts depot.old) (D.counts depot.new) }
 {
     depot.start_write(name)?;

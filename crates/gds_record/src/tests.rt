@@ -2,7 +2,8 @@
 //! known.
 
 use crate::{
-    Framing, Kind, Record, int2, int4, int8, real_whole, record_at, unit_agrees, unsigned2,
+    Framing, Kind, Record, int2, int4, int8, real_whole, record_at, records_law, unit_agrees,
+    unsigned2,
 };
 
 /// A library with one structure that holds one square of side 10 on layer 1, datatype 0.
@@ -29,6 +30,7 @@ const SQUARE: [u8; 168] = [
 
 #[test]
 fn records_of_a_layout(rt: HostRuntime) {
+    records_law();
     let rows = [
         (0, Kind::Header, 2),
         (6, Kind::BgnLib, 24),

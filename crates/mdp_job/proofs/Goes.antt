@@ -4,8 +4,8 @@ use Rattle.std.proofs.Common.{◌≡◌, inl, inr, ℕ, ◌≤◌, List, [], ◌
 use Rattle.std.proofs.Math.ListN.{drop_of_length-le}
 use Rattle.std.proofs.lemmas.List.{append-nil}
 use Rattle.half_grid.specs.Trapezoids.{Trapezoid}
-use Rattle.depot.specs.Content.{Content, ChangesLeftOnly, with_left}
-use Rattle.depot.specs.Counts.{Counts}
+use Rattle.depot.specs.Content.{Content, held_as, ChangesLeftOnly, with_left}
+use Rattle.depot.specs.Counts.{Counts, NeverFall}
 use Rattle.depot.proofs.ForCallers.{Rose-later}
 use Rattle.mdp_job.specs.FirstDeck.{DeckData}
 use Rattle.mdp_job.specs.FirstLayout.{LayoutData, IsLayoutOf}
@@ -16,6 +16,7 @@ use Rattle.mdp_job.specs.declared.status.Status.{Status}
 use Rattle.mdp_job.specs.declared.status.Status.TheVariants as answers
 use Rattle.mdp_job.specs.declared.status.LayoutFault.TheVariants as layout_faults
 use Rattle.mdp_job.proofs.LayoutFacts.{layout_grid}
+use Rattle.mdp_job.proofs.RowLemmas.{there}
 
 -- a text with nothing to come is whole
 pub text_whole : (text all : List ℕ) (f : Trapezoid → List ℕ) (shots : List Trapezoid) (i : ℕ) → length shots ≤ i → text ++ flat_map f (drop i shots) ≡ all → text ≡ all
@@ -30,16 +31,17 @@ left_only b a e = subst (λ (c : Content). c ≡ with_left b c.left) (sym e) ref
 
 -- what the writing of an accepted layout owes is what the layout owes
 pub written_answers : (b a : Content) (o n p : Counts) (layout : List ℕ) (d : DeckData) (l : LayoutData) (s : Status)
-    → HoldsLayout b layout d l → o.write_faults ≤ n.write_faults → IsWritten (run_of (with_left b []) a n p) d l s → IsLayoutAnswer (run_of b a o p) layout d s
+    → HoldsLayout b layout d l → NeverFall o n → IsWritten (run_of (with_left b []) a n p) d l s → IsLayoutAnswer (run_of b a o p) layout d s
 written_answers b a o n p layout d l answers.Done holds le w = (l, holds, w)
 written_answers b a o n p layout d l answers.Words holds le w = w
 written_answers b a o n p layout d l (answers.Deck fault) holds le w = w
 written_answers b a o n p layout d l (answers.Layout fault) holds le w = absurd w
 written_answers b a o n p layout d l answers.ReadFault holds le w = absurd w
-written_answers b a o n p layout d l answers.WriteFault holds le w = (Rose-later o.write_faults n.write_faults p.write_faults le w.0, l, holds, (w.1, w.2, w.3))
+written_answers b a o n p layout d l answers.WriteFault holds le w = (Rose-later o.write_faults n.write_faults p.write_faults le.write_faults w.0, l, holds, (w.1, w.2, w.3))
 written_answers b a o n p layout d l (answers.No place fault) holds le w = absurd w
-written_answers b a o n p layout d l answers.NoMemory holds le (inl e) = inl (left_only b a e)
-written_answers b a o n p layout d l answers.NoMemory holds le (inr part) = inr (l, holds, part)
+written_answers b a o n p layout d l answers.NoMemory holds le (inl e) = (inl (left_only b a e), λ missing. absurd (there (held_as b layout) holds.bytes holds.held missing))
+written_answers b a o n p layout d l answers.NoMemory holds le (inr w) =
+    (inr (Rose-later o.refused n.refused p.refused le.refused w.0, l, holds, (w.1, w.2, w.3)), λ missing. absurd (there (held_as b layout) holds.bytes holds.held missing))
 
 -- what a name holds doesn't rest on what is left to be read
 same_layout : (b : Content) (layout : List ℕ) (d : DeckData) (l : LayoutData) → HoldsLayout (with_left b []) layout d l → HoldsLayout b layout d l
@@ -53,17 +55,18 @@ both b layout deck d l holds h = record { holds_deck = holds; holds_layout = sam
 
 -- what the layout owes for an accepted deck is what the command owes
 pub layout_answers : (b a : Content) (o n p : Counts) (layout deck : List ℕ) (d : DeckData) (s : Status)
-    → HoldsDeck b layout deck d → o.read_faults ≤ n.read_faults → o.write_faults ≤ n.write_faults
+    → HoldsDeck b layout deck d → NeverFall o n
     → IsLayoutAnswer (run_of (with_left b []) a n p) layout d s → IsAnswer (run_of b a o p) layout deck s
-layout_answers b a o n p layout deck d answers.Done holds reads writes (l, layout_holds, w) = (d, l, both b layout deck d l holds layout_holds, w)
-layout_answers b a o n p layout deck d answers.Words holds reads writes w = w
-layout_answers b a o n p layout deck d (answers.Deck fault) holds reads writes w = absurd w
-layout_answers b a o n p layout deck d (answers.Layout layout_faults.Long) holds reads writes w = (d, holds, w.0, w.1)
-layout_answers b a o n p layout deck d (answers.Layout layout_faults.Early) holds reads writes w = (d, holds, refuses b layout d w.0, w.1)
-layout_answers b a o n p layout deck d answers.ReadFault holds reads writes (inl rose, rest) = (inl (Rose-later o.read_faults n.read_faults p.read_faults reads rose), rest)
-layout_answers b a o n p layout deck d answers.ReadFault holds reads writes (inr missing, rest) = (inr (inr (d, holds, missing)), rest)
-layout_answers b a o n p layout deck d answers.WriteFault holds reads writes (rose, l, layout_holds, w) =
-    (Rose-later o.write_faults n.write_faults p.write_faults writes rose, d, l, both b layout deck d l holds layout_holds, w)
-layout_answers b a o n p layout deck d (answers.No place fault) holds reads writes w = absurd w
-layout_answers b a o n p layout deck d answers.NoMemory holds reads writes (inl rest) = inl rest
-layout_answers b a o n p layout deck d answers.NoMemory holds reads writes (inr (l, layout_holds, w)) = inr (d, l, both b layout deck d l holds layout_holds, w)
+layout_answers b a o n p layout deck d answers.Done holds le (l, layout_holds, w) = (d, l, both b layout deck d l holds layout_holds, w)
+layout_answers b a o n p layout deck d answers.Words holds le w = w
+layout_answers b a o n p layout deck d (answers.Deck fault) holds le w = absurd w
+layout_answers b a o n p layout deck d (answers.Layout layout_faults.Long) holds le w = (d, holds, w.0, w.1)
+layout_answers b a o n p layout deck d (answers.Layout layout_faults.Early) holds le w = (d, holds, refuses b layout d w.0, w.1)
+layout_answers b a o n p layout deck d answers.ReadFault holds le (inl rose, rest) = (inl (Rose-later o.read_faults n.read_faults p.read_faults le.read_faults rose), rest)
+layout_answers b a o n p layout deck d answers.ReadFault holds le (inr missing, rest) = (inr (inr (d, holds, missing)), rest)
+layout_answers b a o n p layout deck d answers.WriteFault holds le (rose, l, layout_holds, w) =
+    (Rose-later o.write_faults n.write_faults p.write_faults le.write_faults rose, d, l, both b layout deck d l holds layout_holds, w)
+layout_answers b a o n p layout deck d (answers.No place fault) holds le w = absurd w
+layout_answers b a o n p layout deck d answers.NoMemory holds le (inl rest, missing) = (inl rest, λ none. absurd (there (held_as b deck) holds.bytes holds.held none))
+layout_answers b a o n p layout deck d answers.NoMemory holds le (inr (rose, l, layout_holds, w), missing) =
+    (inr (Rose-later o.refused n.refused p.refused le.refused rose, d, l, both b layout deck d l holds layout_holds, w), λ none. absurd (there (held_as b deck) holds.bytes holds.held none))

@@ -3,7 +3,7 @@ use Rattle.std.proofs.Common.{◌≡◌, ◌≢◌, Some, inl, inr, ℕ, ◌≤�
 use Rattle.std.specs.Prelude.{flat_map}
 use Rattle.half_grid.specs.Trapezoids.{Trapezoid}
 use Rattle.depot.specs.Content.{Content, held_as, with_left}
-use Rattle.depot.specs.Counts.{Counts}
+use Rattle.depot.specs.Counts.{Counts, NeverFall}
 use Rattle.depot.proofs.ForCallers.{Rose-later}
 use Rattle.layout_model.specs.declared.pair.Pair.{Pair}
 use Rattle.oas_lex.specs.ShotText.{head, end, spelling_of, shot_text}
@@ -13,20 +13,22 @@ use Rattle.shot_reader.specs.Refusals.{IsFirstFault}
 use Rattle.shot_reader.specs.declared.refusing.ShotBad.{ShotBad}
 use Rattle.shot_reader.specs.declared.refusing.ShotBad.TheVariants.{Head, Record, Spelling, Illegal, End, NoMemory as Wanting}
 use Rattle.mdp_job.specs.Listings.{ShotData, HoldsShots, HoldsFault, IsListingAnswer, IsTold, refused_shots}
-use Rattle.mdp_job.specs.Parts.{run_of}
+use Rattle.mdp_job.specs.Parts.{run_of, IsOfShots, CountsFor}
 use Rattle.mdp_job.specs.declared.status.Status.{Status}
 use Rattle.mdp_job.specs.declared.status.Status.TheVariants as answers
 use Rattle.mdp_job.proofs.Goes.{left_only}
+use Rattle.mdp_job.proofs.RowLemmas.{there}
 
 pub told_answers : (b a : Content) (o n p : Counts) (file : List ℕ) (s : ShotData) (result : Status)
-    → HoldsShots b file s → o.write_faults ≤ n.write_faults → IsTold (run_of (with_left b []) a n p) s result → IsListingAnswer (run_of b a o p) file result
+    → HoldsShots b file s → NeverFall o n → IsTold (run_of (with_left b []) a n p) s result → IsListingAnswer (run_of b a o p) file result
 told_answers b a o n p file s answers.Done holds le e = (s, holds, e)
 told_answers b a o n p file s answers.Words holds le w = w
 told_answers b a o n p file s (answers.Deck fault) holds le w = w
 told_answers b a o n p file s (answers.Layout fault) holds le w = w
 told_answers b a o n p file s answers.ReadFault holds le w = absurd w
-told_answers b a o n p file s answers.WriteFault holds le (rose, part) = (Rose-later o.write_faults n.write_faults p.write_faults le rose, s, holds, part)
-told_answers b a o n p file s answers.NoMemory holds le part = inr (s, holds, part)
+told_answers b a o n p file s answers.WriteFault holds le (rose, part) = (Rose-later o.write_faults n.write_faults p.write_faults le.write_faults rose, s, holds, part)
+told_answers b a o n p file s answers.NoMemory holds le (rose, part) =
+    (inr (Rose-later o.refused n.refused p.refused le.refused rose, s, holds, part), λ missing. absurd (there (held_as b file) holds.bytes holds.held missing))
 told_answers b a o n p file s (answers.No place fault) holds le w = absurd w
 
 fault_held : (b : Content) (file bytes : List ℕ) (bad : ShotBad) → held_as b file ≡ Some bytes → length bytes ≤ 268435456 → IsFirstFault bytes bad → HoldsFault b file bad
@@ -40,7 +42,24 @@ refused_answers b a o p file bytes (Record at) held short fault rest = (refl, fa
 refused_answers b a o p file bytes (Spelling at) held short fault rest = (refl, fault_held b file bytes (Spelling at) held short (fault (λ e. let no : ⊥ = cc in no)), left_only b a rest)
 refused_answers b a o p file bytes (Illegal at) held short fault rest = (refl, fault_held b file bytes (Illegal at) held short (fault (λ e. let no : ⊥ = cc in no)), left_only b a rest)
 refused_answers b a o p file bytes (End at) held short fault rest = (refl, fault_held b file bytes (End at) held short (fault (λ e. let no : ⊥ = cc in no)), left_only b a rest)
-refused_answers b a o p file bytes Wanting held short fault rest = inl (left_only b a rest)
+refused_answers b a o p file bytes Wanting held short fault rest = (inl (left_only b a rest), λ missing. absurd (there (held_as b file) bytes held missing))
+
+-- a refusal of a shot file is one of `shots`, and nothing was counted
+pub refused_kind : (bad : ShotBad) → IsOfShots (refused_shots bad)
+refused_kind (Head at) = (refl, λ e. let no : ⊥ = cc in no)
+refused_kind (Record at) = (refl, λ e. let no : ⊥ = cc in no)
+refused_kind (Spelling at) = (refl, λ e. let no : ⊥ = cc in no)
+refused_kind (Illegal at) = (refl, λ e. let no : ⊥ = cc in no)
+refused_kind (End at) = (refl, λ e. let no : ⊥ = cc in no)
+refused_kind Wanting = tt
+
+pub refused_counts : (o n : Counts) (bad : ShotBad) → n ≡ o → CountsFor o n (refused_shots bad)
+refused_counts o n (Head at) same = same
+refused_counts o n (Record at) same = same
+refused_counts o n (Spelling at) same = same
+refused_counts o n (Illegal at) same = same
+refused_counts o n (End at) same = same
+refused_counts o n Wanting same = inr same
 
 -- each record has a byte at least
 records_long : (l d : ℕ) (shots : List Trapezoid) → length shots ≤ length (flat_map (spelling_of l d) shots)

@@ -7,15 +7,14 @@ use Rattle.shot_reader.specs.Refusals.{IsFirstFault}
 use Rattle.shot_reader.specs.declared.refusing.ShotBad.{ShotBad}
 use Rattle.shot_reader.proofs.ForCallers.{file_right, one_fault}
 use Rattle.mdp_job.specs.Words.{IsFracture, IsShots}
-use Rattle.mdp_job.specs.Answers.{Run, IsAnswer, ReadRose, WriteRose}
+use Rattle.mdp_job.specs.Answers.{Run, IsAnswer, ReadRose, WriteRose, RefusedRose}
 use Rattle.mdp_job.specs.Listings.{ShotData, HoldsShots, HoldsFault, IsListingAnswer}
 use Rattle.mdp_job.specs.Parts.{IsAnswerTo}
-use Rattle.mdp_job.specs.Clauses.{IsAccepted, Accepts, IsUnreadable, ReadFaults, WriteFaults, ShotsLong, ShotsBad, Belongs}
+use Rattle.mdp_job.specs.Clauses.{IsAccepted, Accepts, IsUnreadable, IsUnreadableAtOnce, ReadFaults, WriteFaults, ShotsLong, ShotsBad}
 use Rattle.mdp_job.specs.declared.status.Status.{Status}
 use Rattle.mdp_job.specs.declared.status.Status.TheVariants as answers
-use Rattle.mdp_job.specs.declared.status.CheckFault.{CheckFault}
 use Rattle.mdp_job.specs.declared.status.CheckFault.TheVariants as check_faults
-use Rattle.mdp_job.proofs.RowLemmas.{one_content, there, too_long, not_both, answer_for, wanting_due, done_due}
+use Rattle.mdp_job.proofs.RowLemmas.{one_content, there, too_long, not_both, answer_for, wanting_due, first_due, done_due}
 
 -- ---- facts that exclude one another
 
@@ -149,8 +148,19 @@ unreadable_due : (r : Run) (words : List (List ℕ)) (s : Status) → IsAnswerTo
 unreadable_due r words s table (inl (layout, deck, is, want)) = wanting_due r layout deck s (answer_for r words s table layout deck is) want
 unreadable_due r words s table (inr (file, is, missing)) = missing_due r file s (listing_for r words s table file is) missing
 
+file_due : (r : Run) (file : List ℕ) (s : Status) → IsListingAnswer r file s → IsNotThere r.before file → (s ≡ answers.ReadFault) ⊎ ((s ≡ answers.NoMemory) × RefusedRose r)
+file_due r file s answer missing =
+    elim (missing_due r file s answer missing) [
+      | inl e ↦ inl e
+      | inr e ↦ inr (e, (subst (λ (x : Status). IsListingAnswer r file x) e answer).1 missing)
+    ]
+
+at_once_due : (r : Run) (words : List (List ℕ)) (s : Status) → IsAnswerTo r words s → IsUnreadableAtOnce words r.before → (s ≡ answers.ReadFault) ⊎ ((s ≡ answers.NoMemory) × RefusedRose r)
+at_once_due r words s table (inl (layout, deck, is, missing)) = first_due r layout deck s (answer_for r words s table layout deck is) missing
+at_once_due r words s table (inr (file, is, missing)) = file_due r file s (listing_for r words s table file is) missing
+
 pub read_faults : (r : Run) (words : List (List ℕ)) (s : Status) → IsAnswerTo r words s → ReadFaults r words s
-read_faults r words s table = (read_cause r words s table, unreadable_due r words s table)
+read_faults r words s table = (read_cause r words s table, unreadable_due r words s table, at_once_due r words s table)
 
 pub write_faults : (r : Run) (words : List (List ℕ)) (s : Status) → IsAnswerTo r words s → WriteFaults r words s
 write_faults r words s (inl (layout, deck, is, answer)) e =
@@ -160,24 +170,3 @@ write_faults r words s (inr (inl (file, is, answer))) e =
     let a = subst (λ (x : Status). IsListingAnswer r file x) e answer in
     (a.0, inr (file, is, a.1, a.2))
 write_faults r words s (inr (inr (none, e, rest))) f = let clash : answers.Words ≡ answers.WriteFault = sym e ∙ f in let bad : ⊥ = cc in absurd bad
-
-first_place : (r : Run) (file : List ℕ) (place : ℕ) (fault : CheckFault) → IsListingAnswer r file (answers.No place fault) → place ≡ 0
-first_place r file place check_faults.Long a = a.0
-first_place r file place (check_faults.Bad bad) a = a.0
-
-pub belongs : (r : Run) (words : List (List ℕ)) (s : Status) → IsAnswerTo r words s → Belongs words s
-belongs r words s (inl (layout, deck, is, answer)) = record {
-  deck = λ fault e. (layout, deck, is);
-  layout = λ fault e. (layout, deck, is);
-  shots = λ place fault e. absurd (subst (λ (x : Status). IsAnswer r layout deck x) e answer);
-}
-belongs r words s (inr (inl (file, is, answer))) = record {
-  deck = λ fault e. absurd (subst (λ (x : Status). IsListingAnswer r file x) e answer);
-  layout = λ fault e. absurd (subst (λ (x : Status). IsListingAnswer r file x) e answer);
-  shots = λ place fault e. (first_place r file place fault (subst (λ (x : Status). IsListingAnswer r file x) e answer), file, is);
-}
-belongs r words s (inr (inr (none, e, rest))) = record {
-  deck = λ fault f. let clash : answers.Words ≡ answers.Deck fault = sym e ∙ f in let bad : ⊥ = cc in absurd bad;
-  layout = λ fault f. let clash : answers.Words ≡ answers.Layout fault = sym e ∙ f in let bad : ⊥ = cc in absurd bad;
-  shots = λ place fault f. let clash : answers.Words ≡ answers.No place fault = sym e ∙ f in let bad : ⊥ = cc in absurd bad;
-}

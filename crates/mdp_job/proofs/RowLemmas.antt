@@ -6,7 +6,7 @@ use Rattle.depot.proofs.ForCallers.{longer_there}
 use Rattle.mdp_job.specs.Words.{IsFracture, IsShots}
 use Rattle.mdp_job.specs.FirstDeck.{DeckData, IsDeckOf}
 use Rattle.mdp_job.specs.FirstLayout.{LayoutData, IsLayoutOf}
-use Rattle.mdp_job.specs.Answers.{Run, IsAnswer, IsWanting, HoldsDeck, HoldsLayout, HoldsBoth, RefusesDeck, RefusesLayout, ReadRose, WriteRose}
+use Rattle.mdp_job.specs.Answers.{Run, IsAnswer, IsWanting, HoldsDeck, HoldsLayout, HoldsBoth, RefusesDeck, RefusesLayout, ReadRose, WriteRose, RefusedRose}
 use Rattle.mdp_job.specs.Parts.{IsAnswerTo}
 use Rattle.mdp_job.specs.Clauses.{DeckLong, DeckEarly, LayoutLong, LayoutEarly}
 use Rattle.mdp_job.specs.declared.status.Status.{Status}
@@ -154,6 +154,14 @@ wanting_due r layout deck answers.WriteFault (rose, d, l, b, w) (inl missing) = 
 wanting_due r layout deck answers.WriteFault (rose, d, l, b, w) (inr (e, k, missing)) = absurd (layout_there r.before layout d l b.holds_layout missing)
 wanting_due r layout deck (answers.No place fault) a want = absurd a
 wanting_due r layout deck answers.NoMemory a want = inr refl
+
+-- where the deck isn't there, want of memory was counted
+pub first_due : (r : Run) (layout deck : List ℕ) (s : Status) → IsAnswer r layout deck s → IsNotThere r.before deck → (s ≡ answers.ReadFault) ⊎ ((s ≡ answers.NoMemory) × RefusedRose r)
+first_due r layout deck s answer missing =
+    elim (wanting_due r layout deck s answer (inl missing)) [
+      | inl e ↦ inl e
+      | inr e ↦ inr (e, (subst (λ (x : Status). IsAnswer r layout deck x) e answer).1 missing)
+    ]
 
 pub done_due : (r : Run) (layout deck : List ℕ) (s : Status) → IsAnswer r layout deck s → (ReadRose r → ⊥) → (WriteRose r → ⊥) → s ≢ answers.NoMemory
     → (d : DeckData) (l : LayoutData) → HoldsBoth r.before layout deck d l → s ≡ answers.Done

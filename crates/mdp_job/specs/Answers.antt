@@ -94,6 +94,9 @@ ReadRose r = Rose r.old.read_faults r.new.read_faults
 abbrev pub WriteRose : Run → Type 0
 WriteRose r = Rose r.old.write_faults r.new.write_faults
 
+abbrev pub RefusedRose : Run → Type 0
+RefusedRose r = Rose r.old.refused r.new.refused
+
 -- what holds where a command with these names gives the answer
 abbrev pub IsAnswer : Run → List ℕ → List ℕ → Status → Type 0
 IsAnswer r layout deck answers.Done = (d : DeckData) × (l : LayoutData) × HoldsBoth r.before layout deck d l × Writes r.before r.after d l
@@ -108,8 +111,9 @@ IsAnswer r layout deck answers.ReadFault = (ReadRose r ⊎ IsWanting r.before la
 IsAnswer r layout deck answers.WriteFault =
     WriteRose r × (d : DeckData) × (l : LayoutData) × HoldsBoth r.before layout deck d l × WritesPart r.before r.after d l
 IsAnswer r layout deck answers.NoMemory =
-    ChangesLeftOnly r.before r.after
-    ⊎ ((d : DeckData) × (l : LayoutData) × HoldsBoth r.before layout deck d l × WritesPart r.before r.after d l)
+    (ChangesLeftOnly r.before r.after
+    ⊎ (RefusedRose r × (d : DeckData) × (l : LayoutData) × HoldsBoth r.before layout deck d l × WritesPart r.before r.after d l))
+    × (IsNotThere r.before deck → RefusedRose r)
 IsAnswer r layout deck (answers.No place fault) = ⊥
 
 -- ---- the rows of the table, each by itself

@@ -2,12 +2,13 @@
 -- after it, the words, and the answer.
 use Rattle.std.specs.Prelude.{◌≡◌, ◌≢◌, ◌⊎◌, ◌↔◌, ℕ, List, [], ◌++◌, take, ⊤}
 use Rattle.depot.specs.Content.{Content, IsNotThere, IsLongerThan, ChangesLeftOnly, with_left, with_said}
-use Rattle.depot.specs.Counts.{Rose}
+use Rattle.depot.specs.Counts.{Counts, Rose}
 use Rattle.shot_reader.specs.declared.refusing.ShotBad.{ShotBad}
+use Rattle.shot_reader.specs.declared.refusing.ShotBad.TheVariants.{NoMemory as Wanting}
 use Rattle.mdp_job.specs.Words.{IsFracture, IsShots, file_word}
 use Rattle.mdp_job.specs.FirstDeck.{DeckData}
 use Rattle.mdp_job.specs.FirstLayout.{LayoutData}
-use Rattle.mdp_job.specs.Answers.{Run, IsWanting, HoldsDeck, HoldsBoth, RefusesDeck, RefusesLayout, Writes, WritesPart, ReadRose, WriteRose, ComesExactlyWhere}
+use Rattle.mdp_job.specs.Answers.{Run, IsWanting, HoldsDeck, HoldsBoth, RefusesDeck, RefusesLayout, Writes, WritesPart, ReadRose, WriteRose, RefusedRose, ComesExactlyWhere}
 use Rattle.mdp_job.specs.Listings.{ShotData, HoldsShots, HoldsFault, listed}
 use Rattle.mdp_job.specs.Lines.{line_of}
 use Rattle.mdp_job.specs.declared.status.Status.{Status}
@@ -98,18 +99,27 @@ ShotsBad r words result =
     (file : List ℕ) → IsShots words file → (bad : ShotBad)
     → ComesExactlyWhere (ReadRose r) result (answers.No 0 (check_faults.Bad bad)) (HoldsFault r.before file bad)
 
--- Refusals of a deck and of a layout come for `fracture` alone, and those of a shot file for `shots` alone, of place 0.
+-- Refusals of a deck and of a layout come for `fracture` alone, and those of a shot file for `shots` alone, of place 0. The
+-- fault of a refused shot file is never want of memory.
 pub record Belongs (words : List (List ℕ)) (result : Status) : Type 0 where
   pub deck : (fault : DeckFault) → result ≡ answers.Deck fault → (layout deck : List ℕ) × IsFracture words layout deck
   pub layout : (fault : LayoutFault) → result ≡ answers.Layout fault → (layout deck : List ℕ) × IsFracture words layout deck
   pub shots : (place : ℕ) (fault : CheckFault) → result ≡ answers.No place fault → (place ≡ 0) × (file : List ℕ) × IsShots words file
+  pub real : (place : ℕ) → result ≡ answers.No place (check_faults.Bad Wanting) → ⊥
+
+-- the name that the command reads first isn't there: DECK, or FILE of `shots`
+abbrev pub IsUnreadableAtOnce : List (List ℕ) → Content → Type 0
+IsUnreadableAtOnce words c =
+    ((layout deck : List ℕ) × IsFracture words layout deck × IsNotThere c deck)
+    ⊎ ((file : List ℕ) × IsShots words file × IsNotThere c file)
 
 -- A read fault was counted, or a name that has to be read isn't there; where such a name isn't there no other answer
--- comes but want of memory.
+-- comes but want of memory, and where the name that is read first isn't there, that comes only where it was counted.
 abbrev pub ReadFaults : Run → List (List ℕ) → Status → Type 0
 ReadFaults r words result =
     (result ≡ answers.ReadFault → ReadRose r ⊎ IsUnreadable words r.before)
     × (IsUnreadable words r.before → (result ≡ answers.ReadFault) ⊎ (result ≡ answers.NoMemory))
+    × (IsUnreadableAtOnce words r.before → (result ≡ answers.ReadFault) ⊎ ((result ≡ answers.NoMemory) × RefusedRose r))
 
 -- A write fault was counted, and the input is accepted.
 abbrev pub WriteFaults : Run → List (List ℕ) → Status → Type 0
@@ -117,22 +127,19 @@ WriteFaults r words result = result ≡ answers.WriteFault → WriteRose r × Is
 
 -- ---- what was said
 
-abbrev pub RefusedRose : Run → Type 0
-RefusedRose r = Rose r.old.refused r.new.refused
-
 -- What the command itself may have said before it ended so: something of the listing of an accepted shot file where
--- saying it failed or memory was wanting, and nothing for every other answer.
-abbrev pub MaySay : Content → List (List ℕ) → Status → List ℕ → Type 0
-MaySay before words result text =
+-- saying it failed or a want of memory was counted, and nothing for every other answer.
+abbrev pub MaySay : Run → List (List ℕ) → Status → List ℕ → Type 0
+MaySay r words result text =
     (text ≡ [])
-    ⊎ (((result ≡ answers.WriteFault) ⊎ (result ≡ answers.NoMemory))
-    × (file : List ℕ) × IsShots words file × (s : ShotData) × HoldsShots before file s × (text ≡ listed s))
+    ⊎ (((result ≡ answers.WriteFault) ⊎ ((result ≡ answers.NoMemory) × RefusedRose r))
+    × (file : List ℕ) × IsShots words file × (s : ShotData) × HoldsShots r.before file s × (text ≡ listed s))
 
 -- Where the answer isn't Done, a prefix of the command's text was said and then a prefix of the answer's line, which is
 -- whole unless a write fault or want of memory was counted.
 pub record SaysLine (r : Run) (words : List (List ℕ)) (result : Status) : Type 0 where
   pub text : List ℕ
-  pub may : MaySay r.before words result text
+  pub may : MaySay r words result text
   pub of_text : ℕ
   pub of_line : ℕ
   pub said : r.after.said ≡ (r.before.said ++ take of_text text) ++ take of_line (line_of (file_word words) result)
@@ -167,9 +174,19 @@ abbrev pub Keeps : Run → List (List ℕ) → Type 0
 Keeps r words = (file : List ℕ) → IsShots words file → ChangesLeftOnly r.before (quiet r).after
 
 -- After a write fault or want of memory of `fracture` nothing but what is left to be read and what was said has changed,
--- or the file holds a prefix of a text that Done would allow, or is as before; all other names are as before.
+-- or the file holds a prefix of a text that Done would allow, or is as before; all other names are as before. After want
+-- of memory the second comes only where a want of memory was counted.
 abbrev pub Spoils : Run → List (List ℕ) → Status → Type 0
 Spoils r words result =
     (layout deck : List ℕ) → IsFracture words layout deck → (result ≡ answers.WriteFault) ⊎ (result ≡ answers.NoMemory)
     → ChangesLeftOnly r.before (quiet r).after
-    ⊎ ((d : DeckData) × (l : LayoutData) × HoldsBoth r.before layout deck d l × WritesPart r.before (quiet r).after d l)
+    ⊎ (((result ≡ answers.WriteFault) ⊎ RefusedRose r)
+    × (d : DeckData) × (l : LayoutData) × HoldsBoth r.before layout deck d l × WritesPart r.before (quiet r).after d l)
+
+-- ---- what holds over every depot
+
+-- After Done nothing was counted. A fault of reading that was counted is answered as that, or as want of memory where a
+-- want of memory was counted too.
+pub record FaultsTold (old new : Counts) (result : Status) : Type 0 where
+  pub done : result ≡ answers.Done → new ≡ old
+  pub reads : result ≢ answers.ReadFault → (new.read_faults ≡ old.read_faults) ⊎ ((result ≡ answers.NoMemory) × Rose old.refused new.refused)

@@ -14,3 +14,4 @@ pub mod Listings
 pub mod Lines
 pub mod Parts
 pub mod Clauses
+pub mod Laws

@@ -9,7 +9,7 @@ use Rattle.shot_reader.specs.declared.refusing.ShotBad.{ShotBad}
 use Rattle.shot_reader.specs.declared.refusing.ShotBad.TheVariants.{Head, Record, Spelling, Illegal, End, NoMemory as Wanting}
 use Rattle.shot_reader.specs.declared.reading.ShotFile.{ShotFile}
 use Rattle.shot_listing.specs.Listing.{listing}
-use Rattle.mdp_job.specs.Answers.{Run, ReadRose, WriteRose}
+use Rattle.mdp_job.specs.Answers.{Run, ReadRose, WriteRose, RefusedRose}
 use Rattle.mdp_job.specs.declared.status.Status.{Status}
 use Rattle.mdp_job.specs.declared.status.Status.TheVariants as answers
 use Rattle.mdp_job.specs.declared.status.CheckFault.TheVariants as check_faults
@@ -47,7 +47,9 @@ IsListingAnswer r file (answers.Layout fault) = ⊥
 IsListingAnswer r file answers.ReadFault = (ReadRose r ⊎ IsNotThere r.before file) × ChangesLeftOnly r.before r.after
 IsListingAnswer r file answers.WriteFault = WriteRose r × (s : ShotData) × HoldsShots r.before file s × IsPartSaid (with_left r.before []) (listed s) r.after
 IsListingAnswer r file answers.NoMemory =
-    ChangesLeftOnly r.before r.after ⊎ ((s : ShotData) × HoldsShots r.before file s × IsPartSaid (with_left r.before []) (listed s) r.after)
+    (ChangesLeftOnly r.before r.after
+    ⊎ (RefusedRose r × (s : ShotData) × HoldsShots r.before file s × IsPartSaid (with_left r.before []) (listed s) r.after))
+    × (IsNotThere r.before file → RefusedRose r)
 IsListingAnswer r file (answers.No place check_faults.Long) = (place ≡ 0) × IsLongerThan 268435456 r.before file × ChangesLeftOnly r.before r.after
 IsListingAnswer r file (answers.No place (check_faults.Bad bad)) = (place ≡ 0) × HoldsFault r.before file bad × ChangesLeftOnly r.before r.after
 
@@ -63,7 +65,7 @@ IsTold r s (answers.Deck fault) = ⊥
 IsTold r s (answers.Layout fault) = ⊥
 IsTold r s answers.ReadFault = ⊥
 IsTold r s answers.WriteFault = WriteRose r × IsPartSaid r.before (listed s) r.after
-IsTold r s answers.NoMemory = IsPartSaid r.before (listed s) r.after
+IsTold r s answers.NoMemory = RefusedRose r × IsPartSaid r.before (listed s) r.after
 IsTold r s (answers.No place fault) = ⊥
 
 -- the answer to bytes that are no shot file, or that no memory was left to read

@@ -4,12 +4,12 @@ ghost use Rattle.std.specs.Prelude.{◌≡◌, ◌≢◌, ◌⊎◌, ◌↔◌, 
 ghost use Rattle.depot.specs.Counts.{NeverFall, Rose};
 ghost use Rattle.depot.specs.Sure.{sure_content, sure_counts};
 ghost use Rattle.mdp_job.specs.Answers.{IsAnswer, texts};
-ghost use Rattle.mdp_job.specs.Clauses.{IsAccepted, Belongs, Covers, Lists, Accepts, DeckLong, DeckEarly, LayoutLong, LayoutEarly, ShotsLong, ShotsBad, ReadFaults, WriteFaults, Says, Spares, Keeps, Spoils};
+ghost use Rattle.mdp_job.specs.Clauses.{IsAccepted, Belongs, FaultsTold, Covers, Lists, Accepts, DeckLong, DeckEarly, LayoutLong, LayoutEarly, ShotsLong, ShotsBad, ReadFaults, WriteFaults, Says, Spares, Keeps, Spoils};
 ghost use Rattle.mdp_job.specs.Words.{IsNoCommand};
 ghost use Rattle.mdp_job.specs.Fit.{IsFit, IsDeckUnit};
 ghost use Rattle.mdp_job.specs.DeckView.{deck_data};
 ghost use Rattle.mdp_job.specs.LayoutView.{layout_data};
-ghost use Rattle.mdp_job.specs.Parts.{IsWritten, IsLayoutAnswer, IsAnswerTo, run_of};
+ghost use Rattle.mdp_job.specs.Parts.{IsWritten, IsLayoutAnswer, IsAnswerTo, IsOfFracture, CountsFor, run_of};
 
 use crate::first_deck::{FirstDeck, read_first_deck};
 use crate::first_layout::{FirstLayout, read_first_layout};
@@ -45,6 +45,8 @@ fn write_shots<D: Depot>(
         → Rose (D.counts depot.old).write_faults (D.counts depot.new).write_faults }
     ensures read_fault { result ≡ Status.ReadFault → ⊥ }
     ensures words { result ≡ Status.Words → ⊥ }
+    ensures of_fracture { IsOfFracture result }
+    ensures counts { CountsFor (D.counts depot.old) (D.counts depot.new) result }
     ensures counted { NeverFall (D.counts depot.old) (D.counts depot.new) }
 {
     let Ok(shots) = shots_of(alloc, deck, layout) else {
@@ -68,6 +70,8 @@ fn take_layout<D: Depot>(alloc: Global, layout: &str, deck: &FirstDeck, depot: &
     ensures read_fault { result ≡ Status.ReadFault
         → Rose (D.counts depot.old).read_faults (D.counts depot.new).read_faults ⊎ IsTrue D.tells }
     ensures words { result ≡ Status.Words → ⊥ }
+    ensures of_fracture { IsOfFracture result }
+    ensures counts { CountsFor (D.counts depot.old) (D.counts depot.new) result }
     ensures counted { NeverFall (D.counts depot.old) (D.counts depot.new) }
 {
     let bytes = match read_all(alloc, depot, layout, LAYOUT_LIMIT) {
@@ -91,6 +95,8 @@ fn fracture<D: Depot>(alloc: Global, layout: &str, deck: &str, depot: &mut D) ->
     ensures read_fault { result ≡ Status.ReadFault
         → Rose (D.counts depot.old).read_faults (D.counts depot.new).read_faults ⊎ IsTrue D.tells }
     ensures words { result ≡ Status.Words → ⊥ }
+    ensures of_fracture { IsOfFracture result }
+    ensures counts { CountsFor (D.counts depot.old) (D.counts depot.new) result }
     ensures counted { NeverFall (D.counts depot.old) (D.counts depot.new) }
 {
     let bytes = match read_all(alloc, depot, deck, DECK_LIMIT) {
@@ -109,11 +115,13 @@ fn answered<D: Depot>(alloc: Global, words: &[String], depot: &mut D) -> Status
         (run_of (D.content depot.old) (D.content depot.new) (D.counts depot.old) (D.counts depot.new))
         (texts words.now) result }
     ensures words { (result ≡ Status.Words) ↔ IsNoCommand (texts words.now) }
+    ensures belongs { Belongs (texts words.now) result }
     ensures idle { result ≡ Status.Words → depot.new ≡ depot.old }
     ensures write_fault { result ≡ Status.WriteFault
         → Rose (D.counts depot.old).write_faults (D.counts depot.new).write_faults }
     ensures read_fault { result ≡ Status.ReadFault
         → Rose (D.counts depot.old).read_faults (D.counts depot.new).read_faults ⊎ IsTrue D.tells }
+    ensures counts { CountsFor (D.counts depot.old) (D.counts depot.new) result }
     ensures counted { NeverFall (D.counts depot.old) (D.counts depot.new) }
 {
     if let Some((layout, deck)) = fracture_names(words) {
@@ -130,10 +138,10 @@ fn answered<D: Depot>(alloc: Global, words: &[String], depot: &mut D) -> Status
 /// or `shots FILE`, where the shots of a shot file are listed on standard output. An answer other than Done is said in one
 /// line; a failure to say that line changes nothing.
 ///
-/// The clauses on content hold over a depot that tells it. The causes of the two faults hold over every depot.
+/// The clauses on content hold over a depot that tells it. The others hold over every depot.
 pub fn run<D: Depot>(alloc: Global, words: &[String], depot: &mut D) -> Status
     ensures words { (result ≡ Status.Words) ↔ IsNoCommand (texts words.now) }
-    ensures belongs { IsTrue D.tells → Belongs (texts words.now) result }
+    ensures belongs { Belongs (texts words.now) result }
 
     // After Done: exact cover and no other name has changed, or the listing was said.
     ensures cover { IsTrue D.tells → Covers
@@ -178,6 +186,9 @@ pub fn run<D: Depot>(alloc: Global, words: &[String], depot: &mut D) -> Status
         → Rose (D.counts depot.old).read_faults (D.counts depot.new).read_faults ⊎ IsTrue D.tells }
     ensures write_counted { result ≡ Status.WriteFault
         → Rose (D.counts depot.old).write_faults (D.counts depot.new).write_faults }
+
+    // After Done nothing was counted, and a counted fault of reading is answered as that.
+    ensures faults_told { FaultsTold (D.counts depot.old) (D.counts depot.new) result }
 
     // What is said, and what refusals, faults and listings leave.
     ensures said { IsTrue D.tells → Says

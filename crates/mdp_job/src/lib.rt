@@ -5,6 +5,7 @@
 mod first_deck;
 mod first_layout;
 mod job;
+mod laws;
 mod layout_parts;
 mod layout_points;
 mod lines;
@@ -22,4 +23,5 @@ mod words;
 mod writing;
 
 pub use job::{run, run_surely};
+pub use laws::reading_laws;
 pub use status::{CheckFault, DeckFault, LayoutFault, Status};

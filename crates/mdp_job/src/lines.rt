@@ -54,6 +54,7 @@ fn say_fault<D: Depot>(depot: &mut D, file: &str, fault: &str, at: usize) -> Res
         → Rose (D.counts depot.old).write_faults (D.counts depot.new).write_faults }
     ensures no_memory { IsErrOf result DepotBad.NoMemory
         → Rose (D.counts depot.old).refused (D.counts depot.new).refused }
+    ensures reads { (D.counts depot.new).read_faults ≡ (D.counts depot.old).read_faults }
     ensures counted { NeverFall (D.counts depot.old) (D.counts depot.new) }
 {
     let mut digits = Buffer::new();
@@ -79,6 +80,7 @@ fn say_check<D: Depot>(depot: &mut D, file: &str, fault: &CheckFault) -> Result<
         → Rose (D.counts depot.old).write_faults (D.counts depot.new).write_faults }
     ensures no_memory { IsErrOf result DepotBad.NoMemory
         → Rose (D.counts depot.old).refused (D.counts depot.new).refused }
+    ensures reads { (D.counts depot.new).read_faults ≡ (D.counts depot.old).read_faults }
     ensures counted { NeverFall (D.counts depot.old) (D.counts depot.new) }
 {
     match fault {
@@ -107,6 +109,7 @@ fn say_text<D: Depot>(depot: &mut D, file: &str, status: &Status) -> Result<(), 
         → Rose (D.counts depot.old).write_faults (D.counts depot.new).write_faults }
     ensures no_memory { IsErrOf result DepotBad.NoMemory
         → Rose (D.counts depot.old).refused (D.counts depot.new).refused }
+    ensures reads { (D.counts depot.new).read_faults ≡ (D.counts depot.old).read_faults }
     ensures counted { NeverFall (D.counts depot.old) (D.counts depot.new) }
 {
     match status {
@@ -130,6 +133,7 @@ pub(crate) fn say_line<D: Depot>(depot: &mut D, file: &str, status: &Status)
         → (D.content depot.new ≡ with_said (D.content depot.old) (line_of file.now status.now))
         ⊎ Rose (D.counts depot.old).write_faults (D.counts depot.new).write_faults
         ⊎ Rose (D.counts depot.old).refused (D.counts depot.new).refused }
+    ensures reads { (D.counts depot.new).read_faults ≡ (D.counts depot.old).read_faults }
     ensures counted { NeverFall (D.counts depot.old) (D.counts depot.new) }
 {
     if let Status::Done = status {

@@ -3,17 +3,17 @@
 ghost use Rattle.std.specs.Prelude.{◌≡◌, ◌⊎◌, ◌≤◌, IsTrue, length};
 ghost use Rattle.depot.specs.Counts.{NeverFall, Rose};
 ghost use Rattle.mdp_job.specs.Listings.{IsListingAnswer, IsTold, shot_data, refused_shots};
-ghost use Rattle.mdp_job.specs.Parts.{run_of};
+ghost use Rattle.mdp_job.specs.Parts.{IsOfShots, CountsFor, run_of};
 
 use crate::reading::refused_status;
 use crate::status::{CheckFault, Status};
 use depot::{Depot, DepotBad, read_all};
-use shot_listing::say_listing;
+use shot_listing::{MOST_SHOTS, say_listing};
 use shot_reader::{ShotBad, ShotFile, read_shots};
 use std::alloc::Global;
 
-/// A shot file has at most so many bytes.
-const SHOTS_LIMIT: usize = 268_435_456;
+/// A shot file has at most so many bytes, so it has no more shots than that.
+const SHOTS_LIMIT: usize = MOST_SHOTS;
 
 // The answer to bytes that are no shot file.
 fn refused_shots(bad: ShotBad) -> Status
@@ -31,7 +31,7 @@ fn refused_shots(bad: ShotBad) -> Status
 
 // Says the listing of a shot file.
 fn say_file<D: Depot>(file: &ShotFile, depot: &mut D) -> Status
-    requires { length file.now.shots ≤ 268435456 }
+    requires { length file.now.shots ≤ MOST_SHOTS }
     ensures told { IsTrue D.tells → IsTold
         (run_of (D.content depot.old) (D.content depot.new) (D.counts depot.old) (D.counts depot.new))
         (shot_data file.now) result }
@@ -39,6 +39,8 @@ fn say_file<D: Depot>(file: &ShotFile, depot: &mut D) -> Status
         → Rose (D.counts depot.old).write_faults (D.counts depot.new).write_faults }
     ensures read_fault { result ≡ Status.ReadFault → ⊥ }
     ensures words { result ≡ Status.Words → ⊥ }
+    ensures of_shots { IsOfShots result }
+    ensures counts { CountsFor (D.counts depot.old) (D.counts depot.new) result }
     ensures counted { NeverFall (D.counts depot.old) (D.counts depot.new) }
 {
     match say_listing(depot, file.unit, file.pair, file.shots.as_slice()) {
@@ -58,6 +60,8 @@ pub(crate) fn list_shots<D: Depot>(alloc: Global, file: &str, depot: &mut D) -> 
     ensures read_fault { result ≡ Status.ReadFault
         → Rose (D.counts depot.old).read_faults (D.counts depot.new).read_faults ⊎ IsTrue D.tells }
     ensures words { result ≡ Status.Words → ⊥ }
+    ensures of_shots { IsOfShots result }
+    ensures counts { CountsFor (D.counts depot.old) (D.counts depot.new) result }
     ensures counted { NeverFall (D.counts depot.old) (D.counts depot.new) }
 {
     let bytes = match read_all(alloc, depot, file, SHOTS_LIMIT) {

@@ -28,8 +28,8 @@ fn other_file(alloc: Global, first: u8, records: &[u8], after: &[u8]) -> Result<
     Ok(file)
 }
 
-// A width of 0, and a width with a group of zeros at its end.
-const NO_WIDTH: &[u8] = &[0x14, 0x7B, 0x01, 0x00, 0x14, 0x00, 0x00, 0x00];
+// A height of 0, and a width with a group of zeros at its end.
+const NO_HEIGHT: &[u8] = &[0x14, 0x7B, 0x01, 0x00, 0x14, 0x00, 0x00, 0x00];
 
 const LONG_WIDTH: &[u8] = &[0x14, 0x7B, 0x01, 0x00, 0x94, 0x00, 0x14, 0x00, 0x00];
 
@@ -46,7 +46,7 @@ const FILES: [(u8, &[u8], &[u8], Option<ShotBad>, &str); 6] = [
     ),
     (
         0xD0,
-        NO_WIDTH,
+        NO_HEIGHT,
         &[],
         Some(ShotBad::Illegal(41)),
         "check refused: F: illegal at 41\n",

@@ -149,8 +149,9 @@ fn left_number(column: i64) -> i64
     column + column
 }
 
-/// The polygon's tiles as one-row shots: from the lowest row up, in each row from left to right, one shot for each
-/// maximal run.
+/// The polygon's tiles as one-row shots. What is proved is that each tile is in just one of them, and no other tile in
+/// any. How a row is cut into shots, and their order, no clause says: it goes from the lowest row up and from left to
+/// right, with one shot for each run of tiles.
 pub(crate) fn row_list(alloc: Global, points: &[Point]) -> Result<Vec<Trap>, NoMemory>
     requires closed { IsClosed points.now }
     requires edges { HasGridEdges points.now }

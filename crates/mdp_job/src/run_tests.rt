@@ -1,10 +1,13 @@
 //! The command from end to end: files that were worked out by hand, refusals with their codes, and the cover of shapes
 //! against the plain test of each tile.
+ghost use Rattle.std.specs.Prelude.{false};
+ghost use Rattle.depot.specs.Content.{nothing};
+ghost use Rattle.depot.specs.Counts.{no_counts};
 
-use crate::status::{DeckFault, LayoutFault, Status};
+use crate::status::{CheckFault, DeckFault, LayoutFault, Status};
 use crate::tests::SQUARE;
-use crate::{run, run_surely};
-use depot::{MemDepot, SureDepot};
+use crate::{reading_laws, run, run_surely};
+use depot::{Depot, DepotBad, MemDepot, SureDepot};
 use geo_stream::NoMemory;
 use half_grid::{Point, Side, Tile, winding_at};
 use std::alloc::Global;
@@ -50,6 +53,7 @@ pub(crate) fn words(alloc: Global, parts: &[&str]) -> Result<Vec<String>, NoMemo
 
 #[test]
 fn the_square_is_written(rt: HostRuntime) -> Result<(), Fail> {
+    reading_laws();
     let alloc = rt.alloc();
     let want = square_file(alloc)?;
     assert_eq!(rt; want.len(), 457);
@@ -155,6 +159,79 @@ fn refusals_have_their_codes(rt: HostRuntime) -> Result<(), Fail> {
     Ok(())
 }
 
+// A depot whose deck is there, and where every other name is a file without end.
+#[derive(Drop)]
+struct EndlessDepot {
+    deck_left: bool,
+    is_deck: bool,
+}
+
+impl Depot for EndlessDepot {
+    ghost tells = { false };
+
+    ghost content = { λ _. nothing };
+
+    ghost counts = { λ _. no_counts };
+
+    fn start_read(&mut self, name: &str) -> Result<(), DepotBad> {
+        self.is_deck = name == "K";
+        self.deck_left = true;
+        Ok(())
+    }
+
+    fn read(&mut self, buf: &mut [u8]) -> Result<usize, DepotBad> {
+        if !self.is_deck {
+            return Ok(buf.len());
+        }
+        if !self.deck_left || buf.len() < DECK.len() {
+            return Ok(0);
+        }
+        self.deck_left = false;
+        buf[..DECK.len()].copy_from_slice(DECK);
+        Ok(DECK.len())
+    }
+
+    fn start_write(&mut self, _name: &str) -> Result<(), DepotBad> {
+        Ok(())
+    }
+
+    fn write(&mut self, bytes: &[u8]) -> Result<usize, DepotBad> {
+        Ok(bytes.len())
+    }
+
+    fn say(&mut self, bytes: &[u8]) -> Result<usize, DepotBad> {
+        Ok(bytes.len())
+    }
+}
+
+#[test]
+fn files_that_are_too_long(rt: HostRuntime) -> Result<(), Fail> {
+    let alloc = rt.alloc();
+    // a deck of 65,537 bytes, whether the layout is there or not
+    let long = vec![in alloc; b' '; 65_537]?;
+    let fracture = words(alloc, &FRACTURE)?;
+    for there in [false, true] {
+        let mut depot = MemDepot::new(alloc);
+        if there {
+            depot.add("G.gds", &SQUARE)?;
+        }
+        depot.add("K", &long)?;
+        assert!(rt; run(alloc, &fracture, &mut depot) == Status::Deck(DeckFault::Long));
+        assert_eq!(rt;
+            depot.said(),
+            b"deck refused: longer than 65536 bytes\n".as_slice()
+        );
+    }
+    let mut endless = EndlessDepot {
+        deck_left: false,
+        is_deck: false,
+    };
+    assert!(rt; run(alloc, &fracture, &mut endless) == Status::Layout(LayoutFault::Long));
+    let shots = words(alloc, &["shots", "F"])?;
+    assert!(rt; run(alloc, &shots, &mut endless) == Status::No(0, CheckFault::Long));
+    Ok(())
+}
+
 #[test]
 fn a_failing_call_is_a_fault(rt: HostRuntime) -> Result<(), Fail> {
     let alloc = rt.alloc();
@@ -206,18 +283,15 @@ fn layout_of(alloc: Global, corners: &[(u8, u8)]) -> Result<Vec<u8>, NoMemory> {
 }
 
 // Polygons by their corners in grid steps, and the number of their triangles.
-const SHAPES: [(&[(u8, u8)], &str); 4] = [
+const SHAPES: [(&[(u8, u8)], u64); 4] = [
     // a triangle
-    (&[(0, 0), (10, 0), (10, 10), (0, 0)], " triangles 400\n"),
+    (&[(0, 0), (10, 0), (10, 10), (0, 0)], 400),
     // a figure eight, which crosses itself
-    (
-        &[(0, 0), (10, 10), (10, 0), (0, 10), (0, 0)],
-        " triangles 400\n",
-    ),
+    (&[(0, 0), (10, 10), (10, 0), (0, 10), (0, 0)], 400),
     // a square with repeated points
     (
         &[(0, 0), (0, 0), (0, 10), (10, 10), (10, 10), (10, 0), (0, 0)],
-        " triangles 800\n",
+        800,
     ),
     // a square that is run round twice
     (
@@ -232,7 +306,7 @@ const SHAPES: [(&[(u8, u8)], &str); 4] = [
             (10, 0),
             (0, 0),
         ],
-        " triangles 800\n",
+        800,
     ),
 ];
 
@@ -269,10 +343,11 @@ fn shapes_have_their_triangles(rt: HostRuntime) -> Result<(), Fail> {
         assert!(rt;
             run(alloc, &words(alloc, &["shots", "out.oas"])?, &mut listing) == Status::Done
         );
-        assert!(rt; listing.said().ends_with(want.as_bytes()));
+        let sums = format!(in alloc; " triangles {want}\n")?;
+        assert!(rt; listing.said().ends_with(sums.as_bytes()));
         // the plain test of each tile counts as many
         let points = points_of(alloc, corners)?;
-        assert!(rt; want.contains(&inside(&points).to_string(alloc)?));
+        assert_eq!(rt; inside(&points), want);
     }
     Ok(())
 }

@@ -55,6 +55,10 @@ pub(crate) fn write_file<D: Depot>(
         (D.content depot.old) deck.now.file.now (text_for (deck_data deck.now) shots.now) (D.content depot.new)) }
     ensures failed { IsErrOf result DepotBad.Failed
         → Rose (D.counts depot.old).write_faults (D.counts depot.new).write_faults }
+    ensures no_memory { IsErrOf result DepotBad.NoMemory
+        → Rose (D.counts depot.old).refused (D.counts depot.new).refused }
+    ensures uncounted { OnOk result (D.counts depot.new ≡ D.counts depot.old) }
+    ensures reads { (D.counts depot.new).read_faults ≡ (D.counts depot.old).read_faults }
     ensures counted { NeverFall (D.counts depot.old) (D.counts depot.new) }
 {
     let pair = Pair {

@@ -30,6 +30,8 @@ fn say_last<D: Depot>(
         → Rose (D.counts depot.old).write_faults (D.counts depot.new).write_faults }
     ensures no_memory { IsErrOf result DepotBad.NoMemory
         → Rose (D.counts depot.old).refused (D.counts depot.new).refused }
+    ensures uncounted { OnOk result (D.counts depot.new ≡ D.counts depot.old) }
+    ensures reads { (D.counts depot.new).read_faults ≡ (D.counts depot.old).read_faults }
     ensures counted { NeverFall (D.counts depot.old) (D.counts depot.new) }
 {
     make_room(depot, buffer)?;
@@ -45,7 +47,7 @@ pub fn say_listing<D: Depot>(
     pair: Option<Pair>,
     shots: &[Trap],
 ) -> Result<(), DepotBad>
-    requires few { length shots.now ≤ 268435456 }
+    requires few { length shots.now ≤ MOST_SHOTS }
     ensures ok { OnOk result (IsTrue D.tells → D.content depot.new
         ≡ with_said (D.content depot.old) (listing unit pair shots.now)) }
     ensures refused { OnErr result (IsTrue D.tells → IsPartSaid
@@ -54,6 +56,8 @@ pub fn say_listing<D: Depot>(
         → Rose (D.counts depot.old).write_faults (D.counts depot.new).write_faults }
     ensures no_memory { IsErrOf result DepotBad.NoMemory
         → Rose (D.counts depot.old).refused (D.counts depot.new).refused }
+    ensures uncounted { OnOk result (D.counts depot.new ≡ D.counts depot.old) }
+    ensures reads { (D.counts depot.new).read_faults ≡ (D.counts depot.old).read_faults }
     ensures counted { NeverFall (D.counts depot.old) (D.counts depot.new) }
 {
     let mut buffer = Buffer::new();
@@ -73,6 +77,8 @@ pub fn say_each<D: Depot>(depot: &mut D, pieces: &[&[u8]]) -> Result<(), DepotBa
         → Rose (D.counts depot.old).write_faults (D.counts depot.new).write_faults }
     ensures no_memory { IsErrOf result DepotBad.NoMemory
         → Rose (D.counts depot.old).refused (D.counts depot.new).refused }
+    ensures uncounted { OnOk result (D.counts depot.new ≡ D.counts depot.old) }
+    ensures reads { (D.counts depot.new).read_faults ≡ (D.counts depot.old).read_faults }
     ensures counted { NeverFall (D.counts depot.old) (D.counts depot.new) }
 {
     let mut buffer = Buffer::new();

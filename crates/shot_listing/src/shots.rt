@@ -8,6 +8,7 @@ ghost use Rattle.shot_listing.specs.Saying.{IsSaidButFor};
 
 use crate::buffer::make_room;
 use crate::lines::put_shot;
+use crate::saying::MOST_SHOTS;
 use depot::{Buffer, Depot, DepotBad};
 use half_grid::Trap;
 use shot_writer::triangles_in;
@@ -22,6 +23,8 @@ fn put_line<D: Depot>(depot: &mut D, buffer: &mut Buffer, shot: &Trap) -> Result
         → Rose (D.counts depot.old).write_faults (D.counts depot.new).write_faults }
     ensures no_memory { IsErrOf result DepotBad.NoMemory
         → Rose (D.counts depot.old).refused (D.counts depot.new).refused }
+    ensures uncounted { OnOk result (D.counts depot.new ≡ D.counts depot.old) }
+    ensures reads { (D.counts depot.new).read_faults ≡ (D.counts depot.old).read_faults }
     ensures counted { NeverFall (D.counts depot.old) (D.counts depot.new) }
 {
     make_room(depot, buffer)?;
@@ -35,7 +38,7 @@ pub(crate) fn put_shots<D: Depot>(
     buffer: &mut Buffer,
     shots: &[Trap],
 ) -> Result<u128, DepotBad>
-    requires few { length shots.now ≤ 268435456 }
+    requires few { length shots.now ≤ MOST_SHOTS }
     ensures triangles { IfOk result (λ triangles. triangles ≡ triangles_of shots.now) }
     ensures ok { OnOk result (IsTrue D.tells → IsSaidButFor (D.content depot.old)
         (buffer.old ++ flat_map shot_line shots.now) buffer.new (D.content depot.new)) }
@@ -45,6 +48,8 @@ pub(crate) fn put_shots<D: Depot>(
         → Rose (D.counts depot.old).write_faults (D.counts depot.new).write_faults }
     ensures no_memory { IsErrOf result DepotBad.NoMemory
         → Rose (D.counts depot.old).refused (D.counts depot.new).refused }
+    ensures uncounted { OnOk result (D.counts depot.new ≡ D.counts depot.old) }
+    ensures reads { (D.counts depot.new).read_faults ≡ (D.counts depot.old).read_faults }
     ensures counted { NeverFall (D.counts depot.old) (D.counts depot.new) }
 {
     let mut triangles = 0;

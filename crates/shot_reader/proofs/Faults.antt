@@ -194,6 +194,16 @@ no_fault bytes at first bad u e (inr b) =
     let same = up_same bytes at b.0 first b.1 u b.2 (λ l d p g. end_stops l d (drop at bytes) p e) (fault_ends b.1 (drop b.0 bytes) b.0 bad b.3) in
     end_right b.1 (drop b.0 bytes) b.0 bad (sym same.rest ∙ e) b.3
 
+-- two readings up to END are of one unit, one pair and the same shots
+pub one_read : (bytes : List ℕ) (at to : ℕ) (first other : Option Pair) (u : IsReadUpTo bytes at first) (v : IsReadUpTo bytes to other) → drop at bytes ≡ end → drop to bytes ≡ end
+    → (u.unit ≡ v.unit) × (first ≡ other) × (u.shots ≡ v.shots)
+one_read bytes at to first other u v e f =
+    let same = up_same bytes at to first other u v (λ l d p g. end_stops l d (drop at bytes) p e) (λ l d p g. end_stops l d (drop to bytes) p f) in (
+      (up_rest bytes at to first other u v).0,
+      pair_one u.layer u.datatype v.layer v.datatype first other u.shots v.shots (drop at bytes) (drop to bytes) u.pair_fits v.pair_fits u.agrees v.agrees same,
+      same.shots,
+    )
+
 -- ---- the text of shots
 
 front_of : ℕ → ℕ → ℕ → List Trapezoid → List ℕ

@@ -10,4 +10,5 @@ pub mod Alikes
 pub mod Nearest
 pub mod Records
 pub mod Files
+pub mod Others
 pub mod ForCallers

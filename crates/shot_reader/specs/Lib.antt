@@ -3,3 +3,4 @@ pub mod Fields
 pub mod Near
 pub mod Alike
 pub mod Refusals
+pub mod Laws

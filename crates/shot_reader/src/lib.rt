@@ -4,10 +4,12 @@
 mod corners;
 mod fields;
 mod head;
+mod laws;
 mod reading;
 mod refusing;
 #[cfg(test)]
 mod tests;
 
+pub use laws::reading_laws;
 pub use reading::{ShotFile, read_shots};
 pub use refusing::ShotBad;

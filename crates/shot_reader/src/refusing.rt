@@ -2,7 +2,6 @@
 ghost use Rattle.std.specs.Prelude.{◌≡◌, ◌⊎◌, ◌≤◌, ℕ, length, drop, nat_lt, count_by, IsTrue, IfSome};
 ghost use Rattle.shot_reader.specs.Refusals.{HasNumbers, IsWhole};
 
-use geo_stream::NoMemory;
 use oas_lex::{INFO, RECTANGLE, TRAPEZOID, TRAPEZOID_A, TRAPEZOID_B};
 
 /// The first fault of bytes that are no shot file, by the offset of the record that has it.
@@ -21,14 +20,6 @@ pub enum ShotBad {
     End(usize),
     /// Memory was wanting.
     NoMemory,
-}
-
-impl From<NoMemory> for ShotBad {
-    fn from(_refused: NoMemory) -> ShotBad
-        ensures { result ≡ ShotBad.NoMemory }
-    {
-        ShotBad::NoMemory
-    }
 }
 
 // How many numbers the record of this id has.

@@ -1,5 +1,5 @@
 // The shots of small files by their bytes, and the first fault of bytes that are no shot file.
-use crate::{ShotBad, ShotFile, read_shots};
+use crate::{ShotBad, ShotFile, read_shots, reading_laws};
 use half_grid::{Line, Trap};
 use layout_model::Pair;
 use std::alloc::Global;
@@ -55,6 +55,7 @@ fn read(alloc: Global, records: &[u8]) -> Result<ShotFile, Fail> {
 
 #[test]
 fn reads_no_shots(rt: HostRuntime) -> Result<(), Fail> {
+    reading_laws();
     let file = read(rt.alloc(), &[])?;
     assert_eq!(rt; file.unit, 2000);
     assert_eq!(rt; file.pair, None);

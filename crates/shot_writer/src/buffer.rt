@@ -19,6 +19,8 @@ pub(crate) fn flush<D: Depot>(depot: &mut D, buffer: &mut Buffer) -> Result<(), 
         → Rose (D.counts depot.old).write_faults (D.counts depot.new).write_faults }
     ensures no_memory { IsErrOf result DepotBad.NoMemory
         → Rose (D.counts depot.old).refused (D.counts depot.new).refused }
+    ensures uncounted { OnOk result (D.counts depot.new ≡ D.counts depot.old) }
+    ensures reads { (D.counts depot.new).read_faults ≡ (D.counts depot.old).read_faults }
     ensures counted { NeverFall (D.counts depot.old) (D.counts depot.new) }
 {
     write_whole(depot, buffer.bytes())?;
@@ -38,6 +40,8 @@ fn make_room<D: Depot>(depot: &mut D, buffer: &mut Buffer) -> Result<(), DepotBa
         → Rose (D.counts depot.old).write_faults (D.counts depot.new).write_faults }
     ensures no_memory { IsErrOf result DepotBad.NoMemory
         → Rose (D.counts depot.old).refused (D.counts depot.new).refused }
+    ensures uncounted { OnOk result (D.counts depot.new ≡ D.counts depot.old) }
+    ensures reads { (D.counts depot.new).read_faults ≡ (D.counts depot.old).read_faults }
     ensures counted { NeverFall (D.counts depot.old) (D.counts depot.new) }
 {
     if ROOM <= buffer.room() {
@@ -62,6 +66,8 @@ pub(crate) fn put_bytes<D: Depot>(
         → Rose (D.counts depot.old).write_faults (D.counts depot.new).write_faults }
     ensures no_memory { IsErrOf result DepotBad.NoMemory
         → Rose (D.counts depot.old).refused (D.counts depot.new).refused }
+    ensures uncounted { OnOk result (D.counts depot.new ≡ D.counts depot.old) }
+    ensures reads { (D.counts depot.new).read_faults ≡ (D.counts depot.old).read_faults }
     ensures counted { NeverFall (D.counts depot.old) (D.counts depot.new) }
 {
     make_room(depot, buffer)?;

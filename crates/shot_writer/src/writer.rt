@@ -49,6 +49,8 @@ impl ShotWriter {
             → Rose (D.counts depot.old).write_faults (D.counts depot.new).write_faults }
         ensures no_memory { IsErrOf result DepotBad.NoMemory
             → Rose (D.counts depot.old).refused (D.counts depot.new).refused }
+        ensures uncounted { OnOk result (D.counts depot.new ≡ D.counts depot.old) }
+        ensures reads { (D.counts depot.new).read_faults ≡ (D.counts depot.old).read_faults }
         ensures counted { NeverFall (D.counts depot.old) (D.counts depot.new) }
     {
         make_file(depot, name, head_text(u64::from(head.unit)).bytes())?;
@@ -95,6 +97,8 @@ impl ShotWriter {
             ⊎ Rose (D.counts depot.old).write_faults (D.counts depot.new).write_faults }
         ensures no_memory { IsErrOf result DepotBad.NoMemory → (refusal_of self.old ≡ Some NoMemory)
             ⊎ Rose (D.counts depot.old).refused (D.counts depot.new).refused }
+        ensures uncounted { OnOk result (D.counts depot.new ≡ D.counts depot.old) }
+        ensures reads { (D.counts depot.new).read_faults ≡ (D.counts depot.old).read_faults }
         ensures counted { NeverFall (D.counts depot.old) (D.counts depot.new) }
     {
         if let Some(bad) = self.refusal {
@@ -128,6 +132,8 @@ impl ShotWriter {
             ⊎ Rose (D.counts depot.old).write_faults (D.counts depot.new).write_faults }
         ensures no_memory { IsErrOf result DepotBad.NoMemory → (refusal_of self ≡ Some NoMemory)
             ⊎ Rose (D.counts depot.old).refused (D.counts depot.new).refused }
+        ensures uncounted { OnOk result (D.counts depot.new ≡ D.counts depot.old) }
+        ensures reads { (D.counts depot.new).read_faults ≡ (D.counts depot.old).read_faults }
         ensures counted { NeverFall (D.counts depot.old) (D.counts depot.new) }
     {
         if let Some(kept) = self.refusal {

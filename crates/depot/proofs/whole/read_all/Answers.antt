@@ -2,17 +2,17 @@ use Rattle.std.proofs.Common.{◌≤◌, length, ◌++◌, [], Some, Err, sym, a
 use Rattle.std.proofs.lemmas.Result.{err_from_is_err_and}
 use Rattle.depot.specs.Content.{Content, with_left}
 use Rattle.depot.proofs.ForCallers.{Rose-later}
-use Rattle.depot.proofs.Reading.{one_error, refused_not_long, refused_fault, not_longer, not_missing}
+use Rattle.depot.proofs.Reading.{one_error, refused_not_long, refused_fault, not_longer, not_missing, longer, want_or_nothing}
 use Rattle.depot.proofs.whole.read_all.Goals as goal
 
 pub returns-in_err-start_read-clause-too_long : goal.returns-in_err-start_read-clause-too_long
 returns-in_err-start_read-clause-too_long g c = λ is told.
-    let p = err_from_is_err_and c.from_residual-in_err-start_read.result c.from_residual-in_err-start_read.ensures.1 in
+    let p = err_from_is_err_and c.from_residual.result c.from_residual.ensures.1 in
     absurd (refused_not_long _ (sym p.2 ∙ one_error _ _ _ p.1 is))
 
 pub returns-in_err-start_read-clause-fault : goal.returns-in_err-start_read-clause-fault
 returns-in_err-start_read-clause-fault g c = λ is.
-    let p = err_from_is_err_and c.from_residual-in_err-start_read.result c.from_residual-in_err-start_read.ensures.1 in
+    let p = err_from_is_err_and c.from_residual.result c.from_residual.ensures.1 in
     c.in_err-start_read.ensures.failed (ap (λ bad. Err bad) (refused_fault _ (sym p.2 ∙ one_error _ _ _ p.1 is)))
 
 pub returns-in_err-read_rest-clause-fault : goal.returns-in_err-read_rest-clause-fault
@@ -42,3 +42,15 @@ returns-clause-long g c = λ told long.
 
 pub returns-clause-missing : goal.returns-clause-missing
 returns-clause-missing g c = λ told missing. absurd (not_missing _ _ (returns-clause-ok g c told) missing)
+
+pub returns-in_err-read_rest-clause-too_long : goal.returns-in_err-read_rest-clause-too_long
+returns-in_err-read_rest-clause-too_long g c = λ is told.
+    let p = err_from_is_err_and c.from_residual-in_err-read_rest.result c.from_residual-in_err-read_rest.ensures.1 in
+    longer _ _ _ c.args.limit (c.in_ok-start_read.ensures.ok told).held c.new-bytes.ensures.items
+    (c.in_err-read_rest.ensures.too_long (ap (λ bad. Err bad) (sym p.2 ∙ one_error _ _ _ p.1 is)) told)
+
+pub returns-in_err-read_rest-clause-no_memory : goal.returns-in_err-read_rest-clause-no_memory
+returns-in_err-read_rest-clause-no_memory g c = λ is.
+    let p = err_from_is_err_and c.from_residual-in_err-read_rest.result c.from_residual-in_err-read_rest.ensures.1 in
+    want_or_nothing (g.D.Depot.counts c.args.depot.now) (g.D.Depot.counts c.start_read.new.self) (g.D.Depot.counts c.read_rest.new.depot) c.in_ok-start_read.ensures.uncounted
+    (c.in_err-read_rest.ensures.no_memory (ap (λ bad. Err bad) (sym p.2 ∙ one_error _ _ _ p.1 is)))

@@ -8,6 +8,7 @@ invariant-loop-count g l = record {
   within : vec_len l.bytes ≤ l.limit;
   given : IsTrue g.D.Depot.tells → l.bytes.items ++ (g.D.Depot.content l.depot).left ≡ l.initial.bytes.items ++ (g.D.Depot.content l.initial.depot).left;
   others : IsTrue g.D.Depot.tells → ChangesLeftOnly (g.D.Depot.content l.initial.depot) (g.D.Depot.content l.depot);
+  uncounted : g.D.Depot.counts l.depot ≡ g.D.Depot.counts l.initial.depot;
   counted : NeverFall (g.D.Depot.counts l.initial.depot) (g.D.Depot.counts l.depot);
 }
 

@@ -7,6 +7,7 @@ abbrev pub invariant-loop-done : goal.invariant-loop-done
 invariant-loop-done g l = record {
   within : l.done ≤ length l.bytes;
   content : IsTrue g.D.Depot.tells → g.D.Depot.content l.depot ≡ with_written (g.D.Depot.content l.initial.depot) (take l.done l.bytes);
+  uncounted : g.D.Depot.counts l.depot ≡ g.D.Depot.counts l.initial.depot;
   counted : NeverFall (g.D.Depot.counts l.initial.depot) (g.D.Depot.counts l.depot);
 }
 

@@ -1,8 +1,8 @@
 use Rattle.std.proofs.Common.{ap}
 use Rattle.mdp_job.specs.Parts.{run_of}
 use Rattle.mdp_job.proofs.RowLemmas.{deck_long, deck_early, layout_long, layout_early}
-use Rattle.mdp_job.proofs.ListingRows.{accepts, shots_long, shots_bad, read_faults, write_faults, belongs}
-use Rattle.mdp_job.proofs.Finals.{table_later, says, spares, keeps, spoils, covers, lists}
+use Rattle.mdp_job.proofs.ListingRows.{accepts, shots_long, shots_bad, read_faults, write_faults}
+use Rattle.mdp_job.proofs.Finals.{table_later, says, spares, keeps, spoils, covers, lists, faults_told}
 use Rattle.mdp_job.proofs.job.run.Goals as goal
 
 pub returns-clause-accepted : goal.returns-clause-accepted
@@ -50,8 +50,10 @@ returns-clause-write_fault g c = λ tells.
     write_faults (run_of (g.D.Depot.content c.args.depot.now) (g.D.Depot.content c.answered-status.new.depot) (g.D.Depot.counts c.args.depot.now) (g.D.Depot.counts c.say_line.new.depot)) _ _
     (table_later (g.D.Depot.content c.args.depot.now) (g.D.Depot.content c.answered-status.new.depot) (g.D.Depot.counts c.args.depot.now) (g.D.Depot.counts c.answered-status.new.depot) (g.D.Depot.counts c.say_line.new.depot) _ _ c.say_line.ensures.counted (c.answered-status.ensures.table tells))
 
-pub returns-clause-belongs : goal.returns-clause-belongs
-returns-clause-belongs g c = λ tells. belongs (run_of (g.D.Depot.content c.args.depot.now) (g.D.Depot.content c.answered-status.new.depot) (g.D.Depot.counts c.args.depot.now) (g.D.Depot.counts c.answered-status.new.depot)) _ _ (c.answered-status.ensures.table tells)
+pub returns-clause-faults_told : goal.returns-clause-faults_told
+returns-clause-faults_told g c =
+    faults_told (g.D.Depot.counts c.args.depot.now) (g.D.Depot.counts c.answered-status.new.depot) (g.D.Depot.counts c.say_line.new.depot) _ c.answered-status.ensures.counts c.say_line.ensures.counted c.say_line.ensures.reads
+    (λ e. ap g.D.Depot.counts (c.say_line.ensures.done e))
 
 pub returns-clause-cover : goal.returns-clause-cover
 returns-clause-cover g c = λ tells.

@@ -11,5 +11,6 @@ returns-in-Ok g c = record {
       let line = line_of c.args.file.now c.args.status.now in
       (length line, omega (arith), c.in-Ok.ensures.ok tells ∙ ap (with_said (g.D.Depot.content c.args.depot.now)) (sym (take-length line)));
   whole = λ tells. inl (c.in-Ok.ensures.ok tells);
+  reads = c.say_text.ensures.reads;
   counted = c.say_text.ensures.counted;
 }

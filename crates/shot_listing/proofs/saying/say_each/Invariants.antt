@@ -1,4 +1,4 @@
-use Rattle.std.proofs.Common.{take, IsTrue}
+use Rattle.std.proofs.Common.{◌≡◌, take, IsTrue}
 use Rattle.depot.specs.Counts.{NeverFall}
 use Rattle.shot_listing.specs.Saying.{IsSaidButFor, joined}
 use Rattle.shot_listing.proofs.saying.say_each.Given as goal
@@ -6,5 +6,6 @@ use Rattle.shot_listing.proofs.saying.say_each.Given as goal
 abbrev pub invariant-loop-piece : goal.invariant-loop-piece
 invariant-loop-piece g l = record {
   said : IsTrue g.D.Depot.tells → IsSaidButFor (g.D.Depot.content l.initial.depot) (joined (take l.piece-index l.pieces)) l.buffer (g.D.Depot.content l.depot);
+  uncounted : g.D.Depot.counts l.depot ≡ g.D.Depot.counts l.initial.depot;
   counted : NeverFall (g.D.Depot.counts l.initial.depot) (g.D.Depot.counts l.depot);
 }

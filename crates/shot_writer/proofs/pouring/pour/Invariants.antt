@@ -1,4 +1,4 @@
-use Rattle.std.proofs.Common.{List, IsTrue, ◌≤◌}
+use Rattle.std.proofs.Common.{◌≡◌, List, IsTrue, ◌≤◌}
 use Rattle.depot.specs.Counts.{NeverFall}
 use Rattle.half_grid.specs.Trapezoids.{Trapezoid}
 use Rattle.shot_writer.proofs.SoFar.{Poured}
@@ -9,6 +9,7 @@ invariant-loop-shot g l = record {
   poured : (items : List Trapezoid) → g.S.Stream.stands_for l.initial.shots items
       → Poured (g.S.Stream.stands_for) (IsTrue g.D.Depot.tells) l.fn.pair l.fn.before (g.D.Depot.content l.initial.depot) items (g.D.Depot.content l.depot) l.sums l.buffer l.shots;
   fewer : l.sums.shots ≤ l.sums.triangles;
+  uncounted : g.D.Depot.counts l.depot ≡ g.D.Depot.counts l.initial.depot;
   counted : NeverFall (g.D.Depot.counts l.initial.depot) (g.D.Depot.counts l.depot);
 }
 
