@@ -157,7 +157,7 @@ fn shapes_have_grid_edges(rt: HostRuntime) {
 #[test]
 fn a_shape_is_lean(rt: HostRuntime) {
     assert_eq!(rt; size_of::<Points>(), 144);
-    assert_eq!(rt; size_of::<Offsets>(), 48);
+    assert_eq!(rt; size_of::<Offsets>(), 24);
     assert_eq!(rt; size_of::<Shape>(), 192);
 }
 
