@@ -12,8 +12,7 @@ use smallvec::SmallVec;
 use std::alloc::Global;
 use std::marker::Model;
 
-// The places `a*u + b*v` for `a < nu`, `b < nv`, where `a` runs fastest. The counts are below 2^32, and so narrow that
-// a shape stays small.
+// The places `a*u + b*v` for `a < nu`, `b < nv`, where `a` runs fastest.
 #[derive(Clone, Copy, Debug)]
 struct Grid {
     nu: u32,
@@ -22,10 +21,12 @@ struct Grid {
     v: Point,
 }
 
+// Most shapes stand at one place. What is seldom is boxed, so that a shape stays small.
 #[derive(Debug, Drop)]
 enum Places {
-    Listed(SmallVec<Point, 1>),
-    Regular(Grid),
+    One(Point),
+    Listed(Box<SmallVec<Point, 4>>),
+    Regular(Box<Grid>),
 }
 
 /// The places at which a shape or a placed cell stands: a list of moves. A grid is kept by its two counts and two
@@ -201,31 +202,44 @@ impl Offsets {
         ensures ok { IfOk result (λ offsets. offsets ≡ places.now) }
         ensures one { length places.now ≡ 1 → IsOk result }
     {
-        let places = Places::Listed(SmallVec::from_slice(alloc, places)?);
+        if places.len() == 1 {
+            let places = Places::One(places[0]);
+            return Ok(Offsets { places });
+        }
+        let listed = SmallVec::from_slice(alloc, places)?;
+        let places = Places::Listed(Box::new(alloc, listed)?);
         Ok(Offsets { places })
     }
 
     /// The places `a*u + b*v` for `a < nu`, `b < nv`, where `a` runs fastest: place `k` is
     /// `(k mod nu)*u + (k div nu)*v`. Both counts are 1 to 16,777,216, and all places are within reach. This is the
-    /// order of an array of a GDSII stream and of the regular repetitions of OASIS.
-    pub fn grid(nu: u64, nv: u64, u: Point, v: Point) -> Offsets
+    /// order of an array of a GDSII stream and of the regular repetitions of OASIS. A grid of one place takes no memory.
+    pub fn grid(alloc: Global, nu: u64, nv: u64, u: Point, v: Point) -> Result<Offsets, NoMemory>
         requires { IsGrid nu nv u v }
-        ensures { result ≡ grid_places nu nv u v }
+        ensures ok { IfOk result (λ offsets. offsets ≡ grid_places nu nv u v) }
+        ensures one { nu * nv ≡ 1 → IsOk result }
     {
+        if nu * nv == 1 {
+            let places = Places::One(Point { x: 0, y: 0 });
+            return Ok(Offsets { places });
+        }
         let (nu, nv) = (nu as u32, nv as u32);
-        let places = Places::Regular(Grid { nu, nv, u, v });
-        Offsets { places }
+        let places = Places::Regular(Box::new(alloc, Grid { nu, nv, u, v })?);
+        Ok(Offsets { places })
     }
 
-    /// The same places again. One place and a grid take no memory.
+    /// The same places again. One place takes no memory.
     pub fn copy(&self, alloc: Global) -> Result<Offsets, NoMemory>
         ensures ok { IfOk result (λ copy. copy ≡ self.now) }
         ensures one { length self.now ≡ 1 → IsOk result }
     {
         match &self.places {
+            Places::One(place) => Ok(Offsets {
+                places: Places::One(*place),
+            }),
             Places::Listed(places) => Offsets::list(alloc, places.as_slice()),
             Places::Regular(grid) => Ok(Offsets {
-                places: Places::Regular(*grid),
+                places: Places::Regular(Box::new(alloc, **grid)?),
             }),
         }
     }
@@ -237,6 +251,7 @@ impl Offsets {
         ensures { IsLeastBoxOf self.now result }
     {
         match &self.places {
+            Places::One(place) => box_between(*place, *place, *place, *place),
             Places::Listed(places) => box_of(places.as_slice()),
             Places::Regular(grid) => grid.hull(),
         }
@@ -247,6 +262,7 @@ impl Offsets {
         ensures { result ≡ length self.now }
     {
         match &self.places {
+            Places::One(_) => 1,
             Places::Listed(places) => places.len() as u64,
             Places::Regular(grid) => u64::from(grid.nu) * u64::from(grid.nv),
         }
@@ -258,6 +274,7 @@ impl Offsets {
         ensures { slice_get self.now k ≡ Some result }
     {
         match &self.places {
+            Places::One(place) => *place,
             Places::Listed(places) => places.as_slice()[k as usize],
             Places::Regular(grid) => grid.place(k),
         }

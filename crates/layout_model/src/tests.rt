@@ -93,7 +93,7 @@ fn all_eight_orientations(rt: HostRuntime) {
 
 #[test]
 fn a_grid_in_order(rt: HostRuntime) {
-    let grid = Offsets::grid(3, 2, point(10, 1), point(-4, 100));
+    let grid = Offsets::grid(rt.alloc(), 3, 2, point(10, 1), point(-4, 100)).expect(&rt, "a grid");
     assert_eq!(rt; grid.count(), 6);
     let wanted = [
         point(0, 0),
@@ -152,13 +152,13 @@ fn shapes_have_grid_edges(rt: HostRuntime) {
     assert!(rt; matches!(refused, Err(ShapeBad::Slant(2))));
 }
 
-// A layout may have millions of shapes. One takes 216 bytes: 16 for its pair, 144 for its points, 48 for its offsets
+// A layout may have millions of shapes. One takes 192 bytes: 16 for its pair, 144 for its points, 24 for its offsets
 // and 8 for its mark.
 #[test]
 fn a_shape_is_lean(rt: HostRuntime) {
     assert_eq!(rt; size_of::<Points>(), 144);
-    assert_eq!(rt; size_of::<Offsets>(), 48);
-    assert_eq!(rt; size_of::<Shape>(), 216);
+    assert_eq!(rt; size_of::<Offsets>(), 24);
+    assert_eq!(rt; size_of::<Shape>(), 192);
 }
 
 fn name(rt: &impl Abort, alloc: Global, bytes: &[u8]) -> Name
@@ -429,7 +429,7 @@ fn the_windings_of_a_corner(rt: HostRuntime) {
 
 #[test]
 fn least_boxes(rt: HostRuntime) {
-    let grid = Offsets::grid(3, 2, point(-10, 4), point(0, 100));
+    let grid = Offsets::grid(rt.alloc(), 3, 2, point(-10, 4), point(0, 100)).expect(&rt, "a grid");
     let hull = grid.hull();
     assert!(rt; hull.x0 == -20 && hull.y0 == 0 && hull.x1 == 0 && hull.y1 == 108);
     let listed = [point(4, -2), point(-6, 0), point(0, 8)];
