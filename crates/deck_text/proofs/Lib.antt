@@ -1,0 +1,6 @@
+pub mod Digits
+pub mod Loops
+pub mod TokenLemmas
+pub mod LineLemmas
+pub mod PieceLemmas
+pub mod RangeLemmas
