@@ -4,3 +4,5 @@ pub mod TokenLemmas
 pub mod LineLemmas
 pub mod PieceLemmas
 pub mod RangeLemmas
+pub mod RuleLemmas
+pub mod Steps

@@ -49,17 +49,20 @@ fn accepted<'a>(alloc: Global, names: Names, before: &[Said<'a>], line: usize, s
     if is_misplaced(before, &says) {
         return Err(DeckBad::Order(line));
     }
-    if let Some(earlier) = repeated_line(before, &says) {
-        return Err(DeckBad::Twice(line, earlier));
+    match repeated_line(before, &says) {
+        Some(earlier) => return Err(DeckBad::Twice(line, earlier)),
+        None => {}
     }
-    if let Some(name) = unknown_operand(before, &says) {
-        return Err(unknown(alloc, line, name));
+    match unknown_operand(before, &says) {
+        Some(name) => return Err(unknown(alloc, line, name)),
+        None => {}
     }
     if lacks_frame(before, &says) {
         return Err(DeckBad::NoFrame(line));
     }
-    if let Some(value) = out_of_range(&says) {
-        return Err(DeckBad::Range(line, value));
+    match out_of_range(&says) {
+        Some(value) => return Err(DeckBad::Range(line, value)),
+        None => {}
     }
     if has_odd_sum(&says) {
         return Err(DeckBad::Odd(line));
