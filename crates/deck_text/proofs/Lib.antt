@@ -6,3 +6,5 @@ pub mod PieceLemmas
 pub mod RangeLemmas
 pub mod RuleLemmas
 pub mod Steps
+pub mod Ends
+pub mod Unique
