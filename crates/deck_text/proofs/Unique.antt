@@ -1,6 +1,6 @@
 -- Bytes have one deck at most, one first fault at most, and never both.
 use Rattle.std.proofs.Common.{◌≡◌, ◌≢◌, ◌⊎◌, inl, inr, ℕ, ◌+◌, ◌<◌, ◌≤◌, Bool, true, false, List, length, Option, Some, None, refl, sym, ap, ◌∙◌, arith}
-use Rattle.std.specs.Prelude.{ℤ, pos, unwrap_or, slice_get}
+use Rattle.std.specs.Prelude.{ℤ, pos, slice_get, Result, Ok, Err}
 use Rattle.std.proofs.lemmas.Bool.{cases_lt, false≢true}
 use Rattle.std.proofs.lemmas.Option.{slice_get_within}
 use Rattle.half_grid.specs.declared.shot.Limits.{Limits}
@@ -86,3 +86,33 @@ deck_of_one saids d e h g =
 
 pub one_deck : (bytes layout deck : List ℕ) (d e : Deck) → IsDeck bytes layout deck d → IsDeck bytes layout deck e → d ≡ e
 one_deck bytes layout deck d e h g = deck_of_one (saids_from 1 (lines_of bytes)) d e h.says g.says
+
+-- ---- answers
+
+want : (bad : DeckBad) → (bad ≡ faults.NoMemory) ⊎ (bad ≢ faults.NoMemory)
+want (faults.Line n column) = inr (λ e. cc)
+want (faults.Order n) = inr (λ e. cc)
+want (faults.Twice n m) = inr (λ e. cc)
+want (faults.Unknown n name) = inr (λ e. cc)
+want (faults.NoFrame n) = inr (λ e. cc)
+want (faults.Range n value) = inr (λ e. cc)
+want (faults.Odd n) = inr (λ e. cc)
+want (faults.Names n) = inr (λ e. cc)
+want (faults.Many n) = inr (λ e. cc)
+want faults.NoMemory = inl refl
+
+-- the answer of a refusal to bytes that have a first fault
+pub told_fault : (bytes layout deck : List ℕ) (r : Result Deck DeckBad) (own : DeckBad) → r ≡ Err own → (own ≢ faults.NoMemory → IsFirstFault bytes layout deck own)
+    → (bad : DeckBad) → IsFirstFault bytes layout deck bad → (r ≡ Err bad) ⊎ (r ≡ Err faults.NoMemory)
+told_fault bytes layout deck r own e h bad f = elim (want own) [
+  | inl none ↦ inr (e ∙ ap (λ (b : DeckBad). Err b) none)
+  | inr other ↦ inl (e ∙ ap (λ (b : DeckBad). Err b) (one_fault bytes layout deck own bad (h other) f))
+]
+
+-- and to bytes that are a deck
+pub told_deck : (bytes layout deck : List ℕ) (r : Result Deck DeckBad) (own : DeckBad) → r ≡ Err own → (own ≢ faults.NoMemory → IsFirstFault bytes layout deck own)
+    → (d : Deck) → IsDeck bytes layout deck d → (r ≡ Ok d) ⊎ (r ≡ Err faults.NoMemory)
+told_deck bytes layout deck r own e h d g = elim (want own) [
+  | inl none ↦ inr (e ∙ ap (λ (b : DeckBad). Err b) none)
+  | inr other ↦ absurd (never_both bytes layout deck d own g (h other))
+]
