@@ -8,3 +8,4 @@ pub mod RuleLemmas
 pub mod Steps
 pub mod Ends
 pub mod Unique
+pub mod PairLemmas
