@@ -9,3 +9,8 @@ pub mod Steps
 pub mod Ends
 pub mod Unique
 pub mod PairLemmas
+pub mod SoundRanges
+pub mod Kept
+pub mod SoundSteps
+pub mod SoundOutputs
+pub mod Sounds

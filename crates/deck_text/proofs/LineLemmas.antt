@@ -31,9 +31,9 @@ last_line (b ∷ c ∷ t) some h =
     let rest = last_line (c ∷ t) (omega arith) (tail_of b (c ∷ t) h) in
     let next = head_of c t (tail_of b (c ∷ t) h) in
     rw (head_of b (c ∷ t) h) (
-      ap (λ (x : Bool). cond (eqb b 13 && x) (lines_of (c ∷ t)) (onto b (lines_of (c ∷ t)))) next
-      ∙ (ap (λ (x : Bool). cond x (lines_of (c ∷ t)) (onto b (lines_of (c ∷ t)))) (and_false (eqb b 13))
-      ∙ ap (λ (ls : List (List ℕ)). onto b ls) rest))
+    ap (λ (x : Bool). cond (eqb b 13 && x) (lines_of (c ∷ t)) (onto b (lines_of (c ∷ t)))) next
+    ∙ (ap (λ (x : Bool). cond x (lines_of (c ∷ t)) (onto b (lines_of (c ∷ t)))) (and_false (eqb b 13))
+    ∙ ap (λ (ls : List (List ℕ)). onto b ls) rest))
 
 -- without the one CR at the end
 abbrev pub stripped : List ℕ → List ℕ
@@ -55,9 +55,9 @@ ended_line (b ∷ c ∷ t) rest h =
     let next = head_of c t (tail_of b (c ∷ t) h) in
     let more : List ℕ = c ∷ (t ++ (10 ∷ rest)) in
     rw (head_of b (c ∷ t) h) (
-      ap (λ (x : Bool). cond (eqb b 13 && x) (lines_of more) (onto b (lines_of more))) next
-      ∙ (ap (λ (x : Bool). cond x (lines_of more) (onto b (lines_of more))) (and_false (eqb b 13))
-      ∙ ap (λ (ls : List (List ℕ)). onto b ls) later))
+    ap (λ (x : Bool). cond (eqb b 13 && x) (lines_of more) (onto b (lines_of more))) next
+    ∙ (ap (λ (x : Bool). cond x (lines_of more) (onto b (lines_of more))) (and_false (eqb b 13))
+    ∙ ap (λ (ls : List (List ℕ)). onto b ls) later))
 
 stripped_return : (x : List ℕ) → stripped (x ++ (13 ∷ [])) ≡ x
 stripped_return [] = refl

@@ -36,10 +36,10 @@ unit_inside : (n : ℤ) → out_of_range (Sets (UnitIs n)) ≡ None → IsInside
 unfolding out_of_range
 unit_inside n h = is_inside (bound n (pos 1) (pos 1000000)) (inside_split (bound n (pos 1) (pos 1000000)) [] (is_outside (bound n (pos 1) (pos 1000000))) refl h).0
 
-abbrev some : ℤ → Option ℤ
+abbrev pub some : ℤ → Option ℤ
 some n = Some n
 
-same_some : (m n : ℤ) → some m ≡ some n → m ≡ n
+pub same_some : (m n : ℤ) → some m ≡ some n → m ≡ n
 same_some m n e = cc
 
 -- a unit in range

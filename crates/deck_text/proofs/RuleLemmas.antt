@@ -105,7 +105,7 @@ by_names layout deck before n s a b c d x y z =
 pub by_many : (layout deck : List ℕ) (before : List Said) (n : ℕ) (s : Statement) → is_misplaced before s ≡ false → repeated_line before s ≡ None → unknown_operand before s ≡ None → lacks_frame before s ≡ false → out_of_range s ≡ None → has_odd_sum s ≡ false → takes_name layout deck before s ≡ false → is_too_many before s ≡ true → broken_rule layout deck before n s ≡ Some (faults.Many n)
 by_many layout deck before n s a b c d x y z h =
     by_rules layout deck before n s ∙ (rules_same n (is_misplaced before s) false (repeated_line before s) None (unknown_operand before s) None (lacks_frame before s) false (out_of_range s) None (has_odd_sum s) false (takes_name layout deck before s) false (is_too_many before s) true a b c d x y z h
-    ∙ breaks_many n )
+    ∙ breaks_many n)
 
 pub by_none : (layout deck : List ℕ) (before : List Said) (n : ℕ) (s : Statement) → is_misplaced before s ≡ false → repeated_line before s ≡ None → unknown_operand before s ≡ None → lacks_frame before s ≡ false → out_of_range s ≡ None → has_odd_sum s ≡ false → takes_name layout deck before s ≡ false → is_too_many before s ≡ false → broken_rule layout deck before n s ≡ None
 by_none layout deck before n s a b c d x y z h = by_rules layout deck before n s ∙ (rules_same n (is_misplaced before s) false (repeated_line before s) None (unknown_operand before s) None (lacks_frame before s) false (out_of_range s) None (has_odd_sum s) false (takes_name layout deck before s) false (is_too_many before s) false a b c d x y z h ∙ breaks_none n)
@@ -113,3 +113,45 @@ by_none layout deck before n s a b c d x y z h = by_rules layout deck before n s
 pub by_memory : (r : Option DeckBad) (bad own : DeckBad) → r ≡ Some bad → (own ≡ bad) ⊎ (own ≡ faults.NoMemory) → own ≢ faults.NoMemory → r ≡ Some own
 by_memory r bad own e (inl same) other = e ∙ ap (λ (b : DeckBad). Some b) (sym same)
 by_memory r bad own e (inr none) other = absurd (other none)
+
+-- ---- a statement that breaks no rule
+
+pub record KeepsRules (layout deck : List ℕ) (before : List Said) (s : Statement) : Type 0 where
+  pub order : is_misplaced before s ≡ false
+  pub twice : repeated_line before s ≡ None
+  pub unknown : unknown_operand before s ≡ None
+  pub frame : lacks_frame before s ≡ false
+  pub range : out_of_range s ≡ None
+  pub odd : has_odd_sum s ≡ false
+  pub names : takes_name layout deck before s ≡ false
+  pub many : is_too_many before s ≡ false
+
+record AllKept (o : Bool) (t : Option ℕ) (u : Option (List ℕ)) (f : Bool) (r : Option ℤ) (d m k : Bool) : Type 0 where
+  order : o ≡ false
+  twice : t ≡ None
+  unknown : u ≡ None
+  frame : f ≡ false
+  range : r ≡ None
+  odd : d ≡ false
+  names : m ≡ false
+  many : k ≡ false
+
+broken : (bad : DeckBad) → Some bad ≡ None → ⊥
+broken bad e = let clash : ⊥ = cc in clash
+
+all_kept : (n : ℕ) (o : Bool) (t : Option ℕ) (u : Option (List ℕ)) (f : Bool) (r : Option ℤ) (d m k : Bool) → rules_of n o t u f r d m k ≡ None → AllKept o t u f r d m k
+unfolding rules_of
+all_kept n true t u f r d m k e = absurd (broken _ e)
+all_kept n false (Some x) u f r d m k e = absurd (broken _ e)
+all_kept n false None (Some x) f r d m k e = absurd (broken _ e)
+all_kept n false None None true r d m k e = absurd (broken _ e)
+all_kept n false None None false (Some x) d m k e = absurd (broken _ e)
+all_kept n false None None false None true m k e = absurd (broken _ e)
+all_kept n false None None false None false true k e = absurd (broken _ e)
+all_kept n false None None false None false false true e = absurd (broken _ e)
+all_kept n false None None false None false false false e = record { order = refl; twice = refl; unknown = refl; frame = refl; range = refl; odd = refl; names = refl; many = refl }
+
+pub keeps_rules : (layout deck : List ℕ) (before : List Said) (n : ℕ) (s : Statement) → broken_rule layout deck before n s ≡ None → KeepsRules layout deck before s
+keeps_rules layout deck before n s e =
+    let h = all_kept n (is_misplaced before s) (repeated_line before s) (unknown_operand before s) (lacks_frame before s) (out_of_range s) (has_odd_sum s) (takes_name layout deck before s) (is_too_many before s) (sym (by_rules layout deck before n s) ∙ e) in
+    record { order = h.order; twice = h.twice; unknown = h.unknown; frame = h.frame; range = h.range; odd = h.odd; names = h.names; many = h.many }

@@ -63,7 +63,7 @@ saids_push k (x ∷ xs) line =
     ap (λ (rest : List Said). said_first k (reading x) rest) (saids_push (k + 1) xs line ∙ ap (λ (n : ℕ). saids_from (k + 1) xs ++ said_first n (reading line) []) count)
     ∙ first_append k (reading x) (saids_from (k + 1) xs) (said_first (k + suc (length xs)) (reading line) [])
 
-next_saids : (ls : List (List ℕ)) (n : ℕ) (line : List ℕ) (more : List (List ℕ)) → drop n ls ≡ line ∷ more → saids_from 1 (take (n + 1) ls) ≡ saids_from 1 (take n ls) ++ said_first (n + 1) (reading line) []
+pub next_saids : (ls : List (List ℕ)) (n : ℕ) (line : List ℕ) (more : List (List ℕ)) → drop n ls ≡ line ∷ more → saids_from 1 (take (n + 1) ls) ≡ saids_from 1 (take n ls) ++ said_first (n + 1) (reading line) []
 next_saids ls n line more e =
     let within = line_within ls n line more e in
     let count : 1 + length (take n ls) ≡ n + 1 = omega (arith, length-take n ls) in
@@ -83,9 +83,9 @@ accepted_more : (layout deck : List ℕ) (ls : List (List ℕ)) (n : ℕ) (line 
 accepted_more layout deck ls n line more e h kept i other lt there = elim (cases_lt i n) [
   | inl below ↦ h i other below there
   | inr le ↦
-    let same : i ≡ n = omega arith in
-    let here : slice_get ls n ≡ Some other = rw (← same) there in
-    refusal_same layout deck ls i n other line same (some_line other line (sym here ∙ line_there ls n line more e)) kept
+      let same : i ≡ n = omega arith in
+      let here : slice_get ls n ≡ Some other = rw (← same) there in
+      refusal_same layout deck ls i n other line same (some_line other line (sym here ∙ line_there ls n line more e)) kept
 ]
 
 -- ---- `unit` and `top`
@@ -113,11 +113,11 @@ first_some (Some x) b h = refl
 first_some None b (inl h) = absurd (false≢true h)
 first_some None b (inr h) = h
 
-either : (a b : Bool) → (a || b) ≡ true → (a ≡ true) ⊎ (b ≡ true)
+pub either : (a b : Bool) → (a || b) ≡ true → (a ≡ true) ⊎ (b ≡ true)
 either true b e = inl refl
 either false b e = inr e
 
-setting_found : {A : Type 0} (test : Statement → Bool) (h : Statement → Option A) → ((s : Statement) → test s ≡ true → IsSome (h s))
+pub setting_found : {A : Type 0} (test : Statement → Bool) (h : Statement → Option A) → ((s : Statement) → test s ≡ true → IsSome (h s))
     → (saids : List Said) → any_before test saids ≡ true → IsSome (setting_in h saids)
 setting_found test h each [] e = absurd (false≢true e)
 setting_found test h each (m ∷ saids) e = elim (either (test m.says) (any_before test saids) e) [
@@ -129,7 +129,7 @@ first_cases : {A : Type 0} (o next : Option A) → IsSome (first_or o next) → 
 first_cases (Some x) next e = inl refl
 first_cases None next e = inr e
 
-setting_stays : {A : Type 0} (h : Statement → Option A) (saids more : List Said) → IsSome (setting_in h saids) → IsSome (setting_in h (saids ++ more))
+pub setting_stays : {A : Type 0} (h : Statement → Option A) (saids more : List Said) → IsSome (setting_in h saids) → IsSome (setting_in h (saids ++ more))
 setting_stays h [] more e = absurd (false≢true e)
 setting_stays h (m ∷ saids) more e = elim (first_cases (h m.says) (setting_in h saids) e) [
   | inl here ↦ first_some (h m.says) (setting_in h (saids ++ more)) (inl here)
@@ -168,8 +168,8 @@ begun_more layout deck before n s h kept e =
     let given : IsSome (setting_in unit_of before) × IsSome (setting_in top_of before) = elim (either (any_before is_other before) (any_before is_other (said n s ∷ [])) parts) [
       | inl earlier ↦ h earlier
       | inr own ↦
-        let both = placed before s (only_one s n own) (in_place layout deck before n s (is_misplaced before s) refl kept) in
-        (setting_found is_unit unit_of unit_some before both.0, setting_found is_top top_of top_some before both.1)
+          let both = placed before s (only_one s n own) (in_place layout deck before n s (is_misplaced before s) refl kept) in
+          (setting_found is_unit unit_of unit_some before both.0, setting_found is_top top_of top_some before both.1)
     ] in
     (setting_stays unit_of before (said n s ∷ []) given.0, setting_stays top_of before (said n s ∷ []) given.1)
 

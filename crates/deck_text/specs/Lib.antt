@@ -9,3 +9,4 @@ pub mod Rules
 pub mod Decks
 pub mod Begun
 pub mod Laws
+pub mod Sound

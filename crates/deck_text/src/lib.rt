@@ -15,8 +15,8 @@ mod rules;
 mod said;
 mod settings;
 mod statement;
-//#[cfg(test)]
-//mod tests;
+#[cfg(test)]
+mod tests;
 mod text;
 mod tokens;
 mod writing;

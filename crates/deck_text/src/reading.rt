@@ -41,7 +41,13 @@ fn unknown(alloc: Global, line: usize, name: &str) -> DeckBad
 }
 
 // The statement of a line, where it breaks no rule after those before it.
-fn accepted<'a>(alloc: Global, names: Names, before: &[Said<'a>], line: usize, says: Statement<'a>) -> Result<Said<'a>, DeckBad>
+fn accepted<'a>(
+    alloc: Global,
+    names: Names,
+    before: &[Said<'a>],
+    line: usize,
+    says: Statement<'a>,
+) -> Result<Said<'a>, DeckBad>
     ensures said { IfOk result (λ own. said_view own ≡ said line (statement_view says.entry)) }
     ensures ok { IfOk result (λ own. broken_rule names.entry.layout.now names.entry.deck.now (said_views before.now) line (statement_view says.entry) ≡ None) }
     ensures refused { IfErr result (λ bad. bad ≢ DeckBad.NoMemory → broken_rule names.entry.layout.now names.entry.deck.now (said_views before.now) line (statement_view says.entry) ≡ Some bad) }

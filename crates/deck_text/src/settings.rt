@@ -17,7 +17,6 @@ pub(crate) const LIMITS: Limits = Limits {
     width: 2_097_152,
 };
 
-
 // The unit that a statement gives.
 fn unit_of(said: &Said) -> Option<i64>
     ensures value { Gives (λ n. n) result (unit_of (statement_view said.now.says)) }

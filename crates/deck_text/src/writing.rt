@@ -68,7 +68,11 @@ fn step_of(saids: &[Said], operation: &Operation) -> Step
 {
     match operation {
         Operation::Layer(layer, datatype) => Step::Layer(pair_of(*layer, *datatype)),
-        Operation::Combine(operator, a, b) => combined(*operator, number_of(saids, a), number_of(saids, b)),
+        Operation::Combine(operator, a, b) => combined(
+            *operator,
+            number_of(saids, a),
+            number_of(saids, b),
+        ),
         Operation::Resize(sizing, a, dx, dy) => resized(*sizing, number_of(saids, a), *dx, *dy),
         Operation::Invert(a) => Step::Invert(number_of(saids, a)),
         Operation::Mirror(a, m) => Step::Mirror(number_of(saids, a), *m),

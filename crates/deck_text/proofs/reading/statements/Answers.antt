@@ -24,8 +24,11 @@ loop-at-init c = record {
 
 pub returns-in-Err-clause-refused : goal.returns-in-Err-clause-refused
 returns-in-Err-clause-refused c = λ other.
-    inl (c.loop-at.lines, refused_next c.args.names.layout.now c.args.names.deck.now (lines_of c.args.bytes.now) c.loop-at.lines (said_views c.loop-at.saids.items) c.line_at-next.result.0.now (lines_of (drop c.line_at-next.result.1 c.args.bytes.now)) (Refused c.in-Err.column) _ c.loop-at.invariant.read
-      (c.loop-at.invariant.rest ∙ c.line_at-next.ensures.line) c.in-Err.ensures refl)
+    inl (
+      c.loop-at.lines,
+      refused_next c.args.names.layout.now c.args.names.deck.now (lines_of c.args.bytes.now) c.loop-at.lines (said_views c.loop-at.saids.items) c.line_at-next.result.0.now (lines_of (drop c.line_at-next.result.1 c.args.bytes.now)) (Refused c.in-Err.column) _ c.loop-at.invariant.read
+          (c.loop-at.invariant.rest ∙ c.line_at-next.ensures.line) c.in-Err.ensures refl,
+    )
 
 pub loop-at-preserved-in-Ok-None : goal.loop-at-preserved-in-Ok-None
 loop-at-preserved-in-Ok-None c =
@@ -42,8 +45,11 @@ returns-in_err-said-in-Ok-Some-clause-refused c =
     let p = err_from_is_err_and c.from_residual.result c.from_residual.ensures.1 in
     let says : reading c.line_at-next.result.0.now ≡ Says (statement_view c.in-Ok-Some.says) = rw c.in-Ok-Some.field-0-is at c.in-Ok-Some.ensures in
     rw (p.1, p.2) (λ other.
-      inl (c.loop-at.lines, refused_next c.args.names.layout.now c.args.names.deck.now (lines_of c.args.bytes.now) c.loop-at.lines (said_views c.loop-at.saids.items) c.line_at-next.result.0.now (lines_of (drop c.line_at-next.result.1 c.args.bytes.now)) (Says (statement_view c.in-Ok-Some.says)) _ c.loop-at.invariant.read
-        (c.loop-at.invariant.rest ∙ c.line_at-next.ensures.line) says (rw c.as_slice.ensures.value at (c.in_err-said-in-Ok-Some.ensures.refused other))))
+    inl (
+      c.loop-at.lines,
+      refused_next c.args.names.layout.now c.args.names.deck.now (lines_of c.args.bytes.now) c.loop-at.lines (said_views c.loop-at.saids.items) c.line_at-next.result.0.now (lines_of (drop c.line_at-next.result.1 c.args.bytes.now)) (Says (statement_view c.in-Ok-Some.says)) _ c.loop-at.invariant.read
+          (c.loop-at.invariant.rest ∙ c.line_at-next.ensures.line) says (rw c.as_slice.ensures.value at (c.in_err-said-in-Ok-Some.ensures.refused other)),
+    ))
 
 pub loop-at-preserved : goal.loop-at-preserved
 loop-at-preserved c =
@@ -55,7 +61,7 @@ loop-at-preserved c =
       rest = lines_left (lines_of c.args.bytes.now) c.loop-at.lines c.line_at-next.result.0.now (lines_of (drop c.line_at-next.result.1 c.args.bytes.now)) next;
       read = rw (pushed c.loop-at.saids.items c.push.new.self.items c.in_ok-said-in-Ok-Some.said (said (c.loop-at.lines + 1) (statement_view c.in-Ok-Some.says)) c.in-Ok.ensures.items c.in_ok-said-in-Ok-Some.ensures.said)
           (says_next c.args.names.layout.now c.args.names.deck.now (lines_of c.args.bytes.now) c.loop-at.lines (said_views c.loop-at.saids.items) c.line_at-next.result.0.now (lines_of (drop c.line_at-next.result.1 c.args.bytes.now)) (statement_view c.in-Ok-Some.says) c.loop-at.invariant.read next says
-            (rw c.as_slice.ensures.value at c.in_ok-said-in-Ok-Some.ensures.ok));
+          (rw c.as_slice.ensures.value at c.in_ok-said-in-Ok-Some.ensures.ok));
     }
 
 -- ---- after the last line
@@ -64,7 +70,7 @@ pub returns-then-not-has_output-clause-refused : goal.returns-then-not-has_outpu
 returns-then-not-has_output-clause-refused c = λ other.
     let all = ends c.args.names.layout.now c.args.names.deck.now (lines_of c.args.bytes.now) c.loop-at.lines (said_views c.loop-at.saids.items) c.loop-at.invariant.read (c.loop-at.invariant.rest ∙ none_left c.args.bytes.now c.loop-at.at c.loop-at-test.false) in
     inr (no_output c.args.names.layout.now c.args.names.deck.now (lines_of c.args.bytes.now) c.loop-at.lines (said_views c.loop-at.saids.items) all
-      (rw c.as_slice-2.ensures.value at (sym c.has_output.ensures ∙ c.if-not-has_output.true)))
+    (rw c.as_slice-2.ensures.value at (sym c.has_output.ensures ∙ c.if-not-has_output.true)))
 
 all : (c : goal.Else-not-has_output) → IsReadAll c.args.names.layout.now c.args.names.deck.now (lines_of c.args.bytes.now) c.loop-at.lines (said_views c.loop-at.saids.items)
 all c =
