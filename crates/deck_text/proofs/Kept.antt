@@ -1,6 +1,5 @@
 -- What holds of the statements of accepted lines, one by one.
-use Rattle.std.proofs.Common.{◌≡◌, ◌⊎◌, inl, inr, ℕ, zero, suc, ◌+◌, ◌<◌, ◌≤◌, List, [], ◌∷◌, ◌++◌, length, get_or, take, drop, Option, Some, None, refl, sym, ap, subst, ◌∙◌, arith, add-one}
-use Rattle.std.specs.Prelude.{slice_get}
+use Rattle.std.proofs.Common.{◌≡◌, ℕ, zero, suc, ◌+◌, ◌<◌, ◌≤◌, List, [], ◌∷◌, ◌++◌, length, get_or, take, drop, Some, None, sym, subst, arith, add-one}
 use Rattle.std.proofs.lemmas.List.{take_all, append-nil, drop_more}
 use Rattle.std.proofs.lemmas.Option.{slice_get-get_or}
 use Rattle.deck_text.specs.Statements.{Statement, Reading, Passed, Refused, Says, Said}
@@ -8,7 +7,7 @@ use Rattle.deck_text.specs.Forms.{reading}
 use Rattle.deck_text.specs.Rules.{broken_rule}
 use Rattle.deck_text.specs.Decks.{said, said_first, saids_from, refusal, refusal_after, AreAccepted}
 use Rattle.deck_text.specs.declared.refusal.DeckBad.{DeckBad}
-use Rattle.deck_text.proofs.Steps.{next_saids, line_there}
+use Rattle.deck_text.proofs.Steps.{next_saids}
 
 -- a fact that a kept statement keeps
 abbrev pub Stays : (layout deck : List ℕ) → (List Said → Type 0) → Type 0

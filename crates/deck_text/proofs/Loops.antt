@@ -1,5 +1,5 @@
 -- Steps over the statements before a line.
-use Rattle.std.proofs.Common.{◌≡◌, ℕ, Bool, true, false, not, cond, List, [], ◌∷◌, Option, Some, None, refl}
+use Rattle.std.proofs.Common.{◌≡◌, ℕ, true, false, not, List, ◌∷◌, Some, refl}
 use Rattle.std.specs.Prelude.{find}
 use Rattle.deck_text.specs.Statements.{Said}
 use Rattle.deck_text.specs.Rules.{is_defined}

@@ -1,18 +1,18 @@
 -- The outputs are of definitions, and their files are free; neither they nor the definitions are too many.
-use Rattle.std.proofs.Common.{◌≡◌, ◌≢◌, ◌⊎◌, inl, inr, ℕ, zero, suc, ◌+◌, ◌<◌, ◌≤◌, Bool, true, false, not, ◌||◌, cond, leb, List, [], ◌∷◌, ◌++◌, length, Option, Some, None, refl, sym, ap, subst, ◌∙◌, arith}
-use Rattle.std.specs.Prelude.{ℤ, All, filter_map, map, count_by}
+use Rattle.std.proofs.Common.{◌≡◌, ◌≢◌, ◌⊎◌, inl, inr, ℕ, ◌+◌, ◌<◌, ◌≤◌, Bool, true, false, ◌||◌, cond, leb, List, [], ◌∷◌, ◌++◌, length, Option, Some, None, refl, sym, ap, subst, ◌∙◌, arith}
+use Rattle.std.specs.Prelude.{ℤ, All, filter_map, map}
 use Rattle.std.specs.List.{cons_option}
 use Rattle.std.specs.Str.{bytes_eq}
 use Rattle.std.proofs.lemmas.Bool.{false≢true}
 use Rattle.std.proofs.lemmas.Bool.Decides.{nat_tests}
-use Rattle.std.proofs.lemmas.List.{append-nil, map-append, length-append}
+use Rattle.std.proofs.lemmas.List.{append-nil, length-append}
 use Rattle.std.proofs.lemmas.List.Sums.{sum_by_push, sum_by-cons}
 use Rattle.std.proofs.lemmas.List.Elements.{All-nil, All-cons, All-head, All-tail, All-push, All-append, All-weaker, filter_map-append}
 use Rattle.std.proofs.lemmas.Slice.Eq.{bytes_eq-Decides}
-use Rattle.deck_text.specs.Statements.{Statement, Sets, Defines, Writes, Operation, Said}
-use Rattle.deck_text.specs.Rules.{is_definition, is_output, any_before, count_before, goes_to, defines, is_defined, takes_name, is_too_many, broken_rule}
-use Rattle.deck_text.specs.Decks.{said, defined_name, names_of, number_of, step_in, output_in, outputs_of, has_output, pair}
-use Rattle.deck_text.specs.Sound.{IsNarrow, IsSoundOutput, AreDistinct}
+use Rattle.deck_text.specs.Statements.{Statement, Sets, Defines, Writes, Said}
+use Rattle.deck_text.specs.Rules.{is_definition, is_output, any_before, count_before, goes_to, broken_rule}
+use Rattle.deck_text.specs.Decks.{said, defined_name, names_of, number_of, output_in, has_output, pair}
+use Rattle.deck_text.specs.Sound.{IsSoundOutput, AreDistinct}
 use Rattle.deck_text.specs.declared.deck.Output.{Output}
 use Rattle.deck_text.proofs.RuleLemmas.{KeepsRules, keeps_rules}
 use Rattle.deck_text.proofs.SoundRanges.{range_of, narrow_pair}

@@ -1,16 +1,15 @@
 -- Each operand is the number of an earlier definition.
-use Rattle.std.proofs.Common.{◌≡◌, ◌⊎◌, inl, inr, ℕ, zero, suc, ◌+◌, ◌-◌, ◌<◌, ◌≤◌, Bool, true, false, not, ◌&&◌, ◌||◌, cond, List, [], ◌∷◌, ◌++◌, length, get_or, Option, Some, None, refl, sym, ap, subst, ◌∙◌, arith, append_assoc}
+use Rattle.std.proofs.Common.{◌≡◌, ◌⊎◌, inl, inr, ℕ, zero, suc, ◌+◌, ◌<◌, Bool, true, false, not, ◌||◌, cond, List, [], ◌∷◌, ◌++◌, length, Option, Some, None, refl, sym, ap, subst, ◌∙◌, arith, append_assoc}
 use Rattle.std.specs.Prelude.{ℤ, filter_map, slice_get, find, IsSome}
-use Rattle.std.specs.List.{cons_option, prefix_len}
+use Rattle.std.specs.List.{cons_option}
 use Rattle.std.specs.Str.{bytes_eq}
-use Rattle.std.proofs.lemmas.Bool.{cases_lt, false≢true}
-use Rattle.std.proofs.lemmas.List.{append-nil, length-append}
+use Rattle.std.proofs.lemmas.Bool.{false≢true}
 use Rattle.std.proofs.lemmas.List.Elements.{filter_map-append}
 use Rattle.half_grid.specs.declared.extent.Frame.{Frame}
-use Rattle.deck_text.specs.Statements.{Statement, Sets, Defines, Writes, Setting, UnitIs, TopIs, BandIs, LimitsAre, FrameIs, Operation, LayerOf, Combines, Sizes, Inverts, Mirrors, Said}
-use Rattle.deck_text.specs.Rules.{any_before, defines, is_defined, unknown_operand, is_frame, out_of_range, broken_rule}
-use Rattle.deck_text.specs.Decks.{said, defined_name, names_of, number_of, combined, resized, step_of, step_in, setting_in, frame_of, steps_of, pair}
-use Rattle.deck_text.specs.Sound.{IsSoundStep, IsNarrow, AreSides, IsNear}
+use Rattle.deck_text.specs.Statements.{Statement, Sets, Defines, Writes, UnitIs, TopIs, BandIs, LimitsAre, FrameIs, Operation, LayerOf, Combines, Sizes, Inverts, Mirrors, Said}
+use Rattle.deck_text.specs.Rules.{any_before, defines, is_defined, is_frame, broken_rule}
+use Rattle.deck_text.specs.Decks.{said, defined_name, names_of, number_of, combined, resized, step_of, step_in, setting_in, frame_of}
+use Rattle.deck_text.specs.Sound.{IsSoundStep, AreSides}
 use Rattle.deck_text.specs.declared.statement.Operator.{Operator}
 use Rattle.deck_text.specs.declared.statement.Operator.TheVariants as operators
 use Rattle.deck_text.specs.declared.statement.Sizing.{Sizing}
@@ -19,7 +18,7 @@ use Rattle.deck_text.specs.declared.deck.Step.{Step}
 use Rattle.deck_text.specs.declared.deck.Step.TheVariants as steps
 use Rattle.deck_text.proofs.RuleLemmas.{KeepsRules, keeps_rules}
 use Rattle.deck_text.proofs.SoundRanges.{range_of, narrow_pair, even_sides, near_mirror}
-use Rattle.deck_text.proofs.Steps.{either, setting_found, setting_stays}
+use Rattle.deck_text.proofs.Steps.{setting_found, setting_stays}
 
 -- ---- numbers of definitions
 

@@ -1,18 +1,16 @@
 -- Every deck that is read is sound.
-use Rattle.std.proofs.Common.{◌≡◌, ◌⊎◌, inl, inr, ℕ, ◌+◌, ◌<◌, ◌≤◌, Bool, true, false, List, [], ◌∷◌, ◌++◌, length, Option, Some, None, refl, sym, ap, subst, ◌∙◌, arith}
-use Rattle.std.specs.Prelude.{ℤ, pos, ◌≤ℤ◌, All, filter_map, slice_get, unwrap_or, IfSome}
+use Rattle.std.proofs.Common.{◌≡◌, ◌⊎◌, inl, inr, ℕ, List, [], ◌∷◌, length, Option, Some, None, refl, sym, ap, subst, ◌∙◌, arith}
+use Rattle.std.specs.Prelude.{ℤ, pos, All, filter_map, slice_get, unwrap_or, IfSome}
 use Rattle.std.proofs.lemmas.Int.{ints}
 use Rattle.std.proofs.lemmas.List.{append-nil}
 use Rattle.std.proofs.lemmas.List.Elements.{All-nil, All-push, All-head, All-tail}
-use Rattle.half_grid.specs.declared.shot.Limits.{Limits}
 use Rattle.half_grid.specs.declared.extent.Frame.{Frame}
 use Rattle.deck_text.specs.Lines.{lines_of}
 use Rattle.deck_text.specs.Statements.{Statement, Said}
-use Rattle.deck_text.specs.Rules.{bound, out_of_range, is_output, count_before, broken_rule}
-use Rattle.deck_text.specs.Decks.{said, saids_from, AreAccepted, first_or, setting_in, unit_of, band_of, limits_of, limits, frame_of, names_of, step_in, steps_of, output_in, outputs_of, IsDeck}
-use Rattle.deck_text.specs.Sound.{IsSoundStep, IsFrame, AreLimits, IsSoundOutput, IsSound, AreSound}
+use Rattle.deck_text.specs.Rules.{bound, out_of_range, is_output, count_before}
+use Rattle.deck_text.specs.Decks.{said, saids_from, AreAccepted, first_or, setting_in, unit_of, band_of, limits_of, limits, frame_of, names_of, step_in, steps_of, output_in, outputs_of}
+use Rattle.deck_text.specs.Sound.{IsSoundStep, IsFrame, AreLimits, IsSoundOutput, AreSound}
 use Rattle.deck_text.specs.declared.deck.Step.{Step}
-use Rattle.deck_text.specs.declared.deck.Deck.{Deck}
 use Rattle.deck_text.proofs.RuleLemmas.{keeps_rules}
 use Rattle.deck_text.proofs.RangeLemmas.{IsInside, unit_range}
 use Rattle.deck_text.proofs.SoundRanges.{band_range, limits_range, frame_range}

@@ -1,11 +1,10 @@
 -- Lines read one after another.
-use Rattle.std.proofs.Common.{◌≡◌, ◌≢◌, ◌⊎◌, inl, inr, ℕ, zero, suc, ◌+◌, ◌<◌, ◌≤◌, Bool, true, false, not, ◌&&◌, ◌||◌, cond, List, [], ◌∷◌, ◌++◌, length, take, drop, Option, Some, None, refl, sym, ap, subst, ◌∙◌, arith, add-one, add-zero, append_assoc}
-use Rattle.std.specs.Prelude.{slice_get, is_some, IsSome, map}
-use Rattle.std.specs.List.{list_any}
+use Rattle.std.proofs.Common.{◌≡◌, ◌⊎◌, inl, inr, ℕ, zero, suc, ◌+◌, ◌<◌, ◌≤◌, Bool, true, false, not, ◌&&◌, ◌||◌, List, [], ◌∷◌, ◌++◌, length, take, drop, Option, Some, None, refl, sym, ap, subst, ◌∙◌, arith, add-one, add-zero}
+use Rattle.std.specs.Prelude.{slice_get, IsSome}
 use Rattle.std.proofs.lemmas.Bool.{cases_lt, false≢true}
-use Rattle.std.proofs.lemmas.List.{length-take, length-take-le, take_all, append-nil, map-append}
+use Rattle.std.proofs.lemmas.List.{length-take, take_all, append-nil}
 use Rattle.std.proofs.lemmas.List.Folds.{list_any-append}
-use Rattle.deck_text.specs.Statements.{Statement, Sets, Defines, Writes, Setting, UnitIs, TopIs, BandIs, LimitsAre, FrameIs, Reading, Passed, Refused, Says, Said}
+use Rattle.deck_text.specs.Statements.{Statement, Sets, Defines, Writes, UnitIs, TopIs, BandIs, LimitsAre, FrameIs, Reading, Passed, Refused, Says, Said}
 use Rattle.deck_text.specs.Forms.{reading}
 use Rattle.deck_text.specs.Rules.{is_setting, is_output, is_unit, is_top, any_before, is_misplaced, broken_rule}
 use Rattle.deck_text.specs.Decks.{said, said_first, saids_from, refusal, refusal_after, AreAccepted, IsRefusedAt, HasNoOutput, has_output, first_or, setting_in, unit_of, top_of}

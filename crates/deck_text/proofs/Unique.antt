@@ -1,5 +1,5 @@
 -- Bytes have one deck at most, one first fault at most, and never both.
-use Rattle.std.proofs.Common.{◌≡◌, ◌≢◌, ◌⊎◌, inl, inr, ℕ, ◌+◌, ◌<◌, ◌≤◌, Bool, true, false, List, length, Option, Some, None, refl, sym, ap, ◌∙◌, arith}
+use Rattle.std.proofs.Common.{◌≡◌, ◌≢◌, ◌⊎◌, inl, inr, ℕ, ◌≤◌, List, length, Option, Some, None, refl, sym, ap, ◌∙◌, arith}
 use Rattle.std.specs.Prelude.{ℤ, pos, slice_get, Result, Ok, Err}
 use Rattle.std.proofs.lemmas.Bool.{cases_lt, false≢true}
 use Rattle.std.proofs.lemmas.Option.{slice_get_within}
@@ -7,7 +7,7 @@ use Rattle.half_grid.specs.declared.shot.Limits.{Limits}
 use Rattle.half_grid.specs.declared.extent.Frame.{Frame}
 use Rattle.deck_text.specs.Lines.{lines_of}
 use Rattle.deck_text.specs.Statements.{Said}
-use Rattle.deck_text.specs.Decks.{refusal_after, AreAccepted, IsRefusedAt, HasNoOutput, IsFirstFault, IsDeckOf, IsDeck, saids_from, has_output, setting_in, unit_of, top_of}
+use Rattle.deck_text.specs.Decks.{refusal_after, AreAccepted, IsRefusedAt, IsFirstFault, IsDeckOf, IsDeck, saids_from, setting_in, unit_of, top_of}
 use Rattle.deck_text.specs.declared.refusal.DeckBad.{DeckBad}
 use Rattle.deck_text.specs.declared.refusal.DeckBad.TheVariants as faults
 use Rattle.deck_text.specs.declared.deck.Deck.{Deck}

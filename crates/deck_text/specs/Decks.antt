@@ -6,7 +6,7 @@ use Rattle.half_grid.specs.declared.shot.Limits.{Limits}
 use Rattle.half_grid.specs.declared.extent.Frame.{Frame}
 use Rattle.layout_model.specs.declared.pair.Pair.{Pair}
 use Rattle.deck_text.specs.Lines.{lines_of}
-use Rattle.deck_text.specs.Statements.{Setting, UnitIs, TopIs, BandIs, LimitsAre, FrameIs, Operation, LayerOf, Combines, Sizes, Inverts, Mirrors, Statement, Sets, Defines, Writes, Reading, Passed, Refused, Says, Said}
+use Rattle.deck_text.specs.Statements.{UnitIs, TopIs, BandIs, LimitsAre, FrameIs, Operation, LayerOf, Combines, Sizes, Inverts, Mirrors, Statement, Sets, Defines, Writes, Reading, Passed, Refused, Says, Said}
 use Rattle.deck_text.specs.Forms.{reading}
 use Rattle.deck_text.specs.Rules.{any_before, is_output, broken_rule}
 use Rattle.deck_text.specs.declared.statement.Operator.{Operator}

@@ -1,5 +1,5 @@
 -- The rules of a deck, each about a line's statement and those of the lines before it.
-use Rattle.std.specs.Prelude.{ℕ, ◌+◌, ℤ, pos, neg_ℤ, ◌+ℤ◌, int_lt, Bool, true, false, ◌&&◌, ◌||◌, not, nat_le, List, [], ◌∷◌, find, count_by, filter_map, Option, Some, None, is_some, option_map, if◌then◌else◌}
+use Rattle.std.specs.Prelude.{ℕ, ℤ, pos, neg_ℤ, ◌+ℤ◌, int_lt, Bool, true, false, ◌&&◌, ◌||◌, not, nat_le, List, [], ◌∷◌, find, count_by, Option, Some, None, option_map, if◌then◌else◌}
 use Rattle.std.specs.List.{list_any}
 use Rattle.std.specs.Str.{bytes_eq}
 use Rattle.half_grid.specs.Halves.{is_even}

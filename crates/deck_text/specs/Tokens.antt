@@ -1,6 +1,6 @@
 -- The tokens of a line: the longest runs of bytes from 21 to 7E hex, separated by spaces and tabs. Any other byte ends the
 -- token before it and stands alone; it is a piece that fits nowhere. Columns count from 1.
-use Rattle.std.specs.Prelude.{ℕ, ◌+◌, Bool, false, ◌&&◌, ◌||◌, ◌==◌, List, [], ◌∷◌, length, drop, if◌then◌else◌}
+use Rattle.std.specs.Prelude.{ℕ, ◌+◌, Bool, false, ◌&&◌, ◌||◌, ◌==◌, List, [], ◌∷◌, drop, if◌then◌else◌}
 use Rattle.std.specs.Char.{is_ascii_graphic}
 
 -- a token, or a single byte that belongs to none, and the column of its first byte

@@ -1,9 +1,8 @@
-use Rattle.std.proofs.Common.{◌≡◌, true, sym, refl, ap, inl, inr, ◌∙◌}
+use Rattle.std.proofs.Common.{refl, ap, inl}
 use Rattle.std.specs.Prelude.{Ok}
 use Rattle.std.proofs.lemmas.Result.{err_from_is_err_and}
 use Rattle.deck_text.specs.Lines.{lines_of}
-use Rattle.deck_text.specs.SaidViews.{said_views}
-use Rattle.deck_text.specs.Decks.{saids_from, IsDeck, IsDeckOf}
+use Rattle.deck_text.specs.Decks.{saids_from, IsDeck}
 use Rattle.deck_text.specs.declared.deck.Deck.{Deck}
 use Rattle.deck_text.proofs.Steps.{outputs_begin}
 use Rattle.deck_text.proofs.Unique.{one_deck, never_both, told_fault, told_deck}

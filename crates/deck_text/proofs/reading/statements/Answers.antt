@@ -1,14 +1,12 @@
-use Rattle.std.proofs.Common.{◌≡◌, ◌+◌, true, drop, inl, inr, sym, refl, ap, ◌∙◌, arith}
+use Rattle.std.proofs.Common.{◌≡◌, ◌+◌, true, drop, inl, inr, sym, refl, ◌∙◌, arith}
 use Rattle.std.proofs.lemmas.Result.{err_from_is_err_and}
-use Rattle.std.proofs.lemmas.List.{map-append, drop_all}
 use Rattle.deck_text.specs.Lines.{lines_of}
-use Rattle.deck_text.specs.Statements.{Reading, Refused, Says, Said}
+use Rattle.deck_text.specs.Statements.{Refused, Says}
 use Rattle.deck_text.specs.Forms.{reading}
 use Rattle.deck_text.specs.Views.{statement_view}
-use Rattle.deck_text.specs.SaidViews.{said_view, said_views}
-use Rattle.deck_text.specs.Decks.{said, IsFirstFault, has_output}
-use Rattle.deck_text.specs.declared.refusal.DeckBad.TheVariants as faults
-use Rattle.deck_text.proofs.Steps.{IsReadUpTo, IsReadAll, starts, lines_left, refused_next, passes_next, says_next, ends, no_output}
+use Rattle.deck_text.specs.SaidViews.{said_views}
+use Rattle.deck_text.specs.Decks.{said, has_output}
+use Rattle.deck_text.proofs.Steps.{IsReadAll, starts, lines_left, refused_next, passes_next, says_next, ends, no_output}
 use Rattle.deck_text.proofs.Ends.{none_left, pushed}
 use Rattle.deck_text.proofs.reading.statements.Goals as goal
 

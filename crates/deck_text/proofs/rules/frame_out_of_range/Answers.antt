@@ -1,7 +1,6 @@
-use Rattle.std.proofs.Common.{◌≡◌, true, false, FitsSigned, w64, rules, sym, ◌∙◌, arith}
+use Rattle.std.proofs.Common.{FitsSigned, w64, rules, sym, ◌∙◌}
 use Rattle.std.specs.Prelude.{pos, ◌+ℤ◌}
-use Rattle.std.proofs.lemmas.Int.{ints, to_z-of_z}
-use Rattle.deck_text.specs.Rules.{is_outside, within_reach}
+use Rattle.std.proofs.lemmas.Int.{to_z-of_z}
 use Rattle.deck_text.proofs.RangeLemmas.{reach_next, third_outside, fourth_outside}
 use Rattle.deck_text.proofs.rules.frame_out_of_range.Goals as goal
 

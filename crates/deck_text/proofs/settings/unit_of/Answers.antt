@@ -1,6 +1,5 @@
 use Rattle.std.proofs.Common.{◌≡◌, Some, FitsSigned, w64, rules}
 use Rattle.std.proofs.lemmas.Int.{to_z-of_z}
-use Rattle.std.proofs.lemmas.Grind.{common_steps}
 use Rattle.deck_text.specs.Views.{statement_view}
 use Rattle.deck_text.specs.Decks.{unit_of}
 use Rattle.deck_text.proofs.RangeLemmas.{unit_range, small_fits}
