@@ -14,3 +14,4 @@ pub mod Kept
 pub mod SoundSteps
 pub mod SoundOutputs
 pub mod Sounds
+pub mod ForCallers

@@ -1,9 +1,5 @@
 //! Why bytes are no deck.
-ghost use Rattle.std.specs.Prelude.{◌≡◌};
-ghost use Rattle.deck_text.specs.declared.refusal.DeckBad.{DeckBad};
-
 use crate::text::Text;
-use geo_stream::NoMemory;
 
 /// The first fault of bytes that are no deck: the first line that is refused, counted from 1, and the first rule that it
 /// breaks, in this order.
@@ -31,12 +27,4 @@ pub enum DeckBad {
     Many(usize),
     /// Memory was wanting.
     NoMemory,
-}
-
-impl From<NoMemory> for DeckBad {
-    fn from(_refused: NoMemory) -> DeckBad
-        ensures { result ≡ DeckBad.NoMemory }
-    {
-        DeckBad::NoMemory
-    }
 }
