@@ -1,0 +1,17 @@
+pub mod Digits
+pub mod Loops
+pub mod TokenLemmas
+pub mod LineLemmas
+pub mod PieceLemmas
+pub mod RangeLemmas
+pub mod RuleLemmas
+pub mod Steps
+pub mod Ends
+pub mod Unique
+pub mod PairLemmas
+pub mod SoundRanges
+pub mod Kept
+pub mod SoundSteps
+pub mod SoundOutputs
+pub mod Sounds
+pub mod ForCallers

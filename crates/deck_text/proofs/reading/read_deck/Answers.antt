@@ -1,0 +1,49 @@
+use Rattle.std.proofs.Common.{refl, ap, inl}
+use Rattle.std.specs.Prelude.{Ok}
+use Rattle.std.proofs.lemmas.Result.{err_from_is_err_and}
+use Rattle.deck_text.specs.Lines.{lines_of}
+use Rattle.deck_text.specs.Decks.{saids_from, IsDeck}
+use Rattle.deck_text.specs.declared.deck.Deck.{Deck}
+use Rattle.deck_text.proofs.Steps.{outputs_begin}
+use Rattle.deck_text.proofs.Unique.{one_deck, never_both, told_fault, told_deck}
+use Rattle.deck_text.proofs.reading.read_deck.Goals as goal
+
+-- ---- a refusal of the lines
+
+pub returns-in_err-saids-clause-every_fault : goal.returns-in_err-saids-clause-every_fault
+returns-in_err-saids-clause-every_fault c =
+    let p = err_from_is_err_and c.from_residual.result c.from_residual.ensures.1 in
+    told_fault c.args.bytes.now c.args.layout.now c.args.deck.now c.from_residual.result _ (rw (p.1, p.2) refl) c.in_err-saids.ensures.refused
+
+pub returns-in_err-saids-clause-read : goal.returns-in_err-saids-clause-read
+returns-in_err-saids-clause-read c =
+    let p = err_from_is_err_and c.from_residual.result c.from_residual.ensures.1 in
+    told_deck c.args.bytes.now c.args.layout.now c.args.deck.now c.from_residual.result _ (rw (p.1, p.2) refl) c.in_err-saids.ensures.refused
+
+-- ---- the deck of the statements
+
+pub deck_of-requires-clause-unit : goal.deck_of-requires-clause-unit
+deck_of-requires-clause-unit c =
+    let given = c.in_ok-saids.ensures.begun (outputs_begin (saids_from 1 (lines_of c.args.bytes.now)) c.in_ok-saids.ensures.some) in
+    rw (c.as_slice.ensures.value, c.in_ok-saids.ensures.saids) given.0
+
+pub deck_of-requires-clause-top : goal.deck_of-requires-clause-top
+deck_of-requires-clause-top c =
+    let given = c.in_ok-saids.ensures.begun (outputs_begin (saids_from 1 (lines_of c.args.bytes.now)) c.in_ok-saids.ensures.some) in
+    rw (c.as_slice.ensures.value, c.in_ok-saids.ensures.saids) given.1
+
+found : (c : goal.After-drop-saids) → IsDeck c.args.bytes.now c.args.layout.now c.args.deck.now c.in-Ok.deck
+found c = record {
+  accepted = c.in_ok-saids.ensures.accepted;
+  some = c.in_ok-saids.ensures.some;
+  says = rw (c.as_slice.ensures.value, c.in_ok-saids.ensures.saids) at c.in-Ok.ensures;
+}
+
+pub returns-in-Ok-clause-found : goal.returns-in-Ok-clause-found
+returns-in-Ok-clause-found c = found c
+
+pub returns-in-Ok-clause-read : goal.returns-in-Ok-clause-read
+returns-in-Ok-clause-read c = λ d h. inl (ap (λ (e : Deck). Ok e) (one_deck c.args.bytes.now c.args.layout.now c.args.deck.now c.in-Ok.deck d (found c) h))
+
+pub returns-in-Ok-clause-every_fault : goal.returns-in-Ok-clause-every_fault
+returns-in-Ok-clause-every_fault c = λ bad f. absurd (never_both c.args.bytes.now c.args.layout.now c.args.deck.now c.in-Ok.deck bad (found c) f)

@@ -1,0 +1,7 @@
+use Rattle.std.proofs.Common.{◌≡◌, drop}
+use Rattle.deck_text.specs.Decks.{setting_in, limits_of}
+use Rattle.deck_text.specs.SaidViews.{said_views}
+use Rattle.deck_text.proofs.settings.limits_in.Given as goal
+
+abbrev pub invariant-loop-said : goal.invariant-loop-said
+invariant-loop-said l = setting_in limits_of (said_views (drop l.said-index l.saids)) ≡ setting_in limits_of (said_views l.saids)

@@ -1,0 +1,14 @@
+-- Bytes have one deck at most, one first fault at most, and never both.
+use Rattle.std.specs.Prelude.{◌≡◌, ℕ, List}
+use Rattle.deck_text.specs.Decks.{IsDeck, IsFirstFault}
+use Rattle.deck_text.specs.declared.refusal.DeckBad.{DeckBad}
+use Rattle.deck_text.specs.declared.deck.Deck.{Deck}
+
+abbrev pub OneDeck : Type 0
+OneDeck = (bytes layout deck : List ℕ) (d e : Deck) → IsDeck bytes layout deck d → IsDeck bytes layout deck e → d ≡ e
+
+abbrev pub OneFault : Type 0
+OneFault = (bytes layout deck : List ℕ) (bad other : DeckBad) → IsFirstFault bytes layout deck bad → IsFirstFault bytes layout deck other → bad ≡ other
+
+abbrev pub NeverBoth : Type 0
+NeverBoth = (bytes layout deck : List ℕ) (d : Deck) (bad : DeckBad) → IsDeck bytes layout deck d → IsFirstFault bytes layout deck bad → ⊥

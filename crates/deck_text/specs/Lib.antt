@@ -1,0 +1,12 @@
+pub mod Lines
+pub mod Tokens
+pub mod Kinds
+pub mod Statements
+pub mod Forms
+pub mod Views
+pub mod SaidViews
+pub mod Rules
+pub mod Decks
+pub mod Begun
+pub mod Laws
+pub mod Sound

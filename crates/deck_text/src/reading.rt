@@ -1,0 +1,133 @@
+//! Decks read from their bytes.
+ghost use Rattle.std.specs.Prelude.{◌≡◌, ◌≢◌, ◌⊎◌, ◌≤◌, true, None, Some, length, IfOk, IfErr, OnOk};
+ghost use Rattle.deck_text.specs.Lines.{lines_of};
+ghost use Rattle.deck_text.specs.Rules.{broken_rule};
+ghost use Rattle.deck_text.specs.Decks.{AreAccepted, has_output, said, saids_from, IsFirstFault, IsDeck};
+ghost use Rattle.deck_text.specs.Begun.{IsBegun};
+ghost use Rattle.deck_text.specs.Views.{statement_view};
+ghost use Rattle.deck_text.specs.SaidViews.{said_view, said_views};
+ghost use Rattle.deck_text.specs.declared.deck.Deck.{Deck};
+ghost use Rattle.deck_text.specs.declared.refusal.DeckBad.{DeckBad};
+
+use crate::deck::Deck;
+use crate::forms::reading;
+use crate::lines::line_at;
+use crate::refusal::DeckBad;
+use crate::rules::{
+    has_odd_sum, has_output, is_misplaced, is_too_many, lacks_frame, out_of_range, repeated_line,
+    takes_name, unknown_operand,
+};
+use crate::said::Said;
+use crate::statement::Statement;
+use crate::text::Text;
+use crate::writing::deck_of;
+use std::alloc::Global;
+
+/// The names that the command gives.
+#[derive(Clone, Copy)]
+struct Names<'a> {
+    layout: &'a str,
+    deck: &'a str,
+}
+
+// The refusal of a line for an operand that isn't defined.
+fn unknown(alloc: Global, line: usize, name: &str) -> DeckBad
+    ensures { (result ≡ DeckBad.Unknown line name.now) ⊎ (result ≡ DeckBad.NoMemory) }
+{
+    match Text::new(alloc, name) {
+        Ok(name) => DeckBad::Unknown(line, name),
+        Err(_refused) => DeckBad::NoMemory,
+    }
+}
+
+// The statement of a line, where it breaks no rule after those before it.
+fn accepted<'a>(
+    alloc: Global,
+    names: Names,
+    before: &[Said<'a>],
+    line: usize,
+    says: Statement<'a>,
+) -> Result<Said<'a>, DeckBad>
+    ensures said { IfOk result (λ own. said_view own ≡ said line (statement_view says.entry)) }
+    ensures ok { IfOk result (λ own. broken_rule names.entry.layout.now names.entry.deck.now (said_views before.now) line (statement_view says.entry) ≡ None) }
+    ensures refused { IfErr result (λ bad. bad ≢ DeckBad.NoMemory → broken_rule names.entry.layout.now names.entry.deck.now (said_views before.now) line (statement_view says.entry) ≡ Some bad) }
+{
+    if is_misplaced(before, &says) {
+        return Err(DeckBad::Order(line));
+    }
+    match repeated_line(before, &says) {
+        Some(earlier) => return Err(DeckBad::Twice(line, earlier)),
+        None => {}
+    }
+    match unknown_operand(before, &says) {
+        Some(name) => return Err(unknown(alloc, line, name)),
+        None => {}
+    }
+    if lacks_frame(before, &says) {
+        return Err(DeckBad::NoFrame(line));
+    }
+    match out_of_range(&says) {
+        Some(value) => return Err(DeckBad::Range(line, value)),
+        None => {}
+    }
+    if has_odd_sum(&says) {
+        return Err(DeckBad::Odd(line));
+    }
+    if takes_name(names.layout, names.deck, before, &says) {
+        return Err(DeckBad::Names(line));
+    }
+    if is_too_many(before, &says) {
+        return Err(DeckBad::Many(line));
+    }
+    Ok(Said { line, says })
+}
+
+// The statements of all lines, or the first fault.
+fn statements<'a>(alloc: Global, bytes: &'a [u8], names: Names) -> Result<Vec<Said<'a>>, DeckBad>
+    requires { length bytes.now ≤ 65536 }
+    ensures saids { IfOk result (λ saids. said_views saids.items ≡ saids_from 1 (lines_of bytes.now)) }
+    ensures accepted { OnOk result (AreAccepted names.entry.layout.now names.entry.deck.now (lines_of bytes.now) (length (lines_of bytes.now))) }
+    ensures some { OnOk result (has_output (saids_from 1 (lines_of bytes.now)) ≡ true) }
+    ensures begun { OnOk result (IsBegun (saids_from 1 (lines_of bytes.now))) }
+    ensures refused { IfErr result (λ bad. bad ≢ DeckBad.NoMemory → IsFirstFault bytes.now names.entry.layout.now names.entry.deck.now bad) }
+{
+    let mut saids = Vec::new(alloc);
+    let mut lines = 0;
+    let mut at = 0;
+    while at < bytes.len() {
+        let (line, next) = line_at(bytes, at);
+        lines += 1;
+        at = next;
+        match reading(line) {
+            Err(column) => return Err(DeckBad::Line(lines, column)),
+            Ok(None) => {}
+            Ok(Some(says)) => {
+                let said = accepted(alloc, names, saids.as_slice(), lines, says)?;
+                match saids.push(said) {
+                    Ok(()) => {}
+                    Err(_refused) => return Err(DeckBad::NoMemory),
+                }
+            }
+        }
+    }
+    if !has_output(saids.as_slice()) {
+        return Err(DeckBad::Order(lines + 1));
+    }
+    Ok(saids)
+}
+
+/// The deck that the bytes are, where the command gives these names of layout and deck. Bytes that are no deck are
+/// refused by their first fault. NoMemory may come in place of any answer where memory is wanting.
+pub fn read_deck(alloc: Global, bytes: &[u8], layout: &str, deck: &str) -> Result<Deck, DeckBad>
+    requires { length bytes.now ≤ 65536 }
+    ensures found { IfOk result (IsDeck bytes.now layout.now deck.now) }
+    ensures read { (d : Deck) → IsDeck bytes.now layout.now deck.now d → (result ≡ Ok d) ⊎ (result ≡ Err DeckBad.NoMemory) }
+    ensures first_fault { IfErr result (λ bad. bad ≢ DeckBad.NoMemory → IsFirstFault bytes.now layout.now deck.now bad) }
+    ensures every_fault { (bad : DeckBad) → IsFirstFault bytes.now layout.now deck.now bad → (result ≡ Err bad) ⊎ (result ≡ Err DeckBad.NoMemory) }
+{
+    let saids = statements(alloc, bytes, Names { layout, deck })?;
+    match deck_of(alloc, saids.as_slice()) {
+        Ok(deck) => Ok(deck),
+        Err(_refused) => Err(DeckBad::NoMemory),
+    }
+}

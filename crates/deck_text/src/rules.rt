@@ -1,0 +1,535 @@
+//! The rules of a deck: what is wrong with a statement after those before it.
+ghost use Rattle.std.specs.Prelude.{◌≡◌, None, [], ◌∷◌, not, find, pos, ◌+ℤ◌};
+ghost use Rattle.half_grid.specs.Halves.{is_even};
+ghost use Rattle.deck_text.specs.Statements.{LimitsAre, FrameIs};
+ghost use Rattle.deck_text.specs.Rules.{is_setting, is_definition, is_output, is_unit, is_top, is_band, is_limits, is_frame, any_before, count_before, is_misplaced, sets_again, defines, repeats, repeated_line, is_defined, unknown_operand, inverts, lacks_frame, out_of_range, has_odd_sum, goes_to, takes_name, is_too_many, bounds_of_setting, bounds_of_operation, first_outside, bound, is_outside, narrow, operands_of_operation};
+ghost use Rattle.deck_text.specs.Views.{statement_view, setting_view, operation_view, Gives};
+ghost use Rattle.deck_text.specs.SaidViews.{said_views};
+
+use crate::said::Said;
+use crate::statement::{Operation, Setting, Statement};
+use half_grid::{Frame, Limits};
+
+/// At most so many definitions.
+const DEFINITIONS: usize = 256;
+
+/// At most so many outputs.
+const OUTPUTS: usize = 64;
+
+/// Frames and mirrors are so near to 0.
+const REACH: i64 = 1 << 30;
+
+/// The greatest layer or datatype.
+const NARROW: i64 = 4_294_967_295;
+
+// Whether it is a setting.
+fn is_setting(statement: &Statement) -> bool
+    ensures { result ≡ is_setting (statement_view statement.now) }
+{
+    match statement {
+        Statement::Set(_) => true,
+        Statement::Define(_, _) => false,
+        Statement::Write(_) => false,
+    }
+}
+
+// Whether it is a definition.
+pub(crate) fn is_definition(statement: &Statement) -> bool
+    ensures { result ≡ is_definition (statement_view statement.now) }
+{
+    match statement {
+        Statement::Set(_) => false,
+        Statement::Define(_, _) => true,
+        Statement::Write(_) => false,
+    }
+}
+
+// Whether it is an output.
+fn is_output(statement: &Statement) -> bool
+    ensures { result ≡ is_output (statement_view statement.now) }
+{
+    match statement {
+        Statement::Set(_) => false,
+        Statement::Define(_, _) => false,
+        Statement::Write(_) => true,
+    }
+}
+
+// Whether it is `unit`.
+fn is_unit(statement: &Statement) -> bool
+    ensures { result ≡ is_unit (statement_view statement.now) }
+{
+    match statement {
+        Statement::Set(Setting::Unit(_)) => true,
+        Statement::Set(Setting::Top(_)) => false,
+        Statement::Set(Setting::Band(_)) => false,
+        Statement::Set(Setting::Limits(_)) => false,
+        Statement::Set(Setting::Frame(_)) => false,
+        Statement::Define(_, _) => false,
+        Statement::Write(_) => false,
+    }
+}
+
+// Whether it is `top`.
+fn is_top(statement: &Statement) -> bool
+    ensures { result ≡ is_top (statement_view statement.now) }
+{
+    match statement {
+        Statement::Set(Setting::Unit(_)) => false,
+        Statement::Set(Setting::Top(_)) => true,
+        Statement::Set(Setting::Band(_)) => false,
+        Statement::Set(Setting::Limits(_)) => false,
+        Statement::Set(Setting::Frame(_)) => false,
+        Statement::Define(_, _) => false,
+        Statement::Write(_) => false,
+    }
+}
+
+// Whether it is `band`.
+fn is_band(statement: &Statement) -> bool
+    ensures { result ≡ is_band (statement_view statement.now) }
+{
+    match statement {
+        Statement::Set(Setting::Unit(_)) => false,
+        Statement::Set(Setting::Top(_)) => false,
+        Statement::Set(Setting::Band(_)) => true,
+        Statement::Set(Setting::Limits(_)) => false,
+        Statement::Set(Setting::Frame(_)) => false,
+        Statement::Define(_, _) => false,
+        Statement::Write(_) => false,
+    }
+}
+
+// Whether it is `limits`.
+fn is_limits(statement: &Statement) -> bool
+    ensures { result ≡ is_limits (statement_view statement.now) }
+{
+    match statement {
+        Statement::Set(Setting::Unit(_)) => false,
+        Statement::Set(Setting::Top(_)) => false,
+        Statement::Set(Setting::Band(_)) => false,
+        Statement::Set(Setting::Limits(_)) => true,
+        Statement::Set(Setting::Frame(_)) => false,
+        Statement::Define(_, _) => false,
+        Statement::Write(_) => false,
+    }
+}
+
+// Whether it is `frame`.
+fn is_frame(statement: &Statement) -> bool
+    ensures { result ≡ is_frame (statement_view statement.now) }
+{
+    match statement {
+        Statement::Set(Setting::Unit(_)) => false,
+        Statement::Set(Setting::Top(_)) => false,
+        Statement::Set(Setting::Band(_)) => false,
+        Statement::Set(Setting::Limits(_)) => false,
+        Statement::Set(Setting::Frame(_)) => true,
+        Statement::Define(_, _) => false,
+        Statement::Write(_) => false,
+    }
+}
+
+// Whether the statement is the same setting.
+fn sets_again(setting: &Setting, other: &Statement) -> bool
+    ensures { result ≡ sets_again (setting_view setting.now) (statement_view other.now) }
+{
+    match setting {
+        Setting::Unit(_) => is_unit(other),
+        Setting::Top(_) => is_top(other),
+        Setting::Band(_) => is_band(other),
+        Setting::Limits(_) => is_limits(other),
+        Setting::Frame(_) => is_frame(other),
+    }
+}
+
+// Whether the statement defines the name.
+pub(crate) fn defines(name: &str, other: &Statement) -> bool
+    ensures { result ≡ defines name.now (statement_view other.now) }
+{
+    match other {
+        Statement::Set(_) => false,
+        Statement::Define(own, _) => *own == name,
+        Statement::Write(_) => false,
+    }
+}
+
+// Whether the statement repeats the other.
+fn repeats(statement: &Statement, other: &Statement) -> bool
+    ensures { result ≡ repeats (statement_view statement.now) (statement_view other.now) }
+{
+    match statement {
+        Statement::Set(setting) => sets_again(setting, other),
+        Statement::Define(name, _) => defines(name, other),
+        Statement::Write(_) => false,
+    }
+}
+
+// Whether the output goes to the file.
+fn goes_to(file: &str, other: &Statement) -> bool
+    ensures { result ≡ goes_to file.now (statement_view other.now) }
+{
+    match other {
+        Statement::Set(_) => false,
+        Statement::Define(_, _) => false,
+        Statement::Write(writing) => writing.file == file,
+    }
+}
+
+// Whether `unit` was given.
+fn has_unit(before: &[Said]) -> bool
+    ensures { result ≡ any_before is_unit (said_views before.now) }
+{
+    for said in before {
+        if is_unit(&said.says) {
+            return true;
+        }
+    }
+    false
+}
+
+// Whether `top` was given.
+fn has_top(before: &[Said]) -> bool
+    ensures { result ≡ any_before is_top (said_views before.now) }
+{
+    for said in before {
+        if is_top(&said.says) {
+            return true;
+        }
+    }
+    false
+}
+
+// Whether `frame` was given.
+fn has_frame(before: &[Said]) -> bool
+    ensures { result ≡ any_before is_frame (said_views before.now) }
+{
+    for said in before {
+        if is_frame(&said.says) {
+            return true;
+        }
+    }
+    false
+}
+
+// Whether a definition or an output was given.
+fn has_begun(before: &[Said]) -> bool
+    ensures { result ≡ any_before (λ t. not (is_setting t)) (said_views before.now) }
+{
+    for said in before {
+        if !is_setting(&said.says) {
+            return true;
+        }
+    }
+    false
+}
+
+/// Whether an output was given.
+pub(crate) fn has_output(before: &[Said]) -> bool
+    ensures { result ≡ any_before is_output (said_views before.now) }
+{
+    for said in before {
+        if is_output(&said.says) {
+            return true;
+        }
+    }
+    false
+}
+
+// Whether an output goes to the file.
+fn is_taken(before: &[Said], file: &str) -> bool
+    ensures { result ≡ any_before (goes_to file.now) (said_views before.now) }
+{
+    for said in before {
+        if goes_to(file, &said.says) {
+            return true;
+        }
+    }
+    false
+}
+
+// Whether the name is defined.
+fn is_defined(before: &[Said], name: &str) -> bool
+    ensures { result ≡ is_defined (said_views before.now) name.now }
+{
+    for said in before {
+        if defines(name, &said.says) {
+            return true;
+        }
+    }
+    false
+}
+
+// How many definitions there are.
+fn definitions(before: &[Said]) -> usize
+    ensures { result ≡ count_before is_definition (said_views before.now) }
+{
+    let mut count = 0;
+    for said in before {
+        if is_definition(&said.says) {
+            count += 1;
+        }
+    }
+    count
+}
+
+// How many outputs there are.
+fn outputs(before: &[Said]) -> usize
+    ensures { result ≡ count_before is_output (said_views before.now) }
+{
+    let mut count = 0;
+    for said in before {
+        if is_output(&said.says) {
+            count += 1;
+        }
+    }
+    count
+}
+
+/// Whether the statement is a setting after a definition or an output, or one of these before both `unit` and `top`.
+pub(crate) fn is_misplaced(before: &[Said], statement: &Statement) -> bool
+    ensures { result ≡ is_misplaced (said_views before.now) (statement_view statement.now) }
+{
+    if is_setting(statement) {
+        return has_begun(before);
+    }
+    if !has_unit(before) {
+        return true;
+    }
+    !has_top(before)
+}
+
+/// The line of the first statement that this one repeats.
+pub(crate) fn repeated_line(before: &[Said], statement: &Statement) -> Option<usize>
+    ensures { result ≡ repeated_line (said_views before.now) (statement_view statement.now) }
+{
+    for said in before {
+        if repeats(statement, &said.says) {
+            return Some(said.line);
+        }
+    }
+    None
+}
+
+// The name, where it isn't defined.
+fn unknown_name<'a>(before: &[Said], name: &'a str) -> Option<&'a str>
+    ensures { Gives (λ x. x.now) result (find (λ x. not (is_defined (said_views before.now) x)) (name.now ∷ [])) }
+{
+    if is_defined(before, name) {
+        return None;
+    }
+    Some(name)
+}
+
+// The first operand that isn't defined.
+fn unknown_in<'a>(before: &[Said], operation: &Operation<'a>) -> Option<&'a str>
+    ensures { Gives (λ x. x.now) result (find (λ x. not (is_defined (said_views before.now) x)) (operands_of_operation (operation_view operation.now))) }
+{
+    match operation {
+        Operation::Layer(_, _) => None,
+        Operation::Combine(_, a, b) => {
+            if !is_defined(before, a) {
+                return Some(a);
+            }
+            unknown_name(before, b)
+        }
+        Operation::Resize(_, a, _, _) => unknown_name(before, a),
+        Operation::Invert(a) => unknown_name(before, a),
+        Operation::Mirror(a, _) => unknown_name(before, a),
+    }
+}
+
+/// The first operand that isn't defined.
+pub(crate) fn unknown_operand<'a>(before: &[Said], statement: &Statement<'a>) -> Option<&'a str>
+    ensures { Gives (λ x. x.now) result (unknown_operand (said_views before.now) (statement_view statement.now)) }
+{
+    match statement {
+        Statement::Set(_) => None,
+        Statement::Define(_, operation) => unknown_in(before, operation),
+        Statement::Write(writing) => unknown_name(before, writing.name),
+    }
+}
+
+// Whether it is `invert`.
+fn inverts(statement: &Statement) -> bool
+    ensures { result ≡ inverts (statement_view statement.now) }
+{
+    match statement {
+        Statement::Set(_) => false,
+        Statement::Define(_, Operation::Layer(_, _)) => false,
+        Statement::Define(_, Operation::Combine(_, _, _)) => false,
+        Statement::Define(_, Operation::Resize(_, _, _, _)) => false,
+        Statement::Define(_, Operation::Invert(_)) => true,
+        Statement::Define(_, Operation::Mirror(_, _)) => false,
+        Statement::Write(_) => false,
+    }
+}
+
+/// Whether it is `invert` and no frame was given.
+pub(crate) fn lacks_frame(before: &[Said], statement: &Statement) -> bool
+    ensures { result ≡ lacks_frame (said_views before.now) (statement_view statement.now) }
+{
+    if !inverts(statement) {
+        return false;
+    }
+    !has_frame(before)
+}
+
+// Whether the value is below `low` or above `high`.
+fn is_outside(value: i64, low: i64, high: i64) -> bool
+    ensures { result ≡ is_outside (bound value low high) }
+{
+    if value < low {
+        return true;
+    }
+    high < value
+}
+
+// The value, where it is outside.
+fn outside(value: i64, low: i64, high: i64) -> Option<i64>
+    ensures { result ≡ first_outside (bound value low high ∷ []) }
+{
+    if is_outside(value, low, high) {
+        return Some(value);
+    }
+    None
+}
+
+// The first of layer and datatype that hasn't 32 bits.
+fn wide_of(layer: i64, datatype: i64) -> Option<i64>
+    ensures { result ≡ first_outside (narrow layer ∷ narrow datatype ∷ []) }
+{
+    if is_outside(layer, 0, NARROW) {
+        return Some(layer);
+    }
+    outside(datatype, 0, NARROW)
+}
+
+// The first number of the limits that is out of its range.
+fn limits_out_of_range(limits: &Limits) -> Option<i64>
+    ensures { result ≡ first_outside (bounds_of_setting (LimitsAre limits.now.height limits.now.width)) }
+{
+    if is_outside(limits.height, 1, 16_777_216) {
+        return Some(limits.height);
+    }
+    outside(limits.width, 2 * limits.height, 33_554_432)
+}
+
+// The first number of the frame that is out of its range.
+fn frame_out_of_range(frame: &Frame) -> Option<i64>
+    ensures { result ≡ first_outside (bounds_of_setting (FrameIs frame.now.x0 frame.now.y0 frame.now.x1 frame.now.y1)) }
+{
+    if is_outside(frame.x0, -REACH, REACH) {
+        return Some(frame.x0);
+    }
+    if is_outside(frame.y0, -REACH, REACH) {
+        return Some(frame.y0);
+    }
+    if is_outside(frame.x1, frame.x0 + 1, REACH) {
+        return Some(frame.x1);
+    }
+    outside(frame.y1, frame.y0 + 1, REACH)
+}
+
+// The first number of the setting that is out of its range.
+fn setting_out_of_range(setting: &Setting) -> Option<i64>
+    ensures { result ≡ first_outside (bounds_of_setting (setting_view setting.now)) }
+{
+    match setting {
+        Setting::Unit(steps) => outside(*steps, 1, 1_000_000),
+        Setting::Top(_) => None,
+        Setting::Band(rows) => outside(*rows, 1024, 16_777_216),
+        Setting::Limits(limits) => limits_out_of_range(limits),
+        Setting::Frame(frame) => frame_out_of_range(frame),
+    }
+}
+
+// The first of two half sides that is out of its range.
+fn side_out_of_range(dx: i64, dy: i64) -> Option<i64>
+    ensures { result ≡ first_outside (bound dx (pos 0) (pos 65536) ∷ bound dy (pos 0) (pos 65536) ∷ []) }
+{
+    if is_outside(dx, 0, 65536) {
+        return Some(dx);
+    }
+    outside(dy, 0, 65536)
+}
+
+// The first number of the operation that is out of its range.
+fn operation_out_of_range(operation: &Operation) -> Option<i64>
+    ensures { result ≡ first_outside (bounds_of_operation (operation_view operation.now)) }
+{
+    match operation {
+        Operation::Layer(layer, datatype) => wide_of(*layer, *datatype),
+        Operation::Combine(_, _, _) => None,
+        Operation::Resize(_, _, dx, dy) => side_out_of_range(*dx, *dy),
+        Operation::Invert(_) => None,
+        Operation::Mirror(_, m) => outside(*m, -REACH, REACH),
+    }
+}
+
+/// The first number that is out of its range.
+#[tactic(auto, unfolding(crate::specs::Rules::out_of_range))]
+pub(crate) fn out_of_range(statement: &Statement) -> Option<i64>
+    ensures { result ≡ out_of_range (statement_view statement.now) }
+{
+    match statement {
+        Statement::Set(setting) => setting_out_of_range(setting),
+        Statement::Define(_, operation) => operation_out_of_range(operation),
+        Statement::Write(writing) => wide_of(writing.layer, writing.datatype),
+    }
+}
+
+// Whether the sum is odd.
+fn is_odd_sum(dx: i64, dy: i64) -> bool
+    requires { first_outside (bound dx (pos 0) (pos 65536) ∷ bound dy (pos 0) (pos 65536) ∷ []) ≡ None }
+    ensures { result ≡ not (is_even (dx +ℤ dy)) }
+{
+    (dx + dy) % 2 != 0
+}
+
+/// Whether the sum of its two half sides is odd.
+#[tactic(auto, unfolding(crate::specs::Rules::out_of_range))]
+pub(crate) fn has_odd_sum(statement: &Statement) -> bool
+    requires { out_of_range (statement_view statement.now) ≡ None }
+    ensures { result ≡ has_odd_sum (statement_view statement.now) }
+{
+    match statement {
+        Statement::Set(_) => false,
+        Statement::Define(_, Operation::Layer(_, _)) => false,
+        Statement::Define(_, Operation::Combine(_, _, _)) => false,
+        Statement::Define(_, Operation::Resize(_, _, dx, dy)) => is_odd_sum(*dx, *dy),
+        Statement::Define(_, Operation::Invert(_)) => false,
+        Statement::Define(_, Operation::Mirror(_, _)) => false,
+        Statement::Write(_) => false,
+    }
+}
+
+/// Whether the output goes to the layout, the deck, or the file of an earlier output.
+pub(crate) fn takes_name(layout: &str, deck: &str, before: &[Said], statement: &Statement) -> bool
+    ensures { result ≡ takes_name layout.now deck.now (said_views before.now) (statement_view statement.now) }
+{
+    match statement {
+        Statement::Set(_) => false,
+        Statement::Define(_, _) => false,
+        Statement::Write(writing) => {
+            if writing.file == layout {
+                return true;
+            }
+            if writing.file == deck {
+                return true;
+            }
+            is_taken(before, writing.file)
+        }
+    }
+}
+
+/// Whether it is the 257th definition or the 65th output.
+pub(crate) fn is_too_many(before: &[Said], statement: &Statement) -> bool
+    ensures { result ≡ is_too_many (said_views before.now) (statement_view statement.now) }
+{
+    match statement {
+        Statement::Set(_) => false,
+        Statement::Define(_, _) => DEFINITIONS <= definitions(before),
+        Statement::Write(_) => OUTPUTS <= outputs(before),
+    }
+}
