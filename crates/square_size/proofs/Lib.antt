@@ -1,0 +1,4 @@
+pub mod Boxes
+pub mod Mixing
+pub mod Extremes
+pub mod NearLaw
