@@ -33,16 +33,33 @@ pub record Extremes (z : Trapezoid) : Type 0 where
 pub first_of : Trapezoid → ℤ → Tile
 first_of z k = tile_with (place z.left k) k
 
-last_of : Trapezoid → ℤ → Tile
+pub last_of : Trapezoid → ℤ → Tile
 last_of z k = tile_with (place z.right k -ℤ pos 1) k
 
+-- their numbers and rows
+pub number_first : (z : Trapezoid) (k : ℤ) → number_in_row (first_of z k) ≡ place z.left k
+unfolding first_of
+number_first z k = tile_with_number (place z.left k) k
+
+pub row_first : (z : Trapezoid) (k : ℤ) → (first_of z k).j ≡ k
+unfolding first_of
+row_first z k = refl
+
+pub number_last : (z : Trapezoid) (k : ℤ) → number_in_row (last_of z k) ≡ place z.right k -ℤ pos 1
+unfolding last_of
+number_last z k = tile_with_number (place z.right k -ℤ pos 1) k
+
+pub row_last : (z : Trapezoid) (k : ℤ) → (last_of z k).j ≡ k
+unfolding last_of
+row_last z k = refl
+
 -- an X plus Y of a line never falls from row to row, and an X less Y never rises
-place_and_row : (l : Line) (j k : ℤ) → j ≤ℤ k → (place l j +ℤ twice j) ≤ℤ (place l k +ℤ twice k)
+pub place_and_row : (l : Line) (j k : ℤ) → j ≤ℤ k → (place l j +ℤ twice j) ≤ℤ (place l k +ℤ twice k)
 place_and_row (Upright c) j k h = omega (arith, ints, h)
 place_and_row (Rising c) j k h = omega (arith, ints, h)
 place_and_row (Falling c) j k h = omega (arith, ints, h)
 
-place_less_row : (l : Line) (j k : ℤ) → j ≤ℤ k → (place l k -ℤ twice k) ≤ℤ (place l j -ℤ twice j)
+pub place_less_row : (l : Line) (j k : ℤ) → j ≤ℤ k → (place l k -ℤ twice k) ≤ℤ (place l j -ℤ twice j)
 place_less_row (Upright c) j k h = omega (arith, ints, h)
 place_less_row (Rising c) j k h = omega (arith, ints, h)
 place_less_row (Falling c) j k h = omega (arith, ints, h)
@@ -78,17 +95,17 @@ module _ (z : Trapezoid) (legal : IsLegal z) where
       let w = legal_places z k legal a b in
       in_by_number z (tile_with (place z.left k) k) (record { above_bottom = a; below_top = b; from_left = omega (arith, ints, n); below_right = omega (arith, ints, n, w) })
 
-  last_in : (k : ℤ) → z.y0 ≤ℤ k → k <ℤ z.y1 → IsInTrapezoid z (last_of z k)
+  pub last_in : (k : ℤ) → z.y0 ≤ℤ k → k <ℤ z.y1 → IsInTrapezoid z (last_of z k)
   unfolding last_of
   last_in k a b =
       let n = tile_with_number (place z.right k -ℤ pos 1) k in
       let w = legal_places z k legal a b in
       in_by_number z (tile_with (place z.right k -ℤ pos 1) k) (record { above_bottom = a; below_top = b; from_left = omega (arith, ints, n, w); below_right = omega (arith, ints, n) })
 
-  bottom_in : (z.y0 ≤ℤ z.y0) × (z.y0 <ℤ z.y1)
+  pub bottom_in : (z.y0 ≤ℤ z.y0) × (z.y0 <ℤ z.y1)
   bottom_in = (omega (arith, ints), legal.has_rows)
 
-  top_in : (z.y0 ≤ℤ (z.y1 -ℤ pos 1)) × ((z.y1 -ℤ pos 1) <ℤ z.y1)
+  pub top_in : (z.y0 ≤ℤ (z.y1 -ℤ pos 1)) × ((z.y1 -ℤ pos 1) <ℤ z.y1)
   top_in = (omega (arith, ints, legal.has_rows), omega (arith, ints))
 
   rows : Span row_of z

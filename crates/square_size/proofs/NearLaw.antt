@@ -122,15 +122,34 @@ module _ (dx dy s : ℤ) (z : Trapezoid) (e : Extremes z) (t : Tile) (even : s +
       let q1 = to_high _ _ _ _ b.q1 in
       (u, whole z e u i0.0 i1.0 j0.0 j1.0 p0.0 p1.0 q0.0 q1.0, differ _ _ _ i0.1 i1.1, differ _ _ _ j0.1 j1.1, differ _ _ _ p0.1 p1.1, differ _ _ _ q0.1 q1.1)
 
-near_to_some : (dx dy : ℤ) (z : Trapezoid) (t : Tile) → IsRectangle dx dy → IsLegal z → IsNearInEachStrip dx dy z t → IsGrown dx dy (IsInTrapezoid z) t
-near_to_some dx dy z t r legal n =
-    let s = half (dx +ℤ dy) in
-    let e = extremes z legal in
+-- near to some tile of the trapezoid, by the extremes of its strips
+pub record MeetsAll (dx dy s : ℤ) (z : Trapezoid) (e : Extremes z) (t : Tile) : Type 0 where
+  pub columns : Meets (column_of e.columns.least) (column_of e.columns.greatest) dx t.i
+  pub rows : Meets (row_of e.rows.least) (row_of e.rows.greatest) dy t.j
+  pub sums : Meets (sum_of e.sums.least) (sum_of e.sums.greatest) s (strips_of t).p
+  pub differences : Meets (difference_of e.differences.least) (difference_of e.differences.greatest) s (strips_of t).q
+
+pub near_where_meets : (dx dy : ℤ) (z : Trapezoid) (e : Extremes z) (t : Tile) → IsRectangle dx dy → MeetsAll dx dy (half (dx +ℤ dy)) z e t → IsGrown dx dy (IsInTrapezoid z) t
+near_where_meets dx dy z e t r m =
+    let found = near_tile dx dy (half (dx +ℤ dy)) z e t (half_twice (dx +ℤ dy) r.even) r.columns r.rows m.columns m.rows m.sums m.differences in
+    (found.0, found.1, record { columns = found.2; rows = found.3; sums = found.4; differences = found.5 })
+
+meets_where_each : (dx dy : ℤ) (z : Trapezoid) (e : Extremes z) (t : Tile) → IsRectangle dx dy → IsNearInEachStrip dx dy z t → MeetsAll dx dy (half (dx +ℤ dy)) z e t
+meets_where_each dx dy z e t r n =
     let even = half_twice (dx +ℤ dy) r.even in
     let ws : pos 0 ≤ℤ half (dx +ℤ dy) = omega (arith, ints, even, r.columns, r.rows) in
-    let found = near_tile dx dy s z e t even r.columns r.rows (meets column_of dx z t r.columns e.columns n.columns) (meets row_of dy z t r.rows e.rows n.rows)
-    (meets sum_of s z t ws e.sums n.sums) (meets difference_of s z t ws e.differences n.differences) in
-    (found.0, found.1, record { columns = found.2; rows = found.3; sums = found.4; differences = found.5 })
+    record {
+      columns = meets column_of dx z t r.columns e.columns n.columns;
+      rows = meets row_of dy z t r.rows e.rows n.rows;
+      sums = meets sum_of (half (dx +ℤ dy)) z t ws e.sums n.sums;
+      differences = meets difference_of (half (dx +ℤ dy)) z t ws e.differences n.differences;
+    }
+
+pub meets_where_near : (dx dy : ℤ) (z : Trapezoid) (e : Extremes z) (t : Tile) → IsRectangle dx dy → IsGrown dx dy (IsInTrapezoid z) t → MeetsAll dx dy (half (dx +ℤ dy)) z e t
+meets_where_near dx dy z e t r h = meets_where_each dx dy z e t r (near_in_each dx dy z t h)
+
+near_to_some : (dx dy : ℤ) (z : Trapezoid) (t : Tile) → IsRectangle dx dy → IsLegal z → IsNearInEachStrip dx dy z t → IsGrown dx dy (IsInTrapezoid z) t
+near_to_some dx dy z t r legal n = near_where_meets dx dy z (extremes z legal) t r (meets_where_each dx dy z (extremes z legal) t r n)
 
 pub near_by_strips : (dx dy : ℤ) (z : Trapezoid) (t : Tile) → IsRectangle dx dy → IsLegal z → IsGrown dx dy (IsInTrapezoid z) t ↔ IsNearInEachStrip dx dy z t
 near_by_strips dx dy z t r legal = (near_in_each dx dy z t, near_to_some dx dy z t r legal)
