@@ -5,3 +5,4 @@ pub mod NearLaw
 pub mod Ends
 pub mod Sides
 pub mod RingLaw
+pub mod RingPoints

@@ -2,5 +2,7 @@
 #![tactic(auto)]
 
 mod laws;
+mod rings;
 
 pub use laws::near_law;
+pub use rings::grown;
