@@ -6,3 +6,7 @@ pub mod Ends
 pub mod Sides
 pub mod RingLaw
 pub mod RingPoints
+pub mod EdgeWindings
+pub mod GrownLists
+pub mod Balance
+pub mod PieceLists

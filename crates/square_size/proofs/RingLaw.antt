@@ -228,3 +228,22 @@ module _ (dx dy : ℤ) (z : Trapezoid) (r : IsRectangle dx dy) (legal : IsLegal 
       (λ h. absurd (not_between t a b l h))
       (λ h. same_counts t 0 (count_left t y0 y1 left a b l) (count_left t y0 y1 right a b h))))
       (λ over. same_counts t 0 (count_over t y0 y1 left over high_left) (count_over t y0 y1 right over high_right)))
+
+  -- a tile isn't on both sides of a chain
+  one_side : (t : Tile) (c : Chain) → IsRightOfChain t c → IsLeftOfChain t c → ⊥
+  one_side t c h k =
+      by_lt_z t.j c.bend
+      (λ lt. (let on = h.below lt in let out = k.below lt in omega (arith, ints, on, out)))
+      (λ ge. (let on = h.above ge in let out = k.above ge in omega (arith, ints, on, out)))
+
+  pub near_or_not : {P : Type 0} (t : Tile) → (Near t → P) → ((Near t → ⊥) → P) → P
+  near_or_not {P} t close far =
+      by_lt_z t.j y0
+      (λ under. far (λ h. (let low = (within t h).low in omega (arith, ints, under, low))))
+      (λ a. by_lt_z t.j y1
+      (λ b. by_side t left
+      (λ l. by_side t right
+      (λ h. far (λ n. one_side t right h (within t n).right_side))
+      (λ h. close (near t (record { low = a; high = b; left_side = l; right_side = h }))))
+      (λ l. far (λ n. one_side t left (within t n).left_side l)))
+      (λ over. far (λ h. (let high = (within t h).high in omega (arith, ints, over, high)))))

@@ -62,8 +62,25 @@ module _ (dx dy : ℤ) (z : Trapezoid) (r : IsRectangle dx dy) (shot : IsShot z)
   right_bend_by (Rising c) low high = record { x = high; y = below_top }
   right_bend_by (Falling c) low high = record { x = low; y = above_bottom }
 
+  pub lower_left_within : IsPointWithinReach (lower_left dx dy z)
+  lower_left_within = record { x = bottom_left; y = h.bottom }
+
+  pub upper_left_within : IsPointWithinReach (upper_left dx dy z)
+  upper_left_within = record { x = top_left; y = h.top }
+
+  pub lower_right_within : IsPointWithinReach (lower_right dx dy z)
+  lower_right_within = record { x = bottom_right; y = h.bottom }
+
+  pub upper_right_within : IsPointWithinReach (upper_right dx dy z)
+  upper_right_within = record { x = top_right; y = h.top }
+
+  pub left_bend_within : IsPointWithinReach (left_bend dx dy z.y0 z.y1 z.left)
+  left_bend_within = left_bend_by z.left bottom_left top_left
+
+  pub right_bend_within : IsPointWithinReach (right_bend dx dy z.y0 z.y1 z.right)
+  right_bend_within = right_bend_by z.right bottom_right top_right
+
   pub ring_within_reach : All IsPointWithinReach (grown_ring dx dy z)
   ring_within_reach =
-      let start : IsPointWithinReach (lower_left dx dy z) = record { x = bottom_left; y = h.bottom } in
       All-from_recursion IsPointWithinReach (grown_ring dx dy z)
-      (start, (left_bend_by z.left bottom_left top_left, (record { x = top_left; y = h.top }, (record { x = top_right; y = h.top }, (right_bend_by z.right bottom_right top_right, (record { x = bottom_right; y = h.bottom }, (start, tt)))))))
+      (lower_left_within, (left_bend_within, (upper_left_within, (upper_right_within, (right_bend_within, (lower_right_within, (lower_left_within, tt)))))))

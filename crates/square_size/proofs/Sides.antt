@@ -20,7 +20,7 @@ lt_no x y h = grind (arith, ints)
 abbrev pub is_beyond : Tile → Line → ℤ → ℤ → Bool
 is_beyond t line y0 y1 = (int_le y0 t.j && int_lt t.j y1) && int_le (first_strip line) (strip_along line t)
 
-no_rows : (t : Tile) (y0 y1 : ℤ) → y0 ≤ℤ y1 → (int_le y1 t.j && int_lt t.j y0) ≡ false
+pub no_rows : (t : Tile) (y0 y1 : ℤ) → y0 ≤ℤ y1 → (int_le y1 t.j && int_lt t.j y0) ≡ false
 no_rows t y0 y1 h = grind (arith, ints)
 
 beyond_nothing : (t : Tile) (line : Line) (y0 y1 : ℤ) → y1 ≤ℤ y0 → is_beyond t line y0 y1 ≡ false

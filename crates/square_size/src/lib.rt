@@ -1,8 +1,11 @@
 //! Sizing by a rectangle: the rings of grown trapezoids, and their edges.
 #![tactic(auto)]
 
+mod growing;
 mod laws;
+mod pieces;
 mod rings;
 
-pub use laws::near_law;
+pub use growing::Grown;
+pub use laws::{near_law, ring_laws};
 pub use rings::grown;

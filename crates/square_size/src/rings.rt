@@ -13,13 +13,13 @@ use smallvec::SmallVec;
 use std::alloc::Global;
 
 /// The half sides of the rectangle by which a shape grows.
-#[derive(Clone, Copy)]
-struct HalfSides {
-    dx: i64,
-    dy: i64,
+#[derive(Clone, Copy, Debug)]
+pub(crate) struct HalfSides {
+    pub dx: i64,
+    pub dy: i64,
 }
 
-fn lower_left(trap: &Trap, by: HalfSides) -> Point
+pub(crate) fn lower_left(trap: &Trap, by: HalfSides) -> Point
     requires { IsSizing by.dx by.dy }
     ensures point { result ≡ lower_left by.dx by.dy trap.now }
     ensures shot { IsShot trap.now }
@@ -30,7 +30,7 @@ fn lower_left(trap: &Trap, by: HalfSides) -> Point
     }
 }
 
-fn upper_left(trap: &Trap, by: HalfSides) -> Point
+pub(crate) fn upper_left(trap: &Trap, by: HalfSides) -> Point
     requires { IsSizing by.dx by.dy }
     ensures { result ≡ upper_left by.dx by.dy trap.now }
 {
@@ -40,7 +40,7 @@ fn upper_left(trap: &Trap, by: HalfSides) -> Point
     }
 }
 
-fn lower_right(trap: &Trap, by: HalfSides) -> Point
+pub(crate) fn lower_right(trap: &Trap, by: HalfSides) -> Point
     requires { IsSizing by.dx by.dy }
     ensures { result ≡ lower_right by.dx by.dy trap.now }
 {
@@ -50,7 +50,7 @@ fn lower_right(trap: &Trap, by: HalfSides) -> Point
     }
 }
 
-fn upper_right(trap: &Trap, by: HalfSides) -> Point
+pub(crate) fn upper_right(trap: &Trap, by: HalfSides) -> Point
     requires { IsSizing by.dx by.dy }
     ensures { result ≡ upper_right by.dx by.dy trap.now }
 {
@@ -61,9 +61,10 @@ fn upper_right(trap: &Trap, by: HalfSides) -> Point
 }
 
 // The point between the two pieces of the ring's left side.
-fn left_bend(trap: &Trap, by: HalfSides) -> Point
+pub(crate) fn left_bend(trap: &Trap, by: HalfSides) -> Point
     requires { IsSizing by.dx by.dy }
-    ensures { result ≡ left_bend by.dx by.dy trap.now.y0 trap.now.y1 trap.now.left }
+    ensures point { result ≡ left_bend by.dx by.dy trap.now.y0 trap.now.y1 trap.now.left }
+    ensures shot { IsShot trap.now }
 {
     match trap.left() {
         Line::Upright(_) => upper_left(trap, by),
@@ -79,7 +80,7 @@ fn left_bend(trap: &Trap, by: HalfSides) -> Point
 }
 
 // The point between the two pieces of the ring's right side.
-fn right_bend(trap: &Trap, by: HalfSides) -> Point
+pub(crate) fn right_bend(trap: &Trap, by: HalfSides) -> Point
     requires { IsSizing by.dx by.dy }
     ensures { result ≡ right_bend by.dx by.dy trap.now.y0 trap.now.y1 trap.now.right }
 {

@@ -3,8 +3,8 @@ use Rattle.std.proofs.lemmas.Int.{ints}
 use Rattle.square_size.proofs.RingPoints.{same_point}
 use Rattle.square_size.proofs.rings.left_bend.Goals as goal
 
-pub returns-in-Rising : goal.returns-in-Rising
-returns-in-Rising c =
+pub returns-in-Rising-clause-point : goal.returns-in-Rising-clause-point
+returns-in-Rising-clause-point c =
     let kind = sym c.left.ensures.value ∙ c.in-Rising.is in
     let x = rw kind at c.bottom_left.ensures.value in
     let shot = c.y0.ensures.shot in
@@ -12,8 +12,8 @@ returns-in-Rising c =
     (omega (arith, ints, x, c.bottom_left.ensures.reach, c.requires.rectangle.columns, c.requires.columns))
     (omega (arith, ints, c.y0.ensures.value, shot.reach.y0, c.requires.rectangle.rows, c.requires.rows)))
 
-pub returns-in-Falling : goal.returns-in-Falling
-returns-in-Falling c =
+pub returns-in-Falling-clause-point : goal.returns-in-Falling-clause-point
+returns-in-Falling-clause-point c =
     let kind = sym c.left.ensures.value ∙ c.in-Falling.is in
     let x = rw kind at c.top_left.ensures.value in
     let shot = c.y1.ensures.shot in

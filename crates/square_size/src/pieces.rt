@@ -1,0 +1,87 @@
+//! The edges of one ring.
+ghost use Rattle.std.specs.Prelude.{◌≡◌, ◌+◌, length};
+ghost use Rattle.std.specs.Option.{option_to_list};
+ghost use Rattle.half_grid.specs.Reach.{IsPointWithinReach};
+ghost use Rattle.half_grid.specs.declared.border.Operand.TheVariants.{A};
+ghost use Rattle.square_size.specs.Edges.{edge_between};
+ghost use Rattle.square_size.specs.Pieces.{edges_of_pieces, pieces_of};
+ghost use Rattle.square_size.specs.Rings.{HasRingWithinReach, IsSizing};
+ghost use Rattle.square_size.specs.Laws.Pieces.{Pieces-one_list, Pieces-no_longer, Pieces-bounded};
+
+use crate::rings::{HalfSides, left_bend, lower_left, lower_right, right_bend, upper_left, upper_right};
+use geo_stream::Stream;
+use half_grid::{Edge, Operand, Point, Trap, line_through};
+
+// The edge from a to b, where they have different Y and lie on a line of the half grid.
+fn edge_between(a: Point, b: Point) -> Option<Edge>
+    requires first { IsPointWithinReach a }
+    requires second { IsPointWithinReach b }
+    ensures { result ≡ edge_between A a b }
+{
+    match line_through(a, b) {
+        None => None,
+        Some(line) => {
+            if a.y < b.y {
+                Edge::new(a.y, b.y, line, true, Operand::A)
+            } else {
+                Edge::new(b.y, a.y, line, false, Operand::A)
+            }
+        }
+    }
+}
+
+/// What is still to come of the four edges of a ring that aren't horizontal: two up at the left, two down at the
+/// right. Where a side is upright its second piece is none.
+#[derive(Clone, Copy, Debug, Drop)]
+pub(crate) struct Pieces {
+    first: Option<Edge>,
+    second: Option<Edge>,
+    third: Option<Edge>,
+    fourth: Option<Edge>,
+}
+
+impl Pieces {
+    /// The edges of the ring of the grown trapezoid.
+    pub(crate) fn of(trap: &Trap, by: HalfSides) -> Pieces
+        requires sizing { IsSizing by.dx by.dy }
+        requires reach { HasRingWithinReach by.dx by.dy trap.now }
+        ensures { result ≡ pieces_of by.dx by.dy trap.now }
+    {
+        let (left, right) = (left_bend(trap, by), right_bend(trap, by));
+        Pieces {
+            first: edge_between(lower_left(trap, by), left),
+            second: edge_between(left, upper_left(trap, by)),
+            third: edge_between(upper_right(trap, by), right),
+            fourth: edge_between(right, lower_right(trap, by)),
+        }
+    }
+}
+
+impl Stream for Pieces {
+    type Item = Edge;
+
+    ghost stands_for = { λ pieces edges. edges ≡ edges_of_pieces pieces };
+
+    ghost size = { λ pieces. length (edges_of_pieces pieces) };
+
+    ghost most = { 4 };
+
+    fn next(&mut self) -> Option<Edge> {
+        if let Some(edge) = self.first.take() {
+            return Some(edge);
+        }
+        if let Some(edge) = self.second.take() {
+            return Some(edge);
+        }
+        if let Some(edge) = self.third.take() {
+            return Some(edge);
+        }
+        self.fourth.take()
+    }
+
+    ghost one_list = { λ pieces xs ys. Pieces-one_list (edges_of_pieces pieces) xs ys };
+
+    ghost no_longer = { λ pieces xs. Pieces-no_longer (edges_of_pieces pieces) xs };
+
+    ghost bounded = { λ pieces xs. Pieces-bounded pieces.first pieces.second pieces.third pieces.fourth xs };
+}
