@@ -9,4 +9,4 @@ pub mod RingPoints
 pub mod EdgeWindings
 pub mod GrownLists
 pub mod Balance
-pub mod PieceLists
+pub mod Taking

@@ -1,14 +1,16 @@
--- A stream of rings stands for the pieces of the rings of its source's grown trapezoids, in order. Each ring is within
--- reach.
-use Rattle.std.specs.Prelude.{ℤ, ◌≡◌, All, List, map}
+-- A stream of the edges of grown trapezoids stands for what is still to come of the ring in hand, followed by the edges
+-- of the rings of the trapezoids that its source stands for. Each ring is within reach.
+use Rattle.std.specs.Prelude.{ℤ, ◌≡◌, All, List, ◌++◌, flat_map}
+use Rattle.half_grid.specs.Edges.{EdgeParts}
 use Rattle.half_grid.specs.Trapezoids.{Trapezoid}
-use Rattle.square_size.specs.Pieces.{pieces_of}
+use Rattle.square_size.specs.Edges.{edges_of_grown}
+use Rattle.square_size.specs.Pieces.{edges_of_pieces}
 use Rattle.square_size.specs.Rings.{HasRingWithinReach, IsSizing}
 use Rattle.square_size.specs.declared.pieces.Pieces.{Pieces}
 
-pub record StandsForRings {S : Type 0} (source_for : S → List Trapezoid → Type 0) (dx dy : ℤ) (source : S) (rings : List Pieces) : Type 0 where
+pub record StandsForGrown {S : Type 0} (source_for : S → List Trapezoid → Type 0) (dx dy : ℤ) (source : S) (in_hand : Pieces) (edges : List EdgeParts) : Type 0 where
   pub traps : List Trapezoid
   pub given : source_for source traps
   pub sizing : IsSizing dx dy
   pub within : All (HasRingWithinReach dx dy) traps
-  pub is : rings ≡ map (pieces_of dx dy) traps
+  pub is : edges ≡ edges_of_pieces in_hand ++ flat_map (edges_of_grown dx dy) traps

@@ -5,6 +5,8 @@ mod growing;
 mod laws;
 mod pieces;
 mod rings;
+#[cfg(test)]
+mod tests;
 
 pub use growing::Grown;
 pub use laws::{near_law, ring_laws};

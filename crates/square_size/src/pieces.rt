@@ -1,5 +1,5 @@
 //! The edges of one ring.
-ghost use Rattle.std.specs.Prelude.{◌≡◌, ◌+◌, length};
+ghost use Rattle.std.specs.Prelude.{◌≡◌, [], length};
 ghost use Rattle.std.specs.Option.{option_to_list};
 ghost use Rattle.half_grid.specs.Reach.{IsPointWithinReach};
 ghost use Rattle.half_grid.specs.declared.border.Operand.TheVariants.{A};
@@ -32,7 +32,7 @@ fn edge_between(a: Point, b: Point) -> Option<Edge>
 
 /// What is still to come of the four edges of a ring that aren't horizontal: two up at the left, two down at the
 /// right. Where a side is upright its second piece is none.
-#[derive(Clone, Copy, Debug, Drop)]
+#[derive(Drop)]
 pub(crate) struct Pieces {
     first: Option<Edge>,
     second: Option<Edge>,
@@ -41,6 +41,18 @@ pub(crate) struct Pieces {
 }
 
 impl Pieces {
+    /// No edges.
+    pub(crate) fn none() -> Pieces
+        ensures { edges_of_pieces result ≡ [] }
+    {
+        Pieces {
+            first: None,
+            second: None,
+            third: None,
+            fourth: None,
+        }
+    }
+
     /// The edges of the ring of the grown trapezoid.
     pub(crate) fn of(trap: &Trap, by: HalfSides) -> Pieces
         requires sizing { IsSizing by.dx by.dy }

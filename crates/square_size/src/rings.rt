@@ -13,7 +13,7 @@ use smallvec::SmallVec;
 use std::alloc::Global;
 
 /// The half sides of the rectangle by which a shape grows.
-#[derive(Clone, Copy, Debug)]
+#[derive(Clone, Copy)]
 pub(crate) struct HalfSides {
     pub dx: i64,
     pub dy: i64,
