@@ -32,3 +32,7 @@ edges_of_points o points = flat_map (edge_of_pair o) (edges_of points)
 -- the edges of the ring of a grown trapezoid
 abbrev pub edges_of_grown : ℤ → ℤ → Trapezoid → List EdgeParts
 edges_of_grown dx dy z = edges_of_points A (grown_ring dx dy z)
+
+-- up to four edges, in order
+abbrev pub listed : Option EdgeParts → Option EdgeParts → Option EdgeParts → Option EdgeParts → List EdgeParts
+listed first second third fourth = option_to_list first ++ (option_to_list second ++ (option_to_list third ++ option_to_list fourth))

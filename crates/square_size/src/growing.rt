@@ -5,7 +5,6 @@ ghost use Rattle.half_grid.specs.Trapezoids.{Trapezoid};
 ghost use Rattle.square_size.specs.Edges.{edges_of_grown};
 ghost use Rattle.square_size.specs.Growing.{StandsForGrown};
 ghost use Rattle.square_size.specs.Laws.Growing.{Grown-one_list, Grown-no_longer, Grown-bounded};
-ghost use Rattle.square_size.specs.Pieces.{edges_of_pieces};
 ghost use Rattle.square_size.specs.Rings.{HasRingWithinReach, IsSizing};
 
 use crate::pieces::Pieces;
@@ -47,13 +46,13 @@ impl<S: Stream<Item = Trap>> Stream for Grown<S> {
 
     ghost stands_for = { λ stream. StandsForGrown S.stands_for stream.by.dx stream.by.dy stream.source stream.in_hand };
 
-    ghost size = { λ stream. length (edges_of_pieces stream.in_hand) + 4 * S.size stream.source };
+    ghost size = { λ stream. length stream.in_hand + 4 * S.size stream.source };
 
     ghost most = { 4 + 4 * S.most };
 
     fn next(&mut self) -> Option<Edge> {
         loop {
-            if let Some(edge) = self.in_hand.next() {
+            if let Some(edge) = self.in_hand.take_first() {
                 return Some(edge);
             }
             match self.source.next() {

@@ -1,16 +1,14 @@
 //! The edges of one ring.
-ghost use Rattle.std.specs.Prelude.{◌≡◌, [], length};
+ghost use Rattle.std.specs.Prelude.{◌≡◌, [], ◌++◌, IfNone};
 ghost use Rattle.std.specs.Option.{option_to_list};
 ghost use Rattle.half_grid.specs.Reach.{IsPointWithinReach};
 ghost use Rattle.half_grid.specs.declared.border.Operand.TheVariants.{A};
-ghost use Rattle.square_size.specs.Edges.{edge_between};
-ghost use Rattle.square_size.specs.Pieces.{edges_of_pieces, pieces_of};
+ghost use Rattle.square_size.specs.Edges.{edge_between, edges_of_grown};
 ghost use Rattle.square_size.specs.Rings.{HasRingWithinReach, IsSizing};
-ghost use Rattle.square_size.specs.Laws.Pieces.{Pieces-one_list, Pieces-no_longer, Pieces-bounded};
 
 use crate::rings::{HalfSides, left_bend, lower_left, lower_right, right_bend, upper_left, upper_right};
-use geo_stream::Stream;
 use half_grid::{Edge, Operand, Point, Trap, line_through};
+use std::marker::Model;
 
 // The edge from a to b, where they have different Y and lie on a line of the half grid.
 fn edge_between(a: Point, b: Point) -> Option<Edge>
@@ -30,8 +28,8 @@ fn edge_between(a: Point, b: Point) -> Option<Edge>
     }
 }
 
-/// What is still to come of the four edges of a ring that aren't horizontal: two up at the left, two down at the
-/// right. Where a side is upright its second piece is none.
+/// What is still to come of the edges of a ring that aren't horizontal: two up at the left, two down at the right.
+/// Where a side is upright its second piece is none. Contracts see the list.
 #[derive(Drop)]
 pub(crate) struct Pieces {
     first: Option<Edge>,
@@ -40,10 +38,20 @@ pub(crate) struct Pieces {
     fourth: Option<Edge>,
 }
 
+impl Model for Pieces {
+    ghost use Rattle.std.specs.Prelude.{List};
+    ghost use Rattle.half_grid.specs.Edges.{EdgeParts};
+    ghost use Rattle.square_size.specs.Edges.{listed};
+
+    ghost Value = { List EdgeParts };
+
+    ghost view = { λ pieces. listed pieces.first pieces.second pieces.third pieces.fourth };
+}
+
 impl Pieces {
     /// No edges.
     pub(crate) fn none() -> Pieces
-        ensures { edges_of_pieces result ≡ [] }
+        ensures { result ≡ [] }
     {
         Pieces {
             first: None,
@@ -57,7 +65,7 @@ impl Pieces {
     pub(crate) fn of(trap: &Trap, by: HalfSides) -> Pieces
         requires sizing { IsSizing by.dx by.dy }
         requires reach { HasRingWithinReach by.dx by.dy trap.now }
-        ensures { result ≡ pieces_of by.dx by.dy trap.now }
+        ensures { result ≡ edges_of_grown by.dx by.dy trap.now }
     {
         let (left, right) = (left_bend(trap, by), right_bend(trap, by));
         Pieces {
@@ -67,18 +75,12 @@ impl Pieces {
             fourth: edge_between(right, lower_right(trap, by)),
         }
     }
-}
 
-impl Stream for Pieces {
-    type Item = Edge;
-
-    ghost stands_for = { λ pieces edges. edges ≡ edges_of_pieces pieces };
-
-    ghost size = { λ pieces. length (edges_of_pieces pieces) };
-
-    ghost most = { 4 };
-
-    fn next(&mut self) -> Option<Edge> {
+    /// The next edge, which is taken off. None exactly where there is none.
+    pub(crate) fn take_first(&mut self) -> Option<Edge>
+        ensures first { self.old ≡ option_to_list result ++ self.new }
+        ensures none { IfNone result (self.old ≡ []) }
+    {
         if let Some(edge) = self.first.take() {
             return Some(edge);
         }
@@ -90,10 +92,4 @@ impl Stream for Pieces {
         }
         self.fourth.take()
     }
-
-    ghost one_list = { λ pieces xs ys. Pieces-one_list (edges_of_pieces pieces) xs ys };
-
-    ghost no_longer = { λ pieces xs. Pieces-no_longer (edges_of_pieces pieces) xs };
-
-    ghost bounded = { λ pieces xs. Pieces-bounded pieces.first pieces.second pieces.third pieces.fourth xs };
 }

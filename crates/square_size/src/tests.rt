@@ -1,11 +1,12 @@
 //! Rings by hand, and rings against nearness by its definition, tile by tile.
-ghost use Rattle.std.specs.Prelude.{◌≡◌, true, IfSome};
+ghost use Rattle.std.specs.Prelude.{◌≡◌, true};
+ghost use Rattle.geo_stream.specs.Stream.{HasList};
 ghost use Rattle.half_grid.specs.Reach.{IsTileWithinReach};
 ghost use Rattle.half_grid.specs.Trapezoids.{trapezoid};
 ghost use Rattle.square_size.specs.Rings.{HasRingWithinReach, IsSizing};
 
 use crate::{Grown, grown, near_law, ring_laws};
-use geo_stream::{FromSlice, NoMemory, gather};
+use geo_stream::{FromSlice, Stream};
 use half_grid::{Edge, Line, Operand, Point, REACH, Side, Tile, Trap, covers, near, winding_at};
 use std::alloc::Global;
 use std::process::Abort;
@@ -29,9 +30,13 @@ fn has_ring_within_reach(trap: &Trap, dx: i64, dy: i64) -> bool
     requires { IsSizing dx dy }
     ensures { result ≡ true → HasRingWithinReach dx dy trap.now }
 {
-    let (bottom, top) = (trap.y0() - dy, trap.y1() + dy);
-    let (left, right) = (trap.least_x() - dx, trap.greatest_x() + dx);
-    -REACH <= bottom && top <= REACH && -REACH <= left && right <= REACH
+    if trap.y0() - dy < -REACH || REACH < trap.y1() + dy {
+        return false;
+    }
+    if trap.least_x() - dx < -REACH {
+        return false;
+    }
+    trap.greatest_x() + dx <= REACH
 }
 
 // Whether some tile of the trapezoid is near to the tile.
@@ -60,9 +65,10 @@ fn agrees(trap: &Trap, ring: &[Point], tile: Tile, dx: i64, dy: i64) -> bool
 
 // Whether the ring agrees at each tile of a window that reaches past it on all sides.
 fn agrees_around(trap: &Trap, ring: &[Point], dx: i64, dy: i64) -> bool {
-    for j in -7..12 {
-        for i in -10..20 {
+    for row in 0u8..19 {
+        for column in 0u8..30 {
             for side in [Side::Left, Side::Right] {
+                let (i, j) = (i64::from(column) - 10, i64::from(row) - 7);
                 if !agrees(trap, ring, Tile { i, j, side }, dx, dy) {
                     return false;
                 }
@@ -182,25 +188,36 @@ fn rings_by_hand(rt: HostRuntime) {
     }
 }
 
+fn edge(rt: &impl Abort, y0: i64, y1: i64, line: Line, up: bool) -> Edge {
+    Edge::new(y0, y1, line, up, Operand::A).expect(rt, "an edge")
+}
+
+// Whether the stream gives just these edges, and then none.
+fn gives<S: Stream<Item = Edge> + Drop>(mut stream: S, wanted: &[Edge]) -> bool
+    requires { HasList S.stands_for stream }
+{
+    for edge in wanted {
+        if stream.next() != Some(*edge) {
+            return false;
+        }
+    }
+    stream.next().is_none() && stream.next().is_none()
+}
+
 #[test]
-fn edges_come_ring_by_ring(rt: HostRuntime) -> Result<(), NoMemory> {
+fn edges_come_ring_by_ring(rt: HostRuntime) {
     let (zero, twenty) = (Line::Upright(0), Line::Upright(20));
     let traps = [
         trap(&rt, 0, 20, zero, twenty),
         trap(&rt, 0, 20, Line::Rising(0), twenty),
     ];
-    let edges = gather(rt.alloc(), Grown::new(rt.alloc(), FromSlice::new(&traps), 3, 1))?;
-    let mut wanted = Vec::new(rt.alloc());
-    for (y0, y1, line, up) in [
-        (-1, 21, Line::Upright(-3), true),
-        (-1, 21, Line::Upright(23), false),
-        (-1, 1, Line::Upright(-3), true),
-        (1, 21, Line::Rising(-2), true),
-        (-1, 21, Line::Upright(23), false),
-    ] {
-        let edge = Edge::new(y0, y1, line, up, Operand::A).expect(&rt, "an edge");
-        wanted.push(edge)?;
-    }
-    assert_eq!(rt; edges.as_slice(), wanted.as_slice());
-    Ok(())
+    let wanted = [
+        edge(&rt, -1, 21, Line::Upright(-3), true),
+        edge(&rt, -1, 21, Line::Upright(23), false),
+        edge(&rt, -1, 1, Line::Upright(-3), true),
+        edge(&rt, 1, 21, Line::Rising(-2), true),
+        edge(&rt, -1, 21, Line::Upright(23), false),
+    ];
+    let edges = Grown::new(rt.alloc(), FromSlice::new(&traps), 3, 1);
+    assert!(rt; gives(edges, &wanted));
 }

@@ -1,4 +1,4 @@
-use Rattle.std.proofs.Common.{List, All, ◌++◌, map, flat_map, refl, sym, ap, subst, w64, FitsSigned}
+use Rattle.std.proofs.Common.{List, All, length, arith, ◌++◌, map, flat_map, refl, sym, ap, subst, w64, FitsSigned}
 use Rattle.std.proofs.lemmas.Int.{to_z-of_z}
 use Rattle.half_grid.specs.Edges.{EdgeParts}
 use Rattle.half_grid.specs.Trapezoids.{Trapezoid}
@@ -16,6 +16,7 @@ returns-clause-list g c = λ traps stands.
       given = stands;
       sizing = c.requires.sizing;
       within = within;
+      few = omega (arith, ap length c.none.ensures);
       is = sym (ap (λ (edges : List EdgeParts). edges ++ flat_map (edges_of_grown c.args.dx c.args.dy) traps) c.none.ensures);
     })
 
