@@ -1,24 +1,25 @@
 -- In each row as many edges of a ring go up as go down.
-use Rattle.std.proofs.Common.{◌≡◌, ◌≢◌, inl, inr, ◌⊎◌, ℕ, ◌+◌, Bool, true, false, not, ◌&&◌, ℤ, pos, ◌+ℤ◌, ◌-ℤ◌, ◌≤ℤ◌, ◌<ℤ◌, arith, refl, ap, ◌∙◌, sym, All, List, [], ◌∷◌, ◌++◌, Option, Some, None, count_by, flat_map}
+use Rattle.std.proofs.Common.{◌≡◌, inl, inr, ◌⊎◌, ℕ, ◌+◌, Bool, true, false, not, ◌&&◌, ℤ, pos, ◌+ℤ◌, ◌-ℤ◌, ◌≤ℤ◌, arith, refl, ap, ◌∙◌, All, List, [], ◌∷◌, ◌++◌, Option, Some, None, count_by, flat_map}
 use Rattle.std.proofs.lemmas.Int.{ints, by_lt_z}
 use Rattle.std.proofs.lemmas.List.Elements.{All-head, All-tail}
 use Rattle.std.proofs.lemmas.List.Sums.{sum_by-append}
 use Rattle.std.specs.Option.{option_to_list}
 use Rattle.std.specs.Prelude.{int_le, int_lt}
 use Rattle.half_grid.specs.Edges.{EdgeParts, is_of, spans, edge_parts}
-use Rattle.half_grid.specs.Lines.{Passes, line_of}
-use Rattle.half_grid.specs.Outlines.{IsOnGrid, HasGridEdges, IsClosed, last_of}
+use Rattle.half_grid.specs.Lines.{line_of}
+use Rattle.half_grid.specs.Outlines.{IsOnGrid, HasGridEdges, last_of}
 use Rattle.half_grid.specs.Trapezoids.{Trapezoid, IsLegal}
 use Rattle.half_grid.specs.Winding.{count_one, edges_of}
 use Rattle.half_grid.specs.declared.border.Operand.{Operand}
-use Rattle.half_grid.specs.declared.border.Operand.TheVariants.{A, B}
+use Rattle.half_grid.specs.declared.border.Operand.TheVariants.{A}
 use Rattle.half_grid.specs.declared.plane.Line.{Line}
 use Rattle.half_grid.specs.declared.plane.Point.{Point}
 use Rattle.half_grid.proofs.ForCallers.{count_by-cons, line_is, le_yes, le_no}
-use Rattle.square_size.specs.Edges.{edge_along, edge_between, edge_of_pair, edges_of_points, edges_of_grown}
+use Rattle.square_size.specs.Edges.{edge_along, edge_of_pair, edges_of_points, edges_of_grown}
 use Rattle.square_size.specs.Ranges.{IsRectangle}
 use Rattle.square_size.specs.Rings.{grown_ring, lower_left, upper_left, lower_right, upper_right, left_bend, right_bend}
 use Rattle.square_size.proofs.RingPoints.{ring_on_grid}
+use Rattle.square_size.proofs.Orders.{lt_yes, lt_no, lt_is, not_lt_is}
 
 abbrev goes_up : Operand → ℤ → EdgeParts → Bool
 goes_up o j e = is_of o e.operand && (e.up && spans e j)
@@ -42,18 +43,6 @@ below j p = count_one (int_le p.y j)
 
 one_edge : (o : Operand) (j : ℤ) (e : EdgeParts) → surplus o j (e ∷ []) ≡ pos (count_one (goes_up o j e)) -ℤ pos (count_one (goes_down o j e))
 one_edge o j e = rw (count_by-cons (goes_up o j) e [], count_by-cons (goes_down o j) e []) (omega (arith, ints))
-
-lt_is : (x y : ℤ) → int_lt x y ≡ true → x ≤ℤ y
-lt_is x y h = grind (arith, ints)
-
-not_lt_is : (x y : ℤ) → int_lt x y ≡ false → y ≤ℤ x
-not_lt_is x y h = grind (arith, ints)
-
-lt_yes : (x y : ℤ) → x <ℤ y → int_lt x y ≡ true
-lt_yes x y h = grind (arith, ints)
-
-lt_no : (x y : ℤ) → y ≤ℤ x → int_lt x y ≡ false
-lt_no x y h = grind (arith, ints)
 
 -- the rows from x up to below y, where x isn't above y
 rows_between : (x y j : ℤ) → x ≤ℤ y → pos (count_one (int_le x j && int_lt j y)) ≡ pos (count_one (int_le x j)) -ℤ pos (count_one (int_le y j))
@@ -110,7 +99,7 @@ other_points o p j (a ∷ b ∷ points) other =
     surplus-append o j (edge_of_pair p (a, b)) (edges_of_points p (b ∷ points)) ∙ (rw (first, later) (omega (arith, ints)))
 
 ring_surplus : (o : Operand) (own : Bool) (j dx dy : ℤ) (z : Trapezoid) → is_of o A ≡ own → IsRectangle dx dy → IsLegal z → surplus o j (edges_of_grown dx dy z) ≡ pos 0
-ring_surplus o true j dx dy z e r legal = 
+ring_surplus o true j dx dy z e r legal =
     closed_surplus o A j (lower_left dx dy z)
     (left_bend dx dy z.y0 z.y1 z.left ∷ upper_left dx dy z ∷ upper_right dx dy z ∷ right_bend dx dy z.y0 z.y1 z.right ∷ lower_right dx dy z ∷ lower_left dx dy z ∷ []) e (ring_on_grid dx dy z r legal) refl
 ring_surplus o false j dx dy z e r legal = other_points o A j (grown_ring dx dy z) e

@@ -1,25 +1,20 @@
 -- The windings of the edges of point lists and of grown rings.
-use Rattle.std.proofs.Common.{◌≡◌, ◌≢◌, ℕ, ◌+◌, ◌≤◌, Bool, true, false, not, ◌&&◌, ℤ, pos, neg_ℤ, ◌+ℤ◌, ◌-ℤ◌, ◌≤ℤ◌, ◌<ℤ◌, arith, refl, ap, ◌∙◌, sym, All, List, [], ◌∷◌, ◌++◌, Option, Some, None, IfSome, count_by, flat_map}
-use Rattle.std.proofs.lemmas.Int.{ints, by_lt_z}
+use Rattle.std.proofs.Common.{◌≡◌, Bool, true, false, ◌&&◌, pos, ◌-ℤ◌, arith, refl, ◌∙◌, sym, List, [], ◌∷◌, Option, Some, None}
+use Rattle.std.proofs.lemmas.Int.{ints}
 use Rattle.std.specs.Option.{option_to_list}
-use Rattle.std.specs.Prelude.{int_le, int_lt}
-use Rattle.half_grid.specs.Edges.{EdgeParts, edges_winding, is_of, spans, winds_up, winds_down, edge_parts}
-use Rattle.half_grid.specs.Lines.{Passes, line_of}
-use Rattle.half_grid.specs.Winding.{winding, crossing_of, count_one, edges_of, is_right_of, rises_past}
+use Rattle.std.specs.Prelude.{int_lt}
+use Rattle.half_grid.specs.Edges.{EdgeParts, edges_winding, is_of, winds_up, winds_down, edge_parts}
+use Rattle.half_grid.specs.Lines.{line_of}
+use Rattle.half_grid.specs.Winding.{winding, crossing_of, count_one, rises_past}
 use Rattle.half_grid.specs.declared.border.Operand.{Operand}
 use Rattle.half_grid.specs.declared.border.Operand.TheVariants.{A, B}
 use Rattle.half_grid.specs.declared.plane.Line.{Line}
 use Rattle.half_grid.specs.declared.plane.Point.{Point}
 use Rattle.half_grid.specs.declared.plane.Tile.{Tile}
-use Rattle.half_grid.proofs.ForCallers.{windings_add, count_by-cons, winding-cons, crossing_up, crossing_down, crossing_none}
-use Rattle.square_size.specs.Edges.{edge_along, edge_between, edge_of_pair, edges_of_points}
+use Rattle.half_grid.proofs.ForCallers.{windings_add, count_by-cons, winding-cons}
+use Rattle.square_size.specs.Edges.{edge_along, edge_of_pair, edges_of_points}
 use Rattle.square_size.proofs.Sides.{no_rows}
-
-lt_is : (x y : ℤ) → int_lt x y ≡ true → x ≤ℤ y
-lt_is x y h = grind (arith, ints)
-
-not_lt_is : (x y : ℤ) → int_lt x y ≡ false → y ≤ℤ x
-not_lt_is x y h = grind (arith, ints)
+use Rattle.square_size.proofs.Orders.{lt_is, not_lt_is}
 
 is_of_itself : (o : Operand) → is_of o o ≡ true
 is_of_itself A = refl

@@ -1,18 +1,17 @@
 -- The sides of a ring against the widened ranges of its trapezoid: in each row of the ring a tile is right of the left
 -- side exactly where it is in the lower ends of the three ranges, and left of the right side likewise.
-use Rattle.std.proofs.Common.{ℤ, pos, ◌+ℤ◌, ◌-ℤ◌, ◌≤ℤ◌, ◌<ℤ◌, ◌≡◌, arith, refl}
+use Rattle.std.proofs.Common.{ℤ, pos, ◌+ℤ◌, ◌-ℤ◌, ◌≤ℤ◌, ◌<ℤ◌, ◌≡◌, arith}
 use Rattle.std.proofs.lemmas.Int.{ints}
 use Rattle.half_grid.specs.Halves.{twice}
 use Rattle.half_grid.specs.Lines.{IsRightOf, IsLeftOf, x_on}
-use Rattle.half_grid.specs.LineLaws.{HasNumberBetween}
-use Rattle.half_grid.specs.Rows.{number_in_row, place}
+use Rattle.half_grid.specs.Rows.{place}
 use Rattle.half_grid.specs.Tiles.{strips_of}
-use Rattle.half_grid.specs.Trapezoids.{Trapezoid, IsInTrapezoid, IsLegal}
+use Rattle.half_grid.specs.Trapezoids.{Trapezoid, IsLegal}
 use Rattle.half_grid.specs.declared.plane.Tile.{Tile}
 use Rattle.half_grid.specs.declared.plane.Line.{Line}
 use Rattle.half_grid.specs.declared.plane.Line.TheVariants.{Upright, Rising, Falling}
 use Rattle.half_grid.proofs.ForCallers.{i_low, i_high, p_low, p_high, q_low, q_high, number_between}
-use Rattle.square_size.proofs.Extremes.{Span, Extremes, first_of, last_of, number_first, row_first, number_last, row_last, first_in, last_in, bottom_in, top_in, place_and_row, place_less_row}
+use Rattle.square_size.proofs.Extremes.{Extremes, first_of, last_of, number_first, row_first, number_last, row_last, first_in, last_in, bottom_in, top_in, place_and_row, place_less_row}
 
 -- two lines, one below and one above a Y
 pub record Chain : Type 0 where

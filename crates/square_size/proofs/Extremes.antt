@@ -4,7 +4,6 @@ use Rattle.std.proofs.Common.{ℤ, pos, ◌+ℤ◌, ◌-ℤ◌, ◌≤ℤ◌, �
 use Rattle.std.proofs.lemmas.Int.{ints}
 use Rattle.half_grid.specs.Halves.{twice}
 use Rattle.half_grid.specs.Lines.{IsRightOf, IsLeftOf}
-use Rattle.half_grid.specs.LineLaws.{HasNumberBetween}
 use Rattle.half_grid.specs.Rows.{number_in_row, place}
 use Rattle.half_grid.specs.Tiles.{strips_of}
 use Rattle.half_grid.specs.Trapezoids.{Trapezoid, IsInTrapezoid, IsLegal}
@@ -13,7 +12,6 @@ use Rattle.half_grid.specs.declared.plane.Line.{Line}
 use Rattle.half_grid.specs.declared.plane.Line.TheVariants.{Upright, Rising, Falling}
 use Rattle.half_grid.proofs.ForCallers.{i_low, i_high, p_low, p_high, q_low, q_high, tile_with, tile_with_number, number_between, in_by_number, legal_places}
 use Rattle.square_size.specs.Ranges.{column_of, row_of, sum_of, difference_of}
-use Rattle.square_size.proofs.Boxes.{Box, IsInBox}
 
 -- tiles of the trapezoid that have the least and the greatest number of a strip
 pub record Span (strip : Tile → ℤ) (z : Trapezoid) : Type 0 where

@@ -1,10 +1,10 @@
 -- The windings of the edges of the rings of a list.
-use Rattle.std.proofs.Common.{◌≡◌, ℕ, ◌+◌, ◌≤◌, Bool, true, false, ℤ, pos, ◌+ℤ◌, ◌≤ℤ◌, arith, refl, ap, ◌∙◌, sym, All, List, [], ◌∷◌, ◌++◌, flat_map}
+use Rattle.std.proofs.Common.{◌≡◌, Bool, true, false, ℤ, pos, ◌+ℤ◌, ◌≤ℤ◌, arith, refl, ap, ◌∙◌, All, List, [], ◌∷◌, flat_map}
 use Rattle.std.proofs.lemmas.Int.{ints}
 use Rattle.std.proofs.lemmas.List.Elements.{All-head, All-tail}
 use Rattle.half_grid.specs.Edges.{edges_winding}
-use Rattle.half_grid.specs.Nearness.{IsGrown, IsNear}
-use Rattle.half_grid.specs.Trapezoids.{Trapezoid, IsInTrapezoid, IsLegal, count_in, trapezoid_has}
+use Rattle.half_grid.specs.Nearness.{IsGrown}
+use Rattle.half_grid.specs.Trapezoids.{Trapezoid, IsInTrapezoid, IsLegal, trapezoid_has}
 use Rattle.half_grid.specs.Winding.{count_one}
 use Rattle.half_grid.specs.declared.border.Operand.TheVariants.{A}
 use Rattle.half_grid.specs.declared.plane.Tile.{Tile}

@@ -1,3 +1,4 @@
+pub mod Orders
 pub mod Boxes
 pub mod Mixing
 pub mod Extremes

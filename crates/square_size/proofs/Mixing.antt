@@ -53,4 +53,3 @@ p_jq own even x y mp mj mq ep ej eq = omega (arith, ints, clamps, own, even, x, 
 pub jq_p : {j q p dy s dx j0 j1 q0 q1 p0 p1 : ℤ} → (j +ℤ q) ≤ℤ p → (s +ℤ s) ≡ (dx +ℤ dy) → pos 0 ≤ℤ dx → pos 0 ≤ℤ dy → Meets j0 j1 dy j → Meets q0 q1 s q → Meets p0 p1 s p → (j1 +ℤ q0) ≤ℤ p1 → (j0 +ℤ q1) ≤ℤ p1 → (j0 +ℤ q0) ≤ℤ p0
     → (from_both j0 dy j +ℤ from_both q0 s q) ≤ℤ (to_both p1 s p)
 jq_p own even x y mj mq mp ej eq ep = omega (arith, ints, clamps, own, even, x, y, mj.some, mj.from, mj.to, mq.some, mq.from, mq.to, mp.some, mp.from, mp.to, ej, eq, ep)
-

@@ -1,16 +1,15 @@
 -- A tile is near to some tile of a legal trapezoid exactly where it is near in each strip.
-use Rattle.std.proofs.Common.{ℤ, pos, negsuc, ◌+ℤ◌, ◌-ℤ◌, ◌≤ℤ◌, ◌≡◌, ◌↔◌, true, arith, refl}
+use Rattle.std.proofs.Common.{ℤ, pos, negsuc, ◌+ℤ◌, ◌-ℤ◌, ◌≤ℤ◌, ◌≡◌, ◌↔◌, true, arith}
 use Rattle.std.proofs.lemmas.Int.{ints, clamps}
 use Rattle.std.proofs.lemmas.Bool.Decides.{nat_tests}
-use Rattle.std.specs.Int.{int_max, int_min}
 use Rattle.half_grid.specs.Halves.{half, is_even, twice}
-use Rattle.half_grid.specs.Nearness.{DifferAtMost, IsNear, IsGrown}
+use Rattle.half_grid.specs.Nearness.{DifferAtMost, IsGrown}
 use Rattle.half_grid.specs.Tiles.{strips_of}
 use Rattle.half_grid.specs.Trapezoids.{Trapezoid, IsInTrapezoid, IsLegal}
 use Rattle.half_grid.specs.declared.plane.Tile.{Tile}
 use Rattle.half_grid.proofs.ForCallers.{i_low, i_high, p_low, p_high, q_low, q_high}
-use Rattle.square_size.specs.Ranges.{column_of, row_of, sum_of, difference_of, IsInRange, IsNearRange, IsNearInEachStrip, IsRectangle}
-use Rattle.square_size.proofs.Boxes.{Box, IsInBox, IsFull, tile_of_box}
+use Rattle.square_size.specs.Ranges.{column_of, row_of, sum_of, difference_of, IsNearRange, IsNearInEachStrip, IsRectangle}
+use Rattle.square_size.proofs.Boxes.{Box, IsFull, tile_of_box}
 use Rattle.square_size.proofs.Extremes.{Span, Extremes, extremes, whole}
 use Rattle.square_size.proofs.Mixing as mix
 use Rattle.square_size.proofs.Mixing.{Meets, from_both, to_both, some_common}

@@ -1,14 +1,14 @@
 -- The ring of a grown trapezoid winds once round each tile that is near to some tile of the trapezoid, and round no
 -- other.
-use Rattle.std.proofs.Common.{◌≡◌, ℕ, ℤ, pos, neg_ℤ, ◌+ℤ◌, ◌-ℤ◌, ◌≤ℤ◌, ◌<ℤ◌, arith, refl, ap, sym, [], ◌∷◌}
+use Rattle.std.proofs.Common.{◌≡◌, ℕ, ℤ, pos, ◌+ℤ◌, ◌-ℤ◌, ◌≤ℤ◌, ◌<ℤ◌, arith, refl, ap, sym, [], ◌∷◌}
 use Rattle.std.proofs.lemmas.Int.{ints, by_lt_z}
-use Rattle.half_grid.specs.Halves.{half, twice}
-use Rattle.half_grid.specs.Lines.{Passes, IsRightOf, IsLeftOf, x_on}
-use Rattle.half_grid.specs.Nearness.{IsNear, IsGrown, DifferAtMost}
+use Rattle.half_grid.specs.Halves.{half}
+use Rattle.half_grid.specs.Lines.{x_on}
+use Rattle.half_grid.specs.Nearness.{IsNear, IsGrown}
 use Rattle.half_grid.specs.Rows.{number_in_row, place}
 use Rattle.half_grid.specs.Tiles.{strips_of}
 use Rattle.half_grid.specs.Trapezoids.{Trapezoid, IsInTrapezoid, IsLegal}
-use Rattle.half_grid.specs.Winding.{winding, crossing_of}
+use Rattle.half_grid.specs.Winding.{winding}
 use Rattle.half_grid.specs.declared.plane.Tile.{Tile}
 use Rattle.half_grid.specs.declared.plane.Line.{Line}
 use Rattle.half_grid.specs.declared.plane.Line.TheVariants.{Upright, Rising, Falling}
@@ -16,8 +16,7 @@ use Rattle.half_grid.proofs.ForCallers.{winding_along, place_at_most, number_bel
 use Rattle.square_size.specs.Ranges.{IsRectangle}
 use Rattle.square_size.specs.Rings.{grown_ring, lower_left, upper_left, lower_right, upper_right, left_bend, right_bend}
 use Rattle.square_size.proofs.Extremes.{Extremes, extremes, first_of, first_in, number_first, row_first}
-use Rattle.square_size.proofs.NearLaw.{half_twice, MeetsAll, near_where_meets, meets_where_near}
-use Rattle.square_size.proofs.Mixing.{Meets}
+use Rattle.square_size.proofs.NearLaw.{half_twice, near_where_meets, meets_where_near}
 use Rattle.square_size.proofs.Ends.{Chain, left_chain, right_chain, IsFromLow, IsToHigh, low_ends, high_ends, low_lower, low_upper, right_lower, right_upper, high_lower, high_upper, left_lower, left_upper}
 use Rattle.square_size.proofs.Sides.{IsAlong, IsRightOfChain, IsLeftOfChain, chain_count, chain_up, chain_down, level, count_right, count_left, count_under, count_over, by_side}
 

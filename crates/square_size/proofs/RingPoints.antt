@@ -1,5 +1,5 @@
 -- The points of a ring: they are within reach, and its edges are on the grid.
-use Rattle.std.proofs.Common.{◌≡◌, ℤ, pos, ◌+ℤ◌, ◌-ℤ◌, ◌≤ℤ◌, ◌<ℤ◌, ap, ◌∙◌, inl, inr, refl, arith, All, [], ◌∷◌}
+use Rattle.std.proofs.Common.{◌≡◌, ℤ, ◌+ℤ◌, ◌-ℤ◌, ap, ◌∙◌, inl, inr, refl, arith, All}
 use Rattle.std.proofs.lemmas.Int.{ints, clamps}
 use Rattle.std.proofs.lemmas.List.Elements.{All-from_recursion}
 use Rattle.half_grid.specs.Halves.{half}

@@ -1,20 +1,15 @@
 -- What the two pieces of a ring's side add to the winding.
-use Rattle.std.proofs.Common.{◌≡◌, ◌≢◌, ℕ, ◌+◌, Bool, true, false, ◌&&◌, ℤ, pos, neg_ℤ, ◌+ℤ◌, ◌-ℤ◌, ◌≤ℤ◌, ◌<ℤ◌, arith, refl, ap, ◌∙◌}
+use Rattle.std.proofs.Common.{◌≡◌, ℕ, ◌+◌, Bool, false, ◌&&◌, ℤ, pos, neg_ℤ, ◌+ℤ◌, ◌≤ℤ◌, ◌<ℤ◌, arith, refl}
 use Rattle.std.proofs.lemmas.Int.{ints, by_lt_z}
 use Rattle.std.specs.Prelude.{int_le, int_lt}
-use Rattle.half_grid.specs.Lines.{Passes, IsRightOf, IsLeftOf, line_of, strip_along, first_strip}
-use Rattle.half_grid.specs.Winding.{crossing_of, count_one, rises_past, is_right_of}
+use Rattle.half_grid.specs.Lines.{Passes, IsRightOf, IsLeftOf, strip_along, first_strip}
+use Rattle.half_grid.specs.Winding.{crossing_of, count_one}
 use Rattle.half_grid.specs.declared.plane.Tile.{Tile}
 use Rattle.half_grid.specs.declared.plane.Point.{Point}
 use Rattle.half_grid.specs.declared.plane.Line.{Line}
-use Rattle.half_grid.proofs.ForCallers.{line_is, crossing_up, crossing_down, crossing_none, le_yes, le_no}
+use Rattle.half_grid.proofs.ForCallers.{line_is, crossing_none, le_yes, le_no}
 use Rattle.square_size.proofs.Ends.{Chain}
-
-lt_yes : (x y : ℤ) → x <ℤ y → int_lt x y ≡ true
-lt_yes x y h = grind (arith, ints)
-
-lt_no : (x y : ℤ) → y ≤ℤ x → int_lt x y ≡ false
-lt_no x y h = grind (arith, ints)
+use Rattle.square_size.proofs.Orders.{lt_yes, lt_no}
 
 -- whether the tile is in the rows and right of the line
 abbrev pub is_beyond : Tile → Line → ℤ → ℤ → Bool

@@ -1,5 +1,5 @@
 -- The windings of the edges of rings, as laws over all lists.
-use Rattle.std.specs.Prelude.{ℕ, ℤ, pos, ◌≤ℤ◌, ◌≤◌, ◌≡◌, All, List, Bool, ◌&&◌, not, count_by, flat_map}
+use Rattle.std.specs.Prelude.{ℤ, pos, ◌≤ℤ◌, ◌≤◌, ◌≡◌, All, List, ◌&&◌, not, count_by, flat_map}
 use Rattle.half_grid.specs.Edges.{edges_winding, is_of, spans}
 use Rattle.half_grid.specs.Nearness.{IsGrown}
 use Rattle.half_grid.specs.Trapezoids.{Trapezoid, IsLegal, count_in}

@@ -2,7 +2,7 @@
 --
 -- Two consecutive points make an edge where they have different Y and lie on a line of the half grid. It goes up where
 -- the second is the higher one.
-use Rattle.std.specs.Prelude.{ℤ, Bool, true, false, List, [], ◌∷◌, ◌++◌, Option, Some, None, flat_map, int_lt, if◌then◌else◌}
+use Rattle.std.specs.Prelude.{ℤ, true, false, List, ◌++◌, Option, Some, None, flat_map, int_lt, if◌then◌else◌}
 use Rattle.std.specs.Option.{option_to_list}
 use Rattle.half_grid.specs.Edges.{EdgeParts, edge_parts}
 use Rattle.half_grid.specs.Lines.{line_of}

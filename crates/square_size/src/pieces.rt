@@ -6,7 +6,9 @@ ghost use Rattle.half_grid.specs.declared.border.Operand.TheVariants.{A};
 ghost use Rattle.square_size.specs.Edges.{edge_between, edges_of_grown};
 ghost use Rattle.square_size.specs.Rings.{HasRingWithinReach, IsSizing};
 
-use crate::rings::{HalfSides, left_bend, lower_left, lower_right, right_bend, upper_left, upper_right};
+use crate::rings::{
+    HalfSides, left_bend, lower_left, lower_right, right_bend, upper_left, upper_right,
+};
 use half_grid::{Edge, Operand, Point, Trap, line_through};
 use std::marker::Model;
 

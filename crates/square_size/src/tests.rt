@@ -1,12 +1,11 @@
 //! Rings by hand, and rings against nearness by its definition, tile by tile.
 ghost use Rattle.std.specs.Prelude.{◌≡◌, true};
-ghost use Rattle.geo_stream.specs.Stream.{HasList};
 ghost use Rattle.half_grid.specs.Reach.{IsTileWithinReach};
 ghost use Rattle.half_grid.specs.Trapezoids.{trapezoid};
 ghost use Rattle.square_size.specs.Rings.{HasRingWithinReach, IsSizing};
 
 use crate::{Grown, grown, near_law, ring_laws};
-use geo_stream::{FromSlice, Stream};
+use geo_stream::{FromSlice, NoMemory, gather};
 use half_grid::{Edge, Line, Operand, Point, REACH, Side, Tile, Trap, covers, near, winding_at};
 use std::alloc::Global;
 use std::process::Abort;
@@ -60,7 +59,12 @@ fn is_near_some(trap: &Trap, tile: Tile, dx: i64, dy: i64) -> bool
 fn agrees(trap: &Trap, ring: &[Point], tile: Tile, dx: i64, dy: i64) -> bool
     requires { IsTileWithinReach tile }
 {
-    winding_at(ring, tile) == if is_near_some(trap, tile, dx, dy) { 1 } else { 0 }
+    winding_at(ring, tile)
+        == if is_near_some(trap, tile, dx, dy) {
+            1
+        } else {
+            0
+        }
 }
 
 // Whether the ring agrees at each tile of a window that reaches past it on all sides.
@@ -122,7 +126,8 @@ fn points(list: [(i64, i64); 7]) -> [Point; 7] {
     list.map(|(x, y)| Point { x, y })
 }
 
-// By hand: a square, a triangle, a tip and a strip beside it, and a square that ends at the greatest coordinates.
+// By hand: a square, a triangle, a tip, what lies left of a bar, a trapezoid, and a strip that ends at the greatest
+// coordinates.
 #[test]
 fn rings_by_hand(rt: HostRuntime) {
     let far = REACH - 65536;
@@ -134,7 +139,15 @@ fn rings_by_hand(rt: HostRuntime) {
             Line::Upright(20),
             3,
             1,
-            [(-3, -1), (-3, 21), (-3, 21), (23, 21), (23, 21), (23, -1), (-3, -1)],
+            [
+                (-3, -1),
+                (-3, 21),
+                (-3, 21),
+                (23, 21),
+                (23, 21),
+                (23, -1),
+                (-3, -1),
+            ],
         ),
         (
             0,
@@ -143,7 +156,15 @@ fn rings_by_hand(rt: HostRuntime) {
             Line::Upright(20),
             3,
             1,
-            [(-3, -1), (-3, 1), (17, 21), (23, 21), (23, 21), (23, -1), (-3, -1)],
+            [
+                (-3, -1),
+                (-3, 1),
+                (17, 21),
+                (23, 21),
+                (23, 21),
+                (23, -1),
+                (-3, -1),
+            ],
         ),
         (
             0,
@@ -152,7 +173,32 @@ fn rings_by_hand(rt: HostRuntime) {
             Line::Falling(11),
             1,
             1,
-            [(-1, -1), (-1, 1), (10, 12), (12, 12), (23, 1), (23, -1), (-1, -1)],
+            [
+                (-1, -1),
+                (-1, 1),
+                (10, 12),
+                (12, 12),
+                (23, 1),
+                (23, -1),
+                (-1, -1),
+            ],
+        ),
+        (
+            0,
+            200,
+            Line::Upright(-20),
+            Line::Upright(0),
+            9,
+            3,
+            [
+                (-29, -3),
+                (-29, 203),
+                (-29, 203),
+                (9, 203),
+                (9, 203),
+                (9, -3),
+                (-29, -3),
+            ],
         ),
         (
             0,
@@ -192,20 +238,8 @@ fn edge(rt: &impl Abort, y0: i64, y1: i64, line: Line, up: bool) -> Edge {
     Edge::new(y0, y1, line, up, Operand::A).expect(rt, "an edge")
 }
 
-// Whether the stream gives just these edges, and then none.
-fn gives<S: Stream<Item = Edge> + Drop>(mut stream: S, wanted: &[Edge]) -> bool
-    requires { HasList S.stands_for stream }
-{
-    for edge in wanted {
-        if stream.next() != Some(*edge) {
-            return false;
-        }
-    }
-    stream.next().is_none() && stream.next().is_none()
-}
-
 #[test]
-fn edges_come_ring_by_ring(rt: HostRuntime) {
+fn edges_come_ring_by_ring(rt: HostRuntime) -> Result<(), NoMemory> {
     let (zero, twenty) = (Line::Upright(0), Line::Upright(20));
     let traps = [
         trap(&rt, 0, 20, zero, twenty),
@@ -218,6 +252,10 @@ fn edges_come_ring_by_ring(rt: HostRuntime) {
         edge(&rt, 1, 21, Line::Rising(-2), true),
         edge(&rt, -1, 21, Line::Upright(23), false),
     ];
-    let edges = Grown::new(rt.alloc(), FromSlice::new(&traps), 3, 1);
-    assert!(rt; gives(edges, &wanted));
+    let edges = gather(
+        rt.alloc(),
+        Grown::new(rt.alloc(), FromSlice::new(&traps), 3, 1),
+    )?;
+    assert_eq!(rt; edges.as_slice(), wanted.as_slice());
+    Ok(())
 }

@@ -1,10 +1,9 @@
-use Rattle.std.proofs.Common.{◌≡◌, ◌≤◌, pos, All, length, ap, sym, subst, ◌∙◌, arith, w64, FitsSigned, List}
+use Rattle.std.proofs.Common.{◌≤◌, All, length, ap, sym, subst, ◌∙◌, arith, w64, FitsSigned, List}
 use Rattle.std.proofs.lemmas.Int.{to_z-of_z}
 use Rattle.half_grid.specs.Outlines.{HasGridEdges}
 use Rattle.half_grid.specs.Reach.{IsPointWithinReach}
 use Rattle.half_grid.specs.Winding.{winding}
 use Rattle.half_grid.specs.declared.plane.Point.{Point}
-use Rattle.square_size.specs.Rings.{grown_ring}
 use Rattle.square_size.proofs.RingLaw.{ring_inside, ring_outside}
 use Rattle.square_size.proofs.RingPoints.{ring_on_grid, ring_within_reach}
 use Rattle.square_size.proofs.rings.grown.Goals as goal

@@ -20,4 +20,3 @@ returns-in-Falling-clause-point c =
     rw kind (same_point _ _ _ _
     (omega (arith, ints, x, c.top_left.ensures.reach, c.requires.rectangle.columns, c.requires.columns))
     (omega (arith, ints, c.y1.ensures.value, shot.reach.y1, c.requires.rectangle.rows, c.requires.rows)))
-

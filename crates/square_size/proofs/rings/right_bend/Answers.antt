@@ -20,4 +20,3 @@ returns-in-Falling c =
     rw kind (same_point _ _ _ _
     (omega (arith, ints, x, c.bottom_right.ensures.reach, c.requires.rectangle.columns, c.requires.columns))
     (omega (arith, ints, c.y0.ensures.value, shot.reach.y0, c.requires.rectangle.rows, c.requires.rows)))
-

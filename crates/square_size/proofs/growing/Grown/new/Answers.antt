@@ -1,4 +1,4 @@
-use Rattle.std.proofs.Common.{List, All, length, arith, ◌++◌, map, flat_map, refl, sym, ap, subst, w64, FitsSigned}
+use Rattle.std.proofs.Common.{List, All, length, arith, ◌++◌, flat_map, sym, ap, subst, w64, FitsSigned}
 use Rattle.std.proofs.lemmas.Int.{to_z-of_z}
 use Rattle.half_grid.specs.Edges.{EdgeParts}
 use Rattle.half_grid.specs.Trapezoids.{Trapezoid}

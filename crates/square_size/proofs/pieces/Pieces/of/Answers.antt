@@ -1,5 +1,4 @@
 use Rattle.std.proofs.Common.{sym, ◌∙◌}
-use Rattle.half_grid.specs.Trapezoids.{IsShot}
 use Rattle.square_size.proofs.RingPoints.{lower_left_within, upper_left_within, lower_right_within, upper_right_within, left_bend_within, right_bend_within}
 use Rattle.square_size.specs.Laws.Growing.{ring_listed}
 use Rattle.square_size.proofs.Taking.{same_listed}
