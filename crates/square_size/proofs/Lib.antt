@@ -11,3 +11,4 @@ pub mod EdgeWindings
 pub mod GrownLists
 pub mod Balance
 pub mod Taking
+pub mod ForCallers
