@@ -1,0 +1,14 @@
+pub mod Orders
+pub mod Boxes
+pub mod Mixing
+pub mod Extremes
+pub mod NearLaw
+pub mod Ends
+pub mod Sides
+pub mod RingLaw
+pub mod RingPoints
+pub mod EdgeWindings
+pub mod GrownLists
+pub mod Balance
+pub mod Taking
+pub mod ForCallers

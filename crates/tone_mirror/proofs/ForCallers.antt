@@ -1,0 +1,2 @@
+-- What the crates above may cite: the tiles of mirror images, over plain variables.
+pub use Rattle.tone_mirror.proofs.ImageLemmas.{image_x, image_has_tile, mirrored_twice, images_have_count, image_is_legal}

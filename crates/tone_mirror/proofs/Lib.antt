@@ -1,0 +1,3 @@
+pub mod ImageLemmas
+pub mod FrameLemmas
+pub mod ForCallers
