@@ -1,0 +1,9 @@
+pub mod Offcuts
+pub mod CutNumbers
+pub mod PartLemmas
+pub mod Recursions
+pub mod Steps
+pub mod TileLemmas
+pub mod CutLemmas
+pub mod Members
+pub mod EconomyLemmas

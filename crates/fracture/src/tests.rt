@@ -1,0 +1,7 @@
+//! Each call.
+use crate::cut_laws;
+
+#[test]
+fn laws() {
+    cut_laws();
+}
