@@ -1,12 +1,12 @@
 -- The shots of a trapezoid have its tiles, each once, and each is legal, within reach and within the limits.
 use Rattle.std.proofs.Common.{◌≡◌, ℕ, ◌+◌, ℤ, pos, ◌+ℤ◌, ◌-ℤ◌, ◌≤ℤ◌, ◌<ℤ◌, List, [], ◌∷◌, ◌++◌, All, arith, refl, sym, ap, ◌∙◌}
 use Rattle.std.proofs.lemmas.Int.{ints, clamps}
-use Rattle.std.proofs.lemmas.List.Elements.{All-nil, All-cons, All-append, All-weaker}
+use Rattle.std.proofs.lemmas.List.Elements.{All-nil, All-cons, All-head, All-tail, All-append, All-weaker}
 use Rattle.std.specs.List.{flat_map}
 use Rattle.half_grid.specs.Trapezoids.{Trapezoid, IsShot, FitsLimits, box_width, count_in}
 use Rattle.half_grid.specs.declared.plane.Tile.{Tile}
 use Rattle.fracture.specs.Limits.{AreLimits}
-use Rattle.fracture.specs.Cutting.{height_of, lowest_rows, rows_above, cut_by_height, cut_at, leftmost_part, part_beyond, cut_by_width, cut_list}
+use Rattle.fracture.specs.Cutting.{height_of, lowest_rows, rows_above, cut_by_height, cut_at, leftmost_part, part_beyond, cut_by_width, cut_list, shots_of}
 use Rattle.fracture.proofs.PartLemmas.{IsLow, inside, lowest_is_low, left_is_shot, cut_is}
 use Rattle.fracture.proofs.Recursions.{of_heights, of_widths}
 use Rattle.fracture.proofs.TileLemmas.{counted_more, one_counted, count_in-append, rows_split, width_split, split_ones}
@@ -56,3 +56,22 @@ module _ (height width : ℤ) (limits : AreLimits height width) where
 
   pub fit_limits : (z : Trapezoid) → IsShot z → All (FitsLimits height width) (cut_list height width z)
   fit_limits z s = All-weaker (IsFitting height width) (FitsLimits height width) (λ y f. f.fits) (cut_list height width z) (all_fit z s)
+
+  -- ---- lists of trapezoids
+
+  pub same_tiles_of_list : (t : Tile) (traps : List Trapezoid) → All IsShot traps → count_in (shots_of height width traps) t ≡ count_in traps t
+  same_tiles_of_list t [] s = refl
+  same_tiles_of_list t (z ∷ traps) s =
+      let first = same_tiles t z (All-head IsShot z traps s) in
+      let later = same_tiles_of_list t traps (All-tail IsShot z traps s) in
+      omega (arith, first, later, count_in-append (cut_list height width z) (shots_of height width traps) t, count_in-append (z ∷ []) traps t)
+
+  all_of_list : (P : Trapezoid → Type 0) → ((z : Trapezoid) → IsShot z → All P (cut_list height width z)) → (traps : List Trapezoid) → All IsShot traps → All P (shots_of height width traps)
+  all_of_list P h [] s = All-nil P
+  all_of_list P h (z ∷ traps) s = All-append P (cut_list height width z) (shots_of height width traps) (h z (All-head IsShot z traps s)) (all_of_list P h traps (All-tail IsShot z traps s))
+
+  pub list_of_shots : (traps : List Trapezoid) → All IsShot traps → All IsShot (shots_of height width traps)
+  list_of_shots = all_of_list IsShot are_shots
+
+  pub list_fits : (traps : List Trapezoid) → All IsShot traps → All (FitsLimits height width) (shots_of height width traps)
+  list_fits = all_of_list (FitsLimits height width) fit_limits

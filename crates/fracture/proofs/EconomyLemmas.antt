@@ -57,10 +57,10 @@ max_same c = omega (arith, ints, clamps)
 
 module _ (height width : ℤ) (limits : AreLimits height width) where
   -- the first part, by its left line
-  abbrev IsBegin : Trapezoid → Trapezoid → Type 0
+  abbrev pub IsBegin : Trapezoid → Trapezoid → Type 0
   IsBegin z w = (w ≡ z) ⊎ ((width <ℤ box_width z) × (w ≡ leftmost_part width z))
 
-  abbrev AreTooWide : Trapezoid → Trapezoid → Type 0
+  abbrev pub AreTooWide : Trapezoid → Trapezoid → Type 0
   AreTooWide y w = width <ℤ box_width (side_by_side y w)
 
   -- what holds of the parts of a piece
@@ -234,13 +234,13 @@ module _ (height width : ℤ) (limits : AreLimits height width) where
       let piece = All-contains (IsPiece z) (cut_by_height height z) some.0 (pieces_of z s).each some.1 in
       record { piece = some.0; among = some.1; of = piece; at = some.2; part = part_is some.0 y piece.low some.2 }
 
-  side_by_side_wide : (z y w : Trapezoid) → IsShot z → IsShotOf z y → IsShotOf z w → y.y0 ≡ w.y0 → y.right ≡ w.left → AreTooWide y w
+  pub side_by_side_wide : (z y w : Trapezoid) → IsShot z → IsShotOf z y → IsShotOf z w → y.y0 ≡ w.y0 → y.right ≡ w.left → AreTooWide y w
   side_by_side_wide z y w s p q rows e =
       let bottoms : p.piece.y0 ≡ q.piece.y0 = sym p.part.bottom ∙ rows ∙ q.part.bottom in
       let same : p.piece ≡ q.piece = (pieces_of z s).named p.piece q.piece p.among q.among bottoms in
       (parts_of p.piece p.of.low).wide y w p.at (subst (λ v. Contains (cut_by_width width v) w) (sym same) q.at) e
 
-  stacked_tall : (z y w : Trapezoid) → IsShot z → IsShotOf z y → IsShotOf z w → y.y1 ≡ w.y0 → height <ℤ height_of (stacked y w)
+  pub stacked_tall : (z y w : Trapezoid) → IsShot z → IsShotOf z y → IsShotOf z w → y.y1 ≡ w.y0 → height <ℤ height_of (stacked y w)
   stacked_tall z y w s p q e =
       let ends : p.piece.y1 ≡ q.piece.y0 = sym p.part.top ∙ e ∙ q.part.bottom in
       let tall = (pieces_of z s).tall p.piece q.piece p.among q.among ends in

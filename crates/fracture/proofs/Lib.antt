@@ -7,3 +7,7 @@ pub mod TileLemmas
 pub mod CutLemmas
 pub mod Members
 pub mod EconomyLemmas
+pub mod Counts
+pub mod SideLemmas
+pub mod JoinedEconomy
+pub mod ForCallers
