@@ -1,13 +1,13 @@
 -- No cut between two shots of the trapezoids of a joined list is needless.
 use Rattle.std.proofs.Common.{◌≡◌, ℕ, ◌≤◌, Bool, true, false, ℤ, pos, ◌+ℤ◌, ◌-ℤ◌, ◌*ℤ◌, ◌≤ℤ◌, ◌<ℤ◌, List, [], ◌∷◌, All, arith, refl, sym, ap, subst, ◌∙◌}
 use Rattle.std.proofs.lemmas.Int.{ints, by_lt_z}
-use Rattle.std.proofs.lemmas.List.Elements.{All-contains}
+use Rattle.std.proofs.lemmas.List.Elements.{All-contains, All-contains_itself, All-weaker}
 use Rattle.std.specs.List.{Contains}
 use mathlib.Core.Logic.{◌⊎◌, inl, inr}
 use Rattle.half_grid.specs.Lines.{IsRightOf, IsLeftOf}
 use Rattle.half_grid.specs.Rows.{place, number_in_row}
 use Rattle.half_grid.specs.Windows.{RowRange}
-use Rattle.half_grid.specs.JoinedLists.{IsJoined, IsBeside}
+use Rattle.half_grid.specs.JoinedLists.{IsJoined, IsBeside, IsInWindow}
 use Rattle.half_grid.specs.Winding.{count_one}
 use Rattle.half_grid.specs.Trapezoids.{Trapezoid, IsInTrapezoid, IsShot, box_width, count_in, trapezoid_has}
 use Rattle.half_grid.specs.declared.plane.Tile.{Tile}
@@ -204,3 +204,15 @@ module _ (height width : ℤ) (limits : AreLimits height width) where
         upright = λ y w at by bottoms tops e. upright y w at by bottoms e;
         level = λ y w at by left right e band alone. level y w at by left right e alone;
       }
+
+    -- the shots of a joined list stand in its window
+    pub shots_in_window : All (λ y. (window.y0 ≤ℤ y.y0) × (y.y0 <ℤ y.y1) × (y.y1 ≤ℤ window.y1)) (shots_of height width traps)
+    shots_in_window =
+        All-weaker (Contains (shots_of height width traps)) (λ y. (window.y0 ≤ℤ y.y0) × (y.y0 <ℤ y.y1) × (y.y1 ≤ℤ window.y1))
+        (λ y at. (let a = of_some (cut_list height width) traps y at in
+        let p = shot_in a.0 y (shot a.0 a.1) a.2 in
+        let w = All-contains (IsInWindow window) traps a.0 joined.in_window a.1 in
+        let above = p.above in
+        let below = p.below in
+        (omega (arith, ints, w.low, above), p.rows, omega (arith, ints, w.high, below))))
+        (shots_of height width traps) (All-contains_itself (shots_of height width traps))

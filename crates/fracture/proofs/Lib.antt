@@ -10,4 +10,5 @@ pub mod EconomyLemmas
 pub mod Counts
 pub mod SideLemmas
 pub mod JoinedEconomy
+pub mod Bands
 pub mod ForCallers
