@@ -45,25 +45,25 @@ module _ (rows height width : ℤ) (area : Tile → Type 0) where
       let high : (y : Trapezoid) → Contains ys y → BeginsAt (k *ℤ rows) y = λ y at. All-contains (BeginsAt (k *ℤ rows)) ys y above at in
       record {
         upright = λ y z at by bottoms tops e.
-        elim (Contains-append_cases xs ys y at) [
-          | inl ay ↦ elim (Contains-append_cases xs ys z by) [
-            | inl az ↦ p.upright y z ay az bottoms tops e
-            | inr az ↦ (let a = low y ay in let b = high z az in absurd (omega (arith, ints, bottoms, a.rows, a.high, b.low)))
-          ]
-          | inr ay ↦ elim (Contains-append_cases xs ys z by) [
-            | inl az ↦ (let a = low z az in let b = high y ay in absurd (omega (arith, ints, bottoms, a.rows, a.high, b.low)))
-            | inr az ↦ q.upright y z ay az bottoms tops e
-          ]
-        ];
+            elim (Contains-append_cases xs ys y at) [
+              | inl ay ↦ elim (Contains-append_cases xs ys z by) [
+                | inl az ↦ p.upright y z ay az bottoms tops e
+                | inr az ↦ (let a = low y ay in let b = high z az in absurd (omega (arith, ints, bottoms, a.rows, a.high, b.low)))
+              ]
+              | inr ay ↦ elim (Contains-append_cases xs ys z by) [
+                | inl az ↦ (let a = low z az in let b = high y ay in absurd (omega (arith, ints, bottoms, a.rows, a.high, b.low)))
+                | inr az ↦ q.upright y z ay az bottoms tops e
+              ]
+            ];
         level = λ y z at by left right e band alone.
-        elim (Contains-append_cases xs ys y at) [
-          | inl ay ↦ elim (Contains-append_cases xs ys z by) [
-            | inl az ↦ p.level y z ay az left right e band alone
-            | inr az ↦ absurd (two_bands rows k band.0 y z some (low y ay) (high z az) band.1 band.2)
-          ]
-          | inr ay ↦ elim (Contains-append_cases xs ys z by) [
-            | inl az ↦ (let a = low z az in let b = high y ay in absurd (omega (arith, ints, e, a.rows, a.high, b.rows, b.low)))
-            | inr az ↦ q.level y z ay az left right e band alone
-          ]
-        ];
+            elim (Contains-append_cases xs ys y at) [
+              | inl ay ↦ elim (Contains-append_cases xs ys z by) [
+                | inl az ↦ p.level y z ay az left right e band alone
+                | inr az ↦ absurd (two_bands rows k band.0 y z some (low y ay) (high z az) band.1 band.2)
+              ]
+              | inr ay ↦ elim (Contains-append_cases xs ys z by) [
+                | inl az ↦ (let a = low z az in let b = high y ay in absurd (omega (arith, ints, e, a.rows, a.high, b.rows, b.low)))
+                | inr az ↦ q.level y z ay az left right e band alone
+              ]
+            ];
       }
