@@ -1,14 +1,13 @@
 -- Shots of bands, one band after the other.
-use Rattle.std.proofs.Common.{◌≡◌, ℕ, ◌+◌, ◌*◌, ◌≤◌, ℤ, pos, negsuc, ◌+ℤ◌, ◌*ℤ◌, ◌≤ℤ◌, ◌<ℤ◌, List, ◌++◌, All, arith, mul-le-mul_left, sym}
+use Rattle.std.proofs.Common.{ℕ, ◌+◌, ◌*◌, ◌≤◌, ℤ, pos, negsuc, ◌+ℤ◌, ◌*ℤ◌, ◌≤ℤ◌, ◌<ℤ◌, List, ◌++◌, All, arith, mul-le-mul_left}
 use Rattle.std.proofs.lemmas.Int.{ints, by_lt_z}
 use Rattle.std.proofs.lemmas.List.Elements.{All-contains, Contains-append_cases}
 use Rattle.std.specs.List.{Contains}
 use borrow.Author.Differences.{up, down}
-use mathlib.Core.Logic.{◌⊎◌, inl, inr}
-use Rattle.half_grid.specs.Trapezoids.{Trapezoid, box_width}
+use mathlib.Core.Logic.{inl, inr}
+use Rattle.half_grid.specs.Trapezoids.{Trapezoid}
 use Rattle.half_grid.specs.declared.plane.Tile.{Tile}
-use Rattle.fracture.specs.Cutting.{height_of}
-use Rattle.fracture.specs.Economy.{side_by_side, stacked, IsInBand, AreInOneBand, StandsAlone, HasNoNeedlessCut}
+use Rattle.fracture.specs.Economy.{IsInBand, HasNoNeedlessCut}
 
 mono : (k m : ℤ) (r : ℕ) → k ≤ℤ m → (k *ℤ pos r) ≤ℤ (m *ℤ pos r)
 mono k m r h =

@@ -1,12 +1,12 @@
 -- The shots of a trapezoid have its tiles, each once, and each is legal, within reach and within the limits.
-use Rattle.std.proofs.Common.{◌≡◌, ℕ, ◌+◌, ℤ, pos, ◌+ℤ◌, ◌-ℤ◌, ◌≤ℤ◌, ◌<ℤ◌, List, [], ◌∷◌, ◌++◌, All, arith, refl, sym, ap, ◌∙◌}
+use Rattle.std.proofs.Common.{◌≡◌, ℤ, ◌+ℤ◌, ◌<ℤ◌, List, [], ◌∷◌, All, arith, refl}
 use Rattle.std.proofs.lemmas.Int.{ints, clamps}
 use Rattle.std.proofs.lemmas.List.Elements.{All-nil, All-cons, All-head, All-tail, All-append, All-weaker}
 use Rattle.std.specs.List.{flat_map}
 use Rattle.half_grid.specs.Trapezoids.{Trapezoid, IsShot, FitsLimits, box_width, count_in}
 use Rattle.half_grid.specs.declared.plane.Tile.{Tile}
 use Rattle.fracture.specs.Limits.{AreLimits}
-use Rattle.fracture.specs.Cutting.{height_of, lowest_rows, rows_above, cut_by_height, cut_at, leftmost_part, part_beyond, cut_by_width, cut_list, shots_of}
+use Rattle.fracture.specs.Cutting.{lowest_rows, rows_above, leftmost_part, part_beyond, cut_by_width, cut_list, shots_of}
 use Rattle.fracture.proofs.PartLemmas.{IsLow, inside, lowest_is_low, left_is_shot, cut_is}
 use Rattle.fracture.proofs.Recursions.{of_heights, of_widths}
 use Rattle.fracture.proofs.TileLemmas.{counted_more, one_counted, count_in-append, rows_split, width_split, split_ones}

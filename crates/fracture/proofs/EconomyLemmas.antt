@@ -2,18 +2,18 @@
 use Rattle.std.proofs.Common.{◌≡◌, ℤ, pos, ◌+ℤ◌, ◌-ℤ◌, ◌≤ℤ◌, ◌<ℤ◌, List, [], ◌∷◌, All, arith, refl, sym, ap, subst, ◌∙◌}
 use Rattle.std.proofs.lemmas.Int.{ints, clamps}
 use Rattle.std.proofs.lemmas.List.Elements.{All-nil, All-cons, All-contains, All-weaker}
-use Rattle.std.specs.List.{Contains, flat_map}
+use Rattle.std.specs.List.{Contains}
 use Rattle.std.specs.Int.{int_min, int_max}
 use mathlib.Core.Logic.{◌⊎◌, inl, inr}
 use Rattle.half_grid.specs.Lines.{x_on}
 use Rattle.half_grid.specs.Rows.{place}
-use Rattle.half_grid.specs.Trapezoids.{Trapezoid, IsShot, IsLegal, box_width}
+use Rattle.half_grid.specs.Trapezoids.{Trapezoid, IsShot, box_width}
 use Rattle.half_grid.specs.declared.plane.Line.{Line}
 use Rattle.half_grid.specs.declared.plane.Tile.{Tile}
 use Rattle.half_grid.proofs.ForCallers.{legal_places}
 use Rattle.fracture.specs.Limits.{AreLimits}
 use Rattle.fracture.specs.Cutting.{height_of, lowest_rows, rows_above, cut_by_height, cut_at, leftmost_part, part_beyond, cut_by_width, cut_list}
-use Rattle.fracture.specs.Economy.{side_by_side, stacked, StandsAlone, AreInOneBand, HasNoNeedlessCut}
+use Rattle.fracture.specs.Economy.{side_by_side, stacked, HasNoNeedlessCut}
 use Rattle.fracture.proofs.CutNumbers.{x_steps}
 use Rattle.fracture.proofs.PartLemmas.{IsLow, inside, lowest_is_low, left_is_shot, cut_is}
 use Rattle.fracture.proofs.Recursions.{of_heights, of_widths}

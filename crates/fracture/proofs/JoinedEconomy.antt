@@ -1,5 +1,5 @@
 -- No cut between two shots of the trapezoids of a joined list is needless.
-use Rattle.std.proofs.Common.{◌≡◌, ℕ, ◌≤◌, Bool, true, false, ℤ, pos, ◌+ℤ◌, ◌-ℤ◌, ◌*ℤ◌, ◌≤ℤ◌, ◌<ℤ◌, List, [], ◌∷◌, All, arith, refl, sym, ap, subst, ◌∙◌}
+use Rattle.std.proofs.Common.{◌≡◌, ◌≤◌, Bool, true, false, ℤ, pos, ◌+ℤ◌, ◌-ℤ◌, ◌≤ℤ◌, ◌<ℤ◌, List, All, arith, refl, sym, ap, subst, ◌∙◌}
 use Rattle.std.proofs.lemmas.Int.{ints, by_lt_z}
 use Rattle.std.proofs.lemmas.List.Elements.{All-contains, All-contains_itself, All-weaker}
 use Rattle.std.specs.List.{Contains}
@@ -21,7 +21,7 @@ use Rattle.fracture.proofs.CutLemmas.{same_tiles}
 use Rattle.fracture.proofs.TileLemmas.{one_counted}
 use Rattle.fracture.proofs.Members.{of_some}
 use Rattle.fracture.proofs.Counts.{counted, one_only}
-use Rattle.fracture.proofs.SideLemmas.{GoesOnLeft, GoesOnRight, HasSides, sides_of}
+use Rattle.fracture.proofs.SideLemmas.{sides_of}
 
 -- the tile at the left line of a trapezoid in a row
 abbrev first_tile : Line → ℤ → Tile

@@ -1,5 +1,5 @@
 -- Members of lists of trapezoids.
-use Rattle.std.proofs.Common.{◌≡◌, List, [], ◌∷◌, ◌++◌, arith}
+use Rattle.std.proofs.Common.{◌≡◌, List, [], ◌∷◌, arith}
 use Rattle.std.proofs.lemmas.List.Elements.{Contains-push_cases, Contains-append_cases, Contains-append_left, Contains-append_right, Contains-push}
 use Rattle.std.specs.List.{Contains, flat_map}
 use mathlib.Core.Logic.{◌⊎◌, inl, inr}

@@ -1,8 +1,6 @@
 -- Parts that are cut off one after the other: what holds of them by what holds of each cut.
-use Rattle.std.proofs.Common.{◌≡◌, ◌≢◌, ℕ, zero, suc, ◌+◌, ◌<◌, ◌≤◌, Bool, true, false, cond, List, [], ◌∷◌, refl, sym, ap, ◌∙◌, arith, subst}
-use Rattle.std.specs.List.{All}
-use Rattle.std.proofs.lemmas.List.Elements.{All-nil, All-cons}
-use Rattle.half_grid.specs.Trapezoids.{Trapezoid, count_in}
+use Rattle.std.proofs.Common.{◌≡◌, ℕ, zero, suc, ◌<◌, ◌≤◌, Bool, true, false, List, [], ◌∷◌, refl, sym, ap, ◌∙◌, arith, subst}
+use Rattle.half_grid.specs.Trapezoids.{Trapezoid}
 use Rattle.fracture.specs.Cutting.{cut_off}
 
 module _ (fits : Trapezoid → Bool) (part rest : Trapezoid → Trapezoid) where

@@ -1,14 +1,13 @@
 -- The parts of a trapezoid are legal and within reach, and smaller than it.
-use Rattle.std.proofs.Common.{◌≡◌, ℕ, ◌<◌, ◌≤◌, ◌^◌, ℤ, pos, negsuc, ◌+ℤ◌, ◌-ℤ◌, ◌≤ℤ◌, ◌<ℤ◌, arith, refl, neg_ℤ, FitsSigned, w64, Some, subst}
+use Rattle.std.proofs.Common.{◌≡◌, ◌^◌, ℤ, pos, negsuc, ◌+ℤ◌, ◌≤ℤ◌, ◌<ℤ◌, arith, refl, neg_ℤ, FitsSigned, w64, Some, subst}
 use Rattle.std.proofs.lemmas.Int.{ints, clamps}
-use Rattle.std.specs.Int.{int_min, int_max}
 use Rattle.std.specs.Option.{ForSome}
 use Rattle.half_grid.specs.Lines.{x_on}
 use Rattle.half_grid.specs.Reach.{IsWithinReach}
-use Rattle.half_grid.specs.Trapezoids.{Trapezoid, IsLegal, IsShot, HasCornersWithinReach, box_width}
+use Rattle.half_grid.specs.Trapezoids.{Trapezoid, IsShot, box_width}
 use Rattle.half_grid.specs.declared.plane.Line.{Line}
 use Rattle.fracture.specs.Limits.{AreLimits}
-use Rattle.fracture.specs.Cutting.{height_of, least_left, below, from_row, left_part, right_part, lowest_rows, rows_above, cut_at, leftmost_part, part_beyond}
+use Rattle.fracture.specs.Cutting.{height_of, least_left, below, from_row, lowest_rows, rows_above, cut_at, leftmost_part, part_beyond}
 use Rattle.fracture.proofs.CutNumbers.{x_between, x_steps, wide_inside, IsCut, cut_numbers}
 
 -- what is within reach fits 64 bits

@@ -1,13 +1,11 @@
 -- The two cuttings as parts cut off one after the other: what is left gets smaller, and the cuts are enough.
-use Rattle.std.proofs.Common.{◌≡◌, ℕ, zero, suc, ◌<◌, ◌≤◌, ◌^◌, Bool, true, false, ℤ, pos, negsuc, ◌+ℤ◌, ◌-ℤ◌, ◌≤ℤ◌, ◌<ℤ◌, List, [], ◌∷◌, arith, refl}
+use Rattle.std.proofs.Common.{◌≡◌, ℕ, ◌<◌, ◌≤◌, ◌^◌, true, false, ℤ, pos, negsuc, ◌≤ℤ◌, ◌<ℤ◌, List, [], ◌∷◌, arith}
 use Rattle.std.proofs.lemmas.Int.{ints, clamps}
 use Rattle.std.specs.Prelude.{int_le}
-use Rattle.half_grid.specs.Lines.{x_on}
 use Rattle.half_grid.specs.Trapezoids.{Trapezoid, IsShot, box_width}
 use Rattle.half_grid.proofs.ForCallers.{le_yes, le_no}
 use Rattle.fracture.specs.Limits.{AreLimits}
-use Rattle.fracture.specs.Cutting.{height_of, least_left, cut_off, enough_cuts, is_low, lowest_rows, rows_above, cut_by_height, is_narrow, cut_at, leftmost_part, part_beyond, cut_by_width}
-use Rattle.fracture.proofs.CutNumbers.{IsCut}
+use Rattle.fracture.specs.Cutting.{height_of, enough_cuts, is_low, lowest_rows, rows_above, cut_by_height, is_narrow, leftmost_part, part_beyond, cut_by_width}
 use Rattle.fracture.proofs.PartLemmas.{IsLow, above_is_shot, beyond_is_low, cut_is}
 use Rattle.fracture.proofs.Offcuts.{Shrinks, whole, first_part, of_parts}
 

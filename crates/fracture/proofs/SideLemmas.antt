@@ -1,5 +1,5 @@
 -- The two sides of a shot: each is a side of its trapezoid, or a cut, beside which the trapezoid goes on.
-use Rattle.std.proofs.Common.{◌≡◌, ℤ, pos, ◌+ℤ◌, ◌≤ℤ◌, ◌<ℤ◌, List, [], ◌∷◌, All, arith, refl, sym, ap, ◌∙◌}
+use Rattle.std.proofs.Common.{◌≡◌, ℤ, pos, ◌+ℤ◌, ◌≤ℤ◌, ◌<ℤ◌, [], All, arith, refl, ap}
 use Rattle.std.proofs.lemmas.Int.{ints}
 use Rattle.std.proofs.lemmas.List.Elements.{All-nil, All-cons, All-contains, All-weaker}
 use Rattle.std.specs.List.{Contains}
@@ -9,7 +9,7 @@ use Rattle.half_grid.specs.Trapezoids.{Trapezoid, IsInTrapezoid, box_width}
 use Rattle.half_grid.specs.declared.plane.Tile.{Tile}
 use Rattle.half_grid.proofs.ForCallers.{legal_places, in_by_number}
 use Rattle.fracture.specs.Limits.{AreLimits}
-use Rattle.fracture.specs.Cutting.{cut_at, leftmost_part, part_beyond, cut_by_width}
+use Rattle.fracture.specs.Cutting.{leftmost_part, part_beyond, cut_by_width}
 use Rattle.fracture.proofs.PartLemmas.{IsLow, beyond_is_low}
 use Rattle.fracture.proofs.Recursions.{of_widths}
 use Rattle.fracture.proofs.TileLemmas.{cut_right_of_left, cut_left_of_right, beyond_in}

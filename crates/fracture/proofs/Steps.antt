@@ -1,13 +1,13 @@
 -- One call on what is in hand: the first shot, and those that are left.
-use Rattle.std.proofs.Common.{◌≡◌, ℕ, ◌+◌, ◌*◌, ◌≤◌, arith, mul-suc, mul-le-mul_left, Bool, true, false, ℤ, ◌≤ℤ◌, ◌<ℤ◌, List, [], ◌∷◌, ◌++◌, Option, Some, None, refl, ap, ◌∙◌, sym, append_assoc}
+use Rattle.std.proofs.Common.{◌≡◌, ℕ, ◌+◌, ◌*◌, ◌≤◌, arith, mul-suc, mul-le-mul_left, ℤ, ◌≤ℤ◌, ◌<ℤ◌, List, [], ◌∷◌, ◌++◌, Option, Some, None, refl, ap, ◌∙◌, sym}
 use Rattle.std.proofs.lemmas.Int.{by_lt_z}
 use Rattle.half_grid.specs.Trapezoids.{Trapezoid, IsShot, box_width}
 use Rattle.half_grid.specs.declared.shot.Limits.{Limits}
 use Rattle.fracture.specs.Limits.{AreLimits}
-use Rattle.fracture.specs.Cutting.{height_of, lowest_rows, rows_above, leftmost_part, part_beyond, cut_by_height, cut_by_width, cut_list}
+use Rattle.fracture.specs.Cutting.{height_of, lowest_rows, rows_above, leftmost_part, part_beyond, cut_by_width, cut_list}
 use Rattle.fracture.specs.Cuts.{shots_of_piece, shots_of_rows, most_shots}
 use Rattle.fracture.specs.declared.parts.Cut.{Cut}
-use Rattle.fracture.proofs.PartLemmas.{IsLow, lowest_is_low}
+use Rattle.fracture.proofs.PartLemmas.{IsLow}
 use Rattle.fracture.proofs.Recursions.{low_is_one, lowest_first, narrow_is_one, leftmost_first}
 
 -- a part that was cut off, and what is left

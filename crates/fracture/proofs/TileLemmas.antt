@@ -1,18 +1,17 @@
 -- The tiles of a trapezoid that is cut in two, by height or by width: each is in just one of the two parts.
-use Rattle.std.proofs.Common.{◌≡◌, ℕ, ◌+◌, Bool, true, false, ℤ, pos, ◌+ℤ◌, ◌-ℤ◌, ◌≤ℤ◌, ◌<ℤ◌, List, [], ◌∷◌, ◌++◌, arith, refl, sym, ap, ◌∙◌}
+use Rattle.std.proofs.Common.{◌≡◌, ℕ, ◌+◌, Bool, true, false, ℤ, pos, ◌+ℤ◌, ◌-ℤ◌, ◌≤ℤ◌, ◌<ℤ◌, List, [], ◌∷◌, ◌++◌, arith, refl, ◌∙◌}
 use Rattle.std.proofs.lemmas.Int.{ints, by_lt_z}
 use Rattle.std.proofs.lemmas.List.Sums.{sum_by-append}
 use mathlib.Core.Logic.{◌⊎◌, inl, inr}
 use Rattle.half_grid.specs.Rows.{place, number_in_row}
-use Rattle.half_grid.specs.LineLaws.{HasNumberBetween}
 use Rattle.half_grid.specs.Winding.{count_one}
 use Rattle.half_grid.specs.Trapezoids.{Trapezoid, IsInTrapezoid, box_width, trapezoid_has, count_in}
 use Rattle.half_grid.specs.declared.plane.Tile.{Tile}
 use Rattle.half_grid.proofs.ForCallers.{has_in, in_has, number_between, in_by_number, count_by-cons}
 use Rattle.fracture.specs.Limits.{AreLimits}
-use Rattle.fracture.specs.Cutting.{height_of, below, from_row, left_part, right_part, lowest_rows, rows_above, cut_at, leftmost_part, part_beyond}
-use Rattle.fracture.proofs.CutNumbers.{place_above, place_below, IsCut}
-use Rattle.fracture.proofs.PartLemmas.{IsLow, inside, cut_is}
+use Rattle.fracture.specs.Cutting.{below, from_row, cut_at, leftmost_part, part_beyond}
+use Rattle.fracture.proofs.CutNumbers.{place_above, place_below}
+use Rattle.fracture.proofs.PartLemmas.{IsLow, cut_is}
 
 -- a and b together have the tiles of z, each once
 pub record IsSplit (z a b : Trapezoid) (t : Tile) : Type 0 where

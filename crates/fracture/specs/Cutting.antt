@@ -6,9 +6,9 @@
 -- lo + width and r: the part on the left is a shot, and the rule is applied to the part on the right.
 --
 -- The rule is this project's own. A mask writer asks for trapezoids no larger than its limits.
-use Rattle.std.specs.Prelude.{ℕ, zero, suc, ℤ, pos, ◌^◌, ◌+ℤ◌, ◌-ℤ◌, Bool, if◌then◌else◌, int_le, List, [], ◌∷◌}
+use Rattle.std.specs.Prelude.{ℕ, zero, suc, ℤ, ◌^◌, ◌+ℤ◌, ◌-ℤ◌, Bool, if◌then◌else◌, int_le, List, [], ◌∷◌}
 use Rattle.std.specs.List.{flat_map}
-use Rattle.std.specs.Int.{int_min, int_max}
+use Rattle.std.specs.Int.{int_min}
 use Rattle.half_grid.specs.Lines.{x_on}
 use Rattle.half_grid.specs.Trapezoids.{Trapezoid, trapezoid, box_width}
 use Rattle.half_grid.specs.declared.plane.Line.TheVariants.{Upright}

@@ -1,6 +1,6 @@
 -- Proofs of the laws of the stream of shots: it stands for one list, which is no longer than its size, and its size is
 -- bounded. Lemmas alone stand here, no definition.
-use Rattle.std.proofs.Common.{◌≡◌, ℕ, zero, suc, ◌+◌, ◌*◌, ◌≤◌, Bool, true, false, cond, ℤ, List, [], ◌∷◌, ◌++◌, length, Option, Some, None, refl, ap, sym, ◌∙◌, arith, length-append, mul-suc, mul-le-mul_left}
+use Rattle.std.proofs.Common.{◌≡◌, ℕ, zero, suc, ◌+◌, ◌*◌, ◌≤◌, Bool, true, false, cond, ℤ, List, [], ◌∷◌, length, Option, Some, None, ap, arith, length-append, mul-suc, mul-le-mul_left}
 use Rattle.std.specs.List.{flat_map}
 use Rattle.half_grid.specs.Trapezoids.{Trapezoid}
 use Rattle.fracture.specs.declared.cuts.InHand.{InHand}

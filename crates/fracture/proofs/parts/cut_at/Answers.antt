@@ -1,4 +1,4 @@
-use Rattle.std.proofs.Common.{rules, ◌≡◌, ◌+ℤ◌, FitsSigned, w64, refl}
+use Rattle.std.proofs.Common.{rules, ◌+ℤ◌, FitsSigned, w64, refl}
 use Rattle.std.proofs.lemmas.Int.{to_z-of_z}
 use Rattle.fracture.proofs.PartLemmas.{wide_fits}
 use Rattle.fracture.proofs.parts.cut_at.Goals as goal

@@ -1,7 +1,6 @@
-use Rattle.std.proofs.Common.{rules, arith, pos, ◌≡◌, ◌+ℤ◌, ◌-ℤ◌, ◌<ℤ◌, ◌≤ℤ◌, FitsSigned, w64, refl, ap}
+use Rattle.std.proofs.Common.{rules, arith, ◌+ℤ◌, ◌<ℤ◌, FitsSigned, w64, ap}
 use Rattle.std.proofs.lemmas.Int.{ints, to_z-of_z}
-use Rattle.half_grid.specs.Trapezoids.{IsShot, trapezoid}
-use Rattle.fracture.specs.Cutting.{height_of, lowest_rows, rows_above}
+use Rattle.fracture.specs.Cutting.{height_of}
 use Rattle.fracture.proofs.PartLemmas.{reach_fits, inside_reach, lowest_is_low, above_is_shot}
 use Rattle.fracture.proofs.parts.cut_by_height.Goals as goal
 

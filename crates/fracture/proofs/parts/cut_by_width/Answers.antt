@@ -1,4 +1,4 @@
-use Rattle.std.proofs.Common.{rules, arith, ◌≡◌, ◌-ℤ◌, ◌<ℤ◌, ◌≤ℤ◌, FitsSigned, w64, ap}
+use Rattle.std.proofs.Common.{rules, arith, ◌<ℤ◌, ◌≤ℤ◌, FitsSigned, w64, ap}
 use Rattle.std.proofs.lemmas.Int.{ints, to_z-of_z}
 use Rattle.half_grid.specs.Trapezoids.{box_width}
 use Rattle.fracture.specs.Cutting.{height_of}

@@ -1,5 +1,4 @@
-use Rattle.std.proofs.Common.{◌≡◌, ◌+◌, ◌≤◌, length, ap, arith}
-use Rattle.fracture.specs.Cutting.{cut_list}
+use Rattle.std.proofs.Common.{◌+◌, ◌≤◌, length, ap, arith}
 use Rattle.fracture.specs.Cuts.{shots_in_hand, most_shots}
 use Rattle.fracture.specs.StreamLaws.{length-cut_list}
 use Rattle.fracture.proofs.Steps.{room}
