@@ -1,11 +1,13 @@
 -- One call on what is in hand: the first shot, and those that are left.
-use Rattle.std.proofs.Common.{◌≡◌, ℕ, ◌+◌, ◌*◌, ◌≤◌, arith, mul-suc, mul-le-mul_left, ℤ, ◌≤ℤ◌, ◌<ℤ◌, List, [], ◌∷◌, ◌++◌, Option, Some, None, refl, ap, ◌∙◌, sym}
+use Rattle.std.proofs.Common.{subst, ◌-ℤ◌, ◌≡◌, ℕ, ◌+◌, ◌*◌, ◌≤◌, arith, mul-suc, mul-le-mul_left, ℤ, ◌≤ℤ◌, ◌<ℤ◌, List, [], ◌∷◌, ◌++◌, Option, Some, None, refl, ap, ◌∙◌, sym}
 use Rattle.std.proofs.lemmas.Int.{by_lt_z}
-use Rattle.half_grid.specs.Trapezoids.{Trapezoid, IsShot, box_width}
+use Rattle.half_grid.specs.Trapezoids.{Trapezoid, trapezoid, IsShot, box_width}
 use Rattle.half_grid.specs.declared.shot.Limits.{Limits}
 use Rattle.fracture.specs.Limits.{AreLimits}
 use Rattle.fracture.specs.Cutting.{height_of, lowest_rows, rows_above, leftmost_part, part_beyond, cut_by_width, cut_list}
-use Rattle.fracture.specs.Cuts.{shots_of_piece, shots_of_rows, most_shots}
+use Rattle.std.specs.Option.{ForSome}
+use Rattle.fracture.specs.declared.cuts.Rest.{Rest}
+use Rattle.fracture.specs.Cuts.{trap_of, shots_of_piece, shots_of_rows, most_shots}
 use Rattle.fracture.specs.declared.parts.Cut.{Cut}
 use Rattle.fracture.proofs.PartLemmas.{IsLow}
 use Rattle.fracture.proofs.Recursions.{low_is_one, lowest_first, narrow_is_one, leftmost_first}
@@ -49,3 +51,10 @@ pub room : (hand before after : ℕ) → hand + 1 ≤ most_shots → after + 1 �
 room hand before after h k =
     let products : most_shots * (after + 1) ≤ most_shots * before = mul-le-mul_left most_shots k in
     omega (arith, products, mul-suc most_shots after, h)
+
+-- what is kept is as high as the rest of the cut
+pub kept_low : (height : ℤ) (kept : Option Rest) (rest : Option Trapezoid) → trap_of kept ≡ rest → ForSome rest (λ z. height_of z ≤ℤ height) → ForSome kept (λ z. (z.y1 -ℤ z.y0) ≤ℤ height)
+kept_low height None rest e low z is = absurd cc
+kept_low height (Some part) rest e low z is =
+    let same : part ≡ z = cc in
+    subst (λ (v : Rest). (v.y1 -ℤ v.y0) ≤ℤ height) same (low (trapezoid part.y0 part.y1 part.left part.right) (sym e))

@@ -1,8 +1,9 @@
 -- What a stream of shots stands for: the shots of what is in hand of one trapezoid, and then those of each trapezoid
 -- that the source still gives. In hand are a piece, whose shots come first, and the rows above it.
 use Rattle.std.specs.Prelude.{◌≡◌, ℕ, suc, ◌*◌, ℤ, List, [], ◌++◌, Option, Some, None}
-use Rattle.half_grid.specs.Trapezoids.{Trapezoid}
+use Rattle.half_grid.specs.Trapezoids.{Trapezoid, trapezoid}
 use Rattle.fracture.specs.declared.cuts.InHand.{InHand}
+use Rattle.fracture.specs.declared.cuts.Rest.{Rest}
 use Rattle.fracture.specs.Cutting.{cut_by_width, cut_list, shots_of, enough_cuts}
 
 -- the shots of a piece and of the rows above it, where there are such
@@ -14,8 +15,13 @@ abbrev pub shots_of_rows : ℤ → ℤ → Option Trapezoid → List Trapezoid
 shots_of_rows height width None = []
 shots_of_rows height width (Some rows) = cut_list height width rows
 
+-- what is kept to be cut, as a trapezoid
+abbrev pub trap_of : Option Rest → Option Trapezoid
+trap_of None = None
+trap_of (Some rest) = Some (trapezoid rest.y0 rest.y1 rest.left rest.right)
+
 abbrev pub shots_in_hand : InHand → List Trapezoid
-shots_in_hand hand = shots_of_piece hand.limits.width hand.piece ++ shots_of_rows hand.limits.height hand.limits.width hand.above
+shots_in_hand hand = shots_of_piece hand.limits.width (trap_of hand.piece) ++ shots_of_rows hand.limits.height hand.limits.width (trap_of hand.above)
 
 -- No trapezoid has more shots than this.
 unfoldable pub most_shots : ℕ

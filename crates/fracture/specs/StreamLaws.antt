@@ -5,7 +5,7 @@ use Rattle.std.specs.List.{flat_map}
 use Rattle.half_grid.specs.Trapezoids.{Trapezoid}
 use Rattle.fracture.specs.declared.cuts.InHand.{InHand}
 use Rattle.fracture.specs.Cutting.{cut_off, cut_by_height, cut_by_width, cut_list, shots_of, enough_cuts}
-use Rattle.fracture.specs.Cuts.{shots_of_piece, shots_of_rows, shots_in_hand, most_shots, StandsForCuts}
+use Rattle.fracture.specs.Cuts.{trap_of, shots_of_piece, shots_of_rows, shots_in_hand, most_shots, StandsForCuts}
 
 -- one part more than cuts at most
 one_more : (b : Bool) (z part : Trapezoid) (parts : List Trapezoid) (n : ℕ) → length parts ≤ n → length (cond b (z ∷ []) (part ∷ parts)) ≤ suc n
@@ -42,7 +42,7 @@ length-rows height width (Some z) = length-cut_list height width z
 
 length-in_hand : (hand : InHand) → length (shots_in_hand hand) ≤ suc enough_cuts + most_shots
 length-in_hand hand =
-    omega (arith, length-append (shots_of_piece hand.limits.width hand.piece) (shots_of_rows hand.limits.height hand.limits.width hand.above), length-piece hand.limits.width hand.piece, length-rows hand.limits.height hand.limits.width hand.above)
+    omega (arith, length-append (shots_of_piece hand.limits.width (trap_of hand.piece)) (shots_of_rows hand.limits.height hand.limits.width (trap_of hand.above)), length-piece hand.limits.width (trap_of hand.piece), length-rows hand.limits.height hand.limits.width (trap_of hand.above))
 
 module _ {S : Type 0} {source_for : S → List Trapezoid → Type 0} where
   pub Cuts-one_list : ((s : S) (xs ys : List Trapezoid) → source_for s xs → source_for s ys → xs ≡ ys)

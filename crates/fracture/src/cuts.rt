@@ -2,36 +2,78 @@
 ghost use Rattle.std.specs.Prelude.{◌≡◌, ◌+◌, ◌*◌, ◌≤ℤ◌, ◌-ℤ◌, suc, [], ◌∷◌, List, MatchOption, length};
 ghost use Rattle.std.specs.Option.{ForSome};
 ghost use Rattle.geo_stream.specs.Stream.{HasList};
-ghost use Rattle.half_grid.specs.Trapezoids.{Trapezoid};
+ghost use Rattle.half_grid.specs.Trapezoids.{Trapezoid, IsShot, trapezoid};
 ghost use Rattle.fracture.specs.Limits.{AreLimits};
 
-use crate::parts::{cut_by_height, cut_by_width};
+use crate::parts::{cut_by_height, cut_by_width, legal};
 use geo_stream::Stream;
-use half_grid::{Limits, Trap};
+use half_grid::{Limits, Line, Trap};
+
+// A part of a trapezoid that is still to be cut, by its numbers alone: a generic function takes by value no stream that
+// has a field of a type with a model.
+#[derive(Clone, Copy, Debug)]
+struct Rest {
+    y0: i64,
+    y1: i64,
+    left: Line,
+    right: Line,
+    ghost shot: { IsShot (trapezoid y0 y1 left right) },
+}
+
+impl Rest {
+    ghost use Rattle.fracture.specs.Cuts.{trap_of};
+
+    fn of(trap: Trap) -> Rest
+        ensures { trapezoid result.y0 result.y1 result.left result.right ≡ trap }
+    {
+        Rest {
+            y0: trap.y0(),
+            y1: trap.y1(),
+            left: trap.left(),
+            right: trap.right(),
+        }
+    }
+
+    // The rest of a cut, to be kept.
+    fn of_some(rest: Option<Trap>) -> Option<Rest>
+        ensures { trap_of result ≡ rest }
+    {
+        match rest {
+            Some(trap) => Some(Rest::of(trap)),
+            None => None,
+        }
+    }
+
+    fn trap(self) -> Trap
+        ensures { result ≡ trapezoid self.y0 self.y1 self.left self.right }
+    {
+        legal(self.y0, self.y1, self.left, self.right)
+    }
+}
 
 // What is left of the trapezoid in hand: a piece that isn't higher than the limits, and the rows above it.
 #[derive(Clone, Copy, Debug)]
 struct InHand {
     limits: Limits,
-    piece: Option<Trap>,
-    above: Option<Trap>,
+    piece: Option<Rest>,
+    above: Option<Rest>,
     ghost within: { AreLimits limits.height limits.width },
     ghost low: { ForSome piece (λ z. (z.y1 -ℤ z.y0) ≤ℤ limits.height) },
 }
 
 impl InHand {
     ghost use Rattle.fracture.specs.Cutting.{height_of, cut_by_width as shots_of_low, cut_list};
-    ghost use Rattle.fracture.specs.Cuts.{shots_of_piece, shots_in_hand};
+    ghost use Rattle.fracture.specs.Cuts.{trap_of, shots_of_piece, shots_in_hand};
 
     // The first shot of a piece that isn't higher than the limits; what is left of the piece is in hand.
     fn cut_piece(&mut self, piece: Trap) -> Trap
         requires { height_of piece ≤ℤ self.old.limits.height }
-        ensures shots { shots_of_low self.old.limits.width piece ≡ result ∷ shots_of_piece self.old.limits.width self.new.piece }
+        ensures shots { shots_of_low self.old.limits.width piece ≡ result ∷ shots_of_piece self.old.limits.width (trap_of self.new.piece) }
         ensures above { self.new.above ≡ self.old.above }
         ensures limits { self.new.limits ≡ self.old.limits }
     {
         let cut = cut_by_width(&piece, &self.limits);
-        self.piece = cut.rest;
+        self.piece = Rest::of_some(cut.rest);
         cut.part
     }
 
@@ -41,7 +83,7 @@ impl InHand {
         ensures limits { self.new.limits ≡ self.old.limits }
     {
         let cut = cut_by_height(&trap, &self.limits);
-        self.above = cut.rest;
+        self.above = Rest::of_some(cut.rest);
         self.cut_piece(cut.part)
     }
 
@@ -52,10 +94,10 @@ impl InHand {
         ensures limits { self.new.limits ≡ self.old.limits }
     {
         if let Some(piece) = self.piece {
-            return Some(self.cut_piece(piece));
+            return Some(self.cut_piece(piece.trap()));
         }
         if let Some(rows) = self.above {
-            return Some(self.cut_trap(rows));
+            return Some(self.cut_trap(rows.trap()));
         }
         None
     }

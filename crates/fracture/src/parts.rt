@@ -14,8 +14,8 @@ pub(crate) struct Cut {
     pub(crate) rest: Option<Trap>,
 }
 
-// The trapezoid of these four parts, which is known to be legal and within reach.
-fn legal(y0: i64, y1: i64, left: Line, right: Line) -> Trap
+/// The trapezoid of these four parts, which is known to be legal and within reach.
+pub(crate) fn legal(y0: i64, y1: i64, left: Line, right: Line) -> Trap
     requires { IsShot (trapezoid y0 y1 left right) }
     ensures { result ≡ trapezoid y0 y1 left right }
 {

@@ -1,9 +1,8 @@
 //! The shots of trapezoids, worked out by hand, and their tiles.
 ghost use Rattle.fracture.specs.Limits.{AreLimits};
-ghost use Rattle.geo_stream.specs.Stream.{HasList};
 
 use crate::{Cuts, cut_laws};
-use geo_stream::{FromSlice, Stream};
+use geo_stream::{FromSlice, Stream, gather};
 use half_grid::{Limits, Line, REACH, Side, Tile, Trap, covers, fits};
 use std::alloc::Global;
 use std::process::Abort;
@@ -12,22 +11,10 @@ fn trap(rt: &impl Abort, y0: i64, y1: i64, left: Line, right: Line) -> Trap {
     Trap::new(y0, y1, left, right).expect(rt, "a legal trapezoid")
 }
 
-// The items of a stream.
-fn taken<S: Stream<Item = Trap>>(rt: &impl Abort, alloc: Global, stream: &mut S) -> Vec<Trap>
-    requires { HasList S.stands_for stream.old }
-{
-    let mut items = Vec::new(alloc);
-    while let Some(item) = stream.next() {
-        assert!(rt; items.push(item).is_ok(), "memory");
-    }
-    items
-}
-
 fn shots(rt: &impl Abort, alloc: Global, traps: &[Trap], limits: Limits) -> Vec<Trap>
     requires { AreLimits limits.height limits.width }
 {
-    let mut cuts = Cuts::new(FromSlice::new(traps), limits);
-    taken(rt, alloc, &mut cuts)
+    gather(alloc, Cuts::new(FromSlice::new(traps), limits)).expect(rt, "memory")
 }
 
 // A shot by its rows and corners: y0, y1, bottom left, bottom right, top left, top right.

@@ -1,3 +1,5 @@
+use Rattle.std.proofs.Common.{◌∙◌, ap}
+use Rattle.fracture.specs.Cuts.{trap_of}
 use Rattle.fracture.proofs.Steps.{trap_step, begun}
 use Rattle.fracture.proofs.cuts.InHand.cut_trap.Goals as goal
 
@@ -7,4 +9,4 @@ returns-clause-shots c =
     let cut = c.cut_by_height-cut in
     let list = trap_step hand.limits.height hand.limits.width hand.within c.args.trap cut.result cut.ensures.shot cut.ensures.whole cut.ensures.cut in
     let first = c.cut_piece.ensures in
-    begun hand.limits _ _ _ _ _ _ _ list first.shots first.above first.limits
+    begun hand.limits _ _ _ _ _ _ _ list first.shots (ap trap_of first.above ∙ c.of_some-self.ensures) first.limits
