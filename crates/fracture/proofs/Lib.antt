@@ -1,0 +1,14 @@
+pub mod Offcuts
+pub mod CutNumbers
+pub mod PartLemmas
+pub mod Recursions
+pub mod Steps
+pub mod TileLemmas
+pub mod CutLemmas
+pub mod Members
+pub mod EconomyLemmas
+pub mod Counts
+pub mod SideLemmas
+pub mod JoinedEconomy
+pub mod Bands
+pub mod ForCallers
