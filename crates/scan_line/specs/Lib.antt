@@ -1,0 +1,4 @@
+pub mod Rules
+pub mod Stops
+pub mod Runs
+pub mod Scans

@@ -1,0 +1,12 @@
+//! The scan line: edges swept upward from stop to stop, and the runs of tiles that a rule takes between them.
+//!
+//! Numbers are half units.
+#![tactic(auto)]
+
+mod rule;
+mod runs;
+mod scan;
+
+pub use rule::Rule;
+pub use runs::{Run, Slab};
+pub use scan::Scan;
