@@ -1,4 +1,6 @@
 pub mod Rules
 pub mod Stops
 pub mod Runs
+pub mod Actives
+pub mod Turns
 pub mod Scans

@@ -3,9 +3,17 @@
 //! Numbers are half units.
 #![tactic(auto)]
 
+mod filling;
+mod order;
 mod rule;
 mod runs;
 mod scan;
+mod starts;
+mod stops;
+mod sums;
+mod sweep;
+#[cfg(test)]
+mod tests;
 
 pub use rule::Rule;
 pub use runs::{Run, Slab};

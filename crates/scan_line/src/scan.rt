@@ -4,8 +4,10 @@ ghost use Rattle.scan_line.specs.Rules.{IsRule};
 ghost use Rattle.scan_line.specs.Stops.{IsSlab};
 ghost use Rattle.scan_line.specs.Runs.{IsBalanced, AreRunsOfSlab};
 
+use crate::filling::fill;
 use crate::rule::Rule;
 use crate::runs::{Run, Slab};
+use crate::sweep::Sweep;
 use geo_stream::NoMemory;
 use half_grid::{Edge, Window};
 use std::alloc::Global;
@@ -15,11 +17,8 @@ use std::marker::Model;
 #[derive(Drop)]
 pub struct Scan<F> {
     rule: Rule<F>,
-    edges: Vec<Edge>,
-    window: Window,
-    y: i64,
+    sweep: Sweep,
     runs: Vec<Run>,
-    walked: u64,
 }
 
 impl<F> Model for Scan<F> {
@@ -27,7 +26,7 @@ impl<F> Model for Scan<F> {
 
     ghost Value = { ScanState F };
 
-    ghost view = { λ scan. record { rule = scan.rule; edges = scan.edges.items; window = scan.window; y = scan.y; runs = scan.runs.items; walked = scan.walked } };
+    ghost view = { λ scan. record { rule = scan.rule; edges = scan.sweep.edges; window = scan.sweep.window; y = scan.sweep.y; runs = scan.runs.items; walked = scan.sweep.walked } };
 }
 
 impl<F: Fn(i128, i128) -> bool> Scan<F> {
@@ -42,7 +41,9 @@ impl<F: Fn(i128, i128) -> bool> Scan<F> {
         ensures no_runs { IfOk result (λ scan. scan.runs ≡ []) }
         ensures idle { IfOk result (λ scan. scan.walked ≡ 0) }
     {
-        Ok(Scan { rule, edges, window, y: window.y0(), runs: Vec::new(alloc), walked: 0 })
+        let runs = Vec::with_capacity(alloc, edges.len())?;
+        let sweep = Sweep::new(alloc, edges, window)?;
+        Ok(Scan { rule, sweep, runs })
     }
 
     /// The next slab, of which `runs` then lends the runs. None exactly where the slab of each two consecutive stops
@@ -61,7 +62,16 @@ impl<F: Fn(i128, i128) -> bool> Scan<F> {
         ensures edges { self.new.edges ≡ self.old.edges }
         ensures window { self.new.window ≡ self.old.window }
     {
-        None
+        match self.sweep.next() {
+            Some(slab) => {
+                fill(&mut self.runs, self.sweep.active(), &self.rule);
+                Some(slab)
+            }
+            None => {
+                self.runs.clear();
+                None
+            }
+        }
     }
 
     /// The runs of the slab that the last call of `next` gave, from left to right. Before the first such call, and
@@ -76,6 +86,6 @@ impl<F: Fn(i128, i128) -> bool> Scan<F> {
     pub fn walked(&self) -> u64
         ensures { result ≡ self.now.walked }
     {
-        self.walked
+        self.sweep.walked()
     }
 }
