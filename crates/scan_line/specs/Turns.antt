@@ -5,6 +5,7 @@ use Rattle.std.specs.Prelude.{ℤ, ◌≤ℤ◌, ◌<ℤ◌, ◌≡◌, ◌≢�
 use Rattle.std.specs.List.{Contains}
 use Rattle.half_grid.specs.Edges.{EdgeParts}
 use Rattle.half_grid.specs.Meetings.{MeetAt}
+use Rattle.scan_line.specs.declared.runs.Slab.{Slab}
 
 -- strictly between the two Y the edges meet nowhere, unless they lie on one line
 abbrev pub DoNotMeet : ℤ → ℤ → EdgeParts → EdgeParts → Type 0
@@ -38,3 +39,9 @@ pub record SomeMeetAt (edges : List EdgeParts) (y : ℤ) : Type 0 where
 -- the Y is `limit`, or the order of the edges may change at it
 abbrev pub IsTurn : List EdgeParts → ℤ → ℤ → Type 0
 IsTurn edges limit y = (y ≡ limit) ⊎ SomeEndsAt edges y ⊎ SomeMeetAt edges y
+
+-- rows from the same bottom, none of them above the slab's top
+pub record IsLower (slab rows : Slab) : Type 0 where
+  pub bottom : rows.y0 ≡ slab.y0
+  pub has_rows : rows.y0 <ℤ rows.y1
+  pub top : rows.y1 ≤ℤ slab.y1
