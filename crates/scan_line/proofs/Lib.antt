@@ -1,3 +1,5 @@
 pub mod Reaches
 pub mod Orders
 pub mod Turning
+pub mod RuleLemmas
+pub mod RowWindings
