@@ -3,3 +3,5 @@ pub mod Orders
 pub mod Turning
 pub mod RuleLemmas
 pub mod RowWindings
+pub mod RowRuns
+pub mod FillLemmas
