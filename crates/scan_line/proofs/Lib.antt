@@ -5,3 +5,5 @@ pub mod RuleLemmas
 pub mod RowWindings
 pub mod RowRuns
 pub mod FillLemmas
+pub mod Keeping
+pub mod Starting

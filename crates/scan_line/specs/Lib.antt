@@ -4,5 +4,7 @@ pub mod Runs
 pub mod Actives
 pub mod Turns
 pub mod Windings
+pub mod Sweeps
+pub mod Starts
 pub mod OpenRuns
 pub mod Scans
