@@ -7,3 +7,5 @@ pub mod RowRuns
 pub mod FillLemmas
 pub mod Keeping
 pub mod Starting
+pub mod Crossing
+pub mod Stopping

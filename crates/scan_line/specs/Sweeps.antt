@@ -1,7 +1,7 @@
 -- What a sweep keeps from slab to slab.
 use Rattle.std.specs.Prelude.{ℕ, ℤ, ◌≡◌, ◌≤◌, ◌≤ℤ◌, ◌<ℤ◌, List, [], ◌∷◌, ◌++◌, All, IsPermutation, length, drop}
 use Rattle.std.specs.List.{Contains}
-use Rattle.half_grid.specs.Edges.{EdgeParts}
+use Rattle.half_grid.specs.Edges.{EdgeParts, IsEdge}
 use Rattle.half_grid.specs.Windows.{RowRange}
 use Rattle.scan_line.specs.Stops.{IsStop}
 
@@ -39,6 +39,7 @@ pub record SomeStartsAt (edges : List EdgeParts) (y : ℤ) : Type 0 where
 -- The sweep stands at a stop. The edges of the last slab and those that begin at the stop or above it are all but some
 -- that ended, and there is room for all.
 pub record IsSweep (edges : List EdgeParts) (window : RowRange) (y : ℤ) (begun : ℕ) (active : List EdgeParts) (room spare : ℕ) : Type 0 where
+  pub are_edges : All IsEdge edges
   pub stop : IsStop edges window y
   pub above_bottom : window.y0 ≤ℤ y
   pub below_top : y ≤ℤ window.y1
