@@ -9,3 +9,4 @@ pub mod Keeping
 pub mod Starting
 pub mod Crossing
 pub mod Stopping
+pub mod Transport

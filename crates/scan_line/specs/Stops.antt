@@ -3,7 +3,7 @@
 -- A stop is an end of the window, or a Y inside it where an edge ends, or where two edges of different lines that span
 -- the rows on both sides of Y meet. A slab is the rows from one stop up to below the next. In all rows of a slab the
 -- same edges stand in the same order.
-use Rattle.std.specs.Prelude.{ℤ, pos, ◌-ℤ◌, ◌<ℤ◌, ◌≡◌, ◌≢◌, ◌⊎◌, IsTrue, List, Any}
+use Rattle.std.specs.Prelude.{ℤ, pos, ◌-ℤ◌, ◌≤ℤ◌, ◌<ℤ◌, ◌≡◌, ◌≢◌, ◌⊎◌, IsTrue, List, Any}
 use Rattle.std.specs.List.{Contains}
 use Rattle.half_grid.specs.Edges.{EdgeParts, spans}
 use Rattle.half_grid.specs.Meetings.{MeetAt}
@@ -50,3 +50,8 @@ pub record IsSlab (edges : List EdgeParts) (window : RowRange) (slab : RowRange)
   pub top : IsStop edges window slab.y1
   pub has_rows : slab.y0 <ℤ slab.y1
   pub none_between : (y : ℤ) → slab.y0 <ℤ y → y <ℤ slab.y1 → IsStop edges window y → ⊥
+
+-- the slab's rows are rows of the window
+pub record IsWithin (window slab : RowRange) : Type 0 where
+  pub bottom : window.y0 ≤ℤ slab.y0
+  pub top : slab.y1 ≤ℤ window.y1

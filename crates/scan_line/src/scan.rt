@@ -1,7 +1,7 @@
 ghost use Rattle.std.specs.Prelude.{◌≡◌, ◌<ℤ◌, [], IfOk, IfSome, IfNone, IsSome, IsPermutation};
 ghost use Rattle.half_grid.specs.Windows.{row_range};
 ghost use Rattle.scan_line.specs.Rules.{IsRule};
-ghost use Rattle.scan_line.specs.Stops.{IsSlab};
+ghost use Rattle.scan_line.specs.Stops.{IsSlab, IsWithin};
 ghost use Rattle.scan_line.specs.Runs.{IsBalanced, AreRunsOfSlab};
 
 use crate::filling::fill;
@@ -22,11 +22,14 @@ pub struct Scan<F> {
 }
 
 impl<F> Model for Scan<F> {
-    ghost use Rattle.scan_line.specs.Scans.{ScanState};
+    ghost use Rattle.std.specs.Prelude.{vec_capacity};
+    ghost use Rattle.scan_line.specs.Scans.{ScanState, HasRoomAndBalance};
 
     ghost Value = { ScanState F };
 
     ghost view = { λ scan. record { rule = scan.rule; edges = scan.sweep.edges; window = scan.sweep.window; y = scan.sweep.y; runs = scan.runs.items; walked = scan.sweep.walked } };
+
+    ghost invariant = { λ scan. HasRoomAndBalance scan.sweep.edges scan.sweep.window (vec_capacity scan.runs) };
 }
 
 impl<F: Fn(i128, i128) -> bool> Scan<F> {
@@ -51,6 +54,7 @@ impl<F: Fn(i128, i128) -> bool> Scan<F> {
     pub fn next(&mut self) -> Option<Slab>
         requires { IsRule (F.pre self.old.rule) (F.post self.old.rule) }
         ensures slab { IfSome result (λ slab. IsSlab self.old.edges self.old.window (row_range slab.y0 slab.y1)) }
+        ensures within { IfSome result (λ slab. IsWithin self.old.window (row_range slab.y0 slab.y1)) }
         ensures from { IfSome result (λ slab. slab.y0 ≡ self.old.y) }
         ensures to { IfSome result (λ slab. self.new.y ≡ slab.y1) }
         ensures runs { IfSome result (λ slab. AreRunsOfSlab (F.post self.old.rule) self.old.edges (row_range slab.y0 slab.y1) self.new.runs) }
