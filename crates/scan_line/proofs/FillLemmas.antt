@@ -1,5 +1,5 @@
 -- The pass over the edges of a row that fills in its runs, in all rows at once.
-use Rattle.std.proofs.Common.{ℕ, ℤ, pos, neg_ℤ, ◌≡◌, ◌+◌, ◌≤◌, ◌<◌, ◌^◌, ◌+ℤ◌, ◌-ℤ◌, ◌≤ℤ◌, ◌<ℤ◌, Bool, true, false, IsTrue, List, [], ◌∷◌, ◌++◌, All, Option, Some, None, cond, arith, refl, subst, sym, ◌∙◌, length}
+use Rattle.std.proofs.Common.{ℕ, ℤ, pos, neg_ℤ, ◌≡◌, ◌+◌, ◌≤◌, ◌<◌, ◌^◌, ◌+ℤ◌, ◌≤ℤ◌, Bool, true, false, IsTrue, List, [], ◌∷◌, ◌++◌, All, Option, Some, None, cond, arith, refl, subst, sym, length}
 use Rattle.std.specs.Prelude.{◌↔◌, IfSome}
 use Rattle.std.specs.List.{Contains}
 use Rattle.std.proofs.lemmas.Int.{ints}
@@ -10,7 +10,7 @@ use Rattle.half_grid.specs.declared.plane.Line.{Line}
 use Rattle.half_grid.specs.declared.border.Operand.{Operand}
 use Rattle.half_grid.specs.declared.border.Operand.TheVariants.{A, B}
 use Rattle.scan_line.specs.Actives.{AreInOrder}
-use Rattle.scan_line.specs.OpenRuns.{run_between, ended_at, open_after, ends_at}
+use Rattle.scan_line.specs.OpenRuns.{ended_at, open_after, ends_at}
 use Rattle.scan_line.specs.Rules.{IsRule, IsWinding, Takes}
 use Rattle.scan_line.specs.Runs.{AreRuns}
 use Rattle.scan_line.specs.Windings.{adds, BeginsOn, IsEven, IsLineOf, HasLinesOf}

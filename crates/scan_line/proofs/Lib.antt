@@ -10,3 +10,5 @@ pub mod Starting
 pub mod Crossing
 pub mod Stopping
 pub mod Transport
+pub mod Outlining
+pub mod OutlineWinding

@@ -1,5 +1,5 @@
 -- The runs of a row, from its edges from left to right.
-use Rattle.std.proofs.Common.{ℕ, ℤ, pos, ◌≡◌, ◌≢◌, ◌+◌, ◌<◌, ◌+ℤ◌, ◌≤ℤ◌, ◌<ℤ◌, ◌⊎◌, Bool, true, false, IsTrue, List, [], ◌∷◌, ◌++◌, All, Option, Some, None, arith, refl, inl, inr, ap, subst, sym, ◌∙◌, slice_index_or, length}
+use Rattle.std.proofs.Common.{ℤ, pos, ◌≡◌, ◌+ℤ◌, ◌≤ℤ◌, ◌<ℤ◌, ◌⊎◌, Bool, true, false, IsTrue, List, [], ◌∷◌, ◌++◌, All, Option, Some, None, arith, refl, inl, inr, ap, subst, sym}
 use Rattle.std.specs.Prelude.{◌↔◌, Any, IfSome}
 use Rattle.std.specs.List.{Contains}
 use Rattle.std.proofs.lemmas.Int.{ints, by_lt_z}
@@ -12,7 +12,7 @@ use Rattle.half_grid.specs.declared.plane.Line.{Line}
 use Rattle.half_grid.specs.declared.border.Operand.{Operand}
 use Rattle.half_grid.specs.declared.border.Operand.TheVariants.{A, B}
 use Rattle.half_grid.proofs.ForCallers.{places_differ}
-use Rattle.scan_line.specs.Actives.{SpansRow, AreInOrder, IsAscending}
+use Rattle.scan_line.specs.Actives.{SpansRow, AreInOrder}
 use Rattle.scan_line.specs.OpenRuns.{run_between, ended_at, open_after, ends_at}
 use Rattle.scan_line.specs.Rules.{IsRule, Takes}
 use Rattle.scan_line.specs.Runs.{RunHas, StandApart, HoldsWindings, IsTaken, AreRuns}
@@ -20,7 +20,7 @@ use Rattle.scan_line.specs.Windings.{adds, winding_of, BeginsOn}
 use Rattle.scan_line.specs.declared.runs.Run.{Run}
 use Rattle.scan_line.specs.declared.sums.Windings.{Windings}
 use Rattle.scan_line.proofs.RuleLemmas.{takes_no_nothing}
-use Rattle.scan_line.proofs.RowWindings.{part, part_right, winding_cons, winding_left}
+use Rattle.scan_line.proofs.RowWindings.{part_right, winding_cons, winding_left}
 
 -- all these edges stand further right than the tile's number, or than a place
 abbrev pub StandRight : ℤ → ℤ → List EdgeParts → Type 0

@@ -1,6 +1,5 @@
 -- The winding of the edges of a row at its tiles, edge by edge.
-use Rattle.std.proofs.Common.{ℕ, ℤ, pos, neg_ℤ, ◌≡◌, ◌+◌, ◌+ℤ◌, ◌-ℤ◌, ◌≤ℤ◌, ◌<ℤ◌, Bool, true, false, ◌&&◌, not, cond, List, [], ◌∷◌, All, count_by, arith, refl, ap, ◌∙◌}
-use Rattle.std.specs.Prelude.{int_le, int_lt}
+use Rattle.std.proofs.Common.{ℕ, ℤ, pos, neg_ℤ, ◌≡◌, ◌+◌, ◌+ℤ◌, ◌-ℤ◌, ◌≤ℤ◌, ◌<ℤ◌, Bool, true, false, ◌&&◌, not, cond, List, [], ◌∷◌, All, count_by, arith, refl, ◌∙◌}
 use Rattle.std.proofs.lemmas.Int.{ints}
 use Rattle.std.proofs.lemmas.List.Elements.{All-head, All-tail}
 use Rattle.half_grid.specs.Edges.{EdgeParts, spans, has_on_right, is_of, winds_up, winds_down, edges_winding}
@@ -8,9 +7,7 @@ use Rattle.half_grid.specs.Lines.{strip_along, first_strip}
 use Rattle.half_grid.specs.Rows.{number_in_row, place}
 use Rattle.half_grid.specs.Winding.{count_one}
 use Rattle.half_grid.specs.declared.plane.Tile.{Tile}
-use Rattle.half_grid.specs.declared.plane.Line.{Line}
 use Rattle.half_grid.specs.declared.border.Operand.{Operand}
-use Rattle.half_grid.specs.declared.border.Operand.TheVariants.{A, B}
 use Rattle.half_grid.proofs.ForCallers.{count_by-cons, right_by_place, left_by_place, le_yes, le_no}
 use Rattle.scan_line.specs.Actives.{SpansRow}
 use Rattle.scan_line.specs.Windings.{adds, IsEven}

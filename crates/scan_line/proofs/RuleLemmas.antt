@@ -1,5 +1,5 @@
 -- What a rule answers.
-use Rattle.std.proofs.Common.{ℤ, pos, Bool, true, IsTrue, ◌≡◌, sym, ◌∙◌, subst}
+use Rattle.std.proofs.Common.{ℤ, pos, Bool, true, IsTrue, sym, ◌∙◌, subst}
 use Rattle.std.specs.Prelude.{◌↔◌}
 use Rattle.scan_line.specs.Rules.{IsTheAnswer, IsRule, Takes}
 

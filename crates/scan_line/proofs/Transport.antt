@@ -1,19 +1,17 @@
 -- From the edges of a slab to all edges: the same windings in its rows, and so the same runs.
-use Rattle.std.proofs.Common.{ℕ, ℤ, pos, ◌≡◌, ◌+◌, ◌≤◌, ◌<◌, ◌+ℤ◌, ◌-ℤ◌, ◌≤ℤ◌, ◌<ℤ◌, ◌⊎◌, Bool, true, false, ◌&&◌, not, List, [], ◌∷◌, ◌++◌, All, count_by, length, arith, refl, inl, inr, ap, subst, sym, ◌∙◌}
-use Rattle.std.specs.Prelude.{IsPermutation, ◌↔◌, Any, int_le, int_lt}
-use Rattle.std.specs.List.{Contains}
+use Rattle.std.proofs.Common.{ℤ, pos, ◌≡◌, ◌+◌, ◌≤◌, ◌+ℤ◌, ◌-ℤ◌, ◌≤ℤ◌, ◌<ℤ◌, Bool, true, false, ◌&&◌, not, List, [], ◌∷◌, ◌++◌, All, count_by, length, arith, refl, inl, inr, ap, subst, sym, ◌∙◌}
+use Rattle.std.specs.Prelude.{IsPermutation, int_le}
 use Rattle.std.proofs.lemmas.Int.{ints, by_lt_z}
 use Rattle.std.proofs.lemmas.List.{length-append}
 use Rattle.std.proofs.lemmas.List.Sums.{sum_by-append}
 use Rattle.std.proofs.lemmas.List.Elements.{All-contains, All-weaker, All-head, All-tail, All-cons, All-nil}
 use Rattle.std.proofs.lemmas.List.Sorted.{sum_by-IsPermutation, length_permutation, All-permutation, IsPermutation-sym}
-use Rattle.half_grid.specs.Edges.{EdgeParts, IsEdge, spans, has_on_right, is_of, winds_up, winds_down, edges_winding}
+use Rattle.half_grid.specs.Edges.{EdgeParts, IsEdge, spans, is_of, winds_up, winds_down, edges_winding}
 use Rattle.half_grid.specs.Lines.{x_on, strip_along, first_strip}
-use Rattle.half_grid.specs.Rows.{place, number_in_row}
+use Rattle.half_grid.specs.Rows.{place}
 use Rattle.half_grid.specs.Reach.{IsWithinReach}
-use Rattle.half_grid.specs.Trapezoids.{trapezoid, IsShot, IsLegal}
-use Rattle.half_grid.specs.Windows.{RowRange, row_range}
-use Rattle.half_grid.specs.Winding.{count_one}
+use Rattle.half_grid.specs.Trapezoids.{trapezoid, IsShot}
+use Rattle.half_grid.specs.Windows.{RowRange}
 use Rattle.half_grid.specs.declared.plane.Tile.{Tile}
 use Rattle.half_grid.specs.declared.plane.Line.{Line}
 use Rattle.half_grid.specs.declared.plane.Line.TheVariants.{Upright, Rising, Falling}
@@ -21,7 +19,7 @@ use Rattle.half_grid.specs.declared.border.Operand.{Operand}
 use Rattle.half_grid.specs.declared.border.Operand.TheVariants.{A, B}
 use Rattle.half_grid.proofs.ForCallers.{count_by-cons, line_names}
 use Rattle.scan_line.specs.Actives.{SpansRow, AreInOrder, AreActive, IsApart}
-use Rattle.scan_line.specs.Runs.{IsBalancedAt, IsBalanced, IsTaken, RunHas, StandApart, HoldsWindings, AreRuns, AreRunsOfSlab}
+use Rattle.scan_line.specs.Runs.{IsBalancedAt, IsBalanced, IsTaken, StandApart, HoldsWindings, AreRuns, AreRunsOfSlab}
 use Rattle.scan_line.specs.Stops.{IsSlab, IsWithin}
 use Rattle.scan_line.specs.Windings.{IsEven, IsLineOf, HasLinesOf}
 use Rattle.scan_line.specs.declared.runs.Run.{Run}

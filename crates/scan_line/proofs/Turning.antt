@@ -1,11 +1,11 @@
 -- Where the order of edges may change.
-use Rattle.std.proofs.Common.{subst, ℕ, ℤ, ◌≡◌, ◌≢◌, ◌≤ℤ◌, ◌<ℤ◌, ◌<◌, ◌⊎◌, List, [], ◌∷◌, ◌++◌, All, length, arith, refl, inl, inr, ◌∙◌, sym, slice_index_or}
+use Rattle.std.proofs.Common.{subst, ℤ, ◌≡◌, ◌≢◌, ◌≤ℤ◌, ◌<ℤ◌, ◌⊎◌, List, [], ◌∷◌, All, length, arith, refl, inl, inr, ◌∙◌, sym}
 use Rattle.std.proofs.lemmas.Int.{ints}
-use Rattle.std.specs.List.{Contains, HoldsAt}
+use Rattle.std.specs.List.{Contains}
 use Rattle.std.proofs.lemmas.List.Elements.{All-head, All-tail, All-contains, Contains-append_right, All-contains_itself}
 use Rattle.half_grid.specs.Edges.{EdgeParts}
 use Rattle.half_grid.specs.Meetings.{MeetAt}
-use Rattle.scan_line.specs.Turns.{IsLower, DoNotMeet, PassesNext, AreQuiet, IsTurn, SomeEndsAt, SomeMeetAt}
+use Rattle.scan_line.specs.Turns.{IsLower, PassesNext, AreQuiet, IsTurn}
 use Rattle.scan_line.specs.declared.runs.Slab.{Slab}
 
 pub has_first : {X : Type 0} (x : X) (xs : List X) → Contains (x ∷ xs) x

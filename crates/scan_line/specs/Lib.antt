@@ -7,4 +7,7 @@ pub mod Windings
 pub mod Sweeps
 pub mod Starts
 pub mod OpenRuns
+pub mod OutlineEdges
+pub mod OutlineLaws
+pub mod OutlineStreams
 pub mod Scans

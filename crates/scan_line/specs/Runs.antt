@@ -4,7 +4,7 @@
 -- its left line's place up to below its right line's. The runs of a row have exactly the tiles whose two windings the
 -- rule takes, stand from left to right, and between two of them there is a tile that isn't taken. So each is as long as
 -- can be.
-use Rattle.std.specs.Prelude.{ℤ, pos, ◌≤ℤ◌, ◌<ℤ◌, ◌≡◌, ◌↔◌, Bool, IsTrue, ◌&&◌, not, List, [], ◌∷◌, All, Any, count_by}
+use Rattle.std.specs.Prelude.{ℤ, ◌≤ℤ◌, ◌<ℤ◌, ◌≡◌, ◌↔◌, Bool, ◌&&◌, not, List, [], ◌∷◌, All, Any, count_by}
 use Rattle.half_grid.specs.Edges.{EdgeParts, edges_winding, spans, is_of}
 use Rattle.half_grid.specs.Rows.{number_in_row, place}
 use Rattle.half_grid.specs.Trapezoids.{trapezoid, IsShot}

@@ -1,5 +1,5 @@
 -- What a sweep keeps from slab to slab.
-use Rattle.std.specs.Prelude.{ℕ, ℤ, ◌≡◌, ◌≤◌, ◌≤ℤ◌, ◌<ℤ◌, List, [], ◌∷◌, ◌++◌, All, IsPermutation, length, drop}
+use Rattle.std.specs.Prelude.{ℕ, ℤ, ◌≡◌, ◌≤◌, ◌≤ℤ◌, List, [], ◌∷◌, ◌++◌, All, IsPermutation, length, drop}
 use Rattle.std.specs.List.{Contains}
 use Rattle.half_grid.specs.Edges.{EdgeParts, IsEdge}
 use Rattle.half_grid.specs.Windows.{RowRange}

@@ -1,5 +1,5 @@
 -- The windings along a row, edge by edge from left to right.
-use Rattle.std.specs.Prelude.{ℤ, pos, neg_ℤ, ◌≡◌, Bool, ◌&&◌, not, if◌then◌else◌, List, [], ◌∷◌, count_by}
+use Rattle.std.specs.Prelude.{ℤ, pos, neg_ℤ, ◌≡◌, ◌&&◌, not, if◌then◌else◌, List, [], ◌∷◌, count_by}
 use Rattle.std.specs.List.{Contains}
 use Rattle.half_grid.specs.Edges.{EdgeParts, is_of}
 use Rattle.half_grid.specs.declared.plane.Line.{Line}

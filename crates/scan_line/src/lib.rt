@@ -3,7 +3,9 @@
 //! Numbers are half units.
 #![tactic(auto)]
 
+mod edges_of;
 mod filling;
+mod laws;
 mod order;
 mod rule;
 mod runs;
@@ -15,6 +17,8 @@ mod sweep;
 #[cfg(test)]
 mod tests;
 
+pub use edges_of::EdgesOf;
+pub use laws::outline_laws;
 pub use rule::Rule;
 pub use runs::{Run, Slab};
 pub use scan::Scan;

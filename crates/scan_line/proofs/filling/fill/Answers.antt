@@ -1,6 +1,6 @@
 use Rattle.std.proofs.Common.{◌≡◌, sym, ◌∙◌, rules}
 use Rattle.scan_line.specs.Windings.{BeginsOn}
-use Rattle.scan_line.proofs.FillLemmas.{filled_none, sums_fit, sums_past, filled_same_line, filled_last, filled_rows, sums_next, filled_room, on_line, not_both}
+use Rattle.scan_line.proofs.FillLemmas.{filled_none, filled_same_line, filled_last, filled_rows, sums_next, filled_room, on_line, not_both}
 use Rattle.scan_line.proofs.filling.fill.Goals as goal
 
 pub loop-edge-init : goal.loop-edge-init

@@ -1,4 +1,4 @@
-use Rattle.scan_line.proofs.Turning.{below_none, below_needs, below_more, quiet_all}
+use Rattle.scan_line.proofs.Turning.{below_none, below_more, quiet_all}
 use Rattle.scan_line.proofs.stops.below_stop.Goals as goal
 
 pub loop-edge-init : goal.loop-edge-init

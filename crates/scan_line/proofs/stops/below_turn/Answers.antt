@@ -1,4 +1,4 @@
-use Rattle.std.proofs.Common.{◌≡◌, ◌⊎◌, sym, rules, FitsSigned, w64}
+use Rattle.std.proofs.Common.{sym, rules, FitsSigned, w64}
 use Rattle.std.proofs.lemmas.Int.{to_z-of_z}
 use Rattle.scan_line.proofs.Turning.{turn_of_two}
 use Rattle.scan_line.proofs.stops.below_turn.Goals as goal

@@ -1,5 +1,4 @@
-use Rattle.std.proofs.Common.{◌≡◌, arith, refl, sym, subst, ◌∙◌}
-use Rattle.std.proofs.lemmas.Int.{ints}
+use Rattle.std.proofs.Common.{arith}
 use Rattle.scan_line.proofs.Transport.{runs_of_slab, even_in_slab, active_few}
 use Rattle.scan_line.proofs.scan.Scan.next.Goals as goal
 
