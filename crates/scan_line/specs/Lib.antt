@@ -10,4 +10,6 @@ pub mod OpenRuns
 pub mod OutlineEdges
 pub mod OutlineLaws
 pub mod OutlineStreams
+pub mod ClippedEdges
+pub mod ClippedStreams
 pub mod Scans

@@ -3,6 +3,7 @@
 //! Numbers are half units.
 #![tactic(auto)]
 
+mod clipped;
 mod edges_of;
 mod filling;
 mod laws;
@@ -17,6 +18,7 @@ mod sweep;
 #[cfg(test)]
 mod tests;
 
+pub use clipped::Clipped;
 pub use edges_of::EdgesOf;
 pub use laws::outline_laws;
 pub use rule::Rule;
