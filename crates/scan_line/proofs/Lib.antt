@@ -12,3 +12,4 @@ pub mod Stopping
 pub mod Transport
 pub mod Outlining
 pub mod OutlineWinding
+pub mod Clipping

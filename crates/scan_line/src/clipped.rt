@@ -1,10 +1,12 @@
 //! The parts of edges in a window, one by one.
 ghost use Rattle.std.specs.Prelude.{◌≡◌, List};
+ghost use Rattle.std.specs.Int.{int_min, int_max};
 ghost use Rattle.half_grid.specs.Edges.{EdgeParts};
 ghost use Rattle.geo_stream.specs.Stream.{HasList};
 ghost use Rattle.scan_line.specs.ClippedEdges.{part_in, parts_in};
 ghost use Rattle.scan_line.specs.ClippedStreams.{StandsForClipped, Clipped-one_list, Clipped-no_longer, Clipped-bounded};
 
+use crate::runs::Slab;
 use geo_stream::Stream;
 use half_grid::{Edge, Window};
 
@@ -25,16 +27,26 @@ impl<S: Stream<Item = Edge>> Clipped<S> {
     }
 }
 
+// The rows of the window that the edge spans.
+fn rows_in(edge: &Edge, window: Window) -> Slab
+    ensures bottom { result.y0 ≡ int_max edge.now.y0 window.y0 }
+    ensures top { result.y1 ≡ int_min edge.now.y1 window.y1 }
+{
+    Slab {
+        y0: edge.y0().max(window.y0()),
+        y1: edge.y1().min(window.y1()),
+    }
+}
+
 // The edge's part in the rows of the window, where it has one.
 fn part_in(edge: &Edge, window: Window) -> Option<Edge>
     ensures { result ≡ part_in window edge.now }
 {
-    let y0 = edge.y0().max(window.y0());
-    let y1 = edge.y1().min(window.y1());
-    if y1 <= y0 {
+    let rows = rows_in(edge, window);
+    if rows.y1 <= rows.y0 {
         return None;
     }
-    Edge::new(y0, y1, edge.line(), edge.is_up(), edge.operand())
+    Edge::new(rows.y0, rows.y1, edge.line(), edge.is_up(), edge.operand())
 }
 
 impl<S: Stream<Item = Edge>> Stream for Clipped<S> {

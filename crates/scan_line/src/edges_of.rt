@@ -1,11 +1,12 @@
 //! The edges of a point list, one by one.
-ghost use Rattle.std.specs.Prelude.{◌≡◌, ◌^◌, ◌<◌, All, length};
+ghost use Rattle.std.specs.Prelude.{◌≡◌, ◌^◌, ◌<◌, All, length, ⊤};
 ghost use Rattle.half_grid.specs.Reach.{IsPointWithinReach};
 ghost use Rattle.scan_line.specs.OutlineEdges.{edge_between, edges_along, first_edge};
 ghost use Rattle.scan_line.specs.OutlineStreams.{Outline-one_list, Outline-no_longer, Outline-bounded};
 
 use geo_stream::Stream;
 use half_grid::{Edge, Operand, Point, line_through};
+use std::alloc::AllocError;
 
 /// The edges of a point list that aren't horizontal: each point with the next, on the line through both.
 #[derive(Debug)]
@@ -15,6 +16,18 @@ pub struct EdgesOf<'a> {
     ghost reach: { All IsPointWithinReach points.now },
     ghost fits: { length points.now < 2 ^ 64 },
 }
+
+impl<'a> Clone for EdgesOf<'a> {
+    ghost is_clone = { λ stream copy. copy ≡ stream };
+
+    ghost is_infallible = { λ _. ⊤ };
+
+    fn clone(&self) -> Result<EdgesOf<'a>, AllocError> {
+        Ok(*self)
+    }
+}
+
+impl<'a> Copy for EdgesOf<'a> {}
 
 impl<'a> EdgesOf<'a> {
     /// A stream of the edges of the list, each with this operand. The points are within reach. Where the list is
