@@ -13,3 +13,5 @@ pub mod Transport
 pub mod Outlining
 pub mod OutlineWinding
 pub mod Clipping
+pub mod ClipWinding
+pub mod ForCallers

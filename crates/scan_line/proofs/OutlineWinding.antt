@@ -34,7 +34,6 @@ not_down t a b h = grind (arith, ints)
 not_up : (t : Tile) (a b : Point) → int_lt a.y b.y ≡ false → rises_past t a b ≡ false
 not_up t a b h = grind (arith, ints)
 
-
 part_up : (o : Operand) (t : Tile) (a b : Point) (line : Line) (up : Bool) → int_lt a.y b.y ≡ up → line_of a b ≡ Some line → part o t (edge_from o a b line) ≡ crossing_of t a b
 part_up o t a b line true h e =
     let own = of_itself o in
@@ -143,8 +142,8 @@ level_of : (a c : Point) → IsOnGrid (a, c) → line_of a c ≡ None → a.y �
 level_of a c (inl same) e = same
 level_of a c (inr share) e =
     by_lt_z a.y c.y
-        (λ lt. absurd (clash (line_is a c share.0 share.1 share.2 (differ_of a.y c.y lt))))
-        (λ le. by_lt_z c.y a.y (λ lt. absurd (clash (line_is a c share.0 share.1 share.2 (λ k. differ_of c.y a.y lt (sym k))))) (λ other. omega (arith, ints, le, other)))
+    (λ lt. absurd (clash (line_is a c share.0 share.1 share.2 (differ_of a.y c.y lt))))
+    (λ le. by_lt_z c.y a.y (λ lt. absurd (clash (line_is a c share.0 share.1 share.2 (λ k. differ_of c.y a.y lt (sym k))))) (λ other. omega (arith, ints, le, other)))
   where
     clash : line_of a c ≡ Some share.0 → ⊥
     clash k = let none : ⊥ = cc in none

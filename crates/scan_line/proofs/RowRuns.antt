@@ -79,6 +79,7 @@ so_far_none pre post edges j w rule ordered a b = record {
     zero_first : (w : Windings) (edges : List EdgeParts) (t : Tile) → w.a ≡ pos 0 → w.b ≡ pos 0 → (o : Operand) → edges_winding o edges t ≡ winding_of o w +ℤ edges_winding o edges t
     zero_first w edges t a b A = omega (arith, ints, a)
     zero_first w edges t a b B = omega (arith, ints, b)
+
     nothing : (t : Tile) → Any (RunHas t) [] ⊎ ⊥ → IsTaken post edges t
     nothing t (inl h) = absurd (none_has t h)
     nothing t (inr h) = absurd h
@@ -124,7 +125,7 @@ stand_right_of j e (f ∷ rest) h last =
     let here : place e.line j <ℤ place f.line j = by_lt_z (place e.line j) (place f.line j) (λ k. k) (λ k. absurd (differ (omega (arith, ints, first, k)))) in
     let after = h.ascending.1.0 in
     All-cons (λ g. place e.line j <ℤ place g.line j) f rest here
-        (All-weaker (λ g. place f.line j ≤ℤ place g.line j) (λ g. place e.line j <ℤ place g.line j) (λ g k. omega (arith, ints, here, k)) rest after)
+    (All-weaker (λ g. place f.line j ≤ℤ place g.line j) (λ g. place e.line j <ℤ place g.line j) (λ g k. omega (arith, ints, here, k)) rest after)
 
 pub order_tail : (j : ℤ) (e : EdgeParts) (rest : List EdgeParts) → AreInOrder j (e ∷ rest) → AreInOrder j rest
 order_tail j e rest h = record { spanning = All-tail (SpansRow j) e rest h.spanning; ascending = h.ascending.1 }
@@ -188,7 +189,6 @@ apart_push j (r ∷ runs) run h below legal =
 -- One edge more, and it is the last of its line.
 module _ (post : ℤ → ℤ → Bool → Type 0) (edges : List EdgeParts) (j : ℤ) (e : EdgeParts) (rest : List EdgeParts) (w now : Windings) (runs : List Run)
     (a : now.a ≡ w.a +ℤ adds A e) (b : now.b ≡ w.b +ℤ adds B e) (last : BeginsOn e.line rest → ⊥) where
-
   abbrev Before : Option Run → Type 0
   Before begun = SoFar post edges j (e ∷ rest) w begun runs
 
@@ -269,9 +269,11 @@ module _ (post : ℤ → ℤ → Bool → Type 0) (edges : List EdgeParts) (j : 
       in_runs : (t : Tile) → Any (RunHas t) runs ⊎ ⊥ → Any (RunHas t) runs
       in_runs t (inl k) = k
       in_runs t (inr k) = absurd k
+
       not_open : (t : Tile) → t.j ≡ j → number_in_row t <ℤ place e.line j → Any (RunHas t) runs ⊎ IsInOpen t (Some (run_between e.line e.line now)) → Any (RunHas t) runs
       not_open t same lt (inl k) = k
       not_open t same lt (inr k) = let at = edge_at t same in absurd (omega (arith, ints, at, lt, k))
+
       in_open : (t : Tile) → t.j ≡ j → place e.line j ≤ℤ number_in_row t → place e.line t.j ≤ℤ number_in_row t
       in_open t same le = let at = edge_at t same in omega (arith, ints, at, le)
 
@@ -315,18 +317,22 @@ module _ (post : ℤ → ℤ → Bool → Type 0) (edges : List EdgeParts) (j : 
       now_in t same lt (inr k) =
           let at = edge_at t same in
           any_last (RunHas t) runs (ended_at e.line run) (record { from_left = k; below_right = omega (arith, ints, at, lt) })
+
       split_last : (t : Tile) → Any (RunHas t) runs ⊎ RunHas t (ended_at e.line run) → Any (RunHas t) runs ⊎ IsInOpen t (Some run)
       split_last t (inl k) = inl k
       split_last t (inr k) = inr k.from_left
+
       was_in : (t : Tile) → Any (RunHas t) (runs ++ ended_at e.line run ∷ []) ⊎ ⊥ → Any (RunHas t) runs ⊎ IsInOpen t (Some run)
       was_in t (inl k) = split_last t (any_cases (RunHas t) runs (ended_at e.line run) k)
       was_in t (inr k) = absurd k
+
       neither : (t : Tile) → t.j ≡ j → place e.line j ≤ℤ number_in_row t → Any (RunHas t) runs ⊎ RunHas t (ended_at e.line run) → ⊥
       neither t same le (inl k) = none_here (Some run) i t same le k
       neither t same le (inr k) =
           let at = edge_at t same in
           let below = k.below_right in
           absurd (omega (arith, ints, at, le, below))
+
       not_in : (t : Tile) → t.j ≡ j → place e.line j ≤ℤ number_in_row t → Any (RunHas t) (runs ++ ended_at e.line run ∷ []) ⊎ ⊥ → ⊥
       not_in t same le (inl k) = neither t same le (any_cases (RunHas t) runs (ended_at e.line run) k)
       not_in t same le (inr k) = k

@@ -45,7 +45,6 @@ right_false e t h =
     let left = le_no (first_strip e.line) (strip_along e.line t) (left_by_place t e.line h) in
     rw left (and_false (spans e t.j))
 
-
 counts_right : (b up : Bool) → pos (count_one (b && (up && true))) -ℤ pos (count_one (b && (not up && true))) ≡ cond b (cond up (pos 1) (neg_ℤ (pos 1))) (pos 0)
 counts_right true true = refl
 counts_right true false = refl

@@ -1,6 +1,6 @@
 -- From the edges of a slab to all edges: the same windings in its rows, and so the same runs.
 use Rattle.std.proofs.Common.{ℤ, pos, ◌≡◌, ◌+◌, ◌≤◌, ◌+ℤ◌, ◌-ℤ◌, ◌≤ℤ◌, ◌<ℤ◌, Bool, true, false, ◌&&◌, not, List, [], ◌∷◌, ◌++◌, All, count_by, length, arith, refl, inl, inr, ap, subst, sym, ◌∙◌}
-use Rattle.std.specs.Prelude.{IsPermutation, int_le}
+use Rattle.std.specs.Prelude.{IsPermutation, int_le, ◌↔◌}
 use Rattle.std.proofs.lemmas.Int.{ints, by_lt_z}
 use Rattle.std.proofs.lemmas.List.{length-append}
 use Rattle.std.proofs.lemmas.List.Sums.{sum_by-append}
@@ -111,10 +111,13 @@ runs_alike post edges active slab j runs h a b r = record {
   where
     alike : (t : Tile) (o : Operand) → t.j ≡ j → edges_winding o active t ≡ edges_winding o edges t
     alike t o same = winding_alike edges active slab o t h (rw same a) (rw same b)
+
     to_active : (t : Tile) → t.j ≡ j → IsTaken post edges t → IsTaken post active t
     to_active t same k = let x = alike t A same in let y = alike t B same in rw (x, y) k
+
     to_edges : (t : Tile) → t.j ≡ j → IsTaken post active t → IsTaken post edges t
     to_edges t same k = let x = alike t A same in let y = alike t B same in rw (x, y) at k
+
     held : (run : Run) (t : Tile) → t.j ≡ j → (run.a ≡ edges_winding A active t) × (run.b ≡ edges_winding B active t) → (run.a ≡ edges_winding A edges t) × (run.b ≡ edges_winding B edges t)
     held run t same k = (k.0 ∙ alike t A same, k.1 ∙ alike t B same)
 
@@ -151,8 +154,8 @@ top_order (Falling c) (Falling d) y h = omega (arith, ints)
 not_flat : (l r : Line) (low high : ℤ) → low <ℤ high → place l low <ℤ place r low → x_on l low ≤ℤ x_on r low → x_on l high ≤ℤ x_on r high → pos 0 <ℤ ((x_on r low -ℤ x_on l low) +ℤ (x_on r high -ℤ x_on l high))
 not_flat l r low high rows lt bottom top =
     by_lt_z (pos 0) ((x_on r low -ℤ x_on l low) +ℤ (x_on r high -ℤ x_on l high)) (λ k. k)
-        (λ flat. (let same = line_names l r low high rows (omega (arith, ints, flat, bottom, top)) (omega (arith, ints, flat, bottom, top)) in
-            let at = ap (λ (x : Line). place x low) same in absurd (omega (arith, ints, lt, at))))
+    (λ flat. (let same = line_names l r low high rows (omega (arith, ints, flat, bottom, top)) (omega (arith, ints, flat, bottom, top)) in
+    let at = ap (λ (x : Line). place x low) same in absurd (omega (arith, ints, lt, at))))
 
 -- a line within reach at both ends of the slab
 record FitsSlab (slab : RowRange) (line : Line) : Type 0 where
@@ -216,3 +219,9 @@ even_in_slab edges active window slab is within h balanced o =
     let rows = is.has_rows in
     let top = within.top in
     even_alike edges active slab slab.y0 o h (omega (arith, ints)) rows (balanced o slab.y0 within.bottom (omega (arith, ints, rows, top)))
+
+pub taken_permuted : (post : ℤ → ℤ → Bool → Type 0) (edges others : List EdgeParts) (t : Tile) → IsPermutation edges others → IsTaken post edges t ↔ IsTaken post others t
+taken_permuted post edges others t h =
+    let a = winding_permuted A edges others t h in
+    let b = winding_permuted B edges others t h in
+    (λ k. (rw (a, b) k), λ k. (rw (a, b) at k))

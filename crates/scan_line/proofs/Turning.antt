@@ -76,7 +76,7 @@ below_more edges left e rest slab rows now i same low end passes turn =
       among = All-tail (Contains edges) e rest among;
       above = All-tail (λ f. slab.y0 <ℤ f.y1) e rest above;
       quiet = λ high h q.
-        i.quiet high (omega (arith, ints, h, now_top)) (subst (AreQuiet slab.y0 high) (sym same) (quiet_further slab.y0 high now.y1 e rest h end passes_here q));
+          i.quiet high (omega (arith, ints, h, now_top)) (subst (AreQuiet slab.y0 high) (sym same) (quiet_further slab.y0 high now.y1 e rest h end passes_here q));
     }
 
 pub quiet_all : (edges left : List EdgeParts) (slab rows : Slab) → AreBelow edges left slab rows → length left ≡ 0 → AreQuiet slab.y0 rows.y1 edges

@@ -12,4 +12,5 @@ pub mod OutlineLaws
 pub mod OutlineStreams
 pub mod ClippedEdges
 pub mod ClippedStreams
+pub mod ClippedLaws
 pub mod Scans

@@ -1,9 +1,10 @@
 -- The edges of a point list: each point with the next, where they don't have the same Y, on the line through both. It
 -- goes up where the second point is higher.
-use Rattle.std.specs.Prelude.{List, [], ◌∷◌, Option, Some, None, true, false, if◌then◌else◌, int_lt}
+use Rattle.std.specs.Prelude.{◌^◌, ◌<◌, All, length, List, [], ◌∷◌, Option, Some, None, true, false, if◌then◌else◌, int_lt}
 use Rattle.std.specs.List.{filter_map}
 use Rattle.half_grid.specs.Edges.{EdgeParts, edge_parts}
 use Rattle.half_grid.specs.Lines.{line_of}
+use Rattle.half_grid.specs.Reach.{IsPointWithinReach}
 use Rattle.half_grid.specs.Winding.{edges_of}
 use Rattle.half_grid.specs.declared.plane.Line.{Line}
 use Rattle.half_grid.specs.declared.plane.Point.{Point}
@@ -28,3 +29,8 @@ edges_along o points = filter_map (edge_between o) (edges_of points)
 abbrev pub first_edge : Operand → Point → List Point → Option EdgeParts
 first_edge o a [] = None
 first_edge o a (b ∷ points) = edge_between o (a, b)
+
+-- points within reach, as many as a slice may have
+pub record AreNear (points : List Point) : Type 0 where
+  pub reach : All IsPointWithinReach points
+  pub few : length points < 2 ^ 64

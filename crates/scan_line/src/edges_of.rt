@@ -1,7 +1,7 @@
 //! The edges of a point list, one by one.
-ghost use Rattle.std.specs.Prelude.{◌≡◌, ◌^◌, ◌<◌, All, length, ⊤};
+ghost use Rattle.std.specs.Prelude.{◌≡◌, ◌^◌, All, length, ⊤};
 ghost use Rattle.half_grid.specs.Reach.{IsPointWithinReach};
-ghost use Rattle.scan_line.specs.OutlineEdges.{edge_between, edges_along, first_edge};
+ghost use Rattle.scan_line.specs.OutlineEdges.{AreNear, edge_between, edges_along, first_edge};
 ghost use Rattle.scan_line.specs.OutlineStreams.{Outline-one_list, Outline-no_longer, Outline-bounded};
 
 use geo_stream::Stream;
@@ -13,8 +13,7 @@ use std::alloc::AllocError;
 pub struct EdgesOf<'a> {
     points: &'a [Point],
     operand: Operand,
-    ghost reach: { All IsPointWithinReach points.now },
-    ghost fits: { length points.now < 2 ^ 64 },
+    ghost near: { AreNear points.now },
 }
 
 impl<'a> Clone for EdgesOf<'a> {
@@ -92,5 +91,5 @@ impl<'a> Stream for EdgesOf<'a> {
 
     ghost no_longer = { λ stream. Outline-no_longer stream.operand stream.points.now };
 
-    ghost bounded = { λ stream xs p. Outline-bounded (length stream.points.now) (2 ^ 64) stream.fits };
+    ghost bounded = { λ stream xs p. Outline-bounded (length stream.points.now) (2 ^ 64) stream.near.few };
 }

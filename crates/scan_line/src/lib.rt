@@ -20,7 +20,7 @@ mod tests;
 
 pub use clipped::Clipped;
 pub use edges_of::EdgesOf;
-pub use laws::outline_laws;
+pub use laws::{clipped_laws, outline_laws};
 pub use rule::Rule;
 pub use runs::{Run, Slab};
 pub use scan::Scan;

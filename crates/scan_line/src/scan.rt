@@ -34,7 +34,12 @@ impl<F> Model for Scan<F> {
 
 impl<F: Fn(i128, i128) -> bool> Scan<F> {
     /// A scan of the edges in the rows of the window, before its first slab.
-    pub fn begin(alloc: Global, edges: Vec<Edge>, window: Window, rule: Rule<F>) -> Result<Scan<F>, NoMemory>
+    pub fn begin(
+        alloc: Global,
+        edges: Vec<Edge>,
+        window: Window,
+        rule: Rule<F>,
+    ) -> Result<Scan<F>, NoMemory>
         requires rule { IsRule (F.pre rule) (F.post rule) }
         requires balanced { IsBalanced edges.items window }
         ensures rule { IfOk result (λ scan. scan.rule ≡ rule) }
