@@ -1,0 +1,17 @@
+pub mod Reaches
+pub mod Orders
+pub mod Turning
+pub mod RuleLemmas
+pub mod RowWindings
+pub mod RowRuns
+pub mod FillLemmas
+pub mod Keeping
+pub mod Starting
+pub mod Crossing
+pub mod Stopping
+pub mod Transport
+pub mod Outlining
+pub mod OutlineWinding
+pub mod Clipping
+pub mod ClipWinding
+pub mod ForCallers

@@ -1,0 +1,25 @@
+-- The edges of a point list, edge by edge.
+use Rattle.std.proofs.Common.{ℕ, ◌≡◌, List, [], ◌∷◌, Option, Some, None, refl, sym, ap, subst, ◌∙◌, length, arith}
+use Rattle.std.specs.List.{cons_option}
+use Rattle.half_grid.specs.Edges.{EdgeParts}
+use Rattle.half_grid.specs.declared.plane.Point.{Point}
+use Rattle.half_grid.specs.declared.border.Operand.{Operand}
+use Rattle.scan_line.specs.OutlineEdges.{edges_along, first_edge}
+
+along_cons : (o : Operand) (point : Point) (rest : List Point) → edges_along o (point ∷ rest) ≡ cons_option (first_edge o point rest) (edges_along o rest)
+along_cons o point [] = refl
+along_cons o point (b ∷ rest) = refl
+
+-- a step past a point that begins no edge
+pub along_none : (o : Operand) (points : List Point) (point : Point) (rest : List Point) → points ≡ point ∷ rest → None ≡ first_edge o point rest → edges_along o rest ≡ edges_along o points
+along_none o points point rest same none =
+    sym (ap (λ (l : List Point). edges_along o l) same ∙ (along_cons o point rest ∙ ap (λ (e : Option EdgeParts). cons_option e (edges_along o rest)) (sym none)))
+
+-- a step past one that begins an edge
+pub along_some : (o : Operand) (points : List Point) (point : Point) (rest : List Point) (e : EdgeParts) → points ≡ point ∷ rest → Some e ≡ first_edge o point rest → edges_along o points ≡ e ∷ edges_along o rest
+along_some o points point rest e same some =
+    ap (λ (l : List Point). edges_along o l) same ∙ (along_cons o point rest ∙ ap (λ (x : Option EdgeParts). cons_option x (edges_along o rest)) (sym some))
+
+pub along_end : (o : Operand) (points : List Point) → length points ≡ 0 → edges_along o points ≡ []
+along_end o [] h = refl
+along_end o (a ∷ points) h = absurd (omega (arith, h))

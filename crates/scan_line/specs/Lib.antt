@@ -1,0 +1,16 @@
+pub mod Rules
+pub mod Stops
+pub mod Runs
+pub mod Actives
+pub mod Turns
+pub mod Windings
+pub mod Sweeps
+pub mod Starts
+pub mod OpenRuns
+pub mod OutlineEdges
+pub mod OutlineLaws
+pub mod OutlineStreams
+pub mod ClippedEdges
+pub mod ClippedStreams
+pub mod ClippedLaws
+pub mod Scans

@@ -1,0 +1,30 @@
+-- The laws of a stream of the edges of a point list.
+use Rattle.std.proofs.Common.{◌≡◌, ℕ, ◌+◌, ◌<◌, ◌≤◌, ◌^◌, List, [], ◌∷◌, Option, Some, None, length, ap, sym, ◌∙◌, arith}
+use Rattle.std.specs.List.{filter_map, cons_option}
+use Rattle.half_grid.specs.Edges.{EdgeParts}
+use Rattle.half_grid.specs.Winding.{edges_of}
+use Rattle.half_grid.specs.declared.plane.Point.{Point}
+use Rattle.half_grid.specs.declared.border.Operand.{Operand}
+use Rattle.scan_line.specs.OutlineEdges.{edge_between, edges_along}
+
+pub Outline-one_list : (edges xs ys : List EdgeParts) → xs ≡ edges → ys ≡ edges → xs ≡ ys
+Outline-one_list edges xs ys p q = p ∙ sym q
+
+few_edges : (points : List Point) → length (edges_of points) ≤ length points
+few_edges [] = omega arith
+few_edges (a ∷ []) = omega arith
+few_edges (a ∷ b ∷ points) = omega (arith, few_edges (b ∷ points))
+
+one_kept : {B : Type 0} (o : Option B) (ys : List B) → length (cons_option o ys) ≤ length ys + 1
+one_kept None ys = omega arith
+one_kept (Some y) ys = omega arith
+
+kept : {A B : Type 0} (f : A → Option B) (xs : List A) → length (filter_map f xs) ≤ length xs
+kept f [] = omega arith
+kept f (x ∷ xs) = omega (arith, one_kept (f x) (filter_map f xs), kept f xs)
+
+pub Outline-no_longer : (o : Operand) (points : List Point) (xs : List EdgeParts) → xs ≡ edges_along o points → length xs ≤ length points
+Outline-no_longer o points xs p = omega (arith, ap length p, kept (edge_between o) (edges_of points), few_edges points)
+
+pub Outline-bounded : (n most : ℕ) → n < most → n ≤ most
+Outline-bounded n most h = omega arith
