@@ -1,0 +1,8 @@
+//! Joining upward: the runs of a scan's slabs as maximal trapezoids.
+//!
+//! Numbers are half units.
+#![tactic(auto)]
+
+mod laws;
+
+pub use laws::maximal_law;
