@@ -1,3 +1,5 @@
 pub mod Members
 pub mod Rows
 pub mod MaximalLemmas
+pub mod XOrder
+pub mod Merging

@@ -1,1 +1,2 @@
 pub mod Maximal
+pub mod Fronts

@@ -3,6 +3,8 @@
 //! Numbers are half units.
 #![tactic(auto)]
 
+mod front;
 mod laws;
+mod merge;
 
 pub use laws::maximal_law;
