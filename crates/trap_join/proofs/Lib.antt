@@ -3,3 +3,6 @@ pub mod Rows
 pub mod MaximalLemmas
 pub mod XOrder
 pub mod Merging
+pub mod Slabs
+pub mod Orders
+pub mod Growth

@@ -1,7 +1,7 @@
 -- Members of lists, and how many trapezoids of a list have a tile.
-use Rattle.std.proofs.Common.{◌≡◌, ℕ, zero, suc, ◌≤◌, ◌+◌, Bool, true, false, arith, refl, ◌∙◌, sym, List, [], ◌∷◌, ◌++◌}
+use Rattle.std.proofs.Common.{◌≡◌, ℕ, zero, suc, ◌≤◌, ◌+◌, Bool, true, false, cond, arith, refl, ap, subst, ◌∙◌, sym, List, [], ◌∷◌, ◌++◌, map, filter}
 use Rattle.std.proofs.lemmas.List.Elements.{All-contains, All-weaker, All-contains_itself, Contains-push_cases, Contains-append_cases, Contains-append_right, Contains-append_left, Contains-push}
-use Rattle.std.specs.List.{All, Contains}
+use Rattle.std.specs.List.{All, Any, Contains}
 use mathlib.Core.Logic.{◌⊎◌, inl, inr}
 use Rattle.half_grid.specs.Trapezoids.{Trapezoid, count_in, trapezoid_has}
 use Rattle.half_grid.specs.declared.plane.Tile.{Tile}
@@ -87,3 +87,55 @@ once_by t x xs false e later none = let here = counted_not t x xs e in omega (ar
 -- with one member more, whose tiles are in no other
 pub once_more : (t : Tile) (x : Trapezoid) (xs : List Trapezoid) → count_in xs t ≤ 1 → (trapezoid_has t x ≡ true → Found t xs → ⊥) → count_in (x ∷ xs) t ≤ 1
 once_more t x xs later none = once_by t x xs _ refl later none
+
+-- ---- members of maps and filters
+
+module _ {X Y : Type 0} (f : X → Y) where
+  pub mapped : (x : X) (xs : List X) → Contains xs x → Contains (map f xs) (f x)
+  mapped x [] h = none_in_empty x h
+  mapped x (y ∷ xs) h = elim (first_or_later y x xs h) [ inl e ↦ subst (λ (u : X). Contains (f y ∷ map f xs) (f u)) e (is_first (f y) (map f xs)) | inr later ↦ among_rest (f y) (f x) (map f xs) (mapped x xs later) ]
+
+  -- what a member of a map comes from
+  abbrev pub Origin : Y → List X → Type 0
+  Origin y xs = (x : X) × Contains xs x × (f x ≡ y)
+
+  later_origin : (y : Y) (x : X) (xs : List X) → Origin y xs → Origin y (x ∷ xs)
+  later_origin y x xs h = (h.0, among_rest x h.0 xs h.1, h.2)
+
+  pub origin : (y : Y) (xs : List X) → Contains (map f xs) y → Origin y xs
+  origin y [] h = none_in_empty y h
+  origin y (x ∷ xs) h = elim (first_or_later (f x) y (map f xs) h) [ inl e ↦ (x, is_first x xs, e) | inr later ↦ later_origin y x xs (origin y xs later) ]
+
+module _ {X : Type 0} (p : X → Bool) where
+  cond_contains : (b : Bool) (x z : X) (xs : List X) → Contains xs z → Contains (cond b (x ∷ xs) xs) z
+  cond_contains true x z xs h = among_rest x z xs h
+  cond_contains false x z xs h = h
+
+  pub passed : (z : X) (xs : List X) → Contains xs z → p z ≡ true → Contains (filter p xs) z
+  passed z [] h e = none_in_empty z h
+  passed z (x ∷ xs) h e =
+      elim (first_or_later x z xs h) [
+        | inl s ↦ (let here : p x ≡ true = ap p s ∙ e in subst (λ (u : X). Contains (filter p (x ∷ xs)) u) s (rw here (is_first x (filter p xs))))
+        | inr later ↦ cond_contains (p x) x z (filter p xs) (passed z xs later e)
+      ]
+
+  still_later : (b : Bool) (x z : X) (xs : List X) → p x ≡ b → Contains (cond b (x ∷ filter p xs) (filter p xs)) z → (Contains (filter p xs) z → Contains xs z × (p z ≡ true)) → Contains (x ∷ xs) z × (p z ≡ true)
+  still_later true x z xs e h later =
+      elim (first_or_later x z (filter p xs) h) [
+        | inl s ↦ (subst (λ (u : X). Contains (x ∷ xs) u) s (is_first x xs), ap p (sym s) ∙ e)
+        | inr r ↦ (let more = later r in (among_rest x z xs more.0, more.1))
+      ]
+  still_later false x z xs e h later = let more = later h in (among_rest x z xs more.0, more.1)
+
+  pub passing : (z : X) (xs : List X) → Contains (filter p xs) z → Contains xs z × (p z ≡ true)
+  passing z [] h = none_in_empty z h
+  passing z (x ∷ xs) h = still_later (p x) x z xs refl h (passing z xs)
+
+-- ---- `Any` and `Contains`
+
+module _ {X : Type 0} (P : X → Type 0) where
+  pub some_member : (xs : List X) → Any P xs → (x : X) × Contains xs x × P x
+  some_member xs h = (h.1, (h.0, h.2, h.3), h.4)
+
+  pub any_by : (x : X) (xs : List X) → Contains xs x → P x → Any P xs
+  any_by x xs h p = (h.0, x, h.1, h.2, p)

@@ -1,5 +1,5 @@
 -- A merge of a front with the runs of the row above, step by step.
-use Rattle.std.proofs.Common.{◌≡◌, ℕ, zero, suc, ◌+◌, ◌<◌, ◌≤◌, length, get_or, take, drop, ℤ, pos, ◌-ℤ◌, ◌<ℤ◌, Bool, true, false, cond, not, arith, refl, ap, ◌∙◌, sym, subst, List, [], ◌∷◌, ◌++◌, map, filter, append_assoc}
+use Rattle.std.proofs.Common.{◌≡◌, ℕ, zero, suc, ◌+◌, ◌<◌, ◌≤◌, length, get_or, take, drop, ℤ, pos, ◌-ℤ◌, ◌<ℤ◌, Bool, true, false, cond, not, ◌&&◌, arith, refl, ap, ◌∙◌, sym, subst, List, [], ◌∷◌, ◌++◌, map, filter, append_assoc}
 use Rattle.std.proofs.lemmas.Int.{ints}
 use Rattle.std.proofs.lemmas.Bool.{false_from_ne_true}
 use Rattle.std.proofs.lemmas.List.Elements.{All-head, All-tail, All-contains}
@@ -12,9 +12,9 @@ use Rattle.scan_line.specs.Runs.{StandApart}
 use Rattle.scan_line.specs.declared.runs.Run.{Run}
 use Rattle.trap_join.specs.declared.front.Growing.{Growing}
 use Rattle.trap_join.specs.declared.front.Meeting.TheVariants.{Ends, Begins, GoesOn}
-use Rattle.trap_join.specs.Fronts.{goes_on, bottom_of, grown_into, ended_at, ends_below, ended, FrontStandsApart, IsRunFrom, IsGrowingFrom, IsMeeting}
+use Rattle.trap_join.specs.Fronts.{goes_on, all_go_on, bottom_of, grown_into, ended_at, ends_below, ended, FrontStandsApart, IsRunFrom, IsGrowingFrom, IsMeeting}
 use Rattle.trap_join.proofs.Members.{among_rest, is_first, first_or_later, all_members}
-use Rattle.trap_join.proofs.XOrder.{goes_on_left, goes_on_right}
+use Rattle.trap_join.proofs.XOrder.{goes_on_left, goes_on_right, both_true}
 
 -- ---- members of lists that stand apart
 
@@ -191,3 +191,40 @@ module _ {X : Type 0} where
 pub no_more : (y : ℤ) (fs : List Growing) (rs : List Run) → (fs ≡ []) ⊎ (rs ≡ []) → ended rs y fs ≡ map (ended_at y) fs
 no_more y fs rs (inl e) = rw e refl
 no_more y fs rs (inr e) = rw e (all_end y fs)
+
+-- ---- where each goes on
+
+and_false : (b : Bool) → b && false ≡ false
+and_false true = refl
+and_false false = refl
+
+pub lengths_differ : (front : List Growing) (runs : List Run) → (length front ≡ length runs → ⊥) → false ≡ all_go_on front runs
+lengths_differ [] [] h = absurd (h refl)
+lengths_differ [] (n ∷ runs) h = refl
+lengths_differ (o ∷ front) [] h = refl
+lengths_differ (o ∷ front) (n ∷ runs) h = rw (← lengths_differ front runs (λ e. h (ap suc e))) (sym (and_false (goes_on o n)))
+
+pub one_goes_on : (o : Growing) (n : Run) (fs os : List Growing) (rs ns : List Run) → fs ≡ o ∷ os → rs ≡ n ∷ ns → goes_on o n ≡ true → all_go_on os ns ≡ all_go_on fs rs
+one_goes_on o n fs os rs ns ef er goes = rw (ef, er, goes) refl
+
+pub one_stays : (o : Growing) (n : Run) (fs os : List Growing) (rs ns : List Run) → fs ≡ o ∷ os → rs ≡ n ∷ ns → goes_on o n ≡ false → false ≡ all_go_on fs rs
+one_stays o n fs os rs ns ef er goes = rw (ef, er, goes) refl
+
+pub both_go : (o : Growing) (n : Run) (front : List Growing) (runs : List Run) → all_go_on (o ∷ front) (n ∷ runs) ≡ true → (goes_on o n ≡ true) × (all_go_on front runs ≡ true)
+both_go o n front runs h = both_true (goes_on o n) (all_go_on front runs) h
+
+pub all_fresh : (y : ℤ) (front : List Growing) (runs : List Run) → FrontStandsApart (y -ℤ pos 1) front → StandApart y runs → all_go_on front runs ≡ true → map (grown_into front y) runs ≡ front
+all_fresh y [] [] fa ra h = refl
+all_fresh y [] (n ∷ runs) fa ra h = absurd (let clash : ⊥ = cc in clash)
+all_fresh y (o ∷ front) [] fa ra h = absurd (let clash : ⊥ = cc in clash)
+all_fresh y (o ∷ front) (n ∷ runs) fa ra h =
+    let go = both_go o n front runs h in
+    goes_fresh y o front n runs fa ra go.0 ∙ ap (λ (us : List Growing). o ∷ us) (all_fresh y front runs fa.2 ra.2 go.1)
+
+pub all_waiting : (y : ℤ) (front : List Growing) (runs : List Run) → FrontStandsApart (y -ℤ pos 1) front → StandApart y runs → all_go_on front runs ≡ true → ended runs y front ≡ []
+all_waiting y [] [] fa ra h = refl
+all_waiting y [] (n ∷ runs) fa ra h = refl
+all_waiting y (o ∷ front) [] fa ra h = absurd (let clash : ⊥ = cc in clash)
+all_waiting y (o ∷ front) (n ∷ runs) fa ra h =
+    let go = both_go o n front runs h in
+    goes_waiting y o front n runs fa ra go.0 ∙ all_waiting y front runs fa.2 ra.2 go.1

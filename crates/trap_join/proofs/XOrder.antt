@@ -31,7 +31,7 @@ line_itself (Upright c) = int_eq_same c c refl
 line_itself (Rising c) = int_eq_same c c refl
 line_itself (Falling c) = int_eq_same c c refl
 
-both_true : (p q : Bool) → p && q ≡ true → (p ≡ true) × (q ≡ true)
+pub both_true : (p q : Bool) → p && q ≡ true → (p ≡ true) × (q ≡ true)
 both_true true q h = (refl, h)
 both_true false q h = absurd (let clash : ⊥ = cc in clash)
 

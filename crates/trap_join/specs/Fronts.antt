@@ -25,6 +25,13 @@ is_same_line _ _ = false
 abbrev pub goes_on : Growing → Run → Bool
 goes_on growing run = is_same_line growing.left run.left && is_same_line growing.right run.right
 
+-- each growing trapezoid goes on in the run of its place, and there are as many
+abbrev pub all_go_on : List Growing → List Run → Bool
+all_go_on [] [] = true
+all_go_on [] (run ∷ runs) = false
+all_go_on (growing ∷ front) [] = false
+all_go_on (growing ∷ front) (run ∷ runs) = goes_on growing run && all_go_on front runs
+
 -- the Y at which the trapezoid of the run began: that of the growing one that goes on in it, else the stop
 abbrev pub bottom_of : List Growing → ℤ → Run → ℤ
 bottom_of [] y run = y

@@ -3,7 +3,7 @@ ghost use Rattle.half_grid.specs.Rows.{place};
 ghost use Rattle.half_grid.specs.Sides.{IsSide};
 ghost use Rattle.half_grid.specs.Trapezoids.{IsShot};
 ghost use Rattle.scan_line.specs.Runs.{StandApart};
-ghost use Rattle.trap_join.specs.Fronts.{is_same_line, goes_on, bottom_of, grown_into, ended_at, ended, FrontStandsApart, IsMeeting};
+ghost use Rattle.trap_join.specs.Fronts.{is_same_line, goes_on, all_go_on, bottom_of, grown_into, ended_at, ended, FrontStandsApart, IsMeeting};
 
 use crate::front::{Growing, Meeting};
 use geo_stream::NoMemory;
@@ -120,4 +120,38 @@ fn merge(front: &[Growing], runs: &[Run], y: i64, fresh: &mut Vec<Growing>, wait
     }
     end_all(&front[i..], y, waiting)?;
     begin_all(&runs[k..], y, fresh)
+}
+
+// Whether each growing trapezoid goes on in a run, and each run is gone on in.
+fn all_go_on(front: &[Growing], runs: &[Run]) -> bool
+    ensures { result ≡ all_go_on front.now runs.now }
+{
+    if front.len() != runs.len() {
+        return false;
+    }
+    for (i, growing) in front.iter().enumerate() {
+        if !goes_on(growing, &runs[i]) {
+            return false;
+        }
+    }
+    true
+}
+
+/// Joins the runs of the row above the stop to the front: what goes on in none of them is put into `waiting`.
+/// Where each goes on, nothing is written. `spare` lends its room.
+pub(crate) fn join_runs(front: &mut Vec<Growing>, spare: &mut Vec<Growing>, waiting: &mut VecDeque<Trap>, runs: &[Run], y: i64) -> Result<(), NoMemory>
+    requires shots { All (λ growing. IsShot (ended_at y growing)) front.old.items }
+    requires front { FrontStandsApart (y -ℤ pos 1) front.old.items }
+    requires sides { All (λ run. IsSide run.left run.right y) runs.now }
+    requires runs { StandApart y runs.now }
+    ensures front { OnOk result (front.new.items ≡ map (grown_into front.old.items y) runs.now) }
+    ensures waiting { OnOk result (waiting.new.items ≡ waiting.old.items ++ ended runs.now y front.old.items) }
+{
+    if all_go_on(front.as_slice(), runs) {
+        return Ok(());
+    }
+    spare.clear();
+    merge(front.as_slice(), runs, y, spare, waiting)?;
+    mem::swap(front, spare);
+    Ok(())
 }
