@@ -1,30 +1,35 @@
 -- One slab more: what was joined below a stop, with the runs of the slab above it, is joined below the next stop.
-use Rattle.std.proofs.Common.{◌≡◌, ℤ, pos, ◌+ℤ◌, ◌-ℤ◌, ◌≤ℤ◌, ◌<ℤ◌, Bool, true, false, not, arith, refl, ap, subst, ◌∙◌, sym, List, [], ◌∷◌, ◌++◌, map, filter, append-nil}
+use Rattle.std.proofs.Common.{◌≡◌, ℕ, ◌+◌, ◌-◌, ◌*◌, ◌<◌, ◌≤◌, ℤ, pos, negsuc, ◌+ℤ◌, ◌-ℤ◌, ◌≤ℤ◌, ◌<ℤ◌, Bool, true, false, not, arith, refl, ap, subst, ◌∙◌, sym, List, [], ◌∷◌, ◌++◌, map, filter, append-nil, append_assoc, ◌^◌, length}
 use Rattle.std.proofs.lemmas.Int.{ints, by_lt_z}
 use Rattle.std.proofs.lemmas.Bool.{false_from_ne_true}
-use Rattle.std.proofs.lemmas.List.Elements.{All-contains, All-append, Contains-append_left, Contains-append_right, Contains-append_cases}
+use Rattle.std.proofs.lemmas.List.Elements.{All-contains, All-nil, All-append, All-weaker, Contains-append_left, Contains-append_right, Contains-append_cases}
+use Rattle.std.proofs.Math.Nat.{mul-le-mul_right}
+use Rattle.std.proofs.lemmas.List.{length-map}
+use Rattle.std.proofs.lemmas.List.Sums.{length-filter, count_by-le-length}
+use Rattle.half_grid.specs.Sides.{IsSide}
+use Rattle.scan_line.specs.Stops.{IsSlab}
 use Rattle.std.proofs.lemmas.List.Folds.{Any-from_list_any, list_any-from_Any}
 use Rattle.std.specs.List.{All, Any, Contains, list_any}
 use mathlib.Core.Logic.{◌⊎◌, inl, inr}
 use Rattle.half_grid.specs.Edges.{EdgeParts}
 use Rattle.half_grid.specs.Lines.{x_on}
 use Rattle.half_grid.specs.Rows.{place, number_in_row}
-use Rattle.half_grid.specs.Trapezoids.{Trapezoid, IsShot, IsLegal, IsInTrapezoid, trapezoid}
+use Rattle.half_grid.specs.Trapezoids.{Trapezoid, IsShot, IsLegal, IsInTrapezoid, CoversExactly, trapezoid}
 use Rattle.half_grid.specs.Windows.{RowRange, row_range}
-use Rattle.half_grid.specs.JoinedLists.{IsInWindow, StandsBefore, StandInOrder}
+use Rattle.half_grid.specs.JoinedLists.{IsInWindow, IsJoined, StandsBefore, StandInOrder}
 use Rattle.half_grid.specs.declared.plane.Tile.{Tile}
 use Rattle.half_grid.specs.declared.plane.Line.{Line}
 use Rattle.half_grid.specs.declared.plane.Line.TheVariants.{Upright, Rising, Falling}
-use Rattle.half_grid.proofs.ForCallers.{tile_with, tile_with_number, in_by_number, number_between, same_trapezoid}
+use Rattle.half_grid.proofs.ForCallers.{tile_with, tile_with_number, in_by_number, number_between, in_has, same_trapezoid}
 use Rattle.scan_line.specs.Runs.{AreRuns, AreRunsOfSlab, StandApart}
 use Rattle.scan_line.specs.declared.runs.Run.{Run}
 use Rattle.trap_join.specs.declared.front.Growing.{Growing}
 use Rattle.trap_join.specs.Maximal.{IsRunAt, IsMaximal}
-use Rattle.trap_join.specs.Fronts.{goes_on, bottom_of, grown_into, ended_at, ends_below, ended}
-use Rattle.trap_join.specs.Joins.{IsTakenIn, IsGrowingIn, IsJoinedSoFar}
-use Rattle.trap_join.proofs.Members.{none_in_empty, is_first, among_rest, first_or_later, all_members, mapped, origin, passed, passing, some_member, any_by}
-use Rattle.trap_join.proofs.Rows.{inside_at}
-use Rattle.trap_join.proofs.MaximalLemmas.{run_left, run_right, same_rows}
+use Rattle.trap_join.specs.Fronts.{goes_on, bottom_of, grown_into, ended_at, ends_below, ended, FrontStandsApart}
+use Rattle.trap_join.specs.Joins.{IsTakenIn, IsGrowingIn, IsJoinedSoFar, rows_up, still_left}
+use Rattle.trap_join.proofs.Members.{none_in_empty, is_first, among_rest, first_or_later, all_members, mapped, origin, passed, passing, some_member, any_by, Found}
+use Rattle.trap_join.proofs.Rows.{inside_at, runs_apart}
+use Rattle.trap_join.proofs.MaximalLemmas.{run_left, run_right, same_rows, maximal_joined, maximal_cover}
 use Rattle.trap_join.proofs.XOrder.{goes_on_left, goes_on_right, goes_on_by}
 use Rattle.trap_join.proofs.Merging.{all_end}
 use Rattle.trap_join.proofs.Orders.{AllBefore, order_append, order_first, order_second, order_between, order_filter, order_grown}
@@ -335,10 +340,150 @@ module _ (post : ℤ → ℤ → Bool → Type 0) (edges : List EdgeParts) (wind
     pub joined_more : IsJoinedSoFar post edges window top (done ++ ended runs y front) (map (ended_at top) (map (grown_into front y) runs))
     joined_more = record {
       low = (let l = low_row in omega (arith, ints, l, up));
-      high = within;
       in_order = all_order;
       finished = all_members (IsMaximal Whole window) (done ++ ended runs y front) all_finished;
       end_below = all_members (λ (z : Trapezoid). z.y1 ≤ℤ top) (done ++ ended runs y front) (λ z h. (let b = done_below z h in omega (arith, ints, b, up)));
       growing = all_members (IsGrowingIn (Below top) (row_range window.y0 top)) (map (ended_at top) (map (grown_into front y) runs)) all_grown;
       covered = λ t h. by_lt_z t.j y (λ lt. cover_below t lt h) (λ ge. cover_above t ge h);
     }
+
+-- ---- what a join holds at a stop
+
+left_of : (y : ℤ) (o p : Growing) → StandsBefore (ended_at y o) (ended_at y p) → place o.left (y -ℤ pos 1) <ℤ place p.left (y -ℤ pos 1)
+left_of y o p (inl a) = absurd (omega (arith, ints, a))
+left_of y o p (inr a) = a.1
+
+module _ (post : ℤ → ℤ → Bool → Type 0) (edges : List EdgeParts) (window : RowRange) (y : ℤ) (done : List Trapezoid) (front : List Growing) (so_far : IsJoinedSoFar post edges window y done (map (ended_at y) front)) where
+  pub front_shots : All (λ (o : Growing). IsShot (ended_at y o)) front
+  front_shots = all_members (λ (o : Growing). IsShot (ended_at y o)) front (λ o h. (growing_one post edges window y done front so_far o h).shot)
+
+  stands_by : (rest : List Growing) → ((o : Growing) → Contains rest o → Contains front o) → StandInOrder (map (ended_at y) rest) → FrontStandsApart (y -ℤ pos 1) rest
+  stands_by [] f order = tt
+  stands_by (o ∷ rest) f order =
+      let m = (growing_one post edges window y done front so_far o (f o (is_first o rest))).maximal in
+      let rows = m.legal.has_rows in
+      let run = m.runs (y -ℤ pos 1) (omega (arith, ints, rows)) (omega (arith, ints)) in (
+        run.has_tile,
+        all_members (λ (p : Growing). place o.right (y -ℤ pos 1) <ℤ place p.left (y -ℤ pos 1)) rest (λ p h. (let k = (growing_one post edges window y done front so_far p (f p (among_rest o p rest h))).maximal in
+        let its_rows = k.legal.has_rows in
+        let its_run = k.runs (y -ℤ pos 1) (omega (arith, ints, its_rows)) (omega (arith, ints)) in
+        runs_apart o.left o.right p.left p.right (y -ℤ pos 1) run its_run (left_of y o p (All-contains (StandsBefore (ended_at y o)) (map (ended_at y) rest) (ended_at y p) order.0 (mapped (ended_at y) p rest h))))),
+        stands_by rest (λ p h. f p (among_rest o p rest h)) order.1,
+      )
+
+  pub front_stands : FrontStandsApart (y -ℤ pos 1) front
+  front_stands = stands_by front (λ o h. h) (order_second done (map (ended_at y) front) so_far.in_order)
+
+  module _ (at_end : y ≡ window.y1) where
+    at_window : row_range window.y0 y ≡ window
+    at_window = ap (λ (x : ℤ). row_range window.y0 x) at_end
+
+    end_one : (o : Growing) → Contains front o → IsMaximal (IsTakenIn post edges window) window (ended_at y o)
+    end_one o h = subst (λ (rows : RowRange). IsMaximal (IsTakenIn post edges rows) rows (ended_at y o)) at_window (growing_one post edges window y done front so_far o h).maximal
+
+    end_each : (z : Trapezoid) → Contains (map (ended_at y) front) z → IsMaximal (IsTakenIn post edges window) window z
+    end_each z h = let o = origin (ended_at y) z front h in subst (λ (u : Trapezoid). IsMaximal (IsTakenIn post edges window) window u) o.2 (end_one o.0 o.1)
+
+    end_low : (z : Trapezoid) → Contains (map (ended_at y) front) z → z.y1 ≤ℤ y
+    end_low z h = let o = origin (ended_at y) z front h in let e : y ≡ z.y1 = ap (λ (u : Trapezoid). u.y1) o.2 in omega (arith, ints, e)
+
+    -- after the last slab all that grows ends
+    pub joined_end : IsJoinedSoFar post edges window y (done ++ map (ended_at y) front) []
+    joined_end = record {
+      low = so_far.low;
+      in_order = rw append-nil so_far.in_order;
+      finished = All-append (IsMaximal (IsTakenIn post edges window) window) done (map (ended_at y) front) so_far.finished (all_members (IsMaximal (IsTakenIn post edges window) window) (map (ended_at y) front) end_each);
+      end_below = All-append (λ (z : Trapezoid). z.y1 ≤ℤ y) done (map (ended_at y) front) so_far.end_below (all_members (λ (z : Trapezoid). z.y1 ≤ℤ y) (map (ended_at y) front) end_low);
+      growing = All-nil (IsGrowingIn (IsTakenIn post edges (row_range window.y0 y)) (row_range window.y0 y));
+      covered = rw append-nil so_far.covered;
+    }
+
+-- ---- the whole list
+
+module _ (post : ℤ → ℤ → Bool → Type 0) (edges : List EdgeParts) (window : RowRange) where
+  pub joined_none : (y : ℤ) → y ≡ window.y0 → IsJoinedSoFar post edges window y [] []
+  joined_none y e = record {
+    low = omega (arith, ints, e);
+    in_order = tt;
+    finished = All-nil (IsMaximal (IsTakenIn post edges window) window);
+    end_below = All-nil (λ (z : Trapezoid). z.y1 ≤ℤ y);
+    growing = All-nil (IsGrowingIn (IsTakenIn post edges (row_range window.y0 y)) (row_range window.y0 y));
+    covered = λ t h. absurd (let a = h.from in let b = h.below in omega (arith, ints, a, b, e));
+  }
+
+  module _ (y : ℤ) (given : List Trapezoid) (so_far : IsJoinedSoFar post edges window y given []) (at_end : y ≡ window.y1) where
+    found_all : (t : Tile) → IsTakenIn post edges window t → Found t given
+    found_all t h =
+        let low = h.from in
+        let high = h.below in
+        let s = some_member (λ (z : Trapezoid). IsInTrapezoid z t) (given ++ []) (so_far.covered t (record { from = low; below = omega (arith, ints, high, at_end); taken = h.taken })) in
+        (s.0, subst (λ (zs : List Trapezoid). Contains zs s.0) (append-nil given) s.1, in_has t s.0 s.2)
+
+    order_all : StandInOrder given
+    order_all = order_first given [] so_far.in_order
+
+    pub joined_whole : IsJoined window given
+    joined_whole = maximal_joined (IsTakenIn post edges window) window given order_all so_far.finished found_all
+
+    pub covered_whole : CoversExactly given (IsTakenIn post edges window)
+    covered_whole = maximal_cover (IsTakenIn post edges window) window given order_all so_far.finished found_all
+
+  -- the trapezoid that is given next
+  pub given_one : (y : ℤ) (given : List Trapezoid) (z : Trapezoid) (waiting front : List Trapezoid) → IsJoinedSoFar post edges window y (given ++ z ∷ waiting) front → IsJoinedSoFar post edges window y ((given ++ z ∷ []) ++ waiting) front
+  given_one y given z waiting front h = subst (λ (zs : List Trapezoid). IsJoinedSoFar post edges window y zs front) (sym (append_assoc given (z ∷ []) waiting)) h
+
+  pub given_maximal : (y : ℤ) (given : List Trapezoid) (z : Trapezoid) (waiting front : List Trapezoid) → IsJoinedSoFar post edges window y (given ++ z ∷ waiting) front → IsMaximal (IsTakenIn post edges window) window z
+  given_maximal y given z waiting front h = All-contains (IsMaximal (IsTakenIn post edges window) window) (given ++ z ∷ waiting) z h.finished (Contains-append_right given (z ∷ waiting) z (is_first z waiting))
+
+  pub given_after : (y : ℤ) (given : List Trapezoid) (z : Trapezoid) (waiting front : List Trapezoid) → IsJoinedSoFar post edges window y (given ++ z ∷ waiting) front → All (λ x. StandsBefore x z) given
+  given_after y given z waiting front h =
+      let order = order_first (given ++ z ∷ waiting) front h.in_order in
+      all_members (λ (x : Trapezoid). StandsBefore x z) given (λ x hx. order_between given (z ∷ waiting) order x z hx (is_first z waiting))
+
+-- ---- the measure
+
+rows_are : (z : ℤ) → pos 0 ≤ℤ z → pos (rows_up z) ≡ z
+rows_are (pos n) h = refl
+rows_are (negsuc n) h = absurd (omega (arith, ints, h))
+
+fewer_rows : (end y top : ℤ) → y <ℤ top → top ≤ℤ end → rows_up (end -ℤ top) + 1 ≤ rows_up (end -ℤ y)
+fewer_rows end y top a b =
+    let p = rows_are (end -ℤ top) (omega (arith, ints, b)) in
+    let q = rows_are (end -ℤ y) (omega (arith, ints, a, b)) in
+    omega (arith, ints, p, q, a)
+
+less_left : (r s n g h w v : ℕ) → r + 1 ≤ s → 2 * g < n → v ≤ w + h → (r * n + 2 * g) + v < (s * n + 2 * h) + w
+less_left r s n g h w v a b c = let m : (r + 1) * n ≤ s * n = mul-le-mul_right n a in omega arith
+
+-- a slab more
+pub slab_falls : (end y top : ℤ) (g h w v : ℕ) → y <ℤ top → top ≤ℤ end → g < 2 ^ 64 → v ≤ w + h → still_left end top g v < still_left end y h w
+unfolding still_left
+slab_falls end y top g h w v a b c d = less_left (rows_up (end -ℤ top)) (rows_up (end -ℤ y)) (2 ^ 65) g h w v (fewer_rows end y top a b) (omega arith) d
+
+-- all that grows ends
+pub end_falls : (end y : ℤ) (h w v : ℕ) → 0 < h → v ≡ w + h → still_left end y 0 v < still_left end y h w
+unfolding still_left
+end_falls end y h w v a e = omega arith
+
+-- one is given
+pub giving_falls : (end y : ℤ) (h w : ℕ) → still_left end y h w + 1 ≡ still_left end y h (w + 1)
+unfolding still_left
+giving_falls end y h w = omega arith
+
+pub ended_length : (runs : List Run) (y : ℤ) (front : List Growing) → length (ended runs y front) ≤ length front
+ended_length runs y front = omega (arith, length-map (filter (ends_below runs) front) (ended_at y), length-filter (ends_below runs) front, count_by-le-length (ends_below runs) front)
+
+-- ---- the slab of a scan
+
+-- a stop above the window's bottom is at most its top
+pub stop_within : (edges : List EdgeParts) (window slab : RowRange) → window.y0 ≤ℤ slab.y0 → IsSlab edges window slab → slab.y1 ≤ℤ window.y1
+stop_within edges window slab low is =
+    let rows = is.has_rows in
+    elim is.top [
+      | inl e ↦ omega (arith, ints, e, rows, low)
+      | inr (inl e) ↦ omega (arith, ints, e)
+      | inr (inr inner) ↦ (let b = inner.0.below_top in omega (arith, ints, b))
+    ]
+
+pub run_sides : (y top : ℤ) (runs : List Run) → All (λ (u : Run). IsShot (trapezoid y top u.left u.right)) runs → All (λ (u : Run). IsSide u.left u.right y) runs
+run_sides y top runs shots = All-weaker (λ (u : Run). IsShot (trapezoid y top u.left u.right)) (λ (u : Run). IsSide u.left u.right y) (λ u shot. record { left_end = shot.reach.bottom_left; right_end = shot.reach.bottom_right; not_negative = shot.legal.bottom }) runs shots

@@ -6,3 +6,4 @@ pub mod Merging
 pub mod Slabs
 pub mod Orders
 pub mod Growth
+pub mod Advances

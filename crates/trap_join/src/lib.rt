@@ -4,7 +4,9 @@
 #![tactic(auto)]
 
 mod front;
+mod join;
 mod laws;
 mod merge;
 
+pub use join::Join;
 pub use laws::maximal_law;

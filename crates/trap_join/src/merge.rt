@@ -1,11 +1,11 @@
-ghost use Rattle.std.specs.Prelude.{[], ◌≡◌, ◌<ℤ◌, ◌-ℤ◌, pos, map, ◌++◌, ◌∷◌, All, OnOk, IsTrue, ◌↔◌};
+ghost use Rattle.std.specs.Prelude.{[], ◌≡◌, ◌<ℤ◌, ◌-ℤ◌, pos, map, ◌++◌, ◌∷◌, All, OnOk, OnErr, length, ◌<◌, ◌^◌};
 ghost use Rattle.half_grid.specs.Rows.{place};
 ghost use Rattle.half_grid.specs.Sides.{IsSide};
 ghost use Rattle.half_grid.specs.Trapezoids.{IsShot};
 ghost use Rattle.scan_line.specs.Runs.{StandApart};
 ghost use Rattle.trap_join.specs.Fronts.{is_same_line, goes_on, all_go_on, bottom_of, grown_into, ended_at, ended, FrontStandsApart, IsMeeting};
 
-use crate::front::{Growing, Meeting};
+use crate::front::{Front, Growing, Meeting};
 use geo_stream::NoMemory;
 use half_grid::{Line, Trap, x_at};
 use scan_line::Run;
@@ -124,7 +124,8 @@ fn merge(front: &[Growing], runs: &[Run], y: i64, fresh: &mut Vec<Growing>, wait
 
 // Whether each growing trapezoid goes on in a run, and each run is gone on in.
 fn all_go_on(front: &[Growing], runs: &[Run]) -> bool
-    ensures { result ≡ all_go_on front.now runs.now }
+    ensures value { result ≡ all_go_on front.now runs.now }
+    ensures count { length runs.now < 2 ^ 64 }
 {
     if front.len() != runs.len() {
         return false;
@@ -137,21 +138,38 @@ fn all_go_on(front: &[Growing], runs: &[Run]) -> bool
     true
 }
 
-/// Joins the runs of the row above the stop to the front: what goes on in none of them is put into `waiting`.
-/// Where each goes on, nothing is written. `spare` lends its room.
-pub(crate) fn join_runs(front: &mut Vec<Growing>, spare: &mut Vec<Growing>, waiting: &mut VecDeque<Trap>, runs: &[Run], y: i64) -> Result<(), NoMemory>
-    requires shots { All (λ growing. IsShot (ended_at y growing)) front.old.items }
-    requires front { FrontStandsApart (y -ℤ pos 1) front.old.items }
-    requires sides { All (λ run. IsSide run.left run.right y) runs.now }
-    requires runs { StandApart y runs.now }
-    ensures front { OnOk result (front.new.items ≡ map (grown_into front.old.items y) runs.now) }
-    ensures waiting { OnOk result (waiting.new.items ≡ waiting.old.items ++ ended runs.now y front.old.items) }
-{
-    if all_go_on(front.as_slice(), runs) {
-        return Ok(());
+impl Front {
+    /// Joins the runs of the row above the stop to the front: what goes on in none of them ends there. Where each goes
+    /// on, nothing is written.
+    pub(crate) fn join_runs(&mut self, runs: &[Run], y: i64) -> Result<(), NoMemory>
+        requires shots { All (λ growing. IsShot (ended_at y growing)) self.old.growing.items }
+        requires front { FrontStandsApart (y -ℤ pos 1) self.old.growing.items }
+        requires sides { All (λ run. IsSide run.left run.right y) runs.now }
+        requires runs { StandApart y runs.now }
+        ensures growing { OnOk result (self.new.growing.items ≡ map (grown_into self.old.growing.items y) runs.now) }
+        ensures waiting { OnOk result (self.new.waiting.items ≡ self.old.waiting.items ++ ended runs.now y self.old.growing.items) }
+        ensures top { self.new.top ≡ self.old.top }
+        ensures count { length runs.now < 2 ^ 64 }
+    {
+        if all_go_on(self.growing.as_slice(), runs) {
+            return Ok(());
+        }
+        self.spare.clear();
+        merge(self.growing.as_slice(), runs, y, &mut self.spare, &mut self.waiting)?;
+        mem::swap(&mut self.growing, &mut self.spare);
+        Ok(())
     }
-    spare.clear();
-    merge(front.as_slice(), runs, y, spare, waiting)?;
-    mem::swap(front, spare);
-    Ok(())
+
+    /// Ends each growing trapezoid at y.
+    pub(crate) fn end_growing(&mut self, y: i64) -> Result<(), NoMemory>
+        requires { All (λ growing. IsShot (ended_at y growing)) self.old.growing.items }
+        ensures growing { OnOk result (self.new.growing.items ≡ []) }
+        ensures waiting { OnOk result (self.new.waiting.items ≡ self.old.waiting.items ++ map (ended_at y) self.old.growing.items) }
+        ensures same { OnErr result (self.new.growing.items ≡ self.old.growing.items) }
+        ensures top { self.new.top ≡ self.old.top }
+    {
+        end_all(self.growing.as_slice(), y, &mut self.waiting)?;
+        self.growing.clear();
+        Ok(())
+    }
 }
