@@ -1,19 +1,21 @@
 -- What a slab, or the end, leaves of a front.
-use Rattle.std.proofs.Common.{◌≡◌, ℕ, ◌+◌, ◌<◌, ◌≤◌, Bool, ℤ, pos, ◌-ℤ◌, ◌≤ℤ◌, ◌<ℤ◌, arith, refl, ap, subst, ◌∙◌, sym, List, [], ◌∷◌, ◌++◌, map, append_assoc, length-append, ◌^◌, length}
+use Rattle.std.proofs.Common.{◌≡◌, ℕ, ◌+◌, ◌<◌, ◌≤◌, Bool, ℤ, pos, ◌-ℤ◌, ◌≤ℤ◌, ◌<ℤ◌, arith, refl, ap, subst, ◌∙◌, sym, List, [], ◌∷◌, ◌++◌, map, append_assoc, append-nil, length-append, ◌^◌, length, drop}
 use Rattle.std.proofs.lemmas.Int.{ints}
-use Rattle.std.proofs.lemmas.List.{length-map}
+use Rattle.std.proofs.lemmas.List.{length-map, length-drop}
 use Rattle.std.specs.List.{All}
 use Rattle.half_grid.specs.Edges.{EdgeParts}
 use Rattle.half_grid.specs.Sides.{IsSide}
-use Rattle.half_grid.specs.Trapezoids.{Trapezoid, IsShot}
+use Rattle.half_grid.specs.Trapezoids.{Trapezoid, IsShot, CoversExactly}
+use Rattle.half_grid.specs.JoinedLists.{IsJoined, StandsBefore}
 use Rattle.half_grid.specs.Windows.{RowRange, row_range}
 use Rattle.scan_line.specs.Runs.{AreRunsOfSlab, StandApart}
 use Rattle.scan_line.specs.Stops.{IsSlab}
 use Rattle.scan_line.specs.declared.runs.Run.{Run}
 use Rattle.trap_join.specs.declared.front.Growing.{Growing}
 use Rattle.trap_join.specs.Fronts.{grown_into, ended_at, ended, FrontStandsApart}
-use Rattle.trap_join.specs.Joins.{IsJoinedSoFar, still_left}
-use Rattle.trap_join.proofs.Growth.{joined_more, joined_end, front_shots, front_stands, stop_within, slab_falls, end_falls, ended_length, run_sides}
+use Rattle.trap_join.specs.Joins.{IsTakenIn, IsJoinedSoFar, still_left}
+use Rattle.trap_join.specs.Maximal.{IsMaximal}
+use Rattle.trap_join.proofs.Growth.{joined_more, joined_end, front_shots, front_stands, stop_within, slab_falls, end_falls, ended_length, giving_falls, given_one, given_maximal, given_after, joined_whole, covered_whole}
 
 module _ (post : ℤ → ℤ → Bool → Type 0) (edges : List EdgeParts) (window : RowRange) (y : ℤ) (given waiting : List Trapezoid) (front : List Growing) (so_far : IsJoinedSoFar post edges window y (given ++ waiting) (map (ended_at y) front)) where
   pub shots_at : (x : ℤ) → x ≡ y → All (λ (o : Growing). IsShot (ended_at x o)) front
@@ -78,3 +80,47 @@ stays_less window range y next g h v w e fall = subst (λ (u : RowRange). still_
 pub some_growing : {X : Type 0} (xs : List X) → (xs ≡ [] → ⊥) → 0 < length xs
 some_growing [] h = absurd (h refl)
 some_growing (x ∷ xs) h = omega arith
+
+-- ---- the next one is given
+
+module _ (post : ℤ → ℤ → Bool → Type 0) (edges : List EdgeParts) (window : RowRange) (y : ℤ) (given waiting front : List Trapezoid) (so_far : IsJoinedSoFar post edges window y (given ++ waiting) front) where
+  pub waits_as : (rest : List Trapezoid) → waiting ≡ rest → IsJoinedSoFar post edges window y (given ++ rest) front
+  waits_as rest e = subst (λ (zs : List Trapezoid). IsJoinedSoFar post edges window y (given ++ zs) front) e so_far
+
+  pub taken_some : (z : Trapezoid) (rest : List Trapezoid) → waiting ≡ z ∷ rest → IsJoinedSoFar post edges window y ((given ++ z ∷ []) ++ rest) front
+  taken_some z rest e = given_one post edges window y given z rest front (waits_as (z ∷ rest) e)
+
+  pub taken_maximal : (z : Trapezoid) (rest : List Trapezoid) → waiting ≡ z ∷ rest → IsMaximal (IsTakenIn post edges window) window z
+  taken_maximal z rest e = given_maximal post edges window y given z rest front (waits_as (z ∷ rest) e)
+
+  pub taken_after : (z : Trapezoid) (rest : List Trapezoid) → waiting ≡ z ∷ rest → All (λ x. StandsBefore x z) given
+  taken_after z rest e = given_after post edges window y given z rest front (waits_as (z ∷ rest) e)
+
+  nothing_held : waiting ≡ [] → front ≡ [] → IsJoinedSoFar post edges window y given []
+  nothing_held ew ef =
+      subst (λ (zs : List Trapezoid). IsJoinedSoFar post edges window y zs []) (append-nil given)
+      (subst (λ (zs : List Trapezoid). IsJoinedSoFar post edges window y (given ++ []) zs) ef (waits_as [] ew))
+
+  pub ends_joined : waiting ≡ [] → front ≡ [] → y ≡ window.y1 → IsJoined window given
+  ends_joined ew ef at_end = joined_whole post edges window y given (nothing_held ew ef) at_end
+
+  pub ends_covers : waiting ≡ [] → front ≡ [] → y ≡ window.y1 → CoversExactly given (IsTakenIn post edges window)
+  ends_covers ew ef at_end = covered_whole post edges window y given (nothing_held ew ef) at_end
+
+pub moved_rule : {R : Type 0} (post : R → ℤ → ℤ → Bool → Type 0) (r s : R) (edges : List EdgeParts) (window : RowRange) (y : ℤ) (done front : List Trapezoid) → r ≡ s → IsJoinedSoFar (post r) edges window y done front → IsJoinedSoFar (post s) edges window y done front
+moved_rule post r s edges window y done front e h = subst (λ u. IsJoinedSoFar (post u) edges window y done front) e h
+
+nothing_by : {X : Type 0} (xs : List X) → length xs ≡ 0 → xs ≡ []
+nothing_by [] h = refl
+nothing_by (x ∷ xs) h = absurd (omega (arith, h))
+
+-- a queue whose first item is none has none
+pub nothing_waits : {X : Type 0} (xs ys : List X) → xs ≡ ys → ys ≡ drop 1 xs → ys ≡ []
+nothing_waits xs ys e f = nothing_by ys (omega (arith, ap length e, ap length f, length-drop 1 xs))
+
+pub given_less : (end y : ℤ) (h whole : ℕ) (waiting rest : List Trapezoid) (z : Trapezoid) → waiting ≡ z ∷ rest → still_left end y h (length waiting) ≤ whole → still_left end y h (length rest) + 1 ≤ whole
+given_less end y h whole waiting rest z e fewer =
+    let count : length waiting ≡ length rest + 1 = ap length e ∙ (omega arith) in
+    let falls = giving_falls end y h (length rest) in
+    let same : still_left end y h (length waiting) ≡ still_left end y h (length rest + 1) = ap (λ n. still_left end y h n) count in
+    omega (arith, falls, same, fewer)

@@ -41,6 +41,7 @@ fn advance<F: Fn(i128, i128) -> bool>(scan: &mut Scan<F>, front: &mut Front) -> 
     requires top { TopIsKnown front.old scan.old.y }
     ensures joined { (given : List Trapezoid) → IsFrontOf (F.post scan.old.rule) scan.old front.old given → OnOk result (IsFrontOf (F.post scan.old.rule) scan.new front.new given) }
     ensures fewer { IfOk result (λ more. IsTrue more → left_in scan.new front.new < left_in scan.old front.old) }
+    ensures never_more { OnOk result (left_in scan.new front.new ≤ left_in scan.old front.old) }
     ensures over { IfOk result (λ more. more ≡ false → scan.new.y ≡ scan.new.window.y1) }
     ensures none { IfOk result (λ more. more ≡ false → front.new.growing.items ≡ []) }
     ensures same { IfOk result (λ more. more ≡ false → front.new.waiting.items ≡ front.old.waiting.items) }
@@ -59,4 +60,95 @@ fn advance<F: Fn(i128, i128) -> bool>(scan: &mut Scan<F>, front: &mut Front) -> 
     front.top = slab.y1;
     front.join_runs(scan.runs(), slab.y0)?;
     Ok(true)
+}
+
+// The next trapezoid that ended.
+fn take_next<F: Fn(i128, i128) -> bool>(scan: &mut Scan<F>, front: &mut Front) -> Result<Option<Trap>, NoMemory>
+    requires rule { IsRule (F.pre scan.old.rule) (F.post scan.old.rule) }
+    requires so_far { (given : List Trapezoid) × IsFrontOf (F.post scan.old.rule) scan.old front.old given }
+    requires top { TopIsKnown front.old scan.old.y }
+    ensures gives { (given : List Trapezoid) → IsFrontOf (F.post scan.old.rule) scan.old front.old given → IfOk result (λ answer. IfSome answer (λ trap. IsFrontOf (F.post scan.old.rule) scan.new front.new (given ++ trap ∷ []))) }
+    ensures maximal { IfOk result (λ answer. IfSome answer (IsMaximal (IsTakenIn (F.post scan.old.rule) scan.old.edges scan.old.window) scan.old.window)) }
+    ensures in_order { (given : List Trapezoid) → IsFrontOf (F.post scan.old.rule) scan.old front.old given → IfOk result (λ answer. IfSome answer (λ trap. All (λ z. StandsBefore z trap) given)) }
+    ensures ends { (given : List Trapezoid) → IsFrontOf (F.post scan.old.rule) scan.old front.old given → IfOk result (λ answer. IfNone answer (IsFrontOf (F.post scan.old.rule) scan.new front.new given)) }
+    ensures joined { (given : List Trapezoid) → IsFrontOf (F.post scan.old.rule) scan.old front.old given → IfOk result (λ answer. IfNone answer (IsJoined scan.old.window given)) }
+    ensures covers { (given : List Trapezoid) → IsFrontOf (F.post scan.old.rule) scan.old front.old given → IfOk result (λ answer. IfNone answer (CoversExactly given (IsTakenIn (F.post scan.old.rule) scan.old.edges scan.old.window))) }
+    ensures fewer { IfOk result (λ answer. left_in scan.new front.new + length (option_to_list answer) ≤ left_in scan.old front.old) }
+    ensures rule { scan.new.rule ≡ scan.old.rule }
+    ensures edges { scan.new.edges ≡ scan.old.edges }
+    ensures window { scan.new.window ≡ scan.old.window }
+    ensures top { TopIsKnown front.new scan.new.y }
+{
+    loop {
+        if let Some(trap) = front.waiting.pop_front() {
+            return Ok(Some(trap));
+        }
+        if !advance(scan, front)? {
+            return Ok(None);
+        }
+    }
+}
+
+impl<F: Fn(i128, i128) -> bool> Join<F> {
+    /// A join of a scan whose first slab wasn't taken yet. It takes no memory.
+    pub fn begin(alloc: Global, scan: Scan<F>) -> Result<Join<F>, NoMemory>
+        requires rule { IsRule (F.pre scan.rule) (F.post scan.rule) }
+        requires fresh { scan.y ≡ scan.window.y0 }
+        ensures begins { IsOk result }
+        ensures given { IfOk result (λ join. HasGiven (F.post scan.rule) join []) }
+        ensures rule { IfOk result (λ join. join.rule ≡ scan.rule) }
+        ensures edges { IfOk result (λ join. join.edges ≡ scan.edges) }
+        ensures window { IfOk result (λ join. join.window ≡ scan.window) }
+        ensures going { IfOk result (λ join. join.failed ≡ false) }
+        ensures walked { IfOk result (λ join. join.walked ≡ scan.walked) }
+    {
+        Ok(Join {
+            scan,
+            front: Front {
+                growing: Vec::new(alloc),
+                spare: Vec::new(alloc),
+                waiting: VecDeque::new(alloc),
+                top: 0,
+            },
+            failed: false,
+        })
+    }
+
+    /// The next trapezoid of the joined list of the tiles that the scan's rule takes in its window. None where each
+    /// was given. After NoMemory each call answers NoMemory.
+    pub fn next(&mut self) -> Result<Option<Trap>, NoMemory>
+        requires rule { IsRule (F.pre self.old.rule) (F.post self.old.rule) }
+        requires going { self.old.failed ≡ false → (given : List Trapezoid) × HasGiven (F.post self.old.rule) self.old given }
+        ensures gives { (given : List Trapezoid) → HasGiven (F.post self.old.rule) self.old given → IfOk result (λ answer. IfSome answer (λ trap. HasGiven (F.post self.old.rule) self.new (given ++ trap ∷ []))) }
+        ensures maximal { IfOk result (λ answer. IfSome answer (IsMaximal (area_of (F.post self.old.rule) self.old) self.old.window)) }
+        ensures in_order { (given : List Trapezoid) → HasGiven (F.post self.old.rule) self.old given → IfOk result (λ answer. IfSome answer (λ trap. All (λ z. StandsBefore z trap) given)) }
+        ensures ends { (given : List Trapezoid) → HasGiven (F.post self.old.rule) self.old given → IfOk result (λ answer. IfNone answer (HasGiven (F.post self.old.rule) self.new given)) }
+        ensures joined { (given : List Trapezoid) → HasGiven (F.post self.old.rule) self.old given → IfOk result (λ answer. IfNone answer (IsJoined self.old.window given)) }
+        ensures covers { (given : List Trapezoid) → HasGiven (F.post self.old.rule) self.old given → IfOk result (λ answer. IfNone answer (CoversExactly given (area_of (F.post self.old.rule) self.old))) }
+        ensures fewer { IfOk result (λ answer. left_to_give self.new + length (option_to_list answer) ≤ left_to_give self.old) }
+        ensures going { OnOk result (self.new.failed ≡ false) }
+        ensures fails { OnErr result (self.new.failed ≡ true) }
+        ensures failed { self.old.failed ≡ true → IsErr result }
+        ensures rule { self.new.rule ≡ self.old.rule }
+        ensures edges { self.new.edges ≡ self.old.edges }
+        ensures window { self.new.window ≡ self.old.window }
+    {
+        if self.failed {
+            return Err(NoMemory);
+        }
+        match take_next(&mut self.scan, &mut self.front) {
+            Ok(answer) => Ok(answer),
+            Err(refused) => {
+                self.failed = true;
+                Err(refused)
+            }
+        }
+    }
+
+    /// How many edges its scan went over so far.
+    pub fn walked(&self) -> u64
+        ensures { result ≡ self.now.walked }
+    {
+        self.scan.walked()
+    }
 }
