@@ -7,6 +7,8 @@ mod front;
 mod join;
 mod laws;
 mod merge;
+#[cfg(test)]
+mod tests;
 
 pub use join::Join;
 pub use laws::maximal_law;

@@ -55,9 +55,6 @@ returns-clause-fewer g c = λ _.
     (slab_left _ c.args.scan.now.edges c.args.scan.now.window c.args.scan.now.y c.requires.so_far.0 c.args.front.now.waiting.items c.args.front.now.growing.items c.requires.so_far.1 c.in-Some.slab.y0 c.in-Some.slab.y1 c.in-Some.ensures.from c.in-Some.ensures.slab c.next.new.self.runs
     _ c.next.new.self.y c.join_runs.new.self.waiting.items c.join_runs.new.self.growing.items c.in-Some.ensures.to (rw c.runs.ensures at c.in_ok-join_runs.ensures.count) (rw c.runs.ensures at c.in_ok-join_runs.ensures.waiting) (rw c.runs.ensures at c.in_ok-join_runs.ensures.growing))
 
-pub next-requires-clause-stub : goal.next-requires-clause-stub
-next-requires-clause-stub g c = ?
-
 pub returns-in_default-clause-never_more : goal.returns-in_default-clause-never_more
 returns-in_default-clause-never_more g c = let fewer = returns-in_default-clause-fewer g c refl in omega (arith, fewer)
 
