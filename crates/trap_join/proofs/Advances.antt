@@ -14,8 +14,8 @@ use Rattle.scan_line.specs.declared.runs.Run.{Run}
 use Rattle.trap_join.specs.declared.front.Growing.{Growing}
 use Rattle.trap_join.specs.Fronts.{grown_into, ended_at, ended, FrontStandsApart}
 use Rattle.trap_join.specs.Joins.{IsTakenIn, IsJoinedSoFar, still_left}
-use Rattle.trap_join.specs.Maximal.{IsMaximal}
-use Rattle.trap_join.proofs.Growth.{joined_more, joined_end, front_shots, front_stands, stop_within, slab_falls, end_falls, ended_length, giving_falls, given_one, given_maximal, given_after, joined_whole, covered_whole}
+use Rattle.trap_join.specs.Maximal.{IsMaximal, AreMaximal}
+use Rattle.trap_join.proofs.Growth.{joined_more, joined_end, front_shots, front_stands, stop_within, slab_falls, end_falls, ended_length, giving_falls, given_one, given_maximal, given_after, joined_whole, maximal_whole, covered_whole}
 
 module _ (post : ℤ → ℤ → Bool → Type 0) (edges : List EdgeParts) (window : RowRange) (y : ℤ) (given waiting : List Trapezoid) (front : List Growing) (so_far : IsJoinedSoFar post edges window y (given ++ waiting) (map (ended_at y) front)) where
   pub shots_at : (x : ℤ) → x ≡ y → All (λ (o : Growing). IsShot (ended_at x o)) front
@@ -103,6 +103,9 @@ module _ (post : ℤ → ℤ → Bool → Type 0) (edges : List EdgeParts) (wind
 
   pub ends_joined : waiting ≡ [] → front ≡ [] → y ≡ window.y1 → IsJoined window given
   ends_joined ew ef at_end = joined_whole post edges window y given (nothing_held ew ef) at_end
+
+  pub ends_maximal : waiting ≡ [] → front ≡ [] → y ≡ window.y1 → AreMaximal (IsTakenIn post edges window) window given
+  ends_maximal ew ef at_end = maximal_whole post edges window y given (nothing_held ew ef) at_end
 
   pub ends_covers : waiting ≡ [] → front ≡ [] → y ≡ window.y1 → CoversExactly given (IsTakenIn post edges window)
   ends_covers ew ef at_end = covered_whole post edges window y given (nothing_held ew ef) at_end

@@ -24,12 +24,12 @@ use Rattle.half_grid.proofs.ForCallers.{tile_with, tile_with_number, in_by_numbe
 use Rattle.scan_line.specs.Runs.{AreRuns, AreRunsOfSlab, StandApart}
 use Rattle.scan_line.specs.declared.runs.Run.{Run}
 use Rattle.trap_join.specs.declared.front.Growing.{Growing}
-use Rattle.trap_join.specs.Maximal.{IsRunAt, IsMaximal}
+use Rattle.trap_join.specs.Maximal.{IsRunAt, IsMaximal, AreMaximal}
 use Rattle.trap_join.specs.Fronts.{goes_on, bottom_of, grown_into, ended_at, ends_below, ended, FrontStandsApart}
 use Rattle.trap_join.specs.Joins.{IsTakenIn, IsGrowingIn, IsJoinedSoFar, rows_up, still_left}
 use Rattle.trap_join.proofs.Members.{none_in_empty, is_first, among_rest, first_or_later, all_members, mapped, origin, passed, passing, some_member, any_by, Found}
 use Rattle.trap_join.proofs.Rows.{inside_at, runs_apart}
-use Rattle.trap_join.proofs.MaximalLemmas.{run_left, run_right, same_rows, maximal_joined, maximal_cover}
+use Rattle.trap_join.proofs.MaximalLemmas.{run_left, run_right, same_rows, maximal_joined, maximal_cover, all_found}
 use Rattle.trap_join.proofs.XOrder.{goes_on_left, goes_on_right, goes_on_by}
 use Rattle.trap_join.proofs.Merging.{all_end}
 use Rattle.trap_join.proofs.Orders.{AllBefore, order_append, order_first, order_second, order_between, order_filter, order_grown}
@@ -424,6 +424,9 @@ module _ (post : ℤ → ℤ → Bool → Type 0) (edges : List EdgeParts) (wind
 
     pub joined_whole : IsJoined window given
     joined_whole = maximal_joined (IsTakenIn post edges window) window given order_all so_far.finished found_all
+
+    pub maximal_whole : AreMaximal (IsTakenIn post edges window) window given
+    maximal_whole = record { each = so_far.finished; all = all_found (IsTakenIn post edges window) window given (λ z h. All-contains (IsMaximal (IsTakenIn post edges window) window) given z so_far.finished h) found_all }
 
     pub covered_whole : CoversExactly given (IsTakenIn post edges window)
     covered_whole = maximal_cover (IsTakenIn post edges window) window given order_all so_far.finished found_all

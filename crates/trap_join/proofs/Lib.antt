@@ -7,3 +7,4 @@ pub mod Slabs
 pub mod Orders
 pub mod Growth
 pub mod Advances
+pub mod ForCallers

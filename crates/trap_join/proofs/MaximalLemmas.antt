@@ -132,6 +132,17 @@ module _ (area : Tile → Type 0) (window : RowRange) where
       never = λ t out. none_counted t traps (λ f. out (tile_inside f.0 t (one f.0 f.1) (has_in t f.0 f.2)));
     }
 
+  -- a list of maximal trapezoids that covers the area has them all
+  pub all_found : (traps : List Trapezoid) → ((z : Trapezoid) → Contains traps z → IsMaximal area window z) → FindsAll traps → (z : Trapezoid) → IsMaximal area window z → Contains traps z
+  all_found traps each all z m =
+      let rows = m.legal.has_rows in
+      let run = m.runs z.y0 (omega (arith, ints)) rows in
+      let n = place z.left z.y0 in
+      let i = in_at z n z.y0 (omega (arith, ints)) rows (omega (arith, ints)) run.has_tile in
+      let f = all (tile_with n z.y0) (tile_inside z (tile_with n z.y0) m i) in
+      let e = same_maximal f.0 z (tile_with n z.y0) (each f.0 f.1) m (has_in (tile_with n z.y0) f.0 f.2) i in
+      subst (λ (u : Trapezoid). Contains traps u) e f.1
+
 -- ---- a joined list has the maximal trapezoids
 
 -- each tile of the area is in a member of a list that covers it
@@ -222,15 +233,5 @@ module _ (area : Tile → Type 0) (window : RowRange) (traps : List Trapezoid) (
     bottom = λ _ run. no_run_below z h run;
   }
 
-  maximal_member : (z : Trapezoid) → IsMaximal area window z → Contains traps z
-  maximal_member z m =
-      let rows = m.legal.has_rows in
-      let run = m.runs z.y0 (omega (arith, ints)) rows in
-      let n = place z.left z.y0 in
-      let i = in_at z n z.y0 (omega (arith, ints)) rows (omega (arith, ints)) run.has_tile in
-      let f = found_in (tile_with n z.y0) (tile_inside area window z (tile_with n z.y0) m i) in
-      let e = same_maximal area window f.0 z (tile_with n z.y0) (member_maximal f.0 f.1) m (has_in (tile_with n z.y0) f.0 f.2) i in
-      subst (λ (u : Trapezoid). Contains traps u) e f.1
-
   pub joined_maximal : AreMaximal area window traps
-  joined_maximal = record { each = all_members (IsMaximal area window) traps member_maximal; all = maximal_member }
+  joined_maximal = record { each = all_members (IsMaximal area window) traps member_maximal; all = all_found area window traps member_maximal found_in }

@@ -3,7 +3,7 @@ ghost use Rattle.std.specs.Option.{option_to_list};
 ghost use Rattle.half_grid.specs.Trapezoids.{Trapezoid, CoversExactly};
 ghost use Rattle.half_grid.specs.JoinedLists.{IsJoined, StandsBefore};
 ghost use Rattle.scan_line.specs.Rules.{IsRule};
-ghost use Rattle.trap_join.specs.Maximal.{IsMaximal};
+ghost use Rattle.trap_join.specs.Maximal.{IsMaximal, AreMaximal};
 ghost use Rattle.trap_join.specs.Joins.{IsTakenIn, IsJoinedSoFar, IsFrontOf, HasGiven, TopIsKnown, left_in, left_to_give, area_of};
 
 use crate::front::Front;
@@ -72,6 +72,7 @@ fn take_next<F: Fn(i128, i128) -> bool>(scan: &mut Scan<F>, front: &mut Front) -
     ensures in_order { (given : List Trapezoid) → IsFrontOf (F.post scan.old.rule) scan.old front.old given → IfOk result (λ answer. IfSome answer (λ trap. All (λ z. StandsBefore z trap) given)) }
     ensures ends { (given : List Trapezoid) → IsFrontOf (F.post scan.old.rule) scan.old front.old given → IfOk result (λ answer. IfNone answer (IsFrontOf (F.post scan.old.rule) scan.new front.new given)) }
     ensures joined { (given : List Trapezoid) → IsFrontOf (F.post scan.old.rule) scan.old front.old given → IfOk result (λ answer. IfNone answer (IsJoined scan.old.window given)) }
+    ensures whole { (given : List Trapezoid) → IsFrontOf (F.post scan.old.rule) scan.old front.old given → IfOk result (λ answer. IfNone answer (AreMaximal (IsTakenIn (F.post scan.old.rule) scan.old.edges scan.old.window) scan.old.window given)) }
     ensures covers { (given : List Trapezoid) → IsFrontOf (F.post scan.old.rule) scan.old front.old given → IfOk result (λ answer. IfNone answer (CoversExactly given (IsTakenIn (F.post scan.old.rule) scan.old.edges scan.old.window))) }
     ensures fewer { IfOk result (λ answer. left_in scan.new front.new + length (option_to_list answer) ≤ left_in scan.old front.old) }
     ensures rule { scan.new.rule ≡ scan.old.rule }
@@ -124,6 +125,7 @@ impl<F: Fn(i128, i128) -> bool> Join<F> {
         ensures in_order { (given : List Trapezoid) → HasGiven (F.post self.old.rule) self.old given → IfOk result (λ answer. IfSome answer (λ trap. All (λ z. StandsBefore z trap) given)) }
         ensures ends { (given : List Trapezoid) → HasGiven (F.post self.old.rule) self.old given → IfOk result (λ answer. IfNone answer (HasGiven (F.post self.old.rule) self.new given)) }
         ensures joined { (given : List Trapezoid) → HasGiven (F.post self.old.rule) self.old given → IfOk result (λ answer. IfNone answer (IsJoined self.old.window given)) }
+        ensures whole { (given : List Trapezoid) → HasGiven (F.post self.old.rule) self.old given → IfOk result (λ answer. IfNone answer (AreMaximal (area_of (F.post self.old.rule) self.old) self.old.window given)) }
         ensures covers { (given : List Trapezoid) → HasGiven (F.post self.old.rule) self.old given → IfOk result (λ answer. IfNone answer (CoversExactly given (area_of (F.post self.old.rule) self.old))) }
         ensures fewer { IfOk result (λ answer. left_to_give self.new + length (option_to_list answer) ≤ left_to_give self.old) }
         ensures going { OnOk result (self.new.failed ≡ false) }

@@ -3,7 +3,7 @@ use Rattle.half_grid.specs.Trapezoids.{Trapezoid}
 use Rattle.trap_join.specs.Joins.{left_in, still_left}
 use Rattle.half_grid.specs.Windows.{RowRange}
 use Rattle.trap_join.specs.Fronts.{ended_at}
-use Rattle.trap_join.proofs.Advances.{stays_joined, waits_as, taken_some, taken_maximal, taken_after, ends_joined, ends_covers, moved_rule, nothing_waits, given_less}
+use Rattle.trap_join.proofs.Advances.{stays_joined, waits_as, taken_some, taken_maximal, taken_after, ends_joined, ends_maximal, ends_covers, moved_rule, nothing_waits, given_less}
 use Rattle.trap_join.proofs.join.take_next.Goals as goal
 
 pub returns-in-Some-clause-gives : goal.returns-in-Some-clause-gives
@@ -64,6 +64,20 @@ returns-then-not-branch-clause-covers g c = λ given so_far.
     let none_grows = ap (map (ended_at c.advance.new.scan.y)) (c.in_ok-advance.ensures.none c.if-not-branch.true) in
     let at_end = c.in_ok-advance.ensures.over c.if-not-branch.true ∙ ap (λ (w : RowRange). w.y1) window in
     ends_covers _ c.args.scan.now.edges c.args.scan.now.window c.advance.new.scan.y given c.advance.new.front.waiting.items _ here none_waits none_grows at_end
+
+pub returns-then-not-branch-clause-whole : goal.returns-then-not-branch-clause-whole
+returns-then-not-branch-clause-whole g c = λ given so_far.
+    let post : g.row.F.Denot → ℤ → ℤ → Bool → Type 0 = λ rule a b r. g.F.Fn.post rule (a, (b, tt)) r in
+    let before = moved_rule post c.args.scan.now.rule c.loop-trap.scan.rule c.loop-trap.scan.edges c.loop-trap.scan.window c.loop-trap.scan.y _ _ (sym c.loop-trap.invariant.rule)
+    (waits_as _ c.loop-trap.scan.edges c.loop-trap.scan.window c.loop-trap.scan.y given c.loop-trap.front.waiting.items _ (c.loop-trap.invariant.joined given so_far) c.pop_front.new.self.items c.in_default.ensures.items) in
+    let after = moved_rule post c.loop-trap.scan.rule c.args.scan.now.rule c.advance.new.scan.edges c.advance.new.scan.window c.advance.new.scan.y _ _ c.loop-trap.invariant.rule (c.in_ok-advance.ensures.joined given before) in
+    let edges = c.in_ok-advance.ensures.edges ∙ c.loop-trap.invariant.edges in
+    let window = c.in_ok-advance.ensures.window ∙ c.loop-trap.invariant.window in
+    let here = stays_joined _ c.advance.new.scan.edges c.args.scan.now.edges c.advance.new.scan.window c.args.scan.now.window _ _ _ (sym edges) (sym window) after in
+    let none_waits = c.in_ok-advance.ensures.same c.if-not-branch.true ∙ nothing_waits c.loop-trap.front.waiting.items c.pop_front.new.self.items c.in_default.ensures.items c.in_default.ensures.rest in
+    let none_grows = ap (map (ended_at c.advance.new.scan.y)) (c.in_ok-advance.ensures.none c.if-not-branch.true) in
+    let at_end = c.in_ok-advance.ensures.over c.if-not-branch.true ∙ ap (λ (w : RowRange). w.y1) window in
+    ends_maximal _ c.args.scan.now.edges c.args.scan.now.window c.advance.new.scan.y given c.advance.new.front.waiting.items _ here none_waits none_grows at_end
 
 pub returns-then-not-branch-clause-fewer : goal.returns-then-not-branch-clause-fewer
 returns-then-not-branch-clause-fewer g c =
