@@ -1,14 +1,13 @@
 -- What a slab, or the end, leaves of a front.
-use Rattle.std.proofs.Common.{◌≡◌, ℕ, ◌+◌, ◌<◌, ◌≤◌, Bool, ℤ, pos, ◌-ℤ◌, ◌≤ℤ◌, ◌<ℤ◌, arith, refl, ap, subst, ◌∙◌, sym, List, [], ◌∷◌, ◌++◌, map, append_assoc, append-nil, length-append, ◌^◌, length, drop}
+use Rattle.std.proofs.Common.{◌≡◌, ℕ, ◌+◌, ◌<◌, ◌≤◌, Bool, ℤ, pos, ◌-ℤ◌, ◌≤ℤ◌, arith, refl, ap, subst, ◌∙◌, sym, List, [], ◌∷◌, ◌++◌, map, append_assoc, append-nil, length-append, ◌^◌, length, drop}
 use Rattle.std.proofs.lemmas.Int.{ints}
 use Rattle.std.proofs.lemmas.List.{length-map, length-drop}
 use Rattle.std.specs.List.{All}
 use Rattle.half_grid.specs.Edges.{EdgeParts}
-use Rattle.half_grid.specs.Sides.{IsSide}
 use Rattle.half_grid.specs.Trapezoids.{Trapezoid, IsShot, CoversExactly}
 use Rattle.half_grid.specs.JoinedLists.{IsJoined, StandsBefore}
 use Rattle.half_grid.specs.Windows.{RowRange, row_range}
-use Rattle.scan_line.specs.Runs.{AreRunsOfSlab, StandApart}
+use Rattle.scan_line.specs.Runs.{AreRunsOfSlab}
 use Rattle.scan_line.specs.Stops.{IsSlab}
 use Rattle.scan_line.specs.declared.runs.Run.{Run}
 use Rattle.trap_join.specs.declared.front.Growing.{Growing}

@@ -1,7 +1,6 @@
 -- One slab more: what was joined below a stop, with the runs of the slab above it, is joined below the next stop.
-use Rattle.std.proofs.Common.{◌≡◌, ℕ, ◌+◌, ◌-◌, ◌*◌, ◌<◌, ◌≤◌, ℤ, pos, negsuc, ◌+ℤ◌, ◌-ℤ◌, ◌≤ℤ◌, ◌<ℤ◌, Bool, true, false, not, arith, refl, ap, subst, ◌∙◌, sym, List, [], ◌∷◌, ◌++◌, map, filter, append-nil, append_assoc, ◌^◌, length}
+use Rattle.std.proofs.Common.{◌≡◌, ℕ, ◌+◌, ◌*◌, ◌<◌, ◌≤◌, ℤ, pos, negsuc, ◌+ℤ◌, ◌-ℤ◌, ◌≤ℤ◌, ◌<ℤ◌, Bool, true, false, not, arith, refl, ap, subst, ◌∙◌, sym, List, [], ◌∷◌, ◌++◌, map, filter, append-nil, append_assoc, ◌^◌, length}
 use Rattle.std.proofs.lemmas.Int.{ints, by_lt_z}
-use Rattle.std.proofs.lemmas.Bool.{false_from_ne_true}
 use Rattle.std.proofs.lemmas.List.Elements.{All-contains, All-nil, All-append, All-weaker, Contains-append_left, Contains-append_right, Contains-append_cases}
 use Rattle.std.proofs.Math.Nat.{mul-le-mul_right}
 use Rattle.std.proofs.lemmas.List.{length-map}
@@ -14,14 +13,14 @@ use mathlib.Core.Logic.{◌⊎◌, inl, inr}
 use Rattle.half_grid.specs.Edges.{EdgeParts}
 use Rattle.half_grid.specs.Lines.{x_on}
 use Rattle.half_grid.specs.Rows.{place, number_in_row}
-use Rattle.half_grid.specs.Trapezoids.{Trapezoid, IsShot, IsLegal, IsInTrapezoid, CoversExactly, trapezoid}
+use Rattle.half_grid.specs.Trapezoids.{Trapezoid, IsShot, IsInTrapezoid, CoversExactly, trapezoid}
 use Rattle.half_grid.specs.Windows.{RowRange, row_range}
-use Rattle.half_grid.specs.JoinedLists.{IsInWindow, IsJoined, StandsBefore, StandInOrder}
+use Rattle.half_grid.specs.JoinedLists.{IsJoined, StandsBefore, StandInOrder}
 use Rattle.half_grid.specs.declared.plane.Tile.{Tile}
 use Rattle.half_grid.specs.declared.plane.Line.{Line}
 use Rattle.half_grid.specs.declared.plane.Line.TheVariants.{Upright, Rising, Falling}
 use Rattle.half_grid.proofs.ForCallers.{tile_with, tile_with_number, in_by_number, number_between, in_has, same_trapezoid}
-use Rattle.scan_line.specs.Runs.{AreRuns, AreRunsOfSlab, StandApart}
+use Rattle.scan_line.specs.Runs.{AreRunsOfSlab}
 use Rattle.scan_line.specs.declared.runs.Run.{Run}
 use Rattle.trap_join.specs.declared.front.Growing.{Growing}
 use Rattle.trap_join.specs.Maximal.{IsRunAt, IsMaximal, AreMaximal}
@@ -31,9 +30,8 @@ use Rattle.trap_join.proofs.Members.{none_in_empty, is_first, among_rest, first_
 use Rattle.trap_join.proofs.Rows.{inside_at, runs_apart}
 use Rattle.trap_join.proofs.MaximalLemmas.{run_left, run_right, same_rows, maximal_joined, maximal_cover, all_found}
 use Rattle.trap_join.proofs.XOrder.{goes_on_left, goes_on_right, goes_on_by}
-use Rattle.trap_join.proofs.Merging.{all_end}
-use Rattle.trap_join.proofs.Orders.{AllBefore, order_append, order_first, order_second, order_between, order_filter, order_grown}
-use Rattle.trap_join.proofs.Slabs.{other_rows, run_in_rows, has_taken, scan_run, found_run}
+use Rattle.trap_join.proofs.Orders.{order_append, order_first, order_second, order_between, order_filter, order_grown}
+use Rattle.trap_join.proofs.Slabs.{run_in_rows, has_taken, scan_run, found_run}
 
 not_flat : (a b c : ℤ) (l r : Line) → a <ℤ b → b <ℤ c → pos 0 ≤ℤ (x_on r a -ℤ x_on l a) → pos 0 ≤ℤ (x_on r c -ℤ x_on l c) → pos 0 <ℤ ((x_on r a -ℤ x_on l a) +ℤ (x_on r b -ℤ x_on l b)) → pos 0 <ℤ ((x_on r b -ℤ x_on l b) +ℤ (x_on r c -ℤ x_on l c)) → pos 0 <ℤ ((x_on r a -ℤ x_on l a) +ℤ (x_on r c -ℤ x_on l c))
 not_flat a b c (Upright k) (Upright m) p q u v s t = omega (arith, ints)
@@ -126,7 +124,7 @@ module _ (post : ℤ → ℤ → Bool → Type 0) (edges : List EdgeParts) (wind
           in_window = record { low = low; high = omega (arith, ints, up, within) };
           runs = λ j a b. run_in_rows post edges (row_range window.y0 y) window o.left o.right j (omega (arith, ints, low, a)) b (omega (arith, ints, low, a)) (omega (arith, ints, b, up, within)) (m.runs j a b);
           top = λ _ run. (let f = found_run post edges y runs (are.rows y (omega (arith, ints)) up) window o.left o.right low_row (omega (arith, ints, up, within)) run in
-          not_false (list_any (goes_on o) runs) (list_any-from_Any (goes_on o) runs (any_by (λ (u : Run). goes_on o u ≡ true) f.0 runs f.1 (goes_on_by o f.0 (sym f.2) (sym f.3)))) ends);
+              not_false (list_any (goes_on o) runs) (list_any-from_Any (goes_on o) runs (any_by (λ (u : Run). goes_on o u ≡ true) f.0 runs f.1 (goes_on_by o f.0 (sym f.2) (sym f.3)))) ends);
           bottom = λ lt run. (let rows = m.legal.has_rows in m.bottom lt (run_in_rows post edges window (row_range window.y0 y) o.left o.right (o.y0 -ℤ pos 1) (omega (arith, ints, lt)) (omega (arith, ints, rows, up, within)) (omega (arith, ints, lt)) (omega (arith, ints, rows)) run));
         }
 
@@ -209,7 +207,7 @@ module _ (post : ℤ → ℤ → Bool → Type 0) (edges : List EdgeParts) (wind
         elim (Contains-append_cases done (map (ended_at y) front) s.0 s.1) [
           | inl hd ↦ not_done n s.0 h hd lt whole s.2
           | inr hf ↦ (let o = origin (ended_at y) s.0 front hf in
-          not_growing n o.0 o.1 (new.none o.0 o.1) below (subst (λ (u : Trapezoid). IsInTrapezoid u (tile_with x (y -ℤ pos 1))) (sym o.2) s.2))
+              not_growing n o.0 o.1 (new.none o.0 o.1) below (subst (λ (u : Trapezoid). IsInTrapezoid u (tile_with x (y -ℤ pos 1))) (sym o.2) s.2))
         ]
 
     grown_new : (n : Run) → Contains runs n → IsNew front y n → IsGrowingIn (Below top) (row_range window.y0 top) (trapezoid y top n.left n.right)
@@ -255,12 +253,12 @@ module _ (post : ℤ → ℤ → Bool → Type 0) (edges : List EdgeParts) (wind
     same_bottom : (n : Run) (o : Growing) → Contains front o → goes_on o n ≡ true → bottom_of front y n ≡ o.y0
     same_bottom n o ho goes = elim (former front y n) [
       | inl f ↦ (let m = (growing_one f.o f.member).maximal in
-      let k = (growing_one o ho).maximal in
-      let a = m.legal.has_rows in
-      let b = k.legal.has_rows in
-      let e = same_rows (Below y) (row_range window.y0 y) (ended_at y f.o) (ended_at y o) (y -ℤ pos 1) m k (goes_on_left f.o n f.goes ∙ sym (goes_on_left o n goes)) (goes_on_right f.o n f.goes ∙ sym (goes_on_right o n goes))
-      (omega (arith, ints, a)) (omega (arith, ints)) (omega (arith, ints, b)) (omega (arith, ints)) in
-      f.bottom ∙ ap (λ (u : Trapezoid). u.y0) e)
+          let k = (growing_one o ho).maximal in
+          let a = m.legal.has_rows in
+          let b = k.legal.has_rows in
+          let e = same_rows (Below y) (row_range window.y0 y) (ended_at y f.o) (ended_at y o) (y -ℤ pos 1) m k (goes_on_left f.o n f.goes ∙ sym (goes_on_left o n goes)) (goes_on_right f.o n f.goes ∙ sym (goes_on_right o n goes))
+          (omega (arith, ints, a)) (omega (arith, ints)) (omega (arith, ints, b)) (omega (arith, ints)) in
+          f.bottom ∙ ap (λ (u : Trapezoid). u.y0) e)
       | inr new ↦ not_true (goes_on o n) (new.none o ho) goes
     ]
 
@@ -283,7 +281,7 @@ module _ (post : ℤ → ℤ → Bool → Type 0) (edges : List EdgeParts) (wind
         elim (Contains-append_cases done (map (ended_at y) front) s.0 s.1) [
           | inl hd ↦ cover_done t s.0 (Contains-append_left done (ended runs y front) s.0 hd) s.2
           | inr hf ↦ (let o = origin (ended_at y) s.0 front hf in
-          cover_front t o.0 (list_any (goes_on o.0) runs) o.1 lt (subst (λ (u : Trapezoid). IsInTrapezoid u t) (sym o.2) s.2) refl)
+              cover_front t o.0 (list_any (goes_on o.0) runs) o.1 lt (subst (λ (u : Trapezoid). IsInTrapezoid u t) (sym o.2) s.2) refl)
         ]
 
     bottom_low : (n : Run) → bottom_of front y n ≤ℤ y
@@ -327,8 +325,8 @@ module _ (post : ℤ → ℤ → Bool → Type 0) (edges : List EdgeParts) (wind
     all_finished z h = elim (Contains-append_cases done (ended runs y front) z h) [
       | inl hd ↦ finished_one z hd
       | inr he ↦ (let o = origin (ended_at y) z (filter (ends_below runs) front) he in
-      let member = passing (ends_below runs) o.0 front o.1 in
-      subst (λ (u : Trapezoid). IsMaximal Whole window u) o.2 (finish o.0 member.0 member.1))
+          let member = passing (ends_below runs) o.0 front o.1 in
+          subst (λ (u : Trapezoid). IsMaximal Whole window u) o.2 (finish o.0 member.0 member.1))
     ]
 
     all_grown : (z : Trapezoid) → Contains (map (ended_at top) (map (grown_into front y) runs)) z → IsGrowingIn (Below top) (row_range window.y0 top) z
@@ -365,9 +363,9 @@ module _ (post : ℤ → ℤ → Bool → Type 0) (edges : List EdgeParts) (wind
       let run = m.runs (y -ℤ pos 1) (omega (arith, ints, rows)) (omega (arith, ints)) in (
         run.has_tile,
         all_members (λ (p : Growing). place o.right (y -ℤ pos 1) <ℤ place p.left (y -ℤ pos 1)) rest (λ p h. (let k = (growing_one post edges window y done front so_far p (f p (among_rest o p rest h))).maximal in
-        let its_rows = k.legal.has_rows in
-        let its_run = k.runs (y -ℤ pos 1) (omega (arith, ints, its_rows)) (omega (arith, ints)) in
-        runs_apart o.left o.right p.left p.right (y -ℤ pos 1) run its_run (left_of y o p (All-contains (StandsBefore (ended_at y o)) (map (ended_at y) rest) (ended_at y p) order.0 (mapped (ended_at y) p rest h))))),
+            let its_rows = k.legal.has_rows in
+            let its_run = k.runs (y -ℤ pos 1) (omega (arith, ints, its_rows)) (omega (arith, ints)) in
+            runs_apart o.left o.right p.left p.right (y -ℤ pos 1) run its_run (left_of y o p (All-contains (StandsBefore (ended_at y o)) (map (ended_at y) rest) (ended_at y p) order.0 (mapped (ended_at y) p rest h))))),
         stands_by rest (λ p h. f p (among_rest o p rest h)) order.1,
       )
 

@@ -1,18 +1,18 @@
 -- A list that covers an area is joined exactly where it has exactly the area's maximal trapezoids.
-use Rattle.std.proofs.Common.{◌≡◌, ℕ, suc, ◌≤◌, ℤ, pos, ◌+ℤ◌, ◌-ℤ◌, ◌≤ℤ◌, ◌<ℤ◌, true, arith, refl, subst, ap, ◌∙◌, sym, List, [], ◌∷◌}
+use Rattle.std.proofs.Common.{◌≡◌, ◌≤◌, ℤ, pos, ◌-ℤ◌, ◌≤ℤ◌, ◌<ℤ◌, arith, refl, subst, ap, sym, List, [], ◌∷◌}
 use Rattle.std.proofs.lemmas.Int.{ints, by_lt_z}
-use Rattle.std.proofs.lemmas.List.Elements.{All-contains, All-head, All-tail, All-weaker}
+use Rattle.std.proofs.lemmas.List.Elements.{All-contains}
 use Rattle.std.specs.List.{All, Contains}
 use mathlib.Core.Logic.{◌⊎◌, inl, inr}
 use Rattle.half_grid.specs.Rows.{place, number_in_row}
-use Rattle.half_grid.specs.Trapezoids.{Trapezoid, trapezoid, IsInTrapezoid, IsLegal, CoversExactly, count_in, trapezoid_has}
+use Rattle.half_grid.specs.Trapezoids.{Trapezoid, IsInTrapezoid, IsLegal, CoversExactly, count_in}
 use Rattle.half_grid.specs.Windows.{RowRange}
 use Rattle.half_grid.specs.JoinedLists.{IsInWindow, IsBeside, StandsBefore, StandInOrder, IsJoined}
 use Rattle.half_grid.specs.declared.plane.Tile.{Tile}
 use Rattle.half_grid.specs.declared.plane.Line.{Line}
 use Rattle.half_grid.proofs.ForCallers.{tile_with, tile_with_number, has_in, in_has, number_between, in_by_number, legal_places, same_trapezoid}
 use Rattle.trap_join.specs.Maximal.{IsRunAt, IsMaximal, AreMaximal}
-use Rattle.trap_join.proofs.Members.{none_in_empty, among_rest, is_first, first_or_later, all_members, counted, Found, found, one_only, none_counted, once_more}
+use Rattle.trap_join.proofs.Members.{among_rest, is_first, all_members, counted, Found, found, one_only, none_counted, once_more}
 use Rattle.trap_join.proofs.Rows.{inside_at, same_left, same_right}
 
 -- ---- tiles of a trapezoid, by numbers

@@ -1,6 +1,6 @@
 -- Members of lists, and how many trapezoids of a list have a tile.
-use Rattle.std.proofs.Common.{◌≡◌, ℕ, zero, suc, ◌≤◌, ◌+◌, Bool, true, false, cond, arith, refl, ap, subst, ◌∙◌, sym, List, [], ◌∷◌, ◌++◌, map, filter}
-use Rattle.std.proofs.lemmas.List.Elements.{All-contains, All-weaker, All-contains_itself, Contains-push_cases, Contains-append_cases, Contains-append_right, Contains-append_left, Contains-push}
+use Rattle.std.proofs.Common.{◌≡◌, ℕ, zero, suc, ◌≤◌, Bool, true, false, cond, arith, refl, ap, subst, ◌∙◌, sym, List, [], ◌∷◌, map, filter}
+use Rattle.std.proofs.lemmas.List.Elements.{All-weaker, All-contains_itself, Contains-push_cases, Contains-append_cases, Contains-append_right, Contains-append_left, Contains-push}
 use Rattle.std.specs.List.{All, Any, Contains}
 use mathlib.Core.Logic.{◌⊎◌, inl, inr}
 use Rattle.half_grid.specs.Trapezoids.{Trapezoid, count_in, trapezoid_has}

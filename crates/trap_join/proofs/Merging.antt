@@ -1,19 +1,18 @@
 -- A merge of a front with the runs of the row above, step by step.
-use Rattle.std.proofs.Common.{◌≡◌, ℕ, zero, suc, ◌+◌, ◌<◌, ◌≤◌, length, get_or, take, drop, ℤ, pos, ◌-ℤ◌, ◌<ℤ◌, Bool, true, false, cond, not, ◌&&◌, arith, refl, ap, ◌∙◌, sym, subst, List, [], ◌∷◌, ◌++◌, map, filter, append_assoc}
+use Rattle.std.proofs.Common.{◌≡◌, ℕ, zero, suc, length, drop, ℤ, pos, ◌-ℤ◌, ◌<ℤ◌, Bool, true, false, cond, not, ◌&&◌, arith, refl, ap, ◌∙◌, sym, subst, List, [], ◌∷◌, ◌++◌, map, filter, append_assoc}
 use Rattle.std.proofs.lemmas.Int.{ints}
 use Rattle.std.proofs.lemmas.Bool.{false_from_ne_true}
-use Rattle.std.proofs.lemmas.List.Elements.{All-head, All-tail, All-contains}
-use Rattle.std.specs.List.{All, Contains, list_any}
+use Rattle.std.proofs.lemmas.List.Elements.{All-contains}
+use Rattle.std.specs.List.{Contains, list_any}
 use mathlib.Core.Logic.{◌⊎◌, inl, inr}
 use Rattle.half_grid.specs.Rows.{place}
-use Rattle.half_grid.specs.Trapezoids.{Trapezoid}
 use Rattle.half_grid.specs.declared.plane.Line.{Line}
 use Rattle.scan_line.specs.Runs.{StandApart}
 use Rattle.scan_line.specs.declared.runs.Run.{Run}
 use Rattle.trap_join.specs.declared.front.Growing.{Growing}
-use Rattle.trap_join.specs.declared.front.Meeting.TheVariants.{Ends, Begins, GoesOn}
+use Rattle.trap_join.specs.declared.front.Meeting.TheVariants.{Ends, Begins}
 use Rattle.trap_join.specs.Fronts.{goes_on, all_go_on, bottom_of, grown_into, ended_at, ends_below, ended, FrontStandsApart, IsRunFrom, IsGrowingFrom, IsMeeting}
-use Rattle.trap_join.proofs.Members.{among_rest, is_first, first_or_later, all_members}
+use Rattle.trap_join.proofs.Members.{among_rest, is_first, first_or_later}
 use Rattle.trap_join.proofs.XOrder.{goes_on_left, goes_on_right, both_true}
 
 -- ---- members of lists that stand apart

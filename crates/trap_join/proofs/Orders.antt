@@ -1,16 +1,16 @@
 -- Lists that stand in order: parts of them, and two end to end.
-use Rattle.std.proofs.Common.{◌≡◌, ℤ, pos, ◌-ℤ◌, ◌≤ℤ◌, ◌<ℤ◌, Bool, true, false, cond, arith, refl, subst, List, [], ◌∷◌, ◌++◌, map, filter}
+use Rattle.std.proofs.Common.{ℤ, pos, ◌-ℤ◌, ◌<ℤ◌, Bool, true, false, cond, arith, refl, subst, List, [], ◌∷◌, ◌++◌, map, filter}
 use Rattle.std.proofs.lemmas.Int.{ints}
 use Rattle.std.proofs.lemmas.List.Elements.{All-contains, Contains-append_left, Contains-append_right, Contains-append_cases}
-use Rattle.std.specs.List.{All, Contains}
-use mathlib.Core.Logic.{◌⊎◌, inl, inr}
+use Rattle.std.specs.List.{Contains}
+use mathlib.Core.Logic.{inl, inr}
 use Rattle.half_grid.specs.Rows.{place}
 use Rattle.half_grid.specs.Trapezoids.{Trapezoid}
 use Rattle.half_grid.specs.JoinedLists.{StandsBefore, StandInOrder}
 use Rattle.scan_line.specs.Runs.{StandApart}
 use Rattle.scan_line.specs.declared.runs.Run.{Run}
 use Rattle.trap_join.specs.declared.front.Growing.{Growing}
-use Rattle.trap_join.specs.Fronts.{grown_into, ended_at, FrontStandsApart}
+use Rattle.trap_join.specs.Fronts.{grown_into, ended_at}
 use Rattle.trap_join.proofs.Members.{none_in_empty, is_first, among_rest, first_or_later, all_members, mapped, origin, passing}
 
 -- each of the first list stands before each of the second
@@ -45,8 +45,8 @@ module _ (f : Growing → Trapezoid) (p : Growing → Bool) where
   passed_by : (b : Bool) (x : Growing) (xs : List Growing) → StandInOrder (f x ∷ map f xs) → StandInOrder (map f (filter p xs)) → StandInOrder (map f (cond b (x ∷ filter p xs) (filter p xs)))
   passed_by true x xs o later = (
     all_members (StandsBefore (f x)) (map f (filter p xs)) (λ z h. (let from = origin f z (filter p xs) h in
-    let member = passing p from.0 xs from.1 in
-    All-contains (StandsBefore (f x)) (map f xs) z o.0 (subst (λ (u : Trapezoid). Contains (map f xs) u) from.2 (mapped f from.0 xs member.0)))),
+        let member = passing p from.0 xs from.1 in
+        All-contains (StandsBefore (f x)) (map f xs) z o.0 (subst (λ (u : Trapezoid). Contains (map f xs) u) from.2 (mapped f from.0 xs member.0)))),
     later,
   )
   passed_by false x xs o later = later

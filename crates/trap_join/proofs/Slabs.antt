@@ -1,12 +1,12 @@
 -- The runs of a slab's rows as runs of the area that the rule takes.
-use Rattle.std.proofs.Common.{◌≡◌, ℤ, pos, ◌+ℤ◌, ◌-ℤ◌, ◌≤ℤ◌, ◌<ℤ◌, Bool, true, false, arith, refl, ap, subst, ◌∙◌, sym, List, [], ◌∷◌}
-use Rattle.std.proofs.lemmas.Int.{ints, by_lt_z}
+use Rattle.std.proofs.Common.{◌≡◌, ℤ, pos, ◌+ℤ◌, ◌≤ℤ◌, ◌<ℤ◌, Bool, arith, refl, ap, subst, ◌∙◌, sym, List, [], ◌∷◌}
+use Rattle.std.proofs.lemmas.Int.{ints}
 use Rattle.std.proofs.lemmas.List.Elements.{All-contains}
-use Rattle.std.specs.List.{All, Any, Contains}
+use Rattle.std.specs.List.{Contains}
 use mathlib.Core.Logic.{◌⊎◌, inl, inr}
 use Rattle.half_grid.specs.Edges.{EdgeParts}
 use Rattle.half_grid.specs.Rows.{place, number_in_row}
-use Rattle.half_grid.specs.Windows.{RowRange, row_range}
+use Rattle.half_grid.specs.Windows.{RowRange}
 use Rattle.half_grid.specs.declared.plane.Tile.{Tile}
 use Rattle.half_grid.specs.declared.plane.Line.{Line}
 use Rattle.half_grid.proofs.ForCallers.{tile_with, tile_with_number}
@@ -74,8 +74,8 @@ module _ (post : ℤ → ℤ → Bool → Type 0) (edges : List EdgeParts) where
         let to = has.to in
         elim (which_first j runs has.m n are.apart has.member h) [
           | inl e ↦ (let el : place has.m.left j ≡ place n.left j = ap (λ (u : Run). place u.left j) e in
-          let er : place has.m.right j ≡ place n.right j = ap (λ (u : Run). place u.right j) e in
-          elim side [ inl s ↦ omega (arith, ints, el, er, from, to, s) | inr s ↦ omega (arith, ints, el, er, from, to, s) ])
+              let er : place has.m.right j ≡ place n.right j = ap (λ (u : Run). place u.right j) e in
+              elim side [ inl s ↦ omega (arith, ints, el, er, from, to, s) | inr s ↦ omega (arith, ints, el, er, from, to, s) ])
           | inr (inl before) ↦ elim side [ inl s ↦ omega (arith, ints, before, from, to, own, s) | inr s ↦ omega (arith, ints, before, from, to, own, s) ]
           | inr (inr after) ↦ elim side [ inl s ↦ omega (arith, ints, after, from, to, own, s) | inr s ↦ omega (arith, ints, after, from, to, own, s) ]
         ]
@@ -97,7 +97,9 @@ module _ (post : ℤ → ℤ → Bool → Type 0) (edges : List EdgeParts) where
         let has = has_taken (tile_with x j) refl inside.taken in
         let from = rw (tile_with_number x j) at has.from in
         let to = rw (tile_with_number x j) at has.to in
-        let own = scan_run rows has.m low high has.member in
-        (has.m, has.member,
-        same_left has.m.left has.m.right l r j x own run from to (omega (arith, ints)) run.has_tile,
-        same_right has.m.left has.m.right l r j x own run from to (omega (arith, ints)) run.has_tile)
+        let own = scan_run rows has.m low high has.member in (
+          has.m,
+          has.member,
+          same_left has.m.left has.m.right l r j x own run from to (omega (arith, ints)) run.has_tile,
+          same_right has.m.left has.m.right l r j x own run from to (omega (arith, ints)) run.has_tile,
+        )

@@ -2,7 +2,6 @@
 use Rattle.std.proofs.Common.{◌≡◌, ℤ, pos, ◌+ℤ◌, ◌-ℤ◌, ◌≤ℤ◌, ◌<ℤ◌, Bool, true, false, ◌&&◌, arith, refl, ap, ◌∙◌, sym}
 use Rattle.std.proofs.lemmas.Int.{ints}
 use Rattle.std.proofs.lemmas.Bool.{false_from_ne_true}
-use Rattle.std.specs.Ordering.{int_eq}
 use mathlib.Core.Logic.{◌⊎◌, inl, inr}
 use Rattle.half_grid.specs.Lines.{x_on}
 use Rattle.half_grid.specs.Rows.{place}

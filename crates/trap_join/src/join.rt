@@ -35,7 +35,10 @@ impl<F> Model for Join<F> {
 }
 
 // Joins the next slab, or ends all that grows after the last one. False where there is nothing left.
-fn advance<F: Fn(i128, i128) -> bool>(scan: &mut Scan<F>, front: &mut Front) -> Result<bool, NoMemory>
+fn advance<F: Fn(i128, i128) -> bool>(
+    scan: &mut Scan<F>,
+    front: &mut Front,
+) -> Result<bool, NoMemory>
     requires rule { IsRule (F.pre scan.old.rule) (F.post scan.old.rule) }
     requires so_far { (given : List Trapezoid) × IsFrontOf (F.post scan.old.rule) scan.old front.old given }
     requires top { TopIsKnown front.old scan.old.y }
@@ -63,7 +66,10 @@ fn advance<F: Fn(i128, i128) -> bool>(scan: &mut Scan<F>, front: &mut Front) -> 
 }
 
 // The next trapezoid that ended.
-fn take_next<F: Fn(i128, i128) -> bool>(scan: &mut Scan<F>, front: &mut Front) -> Result<Option<Trap>, NoMemory>
+fn take_next<F: Fn(i128, i128) -> bool>(
+    scan: &mut Scan<F>,
+    front: &mut Front,
+) -> Result<Option<Trap>, NoMemory>
     requires rule { IsRule (F.pre scan.old.rule) (F.post scan.old.rule) }
     requires so_far { (given : List Trapezoid) × IsFrontOf (F.post scan.old.rule) scan.old front.old given }
     requires top { TopIsKnown front.old scan.old.y }

@@ -91,7 +91,13 @@ fn begin_all(runs: &[Run], y: i64, fresh: &mut Vec<Growing>) -> Result<(), NoMem
 }
 
 // Puts the growing trapezoids of the row above the stop into `fresh`, and those that end at the stop into `waiting`.
-fn merge(front: &[Growing], runs: &[Run], y: i64, fresh: &mut Vec<Growing>, waiting: &mut VecDeque<Trap>) -> Result<(), NoMemory>
+fn merge(
+    front: &[Growing],
+    runs: &[Run],
+    y: i64,
+    fresh: &mut Vec<Growing>,
+    waiting: &mut VecDeque<Trap>,
+) -> Result<(), NoMemory>
     requires shots { All (λ growing. IsShot (ended_at y growing)) front.now }
     requires front { FrontStandsApart (y -ℤ pos 1) front.now }
     requires sides { All (λ run. IsSide run.left run.right y) runs.now }
@@ -155,7 +161,13 @@ impl Front {
             return Ok(());
         }
         self.spare.clear();
-        merge(self.growing.as_slice(), runs, y, &mut self.spare, &mut self.waiting)?;
+        merge(
+            self.growing.as_slice(),
+            runs,
+            y,
+            &mut self.spare,
+            &mut self.waiting,
+        )?;
         mem::swap(&mut self.growing, &mut self.spare);
         Ok(())
     }

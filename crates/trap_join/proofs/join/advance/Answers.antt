@@ -1,7 +1,6 @@
-use Rattle.std.proofs.Common.{◌≡◌, ℕ, ◌<◌, length, List, [], ◌∷◌, false, refl, ap, subst, ◌∙◌, sym, arith, w64, FitsSigned, to_z, of_z, rules, vec_len}
+use Rattle.std.proofs.Common.{◌≡◌, length, [], refl, ap, ◌∙◌, arith, w64, FitsSigned, rules}
 use Rattle.std.proofs.lemmas.Int.{to_z-of_z}
 use Rattle.std.proofs.lemmas.Bool.Decides.{nat_tests}
-use Rattle.trap_join.specs.Joins.{left_in}
 use Rattle.trap_join.proofs.Advances.{shots_at, stands_at, slab_joined, slab_left, end_joined, end_left, stays_joined, stays_less, some_growing}
 use Rattle.trap_join.proofs.Growth.{run_sides}
 use Rattle.trap_join.proofs.join.advance.Goals as goal

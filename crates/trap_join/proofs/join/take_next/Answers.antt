@@ -1,5 +1,4 @@
-use Rattle.std.proofs.Common.{◌≡◌, ℕ, ℤ, Bool, ◌≤◌, length, List, [], ◌∷◌, ◌++◌, drop, false, refl, ap, subst, ◌∙◌, sym, arith, map}
-use Rattle.half_grid.specs.Trapezoids.{Trapezoid}
+use Rattle.std.proofs.Common.{ℕ, ℤ, Bool, ◌≤◌, length, ap, ◌∙◌, sym, arith, map}
 use Rattle.trap_join.specs.Joins.{left_in, still_left}
 use Rattle.half_grid.specs.Windows.{RowRange}
 use Rattle.trap_join.specs.Fronts.{ended_at}
@@ -26,9 +25,11 @@ returns-in-Some-clause-fewer g c =
 
 pub advance-requires-clause-so_far : goal.advance-requires-clause-so_far
 advance-requires-clause-so_far g c =
-    let given = c.requires.so_far.0 in
-    (given, moved_rule (λ rule a b r. g.F.Fn.post rule (a, (b, tt)) r) c.args.scan.now.rule c.loop-trap.scan.rule c.loop-trap.scan.edges c.loop-trap.scan.window c.loop-trap.scan.y _ _ (sym c.loop-trap.invariant.rule)
-    (waits_as _ c.loop-trap.scan.edges c.loop-trap.scan.window c.loop-trap.scan.y given c.loop-trap.front.waiting.items _ (c.loop-trap.invariant.joined given c.requires.so_far.1) c.pop_front.new.self.items c.in_default.ensures.items))
+    let given = c.requires.so_far.0 in (
+      given,
+      moved_rule (λ rule a b r. g.F.Fn.post rule (a, (b, tt)) r) c.args.scan.now.rule c.loop-trap.scan.rule c.loop-trap.scan.edges c.loop-trap.scan.window c.loop-trap.scan.y _ _ (sym c.loop-trap.invariant.rule)
+          (waits_as _ c.loop-trap.scan.edges c.loop-trap.scan.window c.loop-trap.scan.y given c.loop-trap.front.waiting.items _ (c.loop-trap.invariant.joined given c.requires.so_far.1) c.pop_front.new.self.items c.in_default.ensures.items),
+    )
 
 pub returns-then-not-branch-clause-ends : goal.returns-then-not-branch-clause-ends
 returns-then-not-branch-clause-ends g c = λ given so_far.

@@ -1,4 +1,4 @@
-use Rattle.std.proofs.Common.{◌≡◌, ◌≤◌, List, ℤ, Bool}
+use Rattle.std.proofs.Common.{◌≡◌, ◌≤◌, List}
 use Rattle.half_grid.specs.Trapezoids.{Trapezoid}
 use Rattle.trap_join.specs.Joins.{IsFrontOf, TopIsKnown, left_in}
 use Rattle.trap_join.proofs.join.take_next.Given as goal

@@ -1,7 +1,5 @@
-use Rattle.std.proofs.Common.{◌≡◌, ℤ, pos, ◌-ℤ◌, ◌<ℤ◌, false, arith, sym, ap, of_z, ◌∙◌, w64, FitsSigned, rules}
+use Rattle.std.proofs.Common.{◌≡◌, pos, ◌-ℤ◌, false, arith, sym, ap, of_z, ◌∙◌, w64, FitsSigned}
 use Rattle.std.proofs.lemmas.Int.{ints, to_z-of_z}
-use Rattle.half_grid.specs.Lines.{x_on}
-use Rattle.half_grid.specs.Rows.{place}
 use Rattle.half_grid.proofs.ForCallers.{legal_places}
 use Rattle.trap_join.specs.Fronts.{goes_on, ended_at}
 use Rattle.trap_join.proofs.XOrder.{ends_left, begins_left, ends_in_point, begins_at}

@@ -1,11 +1,10 @@
-use Rattle.std.proofs.Common.{◌≡◌, ℕ, suc, ◌+◌, ◌-◌, ◌<◌, ◌≤◌, length, get_or, take, drop, ℤ, pos, ◌-ℤ◌, List, [], ◌∷◌, arith, refl, ap, sym, subst, ◌∙◌, w64, FitsSigned, to_z, of_z, add-one, drop-cons, map, Result, Ok, Err, OnOk}
+use Rattle.std.proofs.Common.{◌≡◌, ◌-◌, ◌<◌, length, take, drop, pos, ◌-ℤ◌, [], arith, refl, ap, sym, ◌∙◌, w64, FitsSigned, to_z, of_z, add-one, drop-cons, map, Result, Ok, Err, OnOk}
 use Rattle.std.proofs.lemmas.Int.{to_z-of_z}
 use Rattle.std.proofs.lemmas.List.{take_all, drop_all, length-drop}
 use Rattle.std.proofs.lemmas.List.Elements.{All-get_or, All-take, All-drop, Contains-get_or}
 use mathlib.Core.Logic.{◌⊎◌, inl, inr}
 use Rattle.half_grid.specs.Trapezoids.{IsShot}
 use Rattle.scan_line.specs.Runs.{StandApart}
-use Rattle.scan_line.specs.declared.runs.Run.{Run}
 use Rattle.trap_join.specs.declared.front.Growing.{Growing}
 use Rattle.trap_join.specs.Fronts.{FrontStandsApart, ended_at, ended}
 use Rattle.trap_join.proofs.Merging.{run_has_tile, apart_rest, front_rest, ends_fresh_at, ends_waiting_at, begins_fresh_at, begins_waiting_at, goes_fresh_at, goes_waiting_at, none_put, one_put, all_put, no_more}
@@ -96,9 +95,9 @@ always (Err e) h = tt
 -- the loop ended at the end of one of the lists
 ended_by : (c : goal.After-begin_all) → (drop c.loop-i.i c.args.front.now ≡ []) ⊎ (drop c.loop-i.k c.args.runs.now ≡ [])
 ended_by c = elim c.loop-i-test.branch [
-    | then-loop-i-test+else-k-runs w ↦ inr (drop_all c.loop-i.k c.args.runs.now (omega arith))
-    | else-loop-i-test w ↦ inl (drop_all c.loop-i.i c.args.front.now (omega arith))
-  ]
+  | then-loop-i-test+else-k-runs w ↦ inr (drop_all c.loop-i.k c.args.runs.now (omega arith))
+  | else-loop-i-test w ↦ inl (drop_all c.loop-i.i c.args.front.now (omega arith))
+]
 
 pub returns-clause-waiting : goal.returns-clause-waiting
 returns-clause-waiting c =

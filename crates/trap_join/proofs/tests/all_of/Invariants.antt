@@ -1,4 +1,4 @@
-use Rattle.std.proofs.Common.{◌≡◌, false}
+use Rattle.std.proofs.Common.{◌≡◌}
 use Rattle.trap_join.specs.Joins.{HasGiven, left_to_give}
 use Rattle.trap_join.proofs.tests.all_of.Given as goal
 

@@ -1,7 +1,6 @@
-use Rattle.std.proofs.Common.{◌≡◌, true, ap, ◌++◌, sym, ◌∙◌, append-nil, w64, FitsSigned}
+use Rattle.std.proofs.Common.{◌≡◌, true, ap, sym, ◌∙◌, append-nil, w64, FitsSigned}
 use Rattle.std.proofs.lemmas.Int.{to_z-of_z}
-use Rattle.half_grid.specs.Trapezoids.{IsShot}
-use Rattle.trap_join.specs.Fronts.{all_go_on, ended_at}
+use Rattle.trap_join.specs.Fronts.{all_go_on}
 use Rattle.trap_join.proofs.Merging.{all_fresh, all_waiting}
 use Rattle.trap_join.proofs.front.Front.join_runs.Goals as goal
 
