@@ -126,3 +126,9 @@ given_less end y h whole waiting rest z e fewer =
     let falls = giving_falls end y h (length rest) in
     let same : still_left end y h (length waiting) ≡ still_left end y h (length rest + 1) = ap (λ n. still_left end y h n) count in
     omega (arith, falls, same, fewer)
+
+pub moved_cover : {R : Type 0} (post : R → ℤ → ℤ → Bool → Type 0) (r s : R) (edges other : List EdgeParts) (window range : RowRange) (traps : List Trapezoid) → r ≡ s → edges ≡ other → window ≡ range → CoversExactly traps (IsTakenIn (post r) edges window) → CoversExactly traps (IsTakenIn (post s) other range)
+moved_cover post r s edges other window range traps er ee ew h =
+    subst (λ u. CoversExactly traps (IsTakenIn (post u) other range)) er
+    (subst (λ (es : List EdgeParts). CoversExactly traps (IsTakenIn (post r) es range)) ee
+    (subst (λ (w : RowRange). CoversExactly traps (IsTakenIn (post r) edges w)) ew h))

@@ -14,3 +14,5 @@ pub use Rattle.trap_join.proofs.Growth.{taller_shot}
 -- Members of lists, and parts of lists that stand in order.
 pub use Rattle.trap_join.proofs.Members.{all_members, Found, found, counted, one_only, none_counted, some_member, any_by, mapped, origin, passed, passing}
 pub use Rattle.trap_join.proofs.Orders.{order_append, order_first, order_second, order_between}
+-- What a join has given, and what it covers, at an equal rule, at equal edges and at an equal window.
+pub use Rattle.trap_join.proofs.Advances.{moved_rule, stays_joined, moved_cover}
