@@ -1,9 +1,8 @@
-use Rattle.std.proofs.Common.{◌≡◌, ℤ, Bool, List, [], ◌∷◌, ◌++◌, ◌∙◌, sym, subst}
-use Rattle.half_grid.specs.Edges.{EdgeParts}
+use Rattle.std.proofs.Common.{ℤ, Bool, List, ◌++◌, ◌∙◌, sym, subst}
 use Rattle.half_grid.specs.JoinedLists.{IsJoined}
-use Rattle.half_grid.specs.Trapezoids.{Trapezoid, CoversExactly}
+use Rattle.half_grid.specs.Trapezoids.{Trapezoid}
 use Rattle.half_grid.specs.Windows.{RowRange}
-use Rattle.trap_join.specs.Joins.{IsTakenIn, IsJoinedSoFar}
+use Rattle.trap_join.specs.Joins.{IsJoinedSoFar}
 use Rattle.trap_join.proofs.Advances.{moved_rule, moved_cover}
 use Rattle.trap_join.proofs.tests.all_of.Goals as goal
 
