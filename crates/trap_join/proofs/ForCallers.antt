@@ -1,0 +1,18 @@
+-- What the crates above may cite: lemmas over plain variables, by topic. Their own modules are this crate's answers.
+--
+-- Runs of an area in a row: two that share a tile are one, and others stand apart; the same runs of another area.
+pub use Rattle.trap_join.proofs.Rows.{inside_at, same_left, same_right, runs_apart}
+pub use Rattle.trap_join.proofs.Slabs.{run_in, run_in_rows}
+-- Maximal trapezoids: their tiles, the runs in their rows, and two that share a row or a tile.
+pub use Rattle.trap_join.proofs.MaximalLemmas.{in_at, tile_inside, run_left, run_right, same_rows, same_maximal}
+-- Lists of them against joined lists, and the tiles of a list that covers an area.
+pub use Rattle.trap_join.proofs.MaximalLemmas.{maximal_joined, maximal_cover, all_found, joined_maximal, member_maximal, covered}
+-- The runs of a scan are the runs of its area.
+pub use Rattle.trap_join.proofs.Slabs.{scan_run, found_run}
+-- Two shots between the same lines, one upon the other.
+pub use Rattle.trap_join.proofs.Growth.{taller_shot}
+-- Members of lists, and parts of lists that stand in order.
+pub use Rattle.trap_join.proofs.Members.{all_members, Found, found, counted, one_only, none_counted, some_member, any_by, mapped, origin, passed, passing}
+pub use Rattle.trap_join.proofs.Orders.{order_append, order_first, order_second, order_between}
+-- What a join has given, and what it covers, at an equal rule, at equal edges and at an equal window.
+pub use Rattle.trap_join.proofs.Advances.{moved_rule, stays_joined, moved_cover}

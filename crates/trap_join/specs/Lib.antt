@@ -1,0 +1,3 @@
+pub mod Maximal
+pub mod Fronts
+pub mod Joins
