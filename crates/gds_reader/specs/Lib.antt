@@ -1,0 +1,9 @@
+pub mod Grammar
+pub mod Past
+pub mod Values
+pub mod Meaning
+pub mod Reading
+pub mod Steps
+pub mod Elements
+pub mod Names
+pub mod Wanting

@@ -1,0 +1,147 @@
+//! The shapes of boundaries and paths.
+ghost use Rattle.std.specs.Prelude.{◌≡◌, ◌≢◌, ◌++◌, List, All, OnOk, IfErr, Err};
+ghost use Rattle.layout_model.specs.Layouts.{IsShapeOnGrid};
+ghost use Rattle.layout_model.specs.declared.pair.Pair.{Pair as APair};
+ghost use Rattle.gds_record.specs.declared.kinds.Kind.TheVariants.{Xy};
+ghost use Rattle.gds_record.specs.declared.records.Record.{Record as ARecord};
+ghost use Rattle.gds_reader.specs.Elements.{IsHeld, IsElementOf, AreSamePairs};
+ghost use Rattle.gds_reader.specs.Meaning.{shapes_at};
+ghost use Rattle.gds_reader.specs.Values.{IsLowestBroken, KeepsRules, points_in};
+
+use crate::elements::Element;
+use crate::refusing::GdsBad;
+use gds_record::Kind;
+use geo_stream::{List, NoMemory};
+use half_grid::Point;
+use layout_model::{Offsets, PathBad, Shape, ShapeBad, path_shapes};
+use std::alloc::Global;
+
+/// Where an element stands by itself.
+pub(crate) const ORIGIN: Point = Point { x: 0, y: 0 };
+
+/// A boundary has at least so many points.
+const LEAST: usize = 4;
+
+// Why an element can't be drawn.
+enum Undrawn {
+    // It breaks this value rule.
+    Rule(u8),
+    NoMemory,
+}
+
+impl From<NoMemory> for Undrawn {
+    fn from(_wanting: NoMemory) -> Undrawn {
+        Undrawn::NoMemory
+    }
+}
+
+// The shape of a boundary.
+fn shape_of_boundary(alloc: Global, element: &Element, points: &[Point]) -> Result<Shape, Undrawn>
+    requires count { length points.now ≤ 8191 }
+    requires points { All IsFilePoint points.now }
+    ensures shape { IfOk result (λ shape. shape ≡ boundary_shape element.now.pair points.now) }
+    ensures grid { IfOk result IsShapeOnGrid }
+    ensures kept { IfOk result (λ _. (rule : ℕ) → ¬ BreaksBoundary points.now rule) }
+    ensures broken { (rule : ℕ) → result ≡ Err (Rule rule) → IsFirst (BreaksBoundary points.now) rule }
+{
+    if points.len() < LEAST {
+        return Err(Undrawn::Rule(10));
+    }
+    if points[0] != points[points.len() - 1] {
+        return Err(Undrawn::Rule(11));
+    }
+    let offsets = Offsets::list(alloc, &[ORIGIN])?;
+    match Shape::new(alloc, element.pair, points, offsets) {
+        Ok(shape) => Ok(shape),
+        Err(ShapeBad::Slant(_)) => Err(Undrawn::Rule(12)),
+        Err(ShapeBad::NoMemory) => Err(Undrawn::NoMemory),
+    }
+}
+
+impl Element {
+    // Half of the path's width.
+    fn half_width(&self) -> i64
+        ensures { result ≡ pos (unsigned_abs self.now.width) }
+    {
+        i64::from(self.width).abs()
+    }
+
+    // How far a path goes beyond a point at its end, where this extension is written.
+    fn extension(&self, written: i32) -> i64
+        ensures { result ≡ extension self.now.path_type (pos (unsigned_abs self.now.width)) written }
+    {
+        match self.path_type {
+            2 => self.half_width(),
+            4 => 2 * i64::from(written),
+            _ => 0,
+        }
+    }
+}
+
+// The shapes of a path.
+fn shapes_of_path(alloc: Global, element: &Element, points: &[Point]) -> Result<Vec<Shape>, Undrawn>
+    requires points { All IsFilePoint points.now }
+    ensures shapes { IfOk result (λ shapes. shapes.items ≡ shapes_of_element element.now points.now) }
+    ensures grid { IfOk result (λ shapes. All IsShapeOnGrid shapes.items) }
+    ensures kept { IfOk result (λ _. (rule : ℕ) → ¬ BreaksElement element.now points.now rule) }
+    ensures broken { (rule : ℕ) → result ≡ Err (Rule rule) → IsFirst (BreaksElement element.now points.now) rule }
+{
+    let half = element.half_width();
+    let begin = element.extension(element.begin);
+    let end = element.extension(element.end);
+    let offsets = Offsets::list(alloc, &[ORIGIN])?;
+    let fixed = element.width < 0;
+    match path_shapes(
+        alloc,
+        element.pair,
+        points,
+        half,
+        begin,
+        end,
+        &offsets,
+        fixed,
+    ) {
+        Ok(shapes) => Ok(shapes),
+        Err(PathBad::NoMemory) => Err(Undrawn::NoMemory),
+        Err(_) => Err(Undrawn::Rule(14)),
+    }
+}
+
+// The value rule or the want of memory, at this offset.
+fn bad_at(undrawn: Undrawn, at: usize) -> GdsBad {
+    match undrawn {
+        Undrawn::Rule(rule) => GdsBad::Value(at, rule),
+        Undrawn::NoMemory => GdsBad::NoMemory,
+    }
+}
+
+fn push_all(list: &mut List<Shape>, shapes: Vec<Shape>) -> Result<(), NoMemory>
+    ensures { OnOk result (list.new ≡ list.old ++ shapes.items) }
+{
+    for shape in shapes {
+        list.push(shape)?;
+    }
+    Ok(())
+}
+
+/// Draws an element with these points that is on a wanted pair. `at` is the offset of its XY.
+pub(crate) fn draw(
+    alloc: Global,
+    element: &Element,
+    points: &[Point],
+    at: usize,
+    shapes: &mut List<Shape>,
+) -> Result<(), GdsBad> {
+    match element.kind {
+        Some(Kind::Boundary) => match shape_of_boundary(alloc, element, points) {
+            Ok(shape) => shapes.push(shape)?,
+            Err(undrawn) => return Err(bad_at(undrawn, at)),
+        },
+        Some(Kind::Path) => match shapes_of_path(alloc, element, points) {
+            Ok(drawn) => push_all(shapes, drawn)?,
+            Err(undrawn) => return Err(bad_at(undrawn, at)),
+        },
+        _ => {}
+    }
+    Ok(())
+}

@@ -1,0 +1,39 @@
+//! Files by their records, and the first fault of bytes that hold no layout.
+use crate::{GdsBad, read_gds};
+use layout_model::{Counts, Layout, Pair};
+use std::alloc::Global;
+use std::test::Fail;
+
+/// A library with one structure that holds one square of side 10 on layer 1, datatype 0.
+const SQUARE: [u8; 168] = [
+    0x00, 0x06, 0x00, 0x02, 0x02, 0x58, // HEADER, version 600
+    0x00, 0x1C, 0x01, 0x02, 0, 0, 0, 0, 0, 0, 0, 0, 0, 0, 0, 0, // BGNLIB
+    0, 0, 0, 0, 0, 0, 0, 0, 0, 0, 0, 0, //
+    0x00, 0x06, 0x02, 0x06, 0x4C, 0x00, // LIBNAME
+    0x00, 0x14, 0x03, 0x05, 0x3E, 0x41, 0x89, 0x37, 0x4B, 0xC6, 0xA7, 0xF0, // UNITS
+    0x39, 0x44, 0xB8, 0x2F, 0xA0, 0x9B, 0x5A, 0x54, //
+    0x00, 0x1C, 0x05, 0x02, 0, 0, 0, 0, 0, 0, 0, 0, 0, 0, 0, 0, // BGNSTR
+    0, 0, 0, 0, 0, 0, 0, 0, 0, 0, 0, 0, //
+    0x00, 0x08, 0x06, 0x06, 0x54, 0x4F, 0x50, 0x00, // STRNAME
+    0x00, 0x04, 0x08, 0x00, // BOUNDARY
+    0x00, 0x06, 0x0D, 0x02, 0x00, 0x01, // LAYER
+    0x00, 0x06, 0x0E, 0x02, 0x00, 0x00, // DATATYPE
+    0x00, 0x2C, 0x10, 0x03, 0, 0, 0, 0, 0, 0, 0, 0, // XY
+    0, 0, 0, 0, 0, 0, 0, 10, 0, 0, 0, 10, 0, 0, 0, 10, //
+    0, 0, 0, 10, 0, 0, 0, 0, 0, 0, 0, 0, 0, 0, 0, 0, //
+    0x00, 0x04, 0x11, 0x00, // ENDEL
+    0x00, 0x04, 0x07, 0x00, // ENDSTR
+    0x00, 0x04, 0x04, 0x00, // ENDLIB
+];
+
+const WANTED: [Pair; 1] = [Pair {
+    layer: 1,
+    datatype: 0,
+}];
+
+#[test]
+fn a_square(rt: HostRuntime) -> Result<(), Fail> {
+    let layout = read_gds(rt.alloc(), &SQUARE, 1000, &WANTED)?;
+    assert_eq!(rt; layout.counts.kept, 1);
+    Ok(())
+}
