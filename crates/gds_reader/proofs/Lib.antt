@@ -1,0 +1,3 @@
+mod KindLemmas
+mod GrammarLemmas
+mod PlaceLemmas

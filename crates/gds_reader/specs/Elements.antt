@@ -1,15 +1,21 @@
 -- What the program keeps of the records so far, in words for its own contracts.
-use Rattle.std.specs.Prelude.{◌≡◌, ◌≤◌, ◌<◌, ◌-◌, ◌⊎◌, ℕ, List, Some, IfSome, length}
+use Rattle.std.specs.Prelude.{◌≡◌, ◌≤◌, ◌<◌, ◌-◌, ◌⊎◌, ◌^◌, ℕ, ℤ, pos, unsigned_abs, int_lt, true, List, [], ◌∷◌, Option, Some, None, IfSome, length}
 use Rattle.std.specs.List.{list_any}
+use Rattle.half_grid.specs.Halves.{is_even}
+use Rattle.half_grid.specs.declared.plane.Point.{Point}
+use Rattle.layout_model.specs.Layouts.{IsWithin}
 use Rattle.layout_model.specs.Names.{IsName}
 use Rattle.layout_model.specs.declared.pair.Pair.{Pair}
+use Rattle.layout_model.specs.declared.shapes.Shape.{Shape}
+use Rattle.layout_model.specs.declared.cells.Placement.{Placement}
 use Rattle.gds_record.specs.Heads.{content_of, IsAllowed}
-use Rattle.gds_record.specs.declared.kinds.Kind.TheVariants.{Width, Sname, ColRow, PathType, BgnExtn, EndExtn}
+use Rattle.gds_record.specs.declared.kinds.Kind.{Kind}
+use Rattle.gds_record.specs.declared.kinds.Kind.TheVariants.{Boundary, Path, Sref, Aref, Width, Sname, ColRow, PathType, BgnExtn, EndExtn}
 use Rattle.gds_record.specs.declared.records.Record.{Record}
 use Rattle.gds_reader.specs.declared.elements.Element.{Element}
 use Rattle.gds_reader.specs.Past.{element_kind, own_record}
-use Rattle.gds_reader.specs.Values.{name_in, number2_in, signed4_in, pair_of, columns_in, rows_in, same_pair, IsReference}
-use Rattle.gds_reader.specs.Meaning.{orient_of}
+use Rattle.gds_reader.specs.Values.{name_in, number2_in, signed4_in, pair_of, columns_in, rows_in, same_pair, extension, IsReference, BreaksSref, BreaksAref, BreaksBoundary, BreaksPath}
+use Rattle.gds_reader.specs.Meaning.{orient_of, origin, boundary_shape, path_shapes_of, first_of, array_places}
 
 -- the record's content lies within the bytes and has a length of its kind
 pub record IsHeld (bytes : List ℕ) (r : Record) : Type 0 where
@@ -35,3 +41,52 @@ pub record IsElementOf (bytes : List ℕ) (past : List Record) (e : Element) : T
 -- the same pairs are in both lists
 abbrev pub AreSamePairs : List Pair → List Pair → Type 0
 AreSamePairs wanted sorted = (pair : Pair) → list_any (same_pair pair) wanted ≡ list_any (same_pair pair) sorted
+
+-- ---- points
+
+-- a point of a file, in half units: whole units of the file, near 0
+pub record IsFilePoint (p : Point) : Type 0 where
+  pub even_x : is_even p.x ≡ true
+  pub even_y : is_even p.y ≡ true
+  pub near : IsWithin (2 ^ 32) p
+
+-- ---- an element by what is kept of it
+
+abbrev pub half_width_kept : Element → ℤ
+half_width_kept e = pos (unsigned_abs e.width)
+
+abbrev pub begin_kept : Element → ℤ
+begin_kept e = extension e.path_type (half_width_kept e) e.begin
+
+abbrev pub end_kept : Element → ℤ
+end_kept e = extension e.path_type (half_width_kept e) e.end
+
+abbrev pub path_kept : Element → List Point → List Shape
+path_kept e points =
+    path_shapes_of e.pair (int_lt e.width (pos 0)) (half_width_kept e) (begin_kept e) (end_kept e) points
+
+abbrev pub BreaksPathKept : Element → List Point → ℕ → Type 0
+BreaksPathKept e points rule = BreaksPath (half_width_kept e) (begin_kept e) (end_kept e) points rule
+
+-- the shapes of an element on a wanted pair
+abbrev pub shapes_kept : Option Kind → Element → List Point → List Shape
+shapes_kept (Some Boundary) e points = boundary_shape e.pair points ∷ []
+shapes_kept (Some Path) e points = path_kept e points
+shapes_kept _ e points = []
+
+abbrev pub BreaksKept : Option Kind → Element → List Point → ℕ → Type 0
+BreaksKept (Some Sref) e points rule = BreaksSref points rule
+BreaksKept (Some Aref) e points rule = BreaksAref e.columns e.rows points rule
+BreaksKept (Some Boundary) e points rule = BreaksBoundary points rule
+BreaksKept (Some Path) e points rule = BreaksPathKept e points rule
+BreaksKept _ e points rule = ⊥
+
+abbrev pub place_kept : List ℕ → Element → Option Record → Point → List Point → List Placement
+place_kept bytes e None at offsets = []
+place_kept bytes e (Some r) at offsets = record { target = name_in bytes r; orient = e.orient; at = at; offsets = offsets } ∷ []
+
+-- the placements of an element
+abbrev pub placements_kept : Option Kind → List ℕ → Element → List Point → List Placement
+placements_kept (Some Sref) bytes e points = place_kept bytes e e.target (first_of points) (origin ∷ [])
+placements_kept (Some Aref) bytes e points = place_kept bytes e e.target (first_of points) (array_places e.columns e.rows points)
+placements_kept _ bytes e points = []

@@ -7,3 +7,5 @@ pub mod Steps
 pub mod Elements
 pub mod Names
 pub mod Wanting
+pub mod Refused
+pub mod Steppings

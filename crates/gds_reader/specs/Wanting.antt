@@ -1,6 +1,7 @@
 -- Pairs in ascending order: by the layer, and then by the datatype.
-use Rattle.std.specs.Prelude.{List, nat_cmp, Ordering}
-use Rattle.std.specs.Ordering.{ordering_then, ordering_index}
+use Rattle.std.specs.Prelude.{List}
+use Rattle.std.specs.declared.cmp.Ordering.{Ordering}
+use Rattle.std.specs.Ordering.{nat_cmp, ordering_then, ordering_index}
 use Rattle.std.specs.List.Sorted.{IsNonDecreasingBy}
 use Rattle.layout_model.specs.declared.pair.Pair.{Pair}
 

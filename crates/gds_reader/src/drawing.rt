@@ -1,12 +1,14 @@
 //! The shapes of boundaries and paths.
-ghost use Rattle.std.specs.Prelude.{◌≡◌, ◌≢◌, ◌++◌, List, All, OnOk, IfErr, Err};
+ghost use Rattle.std.specs.Prelude.{◌≡◌, ◌≢◌, ◌≤◌, ◌++◌, ℕ, pos, unsigned_abs, length, ◌⊎◌, Some, All, OnOk, IfOk, IfErr, Err};
 ghost use Rattle.layout_model.specs.Layouts.{IsShapeOnGrid};
-ghost use Rattle.layout_model.specs.declared.pair.Pair.{Pair as APair};
-ghost use Rattle.gds_record.specs.declared.kinds.Kind.TheVariants.{Xy};
-ghost use Rattle.gds_record.specs.declared.records.Record.{Record as ARecord};
-ghost use Rattle.gds_reader.specs.Elements.{IsHeld, IsElementOf, AreSamePairs};
-ghost use Rattle.gds_reader.specs.Meaning.{shapes_at};
-ghost use Rattle.gds_reader.specs.Values.{IsLowestBroken, KeepsRules, points_in};
+ghost use Rattle.layout_model.specs.Paths.{IsFirst};
+ghost use Rattle.gds_record.specs.declared.kinds.Kind.TheVariants.{Boundary, Path};
+ghost use Rattle.gds_reader.specs.declared.drawing.Undrawn.TheVariants.{Rule, NoMemory as Wanting};
+ghost use Rattle.gds_reader.specs.declared.refusing.GdsBad.TheVariants as bads;
+ghost use Rattle.gds_reader.specs.Elements.{IsFilePoint, BreaksPathKept, BreaksKept, path_kept, shapes_kept};
+ghost use Rattle.gds_reader.specs.Meaning.{boundary_shape};
+ghost use Rattle.gds_reader.specs.Refused.{IsRefusedBy};
+ghost use Rattle.gds_reader.specs.Values.{BreaksBoundary, extension};
 
 use crate::elements::Element;
 use crate::refusing::GdsBad;
@@ -30,6 +32,8 @@ enum Undrawn {
 }
 
 impl From<NoMemory> for Undrawn {
+    ghost from_gives = { λ _ bad. bad ≡ Wanting };
+
     fn from(_wanting: NoMemory) -> Undrawn {
         Undrawn::NoMemory
     }
@@ -81,10 +85,10 @@ impl Element {
 // The shapes of a path.
 fn shapes_of_path(alloc: Global, element: &Element, points: &[Point]) -> Result<Vec<Shape>, Undrawn>
     requires points { All IsFilePoint points.now }
-    ensures shapes { IfOk result (λ shapes. shapes.items ≡ shapes_of_element element.now points.now) }
+    ensures shapes { IfOk result (λ shapes. shapes.items ≡ path_kept element.now points.now) }
     ensures grid { IfOk result (λ shapes. All IsShapeOnGrid shapes.items) }
-    ensures kept { IfOk result (λ _. (rule : ℕ) → ¬ BreaksElement element.now points.now rule) }
-    ensures broken { (rule : ℕ) → result ≡ Err (Rule rule) → IsFirst (BreaksElement element.now points.now) rule }
+    ensures kept { IfOk result (λ _. (rule : ℕ) → ¬ BreaksPathKept element.now points.now rule) }
+    ensures broken { (rule : ℕ) → result ≡ Err (Rule rule) → IsFirst (BreaksPathKept element.now points.now) rule }
 {
     let half = element.half_width();
     let begin = element.extension(element.begin);
@@ -108,7 +112,10 @@ fn shapes_of_path(alloc: Global, element: &Element, points: &[Point]) -> Result<
 }
 
 // The value rule or the want of memory, at this offset.
-fn bad_at(undrawn: Undrawn, at: usize) -> GdsBad {
+fn bad_at(undrawn: Undrawn, at: usize) -> GdsBad
+    ensures rule { (rule : ℕ) → undrawn ≡ Rule rule → result ≡ bads.Value at rule }
+    ensures memory { undrawn ≡ Wanting → result ≡ bads.NoMemory }
+{
     match undrawn {
         Undrawn::Rule(rule) => GdsBad::Value(at, rule),
         Undrawn::NoMemory => GdsBad::NoMemory,
@@ -131,7 +138,15 @@ pub(crate) fn draw(
     points: &[Point],
     at: usize,
     shapes: &mut List<Shape>,
-) -> Result<(), GdsBad> {
+) -> Result<(), GdsBad>
+    requires count { length points.now ≤ 8191 }
+    requires points { All IsFilePoint points.now }
+    requires kind { (element.now.kind ≡ Some Boundary) ⊎ (element.now.kind ≡ Some Path) }
+    ensures shapes { OnOk result (shapes.new ≡ shapes.old ++ shapes_kept element.now.kind element.now points.now) }
+    ensures grid { All IsShapeOnGrid shapes.old → OnOk result (All IsShapeOnGrid shapes.new) }
+    ensures kept { OnOk result ((rule : ℕ) → ¬ BreaksKept element.now.kind element.now points.now rule) }
+    ensures broken { IfErr result (IsRefusedBy (BreaksKept element.now.kind element.now points.now) at) }
+{
     match element.kind {
         Some(Kind::Boundary) => match shape_of_boundary(alloc, element, points) {
             Ok(shape) => shapes.push(shape)?,

@@ -5,6 +5,7 @@
 mod counting;
 mod drawing;
 mod elements;
+mod laws;
 mod naming;
 mod order;
 mod placing;
@@ -14,6 +15,7 @@ mod refusing;
 mod values;
 mod wanting;
 
+pub use laws::reading_laws;
 pub use reading::read_gds;
 pub use refusing::GdsBad;
 
