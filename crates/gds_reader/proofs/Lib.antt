@@ -1,3 +1,5 @@
 mod KindLemmas
 mod GrammarLemmas
 mod PlaceLemmas
+mod RealFacts
+mod NameLemmas

@@ -338,3 +338,53 @@ some_at (places.Angled forms.Sref) e = refl
 some_at (places.Angled forms.Aref) e = refl
 some_at (places.Angled forms.Node) e = absurd (cc)
 some_at (places.Angled forms.Box) e = absurd (cc)
+
+-- ---- the kinds so far
+
+kinds_last : (kinds : List Kind) (kind : Kind) (rest : List Kind) → kinds ++ (kind ∷ rest) ≡ (kinds ++ kind ∷ []) ++ rest
+kinds_last kinds kind rest = sym (append_assoc kinds (kind ∷ []) rest)
+
+-- behind these kinds, what may follow is what may follow at the place
+pub record LeadsTo (kinds : List Kind) (place : Place) : Type 0 where
+  pub reached : is_reached place ≡ true
+  pub onward : (rest : List Kind) → IsStreamOrder (kinds ++ rest) → Follows (rest_of place) rest
+  pub backward : (rest : List Kind) → Follows (rest_of place) rest → IsStreamOrder (kinds ++ rest)
+
+pub leads_first : LeadsTo [] places.Header
+leads_first = record { reached = refl; onward = λ rest f. f; backward = λ rest f. f }
+
+-- the kind may follow
+pub leads_next : (kinds : List Kind) (place next : Place) (kind : Kind) → LeadsTo kinds place → next_place place kind ≡ Some next
+    → LeadsTo (kinds ++ kind ∷ []) next
+leads_next kinds place next kind leads e =
+    let rule : behind kind (rest_of place) ≡ rest_of next = steps place kind ∙ ap rest_after e in
+    record {
+      reached = ap reached_after (sym e) ∙ reached place kind leads.reached;
+      onward = λ rest f.
+      subst (λ rule. Follows rule rest) rule (behind_from kind (rest_of place) rest (leads.onward (kind ∷ rest) (subst IsStreamOrder (sym (kinds_last kinds kind rest)) f)));
+      backward = λ rest f.
+      subst IsStreamOrder (kinds_last kinds kind rest) (leads.backward (kind ∷ rest) (behind_to kind (rest_of place) rest (subst (λ rule. Follows rule rest) (sym rule) f)));
+    }
+
+-- kinds that lead to a place begin a file
+pub leads_begin : (kinds : List Kind) (place : Place) → LeadsTo kinds place → IsBeginning kinds
+leads_begin kinds place leads =
+    let some = some_list (rest_of place) (some_at place leads.reached) in
+    (some.0, leads.backward some.0 some.1)
+
+-- the kind may not follow
+pub leads_nowhere : (kinds : List Kind) (place : Place) (kind : Kind) → LeadsTo kinds place → next_place place kind ≡ None
+    → IsBeginning (kinds ++ kind ∷ []) → ⊥
+leads_nowhere kinds place kind leads e begins =
+    let rule : behind kind (rest_of place) ≡ Never = steps place kind ∙ ap rest_after e in
+    let whole : IsStreamOrder (kinds ++ (kind ∷ begins.0)) = subst IsStreamOrder (sym (kinds_last kinds kind begins.0)) begins.1 in
+    let found : Follows (behind kind (rest_of place)) begins.0 = behind_from kind (rest_of place) begins.0 (leads.onward (kind ∷ begins.0) whole) in
+    subst (λ rule. Follows rule begins.0) rule found
+
+-- a file ends at ENDLIB
+pub leads_end : (kinds : List Kind) → LeadsTo kinds places.End → IsStreamOrder kinds
+leads_end kinds leads = subst IsStreamOrder (append-nil kinds) (leads.backward [] refl)
+
+-- only ENDLIB leads to the end
+pub end_only : (place : Place) (kind : Kind) → next_place place kind ≡ Some places.End → kind ≡ EndLib
+end_only place kind e = ?

@@ -1,5 +1,5 @@
 -- What the program keeps of the records so far, in words for its own contracts.
-use Rattle.std.specs.Prelude.{◌≡◌, ◌≤◌, ◌<◌, ◌-◌, ◌⊎◌, ◌^◌, ℕ, ℤ, pos, unsigned_abs, int_lt, true, List, [], ◌∷◌, Option, Some, None, IfSome, length}
+use Rattle.std.specs.Prelude.{◌≡◌, ◌≤◌, ◌<◌, ◌-◌, ◌⊎◌, ◌^◌, ℕ, ℤ, pos, neg_ℤ, unsigned_abs, int_lt, Bool, true, false, List, [], ◌∷◌, Option, Some, None, IfSome, length}
 use Rattle.std.specs.List.{list_any}
 use Rattle.half_grid.specs.Halves.{is_even}
 use Rattle.half_grid.specs.declared.plane.Point.{Point}
@@ -14,8 +14,8 @@ use Rattle.gds_record.specs.declared.kinds.Kind.TheVariants.{Boundary, Path, Sre
 use Rattle.gds_record.specs.declared.records.Record.{Record}
 use Rattle.gds_reader.specs.declared.elements.Element.{Element}
 use Rattle.gds_reader.specs.Past.{element_kind, own_record}
-use Rattle.gds_reader.specs.Values.{name_in, number2_in, signed4_in, pair_of, columns_in, rows_in, same_pair, extension, IsReference, BreaksSref, BreaksAref, BreaksBoundary, BreaksPath}
-use Rattle.gds_reader.specs.Meaning.{orient_of, origin, boundary_shape, path_shapes_of, first_of, array_places}
+use Rattle.gds_reader.specs.Values.{name_in, number2_in, signed4_in, pair_of, columns_in, rows_in, same_pair, extension, IsReference, KeepsSref, KeepsAref, KeepsBoundary, KeepsPath}
+use Rattle.gds_reader.specs.Meaning.{orient_of, origin, boundary_shape, path_shapes_of, first_of, array_places, is_drawn}
 
 -- the record's content lies within the bytes and has a length of its kind
 pub record IsHeld (bytes : List ℕ) (r : Record) : Type 0 where
@@ -37,6 +37,29 @@ pub record IsElementOf (bytes : List ℕ) (past : List Record) (e : Element) : T
   pub orient : IsReference past → e.orient ≡ orient_of bytes past
   pub columns : e.columns ≡ columns_in bytes (own_record ColRow past)
   pub rows : e.rows ≡ rows_in bytes (own_record ColRow past)
+
+-- an element that begins with a record of this kind
+abbrev pub new_element : Option Kind → Element
+new_element kind = record {
+  kind = kind;
+  pair = record { layer = 0; datatype = 0 };
+  target = None;
+  path_type = 0;
+  width = pos 0;
+  begin = pos 0;
+  end = pos 0;
+  orient = record { flip = false; turns = 0; mag = 1 };
+  columns = 0;
+  rows = 0;
+}
+
+-- so many degrees are so many quarter turns counterclockwise
+abbrev pub IsTurn : ℤ → ℕ → Type 0
+IsTurn degrees turns =
+    ((turns ≡ 0) × ((degrees ≡ pos 0) ⊎ (degrees ≡ pos 360) ⊎ (degrees ≡ neg_ℤ (pos 360))))
+    ⊎ ((turns ≡ 1) × ((degrees ≡ pos 90) ⊎ (degrees ≡ neg_ℤ (pos 270))))
+    ⊎ ((turns ≡ 2) × ((degrees ≡ pos 180) ⊎ (degrees ≡ neg_ℤ (pos 180))))
+    ⊎ ((turns ≡ 3) × ((degrees ≡ pos 270) ⊎ (degrees ≡ neg_ℤ (pos 90))))
 
 -- the same pairs are in both lists
 abbrev pub AreSamePairs : List Pair → List Pair → Type 0
@@ -65,8 +88,8 @@ abbrev pub path_kept : Element → List Point → List Shape
 path_kept e points =
     path_shapes_of e.pair (int_lt e.width (pos 0)) (half_width_kept e) (begin_kept e) (end_kept e) points
 
-abbrev pub BreaksPathKept : Element → List Point → ℕ → Type 0
-BreaksPathKept e points rule = BreaksPath (half_width_kept e) (begin_kept e) (end_kept e) points rule
+abbrev pub KeepsPathOf : Element → List Point → ℕ → Type 0
+KeepsPathOf e points rule = KeepsPath (half_width_kept e) (begin_kept e) (end_kept e) points rule
 
 -- the shapes of an element on a wanted pair
 abbrev pub shapes_kept : Option Kind → Element → List Point → List Shape
@@ -74,12 +97,12 @@ shapes_kept (Some Boundary) e points = boundary_shape e.pair points ∷ []
 shapes_kept (Some Path) e points = path_kept e points
 shapes_kept _ e points = []
 
-abbrev pub BreaksKept : Option Kind → Element → List Point → ℕ → Type 0
-BreaksKept (Some Sref) e points rule = BreaksSref points rule
-BreaksKept (Some Aref) e points rule = BreaksAref e.columns e.rows points rule
-BreaksKept (Some Boundary) e points rule = BreaksBoundary points rule
-BreaksKept (Some Path) e points rule = BreaksPathKept e points rule
-BreaksKept _ e points rule = ⊥
+abbrev pub KeepsOf : Option Kind → Element → List Point → ℕ → Type 0
+KeepsOf (Some Sref) e points rule = KeepsSref points rule
+KeepsOf (Some Aref) e points rule = KeepsAref e.columns e.rows points rule
+KeepsOf (Some Boundary) e points rule = KeepsBoundary points rule
+KeepsOf (Some Path) e points rule = KeepsPathOf e points rule
+KeepsOf _ e points rule = Unit {0}
 
 abbrev pub place_kept : List ℕ → Element → Option Record → Point → List Point → List Placement
 place_kept bytes e None at offsets = []
@@ -90,3 +113,18 @@ abbrev pub placements_kept : Option Kind → List ℕ → Element → List Point
 placements_kept (Some Sref) bytes e points = place_kept bytes e e.target (first_of points) (origin ∷ [])
 placements_kept (Some Aref) bytes e points = place_kept bytes e e.target (first_of points) (array_places e.columns e.rows points)
 placements_kept _ bytes e points = []
+
+-- whether an XY is that of a shape on a wanted pair (true) or on another one (false); none where it isn't a shape's
+abbrev pub shapes_by : Option Bool → Element → List Point → List Shape
+shapes_by (Some true) e points = shapes_kept e.kind e points
+shapes_by _ e points = []
+
+-- a shape on another pair keeps all rules
+abbrev pub KeepsBy : Option Bool → Element → List Point → ℕ → Type 0
+KeepsBy (Some false) e points rule = Unit {0}
+KeepsBy _ e points rule = KeepsOf e.kind e points rule
+
+-- there is an answer exactly where the element is a shape
+abbrev pub TellsShape : Option Bool → Element → Type 0
+TellsShape (Some wanted) e = is_drawn e.kind ≡ true
+TellsShape None e = is_drawn e.kind ≡ false

@@ -9,3 +9,4 @@ pub mod Names
 pub mod Wanting
 pub mod Refused
 pub mod Steppings
+pub mod Readers

@@ -2,7 +2,7 @@
 --
 -- Each structure gives a cell. The XY record of a BOUNDARY or a PATH on a wanted pair gives its shapes, that of an SREF
 -- or an AREF its placement, each by the records of its own element.
-use Rattle.std.specs.Prelude.{◌≡◌, ◌+◌, ◌-◌, ◌*◌, ◌/◌, ◌==◌, ℕ, ℤ, pos, negsuc, ◌-ℤ◌, nat_le, Bool, true, false, if◌then◌else◌, List, [], ◌∷◌, Option, Some, None}
+use Rattle.std.specs.Prelude.{◌≡◌, ◌+◌, ◌-◌, ◌*◌, ◌/◌, ◌==◌, ℕ, ℤ, pos, negsuc, ◌-ℤ◌, nat_le, Bool, true, false, not, if◌then◌else◌, List, [], ◌∷◌, Option, Some, None}
 use Rattle.std.specs.Ordering.{int_eq}
 use Rattle.half_grid.specs.declared.plane.Point.{Point}
 use Rattle.layout_model.specs.Grids.{grid_places}
@@ -17,7 +17,7 @@ use Rattle.layout_model.specs.declared.pair.Pair.{Pair}
 use Rattle.gds_record.specs.declared.kinds.Kind.{Kind}
 use Rattle.gds_record.specs.declared.kinds.Kind.TheVariants.{StrName, EndStr, Boundary, Path, Sref, Aref, Text, Xy, Sname, Node, Strans, Mag, Angle, PropAttr, Box, BgnExtn, EndExtn}
 use Rattle.gds_record.specs.declared.records.Record.{Record}
-use Rattle.gds_reader.specs.Past.{has_kind, element_kind, own_record, last_record, given, given_in_structure, count_in}
+use Rattle.gds_reader.specs.Past.{has_kind, element_kind, own_record, structure_record, given, given_in_structure, count_in}
 use Rattle.gds_reader.specs.Values.{pair_of, is_wanted, name_in, points_in, half_width_of, is_absolute, extension_of, number2_in, factor_in, turns_in, columns_of, rows_of}
 
 abbrev pub origin : Point
@@ -104,7 +104,7 @@ cells_named bytes wanted past (Some r) = record {
 
 -- a structure is whole at its ENDSTR
 abbrev pub cells_at : List ℕ → List Pair → List Record → Record → List Cell
-cells_at bytes wanted past r = if has_kind EndStr r then cells_named bytes wanted past (last_record StrName past) else []
+cells_at bytes wanted past r = if has_kind EndStr r then cells_named bytes wanted past (structure_record StrName past) else []
 
 -- ---- counts
 
@@ -117,11 +117,17 @@ is_drawn _ = false
 abbrev pub is_drawn_at : List Record → Record → Bool
 is_drawn_at past r = if has_kind Xy r then is_drawn (element_kind past) else false
 
-abbrev pub is_kept_at : List ℕ → List Pair → List Record → Record → Bool
-is_kept_at bytes wanted past r = if is_drawn_at past r then is_wanted bytes wanted past else false
+-- whether the pair is wanted, at the XY record of a BOUNDARY or a PATH
+abbrev pub wanted_at : List ℕ → List Pair → List Record → Record → Option Bool
+wanted_at bytes wanted past r = if is_drawn_at past r then Some (is_wanted bytes wanted past) else None
 
-abbrev pub is_other_at : List ℕ → List Pair → List Record → Record → Bool
-is_other_at bytes wanted past r = if is_drawn_at past r then (if is_wanted bytes wanted past then false else true) else false
+abbrev pub is_kept : Option Bool → Bool
+is_kept (Some wanted) = wanted
+is_kept None = false
+
+abbrev pub is_other : Option Bool → Bool
+is_other (Some wanted) = not wanted
+is_other None = false
 
 abbrev pub count_kind : Kind → List Record → ℕ
 count_kind kind past = count_in (λ _ r. has_kind kind r) past
@@ -133,8 +139,8 @@ cells_of bytes wanted past = given (cells_at bytes wanted) past
 
 abbrev pub counts_of : List ℕ → List Pair → List Record → Counts
 counts_of bytes wanted past = record {
-  kept = count_in (is_kept_at bytes wanted) past;
-  other = count_in (is_other_at bytes wanted) past;
+  kept = count_in (λ before r. is_kept (wanted_at bytes wanted before r)) past;
+  other = count_in (λ before r. is_other (wanted_at bytes wanted before r)) past;
   texts = count_kind Text past;
   nodes = count_kind Node past;
   boxes = count_kind Box past;

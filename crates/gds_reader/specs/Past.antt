@@ -1,7 +1,6 @@
 -- What a record means depends on those before it. In these definitions the records before one, its past, stand with the
 -- last one first.
 use Rattle.std.specs.Prelude.{◌≡◌, ℕ, ◌+◌, ◌==◌, Bool, true, false, if◌then◌else◌, List, [], ◌∷◌, ◌++◌, Option, Some, None}
-use Rattle.std.specs.List.{find}
 use Rattle.gds_record.specs.Heads.{head_of}
 use Rattle.gds_record.specs.declared.kinds.Kind.{Kind}
 use Rattle.gds_record.specs.declared.kinds.Kind.TheVariants.{Boundary, Path, Sref, Aref, Text, Node, Box, EndStr}
@@ -38,9 +37,13 @@ own_record kind (r ∷ past) =
     else if has_kind kind r then Some r
     else own_record kind past
 
--- the last record of this kind
-abbrev pub last_record : Kind → List Record → Option Record
-last_record kind past = find (has_kind kind) past
+-- the record of this kind of the structure that the last record is in, if it has one: the last one since an ENDSTR
+abbrev pub structure_record : Kind → List Record → Option Record
+structure_record kind [] = None
+structure_record kind (r ∷ past) =
+    if has_kind EndStr r then None
+    else if has_kind kind r then Some r
+    else structure_record kind past
 
 -- what the records give, each by itself and its past, in the order of the file
 abbrev pub given : {A : Type 0} → (List Record → Record → List A) → List Record → List A

@@ -6,7 +6,7 @@ use Rattle.half_grid.specs.Halves.{twice}
 use Rattle.half_grid.specs.Outlines.{IsClosed, HasGridEdges}
 use Rattle.half_grid.specs.declared.plane.Point.{Point}
 use Rattle.layout_model.specs.Names.{IsName}
-use Rattle.layout_model.specs.Paths.{IsDrawable, IsFirst}
+use Rattle.layout_model.specs.Paths.{IsDrawable}
 use Rattle.layout_model.specs.declared.pair.Pair.{Pair}
 use Rattle.gds_record.specs.Numbers.{number_at, signed_at}
 use Rattle.gds_record.specs.Reals.{sign_of, exponent_of, fraction_of, IsWholeReal}
@@ -161,62 +161,66 @@ abbrev pub HasSteps : ℕ → ℕ → List Point → Type 0
 HasSteps columns rows (origin ∷ right ∷ up ∷ []) = Divides columns origin right × Divides rows origin up
 HasSteps columns rows _ = ⊥
 
--- ---- the rules
+-- ---- the rules: what must hold, by their numbers
 
 abbrev pub IsReference : List Record → Type 0
 IsReference past = (element_kind past ≡ Some Sref) ⊎ (element_kind past ≡ Some Aref)
 
--- the XY of an SREF with these points breaks the rule
-abbrev pub BreaksSref : List Point → ℕ → Type 0
-BreaksSref points rule = (rule ≡ 7) × (length points ≢ 1)
+-- the XY of an SREF with these points keeps the rule
+abbrev pub KeepsSref : List Point → ℕ → Type 0
+KeepsSref points rule = rule ≡ 7 → length points ≡ 1
 
 -- that of an AREF
-abbrev pub BreaksAref : ℕ → ℕ → List Point → ℕ → Type 0
-BreaksAref columns rows points rule =
-    ((rule ≡ 8) × (length points ≢ 3)) ⊎ ((rule ≡ 9) × (length points ≡ 3) × ¬ HasSteps columns rows points)
+pub record KeepsAref (columns rows : ℕ) (points : List Point) (rule : ℕ) : Type 0 where
+  pub three : rule ≡ 8 → length points ≡ 3
+  pub steps : rule ≡ 9 → length points ≡ 3 → HasSteps columns rows points
 
 -- that of a BOUNDARY: each edge is horizontal, vertical or has equal moves in x and y
-abbrev pub BreaksBoundary : List Point → ℕ → Type 0
-BreaksBoundary points rule =
-    ((rule ≡ 10) × ¬ ((4 ≤ length points) × (length points ≤ 8191))) ⊎ ((rule ≡ 11) × ¬ IsClosed points)
-    ⊎ ((rule ≡ 12) × ¬ HasGridEdges points)
+pub record KeepsBoundary (points : List Point) (rule : ℕ) : Type 0 where
+  pub count : rule ≡ 10 → (4 ≤ length points) × (length points ≤ 8191)
+  pub closed : rule ≡ 11 → IsClosed points
+  pub edges : rule ≡ 12 → HasGridEdges points
 
 -- that of a PATH: one without width can be anywhere
-abbrev pub BreaksPath : ℤ → ℤ → ℤ → List Point → ℕ → Type 0
-BreaksPath half_width begin end points rule =
-    (rule ≡ 14) × (half_width ≢ pos 0) × ¬ IsDrawable points half_width begin end
+abbrev pub KeepsPath : ℤ → ℤ → ℤ → List Point → ℕ → Type 0
+KeepsPath half_width begin end points rule = rule ≡ 14 → half_width ≢ pos 0 → IsDrawable points half_width begin end
 
 -- that of an element of this kind; shapes must keep rules on the wanted pairs alone
-abbrev pub BreaksXy : List ℕ → List Pair → List Record → List Point → Option Kind → ℕ → Type 0
-BreaksXy bytes wanted past points (Some Sref) rule = BreaksSref points rule
-BreaksXy bytes wanted past points (Some Aref) rule = BreaksAref (columns_of bytes past) (rows_of bytes past) points rule
-BreaksXy bytes wanted past points (Some Boundary) rule = IsWanted bytes wanted past × BreaksBoundary points rule
-BreaksXy bytes wanted past points (Some Path) rule = IsWanted bytes wanted past
-    × BreaksPath (half_width_of bytes past) (extension_of BgnExtn bytes past) (extension_of EndExtn bytes past) points rule
-BreaksXy bytes wanted past points _ rule = ⊥
+abbrev pub KeepsXy : List ℕ → List Pair → List Record → List Point → Option Kind → ℕ → Type 0
+KeepsXy bytes wanted past points (Some Sref) rule = KeepsSref points rule
+KeepsXy bytes wanted past points (Some Aref) rule = KeepsAref (columns_of bytes past) (rows_of bytes past) points rule
+KeepsXy bytes wanted past points (Some Boundary) rule = IsWanted bytes wanted past → KeepsBoundary points rule
+KeepsXy bytes wanted past points (Some Path) rule = IsWanted bytes wanted past
+    → KeepsPath (half_width_of bytes past) (extension_of BgnExtn bytes past) (extension_of EndExtn bytes past) points rule
+KeepsXy bytes wanted past points _ rule = Unit {0}
 
--- a record of this kind, behind its past, breaks the rule
-abbrev pub BreaksAs : Kind → List ℕ → List Pair → List Record → Record → ℕ → Type 0
-BreaksAs Format bytes wanted past r rule = (rule ≡ 1) × (number_at 2 bytes r.first ≢ 0)
-BreaksAs StrName bytes wanted past r rule = (rule ≡ 2) × ¬ IsName (name_in bytes r)
-BreaksAs Sname bytes wanted past r rule = (rule ≡ 2) × ¬ IsName (name_in bytes r)
-BreaksAs Strans bytes wanted past r rule = (rule ≡ 3) × IsReference past × (bit_and (number_at 2 bytes r.first) 0x0006 ≢ 0)
-BreaksAs Mag bytes wanted past r rule = (rule ≡ 4) × IsReference past × ¬ IsFactor (number_at 8 bytes r.first)
-BreaksAs Angle bytes wanted past r rule = (rule ≡ 5) × IsReference past × ¬ IsQuarterAngle (number_at 8 bytes r.first)
-BreaksAs ColRow bytes wanted past r rule =
-    (rule ≡ 6) × ¬ (IsCount (number_at 2 bytes r.first) × IsCount (number_at 2 bytes (r.first + 2)))
-BreaksAs PathType bytes wanted past r rule = (rule ≡ 13) × (element_kind past ≡ Some Path) × IsWanted bytes wanted past
-    × ¬ ((number_at 2 bytes r.first ≡ 0) ⊎ (number_at 2 bytes r.first ≡ 2) ⊎ (number_at 2 bytes r.first ≡ 4))
-BreaksAs Xy bytes wanted past r rule = BreaksXy bytes wanted past (points_in bytes r) (element_kind past) rule
-BreaksAs _ bytes wanted past r rule = ⊥
+-- a record of this kind, behind its past, keeps the rule
+abbrev pub KeepsAs : Kind → List ℕ → List Pair → List Record → Record → ℕ → Type 0
+KeepsAs Format bytes wanted past r rule = rule ≡ 1 → number_at 2 bytes r.first ≡ 0
+KeepsAs StrName bytes wanted past r rule = rule ≡ 2 → IsName (name_in bytes r)
+KeepsAs Sname bytes wanted past r rule = rule ≡ 2 → IsName (name_in bytes r)
+KeepsAs Strans bytes wanted past r rule = rule ≡ 3 → IsReference past → bit_and (number_at 2 bytes r.first) 0x0006 ≡ 0
+KeepsAs Mag bytes wanted past r rule = rule ≡ 4 → IsReference past → IsFactor (number_at 8 bytes r.first)
+KeepsAs Angle bytes wanted past r rule = rule ≡ 5 → IsReference past → IsQuarterAngle (number_at 8 bytes r.first)
+KeepsAs ColRow bytes wanted past r rule =
+    rule ≡ 6 → IsCount (number_at 2 bytes r.first) × IsCount (number_at 2 bytes (r.first + 2))
+KeepsAs PathType bytes wanted past r rule = rule ≡ 13 → element_kind past ≡ Some Path → IsWanted bytes wanted past
+    → (number_at 2 bytes r.first ≡ 0) ⊎ (number_at 2 bytes r.first ≡ 2) ⊎ (number_at 2 bytes r.first ≡ 4)
+KeepsAs Xy bytes wanted past r rule = KeepsXy bytes wanted past (points_in bytes r) (element_kind past) rule
+KeepsAs _ bytes wanted past r rule = Unit {0}
 
-abbrev pub Breaks : List ℕ → List Pair → List Record → Record → ℕ → Type 0
-Breaks bytes wanted past r rule = BreaksAs r.kind bytes wanted past r rule
-
--- the lowest rule that the record breaks
-abbrev pub IsLowestBroken : List ℕ → List Pair → List Record → Record → ℕ → Type 0
-IsLowestBroken bytes wanted past r rule = IsFirst (Breaks bytes wanted past r) rule
+abbrev pub Keeps : List ℕ → List Pair → List Record → Record → ℕ → Type 0
+Keeps bytes wanted past r rule = KeepsAs r.kind bytes wanted past r rule
 
 -- the record keeps all rules
 abbrev pub KeepsRules : List ℕ → List Pair → List Record → Record → Type 0
-KeepsRules bytes wanted past r = (rule : ℕ) → ¬ Breaks bytes wanted past r rule
+KeepsRules bytes wanted past r = (rule : ℕ) → Keeps bytes wanted past r rule
+
+-- this rule isn't kept, and those with lower numbers are
+pub record IsLowest (Kept : ℕ → Type 0) (rule : ℕ) : Type 0 where
+  pub broken : ¬ Kept rule
+  pub lower : (other : ℕ) → other < rule → Kept other
+
+-- the lowest rule that the record breaks
+abbrev pub IsLowestBroken : List ℕ → List Pair → List Record → Record → ℕ → Type 0
+IsLowestBroken bytes wanted past r rule = IsLowest (Keeps bytes wanted past r) rule

@@ -1,7 +1,11 @@
 //! The counts of a file.
-ghost use Rattle.std.specs.Prelude.{◌≡◌};
+ghost use Rattle.std.specs.Prelude.{◌≡◌, ◌^◌, ℕ, List, ◌∷◌};
+ghost use Rattle.layout_model.specs.declared.pair.Pair.{Pair as APair};
+ghost use Rattle.gds_record.specs.declared.records.Record.{Record as ARecord};
+ghost use Rattle.gds_reader.specs.Meaning.{counts_of, wanted_at};
+ghost use Rattle.gds_reader.specs.Readers.{AreAtMost};
 
-use gds_record::Kind;
+use gds_record::{Kind, Record};
 use layout_model::Counts;
 
 pub(crate) const NONE: Counts = Counts {
@@ -15,8 +19,12 @@ pub(crate) const NONE: Counts = Counts {
 
 /// The counts with one more record. `drawn` says of the XY of a boundary or a path whether it is on a
 /// wanted pair.
-pub(crate) fn with(counts: Counts, kind: Kind, drawn: Option<bool>) -> Counts {
-    match kind {
+pub(crate) fn with(counts: Counts, current: Record, drawn: Option<bool>) -> Counts
+    requires { AreAtMost (2 ^ 63) counts }
+    ensures { (bytes : List ℕ) (past : List ARecord) (wanted : List APair) → counts ≡ counts_of bytes wanted past
+        → drawn ≡ wanted_at bytes wanted past current → result ≡ counts_of bytes wanted (current ∷ past) }
+{
+    match current.kind {
         Kind::Xy => match drawn {
             Some(true) => Counts {
                 kept: counts.kept + 1,

@@ -1,14 +1,13 @@
 //! The shapes of boundaries and paths.
 ghost use Rattle.std.specs.Prelude.{◌≡◌, ◌≢◌, ◌≤◌, ◌++◌, ℕ, pos, unsigned_abs, length, ◌⊎◌, Some, All, OnOk, IfOk, IfErr, Err};
 ghost use Rattle.layout_model.specs.Layouts.{IsShapeOnGrid};
-ghost use Rattle.layout_model.specs.Paths.{IsFirst};
 ghost use Rattle.gds_record.specs.declared.kinds.Kind.TheVariants.{Boundary, Path};
 ghost use Rattle.gds_reader.specs.declared.drawing.Undrawn.TheVariants.{Rule, NoMemory as Wanting};
 ghost use Rattle.gds_reader.specs.declared.refusing.GdsBad.TheVariants as bads;
-ghost use Rattle.gds_reader.specs.Elements.{IsFilePoint, BreaksPathKept, BreaksKept, path_kept, shapes_kept};
+ghost use Rattle.gds_reader.specs.Elements.{IsFilePoint, KeepsPathOf, KeepsOf, path_kept, shapes_kept};
 ghost use Rattle.gds_reader.specs.Meaning.{boundary_shape};
 ghost use Rattle.gds_reader.specs.Refused.{IsRefusedBy};
-ghost use Rattle.gds_reader.specs.Values.{BreaksBoundary, extension};
+ghost use Rattle.gds_reader.specs.Values.{KeepsBoundary, IsLowest, extension};
 
 use crate::elements::Element;
 use crate::refusing::GdsBad;
@@ -45,8 +44,8 @@ fn shape_of_boundary(alloc: Global, element: &Element, points: &[Point]) -> Resu
     requires points { All IsFilePoint points.now }
     ensures shape { IfOk result (λ shape. shape ≡ boundary_shape element.now.pair points.now) }
     ensures grid { IfOk result IsShapeOnGrid }
-    ensures kept { IfOk result (λ _. (rule : ℕ) → ¬ BreaksBoundary points.now rule) }
-    ensures broken { (rule : ℕ) → result ≡ Err (Rule rule) → IsFirst (BreaksBoundary points.now) rule }
+    ensures kept { IfOk result (λ _. (rule : ℕ) → KeepsBoundary points.now rule) }
+    ensures broken { (rule : ℕ) → result ≡ Err (Rule rule) → IsLowest (KeepsBoundary points.now) rule }
 {
     if points.len() < LEAST {
         return Err(Undrawn::Rule(10));
@@ -87,8 +86,8 @@ fn shapes_of_path(alloc: Global, element: &Element, points: &[Point]) -> Result<
     requires points { All IsFilePoint points.now }
     ensures shapes { IfOk result (λ shapes. shapes.items ≡ path_kept element.now points.now) }
     ensures grid { IfOk result (λ shapes. All IsShapeOnGrid shapes.items) }
-    ensures kept { IfOk result (λ _. (rule : ℕ) → ¬ BreaksPathKept element.now points.now rule) }
-    ensures broken { (rule : ℕ) → result ≡ Err (Rule rule) → IsFirst (BreaksPathKept element.now points.now) rule }
+    ensures kept { IfOk result (λ _. (rule : ℕ) → KeepsPathOf element.now points.now rule) }
+    ensures broken { (rule : ℕ) → result ≡ Err (Rule rule) → IsLowest (KeepsPathOf element.now points.now) rule }
 {
     let half = element.half_width();
     let begin = element.extension(element.begin);
@@ -144,8 +143,8 @@ pub(crate) fn draw(
     requires kind { (element.now.kind ≡ Some Boundary) ⊎ (element.now.kind ≡ Some Path) }
     ensures shapes { OnOk result (shapes.new ≡ shapes.old ++ shapes_kept element.now.kind element.now points.now) }
     ensures grid { All IsShapeOnGrid shapes.old → OnOk result (All IsShapeOnGrid shapes.new) }
-    ensures kept { OnOk result ((rule : ℕ) → ¬ BreaksKept element.now.kind element.now points.now rule) }
-    ensures broken { IfErr result (IsRefusedBy (BreaksKept element.now.kind element.now points.now) at) }
+    ensures kept { OnOk result ((rule : ℕ) → KeepsOf element.now.kind element.now points.now rule) }
+    ensures broken { IfErr result (IsRefusedBy (KeepsOf element.now.kind element.now points.now) at) }
 {
     match element.kind {
         Some(Kind::Boundary) => match shape_of_boundary(alloc, element, points) {

@@ -4,13 +4,12 @@ ghost use Rattle.half_grid.specs.Halves.{twice};
 ghost use Rattle.layout_model.specs.Layouts.{AreOffsets, IsPlacementOnGrid};
 ghost use Rattle.layout_model.specs.Images.{IsOrient};
 ghost use Rattle.layout_model.specs.Names.{IsName};
-ghost use Rattle.layout_model.specs.Paths.{IsFirst};
 ghost use Rattle.gds_record.specs.declared.kinds.Kind.TheVariants.{Sref, Aref};
-ghost use Rattle.gds_reader.specs.Elements.{IsHeld, IsFilePoint, BreaksKept, place_kept, placements_kept};
+ghost use Rattle.gds_reader.specs.Elements.{IsHeld, IsFilePoint, KeepsOf, place_kept, placements_kept};
 ghost use Rattle.gds_reader.specs.Meaning.{quotient, step_of, array_places as the_places};
 ghost use Rattle.gds_reader.specs.Refused.{IsRefusedBy};
 ghost use Rattle.gds_reader.specs.Steppings.{IsNear, IsPartOf, IsStepping};
-ghost use Rattle.gds_reader.specs.Values.{Divides, BreaksAref, name_in};
+ghost use Rattle.gds_reader.specs.Values.{Divides, KeepsAref, IsLowest, name_in};
 
 use crate::drawing::ORIGIN;
 use crate::elements::Element;
@@ -62,8 +61,8 @@ fn array_places(element: &Element, points: &[Point]) -> Result<Offsets, u8>
     ensures places { IfOk result (λ offsets. offsets ≡ the_places element.now.columns element.now.rows points.now) }
     ensures grid { IfOk result AreOffsets }
     ensures three { IfOk result (λ _. length points.now ≡ 3) }
-    ensures kept { IfOk result (λ _. (rule : ℕ) → ¬ BreaksAref element.now.columns element.now.rows points.now rule) }
-    ensures broken { IfErr result (IsFirst (BreaksAref element.now.columns element.now.rows points.now)) }
+    ensures kept { IfOk result (λ _. (rule : ℕ) → KeepsAref element.now.columns element.now.rows points.now rule) }
+    ensures broken { IfErr result (IsLowest (KeepsAref element.now.columns element.now.rows points.now)) }
 {
     let [origin, right, up] = points else {
         return Err(8);
@@ -125,8 +124,8 @@ pub(crate) fn place(
     requires kind { (element.now.kind ≡ Some Sref) ⊎ (element.now.kind ≡ Some Aref) }
     ensures put { OnOk result (placements.new ≡ placements.old ++ placements_kept element.now.kind bytes.now element.now points.now) }
     ensures grid { All IsPlacementOnGrid placements.old → OnOk result (All IsPlacementOnGrid placements.new) }
-    ensures kept { OnOk result ((rule : ℕ) → ¬ BreaksKept element.now.kind element.now points.now rule) }
-    ensures broken { IfErr result (IsRefusedBy (BreaksKept element.now.kind element.now points.now) at) }
+    ensures kept { OnOk result ((rule : ℕ) → KeepsOf element.now.kind element.now points.now rule) }
+    ensures broken { IfErr result (IsRefusedBy (KeepsOf element.now.kind element.now points.now) at) }
 {
     match element.kind {
         Some(Kind::Sref) => {

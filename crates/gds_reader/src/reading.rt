@@ -1,14 +1,27 @@
 //! The whole file.
-ghost use Rattle.std.specs.Prelude.{◌≡◌, ◌≢◌, ◌⊎◌, IfOk, IfErr, Err, Ok};
-ghost use Rattle.layout_model.specs.Layouts.{IsLayoutOnGrid};
+ghost use Rattle.std.specs.Prelude.{◌≡◌, ◌≢◌, ◌⊎◌, ◌+◌, ◌^◌, ◌≤◌, ◌<◌, ◌++◌, ℕ, List as Items, [], ◌∷◌, Some, None, All, IfOk, IfErr, IfSome, IfNone, OnOk, Err, Ok, length, slice_index};
+ghost use Rattle.layout_model.specs.Layouts.{IsShapeOnGrid, IsPlacementOnGrid, IsCellOnGrid, IsLayoutOnGrid};
+ghost use Rattle.layout_model.specs.Images.{IsOrient};
+ghost use Rattle.layout_model.specs.Names.{IsName};
+ghost use Rattle.layout_model.specs.declared.pair.Pair.{Pair as APair};
 ghost use Rattle.layout_model.specs.declared.cells.Layout.{Layout as ALayout};
-ghost use Rattle.gds_reader.specs.Reading.{IsLayoutOf, IsFirstFault, framing_fault};
+ghost use Rattle.gds_record.specs.Reals.{Agrees};
+ghost use Rattle.gds_record.specs.declared.kinds.Kind.TheVariants.{Xy, EndStr, StrName, Units};
+ghost use Rattle.gds_record.specs.declared.records.Record.{Record as ARecord};
+ghost use Rattle.gds_reader.specs.Elements.{IsHeld, IsElementOf, AreSamePairs, TellsShape, KeepsBy, shapes_by, placements_kept};
+ghost use Rattle.gds_reader.specs.Meaning.{wanted_at, cells_at};
+ghost use Rattle.gds_reader.specs.Readers.{IsReaderOf, IsStructureOf, IsTaken, IsRefused, AreAtMost, cells_kept};
+ghost use Rattle.gds_reader.specs.Reading.{IsLayoutOf, IsFirstFault, framing_fault, unit_in};
+ghost use Rattle.gds_reader.specs.Refused.{IsRefusedBy};
+ghost use Rattle.gds_reader.specs.Values.{Keeps, KeepsRules, name_in, points_in};
+ghost use Rattle.gds_reader.specs.Wanting.{AreSorted};
 ghost use Rattle.gds_reader.specs.declared.refusing.GdsBad.{GdsBad as ABad};
+ghost use Rattle.gds_reader.specs.declared.refusing.GdsBad.TheVariants as bads;
 
 use crate::counting;
 use crate::drawing::draw;
 use crate::elements::Element;
-use crate::naming::{Names, name_of};
+use crate::naming::{Names, enter, name_of};
 use crate::order::Place;
 use crate::placing::place;
 use crate::pointing::read_points;
@@ -20,18 +33,24 @@ use geo_stream::{List, NoMemory};
 use half_grid::Point;
 use layout_model::{Cell, Counts, Layout, Name, Pair, Placement, Shape};
 use std::alloc::Global;
+use std::mem::replace;
 
-// What is kept of the records so far.
+/// What the open structure has so far.
 #[derive(Drop)]
-struct Reader<'a> {
+pub(crate) struct Structure {
+    /// Its STRNAME.
+    pub(crate) named: Option<Record>,
+    pub(crate) shapes: List<Shape>,
+    pub(crate) placements: List<Placement>,
+}
+
+/// What is kept of the records so far.
+#[derive(Drop)]
+pub(crate) struct Reader<'a> {
     place: Place,
     element: Element,
     names: Names<'a>,
-    // The STRNAME of the open structure.
-    named: Option<Record>,
-    // What the open structure has so far.
-    shapes: List<Shape>,
-    placements: List<Placement>,
+    structure: Structure,
     cells: List<Cell>,
     counts: Counts,
     // The points of the last XY that was read.
@@ -50,7 +69,11 @@ fn framing_bad(fault: Framing, at: usize) -> GdsBad
 }
 
 // Where UNITS has another unit, the bits of its real.
-fn other_unit(bytes: &[u8], unit: u32, current: Record) -> Option<u64> {
+fn other_unit(bytes: &[u8], unit: u32, current: Record) -> Option<u64>
+    requires { IsHeld bytes.now current }
+    ensures other { IfSome result (λ bits. (current.kind ≡ Units) × (bits ≡ unit_in bytes.now current) × ¬ Agrees (unit_in bytes.now current) unit) }
+    ensures none { IfNone result (current.kind ≡ Units → Agrees (unit_in bytes.now current) unit) }
+{
     match current.kind {
         Kind::Units => {
             let bits = int8(bytes, current.first + 8);
@@ -60,76 +83,202 @@ fn other_unit(bytes: &[u8], unit: u32, current: Record) -> Option<u64> {
     }
 }
 
+// At the XY of a boundary or a path, whether its pair is wanted.
+fn wanted_shape(sorted: &[Pair], element: &Element, current: Record) -> Option<bool>
+    requires { AreSorted sorted.now }
+    ensures wanted { (bytes : Items ℕ) (past : Items ARecord) (wanted : Items APair) → IsElementOf bytes past element.now → AreSamePairs wanted sorted.now
+        → result ≡ wanted_at bytes wanted past current }
+    ensures tells { current.kind ≡ Xy → TellsShape result element.now }
+{
+    if current.kind != Kind::Xy {
+        return None;
+    }
+    match element.kind {
+        Some(Kind::Boundary | Kind::Path) => Some(is_among(sorted, element.pair)),
+        _ => None,
+    }
+}
+
+// Takes the XY of an element, which is at this offset. `drawn` says of a shape whether its pair is wanted.
+fn take_points(
+    alloc: Global,
+    bytes: &[u8],
+    element: &Element,
+    current: Record,
+    at: usize,
+    drawn: Option<bool>,
+    points: &mut Vec<Point>,
+    structure: &mut Structure,
+) -> Result<(), GdsBad>
+    requires held { IsHeld bytes.now current }
+    requires kind { current.kind ≡ Xy }
+    requires tells { TellsShape drawn element.now }
+    requires target_held { IfSome element.now.target (IsHeld bytes.now) }
+    requires target_named { IfSome element.now.target (λ r. IsName (name_in bytes.now r)) }
+    requires orient { IsOrient element.now.orient }
+    ensures named { structure.new.named ≡ structure.old.named }
+    ensures shapes { OnOk result (structure.new.shapes ≡ structure.old.shapes ++ shapes_by drawn element.now (points_in bytes.now current)) }
+    ensures placements { OnOk result (structure.new.placements
+        ≡ structure.old.placements ++ placements_kept element.now.kind bytes.now element.now (points_in bytes.now current)) }
+    ensures shapes_grid { All IsShapeOnGrid structure.old.shapes → OnOk result (All IsShapeOnGrid structure.new.shapes) }
+    ensures placements_grid { All IsPlacementOnGrid structure.old.placements → OnOk result (All IsPlacementOnGrid structure.new.placements) }
+    ensures kept { OnOk result ((rule : ℕ) → KeepsBy drawn element.now (points_in bytes.now current) rule) }
+    ensures broken { IfErr result (IsRefusedBy (KeepsBy drawn element.now (points_in bytes.now current)) at) }
+{
+    match drawn {
+        Some(true) => {
+            read_points(bytes, current, points)?;
+            draw(alloc, element, points.as_slice(), at, &mut structure.shapes)
+        }
+        Some(false) => Ok(()),
+        None => {
+            if !element.is_reference() {
+                return Ok(());
+            }
+            read_points(bytes, current, points)?;
+            place(
+                alloc,
+                bytes,
+                element,
+                points.as_slice(),
+                at,
+                &mut structure.placements,
+            )
+        }
+    }
+}
+
+// Takes a record that isn't ENDSTR into the open structure.
+fn take_within(
+    alloc: Global,
+    bytes: &[u8],
+    element: &Element,
+    current: Record,
+    at: usize,
+    drawn: Option<bool>,
+    points: &mut Vec<Point>,
+    structure: &mut Structure,
+) -> Result<(), GdsBad>
+    requires held { IsHeld bytes.now current }
+    requires kind { current.kind ≢ EndStr }
+    requires tells { current.kind ≡ Xy → TellsShape drawn element.now }
+    requires target_held { IfSome element.now.target (IsHeld bytes.now) }
+    requires target_named { IfSome element.now.target (λ r. IsName (name_in bytes.now r)) }
+    requires orient { IsOrient element.now.orient }
+    requires name { current.kind ≡ StrName → IsName (name_in bytes.now current) }
+    ensures structure { (past : Items ARecord) (wanted : Items APair) → IsElementOf bytes.now past element.now
+        → drawn ≡ wanted_at bytes.now wanted past current → IsStructureOf bytes.now wanted past structure.old
+        → OnOk result (IsStructureOf bytes.now wanted (current ∷ past) structure.new) }
+    ensures kept { (past : Items ARecord) (wanted : Items APair) → IsElementOf bytes.now past element.now
+        → drawn ≡ wanted_at bytes.now wanted past current
+        → OnOk result (current.kind ≡ Xy → KeepsRules bytes.now wanted past current) }
+    ensures broken { (past : Items ARecord) (wanted : Items APair) → IsElementOf bytes.now past element.now
+        → drawn ≡ wanted_at bytes.now wanted past current
+        → IfErr result (IsRefusedBy (Keeps bytes.now wanted past current) at) }
+{
+    match current.kind {
+        Kind::Xy => take_points(alloc, bytes, element, current, at, drawn, points, structure),
+        Kind::StrName => {
+            structure.named = Some(current);
+            Ok(())
+        }
+        _ => Ok(()),
+    }
+}
+
+// Ends the open structure.
+fn close(
+    alloc: Global,
+    bytes: &[u8],
+    structure: &mut Structure,
+    cells: &mut List<Cell>,
+) -> Result<(), NoMemory>
+    requires held { IfSome structure.old.named (IsHeld bytes.now) }
+    requires valid { IfSome structure.old.named (λ r. IsName (name_in bytes.now r)) }
+    ensures named { OnOk result (structure.new.named ≡ None) }
+    ensures shapes { OnOk result (structure.new.shapes ≡ []) }
+    ensures placements { OnOk result (structure.new.placements ≡ []) }
+    ensures cells { OnOk result (cells.new ≡ cells.old ++ cells_kept bytes.now structure.old.named structure.old.shapes structure.old.placements) }
+    ensures grid { All IsCellOnGrid cells.old → All IsShapeOnGrid structure.old.shapes → All IsPlacementOnGrid structure.old.placements
+        → OnOk result (All IsCellOnGrid cells.new) }
+{
+    let shapes = replace(&mut structure.shapes, List::new(alloc));
+    let placements = replace(&mut structure.placements, List::new(alloc));
+    let Some(named) = structure.named else {
+        return Ok(());
+    };
+    structure.named = None;
+    match Name::new(alloc, name_of(bytes, named)) {
+        Ok(name) => cells.push(Cell {
+            name,
+            shapes,
+            placements,
+        }),
+        Err(_) => Err(NoMemory),
+    }
+}
+
+// Takes a record into the open structure, and the structure into the cells where it ends.
+fn build(
+    alloc: Global,
+    bytes: &[u8],
+    element: &Element,
+    current: Record,
+    at: usize,
+    drawn: Option<bool>,
+    points: &mut Vec<Point>,
+    structure: &mut Structure,
+    cells: &mut List<Cell>,
+) -> Result<(), GdsBad>
+    requires held { IsHeld bytes.now current }
+    requires tells { current.kind ≡ Xy → TellsShape drawn element.now }
+    requires target_held { IfSome element.now.target (IsHeld bytes.now) }
+    requires target_named { IfSome element.now.target (λ r. IsName (name_in bytes.now r)) }
+    requires orient { IsOrient element.now.orient }
+    requires name { current.kind ≡ StrName → IsName (name_in bytes.now current) }
+    requires named_held { IfSome structure.old.named (IsHeld bytes.now) }
+    requires named_valid { IfSome structure.old.named (λ r. IsName (name_in bytes.now r)) }
+    ensures structure { (past : Items ARecord) (wanted : Items APair) → IsElementOf bytes.now past element.now
+        → drawn ≡ wanted_at bytes.now wanted past current → IsStructureOf bytes.now wanted past structure.old
+        → OnOk result (IsStructureOf bytes.now wanted (current ∷ past) structure.new) }
+    ensures cells { (past : Items ARecord) (wanted : Items APair) → IsStructureOf bytes.now wanted past structure.old
+        → OnOk result (cells.new ≡ cells.old ++ cells_at bytes.now wanted past current) }
+    ensures grid { All IsCellOnGrid cells.old → All IsShapeOnGrid structure.old.shapes → All IsPlacementOnGrid structure.old.placements
+        → OnOk result (All IsCellOnGrid cells.new) }
+    ensures kept { (past : Items ARecord) (wanted : Items APair) → IsElementOf bytes.now past element.now
+        → drawn ≡ wanted_at bytes.now wanted past current
+        → OnOk result (current.kind ≡ Xy → KeepsRules bytes.now wanted past current) }
+    ensures broken { (past : Items ARecord) (wanted : Items APair) → IsElementOf bytes.now past element.now
+        → drawn ≡ wanted_at bytes.now wanted past current
+        → IfErr result (IsRefusedBy (Keeps bytes.now wanted past current) at) }
+{
+    if current.kind == Kind::EndStr {
+        close(alloc, bytes, structure, cells)?;
+        return Ok(());
+    }
+    take_within(alloc, bytes, element, current, at, drawn, points, structure)
+}
+
 impl<'a> Reader<'a> {
-    fn new(alloc: Global) -> Reader<'a> {
+    fn new(alloc: Global) -> Reader<'a>
+        ensures { (bytes : Items ℕ) (wanted : Items APair) → IsReaderOf bytes wanted [] result }
+    {
         Reader {
             place: Place::Header,
             element: Element::new(None),
             names: Names::new(alloc),
-            named: None,
-            shapes: List::new(alloc),
-            placements: List::new(alloc),
+            structure: Structure {
+                named: None,
+                shapes: List::new(alloc),
+                placements: List::new(alloc),
+            },
             cells: List::new(alloc),
             counts: counting::NONE,
             points: Vec::new(alloc),
         }
     }
 
-    // Begins a structure with this STRNAME, which is at this offset.
-    fn name(&mut self, bytes: &'a [u8], current: Record, at: usize) -> Result<(), GdsBad> {
-        let name = name_of(bytes, current);
-        if let Some(first) = self.names.place_of(name) {
-            return Err(GdsBad::Twice(first, at));
-        }
-        self.names.put(name, at)?;
-        self.named = Some(current);
-        Ok(())
-    }
-
-    // Takes an XY, which is at this offset.
-    fn take_points(
-        &mut self,
-        alloc: Global,
-        bytes: &[u8],
-        sorted: &[Pair],
-        current: Record,
-        at: usize,
-    ) -> Result<Option<bool>, GdsBad> {
-        match self.element.kind {
-            Some(Kind::Boundary | Kind::Path) => {
-                if !is_among(sorted, self.element.pair) {
-                    return Ok(Some(false));
-                }
-                read_points(bytes, current, &mut self.points)?;
-                draw(alloc, &self.element, self.points.as_slice(), at, &mut self.shapes)?;
-                Ok(Some(true))
-            }
-            Some(Kind::Sref | Kind::Aref) => {
-                read_points(bytes, current, &mut self.points)?;
-                place(alloc, bytes, &self.element, self.points.as_slice(), at, &mut self.placements)?;
-                Ok(None)
-            }
-            _ => Ok(None),
-        }
-    }
-
-    // Ends the open structure.
-    fn close(&mut self, alloc: Global, bytes: &[u8]) -> Result<(), NoMemory> {
-        let shapes = std::mem::replace(&mut self.shapes, List::new(alloc));
-        let placements = std::mem::replace(&mut self.placements, List::new(alloc));
-        let Some(named) = self.named else {
-            return Ok(());
-        };
-        match Name::new(alloc, name_of(bytes, named)) {
-            Ok(name) => self.cells.push(Cell {
-                name,
-                shapes,
-                placements,
-            }),
-            Err(_) => Err(NoMemory),
-        }
-    }
-
+    // Takes the record at this offset.
     fn take(
         &mut self,
         alloc: Global,
@@ -138,7 +287,24 @@ impl<'a> Reader<'a> {
         sorted: &[Pair],
         current: Record,
         at: usize,
-    ) -> Result<(), GdsBad> {
+    ) -> Result<(), GdsBad>
+        requires held { IsHeld bytes.now current }
+        requires at { current.first ≡ at + 4 }
+        requires sorted { AreSorted sorted.now }
+        requires few { AreAtMost (2 ^ 63) self.old.counts }
+        requires named_held { IfSome self.old.structure.named (IsHeld bytes.now) }
+        requires named_valid { IfSome self.old.structure.named (λ r. IsName (name_in bytes.now r)) }
+        requires target_held { IfSome self.old.element.target (IsHeld bytes.now) }
+        requires target_named { IfSome self.old.element.target (λ r. IsName (name_in bytes.now r)) }
+        requires orient { IsOrient self.old.element.orient }
+        ensures reader { (past : Items ARecord) (wanted : Items APair) → AreSamePairs wanted sorted.now
+            → IsReaderOf bytes.now wanted past self.old → OnOk result (IsReaderOf bytes.now wanted (current ∷ past) self.new) }
+        ensures taken { (past : Items ARecord) (wanted : Items APair) → AreSamePairs wanted sorted.now
+            → IsReaderOf bytes.now wanted past self.old → OnOk result (IsTaken bytes.now unit wanted past current) }
+        ensures refused { (past : Items ARecord) (wanted : Items APair) → AreSamePairs wanted sorted.now
+            → IsReaderOf bytes.now wanted past self.old
+            → IfErr result (λ bad. bad ≢ bads.NoMemory → IsRefused bytes.now unit wanted past current at bad) }
+    {
         let Some(place) = self.place.after(current.kind) else {
             return Err(GdsBad::Order(at));
         };
@@ -148,14 +314,20 @@ impl<'a> Reader<'a> {
         if let Some(bits) = other_unit(bytes, unit, current) {
             return Err(GdsBad::Unit(bits));
         }
-        let mut drawn = None;
-        match current.kind {
-            Kind::StrName => self.name(bytes, current, at)?,
-            Kind::Xy => drawn = self.take_points(alloc, bytes, sorted, current, at)?,
-            Kind::EndStr => self.close(alloc, bytes)?,
-            _ => {}
-        }
-        self.counts = counting::with(self.counts, current.kind, drawn);
+        enter(&mut self.names, bytes, current, at)?;
+        let drawn = wanted_shape(sorted, &self.element, current);
+        build(
+            alloc,
+            bytes,
+            &self.element,
+            current,
+            at,
+            drawn,
+            &mut self.points,
+            &mut self.structure,
+            &mut self.cells,
+        )?;
+        self.counts = counting::with(self.counts, current, drawn);
         self.element = self.element.with(bytes, current);
         self.place = place;
         Ok(())
@@ -163,7 +335,13 @@ impl<'a> Reader<'a> {
 }
 
 // The first byte from `at` on that isn't 0.
-fn first_nonzero(bytes: &[u8], at: usize) -> Option<usize> {
+fn first_nonzero(bytes: &[u8], at: usize) -> Option<usize>
+    requires { at ≤ length bytes.now }
+    ensures within { IfSome result (λ k. (at ≤ k) × (k < length bytes.now)) }
+    ensures nonzero { IfSome result (λ k. slice_index bytes.now k ≢ 0) }
+    ensures first { IfSome result (λ k. (i : ℕ) → at ≤ i → i < k → slice_index bytes.now i ≡ 0) }
+    ensures none { IfNone result ((i : ℕ) → at ≤ i → i < length bytes.now → slice_index bytes.now i ≡ 0) }
+{
     for index in at..bytes.len() {
         if bytes[index] != 0 {
             return Some(index);
@@ -181,9 +359,9 @@ pub fn read_gds(
 ) -> Result<Layout, GdsBad>
     ensures found { IfOk result (λ layout. IsLayoutOf bytes.now unit wanted.now layout) }
     ensures grid { IfOk result IsLayoutOnGrid }
-    ensures read { (layout : ALayout) → IsLayoutOf bytes.now unit wanted.now layout → (result ≡ Ok layout) ⊎ (result ≡ Err GdsBad.NoMemory) }
-    ensures first_fault { IfErr result (λ bad. bad ≢ GdsBad.NoMemory → IsFirstFault bytes.now unit wanted.now bad) }
-    ensures every_fault { (bad : ABad) → IsFirstFault bytes.now unit wanted.now bad → (result ≡ Err bad) ⊎ (result ≡ Err GdsBad.NoMemory) }
+    ensures read { (layout : ALayout) → IsLayoutOf bytes.now unit wanted.now layout → (result ≡ Ok layout) ⊎ (result ≡ Err bads.NoMemory) }
+    ensures first_fault { IfErr result (λ bad. bad ≢ bads.NoMemory → IsFirstFault bytes.now unit wanted.now bad) }
+    ensures every_fault { (bad : ABad) → IsFirstFault bytes.now unit wanted.now bad → (result ≡ Err bad) ⊎ (result ≡ Err bads.NoMemory) }
 {
     let sorted = sorted_pairs(alloc, wanted)?;
     let mut reader = Reader::new(alloc);
