@@ -3,3 +3,7 @@ mod GrammarLemmas
 mod PlaceLemmas
 mod RealFacts
 mod NameLemmas
+mod PointLemmas
+mod PairLemmas
+mod GridLemmas
+mod DrawLemmas

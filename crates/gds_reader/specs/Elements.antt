@@ -22,6 +22,7 @@ pub record IsHeld (bytes : List ℕ) (r : Record) : Type 0 where
   pub ordered : r.first ≤ r.next
   pub within : r.next ≤ length bytes
   pub content : IsAllowed (content_of r.kind) (r.next - r.first)
+  pub short : r.next - r.first ≤ 65531
 
 -- what is kept of the element that the last record is in
 pub record IsElementOf (bytes : List ℕ) (past : List Record) (e : Element) : Type 0 where

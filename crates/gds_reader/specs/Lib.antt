@@ -10,3 +10,4 @@ pub mod Wanting
 pub mod Refused
 pub mod Steppings
 pub mod Readers
+pub mod Brushes

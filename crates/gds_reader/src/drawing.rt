@@ -1,20 +1,21 @@
 //! The shapes of boundaries and paths.
-ghost use Rattle.std.specs.Prelude.{◌≡◌, ◌≢◌, ◌≤◌, ◌++◌, ℕ, pos, unsigned_abs, length, ◌⊎◌, Some, All, OnOk, IfOk, IfErr, Err};
+ghost use Rattle.std.specs.Prelude.{◌≡◌, ◌≤◌, ◌↔◌, ◌++◌, ℕ, pos, unsigned_abs, true, [], ◌∷◌, length, All, IsTrue, OnOk, IfOk, IfErr, Err};
+ghost use Rattle.half_grid.specs.Outlines.{IsClosed};
 ghost use Rattle.layout_model.specs.Layouts.{IsShapeOnGrid};
-ghost use Rattle.gds_record.specs.declared.kinds.Kind.TheVariants.{Boundary, Path};
+ghost use Rattle.gds_reader.specs.Brushes.{brush_kept, IsNearBrush};
 ghost use Rattle.gds_reader.specs.declared.drawing.Undrawn.TheVariants.{Rule, NoMemory as Wanting};
 ghost use Rattle.gds_reader.specs.declared.refusing.GdsBad.TheVariants as bads;
 ghost use Rattle.gds_reader.specs.Elements.{IsFilePoint, KeepsPathOf, KeepsOf, path_kept, shapes_kept};
-ghost use Rattle.gds_reader.specs.Meaning.{boundary_shape};
+ghost use Rattle.gds_reader.specs.Meaning.{boundary_shape, path_shapes_of, is_drawn};
 ghost use Rattle.gds_reader.specs.Refused.{IsRefusedBy};
-ghost use Rattle.gds_reader.specs.Values.{KeepsBoundary, IsLowest, extension};
+ghost use Rattle.gds_reader.specs.Values.{KeepsBoundary, KeepsPath, IsLowest, extension};
 
 use crate::elements::Element;
 use crate::refusing::GdsBad;
 use gds_record::Kind;
 use geo_stream::{List, NoMemory};
 use half_grid::Point;
-use layout_model::{Offsets, PathBad, Shape, ShapeBad, path_shapes};
+use layout_model::{Offsets, Pair, PathBad, Shape, ShapeBad, path_shapes};
 use std::alloc::Global;
 
 /// Where an element stands by itself.
@@ -38,6 +39,20 @@ impl From<NoMemory> for Undrawn {
     }
 }
 
+fn are_same(a: Point, b: Point) -> bool
+    ensures { IsTrue result ↔ (a ≡ b) }
+{
+    a == b
+}
+
+// Whether the last point is the first; there are some.
+fn is_closed(points: &[Point]) -> bool
+    requires { 1 ≤ length points.now }
+    ensures { IsTrue result ↔ IsClosed points.now }
+{
+    are_same(points[0], points[points.len() - 1])
+}
+
 // The shape of a boundary.
 fn shape_of_boundary(alloc: Global, element: &Element, points: &[Point]) -> Result<Shape, Undrawn>
     requires count { length points.now ≤ 8191 }
@@ -50,7 +65,7 @@ fn shape_of_boundary(alloc: Global, element: &Element, points: &[Point]) -> Resu
     if points.len() < LEAST {
         return Err(Undrawn::Rule(10));
     }
-    if points[0] != points[points.len() - 1] {
+    if !is_closed(points) {
         return Err(Undrawn::Rule(11));
     }
     let offsets = Offsets::list(alloc, &[ORIGIN])?;
@@ -59,6 +74,14 @@ fn shape_of_boundary(alloc: Global, element: &Element, points: &[Point]) -> Resu
         Err(ShapeBad::Slant(_)) => Err(Undrawn::Rule(12)),
         Err(ShapeBad::NoMemory) => Err(Undrawn::NoMemory),
     }
+}
+
+// The half width of a path, and how far it goes beyond its first point and its last.
+#[derive(Clone, Copy)]
+struct Brush {
+    half: i64,
+    begin: i64,
+    end: i64,
 }
 
 impl Element {
@@ -79,31 +102,37 @@ impl Element {
             _ => 0,
         }
     }
+
+    fn brush(&self) -> Brush
+        ensures brush { result ≡ brush_kept self.now }
+        ensures near { IsNearBrush result }
+    {
+        Brush {
+            half: self.half_width(),
+            begin: self.extension(self.begin),
+            end: self.extension(self.end),
+        }
+    }
 }
 
 // The shapes of a path.
-fn shapes_of_path(alloc: Global, element: &Element, points: &[Point]) -> Result<Vec<Shape>, Undrawn>
+fn shapes_of_path(
+    alloc: Global,
+    pair: Pair,
+    points: &[Point],
+    brush: Brush,
+    fixed: bool,
+) -> Result<Vec<Shape>, Undrawn>
     requires points { All IsFilePoint points.now }
-    ensures shapes { IfOk result (λ shapes. shapes.items ≡ path_kept element.now points.now) }
+    requires brush { IsNearBrush brush }
+    ensures shapes { IfOk result (λ shapes. shapes.items ≡ path_shapes_of pair fixed brush.half brush.begin brush.end points.now) }
     ensures grid { IfOk result (λ shapes. All IsShapeOnGrid shapes.items) }
-    ensures kept { IfOk result (λ _. (rule : ℕ) → KeepsPathOf element.now points.now rule) }
-    ensures broken { (rule : ℕ) → result ≡ Err (Rule rule) → IsLowest (KeepsPathOf element.now points.now) rule }
+    ensures kept { IfOk result (λ _. (rule : ℕ) → KeepsPath brush.half brush.begin brush.end points.now rule) }
+    ensures broken { (rule : ℕ) → result ≡ Err (Rule rule) → IsLowest (KeepsPath brush.half brush.begin brush.end points.now) rule }
 {
-    let half = element.half_width();
-    let begin = element.extension(element.begin);
-    let end = element.extension(element.end);
+    let Brush { half, begin, end } = brush;
     let offsets = Offsets::list(alloc, &[ORIGIN])?;
-    let fixed = element.width < 0;
-    match path_shapes(
-        alloc,
-        element.pair,
-        points,
-        half,
-        begin,
-        end,
-        &offsets,
-        fixed,
-    ) {
+    match path_shapes(alloc, pair, points, half, begin, end, &offsets, fixed) {
         Ok(shapes) => Ok(shapes),
         Err(PathBad::NoMemory) => Err(Undrawn::NoMemory),
         Err(_) => Err(Undrawn::Rule(14)),
@@ -130,6 +159,52 @@ fn push_all(list: &mut List<Shape>, shapes: Vec<Shape>) -> Result<(), NoMemory>
     Ok(())
 }
 
+fn draw_boundary(
+    alloc: Global,
+    element: &Element,
+    points: &[Point],
+    at: usize,
+    shapes: &mut List<Shape>,
+) -> Result<(), GdsBad>
+    requires count { length points.now ≤ 8191 }
+    requires points { All IsFilePoint points.now }
+    ensures shapes { OnOk result (shapes.new ≡ shapes.old ++ boundary_shape element.now.pair points.now ∷ []) }
+    ensures grid { All IsShapeOnGrid shapes.old → OnOk result (All IsShapeOnGrid shapes.new) }
+    ensures kept { OnOk result ((rule : ℕ) → KeepsBoundary points.now rule) }
+    ensures broken { IfErr result (IsRefusedBy (KeepsBoundary points.now) at) }
+{
+    match shape_of_boundary(alloc, element, points) {
+        Ok(shape) => {
+            shapes.push(shape)?;
+            Ok(())
+        }
+        Err(undrawn) => Err(bad_at(undrawn, at)),
+    }
+}
+
+fn draw_path(
+    alloc: Global,
+    element: &Element,
+    points: &[Point],
+    at: usize,
+    shapes: &mut List<Shape>,
+) -> Result<(), GdsBad>
+    requires points { All IsFilePoint points.now }
+    ensures shapes { OnOk result (shapes.new ≡ shapes.old ++ path_kept element.now points.now) }
+    ensures grid { All IsShapeOnGrid shapes.old → OnOk result (All IsShapeOnGrid shapes.new) }
+    ensures kept { OnOk result ((rule : ℕ) → KeepsPathOf element.now points.now rule) }
+    ensures broken { IfErr result (IsRefusedBy (KeepsPathOf element.now points.now) at) }
+{
+    let fixed = element.width < 0;
+    match shapes_of_path(alloc, element.pair, points, element.brush(), fixed) {
+        Ok(drawn) => {
+            push_all(shapes, drawn)?;
+            Ok(())
+        }
+        Err(undrawn) => Err(bad_at(undrawn, at)),
+    }
+}
+
 /// Draws an element with these points that is on a wanted pair. `at` is the offset of its XY.
 pub(crate) fn draw(
     alloc: Global,
@@ -140,22 +215,14 @@ pub(crate) fn draw(
 ) -> Result<(), GdsBad>
     requires count { length points.now ≤ 8191 }
     requires points { All IsFilePoint points.now }
-    requires kind { (element.now.kind ≡ Some Boundary) ⊎ (element.now.kind ≡ Some Path) }
     ensures shapes { OnOk result (shapes.new ≡ shapes.old ++ shapes_kept element.now.kind element.now points.now) }
     ensures grid { All IsShapeOnGrid shapes.old → OnOk result (All IsShapeOnGrid shapes.new) }
-    ensures kept { OnOk result ((rule : ℕ) → KeepsOf element.now.kind element.now points.now rule) }
+    ensures kept { is_drawn element.now.kind ≡ true → OnOk result ((rule : ℕ) → KeepsOf element.now.kind element.now points.now rule) }
     ensures broken { IfErr result (IsRefusedBy (KeepsOf element.now.kind element.now points.now) at) }
 {
     match element.kind {
-        Some(Kind::Boundary) => match shape_of_boundary(alloc, element, points) {
-            Ok(shape) => shapes.push(shape)?,
-            Err(undrawn) => return Err(bad_at(undrawn, at)),
-        },
-        Some(Kind::Path) => match shapes_of_path(alloc, element, points) {
-            Ok(drawn) => push_all(shapes, drawn)?,
-            Err(undrawn) => return Err(bad_at(undrawn, at)),
-        },
-        _ => {}
+        Some(Kind::Boundary) => draw_boundary(alloc, element, points, at, shapes),
+        Some(Kind::Path) => draw_path(alloc, element, points, at, shapes),
+        _ => Ok(()),
     }
-    Ok(())
 }

@@ -5,6 +5,7 @@ ghost use Rattle.gds_record.specs.declared.kinds.Kind.TheVariants.{Sref, Aref};
 ghost use Rattle.gds_record.specs.declared.records.Record.{Record as ARecord};
 ghost use Rattle.gds_reader.specs.Elements.{IsHeld, IsElementOf, IsTurn, new_element};
 ghost use Rattle.gds_reader.specs.Values.{name_in, magnitude_of, turns_of, IsFactor, IsQuarterAngle, KeepsRules};
+ghost use Rattle.layout_model.specs.Images.{IsOrient};
 ghost use Rattle.layout_model.specs.declared.pair.Pair.{Pair as APair};
 
 use gds_record::{Kind, Record, int4, int8, real_whole, unsigned2};
@@ -126,8 +127,9 @@ impl Element {
     /// The element with one more record, or the next element where one begins.
     pub(crate) fn with(self, bytes: &[u8], current: Record) -> Element
         requires { IsHeld bytes.now current }
-        ensures { (past : List ARecord) (wanted : List APair) → IsElementOf bytes.now past self → KeepsRules bytes.now wanted past current
+        ensures element { (past : List ARecord) (wanted : List APair) → IsElementOf bytes.now past self → KeepsRules bytes.now wanted past current
             → IsElementOf bytes.now (current ∷ past) result }
+        ensures orient { IsOrient self.orient → IsOrient result.orient }
     {
         let first = current.first;
         match current.kind {
@@ -182,19 +184,22 @@ impl Element {
                 },
                 ..self
             },
-            Kind::Mag => Element {
-                orient: Orient {
-                    mag: factor_of(int8(bytes, first)).unwrap_or(1),
-                    ..self.orient
+            Kind::Mag => match factor_of(int8(bytes, first)) {
+                Some(mag) => Element {
+                    orient: Orient { mag, ..self.orient },
+                    ..self
                 },
-                ..self
+                None => self,
             },
-            Kind::Angle => Element {
-                orient: Orient {
-                    turns: quarter_turns(int8(bytes, first)).unwrap_or(0),
-                    ..self.orient
+            Kind::Angle => match quarter_turns(int8(bytes, first)) {
+                Some(turns) => Element {
+                    orient: Orient {
+                        turns,
+                        ..self.orient
+                    },
+                    ..self
                 },
-                ..self
+                None => self,
             },
             Kind::ColRow => Element {
                 columns: unsigned2(bytes, first),
