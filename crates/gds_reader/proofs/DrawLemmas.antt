@@ -10,12 +10,15 @@ use Rattle.layout_model.specs.Layouts.{IsWithin, AreOffsets, IsShapeOnGrid}
 use Rattle.layout_model.specs.PathLaws.{IsOutline}
 use Rattle.layout_model.specs.Paths.{IsDrawable, drawn_path, rectangles, rectangle_shape}
 use Rattle.layout_model.specs.Slants.{IsFirstSlant}
+use Rattle.layout_model.specs.declared.paths.PathBad.{PathBad}
+use Rattle.layout_model.specs.declared.paths.PathBad.TheVariants as paths
 use Rattle.layout_model.specs.declared.pair.Pair.{Pair}
 use Rattle.layout_model.specs.declared.shapes.Shape.{Shape}
 use Rattle.gds_reader.specs.declared.drawing.Undrawn.{Undrawn}
 use Rattle.gds_reader.specs.declared.drawing.Undrawn.TheVariants as undrawn
 use Rattle.gds_reader.specs.declared.refusing.GdsBad.{GdsBad}
 use Rattle.gds_reader.specs.declared.refusing.GdsBad.TheVariants as bads
+use Rattle.gds_reader.specs.Brushes.{undrawn_by}
 use Rattle.gds_reader.specs.Meaning.{origin, path_shapes_of}
 use Rattle.gds_reader.specs.Refused.{IsRefusedBy}
 use Rattle.gds_reader.specs.Values.{KeepsBoundary, KeepsPath, IsLowest}
@@ -38,13 +41,14 @@ refused_by K at (undrawn.Rule rule) bad told wanting low = inr (rule, told rule 
 refused_by K at undrawn.NoMemory bad told wanting low = inl (wanting refl)
 
 -- the shapes of a path, whether it has a width or not
-pub path_items : (pair : Pair) (fixed : Bool) (half begin end : ℤ) (points : List Point) (items : List Shape)
-    → (half ≡ pos 0 → items ≡ []) → (half ≢ pos 0 → items ≡ drawn_path pair (origin ∷ []) fixed points half begin end)
+pub path_items : (pair : Pair) (fixed : Bool) (half begin end : ℤ) (points : List Point) (items : List Shape) (offsets : List Point)
+    → offsets ≡ origin ∷ [] → (half ≡ pos 0 → items ≡ [])
+    → (half ≢ pos 0 → items ≡ drawn_path pair offsets fixed points half begin end)
     → items ≡ path_shapes_of pair fixed half begin end points
-path_items pair fixed half begin end points items none some =
+path_items pair fixed half begin end points items offsets one none some =
     elim (int_eq half (pos 0)) as (λ v. int_eq half (pos 0) ≡ v → items ≡ cond v [] (drawn_path pair (origin ∷ []) fixed points half begin end)) [
       | true ↦ λ e. none (int_eq_true half (pos 0) e)
-      | false ↦ λ e. some (int_eq_false half (pos 0) e)
+      | false ↦ λ e. some (int_eq_false half (pos 0) e) ∙ ap (λ (os : List Point). drawn_path pair os fixed points half begin end) one
     ] refl
 
 drawn_offsets : (pair : Pair) (fixed : Bool) (half begin end : ℤ) (points : List Point)
@@ -74,9 +78,19 @@ path_grid pair fixed half begin end points items is outlines =
           grid_of (get_or items k d) (outlines k d lt) offsets
     ] is
 
-pub path_lowest : (half begin end : ℤ) (points : List Point) → half ≢ pos 0 → ¬ IsDrawable points half begin end
-    → IsLowest (KeepsPath half begin end points) 14
-path_lowest half begin end points wide none = record {
-  broken = λ kept. none (kept refl wide);
-  lower = λ other less e. absurd (omega arith);
-}
+path_lowest : (half begin end : ℤ) (points : List Point) (rule : ℕ) → half ≢ pos 0 → ¬ IsDrawable points half begin end
+    → undrawn.Rule 14 ≡ undrawn.Rule rule → IsLowest (KeepsPath half begin end points) rule
+path_lowest half begin end points rule wide none e =
+    let same : 14 ≡ rule = cc in
+    record {
+      broken = λ kept. none (kept (sym same) wide);
+      lower = λ other less eq. absurd (omega arith);
+    }
+
+pub path_broken : (half begin end : ℤ) (points : List Point) (bad : PathBad) (rule : ℕ) → undrawn_by bad ≡ undrawn.Rule rule
+    → half ≢ pos 0 → (bad ≢ paths.NoMemory → ¬ IsDrawable points half begin end) → IsLowest (KeepsPath half begin end points) rule
+path_broken half begin end points paths.NoMemory rule e wide none = absurd (cc)
+path_broken half begin end points paths.NoLength rule e wide none = path_lowest half begin end points rule wide (none (λ x. absurd (cc))) e
+path_broken half begin end points (paths.Diagonal k) rule e wide none = path_lowest half begin end points rule wide (none (λ x. absurd (cc))) e
+path_broken half begin end points (paths.TurnBack k) rule e wide none = path_lowest half begin end points rule wide (none (λ x. absurd (cc))) e
+path_broken half begin end points paths.EmptyEnd rule e wide none = path_lowest half begin end points rule wide (none (λ x. absurd (cc))) e

@@ -7,3 +7,6 @@ mod PointLemmas
 mod PairLemmas
 mod GridLemmas
 mod DrawLemmas
+mod RunLemmas
+mod FaultLemmas
+mod TableLemmas

@@ -22,7 +22,7 @@ place_of bytes name (r ∷ past) =
 
 -- what the table has for a name
 abbrev pub place_in : Names → List ℕ → Option ℕ
-place_in names name = get_by (λ key. same_name key.now name) names.places
+place_in names name = get_by (λ key. same_name name key.now) names.places
 
 -- the table has the names of these records
 abbrev pub AreNamesOf : List ℕ → List Record → Names → Type 0

@@ -1,8 +1,9 @@
 //! The shapes of boundaries and paths.
-ghost use Rattle.std.specs.Prelude.{◌≡◌, ◌≤◌, ◌↔◌, ◌++◌, ℕ, pos, unsigned_abs, true, [], ◌∷◌, length, All, IsTrue, OnOk, IfOk, IfErr, Err};
+ghost use Rattle.std.specs.Prelude.{◌≡◌, ◌≤◌, ◌↔◌, ◌++◌, ℕ, pos, ◌≤ℤ◌, unsigned_abs, true, [], ◌∷◌, length, All, IsTrue, OnOk, IfOk, IfErr, Err};
 ghost use Rattle.half_grid.specs.Outlines.{IsClosed};
 ghost use Rattle.layout_model.specs.Layouts.{IsShapeOnGrid};
-ghost use Rattle.gds_reader.specs.Brushes.{brush_kept, IsNearBrush};
+ghost use Rattle.gds_reader.specs.Brushes.{brush_kept, undrawn_by, IsNearBrush};
+ghost use Rattle.layout_model.specs.PathBounds.{IsNear};
 ghost use Rattle.gds_reader.specs.declared.drawing.Undrawn.TheVariants.{Rule, NoMemory as Wanting};
 ghost use Rattle.gds_reader.specs.declared.refusing.GdsBad.TheVariants as bads;
 ghost use Rattle.gds_reader.specs.Elements.{IsFilePoint, KeepsPathOf, KeepsOf, path_kept, shapes_kept};
@@ -87,14 +88,17 @@ struct Brush {
 impl Element {
     // Half of the path's width.
     fn half_width(&self) -> i64
-        ensures { result ≡ pos (unsigned_abs self.now.width) }
+        ensures width { result ≡ pos (unsigned_abs self.now.width) }
+        ensures low { pos 0 ≤ℤ result }
+        ensures near { IsNear result }
     {
         i64::from(self.width).abs()
     }
 
     // How far a path goes beyond a point at its end, where this extension is written.
     fn extension(&self, written: i32) -> i64
-        ensures { result ≡ extension self.now.path_type (pos (unsigned_abs self.now.width)) written }
+        ensures extension { result ≡ extension self.now.path_type (pos (unsigned_abs self.now.width)) written }
+        ensures near { IsNear result }
     {
         match self.path_type {
             2 => self.half_width(),
@@ -112,6 +116,17 @@ impl Element {
             begin: self.extension(self.begin),
             end: self.extension(self.end),
         }
+    }
+}
+
+// Why a path isn't drawn: it breaks its rule, or memory is wanting.
+fn undrawn_path(bad: PathBad) -> Undrawn
+    ensures { result ≡ undrawn_by bad }
+{
+    match bad {
+        PathBad::NoMemory => Undrawn::NoMemory,
+        PathBad::NoLength | PathBad::Diagonal(_) | PathBad::TurnBack(_) | PathBad::EmptyEnd =>
+            Undrawn::Rule(14),
     }
 }
 
@@ -134,8 +149,7 @@ fn shapes_of_path(
     let offsets = Offsets::list(alloc, &[ORIGIN])?;
     match path_shapes(alloc, pair, points, half, begin, end, &offsets, fixed) {
         Ok(shapes) => Ok(shapes),
-        Err(PathBad::NoMemory) => Err(Undrawn::NoMemory),
-        Err(_) => Err(Undrawn::Rule(14)),
+        Err(bad) => Err(undrawn_path(bad)),
     }
 }
 

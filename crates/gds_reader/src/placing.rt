@@ -98,12 +98,16 @@ fn put(
         return Ok(());
     };
     match Name::new(alloc, name_of(bytes, named)) {
-        Ok(target) => placements.push(Placement {
-            target,
-            orient: element.orient,
-            at,
-            offsets,
-        }),
+        Ok(target) => {
+            let orient = element.orient;
+            placements.push(Placement {
+                target,
+                orient,
+                at,
+                offsets,
+            })?;
+            Ok(())
+        }
         Err(_) => Err(NoMemory),
     }
 }

@@ -209,11 +209,14 @@ fn close(
     };
     structure.named = None;
     match Name::new(alloc, name_of(bytes, named)) {
-        Ok(name) => cells.push(Cell {
-            name,
-            shapes,
-            placements,
-        }),
+        Ok(name) => {
+            cells.push(Cell {
+                name,
+                shapes,
+                placements,
+            })?;
+            Ok(())
+        }
         Err(_) => Err(NoMemory),
     }
 }
