@@ -10,3 +10,5 @@ mod DrawLemmas
 mod RunLemmas
 mod FaultLemmas
 mod TableLemmas
+mod BridgeLemmas
+mod TakeLemmas

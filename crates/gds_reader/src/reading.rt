@@ -317,9 +317,11 @@ impl<'a> Reader<'a> {
         if let Some(bits) = other_unit(bytes, unit, current) {
             return Err(GdsBad::Unit(bits));
         }
-        enter(&mut self.names, bytes, current, at)?;
+        if let Err(bad) = enter(&mut self.names, bytes, current, at) {
+            return Err(bad);
+        }
         let drawn = wanted_shape(sorted, &self.element, current);
-        build(
+        let built = build(
             alloc,
             bytes,
             &self.element,
@@ -329,7 +331,10 @@ impl<'a> Reader<'a> {
             &mut self.points,
             &mut self.structure,
             &mut self.cells,
-        )?;
+        );
+        if let Err(bad) = built {
+            return Err(bad);
+        }
         self.counts = counting::with(self.counts, current, drawn);
         self.element = self.element.with(bytes, current);
         self.place = place;

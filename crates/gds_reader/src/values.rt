@@ -4,11 +4,11 @@ ghost use Rattle.std.specs.List.{list_any};
 ghost use Rattle.layout_model.specs.Names.{IsName};
 ghost use Rattle.layout_model.specs.declared.pair.Pair.{Pair as APair};
 ghost use Rattle.gds_record.specs.Numbers.{number_at};
-ghost use Rattle.gds_record.specs.declared.kinds.Kind.TheVariants.{Xy, Path};
+ghost use Rattle.gds_record.specs.declared.kinds.Kind.TheVariants.{Xy, Path, StrName};
 ghost use Rattle.gds_record.specs.declared.records.Record.{Record as ARecord};
 ghost use Rattle.gds_reader.specs.Elements.{IsHeld, IsElementOf, AreSamePairs};
 ghost use Rattle.gds_reader.specs.Wanting.{AreSorted};
-ghost use Rattle.gds_reader.specs.Values.{same_pair, IsCount, IsLowestBroken, KeepsRules};
+ghost use Rattle.gds_reader.specs.Values.{same_pair, name_in, IsCount, IsLowestBroken, KeepsRules};
 ghost use Rattle.std.specs.Prelude.{Some};
 
 use crate::elements::{Element, factor_of, quarter_turns};
@@ -97,6 +97,7 @@ pub(crate) fn broken_rule(
         → IfSome result (λ rule. IsLowestBroken bytes.now wanted past current rule) }
     ensures kept { (past : List ARecord) (wanted : List APair) → IsElementOf bytes.now past element.now → AreSamePairs wanted sorted.now
         → current.kind ≢ Xy → IfNone result (KeepsRules bytes.now wanted past current) }
+    ensures name { current.kind ≡ StrName → IfNone result (IsName (name_in bytes.now current)) }
 {
     let first = current.first;
     let is_reference = element.is_reference();

@@ -4,6 +4,7 @@ use Rattle.std.proofs.lemmas.Int.{to_z-of_z}
 use Rattle.half_grid.specs.declared.plane.Point.{Point}
 use Rattle.layout_model.specs.Paths.{IsDrawable}
 use Rattle.gds_reader.specs.Meaning.{origin}
+use Rattle.gds_reader.specs.declared.drawing.Undrawn.TheVariants.{Rule}
 use Rattle.gds_reader.proofs.drawing.shapes_of_path.Goals as goal
 use Rattle.gds_reader.proofs.GridLemmas.{all_within}
 use Rattle.gds_reader.proofs.DrawLemmas.{path_items, path_grid, path_broken}
@@ -49,6 +50,7 @@ returns c = record {
   let none = simp to_z-of_z at c.in-Err.ensures.none in
   let ok = simp to_z-of_z at c.in-Err.ensures.ok in
   let wide : c.args.brush.half ≢ pos 0 = λ zero. none zero in
-  path_broken c.args.brush.half c.args.brush.begin c.args.brush.end c.args.points.now c.in-Err.bad rule ? wide
+  path_broken c.args.brush.half c.args.brush.begin c.args.brush.end c.args.points.now c.in-Err.bad rule
+  (let inner : c.undrawn_path.result ≡ Rule rule = cc in sym c.undrawn_path.ensures ∙ inner) wide
   (λ more drawable. elim (ok wide drawable) [ inl some ↦ absurd (cc) | inr wanting ↦ more (cc) ]);
 }
