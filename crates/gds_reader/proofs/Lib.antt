@@ -12,3 +12,6 @@ mod FaultLemmas
 mod TableLemmas
 mod BridgeLemmas
 mod TakeLemmas
+mod StepLemmas
+mod CellLemmas
+mod ReadLemmas

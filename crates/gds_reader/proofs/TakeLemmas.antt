@@ -63,9 +63,9 @@ taken_refused bytes wanted past r e drawn (Err bad) at kind f d (inr (rule, is, 
     inr (rule, is, lowest_of_xy bytes wanted past r e drawn rule kind f d low)
 
 -- the record may follow
-pub some_next : (behind : Option Place) (place next : Place) (r : Record) → behind ≡ Some place → next_place place r.kind ≡ Some next
+pub some_next : (behind : Option Place) (place following : Place) (r : Record) → behind ≡ Some place → next_place place r.kind ≡ Some following
     → IsSome (next_after behind r)
-some_next behind place next r e f =
+some_next behind place following r e f =
     subst (λ p. IsSome (next_after p r)) (sym e) (subst (λ n. IsSome n) (sym f) refl)
 
 pub kind_cases : (a b : Kind) → (a ≡ b) ⊎ (a ≢ b)
@@ -74,3 +74,7 @@ kind_cases a b =
       | true ↦ λ e. inl (same_kind_is a b e)
       | false ↦ λ e. inr (λ same. absurd (let yes : same_kind a b ≡ true = subst (λ k. same_kind a k ≡ true) same (same_kind_refl a) in cc))
     ] refl
+
+pub next_is : (behind : Option Place) (place following : Place) (r : Record) → behind ≡ Some place → next_place place r.kind ≡ Some following
+    → next_after behind r ≡ Some following
+next_is behind place following r e f = ap (λ p. next_after p r) e ∙ f

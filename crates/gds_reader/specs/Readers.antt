@@ -1,11 +1,12 @@
 -- What the reader keeps of the records so far.
-use Rattle.std.specs.Prelude.{◌≡◌, ◌≢◌, ◌⊎◌, ◌+◌, ◌<◌, ◌≤◌, ◌-◌, ◌^◌, ℕ, List, [], ◌∷◌, ◌++◌, Option, Some, None, IfSome, IsSome, All, length}
+use Rattle.std.specs.Prelude.{◌≡◌, ◌≢◌, ◌⊎◌, ◌+◌, ◌<◌, ◌≤◌, ◌-◌, ◌^◌, ℕ, List, [], ◌∷◌, ◌++◌, Option, Some, None, IfSome, IsSome, All, length, reverse, slice_index, ◌*◌}
 use Rattle.layout_model.specs.Names.{IsName}
 use Rattle.layout_model.specs.Layouts.{IsShapeOnGrid, IsPlacementOnGrid, IsCellOnGrid}
 use Rattle.layout_model.specs.Images.{IsOrient}
 use Rattle.layout_model.specs.declared.cells.Counts.{Counts}
 use Rattle.layout_model.specs.declared.pair.Pair.{Pair}
 use Rattle.gds_record.specs.Reals.{Agrees}
+use Rattle.gds_record.specs.Runs.{IsRun, NoneEnds}
 use Rattle.gds_record.specs.declared.kinds.Kind.TheVariants.{StrName, Units}
 use Rattle.gds_record.specs.declared.records.Record.{Record}
 use Rattle.gds_reader.specs.declared.order.Place.{Place}
@@ -20,9 +21,9 @@ use Rattle.gds_reader.specs.declared.refusing.GdsBad.TheVariants as faults
 use Rattle.gds_reader.specs.Past.{structure_record, given_in_structure}
 use Rattle.gds_reader.specs.Values.{name_in, KeepsRules, IsLowestBroken}
 use Rattle.gds_reader.specs.Meaning.{shapes_at, placements_at, cells_of, counts_of}
-use Rattle.gds_reader.specs.Elements.{IsHeld, IsElementOf}
+use Rattle.gds_reader.specs.Elements.{IsHeld, IsElementOf, AreSamePairs}
 use Rattle.gds_reader.specs.Names.{AreNamesOf, place_of as place_of_name}
-use Rattle.gds_reader.specs.Reading.{IsAllowed, unit_in}
+use Rattle.gds_reader.specs.Reading.{AreAllowed, unit_in}
 use Rattle.gds_reader.specs.Steps.{next_place}
 
 abbrev pub next_after : Option Place → Record → Option Place
@@ -105,3 +106,21 @@ pub record IsTaken (bytes : List ℕ) (unit : ℕ) (wanted : List Pair) (past : 
   pub rules : KeepsRules bytes wanted past r
   pub unit_agrees : r.kind ≡ Units → Agrees (unit_in bytes r) unit
   pub new_name : r.kind ≡ StrName → place_of_name bytes (name_in bytes r) past ≡ None
+
+-- ---- where the reader stands
+
+-- the records up to this offset have been taken
+pub record IsStanding (bytes : List ℕ) (unit : ℕ) (sorted : List Pair) (at : ℕ) (reader : Reader) : Type 0 where
+  pub past : List Record
+  pub run : IsRun bytes 0 (reverse past) at
+  pub goes_on : NoneEnds (reverse past)
+  pub few : 4 * length past ≤ at
+  pub within : at ≤ length bytes
+  pub allowed : (wanted : List Pair) → AreSamePairs wanted sorted → AreAllowed bytes unit wanted past
+  pub reader_is : (wanted : List Pair) → AreSamePairs wanted sorted → IsReaderOf bytes wanted past reader
+
+-- the first byte from an offset on that isn't 0
+abbrev pub IsTail : List ℕ → ℕ → GdsBad → Type 0
+IsTail bytes at bad =
+    (tail : ℕ) × (bad ≡ faults.Tail tail) × (at ≤ tail) × (tail < length bytes) × (slice_index bytes tail ≢ 0)
+    × ((k : ℕ) → at ≤ k → k < tail → slice_index bytes k ≡ 0)

@@ -1,13 +1,19 @@
 -- Steps of arrays.
-use Rattle.std.specs.Prelude.{◌≡◌, ◌≤◌, ◌^◌, ℕ, ℤ, pos, neg_ℤ, ◌-ℤ◌, ◌*ℤ◌, ◌≤ℤ◌}
+use Rattle.std.specs.Prelude.{◌≡◌, ◌≤◌, ◌^◌, ◌*◌, ℕ, ℤ, pos, neg_ℤ, ◌-ℤ◌, ◌*ℤ◌, ◌≤ℤ◌}
 use Rattle.half_grid.specs.Halves.{twice}
 use Rattle.half_grid.specs.declared.plane.Point.{Point}
 use Rattle.gds_reader.specs.Values.{IsStep, IsWhole}
 
--- at most 2^32 from 0
+-- at most 2^33 from 0
 pub record IsNear (z : ℤ) : Type 0 where
-  pub low : neg_ℤ (pos (2 ^ 32)) ≤ℤ z
-  pub high : z ≤ℤ pos (2 ^ 32)
+  pub low : neg_ℤ (pos (2 ^ 33)) ≤ℤ z
+  pub high : z ≤ℤ pos (2 ^ 33)
+
+-- so many of these are the length, and each is two of a number
+pub record IsEvenPart (count length size : ℕ) : Type 0 where
+  pub sum : count * size ≡ length
+  pub half : ℕ
+  pub even : size ≡ 2 * half
 
 -- so many of these are the way, and each is two of a whole number
 pub record IsPartOf (count : ℕ) (way step : ℤ) : Type 0 where

@@ -1,14 +1,14 @@
 //! The placements of references.
-ghost use Rattle.std.specs.Prelude.{◌≡◌, ◌≢◌, ◌≤◌, ◌⊎◌, ◌++◌, ℕ, ℤ, pos, ◌-ℤ◌, ◌*ℤ◌, Some, length, All, OnOk, IfOk, IfErr, IfSome, IfNone, Err};
-ghost use Rattle.half_grid.specs.Halves.{twice};
+ghost use Rattle.std.specs.Prelude.{◌≡◌, ◌≢◌, ◌≤◌, ◌⊎◌, ◌++◌, ◌^◌, ℕ, ℤ, pos, neg_ℤ, if◌then◌else◌, Some, length, All, OnOk, IfOk, IfErr, IfSome, IfNone, Err};
+ghost use Rattle.layout_model.specs.Grids.{grid_places};
 ghost use Rattle.layout_model.specs.Layouts.{AreOffsets, IsPlacementOnGrid};
 ghost use Rattle.layout_model.specs.Images.{IsOrient};
 ghost use Rattle.layout_model.specs.Names.{IsName};
 ghost use Rattle.gds_record.specs.declared.kinds.Kind.TheVariants.{Sref, Aref};
 ghost use Rattle.gds_reader.specs.Elements.{IsHeld, IsFilePoint, KeepsOf, place_kept, placements_kept};
-ghost use Rattle.gds_reader.specs.Meaning.{quotient, step_of, array_places as the_places};
+ghost use Rattle.gds_reader.specs.Meaning.{step_of, array_places as the_places};
 ghost use Rattle.gds_reader.specs.Refused.{IsRefusedBy};
-ghost use Rattle.gds_reader.specs.Steppings.{IsNear, IsPartOf, IsStepping};
+ghost use Rattle.gds_reader.specs.Steppings.{IsNear, IsEvenPart, IsPartOf, IsStepping};
 ghost use Rattle.gds_reader.specs.Values.{Divides, KeepsAref, IsLowest, name_in};
 
 use crate::drawing::ORIGIN;
@@ -21,38 +21,91 @@ use half_grid::Point;
 use layout_model::{Name, NameBad, Offsets, Placement};
 use std::alloc::Global;
 
-// The part of a way that is one of so many steps, where these are whole units of the file.
-fn part(from: i64, to: i64, count: u16) -> Option<i64>
-    requires from { IsNear from }
-    requires to { IsNear to }
+// The size of each of so many steps of this length together, where it is even.
+fn whole_part(length: u64, count: u16) -> Option<u64>
     requires some { 1 ≤ count }
-    ensures part { IfSome result (λ step. step ≡ quotient (to -ℤ from) count) }
-    ensures exact { IfSome result (λ step. IsPartOf count (to -ℤ from) step) }
-    ensures none { IfNone result ((step : ℤ) → ¬ IsPartOf count (to -ℤ from) step) }
+    ensures part { IfSome result (λ size. IsEvenPart count length size) }
+    ensures none { IfNone result ((size : ℕ) → ¬ IsEvenPart count length size) }
 {
-    let way = to - from;
-    let length = way.unsigned_abs();
-    if length % (2 * u64::from(count)) != 0 {
+    let double = 2 * u64::from(count);
+    if length % double != 0 {
         return None;
     }
-    let step = (length / u64::from(count)) as i64;
-    if way < 0 { Some(-step) } else { Some(step) }
+    Some(length / double * 2)
+}
+
+// A number by its size.
+fn with_sign(size: u64, is_negative: bool) -> i64
+    requires { size ≤ 2 ^ 40 }
+    ensures { result ≡ (if is_negative then neg_ℤ (pos size) else pos size) }
+{
+    if is_negative {
+        -(size as i64)
+    } else {
+        size as i64
+    }
+}
+
+// The part of a way that is one of so many steps, where these are whole units of the file.
+fn part(way: i64, count: u16) -> Option<i64>
+    requires way { IsNear way }
+    requires some { 1 ≤ count }
+    ensures part { IfSome result (λ step. IsPartOf count way step) }
+    ensures none { IfNone result ((step : ℤ) → ¬ IsPartOf count way step) }
+{
+    match whole_part(way.unsigned_abs(), count) {
+        Some(size) => Some(with_sign(size, way < 0)),
+        None => None,
+    }
 }
 
 // The step of an array from one point to another, where the way is so many steps of whole units.
 fn step(count: u16, from: Point, to: Point) -> Option<Point>
     requires from { IsFilePoint from }
     requires to { IsFilePoint to }
-    ensures step { IfSome result (λ step. step ≡ step_of count from to) }
     ensures exact { IfSome result (λ step. IsStepping count from to step) }
     ensures none { IfNone result (¬ Divides count from to) }
 {
     if count == 0 {
         return None;
     }
-    let x = part(from.x, to.x, count)?;
-    let y = part(from.y, to.y, count)?;
-    Some(Point { x, y })
+    match part(to.x - from.x, count) {
+        Some(x) => match part(to.y - from.y, count) {
+            Some(y) => Some(Point { x, y }),
+            None => None,
+        },
+        None => None,
+    }
+}
+
+// The places of an array from one point to the right and up, where both ways divide.
+fn array_offsets(
+    columns: u16,
+    rows: u16,
+    origin: Point,
+    right: Point,
+    up: Point,
+) -> Option<Offsets>
+    requires origin { IsFilePoint origin }
+    requires right { IsFilePoint right }
+    requires up { IsFilePoint up }
+    ensures places { IfSome result (λ offsets. offsets ≡ grid_places columns rows (step_of columns origin right) (step_of rows origin up)) }
+    ensures grid { IfSome result AreOffsets }
+    ensures some { IfSome result (λ _. Divides columns origin right × Divides rows origin up) }
+    ensures none { IfNone result (¬ (Divides columns origin right × Divides rows origin up)) }
+{
+    match step(columns, origin, right) {
+        Some(across) => match step(rows, origin, up) {
+            Some(upward) => Some(Offsets::grid(
+                u64::from(columns),
+                u64::from(rows),
+                across,
+                upward,
+            )),
+            None => None,
+        },
+        None => None,
+    }
 }
 
 // The places of an array with these points, or the value rule that they break.
@@ -67,14 +120,10 @@ fn array_places(element: &Element, points: &[Point]) -> Result<Offsets, u8>
     let [origin, right, up] = points else {
         return Err(8);
     };
-    let Some(across) = step(element.columns, *origin, *right) else {
-        return Err(9);
-    };
-    let Some(upward) = step(element.rows, *origin, *up) else {
-        return Err(9);
-    };
-    let columns = u64::from(element.columns);
-    Ok(Offsets::grid(columns, u64::from(element.rows), across, upward))
+    match array_offsets(element.columns, element.rows, *origin, *right, *up) {
+        Some(offsets) => Ok(offsets),
+        None => Err(9),
+    }
 }
 
 // Adds the placement of an element with a name.

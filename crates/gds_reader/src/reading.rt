@@ -10,7 +10,7 @@ ghost use Rattle.gds_record.specs.declared.kinds.Kind.TheVariants.{Xy, EndStr, S
 ghost use Rattle.gds_record.specs.declared.records.Record.{Record as ARecord};
 ghost use Rattle.gds_reader.specs.Elements.{IsHeld, IsElementOf, AreSamePairs, TellsShape, KeepsBy, shapes_by, placements_kept};
 ghost use Rattle.gds_reader.specs.Meaning.{wanted_at, cells_at};
-ghost use Rattle.gds_reader.specs.Readers.{IsReaderOf, IsStructureOf, IsTaken, IsRefused, AreAtMost, cells_kept};
+ghost use Rattle.gds_reader.specs.Readers.{IsReaderOf, IsStructureOf, IsTaken, IsRefused, IsTail, AreAtMost, cells_kept};
 ghost use Rattle.gds_reader.specs.Reading.{IsLayoutOf, IsFirstFault, framing_fault, unit_in};
 ghost use Rattle.gds_reader.specs.Refused.{IsRefusedBy};
 ghost use Rattle.gds_reader.specs.Values.{Keeps, KeepsRules, name_in, points_in};
@@ -311,14 +311,17 @@ impl<'a> Reader<'a> {
         let Some(place) = self.place.after(current.kind) else {
             return Err(GdsBad::Order(at));
         };
-        if let Some(rule) = broken_rule(bytes, sorted, &self.element, current) {
-            return Err(GdsBad::Value(at, rule));
+        match broken_rule(bytes, sorted, &self.element, current) {
+            Some(rule) => return Err(GdsBad::Value(at, rule)),
+            None => {}
         }
-        if let Some(bits) = other_unit(bytes, unit, current) {
-            return Err(GdsBad::Unit(bits));
+        match other_unit(bytes, unit, current) {
+            Some(bits) => return Err(GdsBad::Unit(bits)),
+            None => {}
         }
-        if let Err(bad) = enter(&mut self.names, bytes, current, at) {
-            return Err(bad);
+        match enter(&mut self.names, bytes, current, at) {
+            Err(bad) => return Err(bad),
+            Ok(()) => {}
         }
         let drawn = wanted_shape(sorted, &self.element, current);
         let built = build(
@@ -332,8 +335,9 @@ impl<'a> Reader<'a> {
             &mut self.structure,
             &mut self.cells,
         );
-        if let Err(bad) = built {
-            return Err(bad);
+        match built {
+            Err(bad) => return Err(bad),
+            Ok(()) => {}
         }
         self.counts = counting::with(self.counts, current, drawn);
         self.element = self.element.with(bytes, current);
@@ -358,7 +362,59 @@ fn first_nonzero(bytes: &[u8], at: usize) -> Option<usize>
     None
 }
 
-/// The layout.
+// The layout of a reader that has taken the end of the library, which ends at this offset.
+fn finish(bytes: &[u8], at: usize, reader: Reader<'_>) -> Result<Layout, GdsBad>
+    requires { at ≤ length bytes.now }
+    ensures cells { IfOk result (λ layout. layout.cells ≡ reader.entry.cells) }
+    ensures counts { IfOk result (λ layout. layout.counts ≡ reader.entry.counts) }
+    ensures blank { IfOk result (λ _. (k : ℕ) → at ≤ k → k < length bytes.now → slice_index bytes.now k ≡ 0) }
+    ensures tail { IfErr result (IsTail bytes.now at) }
+{
+    match first_nonzero(bytes, at) {
+        Some(tail) => Err(GdsBad::Tail(tail)),
+        None => Ok(Layout {
+            cells: reader.cells,
+            counts: reader.counts,
+        }),
+    }
+}
+
+// The layout of the bytes. `sorted` are the wanted pairs.
+fn read_records(
+    alloc: Global,
+    bytes: &[u8],
+    unit: u32,
+    sorted: &[Pair],
+) -> Result<Layout, GdsBad>
+    requires { AreSorted sorted.now }
+    ensures found { (wanted : Items APair) → AreSamePairs wanted sorted.now → IfOk result (λ layout. IsLayoutOf bytes.now unit wanted layout) }
+    ensures grid { IfOk result IsLayoutOnGrid }
+    ensures first_fault { (wanted : Items APair) → AreSamePairs wanted sorted.now
+        → IfErr result (λ bad. bad ≢ bads.NoMemory → IsFirstFault bytes.now unit wanted bad) }
+{
+    let mut reader = Reader::new(alloc);
+    let mut at = 0;
+    'records: loop {
+        let current = match record_at(bytes, at) {
+            Ok(current) => current,
+            Err(fault) => return Err(framing_bad(fault, at)),
+        };
+        match reader.take(alloc, bytes, unit, sorted, current, at) {
+            Ok(()) => {}
+            Err(bad) => return Err(bad),
+        }
+        at = current.next;
+        if current.kind == Kind::EndLib {
+            return finish(bytes, at, reader);
+        }
+    }
+}
+
+/// The layout that the bytes of a GDSII stream file hold: a cell for each structure, with the shapes on
+/// the wanted pairs alone. A micrometre has `unit` database units, and lengths of the layout are half
+/// units. Bytes that hold no layout are refused by their first fault; the first record that is refused
+/// decides, and at one record first its framing, then its order, then its value rules, then the unit or
+/// the name. NoMemory may come in place of any answer where memory is wanting.
 pub fn read_gds(
     alloc: Global,
     bytes: &[u8],
@@ -371,25 +427,8 @@ pub fn read_gds(
     ensures first_fault { IfErr result (λ bad. bad ≢ bads.NoMemory → IsFirstFault bytes.now unit wanted.now bad) }
     ensures every_fault { (bad : ABad) → IsFirstFault bytes.now unit wanted.now bad → (result ≡ Err bad) ⊎ (result ≡ Err bads.NoMemory) }
 {
-    let sorted = sorted_pairs(alloc, wanted)?;
-    let mut reader = Reader::new(alloc);
-    let mut at = 0;
-    loop {
-        let current = match record_at(bytes, at) {
-            Ok(current) => current,
-            Err(fault) => return Err(framing_bad(fault, at)),
-        };
-        reader.take(alloc, bytes, unit, sorted.as_slice(), current, at)?;
-        at = current.next;
-        if current.kind == Kind::EndLib {
-            break;
-        }
+    match sorted_pairs(alloc, wanted) {
+        Ok(sorted) => read_records(alloc, bytes, unit, sorted.as_slice()),
+        Err(_) => Err(GdsBad::NoMemory),
     }
-    if let Some(tail) = first_nonzero(bytes, at) {
-        return Err(GdsBad::Tail(tail));
-    }
-    Ok(Layout {
-        cells: reader.cells,
-        counts: reader.counts,
-    })
 }

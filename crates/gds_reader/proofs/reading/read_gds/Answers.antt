@@ -1,0 +1,1 @@
+use Rattle.gds_reader.proofs.reading.read_gds.Goals as goal
