@@ -81,9 +81,9 @@ record IsDistinct (bytes : List ℕ) (wanted : List Pair) (past : List Record) :
 cells_end : (bytes : List ℕ) (wanted : List Pair) (past : List Record) (r : Record) (o : Option Record) → has_kind EndStr r ≡ true
     → structure_record StrName past ≡ o
     → cell_names (cells_of bytes wanted (r ∷ past)) ≡ cell_names (cells_of bytes wanted past) ++ cell_names (cells_named bytes wanted past o)
-cells_end bytes wanted past r o end open =
+cells_end bytes wanted past r o end opened =
     ap (λ b. cell_names (cells_of bytes wanted past ++ cond b (cells_named bytes wanted past (structure_record StrName past)) [])) end
-    ∙ ap (λ x. cell_names (cells_of bytes wanted past ++ cells_named bytes wanted past x)) open
+    ∙ ap (λ x. cell_names (cells_of bytes wanted past ++ cells_named bytes wanted past x)) opened
     ∙ map-append (λ (cell : Cell). cell.name) (cells_of bytes wanted past) (cells_named bytes wanted past o)
 
 cells_same : (bytes : List ℕ) (wanted : List Pair) (past : List Record) (r : Record) → has_kind EndStr r ≡ false
@@ -108,9 +108,9 @@ open_same r past other name =
 
 with_end : (bytes : List ℕ) (wanted : List Pair) (past : List Record) (r : Record) (o : Option Record) → has_kind EndStr r ≡ true
     → structure_record StrName past ≡ o → IsDistinct bytes wanted past → IsDistinct bytes wanted (r ∷ past)
-with_end bytes wanted past r None end open d =
+with_end bytes wanted past r None end opened d =
     let names : cell_names (cells_of bytes wanted (r ∷ past)) ≡ cell_names (cells_of bytes wanted past) =
-    cells_end bytes wanted past r None end open ∙ append-nil (cell_names (cells_of bytes wanted past)) in
+    cells_end bytes wanted past r None end opened ∙ append-nil (cell_names (cells_of bytes wanted past)) in
     record {
       named = subst (AllByRecursion (λ name. HasName bytes name (r ∷ past))) (sym names)
       (all_names_map (λ name. HasName bytes name past) (λ name. HasName bytes name (r ∷ past)) (cell_names (cells_of bytes wanted past)) (λ name. has_more bytes name r past) d.named);
@@ -118,17 +118,17 @@ with_end bytes wanted past r None end open d =
       open_named = λ s e. absurd (let none = no_open r past end in cc);
       distinct = subst AreDistinct (sym names) d.distinct;
     }
-with_end bytes wanted past r (Some s) end open d =
-    let names = cells_end bytes wanted past r (Some s) end open in
+with_end bytes wanted past r (Some s) end opened d =
+    let names = cells_end bytes wanted past r (Some s) end opened in
     let before = cell_names (cells_of bytes wanted past) in
     record {
       named = subst (AllByRecursion (λ name. HasName bytes name (r ∷ past))) (sym names)
       (all_names_end (λ name. HasName bytes name (r ∷ past)) before (name_in bytes s)
         (all_names_map (λ name. HasName bytes name past) (λ name. HasName bytes name (r ∷ past)) before (λ name. has_more bytes name r past) d.named)
-        (has_more bytes (name_in bytes s) r past (d.open_named s open)));
+        (has_more bytes (name_in bytes s) r past (d.open_named s opened)));
       open_new = λ t e. absurd (let none = no_open r past end in cc);
       open_named = λ t e. absurd (let none = no_open r past end in cc);
-      distinct = subst AreDistinct (sym names) (distinct_end before (name_in bytes s) d.distinct (d.open_new s open));
+      distinct = subst AreDistinct (sym names) (distinct_end before (name_in bytes s) d.distinct (d.open_new s opened));
     }
 
 with_name : (bytes : List ℕ) (wanted : List Pair) (past : List Record) (r : Record) → has_kind EndStr r ≡ false → has_kind StrName r ≡ true
@@ -157,12 +157,12 @@ with_other : (bytes : List ℕ) (wanted : List Pair) (past : List Record) (r : R
 with_other bytes wanted past r other name d =
     let names = cells_same bytes wanted past r other in
     let before = cell_names (cells_of bytes wanted past) in
-    let open = open_same r past other name in
+    let opened = open_same r past other name in
     record {
       named = subst (AllByRecursion (λ name. HasName bytes name (r ∷ past))) (sym names)
       (all_names_map (λ name. HasName bytes name past) (λ name. HasName bytes name (r ∷ past)) before (λ name. has_more bytes name r past) d.named);
-      open_new = λ s e. subst (AllByRecursion (λ name. name ≢ name_in bytes s)) (sym names) (d.open_new s (sym open ∙ e));
-      open_named = λ s e. has_more bytes (name_in bytes s) r past (d.open_named s (sym open ∙ e));
+      open_new = λ s e. subst (AllByRecursion (λ name. name ≢ name_in bytes s)) (sym names) (d.open_new s (sym opened ∙ e));
+      open_named = λ s e. has_more bytes (name_in bytes s) r past (d.open_named s (sym opened ∙ e));
       distinct = subst AreDistinct (sym names) d.distinct;
     }
 

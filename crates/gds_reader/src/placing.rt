@@ -1,5 +1,5 @@
 //! The placements of references.
-ghost use Rattle.std.specs.Prelude.{◌≡◌, ◌≢◌, ◌≤◌, ◌⊎◌, ◌++◌, ◌^◌, ℕ, ℤ, pos, neg_ℤ, if◌then◌else◌, Some, length, All, OnOk, IfOk, IfErr, IfSome, IfNone, Err};
+ghost use Rattle.std.specs.Prelude.{◌≡◌, ◌≢◌, ◌≤◌, ◌⊎◌, ◌++◌, ◌^◌, ℕ, ℤ, pos, neg_ℤ, ◌-ℤ◌, if◌then◌else◌, Some, length, All, OnOk, IfOk, IfErr, IfSome, IfNone, Err};
 ghost use Rattle.layout_model.specs.Grids.{grid_places};
 ghost use Rattle.layout_model.specs.Layouts.{AreOffsets, IsPlacementOnGrid};
 ghost use Rattle.layout_model.specs.Images.{IsOrient};
@@ -59,6 +59,20 @@ fn part(way: i64, count: u16) -> Option<i64>
     }
 }
 
+fn way_between(from: Point, to: Point) -> Point
+    requires from { IsFilePoint from }
+    requires to { IsFilePoint to }
+    ensures x { result.x ≡ to.x -ℤ from.x }
+    ensures y { result.y ≡ to.y -ℤ from.y }
+    ensures near_x { IsNear result.x }
+    ensures near_y { IsNear result.y }
+{
+    Point {
+        x: to.x - from.x,
+        y: to.y - from.y,
+    }
+}
+
 // The step of an array from one point to another, where the way is so many steps of whole units.
 fn step(count: u16, from: Point, to: Point) -> Option<Point>
     requires from { IsFilePoint from }
@@ -69,8 +83,9 @@ fn step(count: u16, from: Point, to: Point) -> Option<Point>
     if count == 0 {
         return None;
     }
-    match part(to.x - from.x, count) {
-        Some(x) => match part(to.y - from.y, count) {
+    let way = way_between(from, to);
+    match part(way.x, count) {
+        Some(x) => match part(way.y, count) {
             Some(y) => Some(Point { x, y }),
             None => None,
         },
