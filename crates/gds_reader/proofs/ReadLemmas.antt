@@ -1,13 +1,15 @@
 -- From what the reader keeps to what bytes hold.
-use Rattle.std.proofs.Common.{◌≡◌, ℕ, zero, suc, ◌+◌, ◌-◌, ◌*◌, ◌^◌, ◌<◌, ◌≤◌, List, [], ◌∷◌, ◌++◌, map, reverse, length, get_or, Option, Some, None, refl, sym, ap, subst, ◌∙◌, ◌⊎◌, inl, inr, arith}
-use Rattle.std.specs.Prelude.{◌≢◌, IsSome, slice_index}
+use Rattle.std.proofs.Common.{◌≡◌, ℕ, zero, suc, ◌+◌, ◌-◌, ◌*◌, ◌^◌, ◌<◌, ◌≤◌, List, [], ◌∷◌, ◌++◌, map, reverse, length, get_or, Option, Some, None, Result, Ok, Err, refl, sym, ap, subst, ◌∙◌, ◌⊎◌, inl, inr, arith}
+use Rattle.std.specs.Prelude.{◌≢◌, IsSome, IfOk, IfErr, All, slice_index}
 use Rattle.std.proofs.lemmas.List.{reverse-reverse}
 use Rattle.layout_model.specs.declared.pair.Pair.{Pair}
 use Rattle.layout_model.specs.declared.cells.Layout.{Layout}
+use Rattle.layout_model.specs.declared.cells.Cell.{Cell}
+use Rattle.layout_model.specs.Layouts.{IsLayoutOnGrid, IsCellOnGrid, AreDistinct}
 use Rattle.gds_record.specs.Faults.{IsFaultAt}
 use Rattle.gds_record.specs.Framing.{IsRecordAt}
 use Rattle.gds_record.specs.Runs.{IsRun, NoneEnds, IsClosed, IsRecordsOf}
-use Rattle.gds_record.specs.declared.kinds.Kind.TheVariants.{EndLib}
+use Rattle.gds_record.specs.declared.kinds.Kind.TheVariants.{EndLib, Text, Node, Box, PropAttr}
 use Rattle.gds_record.specs.declared.records.Framing.{Framing}
 use Rattle.gds_record.specs.declared.records.Record.{Record}
 use Rattle.gds_record.proofs.ForCallers.{content_allowed, record_within, number_at-lt, run_push, none_ends-push, records_closed, closed_push}
@@ -15,16 +17,18 @@ use Rattle.gds_reader.specs.declared.order.Place.{Place}
 use Rattle.gds_reader.specs.declared.order.Place.TheVariants as places
 use Rattle.gds_reader.specs.declared.reading.Reader.{Reader}
 use Rattle.gds_reader.specs.declared.refusing.GdsBad.{GdsBad}
-use Rattle.gds_reader.specs.declared.refusing.GdsBad.TheVariants.{Twice, Tail}
+use Rattle.gds_reader.specs.declared.refusing.GdsBad.TheVariants.{Short, Length, Kind, Size, Order, Value, Tail, Unit, Twice, NoMemory}
 use Rattle.gds_reader.specs.Grammar.{IsBeginning}
 use Rattle.gds_reader.specs.Elements.{IsHeld, AreSamePairs}
-use Rattle.gds_reader.specs.Meaning.{layout_of, cells_of, counts_of}
+use Rattle.gds_reader.specs.Meaning.{layout_of, cells_of, counts_of, is_kept, is_other, wanted_at}
+use Rattle.gds_reader.specs.Past.{has_kind}
 use Rattle.gds_reader.specs.Names.{place_of}
-use Rattle.gds_reader.specs.Readers.{IsReaderOf, IsTaken, IsRefused, IsStanding, AreAtMost, place_behind, next_after}
+use Rattle.gds_reader.specs.Readers.{IsReaderOf, IsTaken, IsRefused, IsStanding, IsTail, AreAtMost, place_behind, next_after}
 use Rattle.gds_reader.specs.Reading.{kinds_of, unit_in, IsAllowed, AreAllowed, IsLayoutOf, IsReadUpTo, IsNext, IsFault, IsFirstFault, framing_fault, IsFramingFault, IsTailFault}
 use Rattle.gds_reader.specs.Steps.{next_place}
 use Rattle.gds_reader.specs.Values.{name_in}
-use Rattle.gds_reader.proofs.CellLemmas.{count_few}
+use Rattle.gds_reader.proofs.CellLemmas.{count_few, names_distinct}
+use Rattle.gds_reader.proofs.FaultLemmas.{one_layout, one_fault, no_layout_with_fault}
 use Rattle.gds_reader.proofs.PlaceLemmas.{LeadsTo, leads_first, leads_next, leads_begin, leads_nowhere, leads_end, end_next}
 use Rattle.gds_reader.proofs.RunLemmas.{reverse_more, kinds_reverse}
 use Rattle.gds_reader.proofs.TableLemmas.{found_name, not_named}
@@ -150,12 +154,12 @@ stands_on bytes unit sorted at old new r s stands more reader_is taken = record 
 pub few_counts : (bytes : List ℕ) (wanted : List Pair) (past : List Record) (at : ℕ) → 4 * length past ≤ at → at < 2 ^ 64
     → AreAtMost (2 ^ 63) (counts_of bytes wanted past)
 few_counts bytes wanted past at few fits = record {
-  kept = omega (arith, count_few _ past);
-  other = omega (arith, count_few _ past);
-  texts = omega (arith, count_few _ past);
-  nodes = omega (arith, count_few _ past);
-  boxes = omega (arith, count_few _ past);
-  properties = omega (arith, count_few _ past);
+  kept = omega (arith, count_few (λ before r. is_kept (wanted_at bytes wanted before r)) past);
+  other = omega (arith, count_few (λ before r. is_other (wanted_at bytes wanted before r)) past);
+  texts = omega (arith, count_few (λ _ r. has_kind Text r) past);
+  nodes = omega (arith, count_few (λ _ r. has_kind Node r) past);
+  boxes = omega (arith, count_few (λ _ r. has_kind Box r) past);
+  properties = omega (arith, count_few (λ _ r. has_kind PropAttr r) past);
 }
 
 -- ---- the end of the library
@@ -233,3 +237,63 @@ ended_tail bytes unit wanted sorted at tail reader bad s same behind within nonz
         bad_is = bad_is;
       })))));
     }
+
+-- ---- answers
+
+pub ended_ok : (bytes : List ℕ) (unit : ℕ) (wanted sorted : List Pair) (at : ℕ) (reader : Reader) (result : Result Layout GdsBad)
+    → IsEnded bytes unit sorted at reader → AreSamePairs wanted sorted
+    → IfOk result (λ layout. layout.cells ≡ reader.cells) → IfOk result (λ layout. layout.counts ≡ reader.counts)
+    → IfOk result (λ _. (k : ℕ) → at ≤ k → k < length bytes → slice_index bytes k ≡ 0)
+    → IfOk result (λ layout. IsLayoutOf bytes unit wanted layout)
+ended_ok bytes unit wanted sorted at reader (Err bad) s same cells counts blank = tt
+ended_ok bytes unit wanted sorted at reader (Ok layout) s same cells counts blank =
+    ended_layout bytes unit wanted sorted at reader layout s same blank cells counts
+
+pub ended_grid : (bytes : List ℕ) (unit : ℕ) (sorted : List Pair) (at : ℕ) (reader : Reader) (result : Result Layout GdsBad)
+    → IsEnded bytes unit sorted at reader → IfOk result (λ layout. layout.cells ≡ reader.cells) → IfOk result IsLayoutOnGrid
+ended_grid bytes unit sorted at reader (Err bad) s cells = tt
+ended_grid bytes unit sorted at reader (Ok layout) s cells =
+    let same : AreSamePairs sorted sorted = λ pair. refl in
+    let is = s.reader_is sorted same in
+    record {
+      cells = subst (All IsCellOnGrid) (sym cells) is.cells_grid;
+      names = subst (λ (cs : List Cell). AreDistinct (map (λ (cell : Cell). cell.name) cs)) (sym (cells ∙ is.cells))
+      (names_distinct bytes unit sorted (s.r ∷ s.past) (s.allowed sorted same));
+    }
+
+pub ended_bad : (bytes : List ℕ) (unit : ℕ) (wanted sorted : List Pair) (at : ℕ) (reader : Reader) (result : Result Layout GdsBad)
+    → IsEnded bytes unit sorted at reader → AreSamePairs wanted sorted → IfErr result (IsTail bytes at)
+    → IfErr result (λ bad. bad ≢ NoMemory → IsFirstFault bytes unit wanted bad)
+ended_bad bytes unit wanted sorted at reader (Ok layout) s same tail = tt
+ended_bad bytes unit wanted sorted at reader (Err bad) s same t = λ more.
+    ended_tail bytes unit wanted sorted at t.0 reader bad s same t.2 t.3 t.4 t.5 t.1
+
+memory_or_not : (bad : GdsBad) → (bad ≡ NoMemory) ⊎ (bad ≢ NoMemory)
+memory_or_not (Short at) = inr (λ e. absurd (cc))
+memory_or_not (Length at) = inr (λ e. absurd (cc))
+memory_or_not (Kind at) = inr (λ e. absurd (cc))
+memory_or_not (Size at) = inr (λ e. absurd (cc))
+memory_or_not (Order at) = inr (λ e. absurd (cc))
+memory_or_not (Value at rule) = inr (λ e. absurd (cc))
+memory_or_not (Tail at) = inr (λ e. absurd (cc))
+memory_or_not (Unit bits) = inr (λ e. absurd (cc))
+memory_or_not (Twice first second) = inr (λ e. absurd (cc))
+memory_or_not NoMemory = inl refl
+
+pub every_layout : (bytes : List ℕ) (unit : ℕ) (wanted : List Pair) (result : Result Layout GdsBad)
+    → IfOk result (λ layout. IsLayoutOf bytes unit wanted layout) → IfErr result (λ bad. bad ≢ NoMemory → IsFirstFault bytes unit wanted bad)
+    → (layout : Layout) → IsLayoutOf bytes unit wanted layout → (result ≡ Ok layout) ⊎ (result ≡ Err NoMemory)
+every_layout bytes unit wanted (Ok one) found fault layout is = inl (ap Ok (one_layout bytes unit wanted one layout found is))
+every_layout bytes unit wanted (Err bad) found fault layout is = elim (memory_or_not bad) [
+  | inl memory ↦ inr (ap Err memory)
+  | inr more ↦ absurd (no_layout_with_fault bytes unit wanted layout bad is (fault more))
+]
+
+pub every_first_fault : (bytes : List ℕ) (unit : ℕ) (wanted : List Pair) (result : Result Layout GdsBad)
+    → IfOk result (λ layout. IsLayoutOf bytes unit wanted layout) → IfErr result (λ bad. bad ≢ NoMemory → IsFirstFault bytes unit wanted bad)
+    → (bad : GdsBad) → IsFirstFault bytes unit wanted bad → (result ≡ Err bad) ⊎ (result ≡ Err NoMemory)
+every_first_fault bytes unit wanted (Ok layout) found fault bad is = absurd (no_layout_with_fault bytes unit wanted layout bad found is)
+every_first_fault bytes unit wanted (Err one) found fault bad is = elim (memory_or_not one) [
+  | inl memory ↦ inr (ap Err memory)
+  | inr more ↦ inl (ap Err (one_fault bytes unit wanted one bad (fault more) is))
+]
