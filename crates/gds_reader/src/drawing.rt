@@ -25,10 +25,11 @@ pub(crate) const ORIGIN: Point = Point { x: 0, y: 0 };
 /// A boundary has at least so many points.
 const LEAST: usize = 4;
 
-// Why an element can't be drawn.
-enum Undrawn {
-    // It breaks this value rule.
+/// Why an element can't be drawn or placed.
+pub(crate) enum Undrawn {
+    /// It breaks this value rule.
     Rule(u8),
+    /// Memory is wanting.
     NoMemory,
 }
 
@@ -153,8 +154,8 @@ fn shapes_of_path(
     }
 }
 
-// The value rule or the want of memory, at this offset.
-fn bad_at(undrawn: Undrawn, at: usize) -> GdsBad
+/// The value rule or the want of memory, at this offset.
+pub(crate) fn bad_at(undrawn: Undrawn, at: usize) -> GdsBad
     ensures rule { (rule : ℕ) → undrawn ≡ Rule rule → result ≡ bads.Value at rule }
     ensures memory { undrawn ≡ Wanting → result ≡ bads.NoMemory }
 {

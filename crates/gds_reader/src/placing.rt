@@ -1,17 +1,18 @@
 //! The placements of references.
 ghost use Rattle.std.specs.Prelude.{◌≡◌, ◌≢◌, ◌≤◌, ◌⊎◌, ◌++◌, ◌^◌, ℕ, ℤ, pos, neg_ℤ, ◌-ℤ◌, if◌then◌else◌, Some, length, All, OnOk, IfOk, IfErr, IfSome, IfNone, Err};
-ghost use Rattle.layout_model.specs.Grids.{grid_places};
+ghost use Rattle.layout_model.specs.Grids.{IsGrid, grid_places};
 ghost use Rattle.layout_model.specs.Layouts.{AreOffsets, IsPlacementOnGrid};
 ghost use Rattle.layout_model.specs.Images.{IsOrient};
 ghost use Rattle.layout_model.specs.Names.{IsName};
 ghost use Rattle.gds_record.specs.declared.kinds.Kind.TheVariants.{Sref, Aref};
 ghost use Rattle.gds_reader.specs.Elements.{IsHeld, IsFilePoint, KeepsOf, place_kept, placements_kept};
-ghost use Rattle.gds_reader.specs.Meaning.{step_of, array_places as the_places};
+ghost use Rattle.gds_reader.specs.Meaning.{first_of, step_of, array_places as the_places};
+ghost use Rattle.gds_reader.specs.declared.drawing.Undrawn.TheVariants.{Rule};
 ghost use Rattle.gds_reader.specs.Refused.{IsRefusedBy};
 ghost use Rattle.gds_reader.specs.Steppings.{IsNear, IsEvenPart, IsPartOf, IsStepping};
 ghost use Rattle.gds_reader.specs.Values.{Divides, KeepsAref, IsLowest, name_in};
 
-use crate::drawing::ORIGIN;
+use crate::drawing::{ORIGIN, Undrawn, bad_at};
 use crate::elements::Element;
 use crate::naming::name_of;
 use crate::refusing::GdsBad;
@@ -93,51 +94,67 @@ fn step(count: u16, from: Point, to: Point) -> Option<Point>
     }
 }
 
-// The places of an array from one point to the right and up, where both ways divide.
-fn array_offsets(
-    columns: u16,
-    rows: u16,
-    origin: Point,
-    right: Point,
-    up: Point,
-) -> Option<Offsets>
+/// The steps of an array, from column to column and from row to row.
+#[derive(Clone, Copy)]
+struct Steps {
+    across: Point,
+    upward: Point,
+}
+
+// The steps of an array from one point to the right and up, where both ways divide.
+fn array_steps(columns: u16, rows: u16, origin: Point, right: Point, up: Point) -> Option<Steps>
     requires origin { IsFilePoint origin }
     requires right { IsFilePoint right }
     requires up { IsFilePoint up }
-    ensures places { IfSome result (λ offsets. offsets ≡ grid_places columns rows (step_of columns origin right) (step_of rows origin up)) }
-    ensures grid { IfSome result AreOffsets }
+    ensures places { IfSome result (λ steps. grid_places columns rows steps.across steps.upward
+        ≡ grid_places columns rows (step_of columns origin right) (step_of rows origin up)) }
+    ensures fits { IfSome result (λ steps. IsGrid columns rows steps.across steps.upward) }
+    ensures grid { IfSome result (λ steps. AreOffsets (grid_places columns rows steps.across steps.upward)) }
     ensures some { IfSome result (λ _. Divides columns origin right × Divides rows origin up) }
     ensures none { IfNone result (¬ (Divides columns origin right × Divides rows origin up)) }
 {
     match step(columns, origin, right) {
         Some(across) => match step(rows, origin, up) {
-            Some(upward) => Some(Offsets::grid(
-                u64::from(columns),
-                u64::from(rows),
-                across,
-                upward,
-            )),
+            Some(upward) => Some(Steps { across, upward }),
             None => None,
         },
         None => None,
     }
 }
 
-// The places of an array with these points, or the value rule that they break.
-fn array_places(element: &Element, points: &[Point]) -> Result<Offsets, u8>
+// The places of an array with these steps.
+fn spread(alloc: Global, columns: u16, rows: u16, steps: Steps) -> Result<Offsets, NoMemory>
+    requires fits { IsGrid columns rows steps.across steps.upward }
+    requires grid { AreOffsets (grid_places columns rows steps.across steps.upward) }
+    ensures places { IfOk result (λ offsets. offsets ≡ grid_places columns rows steps.across steps.upward) }
+    ensures grid { IfOk result AreOffsets }
+{
+    let nu = u64::from(columns);
+    let nv = u64::from(rows);
+    match Offsets::grid(alloc, nu, nv, steps.across, steps.upward) {
+        Ok(offsets) => Ok(offsets),
+        Err(_) => Err(NoMemory),
+    }
+}
+
+// The places of an array with these points.
+fn array_places(alloc: Global, element: &Element, points: &[Point]) -> Result<Offsets, Undrawn>
     requires { All IsFilePoint points.now }
     ensures places { IfOk result (λ offsets. offsets ≡ the_places element.now.columns element.now.rows points.now) }
     ensures grid { IfOk result AreOffsets }
     ensures three { IfOk result (λ _. length points.now ≡ 3) }
     ensures kept { IfOk result (λ _. (rule : ℕ) → KeepsAref element.now.columns element.now.rows points.now rule) }
-    ensures broken { IfErr result (IsLowest (KeepsAref element.now.columns element.now.rows points.now)) }
+    ensures broken { (rule : ℕ) → result ≡ Err (Rule rule) → IsLowest (KeepsAref element.now.columns element.now.rows points.now) rule }
 {
     let [origin, right, up] = points else {
-        return Err(8);
+        return Err(Undrawn::Rule(8));
     };
-    match array_offsets(element.columns, element.rows, *origin, *right, *up) {
-        Some(offsets) => Ok(offsets),
-        None => Err(9),
+    match array_steps(element.columns, element.rows, *origin, *right, *up) {
+        Some(steps) => match spread(alloc, element.columns, element.rows, steps) {
+            Ok(offsets) => Ok(offsets),
+            Err(_) => Err(Undrawn::NoMemory),
+        },
+        None => Err(Undrawn::Rule(9)),
     }
 }
 
@@ -176,6 +193,33 @@ fn put(
     }
 }
 
+fn place_array(
+    alloc: Global,
+    bytes: &[u8],
+    element: &Element,
+    points: &[Point],
+    at: usize,
+    placements: &mut List<Placement>,
+) -> Result<(), GdsBad>
+    requires points { All IsFilePoint points.now }
+    requires held { IfSome element.now.target (IsHeld bytes.now) }
+    requires named { IfSome element.now.target (λ r. IsName (name_in bytes.now r)) }
+    requires orient { IsOrient element.now.orient }
+    ensures put { OnOk result (placements.new ≡ placements.old
+        ++ place_kept bytes.now element.now element.now.target (first_of points.now) (the_places element.now.columns element.now.rows points.now)) }
+    ensures grid { All IsPlacementOnGrid placements.old → OnOk result (All IsPlacementOnGrid placements.new) }
+    ensures kept { OnOk result ((rule : ℕ) → KeepsAref element.now.columns element.now.rows points.now rule) }
+    ensures broken { IfErr result (IsRefusedBy (KeepsAref element.now.columns element.now.rows points.now) at) }
+{
+    match array_places(alloc, element, points) {
+        Ok(offsets) => {
+            put(alloc, bytes, element, points[0], offsets, placements)?;
+            Ok(())
+        }
+        Err(undrawn) => Err(bad_at(undrawn, at)),
+    }
+}
+
 /// Places the structure of a reference with these points. `at` is the offset of its XY.
 pub(crate) fn place(
     alloc: Global,
@@ -202,12 +246,9 @@ pub(crate) fn place(
             };
             let offsets = Offsets::list(alloc, &[ORIGIN])?;
             put(alloc, bytes, element, *point, offsets, placements)?;
+            Ok(())
         }
-        Some(Kind::Aref) => match array_places(element, points) {
-            Ok(offsets) => put(alloc, bytes, element, points[0], offsets, placements)?,
-            Err(rule) => return Err(GdsBad::Value(at, rule)),
-        },
-        _ => {}
+        Some(Kind::Aref) => place_array(alloc, bytes, element, points, at, placements),
+        _ => Ok(()),
     }
-    Ok(())
 }

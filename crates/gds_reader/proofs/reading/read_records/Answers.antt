@@ -59,7 +59,7 @@ returns-in-Err-take-clause-first_fault c = λ wanted same more.
     (c.in-Err-take.ensures.refused c.records.invariant.past wanted same (c.records.invariant.reader_is wanted same) more)
 
 -- the library has ended
-ended : (c : goal.Then-eq) → IsEnded c.args.bytes.now c.args.unit c.args.sorted.now c.in-Ok.current.next c.take.new.self
+ended : (c : goal.After-finish) → IsEnded c.args.bytes.now c.args.unit c.args.sorted.now c.in-Ok.current.next c.take.new.self
 ended c =
     let end : c.in-Ok.current.kind ≡ EndLib = first_of (search rules, grind (arith, common_steps)) in
     record {
@@ -88,10 +88,15 @@ records-preserved c =
     (λ wanted same. c.in-Ok-take.ensures.taken c.records.invariant.past wanted same (c.records.invariant.reader_is wanted same))
 
 pub returns-then-eq-clause-found : goal.returns-then-eq-clause-found
-returns-then-eq-clause-found c = λ wanted same. let e = ended ? in ?
+returns-then-eq-clause-found c = λ wanted same.
+    ended_ok c.args.bytes.now c.args.unit wanted c.args.sorted.now c.in-Ok.current.next c.take.new.self c.finish.result (ended c) same
+    c.finish.ensures.cells c.finish.ensures.counts c.finish.ensures.blank
 
 pub returns-then-eq-clause-grid : goal.returns-then-eq-clause-grid
-returns-then-eq-clause-grid c = ?
+returns-then-eq-clause-grid c =
+    ended_grid c.args.bytes.now c.args.unit c.args.sorted.now c.in-Ok.current.next c.take.new.self c.finish.result (ended c) c.finish.ensures.cells
 
 pub returns-then-eq-clause-first_fault : goal.returns-then-eq-clause-first_fault
-returns-then-eq-clause-first_fault c = ?
+returns-then-eq-clause-first_fault c = λ wanted same.
+    ended_bad c.args.bytes.now c.args.unit wanted c.args.sorted.now c.in-Ok.current.next c.take.new.self c.finish.result (ended c) same
+    c.finish.ensures.tail
