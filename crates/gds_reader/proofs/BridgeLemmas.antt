@@ -1,6 +1,6 @@
 -- What is kept of an element says what its records say.
-use Rattle.std.proofs.Common.{◌≡◌, ℕ, Bool, true, false, cond, List, [], ◌∷◌, ◌++◌, Option, Some, None, refl, sym, ap, subst, ◌∙◌, ◌⊎◌, inl, inr}
-use Rattle.std.specs.Prelude.{IsTrue, ℤ}
+use Rattle.std.proofs.Common.{◌≡◌, ℕ, Bool, true, false, cond, List, [], ◌∷◌, Option, Some, None, refl, sym, ap, subst, ◌∙◌, ◌⊎◌, inl, inr}
+use Rattle.std.specs.Prelude.{ℤ}
 use Rattle.half_grid.specs.declared.plane.Point.{Point}
 use Rattle.layout_model.specs.declared.orient.Orient.{Orient}
 use Rattle.layout_model.specs.declared.pair.Pair.{Pair}
@@ -9,11 +9,10 @@ use Rattle.gds_record.specs.declared.kinds.Kind.{Kind}
 use Rattle.gds_record.specs.declared.kinds.Kind.TheVariants.{Header, Boundary, Path, Sref, Aref, Width, Xy, Sname, ColRow, PathType, BgnExtn, EndExtn}
 use Rattle.gds_record.specs.declared.records.Record.{Record}
 use Rattle.gds_reader.specs.declared.elements.Element.{Element}
-use Rattle.gds_reader.specs.Past.{has_kind, same_kind, element_kind, own_record}
-use Rattle.gds_reader.specs.Values.{number2_in, signed4_in, pair_of, columns_in, rows_in, name_in, points_in, is_wanted, IsWanted, IsReference, Keeps, KeepsAs, KeepsXy, IsLowest}
+use Rattle.gds_reader.specs.Past.{same_kind, element_kind, own_record}
+use Rattle.gds_reader.specs.Values.{number2_in, signed4_in, pair_of, columns_in, rows_in, name_in, points_in, is_wanted, Keeps, KeepsAs, KeepsXy, IsLowest}
 use Rattle.gds_reader.specs.Meaning.{is_drawn, wanted_at, shapes_as, shapes_at, placements_as, placements_at, orient_of, placed, first_of, origin, array_places}
 use Rattle.gds_reader.specs.Elements.{IsElementOf, shapes_by, KeepsBy, placements_kept, place_kept}
-use Rattle.gds_reader.proofs.KindLemmas.{same_kind_refl}
 
 -- an element of this kind with what its records say
 abbrev pub element_at : List ℕ → List Record → Orient → Option Kind → Element
@@ -65,7 +64,7 @@ placements_case : (bytes : List ℕ) (past : List Record) (orient : Orient) (poi
 placements_case bytes past orient points None e = refl
 placements_case bytes past orient points (Some k) e =
     elim k as (λ k. ((Some k ≡ Some Sref) ⊎ (Some k ≡ Some Aref) → orient ≡ orient_of bytes past)
-      → placements_kept (Some k) bytes (element_at bytes past orient (Some k)) points ≡ placements_as (Some k) bytes past points) [
+    → placements_kept (Some k) bytes (element_at bytes past orient (Some k)) points ≡ placements_as (Some k) bytes past points) [
       | Sref ↦ λ e. place_case bytes past orient (Some Sref) (own_record Sname past) (first_of points) (origin ∷ []) (e (inl refl))
       | Aref ↦ λ e. place_case bytes past orient (Some Aref) (own_record Sname past) (first_of points)
           (array_places (columns_in bytes (own_record ColRow past)) (rows_in bytes (own_record ColRow past)) points) (e (inr refl))

@@ -1,20 +1,18 @@
 -- The names of the cells of allowed records differ.
-use Rattle.std.proofs.Common.{◌≡◌, ℕ, suc, ◌+◌, ◌<◌, ◌≤◌, Bool, true, false, cond, List, [], ◌∷◌, ◌++◌, map, length, Option, Some, None, refl, sym, ap, subst, ◌∙◌, ◌⊎◌, inl, inr, arith}
+use Rattle.std.proofs.Common.{◌≡◌, ℕ, suc, ◌+◌, ◌≤◌, Bool, true, false, cond, List, [], ◌∷◌, ◌++◌, map, length, Option, Some, None, refl, sym, ap, subst, ◌∙◌, ◌⊎◌, inl, inr, arith}
 use Rattle.std.specs.Prelude.{◌≢◌, All}
 use Rattle.std.specs.List.{AllByRecursion}
 use Rattle.std.proofs.lemmas.List.{append-nil, map-append}
-use Rattle.std.proofs.lemmas.List.Elements.{All-append, All-cons, All-nil, All-from_recursion}
+use Rattle.std.proofs.lemmas.List.Elements.{All-append, All-cons, All-nil}
 use Rattle.layout_model.specs.Layouts.{AreDistinct}
 use Rattle.layout_model.specs.declared.pair.Pair.{Pair}
 use Rattle.layout_model.specs.declared.cells.Cell.{Cell}
-use Rattle.layout_model.specs.declared.shapes.Shape.{Shape}
-use Rattle.layout_model.specs.declared.cells.Placement.{Placement}
 use Rattle.gds_record.specs.declared.kinds.Kind.TheVariants.{StrName, EndStr}
 use Rattle.gds_record.specs.declared.records.Record.{Record}
-use Rattle.gds_reader.specs.Past.{has_kind, structure_record, given_in_structure, count_in}
+use Rattle.gds_reader.specs.Past.{has_kind, structure_record, count_in}
 use Rattle.gds_reader.specs.Values.{name_in}
-use Rattle.gds_reader.specs.Meaning.{cells_of, cells_at, cells_named, shapes_at, placements_at}
-use Rattle.gds_reader.specs.Reading.{IsSameName, IsNamed, IsAllowed, AreAllowed}
+use Rattle.gds_reader.specs.Meaning.{cells_of, cells_named}
+use Rattle.gds_reader.specs.Reading.{IsNamed, IsAllowed, AreAllowed}
 use Rattle.gds_reader.proofs.KindLemmas.{same_kind_is}
 
 -- ---- counts
@@ -113,7 +111,7 @@ with_end bytes wanted past r None end opened d =
     cells_end bytes wanted past r None end opened ∙ append-nil (cell_names (cells_of bytes wanted past)) in
     record {
       named = subst (AllByRecursion (λ name. HasName bytes name (r ∷ past))) (sym names)
-      (all_names_map (λ name. HasName bytes name past) (λ name. HasName bytes name (r ∷ past)) (cell_names (cells_of bytes wanted past)) (λ name. has_more bytes name r past) d.named);
+          (all_names_map (λ name. HasName bytes name past) (λ name. HasName bytes name (r ∷ past)) (cell_names (cells_of bytes wanted past)) (λ name. has_more bytes name r past) d.named);
       open_new = λ s e. absurd (let none = no_open r past end in cc);
       open_named = λ s e. absurd (let none = no_open r past end in cc);
       distinct = subst AreDistinct (sym names) d.distinct;
@@ -123,9 +121,9 @@ with_end bytes wanted past r (Some s) end opened d =
     let before = cell_names (cells_of bytes wanted past) in
     record {
       named = subst (AllByRecursion (λ name. HasName bytes name (r ∷ past))) (sym names)
-      (all_names_end (λ name. HasName bytes name (r ∷ past)) before (name_in bytes s)
-        (all_names_map (λ name. HasName bytes name past) (λ name. HasName bytes name (r ∷ past)) before (λ name. has_more bytes name r past) d.named)
-        (has_more bytes (name_in bytes s) r past (d.open_named s opened)));
+          (all_names_end (λ name. HasName bytes name (r ∷ past)) before (name_in bytes s)
+          (all_names_map (λ name. HasName bytes name past) (λ name. HasName bytes name (r ∷ past)) before (λ name. has_more bytes name r past) d.named)
+          (has_more bytes (name_in bytes s) r past (d.open_named s opened)));
       open_new = λ t e. absurd (let none = no_open r past end in cc);
       open_named = λ t e. absurd (let none = no_open r past end in cc);
       distinct = subst AreDistinct (sym names) (distinct_end before (name_in bytes s) d.distinct (d.open_new s opened));
@@ -139,16 +137,16 @@ with_name bytes wanted past r other name new d =
     let kind : r.kind ≡ StrName = same_kind_is r.kind StrName name in
     record {
       named = subst (AllByRecursion (λ name. HasName bytes name (r ∷ past))) (sym names)
-      (all_names_map (λ name. HasName bytes name past) (λ name. HasName bytes name (r ∷ past)) before (λ name. has_more bytes name r past) d.named);
+          (all_names_map (λ name. HasName bytes name past) (λ name. HasName bytes name (r ∷ past)) before (λ name. has_more bytes name r past) d.named);
       open_new = λ s e.
-      let same : r ≡ s = (let here = open_here r past other name in cc) in
-      subst (λ x. AllByRecursion (λ name. name ≢ name_in bytes x) (cell_names (cells_of bytes wanted (r ∷ past)))) same
-      (subst (AllByRecursion (λ name. name ≢ name_in bytes r)) (sym names)
-        (all_names_map (λ name. HasName bytes name past) (λ name. name ≢ name_in bytes r) before
+          let same : r ≡ s = (let here = open_here r past other name in cc) in
+          subst (λ x. AllByRecursion (λ name. name ≢ name_in bytes x) (cell_names (cells_of bytes wanted (r ∷ past)))) same
+          (subst (AllByRecursion (λ name. name ≢ name_in bytes r)) (sym names)
+          (all_names_map (λ name. HasName bytes name past) (λ name. name ≢ name_in bytes r) before
           (λ n has is. new (has_named bytes r past (subst (λ m. HasName bytes m past) is has))) d.named));
       open_named = λ s e.
-      let same : r ≡ s = (let here = open_here r past other name in cc) in
-      subst (λ x. HasName bytes (name_in bytes x) (r ∷ past)) same (has_here bytes r past kind);
+          let same : r ≡ s = (let here = open_here r past other name in cc) in
+          subst (λ x. HasName bytes (name_in bytes x) (r ∷ past)) same (has_here bytes r past kind);
       distinct = subst AreDistinct (sym names) d.distinct;
     }
 
@@ -160,7 +158,7 @@ with_other bytes wanted past r other name d =
     let opened = open_same r past other name in
     record {
       named = subst (AllByRecursion (λ name. HasName bytes name (r ∷ past))) (sym names)
-      (all_names_map (λ name. HasName bytes name past) (λ name. HasName bytes name (r ∷ past)) before (λ name. has_more bytes name r past) d.named);
+          (all_names_map (λ name. HasName bytes name past) (λ name. HasName bytes name (r ∷ past)) before (λ name. has_more bytes name r past) d.named);
       open_new = λ s e. subst (AllByRecursion (λ name. name ≢ name_in bytes s)) (sym names) (d.open_new s (sym opened ∙ e));
       open_named = λ s e. has_more bytes (name_in bytes s) r past (d.open_named s (sym opened ∙ e));
       distinct = subst AreDistinct (sym names) d.distinct;

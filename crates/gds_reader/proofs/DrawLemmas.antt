@@ -1,12 +1,12 @@
 -- The shapes of boundaries and paths, and why they are refused.
-use Rattle.std.proofs.Common.{◌≡◌, ℕ, zero, suc, ◌+◌, ◌<◌, ◌≤◌, ◌^◌, Bool, true, false, cond, List, [], ◌∷◌, ◌++◌, length, get_or, map, Option, Some, None, Result, Ok, Err, refl, sym, ap, subst, ◌∙◌, ◌⊎◌, inl, inr, arith}
-use Rattle.std.specs.Prelude.{All, ◌≢◌, pos, ℤ, IsOk}
+use Rattle.std.proofs.Common.{◌≡◌, ℕ, ◌<◌, ◌≤◌, Bool, true, false, cond, List, [], ◌∷◌, length, get_or, refl, sym, ap, subst, ◌∙◌, inl, inr, arith}
+use Rattle.std.specs.Prelude.{All, ◌≢◌, pos, ℤ}
 use Rattle.std.specs.Ordering.{int_eq}
 use Rattle.std.proofs.lemmas.List.Elements.{All-map}
 use Rattle.half_grid.specs.declared.plane.Point.{Point}
-use Rattle.half_grid.specs.Outlines.{IsClosed, HasGridEdges}
-use Rattle.half_grid.proofs.ForCallers.{int_eq_true, int_eq_false, int_eq_same, int_eq_other}
-use Rattle.layout_model.specs.Layouts.{IsWithin, AreOffsets, IsShapeOnGrid}
+use Rattle.half_grid.specs.Outlines.{IsClosed}
+use Rattle.half_grid.proofs.ForCallers.{int_eq_true, int_eq_false}
+use Rattle.layout_model.specs.Layouts.{AreOffsets, IsShapeOnGrid}
 use Rattle.layout_model.specs.PathLaws.{IsOutline}
 use Rattle.layout_model.specs.Paths.{IsDrawable, drawn_path, rectangles, rectangle_shape}
 use Rattle.layout_model.specs.Slants.{IsFirstSlant}

@@ -1,24 +1,22 @@
 -- Bytes hold at most one layout and at most one first fault, and never both.
-use Rattle.std.proofs.Common.{◌≡◌, ℕ, ◌+◌, ◌-◌, ◌<◌, ◌≤◌, Bool, true, false, cond, List, [], ◌∷◌, ◌++◌, map, reverse, Option, Some, None, length, get_or, refl, sym, ap, subst, ◌∙◌, ◌⊎◌, inl, inr, arith}
-use Rattle.std.specs.Prelude.{◌≢◌, nat_eq}
+use Rattle.std.proofs.Common.{◌≡◌, ℕ, ◌-◌, ◌≤◌, List, [], ◌∷◌, reverse, sym, ap, subst, ◌∙◌, ◌⊎◌, inl, inr, arith}
+use Rattle.std.specs.Prelude.{◌≢◌}
 use Rattle.std.proofs.lemmas.Bool.{cases_lt}
 use Rattle.std.proofs.lemmas.List.{reverse-reverse, append-nil}
 use Rattle.layout_model.specs.declared.pair.Pair.{Pair}
 use Rattle.layout_model.specs.declared.cells.Layout.{Layout}
-use Rattle.gds_record.specs.Faults.{IsFaultAt}
 use Rattle.gds_record.specs.Framing.{IsRecordAt}
 use Rattle.gds_record.specs.Reals.{Agrees}
-use Rattle.gds_record.specs.Runs.{IsRun, NoneEnds, EndsOnlyLast, IsClosed, IsFramed, IsRecordsOf}
+use Rattle.gds_record.specs.Runs.{IsRun, NoneEnds, EndsOnlyLast, IsClosed}
 use Rattle.gds_record.specs.declared.kinds.Kind.TheVariants.{StrName, Units, EndLib}
-use Rattle.gds_record.specs.declared.records.Framing.{Framing}
 use Rattle.gds_record.specs.declared.records.Record.{Record}
 use Rattle.gds_record.proofs.ForCallers.{record_unique, record_or_fault, fault_unique, records_unique}
 use Rattle.gds_reader.specs.declared.refusing.GdsBad.{GdsBad}
 use Rattle.gds_reader.specs.declared.refusing.GdsBad.TheVariants as faults
 use Rattle.gds_reader.specs.Grammar.{IsStreamOrder, IsBeginning}
 use Rattle.gds_reader.specs.Meaning.{layout_of}
-use Rattle.gds_reader.specs.Values.{KeepsRules, IsLowest, IsLowestBroken, Keeps, name_in}
-use Rattle.gds_reader.specs.Reading.{kinds_of, unit_in, IsSameName, IsNamed, IsAllowed, AreAllowed, IsLayoutOf, IsReadUpTo, framing_fault, IsFramingFault, IsOrderFault, IsNext, IsValueFault, IsUnitFault, IsNameFault, IsTailFault, IsFault, IsFirstFault, OneLayout, OneFault, NoLayoutWithFault}
+use Rattle.gds_reader.specs.Values.{KeepsRules, IsLowest, IsLowestBroken, Keeps}
+use Rattle.gds_reader.specs.Reading.{kinds_of, unit_in, IsSameName, IsNamed, IsAllowed, AreAllowed, IsLayoutOf, IsReadUpTo, framing_fault, IsFramingFault, IsOrderFault, IsNext, IsValueFault, IsUnitFault, IsNameFault, IsTailFault, IsFault, OneLayout, OneFault, NoLayoutWithFault}
 use Rattle.gds_reader.proofs.TableLemmas.{named_among, one_earlier}
 use Rattle.gds_reader.proofs.RunLemmas.{GoesOn, compare_runs, allowed_on, begins_on, none_ends_at, none_ends_front, not_closed, last_ends}
 
@@ -45,7 +43,7 @@ only_tail bytes unit wanted past at r bad good (inr (inr (inr (inl f)))) =
     absurd (f.disagrees (same_record bytes at (λ (x : Record). x.kind ≡ Units → Agrees (unit_in bytes x) unit) r f.r good.stands f.next.stands good.allowed.unit_agrees f.kind))
 only_tail bytes unit wanted past at r bad good (inr (inr (inr (inr (inl f))))) =
     absurd (same_record bytes at (λ (x : Record). x.kind ≡ StrName → ¬ IsNamed bytes past x) r f.r good.stands f.next.stands good.allowed.new_name f.kind
-      (subst (λ xs. IsNamed bytes xs f.r) (sym f.among) (named_among bytes f.before f.earlier f.after f.r f.same)))
+    (subst (λ xs. IsNamed bytes xs f.r) (sym f.among) (named_among bytes f.before f.earlier f.after f.r f.same)))
 only_tail bytes unit wanted past at r bad good (inr (inr (inr (inr (inr f))))) = f
 
 -- a longer reading goes on with a good record that doesn't end the library

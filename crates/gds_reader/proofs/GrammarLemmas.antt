@@ -1,5 +1,5 @@
 -- What may follow a record, by a rule: the rule's derivative by the record's kind.
-use Rattle.std.proofs.Common.{◌≡◌, ℕ, Bool, true, false, ◌&&◌, ◌||◌, cond, ◌⊎◌, inl, inr, List, [], ◌∷◌, ◌++◌, refl, sym, ap, subst, ◌∙◌, append_assoc, IsTrue}
+use Rattle.std.proofs.Common.{◌≡◌, Bool, true, false, ◌&&◌, ◌||◌, cond, ◌⊎◌, inl, inr, List, [], ◌∷◌, ◌++◌, refl, sym, ap, subst, ◌∙◌, append_assoc}
 use Rattle.std.specs.List.{AllByRecursion}
 use Rattle.gds_record.specs.declared.kinds.Kind.{Kind}
 use Rattle.gds_reader.specs.Grammar.{Rule, Never, Nothing, One, Then, Either, Repeated, joined, Follows}
@@ -45,9 +45,13 @@ pub then_from : (rule after : Rule) (kinds : List Kind) → Follows (Then rule a
 then_from Never after kinds f = absurd f.3
 then_from Nothing after kinds f = let front : f.0 ≡ [] = f.3 in subst (Follows after) (sym (f.2 ∙ ap (λ x. x ++ f.1) front)) f.4
 then_from (Then first second) after kinds f =
-    let inner = f.3 in
-    (inner.0, inner.1 ++ f.1, f.2 ∙ ap (λ x. x ++ f.1) inner.2 ∙ append_assoc inner.0 inner.1 f.1, inner.3,
-      then_from second after (inner.1 ++ f.1) (inner.1, f.1, refl, inner.4, f.4))
+    let inner = f.3 in (
+      inner.0,
+      inner.1 ++ f.1,
+      f.2 ∙ ap (λ x. x ++ f.1) inner.2 ∙ append_assoc inner.0 inner.1 f.1,
+      inner.3,
+      then_from second after (inner.1 ++ f.1) (inner.1, f.1, refl, inner.4, f.4),
+    )
 then_from (One kind) after kinds f = f
 then_from (Either first second) after kinds f = f
 then_from (Repeated rule) after kinds f = f

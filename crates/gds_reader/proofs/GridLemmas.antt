@@ -1,12 +1,12 @@
 -- Points of a file are on the grid and near 0.
-use Rattle.std.proofs.Common.{◌≡◌, ℕ, zero, suc, ◌+◌, ◌-◌, ◌<◌, ◌≤◌, ◌^◌, true, List, [], ◌∷◌, ◌++◌, length, get_or, refl, sym, ap, subst, ◌∙◌, arith}
-use Rattle.std.specs.Prelude.{All, ◌≢◌, ◌↔◌, pos}
+use Rattle.std.proofs.Common.{◌≡◌, ◌-◌, ◌≤◌, ◌^◌, List, [], ◌∷◌, ◌++◌, length, get_or, refl, sym, ap, subst, ◌∙◌, arith}
+use Rattle.std.specs.Prelude.{All, ◌↔◌}
 use Rattle.std.proofs.lemmas.Int.{ints}
 use Rattle.std.proofs.lemmas.List.Elements.{All-append, All-cons, All-nil}
 use Rattle.half_grid.specs.declared.plane.Point.{Point}
-use Rattle.half_grid.specs.Outlines.{IsClosed, last_of, HasGridEdges}
+use Rattle.half_grid.specs.Outlines.{IsClosed, last_of}
 use Rattle.half_grid.specs.Reach.{IsPointWithinReach}
-use Rattle.layout_model.specs.Layouts.{IsWithin, IsMove, AreOffsets, IsShapeOnGrid}
+use Rattle.layout_model.specs.Layouts.{IsWithin, IsMove, AreOffsets}
 use Rattle.gds_reader.specs.Elements.{IsFilePoint}
 use Rattle.gds_reader.specs.Meaning.{origin}
 

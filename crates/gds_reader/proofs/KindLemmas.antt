@@ -1,9 +1,9 @@
 -- Kinds of records as a test.
-use Rattle.std.proofs.Common.{◌≡◌, ℕ, Bool, true, false, Option, Some, None, refl, sym, ap, ◌∙◌, arith, nat_eq}
+use Rattle.std.proofs.Common.{◌≡◌, true, false, Some, refl, sym, ap, ◌∙◌}
 use Rattle.std.specs.Prelude.{◌≢◌}
 use Rattle.gds_record.specs.Heads.{head_of, kind_with_head}
 use Rattle.gds_record.specs.declared.kinds.Kind.{Kind}
-use Rattle.gds_record.specs.declared.kinds.Kind.TheVariants.{Header, BgnLib, LibName, Units, EndLib, BgnStr, StrName, EndStr, Boundary, Path, Sref, Aref, Text, Layer, DataType, Width, Xy, EndEl, Sname, ColRow, Node, TextType, Presentation, String, Strans, Mag, Angle, RefLibs, Fonts, PathType, Generations, AttrTable, ElFlags, NodeType, PropAttr, PropValue, Box, BoxType, Plex, BgnExtn, EndExtn, StrClass, Format, LibDirSize, SrfName, LibSecur}
+use Rattle.gds_record.specs.declared.kinds.Kind.TheVariants.{Header}
 use Rattle.gds_reader.specs.Past.{same_kind}
 use Rattle.std.proofs.lemmas.Bool.{eq-eqb, eqb-true}
 

@@ -1,11 +1,11 @@
 -- Pairs in ascending order, and the search for one.
-use Rattle.std.proofs.Common.{inl, inr, ◌≡◌, ℕ, ◌+◌, ◌<◌, ◌≤◌, Bool, true, false, nat_eq, ◌&&◌, List, length, Option, Some, None, Result, Ok, Err, nat_cmp, is_lt, Less, Equal, Greater, get_or, refl, sym, ap, ◌∙◌, arith}
+use Rattle.std.proofs.Common.{inl, inr, ◌≡◌, ℕ, ◌+◌, ◌<◌, ◌≤◌, true, false, nat_eq, ◌&&◌, List, length, Result, Ok, Err, nat_cmp, is_lt, Less, Equal, Greater, get_or, sym, arith}
 use Rattle.std.specs.Ordering.{ordering_then, ordering_index}
 use Rattle.std.specs.Cmp.{nat_cmp_is}
 use Rattle.std.specs.declared.cmp.Ordering.{Ordering}
 use Rattle.std.specs.Result.{is_ok}
 use Rattle.std.specs.List.{list_any}
-use Rattle.std.specs.List.Sorted.{IsNonDecreasingBy, IsSorted, IsBinarySearchResult, IsSearchInRange}
+use Rattle.std.specs.List.Sorted.{IsSorted, IsBinarySearchResult, IsSearchInRange}
 use Rattle.std.proofs.lemmas.Bool.{cases_lt}
 use Rattle.std.proofs.lemmas.List.Folds.{list_any_at, list_any_none}
 use Rattle.std.proofs.lemmas.List.Sorted.{IsNonDecreasingBy-from_all_adjacent}

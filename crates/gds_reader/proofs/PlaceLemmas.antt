@@ -1,14 +1,13 @@
 -- What may follow at each place, as a rule of the grammar, and that the places decide the order.
-use Rattle.std.proofs.Common.{◌≡◌, ℕ, Bool, true, false, cond, List, [], ◌∷◌, ◌++◌, Option, Some, None, map, reverse, refl, sym, ap, subst, ◌∙◌, append_assoc, ◌⊎◌, inl, inr}
+use Rattle.std.proofs.Common.{◌≡◌, Bool, true, false, cond, List, [], ◌∷◌, ◌++◌, Option, Some, None, refl, sym, ap, subst, ◌∙◌, append_assoc}
 use Rattle.std.proofs.lemmas.List.{append-nil}
 use Rattle.gds_record.specs.declared.kinds.Kind.{Kind}
-use Rattle.gds_record.specs.declared.kinds.Kind.TheVariants.{Header, BgnLib, LibName, Units, EndLib, BgnStr, StrName, EndStr, Boundary, Path, Sref, Aref, Text, Layer, DataType, Width, Xy, EndEl, Sname, ColRow, Node, TextType, Presentation, String, Strans, Mag, Angle, RefLibs, Fonts, PathType, Generations, AttrTable, ElFlags, NodeType, PropAttr, PropValue, Box, BoxType, Plex, BgnExtn, EndExtn, StrClass, Format, LibDirSize, SrfName, LibSecur}
-use Rattle.gds_record.specs.declared.records.Record.{Record}
+use Rattle.gds_record.specs.declared.kinds.Kind.TheVariants.{Header, BgnLib, LibName, Units, EndLib, StrName, EndStr, Layer, DataType, Width, Xy, Sname, ColRow, TextType, Presentation, String, Strans, Mag, Angle, RefLibs, Fonts, PathType, Generations, AttrTable, ElFlags, NodeType, PropValue, BoxType, Plex, BgnExtn, EndExtn, StrClass, Format, LibDirSize, SrfName, LibSecur}
 use Rattle.gds_reader.specs.declared.order.Form.{Form}
 use Rattle.gds_reader.specs.declared.order.Form.TheVariants as forms
 use Rattle.gds_reader.specs.declared.order.Place.{Place}
 use Rattle.gds_reader.specs.declared.order.Place.TheVariants as places
-use Rattle.gds_reader.specs.Grammar.{Rule, Never, Nothing, One, Then, Either, Repeated, Follows, in_order, at_most_one, one_of, element_end, points_and_end, with_flags, element, structure, file, IsStreamOrder, IsBeginning}
+use Rattle.gds_reader.specs.Grammar.{Rule, Never, One, Repeated, Follows, in_order, at_most_one, one_of, element_end, with_flags, element, structure, IsStreamOrder, IsBeginning}
 use Rattle.gds_reader.specs.Steps.{next_place}
 use Rattle.gds_reader.proofs.GrammarLemmas.{behind, behind_from, behind_to, has_some, some_list}
 
@@ -136,7 +135,6 @@ rest_after (Some place) = rest_of place
 abbrev pub reached_after : Option Place → Bool
 reached_after None = true
 reached_after (Some place) = is_reached place
-
 
 pub steps : (place : Place) (kind : Kind) → behind kind (rest_of place) ≡ rest_after (next_place place kind)
 steps places.Header kind = elim kind as (λ k. behind k (rest_of places.Header) ≡ rest_after (next_place places.Header k)) [ Header ↦ refl | _ ↦ refl ]
@@ -361,9 +359,9 @@ leads_next kinds place next kind leads e =
     record {
       reached = ap reached_after (sym e) ∙ reached place kind leads.reached;
       onward = λ rest f.
-      subst (λ rule. Follows rule rest) rule (behind_from kind (rest_of place) rest (leads.onward (kind ∷ rest) (subst IsStreamOrder (sym (kinds_last kinds kind rest)) f)));
+          subst (λ rule. Follows rule rest) rule (behind_from kind (rest_of place) rest (leads.onward (kind ∷ rest) (subst IsStreamOrder (sym (kinds_last kinds kind rest)) f)));
       backward = λ rest f.
-      subst IsStreamOrder (kinds_last kinds kind rest) (leads.backward (kind ∷ rest) (behind_to kind (rest_of place) rest (subst (λ rule. Follows rule rest) (sym rule) f)));
+          subst IsStreamOrder (kinds_last kinds kind rest) (leads.backward (kind ∷ rest) (behind_to kind (rest_of place) rest (subst (λ rule. Follows rule rest) (sym rule) f)));
     }
 
 -- kinds that lead to a place begin a file

@@ -1,5 +1,5 @@
 -- From what the reader keeps to what bytes hold.
-use Rattle.std.proofs.Common.{◌≡◌, ℕ, zero, suc, ◌+◌, ◌-◌, ◌*◌, ◌^◌, ◌<◌, ◌≤◌, List, [], ◌∷◌, ◌++◌, map, reverse, length, get_or, Option, Some, None, Result, Ok, Err, refl, sym, ap, subst, ◌∙◌, ◌⊎◌, inl, inr, arith}
+use Rattle.std.proofs.Common.{◌≡◌, ℕ, ◌*◌, ◌^◌, ◌<◌, ◌≤◌, List, [], ◌∷◌, ◌++◌, map, reverse, length, Option, Some, None, Result, Ok, Err, refl, sym, ap, subst, ◌∙◌, ◌⊎◌, inl, inr, arith}
 use Rattle.std.specs.Prelude.{◌≢◌, IsSome, IfOk, IfErr, All, slice_index}
 use Rattle.std.proofs.lemmas.List.{reverse-reverse}
 use Rattle.layout_model.specs.declared.pair.Pair.{Pair}
@@ -22,11 +22,9 @@ use Rattle.gds_reader.specs.Grammar.{IsBeginning}
 use Rattle.gds_reader.specs.Elements.{IsHeld, AreSamePairs}
 use Rattle.gds_reader.specs.Meaning.{layout_of, cells_of, counts_of, is_kept, is_other, wanted_at}
 use Rattle.gds_reader.specs.Past.{has_kind}
-use Rattle.gds_reader.specs.Names.{place_of}
 use Rattle.gds_reader.specs.Readers.{IsReaderOf, IsTaken, IsRefused, IsStanding, IsTail, AreAtMost, place_behind, next_after}
-use Rattle.gds_reader.specs.Reading.{kinds_of, unit_in, IsAllowed, AreAllowed, IsLayoutOf, IsReadUpTo, IsNext, IsFault, IsFirstFault, framing_fault, IsFramingFault, IsTailFault}
+use Rattle.gds_reader.specs.Reading.{kinds_of, IsAllowed, AreAllowed, IsLayoutOf, IsReadUpTo, IsNext, IsFault, IsFirstFault, framing_fault}
 use Rattle.gds_reader.specs.Steps.{next_place}
-use Rattle.gds_reader.specs.Values.{name_in}
 use Rattle.gds_reader.proofs.CellLemmas.{count_few, names_distinct}
 use Rattle.gds_reader.proofs.FaultLemmas.{one_layout, one_fault, no_layout_with_fault}
 use Rattle.gds_reader.proofs.PlaceLemmas.{LeadsTo, leads_first, leads_next, leads_begin, leads_nowhere, leads_end, end_next}
@@ -70,7 +68,12 @@ refused_fault bytes unit wanted past at r place bad e stands (inr (inl f)) =
     inr (inr (inl (record { r = r; next = next_stands bytes past at r stands f.some; rule = f.rule; broken = f.broken; bad_is = f.bad_is })))
 refused_fault bytes unit wanted past at r place bad e stands (inr (inr (inl f))) =
     inr (inr (inr (inl (record {
-      r = r; next = next_stands bytes past at r stands f.some; rules = f.rules; kind = f.kind; disagrees = f.disagrees; bad_is = f.bad_is;
+      r = r;
+      next = next_stands bytes past at r stands f.some;
+      rules = f.rules;
+      kind = f.kind;
+      disagrees = f.disagrees;
+      bad_is = f.bad_is;
     }))))
 refused_fault bytes unit wanted past at r place bad e stands (inr (inr (inr f))) =
     let found = found_name bytes r f.first past f.found in
@@ -207,9 +210,9 @@ ended_layout bytes unit wanted sorted at reader layout s same blank cells counts
       order = leads_end (kinds_of (reverse (s.r ∷ s.past))) (subst (LeadsTo (kinds_of (reverse (s.r ∷ s.past)))) place (leads (s.r ∷ s.past) reader.place is.place));
       allowed = subst (AreAllowed bytes unit wanted) (sym turned) (s.allowed wanted same);
       layout_is =
-      ap (λ cs. let l : Layout = record { cells = cs; counts = layout.counts } in l) (cells ∙ is.cells)
-      ∙ ap (λ n. let l : Layout = record { cells = cells_of bytes wanted (s.r ∷ s.past); counts = n } in l) (counts ∙ is.counts)
-      ∙ ap (layout_of bytes wanted) (sym turned);
+          ap (λ cs. let l : Layout = record { cells = cs; counts = layout.counts } in l) (cells ∙ is.cells)
+          ∙ ap (λ n. let l : Layout = record { cells = cells_of bytes wanted (s.r ∷ s.past); counts = n } in l) (counts ∙ is.counts)
+          ∙ ap (layout_of bytes wanted) (sym turned);
     }
 
 pub ended_tail : (bytes : List ℕ) (unit : ℕ) (wanted sorted : List Pair) (at tail : ℕ) (reader : Reader) (bad : GdsBad)
@@ -258,7 +261,7 @@ ended_grid bytes unit sorted at reader (Ok layout) s cells =
     record {
       cells = subst (All IsCellOnGrid) (sym cells) is.cells_grid;
       names = subst (λ (cs : List Cell). AreDistinct (map (λ (cell : Cell). cell.name) cs)) (sym (cells ∙ is.cells))
-      (names_distinct bytes unit sorted (s.r ∷ s.past) (s.allowed sorted same));
+          (names_distinct bytes unit sorted (s.r ∷ s.past) (s.allowed sorted same));
     }
 
 pub ended_bad : (bytes : List ℕ) (unit : ℕ) (wanted sorted : List Pair) (at : ℕ) (reader : Reader) (result : Result Layout GdsBad)

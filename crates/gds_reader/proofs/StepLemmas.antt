@@ -1,8 +1,8 @@
 -- Steps of arrays.
-use Rattle.std.proofs.Common.{◌≡◌, ℕ, zero, suc, ◌+◌, ◌-◌, ◌*◌, ◌/◌, ◌%◌, ◌^◌, ◌<◌, ◌≤◌, Bool, true, false, cond, List, [], ◌∷◌, map, length, get_or, refl, sym, ap, subst, ◌∙◌, ◌⊎◌, inl, inr, arith}
-use Rattle.std.specs.Prelude.{ℤ, pos, negsuc, neg_ℤ, ◌+ℤ◌, ◌-ℤ◌, ◌*ℤ◌, ◌≤ℤ◌, ◌<ℤ◌, ◌≢◌, All, unsigned_abs, int_lt}
+use Rattle.std.proofs.Common.{◌≡◌, ℕ, zero, suc, ◌+◌, ◌*◌, ◌/◌, ◌%◌, ◌^◌, ◌<◌, ◌≤◌, Bool, true, false, cond, length, get_or, refl, sym, ap, subst, ◌∙◌, arith}
+use Rattle.std.specs.Prelude.{ℤ, pos, negsuc, neg_ℤ, ◌+ℤ◌, ◌-ℤ◌, ◌*ℤ◌, ◌≤ℤ◌, ◌<ℤ◌, ◌≢◌, unsigned_abs, int_lt}
 use Rattle.std.specs.List.{range_with_len}
-use Rattle.std.proofs.Math.Nat.{mul-div_cancel, mul-div_cancel_left, mul-mod_right, mod-add-div, mul-le-mul_right, div-lt_iff_lt-mul, mod-lt}
+use Rattle.std.proofs.Math.Nat.{mul-div_cancel_left, mul-mod_right, mod-add-div, mul-le-mul_right, div-lt_iff_lt-mul, mod-lt}
 use Rattle.std.proofs.lemmas.List.FromFn.{length-range_with_len, get_or-range_with_len, length-map-range_with_len}
 use Rattle.std.proofs.lemmas.List.Elements.{All-map}
 use Rattle.half_grid.specs.Reach.{IsWithinReach}
@@ -14,7 +14,7 @@ use Rattle.half_grid.specs.Halves.{twice, is_even}
 use Rattle.half_grid.specs.declared.plane.Point.{Point}
 use Rattle.gds_reader.specs.Meaning.{quotient, step_of}
 use Rattle.gds_reader.specs.Steppings.{IsNear, IsEvenPart, IsPartOf, IsStepping}
-use Rattle.gds_reader.specs.Values.{Divides, IsStep, IsWhole}
+use Rattle.gds_reader.specs.Values.{Divides}
 
 -- an exact division by twice the count
 pub even_part : (n c : ℕ) → 1 ≤ c → n % (2 * c) ≡ 0 → IsEvenPart c n (n / (2 * c) * 2)
@@ -123,7 +123,8 @@ place_near a b columns rows o r u s t fo fr fu ps pt la lb = (
   less_far a columns s.x (r.x -ℤ o.x) la ps.step_is.x (way_near o.x r.x fo.near.x_low fo.near.x_high fr.near.x_low fr.near.x_high),
   less_far b rows t.x (u.x -ℤ o.x) lb pt.step_is.x (way_near o.x u.x fo.near.x_low fo.near.x_high fu.near.x_low fu.near.x_high),
   less_far a columns s.y (r.y -ℤ o.y) la ps.step_is.y (way_near o.y r.y fo.near.y_low fo.near.y_high fr.near.y_low fr.near.y_high),
-  less_far b rows t.y (u.y -ℤ o.y) lb pt.step_is.y (way_near o.y u.y fo.near.y_low fo.near.y_high fu.near.y_low fu.near.y_high))
+  less_far b rows t.y (u.y -ℤ o.y) lb pt.step_is.y (way_near o.y u.y fo.near.y_low fo.near.y_high fu.near.y_low fu.near.y_high),
+)
 
 sum_reach : (x y : ℤ) → IsNear x → IsNear y → IsWithinReach (x +ℤ y)
 sum_reach x y p q = record { low = omega (arith, ints, p.low, q.low); high = omega (arith, ints, p.high, q.high) }
@@ -136,11 +137,11 @@ grid_fits columns rows o r u s t few_columns few_rows fo fr fu ps pt = record {
   some_rows = pt.some;
   few_rows = omega arith;
   reach = λ a b la lb.
-  let n = place_near a b columns rows o r u s t fo fr fu ps pt la lb in
-  record {
-    x = sum_reach (pos a *ℤ s.x) (pos b *ℤ t.x) n.0 n.1;
-    y = sum_reach (pos a *ℤ s.y) (pos b *ℤ t.y) n.2 n.3;
-  };
+      let n = place_near a b columns rows o r u s t fo fr fu ps pt la lb in
+      record {
+        x = sum_reach (pos a *ℤ s.x) (pos b *ℤ t.x) n.0 n.1;
+        y = sum_reach (pos a *ℤ s.y) (pos b *ℤ t.y) n.2 n.3;
+      };
 }
 
 place_move : (a b columns rows : ℕ) (o r u s t : Point) → IsFilePoint o → IsFilePoint r → IsFilePoint u → IsStepping columns o r s → IsStepping rows o u t
@@ -170,13 +171,13 @@ grid_offsets columns rows o r u s t fo fr fu ps pt =
     let some : 1 ≤ columns * rows = some_cells columns rows ps.some pt.some in
     record {
       nonempty = λ e. absurd (
-        let none : columns * rows ≡ 0 = sym (length-map-range_with_len (nth_place columns s t) 0 (columns * rows)) ∙ ap length e in omega arith);
+          let none : columns * rows ≡ 0 = sym (length-map-range_with_len (nth_place columns s t) 0 (columns * rows)) ∙ ap length e in omega arith);
       moves = All-map IsMove (nth_place columns s t) numbers (λ k d lt.
-        let below : k < columns * rows = subst (λ n. k < n) (length-range_with_len 0 (columns * rows)) lt in
-        let number : get_or numbers k d ≡ k = get_or-range_with_len 0 (columns * rows) k d below ∙ omega arith in
-        let row : k / columns < rows = (div-lt_iff_lt-mul {k = columns} {x = k} {y = rows} ps.some).1 (omega arith) in
-        subst (λ n. IsMove (nth_place columns s t n)) (sym number)
-        (place_move (k % columns) (k / columns) columns rows o r u s t fo fr fu ps pt (mod-lt k {m = columns} ps.some) row));
+          let below : k < columns * rows = subst (λ n. k < n) (length-range_with_len 0 (columns * rows)) lt in
+          let number : get_or numbers k d ≡ k = get_or-range_with_len 0 (columns * rows) k d below ∙ omega arith in
+          let row : k / columns < rows = (div-lt_iff_lt-mul {k = columns} {x = k} {y = rows} ps.some).1 (omega arith) in
+          subst (λ n. IsMove (nth_place columns s t n)) (sym number)
+          (place_move (k % columns) (k / columns) columns rows o r u s t fo fr fu ps pt (mod-lt k {m = columns} ps.some) row));
     }
 
 pub below_zero : (z : ℤ) → int_lt z (pos 0) ≡ true → z <ℤ pos 0

@@ -1,6 +1,5 @@
 -- The table of the structures' names, and the records that have them.
-use Rattle.std.proofs.Common.{◌≡◌, ℕ, ◌+◌, ◌-◌, Bool, true, false, cond, List, [], ◌∷◌, ◌++◌, Option, Some, None, refl, sym, ap, subst, ◌∙◌, ◌⊎◌, inl, inr}
-use Rattle.std.specs.Prelude.{◌≢◌}
+use Rattle.std.proofs.Common.{◌≡◌, ℕ, ◌-◌, Bool, true, false, cond, List, [], ◌∷◌, ◌++◌, Some, None, refl, sym, ap, subst, ◌∙◌, inl, inr}
 use Rattle.std.proofs.lemmas.Slice.Eq.{bytes_eq-Decides}
 use Rattle.layout_model.specs.declared.pair.Pair.{Pair}
 use Rattle.gds_record.specs.declared.kinds.Kind.TheVariants.{StrName}
@@ -93,9 +92,9 @@ one_earlier bytes unit wanted r d e [] a1 (y ∷ b2) a2 allowed is one other =
     absurd (let rest : a1 ≡ b2 ++ e ∷ a2 = cc in head_new bytes unit wanted r d e b2 a2 a1 allowed.0 rest one other)
 one_earlier bytes unit wanted r d e (x ∷ b1) a1 [] a2 allowed is one other =
     absurd (
-      let rest : b1 ++ d ∷ a1 ≡ a2 = cc in
-      let head : x ≡ e = cc in
-      head_new bytes unit wanted r e d b1 a1 a2 (subst (λ xs. IsAllowed bytes unit wanted xs e) rest (subst (IsAllowed bytes unit wanted (b1 ++ d ∷ a1)) head allowed.0)) (sym rest) other one)
+    let rest : b1 ++ d ∷ a1 ≡ a2 = cc in
+    let head : x ≡ e = cc in
+    head_new bytes unit wanted r e d b1 a1 a2 (subst (λ xs. IsAllowed bytes unit wanted xs e) rest (subst (IsAllowed bytes unit wanted (b1 ++ d ∷ a1)) head allowed.0)) (sym rest) other one)
 one_earlier bytes unit wanted r d e (x ∷ b1) a1 (y ∷ b2) a2 allowed is one other =
     let rest : b1 ++ d ∷ a1 ≡ b2 ++ e ∷ a2 = cc in
     one_earlier bytes unit wanted r d e b1 a1 b2 a2 allowed.1 rest one other

@@ -12,7 +12,7 @@ use Rattle.gds_reader.specs.declared.order.Place.{Place}
 use Rattle.gds_reader.specs.declared.reading.Structure.{Structure}
 use Rattle.gds_reader.specs.declared.refusing.GdsBad.{GdsBad}
 use Rattle.gds_reader.specs.Past.{same_kind, structure_record, given_in_structure}
-use Rattle.gds_reader.specs.Values.{name_in, points_in, Keeps, KeepsRules, IsLowest}
+use Rattle.gds_reader.specs.Values.{name_in, points_in, Keeps, KeepsRules}
 use Rattle.gds_reader.specs.Meaning.{wanted_at, shapes_at, placements_at}
 use Rattle.gds_reader.specs.Elements.{IsHeld, IsElementOf, shapes_by, KeepsBy, placements_kept}
 use Rattle.gds_reader.specs.Readers.{IsStructureOf, next_after}
@@ -32,18 +32,18 @@ pub taken_structure : {T : Type 0} (bytes : List ℕ) (wanted : List Pair) (past
 taken_structure bytes wanted past r e drawn (Err bad) old new kind f d s named shapes placements shapes_grid placements_grid = tt
 taken_structure bytes wanted past r e drawn (Ok x) old new kind f d s named shapes placements shapes_grid placements_grid = record {
   named =
-  named ∙ s.named
-  ∙ sym (ap (λ k. cond (same_kind k EndStr) None (cond (same_kind k StrName) (Some r) (structure_record StrName past))) kind);
+      named ∙ s.named
+      ∙ sym (ap (λ k. cond (same_kind k EndStr) None (cond (same_kind k StrName) (Some r) (structure_record StrName past))) kind);
   held = subst (λ n. IfSome n (IsHeld bytes)) (sym named) s.held;
   valid = subst (λ n. IfSome n (λ x. IsName (name_in bytes x))) (sym named) s.valid;
   shapes =
-  shapes ∙ ap (λ xs. xs ++ shapes_by drawn e (points_in bytes r)) s.shapes
-  ∙ ap (λ xs. given_in_structure (shapes_at bytes wanted) past ++ xs) (shapes_of_xy bytes wanted past r e drawn kind f d)
-  ∙ sym (ap (λ k. cond (same_kind k EndStr) [] (given_in_structure (shapes_at bytes wanted) past ++ shapes_at bytes wanted past r)) kind);
+      shapes ∙ ap (λ xs. xs ++ shapes_by drawn e (points_in bytes r)) s.shapes
+      ∙ ap (λ xs. given_in_structure (shapes_at bytes wanted) past ++ xs) (shapes_of_xy bytes wanted past r e drawn kind f d)
+      ∙ sym (ap (λ k. cond (same_kind k EndStr) [] (given_in_structure (shapes_at bytes wanted) past ++ shapes_at bytes wanted past r)) kind);
   placements =
-  placements ∙ ap (λ xs. xs ++ placements_kept e.kind bytes e (points_in bytes r)) s.placements
-  ∙ ap (λ xs. given_in_structure (placements_at bytes) past ++ xs) (placements_of_xy bytes past r e kind f)
-  ∙ sym (ap (λ k. cond (same_kind k EndStr) [] (given_in_structure (placements_at bytes) past ++ placements_at bytes past r)) kind);
+      placements ∙ ap (λ xs. xs ++ placements_kept e.kind bytes e (points_in bytes r)) s.placements
+      ∙ ap (λ xs. given_in_structure (placements_at bytes) past ++ xs) (placements_of_xy bytes past r e kind f)
+      ∙ sym (ap (λ k. cond (same_kind k EndStr) [] (given_in_structure (placements_at bytes) past ++ placements_at bytes past r)) kind);
   shapes_grid = shapes_grid s.shapes_grid;
   placements_grid = placements_grid s.placements_grid;
 }

@@ -1,5 +1,5 @@
 -- What the program keeps of the records so far, in words for its own contracts.
-use Rattle.std.specs.Prelude.{◌≡◌, ◌≤◌, ◌<◌, ◌-◌, ◌⊎◌, ◌^◌, ℕ, ℤ, pos, neg_ℤ, unsigned_abs, int_lt, Bool, true, false, List, [], ◌∷◌, Option, Some, None, IfSome, length}
+use Rattle.std.specs.Prelude.{◌≡◌, ◌≤◌, ◌-◌, ◌⊎◌, ◌^◌, ℕ, ℤ, pos, neg_ℤ, unsigned_abs, int_lt, Bool, true, false, List, [], ◌∷◌, Option, Some, None, IfSome, length}
 use Rattle.std.specs.List.{list_any}
 use Rattle.half_grid.specs.Halves.{is_even}
 use Rattle.half_grid.specs.declared.plane.Point.{Point}

@@ -2,7 +2,7 @@
 --
 -- Each structure gives a cell. The XY record of a BOUNDARY or a PATH on a wanted pair gives its shapes, that of an SREF
 -- or an AREF its placement, each by the records of its own element.
-use Rattle.std.specs.Prelude.{◌≡◌, ◌+◌, ◌-◌, ◌*◌, ◌/◌, ◌==◌, ℕ, ℤ, pos, negsuc, ◌-ℤ◌, nat_le, Bool, true, false, not, if◌then◌else◌, List, [], ◌∷◌, Option, Some, None}
+use Rattle.std.specs.Prelude.{◌+◌, ◌/◌, ℕ, ℤ, pos, negsuc, ◌-ℤ◌, nat_le, Bool, true, false, not, if◌then◌else◌, List, [], ◌∷◌, Option, Some, None}
 use Rattle.std.specs.Ordering.{int_eq}
 use Rattle.half_grid.specs.declared.plane.Point.{Point}
 use Rattle.layout_model.specs.Grids.{grid_places}
@@ -45,7 +45,7 @@ shapes_as _ bytes past points = []
 abbrev pub shapes_at : List ℕ → List Pair → List Record → Record → List Shape
 shapes_at bytes wanted past r =
     if has_kind Xy r then (
-      if is_wanted bytes wanted past then shapes_as (element_kind past) bytes past (points_in bytes r) else [])
+    if is_wanted bytes wanted past then shapes_as (element_kind past) bytes past (points_in bytes r) else [])
     else []
 
 -- ---- placements

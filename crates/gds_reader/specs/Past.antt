@@ -1,6 +1,6 @@
 -- What a record means depends on those before it. In these definitions the records before one, its past, stand with the
 -- last one first.
-use Rattle.std.specs.Prelude.{◌≡◌, ℕ, ◌+◌, ◌==◌, Bool, true, false, if◌then◌else◌, List, [], ◌∷◌, ◌++◌, Option, Some, None}
+use Rattle.std.specs.Prelude.{ℕ, ◌+◌, ◌==◌, Bool, true, false, if◌then◌else◌, List, [], ◌∷◌, ◌++◌, Option, Some, None}
 use Rattle.gds_record.specs.Heads.{head_of}
 use Rattle.gds_record.specs.declared.kinds.Kind.{Kind}
 use Rattle.gds_record.specs.declared.kinds.Kind.TheVariants.{Boundary, Path, Sref, Aref, Text, Node, Box, EndStr}

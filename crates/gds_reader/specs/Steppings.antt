@@ -1,5 +1,5 @@
 -- Steps of arrays.
-use Rattle.std.specs.Prelude.{◌≡◌, ◌≤◌, ◌^◌, ◌*◌, ℕ, ℤ, pos, neg_ℤ, ◌-ℤ◌, ◌*ℤ◌, ◌≤ℤ◌}
+use Rattle.std.specs.Prelude.{◌≡◌, ◌≤◌, ◌^◌, ◌*◌, ℕ, ℤ, pos, neg_ℤ, ◌*ℤ◌, ◌≤ℤ◌}
 use Rattle.half_grid.specs.Halves.{twice}
 use Rattle.half_grid.specs.declared.plane.Point.{Point}
 use Rattle.gds_reader.specs.Values.{IsStep, IsWhole}

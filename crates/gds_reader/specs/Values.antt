@@ -1,6 +1,6 @@
 -- What the records of a file say (GDSII Stream Format Manual 6.0, record description), and the rules that their values
 -- must keep. Lengths are half units: a coordinate of the file counts two of them.
-use Rattle.std.specs.Prelude.{◌≡◌, ◌≢◌, ◌⊎◌, ◌<◌, ◌≤◌, ◌+◌, ◌-◌, ◌*◌, ◌/◌, ◌%◌, ◌^◌, ◌==◌, ℕ, zero, suc, ℤ, pos, neg_ℤ, ◌-ℤ◌, ◌*ℤ◌, ◌≤ℤ◌, ◌<ℤ◌, unsigned_abs, nat_le, int_lt, bit_and, Bool, true, false, if◌then◌else◌, ◌&&◌, List, [], ◌∷◌, Option, Some, None, length, map, slice_range, IsTrue}
+use Rattle.std.specs.Prelude.{◌≡◌, ◌≢◌, ◌⊎◌, ◌<◌, ◌≤◌, ◌+◌, ◌-◌, ◌*◌, ◌/◌, ◌%◌, ◌^◌, ◌==◌, ℕ, zero, suc, ℤ, pos, neg_ℤ, ◌-ℤ◌, ◌*ℤ◌, ◌≤ℤ◌, unsigned_abs, int_lt, bit_and, Bool, if◌then◌else◌, ◌&&◌, List, [], ◌∷◌, Option, Some, None, length, map, slice_range, IsTrue}
 use Rattle.std.specs.List.{range_with_len, list_any}
 use Rattle.half_grid.specs.Halves.{twice}
 use Rattle.half_grid.specs.Outlines.{IsClosed, HasGridEdges}

@@ -77,7 +77,11 @@ fn other_unit(bytes: &[u8], unit: u32, current: Record) -> Option<u64>
     match current.kind {
         Kind::Units => {
             let bits = int8(bytes, current.first + 8);
-            if unit_agrees(bits, unit) { None } else { Some(bits) }
+            if unit_agrees(bits, unit) {
+                None
+            } else {
+                Some(bits)
+            }
         }
         _ => None,
     }
@@ -380,12 +384,7 @@ fn finish(bytes: &[u8], at: usize, reader: Reader<'_>) -> Result<Layout, GdsBad>
 }
 
 // The layout of the bytes. `sorted` are the wanted pairs.
-fn read_records(
-    alloc: Global,
-    bytes: &[u8],
-    unit: u32,
-    sorted: &[Pair],
-) -> Result<Layout, GdsBad>
+fn read_records(alloc: Global, bytes: &[u8], unit: u32, sorted: &[Pair]) -> Result<Layout, GdsBad>
     requires { AreSorted sorted.now }
     ensures found { (wanted : Items APair) → AreSamePairs wanted sorted.now → IfOk result (λ layout. IsLayoutOf bytes.now unit wanted layout) }
     ensures grid { IfOk result IsLayoutOnGrid }
@@ -415,12 +414,7 @@ fn read_records(
 /// units. Bytes that hold no layout are refused by their first fault; the first record that is refused
 /// decides, and at one record first its framing, then its order, then its value rules, then the unit or
 /// the name. NoMemory may come in place of any answer where memory is wanting.
-pub fn read_gds(
-    alloc: Global,
-    bytes: &[u8],
-    unit: u32,
-    wanted: &[Pair],
-) -> Result<Layout, GdsBad>
+pub fn read_gds(alloc: Global, bytes: &[u8], unit: u32, wanted: &[Pair]) -> Result<Layout, GdsBad>
     ensures found { IfOk result (λ layout. IsLayoutOf bytes.now unit wanted.now layout) }
     ensures grid { IfOk result IsLayoutOnGrid }
     ensures read { (layout : ALayout) → IsLayoutOf bytes.now unit wanted.now layout → (result ≡ Ok layout) ⊎ (result ≡ Err bads.NoMemory) }

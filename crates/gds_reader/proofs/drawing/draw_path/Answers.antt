@@ -13,5 +13,5 @@ pub returns-in-Err-clause-broken : goal.returns-in-Err-clause-broken
 returns-in-Err-clause-broken c =
     refused_by (KeepsPathOf c.args.element.now c.args.points.now) c.args.at c.in-Err.undrawn c.bad_at.result c.bad_at.ensures.rule c.bad_at.ensures.memory
     (λ rule e.
-      subst (λ (b : Brush). IsLowest (KeepsPath b.half b.begin b.end c.args.points.now) rule) c.brush.ensures.brush
-      (c.shapes_of_path.ensures.broken rule (c.in-Err.is ∙ ap Err e)))
+    subst (λ (b : Brush). IsLowest (KeepsPath b.half b.begin b.end c.args.points.now) rule) c.brush.ensures.brush
+    (c.shapes_of_path.ensures.broken rule (c.in-Err.is ∙ ap Err e)))

@@ -1,5 +1,3 @@
-use Rattle.std.specs.Prelude.{pos}
-use Rattle.half_grid.specs.declared.plane.Point.{Point}
 use Rattle.gds_reader.specs.Meaning.{origin}
 use Rattle.gds_reader.proofs.drawing.is_closed.Goals as goal
 use Rattle.gds_reader.proofs.GridLemmas.{closed_by_ends}

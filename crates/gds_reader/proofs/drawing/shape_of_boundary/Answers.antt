@@ -1,4 +1,4 @@
-use Rattle.std.proofs.Common.{◌≡◌, ℕ, rules, arith, subst}
+use Rattle.std.proofs.Common.{◌≡◌, rules, arith, subst}
 use Rattle.half_grid.specs.Outlines.{IsClosed}
 use Rattle.gds_reader.specs.Values.{KeepsBoundary, IsLowest}
 use Rattle.gds_reader.proofs.drawing.shape_of_boundary.Goals as goal

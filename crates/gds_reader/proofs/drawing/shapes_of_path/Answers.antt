@@ -1,9 +1,6 @@
-use Rattle.std.proofs.Common.{rules, FitsSigned, w64, ◌≡◌, ◌∙◌, ℕ, [], ◌∷◌, List, sym, ap, inl, inr}
+use Rattle.std.proofs.Common.{rules, FitsSigned, w64, ◌≡◌, ◌∙◌, sym, inl, inr}
 use Rattle.std.specs.Prelude.{pos, ◌≢◌}
 use Rattle.std.proofs.lemmas.Int.{to_z-of_z}
-use Rattle.half_grid.specs.declared.plane.Point.{Point}
-use Rattle.layout_model.specs.Paths.{IsDrawable}
-use Rattle.gds_reader.specs.Meaning.{origin}
 use Rattle.gds_reader.specs.declared.drawing.Undrawn.TheVariants.{Rule}
 use Rattle.gds_reader.proofs.drawing.shapes_of_path.Goals as goal
 use Rattle.gds_reader.proofs.GridLemmas.{all_within}
@@ -24,10 +21,10 @@ pub returns-in-Ok-clause-grid : goal.returns-in-Ok-clause-grid
 returns-in-Ok-clause-grid c =
     path_grid c.args.pair c.args.fixed c.args.brush.half c.args.brush.begin c.args.brush.end c.args.points.now c.in-Ok.shapes.items
     (let half : FitsSigned w64 c.args.brush.half = search rules in
-      let begin : FitsSigned w64 c.args.brush.begin = search rules in
-      let end : FitsSigned w64 c.args.brush.end = search rules in
-      path_items c.args.pair c.args.fixed c.args.brush.half c.args.brush.begin c.args.brush.end c.args.points.now c.in-Ok.shapes.items
-      c.in_ok-offsets.offsets c.in_ok-offsets.ensures.ok (simp to_z-of_z at c.in-Ok.ensures.none) (simp to_z-of_z at c.in-Ok.ensures.shapes))
+    let begin : FitsSigned w64 c.args.brush.begin = search rules in
+    let end : FitsSigned w64 c.args.brush.end = search rules in
+    path_items c.args.pair c.args.fixed c.args.brush.half c.args.brush.begin c.args.brush.end c.args.points.now c.in-Ok.shapes.items
+    c.in_ok-offsets.offsets c.in_ok-offsets.ensures.ok (simp to_z-of_z at c.in-Ok.ensures.none) (simp to_z-of_z at c.in-Ok.ensures.shapes))
     c.in-Ok.ensures.outlines
 
 pub returns-in-Ok-clause-kept : goal.returns-in-Ok-clause-kept
@@ -44,13 +41,13 @@ returns c = record {
   grid = tt;
   kept = tt;
   broken = λ rule e.
-  let half : FitsSigned w64 c.args.brush.half = search rules in
-  let begin : FitsSigned w64 c.args.brush.begin = search rules in
-  let end : FitsSigned w64 c.args.brush.end = search rules in
-  let none = simp to_z-of_z at c.in-Err.ensures.none in
-  let ok = simp to_z-of_z at c.in-Err.ensures.ok in
-  let wide : c.args.brush.half ≢ pos 0 = λ zero. none zero in
-  path_broken c.args.brush.half c.args.brush.begin c.args.brush.end c.args.points.now c.in-Err.bad rule
-  (let inner : c.undrawn_path.result ≡ Rule rule = cc in sym c.undrawn_path.ensures ∙ inner) wide
-  (λ more drawable. elim (ok wide drawable) [ inl some ↦ absurd (cc) | inr wanting ↦ more (cc) ]);
+      let half : FitsSigned w64 c.args.brush.half = search rules in
+      let begin : FitsSigned w64 c.args.brush.begin = search rules in
+      let end : FitsSigned w64 c.args.brush.end = search rules in
+      let none = simp to_z-of_z at c.in-Err.ensures.none in
+      let ok = simp to_z-of_z at c.in-Err.ensures.ok in
+      let wide : c.args.brush.half ≢ pos 0 = λ zero. none zero in
+      path_broken c.args.brush.half c.args.brush.begin c.args.brush.end c.args.points.now c.in-Err.bad rule
+      (let inner : c.undrawn_path.result ≡ Rule rule = cc in sym c.undrawn_path.ensures ∙ inner) wide
+      (λ more drawable. elim (ok wide drawable) [ inl some ↦ absurd (cc) | inr wanting ↦ more (cc) ]);
 }

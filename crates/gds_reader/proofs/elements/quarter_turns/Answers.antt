@@ -1,7 +1,7 @@
 use Rattle.std.proofs.Common.{rules, FitsSigned, w64}
 use Rattle.std.proofs.lemmas.Int.{to_z-of_z}
 use Rattle.gds_reader.proofs.elements.quarter_turns.Goals as goal
-use Rattle.gds_reader.proofs.RealFacts.{turns_both, turns_value, turns_few}
+use Rattle.gds_reader.proofs.RealFacts.{turns_both, turns_value}
 
 pub returns-in-Some-clause-some : goal.returns-in-Some-clause-some
 returns-in-Some-clause-some c =

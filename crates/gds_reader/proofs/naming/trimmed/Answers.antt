@@ -1,4 +1,4 @@
-use Rattle.std.proofs.Common.{◌≡◌, ◌∙◌, arith, sym, refl, subst, length, take}
+use Rattle.std.proofs.Common.{◌≡◌, ◌∙◌, arith, sym, refl, subst, take}
 use Rattle.gds_reader.specs.Values.{without_nuls}
 use Rattle.gds_reader.proofs.naming.trimmed.Goals as goal
 use Rattle.gds_reader.proofs.naming.trimmed.Goals.{then-loop-end-test+else-bytes-end-eq0, else-loop-end-test}

@@ -1,4 +1,4 @@
-use Rattle.std.proofs.Common.{arith, ◌≡◌, ◌≤◌, ◌∙◌, ℕ, sym, ap, subst}
+use Rattle.std.proofs.Common.{arith, ◌∙◌, ap}
 use Rattle.half_grid.specs.declared.plane.Point.{Point}
 use Rattle.layout_model.specs.Grids.{grid_places}
 use Rattle.gds_reader.specs.Meaning.{step_of}

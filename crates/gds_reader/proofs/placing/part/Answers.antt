@@ -1,6 +1,6 @@
-use Rattle.std.proofs.Common.{rules, arith, ◌≡◌, ℕ, FitsSigned, w64, cond, true, false, subst, sym, ap}
-use Rattle.std.specs.Prelude.{unsigned_abs, pos, neg_ℤ, int_lt, ◌<ℤ◌, ◌≤ℤ◌}
-use Rattle.std.proofs.lemmas.Int.{to_z-of_z, ints}
+use Rattle.std.proofs.Common.{rules, FitsSigned, w64, subst, sym}
+use Rattle.std.specs.Prelude.{unsigned_abs, pos, int_lt}
+use Rattle.std.proofs.lemmas.Int.{to_z-of_z}
 use Rattle.gds_reader.specs.Steppings.{IsEvenPart, IsPartOf}
 use Rattle.gds_reader.proofs.placing.part.Goals as goal
 use Rattle.gds_reader.proofs.StepLemmas.{part_is, no_part, below_zero, not_below_zero}

@@ -17,6 +17,6 @@ pub returns-in-Ok-clause-grid : goal.returns-in-Ok-clause-grid
 returns-in-Ok-clause-grid c =
     subst AreOffsets
     (sym (
-        c.in-Ok.ensures.ok ∙ ap (λ n. grid_places n c.from-nv.result c.args.steps.across c.args.steps.upward) c.from-nu.ensures
-        ∙ ap (λ n. grid_places c.args.columns n c.args.steps.across c.args.steps.upward) c.from-nv.ensures))
+    c.in-Ok.ensures.ok ∙ ap (λ n. grid_places n c.from-nv.result c.args.steps.across c.args.steps.upward) c.from-nu.ensures
+    ∙ ap (λ n. grid_places c.args.columns n c.args.steps.across c.args.steps.upward) c.from-nv.ensures))
     c.requires.grid

@@ -1,5 +1,4 @@
-use Rattle.std.proofs.Common.{rules, FitsSigned, w64, ◌≡◌, ◌≤◌, arith, sym, subst}
-use Rattle.std.specs.Prelude.{ℤ, ◌-ℤ◌}
+use Rattle.std.proofs.Common.{rules, FitsSigned, w64, ◌≤◌, arith, sym, subst}
 use Rattle.std.proofs.lemmas.Int.{to_z-of_z}
 use Rattle.gds_reader.specs.Steppings.{IsPartOf}
 use Rattle.gds_reader.proofs.placing.step.Goals as goal
@@ -27,5 +26,5 @@ returns-in-Some-part-clause-exact c =
     let across = simp to_z-of_z at c.in-Some.ensures.part in
     let upward = simp to_z-of_z at c.in-Some-part.ensures.part in
     simp to_z-of_z (stepping c.args.count c.args.from c.args.to (record { x = c.in-Some.x; y = c.in-Some-part.y }) some
-      (subst (λ w. IsPartOf c.args.count w c.in-Some.x) c.way_between-way.ensures.x across)
-      (subst (λ w. IsPartOf c.args.count w c.in-Some-part.y) c.way_between-way.ensures.y upward))
+    (subst (λ w. IsPartOf c.args.count w c.in-Some.x) c.way_between-way.ensures.x across)
+    (subst (λ w. IsPartOf c.args.count w c.in-Some-part.y) c.way_between-way.ensures.y upward))

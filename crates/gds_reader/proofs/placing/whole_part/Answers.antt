@@ -1,4 +1,4 @@
-use Rattle.std.proofs.Common.{◌≡◌, ◌*◌, ◌%◌, ◌/◌, arith, subst, sym, ap, ◌∙◌}
+use Rattle.std.proofs.Common.{◌≡◌, ◌*◌, ◌%◌, ◌/◌, subst, sym}
 use Rattle.std.specs.Prelude.{◌≢◌}
 use Rattle.gds_reader.specs.Steppings.{IsEvenPart}
 use Rattle.gds_reader.proofs.placing.whole_part.Goals as goal

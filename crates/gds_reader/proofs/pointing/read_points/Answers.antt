@@ -1,4 +1,4 @@
-use Rattle.std.proofs.Common.{◌≡◌, ◌+◌, ◌*◌, ◌++◌, ◌∙◌, [], ◌∷◌, arith, sym, ap, subst, length, length-append}
+use Rattle.std.proofs.Common.{◌++◌, ◌∙◌, [], ◌∷◌, arith, sym, ap, subst, length, length-append}
 use Rattle.std.specs.Prelude.{All}
 use Rattle.gds_reader.specs.Values.{points_from}
 use Rattle.std.proofs.lemmas.List.Elements.{All-append, All-cons, All-nil}
@@ -14,9 +14,9 @@ loop-index-preserved c =
     let one : All IsFilePoint (next ∷ []) = All-cons IsFilePoint next [] c.point_at.ensures.grid (All-nil IsFilePoint) in
     record {
       points =
-      more ∙ ap (λ xs. xs ++ next ∷ []) before.points
-      ∙ ap (λ p. points_from c.args.bytes.now c.args.current.first c.loop-index.index ++ p ∷ []) c.point_at.ensures.point
-      ∙ sym (points_more c.args.bytes.now c.args.current.first c.loop-index.index);
+          more ∙ ap (λ xs. xs ++ next ∷ []) before.points
+          ∙ ap (λ p. points_from c.args.bytes.now c.args.current.first c.loop-index.index ++ p ∷ []) c.point_at.ensures.point
+          ∙ sym (points_more c.args.bytes.now c.args.current.first c.loop-index.index);
       grid = subst (All IsFilePoint) (sym more) (All-append IsFilePoint c.loop-index.points.items (next ∷ []) before.grid one);
       count = omega (arith, simp length-append at (ap length more), before.count);
     }

@@ -1,8 +1,6 @@
-use Rattle.std.proofs.Common.{rules, arith, Fits, w64, ◌≡◌, ◌<◌, ◌^◌, ℕ, List, [], ◌∷◌, refl, sym, subst}
-use Rattle.std.specs.Prelude.{◌≢◌, slice_index}
+use Rattle.std.proofs.Common.{rules, arith, Fits, w64, ◌≡◌, ◌<◌, ◌^◌, [], refl, sym, subst}
+use Rattle.std.specs.Prelude.{◌≢◌}
 use Rattle.std.proofs.lemmas.Grind.{common_steps}
-use Rattle.layout_model.specs.declared.pair.Pair.{Pair}
-use Rattle.gds_record.specs.Framing.{IsRecordAt}
 use Rattle.gds_record.specs.declared.kinds.Kind.TheVariants.{EndLib}
 use Rattle.gds_reader.specs.Elements.{AreSamePairs}
 use Rattle.gds_reader.specs.Readers.{AreAtMost}
@@ -73,10 +71,11 @@ ended c =
       end = end;
       allowed = λ wanted same. (
         taken_allowed c.args.bytes.now c.args.unit wanted c.records.invariant.past c.in-Ok.current
-        (c.in-Ok-take.ensures.taken c.records.invariant.past wanted same (c.records.invariant.reader_is wanted same)),
-        c.records.invariant.allowed wanted same);
+            (c.in-Ok-take.ensures.taken c.records.invariant.past wanted same (c.records.invariant.reader_is wanted same)),
+        c.records.invariant.allowed wanted same,
+      );
       reader_is = λ wanted same.
-      c.in-Ok-take.ensures.reader c.records.invariant.past wanted same (c.records.invariant.reader_is wanted same);
+          c.in-Ok-take.ensures.reader c.records.invariant.past wanted same (c.records.invariant.reader_is wanted same);
     }
 
 pub records-preserved : goal.records-preserved

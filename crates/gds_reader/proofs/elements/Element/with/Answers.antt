@@ -1,4 +1,4 @@
-use Rattle.std.proofs.Common.{rules, ◌≡◌, ℕ, List, Option, Some, None, true, false, refl, subst, sym, ap, ◌∙◌}
+use Rattle.std.proofs.Common.{rules, ◌≡◌, ℕ, Option, Some, None, refl, subst, sym}
 use Rattle.std.specs.Prelude.{IsSome}
 use Rattle.layout_model.specs.Names.{IsName}
 use Rattle.gds_record.specs.Numbers.{number_at}

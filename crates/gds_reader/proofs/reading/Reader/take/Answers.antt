@@ -1,8 +1,7 @@
 use Rattle.std.proofs.Common.{◌≡◌, ◌++◌, refl, sym, ap, ◌∙◌, inl, inr}
-use Rattle.std.specs.Prelude.{◌≢◌, IsSome}
 use Rattle.gds_record.specs.declared.kinds.Kind.TheVariants.{Xy, StrName}
 use Rattle.gds_reader.specs.Meaning.{wanted_at, cells_at}
-use Rattle.gds_reader.specs.Readers.{place_behind, next_after}
+use Rattle.gds_reader.specs.Readers.{place_behind}
 use Rattle.gds_reader.specs.Values.{KeepsRules}
 use Rattle.gds_reader.proofs.reading.Reader.take.Goals as goal
 use Rattle.gds_reader.proofs.TakeLemmas.{some_next, next_is, kind_cases}
@@ -45,8 +44,8 @@ returns-clause-reader c = λ past wanted same reader.
       names = c.in-Ok.ensures.names past reader.names;
       structure = c.in-Ok-built.ensures.structure past wanted reader.element drawn reader.structure;
       cells =
-      c.in-Ok-built.ensures.cells past wanted reader.structure
-      ∙ ap (λ cells. cells ++ cells_at c.args.bytes.now wanted past c.args.current) reader.cells;
+          c.in-Ok-built.ensures.cells past wanted reader.structure
+          ∙ ap (λ cells. cells ++ cells_at c.args.bytes.now wanted past c.args.current) reader.cells;
       cells_grid = c.in-Ok-built.ensures.grid reader.cells_grid reader.structure.shapes_grid reader.structure.placements_grid;
       counts = c.with-self.ensures c.args.bytes.now past wanted reader.counts drawn;
     }
