@@ -1,0 +1,96 @@
+-- The shapes of boundaries and paths, and why they are refused.
+use Rattle.std.proofs.Common.{◌≡◌, ℕ, ◌<◌, ◌≤◌, Bool, true, false, cond, List, [], ◌∷◌, length, get_or, refl, sym, ap, subst, ◌∙◌, inl, inr, arith}
+use Rattle.std.specs.Prelude.{All, ◌≢◌, pos, ℤ}
+use Rattle.std.specs.Ordering.{int_eq}
+use Rattle.std.proofs.lemmas.List.Elements.{All-map}
+use Rattle.half_grid.specs.declared.plane.Point.{Point}
+use Rattle.half_grid.specs.Outlines.{IsClosed}
+use Rattle.half_grid.proofs.ForCallers.{int_eq_true, int_eq_false}
+use Rattle.layout_model.specs.Layouts.{AreOffsets, IsShapeOnGrid}
+use Rattle.layout_model.specs.PathLaws.{IsOutline}
+use Rattle.layout_model.specs.Paths.{IsDrawable, drawn_path, rectangles, rectangle_shape}
+use Rattle.layout_model.specs.Slants.{IsFirstSlant}
+use Rattle.layout_model.specs.declared.paths.PathBad.{PathBad}
+use Rattle.layout_model.specs.declared.paths.PathBad.TheVariants as paths
+use Rattle.layout_model.specs.declared.pair.Pair.{Pair}
+use Rattle.layout_model.specs.declared.shapes.Shape.{Shape}
+use Rattle.gds_reader.specs.declared.drawing.Undrawn.{Undrawn}
+use Rattle.gds_reader.specs.declared.drawing.Undrawn.TheVariants as undrawn
+use Rattle.gds_reader.specs.declared.refusing.GdsBad.{GdsBad}
+use Rattle.gds_reader.specs.declared.refusing.GdsBad.TheVariants as bads
+use Rattle.gds_reader.specs.Brushes.{undrawn_by}
+use Rattle.gds_reader.specs.Meaning.{origin, path_shapes_of}
+use Rattle.gds_reader.specs.Refused.{IsRefusedBy}
+use Rattle.gds_reader.specs.Values.{KeepsBoundary, KeepsPath, IsLowest}
+use Rattle.gds_reader.proofs.GridLemmas.{origin_offsets}
+
+pub slant_lowest : (points : List Point) (k : ℕ) → 4 ≤ length points → length points ≤ 8191 → IsClosed points → IsFirstSlant points k
+    → IsLowest (KeepsBoundary points) 12
+slant_lowest points k least most closed slant = record {
+  broken = λ kept. slant.slanted (origin, origin) (kept.edges refl k (origin, origin) slant.inside);
+  lower = λ other less. record {
+    count = λ e. (least, most);
+    closed = λ e. closed;
+    edges = λ e. absurd (omega arith);
+  };
+}
+
+pub refused_by : (K : ℕ → Type 0) (at : ℕ) (u : Undrawn) (bad : GdsBad) → ((rule : ℕ) → u ≡ undrawn.Rule rule → bad ≡ bads.Value at rule)
+    → (u ≡ undrawn.NoMemory → bad ≡ bads.NoMemory) → ((rule : ℕ) → u ≡ undrawn.Rule rule → IsLowest K rule) → IsRefusedBy K at bad
+refused_by K at (undrawn.Rule rule) bad told wanting low = inr (rule, told rule refl, low rule refl)
+refused_by K at undrawn.NoMemory bad told wanting low = inl (wanting refl)
+
+-- the shapes of a path, whether it has a width or not
+pub path_items : (pair : Pair) (fixed : Bool) (half begin end : ℤ) (points : List Point) (items : List Shape) (offsets : List Point)
+    → offsets ≡ origin ∷ [] → (half ≡ pos 0 → items ≡ [])
+    → (half ≢ pos 0 → items ≡ drawn_path pair offsets fixed points half begin end)
+    → items ≡ path_shapes_of pair fixed half begin end points
+path_items pair fixed half begin end points items offsets one none some =
+    elim (int_eq half (pos 0)) as (λ v. int_eq half (pos 0) ≡ v → items ≡ cond v [] (drawn_path pair (origin ∷ []) fixed points half begin end)) [
+      | true ↦ λ e. none (int_eq_true half (pos 0) e)
+      | false ↦ λ e. some (int_eq_false half (pos 0) e) ∙ ap (λ (os : List Point). drawn_path pair os fixed points half begin end) one
+    ] refl
+
+drawn_offsets : (pair : Pair) (fixed : Bool) (half begin end : ℤ) (points : List Point)
+    → All (λ (s : Shape). s.offsets ≡ origin ∷ []) (drawn_path pair (origin ∷ []) fixed points half begin end)
+drawn_offsets pair fixed half begin end points =
+    All-map (λ (s : Shape). s.offsets ≡ origin ∷ []) (rectangle_shape pair (origin ∷ []) fixed) (rectangles points half begin end)
+    (λ k d lt. refl)
+
+grid_of : (shape : Shape) → IsOutline shape.points → shape.offsets ≡ origin ∷ [] → IsShapeOnGrid shape
+grid_of shape outline e = record {
+  closed = outline.closed;
+  edges = outline.edges;
+  near = outline.near;
+  offsets = subst AreOffsets (sym e) origin_offsets;
+}
+
+pub path_grid : (pair : Pair) (fixed : Bool) (half begin end : ℤ) (points : List Point) (items : List Shape)
+    → items ≡ path_shapes_of pair fixed half begin end points → All (λ shape. IsOutline shape.points) items → All IsShapeOnGrid items
+path_grid pair fixed half begin end points items is outlines =
+    elim (int_eq half (pos 0)) as (λ v. items ≡ cond v [] (drawn_path pair (origin ∷ []) fixed points half begin end) → All IsShapeOnGrid items) [
+      | true ↦ λ e k d lt. absurd (let none : length items ≡ 0 = ap length e in omega arith)
+      | false ↦ λ e k d lt.
+          let shapes = drawn_path pair (origin ∷ []) fixed points half begin end in
+          let within : k < length shapes = subst (λ (xs : List Shape). k < length xs) e lt in
+          let offsets : (get_or items k d).offsets ≡ origin ∷ [] =
+          subst (λ (xs : List Shape). (get_or xs k d).offsets ≡ origin ∷ []) (sym e) (drawn_offsets pair fixed half begin end points k d within) in
+          grid_of (get_or items k d) (outlines k d lt) offsets
+    ] is
+
+path_lowest : (half begin end : ℤ) (points : List Point) (rule : ℕ) → half ≢ pos 0 → ¬ IsDrawable points half begin end
+    → undrawn.Rule 14 ≡ undrawn.Rule rule → IsLowest (KeepsPath half begin end points) rule
+path_lowest half begin end points rule wide none e =
+    let same : 14 ≡ rule = cc in
+    record {
+      broken = λ kept. none (kept (sym same) wide);
+      lower = λ other less eq. absurd (omega arith);
+    }
+
+pub path_broken : (half begin end : ℤ) (points : List Point) (bad : PathBad) (rule : ℕ) → undrawn_by bad ≡ undrawn.Rule rule
+    → half ≢ pos 0 → (bad ≢ paths.NoMemory → ¬ IsDrawable points half begin end) → IsLowest (KeepsPath half begin end points) rule
+path_broken half begin end points paths.NoMemory rule e wide none = absurd (cc)
+path_broken half begin end points paths.NoLength rule e wide none = path_lowest half begin end points rule wide (none (λ x. absurd (cc))) e
+path_broken half begin end points (paths.Diagonal k) rule e wide none = path_lowest half begin end points rule wide (none (λ x. absurd (cc))) e
+path_broken half begin end points (paths.TurnBack k) rule e wide none = path_lowest half begin end points rule wide (none (λ x. absurd (cc))) e
+path_broken half begin end points paths.EmptyEnd rule e wide none = path_lowest half begin end points rule wide (none (λ x. absurd (cc))) e

@@ -1,0 +1,17 @@
+mod KindLemmas
+mod GrammarLemmas
+mod PlaceLemmas
+mod RealFacts
+mod NameLemmas
+mod PointLemmas
+mod PairLemmas
+mod GridLemmas
+mod DrawLemmas
+mod RunLemmas
+mod FaultLemmas
+mod TableLemmas
+mod BridgeLemmas
+mod TakeLemmas
+mod StepLemmas
+mod CellLemmas
+mod ReadLemmas

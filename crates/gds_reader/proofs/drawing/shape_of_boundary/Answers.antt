@@ -1,0 +1,12 @@
+use Rattle.std.proofs.Common.{◌≡◌, rules, arith, subst}
+use Rattle.half_grid.specs.Outlines.{IsClosed}
+use Rattle.gds_reader.specs.Values.{KeepsBoundary, IsLowest}
+use Rattle.gds_reader.proofs.drawing.shape_of_boundary.Goals as goal
+use Rattle.gds_reader.proofs.DrawLemmas.{slant_lowest}
+
+pub returns-in-Err-Slant-clause-broken : goal.returns-in-Err-Slant-clause-broken
+returns-in-Err-Slant-clause-broken c = λ rule e.
+    let same : 12 ≡ rule = cc in
+    let closed : IsClosed c.args.points.now = search rules in
+    subst (IsLowest (KeepsBoundary c.args.points.now)) same
+    (slant_lowest c.args.points.now c.in-Err-Slant.field-0-0 (omega arith) (omega arith) closed ((c.new.ensures.slant c.in-Err-Slant.field-0-0).0 (cc)))

@@ -1,0 +1,12 @@
+use Rattle.std.proofs.Common.{◌≡◌, ◌≤◌, length, take}
+use Rattle.gds_reader.specs.Values.{without_nuls}
+use Rattle.gds_reader.proofs.naming.trimmed.Given as goal
+
+abbrev pub invariant-loop-end : goal.invariant-loop-end
+invariant-loop-end l = record {
+  within : l.end ≤ length l.bytes;
+  same : without_nuls (take l.end l.bytes) ≡ without_nuls l.bytes;
+}
+
+abbrev pub decreases-loop-end : goal.decreases-loop-end
+decreases-loop-end l = l.end

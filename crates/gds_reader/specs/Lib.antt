@@ -1,0 +1,13 @@
+pub mod Grammar
+pub mod Past
+pub mod Values
+pub mod Meaning
+pub mod Reading
+pub mod Steps
+pub mod Elements
+pub mod Names
+pub mod Wanting
+pub mod Refused
+pub mod Steppings
+pub mod Readers
+pub mod Brushes

@@ -1,0 +1,243 @@
+//! The shapes of boundaries and paths.
+ghost use Rattle.std.specs.Prelude.{◌≡◌, ◌≤◌, ◌↔◌, ◌++◌, ℕ, pos, ◌≤ℤ◌, unsigned_abs, true, [], ◌∷◌, length, All, IsTrue, OnOk, IfOk, IfErr, Err};
+ghost use Rattle.half_grid.specs.Outlines.{IsClosed};
+ghost use Rattle.layout_model.specs.Layouts.{IsShapeOnGrid};
+ghost use Rattle.gds_reader.specs.Brushes.{brush_kept, undrawn_by, IsNearBrush};
+ghost use Rattle.layout_model.specs.PathBounds.{IsNear};
+ghost use Rattle.gds_reader.specs.declared.drawing.Undrawn.TheVariants.{Rule, NoMemory as Wanting};
+ghost use Rattle.gds_reader.specs.declared.refusing.GdsBad.TheVariants as bads;
+ghost use Rattle.gds_reader.specs.Elements.{IsFilePoint, KeepsPathOf, KeepsOf, path_kept, shapes_kept};
+ghost use Rattle.gds_reader.specs.Meaning.{boundary_shape, path_shapes_of, is_drawn};
+ghost use Rattle.gds_reader.specs.Refused.{IsRefusedBy};
+ghost use Rattle.gds_reader.specs.Values.{KeepsBoundary, KeepsPath, IsLowest, extension};
+
+use crate::elements::Element;
+use crate::refusing::GdsBad;
+use gds_record::Kind;
+use geo_stream::{List, NoMemory};
+use half_grid::Point;
+use layout_model::{Offsets, Pair, PathBad, Shape, ShapeBad, path_shapes};
+use std::alloc::Global;
+
+/// Where an element stands by itself.
+pub(crate) const ORIGIN: Point = Point { x: 0, y: 0 };
+
+/// A boundary has at least so many points.
+const LEAST: usize = 4;
+
+/// Why an element can't be drawn or placed.
+pub(crate) enum Undrawn {
+    /// It breaks this value rule.
+    Rule(u8),
+    /// Memory is wanting.
+    NoMemory,
+}
+
+impl From<NoMemory> for Undrawn {
+    ghost from_gives = { λ _ bad. bad ≡ Wanting };
+
+    fn from(_wanting: NoMemory) -> Undrawn {
+        Undrawn::NoMemory
+    }
+}
+
+fn are_same(a: Point, b: Point) -> bool
+    ensures { IsTrue result ↔ (a ≡ b) }
+{
+    a == b
+}
+
+// Whether the last point is the first; there are some.
+fn is_closed(points: &[Point]) -> bool
+    requires { 1 ≤ length points.now }
+    ensures { IsTrue result ↔ IsClosed points.now }
+{
+    are_same(points[0], points[points.len() - 1])
+}
+
+// The shape of a boundary.
+fn shape_of_boundary(alloc: Global, element: &Element, points: &[Point]) -> Result<Shape, Undrawn>
+    requires count { length points.now ≤ 8191 }
+    requires points { All IsFilePoint points.now }
+    ensures shape { IfOk result (λ shape. shape ≡ boundary_shape element.now.pair points.now) }
+    ensures grid { IfOk result IsShapeOnGrid }
+    ensures kept { IfOk result (λ _. (rule : ℕ) → KeepsBoundary points.now rule) }
+    ensures broken { (rule : ℕ) → result ≡ Err (Rule rule) → IsLowest (KeepsBoundary points.now) rule }
+{
+    if points.len() < LEAST {
+        return Err(Undrawn::Rule(10));
+    }
+    if !is_closed(points) {
+        return Err(Undrawn::Rule(11));
+    }
+    let offsets = Offsets::list(alloc, &[ORIGIN])?;
+    match Shape::new(alloc, element.pair, points, offsets) {
+        Ok(shape) => Ok(shape),
+        Err(ShapeBad::Slant(_)) => Err(Undrawn::Rule(12)),
+        Err(ShapeBad::NoMemory) => Err(Undrawn::NoMemory),
+    }
+}
+
+// The half width of a path, and how far it goes beyond its first point and its last.
+#[derive(Clone, Copy)]
+struct Brush {
+    half: i64,
+    begin: i64,
+    end: i64,
+}
+
+impl Element {
+    // Half of the path's width.
+    fn half_width(&self) -> i64
+        ensures width { result ≡ pos (unsigned_abs self.now.width) }
+        ensures low { pos 0 ≤ℤ result }
+        ensures near { IsNear result }
+    {
+        i64::from(self.width).abs()
+    }
+
+    // How far a path goes beyond a point at its end, where this extension is written.
+    fn extension(&self, written: i32) -> i64
+        ensures extension { result ≡ extension self.now.path_type (pos (unsigned_abs self.now.width)) written }
+        ensures near { IsNear result }
+    {
+        match self.path_type {
+            2 => self.half_width(),
+            4 => 2 * i64::from(written),
+            _ => 0,
+        }
+    }
+
+    fn brush(&self) -> Brush
+        ensures brush { result ≡ brush_kept self.now }
+        ensures near { IsNearBrush result }
+    {
+        Brush {
+            half: self.half_width(),
+            begin: self.extension(self.begin),
+            end: self.extension(self.end),
+        }
+    }
+}
+
+// Why a path isn't drawn: it breaks its rule, or memory is wanting.
+fn undrawn_path(bad: PathBad) -> Undrawn
+    ensures { result ≡ undrawn_by bad }
+{
+    match bad {
+        PathBad::NoMemory => Undrawn::NoMemory,
+        PathBad::NoLength | PathBad::Diagonal(_) | PathBad::TurnBack(_) | PathBad::EmptyEnd =>
+            Undrawn::Rule(14),
+    }
+}
+
+// The shapes of a path.
+fn shapes_of_path(
+    alloc: Global,
+    pair: Pair,
+    points: &[Point],
+    brush: Brush,
+    fixed: bool,
+) -> Result<Vec<Shape>, Undrawn>
+    requires points { All IsFilePoint points.now }
+    requires brush { IsNearBrush brush }
+    ensures shapes { IfOk result (λ shapes. shapes.items ≡ path_shapes_of pair fixed brush.half brush.begin brush.end points.now) }
+    ensures grid { IfOk result (λ shapes. All IsShapeOnGrid shapes.items) }
+    ensures kept { IfOk result (λ _. (rule : ℕ) → KeepsPath brush.half brush.begin brush.end points.now rule) }
+    ensures broken { (rule : ℕ) → result ≡ Err (Rule rule) → IsLowest (KeepsPath brush.half brush.begin brush.end points.now) rule }
+{
+    let Brush { half, begin, end } = brush;
+    let offsets = Offsets::list(alloc, &[ORIGIN])?;
+    match path_shapes(alloc, pair, points, half, begin, end, &offsets, fixed) {
+        Ok(shapes) => Ok(shapes),
+        Err(bad) => Err(undrawn_path(bad)),
+    }
+}
+
+/// The value rule or the want of memory, at this offset.
+pub(crate) fn bad_at(undrawn: Undrawn, at: usize) -> GdsBad
+    ensures rule { (rule : ℕ) → undrawn ≡ Rule rule → result ≡ bads.Value at rule }
+    ensures memory { undrawn ≡ Wanting → result ≡ bads.NoMemory }
+{
+    match undrawn {
+        Undrawn::Rule(rule) => GdsBad::Value(at, rule),
+        Undrawn::NoMemory => GdsBad::NoMemory,
+    }
+}
+
+fn push_all(list: &mut List<Shape>, shapes: Vec<Shape>) -> Result<(), NoMemory>
+    ensures { OnOk result (list.new ≡ list.old ++ shapes.items) }
+{
+    for shape in shapes {
+        list.push(shape)?;
+    }
+    Ok(())
+}
+
+fn draw_boundary(
+    alloc: Global,
+    element: &Element,
+    points: &[Point],
+    at: usize,
+    shapes: &mut List<Shape>,
+) -> Result<(), GdsBad>
+    requires count { length points.now ≤ 8191 }
+    requires points { All IsFilePoint points.now }
+    ensures shapes { OnOk result (shapes.new ≡ shapes.old ++ boundary_shape element.now.pair points.now ∷ []) }
+    ensures grid { All IsShapeOnGrid shapes.old → OnOk result (All IsShapeOnGrid shapes.new) }
+    ensures kept { OnOk result ((rule : ℕ) → KeepsBoundary points.now rule) }
+    ensures broken { IfErr result (IsRefusedBy (KeepsBoundary points.now) at) }
+{
+    match shape_of_boundary(alloc, element, points) {
+        Ok(shape) => {
+            shapes.push(shape)?;
+            Ok(())
+        }
+        Err(undrawn) => Err(bad_at(undrawn, at)),
+    }
+}
+
+fn draw_path(
+    alloc: Global,
+    element: &Element,
+    points: &[Point],
+    at: usize,
+    shapes: &mut List<Shape>,
+) -> Result<(), GdsBad>
+    requires points { All IsFilePoint points.now }
+    ensures shapes { OnOk result (shapes.new ≡ shapes.old ++ path_kept element.now points.now) }
+    ensures grid { All IsShapeOnGrid shapes.old → OnOk result (All IsShapeOnGrid shapes.new) }
+    ensures kept { OnOk result ((rule : ℕ) → KeepsPathOf element.now points.now rule) }
+    ensures broken { IfErr result (IsRefusedBy (KeepsPathOf element.now points.now) at) }
+{
+    let fixed = element.width < 0;
+    match shapes_of_path(alloc, element.pair, points, element.brush(), fixed) {
+        Ok(drawn) => {
+            push_all(shapes, drawn)?;
+            Ok(())
+        }
+        Err(undrawn) => Err(bad_at(undrawn, at)),
+    }
+}
+
+/// Draws an element with these points that is on a wanted pair. `at` is the offset of its XY.
+pub(crate) fn draw(
+    alloc: Global,
+    element: &Element,
+    points: &[Point],
+    at: usize,
+    shapes: &mut List<Shape>,
+) -> Result<(), GdsBad>
+    requires count { length points.now ≤ 8191 }
+    requires points { All IsFilePoint points.now }
+    ensures shapes { OnOk result (shapes.new ≡ shapes.old ++ shapes_kept element.now.kind element.now points.now) }
+    ensures grid { All IsShapeOnGrid shapes.old → OnOk result (All IsShapeOnGrid shapes.new) }
+    ensures kept { is_drawn element.now.kind ≡ true → OnOk result ((rule : ℕ) → KeepsOf element.now.kind element.now points.now rule) }
+    ensures broken { IfErr result (IsRefusedBy (KeepsOf element.now.kind element.now points.now) at) }
+{
+    match element.kind {
+        Some(Kind::Boundary) => draw_boundary(alloc, element, points, at, shapes),
+        Some(Kind::Path) => draw_path(alloc, element, points, at, shapes),
+        _ => Ok(()),
+    }
+}

@@ -1,0 +1,212 @@
+//! What is kept of the element that is being read.
+ghost use Rattle.std.specs.Prelude.{◌≡◌, ◌≤◌, ◌<◌, ◌↔◌, ◌/◌, ◌⊎◌, ℕ, pos, Some, IsSome, IfSome, IfNone, IsTrue, List, ◌∷◌};
+ghost use Rattle.gds_record.specs.Reals.{sign_of};
+ghost use Rattle.gds_record.specs.declared.kinds.Kind.TheVariants.{Sref, Aref};
+ghost use Rattle.gds_record.specs.declared.records.Record.{Record as ARecord};
+ghost use Rattle.gds_reader.specs.Elements.{IsHeld, IsElementOf, IsTurn, new_element};
+ghost use Rattle.gds_reader.specs.Values.{name_in, magnitude_of, turns_of, IsFactor, IsQuarterAngle, KeepsRules};
+ghost use Rattle.layout_model.specs.Images.{IsOrient};
+ghost use Rattle.layout_model.specs.declared.pair.Pair.{Pair as APair};
+
+use gds_record::{Kind, Record, int4, int8, real_whole, unsigned2};
+use layout_model::{Orient, Pair};
+
+/// What the records of an element say, those so far.
+#[derive(Clone, Copy)]
+pub(crate) struct Element {
+    /// The kind of its first record. None before the first element of the file.
+    pub(crate) kind: Option<Kind>,
+    /// LAYER and DATATYPE.
+    pub(crate) pair: Pair,
+    /// The record with the name of the placed structure.
+    pub(crate) target: Option<Record>,
+    pub(crate) path_type: u16,
+    /// Below 0 where it is absolute.
+    pub(crate) width: i32,
+    pub(crate) begin: i32,
+    pub(crate) end: i32,
+    /// STRANS, MAG and ANGLE of a reference.
+    pub(crate) orient: Orient,
+    pub(crate) columns: u16,
+    pub(crate) rows: u16,
+}
+
+// The number where it is 1 to 16.
+fn factor_in(n: i64) -> Option<u8>
+    ensures some { IfSome result (λ factor. (n ≡ pos factor) × (1 ≤ factor) × (factor ≤ 16)) }
+    ensures none { IfNone result ((factor : ℕ) → n ≡ pos factor → 1 ≤ factor → factor ≤ 16 → ⊥) }
+{
+    if n < 1 {
+        return None;
+    }
+    if n > 16 {
+        return None;
+    }
+    Some(n as u8)
+}
+
+/// The factor of a MAG: a whole number from 1 to 16.
+pub(crate) fn factor_of(bits: u64) -> Option<u8>
+    ensures some { IsSome result ↔ IsFactor bits }
+    ensures value { IfSome result (λ n. n ≡ magnitude_of bits) }
+    ensures bounds { IfSome result (λ n. (1 ≤ n) × (n ≤ 16)) }
+{
+    match real_whole(bits) {
+        Some(n) => factor_in(n),
+        None => None,
+    }
+}
+
+// The quarter turns counterclockwise of a multiple of 90 degrees from -360 to 360.
+fn turns_in(degrees: i64) -> Option<u8>
+    ensures some { IfSome result (λ turns. IsTurn degrees turns) }
+    ensures none { IfNone result ((turns : ℕ) → ¬ IsTurn degrees turns) }
+{
+    if degrees == 0 || degrees == 360 || degrees == -360 {
+        return Some(0);
+    }
+    if degrees == 90 || degrees == -270 {
+        return Some(1);
+    }
+    if degrees == 180 || degrees == -180 {
+        return Some(2);
+    }
+    if degrees == 270 || degrees == -90 {
+        return Some(3);
+    }
+    None
+}
+
+/// The quarter turns of an ANGLE: those of a multiple of 90 degrees from -360 to 360.
+pub(crate) fn quarter_turns(bits: u64) -> Option<u8>
+    ensures some { IsSome result ↔ IsQuarterAngle bits }
+    ensures value { IfSome result (λ turns. turns ≡ turns_of (sign_of bits) (magnitude_of bits / 90)) }
+    ensures few { IfSome result (λ turns. turns < 4) }
+{
+    match real_whole(bits) {
+        Some(degrees) => turns_in(degrees),
+        None => None,
+    }
+}
+
+const PLAIN: Orient = Orient {
+    flip: false,
+    turns: 0,
+    mag: 1,
+};
+
+impl Element {
+    /// An element that begins with a record of this kind.
+    pub(crate) fn new(kind: Option<Kind>) -> Element
+        ensures { result ≡ new_element kind }
+    {
+        Element {
+            kind,
+            pair: Pair {
+                layer: 0,
+                datatype: 0,
+            },
+            target: None,
+            path_type: 0,
+            width: 0,
+            begin: 0,
+            end: 0,
+            orient: PLAIN,
+            columns: 0,
+            rows: 0,
+        }
+    }
+
+    /// Whether it places a structure.
+    pub(crate) fn is_reference(&self) -> bool
+        ensures { IsTrue result ↔ ((self.now.kind ≡ Some Sref) ⊎ (self.now.kind ≡ Some Aref)) }
+    {
+        matches!(self.kind, Some(Kind::Sref | Kind::Aref))
+    }
+
+    /// The element with one more record, or the next element where one begins.
+    pub(crate) fn with(self, bytes: &[u8], current: Record) -> Element
+        requires { IsHeld bytes.now current }
+        ensures element { (past : List ARecord) (wanted : List APair) → IsElementOf bytes.now past self → KeepsRules bytes.now wanted past current
+            → IsElementOf bytes.now (current ∷ past) result }
+        ensures orient { IsOrient self.orient → IsOrient result.orient }
+    {
+        let first = current.first;
+        match current.kind {
+            Kind::Boundary
+            | Kind::Path
+            | Kind::Sref
+            | Kind::Aref
+            | Kind::Text
+            | Kind::Node
+            | Kind::Box => Element::new(Some(current.kind)),
+            Kind::Layer => {
+                let layer = u64::from(unsigned2(bytes, first));
+                Element {
+                    pair: Pair { layer, ..self.pair },
+                    ..self
+                }
+            }
+            Kind::DataType => {
+                let datatype = u64::from(unsigned2(bytes, first));
+                Element {
+                    pair: Pair {
+                        datatype,
+                        ..self.pair
+                    },
+                    ..self
+                }
+            }
+            Kind::Sname => Element {
+                target: Some(current),
+                ..self
+            },
+            Kind::PathType => Element {
+                path_type: unsigned2(bytes, first),
+                ..self
+            },
+            Kind::Width => Element {
+                width: int4(bytes, first),
+                ..self
+            },
+            Kind::BgnExtn => Element {
+                begin: int4(bytes, first),
+                ..self
+            },
+            Kind::EndExtn => Element {
+                end: int4(bytes, first),
+                ..self
+            },
+            Kind::Strans => Element {
+                orient: Orient {
+                    flip: unsigned2(bytes, first) >= 0x8000,
+                    ..self.orient
+                },
+                ..self
+            },
+            Kind::Mag => match factor_of(int8(bytes, first)) {
+                Some(mag) => Element {
+                    orient: Orient { mag, ..self.orient },
+                    ..self
+                },
+                None => self,
+            },
+            Kind::Angle => match quarter_turns(int8(bytes, first)) {
+                Some(turns) => Element {
+                    orient: Orient {
+                        turns,
+                        ..self.orient
+                    },
+                    ..self
+                },
+                None => self,
+            },
+            Kind::ColRow => Element {
+                columns: unsigned2(bytes, first),
+                rows: unsigned2(bytes, first + 2),
+                ..self
+            },
+            _ => self,
+        }
+    }
+}

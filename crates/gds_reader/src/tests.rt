@@ -1,0 +1,427 @@
+//! Files by their records, and the first fault of bytes that hold no layout.
+use crate::{GdsBad, read_gds};
+use half_grid::Point;
+use layout_model::{Counts, Layout, Orient, Pair};
+use std::alloc::Global;
+use std::test::Fail;
+
+// A library with the beginning of one structure, TOP.
+const HEAD: [u8; 96] = [
+    0x00, 0x06, 0x00, 0x02, 0x02, 0x58, // HEADER, version 600
+    0x00, 0x1C, 0x01, 0x02, 0, 0, 0, 0, 0, 0, 0, 0, 0, 0, 0, 0, // BGNLIB
+    0, 0, 0, 0, 0, 0, 0, 0, 0, 0, 0, 0, //
+    0x00, 0x06, 0x02, 0x06, 0x4C, 0x00, // LIBNAME
+    0x00, 0x14, 0x03, 0x05, 0x3E, 0x41, 0x89, 0x37, 0x4B, 0xC6, 0xA7, 0xF0, // UNITS
+    0x39, 0x44, 0xB8, 0x2F, 0xA0, 0x9B, 0x5A, 0x54, //
+    0x00, 0x1C, 0x05, 0x02, 0, 0, 0, 0, 0, 0, 0, 0, 0, 0, 0, 0, // BGNSTR
+    0, 0, 0, 0, 0, 0, 0, 0, 0, 0, 0, 0, //
+    0x00, 0x08, 0x06, 0x06, 0x54, 0x4F, 0x50, 0x00, // STRNAME
+];
+
+const TAIL: [u8; 8] = [
+    0x00, 0x04, 0x07, 0x00, // ENDSTR
+    0x00, 0x04, 0x04, 0x00, // ENDLIB
+];
+
+const WANTED: [Pair; 3] = [
+    Pair {
+        layer: 7,
+        datatype: 7,
+    },
+    Pair {
+        layer: 1,
+        datatype: 0,
+    },
+    Pair {
+        layer: 0,
+        datatype: 3,
+    },
+];
+
+const BOUNDARY: &[u8] = b"\x00\x04\x08\x00";
+
+const PATH: &[u8] = b"\x00\x04\x09\x00";
+
+const SREF: &[u8] = b"\x00\x04\x0A\x00";
+
+const AREF: &[u8] = b"\x00\x04\x0B\x00";
+
+const TEXT: &[u8] = b"\x00\x04\x0C\x00";
+
+const NODE: &[u8] = b"\x00\x04\x15\x00";
+
+const BOX: &[u8] = b"\x00\x04\x2D\x00";
+
+const ENDEL: &[u8] = b"\x00\x04\x11\x00";
+
+const ELFLAGS: &[u8] = b"\x00\x06\x26\x01\x00\x00";
+
+const PLEX: &[u8] = b"\x00\x08\x2F\x03\x00\x00\x00\x00";
+
+const LAYER: &[u8] = b"\x00\x06\x0D\x02\x00\x01";
+
+const OTHER: &[u8] = b"\x00\x06\x0D\x02\x00\x02";
+
+const DATATYPE: &[u8] = b"\x00\x06\x0E\x02\x00\x00";
+
+const NODETYPE: &[u8] = b"\x00\x06\x2A\x02\x00\x00";
+
+const BOXTYPE: &[u8] = b"\x00\x06\x2E\x02\x00\x00";
+
+const ATTRIBUTE: &[u8] = b"\x00\x06\x2B\x02\x00\x01";
+
+const VALUE: &[u8] = b"\x00\x06\x2C\x06\x41\x00";
+
+const SNAME: &[u8] = b"\x00\x06\x12\x06\x41\x00";
+
+const STRANS: &[u8] = b"\x00\x06\x1A\x01\x80\x00";
+
+const COLROW: &[u8] = b"\x00\x08\x13\x02\x00\x03\x00\x02";
+
+const POINT: &[u8] = b"\x00\x0C\x10\x03\x00\x00\x00\x64\x00\x00\x00\xC8";
+// The square from (0, 0) to (10, 10).
+const SQUARE: &[u8] = &[
+    0x00, 0x2C, 0x10, 0x03, 0, 0, 0, 0, 0, 0, 0, 0, // (0, 0)
+    0, 0, 0, 0, 0, 0, 0, 10, 0, 0, 0, 10, 0, 0, 0, 10, // (0, 10), (10, 10)
+    0, 0, 0, 10, 0, 0, 0, 0, 0, 0, 0, 0, 0, 0, 0, 0, // (10, 0), (0, 0)
+];
+
+// (0, 0), (0, 10), (10, 10), (10, 0)
+const OPEN: &[u8] = &[
+    0x00, 0x24, 0x10, 0x03, 0, 0, 0, 0, 0, 0, 0, 0, // (0, 0)
+    0, 0, 0, 0, 0, 0, 0, 10, 0, 0, 0, 10, 0, 0, 0, 10, // (0, 10), (10, 10)
+    0, 0, 0, 10, 0, 0, 0, 0, // (10, 0)
+];
+
+// (0, 0), (0, 10), (10, 11), (0, 0)
+const SLANTED: &[u8] = &[
+    0x00, 0x24, 0x10, 0x03, 0, 0, 0, 0, 0, 0, 0, 0, // (0, 0)
+    0, 0, 0, 0, 0, 0, 0, 10, 0, 0, 0, 10, 0, 0, 0, 11, // (0, 10), (10, 11)
+    0, 0, 0, 0, 0, 0, 0, 0, // (0, 0)
+];
+
+// From (0, 0) to (100, 0).
+const LINE: &[u8] = &[
+    0x00, 0x14, 0x10, 0x03, 0, 0, 0, 0, 0, 0, 0, 0, 0, 0, 0, 100, 0, 0, 0, 0,
+];
+
+// The origin, three columns and two rows of an array.
+const ARRAY: &[u8] = &[
+    0x00, 0x1C, 0x10, 0x03, 0, 0, 0, 100, 0, 0, 0, 200, // (100, 200)
+    0, 0, 0, 130, 0, 0, 0, 200, 0, 0, 0, 100, 0, 0, 0, 240, // (130, 200), (100, 240)
+];
+
+// The same with columns that don't divide.
+const UNEVEN: &[u8] = &[
+    0x00, 0x1C, 0x10, 0x03, 0, 0, 0, 100, 0, 0, 0, 200, // (100, 200)
+    0, 0, 0, 131, 0, 0, 0, 200, 0, 0, 0, 100, 0, 0, 0, 240, // (131, 200), (100, 240)
+];
+
+// The file with these records in its structure.
+fn file_of(alloc: Global, records: &[&[u8]]) -> Result<Vec<u8>, Fail> {
+    let mut bytes = Vec::new(alloc);
+    bytes.extend_from_slice(&HEAD)?;
+    for record in records {
+        bytes.extend_from_slice(record)?;
+    }
+    bytes.extend_from_slice(&TAIL)?;
+    Ok(bytes)
+}
+
+fn refusal(alloc: Global, records: &[&[u8]]) -> Result<Option<GdsBad>, Fail> {
+    Ok(read_gds(alloc, &file_of(alloc, records)?, 1000, &WANTED).err())
+}
+
+fn layout_of(alloc: Global, records: &[&[u8]]) -> Result<Layout, Fail> {
+    let layout = read_gds(alloc, &file_of(alloc, records)?, 1000, &WANTED)
+        .ok()
+        .ok_or("refused")?;
+    Ok(layout)
+}
+
+#[test]
+fn reads_shapes(rt: HostRuntime) -> Result<(), Fail> {
+    let records = [
+        BOUNDARY, LAYER, DATATYPE, SQUARE, ENDEL, BOUNDARY, OTHER, DATATYPE, LINE, ENDEL, NODE,
+        LAYER, NODETYPE, LINE, ENDEL, BOX, LAYER, BOXTYPE, SQUARE, ENDEL, TEXT, POINT, STRANS,
+        LAYER, ATTRIBUTE, VALUE, ENDEL,
+    ];
+    let layout = layout_of(rt.alloc(), &records)?;
+    let counts = Counts {
+        kept: 1,
+        other: 1,
+        texts: 1,
+        nodes: 1,
+        boxes: 1,
+        properties: 1,
+    };
+    assert_eq!(rt; layout.counts, counts);
+    let cells = layout.cells.as_slice();
+    assert_eq!(rt; cells.len(), 1);
+    assert_eq!(rt; cells[0].name.bytes(), b"TOP".as_slice());
+    let shapes = cells[0].shapes.as_slice();
+    assert_eq!(rt; shapes.len(), 1);
+    let ring = [
+        Point { x: 0, y: 0 },
+        Point { x: 0, y: 20 },
+        Point { x: 20, y: 20 },
+        Point { x: 20, y: 0 },
+        Point { x: 0, y: 0 },
+    ];
+    assert_eq!(rt; shapes[0].points.as_slice(), ring.as_slice());
+    assert!(rt; !shapes[0].fixed && shapes[0].pair == WANTED[1]);
+    Ok(())
+}
+
+// Type 2 and the width -20, by hand: half a width further at both ends, and not to be enlarged.
+#[test]
+fn reads_a_path(rt: HostRuntime) -> Result<(), Fail> {
+    let records = [
+        PATH,
+        ELFLAGS,
+        PLEX,
+        LAYER,
+        DATATYPE,
+        b"\x00\x06\x21\x02\x00\x02".as_slice(),
+        b"\x00\x08\x0F\x03\xFF\xFF\xFF\xEC".as_slice(),
+        LINE,
+        ENDEL,
+    ];
+    let layout = layout_of(rt.alloc(), &records)?;
+    let cells = layout.cells.as_slice();
+    assert_eq!(rt; cells.len(), 1);
+    let shapes = cells[0].shapes.as_slice();
+    assert_eq!(rt; shapes.len(), 1);
+    let points = shapes[0].points.as_slice();
+    assert_eq!(rt; points.len(), 5);
+    assert_eq!(rt; points[0], Point { x: -20, y: -20 });
+    assert_eq!(rt; points[2], Point { x: 220, y: 20 });
+    assert!(rt; shapes[0].fixed);
+    Ok(())
+}
+
+#[test]
+fn reads_an_array(rt: HostRuntime) -> Result<(), Fail> {
+    let records = [
+        AREF,
+        SNAME,
+        STRANS,
+        b"\x00\x0C\x1B\x05\x41\x20\x00\x00\x00\x00\x00\x00".as_slice(),
+        b"\x00\x0C\x1C\x05\x43\x10\xE0\x00\x00\x00\x00\x00".as_slice(),
+        COLROW,
+        ARRAY,
+        ENDEL,
+    ];
+    let layout = layout_of(rt.alloc(), &records)?;
+    let cells = layout.cells.as_slice();
+    assert_eq!(rt; cells.len(), 1);
+    let placements = cells[0].placements.as_slice();
+    assert_eq!(rt; placements.len(), 1);
+    let orient = Orient {
+        flip: true,
+        turns: 3,
+        mag: 2,
+    };
+    assert_eq!(rt; placements[0].orient, orient);
+    assert_eq!(rt; placements[0].at, Point { x: 200, y: 400 });
+    assert_eq!(rt; placements[0].target.bytes(), b"A".as_slice());
+    let offsets = &placements[0].offsets;
+    assert_eq!(rt; offsets.count(), 6);
+    assert_eq!(rt; offsets.nth(1), Point { x: 20, y: 0 });
+    assert_eq!(rt; offsets.nth(3), Point { x: 0, y: 40 });
+    Ok(())
+}
+
+#[test]
+fn refuses_out_of_order(rt: HostRuntime) -> Result<(), Fail> {
+    // PLEX twice, PLEX before ELFLAGS, no LAYER, DATATYPE of a box, PROPVALUE alone
+    let at_104 = [PLEX, PLEX, LAYER];
+    assert_eq!(rt;
+        refusal(rt.alloc(), &[BOUNDARY, PLEX, PLEX])?,
+        Some(GdsBad::Order(108))
+    );
+    assert_eq!(rt;
+        refusal(rt.alloc(), &[BOUNDARY, PLEX, ELFLAGS])?,
+        Some(GdsBad::Order(108))
+    );
+    assert_eq!(rt;
+        refusal(rt.alloc(), &[BOUNDARY, DATATYPE])?,
+        Some(GdsBad::Order(100))
+    );
+    assert_eq!(rt;
+        refusal(rt.alloc(), &[BOX, LAYER, DATATYPE])?,
+        Some(GdsBad::Order(106))
+    );
+    assert_eq!(rt;
+        refusal(rt.alloc(), &[TEXT, VALUE])?,
+        Some(GdsBad::Order(100))
+    );
+    assert_eq!(rt; refusal(rt.alloc(), &at_104)?, Some(GdsBad::Order(96)));
+    Ok(())
+}
+
+#[test]
+fn refuses_values(rt: HostRuntime) -> Result<(), Fail> {
+    let absolute = b"\x00\x06\x1A\x01\x00\x04".as_slice();
+    let magnified = b"\x00\x0C\x1B\x05\x42\x11\x00\x00\x00\x00\x00\x00".as_slice();
+    let most = b"\x00\x0C\x1B\x05\x42\x10\x00\x00\x00\x00\x00\x00".as_slice();
+    let slanted = b"\x00\x0C\x1C\x05\x42\x2D\x00\x00\x00\x00\x00\x00".as_slice();
+    let blank = b"\x00\x06\x12\x06\x00\x00".as_slice();
+    let columns = b"\x00\x08\x13\x02\x00\x00\x00\x02".as_slice();
+    let round = b"\x00\x06\x21\x02\x00\x01".as_slice();
+    let wide = b"\x00\x08\x0F\x03\x00\x00\x00\x14".as_slice();
+    let plain = b"\x00\x06\x1A\x01\x00\x00".as_slice();
+    assert_eq!(rt;
+        refusal(rt.alloc(), &[SREF, blank])?,
+        Some(GdsBad::Value(100, 2))
+    );
+    assert_eq!(rt;
+        refusal(rt.alloc(), &[SREF, SNAME, absolute])?,
+        Some(GdsBad::Value(106, 3))
+    );
+    assert_eq!(rt;
+        refusal(rt.alloc(), &[SREF, SNAME, plain, magnified])?,
+        Some(GdsBad::Value(112, 4))
+    );
+    assert_eq!(rt;
+        refusal(rt.alloc(), &[SREF, SNAME, plain, most, slanted])?,
+        Some(GdsBad::Value(124, 5))
+    );
+    assert_eq!(rt;
+        refusal(rt.alloc(), &[AREF, SNAME, columns])?,
+        Some(GdsBad::Value(106, 6))
+    );
+    assert_eq!(rt;
+        refusal(rt.alloc(), &[SREF, SNAME, LINE])?,
+        Some(GdsBad::Value(106, 7))
+    );
+    assert_eq!(rt;
+        refusal(rt.alloc(), &[AREF, SNAME, COLROW, LINE])?,
+        Some(GdsBad::Value(114, 8))
+    );
+    assert_eq!(rt;
+        refusal(rt.alloc(), &[AREF, SNAME, COLROW, UNEVEN])?,
+        Some(GdsBad::Value(114, 9))
+    );
+    assert_eq!(rt;
+        refusal(rt.alloc(), &[BOUNDARY, LAYER, DATATYPE, LINE])?,
+        Some(GdsBad::Value(112, 10))
+    );
+    assert_eq!(rt;
+        refusal(rt.alloc(), &[BOUNDARY, LAYER, DATATYPE, OPEN])?,
+        Some(GdsBad::Value(112, 11))
+    );
+    assert_eq!(rt;
+        refusal(rt.alloc(), &[BOUNDARY, LAYER, DATATYPE, SLANTED])?,
+        Some(GdsBad::Value(112, 12))
+    );
+    assert_eq!(rt;
+        refusal(rt.alloc(), &[BOUNDARY, OTHER, DATATYPE, SLANTED, ENDEL])?,
+        None
+    );
+    assert_eq!(rt;
+        refusal(rt.alloc(), &[PATH, LAYER, DATATYPE, wide, SLANTED])?,
+        Some(GdsBad::Value(120, 14))
+    );
+    assert_eq!(rt;
+        refusal(rt.alloc(), &[PATH, LAYER, DATATYPE, SLANTED, ENDEL])?,
+        None
+    );
+    assert_eq!(rt;
+        refusal(rt.alloc(), &[PATH, LAYER, DATATYPE, round])?,
+        Some(GdsBad::Value(112, 13))
+    );
+    assert_eq!(rt;
+        refusal(rt.alloc(), &[PATH, OTHER, DATATYPE, round, LINE, ENDEL])?,
+        None
+    );
+    Ok(())
+}
+
+fn refusal_of(alloc: Global, bytes: &[u8], unit: u32) -> Option<GdsBad> {
+    read_gds(alloc, bytes, unit, &WANTED).err()
+}
+
+#[test]
+fn refuses_files(rt: HostRuntime) -> Result<(), Fail> {
+    assert_eq!(rt; refusal_of(rt.alloc(), &[], 1000), Some(GdsBad::Short(0)));
+    assert_eq!(rt;
+        refusal_of(rt.alloc(), b"\x00\x03\x00\x02", 1000),
+        Some(GdsBad::Length(0))
+    );
+    assert_eq!(rt;
+        refusal_of(rt.alloc(), b"\x00\x06\x00\x03\x00\x00", 1000),
+        Some(GdsBad::Kind(0))
+    );
+    assert_eq!(rt;
+        refusal_of(rt.alloc(), b"\x00\x04\x00\x02", 1000),
+        Some(GdsBad::Size(0))
+    );
+    let mut bytes = file_of(rt.alloc(), &[])?;
+    assert_eq!(rt; refusal_of(rt.alloc(), &bytes, 1000), None);
+    assert_eq!(rt;
+        refusal_of(rt.alloc(), &bytes, 2000),
+        Some(GdsBad::Unit(0x3944B82FA09B5A54))
+    );
+    bytes.extend_from_slice(&[0, 0, 1])?;
+    assert_eq!(rt;
+        refusal_of(rt.alloc(), &bytes, 1000),
+        Some(GdsBad::Tail(106))
+    );
+    let begin =
+        b"\x00\x1C\x05\x02\x00\x00\x00\x00\x00\x00\x00\x00\x00\x00\x00\x00\x00\x00\x00\x00\x00\x00\x00\x00\x00\x00\x00\x00".as_slice();
+    let again = b"\x00\x0A\x06\x06TOP\x00\x00\x00".as_slice();
+    let end = b"\x00\x04\x07\x00".as_slice();
+    assert_eq!(rt;
+        refusal(rt.alloc(), &[end, begin, again])?,
+        Some(GdsBad::Twice(88, 128))
+    );
+    Ok(())
+}
+
+// A reference with the real of MAG, or of ANGLE.
+fn refusal_of_real(alloc: Global, head: &[u8], real: &[u8]) -> Result<Option<GdsBad>, Fail> {
+    refusal(alloc, &[SREF, SNAME, STRANS, head, real, POINT, ENDEL])
+}
+
+#[test]
+fn judges_reals(rt: HostRuntime) -> Result<(), Fail> {
+    let mag = b"\x00\x0C\x1B\x05".as_slice();
+    let rows: [(&[u8], Option<GdsBad>); 5] = [
+        (b"\x41\x10\x00\x00\x00\x00\x00\x00", None),
+        (b"\x42\x10\x00\x00\x00\x00\x00\x00", None),
+        (
+            b"\x42\x11\x00\x00\x00\x00\x00\x00",
+            Some(GdsBad::Value(112, 4)),
+        ),
+        (
+            b"\x40\x80\x00\x00\x00\x00\x00\x00",
+            Some(GdsBad::Value(112, 4)),
+        ),
+        (
+            b"\xC1\x10\x00\x00\x00\x00\x00\x00",
+            Some(GdsBad::Value(112, 4)),
+        ),
+    ];
+    for (real, bad) in rows {
+        assert_eq!(rt; refusal_of_real(rt.alloc(), mag, real)?, bad);
+    }
+    let angle = b"\x00\x0C\x1C\x05".as_slice();
+    let rows: [(&[u8], Option<GdsBad>); 5] = [
+        (b"\xC3\x16\x80\x00\x00\x00\x00\x00", None),
+        (b"\x43\x16\x80\x00\x00\x00\x00\x00", None),
+        (b"\x42\x5A\x00\x00\x00\x00\x00\x00", None),
+        (
+            b"\x42\x2D\x00\x00\x00\x00\x00\x00",
+            Some(GdsBad::Value(112, 5)),
+        ),
+        (
+            b"\x43\x1C\x20\x00\x00\x00\x00\x00",
+            Some(GdsBad::Value(112, 5)),
+        ),
+    ];
+    for (real, bad) in rows {
+        assert_eq!(rt; refusal_of_real(rt.alloc(), angle, real)?, bad);
+    }
+    Ok(())
+}
