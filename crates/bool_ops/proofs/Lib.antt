@@ -1,0 +1,3 @@
+mod BalanceLemmas
+mod TakingLemmas
+mod RowsLemmas

@@ -1,0 +1,6 @@
+use Rattle.std.proofs.Common.{sym, subst}
+use Rattle.half_grid.specs.Outlines.{HasGridEdges}
+use Rattle.bool_ops.proofs.tests.a_figure_eight.Goals as goal
+
+pub pieces-requires-clause-grid : goal.pieces-requires-clause-grid
+pieces-requires-clause-grid g c = subst HasGridEdges (sym c.in-Ok.ensures.points) c.in-Ok.ensures.grid

@@ -1,0 +1,15 @@
+//! Set operations on areas: joined lists of the tiles of two lists, of edges, and of a shape.
+//!
+//! Numbers are half units.
+#![tactic(auto)]
+
+mod edges;
+mod operations;
+mod outline;
+#[cfg(test)]
+mod tests;
+mod unions;
+
+pub use operations::{Op, combine};
+pub use outline::pieces;
+pub use unions::unite;

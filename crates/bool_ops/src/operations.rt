@@ -1,0 +1,57 @@
+ghost use Rattle.std.specs.Prelude.{IfOk, ◌≡◌, ◌≢◌, ℤ, pos, not};
+ghost use Rattle.std.specs.Ordering.{int_eq};
+ghost use Rattle.bool_ops.specs.Operations.{IsJoinedOf, IsInResult, takes};
+
+use crate::edges::{are_shots, edges_of_both};
+use column_sweep::swept;
+use geo_stream::NoMemory;
+use half_grid::{Trap, Window};
+use scan_line::Rule;
+use std::alloc::Global;
+
+/// A set operation on two areas.
+#[derive(Clone, Copy, Debug, PartialEq, Eq)]
+pub enum Op {
+    /// What is in A or in B.
+    Or,
+    /// What is in both.
+    And,
+    /// What is in A and not in B.
+    Sub,
+    /// What is in just one of them.
+    Xor,
+}
+
+impl Op {
+    // Whether it takes what is in A, and is in B, as told.
+    fn takes(self, a: bool, b: bool) -> bool
+        ensures { result ≡ takes self a b }
+    {
+        match self {
+            Op::Or => a || b,
+            Op::And => a && b,
+            Op::Sub => a && !b,
+            Op::Xor => (a && !b) || (!a && b),
+        }
+    }
+}
+
+/// The joined list of the window's tiles that the operation takes: by whether a tile is in some trapezoid of `a`, and
+/// whether it is in some of `b`. Want of memory is the only refusal.
+pub fn combine(
+    alloc: Global,
+    op: Op,
+    a: &[Trap],
+    b: &[Trap],
+    window: Window,
+) -> Result<Vec<Trap>, NoMemory>
+    ensures { IfOk result (λ traps. IsJoinedOf window (IsInResult op a.now b.now window) traps.items) }
+{
+    are_shots(a);
+    are_shots(b);
+    let edges = edges_of_both(alloc, a, b)?;
+    let asked = move |first: i128, second: i128| -> bool
+        ensures { result ≡ takes op (not (int_eq first (pos 0))) (not (int_eq second (pos 0))) }
+    { op.takes(first != 0, second != 0) };
+    swept(alloc, edges, window, Rule::new(asked))
+}

@@ -1,0 +1,78 @@
+ghost use Rattle.std.specs.Prelude.{IfOk, ◌≡◌, ◌≢◌, [], ◌∷◌, All};
+ghost use Rattle.std.specs.Int.{int_min, int_max};
+ghost use Rattle.half_grid.specs.Outlines.{IsClosed, HasGridEdges};
+ghost use Rattle.half_grid.specs.Reach.{IsPointWithinReach};
+ghost use Rattle.half_grid.specs.Windows.{row_range};
+ghost use Rattle.bool_ops.specs.Operations.{AreRowsOf, ArePieces};
+
+use crate::unions::unite;
+use geo_stream::{NoMemory, gather};
+use half_grid::{Operand, Point, Trap, Window};
+use layout_model::Shape;
+use scan_line::EdgesOf;
+use std::alloc::Global;
+
+// The rows from the least to the greatest Y so far.
+#[derive(Clone, Copy)]
+struct Rows {
+    least: i64,
+    greatest: i64,
+}
+
+fn rows_of_point(p: &Point) -> Rows
+    ensures least { result.least ≡ p.now.y }
+    ensures greatest { result.greatest ≡ p.now.y }
+{
+    Rows {
+        least: p.y,
+        greatest: p.y,
+    }
+}
+
+fn rows_with(rows: &Rows, p: &Point) -> Rows
+    ensures least { result.least ≡ int_min rows.now.least p.now.y }
+    ensures greatest { result.greatest ≡ int_max rows.now.greatest p.now.y }
+{
+    Rows {
+        least: rows.least.min(p.y),
+        greatest: rows.greatest.max(p.y),
+    }
+}
+
+fn rows_from(first: Point, rest: &[Point]) -> Rows
+    ensures { AreRowsOf (first ∷ rest.now) (row_range result.least result.greatest) }
+{
+    let mut rows = rows_of_point(&first);
+    for p in rest {
+        rows = rows_with(&rows, p);
+    }
+    rows
+}
+
+// All rows of a list of points that isn't empty.
+fn window_of(points: &[Point]) -> Window
+    requires { points.now ≢ [] }
+    ensures { AreRowsOf points.now result }
+{
+    let rows = match points.split_first() {
+        Some((first, rest)) => rows_from(*first, rest),
+        None => unreachable!(),
+    };
+    match Window::new(rows.least, rows.greatest) {
+        Some(window) => window,
+        None => unreachable!(),
+    }
+}
+
+/// The joined list of the tiles in a shape's outline as it stands, moved by none of its offsets, over all its rows, by
+/// the nonzero rule. The outline is closed, on the half grid and within reach. Want of memory is the only refusal.
+pub fn pieces(alloc: Global, shape: &Shape) -> Result<Vec<Trap>, NoMemory>
+    requires closed { IsClosed shape.now.points }
+    requires grid { HasGridEdges shape.now.points }
+    requires reach { All IsPointWithinReach shape.now.points }
+    ensures { IfOk result (λ traps. ArePieces shape.now.points traps.items) }
+{
+    let points = shape.points.as_slice();
+    let edges = gather(alloc, EdgesOf::new(points, Operand::A))?;
+    unite(alloc, edges, window_of(points))
+}

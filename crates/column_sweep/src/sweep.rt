@@ -1,0 +1,43 @@
+ghost use Rattle.std.specs.Prelude.{IfOk, ◌≡◌};
+ghost use Rattle.scan_line.specs.Rules.{IsRule};
+ghost use Rattle.scan_line.specs.Runs.{IsBalanced};
+ghost use Rattle.column_sweep.specs.Sweeps.{IsSwept};
+
+use geo_stream::NoMemory;
+use half_grid::{Edge, Trap, Window};
+use scan_line::{Rule, Scan};
+use std::alloc::Global;
+use trap_join::Join;
+
+// All trapezoids of a scan that gave no slab yet.
+fn joined<F: Fn(i128, i128) -> bool + Drop>(
+    alloc: Global,
+    scan: Scan<F>,
+) -> Result<Vec<Trap>, NoMemory>
+    requires rule { IsRule (F.pre scan.rule) (F.post scan.rule) }
+    requires fresh { scan.y ≡ scan.window.y0 }
+    ensures { IfOk result (λ traps. IsSwept (F.post scan.rule) scan.edges scan.window traps.items) }
+{
+    let mut join = Join::begin(alloc, scan)?;
+    let mut traps = Vec::new(alloc);
+    while let Some(trap) = join.next()? {
+        traps.push(trap)?;
+    }
+    Ok(traps)
+}
+
+/// The joined list of the window's tiles that the rule takes. Want of memory is its only refusal. In each row of the
+/// window each operand has as many edges that go up as edges that go down.
+pub fn swept<F: Fn(i128, i128) -> bool + Drop>(
+    alloc: Global,
+    edges: Vec<Edge>,
+    window: Window,
+    rule: Rule<F>,
+) -> Result<Vec<Trap>, NoMemory>
+    requires rule { IsRule (F.pre rule) (F.post rule) }
+    requires balanced { IsBalanced edges.items window }
+    ensures { IfOk result (λ traps. IsSwept (F.post rule) edges.items window traps.items) }
+{
+    let scan = Scan::begin(alloc, edges, window, rule)?;
+    joined(alloc, scan)
+}
