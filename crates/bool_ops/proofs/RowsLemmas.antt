@@ -1,5 +1,5 @@
 -- The rows of a list of points, point by point, and tiles outside of them.
-use Rattle.std.proofs.Common.{◌≡◌, ℤ, pos, ◌≤ℤ◌, ◌<ℤ◌, List, [], ◌∷◌, ◌++◌, All, Any, ◌⊎◌, inl, inr, ◌∙◌, sym, ap, subst, refl, cond, true, false, int_lt, arith}
+use Rattle.std.proofs.Common.{◌≡◌, ℤ, pos, ◌≤ℤ◌, ◌<ℤ◌, List, [], ◌∷◌, ◌++◌, Any, ◌⊎◌, inl, inr, ◌∙◌, sym, ap, subst, refl, cond, true, false, int_lt, arith}
 use Rattle.std.proofs.lemmas.Int.{ints, clamps, by_lt_z}
 use Rattle.std.proofs.lemmas.Grind.{common_steps}
 use Rattle.std.proofs.lemmas.List.Elements.{All-push, All-weaker, All-contains, recursion_from_All}
@@ -15,7 +15,7 @@ use Rattle.half_grid.specs.declared.plane.Point.{Point}
 use Rattle.half_grid.specs.declared.plane.Tile.{Tile}
 use Rattle.half_grid.proofs.ForCallers.{closed_under, closed_over}
 use Rattle.scan_line.specs.OutlineEdges.{edges_along}
-use Rattle.scan_line.proofs.OutlineWinding.{winds_as_outline}
+use Rattle.scan_line.proofs.ForCallers.{winds_as_outline}
 use Rattle.bool_ops.specs.Operations.{AreRowsOf, IsJoinedOf, IsWoundIn, ArePieces}
 
 min_is_one : (a b : ℤ) → (int_min a b ≡ a) ⊎ (int_min a b ≡ b)

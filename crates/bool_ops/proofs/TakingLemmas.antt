@@ -1,12 +1,10 @@
 -- Whether a list has a tile, by the windings of its edges.
-use Rattle.std.proofs.Common.{◌≡◌, ◌≢◌, ℕ, zero, suc, ◌+◌, ℤ, pos, ◌+ℤ◌, Bool, true, false, ◌&&◌, ◌||◌, not, IsTrue, refl, sym, ap, ◌∙◌, List, [], ◌∷◌, ◌++◌, count_by, subst, arith}
+use Rattle.std.proofs.Common.{◌≡◌, ◌≢◌, ℤ, pos, Bool, true, not, refl, sym, ap, ◌∙◌, List, [], ◌∷◌, ◌++◌, count_by, subst, arith}
 use Rattle.std.specs.Ordering.{int_eq}
 use Rattle.std.specs.List.{All, flat_map, list_any}
-use Rattle.half_grid.specs.Winding.{count_one}
 use Rattle.half_grid.specs.Trapezoids.{Trapezoid, IsLegal, IsShot, count_in, trapezoid_has}
 use Rattle.half_grid.specs.Edges.{EdgeParts, edges_of_trapezoid, edges_winding, is_of}
 use Rattle.half_grid.specs.declared.plane.Tile.{Tile}
-use Rattle.half_grid.specs.declared.border.Operand.{Operand}
 use Rattle.half_grid.specs.declared.border.Operand.TheVariants.{A, B}
 use Rattle.half_grid.proofs.ForCallers.{count_by-cons, windings_add, winding_is_count, operands_apart}
 use Rattle.std.proofs.lemmas.Int.{ints}

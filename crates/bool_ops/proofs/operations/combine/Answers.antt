@@ -1,4 +1,4 @@
-use Rattle.std.proofs.Common.{◌≡◌, sym, subst, ap, refl}
+use Rattle.std.proofs.Common.{sym, subst, ap, refl}
 use Rattle.std.proofs.lemmas.Result.{IfOk-weaker}
 use Rattle.std.specs.List.{flat_map}
 use Rattle.bool_ops.specs.Operations.{IsInResult, IsJoinedOf}

@@ -3,7 +3,7 @@ use Rattle.std.proofs.lemmas.Result.{IfOk-weaker}
 use Rattle.half_grid.specs.declared.border.Operand.TheVariants.{A}
 use Rattle.scan_line.specs.OutlineEdges.{edges_along}
 use Rattle.scan_line.specs.Runs.{IsBalancedAt}
-use Rattle.scan_line.proofs.OutlineWinding.{outline_is_balanced}
+use Rattle.scan_line.proofs.ForCallers.{outline_is_balanced}
 use Rattle.bool_ops.specs.Operations.{AreRowsOf, ArePieces}
 use Rattle.bool_ops.proofs.RowsLemmas.{pieces_are}
 use Rattle.bool_ops.proofs.outline.pieces.Goals as goal

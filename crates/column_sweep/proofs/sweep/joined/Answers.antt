@@ -1,9 +1,8 @@
-use Rattle.std.proofs.Common.{◌≡◌, ℤ, Bool, List, [], ◌∷◌, ◌++◌, ◌∙◌, sym, subst}
-use Rattle.half_grid.specs.Edges.{EdgeParts}
+use Rattle.std.proofs.Common.{ℤ, Bool, List, ◌++◌, ◌∙◌, sym, subst}
 use Rattle.half_grid.specs.JoinedLists.{IsJoined}
-use Rattle.half_grid.specs.Trapezoids.{Trapezoid, CoversExactly}
+use Rattle.half_grid.specs.Trapezoids.{Trapezoid}
 use Rattle.half_grid.specs.Windows.{RowRange}
-use Rattle.trap_join.specs.Joins.{IsTakenIn, IsJoinedSoFar}
+use Rattle.trap_join.specs.Joins.{IsJoinedSoFar}
 use Rattle.trap_join.proofs.ForCallers.{moved_rule, moved_cover}
 use Rattle.column_sweep.proofs.sweep.joined.Goals as goal
 
