@@ -1,5 +1,5 @@
-use Rattle.std.proofs.Common.{◌≡◌, ◌∙◌, sym, refl, arith, Some, None}
-use Rattle.scan_line.specs.OutlineEdges.{edges_along, first_edge}
+use Rattle.std.proofs.Common.{◌∙◌, sym, refl, arith}
+use Rattle.scan_line.specs.OutlineEdges.{edges_along}
 use Rattle.scan_line.proofs.Outlining.{along_none, along_some, near_step}
 use Rattle.scan_line.proofs.edges_of.EdgesOfStream.next.Goals as goal
 
