@@ -1,5 +1,5 @@
 -- The windings and the balance of the parts of edges in a window.
-use Rattle.std.proofs.Common.{ℕ, ℤ, ◌≡◌, ◌+◌, ◌≤ℤ◌, ◌<ℤ◌, Bool, true, false, ◌&&◌, not, cond, List, [], ◌∷◌, Option, Some, None, count_by, arith, refl, ap, sym, ◌∙◌}
+use Rattle.std.proofs.Common.{ℤ, ◌≡◌, ◌+◌, ◌≤ℤ◌, ◌<ℤ◌, Bool, true, false, ◌&&◌, not, cond, List, [], ◌∷◌, Some, None, count_by, arith, refl, ap, sym, ◌∙◌}
 use Rattle.std.specs.Prelude.{int_le, int_lt}
 use Rattle.std.specs.Int.{int_min, int_max}
 use Rattle.std.specs.List.{cons_option}
@@ -11,7 +11,7 @@ use Rattle.half_grid.specs.Winding.{count_one}
 use Rattle.half_grid.specs.declared.plane.Tile.{Tile}
 use Rattle.half_grid.specs.declared.border.Operand.{Operand}
 use Rattle.half_grid.proofs.ForCallers.{count_by-cons}
-use Rattle.scan_line.specs.ClippedEdges.{part_in, parts_in}
+use Rattle.scan_line.specs.ClippedEdges.{parts_in}
 use Rattle.scan_line.specs.Runs.{IsBalanced}
 
 -- the edge over the rows of the window

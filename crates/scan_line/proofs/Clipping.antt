@@ -1,9 +1,8 @@
 -- The parts of edges in a window.
-use Rattle.std.proofs.Common.{ℕ, ℤ, ◌≡◌, ◌≤◌, ◌≤ℤ◌, ◌<ℤ◌, Bool, true, false, List, [], ◌∷◌, Option, Some, None, refl, sym, ap, subst, ◌∙◌, length, arith}
+use Rattle.std.proofs.Common.{ℤ, ◌≡◌, ◌≤ℤ◌, ◌<ℤ◌, true, false, List, [], Option, Some, None, refl, sym, ap, subst, ◌∙◌, arith}
 use Rattle.std.specs.Prelude.{SomeIff, int_lt}
 use Rattle.std.specs.Int.{int_min, int_max}
 use Rattle.std.specs.List.{cons_option}
-use Rattle.std.specs.Option.{option_to_list}
 use Rattle.std.proofs.lemmas.Int.{ints, clamps}
 use Rattle.half_grid.specs.Edges.{EdgeParts, IsEdge, edge_parts}
 use Rattle.half_grid.specs.Windows.{RowRange}

@@ -1,20 +1,20 @@
 -- The windings of the edges of a point list, and their balance.
-use Rattle.std.proofs.Common.{ℕ, ℤ, pos, ◌≡◌, ◌≢◌, ◌+◌, ◌+ℤ◌, ◌-ℤ◌, ◌≤ℤ◌, ◌<ℤ◌, ◌⊎◌, Bool, true, false, ◌&&◌, not, cond, List, [], ◌∷◌, Option, Some, None, All, count_by, arith, refl, inl, inr, ap, subst, sym, ◌∙◌}
+use Rattle.std.proofs.Common.{ℕ, ℤ, pos, ◌≡◌, ◌≢◌, ◌+◌, ◌+ℤ◌, ◌-ℤ◌, ◌<ℤ◌, Bool, true, false, ◌&&◌, not, List, [], ◌∷◌, Option, Some, None, count_by, arith, refl, inl, inr, ap, sym, ◌∙◌}
 use Rattle.std.specs.Prelude.{int_le, int_lt}
 use Rattle.std.specs.List.{cons_option}
 use Rattle.std.proofs.lemmas.Int.{ints, by_lt_z}
 use Rattle.std.proofs.lemmas.List.Elements.{All-head, All-tail}
-use Rattle.half_grid.specs.Edges.{EdgeParts, edges_winding, winds_up, winds_down, is_of, spans}
-use Rattle.half_grid.specs.Lines.{strip_along, first_strip, line_of}
+use Rattle.half_grid.specs.Edges.{EdgeParts, edges_winding, is_of, spans}
+use Rattle.half_grid.specs.Lines.{line_of}
 use Rattle.half_grid.specs.Outlines.{IsClosed, HasGridEdges, IsOnGrid, last_of}
-use Rattle.half_grid.specs.Winding.{winding, edges_of, crossing_of, count_one, counts_up, counts_down, is_right_of, rises_past}
+use Rattle.half_grid.specs.Winding.{winding, edges_of, crossing_of, count_one, rises_past}
 use Rattle.half_grid.specs.declared.plane.Line.{Line}
 use Rattle.half_grid.specs.declared.plane.Point.{Point}
 use Rattle.half_grid.specs.declared.plane.Tile.{Tile}
 use Rattle.half_grid.specs.declared.border.Operand.{Operand}
 use Rattle.half_grid.specs.declared.border.Operand.TheVariants.{A, B}
 use Rattle.half_grid.proofs.ForCallers.{winding-cons, count_by-cons, line_is}
-use Rattle.scan_line.specs.OutlineEdges.{edge_from, edge_on, edge_between, edges_along}
+use Rattle.scan_line.specs.OutlineEdges.{edge_from, edge_on, edges_along}
 use Rattle.scan_line.specs.Runs.{IsBalancedAt}
 use Rattle.scan_line.proofs.RowWindings.{part, winding_cons, winding_nil}
 

@@ -1,32 +1,18 @@
 //! The edges of a point list, one by one.
-ghost use Rattle.std.specs.Prelude.{◌≡◌, ◌^◌, All, length, ⊤};
+ghost use Rattle.std.specs.Prelude.{◌≡◌, ◌^◌, All, length};
 ghost use Rattle.half_grid.specs.Reach.{IsPointWithinReach};
-ghost use Rattle.scan_line.specs.OutlineEdges.{AreNear, edge_between, edges_along, first_edge};
-ghost use Rattle.scan_line.specs.OutlineStreams.{Outline-one_list, Outline-no_longer, Outline-bounded};
+ghost use Rattle.scan_line.specs.OutlineEdges.{edge_between, edges_along, first_edge};
+ghost use Rattle.scan_line.specs.OutlineStreams.{StandsForOutline, Outline-one_list, Outline-no_longer, Outline-bounded};
 
 use geo_stream::Stream;
 use half_grid::{Edge, Operand, Point, line_through};
-use std::alloc::AllocError;
 
 /// The edges of a point list that aren't horizontal: each point with the next, on the line through both.
-#[derive(Debug)]
+#[derive(Clone, Copy, Debug, Drop)]
 pub struct EdgesOf<'a> {
     points: &'a [Point],
     operand: Operand,
-    ghost near: { AreNear points.now },
 }
-
-impl<'a> Clone for EdgesOf<'a> {
-    ghost is_clone = { λ stream copy. copy ≡ stream };
-
-    ghost is_infallible = { λ _. ⊤ };
-
-    fn clone(&self) -> Result<EdgesOf<'a>, AllocError> {
-        Ok(*self)
-    }
-}
-
-impl<'a> Copy for EdgesOf<'a> {}
 
 impl<'a> EdgesOf<'a> {
     /// A stream of the edges of the list, each with this operand. The points are within reach. Where the list is
@@ -71,7 +57,7 @@ fn first_edge(point: Point, rest: &[Point], operand: Operand) -> Option<Edge>
 impl<'a> Stream for EdgesOf<'a> {
     type Item = Edge;
 
-    ghost stands_for = { λ stream edges. edges ≡ edges_along stream.operand stream.points.now };
+    ghost stands_for = { λ stream. StandsForOutline stream.operand stream.points.now };
 
     ghost size = { λ stream. length stream.points.now };
 
@@ -87,9 +73,9 @@ impl<'a> Stream for EdgesOf<'a> {
         None
     }
 
-    ghost one_list = { λ stream. Outline-one_list (edges_along stream.operand stream.points.now) };
+    ghost one_list = { λ stream. Outline-one_list stream.operand stream.points.now };
 
     ghost no_longer = { λ stream. Outline-no_longer stream.operand stream.points.now };
 
-    ghost bounded = { λ stream xs p. Outline-bounded (length stream.points.now) (2 ^ 64) stream.near.few };
+    ghost bounded = { λ stream. Outline-bounded stream.operand stream.points.now };
 }

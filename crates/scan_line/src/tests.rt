@@ -6,7 +6,7 @@ ghost use Rattle.half_grid.specs.Windows.{RowRange};
 ghost use Rattle.scan_line.specs.Rules.{IsRule};
 ghost use Rattle.scan_line.specs.Runs.{IsBalanced};
 
-use crate::{EdgesOf, Rule, Run, Scan, Slab, clipped_laws, outline_laws};
+use crate::{Clipped, EdgesOf, Rule, Run, Scan, Slab, clipped_laws, outline_laws};
 use geo_stream::{NoMemory, gather};
 use half_grid::{Edge, Line, Operand, Point, Tile, Trap, Window, covers, tile_at};
 use std::alloc::Global;
@@ -360,6 +360,12 @@ fn outline_edges(alloc: Global, points: &[Point]) -> Result<Vec<Edge>, NoMemory>
     gather(alloc, EdgesOf::new(points, Operand::B))
 }
 
+fn outline_parts(alloc: Global, points: &[Point], rows: Window) -> Result<Vec<Edge>, NoMemory>
+    requires { All IsPointWithinReach points.now }
+{
+    gather(alloc, Clipped::new(EdgesOf::new(points, Operand::B), rows))
+}
+
 #[test]
 fn edges_of_a_list(rt: HostRuntime) -> Result<(), Fail> {
     outline_laws();
@@ -370,5 +376,14 @@ fn edges_of_a_list(rt: HostRuntime) -> Result<(), Fail> {
     let upright = Edge::new(0, 22, Line::Upright(0), false, Operand::B).ok_or("an edge")?;
     let edges = outline_edges(alloc, points.as_slice())?;
     assert_eq!(rt; edges.as_slice(), [falling, upright].as_slice());
+    // the rows from 5 up to below 30, and rows that no edge spans
+    let rows = Window::new(5, 30).ok_or("a window")?;
+    let falling = Edge::new(5, 22, Line::Falling(11), true, Operand::B).ok_or("an edge")?;
+    let upright = Edge::new(5, 22, Line::Upright(0), false, Operand::B).ok_or("an edge")?;
+    let parts = outline_parts(alloc, points.as_slice(), rows)?;
+    assert_eq!(rt; parts.as_slice(), [falling, upright].as_slice());
+    let above = Window::new(22, 30).ok_or("a window")?;
+    let none = outline_parts(alloc, points.as_slice(), above)?;
+    assert!(rt; none.is_empty());
     Ok(())
 }

@@ -1,6 +1,6 @@
 use Rattle.std.proofs.Common.{◌<ℤ◌, FitsSigned, w64, rules}
 use Rattle.std.proofs.lemmas.Int.{to_z-of_z}
-use Rattle.scan_line.proofs.Clipping.{part_none, part_some}
+use Rattle.scan_line.proofs.Clipping.{part_some}
 use Rattle.scan_line.proofs.clipped.part_in.Goals as goal
 
 pub returns : goal.returns

@@ -1,4 +1,4 @@
-use Rattle.scan_line.proofs.Clipping.{clipped_skips, clipped_takes, clipped_ends}
+use Rattle.scan_line.proofs.Clipping.{clipped_takes, clipped_ends}
 use Rattle.scan_line.proofs.clipped.ClippedStream.next.Goals as goal
 
 pub next-requires : goal.next-requires
