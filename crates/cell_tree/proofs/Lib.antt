@@ -1,0 +1,4 @@
+mod NameLemmas
+mod SlotLemmas
+mod ChainLemmas
+mod SearchLemmas
