@@ -2,3 +2,4 @@ mod NameLemmas
 mod SlotLemmas
 mod ChainLemmas
 mod SearchLemmas
+mod ResultLemmas

@@ -1,5 +1,5 @@
 -- What stands at a place of a list.
-use Rattle.std.proofs.Common.{◌≡◌, ◌≢◌, ◌⊎◌, ℕ, zero, suc, ◌+◌, ◌<◌, ◌≤◌, List, [], ◌∷◌, ◌++◌, Option, Some, None, map, length, take, drop, set, get_or, slice_get, refl, sym, ap, subst, ◌∙◌, inl, inr, arith}
+use Rattle.std.proofs.Common.{◌≡◌, ◌≢◌, ◌⊎◌, ℕ, zero, suc, ◌+◌, ◌<◌, ◌≤◌, List, [], ◌∷◌, ◌++◌, Option, Some, None, All, map, length, take, drop, set, get_or, slice_get, refl, sym, ap, subst, ◌∙◌, inl, inr, arith, zero-add}
 use Rattle.std.proofs.lemmas.Option.{none-some, same_Some, slice_get_within, get_or_from_slice_get, slice_get-get_or}
 
 pub map_slot : {A B : Type 0} (f : A → B) (xs : List A) (k : ℕ) (y : B) → slice_get (map f xs) k ≡ Some y → (x : A) × (slice_get xs k ≡ Some x) × (f x ≡ y)
@@ -44,9 +44,9 @@ pub slot_past : {A : Type 0} (xs : List A) (i : ℕ) (z : A) → length xs ≤ i
 slot_past xs i z past here = let inside = slice_get_within xs i z here in omega arith
 
 pub slot_drop : {A : Type 0} (n : ℕ) (xs : List A) (i : ℕ) → slice_get (drop n xs) i ≡ slice_get xs (n + i)
-slot_drop zero xs i = refl
+slot_drop zero xs i = ap (slice_get xs) (sym (zero-add i))
 slot_drop (suc n) [] i = refl
-slot_drop (suc n) (x ∷ xs) i = slot_drop n xs i
+slot_drop (suc n) (x ∷ xs) i = let e : suc (n + i) ≡ suc n + i = omega arith in slot_drop n xs i ∙ ap (slice_get (x ∷ xs)) e
 
 -- the element that an index gives
 pub slot_read : {A : Type 0} (xs : List A) (i : ℕ) (x : A) → i < length xs → x ≡ get_or xs i x → slice_get xs i ≡ Some x
@@ -57,3 +57,9 @@ read_slot xs i x d here = get_or_from_slice_get xs i x d here
 
 pub one_slot : {A : Type 0} (xs : List A) (i : ℕ) (x y : A) → slice_get xs i ≡ Some x → slice_get xs i ≡ Some y → x ≡ y
 one_slot xs i x y a b = same_Some x y (sym a ∙ b)
+
+pub All-from_slots : {A : Type 0} (xs : List A) (P : A → Type 0) → ((k : ℕ) (x : A) → slice_get xs k ≡ Some x → P x) → All P xs
+All-from_slots xs P holds k d inside = holds k (get_or xs k d) (slice_get-get_or xs k d inside)
+
+pub All-slot : {A : Type 0} (xs : List A) (P : A → Type 0) → All P xs → (k : ℕ) (x : A) → slice_get xs k ≡ Some x → P x
+All-slot xs P all k x here = subst P (get_or_from_slice_get xs k x x here) (all k x (slice_get_within xs k x here))
