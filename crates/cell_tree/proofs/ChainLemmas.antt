@@ -1,5 +1,6 @@
 -- Chains of placements.
 use Rattle.std.proofs.Common.{◌≡◌, ◌⊎◌, ℕ, zero, suc, ◌+◌, ◌*◌, ◌<◌, ◌≤◌, List, [], ◌∷◌, ◌++◌, Option, Some, None, map, length, take, get_or, slice_get, refl, sym, ap, subst, ◌∙◌, inl, inr, arith, mul_assoc}
+use Rattle.std.proofs.lemmas.List.{map_push}
 use Rattle.std.proofs.lemmas.Option.{none-some, same_Some, slice_get_within}
 use Rattle.layout_model.specs.declared.cells.Placement.{Placement}
 use Rattle.layout_model.specs.declared.cells.Cell.{Cell}
@@ -77,3 +78,15 @@ reach_more cells top n m reach places = reach_along cells top n (record { placem
 pub along : (P : ℕ → Type 0) (cells : List Cell) (n : ℕ) (links : List Link) → ((a b : ℕ) → P a → PlacesCell cells a b → P b) → P n → IsChain cells n links → P (chain_end n links)
 along P cells n [] step here chain = here
 along P cells n (link ∷ links) step here chain = along P cells link.cell links step (step n link.cell here (link.placement, chain.0)) chain.1
+
+-- a chain with one more link
+pub cells_pushed : (top : ℕ) (links : List Link) (link : Link) → chain_cells top (links ++ link ∷ []) ≡ chain_cells top links ++ link.cell ∷ []
+cells_pushed top links link = ap (λ cells. top ∷ cells) (map_push (λ l. l.cell) links link)
+
+pub chain_pushed : (cells : List Cell) (top n : ℕ) (links : List Link) (link : Link) → IsChain cells top links → chain_end top links ≡ n
+    → Places cells n link.placement link.cell → IsChain cells top (links ++ link ∷ [])
+chain_pushed cells top n links link chain end places =
+    chain_joined cells top links (link ∷ []) chain (subst (λ m. Places cells m link.placement link.cell) (sym end) places, tt)
+
+abbrev pub link_at : (cells : List Cell) (n k m : ℕ) → PlacesAt cells n k m → Link
+link_at cells n k m at = record { placement = (placement_of cells n k m at).placement; cell = m }

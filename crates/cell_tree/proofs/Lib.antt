@@ -3,3 +3,5 @@ mod SlotLemmas
 mod ChainLemmas
 mod SearchLemmas
 mod ResultLemmas
+mod TableLemmas
+mod HeightLemmas

@@ -11,9 +11,13 @@ IsAmong numbers n = (k : ℕ) × (slice_get numbers k ≡ Some n)
 abbrev pub IsBefore : List ℕ → ℕ → ℕ → Type 0
 IsBefore numbers j n = (k : ℕ) × (k < j) × (slice_get numbers k ≡ Some n)
 
+-- each cell stands after all that it places
+pub record IsUpward (cells : List Cell) (order : List ℕ) : Type 0 where
+  pub within : All (λ n. n < length cells) order
+  pub upward : (j n k m : ℕ) → slice_get order j ≡ Some n → PlacesAt cells n k m → IsBefore order j m
+
 -- just the reachable cells, each after all that it places
 pub record IsOrder (cells : List Cell) (top : ℕ) (order : List ℕ) : Type 0 where
-  pub within : All (λ n. n < length cells) order
+  pub is_upward : IsUpward cells order
   pub reachable : (k n : ℕ) → slice_get order k ≡ Some n → IsReachable cells top n
   pub all : (n : ℕ) → IsReachable cells top n → IsAmong order n
-  pub upward : (j n k m : ℕ) → slice_get order j ≡ Some n → PlacesAt cells n k m → IsBefore order j m
