@@ -4,7 +4,7 @@ use Rattle.std.proofs.lemmas.List.{map_push}
 use Rattle.std.proofs.lemmas.Option.{none-some, same_Some, slice_get_within}
 use Rattle.layout_model.specs.declared.cells.Placement.{Placement}
 use Rattle.layout_model.specs.declared.cells.Cell.{Cell}
-use Rattle.cell_tree.specs.Cells.{Places, PlacesCell, PlacesAt, placements_at, targets_at, cell_number}
+use Rattle.cell_tree.specs.Cells.{Places, PlacesCell, PlacesAt, placements_at, targets_at, cell_number, name_at}
 use Rattle.cell_tree.specs.Chains.{Link, IsChain, chain_cells, chain_end, chain_factor, IsReachable}
 use Rattle.cell_tree.proofs.SlotLemmas.{map_slot, slot_map}
 use Rattle.cell_tree.proofs.NameLemmas.{number_within}
@@ -90,3 +90,9 @@ chain_pushed cells top n links link chain end places =
 
 abbrev pub link_at : (cells : List Cell) (n k m : ℕ) → PlacesAt cells n k m → Link
 link_at cells n k m at = record { placement = (placement_of cells n k m at).placement; cell = m }
+
+-- the name that an index gives
+pub name_read : (cells : List Cell) (n : ℕ) (d : Cell) → n < length cells → name_at cells n ≡ (get_or cells n d).name
+name_read [] n d inside = absurd (omega arith)
+name_read (cell ∷ cells) zero d inside = refl
+name_read (cell ∷ cells) (suc n) d inside = name_read cells n d (omega arith)

@@ -5,3 +5,5 @@ mod SearchLemmas
 mod ResultLemmas
 mod TableLemmas
 mod HeightLemmas
+mod FactorLemmas
+mod FlatLemmas

@@ -56,9 +56,12 @@ pub record PlacesUnknown (cells : List Cell) (n : ℕ) (placement : Placement) :
   pub placed : slice_get (placements_at cells n) number ≡ Some placement
   pub unknown : cell_number cells placement.target ≡ None
 
--- cell n has a shape that may not be enlarged
-pub record HasFixed (cells : List Cell) (n : ℕ) : Type 0 where
+-- one of the shapes may not be enlarged
+pub record HasFixedShape (shapes : List Shape) : Type 0 where
   pub number : ℕ
   pub shape : Shape
-  pub here : slice_get (shapes_at cells n) number ≡ Some shape
+  pub here : slice_get shapes number ≡ Some shape
   pub fixed : shape.fixed ≡ true
+
+abbrev pub HasFixed : List Cell → ℕ → Type 0
+HasFixed cells n = HasFixedShape (shapes_at cells n)

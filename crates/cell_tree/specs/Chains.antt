@@ -5,7 +5,7 @@
 -- its factor is the product of its placements' factors, 1 for the empty chain. A cell is reachable where a chain of
 -- placements from the top cell ends in it. A cycle is a list of reachable cells each of which places the next, the last
 -- the first.
-use Rattle.std.specs.Prelude.{◌≡◌, ℕ, ◌+◌, ◌-◌, ◌*◌, ◌≤◌, List, [], ◌∷◌, Some, map, length, slice_get}
+use Rattle.std.specs.Prelude.{◌≡◌, ℕ, ◌+◌, ◌-◌, ◌*◌, ◌<◌, ◌≤◌, List, [], ◌∷◌, Some, map, length, slice_get}
 use Rattle.layout_model.specs.declared.cells.Placement.{Placement}
 use Rattle.layout_model.specs.declared.cells.Cell.{Cell}
 use Rattle.cell_tree.specs.Cells.{Places, PlacesCell}
@@ -40,3 +40,7 @@ pub record IsCycle (cells : List Cell) (top : ℕ) (numbers : List ℕ) : Type 0
   pub reachable : (k n : ℕ) → slice_get numbers k ≡ Some n → IsReachable cells top n
   pub onward : (k n m : ℕ) → slice_get numbers k ≡ Some n → slice_get numbers (k + 1) ≡ Some m → PlacesCell cells n m
   pub back : (n m : ℕ) → slice_get numbers (length numbers - 1) ≡ Some n → slice_get numbers 0 ≡ Some m → PlacesCell cells n m
+
+-- each chain from the cell has fewer links
+abbrev pub IsShort : List Cell → ℕ → ℕ → Type 0
+IsShort cells bound n = (links : List Link) → IsChain cells n links → length links < bound

@@ -56,11 +56,15 @@ pub record IsEnlarged (cells : List Cell) (top : ℕ) (value : ℤ) (cell : List
 abbrev pub is_beyond : ℤ → Bool
 is_beyond z = int_lt z (neg_ℤ (pos (2 ^ 30))) || int_lt (pos (2 ^ 30)) z
 
+-- the first side of a box that is beyond 2^30
+abbrev pub first_beyond : Frame → Option ℤ
+first_beyond box = find is_beyond (box.x0 ∷ box.y0 ∷ box.x1 ∷ box.y1 ∷ [])
+
 -- the first of least x, least y, greatest x and greatest y of the vertices that is beyond 2^30
 pub record IsExtent (cells : List Cell) (top : ℕ) (value : ℤ) : Type 0 where
   pub box : Frame
   pub least : IsLeastBox (λ p. (pair : Pair) × IsVertex cells top pair p) box
-  pub first : find is_beyond (box.x0 ∷ box.y0 ∷ box.x1 ∷ box.y1 ∷ []) ≡ Some value
+  pub first : first_beyond box ≡ Some value
 
 -- a reachable cell with more than 2^40 flattened shapes, while no cell that it places has more. The value is their
 -- number, or 2^128 - 1 where there are more.

@@ -9,3 +9,5 @@ pub mod Orders
 pub mod Searches
 pub mod Heights
 pub mod Factors
+pub mod HullTables
+pub mod Counting

@@ -1,5 +1,14 @@
 //! What chains of placements enlarge by.
 
+ghost use Rattle.std.specs.Prelude.{◌≡◌, ◌<◌, ◌≤◌, ◌↔◌, ◌*◌, ℕ, length, slice_get, get_or, Some, None, IsTrue, IfOk, IfSome, IfNone, MatchOption, All, false};
+ghost use Rattle.layout_model.specs.Layouts.{IsLayoutOnGrid};
+ghost use Rattle.cell_tree.specs.Cells.{HasFixedShape};
+ghost use Rattle.cell_tree.specs.Linking.{AreTargetsBelow};
+ghost use Rattle.cell_tree.specs.Orders.{IsUpward};
+ghost use Rattle.cell_tree.specs.Trees.{IsShallow};
+ghost use Rattle.cell_tree.specs.Factors.{IsEnd, IsFarthestOf, AreFarthest, AreFarthestBelow, IsCapped, GoesBeyond, LeadsBeyond, better, through, IsScaledChain, placed_far};
+ghost use Rattle.cell_tree.specs.declared.factors.Far.{Far as AFar};
+
 use crate::linked::Linked;
 use geo_stream::NoMemory;
 use layout_model::{Placement, Shape};
@@ -26,7 +35,9 @@ pub(crate) struct Scaled {
 }
 
 // Whether one of the shapes may not be enlarged.
-fn has_fixed(shapes: &[Shape]) -> bool {
+fn has_fixed(shapes: &[Shape]) -> bool
+    ensures { IsTrue result ↔ HasFixedShape shapes.now }
+{
     for shape in shapes {
         if shape.fixed {
             return true;
@@ -36,7 +47,10 @@ fn has_fixed(shapes: &[Shape]) -> bool {
 }
 
 // The chain that has this placement first.
-fn placed(placement: &Placement, far: Far) -> Far {
+fn placed(placement: &Placement, far: Far) -> Far
+    requires { far.factor ≤ 17 }
+    ensures { result ≡ placed_far placement.now far }
+{
     let factor = u64::from(placement.orient.mag) * far.factor;
     let factor = if factor < TOO_GREAT { factor } else { TOO_GREAT };
     Far {
@@ -46,15 +60,42 @@ fn placed(placement: &Placement, far: Far) -> Far {
 }
 
 // The one of the greater factor.
-fn greater(first: Option<Far>, second: Far) -> Far {
-    match first {
-        Some(first) if second.factor < first.factor => first,
-        _ => second,
+fn better(first: Option<Far>, second: Option<Far>) -> Option<Far>
+    ensures { result ≡ better first second }
+{
+    let Some(one) = first else {
+        return second;
+    };
+    let Some(other) = second else {
+        return first;
+    };
+    if other.factor < one.factor {
+        return first;
+    }
+    second
+}
+
+// The farthest chain by way of a placement.
+fn through(farthest: &[Option<Far>], placement: &Placement, target: Option<usize>) -> Option<Far>
+    requires target { IfSome target (λ m. m < length farthest.now) }
+    requires small { All IsCapped farthest.now }
+    ensures { result ≡ through farthest.now placement.now target }
+{
+    let Some(target) = target else {
+        return None;
+    };
+    match farthest[target] {
+        Some(far) => Some(placed(placement, far)),
+        None => None,
     }
 }
 
 // The chain of no placement, if it ends where it is to end.
-fn ends_here(linked: &Linked, cell: usize, only_fixed: bool) -> Option<Far> {
+fn ends_here(linked: &Linked, cell: usize, only_fixed: bool) -> Option<Far>
+    requires { cell < length linked.now.cells }
+    ensures { MatchOption result (IsEnd linked.now.cells only_fixed cell → ⊥)
+        (λ far. (far.cell ≡ cell) × (far.factor ≡ 1) × IsEnd linked.now.cells only_fixed cell) }
+{
     if only_fixed && !has_fixed(linked.shapes(cell)) {
         return None;
     }
@@ -67,15 +108,17 @@ fn farthest_of(
     cell: usize,
     farthest: &[Option<Far>],
     only_fixed: bool,
-) -> Option<Far> {
+) -> Option<Far>
+    requires cell { cell < length linked.now.cells }
+    requires long { length farthest.now ≡ length linked.now.cells }
+    requires small { All IsCapped farthest.now }
+    ensures of { IsFarthestOf linked.now.cells only_fixed farthest.now cell result }
+    ensures capped { IsCapped result }
+{
     let mut best = ends_here(linked, cell, only_fixed);
     let placements = linked.placements(cell);
     for (k, target) in linked.targets(cell).iter().enumerate() {
-        if let Some(target) = target {
-            if let Some(far) = farthest[*target] {
-                best = Some(greater(best, placed(&placements[k], far)));
-            }
-        }
+        best = better(best, through(farthest, &placements[k], *target));
     }
     best
 }
@@ -87,12 +130,44 @@ pub(crate) fn farthest(
     linked: &Linked,
     order: &[usize],
     only_fixed: bool,
-) -> Result<Vec<Option<Far>>, NoMemory> {
+) -> Result<Vec<Option<Far>>, NoMemory>
+    requires grid { IsLayoutOnGrid linked.now }
+    requires order { IsUpward linked.now.cells order.now }
+    ensures long { IfOk result (λ farthest. length farthest.items ≡ length linked.now.cells) }
+    ensures capped { IfOk result (λ farthest. All IsCapped farthest.items) }
+    ensures farthest { IfOk result (λ farthest. AreFarthest linked.now.cells only_fixed order.now farthest.items) }
+{
     let mut farthest = vec![in alloc; None; linked.cells().len()]?;
     for cell in order {
         farthest[*cell] = farthest_of(linked, *cell, farthest.as_slice(), only_fixed);
     }
     Ok(farthest)
+}
+
+// The placed cell and the factor up to it, if from there a chain leads on to a factor above 16.
+fn beyond(
+    farthest: &[Option<Far>],
+    factor: u64,
+    placement: &Placement,
+    target: Option<usize>,
+) -> Option<Far>
+    requires target { IfSome target (λ m. m < length farthest.now) }
+    requires capped { All IsCapped farthest.now }
+    requires factor { factor ≤ 16 }
+    ensures some { IfSome result (GoesBeyond farthest.now factor placement.now target) }
+    ensures none { IfNone result ((far : AFar) → GoesBeyond farthest.now factor placement.now target far → ⊥) }
+{
+    let Some(cell) = target else {
+        return None;
+    };
+    let Some(far) = farthest[cell] else {
+        return None;
+    };
+    let factor = factor * u64::from(placement.orient.mag);
+    if factor * far.factor < TOO_GREAT {
+        return None;
+    }
+    Some(Far { cell, factor })
 }
 
 // The first placement that leads to a factor above 16.
@@ -101,18 +176,17 @@ fn find_enlarging(
     targets: &[Option<usize>],
     farthest: &[Option<Far>],
     factor: u64,
-) -> Option<Far> {
+) -> Option<Far>
+    requires long { length placements.now ≡ length targets.now }
+    requires below { AreTargetsBelow (length farthest.now) targets.now }
+    requires capped { All IsCapped farthest.now }
+    requires factor { factor ≤ 16 }
+    ensures some { IfSome result (λ far. (k : ℕ) × LeadsBeyond placements.now targets.now farthest.now factor k far) }
+    ensures none { IfNone result ((k : ℕ) (far : AFar) → LeadsBeyond placements.now targets.now farthest.now factor k far → ⊥) }
+{
     for (k, target) in targets.iter().enumerate() {
-        if let Some(target) = target {
-            if let Some(far) = farthest[*target] {
-                let factor = factor * u64::from(placements[k].orient.mag);
-                if factor * far.factor >= TOO_GREAT {
-                    return Some(Far {
-                        cell: *target,
-                        factor,
-                    });
-                }
-            }
+        if let Some(far) = beyond(farthest, factor, &placements[k], *target) {
+            return Some(far);
         }
     }
     None
@@ -124,7 +198,16 @@ pub(crate) fn scaled_chain(
     linked: &Linked,
     farthest: &[Option<Far>],
     top: usize,
-) -> Result<Scaled, NoMemory> {
+) -> Result<Scaled, NoMemory>
+    requires grid { IsLayoutOnGrid linked.now }
+    requires top { top < length linked.now.cells }
+    requires long { length farthest.now ≡ length linked.now.cells }
+    requires capped { All IsCapped farthest.now }
+    requires farthest { AreFarthestBelow linked.now.cells false top farthest.now }
+    requires shallow { IsShallow linked.now.cells top }
+    requires beyond { (far : AFar) × (get_or farthest.now top None ≡ Some far) × (17 ≤ far.factor) }
+    ensures { IfOk result (λ scaled. IsScaledChain linked.now.cells top scaled.cells.items scaled.factor) }
+{
     let mut cells = Vec::new(alloc);
     cells.push(top)?;
     let mut cell = top;

@@ -28,6 +28,8 @@ struct Stop {
 /// What a search from the top cell found.
 #[derive(Debug, Drop)]
 pub(crate) struct Found {
+    /// The top cell.
+    pub(crate) top: usize,
     /// The reachable cells, in the order in which the search was done with them: where there is no cycle, each after all
     /// that it places.
     pub(crate) order: Vec<usize>,
@@ -171,7 +173,8 @@ impl Search {
 /// Searches all cells that the top cell reaches.
 pub(crate) fn search_from(alloc: Global, linked: &Linked, top: usize) -> Result<Found, NoMemory>
     requires { top < length linked.now.cells }
-    ensures { IfOk result (λ found. IsFound linked.now.cells top found.order.items found.cycle.items) }
+    ensures top { IfOk result (λ found. found.top ≡ top) }
+    ensures found { IfOk result (λ found. IsFound linked.now.cells top found.order.items found.cycle.items) }
 {
     let mut search = Search::new(alloc, linked.cells().len(), top)?;
     while let Some(stop) = search.path.pop() {
@@ -183,5 +186,5 @@ pub(crate) fn search_from(alloc: Global, linked: &Linked, top: usize) -> Result<
         order,
         cycle,
     } = search;
-    Ok(Found { order, cycle })
+    Ok(Found { top, order, cycle })
 }

@@ -10,8 +10,8 @@ loop-stop-init c = same_search c.args.linked.now.cells c.args.top _ _ _ _ _ _ _ 
     (c.in_ok-search.ensures.marks ∙ ap (λ cells. set (replicate (length cells) New) c.args.top Open) c.cells.ensures)
     c.in_ok-search.ensures.path c.in_ok-search.ensures.order c.in_ok-search.ensures.cycle (begins c.args.linked.now.cells c.args.top c.requires)
 
-pub returns : goal.returns
-returns c =
+pub returns-clause-found : goal.returns-clause-found
+returns-clause-found c =
     let cells = c.args.linked.now.cells in let search = c.loop-stop.search in
     let none = c.in_default.ensures.cases in
     let empty : search.path.items ≡ [] = nil_from_length search.path.items (omega arith) in
