@@ -33,12 +33,12 @@ has_any P [] h = absurd h
 has_any P (x ∷ xs) h = elim h [ inl p ↦ (0, x, omega arith, refl, p) | inr h' ↦ (let a = has_any P xs h' in (suc a.0, a.1, omega (arith, a.2), a.3, a.4)) ]
 
 pub any_has : {X : Type 0} (P : X → Type 0) (xs : List X) → Any P xs → Has P xs
-any_has P xs a = go xs a.0 a.1 a.2 a.3 a.4
+any_has P xs a = go P xs a.0 a.1 a.2 a.3 a.4
   where
-    go : {X : Type 0} {P : X → Type 0} (xs : List X) (k : ℕ) (x : X) → k < length xs → get_or xs k x ≡ x → P x → Has P xs
-    go [] k x inside is p = absurd (omega arith)
-    go {P} (y ∷ ys) zero x inside is p = inl (subst P (sym is) p)
-    go (y ∷ ys) (suc k) x inside is p = inr (go ys k x (omega arith) is p)
+    go : {X : Type 0} (P : X → Type 0) (xs : List X) (k : ℕ) (x : X) → k < length xs → get_or xs k x ≡ x → P x → Has P xs
+    go P [] k x inside is p = absurd (omega arith)
+    go P (y ∷ ys) zero x inside is p = inl (subst P (sym is) p)
+    go P (y ∷ ys) (suc k) x inside is p = inr (go P ys k x (omega arith) is p)
 
 pub has_left : {X : Type 0} (P : X → Type 0) (xs ys : List X) → Has P xs → Has P (xs ++ ys)
 has_left P [] ys h = absurd h

@@ -7,3 +7,9 @@ mod TableLemmas
 mod HeightLemmas
 mod FactorLemmas
 mod FlatLemmas
+mod BoxLemmas
+mod CountLemmas
+mod HullLemmas
+mod ReachLemmas
+mod TreeLemmas
+mod OwnLemmas

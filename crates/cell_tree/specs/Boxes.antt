@@ -1,10 +1,14 @@
 -- The least box of points, and what becomes of it.
-use Rattle.std.specs.Prelude.{◌≡◌, ◌≤ℤ◌, ◌+ℤ◌, ◌*ℤ◌, neg_ℤ, pos, ℕ, ℤ, zero, suc, ◌^◌, Bool, true, false, Option, Some, None, MatchOption}
+use Rattle.std.specs.Prelude.{◌≡◌, ◌≤ℤ◌, ◌+ℤ◌, ◌*ℤ◌, neg_ℤ, pos, ℕ, ℤ, zero, suc, ◌^◌, Bool, true, false, List, slice_get, Option, Some, None, MatchOption}
 use Rattle.std.specs.Int.{int_min, int_max}
 use Rattle.half_grid.specs.declared.plane.Point.{Point}
 use Rattle.half_grid.specs.declared.extent.Frame.{Frame}
 use Rattle.layout_model.specs.Hulls.{IsInBox}
 use Rattle.layout_model.specs.declared.orient.Orient.{Orient}
+
+-- the point stands in the list
+abbrev pub IsOneOf : List Point → Point → Type 0
+IsOneOf points p = (k : ℕ) × (slice_get points k ≡ Some p)
 
 -- the least box of the points that meet P: each lies in it, and each of its sides has one
 pub record IsLeastBox (P : Point → Type 0) (box : Frame) : Type 0 where

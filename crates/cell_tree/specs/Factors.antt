@@ -92,4 +92,5 @@ pub record IsScaledChain (cells : List Cell) (top : ℕ) (numbers : List ℕ) (f
   pub numbers_are : numbers ≡ chain_cells top links
   pub factor_is : factor ≡ chain_factor links
   pub above : 16 < factor
+  pub small : factor ≤ 256
   pub before : chain_factor (take (length links - 1) links) ≤ 16

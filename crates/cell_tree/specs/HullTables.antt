@@ -63,6 +63,13 @@ pub record ShapeVertex (shape : Shape) (p : Point) : Type 0 where
   pub point : slice_get shape.points corner ≡ Some v
   pub is : moved by v ≡ p
 
+-- a move of a placement: its own, with one of the offsets
+pub record IsMoveOf (placement : Placement) (m : Point) : Type 0 where
+  pub place : ℕ
+  pub by : Point
+  pub offset : slice_get placement.offsets place ≡ Some by
+  pub is : moved by placement.at ≡ m
+
 -- a vertex of one of the first shapes
 pub record OwnVertex (shapes : List Shape) (bound : ℕ) (pair : Pair) (p : Point) : Type 0 where
   pub number : ℕ

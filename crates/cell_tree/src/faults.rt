@@ -51,6 +51,14 @@ pub(crate) fn copy_of(alloc: Global, name: &Name) -> Result<Name, NoMemory>
     }
 }
 
+/// The name of the cell of this number.
+pub(crate) fn name_of(alloc: Global, cells: &[Cell], number: usize) -> Result<Name, NoMemory>
+    requires { number < length cells.now }
+    ensures { IfOk result (λ name. name ≡ name_at cells.now number) }
+{
+    copy_of(alloc, &cells[number].name)
+}
+
 /// The names of the cells of these numbers.
 pub(crate) fn names_of(
     alloc: Global,

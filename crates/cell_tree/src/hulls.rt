@@ -1,15 +1,14 @@
 //! The least boxes of cells, pair by pair.
 ghost use Rattle.std.specs.Prelude.{◌≡◌, ◌<◌, ◌^◌, ◌≤◌, ◌↔◌, ℕ, length, map, slice_get, get_or, slice_set, [], ◌∷◌, ◌++◌, Some, None, All, IsTrue, IfOk, OnOk, IfSome, IfNone, if◌then◌else◌};
 ghost use Rattle.std.specs.Option.{option_map};
-ghost use Rattle.layout_model.specs.Images.{IsOrient, moved};
+ghost use Rattle.layout_model.specs.Images.{IsOrient};
 ghost use Rattle.layout_model.specs.Layouts.{IsLayoutOnGrid, IsShapeOnGrid, IsPlacementOnGrid};
-ghost use Rattle.layout_model.specs.Hulls.{IsLeastBoxOf};
 ghost use Rattle.layout_model.specs.declared.pair.Pair.{Pair as APair};
 ghost use Rattle.cell_tree.specs.Boxes.{IsLeastBox, IsBoxUpTo, joined_box};
 ghost use Rattle.cell_tree.specs.Cells.{PlacesAt};
 ghost use Rattle.cell_tree.specs.Chains.{IsShort};
 ghost use Rattle.cell_tree.specs.Orders.{IsUpward, IsAmong};
-ghost use Rattle.cell_tree.specs.HullTables.{ShapeVertex, hull_in, AreApart, wider, widest, widened_list, whole_from, placed_hull, hulls_at, AreOwnHulls, AreCellHulls, AreHulls, HasNearVertices};
+ghost use Rattle.cell_tree.specs.HullTables.{ShapeVertex, IsMoveOf, hull_in, AreApart, wider, widest, widened_list, whole_from, placed_hull, hulls_at, AreOwnHulls, AreCellHulls, AreHulls, HasNearVertices};
 ghost use Rattle.cell_tree.specs.declared.hulls.PairHull.{PairHull as APairHull};
 ghost use Rattle.half_grid.specs.declared.extent.Frame.{Frame as AFrame};
 
@@ -132,7 +131,7 @@ fn widen_by_placed(
 // The box of a placement's moves.
 fn moves_of(placement: &Placement) -> Frame
     requires { IsPlacementOnGrid placement.now }
-    ensures least { IsLeastBoxOf (map (λ by. moved by placement.now.at) placement.now.offsets) result }
+    ensures least { IsLeastBox (IsMoveOf placement.now) result }
     ensures small { IsBoxUpTo (2 ^ 43) result }
 {
     moved(placement.at, placement.offsets.hull())

@@ -12,7 +12,7 @@ ghost use Rattle.cell_tree.specs.declared.faults.TreeBad.TheVariants.{NoTop, NoM
 use crate::crowds::find_crowd;
 use crate::extents::first_beyond;
 use crate::factors::{farthest, scaled_chain};
-use crate::faults::{TreeBad, copy_of, names_of};
+use crate::faults::{TreeBad, copy_of, name_of, names_of};
 use crate::heights::{deep_chain, heights};
 use crate::hulls::{PairHull, hull_on, hulls, whole_hull};
 use crate::linked::{Linked, number_of};
@@ -197,7 +197,7 @@ fn ask_fixed(alloc: Global, linked: &Linked, found: &Found) -> Result<(), TreeBa
     if far.factor <= 1 {
         return Ok(());
     }
-    let name = copy_of(alloc, &linked.cells()[far.cell].name)?;
+    let name = name_of(alloc, linked.cells(), far.cell)?;
     Err(TreeBad::Fixed(far.factor as i64, name))
 }
 
@@ -224,7 +224,7 @@ fn ask_count(alloc: Global, linked: &Linked, found: &Found) -> Result<(), TreeBa
     ensures err { IfErr result (IsFirstFault linked.now.cells found.now.top) }
 {
     if let Some(crowd) = find_crowd(alloc, linked, found.order.as_slice())? {
-        let name = copy_of(alloc, &linked.cells()[crowd.cell].name)?;
+        let name = name_of(alloc, linked.cells(), crowd.cell)?;
         return Err(TreeBad::Count(name, crowd.count));
     }
     Ok(())

@@ -8,7 +8,10 @@ use Rattle.cell_tree.specs.Factors.{IsFarthest, AreFarthestBelow, LeadsBeyond}
 use Rattle.cell_tree.specs.declared.factors.Far.{Far}
 use Rattle.cell_tree.proofs.NameLemmas.{targets_below}
 use Rattle.cell_tree.proofs.ChainLemmas.{reach_more, places_cell, places_by, link_at, chain_pushed, cells_pushed, end_joined}
-use Rattle.cell_tree.proofs.FactorLemmas.{leads_on, mags_on_grid, beyond_at, beyond_factor, factor_pushed}
+use Rattle.std.proofs.Math.Nat.{mul-le-mul}
+use Rattle.layout_model.specs.Layouts.{IsPlacementOnGrid}
+use Rattle.cell_tree.proofs.SlotLemmas.{All-slot}
+use Rattle.cell_tree.proofs.FactorLemmas.{on_grid, leads_on, mags_on_grid, beyond_at, beyond_factor, factor_pushed}
 use Rattle.cell_tree.proofs.factors.scaled_chain.Goals as goal
 
 none_beyond : (cells : List Cell) (top cell factor : ℕ) (links : List Link) (farthest : List (Option Far)) → ((n k : ℕ) (p : Placement) → slice_get (placements_at cells n) k ≡ Some p → 1 ≤ p.orient.mag)
@@ -58,6 +61,7 @@ returns-then-far-ge-TOO_GREAT c =
       numbers_are = c.in_ok-push-in-Some.ensures.items ∙ ap (λ ns. ns ++ far.cell ∷ []) inv.2 ∙ sym (cells_pushed c.args.top inv.0 link);
       factor_is = beyond_factor cells c.args.farthest.now cell c.loop-step.factor k far l at ∙ ap (λ f. f * link.placement.orient.mag) inv.5 ∙ sym (factor_pushed inv.0 link);
       above = omega (arith, c.if-far-ge-TOO_GREAT.true);
+      small = (let m = (All-slot (placements_at cells cell) IsPlacementOnGrid (on_grid cells c.requires.grid.cells cell) k l.placement l.placed).orient.factor in let p = mul-le-mul inv.6 m in omega (arith, l.goes.is));
       before = subst (λ ls. chain_factor ls ≤ 16) (sym front) (subst (λ f. f ≤ 16) inv.5 inv.6)
     }
 
@@ -77,4 +81,4 @@ loop-step-preserved c =
      beyond_factor cells c.args.farthest.now cell c.loop-step.factor k far l at ∙ ap (λ f. f * link.placement.orient.mag) inv.5 ∙ sym (factor_pushed inv.0 link),
      omega (arith, c.if-far-ge-TOO_GREAT.false),
      targets_below cells cell k far.cell at,
-     (l.goes.from, (l.goes.there, l.goes.beyond)))
+     (l.goes.from, l.goes.there, l.goes.beyond))

@@ -1,0 +1,5 @@
+use Rattle.cell_tree.proofs.BoxLemmas.{enlarged_up_to}
+use Rattle.cell_tree.proofs.boxes.enlarged.Goals as goal
+
+pub returns-clause-small : goal.returns-clause-small
+returns-clause-small c = ?
