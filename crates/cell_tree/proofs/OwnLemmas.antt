@@ -1,8 +1,11 @@
 -- The boxes of shapes and of placements.
-use Rattle.std.proofs.Common.{◌≡◌, ◌≢◌, ◌⊎◌, ℕ, ℤ, zero, suc, pos, ◌+ℤ◌, ◌≤ℤ◌, ◌+◌, ◌^◌, ◌<◌, ◌≤◌, true, false, List, [], ◌∷◌, ◌++◌, Option, Some, None, All, map, length, take, get_or, slice_get, refl, sym, ap, subst, ◌∙◌, inl, inr, arith, true≢false}
+use Rattle.std.proofs.Common.{◌≡◌, ◌≢◌, ◌⊎◌, ℕ, ℤ, zero, suc, pos, ◌+ℤ◌, ◌≤ℤ◌, ◌+◌, ◌^◌, ◌<◌, ◌≤◌, true, false, List, [], ◌∷◌, ◌++◌, Option, Some, None, IfSome, All, map, length, take, get_or, slice_get, refl, sym, ap, subst, ◌∙◌, inl, inr, arith, true≢false}
 use Rattle.std.specs.Option.{option_map}
 use Rattle.std.proofs.lemmas.Int.{ints}
-use Rattle.std.proofs.lemmas.Option.{none-some, same_Some, slice_get_within}
+use Rattle.std.proofs.lemmas.Option.{none-some, same_Some, slice_get_within, slice_get-get_or, get_or_from_slice_get}
+use Rattle.std.proofs.lemmas.List.{length-map}
+use Rattle.cell_tree.specs.Chains.{IsShort}
+use Rattle.cell_tree.proofs.FlatLemmas.{vertex_cases, own_vertex, placed_vertex}
 use Rattle.half_grid.specs.Outlines.{IsClosed}
 use Rattle.half_grid.specs.declared.plane.Point.{Point}
 use Rattle.half_grid.specs.declared.extent.Frame.{Frame}
@@ -14,12 +17,13 @@ use Rattle.layout_model.specs.declared.orient.Orient.{Orient}
 use Rattle.layout_model.specs.declared.shapes.Shape.{Shape}
 use Rattle.layout_model.specs.declared.cells.Placement.{Placement}
 use Rattle.layout_model.specs.declared.cells.Cell.{Cell}
-use Rattle.cell_tree.specs.Cells.{placements_at, shapes_at, cell_number}
+use Rattle.cell_tree.specs.Cells.{PlacesAt, placements_at, shapes_at, targets_at, cell_number}
+use Rattle.cell_tree.specs.Linking.{AreTargetsBelow}
 use Rattle.cell_tree.specs.Flattening.{IsVertex}
 use Rattle.cell_tree.specs.Boxes.{IsLeastBox, IsOneOf, IsHull, IsUpTo, IsBoxUpTo, summed_box, moved_box, oriented_box}
 use Rattle.cell_tree.specs.HullTables.{same_pair, ShapeVertex, IsMoveOf, OwnVertex, PlacedVertex, placed_hull, hull_in, hulls_at, widest, wider, widened_list, AreApart, AreCellHulls, HasNearVertices}
 use Rattle.cell_tree.specs.declared.hulls.PairHull.{PairHull}
-use Rattle.cell_tree.proofs.SlotLemmas.{All-slot, All-from_slots, one_slot}
+use Rattle.cell_tree.proofs.SlotLemmas.{All-slot, All-from_slots, one_slot, slot_map}
 use Rattle.std.proofs.lemmas.List.Elements.{All-nil}
 use Rattle.cell_tree.proofs.SearchLemmas.{apart}
 use Rattle.cell_tree.proofs.BoxLemmas.{same_hull, same_least, least_of, summed_least, least_up_to, Image, oriented_point, oriented_least}
@@ -172,3 +176,63 @@ pub target_hulls : (cells : List Cell) (hulls : List (List PairHull)) (o : Optio
     → AreApart (hulls_at hulls o) × All (λ here. IsBoxUpTo (2 ^ 53) here.hull) (hulls_at hulls o)
 target_hulls cells hulls None are near = (tt, All-nil (λ here. IsBoxUpTo (2 ^ 53) here.hull))
 target_hulls cells hulls (Some m) are near = ((are m refl).0, entries_up_to cells m (get_or hulls m []) (are m refl) (near m refl))
+
+-- ---- a cell
+
+-- the placement that is looked at, and its target
+pub shown_slot : (cells : List Cell) (n k : ℕ) (placements : List Placement) (targets : List (Option ℕ)) (placement : Placement) → placements ≡ placements_at cells n → targets ≡ targets_at cells n → k < length targets
+    → placement ≡ get_or placements k placement → slice_get (placements_at cells n) k ≡ Some placement
+shown_slot cells n k placements targets placement p t inside is =
+    let long : k < length (placements_at cells n) = omega (arith, ap length t, length-map (placements_at cells n) (λ p. cell_number cells p.target)) in
+    slice_get-get_or (placements_at cells n) k placement long ∙ ap Some (ap (λ l. get_or l k placement) (sym p) ∙ sym is)
+
+pub shown_target : (cells : List Cell) (n k : ℕ) (targets : List (Option ℕ)) (placement : Placement) → targets ≡ targets_at cells n → slice_get (placements_at cells n) k ≡ Some placement
+    → cell_number cells placement.target ≡ get_or targets k None
+shown_target cells n k targets placement t slot =
+    sym (ap (λ l. get_or l k None) t ∙ get_or_from_slice_get (targets_at cells n) k (cell_number cells placement.target) None (slot_map (λ p. cell_number cells p.target) (placements_at cells n) k placement slot))
+
+pub shown_places : (cells : List Cell) (n k m : ℕ) (targets : List (Option ℕ)) (placement : Placement) → targets ≡ targets_at cells n → slice_get (placements_at cells n) k ≡ Some placement → get_or targets k None ≡ Some m → PlacesAt cells n k m
+shown_places cells n k m targets placement t slot some =
+    slot_map (λ p. cell_number cells p.target) (placements_at cells n) k placement slot ∙ ap Some (shown_target cells n k targets placement t slot ∙ some)
+
+pub step_hulls : (cells : List Cell) (n k : ℕ) (targets : List (Option ℕ)) (placement : Placement) (table : List (List PairHull)) (old new placed : List PairHull) (moves : Frame) (P : Pair → Point → Type 0)
+    → targets ≡ targets_at cells n → slice_get (placements_at cells n) k ≡ Some placement
+    → ((k m : ℕ) → PlacesAt cells n k m → AreCellHulls cells m (get_or table m [])) → IsLeastBox (IsMoveOf placement) moves → placed ≡ hulls_at table (get_or targets k None)
+    → ((pair : Pair) → hull_in new pair ≡ widest (hull_in old pair) (option_map (placed_hull placement.orient moves) (hull_in placed pair)))
+    → ((pair : Pair) → IsHull (λ p. P pair p ⊎ PlacedVertex cells n k pair p) (hull_in old pair)) → (pair : Pair) → IsHull (λ p. P pair p ⊎ PlacedVertex cells n (k + 1) pair p) (hull_in new pair)
+step_hulls cells n k targets placement table old new placed moves P t slot known are shown is so pair =
+    placed_more cells n k placement slot pair (P pair) (hull_in old pair) (hull_in new pair) moves (get_or targets k None) table (shown_target cells n k targets placement t slot)
+      (λ m e. (known k m (shown_places cells n k m targets placement t slot e)).1 pair) are
+      (is pair ∙ ap (λ l. widest (hull_in old pair) (option_map (placed_hull placement.orient moves) (hull_in l pair))) shown) (so pair)
+
+pub step_target : (cells : List Cell) (n k : ℕ) (targets : List (Option ℕ)) (placement : Placement) (table : List (List PairHull)) (placed : List PairHull) → targets ≡ targets_at cells n → slice_get (placements_at cells n) k ≡ Some placement
+    → ((k m : ℕ) → PlacesAt cells n k m → AreCellHulls cells m (get_or table m [])) → ((k m : ℕ) → PlacesAt cells n k m → HasNearVertices cells m) → placed ≡ hulls_at table (get_or targets k None)
+    → AreApart placed × All (λ here. IsBoxUpTo (2 ^ 53) here.hull) placed
+step_target cells n k targets placement table placed t slot known near shown =
+    let both = target_hulls cells table (get_or targets k None) (λ m e. known k m (shown_places cells n k m targets placement t slot e)) (λ m e. near k m (shown_places cells n k m targets placement t slot e)) in
+    (subst AreApart (sym shown) both.0, subst (All (λ here. IsBoxUpTo (2 ^ 53) here.hull)) (sym shown) both.1)
+
+pub cell_hulls : (cells : List Cell) (n k : ℕ) (targets : List (Option ℕ)) (hulls : List PairHull) → targets ≡ targets_at cells n → length targets ≤ k → IsShort cells 64 n → AreApart hulls
+    → ((pair : Pair) → IsHull (λ p. OwnVertex (shapes_at cells n) (length (shapes_at cells n)) pair p ⊎ PlacedVertex cells n k pair p) (hull_in hulls pair)) → AreCellHulls cells n hulls
+cell_hulls cells n k targets hulls t past short apart so =
+    let long : length (placements_at cells n) ≤ k = omega (arith, ap length t, length-map (placements_at cells n) (λ p. cell_number cells p.target)) in
+    (apart, λ pair. same_hull (λ p. OwnVertex (shapes_at cells n) (length (shapes_at cells n)) pair p ⊎ PlacedVertex cells n k pair p) (IsVertex cells n pair) (hull_in hulls pair)
+      (λ p h. elim h [ inl own ↦ own_vertex cells n pair p (length (shapes_at cells n)) short own | inr v ↦ placed_vertex cells n pair p k short v ])
+      (λ p vertex. elim (vertex_cases cells n pair p short vertex) [ inl own ↦ inl own
+        | inr v ↦ inr (record { number = v.number; early = omega (arith, v.early); placement = v.placement; placed = v.placed; target = v.target; targeted = v.targeted; place = v.place; by = v.by; offset = v.offset; v = v.v; vertex = v.vertex; is = v.is }) ])
+      (so pair))
+
+-- the first boxes are those of the shapes
+pub own_only : (cells : List Cell) (n : ℕ) (hulls : List PairHull) (shapes : List Shape) → shapes ≡ shapes_at cells n → AreApart hulls × ((pair : Pair) → IsHull (OwnVertex shapes (length shapes) pair) (hull_in hulls pair))
+    → AreApart hulls × ((pair : Pair) → IsHull (λ p. OwnVertex (shapes_at cells n) (length (shapes_at cells n)) pair p ⊎ PlacedVertex cells n 0 pair p) (hull_in hulls pair))
+own_only cells n hulls shapes e own = (own.0, λ pair. same_hull (OwnVertex (shapes_at cells n) (length (shapes_at cells n)) pair)
+    (λ p. OwnVertex (shapes_at cells n) (length (shapes_at cells n)) pair p ⊎ PlacedVertex cells n 0 pair p) (hull_in hulls pair)
+    (λ p o. inl o) (λ p h. elim h [ inl o ↦ o | inr v ↦ absurd (let none = v.early in omega arith) ])
+    (subst (λ l. IsHull (OwnVertex l (length l) pair) (hull_in hulls pair)) e (own.1 pair)))
+
+pub target_below : (cells : List Cell) (k : ℕ) (targets : List (Option ℕ)) (bound : ℕ) → AreTargetsBelow (length cells) targets → k < length targets → length cells ≡ bound → IfSome (get_or targets k None) (λ m. m < bound)
+target_below cells k targets bound below inside e = by (get_or targets k None) (slice_get-get_or targets k None inside)
+  where
+    by : (o : Option ℕ) → slice_get targets k ≡ Some o → IfSome o (λ m. m < bound)
+    by None at = tt
+    by (Some m) at = subst (λ b. m < b) e (below k m at)

@@ -1,7 +1,7 @@
 -- What the passes say of a tree.
 use Rattle.std.proofs.Common.{◌≡◌, ◌≢◌, ◌⊎◌, ℕ, ℤ, zero, suc, pos, ◌+◌, ◌-◌, ◌*◌, ◌^◌, ◌<◌, ◌≤◌, List, [], ◌∷◌, ◌++◌, Option, Some, None, Bool, true, false, ◌||◌, int_lt, ◌≤ℤ◌, neg_ℤ, if◌then◌else◌, find, true≢false, Result, Ok, Err, IfErr, OnOk, IsOk, All, map, length, get_or, slice_get, refl, sym, ap, subst, ◌∙◌, inl, inr, arith}
 use Rattle.std.proofs.lemmas.Option.{none-some, same_Some, slice_get_within, slice_get-get_or, get_or_from_slice_get}
-use Rattle.std.proofs.lemmas.List.{length-map, get_or_read}
+use Rattle.std.proofs.lemmas.List.{length-map, get_or_read, get_or-map}
 use Rattle.layout_model.specs.declared.cells.Placement.{Placement}
 use Rattle.layout_model.specs.declared.cells.Cell.{Cell}
 use Rattle.cell_tree.specs.Cells.{Places, PlacesCell, PlacesAt, PlacesUnknown, HasFixed, placements_at, targets_at, name_at, cell_number}
@@ -28,7 +28,8 @@ use Rattle.cell_tree.specs.Factors.{IsFarthest, AreFarthest, AreFarthestBelow}
 use Rattle.cell_tree.specs.Heights.{IsHeight, AreHeights, AreHeightsBelow}
 use Rattle.cell_tree.specs.declared.factors.Far.{Far}
 use Rattle.cell_tree.proofs.NameLemmas.{targets_below}
-use Rattle.cell_tree.specs.HullTables.{same_pair, hull_in, AreCellHulls, whole_from, extent_in}
+use Rattle.cell_tree.specs.HullTables.{same_pair, hull_in, AreCellHulls, AreHulls, AreHullsBelow, HasNearVertices, whole_from, extent_in}
+use Rattle.cell_tree.proofs.ReachLemmas.{near_below}
 use Rattle.cell_tree.specs.declared.hulls.PairHull.{PairHull}
 use Rattle.cell_tree.proofs.SlotLemmas.{map_slot, slot_map, All-slot, All-from_slots}
 use Rattle.cell_tree.proofs.ChainLemmas.{places_at, name_read, along, reach_more, top_reachable, reachable_within, placed_within, end_within}
@@ -318,3 +319,26 @@ crowd_is cells top n count order shown name e in_order crowd named =
 
 pub order_short : (cells : List Cell) (top : ℕ) (order shown : List ℕ) → shown ≡ order → IsOrder cells top order → IsShallow cells top → (n : ℕ) → IsAmong shown n → IsShort cells 64 n
 order_short cells top order shown e in_order shallow n among = let a = among_shown order shown n e among in short_below cells top n shallow (in_order.reachable a.0 n a.1)
+
+-- ---- the answer
+
+pub accepted : {T : Type 0} (cells : List Cell) (top : ℕ) (r : Result T TreeBad) → All IsCellOnGrid cells → IfErr r (IsFirstFault cells top) → IsTree cells top → IsOk r ⊎ (r ≡ Err NoMemory)
+accepted cells top (Ok tree) grid fault is = inl refl
+accepted cells top (Err bad) grid fault is = inr (ap Err (no_fault cells top bad grid is fault))
+
+pub order_near : (cells : List Cell) (top : ℕ) (order shown : List ℕ) → All IsCellOnGrid cells → shown ≡ order → IsOrder cells top order → IsShallow cells top → IsMild cells top → (n : ℕ) → IsAmong shown n → HasNearVertices cells n
+order_near cells top order shown grid e in_order shallow mild n among = let a = among_shown order shown n e among in near_below cells grid top n shallow mild (in_order.reachable a.0 n a.1)
+
+pub hulls_below : (cells : List Cell) (top : ℕ) (order shown : List ℕ) (hulls : List (List PairHull)) → shown ≡ order → IsOrder cells top order → AreHulls cells shown hulls → AreHullsBelow cells top hulls
+hulls_below cells top order shown hulls e in_order are n reach = are n (shown_among order shown n e (in_order.all n reach))
+
+-- the list that an index gives
+pub hulls_read : {A : Type 0} (view : A → List PairHull) (cells : List Cell) (top n : ℕ) (hulls : List A) (list : A) → n < length hulls → list ≡ get_or hulls n list → AreHullsBelow cells top (map view hulls) → IsReachable cells top n
+    → AreCellHulls cells n (view list)
+hulls_read view cells top n hulls list inside is are reach =
+    subst (AreCellHulls cells n) (get_or-map view hulls n list [] inside ∙ ap view (sym is)) (are n reach)
+
+pub top_hulls : {A : Type 0} (view : A → List PairHull) (cells : List Cell) (top : ℕ) (order shown : List ℕ) (hulls : List A) (list : A) → shown ≡ order → IsOrder cells top order → AreHulls cells shown (map view hulls)
+    → top < length hulls → list ≡ get_or hulls top list → AreCellHulls cells top (view list)
+top_hulls view cells top order shown hulls list e in_order are inside is =
+    hulls_read view cells top top hulls list inside is (hulls_below cells top order shown (map view hulls) e in_order are) (top_reachable cells top)

@@ -199,7 +199,8 @@ pub(crate) fn hulls(
 {
     let mut hulls = empty_lists(alloc, linked.cells().len())?;
     for cell in order {
-        hulls[*cell] = hulls_of(alloc, linked, *cell, hulls.as_slice())?;
+        let own = hulls_of(alloc, linked, *cell, hulls.as_slice())?;
+        hulls[*cell] = own;
     }
     Ok(hulls)
 }

@@ -174,7 +174,7 @@ impl Search {
 pub(crate) fn search_from(alloc: Global, linked: &Linked, top: usize) -> Result<Found, NoMemory>
     requires { top < length linked.now.cells }
     ensures top { IfOk result (λ found. found.top ≡ top) }
-    ensures found { IfOk result (λ found. IsFound linked.now.cells top found.order.items found.cycle.items) }
+    ensures found { IfOk result (λ found. IsFound linked.now.cells found.top found.order.items found.cycle.items) }
 {
     let mut search = Search::new(alloc, linked.cells().len(), top)?;
     while let Some(stop) = search.path.pop() {

@@ -230,27 +230,31 @@ fn ask_count(alloc: Global, linked: &Linked, found: &Found) -> Result<(), TreeBa
     Ok(())
 }
 
-// The tree below the top cell.
-fn tree_of(alloc: Global, linked: Linked, top: usize) -> Result<Tree, TreeBad>
+// The tree below the top cell, by what the search found.
+fn tree_of(alloc: Global, linked: Linked, found: &Found) -> Result<Tree, TreeBad>
     requires grid { IsLayoutOnGrid linked }
-    requires top { top < length linked.cells }
+    requires top { found.now.top < length linked.cells }
+    requires found { IsFound linked.cells found.now.top found.now.order.items found.now.cycle.items }
     ensures layout { IfOk result (λ tree. tree.layout ≡ linked) }
-    ensures top { IfOk result (λ tree. tree.top ≡ top) }
-    ensures tree { OnOk result (IsTree linked.cells top) }
-    ensures err { IfErr result (IsFirstFault linked.cells top) }
+    ensures top { IfOk result (λ tree. tree.top ≡ found.now.top) }
+    ensures tree { OnOk result (IsTree linked.cells found.now.top) }
+    ensures err { IfErr result (IsFirstFault linked.cells found.now.top) }
 {
-    let found = search_from(alloc, &linked, top)?;
-    ask_names(alloc, &linked, &found)?;
-    ask_cycle(alloc, &linked, &found)?;
-    ask_depth(alloc, &linked, &found)?;
-    ask_scale(alloc, &linked, &found)?;
-    ask_fixed(alloc, &linked, &found)?;
+    ask_names(alloc, &linked, found)?;
+    ask_cycle(alloc, &linked, found)?;
+    ask_depth(alloc, &linked, found)?;
+    ask_scale(alloc, &linked, found)?;
+    ask_fixed(alloc, &linked, found)?;
     let hulls = hulls(alloc, &linked, found.order.as_slice())?;
-    if let Some(value) = extent_of(hulls[top].as_slice()) {
+    if let Some(value) = extent_of(hulls[found.top].as_slice()) {
         return Err(TreeBad::Extent(value));
     }
-    ask_count(alloc, &linked, &found)?;
-    Ok(Tree { linked, top, hulls })
+    ask_count(alloc, &linked, found)?;
+    Ok(Tree {
+        linked,
+        top: found.top,
+        hulls,
+    })
 }
 
 /// The tree of a layout below the cell of this name. The refusals are tried in the order in which `TreeBad` lists them,
@@ -273,5 +277,6 @@ pub fn resolve(alloc: Global, layout: Layout, top: &Name) -> Result<Tree, TreeBa
         return Err(TreeBad::NoTop);
     };
     let linked = Linked::new(alloc, layout)?;
-    tree_of(alloc, linked, top)
+    let found = search_from(alloc, &linked, top)?;
+    tree_of(alloc, linked, &found)
 }

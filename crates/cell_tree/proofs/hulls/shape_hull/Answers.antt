@@ -1,8 +1,10 @@
+use Rattle.std.proofs.Common.{◌^◌, subst, arith}
+use Rattle.cell_tree.specs.Boxes.{IsLeastBox, IsOneOf, IsBoxUpTo}
 use Rattle.cell_tree.proofs.OwnLemmas.{closed_some, points_up_to, offsets_up_to, box_more, shape_least}
 use Rattle.cell_tree.proofs.hulls.shape_hull.Goals as goal
 
 pub summed-requires-clause-a : goal.summed-requires-clause-a
-summed-requires-clause-a c = let a = c.box_of.ensures in let b = c.as_slice.ensures in let d = c.hull.ensures in ?
+summed-requires-clause-a c = points_up_to c.args.shape.now c.box_of.result c.requires (subst (λ l. IsLeastBox (IsOneOf l) c.box_of.result) c.as_slice.ensures c.box_of.ensures)
 
 pub returns : goal.returns
-returns c = let a = c.summed.ensures in ?
+returns c = shape_least c.args.shape.now c.box_of.result c.hull.result c.summed.result (subst (λ l. IsLeastBox (IsOneOf l) c.box_of.result) c.as_slice.ensures c.box_of.ensures) c.hull.ensures c.summed.ensures
