@@ -13,3 +13,4 @@ mod HullLemmas
 mod ReachLemmas
 mod TreeLemmas
 mod OwnLemmas
+pub mod ForCallers

@@ -1,5 +1,5 @@
 -- What the passes say of a tree.
-use Rattle.std.proofs.Common.{◌≡◌, ◌≢◌, ◌⊎◌, ℕ, ℤ, zero, suc, pos, ◌+◌, ◌-◌, ◌*◌, ◌^◌, ◌<◌, ◌≤◌, List, [], ◌∷◌, ◌++◌, Option, Some, None, Bool, true, false, ◌||◌, int_lt, ◌≤ℤ◌, neg_ℤ, if◌then◌else◌, find, true≢false, Result, Ok, Err, IfErr, OnOk, IsOk, All, map, length, get_or, slice_get, refl, sym, ap, subst, ◌∙◌, inl, inr, arith}
+use Rattle.std.proofs.Common.{◌≡◌, ◌≢◌, ◌⊎◌, ℕ, ℤ, zero, suc, pos, ◌+◌, ◌-◌, ◌*◌, ◌^◌, ◌<◌, ◌≤◌, List, [], ◌∷◌, ◌++◌, Option, Some, None, Bool, true, false, ◌||◌, int_lt, ◌≤ℤ◌, neg_ℤ, if◌then◌else◌, find, true≢false, Result, Ok, Err, IfErr, OnOk, IsOk, IsErrAnd, All, map, length, get_or, slice_get, refl, sym, ap, subst, ◌∙◌, inl, inr, arith}
 use Rattle.std.proofs.lemmas.Option.{none-some, same_Some, slice_get_within, slice_get-get_or, get_or_from_slice_get}
 use Rattle.std.proofs.lemmas.List.{length-map, get_or_read, get_or-map}
 use Rattle.layout_model.specs.declared.cells.Placement.{Placement}
@@ -9,7 +9,7 @@ use Rattle.cell_tree.specs.Chains.{Link, IsChain, chain_cells, chain_end, chain_
 use Rattle.cell_tree.specs.Orders.{IsAmong, IsBefore, IsUpward, IsOrder}
 use Rattle.cell_tree.specs.Searches.{IsFound}
 use Rattle.cell_tree.specs.Trees.{IsKnown, IsAcyclic, IsShallow, IsMild, KeepsFixed, IsNear, IsCounted, IsTree}
-use Rattle.cell_tree.specs.Faults.{IsFirstFault, IsUnknown, IsNamedCycle, IsDeep, IsScaled, IsEnlarged, IsExtent, IsCrowded, is_beyond, first_beyond}
+use Rattle.cell_tree.specs.Faults.{IsFirstFault, IsUnknown, IsNamedCycle, IsDeep, IsScaled, IsEnlarged, IsExtent, IsCrowded, is_beyond, first_beyond, order_of}
 use Rattle.cell_tree.specs.declared.faults.TreeBad.{TreeBad}
 use Rattle.cell_tree.specs.declared.faults.TreeBad.TheVariants.{NoTop, Unknown, Cycle, Deep, Scale, Fixed, Extent, Count, NoMemory}
 use Rattle.std.specs.List.{sum_by}
@@ -33,6 +33,7 @@ use Rattle.cell_tree.proofs.ReachLemmas.{near_below}
 use Rattle.cell_tree.specs.declared.hulls.PairHull.{PairHull}
 use Rattle.cell_tree.proofs.SlotLemmas.{map_slot, slot_map, All-slot, All-from_slots}
 use Rattle.cell_tree.proofs.ChainLemmas.{places_at, name_read, along, reach_more, top_reachable, reachable_within, placed_within, end_within}
+use Rattle.cell_tree.proofs.SearchLemmas.{apart}
 use Rattle.cell_tree.proofs.FactorLemmas.{on_grid}
 use Rattle.cell_tree.proofs.FlatLemmas.{count_is, short_below}
 use Rattle.cell_tree.proofs.BoxLemmas.{least_up_to}
@@ -342,3 +343,101 @@ pub top_hulls : {A : Type 0} (view : A → List PairHull) (cells : List Cell) (t
     → top < length hulls → list ≡ get_or hulls top list → AreCellHulls cells top (view list)
 top_hulls view cells top order shown hulls list e in_order are inside is =
     hulls_read view cells top top hulls list inside is (hulls_below cells top order shown (map view hulls) e in_order are) (top_reachable cells top)
+
+-- ---- the first fault
+
+-- what is asked, in order
+abbrev Asked : List Cell → ℕ → ℕ → Type 0
+Asked cells top zero = Unit {0}
+Asked cells top (suc zero) = IsKnown cells top
+Asked cells top (suc (suc zero)) = IsAcyclic cells top
+Asked cells top (suc (suc (suc zero))) = IsShallow cells top
+Asked cells top (suc (suc (suc (suc zero)))) = IsMild cells top
+Asked cells top (suc (suc (suc (suc (suc zero))))) = KeepsFixed cells top
+Asked cells top (suc (suc (suc (suc (suc (suc zero)))))) = IsNear cells top
+Asked cells top (suc (suc (suc (suc (suc (suc (suc k))))))) = Unit {0}
+
+asked_before : (cells : List Cell) (top : ℕ) (bad : TreeBad) → IsFirstFault cells top bad → bad ≢ NoMemory → (k : ℕ) → k < order_of bad → Asked cells top k
+asked_before cells top bad fault some zero less = tt
+asked_before cells top bad fault some (suc (suc (suc (suc (suc (suc (suc k))))))) less = tt
+asked_before cells top NoTop fault some (suc k) less = absurd fault
+asked_before cells top NoMemory fault some (suc k) less = absurd (some refl)
+asked_before cells top (Unknown cell name) fault some (suc k) less = absurd (omega arith)
+asked_before cells top (Cycle names) fault some (suc zero) less = fault.0
+asked_before cells top (Cycle names) fault some (suc (suc k)) less = absurd (omega arith)
+asked_before cells top (Deep names) fault some (suc zero) less = fault.0
+asked_before cells top (Deep names) fault some (suc (suc zero)) less = fault.1
+asked_before cells top (Deep names) fault some (suc (suc (suc k))) less = absurd (omega arith)
+asked_before cells top (Scale value names) fault some (suc zero) less = fault.0
+asked_before cells top (Scale value names) fault some (suc (suc zero)) less = fault.1
+asked_before cells top (Scale value names) fault some (suc (suc (suc zero))) less = fault.2
+asked_before cells top (Scale value names) fault some (suc (suc (suc (suc k)))) less = absurd (omega arith)
+asked_before cells top (Fixed value cell) fault some (suc zero) less = fault.0
+asked_before cells top (Fixed value cell) fault some (suc (suc zero)) less = fault.1
+asked_before cells top (Fixed value cell) fault some (suc (suc (suc zero))) less = fault.2
+asked_before cells top (Fixed value cell) fault some (suc (suc (suc (suc zero)))) less = fault.3
+asked_before cells top (Fixed value cell) fault some (suc (suc (suc (suc (suc k))))) less = absurd (omega arith)
+asked_before cells top (Extent value) fault some (suc zero) less = fault.0
+asked_before cells top (Extent value) fault some (suc (suc zero)) less = fault.1
+asked_before cells top (Extent value) fault some (suc (suc (suc zero))) less = fault.2
+asked_before cells top (Extent value) fault some (suc (suc (suc (suc zero)))) less = fault.3
+asked_before cells top (Extent value) fault some (suc (suc (suc (suc (suc zero))))) less = fault.4
+asked_before cells top (Extent value) fault some (suc (suc (suc (suc (suc (suc k)))))) less = absurd (omega arith)
+asked_before cells top (Count cell value) fault some (suc zero) less = fault.0
+asked_before cells top (Count cell value) fault some (suc (suc zero)) less = fault.1
+asked_before cells top (Count cell value) fault some (suc (suc (suc zero))) less = fault.2
+asked_before cells top (Count cell value) fault some (suc (suc (suc (suc zero)))) less = fault.3
+asked_before cells top (Count cell value) fault some (suc (suc (suc (suc (suc zero))))) less = fault.4
+asked_before cells top (Count cell value) fault some (suc (suc (suc (suc (suc (suc zero)))))) less = fault.5
+
+-- a fault that isn't the last breaks what is asked at its place
+breaks : (cells : List Cell) (top : ℕ) (bad : TreeBad) → IsFirstFault cells top bad → order_of bad < 7 → Asked cells top (order_of bad) → ⊥
+breaks cells top NoTop fault less asked = fault
+breaks cells top (Unknown cell name) fault less asked = asked fault.number fault.placement fault.reachable fault.unknown
+breaks cells top (Cycle names) fault less asked = asked fault.1.numbers fault.1.cycle
+breaks cells top (Deep names) fault less asked = let low = asked fault.2.links fault.2.chain in let many = fault.2.many in omega arith
+breaks cells top (Scale value names) fault less asked = let low = asked fault.3.links fault.3.chain in let high = fault.3.above in omega arith
+breaks cells top (Fixed value cell) fault less asked = let low = asked fault.4.links fault.4.chain fault.4.fixed in let high = fault.4.above in omega arith
+breaks cells top (Extent value) fault less asked = none-some value (sym (none_beyond fault.5.box
+    (least_up_to (Every cells top) fault.5.box (2 ^ 30) fault.5.least (λ p every. asked every.0 p every.1))) ∙ fault.5.first)
+breaks cells top (Count cell value) fault less asked = omega arith
+breaks cells top NoMemory fault less asked = omega arith
+
+top_order : (bad : TreeBad) → bad ≢ NoMemory → order_of bad ≤ 7
+top_order NoTop some = omega arith
+top_order (Unknown cell name) some = omega arith
+top_order (Cycle names) some = omega arith
+top_order (Deep names) some = omega arith
+top_order (Scale value names) some = omega arith
+top_order (Fixed value cell) some = omega arith
+top_order (Extent value) some = omega arith
+top_order (Count cell value) some = omega arith
+top_order NoMemory some = absurd (some refl)
+
+no_less : (cells : List Cell) (top : ℕ) (a b : TreeBad) → IsFirstFault cells top a → IsFirstFault cells top b → b ≢ NoMemory → order_of a < order_of b → ⊥
+no_less cells top a b first second some less = let most = top_order b some in breaks cells top a first (omega arith) (asked_before cells top b second some (order_of a) less)
+
+is_wanting : (bad : TreeBad) → (bad ≡ NoMemory) ⊎ (bad ≢ NoMemory)
+is_wanting NoTop = inr (λ e. cc)
+is_wanting (Unknown cell name) = inr (λ e. cc)
+is_wanting (Cycle names) = inr (λ e. cc)
+is_wanting (Deep names) = inr (λ e. cc)
+is_wanting (Scale value names) = inr (λ e. cc)
+is_wanting (Fixed value cell) = inr (λ e. cc)
+is_wanting (Extent value) = inr (λ e. cc)
+is_wanting (Count cell value) = inr (λ e. cc)
+is_wanting NoMemory = inl refl
+
+pub answered : {T : Type 0} (cells : List Cell) (top : ℕ) (r : Result T TreeBad) (bad : TreeBad) → All IsCellOnGrid cells → OnOk r (IsTree cells top) → IfErr r (IsFirstFault cells top) → IsFirstFault cells top bad → bad ≢ NoMemory
+    → IsErrAnd r (λ answer. (order_of answer ≡ order_of bad) ⊎ (answer ≡ NoMemory))
+answered cells top (Ok tree) bad grid is fault first some = absurd (some (no_fault cells top bad grid is first))
+answered cells top (Err answer) bad grid is fault first some = elim (is_wanting answer) [
+    inl e ↦ inr e
+  | inr there ↦ (let a = no_less cells top answer bad fault first some in let b = no_less cells top bad answer first fault there in
+      elim (apart (order_of answer) (order_of bad)) [ inl e ↦ inl e | inr differs ↦ absurd (less_or (order_of answer) (order_of bad) differs a b) ]) ]
+  where
+    less_or : (m n : ℕ) → (m ≡ n → ⊥) → (m < n → ⊥) → (n < m → ⊥) → ⊥
+    less_or zero zero d a b = d refl
+    less_or zero (suc n) d a b = a (omega arith)
+    less_or (suc m) zero d a b = b (omega arith)
+    less_or (suc m) (suc n) d a b = less_or m n (λ e. d (ap suc e)) (λ h. a (omega arith)) (λ h. b (omega arith))

@@ -90,3 +90,15 @@ IsFirstFault cells top (Extent value) = IsKnown cells top × IsAcyclic cells top
 IsFirstFault cells top (Count cell value) = IsKnown cells top × IsAcyclic cells top × IsShallow cells top × IsMild cells top
     × KeepsFixed cells top × IsNear cells top × IsCrowded cells top cell value
 IsFirstFault cells top NoMemory = Unit {0}
+
+-- the order in which they are looked for
+abbrev pub order_of : TreeBad → ℕ
+order_of NoTop = 0
+order_of (Unknown cell name) = 1
+order_of (Cycle names) = 2
+order_of (Deep names) = 3
+order_of (Scale value names) = 4
+order_of (Fixed value cell) = 5
+order_of (Extent value) = 6
+order_of (Count cell value) = 7
+order_of NoMemory = 8

@@ -7,12 +7,11 @@ ghost use Rattle.cell_tree.specs.Cells.{cell_names};
 use crate::linked::number_of;
 use crate::{Tree, TreeBad, resolve};
 use geo_stream::{List, NoMemory};
-use half_grid::{Frame, Point};
+use half_grid::Point;
 use layout_model::{
     Cell, Counts, Layout, Name, NameBad, Offsets, Orient, Pair, Placement, Shape, ShapeBad,
 };
 use std::alloc::Global;
-use std::process::Abort;
 use std::test::Fail;
 
 const METAL: Pair = Pair {
@@ -27,12 +26,6 @@ const NO_COUNTS: Counts = Counts {
     nodes: 0,
     boxes: 0,
     properties: 0,
-};
-
-const UPRIGHT: Orient = Orient {
-    flip: false,
-    turns: 0,
-    mag: 1,
 };
 
 // What a test couldn't make.
@@ -192,10 +185,56 @@ fn resolved(alloc: Global, cells: List<Cell>) -> Result<Result<Tree, TreeBad>, B
     Ok(resolve(alloc, layout_of(cells), &top))
 }
 
+// Two cells: A places B, enlarged so many times, which is a leaf.
+fn pair_of(alloc: Global, mag: u8, fixed: bool) -> Result<List<Cell>, Bad>
+    requires some { 1 ≤ mag }
+    requires few { mag ≤ 16 }
+    ensures cells { IfOk result (All IsCellOnGrid) }
+    ensures names { IfOk result (λ cells. AreDistinct (cell_names cells)) }
+{
+    let cells = with(List::new(alloc), enlarging(alloc, b"A", b"B", mag)?)?;
+    let cells = with(cells, leaf(alloc, b"B", fixed)?)?;
+    Ok(cells)
+}
+
 #[test]
-fn a_leaf(rt: HostRuntime) -> Result<(), Fail> {
+fn fixed_shapes(rt: HostRuntime) -> Result<(), Fail> {
     let alloc = rt.alloc();
+    let tree = resolved(alloc, pair_of(alloc, 1, true)?)?;
+    assert!(rt; tree.is_ok());
+    let refused = resolved(alloc, pair_of(alloc, 2, true)?)?;
+    assert!(rt; matches!(refused, Err(TreeBad::Fixed(2, _))));
+    let tree = resolved(alloc, pair_of(alloc, 16, false)?)?;
+    assert!(rt; tree.is_ok());
+    Ok(())
+}
+
+#[test]
+fn factors(rt: HostRuntime) -> Result<(), Fail> {
+    let alloc = rt.alloc();
+    let cells = with(List::new(alloc), enlarging(alloc, b"A", b"B", 8)?)?;
+    let cells = with(cells, enlarging(alloc, b"B", b"C", 4)?)?;
+    let cells = with(cells, leaf(alloc, b"C", false)?)?;
+    let refused = resolved(alloc, cells)?;
+    assert!(rt; matches!(refused, Err(TreeBad::Scale(32, _))));
+    Ok(())
+}
+
+#[test]
+fn names_and_cycles(rt: HostRuntime) -> Result<(), Fail> {
+    let alloc = rt.alloc();
+    let refused = resolved(alloc, List::new(alloc))?;
+    assert!(rt; matches!(refused, Err(TreeBad::NoTop)));
+    let cells = with(List::new(alloc), enlarging(alloc, b"A", b"B", 1)?)?;
+    let refused = resolved(alloc, cells)?;
+    assert!(rt; matches!(refused, Err(TreeBad::Unknown(_, _))));
+    let cells = with(List::new(alloc), enlarging(alloc, b"A", b"B", 1)?)?;
+    let cells = with(cells, enlarging(alloc, b"B", b"A", 1)?)?;
+    let refused = resolved(alloc, cells)?;
+    assert!(rt; matches!(refused, Err(TreeBad::Cycle(_))));
+    // A cycle that the top cell doesn't reach.
     let cells = with(List::new(alloc), leaf(alloc, b"A", false)?)?;
+    let cells = with(cells, enlarging(alloc, b"B", b"B", 1)?)?;
     let tree = resolved(alloc, cells)?;
     assert!(rt; tree.is_ok());
     Ok(())

@@ -1,12 +1,13 @@
 //! The tree of a layout's cells.
-ghost use Rattle.std.specs.Prelude.{◌≡◌, ◌<◌, ◌↔◌, ◌⊎◌, ℕ, length, slice_get, Some, None, Ok, Err, IfOk, IfErr, OnOk, IsOk};
+ghost use Rattle.std.specs.Prelude.{◌≡◌, ◌≢◌, ◌<◌, ◌↔◌, ◌⊎◌, ℕ, length, slice_get, Some, None, Ok, Err, IfOk, IfErr, OnOk, IsOk, IsErrAnd};
 ghost use Rattle.layout_model.specs.Layouts.{IsLayoutOnGrid};
 ghost use Rattle.cell_tree.specs.Cells.{cell_number};
 ghost use Rattle.cell_tree.specs.Orders.{IsOrder};
 ghost use Rattle.cell_tree.specs.Searches.{IsFound};
 ghost use Rattle.cell_tree.specs.HullTables.{extent_in};
 ghost use Rattle.cell_tree.specs.Trees.{IsKnown, IsAcyclic, IsShallow, IsMild, KeepsFixed, IsCounted, IsNear, IsTree};
-ghost use Rattle.cell_tree.specs.Faults.{IsFirstFault};
+ghost use Rattle.cell_tree.specs.Faults.{IsFirstFault, order_of};
+ghost use Rattle.cell_tree.specs.declared.faults.TreeBad.{TreeBad as ABad};
 ghost use Rattle.cell_tree.specs.declared.faults.TreeBad.TheVariants.{NoTop, NoMemory as Wanting};
 
 use crate::crowds::find_crowd;
@@ -268,6 +269,10 @@ pub fn resolve(alloc: Global, layout: Layout, top: &Name) -> Result<Tree, TreeBa
     // Each refusal keeps what is there, and nothing that is looked for before it is there.
     ensures no_top { (result ≡ Err NoTop) ↔ (cell_number layout.cells top.now ≡ None) }
     ensures fault { (n : ℕ) → cell_number layout.cells top.now ≡ Some n → IfErr result (IsFirstFault layout.cells n) }
+
+    // What is there first is what is answered, or want of memory.
+    ensures found { (n : ℕ) (bad : ABad) → cell_number layout.cells top.now ≡ Some n → IsFirstFault layout.cells n bad
+        → bad ≢ Wanting → IsErrAnd result (λ answer. (order_of answer ≡ order_of bad) ⊎ (answer ≡ Wanting)) }
 
     // Where nothing that is refused is there, the layout is refused for want of memory alone.
     ensures accepted { (n : ℕ) → cell_number layout.cells top.now ≡ Some n → IsTree layout.cells n
