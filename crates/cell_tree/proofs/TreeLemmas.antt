@@ -1,5 +1,5 @@
 -- What the passes say of a tree.
-use Rattle.std.proofs.Common.{◌≡◌, ◌≢◌, ◌⊎◌, ℕ, ℤ, zero, suc, pos, ◌+◌, ◌-◌, ◌*◌, ◌^◌, ◌<◌, ◌≤◌, List, [], ◌∷◌, ◌++◌, Option, Some, None, Bool, true, false, ◌||◌, int_lt, ◌≤ℤ◌, neg_ℤ, if◌then◌else◌, find, true≢false, Result, Ok, Err, IfErr, OnOk, IsOk, IsErrAnd, All, map, length, get_or, slice_get, refl, sym, ap, subst, ◌∙◌, inl, inr, arith}
+use Rattle.std.proofs.Common.{◌≡◌, ◌≢◌, ◌⊎◌, ℕ, ℤ, zero, suc, pos, ◌+◌, ◌-◌, ◌*◌, ◌^◌, ◌<◌, ◌≤◌, List, [], ◌∷◌, ◌++◌, Option, Some, None, Bool, true, false, ◌||◌, int_lt, ◌≤ℤ◌, neg_ℤ, if◌then◌else◌, cond, find, true≢false, Result, Ok, Err, IfErr, OnOk, IsOk, IsErrAnd, All, map, length, get_or, slice_get, refl, sym, ap, subst, ◌∙◌, inl, inr, arith}
 use Rattle.std.proofs.lemmas.Option.{none-some, same_Some, slice_get_within, slice_get-get_or, get_or_from_slice_get}
 use Rattle.std.proofs.lemmas.List.{length-map, get_or_read, get_or-map}
 use Rattle.layout_model.specs.declared.cells.Placement.{Placement}
@@ -12,7 +12,7 @@ use Rattle.cell_tree.specs.Trees.{IsKnown, IsAcyclic, IsShallow, IsMild, KeepsFi
 use Rattle.cell_tree.specs.Faults.{IsFirstFault, IsUnknown, IsNamedCycle, IsDeep, IsScaled, IsEnlarged, IsExtent, IsCrowded, is_beyond, first_beyond, order_of}
 use Rattle.cell_tree.specs.declared.faults.TreeBad.{TreeBad}
 use Rattle.cell_tree.specs.declared.faults.TreeBad.TheVariants.{NoTop, Unknown, Cycle, Deep, Scale, Fixed, Extent, Count, NoMemory}
-use Rattle.std.specs.List.{sum_by}
+use Rattle.std.specs.List.{sum_by, AllByRecursion}
 use Rattle.std.specs.Option.{option_map_or, option_and_then}
 use Rattle.std.proofs.lemmas.List.Sums.{sum_by-cons}
 use Rattle.std.proofs.lemmas.Int.{ints}
@@ -205,6 +205,30 @@ extent_is cells top hulls value are some = by (whole_from None hulls) (whole_of 
     by : (o : Option Frame) → IsHull (Every cells top) o → option_and_then first_beyond o ≡ Some value → IsExtent cells top value
     by None is e = absurd (none-some value e)
     by (Some box) is e = record { box = box; least = is; first = e }
+
+-- the first that passes meets what all meet
+found_meets : (P : ℤ → Type 0) (p : ℤ → Bool) (xs : List ℤ) (v : ℤ) → AllByRecursion P xs → find p xs ≡ Some v → P v
+found_meets P p [] v all e = absurd (none-some v e)
+found_meets P p (x ∷ xs) v all e = by (p x) e
+  where
+    by : (b : Bool) → cond b (Some x) (find p xs) ≡ Some v → P v
+    by true e = subst P (same_Some x v e) all.0
+    by false e = found_meets P p xs v all.1 e
+
+-- what is kept of an extent is that number
+pub extent_same : (cells : List Cell) (top : ℕ) (value shown : ℤ) → HasNearVertices cells top → IsExtent cells top value → (IsUpTo (2 ^ 53) value → shown ≡ value) → IsExtent cells top shown
+extent_same cells top value shown near extent same =
+    let box = extent.box in let least = extent.least in
+    let left = near least.left.1.0 least.left.0 least.left.1.1 in
+    let bottom = near least.bottom.1.0 least.bottom.0 least.bottom.1.1 in
+    let right = near least.right.1.0 least.right.0 least.right.1.1 in
+    let upper = near least.top.1.0 least.top.0 least.top.1.1 in
+    let x0 : IsUpTo (2 ^ 53) box.x0 = subst (IsUpTo (2 ^ 53)) least.left.2 (record { low = left.x_low; high = left.x_high }) in
+    let y0 : IsUpTo (2 ^ 53) box.y0 = subst (IsUpTo (2 ^ 53)) least.bottom.2 (record { low = bottom.y_low; high = bottom.y_high }) in
+    let x1 : IsUpTo (2 ^ 53) box.x1 = subst (IsUpTo (2 ^ 53)) least.right.2 (record { low = right.x_low; high = right.x_high }) in
+    let y1 : IsUpTo (2 ^ 53) box.y1 = subst (IsUpTo (2 ^ 53)) least.top.2 (record { low = upper.y_low; high = upper.y_high }) in
+    let small = found_meets (IsUpTo (2 ^ 53)) is_beyond (box.x0 ∷ box.y0 ∷ box.x1 ∷ box.y1 ∷ []) value (x0, y0, x1, y1, tt) extent.first in
+    subst (IsExtent cells top) (sym (same small)) extent
 
 -- ---- a tree has no fault
 

@@ -1,59 +1,18 @@
 //! Each refusal on a small layout, and what a tree says.
-ghost use Rattle.std.specs.Prelude.{◌≡◌, ◌≤◌, [], ◌∷◌, All, IfOk};
-ghost use Rattle.layout_model.specs.Images.{IsOrient};
-ghost use Rattle.layout_model.specs.Layouts.{IsMove, AreOffsets, IsShapeOnGrid, IsPlacementOnGrid, IsCellOnGrid, IsLayoutOnGrid, AreDistinct};
-ghost use Rattle.cell_tree.specs.Cells.{cell_names};
+ghost use Rattle.std.specs.Prelude.{◌≡◌, ◌≤◌, [], ◌∷◌, All};
+ghost use Rattle.layout_model.specs.Layouts.{IsShapeOnGrid, IsPlacementOnGrid, IsLayoutOnGrid};
 
-use crate::linked::number_of;
-use crate::{Tree, TreeBad, resolve};
-use geo_stream::{List, NoMemory};
+use crate::{TreeBad, resolve};
+use geo_stream::List;
 use half_grid::Point;
-use layout_model::{
-    Cell, Counts, Layout, Name, NameBad, Offsets, Orient, Pair, Placement, Shape, ShapeBad,
-};
+use layout_model::{Cell, Counts, Layout, Name, Offsets, Orient, Pair, Placement, Shape};
 use std::alloc::Global;
-use std::test::Fail;
+use std::process::Abort;
 
 const METAL: Pair = Pair {
     layer: 1,
     datatype: 0,
 };
-
-const NO_COUNTS: Counts = Counts {
-    kept: 0,
-    other: 0,
-    texts: 0,
-    nodes: 0,
-    boxes: 0,
-    properties: 0,
-};
-
-// What a test couldn't make.
-#[derive(Clone, Copy, Debug)]
-enum Bad {
-    Memory,
-    Name,
-    Shape,
-    Twice,
-}
-
-impl From<NoMemory> for Bad {
-    fn from(_bad: NoMemory) -> Bad {
-        Bad::Memory
-    }
-}
-
-impl From<NameBad> for Bad {
-    fn from(_bad: NameBad) -> Bad {
-        Bad::Name
-    }
-}
-
-impl From<ShapeBad> for Bad {
-    fn from(_bad: ShapeBad) -> Bad {
-        Bad::Shape
-    }
-}
 
 fn point(x: i64, y: i64) -> Point
     ensures x { result.x ≡ x }
@@ -62,180 +21,162 @@ fn point(x: i64, y: i64) -> Point
     Point { x, y }
 }
 
-// One more cell, whose name no cell has.
-fn with(mut cells: List<Cell>, cell: Cell) -> Result<List<Cell>, Bad>
-    requires cells { All IsCellOnGrid cells }
-    requires names { AreDistinct (cell_names cells) }
-    requires cell { IsCellOnGrid cell }
-    ensures cells { IfOk result (All IsCellOnGrid) }
-    ensures names { IfOk result (λ cells. AreDistinct (cell_names cells)) }
+fn orient(flip: bool, turns: u8, mag: u8) -> Orient
+    ensures flip { result.flip ≡ flip }
+    ensures turns { result.turns ≡ turns }
+    ensures mag { result.mag ≡ mag }
 {
-    if number_of(cells.as_slice(), &cell.name).is_some() {
-        return Err(Bad::Twice);
-    }
-    cells.push(cell)?;
-    Ok(cells)
+    Orient { flip, turns, mag }
 }
 
-fn layout_of(cells: List<Cell>) -> Layout
-    requires cells { All IsCellOnGrid cells }
-    requires names { AreDistinct (cell_names cells) }
+fn name(rt: &impl Abort, alloc: Global, bytes: &[u8]) -> Name
+    ensures { result ≡ bytes.now }
+{
+    Name::new(alloc, bytes).expect(rt, "a name")
+}
+
+fn only<T: Drop>(rt: &impl Abort, alloc: Global, item: T) -> List<T>
+    ensures { result ≡ item ∷ [] }
+{
+    let mut list = List::new(alloc);
+    assert!(rt; list.push(item).is_ok(), "memory");
+    list
+}
+
+const RING: [Point; 5] = [
+    Point { x: 0, y: 0 },
+    Point { x: 20, y: 0 },
+    Point { x: 20, y: 20 },
+    Point { x: 0, y: 20 },
+    Point { x: 0, y: 0 },
+];
+
+const PLACES: [Point; 1] = [Point { x: 0, y: 0 }];
+
+// A square of 10 grid steps, which may be fixed.
+fn square(rt: &impl Abort, alloc: Global, fixed: bool) -> Shape
+    ensures { IsShapeOnGrid result }
+{
+    let places = Offsets::list(alloc, &PLACES).expect(rt, "memory");
+    let mut shape = Shape::new(alloc, METAL, &RING, places).expect(rt, "a shape");
+    shape.fixed = fixed;
+    shape
+}
+
+// The cell of this name, placed once at (40, 0), enlarged so many times.
+fn placed(rt: &impl Abort, alloc: Global, target: &[u8], mag: u8) -> Placement
+    requires some { 1 ≤ mag }
+    requires few { mag ≤ 16 }
+    ensures { IsPlacementOnGrid result }
+{
+    Placement {
+        target: name(rt, alloc, target),
+        orient: orient(false, 0, mag),
+        at: point(40, 0),
+        offsets: Offsets::list(alloc, &[point(0, 0)]).expect(rt, "memory"),
+    }
+}
+
+// A places B, enlarged so many times; B is of these shapes and placements; and C is a square.
+fn layout(
+    rt: &impl Abort,
+    alloc: Global,
+    mag: u8,
+    shapes: List<Shape>,
+    placements: List<Placement>,
+) -> Layout
+    requires some { 1 ≤ mag }
+    requires few { mag ≤ 16 }
+    requires shapes { All IsShapeOnGrid shapes }
+    requires placements { All IsPlacementOnGrid placements }
     ensures { IsLayoutOnGrid result }
 {
-    Layout {
-        cells,
-        counts: NO_COUNTS,
-    }
-}
-
-// A square from (0, 0) to (20, 20), which may be fixed.
-fn square(alloc: Global, fixed: bool) -> Result<Shape, Bad>
-    ensures { IfOk result IsShapeOnGrid }
-{
-    let ring = [
-        point(0, 0),
-        point(0, 20),
-        point(20, 20),
-        point(20, 0),
-        point(0, 0),
-    ];
-    let offsets = Offsets::list(alloc, &[point(0, 0)])?;
-    let mut shape = Shape::new(alloc, METAL, &ring, offsets)?;
-    shape.fixed = fixed;
-    Ok(shape)
-}
-
-fn placement(
-    alloc: Global,
-    name: &[u8],
-    orient: Orient,
-    at: Point,
-    offsets: Offsets,
-) -> Result<Placement, Bad>
-    requires orient { IsOrient orient }
-    requires at { IsMove at }
-    requires offsets { AreOffsets offsets }
-    ensures { IfOk result IsPlacementOnGrid }
-{
-    let target = Name::new(alloc, name)?;
-    Ok(Placement {
-        target,
-        orient,
-        at,
-        offsets,
-    })
-}
-
-// A cell of one square.
-fn leaf(alloc: Global, name: &[u8], fixed: bool) -> Result<Cell, Bad>
-    ensures { IfOk result IsCellOnGrid }
-{
-    let name = Name::new(alloc, name)?;
-    let mut shapes = List::new(alloc);
-    shapes.push(square(alloc, fixed)?)?;
-    let placements = List::new(alloc);
-    Ok(Cell {
-        name,
-        shapes,
-        placements,
-    })
-}
-
-// A cell of one placement.
-fn placing(alloc: Global, name: &[u8], placement: Placement) -> Result<Cell, Bad>
-    requires { IsPlacementOnGrid placement }
-    ensures { IfOk result IsCellOnGrid }
-{
-    let name = Name::new(alloc, name)?;
-    let shapes = List::new(alloc);
-    let mut placements = List::new(alloc);
-    placements.push(placement)?;
-    Ok(Cell {
-        name,
-        shapes,
-        placements,
-    })
-}
-
-// A cell that places another once, at the origin, enlarged so many times.
-fn enlarging(alloc: Global, name: &[u8], target: &[u8], mag: u8) -> Result<Cell, Bad>
-    requires some { 1 ≤ mag }
-    requires few { mag ≤ 16 }
-    ensures { IfOk result IsCellOnGrid }
-{
-    let orient = Orient {
-        flip: false,
-        turns: 0,
-        mag,
+    let a = Cell {
+        name: name(rt, alloc, b"A"),
+        shapes: List::new(alloc),
+        placements: only(rt, alloc, placed(rt, alloc, b"B", mag)),
     };
-    let offsets = Offsets::list(alloc, &[point(0, 0)])?;
-    placing(
-        alloc,
-        name,
-        placement(alloc, target, orient, point(0, 0), offsets)?,
-    )
+    let b = Cell {
+        name: name(rt, alloc, b"B"),
+        shapes,
+        placements,
+    };
+    let c = Cell {
+        name: name(rt, alloc, b"C"),
+        shapes: only(rt, alloc, square(rt, alloc, false)),
+        placements: List::new(alloc),
+    };
+    let mut cells = only(rt, alloc, a);
+    assert!(rt; cells.push(b).is_ok(), "memory");
+    assert!(rt; cells.push(c).is_ok(), "memory");
+    let counts = Counts {
+        kept: 1,
+        other: 0,
+        texts: 0,
+        nodes: 0,
+        boxes: 0,
+        properties: 0,
+    };
+    Layout { cells, counts }
 }
 
-// The answer on cells that each enlarge the next, A the first and the last a leaf.
-fn resolved(alloc: Global, cells: List<Cell>) -> Result<Result<Tree, TreeBad>, Bad>
-    requires cells { All IsCellOnGrid cells }
-    requires names { AreDistinct (cell_names cells) }
-{
-    let top = Name::new(alloc, b"A")?;
-    Ok(resolve(alloc, layout_of(cells), &top))
-}
-
-// Two cells: A places B, enlarged so many times, which is a leaf.
-fn pair_of(alloc: Global, mag: u8, fixed: bool) -> Result<List<Cell>, Bad>
+// B is a square, which may be fixed.
+fn of_square(rt: &impl Abort, alloc: Global, mag: u8, fixed: bool) -> Layout
     requires some { 1 ≤ mag }
     requires few { mag ≤ 16 }
-    ensures cells { IfOk result (All IsCellOnGrid) }
-    ensures names { IfOk result (λ cells. AreDistinct (cell_names cells)) }
+    ensures { IsLayoutOnGrid result }
 {
-    let cells = with(List::new(alloc), enlarging(alloc, b"A", b"B", mag)?)?;
-    let cells = with(cells, leaf(alloc, b"B", fixed)?)?;
-    Ok(cells)
+    let shapes = only(rt, alloc, square(rt, alloc, fixed));
+    layout(rt, alloc, mag, shapes, List::new(alloc))
+}
+
+// B places the cell of this name, enlarged so many times.
+fn of_placement(rt: &impl Abort, alloc: Global, mag: u8, target: &[u8], inner: u8) -> Layout
+    requires some { 1 ≤ mag }
+    requires few { mag ≤ 16 }
+    requires inner_some { 1 ≤ inner }
+    requires inner_few { inner ≤ 16 }
+    ensures { IsLayoutOnGrid result }
+{
+    let placements = only(rt, alloc, placed(rt, alloc, target, inner));
+    layout(rt, alloc, mag, List::new(alloc), placements)
 }
 
 #[test]
-fn fixed_shapes(rt: HostRuntime) -> Result<(), Fail> {
+fn fixed_shapes(rt: HostRuntime) {
     let alloc = rt.alloc();
-    let tree = resolved(alloc, pair_of(alloc, 1, true)?)?;
+    let top = name(&rt, alloc, b"A");
+    let tree = resolve(alloc, of_square(&rt, alloc, 1, true), &top);
     assert!(rt; tree.is_ok());
-    let refused = resolved(alloc, pair_of(alloc, 2, true)?)?;
+    let refused = resolve(alloc, of_square(&rt, alloc, 2, true), &top);
     assert!(rt; matches!(refused, Err(TreeBad::Fixed(2, _))));
-    let tree = resolved(alloc, pair_of(alloc, 16, false)?)?;
+    let tree = resolve(alloc, of_square(&rt, alloc, 16, false), &top);
     assert!(rt; tree.is_ok());
-    Ok(())
 }
 
 #[test]
-fn factors(rt: HostRuntime) -> Result<(), Fail> {
+fn factors_over_16(rt: HostRuntime) {
     let alloc = rt.alloc();
-    let cells = with(List::new(alloc), enlarging(alloc, b"A", b"B", 8)?)?;
-    let cells = with(cells, enlarging(alloc, b"B", b"C", 4)?)?;
-    let cells = with(cells, leaf(alloc, b"C", false)?)?;
-    let refused = resolved(alloc, cells)?;
+    let top = name(&rt, alloc, b"A");
+    let tree = resolve(alloc, of_placement(&rt, alloc, 4, b"C", 4), &top);
+    assert!(rt; tree.is_ok());
+    let refused = resolve(alloc, of_placement(&rt, alloc, 8, b"C", 4), &top);
     assert!(rt; matches!(refused, Err(TreeBad::Scale(32, _))));
-    Ok(())
 }
 
 #[test]
-fn names_and_cycles(rt: HostRuntime) -> Result<(), Fail> {
+fn names_and_cycles(rt: HostRuntime) {
     let alloc = rt.alloc();
-    let refused = resolved(alloc, List::new(alloc))?;
-    assert!(rt; matches!(refused, Err(TreeBad::NoTop)));
-    let cells = with(List::new(alloc), enlarging(alloc, b"A", b"B", 1)?)?;
-    let refused = resolved(alloc, cells)?;
+    let top = name(&rt, alloc, b"A");
+    let refused = resolve(alloc, of_placement(&rt, alloc, 1, b"D", 1), &top);
     assert!(rt; matches!(refused, Err(TreeBad::Unknown(_, _))));
-    let cells = with(List::new(alloc), enlarging(alloc, b"A", b"B", 1)?)?;
-    let cells = with(cells, enlarging(alloc, b"B", b"A", 1)?)?;
-    let refused = resolved(alloc, cells)?;
+    let refused = resolve(alloc, of_placement(&rt, alloc, 1, b"A", 1), &top);
     assert!(rt; matches!(refused, Err(TreeBad::Cycle(_))));
-    // A cycle that the top cell doesn't reach.
-    let cells = with(List::new(alloc), leaf(alloc, b"A", false)?)?;
-    let cells = with(cells, enlarging(alloc, b"B", b"B", 1)?)?;
-    let tree = resolved(alloc, cells)?;
+    // The same cycle, which C doesn't reach.
+    let top = name(&rt, alloc, b"C");
+    let tree = resolve(alloc, of_placement(&rt, alloc, 1, b"A", 1), &top);
     assert!(rt; tree.is_ok());
-    Ok(())
+    let top = name(&rt, alloc, b"D");
+    let refused = resolve(alloc, of_square(&rt, alloc, 1, false), &top);
+    assert!(rt; matches!(refused, Err(TreeBad::NoTop)));
 }

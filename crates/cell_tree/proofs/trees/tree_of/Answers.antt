@@ -1,6 +1,9 @@
-use Rattle.std.proofs.Common.{◌≡◌, ℕ, ◌<◌, Some, None, length, map, ap, sym, subst, ◌∙◌}
+use Rattle.std.proofs.Common.{◌≡◌, ℕ, ◌<◌, Some, None, length, map, ap, sym, subst, ◌∙◌, arith}
+use Rattle.std.proofs.lemmas.Int.{ints}
+use Rattle.cell_tree.proofs.ChainLemmas.{top_reachable}
+use Rattle.cell_tree.proofs.ReachLemmas.{near_below}
 use Rattle.cell_tree.specs.HullTables.{extent_in}
-use Rattle.cell_tree.proofs.TreeLemmas.{order_short, order_near, top_hulls, hulls_below, near_of, extent_is}
+use Rattle.cell_tree.proofs.TreeLemmas.{order_short, order_near, top_hulls, hulls_below, near_of, extent_is, extent_same}
 use Rattle.cell_tree.proofs.trees.tree_of.Goals as goal
 
 pub hulls-requires-clause-short : goal.hulls-requires-clause-short
@@ -19,7 +22,9 @@ returns-in-Some-clause-err c =
     let inside : top < length c.in_ok-hulls.hulls.items = subst (λ l. top < l) (sym c.in_ok-hulls.ensures.long) c.requires.top in
     let are = top_hulls (λ list. list.items) cells top order c.as_slice.result.now c.in_ok-hulls.hulls.items c.index.result.now c.as_slice.ensures.value c.in_ok-ask_cycle.ensures.order c.in_ok-hulls.ensures.hulls inside c.index.ensures in
     (c.in_ok-ask_names.ensures.ok, c.in_ok-ask_cycle.ensures.ok, c.in_ok-ask_depth.ensures.ok, c.in_ok-ask_scale.ensures.ok, c.in_ok-ask_fixed.ensures.ok,
-     extent_is cells top c.index.result.now.items c.in-Some.value are (sym (ap extent_in c.as_slice-2.ensures.value) ∙ sym c.extent_of.ensures ∙ c.in-Some.is))
+     extent_same cells top c.in-Some.value _ (near_below cells c.requires.grid.cells top top c.in_ok-ask_depth.ensures.ok c.in_ok-ask_scale.ensures.ok (top_reachable cells top))
+       (extent_is cells top c.index.result.now.items c.in-Some.value are (sym (ap extent_in c.as_slice-2.ensures.value) ∙ sym c.extent_of.ensures ∙ c.in-Some.is))
+       (λ small. let low = small.low in let high = small.high in omega (arith, ints)))
 
 pub ask_count-requires-clause-near : goal.ask_count-requires-clause-near
 ask_count-requires-clause-near c =
