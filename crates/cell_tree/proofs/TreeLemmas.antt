@@ -209,11 +209,11 @@ extent_is cells top hulls value are some = by (whole_from None hulls) (whole_of 
 -- the first that passes meets what all meet
 found_meets : (P : ℤ → Type 0) (p : ℤ → Bool) (xs : List ℤ) (v : ℤ) → AllByRecursion P xs → find p xs ≡ Some v → P v
 found_meets P p [] v all e = absurd (none-some v e)
-found_meets P p (x ∷ xs) v all e = by (p x) e
+found_meets P p (x ∷ xs) v all e = by (p x) e (λ later. found_meets P p xs v all.1 later)
   where
-    by : (b : Bool) → cond b (Some x) (find p xs) ≡ Some v → P v
-    by true e = subst P (same_Some x v e) all.0
-    by false e = found_meets P p xs v all.1 e
+    by : (b : Bool) → cond b (Some x) (find p xs) ≡ Some v → (find p xs ≡ Some v → P v) → P v
+    by true e rest = subst P (same_Some x v e) all.0
+    by false e rest = rest e
 
 -- what is kept of an extent is that number
 pub extent_same : (cells : List Cell) (top : ℕ) (value shown : ℤ) → HasNearVertices cells top → IsExtent cells top value → (IsUpTo (2 ^ 53) value → shown ≡ value) → IsExtent cells top shown
@@ -227,7 +227,7 @@ extent_same cells top value shown near extent same =
     let y0 : IsUpTo (2 ^ 53) box.y0 = subst (IsUpTo (2 ^ 53)) least.bottom.2 (record { low = bottom.y_low; high = bottom.y_high }) in
     let x1 : IsUpTo (2 ^ 53) box.x1 = subst (IsUpTo (2 ^ 53)) least.right.2 (record { low = right.x_low; high = right.x_high }) in
     let y1 : IsUpTo (2 ^ 53) box.y1 = subst (IsUpTo (2 ^ 53)) least.top.2 (record { low = upper.y_low; high = upper.y_high }) in
-    let small = found_meets (IsUpTo (2 ^ 53)) is_beyond (box.x0 ∷ box.y0 ∷ box.x1 ∷ box.y1 ∷ []) value (x0, y0, x1, y1, tt) extent.first in
+    let small = found_meets (IsUpTo (2 ^ 53)) is_beyond (box.x0 ∷ box.y0 ∷ box.x1 ∷ box.y1 ∷ []) value (x0, (y0, (x1, (y1, tt)))) extent.first in
     subst (IsExtent cells top) (sym (same small)) extent
 
 -- ---- a tree has no fault
