@@ -1,10 +1,9 @@
 -- Chains of placements.
-use Rattle.std.proofs.Common.{◌≡◌, ◌⊎◌, ℕ, zero, suc, ◌+◌, ◌*◌, ◌<◌, ◌≤◌, List, [], ◌∷◌, ◌++◌, Option, Some, None, map, length, take, get_or, slice_get, refl, sym, ap, subst, ◌∙◌, inl, inr, arith, mul_assoc}
+use Rattle.std.proofs.Common.{◌≡◌, ℕ, zero, suc, ◌*◌, ◌<◌, List, [], ◌∷◌, ◌++◌, Some, length, take, get_or, slice_get, refl, sym, ap, subst, ◌∙◌, arith, mul_assoc}
 use Rattle.std.proofs.lemmas.List.{map_push}
-use Rattle.std.proofs.lemmas.Option.{none-some, same_Some, slice_get_within}
 use Rattle.layout_model.specs.declared.cells.Placement.{Placement}
 use Rattle.layout_model.specs.declared.cells.Cell.{Cell}
-use Rattle.cell_tree.specs.Cells.{Places, PlacesCell, PlacesAt, placements_at, targets_at, cell_number, name_at}
+use Rattle.cell_tree.specs.Cells.{Places, PlacesCell, PlacesAt, placements_at, cell_number, name_at}
 use Rattle.cell_tree.specs.Chains.{Link, IsChain, chain_cells, chain_end, chain_factor, IsReachable}
 use Rattle.cell_tree.proofs.SlotLemmas.{map_slot, slot_map}
 use Rattle.cell_tree.proofs.NameLemmas.{number_within}

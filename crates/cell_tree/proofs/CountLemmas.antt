@@ -1,5 +1,5 @@
 -- Counts of flattened shapes, cell by cell.
-use Rattle.std.proofs.Common.{◌≡◌, ◌⊎◌, ℕ, ◌+◌, ◌*◌, ◌-◌, ◌^◌, ◌<◌, ◌≤◌, List, [], ◌∷◌, ◌++◌, Option, Some, None, length, take, get_or, slice_get, min, refl, sym, ap, subst, ◌∙◌, arith}
+use Rattle.std.proofs.Common.{◌≡◌, ℕ, ◌+◌, ◌*◌, ◌^◌, ◌<◌, ◌≤◌, List, [], ◌∷◌, ◌++◌, Option, Some, None, length, take, get_or, slice_get, refl, sym, ap, ◌∙◌, arith}
 use Rattle.std.specs.List.{sum_by}
 use Rattle.std.specs.Option.{option_map_or}
 use Rattle.std.proofs.lemmas.List.{take_more, take_all, length-map}
@@ -12,7 +12,7 @@ use Rattle.cell_tree.specs.Cells.{PlacesAt, shapes_at, placements_at, targets_at
 use Rattle.cell_tree.specs.Chains.{IsShort}
 use Rattle.cell_tree.specs.Flattening.{shape_count}
 use Rattle.cell_tree.specs.Counting.{saturated, own_count, placed_count, copies_of}
-use Rattle.cell_tree.proofs.SlotLemmas.{slot_map, one_slot}
+use Rattle.cell_tree.proofs.SlotLemmas.{slot_map}
 use Rattle.cell_tree.proofs.FlatLemmas.{count_is}
 
 abbrev pub IsCount : List Cell → ℕ → ℕ → Type 0

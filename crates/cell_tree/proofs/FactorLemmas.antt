@@ -1,16 +1,15 @@
 -- The greatest factor of chains from a cell by those of the cells that it places.
-use Rattle.std.proofs.Common.{◌≡◌, ◌⊎◌, ℕ, zero, suc, ◌+◌, ◌-◌, ◌*◌, ◌<◌, ◌≤◌, Bool, true, false, List, [], ◌∷◌, ◌++◌, Option, Some, None, IfSome, IsSomeAnd, All, length, take, get_or, slice_get, map, min, nat_lt, if◌then◌else◌, refl, sym, ap, subst, ◌∙◌, inl, inr, arith, mul_assoc}
+use Rattle.std.proofs.Common.{◌≡◌, ◌⊎◌, ℕ, zero, suc, ◌+◌, ◌-◌, ◌*◌, ◌<◌, ◌≤◌, Bool, true, false, List, [], ◌∷◌, ◌++◌, Option, Some, None, IfSome, IsSomeAnd, All, get_or, slice_get, min, nat_lt, if◌then◌else◌, refl, sym, ap, subst, ◌∙◌, inl, inr, arith, mul_assoc}
 use Rattle.std.proofs.lemmas.Bool.Decides.{nat_tests}
 use Rattle.std.proofs.lemmas.Bool.{false≢true}
 use Rattle.std.proofs.Math.Nat.{mul-le-mul_left, mul-le-mul_right}
 use Rattle.std.specs.Option.{option_map}
-use Rattle.std.proofs.lemmas.Option.{none-some, same_Some}
 use Rattle.std.proofs.lemmas.List.Elements.{All-head, All-tail}
 use Rattle.layout_model.specs.Layouts.{IsCellOnGrid, IsPlacementOnGrid}
 use Rattle.layout_model.specs.declared.cells.Placement.{Placement}
 use Rattle.layout_model.specs.declared.cells.Cell.{Cell}
-use Rattle.cell_tree.specs.Cells.{Places, PlacesAt, HasFixed, placements_at, targets_at}
-use Rattle.cell_tree.specs.Chains.{Link, IsChain, chain_cells, chain_end, chain_factor, IsReachable}
+use Rattle.cell_tree.specs.Cells.{PlacesAt, placements_at, targets_at}
+use Rattle.cell_tree.specs.Chains.{Link, IsChain, chain_end, chain_factor}
 use Rattle.cell_tree.specs.Trees.{IsMild, KeepsFixed}
 use Rattle.cell_tree.specs.Factors.{IsEnd, IsEndOfChain, IsFarthest, IsCapped, placed_far, LeadsFar, IsFarthestOf, GoesBeyond, LeadsBeyond, better, through}
 use Rattle.cell_tree.specs.declared.factors.Far.{Far}

@@ -1,5 +1,5 @@
 -- The flattened shapes of a cell, by its own and those of the cells that it places.
-use Rattle.std.proofs.Common.{◌≡◌, ◌⊎◌, ℕ, zero, suc, ◌+◌, ◌*◌, ◌<◌, ◌≤◌, List, [], ◌∷◌, ◌++◌, Option, Some, None, Any, Contains, length, get_or, slice_get, map, refl, sym, ap, subst, ◌∙◌, inl, inr, arith}
+use Rattle.std.proofs.Common.{◌≡◌, ◌⊎◌, ℕ, zero, suc, ◌+◌, ◌*◌, ◌<◌, List, [], ◌∷◌, ◌++◌, Option, Some, None, Any, Contains, length, get_or, slice_get, map, refl, sym, ap, subst, ◌∙◌, inl, inr, arith}
 use Rattle.std.specs.List.{flat_map, sum_by}
 use Rattle.std.specs.Option.{option_map_or}
 use Rattle.std.proofs.lemmas.List.{length-map, length-append}
@@ -7,17 +7,17 @@ use Rattle.std.proofs.lemmas.List.Concat.{length-flat_map}
 use Rattle.std.proofs.lemmas.List.Sums.{sum_by-cons}
 use Rattle.std.proofs.lemmas.Option.{none-some, same_Some, slice_get_within, get_or_from_slice_get, slice_get-get_or}
 use Rattle.half_grid.specs.declared.plane.Point.{Point}
-use Rattle.layout_model.specs.Images.{image_of, image_of_points, moved}
+use Rattle.layout_model.specs.Images.{image_of, moved}
 use Rattle.layout_model.specs.declared.pair.Pair.{Pair}
 use Rattle.layout_model.specs.declared.orient.Orient.{Orient}
 use Rattle.layout_model.specs.declared.shapes.Shape.{Shape}
 use Rattle.layout_model.specs.declared.cells.Placement.{Placement}
 use Rattle.layout_model.specs.declared.cells.Cell.{Cell}
-use Rattle.cell_tree.specs.Cells.{Places, PlacesAt, shapes_at, placements_at, targets_at, cell_number}
-use Rattle.cell_tree.specs.Chains.{Link, IsChain, chain_cells, chain_end, IsReachable, IsShort}
+use Rattle.cell_tree.specs.Cells.{shapes_at, placements_at, cell_number}
+use Rattle.cell_tree.specs.Chains.{IsChain, IsReachable, IsShort}
 use Rattle.cell_tree.specs.Trees.{IsShallow}
 use Rattle.cell_tree.specs.Flattening.{placed_things, things_within, Flat, flats_of_shape, own_flats, flat_image, flattened, IsVertex, shape_count}
-use Rattle.cell_tree.specs.Counting.{own_count, placed_count}
+use Rattle.cell_tree.specs.Counting.{placed_count}
 use Rattle.cell_tree.specs.HullTables.{OwnVertex, PlacedVertex}
 use Rattle.cell_tree.proofs.SlotLemmas.{map_slot, slot_map}
 use Rattle.cell_tree.proofs.ChainLemmas.{chain_joined}

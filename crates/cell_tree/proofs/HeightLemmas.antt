@@ -1,12 +1,12 @@
 -- The height of a cell by those of the cells that it places, and what heights say of chains.
-use Rattle.std.proofs.Common.{◌≡◌, ◌⊎◌, ℕ, zero, suc, ◌+◌, ◌-◌, ◌<◌, ◌≤◌, List, [], ◌∷◌, ◌++◌, Option, Some, None, length, take, get_or, slice_get, map, min, refl, sym, ap, subst, ◌∙◌, inl, inr, arith}
-use Rattle.std.proofs.lemmas.List.{length-take-le, length-map, length_push}
+use Rattle.std.proofs.Common.{◌≡◌, ℕ, zero, suc, ◌<◌, ◌≤◌, List, [], ◌∷◌, length, take, get_or, refl, ap, inl, inr, arith}
+use Rattle.std.proofs.lemmas.List.{length-take-le, length-map}
 use Rattle.layout_model.specs.declared.cells.Cell.{Cell}
-use Rattle.cell_tree.specs.Cells.{Places, PlacesAt, targets_at}
-use Rattle.cell_tree.specs.Chains.{Link, IsChain, chain_cells, chain_end, IsReachable}
+use Rattle.cell_tree.specs.Cells.{PlacesAt, targets_at}
+use Rattle.cell_tree.specs.Chains.{Link, IsChain, chain_cells}
 use Rattle.cell_tree.specs.Heights.{HasChain, IsHeight, IsHeightOf}
 use Rattle.cell_tree.specs.Trees.{IsShallow}
-use Rattle.cell_tree.proofs.ChainLemmas.{PlacesBy, placement_of, places_by, places_at, chain_take}
+use Rattle.cell_tree.proofs.ChainLemmas.{placement_of, places_by, places_at, chain_take}
 
 -- a chain that begins with a placement
 pub longer_chain : (cells : List Cell) (n k m count : ℕ) → PlacesAt cells n k m → HasChain cells m count → HasChain cells n (suc count)

@@ -1,13 +1,13 @@
 -- Lists of boxes by pair.
-use Rattle.std.proofs.Common.{◌≡◌, ◌⊎◌, ℕ, ℤ, zero, suc, ◌+◌, ◌<◌, ◌≤◌, ◌^◌, nat_eq, ◌&&◌, Bool, true, false, if◌then◌else◌, List, [], ◌∷◌, ◌++◌, Option, Some, None, All, map, length, take, drop, set, get_or, slice_get, refl, sym, ap, subst, ◌∙◌, inl, inr, arith, true≢false}
-use Rattle.std.specs.Option.{option_map, option_and_then}
+use Rattle.std.proofs.Common.{◌≡◌, ◌⊎◌, ℕ, zero, suc, ◌+◌, ◌<◌, nat_eq, ◌&&◌, Bool, true, false, if◌then◌else◌, List, [], ◌∷◌, ◌++◌, Option, Some, None, length, take, set, get_or, slice_get, refl, sym, ap, subst, ◌∙◌, inl, inr, arith, true≢false}
+use Rattle.std.specs.Option.{option_map}
 use Rattle.std.proofs.lemmas.Bool.Decides.{nat_tests}
-use Rattle.std.proofs.lemmas.List.{take_more, length-map}
-use Rattle.std.proofs.lemmas.Option.{none-some, same_Some, slice_get_within, slice_get-get_or}
+use Rattle.std.proofs.lemmas.List.{take_more}
+use Rattle.std.proofs.lemmas.Option.{none-some, same_Some, slice_get-get_or}
 use Rattle.half_grid.specs.declared.plane.Point.{Point}
 use Rattle.half_grid.specs.declared.extent.Frame.{Frame}
 use Rattle.layout_model.specs.declared.pair.Pair.{Pair}
-use Rattle.cell_tree.specs.Boxes.{IsLeastBox, IsHull, IsBoxUpTo, joined_box}
+use Rattle.cell_tree.specs.Boxes.{IsLeastBox, IsHull, joined_box}
 use Rattle.cell_tree.specs.HullTables.{same_pair, hull_in, AreApart, wider, widest, widened_list, whole_from}
 use Rattle.cell_tree.specs.declared.hulls.PairHull.{PairHull}
 use Rattle.cell_tree.proofs.BoxLemmas.{same_least, joined_least}

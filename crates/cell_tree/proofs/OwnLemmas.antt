@@ -1,8 +1,8 @@
 -- The boxes of shapes and of placements.
-use Rattle.std.proofs.Common.{◌≡◌, ◌≢◌, ◌⊎◌, ℕ, ℤ, zero, suc, pos, ◌+ℤ◌, ◌≤ℤ◌, ◌+◌, ◌^◌, ◌<◌, ◌≤◌, true, false, List, [], ◌∷◌, ◌++◌, Option, Some, None, IfSome, All, map, length, take, get_or, slice_get, refl, sym, ap, subst, ◌∙◌, inl, inr, arith, true≢false}
+use Rattle.std.proofs.Common.{◌≡◌, ◌≢◌, ◌⊎◌, ℕ, ℤ, ◌+ℤ◌, ◌+◌, ◌^◌, ◌<◌, ◌≤◌, List, [], ◌∷◌, Option, Some, None, IfSome, All, length, get_or, slice_get, refl, sym, ap, subst, ◌∙◌, inl, inr, arith, true≢false}
 use Rattle.std.specs.Option.{option_map}
 use Rattle.std.proofs.lemmas.Int.{ints}
-use Rattle.std.proofs.lemmas.Option.{none-some, same_Some, slice_get_within, slice_get-get_or, get_or_from_slice_get}
+use Rattle.std.proofs.lemmas.Option.{none-some, same_Some, slice_get-get_or, get_or_from_slice_get}
 use Rattle.std.proofs.lemmas.List.{length-map}
 use Rattle.cell_tree.specs.Chains.{IsShort}
 use Rattle.cell_tree.proofs.FlatLemmas.{vertex_cases, own_vertex, placed_vertex}
@@ -10,10 +10,9 @@ use Rattle.half_grid.specs.Outlines.{IsClosed}
 use Rattle.half_grid.specs.declared.plane.Point.{Point}
 use Rattle.half_grid.specs.declared.extent.Frame.{Frame}
 use Rattle.layout_model.specs.Hulls.{IsInBox, IsLeastBoxOf}
-use Rattle.layout_model.specs.Images.{IsOrient, image_of, moved}
+use Rattle.layout_model.specs.Images.{moved}
 use Rattle.layout_model.specs.Layouts.{IsWithin, IsMove, AreOffsets, IsShapeOnGrid, IsPlacementOnGrid}
 use Rattle.layout_model.specs.declared.pair.Pair.{Pair}
-use Rattle.layout_model.specs.declared.orient.Orient.{Orient}
 use Rattle.layout_model.specs.declared.shapes.Shape.{Shape}
 use Rattle.layout_model.specs.declared.cells.Placement.{Placement}
 use Rattle.layout_model.specs.declared.cells.Cell.{Cell}
@@ -21,12 +20,12 @@ use Rattle.cell_tree.specs.Cells.{PlacesAt, placements_at, shapes_at, targets_at
 use Rattle.cell_tree.specs.Linking.{AreTargetsBelow}
 use Rattle.cell_tree.specs.Flattening.{IsVertex}
 use Rattle.cell_tree.specs.Boxes.{IsLeastBox, IsOneOf, IsHull, IsUpTo, IsBoxUpTo, summed_box, moved_box, oriented_box}
-use Rattle.cell_tree.specs.HullTables.{same_pair, ShapeVertex, IsMoveOf, OwnVertex, PlacedVertex, placed_hull, hull_in, hulls_at, widest, wider, widened_list, AreApart, AreCellHulls, HasNearVertices}
+use Rattle.cell_tree.specs.HullTables.{same_pair, ShapeVertex, IsMoveOf, OwnVertex, PlacedVertex, placed_hull, hull_in, hulls_at, widest, widened_list, AreApart, AreCellHulls, HasNearVertices}
 use Rattle.cell_tree.specs.declared.hulls.PairHull.{PairHull}
 use Rattle.cell_tree.proofs.SlotLemmas.{All-slot, All-from_slots, one_slot, slot_map}
 use Rattle.std.proofs.lemmas.List.Elements.{All-nil}
 use Rattle.cell_tree.proofs.SearchLemmas.{apart}
-use Rattle.cell_tree.proofs.BoxLemmas.{same_hull, same_least, least_of, summed_least, least_up_to, Image, oriented_point, oriented_least}
+use Rattle.cell_tree.proofs.BoxLemmas.{same_hull, least_of, summed_least, least_up_to, Image, oriented_point, oriented_least}
 use Rattle.cell_tree.proofs.HullLemmas.{pairs, pair_same, widened_here, widened_elsewhere, widened_apart, widest_hull, entry_hull}
 
 pub up_to_more : (a b : ℕ) (z : ℤ) → a ≤ b → IsUpTo a z → IsUpTo b z

@@ -1,11 +1,11 @@
 -- How far the vertices of a reachable cell are from 0.
-use Rattle.std.proofs.Common.{◌≡◌, ◌⊎◌, ℕ, ℤ, zero, suc, pos, negsuc, neg_ℤ, ◌+ℤ◌, ◌*ℤ◌, ◌≤ℤ◌, ◌+◌, ◌*◌, ◌^◌, ◌<◌, ◌≤◌, Bool, true, false, List, [], ◌∷◌, ◌++◌, Option, Some, None, All, length, slice_get, unsigned_abs, refl, sym, ap, subst, ◌∙◌, inl, inr, arith, mul_assoc}
+use Rattle.std.proofs.Common.{◌≡◌, ℕ, ℤ, zero, suc, pos, negsuc, neg_ℤ, ◌+ℤ◌, ◌+◌, ◌*◌, ◌^◌, ◌≤◌, Bool, true, false, List, [], ◌∷◌, ◌++◌, All, length, unsigned_abs, refl, sym, ap, subst, inl, inr, arith, mul_assoc}
 use Rattle.std.proofs.Math.Nat.{mul-le-mul, mul-le-mul_left, mul-le-mul_right}
 use Rattle.std.proofs.lemmas.Int.{ints, unsigned_abs-mul}
 use Rattle.std.proofs.lemmas.List.Elements.{All-head, All-tail}
 use Rattle.half_grid.specs.declared.plane.Point.{Point}
-use Rattle.layout_model.specs.Images.{IsOrient, image_of, moved, turned, flipped, enlarged, quarter_turn}
-use Rattle.layout_model.specs.Layouts.{IsWithin, IsMove, AreOffsets, IsShapeOnGrid, IsPlacementOnGrid, IsCellOnGrid}
+use Rattle.layout_model.specs.Images.{moved, turned, flipped, enlarged, quarter_turn}
+use Rattle.layout_model.specs.Layouts.{IsWithin, IsMove, IsShapeOnGrid, IsPlacementOnGrid, IsCellOnGrid}
 use Rattle.layout_model.specs.declared.pair.Pair.{Pair}
 use Rattle.layout_model.specs.declared.orient.Orient.{Orient}
 use Rattle.layout_model.specs.declared.cells.Cell.{Cell}
@@ -13,7 +13,7 @@ use Rattle.cell_tree.specs.Cells.{shapes_at, placements_at}
 use Rattle.cell_tree.specs.Chains.{Link, IsChain, chain_factor, IsReachable, IsShort}
 use Rattle.cell_tree.specs.Trees.{IsShallow, IsMild}
 use Rattle.cell_tree.specs.Flattening.{IsVertex}
-use Rattle.cell_tree.specs.HullTables.{OwnVertex, PlacedVertex, HasNearVertices}
+use Rattle.cell_tree.specs.HullTables.{OwnVertex, HasNearVertices}
 use Rattle.cell_tree.specs.Boxes.{IsUpTo}
 use Rattle.cell_tree.proofs.SlotLemmas.{All-slot}
 use Rattle.cell_tree.proofs.ChainLemmas.{chain_joined, factor_joined}

@@ -1,5 +1,5 @@
 -- What holds on success.
-use Rattle.std.proofs.Common.{◌≡◌, ◌≢◌, List, [], ◌∷◌, Result, Ok, Err, OnOk, refl, ap, arith}
+use Rattle.std.proofs.Common.{◌≡◌, ◌≢◌, List, [], ◌∷◌, Result, Ok, Err, OnOk, refl}
 
 pub on_ok2 : {T E A B Q : Type 0} (r : Result T E) → OnOk r A → OnOk r B → (A → B → Q) → OnOk r Q
 on_ok2 (Ok x) a b f = f a b

@@ -1,6 +1,5 @@
 -- The steps of a search.
-use Rattle.std.proofs.Common.{◌≡◌, ◌≢◌, ◌⊎◌, ℕ, zero, suc, ◌+◌, ◌-◌, ◌*◌, ◌<◌, ◌≤◌, List, [], ◌∷◌, ◌++◌, Option, Some, None, All, map, length, take, drop, set, get_or, slice_get, replicate, refl, sym, ap, subst, ◌∙◌, inl, inr, arith}
-use Rattle.std.specs.List.{sum_by}
+use Rattle.std.proofs.Common.{◌≡◌, ◌≢◌, ◌⊎◌, ℕ, zero, suc, ◌+◌, ◌-◌, ◌<◌, ◌≤◌, List, [], ◌∷◌, ◌++◌, Option, Some, None, map, length, drop, set, get_or, slice_get, replicate, refl, sym, ap, subst, ◌∙◌, inl, inr, arith}
 use Rattle.std.proofs.lemmas.List.{length-set, length_push, length-map, length-drop, length-replicate}
 use Rattle.std.proofs.lemmas.List.Sums.{sum_by_push}
 use Rattle.std.proofs.lemmas.Option.{none-some, same_Some, slice_get_within, slice_get-get_or}
@@ -12,7 +11,7 @@ use Rattle.cell_tree.specs.Searches.{IsMet, IsStop, IsOnPath, IsSearch, new_work
 use Rattle.cell_tree.specs.declared.orders.Mark.{Mark}
 use Rattle.cell_tree.specs.declared.orders.Mark.TheVariants.{New, Open, Done}
 use Rattle.cell_tree.specs.declared.orders.Stop.{Stop}
-use Rattle.cell_tree.proofs.SlotLemmas.{slot_set_same, slot_set_other, slot_push, slot_before, slot_last, slot_past, slot_drop, map_slot, slot_map, one_slot, All-from_slots, slot_read}
+use Rattle.cell_tree.proofs.SlotLemmas.{slot_set_same, slot_set_other, slot_push, slot_before, slot_last, slot_past, slot_drop, map_slot, one_slot, All-from_slots, slot_read}
 use Rattle.cell_tree.proofs.NameLemmas.{targets_below}
 use Rattle.cell_tree.proofs.ChainLemmas.{reach_more, reachable_within, top_reachable, places_cell, places_at, along}
 

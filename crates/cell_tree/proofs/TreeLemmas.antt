@@ -1,15 +1,15 @@
 -- What the passes say of a tree.
-use Rattle.std.proofs.Common.{◌≡◌, ◌≢◌, ◌⊎◌, ℕ, ℤ, zero, suc, pos, ◌+◌, ◌-◌, ◌*◌, ◌^◌, ◌<◌, ◌≤◌, List, [], ◌∷◌, ◌++◌, Option, Some, None, Bool, true, false, ◌||◌, int_lt, ◌≤ℤ◌, neg_ℤ, if◌then◌else◌, cond, find, true≢false, Result, Ok, Err, IfErr, OnOk, IsOk, IsErrAnd, All, map, length, get_or, slice_get, refl, sym, ap, subst, ◌∙◌, inl, inr, arith}
+use Rattle.std.proofs.Common.{◌≡◌, ◌≢◌, ◌⊎◌, ℕ, ℤ, zero, suc, pos, ◌+◌, ◌-◌, ◌*◌, ◌^◌, ◌<◌, ◌≤◌, List, [], ◌∷◌, Option, Some, None, Bool, true, false, ◌||◌, int_lt, ◌≤ℤ◌, neg_ℤ, if◌then◌else◌, cond, find, true≢false, Result, Ok, Err, IfErr, OnOk, IsOk, IsErrAnd, All, map, length, get_or, slice_get, refl, sym, ap, subst, ◌∙◌, inl, inr, arith}
 use Rattle.std.proofs.lemmas.Option.{none-some, same_Some, slice_get_within, slice_get-get_or, get_or_from_slice_get}
 use Rattle.std.proofs.lemmas.List.{length-map, get_or_read, get_or-map}
 use Rattle.layout_model.specs.declared.cells.Placement.{Placement}
 use Rattle.layout_model.specs.declared.cells.Cell.{Cell}
-use Rattle.cell_tree.specs.Cells.{Places, PlacesCell, PlacesAt, PlacesUnknown, HasFixed, placements_at, targets_at, name_at, cell_number}
-use Rattle.cell_tree.specs.Chains.{Link, IsChain, chain_cells, chain_end, chain_factor, IsReachable, IsCycle, IsShort}
-use Rattle.cell_tree.specs.Orders.{IsAmong, IsBefore, IsUpward, IsOrder}
+use Rattle.cell_tree.specs.Cells.{PlacesCell, PlacesAt, PlacesUnknown, HasFixed, placements_at, targets_at, name_at, cell_number}
+use Rattle.cell_tree.specs.Chains.{Link, IsChain, chain_cells, chain_factor, IsReachable, IsCycle, IsShort}
+use Rattle.cell_tree.specs.Orders.{IsAmong, IsBefore, IsOrder}
 use Rattle.cell_tree.specs.Searches.{IsFound}
-use Rattle.cell_tree.specs.Trees.{IsKnown, IsAcyclic, IsShallow, IsMild, KeepsFixed, IsNear, IsCounted, IsTree}
-use Rattle.cell_tree.specs.Faults.{IsFirstFault, IsUnknown, IsNamedCycle, IsDeep, IsScaled, IsEnlarged, IsExtent, IsCrowded, is_beyond, first_beyond, order_of}
+use Rattle.cell_tree.specs.Trees.{IsKnown, IsAcyclic, IsShallow, IsMild, KeepsFixed, IsNear, IsTree}
+use Rattle.cell_tree.specs.Faults.{IsFirstFault, IsUnknown, IsEnlarged, IsExtent, IsCrowded, is_beyond, first_beyond, order_of}
 use Rattle.cell_tree.specs.declared.faults.TreeBad.{TreeBad}
 use Rattle.cell_tree.specs.declared.faults.TreeBad.TheVariants.{NoTop, Unknown, Cycle, Deep, Scale, Fixed, Extent, Count, NoMemory}
 use Rattle.std.specs.List.{sum_by, AllByRecursion}
@@ -22,7 +22,7 @@ use Rattle.half_grid.specs.declared.extent.Frame.{Frame}
 use Rattle.layout_model.specs.Layouts.{IsWithin, IsCellOnGrid, IsPlacementOnGrid}
 use Rattle.layout_model.specs.declared.pair.Pair.{Pair}
 use Rattle.cell_tree.specs.Flattening.{IsVertex, shape_count}
-use Rattle.cell_tree.specs.Boxes.{IsLeastBox, IsHull, IsUpTo, IsBoxUpTo}
+use Rattle.cell_tree.specs.Boxes.{IsHull, IsUpTo, IsBoxUpTo}
 use Rattle.cell_tree.specs.Counting.{placed_count, IsCrowd}
 use Rattle.cell_tree.specs.Factors.{IsFarthest, AreFarthest, AreFarthestBelow}
 use Rattle.cell_tree.specs.Heights.{IsHeight, AreHeights, AreHeightsBelow}

@@ -1,5 +1,5 @@
 -- The least box of points, and what becomes of it.
-use Rattle.std.specs.Prelude.{◌≡◌, ◌≤ℤ◌, ◌+ℤ◌, ◌*ℤ◌, neg_ℤ, pos, ℕ, ℤ, zero, suc, ◌^◌, Bool, true, false, List, slice_get, Option, Some, None, MatchOption}
+use Rattle.std.specs.Prelude.{◌≡◌, ◌≤ℤ◌, ◌+ℤ◌, ◌*ℤ◌, neg_ℤ, pos, ℕ, ℤ, zero, suc, Bool, true, false, List, slice_get, Option, Some, MatchOption}
 use Rattle.std.specs.Int.{int_min, int_max}
 use Rattle.half_grid.specs.declared.plane.Point.{Point}
 use Rattle.half_grid.specs.declared.extent.Frame.{Frame}

@@ -1,5 +1,5 @@
 -- How many flattened shapes a cell has, by its own and those of the cells that it places.
-use Rattle.std.specs.Prelude.{◌≡◌, ◌≤◌, ◌<◌, ◌+◌, ◌*◌, ◌^◌, ◌-◌, ℕ, List, Option, Some, None, length, slice_get, slice_index, min}
+use Rattle.std.specs.Prelude.{◌≡◌, ◌≤◌, ◌<◌, ◌*◌, ◌^◌, ◌-◌, ℕ, List, Option, length, slice_index, min}
 use Rattle.std.specs.List.{sum_by}
 use Rattle.std.specs.Option.{option_map_or}
 use Rattle.layout_model.specs.declared.shapes.Shape.{Shape}

@@ -1,11 +1,10 @@
 -- Why a layout is refused: the first of these, in this order, that is there. What a refusal keeps is one such thing.
-use Rattle.std.specs.Prelude.{◌≡◌, ◌^◌, ◌<◌, ◌≤◌, ◌-◌, ◌||◌, ℕ, ℤ, pos, neg_ℤ, int_lt, Bool, List, [], ◌∷◌, Option, Some, None, map, length, take, find, min}
-use Rattle.half_grid.specs.declared.plane.Point.{Point}
+use Rattle.std.specs.Prelude.{◌≡◌, ◌^◌, ◌<◌, ◌≤◌, ◌-◌, ◌||◌, ℕ, ℤ, pos, neg_ℤ, int_lt, Bool, List, [], ◌∷◌, Option, Some, map, length, take, find, min}
 use Rattle.half_grid.specs.declared.extent.Frame.{Frame}
 use Rattle.layout_model.specs.declared.pair.Pair.{Pair}
 use Rattle.layout_model.specs.declared.cells.Placement.{Placement}
 use Rattle.layout_model.specs.declared.cells.Cell.{Cell}
-use Rattle.cell_tree.specs.Cells.{cell_number, name_at, PlacesCell, PlacesUnknown, HasFixed}
+use Rattle.cell_tree.specs.Cells.{name_at, PlacesCell, PlacesUnknown, HasFixed}
 use Rattle.cell_tree.specs.Chains.{Link, IsChain, chain_cells, chain_end, chain_factor, IsReachable, IsCycle}
 use Rattle.cell_tree.specs.Flattening.{IsVertex, shape_count}
 use Rattle.cell_tree.specs.Boxes.{IsLeastBox}

@@ -7,7 +7,7 @@
 --
 -- A chain of cells, each of which places the next, has at most 64 cells in a layout that is accepted, so what is said
 -- here of chains of at most so many cells is said of all.
-use Rattle.std.specs.Prelude.{◌≡◌, ℕ, zero, suc, List, [], ◌++◌, map, length, Any, Contains, slice_get}
+use Rattle.std.specs.Prelude.{◌≡◌, ℕ, zero, suc, List, [], ◌++◌, map, length, Any, Contains}
 use Rattle.std.specs.List.{flat_map}
 use Rattle.std.specs.Option.{option_map_or}
 use Rattle.half_grid.specs.Winding.{IsInPolygon}

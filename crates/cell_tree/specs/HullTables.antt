@@ -1,6 +1,6 @@
 -- The least boxes of a cell, pair by pair, by its own vertices and those of the cells that it places.
-use Rattle.std.specs.Prelude.{◌≡◌, ◌<◌, ◌&&◌, ◌^◌, ◌⊎◌, ℕ, ℤ, nat_eq, Bool, List, [], ◌∷◌, Option, Some, None, All, length, slice_get, get_or, if◌then◌else◌}
-use Rattle.std.specs.Option.{option_map, option_and_then}
+use Rattle.std.specs.Prelude.{◌≡◌, ◌<◌, ◌&&◌, ◌^◌, ℕ, ℤ, nat_eq, Bool, List, [], ◌∷◌, Option, Some, None, length, slice_get, get_or, if◌then◌else◌}
+use Rattle.std.specs.Option.{option_and_then}
 use Rattle.half_grid.specs.declared.plane.Point.{Point}
 use Rattle.half_grid.specs.declared.extent.Frame.{Frame}
 use Rattle.layout_model.specs.Images.{image_of, moved}
@@ -10,11 +10,11 @@ use Rattle.layout_model.specs.declared.orient.Orient.{Orient}
 use Rattle.layout_model.specs.declared.shapes.Shape.{Shape}
 use Rattle.layout_model.specs.declared.cells.Placement.{Placement}
 use Rattle.layout_model.specs.declared.cells.Cell.{Cell}
-use Rattle.cell_tree.specs.Cells.{placements_at, shapes_at, cell_number}
+use Rattle.cell_tree.specs.Cells.{placements_at, cell_number}
 use Rattle.cell_tree.specs.Chains.{IsReachable}
 use Rattle.cell_tree.specs.Orders.{IsAmong}
 use Rattle.cell_tree.specs.Flattening.{IsVertex}
-use Rattle.cell_tree.specs.Boxes.{IsHull, IsBoxUpTo, joined_box, summed_box, oriented_box}
+use Rattle.cell_tree.specs.Boxes.{IsHull, joined_box, summed_box, oriented_box}
 use Rattle.cell_tree.specs.Faults.{first_beyond}
 use Rattle.cell_tree.specs.declared.hulls.PairHull.{PairHull}
 

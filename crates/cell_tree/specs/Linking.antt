@@ -2,10 +2,7 @@
 use Rattle.std.specs.Prelude.{◌≡◌, ◌<◌, ℕ, nat_eq, List, Option, Some, map, slice_get, position}
 use Rattle.std.specs.Borrow.{Bor}
 use Rattle.std.specs.Cmp.Lexicographic.{pointwise}
-use Rattle.layout_model.specs.Layouts.{IsLayoutOnGrid}
 use Rattle.layout_model.specs.declared.cells.Placement.{Placement}
-use Rattle.layout_model.specs.declared.cells.Layout.{Layout}
-use Rattle.cell_tree.specs.Cells.{all_targets}
 
 -- what references point to
 abbrev pub pointed : {X : Type 0} → List (Bor X) → List X

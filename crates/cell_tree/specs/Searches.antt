@@ -1,5 +1,5 @@
 -- A search along placements from the top cell: each cell is new, or open, on the path that the search has come, or done.
-use Rattle.std.specs.Prelude.{◌≡◌, ◌<◌, ◌+◌, ◌*◌, ◌-◌, ◌⊎◌, ℕ, suc, List, [], ◌∷◌, Some, length, slice_get, All}
+use Rattle.std.specs.Prelude.{◌≡◌, ◌<◌, ◌+◌, ◌-◌, ◌⊎◌, ℕ, suc, List, [], ◌∷◌, Some, length, slice_get, All}
 use Rattle.std.specs.List.{sum_by}
 use Rattle.layout_model.specs.declared.cells.Cell.{Cell}
 use Rattle.cell_tree.specs.Cells.{PlacesAt, PlacesCell, targets_at}

@@ -1,5 +1,5 @@
 -- What is asked of a layout and of its top cell.
-use Rattle.std.specs.Prelude.{◌≡◌, ◌+◌, ◌^◌, ◌≤◌, ℕ, List, Some, length, IsSome}
+use Rattle.std.specs.Prelude.{◌^◌, ◌≤◌, ℕ, List, length}
 use Rattle.half_grid.specs.declared.plane.Point.{Point}
 use Rattle.layout_model.specs.Layouts.{IsWithin}
 use Rattle.layout_model.specs.declared.pair.Pair.{Pair}

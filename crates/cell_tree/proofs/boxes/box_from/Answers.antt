@@ -1,4 +1,4 @@
-use Rattle.std.proofs.Common.{◌≡◌, pos, ◌∷◌, ◌++◌, [], take, get_or, ap, sym, subst, ◌∙◌, arith}
+use Rattle.std.proofs.Common.{pos, ◌∷◌, take, get_or, sym, subst}
 use Rattle.std.proofs.lemmas.List.{take_more}
 use Rattle.half_grid.specs.declared.plane.Point.{Point}
 use Rattle.cell_tree.specs.Boxes.{IsLeastBox, IsOneOf}

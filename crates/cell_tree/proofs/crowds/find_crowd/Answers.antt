@@ -1,9 +1,9 @@
-use Rattle.std.proofs.Common.{◌≡◌, ℕ, ◌+◌, ◌<◌, ◌≤◌, ◌^◌, length, get_or, slice_get, Some, refl, sym, ap, subst, ◌∙◌, arith}
+use Rattle.std.proofs.Common.{◌≡◌, ◌<◌, ◌≤◌, ◌^◌, length, get_or, slice_get, Some, sym, subst, ◌∙◌, arith}
 use Rattle.std.proofs.lemmas.List.{length-set}
 use Rattle.std.proofs.lemmas.Option.{slice_get-get_or}
 use Rattle.cell_tree.specs.Flattening.{shape_count}
 use Rattle.cell_tree.proofs.ChainLemmas.{places_at}
-use Rattle.cell_tree.proofs.TableLemmas.{Known, known_more, known_all, known_before}
+use Rattle.cell_tree.proofs.TableLemmas.{known_more, known_all, known_before}
 use Rattle.cell_tree.proofs.CountLemmas.{IsCount, exact, crowded}
 use Rattle.cell_tree.proofs.crowds.find_crowd.Goals as goal
 

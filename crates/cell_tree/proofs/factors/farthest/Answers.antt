@@ -1,9 +1,9 @@
-use Rattle.std.proofs.Common.{◌≡◌, ℕ, ◌+◌, ◌<◌, length, get_or, slice_get, Some, None, All, refl, sym, ap, subst, ◌∙◌, arith}
+use Rattle.std.proofs.Common.{◌≡◌, ◌<◌, length, get_or, slice_get, Some, None, sym, subst, ◌∙◌, arith}
 use Rattle.std.proofs.lemmas.List.{length-set}
 use Rattle.std.proofs.lemmas.List.Elements.{All-set}
 use Rattle.std.proofs.lemmas.Option.{slice_get-get_or}
 use Rattle.cell_tree.specs.Factors.{IsFarthest, IsFarthestOf, IsCapped}
-use Rattle.cell_tree.proofs.TableLemmas.{Known, known_more, known_all, known_before}
+use Rattle.cell_tree.proofs.TableLemmas.{known_more, known_all, known_before}
 use Rattle.cell_tree.proofs.FactorLemmas.{is_farthest, mags_on_grid}
 use Rattle.cell_tree.proofs.factors.farthest.Goals as goal
 

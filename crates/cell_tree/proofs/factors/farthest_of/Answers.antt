@@ -1,8 +1,8 @@
-use Rattle.std.proofs.Common.{◌≡◌, ℕ, ◌+◌, ◌<◌, ◌≤◌, Option, Some, None, length, get_or, slice_get, map, refl, sym, ap, subst, ◌∙◌, arith}
+use Rattle.std.proofs.Common.{◌≡◌, ◌+◌, Some, None, length, get_or, slice_get, sym, ap, subst, ◌∙◌, arith}
 use Rattle.std.proofs.lemmas.List.{length-map}
 use Rattle.std.proofs.lemmas.Option.{slice_get_within, slice_get-get_or}
 use Rattle.cell_tree.specs.Cells.{placements_at, targets_at, cell_number}
-use Rattle.cell_tree.specs.Factors.{better, through, IsFarthestOf}
+use Rattle.cell_tree.specs.Factors.{better}
 use Rattle.cell_tree.proofs.SlotLemmas.{slot_read}
 use Rattle.cell_tree.proofs.FactorLemmas.{SoFar, far_more}
 use Rattle.cell_tree.proofs.factors.farthest_of.Goals as goal

@@ -1,4 +1,4 @@
-use Rattle.std.proofs.Common.{◌≡◌, ℕ, ◌<◌, Some, None, length, get_or, slice_get, arith}
+use Rattle.std.proofs.Common.{None, get_or, arith}
 use Rattle.std.proofs.lemmas.Option.{slice_get_within, slice_get-get_or}
 use Rattle.cell_tree.proofs.SlotLemmas.{slot_read}
 use Rattle.cell_tree.proofs.FactorLemmas.{beyond_more}

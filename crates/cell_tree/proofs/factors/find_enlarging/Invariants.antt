@@ -1,4 +1,4 @@
-use Rattle.std.proofs.Common.{◌≡◌, ℕ, ◌<◌, Some, slice_get}
+use Rattle.std.proofs.Common.{ℕ, ◌<◌}
 use Rattle.cell_tree.specs.Factors.{LeadsBeyond}
 use Rattle.cell_tree.specs.declared.factors.Far.{Far}
 use Rattle.cell_tree.proofs.factors.find_enlarging.Given as goal

@@ -1,9 +1,9 @@
-use Rattle.std.proofs.Common.{◌≡◌, ℕ, ◌+◌, ◌-◌, ◌*◌, ◌<◌, ◌≤◌, List, [], ◌∷◌, ◌++◌, Option, Some, None, length, get_or, slice_get, take, map, refl, sym, ap, subst, ◌∙◌, false, arith}
+use Rattle.std.proofs.Common.{◌≡◌, ℕ, ◌-◌, ◌*◌, ◌≤◌, List, [], ◌∷◌, ◌++◌, Option, Some, None, length, get_or, slice_get, take, sym, ap, subst, ◌∙◌, false, arith}
 use Rattle.std.proofs.lemmas.List.{length_push, length-map, take_at}
 use Rattle.layout_model.specs.declared.cells.Placement.{Placement}
 use Rattle.layout_model.specs.declared.cells.Cell.{Cell}
-use Rattle.cell_tree.specs.Cells.{PlacesAt, placements_at, targets_at}
-use Rattle.cell_tree.specs.Chains.{Link, IsChain, chain_cells, chain_end, chain_factor, IsReachable}
+use Rattle.cell_tree.specs.Cells.{placements_at, targets_at}
+use Rattle.cell_tree.specs.Chains.{Link, IsChain, chain_end, chain_factor, IsReachable}
 use Rattle.cell_tree.specs.Factors.{IsFarthest, AreFarthestBelow, LeadsBeyond}
 use Rattle.cell_tree.specs.declared.factors.Far.{Far}
 use Rattle.cell_tree.proofs.NameLemmas.{targets_below}

@@ -1,4 +1,4 @@
-use Rattle.std.proofs.Common.{◌≡◌, ℕ, ◌*◌, ◌<◌, ◌≤◌, List, Some, None, length, get_or}
+use Rattle.std.proofs.Common.{◌≡◌, ◌*◌, ◌<◌, ◌≤◌, List, Some, None, length, get_or}
 use Rattle.cell_tree.specs.Chains.{Link, IsChain, chain_cells, chain_end, chain_factor}
 use Rattle.cell_tree.specs.declared.factors.Far.{Far}
 use Rattle.cell_tree.proofs.factors.scaled_chain.Given as goal

@@ -1,5 +1,5 @@
-use Rattle.std.proofs.Common.{◌≡◌, ap, ◌∙◌, sym, ◌++◌, ◌∷◌, [], map, take, get_or}
-use Rattle.std.proofs.lemmas.List.{map_more, get_or_default}
+use Rattle.std.proofs.Common.{ap, ◌∙◌, sym, ◌++◌, ◌∷◌, [], get_or}
+use Rattle.std.proofs.lemmas.List.{map_more}
 use Rattle.cell_tree.specs.Cells.{name_at}
 use Rattle.cell_tree.proofs.ChainLemmas.{name_read}
 use Rattle.cell_tree.proofs.faults.names_of.Goals as goal

@@ -1,9 +1,9 @@
-use Rattle.std.proofs.Common.{◌≡◌, ℕ, suc, ◌+◌, ◌-◌, ◌<◌, ◌≤◌, List, [], ◌∷◌, ◌++◌, length, get_or, slice_get, Some, refl, sym, ap, subst, ◌∙◌, arith}
+use Rattle.std.proofs.Common.{◌≡◌, ℕ, ◌+◌, ◌-◌, ◌<◌, ◌≤◌, List, [], ◌∷◌, ◌++◌, get_or, slice_get, Some, sym, ap, subst, ◌∙◌, arith}
 use Rattle.std.proofs.lemmas.List.{length_push}
 use Rattle.layout_model.specs.declared.cells.Cell.{Cell}
-use Rattle.cell_tree.specs.Cells.{PlacesAt, targets_at}
-use Rattle.cell_tree.specs.Chains.{Link, IsChain, chain_cells, chain_end, IsReachable}
-use Rattle.cell_tree.specs.Heights.{IsHeight, AreHeightsBelow}
+use Rattle.cell_tree.specs.Cells.{PlacesAt}
+use Rattle.cell_tree.specs.Chains.{Link, IsChain, chain_end, IsReachable}
+use Rattle.cell_tree.specs.Heights.{AreHeightsBelow}
 use Rattle.cell_tree.proofs.NameLemmas.{targets_below}
 use Rattle.cell_tree.proofs.ChainLemmas.{reach_more, places_cell, places_by, link_at, chain_pushed, cells_pushed, end_joined}
 use Rattle.cell_tree.proofs.HeightLemmas.{next_tall}

@@ -1,4 +1,4 @@
-use Rattle.std.proofs.Common.{◌≡◌, ℕ, ◌+◌, ◌<◌, ◌≤◌, List, length, get_or}
+use Rattle.std.proofs.Common.{◌≡◌, ◌+◌, ◌<◌, List, length, get_or}
 use Rattle.cell_tree.specs.Chains.{Link, IsChain, chain_cells, chain_end}
 use Rattle.cell_tree.proofs.heights.deep_chain.Given as goal
 

@@ -1,8 +1,8 @@
-use Rattle.std.proofs.Common.{◌≡◌, ℕ, ◌+◌, ◌<◌, length, map, [], get_or, set, slice_get, Some, sym, ap, subst, ◌∙◌, arith}
+use Rattle.std.proofs.Common.{◌≡◌, ◌+◌, ◌<◌, length, map, [], get_or, slice_get, Some, sym, subst, ◌∙◌, arith}
 use Rattle.std.proofs.lemmas.List.{length-set, length-map, map-set}
 use Rattle.std.proofs.lemmas.Option.{slice_get-get_or}
 use Rattle.cell_tree.specs.HullTables.{AreCellHulls}
-use Rattle.cell_tree.proofs.TableLemmas.{Known, known_more, known_all, known_before}
+use Rattle.cell_tree.proofs.TableLemmas.{Known, known_more, known_all}
 use Rattle.cell_tree.proofs.hulls.hulls.Goals as goal
 
 pub loop-cell-preserved : goal.loop-cell-preserved

@@ -1,4 +1,4 @@
-use Rattle.std.proofs.Common.{◌≡◌, ℕ, ◌<◌, length, get_or, None, All, map, [], ap, sym, subst, arith}
+use Rattle.std.proofs.Common.{length, All, map, sym, subst}
 use Rattle.layout_model.specs.Layouts.{IsShapeOnGrid, IsPlacementOnGrid}
 use Rattle.cell_tree.specs.Cells.{shapes_at, placements_at}
 use Rattle.cell_tree.proofs.SlotLemmas.{All-slot}

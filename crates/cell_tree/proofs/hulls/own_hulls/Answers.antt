@@ -1,5 +1,4 @@
-use Rattle.std.proofs.Common.{◌≡◌, ◌+◌, length, get_or, subst, sym, ap, ◌∙◌, arith}
-use Rattle.layout_model.specs.declared.pair.Pair.{Pair}
+use Rattle.std.proofs.Common.{◌≡◌, length, subst, sym, arith}
 use Rattle.cell_tree.specs.Boxes.{IsHull}
 use Rattle.cell_tree.specs.HullTables.{AreApart, OwnVertex, hull_in}
 use Rattle.cell_tree.proofs.SlotLemmas.{slot_read}

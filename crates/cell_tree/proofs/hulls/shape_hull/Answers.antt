@@ -1,6 +1,6 @@
-use Rattle.std.proofs.Common.{◌^◌, subst, arith}
-use Rattle.cell_tree.specs.Boxes.{IsLeastBox, IsOneOf, IsBoxUpTo}
-use Rattle.cell_tree.proofs.OwnLemmas.{closed_some, points_up_to, offsets_up_to, box_more, shape_least}
+use Rattle.std.proofs.Common.{subst}
+use Rattle.cell_tree.specs.Boxes.{IsLeastBox, IsOneOf}
+use Rattle.cell_tree.proofs.OwnLemmas.{points_up_to, shape_least}
 use Rattle.cell_tree.proofs.hulls.shape_hull.Goals as goal
 
 pub summed-requires-clause-a : goal.summed-requires-clause-a

@@ -1,8 +1,7 @@
-use Rattle.std.proofs.Common.{◌≡◌, pos, ◌+◌, ◌<◌, Some, length, take, get_or, slice_get, subst, sym, ap, ◌∙◌, arith}
+use Rattle.std.proofs.Common.{◌≡◌, pos, Some, get_or, slice_get, subst, sym, ap, ◌∙◌}
 use Rattle.std.specs.Option.{option_map}
 use Rattle.std.proofs.lemmas.List.{take_all}
 use Rattle.std.proofs.lemmas.Option.{slice_get-get_or}
-use Rattle.half_grid.specs.declared.extent.Frame.{Frame}
 use Rattle.cell_tree.specs.Boxes.{summed_box}
 use Rattle.cell_tree.specs.HullTables.{AreApart, hull_in, widest, widened_list, placed_hull}
 use Rattle.cell_tree.specs.declared.hulls.PairHull.{PairHull}

@@ -1,4 +1,4 @@
-use Rattle.std.proofs.Common.{ap, ◌∙◌, map, sym}
+use Rattle.std.proofs.Common.{ap, ◌∙◌, map}
 use Rattle.cell_tree.specs.Linking.{pointed, places_among}
 use Rattle.cell_tree.proofs.NameLemmas.{row_more}
 use Rattle.cell_tree.proofs.linked.all_targets.Goals as goal

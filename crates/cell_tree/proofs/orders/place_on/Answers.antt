@@ -1,4 +1,4 @@
-use Rattle.std.proofs.Common.{◌≡◌, ℕ, ◌<◌, subst, sym, ◌∙◌, ap, below_more, arith}
+use Rattle.std.proofs.Common.{◌∙◌, ap, below_more, arith}
 use Rattle.std.proofs.lemmas.Option.{slice_get_within}
 use Rattle.cell_tree.specs.Searches.{IsStop}
 use Rattle.cell_tree.proofs.SlotLemmas.{read_slot}

@@ -1,4 +1,4 @@
-use Rattle.std.proofs.Common.{◌≡◌, sym, ◌∙◌, ap, refl, length, replicate, set, [], subst, arith}
+use Rattle.std.proofs.Common.{◌≡◌, ◌∙◌, ap, length, replicate, set, [], subst, arith}
 use Rattle.std.proofs.lemmas.List.{nil_from_length}
 use Rattle.cell_tree.specs.Searches.{IsSearch}
 use Rattle.cell_tree.specs.declared.orders.Mark.TheVariants.{New, Open}

@@ -1,4 +1,4 @@
-use Rattle.std.proofs.Common.{◌≡◌, ℕ, [], length, arith, ⊎_elim}
+use Rattle.std.proofs.Common.{◌≡◌, [], length, arith}
 use Rattle.std.proofs.lemmas.List.{nil_from_length}
 use Rattle.std.proofs.lemmas.Bool.Decides.{nat_tests}
 use Rattle.cell_tree.proofs.TreeLemmas.{acyclic, in_order, ring_within, all_shown}

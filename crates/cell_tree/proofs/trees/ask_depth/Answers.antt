@@ -1,4 +1,4 @@
-use Rattle.std.proofs.Common.{◌≡◌, ℕ, ◌<◌, length, get_or, subst, sym, ap, arith}
+use Rattle.std.proofs.Common.{◌<◌, length, subst, sym, arith}
 use Rattle.cell_tree.proofs.HeightLemmas.{shallow}
 use Rattle.cell_tree.proofs.TreeLemmas.{height_top, heights_below, all_shown, chain_within}
 use Rattle.cell_tree.proofs.trees.ask_depth.Goals as goal

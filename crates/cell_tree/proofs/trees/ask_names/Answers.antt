@@ -1,4 +1,4 @@
-use Rattle.std.proofs.Common.{◌≡◌, length, ◌<◌, subst, sym, ap}
+use Rattle.std.proofs.Common.{length, ◌<◌}
 use Rattle.cell_tree.proofs.SlotLemmas.{All-slot}
 use Rattle.cell_tree.proofs.TreeLemmas.{known, name_of, unknown_is, among_shown, shown_among}
 use Rattle.cell_tree.proofs.trees.ask_names.Goals as goal

@@ -1,10 +1,9 @@
-use Rattle.std.proofs.Common.{◌≡◌, ◌≢◌, ◌⊎◌, ℕ, ◌+◌, ◌<◌, ◌≤◌, List, [], ◌∷◌, ◌++◌, Some, None, Result, OnOk, length, map, drop, set, get_or, slice_get, refl, sym, ap, subst, ◌∙◌, arith}
+use Rattle.std.proofs.Common.{◌<◌, ◌≤◌, [], ◌∷◌, ◌++◌, Some, None, OnOk, length, map, drop, refl, sym, ap, subst, ◌∙◌, arith}
 use Rattle.cell_tree.specs.Cells.{targets_at}
-use Rattle.cell_tree.specs.Linking.{AreTargetsBelow}
-use Rattle.cell_tree.specs.Searches.{IsSearch, IsStop, IsOnPath, work_left}
+use Rattle.cell_tree.specs.Searches.{IsSearch, IsStop, IsOnPath}
 use Rattle.cell_tree.specs.declared.orders.Mark.TheVariants.{New, Open, Done}
 use Rattle.cell_tree.proofs.ResultLemmas.{on_ok2, on_ok4, by_empty}
-use Rattle.cell_tree.proofs.SearchLemmas.{onward, stop_within, leaves, leaves_smaller, looks_smaller, enters_smaller, next_places, go_none, go_done, go_new, go_open, go_old_cycle, go_new_cycle, same_search, same_work, shown, shown_inside, shown_within, mark_is}
+use Rattle.cell_tree.proofs.SearchLemmas.{stop_within, leaves, leaves_smaller, enters_smaller, go_none, go_done, go_new, go_open, go_old_cycle, go_new_cycle, same_search, same_work, shown, shown_inside, shown_within, mark_is}
 use Rattle.cell_tree.proofs.orders.Search.go_on.Goals as goal
 
 pub targets-targets-requires : goal.targets-targets-requires

@@ -1,6 +1,5 @@
-use Rattle.std.proofs.Common.{◌≡◌, ◌<◌, length, map, ap, sym, subst, ◌∙◌, arith}
+use Rattle.std.proofs.Common.{◌<◌, length, map, ap, sym, subst, ◌∙◌, arith}
 use Rattle.cell_tree.specs.Boxes.{IsHull}
-use Rattle.cell_tree.specs.Chains.{IsReachable}
 use Rattle.cell_tree.specs.Flattening.{IsVertex}
 use Rattle.cell_tree.specs.HullTables.{hull_in, AreHullsBelow}
 use Rattle.cell_tree.proofs.ChainLemmas.{reachable_within}

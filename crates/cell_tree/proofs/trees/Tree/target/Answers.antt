@@ -1,4 +1,4 @@
-use Rattle.std.proofs.Common.{◌≡◌, ◌<◌, length, ap, ◌∙◌, subst}
+use Rattle.std.proofs.Common.{ap, ◌∙◌, subst}
 use Rattle.cell_tree.specs.Cells.{targets_at}
 use Rattle.cell_tree.specs.Trees.{IsTree}
 use Rattle.cell_tree.proofs.TreeLemmas.{target_known, target_value, target_inside}
