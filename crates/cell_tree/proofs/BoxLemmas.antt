@@ -29,8 +29,11 @@ product_up_to mag (negsuc n) small near =
 
 pub enlarged_up_to : (mag : ℕ) (a b : Frame) → mag ≤ 16 → IsBoxUpTo (2 ^ 53) a → b ≡ enlarged_box mag a → IsBoxUpTo (2 ^ 57) b
 enlarged_up_to mag a b small near is = subst (IsBoxUpTo (2 ^ 57)) (sym is) (record {
-    x0 = product_up_to mag a.x0 small near.x0; y0 = product_up_to mag a.y0 small near.y0; x1 = product_up_to mag a.x1 small near.x1; y1 = product_up_to mag a.y1 small near.y1
-  })
+  x0 = product_up_to mag a.x0 small near.x0;
+  y0 = product_up_to mag a.y0 small near.y0;
+  x1 = product_up_to mag a.x1 small near.x1;
+  y1 = product_up_to mag a.y1 small near.y1;
+})
 
 -- ---- one more point
 
@@ -68,7 +71,7 @@ same_least P Q box into out least = record {
   left = (least.left.0, into least.left.0 least.left.1, least.left.2);
   bottom = (least.bottom.0, into least.bottom.0 least.bottom.1, least.bottom.2);
   right = (least.right.0, into least.right.0 least.right.1, least.right.2);
-  top = (least.top.0, into least.top.0 least.top.1, least.top.2)
+  top = (least.top.0, into least.top.0 least.top.1, least.top.2);
 }
 
 pub same_hull : (P Q : Point → Type 0) (hull : Option Frame) → ((p : Point) → P p → Q p) → ((p : Point) → Q p → P p) → IsHull P hull → IsHull Q hull
@@ -78,7 +81,10 @@ same_hull P Q (Some box) into out least = same_least P Q box into out least
 pub point_least : (p : Point) → IsLeastBox (λ q. p ≡ q) (point_box p)
 point_least p = record {
   around = λ q e. (let x = ap (λ r. r.x) e in let y = ap (λ r. r.y) e in record { left = omega (arith, ints); bottom = omega (arith, ints); right = omega (arith, ints); top = omega (arith, ints) });
-  left = (p, refl, refl); bottom = (p, refl, refl); right = (p, refl, refl); top = (p, refl, refl)
+  left = (p, refl, refl);
+  bottom = (p, refl, refl);
+  right = (p, refl, refl);
+  top = (p, refl, refl);
 }
 
 -- a least box of a list of points
@@ -90,7 +96,7 @@ least_of points box least =
       left = side (λ p. p.x ≡ box.x0) least.left;
       bottom = side (λ p. p.y ≡ box.y0) least.bottom;
       right = side (λ p. p.x ≡ box.x1) least.right;
-      top = side (λ p. p.y ≡ box.y1) least.top
+      top = side (λ p. p.y ≡ box.y1) least.top;
     }
 
 -- ---- of either of two kinds
@@ -99,14 +105,15 @@ module _ (P Q R : Point → Type 0) (a b : Frame) (left : (p : Point) → P p �
   pub joined_least : IsLeastBox P a → IsLeastBox Q b → IsLeastBox R (joined_box a b)
   joined_least p q = record {
     around = λ r h. elim (out r h) [
-        inl hp ↦ (let i = p.around r hp in let l = i.left in let m = i.bottom in let n = i.right in let o = i.top in
+      | inl hp ↦ (let i = p.around r hp in let l = i.left in let m = i.bottom in let n = i.right in let o = i.top in
           record { left = omega (arith, ints, clamps); bottom = omega (arith, ints, clamps); right = omega (arith, ints, clamps); top = omega (arith, ints, clamps) })
       | inr hq ↦ (let i = q.around r hq in let l = i.left in let m = i.bottom in let n = i.right in let o = i.top in
-          record { left = omega (arith, ints, clamps); bottom = omega (arith, ints, clamps); right = omega (arith, ints, clamps); top = omega (arith, ints, clamps) }) ];
+          record { left = omega (arith, ints, clamps); bottom = omega (arith, ints, clamps); right = omega (arith, ints, clamps); top = omega (arith, ints, clamps) })
+    ];
     left = elim (least_one a.x0 b.x0) [ inl e ↦ (p.left.0, left p.left.0 p.left.1, p.left.2 ∙ sym e) | inr e ↦ (q.left.0, right q.left.0 q.left.1, q.left.2 ∙ sym e) ];
     bottom = elim (least_one a.y0 b.y0) [ inl e ↦ (p.bottom.0, left p.bottom.0 p.bottom.1, p.bottom.2 ∙ sym e) | inr e ↦ (q.bottom.0, right q.bottom.0 q.bottom.1, q.bottom.2 ∙ sym e) ];
     right = elim (greatest_one a.x1 b.x1) [ inl e ↦ (p.right.0, left p.right.0 p.right.1, p.right.2 ∙ sym e) | inr e ↦ (q.right.0, right q.right.0 q.right.1, q.right.2 ∙ sym e) ];
-    top = elim (greatest_one a.y1 b.y1) [ inl e ↦ (p.top.0, left p.top.0 p.top.1, p.top.2 ∙ sym e) | inr e ↦ (q.top.0, right q.top.0 q.top.1, q.top.2 ∙ sym e) ]
+    top = elim (greatest_one a.y1 b.y1) [ inl e ↦ (p.top.0, left p.top.0 p.top.1, p.top.2 ∙ sym e) | inr e ↦ (q.top.0, right q.top.0 q.top.1, q.top.2 ∙ sym e) ];
   }
 
 -- ---- sums
@@ -115,12 +122,12 @@ pub summed_least : (P Q R : Point → Type 0) (a b : Frame) → ((p q : Point) �
     → IsLeastBox P a → IsLeastBox Q b → IsLeastBox R (summed_box a b)
 summed_least P Q R a b into out p q = record {
   around = λ r h. (let o = out r h in let i = p.around o.0 o.2 in let j = q.around o.1 o.3 in let x = ap (λ s. s.x) o.4 in let y = ap (λ s. s.y) o.4 in
-    let il = i.left in let ib = i.bottom in let ir = i.right in let it = i.top in let jl = j.left in let jb = j.bottom in let jr = j.right in let jt = j.top in
-    record { left = omega (arith, ints); bottom = omega (arith, ints); right = omega (arith, ints); top = omega (arith, ints) });
+      let il = i.left in let ib = i.bottom in let ir = i.right in let it = i.top in let jl = j.left in let jb = j.bottom in let jr = j.right in let jt = j.top in
+      record { left = omega (arith, ints); bottom = omega (arith, ints); right = omega (arith, ints); top = omega (arith, ints) });
   left = (moved q.left.0 p.left.0, into p.left.0 q.left.0 p.left.1 q.left.1, λ i. p.left.2 i +ℤ q.left.2 i);
   bottom = (moved q.bottom.0 p.bottom.0, into p.bottom.0 q.bottom.0 p.bottom.1 q.bottom.1, λ i. p.bottom.2 i +ℤ q.bottom.2 i);
   right = (moved q.right.0 p.right.0, into p.right.0 q.right.0 p.right.1 q.right.1, λ i. p.right.2 i +ℤ q.right.2 i);
-  top = (moved q.top.0 p.top.0, into p.top.0 q.top.0 p.top.1 q.top.1, λ i. p.top.2 i +ℤ q.top.2 i)
+  top = (moved q.top.0 p.top.0, into p.top.0 q.top.0 p.top.1 q.top.1, λ i. p.top.2 i +ℤ q.top.2 i);
 }
 
 -- ---- orientations
@@ -139,11 +146,15 @@ product_order m (negsuc a) (negsuc b) h = rw (pos-*ℤ-negsuc m a, pos-*ℤ-negs
 enlarged_least : (m : ℕ) (P : Point → Type 0) (a : Frame) → IsLeastBox P a → IsLeastBox (Image (enlarged m) P) (enlarged_box m a)
 enlarged_least m P a p = record {
   around = λ r h. (let i = p.around h.0 h.1 in subst (IsInBox (enlarged_box m a)) h.2 (record {
-      left = product_order m a.x0 h.0.x i.left; bottom = product_order m a.y0 h.0.y i.bottom; right = product_order m h.0.x a.x1 i.right; top = product_order m h.0.y a.y1 i.top }));
+    left = product_order m a.x0 h.0.x i.left;
+    bottom = product_order m a.y0 h.0.y i.bottom;
+    right = product_order m h.0.x a.x1 i.right;
+    top = product_order m h.0.y a.y1 i.top;
+  }));
   left = (enlarged m p.left.0, (p.left.0, p.left.1, refl), ap (λ z. pos m *ℤ z) p.left.2);
   bottom = (enlarged m p.bottom.0, (p.bottom.0, p.bottom.1, refl), ap (λ z. pos m *ℤ z) p.bottom.2);
   right = (enlarged m p.right.0, (p.right.0, p.right.1, refl), ap (λ z. pos m *ℤ z) p.right.2);
-  top = (enlarged m p.top.0, (p.top.0, p.top.1, refl), ap (λ z. pos m *ℤ z) p.top.2)
+  top = (enlarged m p.top.0, (p.top.0, p.top.1, refl), ap (λ z. pos m *ℤ z) p.top.2);
 }
 
 neg_order : (a b : ℤ) → a ≤ℤ b → neg_ℤ b ≤ℤ neg_ℤ a
@@ -153,21 +164,29 @@ flipped_least : (flip : Bool) (P : Point → Type 0) (a : Frame) → IsLeastBox 
 flipped_least false P a p = same_least P (Image (flipped false) P) a (λ q h. (q, h, refl)) (λ q h. subst P h.2 h.1) p
 flipped_least true P a p = record {
   around = λ r h. (let i = p.around h.0 h.1 in subst (IsInBox (flipped_box true a)) h.2 (record {
-      left = i.left; bottom = neg_order h.0.y a.y1 i.top; right = i.right; top = neg_order a.y0 h.0.y i.bottom }));
+    left = i.left;
+    bottom = neg_order h.0.y a.y1 i.top;
+    right = i.right;
+    top = neg_order a.y0 h.0.y i.bottom;
+  }));
   left = (flipped true p.left.0, (p.left.0, p.left.1, refl), p.left.2);
   bottom = (flipped true p.top.0, (p.top.0, p.top.1, refl), ap neg_ℤ p.top.2);
   right = (flipped true p.right.0, (p.right.0, p.right.1, refl), p.right.2);
-  top = (flipped true p.bottom.0, (p.bottom.0, p.bottom.1, refl), ap neg_ℤ p.bottom.2)
+  top = (flipped true p.bottom.0, (p.bottom.0, p.bottom.1, refl), ap neg_ℤ p.bottom.2);
 }
 
 quarter_least : (P : Point → Type 0) (a : Frame) → IsLeastBox P a → IsLeastBox (Image quarter_turn P) (quarter_box a)
 quarter_least P a p = record {
   around = λ r h. (let i = p.around h.0 h.1 in subst (IsInBox (quarter_box a)) h.2 (record {
-      left = neg_order h.0.y a.y1 i.top; bottom = i.left; right = neg_order a.y0 h.0.y i.bottom; top = i.right }));
+    left = neg_order h.0.y a.y1 i.top;
+    bottom = i.left;
+    right = neg_order a.y0 h.0.y i.bottom;
+    top = i.right;
+  }));
   left = (quarter_turn p.top.0, (p.top.0, p.top.1, refl), ap neg_ℤ p.top.2);
   bottom = (quarter_turn p.left.0, (p.left.0, p.left.1, refl), p.left.2);
   right = (quarter_turn p.bottom.0, (p.bottom.0, p.bottom.1, refl), ap neg_ℤ p.bottom.2);
-  top = (quarter_turn p.right.0, (p.right.0, p.right.1, refl), p.right.2)
+  top = (quarter_turn p.right.0, (p.right.0, p.right.1, refl), p.right.2);
 }
 
 -- images of images
@@ -185,9 +204,9 @@ oriented_point orient p = turned orient.turns (flipped orient.flip (enlarged ori
 pub oriented_least : (orient : Orient) (P : Point → Type 0) (a : Frame) → IsLeastBox P a → IsLeastBox (Image (oriented_point orient) P) (oriented_box orient a)
 oriented_least orient P a p =
     composed_least (λ q. flipped orient.flip (enlarged orient.mag q)) (turned orient.turns) P (oriented_box orient a)
-      (turned_least orient.turns (Image (λ q. flipped orient.flip (enlarged orient.mag q)) P) (flipped_box orient.flip (enlarged_box orient.mag a))
-        (composed_least (enlarged orient.mag) (flipped orient.flip) P (flipped_box orient.flip (enlarged_box orient.mag a))
-          (flipped_least orient.flip (Image (enlarged orient.mag) P) (enlarged_box orient.mag a) (enlarged_least orient.mag P a p))))
+    (turned_least orient.turns (Image (λ q. flipped orient.flip (enlarged orient.mag q)) P) (flipped_box orient.flip (enlarged_box orient.mag a))
+    (composed_least (enlarged orient.mag) (flipped orient.flip) P (flipped_box orient.flip (enlarged_box orient.mag a))
+    (flipped_least orient.flip (Image (enlarged orient.mag) P) (enlarged_box orient.mag a) (enlarged_least orient.mag P a p))))
 
 -- ---- how far a box reaches
 
@@ -198,7 +217,7 @@ least_up_to P box bound least near =
       x0 = subst (IsUpTo bound) least.left.2 (record { low = l.x_low; high = l.x_high });
       y0 = subst (IsUpTo bound) least.bottom.2 (record { low = b.y_low; high = b.y_high });
       x1 = subst (IsUpTo bound) least.right.2 (record { low = r.x_low; high = r.x_high });
-      y1 = subst (IsUpTo bound) least.top.2 (record { low = t.y_low; high = t.y_high })
+      y1 = subst (IsUpTo bound) least.top.2 (record { low = t.y_low; high = t.y_high });
     }
 
 -- ---- point by point
@@ -214,5 +233,5 @@ first_least p box is = subst (IsLeastBox (IsOneOf (p ∷ []))) (sym is)
 pub one_more_least : (points : List Point) (p : Point) (old by new : Frame) → IsLeastBox (IsOneOf points) old → by ≡ point_box p → new ≡ joined_box old by → IsLeastBox (IsOneOf (points ++ p ∷ [])) new
 one_more_least points p old by new least is joined = subst (IsLeastBox (IsOneOf (points ++ p ∷ []))) (sym (joined ∙ ap (joined_box old) is))
     (joined_least (IsOneOf points) (λ q. p ≡ q) (IsOneOf (points ++ p ∷ [])) old (point_box p)
-      (λ q one. (one.0, slot_before points (p ∷ []) one.0 q one.1)) (λ q e. (length points, slot_last points p ∙ ap Some e))
-      (λ q one. elim (slot_push points p one.0 q one.1) [ inl before ↦ inl (one.0, before) | inr last ↦ inr last.1 ]) least (point_least p))
+    (λ q one. (one.0, slot_before points (p ∷ []) one.0 q one.1)) (λ q e. (length points, slot_last points p ∙ ap Some e))
+    (λ q one. elim (slot_push points p one.0 q one.1) [ inl before ↦ inl (one.0, before) | inr last ↦ inr last.1 ]) least (point_least p))

@@ -67,7 +67,7 @@ pub reach_along : (cells : List Cell) (top n : ℕ) (links : List Link) → IsRe
 reach_along cells top n links reach chain = record {
   links = reach.links ++ links;
   chain = chain_joined cells top reach.links links reach.chain (subst (λ m. IsChain cells m links) (sym reach.end) chain);
-  end = end_joined top reach.links links ∙ ap (λ m. chain_end m links) reach.end
+  end = end_joined top reach.links links ∙ ap (λ m. chain_end m links) reach.end;
 }
 
 pub reach_more : (cells : List Cell) (top n m : ℕ) → IsReachable cells top n → PlacesCell cells n m → IsReachable cells top m

@@ -59,9 +59,9 @@ step_count cells n k own count copies counts placements targets placement p t in
     let is' : get_or (placements_at cells n) k placement ≡ placement = ap (λ l. get_or l k placement) (sym p) ∙ sym is in
     let slot : slice_get (placements_at cells n) k ≡ Some placement = slice_get-get_or (placements_at cells n) k placement long ∙ ap Some is' in
     let e : get_or targets k None ≡ cell_number cells placement.target =
-        ap (λ l. get_or l k None) t ∙ get_or_from_slice_get (targets_at cells n) k (cell_number cells placement.target) None (slot_map (λ p. cell_number cells p.target) (placements_at cells n) k placement slot) in
+    ap (λ l. get_or l k None) t ∙ get_or_from_slice_get (targets_at cells n) k (cell_number cells placement.target) None (slot_map (λ p. cell_number cells p.target) (placements_at cells n) k placement slot) in
     let same = copies_is cells counts placement (get_or targets k None) e
-        (λ m at. known k m (slot_map (λ p. cell_number cells p.target) (placements_at cells n) k placement slot ∙ ap Some (sym e ∙ at))) in
+    (λ m at. known k m (slot_map (λ p. cell_number cells p.target) (placements_at cells n) k placement slot ∙ ap Some (sym e ∙ at))) in
     count_more cells n k own count copies placement long is' so (this ∙ ap saturated same)
 
 pub all_counted : (cells : List Cell) (n k own count : ℕ) (targets : List (Option ℕ)) → targets ≡ targets_at cells n → length targets ≤ k → IsShort cells 64 n → own ≡ own_count (shapes_at cells n)

@@ -78,21 +78,23 @@ leads_through cells farthest n k placement target far leads placed places e =
     let p : leads.placement ≡ placement = one_slot (placements_at cells n) k leads.placement placement (subst (λ j. slice_get (placements_at cells n) j ≡ Some leads.placement) e leads.placed) placed in
     let t : Some leads.target ≡ target = one_slot (targets_at cells n) k (Some leads.target) target (subst (λ j. slice_get (targets_at cells n) j ≡ Some (Some leads.target)) e leads.places) places in
     let start : IsSomeAnd (through farthest leads.placement (Some leads.target)) (λ best. far.factor ≤ best.factor) =
-        subst (λ o. IsSomeAnd (option_map (placed_far leads.placement) o) (λ best. far.factor ≤ best.factor)) (sym leads.there) (let same = ap (λ f. f.factor) leads.is in omega arith) in
+    subst (λ o. IsSomeAnd (option_map (placed_far leads.placement) o) (λ best. far.factor ≤ best.factor)) (sym leads.there) (let same = ap (λ f. f.factor) leads.is in omega arith) in
     subst (λ x. IsSomeAnd (through farthest placement x) (λ best. far.factor ≤ best.factor)) t (subst (λ x. IsSomeAnd (through farthest x (Some leads.target)) (λ best. far.factor ≤ best.factor)) p start)
 
 pub far_more : (cells : List Cell) (only_fixed : Bool) (farthest : List (Option Far)) (n k : ℕ) (best : Option Far) (placement : Placement) (target : Option ℕ)
     → SoFar cells only_fixed farthest n k best → slice_get (placements_at cells n) k ≡ Some placement → slice_get (targets_at cells n) k ≡ Some target
     → SoFar cells only_fixed farthest n (k + 1) (better best (through farthest placement target))
 far_more cells only_fixed farthest n k best placement target so placed places =
-    let next = through farthest placement target in
-    (better_one (λ far. far.factor ≤ 17) best (through farthest placement target) so.0 (through_capped farthest placement target),
-     λ end. better_first 1 best (through farthest placement target) (so.1 end),
-     λ far leads below. elim (apart leads.number k) [
-         inl e ↦ better_second far.factor best (through farthest placement target) (leads_through cells farthest n k placement target far leads placed places e)
-       | inr differs ↦ better_first far.factor best (through farthest placement target) (so.2 far leads (omega arith)) ],
-     better_one (λ far. ((far.cell ≡ n) × (far.factor ≡ 1) × IsEnd cells only_fixed n) ⊎ LeadsFar cells farthest n far) best (through farthest placement target) so.3
-       (some_right (through farthest placement target) (λ far. (far.cell ≡ n) × (far.factor ≡ 1) × IsEnd cells only_fixed n) (λ far. LeadsFar cells farthest n far) (through_leads cells farthest n k placement target placed places)))
+    let next = through farthest placement target in (
+      better_one (λ far. far.factor ≤ 17) best (through farthest placement target) so.0 (through_capped farthest placement target),
+      λ end. better_first 1 best (through farthest placement target) (so.1 end),
+      λ far leads below. elim (apart leads.number k) [
+        | inl e ↦ better_second far.factor best (through farthest placement target) (leads_through cells farthest n k placement target far leads placed places e)
+        | inr differs ↦ better_first far.factor best (through farthest placement target) (so.2 far leads (omega arith))
+      ],
+      better_one (λ far. ((far.cell ≡ n) × (far.factor ≡ 1) × IsEnd cells only_fixed n) ⊎ LeadsFar cells farthest n far) best (through farthest placement target) so.3
+          (some_right (through farthest placement target) (λ far. (far.cell ≡ n) × (far.factor ≡ 1) × IsEnd cells only_fixed n) (λ far. LeadsFar cells farthest n far) (through_leads cells farthest n k placement target placed places)),
+    )
   where
     some_right : (o : Option Far) (P Q : Far → Type 0) → IfSome o Q → IfSome o (λ far. P far ⊎ Q far)
     some_right None P Q h = tt
@@ -101,14 +103,15 @@ far_more cells only_fixed farthest n k best placement target so placed places =
 -- a product, capped before and after
 capped_product : (mag f : ℕ) → 1 ≤ mag → min 17 (mag * min 17 f) ≡ min 17 (mag * f)
 capped_product mag f some = elim (small f) [
-    inl less ↦ (let e : min 17 f ≡ f = omega arith in ap (λ g. min 17 (mag * g)) e)
+  | inl less ↦ (let e : min 17 f ≡ f = omega arith in ap (λ g. min 17 (mag * g)) e)
   | inr more ↦ (let e : min 17 f ≡ 17 = omega arith in let a = mul-le-mul_left mag more in let b = mul-le-mul_right 17 some in
-      ap (λ g. min 17 (mag * g)) e ∙ (omega arith)) ]
+      ap (λ g. min 17 (mag * g)) e ∙ (omega arith))
+]
   where
     small : (f : ℕ) → (f ≤ 17) ⊎ (17 ≤ f)
     small f = elim (apart (f - 17) 0) [ inl e ↦ inl (omega arith) | inr e ↦ inr (omega arith) ]
 
-at_end : (cells : List Cell) (only_fixed : Bool) (farthest : List (Option Far)) (n : ℕ) (far : Far) → 
+at_end : (cells : List Cell) (only_fixed : Bool) (farthest : List (Option Far)) (n : ℕ) (far : Far) →
     ((m : ℕ) (k : ℕ) → PlacesAt cells n k m → IsFarthest cells only_fixed m (get_or farthest m None)) → ((k : ℕ) (p : Placement) → slice_get (placements_at cells n) k ≡ Some p → 1 ≤ p.orient.mag)
     → LeadsFar cells farthest n far → IsEndOfChain cells only_fixed n far
 at_end cells only_fixed farthest n far known mags leads =
@@ -122,8 +125,8 @@ at_end cells only_fixed farthest n far known mags leads =
       end = there.end ∙ sym cell;
       ends = subst (IsEnd cells only_fixed) (sym cell) there.ends;
       factor = ap (λ f. f.factor) leads.is ∙ ap (λ g. min 17 (leads.placement.orient.mag * g)) there.factor
-        ∙ capped_product leads.placement.orient.mag (chain_factor there.links) (mags leads.number leads.placement leads.placed)
-        ∙ ap (λ q. min 17 (q.orient.mag * chain_factor there.links)) (sym p)
+          ∙ capped_product leads.placement.orient.mag (chain_factor there.links) (mags leads.number leads.placement leads.placed)
+          ∙ ap (λ q. min 17 (q.orient.mag * chain_factor there.links)) (sym p);
     }
 
 some_and : (o : Option Far) (v : ℕ) → IsSomeAnd o (λ far. v ≤ far.factor) → (far : Far) × (o ≡ Some far) × (v ≤ far.factor)
@@ -138,8 +141,9 @@ is_farthest cells only_fixed farthest n best of known mags = record { chain = en
     ends : (o : Option Far) → IfSome o (λ far. ((far.cell ≡ n) × (far.factor ≡ 1) × IsEnd cells only_fixed n) ⊎ LeadsFar cells farthest n far) → IfSome o (IsEndOfChain cells only_fixed n)
     ends None h = tt
     ends (Some far) h = elim h [
-        inl here ↦ record { links = []; chain = tt; end = sym here.0; ends = subst (IsEnd cells only_fixed) (sym here.0) here.2; factor = here.1 }
-      | inr leads ↦ at_end cells only_fixed farthest n far known mags leads ]
+      | inl here ↦ record { links = []; chain = tt; end = sym here.0; ends = subst (IsEnd cells only_fixed) (sym here.0) here.2; factor = here.1 }
+      | inr leads ↦ at_end cells only_fixed farthest n far known mags leads
+    ]
 
     greatest : (links : List Link) → IsChain cells n links → IsEnd cells only_fixed (chain_end n links) → IsSomeAnd best (λ far. min 17 (chain_factor links) ≤ far.factor)
     greatest [] chain end = of.here end
@@ -195,10 +199,11 @@ pub beyond_more : (placements : List Placement) (targets : List (Option ℕ)) (f
     → slice_get placements k ≡ Some placement → slice_get targets k ≡ Some target → ((far : Far) → GoesBeyond farthest factor placement target far → ⊥)
     → ((j : ℕ) (far : Far) → j < k → LeadsBeyond placements targets farthest factor j far → ⊥) → (j : ℕ) (far : Far) → j < k + 1 → LeadsBeyond placements targets farthest factor j far → ⊥
 beyond_more placements targets farthest factor k placement target placed targeted none before j far below leads = elim (apart j k) [
-    inl e ↦ (let p = one_slot placements k leads.placement placement (subst (λ i. slice_get placements i ≡ Some leads.placement) e leads.placed) placed in
-             let t = one_slot targets k leads.target target (subst (λ i. slice_get targets i ≡ Some leads.target) e leads.targeted) targeted in
-             none far (subst (λ x. GoesBeyond farthest factor placement x far) t (subst (λ x. GoesBeyond farthest factor x leads.target far) p leads.goes)))
-  | inr differs ↦ before j far (omega arith) leads ]
+  | inl e ↦ (let p = one_slot placements k leads.placement placement (subst (λ i. slice_get placements i ≡ Some leads.placement) e leads.placed) placed in
+      let t = one_slot targets k leads.target target (subst (λ i. slice_get targets i ≡ Some leads.target) e leads.targeted) targeted in
+      none far (subst (λ x. GoesBeyond farthest factor placement x far) t (subst (λ x. GoesBeyond farthest factor x leads.target far) p leads.goes)))
+  | inr differs ↦ before j far (omega arith) leads
+]
 
 pub on_grid : (cells : List Cell) → All IsCellOnGrid cells → (n : ℕ) → All IsPlacementOnGrid (placements_at cells n)
 on_grid [] all n = λ k d inside. absurd (omega arith)

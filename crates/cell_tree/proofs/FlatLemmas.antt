@@ -139,7 +139,7 @@ own_has shapes pair p h =
     let s = has_slot (λ shape. Has (On pair p) (flats_of_shape shape)) shapes (has_flat (On pair p) flats_of_shape shapes h) in
     let shape : Shape = s.1 in
     let o = has_slot (λ by. On pair p (record { pair = shape.pair; points = map (moved by) shape.points })) shape.offsets
-        (has_map (On pair p) (λ by. record { pair = shape.pair; points = map (moved by) shape.points }) shape.offsets s.3) in
+    (has_map (On pair p) (λ by. record { pair = shape.pair; points = map (moved by) shape.points }) shape.offsets s.3) in
     let by : Point = o.1 in
     let c = contains_slot (map (moved by) shape.points) p o.3.1 in
     let v = map_slot (moved by) shape.points c.0 p c.1 in
@@ -150,8 +150,8 @@ has_own shapes bound pair p own =
     let flat_at : Point → Flat = λ by. record { pair = own.shape.pair; points = map (moved by) own.shape.points } in
     let c : Contains (map (moved own.vertex.by) own.shape.points) p = slot_contains (map (moved own.vertex.by) own.shape.points) own.vertex.corner p (slot_map (moved own.vertex.by) own.shape.points own.vertex.corner own.vertex.v own.vertex.point ∙ ap Some own.vertex.is) in
     flat_has (On pair p) flats_of_shape shapes (slot_has (λ shape. Has (On pair p) (flats_of_shape shape)) shapes own.number own.shape own.here
-      (map_has (On pair p) (λ by. record { pair = own.shape.pair; points = map (moved by) own.shape.points }) own.shape.offsets
-        (slot_has (λ by. On pair p (record { pair = own.shape.pair; points = map (moved by) own.shape.points })) own.shape.offsets own.vertex.place own.vertex.by own.vertex.offset (own.on_pair, c))))
+    (map_has (On pair p) (λ by. record { pair = own.shape.pair; points = map (moved by) own.shape.points }) own.shape.offsets
+    (slot_has (λ by. On pair p (record { pair = own.shape.pair; points = map (moved by) own.shape.points })) own.shape.offsets own.vertex.place own.vertex.by own.vertex.offset (own.on_pair, c))))
 
 shown_below : (cells : List Cell) (placement : Placement) → List Flat
 shown_below cells placement = option_map_or (flattened cells) (cell_number cells placement.target) []
@@ -164,16 +164,25 @@ module _ (cells : List Cell) (n : ℕ) (pair : Pair) (p : Point) where
       absurd o.3
   below_vertex k placement (Some m) e placed h =
       let o = has_slot (λ by. Has (On pair p) (map (flat_image placement.orient (moved by placement.at)) (flattened cells m))) placement.offsets
-          (has_flat (On pair p) (λ by. map (flat_image placement.orient (moved by placement.at)) (flattened cells m)) placement.offsets h) in
+      (has_flat (On pair p) (λ by. map (flat_image placement.orient (moved by placement.at)) (flattened cells m)) placement.offsets h) in
       let by : Point = o.1 in
       let f = has_slot (λ flat. On pair p (flat_image placement.orient (moved by placement.at) flat)) (flattened cells m) (has_map (On pair p) (flat_image placement.orient (moved by placement.at)) (flattened cells m) o.3) in
       let flat : Flat = f.1 in
       let c = contains_slot (map (image_of placement.orient (moved by placement.at)) flat.points) p f.3.1 in
       let v = map_slot (image_of placement.orient (moved by placement.at)) flat.points c.0 p c.1 in
       record {
-        number = k; early = slice_get_within (placements_at cells n) k placement placed; placement = placement; placed = placed; target = m; targeted = e; place = o.0; by = by; offset = o.2; v = v.0;
+        number = k;
+        early = slice_get_within (placements_at cells n) k placement placed;
+        placement = placement;
+        placed = placed;
+        target = m;
+        targeted = e;
+        place = o.0;
+        by = by;
+        offset = o.2;
+        v = v.0;
         vertex = has_any (On pair v.0) (flattened cells m) (slot_has (On pair v.0) (flattened cells m) f.0 flat f.2 (f.3.0, slot_contains flat.points c.0 v.0 v.1));
-        is = v.2
+        is = v.2;
       }
 
   vertex_below : (bound : ℕ) (pv : PlacedVertex cells n bound pair p) → Has (On pair p) (placed_things flat_image pv.placement (flattened cells pv.target))
@@ -183,20 +192,23 @@ module _ (cells : List Cell) (n : ℕ) (pair : Pair) (p : Point) where
       let flat : Flat = f.1 in
       let c = contains_slot flat.points pv.v f.3.1 in
       flat_has (On pair p) (λ by. map (flat_image pv.placement.orient (moved by pv.placement.at)) (flattened cells pv.target)) pv.placement.offsets
-        (slot_has (λ by. Has (On pair p) (map (flat_image pv.placement.orient (moved by pv.placement.at)) (flattened cells pv.target))) pv.placement.offsets pv.place pv.by pv.offset
-          (map_has (On pair p) (flat_image pv.placement.orient (moved pv.by pv.placement.at)) (flattened cells pv.target)
-            (slot_has (λ flat. On pair p (flat_image pv.placement.orient (moved pv.by pv.placement.at) flat)) (flattened cells pv.target) f.0 flat f.2
-              (f.3.0, slot_contains (map (image_of pv.placement.orient (moved pv.by pv.placement.at)) flat.points) c.0 p
-                (slot_map (image_of pv.placement.orient (moved pv.by pv.placement.at)) flat.points c.0 pv.v c.1 ∙ ap Some pv.is)))))
+      (slot_has (λ by. Has (On pair p) (map (flat_image pv.placement.orient (moved by pv.placement.at)) (flattened cells pv.target))) pv.placement.offsets pv.place pv.by pv.offset
+      (map_has (On pair p) (flat_image pv.placement.orient (moved pv.by pv.placement.at)) (flattened cells pv.target)
+      (slot_has (λ flat. On pair p (flat_image pv.placement.orient (moved pv.by pv.placement.at) flat)) (flattened cells pv.target) f.0 flat f.2 (
+        f.3.0,
+        slot_contains (map (image_of pv.placement.orient (moved pv.by pv.placement.at)) flat.points) c.0 p
+            (slot_map (image_of pv.placement.orient (moved pv.by pv.placement.at)) flat.points c.0 pv.v c.1 ∙ ap Some pv.is),
+      ))))
 
   pub vertex_cases : IsShort cells 64 n → IsVertex cells n pair p → OwnVertex (shapes_at cells n) (length (shapes_at cells n)) pair p ⊎ PlacedVertex cells n (length (placements_at cells n)) pair p
   vertex_cases short vertex =
       let h = subst (Has (On pair p)) (flattened_is cells n short) (any_has (On pair p) (flattened cells n) vertex) in
       elim (has_split (On pair p) (own_flats cells n) (below (own_flats cells) flat_image cells (flattened cells) n) h) [
-          inl own ↦ inl (own_has (shapes_at cells n) pair p own)
+        | inl own ↦ inl (own_has (shapes_at cells n) pair p own)
         | inr placed ↦ inr (let s = has_slot (λ placement. Has (On pair p) (placed_things flat_image placement (option_map_or (flattened cells) (cell_number cells placement.target) []))) (placements_at cells n)
-              (has_flat (On pair p) (λ placement. placed_things flat_image placement (option_map_or (flattened cells) (cell_number cells placement.target) [])) (placements_at cells n) placed) in
-            below_vertex s.0 s.1 (cell_number cells s.1.target) refl s.2 s.3) ]
+            (has_flat (On pair p) (λ placement. placed_things flat_image placement (option_map_or (flattened cells) (cell_number cells placement.target) [])) (placements_at cells n) placed) in
+            below_vertex s.0 s.1 (cell_number cells s.1.target) refl s.2 s.3)
+      ]
 
   pub own_vertex : (bound : ℕ) → IsShort cells 64 n → OwnVertex (shapes_at cells n) bound pair p → IsVertex cells n pair p
   own_vertex bound short own = has_any (On pair p) (flattened cells n) (subst (Has (On pair p)) (sym (flattened_is cells n short))
@@ -205,9 +217,9 @@ module _ (cells : List Cell) (n : ℕ) (pair : Pair) (p : Point) where
   pub placed_vertex : (bound : ℕ) → IsShort cells 64 n → PlacedVertex cells n bound pair p → IsVertex cells n pair p
   placed_vertex bound short pv = has_any (On pair p) (flattened cells n) (subst (Has (On pair p)) (sym (flattened_is cells n short))
       (has_right (On pair p) (own_flats cells n) (below (own_flats cells) flat_image cells (flattened cells) n)
-        (flat_has (On pair p) (λ placement. placed_things flat_image placement (option_map_or (flattened cells) (cell_number cells placement.target) [])) (placements_at cells n)
-          (slot_has (λ placement. Has (On pair p) (placed_things flat_image placement (option_map_or (flattened cells) (cell_number cells placement.target) []))) (placements_at cells n) pv.number pv.placement pv.placed
-            (subst (λ o. Has (On pair p) (placed_things flat_image pv.placement (option_map_or (flattened cells) o []))) (sym pv.targeted) (vertex_below bound pv))))))
+      (flat_has (On pair p) (λ placement. placed_things flat_image placement (option_map_or (flattened cells) (cell_number cells placement.target) [])) (placements_at cells n)
+      (slot_has (λ placement. Has (On pair p) (placed_things flat_image placement (option_map_or (flattened cells) (cell_number cells placement.target) []))) (placements_at cells n) pv.number pv.placement pv.placed
+      (subst (λ o. Has (On pair p) (placed_things flat_image pv.placement (option_map_or (flattened cells) o []))) (sym pv.targeted) (vertex_below bound pv))))))
 
 -- ---- numbers
 
@@ -229,7 +241,7 @@ pub count_is : (cells : List Cell) (n : ℕ) → IsShort cells 64 n → shape_co
 count_is cells n short =
     let f = λ (placement : Placement). placed_things flat_image placement (option_map_or (flattened cells) (cell_number cells placement.target) []) in
     let own = length-flat_map flats_of_shape (shapes_at cells n) ∙ sum_same (λ shape. length (flats_of_shape shape)) (λ shape. length shape.offsets) (shapes_at cells n)
-        (λ shape. length-map shape.offsets (λ by. record { pair = shape.pair; points = map (moved by) shape.points })) in
+    (λ shape. length-map shape.offsets (λ by. record { pair = shape.pair; points = map (moved by) shape.points })) in
     let placed = length-flat_map f (placements_at cells n) ∙ sum_same (λ placement. length (placed_things flat_image placement (option_map_or (flattened cells) (cell_number cells placement.target) []))) (placed_count cells) (placements_at cells n)
-        (λ placement. placed_count_is cells placement (cell_number cells placement.target)) in
+    (λ placement. placed_count_is cells placement (cell_number cells placement.target)) in
     ap length (flattened_is cells n short) ∙ length-append (own_flats cells n) (below (own_flats cells) flat_image cells (flattened cells) n) ∙ (omega (arith, own, placed))

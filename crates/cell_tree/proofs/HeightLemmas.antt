@@ -16,13 +16,13 @@ longer_chain cells n k m count at chain =
 
 module _ (cells : List Cell) (n h : ℕ) (heights : List ℕ) (of : IsHeightOf (targets_at cells n) heights h)
     (placed : (k m : ℕ) → PlacesAt cells n k m → IsHeight cells m (get_or heights m 0)) where
-
   low : (count : ℕ) → count < 65 → count < h → HasChain cells n count
   low zero small below = ([], tt, refl)
   low (suc count) small below = elim of.from [
-      inl flat ↦ absurd (omega arith)
+    | inl flat ↦ absurd (omega arith)
     | inr next ↦ (let k = next.0 in let m = next.1 in let less = next.3 in
-        longer_chain cells n k m count next.2 ((placed k m next.2 count (omega arith)).0 (omega arith))) ]
+        longer_chain cells n k m count next.2 ((placed k m next.2 count (omega arith)).0 (omega arith)))
+  ]
 
   high : (count : ℕ) (links : List Link) → count < 65 → IsChain cells n links → length links ≡ count → count < h
   high count [] small chain long = let some = of.some in omega arith

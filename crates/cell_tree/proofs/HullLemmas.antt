@@ -71,26 +71,30 @@ test here pair = by (same_pair here.pair pair) refl
 pub widened_here : (hulls : List PairHull) (pair : Pair) (by : Frame) → hull_in (widened_list hulls pair by) pair ≡ Some (wider (hull_in hulls pair) by)
 widened_here [] pair by = head_same (record { pair = pair; hull = by }) [] pair (pair_same pair)
 widened_here (here ∷ hulls) pair by = elim (test here pair) [
-    inl e ↦ ap (λ l. hull_in l pair) (widened_same here hulls pair by e) ∙ head_same (record { pair = pair; hull = joined_box here.hull by }) hulls pair (pair_same pair)
-        ∙ sym (ap (λ o. Some (wider o by)) (head_same here hulls pair e))
+  | inl e ↦ ap (λ l. hull_in l pair) (widened_same here hulls pair by e) ∙ head_same (record { pair = pair; hull = joined_box here.hull by }) hulls pair (pair_same pair)
+      ∙ sym (ap (λ o. Some (wider o by)) (head_same here hulls pair e))
   | inr e ↦ ap (λ l. hull_in l pair) (widened_other here hulls pair by e) ∙ head_other here (widened_list hulls pair by) pair e ∙ widened_here hulls pair by
-        ∙ sym (ap (λ o. Some (wider o by)) (head_other here hulls pair e)) ]
+      ∙ sym (ap (λ o. Some (wider o by)) (head_other here hulls pair e))
+]
 
 -- another pair
 pub widened_elsewhere : (hulls : List PairHull) (pair q : Pair) (by : Frame) → same_pair pair q ≡ false → hull_in (widened_list hulls pair by) q ≡ hull_in hulls q
 widened_elsewhere [] pair q by other = head_other (record { pair = pair; hull = by }) [] q other
 widened_elsewhere (here ∷ hulls) pair q by other = elim (test here pair) [
-    inl e ↦ ap (λ l. hull_in l q) (widened_same here hulls pair by e) ∙ head_other (record { pair = pair; hull = joined_box here.hull by }) hulls q other
-        ∙ sym (head_other here hulls q (ap (λ p. same_pair p q) (pair_true here.pair pair e) ∙ other))
+  | inl e ↦ ap (λ l. hull_in l q) (widened_same here hulls pair by e) ∙ head_other (record { pair = pair; hull = joined_box here.hull by }) hulls q other
+      ∙ sym (head_other here hulls q (ap (λ p. same_pair p q) (pair_true here.pair pair e) ∙ other))
   | inr e ↦ ap (λ l. hull_in l q) (widened_other here hulls pair by e) ∙ elim (test here q) [
-        inl f ↦ head_same here (widened_list hulls pair by) q f ∙ sym (head_same here hulls q f)
-      | inr f ↦ head_other here (widened_list hulls pair by) q f ∙ widened_elsewhere hulls pair q by other ∙ sym (head_other here hulls q f) ] ]
+    | inl f ↦ head_same here (widened_list hulls pair by) q f ∙ sym (head_same here hulls q f)
+    | inr f ↦ head_other here (widened_list hulls pair by) q f ∙ widened_elsewhere hulls pair q by other ∙ sym (head_other here hulls q f)
+  ]
+]
 
 pub widened_apart : (hulls : List PairHull) (pair : Pair) (by : Frame) → AreApart hulls → AreApart (widened_list hulls pair by)
 widened_apart [] pair by apart = (refl, tt)
 widened_apart (here ∷ hulls) pair by apart = elim (test here pair) [
-    inl e ↦ subst AreApart (sym (widened_same here hulls pair by e)) (ap (hull_in hulls) (sym (pair_true here.pair pair e)) ∙ apart.0, apart.1)
-  | inr e ↦ subst AreApart (sym (widened_other here hulls pair by e)) (widened_elsewhere hulls pair here.pair by (pair_turned here.pair pair e) ∙ apart.0, widened_apart hulls pair by apart.1) ]
+  | inl e ↦ subst AreApart (sym (widened_same here hulls pair by e)) (ap (hull_in hulls) (sym (pair_true here.pair pair e)) ∙ apart.0, apart.1)
+  | inr e ↦ subst AreApart (sym (widened_other here hulls pair by e)) (widened_elsewhere hulls pair here.pair by (pair_turned here.pair pair e) ∙ apart.0, widened_apart hulls pair by apart.1)
+]
 
 -- ---- by places
 
@@ -124,30 +128,34 @@ pub entry_hull : (hulls : List PairHull) (k : ℕ) (here : PairHull) → AreApar
 entry_hull [] k here apart at = absurd (none-some here at)
 entry_hull (first ∷ hulls) zero here apart at = let e = same_Some first here at in head_same first hulls here.pair (ap (λ h. same_pair h.pair here.pair) e ∙ pair_same here.pair) ∙ ap (λ h. Some h.hull) e
 entry_hull (first ∷ hulls) (suc k) here apart at = elim (test first here.pair) [
-    inl e ↦ absurd (none-some here.hull (sym apart.0 ∙ ap (hull_in hulls) (pair_true first.pair here.pair e) ∙ entry_hull hulls k here apart.1 at))
-  | inr e ↦ head_other first hulls here.pair e ∙ entry_hull hulls k here apart.1 at ]
+  | inl e ↦ absurd (none-some here.hull (sym apart.0 ∙ ap (hull_in hulls) (pair_true first.pair here.pair e) ∙ entry_hull hulls k here apart.1 at))
+  | inr e ↦ head_other first hulls here.pair e ∙ entry_hull hulls k here apart.1 at
+]
 
 -- ---- one more entry of another list
 
 pub hull_pushed_other : (hulls : List PairHull) (here : PairHull) (q : Pair) → same_pair here.pair q ≡ false → hull_in (hulls ++ here ∷ []) q ≡ hull_in hulls q
 hull_pushed_other [] here q other = head_other here [] q other
 hull_pushed_other (first ∷ hulls) here q other = elim (test first q) [
-    inl e ↦ head_same first (hulls ++ here ∷ []) q e ∙ sym (head_same first hulls q e)
-  | inr e ↦ head_other first (hulls ++ here ∷ []) q e ∙ hull_pushed_other hulls here q other ∙ sym (head_other first hulls q e) ]
+  | inl e ↦ head_same first (hulls ++ here ∷ []) q e ∙ sym (head_same first hulls q e)
+  | inr e ↦ head_other first (hulls ++ here ∷ []) q e ∙ hull_pushed_other hulls here q other ∙ sym (head_other first hulls q e)
+]
 
 pub hull_pushed_new : (hulls : List PairHull) (here : PairHull) → hull_in hulls here.pair ≡ None → hull_in (hulls ++ here ∷ []) here.pair ≡ Some here.hull
 hull_pushed_new [] here none = head_same here [] here.pair (pair_same here.pair)
 hull_pushed_new (first ∷ hulls) here none = elim (test first here.pair) [
-    inl e ↦ absurd (none-some first.hull (sym none ∙ head_same first hulls here.pair e))
-  | inr e ↦ head_other first (hulls ++ here ∷ []) here.pair e ∙ hull_pushed_new hulls here (sym (head_other first hulls here.pair e) ∙ none) ]
+  | inl e ↦ absurd (none-some first.hull (sym none ∙ head_same first hulls here.pair e))
+  | inr e ↦ head_other first (hulls ++ here ∷ []) here.pair e ∙ hull_pushed_new hulls here (sym (head_other first hulls here.pair e) ∙ none)
+]
 
 -- no earlier entry has the pair
 pub earlier_none : (hulls : List PairHull) (k : ℕ) (here : PairHull) → AreApart hulls → slice_get hulls k ≡ Some here → hull_in (take k hulls) here.pair ≡ None
 earlier_none [] k here apart at = absurd (none-some here at)
 earlier_none (first ∷ hulls) zero here apart at = refl
 earlier_none (first ∷ hulls) (suc k) here apart at = elim (test first here.pair) [
-    inl e ↦ absurd (none-some here.hull (sym apart.0 ∙ ap (hull_in hulls) (pair_true first.pair here.pair e) ∙ entry_hull hulls k here apart.1 at))
-  | inr e ↦ head_other first (take k hulls) here.pair e ∙ earlier_none hulls k here apart.1 at ]
+  | inl e ↦ absurd (none-some here.hull (sym apart.0 ∙ ap (hull_in hulls) (pair_true first.pair here.pair e) ∙ entry_hull hulls k here apart.1 at))
+  | inr e ↦ head_other first (take k hulls) here.pair e ∙ earlier_none hulls k here apart.1 at
+]
 
 -- what widening entry by entry gives
 pub merge_more : (f : Frame → Frame) (old new placed : List PairHull) (k : ℕ) (here : PairHull) → AreApart placed → k < length placed → slice_get placed k ≡ Some here
@@ -157,11 +165,12 @@ merge_more f old new placed k here apart inside at so q =
     let e = same_Some (get_or placed k here) here (sym (slice_get-get_or placed k here inside) ∙ at) in
     let more : take (k + 1) placed ≡ take k placed ++ here ∷ [] = take_more placed k here inside ∙ ap (λ h. take k placed ++ h ∷ []) e in
     elim (pairs here.pair q) [
-      inl same ↦ subst (λ p. hull_in (widened_list new here.pair (f here.hull)) p ≡ widest (hull_in old p) (option_map f (hull_in (take (k + 1) placed) p))) same
-        (widened_here new here.pair (f here.hull) ∙ ap (λ o. Some (wider o (f here.hull))) (so here.pair ∙ ap (λ o. widest (hull_in old here.pair) (option_map f o)) (earlier_none placed k here apart at))
-         ∙ sym (ap (λ o. widest (hull_in old here.pair) (option_map f o)) (ap (λ l. hull_in l here.pair) more ∙ hull_pushed_new (take k placed) here (earlier_none placed k here apart at))))
-    | inr other ↦ widened_elsewhere new here.pair q (f here.hull) other ∙ so q
-        ∙ sym (ap (λ o. widest (hull_in old q) (option_map f o)) (ap (λ l. hull_in l q) more ∙ hull_pushed_other (take k placed) here q other)) ]
+      | inl same ↦ subst (λ p. hull_in (widened_list new here.pair (f here.hull)) p ≡ widest (hull_in old p) (option_map f (hull_in (take (k + 1) placed) p))) same
+          (widened_here new here.pair (f here.hull) ∙ ap (λ o. Some (wider o (f here.hull))) (so here.pair ∙ ap (λ o. widest (hull_in old here.pair) (option_map f o)) (earlier_none placed k here apart at))
+          ∙ sym (ap (λ o. widest (hull_in old here.pair) (option_map f o)) (ap (λ l. hull_in l here.pair) more ∙ hull_pushed_new (take k placed) here (earlier_none placed k here apart at))))
+      | inr other ↦ widened_elsewhere new here.pair q (f here.hull) other ∙ so q
+          ∙ sym (ap (λ o. widest (hull_in old q) (option_map f o)) (ap (λ l. hull_in l q) more ∙ hull_pushed_other (take k placed) here q other))
+    ]
 
 -- ---- what the boxes are of
 
@@ -187,11 +196,11 @@ whole_hull V P R acc [] apart is sound left right out = by acc is
 whole_hull V P R acc (here ∷ hulls) apart is sound left right out =
     let Q : Point → Type 0 = λ p. P p ⊎ V here.pair p in
     whole_hull V (λ p. P p ⊎ V here.pair p) R (Some (wider acc here.hull)) hulls apart.1
-      (widest_hull P (V here.pair) (λ p. P p ⊎ V here.pair p) acc (Some here.hull) (λ p h. inl h) (λ p h. inr h) (λ p h. h) is (sound 0 here refl))
-      (λ k h at. sound (suc k) h at)
-      (λ p h. elim h [ inl hp ↦ left p hp | inr hv ↦ right 0 here p refl hv ])
-      (λ k h p at v. right (suc k) h p at v)
-      (λ p r. elim (out p r) [ inl hp ↦ inl (inl hp) | inr one ↦ split here hulls p one.0 one.1 one.2 one.3 ])
+    (widest_hull P (V here.pair) (λ p. P p ⊎ V here.pair p) acc (Some here.hull) (λ p h. inl h) (λ p h. inr h) (λ p h. h) is (sound 0 here refl))
+    (λ k h at. sound (suc k) h at)
+    (λ p h. elim h [ inl hp ↦ left p hp | inr hv ↦ right 0 here p refl hv ])
+    (λ k h p at v. right (suc k) h p at v)
+    (λ p r. elim (out p r) [ inl hp ↦ inl (inl hp) | inr one ↦ split here hulls p one.0 one.1 one.2 one.3 ])
   where
     split : (here : PairHull) (hulls : List PairHull) (p : Point) (k : ℕ) (h : PairHull) → slice_get (here ∷ hulls) k ≡ Some h → V h.pair p
         → (P p ⊎ V here.pair p) ⊎ ((k : ℕ) × (h : PairHull) × (slice_get hulls k ≡ Some h) × V h.pair p)

@@ -13,4 +13,5 @@ mod HullLemmas
 mod ReachLemmas
 mod TreeLemmas
 mod OwnLemmas
+mod TestLemmas
 pub mod ForCallers

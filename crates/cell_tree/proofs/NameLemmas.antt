@@ -109,7 +109,7 @@ pointed_more cells keys k i cell distinct inside is named so_far =
     let inside' : i < length (cell_names cells) = omega (arith, length-names cells) in
     let long : length keys ≡ i = omega (arith, length-pointed keys, ap length so_far, length-take-le i (cell_names cells) (omega arith)) in
     let none = none_equal k keys (λ j before same. distinct_before (cell_names cells) i j distinct (omega arith) inside'
-        (sym (get_or-take i (cell_names cells) j [] (omega arith)) ∙ ap (λ l. get_or l j []) (sym so_far) ∙ same ∙ sym here)) in
+    (sym (get_or-take i (cell_names cells) j [] (omega arith)) ∙ ap (λ l. get_or l j []) (sym so_far) ∙ same ∙ sym here)) in
     ap (λ b. pointed (if b then keys else keys ++ k ∷ [])) none ∙ pointed-push keys k ∙ ap (λ l. l ++ k.now ∷ []) so_far
     ∙ ap (λ n. take i (cell_names cells) ++ n ∷ []) (sym here) ∙ sym (take_more (cell_names cells) i [] inside')
 
@@ -124,7 +124,7 @@ pub target_more : (keys : List (Bor (List ℕ))) (placements : List Placement) (
 target_more keys placements targets i placement k inside is named so_far =
     let f : Placement → Option ℕ = λ p. position (pointwise nat_eq p.target) (pointed keys) in
     let here : position (same_name k) keys ≡ f (get_or placements i placement) =
-        position-map (λ x. x.now) (pointwise nat_eq k.now) keys ∙ ap (λ n. position (pointwise nat_eq n) (pointed keys)) named ∙ ap f is in
+    position-map (λ x. x.now) (pointwise nat_eq k.now) keys ∙ ap (λ n. position (pointwise nat_eq n) (pointed keys)) named ∙ ap f is in
     ap (λ l. l ++ position (same_name k) keys ∷ []) so_far ∙ ap (λ x. map f (take i placements) ++ x ∷ []) here ∙ sym (map_more f placements i placement inside)
 
 pub row_more : {A : Type 0} (view : A → List (Option ℕ)) (cells : List Cell) (rows : List A) (row : A) (keys : List (Bor (List ℕ))) (i : ℕ) (cell : Cell) → i < length cells

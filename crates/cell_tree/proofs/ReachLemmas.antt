@@ -57,7 +57,7 @@ fits_flipped true a bound p f = record { x = f.x; y = subst (λ n. a * n ≤ bou
 fits_enlarged : (mag a bound : ℕ) (p : Point) → Fits (a * mag) bound p → Fits a bound (enlarged mag p)
 fits_enlarged mag a bound p f = record {
   x = let e = unsigned_abs-mul (pos mag) p.x in let g = mul_assoc a mag (unsigned_abs p.x) in let h = ap (λ n. a * n) e in omega (arith, f.x);
-  y = let e = unsigned_abs-mul (pos mag) p.y in let g = mul_assoc a mag (unsigned_abs p.y) in let h = ap (λ n. a * n) e in omega (arith, f.y)
+  y = let e = unsigned_abs-mul (pos mag) p.y in let g = mul_assoc a mag (unsigned_abs p.y) in let h = ap (λ n. a * n) e in omega (arith, f.y);
 }
 
 fits_oriented : (orient : Orient) (a bound : ℕ) (p : Point) → Fits (a * orient.mag) bound p → Fits a bound (oriented_point orient p)
@@ -67,7 +67,7 @@ fits_oriented orient a bound p f = fits_turned orient.turns a bound (flipped ori
 fits_moved : (a bound most : ℕ) (at p : Point) → a ≤ 16 → Fits a bound p → unsigned_abs at.x ≤ most → unsigned_abs at.y ≤ most → Fits a (bound + 16 * most) (moved at p)
 fits_moved a bound most at p small f x y = record {
   x = let s = mul-le-mul_left a (abs_sum p.x at.x) in let m = mul-le-mul small x in omega (arith, f.x);
-  y = let s = mul-le-mul_left a (abs_sum p.y at.y) in let m = mul-le-mul small y in omega (arith, f.y)
+  y = let s = mul-le-mul_left a (abs_sum p.y at.y) in let m = mul-le-mul small y in omega (arith, f.y);
 }
 
 within_x : (bound : ℕ) (p : Point) → IsWithin bound p → unsigned_abs p.x ≤ bound
@@ -98,20 +98,21 @@ module _ (cells : List Cell) (grid : All IsCellOnGrid cells) where
   near_within (suc depth) n a low short some mild pair p vertex =
       let small : a ≤ 16 = (let one = mild [] tt in omega arith) in
       elim (vertex_cases cells n pair p (λ links chain. (let h = short links chain in omega arith)) vertex) [
-          inl own ↦ (let f = own_fits n (length (shapes_at cells n)) a pair p small own in record { x = omega (arith, f.x); y = omega (arith, f.y) })
+        | inl own ↦ (let f = own_fits n (length (shapes_at cells n)) a pair p small own in record { x = omega (arith, f.x); y = omega (arith, f.y) })
         | inr pv ↦ (let placement = All-slot (placements_at cells n) IsPlacementOnGrid (on_grid cells grid n) pv.number pv.placement pv.placed in
             let by = (All-slot pv.placement.offsets IsMove placement.offsets.moves pv.place pv.by pv.offset).near in
             let mag = pv.placement.orient.mag in
             let more : 1 ≤ a * mag = mul-le-mul some placement.orient.enlarges in
             let step = near_within depth pv.target (a * pv.placement.orient.mag) (omega arith) (short_placed cells depth n pv.number pv.placement pv.target short pv.placed pv.targeted) more
-                (λ links chain. (let h = mild (record { placement = pv.placement; cell = pv.target } ∷ links) (record { number = pv.number; placed = pv.placed; target = pv.targeted }, chain) in
-                  let e = mul_assoc a pv.placement.orient.mag (chain_factor links) in omega arith)) pair pv.v pv.vertex in
+            (λ links chain. (let h = mild (record { placement = pv.placement; cell = pv.target } ∷ links) (record { number = pv.number; placed = pv.placed; target = pv.targeted }, chain) in
+            let e = mul_assoc a pv.placement.orient.mag (chain_factor links) in omega arith)) pair pv.v pv.vertex in
             let o = fits_oriented pv.placement.orient a ((depth + 1) * 2 ^ 46) pv.v step in
             let bx = within_x (2 ^ 41) pv.by by in let by' = within_y (2 ^ 41) pv.by by in
             let ax = within_x (2 ^ 41) pv.placement.at placement.at.near in let ay = within_y (2 ^ 41) pv.placement.at placement.at.near in
             let mx = abs_sum pv.placement.at.x pv.by.x in let my = abs_sum pv.placement.at.y pv.by.y in
             let f = fits_moved a ((depth + 1) * 2 ^ 46) (2 ^ 42) (moved pv.by pv.placement.at) (oriented_point pv.placement.orient pv.v) small o (omega arith) (omega arith) in
-            subst (Fits a ((suc depth + 1) * 2 ^ 46)) pv.is (record { x = omega (arith, f.x); y = omega (arith, f.y) })) ]
+            subst (Fits a ((suc depth + 1) * 2 ^ 46)) pv.is (record { x = omega (arith, f.x); y = omega (arith, f.y) }))
+      ]
 
   factor_some : (n : ℕ) (links : List Link) → IsChain cells n links → 1 ≤ chain_factor links
   factor_some n [] chain = omega arith
@@ -123,8 +124,8 @@ module _ (cells : List Cell) (grid : All IsCellOnGrid cells) where
   pub near_below : (top n : ℕ) → IsShallow cells top → IsMild cells top → IsReachable cells top n → HasNearVertices cells n
   near_below top n shallow mild reach pair p vertex =
       let f = near_within 64 n 1 (omega arith) (short_below cells top n shallow reach) (omega arith)
-          (λ links chain. (let h = mild (reach.links ++ links) (chain_joined cells top reach.links links reach.chain (subst (λ m. IsChain cells m links) (sym reach.end) chain)) in
-            let e = factor_joined reach.links links in let one = factor_some top reach.links reach.chain in let m = mul-le-mul_right (chain_factor links) one in omega arith)) pair p vertex in
+      (λ links chain. (let h = mild (reach.links ++ links) (chain_joined cells top reach.links links reach.chain (subst (λ m. IsChain cells m links) (sym reach.end) chain)) in
+      let e = factor_joined reach.links links in let one = factor_some top reach.links reach.chain in let m = mul-le-mul_right (chain_factor links) one in omega arith)) pair p vertex in
       let x = abs_in p.x in let y = abs_in p.y in
       let xl = x.low in let xh = x.high in let yl = y.low in let yh = y.high in let fx = f.x in let fy = f.y in
       record { x_low = omega (arith, ints); x_high = omega (arith, ints); y_low = omega (arith, ints); y_high = omega (arith, ints) }

@@ -13,10 +13,12 @@ Known F d order table i = (j n : ℕ) → j < i → slice_get order j ≡ Some n
 module _ {X : Type 0} (F : ℕ → X → Type 0) (d : X) (order : List ℕ) (table : List X) (i c : ℕ) (x : X) where
   pub known_more : slice_get order i ≡ Some c → c < length table → Known F d order table i → F c x → Known F d order (set table c x) (i + 1)
   known_more here inside known new j n before at = elim (apart n c) [
-      inl e ↦ subst (λ m. F m (get_or (set table c x) m d)) (sym e) (subst (F c) (sym (get_or-set_same table c x d inside)) new)
+    | inl e ↦ subst (λ m. F m (get_or (set table c x) m d)) (sym e) (subst (F c) (sym (get_or-set_same table c x d inside)) new)
     | inr differs ↦ subst (F n) (sym (get_or-set_other table c n x d differs)) (elim (apart j i) [
-          inl e ↦ absurd (differs (one_slot order j n c at (subst (λ k. slice_get order k ≡ Some c) (sym e) here)))
-        | inr other ↦ known j n (omega arith) at ]) ]
+      | inl e ↦ absurd (differs (one_slot order j n c at (subst (λ k. slice_get order k ≡ Some c) (sym e) here)))
+      | inr other ↦ known j n (omega arith) at
+    ])
+  ]
 
 -- what is known in the end
 pub known_all : {X : Type 0} (F : ℕ → X → Type 0) (d : X) (order : List ℕ) (table : List X) → Known F d order table (length order) → (n : ℕ) → IsAmong order n → F n (get_or table n d)

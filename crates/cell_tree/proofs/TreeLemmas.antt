@@ -81,7 +81,7 @@ pub in_order : (cells : List Cell) (top : ℕ) (order cycle : List ℕ) → IsFo
 in_order cells top order cycle found none = record {
   is_upward = record { within = found.within; upward = found.upward none };
   reachable = found.reachable;
-  all = found.all
+  all = found.all;
 }
 
 pub known : (cells : List Cell) (top : ℕ) (order : List ℕ) → ((n : ℕ) → IsReachable cells top n → IsAmong order n)
@@ -120,7 +120,7 @@ module _ (cells : List Cell) (grid : All IsCellOnGrid cells) (top : ℕ) (shallo
   pub fewer_below : (n : ℕ) → IsReachable cells top n → shape_count cells n ≤ shape_count cells top
   fewer_below n reach = subst (λ m. shape_count cells m ≤ shape_count cells top) reach.end
       (along (λ m. IsReachable cells top m × (shape_count cells m ≤ shape_count cells top)) cells top reach.links
-        (λ a b here places. (reach_more cells top a b here.0 places, (let h = placed_fewer a b here.0 places in omega (arith, here.1)))) (top_reachable cells top, omega arith) reach.chain).1
+      (λ a b here places. (reach_more cells top a b here.0 places, (let h = placed_fewer a b here.0 places in omega (arith, here.1)))) (top_reachable cells top, omega arith) reach.chain).1
 
 -- ---- extents
 
@@ -270,8 +270,9 @@ all_shown bound numbers shown cells now e f all = subst (λ l. All (λ n. n < le
 
 pub ring_within : (cells : List Cell) (top : ℕ) (numbers : List ℕ) → top < length cells → (numbers ≡ []) ⊎ IsCycle cells top numbers → All (λ n. n < length cells) numbers
 ring_within cells top numbers inside ring = All-from_slots numbers (λ n. n < length cells) (λ k n at. elim ring [
-    inl none ↦ absurd (none-some n (sym (ap (λ l. slice_get l k) none) ∙ at))
-  | inr r ↦ reachable_within cells top n inside (r.reachable k n at) ])
+  | inl none ↦ absurd (none-some n (sym (ap (λ l. slice_get l k) none) ∙ at))
+  | inr r ↦ reachable_within cells top n inside (r.reachable k n at)
+])
 
 chain_slots : (cells : List Cell) (n : ℕ) (links : List Link) → n < length cells → IsChain cells n links → (k m : ℕ) → slice_get (chain_cells n links) k ≡ Some m → m < length cells
 chain_slots cells n links inside chain zero m at = subst (λ c. c < length cells) (same_Some n m at) inside
@@ -330,8 +331,12 @@ enlarged_is cells top far value name mild is more shown named =
     let low = mild c.links c.chain in
     let e : far.factor ≡ chain_factor c.links = omega (arith, c.factor) in
     record {
-      links = c.links; chain = c.chain; fixed = subst (HasFixed cells) (sym c.end) (c.ends refl);
-      factor = shown ∙ ap pos e; above = omega arith; named = named ∙ ap (name_at cells) (sym c.end)
+      links = c.links;
+      chain = c.chain;
+      fixed = subst (HasFixed cells) (sym c.end) (c.ends refl);
+      factor = shown ∙ ap pos e;
+      above = omega arith;
+      named = named ∙ ap (name_at cells) (sym c.end);
     }
 
 pub far_within : (cells : List Cell) (only_fixed : Bool) (top : ℕ) (far : Far) → top < length cells → IsFarthest cells only_fixed top (Some far) → far.cell < length cells
@@ -456,9 +461,10 @@ pub answered : {T : Type 0} (cells : List Cell) (top : ℕ) (r : Result T TreeBa
     → IsErrAnd r (λ answer. (order_of answer ≡ order_of bad) ⊎ (answer ≡ NoMemory))
 answered cells top (Ok tree) bad grid is fault first some = absurd (some (no_fault cells top bad grid is first))
 answered cells top (Err answer) bad grid is fault first some = elim (is_wanting answer) [
-    inl e ↦ inr e
+  | inl e ↦ inr e
   | inr there ↦ (let a = no_less cells top answer bad fault first some in let b = no_less cells top bad answer first fault there in
-      elim (apart (order_of answer) (order_of bad)) [ inl e ↦ inl e | inr differs ↦ absurd (less_or (order_of answer) (order_of bad) differs a b) ]) ]
+      elim (apart (order_of answer) (order_of bad)) [ inl e ↦ inl e | inr differs ↦ absurd (less_or (order_of answer) (order_of bad) differs a b) ])
+]
   where
     less_or : (m n : ℕ) → (m ≡ n → ⊥) → (m < n → ⊥) → (n < m → ⊥) → ⊥
     less_or zero zero d a b = d refl

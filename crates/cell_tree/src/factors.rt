@@ -52,7 +52,11 @@ fn placed(placement: &Placement, far: Far) -> Far
     ensures { result ≡ placed_far placement.now far }
 {
     let factor = u64::from(placement.orient.mag) * far.factor;
-    let factor = if factor < TOO_GREAT { factor } else { TOO_GREAT };
+    let factor = if factor < TOO_GREAT {
+        factor
+    } else {
+        TOO_GREAT
+    };
     Far {
         cell: far.cell,
         factor,

@@ -33,11 +33,7 @@ fn height_of(targets: &[Option<usize>], heights: &[u8]) -> u8
 }
 
 /// The number of cells in the longest chain from each of the cells of the order, at most 65.
-pub(crate) fn heights(
-    alloc: Global,
-    linked: &Linked,
-    order: &[usize],
-) -> Result<Vec<u8>, NoMemory>
+pub(crate) fn heights(alloc: Global, linked: &Linked, order: &[usize]) -> Result<Vec<u8>, NoMemory>
     requires { IsUpward linked.now.cells order.now }
     ensures long { IfOk result (λ heights. length heights.items ≡ length linked.now.cells) }
     ensures heights { IfOk result (λ heights. AreHeights linked.now.cells order.now heights.items) }

@@ -123,7 +123,11 @@ fn widen_by_placed(
         ≡ widest (hull_in hulls.old.items pair) (option_map (placed_hull orient moves) (hull_in placed.now pair))) }
 {
     for there in placed {
-        widen(hulls, there.pair, summed(oriented(orient, there.hull), moves))?;
+        widen(
+            hulls,
+            there.pair,
+            summed(oriented(orient, there.hull), moves),
+        )?;
     }
     Ok(())
 }

@@ -1,6 +1,6 @@
 //! Each refusal on a small layout, and what a tree says.
-ghost use Rattle.std.specs.Prelude.{◌≡◌, ◌≤◌, [], ◌∷◌, All};
-ghost use Rattle.layout_model.specs.Layouts.{IsShapeOnGrid, IsPlacementOnGrid, IsLayoutOnGrid};
+ghost use Rattle.std.specs.Prelude.{◌≡◌, ◌≤◌, [], ◌∷◌, ◌++◌, All};
+ghost use Rattle.layout_model.specs.Layouts.{IsShapeOnGrid, IsPlacementOnGrid, IsCellOnGrid, IsLayoutOnGrid};
 
 use crate::{TreeBad, resolve};
 use geo_stream::List;
@@ -77,6 +77,26 @@ fn placed(rt: &impl Abort, alloc: Global, target: &[u8], mag: u8) -> Placement
     }
 }
 
+fn more(rt: &impl Abort, mut cells: List<Cell>, cell: Cell) -> List<Cell>
+    ensures { result ≡ cells ++ cell ∷ [] }
+{
+    assert!(rt; cells.push(cell).is_ok(), "memory");
+    cells
+}
+
+fn cell(name: Name, shapes: List<Shape>, placements: List<Placement>) -> Cell
+    requires shapes { All IsShapeOnGrid shapes }
+    requires placements { All IsPlacementOnGrid placements }
+    ensures grid { IsCellOnGrid result }
+    ensures name { result.name ≡ name }
+{
+    Cell {
+        name,
+        shapes,
+        placements,
+    }
+}
+
 // A places B, enlarged so many times; B is of these shapes and placements; and C is a square.
 fn layout(
     rt: &impl Abort,
@@ -91,24 +111,17 @@ fn layout(
     requires placements { All IsPlacementOnGrid placements }
     ensures { IsLayoutOnGrid result }
 {
-    let a = Cell {
-        name: name(rt, alloc, b"A"),
-        shapes: List::new(alloc),
-        placements: only(rt, alloc, placed(rt, alloc, b"B", mag)),
-    };
-    let b = Cell {
-        name: name(rt, alloc, b"B"),
-        shapes,
-        placements,
-    };
-    let c = Cell {
-        name: name(rt, alloc, b"C"),
-        shapes: only(rt, alloc, square(rt, alloc, false)),
-        placements: List::new(alloc),
-    };
-    let mut cells = only(rt, alloc, a);
-    assert!(rt; cells.push(b).is_ok(), "memory");
-    assert!(rt; cells.push(c).is_ok(), "memory");
+    let name_a = name(rt, alloc, b"A");
+    let name_b = name(rt, alloc, b"B");
+    let name_c = name(rt, alloc, b"C");
+    let only_placed = only(rt, alloc, placed(rt, alloc, b"B", mag));
+    let only_square = only(rt, alloc, square(rt, alloc, false));
+    let a = cell(name_a, List::new(alloc), only_placed);
+    let b = cell(name_b, shapes, placements);
+    let c = cell(name_c, only_square, List::new(alloc));
+    let first = only(rt, alloc, a);
+    let two = more(rt, first, b);
+    let cells = more(rt, two, c);
     let counts = Counts {
         kept: 1,
         other: 0,

@@ -128,11 +128,7 @@ fn ask_cycle(alloc: Global, linked: &Linked, found: &Found) -> Result<(), TreeBa
     if found.cycle.is_empty() {
         return Ok(());
     }
-    Err(TreeBad::Cycle(names_of(
-        alloc,
-        linked.cells(),
-        found.cycle.as_slice(),
-    )?))
+    Err(TreeBad::Cycle(names_of(alloc, linked.cells(), found.cycle.as_slice())?))
 }
 
 // Whether no chain has more than 64 cells.
@@ -149,11 +145,7 @@ fn ask_depth(alloc: Global, linked: &Linked, found: &Found) -> Result<(), TreeBa
         return Ok(());
     }
     let chain = deep_chain(alloc, linked, heights.as_slice(), found.top)?;
-    Err(TreeBad::Deep(names_of(
-        alloc,
-        linked.cells(),
-        chain.as_slice(),
-    )?))
+    Err(TreeBad::Deep(names_of(alloc, linked.cells(), chain.as_slice())?))
 }
 
 // Whether no chain enlarges by more than 16.

@@ -13,4 +13,4 @@ loop-point-preserved c =
     let rest = c.args.rest.now in let i = c.loop-point.point-index in
     let p : Point = get_or rest i (record { x = pos 0; y = pos 0 }) in
     subst (λ l. IsLeastBox (IsOneOf (c.args.first ∷ l)) c.joined-least.result) (sym (take_more rest i (record { x = pos 0; y = pos 0 }) c.loop-point-test.true))
-      (one_more_least (c.args.first ∷ take i rest) p c.loop-point.least c.point_box.result c.joined-least.result c.loop-point.invariant c.point_box.ensures c.joined-least.ensures)
+    (one_more_least (c.args.first ∷ take i rest) p c.loop-point.least c.point_box.result c.joined-least.result c.loop-point.invariant c.point_box.ensures c.joined-least.ensures)

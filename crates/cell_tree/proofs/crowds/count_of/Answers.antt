@@ -8,7 +8,7 @@ pub loop-k-preserved : goal.loop-k-preserved
 loop-k-preserved c =
     let cells = c.args.linked.now.cells in let k = c.loop-k.k in
     let h = step_count cells c.args.cell k (own_count (shapes_at cells c.args.cell)) c.loop-k.count c.copies.result c.args.counts.now c.placements-placements.result.now c.targets-target-items.result.now
-        c.index-placements-k.result c.placements-placements.ensures c.targets-target-items.ensures.value c.loop-k-test.true c.index-placements-k.is c.requires.placed c.loop-k.invariant c.copies.ensures in
+    c.index-placements-k.result c.placements-placements.ensures c.targets-target-items.ensures.value c.loop-k-test.true c.index-placements-k.is c.requires.placed c.loop-k.invariant c.copies.ensures in
     omega arith
 
 pub returns : goal.returns

@@ -17,7 +17,7 @@ returns-then-count-gt-MOST c =
       many = crowded (shape_count cells n) c.count_of-count.result c.count_of-count.ensures c.if-count-gt-MOST.true;
       lowest = λ m places. (let known = known_before (IsCount cells) 0 order table i m c.loop-cell.invariant.1 (c.requires.order.upward i n places.1.number m here (places_at cells n places.0 m places.1)) in
           subst (λ k. k ≤ 2 ^ 40) known.0 known.1);
-      number = c.count_of-count.ensures
+      number = c.count_of-count.ensures;
     }
 
 pub loop-cell-preserved : goal.loop-cell-preserved

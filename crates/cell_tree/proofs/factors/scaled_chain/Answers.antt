@@ -28,9 +28,9 @@ pub unreachable-requires : goal.unreachable-requires
 unreachable-requires c =
     let inv = c.loop-step.invariant in let cells = c.args.linked.now.cells in
     none_beyond cells c.args.top c.loop-step.cell c.loop-step.factor inv.0 c.args.farthest.now (mags_on_grid cells c.requires.grid.cells) c.requires.farthest inv.1 inv.3 inv.6 inv.8.0 inv.8.1 inv.8.2
-      (λ k far leads. c.in-None.ensures.none k far
-        (subst (λ t. LeadsBeyond c.placements-placements.result.now t c.args.farthest.now c.loop-step.factor k far) (sym c.targets.ensures.value)
-          (subst (λ p. LeadsBeyond p (targets_at cells c.loop-step.cell) c.args.farthest.now c.loop-step.factor k far) (sym c.placements-placements.ensures) leads)))
+    (λ k far leads. c.in-None.ensures.none k far
+    (subst (λ t. LeadsBeyond c.placements-placements.result.now t c.args.farthest.now c.loop-step.factor k far) (sym c.targets.ensures.value)
+    (subst (λ p. LeadsBeyond p (targets_at cells c.loop-step.cell) c.args.farthest.now c.loop-step.factor k far) (sym c.placements-placements.ensures) leads)))
 
 pub unreachable-requires-2 : goal.unreachable-requires-2
 unreachable-requires-2 c =
@@ -62,7 +62,7 @@ returns-then-far-ge-TOO_GREAT c =
       factor_is = beyond_factor cells c.args.farthest.now cell c.loop-step.factor k far l at ∙ ap (λ f. f * link.placement.orient.mag) inv.5 ∙ sym (factor_pushed inv.0 link);
       above = omega (arith, c.if-far-ge-TOO_GREAT.true);
       small = (let m = (All-slot (placements_at cells cell) IsPlacementOnGrid (on_grid cells c.requires.grid.cells cell) k l.placement l.placed).orient.factor in let p = mul-le-mul inv.6 m in omega (arith, l.goes.is));
-      before = subst (λ ls. chain_factor ls ≤ 16) (sym front) (subst (λ f. f ≤ 16) inv.5 inv.6)
+      before = subst (λ ls. chain_factor ls ≤ 16) (sym front) (subst (λ f. f ≤ 16) inv.5 inv.6);
     }
 
 pub loop-step-preserved : goal.loop-step-preserved
@@ -72,13 +72,14 @@ loop-step-preserved c =
     let l = leads cells cell c.loop-step.factor c.args.farthest.now c.placements-placements.result.now c.targets.result.now k far c.placements-placements.ensures c.targets.ensures.value c.in-Some.ensures.some.1 in
     let at = beyond_at cells c.args.farthest.now cell c.loop-step.factor k far l in
     let link = link_at cells cell k far.cell at in
-    let long = length_push inv.0 link in
-    (inv.0 ++ link ∷ [],
-     chain_pushed cells c.args.top cell inv.0 link inv.1 inv.3 (places_by cells cell k far.cell at),
-     c.in_ok-push-in-Some.ensures.items ∙ ap (λ ns. ns ++ far.cell ∷ []) inv.2 ∙ sym (cells_pushed c.args.top inv.0 link),
-     end_joined c.args.top inv.0 (link ∷ []),
-     omega (arith, inv.4),
-     beyond_factor cells c.args.farthest.now cell c.loop-step.factor k far l at ∙ ap (λ f. f * link.placement.orient.mag) inv.5 ∙ sym (factor_pushed inv.0 link),
-     omega (arith, c.if-far-ge-TOO_GREAT.false),
-     targets_below cells cell k far.cell at,
-     (l.goes.from, l.goes.there, l.goes.beyond))
+    let long = length_push inv.0 link in (
+      inv.0 ++ link ∷ [],
+      chain_pushed cells c.args.top cell inv.0 link inv.1 inv.3 (places_by cells cell k far.cell at),
+      c.in_ok-push-in-Some.ensures.items ∙ ap (λ ns. ns ++ far.cell ∷ []) inv.2 ∙ sym (cells_pushed c.args.top inv.0 link),
+      end_joined c.args.top inv.0 (link ∷ []),
+      omega (arith, inv.4),
+      beyond_factor cells c.args.farthest.now cell c.loop-step.factor k far l at ∙ ap (λ f. f * link.placement.orient.mag) inv.5 ∙ sym (factor_pushed inv.0 link),
+      omega (arith, c.if-far-ge-TOO_GREAT.false),
+      targets_below cells cell k far.cell at,
+      (l.goes.from, l.goes.there, l.goes.beyond),
+    )

@@ -21,7 +21,7 @@ pub unreachable-requires : goal.unreachable-requires
 unreachable-requires c =
     let inv = c.loop-done.invariant in
     none_tall c.args.linked.now.cells c.args.top c.loop-done.cell inv.0 c.args.heights.now c.loop-done.done inv.1 inv.3 c.requires.heights (omega arith) (omega arith) inv.5
-      (λ k m at. c.in-None.ensures.none k m (subst (λ t. slice_get t k ≡ Some (Some m)) (sym c.targets.ensures.value) at))
+    (λ k m at. c.in-None.ensures.none k m (subst (λ t. slice_get t k ≡ Some (Some m)) (sym c.targets.ensures.value) at))
 
 pub loop-done-preserved : goal.loop-done-preserved
 loop-done-preserved c =
@@ -31,10 +31,12 @@ loop-done-preserved c =
     let at : PlacesAt cells c.loop-done.cell k next = subst (λ t. slice_get t k ≡ Some (Some next)) c.targets.ensures.value some.0.1 in
     let link : Link = link_at cells c.loop-done.cell k next at in
     let long = length_push inv.0 link in
-    let tall = some.1 in
-    (inv.0 ++ link ∷ [],
-     chain_pushed cells top c.loop-done.cell inv.0 link inv.1 inv.3 (places_by cells c.loop-done.cell k next at),
-     c.in_ok-push-in-Some.ensures.items ∙ ap (λ l. l ++ next ∷ []) inv.2 ∙ sym (cells_pushed top inv.0 link),
-     end_joined top inv.0 (link ∷ []),
-     omega (arith, inv.4), omega arith,
-     targets_below cells c.loop-done.cell k next at)
+    let tall = some.1 in (
+      inv.0 ++ link ∷ [],
+      chain_pushed cells top c.loop-done.cell inv.0 link inv.1 inv.3 (places_by cells c.loop-done.cell k next at),
+      c.in_ok-push-in-Some.ensures.items ∙ ap (λ l. l ++ next ∷ []) inv.2 ∙ sym (cells_pushed top inv.0 link),
+      end_joined top inv.0 (link ∷ []),
+      omega (arith, inv.4),
+      omega arith,
+      targets_below cells c.loop-done.cell k next at,
+    )

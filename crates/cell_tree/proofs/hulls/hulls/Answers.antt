@@ -21,4 +21,4 @@ returns-clause-hulls c = known_all (AreCellHulls c.args.linked.now.cells) [] c.a
 pub hulls_of-requires-clause-small : goal.hulls_of-requires-clause-small
 hulls_of-requires-clause-small c = λ k m at.
     (let order = c.args.order.now in let i = c.loop-cell.cell-index in
-     let before = c.requires.order.upward i (get_or order i 0) k m (slice_get-get_or order i 0 c.loop-cell-test.true) at in c.requires.near m (before.0, before.2))
+    let before = c.requires.order.upward i (get_or order i 0) k m (slice_get-get_or order i 0 c.loop-cell-test.true) at in c.requires.near m (before.0, before.2))

@@ -14,11 +14,12 @@ loop-k-init c = own_only c.args.linked.now.cells c.args.cell c.in_ok-own.own.ite
 pub loop-k-preserved : goal.loop-k-preserved
 loop-k-preserved c =
     let cells = c.args.linked.now.cells in let n = c.args.cell in let k = c.loop-k.k in let placement = c.index-placements-k.result in let targets = c.targets-target-items.result.now in
-    let slot = shown_slot cells n k c.placements-placements.result.now targets placement c.placements-placements.ensures c.targets-target-items.ensures.value c.loop-k-test.true c.index-placements-k.is in
-    (c.in_ok-widen_by_placed.ensures.apart,
-     step_hulls cells n k targets placement (map (λ list. list.items) c.args.hulls.now) c.loop-k.own.items c.widen_by_placed.new.hulls.items c.placed_hulls-placed.result.now c.moves_of.result
-       (λ pair p. OwnVertex (shapes_at cells n) (length (shapes_at cells n)) pair p) c.targets-target-items.ensures.value slot c.requires.placed c.moves_of.ensures.least c.placed_hulls-placed.ensures
-       c.in_ok-widen_by_placed.ensures.hulls c.loop-k.invariant.1)
+    let slot = shown_slot cells n k c.placements-placements.result.now targets placement c.placements-placements.ensures c.targets-target-items.ensures.value c.loop-k-test.true c.index-placements-k.is in (
+      c.in_ok-widen_by_placed.ensures.apart,
+      step_hulls cells n k targets placement (map (λ list. list.items) c.args.hulls.now) c.loop-k.own.items c.widen_by_placed.new.hulls.items c.placed_hulls-placed.result.now c.moves_of.result
+          (λ pair p. OwnVertex (shapes_at cells n) (length (shapes_at cells n)) pair p) c.targets-target-items.ensures.value slot c.requires.placed c.moves_of.ensures.least c.placed_hulls-placed.ensures
+          c.in_ok-widen_by_placed.ensures.hulls c.loop-k.invariant.1,
+    )
 
 pub returns : goal.returns
 returns c = cell_hulls c.args.linked.now.cells c.args.cell c.loop-k.k c.targets-target-items.result.now c.loop-k.own.items c.targets-target-items.ensures.value c.loop-k-test.false c.requires.short c.loop-k.invariant.0 c.loop-k.invariant.1

@@ -14,9 +14,10 @@ loop-there-preserved c =
     let here : PairHull = get_or placed i (record { pair = record { layer = 0; datatype = 0 }; hull = record { x0 = pos 0; y0 = pos 0; x1 = pos 0; y1 = pos 0 } }) in
     let at : slice_get placed i ≡ Some here = slice_get-get_or placed i (record { pair = record { layer = 0; datatype = 0 }; hull = record { x0 = pos 0; y0 = pos 0; x1 = pos 0; y1 = pos 0 } }) c.loop-there-test.true in
     let box : c.summed.result ≡ placed_hull c.args.orient c.args.moves here.hull = c.summed.ensures ∙ ap (λ f. summed_box f c.args.moves) c.oriented.ensures.value in
-    let e : c.widen.new.hulls.items ≡ widened_list cur here.pair (placed_hull c.args.orient c.args.moves here.hull) = c.in_ok-widen.ensures ∙ ap (widened_list cur here.pair) box in
-    (subst AreApart (sym e) (widened_apart cur here.pair (placed_hull c.args.orient c.args.moves here.hull) inv.0),
-     λ pair. ap (λ l. hull_in l pair) e ∙ merge_more (placed_hull c.args.orient c.args.moves) c.args.hulls.now.items cur placed i here c.requires.apart c.loop-there-test.true at inv.1 pair)
+    let e : c.widen.new.hulls.items ≡ widened_list cur here.pair (placed_hull c.args.orient c.args.moves here.hull) = c.in_ok-widen.ensures ∙ ap (widened_list cur here.pair) box in (
+      subst AreApart (sym e) (widened_apart cur here.pair (placed_hull c.args.orient c.args.moves here.hull) inv.0),
+      λ pair. ap (λ l. hull_in l pair) e ∙ merge_more (placed_hull c.args.orient c.args.moves) c.args.hulls.now.items cur placed i here c.requires.apart c.loop-there-test.true at inv.1 pair,
+    )
 
 pub returns-clause-hulls : goal.returns-clause-hulls
 returns-clause-hulls c = λ pair. c.loop-there.invariant.1 pair

@@ -16,4 +16,4 @@ returns-clause-found c =
     let none = c.in_default.ensures.cases in
     let empty : search.path.items ≡ [] = nil_from_length search.path.items (omega arith) in
     ends cells c.args.top search.marks.items search.order.items search.cycle.items c.requires
-      (subst (λ p. IsSearch cells c.args.top search.marks.items p search.order.items search.cycle.items) empty c.loop-stop.invariant)
+    (subst (λ p. IsSearch cells c.args.top search.marks.items p search.order.items search.cycle.items) empty c.loop-stop.invariant)

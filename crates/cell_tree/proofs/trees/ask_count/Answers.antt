@@ -23,12 +23,18 @@ name_of-requires c =
 pub returns-in-Some-clause-err : goal.returns-in-Some-clause-err
 returns-in-Some-clause-err c =
     let order = c.args.found.now.order.items in let cells = c.args.linked.now.cells in let shown = c.as_slice.result.now in let crowd = c.in-Some.crowd in
-    let is : IsCrowd cells shown crowd.cell crowd.count = MatchOption-at_some ((n : ℕ) → IsAmong shown n → shape_count cells n ≤ 2 ^ 40) (λ crowd. IsCrowd cells shown crowd.cell crowd.count) crowd c.in-Some.is c.in_ok-crowd.ensures in
-    (c.requires.known, c.requires.acyclic, c.requires.shallow, c.requires.mild, c.requires.fixed, c.requires.near,
-     crowd_is cells c.args.found.now.top crowd.cell crowd.count order shown c.in_ok-name.name c.as_slice.ensures.value c.requires.order is (c.in_ok-name.ensures ∙ ap (λ l. name_at l crowd.cell) c.cells.ensures))
+    let is : IsCrowd cells shown crowd.cell crowd.count = MatchOption-at_some ((n : ℕ) → IsAmong shown n → shape_count cells n ≤ 2 ^ 40) (λ crowd. IsCrowd cells shown crowd.cell crowd.count) crowd c.in-Some.is c.in_ok-crowd.ensures in (
+      c.requires.known,
+      c.requires.acyclic,
+      c.requires.shallow,
+      c.requires.mild,
+      c.requires.fixed,
+      c.requires.near,
+      crowd_is cells c.args.found.now.top crowd.cell crowd.count order shown c.in_ok-name.name c.as_slice.ensures.value c.requires.order is (c.in_ok-name.ensures ∙ ap (λ l. name_at l crowd.cell) c.cells.ensures),
+    )
 
 pub returns-clause-ok : goal.returns-clause-ok
 returns-clause-ok c =
     let order = c.args.found.now.order.items in let cells = c.args.linked.now.cells in let shown = c.as_slice.result.now in let top = c.args.found.now.top in
     MatchOption-at_none ((n : ℕ) → IsAmong shown n → shape_count cells n ≤ 2 ^ 40) (λ crowd. IsCrowd cells shown crowd.cell crowd.count) c.in_default.is c.in_ok-crowd.ensures
-      top (shown_among order shown top c.as_slice.ensures.value (c.requires.order.all top (top_reachable cells top)))
+    top (shown_among order shown top c.as_slice.ensures.value (c.requires.order.all top (top_reachable cells top)))
