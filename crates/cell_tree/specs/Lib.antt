@@ -1,0 +1,13 @@
+pub mod Cells
+pub mod Chains
+pub mod Flattening
+pub mod Boxes
+pub mod Trees
+pub mod Faults
+pub mod Linking
+pub mod Orders
+pub mod Searches
+pub mod Heights
+pub mod Factors
+pub mod HullTables
+pub mod Counting

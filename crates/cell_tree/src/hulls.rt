@@ -1,0 +1,210 @@
+//! The least boxes of cells, pair by pair.
+ghost use Rattle.std.specs.Prelude.{◌≡◌, ◌<◌, ◌^◌, ◌≤◌, ◌↔◌, ℕ, length, map, slice_get, get_or, slice_set, [], ◌∷◌, ◌++◌, Some, None, All, IsTrue, IfOk, OnOk, IfSome, IfNone, if◌then◌else◌};
+ghost use Rattle.std.specs.Option.{option_map};
+ghost use Rattle.layout_model.specs.Images.{IsOrient};
+ghost use Rattle.layout_model.specs.Layouts.{IsLayoutOnGrid, IsShapeOnGrid, IsPlacementOnGrid};
+ghost use Rattle.layout_model.specs.declared.pair.Pair.{Pair as APair};
+ghost use Rattle.cell_tree.specs.Boxes.{IsLeastBox, IsBoxUpTo, joined_box};
+ghost use Rattle.cell_tree.specs.Cells.{PlacesAt};
+ghost use Rattle.cell_tree.specs.Chains.{IsShort};
+ghost use Rattle.cell_tree.specs.Orders.{IsUpward, IsAmong};
+ghost use Rattle.cell_tree.specs.HullTables.{ShapeVertex, IsMoveOf, hull_in, AreApart, wider, widest, widened_list, whole_from, placed_hull, hulls_at, AreOwnHulls, AreCellHulls, AreHulls, HasNearVertices};
+ghost use Rattle.cell_tree.specs.declared.hulls.PairHull.{PairHull as APairHull};
+ghost use Rattle.half_grid.specs.declared.extent.Frame.{Frame as AFrame};
+
+use crate::boxes::{box_of, joined, moved, oriented, summed};
+use crate::linked::Linked;
+use geo_stream::NoMemory;
+use half_grid::Frame;
+use layout_model::{Orient, Pair, Placement, Shape};
+use std::alloc::Global;
+
+/// A pair, and the least box of what is on it.
+#[derive(Clone, Copy, Debug)]
+pub(crate) struct PairHull {
+    pub(crate) pair: Pair,
+    pub(crate) hull: Frame,
+}
+
+// The place of the box of a pair.
+fn place_of(hulls: &[PairHull], pair: Pair) -> Option<usize>
+    ensures some { IfSome result (λ k. (k < length hulls.now)
+        × ((by : AFrame) → widened_list hulls.now pair by ≡ slice_set hulls.now k (record { pair = pair; hull = joined_box (get_or hulls.now k (record { pair = pair; hull = by })).hull by }))
+        × ((here : APairHull) → hull_in hulls.now pair ≡ Some (get_or hulls.now k here).hull)) }
+    ensures none { IfNone result ((hull_in hulls.now pair ≡ None)
+        × ((by : AFrame) → widened_list hulls.now pair by ≡ hulls.now ++ record { pair = pair; hull = by } ∷ [])) }
+{
+    for (k, here) in hulls.iter().enumerate() {
+        if here.pair == pair {
+            return Some(k);
+        }
+    }
+    None
+}
+
+/// The box of a pair.
+pub(crate) fn hull_on(hulls: &[PairHull], pair: Pair) -> Option<Frame>
+    ensures { result ≡ hull_in hulls.now pair }
+{
+    match place_of(hulls, pair) {
+        Some(k) => Some(hulls[k].hull),
+        None => None,
+    }
+}
+
+fn wider(hull: Option<Frame>, by: Frame) -> Frame
+    ensures { result ≡ wider hull by }
+{
+    match hull {
+        Some(hull) => joined(hull, by),
+        None => by,
+    }
+}
+
+/// The box of all pairs.
+pub(crate) fn whole_hull(hulls: &[PairHull]) -> Option<Frame>
+    ensures { result ≡ whole_from None hulls.now }
+{
+    let mut hull = None;
+    for here in hulls {
+        hull = Some(wider(hull, here.hull));
+    }
+    hull
+}
+
+// Widens the box of a pair by another.
+fn widen(hulls: &mut Vec<PairHull>, pair: Pair, by: Frame) -> Result<(), NoMemory>
+    ensures { OnOk result (hulls.new.items ≡ widened_list hulls.old.items pair by) }
+{
+    match place_of(hulls.as_slice(), pair) {
+        Some(k) => {
+            let hull = joined(hulls[k].hull, by);
+            hulls[k] = PairHull { pair, hull };
+        }
+        None => hulls.push(PairHull { pair, hull: by })?,
+    }
+    Ok(())
+}
+
+// The box of a shape at all its offsets.
+fn shape_hull(shape: &Shape) -> Frame
+    requires { IsShapeOnGrid shape.now }
+    ensures { IsLeastBox (ShapeVertex shape.now) result }
+{
+    summed(box_of(shape.points.as_slice()), shape.offsets.hull())
+}
+
+// The boxes of shapes.
+fn own_hulls(alloc: Global, shapes: &[Shape]) -> Result<Vec<PairHull>, NoMemory>
+    requires { All IsShapeOnGrid shapes.now }
+    ensures { IfOk result (λ hulls. AreOwnHulls shapes.now hulls.items) }
+{
+    let mut hulls = Vec::new(alloc);
+    for shape in shapes {
+        widen(&mut hulls, shape.pair, shape_hull(shape))?;
+    }
+    Ok(hulls)
+}
+
+// Widens boxes by those of a placed cell.
+fn widen_by_placed(
+    hulls: &mut Vec<PairHull>,
+    orient: Orient,
+    moves: Frame,
+    placed: &[PairHull],
+) -> Result<(), NoMemory>
+    requires orient { IsOrient orient }
+    requires moves { IsBoxUpTo (2 ^ 43) moves }
+    requires placed { All (λ here. IsBoxUpTo (2 ^ 53) here.hull) placed.now }
+    requires apart { AreApart placed.now }
+    requires old { AreApart hulls.old.items }
+    ensures apart { OnOk result (AreApart hulls.new.items) }
+    ensures hulls { (pair : APair) → OnOk result (hull_in hulls.new.items pair
+        ≡ widest (hull_in hulls.old.items pair) (option_map (placed_hull orient moves) (hull_in placed.now pair))) }
+{
+    for there in placed {
+        widen(
+            hulls,
+            there.pair,
+            summed(oriented(orient, there.hull), moves),
+        )?;
+    }
+    Ok(())
+}
+
+// The box of a placement's moves.
+fn moves_of(placement: &Placement) -> Frame
+    requires { IsPlacementOnGrid placement.now }
+    ensures least { IsLeastBox (IsMoveOf placement.now) result }
+    ensures small { IsBoxUpTo (2 ^ 43) result }
+{
+    moved(placement.at, placement.offsets.hull())
+}
+
+// The boxes of a placed cell, if there is one.
+fn placed_hulls(hulls: &[Vec<PairHull>], target: Option<usize>) -> &[PairHull]
+    requires { IfSome target (λ m. m < length hulls.now) }
+    ensures { result.now ≡ hulls_at (map (λ list. list.items) hulls.now) target }
+{
+    match target {
+        Some(target) => hulls[target].as_slice(),
+        None => &[],
+    }
+}
+
+// The boxes of a cell, by those of the cells that it places.
+fn hulls_of(
+    alloc: Global,
+    linked: &Linked,
+    cell: usize,
+    hulls: &[Vec<PairHull>],
+) -> Result<Vec<PairHull>, NoMemory>
+    requires cell { cell < length linked.now.cells }
+    requires long { length hulls.now ≡ length linked.now.cells }
+    requires grid { IsLayoutOnGrid linked.now }
+    requires short { IsShort linked.now.cells 64 cell }
+    requires placed { (k m : ℕ) → PlacesAt linked.now.cells cell k m → AreCellHulls linked.now.cells m (get_or (map (λ list. list.items) hulls.now) m []) }
+    requires small { (k m : ℕ) → PlacesAt linked.now.cells cell k m → HasNearVertices linked.now.cells m }
+    ensures { IfOk result (λ own. AreCellHulls linked.now.cells cell own.items) }
+{
+    let mut own = own_hulls(alloc, linked.shapes(cell))?;
+    let placements = linked.placements(cell);
+    for (k, target) in linked.targets(cell).iter().enumerate() {
+        let placement = &placements[k];
+        let placed = placed_hulls(hulls, *target);
+        widen_by_placed(&mut own, placement.orient, moves_of(placement), placed)?;
+    }
+    Ok(own)
+}
+
+// So many empty lists.
+fn empty_lists(alloc: Global, count: usize) -> Result<Vec<Vec<PairHull>>, NoMemory>
+    ensures { IfOk result (λ lists. length lists.items ≡ count) }
+{
+    let mut lists = Vec::with_capacity(alloc, count)?;
+    for _n in 0..count {
+        lists.push(Vec::new(alloc))?;
+    }
+    Ok(lists)
+}
+
+/// The boxes of each of the cells of the order.
+pub(crate) fn hulls(
+    alloc: Global,
+    linked: &Linked,
+    order: &[usize],
+) -> Result<Vec<Vec<PairHull>>, NoMemory>
+    requires grid { IsLayoutOnGrid linked.now }
+    requires order { IsUpward linked.now.cells order.now }
+    requires short { (n : ℕ) → IsAmong order.now n → IsShort linked.now.cells 64 n }
+    requires near { (n : ℕ) → IsAmong order.now n → HasNearVertices linked.now.cells n }
+    ensures long { IfOk result (λ hulls. length hulls.items ≡ length linked.now.cells) }
+    ensures hulls { IfOk result (λ hulls. AreHulls linked.now.cells order.now (map (λ list. list.items) hulls.items)) }
+{
+    let mut hulls = empty_lists(alloc, linked.cells().len())?;
+    for cell in order {
+        let own = hulls_of(alloc, linked, *cell, hulls.as_slice())?;
+        hulls[*cell] = own;
+    }
+    Ok(hulls)
+}
