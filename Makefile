@@ -4,9 +4,10 @@
 RT := $(shell command -v rt 2>/dev/null || echo /opt/rattle/bin/rt)
 
 PROGRAM := build/nettletide
+BENCH := build/bench
 SOURCES := crates.txt HANDLES $(shell find crates -name out -prune -o \( -name '*.rt' -o -name '*.antt' \) -print)
 
-.PHONY: all try test example clean
+.PHONY: all try test example bench clean
 
 all: $(PROGRAM)
 
@@ -36,6 +37,20 @@ test:
 example: $(PROGRAM)
 	cd example && ../$(PROGRAM) fracture square.gds square.deck
 	wc -c example/square.oas
+
+$(BENCH): $(SOURCES)
+	mkdir -p build
+	rm -f crates/bench/out/bench crates/bench/out/bench.stamp
+	cd crates/bench && { $(RT) run; test -x out/bench; }
+	cp crates/bench/out/bench $(BENCH)
+
+# Single layers, timed on inputs that the program makes in memory.
+bench: $(BENCH)
+	$(BENCH) gds 1000000
+	$(BENCH) squares 300
+	$(BENCH) squares 1000
+	$(BENCH) random 10000
+	$(BENCH) random 100000
 
 # What the kit has proved stays in crates/*/out, since to prove it again takes minutes.
 clean:

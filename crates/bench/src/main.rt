@@ -1,0 +1,119 @@
+//! Measures single layers on inputs that it makes in memory, and prints how long each took. `make bench` runs it.
+#![tactic(auto)]
+
+mod layouts;
+mod shapes;
+
+use bool_ops::{Op, combine};
+use gds_reader::read_gds;
+use half_grid::{Trap, Window};
+use layout_model::Pair;
+use std::alloc::Global;
+use std::process::ExitCode;
+use std::time::Instant;
+use std::{env, io};
+
+/// No input is larger than this.
+const MOST: u32 = 4_000_000;
+
+/// What the words ask for.
+enum Task {
+    /// A square array of so many squares a side.
+    Squares(u32),
+    /// So many random rectangles.
+    Random(u32),
+    /// A GDSII file of so many rectangles.
+    Gds(u32),
+}
+
+fn task_of(kind: &str, count: u32) -> Option<Task> {
+    if count > MOST {
+        return None;
+    }
+    match kind {
+        "squares" => Some(Task::Squares(count.min(2000))),
+        "random" => Some(Task::Random(count)),
+        "gds" => Some(Task::Gds(count)),
+        _ => None,
+    }
+}
+
+fn asked(words: &[String]) -> Option<Task> {
+    match words {
+        [kind, count] => task_of(kind.as_str(), count.as_str().parse().ok()?),
+        _ => None,
+    }
+}
+
+// Unites the trapezoids, and prints how many maximal ones they have and how long it took.
+fn unite(rt: &HostRuntime, alloc: Global, kind: &str, traps: &[Trap]) -> io::Result<()> {
+    let Some(window) = Window::new(-1_000_000_000, 1_000_000_000) else {
+        return Ok(());
+    };
+    let start = Instant::now(rt)?;
+    let Ok(joined) = combine(alloc, Op::Or, traps, &[], window) else {
+        return println!(rt; "{kind}: want of memory");
+    };
+    let milliseconds = start.elapsed(rt)?.as_millis();
+    println!(rt;
+        "{kind}: {} shapes, {} maximal trapezoids, {milliseconds} ms",
+        traps.len(),
+        joined.len()
+    )
+}
+
+// Reads the file, and prints its size and how long it took.
+fn read(rt: &HostRuntime, alloc: Global, bytes: &[u8]) -> io::Result<()> {
+    let wanted = [Pair {
+        layer: 1,
+        datatype: 0,
+    }];
+    let start = Instant::now(rt)?;
+    let answer = read_gds(alloc, bytes, 1000, &wanted);
+    let milliseconds = start.elapsed(rt)?.as_millis();
+    match answer {
+        Ok(layout) => {
+            let kept = layout.counts.kept;
+            println!(rt;
+                "gds: {} bytes, {kept} shapes, {milliseconds} ms",
+                bytes.len()
+            )
+        }
+        Err(_) => println!(rt; "gds: refused"),
+    }
+}
+
+fn measure(rt: &HostRuntime, alloc: Global, task: Task) -> io::Result<()> {
+    match task {
+        Task::Squares(side) => match shapes::squares(alloc, side) {
+            Ok(traps) => unite(rt, alloc, "squares", traps.as_slice()),
+            Err(_) => println!(rt; "squares: want of memory"),
+        },
+        Task::Random(count) => match shapes::rectangles(alloc, count) {
+            Ok(traps) => unite(rt, alloc, "random", traps.as_slice()),
+            Err(_) => println!(rt; "random: want of memory"),
+        },
+        Task::Gds(count) => match layouts::file(alloc, count) {
+            Ok(bytes) => read(rt, alloc, bytes.as_slice()),
+            Err(_) => println!(rt; "gds: want of memory"),
+        },
+    }
+}
+
+fn run(rt: &HostRuntime) -> io::Result<()> {
+    let alloc = rt.alloc();
+    let Ok(words) = env::args(rt)?.skip(1).collect::<Vec<String>>(alloc) else {
+        return Ok(());
+    };
+    match asked(words.as_slice()) {
+        Some(task) => measure(rt, alloc, task),
+        None => println!(rt; "words: squares SIDE, random COUNT or gds COUNT; COUNT up to {MOST}"),
+    }
+}
+
+fn main(rt: HostRuntime) -> ExitCode {
+    match run(&rt) {
+        Ok(()) => ExitCode::SUCCESS,
+        Err(_) => ExitCode::FAILURE,
+    }
+}

@@ -1,0 +1,67 @@
+//! Trapezoids to be united.
+
+use half_grid::{Line, Trap};
+use std::alloc::{AllocError, Global};
+
+// Puts the rectangle, where it has an area and lies within reach.
+fn put(traps: &mut Vec<Trap>, x: i64, y: i64, width: i64, height: i64) -> Result<(), AllocError> {
+    let right = Line::Upright(x.saturating_add(width));
+    if let Some(trap) = Trap::new(y, y.saturating_add(height), Line::Upright(x), right) {
+        traps.push(trap)?;
+    }
+    Ok(())
+}
+
+/// A square array of squares: 10 half units wide, 20 apart.
+pub(crate) fn squares(alloc: Global, side: u32) -> Result<Vec<Trap>, AllocError> {
+    let mut traps = Vec::new(alloc);
+    for row in 0..side {
+        for column in 0..side {
+            put(
+                &mut traps,
+                20 * i64::from(column),
+                20 * i64::from(row),
+                10,
+                10,
+            )?;
+        }
+    }
+    Ok(traps)
+}
+
+// The next of a row of numbers that look random (the constants of Knuth's MMIX generator).
+fn next(state: u64) -> u64 {
+    state
+        .wrapping_mul(6_364_136_223_846_793_005)
+        .wrapping_add(1_442_695_040_888_963_407)
+}
+
+// A number below the bound from the high bits of a state.
+fn below(state: u64, bound: u32) -> i64 {
+    if bound == 0 {
+        return 0;
+    }
+    i64::from(((state >> 33) as u32) % bound)
+}
+
+/// Random rectangles of up to 400 half units a side, on an area that gives each about as much room as it takes.
+pub(crate) fn rectangles(alloc: Global, count: u32) -> Result<Vec<Trap>, AllocError> {
+    let side = count.isqrt().saturating_mul(400).saturating_add(1);
+    let mut traps = Vec::new(alloc);
+    let mut state = 1u64;
+    for _ in 0..count {
+        let x = next(state);
+        let y = next(x);
+        let width = next(y);
+        let height = next(width);
+        state = height;
+        put(
+            &mut traps,
+            below(x, side),
+            below(y, side),
+            below(width, 398).saturating_add(2),
+            below(height, 398).saturating_add(2),
+        )?;
+    }
+    Ok(traps)
+}
