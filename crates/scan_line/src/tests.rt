@@ -202,7 +202,7 @@ fn random_part(seed: &mut u64) -> Option<Part> {
 fn random_figures(rt: HostRuntime) -> Result<(), Fail> {
     let alloc = rt.alloc();
     let mut seed = 7;
-    for _ in 0..40 {
+    for _ in 0..200 {
         let mut parts = Vec::new(alloc);
         for _ in 0..24 {
             if let Some(part) = random_part(&mut seed) {
