@@ -625,6 +625,38 @@ fn refusal_of_library(alloc: Global, record: &[u8]) -> Result<Option<GdsBad>, Fa
     Ok(read_gds(alloc, &bytes, 1000, &WANTED).err())
 }
 
+const ENDSTR: &[u8] = b"\x00\x04\x07\x00";
+
+const BGNSTR: &[u8] = &[
+    0x00, 0x1C, 0x05, 0x02, 0, 0, 0, 0, 0, 0, 0, 0, 0, 0, 0, 0, //
+    0, 0, 0, 0, 0, 0, 0, 0, 0, 0, 0, 0,
+];
+
+const LETTERS: &[u8] = &[0x7E; 1024];
+
+// The refusal where a second structure's name has 1,024 letters between this head and this end.
+fn refusal_of_name(alloc: Global, head: &[u8], end: &[u8]) -> Result<Option<GdsBad>, Fail> {
+    refusal(alloc, &[ENDSTR, BGNSTR, head, LETTERS, end])
+}
+
+// The refusal where the name in a reference is such a name.
+fn refusal_of_target(alloc: Global, head: &[u8], end: &[u8]) -> Result<Option<GdsBad>, Fail> {
+    refusal(alloc, &[SREF, head, LETTERS, end, POINT, ENDEL])
+}
+
+// The refusal where two structures have such names, the second without an end.
+fn refusal_of_names(
+    alloc: Global,
+    head: &[u8],
+    end: &[u8],
+    second: &[u8],
+) -> Result<Option<GdsBad>, Fail> {
+    let records = [
+        ENDSTR, BGNSTR, head, LETTERS, end, ENDSTR, BGNSTR, second, LETTERS,
+    ];
+    refusal(alloc, &records)
+}
+
 #[test]
 fn judges_libraries_and_long_names(rt: HostRuntime) -> Result<(), Fail> {
     let format = b"\x00\x06\x36\x02\x00\x00".as_slice();
@@ -644,50 +676,24 @@ fn judges_libraries_and_long_names(rt: HostRuntime) -> Result<(), Fail> {
         Some(GdsBad::Tail(111))
     );
     // names of 1,024 bytes, without NULs behind and with, and of 1,025
-    let end = &TAIL[..4];
-    let begin = &HEAD[60..88];
-    let letters = [0x7E; 1024];
     let exact = b"\x04\x04\x06\x06".as_slice();
     let padded = b"\x04\x06\x06\x06".as_slice();
+    let nuls = b"\x00\x00".as_slice();
+    let letter = b"~\x00".as_slice();
     let target = b"\x04\x06\x12\x06".as_slice();
-    assert_eq!(rt; refusal(rt.alloc(), &[end, begin, exact, &letters])?, None);
+    assert_eq!(rt; refusal_of_name(rt.alloc(), exact, b"")?, None);
+    assert_eq!(rt; refusal_of_name(rt.alloc(), padded, nuls)?, None);
     assert_eq!(rt;
-        refusal(rt.alloc(), &[end, begin, padded, &letters, b"\x00\x00"])?,
-        None
-    );
-    assert_eq!(rt;
-        refusal(rt.alloc(), &[end, begin, padded, &letters, b"~\x00"])?,
+        refusal_of_name(rt.alloc(), padded, letter)?,
         Some(GdsBad::Value(128, 2))
     );
+    assert_eq!(rt; refusal_of_target(rt.alloc(), target, nuls)?, None);
     assert_eq!(rt;
-        refusal(
-            rt.alloc(),
-            &[SREF, target, &letters, b"\x00\x00", POINT, ENDEL]
-        )?,
-        None
-    );
-    assert_eq!(rt;
-        refusal(
-            rt.alloc(),
-            &[SREF, target, &letters, b"~\x00", POINT, ENDEL]
-        )?,
+        refusal_of_target(rt.alloc(), target, letter)?,
         Some(GdsBad::Value(100, 2))
     );
     assert_eq!(rt;
-        refusal(
-            rt.alloc(),
-            &[
-                end,
-                begin,
-                padded,
-                &letters,
-                b"\x00\x00",
-                end,
-                begin,
-                exact,
-                &letters,
-            ]
-        )?,
+        refusal_of_names(rt.alloc(), padded, nuls, exact)?,
         Some(GdsBad::Twice(128, 1190))
     );
     Ok(())
