@@ -78,6 +78,24 @@ const STRANS: &[u8] = b"\x00\x06\x1A\x01\x80\x00";
 
 const COLROW: &[u8] = b"\x00\x08\x13\x02\x00\x03\x00\x02";
 
+const MAG: &[u8] = b"\x00\x0C\x1B\x05\x41\x10\x00\x00\x00\x00\x00\x00";
+
+const ANGLE: &[u8] = b"\x00\x0C\x1C\x05\x42\x5A\x00\x00\x00\x00\x00\x00";
+
+const PATHTYPE: &[u8] = b"\x00\x06\x21\x02\x00\x04";
+
+const WIDTH: &[u8] = b"\x00\x08\x0F\x03\xFF\xFF\xFF\xEC";
+
+const BGNEXTN: &[u8] = b"\x00\x08\x30\x03\x00\x00\x00\x05";
+
+const ENDEXTN: &[u8] = b"\x00\x08\x31\x03\xFF\xFF\xFF\xF9";
+
+const TEXTTYPE: &[u8] = b"\x00\x06\x16\x02\x00\x00";
+
+const PRESENTATION: &[u8] = b"\x00\x06\x17\x01\x00\x00";
+
+const STRING: &[u8] = b"\x00\x06\x19\x06\x41\x00";
+
 const POINT: &[u8] = b"\x00\x0C\x10\x03\x00\x00\x00\x64\x00\x00\x00\xC8";
 // The square from (0, 0) to (10, 10).
 const SQUARE: &[u8] = &[
@@ -423,5 +441,260 @@ fn judges_reals(rt: HostRuntime) -> Result<(), Fail> {
     for (real, bad) in rows {
         assert_eq!(rt; refusal_of_real(rt.alloc(), angle, real)?, bad);
     }
+    Ok(())
+}
+
+// The refusal of the file in which the record at this place and the next are exchanged.
+fn refusal_of_exchange(
+    alloc: Global,
+    records: &[&[u8]],
+    place: usize,
+) -> Result<Option<GdsBad>, Fail> {
+    let mut bytes = Vec::new(alloc);
+    bytes.extend_from_slice(&HEAD)?;
+    for (index, record) in records.iter().enumerate() {
+        if index == place {
+            if let Some(next) = records.get(index + 1) {
+                bytes.extend_from_slice(next)?;
+            }
+            bytes.extend_from_slice(record)?;
+        } else if index < place || index - place > 1 {
+            bytes.extend_from_slice(record)?;
+        }
+    }
+    bytes.extend_from_slice(&TAIL)?;
+    Ok(read_gds(alloc, &bytes, 1000, &WANTED).err())
+}
+
+// The first exchange, by its place, that isn't refused for the order at its offset.
+fn wrong_exchange(
+    alloc: Global,
+    records: &[&[u8]],
+    offsets: &[usize],
+) -> Result<Option<usize>, Fail> {
+    for (place, at) in offsets.iter().enumerate() {
+        if refusal_of_exchange(alloc, records, place)? != Some(GdsBad::Order(*at)) {
+            return Ok(Some(place));
+        }
+    }
+    Ok(None)
+}
+
+// Every record that the element may have, and each two neighbours among them exchanged. Where the first
+// must precede the second, the second is refused in its place; else the first is, behind the second.
+#[test]
+fn keeps_the_order_of_shapes(rt: HostRuntime) -> Result<(), Fail> {
+    let boundary = [
+        BOUNDARY, ELFLAGS, PLEX, LAYER, DATATYPE, SQUARE, ATTRIBUTE, VALUE, ENDEL,
+    ];
+    let offsets = [96, 108, 112, 114, 120, 126, 170, 176];
+    assert_eq!(rt; refusal(rt.alloc(), &boundary)?, None);
+    assert_eq!(rt; wrong_exchange(rt.alloc(), &boundary, &offsets)?, None);
+    let square = [
+        BOX, ELFLAGS, PLEX, LAYER, BOXTYPE, SQUARE, ATTRIBUTE, VALUE, ENDEL,
+    ];
+    assert_eq!(rt; refusal(rt.alloc(), &square)?, None);
+    assert_eq!(rt; wrong_exchange(rt.alloc(), &square, &offsets)?, None);
+    let node = [
+        NODE, ELFLAGS, PLEX, LAYER, NODETYPE, LINE, ATTRIBUTE, VALUE, ENDEL,
+    ];
+    let offsets = [96, 108, 112, 114, 120, 126, 146, 152];
+    assert_eq!(rt; refusal(rt.alloc(), &node)?, None);
+    assert_eq!(rt; wrong_exchange(rt.alloc(), &node, &offsets)?, None);
+    let path = [
+        PATH, ELFLAGS, PLEX, LAYER, DATATYPE, PATHTYPE, WIDTH, BGNEXTN, ENDEXTN, LINE, ATTRIBUTE,
+        VALUE, ENDEL,
+    ];
+    let offsets = [96, 108, 112, 114, 120, 134, 140, 148, 168, 156, 176, 182];
+    assert_eq!(rt; refusal(rt.alloc(), &path)?, None);
+    assert_eq!(rt; wrong_exchange(rt.alloc(), &path, &offsets)?, None);
+    Ok(())
+}
+
+#[test]
+fn keeps_the_order_of_references_and_texts(rt: HostRuntime) -> Result<(), Fail> {
+    let reference = [
+        SREF, ELFLAGS, PLEX, SNAME, STRANS, MAG, ANGLE, POINT, ATTRIBUTE, VALUE, ENDEL,
+    ];
+    let offsets = [96, 108, 112, 114, 120, 138, 150, 150, 162, 168];
+    assert_eq!(rt; refusal(rt.alloc(), &reference)?, None);
+    assert_eq!(rt; wrong_exchange(rt.alloc(), &reference, &offsets)?, None);
+    let array = [
+        AREF, ELFLAGS, PLEX, SNAME, STRANS, MAG, ANGLE, COLROW, ARRAY, ATTRIBUTE, VALUE, ENDEL,
+    ];
+    let offsets = [96, 108, 112, 114, 120, 138, 146, 150, 158, 186, 192];
+    assert_eq!(rt; refusal(rt.alloc(), &array)?, None);
+    assert_eq!(rt; wrong_exchange(rt.alloc(), &array, &offsets)?, None);
+    // A text's own records stand in any order, before its properties.
+    let text = [
+        TEXT,
+        ELFLAGS,
+        PLEX,
+        LAYER,
+        TEXTTYPE,
+        PRESENTATION,
+        PATHTYPE,
+        WIDTH,
+        STRANS,
+        MAG,
+        ANGLE,
+        POINT,
+        STRING,
+        ATTRIBUTE,
+        VALUE,
+        ENDEL,
+    ];
+    let backwards = [
+        TEXT,
+        STRING,
+        POINT,
+        ANGLE,
+        MAG,
+        STRANS,
+        WIDTH,
+        PATHTYPE,
+        PRESENTATION,
+        TEXTTYPE,
+        LAYER,
+        PLEX,
+        ELFLAGS,
+        ATTRIBUTE,
+        VALUE,
+        ENDEL,
+    ];
+    assert_eq!(rt; refusal(rt.alloc(), &text)?, None);
+    assert_eq!(rt; refusal(rt.alloc(), &backwards)?, None);
+    let rows: [(usize, usize); 4] = [(0, 96), (12, 194), (13, 194), (14, 200)];
+    for (place, at) in rows {
+        assert_eq!(rt;
+            refusal_of_exchange(rt.alloc(), &text, place)?,
+            Some(GdsBad::Order(at))
+        );
+    }
+    Ok(())
+}
+
+// The two opposite corners of the rectangle of a path, and whether it is fixed.
+fn path_of(
+    alloc: Global,
+    path_type: &[u8],
+    width: &[u8],
+) -> Result<Option<(Point, Point, bool)>, Fail> {
+    let records = [
+        PATH, LAYER, DATATYPE, path_type, width, BGNEXTN, ENDEXTN, LINE, ENDEL,
+    ];
+    let layout = layout_of(alloc, &records)?;
+    if let [cell] = layout.cells.as_slice() {
+        if let [shape] = cell.shapes.as_slice() {
+            if let [first, _, third, _, _] = shape.points.as_slice() {
+                return Ok(Some((*first, *third, shape.fixed)));
+            }
+        }
+    }
+    Ok(None)
+}
+
+// By hand, in half units: the line ends at 0 and 200, BGNEXTN is 10 further, ENDEXTN 14 less far.
+#[test]
+fn fixes_paths_of_negative_width(rt: HostRuntime) -> Result<(), Fail> {
+    let plain = b"\x00\x08\x0F\x03\x00\x00\x00\x14".as_slice();
+    let rows: [(&[u8], &[u8], i64, i64, bool); 4] = [
+        (b"\x00\x06\x21\x02\x00\x00", WIDTH, 0, 200, true),
+        (b"\x00\x06\x21\x02\x00\x02", WIDTH, -20, 220, true),
+        (b"\x00\x06\x21\x02\x00\x04", WIDTH, -10, 186, true),
+        (b"\x00\x06\x21\x02\x00\x04", plain, -10, 186, false),
+    ];
+    for (path_type, width, left, right, fixed) in rows {
+        let low = Point { x: left, y: -20 };
+        let high = Point { x: right, y: 20 };
+        assert_eq!(rt;
+            path_of(rt.alloc(), path_type, width)?,
+            Some((low, high, fixed))
+        );
+    }
+    Ok(())
+}
+
+// The refusal of a library with this record before UNITS.
+fn refusal_of_library(alloc: Global, record: &[u8]) -> Result<Option<GdsBad>, Fail> {
+    let mut bytes = Vec::new(alloc);
+    bytes.extend_from_slice(&HEAD[..40])?;
+    bytes.extend_from_slice(record)?;
+    bytes.extend_from_slice(&HEAD[40..])?;
+    bytes.extend_from_slice(&TAIL)?;
+    Ok(read_gds(alloc, &bytes, 1000, &WANTED).err())
+}
+
+const ENDSTR: &[u8] = b"\x00\x04\x07\x00";
+
+const BGNSTR: &[u8] = &[
+    0x00, 0x1C, 0x05, 0x02, 0, 0, 0, 0, 0, 0, 0, 0, 0, 0, 0, 0, //
+    0, 0, 0, 0, 0, 0, 0, 0, 0, 0, 0, 0,
+];
+
+const LETTERS: &[u8] = &[0x7E; 1024];
+
+// The refusal where a second structure's name has 1,024 letters between this head and this end.
+fn refusal_of_name(alloc: Global, head: &[u8], end: &[u8]) -> Result<Option<GdsBad>, Fail> {
+    refusal(alloc, &[ENDSTR, BGNSTR, head, LETTERS, end])
+}
+
+// The refusal where the name in a reference is such a name.
+fn refusal_of_target(alloc: Global, head: &[u8], end: &[u8]) -> Result<Option<GdsBad>, Fail> {
+    refusal(alloc, &[SREF, head, LETTERS, end, POINT, ENDEL])
+}
+
+// The refusal where two structures have such names, the second without an end.
+fn refusal_of_names(
+    alloc: Global,
+    head: &[u8],
+    end: &[u8],
+    second: &[u8],
+) -> Result<Option<GdsBad>, Fail> {
+    let records = [
+        ENDSTR, BGNSTR, head, LETTERS, end, ENDSTR, BGNSTR, second, LETTERS,
+    ];
+    refusal(alloc, &records)
+}
+
+#[test]
+fn judges_libraries_and_long_names(rt: HostRuntime) -> Result<(), Fail> {
+    let format = b"\x00\x06\x36\x02\x00\x00".as_slice();
+    assert_eq!(rt; refusal_of_library(rt.alloc(), format)?, None);
+    let format = b"\x00\x06\x36\x02\x00\x01".as_slice();
+    assert_eq!(rt;
+        refusal_of_library(rt.alloc(), format)?,
+        Some(GdsBad::Value(40, 1))
+    );
+    // zeros behind ENDLIB, then a one among them
+    let mut bytes = file_of(rt.alloc(), &[])?;
+    bytes.extend_from_slice(&[0; 7])?;
+    assert_eq!(rt; refusal_of(rt.alloc(), &bytes, 1000), None);
+    bytes.extend_from_slice(&[1, 0])?;
+    assert_eq!(rt;
+        refusal_of(rt.alloc(), &bytes, 1000),
+        Some(GdsBad::Tail(111))
+    );
+    // names of 1,024 bytes, without NULs behind and with, and of 1,025
+    let exact = b"\x04\x04\x06\x06".as_slice();
+    let padded = b"\x04\x06\x06\x06".as_slice();
+    let nuls = b"\x00\x00".as_slice();
+    let letter = b"~\x00".as_slice();
+    let target = b"\x04\x06\x12\x06".as_slice();
+    assert_eq!(rt; refusal_of_name(rt.alloc(), exact, b"")?, None);
+    assert_eq!(rt; refusal_of_name(rt.alloc(), padded, nuls)?, None);
+    assert_eq!(rt;
+        refusal_of_name(rt.alloc(), padded, letter)?,
+        Some(GdsBad::Value(128, 2))
+    );
+    assert_eq!(rt; refusal_of_target(rt.alloc(), target, nuls)?, None);
+    assert_eq!(rt;
+        refusal_of_target(rt.alloc(), target, letter)?,
+        Some(GdsBad::Value(100, 2))
+    );
+    assert_eq!(rt;
+        refusal_of_names(rt.alloc(), padded, nuls, exact)?,
+        Some(GdsBad::Twice(128, 1190))
+    );
     Ok(())
 }
