@@ -1,9 +1,15 @@
--- A layout of three cells with different names.
-use Rattle.std.proofs.Common.{◌≡◌, ◌≢◌, ℕ, ◌<◌, List, [], ◌∷◌, All, map, get_or, sym, ap, subst, ◌∙◌, arith}
-use Rattle.std.proofs.lemmas.List.Elements.{All-cons, All-nil}
+-- Layouts of cells with different names.
+use Rattle.std.proofs.Common.{◌≡◌, ◌≢◌, ℕ, ◌<◌, ◌≤◌, nat_eq, true, false, List, [], ◌∷◌, ◌++◌, All, None, map, length, get_or, position, refl, sym, ap, subst, ◌∙◌, arith}
+use Rattle.std.specs.List.{position_or_len}
+use Rattle.std.specs.Cmp.Lexicographic.{pointwise, bytes_decides}
+use Rattle.std.proofs.lemmas.Grind.{common_steps}
+use Rattle.std.proofs.lemmas.List.Sums.{fails_before_first}
+use Rattle.std.proofs.lemmas.List.Elements.{All-cons, All-nil, All-push, All-head, All-tail}
+use Rattle.cell_tree.specs.Cells.{cell_names, cell_number}
 use Rattle.layout_model.specs.Layouts.{AreDistinct, IsCellOnGrid, IsLayoutOnGrid}
 use Rattle.layout_model.specs.declared.cells.Cell.{Cell}
 use Rattle.layout_model.specs.declared.cells.Counts.{Counts}
+use Rattle.layout_model.specs.declared.cells.Layout.{Layout}
 
 clash : (x y : ℕ) → x < y → (x ∷ []) ≡ (y ∷ []) → ⊥
 clash x y less h = let n : x ≡ y = ap (λ l. get_or l 0 0) h in omega arith
@@ -23,3 +29,30 @@ three_cells {a} {b} {c} {cells} {counts} e ga gb gc na nb nc =
       cells = subst (All IsCellOnGrid) (sym e) grid;
       names = subst (λ (cs : List Cell). AreDistinct (map (λ (x : Cell). x.name) cs)) (sym e) names;
     }
+
+-- ---- one more cell
+
+all_differ : (name : List ℕ) (names : List (List ℕ)) → position (pointwise nat_eq name) names ≡ None → All (λ other. other ≢ name) names
+all_differ name names none = λ k d inside same.
+    let past : length names ≤ position_or_len (pointwise nat_eq name) names = grind (arith, common_steps) in
+    let fails : pointwise nat_eq name (get_or names k d) ≡ false = fails_before_first (pointwise nat_eq name) names k d (omega arith) in
+    let equal : pointwise nat_eq name (get_or names k d) ≡ true = (bytes_decides name (get_or names k d)).1 (sym same) in
+    absurd (cc)
+
+distinct_push : (names : List (List ℕ)) (name : List ℕ) → AreDistinct names → All (λ other. other ≢ name) names → AreDistinct (names ++ (name ∷ []))
+distinct_push [] name distinct new = (All-nil (λ other. name ≢ other), tt)
+distinct_push (x ∷ names) name distinct new =
+    (All-push (λ other. x ≢ other) names name distinct.0 (All-head (λ z. z ≢ name) x names new), distinct_push names name distinct.1 (All-tail (λ z. z ≢ name) x names new))
+
+names_push : (cells : List Cell) (cell : Cell) → cell_names (cells ++ cell ∷ []) ≡ cell_names cells ++ cell.name ∷ []
+names_push [] cell = refl
+names_push (x ∷ cells) cell = ap (λ names. x.name ∷ names) (names_push cells cell)
+
+pub one_more_cell : (layout : Layout) (cell : Cell) (cells : List Cell) (counts : Counts) → IsLayoutOnGrid layout → IsCellOnGrid cell → cell_number layout.cells cell.name ≡ None
+    → cells ≡ layout.cells ++ cell ∷ [] → IsLayoutOnGrid (record { cells = cells; counts = counts })
+unfolding cell_number
+one_more_cell layout cell cells counts grid cell_grid new e = record {
+  cells = subst (All IsCellOnGrid) (sym e) (All-push IsCellOnGrid layout.cells cell grid.cells cell_grid);
+  names = subst AreDistinct (sym (ap cell_names e ∙ names_push layout.cells cell))
+      (distinct_push (cell_names layout.cells) cell.name grid.names (all_differ cell.name (cell_names layout.cells) new));
+}

@@ -1,10 +1,12 @@
 //! Each refusal on a small layout, and what a tree says.
-ghost use Rattle.std.specs.Prelude.{◌≡◌, ◌≤◌, [], ◌∷◌, ◌++◌, All};
-ghost use Rattle.layout_model.specs.Layouts.{IsShapeOnGrid, IsPlacementOnGrid, IsCellOnGrid, IsLayoutOnGrid};
+ghost use Rattle.std.specs.Prelude.{◌≡◌, ◌<◌, ◌≤◌, [], ◌∷◌, ◌++◌, All, IsTrue};
+ghost use Rattle.layout_model.specs.Images.{IsOrient};
+ghost use Rattle.layout_model.specs.Layouts.{IsMove, IsShapeOnGrid, IsPlacementOnGrid, IsCellOnGrid, IsLayoutOnGrid};
 
-use crate::{TreeBad, resolve};
+use crate::linked::number_of;
+use crate::{Tree, TreeBad, resolve};
 use geo_stream::List;
-use half_grid::Point;
+use half_grid::{Frame, Point};
 use layout_model::{Cell, Counts, Layout, Name, Offsets, Orient, Pair, Placement, Shape};
 use std::alloc::Global;
 use std::process::Abort;
@@ -192,4 +194,235 @@ fn names_and_cycles(rt: HostRuntime) {
     let top = name(&rt, alloc, b"D");
     let refused = resolve(alloc, of_square(&rt, alloc, 1, false), &top);
     assert!(rt; matches!(refused, Err(TreeBad::NoTop)));
+}
+
+// The layout of no cell.
+fn no_cells(alloc: Global) -> Layout
+    ensures { IsLayoutOnGrid result }
+{
+    let counts = Counts {
+        kept: 1,
+        other: 2,
+        texts: 3,
+        nodes: 4,
+        boxes: 5,
+        properties: 6,
+    };
+    Layout {
+        cells: List::new(alloc),
+        counts,
+    }
+}
+
+// The layout with one more cell, whose name is another one.
+fn with_cell(rt: &impl Abort, layout: Layout, cell: Cell) -> Layout
+    requires layout { IsLayoutOnGrid layout }
+    requires cell { IsCellOnGrid cell }
+    ensures { IsLayoutOnGrid result }
+{
+    let number = number_of(layout.cells.as_slice(), &cell.name);
+    assert!(rt; number.is_none(), "another name");
+    let cells = more(rt, layout.cells, cell);
+    let counts = layout.counts;
+    Layout { cells, counts }
+}
+
+// The layout with one more cell, which has this byte for its name and a square.
+fn with_square(rt: &impl Abort, alloc: Global, layout: Layout, byte: u8) -> Layout
+    requires { IsLayoutOnGrid layout }
+    ensures { IsLayoutOnGrid result }
+{
+    let shapes = only(rt, alloc, square(rt, alloc, false));
+    let new_name = name(rt, alloc, &[byte]);
+    with_cell(rt, layout, cell(new_name, shapes, List::new(alloc)))
+}
+
+// The layout with one more cell, which has this byte for its name and places one cell.
+fn with_placing(
+    rt: &impl Abort,
+    alloc: Global,
+    layout: Layout,
+    byte: u8,
+    placement: Placement,
+) -> Layout
+    requires layout { IsLayoutOnGrid layout }
+    requires placement { IsPlacementOnGrid placement }
+    ensures { IsLayoutOnGrid result }
+{
+    let placements = only(rt, alloc, placement);
+    let new_name = name(rt, alloc, &[byte]);
+    with_cell(rt, layout, cell(new_name, List::new(alloc), placements))
+}
+
+// So many cells, named by the bytes from 21 hex on, each of which places the one before it.
+fn chain(rt: &impl Abort, alloc: Global, count: u8) -> Layout
+    requires { count < 90 }
+    ensures { IsLayoutOnGrid result }
+{
+    let mut layout = with_square(rt, alloc, no_cells(alloc), 0x21);
+    for k in 1..count {
+        let placement = placed(rt, alloc, &[0x20 + k], 1);
+        layout = with_placing(rt, alloc, layout, 0x21 + k, placement);
+    }
+    layout
+}
+
+// Whether the names are these bytes in order.
+fn are_bytes(names: &[Name], bytes: &[u8]) -> bool {
+    if names.len() != bytes.len() {
+        return false;
+    }
+    for (k, name) in names.iter().enumerate() {
+        if name.bytes() != [bytes[k]].as_slice() {
+            return false;
+        }
+    }
+    true
+}
+
+// Whether the answer is that the cells of these names are a chain of this factor.
+fn is_scale(answer: Result<Tree, TreeBad>, factor: i64, bytes: &[u8]) -> bool {
+    match answer {
+        Err(TreeBad::Scale(value, names)) => value == factor && are_bytes(names.as_slice(), bytes),
+        _ => false,
+    }
+}
+
+// How many names a chain that is too long has, and 0 of other answers.
+fn depth_of(answer: Result<Tree, TreeBad>) -> usize {
+    match answer {
+        Err(TreeBad::Deep(names)) => names.as_slice().len(),
+        _ => 0,
+    }
+}
+
+#[test]
+fn chains_of_cells(rt: HostRuntime) {
+    let alloc = rt.alloc();
+    // The last cell of 64.
+    let top = name(&rt, alloc, b"`");
+    let tree = resolve(alloc, chain(&rt, alloc, 64), &top);
+    assert!(rt; tree.is_ok());
+    let top = name(&rt, alloc, b"a");
+    let refused = resolve(alloc, chain(&rt, alloc, 65), &top);
+    assert!(rt; depth_of(refused) == 65);
+    // From the cell before it, 64 of them are reachable.
+    let top = name(&rt, alloc, b"`");
+    let tree = resolve(alloc, chain(&rt, alloc, 65), &top);
+    assert!(rt; tree.is_ok());
+    // 2 * 9 is the least product above 16.
+    let top = name(&rt, alloc, b"A");
+    let refused = resolve(alloc, of_placement(&rt, alloc, 2, b"C", 9), &top);
+    assert!(rt; is_scale(refused, 18, b"ABC"));
+    let refused = resolve(alloc, of_placement(&rt, alloc, 8, b"C", 4), &top);
+    assert!(rt; is_scale(refused, 32, b"ABC"));
+    let tree = resolve(alloc, of_placement(&rt, alloc, 16, b"C", 1), &top);
+    assert!(rt; tree.is_ok());
+}
+
+// The point, which is a move.
+fn move_to(rt: &impl Abort, at: Point) -> Point
+    ensures { IsMove result }
+{
+    assert!(rt; at.x % 2 == 0, "even");
+    assert!(rt; at.y % 2 == 0, "even");
+    assert!(rt; -(1 << 41) <= at.x, "near");
+    assert!(rt; at.x <= 1 << 41, "near");
+    assert!(rt; -(1 << 41) <= at.y, "near");
+    assert!(rt; at.y <= 1 << 41, "near");
+    at
+}
+
+// The cell of this name, placed once.
+fn placed_at(rt: &impl Abort, alloc: Global, target: &[u8], orient: Orient, at: Point) -> Placement
+    requires { IsOrient orient }
+    ensures { IsPlacementOnGrid result }
+{
+    Placement {
+        target: name(rt, alloc, target),
+        orient,
+        at: move_to(rt, at),
+        offsets: Offsets::list(alloc, &[point(0, 0)]).expect(rt, "memory"),
+    }
+}
+
+// T places C, a square of (0, 0) to (20, 20), at this point: what is beyond 2^30 is this, or nothing.
+fn ask_extent(rt: &impl Abort, alloc: Global, at: Point, beyond: Option<i64>) {
+    let layout = with_square(rt, alloc, no_cells(alloc), b'C');
+    let placement = placed_at(rt, alloc, b"C", orient(false, 0, 1), at);
+    let layout = with_placing(rt, alloc, layout, b'T', placement);
+    match resolve(alloc, layout, &name(rt, alloc, b"T")) {
+        Ok(_) => assert!(rt; beyond.is_none(), "beyond"),
+        Err(TreeBad::Extent(value)) => assert!(rt; beyond == Some(value), "another side"),
+        Err(_) => assert!(rt; false, "another refusal"),
+    }
+}
+
+#[test]
+fn extents_of_layouts(rt: HostRuntime) {
+    let alloc = rt.alloc();
+    ask_extent(&rt, alloc, point(-1073741824, 0), None);
+    ask_extent(&rt, alloc, point(-1073741826, 0), Some(-1073741826));
+    ask_extent(&rt, alloc, point(0, -1073741824), None);
+    ask_extent(&rt, alloc, point(0, -1073741826), Some(-1073741826));
+    ask_extent(&rt, alloc, point(1073741804, 0), None);
+    ask_extent(&rt, alloc, point(1073741806, 0), Some(1073741826));
+    ask_extent(&rt, alloc, point(0, 1073741804), None);
+    ask_extent(&rt, alloc, point(0, 1073741806), Some(1073741826));
+    // The least x is told before the greatest y.
+    ask_extent(
+        &rt,
+        alloc,
+        point(-1073741828, 1073741806),
+        Some(-1073741828),
+    );
+}
+
+// The cell that the top cell places first.
+fn first_target(tree: &Tree) -> Option<usize> {
+    let top = tree.top();
+    if tree.cells()[top].placements.as_slice().is_empty() {
+        return None;
+    }
+    Some(tree.target(top, 0))
+}
+
+// A places the square C at (40, 0), and T places A at (100, 40): the box of T's metal is this.
+fn ask_hull(rt: &impl Abort, alloc: Global, orient: Orient, hull: Frame)
+    requires { IsOrient orient }
+{
+    let layout = with_square(rt, alloc, no_cells(alloc), b'C');
+    let layout = with_placing(rt, alloc, layout, b'A', placed(rt, alloc, b"C", 1));
+    let placement = placed_at(rt, alloc, b"A", orient, point(100, 40));
+    let layout = with_placing(rt, alloc, layout, b'T', placement);
+    let tree = resolve(alloc, layout, &name(rt, alloc, b"T")).expect(rt, "a tree");
+    assert!(rt; tree.hull(tree.top(), METAL) == Some(hull), "another box");
+    let other = Pair {
+        layer: 1,
+        datatype: 1,
+    };
+    assert!(rt;
+        tree.hull(tree.top(), other).is_none(),
+        "nothing on the other pair"
+    );
+    assert!(rt; tree.top() == 2, "the third cell");
+    assert!(rt; first_target(&tree) == Some(1), "the second cell");
+    assert!(rt; tree.cells().len() == 3, "three cells");
+    assert!(rt; tree.counts().properties == 6, "the file's counts");
+}
+
+fn frame(x0: i64, y0: i64, x1: i64, y1: i64) -> Frame {
+    Frame { x0, y0, x1, y1 }
+}
+
+#[test]
+fn hulls_of_turned_cells(rt: HostRuntime) {
+    let alloc = rt.alloc();
+    // A's box is (40, 0) to (60, 20).
+    ask_hull(&rt, alloc, orient(false, 0, 1), frame(140, 40, 160, 60));
+    ask_hull(&rt, alloc, orient(false, 1, 1), frame(80, 80, 100, 100));
+    ask_hull(&rt, alloc, orient(false, 2, 1), frame(40, 20, 60, 40));
+    ask_hull(&rt, alloc, orient(false, 3, 1), frame(100, -20, 120, 0));
+    ask_hull(&rt, alloc, orient(true, 0, 1), frame(140, 20, 160, 40));
+    ask_hull(&rt, alloc, orient(true, 1, 2), frame(100, 120, 140, 160));
 }
