@@ -1,12 +1,17 @@
--- Layouts of cells with different names.
-use Rattle.std.proofs.Common.{◌≡◌, ◌≢◌, ℕ, ◌<◌, ◌≤◌, nat_eq, true, false, List, [], ◌∷◌, ◌++◌, All, None, map, length, get_or, position, refl, sym, ap, subst, ◌∙◌, arith}
-use Rattle.std.specs.List.{position_or_len}
+-- Layouts of cells with different names, and lists of equal moves.
+use Rattle.std.proofs.Common.{◌≡◌, ◌≢◌, ℕ, ℤ, pos, ◌<◌, ◌≤◌, ◌*◌, ◌/◌, ◌%◌, ◌*ℤ◌, ◌+ℤ◌, nat_eq, true, false, List, [], ◌∷◌, ◌++◌, All, Option, None, map, length, get_or, position, refl, sym, ap, subst, ◌∙◌, arith}
+use Rattle.std.specs.List.{position_or_len, range_with_len}
 use Rattle.std.specs.Cmp.Lexicographic.{pointwise, bytes_decides}
+use Rattle.std.proofs.Math.IntN.{pos-*ℤ-pos}
 use Rattle.std.proofs.lemmas.Grind.{common_steps}
+use Rattle.std.proofs.lemmas.Int.{ints}
 use Rattle.std.proofs.lemmas.List.Sums.{fails_before_first}
-use Rattle.std.proofs.lemmas.List.Elements.{All-cons, All-nil, All-push, All-head, All-tail}
+use Rattle.std.proofs.lemmas.List.FromFn.{length-map-range_with_len}
+use Rattle.std.proofs.lemmas.List.Elements.{All-cons, All-nil, All-push, All-head, All-tail, All-map}
+use Rattle.half_grid.specs.declared.plane.Point.{Point}
+use Rattle.layout_model.specs.Grids.{grid_place, grid_places, nth_place}
 use Rattle.cell_tree.specs.Cells.{cell_names, cell_number}
-use Rattle.layout_model.specs.Layouts.{AreDistinct, IsCellOnGrid, IsLayoutOnGrid}
+use Rattle.layout_model.specs.Layouts.{IsMove, AreOffsets, AreDistinct, IsCellOnGrid, IsLayoutOnGrid}
 use Rattle.layout_model.specs.declared.cells.Cell.{Cell}
 use Rattle.layout_model.specs.declared.cells.Counts.{Counts}
 use Rattle.layout_model.specs.declared.cells.Layout.{Layout}
@@ -56,3 +61,31 @@ one_more_cell layout cell cells counts grid cell_grid new e = record {
   names = subst AreDistinct (sym (ap cell_names e ∙ names_push layout.cells cell))
       (distinct_push (cell_names layout.cells) cell.name grid.names (all_differ cell.name (cell_names layout.cells) new));
 }
+
+-- ---- equal moves
+
+zero_times : (a : ℕ) → (pos a *ℤ pos 0) ≡ pos 0
+zero_times a = pos-*ℤ-pos a 0 ∙ ap pos (omega arith)
+
+abbrev origin : Point
+origin = record { x = pos 0; y = pos 0 }
+
+zero_sum : (a b : ℕ) → ((pos a *ℤ pos 0) +ℤ (pos b *ℤ pos 0)) ≡ pos 0
+zero_sum a b = ap (λ (x : ℤ). x +ℤ (pos b *ℤ pos 0)) (zero_times a) ∙ ap (λ (y : ℤ). pos 0 +ℤ y) (zero_times b)
+
+abbrev point_of : ℤ → Point
+point_of z = record { x = z; y = z }
+
+zero_place : (a b : ℕ) → grid_place origin origin a b ≡ origin
+zero_place a b = ap (λ (z : ℤ). point_of z) (zero_sum a b)
+
+origin_move : IsMove origin
+origin_move = record { even_x = refl; even_y = refl; near = record { x_low = omega (arith, ints); x_high = omega (arith, ints); y_low = omega (arith, ints); y_high = omega (arith, ints) } }
+
+pub equal_offsets : (count : ℕ) (offsets : List Point) → 1 ≤ count → offsets ≡ grid_places count 1 origin origin → AreOffsets offsets
+equal_offsets count offsets some e = subst AreOffsets (sym e) (record {
+  nonempty = λ h. absurd (
+      let none : count * 1 ≡ 0 = sym (length-map-range_with_len (nth_place count origin origin) 0 (count * 1)) ∙ ap length h in omega arith);
+  moves = All-map IsMove (nth_place count origin origin) (range_with_len 0 (count * 1)) (λ k d lt.
+      subst IsMove (sym (zero_place (get_or (range_with_len 0 (count * 1)) k d % count) (get_or (range_with_len 0 (count * 1)) k d / count))) origin_move);
+})

@@ -1,7 +1,7 @@
 //! Each refusal on a small layout, and what a tree says.
 ghost use Rattle.std.specs.Prelude.{◌≡◌, ◌<◌, ◌≤◌, [], ◌∷◌, ◌++◌, All, IsTrue};
 ghost use Rattle.layout_model.specs.Images.{IsOrient};
-ghost use Rattle.layout_model.specs.Layouts.{IsMove, IsShapeOnGrid, IsPlacementOnGrid, IsCellOnGrid, IsLayoutOnGrid};
+ghost use Rattle.layout_model.specs.Layouts.{IsMove, AreOffsets, IsShapeOnGrid, IsPlacementOnGrid, IsCellOnGrid, IsLayoutOnGrid};
 
 use crate::linked::number_of;
 use crate::{Tree, TreeBad, resolve};
@@ -376,6 +376,78 @@ fn extents_of_layouts(rt: HostRuntime) {
         point(-1073741828, 1073741806),
         Some(-1073741828),
     );
+}
+
+// So many moves, all by nothing.
+fn copies(rt: &impl Abort, alloc: Global, count: u64) -> Offsets
+    requires some { 1 ≤ count }
+    requires few { count ≤ 16777216 }
+    ensures { AreOffsets result }
+{
+    let offsets = Offsets::grid(alloc, count, 1, Point { x: 0, y: 0 }, Point { x: 0, y: 0 });
+    offsets.expect(rt, "memory")
+}
+
+// The layout with one more cell, which places C at 2^15 places.
+fn with_many(rt: &impl Abort, alloc: Global, layout: Layout, byte: u8) -> Layout
+    requires { IsLayoutOnGrid layout }
+    ensures { IsLayoutOnGrid result }
+{
+    let mut placement = placed(rt, alloc, b"C", 1);
+    placement.offsets = copies(rt, alloc, 32768);
+    with_placing(rt, alloc, layout, byte, placement)
+}
+
+fn two(rt: &impl Abort, alloc: Global, first: Placement, second: Placement) -> List<Placement>
+    requires first { IsPlacementOnGrid first }
+    requires second { IsPlacementOnGrid second }
+    ensures { All IsPlacementOnGrid result }
+{
+    let mut both = List::new(alloc);
+    assert!(rt; both.push(first).is_ok(), "memory");
+    assert!(rt; both.push(second).is_ok(), "memory");
+    both
+}
+
+// C is a square at 2^24 places, A and B place it 2^15 times each, and T has these shapes and places A and B.
+fn diamond(rt: &impl Abort, alloc: Global, shapes: List<Shape>) -> Layout
+    requires { All IsShapeOnGrid shapes }
+    ensures { IsLayoutOnGrid result }
+{
+    let mut many = square(rt, alloc, false);
+    many.offsets = copies(rt, alloc, 16777216);
+    let name_c = name(rt, alloc, b"C");
+    let squares = cell(name_c, only(rt, alloc, many), List::new(alloc));
+    let layout = with_cell(rt, no_cells(alloc), squares);
+    let layout = with_many(rt, alloc, layout, b'A');
+    let layout = with_many(rt, alloc, layout, b'B');
+    let both = two(
+        rt,
+        alloc,
+        placed(rt, alloc, b"A", 1),
+        placed(rt, alloc, b"B", 1),
+    );
+    let name_t = name(rt, alloc, b"T");
+    with_cell(rt, layout, cell(name_t, shapes, both))
+}
+
+// Whether the answer is that the cell of this name has so many shapes.
+fn is_count(answer: Result<Tree, TreeBad>, byte: u8, count: u128) -> bool {
+    match answer {
+        Err(TreeBad::Count(name, value)) => value == count && name.bytes() == [byte].as_slice(),
+        _ => false,
+    }
+}
+
+#[test]
+fn shared_cells_count_through_both(rt: HostRuntime) {
+    let alloc = rt.alloc();
+    let top = name(&rt, alloc, b"T");
+    let tree = resolve(alloc, diamond(&rt, alloc, List::new(alloc)), &top);
+    assert!(rt; tree.is_ok());
+    let shapes = only(&rt, alloc, square(&rt, alloc, false));
+    let refused = resolve(alloc, diamond(&rt, alloc, shapes), &top);
+    assert!(rt; is_count(refused, b'T', 1099511627777));
 }
 
 // The cell that the top cell places first.
