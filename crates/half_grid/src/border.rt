@@ -68,6 +68,7 @@ impl Edge {
     }
 
     /// The edge along the left line of a trapezoid, which goes up.
+    #[inline]
     pub fn left_of(trap: &Trap, operand: Operand) -> Edge
         ensures { result ≡ left_edge trap.now operand }
     {
@@ -81,6 +82,7 @@ impl Edge {
     }
 
     /// The edge along the right line of a trapezoid, which goes down.
+    #[inline]
     pub fn right_of(trap: &Trap, operand: Operand) -> Edge
         ensures { result ≡ right_edge trap.now operand }
     {
@@ -94,6 +96,7 @@ impl Edge {
     }
 
     /// Its lower Y, which is the first row that it spans.
+    #[inline]
     pub fn y0(&self) -> i64
         ensures value { result ≡ self.now.y0 }
         ensures edge { IsEdge self.now }
@@ -102,6 +105,7 @@ impl Edge {
     }
 
     /// Its higher Y, which is the row after the last that it spans.
+    #[inline]
     pub fn y1(&self) -> i64
         ensures value { result ≡ self.now.y1 }
         ensures edge { IsEdge self.now }
@@ -110,6 +114,7 @@ impl Edge {
     }
 
     /// The line on which it lies.
+    #[inline]
     pub fn line(&self) -> Line
         ensures value { result ≡ self.now.line }
         ensures edge { IsEdge self.now }
@@ -118,6 +123,7 @@ impl Edge {
     }
 
     /// Whether it goes up.
+    #[inline]
     pub fn is_up(&self) -> bool
         ensures value { result ≡ self.now.up }
         ensures edge { IsEdge self.now }
@@ -126,6 +132,7 @@ impl Edge {
     }
 
     /// The operand to which it belongs.
+    #[inline]
     pub fn operand(&self) -> Operand
         ensures value { result ≡ self.now.operand }
         ensures edge { IsEdge self.now }

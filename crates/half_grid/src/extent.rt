@@ -35,6 +35,7 @@ impl Window {
     }
 
     /// Its first row, where it has one.
+    #[inline]
     pub fn y0(&self) -> i64
         ensures value { result ≡ self.now.y0 }
         ensures window { IsWindow self.now }
@@ -43,6 +44,7 @@ impl Window {
     }
 
     /// The row after its last.
+    #[inline]
     pub fn y1(&self) -> i64
         ensures value { result ≡ self.now.y1 }
         ensures window { IsWindow self.now }

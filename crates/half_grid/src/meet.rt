@@ -6,6 +6,7 @@ ghost use Rattle.half_grid.specs.Reach.{IsWithinReach};
 use crate::plane::Line;
 
 /// The one Y at which two lines meet. None where they are parallel, also where they are one line.
+#[inline]
 pub fn meeting_y(l: Line, m: Line) -> Option<i64>
     requires first { IsWithinReach (first_strip l) }
     requires second { IsWithinReach (first_strip m) }

@@ -46,6 +46,7 @@ fn difference_strip(tile: Tile) -> i64
 }
 
 /// The X of the line at `y`.
+#[inline]
 pub fn x_at(line: Line, y: i64) -> i64
     requires x { IsWithinReach (x_on line y) }
     requires y { IsWithinReach y }
@@ -55,6 +56,7 @@ pub fn x_at(line: Line, y: i64) -> i64
 }
 
 // The X of a line whose own number is within reach.
+#[inline]
 pub(crate) fn x_near(line: Line, y: i64) -> i64
     requires line { IsWithinReach (first_strip line) }
     requires y { IsWithinReach y }
@@ -68,6 +70,7 @@ pub(crate) fn x_near(line: Line, y: i64) -> i64
 }
 
 // The number of the first strip right of the line.
+#[inline]
 pub(crate) fn first_strip(line: Line) -> i64
     ensures { result ≡ first_strip line }
 {
@@ -77,6 +80,7 @@ pub(crate) fn first_strip(line: Line) -> i64
 }
 
 /// The number of a tile in its row: `2i` for the left tile of the column `i`, `2i + 1` for the right one.
+#[inline]
 pub fn number_of(tile: Tile) -> i64
     requires { IsTileWithinReach tile }
     ensures { result ≡ number_in_row tile }
@@ -89,6 +93,7 @@ pub fn number_of(tile: Tile) -> i64
 
 /// The place of a line in the row `row`: a tile of the row is right of the line exactly where the place is at
 /// most the tile's number.
+#[inline]
 pub fn place_of(line: Line, row: i64) -> i64
     requires bottom { IsWithinReach (x_on line row) }
     requires top { IsWithinReach (x_on line (row +ℤ pos 1)) }

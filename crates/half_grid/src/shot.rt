@@ -101,6 +101,7 @@ impl Trap {
     }
 
     /// Its lowest Y, which is its first row.
+    #[inline]
     pub fn y0(&self) -> i64
         ensures value { result ≡ self.now.y0 }
         ensures shot { IsShot self.now }
@@ -109,6 +110,7 @@ impl Trap {
     }
 
     /// Its highest Y, which is the row after its last.
+    #[inline]
     pub fn y1(&self) -> i64
         ensures value { result ≡ self.now.y1 }
         ensures shot { IsShot self.now }
@@ -117,6 +119,7 @@ impl Trap {
     }
 
     /// The line at its left.
+    #[inline]
     pub fn left(&self) -> Line
         ensures value { result ≡ self.now.left }
         ensures shot { IsShot self.now }
@@ -125,6 +128,7 @@ impl Trap {
     }
 
     /// The line at its right.
+    #[inline]
     pub fn right(&self) -> Line
         ensures value { result ≡ self.now.right }
         ensures shot { IsShot self.now }
@@ -133,6 +137,7 @@ impl Trap {
     }
 
     /// The X of its lower left corner.
+    #[inline]
     pub fn bottom_left(&self) -> i64
         ensures value { result ≡ x_on self.now.left self.now.y0 }
         ensures reach { IsWithinReach result }
@@ -141,6 +146,7 @@ impl Trap {
     }
 
     /// The X of its lower right corner.
+    #[inline]
     pub fn bottom_right(&self) -> i64
         ensures value { result ≡ x_on self.now.right self.now.y0 }
         ensures reach { IsWithinReach result }
@@ -149,6 +155,7 @@ impl Trap {
     }
 
     /// The X of its upper left corner.
+    #[inline]
     pub fn top_left(&self) -> i64
         ensures value { result ≡ x_on self.now.left self.now.y1 }
         ensures reach { IsWithinReach result }
@@ -157,6 +164,7 @@ impl Trap {
     }
 
     /// The X of its upper right corner.
+    #[inline]
     pub fn top_right(&self) -> i64
         ensures value { result ≡ x_on self.now.right self.now.y1 }
         ensures reach { IsWithinReach result }
@@ -165,6 +173,7 @@ impl Trap {
     }
 
     /// How many rows it has.
+    #[inline]
     pub fn height(&self) -> i64
         ensures value { result ≡ self.now.y1 -ℤ self.now.y0 }
     {

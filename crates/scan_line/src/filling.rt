@@ -13,6 +13,7 @@ use crate::sums::{Windings, takes};
 use half_grid::{Edge, Line};
 
 // Whether the first of the edges lies on the line.
+#[inline]
 fn goes_on(line: Line, edges: &[Edge]) -> bool
     ensures { IsTrue result ↔ BeginsOn line edges.now }
 {
@@ -23,6 +24,7 @@ fn goes_on(line: Line, edges: &[Edge]) -> bool
 }
 
 // At the last edge of a line: a run begins there, goes on, or ends. Gives the one that is open then.
+#[inline]
 fn turn(
     runs: &mut Vec<Run>,
     run: Option<Run>,

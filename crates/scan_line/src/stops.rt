@@ -8,6 +8,7 @@ use half_grid::{Edge, meeting_y};
 
 impl Slab {
     /// The rows of the slab below `y`, where it has rows below and above.
+    #[inline]
     pub(crate) fn cut(self, y: i64) -> Slab
         requires { self.y0 <ℤ self.y1 }
         ensures lower { IsLower self result }
@@ -22,6 +23,7 @@ impl Slab {
 }
 
 // The rows of the slab below the meeting of the two edges' lines.
+#[inline]
 fn below_meeting(slab: Slab, e: &Edge, f: &Edge) -> Slab
     requires { slab.y0 <ℤ slab.y1 }
     ensures lower { IsLower slab result }
@@ -35,6 +37,7 @@ fn below_meeting(slab: Slab, e: &Edge, f: &Edge) -> Slab
 }
 
 // The rows of the slab below the edge's end, and below its meeting with the next one.
+#[inline]
 fn below_turn(slab: Slab, edge: &Edge, rest: &[Edge]) -> Slab
     requires rows { slab.y0 <ℤ slab.y1 }
     requires edge { slab.y0 <ℤ edge.now.y1 }

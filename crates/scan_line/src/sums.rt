@@ -16,6 +16,7 @@ pub(crate) struct Windings {
 }
 
 // Whether the edge belongs to the operand.
+#[inline]
 fn belongs(edge: &Edge, operand: Operand) -> bool
     ensures { result ≡ is_of operand edge.now.operand }
 {
@@ -28,6 +29,7 @@ fn belongs(edge: &Edge, operand: Operand) -> bool
 }
 
 // What the edge adds to the winding of the operand.
+#[inline]
 fn step(edge: &Edge, operand: Operand) -> i128
     ensures { result ≡ adds operand edge.now }
 {
@@ -47,6 +49,7 @@ impl Windings {
     }
 
     /// Right of one more edge.
+    #[inline]
     pub(crate) fn past(self, edge: &Edge) -> Windings
         requires a { IsWinding self.a }
         requires b { IsWinding self.b }
@@ -61,6 +64,7 @@ impl Windings {
 }
 
 /// Whether the rule takes the windings.
+#[inline]
 pub(crate) fn takes<F: Fn(i128, i128) -> bool>(rule: &Rule<F>, windings: Windings) -> bool
     requires rule { IsRule (F.pre rule.now) (F.post rule.now) }
     requires a { IsWinding windings.a }
