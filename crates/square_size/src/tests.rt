@@ -126,112 +126,88 @@ fn points(list: [(i64, i64); 7]) -> [Point; 7] {
     list.map(|(x, y)| Point { x, y })
 }
 
-// By hand: a square, a triangle, a tip, what lies left of a bar, a trapezoid, and a strip that ends at the greatest
-// coordinates.
+// The ring round a box: its upper corners stand twice.
+fn box_ring(x0: i64, y0: i64, x1: i64, y1: i64) -> [Point; 7] {
+    points([
+        (x0, y0),
+        (x0, y1),
+        (x0, y1),
+        (x1, y1),
+        (x1, y1),
+        (x1, y0),
+        (x0, y0),
+    ])
+}
+
+// Whether this is the trapezoid's ring.
+fn has_ring(alloc: Global, trap: &Trap, dx: i64, dy: i64, ring: [Point; 7]) -> bool {
+    is_sizing(dx, dy)
+        && has_ring_within_reach(trap, dx, dy)
+        && grown(alloc, trap, dx, dy).as_slice() == ring.as_slice()
+}
+
+// By hand, each from its rows and its two sides: a square; a box that ends at the greatest coordinates; then what lies
+// left and right of a bar of 20 by 200, below and above it, once for each amount of shrinking. What those rings leave of
+// the bar is nothing for 10, the columns 9 and 10 of the rows 9 to 190 for 9, and of the rows 3 to 196 for 9 and 3.
 #[test]
-fn rings_by_hand(rt: HostRuntime) {
+fn rings_of_boxes(rt: HostRuntime) {
     let far = REACH - 65536;
-    for (y0, y1, left, right, dx, dy, ring) in [
-        (
-            0,
-            20,
-            Line::Upright(0),
-            Line::Upright(20),
-            3,
-            1,
-            [
-                (-3, -1),
-                (-3, 21),
-                (-3, 21),
-                (23, 21),
-                (23, 21),
-                (23, -1),
-                (-3, -1),
-            ],
-        ),
-        (
-            0,
-            20,
-            Line::Rising(0),
-            Line::Upright(20),
-            3,
-            1,
-            [
-                (-3, -1),
-                (-3, 1),
-                (17, 21),
-                (23, 21),
-                (23, 21),
-                (23, -1),
-                (-3, -1),
-            ],
-        ),
-        (
-            0,
-            11,
-            Line::Rising(0),
-            Line::Falling(11),
-            1,
-            1,
-            [
-                (-1, -1),
-                (-1, 1),
-                (10, 12),
-                (12, 12),
-                (23, 1),
-                (23, -1),
-                (-1, -1),
-            ],
-        ),
-        (
-            0,
-            200,
-            Line::Upright(-20),
-            Line::Upright(0),
-            9,
-            3,
-            [
-                (-29, -3),
-                (-29, 203),
-                (-29, 203),
-                (9, 203),
-                (9, 203),
-                (9, -3),
-                (-29, -3),
-            ],
-        ),
-        (
-            0,
-            4,
-            Line::Falling(2),
-            Line::Rising(2),
-            1,
-            1,
-            [(3, -1), (-1, 3), (-1, 5), (9, 5), (9, 3), (5, -1), (3, -1)],
-        ),
+    for (y0, y1, x0, x1, dx, dy, ring) in [
+        (0, 20, 0, 20, 3, 1, box_ring(-3, -1, 23, 21)),
         (
             far - 2,
             far,
-            Line::Upright(far - 4),
-            Line::Upright(far),
+            far - 4,
+            far,
             65536,
             65536,
-            [
-                (far - 65540, far - 65538),
-                (far - 65540, REACH),
-                (far - 65540, REACH),
-                (REACH, REACH),
-                (REACH, REACH),
-                (REACH, far - 65538),
-                (far - 65540, far - 65538),
-            ],
+            box_ring(far - 65540, far - 65538, REACH, REACH),
         ),
+        (-10, 210, -10, 0, 10, 10, box_ring(-20, -20, 10, 220)),
+        (-10, 210, 20, 30, 10, 10, box_ring(10, -20, 40, 220)),
+        (-9, 209, -9, 0, 9, 9, box_ring(-18, -18, 9, 218)),
+        (-9, 209, 20, 29, 9, 9, box_ring(11, -18, 38, 218)),
+        (-9, 0, 0, 20, 9, 9, box_ring(-9, -18, 29, 9)),
+        (200, 209, 0, 20, 9, 9, box_ring(-9, 191, 29, 218)),
+        (-3, 203, -9, 0, 9, 3, box_ring(-18, -6, 9, 206)),
+        (-3, 203, 20, 29, 9, 3, box_ring(11, -6, 38, 206)),
+        (-3, 0, 0, 20, 9, 3, box_ring(-9, -6, 29, 3)),
+        (200, 203, 0, 20, 9, 3, box_ring(-9, 197, 29, 206)),
     ] {
-        let trap = trap(&rt, y0, y1, left, right);
-        assert!(rt; is_sizing(dx, dy) && has_ring_within_reach(&trap, dx, dy));
-        let made = grown(rt.alloc(), &trap, dx, dy);
-        assert_eq!(rt; made.as_slice(), points(ring).as_slice());
+        let trap = trap(&rt, y0, y1, Line::Upright(x0), Line::Upright(x1));
+        assert!(rt; has_ring(rt.alloc(), &trap, dx, dy, ring));
     }
+}
+
+// By hand: a triangle, a tip, and a trapezoid that widens upward.
+#[test]
+fn rings_of_slants(rt: HostRuntime) {
+    let (zero, two) = (Line::Rising(0), Line::Rising(2));
+    let right = trap(&rt, 0, 20, zero, Line::Upright(20));
+    let corners = [
+        (-3, -1),
+        (-3, 1),
+        (17, 21),
+        (23, 21),
+        (23, 21),
+        (23, -1),
+        (-3, -1),
+    ];
+    assert!(rt; has_ring(rt.alloc(), &right, 3, 1, points(corners)));
+    let tip = trap(&rt, 0, 11, zero, Line::Falling(11));
+    let corners = [
+        (-1, -1),
+        (-1, 1),
+        (10, 12),
+        (12, 12),
+        (23, 1),
+        (23, -1),
+        (-1, -1),
+    ];
+    assert!(rt; has_ring(rt.alloc(), &tip, 1, 1, points(corners)));
+    let wide = trap(&rt, 0, 4, Line::Falling(2), two);
+    let corners = [(3, -1), (-1, 3), (-1, 5), (9, 5), (9, 3), (5, -1), (3, -1)];
+    assert!(rt; has_ring(rt.alloc(), &wide, 1, 1, points(corners)));
 }
 
 fn edge(rt: &impl Abort, y0: i64, y1: i64, line: Line, up: bool) -> Edge {
