@@ -278,8 +278,14 @@ fn refuses_out_of_order(rt: HostRuntime) -> Result<(), Fail> {
     Ok(())
 }
 
+// Whether the record at this offset breaks this value rule first.
+fn breaks(alloc: Global, records: &[&[u8]], at: usize, rule: u8) -> Result<bool, Fail> {
+    Ok(refusal(alloc, records)? == Some(GdsBad::Value(at, rule)))
+}
+
 #[test]
 fn refuses_values(rt: HostRuntime) -> Result<(), Fail> {
+    let alloc = rt.alloc();
     let absolute = b"\x00\x06\x1A\x01\x00\x04".as_slice();
     let magnified = b"\x00\x0C\x1B\x05\x42\x11\x00\x00\x00\x00\x00\x00".as_slice();
     let most = b"\x00\x0C\x1B\x05\x42\x10\x00\x00\x00\x00\x00\x00".as_slice();
@@ -289,68 +295,29 @@ fn refuses_values(rt: HostRuntime) -> Result<(), Fail> {
     let round = b"\x00\x06\x21\x02\x00\x01".as_slice();
     let wide = b"\x00\x08\x0F\x03\x00\x00\x00\x14".as_slice();
     let plain = b"\x00\x06\x1A\x01\x00\x00".as_slice();
+    assert!(rt; breaks(alloc, &[SREF, blank], 100, 2)?);
+    assert!(rt; breaks(alloc, &[SREF, SNAME, absolute], 106, 3)?);
+    assert!(rt; breaks(alloc, &[SREF, SNAME, plain, magnified], 112, 4)?);
+    assert!(rt; breaks(alloc, &[SREF, SNAME, plain, most, slanted], 124, 5)?);
+    assert!(rt; breaks(alloc, &[AREF, SNAME, columns], 106, 6)?);
+    assert!(rt; breaks(alloc, &[SREF, SNAME, LINE], 106, 7)?);
+    assert!(rt; breaks(alloc, &[AREF, SNAME, COLROW, LINE], 114, 8)?);
+    assert!(rt; breaks(alloc, &[AREF, SNAME, COLROW, UNEVEN], 114, 9)?);
+    assert!(rt; breaks(alloc, &[BOUNDARY, LAYER, DATATYPE, LINE], 112, 10)?);
+    assert!(rt; breaks(alloc, &[BOUNDARY, LAYER, DATATYPE, OPEN], 112, 11)?);
+    assert!(rt; breaks(alloc, &[BOUNDARY, LAYER, DATATYPE, SLANTED], 112, 12)?);
     assert_eq!(rt;
-        refusal(rt.alloc(), &[SREF, blank])?,
-        Some(GdsBad::Value(100, 2))
-    );
-    assert_eq!(rt;
-        refusal(rt.alloc(), &[SREF, SNAME, absolute])?,
-        Some(GdsBad::Value(106, 3))
-    );
-    assert_eq!(rt;
-        refusal(rt.alloc(), &[SREF, SNAME, plain, magnified])?,
-        Some(GdsBad::Value(112, 4))
-    );
-    assert_eq!(rt;
-        refusal(rt.alloc(), &[SREF, SNAME, plain, most, slanted])?,
-        Some(GdsBad::Value(124, 5))
-    );
-    assert_eq!(rt;
-        refusal(rt.alloc(), &[AREF, SNAME, columns])?,
-        Some(GdsBad::Value(106, 6))
-    );
-    assert_eq!(rt;
-        refusal(rt.alloc(), &[SREF, SNAME, LINE])?,
-        Some(GdsBad::Value(106, 7))
-    );
-    assert_eq!(rt;
-        refusal(rt.alloc(), &[AREF, SNAME, COLROW, LINE])?,
-        Some(GdsBad::Value(114, 8))
-    );
-    assert_eq!(rt;
-        refusal(rt.alloc(), &[AREF, SNAME, COLROW, UNEVEN])?,
-        Some(GdsBad::Value(114, 9))
-    );
-    assert_eq!(rt;
-        refusal(rt.alloc(), &[BOUNDARY, LAYER, DATATYPE, LINE])?,
-        Some(GdsBad::Value(112, 10))
-    );
-    assert_eq!(rt;
-        refusal(rt.alloc(), &[BOUNDARY, LAYER, DATATYPE, OPEN])?,
-        Some(GdsBad::Value(112, 11))
-    );
-    assert_eq!(rt;
-        refusal(rt.alloc(), &[BOUNDARY, LAYER, DATATYPE, SLANTED])?,
-        Some(GdsBad::Value(112, 12))
-    );
-    assert_eq!(rt;
-        refusal(rt.alloc(), &[BOUNDARY, OTHER, DATATYPE, SLANTED, ENDEL])?,
+        refusal(alloc, &[BOUNDARY, OTHER, DATATYPE, SLANTED, ENDEL])?,
         None
     );
+    assert!(rt; breaks(alloc, &[PATH, LAYER, DATATYPE, wide, SLANTED], 120, 14)?);
     assert_eq!(rt;
-        refusal(rt.alloc(), &[PATH, LAYER, DATATYPE, wide, SLANTED])?,
-        Some(GdsBad::Value(120, 14))
-    );
-    assert_eq!(rt;
-        refusal(rt.alloc(), &[PATH, LAYER, DATATYPE, SLANTED, ENDEL])?,
+        refusal(alloc, &[PATH, LAYER, DATATYPE, SLANTED, ENDEL])?,
         None
     );
+    assert!(rt; breaks(alloc, &[PATH, LAYER, DATATYPE, round], 112, 13)?);
     assert_eq!(rt;
-        refusal(rt.alloc(), &[PATH, LAYER, DATATYPE, round])?,
-        Some(GdsBad::Value(112, 13))
-    );
-    assert_eq!(rt;
-        refusal(rt.alloc(), &[PATH, OTHER, DATATYPE, round, LINE, ENDEL])?,
+        refusal(alloc, &[PATH, OTHER, DATATYPE, round, LINE, ENDEL])?,
         None
     );
     Ok(())
@@ -444,133 +411,247 @@ fn judges_reals(rt: HostRuntime) -> Result<(), Fail> {
     Ok(())
 }
 
-// The refusal of the file in which the record at this place and the next are exchanged.
-fn refusal_of_exchange(
+// How a record stands in its element: it must be there, it may be, it is STRANS or one that follows STRANS alone, or it
+// is the value of the attribute before it.
+#[derive(Clone, Copy, PartialEq, Eq)]
+enum Part {
+    Needed,
+    Free,
+    Strans,
+    AfterStrans,
+    Value,
+}
+
+// A part with its record.
+type Entry = (Part, &'static [u8]);
+
+const BOUNDARIES: [Entry; 9] = [
+    (Part::Needed, BOUNDARY),
+    (Part::Free, ELFLAGS),
+    (Part::Free, PLEX),
+    (Part::Needed, LAYER),
+    (Part::Needed, DATATYPE),
+    (Part::Needed, SQUARE),
+    (Part::Free, ATTRIBUTE),
+    (Part::Value, VALUE),
+    (Part::Needed, ENDEL),
+];
+
+const BOXES: [Entry; 9] = [
+    (Part::Needed, BOX),
+    (Part::Free, ELFLAGS),
+    (Part::Free, PLEX),
+    (Part::Needed, LAYER),
+    (Part::Needed, BOXTYPE),
+    (Part::Needed, SQUARE),
+    (Part::Free, ATTRIBUTE),
+    (Part::Value, VALUE),
+    (Part::Needed, ENDEL),
+];
+
+const NODES: [Entry; 9] = [
+    (Part::Needed, NODE),
+    (Part::Free, ELFLAGS),
+    (Part::Free, PLEX),
+    (Part::Needed, LAYER),
+    (Part::Needed, NODETYPE),
+    (Part::Needed, LINE),
+    (Part::Free, ATTRIBUTE),
+    (Part::Value, VALUE),
+    (Part::Needed, ENDEL),
+];
+
+const PATHS: [Entry; 13] = [
+    (Part::Needed, PATH),
+    (Part::Free, ELFLAGS),
+    (Part::Free, PLEX),
+    (Part::Needed, LAYER),
+    (Part::Needed, DATATYPE),
+    (Part::Free, PATHTYPE),
+    (Part::Free, WIDTH),
+    (Part::Free, BGNEXTN),
+    (Part::Free, ENDEXTN),
+    (Part::Needed, LINE),
+    (Part::Free, ATTRIBUTE),
+    (Part::Value, VALUE),
+    (Part::Needed, ENDEL),
+];
+
+const REFERENCES: [Entry; 11] = [
+    (Part::Needed, SREF),
+    (Part::Free, ELFLAGS),
+    (Part::Free, PLEX),
+    (Part::Needed, SNAME),
+    (Part::Strans, STRANS),
+    (Part::AfterStrans, MAG),
+    (Part::AfterStrans, ANGLE),
+    (Part::Needed, POINT),
+    (Part::Free, ATTRIBUTE),
+    (Part::Value, VALUE),
+    (Part::Needed, ENDEL),
+];
+
+const ARRAYS: [Entry; 12] = [
+    (Part::Needed, AREF),
+    (Part::Free, ELFLAGS),
+    (Part::Free, PLEX),
+    (Part::Needed, SNAME),
+    (Part::Strans, STRANS),
+    (Part::AfterStrans, MAG),
+    (Part::AfterStrans, ANGLE),
+    (Part::Needed, COLROW),
+    (Part::Needed, ARRAY),
+    (Part::Free, ATTRIBUTE),
+    (Part::Value, VALUE),
+    (Part::Needed, ENDEL),
+];
+
+// A text's own records stand in any order.
+const TEXTS: [Entry; 13] = [
+    (Part::Needed, TEXT),
+    (Part::Free, ELFLAGS),
+    (Part::Free, PLEX),
+    (Part::Free, LAYER),
+    (Part::Free, TEXTTYPE),
+    (Part::Free, PRESENTATION),
+    (Part::Free, PATHTYPE),
+    (Part::Free, WIDTH),
+    (Part::Free, STRANS),
+    (Part::Free, MAG),
+    (Part::Free, ANGLE),
+    (Part::Free, POINT),
+    (Part::Free, STRING),
+];
+
+// The file of these records, of which those at two places are exchanged, and the offset of a place in it.
+fn exchanged(
     alloc: Global,
-    records: &[&[u8]],
-    place: usize,
-) -> Result<Option<GdsBad>, Fail> {
+    entries: &[Entry],
+    places: (usize, usize),
+    asked: usize,
+) -> Result<(Vec<u8>, usize), Fail> {
     let mut bytes = Vec::new(alloc);
     bytes.extend_from_slice(&HEAD)?;
-    for (index, record) in records.iter().enumerate() {
-        if index == place {
-            if let Some(next) = records.get(index + 1) {
-                bytes.extend_from_slice(next)?;
-            }
-            bytes.extend_from_slice(record)?;
-        } else if index < place || index - place > 1 {
+    let mut at = 0;
+    for place in 0..entries.len() {
+        if place == asked {
+            at = bytes.len();
+        }
+        let source = match places {
+            (first, second) if place == first => second,
+            (first, second) if place == second => first,
+            _ => place,
+        };
+        if let Some((_, record)) = entries.get(source) {
             bytes.extend_from_slice(record)?;
         }
     }
-    bytes.extend_from_slice(&TAIL)?;
-    Ok(read_gds(alloc, &bytes, 1000, &WANTED).err())
+    Ok((bytes, at))
 }
 
-// The first exchange, by its place, that isn't refused for the order at its offset.
-fn wrong_exchange(
+// Whether the later of two records may stand in the earlier one's place, after those before that.
+fn may_come_early(entries: &[Entry], first: usize, second: usize) -> bool {
+    if let (Some((early, _)), Some((late, _))) = (entries.get(first), entries.get(second)) {
+        if *early == Part::Value || *late == Part::Value {
+            return false;
+        }
+        if *early == Part::Strans && *late == Part::AfterStrans {
+            return false;
+        }
+    }
+    for place in first..second {
+        if let Some((Part::Needed, _)) = entries.get(place) {
+            return false;
+        }
+    }
+    true
+}
+
+// The first of the exchanges with this later place that isn't refused where the order breaks: in the place of the earlier
+// record, or behind it.
+fn wrong_exchange_with(
     alloc: Global,
-    records: &[&[u8]],
-    offsets: &[usize],
+    entries: &[Entry],
+    second: usize,
 ) -> Result<Option<usize>, Fail> {
-    for (place, at) in offsets.iter().enumerate() {
-        if refusal_of_exchange(alloc, records, place)? != Some(GdsBad::Order(*at)) {
-            return Ok(Some(place));
+    for first in 0..second {
+        let asked = if may_come_early(entries, first, second) {
+            first + 1
+        } else {
+            first
+        };
+        let (mut bytes, at) = exchanged(alloc, entries, (first, second), asked)?;
+        bytes.extend_from_slice(&TAIL)?;
+        if refusal_of(alloc, &bytes, 1000) != Some(GdsBad::Order(at)) {
+            return Ok(Some(first));
         }
     }
     Ok(None)
 }
 
-// Every record that the element may have, and each two neighbours among them exchanged. Where the first
-// must precede the second, the second is refused in its place; else the first is, behind the second.
+// Whether each exchange of two of the element's records is refused where the order breaks, and the element itself isn't.
+fn keeps_its_order(alloc: Global, entries: &[Entry]) -> Result<bool, Fail> {
+    let (mut bytes, _) = exchanged(alloc, entries, (0, 0), 0)?;
+    bytes.extend_from_slice(&TAIL)?;
+    if refusal_of(alloc, &bytes, 1000).is_some() {
+        return Ok(false);
+    }
+    for second in 1..entries.len() {
+        if wrong_exchange_with(alloc, entries, second)?.is_some() {
+            return Ok(false);
+        }
+    }
+    Ok(true)
+}
+
+// Every record that an element may have, and each two of them exchanged.
 #[test]
 fn keeps_the_order_of_shapes(rt: HostRuntime) -> Result<(), Fail> {
-    let boundary = [
-        BOUNDARY, ELFLAGS, PLEX, LAYER, DATATYPE, SQUARE, ATTRIBUTE, VALUE, ENDEL,
-    ];
-    let offsets = [96, 108, 112, 114, 120, 126, 170, 176];
-    assert_eq!(rt; refusal(rt.alloc(), &boundary)?, None);
-    assert_eq!(rt; wrong_exchange(rt.alloc(), &boundary, &offsets)?, None);
-    let square = [
-        BOX, ELFLAGS, PLEX, LAYER, BOXTYPE, SQUARE, ATTRIBUTE, VALUE, ENDEL,
-    ];
-    assert_eq!(rt; refusal(rt.alloc(), &square)?, None);
-    assert_eq!(rt; wrong_exchange(rt.alloc(), &square, &offsets)?, None);
-    let node = [
-        NODE, ELFLAGS, PLEX, LAYER, NODETYPE, LINE, ATTRIBUTE, VALUE, ENDEL,
-    ];
-    let offsets = [96, 108, 112, 114, 120, 126, 146, 152];
-    assert_eq!(rt; refusal(rt.alloc(), &node)?, None);
-    assert_eq!(rt; wrong_exchange(rt.alloc(), &node, &offsets)?, None);
-    let path = [
-        PATH, ELFLAGS, PLEX, LAYER, DATATYPE, PATHTYPE, WIDTH, BGNEXTN, ENDEXTN, LINE, ATTRIBUTE,
-        VALUE, ENDEL,
-    ];
-    let offsets = [96, 108, 112, 114, 120, 134, 140, 148, 168, 156, 176, 182];
-    assert_eq!(rt; refusal(rt.alloc(), &path)?, None);
-    assert_eq!(rt; wrong_exchange(rt.alloc(), &path, &offsets)?, None);
+    assert!(rt; keeps_its_order(rt.alloc(), &BOUNDARIES)?);
+    assert!(rt; keeps_its_order(rt.alloc(), &BOXES)?);
+    assert!(rt; keeps_its_order(rt.alloc(), &NODES)?);
+    assert!(rt; keeps_its_order(rt.alloc(), &PATHS)?);
     Ok(())
 }
 
 #[test]
-fn keeps_the_order_of_references_and_texts(rt: HostRuntime) -> Result<(), Fail> {
-    let reference = [
-        SREF, ELFLAGS, PLEX, SNAME, STRANS, MAG, ANGLE, POINT, ATTRIBUTE, VALUE, ENDEL,
-    ];
-    let offsets = [96, 108, 112, 114, 120, 138, 150, 150, 162, 168];
-    assert_eq!(rt; refusal(rt.alloc(), &reference)?, None);
-    assert_eq!(rt; wrong_exchange(rt.alloc(), &reference, &offsets)?, None);
-    let array = [
-        AREF, ELFLAGS, PLEX, SNAME, STRANS, MAG, ANGLE, COLROW, ARRAY, ATTRIBUTE, VALUE, ENDEL,
-    ];
-    let offsets = [96, 108, 112, 114, 120, 138, 146, 150, 158, 186, 192];
-    assert_eq!(rt; refusal(rt.alloc(), &array)?, None);
-    assert_eq!(rt; wrong_exchange(rt.alloc(), &array, &offsets)?, None);
-    // A text's own records stand in any order, before its properties.
-    let text = [
-        TEXT,
-        ELFLAGS,
-        PLEX,
-        LAYER,
-        TEXTTYPE,
-        PRESENTATION,
-        PATHTYPE,
-        WIDTH,
-        STRANS,
-        MAG,
-        ANGLE,
-        POINT,
-        STRING,
-        ATTRIBUTE,
-        VALUE,
-        ENDEL,
-    ];
-    let backwards = [
-        TEXT,
-        STRING,
-        POINT,
-        ANGLE,
-        MAG,
-        STRANS,
-        WIDTH,
-        PATHTYPE,
-        PRESENTATION,
-        TEXTTYPE,
-        LAYER,
-        PLEX,
-        ELFLAGS,
-        ATTRIBUTE,
-        VALUE,
-        ENDEL,
-    ];
-    assert_eq!(rt; refusal(rt.alloc(), &text)?, None);
-    assert_eq!(rt; refusal(rt.alloc(), &backwards)?, None);
-    let rows: [(usize, usize); 4] = [(0, 96), (12, 194), (13, 194), (14, 200)];
-    for (place, at) in rows {
-        assert_eq!(rt;
-            refusal_of_exchange(rt.alloc(), &text, place)?,
-            Some(GdsBad::Order(at))
-        );
+fn keeps_the_order_of_references(rt: HostRuntime) -> Result<(), Fail> {
+    assert!(rt; keeps_its_order(rt.alloc(), &REFERENCES)?);
+    assert!(rt; keeps_its_order(rt.alloc(), &ARRAYS)?);
+    Ok(())
+}
+
+// Whether the text is accepted with each two of its own records exchanged, the later one at this place.
+fn takes_exchanges_with(alloc: Global, second: usize) -> Result<bool, Fail> {
+    for first in 1..second {
+        let (mut bytes, _) = exchanged(alloc, &TEXTS, (first, second), 0)?;
+        for record in [ATTRIBUTE, VALUE, ENDEL] {
+            bytes.extend_from_slice(record)?;
+        }
+        bytes.extend_from_slice(&TAIL)?;
+        if refusal_of(alloc, &bytes, 1000).is_some() {
+            return Ok(false);
+        }
     }
+    Ok(true)
+}
+
+#[test]
+fn takes_texts_in_any_order(rt: HostRuntime) -> Result<(), Fail> {
+    for second in 2..TEXTS.len() {
+        assert!(rt; takes_exchanges_with(rt.alloc(), second)?);
+    }
+    // A property stands behind all of them, an attribute before its value.
+    let early = [
+        TEXT, LAYER, TEXTTYPE, POINT, ATTRIBUTE, VALUE, STRING, ENDEL,
+    ];
+    assert_eq!(rt; refusal(rt.alloc(), &early)?, Some(GdsBad::Order(136)));
+    assert_eq!(rt;
+        refusal(rt.alloc(), &[STRING, TEXT, ENDEL])?,
+        Some(GdsBad::Order(96))
+    );
+    let bare = [TEXT, LAYER, TEXTTYPE, POINT, STRING, ATTRIBUTE, ENDEL];
+    assert_eq!(rt; refusal(rt.alloc(), &bare)?, Some(GdsBad::Order(136)));
     Ok(())
 }
 
