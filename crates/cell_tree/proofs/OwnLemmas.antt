@@ -20,13 +20,13 @@ use Rattle.cell_tree.specs.Cells.{PlacesAt, placements_at, shapes_at, targets_at
 use Rattle.cell_tree.specs.Linking.{AreTargetsBelow}
 use Rattle.cell_tree.specs.Flattening.{IsVertex}
 use Rattle.cell_tree.specs.Boxes.{IsLeastBox, IsOneOf, IsHull, IsUpTo, IsBoxUpTo, summed_box, moved_box, oriented_box}
-use Rattle.cell_tree.specs.HullTables.{same_pair, ShapeVertex, IsMoveOf, OwnVertex, PlacedVertex, placed_hull, hull_in, hulls_at, widest, widened_list, AreApart, AreCellHulls, HasNearVertices}
+use Rattle.cell_tree.specs.HullTables.{same_pair, ShapeVertex, IsMoveOf, OwnVertex, PlacedVertex, placed_hull, hull_in, hulls_at, widest, widened_list, AreInOrder, AreCellHulls, HasNearVertices}
 use Rattle.cell_tree.specs.declared.hulls.PairHull.{PairHull}
 use Rattle.cell_tree.proofs.SlotLemmas.{All-slot, All-from_slots, one_slot, slot_map}
 use Rattle.std.proofs.lemmas.List.Elements.{All-nil}
 use Rattle.cell_tree.proofs.SearchLemmas.{apart}
 use Rattle.cell_tree.proofs.BoxLemmas.{same_hull, least_of, summed_least, least_up_to, Image, oriented_point, oriented_least}
-use Rattle.cell_tree.proofs.HullLemmas.{pairs, pair_same, widened_here, widened_elsewhere, widened_apart, widest_hull, entry_hull}
+use Rattle.cell_tree.proofs.HullLemmas.{pairs, pair_same, widened_here, widened_elsewhere, widened_in_order, widest_hull, entry_hull}
 
 pub up_to_more : (a b : ℕ) (z : ℤ) → a ≤ b → IsUpTo a z → IsUpTo b z
 up_to_more a b z less near = let l = near.low in let h = near.high in record { low = omega (arith, ints); high = omega (arith, ints) }
@@ -54,12 +54,12 @@ shape_least shape a b box points offsets is = subst (IsLeastBox (ShapeVertex sha
 
 -- one more shape
 pub own_more : (shapes : List Shape) (k : ℕ) (shape : Shape) (box : Frame) (old new : List PairHull) → slice_get shapes k ≡ Some shape → IsLeastBox (ShapeVertex shape) box → new ≡ widened_list old shape.pair box
-    → AreApart old × ((pair : Pair) → IsHull (OwnVertex shapes k pair) (hull_in old pair)) → AreApart new × ((pair : Pair) → IsHull (OwnVertex shapes (k + 1) pair) (hull_in new pair))
+    → AreInOrder old × ((pair : Pair) → IsHull (OwnVertex shapes k pair) (hull_in old pair)) → AreInOrder new × ((pair : Pair) → IsHull (OwnVertex shapes (k + 1) pair) (hull_in new pair))
 own_more shapes k shape box old new here least is so = (
-  subst AreApart (sym is) (widened_apart old shape.pair box so.0),
+  subst AreInOrder (sym is) (widened_in_order old shape.pair box so.0),
   λ pair. subst (λ l. IsHull (OwnVertex shapes (k + 1) pair) (hull_in l pair)) (sym is) (elim (pairs shape.pair pair) [
     | inl same ↦ subst (λ q. IsHull (OwnVertex shapes (k + 1) q) (hull_in (widened_list old shape.pair box) q)) same
-        (subst (IsHull (OwnVertex shapes (k + 1) shape.pair)) (sym (widened_here old shape.pair box))
+        (subst (IsHull (OwnVertex shapes (k + 1) shape.pair)) (sym (widened_here old shape.pair box so.0))
         (widest_hull (OwnVertex shapes k shape.pair) (ShapeVertex shape) (OwnVertex shapes (k + 1) shape.pair) (hull_in old shape.pair) (Some box)
         (λ p own. record { number = own.number; early = omega (arith, own.early); shape = own.shape; here = own.here; on_pair = own.on_pair; vertex = own.vertex })
         (λ p vertex. record { number = k; early = omega arith; shape = shape; here = here; on_pair = refl; vertex = vertex })
@@ -193,7 +193,7 @@ entries_up_to cells m hulls are near = All-from_slots hulls (λ here. IsBoxUpTo 
 
 -- of the cell that a placement places, if there is one
 pub target_hulls : (cells : List Cell) (hulls : List (List PairHull)) (o : Option ℕ) → ((m : ℕ) → o ≡ Some m → AreCellHulls cells m (get_or hulls m [])) → ((m : ℕ) → o ≡ Some m → HasNearVertices cells m)
-    → AreApart (hulls_at hulls o) × All (λ here. IsBoxUpTo (2 ^ 53) here.hull) (hulls_at hulls o)
+    → AreInOrder (hulls_at hulls o) × All (λ here. IsBoxUpTo (2 ^ 53) here.hull) (hulls_at hulls o)
 target_hulls cells hulls None are near = (tt, All-nil (λ here. IsBoxUpTo (2 ^ 53) here.hull))
 target_hulls cells hulls (Some m) are near = ((are m refl).0, entries_up_to cells m (get_or hulls m []) (are m refl) (near m refl))
 
@@ -227,12 +227,12 @@ step_hulls cells n k targets placement table old new placed moves P t slot known
 
 pub step_target : (cells : List Cell) (n k : ℕ) (targets : List (Option ℕ)) (placement : Placement) (table : List (List PairHull)) (placed : List PairHull) → targets ≡ targets_at cells n → slice_get (placements_at cells n) k ≡ Some placement
     → ((k m : ℕ) → PlacesAt cells n k m → AreCellHulls cells m (get_or table m [])) → ((k m : ℕ) → PlacesAt cells n k m → HasNearVertices cells m) → placed ≡ hulls_at table (get_or targets k None)
-    → AreApart placed × All (λ here. IsBoxUpTo (2 ^ 53) here.hull) placed
+    → AreInOrder placed × All (λ here. IsBoxUpTo (2 ^ 53) here.hull) placed
 step_target cells n k targets placement table placed t slot known near shown =
     let both = target_hulls cells table (get_or targets k None) (λ m e. known k m (shown_places cells n k m targets placement t slot e)) (λ m e. near k m (shown_places cells n k m targets placement t slot e)) in
-    (subst AreApart (sym shown) both.0, subst (All (λ here. IsBoxUpTo (2 ^ 53) here.hull)) (sym shown) both.1)
+    (subst AreInOrder (sym shown) both.0, subst (All (λ here. IsBoxUpTo (2 ^ 53) here.hull)) (sym shown) both.1)
 
-pub cell_hulls : (cells : List Cell) (n k : ℕ) (targets : List (Option ℕ)) (hulls : List PairHull) → targets ≡ targets_at cells n → length targets ≤ k → IsShort cells 64 n → AreApart hulls
+pub cell_hulls : (cells : List Cell) (n k : ℕ) (targets : List (Option ℕ)) (hulls : List PairHull) → targets ≡ targets_at cells n → length targets ≤ k → IsShort cells 64 n → AreInOrder hulls
     → ((pair : Pair) → IsHull (λ p. OwnVertex (shapes_at cells n) (length (shapes_at cells n)) pair p ⊎ PlacedVertex cells n k pair p) (hull_in hulls pair)) → AreCellHulls cells n hulls
 cell_hulls cells n k targets hulls t past short apart so =
     let long : length (placements_at cells n) ≤ k = omega (arith, ap length t, length-map (placements_at cells n) (λ p. cell_number cells p.target)) in (
@@ -247,8 +247,8 @@ cell_hulls cells n k targets hulls t past short apart so =
     )
 
 -- the first boxes are those of the shapes
-pub own_only : (cells : List Cell) (n : ℕ) (hulls : List PairHull) (shapes : List Shape) → shapes ≡ shapes_at cells n → AreApart hulls × ((pair : Pair) → IsHull (OwnVertex shapes (length shapes) pair) (hull_in hulls pair))
-    → AreApart hulls × ((pair : Pair) → IsHull (λ p. OwnVertex (shapes_at cells n) (length (shapes_at cells n)) pair p ⊎ PlacedVertex cells n 0 pair p) (hull_in hulls pair))
+pub own_only : (cells : List Cell) (n : ℕ) (hulls : List PairHull) (shapes : List Shape) → shapes ≡ shapes_at cells n → AreInOrder hulls × ((pair : Pair) → IsHull (OwnVertex shapes (length shapes) pair) (hull_in hulls pair))
+    → AreInOrder hulls × ((pair : Pair) → IsHull (λ p. OwnVertex (shapes_at cells n) (length (shapes_at cells n)) pair p ⊎ PlacedVertex cells n 0 pair p) (hull_in hulls pair))
 own_only cells n hulls shapes e own = (
   own.0,
   λ pair. same_hull (OwnVertex (shapes_at cells n) (length (shapes_at cells n)) pair)

@@ -1,5 +1,5 @@
 -- The least boxes of a cell, pair by pair, by its own vertices and those of the cells that it places.
-use Rattle.std.specs.Prelude.{◌≡◌, ◌<◌, ◌&&◌, ◌^◌, ℕ, ℤ, nat_eq, Bool, List, [], ◌∷◌, Option, Some, None, length, slice_get, get_or, if◌then◌else◌}
+use Rattle.std.specs.Prelude.{◌≡◌, ◌<◌, ◌&&◌, ◌^◌, ℕ, ℤ, nat_eq, nat_lt, Bool, true, false, List, [], ◌∷◌, Option, Some, None, length, slice_get, get_or, if◌then◌else◌}
 use Rattle.std.specs.Option.{option_and_then}
 use Rattle.half_grid.specs.declared.plane.Point.{Point}
 use Rattle.half_grid.specs.declared.extent.Frame.{Frame}
@@ -26,10 +26,19 @@ abbrev pub hull_in : List PairHull → Pair → Option Frame
 hull_in [] pair = None
 hull_in (here ∷ hulls) pair = if same_pair here.pair pair then Some here.hull else hull_in hulls pair
 
--- no pair stands twice
-abbrev pub AreApart : List PairHull → Type 0
-AreApart [] = Unit {0}
-AreApart (here ∷ hulls) = (hull_in hulls here.pair ≡ None) × AreApart hulls
+-- whether the first pair comes before the other: by the layer, those of one layer by the datatype
+abbrev pub is_before : Pair → Pair → Bool
+is_before a b = if nat_lt a.layer b.layer then true else if nat_lt b.layer a.layer then false else nat_lt a.datatype b.datatype
+
+-- the pair comes before all of these
+abbrev pub IsBeforeAll : Pair → List PairHull → Type 0
+IsBeforeAll pair [] = Unit {0}
+IsBeforeAll pair (here ∷ hulls) = (is_before pair here.pair ≡ true) × IsBeforeAll pair hulls
+
+-- the boxes stand in ascending order of their pairs, each pair once
+abbrev pub AreInOrder : List PairHull → Type 0
+AreInOrder [] = Unit {0}
+AreInOrder (here ∷ hulls) = IsBeforeAll here.pair hulls × AreInOrder hulls
 
 abbrev pub wider : Option Frame → Frame → Frame
 wider None by = by
@@ -39,11 +48,13 @@ abbrev pub widest : Option Frame → Option Frame → Option Frame
 widest hull None = hull
 widest hull (Some by) = Some (wider hull by)
 
--- the box of a pair is widened
+-- the box of a pair is widened, or put where the pair stands in the order
 abbrev pub widened_list : List PairHull → Pair → Frame → List PairHull
 widened_list [] pair by = record { pair = pair; hull = by } ∷ []
 widened_list (here ∷ hulls) pair by =
-    if same_pair here.pair pair then record { pair = pair; hull = joined_box here.hull by } ∷ hulls else here ∷ widened_list hulls pair by
+    if is_before here.pair pair then here ∷ widened_list hulls pair by
+    else if same_pair here.pair pair then record { pair = pair; hull = joined_box here.hull by } ∷ hulls
+    else record { pair = pair; hull = by } ∷ here ∷ hulls
 
 -- the box of all pairs
 abbrev pub whole_from : Option Frame → List PairHull → Option Frame
@@ -95,11 +106,11 @@ pub record PlacedVertex (cells : List Cell) (n bound : ℕ) (pair : Pair) (p : P
   pub is : image_of placement.orient (moved by placement.at) v ≡ p
 
 abbrev pub AreOwnHulls : List Shape → List PairHull → Type 0
-AreOwnHulls shapes hulls = AreApart hulls × ((pair : Pair) → IsHull (OwnVertex shapes (length shapes) pair) (hull_in hulls pair))
+AreOwnHulls shapes hulls = AreInOrder hulls × ((pair : Pair) → IsHull (OwnVertex shapes (length shapes) pair) (hull_in hulls pair))
 
 -- the least box of each pair of the cell
 abbrev pub AreCellHulls : List Cell → ℕ → List PairHull → Type 0
-AreCellHulls cells n hulls = AreApart hulls × ((pair : Pair) → IsHull (IsVertex cells n pair) (hull_in hulls pair))
+AreCellHulls cells n hulls = AreInOrder hulls × ((pair : Pair) → IsHull (IsVertex cells n pair) (hull_in hulls pair))
 
 -- of each cell of the order
 abbrev pub AreHulls : List Cell → List ℕ → List (List PairHull) → Type 0

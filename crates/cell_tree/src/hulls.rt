@@ -1,5 +1,5 @@
 //! The least boxes of cells, pair by pair.
-ghost use Rattle.std.specs.Prelude.{◌≡◌, ◌<◌, ◌^◌, ◌≤◌, ◌↔◌, ℕ, length, map, slice_get, get_or, slice_set, [], ◌∷◌, ◌++◌, Some, None, All, IsTrue, IfOk, OnOk, IfSome, IfNone, if◌then◌else◌};
+ghost use Rattle.std.specs.Prelude.{◌≡◌, ◌<◌, ◌^◌, ◌≤◌, ℕ, true, false, length, map, slice_get, get_or, slice_set, insert, [], Some, None, All, IfOk, IfErr, OnOk, IfSome};
 ghost use Rattle.std.specs.Option.{option_map};
 ghost use Rattle.layout_model.specs.Images.{IsOrient};
 ghost use Rattle.layout_model.specs.Layouts.{IsLayoutOnGrid, IsShapeOnGrid, IsPlacementOnGrid};
@@ -8,7 +8,7 @@ ghost use Rattle.cell_tree.specs.Boxes.{IsLeastBox, IsBoxUpTo, joined_box};
 ghost use Rattle.cell_tree.specs.Cells.{PlacesAt};
 ghost use Rattle.cell_tree.specs.Chains.{IsShort};
 ghost use Rattle.cell_tree.specs.Orders.{IsUpward, IsAmong};
-ghost use Rattle.cell_tree.specs.HullTables.{ShapeVertex, IsMoveOf, hull_in, AreApart, wider, widest, widened_list, whole_from, placed_hull, hulls_at, AreOwnHulls, AreCellHulls, AreHulls, HasNearVertices};
+ghost use Rattle.cell_tree.specs.HullTables.{ShapeVertex, IsMoveOf, is_before, hull_in, AreInOrder, wider, widest, widened_list, whole_from, placed_hull, hulls_at, AreOwnHulls, AreCellHulls, AreHulls, HasNearVertices};
 ghost use Rattle.cell_tree.specs.declared.hulls.PairHull.{PairHull as APairHull};
 ghost use Rattle.half_grid.specs.declared.extent.Frame.{Frame as AFrame};
 
@@ -26,29 +26,66 @@ pub(crate) struct PairHull {
     pub(crate) hull: Frame,
 }
 
-// The place of the box of a pair.
-fn place_of(hulls: &[PairHull], pair: Pair) -> Option<usize>
-    ensures some { IfSome result (λ k. (k < length hulls.now)
-        × ((by : AFrame) → widened_list hulls.now pair by ≡ slice_set hulls.now k (record { pair = pair; hull = joined_box (get_or hulls.now k (record { pair = pair; hull = by })).hull by }))
-        × ((here : APairHull) → hull_in hulls.now pair ≡ Some (get_or hulls.now k here).hull)) }
-    ensures none { IfNone result ((hull_in hulls.now pair ≡ None)
-        × ((by : AFrame) → widened_list hulls.now pair by ≡ hulls.now ++ record { pair = pair; hull = by } ∷ [])) }
+// Whether the first pair comes before the other: by the layer, those of one layer by the datatype.
+fn is_before(a: Pair, b: Pair) -> bool
+    ensures { result ≡ is_before a b }
 {
-    for (k, here) in hulls.iter().enumerate() {
-        if here.pair == pair {
-            return Some(k);
+    if a.layer < b.layer {
+        return true;
+    }
+    if b.layer < a.layer {
+        return false;
+    }
+    a.datatype < b.datatype
+}
+
+// How many boxes stand before the pair.
+fn rank(hulls: &[PairHull], pair: Pair) -> usize
+    requires { AreInOrder hulls.now }
+    ensures within { result ≤ length hulls.now }
+    ensures below { (j : ℕ) (here : APairHull) → j < result → slice_get hulls.now j ≡ Some here → is_before here.pair pair ≡ true }
+    ensures above { (j : ℕ) (here : APairHull) → result ≤ j → slice_get hulls.now j ≡ Some here → is_before here.pair pair ≡ false }
+{
+    let mut low = 0;
+    let mut high = hulls.len();
+    while low < high {
+        let middle = low + (high - low) / 2;
+        if is_before(hulls[middle].pair, pair) {
+            low = middle + 1;
+        } else {
+            high = middle;
         }
     }
-    None
+    low
+}
+
+// The place of the box of a pair, or the place where it is to be put.
+fn place_of(hulls: &[PairHull], pair: Pair) -> Result<usize, usize>
+    requires { AreInOrder hulls.now }
+    ensures ok { IfOk result (λ k. (k < length hulls.now)
+        × ((by : AFrame) → widened_list hulls.now pair by ≡ slice_set hulls.now k (record { pair = pair; hull = joined_box (get_or hulls.now k (record { pair = pair; hull = by })).hull by }))
+        × ((here : APairHull) → hull_in hulls.now pair ≡ Some (get_or hulls.now k here).hull)) }
+    ensures err { IfErr result (λ k. (k ≤ length hulls.now) × (hull_in hulls.now pair ≡ None)
+        × ((by : AFrame) → widened_list hulls.now pair by ≡ insert hulls.now k (record { pair = pair; hull = by }))) }
+{
+    let place = rank(hulls, pair);
+    if place == hulls.len() {
+        return Err(place);
+    }
+    if hulls[place].pair == pair {
+        return Ok(place);
+    }
+    Err(place)
 }
 
 /// The box of a pair.
 pub(crate) fn hull_on(hulls: &[PairHull], pair: Pair) -> Option<Frame>
+    requires { AreInOrder hulls.now }
     ensures { result ≡ hull_in hulls.now pair }
 {
     match place_of(hulls, pair) {
-        Some(k) => Some(hulls[k].hull),
-        None => None,
+        Ok(k) => Some(hulls[k].hull),
+        Err(_missing) => None,
     }
 }
 
@@ -74,14 +111,15 @@ pub(crate) fn whole_hull(hulls: &[PairHull]) -> Option<Frame>
 
 // Widens the box of a pair by another.
 fn widen(hulls: &mut Vec<PairHull>, pair: Pair, by: Frame) -> Result<(), NoMemory>
+    requires { AreInOrder hulls.old.items }
     ensures { OnOk result (hulls.new.items ≡ widened_list hulls.old.items pair by) }
 {
     match place_of(hulls.as_slice(), pair) {
-        Some(k) => {
+        Ok(k) => {
             let hull = joined(hulls[k].hull, by);
             hulls[k] = PairHull { pair, hull };
         }
-        None => hulls.push(PairHull { pair, hull: by })?,
+        Err(k) => hulls.insert(k, PairHull { pair, hull: by })?,
     }
     Ok(())
 }
@@ -116,9 +154,9 @@ fn widen_by_placed(
     requires orient { IsOrient orient }
     requires moves { IsBoxUpTo (2 ^ 43) moves }
     requires placed { All (λ here. IsBoxUpTo (2 ^ 53) here.hull) placed.now }
-    requires apart { AreApart placed.now }
-    requires old { AreApart hulls.old.items }
-    ensures apart { OnOk result (AreApart hulls.new.items) }
+    requires order { AreInOrder placed.now }
+    requires old { AreInOrder hulls.old.items }
+    ensures order { OnOk result (AreInOrder hulls.new.items) }
     ensures hulls { (pair : APair) → OnOk result (hull_in hulls.new.items pair
         ≡ widest (hull_in hulls.old.items pair) (option_map (placed_hull orient moves) (hull_in placed.now pair))) }
 {

@@ -15,7 +15,7 @@ pub loop-k-preserved : goal.loop-k-preserved
 loop-k-preserved c =
     let cells = c.args.linked.now.cells in let n = c.args.cell in let k = c.loop-k.k in let placement = c.index-placements-k.result in let targets = c.targets-target-items.result.now in
     let slot = shown_slot cells n k c.placements-placements.result.now targets placement c.placements-placements.ensures c.targets-target-items.ensures.value c.loop-k-test.true c.index-placements-k.is in (
-      c.in_ok-widen_by_placed.ensures.apart,
+      c.in_ok-widen_by_placed.ensures.order,
       step_hulls cells n k targets placement (map (λ list. list.items) c.args.hulls.now) c.loop-k.own.items c.widen_by_placed.new.hulls.items c.placed_hulls-placed.result.now c.moves_of.result
           (λ pair p. OwnVertex (shapes_at cells n) (length (shapes_at cells n)) pair p) c.targets-target-items.ensures.value slot c.requires.placed c.moves_of.ensures.least c.placed_hulls-placed.ensures
           c.in_ok-widen_by_placed.ensures.hulls c.loop-k.invariant.1,
@@ -48,8 +48,8 @@ widen_by_placed-requires-clause-placed c =
     let slot = shown_slot cells n k c.placements-placements.result.now targets c.index-placements-k.result c.placements-placements.ensures c.targets-target-items.ensures.value c.loop-k-test.true c.index-placements-k.is in
     (step_target cells n k targets c.index-placements-k.result (map (λ list. list.items) c.args.hulls.now) c.placed_hulls-placed.result.now c.targets-target-items.ensures.value slot c.requires.placed c.requires.small c.placed_hulls-placed.ensures).1
 
-pub widen_by_placed-requires-clause-apart : goal.widen_by_placed-requires-clause-apart
-widen_by_placed-requires-clause-apart c =
+pub widen_by_placed-requires-clause-order : goal.widen_by_placed-requires-clause-order
+widen_by_placed-requires-clause-order c =
     let cells = c.args.linked.now.cells in let n = c.args.cell in let k = c.loop-k.k in let targets = c.targets-target-items.result.now in
     let slot = shown_slot cells n k c.placements-placements.result.now targets c.index-placements-k.result c.placements-placements.ensures c.targets-target-items.ensures.value c.loop-k-test.true c.index-placements-k.is in
     (step_target cells n k targets c.index-placements-k.result (map (λ list. list.items) c.args.hulls.now) c.placed_hulls-placed.result.now c.targets-target-items.ensures.value slot c.requires.placed c.requires.small c.placed_hulls-placed.ensures).0

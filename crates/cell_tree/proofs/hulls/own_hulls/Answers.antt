@@ -1,6 +1,6 @@
 use Rattle.std.proofs.Common.{◌≡◌, length, subst, sym, arith}
 use Rattle.cell_tree.specs.Boxes.{IsHull}
-use Rattle.cell_tree.specs.HullTables.{AreApart, OwnVertex, hull_in}
+use Rattle.cell_tree.specs.HullTables.{AreInOrder, OwnVertex, hull_in}
 use Rattle.cell_tree.proofs.SlotLemmas.{slot_read}
 use Rattle.cell_tree.proofs.OwnLemmas.{own_more}
 use Rattle.cell_tree.proofs.hulls.own_hulls.Goals as goal
@@ -8,7 +8,7 @@ use Rattle.cell_tree.proofs.hulls.own_hulls.Goals as goal
 pub loop-shape-init : goal.loop-shape-init
 loop-shape-init c =
     let e = c.new-hulls.ensures.items in
-    (subst AreApart (sym e) tt, λ pair. subst (λ l. IsHull (OwnVertex c.args.shapes.now 0 pair) (hull_in l pair)) (sym e) (λ p own. omega (arith, own.early)))
+    (subst AreInOrder (sym e) tt, λ pair. subst (λ l. IsHull (OwnVertex c.args.shapes.now 0 pair) (hull_in l pair)) (sym e) (λ p own. omega (arith, own.early)))
 
 pub loop-shape-preserved : goal.loop-shape-preserved
 loop-shape-preserved c =
