@@ -7,7 +7,10 @@ PROGRAM := build/nettletide
 BENCH := build/bench
 SOURCES := crates.txt HANDLES $(shell find crates -name out -prune -o \( -name '*.rt' -o -name '*.antt' \) -print)
 
-.PHONY: all try test example bench clean
+.PHONY: all try test example pictures bench clean
+
+# how large the layouts of `make bench` are: small, or large, which has up to 16 million shots
+SIZE := small
 
 all: $(PROGRAM)
 
@@ -24,7 +27,6 @@ try:
 	mkdir -p build
 	sed 's|square.oas|$(CURDIR)/build/try.oas|' example/square.deck >build/try.deck
 	cd crates/mdp_cli && $(RT) try -- fracture $(CURDIR)/example/square.gds $(CURDIR)/build/try.deck
-	cd crates/mdp_cli && $(RT) try -- shots $(CURDIR)/build/try.oas
 	@echo 'Nothing was proved here. make example proves and builds the program, and bash .ci/run proves and tests all.'
 
 # The kit runs each crate's tests without any proof.
@@ -34,9 +36,16 @@ test:
 	done
 	@echo 'Nothing was proved here. bash .ci/run proves and tests all.'
 
+# A square, and a block of standard cells.
 example: $(PROGRAM)
 	cd example && ../$(PROGRAM) fracture square.gds square.deck
 	wc -c example/square.oas
+	tools/gds example/block.txt example/block.gds
+	cd example && ../$(PROGRAM) fracture block.gds block.deck
+
+# The pictures of docs/, drawn from what the program writes.
+pictures: $(PROGRAM)
+	tools/pictures $(PROGRAM)
 
 $(BENCH): $(SOURCES)
 	mkdir -p build
@@ -44,14 +53,15 @@ $(BENCH): $(SOURCES)
 	cd crates/bench && { $(RT) run; test -x out/bench; }
 	cp crates/bench/out/bench $(BENCH)
 
-# Single layers, timed on inputs that the program makes in memory.
-bench: $(BENCH)
+# Single layers, timed on inputs that the program makes in memory; then whole runs on layouts in build/bench.
+bench: $(BENCH) $(PROGRAM)
 	$(BENCH) gds 1000000
 	$(BENCH) squares 300
 	$(BENCH) squares 1000
 	$(BENCH) random 10000
 	$(BENCH) random 100000
+	tools/bench $(PROGRAM) build/bench $(SIZE)
 
 # What the kit has proved stays in crates/*/out, since to prove it again takes minutes.
 clean:
-	rm -rf build example/square.oas
+	rm -rf build example/*.oas example/block.gds
