@@ -40,7 +40,7 @@ test:
 example: $(PROGRAM)
 	cd example && ../$(PROGRAM) fracture square.gds square.deck
 	wc -c example/square.oas
-	tools/gds example/block.txt example/block.gds
+	tools/gds example/block.gds <example/block.txt
 	cd example && ../$(PROGRAM) fracture block.gds block.deck
 
 # The pictures of docs/, drawn from what the program writes.
