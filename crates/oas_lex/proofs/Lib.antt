@@ -9,4 +9,5 @@ pub mod ShotNames
 pub mod Peels
 pub mod FieldTexts
 pub mod ShotTexts
+pub mod Readers
 pub mod ForCallers

@@ -1,5 +1,8 @@
 pub mod Spelling
 pub mod Numbers
 pub mod SpellingLaws
+pub mod Strings
+pub mod Reals
+pub mod Deltas
 pub mod ShotText
 pub mod ShotLaws

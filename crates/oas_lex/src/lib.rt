@@ -1,21 +1,30 @@
-//! The words of OASIS (SEMI P39, version 1.0): integers both ways, and the one text of a shot file.
+//! The words of OASIS (SEMI P39, version 1.0): integers both ways, reals, deltas and strings, and the one text of a shot
+//! file.
 //!
 //! Nothing here takes memory.
 #![tactic(auto)]
 
+mod deltas;
 mod fields;
 mod laws;
 mod numbers;
+mod real_readers;
+mod reals;
 mod shots;
 mod spell;
+mod strings;
 
+pub use deltas::{delta_g, delta2, delta3};
 pub use fields::{INFO, RECTANGLE, ShotFields, TRAPEZOID, TRAPEZOID_A, TRAPEZOID_B, spell_fields};
 pub use laws::{shot_laws, spelling_laws};
 pub use numbers::{signed, unsigned};
+pub use real_readers::real;
+pub use reals::{Real, real_whole};
 pub use shots::{end_text, head_text, spell_shot};
 pub use spell::{ROOM, Spell, put_signed, put_unsigned};
+pub use strings::{end_of_bytes, text};
 
-/// An unsigned number, a signed one or a string wasn't read.
+/// A number, a string, a real or a delta wasn't read.
 #[derive(Clone, Copy, Debug, PartialEq, Eq)]
 pub enum LexBad {
     /// The bytes end first.
