@@ -10,4 +10,5 @@ pub mod Peels
 pub mod FieldTexts
 pub mod ShotTexts
 pub mod Readers
+pub mod RealLemmas
 pub mod ForCallers

@@ -33,8 +33,8 @@ fn whole_quotient(top: u64, bottom: u64) -> Option<u64>
 
 // The number below 2^24 that has these bits, with no sign, in a format with so many fraction bits and this bias.
 fn ieee_whole(bits: u64, fraction: u32, bias: u64) -> Option<u64>
-    requires fraction { (24 ≤ fraction + 1) × (fraction ≤ 52) }
-    requires bias { bias < 2 ^ 32 }
+    requires fraction { (23 ≤ fraction) × (fraction ≤ 52) }
+    requires bias { (1 ≤ bias) × (bias < 2 ^ 32) }
     ensures { (q : ℕ) → q < 2 ^ 24 → (result ≡ Some q) ↔ IsIeee fraction bias bits q }
 {
     if bits == 0 {
@@ -66,9 +66,9 @@ fn magnitude_of(real: Real) -> Option<u64>
     ensures { (q : ℕ) → q < 2 ^ 24 → (result ≡ Some q) ↔ IsMagnitude (form_of real.kind) real q }
 {
     match real.kind {
-        0 | 1 => whole_quotient(real.a, 1),
-        2 | 3 => whole_quotient(1, real.a),
-        4 | 5 => whole_quotient(real.a, real.b),
+        0..=1 => whole_quotient(real.a, 1),
+        2..=3 => whole_quotient(1, real.a),
+        4..=5 => whole_quotient(real.a, real.b),
         6 => ieee_whole(real.a % (1 << 31), SINGLE, 127),
         7 => ieee_whole(real.a % (1 << 63), DOUBLE, 1023),
         _ => None,
