@@ -11,3 +11,5 @@ pub use Rattle.oas_lex.proofs.ShotNames.{least_names, greatest_names, width_some
 pub use Rattle.oas_lex.proofs.Peels.{unsigned_peel, signed_peel, delta_peel, id_tests, not_end, before_unit, after_unit, head_is, head_peel}
 pub use Rattle.oas_lex.proofs.FieldTexts.{opened, text_opens, text_some, spelling_is, spelling_some, same_fields, one_record}
 pub use Rattle.oas_lex.proofs.ShotTexts.{record_names, text_names}
+-- What stands at a place is one value with one end, or it fails for one cause.
+pub use Rattle.oas_lex.proofs.Readers.{IsReader, found_ok, fault_ok, found_err, fault_err, found_by, fault_by, pair_is, after, made, number_reader, signed_reader, bytes_reader, text_reader, number_fails, delta2_reader, delta3_reader, delta_g_reader, real_reader}

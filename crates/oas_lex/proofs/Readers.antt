@@ -1,14 +1,14 @@
 -- What stands at a place is one value with one end, or it fails for one cause. The lemmas on readers are stated once, over
 -- what stands there and what fails.
-use Rattle.std.proofs.Common.{◌≡◌, ◌≢◌, ℕ, ◌+◌, ◌<◌, ◌≤◌, ◌↔◌, ◌⊎◌, List, length, slice_index, ◌*◌, ◌/◌, ◌%◌, Option, Some, None, Result, Ok, Err, inl, inr, refl, ap, sym, ◌∙◌, subst, arith, ℤ, take, drop, ◌-◌}
+use Rattle.std.proofs.Common.{◌≡◌, ◌≢◌, ℕ, ◌+◌, ◌<◌, ◌↔◌, ◌⊎◌, List, length, slice_index, ◌/◌, ◌%◌, Option, Some, None, Result, Ok, Err, inl, inr, refl, ap, sym, ◌∙◌, subst, arith, ℤ, take, drop, ◌-◌}
 use Rattle.oas_lex.specs.declared.LexBad.{LexBad}
 use Rattle.oas_lex.specs.declared.LexBad.TheVariants.{Short, Wide, RealKind}
 use Rattle.oas_lex.specs.Numbers.{HasUnsigned, HasSigned, EndsFirst, IsWide, value_of}
 use Rattle.std.specs.Result.{IsErr, IsErrAnd, IfOk, IfErr}
 use Rattle.half_grid.specs.declared.plane.Point.{Point}
 use Rattle.oas_lex.specs.declared.reals.Real.{Real}
-use Rattle.oas_lex.specs.Deltas.{move, towards, sideways, HasDelta2, HasDelta3, HasOneCode, HasTwoCodes, HasDeltaG, SecondFails, DeltaGFails}
-use Rattle.oas_lex.specs.Reals.{RealForm, OneNumber, TwoNumbers, FourBytes, EightBytes, form_of, HasOneNumber, HasBits, HasParts, HasReal, PartsFail, KindFails, RealFails}
+use Rattle.oas_lex.specs.Deltas.{move, towards, sideways, HasDelta2, HasDelta3, HasDeltaG, DeltaGFails}
+use Rattle.oas_lex.specs.Reals.{RealForm, OneNumber, TwoNumbers, FourBytes, EightBytes, form_of, HasOneNumber, HasBits, HasParts, HasReal, PartsFail, RealFails}
 use Rattle.oas_lex.specs.Strings.{HasBytes, HasText, NumberFails, BytesFail, TextFails}
 use Rattle.oas_lex.proofs.Reading.{has_one, has_not_wide, ends_not_has, ends_not_wide, unsigned_of_signed}
 use Rattle.oas_lex.proofs.SpellingLemmas.{one_signed}

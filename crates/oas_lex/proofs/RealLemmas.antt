@@ -1,9 +1,9 @@
 -- The whole number that an IEEE number is.
-use Rattle.std.proofs.Common.{◌≡◌, ◌≢◌, ℕ, zero, suc, ◌<◌, ◌≤◌, ◌+◌, ◌*◌, ◌^◌, ◌/◌, ◌%◌, ◌-◌, ◌↔◌, ◌⊎◌, inl, inr, Option, Some, None, refl, sym, ap, subst, ◌∙◌, arith, add-one}
+use Rattle.std.proofs.Common.{◌≡◌, ◌≢◌, ℕ, zero, suc, ◌<◌, ◌≤◌, ◌+◌, ◌*◌, ◌^◌, ◌/◌, ◌%◌, ◌-◌, ◌↔◌, ◌⊎◌, inl, inr, Some, refl, sym, ap, ◌∙◌, arith, add-one}
 use Rattle.std.proofs.Math.Nat.{le_of_mul-le-mul_right, lt_of_mul-lt-mul_right, mul-lt-mul_of_pos_right, mul-le-mul_right, pow-succ', div-add-mod', mul-add-mod_self_right, mod-eq_of_lt, mod-lt}
 use Rattle.std.proofs.Math.Pow.{pow-lt}
 use Rattle.std.proofs.lemmas.Bool.{cases_lt}
-use Rattle.std.proofs.lemmas.Nat.{pow-add, one_shl, pow_pos, div-mul-add}
+use Rattle.std.proofs.lemmas.Nat.{pow-add, pow_pos, div-mul-add}
 use Rattle.oas_lex.specs.Reals.{IsQuotient, IsPower, IsIeee, IsMagnitude, form_of}
 use Rattle.oas_lex.specs.declared.reals.Real.{Real}
 
@@ -94,9 +94,12 @@ ieee_outside m B bits (suc q) large most some out p =
 -- no bit is set
 pub ieee_none : (m B bits q : ℕ) → 1 ≤ B → bits ≡ 0 → (Some 0 ≡ Some q) ↔ IsIeee m B bits q
 ieee_none m B bits zero some none = (λ e. none, λ p. refl)
-ieee_none m B bits (suc q) some none = (λ e. absurd (cc), λ p.
-    let product : 1 * 2 ^ m ≤ (B + p.0) * 2 ^ m = mul-le-mul_right {m = 1} {n = B + p.0} (2 ^ m) (omega (arith, some)) in
-    absurd (omega (arith, p.1.bits_are, none, product, pow_pos m)))
+ieee_none m B bits (suc q) some none = (
+  λ e. absurd (cc),
+  λ p.
+      let product : 1 * 2 ^ m ≤ (B + p.0) * 2 ^ m = mul-le-mul_right {m = 1} {n = B + p.0} (2 ^ m) (omega (arith, some)) in
+      absurd (omega (arith, p.1.bits_are, none, product, pow_pos m)),
+)
 
 -- the quotient with the hidden bit
 pub ieee_is : (m B bits q top bottom : ℕ) → 23 ≤ m → q < 2 ^ 24 → bits ≢ 0 → B ≤ bits / 2 ^ m → bits / 2 ^ m < B + 24

@@ -4,7 +4,7 @@
 -- 3-delta the three low bits are the direction. A g-delta is an unsigned number. Where its bit 0 is clear it holds a
 -- direction in bits 1 to 3 and the magnitude above. Where its bit 0 is set, bit 1 says west, the bits above it are the x
 -- magnitude, and a signed y follows.
-use Rattle.std.specs.Prelude.{ℕ, zero, suc, ◌*◌, ◌/◌, ◌%◌, ◌≡◌, ◌⊎◌, ℤ, pos, neg_ℤ, List}
+use Rattle.std.specs.Prelude.{ℕ, zero, suc, ◌/◌, ◌%◌, ◌≡◌, ◌⊎◌, ℤ, pos, neg_ℤ, List}
 use Rattle.half_grid.specs.declared.plane.Point.{Point}
 use Rattle.oas_lex.specs.declared.LexBad.{LexBad}
 use Rattle.oas_lex.specs.Numbers.{HasUnsigned, HasSigned}

@@ -6,7 +6,7 @@
 use Rattle.std.specs.Prelude.{ℕ, zero, suc, ◌+◌, ◌-◌, ◌*◌, ◌/◌, ◌%◌, ◌^◌, ◌<◌, ◌≤◌, ◌≡◌, ◌≢◌, ◌⊎◌, ℤ, pos, neg_ℤ, unsigned_abs, Option, Some, None, List, length, drop, slice_index, nat_lt, if◌then◌else◌}
 use Rattle.byteorder.specs.Endian.{little_number}
 use Rattle.oas_lex.specs.declared.LexBad.{LexBad}
-use Rattle.oas_lex.specs.declared.LexBad.TheVariants.{Short, RealKind}
+use Rattle.oas_lex.specs.declared.LexBad.TheVariants.{RealKind}
 use Rattle.oas_lex.specs.declared.reals.Real.{Real}
 use Rattle.oas_lex.specs.Numbers.{HasUnsigned}
 use Rattle.oas_lex.specs.Strings.{HasBytes, NumberFails, BytesFail}

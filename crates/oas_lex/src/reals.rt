@@ -6,6 +6,7 @@ const MOST: u64 = 1 << 24;
 
 /// The fraction bits of an IEEE single, and of a double.
 const SINGLE: u32 = 23;
+
 const DOUBLE: u32 = 52;
 
 /// A real as it is spelled: its kind, 0 to 7, and its numbers. A number that the kind doesn't have is 0; the bits of an

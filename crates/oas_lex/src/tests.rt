@@ -1,8 +1,9 @@
 use crate::{
-    LexBad, ROOM, ShotFields, Spell, end_text, head_text, put_signed, put_unsigned, shot_laws,
-    signed, spell_fields, spell_shot, spelling_laws, unsigned,
+    LexBad, ROOM, Real, ShotFields, Spell, delta_g, delta2, delta3, end_of_bytes, end_text,
+    head_text, put_signed, put_unsigned, real, real_whole, shot_laws, signed, spell_fields,
+    spell_shot, spelling_laws, text, unsigned,
 };
-use half_grid::{Line, REACH, Trap};
+use half_grid::{Line, Point, REACH, Trap};
 use std::process::Abort;
 
 const MOST: u64 = (1 << 63) - 1;
@@ -187,4 +188,74 @@ fn begins_and_ends_a_shot_file(rt: HostRuntime) {
     assert_eq!(rt; end.len(), 256);
     assert_eq!(rt; &end[..4], [0x02, 0xFC, 0x01, 0x00].as_slice());
     assert!(rt; end[3..].iter().all(|byte| *byte == 0));
+}
+
+fn whole(bytes: &[u8]) -> Option<i64> {
+    match real(bytes, 0) {
+        Ok((real, _next)) => real_whole(real),
+        Err(_bad) => None,
+    }
+}
+
+#[test]
+fn reads_reals(rt: HostRuntime) {
+    let third = Real {
+        kind: 3,
+        a: 3,
+        b: 0,
+    };
+    assert_eq!(rt; real(&[0x05, 0x03, 0x03], 1), Ok((third, 3)));
+    let ratio = Real {
+        kind: 5,
+        a: 7,
+        b: 128,
+    };
+    assert_eq!(rt; real(&[0x05, 0x07, 0x80, 0x01, 0xFF], 0), Ok((ratio, 4)));
+    assert_eq!(rt; real(&[0x05, 0x07], 0), Err(LexBad::Short));
+    assert_eq!(rt; real(&[0x06, 0x00, 0x00, 0x00], 0), Err(LexBad::Short));
+    assert_eq!(rt; real(&[0x08], 0), Err(LexBad::RealKind));
+    assert_eq!(rt; real(&[0x08], 1), Err(LexBad::Short));
+}
+
+#[test]
+fn takes_whole_reals(rt: HostRuntime) {
+    assert_eq!(rt; whole(&[0x00, 0x05]), Some(5));
+    assert_eq!(rt; whole(&[0x01, 0x05]), Some(-5));
+    assert_eq!(rt; whole(&[0x02, 0x01]), Some(1));
+    assert_eq!(rt; whole(&[0x02, 0x02]), None);
+    assert_eq!(rt; whole(&[0x03, 0x00]), None);
+    assert_eq!(rt; whole(&[0x04, 0x06, 0x02]), Some(3));
+    assert_eq!(rt; whole(&[0x05, 0x06, 0x04]), None);
+    assert_eq!(rt; whole(&[0x05, 0x06, 0x00]), None);
+    assert_eq!(rt; whole(&[0x01, 0xFF, 0xFF, 0xFF, 0x07]), Some(1 - (1 << 24)));
+    assert_eq!(rt; whole(&[0x00, 0x80, 0x80, 0x80, 0x08]), None);
+    // 90 and 270 as doubles, 1, -2 and 0.5 as singles, 0 with its sign.
+    assert_eq!(rt; whole(&[0x07, 0, 0, 0, 0, 0, 0x80, 0x56, 0x40]), Some(90));
+    assert_eq!(rt; whole(&[0x07, 0, 0, 0, 0, 0, 0xE0, 0x70, 0x40]), Some(270));
+    assert_eq!(rt; whole(&[0x06, 0, 0, 0x80, 0x3F]), Some(1));
+    assert_eq!(rt; whole(&[0x06, 0, 0, 0, 0xC0]), Some(-2));
+    assert_eq!(rt; whole(&[0x06, 0, 0, 0, 0x3F]), None);
+    assert_eq!(rt; whole(&[0x06, 0, 0, 0, 0x80]), Some(0));
+}
+
+#[test]
+fn reads_deltas(rt: HostRuntime) {
+    assert_eq!(rt; delta2(&[0x0D], 0), Ok((Point { x: 0, y: 3 }, 1)));
+    assert_eq!(rt; delta3(&[0x2C], 0), Ok((Point { x: 5, y: 5 }, 1)));
+    assert_eq!(rt; delta_g(&[0x74], 0), Ok((Point { x: -7, y: 0 }, 1)));
+    assert_eq!(rt;
+        delta_g(&[0xA1, 0x01, 0x00], 0),
+        Ok((Point { x: 40, y: 0 }, 3))
+    );
+    assert_eq!(rt; delta_g(&[0x07, 0x05], 0), Ok((Point { x: -1, y: -2 }, 2)));
+    assert_eq!(rt; delta3(&[0x0E], 0), Ok((Point { x: -1, y: -1 }, 1)));
+    assert_eq!(rt; delta_g(&[0x07], 0), Err(LexBad::Short));
+}
+
+#[test]
+fn reads_strings(rt: HostRuntime) {
+    assert_eq!(rt; text(&[0x02, 0x41, 0x42, 0x43], 0), Ok((1, 3)));
+    assert_eq!(rt; text(&[0x00], 0), Ok((1, 1)));
+    assert_eq!(rt; text(&[0x03, 0x41, 0x42], 0), Err(LexBad::Short));
+    assert_eq!(rt; end_of_bytes(&[0x41, 0x42], 1, 1), Ok(2));
 }

@@ -1,5 +1,4 @@
 use Rattle.std.proofs.Common.{refl}
-use Rattle.oas_lex.specs.Deltas.{HasDelta2}
 use Rattle.oas_lex.proofs.Readers.{found_ok, delta2_reader}
 use Rattle.oas_lex.proofs.deltas.delta2.Goals as goal
 

@@ -1,5 +1,4 @@
 use Rattle.std.proofs.Common.{refl}
-use Rattle.oas_lex.specs.Deltas.{HasDelta3}
 use Rattle.oas_lex.proofs.Readers.{found_ok, delta3_reader}
 use Rattle.oas_lex.proofs.deltas.delta3.Goals as goal
 

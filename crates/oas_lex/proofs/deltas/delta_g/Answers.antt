@@ -9,11 +9,15 @@ returns-then-code-eq0-clause-found c = λ p next. found_ok (delta_g_reader c.arg
     (inl (c.in_ok-code.code, record { even = c.if-code-eq0.true; spells = c.in_ok-code.ensures.ok; value = c.towards.ensures })) (p, next)
 
 fails : (c : goal.After-from_residual-in_err-y) → DeltaGFails c.args.bytes.now c.args.at c.in_err-y.field-0.0
-fails c = inr (c.in_ok-code.code, c.in_ok-code.next, record {
-  odd = omega (arith, c.if-code-eq0.false);
-  spells = c.in_ok-code.ensures.ok;
-  fails = number_fails _ _ _ _ c.in_err-y.ensures.short c.in_err-y.ensures.wide c.in_err-y.ensures.no_real refl;
-})
+fails c = inr (
+  c.in_ok-code.code,
+  c.in_ok-code.next,
+  record {
+    odd = omega (arith, c.if-code-eq0.false);
+    spells = c.in_ok-code.ensures.ok;
+    fails = number_fails _ _ _ _ c.in_err-y.ensures.short c.in_err-y.ensures.wide c.in_err-y.ensures.no_real refl;
+  },
+)
 
 pub returns-in_err-y-clause-found : goal.returns-in_err-y-clause-found
 returns-in_err-y-clause-found c = λ p next. found_err (delta_g_reader c.args.bytes.now c.args.at) c.from_residual-in_err-y.result c.in_err-y.field-0.0 (refused _ _ c.from_residual-in_err-y.ensures.0 c.from_residual-in_err-y.ensures.1) (fails c) (p, next)
@@ -22,12 +26,17 @@ pub returns-in_err-y-clause-fault : goal.returns-in_err-y-clause-fault
 returns-in_err-y-clause-fault c = fault_err (delta_g_reader c.args.bytes.now c.args.at) c.from_residual-in_err-y.result c.in_err-y.field-0.0 (refused _ _ c.from_residual-in_err-y.ensures.0 c.from_residual-in_err-y.ensures.1) (fails c)
 
 has : (c : goal.After-sideways-x) → HasDeltaG c.args.bytes.now c.args.at (move c.sideways-x.result c.in_ok-y.y) c.in_ok-y.end
-has c = inr (c.in_ok-code.code, c.in_ok-code.next, c.in_ok-y.y, record {
-  odd = omega (arith, c.if-code-eq0.false);
-  spells = c.in_ok-code.ensures.ok;
-  spells_y = c.in_ok-y.ensures.ok;
-  value = ap (λ x. move x c.in_ok-y.y) c.sideways-x.ensures;
-})
+has c = inr (
+  c.in_ok-code.code,
+  c.in_ok-code.next,
+  c.in_ok-y.y,
+  record {
+    odd = omega (arith, c.if-code-eq0.false);
+    spells = c.in_ok-code.ensures.ok;
+    spells_y = c.in_ok-y.ensures.ok;
+    value = ap (λ x. move x c.in_ok-y.y) c.sideways-x.ensures;
+  },
+)
 
 pub returns-clause-found : goal.returns-clause-found
 returns-clause-found c =

@@ -1,4 +1,4 @@
-use Rattle.std.proofs.Common.{refl, arith}
+use Rattle.std.proofs.Common.{arith}
 use Rattle.oas_lex.proofs.Readers.{found_by, fault_by, real_reader, real_there, real_missing}
 use Rattle.oas_lex.proofs.real_readers.real.Goals as goal
 

@@ -9,12 +9,14 @@ returns-then-bits-eq0 c = λ q small. ieee_none c.args.fraction c.args.bias c.ar
 
 pub returns-then-exponent-bias : goal.returns-then-exponent-bias
 returns-then-exponent-bias c = λ q small.
-    let whole : (1 * 2 ^ c.args.fraction) % 2 ^ 64 ≡ 2 ^ c.args.fraction = one_shl c.args.fraction 64 (omega (arith, c.requires.fraction.1)) in
-    (λ e. absurd (cc), λ p. absurd (ieee_outside c.args.fraction c.args.bias c.args.bits q c.requires.fraction.0 small c.if-bits-eq0.false
-      (elim c.then-exponent-bias.branch [
-        | then-exponent-bias-via-then-exponent-bias w ↦ inl (rw whole at w.if-exponent-bias.true)
-        | then-exponent-bias-via-else-exponent-bias+then-exponent-bias-2 w ↦ inr (rw whole at w.if-exponent-bias-2.true)
-      ]) p))
+    let whole : (1 * 2 ^ c.args.fraction) % 2 ^ 64 ≡ 2 ^ c.args.fraction = one_shl c.args.fraction 64 (omega (arith, c.requires.fraction.1)) in (
+      λ e. absurd (cc),
+      λ p. absurd (ieee_outside c.args.fraction c.args.bias c.args.bits q c.requires.fraction.0 small c.if-bits-eq0.false
+          (elim c.then-exponent-bias.branch [
+            | then-exponent-bias-via-then-exponent-bias w ↦ inl (rw whole at w.if-exponent-bias.true)
+            | then-exponent-bias-via-else-exponent-bias+then-exponent-bias-2 w ↦ inr (rw whole at w.if-exponent-bias-2.true)
+          ]) p),
+    )
 
 pub returns : goal.returns
 returns c = λ q small.
