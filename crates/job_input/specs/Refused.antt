@@ -21,17 +21,19 @@ pub record HoldsDeckFault (c : Content) (layout deck : List ℕ) (bad : DeckBad)
   pub holds : Holds c deck 65536 bytes
   pub fault : IsFirstDeckFault bytes layout deck bad
 
--- ---- the layout, behind an accepted deck
+-- ---- the layout, behind an accepted deck, with the name of the deck's top cell
 
 -- the layout has more than 268,435,456 bytes
-pub record IsLongLayout (c : Content) (layout deck : List ℕ) : Type 0 where
+pub record IsLongLayout (c : Content) (layout deck : List ℕ) (top : List ℕ) : Type 0 where
   pub deck_is : Deck
+  pub top_is : top ≡ deck_is.top
   pub holds_deck : HoldsDeck c layout deck deck_is
   pub long : IsLongerThan 268435456 c layout
 
 -- the layout has bytes within the limit, the first of which is 25 hex
-pub record HoldsOasis (c : Content) (layout deck : List ℕ) : Type 0 where
+pub record HoldsOasis (c : Content) (layout deck : List ℕ) (top : List ℕ) : Type 0 where
   pub deck_is : Deck
+  pub top_is : top ≡ deck_is.top
   pub holds_deck : HoldsDeck c layout deck deck_is
   pub bytes : List ℕ
   pub holds : Holds c layout 268435456 bytes
@@ -43,8 +45,9 @@ pub record IsGdsFaultFor (d : Deck) (bytes : List ℕ) (bad : GdsBad) : Type 0 w
   pub fault : IsFirstGdsFault bytes d.unit (layers_of d.steps) bad
 
 -- the layout has bytes within the limit that are no GDSII layout, and this is their first fault
-pub record HoldsGdsFault (c : Content) (layout deck : List ℕ) (bad : GdsBad) : Type 0 where
+pub record HoldsGdsFault (c : Content) (layout deck : List ℕ) (bad : GdsBad) (top : List ℕ) : Type 0 where
   pub deck_is : Deck
+  pub top_is : top ≡ deck_is.top
   pub holds_deck : HoldsDeck c layout deck deck_is
   pub bytes : List ℕ
   pub holds : Holds c layout 268435456 bytes
@@ -55,11 +58,12 @@ pub record HoldsGdsFault (c : Content) (layout deck : List ℕ) (bad : GdsBad) :
 abbrev pub IsTreeFaultFor : Deck → Layout → TreeBad → Type 0
 IsTreeFaultFor d l bad =
     ((bad ≡ NoTop) × (cell_number l.cells d.top ≡ None))
-    ⊎ ((top : ℕ) × (cell_number l.cells d.top ≡ Some top) × (bad ≢ TreeWanting) × IsFirstTreeFault l.cells top bad)
+    ⊎ ((n : ℕ) × (cell_number l.cells d.top ≡ Some n) × (bad ≢ TreeWanting) × IsFirstTreeFault l.cells n bad)
 
 -- the layout is one whose cells are no tree within the limits, and this is a first fault
-pub record HoldsTreeFault (c : Content) (layout deck : List ℕ) (bad : TreeBad) : Type 0 where
+pub record HoldsTreeFault (c : Content) (layout deck : List ℕ) (bad : TreeBad) (top : List ℕ) : Type 0 where
   pub deck_is : Deck
+  pub top_is : top ≡ deck_is.top
   pub holds_deck : HoldsDeck c layout deck deck_is
   pub layout_is : Layout
   pub holds_layout : HoldsLayout c layout deck_is layout_is

@@ -4,7 +4,7 @@ ghost use Rattle.depot.specs.Content.{IsNotThere, ChangesLeftOnly, with_left};
 ghost use Rattle.depot.specs.Counts.{NeverFall, Rose};
 ghost use Rattle.deck_text.specs.Decks.{IsFirstFault};
 ghost use Rattle.job_input.specs.Clauses.{IsReal, CountsFor};
-ghost use Rattle.job_input.specs.Parts.{unread, IsDeckTold, IsDeckAnswer};
+ghost use Rattle.job_input.specs.Parts.{IsDeckTold, IsDeckAnswer};
 
 use crate::refusing::{DeckFault, InputBad};
 use deck_text::{Deck, DeckBad, read_deck};
@@ -13,17 +13,6 @@ use std::alloc::Global;
 
 /// A deck has at most so many bytes.
 const DECK_LIMIT: usize = 65_536;
-
-/// The answer to a file that wasn't read, where `long` is that to a file past its limit.
-pub(crate) fn unread(refused: Refused, long: InputBad) -> InputBad
-    ensures { result ≡ unread refused long }
-{
-    match refused {
-        Refused::Fault => InputBad::ReadFault,
-        Refused::TooLong => long,
-        Refused::NoMemory => InputBad::NoMemory,
-    }
-}
 
 // The answer to bytes that are no deck.
 fn refused(bad: DeckBad) -> InputBad
@@ -72,6 +61,8 @@ pub(crate) fn take_deck<D: Depot>(
 {
     match read_all(alloc, depot, deck, DECK_LIMIT) {
         Ok(bytes) => deck_in(alloc, &bytes, layout, deck),
-        Err(refused) => Err(unread(refused, InputBad::Deck(DeckFault::Long))),
+        Err(Refused::Fault) => Err(InputBad::ReadFault),
+        Err(Refused::TooLong) => Err(InputBad::Deck(DeckFault::Long)),
+        Err(Refused::NoMemory) => Err(InputBad::NoMemory),
     }
 }

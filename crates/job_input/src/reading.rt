@@ -1,5 +1,5 @@
 //! Deck and layout read from a depot.
-ghost use Rattle.std.specs.Prelude.{◌≡◌, ◌⊎◌, [], Ok, Err, IsTrue, IfOk, IfErr, OnOk};
+ghost use Rattle.std.specs.Prelude.{◌≡◌, ◌⊎◌, ℕ, List as Items, [], Ok, Err, IsTrue, IfErr, OnOk};
 ghost use Rattle.depot.specs.Content.{IsNotThere, IsLongerThan, ChangesLeftOnly, with_left};
 ghost use Rattle.depot.specs.Counts.{NeverFall, Rose};
 ghost use Rattle.gds_reader.specs.declared.refusing.GdsBad.{GdsBad as AGdsBad};
@@ -8,15 +8,16 @@ ghost use Rattle.deck_text.specs.declared.refusal.DeckBad.{DeckBad as ADeckBad};
 ghost use Rattle.job_input.specs.Accepted.{HoldsInput};
 ghost use Rattle.job_input.specs.Refused.{HoldsDeckFault, IsLongLayout, HoldsOasis, HoldsGdsFault, HoldsTreeFault, IsWanting};
 ghost use Rattle.job_input.specs.Clauses.{ComesExactlyWhere, ComesByKind, IsReal, CountsFor};
-ghost use Rattle.job_input.specs.Parts.{IsInputAnswer};
+ghost use Rattle.job_input.specs.Parts.{IsInputAnswer, layout_refused};
 ghost use Rattle.job_input.specs.declared.reading.Input.{Input as AnInput};
 
 use crate::decks::take_deck;
 use crate::layouts::take_tree;
-use crate::refusing::{DeckFault, InputBad, LayoutFault};
+use crate::refusing::{DeckFault, InputBad, LayoutBad, LayoutFault};
 use cell_tree::Tree;
 use deck_text::Deck;
 use depot::Depot;
+use layout_model::Name;
 use std::alloc::Global;
 
 /// What a job is about: an accepted deck, and the cells of an accepted layout below the deck's top cell.
@@ -26,6 +27,17 @@ pub struct Input {
     pub deck: Deck,
     /// The layout's cells. Shapes that are on none of the deck's layers were left out.
     pub tree: Tree,
+}
+
+// The answer to a refused layout.
+fn layout_refused(bad: LayoutBad, top: Name) -> InputBad
+    ensures { result ≡ layout_refused bad top }
+{
+    match bad {
+        LayoutBad::Refused(fault) => InputBad::Layout(fault, top),
+        LayoutBad::ReadFault => InputBad::ReadFault,
+        LayoutBad::NoMemory => InputBad::NoMemory,
+    }
 }
 
 // Reads deck and layout, by the table of answers.
@@ -51,8 +63,10 @@ fn read_both<D: Depot>(
     ensures counted { NeverFall (D.counts depot.old) (D.counts depot.new) }
 {
     let deck = take_deck(alloc, depot, layout, deck)?;
-    let tree = take_tree(alloc, depot, layout, &deck)?;
-    Ok(Input { deck, tree })
+    match take_tree(alloc, depot, layout, &deck) {
+        Ok(tree) => Ok(Input { deck, tree }),
+        Err(bad) => Err(layout_refused(bad, deck.top)),
+    }
 }
 
 /// Reads the deck and the layout of these names. The deck is read first and judged, then the layout is read and judged,
@@ -79,18 +93,19 @@ pub fn read_input<D: Depot>(
     ensures deck_bad { IsTrue D.tells → (bad : ADeckBad) → ComesExactlyWhere
         (Rose (D.counts depot.old).read_faults (D.counts depot.new).read_faults) result
         (Err (InputBad.Deck (DeckFault.Bad bad))) (HoldsDeckFault (D.content depot.old) layout.now deck.now bad) }
-    ensures layout_long { IsTrue D.tells → ComesExactlyWhere
+    // Those of the layout keep the name of the deck's top cell.
+    ensures layout_long { IsTrue D.tells → (top : Items ℕ) → ComesExactlyWhere
         (Rose (D.counts depot.old).read_faults (D.counts depot.new).read_faults) result
-        (Err (InputBad.Layout LayoutFault.Long)) (IsLongLayout (D.content depot.old) layout.now deck.now) }
-    ensures layout_early { IsTrue D.tells → ComesExactlyWhere
+        (Err (InputBad.Layout LayoutFault.Long top)) (IsLongLayout (D.content depot.old) layout.now deck.now top) }
+    ensures layout_early { IsTrue D.tells → (top : Items ℕ) → ComesExactlyWhere
         (Rose (D.counts depot.old).read_faults (D.counts depot.new).read_faults) result
-        (Err (InputBad.Layout LayoutFault.Early)) (HoldsOasis (D.content depot.old) layout.now deck.now) }
-    ensures layout_gds { IsTrue D.tells → (bad : AGdsBad) → ComesExactlyWhere
+        (Err (InputBad.Layout LayoutFault.Early top)) (HoldsOasis (D.content depot.old) layout.now deck.now top) }
+    ensures layout_gds { IsTrue D.tells → (bad : AGdsBad) (top : Items ℕ) → ComesExactlyWhere
         (Rose (D.counts depot.old).read_faults (D.counts depot.new).read_faults) result
-        (Err (InputBad.Layout (LayoutFault.Gds bad))) (HoldsGdsFault (D.content depot.old) layout.now deck.now bad) }
-    ensures layout_tree { IsTrue D.tells → (bad : ATreeBad) → ComesByKind
+        (Err (InputBad.Layout (LayoutFault.Gds bad) top)) (HoldsGdsFault (D.content depot.old) layout.now deck.now bad top) }
+    ensures layout_tree { IsTrue D.tells → (bad : ATreeBad) (top : Items ℕ) → ComesByKind
         (Rose (D.counts depot.old).read_faults (D.counts depot.new).read_faults) result
-        bad (HoldsTreeFault (D.content depot.old) layout.now deck.now bad) }
+        bad top (HoldsTreeFault (D.content depot.old) layout.now deck.now bad top) }
 
     // A fault of reading comes only where it was counted or a name that has to be read isn't there, and where such a name
     // isn't there only that comes or want of memory.

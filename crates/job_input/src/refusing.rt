@@ -2,6 +2,7 @@
 use cell_tree::TreeBad;
 use deck_text::DeckBad;
 use gds_reader::GdsBad;
+use layout_model::Name;
 
 /// Why a deck is refused.
 #[derive(Debug, Drop)]
@@ -30,9 +31,20 @@ pub enum LayoutFault {
 pub enum InputBad {
     /// The deck was read and is refused.
     Deck(DeckFault),
-    /// The deck is accepted, and the layout was read and is refused.
-    Layout(LayoutFault),
+    /// The deck is accepted, and the layout was read and is refused. The name is that of the deck's top cell.
+    Layout(LayoutFault, Name),
     /// A read failed, or a file that has to be read isn't there.
+    ReadFault,
+    /// Memory was wanting.
+    NoMemory,
+}
+
+/// Why there is no tree for an accepted deck.
+#[derive(Drop)]
+pub(crate) enum LayoutBad {
+    /// The layout was read and is refused.
+    Refused(LayoutFault),
+    /// A read failed, or the layout isn't there.
     ReadFault,
     /// Memory was wanting.
     NoMemory,
