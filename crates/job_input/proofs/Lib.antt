@@ -1,0 +1,4 @@
+mod Told
+mod Causes
+mod Goes
+mod Rows

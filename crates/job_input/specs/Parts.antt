@@ -2,6 +2,7 @@
 use Rattle.std.specs.Prelude.{◌≡◌, ◌⊎◌, ℕ, List, Result, Ok, Err, ⊤}
 use Rattle.depot.specs.Content.{Content, IsNotThere, IsLongerThan}
 use Rattle.depot.specs.Counts.{Counts, Rose}
+use Rattle.layout_model.specs.Layouts.{IsLayoutOnGrid}
 use Rattle.layout_model.specs.declared.cells.Layout.{Layout}
 use Rattle.cell_tree.specs.Trees.{Rooted}
 use Rattle.deck_text.specs.Decks.{IsDeck, IsFirstFault}
@@ -62,22 +63,22 @@ IsRootTold d l (Err layouts.NoMemory) = ⊤
 
 -- what is told of the bytes of a layout
 abbrev pub IsTreeTold : Deck → List ℕ → Result Rooted LayoutBad → Type 0
-IsTreeTold d bytes (Ok t) = IsLayoutFor d bytes t.layout × IsTreeFor d t
+IsTreeTold d bytes (Ok t) = IsLayoutFor d bytes t.layout × IsTreeFor d t × IsLayoutOnGrid t.layout
 IsTreeTold d bytes (Err (layouts.Refused layout_faults.Long)) = ⊥
 IsTreeTold d bytes (Err (layouts.Refused layout_faults.Early)) = BeginsAsOasis bytes
 IsTreeTold d bytes (Err (layouts.Refused (layout_faults.Gds bad))) = IsGdsFaultFor d bytes bad
-IsTreeTold d bytes (Err (layouts.Refused (layout_faults.Tree bad))) = (l : Layout) × IsLayoutFor d bytes l × IsTreeFaultFor d l bad
+IsTreeTold d bytes (Err (layouts.Refused (layout_faults.Tree bad))) = (l : Layout) × IsLayoutFor d bytes l × IsTreeFaultFor d l bad × IsLayoutOnGrid l
 IsTreeTold d bytes (Err layouts.ReadFault) = ⊥
 IsTreeTold d bytes (Err layouts.NoMemory) = ⊤
 
 -- what is told of the layout's name
 abbrev pub IsTreeAnswer : Content → (read_rose : Type 0) → List ℕ → Deck → Result Rooted LayoutBad → Type 0
-IsTreeAnswer c read_rose layout d (Ok t) = HoldsLayout c layout d t.layout × IsTreeFor d t
+IsTreeAnswer c read_rose layout d (Ok t) = HoldsLayout c layout d t.layout × IsTreeFor d t × IsLayoutOnGrid t.layout
 IsTreeAnswer c read_rose layout d (Err (layouts.Refused layout_faults.Long)) = IsLongerThan 268435456 c layout
 IsTreeAnswer c read_rose layout d (Err (layouts.Refused layout_faults.Early)) = (bytes : List ℕ) × Holds c layout 268435456 bytes × BeginsAsOasis bytes
 IsTreeAnswer c read_rose layout d (Err (layouts.Refused (layout_faults.Gds bad))) =
     (bytes : List ℕ) × Holds c layout 268435456 bytes × IsGdsFaultFor d bytes bad
-IsTreeAnswer c read_rose layout d (Err (layouts.Refused (layout_faults.Tree bad))) = (l : Layout) × HoldsLayout c layout d l × IsTreeFaultFor d l bad
+IsTreeAnswer c read_rose layout d (Err (layouts.Refused (layout_faults.Tree bad))) = (l : Layout) × HoldsLayout c layout d l × IsTreeFaultFor d l bad × IsLayoutOnGrid l
 IsTreeAnswer c read_rose layout d (Err layouts.ReadFault) = read_rose ⊎ IsNotThere c layout
 IsTreeAnswer c read_rose layout d (Err layouts.NoMemory) = ⊤
 
@@ -108,12 +109,13 @@ layout_refused layouts.NoMemory top = answers.NoMemory
 -- ---- both
 
 abbrev pub IsInputAnswer : Content → (read_rose : Type 0) → (layout deck : List ℕ) → Answer → Type 0
-IsInputAnswer c read_rose layout deck (Ok input) = HoldsInput c layout deck input
+IsInputAnswer c read_rose layout deck (Ok input) = HoldsInput c layout deck input × IsLayoutOnGrid input.tree.layout
 IsInputAnswer c read_rose layout deck (Err (answers.Deck deck_faults.Long)) = IsLongerThan 65536 c deck
 IsInputAnswer c read_rose layout deck (Err (answers.Deck (deck_faults.Bad bad))) = HoldsDeckFault c layout deck bad
 IsInputAnswer c read_rose layout deck (Err (answers.Layout layout_faults.Long top)) = IsLongLayout c layout deck top
 IsInputAnswer c read_rose layout deck (Err (answers.Layout layout_faults.Early top)) = HoldsOasis c layout deck top
 IsInputAnswer c read_rose layout deck (Err (answers.Layout (layout_faults.Gds bad) top)) = HoldsGdsFault c layout deck bad top
-IsInputAnswer c read_rose layout deck (Err (answers.Layout (layout_faults.Tree bad) top)) = HoldsTreeFault c layout deck bad top
+IsInputAnswer c read_rose layout deck (Err (answers.Layout (layout_faults.Tree bad) top)) =
+    (h : HoldsTreeFault c layout deck bad top) × IsLayoutOnGrid h.layout_is
 IsInputAnswer c read_rose layout deck (Err answers.ReadFault) = read_rose ⊎ IsWanting c layout deck
 IsInputAnswer c read_rose layout deck (Err answers.NoMemory) = ⊤
