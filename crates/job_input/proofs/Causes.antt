@@ -46,27 +46,27 @@ fits c name limit bytes h long =
 -- ---- the classes
 
 -- what the layout is for an accepted deck
-data LayoutClass : Type 0 where
+pub data LayoutClass : Type 0 where
   NoLayout : LayoutClass
   LongLayout : LayoutClass
   OasisLayout : LayoutClass
   GdsFault : GdsBad → LayoutClass
   GoodLayout : Layout → LayoutClass
 
-data Class : Type 0 where
+pub data Class : Type 0 where
   NoDeck : Class
   LongDeck : Class
   BadDeck : DeckBad → Class
   GoodDeck : Deck → LayoutClass → Class
 
-IsLayoutClass : Content → List ℕ → Deck → LayoutClass → Type 0
+abbrev pub IsLayoutClass : Content → List ℕ → Deck → LayoutClass → Type 0
 IsLayoutClass c layout d NoLayout = IsNotThere c layout
 IsLayoutClass c layout d LongLayout = IsLongerThan 268435456 c layout
 IsLayoutClass c layout d OasisLayout = (bytes : List ℕ) × Holds c layout 268435456 bytes × BeginsAsOasis bytes
 IsLayoutClass c layout d (GdsFault bad) = (bytes : List ℕ) × Holds c layout 268435456 bytes × IsGdsFaultFor d bytes bad
 IsLayoutClass c layout d (GoodLayout l) = HoldsLayout c layout d l
 
-IsClass : Content → (layout deck : List ℕ) → Class → Type 0
+abbrev pub IsClass : Content → (layout deck : List ℕ) → Class → Type 0
 IsClass c layout deck NoDeck = IsNotThere c deck
 IsClass c layout deck LongDeck = IsLongerThan 65536 c deck
 IsClass c layout deck (BadDeck bad) = HoldsDeckFault c layout deck bad
@@ -94,28 +94,28 @@ module _ (c : Content) (layout : List ℕ) (d : Deck) where
   one_layout_class : (x y : LayoutClass) → IsLayoutClass c layout d x → IsLayoutClass c layout d y → x ≡ y
   one_layout_class NoLayout NoLayout h g = refl
   one_layout_class NoLayout LongLayout h g = absurd (longer_there 268435456 c layout h g)
-  one_layout_class NoLayout OasisLayout h g = absurd (there c layout 268435456 g.0 g.1.0 h)
-  one_layout_class NoLayout (GdsFault bad) h g = absurd (there c layout 268435456 g.0 g.1.0 h)
+  one_layout_class NoLayout OasisLayout h g = absurd (there c layout 268435456 g.0 g.1 h)
+  one_layout_class NoLayout (GdsFault bad) h g = absurd (there c layout 268435456 g.0 g.1 h)
   one_layout_class NoLayout (GoodLayout l) h g = absurd (there c layout 268435456 g.bytes g.holds h)
   one_layout_class LongLayout NoLayout h g = absurd (longer_there 268435456 c layout g h)
   one_layout_class LongLayout LongLayout h g = refl
-  one_layout_class LongLayout OasisLayout h g = absurd (fits c layout 268435456 g.0 g.1.0 h)
-  one_layout_class LongLayout (GdsFault bad) h g = absurd (fits c layout 268435456 g.0 g.1.0 h)
+  one_layout_class LongLayout OasisLayout h g = absurd (fits c layout 268435456 g.0 g.1 h)
+  one_layout_class LongLayout (GdsFault bad) h g = absurd (fits c layout 268435456 g.0 g.1 h)
   one_layout_class LongLayout (GoodLayout l) h g = absurd (fits c layout 268435456 g.bytes g.holds h)
-  one_layout_class OasisLayout NoLayout h g = absurd (there c layout 268435456 h.0 h.1.0 g)
-  one_layout_class OasisLayout LongLayout h g = absurd (fits c layout 268435456 h.0 h.1.0 g)
+  one_layout_class OasisLayout NoLayout h g = absurd (there c layout 268435456 h.0 h.1 g)
+  one_layout_class OasisLayout LongLayout h g = absurd (fits c layout 268435456 h.0 h.1 g)
   one_layout_class OasisLayout OasisLayout h g = refl
-  one_layout_class OasisLayout (GdsFault bad) h g = absurd (oasis_not h.0 g.0 (same_bytes h.0 g.0 h.1.0 g.1.0) h.1.1 g.1.1.not_oasis)
-  one_layout_class OasisLayout (GoodLayout l) h g = absurd (oasis_not h.0 g.bytes (same_bytes h.0 g.bytes h.1.0 g.holds) h.1.1 g.is_layout.not_oasis)
-  one_layout_class (GdsFault bad) NoLayout h g = absurd (there c layout 268435456 h.0 h.1.0 g)
-  one_layout_class (GdsFault bad) LongLayout h g = absurd (fits c layout 268435456 h.0 h.1.0 g)
-  one_layout_class (GdsFault bad) OasisLayout h g = absurd (oasis_not g.0 h.0 (same_bytes g.0 h.0 g.1.0 h.1.0) g.1.1 h.1.1.not_oasis)
-  one_layout_class (GdsFault bad) (GdsFault other) h g = ap GdsFault (gds_gds h.0 g.0 bad other (same_bytes h.0 g.0 h.1.0 g.1.0) h.1.1 g.1.1)
-  one_layout_class (GdsFault bad) (GoodLayout l) h g = absurd (gds_good h.0 g.bytes bad l (same_bytes h.0 g.bytes h.1.0 g.holds) h.1.1 g.is_layout)
+  one_layout_class OasisLayout (GdsFault bad) h g = absurd (oasis_not h.0 g.0 (same_bytes h.0 g.0 h.1 g.1) h.2 g.2.not_oasis)
+  one_layout_class OasisLayout (GoodLayout l) h g = absurd (oasis_not h.0 g.bytes (same_bytes h.0 g.bytes h.1 g.holds) h.2 g.is_layout.not_oasis)
+  one_layout_class (GdsFault bad) NoLayout h g = absurd (there c layout 268435456 h.0 h.1 g)
+  one_layout_class (GdsFault bad) LongLayout h g = absurd (fits c layout 268435456 h.0 h.1 g)
+  one_layout_class (GdsFault bad) OasisLayout h g = absurd (oasis_not g.0 h.0 (same_bytes g.0 h.0 g.1 h.1) g.2 h.2.not_oasis)
+  one_layout_class (GdsFault bad) (GdsFault other) h g = ap GdsFault (gds_gds h.0 g.0 bad other (same_bytes h.0 g.0 h.1 g.1) h.2 g.2)
+  one_layout_class (GdsFault bad) (GoodLayout l) h g = absurd (gds_good h.0 g.bytes bad l (same_bytes h.0 g.bytes h.1 g.holds) h.2 g.is_layout)
   one_layout_class (GoodLayout l) NoLayout h g = absurd (there c layout 268435456 h.bytes h.holds g)
   one_layout_class (GoodLayout l) LongLayout h g = absurd (fits c layout 268435456 h.bytes h.holds g)
-  one_layout_class (GoodLayout l) OasisLayout h g = absurd (oasis_not g.0 h.bytes (same_bytes g.0 h.bytes g.1.0 h.holds) g.1.1 h.is_layout.not_oasis)
-  one_layout_class (GoodLayout l) (GdsFault bad) h g = absurd (gds_good g.0 h.bytes bad l (same_bytes g.0 h.bytes g.1.0 h.holds) g.1.1 h.is_layout)
+  one_layout_class (GoodLayout l) OasisLayout h g = absurd (oasis_not g.0 h.bytes (same_bytes g.0 h.bytes g.1 h.holds) g.2 h.is_layout.not_oasis)
+  one_layout_class (GoodLayout l) (GdsFault bad) h g = absurd (gds_good g.0 h.bytes bad l (same_bytes g.0 h.bytes g.1 h.holds) g.2 h.is_layout)
   one_layout_class (GoodLayout l) (GoodLayout m) h g = ap GoodLayout (good_good h.bytes g.bytes l m (same_bytes h.bytes g.bytes h.holds g.holds) h.is_layout g.is_layout)
 
 -- ---- just one class holds
