@@ -159,3 +159,12 @@ module _ (c : Content) (layout deck : List ℕ) where
   one_class (GoodDeck d x) LongDeck h g = absurd (fits c deck 65536 h.0.bytes h.0.holds g)
   one_class (GoodDeck d x) (BadDeck bad) h g = absurd (deck_fault d bad h.0 g)
   one_class (GoodDeck d x) (GoodDeck e y) h g = both_good d e x y h g
+
+-- ---- just one tree
+
+-- a layout has one tree for a deck
+pub same_root : (d : Deck) (t u : Rooted) → t.layout ≡ u.layout → IsTreeFor d t → IsTreeFor d u → t ≡ u
+same_root d t u of tree other =
+    let here : cell_number u.layout.cells d.top ≡ Some t.top = subst (λ (l : Layout). cell_number l.cells d.top ≡ Some t.top) of tree.top in
+    let top : t.top ≡ u.top = same_Some t.top u.top (sym here ∙ other.top) in
+    ap (λ (l : Layout). record { layout = l; top = t.top }) of ∙ ap (λ (n : ℕ). record { layout = u.layout; top = n }) top

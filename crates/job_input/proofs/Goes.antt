@@ -2,11 +2,13 @@
 use Rattle.std.proofs.Common.{◌≡◌, ◌⊎◌, inl, inr, ℕ, List, [], Err, refl, sym, subst}
 use Rattle.depot.specs.Content.{Content, with_left}
 use Rattle.depot.specs.Counts.{Counts, Rose}
+use Rattle.layout_model.specs.Layouts.{IsLayoutOnGrid}
 use Rattle.layout_model.specs.declared.cells.Layout.{Layout}
+use Rattle.cell_tree.specs.Trees.{Rooted}
 use Rattle.cell_tree.specs.declared.faults.TreeBad.{TreeBad}
 use Rattle.gds_reader.specs.declared.refusing.GdsBad.{GdsBad}
 use Rattle.deck_text.specs.declared.deck.Deck.{Deck}
-use Rattle.job_input.specs.Accepted.{Holds, HoldsDeck, HoldsLayout}
+use Rattle.job_input.specs.Accepted.{Holds, HoldsDeck, HoldsLayout, IsTreeFor, HoldsInput}
 use Rattle.job_input.specs.Parts.{IsTreeAnswer, IsInputAnswer, layout_refused}
 use Rattle.job_input.specs.declared.refusing.LayoutBad.{LayoutBad}
 use Rattle.job_input.specs.declared.refusing.LayoutBad.TheVariants as layouts
@@ -40,3 +42,13 @@ refused_for c m o n p layout deck d bad holds left same a =
     refused_here c (Rose o.read_faults p.read_faults) layout deck d bad holds
     (subst (λ (x : Counts). IsTreeAnswer (with_left c []) (Rose x.read_faults p.read_faults) layout d (Err bad)) same
     (subst (λ (x : Content). IsTreeAnswer x (Rose n.read_faults p.read_faults) layout d (Err bad)) left a))
+
+given_here : (c : Content) (layout deck : List ℕ) (d : Deck) (t : Rooted) → HoldsDeck c layout deck d → HoldsLayout (with_left c []) layout d t.layout × IsTreeFor d t × IsLayoutOnGrid t.layout
+    → HoldsInput c layout deck (record { deck = d; tree = t }) × IsLayoutOnGrid t.layout
+given_here c layout deck d t holds (h, tree, grid) = (record { holds_deck = holds; holds_layout = same_layout c layout d t.layout h; is_tree = tree }, grid)
+
+-- what is told of an accepted layout is told of both
+pub given_for : (c m : Content) (layout deck : List ℕ) (d : Deck) (t : Rooted) → HoldsDeck c layout deck d → m ≡ with_left c []
+    → HoldsLayout m layout d t.layout × IsTreeFor d t × IsLayoutOnGrid t.layout → HoldsInput c layout deck (record { deck = d; tree = t }) × IsLayoutOnGrid t.layout
+given_for c m layout deck d t holds left a =
+    given_here c layout deck d t holds (subst (λ (x : Content). HoldsLayout x layout d t.layout × IsTreeFor d t × IsLayoutOnGrid t.layout) left a)

@@ -2,3 +2,4 @@ mod Told
 mod Causes
 mod Goes
 mod Rows
+pub mod ForCallers

@@ -21,7 +21,7 @@ use Rattle.job_input.specs.declared.reading.Input.{Input}
 use Rattle.job_input.specs.declared.refusing.InputBad.TheVariants as answers
 use Rattle.job_input.specs.declared.refusing.DeckFault.TheVariants as deck_faults
 use Rattle.job_input.specs.declared.refusing.LayoutFault.TheVariants as layout_faults
-use Rattle.job_input.proofs.Causes.{LayoutClass, NoLayout, LongLayout, OasisLayout, GdsFault, GoodLayout, Class, NoDeck, LongDeck, BadDeck, GoodDeck, IsClass, one_class}
+use Rattle.job_input.proofs.Causes.{LayoutClass, NoLayout, LongLayout, OasisLayout, GdsFault, GoodLayout, Class, NoDeck, LongDeck, BadDeck, GoodDeck, IsClass, one_class, same_root}
 
 -- ---- the tree
 
@@ -143,12 +143,6 @@ module _ (c : Content) (read_rose : Type 0) (layout deck : List ℕ) where
       only = λ e. (told (Err (answers.Layout (layout_faults.Tree bad) top)) e).0;
       whenever = λ h. of_kind h.deck_is h.layout_is bad top h.top_is h.fault (due (GoodDeck h.deck_is (GoodLayout h.layout_is)) (h.holds_deck, h.holds_layout));
     }
-
-    same_root : (d : Deck) (t u : Rooted) → t.layout ≡ u.layout → IsTreeFor d t → IsTreeFor d u → t ≡ u
-    same_root d t u of tree other =
-        let here : cell_number u.layout.cells d.top ≡ Some t.top = subst (λ (l : Layout). cell_number l.cells d.top ≡ Some t.top) of tree.top in
-        let top : t.top ≡ u.top = same_Some t.top u.top (sym here ∙ other.top) in
-        ap (λ (l : Layout). record { layout = l; top = t.top }) of ∙ ap (λ (n : ℕ). record { layout = u.layout; top = n }) top
 
     given_by : (input : Input) → HoldsInput c layout deck input → DueTree input.deck input.tree.layout r ⊎ Aside read_rose r → (r ≡ Ok input) ⊎ Aside read_rose r
     given_by input h (inl (grid, inl (t, of, tree, e))) =

@@ -52,3 +52,11 @@ pub record HoldsInput (c : Content) (layout deck : List ℕ) (input : Input) : T
   pub holds_deck : HoldsDeck c layout deck input.deck
   pub holds_layout : HoldsLayout c layout input.deck input.tree.layout
   pub is_tree : IsTreeFor input.deck input.tree
+
+-- the deck and the layout of some bytes, whatever is told of where they stand
+pub record IsOfBytes (layout deck : List ℕ) (input : Input) : Type 0 where
+  pub deck_bytes : List ℕ
+  pub is_deck : IsDeck deck_bytes layout deck input.deck
+  pub layout_bytes : List ℕ
+  pub is_layout : IsLayoutFor input.deck layout_bytes input.tree.layout
+  pub is_tree : IsTreeFor input.deck input.tree

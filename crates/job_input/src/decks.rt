@@ -1,8 +1,8 @@
 //! The deck of a name.
-ghost use Rattle.std.specs.Prelude.{◌≡◌, ◌≢◌, ◌⊎◌, ◌≤◌, [], Ok, Err, IsTrue, IfErr, OnOk, length};
+ghost use Rattle.std.specs.Prelude.{◌≡◌, ◌≢◌, ◌⊎◌, ◌≤◌, ℕ, List, [], Err, IsTrue, IfOk, IfErr, OnOk, length};
 ghost use Rattle.depot.specs.Content.{IsNotThere, ChangesLeftOnly, with_left};
 ghost use Rattle.depot.specs.Counts.{NeverFall, Rose};
-ghost use Rattle.deck_text.specs.Decks.{IsFirstFault};
+ghost use Rattle.deck_text.specs.Decks.{IsDeck};
 ghost use Rattle.job_input.specs.Clauses.{IsReal, CountsFor};
 ghost use Rattle.job_input.specs.Parts.{IsDeckTold, IsDeckAnswer};
 
@@ -49,6 +49,7 @@ pub(crate) fn take_deck<D: Depot>(
     ensures read_fault { result ≡ Err InputBad.ReadFault
         → Rose (D.counts depot.old).read_faults (D.counts depot.new).read_faults
         ⊎ (IsTrue D.tells × IsNotThere (D.content depot.old) deck.now) }
+    ensures of_bytes { IfOk result (λ d. (bytes : List ℕ) × IsDeck bytes layout.now deck.now d) }
     ensures missing { IsTrue D.tells → IsNotThere (D.content depot.old) deck.now
         → (result ≡ Err InputBad.ReadFault)
         ⊎ ((result ≡ Err InputBad.NoMemory) × Rose (D.counts depot.old).refused (D.counts depot.new).refused) }

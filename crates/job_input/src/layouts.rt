@@ -1,9 +1,9 @@
 //! The layout of a name.
-ghost use Rattle.std.specs.Prelude.{◌≡◌, ◌≢◌, ◌⊎◌, ◌↔◌, [], Ok, Err, IsTrue, IfOk, IfErr, OnOk};
+ghost use Rattle.std.specs.Prelude.{◌≡◌, ◌≢◌, ◌⊎◌, ◌↔◌, ℕ, List, [], Err, IsTrue, IfOk, IfErr, OnOk};
 ghost use Rattle.depot.specs.Content.{IsNotThere, ChangesLeftOnly, with_left};
 ghost use Rattle.depot.specs.Counts.{NeverFall, Rose};
 ghost use Rattle.layout_model.specs.Layouts.{IsLayoutOnGrid};
-ghost use Rattle.job_input.specs.Accepted.{BeginsAsOasis};
+ghost use Rattle.job_input.specs.Accepted.{BeginsAsOasis, IsLayoutFor, IsTreeFor};
 ghost use Rattle.job_input.specs.Parts.{IsLayoutTold, IsRootTold, IsTreeTold, IsTreeAnswer, IsRealLayout, LayoutCountsFor};
 
 use crate::refusing::{LayoutBad, LayoutFault};
@@ -100,6 +100,7 @@ pub(crate) fn take_tree<D: Depot>(
     ensures read_fault { result ≡ Err LayoutBad.ReadFault
         → Rose (D.counts depot.old).read_faults (D.counts depot.new).read_faults
         ⊎ (IsTrue D.tells × IsNotThere (D.content depot.old) layout.now) }
+    ensures of_bytes { IfOk result (λ t. (bytes : List ℕ) × IsLayoutFor deck.now bytes t.layout × IsTreeFor deck.now t) }
     ensures missing { IsTrue D.tells → IsNotThere (D.content depot.old) layout.now
         → (result ≡ Err LayoutBad.ReadFault)
         ⊎ ((result ≡ Err LayoutBad.NoMemory) × Rose (D.counts depot.old).refused (D.counts depot.new).refused) }

@@ -1,11 +1,11 @@
 //! Deck and layout read from a depot.
-ghost use Rattle.std.specs.Prelude.{◌≡◌, ◌⊎◌, ℕ, List as Items, [], Ok, Err, IsTrue, IfErr, OnOk};
+ghost use Rattle.std.specs.Prelude.{◌≡◌, ◌⊎◌, ℕ, List as Items, [], Ok, Err, IsTrue, IfOk, IfErr, OnOk};
 ghost use Rattle.depot.specs.Content.{IsNotThere, IsLongerThan, ChangesLeftOnly, with_left};
 ghost use Rattle.depot.specs.Counts.{NeverFall, Rose};
 ghost use Rattle.gds_reader.specs.declared.refusing.GdsBad.{GdsBad as AGdsBad};
 ghost use Rattle.cell_tree.specs.declared.faults.TreeBad.{TreeBad as ATreeBad};
 ghost use Rattle.deck_text.specs.declared.refusal.DeckBad.{DeckBad as ADeckBad};
-ghost use Rattle.job_input.specs.Accepted.{HoldsInput};
+ghost use Rattle.job_input.specs.Accepted.{HoldsInput, IsOfBytes};
 ghost use Rattle.job_input.specs.Refused.{HoldsDeckFault, IsLongLayout, HoldsOasis, HoldsGdsFault, HoldsTreeFault, IsWanting};
 ghost use Rattle.job_input.specs.Clauses.{ComesExactlyWhere, ComesByKind, IsReal, CountsFor};
 ghost use Rattle.job_input.specs.Parts.{IsInputAnswer, layout_refused};
@@ -55,6 +55,7 @@ fn read_both<D: Depot>(
     ensures missing_deck { IsTrue D.tells → IsNotThere (D.content depot.old) deck.now
         → (result ≡ Err InputBad.ReadFault)
         ⊎ ((result ≡ Err InputBad.NoMemory) × Rose (D.counts depot.old).refused (D.counts depot.new).refused) }
+    ensures of_bytes { IfOk result (IsOfBytes layout.now deck.now) }
     ensures real { IfErr result IsReal }
     ensures whole { OnOk result (IsTrue D.tells
         → D.content depot.new ≡ with_left (D.content depot.old) []) }
@@ -119,6 +120,9 @@ pub fn read_input<D: Depot>(
     ensures missing_deck { IsTrue D.tells → IsNotThere (D.content depot.old) deck.now
         → (result ≡ Err InputBad.ReadFault)
         ⊎ ((result ≡ Err InputBad.NoMemory) × Rose (D.counts depot.old).refused (D.counts depot.new).refused) }
+
+    // What is given is the deck and the layout of some bytes, over every depot.
+    ensures of_bytes { IfOk result (IsOfBytes layout.now deck.now) }
 
     // No fault that is kept is want of memory.
     ensures real { IfErr result IsReal }
