@@ -7,7 +7,6 @@ use Rattle.deck_text.specs.declared.deck.Deck.{Deck}
 use Rattle.job_input.specs.Accepted.{IsTreeFor, HoldsInput}
 use Rattle.job_input.specs.declared.reading.Input.{Input}
 use Rattle.job_input.proofs.Causes.{GoodLayout, GoodDeck, one_class, same_root}
-
 pub use Rattle.job_input.proofs.Causes.{deck_deck}
 
 pub one_input : (c : Content) (layout deck : List ℕ) (i j : Input) → HoldsInput c layout deck i → HoldsInput c layout deck j → i ≡ j

@@ -2,7 +2,6 @@
 use Rattle.std.proofs.Common.{◌≡◌, ◌≢◌, ◌⊎◌, inl, inr, ℕ, Option, Some, None, Result, Err, refl, sym, subst}
 use Rattle.layout_model.specs.declared.cells.Layout.{Layout}
 use Rattle.cell_tree.specs.Cells.{cell_number}
-
 use Rattle.cell_tree.specs.Faults.{IsFirstFault}
 use Rattle.cell_tree.specs.declared.faults.TreeBad.{TreeBad}
 use Rattle.cell_tree.specs.declared.faults.TreeBad.TheVariants.{NoTop, NoMemory as Wanting}
