@@ -12,3 +12,5 @@ pub use Rattle.cell_tree.proofs.FlatLemmas.{Has, has_any, any_has, has_left, has
 pub use Rattle.cell_tree.proofs.FlatLemmas.{vertex_cases, own_vertex, placed_vertex}
 pub use Rattle.cell_tree.proofs.ReachLemmas.{near_below, shapes_on_grid}
 pub use Rattle.cell_tree.proofs.FactorLemmas.{on_grid, mags_on_grid}
+-- A tree has no fault, and all first faults of a layout are of one kind.
+pub use Rattle.cell_tree.proofs.TreeLemmas.{no_fault, answered}

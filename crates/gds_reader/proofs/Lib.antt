@@ -1,3 +1,4 @@
+pub mod ForCallers
 mod KindLemmas
 mod GrammarLemmas
 mod PlaceLemmas

@@ -1,0 +1,19 @@
+-- What crates above may cite: a content has one deck and one input at most.
+use Rattle.std.proofs.Common.{◌≡◌, ℕ, List, ap, subst, ◌∙◌}
+use Rattle.depot.specs.Content.{Content}
+use Rattle.layout_model.specs.declared.cells.Layout.{Layout}
+use Rattle.cell_tree.specs.Trees.{Rooted}
+use Rattle.deck_text.specs.declared.deck.Deck.{Deck}
+use Rattle.job_input.specs.Accepted.{IsTreeFor, HoldsInput}
+use Rattle.job_input.specs.declared.reading.Input.{Input}
+use Rattle.job_input.proofs.Causes.{GoodLayout, GoodDeck, one_class, same_root}
+pub use Rattle.job_input.proofs.Causes.{deck_deck}
+
+pub one_input : (c : Content) (layout deck : List ℕ) (i j : Input) → HoldsInput c layout deck i → HoldsInput c layout deck j → i ≡ j
+one_input c layout deck i j h g =
+    let same : GoodDeck i.deck (GoodLayout i.tree.layout) ≡ GoodDeck j.deck (GoodLayout j.tree.layout) =
+    one_class c layout deck (GoodDeck i.deck (GoodLayout i.tree.layout)) (GoodDeck j.deck (GoodLayout j.tree.layout)) (h.holds_deck, h.holds_layout) (g.holds_deck, g.holds_layout) in
+    let decks : i.deck ≡ j.deck = cc in
+    let layouts : i.tree.layout ≡ j.tree.layout = cc in
+    let trees : i.tree ≡ j.tree = same_root j.deck i.tree j.tree layouts (subst (λ (d : Deck). IsTreeFor d i.tree) decks h.is_tree) g.is_tree in
+    ap (λ (d : Deck). record { deck = d; tree = i.tree }) decks ∙ ap (λ (t : Rooted). record { deck = j.deck; tree = t }) trees

@@ -1,0 +1,5 @@
+mod Told
+mod Causes
+mod Goes
+mod Rows
+pub mod ForCallers

@@ -1,0 +1,4 @@
+pub mod Accepted
+pub mod Refused
+pub mod Clauses
+pub mod Parts

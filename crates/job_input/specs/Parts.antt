@@ -1,0 +1,121 @@
+-- The table of answers, part by part: what bytes are, what a name holds, and the whole.
+use Rattle.std.specs.Prelude.{◌≡◌, ◌⊎◌, ℕ, List, Result, Ok, Err, ⊤}
+use Rattle.depot.specs.Content.{Content, IsNotThere, IsLongerThan}
+use Rattle.depot.specs.Counts.{Counts, Rose}
+use Rattle.layout_model.specs.Layouts.{IsLayoutOnGrid}
+use Rattle.layout_model.specs.declared.cells.Layout.{Layout}
+use Rattle.cell_tree.specs.Trees.{Rooted}
+use Rattle.deck_text.specs.Decks.{IsDeck, IsFirstFault}
+use Rattle.deck_text.specs.declared.deck.Deck.{Deck}
+use Rattle.job_input.specs.Accepted.{Holds, HoldsDeck, BeginsAsOasis, IsLayoutFor, HoldsLayout, IsTreeFor, HoldsInput}
+use Rattle.job_input.specs.Refused.{HoldsDeckFault, IsLongLayout, HoldsOasis, IsGdsFaultFor, HoldsGdsFault, IsTreeFaultFor, HoldsTreeFault, IsWanting}
+use Rattle.job_input.specs.Clauses.{Answer}
+use Rattle.job_input.specs.declared.refusing.InputBad.{InputBad}
+use Rattle.cell_tree.specs.declared.faults.TreeBad.TheVariants as tree_faults
+use Rattle.gds_reader.specs.declared.refusing.GdsBad.TheVariants as gds_bads
+use Rattle.job_input.specs.declared.refusing.InputBad.TheVariants as answers
+use Rattle.job_input.specs.declared.refusing.LayoutBad.{LayoutBad}
+use Rattle.job_input.specs.declared.refusing.LayoutBad.TheVariants as layouts
+use Rattle.job_input.specs.declared.refusing.DeckFault.TheVariants as deck_faults
+use Rattle.job_input.specs.declared.refusing.LayoutFault.TheVariants as layout_faults
+
+-- ---- the deck
+
+-- what is told of the bytes of a deck
+abbrev pub IsDeckTold : (bytes layout deck : List ℕ) → Result Deck InputBad → Type 0
+IsDeckTold bytes layout deck (Ok d) = IsDeck bytes layout deck d
+IsDeckTold bytes layout deck (Err (answers.Deck deck_faults.Long)) = ⊥
+IsDeckTold bytes layout deck (Err (answers.Deck (deck_faults.Bad bad))) = IsFirstFault bytes layout deck bad
+IsDeckTold bytes layout deck (Err (answers.Layout fault top)) = ⊥
+IsDeckTold bytes layout deck (Err answers.ReadFault) = ⊥
+IsDeckTold bytes layout deck (Err answers.NoMemory) = ⊤
+
+-- what is told of the deck's name
+abbrev pub IsDeckAnswer : Content → (read_rose : Type 0) → (layout deck : List ℕ) → Result Deck InputBad → Type 0
+IsDeckAnswer c read_rose layout deck (Ok d) = HoldsDeck c layout deck d
+IsDeckAnswer c read_rose layout deck (Err (answers.Deck deck_faults.Long)) = IsLongerThan 65536 c deck
+IsDeckAnswer c read_rose layout deck (Err (answers.Deck (deck_faults.Bad bad))) = HoldsDeckFault c layout deck bad
+IsDeckAnswer c read_rose layout deck (Err (answers.Layout fault top)) = ⊥
+IsDeckAnswer c read_rose layout deck (Err answers.ReadFault) = read_rose ⊎ IsNotThere c deck
+IsDeckAnswer c read_rose layout deck (Err answers.NoMemory) = ⊤
+
+-- ---- the layout, for an accepted deck
+
+-- what is told of the bytes of a layout, its tree aside
+abbrev pub IsLayoutTold : Deck → List ℕ → Result Layout LayoutBad → Type 0
+IsLayoutTold d bytes (Ok l) = IsLayoutFor d bytes l
+IsLayoutTold d bytes (Err (layouts.Refused layout_faults.Long)) = ⊥
+IsLayoutTold d bytes (Err (layouts.Refused layout_faults.Early)) = BeginsAsOasis bytes
+IsLayoutTold d bytes (Err (layouts.Refused (layout_faults.Gds bad))) = IsGdsFaultFor d bytes bad
+IsLayoutTold d bytes (Err (layouts.Refused (layout_faults.Tree bad))) = ⊥
+IsLayoutTold d bytes (Err layouts.ReadFault) = ⊥
+IsLayoutTold d bytes (Err layouts.NoMemory) = ⊤
+
+-- what is told of a layout's tree
+abbrev pub IsRootTold : Deck → Layout → Result Rooted LayoutBad → Type 0
+IsRootTold d l (Ok t) = (t.layout ≡ l) × IsTreeFor d t
+IsRootTold d l (Err (layouts.Refused layout_faults.Long)) = ⊥
+IsRootTold d l (Err (layouts.Refused layout_faults.Early)) = ⊥
+IsRootTold d l (Err (layouts.Refused (layout_faults.Gds bad))) = ⊥
+IsRootTold d l (Err (layouts.Refused (layout_faults.Tree bad))) = IsTreeFaultFor d l bad
+IsRootTold d l (Err layouts.ReadFault) = ⊥
+IsRootTold d l (Err layouts.NoMemory) = ⊤
+
+-- what is told of the bytes of a layout
+abbrev pub IsTreeTold : Deck → List ℕ → Result Rooted LayoutBad → Type 0
+IsTreeTold d bytes (Ok t) = IsLayoutFor d bytes t.layout × IsTreeFor d t × IsLayoutOnGrid t.layout
+IsTreeTold d bytes (Err (layouts.Refused layout_faults.Long)) = ⊥
+IsTreeTold d bytes (Err (layouts.Refused layout_faults.Early)) = BeginsAsOasis bytes
+IsTreeTold d bytes (Err (layouts.Refused (layout_faults.Gds bad))) = IsGdsFaultFor d bytes bad
+IsTreeTold d bytes (Err (layouts.Refused (layout_faults.Tree bad))) = (l : Layout) × IsLayoutFor d bytes l × IsTreeFaultFor d l bad × IsLayoutOnGrid l
+IsTreeTold d bytes (Err layouts.ReadFault) = ⊥
+IsTreeTold d bytes (Err layouts.NoMemory) = ⊤
+
+-- what is told of the layout's name
+abbrev pub IsTreeAnswer : Content → (read_rose : Type 0) → List ℕ → Deck → Result Rooted LayoutBad → Type 0
+IsTreeAnswer c read_rose layout d (Ok t) = HoldsLayout c layout d t.layout × IsTreeFor d t × IsLayoutOnGrid t.layout
+IsTreeAnswer c read_rose layout d (Err (layouts.Refused layout_faults.Long)) = IsLongerThan 268435456 c layout
+IsTreeAnswer c read_rose layout d (Err (layouts.Refused layout_faults.Early)) = (bytes : List ℕ) × Holds c layout 268435456 bytes × BeginsAsOasis bytes
+IsTreeAnswer c read_rose layout d (Err (layouts.Refused (layout_faults.Gds bad))) =
+    (bytes : List ℕ) × Holds c layout 268435456 bytes × IsGdsFaultFor d bytes bad
+IsTreeAnswer c read_rose layout d (Err (layouts.Refused (layout_faults.Tree bad))) = (l : Layout) × HoldsLayout c layout d l × IsTreeFaultFor d l bad × IsLayoutOnGrid l
+IsTreeAnswer c read_rose layout d (Err layouts.ReadFault) = read_rose ⊎ IsNotThere c layout
+IsTreeAnswer c read_rose layout d (Err layouts.NoMemory) = ⊤
+
+-- the fault that is kept isn't want of memory
+abbrev pub IsRealLayout : LayoutBad → Type 0
+IsRealLayout (layouts.Refused layout_faults.Long) = ⊤
+IsRealLayout (layouts.Refused layout_faults.Early) = ⊤
+IsRealLayout (layouts.Refused (layout_faults.Gds gds_bads.NoMemory)) = ⊥
+IsRealLayout (layouts.Refused (layout_faults.Gds bad)) = ⊤
+IsRealLayout (layouts.Refused (layout_faults.Tree tree_faults.NoMemory)) = ⊥
+IsRealLayout (layouts.Refused (layout_faults.Tree bad)) = ⊤
+IsRealLayout layouts.ReadFault = ⊤
+IsRealLayout layouts.NoMemory = ⊤
+
+-- what was counted
+abbrev pub LayoutCountsFor : {A : Type 0} → Counts → Counts → Result A LayoutBad → Type 0
+LayoutCountsFor old new (Ok given) = new ≡ old
+LayoutCountsFor old new (Err (layouts.Refused fault)) = new ≡ old
+LayoutCountsFor old new (Err layouts.ReadFault) = ⊤
+LayoutCountsFor old new (Err layouts.NoMemory) = Rose old.refused new.refused ⊎ (new ≡ old)
+
+-- the answer to a refused layout, of a deck with this top cell
+abbrev pub layout_refused : LayoutBad → List ℕ → InputBad
+layout_refused (layouts.Refused fault) top = answers.Layout fault top
+layout_refused layouts.ReadFault top = answers.ReadFault
+layout_refused layouts.NoMemory top = answers.NoMemory
+
+-- ---- both
+
+abbrev pub IsInputAnswer : Content → (read_rose : Type 0) → (layout deck : List ℕ) → Answer → Type 0
+IsInputAnswer c read_rose layout deck (Ok input) = HoldsInput c layout deck input × IsLayoutOnGrid input.tree.layout
+IsInputAnswer c read_rose layout deck (Err (answers.Deck deck_faults.Long)) = IsLongerThan 65536 c deck
+IsInputAnswer c read_rose layout deck (Err (answers.Deck (deck_faults.Bad bad))) = HoldsDeckFault c layout deck bad
+IsInputAnswer c read_rose layout deck (Err (answers.Layout layout_faults.Long top)) = IsLongLayout c layout deck top
+IsInputAnswer c read_rose layout deck (Err (answers.Layout layout_faults.Early top)) = HoldsOasis c layout deck top
+IsInputAnswer c read_rose layout deck (Err (answers.Layout (layout_faults.Gds bad) top)) = HoldsGdsFault c layout deck bad top
+IsInputAnswer c read_rose layout deck (Err (answers.Layout (layout_faults.Tree bad) top)) =
+    (h : HoldsTreeFault c layout deck bad top) × IsLayoutOnGrid h.layout_is
+IsInputAnswer c read_rose layout deck (Err answers.ReadFault) = read_rose ⊎ IsWanting c layout deck
+IsInputAnswer c read_rose layout deck (Err answers.NoMemory) = ⊤
