@@ -1,2 +1,1 @@
 mod Judging
-mod Counting
