@@ -1,14 +1,13 @@
 -- Whether a list has a tile, by the windings of its edges.
-use Rattle.std.proofs.Common.{◌≡◌, ◌≢◌, ◌≤ℤ◌, ◌<ℤ◌, ℤ, pos, Bool, true, not, refl, sym, ap, ◌∙◌, List, [], ◌∷◌, ◌++◌, count_by, subst, arith}
+use Rattle.std.proofs.Common.{◌≡◌, ◌≢◌, ◌≤ℤ◌, ◌<ℤ◌, ℤ, pos, Bool, true, not, refl, sym, ◌∙◌, List, [], ◌∷◌, count_by, subst, arith}
 use Rattle.std.specs.Ordering.{int_eq}
-use Rattle.std.specs.List.{All, flat_map, list_any}
-use Rattle.half_grid.specs.Trapezoids.{Trapezoid, IsLegal, IsShot, count_in, trapezoid_has}
-use Rattle.half_grid.specs.Edges.{EdgeParts, edges_of_trapezoid, edges_winding, is_of}
+use Rattle.std.specs.List.{list_any}
+use Rattle.half_grid.specs.Trapezoids.{Trapezoid, count_in, trapezoid_has}
+use Rattle.half_grid.specs.Edges.{EdgeParts, edges_winding}
 use Rattle.half_grid.specs.declared.plane.Tile.{Tile}
 use Rattle.half_grid.specs.declared.border.Operand.TheVariants.{A, B}
-use Rattle.half_grid.proofs.ForCallers.{count_by-cons, windings_add, winding_is_count, operands_apart}
+use Rattle.half_grid.proofs.ForCallers.{count_by-cons}
 use Rattle.std.proofs.lemmas.Int.{ints}
-use Rattle.std.proofs.lemmas.List.Elements.{All-weaker}
 use Rattle.half_grid.specs.Windows.{RowRange}
 use Rattle.trap_join.specs.Joins.{IsTakenIn}
 use Rattle.column_sweep.specs.Operands.{WindsByCount}

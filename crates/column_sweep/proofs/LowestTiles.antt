@@ -1,9 +1,9 @@
 -- The lowest tile that a rule takes, by the slabs of a scan.
-use Rattle.std.proofs.Common.{Option, Some, None, IfNone, ◌≡◌, ℤ, pos, ◌+ℤ◌, ◌≤ℤ◌, ◌<ℤ◌, ◌<◌, IsPermutation, Bool, arith, refl, sym, subst, ◌∙◌, List, [], ◌∷◌, length, get_or, All, Any}
+use Rattle.std.proofs.Common.{Option, Some, None, IfNone, ◌≡◌, ℤ, pos, ◌+ℤ◌, ◌≤ℤ◌, ◌<ℤ◌, ◌<◌, IsPermutation, Bool, arith, refl, sym, ◌∙◌, List, [], ◌∷◌, length, get_or, All}
 use Rattle.std.proofs.lemmas.Int.{ints, by_lt_z}
 use Rattle.std.proofs.lemmas.List.Elements.{All-head, All-cons, All-weaker, All-contains}
-use mathlib.Core.Logic.{◌⊎◌, inl, inr}
-use Rattle.half_grid.specs.Edges.{EdgeParts, edges_winding}
+use mathlib.Core.Logic.{inl, inr}
+use Rattle.half_grid.specs.Edges.{EdgeParts}
 use Rattle.half_grid.specs.Lines.{x_on}
 use Rattle.half_grid.specs.Reach.{IsWithinReach}
 use Rattle.half_grid.specs.Rows.{place, number_in_row}
@@ -18,7 +18,7 @@ use Rattle.scan_line.specs.Stops.{IsWithin}
 use Rattle.scan_line.specs.declared.runs.Run.{Run}
 use Rattle.scan_line.proofs.ForCallers.{taken_permuted, winding_permuted}
 use Rattle.trap_join.specs.Joins.{IsTakenIn}
-use Rattle.trap_join.proofs.ForCallers.{some_member, any_by}
+use Rattle.trap_join.proofs.ForCallers.{some_member}
 use Rattle.column_sweep.specs.Lowest.{ComesNoLater, IsLowest, TakesNone}
 use Rattle.column_sweep.specs.declared.lowest_tile.LowestTile.{LowestTile}
 

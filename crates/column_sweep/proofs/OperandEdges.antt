@@ -1,13 +1,13 @@
 -- The edges of trapezoids that have rows of a window: they are in balance, and wind by count.
-use Rattle.std.proofs.Common.{◌≡◌, ◌≢◌, ℤ, pos, ◌+ℤ◌, ◌≤ℤ◌, ◌<ℤ◌, ◌+◌, Bool, true, false, ◌&&◌, not, refl, sym, ap, ◌∙◌, add_comm, List, [], ◌∷◌, ◌++◌, All, count_by, cond, filter, arith}
+use Rattle.std.proofs.Common.{◌≡◌, ℤ, ◌≤ℤ◌, ◌<ℤ◌, ◌+◌, Bool, true, false, ◌&&◌, not, refl, sym, ap, ◌∙◌, add_comm, List, [], ◌∷◌, ◌++◌, All, count_by, filter, arith}
 use Rattle.std.specs.Prelude.{int_lt}
 use Rattle.std.specs.List.{flat_map}
 use Rattle.std.proofs.lemmas.Int.{ints}
 use Rattle.std.proofs.lemmas.List.Sums.{sum_by-append}
 use Rattle.std.proofs.lemmas.List.Elements.{All-head, All-tail, All-cons, All-nil}
 use Rattle.half_grid.specs.Winding.{count_one}
-use Rattle.half_grid.specs.Trapezoids.{Trapezoid, IsLegal, IsShot, IsInTrapezoid, count_in, trapezoid_has}
-use Rattle.half_grid.specs.Edges.{EdgeParts, edges_of_trapezoid, edges_winding, spans, is_of, left_edge, right_edge}
+use Rattle.half_grid.specs.Trapezoids.{Trapezoid, IsLegal, IsShot, count_in, trapezoid_has}
+use Rattle.half_grid.specs.Edges.{EdgeParts, edges_of_trapezoid, spans, is_of, left_edge, right_edge}
 use Rattle.half_grid.specs.Windows.{RowRange}
 use Rattle.half_grid.specs.declared.plane.Tile.{Tile}
 use Rattle.half_grid.specs.declared.border.Operand.{Operand}

@@ -1,6 +1,6 @@
 -- The edges of a list of trapezoids as an operand: at each tile of a window their winding is the number of trapezoids
 -- that have the tile.
-use Rattle.std.specs.Prelude.{ℤ, pos, ◌≤ℤ◌, ◌<ℤ◌, ◌≡◌, Bool, ◌&&◌, List, int_lt}
+use Rattle.std.specs.Prelude.{pos, ◌≤ℤ◌, ◌<ℤ◌, ◌≡◌, Bool, ◌&&◌, List, int_lt}
 use Rattle.std.specs.List.{flat_map, filter}
 use Rattle.half_grid.specs.Edges.{EdgeParts, edges_of_trapezoid, edges_winding}
 use Rattle.half_grid.specs.Trapezoids.{Trapezoid, count_in}

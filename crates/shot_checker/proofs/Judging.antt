@@ -1,17 +1,17 @@
 -- Which verdict it is, exactly where.
-use Rattle.std.proofs.Common.{◌≡◌, ◌≢◌, ℕ, ℤ, pos, ◌+◌, ◌<◌, ◌≤◌, ◌≤ℤ◌, ◌<ℤ◌, Some, refl, sym, ap, subst, ◌∙◌, List, length, slice_get, get_or, All, arith}
+use Rattle.std.proofs.Common.{◌≡◌, ℕ, ℤ, pos, ◌+◌, ◌<◌, ◌≤◌, Some, refl, sym, ap, subst, ◌∙◌, List, length, slice_get, get_or, All, arith}
 use Rattle.std.specs.Prelude.{◌↔◌}
 use Rattle.std.proofs.lemmas.Int.{ints, by_lt_z}
 use Rattle.std.proofs.lemmas.Option.{get_or_from_slice_get, slice_get_within, slice_get-get_or}
 use Rattle.std.proofs.lemmas.List.Elements.{All-get_or}
-use mathlib.Core.Logic.{◌⊎◌, inl, inr}
+use mathlib.Core.Logic.{inl, inr}
 use Rattle.half_grid.specs.Trapezoids.{Trapezoid, count_in}
 use Rattle.half_grid.specs.Windows.{RowRange}
 use Rattle.half_grid.specs.declared.plane.Tile.{Tile}
 use Rattle.half_grid.specs.declared.shot.Limits.{Limits}
 use Rattle.half_grid.proofs.ForCallers.{same_number}
 use Rattle.column_sweep.specs.Lowest.{ComesNoLater}
-use Rattle.shot_checker.specs.Verdicts.{Fits, IsFirstTooLarge, IsMiscovered, IsLowestMiscovered, IsFirstFault, CoversAlike, IsExact, IsMiscover}
+use Rattle.shot_checker.specs.Verdicts.{Fits, IsFirstTooLarge, IsFirstFault, CoversAlike, IsExact, IsMiscover}
 use Rattle.shot_checker.specs.declared.verdicts.Verdict.{Verdict}
 use Rattle.shot_checker.specs.declared.verdicts.Verdict.TheVariants.{Exact, Miscovered, TooLarge}
 

@@ -3,7 +3,7 @@
 -- The shots are exact over the rows of a window where each of them fits the limits, and each tile of the window is in as
 -- many shots as trapezoids of the area. Otherwise the first shot that doesn't fit is named, and where all fit, the
 -- lowest tile that is in another number of shots than of trapezoids, leftmost in its row.
-use Rattle.std.specs.Prelude.{ℕ, ℤ, ◌<◌, ◌≤ℤ◌, ◌<ℤ◌, ◌≡◌, ◌≢◌, List, Some, slice_get, All}
+use Rattle.std.specs.Prelude.{ℕ, ◌<◌, ◌≤ℤ◌, ◌<ℤ◌, ◌≡◌, ◌≢◌, List, Some, slice_get, All}
 use Rattle.half_grid.specs.Trapezoids.{Trapezoid, FitsLimits, count_in}
 use Rattle.half_grid.specs.Windows.{RowRange}
 use Rattle.half_grid.specs.declared.plane.Tile.{Tile}

@@ -1,4 +1,4 @@
-use Rattle.std.proofs.Common.{ℤ, Bool, ◌∙◌}
+use Rattle.std.proofs.Common.{ℤ, Bool}
 use Rattle.std.proofs.lemmas.Option.{IfSome_then}
 use Rattle.column_sweep.proofs.LowestTiles.{lowest_of_given, none_of_given, none_weaker}
 use Rattle.column_sweep.proofs.lowest_tile.lowest.Goals as goal

@@ -1,7 +1,5 @@
-use Rattle.std.proofs.Common.{refl, sym}
-use Rattle.shot_checker.specs.Verdicts.{IsMiscover}
 use Rattle.shot_checker.specs.declared.verdicts.Verdict.TheVariants.{Miscovered}
-use Rattle.shot_checker.proofs.Judging.{Says, count_is, exact_where, miscovered_where, too_large_where}
+use Rattle.shot_checker.proofs.Judging.{count_is, miscovered_where, too_large_where}
 use Rattle.shot_checker.proofs.verdicts.check.Goals as goal
 
 pub returns-clause-miscovered : goal.returns-clause-miscovered
