@@ -9,4 +9,4 @@ mod tests;
 mod verdicts;
 
 pub use limits::too_large;
-pub use verdicts::{Verdict, check};
+pub use verdicts::{Fault, Verdict, check, first_fault};

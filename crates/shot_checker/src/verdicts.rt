@@ -23,6 +23,17 @@ pub enum Verdict {
     TooLarge(usize),
 }
 
+/// A tile that is in another number of shots than it should be.
+#[derive(Clone, Copy, Debug, PartialEq, Eq)]
+pub struct Fault {
+    /// The tile.
+    pub tile: Tile,
+    /// The number of shots in which it is.
+    pub count: u64,
+    /// The number of shots in which it should be.
+    pub wanted: u64,
+}
+
 // The lowest tile, leftmost in its row, that is in another number of shots than of trapezoids of the area, with both
 // numbers as windings.
 fn first_difference(
@@ -41,14 +52,40 @@ fn first_difference(
     lowest(alloc, edges, window, Rule::new(asked))
 }
 
-// The two windings as numbers of trapezoids.
-fn counts_of(found: &LowestTile) -> (u64, u64)
+// The difference as a fault: the two windings are numbers of trapezoids.
+fn fault_of(found: &LowestTile) -> Fault
     requires count { IsCount found.now.a }
     requires wanted { IsCount found.now.b }
-    ensures count { pos result.0 ≡ found.now.a }
-    ensures wanted { pos result.1 ≡ found.now.b }
+    ensures tile { result.tile ≡ found.now.tile }
+    ensures count { pos result.count ≡ found.now.a }
+    ensures wanted { pos result.wanted ≡ found.now.b }
 {
-    (found.a as u64, found.b as u64)
+    Fault {
+        tile: found.tile,
+        count: found.a as u64,
+        wanted: found.b as u64,
+    }
+}
+
+/// The first fault of what shots cover in the rows of a window: the lowest tile, leftmost in its row, that is in another
+/// number of shots than of trapezoids of `area`. None exactly where there is no such tile. Want of memory is the only
+/// refusal.
+///
+/// Parts of shots outside of the window's rows are left out of account. The cost is that of a sweep of both lists up to
+/// the first slab with a fault.
+pub fn first_fault(
+    alloc: Global,
+    shots: &[Trap],
+    area: &[Trap],
+    window: Window,
+) -> Result<Option<Fault>, NoMemory>
+    ensures fault { IfOk result (λ answer. IfSome answer (λ fault. IsFirstFault shots.now area.now window fault.tile fault.count fault.wanted)) }
+    ensures none { IfOk result (λ answer. IfNone answer (CoversAlike shots.now area.now window)) }
+{
+    match first_difference(alloc, shots, area, window)? {
+        None => Ok(None),
+        Some(found) => Ok(Some(fault_of(&found))),
+    }
 }
 
 /// The verdict on shots, whoever made them, over the rows of a window. TooLarge where some shot doesn't fit the limits,
@@ -56,9 +93,6 @@ fn counts_of(found: &LowestTile) -> (u64, u64)
 /// trapezoids of `area`, with the lowest such tile, leftmost in its row, its number of shots and its wanted number.
 /// Otherwise Exact. So where no tile is in two trapezoids of `area`, Exact says that each tile of the window is in
 /// exactly one shot if it is in the area, and in none otherwise. Want of memory is the only refusal.
-///
-/// Parts of shots outside of the window's rows are left out of account. The cost is that of a sweep of both lists up to
-/// the first slab with a difference.
 pub fn check(
     alloc: Global,
     shots: &[Trap],
@@ -73,9 +107,8 @@ pub fn check(
     if let Some(k) = too_large(shots, limits) {
         return Ok(Verdict::TooLarge(k));
     }
-    let Some(found) = first_difference(alloc, shots, area, window)? else {
-        return Ok(Verdict::Exact);
-    };
-    let (count, wanted) = counts_of(&found);
-    Ok(Verdict::Miscovered(found.tile, count, wanted))
+    match first_fault(alloc, shots, area, window)? {
+        None => Ok(Verdict::Exact),
+        Some(fault) => Ok(Verdict::Miscovered(fault.tile, fault.count, fault.wanted)),
+    }
 }

@@ -1,6 +1,6 @@
 use Rattle.std.proofs.Common.{refl}
 use Rattle.std.proofs.lemmas.Option.{slice_get_read}
-use Rattle.shot_checker.proofs.Judging.{fit_one_more, all_fit}
+use Rattle.shot_checker.proofs.FirstTooLarge.{fit_one_more, all_fit}
 use Rattle.shot_checker.proofs.limits.too_large.Goals as goal
 
 pub loop-k-preserved : goal.loop-k-preserved
