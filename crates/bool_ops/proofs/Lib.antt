@@ -1,3 +1,2 @@
-mod BalanceLemmas
 mod TakingLemmas
 mod RowsLemmas

@@ -1,16 +1,16 @@
 -- Whether a list has a tile, by the windings of its edges.
-use Rattle.std.proofs.Common.{◌≡◌, ◌≢◌, ℤ, pos, Bool, true, not, refl, sym, ap, ◌∙◌, List, [], ◌∷◌, ◌++◌, count_by, subst, arith}
+use Rattle.std.proofs.Common.{◌≡◌, ◌≢◌, ◌≤ℤ◌, ◌<ℤ◌, ℤ, pos, Bool, true, not, refl, sym, ◌∙◌, List, [], ◌∷◌, count_by, subst, arith}
 use Rattle.std.specs.Ordering.{int_eq}
-use Rattle.std.specs.List.{All, flat_map, list_any}
-use Rattle.half_grid.specs.Trapezoids.{Trapezoid, IsLegal, IsShot, count_in, trapezoid_has}
-use Rattle.half_grid.specs.Edges.{EdgeParts, edges_of_trapezoid, edges_winding, is_of}
+use Rattle.std.specs.List.{list_any}
+use Rattle.half_grid.specs.Trapezoids.{Trapezoid, count_in, trapezoid_has}
+use Rattle.half_grid.specs.Edges.{EdgeParts, edges_winding}
 use Rattle.half_grid.specs.declared.plane.Tile.{Tile}
 use Rattle.half_grid.specs.declared.border.Operand.TheVariants.{A, B}
-use Rattle.half_grid.proofs.ForCallers.{count_by-cons, windings_add, winding_is_count, operands_apart}
+use Rattle.half_grid.proofs.ForCallers.{count_by-cons}
 use Rattle.std.proofs.lemmas.Int.{ints}
-use Rattle.std.proofs.lemmas.List.Elements.{All-weaker}
 use Rattle.half_grid.specs.Windows.{RowRange}
 use Rattle.trap_join.specs.Joins.{IsTakenIn}
+use Rattle.column_sweep.specs.Operands.{WindsByCount}
 use Rattle.column_sweep.specs.Sweeps.{IsSwept}
 use Rattle.bool_ops.specs.declared.operations.Op.{Op}
 use Rattle.bool_ops.specs.Operations.{has_tile, takes, IsInResult, IsWoundIn, IsJoinedOf}
@@ -20,22 +20,6 @@ any_by_count : {X : Type 0} (p : X → Bool) (xs : List X) → not (int_eq (pos 
 any_by_count p [] = refl
 any_by_count p (x ∷ xs) = rw (count_by-cons p x xs) (grind (arith, any_by_count p xs))
 
-legal_all : (traps : List Trapezoid) → All IsShot traps → All IsLegal traps
-legal_all traps h = All-weaker IsShot IsLegal (λ z s. s.legal) traps h
-
-different : A ≡ B → ⊥
-different e = grind (arith, ap (is_of A) e)
-
-pub winding_of_first : (a b : List Trapezoid) (t : Tile) → All IsShot a → edges_winding A (flat_map (edges_of_trapezoid A) a ++ flat_map (edges_of_trapezoid B) b) t ≡ pos (count_in a t)
-winding_of_first a b t h =
-    windings_add A (flat_map (edges_of_trapezoid A) a) (flat_map (edges_of_trapezoid B) b) t
-    ∙ (rw (winding_is_count A a t (legal_all a h), operands_apart A B b t (λ e. different e)) (omega (arith, ints)))
-
-pub winding_of_second : (a b : List Trapezoid) (t : Tile) → All IsShot b → edges_winding B (flat_map (edges_of_trapezoid A) a ++ flat_map (edges_of_trapezoid B) b) t ≡ pos (count_in b t)
-winding_of_second a b t h =
-    windings_add B (flat_map (edges_of_trapezoid A) a) (flat_map (edges_of_trapezoid B) b) t
-    ∙ (rw (winding_is_count B b t (legal_all b h), operands_apart B A a t (λ e. different (sym e))) (omega (arith, ints)))
-
 pub has_by_winding : (traps : List Trapezoid) (t : Tile) (w : ℤ) → w ≡ pos (count_in traps t) → not (int_eq w (pos 0)) ≡ has_tile traps t
 has_by_winding traps t w e = rw e (any_by_count (trapezoid_has t) traps)
 
@@ -43,19 +27,19 @@ has_by_winding traps t w e = rw e (any_by_count (trapezoid_has t) traps)
 pub swept_result : (op : Op) (a b : List Trapezoid) (window : RowRange) (post : ℤ → ℤ → Bool → Type 0)
     → ((x y : ℤ) (r : Bool) → post x y r → r ≡ takes op (not (int_eq x (pos 0))) (not (int_eq y (pos 0))))
     → ((x y : ℤ) → post x y (takes op (not (int_eq x (pos 0))) (not (int_eq y (pos 0)))))
-    → (edges : List EdgeParts) → edges ≡ flat_map (edges_of_trapezoid A) a ++ flat_map (edges_of_trapezoid B) b
-    → All IsShot a → All IsShot b → (traps : List Trapezoid) → IsSwept post edges window traps → IsJoinedOf window (IsInResult op a b window) traps
-swept_result op a b window post only allowed edges is ha hb traps swept =
-    let answer : (t : Tile) → takes op (not (int_eq (edges_winding A edges t) (pos 0))) (not (int_eq (edges_winding B edges t) (pos 0))) ≡ takes op (has_tile a t) (has_tile b t) = λ t.
-    rw (has_by_winding a t (edges_winding A edges t) (rw is (winding_of_first a b t ha)), has_by_winding b t (edges_winding B edges t) (rw is (winding_of_second a b t hb))) refl in
+    → (edges : List EdgeParts) → WindsByCount A edges a window → WindsByCount B edges b window
+    → (traps : List Trapezoid) → IsSwept post edges window traps → IsJoinedOf window (IsInResult op a b window) traps
+swept_result op a b window post only allowed edges first second traps swept =
+    let answer : (t : Tile) → window.y0 ≤ℤ t.j → t.j <ℤ window.y1 → takes op (not (int_eq (edges_winding A edges t) (pos 0))) (not (int_eq (edges_winding B edges t) (pos 0))) ≡ takes op (has_tile a t) (has_tile b t) = λ t low high.
+    rw (has_by_winding a t (edges_winding A edges t) (first t low high), has_by_winding b t (edges_winding B edges t) (second t low high)) refl in
     let to : (t : Tile) → IsTakenIn post edges window t → IsInResult op a b window t = λ t h. record {
       rows = record { from = h.from; below = h.below };
-      taken = sym (only _ _ true h.taken ∙ answer t);
+      taken = sym (only _ _ true h.taken ∙ answer t h.from h.below);
     } in
     let back : (t : Tile) → IsInResult op a b window t → IsTakenIn post edges window t = λ t h. record {
       from = h.rows.from;
       below = h.rows.below;
-      taken = subst (λ r. post (edges_winding A edges t) (edges_winding B edges t) r) (answer t ∙ h.taken) (allowed (edges_winding A edges t) (edges_winding B edges t));
+      taken = subst (λ r. post (edges_winding A edges t) (edges_winding B edges t) r) (answer t h.rows.from h.rows.below ∙ h.taken) (allowed (edges_winding A edges t) (edges_winding B edges t));
     } in
     record {
       joined = swept.joined;

@@ -3,7 +3,6 @@
 //! Numbers are half units.
 #![tactic(auto)]
 
-mod edges;
 mod operations;
 mod outline;
 #[cfg(test)]

@@ -2,8 +2,7 @@ ghost use Rattle.std.specs.Prelude.{IfOk, ◌≡◌, ◌≢◌, ℤ, pos, not};
 ghost use Rattle.std.specs.Ordering.{int_eq};
 ghost use Rattle.bool_ops.specs.Operations.{IsJoinedOf, IsInResult, takes};
 
-use crate::edges::{are_shots, edges_of_both};
-use column_sweep::swept;
+use column_sweep::{operand_edges, swept};
 use geo_stream::NoMemory;
 use half_grid::{Trap, Window};
 use scan_line::Rule;
@@ -47,9 +46,7 @@ pub fn combine(
 ) -> Result<Vec<Trap>, NoMemory>
     ensures { IfOk result (λ traps. IsJoinedOf window (IsInResult op a.now b.now window) traps.items) }
 {
-    are_shots(a);
-    are_shots(b);
-    let edges = edges_of_both(alloc, a, b)?;
+    let edges = operand_edges(alloc, a, b, window)?;
     let asked = move |first: i128, second: i128| -> bool
         ensures { result ≡ takes op (not (int_eq first (pos 0))) (not (int_eq second (pos 0))) }
     { op.takes(first != 0, second != 0) };

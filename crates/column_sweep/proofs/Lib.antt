@@ -1,3 +1,5 @@
 mod Columns
 mod Rests
 mod Sweeping
+mod LowestTiles
+mod OperandEdges

@@ -1,2 +1,4 @@
 pub mod Sweeps
 pub mod ColumnLaws
+pub mod Lowest
+pub mod Operands

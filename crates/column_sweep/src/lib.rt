@@ -4,9 +4,13 @@
 #![tactic(auto)]
 
 mod laws;
+mod lowest_tile;
+mod operands;
 mod sweep;
 #[cfg(test)]
 mod tests;
 
 pub use laws::column_laws;
+pub use lowest_tile::{LowestTile, lowest};
+pub use operands::operand_edges;
 pub use sweep::swept;

@@ -2,7 +2,7 @@ use Rattle.std.proofs.Common.{subst, sym, arith, take}
 use Rattle.std.proofs.lemmas.List.{take_all}
 use Rattle.std.proofs.lemmas.List.Elements.{All-more, All-same}
 use Rattle.half_grid.specs.Trapezoids.{IsShot}
-use Rattle.bool_ops.proofs.edges.are_shots.Goals as goal
+use Rattle.column_sweep.proofs.operands.are_shots.Goals as goal
 
 pub loop-trap-preserved : goal.loop-trap-preserved
 loop-trap-preserved c =

@@ -1,6 +1,6 @@
 use Rattle.std.proofs.Common.{All, take}
 use Rattle.half_grid.specs.Trapezoids.{IsShot}
-use Rattle.bool_ops.proofs.edges.are_shots.Given as goal
+use Rattle.column_sweep.proofs.operands.are_shots.Given as goal
 
 abbrev pub invariant-loop-trap : goal.invariant-loop-trap
 invariant-loop-trap l = All IsShot (take l.trap-index l.traps)

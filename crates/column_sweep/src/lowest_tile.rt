@@ -1,0 +1,70 @@
+ghost use Rattle.std.specs.Prelude.{◌≡◌, IfOk, IfSome, IfNone};
+ghost use Rattle.half_grid.specs.Rows.{number_in_row, place};
+ghost use Rattle.half_grid.specs.Trapezoids.{IsShot, trapezoid};
+ghost use Rattle.scan_line.specs.Rules.{IsRule};
+ghost use Rattle.scan_line.specs.Runs.{IsBalanced};
+ghost use Rattle.column_sweep.specs.Lowest.{IsLowest, TakesNone};
+
+use geo_stream::NoMemory;
+use half_grid::{Edge, Tile, Window, place_of, tile_at};
+use scan_line::{Rule, Run, Scan, Slab};
+use std::alloc::Global;
+
+/// A tile and its windings.
+#[derive(Clone, Copy, Debug, PartialEq, Eq)]
+pub struct LowestTile {
+    /// The tile.
+    pub tile: Tile,
+    /// The winding of operand A there.
+    pub a: i128,
+    /// The winding of operand B there.
+    pub b: i128,
+}
+
+// The leftmost tile of a run in the lowest row of its slab.
+fn first_tile(slab: Slab, run: &Run) -> Tile
+    requires { IsShot (trapezoid slab.y0 slab.y1 run.now.left run.now.right) }
+    ensures row { result.j ≡ slab.y0 }
+    ensures number { number_in_row result ≡ place run.now.left slab.y0 }
+{
+    tile_at(slab.y0, place_of(run.left, slab.y0))
+}
+
+// The first tile that a scan takes, from its first slab on.
+fn first_taken<F: Fn(i128, i128) -> bool + Drop>(scan: &mut Scan<F>) -> Option<LowestTile>
+    requires rule { IsRule (F.pre scan.old.rule) (F.post scan.old.rule) }
+    requires fresh { scan.old.y ≡ scan.old.window.y0 }
+    ensures found { IfSome result (IsLowest (F.post scan.old.rule) scan.old.edges scan.old.window) }
+    ensures none { IfNone result (TakesNone (F.post scan.old.rule) scan.old.edges scan.old.window) }
+{
+    while let Some(slab) = scan.next() {
+        if let Some(run) = scan.runs().first() {
+            return Some(LowestTile {
+                tile: first_tile(slab, run),
+                a: run.a,
+                b: run.b,
+            });
+        }
+    }
+    None
+}
+
+/// The lowest tile of the window that the rule takes, leftmost in its row, with its windings. None exactly where the
+/// rule takes no tile of the window. Want of memory is the only refusal. In each row of the window each operand has as
+/// many edges that go up as edges that go down.
+///
+/// It sweeps from below and ends at the first slab with a tile that is taken, so above it nothing is looked at.
+pub fn lowest<F: Fn(i128, i128) -> bool + Drop>(
+    alloc: Global,
+    edges: Vec<Edge>,
+    window: Window,
+    rule: Rule<F>,
+) -> Result<Option<LowestTile>, NoMemory>
+    requires rule { IsRule (F.pre rule) (F.post rule) }
+    requires balanced { IsBalanced edges.items window }
+    ensures found { IfOk result (λ answer. IfSome answer (IsLowest (F.post rule) edges.items window)) }
+    ensures none { IfOk result (λ answer. IfNone answer (TakesNone (F.post rule) edges.items window)) }
+{
+    let mut scan = Scan::begin(alloc, edges, window, rule)?;
+    Ok(first_taken(&mut scan))
+}
