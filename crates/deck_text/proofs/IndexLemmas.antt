@@ -1,7 +1,6 @@
 -- The index of statements, and one more statement behind them.
-use Rattle.std.proofs.Common.{◌≡◌, ℕ, zero, ◌+◌, Bool, true, false, not, cond, ◌||◌, if◌then◌else◌, List, [], ◌∷◌, ◌++◌, length, Option, None, Some, refl, sym, ap, ◌∙◌, arith, inl}
+use Rattle.std.proofs.Common.{◌≡◌, ℕ, ◌+◌, Bool, true, false, not, cond, ◌||◌, if◌then◌else◌, List, [], ◌∷◌, ◌++◌, Option, None, Some, refl, sym, ap, ◌∙◌, arith}
 use Rattle.std.specs.Prelude.{ℤ, find, is_some, option_map, Result, Ok, Err, OnOk}
-use Rattle.std.specs.List.{prefix_len, list_any}
 use Rattle.std.specs.Option.{option_map_or}
 use Rattle.std.specs.Str.{bytes_eq}
 use Rattle.std.proofs.lemmas.List.Folds.{list_any-append}
@@ -15,7 +14,7 @@ use Rattle.std.specs.Cmp.Lexicographic.{slice_cmp}
 use Rattle.std.proofs.lemmas.Slice.Eq.{bytes_eq-Decides}
 use Rattle.deck_text.specs.Statements.{Setting, Operation, Statement, Sets, Defines, Writes, Said}
 use Rattle.deck_text.specs.Rules.{is_definition, is_output, defines, goes_to, any_before, count_before, is_defined, repeated_line}
-use Rattle.deck_text.specs.Decks.{names_of, number_of, said}
+use Rattle.deck_text.specs.Decks.{names_of, number_of}
 use Rattle.deck_text.specs.Indexes.{defined, defined_from, defined_in, file_in, IsIndexOf, HasNewName}
 use Rattle.deck_text.specs.declared.index.Defined.{Defined}
 use Rattle.deck_text.specs.declared.index.Index.{Index}

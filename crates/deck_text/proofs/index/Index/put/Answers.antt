@@ -1,6 +1,6 @@
 use Rattle.std.proofs.Common.{ap}
 use Rattle.deck_text.specs.SaidViews.{said_view}
-use Rattle.deck_text.specs.Views.{statement_view, setting_view, operation_view}
+use Rattle.deck_text.specs.Views.{statement_view}
 use Rattle.deck_text.proofs.IndexLemmas.{put_setting, put_definition, put_output, on_ok}
 use Rattle.deck_text.proofs.index.Index.put.Goals as goal
 
