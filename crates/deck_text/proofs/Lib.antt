@@ -1,3 +1,4 @@
+pub mod IndexLemmas
 pub mod Digits
 pub mod Loops
 pub mod TokenLemmas

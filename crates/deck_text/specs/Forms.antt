@@ -60,15 +60,21 @@ meaning_of commands.Invert (name, (a, end)) = Defines name (Inverts a)
 meaning_of commands.Mirror (name, (a, (m, end))) = Defines name (Mirrors a m)
 meaning_of commands.Write (a, (file, (layer, (datatype, end)))) = Writes a file layer datatype
 
-abbrev pub all_commands : List Command
-all_commands =
-    commands.Unit ∷ commands.Top ∷ commands.Band ∷ commands.Limits ∷ commands.Frame ∷ commands.Layer
-    ∷ commands.Or ∷ commands.And ∷ commands.Sub ∷ commands.Xor ∷ commands.Grow ∷ commands.Shrink
+-- the words behind the settings
+abbrev pub area_commands : List Command
+area_commands =
+    commands.Layer ∷ commands.Or ∷ commands.And ∷ commands.Sub ∷ commands.Xor ∷ commands.Grow ∷ commands.Shrink
     ∷ commands.Invert ∷ commands.Mirror ∷ commands.Write ∷ []
+
+abbrev pub all_commands : List Command
+all_commands = commands.Unit ∷ commands.Top ∷ commands.Band ∷ commands.Limits ∷ commands.Frame ∷ area_commands
+
+abbrev pub command_among : List Command → List ℕ → Option Command
+command_among among token = find (λ command. bytes_eq token (word_of command)) among
 
 -- the command of which the token is the word
 unfoldable pub command_of : List ℕ → Option Command
-command_of token = find (λ command. bytes_eq token (word_of command)) all_commands
+command_of token = command_among all_commands token
 
 -- what the pieces behind the word say, or the column of the first thing that doesn't fit
 unfoldable pub statement_of : Command → ℕ → List Piece → Result Statement ℕ

@@ -10,3 +10,4 @@ pub mod Decks
 pub mod Begun
 pub mod Laws
 pub mod Sound
+pub mod Indexes

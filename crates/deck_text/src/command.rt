@@ -1,7 +1,7 @@
 //! The words that begin lines.
 ghost use Rattle.std.specs.Prelude.{◌≡◌};
 ghost use Rattle.std.specs.Str.{bytes_eq};
-ghost use Rattle.deck_text.specs.Forms.{command_of};
+ghost use Rattle.deck_text.specs.Forms.{area_commands, command_among, command_of};
 
 /// The word that begins a line.
 #[derive(Clone, Copy, Debug, PartialEq, Eq)]
@@ -30,26 +30,10 @@ fn is_word(token: &[u8], word: &[u8]) -> bool
     token == word
 }
 
-/// The command of which the token is the word.
-#[tactic(auto, unfolding(crate::specs::Forms::command_of))]
-pub(crate) fn command_of(token: &[u8]) -> Option<Command>
-    ensures { result ≡ command_of token.now }
+// The command behind the settings of which the token is the word.
+fn area_command_of(token: &[u8]) -> Option<Command>
+    ensures { result ≡ command_among area_commands token.now }
 {
-    if is_word(token, b"unit") {
-        return Some(Command::Unit);
-    }
-    if is_word(token, b"top") {
-        return Some(Command::Top);
-    }
-    if is_word(token, b"band") {
-        return Some(Command::Band);
-    }
-    if is_word(token, b"limits") {
-        return Some(Command::Limits);
-    }
-    if is_word(token, b"frame") {
-        return Some(Command::Frame);
-    }
     if is_word(token, b"layer") {
         return Some(Command::Layer);
     }
@@ -81,4 +65,27 @@ pub(crate) fn command_of(token: &[u8]) -> Option<Command>
         return Some(Command::Write);
     }
     None
+}
+
+/// The command of which the token is the word.
+#[tactic(auto, unfolding(crate::specs::Forms::command_of))]
+pub(crate) fn command_of(token: &[u8]) -> Option<Command>
+    ensures { result ≡ command_of token.now }
+{
+    if is_word(token, b"unit") {
+        return Some(Command::Unit);
+    }
+    if is_word(token, b"top") {
+        return Some(Command::Top);
+    }
+    if is_word(token, b"band") {
+        return Some(Command::Band);
+    }
+    if is_word(token, b"limits") {
+        return Some(Command::Limits);
+    }
+    if is_word(token, b"frame") {
+        return Some(Command::Frame);
+    }
+    area_command_of(token)
 }

@@ -5,6 +5,7 @@
 mod command;
 mod deck;
 mod forms;
+mod index;
 mod kinds;
 mod laws;
 mod lines;

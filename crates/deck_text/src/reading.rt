@@ -4,6 +4,7 @@ ghost use Rattle.deck_text.specs.Lines.{lines_of};
 ghost use Rattle.deck_text.specs.Rules.{broken_rule};
 ghost use Rattle.deck_text.specs.Decks.{AreAccepted, has_output, said, saids_from, IsFirstFault, IsDeck};
 ghost use Rattle.deck_text.specs.Begun.{IsBegun};
+ghost use Rattle.deck_text.specs.Indexes.{IsIndexOf, HasRoom, HasNewName};
 ghost use Rattle.deck_text.specs.Views.{statement_view};
 ghost use Rattle.deck_text.specs.SaidViews.{said_view, said_views};
 ghost use Rattle.deck_text.specs.declared.deck.Deck.{Deck};
@@ -11,6 +12,7 @@ ghost use Rattle.deck_text.specs.declared.refusal.DeckBad.{DeckBad};
 
 use crate::deck::Deck;
 use crate::forms::reading;
+use crate::index::Index;
 use crate::lines::line_at;
 use crate::refusal::DeckBad;
 use crate::rules::{
@@ -21,6 +23,7 @@ use crate::said::Said;
 use crate::statement::Statement;
 use crate::text::Text;
 use crate::writing::deck_of;
+use geo_stream::NoMemory;
 use std::alloc::Global;
 
 /// The names that the command gives.
@@ -45,9 +48,13 @@ fn accepted<'a>(
     alloc: Global,
     names: Names,
     before: &[Said<'a>],
+    index: &Index<'a>,
     line: usize,
     says: Statement<'a>,
 ) -> Result<Said<'a>, DeckBad>
+    requires { IsIndexOf (said_views before.now) index.now }
+    ensures room { OnOk result (HasRoom index.now (statement_view says.entry)) }
+    ensures new { OnOk result (HasNewName index.now (statement_view says.entry)) }
     ensures said { IfOk result (λ own. said_view own ≡ said line (statement_view says.entry)) }
     ensures ok { IfOk result (λ own. broken_rule names.entry.layout.now names.entry.deck.now (said_views before.now) line (statement_view says.entry) ≡ None) }
     ensures refused { IfErr result (λ bad. bad ≢ DeckBad.NoMemory → broken_rule names.entry.layout.now names.entry.deck.now (said_views before.now) line (statement_view says.entry) ≡ Some bad) }
@@ -55,11 +62,11 @@ fn accepted<'a>(
     if is_misplaced(before, &says) {
         return Err(DeckBad::Order(line));
     }
-    match repeated_line(before, &says) {
+    match repeated_line(before, index, &says) {
         Some(earlier) => return Err(DeckBad::Twice(line, earlier)),
         None => {}
     }
-    match unknown_operand(before, &says) {
+    match unknown_operand(index, &says) {
         Some(name) => return Err(unknown(alloc, line, name)),
         None => {}
     }
@@ -73,25 +80,34 @@ fn accepted<'a>(
     if has_odd_sum(&says) {
         return Err(DeckBad::Odd(line));
     }
-    if takes_name(names.layout, names.deck, before, &says) {
+    if takes_name(names.layout, names.deck, index, &says) {
         return Err(DeckBad::Names(line));
     }
-    if is_too_many(before, &says) {
+    if is_too_many(index, &says) {
         return Err(DeckBad::Many(line));
     }
     Ok(Said { line, says })
 }
 
+/// The statements of some lines with their index.
+#[derive(Drop)]
+struct Lines<'a> {
+    saids: Vec<Said<'a>>,
+    index: Index<'a>,
+}
+
 // The statements of all lines, or the first fault.
-fn statements<'a>(alloc: Global, bytes: &'a [u8], names: Names) -> Result<Vec<Said<'a>>, DeckBad>
+fn statements<'a>(alloc: Global, bytes: &'a [u8], names: Names) -> Result<Lines<'a>, DeckBad>
     requires { length bytes.now ≤ 65536 }
-    ensures saids { IfOk result (λ saids. said_views saids.items ≡ saids_from 1 (lines_of bytes.now)) }
+    ensures saids { IfOk result (λ lines. said_views lines.saids.items ≡ saids_from 1 (lines_of bytes.now)) }
+    ensures index { IfOk result (λ lines. IsIndexOf (said_views lines.saids.items) lines.index) }
     ensures accepted { OnOk result (AreAccepted names.entry.layout.now names.entry.deck.now (lines_of bytes.now) (length (lines_of bytes.now))) }
     ensures some { OnOk result (has_output (saids_from 1 (lines_of bytes.now)) ≡ true) }
     ensures begun { OnOk result (IsBegun (saids_from 1 (lines_of bytes.now))) }
     ensures refused { IfErr result (λ bad. bad ≢ DeckBad.NoMemory → IsFirstFault bytes.now names.entry.layout.now names.entry.deck.now bad) }
 {
     let mut saids = Vec::new(alloc);
+    let mut index = Index::new(alloc);
     let mut lines = 0;
     let mut at = 0;
     while at < bytes.len() {
@@ -102,7 +118,11 @@ fn statements<'a>(alloc: Global, bytes: &'a [u8], names: Names) -> Result<Vec<Sa
             Err(column) => return Err(DeckBad::Line(lines, column)),
             Ok(None) => {}
             Ok(Some(says)) => {
-                let said = accepted(alloc, names, saids.as_slice(), lines, says)?;
+                let said = accepted(alloc, names, saids.as_slice(), &index, lines, says)?;
+                match index.put(said) {
+                    Ok(()) => {}
+                    Err(NoMemory) => return Err(DeckBad::NoMemory),
+                }
                 match saids.push(said) {
                     Ok(()) => {}
                     Err(_refused) => return Err(DeckBad::NoMemory),
@@ -113,7 +133,7 @@ fn statements<'a>(alloc: Global, bytes: &'a [u8], names: Names) -> Result<Vec<Sa
     if !has_output(saids.as_slice()) {
         return Err(DeckBad::Order(lines + 1));
     }
-    Ok(saids)
+    Ok(Lines { saids, index })
 }
 
 /// The deck that the bytes are, where the command gives these names of layout and deck. Bytes that are no deck are
@@ -125,8 +145,8 @@ pub fn read_deck(alloc: Global, bytes: &[u8], layout: &str, deck: &str) -> Resul
     ensures first_fault { IfErr result (λ bad. bad ≢ DeckBad.NoMemory → IsFirstFault bytes.now layout.now deck.now bad) }
     ensures every_fault { (bad : DeckBad) → IsFirstFault bytes.now layout.now deck.now bad → (result ≡ Err bad) ⊎ (result ≡ Err DeckBad.NoMemory) }
 {
-    let saids = statements(alloc, bytes, Names { layout, deck })?;
-    match deck_of(alloc, saids.as_slice()) {
+    let lines = statements(alloc, bytes, Names { layout, deck })?;
+    match deck_of(alloc, lines.saids.as_slice(), &lines.index) {
         Ok(deck) => Ok(deck),
         Err(_refused) => Err(DeckBad::NoMemory),
     }

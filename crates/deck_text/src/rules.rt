@@ -1,11 +1,13 @@
 //! The rules of a deck: what is wrong with a statement after those before it.
-ghost use Rattle.std.specs.Prelude.{◌≡◌, None, [], ◌∷◌, not, find, pos, ◌+ℤ◌};
+ghost use Rattle.std.specs.Prelude.{◌≡◌, None, List as Items, [], ◌∷◌, false, not, find, pos, ◌+ℤ◌};
 ghost use Rattle.half_grid.specs.Halves.{is_even};
-ghost use Rattle.deck_text.specs.Statements.{LimitsAre, FrameIs};
-ghost use Rattle.deck_text.specs.Rules.{is_setting, is_definition, is_output, is_unit, is_top, is_band, is_limits, is_frame, any_before, count_before, is_misplaced, sets_again, defines, repeats, repeated_line, is_defined, unknown_operand, inverts, lacks_frame, out_of_range, has_odd_sum, goes_to, takes_name, is_too_many, bounds_of_setting, bounds_of_operation, first_outside, bound, is_outside, narrow, operands_of_operation};
+ghost use Rattle.deck_text.specs.Statements.{LimitsAre, FrameIs, Sets, Said as ASaid};
+ghost use Rattle.deck_text.specs.Rules.{is_setting, is_output, is_unit, is_top, is_band, is_limits, is_frame, any_before, is_misplaced, sets_again, repeated_line, is_defined, unknown_operand, inverts, lacks_frame, out_of_range, has_odd_sum, takes_name, is_too_many, bounds_of_setting, bounds_of_operation, first_outside, bound, is_outside, narrow, operands_of_operation};
+ghost use Rattle.deck_text.specs.Indexes.{IsIndexOf, HasRoom};
 ghost use Rattle.deck_text.specs.Views.{statement_view, setting_view, operation_view, Gives};
 ghost use Rattle.deck_text.specs.SaidViews.{said_views};
 
+use crate::index::Index;
 use crate::said::Said;
 use crate::statement::{Operation, Setting, Statement};
 use half_grid::{Frame, Limits};
@@ -29,17 +31,6 @@ fn is_setting(statement: &Statement) -> bool
     match statement {
         Statement::Set(_) => true,
         Statement::Define(_, _) => false,
-        Statement::Write(_) => false,
-    }
-}
-
-// Whether it is a definition.
-pub(crate) fn is_definition(statement: &Statement) -> bool
-    ensures { result ≡ is_definition (statement_view statement.now) }
-{
-    match statement {
-        Statement::Set(_) => false,
-        Statement::Define(_, _) => true,
         Statement::Write(_) => false,
     }
 }
@@ -143,39 +134,6 @@ fn sets_again(setting: &Setting, other: &Statement) -> bool
     }
 }
 
-// Whether the statement defines the name.
-pub(crate) fn defines(name: &str, other: &Statement) -> bool
-    ensures { result ≡ defines name.now (statement_view other.now) }
-{
-    match other {
-        Statement::Set(_) => false,
-        Statement::Define(own, _) => *own == name,
-        Statement::Write(_) => false,
-    }
-}
-
-// Whether the statement repeats the other.
-fn repeats(statement: &Statement, other: &Statement) -> bool
-    ensures { result ≡ repeats (statement_view statement.now) (statement_view other.now) }
-{
-    match statement {
-        Statement::Set(setting) => sets_again(setting, other),
-        Statement::Define(name, _) => defines(name, other),
-        Statement::Write(_) => false,
-    }
-}
-
-// Whether the output goes to the file.
-fn goes_to(file: &str, other: &Statement) -> bool
-    ensures { result ≡ goes_to file.now (statement_view other.now) }
-{
-    match other {
-        Statement::Set(_) => false,
-        Statement::Define(_, _) => false,
-        Statement::Write(writing) => writing.file == file,
-    }
-}
-
 // Whether `unit` was given.
 fn has_unit(before: &[Said]) -> bool
     ensures { result ≡ any_before is_unit (said_views before.now) }
@@ -236,56 +194,6 @@ pub(crate) fn has_output(before: &[Said]) -> bool
     false
 }
 
-// Whether an output goes to the file.
-fn is_taken(before: &[Said], file: &str) -> bool
-    ensures { result ≡ any_before (goes_to file.now) (said_views before.now) }
-{
-    for said in before {
-        if goes_to(file, &said.says) {
-            return true;
-        }
-    }
-    false
-}
-
-// Whether the name is defined.
-fn is_defined(before: &[Said], name: &str) -> bool
-    ensures { result ≡ is_defined (said_views before.now) name.now }
-{
-    for said in before {
-        if defines(name, &said.says) {
-            return true;
-        }
-    }
-    false
-}
-
-// How many definitions there are.
-fn definitions(before: &[Said]) -> usize
-    ensures { result ≡ count_before is_definition (said_views before.now) }
-{
-    let mut count = 0;
-    for said in before {
-        if is_definition(&said.says) {
-            count += 1;
-        }
-    }
-    count
-}
-
-// How many outputs there are.
-fn outputs(before: &[Said]) -> usize
-    ensures { result ≡ count_before is_output (said_views before.now) }
-{
-    let mut count = 0;
-    for said in before {
-        if is_output(&said.says) {
-            count += 1;
-        }
-    }
-    count
-}
-
 /// Whether the statement is a setting after a definition or an output, or one of these before both `unit` and `top`.
 pub(crate) fn is_misplaced(before: &[Said], statement: &Statement) -> bool
     ensures { result ≡ is_misplaced (said_views before.now) (statement_view statement.now) }
@@ -299,54 +207,66 @@ pub(crate) fn is_misplaced(before: &[Said], statement: &Statement) -> bool
     !has_top(before)
 }
 
-/// The line of the first statement that this one repeats.
-pub(crate) fn repeated_line(before: &[Said], statement: &Statement) -> Option<usize>
-    ensures { result ≡ repeated_line (said_views before.now) (statement_view statement.now) }
+// The line of the first statement that gives the setting.
+fn repeated_setting(before: &[Said], setting: &Setting) -> Option<usize>
+    ensures { result ≡ repeated_line (said_views before.now) (Sets (setting_view setting.now)) }
 {
     for said in before {
-        if repeats(statement, &said.says) {
+        if sets_again(setting, &said.says) {
             return Some(said.line);
         }
     }
     None
 }
 
-// The name, where it isn't defined.
-fn unknown_name<'a>(before: &[Said], name: &'a str) -> Option<&'a str>
-    ensures { Gives (λ x. x.now) result (find (λ x. not (is_defined (said_views before.now) x)) (name.now ∷ [])) }
+/// The line of the first statement that this one repeats.
+pub(crate) fn repeated_line(before: &[Said], index: &Index, statement: &Statement) -> Option<usize>
+    requires { IsIndexOf (said_views before.now) index.now }
+    ensures { result ≡ repeated_line (said_views before.now) (statement_view statement.now) }
 {
-    if is_defined(before, name) {
+    match statement {
+        Statement::Set(setting) => repeated_setting(before, setting),
+        Statement::Define(name, _) => index.line_of(name),
+        Statement::Write(_) => None,
+    }
+}
+
+// The name, where it isn't defined.
+fn unknown_name<'a>(index: &Index, name: &'a str) -> Option<&'a str>
+    ensures { (saids : Items ASaid) → IsIndexOf saids index.now → Gives (λ x. x.now) result (find (λ x. not (is_defined saids x)) (name.now ∷ [])) }
+{
+    if index.has(name) {
         return None;
     }
     Some(name)
 }
 
 // The first operand that isn't defined.
-fn unknown_in<'a>(before: &[Said], operation: &Operation<'a>) -> Option<&'a str>
-    ensures { Gives (λ x. x.now) result (find (λ x. not (is_defined (said_views before.now) x)) (operands_of_operation (operation_view operation.now))) }
+fn unknown_in<'a>(index: &Index, operation: &Operation<'a>) -> Option<&'a str>
+    ensures { (saids : Items ASaid) → IsIndexOf saids index.now → Gives (λ x. x.now) result (find (λ x. not (is_defined saids x)) (operands_of_operation (operation_view operation.now))) }
 {
     match operation {
         Operation::Layer(_, _) => None,
         Operation::Combine(_, a, b) => {
-            if !is_defined(before, a) {
+            if !index.has(a) {
                 return Some(a);
             }
-            unknown_name(before, b)
+            unknown_name(index, b)
         }
-        Operation::Resize(_, a, _, _) => unknown_name(before, a),
-        Operation::Invert(a) => unknown_name(before, a),
-        Operation::Mirror(a, _) => unknown_name(before, a),
+        Operation::Resize(_, a, _, _) => unknown_name(index, a),
+        Operation::Invert(a) => unknown_name(index, a),
+        Operation::Mirror(a, _) => unknown_name(index, a),
     }
 }
 
 /// The first operand that isn't defined.
-pub(crate) fn unknown_operand<'a>(before: &[Said], statement: &Statement<'a>) -> Option<&'a str>
-    ensures { Gives (λ x. x.now) result (unknown_operand (said_views before.now) (statement_view statement.now)) }
+pub(crate) fn unknown_operand<'a>(index: &Index, statement: &Statement<'a>) -> Option<&'a str>
+    ensures { (saids : Items ASaid) → IsIndexOf saids index.now → Gives (λ x. x.now) result (unknown_operand saids (statement_view statement.now)) }
 {
     match statement {
         Statement::Set(_) => None,
-        Statement::Define(_, operation) => unknown_in(before, operation),
-        Statement::Write(writing) => unknown_name(before, writing.name),
+        Statement::Define(_, operation) => unknown_in(index, operation),
+        Statement::Write(writing) => unknown_name(index, writing.name),
     }
 }
 
@@ -505,8 +425,8 @@ pub(crate) fn has_odd_sum(statement: &Statement) -> bool
 }
 
 /// Whether the output goes to the layout, the deck, or the file of an earlier output.
-pub(crate) fn takes_name(layout: &str, deck: &str, before: &[Said], statement: &Statement) -> bool
-    ensures { result ≡ takes_name layout.now deck.now (said_views before.now) (statement_view statement.now) }
+pub(crate) fn takes_name(layout: &str, deck: &str, index: &Index, statement: &Statement) -> bool
+    ensures { (saids : Items ASaid) → IsIndexOf saids index.now → result ≡ takes_name layout.now deck.now saids (statement_view statement.now) }
 {
     match statement {
         Statement::Set(_) => false,
@@ -518,18 +438,19 @@ pub(crate) fn takes_name(layout: &str, deck: &str, before: &[Said], statement: &
             if writing.file == deck {
                 return true;
             }
-            is_taken(before, writing.file)
+            index.is_taken(writing.file)
         }
     }
 }
 
 /// Whether it is the 257th definition or the 65th output.
-pub(crate) fn is_too_many(before: &[Said], statement: &Statement) -> bool
-    ensures { result ≡ is_too_many (said_views before.now) (statement_view statement.now) }
+pub(crate) fn is_too_many(index: &Index, statement: &Statement) -> bool
+    ensures broken { (saids : Items ASaid) → IsIndexOf saids index.now → result ≡ is_too_many saids (statement_view statement.now) }
+    ensures few { result ≡ false → HasRoom index.now (statement_view statement.now) }
 {
     match statement {
         Statement::Set(_) => false,
-        Statement::Define(_, _) => DEFINITIONS <= definitions(before),
-        Statement::Write(_) => OUTPUTS <= outputs(before),
+        Statement::Define(_, _) => DEFINITIONS <= index.definitions(),
+        Statement::Write(_) => OUTPUTS <= index.outputs(),
     }
 }

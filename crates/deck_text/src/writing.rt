@@ -1,11 +1,13 @@
 //! The deck that accepted statements say.
-ghost use Rattle.std.specs.Prelude.{◌≡◌, Some, None, pos, true, unsigned_abs, IfOk, IfNone, IfSome, IsSome};
-ghost use Rattle.deck_text.specs.Decks.{names_of, number_of, pair, combined, resized, step_of, steps_of, outputs_of, setting_in, unit_of, top_of, IsDeckOf};
+ghost use Rattle.std.specs.Prelude.{◌≡◌, List as Items, Some, None, pos, true, unsigned_abs, IfOk, IfNone, IfSome, IsSome};
+ghost use Rattle.deck_text.specs.Decks.{names_of, pair, combined, resized, step_of, steps_of, outputs_of, setting_in, unit_of, top_of, IsDeckOf};
+ghost use Rattle.deck_text.specs.Indexes.{IsIndexOf};
+ghost use Rattle.deck_text.specs.Statements.{Said as ASaid};
 ghost use Rattle.deck_text.specs.SaidViews.{said_views};
 ghost use Rattle.deck_text.specs.Views.{operation_view};
 
 use crate::deck::{Deck, Output, Step};
-use crate::rules::{defines, is_definition};
+use crate::index::Index;
 use crate::said::Said;
 use crate::settings::{BAND, LIMITS, band_in, frame_in, limits_in, top_in, unit_in};
 use crate::statement::{CellWord, Operation, Operator, Sizing, Statement};
@@ -13,22 +15,6 @@ use crate::text::Text;
 use geo_stream::{List, NoMemory};
 use layout_model::{Name, NameBad, Pair};
 use std::alloc::Global;
-
-// The number of the definition of a name: how many stand before it.
-fn number_of(saids: &[Said], name: &str) -> usize
-    ensures { result ≡ number_of (names_of (said_views saids.now)) name.now }
-{
-    let mut number = 0;
-    for said in saids {
-        if defines(name, &said.says) {
-            return number;
-        }
-        if is_definition(&said.says) {
-            number += 1;
-        }
-    }
-    number
-}
 
 // A layer and a datatype in range.
 fn pair_of(layer: i64, datatype: i64) -> Pair
@@ -63,31 +49,32 @@ fn resized(sizing: Sizing, a: usize, dx: i64, dy: i64) -> Step
 }
 
 // The step of an operation.
-fn step_of(saids: &[Said], operation: &Operation) -> Step
-    ensures { result ≡ step_of (names_of (said_views saids.now)) (operation_view operation.now) }
+fn step_of(index: &Index, operation: &Operation) -> Step
+    ensures { (saids : Items ASaid) → IsIndexOf saids index.now → result ≡ step_of (names_of saids) (operation_view operation.now) }
 {
     match operation {
         Operation::Layer(layer, datatype) => Step::Layer(pair_of(*layer, *datatype)),
         Operation::Combine(operator, a, b) => combined(
             *operator,
-            number_of(saids, a),
-            number_of(saids, b),
+            index.number_of(a),
+            index.number_of(b),
         ),
-        Operation::Resize(sizing, a, dx, dy) => resized(*sizing, number_of(saids, a), *dx, *dy),
-        Operation::Invert(a) => Step::Invert(number_of(saids, a)),
-        Operation::Mirror(a, m) => Step::Mirror(number_of(saids, a), *m),
+        Operation::Resize(sizing, a, dx, dy) => resized(*sizing, index.number_of(a), *dx, *dy),
+        Operation::Invert(a) => Step::Invert(index.number_of(a)),
+        Operation::Mirror(a, m) => Step::Mirror(index.number_of(a), *m),
     }
 }
 
 // The steps of the definitions in order.
-fn steps_of(alloc: Global, saids: &[Said]) -> Result<List<Step>, NoMemory>
+fn steps_of(alloc: Global, saids: &[Said], index: &Index) -> Result<List<Step>, NoMemory>
+    requires { IsIndexOf (said_views saids.now) index.now }
     ensures { IfOk result (λ steps. steps ≡ steps_of (said_views saids.now)) }
 {
     let mut steps = List::new(alloc);
     for said in saids {
         match &said.says {
             Statement::Set(_) => {}
-            Statement::Define(_, operation) => steps.push(step_of(saids, operation))?,
+            Statement::Define(_, operation) => steps.push(step_of(index, operation))?,
             Statement::Write(_) => {}
         }
     }
@@ -95,7 +82,8 @@ fn steps_of(alloc: Global, saids: &[Said]) -> Result<List<Step>, NoMemory>
 }
 
 // The outputs in order.
-fn outputs_of(alloc: Global, saids: &[Said]) -> Result<List<Output>, NoMemory>
+fn outputs_of(alloc: Global, saids: &[Said], index: &Index) -> Result<List<Output>, NoMemory>
+    requires { IsIndexOf (said_views saids.now) index.now }
     ensures { IfOk result (λ outputs. outputs ≡ outputs_of (said_views saids.now)) }
 {
     let mut outputs = List::new(alloc);
@@ -106,7 +94,7 @@ fn outputs_of(alloc: Global, saids: &[Said]) -> Result<List<Output>, NoMemory>
             Statement::Write(writing) => {
                 let file = Text::new(alloc, writing.file)?;
                 outputs.push(Output {
-                    name: number_of(saids, writing.name),
+                    name: index.number_of(writing.name),
                     file,
                     pair: pair_of(writing.layer, writing.datatype),
                 })?;
@@ -128,7 +116,8 @@ fn name_of(alloc: Global, cell: CellWord) -> Result<Name, NoMemory>
 }
 
 /// The deck that the statements say.
-pub(crate) fn deck_of(alloc: Global, saids: &[Said]) -> Result<Deck, NoMemory>
+pub(crate) fn deck_of(alloc: Global, saids: &[Said], index: &Index) -> Result<Deck, NoMemory>
+    requires index { IsIndexOf (said_views saids.now) index.now }
     requires unit { IsSome (setting_in unit_of (said_views saids.now)) }
     requires top { IsSome (setting_in top_of (said_views saids.now)) }
     ensures { IfOk result (IsDeckOf (said_views saids.now)) }
@@ -145,7 +134,7 @@ pub(crate) fn deck_of(alloc: Global, saids: &[Said]) -> Result<Deck, NoMemory>
         band: band_in(saids).unwrap_or(BAND),
         limits: limits_in(saids).unwrap_or(LIMITS),
         frame: frame_in(saids),
-        steps: steps_of(alloc, saids)?,
-        outputs: outputs_of(alloc, saids)?,
+        steps: steps_of(alloc, saids, index)?,
+        outputs: outputs_of(alloc, saids, index)?,
     })
 }

@@ -10,33 +10,33 @@ use Rattle.deck_text.proofs.reading.read_deck.Goals as goal
 
 -- ---- a refusal of the lines
 
-pub returns-in_err-saids-clause-every_fault : goal.returns-in_err-saids-clause-every_fault
-returns-in_err-saids-clause-every_fault c =
+pub returns-in_err-lines-clause-every_fault : goal.returns-in_err-lines-clause-every_fault
+returns-in_err-lines-clause-every_fault c =
     let p = err_from_is_err_and c.from_residual.result c.from_residual.ensures.1 in
-    told_fault c.args.bytes.now c.args.layout.now c.args.deck.now c.from_residual.result _ (rw (p.1, p.2) refl) c.in_err-saids.ensures.refused
+    told_fault c.args.bytes.now c.args.layout.now c.args.deck.now c.from_residual.result _ (rw (p.1, p.2) refl) c.in_err-lines.ensures.refused
 
-pub returns-in_err-saids-clause-read : goal.returns-in_err-saids-clause-read
-returns-in_err-saids-clause-read c =
+pub returns-in_err-lines-clause-read : goal.returns-in_err-lines-clause-read
+returns-in_err-lines-clause-read c =
     let p = err_from_is_err_and c.from_residual.result c.from_residual.ensures.1 in
-    told_deck c.args.bytes.now c.args.layout.now c.args.deck.now c.from_residual.result _ (rw (p.1, p.2) refl) c.in_err-saids.ensures.refused
+    told_deck c.args.bytes.now c.args.layout.now c.args.deck.now c.from_residual.result _ (rw (p.1, p.2) refl) c.in_err-lines.ensures.refused
 
 -- ---- the deck of the statements
 
 pub deck_of-requires-clause-unit : goal.deck_of-requires-clause-unit
 deck_of-requires-clause-unit c =
-    let given = c.in_ok-saids.ensures.begun (outputs_begin (saids_from 1 (lines_of c.args.bytes.now)) c.in_ok-saids.ensures.some) in
-    rw (c.as_slice.ensures.value, c.in_ok-saids.ensures.saids) given.0
+    let given = c.in_ok-lines.ensures.begun (outputs_begin (saids_from 1 (lines_of c.args.bytes.now)) c.in_ok-lines.ensures.some) in
+    rw (c.as_slice.ensures.value, c.in_ok-lines.ensures.saids) given.0
 
 pub deck_of-requires-clause-top : goal.deck_of-requires-clause-top
 deck_of-requires-clause-top c =
-    let given = c.in_ok-saids.ensures.begun (outputs_begin (saids_from 1 (lines_of c.args.bytes.now)) c.in_ok-saids.ensures.some) in
-    rw (c.as_slice.ensures.value, c.in_ok-saids.ensures.saids) given.1
+    let given = c.in_ok-lines.ensures.begun (outputs_begin (saids_from 1 (lines_of c.args.bytes.now)) c.in_ok-lines.ensures.some) in
+    rw (c.as_slice.ensures.value, c.in_ok-lines.ensures.saids) given.1
 
-found : (c : goal.After-drop-saids) → IsDeck c.args.bytes.now c.args.layout.now c.args.deck.now c.in-Ok.deck
+found : (c : goal.After-drop-lines-in-Ok-2) → IsDeck c.args.bytes.now c.args.layout.now c.args.deck.now c.in-Ok.deck
 found c = record {
-  accepted = c.in_ok-saids.ensures.accepted;
-  some = c.in_ok-saids.ensures.some;
-  says = rw (c.as_slice.ensures.value, c.in_ok-saids.ensures.saids) at c.in-Ok.ensures;
+  accepted = c.in_ok-lines.ensures.accepted;
+  some = c.in_ok-lines.ensures.some;
+  says = rw (c.as_slice.ensures.value, c.in_ok-lines.ensures.saids) at c.in-Ok.ensures;
 }
 
 pub returns-in-Ok-clause-found : goal.returns-in-Ok-clause-found

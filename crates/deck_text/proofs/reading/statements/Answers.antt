@@ -4,7 +4,7 @@ use Rattle.deck_text.specs.Lines.{lines_of}
 use Rattle.deck_text.specs.Statements.{Refused, Says}
 use Rattle.deck_text.specs.Forms.{reading}
 use Rattle.deck_text.specs.Views.{statement_view}
-use Rattle.deck_text.specs.SaidViews.{said_views}
+use Rattle.deck_text.specs.SaidViews.{said_view, said_views}
 use Rattle.deck_text.specs.Decks.{said, has_output}
 use Rattle.deck_text.proofs.Steps.{IsReadAll, starts, lines_left, refused_next, passes_next, says_next, ends, no_output}
 use Rattle.deck_text.proofs.Ends.{none_left, pushed}
@@ -16,7 +16,11 @@ loop-at-init c = record {
   counted = omega arith;
   rest = refl;
   read = rw c.new-saids.ensures.items (starts c.args.names.layout.now c.args.names.deck.now (lines_of c.args.bytes.now));
+  index = rw c.new-saids.ensures.items c.new-index.ensures;
 }
+
+pub accepted-requires : goal.accepted-requires
+accepted-requires c = rw c.as_slice.ensures.value c.loop-at.invariant.index
 
 -- ---- a line
 
@@ -36,6 +40,7 @@ loop-at-preserved-in-Ok-None c =
       counted = omega (arith, c.line_at-next.ensures.forward);
       rest = lines_left (lines_of c.args.bytes.now) c.loop-at.lines c.line_at-next.result.0.now (lines_of (drop c.line_at-next.result.1 c.args.bytes.now)) next;
       read = passes_next c.args.names.layout.now c.args.names.deck.now (lines_of c.args.bytes.now) c.loop-at.lines (said_views c.loop-at.saids.items) c.line_at-next.result.0.now (lines_of (drop c.line_at-next.result.1 c.args.bytes.now)) c.loop-at.invariant.read next (rw c.in-Ok-None.field-0-is at c.in-Ok-None.ensures);
+      index = c.loop-at.invariant.index;
     }
 
 pub returns-in_err-said-in-Ok-Some-clause-refused : goal.returns-in_err-said-in-Ok-Some-clause-refused
@@ -57,9 +62,11 @@ loop-at-preserved c =
       within = c.line_at-next.ensures.within;
       counted = omega (arith, c.line_at-next.ensures.forward);
       rest = lines_left (lines_of c.args.bytes.now) c.loop-at.lines c.line_at-next.result.0.now (lines_of (drop c.line_at-next.result.1 c.args.bytes.now)) next;
-      read = rw (pushed c.loop-at.saids.items c.push.new.self.items c.in_ok-said-in-Ok-Some.said (said (c.loop-at.lines + 1) (statement_view c.in-Ok-Some.says)) c.in-Ok.ensures.items c.in_ok-said-in-Ok-Some.ensures.said)
+      read = rw (pushed c.loop-at.saids.items c.push.new.self.items c.in_ok-said-in-Ok-Some.said (said (c.loop-at.lines + 1) (statement_view c.in-Ok-Some.says)) c.in-Ok-push.ensures.items c.in_ok-said-in-Ok-Some.ensures.said)
           (says_next c.args.names.layout.now c.args.names.deck.now (lines_of c.args.bytes.now) c.loop-at.lines (said_views c.loop-at.saids.items) c.line_at-next.result.0.now (lines_of (drop c.line_at-next.result.1 c.args.bytes.now)) (statement_view c.in-Ok-Some.says) c.loop-at.invariant.read next says
           (rw c.as_slice.ensures.value at c.in_ok-said-in-Ok-Some.ensures.ok));
+      index = rw (pushed c.loop-at.saids.items c.push.new.self.items c.in_ok-said-in-Ok-Some.said (said_view c.in_ok-said-in-Ok-Some.said) c.in-Ok-push.ensures.items refl)
+          (c.in-Ok.ensures (said_views c.loop-at.saids.items) c.loop-at.invariant.index);
     }
 
 -- ---- after the last line
@@ -88,3 +95,6 @@ returns-clause-some c =
 
 pub returns-clause-begun : goal.returns-clause-begun
 returns-clause-begun c = (all c).begun
+
+pub returns-clause-index : goal.returns-clause-index
+returns-clause-index c = c.loop-at.invariant.index

@@ -1,16 +1,19 @@
 use Rattle.std.proofs.Common.{[], ◌∷◌, sym, ◌∙◌}
-use Rattle.deck_text.specs.SaidViews.{said_views}
 use Rattle.deck_text.proofs.Loops.{first_unknown, next_unknown}
 use Rattle.deck_text.proofs.rules.unknown_in.Goals as goal
 
-pub returns-then-not-is_defined : goal.returns-then-not-is_defined
-returns-then-not-is_defined c = rw c.in-Combine.is (first_unknown (said_views c.args.before.now) c.in-Combine.a.now (c.in-Combine.b.now ∷ []) (sym c.is_defined.ensures ∙ c.if-not-is_defined.true))
+pub returns-then-not-has : goal.returns-then-not-has
+returns-then-not-has c = λ saids is. rw c.in-Combine.is (first_unknown saids c.in-Combine.a.now (c.in-Combine.b.now ∷ []) (sym (c.has.ensures saids is) ∙ c.if-not-has.true))
 
-pub returns-else-not-is_defined : goal.returns-else-not-is_defined
-returns-else-not-is_defined c = rw (c.in-Combine.is, next_unknown (said_views c.args.before.now) c.in-Combine.a.now (c.in-Combine.b.now ∷ []) (sym c.is_defined.ensures ∙ c.if-not-is_defined.false)) c.unknown_name.ensures
+pub returns-else-not-has : goal.returns-else-not-has
+returns-else-not-has c = λ saids is.
+    rw (c.in-Combine.is, next_unknown saids c.in-Combine.a.now (c.in-Combine.b.now ∷ []) (sym (c.has.ensures saids is) ∙ c.if-not-has.false)) (c.unknown_name.ensures saids is)
 
 pub returns-in-Resize : goal.returns-in-Resize
-returns-in-Resize c = rw c.in-Resize.is c.unknown_name-in-Resize.ensures
+returns-in-Resize c = λ saids is. rw c.in-Resize.is (c.unknown_name-in-Resize.ensures saids is)
+
+pub returns-in-Invert : goal.returns-in-Invert
+returns-in-Invert c = λ saids is. rw c.in-Invert.is (c.unknown_name-in-Invert.ensures saids is)
 
 pub returns-in-Mirror : goal.returns-in-Mirror
-returns-in-Mirror c = rw c.in-Mirror.is c.unknown_name-in-Mirror.ensures
+returns-in-Mirror c = λ saids is. rw c.in-Mirror.is (c.unknown_name-in-Mirror.ensures saids is)
