@@ -1,33 +1,21 @@
 -- What deck and layout are falls into classes, of which just one holds. Each answer of the table but want of memory and a
 -- counted fault of reading is that of its class.
-use Rattle.std.proofs.Common.{◌≡◌, ◌≢◌, ◌⊎◌, inl, inr, ℕ, ◌<◌, ◌≤◌, List, length, Option, Some, None, Result, Ok, Err, IsErrAnd, refl, sym, ap, subst, ◌∙◌, arith}
+use Rattle.std.proofs.Common.{◌≡◌, ℕ, ◌<◌, List, length, Option, Some, refl, sym, ap, subst, ◌∙◌, arith}
 use Rattle.std.specs.Prelude.{IsSomeAnd}
 use Rattle.std.proofs.lemmas.Option.{none-some, same_Some}
-use Rattle.depot.specs.Content.{Content, held_as, IsNotThere, IsLongerThan}
+use Rattle.depot.specs.Content.{Content, IsNotThere, IsLongerThan}
 use Rattle.depot.proofs.ForCallers.{longer_there}
-use Rattle.layout_model.specs.Layouts.{IsLayoutOnGrid}
 use Rattle.layout_model.specs.declared.cells.Layout.{Layout}
 use Rattle.gds_reader.specs.declared.refusing.GdsBad.{GdsBad}
-use Rattle.gds_reader.specs.Reading.{IsLayoutOf}
 use Rattle.gds_reader.proofs.ForCallers.{one_layout, one_fault as one_gds_fault, no_layout_with_fault}
 use Rattle.cell_tree.specs.Cells.{cell_number}
-use Rattle.cell_tree.specs.Trees.{IsTree, Rooted}
-use Rattle.cell_tree.specs.Faults.{IsFirstFault as IsFirstTreeFault, order_of}
-use Rattle.cell_tree.specs.declared.faults.TreeBad.{TreeBad}
-use Rattle.cell_tree.specs.declared.faults.TreeBad.TheVariants.{NoTop, NoMemory as TreeWanting}
-use Rattle.cell_tree.proofs.ForCallers.{no_fault, answered}
+use Rattle.cell_tree.specs.Trees.{Rooted}
 use Rattle.deck_text.specs.Decks.{IsDeck, layers_of}
 use Rattle.deck_text.specs.declared.refusal.DeckBad.{DeckBad}
 use Rattle.deck_text.specs.declared.deck.Deck.{Deck}
 use Rattle.deck_text.proofs.ForCallers.{one_deck, one_fault as one_deck_fault, never_both}
-use Rattle.job_input.specs.Accepted.{Holds, HoldsDeck, BeginsAsOasis, IsLayoutFor, HoldsLayout, IsTreeFor, HoldsInput}
-use Rattle.job_input.specs.Refused.{HoldsDeckFault, IsLongLayout, HoldsOasis, IsGdsFaultFor, HoldsGdsFault, IsTreeFaultFor, HoldsTreeFault, HasNoLayout, IsWanting}
-use Rattle.job_input.specs.Clauses.{Answer, IsOfKind}
-use Rattle.job_input.specs.Parts.{IsInputAnswer}
-use Rattle.job_input.specs.declared.reading.Input.{Input}
-use Rattle.job_input.specs.declared.refusing.InputBad.TheVariants as answers
-use Rattle.job_input.specs.declared.refusing.DeckFault.TheVariants as deck_faults
-use Rattle.job_input.specs.declared.refusing.LayoutFault.TheVariants as layout_faults
+use Rattle.job_input.specs.Accepted.{Holds, HoldsDeck, BeginsAsOasis, IsLayoutFor, HoldsLayout, IsTreeFor}
+use Rattle.job_input.specs.Refused.{HoldsDeckFault, IsGdsFaultFor}
 
 -- ---- what a name holds
 

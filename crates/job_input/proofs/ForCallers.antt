@@ -1,7 +1,6 @@
 -- What crates above may cite: a content has one deck and one input at most.
 use Rattle.std.proofs.Common.{◌≡◌, ℕ, List, ap, subst, ◌∙◌}
 use Rattle.depot.specs.Content.{Content}
-use Rattle.layout_model.specs.declared.cells.Layout.{Layout}
 use Rattle.cell_tree.specs.Trees.{Rooted}
 use Rattle.deck_text.specs.declared.deck.Deck.{Deck}
 use Rattle.job_input.specs.Accepted.{IsTreeFor, HoldsInput}

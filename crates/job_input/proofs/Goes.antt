@@ -1,12 +1,10 @@
 -- From the layout of an accepted deck to both.
-use Rattle.std.proofs.Common.{◌≡◌, ◌⊎◌, inl, inr, ℕ, List, [], Err, refl, sym, subst}
+use Rattle.std.proofs.Common.{◌≡◌, inl, inr, ℕ, List, [], Err, refl, subst}
 use Rattle.depot.specs.Content.{Content, with_left}
 use Rattle.depot.specs.Counts.{Counts, Rose}
 use Rattle.layout_model.specs.Layouts.{IsLayoutOnGrid}
 use Rattle.layout_model.specs.declared.cells.Layout.{Layout}
 use Rattle.cell_tree.specs.Trees.{Rooted}
-use Rattle.cell_tree.specs.declared.faults.TreeBad.{TreeBad}
-use Rattle.gds_reader.specs.declared.refusing.GdsBad.{GdsBad}
 use Rattle.deck_text.specs.declared.deck.Deck.{Deck}
 use Rattle.job_input.specs.Accepted.{Holds, HoldsDeck, HoldsLayout, IsTreeFor, HoldsInput}
 use Rattle.job_input.specs.Parts.{IsTreeAnswer, IsInputAnswer, layout_refused}

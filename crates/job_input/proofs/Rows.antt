@@ -1,19 +1,17 @@
 -- From the table of answers to each answer by itself.
-use Rattle.std.proofs.Common.{◌≡◌, ◌≢◌, ◌⊎◌, inl, inr, ℕ, ◌<◌, List, Option, Some, None, Result, Ok, Err, IsErrAnd, refl, sym, ap, subst, ◌∙◌}
+use Rattle.std.proofs.Common.{◌≡◌, ◌⊎◌, inl, inr, ℕ, List, Ok, Err, refl, sym, ap, subst, ◌∙◌}
 use Rattle.std.proofs.lemmas.Option.{none-some, same_Some}
-use Rattle.depot.specs.Content.{Content, IsNotThere, IsLongerThan}
+use Rattle.depot.specs.Content.{Content, IsLongerThan}
 use Rattle.layout_model.specs.Layouts.{IsLayoutOnGrid}
 use Rattle.layout_model.specs.declared.cells.Layout.{Layout}
 use Rattle.gds_reader.specs.declared.refusing.GdsBad.{GdsBad}
-use Rattle.cell_tree.specs.Cells.{cell_number}
-use Rattle.cell_tree.specs.Trees.{IsTree, Rooted}
+use Rattle.cell_tree.specs.Trees.{Rooted}
 use Rattle.cell_tree.specs.Faults.{IsFirstFault, order_of}
 use Rattle.cell_tree.specs.declared.faults.TreeBad.{TreeBad}
-use Rattle.cell_tree.specs.declared.faults.TreeBad.TheVariants.{NoTop, NoMemory as Wanting}
 use Rattle.cell_tree.proofs.ForCallers.{no_fault, answered}
 use Rattle.deck_text.specs.declared.refusal.DeckBad.{DeckBad}
 use Rattle.deck_text.specs.declared.deck.Deck.{Deck}
-use Rattle.job_input.specs.Accepted.{HoldsDeck, HoldsLayout, IsTreeFor, HoldsInput}
+use Rattle.job_input.specs.Accepted.{IsTreeFor, HoldsInput}
 use Rattle.job_input.specs.Refused.{HoldsDeckFault, IsLongLayout, HoldsOasis, HoldsGdsFault, IsTreeFaultFor, HoldsTreeFault, IsWanting}
 use Rattle.job_input.specs.Clauses.{Answer, ComesExactlyWhere, IsOfKind, ComesByKind}
 use Rattle.job_input.specs.Parts.{IsInputAnswer}

@@ -1,5 +1,5 @@
 -- What is told of a layout's tree.
-use Rattle.std.proofs.Common.{◌≡◌, ◌≢◌, ◌⊎◌, inl, inr, ℕ, Option, Some, None, Result, Err, refl, sym, subst}
+use Rattle.std.proofs.Common.{◌≡◌, ◌≢◌, ◌⊎◌, inl, inr, ℕ, Option, Some, None, Err, refl, sym, subst}
 use Rattle.layout_model.specs.declared.cells.Layout.{Layout}
 use Rattle.cell_tree.specs.Cells.{cell_number}
 use Rattle.cell_tree.specs.Faults.{IsFirstFault}
