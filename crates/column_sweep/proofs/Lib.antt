@@ -1,3 +1,6 @@
-mod Columns
+mod InColumns
 mod Rests
 mod Sweeping
+mod Adding
+mod Closing
+mod Halving

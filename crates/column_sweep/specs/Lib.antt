@@ -1,2 +1,5 @@
 pub mod Sweeps
 pub mod ColumnLaws
+pub mod RowSums
+pub mod Steps
+pub mod Parts

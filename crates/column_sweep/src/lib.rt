@@ -3,10 +3,17 @@
 //! Numbers are half units.
 #![tactic(auto)]
 
+mod columns;
+mod cuts;
 mod laws;
+mod parting;
+mod seams;
+mod sums;
 mod sweep;
+
 #[cfg(test)]
 mod tests;
+mod waiting;
 
 pub use laws::column_laws;
 pub use sweep::swept;

@@ -3,6 +3,9 @@ ghost use Rattle.scan_line.specs.Rules.{IsRule};
 ghost use Rattle.scan_line.specs.Runs.{IsBalanced};
 ghost use Rattle.column_sweep.specs.Sweeps.{IsSwept};
 
+use crate::columns::swept_columns;
+use crate::cuts::{Cut, chosen_cuts};
+use crate::seams::joined_seams;
 use geo_stream::NoMemory;
 use half_grid::{Edge, Trap, Window};
 use scan_line::{Rule, Scan};
@@ -26,6 +29,33 @@ fn joined<F: Fn(i128, i128) -> bool + Drop>(
     Ok(traps)
 }
 
+/// The joined list of the tiles that a lent rule takes, swept without columns.
+pub(crate) fn plain<F: Fn(i128, i128) -> bool + Drop>(
+    alloc: Global,
+    edges: Vec<Edge>,
+    window: Window,
+    rule: &Rule<F>,
+) -> Result<Vec<Trap>, NoMemory> {
+    let asked = Rule::new(|a: i128, b: i128| -> bool { rule.asks(a, b) });
+    let scan = Scan::begin(alloc, edges, window, asked)?;
+    joined(alloc, scan)
+}
+
+// The joined list, swept in the columns between these cuts.
+pub(crate) fn swept_at<F: Fn(i128, i128) -> bool + Drop>(
+    alloc: Global,
+    edges: Vec<Edge>,
+    window: Window,
+    rule: &Rule<F>,
+    cuts: Vec<Cut>,
+) -> Result<Vec<Trap>, NoMemory> {
+    if cuts.is_empty() {
+        return plain(alloc, edges, window, rule);
+    }
+    let sewn = swept_columns(alloc, edges, window, rule, cuts.as_slice())?;
+    joined_seams(alloc, sewn, window, cuts)
+}
+
 /// The joined list of the window's tiles that the rule takes. Want of memory is its only refusal. In each row of the
 /// window each operand has as many edges that go up as edges that go down.
 pub fn swept<F: Fn(i128, i128) -> bool + Drop>(
@@ -38,6 +68,6 @@ pub fn swept<F: Fn(i128, i128) -> bool + Drop>(
     requires balanced { IsBalanced edges.items window }
     ensures { IfOk result (λ traps. IsSwept (F.post rule) edges.items window traps.items) }
 {
-    let scan = Scan::begin(alloc, edges, window, rule)?;
-    joined(alloc, scan)
+    let cuts = chosen_cuts(alloc, edges.as_slice())?;
+    swept_at(alloc, edges, window, &rule, cuts)
 }
