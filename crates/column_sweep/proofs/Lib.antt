@@ -4,3 +4,5 @@ mod Sweeping
 mod Adding
 mod Closing
 mod Halving
+mod Stepping
+mod Awaiting

@@ -3,3 +3,4 @@ pub mod ColumnLaws
 pub mod RowSums
 pub mod Steps
 pub mod Parts
+pub mod Waiting

@@ -8,7 +8,7 @@ ghost use Rattle.half_grid.specs.declared.plane.Line.TheVariants.{Rising, Fallin
 ghost use Rattle.column_sweep.specs.Parts.{LiesLeft, LiesRight, part_over, part_below, part_above, turned, AddUp, AreSplit, AreParts};
 
 use crate::cuts::Cut;
-use crate::sums::{Level, row_sums};
+use crate::sums::{Level, put, row_sums};
 use geo_stream::NoMemory;
 use half_grid::{Edge, Line};
 use scan_line::Slab;
@@ -119,16 +119,6 @@ fn halves_of(edge: &Edge, cut: Cut) -> Halves
             right: part_below(edge, level),
         },
     }
-}
-
-// Puts the edge at the end, where there is one.
-fn put(edges: &mut Vec<Edge>, edge: Option<Edge>) -> Result<(), NoMemory>
-    ensures { OnOk result (edges.new.items ≡ edges.old.items ++ option_to_list edge) }
-{
-    if let Some(edge) = edge {
-        edges.push(edge)?;
-    }
-    Ok(())
 }
 
 // The parts of the edges left of the cut, and those right of it.

@@ -1,8 +1,8 @@
 //! Upright edges that sum up in each row to what other edges do.
 
-ghost use Rattle.std.specs.Prelude.{◌≡◌, ℤ, true, [], ◌∷◌, IfOk};
+ghost use Rattle.std.specs.Prelude.{◌≡◌, ℤ, true, List, [], ◌∷◌, ◌++◌, IfOk, OnOk};
 ghost use Rattle.std.specs.Option.{option_to_list};
-ghost use Rattle.half_grid.specs.Edges.{is_of};
+ghost use Rattle.half_grid.specs.Edges.{EdgeParts, is_of};
 ghost use Rattle.half_grid.specs.Reach.{IsWithinReach};
 ghost use Rattle.half_grid.specs.declared.border.Operand.{Operand};
 ghost use Rattle.half_grid.specs.declared.plane.Line.TheVariants.{Upright};
@@ -64,20 +64,43 @@ fn step_of(edge: &Edge) -> Step
     }
 }
 
+// Whether two operands are one.
+fn is_of(operand: Operand, other: Operand) -> bool
+    ensures { result ≡ is_of operand other }
+{
+    match (operand, other) {
+        (Operand::A, Operand::A) => true,
+        (Operand::B, Operand::B) => true,
+        (Operand::A, Operand::B) => false,
+        (Operand::B, Operand::A) => false,
+    }
+}
+
+// Puts the edge's step at the end, where the edge is the operand's.
+fn add_step(steps: &mut Steps, edge: &Edge, operand: Operand) -> Result<(), NoMemory>
+    ensures { (edges : List EdgeParts) → AreSteps (λ j. row_sum operand j edges) steps.old.rises.items steps.old.falls.items → OnOk result (AreSteps (λ j. row_sum operand j (edges ++ edge.now ∷ [])) steps.new.rises.items steps.new.falls.items) }
+{
+    if !is_of(operand, edge.operand()) {
+        return Ok(());
+    }
+    let step = step_of(edge);
+    steps.rises.push(step.rise)?;
+    steps.falls.push(step.fall)?;
+    Ok(())
+}
+
 // The steps of the operand's edges.
 fn steps_of(alloc: Global, edges: &[Edge], operand: Operand) -> Result<Steps, NoMemory>
     ensures { IfOk result (λ steps. AreSteps (λ j. row_sum operand j edges.now) steps.rises.items steps.falls.items) }
 {
-    let mut rises = Vec::new(alloc);
-    let mut falls = Vec::new(alloc);
+    let mut steps = Steps {
+        rises: Vec::new(alloc),
+        falls: Vec::new(alloc),
+    };
     for edge in edges {
-        if edge.operand() == operand {
-            let step = step_of(edge);
-            rises.push(step.rise)?;
-            falls.push(step.fall)?;
-        }
+        add_step(&mut steps, edge, operand)?;
     }
-    Ok(Steps { rises, falls })
+    Ok(steps)
 }
 
 // Without pairs of a rise and a fall at one level, as far as two sorted lists tell.
@@ -91,14 +114,14 @@ fn cancelled(alloc: Global, rises: &[Level], falls: &[Level]) -> Result<Steps, N
     while let (Some((rise, later_rises)), Some((fall, later_falls))) =
         (rising.split_first(), falling.split_first())
     {
-        if rise.y == fall.y {
-            rising = later_rises;
-            falling = later_falls;
-        } else if rise.y < fall.y {
+        if rise.y < fall.y {
             up.push(*rise)?;
             rising = later_rises;
-        } else {
+        } else if fall.y < rise.y {
             down.push(*fall)?;
+            falling = later_falls;
+        } else {
+            rising = later_rises;
             falling = later_falls;
         }
     }
@@ -135,6 +158,16 @@ fn sum_edge(step: Step, cut: Cut, operand: Operand) -> Option<Edge>
     )
 }
 
+/// Puts the edge at the end, where there is one.
+pub(crate) fn put(edges: &mut Vec<Edge>, edge: Option<Edge>) -> Result<(), NoMemory>
+    ensures { OnOk result (edges.new.items ≡ edges.old.items ++ option_to_list edge) }
+{
+    if let Some(edge) = edge {
+        edges.push(edge)?;
+    }
+    Ok(())
+}
+
 // An edge for each two steps that differ.
 fn sums_of(alloc: Global, steps: &Steps, cut: Cut, operand: Operand) -> Result<Vec<Edge>, NoMemory>
     requires cut { IsWithinReach cut.x }
@@ -144,16 +177,15 @@ fn sums_of(alloc: Global, steps: &Steps, cut: Cut, operand: Operand) -> Result<V
     let mut sums = Vec::new(alloc);
     let mut rising = steps.rises.as_slice();
     let mut falling = steps.falls.as_slice();
-    while let (Some((rise, later_rises)), Some((fall, later_falls))) =
-        (rising.split_first(), falling.split_first())
-    {
+    while let Some((rise, later_rises)) = rising.split_first() {
+        let Some((fall, later_falls)) = falling.split_first() else {
+            unreachable!();
+        };
         let step = Step {
             rise: *rise,
             fall: *fall,
         };
-        if let Some(edge) = sum_edge(step, cut, operand) {
-            sums.push(edge)?;
-        }
+        put(&mut sums, sum_edge(step, cut, operand))?;
         rising = later_rises;
         falling = later_falls;
     }
