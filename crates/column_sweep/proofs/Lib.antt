@@ -6,3 +6,4 @@ mod Closing
 mod Halving
 mod Stepping
 mod Awaiting
+mod Lending

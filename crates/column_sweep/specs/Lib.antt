@@ -4,3 +4,4 @@ pub mod RowSums
 pub mod Steps
 pub mod Parts
 pub mod Waiting
+pub mod Sewing

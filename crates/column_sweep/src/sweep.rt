@@ -1,5 +1,5 @@
-ghost use Rattle.std.specs.Prelude.{IfOk, ◌≡◌};
-ghost use Rattle.scan_line.specs.Rules.{IsRule};
+ghost use Rattle.std.specs.Prelude.{IfOk, ◌≡◌, ◌↔◌, IsTrue};
+ghost use Rattle.scan_line.specs.Rules.{IsRule, IsWinding, Takes};
 ghost use Rattle.scan_line.specs.Runs.{IsBalanced};
 ghost use Rattle.column_sweep.specs.Sweeps.{IsSwept};
 
@@ -35,8 +35,19 @@ pub(crate) fn plain<F: Fn(i128, i128) -> bool + Drop>(
     edges: Vec<Edge>,
     window: Window,
     rule: &Rule<F>,
-) -> Result<Vec<Trap>, NoMemory> {
-    let asked = Rule::new(|a: i128, b: i128| -> bool { rule.asks(a, b) });
+) -> Result<Vec<Trap>, NoMemory>
+    requires rule { IsRule (F.pre rule.now) (F.post rule.now) }
+    requires balanced { IsBalanced edges.items window }
+    ensures { IfOk result (λ traps. IsSwept (F.post rule.now) edges.items window traps.items) }
+{
+    let asked = Rule::new(
+        |a: i128, b: i128| -> bool
+            requires rule { IsRule (F.pre rule.now) (F.post rule.now) }
+            requires first { IsWinding a }
+            requires second { IsWinding b }
+            ensures { IsTrue result ↔ Takes (F.post rule.entry.now) a b }
+        { rule.asks(a, b) },
+    );
     let scan = Scan::begin(alloc, edges, window, asked)?;
     joined(alloc, scan)
 }

@@ -1,0 +1,46 @@
+-- Maximal trapezoids of an area that are known, and others that have the rest of its tiles.
+use Rattle.std.specs.Prelude.{ℤ, pos, ◌+◌, ◌<◌, ◌≤◌, ◌≤ℤ◌, ◌<ℤ◌, ◌≡◌, List, All}
+use Rattle.half_grid.specs.Edges.{EdgeParts, edges_winding}
+use Rattle.half_grid.specs.JoinedLists.{IsInWindow}
+use Rattle.half_grid.specs.Trapezoids.{Trapezoid, IsLegal, count_in}
+use Rattle.half_grid.specs.Windows.{RowRange}
+use Rattle.half_grid.specs.declared.plane.Tile.{Tile}
+use Rattle.half_grid.specs.declared.border.Operand.{Operand}
+use Rattle.trap_join.specs.Maximal.{IsMaximal}
+use Rattle.column_sweep.specs.RowSums.{row_sum}
+
+-- each tile is in just one of the trapezoids of both lists where it is in the area, and in none otherwise
+pub record CoverTogether (area : Tile → Type 0) (finals seams : List Trapezoid) : Type 0 where
+  pub once : (t : Tile) → area t → count_in finals t + count_in seams t ≡ 1
+  pub never : (t : Tile) → (area t → ⊥) → count_in finals t + count_in seams t ≡ 0
+
+-- the tile is in one of both lists
+abbrev pub HasTile : List Trapezoid → List Trapezoid → Tile → Type 0
+HasTile finals seams t = 0 < count_in finals t + count_in seams t
+
+-- a legal trapezoid in the rows of the window
+pub record IsPiece (window : RowRange) (z : Trapezoid) : Type 0 where
+  pub legal : IsLegal z
+  pub in_window : IsInWindow window z
+
+-- the first are maximal in the area that both lists have
+pub record AreSewn (window : RowRange) (finals seams : List Trapezoid) : Type 0 where
+  pub finals : All (IsMaximal (HasTile finals seams) window) finals
+  pub seams : All (IsPiece window) seams
+  pub apart : (t : Tile) → count_in finals t + count_in seams t ≤ 1
+
+-- the part of an area left of an upright line
+abbrev pub LeftOf : ℤ → (Tile → Type 0) → Tile → Type 0
+LeftOf x area t = area t × (t.i <ℤ x)
+
+-- both lists have an area's part left of the line, and the first are maximal in all of the area
+pub record AreSweptTo (area : Tile → Type 0) (window : RowRange) (x : ℤ) (finals seams : List Trapezoid) : Type 0 where
+  pub finals : All (IsMaximal area window) finals
+  pub seams : All (IsPiece window) seams
+  pub covers : CoverTogether (LeftOf x area) finals seams
+
+-- right of the line, or on it, these edges wind as all do, and left of it they wind round nothing
+pub record AreLeft (x : ℤ) (edges rest : List EdgeParts) : Type 0 where
+  pub same : (o : Operand) (t : Tile) → x ≤ℤ t.i → edges_winding o rest t ≡ edges_winding o edges t
+  pub nothing : (o : Operand) (t : Tile) → t.i <ℤ x → edges_winding o rest t ≡ pos 0
+  pub sums : (o : Operand) (j : ℤ) → row_sum o j rest ≡ row_sum o j edges
