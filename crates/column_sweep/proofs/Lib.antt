@@ -7,3 +7,5 @@ mod Halving
 mod Stepping
 mod Awaiting
 mod Lending
+mod Progressing
+mod PartWindings

@@ -1,12 +1,14 @@
 -- Maximal trapezoids of an area that are known, and others that have the rest of its tiles.
+use Rattle.std.specs.List.{Contains}
 use Rattle.std.specs.Prelude.{ℤ, pos, ◌+◌, ◌<◌, ◌≤◌, ◌≤ℤ◌, ◌<ℤ◌, ◌≡◌, List, All}
 use Rattle.half_grid.specs.Edges.{EdgeParts, edges_winding}
-use Rattle.half_grid.specs.JoinedLists.{IsInWindow}
-use Rattle.half_grid.specs.Trapezoids.{Trapezoid, IsLegal, count_in}
+use Rattle.half_grid.specs.JoinedLists.{IsInWindow, IsJoined}
+use Rattle.half_grid.specs.Trapezoids.{Trapezoid, IsLegal, CoversExactly, count_in}
 use Rattle.half_grid.specs.Windows.{RowRange}
 use Rattle.half_grid.specs.declared.plane.Tile.{Tile}
 use Rattle.half_grid.specs.declared.border.Operand.{Operand}
 use Rattle.trap_join.specs.Maximal.{IsMaximal}
+use Rattle.column_sweep.specs.ColumnLaws.{IsInColumn, IsStrictlyInside}
 use Rattle.column_sweep.specs.RowSums.{row_sum}
 
 -- each tile is in just one of the trapezoids of both lists where it is in the area, and in none otherwise
@@ -25,18 +27,38 @@ pub record IsPiece (window : RowRange) (z : Trapezoid) : Type 0 where
 
 -- the first are maximal in the area that both lists have
 pub record AreSewn (window : RowRange) (finals seams : List Trapezoid) : Type 0 where
-  pub finals : All (IsMaximal (HasTile finals seams) window) finals
-  pub seams : All (IsPiece window) seams
+  pub maximal : All (IsMaximal (HasTile finals seams) window) finals
+  pub pieces : All (IsPiece window) seams
   pub apart : (t : Tile) → count_in finals t + count_in seams t ≤ 1
 
 -- the part of an area left of an upright line
 abbrev pub LeftOf : ℤ → (Tile → Type 0) → Tile → Type 0
 LeftOf x area t = area t × (t.i <ℤ x)
 
--- both lists have an area's part left of the line, and the first are maximal in all of the area
-pub record AreSweptTo (area : Tile → Type 0) (window : RowRange) (x : ℤ) (finals seams : List Trapezoid) : Type 0 where
-  pub finals : All (IsMaximal area window) finals
-  pub seams : All (IsPiece window) seams
+-- maximal in an area, with no corner on a side of a column or beyond it
+pub record IsSettled (area : Tile → Type 0) (window : RowRange) (from to : ℤ) (z : Trapezoid) : Type 0 where
+  pub maximal : IsMaximal area window z
+  pub inside : IsStrictlyInside from to z
+
+-- the trapezoids of a column, told apart
+pub record AreSorted (from x : ℤ) (traps insides crossings : List Trapezoid) : Type 0 where
+  pub strictly_inside : All (λ z. Contains traps z × IsStrictlyInside from x z) insides
+  pub others : All (Contains traps) crossings
+  pub counts : (t : Tile) → count_in insides t + count_in crossings t ≡ count_in traps t
+
+-- the joined list of an area, told apart so
+pub record AreSweptIn (area : Tile → Type 0) (window : RowRange) (from x : ℤ) (insides crossings : List Trapezoid) : Type 0 where
+  pub traps : List Trapezoid
+  pub joined : IsJoined window traps
+  pub covers : CoversExactly traps area
+  pub sorted : AreSorted from x traps insides crossings
+
+-- Both lists have an area's part left of a line. The first are maximal in all that they have, and don't touch the line.
+-- All of it lies right of some other line.
+pub record AreSweptTo (area : Tile → Type 0) (window : RowRange) (low x : ℤ) (finals seams : List Trapezoid) : Type 0 where
+  pub settled : All (IsSettled (HasTile finals seams) window low x) finals
+  pub pieces : All (IsPiece window) seams
+  pub within : (t : Tile) → HasTile finals seams t → IsInColumn low x t
   pub covers : CoverTogether (LeftOf x area) finals seams
 
 -- right of the line, or on it, these edges wind as all do, and left of it they wind round nothing
