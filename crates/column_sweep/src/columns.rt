@@ -241,10 +241,11 @@ pub(crate) fn swept_columns<F: Fn(i128, i128) -> bool + Drop>(
     let mut later = waiting.as_slice();
     let mut progress = begin(alloc);
     for cut in cuts {
-        if is_next(progress.from, *cut) {
-            later = take_before(&mut progress.edges, later, *cut)?;
-            progress = swept_column(alloc, progress, window, rule, *cut)?;
+        if !is_next(progress.from, *cut) {
+            continue;
         }
+        later = take_before(&mut progress.edges, later, *cut)?;
+        progress = swept_column(alloc, progress, window, rule, *cut)?;
     }
     finish(alloc, progress, later, window, rule)
 }
