@@ -20,10 +20,10 @@ use Rattle.column_sweep.specs.RowSums.{sum_among}
 use Rattle.column_sweep.specs.Parts.{LiesLeft, LiesRight, part_over, part_below, part_above, AddUp}
 use Rattle.column_sweep.proofs.Adding.{sum_nil, sum_one, sum_none, sum_append}
 
-between : (a b y : ℤ) → IsWithinReach a → IsWithinReach b → a ≤ℤ y → y ≤ℤ b → IsWithinReach y
+pub between : (a b y : ℤ) → IsWithinReach a → IsWithinReach b → a ≤ℤ y → y ≤ℤ b → IsWithinReach y
 between a b y ha hb l h = record { low = omega (arith, ints, ha.low, l); high = omega (arith, ints, hb.high, h) }
 
-line_between : (l : Line) (y0 y1 y : ℤ) → IsWithinReach (x_on l y0) → IsWithinReach (x_on l y1) → y0 ≤ℤ y → y ≤ℤ y1 → IsWithinReach (x_on l y)
+pub line_between : (l : Line) (y0 y1 y : ℤ) → IsWithinReach (x_on l y0) → IsWithinReach (x_on l y1) → y0 ≤ℤ y → y ≤ℤ y1 → IsWithinReach (x_on l y)
 line_between (Upright c) y0 y1 y a b l h = a
 line_between (Rising c) y0 y1 y a b l h = record { low = omega (arith, ints, a.low); high = omega (arith, ints, b.high) }
 line_between (Falling c) y0 y1 y a b l h = record { low = omega (arith, ints, b.low); high = omega (arith, ints, a.high) }

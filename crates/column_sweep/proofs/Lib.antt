@@ -9,3 +9,5 @@ mod Awaiting
 mod Lending
 mod Progressing
 mod PartWindings
+mod Stitching
+mod Ordering

@@ -5,3 +5,4 @@ pub mod Steps
 pub mod Parts
 pub mod Waiting
 pub mod Sewing
+pub mod Standings

@@ -1,8 +1,9 @@
 -- Maximal trapezoids of an area that are known, and others that have the rest of its tiles.
 use Rattle.std.specs.List.{Contains}
-use Rattle.std.specs.Prelude.{ℤ, pos, ◌+◌, ◌<◌, ◌≤◌, ◌≤ℤ◌, ◌<ℤ◌, ◌≡◌, List, All}
+use Rattle.std.specs.Prelude.{ℤ, pos, ◌+◌, ◌<◌, ◌≤◌, ◌-ℤ◌, ◌≤ℤ◌, ◌<ℤ◌, ◌≡◌, ◌⊎◌, List, [], ◌∷◌, All}
 use Rattle.half_grid.specs.Edges.{EdgeParts, edges_winding}
 use Rattle.half_grid.specs.JoinedLists.{IsInWindow, IsJoined}
+use Rattle.half_grid.specs.Rows.{place}
 use Rattle.half_grid.specs.Trapezoids.{Trapezoid, IsLegal, CoversExactly, count_in}
 use Rattle.half_grid.specs.Windows.{RowRange}
 use Rattle.half_grid.specs.declared.plane.Tile.{Tile}
@@ -66,3 +67,15 @@ pub record AreLeft (x : ℤ) (edges rest : List EdgeParts) : Type 0 where
   pub same : (o : Operand) (t : Tile) → x ≤ℤ t.i → edges_winding o rest t ≡ edges_winding o edges t
   pub nothing : (o : Operand) (t : Tile) → t.i <ℤ x → edges_winding o rest t ≡ pos 0
   pub sums : (o : Operand) (j : ℤ) → row_sum o j rest ≡ row_sum o j edges
+
+-- two pairs of lists have each tile equally often
+abbrev pub HaveSameTiles : List Trapezoid → List Trapezoid → List Trapezoid → List Trapezoid → Type 0
+HaveSameTiles finals seams old_finals old_seams = (t : Tile) → count_in finals t + count_in seams t ≡ count_in old_finals t + count_in old_seams t
+
+-- each stands no later than those after it: by ascending top, those with one top from left to right
+abbrev pub StandsNotAfter : Trapezoid → Trapezoid → Type 0
+StandsNotAfter y z = (y.y1 <ℤ z.y1) ⊎ ((y.y1 ≡ z.y1) × (place y.left (y.y1 -ℤ pos 1) ≤ℤ place z.left (z.y1 -ℤ pos 1)))
+
+abbrev pub StandSorted : List Trapezoid → Type 0
+StandSorted [] = Unit {0}
+StandSorted (z ∷ zs) = All (StandsNotAfter z) zs × StandSorted zs

@@ -1,5 +1,5 @@
 //! Where a sweep is cut into columns.
-ghost use Rattle.std.specs.Prelude.{◌≤◌, ◌<◌, length, IfOk};
+ghost use Rattle.std.specs.Prelude.{◌<◌, length, IfOk};
 
 use geo_stream::NoMemory;
 use half_grid::{Edge, Line};
@@ -11,13 +11,15 @@ pub(crate) struct Cut {
     pub(crate) x: i64,
 }
 
-/// Every eighth cut. There are fewer than before, but where there were none.
-pub(crate) fn fewer(alloc: Global, cuts: &[Cut]) -> Result<Vec<Cut>, NoMemory> {
+/// Every eighth cut: fewer than before, but where there are none.
+pub(crate) fn fewer(alloc: Global, cuts: &[Cut]) -> Result<Vec<Cut>, NoMemory>
+    ensures { 0 < length cuts.now → IfOk result (λ some. length some.items < length cuts.now) }
+{
     let mut some = Vec::new(alloc);
-    let mut at = 7usize;
-    while at < cuts.len() {
-        some.push(cuts[at])?;
-        at = at.saturating_add(8);
+    let mut left = cuts;
+    while left.len() >= 8 {
+        some.push(left[7])?;
+        left = &left[8..];
     }
     Ok(some)
 }

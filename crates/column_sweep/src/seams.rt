@@ -1,7 +1,17 @@
 //! Seams between columns, swept again.
+ghost use Rattle.std.specs.Prelude.{◌≡◌, ◌∷◌, [], ◌-ℤ◌, pos, not, IsPermutation, IfOk};
+ghost use Rattle.std.specs.List.{flat_map};
+ghost use Rattle.std.specs.Ordering.{int_eq};
+ghost use Rattle.half_grid.specs.Edges.{edges_of_trapezoid};
+ghost use Rattle.half_grid.specs.JoinedLists.{IsJoined};
+ghost use Rattle.half_grid.specs.Trapezoids.{IsShot};
+ghost use Rattle.half_grid.specs.declared.border.Operand.TheVariants.{A};
+ghost use Rattle.column_sweep.specs.Sewing.{AreSewn, HaveSameTiles, StandSorted};
+ghost use Rattle.column_sweep.specs.Standings.{standing_of};
 
 use crate::columns::{Sewn, swept_columns};
 use crate::cuts::{Cut, fewer};
+use crate::sums::Level;
 use crate::sweep::plain;
 use geo_stream::NoMemory;
 use half_grid::{Edge, Operand, Trap, Window, place_of};
@@ -9,7 +19,9 @@ use scan_line::Rule;
 use std::alloc::Global;
 
 // The two edges of each trapezoid.
-fn edges_of(alloc: Global, traps: &[Trap]) -> Result<Vec<Edge>, NoMemory> {
+fn edges_of(alloc: Global, traps: &[Trap]) -> Result<Vec<Edge>, NoMemory>
+    ensures { IfOk result (λ edges. edges.items ≡ flat_map (edges_of_trapezoid A) traps.now) }
+{
     let mut edges = Vec::new(alloc);
     for trap in traps {
         edges.push(Edge::left_of(trap, Operand::A))?;
@@ -18,12 +30,20 @@ fn edges_of(alloc: Global, traps: &[Trap]) -> Result<Vec<Edge>, NoMemory> {
     Ok(edges)
 }
 
-// The seams swept in the columns between the cuts.
-fn resewn(alloc: Global, sewn: Sewn, window: Window, cuts: &[Cut]) -> Result<Sewn, NoMemory> {
-    let mut finals = sewn.finals;
+// The seams swept again, in the columns between these cuts.
+fn resewn(alloc: Global, sewn: Sewn, window: Window, cuts: &[Cut]) -> Result<Sewn, NoMemory>
+    requires { AreSewn window sewn.finals.items sewn.seams.items }
+    ensures sewn { IfOk result (λ next. AreSewn window next.finals.items next.seams.items) }
+    ensures same { IfOk result (λ next. HaveSameTiles next.finals.items next.seams.items sewn.finals.items sewn.seams.items) }
+{
     let edges = edges_of(alloc, sewn.seams.as_slice())?;
-    let rule = Rule::new(|a: i128, _b: i128| -> bool { a != 0 });
-    let next = swept_columns(alloc, edges, window, &rule, cuts)?;
+    let inside = Rule::new(
+        |a: i128, _b: i128| -> bool
+            ensures { result ≡ not (int_eq a (pos 0)) }
+        { a != 0 },
+    );
+    let next = swept_columns(alloc, edges, window, &inside, cuts)?;
+    let mut finals = sewn.finals;
     finals.extend_from_slice(next.finals.as_slice())?;
     Ok(Sewn {
         finals,
@@ -31,12 +51,20 @@ fn resewn(alloc: Global, sewn: Sewn, window: Window, cuts: &[Cut]) -> Result<Sew
     })
 }
 
-// The seams swept at once: each is final then.
-fn closed(alloc: Global, sewn: Sewn, window: Window) -> Result<Vec<Trap>, NoMemory> {
-    let mut finals = sewn.finals;
+// The seams swept at once. Each trapezoid is final then.
+fn closed(alloc: Global, sewn: Sewn, window: Window) -> Result<Vec<Trap>, NoMemory>
+    requires { AreSewn window sewn.finals.items sewn.seams.items }
+    ensures sewn { IfOk result (λ traps. AreSewn window traps.items []) }
+    ensures same { IfOk result (λ traps. HaveSameTiles traps.items [] sewn.finals.items sewn.seams.items) }
+{
     let edges = edges_of(alloc, sewn.seams.as_slice())?;
-    let rule = Rule::new(|a: i128, _b: i128| -> bool { a != 0 });
-    let last = plain(alloc, edges, window, &rule)?;
+    let inside = Rule::new(
+        |a: i128, _b: i128| -> bool
+            ensures { result ≡ not (int_eq a (pos 0)) }
+        { a != 0 },
+    );
+    let last = plain(alloc, edges, window, &inside)?;
+    let mut finals = sewn.finals;
     finals.extend_from_slice(last.as_slice())?;
     Ok(finals)
 }
@@ -48,11 +76,30 @@ struct Standing {
     place: i64,
 }
 
-fn standing_of(trap: &Trap) -> Standing {
+// The row below the top.
+fn top_row(trap: &Trap) -> Level
+    ensures row { result.y ≡ trap.now.y1 -ℤ pos 1 }
+    ensures shot { IsShot trap.now }
+{
+    Level { y: trap.y1() - 1 }
+}
+
+fn standing_of(trap: &Trap) -> Standing
+    ensures { result ≡ standing_of trap.now }
+{
+    let row = top_row(trap);
     Standing {
         top: trap.y1(),
-        place: place_of(trap.left(), trap.y1() - 1),
+        place: place_of(trap.left(), row.y),
     }
+}
+
+// Puts the trapezoids in the order of joined lists. It takes no memory.
+fn put_in_order(traps: &mut Vec<Trap>)
+    ensures permutation { IsPermutation traps.old.items traps.new.items }
+    ensures sorted { StandSorted traps.new.items }
+{
+    traps.sort_unstable_by_key(|trap| standing_of(trap));
 }
 
 /// All maximal trapezoids, from the final ones and the seams.
@@ -60,15 +107,19 @@ pub(crate) fn joined_seams(
     alloc: Global,
     sewn: Sewn,
     window: Window,
-    cuts: Vec<Cut>,
-) -> Result<Vec<Trap>, NoMemory> {
+    cuts: &[Cut],
+) -> Result<Vec<Trap>, NoMemory>
+    requires { AreSewn window sewn.finals.items sewn.seams.items }
+    ensures joined { IfOk result (λ traps. IsJoined window traps.items) }
+    ensures same { IfOk result (λ traps. HaveSameTiles traps.items [] sewn.finals.items sewn.seams.items) }
+{
     let mut sewn = sewn;
-    let mut cuts = fewer(alloc, cuts.as_slice())?;
+    let mut cuts = fewer(alloc, cuts)?;
     while !cuts.is_empty() {
         sewn = resewn(alloc, sewn, window, cuts.as_slice())?;
         cuts = fewer(alloc, cuts.as_slice())?;
     }
     let mut traps = closed(alloc, sewn, window)?;
-    traps.sort_unstable_by_key(|trap| standing_of(trap));
+    put_in_order(&mut traps);
     Ok(traps)
 }

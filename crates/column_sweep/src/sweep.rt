@@ -52,18 +52,22 @@ pub(crate) fn plain<F: Fn(i128, i128) -> bool + Drop>(
     joined(alloc, scan)
 }
 
-// The joined list, swept in the columns between these cuts.
+/// The joined list, swept in the columns between these cuts, whatever they are.
 pub(crate) fn swept_at<F: Fn(i128, i128) -> bool + Drop>(
     alloc: Global,
     edges: Vec<Edge>,
     window: Window,
     rule: &Rule<F>,
-    cuts: Vec<Cut>,
-) -> Result<Vec<Trap>, NoMemory> {
+    cuts: &[Cut],
+) -> Result<Vec<Trap>, NoMemory>
+    requires rule { IsRule (F.pre rule.now) (F.post rule.now) }
+    requires balanced { IsBalanced edges.items window }
+    ensures { IfOk result (λ traps. IsSwept (F.post rule.now) edges.items window traps.items) }
+{
     if cuts.is_empty() {
         return plain(alloc, edges, window, rule);
     }
-    let sewn = swept_columns(alloc, edges, window, rule, cuts.as_slice())?;
+    let sewn = swept_columns(alloc, edges, window, rule, cuts)?;
     joined_seams(alloc, sewn, window, cuts)
 }
 
@@ -80,5 +84,5 @@ pub fn swept<F: Fn(i128, i128) -> bool + Drop>(
     ensures { IfOk result (λ traps. IsSwept (F.post rule) edges.items window traps.items) }
 {
     let cuts = chosen_cuts(alloc, edges.as_slice())?;
-    swept_at(alloc, edges, window, &rule, cuts)
+    swept_at(alloc, edges, window, &rule, cuts.as_slice())
 }

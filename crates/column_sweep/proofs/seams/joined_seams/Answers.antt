@@ -1,0 +1,8 @@
+use Rattle.column_sweep.proofs.Stitching.{permuted_sewn, permuted_same, sorted_joined}
+use Rattle.column_sweep.proofs.seams.joined_seams.Goals as goal
+
+pub returns-clause-joined : goal.returns-clause-joined
+returns-clause-joined c = sorted_joined c.args.window _ (permuted_sewn c.args.window _ _ c.put_in_order.ensures.permutation c.in_ok-traps.ensures.sewn) c.put_in_order.ensures.sorted
+
+pub returns-clause-same : goal.returns-clause-same
+returns-clause-same c = ?
