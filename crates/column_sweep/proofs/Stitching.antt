@@ -210,11 +210,18 @@ permuted_sewn window traps sorted same sewn = record {
     counts : (t : Tile) → count_in sorted t ≡ count_in traps t
     counts t = sum_by-IsPermutation _ traps sorted same
 
-pub permuted_same : (traps sorted finals seams : List Trapezoid) → IsPermutation traps sorted → HaveSameTiles traps [] finals seams → HaveSameTiles sorted [] finals seams
-permuted_same traps sorted finals seams same h t = let n : count_in sorted t ≡ count_in traps t = sum_by-IsPermutation _ traps sorted same in let k = h t in omega (arith, n, k)
+pub permuted_count : (traps sorted : List Trapezoid) (t : Tile) → IsPermutation traps sorted → count_in sorted t + count_in [] t ≡ count_in traps t + count_in [] t
+permuted_count traps sorted t same = let n : count_in sorted t ≡ count_in traps t = sum_by-IsPermutation _ traps sorted same in omega (arith, n)
 
 pub sorted_joined : (window : RowRange) (traps : List Trapezoid) → AreSewn window traps [] → StandSorted traps → IsJoined window traps
 sorted_joined window traps sewn sorted =
     maximal_joined (HasTile traps []) window traps
     (in_strict_order traps sorted (All-weaker (IsMaximal (HasTile traps []) window) IsLegal (λ z m. m.legal) traps sewn.maximal) (λ t. (let most = sewn.apart t in omega (arith, most))))
     sewn.maximal (λ t h. found t traps (omega (arith, h)))
+
+-- and they cover what both lists covered
+pub covers_all : (area : Tile → Type 0) (traps finals seams : List Trapezoid) → HaveSameTiles traps [] finals seams → CoverTogether area finals seams → CoversExactly traps area
+covers_all area traps finals seams same covers = record {
+  once = λ t a. (let n = same t in let one = covers.once t a in omega (arith, n, one));
+  never = λ t no. (let n = same t in let none = covers.never t no in omega (arith, n, none));
+}
