@@ -1,8 +1,9 @@
-//! Where a sweep is cut into columns.
+//! Where a sweep is cut into columns. Any cuts give the same answer, so what is here steers the cost alone.
 ghost use Rattle.std.specs.Prelude.{◌<◌, length, IfOk};
 
+use crate::waiting::least_x;
 use geo_stream::NoMemory;
-use half_grid::{Edge, Line};
+use half_grid::{Edge, x_at};
 use std::alloc::Global;
 
 /// An upright line between two columns, by its X.
@@ -24,7 +25,124 @@ pub(crate) fn fewer(alloc: Global, cuts: &[Cut]) -> Result<Vec<Cut>, NoMemory>
     Ok(some)
 }
 
+/// No more edges than this are looked at for where to cut.
+const SAMPLE: usize = 8192;
+
+/// Sums over all edges, and the box round them.
+#[derive(Clone, Copy)]
+struct Sums {
+    bottom: i64,
+    top: i64,
+    left: i64,
+    right: i64,
+    heights: u128,
+    area: i128,
+}
+
+fn height_of(edge: &Edge) -> u64 {
+    edge.y1().abs_diff(edge.y0())
+}
+
+// The X of the edge's upper end.
+fn upper_x(edge: &Edge) -> i64 {
+    x_at(edge.line(), edge.y1())
+}
+
+// The edge's part of twice the area inside: its height, times the sum of the X of its ends.
+fn area_of(edge: &Edge) -> i128 {
+    let ends = i128::from(least_x(edge).x).wrapping_add(i128::from(upper_x(edge)));
+    let area = ends.wrapping_mul(i128::from(height_of(edge)));
+    if edge.is_up() {
+        return area.wrapping_neg();
+    }
+    area
+}
+
+impl Sums {
+    fn none() -> Sums {
+        Sums {
+            bottom: i64::MAX,
+            top: i64::MIN,
+            left: i64::MAX,
+            right: i64::MIN,
+            heights: 0,
+            area: 0,
+        }
+    }
+
+    fn with(self, edge: &Edge) -> Sums {
+        let x = least_x(edge).x;
+        Sums {
+            bottom: self.bottom.min(edge.y0()),
+            top: self.top.max(edge.y1()),
+            left: self.left.min(x),
+            right: self.right.max(x),
+            heights: self.heights.wrapping_add(u128::from(height_of(edge))),
+            area: self.area.wrapping_add(area_of(edge)),
+        }
+    }
+
+    // How many edges a row has.
+    fn alive(self) -> u128 {
+        let rows = u128::from(self.top.abs_diff(self.bottom));
+        self.heights.checked_div(rows).unwrap_or(0)
+    }
+
+    // How many shapes lie on a point, at least one.
+    fn depth(self) -> u128 {
+        let rows = u128::from(self.top.abs_diff(self.bottom));
+        let room = rows.wrapping_mul(u128::from(self.right.abs_diff(self.left)));
+        let twice = self.area.unsigned_abs() / 2;
+        twice.checked_div(room).unwrap_or(0).max(1)
+    }
+}
+
+fn sums_of(edges: &[Edge]) -> Sums {
+    let mut sums = Sums::none();
+    for edge in edges {
+        sums = sums.with(edge);
+    }
+    sums
+}
+
+// How many columns these edges are to be swept in. A column costs some 200 steps for each edge that crosses into it, and
+// the more columns there are, the fewer edges does a stop go over.
+fn columns_for(edges: &[Edge]) -> u128 {
+    let sums = sums_of(edges);
+    let depth = sums.depth();
+    let each = depth
+        .saturating_mul(depth.saturating_mul(4).saturating_add(200))
+        .isqrt()
+        .max(1);
+    let wanted = sums.alive().checked_div(each).unwrap_or(0);
+    wanted.min(edges.len() as u128 / 16)
+}
+
+// The least X of some of the edges, sorted.
+fn sample(alloc: Global, edges: &[Edge]) -> Result<Vec<Cut>, NoMemory> {
+    let mut some = Vec::new(alloc);
+    let step = (edges.len() / SAMPLE).max(1);
+    for edge in edges.iter().step_by(step) {
+        some.push(least_x(edge))?;
+    }
+    some.sort_unstable();
+    Ok(some)
+}
+
 /// Where to cut a sweep of these edges.
 pub(crate) fn chosen_cuts(alloc: Global, edges: &[Edge]) -> Result<Vec<Cut>, NoMemory> {
-    Ok(Vec::new(alloc))
+    let mut cuts = Vec::new(alloc);
+    let columns = columns_for(edges);
+    if columns < 2 {
+        return Ok(cuts);
+    }
+    let some = sample(alloc, edges)?;
+    let each = (some.len() as u128 / columns).max(1);
+    let each = usize::try_from(each).unwrap_or(usize::MAX);
+    for at in some.iter().step_by(each).skip(1) {
+        cuts.push(Cut {
+            x: at.x.saturating_sub(1),
+        })?;
+    }
+    Ok(cuts)
 }

@@ -7,8 +7,8 @@ use crate::cuts::Cut;
 use geo_stream::NoMemory;
 use half_grid::{Edge, x_at};
 
-// The least X of an edge.
-fn least_x(edge: &Edge) -> Cut
+/// The least X of an edge.
+pub(crate) fn least_x(edge: &Edge) -> Cut
     ensures { result ≡ least_x edge.now }
 {
     Cut {
