@@ -38,9 +38,9 @@ fn resewn(alloc: Global, sewn: Sewn, window: Window, cuts: &[Cut]) -> Result<Sew
 {
     let edges = edges_of(alloc, sewn.seams.as_slice())?;
     let inside = Rule::new(
-        |a: i128, _b: i128| -> bool
-            ensures { result ≡ not (int_eq a (pos 0)) }
-        { a != 0 },
+        |winding: i128, _other: i128| -> bool
+            ensures { result ≡ not (int_eq winding (pos 0)) }
+        { winding != 0 },
     );
     let next = swept_columns(alloc, edges, window, &inside, cuts)?;
     let mut finals = sewn.finals;

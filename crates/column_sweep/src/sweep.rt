@@ -68,8 +68,8 @@ pub(crate) fn swept_at<F: Fn(i128, i128) -> bool + Drop>(
         return plain(alloc, edges, window, rule);
     }
     let sewn = swept_columns(alloc, edges, window, rule, cuts)?;
-    let traps = joined_seams(alloc, sewn, window, cuts)?;
-    Ok(traps)
+    let whole = joined_seams(alloc, sewn, window, cuts)?;
+    Ok(whole)
 }
 
 /// The joined list of the window's tiles that the rule takes. Want of memory is its only refusal. In each row of the
