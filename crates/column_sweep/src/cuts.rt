@@ -118,6 +118,45 @@ fn columns_for(edges: &[Edge]) -> u128 {
     wanted.min(edges.len() as u128 / 16)
 }
 
+// The lower Y of some of the edges, sorted.
+fn bottoms(alloc: Global, edges: &[Edge]) -> Result<Vec<i64>, NoMemory> {
+    let mut some = Vec::new(alloc);
+    let step = (edges.len() / SAMPLE).max(1);
+    for edge in edges.iter().step_by(step) {
+        some.push(edge.y0())?;
+    }
+    some.sort_unstable();
+    Ok(some)
+}
+
+// How many different numbers a sorted list has.
+fn different(sorted: &[i64]) -> u128 {
+    let mut count = 0u128;
+    let mut last = None;
+    for y in sorted {
+        if last != Some(*y) {
+            count = count.wrapping_add(1);
+        }
+        last = Some(*y);
+    }
+    count
+}
+
+/// How many edges a sweep without columns may go over, where it is to be tried first: where many edges begin at one Y,
+/// as in an array, and so few stops are to be expected that it goes over an edge some dozen times at most.
+pub(crate) fn plain_budget(alloc: Global, edges: &[Edge]) -> Result<Option<u64>, NoMemory> {
+    let some = bottoms(alloc, edges)?;
+    let stops = different(some.as_slice());
+    if (some.len() as u128) < stops.saturating_mul(2) {
+        return Ok(None);
+    }
+    let walked = stops.saturating_mul(2).saturating_mul(sums_of(edges).alive());
+    if (edges.len() as u128).saturating_mul(24) < walked {
+        return Ok(None);
+    }
+    Ok(Some((edges.len() as u64).saturating_mul(48)))
+}
+
 // The least X of some of the edges, sorted.
 fn sample(alloc: Global, edges: &[Edge]) -> Result<Vec<Cut>, NoMemory> {
     let mut some = Vec::new(alloc);
