@@ -129,22 +129,22 @@ module _ (area own : Tile → Type 0) (window : RowRange) (low from x : ℤ) (lo
   still_settled z s = record {
     maximal = one_of_whole Now window low from z (same_area (HasTile finals seams) (PartIn low from Now) window old_part part_old z s.maximal) s.inside;
     inside = record {
-        bottom_left = s.inside.bottom_left;
-        top_left = s.inside.top_left;
-        bottom_right = (let h = s.inside.bottom_right in omega (arith, ints, h, from_x));
-        top_right = (let h = s.inside.top_right in omega (arith, ints, h, from_x));
-      };
+      bottom_left = s.inside.bottom_left;
+      top_left = s.inside.top_left;
+      bottom_right = (let h = s.inside.bottom_right in omega (arith, ints, h, from_x));
+      top_right = (let h = s.inside.top_right in omega (arith, ints, h, from_x));
+    };
   }
 
   newly_settled : (z : Trapezoid) → Contains traps z × IsStrictlyInside from x z → IsSettled Now window low x z
   newly_settled z s = record {
     maximal = one_of_whole Now window from x z (same_area (Has traps) (PartIn from x Now) window new_part part_new z (joined_member window traps joined z s.0)) s.1;
     inside = record {
-        bottom_left = (let h = s.1.bottom_left in omega (arith, ints, h, low_from));
-        top_left = (let h = s.1.top_left in omega (arith, ints, h, low_from));
-        bottom_right = s.1.bottom_right;
-        top_right = s.1.top_right;
-      };
+      bottom_left = (let h = s.1.bottom_left in omega (arith, ints, h, low_from));
+      top_left = (let h = s.1.top_left in omega (arith, ints, h, low_from));
+      bottom_right = s.1.bottom_right;
+      top_right = s.1.top_right;
+    };
   }
 
   piece : (z : Trapezoid) → Contains traps z → IsPiece window z

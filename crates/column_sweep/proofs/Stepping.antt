@@ -191,7 +191,6 @@ steps_aside sum ups downs rises falls r h = subst (λ (xs : List Level). AreStep
 pub falls_aside : (sum : ℤ → ℤ) (ups downs rises falls : List Level) (f : Level) → AreSteps sum (ups ++ rises) (downs ++ f ∷ falls) → AreSteps sum (ups ++ rises) ((downs ++ f ∷ []) ++ falls)
 falls_aside sum ups downs rises falls f h = subst (λ (xs : List Level). AreSteps sum (ups ++ rises) xs) (sym (cons_append downs falls f)) h
 
-
 pub same_operand : (o p q : Operand) (b c : Bool) → q ≡ p → b ≡ is_of o q → b ≡ c → is_of o p ≡ c
 same_operand o p q b c e is h = ap (λ (r : Operand). is_of o r) (sym e) ∙ (sym is ∙ h)
 

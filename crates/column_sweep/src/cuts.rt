@@ -150,7 +150,9 @@ pub(crate) fn plain_budget(alloc: Global, edges: &[Edge]) -> Result<Option<u64>,
     if (some.len() as u128) < stops.saturating_mul(2) {
         return Ok(None);
     }
-    let walked = stops.saturating_mul(2).saturating_mul(sums_of(edges).alive());
+    let walked = stops
+        .saturating_mul(2)
+        .saturating_mul(sums_of(edges).alive());
     if (edges.len() as u128).saturating_mul(24) < walked {
         return Ok(None);
     }

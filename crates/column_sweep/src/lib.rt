@@ -10,7 +10,6 @@ mod parting;
 mod seams;
 mod sums;
 mod sweep;
-
 #[cfg(test)]
 mod tests;
 mod waiting;

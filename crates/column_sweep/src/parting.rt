@@ -55,13 +55,7 @@ fn part_over(edge: &Edge, rows: Slab) -> Option<Edge>
     requires top { rows.y1 ≤ℤ edge.now.y1 }
     ensures { result ≡ part_over edge.now rows.y0 rows.y1 }
 {
-    Edge::new(
-        rows.y0,
-        rows.y1,
-        edge.line(),
-        edge.is_up(),
-        edge.operand(),
-    )
+    Edge::new(rows.y0, rows.y1, edge.line(), edge.is_up(), edge.operand())
 }
 
 fn part_below(edge: &Edge, level: Level) -> Option<Edge>

@@ -111,9 +111,10 @@ fn cancelled(alloc: Global, rises: &[Level], falls: &[Level]) -> Result<Steps, N
     let mut down = Vec::new(alloc);
     let mut rising = rises;
     let mut falling = falls;
-    while let (Some((rise, later_rises)), Some((fall, later_falls))) =
-        (rising.split_first(), falling.split_first())
-    {
+    while let (Some((rise, later_rises)), Some((fall, later_falls))) = (
+        rising.split_first(),
+        falling.split_first(),
+    ) {
         if rise.y < fall.y {
             up.push(*rise)?;
             rising = later_rises;

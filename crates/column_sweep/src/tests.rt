@@ -77,7 +77,15 @@ fn cuts_change_nothing(rt: HostRuntime) -> Result<(), Fail> {
     check_cuts(&rt, &[Cut { x: 4 }, Cut { x: 8 }, Cut { x: 16 }])?;
     check_cuts(&rt, &[Cut { x: 6 }, Cut { x: 13 }])?;
     // out of order, twice, and beyond reach
-    check_cuts(&rt, &[Cut { x: 10 }, Cut { x: 10 }, Cut { x: 3 }, Cut { x: i64::MAX }])
+    check_cuts(
+        &rt,
+        &[
+            Cut { x: 10 },
+            Cut { x: 10 },
+            Cut { x: 3 },
+            Cut { x: i64::MAX },
+        ],
+    )
 }
 
 #[test]
