@@ -1,15 +1,15 @@
 -- What edges add up to in a row, list by list.
-use Rattle.std.proofs.Common.{◌≡◌, ℕ, ◌+◌, Bool, true, false, ◌&&◌, not, ℤ, pos, neg_ℤ, ◌+ℤ◌, ◌-ℤ◌, ◌≤ℤ◌, ◌<ℤ◌, arith, refl, sym, ap, ◌∙◌, List, [], ◌∷◌, ◌++◌, count_by, cond, map}
+use Rattle.std.proofs.Common.{◌≡◌, ℕ, ◌+◌, Bool, true, false, ◌&&◌, not, ℤ, pos, ◌+ℤ◌, ◌-ℤ◌, ◌≤ℤ◌, ◌<ℤ◌, arith, refl, sym, ap, ◌∙◌, List, [], ◌∷◌, ◌++◌, count_by}
 use Rattle.std.proofs.lemmas.Int.{ints}
 use Rattle.std.proofs.lemmas.List.Sums.{sum_by-append}
 use Rattle.std.proofs.lemmas.List.Sorted.{sum_by-IsPermutation}
 use Rattle.std.proofs.lemmas.List.Elements.{All-head, All-tail, All-weaker}
 use Rattle.std.specs.List.{All}
-use Rattle.std.specs.Prelude.{int_le, int_lt, IsPermutation}
+use Rattle.std.specs.Prelude.{int_le, IsPermutation}
 use Rattle.half_grid.specs.Lines.{strip_along, first_strip}
 use Rattle.half_grid.specs.Rows.{place, number_in_row}
 use Rattle.half_grid.specs.Winding.{count_one}
-use Rattle.half_grid.specs.Edges.{EdgeParts, edge_parts, edges_winding, spans, is_of}
+use Rattle.half_grid.specs.Edges.{EdgeParts, edges_winding, spans, is_of}
 use Rattle.half_grid.specs.declared.plane.Tile.{Tile}
 use Rattle.half_grid.specs.declared.plane.Line.{Line}
 use Rattle.half_grid.specs.declared.border.Operand.{Operand}

@@ -1,18 +1,18 @@
 -- From edges split at an upright line to edges for each of its sides.
-use Rattle.std.proofs.Common.{◌≡◌, Bool, true, false, ◌&&◌, not, ℤ, pos, ◌+ℤ◌, ◌-ℤ◌, ◌≤ℤ◌, ◌<ℤ◌, arith, refl, sym, ap, ◌∙◌, subst, List, [], ◌∷◌, ◌++◌, map}
+use Rattle.std.proofs.Common.{◌≡◌, Bool, true, false, ◌&&◌, not, ℤ, pos, ◌+ℤ◌, ◌-ℤ◌, ◌≤ℤ◌, ◌<ℤ◌, arith, refl, List, [], ◌∷◌, ◌++◌, map}
 use Rattle.std.proofs.lemmas.Int.{ints}
 use Rattle.std.proofs.lemmas.List.Elements.{All-weaker, All-head, All-tail, All-cons, All-nil, All-append}
 use Rattle.std.specs.List.{All}
 use Rattle.half_grid.specs.Rows.{place, number_in_row}
 use Rattle.half_grid.specs.Winding.{count_one}
-use Rattle.half_grid.specs.Edges.{EdgeParts, edge_parts, edges_winding, spans, is_of}
+use Rattle.half_grid.specs.Edges.{EdgeParts, edges_winding, spans, is_of}
 use Rattle.half_grid.specs.declared.plane.Tile.{Tile}
 use Rattle.half_grid.specs.declared.plane.Line.{Line}
 use Rattle.half_grid.specs.declared.plane.Line.TheVariants.{Upright}
 use Rattle.half_grid.specs.declared.border.Operand.{Operand}
-use Rattle.half_grid.proofs.ForCallers.{count_by-cons, i_low, i_high, windings_add}
+use Rattle.half_grid.proofs.ForCallers.{i_low, i_high, windings_add}
 use Rattle.scan_line.specs.Actives.{SpansRow}
-use Rattle.column_sweep.specs.RowSums.{up_among, down_among, sum_among, any_line, row_sum}
+use Rattle.column_sweep.specs.RowSums.{sum_among, any_line, row_sum}
 use Rattle.column_sweep.specs.Parts.{LiesLeft, LiesRight, turned, AddUp, AreSplit, AreParts, AreSums}
 use Rattle.column_sweep.proofs.Adding.{has_right, winding_is_sum, sum_nil, sum_append, sum_cons, sum_one, right_of_all, left_of_all}
 

@@ -1,5 +1,5 @@
 -- An edge's parts below and above a Y, and on both sides of an upright line.
-use Rattle.std.proofs.Common.{FitsSigned, w64, to_z, of_z, ◌*ℤ◌, ◌≡◌, Bool, true, false, ◌&&◌, not, ℤ, pos, ◌+ℤ◌, ◌-ℤ◌, ◌≤ℤ◌, ◌<ℤ◌, arith, refl, sym, ap, ◌∙◌, subst, cond, List, [], ◌∷◌, ◌++◌, Option, Some, None}
+use Rattle.std.proofs.Common.{FitsSigned, w64, to_z, of_z, ◌*ℤ◌, ◌≡◌, Bool, true, false, ◌&&◌, not, ℤ, pos, ◌+ℤ◌, ◌-ℤ◌, ◌≤ℤ◌, ◌<ℤ◌, arith, refl, sym, ap, ◌∙◌, cond, List, [], ◌∷◌, Option, Some, None}
 use Rattle.std.proofs.lemmas.Int.{ints, clamps, by_lt_z, to_z-of_z}
 use Rattle.std.proofs.lemmas.List.Elements.{All-cons, All-nil}
 use Rattle.std.specs.List.{All}
@@ -8,17 +8,14 @@ use Rattle.std.specs.Int.{int_min, int_max}
 use Rattle.std.specs.Prelude.{int_lt, int_le, SomeIff}
 use Rattle.half_grid.specs.Lines.{x_on, first_strip}
 use Rattle.half_grid.specs.Reach.{IsWithinReach}
-use Rattle.half_grid.specs.Rows.{place}
-use Rattle.half_grid.specs.Edges.{EdgeParts, IsEdge, edge_parts, spans, is_of}
-use Rattle.half_grid.specs.Winding.{count_one}
+use Rattle.half_grid.specs.Edges.{EdgeParts, IsEdge, edge_parts, spans}
 use Rattle.half_grid.specs.declared.plane.Line.{Line}
 use Rattle.half_grid.specs.declared.plane.Line.TheVariants.{Upright, Rising, Falling}
 use Rattle.half_grid.specs.declared.border.Operand.{Operand}
 use Rattle.half_grid.proofs.ForCallers.{strip_within}
-use Rattle.scan_line.specs.Actives.{SpansRow}
 use Rattle.column_sweep.specs.RowSums.{sum_among}
 use Rattle.column_sweep.specs.Parts.{LiesLeft, LiesRight, part_over, part_below, part_above, AddUp}
-use Rattle.column_sweep.proofs.Adding.{sum_nil, sum_one, sum_none, sum_append}
+use Rattle.column_sweep.proofs.Adding.{sum_nil, sum_one, sum_none}
 
 pub between : (a b y : ℤ) → IsWithinReach a → IsWithinReach b → a ≤ℤ y → y ≤ℤ b → IsWithinReach y
 between a b y ha hb l h = record { low = omega (arith, ints, ha.low, l); high = omega (arith, ints, hb.high, h) }

@@ -1,5 +1,5 @@
 -- A rule that asks another one.
-use Rattle.std.proofs.Common.{List, ℤ, pos, neg_ℤ, Bool, true, false, IsTrue, arith, ◌≡◌, refl, sym, subst}
+use Rattle.std.proofs.Common.{List, ℤ, pos, Bool, true, false, IsTrue, arith, ◌≡◌, refl, sym, subst}
 use Rattle.std.proofs.lemmas.Int.{ints}
 use Rattle.std.specs.Prelude.{◌↔◌}
 use Rattle.half_grid.specs.Edges.{EdgeParts}

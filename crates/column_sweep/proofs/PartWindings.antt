@@ -1,12 +1,11 @@
 -- From windings on both sides of an upright line to the area of a column.
-use Rattle.std.proofs.Common.{◌≡◌, ◌^◌, ◌+◌, ℤ, pos, negsuc, neg_ℤ, ◌+ℤ◌, ◌-ℤ◌, ◌≤ℤ◌, ◌<ℤ◌, Bool, arith, refl, sym, ap, ◌∙◌, subst, List, [], ◌∷◌, ◌++◌}
+use Rattle.std.proofs.Common.{◌≡◌, ◌^◌, ◌+◌, ℤ, pos, negsuc, ◌+ℤ◌, ◌≤ℤ◌, ◌<ℤ◌, Bool, arith, sym, ◌∙◌, subst, List, ◌++◌}
 use Rattle.std.proofs.lemmas.Int.{ints, by_lt_z, clamps}
 use Rattle.std.proofs.lemmas.List.Elements.{All-weaker}
 use Rattle.std.specs.List.{All}
 use Rattle.std.specs.Prelude.{IsPermutation}
 use Rattle.half_grid.specs.Edges.{EdgeParts, IsEdge, edges_winding}
 use Rattle.half_grid.specs.Lines.{x_on}
-use Rattle.half_grid.specs.Rows.{place}
 use Rattle.half_grid.specs.Trapezoids.{Trapezoid}
 use Rattle.half_grid.specs.Windows.{RowRange}
 use Rattle.half_grid.specs.declared.plane.Tile.{Tile}
@@ -15,19 +14,18 @@ use Rattle.half_grid.specs.declared.plane.Line.TheVariants.{Upright, Rising, Fal
 use Rattle.half_grid.specs.declared.border.Operand.{Operand}
 use Rattle.half_grid.specs.declared.border.Operand.TheVariants.{A, B}
 use Rattle.half_grid.proofs.ForCallers.{windings_add}
-use Rattle.scan_line.specs.Actives.{SpansRow}
 use Rattle.scan_line.specs.Rules.{IsRule, Takes}
 use Rattle.scan_line.specs.Runs.{IsBalanced}
-use Rattle.scan_line.proofs.ForCallers.{winding_permuted, balanced_permuted, takes_no_nothing}
+use Rattle.scan_line.proofs.ForCallers.{winding_permuted, takes_no_nothing}
 use Rattle.trap_join.specs.Joins.{IsTakenIn}
 use Rattle.column_sweep.specs.ColumnLaws.{IsInColumn}
-use Rattle.column_sweep.specs.RowSums.{any_line, row_sum}
+use Rattle.column_sweep.specs.RowSums.{any_line}
 use Rattle.column_sweep.specs.Parts.{LiesLeft, LiesRight, AreParts}
 use Rattle.column_sweep.specs.Sewing.{AreLeft, AreSweptTo, AreSweptIn}
 use Rattle.column_sweep.proofs.Adding.{sum_append, sum_permuted, balanced_by_sum, sum_by_balance}
 use Rattle.column_sweep.proofs.Awaiting.{right_of_least}
 use Rattle.column_sweep.proofs.Closing.{right_of_left, left_of_right}
-use Rattle.column_sweep.proofs.Progressing.{column_swept, swept_none}
+use Rattle.column_sweep.proofs.Progressing.{column_swept}
 
 -- these edges wind in the column as all do, and round no tile outside of it in the window's rows
 pub record WindInColumn (window : RowRange) (from x : ℤ) (edges own : List EdgeParts) : Type 0 where

@@ -1,5 +1,5 @@
 -- The levels at which sums over rows change, and upright edges made of them.
-use Rattle.std.proofs.Common.{◌≡◌, ℕ, ◌+◌, Bool, true, false, ◌&&◌, not, ℤ, pos, neg_ℤ, ◌+ℤ◌, ◌-ℤ◌, ◌≤ℤ◌, ◌<ℤ◌, arith, refl, sym, ap, ◌∙◌, subst, cond, List, [], ◌∷◌, ◌++◌, Option, Some, None, count_by, length}
+use Rattle.std.proofs.Common.{◌≡◌, ℕ, ◌+◌, Bool, true, false, ◌&&◌, not, ℤ, pos, ◌+ℤ◌, ◌-ℤ◌, ◌≤ℤ◌, ◌<ℤ◌, arith, refl, sym, ap, ◌∙◌, subst, cond, List, [], ◌∷◌, ◌++◌, Option, Some, None, length}
 use Rattle.std.proofs.lemmas.Int.{ints, by_lt_z}
 use Rattle.std.proofs.lemmas.List.{length-append}
 use Rattle.std.proofs.lemmas.List.Sums.{sum_by-append}
@@ -11,16 +11,15 @@ use Rattle.std.specs.Prelude.{int_lt, int_le, IsPermutation, SomeIff, if◌then�
 use Rattle.half_grid.specs.Reach.{IsWithinReach}
 use Rattle.half_grid.specs.Winding.{count_one}
 use Rattle.half_grid.specs.Edges.{EdgeParts, IsEdge, edge_parts, spans, is_of}
-use Rattle.half_grid.specs.declared.plane.Line.{Line}
 use Rattle.half_grid.specs.declared.plane.Line.TheVariants.{Upright}
 use Rattle.half_grid.specs.declared.border.Operand.{Operand}
 use Rattle.half_grid.specs.declared.border.Operand.TheVariants.{A, B}
 use Rattle.half_grid.proofs.ForCallers.{count_by-cons}
 use Rattle.column_sweep.specs.declared.sums.Level.{Level}
-use Rattle.column_sweep.specs.RowSums.{sum_among, any_line, row_sum}
+use Rattle.column_sweep.specs.RowSums.{any_line, row_sum}
 use Rattle.column_sweep.specs.Steps.{up_to, height, AreSteps}
 use Rattle.column_sweep.specs.Parts.{AreSumsOf, AreSums}
-use Rattle.column_sweep.proofs.Adding.{sum_nil, sum_one, sum_append, sum_none}
+use Rattle.column_sweep.proofs.Adding.{sum_nil, sum_one, sum_append}
 
 abbrev Within : Level → Type 0
 Within level = IsWithinReach level.y

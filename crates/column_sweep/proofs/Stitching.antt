@@ -1,18 +1,18 @@
 -- The seams of an area, swept again: what is maximal in them is maximal in the whole.
-use Rattle.std.proofs.Common.{◌≡◌, ◌≢◌, ℕ, suc, zero, ◌+◌, ◌<◌, ◌≤◌, ℤ, pos, ◌+ℤ◌, ◌-ℤ◌, ◌≤ℤ◌, ◌<ℤ◌, Bool, true, false, ◌&&◌, not, add_comm, count_by, arith, refl, sym, ap, ◌∙◌, subst, List, [], ◌∷◌, ◌++◌}
+use Rattle.std.proofs.Common.{◌≡◌, ℕ, suc, zero, ◌+◌, ◌<◌, ◌≤◌, ℤ, pos, ◌-ℤ◌, ◌≤ℤ◌, ◌<ℤ◌, Bool, true, false, ◌&&◌, not, add_comm, count_by, arith, refl, sym, ap, ◌∙◌, subst, List, [], ◌∷◌, ◌++◌}
 use Rattle.std.proofs.lemmas.Int.{ints, by_lt_z}
 use Rattle.std.proofs.lemmas.List.Elements.{All-append, All-weaker, All-contains, All-nil, All-head, All-tail}
 use Rattle.std.proofs.lemmas.List.Sorted.{All-permutation, sum_by-IsPermutation}
 use Rattle.std.specs.List.{All, Contains, flat_map}
 use Rattle.std.specs.Ordering.{int_eq}
 use Rattle.std.specs.Prelude.{IsPermutation}
-use mathlib.Core.Logic.{◌⊎◌, inl, inr}
+use mathlib.Core.Logic.{inl, inr}
 use Rattle.std.proofs.lemmas.List.Sums.{sum_by-append}
 use Rattle.half_grid.specs.Winding.{count_one}
 use Rattle.half_grid.specs.declared.border.Operand.{Operand}
 use Rattle.scan_line.specs.Runs.{IsBalancedAt}
 use Rattle.half_grid.specs.Edges.{EdgeParts, edges_of_trapezoid, edges_winding, spans, is_of, left_edge, right_edge}
-use Rattle.half_grid.specs.JoinedLists.{IsJoined, IsInWindow, StandInOrder, StandsBefore}
+use Rattle.half_grid.specs.JoinedLists.{IsJoined, StandInOrder, StandsBefore}
 use Rattle.half_grid.specs.Rows.{place}
 use Rattle.half_grid.specs.Trapezoids.{Trapezoid, IsLegal, CoversExactly, count_in, trapezoid_has}
 use Rattle.half_grid.specs.Windows.{RowRange}
@@ -21,8 +21,8 @@ use Rattle.half_grid.specs.declared.border.Operand.TheVariants.{A, B}
 use Rattle.half_grid.proofs.ForCallers.{has_in, in_has, winding_is_count, count_by-cons, tile_with, legal_places}
 use Rattle.trap_join.specs.Joins.{IsTakenIn}
 use Rattle.trap_join.specs.Maximal.{IsMaximal}
-use Rattle.trap_join.proofs.ForCallers.{Found, found, counted, none_counted, all_members, maximal_joined, in_at}
-use Rattle.column_sweep.specs.ColumnLaws.{Rest, IsFree}
+use Rattle.trap_join.proofs.ForCallers.{found, counted, none_counted, all_members, maximal_joined, in_at}
+use Rattle.column_sweep.specs.ColumnLaws.{Rest}
 use Rattle.column_sweep.specs.Sewing.{CoverTogether, HasTile, IsPiece, AreSewn, HaveSameTiles, StandsNotAfter, StandSorted}
 use Rattle.column_sweep.proofs.Progressing.{same_area, count_append, Has, some_or_none, joined_member}
 use Rattle.column_sweep.proofs.Rests.{other_is_maximal}

@@ -1,8 +1,7 @@
 -- Edges for the tiles left of an upright line X = x, and edges for those right of it.
-use Rattle.std.specs.Prelude.{ℤ, pos, ◌+ℤ◌, ◌≤ℤ◌, ◌<ℤ◌, ◌≡◌, Bool, not, Option, Some, None, if◌then◌else◌, int_lt, List, ◌++◌, All}
+use Rattle.std.specs.Prelude.{ℤ, pos, ◌+ℤ◌, ◌≤ℤ◌, ◌<ℤ◌, ◌≡◌, Bool, not, Option, Some, None, if◌then◌else◌, int_lt, List, All}
 use Rattle.std.specs.Int.{int_min, int_max}
 use Rattle.half_grid.specs.Edges.{EdgeParts, edge_parts, edges_winding, is_of}
-use Rattle.half_grid.specs.Lines.{x_on}
 use Rattle.half_grid.specs.Rows.{place}
 use Rattle.half_grid.specs.declared.plane.Tile.{Tile}
 use Rattle.half_grid.specs.declared.plane.Line.{Line}

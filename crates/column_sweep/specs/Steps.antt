@@ -1,9 +1,6 @@
 -- The levels at which a sum over rows rises by one, and those at which it falls by one.
-use Rattle.std.specs.Prelude.{ℕ, ℤ, pos, ◌-ℤ◌, ◌≡◌, Bool, List, count_by, length, All, int_le}
-use Rattle.half_grid.specs.Edges.{EdgeParts, is_of}
+use Rattle.std.specs.Prelude.{ℕ, ℤ, pos, ◌-ℤ◌, ◌≡◌, List, count_by, length, All, int_le}
 use Rattle.half_grid.specs.Reach.{IsWithinReach}
-use Rattle.half_grid.specs.declared.plane.Line.TheVariants.{Upright}
-use Rattle.half_grid.specs.declared.border.Operand.{Operand}
 use Rattle.column_sweep.specs.declared.sums.Level.{Level}
 
 -- those at the row or below it

@@ -1,10 +1,10 @@
-use Rattle.std.proofs.Common.{◌≡◌, ℤ, Bool, List, [], ◌++◌, pos, negsuc, ◌^◌, ◌+◌, ◌≤ℤ◌, ◌<ℤ◌, All, subst, sym, arith}
+use Rattle.std.proofs.Common.{ℤ, Bool, List, pos, negsuc, ◌^◌, ◌+◌, All, subst, sym, arith}
 use Rattle.std.proofs.lemmas.Int.{ints}
 use Rattle.std.proofs.lemmas.Result.{IfOk-weaker}
 use Rattle.std.proofs.lemmas.List.Sorted.{All-permutation, IsPermutation-sym}
 use Rattle.half_grid.specs.Edges.{EdgeParts, IsEdge}
 use Rattle.trap_join.specs.Joins.{IsTakenIn}
-use Rattle.column_sweep.specs.Sewing.{CoverTogether, AreSewn, AreSweptTo, AreLeft}
+use Rattle.column_sweep.specs.Sewing.{CoverTogether, AreSewn, AreLeft}
 use Rattle.column_sweep.proofs.PartWindings.{first_left, rest_balanced, none_before, none_behind}
 use Rattle.column_sweep.proofs.Progressing.{swept_none, all_sewn, all_covered}
 use Rattle.column_sweep.proofs.columns.swept_columns.Goals as goal

@@ -1,4 +1,4 @@
-use Rattle.std.proofs.Common.{ℤ, Bool, pos, negsuc, ◌^◌, ◌+◌, ◌++◌, ◌≤ℤ◌, ◌<ℤ◌}
+use Rattle.std.proofs.Common.{pos, negsuc, ◌^◌, ◌+◌, ◌++◌, ◌≤ℤ◌, ◌<ℤ◌}
 use Rattle.trap_join.specs.Joins.{IsTakenIn}
 use Rattle.column_sweep.specs.Sewing.{AreSweptTo, AreLeft}
 use Rattle.column_sweep.specs.Waiting.{LeastsAscend}

@@ -1,8 +1,8 @@
-use Rattle.std.proofs.Common.{◌≡◌, ◌∙◌, sym, subst, List, Option, All}
+use Rattle.std.proofs.Common.{◌≡◌, ◌∙◌, sym, subst, Option, All}
 use Rattle.std.specs.Option.{option_to_list}
 use Rattle.half_grid.specs.Edges.{EdgeParts}
 use Rattle.half_grid.specs.declared.plane.Line.TheVariants.{Rising, Falling}
-use Rattle.column_sweep.specs.Parts.{LiesLeft, LiesRight, part_below, part_above, AddUp}
+use Rattle.column_sweep.specs.Parts.{LiesLeft, LiesRight}
 use Rattle.column_sweep.proofs.Halving.{add_left, add_right, parts_add, add_other_way, rising_left, rising_right, falling_left, falling_right}
 use Rattle.column_sweep.proofs.parting.halves_of.Goals as goal
 

@@ -1,8 +1,6 @@
-use Rattle.std.proofs.Common.{rules, ◌≡◌, ◌+◌, take, sym, subst, List, ◌++◌, ◌∷◌, []}
+use Rattle.std.proofs.Common.{rules, ◌≡◌, ◌+◌, take, ◌++◌, ◌∷◌, []}
 use Rattle.std.specs.Option.{option_to_list}
 use Rattle.std.proofs.lemmas.List.{take_more}
-use Rattle.half_grid.specs.Edges.{EdgeParts}
-use Rattle.column_sweep.specs.Parts.{AreSplit}
 use Rattle.column_sweep.proofs.Closing.{split_more, split_none}
 use Rattle.column_sweep.proofs.parting.split.Goals as goal
 

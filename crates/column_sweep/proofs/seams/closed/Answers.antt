@@ -1,4 +1,4 @@
-use Rattle.std.proofs.Common.{◌≡◌, ◌∙◌, ap, sym, subst, refl, List}
+use Rattle.std.proofs.Common.{◌∙◌, ap, sym, subst, refl, List}
 use Rattle.std.specs.List.{flat_map}
 use Rattle.half_grid.specs.Edges.{EdgeParts, edges_of_trapezoid}
 use Rattle.half_grid.specs.declared.border.Operand.TheVariants.{A}

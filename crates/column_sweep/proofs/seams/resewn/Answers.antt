@@ -1,7 +1,6 @@
-use Rattle.std.proofs.Common.{◌≡◌, ◌∙◌, ap, sym, subst, refl, List}
+use Rattle.std.proofs.Common.{◌∙◌, ap, sym, subst, refl, List}
 use Rattle.std.specs.List.{flat_map}
 use Rattle.half_grid.specs.Edges.{EdgeParts, edges_of_trapezoid}
-use Rattle.half_grid.specs.Trapezoids.{Trapezoid}
 use Rattle.half_grid.specs.declared.border.Operand.TheVariants.{A}
 use Rattle.scan_line.specs.Runs.{IsBalancedAt}
 use Rattle.column_sweep.proofs.Stitching.{sewn_again, same_again, taken_has, has_taken, seams_balanced}

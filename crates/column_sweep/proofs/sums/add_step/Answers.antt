@@ -1,6 +1,5 @@
-use Rattle.std.proofs.Common.{◌≡◌, ◌∙◌, sym, ap, true, false, not}
+use Rattle.std.proofs.Common.{◌≡◌, true, false}
 use Rattle.half_grid.specs.Edges.{is_of}
-use Rattle.half_grid.specs.declared.border.Operand.{Operand}
 use Rattle.column_sweep.proofs.Stepping.{steps_more, steps_skip, same_operand}
 use Rattle.column_sweep.proofs.sums.add_step.Goals as goal
 

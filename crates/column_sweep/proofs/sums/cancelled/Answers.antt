@@ -1,7 +1,5 @@
-use Rattle.std.proofs.Common.{◌≡◌, ◌≤ℤ◌, ◌++◌, rules, arith, subst, List, sym}
+use Rattle.std.proofs.Common.{◌≡◌, ◌≤ℤ◌, rules, arith}
 use Rattle.std.proofs.lemmas.Int.{ints}
-use Rattle.column_sweep.specs.declared.sums.Level.{Level}
-use Rattle.column_sweep.specs.Steps.{AreSteps}
 use Rattle.column_sweep.proofs.Stepping.{steps_cancel, steps_aside, falls_aside}
 use Rattle.column_sweep.proofs.sums.cancelled.Goals as goal
 

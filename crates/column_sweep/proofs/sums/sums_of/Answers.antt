@@ -1,6 +1,4 @@
-use Rattle.std.specs.Option.{option_to_list}
-use Rattle.column_sweep.specs.Steps.{AreSteps}
-use Rattle.column_sweep.proofs.Stepping.{AreSummed, paired, paired_rest, first_within, fall_within, summed_none, summed_more, summed_all}
+use Rattle.column_sweep.proofs.Stepping.{paired, paired_rest, summed_none, summed_more, summed_all}
 use Rattle.column_sweep.proofs.sums.sums_of.Goals as goal
 
 pub loop-rise-init : goal.loop-rise-init

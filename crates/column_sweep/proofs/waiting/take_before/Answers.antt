@@ -1,7 +1,5 @@
-use Rattle.std.proofs.Common.{rules, ◌≤ℤ◌, All, sym, subst}
-use Rattle.half_grid.specs.Edges.{EdgeParts}
-use Rattle.column_sweep.specs.Parts.{LiesRight}
-use Rattle.column_sweep.specs.Waiting.{least_x, LeastsAscend}
+use Rattle.std.proofs.Common.{rules, ◌≤ℤ◌}
+use Rattle.column_sweep.specs.Waiting.{least_x}
 use Rattle.column_sweep.proofs.Awaiting.{right_of_first}
 use Rattle.column_sweep.proofs.waiting.take_before.Goals as goal
 
