@@ -1,5 +1,15 @@
-mod Columns
+mod InColumns
 mod Rests
 mod Sweeping
 mod LowestTiles
 mod OperandEdges
+mod Adding
+mod Closing
+mod Halving
+mod Stepping
+mod Awaiting
+mod Lending
+mod Progressing
+mod PartWindings
+mod Stitching
+mod Ordering

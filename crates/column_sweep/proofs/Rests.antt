@@ -100,7 +100,7 @@ module _ (area : Tile → Type 0) (window : RowRange) (taken : List Trapezoid) (
   }
 
   -- a maximal trapezoid of what is left is one of the area, and wasn't taken
-  other_is_maximal : (z : Trapezoid) → IsMaximal (Rest area taken) window z → IsMaximal area window z
+  pub other_is_maximal : (z : Trapezoid) → IsMaximal (Rest area taken) window z → IsMaximal area window z
   other_is_maximal z m =
       let rows = m.legal.has_rows in
       let low = m.in_window.low in

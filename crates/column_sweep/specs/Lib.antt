@@ -2,3 +2,9 @@ pub mod Sweeps
 pub mod ColumnLaws
 pub mod Lowest
 pub mod Operands
+pub mod RowSums
+pub mod Steps
+pub mod Parts
+pub mod Waiting
+pub mod Sewing
+pub mod Standings

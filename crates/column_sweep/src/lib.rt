@@ -3,12 +3,18 @@
 //! Numbers are half units.
 #![tactic(auto)]
 
+mod columns;
+mod cuts;
 mod laws;
 mod lowest_tile;
 mod operands;
+mod parting;
+mod seams;
+mod sums;
 mod sweep;
 #[cfg(test)]
 mod tests;
+mod waiting;
 
 pub use laws::column_laws;
 pub use lowest_tile::{LowestTile, lowest};

@@ -1,8 +1,11 @@
-ghost use Rattle.std.specs.Prelude.{IfOk, ◌≡◌};
-ghost use Rattle.scan_line.specs.Rules.{IsRule};
+ghost use Rattle.std.specs.Prelude.{IfOk, IfSome, ◌≡◌, ◌↔◌, IsTrue};
+ghost use Rattle.scan_line.specs.Rules.{IsRule, IsWinding, Takes};
 ghost use Rattle.scan_line.specs.Runs.{IsBalanced};
 ghost use Rattle.column_sweep.specs.Sweeps.{IsSwept};
 
+use crate::columns::swept_columns;
+use crate::cuts::{Cut, chosen_cuts, plain_budget};
+use crate::seams::joined_seams;
 use geo_stream::NoMemory;
 use half_grid::{Edge, Trap, Window};
 use scan_line::{Rule, Scan};
@@ -26,6 +29,94 @@ fn joined<F: Fn(i128, i128) -> bool + Drop>(
     Ok(traps)
 }
 
+// The same, where that goes over no more edges than this. None where it goes over more.
+fn joined_within<F: Fn(i128, i128) -> bool + Drop>(
+    alloc: Global,
+    scan: Scan<F>,
+    most: u64,
+) -> Result<Option<Vec<Trap>>, NoMemory>
+    requires rule { IsRule (F.pre scan.rule) (F.post scan.rule) }
+    requires fresh { scan.y ≡ scan.window.y0 }
+    ensures { IfOk result (λ answer. IfSome answer (λ traps. IsSwept (F.post scan.rule) scan.edges scan.window traps.items)) }
+{
+    let mut join = Join::begin(alloc, scan)?;
+    let mut traps = Vec::new(alloc);
+    while let Some(trap) = join.next()? {
+        if most < join.walked() {
+            return Ok(None);
+        }
+        traps.push(trap)?;
+    }
+    Ok(Some(traps))
+}
+
+/// The joined list of the tiles that a lent rule takes, swept without columns.
+pub(crate) fn plain<F: Fn(i128, i128) -> bool + Drop>(
+    alloc: Global,
+    edges: Vec<Edge>,
+    window: Window,
+    rule: &Rule<F>,
+) -> Result<Vec<Trap>, NoMemory>
+    requires rule { IsRule (F.pre rule.now) (F.post rule.now) }
+    requires balanced { IsBalanced edges.items window }
+    ensures { IfOk result (λ traps. IsSwept (F.post rule.now) edges.items window traps.items) }
+{
+    let asked = Rule::new(
+        |a: i128, b: i128| -> bool
+            requires rule { IsRule (F.pre rule.now) (F.post rule.now) }
+            requires first { IsWinding a }
+            requires second { IsWinding b }
+            ensures { IsTrue result ↔ Takes (F.post rule.entry.now) a b }
+        { rule.asks(a, b) },
+    );
+    let scan = Scan::begin(alloc, edges, window, asked)?;
+    joined(alloc, scan)
+}
+
+// The same, where that goes over no more edges than this. None where it goes over more.
+fn plain_within<F: Fn(i128, i128) -> bool + Drop>(
+    alloc: Global,
+    edges: Vec<Edge>,
+    window: Window,
+    rule: &Rule<F>,
+    most: u64,
+) -> Result<Option<Vec<Trap>>, NoMemory>
+    requires rule { IsRule (F.pre rule.now) (F.post rule.now) }
+    requires balanced { IsBalanced edges.items window }
+    ensures { IfOk result (λ answer. IfSome answer (λ traps. IsSwept (F.post rule.now) edges.items window traps.items)) }
+{
+    let asked = Rule::new(
+        |a: i128, b: i128| -> bool
+            requires rule { IsRule (F.pre rule.now) (F.post rule.now) }
+            requires first { IsWinding a }
+            requires second { IsWinding b }
+            ensures { IsTrue result ↔ Takes (F.post rule.entry.now) a b }
+        { rule.asks(a, b) },
+    );
+    let scan = Scan::begin(alloc, edges, window, asked)?;
+    joined_within(alloc, scan, most)
+}
+
+/// The joined list, swept in the columns between these cuts, whatever they are.
+pub(crate) fn swept_at<F: Fn(i128, i128) -> bool + Drop>(
+    alloc: Global,
+    edges: Vec<Edge>,
+    window: Window,
+    rule: &Rule<F>,
+    cuts: &[Cut],
+) -> Result<Vec<Trap>, NoMemory>
+    requires rule { IsRule (F.pre rule.now) (F.post rule.now) }
+    requires balanced { IsBalanced edges.items window }
+    ensures { IfOk result (λ traps. IsSwept (F.post rule.now) edges.items window traps.items) }
+{
+    if cuts.is_empty() {
+        return plain(alloc, edges, window, rule);
+    }
+    let sewn = swept_columns(alloc, edges, window, rule, cuts)?;
+    let whole = joined_seams(alloc, sewn, window, cuts)?;
+    Ok(whole)
+}
+
 /// The joined list of the window's tiles that the rule takes. Want of memory is its only refusal. In each row of the
 /// window each operand has as many edges that go up as edges that go down.
 pub fn swept<F: Fn(i128, i128) -> bool + Drop>(
@@ -38,6 +129,12 @@ pub fn swept<F: Fn(i128, i128) -> bool + Drop>(
     requires balanced { IsBalanced edges.items window }
     ensures { IfOk result (λ traps. IsSwept (F.post rule) edges.items window traps.items) }
 {
-    let scan = Scan::begin(alloc, edges, window, rule)?;
-    joined(alloc, scan)
+    if let Some(most) = plain_budget(alloc, edges.as_slice())? {
+        let copy = Vec::from_slice(alloc, edges.as_slice())?;
+        if let Some(traps) = plain_within(alloc, copy, window, &rule, most)? {
+            return Ok(traps);
+        }
+    }
+    let cuts = chosen_cuts(alloc, edges.as_slice())?;
+    swept_at(alloc, edges, window, &rule, cuts.as_slice())
 }

@@ -1,4 +1,4 @@
-use Rattle.column_sweep.proofs.Columns.{stays_maximal}
+use Rattle.column_sweep.proofs.InColumns.{stays_maximal}
 use Rattle.column_sweep.proofs.Rests.{others_stay}
 use Rattle.column_sweep.proofs.laws.column_laws.Goals as goal
 

@@ -93,7 +93,7 @@ module _ (area : Tile → Type 0) (window : RowRange) (from to : ℤ) (z : Trape
     right_end = λ t e f at. run.right_end t e f at.1;
   }
 
-  one_of_whole : IsMaximal area window z
+  pub one_of_whole : IsMaximal area window z
   one_of_whole =
       let has_rows = m.legal.has_rows in
       record {

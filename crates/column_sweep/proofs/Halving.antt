@@ -1,0 +1,171 @@
+-- An edge's parts below and above a Y, and on both sides of an upright line.
+use Rattle.std.proofs.Common.{FitsSigned, w64, to_z, of_z, ◌*ℤ◌, ◌≡◌, Bool, true, false, ◌&&◌, not, ℤ, pos, ◌+ℤ◌, ◌-ℤ◌, ◌≤ℤ◌, ◌<ℤ◌, arith, refl, sym, ap, ◌∙◌, cond, List, [], ◌∷◌, Option, Some, None}
+use Rattle.std.proofs.lemmas.Int.{ints, clamps, by_lt_z, to_z-of_z}
+use Rattle.std.proofs.lemmas.List.Elements.{All-cons, All-nil}
+use Rattle.std.specs.List.{All}
+use Rattle.std.specs.Option.{option_to_list}
+use Rattle.std.specs.Int.{int_min, int_max}
+use Rattle.std.specs.Prelude.{int_lt, int_le, SomeIff}
+use Rattle.half_grid.specs.Lines.{x_on, first_strip}
+use Rattle.half_grid.specs.Reach.{IsWithinReach}
+use Rattle.half_grid.specs.Edges.{EdgeParts, IsEdge, edge_parts, spans}
+use Rattle.half_grid.specs.declared.plane.Line.{Line}
+use Rattle.half_grid.specs.declared.plane.Line.TheVariants.{Upright, Rising, Falling}
+use Rattle.half_grid.specs.declared.border.Operand.{Operand}
+use Rattle.half_grid.proofs.ForCallers.{strip_within}
+use Rattle.column_sweep.specs.RowSums.{sum_among}
+use Rattle.column_sweep.specs.Parts.{LiesLeft, LiesRight, part_over, part_below, part_above, AddUp}
+use Rattle.column_sweep.proofs.Adding.{sum_nil, sum_one, sum_none}
+
+pub between : (a b y : ℤ) → IsWithinReach a → IsWithinReach b → a ≤ℤ y → y ≤ℤ b → IsWithinReach y
+between a b y ha hb l h = record { low = omega (arith, ints, ha.low, l); high = omega (arith, ints, hb.high, h) }
+
+pub line_between : (l : Line) (y0 y1 y : ℤ) → IsWithinReach (x_on l y0) → IsWithinReach (x_on l y1) → y0 ≤ℤ y → y ≤ℤ y1 → IsWithinReach (x_on l y)
+line_between (Upright c) y0 y1 y a b l h = a
+line_between (Rising c) y0 y1 y a b l h = record { low = omega (arith, ints, a.low); high = omega (arith, ints, b.high) }
+line_between (Falling c) y0 y1 y a b l h = record { low = omega (arith, ints, b.low); high = omega (arith, ints, a.high) }
+
+pub strip_of_edge : (e : EdgeParts) → IsEdge e → IsWithinReach (first_strip e.line)
+strip_of_edge e h = strip_within e.line e.y0 h.y0 h.lower_end
+
+abbrev over : EdgeParts → ℤ → ℤ → EdgeParts
+over e low high = edge_parts low high e.line e.up e.operand
+
+over_is_edge : (e : EdgeParts) (low high : ℤ) → IsEdge e → e.y0 ≤ℤ low → high ≤ℤ e.y1 → low <ℤ high → IsEdge (over e low high)
+over_is_edge e low high is from to lt =
+    let low_end : low ≤ℤ e.y1 = omega (arith, ints, lt, to) in
+    let high_end : e.y0 ≤ℤ high = omega (arith, ints, lt, from) in
+    record {
+      has_rows = lt;
+      y0 = between e.y0 e.y1 low is.y0 is.y1 from low_end;
+      y1 = between e.y0 e.y1 high is.y0 is.y1 high_end to;
+      lower_end = line_between e.line e.y0 e.y1 low is.lower_end is.upper_end from low_end;
+      upper_end = line_between e.line e.y0 e.y1 high is.lower_end is.upper_end high_end to;
+    }
+
+some_by : (r : Option EdgeParts) (e : EdgeParts) → SomeIff r (IsEdge e) e → IsEdge e → r ≡ Some e
+some_by None e h is = absurd (h is)
+some_by (Some x) e h is = ap Some h.1
+
+none_by : (r : Option EdgeParts) (e : EdgeParts) → SomeIff r (IsEdge e) e → (IsEdge e → ⊥) → r ≡ None
+none_by None e h not = refl
+none_by (Some x) e h not = absurd (not h.0)
+
+lt_yes : (x y : ℤ) → x <ℤ y → int_lt x y ≡ true
+lt_yes x y h = grind (arith, ints)
+
+lt_no : (x y : ℤ) → y ≤ℤ x → int_lt x y ≡ false
+lt_no x y h = grind (arith, ints)
+
+-- what is made of these rows is the part
+pub part_is : (e : EdgeParts) (low high : ℤ) (r : Option EdgeParts) → IsEdge e → e.y0 ≤ℤ low → high ≤ℤ e.y1 → SomeIff r (IsEdge (over e low high)) (over e low high) → r ≡ part_over e low high
+part_is e low high r is from to h =
+    by_lt_z low high
+    (λ lt. some_by r (over e low high) h (over_is_edge e low high is from to lt) ∙ (rw (lt_yes low high lt) refl))
+    (λ ge. none_by r (over e low high) h (λ k. (let rows = k.has_rows in omega (arith, ints, rows, ge))) ∙ (rw (lt_no low high ge) refl))
+
+-- ---- what the parts add up to
+
+both_or : (p q : Bool) → (p ≡ true → q ≡ true → ⊥) → (p && q) ≡ false
+both_or true true h = absurd (h refl refl)
+both_or true false h = refl
+both_or false q h = refl
+
+apart_rows : (low high j : ℤ) → int_lt low high ≡ false → int_le low j ≡ true → int_lt j high ≡ true → ⊥
+apart_rows low high j h p q = absurd (grind (arith, ints))
+
+single_none : (o : Operand) (j : ℤ) (some : Line → Bool) (e : EdgeParts) → spans e j ≡ false → sum_among o j some (e ∷ []) ≡ pos 0
+single_none o j some e h = sum_none o j some (e ∷ []) (All-cons (λ f. (spans f j && some f.line) ≡ (spans f j && false)) e [] (rw h refl) (All-nil (λ f. (spans f j && some f.line) ≡ (spans f j && false))))
+
+sum_part : (o : Operand) (j : ℤ) (some : Line → Bool) (e : EdgeParts) (low high : ℤ) (b : Bool) → int_lt low high ≡ b → sum_among o j some (option_to_list (cond b (Some (over e low high)) None)) ≡ sum_among o j some (over e low high ∷ [])
+sum_part o j some e low high true h = refl
+sum_part o j some e low high false h = sum_nil o j some ∙ sym (single_none o j some (over e low high) (both_or _ _ (apart_rows low high j h)))
+
+sum_over : (o : Operand) (j : ℤ) (some : Line → Bool) (e : EdgeParts) (low high : ℤ) → spans (over e low high) j ≡ spans e j → sum_among o j some (over e low high ∷ []) ≡ sum_among o j some (e ∷ [])
+sum_over o j some e low high h = sum_one o j some (over e low high) ∙ (rw h (sym (sum_one o j some e)))
+
+below_spans : (e : EdgeParts) (y j : ℤ) → j <ℤ y → spans (over e e.y0 (int_min e.y1 y)) j ≡ spans e j
+below_spans e y j h = let high : int_lt j (int_min e.y1 y) ≡ int_lt j e.y1 = grind (arith, ints, clamps) in rw high refl
+
+below_not : (e : EdgeParts) (y j : ℤ) → y ≤ℤ j → spans (over e e.y0 (int_min e.y1 y)) j ≡ false
+below_not e y j h = both_or (int_le e.y0 j) (int_lt j (int_min e.y1 y)) (λ p q. absurd (grind (arith, ints, clamps)))
+
+above_spans : (e : EdgeParts) (y j : ℤ) → y ≤ℤ j → spans (over e (int_max e.y0 y) e.y1) j ≡ spans e j
+above_spans e y j h = let low : int_le (int_max e.y0 y) j ≡ int_le e.y0 j = grind (arith, ints, clamps) in rw low refl
+
+above_not : (e : EdgeParts) (y j : ℤ) → j <ℤ y → spans (over e (int_max e.y0 y) e.y1) j ≡ false
+above_not e y j h = both_or (int_le (int_max e.y0 y) j) (int_lt j e.y1) (λ p q. absurd (grind (arith, ints, clamps)))
+
+pub parts_add : (y : ℤ) (e : EdgeParts) → AddUp (option_to_list (part_below y e)) (option_to_list (part_above y e)) (e ∷ [])
+parts_add y e o j some =
+    let below = sum_part o j some e e.y0 (int_min e.y1 y) _ refl in
+    let above = sum_part o j some e (int_max e.y0 y) e.y1 _ refl in
+    by_lt_z j y
+    (λ lt. (let here = sum_over o j some e _ _ (below_spans e y j lt) in
+    let none = single_none o j some (over e (int_max e.y0 y) e.y1) (above_not e y j lt) in
+    rw (below, above, here, none) (omega (arith, ints))))
+    (λ ge. (let here = sum_over o j some e _ _ (above_spans e y j ge) in
+    let none = single_none o j some (over e e.y0 (int_min e.y1 y)) (below_not e y j ge) in
+    rw (below, above, here, none) (omega (arith, ints))))
+
+pub add_other_way : (own beyond edges : List EdgeParts) → AddUp own beyond edges → AddUp beyond own edges
+add_other_way own beyond edges h o j some = let same = h o j some in omega (arith, ints, same)
+
+pub add_left : (e : EdgeParts) → AddUp (option_to_list (Some e)) (option_to_list None) (e ∷ [])
+add_left e o j some = rw (sum_nil o j some) (omega (arith, ints))
+
+pub add_right : (e : EdgeParts) → AddUp (option_to_list None) (option_to_list (Some e)) (e ∷ [])
+add_right e o j some = rw (sum_nil o j some) (omega (arith, ints))
+
+-- ---- the sides
+
+module _ (P : EdgeParts → Type 0) where
+  part_has : (e : EdgeParts) (low high : ℤ) (b : Bool) → int_lt low high ≡ b → (low <ℤ high → P (over e low high)) → All P (option_to_list (cond b (Some (over e low high)) None))
+  part_has e low high true h k = All-cons P (over e low high) [] (k (grind (arith, ints))) (All-nil P)
+  part_has e low high false h k = All-nil P
+
+  pub some_has : (e : EdgeParts) → P e → All P (option_to_list (Some e))
+  some_has e h = All-cons P e [] h (All-nil P)
+
+  pub none_has : All P (option_to_list None)
+  none_has = All-nil P
+
+module _ (x c y : ℤ) (e : EdgeParts) where
+  pub rising_left : e.line ≡ Rising c → y ≡ x -ℤ (c +ℤ c) → All (LiesLeft x) (option_to_list (part_below y e))
+  rising_left line at = part_has (LiesLeft x) e e.y0 (int_min e.y1 y) _ refl (λ lt j s. (let below = s.below in rw line (omega (arith, ints, clamps, below, at))))
+
+  pub rising_right : e.line ≡ Rising c → y ≡ x -ℤ (c +ℤ c) → All (LiesRight x) (option_to_list (part_above y e))
+  rising_right line at = part_has (LiesRight x) e (int_max e.y0 y) e.y1 _ refl (λ lt j s. (let from = s.from in rw line (omega (arith, ints, clamps, from, at))))
+
+  pub falling_left : e.line ≡ Falling c → y ≡ (c +ℤ c) -ℤ x → All (LiesLeft x) (option_to_list (part_above y e))
+  falling_left line at = part_has (LiesLeft x) e (int_max e.y0 y) e.y1 _ refl (λ lt j s. (let from = s.from in rw line (omega (arith, ints, clamps, from, at))))
+
+  pub falling_right : e.line ≡ Falling c → y ≡ (c +ℤ c) -ℤ x → All (LiesRight x) (option_to_list (part_below y e))
+  falling_right line at = part_has (LiesRight x) e e.y0 (int_min e.y1 y) _ refl (λ lt j s. (let below = s.below in rw line (omega (arith, ints, clamps, below, at))))
+
+pub upright_left : (x c : ℤ) (e : EdgeParts) → e.line ≡ Upright c → c <ℤ x → LiesLeft x e
+upright_left x c e line lt = λ j s. rw line (omega (arith, ints, lt))
+
+pub upright_right : (x c : ℤ) (e : EdgeParts) → e.line ≡ Upright c → x ≤ℤ c → LiesRight x e
+upright_right x c e line le = λ j s. rw line (omega (arith, ints, le))
+
+-- ---- the row in which a line passes the cut
+
+fits : (n : ℤ) → IsWithinReach n → FitsSigned w64 n
+fits n h = let low = h.low in let high = h.high in omega (arith, ints)
+
+twice_fits : (n : ℤ) → IsWithinReach n → FitsSigned w64 (pos 2 *ℤ n)
+twice_fits n h = let low = h.low in let high = h.high in omega (arith, ints)
+
+pub rising_level : (x c : ℤ) → IsWithinReach x → IsWithinReach c → to_z w64 (of_z w64 (to_z w64 (of_z w64 x) -ℤ to_z w64 (of_z w64 (pos 2 *ℤ to_z w64 (of_z w64 c))))) ≡ x -ℤ (c +ℤ c)
+rising_level x c hx hc =
+    let all : FitsSigned w64 (x -ℤ (pos 2 *ℤ c)) = (let a = hx.low in let b = hx.high in let d = hc.low in let e = hc.high in omega (arith, ints)) in
+    rw (to_z-of_z w64 x (fits x hx), to_z-of_z w64 c (fits c hc), to_z-of_z w64 (pos 2 *ℤ c) (twice_fits c hc), to_z-of_z w64 (x -ℤ (pos 2 *ℤ c)) all) (omega (arith, ints))
+
+pub falling_level : (x c : ℤ) → IsWithinReach x → IsWithinReach c → to_z w64 (of_z w64 (to_z w64 (of_z w64 (pos 2 *ℤ to_z w64 (of_z w64 c))) -ℤ to_z w64 (of_z w64 x))) ≡ (c +ℤ c) -ℤ x
+falling_level x c hx hc =
+    let all : FitsSigned w64 ((pos 2 *ℤ c) -ℤ x) = (let a = hx.low in let b = hx.high in let d = hc.low in let e = hc.high in omega (arith, ints)) in
+    rw (to_z-of_z w64 x (fits x hx), to_z-of_z w64 c (fits c hc), to_z-of_z w64 (pos 2 *ℤ c) (twice_fits c hc), to_z-of_z w64 ((pos 2 *ℤ c) -ℤ x) all) (omega (arith, ints))
+
+pub same_line : (c d : ℤ) (l m : Line) → first_strip l ≡ c → first_strip m ≡ d → l ≡ m → c ≡ d
+same_line c d l m h k e = sym h ∙ (ap (λ (n : Line). first_strip n) e ∙ k)

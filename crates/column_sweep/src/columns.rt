@@ -1,0 +1,251 @@
+//! Columns swept one after another from left to right.
+ghost use Rattle.std.specs.Prelude.{◌≡◌, ◌<ℤ◌, ◌≤ℤ◌, ◌++◌, ◌+◌, ◌^◌, ℤ, pos, negsuc, true, List, [], ◌∷◌, All, IfOk, OnOk};
+ghost use Rattle.half_grid.specs.Edges.{EdgeParts, IsEdge};
+ghost use Rattle.half_grid.specs.Trapezoids.{Trapezoid};
+ghost use Rattle.half_grid.specs.Reach.{IsWithinReach};
+ghost use Rattle.scan_line.specs.Rules.{IsRule};
+ghost use Rattle.scan_line.specs.Runs.{IsBalanced};
+ghost use Rattle.trap_join.specs.Joins.{IsTakenIn};
+ghost use Rattle.column_sweep.specs.ColumnLaws.{IsStrictlyInside};
+ghost use Rattle.column_sweep.specs.Parts.{LiesRight};
+ghost use Rattle.column_sweep.specs.Sewing.{CoverTogether, AreSewn, AreSorted, AreSweptIn, AreSweptTo, AreLeft};
+
+use crate::cuts::Cut;
+use crate::parting::parted;
+use crate::sweep::plain;
+use crate::waiting::{sort_by_least_x, take_before};
+use geo_stream::NoMemory;
+use half_grid::{Edge, REACH, Trap, Window};
+use scan_line::Rule;
+use std::alloc::Global;
+
+/// Trapezoids of an area. The final ones are maximal in all of it. The others have the rest of its tiles.
+#[derive(Drop)]
+pub(crate) struct Sewn {
+    pub(crate) finals: Vec<Trap>,
+    pub(crate) seams: Vec<Trap>,
+}
+
+/// The tiles from one X up to below another.
+#[derive(Clone, Copy)]
+struct Column {
+    from: Cut,
+    to: Cut,
+}
+
+/// An area that was swept up to some X: the edges of what is right of it, apart from those that wait, and the
+/// trapezoids of what is left of it.
+#[derive(Drop)]
+struct Progress {
+    from: Cut,
+    edges: Vec<Edge>,
+    sewn: Sewn,
+}
+
+// A cut left of all edges.
+fn before_all() -> Cut
+    ensures { result.x ≡ negsuc (2 ^ 44) }
+{
+    Cut { x: -REACH - 1 }
+}
+
+// A cut right of all edges.
+fn behind_all() -> Cut
+    ensures { result.x ≡ pos (2 ^ 44 + 1) }
+{
+    Cut { x: REACH + 1 }
+}
+
+// Whether the cut is right of the other, and within reach.
+fn is_next(from: Cut, cut: Cut) -> bool
+    ensures right { result ≡ true → from.x <ℤ cut.x }
+    ensures within { result ≡ true → IsWithinReach cut.x }
+{
+    if cut.x <= from.x {
+        return false;
+    }
+    if cut.x < -REACH {
+        return false;
+    }
+    cut.x <= REACH
+}
+
+// Whether no corner of the trapezoid lies on a side of the column, or beyond it.
+fn is_inside(trap: &Trap, column: Column) -> bool
+    ensures { result ≡ true → IsStrictlyInside column.from.x column.to.x trap.now }
+{
+    if trap.bottom_left() <= column.from.x {
+        return false;
+    }
+    if trap.top_left() <= column.from.x {
+        return false;
+    }
+    if column.to.x <= trap.bottom_right() {
+        return false;
+    }
+    trap.top_right() < column.to.x
+}
+
+// Puts one more trapezoid of a column where it belongs.
+fn sort_in(sewn: &mut Sewn, trap: &Trap, column: Column) -> Result<(), NoMemory>
+    ensures { (traps : List Trapezoid) → AreSorted column.from.x column.to.x traps sewn.old.finals.items sewn.old.seams.items → OnOk result (AreSorted column.from.x column.to.x (traps ++ trap.now ∷ []) sewn.new.finals.items sewn.new.seams.items) }
+{
+    if is_inside(trap, column) {
+        sewn.finals.push(*trap)?;
+        return Ok(());
+    }
+    sewn.seams.push(*trap)?;
+    Ok(())
+}
+
+// The trapezoids of a column: those strictly inside it, and those that touch a side.
+fn sort_out(alloc: Global, traps: &[Trap], column: Column) -> Result<Sewn, NoMemory>
+    ensures { IfOk result (λ sewn. AreSorted column.from.x column.to.x traps.now sewn.finals.items sewn.seams.items) }
+{
+    let mut sewn = Sewn {
+        finals: Vec::new(alloc),
+        seams: Vec::new(alloc),
+    };
+    for trap in traps {
+        sort_in(&mut sewn, trap, column)?;
+    }
+    Ok(sewn)
+}
+
+// Puts the trapezoids of a column to those of the columns before.
+fn add(sewn: &mut Sewn, part: &Sewn) -> Result<(), NoMemory>
+    ensures finals { OnOk result (sewn.new.finals.items ≡ sewn.old.finals.items ++ part.now.finals.items) }
+    ensures seams { OnOk result (sewn.new.seams.items ≡ sewn.old.seams.items ++ part.now.seams.items) }
+{
+    sewn.finals.extend_from_slice(part.finals.as_slice())?;
+    sewn.seams.extend_from_slice(part.seams.as_slice())?;
+    Ok(())
+}
+
+// The trapezoids of one column, from edges that wind round no tile outside of it.
+fn swept_part<F: Fn(i128, i128) -> bool + Drop>(
+    alloc: Global,
+    edges: Vec<Edge>,
+    window: Window,
+    rule: &Rule<F>,
+    column: Column,
+) -> Result<Sewn, NoMemory>
+    requires rule { IsRule (F.pre rule.now) (F.post rule.now) }
+    requires balanced { IsBalanced edges.items window }
+    ensures { IfOk result (λ part. AreSweptIn (IsTakenIn (F.post rule.now) edges.items window) window column.from.x column.to.x part.finals.items part.seams.items) }
+{
+    let traps = plain(alloc, edges, window, rule)?;
+    sort_out(alloc, traps.as_slice(), column)
+}
+
+// One column further, up to the cut. None of the edges that wait lies left of it.
+fn swept_column<F: Fn(i128, i128) -> bool + Drop>(
+    alloc: Global,
+    progress: Progress,
+    window: Window,
+    rule: &Rule<F>,
+    cut: Cut,
+) -> Result<Progress, NoMemory>
+    requires rule { IsRule (F.pre rule.now) (F.post rule.now) }
+    requires cut { IsWithinReach cut.x }
+    ensures from { IfOk result (λ next. next.from ≡ cut) }
+    ensures left { (edges later : List EdgeParts) → All (LiesRight cut.x) later → progress.from.x <ℤ cut.x → AreLeft progress.from.x edges (progress.edges.items ++ later)
+        → IfOk result (λ next. AreLeft cut.x edges (next.edges.items ++ later)) }
+    ensures swept { (edges later : List EdgeParts) (low : ℤ) → All (LiesRight cut.x) later → low ≤ℤ progress.from.x → progress.from.x <ℤ cut.x → AreLeft progress.from.x edges (progress.edges.items ++ later)
+        → AreSweptTo (IsTakenIn (F.post rule.now) edges window) window low progress.from.x progress.sewn.finals.items progress.sewn.seams.items
+        → IfOk result (λ next. AreSweptTo (IsTakenIn (F.post rule.now) edges window) window low cut.x next.sewn.finals.items next.sewn.seams.items) }
+{
+    let parts = parted(alloc, progress.edges.as_slice(), cut)?;
+    let column = Column {
+        from: progress.from,
+        to: cut,
+    };
+    let part = swept_part(alloc, parts.own, window, rule, column)?;
+    let mut sewn = progress.sewn;
+    add(&mut sewn, &part)?;
+    Ok(Progress {
+        from: cut,
+        edges: parts.beyond,
+        sewn,
+    })
+}
+
+// The last column, with the edges that wait.
+fn finish<F: Fn(i128, i128) -> bool + Drop>(
+    alloc: Global,
+    progress: Progress,
+    later: &[Edge],
+    window: Window,
+    rule: &Rule<F>,
+) -> Result<Sewn, NoMemory>
+    requires rule { IsRule (F.pre rule.now) (F.post rule.now) }
+    requires balanced { IsBalanced (progress.edges.items ++ later.now) window }
+    ensures { (edges : List EdgeParts) (low : ℤ) → low ≤ℤ progress.from.x → progress.from.x <ℤ pos (2 ^ 44 + 1) → All IsEdge edges → IsBalanced edges window → AreLeft progress.from.x edges (progress.edges.items ++ later.now)
+        → AreSweptTo (IsTakenIn (F.post rule.now) edges window) window low progress.from.x progress.sewn.finals.items progress.sewn.seams.items
+        → IfOk result (λ sewn. AreSweptTo (IsTakenIn (F.post rule.now) edges window) window low (pos (2 ^ 44 + 1)) sewn.finals.items sewn.seams.items) }
+{
+    let mut edges = progress.edges;
+    edges.extend_from_slice(later)?;
+    let column = Column {
+        from: progress.from,
+        to: behind_all(),
+    };
+    let part = swept_part(alloc, edges, window, rule, column)?;
+    let mut sewn = progress.sewn;
+    add(&mut sewn, &part)?;
+    Ok(sewn)
+}
+
+// What each item of a list of edges is, from its own promise.
+fn know_edges(edges: &[Edge])
+    ensures { All IsEdge edges.now }
+{
+    for edge in edges {
+        let _promised = edge.y0();
+    }
+}
+
+fn begin(alloc: Global) -> Progress
+    ensures from { result.from.x ≡ negsuc (2 ^ 44) }
+    ensures edges { result.edges.items ≡ [] }
+    ensures finals { result.sewn.finals.items ≡ [] }
+    ensures seams { result.sewn.seams.items ≡ [] }
+{
+    Progress {
+        from: before_all(),
+        edges: Vec::new(alloc),
+        sewn: Sewn {
+            finals: Vec::new(alloc),
+            seams: Vec::new(alloc),
+        },
+    }
+}
+
+/// The area that the rule takes, swept in the columns between the cuts. A cut that isn't right of those before it, or
+/// is beyond reach, is left out.
+pub(crate) fn swept_columns<F: Fn(i128, i128) -> bool + Drop>(
+    alloc: Global,
+    edges: Vec<Edge>,
+    window: Window,
+    rule: &Rule<F>,
+    cuts: &[Cut],
+) -> Result<Sewn, NoMemory>
+    requires rule { IsRule (F.pre rule.now) (F.post rule.now) }
+    requires balanced { IsBalanced edges.items window }
+    ensures sewn { IfOk result (λ sewn. AreSewn window sewn.finals.items sewn.seams.items) }
+    ensures covers { IfOk result (λ sewn. CoverTogether (IsTakenIn (F.post rule.now) edges.items window) sewn.finals.items sewn.seams.items) }
+{
+    let mut waiting = edges;
+    sort_by_least_x(&mut waiting);
+    know_edges(waiting.as_slice());
+    let mut later = waiting.as_slice();
+    let mut progress = begin(alloc);
+    for cut in cuts {
+        if !is_next(progress.from, *cut) {
+            continue;
+        }
+        later = take_before(&mut progress.edges, later, *cut)?;
+        progress = swept_column(alloc, progress, window, rule, *cut)?;
+    }
+    finish(alloc, progress, later, window, rule)
+}
