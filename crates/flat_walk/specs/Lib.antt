@@ -1,0 +1,4 @@
+pub mod Quads
+pub mod Tables
+pub mod Walks
+pub mod Streams
