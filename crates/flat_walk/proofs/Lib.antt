@@ -1,2 +1,5 @@
 pub mod TableLemmas
+pub mod EdgeCrossings
+pub mod Motions
+pub mod PointLemmas
 pub mod ForCallers

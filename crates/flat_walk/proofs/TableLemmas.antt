@@ -1,12 +1,14 @@
 -- The table of pieces, before and after pieces are put.
-use Rattle.std.proofs.Common.{◌≡◌, ◌≢◌, ◌⊎◌, inl, inr, ℕ, zero, suc, ◌<◌, List, [], ◌∷◌, Some, map, length, get_or, set, slice_get, refl, sym, ap, subst, ◌∙◌, arith}
+use Rattle.std.proofs.Common.{◌≡◌, ◌≢◌, ◌⊎◌, inl, inr, ℕ, zero, suc, ◌<◌, List, [], ◌∷◌, Some, map, length, get_or, set, slice_get, All, refl, sym, ap, subst, ◌∙◌, arith}
+use Rattle.std.specs.List.{AllByRecursion}
 use Rattle.std.proofs.lemmas.Option.{none-some}
+use Rattle.std.proofs.lemmas.List.Elements.{recursion_from_All, All-from_recursion}
 use Rattle.half_grid.specs.Trapezoids.{Trapezoid, CoversExactly}
 use Rattle.half_grid.specs.Winding.{IsInPolygon}
 use Rattle.layout_model.specs.declared.shapes.Shape.{Shape}
 use Rattle.layout_model.specs.declared.cells.Cell.{Cell}
 use Rattle.cell_tree.specs.Cells.{shapes_at}
-use Rattle.flat_walk.specs.Tables.{lists_at, no_pieces, with_pieces, HasShape, IsCut}
+use Rattle.flat_walk.specs.Tables.{lists_at, no_pieces, with_pieces, HasShape, IsKept, AreKept, IsCut}
 
 set_length : {X : Type 0} (xs : List X) (n : ℕ) (x : X) → length (set xs n x) ≡ length xs
 set_length [] n x = refl
@@ -101,3 +103,58 @@ pub shape_at_first : (cells : List Cell) (n k : ℕ) (shape : Shape) → slice_g
 shape_at_first [] n k shape at = absurd (none-some shape at)
 shape_at_first (cell ∷ cells) zero k shape at = record { cell = omega arith; shape = none_of cell.shapes k shape [] at }
 shape_at_first (cell ∷ cells) (suc n) k shape at = let rest = shape_at_first cells n k shape at in record { cell = let i = rest.cell in omega (arith, i); shape = rest.shape }
+
+-- ---- the table as it lies in memory
+
+map_set : {V X : Type 0} (f : V → X) (vs : List V) (n : ℕ) (v : V) → map f (set vs n v) ≡ set (map f vs) n (f v)
+map_set f [] n v = refl
+map_set f (w ∷ vs) zero v = refl
+map_set f (w ∷ vs) (suc n) v = ap (λ xs. f w ∷ xs) (map_set f vs n v)
+
+pub item_at : {V X : Type 0} (f : V → X) (vs : List V) (n : ℕ) (v : V) (d : X) → n < length (map f vs) → f (get_or vs n v) ≡ get_or (map f vs) n d
+item_at f [] n v d inside = absurd (omega arith)
+item_at f (w ∷ vs) zero v d inside = refl
+item_at f (w ∷ vs) (suc n) v d inside = item_at f vs n v d (omega arith)
+
+pub map_long : {V X : Type 0} (f : V → X) (vs : List V) → length (map f vs) ≡ length vs
+map_long f [] = refl
+map_long f (v ∷ vs) = ap suc (map_long f vs)
+
+pub put_view : {V X : Type 0} (f : V → List X) (vs : List V) (table : List (List X)) (n k : ℕ) (v w : V) (x y : X)
+    → map f vs ≡ table → n < length table → v ≡ get_or vs n v → f w ≡ set (f v) k x → x ≡ y → map f (set vs n w) ≡ set table n (set (get_or table n []) k y)
+put_view f vs table n k v w x y is inside at after same =
+    let here : f v ≡ get_or table n [] = ap f at ∙ (item_at f vs n v [] (rw is inside) ∙ ap (λ t. get_or t n []) is) in
+    map_set f vs n w ∙ (ap (λ t. set t n (f w)) is ∙ ap (set table n) (after ∙ (ap (λ xs. set xs k x) here ∙ ap (set (get_or table n []) k) same)))
+
+all_set : {X : Type 0} (P : X → Type 0) (xs : List X) (n : ℕ) (x : X) → AllByRecursion P xs → P x → AllByRecursion P (set xs n x)
+all_set P [] n x all p = tt
+all_set P (y ∷ xs) zero x all p = (p, all.1)
+all_set P (y ∷ xs) (suc n) x all p = (all.0, all_set P xs n x all.1 p)
+
+all_get : {X : Type 0} (P : X → Type 0) (xs : List X) (n : ℕ) (d : X) → P d → AllByRecursion P xs → P (get_or xs n d)
+all_get P [] n d p all = p
+all_get P (x ∷ xs) zero d p all = all.0
+all_get P (x ∷ xs) (suc n) d p all = all_get P xs n d p all.1
+
+none_all : (P : List Trapezoid → Type 0) → All P []
+none_all P = λ k d inside. absurd (omega arith)
+
+-- what is kept stays so
+pub kept_put : (table : List (List (List Trapezoid))) (n k : ℕ) (pieces : List Trapezoid) → AreKept table → IsKept pieces → AreKept (with_pieces table n k pieces)
+unfolding with_pieces
+kept_put table n k pieces all kept = All-from_recursion (All IsKept) _ (all_set (All IsKept) table n (set (lists_at table n) k pieces) (recursion_from_All (All IsKept) table all)
+    (All-from_recursion IsKept _ (all_set IsKept (lists_at table n) k pieces (recursion_from_All IsKept (lists_at table n) (all_get (All IsKept) table n [] (none_all IsKept) (recursion_from_All (All IsKept) table all))) kept)))
+
+nothing_kept : IsKept []
+nothing_kept = record { shots = λ k d inside. absurd (omega arith); few = omega arith }
+
+none_kept : (shapes : List Shape) → AllByRecursion IsKept (map (λ shape. []) shapes)
+none_kept [] = tt
+none_kept (shape ∷ shapes) = (nothing_kept, none_kept shapes)
+
+none_kept_in : (cells : List Cell) → AllByRecursion (All IsKept) (no_pieces cells)
+none_kept_in [] = tt
+none_kept_in (cell ∷ cells) = (All-from_recursion IsKept _ (none_kept cell.shapes), none_kept_in cells)
+
+pub no_pieces_kept : (cells : List Cell) → AreKept (no_pieces cells)
+no_pieces_kept cells = All-from_recursion (All IsKept) _ (none_kept_in cells)

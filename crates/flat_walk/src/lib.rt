@@ -4,8 +4,9 @@
 //! in the order of the flattened layout. Lengths are half units.
 #![tactic(auto)]
 
+mod owned;
+mod rows;
 mod tables;
-mod walks;
+mod turning;
 
 pub use tables::Parts;
-pub use walks::Walk;
