@@ -409,7 +409,7 @@ turn_loop points loop = record { closed = closed_map quarter_turn points loop.cl
 
 -- ---- an enlargement
 
-mul_up : (m : ℕ) (a b : ℤ) → a ≤ℤ b → (pos m *ℤ a) ≤ℤ (pos m *ℤ b)
+pub mul_up : (m : ℕ) (a b : ℤ) → a ≤ℤ b → (pos m *ℤ a) ≤ℤ (pos m *ℤ b)
 mul_up zero a b h = rw (zero-*ℤ a, zero-*ℤ b) (omega (arith, ints))
 mul_up (suc m) a b h = rw (suc_ℤ-*ℤ (pos m) a, suc_ℤ-*ℤ (pos m) b) (omega (arith, ints, h, mul_up m a b h))
 
@@ -430,7 +430,7 @@ mul_more : (m : ℕ) (a b : ℤ) → a <ℤ b → ((pos m *ℤ a) +ℤ pos m) �
 mul_more zero a b h = rw (zero-*ℤ a, zero-*ℤ b) (omega (arith, ints))
 mul_more (suc m) a b h = rw (suc_ℤ-*ℤ (pos m) a, suc_ℤ-*ℤ (pos m) b) (omega (arith, ints, h, mul_more m a b h))
 
-mul_add : (m : ℕ) (a b : ℤ) → pos m *ℤ (a +ℤ b) ≡ (pos m *ℤ a) +ℤ (pos m *ℤ b)
+pub mul_add : (m : ℕ) (a b : ℤ) → pos m *ℤ (a +ℤ b) ≡ (pos m *ℤ a) +ℤ (pos m *ℤ b)
 mul_add zero a b = rw (zero-*ℤ (a +ℤ b), zero-*ℤ a, zero-*ℤ b) refl
 mul_add (suc m) a b = rw (suc_ℤ-*ℤ (pos m) (a +ℤ b), suc_ℤ-*ℤ (pos m) a, suc_ℤ-*ℤ (pos m) b) (omega (arith, ints, mul_add m a b))
 

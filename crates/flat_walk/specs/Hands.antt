@@ -1,6 +1,6 @@
 -- What a walk keeps of the cell that it entered last, and what that still shows. This is for the contracts of the walk's
 -- own functions.
-use Rattle.std.specs.Prelude.{◌≡◌, ◌^◌, ◌+◌, ◌-◌, ℕ, List, [], ◌∷◌, ◌++◌, Option, Some, map, length, All}
+use Rattle.std.specs.Prelude.{◌≡◌, ◌^◌, ◌+◌, ℕ, List, [], ◌∷◌, ◌++◌, Option, Some, map, length, drop, All}
 use Rattle.half_grid.specs.Quads.{Corners}
 use Rattle.layout_model.specs.Images.{IsOrient}
 use Rattle.layout_model.specs.Layouts.{IsShapeOnGrid, IsWithin}
@@ -26,13 +26,18 @@ pub record IsCursor (cursor : Cursor) : Type 0 where
   pub near : IsWithin (2 ^ 54) cursor.at
   pub grid : All IsShapeOnGrid cursor.shapes.now
 
--- how many shapes and offsets there are, less the place
+-- how many shapes and offsets there are
 abbrev pub steps_of : List Shape → ℕ
 steps_of [] = 0
 steps_of (shape ∷ shapes) = (length shape.offsets + 1) + steps_of shapes
 
+-- of the first shape the offsets from this number on
+abbrev pub steps_from : List Shape → ℕ → ℕ
+steps_from [] place = 0
+steps_from (shape ∷ shapes) place = (length (drop place shape.offsets) + 1) + steps_of shapes
+
 abbrev pub steps_left : Cursor → ℕ
-steps_left cursor = steps_of cursor.shapes.now - cursor.place
+steps_left cursor = steps_from cursor.shapes.now cursor.place
 
 abbrev pub own_rest : Pair → Own → List (Option Corners)
 own_rest pair own = map Some (hand_list own.hand) ++ map Some (cursor_list pair own.cursor)

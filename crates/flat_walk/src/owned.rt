@@ -88,6 +88,7 @@ impl<'t> Cursor<'t> {
             (λ hand. map (quad_image self.now.orient self.now.at) (places_rest pair shape.now list.now self.now.place)
                 ≡ hand_list hand ++ map (quad_image self.now.orient self.now.at) (places_rest pair shape.now list.now (self.now.place + 1))) }
         ensures inside { OnSome result (self.now.place < length shape.now.offsets) }
+        ensures few { OnSome result (length shape.now.offsets < 2 ^ 64) }
     {
         if shape.pair != pair {
             return None;
