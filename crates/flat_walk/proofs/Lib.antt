@@ -1,7 +1,11 @@
+pub mod SpanLemmas
 pub mod TableLemmas
+pub mod WayLemmas
 pub mod EdgeCrossings
 pub mod Motions
 pub mod PoseLemmas
+pub mod ReadLemmas
 pub mod RestLemmas
+pub mod ShowLemmas
 pub mod PointLemmas
 pub mod ForCallers

@@ -6,3 +6,4 @@ pub mod Rests
 pub mod Tables
 pub mod Walks
 pub mod Streams
+pub mod Ways

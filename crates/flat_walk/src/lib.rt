@@ -4,8 +4,10 @@
 //! in the order of the flattened layout. Lengths are half units.
 #![tactic(auto)]
 
+mod levels;
 mod owned;
 mod rows;
+mod scenes;
 mod tables;
 mod turning;
 

@@ -79,7 +79,8 @@ pub(crate) fn oriented(orient: Orient, p: Point) -> Point
     turned(orient.turns, flipped(orient.flip, enlarged(orient.mag, p)))
 }
 
-fn moved(at: Point, p: Point) -> Point
+/// The point moved.
+pub(crate) fn moved(at: Point, p: Point) -> Point
     requires at { IsWithin (2 ^ 60) at }
     requires near { IsWithin (2 ^ 57) p }
     ensures { result ≡ moved at p }
