@@ -1,5 +1,6 @@
 pub mod SpanLemmas
 pub mod TableLemmas
+pub mod WalkLemmas
 pub mod WayLemmas
 pub mod EdgeCrossings
 pub mod Motions

@@ -196,3 +196,10 @@ pub hand_ends : (w : RowRange) (before : List (Option Corners)) (hand cursor : L
 hand_ends w before hand cursor s over is =
     skip_on w before (map Some hand ++ map Some cursor) [] s
     (skip_on w (map Some hand ++ map Some cursor) (map Some cursor) [] (skip_over w (map Some hand) (map Some cursor) over) (skip_same w (map Some cursor) [] (ap (map Some) is)))
+
+pub marked_left : (xs ys : List (Option Corners)) → All IsMarkedQuad (xs ++ ys) → All IsMarkedQuad xs
+marked_left xs ys all = All-from_recursion IsMarkedQuad xs (by_recursion xs ys all)
+  where
+    by_recursion : (xs ys : List (Option Corners)) → All IsMarkedQuad (xs ++ ys) → AllByRecursion IsMarkedQuad xs
+    by_recursion [] ys all = tt
+    by_recursion (x ∷ xs) ys all = (All-head IsMarkedQuad x (xs ++ ys) all, by_recursion xs ys (All-tail IsMarkedQuad x (xs ++ ys) all))

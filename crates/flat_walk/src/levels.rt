@@ -153,6 +153,27 @@ impl<'t> Level<'t> {
         }
     }
 
+    /// The cell's number.
+    pub(crate) fn cell(&self) -> usize
+        ensures { result ≡ self.now.cell }
+    {
+        self.cell
+    }
+
+    /// How the cell is enlarged, mirrored and turned.
+    pub(crate) fn orient(&self) -> Orient
+        ensures { result ≡ self.now.orient }
+    {
+        self.orient
+    }
+
+    /// How it is moved.
+    pub(crate) fn at(&self) -> Point
+        ensures { result ≡ self.now.at }
+    {
+        self.at
+    }
+
     // The next place of the placement at hand at which its cell may have rows in the window.
     fn next_spot(&mut self, scene: &Scene<'t>) -> Option<Level<'t>>
         requires scene { IsScene scene.now }

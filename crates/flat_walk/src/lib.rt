@@ -10,5 +10,7 @@ mod rows;
 mod scenes;
 mod tables;
 mod turning;
+mod walks;
 
 pub use tables::Parts;
+pub use walks::Walk;

@@ -1,6 +1,6 @@
 //! The pieces of each shape.
 ghost use Rattle.std.specs.Prelude.{◌≡◌, ◌<◌, IfOk, OnOk, OnErr, map, [], length};
-ghost use Rattle.flat_walk.specs.Tables.{no_pieces, with_pieces, HasShape, IsKept, lists_at};
+ghost use Rattle.flat_walk.specs.Tables.{no_pieces, with_pieces, HasShape, IsKept, AreKept, lists_at};
 
 use cell_tree::Tree;
 use geo_stream::NoMemory;
@@ -135,9 +135,24 @@ impl Parts {
 
     // The pieces of the shapes of a cell.
     pub(crate) fn lists(&self, cell: usize) -> &[Pieces]
-        requires { cell < length self.now }
         ensures { result.now ≡ lists_at self.now cell }
     {
-        self.cells[cell].as_slice()
+        lists_of(self.cells.as_slice(), cell)
+    }
+
+    // What is kept are shots. It costs nothing.
+    pub(crate) fn kept(&self)
+        ensures { AreKept self.now }
+    {
+        let _count = self.cells.len();
+    }
+}
+
+fn lists_of(table: &[Vec<Pieces>], cell: usize) -> &[Pieces]
+    ensures { result.now ≡ lists_at (map (λ lists. lists.items) table.now) cell }
+{
+    match table.get(cell) {
+        Some(lists) => lists.as_slice(),
+        None => &[],
     }
 }
