@@ -2,11 +2,15 @@ pub mod SpanLemmas
 pub mod TableLemmas
 pub mod WalkLemmas
 pub mod WayLemmas
+pub mod AllThings
+pub mod Amid
+pub mod AmidLemmas
 pub mod EdgeCrossings
 pub mod Motions
 pub mod PoseLemmas
 pub mod ReadLemmas
 pub mod RestLemmas
+pub mod RingImages
 pub mod ShowLemmas
 pub mod PointLemmas
 pub mod ForCallers

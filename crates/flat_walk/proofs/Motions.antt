@@ -624,15 +624,15 @@ enlarge_loop m points loop = record { closed = closed_map (enlarged m) points lo
 
 -- ---- an image
 
-abbrev signed : Bool → ℤ → ℤ
+abbrev pub signed : Bool → ℤ → ℤ
 signed true z = neg_ℤ z
 signed false z = z
 
-abbrev before_flipped : Bool → Tile → Tile
+abbrev pub before_flipped : Bool → Tile → Tile
 before_flipped true t = before_flip t
 before_flipped false t = t
 
-abbrev before_turned : ℕ → Tile → Tile
+abbrev pub before_turned : ℕ → Tile → Tile
 before_turned zero t = t
 before_turned (suc turns) t = before_turn (before_turned turns t)
 

@@ -32,7 +32,8 @@ use Rattle.flat_walk.specs.declared.levels.Level.{Level}
 use Rattle.flat_walk.proofs.PointLemmas.{image_within, moved_within, within_more}
 use Rattle.flat_walk.proofs.RestLemmas.{skip_on, skip_same, skip_left, skip_over, drop_here, drop_past}
 use Rattle.flat_walk.proofs.ShowLemmas.{AreMarks, nothing_shown}
-use Rattle.flat_walk.proofs.SpanLemmas.{IsAmid, IsSpanned, marked_spanned}
+use Rattle.flat_walk.proofs.Amid.{IsAmid, IsSpanned}
+use Rattle.flat_walk.proofs.SpanLemmas.{marked_spanned}
 
 pub level_reached : (scene : Scene) (level : Level) → IsLevel scene level → IsReachable (cells_of scene) scene.tree.now.top level.cell
 level_reached scene level is = record { links = is.links; chain = is.chain; end = is.end }
