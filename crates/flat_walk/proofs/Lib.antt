@@ -6,6 +6,7 @@ pub mod AllThings
 pub mod Amid
 pub mod AmidLemmas
 pub mod EdgeCrossings
+pub mod ListLemmas
 pub mod Motions
 pub mod PoseLemmas
 pub mod ReadLemmas

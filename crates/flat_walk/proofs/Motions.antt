@@ -684,3 +684,14 @@ image_winding orient at t points some x y loop =
     ∙ (turned_winding orient.turns (before_move at t) (map (flipped orient.flip) (map (enlarged orient.mag) points)) flipped'
     ∙ (flipped_winding orient.flip (before_turned orient.turns (before_move at t)) (map (enlarged orient.mag) points) grown
     ∙ ap (signed orient.flip) (enlarge_winding orient.mag (before_flipped orient.flip (before_turned orient.turns (before_move at t))) points some loop))))
+
+-- a sum of even numbers
+twice_even : (z h : ℤ) → z ≡ twice h → is_even z ≡ true
+twice_even z h e = by_evenness (is_even z) refl
+  where
+    by_evenness : (b : Bool) → is_even z ≡ b → is_even z ≡ true
+    by_evenness true p = p
+    by_evenness false p = absurd (omega (arith, ints, odd_is z p, e))
+
+pub even_sum : (x y : ℤ) → is_even x ≡ true → is_even y ≡ true → is_even (x +ℤ y) ≡ true
+even_sum x y ex ey = twice_even (x +ℤ y) (half x +ℤ half y) (omega (arith, ints, even_is x ex, even_is y ey))
