@@ -5,6 +5,7 @@ pub mod WayLemmas
 pub mod AllThings
 pub mod Amid
 pub mod AmidLemmas
+pub mod AreaLemmas
 pub mod EdgeCrossings
 pub mod ListLemmas
 pub mod Motions

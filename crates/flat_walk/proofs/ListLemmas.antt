@@ -147,8 +147,8 @@ quads_of (None ∷ items) all = quads_of items all.1
 quads_of (Some q ∷ items) all = (all.0, quads_of items all.1)
 
 pub each_filter : {X : Type 0} (P : X → Type 0) (p : X → Bool) (xs : List X) → AllByRecursion P xs → AllByRecursion P (filter p xs)
-each_filter P p [] all = tt
-each_filter P p (x ∷ xs) all = by_test (p x) (filter p xs) all.0 (each_filter P p xs all.1)
+each_filter {X} P p [] all = tt
+each_filter {X} P p (x ∷ xs) all = by_test (p x) (filter p xs) all.0 (each_filter P p xs all.1)
   where
     by_test : (b : Bool) (ys : List X) → P x → AllByRecursion P ys → AllByRecursion P (cond b (x ∷ ys) ys)
     by_test true ys here all = (here, all)
@@ -219,8 +219,8 @@ module _ (cells : List Cell) (table : List (List (List Trapezoid))) (pair : Pair
   placed_few n = shorter_within 64 n
 
 filter_few : {X : Type 0} (p : X → Bool) (xs : List X) → length (filter p xs) ≤ length xs
-filter_few p [] = omega arith
-filter_few p (x ∷ xs) = by_test (p x) (filter p xs) (filter_few p xs)
+filter_few {X} p [] = omega arith
+filter_few {X} p (x ∷ xs) = by_test (p x) (filter p xs) (filter_few p xs)
   where
     by_test : (b : Bool) (ys : List X) → length ys ≤ length xs → length (cond b (x ∷ ys) ys) ≤ length (x ∷ xs)
     by_test true ys h = omega (arith, h)

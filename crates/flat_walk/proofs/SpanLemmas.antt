@@ -90,14 +90,16 @@ pair_is pair shape on = same_pair shape.pair pair (both_of (nat_eq shape.pair.la
 abbrev pub IsShown : Scene → ℕ → Option Corners → Type 0
 IsShown scene n item = IfSome item (λ q. IsSpanned (IsVertex (cells_of scene) n scene.pair) q × IsRing q)
 
-shape_closed : (shape : Shape) → IsShapeOnGrid shape → IsLoop shape.points
+pub shape_closed : (shape : Shape) → IsShapeOnGrid shape → IsLoop shape.points
 shape_closed shape grid = record { closed = grid.closed; grid = recursion_from_All IsOnGrid (edges_of shape.points) grid.edges }
 
-module _ (scene : Scene) (sc : IsScene scene) where
-  cells : List Cell
-  cells = cells_of scene
+pub kept_at : (table : List (List (List Trapezoid))) (n : ℕ) → AreKept table → All IsKept (lists_at table n)
+kept_at [] n all = λ k d inside. absurd (omega arith)
+kept_at (lists ∷ table) zero all = All-head (All IsKept) lists table all
+kept_at (lists ∷ table) (suc n) all = kept_at table n (All-tail (All IsKept) lists table all)
 
-  own_shown : (n : ℕ) → IsReachable (cells_of scene) scene.tree.now.top n → (k : ℕ) (shape : Shape) (pieces : List Trapezoid) → slice_get (shapes_at (cells_of scene) n) k ≡ Some shape
+module _ (scene : Scene) (sc : IsScene scene) where
+  pub own_shown : (n : ℕ) → IsReachable (cells_of scene) scene.tree.now.top n → (k : ℕ) (shape : Shape) (pieces : List Trapezoid) → slice_get (shapes_at (cells_of scene) n) k ≡ Some shape
       → slice_get (lists_at scene.parts.now n) k ≡ Some pieces → is_on scene.pair shape ≡ true → AllByRecursion (λ q. IsSpanned (IsVertex (cells_of scene) n scene.pair) q × IsRing q) (pieces_of_shape shape pieces)
   own_shown n reach k shape pieces at_shape at_pieces on =
       let grid = slot_all IsShapeOnGrid (shapes_at (cells_of scene) n) k shape (shapes_on_grid (cells_of scene) sc.grid.cells n) at_shape in
@@ -124,11 +126,6 @@ module _ (scene : Scene) (sc : IsScene scene) where
             (corners_amid shape.points z loop shot.legal (piece_wound shape.points pieces i z covers at_z)),
         ring_moved by (corners_of z) move.even_x move.even_y (shot_ring z shot),
       )))))
-    where
-      kept_at : (table : List (List (List Trapezoid))) (n : ℕ) → AreKept table → All IsKept (lists_at table n)
-      kept_at [] n all = λ k d inside. absurd (omega arith)
-      kept_at (lists ∷ table) zero all = All-head (All IsKept) lists table all
-      kept_at (lists ∷ table) (suc n) all = kept_at table n (All-tail (All IsKept) lists table all)
 
   here_shown : (n : ℕ) → IsReachable (cells_of scene) scene.tree.now.top n → AllByRecursion (IsShown scene n) (marked_own (cells_of scene) scene.parts.now scene.pair n)
   here_shown n reach = (tt, each_map (λ q. IsSpanned (IsVertex (cells_of scene) n scene.pair) q × IsRing q) (IsShown scene n) Some (own_pieces (cells_of scene) scene.parts.now scene.pair n) (λ q h. h)

@@ -1,5 +1,7 @@
 -- The cells on the way as a list, and the cell that is entered.
 use Rattle.std.proofs.Common.{◌≡◌, ℕ, zero, suc, ◌+◌, ◌<◌, ◌≤◌, Bool, true, false, List, [], ◌∷◌, ◌++◌, Option, Some, None, All, IfSome, map, drop, length, refl, sym, ap, subst, ◌∙◌, arith, append_assoc, append-nil, length-append}
+use Rattle.std.proofs.lemmas.Int.{ints}
+use Rattle.layout_model.specs.Images.{IsOrient}
 use Rattle.std.specs.List.{filter, flat_map}
 use Rattle.std.proofs.lemmas.List.{map-append}
 use Rattle.half_grid.specs.Quads.{Corners}
@@ -16,13 +18,14 @@ use Rattle.flat_walk.specs.Hands.{own_rest, IsOwn}
 use Rattle.flat_walk.specs.Streams.{rest_of, StandsForWalk, walk_size}
 use Rattle.flat_walk.specs.declared.owned.Own.{Own}
 use Rattle.flat_walk.specs.Tables.{lists_at}
-use Rattle.flat_walk.specs.Walks.{own_pieces}
+use Rattle.flat_walk.specs.Walks.{own_pieces, pieces_in}
 use Rattle.flat_walk.specs.Rests.{Skips, IsMarkedQuad, shows_in, marked_image, marked_own, marked, placed_rest, shapes_rest}
 use Rattle.flat_walk.specs.Ways.{IsScene, cells_of, marked_of, run_rest, placements_rest, level_rest, levels_rest, IsLevel, AreLevels, IsSamePlace, IsInner}
 use Rattle.flat_walk.specs.declared.scenes.Scene.{Scene}
 use Rattle.flat_walk.specs.declared.levels.Level.{Level}
 use Rattle.flat_walk.proofs.RestLemmas.{skip_on, skip_same, skip_one, skip_left, skip_over, skip_shows, skip_quads, shapes_from_first}
 use Rattle.flat_walk.proofs.WayLemmas.{level_reached}
+use Rattle.flat_walk.proofs.ListLemmas.{still, zero_point, still_list, top_shows, top_quads, list_few}
 
 -- ---- the innermost cell comes first
 
@@ -144,3 +147,44 @@ pub walk_shorter : (scene : Scene) (own own' : Own) (levels levels' : List Level
 walk_shorter scene own own' levels levels' g =
     let e = ap length g.is in
     omega (arith, e, length-append g.front (None ∷ rest_of scene own' levels'), length-append (own_rest scene.pair own) (levels_rest scene levels))
+
+-- ---- the beginning
+
+pub top_level : (scene : Scene) (level : Level) → level.cell ≡ scene.tree.now.top → level.orient ≡ still → level.at ≡ zero_point → level.depth ≡ 0 → level.run ≡ None → IsLevel scene level
+top_level scene level cell orient at depth none = record {
+  links = [];
+  chain = tt;
+  end = sym cell;
+  depth = sym depth;
+  factor = sym (ap (λ o. o.mag) orient);
+  orient = subst IsOrient (sym orient) (record { turns = omega arith; enlarges = omega arith; factor = omega arith });
+  near = rw (at, depth) (record { x_low = omega (arith, ints); x_high = omega (arith, ints); y_low = omega (arith, ints); y_high = omega (arith, ints) });
+  run = rw none tt;
+}
+
+-- the marked list of the top cell is a mark, and what a walk begins with
+pub top_rest : (scene : Scene) (level : Level) (own : Own) → IsScene scene → level.cell ≡ scene.tree.now.top → level.orient ≡ still → level.at ≡ zero_point → level.depth ≡ 0 → level.run ≡ None → level.next ≡ 0
+    → own_rest scene.pair own ≡ map Some (placed_rest level.orient level.at scene.pair (shapes_at (cells_of scene) level.cell) (lists_at scene.parts.now level.cell) 0)
+    → marked_of scene scene.tree.now.top ≡ None ∷ rest_of scene own (level ∷ [])
+top_rest scene level own sc cell orient at depth none first own_is =
+    sym (still_list (marked_of scene scene.tree.now.top))
+    ∙ (sym (ap (λ o. map (marked_image o zero_point) (marked_of scene scene.tree.now.top)) orient)
+    ∙ (sym (ap (λ p. map (marked_image level.orient p) (marked_of scene scene.tree.now.top)) at)
+    ∙ (sym (ap (λ n. map (marked_image level.orient level.at) (marked_of scene n)) cell)
+    ∙ (entered scene level sc (top_level scene level cell orient at depth none) none first
+    ∙ ap (λ l. None ∷ (l ++ level_rest scene level)) (sym own_is)))))
+
+pub walk_begins : (scene : Scene) (level : Level) (own : Own) (room : ℕ) → IsScene scene → IsOwn own → level.cell ≡ scene.tree.now.top → level.orient ≡ still → level.at ≡ zero_point → level.depth ≡ 0 → level.run ≡ None → level.next ≡ 0
+    → own_rest scene.pair own ≡ map Some (placed_rest level.orient level.at scene.pair (shapes_at (cells_of scene) level.cell) (lists_at scene.parts.now level.cell) 0) → 64 ≤ room
+    → StandsForWalk scene own (level ∷ []) room (pieces_in (cells_of scene) scene.tree.now.top scene.parts.now scene.pair scene.window)
+walk_begins scene level own room sc o cell orient at depth none first own_is most =
+    let whole = top_rest scene level own sc cell orient at depth none first own_is in
+    record {
+      is_scene = sc;
+      is_own = o;
+      are_levels = (depth, top_level scene level cell orient at depth none, tt);
+      has_room = most;
+      are_quads = All-tail IsMarkedQuad None (rest_of scene own (level ∷ [])) (subst (All IsMarkedQuad) whole (top_quads scene sc));
+      few = list_few scene sc;
+      shows = sym (ap (filter (shows_in scene.window)) whole) ∙ top_shows (cells_of scene) scene.tree.now.top scene.parts.now scene.pair scene.window;
+    }

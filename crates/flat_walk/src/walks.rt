@@ -105,6 +105,7 @@ impl<'t> Walk<'t> {
     {
         parts.kept();
         let _cells = tree.cells();
+        let top = tree.top();
         let scene = Scene {
             tree,
             parts,
@@ -112,7 +113,7 @@ impl<'t> Walk<'t> {
             window,
         };
         let mut levels = Vec::with_capacity(alloc, DEPTH)?;
-        let level = Level::of(tree.top(), UPRIGHT, Point { x: 0, y: 0 }, 0);
+        let level = Level::of(top, UPRIGHT, Point { x: 0, y: 0 }, 0);
         let own = own_of(&scene, &level);
         levels.push_reserved(level);
         Ok(Walk { scene, own, levels })
