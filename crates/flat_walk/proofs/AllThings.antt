@@ -25,10 +25,9 @@ each_flat Q f [] each = tt
 each_flat Q f (x ∷ xs) each = each_both Q (f x) (flat_map f xs) (each 0 x refl) (each_flat Q f xs (λ k y at. each (suc k) y at))
 
 module _ {X : Type 0} (own : ℕ → List X) (carry : Orient → Point → X → X) (cells : List Cell) (top : ℕ) (P : ℕ → X → Type 0)
-  (here : (n : ℕ) → IsReachable cells top n → AllByRecursion (P n) (own n))
-  (step : (n k m j : ℕ) (placement : Placement) (by : Point) (x : X) → IsReachable cells top n → slice_get (placements_at cells n) k ≡ Some placement → cell_number cells placement.target ≡ Some m
+    (here : (n : ℕ) → IsReachable cells top n → AllByRecursion (P n) (own n))
+    (step : (n k m j : ℕ) (placement : Placement) (by : Point) (x : X) → IsReachable cells top n → slice_get (placements_at cells n) k ≡ Some placement → cell_number cells placement.target ≡ Some m
     → slice_get placement.offsets j ≡ Some by → P m x → P n (carry placement.orient (moved by placement.at) x)) where
-
   placed_each : (n k : ℕ) (placement : Placement) (things : ℕ → List X) (o : Option ℕ) → cell_number cells placement.target ≡ o → ((m : ℕ) → IsReachable cells top m → AllByRecursion (P m) (things m)) → IsReachable cells top n
       → slice_get (placements_at cells n) k ≡ Some placement → AllByRecursion (P n) (placed_things carry placement (option_map_or things o []))
   placed_each n k placement things None e each reach placed = each_flat (P n) (λ by. map (carry placement.orient (moved by placement.at)) []) placement.offsets (λ j by at. tt)

@@ -169,9 +169,9 @@ flip_edge t a b (inr share) =
     by_lt_z (number_in_row (before_flip t)) (place l (before_flip t).j)
     (λ lt. crossing_left t (mirrored a) (mirrored b) (flip_line l) (flip_through l a pa) (flip_through l b pb) (flip_left l (number_in_row t) t.j (rw named at lt)) ∙ ap neg_ℤ (sym (crossing_left (before_flip t) a b l pa pb lt)))
     (λ ge.
-      let image = crossing_right t (mirrored a) (mirrored b) (flip_line l) (flip_through l a pa) (flip_through l b pb) (flip_right l (number_in_row t) t.j (rw named at ge)) in
-      let here = crossing_right (before_flip t) a b l pa pb ge in
-      omega (arith, ints, image, here, flip_below t a, flip_below t b))
+    let image = crossing_right t (mirrored a) (mirrored b) (flip_line l) (flip_through l a pa) (flip_through l b pb) (flip_right l (number_in_row t) t.j (rw named at ge)) in
+    let here = crossing_right (before_flip t) a b l pa pb ge in
+    omega (arith, ints, image, here, flip_below t a, flip_below t b))
 
 flip_from : (t : Tile) (a : Point) (points : List Point) → AllByRecursion IsOnGrid (edges_of (a ∷ points)) → winding_from t (mirrored a) (map mirrored points) ≡ neg_ℤ (winding_from (before_flip t) a points)
 flip_from t a [] grid = refl
@@ -295,19 +295,19 @@ turn_flat t a b e =
     let pb : neg_ℤ b.y ≡ neg_ℤ a.y = ap neg_ℤ (sym e) in
     by_lt_z (number_in_row t) (place (Upright (neg_ℤ a.y)) t.j)
     (λ lt.
-      let image = crossing_left t (quarter_turn a) (quarter_turn b) (Upright (neg_ℤ a.y)) refl pb lt in
-      let la = le_yes a.y (before_turn t).j (omega (arith, ints, lt, cl, ch, r)) in
-      let lb = le_yes b.y (before_turn t).j (omega (arith, ints, lt, cl, ch, r, e)) in
-      let qa = when_below (int_le a.x t.j) (int_le a.y (before_turn t).j) (λ _. la) in
-      let qb = when_below (int_le b.x t.j) (int_le b.y (before_turn t).j) (λ _. lb) in
-      omega (arith, ints, flat, image, qa, qb))
+    let image = crossing_left t (quarter_turn a) (quarter_turn b) (Upright (neg_ℤ a.y)) refl pb lt in
+    let la = le_yes a.y (before_turn t).j (omega (arith, ints, lt, cl, ch, r)) in
+    let lb = le_yes b.y (before_turn t).j (omega (arith, ints, lt, cl, ch, r, e)) in
+    let qa = when_below (int_le a.x t.j) (int_le a.y (before_turn t).j) (λ _. la) in
+    let qb = when_below (int_le b.x t.j) (int_le b.y (before_turn t).j) (λ _. lb) in
+    omega (arith, ints, flat, image, qa, qb))
     (λ ge.
-      let image = crossing_right t (quarter_turn a) (quarter_turn b) (Upright (neg_ℤ a.y)) refl pb ge in
-      let la = le_no a.y (before_turn t).j (omega (arith, ints, ge, cl, ch, r)) in
-      let lb = le_no b.y (before_turn t).j (omega (arith, ints, ge, cl, ch, r, e)) in
-      let qa = when_apart (int_le a.x t.j) (int_le a.y (before_turn t).j) (λ _. la) in
-      let qb = when_apart (int_le b.x t.j) (int_le b.y (before_turn t).j) (λ _. lb) in
-      omega (arith, ints, flat, image, qa, qb))
+    let image = crossing_right t (quarter_turn a) (quarter_turn b) (Upright (neg_ℤ a.y)) refl pb ge in
+    let la = le_no a.y (before_turn t).j (omega (arith, ints, ge, cl, ch, r)) in
+    let lb = le_no b.y (before_turn t).j (omega (arith, ints, ge, cl, ch, r, e)) in
+    let qa = when_apart (int_le a.x t.j) (int_le a.y (before_turn t).j) (λ _. la) in
+    let qb = when_apart (int_le b.x t.j) (int_le b.y (before_turn t).j) (λ _. lb) in
+    omega (arith, ints, flat, image, qa, qb))
 
 turn_upright : (t : Tile) (a b : Point) (c : ℤ) → a.x ≡ c → b.x ≡ c → crossing_of t (quarter_turn a) (quarter_turn b) ≡ crossing_of (before_turn t) a b +ℤ (pos (corner_at t a) -ℤ pos (corner_at t b))
 turn_upright t a b c pa pb =
@@ -317,21 +317,21 @@ turn_upright t a b c pa pb =
     let image = crossing_flat t (quarter_turn a) (quarter_turn b) (pa ∙ sym pb) in
     by_lt_z (number_in_row (before_turn t)) (place (Upright c) (before_turn t).j)
     (λ lt.
-      let here = crossing_left (before_turn t) a b (Upright c) pa pb lt in
-      let ca = le_no a.x t.j (omega (arith, ints, lt, low, pa)) in
-      let cb = le_no b.x t.j (omega (arith, ints, lt, low, pb)) in
-      let qa = when_apart (int_le a.x t.j) (int_le a.y (before_turn t).j) (λ e. absurd (let clash : ⊥ = cc in clash)) in
-      let qb = when_apart (int_le b.x t.j) (int_le b.y (before_turn t).j) (λ e. absurd (let clash : ⊥ = cc in clash)) in
-      let na = ap (λ x. pos (count_one x)) ca in
-      let nb = ap (λ x. pos (count_one x)) cb in
-      omega (arith, ints, image, here, qa, qb, na, nb))
+    let here = crossing_left (before_turn t) a b (Upright c) pa pb lt in
+    let ca = le_no a.x t.j (omega (arith, ints, lt, low, pa)) in
+    let cb = le_no b.x t.j (omega (arith, ints, lt, low, pb)) in
+    let qa = when_apart (int_le a.x t.j) (int_le a.y (before_turn t).j) (λ e. absurd (let clash : ⊥ = cc in clash)) in
+    let qb = when_apart (int_le b.x t.j) (int_le b.y (before_turn t).j) (λ e. absurd (let clash : ⊥ = cc in clash)) in
+    let na = ap (λ x. pos (count_one x)) ca in
+    let nb = ap (λ x. pos (count_one x)) cb in
+    omega (arith, ints, image, here, qa, qb, na, nb))
     (λ ge.
-      let here = crossing_right (before_turn t) a b (Upright c) pa pb ge in
-      let ca = le_yes a.x t.j (omega (arith, ints, ge, high, pa)) in
-      let cb = le_yes b.x t.j (omega (arith, ints, ge, high, pb)) in
-      let qa = when_either (int_le a.x t.j) (int_le a.y (before_turn t).j) (λ e. absurd (let clash : ⊥ = cc in clash)) in
-      let qb = when_either (int_le b.x t.j) (int_le b.y (before_turn t).j) (λ e. absurd (let clash : ⊥ = cc in clash)) in
-      omega (arith, ints, image, here, qa, qb))
+    let here = crossing_right (before_turn t) a b (Upright c) pa pb ge in
+    let ca = le_yes a.x t.j (omega (arith, ints, ge, high, pa)) in
+    let cb = le_yes b.x t.j (omega (arith, ints, ge, high, pb)) in
+    let qa = when_either (int_le a.x t.j) (int_le a.y (before_turn t).j) (λ e. absurd (let clash : ⊥ = cc in clash)) in
+    let qb = when_either (int_le b.x t.j) (int_le b.y (before_turn t).j) (λ e. absurd (let clash : ⊥ = cc in clash)) in
+    omega (arith, ints, image, here, qa, qb))
 
 turn_rising : (t : Tile) (a b : Point) (c : ℤ) → Passes (Rising c) a → Passes (Rising c) b → crossing_of t (quarter_turn a) (quarter_turn b) ≡ crossing_of (before_turn t) a b +ℤ (pos (corner_at t a) -ℤ pos (corner_at t b))
 turn_rising t a b c pa pb =
@@ -342,17 +342,17 @@ turn_rising t a b c pa pb =
     let qpb : Passes (Falling c) (quarter_turn b) = omega (arith, ints, pb) in
     by_lt_z (number_in_row (before_turn t)) (place (Rising c) (before_turn t).j)
     (λ lt.
-      let here = crossing_left (before_turn t) a b (Rising c) pa pb lt in
-      let image = crossing_left t (quarter_turn a) (quarter_turn b) (Falling c) qpa qpb (rising_left _ _ _ _ turned c lt) in
-      let qa = when_below (int_le a.x t.j) (int_le a.y (before_turn t).j) (λ e. le_yes a.y (before_turn t).j (let h = le_true a.x t.j e in omega (arith, ints, lt, low, pa, h))) in
-      let qb = when_below (int_le b.x t.j) (int_le b.y (before_turn t).j) (λ e. le_yes b.y (before_turn t).j (let h = le_true b.x t.j e in omega (arith, ints, lt, low, pb, h))) in
-      omega (arith, ints, image, here, qa, qb))
+    let here = crossing_left (before_turn t) a b (Rising c) pa pb lt in
+    let image = crossing_left t (quarter_turn a) (quarter_turn b) (Falling c) qpa qpb (rising_left _ _ _ _ turned c lt) in
+    let qa = when_below (int_le a.x t.j) (int_le a.y (before_turn t).j) (λ e. le_yes a.y (before_turn t).j (let h = le_true a.x t.j e in omega (arith, ints, lt, low, pa, h))) in
+    let qb = when_below (int_le b.x t.j) (int_le b.y (before_turn t).j) (λ e. le_yes b.y (before_turn t).j (let h = le_true b.x t.j e in omega (arith, ints, lt, low, pb, h))) in
+    omega (arith, ints, image, here, qa, qb))
     (λ ge.
-      let here = crossing_right (before_turn t) a b (Rising c) pa pb ge in
-      let image = crossing_right t (quarter_turn a) (quarter_turn b) (Falling c) qpa qpb (rising_right _ _ _ _ turned c ge) in
-      let qa = when_left (int_le a.x t.j) (int_le a.y (before_turn t).j) (λ e. le_yes a.x t.j (let h = le_true a.y (before_turn t).j e in omega (arith, ints, ge, high, pa, h))) in
-      let qb = when_left (int_le b.x t.j) (int_le b.y (before_turn t).j) (λ e. le_yes b.x t.j (let h = le_true b.y (before_turn t).j e in omega (arith, ints, ge, high, pb, h))) in
-      omega (arith, ints, image, here, qa, qb))
+    let here = crossing_right (before_turn t) a b (Rising c) pa pb ge in
+    let image = crossing_right t (quarter_turn a) (quarter_turn b) (Falling c) qpa qpb (rising_right _ _ _ _ turned c ge) in
+    let qa = when_left (int_le a.x t.j) (int_le a.y (before_turn t).j) (λ e. le_yes a.x t.j (let h = le_true a.y (before_turn t).j e in omega (arith, ints, ge, high, pa, h))) in
+    let qb = when_left (int_le b.x t.j) (int_le b.y (before_turn t).j) (λ e. le_yes b.x t.j (let h = le_true b.y (before_turn t).j e in omega (arith, ints, ge, high, pb, h))) in
+    omega (arith, ints, image, here, qa, qb))
 
 turn_falling : (t : Tile) (a b : Point) (c : ℤ) → Passes (Falling c) a → Passes (Falling c) b → crossing_of t (quarter_turn a) (quarter_turn b) ≡ crossing_of (before_turn t) a b +ℤ (pos (corner_at t a) -ℤ pos (corner_at t b))
 turn_falling t a b c pa pb =
@@ -363,17 +363,17 @@ turn_falling t a b c pa pb =
     let qpb : Passes (Rising (neg_ℤ c)) (quarter_turn b) = omega (arith, ints, pb) in
     by_lt_z (number_in_row (before_turn t)) (place (Falling c) (before_turn t).j)
     (λ lt.
-      let here = crossing_left (before_turn t) a b (Falling c) pa pb lt in
-      let image = crossing_right t (quarter_turn a) (quarter_turn b) (Rising (neg_ℤ c)) qpa qpb (falling_left _ _ _ _ turned c lt) in
-      let qa = when_apart (int_le a.x t.j) (int_le a.y (before_turn t).j) (λ e. le_no a.y (before_turn t).j (let h = le_true a.x t.j e in omega (arith, ints, lt, low, pa, h))) in
-      let qb = when_apart (int_le b.x t.j) (int_le b.y (before_turn t).j) (λ e. le_no b.y (before_turn t).j (let h = le_true b.x t.j e in omega (arith, ints, lt, low, pb, h))) in
-      omega (arith, ints, image, here, qa, qb))
+    let here = crossing_left (before_turn t) a b (Falling c) pa pb lt in
+    let image = crossing_right t (quarter_turn a) (quarter_turn b) (Rising (neg_ℤ c)) qpa qpb (falling_left _ _ _ _ turned c lt) in
+    let qa = when_apart (int_le a.x t.j) (int_le a.y (before_turn t).j) (λ e. le_no a.y (before_turn t).j (let h = le_true a.x t.j e in omega (arith, ints, lt, low, pa, h))) in
+    let qb = when_apart (int_le b.x t.j) (int_le b.y (before_turn t).j) (λ e. le_no b.y (before_turn t).j (let h = le_true b.x t.j e in omega (arith, ints, lt, low, pb, h))) in
+    omega (arith, ints, image, here, qa, qb))
     (λ ge.
-      let here = crossing_right (before_turn t) a b (Falling c) pa pb ge in
-      let image = crossing_left t (quarter_turn a) (quarter_turn b) (Rising (neg_ℤ c)) qpa qpb (falling_right _ _ _ _ turned c ge) in
-      let qa = when_either (int_le a.x t.j) (int_le a.y (before_turn t).j) (λ e. le_yes a.y (before_turn t).j (let h = le_false a.x t.j e in omega (arith, ints, ge, high, pa, h))) in
-      let qb = when_either (int_le b.x t.j) (int_le b.y (before_turn t).j) (λ e. le_yes b.y (before_turn t).j (let h = le_false b.x t.j e in omega (arith, ints, ge, high, pb, h))) in
-      omega (arith, ints, image, here, qa, qb))
+    let here = crossing_right (before_turn t) a b (Falling c) pa pb ge in
+    let image = crossing_left t (quarter_turn a) (quarter_turn b) (Rising (neg_ℤ c)) qpa qpb (falling_right _ _ _ _ turned c ge) in
+    let qa = when_either (int_le a.x t.j) (int_le a.y (before_turn t).j) (λ e. le_yes a.y (before_turn t).j (let h = le_false a.x t.j e in omega (arith, ints, ge, high, pa, h))) in
+    let qb = when_either (int_le b.x t.j) (int_le b.y (before_turn t).j) (λ e. le_yes b.y (before_turn t).j (let h = le_false b.x t.j e in omega (arith, ints, ge, high, pb, h))) in
+    omega (arith, ints, image, here, qa, qb))
 
 turn_line : (t : Tile) (a b : Point) (l : Line) → Passes l a → Passes l b → crossing_of t (quarter_turn a) (quarter_turn b) ≡ crossing_of (before_turn t) a b +ℤ (pos (corner_at t a) -ℤ pos (corner_at t b))
 turn_line t a b (Upright c) pa pb = turn_upright t a b c pa pb
@@ -476,8 +476,7 @@ module _ (m : ℕ) (n j a b d : ℤ) (cell : IsInCell m n j a b) where
   upright_agrees : (s : ℕ) (c : ℤ) → s ≤ 1 → Agrees m n j a b s (Upright c)
   unfolding Agrees
   upright_agrees s c small =
-      let left = cell.left in let right = cell.right in
-      (
+      let left = cell.left in let right = cell.right in (
         λ h. (let low : c ≤ℤ a = omega (arith, ints, h, small) in omega (arith, ints, left, mul_up m c a low)),
         λ h. (let high : a <ℤ c = omega (arith, ints, h, small) in omega (arith, ints, right, mul_more m a c high)),
       )
@@ -495,13 +494,13 @@ module _ (m : ℕ) (n j a b d : ℤ) (cell : IsInCell m n j a b) where
       let left = cell.left in let right = cell.right in let bottom = cell.bottom in let top = cell.top in let some = cell.some in
       elim in_even.side [
         | inl p ↦ (let one = p.0 in let at = p.1 in (
-            λ h. (let low : c ≤ℤ d = omega (arith, ints, h, one, e) in omega (arith, ints, at, mul_up m c d low)),
-            λ h. (let high : d <ℤ c = omega (arith, ints, h, one, e) in omega (arith, ints, right, bottom, w, some, mul_more m d c high)),
-          ))
+          λ h. (let low : c ≤ℤ d = omega (arith, ints, h, one, e) in omega (arith, ints, at, mul_up m c d low)),
+          λ h. (let high : d <ℤ c = omega (arith, ints, h, one, e) in omega (arith, ints, right, bottom, w, some, mul_more m d c high)),
+        ))
         | inr p ↦ (let none = p.0 in let at = p.1 in (
-            λ h. (let low : c <ℤ d = omega (arith, ints, h, none, e) in omega (arith, ints, left, top, w, some, mul_more m c d low)),
-            λ h. (let high : d ≤ℤ c = omega (arith, ints, h, none, e) in omega (arith, ints, at, mul_up m d c high)),
-          ))
+          λ h. (let low : c <ℤ d = omega (arith, ints, h, none, e) in omega (arith, ints, left, top, w, some, mul_more m c d low)),
+          λ h. (let high : d ≤ℤ c = omega (arith, ints, h, none, e) in omega (arith, ints, at, mul_up m d c high)),
+        ))
       ]
 
   even_falling : (s : ℕ) (c : ℤ) → s ≤ 1 → IsInEven m n j a b d s → Agrees m n j a b s (Falling c)
@@ -509,8 +508,7 @@ module _ (m : ℕ) (n j a b d : ℤ) (cell : IsInCell m n j a b) where
   even_falling s c small in_even =
       let w = even_width in_even.diagonal in let e = in_even.diagonal in
       let left = cell.left in let right = cell.right in let bottom = cell.bottom in let top = cell.top in let some = cell.some in
-      let sum = mul_add m d b in
-      (
+      let sum = mul_add m d b in (
         λ h. (let low : c ≤ℤ (d +ℤ b) = omega (arith, ints, h, small, e) in omega (arith, ints, left, bottom, w, sum, mul_up m c (d +ℤ b) low)),
         λ h. (let high : (d +ℤ b) <ℤ c = omega (arith, ints, h, small, e) in omega (arith, ints, right, top, w, sum, mul_more m (d +ℤ b) c high)),
       )
@@ -522,13 +520,13 @@ module _ (m : ℕ) (n j a b d : ℤ) (cell : IsInCell m n j a b) where
       let left = cell.left in let right = cell.right in let bottom = cell.bottom in let top = cell.top in let some = cell.some in
       elim in_odd.side [
         | inl p ↦ (let one = p.0 in let at = p.1 in (
-            λ h. (let low : c ≤ℤ d = omega (arith, ints, h, one, e) in omega (arith, ints, at, mul_up m c d low)),
-            λ h. (let high : d <ℤ c = omega (arith, ints, h, one, e) in omega (arith, ints, right, top, w, some, mul_more m d c high)),
-          ))
+          λ h. (let low : c ≤ℤ d = omega (arith, ints, h, one, e) in omega (arith, ints, at, mul_up m c d low)),
+          λ h. (let high : d <ℤ c = omega (arith, ints, h, one, e) in omega (arith, ints, right, top, w, some, mul_more m d c high)),
+        ))
         | inr p ↦ (let none = p.0 in let at = p.1 in (
-            λ h. (let low : c <ℤ d = omega (arith, ints, h, none, e) in omega (arith, ints, left, bottom, w, some, mul_more m c d low)),
-            λ h. (let high : d ≤ℤ c = omega (arith, ints, h, none, e) in omega (arith, ints, at, mul_up m d c high)),
-          ))
+          λ h. (let low : c <ℤ d = omega (arith, ints, h, none, e) in omega (arith, ints, left, bottom, w, some, mul_more m c d low)),
+          λ h. (let high : d ≤ℤ c = omega (arith, ints, h, none, e) in omega (arith, ints, at, mul_up m d c high)),
+        ))
       ]
 
   odd_rising : (s : ℕ) (c : ℤ) → s ≤ 1 → IsInOdd m n j a b d s → Agrees m n j a b s (Rising c)
@@ -536,8 +534,7 @@ module _ (m : ℕ) (n j a b d : ℤ) (cell : IsInCell m n j a b) where
   odd_rising s c small in_odd =
       let w = odd_width in_odd.diagonal in let e = in_odd.diagonal in
       let left = cell.left in let right = cell.right in let bottom = cell.bottom in let top = cell.top in let some = cell.some in
-      let sum = mul_add m c b in
-      (
+      let sum = mul_add m c b in (
         λ h. (let low : (c +ℤ b) <ℤ d = omega (arith, ints, h, small, e) in omega (arith, ints, left, top, w, sum, mul_more m (c +ℤ b) d low)),
         λ h. (let high : d ≤ℤ (c +ℤ b) = omega (arith, ints, h, small, e) in omega (arith, ints, right, bottom, w, sum, mul_up m d (c +ℤ b) high)),
       )

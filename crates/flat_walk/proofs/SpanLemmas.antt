@@ -80,8 +80,10 @@ pair_is pair shape on = same_pair shape.pair pair (both_of (nat_eq shape.pair.la
     both_of true true h = (refl, refl)
     both_of true false h = absurd (let clash : ⊥ = cc in clash)
     both_of false b h = absurd (let clash : ⊥ = cc in clash)
+
     eq_is : (m n : ℕ) → nat_eq m n ≡ true → m ≡ n
     eq_is m n h = grind (arith, nat_tests)
+
     same_pair : (a b : Pair) → (nat_eq a.layer b.layer ≡ true) × (nat_eq a.datatype b.datatype ≡ true) → a ≡ b
     same_pair a b h = let l = eq_is a.layer b.layer h.0 in let d = eq_is a.datatype b.datatype h.1 in λ i. record { layer = l i; datatype = d i }
 
@@ -128,8 +130,11 @@ module _ (scene : Scene) (sc : IsScene scene) where
       )))))
 
   here_shown : (n : ℕ) → IsReachable (cells_of scene) scene.tree.now.top n → AllByRecursion (IsShown scene n) (marked_own (cells_of scene) scene.parts.now scene.pair n)
-  here_shown n reach = (tt, each_map (λ q. IsSpanned (IsVertex (cells_of scene) n scene.pair) q × IsRing q) (IsShown scene n) Some (own_pieces (cells_of scene) scene.parts.now scene.pair n) (λ q h. h)
-      (pieces_each (λ q. IsSpanned (IsVertex (cells_of scene) n scene.pair) q × IsRing q) scene.pair (shapes_at (cells_of scene) n) (lists_at scene.parts.now n) (own_shown n reach)))
+  here_shown n reach = (
+    tt,
+    each_map (λ q. IsSpanned (IsVertex (cells_of scene) n scene.pair) q × IsRing q) (IsShown scene n) Some (own_pieces (cells_of scene) scene.parts.now scene.pair n) (λ q h. h)
+        (pieces_each (λ q. IsSpanned (IsVertex (cells_of scene) n scene.pair) q × IsRing q) scene.pair (shapes_at (cells_of scene) n) (lists_at scene.parts.now n) (own_shown n reach)),
+  )
 
   step_shown : (n k m j : ℕ) (placement : Placement) (by : Point) (item : Option Corners) → IsReachable (cells_of scene) scene.tree.now.top n → slice_get (placements_at (cells_of scene) n) k ≡ Some placement
       → cell_number (cells_of scene) placement.target ≡ Some m → slice_get placement.offsets j ≡ Some by → IsShown scene m item → IsShown scene n (marked_image placement.orient (moved by placement.at) item)
@@ -139,8 +144,7 @@ module _ (scene : Scene) (sc : IsScene scene) where
       let move = slot_all IsMove placement.offsets j by grid.offsets.moves at_by in
       let short = short_below (cells_of scene) scene.tree.now.top n sc.tree.shallow reach in
       let even_x = even_sum placement.at.x by.x grid.at.even_x move.even_x in
-      let even_y = even_sum placement.at.y by.y grid.at.even_y move.even_y in
-      (
+      let even_y = even_sum placement.at.y by.y grid.at.even_y move.even_y in (
         spanned_image placement.orient (moved by placement.at) (IsVertex (cells_of scene) m scene.pair) (IsVertex (cells_of scene) n scene.pair) q
             (λ v vertex. placed_vertex (cells_of scene) n scene.pair (image_of placement.orient (moved by placement.at) v) (length (placements_at (cells_of scene) n)) short (record {
               number = k;

@@ -80,8 +80,8 @@ enters scene before levels old new inner own sc s g is own_is =
     let e : shown ≡ None ∷ (own ++ level_rest scene inner) = entered scene inner sc is.level is.run is.next ∙ ap (λ l. None ∷ (l ++ level_rest scene inner)) (sym own_is) in
     let rests : levels_rest scene ((levels ++ new ∷ []) ++ inner ∷ []) ≡ level_rest scene inner ++ (level_rest scene new ++ outer) = rest_pushed scene (levels ++ new ∷ []) inner ∙ ap (λ l. level_rest scene inner ++ l) (rest_pushed scene levels new) in
     let whole : (shown ++ level_rest scene new) ++ outer ≡ None ∷ (own ++ levels_rest scene ((levels ++ new ∷ []) ++ inner ∷ [])) =
-        append_assoc shown (level_rest scene new) outer ∙ (ap (λ l. l ++ (level_rest scene new ++ outer)) e
-        ∙ (ap (λ l. None ∷ l) (append_assoc own (level_rest scene inner) (level_rest scene new ++ outer)) ∙ ap (λ l. None ∷ (own ++ l)) (sym rests))) in
+    append_assoc shown (level_rest scene new) outer ∙ (ap (λ l. l ++ (level_rest scene new ++ outer)) e
+    ∙ (ap (λ l. None ∷ l) (append_assoc own (level_rest scene inner) (level_rest scene new ++ outer)) ∙ ap (λ l. None ∷ (own ++ l)) (sym rests))) in
     skip_on scene.window before (levels_rest scene (levels ++ old ∷ [])) _ s
     (subst (λ l. Skips scene.window l (None ∷ (own ++ levels_rest scene ((levels ++ new ∷ []) ++ inner ∷ [])))) (sym (rest_pushed scene levels old))
     (subst (Skips scene.window (level_rest scene old ++ outer)) whole (skip_left scene.window (level_rest scene old) (shown ++ level_rest scene new) outer g)))
@@ -105,31 +105,37 @@ module _ (scene : Scene) (own own' : Own) (levels levels' : List Level) where
   walk_gives room room' q [] s has o l r st = absurd (let e = sym st.shows ∙ shown_cons q s has in let clash : ⊥ = cc in clash)
   walk_gives room room' q (x ∷ others) s has o l r st =
       let e : Some x ∷ map Some others ≡ Some q ∷ filter (shows_in scene.window) (rest_of scene own' levels') = sym st.shows ∙ shown_cons q s has in
-      let h = first_of x q (map Some others) (filter (shows_in scene.window) (rest_of scene own' levels')) e in
-      (others, ap (λ y. y ∷ others) h.0, record {
-        is_scene = st.is_scene;
-        is_own = o;
-        are_levels = l;
-        has_room = (let e = r in let h = st.has_room in omega arith);
-        are_quads = All-tail IsMarkedQuad (Some q) (rest_of scene own' levels') (skip_quads IsMarkedQuad scene.window (rest_of scene own levels) (Some q ∷ rest_of scene own' levels') s st.are_quads);
-        few = (let f = st.few in omega (arith, f));
-        shows = sym h.1;
-      })
+      let h = first_of x q (map Some others) (filter (shows_in scene.window) (rest_of scene own' levels')) e in (
+        others,
+        ap (λ y. y ∷ others) h.0,
+        record {
+          is_scene = st.is_scene;
+          is_own = o;
+          are_levels = l;
+          has_room = (let e = r in let h = st.has_room in omega arith);
+          are_quads = All-tail IsMarkedQuad (Some q) (rest_of scene own' levels') (skip_quads IsMarkedQuad scene.window (rest_of scene own levels) (Some q ∷ rest_of scene own' levels') s st.are_quads);
+          few = (let f = st.few in omega (arith, f));
+          shows = sym h.1;
+        },
+      )
     where
       first_of : (x q : Corners) (us vs : List (Option Corners)) → Some x ∷ us ≡ Some q ∷ vs → (x ≡ q) × (us ≡ vs)
       first_of x q us vs e = (same_Some x q (let h : Some x ≡ Some q = cc in h), cc)
 
   pub walk_ends : (room room' : ℕ) (items : List Corners) → Skips scene.window (rest_of scene own levels) [] → rest_of scene own' levels' ≡ []
       → IsOwn own' → AreLevels scene 0 levels' → room' ≡ room → StandsForWalk scene own levels room items → (items ≡ []) × StandsForWalk scene own' levels' room' []
-  walk_ends room room' [] s none o l r st = (refl, record {
-    is_scene = st.is_scene;
-    is_own = o;
-    are_levels = l;
-    has_room = (let e = r in let h = st.has_room in omega arith);
-    are_quads = rw none (λ k d inside. absurd (omega arith));
-    few = omega arith;
-    shows = rw none refl;
-  })
+  walk_ends room room' [] s none o l r st = (
+    refl,
+    record {
+      is_scene = st.is_scene;
+      is_own = o;
+      are_levels = l;
+      has_room = (let e = r in let h = st.has_room in omega arith);
+      are_quads = rw none (λ k d inside. absurd (omega arith));
+      few = omega arith;
+      shows = rw none refl;
+    },
+  )
   walk_ends room room' (x ∷ items) s none o l r st = absurd (let e = sym st.shows ∙ skip_shows scene.window (rest_of scene own levels) [] s in let clash : ⊥ = cc in clash)
 
   pub size_falls : (q : Corners) → Skips scene.window (rest_of scene own levels) (Some q ∷ rest_of scene own' levels') → has_row_in scene.window q ≡ true → walk_size scene own' levels' + 1 ≤ walk_size scene own levels

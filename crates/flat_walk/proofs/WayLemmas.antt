@@ -115,9 +115,10 @@ rows_by : (P : Point → Type 0) (box : Frame) (orient : Orient) (low high : ℤ
 rows_by P box orient low high [] least each all = tt
 rows_by P box orient low high (None ∷ items) least each all = (tt, rows_by P box orient low high items least each all.1)
 rows_by P box orient low high (Some q ∷ items) least each all =
-    let s = all.0 in
-    (record { a = each q.a (amid_box P box q.a least s.a); b = each q.b (amid_box P box q.b least s.b); c = each q.c (amid_box P box q.c least s.c); d = each q.d (amid_box P box q.d least s.d) },
-    rows_by P box orient low high items least each all.1)
+    let s = all.0 in (
+      record { a = each q.a (amid_box P box q.a least s.a); b = each q.b (amid_box P box q.b least s.b); c = each q.c (amid_box P box q.c least s.c); d = each q.d (amid_box P box q.d least s.d) },
+      rows_by P box orient low high items least each all.1,
+    )
 
 -- the rows of the hull have those of all that the cell shows
 pub hull_rows : (scene : Scene) (m : ℕ) (box : Frame) (orient : Orient) (low high : ℤ) → IsScene scene → IsReachable (cells_of scene) scene.tree.now.top m
@@ -134,8 +135,7 @@ box_within scene m box sc reach least =
     let l = near least.left.0 least.left.1 in let le = least.left.2 in
     let r = near least.right.0 least.right.1 in let re = least.right.2 in
     let b = near least.bottom.0 least.bottom.1 in let be = least.bottom.2 in
-    let t = near least.top.0 least.top.1 in let te = least.top.2 in
-    (
+    let t = near least.top.0 least.top.1 in let te = least.top.2 in (
       record { x_low = subst (λ z. neg_ℤ (pos (2 ^ 53)) ≤ℤ z) le l.x_low; x_high = subst (λ z. z ≤ℤ pos (2 ^ 53)) le l.x_high; y_low = subst (λ z. neg_ℤ (pos (2 ^ 53)) ≤ℤ z) be b.y_low; y_high = subst (λ z. z ≤ℤ pos (2 ^ 53)) be b.y_high },
       record { x_low = subst (λ z. neg_ℤ (pos (2 ^ 53)) ≤ℤ z) re r.x_low; x_high = subst (λ z. z ≤ℤ pos (2 ^ 53)) re r.x_high; y_low = subst (λ z. neg_ℤ (pos (2 ^ 53)) ≤ℤ z) te t.y_low; y_high = subst (λ z. z ≤ℤ pos (2 ^ 53)) te t.y_high },
     )

@@ -35,6 +35,7 @@ some_is (x ∷ xs) (y ∷ ys) e = ap (λ z. z ∷ xs) (head_is (Some x) (Some y)
   where
     head_is : {X : Type 0} (a b : Option X) (us bs : List (Option X)) (x y : X) → a ≡ Some x → b ≡ Some y → a ∷ us ≡ b ∷ bs → x ≡ y
     head_is a b us bs x y p q e = cc
+
     tail_is : {X : Type 0} (a b : Option X) (us bs : List (Option X)) → a ∷ us ≡ b ∷ bs → us ≡ bs
     tail_is a b us bs e = cc
 

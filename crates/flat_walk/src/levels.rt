@@ -78,7 +78,7 @@ impl<'t> Run<'t> {
         ensures gives { MatchOption result
             (Skips scene.now.window (run_rest scene.now outer at (Some self.old)) [] × (run_rest scene.now outer at (Some self.new) ≡ []))
             (λ spot. Skips scene.now.window (run_rest scene.now outer at (Some self.old))
-                (map (marked_image self.old.orient spot) (marked_of scene.now self.old.target) ++ run_rest scene.now outer at (Some self.new))) }
+            (map (marked_image self.old.orient spot) (marked_of scene.now self.old.target) ++ run_rest scene.now outer at (Some self.new))) }
         ensures spot { IfSome result (IsSpot outer at self.old.placement.now) }
     {
         while self.place < self.placement.offsets.count() {
@@ -185,7 +185,7 @@ impl<'t> Level<'t> {
         ensures gives { MatchOption result
             (Skips scene.now.window (run_rest scene.now self.old.orient self.old.at self.old.run) [])
             (λ inner. Skips scene.now.window (run_rest scene.now self.old.orient self.old.at self.old.run)
-                (map (marked_image inner.orient inner.at) (marked_of scene.now inner.cell) ++ run_rest scene.now self.old.orient self.old.at self.new.run)) }
+            (map (marked_image inner.orient inner.at) (marked_of scene.now inner.cell) ++ run_rest scene.now self.old.orient self.old.at self.new.run)) }
     {
         match &mut self.run {
             None => None,
@@ -197,12 +197,7 @@ impl<'t> Level<'t> {
     }
 
     // The run of a placement of the cell, if the placed cell has something on the pair.
-    fn run_of(
-        &self,
-        scene: &Scene<'t>,
-        placement: &'t Placement,
-        number: usize,
-    ) -> Option<Run<'t>>
+    fn run_of(&self, scene: &Scene<'t>, placement: &'t Placement, number: usize) -> Option<Run<'t>>
         requires scene { IsScene scene.now }
         requires level { IsLevel scene.now self.now }
         requires placed { slice_get (placements_at (cells_of scene.now) self.now.cell) number ≡ Some placement.now }
@@ -234,7 +229,7 @@ impl<'t> Level<'t> {
         ensures gives { MatchOption result
             (Skips scene.now.window (level_rest scene.now self.old) [])
             (λ inner. Skips scene.now.window (level_rest scene.now self.old)
-                (map (marked_image inner.orient inner.at) (marked_of scene.now inner.cell) ++ level_rest scene.now self.new)) }
+            (map (marked_image inner.orient inner.at) (marked_of scene.now inner.cell) ++ level_rest scene.now self.new)) }
     {
         loop {
             let found = self.next_spot(scene);

@@ -86,7 +86,7 @@ impl<'t> Cursor<'t> {
         ensures hand { IfSome result IsHand }
         ensures list { MatchOption result (places_rest pair shape.now list.now self.now.place ≡ [])
             (λ hand. map (quad_image self.now.orient self.now.at) (places_rest pair shape.now list.now self.now.place)
-                ≡ hand_list hand ++ map (quad_image self.now.orient self.now.at) (places_rest pair shape.now list.now (self.now.place + 1))) }
+            ≡ hand_list hand ++ map (quad_image self.now.orient self.now.at) (places_rest pair shape.now list.now (self.now.place + 1))) }
         ensures inside { OnSome result (self.now.place < length shape.now.offsets) }
         ensures few { OnSome result (length shape.now.offsets < 2 ^ 64) }
     {
@@ -131,12 +131,7 @@ impl<'t> Cursor<'t> {
 
 impl<'t> Own<'t> {
     /// All that a cell's own shapes show, where it is placed so.
-    pub(crate) fn of(
-        shapes: &'t [Shape],
-        lists: &'t [Pieces],
-        orient: Orient,
-        at: Point,
-    ) -> Own<'t>
+    pub(crate) fn of(shapes: &'t [Shape], lists: &'t [Pieces], orient: Orient, at: Point) -> Own<'t>
         requires orient { IsOrient orient }
         requires near { IsWithin (2 ^ 54) at }
         requires grid { All IsShapeOnGrid shapes.now }

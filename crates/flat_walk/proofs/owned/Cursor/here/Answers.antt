@@ -22,5 +22,5 @@ returns-clause-hand c =
     record {
       orient = c.requires.orient;
       near = subst (IsWithin (2 ^ 60)) (sym c.image.ensures) (within_more (2 ^ 54 + 2 ^ 45) (2 ^ 60) _ (omega arith)
-      (image_within c.args.self.now.orient (2 ^ 54) (2 ^ 41) c.args.self.now.at c.nth-by.result c.requires.orient.factor c.requires.near move.near));
+          (image_within c.args.self.now.orient (2 ^ 54) (2 ^ 41) c.args.self.now.at c.nth-by.result c.requires.orient.factor c.requires.near move.near));
     }

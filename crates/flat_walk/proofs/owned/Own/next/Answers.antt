@@ -17,8 +17,8 @@ returns-in-Some-clause-gives c =
 pub loop-quad-preserved : goal.loop-quad-preserved
 loop-quad-preserved c =
     let skips : Skips c.args.window (own_rest c.args.pair c.args.self.now) (map Some (hand_list c.in-Some-next.hand) ++ map Some (cursor_list c.args.pair c.next-in-loop-quad.new.self)) =
-        hand_changes c.args.window (own_rest c.args.pair c.args.self.now) (hand_list c.loop-quad.self.hand) (cursor_list c.args.pair c.loop-quad.self.cursor)
-        (hand_list c.in-Some-next.hand) (cursor_list c.args.pair c.next-in-loop-quad.new.self) c.loop-quad.invariant.skips c.in_default.ensures.gives.0 c.in-Some-next.ensures.list in
+    hand_changes c.args.window (own_rest c.args.pair c.args.self.now) (hand_list c.loop-quad.self.hand) (cursor_list c.args.pair c.loop-quad.self.cursor)
+    (hand_list c.in-Some-next.hand) (cursor_list c.args.pair c.next-in-loop-quad.new.self) c.loop-quad.invariant.skips c.in_default.ensures.gives.0 c.in-Some-next.ensures.list in
     record {
       own = record { hand = c.in-Some-next.ensures.hand; cursor = c.in-Some-next.ensures.cursor };
       skips = skips;
