@@ -1,0 +1,10 @@
+use Rattle.std.proofs.Common.{◌∙◌, sym, ap, subst, ◌<◌, length}
+use Rattle.cell_tree.specs.Cells.{placements_at}
+use Rattle.flat_walk.proofs.ReadLemmas.{placements_read}
+use Rattle.flat_walk.proofs.levels.placements_of.Goals as goal
+
+pub returns : goal.returns
+returns c =
+    c.as_slice.ensures
+    ∙ (placements_read c.cells-cells.result.now c.args.cell c.index-cells-cell.result (subst (λ l. c.args.cell < length l) (sym c.cells-cells.ensures.value) c.requires)
+    ∙ ap (λ cells. placements_at cells c.args.cell) c.cells-cells.ensures.value)

@@ -1,0 +1,26 @@
+use Rattle.std.proofs.Common.{◌∙◌, sym, ap, subst, arith, ◌+◌, ◌^◌, true, ◌≡◌, map, ◌++◌}
+use Rattle.layout_model.specs.Layouts.{IsMove, IsWithin}
+use Rattle.layout_model.specs.Images.{image_of}
+use Rattle.flat_walk.specs.Quads.{quad_image}
+use Rattle.flat_walk.specs.Walks.{is_on}
+use Rattle.flat_walk.specs.Rests.{placed_list, places_rest}
+use Rattle.flat_walk.proofs.RestLemmas.{places_on, slot_all, not_false}
+use Rattle.flat_walk.proofs.PointLemmas.{image_within, within_more}
+use Rattle.flat_walk.proofs.owned.Cursor.here.Goals as goal
+
+pub returns-clause-list : goal.returns-clause-list
+returns-clause-list c =
+    let o = c.args.self.now.orient in
+    let on : is_on c.args.pair c.args.shape.now ≡ true = not_false _ (sym c.ne.ensures ∙ c.if-ne.false) in
+    places_on o c.args.self.now.at c.nth-by.result c.args.pair c.args.shape.now c.args.list.now c.args.self.now.place on c.nth-by.ensures
+    ∙ (ap (λ l. placed_list o (image_of o c.args.self.now.at c.nth-by.result) l ++ map (quad_image o c.args.self.now.at) (places_rest c.args.pair c.args.shape.now c.args.list.now (c.args.self.now.place + 1))) (sym c.as_slice.ensures.value)
+    ∙ ap (λ at. placed_list o at c.as_slice.result.now ++ map (quad_image o c.args.self.now.at) (places_rest c.args.pair c.args.shape.now c.args.list.now (c.args.self.now.place + 1))) (sym c.image.ensures))
+
+pub returns-clause-hand : goal.returns-clause-hand
+returns-clause-hand c =
+    let move = slot_all IsMove c.args.shape.now.offsets c.args.self.now.place c.nth-by.result c.requires.grid.offsets.moves c.nth-by.ensures in
+    record {
+      orient = c.requires.orient;
+      near = subst (IsWithin (2 ^ 60)) (sym c.image.ensures) (within_more (2 ^ 54 + 2 ^ 45) (2 ^ 60) _ (omega arith)
+          (image_within c.args.self.now.orient (2 ^ 54) (2 ^ 41) c.args.self.now.at c.nth-by.result c.requires.orient.factor c.requires.near move.near));
+    }

@@ -1,0 +1,13 @@
+use Rattle.std.proofs.Common.{◌≡◌, ◌≤◌, length}
+use Rattle.flat_walk.specs.Hands.{cursor_list, IsCursor, steps_left}
+use Rattle.flat_walk.proofs.owned.Cursor.next.Given as goal
+
+abbrev pub invariant-loop-shape : goal.invariant-loop-shape
+invariant-loop-shape l = record {
+  cursor : IsCursor l.self;
+  list : cursor_list l.pair l.fn.self ≡ cursor_list l.pair l.self;
+  steps : steps_left l.self ≤ steps_left l.fn.self;
+}
+
+abbrev pub decreases-loop-shape : goal.decreases-loop-shape
+decreases-loop-shape l = length l.self.shapes.now

@@ -1,0 +1,47 @@
+-- What a walk keeps of the cell that it entered last, and what that still shows. This is for the contracts of the walk's
+-- own functions.
+use Rattle.std.specs.Prelude.{◌≡◌, ◌^◌, ◌+◌, ℕ, List, [], ◌∷◌, ◌++◌, Option, Some, map, length, drop, All}
+use Rattle.half_grid.specs.Quads.{Corners}
+use Rattle.layout_model.specs.Images.{IsOrient}
+use Rattle.layout_model.specs.Layouts.{IsShapeOnGrid, IsWithin}
+use Rattle.layout_model.specs.declared.pair.Pair.{Pair}
+use Rattle.layout_model.specs.declared.shapes.Shape.{Shape}
+use Rattle.flat_walk.specs.Rests.{placed_list, placed_rest}
+use Rattle.flat_walk.specs.declared.owned.Hand.{Hand}
+use Rattle.flat_walk.specs.declared.owned.Cursor.{Cursor}
+use Rattle.flat_walk.specs.declared.owned.Own.{Own}
+
+abbrev pub hand_list : Hand → List Corners
+hand_list hand = placed_list hand.orient hand.at hand.pieces.now
+
+pub record IsHand (hand : Hand) : Type 0 where
+  pub orient : IsOrient hand.orient
+  pub near : IsWithin (2 ^ 60) hand.at
+
+abbrev pub cursor_list : Pair → Cursor → List Corners
+cursor_list pair cursor = placed_rest cursor.orient cursor.at pair cursor.shapes.now cursor.lists.now cursor.place
+
+pub record IsCursor (cursor : Cursor) : Type 0 where
+  pub orient : IsOrient cursor.orient
+  pub near : IsWithin (2 ^ 54) cursor.at
+  pub grid : All IsShapeOnGrid cursor.shapes.now
+
+-- how many shapes and offsets there are
+abbrev pub steps_of : List Shape → ℕ
+steps_of [] = 0
+steps_of (shape ∷ shapes) = (length shape.offsets + 1) + steps_of shapes
+
+-- of the first shape the offsets from this number on
+abbrev pub steps_from : List Shape → ℕ → ℕ
+steps_from [] place = 0
+steps_from (shape ∷ shapes) place = (length (drop place shape.offsets) + 1) + steps_of shapes
+
+abbrev pub steps_left : Cursor → ℕ
+steps_left cursor = steps_from cursor.shapes.now cursor.place
+
+abbrev pub own_rest : Pair → Own → List (Option Corners)
+own_rest pair own = map Some (hand_list own.hand) ++ map Some (cursor_list pair own.cursor)
+
+pub record IsOwn (own : Own) : Type 0 where
+  pub hand : IsHand own.hand
+  pub cursor : IsCursor own.cursor

@@ -1,0 +1,9 @@
+pub mod Hands
+pub mod Kept
+pub mod Poses
+pub mod Quads
+pub mod Rests
+pub mod Tables
+pub mod Walks
+pub mod Streams
+pub mod Ways

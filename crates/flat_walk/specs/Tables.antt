@@ -1,0 +1,46 @@
+-- The pieces of a layout's shapes: trapezoids that cover a shape's tiles, each once. They are kept by the number of the
+-- cell and the number of the shape in it. A shape for which none were put has none.
+use Rattle.std.specs.Prelude.{◌≡◌, ◌<◌, ◌^◌, ℕ, List, [], Some, map, length, get_or, set, slice_get, All}
+use Rattle.half_grid.specs.Trapezoids.{Trapezoid, IsShot, CoversExactly}
+use Rattle.half_grid.specs.Winding.{IsInPolygon}
+use Rattle.layout_model.specs.declared.pair.Pair.{Pair}
+use Rattle.layout_model.specs.declared.shapes.Shape.{Shape}
+use Rattle.layout_model.specs.declared.cells.Cell.{Cell}
+use Rattle.cell_tree.specs.Cells.{shapes_at}
+use Rattle.cell_tree.specs.Chains.{IsReachable}
+
+-- the lists of pieces of the shapes of cell n
+abbrev pub lists_at : List (List (List Trapezoid)) → ℕ → List (List Trapezoid)
+lists_at table n = get_or table n []
+
+-- no pieces yet, for the shapes of these cells
+abbrev pub no_pieces : List Cell → List (List (List Trapezoid))
+no_pieces cells = map (λ cell. map (λ shape. []) cell.shapes) cells
+
+-- the table with these pieces of shape k of cell n, in place of earlier ones
+unfoldable pub with_pieces : List (List (List Trapezoid)) → ℕ → ℕ → List Trapezoid → List (List (List Trapezoid))
+with_pieces table n k pieces = set table n (set (lists_at table n) k pieces)
+
+-- shape k of cell n has a list
+pub record HasShape (table : List (List (List Trapezoid))) (n k : ℕ) : Type 0 where
+  pub cell : n < length table
+  pub shape : k < length (lists_at table n)
+
+-- what is kept are shots, fewer of a shape than 2^64
+pub record IsKept (pieces : List Trapezoid) : Type 0 where
+  pub shots : All IsShot pieces
+  pub few : length pieces < 2 ^ 64
+
+abbrev pub AreKept : List (List (List Trapezoid)) → Type 0
+AreKept table = All (All IsKept) table
+
+-- the shape has pieces, and they cover exactly its tiles, each once
+pub record IsCut (table : List (List (List Trapezoid))) (n k : ℕ) (shape : Shape) : Type 0 where
+  pub pieces : List Trapezoid
+  pub kept : slice_get (lists_at table n) k ≡ Some pieces
+  pub covers : CoversExactly pieces (IsInPolygon shape.points)
+
+-- each shape on the pair in a reachable cell is cut
+abbrev pub AreCut : List Cell → ℕ → List (List (List Trapezoid)) → Pair → Type 0
+AreCut cells top table pair = (n k : ℕ) (shape : Shape) → IsReachable cells top n → slice_get (shapes_at cells n) k ≡ Some shape → shape.pair ≡ pair
+    → IsCut table n k shape

@@ -1,0 +1,16 @@
+//! The placed pieces of a layout: the pieces of each shape of a tree of cells, where the flattened layout has them.
+//!
+//! Each shape is cut into pieces once, by its cell. A walk gives the images of the pieces that have rows in a window,
+//! in the order of the flattened layout. Lengths are half units.
+#![tactic(auto)]
+
+mod levels;
+mod owned;
+mod rows;
+mod scenes;
+mod tables;
+mod turning;
+mod walks;
+
+pub use tables::Parts;
+pub use walks::Walk;

@@ -1,0 +1,174 @@
+//! The pieces of a cell's own shapes, where the cell is placed.
+ghost use Rattle.std.specs.Prelude.{◌≡◌, ◌^◌, ◌<◌, ◌+◌, [], ◌∷◌, ◌++◌, map, Some, All, MatchOption, OnSome, IfSome, length};
+ghost use Rattle.half_grid.specs.Quads.{IsQuad, corners_of};
+ghost use Rattle.layout_model.specs.Images.{IsOrient};
+ghost use Rattle.layout_model.specs.declared.pair.Pair.{Pair as APair};
+ghost use Rattle.layout_model.specs.Layouts.{IsShapeOnGrid, IsWithin};
+ghost use Rattle.flat_walk.specs.Quads.{quad_image};
+ghost use Rattle.flat_walk.specs.Rests.{IsMarkedQuad, Gives, places_rest, placed_rest};
+ghost use Rattle.flat_walk.specs.Hands.{hand_list, IsHand, cursor_list, IsCursor, steps_left, own_rest, IsOwn};
+
+use crate::rows::has_row;
+use crate::tables::Pieces;
+use crate::turning::image;
+use half_grid::{Point, Quad, Trap, Window};
+use layout_model::{Orient, Pair, Shape};
+
+// Pieces of a shape at one of its offsets, and how they are enlarged, mirrored, turned and moved.
+#[derive(Clone, Copy)]
+pub(crate) struct Hand<'t> {
+    pieces: &'t [Trap],
+    orient: Orient,
+    at: Point,
+}
+
+// Shapes with the pieces of each, and how their cell is placed. Of the first shape those offsets are left whose number is
+// at least `place`.
+#[derive(Clone, Copy)]
+pub(crate) struct Cursor<'t> {
+    shapes: &'t [Shape],
+    lists: &'t [Pieces],
+    place: u64,
+    orient: Orient,
+    at: Point,
+}
+
+// What a placed cell's own shapes still show: the pieces in hand, and then those of shapes.
+#[derive(Clone, Copy)]
+pub(crate) struct Own<'t> {
+    hand: Hand<'t>,
+    cursor: Cursor<'t>,
+}
+
+// The image of a piece's corners. They run clockwise.
+fn placed(piece: &Trap, orient: Orient, at: Point) -> Quad
+    requires orient { IsOrient orient }
+    requires at { IsWithin (2 ^ 60) at }
+    requires quad { IsQuad (quad_image orient at (corners_of piece.now)) }
+    ensures { result ≡ quad_image orient at (corners_of piece.now) }
+{
+    let quad = Quad::of(piece);
+    let a = image(orient, at, quad.a());
+    let b = image(orient, at, quad.b());
+    let c = image(orient, at, quad.c());
+    let d = image(orient, at, quad.d());
+    if orient.flip {
+        return Quad::new(a, d, c, b);
+    }
+    Quad::new(a, b, c, d)
+}
+
+impl<'t> Hand<'t> {
+    // The next piece that has a row in the window.
+    fn next(&mut self, window: Window) -> Option<Quad>
+        requires hand { IsHand self.old }
+        requires quads { All IsQuad (hand_list self.old) }
+        ensures hand { IsHand self.new }
+        ensures gives { Gives window (map Some (hand_list self.old)) result (map Some (hand_list self.new)) }
+    {
+        while let Some((piece, pieces)) = self.pieces.split_first() {
+            self.pieces = pieces;
+            let quad = placed(piece, self.orient, self.at);
+            if has_row(&quad, window) {
+                return Some(quad);
+            }
+        }
+        None
+    }
+}
+
+impl<'t> Cursor<'t> {
+    // The pieces of the first shape at the current offset, where it is on the pair and has that offset.
+    fn here(&self, shape: &Shape, list: &'t Pieces, pair: Pair) -> Option<Hand<'t>>
+        requires orient { IsOrient self.now.orient }
+        requires near { IsWithin (2 ^ 54) self.now.at }
+        requires grid { IsShapeOnGrid shape.now }
+        ensures hand { IfSome result IsHand }
+        ensures list { MatchOption result (places_rest pair shape.now list.now self.now.place ≡ [])
+            (λ hand. map (quad_image self.now.orient self.now.at) (places_rest pair shape.now list.now self.now.place)
+            ≡ hand_list hand ++ map (quad_image self.now.orient self.now.at) (places_rest pair shape.now list.now (self.now.place + 1))) }
+        ensures inside { OnSome result (self.now.place < length shape.now.offsets) }
+        ensures few { OnSome result (length shape.now.offsets < 2 ^ 64) }
+    {
+        if shape.pair != pair {
+            return None;
+        }
+        if self.place >= shape.offsets.count() {
+            return None;
+        }
+        let by = shape.offsets.nth(self.place);
+        Some(Hand {
+            pieces: list.as_slice(),
+            orient: self.orient,
+            at: image(self.orient, self.at, by),
+        })
+    }
+
+    // The pieces at the next offset of a shape on the pair.
+    fn next(&mut self, pair: Pair) -> Option<Hand<'t>>
+        requires { IsCursor self.old }
+        ensures cursor { IsCursor self.new }
+        ensures hand { IfSome result IsHand }
+        ensures list { MatchOption result ((cursor_list pair self.old ≡ []) × (cursor_list pair self.new ≡ []))
+            (λ hand. cursor_list pair self.old ≡ hand_list hand ++ cursor_list pair self.new) }
+        ensures steps { OnSome result (steps_left self.new < steps_left self.old) }
+    {
+        while let Some((shape, shapes)) = self.shapes.split_first() {
+            let Some((list, lists)) = self.lists.split_first() else {
+                return None;
+            };
+            if let Some(hand) = self.here(shape, list, pair) {
+                self.place += 1;
+                return Some(hand);
+            }
+            self.shapes = shapes;
+            self.lists = lists;
+            self.place = 0;
+        }
+        None
+    }
+}
+
+impl<'t> Own<'t> {
+    /// All that a cell's own shapes show, where it is placed so.
+    pub(crate) fn of(shapes: &'t [Shape], lists: &'t [Pieces], orient: Orient, at: Point) -> Own<'t>
+        requires orient { IsOrient orient }
+        requires near { IsWithin (2 ^ 54) at }
+        requires grid { All IsShapeOnGrid shapes.now }
+        ensures own { IsOwn result }
+        ensures list { (pair : APair) → own_rest pair result ≡ map Some (placed_rest orient at pair shapes.now lists.now 0) }
+    {
+        Own {
+            hand: Hand {
+                pieces: &[],
+                orient,
+                at,
+            },
+            cursor: Cursor {
+                shapes,
+                lists,
+                place: 0,
+                orient,
+                at,
+            },
+        }
+    }
+
+    /// The next piece that has a row in the window.
+    pub(crate) fn next(&mut self, pair: Pair, window: Window) -> Option<Quad>
+        requires own { IsOwn self.old }
+        requires quads { All IsMarkedQuad (own_rest pair self.old) }
+        ensures own { IsOwn self.new }
+        ensures gives { Gives window (own_rest pair self.old) result (own_rest pair self.new) }
+    {
+        loop {
+            if let Some(quad) = self.hand.next(window) {
+                return Some(quad);
+            }
+            match self.cursor.next(pair) {
+                Some(hand) => self.hand = hand,
+                None => return None,
+            }
+        }
+    }
+}

@@ -1,0 +1,158 @@
+//! The pieces of each shape.
+ghost use Rattle.std.specs.Prelude.{◌≡◌, ◌<◌, IfOk, OnOk, OnErr, map, [], length};
+ghost use Rattle.flat_walk.specs.Tables.{no_pieces, with_pieces, HasShape, IsKept, AreKept, lists_at};
+
+use cell_tree::Tree;
+use geo_stream::NoMemory;
+use half_grid::Trap;
+use layout_model::{Cell, Shape};
+use std::alloc::Global;
+use std::marker::Model;
+
+/// The pieces of the shapes of a tree's cells. Contracts see a table that holds, by cell and by shape, a list of
+/// trapezoids.
+#[derive(Drop)]
+pub struct Parts {
+    alloc: Global,
+    cells: Vec<Vec<Pieces>>,
+}
+
+impl Model for Parts {
+    ghost use Rattle.std.specs.Prelude.{List, map};
+    ghost use Rattle.half_grid.specs.Trapezoids.{Trapezoid};
+    ghost use Rattle.flat_walk.specs.Tables.{AreKept};
+
+    ghost Value = { List (List (List Trapezoid)) };
+
+    ghost view = { λ parts. map (λ list. list.items) parts.cells.items };
+
+    ghost invariant = { λ parts. AreKept (map (λ list. list.items) parts.cells.items) };
+}
+
+// The pieces of one shape. Most shapes are rectangles, of one piece, which takes no memory.
+#[derive(Drop)]
+enum Stored {
+    One([Trap; 1]),
+    More(Vec<Trap>),
+}
+
+#[derive(Drop)]
+pub(crate) struct Pieces {
+    stored: Stored,
+}
+
+impl Model for Pieces {
+    ghost use Rattle.std.specs.Prelude.{List};
+    ghost use Rattle.half_grid.specs.Trapezoids.{Trapezoid};
+    ghost use Rattle.flat_walk.specs.Tables.{IsKept};
+    ghost use Rattle.flat_walk.specs.Kept.{kept_of};
+
+    ghost Value = { List Trapezoid };
+
+    ghost view = { λ pieces. kept_of pieces.stored };
+
+    ghost invariant = { λ pieces. IsKept (kept_of pieces.stored) };
+}
+
+impl Pieces {
+    // The pieces of a shape.
+    fn of(alloc: Global, traps: &[Trap]) -> Result<Pieces, NoMemory>
+        ensures value { IfOk result (λ pieces. pieces ≡ traps.now) }
+        ensures kept { IfOk result IsKept }
+    {
+        are_kept(traps);
+        if traps.len() == 1 {
+            let stored = Stored::One([traps[0]]);
+            return Ok(Pieces { stored });
+        }
+        let stored = Stored::More(Vec::from_slice(alloc, traps)?);
+        Ok(Pieces { stored })
+    }
+
+    pub(crate) fn as_slice(&self) -> &[Trap]
+        ensures value { result.now ≡ self.now }
+        ensures kept { IsKept result.now }
+    {
+        match &self.stored {
+            Stored::One(traps) => traps.as_slice(),
+            Stored::More(traps) => traps.as_slice(),
+        }
+    }
+}
+
+// Trapezoids in memory are shots, fewer than 2^64. It costs nothing.
+fn are_kept(traps: &[Trap])
+    ensures { IsKept traps.now }
+{
+    for trap in traps {
+        let _bottom = trap.y0();
+    }
+}
+
+// No pieces yet, for so many shapes.
+fn nothing_for(alloc: Global, shapes: &[Shape]) -> Result<Vec<Pieces>, NoMemory>
+    ensures { IfOk result (λ lists. lists.items ≡ map (λ shape. []) shapes.now) }
+{
+    let mut lists = Vec::with_capacity(alloc, shapes.len())?;
+    for _shape in shapes {
+        lists.push(Pieces::of(alloc, &[])?)?;
+    }
+    Ok(lists)
+}
+
+// No pieces yet, for the shapes of these cells.
+fn nothing_yet(alloc: Global, cells: &[Cell]) -> Result<Vec<Vec<Pieces>>, NoMemory>
+    ensures { IfOk result (λ table. map (λ lists. lists.items) table.items ≡ no_pieces cells.now) }
+{
+    let mut table = Vec::with_capacity(alloc, cells.len())?;
+    for cell in cells {
+        table.push(nothing_for(alloc, cell.shapes.as_slice())?)?;
+    }
+    Ok(table)
+}
+
+impl Parts {
+    /// No pieces yet, for the shapes of the tree's cells.
+    pub fn new(alloc: Global, tree: &Tree) -> Result<Parts, NoMemory>
+        ensures { IfOk result (λ parts. parts ≡ no_pieces tree.now.layout.cells) }
+    {
+        let cells = nothing_yet(alloc, tree.cells())?;
+        Ok(Parts { alloc, cells })
+    }
+
+    /// Keeps the pieces of a shape, in place of those that were put earlier. Both numbers are in range of the tree.
+    /// Refused, the table is as before.
+    pub fn put(&mut self, cell: usize, shape: usize, traps: &[Trap]) -> Result<(), NoMemory>
+        requires { HasShape self.old cell shape }
+        ensures ok { OnOk result (self.new ≡ with_pieces self.old cell shape traps.now) }
+        ensures err { OnErr result (self.new ≡ self.old) }
+    {
+        let pieces = Pieces::of(self.alloc, traps)?;
+        let lists = &mut self.cells[cell];
+        lists[shape] = pieces;
+        Ok(())
+    }
+
+    // The pieces of the shapes of a cell.
+    pub(crate) fn lists(&self, cell: usize) -> &[Pieces]
+        ensures { result.now ≡ lists_at self.now cell }
+    {
+        lists_of(self.cells.as_slice(), cell)
+    }
+
+    // What is kept are shots. It costs nothing.
+    pub(crate) fn kept(&self)
+        ensures { AreKept self.now }
+    {
+        let _count = self.cells.len();
+    }
+}
+
+fn lists_of(table: &[Vec<Pieces>], cell: usize) -> &[Pieces]
+    ensures { result.now ≡ lists_at (map (λ lists. lists.items) table.now) cell }
+{
+    match table.get(cell) {
+        Some(lists) => lists.as_slice(),
+        None => &[],
+    }
+}

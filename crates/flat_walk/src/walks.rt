@@ -1,0 +1,149 @@
+//! The walk over the placed pieces.
+ghost use Rattle.std.specs.Prelude.{◌≡◌, ◌^◌, ◌≤◌, ◌<◌, [], ◌∷◌, ◌++◌, None, Some, map, length, IfOk, IfSome, All, MatchOption, List};
+ghost use Rattle.std.specs.Vec.{vec_capacity};
+ghost use Rattle.half_grid.specs.Quads.{IsQuad, Corners};
+ghost use Rattle.layout_model.specs.declared.pair.Pair.{Pair as APair};
+ghost use Rattle.cell_tree.specs.Cells.{shapes_at};
+ghost use Rattle.flat_walk.specs.Tables.{AreCut, lists_at};
+ghost use Rattle.flat_walk.specs.Walks.{pieces_in, CoversLayer};
+ghost use Rattle.flat_walk.specs.Rests.{Skips, placed_rest};
+ghost use Rattle.flat_walk.specs.Hands.{own_rest, IsOwn};
+ghost use Rattle.flat_walk.specs.Ways.{IsScene, cells_of, levels_rest, IsLevel, AreLevels};
+ghost use Rattle.flat_walk.specs.Streams.{StandsForWalk, walk_size, Walk-one_list, Walk-no_longer, Walk-bounded};
+
+use crate::levels::Level;
+use crate::owned::Own;
+use crate::scenes::Scene;
+use crate::tables::Parts;
+use cell_tree::Tree;
+use geo_stream::{NoMemory, Stream};
+use half_grid::{Point, Quad, Window};
+use layout_model::{Orient, Pair, Shape};
+use std::alloc::Global;
+
+/// The placed pieces of a window, one by one.
+#[derive(Drop)]
+pub struct Walk<'t> {
+    scene: Scene<'t>,
+    own: Own<'t>,
+    // The cells on the way, from the top cell to the one that was entered last.
+    levels: Vec<Level<'t>>,
+}
+
+// Neither enlarged nor mirrored nor turned.
+const UPRIGHT: Orient = Orient {
+    flip: false,
+    turns: 0,
+    mag: 1,
+};
+
+// A chain of placements has at most so many cells.
+const DEPTH: usize = 64;
+
+// The shapes of a cell.
+fn shapes_of<'t>(scene: &Scene<'t>, cell: usize) -> &'t [Shape]
+    requires { cell < length (cells_of scene.now) }
+    ensures { result.now ≡ shapes_at (cells_of scene.now) cell }
+{
+    let cells = scene.tree.cells();
+    cells[cell].shapes.as_slice()
+}
+
+// All that the own shapes of a cell on the way show.
+fn own_of<'t>(scene: &Scene<'t>, level: &Level<'t>) -> Own<'t>
+    requires scene { IsScene scene.now }
+    requires level { IsLevel scene.now level.now }
+    ensures own { IsOwn result }
+    ensures list { own_rest scene.now.pair result
+        ≡ map Some (placed_rest level.now.orient level.now.at scene.now.pair (shapes_at (cells_of scene.now) level.now.cell) (lists_at scene.now.parts.now level.now.cell) 0) }
+{
+    let shapes = shapes_of(scene, level.cell());
+    let lists = scene.parts.lists(level.cell());
+    Own::of(shapes, lists, level.orient(), level.at())
+}
+
+// Enters the next placed cell that may have rows in the window.
+fn enter<'t>(levels: &mut Vec<Level<'t>>, scene: &Scene<'t>) -> Option<Own<'t>>
+    requires scene { IsScene scene.now }
+    requires levels { AreLevels scene.now 0 levels.old.items }
+    requires room { 64 ≤ vec_capacity levels.old }
+    ensures levels { AreLevels scene.now 0 levels.new.items }
+    ensures room { vec_capacity levels.new ≡ vec_capacity levels.old }
+    ensures own { IfSome result IsOwn }
+    ensures gives { MatchOption result (Skips scene.now.window (levels_rest scene.now levels.old.items) [] × (levels_rest scene.now levels.new.items ≡ []))
+        (λ own. Skips scene.now.window (levels_rest scene.now levels.old.items) (None ∷ (own_rest scene.now.pair own ++ levels_rest scene.now levels.new.items))) }
+{
+    while let Some(level) = levels.pop() {
+        let mut level = level;
+        if let Some(inner) = level.next(scene) {
+            let own = own_of(scene, &inner);
+            levels.push_reserved(level);
+            levels.push_reserved(inner);
+            return Some(own);
+        }
+    }
+    None
+}
+
+impl<'t> Walk<'t> {
+    /// A stream of the images of the pieces of all flattened shapes on the pair that have a row in the window, depth
+    /// first in the order of the file. Each shape on the pair in a reachable cell of the tree has its pieces, and they
+    /// cover exactly the shape's tiles, each once.
+    pub fn begin(
+        alloc: Global,
+        tree: &'t Tree,
+        parts: &'t Parts,
+        pair: Pair,
+        window: Window,
+    ) -> Result<Walk<'t>, NoMemory>
+        requires { AreCut tree.now.layout.cells tree.now.top parts.now pair }
+        ensures list { IfOk result (λ walk. ⟦<Walk<'t> as Stream>⟧.stands_for walk
+            (pieces_in tree.entry.now.layout.cells tree.entry.now.top parts.entry.now pair window)) }
+        ensures quads { All IsQuad (pieces_in tree.now.layout.cells tree.now.top parts.now pair window) }
+        ensures area { CoversLayer tree.now.layout.cells tree.now.top pair window
+            (pieces_in tree.now.layout.cells tree.now.top parts.now pair window) }
+    {
+        parts.kept();
+        let _cells = tree.cells();
+        let top = tree.top();
+        let scene = Scene {
+            tree,
+            parts,
+            pair,
+            window,
+        };
+        let mut levels = Vec::with_capacity(alloc, DEPTH)?;
+        let level = Level::of(top, UPRIGHT, Point { x: 0, y: 0 }, 0);
+        let own = own_of(&scene, &level);
+        levels.push_reserved(level);
+        Ok(Walk { scene, own, levels })
+    }
+}
+
+impl<'t> Stream for Walk<'t> {
+    type Item = Quad;
+
+    ghost stands_for = { λ walk. StandsForWalk walk.scene walk.own walk.levels.items (vec_capacity walk.levels) };
+
+    ghost size = { λ walk. walk_size walk.scene walk.own walk.levels.items };
+
+    ghost most = { 2 ^ 105 };
+
+    fn next(&mut self) -> Option<Quad> {
+        loop {
+            if let Some(quad) = self.own.next(self.scene.pair, self.scene.window) {
+                return Some(quad);
+            }
+            match enter(&mut self.levels, &self.scene) {
+                Some(own) => self.own = own,
+                None => return None,
+            }
+        }
+    }
+
+    ghost one_list = { λ walk. Walk-one_list walk.scene walk.own walk.levels.items (vec_capacity walk.levels) };
+
+    ghost no_longer = { λ walk. Walk-no_longer walk.scene walk.own walk.levels.items (vec_capacity walk.levels) };
+
+    ghost bounded = { λ walk. Walk-bounded walk.scene walk.own walk.levels.items (vec_capacity walk.levels) };
+}
