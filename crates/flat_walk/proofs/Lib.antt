@@ -16,3 +16,4 @@ pub mod RingImages
 pub mod ShowLemmas
 pub mod PointLemmas
 pub mod ForCallers
+pub mod GridLemmas

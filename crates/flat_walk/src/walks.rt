@@ -1,7 +1,8 @@
 //! The walk over the placed pieces.
 ghost use Rattle.std.specs.Prelude.{◌≡◌, ◌^◌, ◌≤◌, ◌<◌, [], ◌∷◌, ◌++◌, None, Some, map, length, IfOk, IfSome, All, MatchOption, List};
 ghost use Rattle.std.specs.Vec.{vec_capacity};
-ghost use Rattle.half_grid.specs.Quads.{IsQuad, Corners};
+ghost use Rattle.half_grid.specs.Outlines.{HasGridEdges};
+ghost use Rattle.half_grid.specs.Quads.{IsQuad, Corners, ring_of};
 ghost use Rattle.layout_model.specs.declared.pair.Pair.{Pair as APair};
 ghost use Rattle.cell_tree.specs.Cells.{shapes_at};
 ghost use Rattle.flat_walk.specs.Tables.{AreCut, lists_at};
@@ -100,6 +101,8 @@ impl<'t> Walk<'t> {
         ensures list { IfOk result (λ walk. ⟦<Walk<'t> as Stream>⟧.stands_for walk
             (pieces_in tree.entry.now.layout.cells tree.entry.now.top parts.entry.now pair window)) }
         ensures quads { All IsQuad (pieces_in tree.now.layout.cells tree.now.top parts.now pair window) }
+        ensures grid { All (λ q. HasGridEdges (ring_of q))
+            (pieces_in tree.now.layout.cells tree.now.top parts.now pair window) }
         ensures area { CoversLayer tree.now.layout.cells tree.now.top pair window
             (pieces_in tree.now.layout.cells tree.now.top parts.now pair window) }
     {

@@ -5,6 +5,7 @@ use Rattle.flat_walk.specs.Ways.{IsScene}
 use Rattle.flat_walk.specs.declared.scenes.Scene.{Scene}
 use Rattle.flat_walk.proofs.ListLemmas.{list_quads}
 use Rattle.flat_walk.proofs.AreaLemmas.{list_area}
+use Rattle.flat_walk.proofs.GridLemmas.{list_grid}
 use Rattle.flat_walk.proofs.WalkLemmas.{top_level, walk_begins}
 use Rattle.flat_walk.proofs.walks.Walk.begin.Goals as goal
 
@@ -20,6 +21,12 @@ returns-in_err-levels-clause-quads c =
     let sc : IsScene scene = search rules in
     list_quads scene sc
 
+pub returns-in_err-levels-clause-grid : goal.returns-in_err-levels-clause-grid
+returns-in_err-levels-clause-grid c =
+    let scene : Scene = record { tree = c.args.tree; parts = c.args.parts; pair = c.args.pair; window = c.args.window } in
+    let sc : IsScene scene = search rules in
+    list_grid scene sc
+
 pub returns-in_err-levels-clause-area : goal.returns-in_err-levels-clause-area
 returns-in_err-levels-clause-area c =
     let scene : Scene = record { tree = c.args.tree; parts = c.args.parts; pair = c.args.pair; window = c.args.window } in
@@ -31,6 +38,12 @@ returns-clause-quads c =
     let scene : Scene = record { tree = c.args.tree; parts = c.args.parts; pair = c.args.pair; window = c.args.window } in
     let sc : IsScene scene = search rules in
     list_quads scene sc
+
+pub returns-clause-grid : goal.returns-clause-grid
+returns-clause-grid c =
+    let scene : Scene = record { tree = c.args.tree; parts = c.args.parts; pair = c.args.pair; window = c.args.window } in
+    let sc : IsScene scene = search rules in
+    list_grid scene sc
 
 pub returns-clause-area : goal.returns-clause-area
 returns-clause-area c =

@@ -1,0 +1,17 @@
+pub mod Corners
+pub mod AreaLists
+pub mod Singles
+pub mod Sizes
+pub mod Boxes
+pub mod Quads
+pub mod StepLemmas
+pub mod Slots
+pub mod HaloLemmas
+pub mod NeedLemmas
+pub mod PlanLemmas
+pub mod LayerBounds
+pub mod Outlines
+pub mod ExtentLemmas
+pub mod PieceLemmas
+pub mod Arms
+pub mod ReadyLemmas

@@ -1,0 +1,133 @@
+-- The pieces of shapes, shape by shape.
+use Rattle.std.proofs.Common.{◌≡◌, ◌⊎◌, inl, inr, ℕ, zero, suc, ◌+◌, ◌<◌, ◌≤◌, ℤ, ◌≤ℤ◌, ◌<ℤ◌, List, [], ◌∷◌, Some, All, Any, length, slice_get, get_or, refl, sym, ap, subst, ◌∙◌, arith}
+use Rattle.std.proofs.lemmas.Int.{ints, clamps, by_lt_z}
+use Rattle.std.proofs.lemmas.Option.{slice_get_within, get_or_from_slice_get, slice_get-get_or, same_Some, none-some}
+use Rattle.std.specs.Int.{int_min, int_max}
+use Rattle.half_grid.specs.Outlines.{IsClosed}
+use Rattle.half_grid.specs.Trapezoids.{Trapezoid, CoversExactly}
+use Rattle.half_grid.specs.Windows.{RowRange, row_range}
+use Rattle.half_grid.specs.Winding.{IsInPolygon}
+use Rattle.half_grid.specs.declared.plane.Point.{Point}
+use Rattle.layout_model.specs.Layouts.{IsCellOnGrid, IsShapeOnGrid}
+use Rattle.layout_model.specs.declared.shapes.Shape.{Shape}
+use Rattle.layout_model.specs.declared.cells.Cell.{Cell}
+use Rattle.cell_tree.specs.Cells.{shapes_at}
+use Rattle.cell_tree.proofs.ForCallers.{shapes_on_grid}
+use Rattle.flat_walk.specs.Tables.{HasShape, IsCut, with_pieces, lists_at, no_pieces}
+use Rattle.flat_walk.proofs.ForCallers.{put_length, shape_stays, cut_here, cut_elsewhere, cut_beside, shape_at_first}
+use Rattle.bool_ops.specs.Operations.{AreRowsOf, ArePieces}
+use Rattle.deck_plan.specs.Plans.{AreAllCut, AreCutUpTo, HaveShapes}
+
+all_cons : {X : Type 0} (P : X → Type 0) (x : X) (xs : List X) → P x → All P xs → All P (x ∷ xs)
+all_cons P x xs p all zero d inside = p
+all_cons P x xs p all (suc k) d inside = all k d (omega (arith, inside))
+
+all_more : {X : Type 0} (P Q : X → Type 0) (xs : List X) → ((x : X) → P x → Q x) → All P xs → All Q xs
+all_more P Q xs f all = λ k d inside. f (get_or xs k d) (all k d inside)
+
+any_cons : {X : Type 0} (P Q : X → Type 0) (x : X) (xs : List X) → ((y : X) → P y → Q y) → Any P xs → Any Q (x ∷ xs)
+any_cons P Q x xs f (k, y, inside, is, p) = (suc k, y, omega (arith, inside), is, f y p)
+
+any_first : {X : Type 0} (P : X → Type 0) (x : X) (xs : List X) → P x → Any P (x ∷ xs)
+any_first P x xs p = (0, x, omega arith, refl, p)
+
+-- a list of points has rows
+rows_of : (a : Point) (points : List Point) → (w : RowRange) × AreRowsOf (a ∷ points) w
+rows_of a [] = (row_range a.y a.y, record {
+  above = all_cons (λ p. a.y ≤ℤ p.y) a [] (omega (arith, ints)) (λ k d inside. absurd (omega (arith, inside)));
+  below = all_cons (λ p. p.y ≤ℤ a.y) a [] (omega (arith, ints)) (λ k d inside. absurd (omega (arith, inside)));
+  least = any_first (λ p. p.y ≡ a.y) a [] refl;
+  greatest = any_first (λ p. p.y ≡ a.y) a [] refl;
+})
+rows_of a (b ∷ points) =
+    let rest = rows_of b points in
+    let w : RowRange = rest.0 in
+    let r = rest.1 in
+    (row_range (int_min a.y w.y0) (int_max a.y w.y1), record {
+      above = all_cons (λ p. int_min a.y w.y0 ≤ℤ p.y) a (b ∷ points) (omega (arith, ints, clamps)) (all_more (λ p. w.y0 ≤ℤ p.y) (λ p. int_min a.y w.y0 ≤ℤ p.y) (b ∷ points) (λ p h. omega (arith, ints, clamps, h)) r.above);
+      below = all_cons (λ p. p.y ≤ℤ int_max a.y w.y1) a (b ∷ points) (omega (arith, ints, clamps)) (all_more (λ p. p.y ≤ℤ w.y1) (λ p. p.y ≤ℤ int_max a.y w.y1) (b ∷ points) (λ p h. omega (arith, ints, clamps, h)) r.below);
+      least = by_lt_z a.y w.y0
+          (λ lt. any_first (λ p. p.y ≡ int_min a.y w.y0) a (b ∷ points) (omega (arith, ints, clamps, lt)))
+          (λ ge. any_cons (λ p. p.y ≡ w.y0) (λ p. p.y ≡ int_min a.y w.y0) a (b ∷ points) (λ p h. omega (arith, ints, clamps, ge, h)) r.least);
+      greatest = by_lt_z w.y1 a.y
+          (λ lt. any_first (λ p. p.y ≡ int_max a.y w.y1) a (b ∷ points) (omega (arith, ints, clamps, lt)))
+          (λ ge. any_cons (λ p. p.y ≡ w.y1) (λ p. p.y ≡ int_max a.y w.y1) a (b ∷ points) (λ p h. omega (arith, ints, clamps, ge, h)) r.greatest);
+    })
+
+pub pieces_cover : (points : List Point) (traps : List Trapezoid) → IsClosed points → ArePieces points traps → CoversExactly traps (IsInPolygon points)
+pieces_cover [] traps closed pieces = absurd closed
+pieces_cover (a ∷ points) traps closed pieces = let r = rows_of a points in (pieces r.0 r.1).covers
+
+-- ---- shape by shape
+
+pub shape_on_grid : (cells : List Cell) → All IsCellOnGrid cells → (n k : ℕ) (shape : Shape) → slice_get (shapes_at cells n) k ≡ Some shape → IsShapeOnGrid shape
+shape_on_grid cells all n k shape here =
+    subst IsShapeOnGrid (get_or_from_slice_get (shapes_at cells n) k shape shape here) (shapes_on_grid cells all n k shape (slice_get_within (shapes_at cells n) k shape here))
+
+apart_or_same : (a b : ℕ) → (a ≡ b) ⊎ (a ≡ b → ⊥)
+apart_or_same zero zero = inl refl
+apart_or_same zero (suc b) = inr (λ e. omega (arith, e))
+apart_or_same (suc a) zero = inr (λ e. omega (arith, e))
+apart_or_same (suc a) (suc b) = elim (apart_or_same a b) [ inl e ↦ inl (ap suc e) | inr d ↦ inr (λ e. d (omega (arith, e))) ]
+
+before_or_at : (k n : ℕ) → k < n + 1 → (k ≡ n → ⊥) → k < n
+before_or_at zero zero early apart = absurd (apart refl)
+before_or_at zero (suc n) early apart = omega arith
+before_or_at (suc k) zero early apart = absurd (omega (arith, early))
+before_or_at (suc k) (suc n) early apart = let h = before_or_at k n (omega (arith, early)) (λ e. apart (ap suc e)) in omega (arith, h)
+
+module _ (cells : List Cell) (table : List (List (List Trapezoid))) (cell number : ℕ) (shape : Shape) (pieces : List Trapezoid) (inside : cell < length cells) (here : slice_get (shapes_at cells cell) number ≡ Some shape) (shapes : HaveShapes cells table) (covers : CoversExactly pieces (IsInPolygon shape.points)) where
+  pub place : HasShape table cell number
+  place = shapes cell number inside (slice_get_within (shapes_at cells cell) number shape here)
+
+  pub shapes_put : HaveShapes cells (with_pieces table cell number pieces)
+  shapes_put = λ n k in_cells in_shapes. shape_stays table cell number n k pieces place.cell (shapes n k in_cells in_shapes)
+
+  cut_old : (n k : ℕ) (other : Shape) → ((n ≡ cell) × (k ≡ number) → ⊥) → IsCut table n k other → IsCut (with_pieces table cell number pieces) n k other
+  cut_old n k other apart cut = elim (apart_or_same cell n) [
+    inl e ↦ subst (λ m. IsCut (with_pieces table cell number pieces) m k other) e
+    (cut_beside table cell number k other pieces place.cell (λ same. apart (sym e, sym same)) (subst (λ m. IsCut table m k other) (sym e) cut))
+    | inr d ↦ cut_elsewhere table cell number n k other pieces d cut
+  ]
+
+  cut_new : (n k : ℕ) (other : Shape) → n ≡ cell → k ≡ number → slice_get (shapes_at cells n) k ≡ Some other → IsCut (with_pieces table cell number pieces) n k other
+  cut_new n k other e f there =
+      let same : shape ≡ other = same_Some shape other (sym here ∙ (rw (sym e, sym f) there)) in
+      subst (λ (s : Shape). IsCut (with_pieces table cell number pieces) n k s) same
+      (subst (λ m. IsCut (with_pieces table cell number pieces) m k shape) (sym e) (subst (λ m. IsCut (with_pieces table cell number pieces) cell m shape) (sym f) (cut_here table cell number shape pieces place covers)))
+
+  pub cut_more : AreCutUpTo cells table cell number → AreCutUpTo cells (with_pieces table cell number pieces) cell (number + 1)
+  cut_more cut = λ n k other early there. elim early [
+    inl before ↦ cut_old n k other (λ both. (let e = both.0 in omega (arith, before, e))) (cut n k other (inl before) there)
+    | inr own ↦ elim (apart_or_same k number) [
+      inl e ↦ cut_new n k other own.0 e there
+      | inr d ↦ cut_old n k other (λ both. d both.1) (cut n k other (inr (own.0, before_or_at k number own.1 d)) there)
+    ]
+  ]
+
+-- the cell is cut
+pub cell_cut : (cells : List Cell) (table : List (List (List Trapezoid))) (cell number : ℕ) → length (shapes_at cells cell) ≤ number → AreCutUpTo cells table cell number → AreCutUpTo cells table (cell + 1) 0
+cell_cut cells table cell number all cut = λ n k shape early there. elim early [
+  inl before ↦ elim (apart_or_same n cell) [
+    inl e ↦ (let inside = slice_get_within (shapes_at cells n) k shape there in cut n k shape (inr (e, omega (arith, inside, all, ap (λ m. length (shapes_at cells m)) e))) there)
+    | inr d ↦ cut n k shape (inl (before_or_at n cell before d)) there
+  ]
+  | inr own ↦ absurd (omega (arith, own.1))
+]
+
+cell_of : (cells : List Cell) (n k : ℕ) (shape : Shape) → slice_get (shapes_at cells n) k ≡ Some shape → n < length cells
+cell_of [] n k shape there = absurd (none-some shape there)
+cell_of (cell ∷ cells) zero k shape there = omega arith
+cell_of (cell ∷ cells) (suc n) k shape there = let h = cell_of cells n k shape there in omega (arith, h)
+
+-- all cells are cut
+pub all_cut : (cells : List Cell) (table : List (List (List Trapezoid))) (cell : ℕ) → length cells ≤ cell → AreCutUpTo cells table cell 0 → AreAllCut cells table
+all_cut cells table cell all cut = λ n k shape there. cut n k shape (inl (omega (arith, all, cell_of cells n k shape there))) there
+
+some_shape : (cells : List Cell) (n k : ℕ) (shapes : List Shape) → shapes_at cells n ≡ shapes → k < length shapes → HasShape (no_pieces cells) n k
+some_shape cells n k [] e inside = absurd (omega (arith, inside))
+some_shape cells n k (shape ∷ shapes) e inside =
+    shape_at_first cells n k (get_or (shape ∷ shapes) k shape) (ap (λ list. slice_get list k) e ∙ slice_get-get_or (shape ∷ shapes) k shape inside)
+
+pub first_shapes : (cells : List Cell) → HaveShapes cells (no_pieces cells)
+first_shapes cells = λ n k in_cells in_shapes. some_shape cells n k (shapes_at cells n) refl in_shapes

@@ -1,0 +1,195 @@
+-- The areas of the definitions of an output, from the first one up.
+use Rattle.std.proofs.Common.{◌≡◌, ◌∙◌, ◌⊎◌, inl, inr, ℕ, zero, suc, ◌+◌, ◌*◌, ◌^◌, ◌<◌, ◌≤◌, ℤ, pos, ◌+ℤ◌, ◌-ℤ◌, ◌≤ℤ◌, ◌<ℤ◌, List, [], ◌∷◌, ◌++◌, Option, Some, None, IfSome, IsSomeAnd, All, Contains, map, length, get_or, slice_get, refl, sym, ap, subst, arith}
+use Rattle.std.proofs.lemmas.Int.{ints}
+use Rattle.std.proofs.lemmas.List.Elements.{All-contains}
+use Rattle.half_grid.specs.Trapezoids.{Trapezoid, IsLegal, IsShot, CoversExactly}
+use Rattle.half_grid.specs.Windows.{RowRange, row_range}
+use Rattle.half_grid.specs.declared.plane.Tile.{Tile}
+use Rattle.layout_model.specs.declared.pair.Pair.{Pair}
+use Rattle.layout_model.specs.declared.cells.Cell.{Cell}
+use Rattle.trap_join.proofs.ForCallers.{all_members}
+use Rattle.cell_tree.specs.Flattening.{IsInLayer}
+use Rattle.square_size.specs.EdgeLaws.{IsInSome}
+use Rattle.bool_ops.specs.Operations.{IsInRows, IsJoinedOf}
+use Rattle.deck_text.specs.declared.deck.Deck.{Deck}
+use Rattle.deck_text.specs.declared.deck.Step.{Step}
+use Rattle.deck_text.specs.declared.deck.Output.{Output}
+use Rattle.deck_text.specs.Sound.{IsSoundStep, IsFrame}
+use Rattle.deck_plan.specs.declared.needs.Taken.{Taken}
+use Rattle.deck_plan.specs.declared.needs.Need.{Need}
+use Rattle.deck_plan.specs.Areas.{IsInArea, IsInStep, IsInOutput, IsInBand}
+use Rattle.deck_plan.specs.Needs.{operands_of, Takes, IsBand, widened}
+use Rattle.cell_tree.specs.Boxes.{IsUpTo}
+use Rattle.std.proofs.lemmas.Option.{none-some, same_Some, get_or_from_slice_get}
+use Rattle.deck_plan.specs.Halos.{NeedIs, AreHalos, window_for}
+use Rattle.deck_plan.specs.Lists.{HasArea, IsListed, list_at}
+use Rattle.deck_plan.specs.Bounds.{IsTileUpTo, HasCornersUpTo, bound_of}
+use Rattle.deck_plan.specs.Ready.{IsReady}
+use Rattle.deck_plan.proofs.AreaLists.{covers_exactly}
+use Rattle.deck_plan.proofs.Corners.{corners_of_all}
+use Rattle.deck_plan.proofs.StepLemmas.{step_area, area_near, sound_operand}
+use Rattle.deck_plan.proofs.Slots.{filled, one_slot}
+
+module _ (cells : List Cell) (top : ℕ) (deck : Deck) (band : RowRange) (needs : List (Option Need)) where
+  abbrev Ready : ℕ → List Trapezoid → Type 0
+  Ready n traps = IsReady cells top deck band needs n traps
+
+  module _ (sound : (k : ℕ) (step : Step) → slice_get deck.steps k ≡ Some step → IsSoundStep deck.frame k step) where
+    module _ (name : ℕ) (halos : AreHalos deck name 0 needs) (lists : List (List Trapezoid)) (n : ℕ) (ready : (m : ℕ) → m < n → Ready m (list_at lists m)) where
+      -- the area of the next definition, by its step
+      pub next_area : (step : Step) (need : Need) (traps : List Trapezoid) → slice_get deck.steps n ≡ Some step → NeedIs needs n need
+          → HasArea (widened need.halo band) (λ t. IsInStep cells top deck.frame (IsListed lists) step t) traps → HasArea (widened need.halo band) (IsInArea cells top deck n) traps
+      next_area step need traps here is h =
+          step_area cells top deck sound lists n step (widened need.halo band) traps here
+          (λ operand among u rows.
+          let takes : Takes deck n operand = record { step = step; here = here; among = among } in
+          let o = halos.operands n need operand (omega arith) is takes in
+          let early = (sound_operand deck.frame n step operand (sound n step here) among).earlier in
+          let has = (ready operand.name early).needed o.0 o.1 in
+          let more = o.2 in
+          (λ listed. (has.inside u listed).1, λ area. has.all u (record { from = omega (arith, ints, rows.from, more); below = omega (arith, ints, rows.below, more) }) area))
+          h
+
+    -- what is ready isn't far from 0
+    module _ (layers : (pair : Pair) (t : Tile) → IsInLayer cells top pair t → IsTileUpTo (2 ^ 30) t) (frames : IfSome deck.frame IsFrame) where
+      tile_near : (n : ℕ) → n < 256 → (t : Tile) → IsInArea cells top deck n t → IsTileUpTo 2199023255552 t
+      tile_near n few t h =
+          let b = area_near cells top deck sound layers frames n t h in
+          record {
+            column = record { low = omega (arith, ints, few, b.column.low); high = omega (arith, ints, few, b.column.high) };
+            row = record { low = omega (arith, ints, few, b.row.low); high = omega (arith, ints, few, b.row.high) };
+          }
+
+      empty_all : (P : Trapezoid → Type 0) (traps : List Trapezoid) → traps ≡ [] → All P traps
+      empty_all P traps e = subst (All P) (sym e) (λ k d inside. absurd (omega (arith, inside)))
+
+      by_need : (n : ℕ) (traps : List Trapezoid) → n < 256 → Ready n traps → (found : Option Need) → get_or needs n None ≡ found → All IsLegal traps × All (HasCornersUpTo (2 ^ 42)) traps
+      by_need n traps few r None e = (empty_all IsLegal traps (r.others e), empty_all (HasCornersUpTo (2 ^ 42)) traps (r.others e))
+      by_need n traps few r (Some need) e =
+          let h = r.needed need (filled needs n need e) in
+          (h.joined.legal, corners_of_all 2199023255552 (2 ^ 42) traps h.joined.legal (λ t some. tile_near n few t (h.inside t some).1) (omega arith))
+
+      pub ready_near : (n : ℕ) (traps : List Trapezoid) → n < 256 → Ready n traps → All IsLegal traps × All (HasCornersUpTo (2 ^ 42)) traps
+      ready_near n traps few r = by_need n traps few r (get_or needs n None) refl
+
+      below_or : (a n : ℕ) → (a < n) ⊎ (n ≤ a)
+      below_or zero zero = inr (omega arith)
+      below_or zero (suc n) = inl (omega arith)
+      below_or (suc a) zero = inr (omega arith)
+      below_or (suc a) (suc n) = elim (below_or a n) [ inl h ↦ inl (omega (arith, h)) | inr h ↦ inr (omega (arith, h)) ]
+
+      past : (lists : List (List Trapezoid)) (a : ℕ) → length lists ≤ a → list_at lists a ≡ []
+      past [] a h = refl
+      past (list ∷ lists) zero h = absurd (omega (arith, h))
+      past (list ∷ lists) (suc a) h = past lists a (omega (arith, h))
+
+      -- all lists so far
+      pub lists_near : (lists : List (List Trapezoid)) → length lists ≤ 256 → ((m : ℕ) → m < length lists → Ready m (list_at lists m)) → (a : ℕ) → All IsLegal (list_at lists a) × All (HasCornersUpTo (2 ^ 42)) (list_at lists a)
+      lists_near lists few ready a = elim (below_or a (length lists)) [
+        inl early ↦ ready_near a (list_at lists a) (omega (arith, early, few)) (ready a early)
+        | inr late ↦ (empty_all IsLegal (list_at lists a) (past lists a late), empty_all (HasCornersUpTo (2 ^ 42)) (list_at lists a) (past lists a late))
+      ]
+
+      corner_shot : (z : Trapezoid) → IsLegal z → HasCornersUpTo (2 ^ 42) z → IsShot z
+      corner_shot z legal h = record {
+        legal = legal;
+        reach = record {
+          y0 = record { low = omega (arith, ints, h.y0.low); high = omega (arith, ints, h.y0.high) };
+          y1 = record { low = omega (arith, ints, h.y1.low); high = omega (arith, ints, h.y1.high) };
+          bottom_left = record { low = omega (arith, ints, h.bottom_left.low); high = omega (arith, ints, h.bottom_left.high) };
+          bottom_right = record { low = omega (arith, ints, h.bottom_right.low); high = omega (arith, ints, h.bottom_right.high) };
+          top_left = record { low = omega (arith, ints, h.top_left.low); high = omega (arith, ints, h.top_left.high) };
+          top_right = record { low = omega (arith, ints, h.top_right.low); high = omega (arith, ints, h.top_right.high) };
+        };
+      }
+
+      pub ready_shots : (n : ℕ) (traps : List Trapezoid) → n < 256 → Ready n traps → All IsShot traps
+      ready_shots n traps few r =
+          let b = ready_near n traps few r in
+          all_members IsShot traps (λ z c. corner_shot z (All-contains IsLegal traps z b.0 c) (All-contains (HasCornersUpTo (2 ^ 42)) traps z b.1 c))
+
+  -- ---- the lists as they are put one by one
+
+  pub put_before : {V : Type 0} (f : V → List Trapezoid) (vs : List V) (v : V) (n : ℕ) → n < length vs → list_at (map f (vs ++ v ∷ [])) n ≡ list_at (map f vs) n
+  put_before f [] v n inside = absurd (omega (arith, inside))
+  put_before f (w ∷ vs) v zero inside = refl
+  put_before f (w ∷ vs) v (suc n) inside = put_before f vs v n (omega (arith, inside))
+
+  pub put_last : {V : Type 0} (f : V → List Trapezoid) (vs : List V) (v : V) → list_at (map f (vs ++ v ∷ [])) (length vs) ≡ f v
+  put_last f [] v = refl
+  put_last f (w ∷ vs) v = put_last f vs v
+
+  at_last : (n count : ℕ) → n < count + 1 → (n < count) ⊎ (n ≡ count)
+  at_last zero zero h = inr refl
+  at_last zero (suc count) h = inl (omega arith)
+  at_last (suc n) zero h = absurd (omega (arith, h))
+  at_last (suc n) (suc count) h = elim (at_last n count (omega (arith, h))) [ inl l ↦ inl (omega (arith, l)) | inr e ↦ inr (ap suc e) ]
+
+  pub ready_put : {V : Type 0} (f : V → List Trapezoid) (vs : List V) (v : V) → ((m : ℕ) → m < length vs → Ready m (list_at (map f vs) m)) → Ready (length vs) (f v)
+      → (m : ℕ) → m < length vs + 1 → Ready m (list_at (map f (vs ++ v ∷ [])) m)
+  ready_put f vs v before new m inside = elim (at_last m (length vs) inside) [
+    inl early ↦ subst (λ traps. Ready m traps) (sym (put_before f vs v m early)) (before m early)
+    | inr last ↦ subst (λ k. Ready k (list_at (map f (vs ++ v ∷ [])) k)) (sym last) (subst (λ traps. Ready (length vs) traps) (sym (put_last f vs v)) new)
+  ]
+
+  -- ---- the output's own
+
+  own_window : (halo : ℤ) → halo ≡ pos 0 → widened halo band ≡ band
+  own_window halo e =
+      let low : band.y0 -ℤ halo ≡ band.y0 = omega (arith, ints, e) in
+      let high : band.y1 +ℤ halo ≡ band.y1 = omega (arith, ints, e) in
+      ap (λ y. row_range y (band.y1 +ℤ halo)) low ∙ ap (λ y. row_range band.y0 y) high
+
+  pub own_area : (name : ℕ) (traps : List Trapezoid) → AreHalos deck name 0 needs → Ready name traps → HasArea band (IsInArea cells top deck name) traps
+  own_area name traps halos r = subst (λ w. HasArea w (IsInArea cells top deck name) traps) (own_window halos.own.0.halo halos.own.2) (r.needed halos.own.0 halos.own.1)
+
+  by_output : (name : ℕ) (found : Option Output) (t : Tile) → IsSomeAnd found (λ output. output.name ≡ name) → IsInArea cells top deck name t → IsSomeAnd found (λ output. IsInArea cells top deck output.name t)
+  by_output name None t e h = absurd e
+  by_output name (Some output) t e h = subst (λ n. IsInArea cells top deck n t) (sym e) h
+
+  of_output : (name : ℕ) (found : Option Output) (t : Tile) → IsSomeAnd found (λ output. output.name ≡ name) → IsSomeAnd found (λ output. IsInArea cells top deck output.name t) → IsInArea cells top deck name t
+  of_output name None t e h = absurd e
+  of_output name (Some output) t e h = subst (λ n. IsInArea cells top deck n t) e h
+
+  pub output_area : (name k : ℕ) (traps : List Trapezoid) → IsSomeAnd (slice_get deck.outputs k) (λ output. output.name ≡ name) → HasArea band (IsInArea cells top deck name) traps → IsJoinedOf band (IsInBand cells top deck k band) traps
+  output_area name k traps named has =
+      let all = covers_exactly band (IsInArea cells top deck name) traps has in
+      record {
+        joined = all.joined;
+        covers = record {
+          once = λ t b. all.covers.once t (b.rows, of_output name (slice_get deck.outputs k) t named b.area);
+          never = λ t out. all.covers.never t (λ both. out (record { rows = both.0; area = by_output name (slice_get deck.outputs k) t named both.1 }));
+        };
+      }
+
+  -- ---- the next list
+
+  pub ready_some : (n : ℕ) (need : Need) (traps : List Trapezoid) → NeedIs needs n need → HasArea (widened need.halo band) (IsInArea cells top deck n) traps → Ready n traps
+  ready_some n need traps is h = record {
+    needed = λ other there. (let same = one_slot needs n (Some need) (Some other) is there in subst (λ (x : Need). HasArea (widened x.halo band) (IsInArea cells top deck n) traps) (same_Some need other same) h);
+    others = λ none. absurd (none-some need (sym none ∙ get_or_from_slice_get needs n (Some need) None is));
+  }
+
+  pub ready_none : (n : ℕ) (traps : List Trapezoid) → get_or needs n None ≡ None → traps ≡ [] → Ready n traps
+  ready_none n traps none e = record {
+    needed = λ need is. absurd (none-some need (sym none ∙ get_or_from_slice_get needs n (Some need) None is));
+    others = λ same. e;
+  }
+
+pub window_near : (band : RowRange) (halo : ℤ) → IsBand band → pos 0 ≤ℤ halo → halo ≤ℤ pos (2 ^ 40) → IsUpTo (2 ^ 50) (widened halo band).y0 × IsUpTo (2 ^ 50) (widened halo band).y1
+window_near band halo b low high = (
+  record { low = omega (arith, ints, b.low.low, high); high = omega (arith, ints, b.low.high, low) },
+  record { low = omega (arith, ints, b.high.low, low); high = omega (arith, ints, b.high.high, high) },
+)
+
+pub window_of : (band : RowRange) (need : Need) (found : Option Need) (window : RowRange) → found ≡ Some need → window ≡ window_for band found → window ≡ widened need.halo band
+window_of band need found window e is = is ∙ ap (window_for band) e
+
+pub map_same : {V X : Type 0} (f : V → X) (vs : List V) → length (map f vs) ≡ length vs
+map_same f [] = refl
+map_same f (v ∷ vs) = ap suc (map_same f vs)
+
+pub list_is : {V : Type 0} (f : V → List Trapezoid) (vs : List V) (n : ℕ) (v : V) → n < length vs → list_at (map f vs) n ≡ f (get_or vs n v)
+list_is f [] n v inside = absurd (omega (arith, inside))
+list_is f (w ∷ vs) zero v inside = refl
+list_is f (w ∷ vs) (suc n) v inside = list_is f vs n v (omega (arith, inside))

@@ -1,0 +1,168 @@
+-- Areas that grow and shrink, by the windings of rings.
+use Rattle.std.proofs.Common.{◌≡◌, ◌≢◌, ◌↔◌, ℕ, ◌≤◌, ◌^◌, ℤ, pos, ◌+ℤ◌, ◌-ℤ◌, ◌≤ℤ◌, ◌<ℤ◌, Bool, true, false, ◌⊎◌, inl, inr, List, [], ◌∷◌, flat_map, length, ap, subst, refl, sym, ◌∙◌, arith, All}
+use Rattle.std.proofs.lemmas.Int.{ints, by_lt_z, clamps}
+use Rattle.std.proofs.lemmas.List.Elements.{All-weaker, All-head, All-tail}
+use Rattle.std.specs.Ordering.{int_eq}
+use Rattle.half_grid.specs.Edges.{EdgeParts, edges_winding}
+use Rattle.half_grid.specs.Nearness.{IsNear, IsGrown, IsShrunk}
+use Rattle.half_grid.specs.Trapezoids.{Trapezoid, IsInTrapezoid, IsLegal, trapezoid_has}
+use Rattle.half_grid.specs.Windows.{RowRange}
+use Rattle.half_grid.specs.Winding.{count_one}
+use Rattle.half_grid.specs.declared.border.Operand.{Operand}
+use Rattle.half_grid.specs.declared.border.Operand.TheVariants.{A}
+use Rattle.half_grid.specs.declared.plane.Tile.{Tile}
+use Rattle.half_grid.specs.declared.extent.Frame.{Frame}
+use Rattle.half_grid.proofs.ForCallers.{count_by-cons, has_in, in_has}
+use Rattle.scan_line.specs.Runs.{IsBalanced}
+use Rattle.square_size.specs.EdgeLaws.{IsInSome}
+use Rattle.square_size.specs.Edges.{edges_of_grown}
+use Rattle.square_size.specs.Ranges.{IsRectangle}
+use Rattle.square_size.specs.Rings.{IsSizing, HasRingWithinReach}
+use Rattle.square_size.proofs.ForCallers.{half_twice, near_or_not, grown_wind, others_do_not_wind, grown_are_balanced}
+use Rattle.tone_mirror.specs.Frames.{IsInFrame}
+use Rattle.bool_ops.specs.declared.operations.Op.TheVariants.{Sub}
+use Rattle.bool_ops.specs.Operations.{IsInRows, IsJoinedOf, IsInResult, IsWoundIn}
+use Rattle.deck_plan.specs.Lists.{HasArea}
+use Rattle.deck_plan.specs.Needs.{widened}
+use Rattle.deck_plan.specs.Bounds.{wider, HasCornersUpTo, IsFullBox}
+use Rattle.deck_plan.proofs.Boxes.{wider_tile}
+use Rattle.deck_plan.proofs.Corners.{corners_of_all}
+use Rattle.deck_plan.proofs.AreaLists.{Decided, rows_decided, joined_has, same_area, combined_has, some_decided}
+use Rattle.deck_plan.proofs.Singles.{in_one, one_in}
+
+-- ---- grown
+
+in_first : (z : Trapezoid) (traps : List Trapezoid) (u : Tile) → IsInTrapezoid z u → IsInSome (z ∷ traps) u
+in_first z traps u h = let here = ap count_one (in_has u z h) in omega (arith, count_by-cons (trapezoid_has u) z traps, here)
+
+in_later : (z : Trapezoid) (traps : List Trapezoid) (u : Tile) → IsInSome traps u → IsInSome (z ∷ traps) u
+in_later z traps u h = omega (arith, count_by-cons (trapezoid_has u) z traps, h)
+
+in_either : (z : Trapezoid) (traps : List Trapezoid) (u : Tile) (has : Bool) → trapezoid_has u z ≡ has → IsInSome (z ∷ traps) u → IsInTrapezoid z u ⊎ IsInSome traps u
+in_either z traps u true e h = inl (has_in u z e)
+in_either z traps u false e h = let none = ap count_one e in inr (omega (arith, count_by-cons (trapezoid_has u) z traps, none, h))
+
+near_decided : (dx dy : ℤ) → IsRectangle dx dy → (traps : List Trapezoid) (t : Tile) → All IsLegal traps → Decided (IsGrown dx dy (IsInSome traps) t)
+near_decided dx dy r [] t legal = inr (λ h. omega (arith, h.1))
+near_decided dx dy r (z ∷ traps) t legal =
+    near_or_not dx dy z r (All-head IsLegal z traps legal) t
+    (λ close. inl (close.0, in_first z traps close.0 close.1, close.2))
+    (λ far. elim (near_decided dx dy r traps t (All-tail IsLegal z traps legal)) [
+      inl h ↦ inl (h.0, in_later z traps h.0 h.1, h.2)
+      | inr none ↦ inr (λ h. elim (in_either z traps h.0 (trapezoid_has h.0 z) refl h.1) [ inl i ↦ far (h.0, i, h.2) | inr i ↦ none (h.0, i, h.2) ])
+    ])
+
+wound_by : (edges : List EdgeParts) (window : RowRange) (t : Tile) → IsInRows window t → Decided (edges_winding A edges t ≡ pos 0) → Decided (IsWoundIn edges window t)
+wound_by edges window t rows (inl zero) = inr (λ h. h.wound zero)
+wound_by edges window t rows (inr wound) = inl (record { rows = rows; wound = wound })
+
+pub zero_decided : (w : ℤ) → Decided (w ≡ pos 0)
+zero_decided w = by_lt_z w (pos 0) (λ lt. inr (λ e. omega (arith, ints, lt, e))) (λ ge. by_lt_z (pos 0) w (λ gt. inr (λ e. omega (arith, ints, gt, e))) (λ le. inl (omega (arith, ints, ge, le))))
+
+-- whether a tile is wound round in the window
+pub wound_decided : (edges : List EdgeParts) (window : RowRange) (t : Tile) → Decided (IsWoundIn edges window t)
+wound_decided edges window t = elim (rows_decided window t) [ inl rows ↦ wound_by edges window t rows (zero_decided (edges_winding A edges t)) | inr out ↦ inr (λ h. out h.rows) ]
+
+by_near : (P : Type 0) → Decided P → (w : ℤ) → w ≢ pos 0 → ((P → ⊥) → w ≡ pos 0) → P
+by_near P (inl h) w wound none = h
+by_near P (inr h) w wound none = absurd (wound (none h))
+
+pub grown_has : (dx dy : ℤ) → IsRectangle dx dy → (traps : List Trapezoid) → All IsLegal traps → (edges : List EdgeParts) → edges ≡ flat_map (edges_of_grown dx dy) traps
+    → (window : RowRange) (grown : List Trapezoid) → IsJoinedOf window (IsWoundIn edges window) grown → HasArea window (IsGrown dx dy (IsInSome traps)) grown
+grown_has dx dy r traps legal edges is window grown joined =
+    let winding : (t : Tile) → edges_winding A edges t ≡ edges_winding A (flat_map (edges_of_grown dx dy) traps) t = λ t. ap (λ es. edges_winding A es t) is in
+    joined_has window (IsWoundIn edges window) (IsGrown dx dy (IsInSome traps)) grown joined (wound_decided edges window)
+    (λ t h. (h.rows, by_near (IsGrown dx dy (IsInSome traps) t) (near_decided dx dy r traps t legal) (edges_winding A edges t) h.wound (λ out. winding t ∙ others_do_not_wind dx dy r traps t legal out)))
+    (λ t rows h. record { rows = rows; wound = λ e. (let w = grown_wind dx dy r traps t legal h in let same = winding t in omega (arith, ints, w, same, e)) })
+
+pub grown_balanced : (dx dy : ℤ) → IsRectangle dx dy → (traps : List Trapezoid) → All IsLegal traps → (edges : List EdgeParts) → edges ≡ flat_map (edges_of_grown dx dy) traps
+    → (window : RowRange) → IsBalanced edges window
+grown_balanced dx dy r traps legal edges is window = λ o j low high. rw is (grown_are_balanced dx dy traps o j r legal)
+
+ring_within : (dx dy : ℤ) (z : Trapezoid) → IsSizing dx dy → HasCornersUpTo (2 ^ 43) z → HasRingWithinReach dx dy z
+ring_within dx dy z s h = record {
+  left = record { low = omega (arith, ints, clamps, h.bottom_left.low, h.top_left.low, s.columns); high = omega (arith, ints, clamps, h.bottom_left.high, h.top_left.high, s.rectangle.columns) };
+  right = record { low = omega (arith, ints, clamps, h.bottom_right.low, h.top_right.low, s.rectangle.columns); high = omega (arith, ints, clamps, h.bottom_right.high, h.top_right.high, s.columns) };
+  bottom = record { low = omega (arith, ints, h.y0.low, s.rows); high = omega (arith, ints, h.y0.high, s.rectangle.rows) };
+  top = record { low = omega (arith, ints, h.y1.low, s.rectangle.rows); high = omega (arith, ints, h.y1.high, s.rows) };
+}
+
+pub rings_within : (dx dy : ℤ) (traps : List Trapezoid) → IsSizing dx dy → All (HasCornersUpTo (2 ^ 43)) traps → All (HasRingWithinReach dx dy) traps
+rings_within dx dy traps s all = All-weaker (HasCornersUpTo (2 ^ 43)) (HasRingWithinReach dx dy) (λ z h. ring_within dx dy z s h) traps all
+
+-- ---- shrunk
+
+half_positive : (dx dy h : ℤ) → IsRectangle dx dy → h +ℤ h ≡ dx +ℤ dy → pos 0 ≤ℤ h
+half_positive dx dy h r e = omega (arith, ints, r.columns, r.rows, e)
+
+pub near_itself : (dx dy : ℤ) → IsRectangle dx dy → (t : Tile) → IsNear dx dy t t
+near_itself dx dy r t =
+    let h = half_positive dx dy _ r (half_twice (dx +ℤ dy) r.even) in
+    record {
+      columns = record { above = omega (arith, ints, r.columns); below = omega (arith, ints, r.columns) };
+      rows = record { above = omega (arith, ints, r.rows); below = omega (arith, ints, r.rows) };
+      sums = record { above = omega (arith, ints, h); below = omega (arith, ints, h) };
+      differences = record { above = omega (arith, ints, h); below = omega (arith, ints, h) };
+    }
+
+-- a tile near to one of the window's rows is in a row of the widened window
+pub near_rows : (dx dy : ℤ) (window : RowRange) (t u : Tile) → IsInRows window t → IsNear dx dy t u → IsInRows (widened dy window) u
+near_rows dx dy window t u rows near = record { from = omega (arith, ints, rows.from, near.rows.above, near.rows.below); below = omega (arith, ints, rows.below, near.rows.above, near.rows.below) }
+
+module _ (dx dy : ℤ) (r : IsRectangle dx dy) (traps : List Trapezoid) (window : RowRange) (frame : Frame) (z : Trapezoid) (tiles : (t : Tile) → IsInTrapezoid z t ↔ IsInFrame frame t)
+    (around : (t : Tile) → IsInSome traps t → (u : Tile) → IsNear dx dy t u → IsInFrame frame u) (outside grown shrunk : List Trapezoid)
+    (outside_is : IsJoinedOf (widened dy window) (IsInResult Sub (z ∷ []) traps (widened dy window)) outside)
+    (grown_is : HasArea window (IsGrown dx dy (IsInSome outside)) grown)
+    (shrunk_is : IsJoinedOf window (IsInResult Sub traps grown window) shrunk) where
+  outside_has : HasArea (widened dy window) (λ t. IsInSome (z ∷ []) t × (IsInSome traps t → ⊥)) outside
+  outside_has = combined_has Sub (z ∷ []) traps (widened dy window) outside outside_is
+
+  kept : (t : Tile) → IsInRows window t → IsInSome traps t → (IsInSome grown t → ⊥) → (u : Tile) → IsNear dx dy t u → IsInSome traps u
+  kept t rows some out u near = elim (some_decided traps u) [
+    inl h ↦ h
+    | inr none ↦ (let there = outside_has.all u (near_rows dx dy window t u rows near) (one_in z u ((tiles u).1 (around t some u near)), none) in
+    absurd (out (grown_is.all t rows (u, there, near))))
+  ]
+
+  not_grown : (t : Tile) → IsShrunk dx dy (IsInSome traps) t → IsInSome grown t → ⊥
+  not_grown t all some =
+      let g = (grown_is.inside t some).1 in
+      let o = (outside_has.inside g.0 g.1).1 in
+      o.1 (all g.0 g.2)
+
+  pub shrunk_has : HasArea window (IsShrunk dx dy (IsInSome traps)) shrunk
+  shrunk_has =
+      same_area window (λ t. IsInSome traps t × (IsInSome grown t → ⊥)) (IsShrunk dx dy (IsInSome traps)) shrunk
+      (λ t rows h. kept t rows h.0 h.1)
+      (λ t rows all. (all t (near_itself dx dy r t), not_grown t all))
+      (combined_has Sub traps grown window shrunk shrunk_is)
+
+-- what isn't in the list, within the widened hull, isn't far
+pub outside_near : (dx dy : ℤ) (hull : Frame) → IsSizing dx dy → IsFullBox (2 ^ 42) hull → (z : Trapezoid) → ((t : Tile) → IsInTrapezoid z t ↔ IsInFrame (wider dx dy hull) t) → (traps : List Trapezoid) (rows : RowRange) (outside : List Trapezoid)
+    → IsJoinedOf rows (IsInResult Sub (z ∷ []) traps rows) outside → All (HasCornersUpTo (2 ^ 43)) outside
+outside_near dx dy hull s full z tiles traps rows outside joined =
+    let has = combined_has Sub (z ∷ []) traps rows outside joined in
+    corners_of_all 4398046576640 (2 ^ 43) outside joined.joined.legal
+    (λ t some. wider_tile dx dy hull s full t ((tiles t).0 (in_one z t (has.inside t some).1.0))) (omega arith)
+
+none_in : (t : Tile) → IsInSome [] t → ⊥
+none_in t h = omega (arith, h)
+
+pub no_items : {X : Type 0} (xs : List X) → length xs ≡ 0 → xs ≡ []
+no_items [] e = refl
+no_items (x ∷ xs) e = absurd (omega (arith, e))
+
+-- nothing shrinks to nothing
+pub empty_shrunk : (dx dy : ℤ) → IsRectangle dx dy → (traps none : List Trapezoid) (window : RowRange) → traps ≡ [] → none ≡ [] → HasArea window (IsShrunk dx dy (IsInSome traps)) none
+empty_shrunk dx dy r traps none window is empty = rw (is, empty) (record {
+  joined = record {
+    legal = λ k d inside. absurd (omega (arith, inside));
+    in_window = λ k d inside. absurd (omega (arith, inside));
+    apart = λ t. omega arith;
+    ends_free = λ z t among beside. refl;
+    not_stacked = λ y z among other left right. absurd (omega (arith, among.1));
+    in_order = tt;
+  };
+  inside = λ t some. absurd (none_in t some);
+  all = λ t rows all. absurd (none_in t (all t (near_itself dx dy r t)));
+})

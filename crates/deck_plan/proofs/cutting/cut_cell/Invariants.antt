@@ -1,0 +1,14 @@
+use Rattle.std.proofs.Common.{◌≤◌, ◌-◌, length}
+use Rattle.deck_plan.specs.Plans.{AreCutUpTo, HaveShapes}
+use Rattle.deck_plan.proofs.cutting.cut_cell.Given as goal
+
+-- the first shapes are cut
+abbrev pub invariant-loop-number : goal.invariant-loop-number
+invariant-loop-number l = record {
+  shapes : HaveShapes l.fn.cells l.parts;
+  cut : AreCutUpTo l.fn.cells l.parts l.fn.cell l.number;
+  few : l.number ≤ length l.shapes;
+}
+
+abbrev pub decreases-loop-number : goal.decreases-loop-number
+decreases-loop-number l = length l.shapes - l.number

@@ -1,0 +1,14 @@
+use Rattle.std.proofs.Common.{◌≤◌, ◌-◌, length}
+use Rattle.deck_plan.specs.Plans.{AreCutUpTo, HaveShapes}
+use Rattle.deck_plan.proofs.cutting.cut_parts.Given as goal
+
+-- the shapes of the first cells are cut
+abbrev pub invariant-loop-cell : goal.invariant-loop-cell
+invariant-loop-cell l = record {
+  shapes : HaveShapes l.cells l.parts;
+  cut : AreCutUpTo l.cells l.parts l.cell 0;
+  few : l.cell ≤ length l.cells;
+}
+
+abbrev pub decreases-loop-cell : goal.decreases-loop-cell
+decreases-loop-cell l = length l.cells - l.cell

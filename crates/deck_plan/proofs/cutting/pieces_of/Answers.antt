@@ -1,0 +1,11 @@
+use Rattle.std.proofs.lemmas.Result.{IfOk-weaker}
+use Rattle.half_grid.specs.Trapezoids.{CoversExactly}
+use Rattle.half_grid.specs.Winding.{IsInPolygon}
+use Rattle.deck_plan.proofs.PieceLemmas.{pieces_cover}
+use Rattle.deck_plan.proofs.cutting.pieces_of.Goals as goal
+
+pub returns : goal.returns
+returns c =
+    IfOk-weaker c.pieces.result _ (λ traps. CoversExactly traps.items (IsInPolygon c.args.shape.now.points))
+    (λ traps pieces. pieces_cover c.args.shape.now.points traps.items c.requires.closed pieces)
+    c.pieces.ensures

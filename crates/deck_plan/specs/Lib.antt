@@ -1,0 +1,9 @@
+pub mod Areas
+pub mod Plans
+pub mod Needs
+pub mod Lists
+pub mod Bounds
+pub mod Rings
+pub mod Halos
+pub mod Extents
+pub mod Ready

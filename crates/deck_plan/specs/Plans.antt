@@ -1,0 +1,37 @@
+-- What a plan is seen as: a deck, and the cells of a layout with the number of its top cell.
+use Rattle.std.specs.Prelude.{◌≡◌, ◌<◌, ◌⊎◌, ℕ, List, Some, slice_get, length}
+use Rattle.half_grid.specs.Trapezoids.{Trapezoid}
+use Rattle.layout_model.specs.declared.shapes.Shape.{Shape}
+use Rattle.cell_tree.specs.Cells.{shapes_at}
+use Rattle.flat_walk.specs.Tables.{IsCut, HasShape}
+use Rattle.layout_model.specs.declared.cells.Cell.{Cell}
+use Rattle.deck_text.specs.Decks.{IsDeck}
+use Rattle.deck_text.specs.declared.deck.Deck.{Deck}
+use Rattle.cell_tree.specs.Trees.{Rooted}
+
+pub record Planned : Type 0 where
+  pub deck : Deck
+  pub cells : List Cell
+  pub top : ℕ
+
+abbrev pub planned : Deck → Rooted → Planned
+planned deck tree = record { deck = deck; cells = tree.layout.cells; top = tree.top }
+
+-- the deck is that of some bytes, where the command gives some names of layout and deck
+pub record IsRead (deck : Deck) : Type 0 where
+  pub bytes : List ℕ
+  pub layout_name : List ℕ
+  pub deck_name : List ℕ
+  pub is : IsDeck bytes layout_name deck_name deck
+
+-- each shape of each cell has pieces that cover it
+abbrev pub AreAllCut : List Cell → List (List (List Trapezoid)) → Type 0
+AreAllCut cells table = (n k : ℕ) (shape : Shape) → slice_get (shapes_at cells n) k ≡ Some shape → IsCut table n k shape
+
+-- each shape of the cells before this one, and the first so many of this one
+abbrev pub AreCutUpTo : List Cell → List (List (List Trapezoid)) → ℕ → ℕ → Type 0
+AreCutUpTo cells table cell count = (n k : ℕ) (shape : Shape) → (n < cell) ⊎ ((n ≡ cell) × (k < count)) → slice_get (shapes_at cells n) k ≡ Some shape → IsCut table n k shape
+
+-- each shape has a place in the table
+abbrev pub HaveShapes : List Cell → List (List (List Trapezoid)) → Type 0
+HaveShapes cells table = (n k : ℕ) → n < length cells → k < length (shapes_at cells n) → HasShape table n k

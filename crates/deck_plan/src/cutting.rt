@@ -1,0 +1,73 @@
+//! The pieces of a layout's shapes.
+ghost use Rattle.std.specs.Prelude.{◌≡◌, ◌<◌, ◌≤◌, ◌+◌, ℕ, length, slice_get, Some, All, IfOk, OnOk};
+ghost use Rattle.layout_model.specs.Layouts.{IsCellOnGrid, IsShapeOnGrid};
+ghost use Rattle.bool_ops.specs.Operations.{ArePieces};
+ghost use Rattle.cell_tree.specs.Cells.{shapes_at};
+ghost use Rattle.flat_walk.specs.Tables.{HasShape, IsCut, with_pieces};
+ghost use Rattle.half_grid.specs.Trapezoids.{CoversExactly};
+ghost use Rattle.half_grid.specs.Winding.{IsInPolygon};
+ghost use Rattle.deck_plan.specs.Plans.{AreAllCut, AreCutUpTo, HaveShapes};
+
+use bool_ops::pieces;
+use cell_tree::Tree;
+use flat_walk::Parts;
+use geo_stream::NoMemory;
+use half_grid::Trap;
+use layout_model::{Cell, Shape};
+use std::alloc::Global;
+
+// The pieces of one shape.
+fn pieces_of(alloc: Global, shape: &Shape) -> Result<Vec<Trap>, NoMemory>
+    requires { IsShapeOnGrid shape.now }
+    ensures { IfOk result (λ traps. CoversExactly traps.items (IsInPolygon shape.now.points)) }
+{
+    pieces(alloc, shape)
+}
+
+// The shapes of a cell.
+fn shapes_of(cells: &[Cell], cell: usize) -> &[Shape]
+    requires { cell < length cells.now }
+    ensures { result.now ≡ shapes_at cells.now cell }
+{
+    cells[cell].shapes.as_slice()
+}
+
+fn shape_at(shapes: &[Shape], number: usize) -> &Shape
+    requires { number < length shapes.now }
+    ensures { slice_get shapes.now number ≡ Some result.now }
+{
+    &shapes[number]
+}
+
+// The pieces of the shapes of a cell.
+fn cut_cell(alloc: Global, parts: &mut Parts, cells: &[Cell], cell: usize) -> Result<(), NoMemory>
+    requires grid { All IsCellOnGrid cells.now }
+    requires cell { cell < length cells.now }
+    requires shapes { HaveShapes cells.now parts.old }
+    requires before { AreCutUpTo cells.now parts.old cell 0 }
+    ensures shapes { OnOk result (HaveShapes cells.now parts.new) }
+    ensures cut { OnOk result (AreCutUpTo cells.now parts.new (cell + 1) 0) }
+{
+    let shapes = shapes_of(cells, cell);
+    let mut number = 0;
+    while number < shapes.len() {
+        let traps = pieces_of(alloc, shape_at(shapes, number))?;
+        parts.put(cell, number, traps.as_slice())?;
+        number += 1;
+    }
+    Ok(())
+}
+
+/// The pieces of each shape of the tree's cells.
+pub(crate) fn cut_parts(alloc: Global, tree: &Tree) -> Result<Parts, NoMemory>
+    ensures { IfOk result (λ parts. AreAllCut tree.now.layout.cells parts) }
+{
+    let cells = tree.cells();
+    let mut parts = Parts::new(alloc, tree)?;
+    let mut cell = 0;
+    while cell < cells.len() {
+        cut_cell(alloc, &mut parts, cells, cell)?;
+        cell += 1;
+    }
+    Ok(parts)
+}

@@ -1,0 +1,63 @@
+//! The area of a layer.
+ghost use Rattle.std.specs.Prelude.{◌≡◌, ◌++◌, All, List, IfOk, OnOk};
+ghost use Rattle.std.specs.List.{flat_map};
+ghost use Rattle.half_grid.specs.Quads.{IsQuad, Corners, ring_of};
+ghost use Rattle.half_grid.specs.declared.border.Operand.TheVariants.{A};
+ghost use Rattle.scan_line.specs.OutlineEdges.{edges_along};
+ghost use Rattle.cell_tree.specs.Flattening.{IsInLayer};
+ghost use Rattle.flat_walk.specs.Tables.{AreCut};
+ghost use Rattle.flat_walk.specs.Walks.{pieces_in};
+ghost use Rattle.deck_plan.specs.Lists.{HasArea};
+ghost use Rattle.deck_plan.specs.Rings.{edges_of_quad};
+
+use bool_ops::unite;
+use cell_tree::Tree;
+use flat_walk::{Parts, Walk};
+use geo_stream::{NoMemory, Stream};
+use half_grid::{Edge, Operand, Quad, Trap, Window};
+use layout_model::Pair;
+use scan_line::EdgesOf;
+use std::alloc::Global;
+
+// Puts the edges of the quadrilateral at the end.
+fn put_ring(edges: &mut Vec<Edge>, quad: &Quad) -> Result<(), NoMemory>
+    ensures { OnOk result (edges.new.items ≡ edges.old.items ++ edges_of_quad quad.now) }
+{
+    let ring = [quad.a(), quad.b(), quad.c(), quad.d(), quad.a()];
+    let mut sides = EdgesOf::new(&ring, Operand::A);
+    while let Some(edge) = sides.next() {
+        edges.push(edge)?;
+    }
+    Ok(())
+}
+
+// The edges of all quadrilaterals of a stream.
+fn edges_of<S: Stream<Item = Quad>>(alloc: Global, quads: &mut S) -> Result<Vec<Edge>, NoMemory>
+    requires { (list : List Corners) × S.stands_for quads.old list }
+    ensures { (list : List Corners) → S.stands_for quads.old list → IfOk result (λ edges. edges.items ≡ flat_map edges_of_quad list) }
+{
+    let mut edges = Vec::new(alloc);
+    while let Some(quad) = quads.next() {
+        put_ring(&mut edges, &quad)?;
+    }
+    Ok(edges)
+}
+
+/// The joined list, in the window, of the area of a layer.
+pub(crate) fn layer_area<'t>(
+    alloc: Global,
+    tree: &'t Tree,
+    parts: &'t Parts,
+    pair: Pair,
+    window: Window,
+) -> Result<Vec<Trap>, NoMemory>
+    requires { AreCut tree.now.layout.cells tree.now.top parts.now pair }
+    ensures { IfOk result (λ traps. HasArea window (IsInLayer tree.now.layout.cells tree.now.top pair) traps.items) }
+{
+    let mut walk = match Walk::begin(alloc, tree, parts, pair, window) {
+        Ok(walk) => walk,
+        Err(NoMemory) => return Err(NoMemory),
+    };
+    let edges = edges_of(alloc, &mut walk)?;
+    unite(alloc, edges, window)
+}

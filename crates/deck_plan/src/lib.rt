@@ -1,0 +1,18 @@
+//! The area of an output of a deck in a band of rows.
+//!
+//! A plan holds a deck and the pieces of a layout's shapes. The area of an output in a band comes of the areas of the
+//! definitions that the output uses, each computed once in the rows that it needs. Numbers are half units.
+#![tactic(auto)]
+
+mod cutting;
+mod extents;
+mod layers;
+mod needs;
+mod plans;
+mod sizing;
+mod steps;
+#[cfg(test)]
+mod tests;
+mod windows;
+
+pub use plans::Plan;

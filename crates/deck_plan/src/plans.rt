@@ -1,0 +1,204 @@
+//! Plans, and the areas of their outputs.
+ghost use Rattle.std.specs.Prelude.{◌≡◌, ◌<◌, ◌≤◌, ◌^◌, ◌≤ℤ◌, map, neg_ℤ, pos, ℕ, length, slice_get, Some, All, IfOk, IsSomeAnd, List};
+ghost use Rattle.half_grid.specs.Trapezoids.{IsLegal, IsShot};
+ghost use Rattle.half_grid.specs.declared.plane.Tile.{Tile};
+ghost use Rattle.deck_text.specs.Sound.{IsSound, IsSoundStep};
+ghost use Rattle.cell_tree.specs.Boxes.{IsUpTo};
+ghost use Rattle.deck_plan.specs.Bounds.{HasCornersUpTo, IsTileUpTo};
+ghost use Rattle.deck_plan.specs.Lists.{HasArea, IsListed, list_at};
+ghost use Rattle.bool_ops.specs.Operations.{IsInRows, IsJoinedOf};
+ghost use Rattle.deck_plan.specs.Areas.{IsInOutput, IsInBand, IsInStep};
+ghost use Rattle.deck_plan.specs.Needs.{IsBand, IsNeeded};
+ghost use Rattle.layout_model.specs.declared.pair.Pair.{Pair as APair};
+ghost use Rattle.cell_tree.specs.Flattening.{IsInLayer};
+ghost use Rattle.deck_plan.specs.Halos.{AreHalos};
+ghost use Rattle.deck_plan.specs.Ready.{IsReady};
+ghost use Rattle.deck_plan.specs.Plans.{planned, IsRead};
+
+use crate::extents::Extents;
+use crate::layers::layer_area;
+use crate::needs::{Needs, step_at};
+use crate::sizing::{grown_area, shrunk_area};
+use crate::steps::{combined_area, inverted_area, mirrored_area};
+use crate::windows::no_rows;
+use crate::cutting::cut_parts;
+use cell_tree::Tree;
+use bool_ops::Op;
+use deck_text::{Deck, Step};
+use flat_walk::Parts;
+use geo_stream::NoMemory;
+use half_grid::{Trap, Window};
+use std::alloc::Global;
+use std::marker::Model;
+
+/// A deck with a layout's tree, ready for the areas of the deck's outputs. Contracts see the deck, and the layout's cells
+/// with the number of the top cell.
+#[derive(Drop)]
+pub struct Plan<'t> {
+    deck: &'t Deck,
+    tree: &'t Tree,
+    parts: Parts,
+}
+
+impl<'t> Model for Plan<'t> {
+    ghost use Rattle.deck_plan.specs.Plans.{Planned, planned, IsRead, AreAllCut};
+
+    ghost Value = { Planned };
+
+    ghost view = { λ plan. planned plan.deck.now plan.tree.now };
+
+    ghost invariant = { λ plan. IsRead plan.deck.now × AreAllCut plan.tree.now.layout.cells plan.parts };
+}
+
+impl<'t> Plan<'t> {
+    /// The plan of a deck over a layout's tree. The deck is one that was read. Want of memory is the only refusal.
+    ///
+    /// Each shape is cut into its pieces here, once.
+    pub fn new(alloc: Global, deck: &'t Deck, tree: &'t Tree) -> Result<Plan<'t>, NoMemory>
+        requires { IsRead deck.now }
+        ensures { IfOk result (λ plan. plan ≡ planned deck.now tree.now) }
+    {
+        let parts = cut_parts(alloc, tree)?;
+        Ok(Plan { deck, tree, parts })
+    }
+
+    /// Its deck, which is one that was read.
+    pub fn deck(&self) -> &Deck
+        ensures value { result.now ≡ self.now.deck }
+        ensures read { IsRead self.now.deck }
+        ensures sound { (layout_name deck_name : List ℕ) × IsSound layout_name deck_name self.now.deck }
+    {
+        self.deck
+    }
+
+    // The definition that an output names.
+    fn named(&self, output: usize) -> usize
+        requires { output < length self.now.deck.outputs }
+        ensures named { IsSomeAnd (slice_get self.now.deck.outputs output) (λ output. output.name ≡ result) }
+        ensures inside { result < length self.now.deck.steps }
+    {
+        self.deck().outputs.as_slice()[output].name
+    }
+
+    /// A window outside of which the output's area is empty, within `2^31` of 0. Where the area is empty it may have no
+    /// rows.
+    pub fn rows(&self, output: usize) -> Window
+        requires { output < length self.now.deck.outputs }
+        ensures outside { (t : Tile) → IsInOutput self.now.cells self.now.top self.now.deck output t → IsInRows result t }
+        ensures low { neg_ℤ (pos 2147483648) ≤ℤ result.y0 }
+        ensures high { result.y1 ≤ℤ pos 2147483648 }
+    {
+        let named = self.named(output);
+        let extents = Extents::of(self.deck(), self.tree, named + 1);
+        match extents.by_name[named] {
+            Some(window) => window,
+            None => no_rows(),
+        }
+    }
+
+    /// The rows of a definition on which the output's area in the band depends: the window of the definition in the least
+    /// family that is enough for the band. It has no rows where the output doesn't use the definition. The band has rows,
+    /// and lies within reach.
+    pub fn needs(&self, output: usize, name: usize, band: Window) -> Window
+        requires output { output < length self.now.deck.outputs }
+        requires name { name < length self.now.deck.steps }
+        requires band { IsBand band }
+        ensures { IsSomeAnd (slice_get self.now.deck.outputs output) (λ output. IsNeeded self.now.deck output.name band name result) }
+    {
+        let named = self.named(output);
+        Needs::of(self.deck(), named).window(name, band)
+    }
+
+    /// The joined list, in the band, of the part of the output's area in the band. The band has rows, and lies within
+    /// reach. Want of memory is the only refusal.
+    pub fn area(&self, alloc: Global, output: usize, band: Window) -> Result<Vec<Trap>, NoMemory>
+        requires output { output < length self.now.deck.outputs }
+        requires band { IsBand band }
+        ensures shots { IfOk result (λ traps. All IsShot traps.items) }
+        ensures joined { IfOk result (λ traps. IsJoinedOf band (IsInBand self.now.cells self.now.top self.now.deck output band) traps.items) }
+    {
+        self.layers_are_near();
+        let named = self.named(output);
+        let needs = Needs::of(self.deck(), named);
+        let mut areas = Vec::new(alloc);
+        while areas.len() <= named {
+            let list = self.needed_area(alloc, &needs, areas.as_slice(), band)?;
+            areas.push(list)?;
+        }
+        match areas.pop() {
+            Some(list) => Ok(list),
+            None => unreachable!(),
+        }
+    }
+
+    // The area of a step in the window, by lists of the areas of its operands.
+    fn step_area(
+        &self,
+        alloc: Global,
+        step: &Step,
+        areas: &[Vec<Trap>],
+        window: Window,
+    ) -> Result<Vec<Trap>, NoMemory>
+        requires sound { IsSoundStep self.now.deck.frame (length areas.now) step.now }
+        requires legal { (a : ℕ) → All IsLegal (list_at (map (λ list. list.items) areas.now) a) }
+        requires near { (a : ℕ) → All (HasCornersUpTo (2 ^ 42)) (list_at (map (λ list. list.items) areas.now) a) }
+        requires low { IsUpTo (2 ^ 50) window.y0 }
+        requires high { IsUpTo (2 ^ 50) window.y1 }
+        ensures { IfOk result (λ traps. HasArea window (λ t. IsInStep self.now.cells self.now.top self.now.deck.frame (IsListed (map (λ list. list.items) areas.now)) step.now t) traps.items) }
+    {
+        match step {
+            Step::Layer(pair) => layer_area(alloc, self.tree, &self.parts, *pair, window),
+            Step::Or(a, b) => combined_area(alloc, Op::Or, list(areas, *a), list(areas, *b), window),
+            Step::And(a, b) => combined_area(alloc, Op::And, list(areas, *a), list(areas, *b), window),
+            Step::Sub(a, b) => combined_area(alloc, Op::Sub, list(areas, *a), list(areas, *b), window),
+            Step::Xor(a, b) => combined_area(alloc, Op::Xor, list(areas, *a), list(areas, *b), window),
+            Step::Grow(a, dx, dy) => grown_area(alloc, list(areas, *a), *dx, *dy, window),
+            Step::Shrink(a, dx, dy) => shrunk_area(alloc, list(areas, *a), *dx, *dy, window),
+            Step::Invert(a) => match self.deck().frame {
+                Some(frame) => inverted_area(alloc, &frame, list(areas, *a), window),
+                None => unreachable!(),
+            },
+            Step::Mirror(a, m) => mirrored_area(alloc, list(areas, *a), *m, window),
+        }
+    }
+
+    // The tiles of each layer are within 2^30 of 0. It costs nothing.
+    fn layers_are_near(&self)
+        ensures { (pair : APair) (t : Tile) → IsInLayer self.now.cells self.now.top pair t → IsTileUpTo (2 ^ 30) t }
+    {
+        let _cells = self.tree.cells();
+    }
+
+    // The area of the next definition in the rows that are needed of it, or an empty list where none are.
+    fn needed_area(
+        &self,
+        alloc: Global,
+        needs: &Needs,
+        areas: &[Vec<Trap>],
+        band: Window,
+    ) -> Result<Vec<Trap>, NoMemory>
+        requires band { IsBand band }
+        requires named { (name : ℕ) × (length areas.now ≤ name) × (name < length self.now.deck.steps) × AreHalos self.now.deck name 0 needs.now.by_name }
+        requires ready { (m : ℕ) → m < length areas.now → IsReady self.now.cells self.now.top self.now.deck band needs.now.by_name m (list_at (map (λ list. list.items) areas.now) m) }
+        ensures { IfOk result (λ traps. IsReady self.now.cells self.now.top self.now.deck band needs.now.by_name (length areas.now) traps.items) }
+    {
+        self.layers_are_near();
+        let deck = self.deck();
+        match needs.by_name[areas.len()] {
+            Some(_need) => {
+                let window = needs.window(areas.len(), band);
+                let step = step_at(deck.steps.as_slice(), areas.len());
+                self.step_area(alloc, &step, areas, window)
+            }
+            None => Ok(Vec::new(alloc)),
+        }
+    }
+}
+
+// The list of a number.
+fn list(areas: &[Vec<Trap>], number: usize) -> &[Trap]
+    requires { number < length areas.now }
+    ensures { result.now ≡ list_at (map (λ list. list.items) areas.now) number }
+{
+    areas[number].as_slice()
+}

@@ -1,0 +1,124 @@
+//! Areas that grow and shrink.
+ghost use Rattle.std.specs.Prelude.{◌≡◌, ◌≢◌, ◌^◌, ℤ, pos, ◌+ℤ◌, ◌-ℤ◌, ◌≤ℤ◌, All, [], ◌∷◌, IfOk, MatchOption, Contains};
+ghost use Rattle.half_grid.specs.Nearness.{IsGrown, IsShrunk};
+ghost use Rattle.half_grid.specs.Trapezoids.{IsLegal, IsShot};
+ghost use Rattle.half_grid.specs.Lines.{x_on};
+ghost use Rattle.std.specs.Int.{int_min, int_max};
+ghost use Rattle.square_size.specs.EdgeLaws.{IsInSome};
+ghost use Rattle.square_size.specs.Rings.{IsSizing};
+ghost use Rattle.cell_tree.specs.Boxes.{IsUpTo};
+ghost use Rattle.deck_plan.specs.Lists.{HasArea};
+ghost use Rattle.deck_plan.specs.Needs.{widened};
+ghost use Rattle.deck_plan.specs.Bounds.{HasCornersUpTo, IsAround, IsFullBox, wider};
+
+use crate::windows::widened;
+use bool_ops::{Op, combine, unite};
+use geo_stream::{FromSlice, NoMemory, gather};
+use half_grid::{Frame, Trap, Window};
+use square_size::Grown;
+use std::alloc::Global;
+use tone_mirror::frame_trap;
+
+/// The joined list, in the window, of the tiles near to some tile of the trapezoids, by a rectangle of half sides `dx`
+/// and `dy`.
+pub(crate) fn grown_area(
+    alloc: Global,
+    traps: &[Trap],
+    dx: i64,
+    dy: i64,
+    window: Window,
+) -> Result<Vec<Trap>, NoMemory>
+    requires sizing { IsSizing dx dy }
+    requires legal { All IsLegal traps.now }
+    requires near { All (HasCornersUpTo (2 ^ 43)) traps.now }
+    ensures { IfOk result (λ grown. HasArea window (IsGrown dx dy (IsInSome traps.now)) grown.items) }
+{
+    let edges = gather(alloc, Grown::new(alloc, FromSlice::new(traps), dx, dy))?;
+    unite(alloc, edges, window)
+}
+
+// The box of one trapezoid.
+fn box_of(trap: &Trap) -> Frame
+    ensures left { result.x0 ≡ int_min (x_on trap.now.left trap.now.y0) (x_on trap.now.left trap.now.y1) }
+    ensures bottom { result.y0 ≡ trap.now.y0 }
+    ensures right { result.x1 ≡ int_max (x_on trap.now.right trap.now.y0) (x_on trap.now.right trap.now.y1) }
+    ensures top { result.y1 ≡ trap.now.y1 }
+    ensures shot { IsShot trap.now }
+{
+    Frame {
+        x0: trap.least_x(),
+        y0: trap.y0(),
+        x1: trap.greatest_x(),
+        y1: trap.y1(),
+    }
+}
+
+// The box of a box and a trapezoid.
+fn box_with(hull: &Frame, trap: &Trap) -> Frame
+    ensures left { result.x0 ≡ int_min hull.now.x0 (int_min (x_on trap.now.left trap.now.y0) (x_on trap.now.left trap.now.y1)) }
+    ensures bottom { result.y0 ≡ int_min hull.now.y0 trap.now.y0 }
+    ensures right { result.x1 ≡ int_max hull.now.x1 (int_max (x_on trap.now.right trap.now.y0) (x_on trap.now.right trap.now.y1)) }
+    ensures top { result.y1 ≡ int_max hull.now.y1 trap.now.y1 }
+{
+    Frame {
+        x0: hull.x0.min(trap.least_x()),
+        y0: hull.y0.min(trap.y0()),
+        x1: hull.x1.max(trap.greatest_x()),
+        y1: hull.y1.max(trap.y1()),
+    }
+}
+
+fn hull_from(first: &Trap, rest: &[Trap]) -> Frame
+    requires first { HasCornersUpTo (2 ^ 42) first.now }
+    requires rest { All (HasCornersUpTo (2 ^ 42)) rest.now }
+    ensures around { All (IsAround result) (first.now ∷ rest.now) }
+    ensures full { IsFullBox (2 ^ 42) result }
+{
+    let mut hull = box_of(first);
+    for trap in rest {
+        hull = box_with(&hull, trap);
+    }
+    hull
+}
+
+// The hull, wider by `dx` and `dy` on each side.
+fn wider(hull: &Frame, dx: i64, dy: i64) -> Frame
+    requires full { IsFullBox (2 ^ 42) hull.now }
+    requires sizing { IsSizing dx dy }
+    ensures { result ≡ wider dx dy hull.now }
+{
+    Frame {
+        x0: hull.x0 - dx,
+        y0: hull.y0 - dy,
+        x1: hull.x1 + dx,
+        y1: hull.y1 + dy,
+    }
+}
+
+/// The joined list, in the window, of the tiles all of whose near ones are in the trapezoids, by a rectangle of half
+/// sides `dx` and `dy`.
+///
+/// What isn't in the trapezoids grows and is taken away from them. It is asked within their hull, widened by the half
+/// sides, where all tiles stand that are near to one of theirs.
+pub(crate) fn shrunk_area(
+    alloc: Global,
+    traps: &[Trap],
+    dx: i64,
+    dy: i64,
+    window: Window,
+) -> Result<Vec<Trap>, NoMemory>
+    requires sizing { IsSizing dx dy }
+    requires legal { All IsLegal traps.now }
+    requires near { All (HasCornersUpTo (2 ^ 42)) traps.now }
+    requires low { IsUpTo (2 ^ 50) window.y0 }
+    requires high { IsUpTo (2 ^ 50) window.y1 }
+    ensures { IfOk result (λ shrunk. HasArea window (IsShrunk dx dy (IsInSome traps.now)) shrunk.items) }
+{
+    let Some((first, rest)) = traps.split_first() else {
+        return Ok(Vec::new(alloc));
+    };
+    let around = [frame_trap(&wider(&hull_from(first, rest), dx, dy))];
+    let outside = combine(alloc, Op::Sub, &around, traps, widened(window, dy))?;
+    let grown = grown_area(alloc, outside.as_slice(), dx, dy, window)?;
+    combine(alloc, Op::Sub, traps, grown.as_slice(), window)
+}

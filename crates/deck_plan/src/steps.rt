@@ -1,0 +1,59 @@
+//! The area of one step.
+ghost use Rattle.std.specs.Prelude.{◌≡◌, ◌<◌, ◌^◌, length, map, All, IfOk, Contains};
+ghost use Rattle.cell_tree.specs.Boxes.{IsUpTo};
+ghost use Rattle.flat_walk.specs.Tables.{AreCut};
+ghost use Rattle.half_grid.specs.Trapezoids.{Trapezoid};
+ghost use Rattle.square_size.specs.EdgeLaws.{IsInSome};
+ghost use Rattle.tone_mirror.specs.Frames.{IsFrame, IsInFrame};
+ghost use Rattle.tone_mirror.specs.Mirrors.{mirrored_tile};
+ghost use Rattle.deck_text.specs.Sound.{IsNear};
+ghost use Rattle.deck_plan.specs.Lists.{HasArea, OfBoth};
+ghost use Rattle.deck_plan.specs.Bounds.{HasCornersUpTo};
+
+use bool_ops::{Op, combine};
+use geo_stream::{FromSlice, NoMemory, gather};
+use half_grid::{Frame, Trap, Window};
+use std::alloc::Global;
+use tone_mirror::{Mirrored, frame_trap};
+
+/// The joined list, in the window, of the tiles that the operation takes of two lists.
+pub(crate) fn combined_area(
+    alloc: Global,
+    op: Op,
+    a: &[Trap],
+    b: &[Trap],
+    window: Window,
+) -> Result<Vec<Trap>, NoMemory>
+    ensures { IfOk result (λ combined. HasArea window (λ t. OfBoth op (IsInSome a.now t) (IsInSome b.now t)) combined.items) }
+{
+    combine(alloc, op, a, b, window)
+}
+
+/// The joined list, in the window, of the tiles of the frame that are in none of the trapezoids.
+pub(crate) fn inverted_area(
+    alloc: Global,
+    frame: &Frame,
+    traps: &[Trap],
+    window: Window,
+) -> Result<Vec<Trap>, NoMemory>
+    requires { IsFrame frame.now }
+    ensures { IfOk result (λ inverted. HasArea window (λ t. IsInFrame frame.now t × (IsInSome traps.now t → ⊥)) inverted.items) }
+{
+    let whole = [frame_trap(frame)];
+    combine(alloc, Op::Sub, &whole, traps, window)
+}
+
+/// The joined list, in the window, of the tiles whose mirror images at `X = m` are in the trapezoids.
+pub(crate) fn mirrored_area(
+    alloc: Global,
+    traps: &[Trap],
+    m: i64,
+    window: Window,
+) -> Result<Vec<Trap>, NoMemory>
+    requires near { All (HasCornersUpTo (2 ^ 42)) traps.now }
+    requires at { IsNear m }
+    ensures { IfOk result (λ mirrored. HasArea window (λ t. IsInSome traps.now (mirrored_tile m t)) mirrored.items) }
+{
+    let images = gather(alloc, Mirrored::new(FromSlice::new(traps), m))?;
+    combine(alloc, Op::Or, images.as_slice(), &[], window)
+}
