@@ -1,0 +1,98 @@
+-- What the calls of a writer leave in an output's file.
+use Rattle.std.proofs.Common.{Result, Ok, Err, OnOk, OnErr, IfOk, ℕ, ◌+◌, ◌*◌, ◌≤◌, pos, ◌<ℤ◌, ◌≡◌, Bool, IsTrue, List, [], ◌++◌, length, take, get_or, slice_get, Some, arith, refl, sym, ap, subst, ◌∙◌, inl, inr}
+use Rattle.std.proofs.lemmas.Int.{ints}
+use Rattle.std.proofs.lemmas.List.{append-nil, length-append}
+use Rattle.std.proofs.lemmas.Option.{get_or_from_slice_get}
+use Rattle.std.proofs.Math.Seq.{take-append-add}
+use Rattle.depot.specs.Content.{Content, with_file, with_current, with_written, IsPartWritten, IsPartMade}
+use Rattle.half_grid.specs.Trapezoids.{Trapezoid}
+use Rattle.half_grid.specs.Windows.{RowRange}
+use Rattle.layout_model.specs.declared.pair.Pair.{Pair}
+use Rattle.oas_lex.specs.ShotText.{head, end, shot_text}
+use Rattle.deck_text.specs.declared.deck.Output.{Output}
+use Rattle.deck_plan.specs.Plans.{Planned}
+use Rattle.shot_writer.specs.Writing.{records_of}
+use Rattle.shot_writer.specs.declared.parts.Sums.{Sums}
+use Rattle.shot_writer.proofs.ForCallers.{file_more, started_text, put_text, finished_text, finish_part}
+use Rattle.shot_output.specs.Files.{IsFrontOf, text_of, front_of, IsBeginning}
+use Rattle.shot_output.specs.Bands.{HasRows, IsPut, IsPutPart}
+use Rattle.shot_output.proofs.BandNumbers.{bottom_is, rem_low}
+
+-- what holds of an answer by two of its facts, and of a refusal by one
+pub ok_both : {T E : Type 0} (r : Result T E) {A : Type 0} {P Q : T → Type 0} → OnOk r A → IfOk r P → ((x : T) → A → P x → Q x) → IfOk r Q
+ok_both (Ok x) a p f = f x a p
+ok_both (Err bad) a p f = tt
+
+pub err_then : {T E : Type 0} (r : Result T E) {A B : Type 0} → OnErr r A → (A → B) → OnErr r B
+err_then (Ok x) a f = tt
+err_then (Err bad) a f = f a
+
+-- the output at a place of a list, as it is read
+pub is_output : (outputs others : List Output) (k : ℕ) (output found : Output) → found ≡ get_or others k found → others ≡ outputs → slice_get outputs k ≡ Some output → found ≡ output
+is_output outputs others k output found is same there = is ∙ ap (λ (l : List Output). get_or l k found) same ∙ get_or_from_slice_get outputs k output found there
+
+-- what is written to the file alone, as a part of the file's bytes
+made : (c now : Content) (name bytes : List ℕ) (n : ℕ) → n ≤ length bytes → now ≡ with_file c name (take n bytes) → IsPartMade c name bytes now
+made c now name bytes n few e =
+    inr (n, few, subst (λ (x : Content). x ≡ with_current (with_file c name (take n bytes)) x.current) (sym e) refl)
+
+module _ (p : Planned) (k : ℕ) (c₀ : Content) (output : Output) (unit : ℕ) (pair : Pair) (unit_is : unit ≡ 2 * p.deck.unit) (pair_is : pair ≡ output.pair) where
+  front_is : (shots : List Trapezoid) → head unit ++ records_of pair shots ≡ front_of p.deck output shots
+  front_is shots = ap (λ (n : ℕ). head n ++ records_of pair shots) unit_is ∙ ap (λ (q : Pair). head (2 * p.deck.unit) ++ records_of q shots) pair_is
+
+  text_is : (shots : List Trapezoid) → shot_text unit pair.layer pair.datatype shots ≡ text_of p.deck output shots
+  text_is shots = ap (λ (n : ℕ). shot_text n pair.layer pair.datatype shots) unit_is ∙ ap (λ (q : Pair). shot_text (2 * p.deck.unit) q.layer q.datatype shots) pair_is
+
+  -- no shot was put
+  front_none : (rows : RowRange) → pos 0 <ℤ p.deck.band → HasRows p k rows → IsFrontOf p k []
+  front_none rows some outside =
+      let b = bottom_is rows.y0 p.deck.band some in
+      let low = rem_low rows.y0 p.deck.band some in (
+        b.0,
+        record {
+          first = b.0;
+          lists = [];
+          joined = tt;
+          up_to = omega (arith, ints);
+          none_below = λ t h. (let from = (outside t h).from in omega (arith, ints, from, b.1, low));
+          cut = refl;
+        },
+      )
+
+  pub start_cut : (now : Content) (rows : RowRange) → pos 0 <ℤ p.deck.band → HasRows p k rows → IsPartMade c₀ output.file (head unit) now
+      → (bytes : List ℕ) × IsBeginning p k output bytes × IsPartMade c₀ output.file bytes now
+  start_cut now rows some outside part = (
+    head unit,
+    ([], inr (front_none rows some outside, sym (append-nil (head unit)) ∙ front_is [])),
+    part,
+  )
+
+  pub put_cut : (s now : Content) (tells : Bool) → IsTrue tells → s ≡ with_file c₀ output.file (head unit) → IsPutPart p k pair tells s now
+      → (bytes : List ℕ) × IsBeginning p k output bytes × IsPartMade c₀ output.file bytes now
+  put_cut s now tells told started put =
+      let part = put.content told in
+      let xs = head unit in
+      let ys = records_of pair put.shots in (
+        xs ++ ys,
+        (put.shots, inr (put.front, front_is put.shots)),
+        made c₀ now output.file (xs ++ ys) (length xs + part.0) (omega (arith, part.1, length-append xs ys))
+            (part.2 ∙ ap (λ (x : Content). with_written x (take part.0 ys)) started ∙ file_more c₀ output.file xs (take part.0 ys) ∙ ap (with_file c₀ output.file) (sym (take-append-add xs ys part.0))),
+      )
+
+  -- the records of all shots were put
+  put_whole : (s c : Content) (shots : List Trapezoid) → s ≡ with_file c₀ output.file (head unit) → c ≡ with_written s (records_of pair shots) → c ≡ with_file c₀ output.file (head unit ++ records_of pair shots)
+  put_whole s c shots started put = put_text c₀ s c output.file unit pair [] shots (started_text c₀ s output.file unit pair started) put
+
+  pub finish_cut : (s c now : Content) (tells : Bool) (sums : Sums) → IsTrue tells → s ≡ with_file c₀ output.file (head unit) → IsPut p k pair tells s c sums → IsPartWritten c end now
+      → (bytes : List ℕ) × IsBeginning p k output bytes × IsPartMade c₀ output.file bytes now
+  finish_cut s c now tells sums told started put part =
+      let f = finish_part c₀ c now output.file unit pair put.shots (put_whole s c put.shots started (put.content told)) part in (
+        shot_text unit pair.layer pair.datatype put.shots,
+        (put.shots, inl (put.list, text_is put.shots)),
+        made c₀ now output.file (shot_text unit pair.layer pair.datatype put.shots) f.0 f.1 f.2,
+      )
+
+  pub finished : (s c now : Content) (tells : Bool) (sums : Sums) → IsTrue tells → s ≡ with_file c₀ output.file (head unit) → (put : IsPut p k pair tells s c sums) → now ≡ with_written c end
+      → now ≡ with_file c₀ output.file (text_of p.deck output put.shots)
+  finished s c now tells sums told started put end_is =
+      finished_text c₀ c now output.file unit pair put.shots (put_whole s c put.shots started (put.content told)) end_is ∙ ap (with_file c₀ output.file) (text_is put.shots)

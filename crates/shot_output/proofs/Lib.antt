@@ -1,0 +1,9 @@
+pub mod BandNumbers
+pub mod CoverLemmas
+pub mod TileLemmas
+pub mod FrontLemmas
+pub mod PutLemmas
+pub mod FileLemmas
+pub mod OutputLemmas
+pub mod LawLemmas
+pub mod ForCallers

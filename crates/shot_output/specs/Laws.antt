@@ -1,0 +1,51 @@
+-- What holds of the shot list of each output, for every height of bands.
+use Rattle.std.specs.Prelude.{pos, ◌<ℤ◌, ◌≡◌, ◌↔◌, ℕ, List, ◌++◌}
+use Rattle.std.specs.List.{All}
+use Rattle.half_grid.specs.Trapezoids.{Trapezoid, IsShot, FitsLimits, CoversExactly}
+use Rattle.half_grid.specs.declared.plane.Tile.{Tile}
+use Rattle.fracture.specs.Limits.{AreLimits}
+use Rattle.fracture.specs.Economy.{HasNoNeedlessCut}
+use Rattle.deck_text.specs.declared.deck.Output.{Output}
+use Rattle.deck_text.specs.declared.deck.Deck.{Deck}
+use Rattle.deck_plan.specs.Plans.{Planned}
+use Rattle.shot_writer.specs.Writing.{triangles_of}
+use Rattle.shot_output.specs.Files.{area_of, IsListOf, IsBeginning, text_of}
+use Rattle.shot_output.specs.TileCounts.{IsNumberOfTilesIn}
+
+-- bands have rows, and the limits are those of shots
+pub record HasRules (deck : Deck) : Type 0 where
+  pub some_rows : pos 0 <ℤ deck.band
+  pub limits : AreLimits deck.limits.height deck.limits.width
+
+-- Each shot is legal and within reach,
+abbrev pub ShotsAreLegal : Type 0
+ShotsAreLegal = (p : Planned) (k : ℕ) (shots : List Trapezoid) → HasRules p.deck → IsListOf p k shots → All IsShot shots
+
+-- and within the limits.
+abbrev pub ShotsFit : Type 0
+ShotsFit = (p : Planned) (k : ℕ) (shots : List Trapezoid) → HasRules p.deck → IsListOf p k shots
+    → All (FitsLimits p.deck.limits.height p.deck.limits.width) shots
+
+-- Each tile whatsoever is in exactly one of the shots where it is in the output's area, and in none otherwise.
+abbrev pub ShotsCover : Type 0
+ShotsCover = (p : Planned) (k : ℕ) (shots : List Trapezoid) → HasRules p.deck → IsListOf p k shots → CoversExactly shots (area_of p k)
+
+-- No cut is needless.
+abbrev pub ShotsAreFew : Type 0
+ShotsAreFew = (p : Planned) (k : ℕ) (shots : List Trapezoid) → HasRules p.deck → IsListOf p k shots
+    → HasNoNeedlessCut p.deck.band p.deck.limits.height p.deck.limits.width (area_of p k) shots
+
+-- Their triangles are the tiles of the area.
+abbrev pub TrianglesAreTiles : Type 0
+TrianglesAreTiles = (p : Planned) (k : ℕ) (shots : List Trapezoid) → HasRules p.deck → IsListOf p k shots
+    → IsNumberOfTilesIn (area_of p k) (triangles_of shots)
+
+-- Where the areas of two outputs agree, and with them the bands and the limits, the shot list is one and the same.
+abbrev pub OneShotList : Type 0
+OneShotList = (p q : Planned) (k m : ℕ) (xs ys : List Trapezoid) → HasRules p.deck → p.deck.band ≡ q.deck.band → p.deck.limits ≡ q.deck.limits
+    → ((t : Tile) → area_of p k t ↔ area_of q m t) → IsListOf p k xs → IsListOf q m ys → xs ≡ ys
+
+-- What begins the text of an output is a prefix of the text of its shot list.
+abbrev pub BeginningIsPrefix : Type 0
+BeginningIsPrefix = (p : Planned) (k : ℕ) (output : Output) (bytes : List ℕ) (shots : List Trapezoid) → HasRules p.deck
+    → IsBeginning p k output bytes → IsListOf p k shots → (rest : List ℕ) × (text_of p.deck output shots ≡ bytes ++ rest)

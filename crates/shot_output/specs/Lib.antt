@@ -1,0 +1,5 @@
+pub mod ShotLists
+pub mod TileCounts
+pub mod Files
+pub mod Laws
+pub mod Bands

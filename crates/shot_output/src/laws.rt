@@ -1,0 +1,16 @@
+//! What holds of the shot lists of outputs.
+ghost use Rattle.shot_output.specs.Laws.{ShotsAreLegal, ShotsFit, ShotsCover, ShotsAreFew, TrianglesAreTiles, OneShotList, BeginningIsPrefix};
+
+/// What holds of the shot list of each output: its shots are legal and within the limits; each tile of the plane is in
+/// exactly one of them where it is in the output's area, and in none otherwise; no cut is needless, for every height of
+/// bands; its triangles are as many as the tiles of the area; an area has one shot list at most; and what begins its
+/// text is a prefix of it. It costs nothing.
+pub fn list_laws()
+    ensures legal { ShotsAreLegal }
+    ensures fit { ShotsFit }
+    ensures cover { ShotsCover }
+    ensures few { ShotsAreFew }
+    ensures triangles { TrianglesAreTiles }
+    ensures one { OneShotList }
+    ensures begins { BeginningIsPrefix }
+{}
