@@ -1,0 +1,129 @@
+//! The bytes of a shot file, judged for an output.
+ghost use Rattle.std.specs.Prelude.{◌≡◌, ◌≢◌, ◌≤◌, ◌<◌, ◌*◌, ◌↔◌, IsTrue, IfOk, IfErr, IfSome, length};
+ghost use Rattle.output_check.specs.Certificates.{IsCertified};
+ghost use Rattle.file_check.specs.Files.{HasHeadOf, AreSumsOf, IsExactText, OfOutput};
+ghost use Rattle.file_check.specs.Judgements.{data_of, IsBytesFault, IsShotsFault};
+
+use crate::faults::{CheckBad, CheckFault};
+use deck_plan::Plan;
+use deck_text::Output;
+use half_grid::Trap;
+use output_check::check_output;
+use shot_checker::Verdict;
+use shot_reader::{ShotBad, ShotFile, read_shots};
+use shot_writer::{Sums, triangles_in};
+use std::alloc::Global;
+
+// Whether the shots may have this pair: they have it, or there are none.
+fn has_pair(file: &ShotFile, output: &Output) -> bool
+    ensures { IsTrue result ↔ IfSome file.now.pair (λ pair. pair ≡ output.now.pair) }
+{
+    match file.pair {
+        None => true,
+        Some(pair) => pair == output.pair,
+    }
+}
+
+// Whether the head is that of the output: twice the deck's unit, and where there are shots the output's pair.
+fn has_head(file: &ShotFile, plan: &Plan, output: &Output) -> bool
+    ensures { IsTrue result ↔ HasHeadOf plan.now.deck output.now (data_of file.now) }
+{
+    if u64::from(file.unit) != 2 * u64::from(plan.deck().unit) {
+        return false;
+    }
+    has_pair(file, output)
+}
+
+// The number of the shots, and that of their triangles.
+fn sums_of(shots: &[Trap]) -> Sums
+    requires { length shots.now ≤ 268435456 }
+    ensures { AreSumsOf shots.now result }
+{
+    let mut triangles = 0;
+    for shot in shots {
+        triangles += triangles_in(shot);
+    }
+    Sums {
+        shots: shots.len() as u128,
+        triangles,
+    }
+}
+
+// The answer to bytes that are no shot file.
+fn refused_shots(place: usize, bad: ShotBad) -> CheckBad
+    ensures real { bad ≢ ShotBad.NoMemory → result ≡ CheckBad.Refused place (CheckFault.Bad bad) }
+    ensures wanting { bad ≡ ShotBad.NoMemory → result ≡ CheckBad.NoMemory }
+{
+    match bad {
+        ShotBad::NoMemory => CheckBad::NoMemory,
+        ShotBad::Head(_)
+        | ShotBad::Record(_)
+        | ShotBad::Spelling(_)
+        | ShotBad::Illegal(_)
+        | ShotBad::End(_) => CheckBad::Refused(place, CheckFault::Bad(bad)),
+    }
+}
+
+// Judges the shots of a file whose head is right.
+fn judge_shots(alloc: Global, plan: &Plan, place: usize, shots: &[Trap]) -> Result<Sums, CheckBad>
+    requires place { place < length plan.now.deck.outputs }
+    requires few { length shots.now ≤ 268435456 }
+    ensures ok { IfOk result (AreSumsOf shots.now) }
+    ensures exact { IfOk result (λ _. IsCertified plan.now place shots.now) }
+    ensures refused { IfErr result (IsShotsFault plan.now place shots.now) }
+{
+    let verdict = match check_output(alloc, plan, place, shots) {
+        Ok(verdict) => verdict,
+        Err(_wanting) => return Err(CheckBad::NoMemory),
+    };
+    match verdict {
+        Verdict::Exact => Ok(sums_of(shots)),
+        Verdict::Miscovered(tile, count, wanted) => {
+            let verdict = Verdict::Miscovered(tile, count, wanted);
+            Err(CheckBad::Refused(place, CheckFault::Verdict(verdict)))
+        }
+        Verdict::TooLarge(k) => {
+            let verdict = Verdict::TooLarge(k);
+            Err(CheckBad::Refused(place, CheckFault::Verdict(verdict)))
+        }
+    }
+}
+
+// Judges the bytes of a file as those of this output.
+fn judge_text(
+    alloc: Global,
+    plan: &Plan,
+    place: usize,
+    output: &Output,
+    bytes: &[u8],
+) -> Result<Sums, CheckBad>
+    requires place { place < length plan.now.deck.outputs }
+    requires short { length bytes.now ≤ 268435456 }
+    ensures ok { IfOk result (IsExactText plan.now place output.now bytes.now) }
+    ensures refused { IfErr result (IsBytesFault plan.now place output.now bytes.now) }
+{
+    let file = match read_shots(alloc, bytes) {
+        Ok(file) => file,
+        Err(bad) => return Err(refused_shots(place, bad)),
+    };
+    if !has_head(&file, plan, output) {
+        return Err(CheckBad::Refused(place, CheckFault::Head));
+    }
+    judge_shots(alloc, plan, place, file.shots.as_slice())
+}
+
+/// Judges the bytes of the file of an output.
+pub(crate) fn judge(
+    alloc: Global,
+    plan: &Plan,
+    place: usize,
+    bytes: &[u8],
+) -> Result<Sums, CheckBad>
+    requires place { place < length plan.now.deck.outputs }
+    requires short { length bytes.now ≤ 268435456 }
+    ensures ok { IfOk result (λ sums. OfOutput plan.now place (λ output. IsExactText plan.now place output bytes.now sums)) }
+    ensures refused { IfErr result (λ bad. OfOutput plan.now place (λ output. IsBytesFault plan.now place output bytes.now bad)) }
+{
+    let output = &plan.deck().outputs.as_slice()[place];
+    judge_text(alloc, plan, place, output, bytes)
+}

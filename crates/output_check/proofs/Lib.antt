@@ -1,0 +1,6 @@
+mod Sorting
+mod Passing
+mod Faults
+mod Numbers
+mod Covers
+mod Judging
