@@ -1,6 +1,5 @@
 -- What is said through a buffer.
-use Rattle.std.specs.Prelude.{ℕ, ◌≡◌, List, ◌++◌, flat_map}
-use Rattle.std.specs.Borrow.{Bor}
+use Rattle.std.specs.Prelude.{ℕ, ◌≡◌, List, ◌++◌}
 use Rattle.depot.specs.Content.{Content, with_said}
 
 -- of these bytes all were said but the last, which are held back
@@ -8,7 +7,3 @@ pub record IsSaidButFor (before : Content) (bytes held : List ℕ) (now : Conten
   pub said : List ℕ
   pub content : now ≡ with_said before said
   pub whole : said ++ held ≡ bytes
-
--- the pieces one after another
-abbrev pub joined : List (Bor (List ℕ)) → List ℕ
-joined pieces = flat_map (λ (piece : Bor (List ℕ)). piece.now) pieces

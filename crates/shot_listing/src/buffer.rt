@@ -9,8 +9,8 @@ use depot::{BUFFER_SIZE, Buffer, Depot, DepotBad, say_whole};
 /// How many bytes a line of a listing has at most.
 pub(crate) const ROOM: usize = 128;
 
-/// Says what the buffer has, and empties it.
-pub(crate) fn flush<D: Depot>(depot: &mut D, buffer: &mut Buffer) -> Result<(), DepotBad>
+/// Says what the buffer has, and empties it. After a refusal a prefix of what it had was said.
+pub fn flush<D: Depot>(depot: &mut D, buffer: &mut Buffer) -> Result<(), DepotBad>
     ensures empty { OnOk result (buffer.new ≡ []) }
     ensures ok { OnOk result (IsTrue D.tells
         → D.content depot.new ≡ with_said (D.content depot.old) buffer.old) }
@@ -50,12 +50,9 @@ pub(crate) fn make_room<D: Depot>(depot: &mut D, buffer: &mut Buffer) -> Result<
     flush(depot, buffer)
 }
 
-/// Puts a piece of any length, where it has room; else the buffer is said, and then the piece.
-pub(crate) fn put_piece<D: Depot>(
-    depot: &mut D,
-    buffer: &mut Buffer,
-    bytes: &[u8],
-) -> Result<(), DepotBad>
+/// Puts a piece of any length, where it has room; else the buffer is said, and then the piece. After a refusal a prefix
+/// of what the buffer had and the piece was said.
+pub fn put_piece<D: Depot>(depot: &mut D, buffer: &mut Buffer, bytes: &[u8]) -> Result<(), DepotBad>
     ensures ok { OnOk result (IsTrue D.tells → IsSaidButFor
         (D.content depot.old) (buffer.old ++ bytes.now) buffer.new (D.content depot.new)) }
     ensures refused { OnErr result (IsTrue D.tells

@@ -1,5 +1,5 @@
 //! The listing of a shot file, said on a depot: its unit, its layer and datatype, a line of numbers for each shot, and
-//! the sums. Texts of a few pieces are said here too.
+//! the sums. Other texts that are said piece by piece go through the same buffer.
 //!
 //! What is said goes through a buffer on the stack. Nothing here takes memory.
 #![tactic(auto)]
@@ -11,4 +11,5 @@ mod shots;
 #[cfg(test)]
 mod tests;
 
-pub use saying::{MOST_SHOTS, say_each, say_listing};
+pub use buffer::{flush, put_piece};
+pub use saying::{MOST_SHOTS, say_listing};

@@ -1,11 +1,10 @@
 //! Whole texts, said on a depot.
-ghost use Rattle.std.specs.Prelude.{◌≡◌, ◌+◌, ◌≤◌, IsTrue, OnOk, OnErr, IsErrOf, [], ◌++◌, length};
+ghost use Rattle.std.specs.Prelude.{◌≡◌, ◌+◌, ◌≤◌, IsTrue, OnOk, OnErr, IsErrOf, ◌++◌, length};
 ghost use Rattle.depot.specs.Content.{with_said, IsPartSaid};
 ghost use Rattle.depot.specs.Counts.{Rose, NeverFall};
 ghost use Rattle.shot_listing.specs.Listing.{listing, sums_line};
-ghost use Rattle.shot_listing.specs.Saying.{joined};
 
-use crate::buffer::{flush, make_room, put_piece};
+use crate::buffer::{flush, make_room};
 use crate::lines::{put_layer, put_sums, put_unit};
 use crate::shots::put_shots;
 use depot::{Buffer, Depot, DepotBad};
@@ -65,25 +64,4 @@ pub fn say_listing<D: Depot>(
     put_layer(&mut buffer, pair);
     let triangles = put_shots(depot, &mut buffer, shots)?;
     say_last(depot, &mut buffer, shots.len(), triangles)
-}
-
-/// Says the pieces one after another. After a refusal a prefix of the whole was said.
-pub fn say_each<D: Depot>(depot: &mut D, pieces: &[&[u8]]) -> Result<(), DepotBad>
-    ensures ok { OnOk result (IsTrue D.tells → D.content depot.new
-        ≡ with_said (D.content depot.old) (joined pieces.now)) }
-    ensures refused { OnErr result (IsTrue D.tells → IsPartSaid
-        (D.content depot.old) (joined pieces.now) (D.content depot.new)) }
-    ensures failed { IsErrOf result DepotBad.Failed
-        → Rose (D.counts depot.old).write_faults (D.counts depot.new).write_faults }
-    ensures no_memory { IsErrOf result DepotBad.NoMemory
-        → Rose (D.counts depot.old).refused (D.counts depot.new).refused }
-    ensures uncounted { OnOk result (D.counts depot.new ≡ D.counts depot.old) }
-    ensures reads { (D.counts depot.new).read_faults ≡ (D.counts depot.old).read_faults }
-    ensures counted { NeverFall (D.counts depot.old) (D.counts depot.new) }
-{
-    let mut buffer = Buffer::new();
-    for piece in pieces {
-        put_piece(depot, &mut buffer, piece)?;
-    }
-    flush(depot, &mut buffer)
 }

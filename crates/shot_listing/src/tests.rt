@@ -1,11 +1,7 @@
 // Listings by their text, and what is said of one where a call fails.
-ghost use Rattle.std.specs.Prelude.{◌≡◌, IsTrue, OnOk, ◌++◌, codes, decimal};
-ghost use Rattle.depot.specs.Content.{with_said};
-
-use crate::{MOST_SHOTS, say_each, say_listing};
-use depot::{Depot, DepotBad, MemDepot};
+use crate::{MOST_SHOTS, flush, put_piece, say_listing};
+use depot::{Buffer, MemDepot};
 use half_grid::{Line, Trap};
-use itoa::Buffer;
 use layout_model::Pair;
 use std::alloc::Global;
 use std::test::Fail;
@@ -120,40 +116,16 @@ fn each_call_fails_in_turn(rt: HostRuntime) -> Result<(), Fail> {
     Ok(())
 }
 
-// Says a refusal of one line.
-fn say_refusal<D: Depot>(depot: &mut D, name: &[u8], at: usize) -> Result<(), DepotBad>
-    ensures { OnOk result (IsTrue D.tells → D.content depot.new ≡ with_said (D.content depot.old)
-        (codes "check refused: " ++ name.now ++ codes ": head at " ++ decimal at ++ codes "\n")) }
-{
-    let mut digits = Buffer::new();
-    let pieces = [
-        b"check refused: ".as_slice(),
-        name,
-        b": head at ",
-        digits.format(at).as_bytes(),
-        b"\n",
-    ];
-    say_each(depot, &pieces)
-}
-
-#[test]
-fn pieces_of_a_line(rt: HostRuntime) -> Result<(), Fail> {
-    let mut depot = MemDepot::new(rt.alloc());
-    say_refusal(&mut depot, b"a.oas", 19)?;
-    assert_eq!(rt;
-        depot.said(),
-        b"check refused: a.oas: head at 19\n".as_slice()
-    );
-    Ok(())
-}
-
 #[test]
 fn a_long_piece(rt: HostRuntime) -> Result<(), Fail> {
     let mut depot = MemDepot::new(rt.alloc());
-    say_refusal(&mut depot, &[b'x'; 9000], 0)?;
+    let mut buffer = Buffer::new();
+    put_piece(&mut depot, &mut buffer, b"check refused: ")?;
+    put_piece(&mut depot, &mut buffer, &[b'x'; 9000])?;
+    put_piece(&mut depot, &mut buffer, b": head at 0\n")?;
+    flush(&mut depot, &mut buffer)?;
     assert_eq!(rt; depot.said().len(), 15 + 9000 + 12);
+    assert!(rt; depot.said().starts_with(b"check refused: x"));
     assert!(rt; depot.said().ends_with(b"x: head at 0\n"));
-    say_each(&mut depot, &[])?;
-    assert_eq!(rt; depot.said().len(), 15 + 9000 + 12);
     Ok(())
 }

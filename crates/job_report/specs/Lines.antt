@@ -1,0 +1,59 @@
+-- The line that is said where a deck or a layout is refused. It ends with LF. Numbers in it are decimal, but for the bits
+-- of a unit.
+use Rattle.std.specs.Prelude.{ℕ, List, ◌++◌, codes, decimal}
+use Rattle.std.specs.Fmt.{signed_decimal}
+use Rattle.deck_text.specs.declared.refusal.DeckBad.{DeckBad}
+use Rattle.deck_text.specs.declared.refusal.DeckBad.TheVariants as deck_faults
+use Rattle.gds_reader.specs.declared.refusing.GdsBad.{GdsBad}
+use Rattle.gds_reader.specs.declared.refusing.GdsBad.TheVariants as gds_faults
+use Rattle.cell_tree.specs.declared.faults.TreeBad.{TreeBad}
+use Rattle.cell_tree.specs.declared.faults.TreeBad.TheVariants as tree_faults
+use Rattle.job_report.specs.Pieces.{hex_text, names_text}
+
+abbrev pub memory_line : List ℕ
+memory_line = codes "want of memory\n"
+
+-- a refused deck
+unfoldable pub deck_line : DeckBad → List ℕ
+deck_line (deck_faults.Line n column) = codes "deck refused: line " ++ decimal n ++ codes " column " ++ decimal column ++ codes "\n"
+deck_line (deck_faults.Order n) = codes "deck refused: line " ++ decimal n ++ codes " out of order\n"
+deck_line (deck_faults.Twice n m) = codes "deck refused: line " ++ decimal n ++ codes " repeats line " ++ decimal m ++ codes "\n"
+deck_line (deck_faults.Unknown n name) = codes "deck refused: line " ++ decimal n ++ codes " unknown " ++ name ++ codes "\n"
+deck_line (deck_faults.NoFrame n) = codes "deck refused: line " ++ decimal n ++ codes " has no frame\n"
+deck_line (deck_faults.Range n value) = codes "deck refused: line " ++ decimal n ++ codes " out of range " ++ signed_decimal value ++ codes "\n"
+deck_line (deck_faults.Odd n) = codes "deck refused: line " ++ decimal n ++ codes " odd sum\n"
+deck_line (deck_faults.Names n) = codes "deck refused: line " ++ decimal n ++ codes " file name in use\n"
+deck_line (deck_faults.Many n) = codes "deck refused: line " ++ decimal n ++ codes " over the limit\n"
+deck_line deck_faults.NoMemory = memory_line
+
+-- a fault of a GDSII file at an offset
+abbrev pub gds_fault : List ℕ → ℕ → List ℕ
+gds_fault what at = codes "layout refused: gdsii " ++ what ++ codes " at " ++ decimal at ++ codes "\n"
+
+-- a refused GDSII file
+unfoldable pub gds_line : GdsBad → List ℕ
+gds_line (gds_faults.Short at) = gds_fault (codes "short") at
+gds_line (gds_faults.Length at) = gds_fault (codes "length") at
+gds_line (gds_faults.Kind at) = gds_fault (codes "kind") at
+gds_line (gds_faults.Size at) = gds_fault (codes "size") at
+gds_line (gds_faults.Order at) = gds_fault (codes "order") at
+gds_line (gds_faults.Value at rule) = codes "layout refused: gdsii value at " ++ decimal at ++ codes " rule " ++ decimal rule ++ codes "\n"
+gds_line (gds_faults.Tail at) = gds_fault (codes "tail") at
+gds_line (gds_faults.Unit bits) = codes "layout refused: gdsii unit " ++ hex_text bits ++ codes "\n"
+gds_line (gds_faults.Twice first second) =
+    codes "layout refused: gdsii name at " ++ decimal second ++ codes " repeats " ++ decimal first ++ codes "\n"
+gds_line gds_faults.NoMemory = memory_line
+
+-- a layout that is refused below this top cell
+unfoldable pub tree_line : List ℕ → TreeBad → List ℕ
+tree_line top tree_faults.NoTop = codes "layout refused: no cell " ++ top ++ codes "\n"
+tree_line top (tree_faults.Unknown cell name) = codes "layout refused: cell " ++ cell ++ codes " places unknown " ++ name ++ codes "\n"
+tree_line top (tree_faults.Cycle names) = codes "layout refused: cycle" ++ names_text names ++ codes "\n"
+tree_line top (tree_faults.Deep names) = codes "layout refused: deep" ++ names_text names ++ codes "\n"
+tree_line top (tree_faults.Scale value names) =
+    codes "layout refused: scale " ++ signed_decimal value ++ names_text names ++ codes "\n"
+tree_line top (tree_faults.Fixed value cell) =
+    codes "layout refused: fixed width " ++ cell ++ codes " scale " ++ signed_decimal value ++ codes "\n"
+tree_line top (tree_faults.Extent value) = codes "layout refused: extent " ++ signed_decimal value ++ codes "\n"
+tree_line top (tree_faults.Count cell value) = codes "layout refused: count " ++ cell ++ codes " " ++ decimal value ++ codes "\n"
+tree_line top tree_faults.NoMemory = memory_line

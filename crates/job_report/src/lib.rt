@@ -1,0 +1,22 @@
+//! What the program says on standard output besides listings: the report of a command that was done, and the line of a
+//! refused deck or layout.
+//!
+//! A line is a few pieces of text and numbers. What is said goes through a buffer on the stack. Nothing here takes memory.
+#![tactic(auto)]
+
+mod decks;
+mod hexadecimal;
+mod layouts;
+mod pieces;
+mod report;
+mod saying;
+#[cfg(test)]
+mod tests;
+mod trees;
+
+pub use decks::deck_line;
+pub use layouts::{Format, gds_line};
+pub use pieces::{Line, Piece};
+pub use report::say_report;
+pub use saying::say_pieces;
+pub use trees::tree_line;

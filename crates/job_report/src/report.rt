@@ -1,0 +1,126 @@
+//! The report of a command that was done.
+ghost use Rattle.std.specs.Prelude.{◌≡◌, IsTrue, OnOk, OnErr, IsErrOf, ◌++◌, length, flat_map};
+ghost use Rattle.std.specs.List.{zip};
+ghost use Rattle.depot.specs.Content.{with_said, IsPartSaid};
+ghost use Rattle.depot.specs.Counts.{Rose, NeverFall};
+ghost use Rattle.shot_listing.specs.Saying.{IsSaidButFor};
+ghost use Rattle.job_report.specs.Pieces.{spelled};
+ghost use Rattle.job_report.specs.Report.{format_name, layout_lines, output_line, report};
+
+use crate::layouts::Format;
+use crate::pieces::Piece;
+use crate::saying::put_pieces;
+use deck_text::Output;
+use depot::{Buffer, Depot, DepotBad};
+use layout_model::Counts;
+use shot_listing::flush;
+use shot_writer::Sums;
+
+fn format_name(format: Format) -> &'static str
+    ensures { result.now ≡ format_name format }
+{
+    match format {
+        Format::Gdsii => "gdsii",
+        Format::Oasis => "oasis",
+    }
+}
+
+// What is said of a layout, as pieces.
+#[tactic(auto, unfolding(crate::specs::Report::layout_lines))]
+fn layout_pieces(format: Format, cells: usize, counts: &Counts) -> [Piece<'static>; 17]
+    ensures { spelled result ≡ layout_lines format cells counts.now }
+{
+    [
+        Piece::Text(b"format "),
+        Piece::Text(format_name(format).as_bytes()),
+        Piece::Text(b"\ncells "),
+        Piece::Count(cells as u128),
+        Piece::Text(b"\nkept "),
+        Piece::Count(u128::from(counts.kept)),
+        Piece::Text(b"\nother "),
+        Piece::Count(u128::from(counts.other)),
+        Piece::Text(b"\ntexts "),
+        Piece::Count(u128::from(counts.texts)),
+        Piece::Text(b"\nnodes "),
+        Piece::Count(u128::from(counts.nodes)),
+        Piece::Text(b"\nboxes "),
+        Piece::Count(u128::from(counts.boxes)),
+        Piece::Text(b"\nproperties "),
+        Piece::Count(u128::from(counts.properties)),
+        Piece::Text(b"\n"),
+    ]
+}
+
+// The line of an output, as pieces.
+#[tactic(auto, unfolding(crate::specs::Report::output_line))]
+fn output_pieces<'a>(word: &'a str, output: &'a Output, sums: &Sums) -> [Piece<'a>; 8]
+    ensures { spelled result ≡ output_line word.now (output.now, sums.now) }
+{
+    [
+        Piece::Text(word.as_bytes()),
+        Piece::Text(b" "),
+        Piece::Text(output.file.as_str().as_bytes()),
+        Piece::Text(b" shots "),
+        Piece::Count(sums.shots),
+        Piece::Text(b" triangles "),
+        Piece::Count(sums.triangles),
+        Piece::Text(b"\n"),
+    ]
+}
+
+// Puts the lines of the outputs.
+fn put_outputs<D: Depot>(
+    depot: &mut D,
+    buffer: &mut Buffer,
+    word: &str,
+    outputs: &[Output],
+    sums: &[Sums],
+) -> Result<(), DepotBad>
+    requires { length outputs.now ≡ length sums.now }
+    ensures ok { OnOk result (IsTrue D.tells → IsSaidButFor (D.content depot.old)
+        (buffer.old ++ flat_map (output_line word.now) (zip outputs.now sums.now)) buffer.new (D.content depot.new)) }
+    ensures refused { OnErr result (IsTrue D.tells → IsPartSaid (D.content depot.old)
+        (buffer.old ++ flat_map (output_line word.now) (zip outputs.now sums.now)) (D.content depot.new)) }
+    ensures failed { IsErrOf result DepotBad.Failed
+        → Rose (D.counts depot.old).write_faults (D.counts depot.new).write_faults }
+    ensures no_memory { IsErrOf result DepotBad.NoMemory
+        → Rose (D.counts depot.old).refused (D.counts depot.new).refused }
+    ensures uncounted { OnOk result (D.counts depot.new ≡ D.counts depot.old) }
+    ensures reads { (D.counts depot.new).read_faults ≡ (D.counts depot.old).read_faults }
+    ensures counted { NeverFall (D.counts depot.old) (D.counts depot.new) }
+{
+    for k in 0..outputs.len() {
+        put_pieces(depot, buffer, &output_pieces(word, &outputs[k], &sums[k]))?;
+    }
+    Ok(())
+}
+
+/// Says the report: the layout's format, the number of its cells, its counts, and for each output a line behind the word
+/// with its sums. After a refusal a prefix of it was said. It takes time linear in the text, and no memory.
+pub fn say_report<D: Depot>(
+    depot: &mut D,
+    format: Format,
+    cells: usize,
+    counts: &Counts,
+    word: &str,
+    outputs: &[Output],
+    sums: &[Sums],
+) -> Result<(), DepotBad>
+    requires { length outputs.now ≡ length sums.now }
+    ensures ok { OnOk result (IsTrue D.tells → D.content depot.new ≡ with_said (D.content depot.old)
+        (report format cells counts.now word.now outputs.now sums.now)) }
+    ensures refused { OnErr result (IsTrue D.tells → IsPartSaid (D.content depot.old)
+        (report format cells counts.now word.now outputs.now sums.now) (D.content depot.new)) }
+    ensures failed { IsErrOf result DepotBad.Failed
+        → Rose (D.counts depot.old).write_faults (D.counts depot.new).write_faults }
+    ensures no_memory { IsErrOf result DepotBad.NoMemory
+        → Rose (D.counts depot.old).refused (D.counts depot.new).refused }
+    ensures uncounted { OnOk result (D.counts depot.new ≡ D.counts depot.old) }
+    ensures reads { (D.counts depot.new).read_faults ≡ (D.counts depot.old).read_faults }
+    ensures counted { NeverFall (D.counts depot.old) (D.counts depot.new) }
+{
+    let mut buffer = Buffer::new();
+    put_pieces(depot, &mut buffer, &layout_pieces(format, cells, counts))?;
+    put_outputs(depot, &mut buffer, word, outputs, sums)?;
+    flush(depot, &mut buffer)
+}

@@ -1,0 +1,117 @@
+//! Pieces that are said one after another.
+ghost use Rattle.std.specs.Prelude.{◌≡◌, IsTrue, OnOk, OnErr, IsErrOf, ◌∷◌, ◌++◌};
+ghost use Rattle.depot.specs.Content.{with_said, IsPartSaid};
+ghost use Rattle.depot.specs.Counts.{Rose, NeverFall};
+ghost use Rattle.shot_listing.specs.Saying.{IsSaidButFor};
+ghost use Rattle.job_report.specs.Pieces.{names_text, text_of, spelled};
+
+use crate::hexadecimal::digits_of;
+use crate::pieces::Piece;
+use depot::{Buffer, Depot, DepotBad};
+use layout_model::Name;
+use shot_listing::{flush, put_piece};
+
+// Puts a name behind a space.
+fn put_name<D: Depot>(depot: &mut D, buffer: &mut Buffer, name: &Name) -> Result<(), DepotBad>
+    ensures ok { OnOk result (IsTrue D.tells → IsSaidButFor
+        (D.content depot.old) (buffer.old ++ (32 ∷ name.now)) buffer.new (D.content depot.new)) }
+    ensures refused { OnErr result (IsTrue D.tells → IsPartSaid
+        (D.content depot.old) (buffer.old ++ (32 ∷ name.now)) (D.content depot.new)) }
+    ensures failed { IsErrOf result DepotBad.Failed
+        → Rose (D.counts depot.old).write_faults (D.counts depot.new).write_faults }
+    ensures no_memory { IsErrOf result DepotBad.NoMemory
+        → Rose (D.counts depot.old).refused (D.counts depot.new).refused }
+    ensures uncounted { OnOk result (D.counts depot.new ≡ D.counts depot.old) }
+    ensures reads { (D.counts depot.new).read_faults ≡ (D.counts depot.old).read_faults }
+    ensures counted { NeverFall (D.counts depot.old) (D.counts depot.new) }
+{
+    put_piece(depot, buffer, b" ")?;
+    put_piece(depot, buffer, name.bytes())
+}
+
+// Puts names, each behind a space.
+fn put_names<D: Depot>(depot: &mut D, buffer: &mut Buffer, names: &[Name]) -> Result<(), DepotBad>
+    ensures ok { OnOk result (IsTrue D.tells → IsSaidButFor
+        (D.content depot.old) (buffer.old ++ names_text names.now) buffer.new (D.content depot.new)) }
+    ensures refused { OnErr result (IsTrue D.tells → IsPartSaid
+        (D.content depot.old) (buffer.old ++ names_text names.now) (D.content depot.new)) }
+    ensures failed { IsErrOf result DepotBad.Failed
+        → Rose (D.counts depot.old).write_faults (D.counts depot.new).write_faults }
+    ensures no_memory { IsErrOf result DepotBad.NoMemory
+        → Rose (D.counts depot.old).refused (D.counts depot.new).refused }
+    ensures uncounted { OnOk result (D.counts depot.new ≡ D.counts depot.old) }
+    ensures reads { (D.counts depot.new).read_faults ≡ (D.counts depot.old).read_faults }
+    ensures counted { NeverFall (D.counts depot.old) (D.counts depot.new) }
+{
+    for name in names {
+        put_name(depot, buffer, name)?;
+    }
+    Ok(())
+}
+
+// Puts what a piece says.
+fn put_one<D: Depot>(depot: &mut D, buffer: &mut Buffer, piece: &Piece) -> Result<(), DepotBad>
+    ensures ok { OnOk result (IsTrue D.tells → IsSaidButFor
+        (D.content depot.old) (buffer.old ++ text_of piece.now) buffer.new (D.content depot.new)) }
+    ensures refused { OnErr result (IsTrue D.tells → IsPartSaid
+        (D.content depot.old) (buffer.old ++ text_of piece.now) (D.content depot.new)) }
+    ensures failed { IsErrOf result DepotBad.Failed
+        → Rose (D.counts depot.old).write_faults (D.counts depot.new).write_faults }
+    ensures no_memory { IsErrOf result DepotBad.NoMemory
+        → Rose (D.counts depot.old).refused (D.counts depot.new).refused }
+    ensures uncounted { OnOk result (D.counts depot.new ≡ D.counts depot.old) }
+    ensures reads { (D.counts depot.new).read_faults ≡ (D.counts depot.old).read_faults }
+    ensures counted { NeverFall (D.counts depot.old) (D.counts depot.new) }
+{
+    let mut digits = itoa::Buffer::new();
+    match piece {
+        Piece::Text(bytes) => put_piece(depot, buffer, bytes),
+        Piece::Count(number) => put_piece(depot, buffer, digits.format(*number).as_bytes()),
+        Piece::Number(number) => put_piece(depot, buffer, digits.format(*number).as_bytes()),
+        Piece::Bits(bits) => put_piece(depot, buffer, digits_of(*bits).bytes()),
+        Piece::Names(names) => put_names(depot, buffer, names),
+    }
+}
+
+/// Puts what the pieces say, one after another.
+pub(crate) fn put_pieces<D: Depot>(
+    depot: &mut D,
+    buffer: &mut Buffer,
+    pieces: &[Piece],
+) -> Result<(), DepotBad>
+    ensures ok { OnOk result (IsTrue D.tells → IsSaidButFor
+        (D.content depot.old) (buffer.old ++ spelled pieces.now) buffer.new (D.content depot.new)) }
+    ensures refused { OnErr result (IsTrue D.tells → IsPartSaid
+        (D.content depot.old) (buffer.old ++ spelled pieces.now) (D.content depot.new)) }
+    ensures failed { IsErrOf result DepotBad.Failed
+        → Rose (D.counts depot.old).write_faults (D.counts depot.new).write_faults }
+    ensures no_memory { IsErrOf result DepotBad.NoMemory
+        → Rose (D.counts depot.old).refused (D.counts depot.new).refused }
+    ensures uncounted { OnOk result (D.counts depot.new ≡ D.counts depot.old) }
+    ensures reads { (D.counts depot.new).read_faults ≡ (D.counts depot.old).read_faults }
+    ensures counted { NeverFall (D.counts depot.old) (D.counts depot.new) }
+{
+    for piece in pieces {
+        put_one(depot, buffer, piece)?;
+    }
+    Ok(())
+}
+
+/// Says the pieces one after another. After a refusal a prefix of the whole was said.
+pub fn say_pieces<D: Depot>(depot: &mut D, pieces: &[Piece]) -> Result<(), DepotBad>
+    ensures ok { OnOk result (IsTrue D.tells → D.content depot.new
+        ≡ with_said (D.content depot.old) (spelled pieces.now)) }
+    ensures refused { OnErr result (IsTrue D.tells → IsPartSaid
+        (D.content depot.old) (spelled pieces.now) (D.content depot.new)) }
+    ensures failed { IsErrOf result DepotBad.Failed
+        → Rose (D.counts depot.old).write_faults (D.counts depot.new).write_faults }
+    ensures no_memory { IsErrOf result DepotBad.NoMemory
+        → Rose (D.counts depot.old).refused (D.counts depot.new).refused }
+    ensures uncounted { OnOk result (D.counts depot.new ≡ D.counts depot.old) }
+    ensures reads { (D.counts depot.new).read_faults ≡ (D.counts depot.old).read_faults }
+    ensures counted { NeverFall (D.counts depot.old) (D.counts depot.new) }
+{
+    let mut buffer = Buffer::new();
+    put_pieces(depot, &mut buffer, pieces)?;
+    flush(depot, &mut buffer)
+}
