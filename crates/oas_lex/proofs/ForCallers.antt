@@ -1,7 +1,7 @@
 -- What crates above may cite: the spellings of integers and of shots, over plain variables.
 pub use Rattle.oas_lex.proofs.Groups.{groups_last, groups_next, unsigned_spells, unsigned_least, length_unsigned}
 pub use Rattle.oas_lex.proofs.Codes.{signed_spells, code_below, code_names}
-pub use Rattle.oas_lex.proofs.Wholes.{none_begins}
+pub use Rattle.oas_lex.proofs.Wholes.{none_begins, whole_some}
 pub use Rattle.oas_lex.proofs.Reading.{has_one, has_not_wide, ends_not_has, ends_not_wide, rest_is}
 pub use Rattle.oas_lex.proofs.SpellingLemmas.{signed_least, unsigned_back, signed_back, one_signed}
 -- The numbers of a shot's record: how near to 0 they are, and that they name the shot.

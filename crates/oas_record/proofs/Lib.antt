@@ -1,0 +1,13 @@
+pub mod Ends
+pub mod ListLemmas
+pub mod Refusals
+pub mod RepLemmas
+pub mod ValueLemmas
+pub mod Joins
+pub mod Switches
+pub mod RecordLemmas
+pub mod Readers
+pub mod RepReaders
+pub mod FieldReaders
+pub mod SameRecords
+pub mod RecordReaders

@@ -1,0 +1,30 @@
+-- What a reader of one row gives: the record of this id whose info byte and fields stand there, or what is wrong.
+use Rattle.std.specs.Prelude.{ℕ, ◌<◌, ◌≡◌, ◌⊎◌, Bool, false, Option, Some, None, List, [], length, slice_index}
+use Rattle.oas_record.specs.Faults.{NoBytes}
+use Rattle.oas_record.specs.Records.{id_of, info_of, fields_of, row_at, HasRow, NoRow}
+use Rattle.oas_record.specs.Rows.{Info, allows, Part, Row}
+use Rattle.oas_record.specs.declared.faults.RecordBad.{RecordBad}
+use Rattle.oas_record.specs.declared.faults.RecordBad.TheVariants as faults
+use Rattle.oas_record.specs.declared.records.OasRecord.{OasRecord}
+
+abbrev parts_in : Option Row → List Part
+parts_in (Some row) = row.parts
+parts_in None = []
+
+-- the fields of the row of an id
+abbrev pub parts_at : ℕ → List Part
+parts_at id = parts_in (row_at id)
+
+-- the record is of this id, and what follows its id stands from `at` up to before `next`
+pub record IsOf (id : ℕ) (tables : Bool) (bytes : List ℕ) (at : ℕ) (r : OasRecord) (next : ℕ) : Type 0 where
+  pub id_is : id_of r ≡ id
+  pub row : HasRow (row_at id) tables bytes at (info_of r) (fields_of r) next
+
+-- memory was wanting, or what follows this id doesn't stand at `at`, for this cause
+abbrev pub NotOf : ℕ → Bool → List ℕ → ℕ → RecordBad → Type 0
+NotOf id tables bytes at bad = (bad ≡ faults.NoMemory) ⊎ NoRow (row_at id) id tables bytes at bad
+
+-- no info byte that is allowed stands at `at`, for this cause
+abbrev pub NoInfoByte : Info → List ℕ → ℕ → RecordBad → Type 0
+NoInfoByte info bytes at bad =
+    NoBytes bytes at 1 bad ⊎ ((at < length bytes) × (allows info (slice_index bytes at) ≡ false) × (bad ≡ faults.Shape))

@@ -1,0 +1,37 @@
+//! Records of an OASIS file (SEMI P39, version 1.0): the record at an offset with its written and its absent fields, or
+//! the first byte that breaks.
+#![tactic(auto)]
+
+mod delta_form;
+mod extensions;
+mod faults;
+mod fields;
+mod file_fields;
+mod file_rows;
+mod info;
+mod laws;
+mod lexical;
+mod lists;
+mod name_rows;
+mod optional;
+mod path_rows;
+mod placement_rows;
+mod property_rows;
+mod property_values;
+mod reading;
+mod records;
+mod repetition;
+mod repetition_readers;
+mod segments;
+mod shape_rows;
+mod values;
+
+pub use faults::RecordBad;
+pub use fields::{Called, Deltas, Interval};
+pub use laws::record_laws;
+pub use reading::record_at;
+pub use records::OasRecord;
+pub use repetition::Rep;
+
+#[cfg(test)]
+mod tests;

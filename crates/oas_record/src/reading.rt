@@ -1,0 +1,117 @@
+//! The record at an offset.
+
+ghost use Rattle.std.specs.Prelude.{◌≡◌, ◌⊎◌, ◌<◌, ◌≤◌, ℕ, Ok, Err, length, IfOk, IfErr};
+ghost use Rattle.oas_record.specs.Parts.{IsOf, NotOf};
+ghost use Rattle.oas_record.specs.Records.{HasRecord, NoRecord};
+ghost use Rattle.oas_record.specs.declared.faults.RecordBad.{RecordBad as ABad};
+ghost use Rattle.oas_record.specs.declared.faults.RecordBad.TheVariants.{NoMemory as Wanting};
+ghost use Rattle.oas_record.specs.declared.records.OasRecord.{OasRecord as ARecord};
+
+use crate::faults::RecordBad;
+use crate::file_rows::{end, start};
+use crate::lexical::byte_at;
+use crate::name_rows::{
+    cell, cell_name, layer_name, numbered_cell, numbered_cell_name, numbered_prop_name,
+    numbered_prop_string, numbered_text_string, numbered_xname, prop_name, prop_string,
+    text_layer_name, text_string, xelement, xname,
+};
+use crate::path_rows::path;
+use crate::placement_rows::{placement, text_record, turned_placement};
+use crate::property_rows::property;
+use crate::records::OasRecord;
+use crate::shape_rows::{
+    circle, ctrapezoid, polygon, rectangle, trapezoid, trapezoid_a, trapezoid_b, xgeometry,
+};
+use std::alloc::Global;
+
+// The record of this id, whose info byte or first field stands at `at`, and the offset after it.
+fn rest_at(
+    alloc: Global,
+    bytes: &[u8],
+    at: usize,
+    id: u8,
+    tables: bool,
+) -> Result<(OasRecord, usize), RecordBad>
+    requires { at ≤ length bytes.now }
+    ensures ok { IfOk result (λ r. IsOf id tables bytes.now at r.0 r.1) }
+    ensures bad { IfErr result (λ bad. NotOf id tables bytes.now at bad) }
+    ensures within { IfOk result (λ r. r.1 ≤ length bytes.now) }
+{
+    match id {
+        0 => Ok((OasRecord::Pad, at)),
+        1 => start(bytes, at),
+        2 => end(bytes, at, tables),
+        3 => cell_name(bytes, at),
+        4 => numbered_cell_name(bytes, at),
+        5 => text_string(bytes, at),
+        6 => numbered_text_string(bytes, at),
+        7 => prop_name(bytes, at),
+        8 => numbered_prop_name(bytes, at),
+        9 => prop_string(bytes, at),
+        10 => numbered_prop_string(bytes, at),
+        11 => layer_name(bytes, at),
+        12 => text_layer_name(bytes, at),
+        13 => numbered_cell(bytes, at),
+        14 => cell(bytes, at),
+        15 => Ok((OasRecord::XyAbsolute, at)),
+        16 => Ok((OasRecord::XyRelative, at)),
+        17 => placement(alloc, bytes, at),
+        18 => turned_placement(alloc, bytes, at),
+        19 => text_record(alloc, bytes, at),
+        20 => rectangle(alloc, bytes, at),
+        21 => polygon(alloc, bytes, at),
+        22 => path(alloc, bytes, at),
+        23 => trapezoid(alloc, bytes, at),
+        24 => trapezoid_a(alloc, bytes, at),
+        25 => trapezoid_b(alloc, bytes, at),
+        26 => ctrapezoid(alloc, bytes, at),
+        27 => circle(alloc, bytes, at),
+        28 => property(bytes, at),
+        29 => Ok((OasRecord::LastProperty, at)),
+        30 => xname(bytes, at),
+        31 => numbered_xname(bytes, at),
+        32 => xelement(bytes, at),
+        33 => xgeometry(alloc, bytes, at),
+        34 => Err(RecordBad::Packed),
+        _ => Err(RecordBad::Kind),
+    }
+}
+
+// The record at `at`, and the offset after it.
+fn read_record(
+    alloc: Global,
+    bytes: &[u8],
+    at: usize,
+    tables: bool,
+) -> Result<(OasRecord, usize), RecordBad>
+    requires { at ≤ length bytes.now }
+    ensures ok { IfOk result (λ r. HasRecord bytes.now at tables r.0 r.1) }
+    ensures bad { IfErr result (λ bad. (bad ≡ Wanting) ⊎ NoRecord bytes.now at tables bad) }
+    ensures within { IfOk result (λ r. r.1 ≤ length bytes.now) }
+{
+    let id = byte_at(bytes, at)?;
+    rest_at(alloc, bytes, at + 1, id, tables)
+}
+
+/// The record at `at` with its written and its absent fields, and the offset after it; else what the first byte that
+/// breaks shows. `tables` says whether END holds the table offsets.
+///
+/// A record without a list takes no memory, and a list takes memory as it is read.
+pub fn record_at(
+    alloc: Global,
+    bytes: &[u8],
+    at: usize,
+    tables: bool,
+) -> Result<(OasRecord, usize), RecordBad>
+    requires { at ≤ length bytes.now }
+    ensures ok { IfOk result (λ r. HasRecord bytes.now at tables r.0 r.1) }
+    ensures bad { IfErr result (λ bad. (bad ≡ Wanting) ⊎ NoRecord bytes.now at tables bad) }
+    ensures found { (r : ARecord) (next : ℕ) → HasRecord bytes.now at tables r next → (result ≡ Ok (r, next)) ⊎ (result ≡ Err Wanting) }
+    ensures refused { (bad : ABad) → NoRecord bytes.now at tables bad → (result ≡ Err bad) ⊎ (result ≡ Err Wanting) }
+
+    // So a loop over the records ends, and the next one can be read.
+    ensures onward { IfOk result (λ r. at < r.1) }
+    ensures within { IfOk result (λ r. r.1 ≤ length bytes.now) }
+{
+    read_record(alloc, bytes, at, tables)
+}
