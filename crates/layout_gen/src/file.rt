@@ -56,6 +56,8 @@ pub fn generate<D: Depot>(depot: &mut D, n: u16, name: &str) -> Result<u64, Depo
         → Rose (D.counts depot.old).write_faults (D.counts depot.new).write_faults }
     ensures no_memory { IsErrOf result DepotBad.NoMemory
         → Rose (D.counts depot.old).refused (D.counts depot.new).refused }
+    ensures uncounted { OnOk result (D.counts depot.new ≡ D.counts depot.old) }
+    ensures reads { (D.counts depot.new).read_faults ≡ (D.counts depot.old).read_faults }
     ensures counted { NeverFall (D.counts depot.old) (D.counts depot.new) }
 {
     let file = file_of(n);

@@ -1,156 +1,248 @@
 -- From the table of answers, and the line that is said after it, to the rows of the program's call.
-use Rattle.std.proofs.Common.{◌≡◌, ◌≢◌, ◌⊎◌, inl, inr, ℕ, List, [], ◌++◌, length, take, refl, sym, ap, subst, ◌∙◌}
+use Rattle.std.proofs.Common.{◌≡◌, ◌≢◌, ◌⊎◌, inl, inr, ℕ, ◌≤◌, Bool, List, [], ◌++◌, length, take, Option, None, Some, refl, sym, ap, subst, ◌∙◌, arith, append_assoc}
+use Rattle.std.specs.Prelude.{IsTrue}
 use Rattle.std.proofs.lemmas.List.{append-nil}
 use Rattle.std.proofs.Math.Seq.{take-length}
-use Rattle.depot.specs.Content.{Content, ChangesLeftOnly, with_left, with_said, IsPartSaid, IsPartMade}
+use Rattle.depot.specs.Content.{Content, ChangesLeftOnly, with_left, with_said, with_file, with_current, IsPartSaid, IsPartMade}
 use Rattle.depot.specs.Counts.{Counts, NeverFall, Rose}
 use Rattle.depot.proofs.ForCallers.{Rose-later, Rose-earlier}
-use Rattle.mdp_job.specs.Words.{IsShots, file_word}
-use Rattle.mdp_job.specs.FirstDeck.{DeckData}
-use Rattle.mdp_job.specs.FirstLayout.{LayoutData}
-use Rattle.mdp_job.specs.Answers.{IsAnswer, HoldsBoth, WritesPart}
+use Rattle.layout_gen.specs.Generated.{generated}
+use Rattle.shot_writer.specs.declared.parts.Sums.{Sums}
+use Rattle.shot_output.specs.Laws.{HasRules}
+use Rattle.shot_output.specs.Files.{AreCutShort}
+use Rattle.job_input.specs.Accepted.{HoldsInput}
+use Rattle.job_input.specs.declared.reading.Input.{Input}
+use Rattle.mdp_job.specs.Words.{IsFracture, IsShots, IsGenerate, file_word}
+use Rattle.mdp_job.specs.Runs.{run_of, WriteRose, RefusedRose}
+use Rattle.mdp_job.specs.Outputs.{plan_of, report_on, AreCovered, AreEconomic, AreSummed, IsReported, AreSpoiled}
 use Rattle.mdp_job.specs.Listings.{ShotData, HoldsShots, IsListingAnswer, listed}
-use Rattle.mdp_job.specs.Lines.{line_of}
-use Rattle.mdp_job.specs.Parts.{run_of, IsAnswerTo, CountsFor}
-use Rattle.mdp_job.specs.Clauses.{MaySay, SaysLine, Says, IsRefusal, Spares, Keeps, Spoils, Covers, Lists, FaultsTold}
+use Rattle.mdp_job.specs.Generating.{IsGeneratedSo, IsHalfGenerated, generated_line}
+use Rattle.mdp_job.specs.Lines.{line_of, name_of}
+use Rattle.mdp_job.specs.Parts.{IsAllWritten, IsDone, IsUnsaid, IsMade, IsAnswer, IsAnswerTo, CountsFor}
+use Rattle.mdp_job.specs.Clauses.{Covers, Spares, Reports, Generates, Lists, IsTextOf, MaySay, SaysLine, Says, IsRefusal, Refuses, Keeps, Spoils, FaultsTold}
 use Rattle.mdp_job.specs.declared.status.Status.{Status}
 use Rattle.mdp_job.specs.declared.status.Status.TheVariants as answers
-use Rattle.mdp_job.specs.declared.status.DeckFault.TheVariants as deck_faults
-use Rattle.mdp_job.specs.declared.status.LayoutFault.TheVariants as layout_faults
 use Rattle.mdp_job.specs.declared.status.CheckFault.TheVariants as check_faults
-use Rattle.mdp_job.proofs.RowLemmas.{answer_for}
-use Rattle.mdp_job.proofs.ListingRows.{listing_for}
+use Rattle.mdp_job.proofs.Rows.{Given, done_given, left_or_made, refusal_left}
+use Rattle.mdp_job.proofs.Table.{fracture_for, listing_for, generate_for, top_of}
+use Rattle.mdp_job.proofs.ListingRows.{listing_done}
+use Rattle.mdp_job.proofs.Written.{rules, all_covered, all_economic, all_summed, covered_then, cut_spoiled, unsaid_spoiled, cut_said, written_said}
 
 -- What the program's call knows: b, m, a are the contents before the command, after it and after the line, and o, p, q the
--- counts.
-pub record Ends (b m a : Content) (o p q : Counts) (words : List (List ℕ)) (s : Status) : Type 0 where
-  pub table : IsAnswerTo (run_of b m o p) words s
+-- counts; top is the name that the line may need.
+pub record Ends (tells : Bool) (b m a : Content) (o p q : Counts) (words : List (List ℕ)) (s : Status) (top : Option (List ℕ)) : Type 0 where
+  pub told : IsTrue tells
+  pub table : IsAnswerTo tells (run_of b m o p) words s top
   pub earlier : NeverFall o p
   pub later : NeverFall p q
   pub done : s ≡ answers.Done → a ≡ m
-  pub part : IsPartSaid m (line_of (file_word words) s) a
-  pub whole : (a ≡ with_said m (line_of (file_word words) s)) ⊎ Rose p.write_faults q.write_faults ⊎ Rose p.refused q.refused
+  pub part : IsPartSaid m (line_of (file_word words) (name_of top) s) a
+  pub whole : (a ≡ with_said m (line_of (file_word words) (name_of top) s)) ⊎ Rose p.write_faults q.write_faults ⊎ Rose p.refused q.refused
 
--- ---- the counts at the end
+-- ---- after Done
 
-fracture_later : (b m : Content) (o p q : Counts) (layout deck : List ℕ) (s : Status) → NeverFall p q → IsAnswer (run_of b m o p) layout deck s → IsAnswer (run_of b m o q) layout deck s
-fracture_later b m o p q layout deck answers.Done later a = a
-fracture_later b m o p q layout deck answers.Words later a = a
-fracture_later b m o p q layout deck (answers.Deck deck_faults.Long) later a = a
-fracture_later b m o p q layout deck (answers.Deck deck_faults.Early) later a = a
-fracture_later b m o p q layout deck (answers.Layout layout_faults.Long) later a = a
-fracture_later b m o p q layout deck (answers.Layout layout_faults.Early) later a = a
-fracture_later b m o p q layout deck answers.ReadFault later (inl rose, rest) = (inl (Rose-earlier o.read_faults p.read_faults q.read_faults rose later.read_faults), rest)
-fracture_later b m o p q layout deck answers.ReadFault later (inr want, rest) = (inr want, rest)
-fracture_later b m o p q layout deck answers.WriteFault later (rose, d, l, h, w) = (Rose-earlier o.write_faults p.write_faults q.write_faults rose later.write_faults, d, l, h, w)
-fracture_later b m o p q layout deck answers.NoMemory later (inl rest, missing) = (inl rest, λ none. Rose-earlier o.refused p.refused q.refused (missing none) later.refused)
-fracture_later b m o p q layout deck answers.NoMemory later (inr (rose, d, l, h, w), missing) =
-    (inr (Rose-earlier o.refused p.refused q.refused rose later.refused, d, l, h, w), λ none. Rose-earlier o.refused p.refused q.refused (missing none) later.refused)
-fracture_later b m o p q layout deck (answers.No place fault) later a = absurd a
+write_done : answers.WriteFault ≡ answers.Done → ⊥
+write_done e = cc
 
-listing_later : (b m : Content) (o p q : Counts) (file : List ℕ) (s : Status) → NeverFall p q → IsListingAnswer (run_of b m o p) file s → IsListingAnswer (run_of b m o q) file s
-listing_later b m o p q file answers.Done later a = a
-listing_later b m o p q file answers.Words later a = a
-listing_later b m o p q file (answers.Deck fault) later a = absurd a
-listing_later b m o p q file (answers.Layout fault) later a = absurd a
-listing_later b m o p q file answers.ReadFault later (inl rose, rest) = (inl (Rose-earlier o.read_faults p.read_faults q.read_faults rose later.read_faults), rest)
-listing_later b m o p q file answers.ReadFault later (inr missing, rest) = (inr missing, rest)
-listing_later b m o p q file answers.WriteFault later (rose, s, h, part) = (Rose-earlier o.write_faults p.write_faults q.write_faults rose later.write_faults, s, h, part)
-listing_later b m o p q file answers.NoMemory later (inl rest, missing) = (inl rest, λ none. Rose-earlier o.refused p.refused q.refused (missing none) later.refused)
-listing_later b m o p q file answers.NoMemory later (inr (rose, s, h, part), missing) =
-    (inr (Rose-earlier o.refused p.refused q.refused rose later.refused, s, h, part), λ none. Rose-earlier o.refused p.refused q.refused (missing none) later.refused)
-listing_later b m o p q file (answers.No place check_faults.Long) later a = a
-listing_later b m o p q file (answers.No place (check_faults.Bad bad)) later a = a
+memory_done : answers.NoMemory ≡ answers.Done → ⊥
+memory_done e = cc
 
--- the table holds of the counts at the end too
-pub table_later : (b m : Content) (o p q : Counts) (words : List (List ℕ)) (s : Status) → NeverFall p q → IsAnswerTo (run_of b m o p) words s → IsAnswerTo (run_of b m o q) words s
-table_later b m o p q words s later (inl (layout, deck, is, a)) = inl (layout, deck, is, fracture_later b m o p q layout deck s later a)
-table_later b m o p q words s later (inr (inl (file, is, a))) = inr (inl (file, is, listing_later b m o p q file s later a))
-table_later b m o p q words s later (inr (inr none)) = inr (inr none)
+made_done : (tells : Bool) (b a : Content) (wr rr : Type 0) (input : Input) (s : Status) → IsMade tells b a wr rr input s → s ≡ answers.Done → IsDone tells b a input
+made_done tells b a wr rr input s (inl x) e = x.1
+made_done tells b a wr rr input s (inr (inl x)) e = absurd (write_done (sym x.0 ∙ e))
+made_done tells b a wr rr input s (inr (inr x)) e = absurd (memory_done (sym x.0 ∙ e))
+
+input_rules : (c : Content) (layout deck : List ℕ) (input : Input) → HoldsInput c layout deck input → HasRules input.deck
+input_rules c layout deck input h = rules h.holds_deck.bytes layout deck input.deck h.holds_deck.is_deck
+
+-- what is known after Done
+record Finished (tells : Bool) (b a : Content) (layout deck : List ℕ) : Type 0 where
+  input : Input
+  holds : HoldsInput b layout deck input
+  done : IsDone tells (with_left b []) a input
+
+finished : (tells : Bool) (b m a : Content) (o p q : Counts) (words : List (List ℕ)) (s : Status) (top : Option (List ℕ)) → Ends tells b m a o p q words s top → (layout deck : List ℕ) → IsFracture words layout deck → s ≡ answers.Done
+    → Finished tells b a layout deck
+finished tells b m a o p q words s top h layout deck is e =
+    let given = done_given tells (run_of b m o p) layout deck s top (fracture_for tells (run_of b m o p) words s top h.table layout deck is) e in
+    record {
+      input = given.input;
+      holds = given.holds;
+      done = subst (λ (c : Content). IsDone tells (with_left b []) c given.input) (sym (h.done e)) (made_done tells (with_left b []) m (Rose o.write_faults p.write_faults) (Rose o.refused p.refused) given.input s given.made e);
+    }
+
+pub covers : (tells : Bool) (b m a : Content) (o p q : Counts) (words : List (List ℕ)) (s : Status) (top : Option (List ℕ)) → Ends tells b m a o p q words s top → Covers (run_of b a o q) words s
+covers tells b m a o p q words s top h layout deck is e =
+    let f = finished tells b m a o p q words s top h layout deck is e in
+    (f.input, f.holds, covered_then tells f.input b f.done.whole a f.done.sums (report_on f.input f.done.sums) h.told (input_rules b layout deck f.input f.holds) f.done.written f.done.said)
+
+pub economy : (tells : Bool) (b m a : Content) (o p q : Counts) (words : List (List ℕ)) (s : Status) (top : Option (List ℕ)) → Ends tells b m a o p q words s top → Spares (run_of b a o q) words s
+economy tells b m a o p q words s top h layout deck is e =
+    let f = finished tells b m a o p q words s top h layout deck is e in
+    let economic = all_economic tells f.input (with_left b []) f.done.whole f.done.sums h.told (input_rules b layout deck f.input f.holds) f.done.written in
+    (f.input, f.holds, subst (λ files. AreEconomic files f.input) (sym (ap (λ (c : Content). c.made) f.done.said)) economic)
+
+pub reports : (tells : Bool) (b m a : Content) (o p q : Counts) (words : List (List ℕ)) (s : Status) (top : Option (List ℕ)) → Ends tells b m a o p q words s top → Reports (run_of b a o q) words s
+reports tells b m a o p q words s top h layout deck is e =
+    let f = finished tells b m a o p q words s top h layout deck is e in
+    let summed = all_summed tells f.input (with_left b []) f.done.whole f.done.sums h.told (input_rules b layout deck f.input f.holds) f.done.written in (
+      f.input,
+      f.holds,
+      record {
+        sums = f.done.sums;
+        summed = subst (λ files. AreSummed files f.input f.done.sums) (sym (ap (λ (c : Content). c.made) f.done.said)) summed;
+        said = ap (λ (c : Content). c.said) f.done.said ∙ ap (λ t. t ++ report_on f.input f.done.sums) (written_said tells f.input b f.done.whole f.done.sums h.told f.done.written);
+      },
+    )
+
+generated_done : (b a : Content) (wr rr : Type 0) (n : ℕ) (file : List ℕ) (s : Status) → IsGeneratedSo b a wr rr n file s → s ≡ answers.Done → a ≡ with_said (with_file b file (generated n)) (generated_line n)
+generated_done b a wr rr n file s (inl x) e = x.1
+generated_done b a wr rr n file s (inr (inl x)) e = absurd (write_done (sym x.0 ∙ e))
+generated_done b a wr rr n file s (inr (inr x)) e = absurd (memory_done (sym x.0 ∙ e))
+
+pub generates : (tells : Bool) (b m a : Content) (o p q : Counts) (words : List (List ℕ)) (s : Status) (top : Option (List ℕ)) → Ends tells b m a o p q words s top → Generates (run_of b a o q) words s
+generates tells b m a o p q words s top h n file is e =
+    h.done e ∙ generated_done b m (Rose o.write_faults p.write_faults) (Rose o.refused p.refused) n file s (generate_for tells (run_of b m o p) words s top h.table n file is) e
+
+pub lists : (tells : Bool) (b m a : Content) (o p q : Counts) (words : List (List ℕ)) (s : Status) (top : Option (List ℕ)) → Ends tells b m a o p q words s top → Lists (run_of b a o q) words s
+lists tells b m a o p q words s top h file is e =
+    let d = listing_done (run_of b m o p) file s (listing_for tells (run_of b m o p) words s top h.table file is) e in
+    (d.0, d.1, h.done e ∙ d.2)
 
 -- ---- what the command itself said
 
 left_said : (b m : Content) → ChangesLeftOnly b m → m.said ≡ b.said
 left_said b m e = ap (λ (c : Content). c.said) e
 
-made_said : (b m : Content) (file bytes : List ℕ) → IsPartMade (with_left b []) file bytes m → m.said ≡ b.said
-made_said b m file bytes (inl e) = ap (λ (c : Content). c.said) e
-made_said b m file bytes (inr (n, few, e)) = ap (λ (c : Content). c.said) e
-
-record Middle (b m : Content) (o q : Counts) (words : List (List ℕ)) (s : Status) : Type 0 where
+record Middle (b m a : Content) (o q : Counts) (words : List (List ℕ)) (s : Status) : Type 0 where
   text : List ℕ
-  may : MaySay (run_of b m o q) words s text
+  may : MaySay (run_of b a o q) words s text
   of_text : ℕ
   said : m.said ≡ b.said ++ take of_text text
 
-silent : (b m : Content) (o q : Counts) (words : List (List ℕ)) (s : Status) → m.said ≡ b.said → Middle b m o q words s
-silent b m o q words s e = record { text = []; may = inl refl; of_text = 0; said = e ∙ sym (append-nil b.said) }
+silent : (b m a : Content) (o q : Counts) (words : List (List ℕ)) (s : Status) → m.said ≡ b.said → Middle b m a o q words s
+silent b m a o q words s e = record { text = []; may = inl refl; of_text = 0; said = e ∙ sym (append-nil b.said) }
 
-fracture_silent : (b m : Content) (o p : Counts) (layout deck : List ℕ) (s : Status) → IsAnswer (run_of b m o p) layout deck s → s ≢ answers.Done → m.said ≡ b.said
-fracture_silent b m o p layout deck answers.Done a n = absurd (n refl)
-fracture_silent b m o p layout deck answers.Words a n = absurd a
-fracture_silent b m o p layout deck (answers.Deck deck_faults.Long) a n = left_said b m a.1
-fracture_silent b m o p layout deck (answers.Deck deck_faults.Early) a n = left_said b m a.1
-fracture_silent b m o p layout deck (answers.Layout layout_faults.Long) (d, h, x, rest) n = left_said b m rest
-fracture_silent b m o p layout deck (answers.Layout layout_faults.Early) (d, h, x, rest) n = left_said b m rest
-fracture_silent b m o p layout deck answers.ReadFault a n = left_said b m a.1
-fracture_silent b m o p layout deck answers.WriteFault (rose, d, l, h, (bytes, is, part)) n = made_said b m d.file bytes part
-fracture_silent b m o p layout deck answers.NoMemory (inl rest, missing) n = left_said b m rest
-fracture_silent b m o p layout deck answers.NoMemory (inr (rose, d, l, h, (bytes, is, part)), missing) n = made_said b m d.file bytes part
-fracture_silent b m o p layout deck (answers.No place fault) a n = absurd a
+-- a part of the report was said
+unsaid_middle : (tells : Bool) (b m a : Content) (o q : Counts) (words : List (List ℕ)) (s : Status) (layout deck : List ℕ) (input : Input) (x : List ℕ) → IsTrue tells
+    → (s ≡ answers.WriteFault) ⊎ ((s ≡ answers.NoMemory) × Rose o.refused q.refused) → IsFracture words layout deck → HoldsInput b layout deck input
+    → IsUnsaid tells (with_left b []) m input → a ≡ with_said m x → Middle b m a o q words s
+unsaid_middle tells b m a o q words s layout deck input x told which is holds w e =
+    let legal = input_rules b layout deck input holds in
+    let said = report_on input w.sums in
+    let front = take w.said.0 said in
+    let whole : a ≡ with_said w.whole (front ++ x) = e ∙ ap (λ (c : Content). with_said c x) w.said.2 ∙ ap (λ (t : List ℕ). record w.whole { said = t }) (append_assoc w.whole.said front x) in
+    record {
+      text = said;
+      may = inr (
+        which,
+        inl (
+          layout,
+          deck,
+          is,
+          input,
+          holds,
+          covered_then tells input b w.whole a w.sums (front ++ x) told legal w.written whole,
+          w.sums,
+          subst (λ files. AreSummed files input w.sums) (sym (ap (λ (c : Content). c.made) whole)) (all_summed tells input (with_left b []) w.whole w.sums told legal w.written),
+          refl,
+        ),
+      );
+      of_text = w.said.0;
+      said = ap (λ (c : Content). c.said) w.said.2 ∙ ap (λ t. t ++ front) (written_said tells input b w.whole w.sums told w.written);
+    }
 
-part_listed : (b m : Content) (o q : Counts) (words : List (List ℕ)) (s : Status) (file : List ℕ) (d : ShotData) → (s ≡ answers.WriteFault) ⊎ ((s ≡ answers.NoMemory) × Rose o.refused q.refused)
-    → IsShots words file → HoldsShots b file d → IsPartSaid (with_left b []) (listed d) m → Middle b m o q words s
-part_listed b m o q words s file d which is h (n, few, e) = record { text = listed d; may = inr (which, file, is, d, h, refl); of_text = n; said = ap (λ (c : Content). c.said) e }
+made_middle : (tells : Bool) (b m a : Content) (o p q : Counts) (words : List (List ℕ)) (s : Status) (layout deck : List ℕ) (input : Input) (x : List ℕ) → IsTrue tells → NeverFall p q → s ≢ answers.Done → IsFracture words layout deck
+    → HoldsInput b layout deck input → a ≡ with_said m x → IsMade tells (with_left b []) m (Rose o.write_faults p.write_faults) (Rose o.refused p.refused) input s → Middle b m a o q words s
+made_middle tells b m a o p q words s layout deck input x told later n is holds e (inl (f, done)) = absurd (n f)
+made_middle tells b m a o p q words s layout deck input x told later n is holds e (inr (inl (f, rose, inl cut))) = silent b m a o q words s (cut_said tells input b m told cut)
+made_middle tells b m a o p q words s layout deck input x told later n is holds e (inr (inl (f, rose, inr unsaid))) = unsaid_middle tells b m a o q words s layout deck input x told (inl f) is holds unsaid e
+made_middle tells b m a o p q words s layout deck input x told later n is holds e (inr (inr (f, inl same))) = silent b m a o q words s (ap (λ (c : Content). c.said) same)
+made_middle tells b m a o p q words s layout deck input x told later n is holds e (inr (inr (f, inr (inl cut)))) = silent b m a o q words s (cut_said tells input b m told cut)
+made_middle tells b m a o p q words s layout deck input x told later n is holds e (inr (inr (f, inr (inr (rose, unsaid))))) =
+    unsaid_middle tells b m a o q words s layout deck input x told (inr (f, Rose-earlier o.refused p.refused q.refused rose later.refused)) is holds unsaid e
 
-listing_middle : (b m : Content) (o p q : Counts) (words : List (List ℕ)) (file : List ℕ) (s : Status) → NeverFall p q → IsShots words file → IsListingAnswer (run_of b m o p) file s → s ≢ answers.Done
-    → Middle b m o q words s
-listing_middle b m o p q words file answers.Done later is a n = absurd (n refl)
-listing_middle b m o p q words file answers.Words later is a n = absurd a
-listing_middle b m o p q words file (answers.Deck fault) later is a n = absurd a
-listing_middle b m o p q words file (answers.Layout fault) later is a n = absurd a
-listing_middle b m o p q words file answers.ReadFault later is (x, rest) n = silent b m o q words answers.ReadFault (left_said b m rest)
-listing_middle b m o p q words file answers.WriteFault later is (rose, d, h, part) n = part_listed b m o q words answers.WriteFault file d (inl refl) is h part
-listing_middle b m o p q words file answers.NoMemory later is (inl rest, missing) n = silent b m o q words answers.NoMemory (left_said b m rest)
-listing_middle b m o p q words file answers.NoMemory later is (inr (rose, d, h, part), missing) n =
-    part_listed b m o q words answers.NoMemory file d (inr (refl, Rose-earlier o.refused p.refused q.refused rose later.refused)) is h part
-listing_middle b m o p q words file (answers.No place check_faults.Long) later is (e, x, rest) n = silent b m o q words (answers.No place check_faults.Long) (left_said b m rest)
-listing_middle b m o p q words file (answers.No place (check_faults.Bad bad)) later is (e, x, rest) n = silent b m o q words (answers.No place (check_faults.Bad bad)) (left_said b m rest)
+part_listed : (b m a : Content) (o q : Counts) (words : List (List ℕ)) (s : Status) (file : List ℕ) (d : ShotData) → (s ≡ answers.WriteFault) ⊎ ((s ≡ answers.NoMemory) × Rose o.refused q.refused)
+    → IsShots words file → HoldsShots b file d → IsPartSaid (with_left b []) (listed d) m → Middle b m a o q words s
+part_listed b m a o q words s file d which is h (n, few, e) = record { text = listed d; may = inr (which, inr (inl (file, is, d, h, refl))); of_text = n; said = ap (λ (c : Content). c.said) e }
 
-middle : (b m : Content) (o p q : Counts) (words : List (List ℕ)) (s : Status) → NeverFall p q → IsAnswerTo (run_of b m o p) words s → s ≢ answers.Done → Middle b m o q words s
-middle b m o p q words s later (inl (layout, deck, is, a)) n = silent b m o q words s (fracture_silent b m o p layout deck s a n)
-middle b m o p q words s later (inr (inl (file, is, a))) n = listing_middle b m o p q words file s later is a n
-middle b m o p q words s later (inr (inr (none, e, same))) n = silent b m o q words s (ap (λ (c : Content). c.said) same)
+listing_middle : (b m a : Content) (o p q : Counts) (words : List (List ℕ)) (file : List ℕ) (s : Status) → NeverFall p q → IsShots words file → IsListingAnswer (run_of b m o p) file s → s ≢ answers.Done
+    → Middle b m a o q words s
+listing_middle b m a o p q words file answers.Done later is x n = absurd (n refl)
+listing_middle b m a o p q words file answers.Words later is x n = absurd x
+listing_middle b m a o p q words file (answers.Deck fault) later is x n = absurd x
+listing_middle b m a o p q words file (answers.Layout fault) later is x n = absurd x
+listing_middle b m a o p q words file answers.ReadFault later is (x, rest) n = silent b m a o q words answers.ReadFault (left_said b m rest)
+listing_middle b m a o p q words file answers.WriteFault later is (rose, d, h, part) n = part_listed b m a o q words answers.WriteFault file d (inl refl) is h part
+listing_middle b m a o p q words file answers.NoMemory later is (inl rest, missing) n = silent b m a o q words answers.NoMemory (left_said b m rest)
+listing_middle b m a o p q words file answers.NoMemory later is (inr (rose, d, h, part), missing) n =
+    part_listed b m a o q words answers.NoMemory file d (inr (refl, Rose-earlier o.refused p.refused q.refused rose later.refused)) is h part
+listing_middle b m a o p q words file (answers.No place check_faults.Long) later is (e, x, rest) n = silent b m a o q words (answers.No place check_faults.Long) (left_said b m rest)
+listing_middle b m a o p q words file (answers.No place (check_faults.Bad bad)) later is (e, x, rest) n = silent b m a o q words (answers.No place (check_faults.Bad bad)) (left_said b m rest)
 
-says_by : (b m a : Content) (o p q : Counts) (words : List (List ℕ)) (s : Status) → Middle b m o q words s → NeverFall o p → IsPartSaid m (line_of (file_word words) s) a
-    → (a ≡ with_said m (line_of (file_word words) s)) ⊎ Rose p.write_faults q.write_faults ⊎ Rose p.refused q.refused → SaysLine (run_of b a o q) words s
-says_by b m a o p q words s k earlier part (inl e) = record {
-  text = k.text;
-  may = k.may;
-  of_text = k.of_text;
-  of_line = length (line_of (file_word words) s);
-  said = ap (λ (c : Content). c.said) e ∙ (ap (λ t. t ++ line_of (file_word words) s) k.said ∙ ap (λ t. (b.said ++ take k.of_text k.text) ++ t) (sym (take-length (line_of (file_word words) s))));
-  whole = inl (take-length (line_of (file_word words) s));
-}
-says_by b m a o p q words s k earlier (n, few, e) (inr (inl rose)) = record {
-  text = k.text;
-  may = k.may;
-  of_text = k.of_text;
-  of_line = n;
-  said = ap (λ (c : Content). c.said) e ∙ ap (λ t. t ++ take n (line_of (file_word words) s)) k.said;
-  whole = inr (inl (Rose-later o.write_faults p.write_faults q.write_faults earlier.write_faults rose));
-}
-says_by b m a o p q words s k earlier (n, few, e) (inr (inr rose)) = record {
-  text = k.text;
-  may = k.may;
-  of_text = k.of_text;
-  of_line = n;
-  said = ap (λ (c : Content). c.said) e ∙ ap (λ t. t ++ take n (line_of (file_word words) s)) k.said;
-  whole = inr (inr (Rose-later o.refused p.refused q.refused earlier.refused rose));
-}
+part_made_said : (b m : Content) (file bytes : List ℕ) → IsPartMade b file bytes m → m.said ≡ b.said
+part_made_said b m file bytes (inl e) = ap (λ (c : Content). c.said) e
+part_made_said b m file bytes (inr (n, few, e)) = ap (λ (c : Content). c.said) e
 
-pub says : (b m a : Content) (o p q : Counts) (words : List (List ℕ)) (s : Status) → Ends b m a o p q words s → Says (run_of b a o q) words s
-says b m a o p q words s h n = says_by b m a o p q words s (middle b m o p q words s h.later h.table n) h.earlier h.part h.whole
+half_middle : (b m a : Content) (o q : Counts) (words : List (List ℕ)) (s : Status) (n : ℕ) (file : List ℕ) → (s ≡ answers.WriteFault) ⊎ ((s ≡ answers.NoMemory) × Rose o.refused q.refused) → IsGenerate words n file
+    → IsHalfGenerated b m n file → Middle b m a o q words s
+half_middle b m a o q words s n file which is (inl part) = silent b m a o q words s (part_made_said b m file (generated n) part)
+half_middle b m a o q words s n file which is (inr (k, few, e)) = record { text = generated_line n; may = inr (which, inr (inr (n, file, is, refl))); of_text = k; said = ap (λ (c : Content). c.said) e }
+
+generated_middle : (b m a : Content) (o p q : Counts) (words : List (List ℕ)) (s : Status) (n : ℕ) (file : List ℕ) → NeverFall p q → IsGenerate words n file
+    → IsGeneratedSo b m (Rose o.write_faults p.write_faults) (Rose o.refused p.refused) n file s → s ≢ answers.Done → Middle b m a o q words s
+generated_middle b m a o p q words s n file later is (inl x) not = absurd (not x.0)
+generated_middle b m a o p q words s n file later is (inr (inl (e, rose, half))) not = half_middle b m a o q words s n file (inl e) is half
+generated_middle b m a o p q words s n file later is (inr (inr (e, rose, half))) not = half_middle b m a o q words s n file (inr (e, Rose-earlier o.refused p.refused q.refused rose later.refused)) is half
+
+fracture_middle : (tells : Bool) (b m a : Content) (o p q : Counts) (words : List (List ℕ)) (s : Status) (top : Option (List ℕ)) (layout deck : List ℕ) (x : List ℕ) → IsTrue tells → NeverFall p q → s ≢ answers.Done → IsFracture words layout deck
+    → a ≡ with_said m x → IsAnswer tells (run_of b m o p) layout deck s top → Middle b m a o q words s
+fracture_middle tells b m a o p q words s top layout deck x told later n is e answer =
+    elim (left_or_made tells (run_of b m o p) layout deck s top answer) [
+      | inl rest ↦ silent b m a o q words s (left_said b m rest)
+      | inr given ↦ made_middle tells b m a o p q words s layout deck given.input x told later n is given.holds e given.made
+    ]
+
+middle : (tells : Bool) (b m a : Content) (o p q : Counts) (words : List (List ℕ)) (s : Status) (top : Option (List ℕ)) (x : List ℕ) → IsTrue tells → NeverFall p q → a ≡ with_said m x
+    → IsAnswerTo tells (run_of b m o p) words s top → s ≢ answers.Done → Middle b m a o q words s
+middle tells b m a o p q words s top x told later e (inl (layout, deck, is, answer)) n = fracture_middle tells b m a o p q words s top layout deck x told later n is e answer
+middle tells b m a o p q words s top x told later e (inr (inl (file, is, answer))) n = listing_middle b m a o p q words file s later is answer n
+middle tells b m a o p q words s top x told later e (inr (inr (inl (k, file, is, answer)))) n = generated_middle b m a o p q words s k file later is answer n
+middle tells b m a o p q words s top x told later e (inr (inr (inr (none, f, same)))) n = silent b m a o q words s (ap (λ (c : Content). c.said) same)
+
+says_by : (tells : Bool) (b m a : Content) (o p q : Counts) (words : List (List ℕ)) (s : Status) (top : Option (List ℕ)) → Ends tells b m a o p q words s top → Middle b m a o q words s
+    → (a ≡ with_said m (line_of (file_word words) (name_of top) s)) ⊎ Rose p.write_faults q.write_faults ⊎ Rose p.refused q.refused → SaysLine (run_of b a o q) words s
+says_by tells b m a o p q words s top h k (inl e) =
+    let line = line_of (file_word words) (name_of top) s in
+    record {
+      text = k.text;
+      may = k.may;
+      top = name_of top;
+      named = top_of tells (run_of b m o p) words s top h.table;
+      of_text = k.of_text;
+      of_line = length line;
+      said = ap (λ (c : Content). c.said) e ∙ (ap (λ t. t ++ line) k.said ∙ ap (λ t. (b.said ++ take k.of_text k.text) ++ t) (sym (take-length line)));
+      whole = inl (take-length line);
+    }
+says_by tells b m a o p q words s top h k (inr rose) =
+    let line = line_of (file_word words) (name_of top) s in
+    record {
+      text = k.text;
+      may = k.may;
+      top = name_of top;
+      named = top_of tells (run_of b m o p) words s top h.table;
+      of_text = k.of_text;
+      of_line = h.part.0;
+      said = ap (λ (c : Content). c.said) h.part.2 ∙ ap (λ t. t ++ take h.part.0 line) k.said;
+      whole = inr (elim rose [
+        | inl write ↦ inl (Rose-later o.write_faults p.write_faults q.write_faults h.earlier.write_faults write)
+        | inr wanting ↦ inr (Rose-later o.refused p.refused q.refused h.earlier.refused wanting)
+      ]);
+    }
+
+pub says : (tells : Bool) (b m a : Content) (o p q : Counts) (words : List (List ℕ)) (s : Status) (top : Option (List ℕ)) → Ends tells b m a o p q words s top → Says (run_of b a o q) words s
+says tells b m a o p q words s top h n =
+    says_by tells b m a o p q words s top h (middle tells b m a o p q words s top (take h.part.0 (line_of (file_word words) (name_of top) s)) h.told h.later h.part.2 h.table n) h.whole
 
 -- ---- what stays
 
@@ -172,18 +264,6 @@ left_then b m a x e f = quiet_left b a m.left (m.said ++ x) (f ∙ ap (λ (c : C
 said_then : (b m a : Content) (y x : List ℕ) → m ≡ with_said (with_left b []) y → a ≡ with_said m x → ChangesLeftOnly b (unsaid b a)
 said_then b m a y x e f = quiet_left b a [] (m.said ++ x) (f ∙ ap (λ (c : Content). record c { said = m.said ++ x }) e)
 
-fracture_left : (b m : Content) (o p : Counts) (layout deck : List ℕ) (s : Status) → IsAnswer (run_of b m o p) layout deck s → IsRefusal s → ChangesLeftOnly b m
-fracture_left b m o p layout deck answers.Done a n = absurd n
-fracture_left b m o p layout deck answers.Words a n = absurd a
-fracture_left b m o p layout deck (answers.Deck deck_faults.Long) a n = a.1
-fracture_left b m o p layout deck (answers.Deck deck_faults.Early) a n = a.1
-fracture_left b m o p layout deck (answers.Layout layout_faults.Long) (d, h, x, rest) n = rest
-fracture_left b m o p layout deck (answers.Layout layout_faults.Early) (d, h, x, rest) n = rest
-fracture_left b m o p layout deck answers.ReadFault a n = a.1
-fracture_left b m o p layout deck answers.WriteFault a n = absurd n
-fracture_left b m o p layout deck answers.NoMemory a n = absurd n
-fracture_left b m o p layout deck (answers.No place fault) a n = absurd a
-
 listing_keeps : (b m a : Content) (o p : Counts) (file : List ℕ) (s : Status) (x : List ℕ) → IsListingAnswer (run_of b m o p) file s → a ≡ with_said m x → ChangesLeftOnly b (unsaid b a)
 listing_keeps b m a o p file answers.Done x (d, h, e) f = said_then b m a (listed d) x e f
 listing_keeps b m a o p file answers.Words x w f = absurd w
@@ -199,56 +279,96 @@ listing_keeps b m a o p file (answers.No place (check_faults.Bad bad)) x (e, w, 
 same_left : (b m : Content) → m ≡ b → ChangesLeftOnly b m
 same_left b m e = subst (λ (c : Content). ChangesLeftOnly b c) (sym e) refl
 
-spares_by : (b m a : Content) (o p : Counts) (words : List (List ℕ)) (s : Status) (x : List ℕ) → IsAnswerTo (run_of b m o p) words s → a ≡ with_said m x → IsRefusal s → ChangesLeftOnly b (unsaid b a)
-spares_by b m a o p words s x (inl (layout, deck, is, answer)) f n = left_then b m a x (fracture_left b m o p layout deck s answer n) f
-spares_by b m a o p words s x (inr (inl (file, is, answer))) f n = listing_keeps b m a o p file s x answer f
-spares_by b m a o p words s x (inr (inr (none, e, same))) f n = left_then b m a x (same_left b m same) f
+refusal_kinds : (s : Status) → IsRefusal s → (s ≢ answers.Done) × (s ≢ answers.WriteFault) × (s ≢ answers.NoMemory)
+refusal_kinds s n = (λ e. subst IsRefusal e n, λ e. subst IsRefusal e n, λ e. subst IsRefusal e n)
 
-pub spares : (b m a : Content) (o p q : Counts) (words : List (List ℕ)) (s : Status) → Ends b m a o p q words s → Spares (run_of b a o q) s
-spares b m a o p q words s h n = spares_by b m a o p words s (take h.part.0 (line_of (file_word words) s)) h.table h.part.2 n
+generated_refuses : (b a : Content) (wr rr : Type 0) (n : ℕ) (file : List ℕ) (s : Status) → IsGeneratedSo b a wr rr n file s → IsRefusal s → ⊥
+generated_refuses b a wr rr n file s (inl x) r = (refusal_kinds s r).0 x.0
+generated_refuses b a wr rr n file s (inr (inl x)) r = (refusal_kinds s r).1 x.0
+generated_refuses b a wr rr n file s (inr (inr x)) r = (refusal_kinds s r).2 x.0
 
-pub keeps : (b m a : Content) (o p q : Counts) (words : List (List ℕ)) (s : Status) → Ends b m a o p q words s → Keeps (run_of b a o q) words
-keeps b m a o p q words s h file is =
-    listing_keeps b m a o p file s (take h.part.0 (line_of (file_word words) s)) (listing_for (run_of b m o p) words s h.table file is) h.part.2
+refuses_by : (tells : Bool) (b m a : Content) (o p : Counts) (words : List (List ℕ)) (s : Status) (top : Option (List ℕ)) (x : List ℕ) → IsAnswerTo tells (run_of b m o p) words s top → a ≡ with_said m x → IsRefusal s → ChangesLeftOnly b (unsaid b a)
+refuses_by tells b m a o p words s top x (inl (layout, deck, is, answer)) f n =
+    let kinds = refusal_kinds s n in
+    left_then b m a x (refusal_left tells (run_of b m o p) layout deck s top answer kinds.0 kinds.1 kinds.2) f
+refuses_by tells b m a o p words s top x (inr (inl (file, is, answer))) f n = listing_keeps b m a o p file s x answer f
+refuses_by tells b m a o p words s top x (inr (inr (inl (k, file, is, answer)))) f n = absurd (generated_refuses b m (Rose o.write_faults p.write_faults) (Rose o.refused p.refused) k file s answer n)
+refuses_by tells b m a o p words s top x (inr (inr (inr (none, e, same)))) f n = left_then b m a x (same_left b m same) f
 
--- what a fault of writing or want of memory leaves of a content
-abbrev Left : Content → Counts → Counts → Status → List ℕ → List ℕ → Content → Type 0
-Left b o q s layout deck c =
-    ChangesLeftOnly b c ⊎ (((s ≡ answers.WriteFault) ⊎ Rose o.refused q.refused) × (d : DeckData) × (l : LayoutData) × HoldsBoth b layout deck d l × WritesPart b c d l)
+pub refuses : (tells : Bool) (b m a : Content) (o p q : Counts) (words : List (List ℕ)) (s : Status) (top : Option (List ℕ)) → Ends tells b m a o p q words s top → Refuses (run_of b a o q) s
+refuses tells b m a o p q words s top h n = refuses_by tells b m a o p words s top (take h.part.0 (line_of (file_word words) (name_of top) s)) h.table h.part.2 n
 
-wanting_leaves : (b m : Content) (o p q : Counts) (layout deck : List ℕ) (s : Status) → NeverFall p q → IsAnswer (run_of b m o p) layout deck answers.NoMemory → Left b o q s layout deck m
-wanting_leaves b m o p q layout deck s later (inl rest, missing) = inl rest
-wanting_leaves b m o p q layout deck s later (inr (rose, d, l, h, w), missing) = inr (inr (Rose-earlier o.refused p.refused q.refused rose later.refused), d, l, h, w)
+pub keeps : (tells : Bool) (b m a : Content) (o p q : Counts) (words : List (List ℕ)) (s : Status) (top : Option (List ℕ)) → Ends tells b m a o p q words s top → Keeps (run_of b a o q) words
+keeps tells b m a o p q words s top h file is =
+    listing_keeps b m a o p file s (take h.part.0 (line_of (file_word words) (name_of top) s)) (listing_for tells (run_of b m o p) words s top h.table file is) h.part.2
 
-spoils_by : (b m : Content) (o p q : Counts) (layout deck : List ℕ) (s : Status) → NeverFall p q → IsAnswer (run_of b m o p) layout deck s → (s ≡ answers.WriteFault) ⊎ (s ≡ answers.NoMemory)
-    → Left b o q s layout deck m
-spoils_by b m o p q layout deck s later answer (inl e) =
-    let w = subst (λ (x : Status). IsAnswer (run_of b m o p) layout deck x) e answer in inr (inl e, w.1, w.2, w.3, w.4)
-spoils_by b m o p q layout deck s later answer (inr e) = wanting_leaves b m o p q layout deck s later (subst (λ (x : Status). IsAnswer (run_of b m o p) layout deck x) e answer)
+-- ---- what faults and want of memory leave
+
+spoiled_in : (tells : Bool) (b m a : Content) (layout deck : List ℕ) (input : Input) (x : List ℕ) → IsTrue tells → HoldsInput b layout deck input → a ≡ with_said m x → AreCutShort (plan_of input) tells (with_left b []) m
+    → ChangesLeftOnly b (unsaid b a) ⊎ ((input : Input) × HoldsInput b layout deck input × AreSpoiled b a input)
+spoiled_in tells b m a layout deck input x told holds e cut = inr (input, holds, cut_spoiled tells input b m a x told (input_rules b layout deck input holds) cut e)
+
+unsaid_in : (tells : Bool) (b m a : Content) (layout deck : List ℕ) (input : Input) (x : List ℕ) → IsTrue tells → HoldsInput b layout deck input → a ≡ with_said m x → IsUnsaid tells (with_left b []) m input
+    → ChangesLeftOnly b (unsaid b a) ⊎ ((input : Input) × HoldsInput b layout deck input × AreSpoiled b a input)
+unsaid_in tells b m a layout deck input x told holds e w =
+    let front = take w.said.0 (report_on input w.sums) in
+    let whole : a ≡ with_said w.whole (front ++ x) = e ∙ ap (λ (c : Content). with_said c x) w.said.2 ∙ ap (λ (t : List ℕ). record w.whole { said = t }) (append_assoc w.whole.said front x) in
+    inr (input, holds, unsaid_spoiled tells input b w.whole a w.sums (front ++ x) told (input_rules b layout deck input holds) w.written whole)
+
+made_leaves : (tells : Bool) (b m a : Content) (wr rr : Type 0) (s : Status) (layout deck : List ℕ) (input : Input) (x : List ℕ) → IsTrue tells → s ≢ answers.Done → HoldsInput b layout deck input → a ≡ with_said m x
+    → IsMade tells (with_left b []) m wr rr input s → ChangesLeftOnly b (unsaid b a) ⊎ ((input : Input) × HoldsInput b layout deck input × AreSpoiled b a input)
+made_leaves tells b m a wr rr s layout deck input x told n holds e (inl (f, done)) = absurd (n f)
+made_leaves tells b m a wr rr s layout deck input x told n holds e (inr (inl (f, rose, inl cut))) = spoiled_in tells b m a layout deck input x told holds e cut
+made_leaves tells b m a wr rr s layout deck input x told n holds e (inr (inl (f, rose, inr unsaid))) = unsaid_in tells b m a layout deck input x told holds e unsaid
+made_leaves tells b m a wr rr s layout deck input x told n holds e (inr (inr (f, inl same))) = inl (left_then b m a x (subst (λ (c : Content). ChangesLeftOnly b c) (sym same) refl) e)
+made_leaves tells b m a wr rr s layout deck input x told n holds e (inr (inr (f, inr (inl cut)))) = spoiled_in tells b m a layout deck input x told holds e cut
+made_leaves tells b m a wr rr s layout deck input x told n holds e (inr (inr (f, inr (inr (rose, unsaid))))) = unsaid_in tells b m a layout deck input x told holds e unsaid
 
 not_done : (s : Status) → (s ≡ answers.WriteFault) ⊎ (s ≡ answers.NoMemory) → s ≢ answers.Done
-not_done s (inl e) f = let clash : answers.WriteFault ≡ answers.Done = sym e ∙ f in let bad : ⊥ = cc in absurd bad
-not_done s (inr e) f = let clash : answers.NoMemory ≡ answers.Done = sym e ∙ f in let bad : ⊥ = cc in absurd bad
+not_done s (inl e) f = write_done (sym e ∙ f)
+not_done s (inr e) f = memory_done (sym e ∙ f)
 
-pub spoils : (b m a : Content) (o p q : Counts) (words : List (List ℕ)) (s : Status) → Ends b m a o p q words s → Spoils (run_of b a o q) words s
-spoils b m a o p q words s h layout deck is which =
-    let answer = answer_for (run_of b m o p) words s h.table layout deck is in
-    let same = quiet_is b m a (take h.part.0 (line_of (file_word words) s)) (fracture_silent b m o p layout deck s answer (not_done s which)) h.part.2 in
-    subst (λ (c : Content). Left b o q s layout deck c) (sym same) (spoils_by b m o p q layout deck s h.later answer which)
+fracture_leaves : (tells : Bool) (b m a : Content) (o p : Counts) (s : Status) (top : Option (List ℕ)) (layout deck : List ℕ) (x : List ℕ) → IsTrue tells → s ≢ answers.Done → a ≡ with_said m x
+    → IsAnswer tells (run_of b m o p) layout deck s top → ChangesLeftOnly b (unsaid b a) ⊎ ((input : Input) × HoldsInput b layout deck input × AreSpoiled b a input)
+fracture_leaves tells b m a o p s top layout deck x told n e answer =
+    elim (left_or_made tells (run_of b m o p) layout deck s top answer) [
+      | inl rest ↦ inl (left_then b m a x rest e)
+      | inr given ↦ made_leaves tells b m a (Rose o.write_faults p.write_faults) (Rose o.refused p.refused) s layout deck given.input x told n given.holds e given.made
+    ]
 
--- ---- after Done
+-- the generated layout is made in part, and then something was said
+part_quiet : (b m a : Content) (file bytes x : List ℕ) → IsPartMade b file bytes m → a ≡ with_said m x → IsPartMade b file bytes (unsaid b a)
+part_quiet b m a file bytes x part e =
+    let quiet = quiet_is b m a x (part_made_said b m file bytes part) e in
+    subst (λ (c : Content). IsPartMade b file bytes c) (sym quiet) part
 
-pub covers : (b m a : Content) (o p q : Counts) (words : List (List ℕ)) (s : Status) → Ends b m a o p q words s → Covers (run_of b a o q) words s
-covers b m a o p q words s h layout deck is e =
-    let answer = answer_for (run_of b m o p) words s h.table layout deck is in
-    let done = subst (λ (x : Status). IsAnswer (run_of b m o p) layout deck x) e answer in
-    subst (λ (c : Content). IsAnswer (run_of b c o p) layout deck answers.Done) (sym (h.done e)) done
+whole_quiet : (b a : Content) (file bytes x : List ℕ) → a ≡ with_said (with_file b file bytes) x → IsPartMade b file bytes (unsaid b a)
+whole_quiet b a file bytes x e = inr (
+  length bytes,
+  omega (arith),
+  subst (λ (c : Content). unsaid b c ≡ with_current (with_file b file (take (length bytes) bytes)) (unsaid b c).current) (sym e) (ap (λ (t : List ℕ). with_file b file t) (sym (take-length bytes))),
+)
 
-pub lists : (b m a : Content) (o p q : Counts) (words : List (List ℕ)) (s : Status) → Ends b m a o p q words s → Lists (run_of b a o q) words s
-lists b m a o p q words s h file is e =
-    let answer = listing_for (run_of b m o p) words s h.table file is in
-    let done = subst (λ (x : Status). IsListingAnswer (run_of b m o p) file x) e answer in
-    subst (λ (c : Content). IsListingAnswer (run_of b c o p) file answers.Done) (sym (h.done e)) done
+half_quiet : (b m a : Content) (n : ℕ) (file x : List ℕ) → a ≡ with_said m x → IsHalfGenerated b m n file → IsPartMade b file (generated n) (unsaid b a)
+half_quiet b m a n file x e (inl part) = part_quiet b m a file (generated n) x part e
+half_quiet b m a n file x e (inr (k, few, f)) =
+    let front = take k (generated_line n) in
+    let made = with_file b file (generated n) in
+    whole_quiet b a file (generated n) (front ++ x) (e ∙ ap (λ (c : Content). with_said c x) f ∙ ap (λ (t : List ℕ). record made { said = t }) (append_assoc made.said front x))
+
+generated_leaves : (b m a : Content) (wr rr : Type 0) (n : ℕ) (file x : List ℕ) (s : Status) → s ≢ answers.Done → a ≡ with_said m x → IsGeneratedSo b m wr rr n file s → IsPartMade b file (generated n) (unsaid b a)
+generated_leaves b m a wr rr n file x s not e (inl y) = absurd (not y.0)
+generated_leaves b m a wr rr n file x s not e (inr (inl (f, rose, half))) = half_quiet b m a n file x e half
+generated_leaves b m a wr rr n file x s not e (inr (inr (f, rose, half))) = half_quiet b m a n file x e half
+
+pub spoils : (tells : Bool) (b m a : Content) (o p q : Counts) (words : List (List ℕ)) (s : Status) (top : Option (List ℕ)) → Ends tells b m a o p q words s top → Spoils (run_of b a o q) words s
+spoils tells b m a o p q words s top h =
+    let x = take h.part.0 (line_of (file_word words) (name_of top) s) in
+    record {
+      fracture = λ layout deck is which. fracture_leaves tells b m a o p s top layout deck x h.told (not_done s which) h.part.2 (fracture_for tells (run_of b m o p) words s top h.table layout deck is);
+      generate = λ n file is which.
+          generated_leaves b m a (Rose o.write_faults p.write_faults) (Rose o.refused p.refused) n file x s (not_done s which) h.part.2 (generate_for tells (run_of b m o p) words s top h.table n file is);
+    }
 
 -- ---- what was counted
 

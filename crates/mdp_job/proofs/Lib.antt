@@ -1,16 +1,9 @@
-pub mod WalkLemmas
-pub mod CoverLemmas
-pub mod DeckParts
-pub mod DeckUnique
-pub mod LayoutFacts
-mod LayoutLemmas
-mod PartsLemmas
-pub mod Goes
 pub mod WordLemmas
-pub mod RowLemmas
-pub mod Triangles
-pub mod FileLemmas
-pub mod ListingRows
+pub mod Contents
+pub mod Written
+pub mod Made
+pub mod Rows
 pub mod ListingGoes
+pub mod ListingRows
+pub mod Table
 pub mod Finals
-pub mod LineLemmas

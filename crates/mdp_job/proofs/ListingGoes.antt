@@ -13,11 +13,11 @@ use Rattle.shot_reader.specs.Refusals.{IsFirstFault}
 use Rattle.shot_reader.specs.declared.refusing.ShotBad.{ShotBad}
 use Rattle.shot_reader.specs.declared.refusing.ShotBad.TheVariants.{Head, Record, Spelling, Illegal, End, NoMemory as Wanting}
 use Rattle.mdp_job.specs.Listings.{ShotData, HoldsShots, HoldsFault, IsListingAnswer, IsTold, refused_shots}
-use Rattle.mdp_job.specs.Parts.{run_of, IsOfShots, CountsFor}
+use Rattle.mdp_job.specs.Runs.{run_of}
+use Rattle.mdp_job.specs.Parts.{IsOfShots, CountsFor}
 use Rattle.mdp_job.specs.declared.status.Status.{Status}
 use Rattle.mdp_job.specs.declared.status.Status.TheVariants as answers
-use Rattle.mdp_job.proofs.Goes.{left_only}
-use Rattle.mdp_job.proofs.RowLemmas.{there}
+use Rattle.mdp_job.proofs.Contents.{left_only, there}
 
 pub told_answers : (b a : Content) (o n p : Counts) (file : List ℕ) (s : ShotData) (result : Status)
     → HoldsShots b file s → NeverFall o n → IsTold (run_of (with_left b []) a n p) s result → IsListingAnswer (run_of b a o p) file result

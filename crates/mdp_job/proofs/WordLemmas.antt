@@ -2,7 +2,7 @@
 use Rattle.std.proofs.Common.{◌≡◌, List, [], ◌∷◌, length, get_or, refl, arith, sym}
 use Rattle.std.specs.Prelude.{String, string_bytes}
 use Rattle.std.specs.declared.alloc.Global.{Global}
-use Rattle.mdp_job.specs.Answers.{texts}
+use Rattle.mdp_job.specs.Runs.{texts}
 
 pub three_texts : (words : List (String Global)) (x y z : String Global) → length words ≡ 3 → x ≡ get_or words 0 x → y ≡ get_or words 1 y → z ≡ get_or words 2 z
     → texts words ≡ string_bytes x ∷ string_bytes y ∷ string_bytes z ∷ []

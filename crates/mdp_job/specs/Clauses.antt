@@ -1,39 +1,51 @@
 -- The rows of the table of answers, each as it stands on the program's call: about what was there before the command and
 -- after it, the words, and the answer.
 use Rattle.std.specs.Prelude.{◌≡◌, ◌≢◌, ◌⊎◌, ◌↔◌, ℕ, List, [], ◌++◌, take, ⊤}
-use Rattle.depot.specs.Content.{Content, IsNotThere, IsLongerThan, ChangesLeftOnly, with_left, with_said}
+use Rattle.depot.specs.Content.{Content, IsNotThere, IsLongerThan, ChangesLeftOnly, with_left, with_said, IsPartMade}
 use Rattle.depot.specs.Counts.{Counts, Rose}
 use Rattle.shot_reader.specs.declared.refusing.ShotBad.{ShotBad}
-use Rattle.shot_reader.specs.declared.refusing.ShotBad.TheVariants.{NoMemory as Wanting}
-use Rattle.mdp_job.specs.Words.{IsFracture, IsShots, file_word}
-use Rattle.mdp_job.specs.FirstDeck.{DeckData}
-use Rattle.mdp_job.specs.FirstLayout.{LayoutData}
-use Rattle.mdp_job.specs.Answers.{Run, IsWanting, HoldsDeck, HoldsBoth, RefusesDeck, RefusesLayout, Writes, WritesPart, ReadRose, WriteRose, RefusedRose, ComesExactlyWhere}
+use Rattle.gds_reader.specs.declared.refusing.GdsBad.{GdsBad}
+use Rattle.cell_tree.specs.Faults.{order_of}
+use Rattle.cell_tree.specs.declared.faults.TreeBad.{TreeBad}
+use Rattle.deck_text.specs.declared.refusal.DeckBad.{DeckBad}
+use Rattle.deck_text.specs.declared.deck.Deck.{Deck}
+use Rattle.shot_writer.specs.declared.parts.Sums.{Sums}
+use Rattle.job_input.specs.Accepted.{HoldsDeck, HoldsInput}
+use Rattle.job_input.specs.Refused.{HoldsDeckFault, IsLongLayout, HoldsOasis, HoldsGdsFault, HoldsTreeFault, IsWanting}
+use Rattle.job_input.specs.declared.reading.Input.{Input}
+use Rattle.job_input.specs.declared.refusing.DeckFault.{DeckFault}
+use Rattle.job_input.specs.declared.refusing.DeckFault.TheVariants as deck_faults
+use Rattle.job_input.specs.declared.refusing.LayoutFault.{LayoutFault}
+use Rattle.job_input.specs.declared.refusing.LayoutFault.TheVariants as layout_faults
+use Rattle.layout_gen.specs.Generated.{generated}
+use Rattle.mdp_job.specs.Words.{IsFracture, IsShots, IsGenerate, file_word}
+use Rattle.mdp_job.specs.Runs.{Run, ReadRose, WriteRose, RefusedRose, ComesExactlyWhere}
+use Rattle.mdp_job.specs.Outputs.{AreCovered, AreEconomic, IsReported, AreSummed, AreSpoiled, report_on}
 use Rattle.mdp_job.specs.Listings.{ShotData, HoldsShots, HoldsFault, listed}
+use Rattle.mdp_job.specs.Generating.{IsGenerated, generated_line}
+use Rattle.mdp_job.specs.Parts.{IsOfFracture, IsOfShots, IsOfGenerate}
 use Rattle.mdp_job.specs.Lines.{line_of}
 use Rattle.mdp_job.specs.declared.status.Status.{Status}
 use Rattle.mdp_job.specs.declared.status.Status.TheVariants as answers
-use Rattle.mdp_job.specs.declared.status.DeckFault.{DeckFault}
-use Rattle.mdp_job.specs.declared.status.DeckFault.TheVariants as deck_faults
-use Rattle.mdp_job.specs.declared.status.LayoutFault.{LayoutFault}
-use Rattle.mdp_job.specs.declared.status.LayoutFault.TheVariants as layout_faults
-use Rattle.mdp_job.specs.declared.status.CheckFault.{CheckFault}
 use Rattle.mdp_job.specs.declared.status.CheckFault.TheVariants as check_faults
 
 -- ---- what is accepted
 
 -- words, deck and layout of `fracture` are accepted
 abbrev pub IsFractureAccepted : List (List ℕ) → Content → Type 0
-IsFractureAccepted words c =
-    (layout deck : List ℕ) × IsFracture words layout deck × (d : DeckData) × (l : LayoutData) × HoldsBoth c layout deck d l
+IsFractureAccepted words c = (layout deck : List ℕ) × IsFracture words layout deck × (input : Input) × HoldsInput c layout deck input
 
 -- words and shot file of `shots` are accepted
 abbrev pub IsListingAccepted : List (List ℕ) → Content → Type 0
 IsListingAccepted words c = (file : List ℕ) × IsShots words file × (s : ShotData) × HoldsShots c file s
 
+-- the words of `generate` are accepted
+abbrev pub IsGenerateAccepted : List (List ℕ) → Type 0
+IsGenerateAccepted words = (n : ℕ) × (file : List ℕ) × IsGenerate words n file
+
 -- words and input are accepted
 abbrev pub IsAccepted : List (List ℕ) → Content → Type 0
-IsAccepted words c = IsFractureAccepted words c ⊎ IsListingAccepted words c
+IsAccepted words c = IsFractureAccepted words c ⊎ IsListingAccepted words c ⊎ IsGenerateAccepted words
 
 -- a name that the command has to read isn't there
 abbrev pub IsUnreadable : List (List ℕ) → Content → Type 0
@@ -41,16 +53,34 @@ IsUnreadable words c =
     ((layout deck : List ℕ) × IsFracture words layout deck × IsWanting c layout deck)
     ⊎ ((file : List ℕ) × IsShots words file × IsNotThere c file)
 
--- ---- the rows
+-- ---- after Done
 
--- After Done the file holds the one text of a list of legal shots within the limits, of which each tile is in exactly one
--- where it is in the area, and in none otherwise. Every other name is as before.
+-- Deck and layout are accepted. Every output file is the one text of a list of legal shots within the deck's limits; each
+-- half-grid triangle lies in exactly one of them if it lies in the area that the deck denotes of the layout, and in none
+-- otherwise. All other names are as before.
 abbrev pub Covers : Run → List (List ℕ) → Status → Type 0
 Covers r words result =
     (layout deck : List ℕ) → IsFracture words layout deck → result ≡ answers.Done
-    → (d : DeckData) × (l : LayoutData) × HoldsBoth r.before layout deck d l × Writes r.before r.after d l
+    → (input : Input) × HoldsInput r.before layout deck input × AreCovered r.before r.after input
 
--- After Done the listing of the shot file was said, and nothing else has changed but what is left to be read.
+-- The shots of each file are the shot list of its output's area, and no cut is needless, for every height of bands.
+abbrev pub Spares : Run → List (List ℕ) → Status → Type 0
+Spares r words result =
+    (layout deck : List ℕ) → IsFracture words layout deck → result ≡ answers.Done
+    → (input : Input) × HoldsInput r.before layout deck input × AreEconomic r.after.made input
+
+-- The report was said, with true sums.
+abbrev pub Reports : Run → List (List ℕ) → Status → Type 0
+Reports r words result =
+    (layout deck : List ℕ) → IsFracture words layout deck → result ≡ answers.Done
+    → (input : Input) × HoldsInput r.before layout deck input × IsReported r.before r.after input
+
+-- The file holds the generated layout, how many bytes it has was said, and nothing else has changed.
+abbrev pub Generates : Run → List (List ℕ) → Status → Type 0
+Generates r words result =
+    (n : ℕ) (file : List ℕ) → IsGenerate words n file → result ≡ answers.Done → IsGenerated r.before r.after n file
+
+-- The listing of the shot file was said, and nothing else has changed but what is left to be read.
 abbrev pub Lists : Run → List (List ℕ) → Status → Type 0
 Lists r words result =
     (file : List ℕ) → IsShots words file → result ≡ answers.Done
@@ -61,31 +91,53 @@ abbrev pub Accepts : Run → List (List ℕ) → Status → Type 0
 Accepts r words result =
     (ReadRose r → ⊥) → (WriteRose r → ⊥) → result ≢ answers.NoMemory → (result ≡ answers.Done) ↔ IsAccepted words r.before
 
+-- ---- the cause of each refusal
+
 -- the deck has more than 65,536 bytes
 abbrev pub DeckLong : Run → List (List ℕ) → Status → Type 0
 DeckLong r words result =
     (layout deck : List ℕ) → IsFracture words layout deck
     → ComesExactlyWhere (ReadRose r) result (answers.Deck deck_faults.Long) (IsLongerThan 65536 r.before deck)
 
--- the deck isn't of its form
-abbrev pub DeckEarly : Run → List (List ℕ) → Status → Type 0
-DeckEarly r words result =
-    (layout deck : List ℕ) → IsFracture words layout deck
-    → ComesExactlyWhere (ReadRose r) result (answers.Deck deck_faults.Early) (RefusesDeck r.before layout deck)
+-- the deck has this first fault
+abbrev pub DeckBroken : Run → List (List ℕ) → Status → Type 0
+DeckBroken r words result =
+    (layout deck : List ℕ) → IsFracture words layout deck → (bad : DeckBad)
+    → ComesExactlyWhere (ReadRose r) result (answers.Deck (deck_faults.Bad bad)) (HoldsDeckFault r.before layout deck bad)
 
 -- the deck is accepted, and the layout has more than 268,435,456 bytes
 abbrev pub LayoutLong : Run → List (List ℕ) → Status → Type 0
 LayoutLong r words result =
     (layout deck : List ℕ) → IsFracture words layout deck
-    → ComesExactlyWhere (ReadRose r) result (answers.Layout layout_faults.Long)
-    ((d : DeckData) × HoldsDeck r.before layout deck d × IsLongerThan 268435456 r.before layout)
+    → ComesExactlyWhere (ReadRose r) result (answers.Layout layout_faults.Long) ((top : List ℕ) × IsLongLayout r.before layout deck top)
 
--- the deck is accepted, and the layout isn't of its form
+-- the deck is accepted, and the layout's first byte is 25 hex
 abbrev pub LayoutEarly : Run → List (List ℕ) → Status → Type 0
 LayoutEarly r words result =
     (layout deck : List ℕ) → IsFracture words layout deck
-    → ComesExactlyWhere (ReadRose r) result (answers.Layout layout_faults.Early)
-    ((d : DeckData) × HoldsDeck r.before layout deck d × RefusesLayout r.before layout d)
+    → ComesExactlyWhere (ReadRose r) result (answers.Layout layout_faults.Early) ((top : List ℕ) × HoldsOasis r.before layout deck top)
+
+-- the deck is accepted, and the layout has this first fault
+abbrev pub LayoutBroken : Run → List (List ℕ) → Status → Type 0
+LayoutBroken r words result =
+    (layout deck : List ℕ) → IsFracture words layout deck → (bad : GdsBad)
+    → ComesExactlyWhere (ReadRose r) result (answers.Layout (layout_faults.Gds bad)) ((top : List ℕ) × HoldsGdsFault r.before layout deck bad top)
+
+-- a fault of the tree of the same kind
+pub record IsOfKind (bad : TreeBad) (result : Status) : Type 0 where
+  pub other : TreeBad
+  pub answer : result ≡ answers.Layout (layout_faults.Tree other)
+  pub same : order_of other ≡ order_of bad
+
+-- Deck and layout are accepted but for the layout's tree, which has this first fault. Of several such things of one kind
+-- the answer keeps one.
+pub record IsTreeFault (before : Content) (read_rose : Type 0) (result : Status) (layout deck : List ℕ) (bad : TreeBad) : Type 0 where
+  pub only : result ≡ answers.Layout (layout_faults.Tree bad) → (top : List ℕ) × HoldsTreeFault before layout deck bad top
+  pub whenever : (top : List ℕ) → HoldsTreeFault before layout deck bad top
+      → IsOfKind bad result ⊎ (result ≡ answers.NoMemory) ⊎ ((result ≡ answers.ReadFault) × read_rose)
+
+abbrev pub TreeBroken : Run → List (List ℕ) → Status → Type 0
+TreeBroken r words result = (layout deck : List ℕ) → IsFracture words layout deck → (bad : TreeBad) → IsTreeFault r.before (ReadRose r) result layout deck bad
 
 -- the shot file has more than 268,435,456 bytes
 abbrev pub ShotsLong : Run → List (List ℕ) → Status → Type 0
@@ -99,13 +151,14 @@ ShotsBad r words result =
     (file : List ℕ) → IsShots words file → (bad : ShotBad)
     → ComesExactlyWhere (ReadRose r) result (answers.No 0 (check_faults.Bad bad)) (HoldsFault r.before file bad)
 
--- Refusals of a deck and of a layout come for `fracture` alone, and those of a shot file for `shots` alone, of place 0. The
--- fault of a refused shot file is never want of memory.
+-- Each command has its answers. Refusals of a deck and of a layout come for `fracture` alone, and those of a shot file for
+-- `shots` alone, of place 0. A fault that is kept is never want of memory.
 pub record Belongs (words : List (List ℕ)) (result : Status) : Type 0 where
-  pub deck : (fault : DeckFault) → result ≡ answers.Deck fault → (layout deck : List ℕ) × IsFracture words layout deck
-  pub layout : (fault : LayoutFault) → result ≡ answers.Layout fault → (layout deck : List ℕ) × IsFracture words layout deck
-  pub shots : (place : ℕ) (fault : CheckFault) → result ≡ answers.No place fault → (place ≡ 0) × (file : List ℕ) × IsShots words file
-  pub real : (place : ℕ) → result ≡ answers.No place (check_faults.Bad Wanting) → ⊥
+  pub fracture : (layout deck : List ℕ) → IsFracture words layout deck → IsOfFracture result
+  pub shots : (file : List ℕ) → IsShots words file → IsOfShots result
+  pub generate : (n : ℕ) (file : List ℕ) → IsGenerate words n file → IsOfGenerate result
+
+-- ---- faults
 
 -- the name that the command reads first isn't there: DECK, or FILE of `shots`
 abbrev pub IsUnreadableAtOnce : List (List ℕ) → Content → Type 0
@@ -127,23 +180,38 @@ WriteFaults r words result = result ≡ answers.WriteFault → WriteRose r × Is
 
 -- ---- what was said
 
--- What the command itself may have said before it ended so: something of the listing of an accepted shot file where
--- saying it failed or a want of memory was counted, and nothing for every other answer.
+-- A text of the command: the report on an accepted input, all of whose outputs are covered, the listing of an accepted
+-- shot file, or the line of a generated layout.
+abbrev pub IsTextOf : Run → List (List ℕ) → List ℕ → Type 0
+IsTextOf r words text =
+    ((layout deck : List ℕ) × IsFracture words layout deck × (input : Input) × HoldsInput r.before layout deck input
+    × AreCovered r.before r.after input × (sums : List Sums) × AreSummed r.after.made input sums × (text ≡ report_on input sums))
+    ⊎ ((file : List ℕ) × IsShots words file × (s : ShotData) × HoldsShots r.before file s × (text ≡ listed s))
+    ⊎ ((n : ℕ) × (file : List ℕ) × IsGenerate words n file × (text ≡ generated_line n))
+
+-- What the command itself may have said before it ended so: something of its text where saying it failed or a want of
+-- memory was counted, and nothing for every other answer.
 abbrev pub MaySay : Run → List (List ℕ) → Status → List ℕ → Type 0
 MaySay r words result text =
-    (text ≡ [])
-    ⊎ (((result ≡ answers.WriteFault) ⊎ ((result ≡ answers.NoMemory) × RefusedRose r))
-    × (file : List ℕ) × IsShots words file × (s : ShotData) × HoldsShots r.before file s × (text ≡ listed s))
+    (text ≡ []) ⊎ (((result ≡ answers.WriteFault) ⊎ ((result ≡ answers.NoMemory) × RefusedRose r)) × IsTextOf r words text)
+
+-- the name that the line of a refused layout may give is that of the deck's top cell
+abbrev pub IsTopOf : Run → List (List ℕ) → Status → List ℕ → Type 0
+IsTopOf r words result top =
+    (layout deck : List ℕ) (fault : LayoutFault) → IsFracture words layout deck → result ≡ answers.Layout fault
+    → (d : Deck) × HoldsDeck r.before layout deck d × (top ≡ d.top)
 
 -- Where the answer isn't Done, a prefix of the command's text was said and then a prefix of the answer's line, which is
 -- whole unless a write fault or want of memory was counted.
 pub record SaysLine (r : Run) (words : List (List ℕ)) (result : Status) : Type 0 where
   pub text : List ℕ
   pub may : MaySay r words result text
+  pub top : List ℕ
+  pub named : IsTopOf r words result top
   pub of_text : ℕ
   pub of_line : ℕ
-  pub said : r.after.said ≡ (r.before.said ++ take of_text text) ++ take of_line (line_of (file_word words) result)
-  pub whole : (take of_line (line_of (file_word words) result) ≡ line_of (file_word words) result) ⊎ WriteRose r ⊎ RefusedRose r
+  pub said : r.after.said ≡ (r.before.said ++ take of_text text) ++ take of_line (line_of (file_word words) top result)
+  pub whole : (take of_line (line_of (file_word words) top result) ≡ line_of (file_word words) top result) ⊎ WriteRose r ⊎ RefusedRose r
 
 abbrev pub Says : Run → List (List ℕ) → Status → Type 0
 Says r words result = result ≢ answers.Done → SaysLine r words result
@@ -166,22 +234,23 @@ IsRefusal answers.NoMemory = ⊥
 IsRefusal (answers.No place fault) = ⊤
 
 -- a refusal changes nothing but what is left to be read and what was said
-abbrev pub Spares : Run → Status → Type 0
-Spares r result = IsRefusal result → ChangesLeftOnly r.before (quiet r).after
+abbrev pub Refuses : Run → Status → Type 0
+Refuses r result = IsRefusal result → ChangesLeftOnly r.before (quiet r).after
 
 -- `shots` changes nothing but what is left to be read and what was said, whatever the answer
 abbrev pub Keeps : Run → List (List ℕ) → Type 0
 Keeps r words = (file : List ℕ) → IsShots words file → ChangesLeftOnly r.before (quiet r).after
 
--- After a write fault or want of memory of `fracture` nothing but what is left to be read and what was said has changed,
--- or the file holds a prefix of a text that Done would allow, or is as before; all other names are as before. After want
--- of memory the second comes only where a want of memory was counted.
-abbrev pub Spoils : Run → List (List ℕ) → Status → Type 0
-Spoils r words result =
-    (layout deck : List ℕ) → IsFracture words layout deck → (result ≡ answers.WriteFault) ⊎ (result ≡ answers.NoMemory)
-    → ChangesLeftOnly r.before (quiet r).after
-    ⊎ (((result ≡ answers.WriteFault) ⊎ RefusedRose r)
-    × (d : DeckData) × (l : LayoutData) × HoldsBoth r.before layout deck d l × WritesPart r.before (quiet r).after d l)
+-- After a write fault or want of memory of `fracture` nothing but what is left to be read and what was said has changed;
+-- or there is a place before which all outputs are whole, at which the file is as before, empty or a prefix of the texts
+-- that Done would allow, and behind which nothing has changed. That of `generate` leaves its file as before, or with a
+-- prefix of the generated layout.
+pub record Spoils (r : Run) (words : List (List ℕ)) (result : Status) : Type 0 where
+  pub fracture : (layout deck : List ℕ) → IsFracture words layout deck → (result ≡ answers.WriteFault) ⊎ (result ≡ answers.NoMemory)
+      → ChangesLeftOnly r.before (quiet r).after
+      ⊎ ((input : Input) × HoldsInput r.before layout deck input × AreSpoiled r.before r.after input)
+  pub generate : (n : ℕ) (file : List ℕ) → IsGenerate words n file → (result ≡ answers.WriteFault) ⊎ (result ≡ answers.NoMemory)
+      → IsPartMade r.before file (generated n) (quiet r).after
 
 -- ---- what holds over every depot
 

@@ -9,7 +9,7 @@ use Rattle.shot_reader.specs.declared.refusing.ShotBad.{ShotBad}
 use Rattle.shot_reader.specs.declared.refusing.ShotBad.TheVariants.{Head, Record, Spelling, Illegal, End, NoMemory as Wanting}
 use Rattle.shot_reader.specs.declared.reading.ShotFile.{ShotFile}
 use Rattle.shot_listing.specs.Listing.{listing}
-use Rattle.mdp_job.specs.Answers.{Run, ReadRose, WriteRose, RefusedRose}
+use Rattle.mdp_job.specs.Runs.{Run, ReadRose, WriteRose, RefusedRose}
 use Rattle.mdp_job.specs.declared.status.Status.{Status}
 use Rattle.mdp_job.specs.declared.status.Status.TheVariants as answers
 use Rattle.mdp_job.specs.declared.status.CheckFault.TheVariants as check_faults

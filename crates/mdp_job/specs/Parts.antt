@@ -1,23 +1,37 @@
--- The table of answers, part by part: what the writing of an accepted layout owes, what the reading of a layout owes
--- for an accepted deck, and the whole.
-use Rattle.std.specs.Prelude.{◌≡◌, ◌≢◌, ◌⊎◌, ℕ, List, ⊤}
-use Rattle.depot.specs.Content.{Content, IsNotThere, IsLongerThan, ChangesLeftOnly, with_file, IsPartMade}
+-- The table of answers, part by part: what the reading of deck and layout tells, what the writing of the outputs of an
+-- accepted input owes, and the whole.
+use Rattle.std.specs.Prelude.{◌≡◌, ◌≢◌, ◌⊎◌, ℕ, Bool, List, [], length, Option, None, Some, Ok, Err, ⊤}
+use Rattle.depot.specs.Content.{Content, IsNotThere, IsLongerThan, ChangesLeftOnly, with_left, with_said, IsPartSaid}
 use Rattle.depot.specs.Counts.{Counts, Rose}
+use Rattle.depot.specs.declared.outside.DepotBad.{DepotBad}
+use Rattle.depot.specs.declared.outside.DepotBad.TheVariants as depot
 use Rattle.depot.specs.declared.whole.Refused.{Refused}
 use Rattle.depot.specs.declared.whole.Refused.TheVariants as reading
-use Rattle.mdp_job.specs.Words.{IsFracture, IsShots, IsNoCommand}
-use Rattle.mdp_job.specs.FirstDeck.{DeckData}
-use Rattle.mdp_job.specs.FirstLayout.{LayoutData}
-use Rattle.mdp_job.specs.Answers.{Run, IsAnswer, HoldsLayout, RefusesLayout, IsShotFile, ReadRose, WriteRose, RefusedRose, Writes, WritesPart}
+use Rattle.gds_reader.specs.declared.refusing.GdsBad.{GdsBad}
+use Rattle.cell_tree.specs.declared.faults.TreeBad.{TreeBad}
+use Rattle.deck_text.specs.declared.refusal.DeckBad.{DeckBad}
+use Rattle.shot_writer.specs.declared.parts.Sums.{Sums}
+use Rattle.shot_output.specs.Files.{AreWritten, AreCutShort}
+use Rattle.job_input.specs.Accepted.{HoldsInput}
+use Rattle.job_input.specs.Refused.{HoldsDeckFault, IsLongLayout, HoldsOasis, HoldsGdsFault, HoldsTreeFault, IsWanting}
+use Rattle.job_input.specs.Clauses.{Answer, ComesExactlyWhere, ComesByKind}
+use Rattle.job_input.specs.declared.reading.Input.{Input}
+use Rattle.job_input.specs.declared.refusing.InputBad.{InputBad}
+use Rattle.job_input.specs.declared.refusing.InputBad.TheVariants as bads
+use Rattle.job_input.specs.declared.refusing.DeckFault.TheVariants as deck_faults
+use Rattle.job_input.specs.declared.refusing.LayoutFault.TheVariants as layout_faults
+use Rattle.mdp_job.specs.Words.{IsFracture, IsShots, IsGenerate, IsNoCommand}
+use Rattle.mdp_job.specs.Runs.{Run, ReadRose, WriteRose, RefusedRose}
+use Rattle.mdp_job.specs.Outputs.{plan_of, report_on}
 use Rattle.mdp_job.specs.Listings.{IsListingAnswer}
+use Rattle.mdp_job.specs.Generating.{IsGeneratedSo}
 use Rattle.mdp_job.specs.declared.status.Status.{Status}
 use Rattle.mdp_job.specs.declared.status.Status.TheVariants as answers
-use Rattle.mdp_job.specs.declared.status.LayoutFault.TheVariants as layout_faults
 use Rattle.mdp_job.specs.declared.status.CheckFault.TheVariants as check_faults
 use Rattle.shot_reader.specs.declared.refusing.ShotBad.TheVariants.{NoMemory as Wanting}
-
-abbrev pub run_of : Content → Content → Counts → Counts → Run
-run_of before after old new = record { before = before; after = after; old = old; new = new }
+use Rattle.deck_text.specs.declared.refusal.DeckBad.TheVariants.{NoMemory as DeckWanting}
+use Rattle.gds_reader.specs.declared.refusing.GdsBad.TheVariants.{NoMemory as GdsWanting}
+use Rattle.cell_tree.specs.declared.faults.TreeBad.TheVariants.{NoMemory as TreeWanting}
 
 -- the answer to a file that wasn't read
 abbrev pub refused_status : Refused → Status → Status
@@ -25,53 +39,127 @@ refused_status reading.Fault long = answers.ReadFault
 refused_status reading.TooLong long = long
 refused_status reading.NoMemory long = answers.NoMemory
 
--- what holds where the writing of an accepted layout gives the answer
-abbrev pub IsWritten : Run → DeckData → LayoutData → Status → Type 0
-IsWritten r d l answers.Done = (bytes : List ℕ) × IsShotFile bytes d l × (r.after ≡ with_file r.before d.file bytes)
-IsWritten r d l answers.Words = ⊥
-IsWritten r d l (answers.Deck fault) = ⊥
-IsWritten r d l (answers.Layout fault) = ⊥
-IsWritten r d l answers.ReadFault = ⊥
-IsWritten r d l answers.WriteFault = WriteRose r × (bytes : List ℕ) × IsShotFile bytes d l × IsPartMade r.before d.file bytes r.after
-IsWritten r d l (answers.No place fault) = ⊥
-IsWritten r d l answers.NoMemory =
-    (r.after ≡ r.before) ⊎ (RefusedRose r × (bytes : List ℕ) × IsShotFile bytes d l × IsPartMade r.before d.file bytes r.after)
+-- the answer to a refused write
+abbrev pub fault_status : DepotBad → Status
+fault_status depot.Failed = answers.WriteFault
+fault_status depot.NoMemory = answers.NoMemory
 
--- what holds where the reading and writing of a layout gives the answer, for an accepted deck
-abbrev pub IsLayoutAnswer : Run → List ℕ → DeckData → Status → Type 0
-IsLayoutAnswer r layout d answers.Done = (l : LayoutData) × HoldsLayout r.before layout d l × Writes r.before r.after d l
-IsLayoutAnswer r layout d answers.Words = ⊥
-IsLayoutAnswer r layout d (answers.Deck fault) = ⊥
-IsLayoutAnswer r layout d (answers.Layout layout_faults.Long) = IsLongerThan 268435456 r.before layout × ChangesLeftOnly r.before r.after
-IsLayoutAnswer r layout d (answers.Layout layout_faults.Early) = RefusesLayout r.before layout d × ChangesLeftOnly r.before r.after
-IsLayoutAnswer r layout d answers.ReadFault = (ReadRose r ⊎ IsNotThere r.before layout) × ChangesLeftOnly r.before r.after
-IsLayoutAnswer r layout d answers.WriteFault = WriteRose r × (l : LayoutData) × HoldsLayout r.before layout d l × WritesPart r.before r.after d l
-IsLayoutAnswer r layout d (answers.No place fault) = ⊥
-IsLayoutAnswer r layout d answers.NoMemory =
-    (ChangesLeftOnly r.before r.after
-    ⊎ (RefusedRose r × (l : LayoutData) × HoldsLayout r.before layout d l × WritesPart r.before r.after d l))
-    × (IsNotThere r.before layout → RefusedRose r)
+-- the answer to a refused input, and the name that its line may need
+abbrev pub status_of : InputBad → Status
+status_of (bads.Deck fault) = answers.Deck fault
+status_of (bads.Layout fault top) = answers.Layout fault
+status_of bads.ReadFault = answers.ReadFault
+status_of bads.NoMemory = answers.NoMemory
 
--- The answer to the words, up to the line of a refusal: that of the command `fracture` with its two names, that of the
--- command `shots` with its name, or Words where they are no command.
-abbrev pub IsAnswerTo : Run → List (List ℕ) → Status → Type 0
-IsAnswerTo r words result =
-    ((layout deck : List ℕ) × IsFracture words layout deck × IsAnswer r layout deck result)
+abbrev pub top_of : InputBad → Option (List ℕ)
+top_of (bads.Deck fault) = None
+top_of (bads.Layout fault top) = Some top
+top_of bads.ReadFault = None
+top_of bads.NoMemory = None
+
+-- what holds where saying a text gives the answer
+abbrev pub IsSaidSo : Content → Content → (write_rose refused_rose : Type 0) → List ℕ → Status → Type 0
+IsSaidSo before now write_rose refused_rose text result =
+    ((result ≡ answers.Done) × (now ≡ with_said before text))
+    ⊎ ((result ≡ answers.WriteFault) × write_rose × IsPartSaid before text now)
+    ⊎ ((result ≡ answers.NoMemory) × refused_rose × IsPartSaid before text now)
+
+-- ---- reading
+
+-- what the reading of deck and layout tells of its answer
+pub record IsInputTold (before : Content) (read_rose refused_rose : Type 0) (layout deck : List ℕ) (a : Answer) : Type 0 where
+  pub given : (input : Input) → ComesExactlyWhere read_rose a (Ok input) (HoldsInput before layout deck input)
+  pub deck_long : ComesExactlyWhere read_rose a (Err (bads.Deck deck_faults.Long)) (IsLongerThan 65536 before deck)
+  pub deck_bad : (bad : DeckBad) → ComesExactlyWhere read_rose a (Err (bads.Deck (deck_faults.Bad bad))) (HoldsDeckFault before layout deck bad)
+  pub layout_long : (top : List ℕ) → ComesExactlyWhere read_rose a (Err (bads.Layout layout_faults.Long top)) (IsLongLayout before layout deck top)
+  pub layout_early : (top : List ℕ) → ComesExactlyWhere read_rose a (Err (bads.Layout layout_faults.Early top)) (HoldsOasis before layout deck top)
+  pub layout_gds : (bad : GdsBad) (top : List ℕ)
+      → ComesExactlyWhere read_rose a (Err (bads.Layout (layout_faults.Gds bad) top)) (HoldsGdsFault before layout deck bad top)
+  pub layout_tree : (bad : TreeBad) (top : List ℕ) → ComesByKind read_rose a bad top (HoldsTreeFault before layout deck bad top)
+  pub read_fault : a ≡ Err bads.ReadFault → read_rose ⊎ IsWanting before layout deck
+  pub missing : IsWanting before layout deck → (a ≡ Err bads.ReadFault) ⊎ (a ≡ Err bads.NoMemory)
+  pub missing_deck : IsNotThere before deck → (a ≡ Err bads.ReadFault) ⊎ ((a ≡ Err bads.NoMemory) × refused_rose)
+
+-- ---- writing
+
+-- all outputs are written, with these sums
+abbrev pub IsAllWritten : Bool → Content → Content → Input → List Sums → Type 0
+IsAllWritten tells before now input sums = AreWritten (plan_of input) (length input.deck.outputs) tells before now sums
+
+-- all outputs are written, and the report is said
+pub record IsDone (tells : Bool) (before now : Content) (input : Input) : Type 0 where
+  pub sums : List Sums
+  pub whole : Content
+  pub written : IsAllWritten tells before whole input sums
+  pub said : now ≡ with_said whole (report_on input sums)
+
+-- all outputs are written, and a prefix of the report is said
+pub record IsUnsaid (tells : Bool) (before now : Content) (input : Input) : Type 0 where
+  pub sums : List Sums
+  pub whole : Content
+  pub written : IsAllWritten tells before whole input sums
+  pub said : IsPartSaid whole (report_on input sums) now
+
+-- What holds where the writing of the outputs of an accepted input gives the answer: where it was cut short, either the
+-- outputs or the report were.
+abbrev pub IsMade : Bool → Content → Content → (write_rose refused_rose : Type 0) → Input → Status → Type 0
+IsMade tells before now write_rose refused_rose input result =
+    ((result ≡ answers.Done) × IsDone tells before now input)
+    ⊎ ((result ≡ answers.WriteFault) × write_rose × (AreCutShort (plan_of input) tells before now ⊎ IsUnsaid tells before now input))
+    ⊎ ((result ≡ answers.NoMemory) × ((now ≡ before) ⊎ AreCutShort (plan_of input) tells before now ⊎ (refused_rose × IsUnsaid tells before now input)))
+
+-- ---- `fracture`
+
+-- what follows of the answer of the reading
+abbrev pub IsOutcome : Bool → Run → (layout deck : List ℕ) → Answer → Status → Option (List ℕ) → Type 0
+IsOutcome tells r layout deck (Ok input) result top =
+    IsMade tells (with_left r.before []) r.after (WriteRose r) (RefusedRose r) input result × (top ≡ None)
+IsOutcome tells r layout deck (Err bad) result top = (result ≡ status_of bad) × (top ≡ top_of bad) × ChangesLeftOnly r.before r.after
+
+-- what holds where the command with these names gives the answer, with the name that its line may need
+pub record IsAnswer (tells : Bool) (r : Run) (layout deck : List ℕ) (result : Status) (top : Option (List ℕ)) : Type 0 where
+  pub a : Answer
+  pub told : IsInputTold r.before (ReadRose r) (RefusedRose r) layout deck a
+  pub outcome : IsOutcome tells r layout deck a result top
+
+-- ---- all commands
+
+-- The answer to the words, up to the line of a refusal: that of the command `fracture` with its two names, that of
+-- `shots` with its name, that of `generate` with its number and name, or Words where they are no command.
+abbrev pub IsAnswerTo : Bool → Run → List (List ℕ) → Status → Option (List ℕ) → Type 0
+IsAnswerTo tells r words result top =
+    ((layout deck : List ℕ) × IsFracture words layout deck × IsAnswer tells r layout deck result top)
     ⊎ ((file : List ℕ) × IsShots words file × IsListingAnswer r file result)
+    ⊎ ((n : ℕ) × (file : List ℕ) × IsGenerate words n file × IsGeneratedSo r.before r.after (WriteRose r) (RefusedRose r) n file result)
     ⊎ (IsNoCommand words × (result ≡ answers.Words) × (r.after ≡ r.before))
 
 -- ---- what holds over every depot
 
--- the answer may come for `fracture`
+-- the answer may come for `fracture`; no fault that is kept is want of memory
 abbrev pub IsOfFracture : Status → Type 0
 IsOfFracture answers.Done = ⊤
 IsOfFracture answers.Words = ⊥
-IsOfFracture (answers.Deck fault) = ⊤
-IsOfFracture (answers.Layout fault) = ⊤
+IsOfFracture (answers.Deck deck_faults.Long) = ⊤
+IsOfFracture (answers.Deck (deck_faults.Bad bad)) = bad ≢ DeckWanting
+IsOfFracture (answers.Layout layout_faults.Long) = ⊤
+IsOfFracture (answers.Layout layout_faults.Early) = ⊤
+IsOfFracture (answers.Layout (layout_faults.Gds bad)) = bad ≢ GdsWanting
+IsOfFracture (answers.Layout (layout_faults.Tree bad)) = bad ≢ TreeWanting
 IsOfFracture answers.ReadFault = ⊤
 IsOfFracture answers.WriteFault = ⊤
 IsOfFracture answers.NoMemory = ⊤
 IsOfFracture (answers.No place fault) = ⊥
+
+-- the answer may come for `generate`
+abbrev pub IsOfGenerate : Status → Type 0
+IsOfGenerate answers.Done = ⊤
+IsOfGenerate answers.Words = ⊥
+IsOfGenerate (answers.Deck fault) = ⊥
+IsOfGenerate (answers.Layout fault) = ⊥
+IsOfGenerate answers.ReadFault = ⊥
+IsOfGenerate answers.WriteFault = ⊤
+IsOfGenerate answers.NoMemory = ⊤
+IsOfGenerate (answers.No place fault) = ⊥
 
 -- the answer may come for `shots`
 abbrev pub IsOfShots : Status → Type 0

@@ -1,156 +1,85 @@
-//! The command `fracture`, and the answers to all words.
+//! The answers to all words.
 
 ghost use Rattle.std.specs.Prelude.{◌≡◌, ◌≢◌, ◌⊎◌, ◌↔◌, IsTrue};
 ghost use Rattle.depot.specs.Counts.{NeverFall, Rose};
 ghost use Rattle.depot.specs.Sure.{sure_content, sure_counts};
-ghost use Rattle.mdp_job.specs.Answers.{IsAnswer, texts};
-ghost use Rattle.mdp_job.specs.Clauses.{IsAccepted, Belongs, FaultsTold, Covers, Lists, Accepts, DeckLong, DeckEarly, LayoutLong, LayoutEarly, ShotsLong, ShotsBad, ReadFaults, WriteFaults, Says, Spares, Keeps, Spoils};
 ghost use Rattle.mdp_job.specs.Words.{IsNoCommand};
-ghost use Rattle.mdp_job.specs.Fit.{IsFit, IsDeckUnit};
-ghost use Rattle.mdp_job.specs.DeckView.{deck_data};
-ghost use Rattle.mdp_job.specs.LayoutView.{layout_data};
-ghost use Rattle.mdp_job.specs.Parts.{IsWritten, IsLayoutAnswer, IsAnswerTo, IsOfFracture, CountsFor, run_of};
+ghost use Rattle.mdp_job.specs.Runs.{texts, run_of};
+ghost use Rattle.mdp_job.specs.Clauses.{IsAccepted, Belongs, FaultsTold, Covers, Spares, Reports, Generates, Lists, Accepts, DeckLong, DeckBroken, LayoutLong, LayoutEarly, LayoutBroken, TreeBroken, ShotsLong, ShotsBad, ReadFaults, WriteFaults, Says, Refuses, Keeps, Spoils};
+ghost use Rattle.mdp_job.specs.Parts.{IsAnswerTo, CountsFor};
 
-use crate::first_deck::{FirstDeck, read_first_deck};
-use crate::first_layout::{FirstLayout, read_first_layout};
+use crate::ending::Ending;
+use crate::fracturing::fracture;
+use crate::generating::generate_layout;
 use crate::lines::say_line;
 use crate::listing::list_shots;
-use crate::reading::refused_status;
-use crate::status::{DeckFault, LayoutFault, Status};
-use crate::words::{file_word, fracture_names, shots_name};
-use crate::writing::{shots_of, write_file};
-use depot::{Depot, DepotBad, SureDepot, read_all};
-use geo_stream::NoMemory;
+use crate::status::Status;
+use crate::words::{file_word, fracture_names, generate_words, shots_name};
+use depot::{Depot, SureDepot};
 use std::alloc::Global;
 
-/// A deck has at most so many bytes.
-const DECK_LIMIT: usize = 65_536;
-
-/// A layout has at most so many bytes.
-const LAYOUT_LIMIT: usize = 268_435_456;
-
-// Writes the shot file of an accepted layout.
-fn write_shots<D: Depot>(
-    alloc: Global,
-    deck: &FirstDeck,
-    layout: &FirstLayout,
-    depot: &mut D,
-) -> Status
-    requires outline { IsFit layout.now.points.items }
-    requires unit { IsDeckUnit deck.now.unit }
-    ensures written { IsTrue D.tells → IsWritten
-        (run_of (D.content depot.old) (D.content depot.new) (D.counts depot.old) (D.counts depot.new))
-        (deck_data deck.now) (layout_data layout.now) result }
-    ensures write_fault { result ≡ Status.WriteFault
-        → Rose (D.counts depot.old).write_faults (D.counts depot.new).write_faults }
-    ensures read_fault { result ≡ Status.ReadFault → ⊥ }
-    ensures words { result ≡ Status.Words → ⊥ }
-    ensures of_fracture { IsOfFracture result }
-    ensures counts { CountsFor (D.counts depot.old) (D.counts depot.new) result }
-    ensures counted { NeverFall (D.counts depot.old) (D.counts depot.new) }
-{
-    let Ok(shots) = shots_of(alloc, deck, layout) else {
-        return Status::NoMemory;
-    };
-    match write_file(depot, deck, &shots) {
-        Ok(()) => Status::Done,
-        Err(DepotBad::Failed) => Status::WriteFault,
-        Err(DepotBad::NoMemory) => Status::NoMemory,
-    }
-}
-
-// Reads the layout of an accepted deck, and goes on with it.
-fn take_layout<D: Depot>(alloc: Global, layout: &str, deck: &FirstDeck, depot: &mut D) -> Status
-    requires { IsDeckUnit deck.now.unit }
-    ensures answer { IsTrue D.tells → IsLayoutAnswer
-        (run_of (D.content depot.old) (D.content depot.new) (D.counts depot.old) (D.counts depot.new))
-        layout.now (deck_data deck.now) result }
-    ensures write_fault { result ≡ Status.WriteFault
-        → Rose (D.counts depot.old).write_faults (D.counts depot.new).write_faults }
-    ensures read_fault { result ≡ Status.ReadFault
-        → Rose (D.counts depot.old).read_faults (D.counts depot.new).read_faults ⊎ IsTrue D.tells }
-    ensures words { result ≡ Status.Words → ⊥ }
-    ensures of_fracture { IsOfFracture result }
-    ensures counts { CountsFor (D.counts depot.old) (D.counts depot.new) result }
-    ensures counted { NeverFall (D.counts depot.old) (D.counts depot.new) }
-{
-    let bytes = match read_all(alloc, depot, layout, LAYOUT_LIMIT) {
-        Ok(bytes) => bytes,
-        Err(refused) => return refused_status(refused, Status::Layout(LayoutFault::Long)),
-    };
-    match read_first_layout(alloc, &bytes, deck.unit, deck.top) {
-        Ok(Some(polygon)) => write_shots(alloc, deck, &polygon, depot),
-        Ok(None) => Status::Layout(LayoutFault::Early),
-        Err(NoMemory) => Status::NoMemory,
-    }
-}
-
-// Reads the deck, and goes on with it.
-fn fracture<D: Depot>(alloc: Global, layout: &str, deck: &str, depot: &mut D) -> Status
-    ensures answer { IsTrue D.tells → IsAnswer
-        (run_of (D.content depot.old) (D.content depot.new) (D.counts depot.old) (D.counts depot.new))
-        layout.now deck.now result }
-    ensures write_fault { result ≡ Status.WriteFault
-        → Rose (D.counts depot.old).write_faults (D.counts depot.new).write_faults }
-    ensures read_fault { result ≡ Status.ReadFault
-        → Rose (D.counts depot.old).read_faults (D.counts depot.new).read_faults ⊎ IsTrue D.tells }
-    ensures words { result ≡ Status.Words → ⊥ }
-    ensures of_fracture { IsOfFracture result }
-    ensures counts { CountsFor (D.counts depot.old) (D.counts depot.new) result }
-    ensures counted { NeverFall (D.counts depot.old) (D.counts depot.new) }
-{
-    let bytes = match read_all(alloc, depot, deck, DECK_LIMIT) {
-        Ok(bytes) => bytes,
-        Err(refused) => return refused_status(refused, Status::Deck(DeckFault::Long)),
-    };
-    match read_first_deck(&bytes, layout, deck) {
-        Some(accepted) => take_layout(alloc, layout, &accepted, depot),
-        None => Status::Deck(DeckFault::Early),
-    }
-}
-
 // Does the command, by the table of answers.
-fn answered<D: Depot>(alloc: Global, words: &[String], depot: &mut D) -> Status
-    ensures table { IsTrue D.tells → IsAnswerTo
+fn answered<D: Depot>(alloc: Global, words: &[String], depot: &mut D) -> Ending
+    ensures table { IsTrue D.tells → IsAnswerTo D.tells
         (run_of (D.content depot.old) (D.content depot.new) (D.counts depot.old) (D.counts depot.new))
-        (texts words.now) result }
-    ensures words { (result ≡ Status.Words) ↔ IsNoCommand (texts words.now) }
-    ensures belongs { Belongs (texts words.now) result }
-    ensures idle { result ≡ Status.Words → depot.new ≡ depot.old }
-    ensures write_fault { result ≡ Status.WriteFault
+        (texts words.now) result.status result.top }
+    ensures words { (result.status ≡ Status.Words) ↔ IsNoCommand (texts words.now) }
+    ensures belongs { Belongs (texts words.now) result.status }
+    ensures write_fault { result.status ≡ Status.WriteFault
         → Rose (D.counts depot.old).write_faults (D.counts depot.new).write_faults }
-    ensures read_fault { result ≡ Status.ReadFault
+    ensures read_fault { result.status ≡ Status.ReadFault
         → Rose (D.counts depot.old).read_faults (D.counts depot.new).read_faults ⊎ IsTrue D.tells }
-    ensures counts { CountsFor (D.counts depot.old) (D.counts depot.new) result }
+    ensures counts { CountsFor (D.counts depot.old) (D.counts depot.new) result.status }
     ensures counted { NeverFall (D.counts depot.old) (D.counts depot.new) }
 {
     if let Some((layout, deck)) = fracture_names(words) {
         return fracture(alloc, layout, deck, depot);
     }
     if let Some(file) = shots_name(words) {
-        return list_shots(alloc, file, depot);
+        return Ending::plain(list_shots(alloc, file, depot));
     }
-    Status::Words
+    if let Some((n, file)) = generate_words(words) {
+        return Ending::plain(generate_layout(n, file, depot));
+    }
+    Ending::plain(Status::Words)
 }
 
-/// Does what the words say, and answers how it ended. The words don't have the program's own name in them. Today they are
-/// `fracture LAYOUT DECK`, where the layout's polygon is cut into shots which are written to the file that the deck names,
-/// or `shots FILE`, where the shots of a shot file are listed on standard output. An answer other than Done is said in one
-/// line; a failure to say that line changes nothing.
+/// Does what the words say, and answers how it ended. The words don't have the program's own name in them. They are
+///
+/// - `fracture LAYOUT DECK`: of the areas that the deck denotes of the layout the shots are written into the files of the
+///   deck's outputs, and then the report is said;
+/// - `shots FILE`: the shots of a shot file are listed on standard output;
+/// - `generate N FILE`: the generated layout of a number from 1 to 1,000 is written.
+///
+/// An answer other than Done is said in one line; a failure to say that line changes nothing.
 ///
 /// The clauses on content hold over a depot that tells it. The others hold over every depot.
 pub fn run<D: Depot>(alloc: Global, words: &[String], depot: &mut D) -> Status
     ensures words { (result ≡ Status.Words) ↔ IsNoCommand (texts words.now) }
     ensures belongs { Belongs (texts words.now) result }
 
-    // After Done: exact cover and no other name has changed, or the listing was said.
+    // After `fracture` ends with Done, every output file is the one text of a list of legal shots within the deck's limits;
+    // each half-grid triangle lies in exactly one of them if it lies in the area that the deck denotes of the layout, and
+    // in none otherwise.
     ensures cover { IsTrue D.tells → Covers
+        (run_of (D.content depot.old) (D.content depot.new) (D.counts depot.old) (D.counts depot.new))
+        (texts words.now) result }
+    // The shots are those of the bands' joined lists, cut as the limits ask and no more.
+    ensures economy { IsTrue D.tells → Spares
+        (run_of (D.content depot.old) (D.content depot.new) (D.counts depot.old) (D.counts depot.new))
+        (texts words.now) result }
+    ensures report { IsTrue D.tells → Reports
+        (run_of (D.content depot.old) (D.content depot.new) (D.counts depot.old) (D.counts depot.new))
+        (texts words.now) result }
+    // After `generate` and `shots` end with Done.
+    ensures generated { IsTrue D.tells → Generates
         (run_of (D.content depot.old) (D.content depot.new) (D.counts depot.old) (D.counts depot.new))
         (texts words.now) result }
     ensures listed { IsTrue D.tells → Lists
         (run_of (D.content depot.old) (D.content depot.new) (D.counts depot.old) (D.counts depot.new))
         (texts words.now) result }
-    // Done comes exactly where the input is accepted.
+
+    // Without a counted fault or want of memory, Done comes exactly where words, deck and layout are accepted.
     ensures accepted { IsTrue D.tells → Accepts
         (run_of (D.content depot.old) (D.content depot.new) (D.counts depot.old) (D.counts depot.new))
         (texts words.now) result }
@@ -159,13 +88,19 @@ pub fn run<D: Depot>(alloc: Global, words: &[String], depot: &mut D) -> Status
     ensures deck_long { IsTrue D.tells → DeckLong
         (run_of (D.content depot.old) (D.content depot.new) (D.counts depot.old) (D.counts depot.new))
         (texts words.now) result }
-    ensures deck_early { IsTrue D.tells → DeckEarly
+    ensures deck_bad { IsTrue D.tells → DeckBroken
         (run_of (D.content depot.old) (D.content depot.new) (D.counts depot.old) (D.counts depot.new))
         (texts words.now) result }
     ensures layout_long { IsTrue D.tells → LayoutLong
         (run_of (D.content depot.old) (D.content depot.new) (D.counts depot.old) (D.counts depot.new))
         (texts words.now) result }
     ensures layout_early { IsTrue D.tells → LayoutEarly
+        (run_of (D.content depot.old) (D.content depot.new) (D.counts depot.old) (D.counts depot.new))
+        (texts words.now) result }
+    ensures layout_gds { IsTrue D.tells → LayoutBroken
+        (run_of (D.content depot.old) (D.content depot.new) (D.counts depot.old) (D.counts depot.new))
+        (texts words.now) result }
+    ensures layout_tree { IsTrue D.tells → TreeBroken
         (run_of (D.content depot.old) (D.content depot.new) (D.counts depot.old) (D.counts depot.new))
         (texts words.now) result }
     ensures shots_long { IsTrue D.tells → ShotsLong
@@ -190,11 +125,11 @@ pub fn run<D: Depot>(alloc: Global, words: &[String], depot: &mut D) -> Status
     // After Done nothing was counted, and a counted fault of reading is answered as that.
     ensures faults_told { FaultsTold (D.counts depot.old) (D.counts depot.new) result }
 
-    // What is said, and what refusals, faults and listings leave.
+    // What is said, and what refusals, listings and faults leave.
     ensures said { IsTrue D.tells → Says
         (run_of (D.content depot.old) (D.content depot.new) (D.counts depot.old) (D.counts depot.new))
         (texts words.now) result }
-    ensures refusals { IsTrue D.tells → Spares
+    ensures refusals { IsTrue D.tells → Refuses
         (run_of (D.content depot.old) (D.content depot.new) (D.counts depot.old) (D.counts depot.new)) result }
     ensures keeps { IsTrue D.tells → Keeps
         (run_of (D.content depot.old) (D.content depot.new) (D.counts depot.old) (D.counts depot.new))
@@ -204,9 +139,9 @@ pub fn run<D: Depot>(alloc: Global, words: &[String], depot: &mut D) -> Status
         (texts words.now) result }
     ensures counted { NeverFall (D.counts depot.old) (D.counts depot.new) }
 {
-    let status = answered(alloc, words, depot);
-    say_line(depot, file_word(words), &status);
-    status
+    let ending = answered(alloc, words, depot);
+    say_line(depot, file_word(words), &ending);
+    ending.status
 }
 
 /// Does what the words say over a depot that never fails: the answer is then neither of the two faults, and memory aside

@@ -3,7 +3,8 @@
 ghost use Rattle.std.specs.Prelude.{◌≡◌, ◌⊎◌, ◌≤◌, IsTrue, length};
 ghost use Rattle.depot.specs.Counts.{NeverFall, Rose};
 ghost use Rattle.mdp_job.specs.Listings.{IsListingAnswer, IsTold, shot_data, refused_shots};
-ghost use Rattle.mdp_job.specs.Parts.{IsOfShots, CountsFor, run_of};
+ghost use Rattle.mdp_job.specs.Runs.{run_of};
+ghost use Rattle.mdp_job.specs.Parts.{IsOfShots, CountsFor};
 
 use crate::reading::refused_status;
 use crate::status::{CheckFault, Status};

@@ -1,7 +1,8 @@
+use job_input::{DeckFault, LayoutFault};
 use shot_reader::ShotBad;
 
 /// How a command ended.
-#[derive(Clone, Copy, Debug, PartialEq, Eq)]
+#[derive(Debug, Drop)]
 pub enum Status {
     /// The command was done.
     Done,
@@ -19,24 +20,6 @@ pub enum Status {
     NoMemory,
     /// A shot file was read and is refused. The number is its output's place from 0; it is 0 for `shots`.
     No(usize, CheckFault),
-}
-
-/// Why a deck is refused.
-#[derive(Clone, Copy, Debug, PartialEq, Eq)]
-pub enum DeckFault {
-    /// It has more than 65,536 bytes.
-    Long,
-    /// It isn't of the form that is built so far.
-    Early,
-}
-
-/// Why a layout is refused.
-#[derive(Clone, Copy, Debug, PartialEq, Eq)]
-pub enum LayoutFault {
-    /// It has more than 268,435,456 bytes.
-    Long,
-    /// It isn't of the form that is built so far.
-    Early,
 }
 
 /// Why a shot file is refused.

@@ -1,11 +1,12 @@
-//! Outside vectors: a small layout, and the same with each fault.
-
-use crate::first_layout::read_first_layout;
-use half_grid::Point;
+//! The commands from end to end: files and lines that were worked out by hand, and calls that fail.
+use crate::{run, run_surely};
+use depot::{MemDepot, SureDepot};
+use geo_stream::NoMemory;
+use std::alloc::Global;
 use std::test::Fail;
 
 /// A library with one structure that holds one square of side 10 on layer 1, datatype 0.
-pub(crate) const SQUARE: [u8; 168] = [
+const SQUARE: [u8; 168] = [
     0x00, 0x06, 0x00, 0x02, 0x02, 0x58, // HEADER, version 600
     0x00, 0x1C, 0x01, 0x02, 0, 0, 0, 0, 0, 0, 0, 0, 0, 0, 0, 0, // BGNLIB
     0, 0, 0, 0, 0, 0, 0, 0, 0, 0, 0, 0, //
@@ -26,46 +27,239 @@ pub(crate) const SQUARE: [u8; 168] = [
     0x00, 0x04, 0x04, 0x00, // ENDLIB
 ];
 
+const DECK: &[u8] = b"unit 1000\ntop TOP\nlayer A 1 0\nwrite A out.oas 1 0\n";
+
+const TWO: &[u8] = b"unit 1000\ntop TOP\nlayer A 1 0\nwrite A out.oas 1 0\nwrite A two.oas 2 0\n";
+
+const FRACTURE: [&str; 3] = ["fracture", "G.gds", "K"];
+
+const REPORT: &str =
+    "format gdsii\ncells 1\nkept 1\nother 0\ntexts 0\nnodes 0\nboxes 0\nproperties 0\noutput out.oas shots 1 triangles 800\n";
+
+const LISTING: &str = "unit 2000\nlayer 1 0\n0 20 0 20 0 20\nshots 1 triangles 800\n";
+
+/// The magic bytes, START and CELL of a shot file for 1,000 grid steps a micrometre.
+const HEAD: [u8; 41] = [
+    0x25, 0x53, 0x45, 0x4D, 0x49, 0x2D, 0x4F, 0x41, 0x53, 0x49, 0x53, 0x0D, 0x0A, //
+    0x01, 0x03, 0x31, 0x2E, 0x30, 0x00, 0xD0, 0x0F, 0x00, 0, 0, 0, 0, 0, 0, 0, 0, 0, 0, 0, 0, //
+    0x0E, 0x05, 0x53, 0x48, 0x4F, 0x54, 0x53,
+];
+
+// The shot file with these records.
+fn file_of(alloc: Global, records: &[u8]) -> Result<Vec<u8>, NoMemory> {
+    let mut file = Vec::from_slice(alloc, &HEAD)?;
+    file.extend_from_slice(records)?;
+    file.extend_from_slice(&[0x02, 0xFC, 0x01])?;
+    file.extend_from_slice(&[0; 253])?;
+    Ok(file)
+}
+
+// The shot file of the square on this layer.
+fn square_file(alloc: Global, layer: u8) -> Result<Vec<u8>, NoMemory> {
+    file_of(alloc, &[0x14, 0x7B, layer, 0x00, 0x14, 0x14, 0x00, 0x00])
+}
+
+// These words, as a command has them.
+fn words(alloc: Global, parts: &[&str]) -> Result<Vec<String>, NoMemory> {
+    let mut words = Vec::new(alloc);
+    for part in parts {
+        words.push(String::from_str(alloc, part)?)?;
+    }
+    Ok(words)
+}
+
+// A depot in memory with the square and this deck.
+fn depot_of(alloc: Global, deck: &[u8]) -> Result<MemDepot, Fail> {
+    let mut depot = MemDepot::new(alloc);
+    depot.add("G.gds", &SQUARE)?;
+    depot.add("K", deck)?;
+    Ok(depot)
+}
+
 #[test]
-fn a_square_is_read(rt: HostRuntime) -> Result<(), Fail> {
-    let layout = read_first_layout(rt.alloc(), &SQUARE, 1000, b"TOP")?.ok_or("none")?;
-    let points = [(0, 0), (0, 20), (20, 20), (20, 0), (0, 0)].map(|(x, y)| Point { x, y });
-    assert_eq!(rt; layout.layer, 1);
-    assert_eq!(rt; layout.datatype, 0);
-    assert_eq!(rt; layout.points.as_slice(), points.as_slice());
+fn the_square_is_written(rt: HostRuntime) -> Result<(), Fail> {
+    let alloc = rt.alloc();
+    let want = square_file(alloc, 1)?;
+    assert_eq!(rt; want.len(), 305);
+    let command = words(alloc, &FRACTURE)?;
+    for short in [false, true] {
+        let mut depot = depot_of(alloc, DECK)?;
+        if short {
+            depot.short();
+        }
+        assert!(rt; run(alloc, &command, &mut depot).code() == 0);
+        let made = depot.made("out.oas").ok_or("no file")?;
+        assert_eq!(rt; made, want.as_slice());
+        assert_eq!(rt; depot.said(), REPORT.as_bytes());
+    }
+    let mut sure = SureDepot::new(alloc);
+    sure.add("G.gds", &SQUARE)?;
+    sure.add("K", DECK)?;
+    assert!(rt; run_surely(alloc, &command, &mut sure).code() == 0);
+    let made = sure.made("out.oas").ok_or("no file")?;
+    assert_eq!(rt; made, want.as_slice());
     Ok(())
 }
 
-/// The square's other corners where its side is 2,049.
-const SIDE_2049: [u8; 24] = [
-    0, 0, 0, 0, 0, 0, 8, 1, //
-    0, 0, 8, 1, 0, 0, 8, 1, //
-    0, 0, 8, 1, 0, 0, 0, 0, //
+// What a run over a depot, one of whose calls fails, made and said, with its code.
+#[derive(Drop)]
+struct Ended {
+    code: u8,
+    first: Option<usize>,
+    second: Option<usize>,
+    said: usize,
+}
+
+// The command with two outputs, where the call of this number fails.
+fn two_outputs(alloc: Global, call: u64) -> Result<Ended, Fail> {
+    let mut depot = depot_of(alloc, TWO)?;
+    depot.fail_at(call)?;
+    let code = run(alloc, &words(alloc, &FRACTURE)?, &mut depot).code();
+    Ok(Ended {
+        code,
+        first: depot.made("out.oas").map(|bytes| bytes.len()),
+        second: depot.made("two.oas").map(|bytes| bytes.len()),
+        said: depot.said().len(),
+    })
+}
+
+#[test]
+fn each_call_of_two_outputs_fails(rt: HostRuntime) -> Result<(), Fail> {
+    let alloc = rt.alloc();
+    // the calls are: start, read, read the deck; the same for the layout; for each output start, head, shots and end; say
+    let rows: [(u64, u8, Option<usize>, Option<usize>); 15] = [
+        (0, 4, None, None),
+        (1, 4, None, None),
+        (2, 4, None, None),
+        (3, 4, None, None),
+        (4, 4, None, None),
+        (5, 4, None, None),
+        (6, 5, None, None),
+        (7, 5, Some(0), None),
+        (8, 5, Some(41), None),
+        (9, 5, Some(49), None),
+        (10, 5, Some(305), None),
+        (11, 5, Some(305), Some(0)),
+        (12, 5, Some(305), Some(41)),
+        (13, 5, Some(305), Some(49)),
+        (14, 5, Some(305), Some(305)),
+    ];
+    for (call, code, first, second) in rows {
+        let ended = two_outputs(alloc, call)?;
+        assert_eq!(rt; ended.code, code, "at {call}");
+        assert_eq!(rt; ended.first, first, "at {call}");
+        assert_eq!(rt; ended.second, second, "at {call}");
+        // `read fault` or `write fault`
+        assert_eq!(rt; ended.said, if code == 4 { 11 } else { 12 }, "at {call}");
+    }
+    let ended = two_outputs(alloc, 15)?;
+    assert_eq!(rt; ended.code, 0);
+    assert_eq!(rt; ended.said, REPORT.len() + 37);
+    Ok(())
+}
+
+// The words, the deck, the code, what is said.
+const LINES: [(&[&str], &[u8], u8, &str); 8] = [
+    (&["fracture", "G.gds"], DECK, 1, "words refused\n"),
+    (&[], DECK, 1, "words refused\n"),
+    (&["generate", "0", "F"], DECK, 1, "words refused\n"),
+    (&["shots", "F"], DECK, 4, "read fault\n"),
+    (&["fracture", "G", "K"], DECK, 4, "read fault\n"),
+    (
+        &FRACTURE,
+        b"unit 1000\ntop TOP\nlayer A 1 0\nor C A\n",
+        2,
+        "deck refused: line 4 column 7\n",
+    ),
+    (
+        &FRACTURE,
+        b"unit 2000\ntop TOP\nlayer A 1 0\nwrite A F 1 0\n",
+        3,
+        "layout refused: gdsii unit 3944b82fa09b5a54\n",
+    ),
+    (
+        &FRACTURE,
+        b"unit 1000\ntop R\nlayer A 1 0\nwrite A F 1 0\n",
+        3,
+        "layout refused: no cell R\n",
+    ),
 ];
 
 #[test]
-fn other_files_are_refused(rt: HostRuntime) -> Result<(), Fail> {
-    // an offset, and the bytes that stand there in place of the square's
-    let rows: [(usize, &[u8]); 7] = [
-        (108, &[0x0F, 0x03]), // WIDTH in place of DATATYPE
-        (148, &[0, 0, 0, 5]), // the last point is (5, 0)
-        (124, &SIDE_2049), // points at 2,049 grid steps
-        (132, &[0, 0, 0, 9]), // an edge that isn't octilinear
-        (94, &[0x50, 0x20]), // the name is `TOP `
-        (98, &[0x09, 0x00]), // PATH in place of BOUNDARY
-        (53, &[0x45]), // another unit
-    ];
-    for (at, changed) in rows {
-        let mut bytes = SQUARE.to_vec(rt.alloc())?;
-        assert!(rt; at <= bytes.len() && changed.len() <= bytes.len() - at);
-        bytes[at..at + changed.len()].copy_from_slice(changed);
-        assert!(rt; read_first_layout(rt.alloc(), &bytes, 1000, b"TOP")?.is_none());
+fn refusals_have_their_lines(rt: HostRuntime) -> Result<(), Fail> {
+    let alloc = rt.alloc();
+    for (parts, deck, code, line) in LINES {
+        let mut depot = depot_of(alloc, deck)?;
+        let ended = run(alloc, &words(alloc, parts)?, &mut depot);
+        assert_eq!(rt; ended.code(), code);
+        assert_eq!(rt; depot.said(), line.as_bytes());
+        assert_eq!(rt; depot.counts(), (0, 0, 0));
     }
-    assert!(rt; read_first_layout(rt.alloc(), &SQUARE, 2000, b"TOP")?.is_none());
-    assert!(rt; read_first_layout(rt.alloc(), &SQUARE, 1000, b"TOPX")?.is_none());
-    assert!(rt; read_first_layout(rt.alloc(), &SQUARE[..130], 1000, b"TOP")?.is_none());
-    let mut longer = SQUARE.to_vec(rt.alloc())?;
-    longer.push(0)?;
-    assert!(rt; read_first_layout(rt.alloc(), &longer, 1000, b"TOP")?.is_none());
+    // a deck of 65,537 bytes, also where the layout isn't there
+    let mut depot = MemDepot::new(alloc);
+    depot.add("K", &[b' '; 65_537])?;
+    assert_eq!(rt; run(alloc, &words(alloc, &FRACTURE)?, &mut depot).code(), 2);
+    assert_eq!(rt;
+        depot.said(),
+        b"deck refused: longer than 65536 bytes\n".as_slice()
+    );
+    // a line that can't be said changes nothing
+    let mut depot = MemDepot::new(alloc);
+    depot.fail_at(0)?;
+    assert_eq!(rt; run(alloc, &[], &mut depot).code(), 1);
+    assert_eq!(rt; depot.said(), b"".as_slice());
+    assert_eq!(rt; depot.counts(), (0, 1, 0));
+    Ok(())
+}
+
+// Records of a shot file, the code, what is said of it.
+const FILES: [(&[u8], u8, &str); 4] = [
+    (
+        &[0x14, 0x7B, 0x01, 0x00, 0x14, 0x14, 0x00, 0x00],
+        0,
+        LISTING,
+    ),
+    (&[], 0, "unit 2000\nshots 0 triangles 0\n"),
+    (
+        &[0x14, 0x7B, 0x01, 0x00, 0x14, 0x00, 0x00, 0x00],
+        7,
+        "check refused: F: illegal at 41\n",
+    ),
+    (
+        &[0x14, 0x7B, 0x01, 0x00, 0x94, 0x00, 0x14, 0x00, 0x00],
+        7,
+        "check refused: F: spelling at 41\n",
+    ),
+];
+
+#[test]
+fn files_are_listed_or_refused(rt: HostRuntime) -> Result<(), Fail> {
+    let alloc = rt.alloc();
+    let command = words(alloc, &["shots", "F"])?;
+    for (records, code, said) in FILES {
+        let mut depot = MemDepot::new(alloc);
+        depot.add("F", &file_of(alloc, records)?)?;
+        assert_eq!(rt; run(alloc, &command, &mut depot).code(), code);
+        assert_eq!(rt; depot.said(), said.as_bytes());
+    }
+    // one byte a call: 305 are read, and the end; the eleventh that is said fails
+    let mut depot = MemDepot::new(alloc);
+    depot.add("F", &square_file(alloc, 1)?)?;
+    depot.short();
+    depot.fail_at(317)?;
+    assert_eq!(rt; run(alloc, &command, &mut depot).code(), 5);
+    assert_eq!(rt; depot.said(), b"unit 2000\nwrite fault\n".as_slice());
+    Ok(())
+}
+
+#[test]
+fn a_layout_is_generated(rt: HostRuntime) -> Result<(), Fail> {
+    let alloc = rt.alloc();
+    let mut depot = MemDepot::new(alloc);
+    let command = words(alloc, &["generate", "007", "F"])?;
+    assert_eq!(rt; run(alloc, &command, &mut depot).code(), 0);
+    assert_eq!(rt; depot.said(), b"generated 1266 bytes\n".as_slice());
+    let made = depot.made("F").ok_or("no file")?;
+    assert_eq!(rt; made.len(), 1266);
     Ok(())
 }

@@ -1,8 +1,10 @@
 //! The words of a command.
 
 ghost use Rattle.std.specs.Prelude.{◌≡◌, List, ℕ, IfSome, IfNone};
-ghost use Rattle.mdp_job.specs.Answers.{texts};
-ghost use Rattle.mdp_job.specs.Words.{IsFracture, IsShots, file_word};
+ghost use Rattle.mdp_job.specs.Runs.{texts};
+ghost use Rattle.mdp_job.specs.Words.{IsFracture, IsShots, IsLayoutNumber, IsGenerate, file_word};
+
+use deck_text::digits_value;
 
 /// The names of layout and deck, where the words are `fracture LAYOUT DECK`.
 pub(crate) fn fracture_names(words: &[String]) -> Option<(&str, &str)>
@@ -30,6 +32,40 @@ pub(crate) fn shots_name(words: &[String]) -> Option<&str>
         return None;
     }
     Some(words[1].as_str())
+}
+
+// The number of a generated layout, where the digits say one from 1 to 1,000.
+fn layout_number(digits: &[u8]) -> Option<u16>
+    ensures some { IfSome result (λ n. IsLayoutNumber digits.now n) }
+    ensures none { IfNone result ((n : ℕ) → IsLayoutNumber digits.now n → ⊥) }
+{
+    let Some(value) = digits_value(digits) else {
+        return None;
+    };
+    if value < 1 {
+        return None;
+    }
+    if 1000 < value {
+        return None;
+    }
+    Some(value as u16)
+}
+
+/// The number and the name of the layout, where the words are `generate N FILE`.
+pub(crate) fn generate_words(words: &[String]) -> Option<(u16, &str)>
+    ensures some { IfSome result (λ named. IsGenerate (texts words.now) named.0 named.1.now) }
+    ensures none { IfNone result ((n : ℕ) (file : List ℕ) → IsGenerate (texts words.now) n file → ⊥) }
+{
+    if words.len() != 3 {
+        return None;
+    }
+    if words[0].as_str() != "generate" {
+        return None;
+    }
+    let Some(n) = layout_number(words[1].as_bytes()) else {
+        return None;
+    };
+    Some((n, words[2].as_str()))
 }
 
 /// The word after the command, or no text where there is none.

@@ -2,7 +2,8 @@ use Rattle.std.proofs.Common.{subst, ap, arith, length, sym}
 use Rattle.depot.specs.Counts.{Counts}
 use Rattle.depot.specs.Content.{Content}
 use Rattle.mdp_job.specs.Listings.{HoldsShots, IsListingAnswer, IsTold, shot_data}
-use Rattle.mdp_job.specs.Parts.{run_of, IsOfShots, CountsFor}
+use Rattle.mdp_job.specs.Runs.{run_of}
+use Rattle.mdp_job.specs.Parts.{IsOfShots, CountsFor}
 use Rattle.mdp_job.specs.declared.status.Status.{Status}
 use Rattle.mdp_job.proofs.ListingGoes.{told_answers, refused_answers, refused_kind, refused_counts, few_shots}
 use Rattle.mdp_job.proofs.listing.list_shots.Goals as goal

@@ -1,0 +1,218 @@
+-- The rows of the table of answers, from the answer to the words.
+use Rattle.std.proofs.Common.{◌≡◌, ◌≢◌, ◌⊎◌, ◌↔◌, inl, inr, ℕ, Bool, List, [], ◌∷◌, Option, None, Some, length, get_or, arith, refl, sym, ap, subst, ◌∙◌}
+use Rattle.depot.specs.Content.{Content, IsNotThere, IsLongerThan}
+use Rattle.depot.specs.Counts.{Counts, NeverFall}
+use Rattle.depot.proofs.ForCallers.{Rose-earlier}
+use Rattle.deck_text.specs.Kinds.{digits_value}
+use Rattle.job_input.specs.Refused.{IsWanting}
+use Rattle.job_input.specs.declared.refusing.LayoutFault.{LayoutFault}
+use Rattle.mdp_job.specs.Words.{IsFracture, IsShots, IsGenerate, IsNoCommand}
+use Rattle.mdp_job.specs.Runs.{Run, run_of, ReadRose, WriteRose, RefusedRose}
+use Rattle.mdp_job.specs.Listings.{IsListingAnswer}
+use Rattle.mdp_job.specs.Generating.{IsGeneratedSo}
+use Rattle.mdp_job.specs.Parts.{IsAnswer, IsAnswerTo}
+use Rattle.mdp_job.specs.Lines.{name_of}
+use Rattle.mdp_job.specs.Clauses.{IsAccepted, Accepts, IsUnreadable, IsUnreadableAtOnce, ReadFaults, WriteFaults, DeckLong, DeckBroken, LayoutLong, LayoutEarly, LayoutBroken, TreeBroken, ShotsLong, ShotsBad, IsTopOf}
+use Rattle.mdp_job.specs.declared.status.Status.{Status}
+use Rattle.mdp_job.specs.declared.status.Status.TheVariants as answers
+use Rattle.mdp_job.specs.declared.status.CheckFault.TheVariants as check_faults
+use Rattle.mdp_job.proofs.Made.{answer_later}
+use Rattle.mdp_job.proofs.Rows as rows
+use Rattle.mdp_job.proofs.ListingRows as listings
+
+-- ---- the words are one command, and name its files
+
+same_names : (words : List (List ℕ)) (l d m e : List ℕ) → IsFracture words l d → IsFracture words m e → (l ≡ m) × (d ≡ e)
+same_names words l d m e h k = (let left : l ≡ m = cc in left, let right : d ≡ e = cc in right)
+
+same_file : (words : List (List ℕ)) (file other : List ℕ) → IsShots words file → IsShots words other → file ≡ other
+same_file words file other h k = let same : file ≡ other = cc in same
+
+not_both : (words : List (List ℕ)) (layout deck file : List ℕ) → IsFracture words layout deck → IsShots words file → ⊥
+not_both words layout deck file h k = let bad : ⊥ = cc in bad
+
+-- the first byte of the first word, and the word after it
+abbrev first_byte : List (List ℕ) → ℕ
+first_byte words = get_or (get_or words 0 []) 0 0
+
+not_generate : (words : List (List ℕ)) (layout deck : List ℕ) (n : ℕ) (file : List ℕ) → IsFracture words layout deck → IsGenerate words n file → ⊥
+not_generate words layout deck n file h k = let e = ap first_byte (sym h ∙ k.are) in omega (arith, e)
+
+not_shots : (words : List (List ℕ)) (other : List ℕ) (n : ℕ) (file : List ℕ) → IsShots words other → IsGenerate words n file → ⊥
+not_shots words other n file h k = let e = ap length (sym h ∙ k.are) in omega (arith, e)
+
+same_generate : (words : List (List ℕ)) (n m : ℕ) (file other : List ℕ) → IsGenerate words n file → IsGenerate words m other → (n ≡ m) × (file ≡ other)
+same_generate words n m file other h k =
+    let e = sym h.are ∙ k.are in
+    let digits = ap (λ (w : List (List ℕ)). get_or w 1 []) e in
+    let some : Some n ≡ Some m = sym h.number.value ∙ ap digits_value digits ∙ k.number.value in
+    (let same : n ≡ m = cc in same, ap (λ (w : List (List ℕ)). get_or w 2 []) e)
+
+pub fracture_for : (tells : Bool) (r : Run) (words : List (List ℕ)) (s : Status) (top : Option (List ℕ)) → IsAnswerTo tells r words s top → (layout deck : List ℕ) → IsFracture words layout deck → IsAnswer tells r layout deck s top
+fracture_for tells r words s top (inl (l, d, frac, answer)) layout deck is =
+    let same = same_names words l d layout deck frac is in
+    subst (λ (x : List ℕ). IsAnswer tells r x deck s top) same.0 (subst (λ (y : List ℕ). IsAnswer tells r l y s top) same.1 answer)
+fracture_for tells r words s top (inr (inl (file, shots, answer))) layout deck is = absurd (not_both words layout deck file is shots)
+fracture_for tells r words s top (inr (inr (inl (n, file, made, answer)))) layout deck is = absurd (not_generate words layout deck n file is made)
+fracture_for tells r words s top (inr (inr (inr (none, e, rest)))) layout deck is = absurd (none.no_fracture layout deck is)
+
+pub listing_for : (tells : Bool) (r : Run) (words : List (List ℕ)) (s : Status) (top : Option (List ℕ)) → IsAnswerTo tells r words s top → (file : List ℕ) → IsShots words file → IsListingAnswer r file s
+listing_for tells r words s top (inl (layout, deck, frac, answer)) file is = absurd (not_both words layout deck file frac is)
+listing_for tells r words s top (inr (inl (other, shots, answer))) file is = subst (λ (x : List ℕ). IsListingAnswer r x s) (same_file words other file shots is) answer
+listing_for tells r words s top (inr (inr (inl (n, other, made, answer)))) file is = absurd (not_shots words file n other is made)
+listing_for tells r words s top (inr (inr (inr (none, e, rest)))) file is = absurd (none.no_shots file is)
+
+pub generate_for : (tells : Bool) (r : Run) (words : List (List ℕ)) (s : Status) (top : Option (List ℕ)) → IsAnswerTo tells r words s top → (n : ℕ) (file : List ℕ) → IsGenerate words n file
+    → IsGeneratedSo r.before r.after (WriteRose r) (RefusedRose r) n file s
+generate_for tells r words s top (inl (layout, deck, frac, answer)) n file is = absurd (not_generate words layout deck n file frac is)
+generate_for tells r words s top (inr (inl (other, shots, answer))) n file is = absurd (not_shots words other n file shots is)
+generate_for tells r words s top (inr (inr (inl (m, other, made, answer)))) n file is =
+    let same = same_generate words m n other file made is in
+    subst (λ (x : ℕ). IsGeneratedSo r.before r.after (WriteRose r) (RefusedRose r) x file s) same.0 (subst (λ (y : List ℕ). IsGeneratedSo r.before r.after (WriteRose r) (RefusedRose r) m y s) same.1 answer)
+generate_for tells r words s top (inr (inr (inr (none, e, rest)))) n file is = absurd (none.no_generate n file is)
+
+-- ---- the counts at the end
+
+listing_later : (b m : Content) (o p q : Counts) (file : List ℕ) (s : Status) → NeverFall p q → IsListingAnswer (run_of b m o p) file s → IsListingAnswer (run_of b m o q) file s
+listing_later b m o p q file answers.Done later a = a
+listing_later b m o p q file answers.Words later a = a
+listing_later b m o p q file (answers.Deck fault) later a = absurd a
+listing_later b m o p q file (answers.Layout fault) later a = absurd a
+listing_later b m o p q file answers.ReadFault later (inl rose, rest) = (inl (Rose-earlier o.read_faults p.read_faults q.read_faults rose later.read_faults), rest)
+listing_later b m o p q file answers.ReadFault later (inr missing, rest) = (inr missing, rest)
+listing_later b m o p q file answers.WriteFault later (rose, s, h, part) = (Rose-earlier o.write_faults p.write_faults q.write_faults rose later.write_faults, s, h, part)
+listing_later b m o p q file answers.NoMemory later (inl rest, missing) = (inl rest, λ none. Rose-earlier o.refused p.refused q.refused (missing none) later.refused)
+listing_later b m o p q file answers.NoMemory later (inr (rose, s, h, part), missing) =
+    (inr (Rose-earlier o.refused p.refused q.refused rose later.refused, s, h, part), λ none. Rose-earlier o.refused p.refused q.refused (missing none) later.refused)
+listing_later b m o p q file (answers.No place check_faults.Long) later a = a
+listing_later b m o p q file (answers.No place (check_faults.Bad bad)) later a = a
+
+generate_later : (b m : Content) (o p q : Counts) (n : ℕ) (file : List ℕ) (s : Status) → NeverFall p q → IsGeneratedSo b m (WriteRose (run_of b m o p)) (RefusedRose (run_of b m o p)) n file s
+    → IsGeneratedSo b m (WriteRose (run_of b m o q)) (RefusedRose (run_of b m o q)) n file s
+generate_later b m o p q n file s later (inl x) = inl x
+generate_later b m o p q n file s later (inr (inl (e, rose, half))) = inr (inl (e, Rose-earlier o.write_faults p.write_faults q.write_faults rose later.write_faults, half))
+generate_later b m o p q n file s later (inr (inr (e, rose, half))) = inr (inr (e, Rose-earlier o.refused p.refused q.refused rose later.refused, half))
+
+-- the table holds of the counts at the end too
+pub table_later : (tells : Bool) (b m : Content) (o p q : Counts) (words : List (List ℕ)) (s : Status) (top : Option (List ℕ)) → NeverFall p q → IsAnswerTo tells (run_of b m o p) words s top → IsAnswerTo tells (run_of b m o q) words s top
+table_later tells b m o p q words s top later (inl (layout, deck, is, a)) = inl (layout, deck, is, answer_later tells b m o p q layout deck s top later a)
+table_later tells b m o p q words s top later (inr (inl (file, is, a))) = inr (inl (file, is, listing_later b m o p q file s later a))
+table_later tells b m o p q words s top later (inr (inr (inl (n, file, is, a)))) = inr (inr (inl (n, file, is, generate_later b m o p q n file s later a)))
+table_later tells b m o p q words s top later (inr (inr (inr none))) = inr (inr (inr none))
+
+-- ---- the causes
+
+pub deck_long : (tells : Bool) (r : Run) (words : List (List ℕ)) (s : Status) (top : Option (List ℕ)) → IsAnswerTo tells r words s top → DeckLong r words s
+deck_long tells r words s top t layout deck is = rows.deck_long tells r layout deck s top (fracture_for tells r words s top t layout deck is)
+
+pub deck_bad : (tells : Bool) (r : Run) (words : List (List ℕ)) (s : Status) (top : Option (List ℕ)) → IsAnswerTo tells r words s top → DeckBroken r words s
+deck_bad tells r words s top t layout deck is = rows.deck_bad tells r layout deck s top (fracture_for tells r words s top t layout deck is)
+
+pub layout_long : (tells : Bool) (r : Run) (words : List (List ℕ)) (s : Status) (top : Option (List ℕ)) → IsAnswerTo tells r words s top → LayoutLong r words s
+layout_long tells r words s top t layout deck is = rows.layout_long tells r layout deck s top (fracture_for tells r words s top t layout deck is)
+
+pub layout_early : (tells : Bool) (r : Run) (words : List (List ℕ)) (s : Status) (top : Option (List ℕ)) → IsAnswerTo tells r words s top → LayoutEarly r words s
+layout_early tells r words s top t layout deck is = rows.layout_early tells r layout deck s top (fracture_for tells r words s top t layout deck is)
+
+pub layout_gds : (tells : Bool) (r : Run) (words : List (List ℕ)) (s : Status) (top : Option (List ℕ)) → IsAnswerTo tells r words s top → LayoutBroken r words s
+layout_gds tells r words s top t layout deck is = rows.layout_gds tells r layout deck s top (fracture_for tells r words s top t layout deck is)
+
+pub layout_tree : (tells : Bool) (r : Run) (words : List (List ℕ)) (s : Status) (top : Option (List ℕ)) → IsAnswerTo tells r words s top → TreeBroken r words s
+layout_tree tells r words s top t layout deck is = rows.layout_tree tells r layout deck s top (fracture_for tells r words s top t layout deck is)
+
+pub shots_long : (tells : Bool) (r : Run) (words : List (List ℕ)) (s : Status) (top : Option (List ℕ)) → IsAnswerTo tells r words s top → ShotsLong r words s
+shots_long tells r words s top t file is = listings.shots_long r file s (listing_for tells r words s top t file is)
+
+pub shots_bad : (tells : Bool) (r : Run) (words : List (List ℕ)) (s : Status) (top : Option (List ℕ)) → IsAnswerTo tells r words s top → ShotsBad r words s
+shots_bad tells r words s top t file is = listings.shots_bad r file s (listing_for tells r words s top t file is)
+
+-- ---- acceptance
+
+generated_done : (b a : Content) (wr rr : Type 0) (n : ℕ) (file : List ℕ) (s : Status) → IsGeneratedSo b a wr rr n file s → (wr → ⊥) → s ≢ answers.NoMemory → s ≡ answers.Done
+generated_done b a wr rr n file s (inl x) writes memory = x.0
+generated_done b a wr rr n file s (inr (inl x)) writes memory = absurd (writes x.1)
+generated_done b a wr rr n file s (inr (inr x)) writes memory = absurd (memory x.0)
+
+words_done : (s : Status) → s ≡ answers.Words → s ≡ answers.Done → ⊥
+words_done s e f = let clash : answers.Words ≡ answers.Done = sym e ∙ f in let bad : ⊥ = cc in bad
+
+accepted_by : (tells : Bool) (r : Run) (words : List (List ℕ)) (s : Status) (top : Option (List ℕ)) → IsAnswerTo tells r words s top → s ≡ answers.Done → IsAccepted words r.before
+accepted_by tells r words s top (inl (layout, deck, is, answer)) e =
+    let given = rows.done_given tells r layout deck s top answer e in
+    inl (layout, deck, is, given.input, given.holds)
+accepted_by tells r words s top (inr (inl (file, is, answer))) e =
+    let done = listings.listing_done r file s answer e in
+    inr (inl (file, is, done.0, done.1))
+accepted_by tells r words s top (inr (inr (inl (n, file, is, answer)))) e = inr (inr (n, file, is))
+accepted_by tells r words s top (inr (inr (inr (none, e, rest)))) f = absurd (words_done s e f)
+
+done_where : (tells : Bool) (r : Run) (words : List (List ℕ)) (s : Status) (top : Option (List ℕ)) → IsAnswerTo tells r words s top → (ReadRose r → ⊥) → (WriteRose r → ⊥) → s ≢ answers.NoMemory → IsAccepted words r.before → s ≡ answers.Done
+done_where tells r words s top t reads writes memory (inl (layout, deck, is, input, holds)) = rows.done_where tells r layout deck s top (fracture_for tells r words s top t layout deck is) reads writes memory input holds
+done_where tells r words s top t reads writes memory (inr (inl (file, is, d, h))) = listings.listing_due r file s (listing_for tells r words s top t file is) reads writes memory d h
+done_where tells r words s top t reads writes memory (inr (inr (n, file, is))) =
+    generated_done r.before r.after (WriteRose r) (RefusedRose r) n file s (generate_for tells r words s top t n file is) writes memory
+
+pub accepts : (tells : Bool) (r : Run) (words : List (List ℕ)) (s : Status) (top : Option (List ℕ)) → IsAnswerTo tells r words s top → Accepts r words s
+accepts tells r words s top t reads writes memory = (accepted_by tells r words s top t, done_where tells r words s top t reads writes memory)
+
+-- ---- faults
+
+generated_read : (b a : Content) (wr rr : Type 0) (n : ℕ) (file : List ℕ) (s : Status) → IsGeneratedSo b a wr rr n file s → s ≡ answers.ReadFault → ⊥
+generated_read b a wr rr n file s (inl x) e = let clash : answers.Done ≡ answers.ReadFault = sym x.0 ∙ e in let bad : ⊥ = cc in bad
+generated_read b a wr rr n file s (inr (inl x)) e = let clash : answers.WriteFault ≡ answers.ReadFault = sym x.0 ∙ e in let bad : ⊥ = cc in bad
+generated_read b a wr rr n file s (inr (inr x)) e = let clash : answers.NoMemory ≡ answers.ReadFault = sym x.0 ∙ e in let bad : ⊥ = cc in bad
+
+read_cause : (tells : Bool) (r : Run) (words : List (List ℕ)) (s : Status) (top : Option (List ℕ)) → IsAnswerTo tells r words s top → s ≡ answers.ReadFault → ReadRose r ⊎ IsUnreadable words r.before
+read_cause tells r words s top (inl (layout, deck, is, answer)) e =
+    elim (rows.read_cause tells r layout deck s top answer e) [
+      | inl rose ↦ inl rose
+      | inr want ↦ inr (inl (layout, deck, is, want))
+    ]
+read_cause tells r words s top (inr (inl (file, is, answer))) e =
+    elim (listings.listing_cause r file s answer e) [
+      | inl rose ↦ inl rose
+      | inr missing ↦ inr (inr (file, is, missing))
+    ]
+read_cause tells r words s top (inr (inr (inl (n, file, is, answer)))) e = absurd (generated_read r.before r.after (WriteRose r) (RefusedRose r) n file s answer e)
+read_cause tells r words s top (inr (inr (inr (none, e, rest)))) f = let clash : answers.Words ≡ answers.ReadFault = sym e ∙ f in let bad : ⊥ = cc in absurd bad
+
+unreadable_due : (tells : Bool) (r : Run) (words : List (List ℕ)) (s : Status) (top : Option (List ℕ)) → IsAnswerTo tells r words s top → IsUnreadable words r.before → (s ≡ answers.ReadFault) ⊎ (s ≡ answers.NoMemory)
+unreadable_due tells r words s top t (inl (layout, deck, is, want)) = rows.missing_due tells r layout deck s top (fracture_for tells r words s top t layout deck is) want
+unreadable_due tells r words s top t (inr (file, is, missing)) = listings.missing_due r file s (listing_for tells r words s top t file is) missing
+
+at_once_due : (tells : Bool) (r : Run) (words : List (List ℕ)) (s : Status) (top : Option (List ℕ)) → IsAnswerTo tells r words s top → IsUnreadableAtOnce words r.before → (s ≡ answers.ReadFault) ⊎ ((s ≡ answers.NoMemory) × RefusedRose r)
+at_once_due tells r words s top t (inl (layout, deck, is, missing)) = rows.first_due tells r layout deck s top (fracture_for tells r words s top t layout deck is) missing
+at_once_due tells r words s top t (inr (file, is, missing)) = listings.file_due r file s (listing_for tells r words s top t file is) missing
+
+pub read_faults : (tells : Bool) (r : Run) (words : List (List ℕ)) (s : Status) (top : Option (List ℕ)) → IsAnswerTo tells r words s top → ReadFaults r words s
+read_faults tells r words s top t = (read_cause tells r words s top t, unreadable_due tells r words s top t, at_once_due tells r words s top t)
+
+generated_write : (b a : Content) (wr rr : Type 0) (n : ℕ) (file : List ℕ) (s : Status) → IsGeneratedSo b a wr rr n file s → s ≡ answers.WriteFault → wr
+generated_write b a wr rr n file s (inl x) e = let clash : answers.Done ≡ answers.WriteFault = sym x.0 ∙ e in let bad : ⊥ = cc in absurd bad
+generated_write b a wr rr n file s (inr (inl x)) e = x.1
+generated_write b a wr rr n file s (inr (inr x)) e = let clash : answers.NoMemory ≡ answers.WriteFault = sym x.0 ∙ e in let bad : ⊥ = cc in absurd bad
+
+made_write : (tells : Bool) (r : Run) (layout deck : List ℕ) (s : Status) → rows.Given tells r layout deck s → s ≡ answers.WriteFault → WriteRose r
+made_write tells r layout deck s given e =
+    elim given.made [
+      | inl x ↦ let clash : answers.Done ≡ answers.WriteFault = sym x.0 ∙ e in let bad : ⊥ = cc in absurd bad
+      | inr (inl x) ↦ x.1
+      | inr (inr x) ↦ let clash : answers.NoMemory ≡ answers.WriteFault = sym x.0 ∙ e in let bad : ⊥ = cc in absurd bad
+    ]
+
+pub write_faults : (tells : Bool) (r : Run) (words : List (List ℕ)) (s : Status) (top : Option (List ℕ)) → IsAnswerTo tells r words s top → WriteFaults r words s
+write_faults tells r words s top (inl (layout, deck, is, answer)) e =
+    let given = rows.write_given tells r layout deck s top answer e in
+    (made_write tells r layout deck s given e, inl (layout, deck, is, given.input, given.holds))
+write_faults tells r words s top (inr (inl (file, is, answer))) e =
+    let a = listings.listing_write r file s answer e in
+    (a.0, inr (inl (file, is, a.1, a.2)))
+write_faults tells r words s top (inr (inr (inl (n, file, is, answer)))) e = (generated_write r.before r.after (WriteRose r) (RefusedRose r) n file s answer e, inr (inr (n, file, is)))
+write_faults tells r words s top (inr (inr (inr (none, e, rest)))) f = let clash : answers.Words ≡ answers.WriteFault = sym e ∙ f in let bad : ⊥ = cc in absurd bad
+
+-- ---- the name that a line may give
+
+pub top_of : (tells : Bool) (r : Run) (words : List (List ℕ)) (s : Status) (top : Option (List ℕ)) → IsAnswerTo tells r words s top → IsTopOf r words s (name_of top)
+top_of tells r words s top t layout deck fault is e =
+    let named = rows.top_named tells r layout deck s top (fracture_for tells r words s top t layout deck is) fault e in
+    (named.2, named.3, ap name_of named.1 ∙ named.4)

@@ -1,9 +1,0 @@
-use Rattle.std.proofs.Common.{◌≡◌, ◌<◌, ◌^◌, take}
-use Rattle.mdp_job.specs.FirstDeck.{decimal_value}
-use Rattle.mdp_job.proofs.first_deck.decimal_value.Given as goal
-
-abbrev pub invariant-loop-digit : goal.invariant-loop-digit
-invariant-loop-digit l = record {
-  value : l.value ≡ decimal_value (take l.digit-index l.digits);
-  small : l.value < 10 ^ l.digit-index;
-}

@@ -1,0 +1,50 @@
+use Rattle.std.proofs.Common.{◌≡◌, ◌⊎◌, inl, inr, ℕ, List, Option, None, Ok, Err, ap, subst, sym, refl, ◌∙◌}
+use Rattle.depot.specs.Counts.{Rose}
+use Rattle.job_input.specs.Refused.{IsWanting}
+use Rattle.mdp_job.specs.Runs.{run_of}
+use Rattle.mdp_job.specs.Parts.{IsInputTold, IsMade, IsAnswer}
+use Rattle.mdp_job.proofs.Made.{given_answers, fault_told}
+use Rattle.mdp_job.specs.declared.status.Status.{Status}
+use Rattle.mdp_job.proofs.fracturing.fracture.Goals as goal
+
+pub returns-in-Ok-clause-answer : goal.returns-in-Ok-clause-answer
+returns-in-Ok-clause-answer g c = λ tells.
+    let at = g.D.Depot.content in
+    let counts = g.D.Depot.counts in
+    let e = c.in-Ok.ensures in
+    let told : IsInputTold (at c.args.depot.now) (Rose (counts c.args.depot.now).read_faults (counts c.read_input.new.depot).read_faults) (Rose (counts c.args.depot.now).refused (counts c.read_input.new.depot).refused) c.args.layout.now c.args.deck.now (Ok c.in-Ok.input) =
+    record {
+      given = e.given tells;
+      deck_long = e.deck_long tells;
+      deck_bad = e.deck_bad tells;
+      layout_long = e.layout_long tells;
+      layout_early = e.layout_early tells;
+      layout_gds = e.layout_gds tells;
+      layout_tree = e.layout_tree tells;
+      read_fault = λ f. fault_told _ _ _ (e.read_fault f);
+      missing = e.missing tells;
+      missing_deck = e.missing_deck tells;
+    } in
+    subst (λ (s : Status). IsAnswer g.D.Depot.tells (run_of (at c.args.depot.now) (at c.write_all.new.depot) (counts c.args.depot.now) (counts c.write_all.new.depot)) c.args.layout.now c.args.deck.now s c.plain.result.top) (sym c.plain.ensures.status)
+    (given_answers g.D.Depot.tells (at c.args.depot.now) (at c.read_input.new.depot) (at c.write_all.new.depot) (counts c.args.depot.now) (counts c.read_input.new.depot) (counts c.write_all.new.depot)
+    c.args.layout.now c.args.deck.now c.in-Ok.input c.write_all.result c.plain.result.top told e.counts c.write_all.ensures.counted (e.whole tells) (c.write_all.ensures.made tells) c.plain.ensures.top)
+
+pub returns-in-Err-clause-answer : goal.returns-in-Err-clause-answer
+returns-in-Err-clause-answer g c = λ tells.
+    let e = c.in-Err.ensures in
+    record {
+      a = Err c.in-Err.bad;
+      told = record {
+        given = e.given tells;
+        deck_long = e.deck_long tells;
+        deck_bad = e.deck_bad tells;
+        layout_long = e.layout_long tells;
+        layout_early = e.layout_early tells;
+        layout_gds = e.layout_gds tells;
+        layout_tree = e.layout_tree tells;
+        read_fault = λ f. fault_told _ _ _ (e.read_fault f);
+        missing = e.missing tells;
+        missing_deck = e.missing_deck tells;
+      };
+      outcome = (c.refused_input.ensures.status, c.refused_input.ensures.top, e.others tells);
+    }

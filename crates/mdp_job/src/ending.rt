@@ -1,0 +1,34 @@
+//! How a command ended, with what its line may need.
+ghost use Rattle.std.specs.Prelude.{◌≡◌, None};
+ghost use Rattle.mdp_job.specs.Parts.{fault_status};
+
+use crate::status::Status;
+use depot::DepotBad;
+use layout_model::Name;
+
+/// How a command ended, and the name of the deck's top cell where the layout is refused.
+#[derive(Drop)]
+pub(crate) struct Ending {
+    pub status: Status,
+    pub top: Option<Name>,
+}
+
+impl Ending {
+    /// An ending whose line needs nothing else.
+    pub(crate) fn plain(status: Status) -> Ending
+        ensures status { result.status ≡ status }
+        ensures top { result.top ≡ None }
+    {
+        Ending { status, top: None }
+    }
+}
+
+/// The answer to a refused write.
+pub(crate) fn fault_status(bad: DepotBad) -> Status
+    ensures { result ≡ fault_status bad }
+{
+    match bad {
+        DepotBad::Failed => Status::WriteFault,
+        DepotBad::NoMemory => Status::NoMemory,
+    }
+}

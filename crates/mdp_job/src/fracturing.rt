@@ -1,0 +1,103 @@
+//! The command `fracture`: the outputs of a deck, written of a layout, and the report on them.
+ghost use Rattle.std.specs.Prelude.{◌≡◌, ◌⊎◌, IsTrue, length};
+ghost use Rattle.depot.specs.Counts.{NeverFall, Rose};
+ghost use Rattle.deck_plan.specs.Plans.{IsRead};
+ghost use Rattle.mdp_job.specs.Runs.{run_of};
+ghost use Rattle.mdp_job.specs.Outputs.{report_on};
+ghost use Rattle.mdp_job.specs.Parts.{status_of, top_of, IsSaidSo, IsMade, IsAnswer, IsOfFracture, IsOfGenerate, CountsFor};
+
+use crate::ending::{Ending, fault_status};
+use crate::status::Status;
+use deck_plan::Plan;
+use depot::Depot;
+use job_input::{Input, InputBad, read_input};
+use job_report::{Format, say_report};
+use shot_output::write_outputs;
+use shot_writer::Sums;
+use std::alloc::Global;
+
+// The ending where deck or layout aren't accepted.
+fn refused_input(bad: InputBad) -> Ending
+    ensures status { result.status ≡ status_of bad }
+    ensures top { result.top ≡ top_of bad }
+{
+    match bad {
+        InputBad::Deck(fault) => Ending::plain(Status::Deck(fault)),
+        InputBad::Layout(fault, top) => Ending {
+            status: Status::Layout(fault),
+            top: Some(top),
+        },
+        InputBad::ReadFault => Ending::plain(Status::ReadFault),
+        InputBad::NoMemory => Ending::plain(Status::NoMemory),
+    }
+}
+
+// Says the report on an accepted input whose outputs have these sums.
+fn report_on<D: Depot>(input: &Input, sums: &[Sums], depot: &mut D) -> Status
+    requires { length input.now.deck.outputs ≡ length sums.now }
+    ensures said { IsTrue D.tells → IsSaidSo (D.content depot.old) (D.content depot.new)
+        (Rose (D.counts depot.old).write_faults (D.counts depot.new).write_faults)
+        (Rose (D.counts depot.old).refused (D.counts depot.new).refused)
+        (report_on input.now sums.now) result }
+    ensures write_fault { result ≡ Status.WriteFault
+        → Rose (D.counts depot.old).write_faults (D.counts depot.new).write_faults }
+    ensures kind { IsOfGenerate result }
+    ensures counts { CountsFor (D.counts depot.old) (D.counts depot.new) result }
+    ensures counted { NeverFall (D.counts depot.old) (D.counts depot.new) }
+{
+    let tree = &input.tree;
+    let counts = tree.counts();
+    let outputs = input.deck.outputs.as_slice();
+    match say_report(
+        depot,
+        Format::Gdsii,
+        tree.cells().len(),
+        &counts,
+        "output",
+        outputs,
+        sums,
+    ) {
+        Ok(()) => Status::Done,
+        Err(bad) => fault_status(bad),
+    }
+}
+
+// Writes the outputs of an accepted input, and says the report.
+fn write_all<D: Depot>(alloc: Global, input: &Input, depot: &mut D) -> Status
+    requires { IsRead input.now.deck }
+    ensures made { IsTrue D.tells → IsMade D.tells (D.content depot.old) (D.content depot.new)
+        (Rose (D.counts depot.old).write_faults (D.counts depot.new).write_faults)
+        (Rose (D.counts depot.old).refused (D.counts depot.new).refused) input.now result }
+    ensures write_fault { result ≡ Status.WriteFault
+        → Rose (D.counts depot.old).write_faults (D.counts depot.new).write_faults }
+    ensures kind { IsOfGenerate result }
+    ensures counts { CountsFor (D.counts depot.old) (D.counts depot.new) result }
+    ensures counted { NeverFall (D.counts depot.old) (D.counts depot.new) }
+{
+    let Ok(plan) = Plan::new(alloc, &input.deck, &input.tree) else {
+        return Status::NoMemory;
+    };
+    match write_outputs(alloc, depot, &plan) {
+        Ok(sums) => report_on(input, &sums, depot),
+        Err(bad) => fault_status(bad),
+    }
+}
+
+/// Reads deck and layout, writes the deck's outputs and says the report.
+pub(crate) fn fracture<D: Depot>(alloc: Global, layout: &str, deck: &str, depot: &mut D) -> Ending
+    ensures answer { IsTrue D.tells → IsAnswer D.tells
+        (run_of (D.content depot.old) (D.content depot.new) (D.counts depot.old) (D.counts depot.new))
+        layout.now deck.now result.status result.top }
+    ensures write_fault { result.status ≡ Status.WriteFault
+        → Rose (D.counts depot.old).write_faults (D.counts depot.new).write_faults }
+    ensures read_fault { result.status ≡ Status.ReadFault
+        → Rose (D.counts depot.old).read_faults (D.counts depot.new).read_faults ⊎ IsTrue D.tells }
+    ensures of_fracture { IsOfFracture result.status }
+    ensures counts { CountsFor (D.counts depot.old) (D.counts depot.new) result.status }
+    ensures counted { NeverFall (D.counts depot.old) (D.counts depot.new) }
+{
+    match read_input(alloc, depot, layout, deck) {
+        Ok(input) => Ending::plain(write_all(alloc, &input, depot)),
+        Err(bad) => refused_input(bad),
+    }
+}

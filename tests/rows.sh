@@ -1,0 +1,359 @@
+#!/usr/bin/env bash
+# Small layouts and decks with the shots, lines and statuses that were worked out for them, run on the built program over
+# real files. Shots are in half units, as the program lists them: the lower and the upper Y, the two X of the lower side,
+# and the two of the upper.
+#
+#     usage: tests/rows.sh PROGRAM
+set -u
+program=$(realpath "$1") || exit 1
+gds=$(realpath "$(dirname "$0")/../tools/gds") || exit 1
+room=$(mktemp -d) || exit 1
+trap 'rm -rf "$room"' EXIT
+cd "$room" || exit 1
+passed=0
+failed=0
+
+# check WHAT COMMAND..: runs the command, and counts and names a failure
+check() {
+    local what=$1
+    shift
+    if "$@"; then
+        passed=$((passed + 1))
+    else
+        failed=$((failed + 1))
+        printf 'FAILED: %s\n' "$what"
+    fi
+}
+
+# layout LINE..: the layout G.gds of these lines, in the words of tools/gds
+layout() {
+    printf '%s\n' "$@" | "$gds" G.gds
+}
+
+# deck LINE..: the deck K of these lines
+deck() {
+    printf '%s\n' "$@" >K
+}
+
+# What stands in most decks.
+unit='unit 1000'
+top='top TOP'
+layer='layer A 1 0'
+write='write A out.oas 1 0'
+
+# What a layout has, for its report.
+cells=1
+kept=1
+other=0
+
+# report LINE..: the report of the layout, with these lines for its outputs
+report() {
+    printf 'format gdsii\ncells %d\nkept %d\nother %d\ntexts 0\nnodes 0\nboxes 0\nproperties 0\n' "$cells" "$kept" "$other"
+    printf '%s\n' "$@"
+}
+
+# listing TRIANGLES SHOT..: what `shots` prints of the file with these shots
+listing() {
+    local triangles=$1
+    shift
+    echo 'unit 2000'
+    [ $# -eq 0 ] || { echo 'layer 1 0'; printf '%s\n' "$@"; }
+    echo "shots $# triangles $triangles"
+}
+
+# says STATUS TEXT WORD..: the program ends with this status on these words, and prints this text alone
+says() {
+    local wanted=$1 text=$2 status=0
+    shift 2
+    "$program" "$@" >said || status=$?
+    [ "$status" -eq "$wanted" ] && cmp -s said <(printf '%s' "$text") && return
+    printf 'status %d, and it said:\n' "$status"
+    head -n 20 said
+    return 1
+}
+
+# counts SHOTS TRIANGLES: `fracture` of layout and deck says the report with these sums
+counts() {
+    rm -f out.oas
+    says 0 "$(report "output out.oas shots $1 triangles $2")"$'\n' fracture G.gds K
+}
+
+# row WHAT TRIANGLES SHOT..: `fracture` of layout and deck gives these shots
+row() {
+    local what=$1 triangles=$2
+    shift 2
+    check "$what: report" counts $# "$triangles"
+    check "$what: shots" says 0 "$(listing "$triangles" "$@")"$'\n' shots out.oas
+}
+
+# nothing_made STATUS LINE: `fracture` says this line alone, and makes no file
+nothing_made() {
+    rm -f out.oas
+    says "$1" "$2"$'\n' fracture G.gds K && [ ! -e out.oas ]
+}
+
+# refused WHAT STATUS LINE
+refused() {
+    check "$1" nothing_made "$2" "$3"
+}
+
+# accepted WHAT: `fracture` ends with status 0
+is_accepted() {
+    rm -f out.oas
+    "$program" fracture G.gds K >said && [ -e out.oas ]
+}
+accepted() {
+    check "$1" is_accepted
+}
+
+# records HEX: the shot file is the head, these records and END
+has_records() {
+    [ "$(head -c -256 out.oas | tail -c +42 | od -An -v -tx1 | tr -d ' \n')" = "$(tr 'A-F' 'a-f' <<<"${1// /}")" ]
+}
+records() {
+    check "$1: records" has_records "$2"
+}
+
+has_size() {
+    [ "$(stat -c %s "$1")" -eq "$2" ]
+}
+
+square='boundary 1 0 0,0 0,10 10,10 10,0'
+triangle='boundary 1 0 0,0 10,0 10,10'
+
+# ---- single shapes
+
+layout 'cell TOP' "$square"
+deck "$unit" "$top" "$layer" "$write"
+row 'a square' 800 '0 20 0 20 0 20'
+records 'a square' '14 7B 01 00 14 14 00 00'
+check 'a square: size' has_size out.oas 305
+cp out.oas square.oas
+
+deck "$unit" "$top" 'layer A 9 0' "$write"
+kept=0 other=1 row 'a layer without shapes' 0
+check 'a layer without shapes: size' has_size out.oas 297
+
+layout 'cell TOP' "$triangle"
+deck "$unit" "$top" "$layer" "$write"
+row 'a triangle' 400 '0 20 0 20 20 20'
+records 'a triangle' '18 7B 01 00 14 14 28 00 00'
+
+layout 'cell TOP' 'boundary 1 0 0,0 10,10 10,0 0,10'
+row 'a figure eight' 400 '0 10 0 0 0 10' '0 10 20 20 10 20' '10 20 0 10 0 0' '10 20 10 20 20 20'
+
+layout 'cell TOP' "$square" 'boundary 1 0 5,5 15,5 15,15 5,15'
+kept=2 row 'two squares, run round both ways' 1400 '0 10 0 20 0 20' '10 20 0 30 0 30' '20 30 10 30 10 30'
+
+# ---- operations
+
+layout 'cell TOP' 'boundary 1 0 0,0 11,0 11,11' 'boundary 2 0 0,0 11,0 0,11'
+deck "$unit" "$top" "$layer" 'layer B 2 0' 'and C A B' 'write C out.oas 1 0'
+kept=2 row 'a tip at an odd half unit' 242 '0 11 0 22 11 11'
+records 'a tip at an odd half unit' '17 7B 01 00 16 0B 16 17 00 00'
+
+deck "$unit" "$top" "$layer" 'layer B 2 0' 'and C A B' 'grow E C 1' 'write E out.oas 1 0'
+kept=2 row 'grown' 382 '-1 0 -1 23 -1 23' '0 1 -1 23 -1 23' '1 12 -1 23 10 12'
+records 'grown' '14 7B 01 00 18 01 03 03 14 7B 01 00 18 01 03 00 17 7B 01 00 18 0B 16 17 03 02'
+
+layout 'cell TOP' 'boundary 1 0 0,0 10,0 10,100 0,100'
+deck "$unit" "$top" "$layer" 'shrink S A 10' 'write S out.oas 1 0'
+row 'shrunk to nothing' 0
+deck "$unit" "$top" "$layer" 'shrink S A 9' 'write S out.oas 1 0'
+row 'shrunk' 728 '9 191 9 11 9 11'
+deck "$unit" "$top" "$layer" 'shrink S A 9 3' 'write S out.oas 1 0'
+row 'shrunk by a rectangle' 776 '3 197 9 11 9 11'
+
+layout 'cell TOP' "$square"
+deck "$unit" "$top" "$layer" 'grow E A 3 1' 'write E out.oas 1 0'
+row 'grown by a rectangle' 1144 '-1 0 -3 23 -3 23' '0 21 -3 23 -3 23'
+layout 'cell TOP' "$triangle"
+row 'a triangle grown by a rectangle' 744 '-1 0 -3 23 -3 23' '0 1 -3 23 -3 23' '1 21 -3 23 17 23'
+deck "$unit" "$top" "$layer" 'mirror M A 5' 'write M out.oas 1 0'
+row 'mirrored' 400 '0 20 -10 10 -10 -10'
+deck "$unit" "$top" 'frame 0 0 20 20' "$layer" 'invert V A' 'write V out.oas 1 0'
+row 'inverted' 400 '0 20 0 0 0 20'
+
+# ---- bands and limits
+
+layout 'cell TOP' 'boundary 1 0 0,0 1000,0 1000,1000'
+deck "$unit" "$top" 'band 1024' "$layer" "$write"
+check 'two bands' counts 2 4000000
+deck "$unit" "$top" 'band 1048576' "$layer" "$write"
+check 'one band' counts 1 4000000
+
+layout 'cell TOP' 'boundary 1 0 0,0 500,0 500,10 0,10'
+deck "$unit" "$top" 'limits 200 400' "$layer" "$write"
+row 'cut by width' 40000 '0 20 0 400 0 400' '0 20 400 800 400 800' '0 20 800 1000 800 1000'
+
+# ---- paths and placements
+
+deck "$unit" "$top" "$layer" "$write"
+layout 'cell TOP' 'path 1 0 type=2 width=20 0,0 100,0'
+row 'a path with longer ends' 19200 '-20 0 -20 220 -20 220' '0 20 -20 220 -20 220'
+layout 'cell TOP' 'path 1 0 type=0 width=20 0,0 100,0 100,50'
+row 'a path with a corner' 24000 '-20 0 0 220 0 220' '0 20 0 220 0 220' '20 100 180 220 180 220'
+
+small='boundary 1 0 0,0 4,0 4,4'
+array='aref C flip angle=270 size=3x2 100,200'
+layout 'cell C' "$small" 'cell TOP' "$array 130,200 100,240"
+cells=2 row 'an array' 384 \
+    '392 400 192 200 200 200' '392 400 212 220 220 220' '392 400 232 240 240 240' \
+    '432 440 192 200 200 200' '432 440 212 220 220 220' '432 440 232 240 240 240'
+layout 'cell C' "$small" 'cell TOP' "$array 131,200 100,240"
+refused 'an array whose step is no whole number' 3 'layout refused: gdsii value at 226 rule 9'
+layout 'cell C' "$small" 'cell TOP' 'sref C angle=425A000000000000 0,0'
+cells=2 row 'turned by 90 degrees' 64 '0 8 0 0 -8 0'
+layout 'cell C' "$small" 'cell TOP' 'sref C angle=422D000000000000 0,0'
+refused 'turned by 45 degrees' 3 'layout refused: gdsii value at 206 rule 5'
+
+layout 'cell C' "$small" 'cell TOP' 'sref C mag=4120000000000000 0,0'
+cells=2 row 'enlarged' 256 '0 16 0 16 16 16'
+layout 'cell C' "$small" 'cell TOP' 'sref C flip mag=2 angle=270 100,200'
+cells=2 row 'enlarged, flipped and turned' 256 '384 400 184 200 200 200'
+layout 'cell C' "$small" 'cell TOP' 'sref C mag=4210000000000000 0,0'
+accepted 'enlarged by 16'
+layout 'cell C' "$small" 'cell TOP' 'sref C mag=4211000000000000 0,0'
+refused 'enlarged by 17' 3 'layout refused: gdsii value at 206 rule 4'
+layout 'cell B' "$small" 'cell A' 'sref B mag=4 0,0' 'cell TOP' 'sref A mag=8 0,0'
+refused 'enlarged twice' 3 'layout refused: scale 32 TOP A B'
+layout 'cell A' 'path 1 0 width=-20 0,0 100,0' 'cell TOP' 'sref A mag=2 0,0'
+refused 'a width that may not be enlarged' 3 'layout refused: fixed width A scale 2'
+
+# ---- refused layouts
+
+layout 'cell TOP' "$square"
+cp G.gds square.gds
+accepted 'the unit agrees'
+deck 'unit 2000' "$top" "$layer" "$write"
+refused 'another unit' 3 'layout refused: gdsii unit 3944b82fa09b5a54'
+deck "$unit" "$top" "$layer" "$write"
+{
+    cat square.gds
+    head -c 2048 /dev/zero
+} >G.gds
+accepted 'zero bytes behind the library'
+{
+    cat square.gds
+    printf '\0\0\1'
+} >G.gds
+refused 'another byte behind the library' 3 'layout refused: gdsii tail at 170'
+
+# each beginning of the square's file is refused at the record that it cuts
+cut_is_refused() {
+    local length starts at=0 start
+    starts='0 6 34 40 60 88 96 100 106 112 156 160 164'
+    for ((length = 0; length < 168; length++)); do
+        for start in $starts; do
+            [ "$start" -gt "$length" ] || at=$start
+        done
+        head -c "$length" square.gds >G.gds
+        nothing_made 3 "layout refused: gdsii short at $at" || return 1
+    done
+}
+check 'cut files' cut_is_refused
+
+layout 'cell P' 'sref Q 0,0' 'cell Q' 'sref P 0,0' 'cell TOP' "$square"
+deck "$unit" 'top P' "$layer" "$write"
+is_cycle() {
+    nothing_made 3 'layout refused: cycle P Q' >/dev/null || nothing_made 3 'layout refused: cycle Q P'
+}
+check 'a cycle' is_cycle
+deck "$unit" 'top R' "$layer" "$write"
+refused 'no top cell' 3 'layout refused: no cell R'
+layout 'cell TOP' 'sref X 0,0'
+deck "$unit" "$top" "$layer" "$write"
+refused 'an unknown cell' 3 'layout refused: cell TOP places unknown X'
+layout 'cell TOP' "$square" 'cell TOP'
+refused 'two cells of a name' 3 'layout refused: gdsii name at 192 repeats 88'
+
+layout 'cell TOP' 'boundary 1 0 0,0 0,10 536870912,10 536870912,0'
+check 'the greatest extent' counts 512 42949672960
+layout 'cell TOP' 'boundary 1 0 0,0 0,10 536870913,10 536870913,0'
+refused 'beyond the greatest extent' 3 'layout refused: extent 1073741826'
+
+# ---- refused decks
+
+layout 'cell TOP' "$square"
+# deck_row WHAT LINE TEXT: the usual deck with this fourth line is refused by this text
+deck_row() {
+    deck "$unit" "$top" "$layer" "$2"
+    refused "$1" 2 "deck refused: line 4 $3"
+}
+deck_row 'a missing operand' 'or C A' 'column 7'
+deck_row 'an unknown operand' 'or C A B' 'unknown B'
+deck_row 'no frame' 'invert C A' 'has no frame'
+deck_row 'a late setting' 'unit 1000' 'out of order'
+deck_row 'an output on the layout' 'write A G.gds 1 0' 'file name in use'
+deck_row 'an output on the deck' 'write A K 1 0' 'file name in use'
+deck_row 'a negative datatype' 'layer Z 1 -1' 'out of range -1'
+deck_row 'an odd sum' 'grow E A 3 2' 'odd sum'
+deck_row 'a second definition' 'layer A 2 0' 'repeats line 3'
+deck "$unit" "$top" "$layer"
+refused 'no output' 2 'deck refused: line 4 out of order'
+deck "$unit" "$top" "$layer"
+for ((k = 0; k < 65; k++)); do
+    echo "write A out$k.oas 1 0" >>K
+done
+refused 'too many outputs' 2 'deck refused: line 68 over the limit'
+head -c 65537 /dev/zero | tr '\0' ' ' >K
+refused 'a long deck' 2 'deck refused: longer than 65536 bytes'
+rm G.gds
+refused 'a long deck without the layout' 2 'deck refused: longer than 65536 bytes'
+deck "$unit" "$top" "$layer" "$write"
+refused 'a missing layout' 4 'read fault'
+
+# ---- several outputs
+
+layout 'cell TOP' "$square" 'boundary 2 0 0,0 4,0 4,4'
+deck "$unit" "$top" "$layer" 'layer B 2 0' "$write" 'write B two.oas 7 3'
+two_outputs() {
+    rm -f out.oas two.oas
+    says 0 "$(kept=2 report 'output out.oas shots 1 triangles 800' 'output two.oas shots 1 triangles 64')"$'\n' fracture G.gds K
+}
+check 'two outputs' two_outputs
+check 'the first of two outputs' cmp out.oas square.oas
+check 'the second of two outputs' says 0 $'unit 2000\nlayer 7 3\n0 8 0 8 8 8\nshots 1 triangles 64\n' shots two.oas
+
+layout 'cell TOP' "$square"
+deck "$unit" "$top" "$layer"
+lines=()
+for ((k = 0; k < 64; k++)); do
+    echo "write A out$k.oas 1 0" >>K
+    lines+=("output out$k.oas shots 1 triangles 800")
+done
+many_outputs() {
+    local k
+    says 0 "$(report "${lines[@]}")"$'\n' fracture G.gds K || return 1
+    for ((k = 0; k < 64; k++)); do
+        cmp "out$k.oas" square.oas || return 1
+    done
+}
+check 'sixty-four outputs' many_outputs
+
+# ---- words, listings and the generated layout
+
+deck "$unit" "$top" "$layer" "$write"
+check 'a missing word' says 1 $'words refused\n' fracture G.gds
+check 'no words' says 1 $'words refused\n'
+check 'too small a number' says 1 $'words refused\n' generate 0 F
+check 'too great a number' says 1 $'words refused\n' generate 1001 F
+check 'no number' says 1 $'words refused\n' generate +1 F
+check 'a number of 19 digits' says 1 $'words refused\n' generate 0000000000000000001 F
+check 'a missing shot file' says 4 $'read fault\n' shots F
+{
+    head -c 41 square.oas
+    printf '\x14\x7B\x01\x00\x94\x00\x14\x00\x00'
+    tail -c 256 square.oas
+} >spelling.oas
+check 'another spelling' says 7 $'check refused: spelling.oas: spelling at 41\n' shots spelling.oas
+
+generated() {
+    says 0 $'generated 1266 bytes\n' generate "$1" G.gds && cells=2 kept=16 other=1 counts "$2" "$3"
+}
+check 'the generated layout for 1' generated 1 32 684032
+check 'the generated layout for 007' says 0 $'generated 1266 bytes\n' generate 007 F
+check 'the generated layout for 100' generated 100 160016 3200320000
+
+printf '%d rows passed, %d failed\n' "$passed" "$failed"
+[ "$failed" -eq 0 ]
