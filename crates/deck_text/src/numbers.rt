@@ -43,9 +43,9 @@ fn decimal_value(digits: &[u8]) -> u64
     value
 }
 
-// What 1 to 18 digits say, and nothing of other bytes.
+/// What 1 to 18 digits say in decimal, and nothing of other bytes.
 #[tactic(auto, unfolding(crate::specs::Kinds::digits_value))]
-fn digits_value(digits: &[u8]) -> Option<i64>
+pub fn digits_value(digits: &[u8]) -> Option<i64>
     ensures value { result ≡ option_map (λ n. pos n) (digits_value digits.now) }
     ensures positive { IfSome result (λ z. pos 0 ≤ℤ z) }
 {
