@@ -8,7 +8,7 @@ use bool_ops::{Op, combine};
 use gds_reader::read_gds;
 use half_grid::{Trap, Window};
 use layout_model::Pair;
-use std::alloc::Global;
+use std::alloc::{AllocError, Global};
 use std::process::ExitCode;
 use std::time::Instant;
 use std::{env, io};
@@ -22,6 +22,14 @@ enum Task {
     Squares(u32),
     /// So many random rectangles.
     Random(u32),
+    /// So many tall rectangles, all alive at once.
+    Comb(u32),
+    /// So many upright bars, and as many level ones across them.
+    Hatch(u32),
+    /// So many squares round one point.
+    Pile(u32),
+    /// So many random rectangles, and upright wires over all of them.
+    Wires(u32),
     /// A GDSII file of so many rectangles.
     Gds(u32),
 }
@@ -33,6 +41,10 @@ fn task_of(kind: &str, count: u32) -> Option<Task> {
     match kind {
         "squares" => Some(Task::Squares(count.min(2000))),
         "random" => Some(Task::Random(count)),
+        "comb" => Some(Task::Comb(count)),
+        "hatch" => Some(Task::Hatch(count.min(1000))),
+        "pile" => Some(Task::Pile(count.min(10_000))),
+        "wires" => Some(Task::Wires(count)),
         "gds" => Some(Task::Gds(count)),
         _ => None,
     }
@@ -83,16 +95,22 @@ fn read(rt: &HostRuntime, alloc: Global, bytes: &[u8]) -> io::Result<()> {
     }
 }
 
+// Unites the trapezoids, where there was memory for them.
+fn unite_made(rt: &HostRuntime, kind: &str, made: Result<Vec<Trap>, AllocError>) -> io::Result<()> {
+    match made {
+        Ok(traps) => unite(rt, rt.alloc(), kind, traps.as_slice()),
+        Err(_) => println!(rt; "{kind}: want of memory"),
+    }
+}
+
 fn measure(rt: &HostRuntime, alloc: Global, task: Task) -> io::Result<()> {
     match task {
-        Task::Squares(side) => match shapes::squares(alloc, side) {
-            Ok(traps) => unite(rt, alloc, "squares", traps.as_slice()),
-            Err(_) => println!(rt; "squares: want of memory"),
-        },
-        Task::Random(count) => match shapes::rectangles(alloc, count) {
-            Ok(traps) => unite(rt, alloc, "random", traps.as_slice()),
-            Err(_) => println!(rt; "random: want of memory"),
-        },
+        Task::Squares(side) => unite_made(rt, "squares", shapes::squares(alloc, side)),
+        Task::Random(count) => unite_made(rt, "random", shapes::rectangles(alloc, count)),
+        Task::Comb(count) => unite_made(rt, "comb", shapes::comb(alloc, count)),
+        Task::Hatch(count) => unite_made(rt, "hatch", shapes::hatch(alloc, count)),
+        Task::Pile(count) => unite_made(rt, "pile", shapes::pile(alloc, count)),
+        Task::Wires(count) => unite_made(rt, "wires", shapes::wires(alloc, count)),
         Task::Gds(count) => match layouts::file(alloc, count) {
             Ok(bytes) => read(rt, alloc, bytes.as_slice()),
             Err(_) => println!(rt; "gds: want of memory"),
@@ -107,7 +125,9 @@ fn run(rt: &HostRuntime) -> io::Result<()> {
     };
     match asked(words.as_slice()) {
         Some(task) => measure(rt, alloc, task),
-        None => println!(rt; "words: squares SIDE, random COUNT or gds COUNT; COUNT up to {MOST}"),
+        None => println!(rt;
+            "words: squares SIDE or hatch SIDE, random, comb, pile, wires or gds COUNT; up to {MOST}"
+        ),
     }
 }
 

@@ -65,3 +65,60 @@ pub(crate) fn rectangles(alloc: Global, count: u32) -> Result<Vec<Trap>, AllocEr
     }
     Ok(traps)
 }
+
+/// So many tall rectangles side by side, each a little higher than the one before, so that all are alive at once.
+pub(crate) fn comb(alloc: Global, count: u32) -> Result<Vec<Trap>, AllocError> {
+    let mut traps = Vec::new(alloc);
+    for k in 0..count {
+        put(
+            &mut traps,
+            20 * i64::from(k),
+            2 * i64::from(k),
+            10,
+            4 * i64::from(count),
+        )?;
+    }
+    Ok(traps)
+}
+
+/// So many upright bars, and as many level ones across them.
+pub(crate) fn hatch(alloc: Global, count: u32) -> Result<Vec<Trap>, AllocError> {
+    let side = 20 * i64::from(count);
+    let mut traps = Vec::new(alloc);
+    for k in 0..count {
+        let at = 20 * i64::from(k);
+        put(&mut traps, at, 0, 10, side)?;
+        put(&mut traps, 0, at, side, 10)?;
+    }
+    Ok(traps)
+}
+
+/// So many squares round one point, each larger than the one before.
+pub(crate) fn pile(alloc: Global, count: u32) -> Result<Vec<Trap>, AllocError> {
+    let mut traps = Vec::new(alloc);
+    for k in 0..count {
+        let half = i64::from(k).saturating_add(1);
+        put(
+            &mut traps,
+            0i64.saturating_sub(half),
+            0i64.saturating_sub(half),
+            half.saturating_mul(2),
+            half.saturating_mul(2),
+        )?;
+    }
+    Ok(traps)
+}
+
+/// Random rectangles, and a hundredth as many upright wires over all of them.
+pub(crate) fn wires(alloc: Global, count: u32) -> Result<Vec<Trap>, AllocError> {
+    let mut traps = rectangles(alloc, count)?;
+    let side = i64::from(count.isqrt())
+        .saturating_mul(400)
+        .saturating_add(1);
+    let many = count / 100;
+    for k in 0..many {
+        let x = side.saturating_mul(i64::from(k)) / i64::from(many.max(1));
+        put(&mut traps, x, 0, 20, side)?;
+    }
+    Ok(traps)
+}
