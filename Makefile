@@ -60,6 +60,10 @@ bench: $(BENCH) $(PROGRAM)
 	$(BENCH) squares 1000
 	$(BENCH) random 10000
 	$(BENCH) random 100000
+	$(BENCH) random 1000000
+	$(BENCH) comb 100000
+	$(BENCH) hatch 400
+	$(BENCH) pile 1000
 	tools/bench $(PROGRAM) build/bench $(SIZE)
 
 # What the kit has proved stays in crates/*/out, since to prove it again takes minutes.
