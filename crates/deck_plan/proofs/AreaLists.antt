@@ -48,6 +48,7 @@ covers_exactly window area traps h = record {
     never = λ t out. not_some (count_in traps t) (λ some. out (h.inside t some));
   };
 }
+
 pub rows_decided : (window : RowRange) (t : Tile) → Decided (IsInRows window t)
 rows_decided window t =
     by_lt_z t.j window.y0
@@ -115,7 +116,7 @@ of_taken Xor a b t (inr (h, k)) = rw (none_has a t h, some_has b t k) refl
 
 result_decided : (op : Op) (a b : List Trapezoid) (window : RowRange) (t : Tile) → Decided (IsInResult op a b window t)
 result_decided op a b window t = elim (rows_decided window t) [
-  inl rows ↦ by_test (takes op (has_tile a t) (has_tile b t)) refl (λ h. inl (record { rows = rows; taken = h })) (λ h. inr (λ r. false_true (sym h ∙ r.taken)))
+  | inl rows ↦ by_test (takes op (has_tile a t) (has_tile b t)) refl (λ h. inl (record { rows = rows; taken = h })) (λ h. inr (λ r. false_true (sym h ∙ r.taken)))
   | inr out ↦ inr (λ r. out r.rows)
 ]
 

@@ -161,12 +161,12 @@ module _ (cells : List Cell) (top : ℕ) (deck : Deck) (sound : (k : ℕ) (step 
       record {
         long = set_length rows n result ∙ h.long;
         outside = λ m early t a. elim (get_cases rows n result None m within) [
-          inl e ↦ subst (λ w. IsInRowsOf w t) (sym e.1)
-          (derived_in cells top deck.frame (IsInArea cells top deck) rows n h.outside step result s r t ((area_step cells top deck sound n step here t).0 (subst (λ k. IsInArea cells top deck k t) e.0 a)))
+          | inl e ↦ subst (λ w. IsInRowsOf w t) (sym e.1)
+              (derived_in cells top deck.frame (IsInArea cells top deck) rows n h.outside step result s r t ((area_step cells top deck sound n step here t).0 (subst (λ k. IsInArea cells top deck k t) e.0 a)))
           | inr e ↦ subst (λ w. IsInRowsOf w t) (sym e.1) (h.outside m (less m n early e.0) t a)
         ];
         near = λ m. elim (get_cases rows n result None m within) [
-          inl e ↦ subst (λ w. IfSome w (IsRowsUpTo (rows_bound m))) (sym e.1) (subst (λ k. IfSome result (IsRowsUpTo (rows_bound k))) (sym e.0) (derived_near cells top deck.frame frames rows n h.near step result s r))
+          | inl e ↦ subst (λ w. IfSome w (IsRowsUpTo (rows_bound m))) (sym e.1) (subst (λ k. IfSome result (IsRowsUpTo (rows_bound k))) (sym e.0) (derived_near cells top deck.frame frames rows n h.near step result s r))
           | inr e ↦ subst (λ w. IfSome w (IsRowsUpTo (rows_bound m))) (sym e.1) (h.near m)
         ];
         unknown = λ m late. elim (get_cases rows n result None m within) [ inl e ↦ absurd (omega (arith, late, e.0)) | inr e ↦ e.1 ∙ h.unknown m (omega (arith, late)) ];
@@ -189,6 +189,6 @@ near_known (Some w) n few h = record {
 pub near_any : (cells : List Cell) (top : ℕ) (deck : Deck) (count : ℕ) (rows : List (Option RowRange)) → AreExtents cells top deck count rows → count ≤ 256 → (n : ℕ) → IfSome (get_or rows n None) (IsRowsUpTo (2 ^ 31))
 near_any cells top deck count rows h few n =
     elim (below n count) [
-      inl early ↦ near_known (get_or rows n None) n (omega (arith, early, few)) (h.near n)
+      | inl early ↦ near_known (get_or rows n None) n (omega (arith, early, few)) (h.near n)
       | inr late ↦ subst (λ w. IfSome w (IsRowsUpTo (2 ^ 31))) (sym (h.unknown n late)) tt
     ]

@@ -114,7 +114,7 @@ module _ (deck : Deck) (name user : ℕ) (asked : Need) (before : List (Option N
         -- what holds of the new need and of the others holds of all
         each : (P : ℕ → Need → Type 0) → P operand.name need → ((n : ℕ) (other : Need) → NeedIs needs n other → P n other) → (n : ℕ) (other : Need) → NeedIs (Put need) n other → P n other
         each P here others n other is = elim (at n) [
-          inl h ↦ subst (λ m. P m other) (sym h.0) (subst (P operand.name) (same_Some need other (one_slot (Put need) n (Some need) (Some other) h.1 is)) here)
+          | inl h ↦ subst (λ m. P m other) (sym h.0) (subst (P operand.name) (same_Some need other (one_slot (Put need) n (Some need) (Some other) h.1 is)) here)
           | inr h ↦ others n other (sym h.1 ∙ is)
         ]
 
@@ -122,7 +122,7 @@ module _ (deck : Deck) (name user : ℕ) (asked : Need) (before : List (Option N
         put_grown n old there =
             let g = r.grown n old there in
             elim (at n) [
-              inl h ↦ (let o = p.old g.0 (subst (λ m. NeedIs needs m g.0) h.0 g.1) in (need, h.1, omega (arith, ints, g.2, o.0), omega (arith, g.3, o.1)))
+              | inl h ↦ (let o = p.old g.0 (subst (λ m. NeedIs needs m g.0) h.0 g.1) in (need, h.1, omega (arith, ints, g.2, o.0), omega (arith, g.3, o.1)))
               | inr h ↦ (g.0, h.1 ∙ g.1, g.2, g.3)
             ]
 
@@ -144,7 +144,7 @@ module _ (deck : Deck) (name user : ℕ) (asked : Need) (before : List (Option N
         -- what was given stays given
         still_given : (other : Taken) → IsGiven needs other → IsGiven (Put need) other
         still_given other g = elim (at other.name) [
-          inl h ↦ (let o = p.old g.0 (subst (λ m. NeedIs needs m g.0) h.0 g.1) in (need, h.1, omega (arith, ints, g.2, o.0), omega (arith, g.3, o.1)))
+          | inl h ↦ (let o = p.old g.0 (subst (λ m. NeedIs needs m g.0) h.0 g.1) in (need, h.1, omega (arith, ints, g.2, o.0), omega (arith, g.3, o.1)))
           | inr h ↦ (g.0, h.1 ∙ g.1, g.2, g.3)
         ]
 
@@ -186,7 +186,7 @@ module _ (deck : Deck) (name k : ℕ) (needs : List (Option Need)) (h : AreHalos
     own = h.own;
     none = h.none;
     operands = λ n need operand from there takes. elim (at_or_above k n from) [
-      inl same ↦ absurd (none-some need (sym e ∙ get_or_from_slice_get needs k (Some need) None (subst (λ m. NeedIs needs m need) same there)))
+      | inl same ↦ absurd (none-some need (sym e ∙ get_or_from_slice_get needs k (Some need) None (subst (λ m. NeedIs needs m need) same there)))
       | inr above ↦ h.operands n need operand above there takes
     ];
     reached = h.reached;
@@ -246,7 +246,7 @@ module _ (deck : Deck) (name k : ℕ) (needs : List (Option Need)) (h : AreHalos
       own = (h.own.0, after.raising.kept name own_low ∙ h.own.1, h.own.2);
       none = after.raising.none;
       operands = λ n need operand from is takes. elim (at_or_above k n from) [
-        inl same ↦ (let g = of_step need operand (subst (λ m. NeedIs needs m need) same (before_is n need from is)) (subst (λ m. Takes deck m operand) same takes) in (g.0, g.1, g.2, omega (arith, g.3, same)))
+        | inl same ↦ (let g = of_step need operand (subst (λ m. NeedIs needs m need) same (before_is n need from is)) (subst (λ m. Takes deck m operand) same takes) in (g.0, g.1, g.2, omega (arith, g.3, same)))
         | inr above ↦ of_later n need operand above (before_is n need from is) takes
       ];
       reached = after.raising.reached;
@@ -276,7 +276,7 @@ module _ (deck : Deck) (name : ℕ) (few : name < 256) where
 
   only_own : (n : ℕ) (need : Need) → NeedIs Alone n need → (n ≡ name) × (need ≡ Own)
   only_own n need is = elim (set_cases (replicate 256 None) name (Some Own) n alone_within) [
-    inl h ↦ (h.0, sym (same_Some Own need (one_slot Alone n (Some Own) (Some need) h.1 is)))
+    | inl h ↦ (h.0, sym (same_Some Own need (one_slot Alone n (Some Own) (Some need) h.1 is)))
     | inr h ↦ absurd (none-some need (sym (all_alike 256 None n (Some need) (sym h.1 ∙ is))))
   ]
 

@@ -78,10 +78,10 @@ module _ (cells : List Cell) (grid : All IsCellOnGrid cells) where
   loop_in zero n f h = absurd h
   loop_in (suc depth) n f h =
       elim (has_split (λ x. x ≡ f) (own_flats cells n) (flat_map (λ placement. placed_things flat_image placement (option_map_or (things_within (own_flats cells) flat_image cells depth) (cell_number cells placement.target) [])) (placements_at cells n)) h) [
-        inl a ↦ own_loop n f a
+        | inl a ↦ own_loop n f a
         | inr b ↦ (let s = has_slot (λ placement. Has (λ x. x ≡ f) (placed_things flat_image placement (option_map_or (things_within (own_flats cells) flat_image cells depth) (cell_number cells placement.target) []))) (placements_at cells n)
-        (has_flat (λ x. x ≡ f) (λ placement. placed_things flat_image placement (option_map_or (things_within (own_flats cells) flat_image cells depth) (cell_number cells placement.target) [])) (placements_at cells n) b) in
-        below_loop (things_within (own_flats cells) flat_image cells depth) s.1 f (slot_all IsPlacementOnGrid (placements_at cells n) s.0 s.1 (on_grid cells grid n) s.2) (loop_in depth) (cell_number cells s.1.target) s.3)
+            (has_flat (λ x. x ≡ f) (λ placement. placed_things flat_image placement (option_map_or (things_within (own_flats cells) flat_image cells depth) (cell_number cells placement.target) [])) (placements_at cells n) b) in
+            below_loop (things_within (own_flats cells) flat_image cells depth) s.1 f (slot_all IsPlacementOnGrid (placements_at cells n) s.0 s.1 (on_grid cells grid n) s.2) (loop_in depth) (cell_number cells s.1.target) s.3)
       ]
 
   pub outlines : (top : ℕ) → All (λ flat. IsOutline flat.points) (flattened cells top)

@@ -33,26 +33,31 @@ any_first P x xs p = (0, x, omega arith, refl, p)
 
 -- a list of points has rows
 rows_of : (a : Point) (points : List Point) → (w : RowRange) × AreRowsOf (a ∷ points) w
-rows_of a [] = (row_range a.y a.y, record {
-  above = all_cons (λ p. a.y ≤ℤ p.y) a [] (omega (arith, ints)) (λ k d inside. absurd (omega (arith, inside)));
-  below = all_cons (λ p. p.y ≤ℤ a.y) a [] (omega (arith, ints)) (λ k d inside. absurd (omega (arith, inside)));
-  least = any_first (λ p. p.y ≡ a.y) a [] refl;
-  greatest = any_first (λ p. p.y ≡ a.y) a [] refl;
-})
+rows_of a [] = (
+  row_range a.y a.y,
+  record {
+    above = all_cons (λ p. a.y ≤ℤ p.y) a [] (omega (arith, ints)) (λ k d inside. absurd (omega (arith, inside)));
+    below = all_cons (λ p. p.y ≤ℤ a.y) a [] (omega (arith, ints)) (λ k d inside. absurd (omega (arith, inside)));
+    least = any_first (λ p. p.y ≡ a.y) a [] refl;
+    greatest = any_first (λ p. p.y ≡ a.y) a [] refl;
+  },
+)
 rows_of a (b ∷ points) =
     let rest = rows_of b points in
     let w : RowRange = rest.0 in
-    let r = rest.1 in
-    (row_range (int_min a.y w.y0) (int_max a.y w.y1), record {
-      above = all_cons (λ p. int_min a.y w.y0 ≤ℤ p.y) a (b ∷ points) (omega (arith, ints, clamps)) (all_more (λ p. w.y0 ≤ℤ p.y) (λ p. int_min a.y w.y0 ≤ℤ p.y) (b ∷ points) (λ p h. omega (arith, ints, clamps, h)) r.above);
-      below = all_cons (λ p. p.y ≤ℤ int_max a.y w.y1) a (b ∷ points) (omega (arith, ints, clamps)) (all_more (λ p. p.y ≤ℤ w.y1) (λ p. p.y ≤ℤ int_max a.y w.y1) (b ∷ points) (λ p h. omega (arith, ints, clamps, h)) r.below);
-      least = by_lt_z a.y w.y0
-          (λ lt. any_first (λ p. p.y ≡ int_min a.y w.y0) a (b ∷ points) (omega (arith, ints, clamps, lt)))
-          (λ ge. any_cons (λ p. p.y ≡ w.y0) (λ p. p.y ≡ int_min a.y w.y0) a (b ∷ points) (λ p h. omega (arith, ints, clamps, ge, h)) r.least);
-      greatest = by_lt_z w.y1 a.y
-          (λ lt. any_first (λ p. p.y ≡ int_max a.y w.y1) a (b ∷ points) (omega (arith, ints, clamps, lt)))
-          (λ ge. any_cons (λ p. p.y ≡ w.y1) (λ p. p.y ≡ int_max a.y w.y1) a (b ∷ points) (λ p h. omega (arith, ints, clamps, ge, h)) r.greatest);
-    })
+    let r = rest.1 in (
+      row_range (int_min a.y w.y0) (int_max a.y w.y1),
+      record {
+        above = all_cons (λ p. int_min a.y w.y0 ≤ℤ p.y) a (b ∷ points) (omega (arith, ints, clamps)) (all_more (λ p. w.y0 ≤ℤ p.y) (λ p. int_min a.y w.y0 ≤ℤ p.y) (b ∷ points) (λ p h. omega (arith, ints, clamps, h)) r.above);
+        below = all_cons (λ p. p.y ≤ℤ int_max a.y w.y1) a (b ∷ points) (omega (arith, ints, clamps)) (all_more (λ p. p.y ≤ℤ w.y1) (λ p. p.y ≤ℤ int_max a.y w.y1) (b ∷ points) (λ p h. omega (arith, ints, clamps, h)) r.below);
+        least = by_lt_z a.y w.y0
+            (λ lt. any_first (λ p. p.y ≡ int_min a.y w.y0) a (b ∷ points) (omega (arith, ints, clamps, lt)))
+            (λ ge. any_cons (λ p. p.y ≡ w.y0) (λ p. p.y ≡ int_min a.y w.y0) a (b ∷ points) (λ p h. omega (arith, ints, clamps, ge, h)) r.least);
+        greatest = by_lt_z w.y1 a.y
+            (λ lt. any_first (λ p. p.y ≡ int_max a.y w.y1) a (b ∷ points) (omega (arith, ints, clamps, lt)))
+            (λ ge. any_cons (λ p. p.y ≡ w.y1) (λ p. p.y ≡ int_max a.y w.y1) a (b ∷ points) (λ p h. omega (arith, ints, clamps, ge, h)) r.greatest);
+      },
+    )
 
 pub pieces_cover : (points : List Point) (traps : List Trapezoid) → IsClosed points → ArePieces points traps → CoversExactly traps (IsInPolygon points)
 pieces_cover [] traps closed pieces = absurd closed
@@ -85,8 +90,8 @@ module _ (cells : List Cell) (table : List (List (List Trapezoid))) (cell number
 
   cut_old : (n k : ℕ) (other : Shape) → ((n ≡ cell) × (k ≡ number) → ⊥) → IsCut table n k other → IsCut (with_pieces table cell number pieces) n k other
   cut_old n k other apart cut = elim (apart_or_same cell n) [
-    inl e ↦ subst (λ m. IsCut (with_pieces table cell number pieces) m k other) e
-    (cut_beside table cell number k other pieces place.cell (λ same. apart (sym e, sym same)) (subst (λ m. IsCut table m k other) (sym e) cut))
+    | inl e ↦ subst (λ m. IsCut (with_pieces table cell number pieces) m k other) e
+        (cut_beside table cell number k other pieces place.cell (λ same. apart (sym e, sym same)) (subst (λ m. IsCut table m k other) (sym e) cut))
     | inr d ↦ cut_elsewhere table cell number n k other pieces d cut
   ]
 
@@ -98,9 +103,9 @@ module _ (cells : List Cell) (table : List (List (List Trapezoid))) (cell number
 
   pub cut_more : AreCutUpTo cells table cell number → AreCutUpTo cells (with_pieces table cell number pieces) cell (number + 1)
   cut_more cut = λ n k other early there. elim early [
-    inl before ↦ cut_old n k other (λ both. (let e = both.0 in omega (arith, before, e))) (cut n k other (inl before) there)
+    | inl before ↦ cut_old n k other (λ both. (let e = both.0 in omega (arith, before, e))) (cut n k other (inl before) there)
     | inr own ↦ elim (apart_or_same k number) [
-      inl e ↦ cut_new n k other own.0 e there
+      | inl e ↦ cut_new n k other own.0 e there
       | inr d ↦ cut_old n k other (λ both. d both.1) (cut n k other (inr (own.0, before_or_at k number own.1 d)) there)
     ]
   ]
@@ -108,8 +113,8 @@ module _ (cells : List Cell) (table : List (List (List Trapezoid))) (cell number
 -- the cell is cut
 pub cell_cut : (cells : List Cell) (table : List (List (List Trapezoid))) (cell number : ℕ) → length (shapes_at cells cell) ≤ number → AreCutUpTo cells table cell number → AreCutUpTo cells table (cell + 1) 0
 cell_cut cells table cell number all cut = λ n k shape early there. elim early [
-  inl before ↦ elim (apart_or_same n cell) [
-    inl e ↦ (let inside = slice_get_within (shapes_at cells n) k shape there in cut n k shape (inr (e, omega (arith, inside, all, ap (λ m. length (shapes_at cells m)) e))) there)
+  | inl before ↦ elim (apart_or_same n cell) [
+    | inl e ↦ (let inside = slice_get_within (shapes_at cells n) k shape there in cut n k shape (inr (e, omega (arith, inside, all, ap (λ m. length (shapes_at cells m)) e))) there)
     | inr d ↦ cut n k shape (inl (before_or_at n cell before d)) there
   ]
   | inr own ↦ absurd (omega (arith, own.1))

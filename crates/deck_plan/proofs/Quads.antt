@@ -49,12 +49,12 @@ quads_wind (q ∷ quads) t all =
     let sum = one_more q quads t in
     let later = quads_wind quads t (All-tail IsQuad q quads all) in
     elim (zero_decided (winding (ring_of q) t)) [
-      inl zero ↦ elim later [
-        inl l ↦ (let w = l.1 in inl (inr l.0, omega (arith, ints, zero, w, sum)))
+      | inl zero ↦ elim later [
+        | inl l ↦ (let w = l.1 in inl (inr l.0, omega (arith, ints, zero, w, sum)))
         | inr l ↦ (let w = l.1 in inr (λ h. elim h [ inl i ↦ i zero | inr i ↦ l.0 i ], omega (arith, ints, zero, w, sum)))
       ]
       | inr wound ↦ (let one = first.once t wound in elim later [
-        inl l ↦ (let w = l.1 in inl (inl wound, omega (arith, ints, one, w, sum)))
+        | inl l ↦ (let w = l.1 in inl (inl wound, omega (arith, ints, one, w, sum)))
         | inr l ↦ (let w = l.1 in inl (inl wound, omega (arith, ints, one, w, sum)))
       ])
     ]
@@ -79,7 +79,7 @@ layer_has cells top pair window quads all covers edges is traps joined =
     (λ t rows a. record {
       rows = rows;
       wound = λ e. elim (quads_wind quads t all) [
-        inl w ↦ (let more = w.1 in let alike = same t in omega (arith, ints, more, alike, e))
+        | inl w ↦ (let more = w.1 in let alike = same t in omega (arith, ints, more, alike, e))
         | inr w ↦ w.0 (any_has (In t) quads ((covers t rows.from rows.below).1 a))
       ];
     })

@@ -86,7 +86,7 @@ module _ (cells : List Cell) (top : ℕ) (deck : Deck) (band : RowRange) (needs 
       -- all lists so far
       pub lists_near : (lists : List (List Trapezoid)) → length lists ≤ 256 → ((m : ℕ) → m < length lists → Ready m (list_at lists m)) → (a : ℕ) → All IsLegal (list_at lists a) × All (HasCornersUpTo (2 ^ 42)) (list_at lists a)
       lists_near lists few ready a = elim (below_or a (length lists)) [
-        inl early ↦ ready_near a (list_at lists a) (omega (arith, early, few)) (ready a early)
+        | inl early ↦ ready_near a (list_at lists a) (omega (arith, early, few)) (ready a early)
         | inr late ↦ (empty_all IsLegal (list_at lists a) (past lists a late), empty_all (HasCornersUpTo (2 ^ 42)) (list_at lists a) (past lists a late))
       ]
 
@@ -128,7 +128,7 @@ module _ (cells : List Cell) (top : ℕ) (deck : Deck) (band : RowRange) (needs 
   pub ready_put : {V : Type 0} (f : V → List Trapezoid) (vs : List V) (v : V) → ((m : ℕ) → m < length vs → Ready m (list_at (map f vs) m)) → Ready (length vs) (f v)
       → (m : ℕ) → m < length vs + 1 → Ready m (list_at (map f (vs ++ v ∷ [])) m)
   ready_put f vs v before new m inside = elim (at_last m (length vs) inside) [
-    inl early ↦ subst (λ traps. Ready m traps) (sym (put_before f vs v m early)) (before m early)
+    | inl early ↦ subst (λ traps. Ready m traps) (sym (put_before f vs v m early)) (before m early)
     | inr last ↦ subst (λ k. Ready k (list_at (map f (vs ++ v ∷ [])) k)) (sym last) (subst (λ traps. Ready (length vs) traps) (sym (put_last f vs v)) new)
   ]
 

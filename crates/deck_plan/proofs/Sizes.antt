@@ -48,7 +48,7 @@ near_decided dx dy r (z ∷ traps) t legal =
     near_or_not dx dy z r (All-head IsLegal z traps legal) t
     (λ close. inl (close.0, in_first z traps close.0 close.1, close.2))
     (λ far. elim (near_decided dx dy r traps t (All-tail IsLegal z traps legal)) [
-      inl h ↦ inl (h.0, in_later z traps h.0 h.1, h.2)
+      | inl h ↦ inl (h.0, in_later z traps h.0 h.1, h.2)
       | inr none ↦ inr (λ h. elim (in_either z traps h.0 (trapezoid_has h.0 z) refl h.1) [ inl i ↦ far (h.0, i, h.2) | inr i ↦ none (h.0, i, h.2) ])
     ])
 
@@ -119,9 +119,9 @@ module _ (dx dy : ℤ) (r : IsRectangle dx dy) (traps : List Trapezoid) (window 
 
   kept : (t : Tile) → IsInRows window t → IsInSome traps t → (IsInSome grown t → ⊥) → (u : Tile) → IsNear dx dy t u → IsInSome traps u
   kept t rows some out u near = elim (some_decided traps u) [
-    inl h ↦ h
+    | inl h ↦ h
     | inr none ↦ (let there = outside_has.all u (near_rows dx dy window t u rows near) (one_in z u ((tiles u).1 (around t some u near)), none) in
-    absurd (out (grown_is.all t rows (u, there, near))))
+        absurd (out (grown_is.all t rows (u, there, near))))
   ]
 
   not_grown : (t : Tile) → IsShrunk dx dy (IsInSome traps) t → IsInSome grown t → ⊥

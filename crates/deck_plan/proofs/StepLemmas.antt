@@ -168,8 +168,7 @@ module _ (cells : List Cell) (top : ℕ) (deck : Deck) (sound : (k : ℕ) (step 
   -- the area of definition n is that of its step
   pub area_step : (n : ℕ) (step : Step) → slice_get deck.steps n ≡ Some step → (t : Tile) → (Area n t → Step_of Area t step) × (Step_of Area t step → Area n t)
   area_step n step e t =
-      let inside = slice_get_within deck.steps n step e in
-      (
+      let inside = slice_get_within deck.steps n step e in (
         λ h. subst (λ found. IsSomeAnd found (Step_of Area t)) e (alike_at (Over n) Area n t (before_enough n inside) (slice_get deck.steps n) refl ((enough n inside t).1 h)),
         λ h. (enough n inside t).0 (alike_at Area (Over n) n t (backwards (Over n) Area n (before_enough n inside)) (slice_get deck.steps n) refl (subst (λ found. IsSomeAnd found (Step_of Area t)) (sym e) h)),
       )

@@ -124,7 +124,12 @@ impl Extents {
             return layer_rows(tree, *pair);
         }
         let operands = operands_of(step);
-        derived_rows(frame, step, self.at(operands.first), self.at(operands.second))
+        derived_rows(
+            frame,
+            step,
+            self.at(operands.first),
+            self.at(operands.second),
+        )
     }
 
     /// The rows of the first definitions of a deck, so many.

@@ -11,8 +11,6 @@ mod needs;
 mod plans;
 mod sizing;
 mod steps;
-#[cfg(test)]
-mod tests;
 mod windows;
 
 pub use plans::Plan;

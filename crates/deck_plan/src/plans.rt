@@ -15,15 +15,15 @@ ghost use Rattle.deck_plan.specs.Halos.{AreHalos};
 ghost use Rattle.deck_plan.specs.Ready.{IsReady};
 ghost use Rattle.deck_plan.specs.Plans.{planned, IsRead};
 
+use crate::cutting::cut_parts;
 use crate::extents::Extents;
 use crate::layers::layer_area;
 use crate::needs::{Needs, step_at};
 use crate::sizing::{grown_area, shrunk_area};
 use crate::steps::{combined_area, inverted_area, mirrored_area};
 use crate::windows::no_rows;
-use crate::cutting::cut_parts;
-use cell_tree::Tree;
 use bool_ops::Op;
+use cell_tree::Tree;
 use deck_text::{Deck, Step};
 use flat_walk::Parts;
 use geo_stream::NoMemory;
@@ -148,10 +148,34 @@ impl<'t> Plan<'t> {
     {
         match step {
             Step::Layer(pair) => layer_area(alloc, self.tree, &self.parts, *pair, window),
-            Step::Or(a, b) => combined_area(alloc, Op::Or, list(areas, *a), list(areas, *b), window),
-            Step::And(a, b) => combined_area(alloc, Op::And, list(areas, *a), list(areas, *b), window),
-            Step::Sub(a, b) => combined_area(alloc, Op::Sub, list(areas, *a), list(areas, *b), window),
-            Step::Xor(a, b) => combined_area(alloc, Op::Xor, list(areas, *a), list(areas, *b), window),
+            Step::Or(a, b) => combined_area(
+                alloc,
+                Op::Or,
+                list(areas, *a),
+                list(areas, *b),
+                window,
+            ),
+            Step::And(a, b) => combined_area(
+                alloc,
+                Op::And,
+                list(areas, *a),
+                list(areas, *b),
+                window,
+            ),
+            Step::Sub(a, b) => combined_area(
+                alloc,
+                Op::Sub,
+                list(areas, *a),
+                list(areas, *b),
+                window,
+            ),
+            Step::Xor(a, b) => combined_area(
+                alloc,
+                Op::Xor,
+                list(areas, *a),
+                list(areas, *b),
+                window,
+            ),
             Step::Grow(a, dx, dy) => grown_area(alloc, list(areas, *a), *dx, *dy, window),
             Step::Shrink(a, dx, dy) => shrunk_area(alloc, list(areas, *a), *dx, *dy, window),
             Step::Invert(a) => match self.deck().frame {
