@@ -6,6 +6,8 @@
 mod checking;
 mod faults;
 mod judging;
+#[cfg(test)]
+mod tests;
 
 pub use checking::check_files;
 pub use faults::{CheckBad, CheckFault};

@@ -90,13 +90,8 @@ fn bar(rt: &impl Abort, y0: i64, y1: i64) -> Trap {
     trap(rt, y0, y1, Line::Upright(5), Line::Upright(25))
 }
 
-fn at(i: i64, j: i64, count: u64, wanted: u64) -> Verdict {
-    let tile = Tile {
-        i,
-        j,
-        side: Side::Left,
-    };
-    Verdict::Miscovered(tile, count, wanted)
+fn at(i: i64, j: i64, side: Side, count: u64, wanted: u64) -> Verdict {
+    Verdict::Miscovered(Tile { i, j, side }, count, wanted)
 }
 
 #[test]
@@ -107,14 +102,23 @@ fn shots_of_a_triangle(rt: HostRuntime) {
     let table: [(&[Trap], Verdict); 9] = [
         (&[high, low], Verdict::Exact),
         (&[whole], Verdict::Exact),
-        (&[low, high, high], at(1024, 1024, 2, 1)),
-        (&[low], at(1024, 1024, 0, 1)),
-        (&[whole, bar(&rt, -9000, -8980)], at(5, -9000, 1, 0)),
-        (&[whole, bar(&rt, 2097152, 2097172)], at(5, 2097152, 1, 0)),
-        (&[whole, bar(&rt, 1500, 1520)], at(5, 1500, 1, 0)),
+        (&[low, high, high], at(1024, 1024, Side::Right, 2, 1)),
+        (&[low], at(1024, 1024, Side::Right, 0, 1)),
+        (
+            &[whole, bar(&rt, -9000, -8980)],
+            at(5, -9000, Side::Left, 1, 0),
+        ),
+        (
+            &[whole, bar(&rt, 2097152, 2097172)],
+            at(5, 2097152, Side::Left, 1, 0),
+        ),
+        (
+            &[whole, bar(&rt, 1500, 1520)],
+            at(5, 1500, Side::Left, 1, 0),
+        ),
         (
             &[bar(&rt, -9000, -8980), bar(&rt, -9010, -8990)],
-            at(5, -9010, 1, 0),
+            at(5, -9010, Side::Left, 1, 0),
         ),
         (&[low, part(&rt, -1, 2000)], Verdict::TooLarge(1)),
     ];
