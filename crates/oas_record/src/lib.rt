@@ -33,5 +33,3 @@ pub use reading::record_at;
 pub use records::OasRecord;
 pub use repetition::Rep;
 
-#[cfg(test)]
-mod tests;
