@@ -32,4 +32,3 @@ pub use laws::record_laws;
 pub use reading::record_at;
 pub use records::OasRecord;
 pub use repetition::Rep;
-
