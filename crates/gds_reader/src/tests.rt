@@ -506,8 +506,8 @@ const ARRAYS: [Entry; 12] = [
     (Part::Needed, ENDEL),
 ];
 
-// A text's own records stand in any order.
-const TEXTS: [Entry; 13] = [
+// A text's own records stand in any order, its properties behind them.
+const TEXTS: [Entry; 16] = [
     (Part::Needed, TEXT),
     (Part::Free, ELFLAGS),
     (Part::Free, PLEX),
@@ -521,7 +521,13 @@ const TEXTS: [Entry; 13] = [
     (Part::Free, ANGLE),
     (Part::Free, POINT),
     (Part::Free, STRING),
+    (Part::Free, ATTRIBUTE),
+    (Part::Value, VALUE),
+    (Part::Needed, ENDEL),
 ];
+
+// The place of the first record of a text that isn't one of its own.
+const BEHIND_TEXT: usize = 13;
 
 // The file of these records, of which those at two places are exchanged, and the offset of a place in it.
 fn exchanged(
@@ -625,9 +631,6 @@ fn keeps_the_order_of_references(rt: HostRuntime) -> Result<(), Fail> {
 fn takes_exchanges_with(alloc: Global, second: usize) -> Result<bool, Fail> {
     for first in 1..second {
         let (mut bytes, _) = exchanged(alloc, &TEXTS, (first, second), 0)?;
-        for record in [ATTRIBUTE, VALUE, ENDEL] {
-            bytes.extend_from_slice(record)?;
-        }
         bytes.extend_from_slice(&TAIL)?;
         if refusal_of(alloc, &bytes, 1000).is_some() {
             return Ok(false);
@@ -636,22 +639,22 @@ fn takes_exchanges_with(alloc: Global, second: usize) -> Result<bool, Fail> {
     Ok(true)
 }
 
+// Each two of a text's own records exchanged, and each of them with what begins the text or stands behind it.
 #[test]
 fn takes_texts_in_any_order(rt: HostRuntime) -> Result<(), Fail> {
-    for second in 2..TEXTS.len() {
+    for second in 2..BEHIND_TEXT {
         assert!(rt; takes_exchanges_with(rt.alloc(), second)?);
     }
-    // A property stands behind all of them, an attribute before its value.
-    let early = [
-        TEXT, LAYER, TEXTTYPE, POINT, ATTRIBUTE, VALUE, STRING, ENDEL,
-    ];
-    assert_eq!(rt; refusal(rt.alloc(), &early)?, Some(GdsBad::Order(136)));
-    assert_eq!(rt;
-        refusal(rt.alloc(), &[STRING, TEXT, ENDEL])?,
-        Some(GdsBad::Order(96))
-    );
-    let bare = [TEXT, LAYER, TEXTTYPE, POINT, STRING, ATTRIBUTE, ENDEL];
-    assert_eq!(rt; refusal(rt.alloc(), &bare)?, Some(GdsBad::Order(136)));
+    for second in BEHIND_TEXT..TEXTS.len() {
+        assert_eq!(rt; wrong_exchange_with(rt.alloc(), &TEXTS, second)?, None);
+    }
+    for own in 1..BEHIND_TEXT {
+        let (bytes, at) = exchanged(rt.alloc(), &TEXTS, (0, own), 0)?;
+        assert_eq!(rt;
+            refusal_of(rt.alloc(), &bytes, 1000),
+            Some(GdsBad::Order(at))
+        );
+    }
     Ok(())
 }
 
