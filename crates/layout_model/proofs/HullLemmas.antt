@@ -1,5 +1,5 @@
 -- The least box of a grid's places and of a list of points.
-use Rattle.std.proofs.Common.{◌≡◌, ◌<◌, ◌≤◌, ◌+◌, ◌-◌, ◌*◌, ◌/◌, ◌%◌, ℕ, ℤ, pos, negsuc, neg_ℤ, ◌+ℤ◌, ◌*ℤ◌, ◌≤ℤ◌, ◌<ℤ◌, List, [], ◌∷◌, All, Any, length, ◌∙◌, ap, sym, subst, refl, ◌++◌, ◌⊎◌, inl, inr, int_lt, cond, true, false, arith}
+use Rattle.std.proofs.Common.{◌≡◌, ◌<◌, ◌≤◌, ◌+◌, ◌*◌, ◌/◌, ◌%◌, ℕ, ℤ, pos, negsuc, ◌+ℤ◌, ◌*ℤ◌, ◌≤ℤ◌, ◌<ℤ◌, List, [], ◌∷◌, All, Any, ◌∙◌, sym, subst, refl, ◌++◌, ◌⊎◌, inl, inr, int_lt, cond, true, false, arith}
 use Rattle.std.proofs.Math.IntN.{pos-*ℤ-pos, pos-*ℤ-negsuc}
 use Rattle.std.proofs.Math.Nat.{mul-le-mul, mod-lt, div-lt_iff_lt-mul}
 use Rattle.std.proofs.lemmas.Int.{ints, clamps}

@@ -13,3 +13,5 @@ mod NearLemmas
 mod SegmentLemmas
 mod CornerLemmas
 mod HullLemmas
+mod StrideLemmas
+mod RulerLemmas

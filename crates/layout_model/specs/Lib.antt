@@ -4,6 +4,8 @@ pub mod Names
 pub mod Grids
 pub mod Hulls
 pub mod Offsets
+pub mod Intervals
+pub mod Strides
 pub mod Images
 pub mod Slants
 pub mod Paths

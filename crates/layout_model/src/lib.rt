@@ -6,6 +6,7 @@
 mod cells;
 mod courses;
 mod directions;
+mod intervals;
 mod names;
 mod offsets;
 mod orient;
@@ -16,10 +17,12 @@ mod products;
 mod rectangles;
 mod shapes;
 mod stretches;
+mod strides;
 #[cfg(test)]
 mod tests;
 
 pub use cells::{Cell, Counts, Layout, Placement};
+pub use intervals::{Axis, Interval};
 pub use names::{Name, NameBad};
 pub use offsets::Offsets;
 pub use orient::{Orient, image};

@@ -1,11 +1,14 @@
 ghost use Rattle.std.specs.Int.{int_min, int_max};
-ghost use Rattle.std.specs.Prelude.{◌≢◌, [], ◌∷◌, ℕ, ◌≤◌, ◌≤ℤ◌, ◌≡◌, ◌<◌, ◌*◌, ◌^◌, pos, ◌+ℤ◌, ◌*ℤ◌, Some, length, slice_get, IfOk, IsOk};
+ghost use Rattle.std.specs.Prelude.{◌≢◌, [], ◌∷◌, ℕ, ◌≤◌, ◌≤ℤ◌, ◌≡◌, ◌<◌, ◌*◌, ◌^◌, pos, ◌+ℤ◌, ◌*ℤ◌, Some, length, slice_get, IfOk, IsOk, MatchOption};
 ghost use Rattle.half_grid.specs.Reach.{IsWithinReach};
-ghost use Rattle.layout_model.specs.Products.{IsProduct};
 ghost use Rattle.layout_model.specs.Grids.{IsGrid, grid_place, grid_places, nth_place};
 ghost use Rattle.layout_model.specs.Hulls.{IsLeastBoxOf};
+ghost use Rattle.layout_model.specs.Intervals.{along, HasNoneIn, IsFirstIn};
+ghost use Rattle.layout_model.specs.Strides.{mark, IsNearby, IsRuler};
 
-use crate::products::times;
+use crate::intervals::{Axis, Interval};
+use crate::products::combine;
+use crate::strides::Ruler;
 use geo_stream::NoMemory;
 use half_grid::{Frame, Point};
 use smallvec::SmallVec;
@@ -49,26 +52,6 @@ impl Model for Offsets {
     ghost invariant = { λ offsets. IsSound offsets.places };
 }
 
-// The coordinate `a*u + b*v`.
-fn combine(a: u64, u: i64, b: u64, v: i64) -> i64
-    requires a { a < 2 ^ 32 }
-    requires b { b < 2 ^ 32 }
-    requires reach { IsWithinReach ((pos a *ℤ u) +ℤ (pos b *ℤ v)) }
-    ensures { result ≡ (pos a *ℤ u) +ℤ (pos b *ℤ v) }
-{
-    sum(times(a, u), times(b, v))
-}
-
-// The sum of two products, which is within reach.
-fn sum(first: i128, second: i128) -> i64
-    requires first { IsProduct first }
-    requires second { IsProduct second }
-    requires reach { IsWithinReach (first +ℤ second) }
-    ensures { result ≡ first +ℤ second }
-{
-    (first + second) as i64
-}
-
 impl Grid {
     // The place with these two numbers.
     fn at(self, a: u64, b: u64) -> Point
@@ -92,6 +75,61 @@ impl Grid {
         let columns = u64::from(self.nu);
         self.at(k % columns, k / columns)
     }
+}
+
+// A step on an axis. One that no place takes counts as none.
+fn step_on(axis: Axis, count: u32, step: Point) -> i64
+    requires some { 1 ≤ count }
+    requires reach { (a : ℕ) → a < count → IsWithinReach (pos a *ℤ along axis step) }
+    ensures near { IsNearby result }
+    ensures same { (a : ℕ) → a < count → (pos a *ℤ result) ≡ (pos a *ℤ along axis step) }
+{
+    if count == 1 {
+        return 0;
+    }
+    axis.of(step)
+}
+
+impl Grid {
+    // Its places on an axis.
+    fn ruler(self, axis: Axis) -> Ruler
+        requires { IsGrid self.nu self.nv self.u self.v }
+        ensures ruler { IsRuler result }
+        ensures nu { result.nu ≡ self.nu }
+        ensures nv { result.nv ≡ self.nv }
+        ensures same { (k : ℕ) → k < self.nu * self.nv → mark result k ≡ along axis (nth_place self.nu self.u self.v k) }
+    {
+        Ruler {
+            nu: u64::from(self.nu),
+            nv: u64::from(self.nv),
+            u: step_on(axis, self.nu, self.u),
+            v: step_on(axis, self.nv, self.v),
+        }
+    }
+
+    // The first place in an interval from number `from` on.
+    fn first_in(self, interval: Interval, from: u64) -> Option<u64>
+        requires grid { IsGrid self.nu self.nv self.u self.v }
+        requires inside { from < self.nu * self.nv }
+        ensures { MatchOption result (HasNoneIn interval (grid_places self.nu self.nv self.u self.v) from (self.nu * self.nv))
+            (IsFirstIn interval (grid_places self.nu self.nv self.u self.v) from) }
+    {
+        self.ruler(interval.axis).first_in(interval, from)
+    }
+}
+
+// The first of these places in an interval from number `from` on.
+fn first_of(places: &[Point], interval: Interval, from: u64) -> Option<u64>
+    ensures { MatchOption result (HasNoneIn interval places.now from (length places.now)) (IsFirstIn interval places.now from) }
+{
+    let mut k = from;
+    while k < places.len() as u64 {
+        if interval.has(places[k as usize]) {
+            return Some(k);
+        }
+        k += 1;
+    }
+    None
 }
 
 // Which of so many steps from 0 on goes least far to the right.
@@ -277,6 +315,22 @@ impl Offsets {
             Places::One(place) => *place,
             Places::Listed(places) => places.as_slice()[k as usize],
             Places::Regular(grid) => grid.place(k),
+        }
+    }
+
+    /// The number of the first place in an interval of an axis, from number `from` on, if there is one. In a grid it is
+    /// found by division: in a row at once, and over all rows at once where the places of a row have the same coordinate.
+    /// So it takes no longer than the grid has rows.
+    pub fn first_in(&self, interval: Interval, from: u64) -> Option<u64>
+        ensures { MatchOption result (HasNoneIn interval self.now from (length self.now)) (IsFirstIn interval self.now from) }
+    {
+        if from >= self.count() {
+            return None;
+        }
+        match &self.places {
+            Places::One(place) => first_of(&[*place], interval, from),
+            Places::Listed(places) => first_of(places.as_slice(), interval, from),
+            Places::Regular(grid) => grid.first_in(interval, from),
         }
     }
 }

@@ -5,8 +5,8 @@ ghost use Rattle.layout_model.specs.Names.{IsName};
 ghost use Rattle.layout_model.specs.PathBounds.{IsNear};
 
 use crate::{
-    Cell, Counts, Layout, Name, NameBad, Offsets, Orient, Pair, PathBad, Placement, Points, Shape,
-    ShapeBad, image, pair_law, path_laws, path_shapes,
+    Axis, Cell, Counts, Interval, Layout, Name, NameBad, Offsets, Orient, Pair, PathBad, Placement,
+    Points, Shape, ShapeBad, image, pair_law, path_laws, path_shapes,
 };
 use geo_stream::List;
 use half_grid::{Point, Side, Tile, winding_at};
@@ -106,6 +106,32 @@ fn a_grid_in_order(rt: HostRuntime) {
     for (k, place) in wanted.iter().enumerate() {
         assert_eq!(rt; grid.nth(k as u64), *place);
     }
+}
+
+fn between(axis: Axis, low: i64, high: i64) -> Interval {
+    Interval { axis, low, high }
+}
+
+#[test]
+fn first_places_in_an_interval(rt: HostRuntime) {
+    let alloc = rt.alloc();
+    // (0, 0), (10, 1), (20, 2), (-4, 100), (6, 101) and (16, 102).
+    let slanted = Offsets::grid(alloc, 3, 2, point(10, 1), point(-4, 100)).expect(&rt, "a grid");
+    assert_eq!(rt; slanted.first_in(between(Axis::X, 5, 12), 0), Some(1));
+    assert_eq!(rt; slanted.first_in(between(Axis::X, 5, 12), 2), Some(4));
+    assert_eq!(rt; slanted.first_in(between(Axis::X, 5, 12), 5), None);
+    assert_eq!(rt; slanted.first_in(between(Axis::X, -9, -1), 0), Some(3));
+    assert_eq!(rt; slanted.first_in(between(Axis::Y, 3, 99), 0), None);
+    assert_eq!(rt; slanted.first_in(between(Axis::Y, 101, 101), 0), Some(4));
+    // Four columns to the left, and five rows.
+    let upright = Offsets::grid(alloc, 4, 5, point(-10, 0), point(0, 100)).expect(&rt, "a grid");
+    assert_eq!(rt; upright.first_in(between(Axis::Y, 150, 250), 0), Some(8));
+    assert_eq!(rt; upright.first_in(between(Axis::Y, 150, 250), 9), Some(9));
+    assert_eq!(rt; upright.first_in(between(Axis::Y, 150, 250), 12), None);
+    assert_eq!(rt; upright.first_in(between(Axis::X, -29, -20), 3), Some(6));
+    let two = Offsets::list(alloc, &[point(2, 4), point(6, 8)]).expect(&rt, "memory");
+    assert_eq!(rt; two.first_in(between(Axis::Y, 5, 8), 0), Some(1));
+    assert_eq!(rt; two.first_in(between(Axis::Y, 5, 7), 0), None);
 }
 
 #[test]

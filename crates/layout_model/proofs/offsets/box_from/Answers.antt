@@ -1,4 +1,4 @@
-use Rattle.std.proofs.Common.{◌∷◌, take, ap, sym, subst, arith}
+use Rattle.std.proofs.Common.{◌∷◌, take, sym, subst, arith}
 use Rattle.std.proofs.lemmas.List.{take_more}
 use Rattle.layout_model.specs.Hulls.{IsLeastBoxOf}
 use Rattle.layout_model.proofs.HullLemmas.{box_grows}

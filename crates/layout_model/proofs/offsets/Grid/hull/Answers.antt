@@ -1,5 +1,4 @@
-use Rattle.std.proofs.Common.{◌≡◌, ◌≤ℤ◌, ◌<◌, ◌%◌, ◌/◌, ◌*◌, ℕ, ap, sym, subst, ◌∙◌}
-use Rattle.half_grid.specs.declared.plane.Point.{Point}
+use Rattle.std.proofs.Common.{◌≡◌, ◌<◌, ◌%◌, ◌/◌, ◌*◌, ℕ, ap, sym, ◌∙◌}
 use Rattle.layout_model.specs.Grids.{nth_place}
 use Rattle.layout_model.specs.Hulls.{IsInBox}
 use Rattle.layout_model.proofs.HullLemmas.{grid_all, grid_any, column_inside, row_inside, sums_ordered}
