@@ -355,5 +355,115 @@ check 'the generated layout for 1' generated 1 32 684032
 check 'the generated layout for 007' says 0 $'generated 1266 bytes\n' generate 007 F
 check 'the generated layout for 100' generated 100 160016 3200320000
 
+# ---- shot files that are checked
+
+# shot_file NAME HEX: the shot file with these records, for 1,000 grid steps a micrometre
+shot_file() {
+    {
+        head -c 41 square.oas
+        printf "$(sed 's/../\\x&/g' <<<"${2// /}")"
+        tail -c 256 square.oas
+    } >"$1"
+}
+
+# judged STATUS TEXT: `check` of layout and deck says this text alone, and leaves the file as it is
+judged() {
+    local before
+    before=$(md5sum out.oas 2>/dev/null)
+    says "$1" "$2" check G.gds K && [ "$before" = "$(md5sum out.oas 2>/dev/null)" ]
+}
+
+# exact WHAT HEX SHOTS TRIANGLES: the file with these records is exact
+exact() {
+    shot_file out.oas "$2"
+    check "$1" judged 0 "$(report "exact out.oas shots $3 triangles $4")"$'\n'
+}
+
+# differs WHAT HEX TEXT: the file with these records is refused
+differs() {
+    shot_file out.oas "$2"
+    check "$1" judged 7 "check refused: out.oas: $3"$'\n'
+}
+
+one='14 7B 01 00 14 14 00 00'
+layout 'cell TOP' "$square"
+deck "$unit" "$top" "$layer" "$write"
+exact 'the square' "$one" 1 800
+exact 'the square in two shots, from above' '14 7B 01 00 14 0A 00 14 14 7B 01 00 14 0A 00 00' 2 800
+differs 'a missing shot' '' 'tile 0 0 left count 0 wanted 1'
+differs 'a missing upper half' '14 7B 01 00 14 0A 00 00' 'tile 0 10 left count 0 wanted 1'
+differs 'a doubled shot' "$one$one" 'tile 0 0 left count 2 wanted 1'
+thousand=$(for ((k = 0; k < 1000; k++)); do printf '%s' "$one"; done)
+differs 'a shot given 1,000 times' "$thousand" 'tile 0 0 left count 1000 wanted 1'
+differs 'moved right by a half unit' '14 7B 01 00 14 14 02 00' 'tile 0 0 left count 0 wanted 1'
+differs 'moved left by a half unit' '14 7B 01 00 14 14 03 00' 'tile -1 0 left count 1 wanted 0'
+differs 'moved up by a half unit' '14 7B 01 00 14 14 00 02' 'tile 0 0 left count 0 wanted 1'
+differs 'moved down by a half unit' '14 7B 01 00 14 14 00 03' 'tile 0 -1 left count 1 wanted 0'
+differs 'a shot below all bands' "$one 14 7B 01 00 14 14 00 27" 'tile 0 -19 left count 1 wanted 0'
+differs 'a shot above all bands' "$one 14 7B 01 00 14 14 00 80 80 80 02" 'tile 0 2097152 left count 1 wanted 0'
+differs 'a shot beside the area' "$one 14 7B 01 00 14 14 C8 01 00" 'tile 100 0 left count 1 wanted 0'
+differs 'a second shot that is no shot' "$one 14 7B 01 00 14 00 00 00" 'illegal at 49'
+differs 'another spelling' '14 7B 01 00 94 00 14 00 00' 'spelling at 41'
+differs 'no record' '15' 'record at 41'
+differs 'another layer' '14 7B 02 00 14 14 00 00' 'unit or layer differs'
+deck "$unit" "$top" 'limits 10 20' "$layer" "$write"
+differs 'a shot beyond the limits' "$one" 'shot 0 too large'
+differs 'the second shot beyond the limits' "14 7B 01 00 0A 0A 00 00 $one" 'shot 1 too large'
+deck "$unit" "$top" "$layer" 'write A out.oas 2 0'
+differs 'an output of another layer' "$one" 'unit or layer differs'
+
+deck "$unit" "$top" "$layer" "$write"
+cp G.gds out.oas
+check 'no shot file' judged 7 $'check refused: out.oas: head at 0\n'
+{
+    head -c 19 square.oas
+    printf '\xA0\x1F'
+    tail -c 284 square.oas
+} >out.oas
+check 'another unit' judged 7 $'check refused: out.oas: unit or layer differs\n'
+truncate -s 268435457 out.oas
+check 'a file that is too long' judged 7 $'check refused: out.oas: longer than 268435456 bytes\n'
+rm out.oas
+check 'a missing file' judged 4 $'read fault\n'
+check 'no file is made' test ! -e out.oas
+
+# one tile too many at a slanted side, for the records of each of the three kinds of slanted shots
+layout 'cell TOP' "$triangle"
+exact 'a rising left side' '18 7B 01 00 14 14 28 00 00' 1 400
+differs 'a tile too many at a rising left side' '18 7B 01 00 14 13 26 00 00 14 7B 01 00 01 01 26 26' 'tile 19 19 left count 1 wanted 0'
+layout 'cell TOP' 'boundary 1 0 0,0 10,0 0,10'
+exact 'a falling right side' '19 7B 01 00 14 14 29 00 00' 1 400
+differs 'a tile too many at a falling right side' '19 7B 01 00 14 13 27 00 00 14 7B 01 00 01 01 00 26' 'tile 0 19 right count 1 wanted 0'
+layout 'cell TOP' 'boundary 1 0 0,0 20,0 15,5 5,5'
+exact 'two slanted sides' '17 7B 01 00 28 0A 14 15 00 00' 1 600
+differs 'a tile too many at two slanted sides' '17 7B 01 00 28 09 12 13 00 00 14 7B 01 00 16 01 12 12' 'tile 9 9 left count 1 wanted 0'
+
+layout 'cell TOP' "$square"
+deck "$unit" "$top" 'layer A 9 0' "$write"
+kept=0 other=1 exact 'an empty area with an empty file' '' 0 0
+differs 'an empty area with a shot' "$one" 'tile 0 0 left count 1 wanted 0'
+
+deck "$unit" "$top" "$layer" "$write" 'write A two.oas 2 0'
+shot_file out.oas "$one"
+shot_file two.oas '14 7B 02 00 14 14 00 00'
+check 'two exact files' judged 0 "$(report 'exact out.oas shots 1 triangles 800' 'exact two.oas shots 1 triangles 800')"$'\n'
+shot_file two.oas ''
+check 'the second of two files differs' judged 7 $'check refused: two.oas: tile 0 0 left count 0 wanted 1\n'
+rm two.oas
+check 'the second of two files is missing' judged 4 $'read fault\n'
+differs 'the first of two files differs, and the second is missing' '' 'tile 0 0 left count 0 wanted 1'
+deck "$unit" "$top" "$layer" 'write B out.oas 1 0'
+check 'a refused deck' judged 2 $'deck refused: line 4 unknown B\n'
+deck "$unit" 'top R' "$layer" "$write"
+check 'a refused layout' judged 3 $'layout refused: no cell R\n'
+check 'a missing word' says 1 $'words refused\n' check G.gds
+
+written_is_exact() {
+    says 0 $'generated 1266 bytes\n' generate 20 G.gds || return 1
+    deck "$unit" "$top" "$layer" "$write"
+    "$program" fracture G.gds K >said && "$program" check G.gds K >judged && cmp judged <(sed 's/^output /exact /' said)
+}
+check 'what fracture writes is exact' written_is_exact
+
 printf '%d rows passed, %d failed\n' "$passed" "$failed"
 [ "$failed" -eq 0 ]

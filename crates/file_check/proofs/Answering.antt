@@ -13,7 +13,7 @@ use Rattle.shot_reader.specs.declared.refusing.ShotBad.{ShotBad}
 use Rattle.shot_reader.specs.declared.refusing.ShotBad.TheVariants.{Head, Record, Spelling, Illegal, End, NoMemory as Wanting}
 use Rattle.shot_writer.specs.declared.parts.Sums.{Sums}
 use Rattle.output_check.specs.Certificates.{IsCertified}
-use Rattle.file_check.specs.Files.{Holds, HasHeadOf, IsTextOf, AreSumsOf, IsExactText, IsExactFile, IsFaultOf, IsFileFault, OfOutput, AreExactFiles}
+use Rattle.file_check.specs.Files.{Holds, HasHeadOf, IsTextOf, AreSumsOf, IsExactText, IsExactFile, IsFaultOf, IsFileFault, OfOutput, AreExactFiles, IsFirstFileFault}
 use Rattle.file_check.specs.Judgements.{data_of, IsShotsFault, IsBytesFault}
 use Rattle.file_check.specs.declared.faults.CheckFault.{CheckFault}
 use Rattle.file_check.specs.declared.faults.CheckFault.TheVariants as faults
@@ -87,11 +87,25 @@ fault_before p k before now old new bad e f h =
     output_weaker (slice_get p.deck.outputs k) (λ output. IsFileFault p k output now old bad) (λ output. IsFileFault p k output before new bad)
     (λ output. file_before p k output before now old new bad e f) h
 
+pub files_before : (p : Planned) (n : ℕ) (before now : Content) (sums : List Sums) → ChangesLeftOnly before now → AreExactFiles p now n sums → AreExactFiles p before n sums
+files_before p n before now sums e h = record { count = h.count; each = λ k sum at. exact_before p k before now sum e (h.each k sum at) }
+
+pub first_before : (p : Planned) (before now : Content) (old new : Type 0) (bad : CheckBad) → ChangesLeftOnly before now → (old → new) → IsFirstFileFault p now old bad → IsFirstFileFault p before new bad
+first_before p before now old new bad e f h = record {
+  place = h.place;
+  sums = h.sums;
+  before = files_before p h.place before now h.sums e h.before;
+  fault = fault_before p h.place before now old new bad e f h.fault;
+}
+
 pub left_again : (a b c : Content) → ChangesLeftOnly a b → ChangesLeftOnly b c → ChangesLeftOnly a c
 left_again a b c e f = f ∙ ap (λ (x : Content). with_left x c.left) e
 
 pub no_files : (p : Planned) (c : Content) → AreExactFiles p c 0 []
 no_files p c = record { count = refl; each = λ k sum at. absurd (let within = slice_get_within [] k sum at in omega (arith, within)) }
+
+pub counted : (sums after : List Sums) (sum : Sums) (n : ℕ) → after ≡ sums ++ sum ∷ [] → length sums ≡ n → length after ≡ n + 1
+counted sums after sum n pushed count = let lengths = length-append sums (sum ∷ []) in rw pushed (omega (arith, lengths, count))
 
 -- one file more
 pub one_file_more : (p : Planned) (c : Content) (n : ℕ) (sums after : List Sums) (sum : Sums) → AreExactFiles p c n sums → OfOutput p n (λ output. IsExactFile p n output c sum) → after ≡ sums ++ sum ∷ [] → AreExactFiles p c (n + 1) after

@@ -1,2 +1,4 @@
 mod Lengths
 mod Answering
+mod Classes
+pub mod ForCallers

@@ -115,6 +115,15 @@ pub record IsFirstFileFault (p : Planned) (c : Content) (read_rose : Type 0) (ba
   pub before : AreExactFiles p c place sums
   pub fault : OfOutput p place (λ output. IsFileFault p place output c read_rose bad)
 
+-- a fault that is kept is never want of memory, and a verdict that is kept is never Exact
+abbrev pub IsReal : CheckBad → Type 0
+IsReal (answers.Refused place faults.Long) = ⊤
+IsReal (answers.Refused place (faults.Bad bad)) = bad ≢ Wanting
+IsReal (answers.Refused place faults.Head) = ⊤
+IsReal (answers.Refused place (faults.Verdict verdict)) = verdict ≢ verdicts.Exact
+IsReal answers.ReadFault = ⊤
+IsReal answers.NoMemory = ⊤
+
 -- what was counted: nothing, but for a fault of reading, and for want of memory, where a want of memory or nothing was
 abbrev pub CountsFor : Counts → Counts → CheckBad → Type 0
 CountsFor old new (answers.Refused place fault) = new ≡ old

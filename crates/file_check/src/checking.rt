@@ -1,8 +1,8 @@
 //! The shot files of all outputs.
-ghost use Rattle.std.specs.Prelude.{◌≡◌, ◌<◌, [], IsTrue, IfOk, IfErr, OnOk, length};
+ghost use Rattle.std.specs.Prelude.{◌≡◌, ◌⊎◌, ◌<◌, [], Err, IsTrue, IfOk, IfErr, OnOk, length};
 ghost use Rattle.depot.specs.Content.{ChangesLeftOnly, with_left};
 ghost use Rattle.depot.specs.Counts.{NeverFall, Rose};
-ghost use Rattle.file_check.specs.Files.{IsExactFile, IsFileFault, OfOutput, AreExactFiles, IsFirstFileFault, CountsFor};
+ghost use Rattle.file_check.specs.Files.{IsExactFile, IsFileFault, OfOutput, AreExactFiles, IsFirstFileFault, IsReal, CountsFor};
 
 use crate::faults::{CheckBad, CheckFault};
 use crate::judging::judge;
@@ -19,6 +19,8 @@ fn refused_file(place: usize, refused: Refused) -> CheckBad
     ensures fault { refused ≡ Refused.Fault → result ≡ CheckBad.ReadFault }
     ensures long { refused ≡ Refused.TooLong → result ≡ CheckBad.Refused place CheckFault.Long }
     ensures wanting { refused ≡ Refused.NoMemory → result ≡ CheckBad.NoMemory }
+    ensures read_fault { result ≡ CheckBad.ReadFault → refused ≡ Refused.Fault }
+    ensures real { IsReal result }
 {
     match refused {
         Refused::Fault => CheckBad::ReadFault,
@@ -40,6 +42,9 @@ fn check_file<D: Depot>(
     ensures refused { IfErr result (λ bad. IsTrue D.tells
         → OfOutput plan.now place (λ output. IsFileFault plan.now place output (D.content depot.old)
         (Rose (D.counts depot.old).read_faults (D.counts depot.new).read_faults) bad)) }
+    ensures read_fault { result ≡ Err CheckBad.ReadFault
+        → Rose (D.counts depot.old).read_faults (D.counts depot.new).read_faults ⊎ IsTrue D.tells }
+    ensures real { IfErr result IsReal }
     ensures others { IsTrue D.tells → ChangesLeftOnly (D.content depot.old) (D.content depot.new) }
     ensures uncounted { OnOk result (D.counts depot.new ≡ D.counts depot.old) }
     ensures counts { IfErr result (CountsFor (D.counts depot.old) (D.counts depot.new)) }
@@ -57,7 +62,8 @@ fn check_file<D: Depot>(
 /// number of shots and of triangles of each. Each file is judged wholly before the next is read: first whether it is a shot
 /// file, then its head, then the limits of its shots, then what they cover.
 ///
-/// But for what is left to be read, the content of the depot is as before, whatever the answer.
+/// But for what is left to be read, the content of the depot is as before, whatever the answer. The clauses on content hold
+/// over a depot that tells it. The others hold over every depot.
 pub fn check_files<D: Depot>(
     alloc: Global,
     depot: &mut D,
@@ -65,8 +71,12 @@ pub fn check_files<D: Depot>(
 ) -> Result<Vec<Sums>, CheckBad>
     ensures ok { IfOk result (λ sums. IsTrue D.tells
         → AreExactFiles plan.now (D.content depot.old) (length plan.now.deck.outputs) sums.items) }
+    ensures count { IfOk result (λ sums. length sums.items ≡ length plan.now.deck.outputs) }
     ensures refused { IfErr result (λ bad. IsTrue D.tells → IsFirstFileFault plan.now (D.content depot.old)
         (Rose (D.counts depot.old).read_faults (D.counts depot.new).read_faults) bad) }
+    ensures read_fault { result ≡ Err CheckBad.ReadFault
+        → Rose (D.counts depot.old).read_faults (D.counts depot.new).read_faults ⊎ IsTrue D.tells }
+    ensures real { IfErr result IsReal }
     ensures others { IsTrue D.tells → ChangesLeftOnly (D.content depot.old) (D.content depot.new) }
     ensures uncounted { OnOk result (D.counts depot.new ≡ D.counts depot.old) }
     ensures counts { IfErr result (CountsFor (D.counts depot.old) (D.counts depot.new)) }

@@ -12,19 +12,24 @@ use Rattle.shot_output.specs.Laws.{HasRules}
 use Rattle.shot_output.specs.Files.{AreCutShort}
 use Rattle.job_input.specs.Accepted.{HoldsInput}
 use Rattle.job_input.specs.declared.reading.Input.{Input}
-use Rattle.mdp_job.specs.Words.{IsFracture, IsShots, IsGenerate, file_word}
+use Rattle.mdp_job.specs.Words.{IsFracture, IsCheck, IsShots, IsGenerate}
 use Rattle.mdp_job.specs.Runs.{run_of, WriteRose, RefusedRose}
 use Rattle.mdp_job.specs.Outputs.{plan_of, report_on, AreCovered, AreEconomic, AreSummed, IsReported, AreSpoiled}
 use Rattle.mdp_job.specs.Listings.{ShotData, HoldsShots, IsListingAnswer, listed}
 use Rattle.mdp_job.specs.Generating.{IsGeneratedSo, IsHalfGenerated, generated_line}
 use Rattle.mdp_job.specs.Lines.{line_of, name_of}
-use Rattle.mdp_job.specs.Parts.{IsAllWritten, IsDone, IsUnsaid, IsMade, IsAnswer, IsAnswerTo, CountsFor}
-use Rattle.mdp_job.specs.Clauses.{Covers, Spares, Reports, Generates, Lists, IsTextOf, MaySay, SaysLine, Says, IsRefusal, Refuses, Keeps, Spoils, FaultsTold}
+use Rattle.mdp_job.specs.Parts.{IsAllWritten, IsDone, IsUnsaid, IsMade, IsFractured, IsAnswer, CountsFor}
+use Rattle.mdp_job.specs.Certificates.{exact_report, IsExactReported}
+use Rattle.mdp_job.specs.Checking.{IsHalfReported, IsChecked, IsCheckAnswer}
+use Rattle.mdp_job.specs.Table.{IsAnswerTo}
+use Rattle.mdp_job.specs.Clauses.{Covers, Spares, Certifies, IsFileOf, Reports, Generates, Lists, IsTextOf, MaySay, SaysLine, Says, IsRefusal, Refuses, Keeps, Spoils, FaultsTold}
 use Rattle.mdp_job.specs.declared.status.Status.{Status}
 use Rattle.mdp_job.specs.declared.status.Status.TheVariants as answers
-use Rattle.mdp_job.specs.declared.status.CheckFault.TheVariants as check_faults
+use Rattle.file_check.specs.declared.faults.CheckFault.TheVariants as check_faults
 use Rattle.mdp_job.proofs.Rows.{Given, done_given, left_or_made, refusal_left}
-use Rattle.mdp_job.proofs.Table.{fracture_for, listing_for, generate_for, top_of}
+use Rattle.mdp_job.proofs.CheckRows.{done_exactly, certified}
+use Rattle.mdp_job.proofs.Exactness.{all_exact, all_summed as exact_summed}
+use Rattle.mdp_job.proofs.Table.{fracture_for, check_for, listing_for, generate_for, top_of}
 use Rattle.mdp_job.proofs.ListingRows.{listing_done}
 use Rattle.mdp_job.proofs.Written.{rules, all_covered, all_economic, all_summed, covered_then, cut_spoiled, unsaid_spoiled, cut_said, written_said}
 
@@ -36,8 +41,10 @@ pub record Ends (tells : Bool) (b m a : Content) (o p q : Counts) (words : List 
   pub earlier : NeverFall o p
   pub later : NeverFall p q
   pub done : s ≡ answers.Done → a ≡ m
-  pub part : IsPartSaid m (line_of (file_word words) (name_of top) s) a
-  pub whole : (a ≡ with_said m (line_of (file_word words) (name_of top) s)) ⊎ Rose p.write_faults q.write_faults ⊎ Rose p.refused q.refused
+  pub file : List ℕ
+  pub of_file : IsFileOf (run_of b a o q) words s file
+  pub part : IsPartSaid m (line_of file (name_of top) s) a
+  pub whole : (a ≡ with_said m (line_of file (name_of top) s)) ⊎ Rose p.write_faults q.write_faults ⊎ Rose p.refused q.refused
 
 -- ---- after Done
 
@@ -64,11 +71,11 @@ record Finished (tells : Bool) (b a : Content) (layout deck : List ℕ) : Type 0
 finished : (tells : Bool) (b m a : Content) (o p q : Counts) (words : List (List ℕ)) (s : Status) (top : Option (List ℕ)) → Ends tells b m a o p q words s top → (layout deck : List ℕ) → IsFracture words layout deck → s ≡ answers.Done
     → Finished tells b a layout deck
 finished tells b m a o p q words s top h layout deck is e =
-    let given = done_given tells (run_of b m o p) layout deck s top (fracture_for tells (run_of b m o p) words s top h.table layout deck is) e in
+    let given = done_given (IsFractured tells (run_of b m o p)) (run_of b m o p) layout deck s top (fracture_for tells (run_of b m o p) words s top h.table layout deck is) e in
     record {
       input = given.input;
       holds = given.holds;
-      done = subst (λ (c : Content). IsDone tells (with_left b []) c given.input) (sym (h.done e)) (made_done tells (with_left b []) m (Rose o.write_faults p.write_faults) (Rose o.refused p.refused) given.input s given.made e);
+      done = subst (λ (c : Content). IsDone tells (with_left b []) c given.input) (sym (h.done e)) (made_done tells (with_left b []) m (Rose o.write_faults p.write_faults) (Rose o.refused p.refused) given.input s given.is e);
     }
 
 pub covers : (tells : Bool) (b m a : Content) (o p q : Counts) (words : List (List ℕ)) (s : Status) (top : Option (List ℕ)) → Ends tells b m a o p q words s top → Covers (run_of b a o q) words s
@@ -82,8 +89,9 @@ economy tells b m a o p q words s top h layout deck is e =
     let economic = all_economic tells f.input (with_left b []) f.done.whole f.done.sums h.told (input_rules b layout deck f.input f.holds) f.done.written in
     (f.input, f.holds, subst (λ files. AreEconomic files f.input) (sym (ap (λ (c : Content). c.made) f.done.said)) economic)
 
-pub reports : (tells : Bool) (b m a : Content) (o p q : Counts) (words : List (List ℕ)) (s : Status) (top : Option (List ℕ)) → Ends tells b m a o p q words s top → Reports (run_of b a o q) words s
-reports tells b m a o p q words s top h layout deck is e =
+reported : (tells : Bool) (b m a : Content) (o p q : Counts) (words : List (List ℕ)) (s : Status) (top : Option (List ℕ)) → Ends tells b m a o p q words s top → (layout deck : List ℕ) → IsFracture words layout deck → s ≡ answers.Done
+    → (input : Input) × HoldsInput b layout deck input × IsReported b a input
+reported tells b m a o p q words s top h layout deck is e =
     let f = finished tells b m a o p q words s top h layout deck is e in
     let summed = all_summed tells f.input (with_left b []) f.done.whole f.done.sums h.told (input_rules b layout deck f.input f.holds) f.done.written in (
       f.input,
@@ -94,6 +102,25 @@ reports tells b m a o p q words s top h layout deck is e =
         said = ap (λ (c : Content). c.said) f.done.said ∙ ap (λ t. t ++ report_on f.input f.done.sums) (written_said tells f.input b f.done.whole f.done.sums h.told f.done.written);
       },
     )
+
+exactly_reported : (tells : Bool) (b m a : Content) (o p q : Counts) (words : List (List ℕ)) (s : Status) (top : Option (List ℕ)) → Ends tells b m a o p q words s top → (layout deck : List ℕ) → IsCheck words layout deck → s ≡ answers.Done
+    → (input : Input) × HoldsInput b layout deck input × IsExactReported b a input
+exactly_reported tells b m a o p q words s top h layout deck is e =
+    let x = done_exactly (run_of b m o p) layout deck s top (check_for tells (run_of b m o p) words s top h.table layout deck is) e in (
+      x.input,
+      x.holds,
+      record {
+        sums = x.reported.sums;
+        summed = exact_summed x.input b x.reported.sums x.reported.exact;
+        said = ap (λ (c : Content). c.said) (h.done e) ∙ ap (λ (c : Content). c.said) x.reported.said;
+      },
+    )
+
+pub reports : (tells : Bool) (b m a : Content) (o p q : Counts) (words : List (List ℕ)) (s : Status) (top : Option (List ℕ)) → Ends tells b m a o p q words s top → Reports (run_of b a o q) words s
+reports tells b m a o p q words s top h = record { fracture = reported tells b m a o p q words s top h; check = exactly_reported tells b m a o p q words s top h }
+
+pub certifies : (tells : Bool) (b m a : Content) (o p q : Counts) (words : List (List ℕ)) (s : Status) (top : Option (List ℕ)) → Ends tells b m a o p q words s top → Certifies (run_of b a o q) words s
+certifies tells b m a o p q words s top h layout deck is e = certified (run_of b m o p) layout deck s top (check_for tells (run_of b m o p) words s top h.table layout deck is) e
 
 generated_done : (b a : Content) (wr rr : Type 0) (n : ℕ) (file : List ℕ) (s : Status) → IsGeneratedSo b a wr rr n file s → s ≡ answers.Done → a ≡ with_said (with_file b file (generated n)) (generated_line n)
 generated_done b a wr rr n file s (inl x) e = x.1
@@ -179,6 +206,8 @@ listing_middle b m a o p q words file answers.NoMemory later is (inr (rose, d, h
     part_listed b m a o q words answers.NoMemory file d (inr (refl, Rose-earlier o.refused p.refused q.refused rose later.refused)) is h part
 listing_middle b m a o p q words file (answers.No place check_faults.Long) later is (e, x, rest) n = silent b m a o q words (answers.No place check_faults.Long) (left_said b m rest)
 listing_middle b m a o p q words file (answers.No place (check_faults.Bad bad)) later is (e, x, rest) n = silent b m a o q words (answers.No place (check_faults.Bad bad)) (left_said b m rest)
+listing_middle b m a o p q words file (answers.No place check_faults.Head) later is x n = absurd x
+listing_middle b m a o p q words file (answers.No place (check_faults.Verdict verdict)) later is x n = absurd x
 
 part_made_said : (b m : Content) (file bytes : List ℕ) → IsPartMade b file bytes m → m.said ≡ b.said
 part_made_said b m file bytes (inl e) = ap (λ (c : Content). c.said) e
@@ -187,7 +216,7 @@ part_made_said b m file bytes (inr (n, few, e)) = ap (λ (c : Content). c.said) 
 half_middle : (b m a : Content) (o q : Counts) (words : List (List ℕ)) (s : Status) (n : ℕ) (file : List ℕ) → (s ≡ answers.WriteFault) ⊎ ((s ≡ answers.NoMemory) × Rose o.refused q.refused) → IsGenerate words n file
     → IsHalfGenerated b m n file → Middle b m a o q words s
 half_middle b m a o q words s n file which is (inl part) = silent b m a o q words s (part_made_said b m file (generated n) part)
-half_middle b m a o q words s n file which is (inr (k, few, e)) = record { text = generated_line n; may = inr (which, inr (inr (n, file, is, refl))); of_text = k; said = ap (λ (c : Content). c.said) e }
+half_middle b m a o q words s n file which is (inr (k, few, e)) = record { text = generated_line n; may = inr (which, inr (inr (inl (n, file, is, refl)))); of_text = k; said = ap (λ (c : Content). c.said) e }
 
 generated_middle : (b m a : Content) (o p q : Counts) (words : List (List ℕ)) (s : Status) (n : ℕ) (file : List ℕ) → NeverFall p q → IsGenerate words n file
     → IsGeneratedSo b m (Rose o.write_faults p.write_faults) (Rose o.refused p.refused) n file s → s ≢ answers.Done → Middle b m a o q words s
@@ -198,9 +227,42 @@ generated_middle b m a o p q words s n file later is (inr (inr (e, rose, half)))
 fracture_middle : (tells : Bool) (b m a : Content) (o p q : Counts) (words : List (List ℕ)) (s : Status) (top : Option (List ℕ)) (layout deck : List ℕ) (x : List ℕ) → IsTrue tells → NeverFall p q → s ≢ answers.Done → IsFracture words layout deck
     → a ≡ with_said m x → IsAnswer tells (run_of b m o p) layout deck s top → Middle b m a o q words s
 fracture_middle tells b m a o p q words s top layout deck x told later n is e answer =
-    elim (left_or_made tells (run_of b m o p) layout deck s top answer) [
+    elim (left_or_made (IsFractured tells (run_of b m o p)) (run_of b m o p) layout deck s top answer) [
       | inl rest ↦ silent b m a o q words s (left_said b m rest)
-      | inr given ↦ made_middle tells b m a o p q words s layout deck given.input x told later n is given.holds e given.made
+      | inr given ↦ made_middle tells b m a o p q words s layout deck given.input x told later n is given.holds e given.is
+    ]
+
+-- a part of the report of `check` was said
+half_reported : (b m a : Content) (o q : Counts) (words : List (List ℕ)) (s : Status) (layout deck : List ℕ) (input : Input) → (s ≡ answers.WriteFault) ⊎ ((s ≡ answers.NoMemory) × Rose o.refused q.refused)
+    → IsCheck words layout deck → HoldsInput b layout deck input → IsHalfReported b m input → Middle b m a o q words s
+half_reported b m a o q words s layout deck input which is holds h =
+    let (n, few, e) = h.part in
+    record {
+      text = exact_report input h.sums;
+      may = inr (which, inr (inr (inr (layout, deck, is, input, holds, all_exact input b h.sums h.exact, h.sums, exact_summed input b h.sums h.exact, refl))));
+      of_text = n;
+      said = ap (λ (c : Content). c.said) e;
+    }
+
+checked_middle : (b m a : Content) (o p q : Counts) (words : List (List ℕ)) (s : Status) (layout deck : List ℕ) (input : Input) → NeverFall p q → s ≢ answers.Done → IsCheck words layout deck
+    → HoldsInput b layout deck input → IsChecked (run_of b m o p) input s → Middle b m a o q words s
+checked_middle b m a o p q words answers.Done layout deck input later n is holds x = absurd (n refl)
+checked_middle b m a o p q words answers.Words layout deck input later n is holds x = absurd x
+checked_middle b m a o p q words (answers.Deck fault) layout deck input later n is holds x = absurd x
+checked_middle b m a o p q words (answers.Layout fault) layout deck input later n is holds x = absurd x
+checked_middle b m a o p q words answers.ReadFault layout deck input later n is holds (x, rest) = silent b m a o q words answers.ReadFault (left_said b m rest)
+checked_middle b m a o p q words answers.WriteFault layout deck input later n is holds (rose, x) = half_reported b m a o q words answers.WriteFault layout deck input (inl refl) is holds x
+checked_middle b m a o p q words answers.NoMemory layout deck input later n is holds (inl rest) = silent b m a o q words answers.NoMemory (left_said b m rest)
+checked_middle b m a o p q words answers.NoMemory layout deck input later n is holds (inr (rose, x)) =
+    half_reported b m a o q words answers.NoMemory layout deck input (inr (refl, Rose-earlier o.refused p.refused q.refused rose later.refused)) is holds x
+checked_middle b m a o p q words (answers.No place fault) layout deck input later n is holds (x, rest) = silent b m a o q words (answers.No place fault) (left_said b m rest)
+
+check_middle : (b m a : Content) (o p q : Counts) (words : List (List ℕ)) (s : Status) (top : Option (List ℕ)) (layout deck : List ℕ) → NeverFall p q → s ≢ answers.Done → IsCheck words layout deck
+    → IsCheckAnswer (run_of b m o p) layout deck s top → Middle b m a o q words s
+check_middle b m a o p q words s top layout deck later n is answer =
+    elim (left_or_made (IsChecked (run_of b m o p)) (run_of b m o p) layout deck s top answer) [
+      | inl rest ↦ silent b m a o q words s (left_said b m rest)
+      | inr given ↦ checked_middle b m a o p q words s layout deck given.input later n is given.holds given.is
     ]
 
 middle : (tells : Bool) (b m a : Content) (o p q : Counts) (words : List (List ℕ)) (s : Status) (top : Option (List ℕ)) (x : List ℕ) → IsTrue tells → NeverFall p q → a ≡ with_said m x
@@ -208,29 +270,34 @@ middle : (tells : Bool) (b m a : Content) (o p q : Counts) (words : List (List �
 middle tells b m a o p q words s top x told later e (inl (layout, deck, is, answer)) n = fracture_middle tells b m a o p q words s top layout deck x told later n is e answer
 middle tells b m a o p q words s top x told later e (inr (inl (file, is, answer))) n = listing_middle b m a o p q words file s later is answer n
 middle tells b m a o p q words s top x told later e (inr (inr (inl (k, file, is, answer)))) n = generated_middle b m a o p q words s k file later is answer n
-middle tells b m a o p q words s top x told later e (inr (inr (inr (none, f, same)))) n = silent b m a o q words s (ap (λ (c : Content). c.said) same)
+middle tells b m a o p q words s top x told later e (inr (inr (inr (inl (layout, deck, is, answer))))) n = check_middle b m a o p q words s top layout deck later n is answer
+middle tells b m a o p q words s top x told later e (inr (inr (inr (inr (none, f, same))))) n = silent b m a o q words s (ap (λ (c : Content). c.said) same)
 
-says_by : (tells : Bool) (b m a : Content) (o p q : Counts) (words : List (List ℕ)) (s : Status) (top : Option (List ℕ)) → Ends tells b m a o p q words s top → Middle b m a o q words s
-    → (a ≡ with_said m (line_of (file_word words) (name_of top) s)) ⊎ Rose p.write_faults q.write_faults ⊎ Rose p.refused q.refused → SaysLine (run_of b a o q) words s
+says_by : (tells : Bool) (b m a : Content) (o p q : Counts) (words : List (List ℕ)) (s : Status) (top : Option (List ℕ)) → (h : Ends tells b m a o p q words s top) → Middle b m a o q words s
+    → (a ≡ with_said m (line_of h.file (name_of top) s)) ⊎ Rose p.write_faults q.write_faults ⊎ Rose p.refused q.refused → SaysLine (run_of b a o q) words s
 says_by tells b m a o p q words s top h k (inl e) =
-    let line = line_of (file_word words) (name_of top) s in
+    let line = line_of h.file (name_of top) s in
     record {
       text = k.text;
       may = k.may;
       top = name_of top;
       named = top_of tells (run_of b m o p) words s top h.table;
+      file = h.file;
+      of_file = h.of_file;
       of_text = k.of_text;
       of_line = length line;
       said = ap (λ (c : Content). c.said) e ∙ (ap (λ t. t ++ line) k.said ∙ ap (λ t. (b.said ++ take k.of_text k.text) ++ t) (sym (take-length line)));
       whole = inl (take-length line);
     }
 says_by tells b m a o p q words s top h k (inr rose) =
-    let line = line_of (file_word words) (name_of top) s in
+    let line = line_of h.file (name_of top) s in
     record {
       text = k.text;
       may = k.may;
       top = name_of top;
       named = top_of tells (run_of b m o p) words s top h.table;
+      file = h.file;
+      of_file = h.of_file;
       of_text = k.of_text;
       of_line = h.part.0;
       said = ap (λ (c : Content). c.said) h.part.2 ∙ ap (λ t. t ++ take h.part.0 line) k.said;
@@ -242,7 +309,7 @@ says_by tells b m a o p q words s top h k (inr rose) =
 
 pub says : (tells : Bool) (b m a : Content) (o p q : Counts) (words : List (List ℕ)) (s : Status) (top : Option (List ℕ)) → Ends tells b m a o p q words s top → Says (run_of b a o q) words s
 says tells b m a o p q words s top h n =
-    says_by tells b m a o p q words s top h (middle tells b m a o p q words s top (take h.part.0 (line_of (file_word words) (name_of top) s)) h.told h.later h.part.2 h.table n) h.whole
+    says_by tells b m a o p q words s top h (middle tells b m a o p q words s top (take h.part.0 (line_of h.file (name_of top) s)) h.told h.later h.part.2 h.table n) h.whole
 
 -- ---- what stays
 
@@ -275,6 +342,30 @@ listing_keeps b m a o p file answers.NoMemory x (inl rest, missing) f = left_the
 listing_keeps b m a o p file answers.NoMemory x (inr (rose, d, h, (n, few, e)), missing) f = said_then b m a (take n (listed d)) x e f
 listing_keeps b m a o p file (answers.No place check_faults.Long) x (e, w, rest) f = left_then b m a x rest f
 listing_keeps b m a o p file (answers.No place (check_faults.Bad bad)) x (e, w, rest) f = left_then b m a x rest f
+listing_keeps b m a o p file (answers.No place check_faults.Head) x w f = absurd w
+listing_keeps b m a o p file (answers.No place (check_faults.Verdict verdict)) x w f = absurd w
+
+-- the report of `check` was said in part, and then something more
+reported_then : (b m a : Content) (y x : List ℕ) → m ≡ with_said (with_left b m.left) y → a ≡ with_said m x → ChangesLeftOnly b (unsaid b a)
+reported_then b m a y x e f = quiet_left b a m.left (m.said ++ x) (f ∙ ap (λ (c : Content). record c { said = m.said ++ x }) e)
+
+checked_keeps : (b m a : Content) (o p : Counts) (input : Input) (s : Status) (x : List ℕ) → IsChecked (run_of b m o p) input s → a ≡ with_said m x → ChangesLeftOnly b (unsaid b a)
+checked_keeps b m a o p input answers.Done x w f = reported_then b m a (exact_report input w.sums) x w.said f
+checked_keeps b m a o p input answers.Words x w f = absurd w
+checked_keeps b m a o p input (answers.Deck fault) x w f = absurd w
+checked_keeps b m a o p input (answers.Layout fault) x w f = absurd w
+checked_keeps b m a o p input answers.ReadFault x (w, rest) f = left_then b m a x rest f
+checked_keeps b m a o p input answers.WriteFault x (rose, w) f = let (n, few, e) = w.part in reported_then b m a (take n (exact_report input w.sums)) x e f
+checked_keeps b m a o p input answers.NoMemory x (inl rest) f = left_then b m a x rest f
+checked_keeps b m a o p input answers.NoMemory x (inr (rose, w)) f = let (n, few, e) = w.part in reported_then b m a (take n (exact_report input w.sums)) x e f
+checked_keeps b m a o p input (answers.No place fault) x (w, rest) f = left_then b m a x rest f
+
+check_keeps : (b m a : Content) (o p : Counts) (layout deck : List ℕ) (s : Status) (top : Option (List ℕ)) (x : List ℕ) → IsCheckAnswer (run_of b m o p) layout deck s top → a ≡ with_said m x → ChangesLeftOnly b (unsaid b a)
+check_keeps b m a o p layout deck s top x answer f =
+    elim (left_or_made (IsChecked (run_of b m o p)) (run_of b m o p) layout deck s top answer) [
+      | inl rest ↦ left_then b m a x rest f
+      | inr given ↦ checked_keeps b m a o p given.input s x given.is f
+    ]
 
 same_left : (b m : Content) → m ≡ b → ChangesLeftOnly b m
 same_left b m e = subst (λ (c : Content). ChangesLeftOnly b c) (sym e) refl
@@ -293,14 +384,19 @@ refuses_by tells b m a o p words s top x (inl (layout, deck, is, answer)) f n =
     left_then b m a x (refusal_left tells (run_of b m o p) layout deck s top answer kinds.0 kinds.1 kinds.2) f
 refuses_by tells b m a o p words s top x (inr (inl (file, is, answer))) f n = listing_keeps b m a o p file s x answer f
 refuses_by tells b m a o p words s top x (inr (inr (inl (k, file, is, answer)))) f n = absurd (generated_refuses b m (Rose o.write_faults p.write_faults) (Rose o.refused p.refused) k file s answer n)
-refuses_by tells b m a o p words s top x (inr (inr (inr (none, e, same)))) f n = left_then b m a x (same_left b m same) f
+refuses_by tells b m a o p words s top x (inr (inr (inr (inl (layout, deck, is, answer))))) f n = check_keeps b m a o p layout deck s top x answer f
+refuses_by tells b m a o p words s top x (inr (inr (inr (inr (none, e, same))))) f n = left_then b m a x (same_left b m same) f
 
 pub refuses : (tells : Bool) (b m a : Content) (o p q : Counts) (words : List (List ℕ)) (s : Status) (top : Option (List ℕ)) → Ends tells b m a o p q words s top → Refuses (run_of b a o q) s
-refuses tells b m a o p q words s top h n = refuses_by tells b m a o p words s top (take h.part.0 (line_of (file_word words) (name_of top) s)) h.table h.part.2 n
+refuses tells b m a o p q words s top h n = refuses_by tells b m a o p words s top (take h.part.0 (line_of h.file (name_of top) s)) h.table h.part.2 n
 
 pub keeps : (tells : Bool) (b m a : Content) (o p q : Counts) (words : List (List ℕ)) (s : Status) (top : Option (List ℕ)) → Ends tells b m a o p q words s top → Keeps (run_of b a o q) words
-keeps tells b m a o p q words s top h file is =
-    listing_keeps b m a o p file s (take h.part.0 (line_of (file_word words) (name_of top) s)) (listing_for tells (run_of b m o p) words s top h.table file is) h.part.2
+keeps tells b m a o p q words s top h =
+    let x = take h.part.0 (line_of h.file (name_of top) s) in
+    record {
+      check = λ layout deck is. check_keeps b m a o p layout deck s top x (check_for tells (run_of b m o p) words s top h.table layout deck is) h.part.2;
+      shots = λ file is. listing_keeps b m a o p file s x (listing_for tells (run_of b m o p) words s top h.table file is) h.part.2;
+    }
 
 -- ---- what faults and want of memory leave
 
@@ -331,9 +427,9 @@ not_done s (inr e) f = memory_done (sym e ∙ f)
 fracture_leaves : (tells : Bool) (b m a : Content) (o p : Counts) (s : Status) (top : Option (List ℕ)) (layout deck : List ℕ) (x : List ℕ) → IsTrue tells → s ≢ answers.Done → a ≡ with_said m x
     → IsAnswer tells (run_of b m o p) layout deck s top → ChangesLeftOnly b (unsaid b a) ⊎ ((input : Input) × HoldsInput b layout deck input × AreSpoiled b a input)
 fracture_leaves tells b m a o p s top layout deck x told n e answer =
-    elim (left_or_made tells (run_of b m o p) layout deck s top answer) [
+    elim (left_or_made (IsFractured tells (run_of b m o p)) (run_of b m o p) layout deck s top answer) [
       | inl rest ↦ inl (left_then b m a x rest e)
-      | inr given ↦ made_leaves tells b m a (Rose o.write_faults p.write_faults) (Rose o.refused p.refused) s layout deck given.input x told n given.holds e given.made
+      | inr given ↦ made_leaves tells b m a (Rose o.write_faults p.write_faults) (Rose o.refused p.refused) s layout deck given.input x told n given.holds e given.is
     ]
 
 -- the generated layout is made in part, and then something was said
@@ -363,7 +459,7 @@ generated_leaves b m a wr rr n file x s not e (inr (inr (f, rose, half))) = half
 
 pub spoils : (tells : Bool) (b m a : Content) (o p q : Counts) (words : List (List ℕ)) (s : Status) (top : Option (List ℕ)) → Ends tells b m a o p q words s top → Spoils (run_of b a o q) words s
 spoils tells b m a o p q words s top h =
-    let x = take h.part.0 (line_of (file_word words) (name_of top) s) in
+    let x = take h.part.0 (line_of h.file (name_of top) s) in
     record {
       fracture = λ layout deck is which. fracture_leaves tells b m a o p s top layout deck x h.told (not_done s which) h.part.2 (fracture_for tells (run_of b m o p) words s top h.table layout deck is);
       generate = λ n file is which.

@@ -1,8 +1,11 @@
 pub mod WordLemmas
+pub mod Spellings
 pub mod Contents
 pub mod Written
 pub mod Made
 pub mod Rows
+pub mod Exactness
+pub mod CheckRows
 pub mod ListingGoes
 pub mod ListingRows
 pub mod Table

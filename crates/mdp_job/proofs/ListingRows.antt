@@ -10,7 +10,7 @@ use Rattle.mdp_job.specs.Runs.{Run, ReadRose, WriteRose, RefusedRose, ComesExact
 use Rattle.mdp_job.specs.Listings.{ShotData, HoldsShots, HoldsFault, IsListingAnswer, listed}
 use Rattle.mdp_job.specs.declared.status.Status.{Status}
 use Rattle.mdp_job.specs.declared.status.Status.TheVariants as answers
-use Rattle.mdp_job.specs.declared.status.CheckFault.TheVariants as check_faults
+use Rattle.file_check.specs.declared.faults.CheckFault.TheVariants as check_faults
 use Rattle.mdp_job.proofs.Contents.{one_content, there, too_long}
 
 -- ---- facts that exclude one another
@@ -52,6 +52,8 @@ long_due r file answers.WriteFault (rose, s, h, rest) long = absurd (shots_short
 long_due r file answers.NoMemory a long = inr (inl refl)
 long_due r file (answers.No place check_faults.Long) (e, more, rest) long = inl (rw e refl)
 long_due r file (answers.No place (check_faults.Bad bad)) (e, h, rest) long = absurd (fault_short r.before file bad h long)
+long_due r file (answers.No place check_faults.Head) a long = absurd a
+long_due r file (answers.No place (check_faults.Verdict verdict)) a long = absurd a
 
 bad_due : (r : Run) (file : List ℕ) (s : Status) (bad : ShotBad) → IsListingAnswer r file s → HoldsFault r.before file bad
     → (s ≡ answers.No 0 (check_faults.Bad bad)) ⊎ (s ≡ answers.NoMemory) ⊎ ((s ≡ answers.ReadFault) × ReadRose r)
@@ -65,6 +67,8 @@ bad_due r file answers.WriteFault bad (rose, s, h, rest) fault = absurd (shots_r
 bad_due r file answers.NoMemory bad a fault = inr (inl refl)
 bad_due r file (answers.No place check_faults.Long) bad (e, more, rest) fault = absurd (fault_short r.before file bad fault more)
 bad_due r file (answers.No place (check_faults.Bad other)) bad (e, h, rest) fault = inl (rw (e, same_fault r.before file other bad h fault) refl)
+bad_due r file (answers.No place check_faults.Head) bad a fault = absurd a
+bad_due r file (answers.No place (check_faults.Verdict verdict)) bad a fault = absurd a
 
 pub missing_due : (r : Run) (file : List ℕ) (s : Status) → IsListingAnswer r file s → IsNotThere r.before file → (s ≡ answers.ReadFault) ⊎ (s ≡ answers.NoMemory)
 missing_due r file answers.Done (s, h, rest) missing = absurd (shots_there r.before file s h missing)
@@ -76,6 +80,8 @@ missing_due r file answers.WriteFault (rose, s, h, rest) missing = absurd (shots
 missing_due r file answers.NoMemory a missing = inr refl
 missing_due r file (answers.No place check_faults.Long) (e, long, rest) missing = absurd (longer_there 268435456 r.before file missing long)
 missing_due r file (answers.No place (check_faults.Bad bad)) (e, h, rest) missing = absurd (fault_there r.before file bad h missing)
+missing_due r file (answers.No place check_faults.Head) a missing = absurd a
+missing_due r file (answers.No place (check_faults.Verdict verdict)) a missing = absurd a
 
 pub listing_due : (r : Run) (file : List ℕ) (s : Status) → IsListingAnswer r file s → (ReadRose r → ⊥) → (WriteRose r → ⊥) → s ≢ answers.NoMemory
     → (d : ShotData) → HoldsShots r.before file d → s ≡ answers.Done
@@ -89,6 +95,8 @@ listing_due r file answers.WriteFault a reads writes memory d h = absurd (writes
 listing_due r file answers.NoMemory a reads writes memory d h = absurd (memory refl)
 listing_due r file (answers.No place check_faults.Long) (e, long, rest) reads writes memory d h = absurd (shots_short r.before file d h long)
 listing_due r file (answers.No place (check_faults.Bad bad)) (e, k, rest) reads writes memory d h = absurd (shots_right r.before file d bad h k)
+listing_due r file (answers.No place check_faults.Head) a reads writes memory d h = absurd a
+listing_due r file (answers.No place (check_faults.Verdict verdict)) a reads writes memory d h = absurd a
 
 -- ---- the rows
 

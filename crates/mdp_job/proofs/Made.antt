@@ -1,5 +1,5 @@
--- How the parts of the command `fracture` fit together.
-use Rattle.std.proofs.Common.{◌≡◌, ◌≢◌, ◌⊎◌, inl, inr, ℕ, Bool, List, [], Option, None, Some, Ok, Err, refl, sym, ap, subst, ◌∙◌}
+-- How the parts of the commands `fracture` and `check` fit together.
+use Rattle.std.proofs.Common.{◌≡◌, ◌≢◌, ◌⊎◌, inl, inr, ℕ, Bool, List, [], take, Option, None, Some, Ok, Err, refl, sym, ap, subst, ◌∙◌}
 use Rattle.depot.specs.Content.{Content, ChangesLeftOnly, with_left, with_said, IsPartSaid}
 use Rattle.depot.specs.Counts.{Counts, NeverFall, Rose}
 use Rattle.depot.specs.declared.outside.DepotBad.{DepotBad}
@@ -11,8 +11,14 @@ use Rattle.job_input.specs.Clauses.{Answer, ComesExactlyWhere, ComesByKind}
 use Rattle.job_input.specs.declared.reading.Input.{Input}
 use Rattle.job_input.specs.declared.refusing.InputBad.{InputBad}
 use Rattle.mdp_job.specs.Runs.{run_of}
-use Rattle.mdp_job.specs.Outputs.{report_on}
-use Rattle.mdp_job.specs.Parts.{fault_status, status_of, top_of, IsSaidSo, IsInputTold, IsAllWritten, IsDone, IsUnsaid, IsMade, IsOutcome, IsAnswer}
+use Rattle.mdp_job.specs.Outputs.{plan_of, report_on}
+use Rattle.file_check.specs.Files.{IsFirstFileFault, IsReal, CountsFor as FileCounts}
+use Rattle.file_check.specs.declared.faults.CheckBad.{CheckBad}
+use Rattle.file_check.specs.declared.faults.CheckBad.TheVariants as checks
+use Rattle.file_check.specs.declared.faults.CheckFault.TheVariants as check_faults
+use Rattle.mdp_job.specs.Certificates.{exact_report}
+use Rattle.mdp_job.specs.Parts.{fault_status, status_of, top_of, IsSaidSo, IsInputTold, IsAllWritten, IsDone, IsUnsaid, IsMade, IsOutcomeBy, IsAnswerBy, IsFractured, IsAnswer, IsOfCheck, CountsFor}
+use Rattle.mdp_job.specs.Checking.{checked_status, AreAllExact, IsChecked}
 use Rattle.mdp_job.specs.declared.status.Status.{Status}
 use Rattle.mdp_job.specs.declared.status.Status.TheVariants as answers
 
@@ -81,37 +87,89 @@ told_later b rr rr₁ fr fr₁ layout deck a wider more t = record {
 
 -- ---- the answer, with the counts at the end
 
-outcome_later : (tells : Bool) (b m : Content) (o p q : Counts) (layout deck : List ℕ) (a : Answer) (s : Status) (top : Option (List ℕ)) → NeverFall p q
-    → IsOutcome tells (run_of b m o p) layout deck a s top → IsOutcome tells (run_of b m o q) layout deck a s top
-outcome_later tells b m o p q layout deck (Ok input) s top later (made, none) =
-    (made_later tells (with_left b []) m _ _ _ _ input s (λ rose. Rose-earlier o.write_faults p.write_faults q.write_faults rose later.write_faults) (λ rose. Rose-earlier o.refused p.refused q.refused rose later.refused) made, none)
-outcome_later tells b m o p q layout deck (Err bad) s top later h = h
+fractured_later : (tells : Bool) (b m : Content) (o p q : Counts) (input : Input) (s : Status) → NeverFall p q → IsFractured tells (run_of b m o p) input s → IsFractured tells (run_of b m o q) input s
+fractured_later tells b m o p q input s later made =
+    made_later tells (with_left b []) m _ _ _ _ input s (λ rose. Rose-earlier o.write_faults p.write_faults q.write_faults rose later.write_faults) (λ rose. Rose-earlier o.refused p.refused q.refused rose later.refused) made
 
-pub answer_later : (tells : Bool) (b m : Content) (o p q : Counts) (layout deck : List ℕ) (s : Status) (top : Option (List ℕ)) → NeverFall p q
-    → IsAnswer tells (run_of b m o p) layout deck s top → IsAnswer tells (run_of b m o q) layout deck s top
-answer_later tells b m o p q layout deck s top later h = record {
+outcome_later : (made made₁ : Input → Status → Type 0) (b m : Content) (o p q : Counts) (a : Answer) (s : Status) (top : Option (List ℕ)) → ((input : Input) (t : Status) → made₁ input t → made input t)
+    → IsOutcomeBy made₁ (run_of b m o p) a s top → IsOutcomeBy made (run_of b m o q) a s top
+outcome_later made made₁ b m o p q (Ok input) s top wider (x, none) = (wider input s x, none)
+outcome_later made made₁ b m o p q (Err bad) s top wider h = h
+
+pub answer_later : (made made₁ : Input → Status → Type 0) (b m : Content) (o p q : Counts) (layout deck : List ℕ) (s : Status) (top : Option (List ℕ)) → NeverFall p q → ((input : Input) (t : Status) → made₁ input t → made input t)
+    → IsAnswerBy made₁ (run_of b m o p) layout deck s top → IsAnswerBy made (run_of b m o q) layout deck s top
+answer_later made made₁ b m o p q layout deck s top later wider h = record {
   a = h.a;
   told = told_later b _ _ _ _ layout deck h.a (λ rose. Rose-earlier o.read_faults p.read_faults q.read_faults rose later.read_faults) (λ rose. Rose-earlier o.refused p.refused q.refused rose later.refused) h.told;
-  outcome = outcome_later tells b m o p q layout deck h.a s top later h.outcome;
+  outcome = outcome_later made made₁ b m o p q h.a s top wider h.outcome;
 }
 
--- ---- the command
+pub fracture_later : (tells : Bool) (b m : Content) (o p q : Counts) (layout deck : List ℕ) (s : Status) (top : Option (List ℕ)) → NeverFall p q
+    → IsAnswer tells (run_of b m o p) layout deck s top → IsAnswer tells (run_of b m o q) layout deck s top
+fracture_later tells b m o p q layout deck s top later h =
+    answer_later (IsFractured tells (run_of b m o q)) (IsFractured tells (run_of b m o p)) b m o p q layout deck s top later (λ input t x. fractured_later tells b m o p q input t later x) h
 
--- an accepted input, whose outputs were then written
-pub given_answers : (tells : Bool) (b c a : Content) (o n p : Counts) (layout deck : List ℕ) (input : Input) (s : Status) (top : Option (List ℕ))
-    → IsInputTold b (Rose o.read_faults n.read_faults) (Rose o.refused n.refused) layout deck (Ok input) → n ≡ o → NeverFall n p → c ≡ with_left b []
-    → IsMade tells c a (Rose n.write_faults p.write_faults) (Rose n.refused p.refused) input s → top ≡ None → IsAnswer tells (run_of b a o p) layout deck s top
-given_answers tells b c a o n p layout deck input s top told same later e made none = record {
+-- ---- the commands
+
+-- an accepted input, with which something was then done
+pub given_answers : (made : Input → Status → Type 0) (b a : Content) (o n p : Counts) (layout deck : List ℕ) (input : Input) (s : Status) (top : Option (List ℕ))
+    → IsInputTold b (Rose o.read_faults n.read_faults) (Rose o.refused n.refused) layout deck (Ok input) → NeverFall n p
+    → made input s → top ≡ None → IsAnswerBy made (run_of b a o p) layout deck s top
+given_answers made b a o n p layout deck input s top told later x none = record {
   a = Ok input;
   told = told_later b _ _ _ _ layout deck (Ok input) (λ rose. Rose-earlier o.read_faults n.read_faults p.read_faults rose later.read_faults) (λ rose. Rose-earlier o.refused n.refused p.refused rose later.refused) told;
-  outcome = (
-    subst (λ (x : Content). IsMade tells x a (Rose o.write_faults p.write_faults) (Rose o.refused p.refused) input s) e
-        (subst (λ (x : Counts). IsMade tells c a (Rose x.write_faults p.write_faults) (Rose x.refused p.refused) input s) same made),
-    none,
-  );
+  outcome = (x, none);
 }
+
+-- what `fracture` makes, from the content before the reading
+pub fractured_from : (tells : Bool) (b c a : Content) (o n p : Counts) (input : Input) (s : Status) → n ≡ o → c ≡ with_left b []
+    → IsMade tells c a (Rose n.write_faults p.write_faults) (Rose n.refused p.refused) input s → IsFractured tells (run_of b a o p) input s
+fractured_from tells b c a o n p input s same e made =
+    subst (λ (x : Content). IsMade tells x a (Rose o.write_faults p.write_faults) (Rose o.refused p.refused) input s) e
+    (subst (λ (x : Counts). IsMade tells c a (Rose x.write_faults p.write_faults) (Rose x.refused p.refused) input s) same made)
 
 -- a fault that is told of a depot that tells
 pub fault_told : (X Y Z : Type 0) → X ⊎ (Y × Z) → X ⊎ Z
 fault_told X Y Z (inl x) = inl x
 fault_told X Y Z (inr (y, z)) = inr z
+
+-- ---- `check`
+
+all_said : (b m a : Content) (text : List ℕ) → ChangesLeftOnly b m → a ≡ with_said m text → a ≡ with_said (with_left b a.left) text
+all_said b m a text rest e =
+    let left : a.left ≡ m.left = ap (λ (c : Content). c.left) e in
+    e ∙ ap (λ (c : Content). with_said c text) rest ∙ ap (λ (l : List ℕ). with_said (with_left b l) text) (sym left)
+
+part_said : (b m a : Content) (text : List ℕ) → ChangesLeftOnly b m → IsPartSaid m text a → IsPartSaid (with_left b a.left) text a
+part_said b m a text rest (n, few, e) = (n, few, all_said b m a (take n text) rest e)
+
+-- files that are exact, and the report on them
+pub said_checked : (b m a : Content) (o n p : Counts) (input : Input) (sums : List Sums) (s : Status) → n ≡ o → ChangesLeftOnly b m → AreAllExact b input sums
+    → IsSaidSo m a (Rose n.write_faults p.write_faults) (Rose n.refused p.refused) (exact_report input sums) s → IsChecked (run_of b a o p) input s
+said_checked b m a o n p input sums s same rest exact (inl (e, said)) =
+    subst (λ (t : Status). IsChecked (run_of b a o p) input t) (sym e) (record { sums = sums; exact = exact; said = all_said b m a (exact_report input sums) rest said })
+said_checked b m a o n p input sums s same rest exact (inr (inl (e, rose, part))) =
+    subst (λ (t : Status). IsChecked (run_of b a o p) input t) (sym e)
+    (subst (λ (x : Counts). Rose x.write_faults p.write_faults) same rose, record { sums = sums; exact = exact; part = part_said b m a (exact_report input sums) rest part })
+said_checked b m a o n p input sums s same rest exact (inr (inr (e, rose, part))) =
+    subst (λ (t : Status). IsChecked (run_of b a o p) input t) (sym e)
+    (inr (subst (λ (x : Counts). Rose x.refused p.refused) same rose, record { sums = sums; exact = exact; part = part_said b m a (exact_report input sums) rest part }))
+
+-- what the first file that isn't exact owes
+pub refused_checked : (b a : Content) (o p : Counts) (input : Input) (bad : CheckBad) → ChangesLeftOnly b a → IsFirstFileFault (plan_of input) b (Rose o.read_faults p.read_faults) bad → IsChecked (run_of b a o p) input (checked_status bad)
+refused_checked b a o p input (checks.Refused place fault) rest h = (h, rest)
+refused_checked b a o p input checks.ReadFault rest h = (h, rest)
+refused_checked b a o p input checks.NoMemory rest h = inl rest
+
+pub checked_kind : (bad : CheckBad) → IsReal bad → IsOfCheck (checked_status bad)
+checked_kind (checks.Refused place check_faults.Long) h = tt
+checked_kind (checks.Refused place (check_faults.Bad bad)) h = h
+checked_kind (checks.Refused place check_faults.Head) h = tt
+checked_kind (checks.Refused place (check_faults.Verdict verdict)) h = h
+checked_kind checks.ReadFault h = tt
+checked_kind checks.NoMemory h = tt
+
+pub checked_counts : (o n : Counts) (bad : CheckBad) → FileCounts o n bad → CountsFor o n (checked_status bad)
+checked_counts o n (checks.Refused place fault) h = h
+checked_counts o n checks.ReadFault h = h
+checked_counts o n checks.NoMemory h = h

@@ -3,7 +3,9 @@
 use Rattle.std.specs.Prelude.{◌≡◌, ◌≢◌, ◌⊎◌, ◌↔◌, ℕ, List, [], ◌++◌, take, ⊤}
 use Rattle.depot.specs.Content.{Content, IsNotThere, IsLongerThan, ChangesLeftOnly, with_left, with_said, IsPartMade}
 use Rattle.depot.specs.Counts.{Counts, Rose}
+use Rattle.half_grid.specs.declared.plane.Tile.{Tile}
 use Rattle.shot_reader.specs.declared.refusing.ShotBad.{ShotBad}
+use Rattle.shot_checker.specs.declared.verdicts.Verdict.TheVariants as verdicts
 use Rattle.gds_reader.specs.declared.refusing.GdsBad.{GdsBad}
 use Rattle.cell_tree.specs.Faults.{order_of}
 use Rattle.cell_tree.specs.declared.faults.TreeBad.{TreeBad}
@@ -18,22 +20,28 @@ use Rattle.job_input.specs.declared.refusing.DeckFault.TheVariants as deck_fault
 use Rattle.job_input.specs.declared.refusing.LayoutFault.{LayoutFault}
 use Rattle.job_input.specs.declared.refusing.LayoutFault.TheVariants as layout_faults
 use Rattle.layout_gen.specs.Generated.{generated}
-use Rattle.mdp_job.specs.Words.{IsFracture, IsShots, IsGenerate, file_word}
+use Rattle.mdp_job.specs.Words.{IsFracture, IsCheck, IsShots, IsGenerate}
 use Rattle.mdp_job.specs.Runs.{Run, ReadRose, WriteRose, RefusedRose, ComesExactlyWhere}
 use Rattle.mdp_job.specs.Outputs.{AreCovered, AreEconomic, IsReported, AreSummed, AreSpoiled, report_on}
 use Rattle.mdp_job.specs.Listings.{ShotData, HoldsShots, HoldsFault, listed}
 use Rattle.mdp_job.specs.Generating.{IsGenerated, generated_line}
-use Rattle.mdp_job.specs.Parts.{IsOfFracture, IsOfShots, IsOfGenerate}
+use Rattle.mdp_job.specs.Certificates.{AreExact, IsRefusedAt, HasNoFile, IsFileAt, AreExactSums, exact_report, IsExactReported}
+use Rattle.mdp_job.specs.Parts.{IsOfFracture, IsOfCheck, IsOfShots, IsOfGenerate}
 use Rattle.mdp_job.specs.Lines.{line_of}
 use Rattle.mdp_job.specs.declared.status.Status.{Status}
 use Rattle.mdp_job.specs.declared.status.Status.TheVariants as answers
-use Rattle.mdp_job.specs.declared.status.CheckFault.TheVariants as check_faults
+use Rattle.file_check.specs.declared.faults.CheckFault.{CheckFault}
+use Rattle.file_check.specs.declared.faults.CheckFault.TheVariants as check_faults
 
 -- ---- what is accepted
 
 -- words, deck and layout of `fracture` are accepted
 abbrev pub IsFractureAccepted : List (List ℕ) → Content → Type 0
 IsFractureAccepted words c = (layout deck : List ℕ) × IsFracture words layout deck × (input : Input) × HoldsInput c layout deck input
+
+-- words, deck and layout of `check` are accepted, and each output's file is exact
+abbrev pub IsCheckAccepted : List (List ℕ) → Content → Type 0
+IsCheckAccepted words c = (layout deck : List ℕ) × IsCheck words layout deck × (input : Input) × HoldsInput c layout deck input × AreExact c input
 
 -- words and shot file of `shots` are accepted
 abbrev pub IsListingAccepted : List (List ℕ) → Content → Type 0
@@ -45,12 +53,18 @@ IsGenerateAccepted words = (n : ℕ) × (file : List ℕ) × IsGenerate words n 
 
 -- words and input are accepted
 abbrev pub IsAccepted : List (List ℕ) → Content → Type 0
-IsAccepted words c = IsFractureAccepted words c ⊎ IsListingAccepted words c ⊎ IsGenerateAccepted words
+IsAccepted words c = IsFractureAccepted words c ⊎ IsListingAccepted words c ⊎ IsGenerateAccepted words ⊎ IsCheckAccepted words c
 
--- a name that the command has to read isn't there
+-- the command reads a layout and a deck of these names
+abbrev pub ReadsInput : List (List ℕ) → List ℕ → List ℕ → Type 0
+ReadsInput words layout deck = IsFracture words layout deck ⊎ IsCheck words layout deck
+
+-- A name that the command has to read isn't there: DECK, LAYOUT where the deck is accepted, the file of an output of
+-- `check` where the layout is accepted and the files of the outputs before it are exact, or FILE of `shots`.
 abbrev pub IsUnreadable : List (List ℕ) → Content → Type 0
 IsUnreadable words c =
-    ((layout deck : List ℕ) × IsFracture words layout deck × IsWanting c layout deck)
+    ((layout deck : List ℕ) × ReadsInput words layout deck × IsWanting c layout deck)
+    ⊎ ((layout deck : List ℕ) × IsCheck words layout deck × HasNoFile c layout deck)
     ⊎ ((file : List ℕ) × IsShots words file × IsNotThere c file)
 
 -- ---- after Done
@@ -69,11 +83,19 @@ Spares r words result =
     (layout deck : List ℕ) → IsFracture words layout deck → result ≡ answers.Done
     → (input : Input) × HoldsInput r.before layout deck input × AreEconomic r.after.made input
 
--- The report was said, with true sums.
-abbrev pub Reports : Run → List (List ℕ) → Status → Type 0
-Reports r words result =
-    (layout deck : List ℕ) → IsFracture words layout deck → result ≡ answers.Done
-    → (input : Input) × HoldsInput r.before layout deck input × IsReported r.before r.after input
+-- The certificate: deck and layout are accepted, and the file of each output, whoever made it, is exact.
+abbrev pub Certifies : Run → List (List ℕ) → Status → Type 0
+Certifies r words result =
+    (layout deck : List ℕ) → IsCheck words layout deck → result ≡ answers.Done
+    → (input : Input) × HoldsInput r.before layout deck input × AreExact r.before input
+
+-- The report was said, with true sums: of `fracture` that on the files that it made, and of `check` that on the files that
+-- it read.
+pub record Reports (r : Run) (words : List (List ℕ)) (result : Status) : Type 0 where
+  pub fracture : (layout deck : List ℕ) → IsFracture words layout deck → result ≡ answers.Done
+      → (input : Input) × HoldsInput r.before layout deck input × IsReported r.before r.after input
+  pub check : (layout deck : List ℕ) → IsCheck words layout deck → result ≡ answers.Done
+      → (input : Input) × HoldsInput r.before layout deck input × IsExactReported r.before r.after input
 
 -- The file holds the generated layout, how many bytes it has was said, and nothing else has changed.
 abbrev pub Generates : Run → List (List ℕ) → Status → Type 0
@@ -96,31 +118,31 @@ Accepts r words result =
 -- the deck has more than 65,536 bytes
 abbrev pub DeckLong : Run → List (List ℕ) → Status → Type 0
 DeckLong r words result =
-    (layout deck : List ℕ) → IsFracture words layout deck
+    (layout deck : List ℕ) → ReadsInput words layout deck
     → ComesExactlyWhere (ReadRose r) result (answers.Deck deck_faults.Long) (IsLongerThan 65536 r.before deck)
 
 -- the deck has this first fault
 abbrev pub DeckBroken : Run → List (List ℕ) → Status → Type 0
 DeckBroken r words result =
-    (layout deck : List ℕ) → IsFracture words layout deck → (bad : DeckBad)
+    (layout deck : List ℕ) → ReadsInput words layout deck → (bad : DeckBad)
     → ComesExactlyWhere (ReadRose r) result (answers.Deck (deck_faults.Bad bad)) (HoldsDeckFault r.before layout deck bad)
 
 -- the deck is accepted, and the layout has more than 268,435,456 bytes
 abbrev pub LayoutLong : Run → List (List ℕ) → Status → Type 0
 LayoutLong r words result =
-    (layout deck : List ℕ) → IsFracture words layout deck
+    (layout deck : List ℕ) → ReadsInput words layout deck
     → ComesExactlyWhere (ReadRose r) result (answers.Layout layout_faults.Long) ((top : List ℕ) × IsLongLayout r.before layout deck top)
 
 -- the deck is accepted, and the layout's first byte is 25 hex
 abbrev pub LayoutEarly : Run → List (List ℕ) → Status → Type 0
 LayoutEarly r words result =
-    (layout deck : List ℕ) → IsFracture words layout deck
+    (layout deck : List ℕ) → ReadsInput words layout deck
     → ComesExactlyWhere (ReadRose r) result (answers.Layout layout_faults.Early) ((top : List ℕ) × HoldsOasis r.before layout deck top)
 
 -- the deck is accepted, and the layout has this first fault
 abbrev pub LayoutBroken : Run → List (List ℕ) → Status → Type 0
 LayoutBroken r words result =
-    (layout deck : List ℕ) → IsFracture words layout deck → (bad : GdsBad)
+    (layout deck : List ℕ) → ReadsInput words layout deck → (bad : GdsBad)
     → ComesExactlyWhere (ReadRose r) result (answers.Layout (layout_faults.Gds bad)) ((top : List ℕ) × HoldsGdsFault r.before layout deck bad top)
 
 -- a fault of the tree of the same kind
@@ -137,7 +159,7 @@ pub record IsTreeFault (before : Content) (read_rose : Type 0) (result : Status)
       → IsOfKind bad result ⊎ (result ≡ answers.NoMemory) ⊎ ((result ≡ answers.ReadFault) × read_rose)
 
 abbrev pub TreeBroken : Run → List (List ℕ) → Status → Type 0
-TreeBroken r words result = (layout deck : List ℕ) → IsFracture words layout deck → (bad : TreeBad) → IsTreeFault r.before (ReadRose r) result layout deck bad
+TreeBroken r words result = (layout deck : List ℕ) → ReadsInput words layout deck → (bad : TreeBad) → IsTreeFault r.before (ReadRose r) result layout deck bad
 
 -- the shot file has more than 268,435,456 bytes
 abbrev pub ShotsLong : Run → List (List ℕ) → Status → Type 0
@@ -151,10 +173,40 @@ ShotsBad r words result =
     (file : List ℕ) → IsShots words file → (bad : ShotBad)
     → ComesExactlyWhere (ReadRose r) result (answers.No 0 (check_faults.Bad bad)) (HoldsFault r.before file bad)
 
--- Each command has its answers. Refusals of a deck and of a layout come for `fracture` alone, and those of a shot file for
--- `shots` alone, of place 0. A fault that is kept is never want of memory.
+-- The files of the outputs before this place are exact, and this is why the file of the output there isn't.
+abbrev pub FileRefused : Run → List (List ℕ) → Status → ℕ → CheckFault → Type 0
+FileRefused r words result place fault =
+    (layout deck : List ℕ) → IsCheck words layout deck
+    → ComesExactlyWhere (ReadRose r) result (answers.No place fault) (IsRefusedAt r.before layout deck place fault)
+
+-- the file has more than 268,435,456 bytes
+abbrev pub FileLong : Run → List (List ℕ) → Status → Type 0
+FileLong r words result = (place : ℕ) → FileRefused r words result place check_faults.Long
+
+-- it isn't the text of a list of shots, and has this first fault
+abbrev pub FileBad : Run → List (List ℕ) → Status → Type 0
+FileBad r words result = (place : ℕ) (bad : ShotBad) → FileRefused r words result place (check_faults.Bad bad)
+
+-- its number isn't twice the deck's unit, or it has shots and their pair isn't the output's
+abbrev pub FileHead : Run → List (List ℕ) → Status → Type 0
+FileHead r words result = (place : ℕ) → FileRefused r words result place check_faults.Head
+
+-- this shot is the first that doesn't fit the deck's limits
+abbrev pub FileTooLarge : Run → List (List ℕ) → Status → Type 0
+FileTooLarge r words result = (place shot : ℕ) → FileRefused r words result place (check_faults.Verdict (verdicts.TooLarge shot))
+
+-- all shots fit, and this tile, in the lowest row and there the leftmost of those that differ, is in so many shots in
+-- place of the wanted number
+abbrev pub FileMiscovered : Run → List (List ℕ) → Status → Type 0
+FileMiscovered r words result =
+    (place : ℕ) (t : Tile) (count wanted : ℕ) → FileRefused r words result place (check_faults.Verdict (verdicts.Miscovered t count wanted))
+
+-- Each command has its answers. Refusals of a deck and of a layout come for `fracture` and `check` alone, and those of a
+-- shot file for `check` and for `shots`, where its place is 0. A fault that is kept is never want of memory, and a verdict
+-- that is kept never Exact.
 pub record Belongs (words : List (List ℕ)) (result : Status) : Type 0 where
   pub fracture : (layout deck : List ℕ) → IsFracture words layout deck → IsOfFracture result
+  pub check : (layout deck : List ℕ) → IsCheck words layout deck → IsOfCheck result
   pub shots : (file : List ℕ) → IsShots words file → IsOfShots result
   pub generate : (n : ℕ) (file : List ℕ) → IsGenerate words n file → IsOfGenerate result
 
@@ -163,7 +215,7 @@ pub record Belongs (words : List (List ℕ)) (result : Status) : Type 0 where
 -- the name that the command reads first isn't there: DECK, or FILE of `shots`
 abbrev pub IsUnreadableAtOnce : List (List ℕ) → Content → Type 0
 IsUnreadableAtOnce words c =
-    ((layout deck : List ℕ) × IsFracture words layout deck × IsNotThere c deck)
+    ((layout deck : List ℕ) × ReadsInput words layout deck × IsNotThere c deck)
     ⊎ ((file : List ℕ) × IsShots words file × IsNotThere c file)
 
 -- A read fault was counted, or a name that has to be read isn't there; where such a name isn't there no other answer
@@ -180,14 +232,16 @@ WriteFaults r words result = result ≡ answers.WriteFault → WriteRose r × Is
 
 -- ---- what was said
 
--- A text of the command: the report on an accepted input, all of whose outputs are covered, the listing of an accepted
--- shot file, or the line of a generated layout.
+-- A text of the command: the report on an accepted input, all of whose outputs are covered, or all of whose files are
+-- exact, the listing of an accepted shot file, or the line of a generated layout.
 abbrev pub IsTextOf : Run → List (List ℕ) → List ℕ → Type 0
 IsTextOf r words text =
     ((layout deck : List ℕ) × IsFracture words layout deck × (input : Input) × HoldsInput r.before layout deck input
     × AreCovered r.before r.after input × (sums : List Sums) × AreSummed r.after.made input sums × (text ≡ report_on input sums))
     ⊎ ((file : List ℕ) × IsShots words file × (s : ShotData) × HoldsShots r.before file s × (text ≡ listed s))
     ⊎ ((n : ℕ) × (file : List ℕ) × IsGenerate words n file × (text ≡ generated_line n))
+    ⊎ ((layout deck : List ℕ) × IsCheck words layout deck × (input : Input) × HoldsInput r.before layout deck input
+    × AreExact r.before input × (sums : List Sums) × AreExactSums r.before input sums × (text ≡ exact_report input sums))
 
 -- What the command itself may have said before it ended so: something of its text where saying it failed or a want of
 -- memory was counted, and nothing for every other answer.
@@ -198,8 +252,15 @@ MaySay r words result text =
 -- the name that the line of a refused layout may give is that of the deck's top cell
 abbrev pub IsTopOf : Run → List (List ℕ) → Status → List ℕ → Type 0
 IsTopOf r words result top =
-    (layout deck : List ℕ) (fault : LayoutFault) → IsFracture words layout deck → result ≡ answers.Layout fault
+    (layout deck : List ℕ) (fault : LayoutFault) → ReadsInput words layout deck → result ≡ answers.Layout fault
     → (d : Deck) × HoldsDeck r.before layout deck d × (top ≡ d.top)
+
+-- the name that the line of a refused shot file gives is that of the file: of the refused output for `check`, and FILE of
+-- `shots`
+pub record IsFileOf (r : Run) (words : List (List ℕ)) (result : Status) (file : List ℕ) : Type 0 where
+  pub check : (layout deck : List ℕ) → IsCheck words layout deck → (place : ℕ) (fault : CheckFault) → result ≡ answers.No place fault
+      → IsFileAt r.before layout deck place file
+  pub shots : (name : List ℕ) → IsShots words name → file ≡ name
 
 -- Where the answer isn't Done, a prefix of the command's text was said and then a prefix of the answer's line, which is
 -- whole unless a write fault or want of memory was counted.
@@ -208,10 +269,12 @@ pub record SaysLine (r : Run) (words : List (List ℕ)) (result : Status) : Type
   pub may : MaySay r words result text
   pub top : List ℕ
   pub named : IsTopOf r words result top
+  pub file : List ℕ
+  pub of_file : IsFileOf r words result file
   pub of_text : ℕ
   pub of_line : ℕ
-  pub said : r.after.said ≡ (r.before.said ++ take of_text text) ++ take of_line (line_of (file_word words) top result)
-  pub whole : (take of_line (line_of (file_word words) top result) ≡ line_of (file_word words) top result) ⊎ WriteRose r ⊎ RefusedRose r
+  pub said : r.after.said ≡ (r.before.said ++ take of_text text) ++ take of_line (line_of file top result)
+  pub whole : (take of_line (line_of file top result) ≡ line_of file top result) ⊎ WriteRose r ⊎ RefusedRose r
 
 abbrev pub Says : Run → List (List ℕ) → Status → Type 0
 Says r words result = result ≢ answers.Done → SaysLine r words result
@@ -237,9 +300,10 @@ IsRefusal (answers.No place fault) = ⊤
 abbrev pub Refuses : Run → Status → Type 0
 Refuses r result = IsRefusal result → ChangesLeftOnly r.before (quiet r).after
 
--- `shots` changes nothing but what is left to be read and what was said, whatever the answer
-abbrev pub Keeps : Run → List (List ℕ) → Type 0
-Keeps r words = (file : List ℕ) → IsShots words file → ChangesLeftOnly r.before (quiet r).after
+-- `check` and `shots` change nothing but what is left to be read and what was said, whatever the answer
+pub record Keeps (r : Run) (words : List (List ℕ)) : Type 0 where
+  pub check : (layout deck : List ℕ) → IsCheck words layout deck → ChangesLeftOnly r.before (quiet r).after
+  pub shots : (file : List ℕ) → IsShots words file → ChangesLeftOnly r.before (quiet r).after
 
 -- After a write fault or want of memory of `fracture` nothing but what is left to be read and what was said has changed;
 -- or there is a place before which all outputs are whole, at which the file is as before, empty or a prefix of the texts

@@ -2,8 +2,11 @@ pub mod Words
 pub mod Runs
 pub mod Codes
 pub mod Outputs
+pub mod Certificates
 pub mod Listings
 pub mod Generating
 pub mod Lines
 pub mod Parts
+pub mod Checking
+pub mod Table
 pub mod Clauses

@@ -1,5 +1,12 @@
 -- The line that is said where a command wasn't done. It ends with LF. A number in it is decimal.
-use Rattle.std.specs.Prelude.{ℕ, List, [], ◌++◌, Option, None, Some, codes, decimal}
+use Rattle.std.specs.Prelude.{ℕ, List, [], ◌++◌, Option, None, Some, codes, decimal, slice_get}
+use Rattle.std.specs.Fmt.{signed_decimal}
+use Rattle.half_grid.specs.declared.plane.Side.{Side}
+use Rattle.half_grid.specs.declared.plane.Side.TheVariants.{Left, Right}
+use Rattle.half_grid.specs.declared.plane.Tile.{Tile}
+use Rattle.deck_text.specs.declared.deck.Output.{Output}
+use Rattle.shot_checker.specs.declared.verdicts.Verdict.{Verdict}
+use Rattle.shot_checker.specs.declared.verdicts.Verdict.TheVariants as verdicts
 use Rattle.shot_reader.specs.declared.refusing.ShotBad.{ShotBad}
 use Rattle.shot_reader.specs.declared.refusing.ShotBad.TheVariants.{Head, Record, Spelling, Illegal, End, NoMemory as Wanting}
 use Rattle.job_input.specs.declared.refusing.DeckFault.{DeckFault}
@@ -9,8 +16,8 @@ use Rattle.job_input.specs.declared.refusing.LayoutFault.TheVariants as layout_f
 use Rattle.job_report.specs.Lines.{memory_line, deck_line, gds_line, tree_line}
 use Rattle.mdp_job.specs.declared.status.Status.{Status}
 use Rattle.mdp_job.specs.declared.status.Status.TheVariants.{Done, Words, Deck, Layout, ReadFault, WriteFault, NoMemory, No}
-use Rattle.mdp_job.specs.declared.status.CheckFault.{CheckFault}
-use Rattle.mdp_job.specs.declared.status.CheckFault.TheVariants as check_faults
+use Rattle.file_check.specs.declared.faults.CheckFault.{CheckFault}
+use Rattle.file_check.specs.declared.faults.CheckFault.TheVariants as check_faults
 
 abbrev pub deck_fault_line : DeckFault → List ℕ
 deck_fault_line deck_faults.Long = codes "deck refused: longer than 65536 bytes\n"
@@ -35,9 +42,56 @@ shot_line_of file (Illegal at) = fault_line file (codes ": illegal at ") at
 shot_line_of file (End at) = fault_line file (codes ": end at ") at
 shot_line_of file Wanting = memory_line
 
+-- a refused shot file, by its name and what is wrong with it
+abbrev pub text_line : List ℕ → List ℕ → List ℕ
+text_line file text = codes "check refused: " ++ file ++ text
+
+abbrev pub side_text : Side → List ℕ
+side_text Left = codes " left count "
+side_text Right = codes " right count "
+
+-- a tile that is in another number of shots than it should be: `tile 0 0 left count 2 wanted 1`
+abbrev pub tile_line : List ℕ → Tile → (count wanted : ℕ) → List ℕ
+tile_line file t count wanted =
+    codes "check refused: " ++ file ++ codes ": tile " ++ signed_decimal t.i ++ codes " " ++ signed_decimal t.j
+    ++ side_text t.side ++ decimal count ++ codes " wanted " ++ decimal wanted ++ codes "\n"
+
+-- a shot that is beyond the limits: `shot 0 too large`
+abbrev pub too_large_line : List ℕ → ℕ → List ℕ
+too_large_line file k = codes "check refused: " ++ file ++ codes ": shot " ++ decimal k ++ codes " too large\n"
+
+-- the line of a verdict, which is never Exact
+abbrev pub verdict_line : List ℕ → Verdict → List ℕ
+verdict_line file verdicts.Exact = []
+verdict_line file (verdicts.Miscovered t count wanted) = tile_line file t count wanted
+verdict_line file (verdicts.TooLarge k) = too_large_line file k
+
 abbrev pub check_line : List ℕ → CheckFault → List ℕ
-check_line file check_faults.Long = codes "check refused: " ++ file ++ codes ": longer than 268435456 bytes\n"
+check_line file check_faults.Long = text_line file (codes ": longer than 268435456 bytes\n")
 check_line file (check_faults.Bad bad) = shot_line_of file bad
+check_line file check_faults.Head = text_line file (codes ": unit or layer differs\n")
+check_line file (check_faults.Verdict verdict) = verdict_line file verdict
+
+-- the file of an output that is there, and else the file of this name
+abbrev pub file_or : List ℕ → Option Output → List ℕ
+file_or word None = word
+file_or word (Some output) = output.file
+
+-- the file of the output of a place, where outputs are told
+abbrev pub file_at : List ℕ → Option (List Output) → ℕ → List ℕ
+file_at word None place = word
+file_at word (Some outputs) place = file_or word (slice_get outputs place)
+
+-- the shot file that the line is about: that of the refused output, where outputs are told, and else the file of this name
+abbrev pub file_of : List ℕ → Option (List Output) → Status → List ℕ
+file_of word outputs Done = word
+file_of word outputs Words = word
+file_of word outputs (Deck fault) = word
+file_of word outputs (Layout fault) = word
+file_of word outputs ReadFault = word
+file_of word outputs WriteFault = word
+file_of word outputs NoMemory = word
+file_of word outputs (No place fault) = file_at word outputs place
 
 -- the name that is kept, if there is one
 abbrev pub name_of : Option (List ℕ) → List ℕ

@@ -1,24 +1,17 @@
 -- What the program owes for `shots FILE`: the listing of a shot file that is read, and the cause of each other answer.
-use Rattle.std.specs.Prelude.{◌≡◌, ◌⊎◌, ℕ, ◌≤◌, List, [], length, Option, Some}
-use Rattle.half_grid.specs.Trapezoids.{Trapezoid}
+use Rattle.std.specs.Prelude.{◌≡◌, ◌⊎◌, ℕ, ◌≤◌, List, [], length, Some}
 use Rattle.depot.specs.Content.{Content, held_as, IsNotThere, IsLongerThan, ChangesLeftOnly, with_left, with_said, IsPartSaid}
-use Rattle.layout_model.specs.declared.pair.Pair.{Pair}
 use Rattle.shot_reader.specs.Reading.{IsFileOf}
 use Rattle.shot_reader.specs.Refusals.{IsFirstFault}
 use Rattle.shot_reader.specs.declared.refusing.ShotBad.{ShotBad}
 use Rattle.shot_reader.specs.declared.refusing.ShotBad.TheVariants.{Head, Record, Spelling, Illegal, End, NoMemory as Wanting}
 use Rattle.shot_reader.specs.declared.reading.ShotFile.{ShotFile}
 use Rattle.shot_listing.specs.Listing.{listing}
+pub use Rattle.file_check.specs.Files.{ShotData}
 use Rattle.mdp_job.specs.Runs.{Run, ReadRose, WriteRose, RefusedRose}
 use Rattle.mdp_job.specs.declared.status.Status.{Status}
 use Rattle.mdp_job.specs.declared.status.Status.TheVariants as answers
-use Rattle.mdp_job.specs.declared.status.CheckFault.TheVariants as check_faults
-
--- what a shot file says
-pub record ShotData : Type 0 where
-  pub unit : ℕ
-  pub pair : Option Pair
-  pub shots : List Trapezoid
+use Rattle.file_check.specs.declared.faults.CheckFault.TheVariants as check_faults
 
 -- the lines that are said of it
 abbrev pub listed : ShotData → List ℕ
@@ -52,6 +45,8 @@ IsListingAnswer r file answers.NoMemory =
     × (IsNotThere r.before file → RefusedRose r)
 IsListingAnswer r file (answers.No place check_faults.Long) = (place ≡ 0) × IsLongerThan 268435456 r.before file × ChangesLeftOnly r.before r.after
 IsListingAnswer r file (answers.No place (check_faults.Bad bad)) = (place ≡ 0) × HoldsFault r.before file bad × ChangesLeftOnly r.before r.after
+IsListingAnswer r file (answers.No place check_faults.Head) = ⊥
+IsListingAnswer r file (answers.No place (check_faults.Verdict verdict)) = ⊥
 
 -- what a shot file says that was read
 abbrev pub shot_data : ShotFile → ShotData

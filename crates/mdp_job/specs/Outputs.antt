@@ -94,10 +94,13 @@ pub record AreSummed (files : Files) (input : Input) (sums : List Sums) : Type 0
   pub each : (k : ℕ) (output : Output) (sum : Sums) → slice_get input.deck.outputs k ≡ Some output → slice_get sums k ≡ Some sum
       → IsSummed files input output sum
 
--- the report on an accepted input, whose outputs have these sums
+-- the report on an accepted input, whose outputs have these sums, with this word before each of them
+abbrev pub report_of : List ℕ → Input → List Sums → List ℕ
+report_of word input sums = report Gdsii (length input.tree.layout.cells) input.tree.layout.counts word input.deck.outputs sums
+
+-- the report of `fracture`
 abbrev pub report_on : Input → List Sums → List ℕ
-report_on input sums =
-    report Gdsii (length input.tree.layout.cells) input.tree.layout.counts (codes "output") input.deck.outputs sums
+report_on input sums = report_of (codes "output") input sums
 
 -- the report was said, with true sums
 pub record IsReported (before now : Content) (input : Input) : Type 0 where

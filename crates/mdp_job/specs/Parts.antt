@@ -1,5 +1,5 @@
--- The table of answers, part by part: what the reading of deck and layout tells, what the writing of the outputs of an
--- accepted input owes, and the whole.
+-- The table of answers, part by part: what the reading of deck and layout tells, and what the writing of the outputs of an
+-- accepted input owes.
 use Rattle.std.specs.Prelude.{◌≡◌, ◌≢◌, ◌⊎◌, ℕ, Bool, List, [], length, Option, None, Some, Ok, Err, ⊤}
 use Rattle.depot.specs.Content.{Content, IsNotThere, IsLongerThan, ChangesLeftOnly, with_left, with_said, IsPartSaid}
 use Rattle.depot.specs.Counts.{Counts, Rose}
@@ -20,14 +20,12 @@ use Rattle.job_input.specs.declared.refusing.InputBad.{InputBad}
 use Rattle.job_input.specs.declared.refusing.InputBad.TheVariants as bads
 use Rattle.job_input.specs.declared.refusing.DeckFault.TheVariants as deck_faults
 use Rattle.job_input.specs.declared.refusing.LayoutFault.TheVariants as layout_faults
-use Rattle.mdp_job.specs.Words.{IsFracture, IsShots, IsGenerate, IsNoCommand}
 use Rattle.mdp_job.specs.Runs.{Run, ReadRose, WriteRose, RefusedRose}
 use Rattle.mdp_job.specs.Outputs.{plan_of, report_on}
-use Rattle.mdp_job.specs.Listings.{IsListingAnswer}
-use Rattle.mdp_job.specs.Generating.{IsGeneratedSo}
 use Rattle.mdp_job.specs.declared.status.Status.{Status}
 use Rattle.mdp_job.specs.declared.status.Status.TheVariants as answers
-use Rattle.mdp_job.specs.declared.status.CheckFault.TheVariants as check_faults
+use Rattle.file_check.specs.declared.faults.CheckFault.TheVariants as check_faults
+use Rattle.shot_checker.specs.declared.verdicts.Verdict.TheVariants.{Exact}
 use Rattle.shot_reader.specs.declared.refusing.ShotBad.TheVariants.{NoMemory as Wanting}
 use Rattle.deck_text.specs.declared.refusal.DeckBad.TheVariants.{NoMemory as DeckWanting}
 use Rattle.gds_reader.specs.declared.refusing.GdsBad.TheVariants.{NoMemory as GdsWanting}
@@ -108,30 +106,26 @@ IsMade tells before now write_rose refused_rose input result =
     ⊎ ((result ≡ answers.WriteFault) × write_rose × (AreCutShort (plan_of input) tells before now ⊎ IsUnsaid tells before now input))
     ⊎ ((result ≡ answers.NoMemory) × ((now ≡ before) ⊎ AreCutShort (plan_of input) tells before now ⊎ (refused_rose × IsUnsaid tells before now input)))
 
--- ---- `fracture`
+-- ---- `fracture` and `check`
 
--- what follows of the answer of the reading
-abbrev pub IsOutcome : Bool → Run → (layout deck : List ℕ) → Answer → Status → Option (List ℕ) → Type 0
-IsOutcome tells r layout deck (Ok input) result top =
-    IsMade tells (with_left r.before []) r.after (WriteRose r) (RefusedRose r) input result × (top ≡ None)
-IsOutcome tells r layout deck (Err bad) result top = (result ≡ status_of bad) × (top ≡ top_of bad) × ChangesLeftOnly r.before r.after
+-- what follows of the answer of the reading, where `made` says what holds where what is done with an accepted input gives
+-- the answer
+abbrev pub IsOutcomeBy : (Input → Status → Type 0) → Run → Answer → Status → Option (List ℕ) → Type 0
+IsOutcomeBy made r (Ok input) result top = made input result × (top ≡ None)
+IsOutcomeBy made r (Err bad) result top = (result ≡ status_of bad) × (top ≡ top_of bad) × ChangesLeftOnly r.before r.after
 
--- what holds where the command with these names gives the answer, with the name that its line may need
-pub record IsAnswer (tells : Bool) (r : Run) (layout deck : List ℕ) (result : Status) (top : Option (List ℕ)) : Type 0 where
+-- what holds where a command with these names gives the answer, with the name that its line may need
+pub record IsAnswerBy (made : Input → Status → Type 0) (r : Run) (layout deck : List ℕ) (result : Status) (top : Option (List ℕ)) : Type 0 where
   pub a : Answer
   pub told : IsInputTold r.before (ReadRose r) (RefusedRose r) layout deck a
-  pub outcome : IsOutcome tells r layout deck a result top
+  pub outcome : IsOutcomeBy made r a result top
 
--- ---- all commands
+-- what holds where `fracture` with an accepted input gives the answer
+abbrev pub IsFractured : Bool → Run → Input → Status → Type 0
+IsFractured tells r input result = IsMade tells (with_left r.before []) r.after (WriteRose r) (RefusedRose r) input result
 
--- The answer to the words, up to the line of a refusal: that of the command `fracture` with its two names, that of
--- `shots` with its name, that of `generate` with its number and name, or Words where they are no command.
-abbrev pub IsAnswerTo : Bool → Run → List (List ℕ) → Status → Option (List ℕ) → Type 0
-IsAnswerTo tells r words result top =
-    ((layout deck : List ℕ) × IsFracture words layout deck × IsAnswer tells r layout deck result top)
-    ⊎ ((file : List ℕ) × IsShots words file × IsListingAnswer r file result)
-    ⊎ ((n : ℕ) × (file : List ℕ) × IsGenerate words n file × IsGeneratedSo r.before r.after (WriteRose r) (RefusedRose r) n file result)
-    ⊎ (IsNoCommand words × (result ≡ answers.Words) × (r.after ≡ r.before))
+abbrev pub IsAnswer : Bool → Run → (layout deck : List ℕ) → Status → Option (List ℕ) → Type 0
+IsAnswer tells r layout deck result top = IsAnswerBy (IsFractured tells r) r layout deck result top
 
 -- ---- what holds over every depot
 
@@ -149,6 +143,24 @@ IsOfFracture answers.ReadFault = ⊤
 IsOfFracture answers.WriteFault = ⊤
 IsOfFracture answers.NoMemory = ⊤
 IsOfFracture (answers.No place fault) = ⊥
+
+-- the answer may come for `check`; no fault that is kept is want of memory, and no verdict that is kept is Exact
+abbrev pub IsOfCheck : Status → Type 0
+IsOfCheck answers.Done = ⊤
+IsOfCheck answers.Words = ⊥
+IsOfCheck (answers.Deck deck_faults.Long) = ⊤
+IsOfCheck (answers.Deck (deck_faults.Bad bad)) = bad ≢ DeckWanting
+IsOfCheck (answers.Layout layout_faults.Long) = ⊤
+IsOfCheck (answers.Layout layout_faults.Early) = ⊤
+IsOfCheck (answers.Layout (layout_faults.Gds bad)) = bad ≢ GdsWanting
+IsOfCheck (answers.Layout (layout_faults.Tree bad)) = bad ≢ TreeWanting
+IsOfCheck answers.ReadFault = ⊤
+IsOfCheck answers.WriteFault = ⊤
+IsOfCheck answers.NoMemory = ⊤
+IsOfCheck (answers.No place check_faults.Long) = ⊤
+IsOfCheck (answers.No place (check_faults.Bad bad)) = bad ≢ Wanting
+IsOfCheck (answers.No place check_faults.Head) = ⊤
+IsOfCheck (answers.No place (check_faults.Verdict verdict)) = verdict ≢ Exact
 
 -- the answer may come for `generate`
 abbrev pub IsOfGenerate : Status → Type 0
@@ -172,6 +184,8 @@ IsOfShots answers.WriteFault = ⊤
 IsOfShots answers.NoMemory = ⊤
 IsOfShots (answers.No place check_faults.Long) = place ≡ 0
 IsOfShots (answers.No place (check_faults.Bad bad)) = (place ≡ 0) × (bad ≢ Wanting)
+IsOfShots (answers.No place check_faults.Head) = ⊥
+IsOfShots (answers.No place (check_faults.Verdict verdict)) = ⊥
 
 -- What was counted where the command gives the answer, up to the line of a refusal. Nothing, but for a fault of reading
 -- and of writing; and nothing or a want of memory for want of memory.

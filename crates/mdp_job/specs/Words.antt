@@ -6,6 +6,10 @@ use Rattle.deck_text.specs.Kinds.{digits_value}
 abbrev pub IsFracture : List (List ℕ) → List ℕ → List ℕ → Type 0
 IsFracture words layout deck = words ≡ codes "fracture" ∷ layout ∷ deck ∷ []
 
+-- `check LAYOUT DECK`
+abbrev pub IsCheck : List (List ℕ) → List ℕ → List ℕ → Type 0
+IsCheck words layout deck = words ≡ codes "check" ∷ layout ∷ deck ∷ []
+
 -- `shots FILE`
 abbrev pub IsShots : List (List ℕ) → List ℕ → Type 0
 IsShots words file = words ≡ codes "shots" ∷ file ∷ []
@@ -25,6 +29,7 @@ pub record IsGenerate (words : List (List ℕ)) (n : ℕ) (file : List ℕ) : Ty
 -- no command
 pub record IsNoCommand (words : List (List ℕ)) : Type 0 where
   pub no_fracture : (layout deck : List ℕ) → IsFracture words layout deck → ⊥
+  pub no_check : (layout deck : List ℕ) → IsCheck words layout deck → ⊥
   pub no_shots : (file : List ℕ) → IsShots words file → ⊥
   pub no_generate : (n : ℕ) (file : List ℕ) → IsGenerate words n file → ⊥
 

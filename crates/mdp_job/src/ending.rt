@@ -3,14 +3,18 @@ ghost use Rattle.std.specs.Prelude.{◌≡◌, None};
 ghost use Rattle.mdp_job.specs.Parts.{fault_status};
 
 use crate::status::Status;
+use deck_text::Output;
 use depot::DepotBad;
+use geo_stream::List;
 use layout_model::Name;
 
-/// How a command ended, and the name of the deck's top cell where the layout is refused.
+/// How a command ended, the name of the deck's top cell where the layout is refused, and the deck's outputs where their
+/// files were checked.
 #[derive(Drop)]
 pub(crate) struct Ending {
     pub status: Status,
     pub top: Option<Name>,
+    pub outputs: Option<List<Output>>,
 }
 
 impl Ending {
@@ -18,8 +22,13 @@ impl Ending {
     pub(crate) fn plain(status: Status) -> Ending
         ensures status { result.status ≡ status }
         ensures top { result.top ≡ None }
+        ensures outputs { result.outputs ≡ None }
     {
-        Ending { status, top: None }
+        Ending {
+            status,
+            top: None,
+            outputs: None,
+        }
     }
 }
 

@@ -7,60 +7,14 @@ ghost use Rattle.mdp_job.specs.Outputs.{report_on};
 ghost use Rattle.mdp_job.specs.Parts.{status_of, top_of, IsSaidSo, IsMade, IsAnswer, IsOfFracture, IsOfGenerate, CountsFor};
 
 use crate::ending::{Ending, fault_status};
+use crate::reading::refused_input;
+use crate::reporting::say_report_on;
 use crate::status::Status;
 use deck_plan::Plan;
 use depot::Depot;
-use job_input::{Input, InputBad, read_input};
-use job_report::{Format, say_report};
+use job_input::{Input, read_input};
 use shot_output::write_outputs;
-use shot_writer::Sums;
 use std::alloc::Global;
-
-// The ending where deck or layout aren't accepted.
-fn refused_input(bad: InputBad) -> Ending
-    ensures status { result.status ≡ status_of bad }
-    ensures top { result.top ≡ top_of bad }
-{
-    match bad {
-        InputBad::Deck(fault) => Ending::plain(Status::Deck(fault)),
-        InputBad::Layout(fault, top) => Ending {
-            status: Status::Layout(fault),
-            top: Some(top),
-        },
-        InputBad::ReadFault => Ending::plain(Status::ReadFault),
-        InputBad::NoMemory => Ending::plain(Status::NoMemory),
-    }
-}
-
-// Says the report on an accepted input whose outputs have these sums.
-fn report_on<D: Depot>(input: &Input, sums: &[Sums], depot: &mut D) -> Status
-    requires { length input.now.deck.outputs ≡ length sums.now }
-    ensures said { IsTrue D.tells → IsSaidSo (D.content depot.old) (D.content depot.new)
-        (Rose (D.counts depot.old).write_faults (D.counts depot.new).write_faults)
-        (Rose (D.counts depot.old).refused (D.counts depot.new).refused)
-        (report_on input.now sums.now) result }
-    ensures write_fault { result ≡ Status.WriteFault
-        → Rose (D.counts depot.old).write_faults (D.counts depot.new).write_faults }
-    ensures kind { IsOfGenerate result }
-    ensures counts { CountsFor (D.counts depot.old) (D.counts depot.new) result }
-    ensures counted { NeverFall (D.counts depot.old) (D.counts depot.new) }
-{
-    let tree = &input.tree;
-    let counts = tree.counts();
-    let outputs = input.deck.outputs.as_slice();
-    match say_report(
-        depot,
-        Format::Gdsii,
-        tree.cells().len(),
-        &counts,
-        "output",
-        outputs,
-        sums,
-    ) {
-        Ok(()) => Status::Done,
-        Err(bad) => fault_status(bad),
-    }
-}
 
 // Writes the outputs of an accepted input, and says the report.
 fn write_all<D: Depot>(alloc: Global, input: &Input, depot: &mut D) -> Status
@@ -78,7 +32,7 @@ fn write_all<D: Depot>(alloc: Global, input: &Input, depot: &mut D) -> Status
         return Status::NoMemory;
     };
     match write_outputs(alloc, depot, &plan) {
-        Ok(sums) => report_on(input, &sums, depot),
+        Ok(sums) => say_report_on("output", input, &sums, depot),
         Err(bad) => fault_status(bad),
     }
 }

@@ -5,16 +5,18 @@ ghost use Rattle.depot.specs.Counts.{NeverFall, Rose};
 ghost use Rattle.depot.specs.Sure.{sure_content, sure_counts};
 ghost use Rattle.mdp_job.specs.Words.{IsNoCommand};
 ghost use Rattle.mdp_job.specs.Runs.{texts, run_of};
-ghost use Rattle.mdp_job.specs.Clauses.{IsAccepted, Belongs, FaultsTold, Covers, Spares, Reports, Generates, Lists, Accepts, DeckLong, DeckBroken, LayoutLong, LayoutEarly, LayoutBroken, TreeBroken, ShotsLong, ShotsBad, ReadFaults, WriteFaults, Says, Refuses, Keeps, Spoils};
-ghost use Rattle.mdp_job.specs.Parts.{IsAnswerTo, CountsFor};
+ghost use Rattle.mdp_job.specs.Clauses.{IsAccepted, Belongs, FaultsTold, Covers, Spares, Certifies, Reports, Generates, Lists, Accepts, DeckLong, DeckBroken, LayoutLong, LayoutEarly, LayoutBroken, TreeBroken, FileLong, FileBad, FileHead, FileTooLarge, FileMiscovered, ShotsLong, ShotsBad, ReadFaults, WriteFaults, Says, Refuses, Keeps, Spoils};
+ghost use Rattle.mdp_job.specs.Table.{IsAnswerTo, NamesFile};
+ghost use Rattle.mdp_job.specs.Parts.{CountsFor};
 
+use crate::checking::check;
 use crate::ending::Ending;
 use crate::fracturing::fracture;
 use crate::generating::generate_layout;
 use crate::lines::say_line;
 use crate::listing::list_shots;
 use crate::status::Status;
-use crate::words::{file_word, fracture_names, generate_words, shots_name};
+use crate::words::{check_names, file_word, fracture_names, generate_words, shots_name};
 use depot::{Depot, SureDepot};
 use std::alloc::Global;
 
@@ -23,6 +25,7 @@ fn answered<D: Depot>(alloc: Global, words: &[String], depot: &mut D) -> Ending
     ensures table { IsTrue D.tells → IsAnswerTo D.tells
         (run_of (D.content depot.old) (D.content depot.new) (D.counts depot.old) (D.counts depot.new))
         (texts words.now) result.status result.top }
+    ensures file { IsTrue D.tells → NamesFile (D.content depot.old) (texts words.now) result.status result.outputs }
     ensures words { (result.status ≡ Status.Words) ↔ IsNoCommand (texts words.now) }
     ensures belongs { Belongs (texts words.now) result.status }
     ensures write_fault { result.status ≡ Status.WriteFault
@@ -34,6 +37,9 @@ fn answered<D: Depot>(alloc: Global, words: &[String], depot: &mut D) -> Ending
 {
     if let Some((layout, deck)) = fracture_names(words) {
         return fracture(alloc, layout, deck, depot);
+    }
+    if let Some((layout, deck)) = check_names(words) {
+        return check(alloc, layout, deck, depot);
     }
     if let Some(file) = shots_name(words) {
         return Ending::plain(list_shots(alloc, file, depot));
@@ -48,6 +54,8 @@ fn answered<D: Depot>(alloc: Global, words: &[String], depot: &mut D) -> Ending
 ///
 /// - `fracture LAYOUT DECK`: of the areas that the deck denotes of the layout the shots are written into the files of the
 ///   deck's outputs, and then the report is said;
+/// - `check LAYOUT DECK`: the files of the deck's outputs, whoever made them, are judged by the areas that the deck denotes
+///   of the layout, and where all are exact the report is said;
 /// - `shots FILE`: the shots of a shot file are listed on standard output;
 /// - `generate N FILE`: the generated layout of a number from 1 to 1,000 is written.
 ///
@@ -68,6 +76,12 @@ pub fn run<D: Depot>(alloc: Global, words: &[String], depot: &mut D) -> Status
     ensures economy { IsTrue D.tells → Spares
         (run_of (D.content depot.old) (D.content depot.new) (D.counts depot.old) (D.counts depot.new))
         (texts words.now) result }
+    // After `check` ends with Done, every output's file, whoever made it, is the one text of a list of legal shots within
+    // the deck's limits, with the deck's unit and the output's pair; each half-grid triangle lies in exactly one of them if
+    // it lies in the area that the deck denotes of the layout, and in none otherwise.
+    ensures certificate { IsTrue D.tells → Certifies
+        (run_of (D.content depot.old) (D.content depot.new) (D.counts depot.old) (D.counts depot.new))
+        (texts words.now) result }
     ensures report { IsTrue D.tells → Reports
         (run_of (D.content depot.old) (D.content depot.new) (D.counts depot.old) (D.counts depot.new))
         (texts words.now) result }
@@ -79,7 +93,8 @@ pub fn run<D: Depot>(alloc: Global, words: &[String], depot: &mut D) -> Status
         (run_of (D.content depot.old) (D.content depot.new) (D.counts depot.old) (D.counts depot.new))
         (texts words.now) result }
 
-    // Without a counted fault or want of memory, Done comes exactly where words, deck and layout are accepted.
+    // Without a counted fault or want of memory, Done comes exactly where words, deck and layout are accepted, and for
+    // `check` each output's file is exact.
     ensures accepted { IsTrue D.tells → Accepts
         (run_of (D.content depot.old) (D.content depot.new) (D.counts depot.old) (D.counts depot.new))
         (texts words.now) result }
@@ -101,6 +116,21 @@ pub fn run<D: Depot>(alloc: Global, words: &[String], depot: &mut D) -> Status
         (run_of (D.content depot.old) (D.content depot.new) (D.counts depot.old) (D.counts depot.new))
         (texts words.now) result }
     ensures layout_tree { IsTrue D.tells → TreeBroken
+        (run_of (D.content depot.old) (D.content depot.new) (D.counts depot.old) (D.counts depot.new))
+        (texts words.now) result }
+    ensures file_long { IsTrue D.tells → FileLong
+        (run_of (D.content depot.old) (D.content depot.new) (D.counts depot.old) (D.counts depot.new))
+        (texts words.now) result }
+    ensures file_bad { IsTrue D.tells → FileBad
+        (run_of (D.content depot.old) (D.content depot.new) (D.counts depot.old) (D.counts depot.new))
+        (texts words.now) result }
+    ensures file_head { IsTrue D.tells → FileHead
+        (run_of (D.content depot.old) (D.content depot.new) (D.counts depot.old) (D.counts depot.new))
+        (texts words.now) result }
+    ensures file_too_large { IsTrue D.tells → FileTooLarge
+        (run_of (D.content depot.old) (D.content depot.new) (D.counts depot.old) (D.counts depot.new))
+        (texts words.now) result }
+    ensures file_miscovered { IsTrue D.tells → FileMiscovered
         (run_of (D.content depot.old) (D.content depot.new) (D.counts depot.old) (D.counts depot.new))
         (texts words.now) result }
     ensures shots_long { IsTrue D.tells → ShotsLong
@@ -125,7 +155,7 @@ pub fn run<D: Depot>(alloc: Global, words: &[String], depot: &mut D) -> Status
     // After Done nothing was counted, and a counted fault of reading is answered as that.
     ensures faults_told { FaultsTold (D.counts depot.old) (D.counts depot.new) result }
 
-    // What is said, and what refusals, listings and faults leave.
+    // What is said, and what refusals, checks, listings and faults leave.
     ensures said { IsTrue D.tells → Says
         (run_of (D.content depot.old) (D.content depot.new) (D.counts depot.old) (D.counts depot.new))
         (texts words.now) result }

@@ -1,17 +1,33 @@
 //! The line that is said where a command wasn't done.
 
-ghost use Rattle.std.specs.Prelude.{◌≡◌, ◌⊎◌, List, ℕ, IsTrue};
+ghost use Rattle.std.specs.Prelude.{◌≡◌, ◌⊎◌, List, ℕ, IsTrue, decimal};
 ghost use Rattle.depot.specs.Content.{with_said, IsPartSaid};
 ghost use Rattle.depot.specs.Counts.{NeverFall, Rose};
-ghost use Rattle.job_report.specs.Pieces.{spelled};
-ghost use Rattle.mdp_job.specs.Lines.{deck_fault_line, layout_fault_line, fault_line, shot_line_of, check_line, name_of, line_of};
+ghost use Rattle.std.specs.Fmt.{signed_decimal};
+ghost use Rattle.job_report.specs.Pieces.{spelled, text_of};
+ghost use Rattle.mdp_job.specs.Lines.{deck_fault_line, layout_fault_line, fault_line, shot_line_of, side_text, tile_line, too_large_line, verdict_line, text_line, check_line, file_of, name_of, line_of};
 
 use crate::ending::Ending;
-use crate::status::{CheckFault, Status};
+use crate::status::Status;
 use depot::Depot;
+use file_check::CheckFault;
+use half_grid::{Side, Tile};
 use job_input::{DeckFault, LayoutFault};
 use job_report::{Line, Piece, deck_line, gds_line, say_pieces, tree_line};
+use shot_checker::Verdict;
 use shot_reader::ShotBad;
+
+/// A line of up to eleven pieces.
+type LongLine<'a> = [Piece<'a>; 11];
+
+// A line with empty pieces at its end.
+fn long(line: Line<'_>) -> LongLine<'_>
+    ensures { spelled result ≡ spelled line.entry }
+{
+    let [a, b, c, d, e] = line;
+    let none = Piece::Text(b"");
+    [a, b, c, d, e, none, none, none, none, none, none]
+}
 
 // A line of one piece.
 fn whole(text: &[u8]) -> Line<'_>
@@ -73,19 +89,126 @@ fn shot_line<'a>(file: &'a str, bad: &ShotBad) -> Line<'a>
     }
 }
 
+// A tile's side, on its way to the number of shots.
+fn side_text(side: Side) -> &'static [u8]
+    ensures { result.now ≡ side_text side }
+{
+    match side {
+        Side::Left => b" left count ",
+        Side::Right => b" right count ",
+    }
+}
+
+fn column_piece(tile: &Tile) -> Piece<'static>
+    ensures { text_of result ≡ signed_decimal tile.now.i }
+{
+    Piece::Number(tile.i)
+}
+
+fn row_piece(tile: &Tile) -> Piece<'static>
+    ensures { text_of result ≡ signed_decimal tile.now.j }
+{
+    Piece::Number(tile.j)
+}
+
+fn side_piece(tile: &Tile) -> Piece<'static>
+    ensures { text_of result ≡ side_text tile.now.side }
+{
+    Piece::Text(side_text(tile.side))
+}
+
+fn count_piece(number: u64) -> Piece<'static>
+    ensures { text_of result ≡ decimal number }
+{
+    Piece::Count(u128::from(number))
+}
+
+// The line of a shot file with a tile that is in another number of shots than it should be.
+fn tile_line<'a>(file: &'a str, tile: &Tile, count: u64, wanted: u64) -> LongLine<'a>
+    ensures { spelled result ≡ tile_line file.now tile.now count wanted }
+{
+    let column = column_piece(tile);
+    let row = row_piece(tile);
+    let side = side_piece(tile);
+    let is = count_piece(count);
+    let should_be = count_piece(wanted);
+    [
+        Piece::Text(b"check refused: "),
+        Piece::Text(file.as_bytes()),
+        Piece::Text(b": tile "),
+        column,
+        Piece::Text(b" "),
+        row,
+        side,
+        is,
+        Piece::Text(b" wanted "),
+        should_be,
+        Piece::Text(b"\n"),
+    ]
+}
+
+// The line of a shot file with a shot that is beyond the limits.
+fn too_large_line(file: &str, shot: usize) -> Line<'_>
+    ensures { spelled result ≡ too_large_line file.now shot }
+{
+    [
+        Piece::Text(b"check refused: "),
+        Piece::Text(file.as_bytes()),
+        Piece::Text(b": shot "),
+        Piece::Count(shot as u128),
+        Piece::Text(b" too large\n"),
+    ]
+}
+
+// The line of a shot file whose shots have this verdict, which is never Exact.
+fn verdict_line<'a>(file: &'a str, verdict: &Verdict) -> LongLine<'a>
+    ensures { spelled result ≡ verdict_line file.now verdict.now }
+{
+    match verdict {
+        Verdict::Exact => long(whole(b"")),
+        Verdict::Miscovered(tile, count, wanted) => tile_line(file, tile, *count, *wanted),
+        Verdict::TooLarge(k) => long(too_large_line(file, *k)),
+    }
+}
+
+// A line of a refused shot file that ends with this text.
+fn text_line<'a>(file: &'a str, text: &'a [u8]) -> LongLine<'a>
+    ensures { spelled result ≡ text_line file.now text.now }
+{
+    long([
+        Piece::Text(b"check refused: "),
+        Piece::Text(file.as_bytes()),
+        Piece::Text(text),
+        Piece::Text(b""),
+        Piece::Text(b""),
+    ])
+}
+
 // The line of a refused shot file.
-fn check_line<'a>(file: &'a str, fault: &CheckFault) -> Line<'a>
+fn check_line<'a>(file: &'a str, fault: &CheckFault) -> LongLine<'a>
     ensures { spelled result ≡ check_line file.now fault.now }
 {
     match fault {
-        CheckFault::Long => [
-            Piece::Text(b"check refused: "),
-            Piece::Text(file.as_bytes()),
-            Piece::Text(b": longer than 268435456 bytes\n"),
-            Piece::Text(b""),
-            Piece::Text(b""),
-        ],
-        CheckFault::Bad(bad) => shot_line(file, bad),
+        CheckFault::Long => text_line(file, b": longer than 268435456 bytes\n"),
+        CheckFault::Bad(bad) => long(shot_line(file, bad)),
+        CheckFault::Head => text_line(file, b": unit or layer differs\n"),
+        CheckFault::Verdict(verdict) => verdict_line(file, verdict),
+    }
+}
+
+// The file that an ending is about: that of the refused output, and else the file of this name.
+fn file_of<'a>(word: &'a str, ending: &'a Ending) -> &'a str
+    ensures { result.now ≡ file_of word.now ending.now.outputs ending.now.status }
+{
+    let Status::No(place, _) = &ending.status else {
+        return word;
+    };
+    let Some(outputs) = &ending.outputs else {
+        return word;
+    };
+    match outputs.as_slice().get(*place) {
+        Some(output) => output.file.as_str(),
+        None => word,
     }
 }
 
@@ -100,28 +223,28 @@ fn name_of(ending: &Ending) -> &[u8]
 }
 
 // The line of an ending.
-fn line_of<'a>(file: &'a str, ending: &'a Ending) -> Line<'a>
+fn line_of<'a>(file: &'a str, ending: &'a Ending) -> LongLine<'a>
     ensures { spelled result ≡ line_of file.now (name_of ending.now.top) ending.now.status }
 {
     match &ending.status {
-        Status::Done => whole(b""),
-        Status::Words => whole(b"words refused\n"),
-        Status::Deck(fault) => deck_fault_line(fault),
-        Status::Layout(fault) => layout_fault_line(name_of(ending), fault),
-        Status::ReadFault => whole(b"read fault\n"),
-        Status::WriteFault => whole(b"write fault\n"),
-        Status::NoMemory => whole(b"want of memory\n"),
+        Status::Done => long(whole(b"")),
+        Status::Words => long(whole(b"words refused\n")),
+        Status::Deck(fault) => long(deck_fault_line(fault)),
+        Status::Layout(fault) => long(layout_fault_line(name_of(ending), fault)),
+        Status::ReadFault => long(whole(b"read fault\n")),
+        Status::WriteFault => long(whole(b"write fault\n")),
+        Status::NoMemory => long(whole(b"want of memory\n")),
         Status::No(_, fault) => check_line(file, fault),
     }
 }
 
-/// Says the line of an ending other than Done, where the shot file is the one of this name. A failure to say it changes
+/// Says the line of an ending other than Done, where the word after the command is this one. A failure to say it changes
 /// nothing.
-pub(crate) fn say_line<D: Depot>(depot: &mut D, file: &str, ending: &Ending)
+pub(crate) fn say_line<D: Depot>(depot: &mut D, word: &str, ending: &Ending)
     ensures done { ending.now.status ≡ Status.Done → depot.new ≡ depot.old }
-    ensures said { IsTrue D.tells → IsPartSaid (D.content depot.old) (line_of file.now (name_of ending.now.top) ending.now.status) (D.content depot.new) }
+    ensures said { IsTrue D.tells → IsPartSaid (D.content depot.old) (line_of (file_of word.now ending.now.outputs ending.now.status) (name_of ending.now.top) ending.now.status) (D.content depot.new) }
     ensures whole { IsTrue D.tells
-        → (D.content depot.new ≡ with_said (D.content depot.old) (line_of file.now (name_of ending.now.top) ending.now.status))
+        → (D.content depot.new ≡ with_said (D.content depot.old) (line_of (file_of word.now ending.now.outputs ending.now.status) (name_of ending.now.top) ending.now.status))
         ⊎ Rose (D.counts depot.old).write_faults (D.counts depot.new).write_faults
         ⊎ Rose (D.counts depot.old).refused (D.counts depot.new).refused }
     ensures reads { (D.counts depot.new).read_faults ≡ (D.counts depot.old).read_faults }
@@ -130,7 +253,7 @@ pub(crate) fn say_line<D: Depot>(depot: &mut D, file: &str, ending: &Ending)
     if let Status::Done = &ending.status {
         return;
     }
-    match say_pieces(depot, &line_of(file, ending)) {
+    match say_pieces(depot, &line_of(file_of(word, ending), ending)) {
         Ok(()) => {}
         Err(_unsaid) => {}
     }

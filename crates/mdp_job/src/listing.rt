@@ -7,8 +7,9 @@ ghost use Rattle.mdp_job.specs.Runs.{run_of};
 ghost use Rattle.mdp_job.specs.Parts.{IsOfShots, CountsFor};
 
 use crate::reading::refused_status;
-use crate::status::{CheckFault, Status};
+use crate::status::Status;
 use depot::{Depot, DepotBad, read_all};
+use file_check::CheckFault;
 use shot_listing::{MOST_SHOTS, say_listing};
 use shot_reader::{ShotBad, ShotFile, read_shots};
 use std::alloc::Global;

@@ -1,10 +1,12 @@
-//! Files that can't be read.
+//! Files that can't be read, and an input that isn't accepted.
 
-ghost use Rattle.std.specs.Prelude.{◌≡◌};
-ghost use Rattle.mdp_job.specs.Parts.{refused_status};
+ghost use Rattle.std.specs.Prelude.{◌≡◌, None};
+ghost use Rattle.mdp_job.specs.Parts.{refused_status, status_of, top_of};
 
+use crate::ending::Ending;
 use crate::status::Status;
 use depot::Refused;
+use job_input::InputBad;
 
 /// The answer to a file that wasn't read, where `long` is that to a file past its limit.
 pub(crate) fn refused_status(refused: Refused, long: Status) -> Status
@@ -14,5 +16,23 @@ pub(crate) fn refused_status(refused: Refused, long: Status) -> Status
         Refused::Fault => Status::ReadFault,
         Refused::TooLong => long,
         Refused::NoMemory => Status::NoMemory,
+    }
+}
+
+/// The ending where deck or layout aren't accepted.
+pub(crate) fn refused_input(bad: InputBad) -> Ending
+    ensures status { result.status ≡ status_of bad }
+    ensures top { result.top ≡ top_of bad }
+    ensures outputs { result.outputs ≡ None }
+{
+    match bad {
+        InputBad::Deck(fault) => Ending::plain(Status::Deck(fault)),
+        InputBad::Layout(fault, top) => Ending {
+            status: Status::Layout(fault),
+            top: Some(top),
+            outputs: None,
+        },
+        InputBad::ReadFault => Ending::plain(Status::ReadFault),
+        InputBad::NoMemory => Ending::plain(Status::NoMemory),
     }
 }

@@ -1,5 +1,5 @@
+use file_check::CheckFault;
 use job_input::{DeckFault, LayoutFault};
-use shot_reader::ShotBad;
 
 /// How a command ended.
 #[derive(Debug, Drop)]
@@ -20,15 +20,6 @@ pub enum Status {
     NoMemory,
     /// A shot file was read and is refused. The number is its output's place from 0; it is 0 for `shots`.
     No(usize, CheckFault),
-}
-
-/// Why a shot file is refused.
-#[derive(Clone, Copy, Debug, PartialEq, Eq)]
-pub enum CheckFault {
-    /// It has more than 268,435,456 bytes.
-    Long,
-    /// It isn't the text of a list of shots. This is its first fault, which is never want of memory.
-    Bad(ShotBad),
 }
 
 impl Status {

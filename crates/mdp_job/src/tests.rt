@@ -252,6 +252,85 @@ fn files_are_listed_or_refused(rt: HostRuntime) -> Result<(), Fail> {
     Ok(())
 }
 
+/// A square of side 10 on layer 1 and one on layer 2, the same twice, and one of side 0.
+const FIRST: &[u8] = &[0x14, 0x7B, 0x01, 0x00, 0x14, 0x14, 0x00, 0x00];
+
+const SECOND: &[u8] = &[0x14, 0x7B, 0x02, 0x00, 0x14, 0x14, 0x00, 0x00];
+
+const TWICE: &[u8] = &[
+    0x14, 0x7B, 0x02, 0x00, 0x14, 0x14, 0x00, 0x00, //
+    0x14, 0x7B, 0x02, 0x00, 0x14, 0x14, 0x00, 0x00,
+];
+
+const FLAT: &[u8] = &[0x14, 0x7B, 0x01, 0x00, 0x14, 0x00, 0x00, 0x00];
+
+const SMALL: &[u8] =
+    b"unit 1000\ntop TOP\nlimits 10 20\nlayer A 1 0\nwrite A out.oas 1 0\nwrite A two.oas 2 0\n";
+
+const EXACT: &str =
+    "format gdsii\ncells 1\nkept 1\nother 0\ntexts 0\nnodes 0\nboxes 0\nproperties 0\nexact out.oas shots 1 triangles 800\nexact two.oas shots 1 triangles 800\n";
+
+// The deck, the records of both files, if they are there, the code, what is said.
+const CHECKS: [(&[u8], Option<&[u8]>, Option<&[u8]>, u8, &str); 8] = [
+    (TWO, Some(FIRST), Some(SECOND), 0, EXACT),
+    (
+        TWO,
+        Some(FIRST),
+        Some(TWICE),
+        7,
+        "check refused: two.oas: tile 0 0 left count 2 wanted 1\n",
+    ),
+    (
+        TWO,
+        Some(b""),
+        None,
+        7,
+        "check refused: out.oas: tile 0 0 left count 0 wanted 1\n",
+    ),
+    (
+        TWO,
+        Some(SECOND),
+        Some(SECOND),
+        7,
+        "check refused: out.oas: unit or layer differs\n",
+    ),
+    (
+        TWO,
+        Some(FLAT),
+        None,
+        7,
+        "check refused: out.oas: illegal at 41\n",
+    ),
+    (
+        SMALL,
+        Some(FIRST),
+        None,
+        7,
+        "check refused: out.oas: shot 0 too large\n",
+    ),
+    (TWO, Some(FIRST), None, 4, "read fault\n"),
+    (TWO, None, Some(SECOND), 4, "read fault\n"),
+];
+
+#[test]
+fn files_are_exact_or_refused(rt: HostRuntime) -> Result<(), Fail> {
+    let alloc = rt.alloc();
+    let command = words(alloc, &["check", "G.gds", "K"])?;
+    for (deck, first, second, code, said) in CHECKS {
+        let mut depot = depot_of(alloc, deck)?;
+        if let Some(records) = first {
+            depot.add("out.oas", &file_of(alloc, records)?)?;
+        }
+        if let Some(records) = second {
+            depot.add("two.oas", &file_of(alloc, records)?)?;
+        }
+        assert_eq!(rt; run(alloc, &command, &mut depot).code(), code);
+        assert_eq!(rt; depot.said(), said.as_bytes());
+        assert_eq!(rt; depot.made("out.oas"), None);
+    }
+    Ok(())
+}
+
 #[test]
 fn a_layout_is_generated(rt: HostRuntime) -> Result<(), Fail> {
     let alloc = rt.alloc();

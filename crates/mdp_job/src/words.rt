@@ -2,7 +2,7 @@
 
 ghost use Rattle.std.specs.Prelude.{◌≡◌, List, ℕ, IfSome, IfNone};
 ghost use Rattle.mdp_job.specs.Runs.{texts};
-ghost use Rattle.mdp_job.specs.Words.{IsFracture, IsShots, IsLayoutNumber, IsGenerate, file_word};
+ghost use Rattle.mdp_job.specs.Words.{IsFracture, IsCheck, IsShots, IsLayoutNumber, IsGenerate, file_word};
 
 use deck_text::digits_value;
 
@@ -15,6 +15,20 @@ pub(crate) fn fracture_names(words: &[String]) -> Option<(&str, &str)>
         return None;
     }
     if words[0].as_str() != "fracture" {
+        return None;
+    }
+    Some((words[1].as_str(), words[2].as_str()))
+}
+
+/// The names of layout and deck, where the words are `check LAYOUT DECK`.
+pub(crate) fn check_names(words: &[String]) -> Option<(&str, &str)>
+    ensures some { IfSome result (λ names. IsCheck (texts words.now) names.0.now names.1.now) }
+    ensures none { IfNone result ((layout deck : List ℕ) → IsCheck (texts words.now) layout deck → ⊥) }
+{
+    if words.len() != 3 {
+        return None;
+    }
+    if words[0].as_str() != "check" {
         return None;
     }
     Some((words[1].as_str(), words[2].as_str()))

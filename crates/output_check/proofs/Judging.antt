@@ -36,17 +36,17 @@ one_tile t u a b =
       ]
     ]
 
-one_fault : (area : Tile → Type 0) (shots : List Trapezoid) (t u : Tile) (m n x y : ℕ) → IsFirstFault area shots t m n → IsFirstFault area shots u x y → Miscovered t m n ≡ Miscovered u x y
+pub one_fault : (area : Tile → Type 0) (shots : List Trapezoid) (t u : Tile) (m n x y : ℕ) → IsFirstFault area shots t m n → IsFirstFault area shots u x y → Miscovered t m n ≡ Miscovered u x y
 one_fault area shots t u m n x y a b =
     let e : t ≡ u = one_tile t u (a.first u b.miscovered) (b.first t a.miscovered) in
     let count : m ≡ x = a.count_is ∙ ap (count_in shots) e ∙ sym b.count_is in
     let wanted : n ≡ y = one_wanted area u n y (subst (λ s. IsWanted area s n) e a.wanted_is) b.wanted_is in
     rw (e, count, wanted) refl
 
-not_covered : (area : Tile → Type 0) (shots : List Trapezoid) (t : Tile) (m n : ℕ) → IsFirstFault area shots t m n → CoversExactly shots area → ⊥
+pub not_covered : (area : Tile → Type 0) (shots : List Trapezoid) (t : Tile) (m n : ℕ) → IsFirstFault area shots t m n → CoversExactly shots area → ⊥
 not_covered area shots t m n a covers = a.miscovered (record { once = covers.once t; never = covers.never t })
 
-not_all_fit : (limits : Limits) (shots : List Trapezoid) (k : ℕ) → IsFirstTooLarge shots limits k → All (Fits limits) shots → ⊥
+pub not_all_fit : (limits : Limits) (shots : List Trapezoid) (k : ℕ) → IsFirstTooLarge shots limits k → All (Fits limits) shots → ⊥
 not_all_fit limits shots k first fit =
     let within = slice_get_within shots k first.shot first.at in
     first.too_large (subst (Fits limits) (get_or_from_slice_get shots k first.shot first.shot first.at) (All-get_or (Fits limits) shots k first.shot within fit))

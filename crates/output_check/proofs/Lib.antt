@@ -4,3 +4,4 @@ mod Faults
 mod Numbers
 mod Covers
 mod Judging
+pub mod ForCallers

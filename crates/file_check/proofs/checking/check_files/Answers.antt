@@ -1,6 +1,6 @@
 use Rattle.std.proofs.Common.{ℕ, ap, subst, ◌∙◌}
 use Rattle.depot.specs.Counts.{Counts, Rose}
-use Rattle.file_check.proofs.Answering.{exact_before, fault_before, left_again, one_file_more}
+use Rattle.file_check.proofs.Answering.{counted, exact_before, fault_before, left_again, one_file_more}
 use Rattle.file_check.proofs.checking.check_files.Goals as goal
 
 pub returns-in-Err-clause-refused : goal.returns-in-Err-clause-refused
@@ -23,6 +23,7 @@ loop-place-preserved g c =
       exact = λ told. one_file_more c.args.plan.now (g.D.Depot.content c.args.depot.now) c.loop-place.place c.loop-place.all.items _ c.in-Ok.sums (i.exact told)
           (exact_before c.args.plan.now c.loop-place.place (g.D.Depot.content c.args.depot.now) (g.D.Depot.content c.loop-place.depot) c.in-Ok.sums (i.others told) (c.in-Ok.ensures.ok told))
           c.in-Ok-push.ensures.items;
+      count = counted c.loop-place.all.items _ c.in-Ok.sums c.loop-place.place c.in-Ok-push.ensures.items i.count;
       others = λ told. left_again (g.D.Depot.content c.args.depot.now) (g.D.Depot.content c.loop-place.depot) (g.D.Depot.content c.check_file.new.depot) (i.others told) (c.in-Ok.ensures.others told);
       uncounted = c.in-Ok.ensures.uncounted ∙ i.uncounted;
     }

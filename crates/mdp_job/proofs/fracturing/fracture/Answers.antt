@@ -2,8 +2,8 @@ use Rattle.std.proofs.Common.{◌≡◌, ◌⊎◌, inl, inr, ℕ, List, Option,
 use Rattle.depot.specs.Counts.{Rose}
 use Rattle.job_input.specs.Refused.{IsWanting}
 use Rattle.mdp_job.specs.Runs.{run_of}
-use Rattle.mdp_job.specs.Parts.{IsInputTold, IsMade, IsAnswer}
-use Rattle.mdp_job.proofs.Made.{given_answers, fault_told}
+use Rattle.mdp_job.specs.Parts.{IsInputTold, IsMade, IsFractured, IsAnswer}
+use Rattle.mdp_job.proofs.Made.{given_answers, fractured_from, fault_told}
 use Rattle.mdp_job.specs.declared.status.Status.{Status}
 use Rattle.mdp_job.proofs.fracturing.fracture.Goals as goal
 
@@ -26,8 +26,10 @@ returns-in-Ok-clause-answer g c = λ tells.
       missing_deck = e.missing_deck tells;
     } in
     subst (λ (s : Status). IsAnswer g.D.Depot.tells (run_of (at c.args.depot.now) (at c.write_all.new.depot) (counts c.args.depot.now) (counts c.write_all.new.depot)) c.args.layout.now c.args.deck.now s c.plain.result.top) (sym c.plain.ensures.status)
-    (given_answers g.D.Depot.tells (at c.args.depot.now) (at c.read_input.new.depot) (at c.write_all.new.depot) (counts c.args.depot.now) (counts c.read_input.new.depot) (counts c.write_all.new.depot)
-    c.args.layout.now c.args.deck.now c.in-Ok.input c.write_all.result c.plain.result.top told e.counts c.write_all.ensures.counted (e.whole tells) (c.write_all.ensures.made tells) c.plain.ensures.top)
+    (given_answers (IsFractured g.D.Depot.tells (run_of (at c.args.depot.now) (at c.write_all.new.depot) (counts c.args.depot.now) (counts c.write_all.new.depot))) (at c.args.depot.now) (at c.write_all.new.depot) (counts c.args.depot.now) (counts c.read_input.new.depot) (counts c.write_all.new.depot)
+    c.args.layout.now c.args.deck.now c.in-Ok.input c.write_all.result c.plain.result.top told c.write_all.ensures.counted
+    (fractured_from g.D.Depot.tells (at c.args.depot.now) (at c.read_input.new.depot) (at c.write_all.new.depot) (counts c.args.depot.now) (counts c.read_input.new.depot) (counts c.write_all.new.depot) c.in-Ok.input c.write_all.result e.counts (e.whole tells) (c.write_all.ensures.made tells))
+    c.plain.ensures.top)
 
 pub returns-in-Err-clause-answer : goal.returns-in-Err-clause-answer
 returns-in-Err-clause-answer g c = λ tells.

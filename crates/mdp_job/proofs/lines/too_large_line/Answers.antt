@@ -1,0 +1,11 @@
+use Rattle.std.proofs.Common.{◌≡◌, ◌++◌}
+use Rattle.std.specs.Prelude.{codes, decimal}
+use Rattle.mdp_job.specs.Lines.{too_large_line}
+use Rattle.mdp_job.proofs.Spellings.{five_spell}
+use Rattle.mdp_job.proofs.lines.too_large_line.Goals as goal
+
+pub returns : goal.returns
+returns c =
+    let line : codes "check refused: " ++ (c.as_bytes.result.now ++ (codes ": shot " ++ (decimal c.args.shot ++ codes " too large\n"))) ≡ too_large_line c.args.file.now c.args.shot =
+    rw c.as_bytes.ensures.value (five_spell (codes "check refused: ") c.args.file.now (codes ": shot ") (decimal c.args.shot) (codes " too large\n")) in
+    line
