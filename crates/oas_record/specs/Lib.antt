@@ -6,3 +6,4 @@ pub mod Rows
 pub mod Records
 pub mod Parts
 pub mod Laws
+pub mod Taken

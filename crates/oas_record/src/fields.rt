@@ -24,11 +24,18 @@ pub struct Interval {
 }
 
 /// A point list as it is stored, in grid steps: each delta as a point, before any adding up.
-#[derive(Debug, Drop)]
+#[derive(Debug)]
 pub struct Deltas {
     /// 0 and 1 deltas along x and y by turns, 0 horizontal first and 1 vertical first; 2 along x or y; 3 at multiples of
     /// 45 degrees; 4 any; 5 any, each added to the delta before.
     pub kind: u8,
     /// The stored deltas.
     pub items: List<Point>,
+}
+
+// Written out, so that it is proved once here, and not again in each crate that lets one go.
+impl Drop for Deltas {
+    fn drop(self) {
+        let Deltas { kind: _, items: _ } = self;
+    }
 }

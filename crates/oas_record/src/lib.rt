@@ -24,6 +24,7 @@ mod repetition;
 mod repetition_readers;
 mod segments;
 mod shape_rows;
+mod taking;
 mod values;
 
 pub use faults::RecordBad;
@@ -32,3 +33,7 @@ pub use laws::record_laws;
 pub use reading::record_at;
 pub use records::OasRecord;
 pub use repetition::Rep;
+pub use taking::Lists;
+
+#[cfg(test)]
+mod tests;

@@ -5,7 +5,7 @@ use half_grid::Point;
 
 /// How a shape or a placement is repeated, in grid steps, one variant a kind. Dimensions are the numbers of copies, at
 /// least 2, and each is stored less 2.
-#[derive(Debug, Drop)]
+#[derive(Debug)]
 pub enum Rep {
     /// Kind 0: as the last repetition.
     Same,
@@ -71,4 +71,46 @@ pub enum Rep {
         grid: u64,
         moves: List<Point>,
     },
+}
+
+// Written out, so that it is proved once here, and not again in each crate that lets one go.
+impl Drop for Rep {
+    fn drop(self) {
+        match self {
+            Rep::Same => (),
+            Rep::Grid {
+                x_dim: _,
+                y_dim: _,
+                x_space: _,
+                y_space: _,
+            } => (),
+            Rep::Row { dim: _, space: _ } => (),
+            Rep::Column { dim: _, space: _ } => (),
+            Rep::RowSpaces { dim: _, spaces: _ } => (),
+            Rep::RowOnGrid {
+                dim: _,
+                grid: _,
+                spaces: _,
+            } => (),
+            Rep::ColumnSpaces { dim: _, spaces: _ } => (),
+            Rep::ColumnOnGrid {
+                dim: _,
+                grid: _,
+                spaces: _,
+            } => (),
+            Rep::Lattice {
+                n_dim: _,
+                m_dim: _,
+                u: _,
+                v: _,
+            } => (),
+            Rep::Line { dim: _, u: _ } => (),
+            Rep::Moves { dim: _, moves: _ } => (),
+            Rep::MovesOnGrid {
+                dim: _,
+                grid: _,
+                moves: _,
+            } => (),
+        }
+    }
 }

@@ -1,0 +1,91 @@
+//! What is written, else what was there.
+ghost use Rattle.std.specs.Prelude.{◌≡◌};
+ghost use Rattle.oas_fields.specs.Steps.{value_or, height_by};
+ghost use Rattle.oas_fields.specs.Values.{or_else, length_of};
+ghost use Rattle.oas_fields.specs.Writes.{repetition_by};
+
+use crate::extension::Extension;
+use crate::written::Written;
+use oas_record::{Called, Deltas, Rep};
+
+pub(crate) fn number_or(written: Option<u64>, before: Option<u64>) -> Option<u64>
+    ensures { result ≡ or_else written before }
+{
+    match written {
+        Some(number) => Some(number),
+        None => before,
+    }
+}
+
+pub(crate) fn length_or(written: Option<i128>, before: Option<i128>) -> Option<i128>
+    ensures { result ≡ or_else written before }
+{
+    match written {
+        Some(length) => Some(length),
+        None => before,
+    }
+}
+
+pub(crate) fn cell_or(written: Option<Called>, before: Option<Called>) -> Option<Called>
+    ensures { result ≡ or_else written before }
+{
+    match written {
+        Some(cell) => Some(cell),
+        None => before,
+    }
+}
+
+pub(crate) fn mode_or(written: Option<bool>, before: bool) -> bool
+    ensures { result ≡ value_or written before }
+{
+    match written {
+        Some(is_relative) => is_relative,
+        None => before,
+    }
+}
+
+/// The height that a record writes, with this width: a square's is the width.
+pub(crate) fn height_by(written: Written, width: Option<u64>) -> Option<u64>
+    ensures { result ≡ height_by written width }
+{
+    if written.is_square {
+        return width;
+    }
+    written.height
+}
+
+/// The length of an end of a path of this half width.
+pub(crate) fn length_of(half_width: Option<u64>, written: Option<Extension>) -> Option<i128>
+    ensures { result ≡ length_of half_width written }
+{
+    match written {
+        None => None,
+        Some(Extension::Flush) => Some(0),
+        Some(Extension::HalfWidth) => match half_width {
+            Some(half_width) => Some(i128::from(half_width)),
+            None => None,
+        },
+        Some(Extension::Length(length)) => Some(i128::from(length)),
+    }
+}
+
+/// Keeps a point list where one is written.
+pub(crate) fn keep_points(kept: &mut Option<Deltas>, written: Option<Deltas>)
+    ensures { kept.new ≡ or_else written kept.old }
+{
+    match written {
+        Some(points) => *kept = Some(points),
+        None => {}
+    }
+}
+
+/// Keeps a repetition where one is written; kind 0 is the last one again.
+pub(crate) fn keep_repetition(kept: &mut Option<Rep>, written: Option<Rep>)
+    ensures { kept.new ≡ or_else (repetition_by written) kept.old }
+{
+    match &written {
+        Some(Rep::Same) => {}
+        Some(_) => *kept = written,
+        None => {}
+    }
+}

@@ -1,0 +1,69 @@
+//! The values of the fields of records that stand one after another.
+ghost use Rattle.std.specs.Prelude.{◌≡◌, ◌^◌, true};
+ghost use Rattle.oas_fields.specs.Values.{IsPlaceWithin, ArePlacesWithin};
+
+use crate::{Fields, Place};
+use oas_record::{OasRecord, Rep};
+use std::process::Abort;
+use std::rt::HostRuntime;
+
+const MOST: i128 = 1 << 100;
+
+fn is_near(place: Place) -> bool
+    ensures { result ≡ true → IsPlaceWithin (2 ^ 100) place }
+{
+    if place.x < -MOST || MOST < place.x {
+        return false;
+    }
+    -MOST <= place.y && place.y <= MOST
+}
+
+fn are_near(fields: &Fields) -> bool
+    ensures { result ≡ true → ArePlacesWithin (2 ^ 100) fields.now }
+{
+    if !is_near(fields.placement) {
+        return false;
+    }
+    if !is_near(fields.geometry) {
+        return false;
+    }
+    is_near(fields.text)
+}
+
+fn take(rt: &impl Abort, fields: &mut Fields, current: OasRecord) {
+    assert!(rt; are_near(fields));
+    fields.take(current);
+}
+
+// A square on layer 3.
+fn square(width: Option<u64>, x: Option<i64>, repetition: Option<Rep>) -> OasRecord {
+    OasRecord::Rectangle {
+        info: 0x80,
+        layer: Some(3),
+        datatype: None,
+        width,
+        height: None,
+        x,
+        y: None,
+        repetition,
+    }
+}
+
+#[test]
+fn values_last_to_the_end_of_a_cell(rt: HostRuntime) {
+    let mut fields = Fields::new();
+    take(&rt, &mut fields, OasRecord::NumberedCell { number: 0 });
+    let row = Rep::Row { dim: 2, space: 9 };
+    take(&rt, &mut fields, square(Some(7), Some(5), Some(row)));
+    take(&rt, &mut fields, OasRecord::XyRelative);
+    take(&rt, &mut fields, square(None, Some(6), Some(Rep::Same)));
+    assert_eq!(rt; fields.layer, Some(3));
+    assert_eq!(rt; fields.datatype, None);
+    assert_eq!(rt; fields.height, Some(7));
+    assert_eq!(rt; fields.geometry.x, 11);
+    assert!(rt; matches!(&fields.repetition, Some(Rep::Row { dim: 2, .. })));
+    take(&rt, &mut fields, OasRecord::NumberedCell { number: 1 });
+    assert_eq!(rt; fields.layer, None);
+    assert_eq!(rt; fields.geometry.x, 0);
+    assert!(rt; !fields.is_relative);
+}
