@@ -50,8 +50,9 @@ fn joined_within<F: Fn(i128, i128) -> bool + Drop>(
     Ok(Some(traps))
 }
 
-/// The joined list of the tiles that a lent rule takes, swept without columns.
-pub(crate) fn plain<F: Fn(i128, i128) -> bool + Drop>(
+/// The same list as of `swept`, for a lent rule, by one sweep of the whole window without columns. That takes about as long
+/// where few edges span a row, and far longer where many do.
+pub fn plain<F: Fn(i128, i128) -> bool + Drop>(
     alloc: Global,
     edges: Vec<Edge>,
     window: Window,
