@@ -7,7 +7,7 @@ PROGRAM := build/nettletide
 BENCH := build/bench
 SOURCES := crates.txt HANDLES $(shell find crates -name out -prune -o \( -name '*.rt' -o -name '*.antt' \) -print)
 
-.PHONY: all try test example pictures bench clean
+.PHONY: all try test example pictures compare bench clean
 
 # how large the layouts of `make bench` are: small, or large, which has up to 16 million shots
 SIZE := small
@@ -47,6 +47,11 @@ example: $(PROGRAM)
 pictures: $(PROGRAM)
 	tools/pictures $(PROGRAM)
 
+# The program against a plain one on random small layouts, and with each allocation and each call for a file refused.
+compare: $(PROGRAM)
+	tests/plain.py $(PROGRAM) 200
+	tests/refusals.sh $(PROGRAM)
+
 $(BENCH): $(SOURCES)
 	mkdir -p build
 	rm -f crates/bench/out/bench crates/bench/out/bench.stamp
@@ -65,6 +70,7 @@ bench: $(BENCH) $(PROGRAM)
 	$(BENCH) hatch 400
 	$(BENCH) pile 1000
 	tools/bench $(PROGRAM) build/bench $(SIZE)
+	tools/bench $(PROGRAM) build/bench steps
 
 # What the kit has proved stays in crates/*/out, since to prove it again takes minutes.
 clean:
