@@ -1,6 +1,7 @@
 -- The areas of the definitions of an output, from the first one up.
-use Rattle.std.proofs.Common.{◌≡◌, ◌∙◌, ◌⊎◌, inl, inr, ℕ, zero, suc, ◌+◌, ◌*◌, ◌^◌, ◌<◌, ◌≤◌, ℤ, pos, ◌+ℤ◌, ◌-ℤ◌, ◌≤ℤ◌, ◌<ℤ◌, List, [], ◌∷◌, ◌++◌, Option, Some, None, IfSome, IsSomeAnd, All, Contains, map, length, get_or, slice_get, refl, sym, ap, subst, arith}
+use Rattle.std.proofs.Common.{◌≡◌, ◌∙◌, ◌⊎◌, inl, inr, ℕ, zero, suc, ◌+◌, ◌*◌, ◌^◌, ◌<◌, ◌≤◌, ℤ, pos, ◌+ℤ◌, ◌-ℤ◌, ◌≤ℤ◌, ◌<ℤ◌, List, [], ◌∷◌, ◌++◌, Option, Some, None, IfSome, IsSomeAnd, All, Contains, Bool, true, false, if◌then◌else◌, map, length, set, get_or, slice_get, refl, sym, ap, subst, arith, length-append}
 use Rattle.std.proofs.lemmas.Int.{ints}
+use Rattle.std.proofs.lemmas.Bool.{eqb-true, false≢true}
 use Rattle.std.proofs.lemmas.List.Elements.{All-contains}
 use Rattle.half_grid.specs.Trapezoids.{Trapezoid, IsLegal, IsShot, CoversExactly}
 use Rattle.half_grid.specs.Windows.{RowRange, row_range}
@@ -24,18 +25,59 @@ use Rattle.std.proofs.lemmas.Option.{none-some, same_Some, get_or_from_slice_get
 use Rattle.deck_plan.specs.Halos.{NeedIs, AreHalos, window_for}
 use Rattle.deck_plan.specs.Lists.{HasArea, IsListed, list_at}
 use Rattle.deck_plan.specs.Bounds.{IsTileUpTo, HasCornersUpTo, bound_of}
-use Rattle.deck_plan.specs.Ready.{IsReady}
+use Rattle.deck_plan.specs.Ready.{IsReady, IsPast, IsHeld, AreHeld, ends_at, let_go}
 use Rattle.deck_plan.proofs.AreaLists.{covers_exactly}
 use Rattle.deck_plan.proofs.Corners.{corners_of_all}
 use Rattle.deck_plan.proofs.StepLemmas.{step_area, area_near, sound_operand}
-use Rattle.deck_plan.proofs.Slots.{filled, one_slot}
+use Rattle.deck_plan.proofs.Slots.{filled, one_slot, get_cases, set_length}
+
+pub map_same : {V X : Type 0} (f : V → X) (vs : List V) → length (map f vs) ≡ length vs
+map_same f [] = refl
+map_same f (v ∷ vs) = ap suc (map_same f vs)
+
+map_put : {V : Type 0} (f : V → List Trapezoid) (vs : List V) (v : V) → map f (vs ++ v ∷ []) ≡ map f vs ++ f v ∷ []
+map_put f [] v = refl
+map_put f (w ∷ vs) v = ap (λ rest. f w ∷ rest) (map_put f vs v)
+
+map_set : {V : Type 0} (f : V → List Trapezoid) (vs : List V) (n : ℕ) (v : V) → map f (set vs n v) ≡ set (map f vs) n (f v)
+map_set f [] n v = refl
+map_set f (w ∷ vs) zero v = refl
+map_set f (w ∷ vs) (suc n) v = ap (λ rest. f w ∷ rest) (map_set f vs n v)
+
+chosen : (lists : List (List Trapezoid)) (n : ℕ) (test : Bool) → test ≡ true → set lists n [] ≡ (if test then set lists n [] else lists)
+chosen lists n true e = refl
+chosen lists n false e = absurd (false≢true e)
+
+pub let_go_list : {V : Type 0} (f : V → List Trapezoid) (vs : List V) (v : V) (needs : List (Option Need)) (user : ℕ) (found : Option Taken) (operand : Taken) → found ≡ Some operand
+    → ends_at (get_or needs operand.name None) user ≡ true → f v ≡ [] → map f (set vs operand.name v) ≡ let_go needs user found (map f vs)
+let_go_list f vs v needs user found operand is ends empty =
+    subst (λ x. map f (set vs operand.name v) ≡ let_go needs user x (map f vs)) (sym is)
+    (map_set f vs operand.name v ∙ (ap (set (map f vs) operand.name) empty ∙ chosen (map f vs) operand.name (ends_at (get_or needs operand.name None) user) ends))
+
+by_test_length : (lists : List (List Trapezoid)) (n : ℕ) (test : Bool) → length (if test then set lists n [] else lists) ≡ length lists
+by_test_length lists n true = set_length lists n []
+by_test_length lists n false = refl
+
+pub let_go_length : (needs : List (Option Need)) (user : ℕ) (operand : Option Taken) (lists : List (List Trapezoid)) → length (let_go needs user operand lists) ≡ length lists
+let_go_length needs user None lists = refl
+let_go_length needs user (Some operand) lists = by_test_length lists operand.name (ends_at (get_or needs operand.name None) user)
 
 module _ (cells : List Cell) (top : ℕ) (deck : Deck) (band : RowRange) (needs : List (Option Need)) where
   abbrev Ready : ℕ → List Trapezoid → Type 0
   Ready n traps = IsReady cells top deck band needs n traps
 
+  abbrev Held : ℕ → ℕ → List Trapezoid → Type 0
+  Held from n traps = IsHeld cells top deck band needs from n traps
+
+  abbrev All_held : ℕ → List (List Trapezoid) → Type 0
+  All_held from lists = AreHeld cells top deck band needs from lists
+
   module _ (sound : (k : ℕ) (step : Step) → slice_get deck.steps k ≡ Some step → IsSoundStep deck.frame k step) where
-    module _ (name : ℕ) (halos : AreHalos deck name 0 needs) (lists : List (List Trapezoid)) (n : ℕ) (ready : (m : ℕ) → m < n → Ready m (list_at lists m)) where
+    module _ (name : ℕ) (halos : AreHalos deck name 0 needs) (lists : List (List Trapezoid)) (n : ℕ) (held : (m : ℕ) → m < n → Held n m (list_at lists m)) where
+      -- what a definition from n on takes is there yet
+      still : (m : ℕ) (need : Need) → m < n → NeedIs needs m need → n ≤ need.last → HasArea (widened need.halo band) (IsInArea cells top deck m) (list_at lists m)
+      still m need early is later = elim (held m early) [ inl r ↦ r.needed need is | inr gone ↦ (let past = gone.1 need is in absurd (omega (arith, past, later))) ]
+
       -- the area of the next definition, by its step
       pub next_area : (step : Step) (need : Need) (traps : List Trapezoid) → slice_get deck.steps n ≡ Some step → NeedIs needs n need
           → HasArea (widened need.halo band) (λ t. IsInStep cells top deck.frame (IsListed lists) step t) traps → HasArea (widened need.halo band) (IsInArea cells top deck n) traps
@@ -45,7 +87,7 @@ module _ (cells : List Cell) (top : ℕ) (deck : Deck) (band : RowRange) (needs 
           let takes : Takes deck n operand = record { step = step; here = here; among = among } in
           let o = halos.operands n need operand (omega arith) is takes in
           let early = (sound_operand deck.frame n step operand (sound n step here) among).earlier in
-          let has = (ready operand.name early).needed o.0 o.1 in
+          let has = still operand.name o.0 early o.1 o.3 in
           let more = o.2 in
           (λ listed. (has.inside u listed).1, λ area. has.all u (record { from = omega (arith, ints, rows.from, more); below = omega (arith, ints, rows.below, more) }) area))
           h
@@ -72,6 +114,9 @@ module _ (cells : List Cell) (top : ℕ) (deck : Deck) (band : RowRange) (needs 
       pub ready_near : (n : ℕ) (traps : List Trapezoid) → n < 256 → Ready n traps → All IsLegal traps × All (HasCornersUpTo (2 ^ 42)) traps
       ready_near n traps few r = by_need n traps few r (get_or needs n None) refl
 
+      held_near : (from n : ℕ) (traps : List Trapezoid) → n < 256 → Held from n traps → All IsLegal traps × All (HasCornersUpTo (2 ^ 42)) traps
+      held_near from n traps few h = elim h [ inl r ↦ ready_near n traps few r | inr gone ↦ (empty_all IsLegal traps gone.0, empty_all (HasCornersUpTo (2 ^ 42)) traps gone.0) ]
+
       below_or : (a n : ℕ) → (a < n) ⊎ (n ≤ a)
       below_or zero zero = inr (omega arith)
       below_or zero (suc n) = inl (omega arith)
@@ -84,9 +129,9 @@ module _ (cells : List Cell) (top : ℕ) (deck : Deck) (band : RowRange) (needs 
       past (list ∷ lists) (suc a) h = past lists a (omega (arith, h))
 
       -- all lists so far
-      pub lists_near : (lists : List (List Trapezoid)) → length lists ≤ 256 → ((m : ℕ) → m < length lists → Ready m (list_at lists m)) → (a : ℕ) → All IsLegal (list_at lists a) × All (HasCornersUpTo (2 ^ 42)) (list_at lists a)
-      lists_near lists few ready a = elim (below_or a (length lists)) [
-        | inl early ↦ ready_near a (list_at lists a) (omega (arith, early, few)) (ready a early)
+      pub lists_near : (from : ℕ) (lists : List (List Trapezoid)) → length lists ≤ 256 → All_held from lists → (a : ℕ) → All IsLegal (list_at lists a) × All (HasCornersUpTo (2 ^ 42)) (list_at lists a)
+      lists_near from lists few held a = elim (below_or a (length lists)) [
+        | inl early ↦ held_near from a (list_at lists a) (omega (arith, early, few)) (held a early)
         | inr late ↦ (empty_all IsLegal (list_at lists a) (past lists a late), empty_all (HasCornersUpTo (2 ^ 42)) (list_at lists a) (past lists a late))
       ]
 
@@ -110,14 +155,14 @@ module _ (cells : List Cell) (top : ℕ) (deck : Deck) (band : RowRange) (needs 
 
   -- ---- the lists as they are put one by one
 
-  pub put_before : {V : Type 0} (f : V → List Trapezoid) (vs : List V) (v : V) (n : ℕ) → n < length vs → list_at (map f (vs ++ v ∷ [])) n ≡ list_at (map f vs) n
-  put_before f [] v n inside = absurd (omega (arith, inside))
-  put_before f (w ∷ vs) v zero inside = refl
-  put_before f (w ∷ vs) v (suc n) inside = put_before f vs v n (omega (arith, inside))
+  put_before : (lists : List (List Trapezoid)) (traps : List Trapezoid) (n : ℕ) → n < length lists → list_at (lists ++ traps ∷ []) n ≡ list_at lists n
+  put_before [] traps n inside = absurd (omega (arith, inside))
+  put_before (list ∷ lists) traps zero inside = refl
+  put_before (list ∷ lists) traps (suc n) inside = put_before lists traps n (omega (arith, inside))
 
-  pub put_last : {V : Type 0} (f : V → List Trapezoid) (vs : List V) (v : V) → list_at (map f (vs ++ v ∷ [])) (length vs) ≡ f v
-  put_last f [] v = refl
-  put_last f (w ∷ vs) v = put_last f vs v
+  put_last : (lists : List (List Trapezoid)) (traps : List Trapezoid) → list_at (lists ++ traps ∷ []) (length lists) ≡ traps
+  put_last [] traps = refl
+  put_last (list ∷ lists) traps = put_last lists traps
 
   at_last : (n count : ℕ) → n < count + 1 → (n < count) ⊎ (n ≡ count)
   at_last zero zero h = inr refl
@@ -125,12 +170,73 @@ module _ (cells : List Cell) (top : ℕ) (deck : Deck) (band : RowRange) (needs 
   at_last (suc n) zero h = absurd (omega (arith, h))
   at_last (suc n) (suc count) h = elim (at_last n count (omega (arith, h))) [ inl l ↦ inl (omega (arith, l)) | inr e ↦ inr (ap suc e) ]
 
-  pub ready_put : {V : Type 0} (f : V → List Trapezoid) (vs : List V) (v : V) → ((m : ℕ) → m < length vs → Ready m (list_at (map f vs) m)) → Ready (length vs) (f v)
-      → (m : ℕ) → m < length vs + 1 → Ready m (list_at (map f (vs ++ v ∷ [])) m)
-  ready_put f vs v before new m inside = elim (at_last m (length vs) inside) [
-    | inl early ↦ subst (λ traps. Ready m traps) (sym (put_before f vs v m early)) (before m early)
-    | inr last ↦ subst (λ k. Ready k (list_at (map f (vs ++ v ∷ [])) k)) (sym last) (subst (λ traps. Ready (length vs) traps) (sym (put_last f vs v)) new)
+  -- ---- the lists that are let go of
+
+  -- a list that is held stays so when the next definition is done
+  held_on : (from n : ℕ) (traps : List Trapezoid) → Held from n traps → Held (from + 1) n traps
+  held_on from n traps h = elim h [ inl r ↦ inl r | inr gone ↦ inr (gone.0, λ need is. (let past = gone.1 need is in omega (arith, past))) ]
+
+  held_put : (lists : List (List Trapezoid)) (traps : List Trapezoid) → All_held (length lists) lists → Ready (length lists) traps → All_held (length lists + 1) (lists ++ traps ∷ [])
+  held_put lists traps before new m inside = elim (at_last m (length lists) (omega (arith, inside, length-append lists (traps ∷ [])))) [
+    | inl early ↦ held_on (length lists) m (list_at (lists ++ traps ∷ []) m) (subst (λ list. Held (length lists) m list) (sym (put_before lists traps m early)) (before m early))
+    | inr last ↦ inl (subst (λ k. Ready k (list_at (lists ++ traps ∷ []) k)) (sym last) (subst (λ list. Ready (length lists) list) (sym (put_last lists traps)) new))
   ]
+
+  -- the definition `user` is done, and it was the last that takes this one
+  past_last : (user n : ℕ) (found : Option Need) → ends_at found user ≡ true → get_or needs n None ≡ found → IsPast needs (user + 1) n
+  past_last user n None ends e = absurd (false≢true ends)
+  past_last user n (Some need) ends e = λ other is.
+      let same = same_Some need other (sym e ∙ get_or_from_slice_get needs n (Some other) None is) in
+      let last : need.last ≡ user = eqb-true need.last user ends in
+      omega (arith, last, ap (λ (x : Need). x.last) same)
+
+  held_one : (user n : ℕ) (lists : List (List Trapezoid)) → n < length lists → IsPast needs (user + 1) n → All_held (user + 1) lists → All_held (user + 1) (set lists n [])
+  held_one user n lists inside past held m early_set =
+      let early : m < length lists = subst (λ k. m < k) (set_length lists n []) early_set in
+      elim (get_cases lists n [] [] m inside) [
+        | inl here ↦ inr (here.1, subst (IsPast needs (user + 1)) (sym here.0) past)
+        | inr other ↦ subst (λ traps. Held (user + 1) m traps) (sym other.1) (held m early)
+      ]
+
+  by_test : (user n : ℕ) (lists : List (List Trapezoid)) (test : Bool) → ends_at (get_or needs n None) user ≡ test → n < length lists → All_held (user + 1) lists → All_held (user + 1) (if test then set lists n [] else lists)
+  by_test user n lists true e inside held = held_one user n lists inside (past_last user n (get_or needs n None) e refl) held
+  by_test user n lists false e inside held = held
+
+  held_let_go : (user : ℕ) (operand : Option Taken) (lists : List (List Trapezoid)) → IfSome operand (λ operand. operand.name < length lists) → All_held (user + 1) lists → All_held (user + 1) (let_go needs user operand lists)
+  held_let_go user None lists inside held = held
+  held_let_go user (Some operand) lists inside held = by_test user operand.name lists (ends_at (get_or needs operand.name None) user) refl inside held
+
+  inside_still : (operand : Option Taken) (n k : ℕ) → n ≡ k → IfSome operand (λ operand. operand.name < n) → IfSome operand (λ operand. operand.name < k)
+  inside_still operand n k e h = subst (λ k. IfSome operand (λ operand. operand.name < k)) e h
+
+  -- what is held once the next definition is done, which has these operands
+  pub held_next : (lists : List (List Trapezoid)) (traps : List Trapezoid) (first second : Option Taken) → All_held (length lists) lists → Ready (length lists) traps
+      → IfSome first (λ operand. operand.name < length lists + 1) → IfSome second (λ operand. operand.name < length lists + 1)
+      → All_held (length lists + 1) (let_go needs (length lists) second (let_go needs (length lists) first (lists ++ traps ∷ [])))
+  held_next lists traps first second held ready one two =
+      let put = lists ++ traps ∷ [] in
+      let long = length-append lists (traps ∷ []) in
+      let after = let_go needs (length lists) first put in
+      held_let_go (length lists) second after (inside_still second (length lists + 1) (length after) (sym (let_go_length needs (length lists) first put ∙ long)) two)
+      (held_let_go (length lists) first put (inside_still first (length lists + 1) (length put) (sym long) one) (held_put lists traps held ready))
+
+  -- the same of what is kept of each list
+  pub held_step : {V : Type 0} (f : V → List Trapezoid) (vs : List V) (v : V) (first second : Option Taken) (after : List V) → All_held (length vs) (map f vs) → Ready (length vs) (f v)
+      → IfSome first (λ operand. operand.name < length vs + 1) → IfSome second (λ operand. operand.name < length vs + 1)
+      → map f after ≡ let_go needs (length vs) second (let_go needs (length vs) first (map f (vs ++ v ∷ [])))
+      → (length after ≡ length vs + 1) × All_held (length after) (map f after)
+  held_step f vs v first second after held ready one two is =
+      let lists = map f vs in
+      let e : length lists ≡ length vs = map_same f vs in
+      let put = lists ++ f v ∷ [] in
+      let more = ap (λ n. n + 1) (sym e) in
+      let base = held_next lists (f v) first second (subst (λ n. All_held n lists) (sym e) held) (subst (λ n. Ready n (f v)) (sym e) ready)
+      (inside_still first (length vs + 1) (length lists + 1) more one) (inside_still second (length vs + 1) (length lists + 1) more two) in
+      let moved = subst (λ n. All_held (n + 1) (let_go needs n second (let_go needs n first put))) e base in
+      let all = is ∙ ap (λ xs. let_go needs (length vs) second (let_go needs (length vs) first xs)) (map_put f vs v) in
+      let kept = let_go_length needs (length vs) second (let_go needs (length vs) first put) ∙ let_go_length needs (length vs) first put in
+      let long : length after ≡ length vs + 1 = sym (map_same f after) ∙ (ap length all ∙ (kept ∙ (length-append lists (f v ∷ []) ∙ sym more))) in
+      (long, subst (λ n. All_held n (map f after)) (sym long) (subst (λ xs. All_held (length vs + 1) xs) (sym all) moved))
 
   -- ---- the output's own
 
@@ -184,10 +290,6 @@ window_near band halo b low high = (
 
 pub window_of : (band : RowRange) (need : Need) (found : Option Need) (window : RowRange) → found ≡ Some need → window ≡ window_for band found → window ≡ widened need.halo band
 window_of band need found window e is = is ∙ ap (window_for band) e
-
-pub map_same : {V X : Type 0} (f : V → X) (vs : List V) → length (map f vs) ≡ length vs
-map_same f [] = refl
-map_same f (v ∷ vs) = ap suc (map_same f vs)
 
 pub list_is : {V : Type 0} (f : V → List Trapezoid) (vs : List V) (n : ℕ) (v : V) → n < length vs → list_at (map f vs) n ≡ f (get_or vs n v)
 list_is f [] n v inside = absurd (omega (arith, inside))

@@ -7,10 +7,13 @@
 mod cutting;
 mod extents;
 mod layers;
+mod lists;
 mod needs;
 mod plans;
 mod sizing;
 mod steps;
+#[cfg(test)]
+mod tests;
 mod windows;
 
 pub use plans::Plan;

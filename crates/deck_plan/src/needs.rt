@@ -7,6 +7,7 @@ ghost use Rattle.deck_text.specs.declared.deck.Step.{Step as AStep};
 ghost use Rattle.deck_text.specs.declared.deck.Deck.{Deck as ADeck};
 ghost use Rattle.deck_plan.specs.Needs.{operands_of};
 ghost use Rattle.deck_plan.specs.declared.needs.Need.{Need as ANeed};
+ghost use Rattle.deck_plan.specs.Ready.{ends_at};
 ghost use Rattle.deck_plan.specs.Halos.{AreHalos, IsSoundOperand, NeedIs, passed, raised, raised_at, window_for};
 
 use crate::windows::{no_rows, widened};
@@ -167,6 +168,17 @@ impl Needs {
             needs.pass(operands_of(&step), number);
         }
         needs
+    }
+
+    /// Whether the definition `user` is the last that takes this one.
+    pub(crate) fn ends_at(&self, name: usize, user: usize) -> bool
+        requires { name < 256 }
+        ensures { result ≡ ends_at (get_or self.now.by_name name None) user }
+    {
+        match self.by_name[name] {
+            Some(need) => need.last == user,
+            None => false,
+        }
     }
 
     /// The rows of a definition for a band: none where it isn't needed.

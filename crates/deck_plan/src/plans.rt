@@ -1,5 +1,5 @@
 //! Plans, and the areas of their outputs.
-ghost use Rattle.std.specs.Prelude.{◌≡◌, ◌<◌, ◌≤◌, ◌^◌, ◌≤ℤ◌, map, neg_ℤ, pos, ℕ, length, slice_get, Some, All, IfOk, IsSomeAnd, List};
+ghost use Rattle.std.specs.Prelude.{◌≡◌, ◌<◌, ◌≤◌, ◌+◌, ◌^◌, ◌≤ℤ◌, map, neg_ℤ, pos, ℕ, length, slice_get, Some, All, IfOk, OnOk, IsSomeAnd, List};
 ghost use Rattle.half_grid.specs.Trapezoids.{IsLegal, IsShot};
 ghost use Rattle.half_grid.specs.declared.plane.Tile.{Tile};
 ghost use Rattle.deck_text.specs.Sound.{IsSound, IsSoundStep};
@@ -12,13 +12,14 @@ ghost use Rattle.deck_plan.specs.Needs.{IsBand, IsNeeded};
 ghost use Rattle.layout_model.specs.declared.pair.Pair.{Pair as APair};
 ghost use Rattle.cell_tree.specs.Flattening.{IsInLayer};
 ghost use Rattle.deck_plan.specs.Halos.{AreHalos};
-ghost use Rattle.deck_plan.specs.Ready.{IsReady};
+ghost use Rattle.deck_plan.specs.Ready.{AreHeld, IsReady};
 ghost use Rattle.deck_plan.specs.Plans.{planned, IsRead};
 
 use crate::cutting::cut_parts;
 use crate::extents::Extents;
 use crate::layers::layer_area;
-use crate::needs::{Needs, step_at};
+use crate::lists::{let_go, list};
+use crate::needs::{Needs, operands_of, step_at};
 use crate::sizing::{grown_area, shrunk_area};
 use crate::steps::{combined_area, inverted_area, mirrored_area};
 use crate::windows::no_rows;
@@ -121,14 +122,10 @@ impl<'t> Plan<'t> {
         let named = self.named(output);
         let needs = Needs::of(self.deck(), named);
         let mut areas = Vec::new(alloc);
-        while areas.len() <= named {
-            let list = self.needed_area(alloc, &needs, areas.as_slice(), band)?;
-            areas.push(list)?;
+        while areas.len() < named {
+            self.put_next(alloc, &needs, &mut areas, band)?;
         }
-        match areas.pop() {
-            Some(list) => Ok(list),
-            None => unreachable!(),
-        }
+        self.needed_area(alloc, &needs, areas.as_slice(), band)
     }
 
     // The area of a step in the window, by lists of the areas of its operands.
@@ -203,7 +200,7 @@ impl<'t> Plan<'t> {
     ) -> Result<Vec<Trap>, NoMemory>
         requires band { IsBand band }
         requires named { (name : ℕ) × (length areas.now ≤ name) × (name < length self.now.deck.steps) × AreHalos self.now.deck name 0 needs.now.by_name }
-        requires ready { (m : ℕ) → m < length areas.now → IsReady self.now.cells self.now.top self.now.deck band needs.now.by_name m (list_at (map (λ list. list.items) areas.now) m) }
+        requires held { AreHeld self.now.cells self.now.top self.now.deck band needs.now.by_name (length areas.now) (map (λ list. list.items) areas.now) }
         ensures { IfOk result (λ traps. IsReady self.now.cells self.now.top self.now.deck band needs.now.by_name (length areas.now) traps.items) }
     {
         self.layers_are_near();
@@ -217,12 +214,25 @@ impl<'t> Plan<'t> {
             None => Ok(Vec::new(alloc)),
         }
     }
-}
-
-// The list of a number.
-fn list(areas: &[Vec<Trap>], number: usize) -> &[Trap]
-    requires { number < length areas.now }
-    ensures { result.now ≡ list_at (map (λ list. list.items) areas.now) number }
-{
-    areas[number].as_slice()
+    // Puts the list of the next definition, and lets go of the lists that no later one takes.
+    fn put_next(
+        &self,
+        alloc: Global,
+        needs: &Needs,
+        areas: &mut Vec<Vec<Trap>>,
+        band: Window,
+    ) -> Result<(), NoMemory>
+        requires band { IsBand band }
+        requires named { (name : ℕ) × (length areas.old.items < name) × (name < length self.now.deck.steps) × AreHalos self.now.deck name 0 needs.now.by_name }
+        requires held { AreHeld self.now.cells self.now.top self.now.deck band needs.now.by_name (length areas.old.items) (map (λ list. list.items) areas.old.items) }
+        ensures one { OnOk result (length areas.new.items ≡ length areas.old.items + 1) }
+        ensures held { OnOk result (AreHeld self.now.cells self.now.top self.now.deck band needs.now.by_name (length areas.new.items) (map (λ list. list.items) areas.new.items)) }
+    {
+        let number = areas.len();
+        let list = self.needed_area(alloc, needs, areas.as_slice(), band)?;
+        areas.push(list)?;
+        let step = step_at(self.deck().steps.as_slice(), number);
+        let_go(alloc, areas, needs, operands_of(&step), number);
+        Ok(())
+    }
 }

@@ -17,3 +17,5 @@ pub mod ShowLemmas
 pub mod PointLemmas
 pub mod ForCallers
 pub mod GridLemmas
+pub mod RiseLemmas
+pub mod TestLemmas

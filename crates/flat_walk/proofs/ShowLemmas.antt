@@ -1,10 +1,11 @@
 -- What a placed cell shows at one of its places, and when it shows nothing in a window.
-use Rattle.std.proofs.Common.{◌≡◌, ℕ, ℤ, zero, suc, pos, neg_ℤ, ◌+◌, ◌*◌, ◌^◌, ◌<◌, ◌≤◌, ◌+ℤ◌, ◌*ℤ◌, ◌≤ℤ◌, ◌<ℤ◌, Bool, true, false, List, [], ◌∷◌, ◌++◌, Option, Some, None, All, IfSome, map, drop, length, slice_get, int_lt, refl, sym, ap, subst, ◌∙◌, arith, append_assoc}
+use Rattle.std.proofs.Common.{◌≡◌, ℕ, ℤ, zero, suc, pos, neg_ℤ, ◌+◌, ◌-◌, ◌*◌, ◌^◌, ◌<◌, ◌≤◌, ◌+ℤ◌, ◌*ℤ◌, ◌≤ℤ◌, ◌<ℤ◌, Bool, true, false, List, [], ◌∷◌, ◌++◌, Option, Some, None, All, IfSome, map, drop, length, slice_get, get_or, int_lt, refl, sym, ap, subst, ◌∙◌, arith, append_assoc}
 use Rattle.std.specs.Int.{int_min, int_max}
 use Rattle.std.specs.List.{filter, flat_map, AllByRecursion}
 use Rattle.std.proofs.lemmas.Int.{ints, clamps}
 use Rattle.std.proofs.lemmas.List.{map-append}
 use Rattle.std.proofs.lemmas.List.Elements.{filter-append, recursion_from_All}
+use Rattle.std.proofs.lemmas.Option.{slice_get-get_or}
 use Rattle.half_grid.specs.Quads.{Corners}
 use Rattle.half_grid.specs.Windows.{RowRange}
 use Rattle.half_grid.specs.declared.plane.Point.{Point}
@@ -186,3 +187,32 @@ box_between_by orient box p a b k l low high el eh ea eb ek elc turns inside =
     let el' = el ∙ (ap (λ z. int_min z b.y) ay ∙ ap (int_min (oriented orient (low_corner box)).y) by) in
     let eh' = eh ∙ (ap (λ z. int_max z b.y) ay ∙ ap (int_max (oriented orient (low_corner box)).y) by) in
     record { above = subst (λ z. z ≤ℤ (oriented orient p).y) (sym el') g.above; below = subst (λ z. (oriented orient p).y ≤ℤ z) (sym eh') g.below }
+
+-- the places from one on up to below another, where the cell shows nothing
+pub spots_over : (w : RowRange) (before : List (Option Corners)) (outer : Orient) (at : Point) (placement : Placement) (things : List (Option Corners)) (orient : Orient) (many from : ℕ)
+    → IsOrient outer → IsOrient placement.orient → orient ≡ composed outer placement.orient → from + many ≤ length placement.offsets
+    → ((k : ℕ) (by : Point) → from ≤ k → k < from + many → slice_get placement.offsets k ≡ Some by → filter (shows_in w) (map (marked_image orient (image_of outer at (moved by placement.at))) things) ≡ [])
+    → Skips w before (spots_rest outer at placement things from) → Skips w before (spots_rest outer at placement things (from + many))
+spots_over w before outer at placement things orient zero from o p is few none s =
+    let e : from + zero ≡ from = omega arith in
+    subst (λ k. Skips w before (spots_rest outer at placement things k)) (sym e) s
+spots_over w before outer at placement things orient (suc many) from o p is few none s =
+    let by : Point = get_or placement.offsets from at in
+    let here = slice_get-get_or placement.offsets from at (omega arith) in
+    let e : (from + 1) + many ≡ from + suc many = omega arith in
+    subst (λ k. Skips w before (spots_rest outer at placement things k)) e
+    (spots_over w before outer at placement things orient many (from + 1) o p is (omega arith) (λ k by after early there. none k by (omega arith) (omega arith) there)
+    (spots_skip w before outer at placement things from orient (image_of outer at (moved by placement.at))
+    (spots_gives w before outer at placement things from by orient (image_of outer at (moved by placement.at)) s o p here is refl) (none from by (omega arith) (omega arith) here)))
+
+-- the same up to a place, by the rows of the hull
+pub spots_to : (w : RowRange) (before : List (Option Corners)) (outer : Orient) (at : Point) (placement : Placement) (things : List (Option Corners)) (orient : Orient) (low high : ℤ) (place end : ℕ)
+    → IsOrient outer → IsOrient placement.orient → orient ≡ composed outer placement.orient → place < end → end ≤ length placement.offsets → AreRowsBetween orient low high things
+    → ((k : ℕ) (by : Point) → place < k → k < end → slice_get placement.offsets k ≡ Some by → int_lt (int_max w.y0 (low +ℤ (image_of outer at (moved by placement.at)).y)) (int_min w.y1 (high +ℤ (image_of outer at (moved by placement.at)).y)) ≡ false)
+    → Skips w before (spots_rest outer at placement things (place + 1)) → Skips w before (spots_rest outer at placement things end)
+spots_to w before outer at placement things orient low high place end o p is later few between off s =
+    let many : ℕ = end - (place + 1) in
+    let e : (place + 1) + many ≡ end = omega arith in
+    subst (λ k. Skips w before (spots_rest outer at placement things k)) e
+    (spots_over w before outer at placement things orient many (place + 1) o p is (omega arith)
+    (λ k by after early here. hidden_at w orient (image_of outer at (moved by placement.at)) low high things between (off k by (omega arith) (omega arith) here)) s)

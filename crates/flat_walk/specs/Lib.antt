@@ -7,3 +7,4 @@ pub mod Tables
 pub mod Walks
 pub mod Streams
 pub mod Ways
+pub mod Rises

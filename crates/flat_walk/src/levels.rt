@@ -1,14 +1,16 @@
 //! The cells on the way from the top cell to the one whose shapes are shown, and what they still place.
-ghost use Rattle.std.specs.Prelude.{◌≡◌, ◌^◌, ◌<◌, ◌+ℤ◌, [], ◌++◌, None, Some, map, length, slice_get, MatchOption, IfSome};
+ghost use Rattle.std.specs.Prelude.{◌≡◌, ◌^◌, ◌<◌, ◌≤◌, ◌+ℤ◌, [], ◌++◌, None, Some, map, length, slice_get, MatchOption, IfSome};
 ghost use Rattle.half_grid.specs.declared.plane.Point.{Point as APoint};
 ghost use Rattle.layout_model.specs.Hulls.{IsInBox};
 ghost use Rattle.layout_model.specs.declared.cells.Placement.{Placement as APlacement};
 ghost use Rattle.layout_model.specs.Images.{IsOrient, moved, image_of};
-ghost use Rattle.layout_model.specs.Layouts.{IsWithin};
+ghost use Rattle.layout_model.specs.Layouts.{IsWithin, IsPlacementOnGrid};
 ghost use Rattle.cell_tree.specs.Cells.{placements_at};
 ghost use Rattle.flat_walk.specs.Rests.{Skips, marked_image};
+ghost use Rattle.flat_walk.specs.Rises.{HasNoneBefore};
 ghost use Rattle.flat_walk.specs.Ways.{low_corner, high_corner, IsScene, cells_of, marked_of, run_rest, things_at, level_rest, IsBetweenRows, IsRun, IsLevel, IsSpot, IsSamePlace, IsInner};
 
+use crate::rises::places_in;
 use crate::rows::{Rows, meet, rows_between};
 use crate::scenes::Scene;
 use crate::turning::{composed, image, moved, oriented};
@@ -66,6 +68,27 @@ impl<'t> Run<'t> {
 }
 
 impl<'t> Run<'t> {
+    // The number of the next place at which the cell may have rows in the window, or how many places there are.
+    fn onward(&self, window: Window, outer: Orient, at: Point) -> u64
+        requires outer { IsOrient outer }
+        requires at { IsWithin (2 ^ 54) at }
+        requires grid { IsPlacementOnGrid self.now.placement.now }
+        requires rows { IsWithin (2 ^ 58) (record { x = self.now.rows.low; y = self.now.rows.high }) }
+        requires inside { self.now.place < length self.now.placement.now.offsets }
+        ensures later { self.now.place < result }
+        ensures inside { result ≤ length self.now.placement.now.offsets }
+        ensures none { HasNoneBefore window outer at self.now result }
+    {
+        let count = self.placement.offsets.count();
+        let wanted = places_in(outer, at, self.placement.at, self.rows, window);
+        match self.placement.offsets.first_in(wanted, self.place + 1) {
+            Some(place) => place,
+            None => count,
+        }
+    }
+}
+
+impl<'t> Run<'t> {
     // The next place at which the cell may have rows in the window: the move of the cell there.
     fn next(&mut self, scene: &Scene<'t>, cell: usize, outer: Orient, at: Point) -> Option<Point>
         requires outer { IsOrient outer }
@@ -84,10 +107,11 @@ impl<'t> Run<'t> {
         while self.place < self.placement.offsets.count() {
             let by = self.placement.offsets.nth(self.place);
             let spot = self.spot(outer, at, by);
-            self.place += 1;
             if meet(raised(self.rows, spot), scene.window) {
+                self.place += 1;
                 return Some(spot);
             }
+            self.place = self.onward(scene.window, outer, at);
         }
         None
     }

@@ -6,9 +6,12 @@
 
 mod levels;
 mod owned;
+mod rises;
 mod rows;
 mod scenes;
 mod tables;
+#[cfg(test)]
+mod tests;
 mod turning;
 mod walks;
 

@@ -27,8 +27,7 @@ step_area-requires-clause-legal c = λ a.
     let plan = c.args.self.now in
     let lists = map (λ list. list.items) c.args.areas.now in
     let long = map_same (λ list. list.items) c.args.areas.now in
-    (lists_near plan.cells plan.top plan.deck c.args.band c.args.needs.now.by_name s.steps c.layers_are_near.ensures s.frame lists (omega (arith, long, n.1, n.2, s.few_steps))
-    (λ m early. c.requires.ready m (omega (arith, early, long))) a).0
+    (lists_near plan.cells plan.top plan.deck c.args.band c.args.needs.now.by_name s.steps c.layers_are_near.ensures s.frame (length c.args.areas.now) lists (omega (arith, long, n.1, n.2, s.few_steps)) c.requires.held a).0
 
 pub step_area-requires-clause-near : goal.step_area-requires-clause-near
 step_area-requires-clause-near c = λ a.
@@ -37,8 +36,7 @@ step_area-requires-clause-near c = λ a.
     let plan = c.args.self.now in
     let lists = map (λ list. list.items) c.args.areas.now in
     let long = map_same (λ list. list.items) c.args.areas.now in
-    (lists_near plan.cells plan.top plan.deck c.args.band c.args.needs.now.by_name s.steps c.layers_are_near.ensures s.frame lists (omega (arith, long, n.1, n.2, s.few_steps))
-    (λ m early. c.requires.ready m (omega (arith, early, long))) a).1
+    (lists_near plan.cells plan.top plan.deck c.args.band c.args.needs.now.by_name s.steps c.layers_are_near.ensures s.frame (length c.args.areas.now) lists (omega (arith, long, n.1, n.2, s.few_steps)) c.requires.held a).1
 
 pub step_area-requires-clause-low : goal.step_area-requires-clause-low
 step_area-requires-clause-low c =
@@ -70,7 +68,7 @@ returns-in-Some c =
     let here = subst (λ (steps : List Step). slice_get steps n ≡ Some c.step_at-step.result) (c.as_slice.ensures ∙ ap (λ (d : Deck). d.steps) c.deck-deck.ensures.value) c.step_at-step.ensures in
     IfOk-weaker c.step_area.result _ (λ traps. IsReady plan.cells plan.top plan.deck c.args.band c.args.needs.now.by_name n traps.items)
     (λ traps h. ready_some plan.cells plan.top plan.deck c.args.band c.args.needs.now.by_name n need traps.items there
-    (next_area plan.cells plan.top plan.deck c.args.band c.args.needs.now.by_name s.steps c.requires.named.0 c.requires.named.3 lists n c.requires.ready c.step_at-step.result need traps.items here there
+    (next_area plan.cells plan.top plan.deck c.args.band c.args.needs.now.by_name s.steps c.requires.named.0 c.requires.named.3 lists n (λ m early. c.requires.held m (omega (arith, early, map_same (λ list. list.items) c.args.areas.now))) c.step_at-step.result need traps.items here there
     (subst (λ (w : RowRange). HasArea w (λ t. IsInStep plan.cells plan.top plan.deck.frame (IsListed lists) c.step_at-step.result t) traps.items) is h)))
     c.step_area.ensures
 

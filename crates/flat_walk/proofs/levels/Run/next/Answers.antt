@@ -6,7 +6,7 @@ use Rattle.flat_walk.specs.Rests.{Skips, marked_image}
 use Rattle.flat_walk.specs.Ways.{marked_of, run_rest, spots_rest}
 use Rattle.flat_walk.proofs.RestLemmas.{slot_all}
 use Rattle.flat_walk.proofs.PointLemmas.{image_within, moved_within, within_more}
-use Rattle.flat_walk.proofs.ShowLemmas.{spots_gives, spots_skip, hidden_at, meet_off}
+use Rattle.flat_walk.proofs.ShowLemmas.{spots_gives, spots_skip, spots_to, hidden_at, meet_off}
 use Rattle.flat_walk.proofs.levels.Run.next.Goals as goal
 
 pub raised-requires-clause-at : goal.raised-requires-clause-at
@@ -48,6 +48,9 @@ loop-self-preserved c =
     let things = marked_of c.args.scene.now s.target in
     let spot : Point = c.spot-spot.result in
     let off = meet_off w s.rows.low s.rows.high c.raised.result.low c.raised.result.high spot.y c.meet.result c.raised.ensures.low c.raised.ensures.high c.meet.ensures c.if-meet.false in
+    let one = spots_skip w before c.args.outer c.args.at s.placement.now things s.place s.orient spot
+    (spots_gives w before c.args.outer c.args.at s.placement.now things s.place c.nth-by.result s.orient spot i.skips c.requires.outer i.run.grid.orient c.nth-by.ensures i.run.orient c.spot-spot.ensures)
+    (hidden_at w s.orient spot s.rows.low s.rows.high things i.run.between off) in
     record {
       run = record {
         number = i.run.number;
@@ -59,9 +62,7 @@ loop-self-preserved c =
         between = i.run.between;
         near = i.run.near;
       };
-      skips = spots_skip w before c.args.outer c.args.at s.placement.now things s.place s.orient spot
-          (spots_gives w before c.args.outer c.args.at s.placement.now things s.place c.nth-by.result s.orient spot i.skips c.requires.outer i.run.grid.orient c.nth-by.ensures i.run.orient c.spot-spot.ensures)
-          (hidden_at w s.orient spot s.rows.low s.rows.high things i.run.between off);
+      skips = spots_to w before c.args.outer c.args.at s.placement.now things s.orient s.rows.low s.rows.high s.place c.onward-self.result c.requires.outer i.run.grid.orient i.run.orient c.onward-self.ensures.later c.onward-self.ensures.inside i.run.between c.onward-self.ensures.none one;
       target = i.target;
       orient = i.orient;
       placement = i.placement;

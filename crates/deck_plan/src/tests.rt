@@ -1,0 +1,196 @@
+// The areas of a triangle and of what a deck makes of it, worked out by hand, and the rows that they need.
+ghost use Rattle.std.specs.Prelude.{◌≡◌, [], ◌∷◌};
+ghost use Rattle.layout_model.specs.Layouts.{IsShapeOnGrid, IsLayoutOnGrid};
+
+use crate::Plan;
+use cell_tree::{Tree, resolve};
+use deck_text::{Deck, read_deck};
+use geo_stream::List;
+use half_grid::{Point, REACH, Trap, Window};
+use layout_model::{Cell, Counts, Layout, Name, Offsets, Pair, Shape};
+use std::alloc::Global;
+use std::process::Abort;
+
+// In half units: 11 grid steps wide and high, rising to the right.
+const TRIANGLE: [Point; 4] = [
+    Point { x: 0, y: 0 },
+    Point { x: 22, y: 0 },
+    Point { x: 22, y: 22 },
+    Point { x: 0, y: 0 },
+];
+
+const PLACES: [Point; 1] = [Point { x: 0, y: 0 }];
+
+const DECK: &[u8] = b"unit 1000\ntop TOP\nframe -2 -2 24 4\n\
+layer A 1 0\nlayer N 9 0\nmirror B A 11\nxor Unused A N\n\
+or O A B\nand C A B\nsub D B A\nxor X A B\ngrow E C 1\nshrink S A 2\ninvert I A\ngrow G A 4\nshrink K G 4\n\
+write N n 1 0\nwrite O o 1 0\nwrite C c 1 0\nwrite D d 1 0\nwrite X x 1 0\nwrite E e 1 0\nwrite S s 1 0\nwrite I i 1 0\nwrite K k 1 0\n";
+
+// The same but for an operand of a definition that no output uses.
+const OTHER: &[u8] = b"unit 1000\ntop TOP\nframe -2 -2 24 4\n\
+layer A 1 0\nlayer N 9 0\nmirror B A 11\nxor Unused A B\n\
+or O A B\nand C A B\nsub D B A\nxor X A B\ngrow E C 1\nshrink S A 2\ninvert I A\ngrow G A 4\nshrink K G 4\n\
+write N n 1 0\nwrite O o 1 0\nwrite C c 1 0\nwrite D d 1 0\nwrite X x 1 0\nwrite E e 1 0\nwrite S s 1 0\nwrite I i 1 0\nwrite K k 1 0\n";
+
+// The places of outputs and definitions in the decks.
+const N_OUT: usize = 0;
+
+const O_OUT: usize = 1;
+
+const C_OUT: usize = 2;
+
+const D_OUT: usize = 3;
+
+const X_OUT: usize = 4;
+
+const E_OUT: usize = 5;
+
+const S_OUT: usize = 6;
+
+const I_OUT: usize = 7;
+
+const K_OUT: usize = 8;
+
+/// The output, a band, and the trapezoids: lower and upper Y, two X below, two above.
+type Row = (usize, i64, i64, &'static [[i64; 6]]);
+
+const ROWS: [Row; 14] = [
+    (N_OUT, -1024, 1024, &[]),
+    (
+        O_OUT,
+        0,
+        1024,
+        &[
+            [0, 11, 0, 22, 0, 22],
+            [11, 22, 0, 11, 0, 0],
+            [11, 22, 11, 22, 22, 22],
+        ],
+    ),
+    (C_OUT, 0, 1024, &[[0, 11, 0, 22, 11, 11]]),
+    (
+        D_OUT,
+        0,
+        1024,
+        &[[0, 11, 0, 0, 0, 11], [11, 22, 0, 11, 0, 0]],
+    ),
+    (
+        X_OUT,
+        0,
+        1024,
+        &[
+            [0, 11, 0, 0, 0, 11],
+            [0, 11, 22, 22, 11, 22],
+            [11, 22, 0, 11, 0, 0],
+            [11, 22, 11, 22, 22, 22],
+        ],
+    ),
+    (E_OUT, -1024, 0, &[[-1, 0, -1, 23, -1, 23]]),
+    (
+        E_OUT,
+        0,
+        1024,
+        &[[0, 1, -1, 23, -1, 23], [1, 12, -1, 23, 10, 12]],
+    ),
+    (S_OUT, 0, 1024, &[[2, 16, 6, 20, 20, 20]]),
+    (I_OUT, -1024, 0, &[[-2, 0, -2, 24, -2, 24]]),
+    (
+        I_OUT,
+        0,
+        1024,
+        &[[0, 4, -2, 0, -2, 4], [0, 4, 22, 24, 22, 24]],
+    ),
+    // grown and shrunk again, in bands that end inside of it
+    (K_OUT, -1024, 8, &[[0, 8, 0, 22, 8, 22]]),
+    (K_OUT, 8, 12, &[[8, 12, 8, 22, 12, 22]]),
+    (K_OUT, 12, 1024, &[[12, 22, 12, 22, 22, 22]]),
+    (K_OUT, 22, 1024, &[]),
+];
+
+fn only<T: Drop>(rt: &impl Abort, alloc: Global, item: T) -> List<T>
+    ensures { result ≡ item ∷ [] }
+{
+    let mut list = List::new(alloc);
+    assert!(rt; list.push(item).is_ok(), "memory");
+    list
+}
+
+fn triangle(rt: &impl Abort, alloc: Global) -> Shape
+    ensures { IsShapeOnGrid result }
+{
+    let pair = Pair {
+        layer: 1,
+        datatype: 0,
+    };
+    let places = Offsets::list(alloc, &PLACES).expect(rt, "memory");
+    Shape::new(alloc, pair, &TRIANGLE, places).expect(rt, "a shape")
+}
+
+fn layout(rt: &impl Abort, alloc: Global) -> Layout
+    ensures { IsLayoutOnGrid result }
+{
+    let shapes = only(rt, alloc, triangle(rt, alloc));
+    let cell = Cell {
+        name: Name::new(alloc, b"TOP").expect(rt, "a name"),
+        shapes,
+        placements: List::new(alloc),
+    };
+    let counts = Counts {
+        kept: 1,
+        other: 0,
+        texts: 0,
+        nodes: 0,
+        boxes: 0,
+        properties: 0,
+    };
+    Layout {
+        cells: only(rt, alloc, cell),
+        counts,
+    }
+}
+
+fn tree_for(rt: &impl Abort, alloc: Global, deck: &Deck) -> Tree {
+    resolve(alloc, layout(rt, alloc), &deck.top).expect(rt, "a tree")
+}
+
+fn band_of(rt: &impl Abort, y0: i64, y1: i64) -> Window {
+    Window::new(y0, y1).expect(rt, "a window")
+}
+
+// The area of an output in a band.
+fn area(rt: &impl Abort, alloc: Global, plan: &Plan, output: usize, band: Window) -> Vec<Trap> {
+    assert!(rt; output < plan.deck().outputs.as_slice().len());
+    assert!(rt; -REACH <= band.y0() && band.y0() < band.y1() && band.y1() <= REACH);
+    plan.area(alloc, output, band).expect(rt, "memory")
+}
+
+// Whether these are the trapezoids.
+fn are(traps: &[Trap], wanted: &[[i64; 6]]) -> bool {
+    traps.len() == wanted.len()
+        && traps.iter().zip(wanted).all(|(trap, numbers)| {
+            numbers
+                == &[
+                    trap.y0(),
+                    trap.y1(),
+                    trap.bottom_left(),
+                    trap.bottom_right(),
+                    trap.top_left(),
+                    trap.top_right(),
+                ]
+        })
+}
+
+fn all_rows_hold(rt: &impl Abort, alloc: Global, deck: &[u8], rows: &[Row]) {
+    let deck = read_deck(alloc, deck, "layout", "deck").expect(rt, "a deck");
+    let tree = tree_for(rt, alloc, &deck);
+    let plan = Plan::new(alloc, &deck, &tree).expect(rt, "memory");
+    for (output, y0, y1, wanted) in rows {
+        let traps = area(rt, alloc, &plan, *output, band_of(rt, *y0, *y1));
+        assert!(rt; are(traps.as_slice(), wanted), "output {output} from {y0}");
+    }
+}
+
+#[test]
+fn areas_in_bands(rt: HostRuntime) {
+    all_rows_hold(&rt, rt.alloc(), DECK, &ROWS);
+    all_rows_hold(&rt, rt.alloc(), OTHER, &ROWS);
+}
