@@ -7,7 +7,7 @@ PROGRAM := build/nettletide
 BENCH := build/bench
 SOURCES := crates.txt HANDLES $(shell find crates -name out -prune -o \( -name '*.rt' -o -name '*.antt' \) -print)
 
-.PHONY: all try test example pictures compare bench clean
+.PHONY: all try test example pictures compare bench agree clean
 
 # how large the layouts of `make bench` are: small, or large, which has up to 16 million shots
 SIZE := small
@@ -61,16 +61,18 @@ $(BENCH): $(SOURCES)
 # Single layers, timed on inputs that the program makes in memory; then whole runs on layouts in build/bench.
 bench: $(BENCH) $(PROGRAM)
 	$(BENCH) gds 1000000
-	$(BENCH) squares 300
-	$(BENCH) squares 1000
-	$(BENCH) random 10000
-	$(BENCH) random 100000
-	$(BENCH) random 1000000
-	$(BENCH) comb 100000
-	$(BENCH) hatch 400
-	$(BENCH) pile 1000
+	$(BENCH) oasis 4000000
+	for words in 'squares 300' 'squares 1000' 'random 100000' 'random 1000000' 'jogs 1000000' 'jogs 10000000' \
+	    'comb 30000' 'comb 100000' 'hatch 200' 'hatch 400' 'wires 100000' 'wires 1000000' 'pile 1000' 'pile 3000'; do \
+	    $(BENCH) $$words || exit 1; \
+	done
 	tools/bench $(PROGRAM) build/bench $(SIZE)
 	tools/bench $(PROGRAM) build/bench steps
+
+# A thousand random cases, swept in columns and at once, which must give the same trapezoids.
+agree: $(BENCH)
+	$(BENCH) agree 1000 | tee build/agree.txt
+	grep -q 'both ways' build/agree.txt
 
 # What the kit has proved stays in crates/*/out, since to prove it again takes minutes.
 clean:

@@ -1,0 +1,57 @@
+//! OASIS records of rectangles.
+
+use oas_record::{OasRecord, record_at};
+use std::alloc::{AllocError, Global};
+
+// RECTANGLE with x and y alone.
+const MODAL: [u8; 2] = [0x14, 0x18];
+
+// RECTANGLE with all its fields but a repetition: layer 1, datatype 0, ten by ten grid steps.
+const WHOLE: [u8; 6] = [0x14, 0x7B, 0x01, 0x00, 0x0A, 0x0A];
+
+// A number from 0 to 2^20 - 1, as a signed number in three groups of seven bits.
+fn put_number(bytes: &mut Vec<u8>, number: u32) -> Result<(), AllocError> {
+    let low = (number % 64 * 2) as u8;
+    let middle = (number / 64 % 128) as u8;
+    let high = (number / 8192 % 128) as u8;
+    bytes.extend_from_slice(&[low | 0x80, middle | 0x80, high])
+}
+
+/// So many rectangles, a thousand in a row, each with all its fields or with its place alone.
+pub(crate) fn rectangles(alloc: Global, count: u32, is_whole: bool) -> Result<Vec<u8>, AllocError> {
+    let start: &[u8] = if is_whole { &WHOLE } else { &MODAL };
+    let mut bytes = Vec::new(alloc);
+    for k in 0..count {
+        bytes.extend_from_slice(start)?;
+        put_number(&mut bytes, k % 1000 * 20)?;
+        put_number(&mut bytes, k / 1000 * 20)?;
+    }
+    Ok(bytes)
+}
+
+// Whether the record is a rectangle that has its place.
+fn is_placed(record: &OasRecord) -> bool {
+    match record {
+        OasRecord::Rectangle { x, y, .. } => x.is_some() && y.is_some(),
+        _ => false,
+    }
+}
+
+/// How many of the records are rectangles that have their place, up to the first that can't be read.
+pub(crate) fn placed(alloc: Global, bytes: &[u8]) -> usize {
+    let mut at = 0;
+    let mut found: usize = 0;
+    for _ in 0..bytes.len() {
+        if at >= bytes.len() {
+            return found;
+        }
+        let Ok((record, next)) = record_at(alloc, bytes, at, false) else {
+            return found;
+        };
+        if is_placed(&record) {
+            found = found.wrapping_add(1);
+        }
+        at = next;
+    }
+    found
+}

@@ -1,0 +1,7 @@
+mod NearLemmas
+mod TrailLemmas
+mod LatticeLemmas
+mod RuleLemmas
+mod ShapeLemmas
+mod VertexLemmas
+mod ArmLemmas

@@ -1,0 +1,80 @@
+-- Places that are listed one by one.
+use Rattle.std.proofs.Common.{◌≡◌, ℤ, pos, List, [], ◌∷◌, ◌++◌, map, sym, ap, subst, ◌∙◌, append_assoc, arith}
+use Rattle.std.specs.Prelude.{◌≢◌, ◌*ℤ◌, ◌+ℤ◌, ◌-ℤ◌}
+use Rattle.std.proofs.lemmas.List.Elements.{All-head, All-tail, All-push, All-nil}
+use Rattle.std.proofs.lemmas.Int.{ints}
+use Rattle.half_grid.specs.declared.plane.Point.{Point}
+use Rattle.layout_model.specs.Images.{moved, enlarged}
+use Rattle.oas_shapes.specs.Plane.{point, origin, doubled, places_along, IsNear, IsNearInHalves}
+use Rattle.oas_shapes.specs.PointLists.{added_up}
+use Rattle.oas_shapes.specs.Rules.{AreNear}
+use Rattle.oas_shapes.specs.Trails.{IsTrail}
+use Rattle.oas_shapes.specs.declared.trails.Trail.{Trail}
+use Rattle.oas_shapes.proofs.NearLemmas.{halves_near, near_halves, all_after, same_point}
+
+pub trail_on : (whole : List Point) (old new : Trail) (move : Point) (moves : List Point) → IsTrail whole old (move ∷ moves)
+    → new.listed.items ≡ old.listed.items ++ doubled old.at ∷ [] → new.at ≡ moved old.at move → IsNear new.at → IsTrail whole new moves
+trail_on whole old new move moves t e f near = record {
+  joined =
+      ap (λ xs. xs ++ map doubled (places_along new.at moves)) e
+      ∙ append_assoc old.listed.items (doubled old.at ∷ []) (map doubled (places_along new.at moves))
+      ∙ ap (λ p. old.listed.items ++ doubled old.at ∷ map doubled (places_along p moves)) f ∙ t.joined;
+  near = subst AreNear (sym e) (All-push IsNearInHalves old.listed.items (doubled old.at) t.near (halves_near old.at t.here));
+  here = near;
+}
+
+pub first_place : (p : Point) (moves : List Point) → AreNear (map doubled (places_along p moves)) → IsNear p
+first_place p [] h = near_halves p (All-head IsNearInHalves (doubled p) [] h)
+first_place p (m ∷ moves) h = near_halves p (All-head IsNearInHalves (doubled p) (map doubled (places_along (moved p m) moves)) h)
+
+pub trail_far : (whole : List Point) (trail : Trail) (move : Point) (moves : List Point) → IsTrail whole trail (move ∷ moves)
+    → ¬ IsNear (moved trail.at move) → ¬ AreNear (map doubled whole)
+trail_far whole trail move moves t far near =
+    let rest = map doubled (places_along (moved trail.at move) moves) in
+    let all : AreNear (trail.listed.items ++ doubled trail.at ∷ rest) = subst AreNear (sym t.joined) near in
+    let after = all_after IsNearInHalves trail.listed.items (doubled trail.at ∷ rest) all in
+    far (first_place (moved trail.at move) moves (All-tail IsNearInHalves (doubled trail.at) rest after))
+
+pub trail_near : (whole : List Point) (trail : Trail) → IsTrail whole trail [] → AreNear (map doubled whole)
+trail_near whole trail t =
+    subst AreNear t.joined (All-push IsNearInHalves trail.listed.items (doubled trail.at) t.near (halves_near trail.at t.here))
+
+pub trail_start : (start : Point) (moves : List Point) (trail : Trail) → trail.listed.items ≡ [] → trail.at ≡ start → IsNear start
+    → IsTrail (places_along start moves) trail moves
+trail_start start moves trail none here near = record {
+  joined =
+      ap (λ xs. xs ++ map doubled (places_along trail.at moves)) none ∙ ap (λ p. map doubled (places_along p moves)) here;
+  near = subst AreNear (sym none) (All-nil IsNearInHalves);
+  here = subst IsNear (sym here) near;
+}
+
+pub some_places : (p : Point) (moves : List Point) → map doubled (places_along p moves) ≢ []
+some_places p [] e = absurd (cc)
+some_places p (m ∷ moves) e = absurd (cc)
+
+pub origin_near : IsNear origin
+origin_near = record { x_low = omega (arith, ints); x_high = omega (arith, ints); y_low = omega (arith, ints); y_high = omega (arith, ints) }
+
+one_time : (z : ℤ) → pos 1 *ℤ z ≡ z
+one_time z = omega (arith, ints)
+
+pub once : (p : Point) → enlarged 1 p ≡ p
+once p = same_point (pos 1 *ℤ p.x) p.x (pos 1 *ℤ p.y) p.y (one_time p.x) (one_time p.y)
+
+-- the move from one place to another
+pub way_is : (from to way : Point) → to ≡ moved from way → point (to.x -ℤ from.x) (to.y -ℤ from.y) ≡ way
+way_is from to way e =
+    let across : to.x ≡ way.x +ℤ from.x = ap (λ p. p.x) e in
+    let upward : to.y ≡ way.y +ℤ from.y = ap (λ p. p.y) e in
+    same_point (to.x -ℤ from.x) way.x (to.y -ℤ from.y) way.y (omega (arith, ints, across)) (omega (arith, ints, upward))
+
+pub from_origin : (p : Point) → moved origin p ≡ p
+from_origin p = same_point (p.x +ℤ pos 0) p.x (p.y +ℤ pos 0) p.y (omega (arith, ints)) (omega (arith, ints))
+
+pub way_by : (way from to move : Point) → way.x ≡ to.x -ℤ from.x → way.y ≡ to.y -ℤ from.y → to ≡ moved from move → way ≡ move
+way_by way from to move x y e = same_point way.x (to.x -ℤ from.x) way.y (to.y -ℤ from.y) x y ∙ way_is from to move e
+
+pub changes_on : (whole : List Point) (old new : Trail) (next move : Point) (rest : List Point) → next.x ≡ new.at.x -ℤ old.at.x
+    → next.y ≡ new.at.y -ℤ old.at.y → new.at ≡ moved old.at move → IsTrail whole new (added_up move rest) → IsTrail whole new (added_up next rest)
+changes_on whole old new next move rest x y e t =
+    subst (λ w. IsTrail whole new (added_up w rest)) (sym (way_by next old.at new.at move x y e)) t

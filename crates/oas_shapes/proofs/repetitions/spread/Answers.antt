@@ -1,0 +1,100 @@
+use Rattle.std.proofs.Common.{ℕ, List, ◌∙◌, map, sym, ap}
+use Rattle.half_grid.specs.declared.plane.Point.{Point}
+use Rattle.layout_model.specs.Grids.{grid_places}
+use Rattle.layout_model.specs.Images.{enlarged}
+use Rattle.oas_shapes.specs.Plane.{origin, east, north, places_along}
+use Rattle.oas_shapes.specs.Ways.{way_of}
+use Rattle.oas_shapes.specs.Repetitions.{steps_of}
+use Rattle.oas_shapes.proofs.ArmLemmas.{arm_ok, arm_far, arm_same}
+use Rattle.oas_shapes.proofs.repetitions.spread.Goals as goal
+
+pub returns-in-RowSpaces-clause-ok : goal.returns-in-RowSpaces-clause-ok
+returns-in-RowSpaces-clause-ok c =
+    let places : List ℕ → List Point = λ xs. places_along origin (map east xs) in
+    arm_ok c.args.repetition.now c.args.is_allowed (places c.as_slice.result.now) _ c.requires
+    (ap places c.as_slice.ensures ∙ sym (ap steps_of c.in-RowSpaces.is)) c.by_own_spaces.ensures.ok
+
+pub returns-in-RowSpaces-clause-far : goal.returns-in-RowSpaces-clause-far
+returns-in-RowSpaces-clause-far c =
+    let places : List ℕ → List Point = λ xs. places_along origin (map east xs) in
+    arm_far c.args.repetition.now (places c.as_slice.result.now) _ (ap places c.as_slice.ensures ∙ sym (ap steps_of c.in-RowSpaces.is))
+    c.by_own_spaces.ensures.far
+
+pub returns-in-ColumnSpaces-clause-ok : goal.returns-in-ColumnSpaces-clause-ok
+returns-in-ColumnSpaces-clause-ok c =
+    let places : List ℕ → List Point = λ xs. places_along origin (map north xs) in
+    arm_ok c.args.repetition.now c.args.is_allowed (places c.as_slice-in-ColumnSpaces.result.now) _ c.requires
+    (ap places c.as_slice-in-ColumnSpaces.ensures ∙ sym (ap steps_of c.in-ColumnSpaces.is)) c.by_own_spaces-in-ColumnSpaces.ensures.ok
+
+pub returns-in-ColumnSpaces-clause-far : goal.returns-in-ColumnSpaces-clause-far
+returns-in-ColumnSpaces-clause-far c =
+    let places : List ℕ → List Point = λ xs. places_along origin (map north xs) in
+    arm_far c.args.repetition.now (places c.as_slice-in-ColumnSpaces.result.now) _ (ap places c.as_slice-in-ColumnSpaces.ensures ∙ sym (ap steps_of c.in-ColumnSpaces.is))
+    c.by_own_spaces-in-ColumnSpaces.ensures.far
+
+pub returns-in-RowOnGrid-clause-ok : goal.returns-in-RowOnGrid-clause-ok
+returns-in-RowOnGrid-clause-ok c =
+    let places : List ℕ → List Point = λ xs. places_along origin (map (λ space. enlarged c.in-RowOnGrid.grid (east space)) xs) in
+    arm_ok c.args.repetition.now c.args.is_allowed (places c.as_slice-in-RowOnGrid.result.now) _ c.requires
+    (ap places c.as_slice-in-RowOnGrid.ensures ∙ sym (ap steps_of c.in-RowOnGrid.is)) c.by_spaces.ensures.ok
+
+pub returns-in-RowOnGrid-clause-far : goal.returns-in-RowOnGrid-clause-far
+returns-in-RowOnGrid-clause-far c =
+    let places : List ℕ → List Point = λ xs. places_along origin (map (λ space. enlarged c.in-RowOnGrid.grid (east space)) xs) in
+    arm_far c.args.repetition.now (places c.as_slice-in-RowOnGrid.result.now) _ (ap places c.as_slice-in-RowOnGrid.ensures ∙ sym (ap steps_of c.in-RowOnGrid.is))
+    c.by_spaces.ensures.far
+
+pub returns-in-ColumnOnGrid-clause-ok : goal.returns-in-ColumnOnGrid-clause-ok
+returns-in-ColumnOnGrid-clause-ok c =
+    let places : List ℕ → List Point = λ xs. places_along origin (map (λ space. enlarged c.in-ColumnOnGrid.grid (north space)) xs) in
+    arm_ok c.args.repetition.now c.args.is_allowed (places c.as_slice-in-ColumnOnGrid.result.now) _ c.requires
+    (ap places c.as_slice-in-ColumnOnGrid.ensures ∙ sym (ap steps_of c.in-ColumnOnGrid.is)) c.by_spaces-in-ColumnOnGrid.ensures.ok
+
+pub returns-in-ColumnOnGrid-clause-far : goal.returns-in-ColumnOnGrid-clause-far
+returns-in-ColumnOnGrid-clause-far c =
+    let places : List ℕ → List Point = λ xs. places_along origin (map (λ space. enlarged c.in-ColumnOnGrid.grid (north space)) xs) in
+    arm_far c.args.repetition.now (places c.as_slice-in-ColumnOnGrid.result.now) _ (ap places c.as_slice-in-ColumnOnGrid.ensures ∙ sym (ap steps_of c.in-ColumnOnGrid.is))
+    c.by_spaces-in-ColumnOnGrid.ensures.far
+
+pub returns-in-Moves-clause-ok : goal.returns-in-Moves-clause-ok
+returns-in-Moves-clause-ok c =
+    let places : List Point → List Point = λ xs. places_along origin xs in
+    arm_ok c.args.repetition.now c.args.is_allowed (places c.as_slice-in-Moves.result.now) _ c.requires
+    (ap places c.as_slice-in-Moves.ensures ∙ sym (ap steps_of c.in-Moves.is)) c.by_moves.ensures.ok
+
+pub returns-in-Moves-clause-far : goal.returns-in-Moves-clause-far
+returns-in-Moves-clause-far c =
+    let places : List Point → List Point = λ xs. places_along origin xs in
+    arm_far c.args.repetition.now (places c.as_slice-in-Moves.result.now) _ (ap places c.as_slice-in-Moves.ensures ∙ sym (ap steps_of c.in-Moves.is))
+    c.by_moves.ensures.far
+
+pub returns-in-MovesOnGrid-clause-ok : goal.returns-in-MovesOnGrid-clause-ok
+returns-in-MovesOnGrid-clause-ok c =
+    let places : List Point → List Point = λ xs. places_along origin (map (enlarged c.in-MovesOnGrid.grid) xs) in
+    arm_ok c.args.repetition.now c.args.is_allowed (places c.as_slice-in-MovesOnGrid.result.now) _ c.requires
+    (ap places c.as_slice-in-MovesOnGrid.ensures ∙ sym (ap steps_of c.in-MovesOnGrid.is)) c.by_moves_on_grid.ensures.ok
+
+pub returns-in-MovesOnGrid-clause-far : goal.returns-in-MovesOnGrid-clause-far
+returns-in-MovesOnGrid-clause-far c =
+    let places : List Point → List Point = λ xs. places_along origin (map (enlarged c.in-MovesOnGrid.grid) xs) in
+    arm_far c.args.repetition.now (places c.as_slice-in-MovesOnGrid.result.now) _ (ap places c.as_slice-in-MovesOnGrid.ensures ∙ sym (ap steps_of c.in-MovesOnGrid.is))
+    c.by_moves_on_grid.ensures.far
+
+pub returns-in-Same-clause-ok : goal.returns-in-Same-clause-ok
+returns-in-Same-clause-ok c = arm_same c.args.repetition.now _ c.in-Same.is c.alone.ensures.ok
+
+pub returns-in-Grid-clause-far : goal.returns-in-Grid-clause-far
+returns-in-Grid-clause-far c =
+    let g = c.in-Grid in
+    arm_far c.args.repetition.now (grid_places g.x_dim g.y_dim (way_of c.towards.result) (way_of c.towards-in-Grid.result)) _
+    (ap (λ u. grid_places g.x_dim g.y_dim u (way_of c.towards-in-Grid.result)) c.towards.ensures
+    ∙ ap (λ v. grid_places g.x_dim g.y_dim (east g.x_space) v) c.towards-in-Grid.ensures ∙ sym (ap steps_of g.is))
+    c.offsets.ensures.far
+
+pub returns-in-Lattice-clause-far : goal.returns-in-Lattice-clause-far
+returns-in-Lattice-clause-far c =
+    let g = c.in-Lattice in
+    arm_far c.args.repetition.now (grid_places g.n_dim g.m_dim (way_of c.widened.result) (way_of c.widened-in-Lattice.result)) _
+    (ap (λ u. grid_places g.n_dim g.m_dim u (way_of c.widened-in-Lattice.result)) c.widened.ensures
+    ∙ ap (λ v. grid_places g.n_dim g.m_dim g.u v) c.widened-in-Lattice.ensures ∙ sym (ap steps_of g.is))
+    c.offsets-in-Lattice.ensures.far

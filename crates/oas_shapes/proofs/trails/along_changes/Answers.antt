@@ -1,0 +1,38 @@
+use Rattle.std.proofs.Common.{◌≡◌, ◌+◌, ◌∷◌, ◌∙◌, drop, get_or, sym, ap, subst}
+use Rattle.std.proofs.lemmas.List.{drop_more}
+use Rattle.layout_model.specs.Images.{moved}
+use Rattle.oas_shapes.specs.Plane.{origin, places_along}
+use Rattle.oas_shapes.specs.PointLists.{added_up}
+use Rattle.oas_shapes.specs.Trails.{IsTrail}
+use Rattle.oas_shapes.proofs.TrailLemmas.{changes_on}
+use Rattle.oas_shapes.proofs.trails.along_changes.Goals as goal
+
+pub loop-change-preserved : goal.loop-change-preserved
+loop-change-preserved c =
+    let items = c.args.changes.now in
+    let k = c.loop-change.change-index in
+    let item = get_or items k origin in
+    let rest = drop (k + 1) items in
+    let here : drop k items ≡ item ∷ rest = drop_more items k origin c.loop-change-test.true in
+    let whole = places_along c.args.start (added_up origin items) in
+    let trail = c.loop-change.trail in
+    let way = moved c.loop-change.way item in
+    let t = subst (λ xs. IsTrail whole trail (added_up c.loop-change.way xs)) here c.loop-change.invariant in
+    let same = c.joined.ensures in
+    let on = c.in-Ok.ensures.on whole (added_up way rest) (subst (λ w. IsTrail whole trail (w ∷ added_up way rest)) (sym same) t) in
+    changes_on whole trail _ c.way_between-way.result way rest c.way_between-way.ensures.x c.way_between-way.ensures.y
+    (c.in-Ok.ensures.at ∙ ap (λ w. moved trail.at w) same) on
+
+pub way_between-way-requires-clause-to : goal.way_between-way-requires-clause-to
+way_between-way-requires-clause-to c =
+    let items = c.args.changes.now in
+    let k = c.loop-change.change-index in
+    let item = get_or items k origin in
+    let rest = drop (k + 1) items in
+    let here : drop k items ≡ item ∷ rest = drop_more items k origin c.loop-change-test.true in
+    let whole = places_along c.args.start (added_up origin items) in
+    let trail = c.loop-change.trail in
+    let way = moved c.loop-change.way item in
+    let t = subst (λ xs. IsTrail whole trail (added_up c.loop-change.way xs)) here c.loop-change.invariant in
+    let same = c.joined.ensures in
+    (c.in-Ok.ensures.on whole (added_up way rest) (subst (λ w. IsTrail whole trail (w ∷ added_up way rest)) (sym same) t)).here

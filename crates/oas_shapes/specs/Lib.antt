@@ -1,0 +1,12 @@
+pub mod Plane
+pub mod Ways
+pub mod Sketches
+pub mod Trails
+pub mod Lattices
+pub mod Figures
+pub mod PointLists
+pub mod Repetitions
+pub mod Outlines
+pub mod Vertices
+pub mod Rules
+pub mod Brushes

@@ -1,0 +1,21 @@
+//! What the fields of an OASIS record mean in geometry (SEMI P39, version 1.0): the outlines of shapes, the places of
+//! point lists and the offsets of repetitions, or the rule of values that they break.
+#![tactic(auto)]
+
+mod corners;
+mod drawing;
+mod figures;
+mod lattices;
+mod lists;
+mod paths;
+mod repetitions;
+mod tables;
+#[cfg(test)]
+mod tests;
+mod trails;
+mod wide;
+
+pub use drawing::{Undrawn, draw_figure, draw_path, draw_polygon};
+pub use figures::{Brush, Figure};
+pub use repetitions::{dimensions_are_allowed, offsets_of};
+pub use tables::{uses_height, uses_width};

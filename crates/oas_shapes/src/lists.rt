@@ -1,0 +1,106 @@
+//! The places of point lists.
+ghost use Rattle.std.specs.Prelude.{◌≡◌, ◌≢◌, ◌++◌, [], ◌∷◌, OnOk, IfOk, Err};
+ghost use Rattle.oas_shapes.specs.Plane.{IsNear};
+ghost use Rattle.oas_shapes.specs.PointLists.{implied};
+ghost use Rattle.oas_shapes.specs.Outlines.{path_points as the_path_points, polygon_outline as the_polygon_outline};
+ghost use Rattle.oas_shapes.specs.Rules.{AreNear};
+ghost use Rattle.oas_shapes.specs.declared.trails.Unplaced.TheVariants.{Far};
+ghost use Rattle.oas_shapes.specs.Vertices.{option_list, ring_by};
+
+use crate::trails::{Places, Unplaced, along, along_changes};
+use half_grid::Point;
+use oas_record::Deltas;
+use std::alloc::Global;
+
+/// The points of a path from this position, in half units.
+pub(crate) fn path_points(alloc: Global, at: Point, points: &Deltas) -> Result<Places, Unplaced>
+    requires { IsNear at }
+    ensures places { IfOk result (λ places. places.items ≡ the_path_points at points.now) }
+    ensures near { IfOk result (λ places. AreNear places.items) }
+    ensures far { result ≡ Err Far → ¬ AreNear (the_path_points at points.now) }
+{
+    if points.kind == 5 {
+        return along_changes(alloc, at, points.items.as_slice());
+    }
+    along(alloc, at, points.items.as_slice())
+}
+
+// The vertex from which a level and an upright edge lead back to the first, in half units.
+fn last_vertex(kind: u8, first: Point, last: Point) -> Option<Point>
+    ensures { option_list result ≡ implied kind first last }
+{
+    match kind {
+        0 => Some(Point {
+            x: first.x,
+            y: last.y,
+        }),
+        1 => Some(Point {
+            x: last.x,
+            y: first.y,
+        }),
+        _ => None,
+    }
+}
+
+// Puts a point last.
+fn put(places: &mut Places, point: Point) -> Result<(), Unplaced>
+    ensures ok { OnOk result (places.new.items ≡ places.old.items ++ point ∷ []) }
+    ensures far { (result ≡ Err Far) → ⊥ }
+{
+    match places.push(point) {
+        Ok(()) => Ok(()),
+        Err(_) => Err(Unplaced::NoMemory),
+    }
+}
+
+// These vertices and the one that isn't stored.
+fn all_vertices(kind: u8, vertices: Places, first: Point, last: Point) -> Result<Places, Unplaced>
+    ensures ok { IfOk result (λ all. all.items ≡ vertices.items ++ implied kind first last) }
+    ensures far { (result ≡ Err Far) → ⊥ }
+{
+    let mut all = vertices;
+    match last_vertex(kind, first, last) {
+        Some(vertex) => match put(&mut all, vertex) {
+            Ok(()) => Ok(all),
+            Err(bad) => Err(bad),
+        },
+        None => Ok(all),
+    }
+}
+
+// The outline with these vertices, of which there is one, and with the one that isn't stored.
+fn closed(kind: u8, vertices: Places) -> Result<Places, Unplaced>
+    requires { vertices.items ≢ [] }
+    ensures ok { IfOk result (λ outline. outline.items ≡ ring_by kind vertices.items) }
+    ensures far { (result ≡ Err Far) → ⊥ }
+{
+    let stored = vertices.as_slice();
+    let first = stored[0];
+    let last = stored[stored.len() - 1];
+    match all_vertices(kind, vertices, first, last) {
+        Ok(all) => {
+            let mut outline = all;
+            match put(&mut outline, first) {
+                Ok(()) => Ok(outline),
+                Err(bad) => Err(bad),
+            }
+        }
+        Err(bad) => Err(bad),
+    }
+}
+
+/// The outline of a polygon at this position, in half units.
+pub(crate) fn polygon_outline(alloc: Global, at: Point, points: &Deltas) -> Result<Places, Unplaced>
+    requires { IsNear at }
+    ensures outline { IfOk result (λ outline. outline.items ≡ the_polygon_outline at points.now) }
+    ensures near { IfOk result (λ outline. AreNear outline.items) }
+    ensures far { result ≡ Err Far → ¬ AreNear (the_polygon_outline at points.now) }
+{
+    match path_points(alloc, at, points) {
+        Ok(vertices) => match closed(points.kind, vertices) {
+            Ok(outline) => Ok(outline),
+            Err(bad) => Err(bad),
+        },
+        Err(bad) => Err(bad),
+    }
+}

@@ -1,0 +1,186 @@
+//! The shapes of paths.
+ghost use Rattle.std.specs.Prelude.{◌≡◌, ◌⊎◌, ◌↔◌, ◌++◌, ℕ, pos, ◌≤ℤ◌, All, IsTrue, OnOk, IfOk, Err, option_copied};
+ghost use Rattle.half_grid.specs.Halves.{twice};
+ghost use Rattle.layout_model.specs.Layouts.{IsShapeOnGrid, AreOffsets};
+ghost use Rattle.layout_model.specs.PathBounds.{IsNear as IsNearInHalves};
+ghost use Rattle.oas_shapes.specs.Plane.{IsLength};
+ghost use Rattle.oas_shapes.specs.Brushes.{halves_of, AreHalves, IsDrawn, drawn_by, undrawn_by, KeepsCourse};
+ghost use Rattle.oas_shapes.specs.Repetitions.{offsets_in as all_offsets};
+ghost use Rattle.oas_shapes.specs.Rules.{AreNear, IsBrush, IsLowest};
+ghost use Rattle.oas_shapes.specs.declared.drawing.Undrawn.TheVariants.{Rule};
+
+use crate::drawing::Undrawn;
+use crate::figures::Brush;
+use crate::repetitions::{alone, offsets_in};
+use crate::trails::Unplaced;
+use geo_stream::{List, NoMemory};
+use half_grid::Point;
+use layout_model::{Offsets, Pair, PathBad, Shape, path_shapes};
+use oas_record::Rep;
+use std::alloc::Global;
+
+// At most so far from 0, in grid steps.
+const FARTHEST: i64 = 1 << 40;
+
+/// Half of a path's width and what it is longer by at its ends, in half units.
+#[derive(Clone, Copy)]
+pub(crate) struct Halves {
+    half: i64,
+    begin: i64,
+    end: i64,
+}
+
+fn is_length(length: i128) -> bool
+    ensures { IsTrue result ↔ IsLength length }
+{
+    -i128::from(FARTHEST) <= length && length <= i128::from(FARTHEST)
+}
+
+// A length in grid steps.
+#[derive(Clone, Copy)]
+struct Length {
+    steps: i128,
+}
+
+impl Length {
+    fn halves(self) -> i64
+        requires { IsLength self.steps }
+        ensures { result ≡ twice self.steps }
+    {
+        (self.steps + self.steps) as i64
+    }
+}
+
+impl Brush {
+    /// Whether its lengths are at most 2^40.
+    pub(crate) fn is_near(self) -> bool
+        ensures { IsTrue result ↔ IsBrush self }
+    {
+        self.half_width <= FARTHEST as u64 && is_length(self.start) && is_length(self.end)
+    }
+
+    /// Its lengths in half units.
+    pub(crate) fn halves(self) -> Halves
+        requires { IsBrush self }
+        ensures value { result ≡ halves_of self }
+        ensures near { AreHalves result }
+    {
+        let half = Length {
+            steps: i128::from(self.half_width),
+        };
+        let begin = Length { steps: self.start };
+        let end = Length { steps: self.end };
+        Halves {
+            half: half.halves(),
+            begin: begin.halves(),
+            end: end.halves(),
+        }
+    }
+}
+
+// Why a path isn't drawn: it breaks its rule, or memory is wanting.
+fn undrawn(bad: PathBad) -> Undrawn
+    ensures { result ≡ undrawn_by bad }
+{
+    match bad {
+        PathBad::NoMemory => Undrawn::NoMemory,
+        PathBad::NoLength | PathBad::Diagonal(_) | PathBad::TurnBack(_) | PathBad::EmptyEnd =>
+            Undrawn::Rule(8),
+    }
+}
+
+// The shapes of a path at these offsets.
+fn drawn(
+    alloc: Global,
+    pair: Pair,
+    points: &[Point],
+    brush: Halves,
+    offsets: &Offsets,
+) -> Result<Vec<Shape>, Undrawn>
+    requires points { AreNear points.now }
+    requires brush { AreHalves brush }
+    requires offsets { AreOffsets offsets.now }
+    ensures shapes { IfOk result (λ shapes. shapes.items ≡ drawn_by pair brush points.now offsets.now) }
+    ensures grid { IfOk result (λ shapes. All IsShapeOnGrid shapes.items) }
+    ensures kept { IfOk result (λ _. IsDrawn brush points.now) }
+    ensures broken { (rule : ℕ) → result ≡ Err (Rule rule) → (rule ≡ 8) × ¬ IsDrawn brush points.now }
+{
+    let Halves { half, begin, end } = brush;
+    match path_shapes(alloc, pair, points, half, begin, end, offsets, false) {
+        Ok(shapes) => Ok(shapes),
+        Err(bad) => Err(undrawn(bad)),
+    }
+}
+
+// The rule that a path breaks whose repetition has too large a dimension.
+fn rule_of_many(alloc: Global, pair: Pair, points: &[Point], brush: Halves) -> Undrawn
+    requires points { AreNear points.now }
+    requires brush { AreHalves brush }
+    ensures { (rule : ℕ) → result ≡ Rule rule
+        → ((rule ≡ 8) × ¬ IsDrawn brush points.now) ⊎ ((rule ≡ 11) × IsDrawn brush points.now) }
+{
+    let Ok(offsets) = alone(alloc) else {
+        return Undrawn::NoMemory;
+    };
+    match drawn(alloc, pair, points, brush, &offsets) {
+        Ok(_) => Undrawn::Rule(11),
+        Err(bad) => bad,
+    }
+}
+
+// The shapes of a path, repeated so.
+fn repeated(
+    alloc: Global,
+    pair: Pair,
+    points: &[Point],
+    brush: Halves,
+    repetition: Option<&Rep>,
+) -> Result<Vec<Shape>, Undrawn>
+    requires points { AreNear points.now }
+    requires brush { AreHalves brush }
+    ensures shapes { IfOk result (λ shapes. shapes.items ≡ drawn_by pair brush points.now (all_offsets (option_copied repetition.entry))) }
+    ensures grid { IfOk result (λ shapes. All IsShapeOnGrid shapes.items) }
+    ensures kept { IfOk result (λ _. (rule : ℕ) → KeepsCourse brush points.now (option_copied repetition.entry) rule) }
+    ensures broken { (rule : ℕ) → result ≡ Err (Rule rule) → IsLowest (KeepsCourse brush points.now (option_copied repetition.entry)) rule }
+{
+    match offsets_in(alloc, repetition) {
+        Ok(offsets) => drawn(alloc, pair, points, brush, &offsets),
+        Err(Unplaced::Far) => Err(Undrawn::Rule(1)),
+        Err(Unplaced::Many) => Err(rule_of_many(alloc, pair, points, brush)),
+        Err(Unplaced::NoMemory) => Err(Undrawn::NoMemory),
+    }
+}
+
+fn push_all(list: &mut List<Shape>, shapes: Vec<Shape>) -> Result<(), NoMemory>
+    ensures { OnOk result (list.new ≡ list.old ++ shapes.items) }
+{
+    for shape in shapes {
+        list.push(shape)?;
+    }
+    Ok(())
+}
+
+/// Adds the shapes of a path with these points, repeated so.
+pub(crate) fn add_path(
+    alloc: Global,
+    pair: Pair,
+    points: &[Point],
+    brush: Halves,
+    repetition: Option<&Rep>,
+    shapes: &mut List<Shape>,
+) -> Result<(), Undrawn>
+    requires points { AreNear points.now }
+    requires brush { AreHalves brush }
+    ensures shapes { OnOk result (shapes.new ≡ shapes.old ++ drawn_by pair brush points.now (all_offsets (option_copied repetition.entry))) }
+    ensures grid { All IsShapeOnGrid shapes.old → OnOk result (All IsShapeOnGrid shapes.new) }
+    ensures kept { OnOk result ((rule : ℕ) → KeepsCourse brush points.now (option_copied repetition.entry) rule) }
+    ensures broken { (rule : ℕ) → result ≡ Err (Rule rule) → IsLowest (KeepsCourse brush points.now (option_copied repetition.entry)) rule }
+{
+    match repeated(alloc, pair, points, brush, repetition) {
+        Ok(drawn) => match push_all(shapes, drawn) {
+            Ok(()) => Ok(()),
+            Err(_) => Err(Undrawn::NoMemory),
+        },
+        Err(bad) => Err(bad),
+    }
+}

@@ -1,0 +1,263 @@
+//! The offsets of repetitions.
+ghost use Rattle.std.specs.Prelude.{◌≡◌, ◌↔◌, ℕ, map, All, [], ◌∷◌, IsTrue, IfOk, Err, option_copied, false};
+ghost use Rattle.layout_model.specs.Layouts.{AreOffsets};
+ghost use Rattle.oas_shapes.specs.Plane.{origin, doubled as in_halves, places_along};
+ghost use Rattle.oas_shapes.specs.Ways.{way_of, towards as towards_of};
+ghost use Rattle.oas_shapes.specs.Lattices.{IsLattice, places_of};
+ghost use Rattle.layout_model.specs.Images.{enlarged};
+ghost use Rattle.layout_model.specs.Grids.{grid_places};
+ghost use Rattle.oas_shapes.specs.Repetitions.{IsDimension, HasDimensions, HasDimensionsIn, offsets_of as the_offsets_of, offsets_in as all_offsets};
+ghost use Rattle.oas_shapes.specs.Rules.{AreNear, KeepsRepetition, IsLowest};
+ghost use Rattle.oas_shapes.specs.declared.drawing.Undrawn.TheVariants.{Rule};
+ghost use Rattle.oas_shapes.specs.declared.trails.Unplaced.TheVariants.{Far, Many};
+
+use crate::drawing::Undrawn;
+use crate::lattices::Lattice;
+use crate::trails::{Unplaced, along, along_grid, along_spaces, towards};
+use crate::wide::{ORIGIN, Wide, widened};
+use half_grid::Point;
+use layout_model::Offsets;
+use oas_record::Rep;
+use std::alloc::Global;
+
+// No move.
+const STILL: Wide = Wide { x: 0, y: 0 };
+
+fn is_dimension(count: u64) -> bool
+    ensures { IsTrue result ↔ IsDimension count }
+{
+    2 <= count && count <= 16777216
+}
+
+fn is_allowed(count: u64) -> bool
+    ensures { IsTrue result ↔ All IsDimension (count ∷ []) }
+{
+    is_dimension(count)
+}
+
+fn are_allowed(columns: u64, rows: u64) -> bool
+    ensures { IsTrue result ↔ All IsDimension (columns ∷ rows ∷ []) }
+{
+    is_dimension(columns) && is_dimension(rows)
+}
+
+/// Whether its dimensions are 2 to 16,777,216.
+pub fn dimensions_are_allowed(repetition: &Rep) -> bool
+    ensures { IsTrue result ↔ HasDimensions repetition.now }
+{
+    match repetition {
+        Rep::Same => true,
+        Rep::Grid { x_dim, y_dim, .. } => are_allowed(*x_dim, *y_dim),
+        Rep::Row { dim, .. } => is_allowed(*dim),
+        Rep::Column { dim, .. } => is_allowed(*dim),
+        Rep::RowSpaces { dim, .. } => is_allowed(*dim),
+        Rep::RowOnGrid { dim, .. } => is_allowed(*dim),
+        Rep::ColumnSpaces { dim, .. } => is_allowed(*dim),
+        Rep::ColumnOnGrid { dim, .. } => is_allowed(*dim),
+        Rep::Lattice { n_dim, m_dim, .. } => are_allowed(*n_dim, *m_dim),
+        Rep::Line { dim, .. } => is_allowed(*dim),
+        Rep::Moves { dim, .. } => is_allowed(*dim),
+        Rep::MovesOnGrid { dim, .. } => is_allowed(*dim),
+    }
+}
+
+/// One place.
+pub(crate) fn alone(alloc: Global) -> Result<Offsets, Unplaced>
+    ensures ok { IfOk result (λ offsets. (offsets ≡ origin ∷ []) × AreOffsets offsets) }
+    ensures far { (result ≡ Err Far) → ⊥ }
+    ensures many { (result ≡ Err Many) → ⊥ }
+{
+    match Offsets::list(alloc, &[ORIGIN]) {
+        Ok(offsets) => Ok(offsets),
+        Err(_) => Err(Unplaced::NoMemory),
+    }
+}
+
+// These places, where there may be so many.
+fn listed(alloc: Global, places: &[Point], is_allowed: bool) -> Result<Offsets, Unplaced>
+    requires { IsTrue is_allowed → AreOffsets places.now }
+    ensures ok { IfOk result (λ offsets. (offsets ≡ places.now) × AreOffsets offsets × IsTrue is_allowed) }
+    ensures far { (result ≡ Err Far) → ⊥ }
+    ensures many { result ≡ Err Many → is_allowed ≡ false }
+{
+    if !is_allowed {
+        return Err(Unplaced::Many);
+    }
+    match Offsets::list(alloc, places) {
+        Ok(offsets) => Ok(offsets),
+        Err(_) => Err(Unplaced::NoMemory),
+    }
+}
+
+// A row, or a column where it is upright.
+fn by_spaces(
+    alloc: Global,
+    is_upright: bool,
+    grid: u64,
+    spaces: &[u64],
+    is_allowed: bool,
+) -> Result<Offsets, Unplaced>
+    ensures ok { IfOk result (λ offsets. (offsets ≡ map in_halves (places_along origin (map (λ space. enlarged grid (towards_of is_upright space)) spaces.now))) × AreOffsets offsets × IsTrue is_allowed) }
+    ensures far { result ≡ Err Far → ¬ AreNear (map in_halves (places_along origin (map (λ space. enlarged grid (towards_of is_upright space)) spaces.now))) }
+    ensures many { result ≡ Err Many → AreNear (map in_halves (places_along origin (map (λ space. enlarged grid (towards_of is_upright space)) spaces.now))) × (is_allowed ≡ false) }
+{
+    match along_spaces(alloc, is_upright, grid, spaces) {
+        Ok(places) => listed(alloc, places.as_slice(), is_allowed),
+        Err(Unplaced::Far) => Err(Unplaced::Far),
+        Err(_) => Err(Unplaced::NoMemory),
+    }
+}
+
+// A row or a column whose spaces are those that are written.
+fn by_own_spaces(
+    alloc: Global,
+    is_upright: bool,
+    spaces: &[u64],
+    is_allowed: bool,
+) -> Result<Offsets, Unplaced>
+    ensures ok { IfOk result (λ offsets. (offsets ≡ map in_halves (places_along origin (map (towards_of is_upright) spaces.now))) × AreOffsets offsets × IsTrue is_allowed) }
+    ensures far { result ≡ Err Far → ¬ AreNear (map in_halves (places_along origin (map (towards_of is_upright) spaces.now))) }
+    ensures many { result ≡ Err Many → AreNear (map in_halves (places_along origin (map (towards_of is_upright) spaces.now))) × (is_allowed ≡ false) }
+{
+    by_spaces(alloc, is_upright, 1, spaces, is_allowed)
+}
+
+fn by_moves(alloc: Global, moves: &[Point], is_allowed: bool) -> Result<Offsets, Unplaced>
+    ensures ok { IfOk result (λ offsets. (offsets ≡ map in_halves (places_along origin moves.now)) × AreOffsets offsets × IsTrue is_allowed) }
+    ensures far { result ≡ Err Far → ¬ AreNear (map in_halves (places_along origin moves.now)) }
+    ensures many { result ≡ Err Many → AreNear (map in_halves (places_along origin moves.now)) × (is_allowed ≡ false) }
+{
+    match along(alloc, ORIGIN, moves) {
+        Ok(places) => listed(alloc, places.as_slice(), is_allowed),
+        Err(Unplaced::Far) => Err(Unplaced::Far),
+        Err(_) => Err(Unplaced::NoMemory),
+    }
+}
+
+fn by_moves_on_grid(
+    alloc: Global,
+    grid: u64,
+    moves: &[Point],
+    is_allowed: bool,
+) -> Result<Offsets, Unplaced>
+    ensures ok { IfOk result (λ offsets. (offsets ≡ map in_halves (places_along origin (map (enlarged grid) moves.now))) × AreOffsets offsets × IsTrue is_allowed) }
+    ensures far { result ≡ Err Far → ¬ AreNear (map in_halves (places_along origin (map (enlarged grid) moves.now))) }
+    ensures many { result ≡ Err Many → AreNear (map in_halves (places_along origin (map (enlarged grid) moves.now))) × (is_allowed ≡ false) }
+{
+    match along_grid(alloc, grid, moves) {
+        Ok(places) => listed(alloc, places.as_slice(), is_allowed),
+        Err(Unplaced::Far) => Err(Unplaced::Far),
+        Err(_) => Err(Unplaced::NoMemory),
+    }
+}
+
+// A regular repetition in one direction.
+fn by_step(alloc: Global, dim: u64, step: Wide, is_allowed: bool) -> Result<Offsets, Unplaced>
+    requires { IsTrue is_allowed → IsDimension dim }
+    ensures ok { IfOk result (λ offsets. (offsets ≡ map in_halves (grid_places dim 1 (way_of step) origin)) × AreOffsets offsets × IsTrue is_allowed) }
+    ensures far { result ≡ Err Far → ¬ AreNear (map in_halves (grid_places dim 1 (way_of step) origin)) }
+    ensures many { result ≡ Err Many → AreNear (map in_halves (grid_places dim 1 (way_of step) origin)) × (is_allowed ≡ false) }
+{
+    let steps = Lattice {
+        nu: dim,
+        nv: 1,
+        u: step,
+        v: STILL,
+    };
+    steps.offsets(alloc, is_allowed)
+}
+
+// The offsets of a repetition in half units.
+fn spread(alloc: Global, repetition: &Rep, is_allowed: bool) -> Result<Offsets, Unplaced>
+    requires { IsTrue is_allowed → HasDimensions repetition.now }
+    ensures ok { IfOk result (λ offsets. (offsets ≡ the_offsets_of repetition.now) × AreOffsets offsets × HasDimensions repetition.now) }
+    ensures far { result ≡ Err Far → ¬ AreNear (the_offsets_of repetition.now) }
+    ensures many { result ≡ Err Many → AreNear (the_offsets_of repetition.now) × (is_allowed ≡ false) }
+{
+    match repetition {
+        Rep::Same => alone(alloc),
+        Rep::Grid {
+            x_dim,
+            y_dim,
+            x_space,
+            y_space,
+        } => {
+            let steps = Lattice {
+                nu: *x_dim,
+                nv: *y_dim,
+                u: towards(false, *x_space),
+                v: towards(true, *y_space),
+            };
+            steps.offsets(alloc, is_allowed)
+        }
+        Rep::Row { dim, space } => by_step(alloc, *dim, towards(false, *space), is_allowed),
+        Rep::Column { dim, space } => by_step(alloc, *dim, towards(true, *space), is_allowed),
+        Rep::RowSpaces { spaces, .. } => by_own_spaces(alloc, false, spaces.as_slice(), is_allowed),
+        Rep::RowOnGrid { grid, spaces, .. } => by_spaces(
+            alloc,
+            false,
+            *grid,
+            spaces.as_slice(),
+            is_allowed,
+        ),
+        Rep::ColumnSpaces { spaces, .. } => by_own_spaces(
+            alloc,
+            true,
+            spaces.as_slice(),
+            is_allowed,
+        ),
+        Rep::ColumnOnGrid { grid, spaces, .. } => by_spaces(
+            alloc,
+            true,
+            *grid,
+            spaces.as_slice(),
+            is_allowed,
+        ),
+        Rep::Lattice { n_dim, m_dim, u, v } => {
+            let steps = Lattice {
+                nu: *n_dim,
+                nv: *m_dim,
+                u: widened(*u),
+                v: widened(*v),
+            };
+            steps.offsets(alloc, is_allowed)
+        }
+        Rep::Line { dim, u } => by_step(alloc, *dim, widened(*u), is_allowed),
+        Rep::Moves { moves, .. } => by_moves(alloc, moves.as_slice(), is_allowed),
+        Rep::MovesOnGrid { grid, moves, .. } => by_moves_on_grid(
+            alloc,
+            *grid,
+            moves.as_slice(),
+            is_allowed,
+        ),
+    }
+}
+
+/// The offsets of a record with this repetition, or none, in half units.
+pub(crate) fn offsets_in(alloc: Global, repetition: Option<&Rep>) -> Result<Offsets, Unplaced>
+    ensures offsets { IfOk result (λ offsets. offsets ≡ all_offsets (option_copied repetition.entry)) }
+    ensures grid { IfOk result AreOffsets }
+    ensures allowed { IfOk result (λ _. HasDimensionsIn (option_copied repetition.entry)) }
+    ensures far { result ≡ Err Far → ¬ AreNear (all_offsets (option_copied repetition.entry)) }
+    ensures many { result ≡ Err Many → AreNear (all_offsets (option_copied repetition.entry)) × ¬ HasDimensionsIn (option_copied repetition.entry) }
+{
+    match repetition {
+        Some(repetition) => spread(alloc, repetition, dimensions_are_allowed(repetition)),
+        None => alone(alloc),
+    }
+}
+
+/// The offsets of a repetition in half units: those of a placement, say. One that is regular is kept as a grid.
+pub fn offsets_of(alloc: Global, repetition: &Rep) -> Result<Offsets, Undrawn>
+    ensures offsets { IfOk result (λ offsets. offsets ≡ the_offsets_of repetition.now) }
+    ensures grid { IfOk result AreOffsets }
+    ensures kept { IfOk result (λ _. (rule : ℕ) → KeepsRepetition repetition.now rule) }
+    ensures broken { (rule : ℕ) → result ≡ Err (Rule rule) → IsLowest (KeepsRepetition repetition.now) rule }
+{
+    match spread(alloc, repetition, dimensions_are_allowed(repetition)) {
+        Ok(offsets) => Ok(offsets),
+        Err(Unplaced::Far) => Err(Undrawn::Rule(1)),
+        Err(Unplaced::Many) => Err(Undrawn::Rule(11)),
+        Err(Unplaced::NoMemory) => Err(Undrawn::NoMemory),
+    }
+}

@@ -1,0 +1,430 @@
+//! Outlines, places and offsets by hand, and the rules.
+use crate::{
+    Brush, Figure, Undrawn, dimensions_are_allowed, draw_figure, draw_path, draw_polygon,
+    offsets_of,
+};
+use geo_stream::{List, NoMemory};
+use half_grid::Point;
+use layout_model::{Offsets, Pair, Shape};
+use oas_record::{Deltas, Rep};
+use std::alloc::Global;
+use std::test::Fail;
+
+const PAIR: Pair = Pair {
+    layer: 1,
+    datatype: 0,
+};
+
+const ORIGIN: Point = Point { x: 0, y: 0 };
+
+// The outlines of all types of CTRAPEZOID, 10 by 3, in half units.
+const FLAT: [(u64, &[(i64, i64)]); 26] = [
+    (0, &[(0, 0), (0, 6), (14, 6), (20, 0), (0, 0)]),
+    (1, &[(0, 0), (0, 6), (20, 6), (14, 0), (0, 0)]),
+    (2, &[(0, 0), (6, 6), (20, 6), (20, 0), (0, 0)]),
+    (3, &[(6, 0), (0, 6), (20, 6), (20, 0), (6, 0)]),
+    (4, &[(0, 0), (6, 6), (14, 6), (20, 0), (0, 0)]),
+    (5, &[(6, 0), (0, 6), (20, 6), (14, 0), (6, 0)]),
+    (6, &[(0, 0), (6, 6), (20, 6), (14, 0), (0, 0)]),
+    (7, &[(6, 0), (0, 6), (14, 6), (20, 0), (6, 0)]),
+    (8, &[(0, 0), (0, 6), (20, -14), (20, 0), (0, 0)]),
+    (9, &[(0, 0), (0, -14), (20, 6), (20, 0), (0, 0)]),
+    (10, &[(0, 0), (0, 6), (20, 6), (20, 20), (0, 0)]),
+    (11, &[(0, 20), (0, 6), (20, 6), (20, 0), (0, 20)]),
+    (12, &[(0, 0), (0, 6), (20, -14), (20, 20), (0, 0)]),
+    (13, &[(0, 20), (0, -14), (20, 6), (20, 0), (0, 20)]),
+    (14, &[(0, 0), (0, -14), (20, 6), (20, 20), (0, 0)]),
+    (15, &[(0, 20), (0, 6), (20, -14), (20, 0), (0, 20)]),
+    (16, &[(0, 0), (0, 20), (20, 0), (0, 0)]),
+    (17, &[(0, 0), (0, 20), (20, 20), (0, 0)]),
+    (18, &[(0, 0), (20, 20), (20, 0), (0, 0)]),
+    (19, &[(0, 20), (20, 20), (20, 0), (0, 20)]),
+    (20, &[(0, 0), (6, 6), (12, 0), (0, 0)]),
+    (21, &[(0, 6), (12, 6), (6, 0), (0, 6)]),
+    (22, &[(0, 0), (0, 40), (20, 20), (0, 0)]),
+    (23, &[(0, 20), (20, 40), (20, 0), (0, 20)]),
+    (24, &[(0, 0), (0, 6), (20, 6), (20, 0), (0, 0)]),
+    (25, &[(0, 0), (0, 20), (20, 20), (20, 0), (0, 0)]),
+];
+
+// The same, 4 by 9.
+const TALL: [(u64, &[(i64, i64)]); 26] = [
+    (0, &[(0, 0), (0, 18), (-10, 18), (8, 0), (0, 0)]),
+    (1, &[(0, 0), (0, 18), (8, 18), (-10, 0), (0, 0)]),
+    (2, &[(0, 0), (18, 18), (8, 18), (8, 0), (0, 0)]),
+    (3, &[(18, 0), (0, 18), (8, 18), (8, 0), (18, 0)]),
+    (4, &[(0, 0), (18, 18), (-10, 18), (8, 0), (0, 0)]),
+    (5, &[(18, 0), (0, 18), (8, 18), (-10, 0), (18, 0)]),
+    (6, &[(0, 0), (18, 18), (8, 18), (-10, 0), (0, 0)]),
+    (7, &[(18, 0), (0, 18), (-10, 18), (8, 0), (18, 0)]),
+    (8, &[(0, 0), (0, 18), (8, 10), (8, 0), (0, 0)]),
+    (9, &[(0, 0), (0, 10), (8, 18), (8, 0), (0, 0)]),
+    (10, &[(0, 0), (0, 18), (8, 18), (8, 8), (0, 0)]),
+    (11, &[(0, 8), (0, 18), (8, 18), (8, 0), (0, 8)]),
+    (12, &[(0, 0), (0, 18), (8, 10), (8, 8), (0, 0)]),
+    (13, &[(0, 8), (0, 10), (8, 18), (8, 0), (0, 8)]),
+    (14, &[(0, 0), (0, 10), (8, 18), (8, 8), (0, 0)]),
+    (15, &[(0, 8), (0, 18), (8, 10), (8, 0), (0, 8)]),
+    (16, &[(0, 0), (0, 8), (8, 0), (0, 0)]),
+    (17, &[(0, 0), (0, 8), (8, 8), (0, 0)]),
+    (18, &[(0, 0), (8, 8), (8, 0), (0, 0)]),
+    (19, &[(0, 8), (8, 8), (8, 0), (0, 8)]),
+    (20, &[(0, 0), (18, 18), (36, 0), (0, 0)]),
+    (21, &[(0, 18), (36, 18), (18, 0), (0, 18)]),
+    (22, &[(0, 0), (0, 16), (8, 8), (0, 0)]),
+    (23, &[(0, 8), (8, 16), (8, 0), (0, 8)]),
+    (24, &[(0, 0), (0, 18), (8, 18), (8, 0), (0, 0)]),
+    (25, &[(0, 0), (0, 8), (8, 8), (8, 0), (0, 0)]),
+];
+
+fn are_same(points: &[Point], wanted: &[(i64, i64)]) -> bool {
+    if points.len() != wanted.len() {
+        return false;
+    }
+    for (point, (x, y)) in points.iter().zip(wanted) {
+        if point.x != *x || point.y != *y {
+            return false;
+        }
+    }
+    true
+}
+
+// Whether the shapes are one with this outline.
+fn is_one(shapes: &List<Shape>, outline: &[(i64, i64)]) -> bool {
+    match shapes.as_slice() {
+        [shape] => are_same(shape.points.as_slice(), outline),
+        _ => false,
+    }
+}
+
+fn is_figure(alloc: Global, figure: Figure, outline: &[(i64, i64)]) -> bool {
+    let mut shapes = List::new(alloc);
+    match draw_figure(alloc, PAIR, ORIGIN, figure, None, &mut shapes) {
+        Ok(()) => is_one(&shapes, outline),
+        Err(_) => false,
+    }
+}
+
+fn are_types(alloc: Global, width: u64, height: u64, rows: &[(u64, &[(i64, i64)])]) -> bool {
+    for (kind, outline) in rows {
+        let figure = Figure::Ctrapezoid {
+            kind: *kind,
+            width,
+            height,
+        };
+        if !is_figure(alloc, figure, outline) {
+            return false;
+        }
+    }
+    true
+}
+
+#[test]
+fn ctrapezoids_by_the_table(rt: HostRuntime) {
+    assert!(rt; are_types(rt.alloc(), 10, 3, &FLAT));
+    assert!(rt; are_types(rt.alloc(), 4, 9, &TALL));
+}
+
+// Deltas of trapezoids, the outline of one of 10 by 4 with level sides, and that of one of 4 by 10 with upright sides.
+const SLANTED: [(i64, i64, &[(i64, i64)], &[(i64, i64)]); 3] = [
+    (
+        4,
+        -4,
+        &[(0, 0), (8, 8), (12, 8), (20, 0), (0, 0)],
+        &[(0, 8), (0, 12), (8, 20), (8, 0), (0, 8)],
+    ),
+    (
+        -4,
+        4,
+        &[(8, 0), (0, 8), (20, 8), (12, 0), (8, 0)],
+        &[(0, 0), (0, 20), (8, 12), (8, 8), (0, 0)],
+    ),
+    (
+        0,
+        -4,
+        &[(0, 0), (0, 8), (12, 8), (20, 0), (0, 0)],
+        &[(0, 0), (0, 12), (8, 20), (8, 0), (0, 0)],
+    ),
+];
+
+fn are_slanted(alloc: Global, rows: &[(i64, i64, &[(i64, i64)], &[(i64, i64)])]) -> bool {
+    for (a, b, level, upright) in rows {
+        let (a, b) = (*a, *b);
+        let horizontal = Figure::Horizontal {
+            width: 10,
+            height: 4,
+            a,
+            b,
+        };
+        let vertical = Figure::Vertical {
+            width: 4,
+            height: 10,
+            a,
+            b,
+        };
+        if !is_figure(alloc, horizontal, level) || !is_figure(alloc, vertical, upright) {
+            return false;
+        }
+    }
+    true
+}
+
+#[test]
+fn trapezoids_both_ways(rt: HostRuntime) {
+    assert!(rt; are_slanted(rt.alloc(), &SLANTED));
+}
+
+fn moves(alloc: Global, ways: &[(i64, i64)]) -> Result<List<Point>, NoMemory> {
+    let mut list = List::new(alloc);
+    for (x, y) in ways {
+        list.push(Point { x: *x, y: *y })?;
+    }
+    Ok(list)
+}
+
+fn numbers(alloc: Global, numbers: &[u64]) -> Result<List<u64>, NoMemory> {
+    let mut list = List::new(alloc);
+    for number in numbers {
+        list.push(*number)?;
+    }
+    Ok(list)
+}
+
+// Point lists: kind, stored deltas, the outline of the polygon from (1, 2) in half units.
+const POLYGONS: [(u8, &[(i64, i64)], &[(i64, i64)]); 6] = [
+    (
+        0,
+        &[(5, 0), (0, 3)],
+        &[(2, 4), (12, 4), (12, 10), (2, 10), (2, 4)],
+    ),
+    (
+        1,
+        &[(0, 3), (5, 0)],
+        &[(2, 4), (2, 10), (12, 10), (12, 4), (2, 4)],
+    ),
+    (
+        2,
+        &[(0, 3), (5, 0), (0, -3)],
+        &[(2, 4), (2, 10), (12, 10), (12, 4), (2, 4)],
+    ),
+    (3, &[(4, 4), (0, -4)], &[(2, 4), (10, 12), (10, 4), (2, 4)]),
+    (4, &[(6, 0), (-3, 3)], &[(2, 4), (14, 4), (8, 10), (2, 4)]),
+    (
+        5,
+        &[(0, 3), (3, -3), (-3, -3)],
+        &[(2, 4), (2, 10), (8, 10), (8, 4), (2, 4)],
+    ),
+];
+
+fn is_polygon(alloc: Global, kind: u8, ways: &[(i64, i64)], outline: &[(i64, i64)]) -> bool {
+    let Ok(items) = moves(alloc, ways) else {
+        return false;
+    };
+    let points = Deltas { kind, items };
+    let mut shapes = List::new(alloc);
+    match draw_polygon(
+        alloc,
+        PAIR,
+        Point { x: 1, y: 2 },
+        &points,
+        None,
+        &mut shapes,
+    ) {
+        Ok(()) => is_one(&shapes, outline),
+        Err(_) => false,
+    }
+}
+
+fn are_polygons(alloc: Global, rows: &[(u8, &[(i64, i64)], &[(i64, i64)])]) -> bool {
+    for (kind, ways, outline) in rows {
+        if !is_polygon(alloc, *kind, ways, outline) {
+            return false;
+        }
+    }
+    true
+}
+
+#[test]
+fn polygons_of_each_kind(rt: HostRuntime) {
+    assert!(rt; are_polygons(rt.alloc(), &POLYGONS));
+}
+
+// The repetition of this kind: two dimensions, two spaces, a grid, spaces and moves.
+fn repetition(alloc: Global, kind: u8) -> Result<Rep, NoMemory> {
+    let spaces = numbers(alloc, &[5, 7])?;
+    let moves = moves(alloc, &[(5, -1), (0, 3)])?;
+    let (u, v) = (Point { x: 5, y: 1 }, Point { x: 0, y: -4 });
+    Ok(match kind {
+        0 => Rep::Same,
+        1 => Rep::Grid {
+            x_dim: 3,
+            y_dim: 2,
+            x_space: 5,
+            y_space: 7,
+        },
+        2 => Rep::Row { dim: 3, space: 5 },
+        3 => Rep::Column { dim: 3, space: 5 },
+        4 => Rep::RowSpaces { dim: 3, spaces },
+        5 => Rep::RowOnGrid {
+            dim: 3,
+            grid: 10,
+            spaces,
+        },
+        6 => Rep::ColumnSpaces { dim: 3, spaces },
+        7 => Rep::ColumnOnGrid {
+            dim: 3,
+            grid: 10,
+            spaces,
+        },
+        8 => Rep::Lattice {
+            n_dim: 2,
+            m_dim: 2,
+            u,
+            v,
+        },
+        9 => Rep::Line { dim: 3, u },
+        10 => Rep::Moves { dim: 3, moves },
+        _ => Rep::MovesOnGrid {
+            dim: 3,
+            grid: 10,
+            moves,
+        },
+    })
+}
+
+const REPEATED: [(u8, &[(i64, i64)]); 12] = [
+    (0, &[(0, 0)]),
+    (1, &[(0, 0), (10, 0), (20, 0), (0, 14), (10, 14), (20, 14)]),
+    (2, &[(0, 0), (10, 0), (20, 0)]),
+    (3, &[(0, 0), (0, 10), (0, 20)]),
+    (4, &[(0, 0), (10, 0), (24, 0)]),
+    (5, &[(0, 0), (100, 0), (240, 0)]),
+    (6, &[(0, 0), (0, 10), (0, 24)]),
+    (7, &[(0, 0), (0, 100), (0, 240)]),
+    (8, &[(0, 0), (10, 2), (0, -8), (10, -6)]),
+    (9, &[(0, 0), (10, 2), (20, 4)]),
+    (10, &[(0, 0), (10, -2), (10, 4)]),
+    (11, &[(0, 0), (100, -20), (100, 40)]),
+];
+
+fn are_offsets(offsets: &Offsets, wanted: &[(i64, i64)]) -> bool {
+    if offsets.count() != wanted.len() as u64 {
+        return false;
+    }
+    for (k, (x, y)) in wanted.iter().enumerate() {
+        let place = offsets.nth(k as u64);
+        if place.x != *x || place.y != *y {
+            return false;
+        }
+    }
+    true
+}
+
+fn is_repeated(alloc: Global, kind: u8, wanted: &[(i64, i64)]) -> bool {
+    let Ok(repetition) = repetition(alloc, kind) else {
+        return false;
+    };
+    match offsets_of(alloc, &repetition) {
+        Ok(offsets) => are_offsets(&offsets, wanted) && dimensions_are_allowed(&repetition),
+        Err(_) => false,
+    }
+}
+
+fn are_repeated(alloc: Global, rows: &[(u8, &[(i64, i64)])]) -> bool {
+    for (kind, wanted) in rows {
+        if !is_repeated(alloc, *kind, wanted) {
+            return false;
+        }
+    }
+    true
+}
+
+#[test]
+fn repetitions_of_each_kind(rt: HostRuntime) {
+    assert!(rt; are_repeated(rt.alloc(), &REPEATED));
+}
+
+fn rule_of(drawn: Result<(), Undrawn>) -> u8 {
+    match drawn {
+        Ok(()) => 0,
+        Err(Undrawn::Rule(rule)) => rule,
+        Err(Undrawn::NoMemory) => 255,
+    }
+}
+
+fn rule_of_figure(alloc: Global, figure: Figure, repetition: Option<&Rep>) -> u8 {
+    let mut shapes = List::new(alloc);
+    rule_of(draw_figure(alloc, PAIR, ORIGIN, figure, repetition, &mut shapes))
+}
+
+#[test]
+fn figures_by_their_lowest_rule(rt: HostRuntime) {
+    let alloc = rt.alloc();
+    let square = |side: u64| Figure::Rectangle {
+        width: side,
+        height: side,
+    };
+    let far = Rep::Row {
+        dim: 3,
+        space: 1 << 40,
+    };
+    let many = Rep::Row {
+        dim: 16_777_217,
+        space: 0,
+    };
+    let slanted = Figure::Horizontal {
+        width: 10,
+        height: 4,
+        a: 2,
+        b: 0,
+    };
+    assert_eq!(rt; rule_of_figure(alloc, square(1 << 40), None), 0);
+    assert_eq!(rt;
+        rule_of_figure(alloc, square((1 << 40) + 1), Some(&many)),
+        1
+    );
+    assert_eq!(rt; rule_of_figure(alloc, square(1), Some(&far)), 1);
+    assert_eq!(rt; rule_of_figure(alloc, slanted, Some(&far)), 1);
+    assert_eq!(rt; rule_of_figure(alloc, slanted, Some(&many)), 6);
+    assert_eq!(rt; rule_of_figure(alloc, slanted, None), 6);
+    assert_eq!(rt; rule_of_figure(alloc, square(1), Some(&many)), 11);
+}
+
+fn rule_of_path(alloc: Global, brush: Brush, ways: &[(i64, i64)]) -> u8 {
+    let Ok(items) = moves(alloc, ways) else {
+        return 255;
+    };
+    let points = Deltas { kind: 4, items };
+    let mut shapes = List::new(alloc);
+    rule_of(draw_path(alloc, PAIR, ORIGIN, brush, &points, None, &mut shapes))
+}
+
+#[test]
+fn paths_by_their_lowest_rule(rt: HostRuntime) {
+    let alloc = rt.alloc();
+    let brush = |half_width: u64, end: i128| Brush {
+        half_width,
+        start: 0,
+        end,
+    };
+    assert_eq!(rt; rule_of_path(alloc, brush(2, 0), &[(5, 0), (0, 5)]), 0);
+    assert_eq!(rt; rule_of_path(alloc, brush(2, 0), &[(5, 5)]), 8);
+    assert_eq!(rt; rule_of_path(alloc, brush(0, 0), &[(5, 5)]), 0);
+    assert_eq!(rt; rule_of_path(alloc, brush(0, 1 << 41), &[(5, 5)]), 1);
+    assert_eq!(rt; rule_of_path(alloc, brush(0, 0), &[(1 << 41, 0)]), 1);
+}
+
+#[test]
+fn a_path_with_its_ends(rt: HostRuntime) {
+    let items = moves(rt.alloc(), &[(10, 0)]).expect(&rt, "a list");
+    let points = Deltas { kind: 2, items };
+    let brush = Brush {
+        half_width: 2,
+        start: 1,
+        end: -3,
+    };
+    let mut shapes = List::new(rt.alloc());
+    let drawn = draw_path(rt.alloc(), PAIR, ORIGIN, brush, &points, None, &mut shapes);
+    assert!(rt; drawn.is_ok());
+    assert!(rt; is_one(&shapes, &[(-2, -4), (-2, 4), (14, 4), (14, -4), (-2, -4)]));
+}

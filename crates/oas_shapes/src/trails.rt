@@ -1,0 +1,193 @@
+//! Places along moves, in half units.
+ghost use Rattle.std.specs.Prelude.{◌≡◌, ◌-ℤ◌, List, [], ◌∷◌, map, OnOk, IfOk, Err};
+ghost use Rattle.half_grid.specs.declared.plane.Point.{Point as APoint};
+ghost use Rattle.layout_model.specs.Images.{enlarged, moved as place_after};
+ghost use Rattle.oas_shapes.specs.Plane.{IsNear, east, north, origin, doubled as in_halves, places_along};
+ghost use Rattle.oas_shapes.specs.PointLists.{added_up};
+ghost use Rattle.oas_shapes.specs.Rules.{AreNear};
+ghost use Rattle.oas_shapes.specs.Trails.{IsTrail};
+ghost use Rattle.oas_shapes.specs.Ways.{way_of, towards};
+ghost use Rattle.oas_shapes.specs.declared.trails.Unplaced.TheVariants.{Far, NoMemory as Wanting};
+
+use crate::wide::{ORIGIN, Wide, doubled, joined, moved, times, widened};
+use half_grid::Point;
+use smallvec::SmallVec;
+use std::alloc::Global;
+
+/// So many places take no memory.
+const FEW: usize = 12;
+
+/// Why places can't be listed.
+#[derive(Clone, Copy)]
+pub(crate) enum Unplaced {
+    /// One is more than 2^40 grid steps from 0.
+    Far,
+    /// A repetition's dimension is too large.
+    Many,
+    /// Memory was wanting.
+    NoMemory,
+}
+
+/// Places in half units.
+pub(crate) type Places = SmallVec<Point, FEW>;
+
+// The places so far, and the place that was reached.
+#[derive(Drop)]
+struct Trail {
+    listed: Places,
+    at: Point,
+}
+
+impl Trail {
+    fn new(alloc: Global, start: Point) -> Trail
+        requires { IsNear start }
+        ensures { (moves : List APoint) → IsTrail (places_along start moves) result moves }
+    {
+        Trail {
+            listed: SmallVec::new(alloc),
+            at: start,
+        }
+    }
+
+    // On to the next place.
+    fn go(&mut self, way: Wide) -> Result<(), Unplaced>
+        requires { IsNear self.old.at }
+        ensures on { (whole moves : List APoint) → IsTrail whole self.old (way_of way ∷ moves) → OnOk result (IsTrail whole self.new moves) }
+        ensures at { OnOk result (self.new.at ≡ place_after self.old.at (way_of way)) }
+        ensures far { (whole moves : List APoint) → IsTrail whole self.old (way_of way ∷ moves) → result ≡ Err Far → ¬ AreNear (map in_halves whole) }
+    {
+        let Some(next) = moved(self.at, way) else {
+            return Err(Unplaced::Far);
+        };
+        match self.listed.push(doubled(self.at)) {
+            Ok(()) => {
+                self.at = next;
+                Ok(())
+            }
+            Err(_) => Err(Unplaced::NoMemory),
+        }
+    }
+
+    // All places.
+    fn finish(self) -> Result<Places, Unplaced>
+        requires { IsNear self.at }
+        ensures places { (whole : List APoint) → IsTrail whole self [] → IfOk result (λ places. places.items ≡ map in_halves whole) }
+        ensures near { (whole : List APoint) → IsTrail whole self [] → AreNear (map in_halves whole) }
+        ensures far { (result ≡ Err Far) → ⊥ }
+    {
+        let mut listed = self.listed;
+        match listed.push(doubled(self.at)) {
+            Ok(()) => Ok(listed),
+            Err(_) => Err(Unplaced::NoMemory),
+        }
+    }
+}
+
+/// The places along these moves.
+pub(crate) fn along(alloc: Global, start: Point, moves: &[Point]) -> Result<Places, Unplaced>
+    requires { IsNear start }
+    ensures places { IfOk result (λ places. places.items ≡ map in_halves (places_along start moves.now)) }
+    ensures near { IfOk result (λ places. AreNear places.items) }
+    ensures far { result ≡ Err Far → ¬ AreNear (map in_halves (places_along start moves.now)) }
+{
+    let mut trail = Trail::new(alloc, start);
+    for step in moves {
+        match trail.go(widened(*step)) {
+            Ok(()) => (),
+            Err(bad) => return Err(bad),
+        }
+    }
+    trail.finish()
+}
+
+/// The places along moves each of which is added to the one before it.
+pub(crate) fn along_changes(
+    alloc: Global,
+    start: Point,
+    changes: &[Point],
+) -> Result<Places, Unplaced>
+    requires { IsNear start }
+    ensures places { IfOk result (λ places. places.items ≡ map in_halves (places_along start (added_up origin changes.now))) }
+    ensures near { IfOk result (λ places. AreNear places.items) }
+    ensures far { result ≡ Err Far → ¬ AreNear (map in_halves (places_along start (added_up origin changes.now))) }
+{
+    let mut trail = Trail::new(alloc, start);
+    let mut way = ORIGIN;
+    for change in changes {
+        let from = trail.at;
+        match trail.go(joined(way, *change)) {
+            Ok(()) => (),
+            Err(bad) => return Err(bad),
+        }
+        way = way_between(from, trail.at);
+    }
+    trail.finish()
+}
+
+/// The places along moves that are multiplied by a grid.
+pub(crate) fn along_grid(alloc: Global, grid: u64, moves: &[Point]) -> Result<Places, Unplaced>
+    ensures places { IfOk result (λ places. places.items ≡ map in_halves (places_along origin (map (enlarged grid) moves.now))) }
+    ensures near { IfOk result (λ places. AreNear places.items) }
+    ensures far { result ≡ Err Far → ¬ AreNear (map in_halves (places_along origin (map (enlarged grid) moves.now))) }
+{
+    let mut trail = Trail::new(alloc, ORIGIN);
+    for step in moves {
+        let Some(way) = times(grid, widened(*step)) else {
+            return Err(Unplaced::Far);
+        };
+        match trail.go(way) {
+            Ok(()) => (),
+            Err(bad) => return Err(bad),
+        }
+    }
+    trail.finish()
+}
+
+/// The places along a row, or along a column where it is upright, at these spaces times the grid.
+pub(crate) fn along_spaces(
+    alloc: Global,
+    is_upright: bool,
+    grid: u64,
+    spaces: &[u64],
+) -> Result<Places, Unplaced>
+    ensures places { IfOk result (λ places. places.items ≡ map in_halves (places_along origin (map (λ space. enlarged grid (towards is_upright space)) spaces.now))) }
+    ensures near { IfOk result (λ places. AreNear places.items) }
+    ensures far { result ≡ Err Far → ¬ AreNear (map in_halves (places_along origin (map (λ space. enlarged grid (towards is_upright space)) spaces.now))) }
+{
+    let mut trail = Trail::new(alloc, ORIGIN);
+    for space in spaces {
+        let Some(way) = times(grid, towards(is_upright, *space)) else {
+            return Err(Unplaced::Far);
+        };
+        match trail.go(way) {
+            Ok(()) => (),
+            Err(bad) => return Err(bad),
+        }
+    }
+    trail.finish()
+}
+
+// A distance to the right or upward.
+pub(crate) fn towards(is_upright: bool, space: u64) -> Wide
+    ensures { way_of result ≡ towards is_upright space }
+{
+    let space = i128::from(space);
+    if is_upright {
+        Wide { x: 0, y: space }
+    } else {
+        Wide { x: space, y: 0 }
+    }
+}
+
+// The move from one place to another.
+fn way_between(from: Point, to: Point) -> Point
+    requires from { IsNear from }
+    requires to { IsNear to }
+    ensures x { result.x ≡ to.x -ℤ from.x }
+    ensures y { result.y ≡ to.y -ℤ from.y }
+{
+    Point {
+        x: to.x - from.x,
+        y: to.y - from.y,
+    }
+}
