@@ -180,6 +180,7 @@ fn are(traps: &[Trap], wanted: &[[i64; 6]]) -> bool {
 }
 
 fn all_rows_hold(rt: &impl Abort, alloc: Global, deck: &[u8], rows: &[Row]) {
+    assert!(rt; deck.len() <= 65_536);
     let deck = read_deck(alloc, deck, "layout", "deck").expect(rt, "a deck");
     let tree = tree_for(rt, alloc, &deck);
     let plan = Plan::new(alloc, &deck, &tree).expect(rt, "memory");
