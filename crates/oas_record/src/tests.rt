@@ -107,7 +107,7 @@ const NAMED: [Case; 24] = [
 ];
 
 // The kinds of reals, in START, and of property values.
-const VALUES: [Case; 10] = [
+const VALUES: [Case; 17] = [
     (
         &[0x01, 0, 1, 5, 1],
         "unit: Real { kind: 1, a: 5, b: 0 }, offset_flag: 1, tables: None }",
@@ -148,6 +148,35 @@ const VALUES: [Case; 10] = [
     (
         &[0x1C, 0x0C, 1, 0x41],
         "Property { info: 12, name: Some(Text(3, 4)), count: None, values: None }",
+    ),
+    // Each bit of the info byte alone.
+    (
+        &[0x1C, 0x01],
+        "Property { info: 1, name: None, count: None, values: Some((2, 2)) }",
+    ),
+    (
+        &[0x1C, 0x02],
+        "Property { info: 2, name: None, count: None, values: Some((2, 2)) }",
+    ),
+    (
+        &[0x1C, 0x04, 1, 0x41],
+        "Property { info: 4, name: Some(Text(3, 4)), count: None, values: Some((4, 4)) }",
+    ),
+    (
+        &[0x1C, 0x08],
+        "Property { info: 8, name: None, count: None, values: None }",
+    ),
+    (
+        &[0x1C, 0x20, 8, 5, 8, 6],
+        "Property { info: 32, name: None, count: None, values: Some((2, 6)) }",
+    ),
+    (
+        &[0x1C, 0x40, 8, 5, 8, 6, 8, 7, 8, 8],
+        "Property { info: 64, name: None, count: None, values: Some((2, 10)) }",
+    ),
+    (
+        &[0x1C, 0x80, 8, 1, 8, 2, 8, 3, 8, 4, 8, 5, 8, 6, 8, 7, 8, 8],
+        "Property { info: 128, name: None, count: None, values: Some((2, 18)) }",
     ),
 ];
 
