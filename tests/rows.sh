@@ -211,6 +211,19 @@ layout 'cell C' "$small" 'cell TOP' 'sref C mag=4120000000000000 0,0'
 cells=2 row 'enlarged' 256 '0 16 0 16 16 16'
 layout 'cell C' "$small" 'cell TOP' 'sref C flip mag=2 angle=270 100,200'
 cells=2 row 'enlarged, flipped and turned' 256 '384 400 184 200 200 200'
+# A piece that no reflection or turn leaves as it is, in all eight orientations, in a cell that is flipped, turned and
+# enlarged itself.
+layout 'cell P' 'boundary 1 0 0,0 6,0 6,2 2,2' 'cell M' \
+    'sref P angle=0 0,0' 'sref P angle=90 20,0' 'sref P angle=180 40,0' 'sref P angle=270 60,0' \
+    'sref P flip angle=0 0,20' 'sref P flip angle=90 20,20' 'sref P flip angle=180 40,20' 'sref P flip angle=270 60,20' \
+    'cell TOP' 'sref M flip mag=3 angle=90 1000,1000'
+cells=3 row 'all orientations' 5760 \
+    '2000 2012 2000 2000 2000 2012' '2000 2012 2120 2120 2108 2120' \
+    '2012 2036 2000 2012 2000 2012' '2012 2036 2108 2120 2108 2120' \
+    '2108 2120 2012 2036 2000 2036' '2120 2132 2120 2156 2132 2156' \
+    '2204 2228 1988 2000 1988 2000' '2204 2228 2120 2132 2120 2132' \
+    '2228 2240 1988 2000 2000 2000' '2228 2240 2120 2132 2120 2120' \
+    '2348 2360 2084 2108 2084 2120' '2360 2372 1964 2000 1964 1988'
 layout 'cell C' "$small" 'cell TOP' 'sref C mag=4210000000000000 0,0'
 accepted 'enlarged by 16'
 layout 'cell C' "$small" 'cell TOP' 'sref C mag=4211000000000000 0,0'
