@@ -1,20 +1,24 @@
 //! Measures single layers on inputs that it makes in memory, and prints how long each took. `make bench` runs it.
 #![tactic(auto)]
 
+mod agreeing;
 mod layouts;
+mod memory;
 mod shapes;
 
+use agreeing::{Agreement, sweep_both_ways};
 use bool_ops::{Op, combine};
 use gds_reader::read_gds;
 use half_grid::{Trap, Window};
 use layout_model::Pair;
+use memory::greatest_memory;
 use std::alloc::{AllocError, Global};
 use std::process::ExitCode;
 use std::time::Instant;
 use std::{env, io};
 
 /// No input is larger than this.
-const MOST: u32 = 4_000_000;
+const MOST: u32 = 16_000_000;
 
 /// What the words ask for.
 enum Task {
@@ -30,8 +34,12 @@ enum Task {
     Pile(u32),
     /// So many random rectangles, and upright wires over all of them.
     Wires(u32),
+    /// Wires with so many corners in all, each corner a jog.
+    Jogs(u32),
     /// A GDSII file of so many rectangles.
     Gds(u32),
+    /// So many random cases, in columns and at once.
+    Agree(u32),
 }
 
 fn task_of(kind: &str, count: u32) -> Option<Task> {
@@ -45,6 +53,8 @@ fn task_of(kind: &str, count: u32) -> Option<Task> {
         "hatch" => Some(Task::Hatch(count.min(1000))),
         "pile" => Some(Task::Pile(count.min(10_000))),
         "wires" => Some(Task::Wires(count)),
+        "jogs" => Some(Task::Jogs(count)),
+        "agree" => Some(Task::Agree(count)),
         "gds" => Some(Task::Gds(count)),
         _ => None,
     }
@@ -68,9 +78,10 @@ fn unite(rt: &HostRuntime, alloc: Global, kind: &str, traps: &[Trap]) -> io::Res
     };
     let milliseconds = start.elapsed(rt)?.as_millis();
     println!(rt;
-        "{kind}: {} shapes, {} maximal trapezoids, {milliseconds} ms",
+        "{kind}: {} shapes, {} maximal trapezoids, {milliseconds} ms, {} MB",
         traps.len(),
-        joined.len()
+        joined.len(),
+        greatest_memory(rt)
     )
 }
 
@@ -87,8 +98,9 @@ fn read(rt: &HostRuntime, alloc: Global, bytes: &[u8]) -> io::Result<()> {
         Ok(layout) => {
             let kept = layout.counts.kept;
             println!(rt;
-                "gds: {} bytes, {kept} shapes, {milliseconds} ms",
-                bytes.len()
+                "gds: {} bytes, {kept} shapes, {milliseconds} ms, {} MB",
+                bytes.len(),
+                greatest_memory(rt)
             )
         }
         Err(_) => println!(rt; "gds: refused"),
@@ -103,6 +115,16 @@ fn unite_made(rt: &HostRuntime, kind: &str, made: Result<Vec<Trap>, AllocError>)
     }
 }
 
+fn compare(rt: &HostRuntime, alloc: Global, count: u32) -> io::Result<()> {
+    match sweep_both_ways(alloc, count) {
+        Agreement::All(traps) => println!(rt;
+            "agree: {count} cases, {traps} maximal trapezoids both ways"
+        ),
+        Agreement::NotIn(number) => println!(rt; "agree: case {number} differs"),
+        Agreement::Unknown => println!(rt; "agree: want of memory"),
+    }
+}
+
 fn measure(rt: &HostRuntime, alloc: Global, task: Task) -> io::Result<()> {
     match task {
         Task::Squares(side) => unite_made(rt, "squares", shapes::squares(alloc, side)),
@@ -111,6 +133,8 @@ fn measure(rt: &HostRuntime, alloc: Global, task: Task) -> io::Result<()> {
         Task::Hatch(count) => unite_made(rt, "hatch", shapes::hatch(alloc, count)),
         Task::Pile(count) => unite_made(rt, "pile", shapes::pile(alloc, count)),
         Task::Wires(count) => unite_made(rt, "wires", shapes::wires(alloc, count)),
+        Task::Jogs(count) => unite_made(rt, "jogs", shapes::jogs(alloc, count)),
+        Task::Agree(count) => compare(rt, alloc, count),
         Task::Gds(count) => match layouts::file(alloc, count) {
             Ok(bytes) => read(rt, alloc, bytes.as_slice()),
             Err(_) => println!(rt; "gds: want of memory"),
@@ -126,7 +150,7 @@ fn run(rt: &HostRuntime) -> io::Result<()> {
     match asked(words.as_slice()) {
         Some(task) => measure(rt, alloc, task),
         None => println!(rt;
-            "words: squares SIDE or hatch SIDE, random, comb, pile, wires or gds COUNT; up to {MOST}"
+            "words: squares SIDE or hatch SIDE, random, comb, pile, wires, jogs, gds or agree COUNT; up to {MOST}"
         ),
     }
 }

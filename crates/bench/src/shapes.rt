@@ -122,3 +122,68 @@ pub(crate) fn wires(alloc: Global, count: u32) -> Result<Vec<Trap>, AllocError> 
     }
     Ok(traps)
 }
+
+/// Level wires with jogs, so many corners in all: each wire is a row of five hundred rectangles, each a little higher or
+/// lower than the one before.
+pub(crate) fn jogs(alloc: Global, corners: u32) -> Result<Vec<Trap>, AllocError> {
+    let mut traps = Vec::new(alloc);
+    let mut state = 2u64;
+    let mut x = 0i64;
+    let mut y = 0i64;
+    for k in 0..corners / 4 {
+        if k % 500 == 0 {
+            x = 0;
+            y = 800i64.saturating_mul(i64::from(k / 500));
+        }
+        let width = next(state);
+        let jog = next(width);
+        state = jog;
+        let step = below(width, 200).saturating_add(100);
+        put(&mut traps, x, y, step, 400)?;
+        x = x.saturating_add(step);
+        y = y.saturating_add(below(jog, 81)).saturating_sub(40);
+    }
+    Ok(traps)
+}
+
+// A random line through about this X in the rows from about this Y on: upright, or a slanted one.
+fn line_by(state: u64, x: i64, y: i64) -> Line {
+    match below(state, 3) {
+        0 => Line::Upright(x),
+        1 => Line::Rising(x.saturating_sub(y) / 2),
+        _ => Line::Falling(x.saturating_add(y) / 2),
+    }
+}
+
+/// So many random trapezoids with upright and slanted sides, and the number from which the next are made. They lie on
+/// few X and few Y, so that corners and sides often meet.
+pub(crate) fn slanted(
+    alloc: Global,
+    count: u32,
+    from: u64,
+) -> Result<(Vec<Trap>, u64), AllocError> {
+    let mut traps = Vec::new(alloc);
+    let mut state = from;
+    for _ in 0..count {
+        let x = next(state);
+        let y = next(x);
+        let width = next(y);
+        let height = next(width);
+        let left = next(height);
+        let right = next(left);
+        state = right;
+        let low = below(y, 900);
+        let start = below(x, 400);
+        let end = start.saturating_add(below(width, 40));
+        let trap = Trap::new(
+            low,
+            low.saturating_add(below(height, 80)).saturating_add(1),
+            line_by(left, start, low),
+            line_by(right, end, low),
+        );
+        if let Some(trap) = trap {
+            traps.push(trap)?;
+        }
+    }
+    Ok((traps, state))
+}

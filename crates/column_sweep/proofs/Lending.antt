@@ -1,5 +1,5 @@
 -- A rule that asks another one.
-use Rattle.std.proofs.Common.{List, ℤ, pos, Bool, true, false, IsTrue, arith, ◌≡◌, refl, sym, subst}
+use Rattle.std.proofs.Common.{List, ℤ, pos, Bool, true, false, IsTrue, arith, ◌≡◌, refl, sym, subst, Option, Some, None}
 use Rattle.std.proofs.lemmas.Int.{ints}
 use Rattle.std.specs.Prelude.{◌↔◌}
 use Rattle.half_grid.specs.Edges.{EdgeParts}
@@ -8,7 +8,12 @@ use Rattle.half_grid.specs.Windows.{RowRange}
 use Rattle.half_grid.specs.declared.plane.Tile.{Tile}
 use Rattle.trap_join.specs.Joins.{IsTakenIn}
 use Rattle.scan_line.specs.Rules.{IsWinding, IsTheAnswer, IsRule, Takes}
+use Rattle.column_sweep.specs.Looking.{IsFirstTaken}
 use Rattle.column_sweep.specs.Sweeps.{IsSwept}
+use Rattle.column_sweep.specs.Tries.{IsTried}
+use Rattle.column_sweep.specs.declared.sweep.Tried.{Tried}
+use Rattle.column_sweep.specs.declared.sweep.Tried.TheVariants.{Whole, GivenUp}
+use Rattle.column_sweep.specs.declared.lowest_tile.LowestTile.{LowestTile}
 
 no_winding : IsWinding (pos 0)
 no_winding = record { low = omega (arith, ints); high = omega (arith, ints) }
@@ -50,3 +55,16 @@ module _ (post : ℤ → ℤ → Bool → Type 0) (gives : ℤ → ℤ → Bool 
     joined = h.joined;
     covers = record { once = λ t a. h.covers.once t (taken_lent edges window t a); never = λ t no. h.covers.never t (λ a. no (lent_taken edges window t a)) };
   }
+
+  pub lent_first : (edges : List EdgeParts) (window : RowRange) (answer : Option LowestTile) → IsFirstTaken gives edges window answer → IsFirstTaken post edges window answer
+  lent_first edges window None none = λ t taken. none t (taken_lent edges window t taken)
+  lent_first edges window (Some found) lowest = record {
+    taken = lent_taken edges window found.tile lowest.taken;
+    a = lowest.a;
+    b = lowest.b;
+    first = λ t taken. lowest.first t (taken_lent edges window t taken);
+  }
+
+  pub lent_tried : (edges : List EdgeParts) (window : RowRange) (tried : Tried) → IsTried gives edges window tried → IsTried post edges window tried
+  lent_tried edges window (Whole traps) h = lent_swept edges window traps.items h
+  lent_tried edges window (GivenUp rest) h = h

@@ -2,6 +2,7 @@ mod InColumns
 mod Rests
 mod Sweeping
 mod LowestTiles
+mod LookedColumns
 mod OperandEdges
 mod Adding
 mod Closing

@@ -27,10 +27,10 @@ use Rattle.column_sweep.proofs.Awaiting.{right_of_least}
 use Rattle.column_sweep.proofs.Closing.{right_of_left, left_of_right}
 use Rattle.column_sweep.proofs.Progressing.{column_swept}
 
--- these edges wind in the column as all do, and round no tile outside of it in the window's rows
+-- in the window's rows these edges wind in the column as all do, and round no tile outside of it
 pub record WindInColumn (window : RowRange) (from x : ℤ) (edges own : List EdgeParts) : Type 0 where
-  pub same : (o : Operand) (t : Tile) → IsInColumn from x t → edges_winding o own t ≡ edges_winding o edges t
-  pub left : (o : Operand) (t : Tile) → t.i <ℤ from → edges_winding o own t ≡ pos 0
+  pub same : (o : Operand) (t : Tile) → window.y0 ≤ℤ t.j → t.j <ℤ window.y1 → IsInColumn from x t → edges_winding o own t ≡ edges_winding o edges t
+  pub left : (o : Operand) (t : Tile) → window.y0 ≤ℤ t.j → t.j <ℤ window.y1 → t.i <ℤ from → edges_winding o own t ≡ pos 0
   pub right : (o : Operand) (t : Tile) → window.y0 ≤ℤ t.j → t.j <ℤ window.y1 → x ≤ℤ t.i → edges_winding o own t ≡ pos 0
 
 takes_as : (post : ℤ → ℤ → Bool → Type 0) (a b c d : ℤ) → a ≡ c → b ≡ d → Takes post a b → Takes post c d
@@ -40,20 +40,20 @@ module _ (pre : ℤ → ℤ → Type 0) (post : ℤ → ℤ → Bool → Type 0)
   not_taken : (t : Tile) → edges_winding A own t ≡ pos 0 → edges_winding B own t ≡ pos 0 → IsTakenIn post own window t → ⊥
   not_taken t a b h = takes_no_nothing pre post rule (takes_as post _ _ (pos 0) (pos 0) a b h.taken)
 
-  column_of : (t : Tile) → IsTakenIn post own window t → IsInColumn from x t
+  pub column_of : (t : Tile) → IsTakenIn post own window t → IsInColumn from x t
   column_of t h = record {
-    from_left = by_lt_z t.i from (λ lt. absurd (not_taken t (winds.left A t lt) (winds.left B t lt) h)) (λ ge. ge);
+    from_left = by_lt_z t.i from (λ lt. absurd (not_taken t (winds.left A t h.from h.below lt) (winds.left B t h.from h.below lt) h)) (λ ge. ge);
     below_right = by_lt_z t.i x (λ lt. lt) (λ ge. absurd (not_taken t (winds.right A t h.from h.below ge) (winds.right B t h.from h.below ge) h));
   }
 
-  own_to_area : (t : Tile) → IsTakenIn post own window t → IsTakenIn post edges window t
+  pub own_to_area : (t : Tile) → IsTakenIn post own window t → IsTakenIn post edges window t
   own_to_area t h =
       let c = column_of t h in
-      record { from = h.from; below = h.below; taken = takes_as post (edges_winding A own t) (edges_winding B own t) (edges_winding A edges t) (edges_winding B edges t) (winds.same A t c) (winds.same B t c) h.taken }
+      record { from = h.from; below = h.below; taken = takes_as post (edges_winding A own t) (edges_winding B own t) (edges_winding A edges t) (edges_winding B edges t) (winds.same A t h.from h.below c) (winds.same B t h.from h.below c) h.taken }
 
-  area_to_own : (t : Tile) → IsInColumn from x t → IsTakenIn post edges window t → IsTakenIn post own window t
+  pub area_to_own : (t : Tile) → IsInColumn from x t → IsTakenIn post edges window t → IsTakenIn post own window t
   area_to_own t c h =
-      record { from = h.from; below = h.below; taken = takes_as post (edges_winding A edges t) (edges_winding B edges t) (edges_winding A own t) (edges_winding B own t) (sym (winds.same A t c)) (sym (winds.same B t c)) h.taken }
+      record { from = h.from; below = h.below; taken = takes_as post (edges_winding A edges t) (edges_winding B edges t) (edges_winding A own t) (edges_winding B own t) (sym (winds.same A t h.from h.below c)) (sym (winds.same B t h.from h.below c)) h.taken }
 
   -- with the trapezoids of the column the area is swept up to its right side
   pub further : (low : ℤ) → low ≤ℤ from → from <ℤ x → (finals seams insides crossings : List Trapezoid) → AreSweptTo (IsTakenIn post edges window) window low from finals seams
@@ -73,8 +73,8 @@ module _ (edges rest later own beyond : List EdgeParts) (from x : ℤ) (from_x :
 
   pub part_winds : (window : RowRange) → WindInColumn window from x edges own
   part_winds window = record {
-    same = λ o t c. rest_left o t c.below_right ∙ left.same o t c.from_left;
-    left = λ o t lt. rest_left o t (omega (arith, ints, lt, from_x)) ∙ left.nothing o t lt;
+    same = λ o t _ _ c. rest_left o t c.below_right ∙ left.same o t c.from_left;
+    left = λ o t _ _ lt. rest_left o t (omega (arith, ints, lt, from_x)) ∙ left.nothing o t lt;
     right = λ o t a b ge. parts.left_only o t ge;
   }
 
@@ -133,8 +133,8 @@ rest_balanced from edges rest window left h = λ o j a b. balanced_by_sum o j re
 
 pub last_winds : (window : RowRange) (from : ℤ) (edges rest : List EdgeParts) → from <ℤ pos (2 ^ 44 + 1) → All IsEdge edges → IsBalanced edges window → AreLeft from edges rest → WindInColumn window from (pos (2 ^ 44 + 1)) edges rest
 last_winds window from edges rest from_x known balanced left = record {
-  same = λ o t c. left.same o t c.from_left;
-  left = λ o t lt. left.nothing o t lt;
+  same = λ o t _ _ c. left.same o t c.from_left;
+  left = λ o t _ _ lt. left.nothing o t lt;
   right = λ o t a b ge. left.same o t (omega (arith, ints, ge, from_x))
       ∙ right_of_left o (pos (2 ^ 44 + 1)) t edges (All-weaker IsEdge (LiesLeft (pos (2 ^ 44 + 1))) edge_left edges known) ge
       ∙ sum_by_balance o t.j edges (balanced o t.j a b);

@@ -1,10 +1,14 @@
 -- What a scan's joined list is for the edges that the scan was given, in whatever order it keeps them.
 use Rattle.std.proofs.Common.{◌≡◌, ℤ, Bool, List, IsPermutation}
+use Rattle.std.proofs.lemmas.List.Sorted.{IsPermutation-trans}
 use Rattle.half_grid.specs.Edges.{EdgeParts}
 use Rattle.half_grid.specs.Trapezoids.{Trapezoid}
 use Rattle.half_grid.specs.Windows.{RowRange}
 use Rattle.scan_line.proofs.ForCallers.{taken_permuted}
 use Rattle.column_sweep.specs.Sweeps.{IsSwept}
+use Rattle.column_sweep.specs.Tries.{IsTried}
+use Rattle.column_sweep.specs.declared.sweep.Tried.{Tried}
+use Rattle.column_sweep.specs.declared.sweep.Tried.TheVariants.{Whole, GivenUp}
 
 module _ {F : Type 0} (post : F → ℤ → ℤ → Bool → Type 0) where
   pub swept_of_given : (rule own : F) (edges others : List EdgeParts) (window range : RowRange) → own ≡ rule → IsPermutation edges others → range ≡ window
@@ -18,3 +22,8 @@ module _ {F : Type 0} (post : F → ℤ → ℤ → Bool → Type 0) where
           never = λ t not. swept.covers.never t (λ taken. not (record { from = taken.from; below = taken.below; taken = (taken_permuted (post rule) edges others t same).0 taken.taken }));
         };
       }
+
+  pub tried_of_given : (rule own : F) (edges others : List EdgeParts) (window range : RowRange) → own ≡ rule → IsPermutation edges others → range ≡ window
+      → (tried : Tried) → IsTried (post own) edges range tried → IsTried (post rule) others window tried
+  tried_of_given rule own edges others window range r same w (Whole traps) h = swept_of_given rule own edges others window range r same w traps.items h
+  tried_of_given rule own edges others window range r same w (GivenUp rest) h = IsPermutation-trans rest.items edges others h same

@@ -1,6 +1,8 @@
 pub mod Sweeps
+pub mod Tries
 pub mod ColumnLaws
 pub mod Lowest
+pub mod Looking
 pub mod Operands
 pub mod RowSums
 pub mod Steps

@@ -42,8 +42,8 @@ struct Progress {
     sewn: Sewn,
 }
 
-// A cut left of all edges.
-fn before_all() -> Cut
+/// A cut left of all edges.
+pub(crate) fn before_all() -> Cut
     ensures { result.x ≡ negsuc (2 ^ 44) }
 {
     Cut { x: -REACH - 1 }
@@ -56,8 +56,8 @@ fn behind_all() -> Cut
     Cut { x: REACH + 1 }
 }
 
-// Whether the cut is right of the other, and within reach.
-fn is_next(from: Cut, cut: Cut) -> bool
+/// Whether the cut is right of the other, and within reach.
+pub(crate) fn is_next(from: Cut, cut: Cut) -> bool
     ensures right { result ≡ true → from.x <ℤ cut.x }
     ensures within { result ≡ true → IsWithinReach cut.x }
 {
@@ -196,8 +196,8 @@ fn finish<F: Fn(i128, i128) -> bool + Drop>(
     Ok(sewn)
 }
 
-// What each item of a list of edges is, from its own promise.
-fn know_edges(edges: &[Edge])
+/// What each item of a list of edges is, from its own promise.
+pub(crate) fn know_edges(edges: &[Edge])
     ensures { All IsEdge edges.now }
 {
     for edge in edges {

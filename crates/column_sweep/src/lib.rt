@@ -6,6 +6,7 @@
 mod columns;
 mod cuts;
 mod laws;
+mod looking;
 mod lowest_tile;
 mod operands;
 mod parting;
@@ -17,6 +18,7 @@ mod tests;
 mod waiting;
 
 pub use laws::column_laws;
-pub use lowest_tile::{LowestTile, lowest};
+pub use looking::lowest;
+pub use lowest_tile::LowestTile;
 pub use operands::operand_edges;
-pub use sweep::swept;
+pub use sweep::{plain, swept};

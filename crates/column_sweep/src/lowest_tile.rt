@@ -1,9 +1,10 @@
-ghost use Rattle.std.specs.Prelude.{◌≡◌, IfOk, IfSome, IfNone};
+ghost use Rattle.std.specs.Prelude.{◌≡◌, ◌↔◌, IsTrue, IfOk, IfSome, IfNone};
 ghost use Rattle.half_grid.specs.Rows.{number_in_row, place};
 ghost use Rattle.half_grid.specs.Trapezoids.{IsShot, trapezoid};
-ghost use Rattle.scan_line.specs.Rules.{IsRule};
+ghost use Rattle.scan_line.specs.Rules.{IsRule, IsWinding, Takes};
 ghost use Rattle.scan_line.specs.Runs.{IsBalanced};
 ghost use Rattle.column_sweep.specs.Lowest.{IsLowest, TakesNone};
+ghost use Rattle.column_sweep.specs.Looking.{IsFirstTaken};
 
 use geo_stream::NoMemory;
 use half_grid::{Edge, Tile, Window, place_of, tile_at};
@@ -49,22 +50,26 @@ fn first_taken<F: Fn(i128, i128) -> bool + Drop>(scan: &mut Scan<F>) -> Option<L
     None
 }
 
-/// The lowest tile of the window that the rule takes, leftmost in its row, with its windings. None exactly where the
-/// rule takes no tile of the window. Want of memory is the only refusal. In each row of the window each operand has as
-/// many edges that go up as edges that go down.
-///
-/// It sweeps from below and ends at the first slab with a tile that is taken, so above it nothing is looked at.
-pub fn lowest<F: Fn(i128, i128) -> bool + Drop>(
+/// The lowest tile of the rows that a lent rule takes, leftmost in its row, by one sweep from below. It ends at the
+/// first slab with such a tile.
+pub(crate) fn lowest_within<F: Fn(i128, i128) -> bool + Drop>(
     alloc: Global,
     edges: Vec<Edge>,
-    window: Window,
-    rule: Rule<F>,
+    rows: Window,
+    rule: &Rule<F>,
 ) -> Result<Option<LowestTile>, NoMemory>
-    requires rule { IsRule (F.pre rule) (F.post rule) }
-    requires balanced { IsBalanced edges.items window }
-    ensures found { IfOk result (λ answer. IfSome answer (IsLowest (F.post rule) edges.items window)) }
-    ensures none { IfOk result (λ answer. IfNone answer (TakesNone (F.post rule) edges.items window)) }
+    requires rule { IsRule (F.pre rule.now) (F.post rule.now) }
+    requires balanced { IsBalanced edges.items rows }
+    ensures { IfOk result (IsFirstTaken (F.post rule.now) edges.items rows) }
 {
-    let mut scan = Scan::begin(alloc, edges, window, rule)?;
+    let asked = Rule::new(
+        |a: i128, b: i128| -> bool
+            requires rule { IsRule (F.pre rule.now) (F.post rule.now) }
+            requires first { IsWinding a }
+            requires second { IsWinding b }
+            ensures { IsTrue result ↔ Takes (F.post rule.entry.now) a b }
+        { rule.asks(a, b) },
+    );
+    let mut scan = Scan::begin(alloc, edges, rows, asked)?;
     Ok(first_taken(&mut scan))
 }
