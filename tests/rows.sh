@@ -440,15 +440,29 @@ rm out.oas
 check 'a missing file' judged 4 $'read fault\n'
 check 'no file is made' test ! -e out.oas
 
-# one tile too many at a slanted side, for the records of each of the three kinds of slanted shots
+# slanted WHAT HEAD SIDE: a slanted shot that is missing or given twice, of which the tile on this side of the unit square at
+# (0, 0) is the first, and one that is moved by a half unit, so that its side is on no line of the half grid
+slanted() {
+    differs "$1: missing" '' "tile 0 0 $3 count 0 wanted 1"
+    differs "$1: doubled" "$2 00 00 $2 00 00" "tile 0 0 $3 count 2 wanted 1"
+    differs "$1: moved right by a half unit" "$2 02 00" 'illegal at 41'
+    differs "$1: moved up by a half unit" "$2 00 02" 'illegal at 41'
+    differs "$1: moved right by a grid step" "$2 04 00" "tile 0 0 $3 count 0 wanted 1"
+    differs "$1: moved up by a grid step" "$2 00 04" "tile 0 0 $3 count 0 wanted 1"
+}
+
+# the records of each of the three kinds of slanted shots, and one tile too many at a slanted side
 layout 'cell TOP' "$triangle"
 exact 'a rising left side' '18 7B 01 00 14 14 28 00 00' 1 400
+slanted 'a rising left side' '18 7B 01 00 14 14 28' right
 differs 'a tile too many at a rising left side' '18 7B 01 00 14 13 26 00 00 14 7B 01 00 01 01 26 26' 'tile 19 19 left count 1 wanted 0'
 layout 'cell TOP' 'boundary 1 0 0,0 10,0 0,10'
 exact 'a falling right side' '19 7B 01 00 14 14 29 00 00' 1 400
+slanted 'a falling right side' '19 7B 01 00 14 14 29' left
 differs 'a tile too many at a falling right side' '19 7B 01 00 14 13 27 00 00 14 7B 01 00 01 01 00 26' 'tile 0 19 right count 1 wanted 0'
 layout 'cell TOP' 'boundary 1 0 0,0 20,0 15,5 5,5'
 exact 'two slanted sides' '17 7B 01 00 28 0A 14 15 00 00' 1 600
+slanted 'two slanted sides' '17 7B 01 00 28 0A 14 15' right
 differs 'a tile too many at two slanted sides' '17 7B 01 00 28 09 12 13 00 00 14 7B 01 00 16 01 12 12' 'tile 9 9 left count 1 wanted 0'
 
 layout 'cell TOP' "$square"
