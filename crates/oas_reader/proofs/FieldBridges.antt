@@ -1,0 +1,112 @@
+-- What the program keeps is what the records say.
+use Rattle.std.proofs.Common.{◌≡◌, ℕ, ℤ, Bool, true, false, if◌then◌else◌, nat_le, Option, Some, None, List, [], ◌∷◌, ◌++◌, refl, sym, ap, ◌∙◌}
+use Rattle.oas_record.specs.Taken.{repetition_in}
+use Rattle.oas_record.specs.declared.records.OasRecord.{OasRecord}
+use Rattle.oas_record.specs.declared.records.OasRecord.TheVariants as records
+use Rattle.oas_record.specs.declared.repetition.Rep.{Rep}
+use Rattle.oas_shapes.specs.Repetitions.{offsets_in}
+use Rattle.oas_fields.specs.Values.{AreFields, or_else, kind_of}
+use Rattle.oas_fields.specs.declared.fields.Fields.{Fields}
+use Rattle.oas_fields.specs.declared.variables.Variable.{Variable}
+use Rattle.oas_fields.specs.declared.variables.Variable.TheVariants.{Layer, Datatype, GeometryW, GeometryH, PolygonPoints, PathHalfWidth, PathStart, PathEnd, PathPoints, CtrapezoidType, PlacementCell, Repetition}
+use Rattle.oas_reader.specs.Bodies.{body_of}
+use Rattle.oas_reader.specs.Drawn.{shapes_in, pair_in}
+use Rattle.oas_reader.specs.Kept.{fields_at, is_defined_in, first_in, form_needs, has_a_pair, pair_needs, repetition_needs, undefined_in}
+use Rattle.oas_reader.specs.Meaning.{shapes_drawn, pair_of}
+use Rattle.oas_reader.specs.Undefined.{is_there, is_defined, repeated, needs_of, first_undefined, undefined_of}
+
+-- ---- values that are needed
+
+is_defined_by : (past : List OasRecord) (fields : Fields) → AreFields past fields → (variable : Variable)
+    → is_defined_in fields variable ≡ is_defined past variable
+is_defined_by past fields a Layer = ap is_there a.layer
+is_defined_by past fields a Datatype = ap is_there a.datatype
+is_defined_by past fields a GeometryW = ap is_there a.width
+is_defined_by past fields a GeometryH = ap is_there a.height
+is_defined_by past fields a PolygonPoints = ap is_there a.polygon_points
+is_defined_by past fields a PathHalfWidth = ap is_there a.half_width
+is_defined_by past fields a PathStart = ap is_there a.start
+is_defined_by past fields a PathEnd = ap is_there a.end
+is_defined_by past fields a PathPoints = ap is_there a.path_points
+is_defined_by past fields a CtrapezoidType = ap is_there a.kind
+is_defined_by past fields a PlacementCell = ap is_there a.cell
+is_defined_by past fields a Repetition = ap is_there a.repetition
+
+first_by : (past : List OasRecord) (fields : Fields) → AreFields past fields → (variables : List Variable)
+    → first_in fields variables ≡ first_undefined past variables
+first_by past fields a [] = refl
+first_by past fields a (variable ∷ variables) =
+    rw (is_defined_by past fields a variable, first_by past fields a variables) refl
+
+either_behind : (b : Bool) (variable : Variable) (first second : Option Variable)
+    → (if b then or_else first second else Some variable) ≡ or_else (if b then first else Some variable) second
+either_behind true variable first second = refl
+either_behind false variable first second = refl
+
+-- the first of two lists
+first_of_two : (past : List OasRecord) (some others : List Variable)
+    → first_undefined past (some ++ others) ≡ or_else (first_undefined past some) (first_undefined past others)
+first_of_two past [] others = refl
+first_of_two past (variable ∷ some) others =
+    rw (first_of_two past some others) (either_behind (is_defined past variable) variable (first_undefined past some) (first_undefined past others))
+
+repeated_is : (repetition : Option Rep) → repeated repetition ≡ repetition_needs (is_there repetition)
+repeated_is None = refl
+repeated_is (Some rep) = refl
+
+needs_are : (past : List OasRecord) (r : OasRecord) → needs_of past r
+    ≡ pair_needs (has_a_pair (body_of r)) ++ (form_needs (body_of r) (kind_of (r ∷ past)) ++ repetition_needs (is_there (repetition_in r)))
+needs_are past records.Pad = refl
+needs_are past (records.Start version unit offset_flag tables) = refl
+needs_are past (records.End tables padding scheme validation) = refl
+needs_are past (records.CellName name) = refl
+needs_are past (records.NumberedCellName name number) = refl
+needs_are past (records.TextString text) = refl
+needs_are past (records.NumberedTextString text number) = refl
+needs_are past (records.PropName name) = refl
+needs_are past (records.NumberedPropName name number) = refl
+needs_are past (records.PropString text) = refl
+needs_are past (records.NumberedPropString text number) = refl
+needs_are past (records.LayerName name layers datatypes) = refl
+needs_are past (records.TextLayerName name layers datatypes) = refl
+needs_are past (records.NumberedCell number) = refl
+needs_are past (records.Cell name) = refl
+needs_are past records.XyAbsolute = refl
+needs_are past records.XyRelative = refl
+needs_are past (records.Placement info cell x y repetition) = rw (repeated_is repetition) refl
+needs_are past (records.TurnedPlacement info cell magnification angle x y repetition) = rw (repeated_is repetition) refl
+needs_are past (records.Text info text textlayer texttype x y repetition) = rw (repeated_is repetition) refl
+needs_are past (records.Rectangle info layer datatype width height x y repetition) = rw (repeated_is repetition) refl
+needs_are past (records.Polygon info layer datatype points x y repetition) = rw (repeated_is repetition) refl
+needs_are past (records.Path info layer datatype half_width extension start end points x y repetition) = rw (repeated_is repetition) refl
+needs_are past (records.Trapezoid info layer datatype width height delta_a delta_b x y repetition) = rw (repeated_is repetition) refl
+needs_are past (records.TrapezoidA info layer datatype width height delta_a x y repetition) = rw (repeated_is repetition) refl
+needs_are past (records.TrapezoidB info layer datatype width height delta_b x y repetition) = rw (repeated_is repetition) refl
+needs_are past (records.Ctrapezoid info layer datatype kind width height x y repetition) = rw (repeated_is repetition) refl
+needs_are past (records.Circle info layer datatype radius x y repetition) = rw (repeated_is repetition) refl
+needs_are past (records.Property info name count values) = refl
+needs_are past records.LastProperty = refl
+needs_are past (records.XName attribute text) = refl
+needs_are past (records.NumberedXName attribute text number) = refl
+needs_are past (records.XElement attribute text) = refl
+needs_are past (records.XGeometry info attribute layer datatype text x y repetition) = rw (repeated_is repetition) refl
+
+-- what a record needs and hasn't, by what is kept of it
+pub undefined_is : (past : List OasRecord) (r : OasRecord) (fields : Fields) → AreFields (r ∷ past) fields
+    → undefined_in (body_of r) (is_there (repetition_in r)) fields ≡ undefined_of past r
+undefined_is past r fields a =
+    rw (
+      needs_are past r,
+      first_of_two (r ∷ past) (pair_needs (has_a_pair (body_of r))) (form_needs (body_of r) (kind_of (r ∷ past)) ++ repetition_needs (is_there (repetition_in r))),
+      first_of_two (r ∷ past) (form_needs (body_of r) (kind_of (r ∷ past))) (repetition_needs (is_there (repetition_in r))),
+      a.kind,
+      first_by (r ∷ past) fields a (pair_needs (has_a_pair (body_of r))),
+      first_by (r ∷ past) fields a (form_needs (body_of r) (kind_of (r ∷ past))),
+      first_by (r ∷ past) fields a (repetition_needs (is_there (repetition_in r))),
+    )
+    refl
+
+-- ---- pairs and shapes
+
+pub pair_is : (past : List OasRecord) (fields : Fields) → AreFields past fields → pair_in fields ≡ pair_of past
+pair_is past fields a = rw (a.layer, a.datatype) refl

@@ -1,0 +1,21 @@
+use Rattle.std.proofs.Common.{◌≡◌, Err, ap}
+use Rattle.oas_reader.proofs.WantedLemmas.{wanted_keeps, wanted_lowest, refused_by}
+use Rattle.oas_reader.proofs.drawing.draw.Goals as goal
+
+pub returns-in-Ok : goal.returns-in-Ok
+returns-in-Ok c = record {
+  shapes = c.in-Ok.ensures.shapes;
+  grid = c.in-Ok.ensures.grid;
+  kept = λ rule. wanted_keeps c.args.outline.body c.args.fields.now _ rule c.in_default.not-Undrawn (c.in-Ok.ensures.kept rule);
+  broken = tt;
+}
+
+pub returns-in-Err : goal.returns-in-Err
+returns-in-Err c = record {
+  shapes = tt;
+  grid = λ before. tt;
+  kept = tt;
+  broken =
+      refused_by _ c.args.at c.in-Err.undrawn _ c.bad_at.ensures
+      (λ rule e. wanted_lowest c.args.outline.body c.args.fields.now _ rule c.in_default.not-Undrawn (c.in-Err.ensures.broken rule (ap Err e)));
+}

@@ -1,0 +1,50 @@
+-- Placements by what the program keeps of a record.
+use Rattle.std.specs.Prelude.{◌≡◌, ◌<◌, ℕ, Bool, Option, None, List}
+use Rattle.layout_model.specs.declared.orient.Orient.{Orient}
+use Rattle.oas_lex.specs.declared.reals.Real.{Real}
+use Rattle.oas_record.specs.declared.fields.Called.{Called}
+use Rattle.oas_record.specs.declared.repetition.Rep.{Rep}
+use Rattle.oas_fields.specs.declared.fields.Fields.{Fields}
+use Rattle.oas_shapes.specs.Plane.{doubled}
+use Rattle.oas_shapes.specs.Repetitions.{offsets_in, HasDimensionsIn}
+use Rattle.oas_shapes.specs.Rules.{AreNear}
+use Rattle.oas_reader.specs.Meaning.{Placing, point_at}
+use Rattle.oas_reader.specs.Reals.{IsFactor, IsQuarterAngle, factor_of, turns_of}
+use Rattle.oas_reader.specs.Rules.{IsNamed}
+use Rattle.oas_reader.specs.declared.bodies.Turning.{Turning}
+use Rattle.oas_reader.specs.declared.bodies.Turning.TheVariants as turnings
+
+abbrev pub magnification_in : Turning → Option Real
+magnification_in (turnings.Quarters turns) = None
+magnification_in (turnings.Reals magnification angle) = magnification
+
+abbrev pub angle_in : Turning → Option Real
+angle_in (turnings.Quarters turns) = None
+angle_in (turnings.Reals magnification angle) = angle
+
+abbrev pub orient_in : Bool → Turning → Orient
+orient_in flips (turnings.Quarters turns) = record { flip = flips; turns = turns; mag = 1 }
+orient_in flips (turnings.Reals magnification angle) =
+    record { flip = flips; turns = turns_of angle; mag = factor_of magnification }
+
+-- so many quarter turns are up to three
+abbrev pub IsTurning : Turning → Type 0
+IsTurning (turnings.Quarters turns) = turns < 4
+IsTurning (turnings.Reals magnification angle) = Unit {0}
+
+-- a placement that writes its cell so, or doesn't, with the repetition in force, keeps the rule
+pub record KeepsPlaced (bytes : List ℕ) (called : Option Called) (turning : Turning) (rep : Option Rep) (rule : ℕ) : Type 0 where
+  pub near : rule ≡ 1 → AreNear (offsets_in rep)
+  pub name : rule ≡ 2 → IsNamed bytes called
+  pub magnification : rule ≡ 4 → IsFactor (magnification_in turning)
+  pub angle : rule ≡ 5 → IsQuarterAngle (angle_in turning)
+  pub dimension : rule ≡ 11 → HasDimensionsIn rep
+
+-- what it gives
+abbrev pub placed_by : Fields → Bool → Turning → Option Rep → Placing
+placed_by fields flips turning rep = record {
+  target = fields.cell;
+  orient = orient_in flips turning;
+  at = doubled (point_at fields.placement);
+  offsets = offsets_in rep;
+}

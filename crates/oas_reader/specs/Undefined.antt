@@ -1,0 +1,80 @@
+-- Fields that have no value. A record needs the values of its fields in the order of its row, written or not.
+use Rattle.std.specs.Prelude.{ℕ, nat_le, Bool, true, false, not, if◌then◌else◌, List, [], ◌∷◌, ◌++◌, Option, Some, None}
+use Rattle.oas_record.specs.Taken.{repetition_in}
+use Rattle.oas_record.specs.declared.records.OasRecord.{OasRecord}
+use Rattle.oas_record.specs.declared.records.OasRecord.TheVariants as records
+use Rattle.oas_record.specs.declared.repetition.Rep.{Rep}
+use Rattle.oas_shapes.specs.Figures.{uses_width, uses_height}
+use Rattle.oas_fields.specs.Values.{layer_of, datatype_of, width_of, height_of, polygon_points_of, half_width_of, start_of, end_of, path_points_of, kind_of, cell_of, repetition_of}
+use Rattle.oas_fields.specs.declared.variables.Variable.{Variable}
+use Rattle.oas_fields.specs.declared.variables.Variable.TheVariants.{Layer, Datatype, GeometryW, GeometryH, PolygonPoints, PathHalfWidth, PathStart, PathEnd, PathPoints, CtrapezoidType, PlacementCell, Repetition}
+
+abbrev pub is_there : {A : Type 0} → Option A → Bool
+is_there None = false
+is_there (Some a) = true
+
+-- the variable has a value behind these records
+abbrev pub is_defined : List OasRecord → Variable → Bool
+is_defined past Layer = is_there (layer_of past)
+is_defined past Datatype = is_there (datatype_of past)
+is_defined past GeometryW = is_there (width_of past)
+is_defined past GeometryH = is_there (height_of past)
+is_defined past PolygonPoints = is_there (polygon_points_of past)
+is_defined past PathHalfWidth = is_there (half_width_of past)
+is_defined past PathStart = is_there (start_of past)
+is_defined past PathEnd = is_there (end_of past)
+is_defined past PathPoints = is_there (path_points_of past)
+is_defined past CtrapezoidType = is_there (kind_of past)
+is_defined past PlacementCell = is_there (cell_of past)
+is_defined past Repetition = is_there (repetition_of past)
+
+-- a repetition that is written: kind 0 takes the last one
+abbrev pub repeated : Option Rep → List Variable
+repeated None = []
+repeated (Some rep) = Repetition ∷ []
+
+abbrev pub needed_if : Bool → Variable → List Variable
+needed_if true variable = variable ∷ []
+needed_if false variable = []
+
+-- a CTRAPEZOID needs the dimensions of its type
+abbrev pub dimensions : Option ℕ → List Variable
+dimensions None = []
+dimensions (Some kind) = needed_if (uses_width kind) GeometryW ++ needed_if (uses_height kind) GeometryH
+
+abbrev pub pair_and : List Variable → List Variable
+pair_and variables = Layer ∷ Datatype ∷ variables
+
+-- the variables whose values a record needs, behind its past, in the order of its row
+abbrev pub needs_of : List OasRecord → OasRecord → List Variable
+needs_of past (records.Placement info cell x y repetition) = PlacementCell ∷ repeated repetition
+needs_of past (records.TurnedPlacement info cell magnification angle x y repetition) = PlacementCell ∷ repeated repetition
+needs_of past (records.Text info text textlayer texttype x y repetition) = repeated repetition
+needs_of past (records.Rectangle info layer datatype width height x y repetition) =
+    pair_and (GeometryW ∷ GeometryH ∷ repeated repetition)
+needs_of past (records.Polygon info layer datatype points x y repetition) = pair_and (PolygonPoints ∷ repeated repetition)
+needs_of past (records.Path info layer datatype half_width extension start end points x y repetition) =
+    pair_and (PathHalfWidth ∷ PathStart ∷ PathEnd ∷ PathPoints ∷ repeated repetition)
+needs_of past (records.Trapezoid info layer datatype width height delta_a delta_b x y repetition) =
+    pair_and (GeometryW ∷ GeometryH ∷ repeated repetition)
+needs_of past (records.TrapezoidA info layer datatype width height delta_a x y repetition) =
+    pair_and (GeometryW ∷ GeometryH ∷ repeated repetition)
+needs_of past (records.TrapezoidB info layer datatype width height delta_b x y repetition) =
+    pair_and (GeometryW ∷ GeometryH ∷ repeated repetition)
+needs_of past (records.Ctrapezoid info layer datatype kind width height x y repetition) =
+    pair_and (
+    CtrapezoidType ∷ (
+    dimensions (kind_of (records.Ctrapezoid info layer datatype kind width height x y repetition ∷ past))
+    ++ repeated repetition))
+needs_of past (records.Circle info layer datatype radius x y repetition) = pair_and (repeated repetition)
+needs_of past (records.XGeometry info attribute layer datatype text x y repetition) = pair_and (repeated repetition)
+needs_of past _ = []
+
+-- the first of these that has no value behind these records
+abbrev pub first_undefined : List OasRecord → List Variable → Option Variable
+first_undefined all [] = None
+first_undefined all (variable ∷ variables) = if is_defined all variable then first_undefined all variables else Some variable
+
+-- the variable that a record needs and that has no value; what a record writes itself counts
+abbrev pub undefined_of : List OasRecord → OasRecord → Option Variable
+undefined_of past r = first_undefined (r ∷ past) (needs_of past r)

@@ -1,0 +1,48 @@
+//! The counts of a file.
+ghost use Rattle.std.specs.Prelude.{◌≡◌, ◌^◌};
+ghost use Rattle.oas_reader.specs.Drawn.{AreAtMost, with_record};
+
+use crate::bodies::Body;
+use layout_model::Counts;
+
+pub(crate) const NONE: Counts = Counts {
+    kept: 0,
+    other: 0,
+    texts: 0,
+    nodes: 0,
+    boxes: 0,
+    properties: 0,
+};
+
+/// The counts with one more record. `wanted` says of a record with a pair whether it is wanted.
+pub(crate) fn with(counts: Counts, body: Body, wanted: Option<bool>) -> Counts
+    requires { AreAtMost (2 ^ 63) counts }
+    ensures { result ≡ with_record wanted body counts }
+{
+    match wanted {
+        Some(true) => {
+            return Counts {
+                kept: counts.kept + 1,
+                ..counts
+            };
+        }
+        Some(false) => {
+            return Counts {
+                other: counts.other + 1,
+                ..counts
+            };
+        }
+        None => {}
+    }
+    match body {
+        Body::Text => Counts {
+            texts: counts.texts + 1,
+            ..counts
+        },
+        Body::Property => Counts {
+            properties: counts.properties + 1,
+            ..counts
+        },
+        _ => counts,
+    }
+}

@@ -1,0 +1,180 @@
+//! What comes behind END: names.
+ghost use Rattle.std.specs.Prelude.{◌≡◌, Some, None, List as AList, All, OnOk, IfOk, IfErr};
+ghost use Rattle.oas_reader.specs.Items.{Item, records_in};
+ghost use Rattle.oas_reader.specs.Finished.{ArePlacingsWithin, IsDraftWithin, cell_by, cells_by as the_cells_by, cell_items, AreTwins};
+ghost use Rattle.oas_reader.specs.Meaning.{named};
+ghost use Rattle.oas_reader.specs.Names.{name_called, first_twins};
+ghost use Rattle.oas_reader.specs.Readers.{placings_of};
+ghost use Rattle.oas_reader.specs.Naming.{IsCalledWithin, HaveSpans, AreNamesOf};
+ghost use Rattle.oas_reader.specs.declared.refusing.OasBad.TheVariants as bads;
+
+use crate::cells::Draft;
+use crate::naming::{Cells, Names, name_of};
+use crate::placing::Placing;
+use crate::refusing::OasBad;
+use geo_stream::{List, NoMemory};
+use layout_model::{Cell, Name, Placement};
+use oas_record::Called;
+use std::alloc::Global;
+
+// The bytes of a name, which is there.
+fn bytes_of<'a>(names: &Names<'a>, bytes: &'a [u8], called: Called) -> Result<&'a [u8], OasBad>
+    requires spans { HaveSpans bytes.now names.now }
+    requires called { IsCalledWithin bytes.now called }
+    ensures ok { (past : AList Item) → AreNamesOf bytes.now past names.now
+        → IfOk result (λ name. name_called bytes.now (records_in past) called ≡ Some name.now) }
+    ensures bad { IfErr result (λ bad. bad ≡ bads.NoMemory) }
+{
+    match names.name_called(bytes, called) {
+        Some(name) => Ok(name),
+        None => Err(OasBad::NoMemory),
+    }
+}
+
+// Refuses the first cell that has the name of an earlier one.
+fn look_at_cells<'a>(
+    alloc: Global,
+    bytes: &'a [u8],
+    names: &Names<'a>,
+    drafts: &[Draft],
+) -> Result<(), OasBad>
+    requires spans { HaveSpans bytes.now names.now }
+    requires called { All (λ draft. IsCalledWithin bytes.now draft.called) drafts.now }
+    ensures distinct { (past : AList Item) → AreNamesOf bytes.now past names.now
+        → OnOk result (first_twins bytes.now (records_in past) (cell_items drafts.now) ≡ None) }
+    ensures twins { (past : AList Item) → AreNamesOf bytes.now past names.now
+        → IfErr result (AreTwins bytes.now (records_in past) (cell_items drafts.now)) }
+{
+    let mut cells = Cells::new(alloc);
+    for draft in drafts {
+        let name = bytes_of(names, bytes, draft.called)?;
+        cells.enter(name, draft.at)?;
+    }
+    Ok(())
+}
+
+fn name_by<'a>(
+    alloc: Global,
+    bytes: &'a [u8],
+    names: &Names<'a>,
+    called: Called,
+) -> Result<Name, OasBad>
+    requires spans { HaveSpans bytes.now names.now }
+    requires called { IsCalledWithin bytes.now called }
+    ensures ok { (past : AList Item) → AreNamesOf bytes.now past names.now
+        → IfOk result (λ name. name_called bytes.now (records_in past) called ≡ Some name) }
+    ensures bad { IfErr result (λ bad. bad ≡ bads.NoMemory) }
+{
+    let name = bytes_of(names, bytes, called)?;
+    match name_of(alloc, name) {
+        Ok(name) => Ok(name),
+        Err(_) => Err(OasBad::NoMemory),
+    }
+}
+
+// The placements by name.
+fn placements_of<'a>(
+    alloc: Global,
+    bytes: &'a [u8],
+    names: &Names<'a>,
+    placings: Vec<Placing>,
+) -> Result<List<Placement>, OasBad>
+    requires spans { HaveSpans bytes.now names.now }
+    requires called { ArePlacingsWithin bytes.now placings.items }
+    ensures ok { (past : AList Item) → AreNamesOf bytes.now past names.now
+        → IfOk result (λ placements. placements ≡ named bytes.now (records_in past) (placings_of placings.items)) }
+    ensures bad { IfErr result (λ bad. bad ≡ bads.NoMemory) }
+{
+    let mut placements = List::new(alloc);
+    for placing in placings {
+        let target = name_by(alloc, bytes, names, placing.target)?;
+        let Placing {
+            orient,
+            at,
+            offsets,
+            ..
+        } = placing;
+        let placement = Placement {
+            target,
+            orient,
+            at,
+            offsets,
+        };
+        match placements.push(placement) {
+            Ok(()) => {}
+            Err(_) => return Err(OasBad::NoMemory),
+        }
+    }
+    Ok(placements)
+}
+
+fn cell_of<'a>(
+    alloc: Global,
+    bytes: &'a [u8],
+    names: &Names<'a>,
+    draft: Draft,
+) -> Result<Cell, OasBad>
+    requires spans { HaveSpans bytes.now names.now }
+    requires within { IsDraftWithin bytes.now draft }
+    ensures ok { (past : AList Item) → AreNamesOf bytes.now past names.now
+        → IfOk result (λ cell. cell ≡ cell_by bytes.now (records_in past) draft) }
+    ensures bad { IfErr result (λ bad. bad ≡ bads.NoMemory) }
+{
+    let Draft {
+        called,
+        shapes,
+        placings,
+        ..
+    } = draft;
+    let name = name_by(alloc, bytes, names, called)?;
+    let placements = placements_of(alloc, bytes, names, placings)?;
+    Ok(Cell {
+        name,
+        shapes,
+        placements,
+    })
+}
+
+// The cells by name.
+fn cells_by<'a>(
+    alloc: Global,
+    bytes: &'a [u8],
+    names: &Names<'a>,
+    drafts: Vec<Draft>,
+) -> Result<List<Cell>, OasBad>
+    requires spans { HaveSpans bytes.now names.now }
+    requires within { All (IsDraftWithin bytes.now) drafts.items }
+    ensures ok { (past : AList Item) → AreNamesOf bytes.now past names.now
+        → IfOk result (λ cells. cells ≡ the_cells_by bytes.now (records_in past) drafts.items) }
+    ensures bad { IfErr result (λ bad. bad ≡ bads.NoMemory) }
+{
+    let mut cells = List::new(alloc);
+    for draft in drafts {
+        let cell = cell_of(alloc, bytes, names, draft)?;
+        match cells.push(cell) {
+            Ok(()) => {}
+            Err(_) => return Err(OasBad::NoMemory),
+        }
+    }
+    Ok(cells)
+}
+
+/// The cells by name, where each number is given and no two have one name.
+pub(crate) fn cells_of<'a>(
+    alloc: Global,
+    bytes: &'a [u8],
+    names: &Names<'a>,
+    drafts: Result<Vec<Draft>, NoMemory>,
+) -> Result<List<Cell>, OasBad>
+    requires spans { HaveSpans bytes.now names.now }
+    requires within { IfOk drafts (λ drafts. All (IsDraftWithin bytes.now) drafts.items) }
+{
+    names.all_known()?;
+    match drafts {
+        Ok(drafts) => {
+            look_at_cells(alloc, bytes, names, drafts.as_slice())?;
+            cells_by(alloc, bytes, names, drafts)
+        }
+        Err(_) => Err(OasBad::NoMemory),
+    }
+}

@@ -1,0 +1,212 @@
+//! Placements.
+ghost use Rattle.std.specs.Prelude.{◌≡◌, ◌^◌, ℕ, IfSome, IfNone, IfOk, IfErr, IsSome, option_copied};
+ghost use Rattle.layout_model.specs.Layouts.{IsWithin};
+ghost use Rattle.oas_fields.specs.Values.{IsPlaceWithin};
+ghost use Rattle.oas_shapes.specs.Plane.{doubled as the_doubled};
+ghost use Rattle.oas_reader.specs.Drawn.{repetition_kept, bad_at, is_first, IsRefusedBy};
+ghost use Rattle.oas_reader.specs.Naming.{AreCalledWithin};
+ghost use Rattle.oas_reader.specs.Placed.{KeepsPlaced, IsTurning, placed_by};
+ghost use Rattle.oas_reader.specs.Readers.{placing_of as the_placing_of, IsPlacingOnGrid};
+ghost use Rattle.oas_reader.specs.Meaning.{point_at};
+ghost use Rattle.oas_reader.specs.Reals.{IsFactor, IsQuarterAngle, factor_of as the_factor_of, turns_of as the_turns_of};
+
+use crate::bodies::{Outline, Turning};
+use crate::naming::look_at_called;
+use crate::refusing::OasBad;
+use half_grid::Point;
+use layout_model::{Offsets, Orient};
+use oas_fields::{Fields, Place};
+use oas_lex::{Real, real_whole};
+use oas_record::{Called, Rep};
+use oas_shapes::{Undrawn, offsets_of};
+use std::alloc::Global;
+
+/// The rules of magnifications, of angles and of dimensions.
+const MAGNIFICATION_RULE: u8 = 4;
+
+const ANGLE_RULE: u8 = 5;
+
+pub(crate) const DIMENSION_RULE: u8 = 11;
+
+const ORIGIN: Point = Point { x: 0, y: 0 };
+
+/// A placement whose cell may be called by a number yet.
+#[derive(Drop)]
+pub(crate) struct Placing {
+    pub(crate) target: Called,
+    pub(crate) orient: Orient,
+    pub(crate) at: Point,
+    pub(crate) offsets: Offsets,
+}
+
+// A magnification from 1 to 16.
+fn factor_of(magnification: Option<Real>) -> Option<u8>
+    ensures some { IfSome result (λ factor. IsFactor magnification × (factor ≡ the_factor_of magnification)) }
+    ensures none { IfNone result (IsFactor magnification → ⊥) }
+{
+    let Some(real) = magnification else {
+        return Some(1);
+    };
+    match real_whole(real) {
+        Some(whole) => {
+            if whole >= 1 && whole <= 16 {
+                return Some(whole as u8);
+            }
+            None
+        }
+        None => None,
+    }
+}
+
+// The quarter turns of an angle that is a multiple of 90 degrees from -360 to 360.
+fn turns_of(angle: Option<Real>) -> Option<u8>
+    ensures some { IfSome result (λ turns. IsQuarterAngle angle × (turns ≡ the_turns_of angle)) }
+    ensures none { IfNone result (IsQuarterAngle angle → ⊥) }
+{
+    let Some(real) = angle else {
+        return Some(0);
+    };
+    match real_whole(real) {
+        Some(-360 | 0 | 360) => Some(0),
+        Some(-270 | 90) => Some(1),
+        Some(-180 | 180) => Some(2),
+        Some(-90 | 270) => Some(3),
+        _ => None,
+    }
+}
+
+fn orient_of(flips: bool, turning: Turning, at: usize) -> Result<Orient, OasBad> {
+    match turning {
+        Turning::Quarters(turns) => Ok(Orient {
+            flip: flips,
+            turns,
+            mag: 1,
+        }),
+        Turning::Reals {
+            magnification,
+            angle,
+        } => {
+            let Some(mag) = factor_of(magnification) else {
+                return Err(OasBad::Value(at, MAGNIFICATION_RULE));
+            };
+            let Some(turns) = turns_of(angle) else {
+                return Err(OasBad::Value(at, ANGLE_RULE));
+            };
+            Ok(Orient {
+                flip: flips,
+                turns,
+                mag,
+            })
+        }
+    }
+}
+
+/// A position as a point, in grid steps. It is near.
+pub(crate) fn point_of(place: Place) -> Point
+    requires { IsPlaceWithin (2 ^ 40) place }
+    ensures value { result ≡ point_at place }
+    ensures near { IsWithin (2 ^ 40) result }
+{
+    Point {
+        x: place.x as i64,
+        y: place.y as i64,
+    }
+}
+
+// From grid steps to half units.
+fn doubled(point: Point) -> Point
+    requires { IsWithin (2 ^ 40) point }
+    ensures { result ≡ the_doubled point }
+{
+    Point {
+        x: 2 * point.x,
+        y: 2 * point.y,
+    }
+}
+
+/// The repetition of a record, if it has one.
+pub(crate) fn repetition_in(fields: &Fields, repeats: bool) -> Option<&Rep>
+    ensures { option_copied result ≡ repetition_kept repeats fields.now.repetition }
+{
+    if repeats {
+        return fields.repetition.as_ref();
+    }
+    None
+}
+
+// The offsets of a placement.
+fn offsets_in(alloc: Global, repetition: Option<&Rep>) -> Result<Offsets, Undrawn> {
+    match repetition {
+        Some(repetition) => offsets_of(alloc, repetition),
+        None => match Offsets::list(alloc, &[ORIGIN]) {
+            Ok(offsets) => Ok(offsets),
+            Err(_) => Err(Undrawn::NoMemory),
+        },
+    }
+}
+
+/// The refusal at this offset of what can't be drawn or placed.
+pub(crate) fn bad_at(undrawn: Undrawn, at: usize) -> OasBad
+    ensures { result ≡ bad_at undrawn at }
+{
+    match undrawn {
+        Undrawn::Rule(rule) => OasBad::Value(at, rule),
+        Undrawn::NoMemory => OasBad::NoMemory,
+    }
+}
+
+// The refusal of offsets that comes before those of the name and of the turning.
+fn is_first(undrawn: Undrawn) -> bool
+    ensures { result ≡ is_first undrawn }
+{
+    match undrawn {
+        Undrawn::Rule(rule) => rule == 1,
+        Undrawn::NoMemory => true,
+    }
+}
+
+/// The placement at this offset, which calls its cell so where it writes it. The fields have taken the record.
+pub(crate) fn placing_of(
+    alloc: Global,
+    bytes: &[u8],
+    fields: &Fields,
+    outline: Outline,
+    called: Option<Called>,
+    flips: bool,
+    turning: Turning,
+    at: usize,
+) -> Result<Placing, OasBad>
+    requires near { IsPlaceWithin (2 ^ 40) fields.now.placement }
+    requires turning { IsTurning turning }
+    requires called { AreCalledWithin bytes.now called }
+    requires cell { IsSome fields.now.cell }
+    ensures placed { IfOk result (λ p. the_placing_of p ≡ placed_by fields.now flips turning (repetition_kept outline.repeats fields.now.repetition)) }
+    ensures grid { IfOk result IsPlacingOnGrid }
+    ensures kept { IfOk result (λ _. (rule : ℕ) → KeepsPlaced bytes.now called turning (repetition_kept outline.repeats fields.now.repetition) rule) }
+    ensures broken { IfErr result (IsRefusedBy (KeepsPlaced bytes.now called turning (repetition_kept outline.repeats fields.now.repetition)) at) }
+{
+    let repetition = repetition_in(fields, outline.repeats);
+    let offsets = match offsets_in(alloc, repetition) {
+        Ok(offsets) => offsets,
+        Err(undrawn) => {
+            if is_first(undrawn) {
+                return Err(bad_at(undrawn, at));
+            }
+            look_at_called(alloc, bytes, called, at)?;
+            orient_of(flips, turning, at)?;
+            return Err(bad_at(undrawn, at));
+        }
+    };
+    look_at_called(alloc, bytes, called, at)?;
+    let orient = orient_of(flips, turning, at)?;
+    let Some(target) = fields.cell else {
+        return Err(OasBad::NoMemory);
+    };
+    let at = doubled(point_of(fields.placement));
+    Ok(Placing {
+        target,
+        orient,
+        at,
+        offsets,
+    })
+}

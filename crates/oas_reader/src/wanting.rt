@@ -1,0 +1,28 @@
+//! The wanted pairs.
+ghost use Rattle.std.specs.Prelude.{◌≡◌, IfOk};
+ghost use Rattle.std.specs.List.{list_any};
+ghost use Rattle.oas_reader.specs.Wanting.{AreSamePairs};
+ghost use Rattle.oas_reader.specs.Wanting.{AreSorted};
+ghost use Rattle.oas_reader.specs.Meaning.{same_pair};
+
+use geo_stream::NoMemory;
+use layout_model::Pair;
+use std::alloc::Global;
+
+/// The pairs in ascending order.
+pub(crate) fn sorted_pairs(alloc: Global, pairs: &[Pair]) -> Result<Vec<Pair>, NoMemory>
+    ensures same { IfOk result (λ sorted. AreSamePairs pairs.now sorted.items) }
+    ensures order { IfOk result (λ sorted. AreSorted sorted.items) }
+{
+    let mut sorted = Vec::from_slice(alloc, pairs)?;
+    sorted.sort()?;
+    Ok(sorted)
+}
+
+/// Whether the pair is among these, which are in ascending order.
+pub(crate) fn is_among(sorted: &[Pair], pair: Pair) -> bool
+    requires { AreSorted sorted.now }
+    ensures { result ≡ list_any (same_pair pair) sorted.now }
+{
+    sorted.binary_search(&pair).is_ok()
+}
