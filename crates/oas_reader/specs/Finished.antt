@@ -1,5 +1,5 @@
 -- The cells by name, as the program makes them of what it keeps.
-use Rattle.std.specs.Prelude.{◌≡◌, ◌⊎◌, ℕ, List, [], ◌∷◌, Option, Some, None, All, map, reverse}
+use Rattle.std.specs.Prelude.{◌≡◌, ◌⊎◌, ℕ, List, [], ◌∷◌, Option, Some, None, map, reverse}
 use Rattle.layout_model.specs.declared.cells.Cell.{Cell}
 use Rattle.oas_record.specs.declared.records.OasRecord.{OasRecord}
 use Rattle.oas_reader.specs.declared.cells.Draft.{Draft}
@@ -9,17 +9,9 @@ use Rattle.oas_reader.specs.declared.refusing.OasBad.TheVariants as faults
 use Rattle.oas_reader.specs.Items.{Item}
 use Rattle.oas_reader.specs.Meaning.{called_name, named}
 use Rattle.oas_reader.specs.Names.{first_twins}
-use Rattle.oas_reader.specs.Naming.{IsCalledWithin, cell_record}
+use Rattle.oas_reader.specs.Naming.{cell_record}
 use Rattle.oas_reader.specs.Reading.{item}
 use Rattle.oas_reader.specs.Readers.{placings_of}
-
--- the strings of the placements' cells lie within the bytes
-abbrev pub ArePlacingsWithin : List ℕ → List Placing → Type 0
-ArePlacingsWithin bytes placings = All (λ placing. IsCalledWithin bytes placing.target) placings
-
-pub record IsDraftWithin (bytes : List ℕ) (draft : Draft) : Type 0 where
-  pub called : IsCalledWithin bytes draft.called
-  pub placings : ArePlacingsWithin bytes draft.placings.items
 
 -- the cell by name
 abbrev pub cell_by : List ℕ → List OasRecord → Draft → Cell

@@ -17,3 +17,5 @@ pub mod Finished
 pub mod Readers
 pub mod Files
 pub mod Placed
+pub mod Taking
+pub mod Behind

@@ -1,18 +1,22 @@
 //! What comes behind END: names.
-ghost use Rattle.std.specs.Prelude.{◌≡◌, Some, None, List as AList, All, OnOk, IfOk, IfErr};
-ghost use Rattle.oas_reader.specs.Items.{Item, records_in};
-ghost use Rattle.oas_reader.specs.Finished.{ArePlacingsWithin, IsDraftWithin, cell_by, cells_by as the_cells_by, cell_items, AreTwins};
+ghost use Rattle.std.specs.Prelude.{◌≡◌, ◌⊎◌, Some, None, List as AList, ◌∷◌, true, map, All, OnOk, IfOk, IfErr};
+ghost use Rattle.layout_model.specs.Layouts.{IsCellOnGrid, AreDistinct};
+ghost use Rattle.layout_model.specs.declared.pair.Pair.{Pair as APair};
+ghost use Rattle.oas_reader.specs.Behind.{AreCellsBehind};
+ghost use Rattle.oas_reader.specs.Items.{Item, records_in, NoneEnds, is_end};
+ghost use Rattle.oas_reader.specs.Finished.{cell_by, cells_by as the_cells_by, cell_items, AreTwins};
 ghost use Rattle.oas_reader.specs.Meaning.{named};
 ghost use Rattle.oas_reader.specs.Names.{name_called, first_twins};
-ghost use Rattle.oas_reader.specs.Readers.{placings_of};
+ghost use Rattle.oas_reader.specs.Reading.{IsFaultOf};
+ghost use Rattle.oas_reader.specs.Readers.{placings_of, ArePlacingsWithin, IsDraftWithin, IsDraftOnGrid, AreDraftsWithin, AreDraftsOf};
 ghost use Rattle.oas_reader.specs.Naming.{IsCalledWithin, HaveSpans, AreNamesOf};
 ghost use Rattle.oas_reader.specs.declared.refusing.OasBad.TheVariants as bads;
 
-use crate::cells::Draft;
+use crate::cells::{Draft, Drafts};
 use crate::naming::{Cells, Names, name_of};
 use crate::placing::Placing;
 use crate::refusing::OasBad;
-use geo_stream::{List, NoMemory};
+use geo_stream::List;
 use layout_model::{Cell, Name, Placement};
 use oas_record::Called;
 use std::alloc::Global;
@@ -159,22 +163,43 @@ fn cells_by<'a>(
     Ok(cells)
 }
 
-/// The cells by name, where each number is given and no two have one name.
+// The cells by name, where no two have one name.
+fn distinct_cells<'a>(
+    alloc: Global,
+    bytes: &'a [u8],
+    names: &Names<'a>,
+    drafts: Vec<Draft>,
+) -> Result<List<Cell>, OasBad>
+    requires spans { HaveSpans bytes.now names.now }
+    requires within { All (IsDraftWithin bytes.now) drafts.items }
+{
+    look_at_cells(alloc, bytes, names, drafts.as_slice())?;
+    cells_by(alloc, bytes, names, drafts)
+}
+
+/// The cells of a whole file by name, where each number is given and no two cells have one name.
 pub(crate) fn cells_of<'a>(
     alloc: Global,
     bytes: &'a [u8],
     names: &Names<'a>,
-    drafts: Result<Vec<Draft>, NoMemory>,
+    drafts: Drafts,
 ) -> Result<List<Cell>, OasBad>
     requires spans { HaveSpans bytes.now names.now }
-    requires within { IfOk drafts (λ drafts. All (IsDraftWithin bytes.now) drafts.items) }
+    requires within { AreDraftsWithin bytes.now drafts }
+    ensures ok { (wanted : AList APair) (past : AList Item) (last : Item) → AreNamesOf bytes.now (last ∷ past) names.now
+        → AreDraftsOf wanted (last ∷ past) drafts → is_end last.r ≡ true → NoneEnds past
+        → IfOk result (AreCellsBehind bytes.now wanted (last ∷ past)) }
+    ensures grid { IfOk result (All IsCellOnGrid) }
+    ensures names { (wanted : AList APair) (past : AList Item) (last : Item) → AreNamesOf bytes.now (last ∷ past) names.now
+        → AreDraftsOf wanted (last ∷ past) drafts → is_end last.r ≡ true → NoneEnds past
+        → IfOk result (λ cells. AreDistinct (map (λ cell. cell.name) cells)) }
+    ensures bad { (wanted : AList APair) (past : AList Item) (last : Item) → AreNamesOf bytes.now (last ∷ past) names.now
+        → AreDraftsOf wanted (last ∷ past) drafts → is_end last.r ≡ true → NoneEnds past
+        → IfErr result (λ bad. (bad ≡ bads.NoMemory) ⊎ IsFaultOf bytes.now (last ∷ past) bad) }
 {
     names.all_known()?;
-    match drafts {
-        Ok(drafts) => {
-            look_at_cells(alloc, bytes, names, drafts.as_slice())?;
-            cells_by(alloc, bytes, names, drafts)
-        }
+    match drafts.finish(alloc) {
+        Ok(drafts) => distinct_cells(alloc, bytes, names, drafts),
         Err(_) => Err(OasBad::NoMemory),
     }
 }

@@ -15,7 +15,9 @@ mod placing;
 mod reading;
 mod refusing;
 mod rules;
+mod taking;
 mod undefined;
+mod values;
 mod wanting;
 
 pub use laws::reading_laws;

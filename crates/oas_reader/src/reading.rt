@@ -15,29 +15,24 @@ ghost use Rattle.oas_reader.specs.declared.refusing.OasBad.TheVariants as bads;
 use crate::bodies::{Body, Outline};
 use crate::cells::Drafts;
 use crate::counting;
-use crate::drawing::{draw, pair_of};
 use crate::finishing::cells_of;
 use crate::ids::id_of;
-use crate::naming::{Names, look_at_called, look_at_name};
+use crate::naming::Names;
 use crate::order::Place;
-use crate::placing::{DIMENSION_RULE, placing_of};
 use crate::refusing::OasBad;
-use crate::rules::{broken_by_file, positions_are_near};
-use crate::undefined::{first_undefined, has_pair};
-use crate::wanting::{is_among, sorted_pairs};
+use crate::taking::take_names;
+use crate::values::take_values;
+use crate::wanting::sorted_pairs;
 use layout_model::{Counts, Layout, Pair};
 use oas_fields::Fields;
 use oas_lex::{Real, real_whole};
-use oas_record::{Called, OasRecord, RecordBad, Rep, record_at};
+use oas_record::{OasRecord, RecordBad, Rep, record_at};
 use oas_shapes::dimensions_are_allowed;
 use std::alloc::Global;
 
 const MAGIC: &[u8] = b"%SEMI-OASIS\r\n";
 
 const END_SIZE: usize = 256;
-
-/// The rule of positions.
-const POSITION_RULE: u8 = 1;
 
 /// What is kept of the records so far.
 #[derive(Drop)]
@@ -137,77 +132,6 @@ impl<'a> Reader<'a> {
         }
     }
 
-    // Takes what a record names, and looks at its name.
-    fn take_names(
-        &mut self,
-        alloc: Global,
-        bytes: &'a [u8],
-        body: Body,
-        at: usize,
-    ) -> Result<(), OasBad> {
-        match body {
-            Body::CellName { name, number } => {
-                look_at_name(alloc, bytes, name.0, name.1, at)?;
-                self.names.give(name, number, at)
-            }
-            Body::Cell(called) => {
-                look_at_called(alloc, bytes, Some(called), at)?;
-                self.names.begin(bytes, called, at)?;
-                match self.drafts.begin(alloc, called, at) {
-                    Ok(()) => Ok(()),
-                    Err(_) => Err(OasBad::NoMemory),
-                }
-            }
-            Body::Placement {
-                called: Some(Called::Number(number)),
-                ..
-            } => self.names.mention(number, at),
-            _ => Ok(()),
-        }
-    }
-
-    // Takes the placement or the shapes of a record. `wanted` says of a record with a pair whether it is wanted.
-    fn take_geometry(
-        &mut self,
-        alloc: Global,
-        bytes: &[u8],
-        outline: Outline,
-        wanted: Option<bool>,
-        at: usize,
-    ) -> Result<(), OasBad> {
-        match outline.body {
-            Body::Placement {
-                called,
-                flips,
-                turning,
-            } => {
-                let placing = placing_of(
-                    alloc,
-                    bytes,
-                    &self.fields,
-                    outline,
-                    called,
-                    flips,
-                    turning,
-                    at,
-                )?;
-                match self.drafts.place(placing) {
-                    Ok(()) => Ok(()),
-                    Err(_) => Err(OasBad::NoMemory),
-                }
-            }
-            _ => match wanted {
-                Some(true) => draw(alloc, &self.fields, outline, at, &mut self.drafts.shapes),
-                _ => {
-                    if outline.has_dimensions {
-                        return Ok(());
-                    }
-                    Err(OasBad::Value(at, DIMENSION_RULE))
-                }
-            },
-        }
-    }
-
     // Looks at the values of the record at this offset, and takes what it gives. The fields have taken it.
     fn take_body(
         &mut self,
@@ -217,22 +141,23 @@ impl<'a> Reader<'a> {
         outline: Outline,
         at: usize,
     ) -> Result<(), OasBad> {
-        if let Some(variable) = first_undefined(outline.body, outline.repeats, &self.fields) {
-            return Err(OasBad::Undefined(at, variable));
-        }
-        if !positions_are_near(&self.fields) {
-            return Err(OasBad::Value(at, POSITION_RULE));
-        }
-        if let Some(rule) = broken_by_file(bytes, outline.body) {
-            return Err(OasBad::Value(at, rule));
-        }
-        let wanted = if has_pair(outline.body) {
-            Some(is_among(sorted, pair_of(&self.fields)))
-        } else {
-            None
-        };
-        self.take_geometry(alloc, bytes, outline, wanted, at)?;
-        self.take_names(alloc, bytes, outline.body, at)?;
+        let wanted = take_values(
+            alloc,
+            bytes,
+            sorted,
+            &self.fields,
+            outline,
+            at,
+            &mut self.drafts,
+        )?;
+        take_names(
+            alloc,
+            bytes,
+            &mut self.names,
+            &mut self.drafts,
+            outline.body,
+            at,
+        )?;
         self.counts = counting::with(self.counts, outline.body, wanted);
         Ok(())
     }
@@ -271,7 +196,7 @@ fn finish<'a>(alloc: Global, bytes: &'a [u8], reader: Reader<'a>) -> Result<Layo
         counts,
         ..
     } = reader;
-    let cells = cells_of(alloc, bytes, &names, drafts.finish(alloc))?;
+    let cells = cells_of(alloc, bytes, &names, drafts)?;
     Ok(Layout { cells, counts })
 }
 
