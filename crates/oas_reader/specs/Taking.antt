@@ -42,8 +42,8 @@ IsBodyWithin bytes _ = Unit {0}
 -- the record's outline and the fields behind it
 pub record IsTaken (wanted sorted : List Pair) (past : List OasRecord) (r : OasRecord) (outline : Outline) (fields : Fields) : Type 0 where
   pub same : AreSamePairs wanted sorted
-  pub outline : IsOutlineOf r outline
-  pub fields : AreFields (r ∷ past) fields
+  pub looked_at : IsOutlineOf r outline
+  pub values : AreFields (r ∷ past) fields
 
 -- whether its pair is wanted, where it has one
 abbrev pub wanting_of : List Pair → List OasRecord → OasRecord → Option Bool
