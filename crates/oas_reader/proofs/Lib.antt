@@ -6,3 +6,8 @@ mod FieldBridges
 mod DrawBridges
 mod FigureLemmas
 mod WantedLemmas
+mod FileLemmas
+mod BodyLemmas
+mod CountLemmas
+mod TakeLemmas
+mod ReadLemmas

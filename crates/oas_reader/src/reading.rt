@@ -1,14 +1,25 @@
 //! The whole file.
-ghost use Rattle.std.specs.Prelude.{◌≡◌, ◌≢◌, ◌⊎◌, ◌≤◌, ◌↔◌, pos, Err, Ok, IfOk, IfErr, OnOk, IsTrue, option_copied};
+ghost use Rattle.std.specs.Prelude.{◌≡◌, ◌≢◌, ◌⊎◌, ◌≤◌, ◌<◌, ◌^◌, ◌↔◌, ℕ, pos, List as AList, [], ◌∷◌, true, Err, Ok, IfOk, IfErr, OnOk, IsTrue, option_copied, take as the_take};
 ghost use Rattle.layout_model.specs.Layouts.{IsLayoutOnGrid};
 ghost use Rattle.layout_model.specs.declared.cells.Layout.{Layout as ALayout};
+ghost use Rattle.layout_model.specs.declared.pair.Pair.{Pair as APair};
 ghost use Rattle.oas_lex.specs.Reals.{IsWholeReal};
 ghost use Rattle.oas_record.specs.Taken.{repetition_in};
+ghost use Rattle.oas_record.specs.declared.records.OasRecord.{OasRecord as ARecord};
+ghost use Rattle.oas_fields.specs.Values.{AreFields, ArePlacesWithin};
 ghost use Rattle.oas_shapes.specs.Repetitions.{HasDimensionsIn};
 ghost use Rattle.oas_reader.specs.Bodies.{body_of};
-ghost use Rattle.oas_reader.specs.Files.{KeepsFile, BreaksFile, lexical_fault};
-ghost use Rattle.oas_reader.specs.Reading.{IsLayoutOf, IsFirstFault};
+ghost use Rattle.oas_reader.specs.Drawn.{AreAtMost};
+ghost use Rattle.oas_reader.specs.Files.{KeepsFile, BreaksFile, lexical_fault, tables_by, HaveRecords, IsBodyKept, IsBadBody, IsLayoutBehind};
+ghost use Rattle.oas_reader.specs.Items.{Item, records_in, magic, is_end, NoneEnds};
+ghost use Rattle.oas_reader.specs.Meaning.{counts_of};
+ghost use Rattle.oas_reader.specs.Naming.{AreCalledWithin, HaveSpans, AreNamesOf};
+ghost use Rattle.oas_reader.specs.Order.{is_in_order};
+ghost use Rattle.oas_reader.specs.Readers.{AreDraftsOf, AreDraftsWithin, IsReaderOf, IsReaderWithin};
+ghost use Rattle.oas_reader.specs.Reading.{item, IsAllowed, IsRefused, IsLayoutOf, IsFaultOf, IsFirstFault};
+ghost use Rattle.oas_reader.specs.Taking.{IsBodyWithin, IsTaken};
 ghost use Rattle.oas_reader.specs.Undefined.{is_there};
+ghost use Rattle.oas_reader.specs.Wanting.{AreSorted, AreSamePairs};
 ghost use Rattle.oas_reader.specs.declared.refusing.OasBad.{OasBad as ABad};
 ghost use Rattle.oas_reader.specs.declared.refusing.OasBad.TheVariants as bads;
 
@@ -120,8 +131,33 @@ fn look_at_file(bytes: &[u8], unit: u32, body: Body, at: usize, next: usize) -> 
     }
 }
 
+// Whether END holds the table offsets, behind one more record.
+fn tables_after(tables: bool, body: Body) -> bool
+    ensures { result ≡ tables_by body tables }
+{
+    match body {
+        Body::Start { offset_flag: 1, .. } => true,
+        _ => tables,
+    }
+}
+
+// Takes the record into the fields.
+fn take_fields(bytes: &[u8], fields: &mut Fields, current: OasRecord)
+    requires near { ArePlacesWithin (2 ^ 100) fields.old }
+    requires some { HaveRecords fields.old }
+    requires cell { AreCalledWithin bytes.now fields.old.cell }
+    requires body { IsBodyWithin bytes.now (body_of current) }
+    ensures fields { (past : AList ARecord) → AreFields past fields.old → AreFields (current ∷ past) fields.new }
+    ensures cell { AreCalledWithin bytes.now fields.new.cell }
+{
+    fields.take(current);
+}
+
 impl<'a> Reader<'a> {
-    fn new(alloc: Global) -> Reader<'a> {
+    fn new(alloc: Global) -> Reader<'a>
+        ensures reader { (bytes : AList ℕ) (wanted : AList APair) → IsReaderOf bytes wanted [] result }
+        ensures within { (bytes : AList ℕ) → IsReaderWithin bytes result }
+    {
         Reader {
             place: Place::Start,
             tables: false,
@@ -140,8 +176,30 @@ impl<'a> Reader<'a> {
         sorted: &[Pair],
         outline: Outline,
         at: usize,
-    ) -> Result<(), OasBad> {
-        let wanted = take_values(
+    ) -> Result<(), OasBad>
+        requires body { IsBodyWithin bytes.now outline.body }
+        requires cell { AreCalledWithin bytes.now self.old.fields.cell }
+        requires sorted { AreSorted sorted.now }
+        requires counted { self.old.names.counted < 2 ^ 63 }
+        requires few { AreAtMost (2 ^ 63) self.old.counts }
+        ensures place { self.new.place ≡ self.old.place }
+        ensures tables { self.new.tables ≡ self.old.tables }
+        ensures fields { self.new.fields ≡ self.old.fields }
+        ensures near { OnOk result (ArePlacesWithin (2 ^ 40) self.old.fields) }
+        ensures drafts { (wanted : AList APair) (past : AList Item) (r : ARecord) → IsTaken wanted sorted.now (records_in past) r outline self.old.fields
+            → AreDraftsOf wanted past self.old.drafts → OnOk result (AreDraftsOf wanted (item at r ∷ past) self.new.drafts) }
+        ensures within { AreDraftsWithin bytes.now self.old.drafts → OnOk result (AreDraftsWithin bytes.now self.new.drafts) }
+        ensures names { (past : AList Item) (r : ARecord) → outline.body ≡ body_of r → AreNamesOf bytes.now past self.old.names
+            → OnOk result (AreNamesOf bytes.now (item at r ∷ past) self.new.names) }
+        ensures spans { HaveSpans bytes.now self.old.names → OnOk result (HaveSpans bytes.now self.new.names) }
+        ensures counts { (wanted : AList APair) (past : AList ARecord) (r : ARecord) → IsTaken wanted sorted.now past r outline self.old.fields
+            → self.old.counts ≡ counts_of wanted past → OnOk result (self.new.counts ≡ counts_of wanted (r ∷ past)) }
+        ensures kept { (wanted : AList APair) (past : AList Item) (r : ARecord) → IsTaken wanted sorted.now (records_in past) r outline self.old.fields
+            → AreNamesOf bytes.now past self.old.names → OnOk result (IsBodyKept bytes.now wanted past r) }
+        ensures bad { (wanted : AList APair) (past : AList Item) (r : ARecord) → IsTaken wanted sorted.now (records_in past) r outline self.old.fields
+            → AreNamesOf bytes.now past self.old.names → IfErr result (IsBadBody bytes.now wanted past at r) }
+    {
+        let valued = take_values(
             alloc,
             bytes,
             sorted,
@@ -149,15 +207,23 @@ impl<'a> Reader<'a> {
             outline,
             at,
             &mut self.drafts,
-        )?;
-        take_names(
+        );
+        let wanted = match valued {
+            Ok(wanted) => wanted,
+            Err(bad) => return Err(bad),
+        };
+        let named = take_names(
             alloc,
             bytes,
             &mut self.names,
             &mut self.drafts,
             outline.body,
             at,
-        )?;
+        );
+        match named {
+            Ok(()) => {}
+            Err(bad) => return Err(bad),
+        }
         self.counts = counting::with(self.counts, outline.body, wanted);
         Ok(())
     }
@@ -172,32 +238,64 @@ impl<'a> Reader<'a> {
         current: OasRecord,
         at: usize,
         next: usize,
-    ) -> Result<(), OasBad> {
+    ) -> Result<(), OasBad>
+        requires at { at ≤ next }
+        requires body { IsBodyWithin bytes.now (body_of current) }
+        requires sorted { AreSorted sorted.now }
+        requires within { IsReaderWithin bytes.now self.old }
+        requires some { HaveRecords self.old.fields }
+        requires counted { self.old.names.counted < 2 ^ 63 }
+        requires few { AreAtMost (2 ^ 63) self.old.counts }
+        ensures reader { (wanted : AList APair) (past : AList Item) → AreSamePairs wanted sorted.now → IsReaderOf bytes.now wanted past self.old
+            → OnOk result (IsReaderOf bytes.now wanted (item at current ∷ past) self.new) }
+        ensures within { OnOk result (IsReaderWithin bytes.now self.new) }
+        ensures order { (wanted : AList APair) (past : AList Item) → AreSamePairs wanted sorted.now → IsReaderOf bytes.now wanted past self.old
+            → OnOk result (is_in_order (records_in past) current ≡ true) }
+        ensures allowed { (wanted : AList APair) (past : AList Item) → AreSamePairs wanted sorted.now → IsReaderOf bytes.now wanted past self.old
+            → OnOk result (IsAllowed bytes.now unit wanted past at current next) }
+        ensures refused { (wanted : AList APair) (past : AList Item) → AreSamePairs wanted sorted.now → IsReaderOf bytes.now wanted past self.old
+            → IfErr result (λ bad. bad ≢ bads.NoMemory → IsRefused bytes.now unit wanted past at current next bad) }
+    {
         let Some(place) = self.place.after(id_of(&current)) else {
             return Err(OasBad::Order(at));
         };
         let outline = outline_of(&current);
-        self.fields.take(current);
-        self.take_body(alloc, bytes, sorted, outline, at)?;
-        look_at_file(bytes, unit, outline.body, at, next)?;
-        if let Body::Start { offset_flag, .. } = outline.body {
-            self.tables = offset_flag == 1;
+        take_fields(bytes, &mut self.fields, current);
+        match self.take_body(alloc, bytes, sorted, outline, at) {
+            Ok(()) => {}
+            Err(bad) => return Err(bad),
         }
+        match look_at_file(bytes, unit, outline.body, at, next) {
+            Ok(()) => {}
+            Err(bad) => return Err(bad),
+        }
+        self.tables = tables_after(self.tables, outline.body);
         self.place = place;
         Ok(())
     }
 }
 
 // The layout of a reader that has taken END.
-fn finish<'a>(alloc: Global, bytes: &'a [u8], reader: Reader<'a>) -> Result<Layout, OasBad> {
+fn finish<'a>(alloc: Global, bytes: &'a [u8], reader: Reader<'a>) -> Result<Layout, OasBad>
+    requires spans { HaveSpans bytes.now reader.names }
+    requires within { AreDraftsWithin bytes.now reader.drafts }
+    ensures ok { (wanted : AList APair) (past : AList Item) (last : Item) → IsReaderOf bytes.now wanted (last ∷ past) reader.entry
+        → is_end last.r ≡ true → NoneEnds past → IfOk result (IsLayoutBehind bytes.now wanted (last ∷ past)) }
+    ensures grid { (wanted : AList APair) (past : AList Item) (last : Item) → IsReaderOf bytes.now wanted (last ∷ past) reader.entry
+        → is_end last.r ≡ true → NoneEnds past → IfOk result IsLayoutOnGrid }
+    ensures bad { (wanted : AList APair) (past : AList Item) (last : Item) → IsReaderOf bytes.now wanted (last ∷ past) reader.entry
+        → is_end last.r ≡ true → NoneEnds past → IfErr result (λ bad. (bad ≡ bads.NoMemory) ⊎ IsFaultOf bytes.now (last ∷ past) bad) }
+{
     let Reader {
         names,
         drafts,
         counts,
         ..
     } = reader;
-    let cells = cells_of(alloc, bytes, &names, drafts)?;
-    Ok(Layout { cells, counts })
+    match cells_of(alloc, bytes, &names, drafts) {
+        Ok(cells) => Ok(Layout { cells, counts }),
+        Err(bad) => Err(bad),
+    }
 }
 
 fn lexical_bad(bad: RecordBad, at: usize) -> OasBad
@@ -210,7 +308,14 @@ fn lexical_bad(bad: RecordBad, at: usize) -> OasBad
 }
 
 // The layout of the bytes, which begin as they have to. `sorted` are the wanted pairs.
-fn read_records(alloc: Global, bytes: &[u8], unit: u32, sorted: &[Pair]) -> Result<Layout, OasBad> {
+fn read_records(alloc: Global, bytes: &[u8], unit: u32, sorted: &[Pair]) -> Result<Layout, OasBad>
+    requires begins { the_take 13 bytes.now ≡ magic }
+    requires sorted { AreSorted sorted.now }
+    ensures found { (wanted : AList APair) → AreSamePairs wanted sorted.now → IfOk result (λ layout. IsLayoutOf bytes.now unit wanted layout) }
+    ensures grid { IfOk result IsLayoutOnGrid }
+    ensures first_fault { (wanted : AList APair) → AreSamePairs wanted sorted.now
+        → IfErr result (λ bad. bad ≢ bads.NoMemory → IsFirstFault bytes.now unit wanted bad) }
+{
     let mut reader = Reader::new(alloc);
     let mut at = MAGIC.len();
     'records: loop {
@@ -218,9 +323,12 @@ fn read_records(alloc: Global, bytes: &[u8], unit: u32, sorted: &[Pair]) -> Resu
             Ok(found) => found,
             Err(bad) => return Err(lexical_bad(bad, at)),
         };
-        let is_end = id_of(&current) == 2;
-        reader.take(alloc, bytes, unit, sorted, current, at, next)?;
-        if is_end {
+        let is_last = id_of(&current) == 2;
+        match reader.take(alloc, bytes, unit, sorted, current, at, next) {
+            Ok(()) => {}
+            Err(bad) => return Err(bad),
+        }
+        if is_last {
             return finish(alloc, bytes, reader);
         }
         at = next;

@@ -1,0 +1,120 @@
+-- The counts with one more record.
+use Rattle.std.proofs.Common.{◌≡◌, ℕ, ◌+◌, ◌^◌, ◌≤◌, ◌<◌, suc, Bool, true, false, if◌then◌else◌, not, IsTrue, Option, Some, None, List, [], ◌∷◌, refl, length, arith}
+use Rattle.std.specs.Prelude.{map}
+use Rattle.layout_model.specs.declared.cells.Counts.{Counts}
+use Rattle.layout_model.specs.declared.pair.Pair.{Pair}
+use Rattle.oas_record.specs.declared.records.OasRecord.{OasRecord}
+use Rattle.oas_record.specs.declared.records.OasRecord.TheVariants as records
+use Rattle.oas_reader.specs.Bodies.{body_of}
+use Rattle.oas_reader.specs.Drawn.{AreAtMost, with_record}
+use Rattle.oas_reader.specs.Items.{Item, records_in, count_in}
+use Rattle.oas_reader.specs.Meaning.{counts_of, is_kept, is_other, is_text, is_property, is_wanted}
+use Rattle.oas_reader.specs.Rules.{KeepsToOthers}
+use Rattle.oas_reader.specs.Taking.{wanting_of}
+use Rattle.oas_reader.specs.declared.bodies.Body.{Body}
+
+abbrev counts : ℕ → ℕ → ℕ → ℕ → Counts
+counts k o t p = record { kept = k; other = o; texts = t; nodes = 0; boxes = 0; properties = p }
+
+same_counts : (k o t p k' o' t' p' : ℕ) → k ≡ k' → o ≡ o' → t ≡ t' → p ≡ p' → counts k o t p ≡ counts k' o' t' p'
+same_counts k o t p k' o' t' p' a b c d = rw (a, b, c, d) refl
+
+none_more : (k o t p : ℕ) → counts k o t p ≡ counts (k + 0) (o + 0) (t + 0) (p + 0)
+none_more k o t p = same_counts k o t p (k + 0) (o + 0) (t + 0) (p + 0) (omega arith) (omega arith) (omega arith) (omega arith)
+
+kept_more : (k o t p : ℕ) → counts (k + 1) o t p ≡ counts (k + 1) (o + 0) (t + 0) (p + 0)
+kept_more k o t p = same_counts (k + 1) o t p (k + 1) (o + 0) (t + 0) (p + 0) (omega arith) (omega arith) (omega arith) (omega arith)
+
+other_more : (k o t p : ℕ) → counts k (o + 1) t p ≡ counts (k + 0) (o + 1) (t + 0) (p + 0)
+other_more k o t p = same_counts k (o + 1) t p (k + 0) (o + 1) (t + 0) (p + 0) (omega arith) (omega arith) (omega arith) (omega arith)
+
+text_more : (k o t p : ℕ) → counts k o (t + 1) p ≡ counts (k + 0) (o + 0) (t + 1) (p + 0)
+text_more k o t p = same_counts k o (t + 1) p (k + 0) (o + 0) (t + 1) (p + 0) (omega arith) (omega arith) (omega arith) (omega arith)
+
+property_more : (k o t p : ℕ) → counts k o t (p + 1) ≡ counts (k + 0) (o + 0) (t + 0) (p + 1)
+property_more k o t p = same_counts k o t (p + 1) (k + 0) (o + 0) (t + 0) (p + 1) (omega arith) (omega arith) (omega arith) (omega arith)
+
+shape_more : (k o t p : ℕ) (body : Body) (w : Bool)
+    → with_record (Some w) body (counts k o t p) ≡ counts (k + (if w then 1 else 0)) (o + (if not w then 1 else 0)) (t + 0) (p + 0)
+shape_more k o t p body true = kept_more k o t p
+shape_more k o t p body false = other_more k o t p
+
+undrawn_more : (k o t p : ℕ) (body : Body) (w : Bool) → (IsTrue w → ⊥)
+    → with_record (Some w) body (counts k o t p) ≡ counts (k + 0) (o + (if not w then 1 else 0)) (t + 0) (p + 0)
+undrawn_more k o t p body true not_wanted = absurd (not_wanted refl)
+undrawn_more k o t p body false not_wanted = other_more k o t p
+
+abbrev kept_in : List Pair → List OasRecord → ℕ
+kept_in wanted past = count_in (is_kept wanted) past
+
+abbrev other_in : List Pair → List OasRecord → ℕ
+other_in wanted past = count_in (is_other wanted) past
+
+abbrev texts_in : List OasRecord → ℕ
+texts_in past = count_in (λ _ r. is_text r) past
+
+abbrev properties_in : List OasRecord → ℕ
+properties_in past = count_in (λ _ r. is_property r) past
+
+pub counted : (wanted : List Pair) (past : List OasRecord) (r : OasRecord) → KeepsToOthers (is_wanted wanted (r ∷ past)) r
+    → with_record (wanting_of wanted past r) (body_of r) (counts_of wanted past) ≡ counts_of wanted (r ∷ past)
+counted wanted past records.Pad h = none_more (kept_in wanted past) (other_in wanted past) (texts_in past) (properties_in past)
+counted wanted past (records.Start version real offset_flag offsets) h = none_more (kept_in wanted past) (other_in wanted past) (texts_in past) (properties_in past)
+counted wanted past (records.End offsets padding scheme validation) h = none_more (kept_in wanted past) (other_in wanted past) (texts_in past) (properties_in past)
+counted wanted past (records.CellName name) h = none_more (kept_in wanted past) (other_in wanted past) (texts_in past) (properties_in past)
+counted wanted past (records.NumberedCellName name number) h = none_more (kept_in wanted past) (other_in wanted past) (texts_in past) (properties_in past)
+counted wanted past (records.TextString text) h = none_more (kept_in wanted past) (other_in wanted past) (texts_in past) (properties_in past)
+counted wanted past (records.NumberedTextString text number) h = none_more (kept_in wanted past) (other_in wanted past) (texts_in past) (properties_in past)
+counted wanted past (records.PropName name) h = none_more (kept_in wanted past) (other_in wanted past) (texts_in past) (properties_in past)
+counted wanted past (records.NumberedPropName name number) h = none_more (kept_in wanted past) (other_in wanted past) (texts_in past) (properties_in past)
+counted wanted past (records.PropString text) h = none_more (kept_in wanted past) (other_in wanted past) (texts_in past) (properties_in past)
+counted wanted past (records.NumberedPropString text number) h = none_more (kept_in wanted past) (other_in wanted past) (texts_in past) (properties_in past)
+counted wanted past (records.LayerName name layers datatypes) h = none_more (kept_in wanted past) (other_in wanted past) (texts_in past) (properties_in past)
+counted wanted past (records.TextLayerName name layers datatypes) h = none_more (kept_in wanted past) (other_in wanted past) (texts_in past) (properties_in past)
+counted wanted past (records.NumberedCell number) h = none_more (kept_in wanted past) (other_in wanted past) (texts_in past) (properties_in past)
+counted wanted past (records.Cell name) h = none_more (kept_in wanted past) (other_in wanted past) (texts_in past) (properties_in past)
+counted wanted past records.XyAbsolute h = none_more (kept_in wanted past) (other_in wanted past) (texts_in past) (properties_in past)
+counted wanted past records.XyRelative h = none_more (kept_in wanted past) (other_in wanted past) (texts_in past) (properties_in past)
+counted wanted past (records.Placement info cell x y repetition) h = none_more (kept_in wanted past) (other_in wanted past) (texts_in past) (properties_in past)
+counted wanted past (records.TurnedPlacement info cell magnification angle x y repetition) h = none_more (kept_in wanted past) (other_in wanted past) (texts_in past) (properties_in past)
+counted wanted past (records.Text info text textlayer texttype x y repetition) h = text_more (kept_in wanted past) (other_in wanted past) (texts_in past) (properties_in past)
+counted wanted past (records.Rectangle info layer datatype width height x y repetition) h = shape_more (kept_in wanted past) (other_in wanted past) (texts_in past) (properties_in past) (body_of (records.Rectangle info layer datatype width height x y repetition)) (is_wanted wanted ((records.Rectangle info layer datatype width height x y repetition) ∷ past))
+counted wanted past (records.Polygon info layer datatype points x y repetition) h = shape_more (kept_in wanted past) (other_in wanted past) (texts_in past) (properties_in past) (body_of (records.Polygon info layer datatype points x y repetition)) (is_wanted wanted ((records.Polygon info layer datatype points x y repetition) ∷ past))
+counted wanted past (records.Path info layer datatype half_width extension start end points x y repetition) h = shape_more (kept_in wanted past) (other_in wanted past) (texts_in past) (properties_in past) (body_of (records.Path info layer datatype half_width extension start end points x y repetition)) (is_wanted wanted ((records.Path info layer datatype half_width extension start end points x y repetition) ∷ past))
+counted wanted past (records.Trapezoid info layer datatype width height delta_a delta_b x y repetition) h = shape_more (kept_in wanted past) (other_in wanted past) (texts_in past) (properties_in past) (body_of (records.Trapezoid info layer datatype width height delta_a delta_b x y repetition)) (is_wanted wanted ((records.Trapezoid info layer datatype width height delta_a delta_b x y repetition) ∷ past))
+counted wanted past (records.TrapezoidA info layer datatype width height delta_a x y repetition) h = shape_more (kept_in wanted past) (other_in wanted past) (texts_in past) (properties_in past) (body_of (records.TrapezoidA info layer datatype width height delta_a x y repetition)) (is_wanted wanted ((records.TrapezoidA info layer datatype width height delta_a x y repetition) ∷ past))
+counted wanted past (records.TrapezoidB info layer datatype width height delta_b x y repetition) h = shape_more (kept_in wanted past) (other_in wanted past) (texts_in past) (properties_in past) (body_of (records.TrapezoidB info layer datatype width height delta_b x y repetition)) (is_wanted wanted ((records.TrapezoidB info layer datatype width height delta_b x y repetition) ∷ past))
+counted wanted past (records.Ctrapezoid info layer datatype kind width height x y repetition) h = shape_more (kept_in wanted past) (other_in wanted past) (texts_in past) (properties_in past) (body_of (records.Ctrapezoid info layer datatype kind width height x y repetition)) (is_wanted wanted ((records.Ctrapezoid info layer datatype kind width height x y repetition) ∷ past))
+counted wanted past (records.Circle info layer datatype radius x y repetition) h = undrawn_more (kept_in wanted past) (other_in wanted past) (texts_in past) (properties_in past) (body_of (records.Circle info layer datatype radius x y repetition)) (is_wanted wanted ((records.Circle info layer datatype radius x y repetition) ∷ past)) h
+counted wanted past (records.Property info name count values) h = property_more (kept_in wanted past) (other_in wanted past) (texts_in past) (properties_in past)
+counted wanted past records.LastProperty h = property_more (kept_in wanted past) (other_in wanted past) (texts_in past) (properties_in past)
+counted wanted past (records.XName attribute text) h = none_more (kept_in wanted past) (other_in wanted past) (texts_in past) (properties_in past)
+counted wanted past (records.NumberedXName attribute text number) h = none_more (kept_in wanted past) (other_in wanted past) (texts_in past) (properties_in past)
+counted wanted past (records.XElement attribute text) h = none_more (kept_in wanted past) (other_in wanted past) (texts_in past) (properties_in past)
+counted wanted past (records.XGeometry info attribute layer datatype text x y repetition) h = undrawn_more (kept_in wanted past) (other_in wanted past) (texts_in past) (properties_in past) (body_of (records.XGeometry info attribute layer datatype text x y repetition)) (is_wanted wanted ((records.XGeometry info attribute layer datatype text x y repetition) ∷ past)) h
+
+-- ---- as many as the records at most
+
+step_few : (b : Bool) (n m : ℕ) → n ≤ m → n + (if b then 1 else 0) ≤ suc m
+step_few true n m h = omega (arith, h)
+step_few false n m h = omega (arith, h)
+
+pub count_few : (test : List OasRecord → OasRecord → Bool) (past : List OasRecord) → count_in test past ≤ length past
+count_few test [] = omega arith
+count_few test (r ∷ past) = step_few (test past r) (count_in test past) (length past) (count_few test past)
+
+pub items_few : (past : List Item) → length (records_in past) ≡ length past
+items_few [] = refl
+items_few (x ∷ past) = let e = items_few past in omega (arith, e)
+
+pub counts_few : (wanted : List Pair) (past : List Item) (limit : ℕ) → length past ≤ limit → AreAtMost limit (counts_of wanted (records_in past))
+counts_few wanted past limit few =
+    let same = items_few past in
+    record {
+      kept = omega (arith, same, count_few (is_kept wanted) (records_in past));
+      other = omega (arith, same, count_few (is_other wanted) (records_in past));
+      texts = omega (arith, same, count_few (λ _ r. is_text r) (records_in past));
+      nodes = omega arith;
+      boxes = omega arith;
+      properties = omega (arith, same, count_few (λ _ r. is_property r) (records_in past));
+    }

@@ -1,0 +1,85 @@
+use Rattle.std.proofs.Common.{rules, arith, ◌<◌, ◌≤◌, ◌^◌, length, refl}
+use Rattle.oas_record.specs.Records.{HasRecord}
+use Rattle.oas_reader.specs.Wanting.{AreSamePairs}
+use Rattle.oas_reader.proofs.BodyLemmas.{body_within}
+use Rattle.oas_reader.proofs.ReadLemmas.{stands_first, have_records, counted_few, counts_small, lexical_first, refused_first, stands_on, ends, goes_on, ended_ok, ended_bad}
+use Rattle.oas_reader.proofs.reading.read_records.Goals as goal
+
+pub records-init : goal.records-init
+records-init c =
+    stands_first c.args.bytes.now c.args.unit c.args.sorted.now c.new-reader.result c.requires.begins (c.new-reader.ensures.within c.args.bytes.now)
+    (λ wanted. c.new-reader.ensures.reader c.args.bytes.now wanted)
+
+pub returns-in-Err-clause-first_fault : goal.returns-in-Err-clause-first_fault
+returns-in-Err-clause-first_fault c = λ wanted same more.
+    lexical_first c.args.bytes.now c.args.unit wanted c.args.sorted.now c.records.at c.records.reader c.in-Err.bad c.lexical_bad.result
+    c.records.invariant same c.in-Err.ensures.bad c.lexical_bad.ensures more
+
+pub take-requires-clause-some : goal.take-requires-clause-some
+take-requires-clause-some c = have_records c.args.bytes.now c.args.unit c.args.sorted.now c.records.at c.records.reader c.records.invariant
+
+pub take-requires-clause-counted : goal.take-requires-clause-counted
+take-requires-clause-counted c =
+    let small : length c.args.bytes.now < 2 ^ 63 = search rules in
+    counted_few c.args.bytes.now c.args.unit c.args.sorted.now c.records.at c.records.reader c.records.invariant small
+
+pub take-requires-clause-few : goal.take-requires-clause-few
+take-requires-clause-few c =
+    let small : length c.args.bytes.now < 2 ^ 63 = search rules in
+    counts_small c.args.bytes.now c.args.unit c.args.sorted.now c.records.at c.records.reader c.records.invariant small
+
+pub returns-in-Err-take-clause-first_fault : goal.returns-in-Err-take-clause-first_fault
+returns-in-Err-take-clause-first_fault c = λ wanted same more.
+    refused_first c.args.bytes.now c.args.unit wanted c.args.sorted.now c.records.at c.records.reader c.in-Ok.found.0 c.in-Ok.found.1 c.in-Err-take.bad
+    c.records.invariant same c.in-Ok.ensures.ok
+    (c.in-Err-take.ensures.refused wanted c.records.invariant.past same (c.records.invariant.reader_is wanted same) more)
+
+pub records-preserved : goal.records-preserved
+records-preserved c =
+    stands_on c.args.bytes.now c.args.unit c.args.sorted.now c.records.at c.records.reader c.take.new.self c.in-Ok.found.0 c.in-Ok.found.1
+    c.records.invariant c.in-Ok.ensures.ok c.in-Ok.ensures.onward c.in-Ok.ensures.within
+    (goes_on c.in-Ok.found.0 c.id_of-is_last.result _ c.id_of-is_last.ensures refl c.if-is_last.false)
+    c.in-Ok-take.ensures.within
+    (λ wanted same.
+        let reader = c.records.invariant.reader_is wanted same in
+        record {
+          order = c.in-Ok-take.ensures.order wanted c.records.invariant.past same reader;
+          allowed = c.in-Ok-take.ensures.allowed wanted c.records.invariant.past same reader;
+          reader_is = c.in-Ok-take.ensures.reader wanted c.records.invariant.past same reader;
+        })
+
+pub returns-then-is_last-clause-found : goal.returns-then-is_last-clause-found
+returns-then-is_last-clause-found c = λ wanted same.
+    let reader = c.records.invariant.reader_is wanted same in
+    let end = ends c.in-Ok.found.0 c.id_of-is_last.result _ c.id_of-is_last.ensures refl c.if-is_last.true in
+    let now = c.in-Ok-take.ensures.reader wanted c.records.invariant.past same reader in
+    ended_ok c.args.bytes.now c.args.unit wanted c.args.sorted.now c.records.at c.records.reader c.take.new.self c.in-Ok.found.0 c.in-Ok.found.1
+    c.finish.result c.records.invariant same c.in-Ok.ensures.ok end
+    (record {
+      order = c.in-Ok-take.ensures.order wanted c.records.invariant.past same reader;
+      allowed = c.in-Ok-take.ensures.allowed wanted c.records.invariant.past same reader;
+      reader_is = now;
+    })
+    (c.finish.ensures.ok wanted c.records.invariant.past _ now end c.records.invariant.goes_on)
+
+pub returns-then-is_last-clause-grid : goal.returns-then-is_last-clause-grid
+returns-then-is_last-clause-grid c =
+    let same : AreSamePairs c.args.sorted.now c.args.sorted.now = λ pair. refl in
+    let reader = c.records.invariant.reader_is c.args.sorted.now same in
+    let end = ends c.in-Ok.found.0 c.id_of-is_last.result _ c.id_of-is_last.ensures refl c.if-is_last.true in
+    let now = c.in-Ok-take.ensures.reader c.args.sorted.now c.records.invariant.past same reader in
+    c.finish.ensures.grid c.args.sorted.now c.records.invariant.past _ now end c.records.invariant.goes_on
+
+pub returns-then-is_last-clause-first_fault : goal.returns-then-is_last-clause-first_fault
+returns-then-is_last-clause-first_fault c = λ wanted same.
+    let reader = c.records.invariant.reader_is wanted same in
+    let end = ends c.in-Ok.found.0 c.id_of-is_last.result _ c.id_of-is_last.ensures refl c.if-is_last.true in
+    let now = c.in-Ok-take.ensures.reader wanted c.records.invariant.past same reader in
+    ended_bad c.args.bytes.now c.args.unit wanted c.args.sorted.now c.records.at c.records.reader c.take.new.self c.in-Ok.found.0 c.in-Ok.found.1
+    c.finish.result c.records.invariant same c.in-Ok.ensures.ok end
+    (record {
+      order = c.in-Ok-take.ensures.order wanted c.records.invariant.past same reader;
+      allowed = c.in-Ok-take.ensures.allowed wanted c.records.invariant.past same reader;
+      reader_is = now;
+    })
+    (c.finish.ensures.bad wanted c.records.invariant.past _ now end c.records.invariant.goes_on)
