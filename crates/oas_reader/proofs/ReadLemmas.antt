@@ -1,6 +1,6 @@
 -- From what the reader keeps to what the bytes hold.
 use Rattle.std.proofs.Common.{◌≡◌, ℕ, ◌+◌, ◌^◌, ◌<◌, ◌≤◌, nat_eq, Bool, true, false, Option, Some, None, List, [], ◌∷◌, length, take, Result, Ok, Err, refl, sym, ap, subst, ◌∙◌, ◌⊎◌, inl, inr, arith}
-use Rattle.std.specs.Prelude.{◌≢◌, IfOk, IfErr, IsTrue}
+use Rattle.std.specs.Prelude.{◌≢◌, IfOk, IfErr}
 use Rattle.std.proofs.lemmas.Grind.{common_steps}
 use Rattle.std.proofs.lemmas.List.{length-take}
 use Rattle.layout_model.specs.declared.cells.Layout.{Layout}
@@ -178,11 +178,17 @@ stands_on bytes unit sorted at old new r next s stands onward least more within 
 
 -- ---- END
 
-pub ends : (r : OasRecord) (id : ℕ) (last : Bool) → id ≡ id_of r → last ≡ nat_eq id 2 → IsTrue last → is_end r ≡ true
-ends r id last is test yes = sym (test ∙ ap (λ i. nat_eq i 2) is) ∙ yes
+same_end : (id : ℕ) → id ≡ 2 → nat_eq id 2 ≡ true
+same_end id e = grind (arith, common_steps)
 
-pub goes_on : (r : OasRecord) (id : ℕ) (last : Bool) → id ≡ id_of r → last ≡ nat_eq id 2 → last ≡ false → is_end r ≡ false
-goes_on r id last is test no = sym (test ∙ ap (λ i. nat_eq i 2) is) ∙ no
+other_end : (id : ℕ) → (id ≡ 2 → ⊥) → nat_eq id 2 ≡ false
+other_end id e = grind (arith, common_steps)
+
+pub ends : (r : OasRecord) (id : ℕ) → id ≡ id_of r → id ≡ 2 → is_end r ≡ true
+ends r id is e = same_end (id_of r) (sym is ∙ e)
+
+pub goes_on : (r : OasRecord) (id : ℕ) → id ≡ id_of r → (id ≡ 2 → ⊥) → is_end r ≡ false
+goes_on r id is e = other_end (id_of r) (λ two. e (is ∙ two))
 
 whole : (bytes : List ℕ) (unit : ℕ) (wanted sorted : List Pair) (at : ℕ) (old new : Reader) (r : OasRecord) (next : ℕ)
     → (s : IsStanding bytes unit sorted at old) → AreSamePairs wanted sorted → HasRecord bytes at old.tables r next → is_end r ≡ true

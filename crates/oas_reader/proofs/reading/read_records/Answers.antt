@@ -1,5 +1,4 @@
-use Rattle.std.proofs.Common.{rules, arith, ◌<◌, ◌≤◌, ◌^◌, length, refl}
-use Rattle.oas_record.specs.Records.{HasRecord}
+use Rattle.std.proofs.Common.{rules, ◌<◌, ◌^◌, length, refl}
 use Rattle.oas_reader.specs.Wanting.{AreSamePairs}
 use Rattle.oas_reader.proofs.BodyLemmas.{body_within}
 use Rattle.oas_reader.proofs.ReadLemmas.{stands_first, have_records, counted_few, counts_small, lexical_first, refused_first, stands_on, ends, goes_on, ended_ok, ended_bad}
@@ -14,6 +13,10 @@ pub returns-in-Err-clause-first_fault : goal.returns-in-Err-clause-first_fault
 returns-in-Err-clause-first_fault c = λ wanted same more.
     lexical_first c.args.bytes.now c.args.unit wanted c.args.sorted.now c.records.at c.records.reader c.in-Err.bad c.lexical_bad.result
     c.records.invariant same c.in-Err.ensures.bad c.lexical_bad.ensures more
+
+pub take-requires-clause-body : goal.take-requires-clause-body
+take-requires-clause-body c =
+    body_within c.args.bytes.now c.records.at c.records.reader.tables c.in-Ok.found.0 c.in-Ok.found.1 c.in-Ok.ensures.ok
 
 pub take-requires-clause-some : goal.take-requires-clause-some
 take-requires-clause-some c = have_records c.args.bytes.now c.args.unit c.args.sorted.now c.records.at c.records.reader c.records.invariant
@@ -38,7 +41,7 @@ pub records-preserved : goal.records-preserved
 records-preserved c =
     stands_on c.args.bytes.now c.args.unit c.args.sorted.now c.records.at c.records.reader c.take.new.self c.in-Ok.found.0 c.in-Ok.found.1
     c.records.invariant c.in-Ok.ensures.ok c.in-Ok.ensures.onward c.in-Ok.ensures.within
-    (goes_on c.in-Ok.found.0 c.id_of-is_last.result _ c.id_of-is_last.ensures refl c.if-is_last.false)
+    (goes_on c.in-Ok.found.0 c.id_of-is_last.result c.id_of-is_last.ensures c.if-is_last.false)
     c.in-Ok-take.ensures.within
     (λ wanted same.
         let reader = c.records.invariant.reader_is wanted same in
@@ -51,7 +54,7 @@ records-preserved c =
 pub returns-then-is_last-clause-found : goal.returns-then-is_last-clause-found
 returns-then-is_last-clause-found c = λ wanted same.
     let reader = c.records.invariant.reader_is wanted same in
-    let end = ends c.in-Ok.found.0 c.id_of-is_last.result _ c.id_of-is_last.ensures refl c.if-is_last.true in
+    let end = ends c.in-Ok.found.0 c.id_of-is_last.result c.id_of-is_last.ensures c.if-is_last.true in
     let now = c.in-Ok-take.ensures.reader wanted c.records.invariant.past same reader in
     ended_ok c.args.bytes.now c.args.unit wanted c.args.sorted.now c.records.at c.records.reader c.take.new.self c.in-Ok.found.0 c.in-Ok.found.1
     c.finish.result c.records.invariant same c.in-Ok.ensures.ok end
@@ -66,14 +69,14 @@ pub returns-then-is_last-clause-grid : goal.returns-then-is_last-clause-grid
 returns-then-is_last-clause-grid c =
     let same : AreSamePairs c.args.sorted.now c.args.sorted.now = λ pair. refl in
     let reader = c.records.invariant.reader_is c.args.sorted.now same in
-    let end = ends c.in-Ok.found.0 c.id_of-is_last.result _ c.id_of-is_last.ensures refl c.if-is_last.true in
+    let end = ends c.in-Ok.found.0 c.id_of-is_last.result c.id_of-is_last.ensures c.if-is_last.true in
     let now = c.in-Ok-take.ensures.reader c.args.sorted.now c.records.invariant.past same reader in
     c.finish.ensures.grid c.args.sorted.now c.records.invariant.past _ now end c.records.invariant.goes_on
 
 pub returns-then-is_last-clause-first_fault : goal.returns-then-is_last-clause-first_fault
 returns-then-is_last-clause-first_fault c = λ wanted same.
     let reader = c.records.invariant.reader_is wanted same in
-    let end = ends c.in-Ok.found.0 c.id_of-is_last.result _ c.id_of-is_last.ensures refl c.if-is_last.true in
+    let end = ends c.in-Ok.found.0 c.id_of-is_last.result c.id_of-is_last.ensures c.if-is_last.true in
     let now = c.in-Ok-take.ensures.reader wanted c.records.invariant.past same reader in
     ended_bad c.args.bytes.now c.args.unit wanted c.args.sorted.now c.records.at c.records.reader c.take.new.self c.in-Ok.found.0 c.in-Ok.found.1
     c.finish.result c.records.invariant same c.in-Ok.ensures.ok end
