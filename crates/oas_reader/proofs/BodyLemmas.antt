@@ -1,8 +1,8 @@
 -- What a record that stands keeps within the bytes, and what is kept of it says of its kind.
-use Rattle.std.proofs.Common.{◌≡◌, ℕ, ◌+◌, ◌/◌, ◌%◌, ◌<◌, ◌≤◌, Bool, true, false, if◌then◌else◌, Option, Some, None, List, [], ◌∷◌, refl, sym, ap, subst, ◌∙◌, ◌⊎◌, inl, inr, arith, length}
+use Rattle.std.proofs.Common.{◌≡◌, ℕ, ◌+◌, Bool, true, false, if◌then◌else◌, Option, Some, None, List, [], ◌∷◌, refl, sym, subst, ◌⊎◌, inl, inr, arith}
 use Rattle.oas_lex.specs.Strings.{HasText}
 use Rattle.oas_record.specs.Records.{HasRecord, HasBody, HasInfo, HasRow, row_at, id_of, info_of, fields_of, switch_of, called_or, span_or, real_or, place_of}
-use Rattle.oas_record.specs.Rows.{Field, Absent, IsNumber, IsReal, IsCalled, IsSpan as Spanned, Part, Row, NoInfo, Below, HasForm, HasName, HasWhere, HasFields, Text as AText, OneReal, Switch, Tables, Number as ANumber, NameBy, Always, Bit, Zero, when, placed, is_set, is_written}
+use Rattle.oas_record.specs.Rows.{Field, IsNumber, IsReal, IsCalled, IsSpan as Spanned, Part, Row, NoInfo, Below, HasForm, HasName, HasWhere, HasFields, Text as AText, OneReal, Switch, Tables, Number as ANumber, NameBy, Always, Bit, Zero, when, placed, is_set, is_written}
 use Rattle.oas_record.specs.declared.fields.Called.{Called}
 use Rattle.oas_record.specs.declared.fields.Called.TheVariants.{Number, Text}
 use Rattle.oas_record.specs.declared.records.OasRecord.{OasRecord}
@@ -107,13 +107,13 @@ body_within bytes at tables (records.Cell name) next h =
 body_within bytes at tables records.XyAbsolute next h = tt
 body_within bytes at tables records.XyRelative next h = tt
 body_within bytes at tables (records.Placement info cell x y repetition) next h = (
-    called_first placed bytes (at + 1) info cell (place_of x y repetition) next (row_of bytes at tables (records.Placement info cell x y repetition) next h),
-    omega arith,
+  called_first placed bytes (at + 1) info cell (place_of x y repetition) next (row_of bytes at tables (records.Placement info cell x y repetition) next h),
+  omega arith,
 )
 body_within bytes at tables (records.TurnedPlacement info cell magnification angle x y repetition) next h = (
-    called_first (when (Bit 2) OneReal ∷ when (Bit 1) OneReal ∷ placed) bytes (at + 1) info cell (real_or magnification ∷ real_or angle ∷ place_of x y repetition) next
-    (row_of bytes at tables (records.TurnedPlacement info cell magnification angle x y repetition) next h),
-    tt,
+  called_first (when (Bit 2) OneReal ∷ when (Bit 1) OneReal ∷ placed) bytes (at + 1) info cell (real_or magnification ∷ real_or angle ∷ place_of x y repetition) next
+      (row_of bytes at tables (records.TurnedPlacement info cell magnification angle x y repetition) next h),
+  tt,
 )
 body_within bytes at tables (records.Text info text textlayer texttype x y repetition) next h = tt
 body_within bytes at tables (records.Rectangle info layer datatype width height x y repetition) next h = tt

@@ -1,6 +1,5 @@
 -- The counts with one more record.
-use Rattle.std.proofs.Common.{◌≡◌, ℕ, ◌+◌, ◌^◌, ◌≤◌, ◌<◌, suc, Bool, true, false, if◌then◌else◌, not, IsTrue, Option, Some, None, List, [], ◌∷◌, refl, length, arith}
-use Rattle.std.specs.Prelude.{map}
+use Rattle.std.proofs.Common.{◌≡◌, ℕ, ◌+◌, ◌≤◌, suc, Bool, true, false, if◌then◌else◌, not, IsTrue, Some, List, [], ◌∷◌, refl, length, arith}
 use Rattle.layout_model.specs.declared.cells.Counts.{Counts}
 use Rattle.layout_model.specs.declared.pair.Pair.{Pair}
 use Rattle.oas_record.specs.declared.records.OasRecord.{OasRecord}

@@ -1,5 +1,5 @@
 -- START's unit, and what a record that stands gives.
-use Rattle.std.proofs.Common.{rules, ◌≡◌, ◌↔◌, ◌<◌, ◌^◌, ◌∙◌, ℕ, nat_eq, IsTrue, Option, Some, None, pos, w64, FitsSigned, to_z, of_z, ℤ, sym, ap, refl, subst, arith}
+use Rattle.std.proofs.Common.{◌≡◌, ◌↔◌, ◌<◌, ◌^◌, ◌∙◌, ℕ, nat_eq, IsTrue, Option, Some, None, pos, w64, FitsSigned, to_z, of_z, ℤ, sym, ap, subst, arith}
 use Rattle.std.specs.Prelude.{unsigned_abs}
 use Rattle.std.proofs.lemmas.Int.{to_z-of_z, ints}
 use Rattle.std.proofs.lemmas.Grind.{common_steps}
@@ -28,11 +28,10 @@ pub unit_is : (real : Real) (whole : ℤ) (unit : ℕ) (from : ℤ) (o : Option 
 unit_is real whole unit from o iff is small from_is =
     subst (λ f. IsTrue (nat_eq (of_z w64 whole) (of_z w64 f)) ↔ IsWholeReal real (pos unit)) (sym from_is) (
     let holds : IsWholeReal real whole = (iff whole).0 is in
-    let few : unsigned_abs whole < 2 ^ 24 = holds.small in
-    (
+    let few : unsigned_abs whole < 2 ^ 24 = holds.small in (
       λ same. subst (IsWholeReal real) (same_signed whole (pos unit) (omega (arith, few)) (omega (arith, small)) same) holds,
       λ wanted. let e : whole ≡ pos unit = some_same whole (pos unit) o is ((iff (pos unit)).1 wanted) in
-      to_bits (of_z w64 whole) (of_z w64 (pos unit)) (ap (of_z w64) e),
+          to_bits (of_z w64 whole) (of_z w64 (pos unit)) (ap (of_z w64) e),
     )
     )
 

@@ -3,11 +3,8 @@
 use Rattle.std.proofs.Common.{◌≡◌, ℕ, Bool, true, false, Option, Some, None, List, [], ◌∷◌, refl, sym, ap, subst, ◌∙◌, ◌⊎◌, inl, inr, arith}
 use Rattle.std.proofs.lemmas.Bool.{cases_lt}
 use Rattle.layout_model.specs.declared.pair.Pair.{Pair}
-use Rattle.layout_model.specs.declared.cells.Layout.{Layout}
-use Rattle.oas_fields.specs.declared.variables.Variable.{Variable}
 use Rattle.oas_record.specs.Laws.{OneRecord, RecordOrFault, OneFault as OneCause}
-use Rattle.oas_record.specs.Records.{HasRecord, NoRecord}
-use Rattle.oas_record.specs.declared.faults.RecordBad.{RecordBad}
+use Rattle.oas_record.specs.Records.{HasRecord}
 use Rattle.oas_record.specs.declared.records.OasRecord.{OasRecord}
 use Rattle.oas_shapes.specs.Rules.{IsLowest}
 use Rattle.oas_reader.specs.declared.refusing.OasBad.{OasBad}
@@ -18,7 +15,7 @@ use Rattle.oas_reader.specs.Names.{conflict_of, first_unknown, first_twins}
 use Rattle.oas_reader.specs.Undefined.{undefined_of}
 use Rattle.oas_reader.specs.Rules.{KeepsRules, Keeps}
 use Rattle.oas_reader.specs.Meaning.{layout_of}
-use Rattle.oas_reader.specs.Reading.{HasUnit, IsTail, IsAllowed, AreAllowed, IsReadUpTo, IsWhole, IsLayoutOf, IsLexicalFault, IsOrderFault, IsUndefinedFault, IsDefined, IsValueFault, IsNameFault, IsUnitFault, IsTailFault, IsRefused, IsRecordFault, IsFaultWithin, IsFaultOf, IsFaultBehind, IsMagicFault, IsFirstFault, OneLayout, OneFault, NoLayoutWithFault}
+use Rattle.oas_reader.specs.Reading.{IsAllowed, AreAllowed, IsWhole, IsLexicalFault, IsUndefinedFault, IsDefined, IsValueFault, IsNameFault, IsUnitFault, IsTailFault, IsRefused, IsRecordFault, IsFaultWithin, IsFaultOf, OneLayout, OneFault, NoLayoutWithFault}
 
 -- ---- two runs of records
 

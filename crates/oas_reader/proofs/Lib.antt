@@ -9,5 +9,5 @@ mod WantedLemmas
 mod FileLemmas
 mod BodyLemmas
 mod CountLemmas
-mod TakeLemmas
+mod TakenLemmas
 mod ReadLemmas

@@ -1,5 +1,5 @@
 -- From what the reader keeps to what the bytes hold.
-use Rattle.std.proofs.Common.{◌≡◌, ℕ, ◌+◌, ◌^◌, ◌<◌, ◌≤◌, nat_eq, Bool, true, false, Option, Some, None, List, [], ◌∷◌, length, take, Result, Ok, Err, refl, sym, ap, subst, ◌∙◌, ◌⊎◌, inl, inr, arith}
+use Rattle.std.proofs.Common.{◌≡◌, ℕ, ◌^◌, ◌<◌, ◌≤◌, nat_eq, true, false, List, [], ◌∷◌, length, take, Result, Ok, Err, refl, sym, ap, subst, ◌∙◌, ◌⊎◌, inl, inr, arith}
 use Rattle.std.specs.Prelude.{◌≢◌, IfOk, IfErr}
 use Rattle.std.proofs.lemmas.Grind.{common_steps}
 use Rattle.std.proofs.lemmas.List.{length-take}
@@ -13,8 +13,7 @@ use Rattle.oas_record.specs.declared.records.OasRecord.{OasRecord}
 use Rattle.oas_record.proofs.RecordReaders.{one_record}
 use Rattle.oas_reader.specs.Drawn.{AreAtMost}
 use Rattle.oas_reader.specs.Files.{lexical_fault, HaveRecords, IsStanding, IsLayoutBehind}
-use Rattle.oas_reader.specs.Items.{Item, records_in, tables_at_end, magic, is_end, count_in}
-use Rattle.oas_reader.specs.Meaning.{counts_of}
+use Rattle.oas_reader.specs.Items.{Item, records_in, tables_at_end, magic, is_end}
 use Rattle.oas_reader.specs.Names.{is_unnumbered}
 use Rattle.oas_reader.specs.Order.{is_in_order}
 use Rattle.oas_reader.specs.Readers.{IsReaderOf, IsReaderWithin}

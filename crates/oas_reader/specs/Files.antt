@@ -1,5 +1,5 @@
 -- What the whole file gives, by what the program keeps of the records.
-use Rattle.std.specs.Prelude.{◌≡◌, ◌⊎◌, ◌≤◌, ℕ, pos, nat_eq, Bool, true, false, if◌then◌else◌, List, [], ◌∷◌, Option, Some, None, length, take}
+use Rattle.std.specs.Prelude.{◌≡◌, ◌⊎◌, ◌≤◌, ℕ, pos, nat_eq, Bool, true, if◌then◌else◌, List, Some, None, length, take}
 use Rattle.layout_model.specs.declared.cells.Layout.{Layout}
 use Rattle.layout_model.specs.declared.pair.Pair.{Pair}
 use Rattle.oas_lex.specs.Reals.{IsWholeReal}

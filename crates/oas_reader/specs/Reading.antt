@@ -1,7 +1,7 @@
 -- What bytes hold: a layout, or a first fault. The first record that is refused decides. At one record its bytes come
 -- first, then its order, then a value that it needs, then the value rules, the lowest first, then names, the unit, and
 -- where END ends. Behind END come names by number: first those that no record gives, then cells of one name.
-use Rattle.std.specs.Prelude.{◌≡◌, ◌≢◌, ◌⊎◌, ◌+◌, ◌<◌, ℕ, pos, Bool, true, false, IsTrue, List, [], ◌∷◌, Option, Some, None, length, take}
+use Rattle.std.specs.Prelude.{◌≡◌, ◌≢◌, ◌⊎◌, ◌+◌, ℕ, pos, true, false, List, [], ◌∷◌, Some, None, length, take}
 use Rattle.layout_model.specs.declared.pair.Pair.{Pair}
 use Rattle.layout_model.specs.declared.cells.Layout.{Layout}
 use Rattle.oas_lex.specs.Reals.{IsWholeReal}

@@ -1,6 +1,4 @@
-use Rattle.std.proofs.Common.{rules, subst, sym, arith}
-use Rattle.std.specs.Prelude.{◌↔◌, IsTrue, nat_eq, pos}
-use Rattle.oas_lex.specs.Reals.{IsWholeReal}
+use Rattle.std.proofs.Common.{rules}
 use Rattle.oas_reader.proofs.FileLemmas.{unit_is, no_unit}
 use Rattle.oas_reader.proofs.reading.has_unit.Goals as goal
 

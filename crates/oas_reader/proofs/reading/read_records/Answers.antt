@@ -44,12 +44,12 @@ records-preserved c =
     (goes_on c.in-Ok.found.0 c.id_of-is_last.result c.id_of-is_last.ensures c.if-is_last.false)
     c.in-Ok-take.ensures.within
     (λ wanted same.
-        let reader = c.records.invariant.reader_is wanted same in
-        record {
-          order = c.in-Ok-take.ensures.order wanted c.records.invariant.past same reader;
-          allowed = c.in-Ok-take.ensures.allowed wanted c.records.invariant.past same reader;
-          reader_is = c.in-Ok-take.ensures.reader wanted c.records.invariant.past same reader;
-        })
+    let reader = c.records.invariant.reader_is wanted same in
+    record {
+      order = c.in-Ok-take.ensures.order wanted c.records.invariant.past same reader;
+      allowed = c.in-Ok-take.ensures.allowed wanted c.records.invariant.past same reader;
+      reader_is = c.in-Ok-take.ensures.reader wanted c.records.invariant.past same reader;
+    })
 
 pub returns-then-is_last-clause-found : goal.returns-then-is_last-clause-found
 returns-then-is_last-clause-found c = λ wanted same.

@@ -1,5 +1,5 @@
 use Rattle.std.proofs.Common.{refl}
-use Rattle.oas_reader.proofs.TakeLemmas.{near_first, cell_first, spans_first}
+use Rattle.oas_reader.proofs.TakenLemmas.{near_first, cell_first, spans_first}
 use Rattle.oas_reader.proofs.reading.Reader.new.Goals as goal
 
 pub returns-clause-reader : goal.returns-clause-reader

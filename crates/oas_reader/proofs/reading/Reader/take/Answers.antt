@@ -2,7 +2,7 @@ use Rattle.std.proofs.Common.{◌∷◌, sym, subst}
 use Rattle.oas_fields.specs.Values.{AreFields}
 use Rattle.oas_reader.specs.Items.{records_in}
 use Rattle.oas_reader.specs.Order.{ids_of}
-use Rattle.oas_reader.proofs.TakeLemmas.{order_on, place_on, taken_on, body_refused, file_refused, body_allowed, tables_on}
+use Rattle.oas_reader.proofs.TakenLemmas.{order_on, place_on, taken_on, body_refused, file_refused, body_allowed, tables_on}
 use Rattle.oas_reader.proofs.reading.Reader.take.Goals as goal
 
 pub returns-in-Err-clause-refused : goal.returns-in-Err-clause-refused

@@ -1,4 +1,4 @@
-use Rattle.oas_reader.proofs.TakeLemmas.{drafts_on, counts_on, body_kept, bad_value, bad_name}
+use Rattle.oas_reader.proofs.TakenLemmas.{drafts_on, counts_on, body_kept, bad_value, bad_name}
 use Rattle.oas_reader.specs.Items.{records_in}
 use Rattle.oas_reader.proofs.reading.Reader.take_body.Goals as goal
 

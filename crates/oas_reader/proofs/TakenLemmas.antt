@@ -1,5 +1,5 @@
 -- What is kept and what is refused of one record.
-use Rattle.std.proofs.Common.{◌≡◌, ℕ, ◌+◌, ◌^◌, ◌<◌, ◌≤◌, Bool, true, false, Option, Some, None, List, [], ◌∷◌, pos, refl, sym, ap, subst, ◌∙◌, ◌⊎◌, inl, inr, arith}
+use Rattle.std.proofs.Common.{◌≡◌, ℕ, ◌^◌, Bool, true, false, Option, Some, None, List, [], ◌∷◌, pos, refl, sym, ap, subst, ◌∙◌, ◌⊎◌, inl, inr, arith}
 use Rattle.std.specs.Prelude.{◌≢◌, ◌↔◌, IfSome, IsTrue}
 use Rattle.std.proofs.lemmas.Int.{ints}
 use Rattle.layout_model.specs.declared.cells.Counts.{Counts}
@@ -14,14 +14,14 @@ use Rattle.oas_shapes.specs.Repetitions.{HasDimensionsIn}
 use Rattle.oas_reader.specs.Bodies.{body_of}
 use Rattle.oas_reader.specs.Drawn.{with_record}
 use Rattle.oas_reader.specs.Files.{KeepsFile, BreaksFile, tables_by, IsBodyKept, IsBadBody}
-use Rattle.oas_reader.specs.Items.{Item, records_in, tables_at_end, is_flagged}
+use Rattle.oas_reader.specs.Items.{Item, records_in, tables_at_end}
 use Rattle.oas_reader.specs.Meaning.{counts_of, is_wanted}
 use Rattle.oas_reader.specs.Names.{conflict_of}
 use Rattle.oas_reader.specs.Naming.{AreCalledWithin, AreNamesOf, HaveSpans, IsSpan, given_in, text_by}
 use Rattle.oas_reader.specs.Order.{ids_of, may_follow, is_in_order}
 use Rattle.oas_reader.specs.Places.{IsPlace}
 use Rattle.oas_reader.specs.Readers.{AreDraftsOf}
-use Rattle.oas_reader.specs.Reading.{item, IsAllowed, IsDefined, IsRefused}
+use Rattle.oas_reader.specs.Reading.{item, IsAllowed, IsRefused}
 use Rattle.oas_reader.specs.Rules.{KeepsToOthers}
 use Rattle.oas_reader.specs.Taking.{IsTaken, wanting_of, KeepsOwnName, AreValuesKept, IsBadValue, IsBadName}
 use Rattle.oas_reader.specs.Undefined.{is_there}
