@@ -1,6 +1,8 @@
 mod PairLemmas
 mod LawLemmas
 mod NameLemmas
+mod CellLemmas
+mod TakeLemmas
 mod FinishLemmas
 mod FieldBridges
 mod DrawBridges

@@ -15,7 +15,7 @@ use Rattle.oas_reader.specs.declared.naming.Names.{Names}
 use Rattle.oas_reader.specs.declared.naming.Cells.{Cells}
 use Rattle.oas_reader.specs.Items.{Item, records_in, count_in, text_in}
 use Rattle.oas_reader.specs.Names.{Claim, NoClaim, OfNumber, OfName, same_name, do_conflict, some_if, claim_of, number_given, has_number, is_unnumbered, cell_called, target_called, cell_name, first_conflict, name_given, name_of_number, is_none, is_unknown, first_unknown, have_one_name, first_named}
-use Rattle.oas_reader.specs.Naming.{text_by, given_in, place_by, conflict_with, cell_in, first_marked, passes, first_mention, Mentions, AreNamesOf, place_in, AreCellsOf}
+use Rattle.oas_reader.specs.Naming.{text_by, given_in, place_by, conflict_with, cell_in, first_marked, passes, first_mention, Calls, Mentions, AreNamesOf, place_in, AreCellsOf}
 use Rattle.oas_reader.specs.Reading.{item}
 
 -- ---- numbers that no record gives
@@ -266,3 +266,13 @@ others bytes past (records.Placement info cell x y repetition) h =
 others bytes past (records.TurnedPlacement info cell magnification angle x y repetition) h =
     record { claims = refl; gives = refl; counts = refl; writes = λ test. none_passes test cell h }
 others bytes past r h = record { claims = refl; gives = refl; counts = refl; writes = λ test. refl }
+
+-- a record that calls no cell by a number
+pub calls_nothing : (bytes : List ℕ) (past : List OasRecord) (r : OasRecord) (called : Option Called) → Calls bytes past r called
+    → is_number called ≡ false → NamesNothing bytes past r
+calls_nothing bytes past r called calls none = record {
+  claims = calls.claims;
+  gives = calls.gives;
+  counts = calls.counts;
+  writes = λ test. ap (passes test) calls.written ∙ none_passes test called none;
+}
