@@ -4,6 +4,7 @@ mod NameLemmas
 mod CellLemmas
 mod TakeLemmas
 mod FinishLemmas
+mod BehindLemmas
 mod FieldBridges
 mod DrawBridges
 mod FigureLemmas

@@ -210,7 +210,10 @@ pub(crate) fn cells_of<'a>(
         → AreDraftsOf wanted (last ∷ past) drafts → is_end last.r ≡ true → NoneEnds past
         → IfErr result (λ bad. (bad ≡ bads.NoMemory) ⊎ IsFaultOf bytes.now (last ∷ past) bad) }
 {
-    names.all_known()?;
+    match names.all_known() {
+        Ok(()) => {}
+        Err(bad) => return Err(bad),
+    }
     match drafts.finish(alloc) {
         Ok(drafts) => distinct_cells(alloc, bytes, names, drafts),
         Err(_) => Err(OasBad::NoMemory),
