@@ -15,7 +15,7 @@ use Rattle.oas_reader.specs.declared.naming.Names.{Names}
 use Rattle.oas_reader.specs.declared.naming.Cells.{Cells}
 use Rattle.oas_reader.specs.Items.{Item, records_in, count_in, text_in}
 use Rattle.oas_reader.specs.Names.{Claim, NoClaim, OfNumber, OfName, same_name, do_conflict, some_if, claim_of, number_given, has_number, is_unnumbered, cell_called, target_called, cell_name, first_conflict, name_given, name_of_number, is_none, is_unknown, first_unknown, have_one_name, first_named}
-use Rattle.oas_reader.specs.Naming.{text_by, given_in, place_by, conflict_with, cell_in, first_marked, passes, first_mention, Calls, Mentions, AreNamesOf, place_in, AreCellsOf}
+use Rattle.oas_reader.specs.Naming.{text_by, given_in, place_by, conflict_with, cell_in, first_marked, passes, first_mention, Mentions, AreNamesOf, place_in, AreCellsOf}
 use Rattle.oas_reader.specs.Reading.{item}
 
 -- ---- numbers that no record gives
@@ -233,46 +233,4 @@ mentioned_first bytes past old new at r number are mentions given numbering coun
       ap (first_marked test) used ∙ marked_more test old.used.entries number at
       ∙ ap (λ o. or_else o (some_if (test number) at)) (are.used test)
       ∙ sym (ap (λ c. or_else (first_mention test past) (some_if (passes test c) at)) mentions.written);
-}
-
--- ---- records that name no cell by a number and give no name
-
-abbrev pub is_number : Option Called → Bool
-is_number None = false
-is_number (Some (Number number)) = true
-is_number (Some (Text first next)) = false
-
-abbrev pub has_names : OasRecord → Bool
-has_names (records.CellName name) = true
-has_names (records.NumberedCellName name number) = true
-has_names (records.NumberedCell number) = true
-has_names (records.Cell name) = true
-has_names (records.Placement info cell x y repetition) = is_number cell
-has_names (records.TurnedPlacement info cell magnification angle x y repetition) = is_number cell
-has_names _ = false
-
-none_passes : (test : ℕ → Bool) (called : Option Called) → is_number called ≡ false → passes test called ≡ false
-none_passes test None h = refl
-none_passes test (Some (Number number)) h = absurd (cc)
-none_passes test (Some (Text first next)) h = refl
-
-pub others : (bytes : List ℕ) (past : List OasRecord) (r : OasRecord) → has_names r ≡ false → NamesNothing bytes past r
-others bytes past (records.CellName name) h = absurd (cc)
-others bytes past (records.NumberedCellName name number) h = absurd (cc)
-others bytes past (records.NumberedCell number) h = absurd (cc)
-others bytes past (records.Cell name) h = absurd (cc)
-others bytes past (records.Placement info cell x y repetition) h =
-    record { claims = refl; gives = refl; counts = refl; writes = λ test. none_passes test cell h }
-others bytes past (records.TurnedPlacement info cell magnification angle x y repetition) h =
-    record { claims = refl; gives = refl; counts = refl; writes = λ test. none_passes test cell h }
-others bytes past r h = record { claims = refl; gives = refl; counts = refl; writes = λ test. refl }
-
--- a record that calls no cell by a number
-pub calls_nothing : (bytes : List ℕ) (past : List OasRecord) (r : OasRecord) (called : Option Called) → Calls bytes past r called
-    → is_number called ≡ false → NamesNothing bytes past r
-calls_nothing bytes past r called calls none = record {
-  claims = calls.claims;
-  gives = calls.gives;
-  counts = calls.counts;
-  writes = λ test. ap (passes test) calls.written ∙ none_passes test called none;
 }

@@ -2,7 +2,6 @@
 use Rattle.std.proofs.Common.{◌≡◌, ℕ, Bool, true, false, List, ◌∷◌, Option, Some, None, refl, sym, ap, subst, ◌∙◌, inl, inr}
 use Rattle.layout_model.specs.Names.{IsName}
 use Rattle.oas_record.specs.declared.fields.Called.{Called}
-use Rattle.oas_record.specs.declared.fields.Called.TheVariants.{Number, Text}
 use Rattle.oas_record.specs.declared.records.OasRecord.{OasRecord}
 use Rattle.oas_record.specs.declared.records.OasRecord.TheVariants as records
 use Rattle.oas_fields.specs.Values.{begins_cell}
@@ -17,17 +16,13 @@ use Rattle.oas_reader.specs.declared.refusing.OasBad.{OasBad}
 use Rattle.oas_reader.specs.declared.bodies.Body.{Body}
 use Rattle.oas_reader.specs.declared.bodies.Body.TheVariants as bodies
 use Rattle.oas_reader.specs.declared.bodies.Turning.{Turning}
-use Rattle.oas_reader.proofs.NameLemmas.{has_names, others, none_conflicts, NamesNothing, names_kept}
+use Rattle.oas_reader.proofs.NameLemmas.{none_conflicts, NamesNothing, names_kept}
 
 -- ---- bodies
 
 abbrev pub is_cell : Body → Bool
 is_cell (bodies.Cell called) = true
 is_cell _ = false
-
-abbrev pub is_cell_name : Body → Bool
-is_cell_name (bodies.CellName name number) = true
-is_cell_name _ = false
 
 abbrev pub is_placement : Body → Bool
 is_placement (bodies.Placement called flips turning) = true
@@ -117,10 +112,6 @@ no_conflict bytes past r none = ap (λ claim. first_conflict bytes claim past) n
 pub own_name : (bytes : List ℕ) (name : ℕ × ℕ) (number : Option ℕ) → IsName (text_in bytes name) → KeepsOwnName bytes (cell_name_record name number)
 own_name bytes name None is = is
 own_name bytes name (Some number) is = is
-
-pub name_own : (bytes : List ℕ) (name : ℕ × ℕ) (number : Option ℕ) → KeepsOwnName bytes (cell_name_record name number) → IsName (text_in bytes name)
-name_own bytes name None is = is
-name_own bytes name (Some number) is = is
 
 pub bad_name : (bytes : List ℕ) (past : List Item) (at : ℕ) (r : OasRecord) (bad : OasBad) → KeepsOwnName bytes r → IsConflict bytes past r at bad
     → IsBadName bytes past at r bad

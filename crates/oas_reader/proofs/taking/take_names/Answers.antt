@@ -1,4 +1,4 @@
-use Rattle.std.proofs.Common.{◌≡◌, true, None, OnOk, refl, sym, ap, subst, ◌∙◌}
+use Rattle.std.proofs.Common.{◌≡◌, None, OnOk, refl, sym, subst, ◌∙◌}
 use Rattle.oas_reader.specs.Items.{records_in}
 use Rattle.oas_reader.specs.Names.{conflict_of}
 use Rattle.oas_reader.proofs.NameLemmas.{on_ok}
