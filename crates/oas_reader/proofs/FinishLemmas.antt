@@ -1,6 +1,7 @@
 -- Cells of one name, over the CELL records alone.
-use Rattle.std.proofs.Common.{◌≡◌, ℕ, false, Option, Some, None, List, [], ◌∷◌, ◌++◌, length, map, reverse, refl, sym, ap, subst, ◌∙◌, arith}
-use Rattle.std.proofs.lemmas.List.{reverse-append, map-append}
+use Rattle.std.proofs.Common.{◌≡◌, ℕ, false, Option, Some, None, List, [], ◌∷◌, ◌++◌, ◌+◌, length, map, reverse, take, drop, All, inl, inr, refl, sym, ap, subst, ◌∙◌, arith}
+use Rattle.std.proofs.lemmas.List.{reverse-append, map-append, take-append-drop}
+use Rattle.std.proofs.lemmas.List.Elements.{All-nil, All-cons, All-head, All-tail, All-push}
 use Rattle.oas_record.specs.declared.fields.Called.{Called}
 use Rattle.oas_record.specs.declared.fields.Called.TheVariants.{Number, Text}
 use Rattle.oas_record.specs.declared.records.OasRecord.{OasRecord}
@@ -8,13 +9,15 @@ use Rattle.oas_fields.specs.Values.{or_else}
 use Rattle.oas_reader.specs.declared.cells.Draft.{Draft}
 use Rattle.oas_reader.specs.Items.{Item}
 use Rattle.oas_reader.specs.Names.{some_if, have_one_name, cell_called, cell_name, first_named, with_second, first_twins, name_called}
-use Rattle.oas_reader.specs.Naming.{cell_record}
+use Rattle.oas_reader.specs.Naming.{cell_record, IsTwin}
 use Rattle.layout_model.specs.declared.cells.Cell.{Cell}
 use Rattle.layout_model.specs.declared.cells.Placement.{Placement}
 use Rattle.oas_reader.specs.declared.placing.Placing.{Placing}
 use Rattle.oas_reader.specs.Meaning.{name_or, placement_by, named}
-use Rattle.oas_reader.specs.Readers.{placing_of, placings_of}
-use Rattle.oas_reader.specs.Finished.{cell_item, cell_items, cell_by, cells_by}
+use Rattle.oas_reader.specs.Readers.{placing_of, placings_of, IsPlacingOnGrid}
+use Rattle.oas_reader.specs.declared.refusing.OasBad.{OasBad}
+use Rattle.layout_model.specs.Layouts.{IsPlacementOnGrid}
+use Rattle.oas_reader.specs.Finished.{cell_item, cell_items, cell_by, cells_by, AreTwins}
 use Rattle.oas_reader.specs.Reading.{item}
 
 pub items_more : (drafts : List Draft) (draft : Draft) → cell_items (drafts ++ draft ∷ []) ≡ cell_item draft ∷ cell_items drafts
@@ -53,6 +56,23 @@ twins_kept bytes all [] past twins e = e
 twins_kept bytes all (x ∷ more) past twins e =
     ap (λ o. or_else o (with_second x.at (first_named bytes all (cell_name bytes all (cell_called x.r)) (more ++ past))))
     (twins_kept bytes all more past twins e)
+
+-- a cell that has the name of an earlier one, and those behind it
+pub twin_found : (bytes : List ℕ) (all : List OasRecord) (drafts : List Draft) (i : ℕ) (draft : Draft) (name : List ℕ) (bad : OasBad)
+    → first_twins bytes all (cell_items (take i drafts)) ≡ None → name_called bytes all draft.called ≡ Some name
+    → take (i + 1) drafts ≡ take i drafts ++ draft ∷ [] → IsTwin bytes all (cell_items (take i drafts)) name draft.at bad
+    → AreTwins bytes all (cell_items drafts) bad
+twin_found bytes all drafts i draft name bad before called taken (inl memory) = inl memory
+twin_found bytes all drafts i draft name bad before called taken (inr (first, twin, is)) =
+    let name_is = ap (cell_name bytes all) (called_back draft.called) ∙ called in
+    let here : first_twins bytes all (cell_items (take (i + 1) drafts)) ≡ Some (first, draft.at) =
+    ap (λ ds. first_twins bytes all (cell_items ds)) taken
+    ∙ ap (first_twins bytes all) (items_more (take i drafts) draft)
+    ∙ twins_more bytes all (cell_items (take i drafts)) draft.at (cell_record draft.called) name first before name_is twin in
+    let whole : first_twins bytes all (cell_items (take (i + 1) drafts ++ drop (i + 1) drafts)) ≡ Some (first, draft.at) =
+    ap (first_twins bytes all) (items_append (take (i + 1) drafts) (drop (i + 1) drafts))
+    ∙ twins_kept bytes all (cell_items (drop (i + 1) drafts)) (cell_items (take (i + 1) drafts)) (first, draft.at) here in
+    inr (first, draft.at, subst (λ ds. first_twins bytes all (cell_items ds) ≡ Some (first, draft.at)) (take-append-drop (i + 1) drafts) whole, is)
 
 -- ---- records that begin no cell
 
@@ -132,3 +152,23 @@ cells_more bytes all drafts draft cell before after done is pushed =
 pub nothing_left : {X : Type 0} → (xs : List X) → length xs ≡ 0 → xs ≡ []
 nothing_left [] none = refl
 nothing_left (x ∷ xs) none = absurd (omega arith)
+
+-- ---- the grid
+
+front : {X : Type 0} (P : X → Type 0) (xs ys : List X) → All P (xs ++ ys) → All P xs
+front P [] ys h = All-nil P
+front P (x ∷ xs) ys h = All-cons P x xs (All-head P x (xs ++ ys) h) (front P xs ys (All-tail P x (xs ++ ys) h))
+
+end : {X : Type 0} (P : X → Type 0) (xs : List X) (y : X) → All P (xs ++ y ∷ []) → P y
+end P [] y h = All-head P y [] h
+end P (x ∷ xs) y h = end P xs y (All-tail P x (xs ++ y ∷ []) h)
+
+-- one more element and what is made of it
+pub grid_more : {X Y : Type 0} (P : X → Type 0) (Q : Y → Type 0) (xs : List X) (x : X) (y : Y) (before after : List Y)
+    → (All P xs → All Q before) → (P x → Q y) → after ≡ before ++ y ∷ [] → All P (xs ++ x ∷ []) → All Q after
+grid_more P Q xs x y before after keeps makes pushed h =
+    subst (All Q) (sym pushed) (All-push Q before y (keeps (front P xs (x ∷ []) h)) (makes (end P xs x h)))
+
+pub placed_on_grid : (p : Placing) (target : List ℕ) → IsPlacingOnGrid p
+    → IsPlacementOnGrid (record { target = target; orient = p.orient; at = p.at; offsets = p.offsets })
+placed_on_grid p target is = record { orient = is.orient; at = is.at; offsets = is.offsets }

@@ -1,7 +1,10 @@
 mod PairLemmas
 mod LawLemmas
 mod NameLemmas
+mod CellLemmas
+mod TakeLemmas
 mod FinishLemmas
+mod BehindLemmas
 mod FieldBridges
 mod DrawBridges
 mod FigureLemmas

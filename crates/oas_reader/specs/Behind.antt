@@ -1,5 +1,5 @@
 -- The cells of a whole file.
-use Rattle.std.specs.Prelude.{◌≡◌, ◌⊎◌, List, ℕ, None}
+use Rattle.std.specs.Prelude.{◌≡◌, List, ℕ, None}
 use Rattle.layout_model.specs.declared.cells.Cell.{Cell}
 use Rattle.layout_model.specs.declared.pair.Pair.{Pair}
 use Rattle.oas_reader.specs.Items.{Item, records_in, given}

@@ -1,9 +1,8 @@
 -- The cells by name, as the program makes them of what it keeps.
-use Rattle.std.specs.Prelude.{◌≡◌, ◌⊎◌, ℕ, List, [], ◌∷◌, Option, Some, None, map, reverse}
+use Rattle.std.specs.Prelude.{◌≡◌, ◌⊎◌, ℕ, List, Some, map, reverse}
 use Rattle.layout_model.specs.declared.cells.Cell.{Cell}
 use Rattle.oas_record.specs.declared.records.OasRecord.{OasRecord}
 use Rattle.oas_reader.specs.declared.cells.Draft.{Draft}
-use Rattle.oas_reader.specs.declared.placing.Placing.{Placing}
 use Rattle.oas_reader.specs.declared.refusing.OasBad.{OasBad}
 use Rattle.oas_reader.specs.declared.refusing.OasBad.TheVariants as faults
 use Rattle.oas_reader.specs.Items.{Item}

@@ -103,12 +103,16 @@ pub record AreNamesOf (bytes : List ℕ) (past : List Item) (names : Names) : Ty
   pub cells : (name : List ℕ) → cell_in names name ≡ first_conflict bytes (OfName name) past
   pub used : (test : ℕ → Bool) → first_marked test names.used.entries ≡ first_mention test past
 
--- the record writes a cell's number, and gives no name
-pub record Mentions (bytes : List ℕ) (past : List OasRecord) (r : OasRecord) (number : ℕ) : Type 0 where
-  pub written : or_else (cell_called r) (target_called r) ≡ Some (Number number)
+-- the record calls a cell so, or writes none, and gives no name
+pub record Calls (bytes : List ℕ) (past : List OasRecord) (r : OasRecord) (called : Option Called) : Type 0 where
+  pub written : or_else (cell_called r) (target_called r) ≡ called
   pub claims : claim_of bytes past r ≡ NoClaim
   pub gives : number_given past r ≡ None
   pub counts : is_unnumbered r ≡ false
+
+-- by this number
+abbrev pub Mentions : List ℕ → List OasRecord → OasRecord → ℕ → Type 0
+Mentions bytes past r number = Calls bytes past r (Some (Number number))
 
 -- ---- cells behind END
 

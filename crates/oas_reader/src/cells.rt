@@ -1,6 +1,8 @@
 //! Cells whose names may be numbers yet.
-ghost use Rattle.std.specs.Prelude.{◌≡◌, ◌++◌, [], ◌∷◌, None as Nothing, OnOk};
-ghost use Rattle.oas_reader.specs.Cells.{begun_at};
+ghost use Rattle.std.specs.Prelude.{◌≡◌, ◌++◌, ℕ, List as AList, [], ◌∷◌, OnOk, IfOk};
+ghost use Rattle.layout_model.specs.declared.pair.Pair.{Pair};
+ghost use Rattle.oas_reader.specs.Cells.{begun_at, closed};
+ghost use Rattle.oas_reader.specs.Readers.{AreDraftsOf, AreDraftsWithin};
 
 use crate::placing::Placing;
 use geo_stream::{List, NoMemory};
@@ -35,7 +37,10 @@ pub(crate) struct Drafts {
 }
 
 impl Drafts {
-    pub(crate) fn new(alloc: Global) -> Drafts {
+    pub(crate) fn new(alloc: Global) -> Drafts
+        ensures drafts { (wanted : AList Pair) → AreDraftsOf wanted [] result }
+        ensures within { (bytes : AList ℕ) → AreDraftsWithin bytes result }
+    {
         Drafts {
             begun: None,
             shapes: List::new(alloc),
@@ -48,7 +53,7 @@ impl Drafts {
     fn close(&mut self, alloc: Global) -> Result<(), NoMemory>
         ensures shapes { OnOk result (self.new.shapes ≡ []) }
         ensures placings { OnOk result (self.new.placings.items ≡ []) }
-        ensures none { self.old.begun ≡ Nothing → OnOk result (self.new.whole.items ≡ self.old.whole.items) }
+        ensures whole { OnOk result (self.new.whole.items ≡ self.old.whole.items ++ closed self.old.begun self.old.shapes self.old.placings) }
     {
         let shapes = replace(&mut self.shapes, List::new(alloc));
         let placings = replace(&mut self.placings, Vec::new(alloc));
@@ -72,6 +77,7 @@ impl Drafts {
         ensures begun { OnOk result (self.new.begun ≡ begun_at at called) }
         ensures shapes { OnOk result (self.new.shapes ≡ []) }
         ensures placings { OnOk result (self.new.placings.items ≡ []) }
+        ensures whole { OnOk result (self.new.whole.items ≡ self.old.whole.items ++ closed self.old.begun self.old.shapes self.old.placings) }
     {
         self.close(alloc)?;
         self.begun = Some(Begun { at, called });
@@ -92,7 +98,9 @@ impl Drafts {
     }
 
     /// All cells, the open one too.
-    pub(crate) fn finish(mut self, alloc: Global) -> Result<Vec<Draft>, NoMemory> {
+    pub(crate) fn finish(mut self, alloc: Global) -> Result<Vec<Draft>, NoMemory>
+        ensures { IfOk result (λ drafts. drafts.items ≡ self.whole.items ++ closed self.begun self.shapes self.placings) }
+    {
         self.close(alloc)?;
         let Drafts { whole, .. } = self;
         Ok(whole)

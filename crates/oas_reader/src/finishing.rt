@@ -1,6 +1,6 @@
 //! What comes behind END: names.
 ghost use Rattle.std.specs.Prelude.{◌≡◌, ◌⊎◌, Some, None, List as AList, ◌∷◌, true, map, All, OnOk, IfOk, IfErr};
-ghost use Rattle.layout_model.specs.Layouts.{IsCellOnGrid, AreDistinct};
+ghost use Rattle.layout_model.specs.Layouts.{IsPlacementOnGrid, IsCellOnGrid, AreDistinct};
 ghost use Rattle.layout_model.specs.declared.pair.Pair.{Pair as APair};
 ghost use Rattle.oas_reader.specs.Behind.{AreCellsBehind};
 ghost use Rattle.oas_reader.specs.Items.{Item, records_in, NoneEnds, is_end};
@@ -8,7 +8,7 @@ ghost use Rattle.oas_reader.specs.Finished.{cell_by, cells_by as the_cells_by, c
 ghost use Rattle.oas_reader.specs.Meaning.{named};
 ghost use Rattle.oas_reader.specs.Names.{name_called, first_twins};
 ghost use Rattle.oas_reader.specs.Reading.{IsFaultOf};
-ghost use Rattle.oas_reader.specs.Readers.{placings_of, ArePlacingsWithin, IsDraftWithin, IsDraftOnGrid, AreDraftsWithin, AreDraftsOf};
+ghost use Rattle.oas_reader.specs.Readers.{placings_of, ArePlacingsWithin, IsPlacingOnGrid, IsDraftWithin, IsDraftOnGrid, AreDraftsWithin, AreDraftsOf};
 ghost use Rattle.oas_reader.specs.Naming.{IsCalledWithin, HaveSpans, AreNamesOf};
 ghost use Rattle.oas_reader.specs.declared.refusing.OasBad.TheVariants as bads;
 
@@ -52,7 +52,10 @@ fn look_at_cells<'a>(
     let mut cells = Cells::new(alloc);
     for draft in drafts {
         let name = bytes_of(names, bytes, draft.called)?;
-        cells.enter(name, draft.at)?;
+        match cells.enter(name, draft.at) {
+            Ok(()) => {}
+            Err(bad) => return Err(bad),
+        }
     }
     Ok(())
 }
@@ -87,6 +90,7 @@ fn placements_of<'a>(
     requires called { ArePlacingsWithin bytes.now placings.items }
     ensures ok { (past : AList Item) → AreNamesOf bytes.now past names.now
         → IfOk result (λ placements. placements ≡ named bytes.now (records_in past) (placings_of placings.items)) }
+    ensures grid { All IsPlacingOnGrid placings.items → IfOk result (All IsPlacementOnGrid) }
     ensures bad { IfErr result (λ bad. bad ≡ bads.NoMemory) }
 {
     let mut placements = List::new(alloc);
@@ -122,6 +126,7 @@ fn cell_of<'a>(
     requires within { IsDraftWithin bytes.now draft }
     ensures ok { (past : AList Item) → AreNamesOf bytes.now past names.now
         → IfOk result (λ cell. cell ≡ cell_by bytes.now (records_in past) draft) }
+    ensures grid { IsDraftOnGrid draft → IfOk result IsCellOnGrid }
     ensures bad { IfErr result (λ bad. bad ≡ bads.NoMemory) }
 {
     let Draft {
@@ -150,6 +155,7 @@ fn cells_by<'a>(
     requires within { All (IsDraftWithin bytes.now) drafts.items }
     ensures ok { (past : AList Item) → AreNamesOf bytes.now past names.now
         → IfOk result (λ cells. cells ≡ the_cells_by bytes.now (records_in past) drafts.items) }
+    ensures grid { All IsDraftOnGrid drafts.items → IfOk result (All IsCellOnGrid) }
     ensures bad { IfErr result (λ bad. bad ≡ bads.NoMemory) }
 {
     let mut cells = List::new(alloc);
@@ -172,6 +178,13 @@ fn distinct_cells<'a>(
 ) -> Result<List<Cell>, OasBad>
     requires spans { HaveSpans bytes.now names.now }
     requires within { All (IsDraftWithin bytes.now) drafts.items }
+    ensures ok { (past : AList Item) → AreNamesOf bytes.now past names.now
+        → IfOk result (λ cells. cells ≡ the_cells_by bytes.now (records_in past) drafts.items) }
+    ensures grid { All IsDraftOnGrid drafts.items → IfOk result (All IsCellOnGrid) }
+    ensures distinct { (past : AList Item) → AreNamesOf bytes.now past names.now
+        → OnOk result (first_twins bytes.now (records_in past) (cell_items drafts.items) ≡ None) }
+    ensures twins { (past : AList Item) → AreNamesOf bytes.now past names.now
+        → IfErr result (AreTwins bytes.now (records_in past) (cell_items drafts.items)) }
 {
     look_at_cells(alloc, bytes, names, drafts.as_slice())?;
     cells_by(alloc, bytes, names, drafts)
@@ -197,7 +210,10 @@ pub(crate) fn cells_of<'a>(
         → AreDraftsOf wanted (last ∷ past) drafts → is_end last.r ≡ true → NoneEnds past
         → IfErr result (λ bad. (bad ≡ bads.NoMemory) ⊎ IsFaultOf bytes.now (last ∷ past) bad) }
 {
-    names.all_known()?;
+    match names.all_known() {
+        Ok(()) => {}
+        Err(bad) => return Err(bad),
+    }
     match drafts.finish(alloc) {
         Ok(drafts) => distinct_cells(alloc, bytes, names, drafts),
         Err(_) => Err(OasBad::NoMemory),

@@ -5,7 +5,7 @@ ghost use Rattle.oas_record.specs.declared.records.OasRecord.{OasRecord as AReco
 ghost use Rattle.oas_reader.specs.declared.refusing.OasBad.TheVariants as bads;
 ghost use Rattle.oas_reader.specs.Items.{Item, records_in, text_in};
 ghost use Rattle.oas_reader.specs.Names.{conflict_of, name_called as the_name_called, first_unknown, first_named, cell_name, cell_called, is_none};
-ghost use Rattle.oas_reader.specs.Naming.{IsSpan, IsCalledWithin, AreCalledWithin, IsNoName, cell_name_record, cell_record, IsConflict, conflict_in, given_in, first_marked, HaveSpans, Mentions, AreNamesOf, AreCellsOf, IsTwin};
+ghost use Rattle.oas_reader.specs.Naming.{IsSpan, IsCalledWithin, AreCalledWithin, IsNoName, cell_name_record, cell_record, IsConflict, conflict_in, given_in, first_marked, HaveSpans, Calls, Mentions, AreNamesOf, AreCellsOf, IsTwin};
 ghost use Rattle.oas_reader.specs.Reading.{item};
 ghost use Rattle.oas_reader.specs.Rules.{IsNamed};
 
@@ -196,6 +196,20 @@ impl<'a> Names<'a> {
         match self.used.insert(number, at) {
             Ok(_) => Ok(()),
             Err(_) => Err(OasBad::NoMemory),
+        }
+    }
+
+    /// Takes what a record at this offset calls the placed cell, where it writes it.
+    pub(crate) fn place(&mut self, called: Option<Called>, at: usize) -> Result<(), OasBad>
+        ensures names { (bytes : List ℕ) (past : List Item) (r : ARecord) → AreNamesOf bytes past self.old → Calls bytes (records_in past) r called
+            → OnOk result (AreNamesOf bytes (item at r ∷ past) self.new) }
+        ensures given { OnOk result (self.new.given ≡ self.old.given) }
+        ensures bad { IfErr result (λ bad. bad ≡ bads.NoMemory) }
+    {
+        match called {
+            None => Ok(()),
+            Some(Called::Text(..)) => Ok(()),
+            Some(Called::Number(number)) => self.mention(number, at),
         }
     }
 

@@ -3,7 +3,6 @@ use Rattle.oas_reader.specs.Items.{text_in}
 use Rattle.oas_reader.specs.Naming.{cell_in, cell_record, AreNamesOf}
 use Rattle.oas_reader.specs.Names.{conflict_of}
 use Rattle.oas_reader.specs.Reading.{item}
-use Rattle.oas_reader.specs.Items.{Item}
 use Rattle.std.proofs.Common.{◌∷◌}
 use Rattle.oas_reader.proofs.naming.Names.begin.Goals as goal
 use Rattle.oas_reader.proofs.NameLemmas.{begun_text, none_conflicts, on_ok}
