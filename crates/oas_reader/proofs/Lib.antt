@@ -6,3 +6,4 @@ mod FieldBridges
 mod DrawBridges
 mod FigureLemmas
 mod WantedLemmas
+mod RealLemmas
