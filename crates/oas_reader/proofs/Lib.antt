@@ -7,3 +7,4 @@ mod DrawBridges
 mod FigureLemmas
 mod WantedLemmas
 mod RealLemmas
+mod PlacedLemmas

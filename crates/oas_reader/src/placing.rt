@@ -1,11 +1,15 @@
 //! Placements.
-ghost use Rattle.std.specs.Prelude.{◌≡◌, ◌^◌, ◌≤◌, ◌<◌, ℕ, pos, IfSome, IfNone, IfOk, IfErr, IsSome, option_copied};
-ghost use Rattle.layout_model.specs.Layouts.{IsWithin};
+ghost use Rattle.std.specs.Prelude.{◌≡◌, ◌^◌, ◌≤◌, ◌<◌, ℕ, pos, IfSome, IfNone, IfOk, IfErr, IsSome, Err, option_copied};
+ghost use Rattle.layout_model.specs.Images.{IsOrient};
+ghost use Rattle.layout_model.specs.Layouts.{IsWithin, IsMove, AreOffsets};
 ghost use Rattle.oas_fields.specs.Values.{IsPlaceWithin};
 ghost use Rattle.oas_shapes.specs.Plane.{doubled as the_doubled};
+ghost use Rattle.oas_shapes.specs.Repetitions.{offsets_in as the_offsets_in};
+ghost use Rattle.oas_shapes.specs.Rules.{IsLowest};
+ghost use Rattle.oas_shapes.specs.declared.drawing.Undrawn.TheVariants.{Rule};
 ghost use Rattle.oas_reader.specs.Drawn.{repetition_kept, bad_at, is_first, IsRefusedBy};
 ghost use Rattle.oas_reader.specs.Naming.{AreCalledWithin};
-ghost use Rattle.oas_reader.specs.Placed.{KeepsPlaced, IsTurning, placed_by};
+ghost use Rattle.oas_reader.specs.Placed.{KeepsPlaced, KeepsOffsetsIn, KeepsTurned, IsBadTurning, IsTurning, magnification_in, angle_in, orient_in, placed_by};
 ghost use Rattle.oas_reader.specs.Readers.{placing_of as the_placing_of, IsPlacingOnGrid};
 ghost use Rattle.oas_reader.specs.Meaning.{point_at};
 ghost use Rattle.oas_reader.specs.Reals.{IsFactor, IsQuarterAngle, IsTurn, factor_of as the_factor_of, turns_of as the_turns_of};
@@ -103,7 +107,14 @@ fn turns_of(angle: Option<Real>) -> Option<u8>
     }
 }
 
-fn orient_of(flips: bool, turning: Turning, at: usize) -> Result<Orient, OasBad> {
+// The orientation of a placement.
+fn orient_of(flips: bool, turning: Turning, at: usize) -> Result<Orient, OasBad>
+    requires { IsTurning turning }
+    ensures value { IfOk result (λ orient. orient ≡ orient_in flips turning) }
+    ensures grid { IfOk result IsOrient }
+    ensures kept { IfOk result (λ _. IsFactor (magnification_in turning) × IsQuarterAngle (angle_in turning)) }
+    ensures broken { IfErr result (IsBadTurning turning at) }
+{
     match turning {
         Turning::Quarters(turns) => Ok(Orient {
             flip: flips,
@@ -129,6 +140,31 @@ fn orient_of(flips: bool, turning: Turning, at: usize) -> Result<Orient, OasBad>
     }
 }
 
+// The orientation of a placement that calls its cell so.
+fn named_orient(
+    alloc: Global,
+    bytes: &[u8],
+    called: Option<Called>,
+    flips: bool,
+    turning: Turning,
+    at: usize,
+) -> Result<Orient, OasBad>
+    requires turning { IsTurning turning }
+    requires called { AreCalledWithin bytes.now called }
+    ensures value { IfOk result (λ orient. orient ≡ orient_in flips turning) }
+    ensures grid { IfOk result IsOrient }
+    ensures kept { IfOk result (λ _. (rule : ℕ) → KeepsTurned bytes.now called turning rule) }
+    ensures broken { IfErr result (IsRefusedBy (KeepsTurned bytes.now called turning) at) }
+{
+    if let Err(bad) = look_at_called(alloc, bytes, called, at) {
+        return Err(bad);
+    }
+    match orient_of(flips, turning, at) {
+        Ok(orient) => Ok(orient),
+        Err(bad) => Err(bad),
+    }
+}
+
 /// A position as a point, in grid steps. It is near.
 pub(crate) fn point_of(place: Place) -> Point
     requires { IsPlaceWithin (2 ^ 40) place }
@@ -144,7 +180,8 @@ pub(crate) fn point_of(place: Place) -> Point
 // From grid steps to half units.
 fn doubled(point: Point) -> Point
     requires { IsWithin (2 ^ 40) point }
-    ensures { result ≡ the_doubled point }
+    ensures value { result ≡ the_doubled point }
+    ensures grid { IsMove result }
 {
     Point {
         x: 2 * point.x,
@@ -163,9 +200,17 @@ pub(crate) fn repetition_in(fields: &Fields, repeats: bool) -> Option<&Rep>
 }
 
 // The offsets of a placement.
-fn offsets_in(alloc: Global, repetition: Option<&Rep>) -> Result<Offsets, Undrawn> {
+fn offsets_in(alloc: Global, repetition: Option<&Rep>) -> Result<Offsets, Undrawn>
+    ensures offsets { IfOk result (λ offsets. offsets ≡ the_offsets_in (option_copied repetition.entry)) }
+    ensures grid { IfOk result AreOffsets }
+    ensures kept { IfOk result (λ _. (rule : ℕ) → KeepsOffsetsIn (option_copied repetition.entry) rule) }
+    ensures broken { (rule : ℕ) → result ≡ Err (Rule rule) → IsLowest (KeepsOffsetsIn (option_copied repetition.entry)) rule }
+{
     match repetition {
-        Some(repetition) => offsets_of(alloc, repetition),
+        Some(repetition) => match offsets_of(alloc, repetition) {
+            Ok(offsets) => Ok(offsets),
+            Err(undrawn) => Err(undrawn),
+        },
         None => match Offsets::list(alloc, &[ORIGIN]) {
             Ok(offsets) => Ok(offsets),
             Err(_) => Err(Undrawn::NoMemory),
@@ -220,13 +265,16 @@ pub(crate) fn placing_of(
             if is_first(undrawn) {
                 return Err(bad_at(undrawn, at));
             }
-            look_at_called(alloc, bytes, called, at)?;
-            orient_of(flips, turning, at)?;
-            return Err(bad_at(undrawn, at));
+            return match named_orient(alloc, bytes, called, flips, turning, at) {
+                Ok(_) => Err(bad_at(undrawn, at)),
+                Err(bad) => Err(bad),
+            };
         }
     };
-    look_at_called(alloc, bytes, called, at)?;
-    let orient = orient_of(flips, turning, at)?;
+    let orient = match named_orient(alloc, bytes, called, flips, turning, at) {
+        Ok(orient) => orient,
+        Err(bad) => return Err(bad),
+    };
     let Some(target) = fields.cell else {
         return Err(OasBad::NoMemory);
     };
