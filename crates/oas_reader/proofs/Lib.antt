@@ -8,3 +8,5 @@ mod FigureLemmas
 mod WantedLemmas
 mod RealLemmas
 mod PlacedLemmas
+mod RecordRules
+mod RuleBridges
