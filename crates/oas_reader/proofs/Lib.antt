@@ -10,3 +10,4 @@ mod RealLemmas
 mod PlacedLemmas
 mod RecordRules
 mod RuleBridges
+mod GeometryLemmas

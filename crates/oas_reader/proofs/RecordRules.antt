@@ -335,7 +335,7 @@ pub record IsLookedAt (bytes : List ℕ) (past : List OasRecord) (r : OasRecord)
   pub positions : rule ≡ 1 → ArePositionsNear (r ∷ past)
   pub version : KeepsVersionBy bytes (body_of r)
   pub scheme : KeepsSchemeBy (body_of r)
-  pub dims : IsTrue dims ↔ HasDimensionsIn (repetition_in r)
+  pub dimensions : IsTrue dims ↔ HasDimensionsIn (repetition_in r)
   pub defined : undefined_of past r ≡ None
   pub own : rule ≡ 2 → KeepsOwnName bytes r
 
@@ -358,8 +358,8 @@ keeps_all bytes wanted past r rule positions offsets name magnification angle ot
 
 -- on a wanted pair, or not
 either : {A : Type 0} (wanted : Bool) → (IsTrue wanted → A) → ((Some wanted ≡ Some true → ⊥) → A) → A
-either true yes no = yes refl
-either false yes no = no (λ e. absurd (cc))
+either true on off = on refl
+either false on off = off (λ e. absurd (cc))
 
 -- a record that keeps the rules of its geometry keeps all
 pub keeps_geometry : (bytes : List ℕ) (wanted : List Pair) (past : List OasRecord) (r : OasRecord) (dims : Bool) (rule : ℕ)
@@ -406,23 +406,23 @@ keeps_geometry bytes wanted past (records.Placement info cell x y repetition) di
 keeps_geometry bytes wanted past (records.TurnedPlacement info cell magnification angle x y repetition) dims rule l s g =
     keeps_all bytes wanted past (records.TurnedPlacement info cell magnification angle x y repetition) rule l.positions g.near g.name g.magnification g.angle (λ e. tt) (λ e. tt) (λ e. tt) (λ e. written_kept past (records.TurnedPlacement info cell magnification angle x y repetition) refl (g.dimension e)) (λ e. tt)
 keeps_geometry bytes wanted past (records.Text info text textlayer texttype x y repetition) dims rule l s g =
-    keeps_all bytes wanted past (records.Text info text textlayer texttype x y repetition) rule l.positions (λ e. tt) (λ e. tt) (λ e. tt) (λ e. tt) (λ e. tt) (λ e. tt) (λ e. tt) (λ e. l.dims.0 (g.dimension (λ e. absurd (cc)) e)) (λ e. tt)
+    keeps_all bytes wanted past (records.Text info text textlayer texttype x y repetition) rule l.positions (λ e. tt) (λ e. tt) (λ e. tt) (λ e. tt) (λ e. tt) (λ e. tt) (λ e. tt) (λ e. l.dimensions.0 (g.dimension (λ e. absurd (cc)) e)) (λ e. tt)
 keeps_geometry bytes wanted past (records.Rectangle info layer datatype width height x y repetition) dims rule l s g =
-    keeps_all bytes wanted past (records.Rectangle info layer datatype width height x y repetition) rule l.positions (λ e. tt) (λ e. tt) (λ e. tt) (λ e. tt) (λ e. tt) (λ e. tt) (λ e. tt) (λ e. either (is_wanted wanted ((records.Rectangle info layer datatype width height x y repetition) ∷ past)) (λ yes. written_kept past (records.Rectangle info layer datatype width height x y repetition) refl (figure_dimension _ _ _ rule (g.drawn (ap Some yes)) e)) (λ no. l.dims.0 (g.dimension no e))) (λ yes. keeps_to (records.Rectangle info layer datatype width height x y repetition) ((records.Rectangle info layer datatype width height x y repetition) ∷ past) (repetition_at past (records.Rectangle info layer datatype width height x y repetition)) rule (g.drawn (ap Some yes)))
+    keeps_all bytes wanted past (records.Rectangle info layer datatype width height x y repetition) rule l.positions (λ e. tt) (λ e. tt) (λ e. tt) (λ e. tt) (λ e. tt) (λ e. tt) (λ e. tt) (λ e. either (is_wanted wanted ((records.Rectangle info layer datatype width height x y repetition) ∷ past)) (λ on. written_kept past (records.Rectangle info layer datatype width height x y repetition) refl (figure_dimension _ _ _ rule (g.drawn (ap Some on)) e)) (λ off. l.dimensions.0 (g.dimension off e))) (λ on. keeps_to (records.Rectangle info layer datatype width height x y repetition) ((records.Rectangle info layer datatype width height x y repetition) ∷ past) (repetition_at past (records.Rectangle info layer datatype width height x y repetition)) rule (g.drawn (ap Some on)))
 keeps_geometry bytes wanted past (records.Polygon info layer datatype points x y repetition) dims rule l s g =
-    keeps_all bytes wanted past (records.Polygon info layer datatype points x y repetition) rule l.positions (λ e. tt) (λ e. tt) (λ e. tt) (λ e. tt) (λ e. tt) (λ e. tt) (λ e. tt) (λ e. either (is_wanted wanted ((records.Polygon info layer datatype points x y repetition) ∷ past)) (λ yes. written_kept past (records.Polygon info layer datatype points x y repetition) refl (polygon_dimension _ _ _ rule (third ((records.Polygon info layer datatype points x y repetition) ∷ past) Layer Datatype PolygonPoints _ l.defined) (g.drawn (ap Some yes)) e)) (λ no. l.dims.0 (g.dimension no e))) (λ yes. keeps_to (records.Polygon info layer datatype points x y repetition) ((records.Polygon info layer datatype points x y repetition) ∷ past) (repetition_at past (records.Polygon info layer datatype points x y repetition)) rule (g.drawn (ap Some yes)))
+    keeps_all bytes wanted past (records.Polygon info layer datatype points x y repetition) rule l.positions (λ e. tt) (λ e. tt) (λ e. tt) (λ e. tt) (λ e. tt) (λ e. tt) (λ e. tt) (λ e. either (is_wanted wanted ((records.Polygon info layer datatype points x y repetition) ∷ past)) (λ on. written_kept past (records.Polygon info layer datatype points x y repetition) refl (polygon_dimension _ _ _ rule (third ((records.Polygon info layer datatype points x y repetition) ∷ past) Layer Datatype PolygonPoints _ l.defined) (g.drawn (ap Some on)) e)) (λ off. l.dimensions.0 (g.dimension off e))) (λ on. keeps_to (records.Polygon info layer datatype points x y repetition) ((records.Polygon info layer datatype points x y repetition) ∷ past) (repetition_at past (records.Polygon info layer datatype points x y repetition)) rule (g.drawn (ap Some on)))
 keeps_geometry bytes wanted past (records.Path info layer datatype half_width extension start end points x y repetition) dims rule l s g =
-    keeps_all bytes wanted past (records.Path info layer datatype half_width extension start end points x y repetition) rule l.positions (λ e. tt) (λ e. tt) (λ e. tt) (λ e. tt) (λ e. tt) (λ e. tt) (λ e. tt) (λ e. either (is_wanted wanted ((records.Path info layer datatype half_width extension start end points x y repetition) ∷ past)) (λ yes. written_kept past (records.Path info layer datatype half_width extension start end points x y repetition) refl (path_dimension _ _ _ _ rule (sixth ((records.Path info layer datatype half_width extension start end points x y repetition) ∷ past) Layer Datatype PathHalfWidth PathStart PathEnd PathPoints _ l.defined) (g.drawn (ap Some yes)) e)) (λ no. l.dims.0 (g.dimension no e))) (λ yes. keeps_to (records.Path info layer datatype half_width extension start end points x y repetition) ((records.Path info layer datatype half_width extension start end points x y repetition) ∷ past) (repetition_at past (records.Path info layer datatype half_width extension start end points x y repetition)) rule (g.drawn (ap Some yes)))
+    keeps_all bytes wanted past (records.Path info layer datatype half_width extension start end points x y repetition) rule l.positions (λ e. tt) (λ e. tt) (λ e. tt) (λ e. tt) (λ e. tt) (λ e. tt) (λ e. tt) (λ e. either (is_wanted wanted ((records.Path info layer datatype half_width extension start end points x y repetition) ∷ past)) (λ on. written_kept past (records.Path info layer datatype half_width extension start end points x y repetition) refl (path_dimension _ _ _ _ rule (sixth ((records.Path info layer datatype half_width extension start end points x y repetition) ∷ past) Layer Datatype PathHalfWidth PathStart PathEnd PathPoints _ l.defined) (g.drawn (ap Some on)) e)) (λ off. l.dimensions.0 (g.dimension off e))) (λ on. keeps_to (records.Path info layer datatype half_width extension start end points x y repetition) ((records.Path info layer datatype half_width extension start end points x y repetition) ∷ past) (repetition_at past (records.Path info layer datatype half_width extension start end points x y repetition)) rule (g.drawn (ap Some on)))
 keeps_geometry bytes wanted past (records.Trapezoid info layer datatype width height delta_a delta_b x y repetition) dims rule l s g =
-    keeps_all bytes wanted past (records.Trapezoid info layer datatype width height delta_a delta_b x y repetition) rule l.positions (λ e. tt) (λ e. tt) (λ e. tt) (λ e. tt) (λ e. tt) (λ e. tt) (λ e. tt) (λ e. either (is_wanted wanted ((records.Trapezoid info layer datatype width height delta_a delta_b x y repetition) ∷ past)) (λ yes. written_kept past (records.Trapezoid info layer datatype width height delta_a delta_b x y repetition) refl (figure_dimension _ _ _ rule (g.drawn (ap Some yes)) e)) (λ no. l.dims.0 (g.dimension no e))) (λ yes. keeps_to (records.Trapezoid info layer datatype width height delta_a delta_b x y repetition) ((records.Trapezoid info layer datatype width height delta_a delta_b x y repetition) ∷ past) (repetition_at past (records.Trapezoid info layer datatype width height delta_a delta_b x y repetition)) rule (g.drawn (ap Some yes)))
+    keeps_all bytes wanted past (records.Trapezoid info layer datatype width height delta_a delta_b x y repetition) rule l.positions (λ e. tt) (λ e. tt) (λ e. tt) (λ e. tt) (λ e. tt) (λ e. tt) (λ e. tt) (λ e. either (is_wanted wanted ((records.Trapezoid info layer datatype width height delta_a delta_b x y repetition) ∷ past)) (λ on. written_kept past (records.Trapezoid info layer datatype width height delta_a delta_b x y repetition) refl (figure_dimension _ _ _ rule (g.drawn (ap Some on)) e)) (λ off. l.dimensions.0 (g.dimension off e))) (λ on. keeps_to (records.Trapezoid info layer datatype width height delta_a delta_b x y repetition) ((records.Trapezoid info layer datatype width height delta_a delta_b x y repetition) ∷ past) (repetition_at past (records.Trapezoid info layer datatype width height delta_a delta_b x y repetition)) rule (g.drawn (ap Some on)))
 keeps_geometry bytes wanted past (records.TrapezoidA info layer datatype width height delta_a x y repetition) dims rule l s g =
-    keeps_all bytes wanted past (records.TrapezoidA info layer datatype width height delta_a x y repetition) rule l.positions (λ e. tt) (λ e. tt) (λ e. tt) (λ e. tt) (λ e. tt) (λ e. tt) (λ e. tt) (λ e. either (is_wanted wanted ((records.TrapezoidA info layer datatype width height delta_a x y repetition) ∷ past)) (λ yes. written_kept past (records.TrapezoidA info layer datatype width height delta_a x y repetition) refl (figure_dimension _ _ _ rule (g.drawn (ap Some yes)) e)) (λ no. l.dims.0 (g.dimension no e))) (λ yes. keeps_to (records.TrapezoidA info layer datatype width height delta_a x y repetition) ((records.TrapezoidA info layer datatype width height delta_a x y repetition) ∷ past) (repetition_at past (records.TrapezoidA info layer datatype width height delta_a x y repetition)) rule (g.drawn (ap Some yes)))
+    keeps_all bytes wanted past (records.TrapezoidA info layer datatype width height delta_a x y repetition) rule l.positions (λ e. tt) (λ e. tt) (λ e. tt) (λ e. tt) (λ e. tt) (λ e. tt) (λ e. tt) (λ e. either (is_wanted wanted ((records.TrapezoidA info layer datatype width height delta_a x y repetition) ∷ past)) (λ on. written_kept past (records.TrapezoidA info layer datatype width height delta_a x y repetition) refl (figure_dimension _ _ _ rule (g.drawn (ap Some on)) e)) (λ off. l.dimensions.0 (g.dimension off e))) (λ on. keeps_to (records.TrapezoidA info layer datatype width height delta_a x y repetition) ((records.TrapezoidA info layer datatype width height delta_a x y repetition) ∷ past) (repetition_at past (records.TrapezoidA info layer datatype width height delta_a x y repetition)) rule (g.drawn (ap Some on)))
 keeps_geometry bytes wanted past (records.TrapezoidB info layer datatype width height delta_b x y repetition) dims rule l s g =
-    keeps_all bytes wanted past (records.TrapezoidB info layer datatype width height delta_b x y repetition) rule l.positions (λ e. tt) (λ e. tt) (λ e. tt) (λ e. tt) (λ e. tt) (λ e. tt) (λ e. tt) (λ e. either (is_wanted wanted ((records.TrapezoidB info layer datatype width height delta_b x y repetition) ∷ past)) (λ yes. written_kept past (records.TrapezoidB info layer datatype width height delta_b x y repetition) refl (figure_dimension _ _ _ rule (g.drawn (ap Some yes)) e)) (λ no. l.dims.0 (g.dimension no e))) (λ yes. keeps_to (records.TrapezoidB info layer datatype width height delta_b x y repetition) ((records.TrapezoidB info layer datatype width height delta_b x y repetition) ∷ past) (repetition_at past (records.TrapezoidB info layer datatype width height delta_b x y repetition)) rule (g.drawn (ap Some yes)))
+    keeps_all bytes wanted past (records.TrapezoidB info layer datatype width height delta_b x y repetition) rule l.positions (λ e. tt) (λ e. tt) (λ e. tt) (λ e. tt) (λ e. tt) (λ e. tt) (λ e. tt) (λ e. either (is_wanted wanted ((records.TrapezoidB info layer datatype width height delta_b x y repetition) ∷ past)) (λ on. written_kept past (records.TrapezoidB info layer datatype width height delta_b x y repetition) refl (figure_dimension _ _ _ rule (g.drawn (ap Some on)) e)) (λ off. l.dimensions.0 (g.dimension off e))) (λ on. keeps_to (records.TrapezoidB info layer datatype width height delta_b x y repetition) ((records.TrapezoidB info layer datatype width height delta_b x y repetition) ∷ past) (repetition_at past (records.TrapezoidB info layer datatype width height delta_b x y repetition)) rule (g.drawn (ap Some on)))
 keeps_geometry bytes wanted past (records.Ctrapezoid info layer datatype kind width height x y repetition) dims rule l s g =
-    keeps_all bytes wanted past (records.Ctrapezoid info layer datatype kind width height x y repetition) rule l.positions (λ e. tt) (λ e. tt) (λ e. tt) (λ e. tt) (λ e. tt) (λ e. tt) (λ e. tt) (λ e. either (is_wanted wanted ((records.Ctrapezoid info layer datatype kind width height x y repetition) ∷ past)) (λ yes. written_kept past (records.Ctrapezoid info layer datatype kind width height x y repetition) refl (figure_dimension _ _ _ rule (g.drawn (ap Some yes)) e)) (λ no. l.dims.0 (g.dimension no e))) (λ yes. keeps_to (records.Ctrapezoid info layer datatype kind width height x y repetition) ((records.Ctrapezoid info layer datatype kind width height x y repetition) ∷ past) (repetition_at past (records.Ctrapezoid info layer datatype kind width height x y repetition)) rule (g.drawn (ap Some yes)))
+    keeps_all bytes wanted past (records.Ctrapezoid info layer datatype kind width height x y repetition) rule l.positions (λ e. tt) (λ e. tt) (λ e. tt) (λ e. tt) (λ e. tt) (λ e. tt) (λ e. tt) (λ e. either (is_wanted wanted ((records.Ctrapezoid info layer datatype kind width height x y repetition) ∷ past)) (λ on. written_kept past (records.Ctrapezoid info layer datatype kind width height x y repetition) refl (figure_dimension _ _ _ rule (g.drawn (ap Some on)) e)) (λ off. l.dimensions.0 (g.dimension off e))) (λ on. keeps_to (records.Ctrapezoid info layer datatype kind width height x y repetition) ((records.Ctrapezoid info layer datatype kind width height x y repetition) ∷ past) (repetition_at past (records.Ctrapezoid info layer datatype kind width height x y repetition)) rule (g.drawn (ap Some on)))
 keeps_geometry bytes wanted past (records.Circle info layer datatype radius x y repetition) dims rule l s g =
-    keeps_all bytes wanted past (records.Circle info layer datatype radius x y repetition) rule l.positions (λ e. tt) (λ e. tt) (λ e. tt) (λ e. tt) (λ e yes. g.drawn (ap Some yes) e) (λ e. tt) (λ e. tt) (λ e. either (is_wanted wanted ((records.Circle info layer datatype radius x y repetition) ∷ past)) (λ yes. absurd ((s e).drawn (ap Some yes) refl)) (λ no. l.dims.0 (g.dimension no e))) (λ e. tt)
+    keeps_all bytes wanted past (records.Circle info layer datatype radius x y repetition) rule l.positions (λ e. tt) (λ e. tt) (λ e. tt) (λ e. tt) (λ e on. g.drawn (ap Some on) e) (λ e. tt) (λ e. tt) (λ e. either (is_wanted wanted ((records.Circle info layer datatype radius x y repetition) ∷ past)) (λ on. absurd ((s e).drawn (ap Some on) refl)) (λ off. l.dimensions.0 (g.dimension off e))) (λ e. tt)
 keeps_geometry bytes wanted past (records.Property info name count values) dims rule l s g =
     keeps_all bytes wanted past (records.Property info name count values) rule l.positions (λ e. tt) (λ e. tt) (λ e. tt) (λ e. tt) (λ e. tt) (λ e. tt) (λ e. tt) (λ e. tt) (λ e. tt)
 keeps_geometry bytes wanted past records.LastProperty dims rule l s g =
@@ -434,7 +434,7 @@ keeps_geometry bytes wanted past (records.NumberedXName attribute text number) d
 keeps_geometry bytes wanted past (records.XElement attribute text) dims rule l s g =
     keeps_all bytes wanted past (records.XElement attribute text) rule l.positions (λ e. tt) (λ e. tt) (λ e. tt) (λ e. tt) (λ e. tt) (λ e. tt) (λ e. tt) (λ e. tt) (λ e. tt)
 keeps_geometry bytes wanted past (records.XGeometry info attribute layer datatype text x y repetition) dims rule l s g =
-    keeps_all bytes wanted past (records.XGeometry info attribute layer datatype text x y repetition) rule l.positions (λ e. tt) (λ e. tt) (λ e. tt) (λ e. tt) (λ e yes. g.drawn (ap Some yes) e) (λ e. tt) (λ e. tt) (λ e. either (is_wanted wanted ((records.XGeometry info attribute layer datatype text x y repetition) ∷ past)) (λ yes. absurd ((s e).drawn (ap Some yes) refl)) (λ no. l.dims.0 (g.dimension no e))) (λ e. tt)
+    keeps_all bytes wanted past (records.XGeometry info attribute layer datatype text x y repetition) rule l.positions (λ e. tt) (λ e. tt) (λ e. tt) (λ e. tt) (λ e on. g.drawn (ap Some on) e) (λ e. tt) (λ e. tt) (λ e. either (is_wanted wanted ((records.XGeometry info attribute layer datatype text x y repetition) ∷ past)) (λ on. absurd ((s e).drawn (ap Some on) refl)) (λ off. l.dimensions.0 (g.dimension off e))) (λ e. tt)
 
 some_is : (b : Bool) → Some b ≡ Some true → IsTrue b
 some_is true e = refl
@@ -444,40 +444,40 @@ some_is false e = absurd (cc)
 pub geometry_keeps : (bytes : List ℕ) (wanted : List Pair) (past : List OasRecord) (r : OasRecord) (dims : Bool) (rule : ℕ)
     → (IsTrue dims ↔ HasDimensionsIn (repetition_in r)) → HasDimensionsIn (repetition_of past) → Keeps bytes wanted past r rule
     → KeepsGeometry bytes (body_of r) dims (wanting_of wanted past r) (fields_at (r ∷ past)) (repetition_at past r) rule
-geometry_keeps bytes wanted past records.Pad dims rule d before k = record { drawn = λ yes. absurd (cc); dimension = λ no e. d.1 (k.dimension e) }
-geometry_keeps bytes wanted past (records.Start version unit offset_flag tables) dims rule d before k = record { drawn = λ yes. absurd (cc); dimension = λ no e. d.1 (k.dimension e) }
-geometry_keeps bytes wanted past (records.End tables padding scheme validation) dims rule d before k = record { drawn = λ yes. absurd (cc); dimension = λ no e. d.1 (k.dimension e) }
-geometry_keeps bytes wanted past (records.CellName name) dims rule d before k = record { drawn = λ yes. absurd (cc); dimension = λ no e. d.1 (k.dimension e) }
-geometry_keeps bytes wanted past (records.NumberedCellName name number) dims rule d before k = record { drawn = λ yes. absurd (cc); dimension = λ no e. d.1 (k.dimension e) }
-geometry_keeps bytes wanted past (records.TextString text) dims rule d before k = record { drawn = λ yes. absurd (cc); dimension = λ no e. d.1 (k.dimension e) }
-geometry_keeps bytes wanted past (records.NumberedTextString text number) dims rule d before k = record { drawn = λ yes. absurd (cc); dimension = λ no e. d.1 (k.dimension e) }
-geometry_keeps bytes wanted past (records.PropName name) dims rule d before k = record { drawn = λ yes. absurd (cc); dimension = λ no e. d.1 (k.dimension e) }
-geometry_keeps bytes wanted past (records.NumberedPropName name number) dims rule d before k = record { drawn = λ yes. absurd (cc); dimension = λ no e. d.1 (k.dimension e) }
-geometry_keeps bytes wanted past (records.PropString text) dims rule d before k = record { drawn = λ yes. absurd (cc); dimension = λ no e. d.1 (k.dimension e) }
-geometry_keeps bytes wanted past (records.NumberedPropString text number) dims rule d before k = record { drawn = λ yes. absurd (cc); dimension = λ no e. d.1 (k.dimension e) }
-geometry_keeps bytes wanted past (records.LayerName name layers datatypes) dims rule d before k = record { drawn = λ yes. absurd (cc); dimension = λ no e. d.1 (k.dimension e) }
-geometry_keeps bytes wanted past (records.TextLayerName name layers datatypes) dims rule d before k = record { drawn = λ yes. absurd (cc); dimension = λ no e. d.1 (k.dimension e) }
-geometry_keeps bytes wanted past (records.NumberedCell number) dims rule d before k = record { drawn = λ yes. absurd (cc); dimension = λ no e. d.1 (k.dimension e) }
-geometry_keeps bytes wanted past (records.Cell name) dims rule d before k = record { drawn = λ yes. absurd (cc); dimension = λ no e. d.1 (k.dimension e) }
-geometry_keeps bytes wanted past records.XyAbsolute dims rule d before k = record { drawn = λ yes. absurd (cc); dimension = λ no e. d.1 (k.dimension e) }
-geometry_keeps bytes wanted past records.XyRelative dims rule d before k = record { drawn = λ yes. absurd (cc); dimension = λ no e. d.1 (k.dimension e) }
+geometry_keeps bytes wanted past records.Pad dims rule d before k = record { drawn = λ on. absurd (cc); dimension = λ off e. d.1 (k.dimension e) }
+geometry_keeps bytes wanted past (records.Start version unit offset_flag tables) dims rule d before k = record { drawn = λ on. absurd (cc); dimension = λ off e. d.1 (k.dimension e) }
+geometry_keeps bytes wanted past (records.End tables padding scheme validation) dims rule d before k = record { drawn = λ on. absurd (cc); dimension = λ off e. d.1 (k.dimension e) }
+geometry_keeps bytes wanted past (records.CellName name) dims rule d before k = record { drawn = λ on. absurd (cc); dimension = λ off e. d.1 (k.dimension e) }
+geometry_keeps bytes wanted past (records.NumberedCellName name number) dims rule d before k = record { drawn = λ on. absurd (cc); dimension = λ off e. d.1 (k.dimension e) }
+geometry_keeps bytes wanted past (records.TextString text) dims rule d before k = record { drawn = λ on. absurd (cc); dimension = λ off e. d.1 (k.dimension e) }
+geometry_keeps bytes wanted past (records.NumberedTextString text number) dims rule d before k = record { drawn = λ on. absurd (cc); dimension = λ off e. d.1 (k.dimension e) }
+geometry_keeps bytes wanted past (records.PropName name) dims rule d before k = record { drawn = λ on. absurd (cc); dimension = λ off e. d.1 (k.dimension e) }
+geometry_keeps bytes wanted past (records.NumberedPropName name number) dims rule d before k = record { drawn = λ on. absurd (cc); dimension = λ off e. d.1 (k.dimension e) }
+geometry_keeps bytes wanted past (records.PropString text) dims rule d before k = record { drawn = λ on. absurd (cc); dimension = λ off e. d.1 (k.dimension e) }
+geometry_keeps bytes wanted past (records.NumberedPropString text number) dims rule d before k = record { drawn = λ on. absurd (cc); dimension = λ off e. d.1 (k.dimension e) }
+geometry_keeps bytes wanted past (records.LayerName name layers datatypes) dims rule d before k = record { drawn = λ on. absurd (cc); dimension = λ off e. d.1 (k.dimension e) }
+geometry_keeps bytes wanted past (records.TextLayerName name layers datatypes) dims rule d before k = record { drawn = λ on. absurd (cc); dimension = λ off e. d.1 (k.dimension e) }
+geometry_keeps bytes wanted past (records.NumberedCell number) dims rule d before k = record { drawn = λ on. absurd (cc); dimension = λ off e. d.1 (k.dimension e) }
+geometry_keeps bytes wanted past (records.Cell name) dims rule d before k = record { drawn = λ on. absurd (cc); dimension = λ off e. d.1 (k.dimension e) }
+geometry_keeps bytes wanted past records.XyAbsolute dims rule d before k = record { drawn = λ on. absurd (cc); dimension = λ off e. d.1 (k.dimension e) }
+geometry_keeps bytes wanted past records.XyRelative dims rule d before k = record { drawn = λ on. absurd (cc); dimension = λ off e. d.1 (k.dimension e) }
 geometry_keeps bytes wanted past (records.Placement info cell x y repetition) dims rule d before k = record { near = k.offsets; name = k.name; magnification = (λ e. tt); angle = (λ e. tt); dimension = λ e. force_kept past (records.Placement info cell x y repetition) refl before (k.dimension e) }
 geometry_keeps bytes wanted past (records.TurnedPlacement info cell magnification angle x y repetition) dims rule d before k = record { near = k.offsets; name = k.name; magnification = k.magnification; angle = k.angle; dimension = λ e. force_kept past (records.TurnedPlacement info cell magnification angle x y repetition) refl before (k.dimension e) }
-geometry_keeps bytes wanted past (records.Text info text textlayer texttype x y repetition) dims rule d before k = record { drawn = λ yes. absurd (cc); dimension = λ no e. d.1 (k.dimension e) }
-geometry_keeps bytes wanted past (records.Rectangle info layer datatype width height x y repetition) dims rule d before k = record { drawn = λ yes. keeps_from (records.Rectangle info layer datatype width height x y repetition) ((records.Rectangle info layer datatype width height x y repetition) ∷ past) (repetition_at past (records.Rectangle info layer datatype width height x y repetition)) rule (k.drawn (some_is (is_wanted wanted ((records.Rectangle info layer datatype width height x y repetition) ∷ past)) yes)); dimension = λ no e. d.1 (k.dimension e) }
-geometry_keeps bytes wanted past (records.Polygon info layer datatype points x y repetition) dims rule d before k = record { drawn = λ yes. keeps_from (records.Polygon info layer datatype points x y repetition) ((records.Polygon info layer datatype points x y repetition) ∷ past) (repetition_at past (records.Polygon info layer datatype points x y repetition)) rule (k.drawn (some_is (is_wanted wanted ((records.Polygon info layer datatype points x y repetition) ∷ past)) yes)); dimension = λ no e. d.1 (k.dimension e) }
-geometry_keeps bytes wanted past (records.Path info layer datatype half_width extension start end points x y repetition) dims rule d before k = record { drawn = λ yes. keeps_from (records.Path info layer datatype half_width extension start end points x y repetition) ((records.Path info layer datatype half_width extension start end points x y repetition) ∷ past) (repetition_at past (records.Path info layer datatype half_width extension start end points x y repetition)) rule (k.drawn (some_is (is_wanted wanted ((records.Path info layer datatype half_width extension start end points x y repetition) ∷ past)) yes)); dimension = λ no e. d.1 (k.dimension e) }
-geometry_keeps bytes wanted past (records.Trapezoid info layer datatype width height delta_a delta_b x y repetition) dims rule d before k = record { drawn = λ yes. keeps_from (records.Trapezoid info layer datatype width height delta_a delta_b x y repetition) ((records.Trapezoid info layer datatype width height delta_a delta_b x y repetition) ∷ past) (repetition_at past (records.Trapezoid info layer datatype width height delta_a delta_b x y repetition)) rule (k.drawn (some_is (is_wanted wanted ((records.Trapezoid info layer datatype width height delta_a delta_b x y repetition) ∷ past)) yes)); dimension = λ no e. d.1 (k.dimension e) }
-geometry_keeps bytes wanted past (records.TrapezoidA info layer datatype width height delta_a x y repetition) dims rule d before k = record { drawn = λ yes. keeps_from (records.TrapezoidA info layer datatype width height delta_a x y repetition) ((records.TrapezoidA info layer datatype width height delta_a x y repetition) ∷ past) (repetition_at past (records.TrapezoidA info layer datatype width height delta_a x y repetition)) rule (k.drawn (some_is (is_wanted wanted ((records.TrapezoidA info layer datatype width height delta_a x y repetition) ∷ past)) yes)); dimension = λ no e. d.1 (k.dimension e) }
-geometry_keeps bytes wanted past (records.TrapezoidB info layer datatype width height delta_b x y repetition) dims rule d before k = record { drawn = λ yes. keeps_from (records.TrapezoidB info layer datatype width height delta_b x y repetition) ((records.TrapezoidB info layer datatype width height delta_b x y repetition) ∷ past) (repetition_at past (records.TrapezoidB info layer datatype width height delta_b x y repetition)) rule (k.drawn (some_is (is_wanted wanted ((records.TrapezoidB info layer datatype width height delta_b x y repetition) ∷ past)) yes)); dimension = λ no e. d.1 (k.dimension e) }
-geometry_keeps bytes wanted past (records.Ctrapezoid info layer datatype kind width height x y repetition) dims rule d before k = record { drawn = λ yes. keeps_from (records.Ctrapezoid info layer datatype kind width height x y repetition) ((records.Ctrapezoid info layer datatype kind width height x y repetition) ∷ past) (repetition_at past (records.Ctrapezoid info layer datatype kind width height x y repetition)) rule (k.drawn (some_is (is_wanted wanted ((records.Ctrapezoid info layer datatype kind width height x y repetition) ∷ past)) yes)); dimension = λ no e. d.1 (k.dimension e) }
-geometry_keeps bytes wanted past (records.Circle info layer datatype radius x y repetition) dims rule d before k = record { drawn = λ yes seven. k.other seven (some_is (is_wanted wanted ((records.Circle info layer datatype radius x y repetition) ∷ past)) yes); dimension = λ no e. d.1 (k.dimension e) }
-geometry_keeps bytes wanted past (records.Property info name count values) dims rule d before k = record { drawn = λ yes. absurd (cc); dimension = λ no e. d.1 (k.dimension e) }
-geometry_keeps bytes wanted past records.LastProperty dims rule d before k = record { drawn = λ yes. absurd (cc); dimension = λ no e. d.1 (k.dimension e) }
-geometry_keeps bytes wanted past (records.XName attribute text) dims rule d before k = record { drawn = λ yes. absurd (cc); dimension = λ no e. d.1 (k.dimension e) }
-geometry_keeps bytes wanted past (records.NumberedXName attribute text number) dims rule d before k = record { drawn = λ yes. absurd (cc); dimension = λ no e. d.1 (k.dimension e) }
-geometry_keeps bytes wanted past (records.XElement attribute text) dims rule d before k = record { drawn = λ yes. absurd (cc); dimension = λ no e. d.1 (k.dimension e) }
-geometry_keeps bytes wanted past (records.XGeometry info attribute layer datatype text x y repetition) dims rule d before k = record { drawn = λ yes seven. k.other seven (some_is (is_wanted wanted ((records.XGeometry info attribute layer datatype text x y repetition) ∷ past)) yes); dimension = λ no e. d.1 (k.dimension e) }
+geometry_keeps bytes wanted past (records.Text info text textlayer texttype x y repetition) dims rule d before k = record { drawn = λ on. absurd (cc); dimension = λ off e. d.1 (k.dimension e) }
+geometry_keeps bytes wanted past (records.Rectangle info layer datatype width height x y repetition) dims rule d before k = record { drawn = λ on. keeps_from (records.Rectangle info layer datatype width height x y repetition) ((records.Rectangle info layer datatype width height x y repetition) ∷ past) (repetition_at past (records.Rectangle info layer datatype width height x y repetition)) rule (k.drawn (some_is (is_wanted wanted ((records.Rectangle info layer datatype width height x y repetition) ∷ past)) on)); dimension = λ off e. d.1 (k.dimension e) }
+geometry_keeps bytes wanted past (records.Polygon info layer datatype points x y repetition) dims rule d before k = record { drawn = λ on. keeps_from (records.Polygon info layer datatype points x y repetition) ((records.Polygon info layer datatype points x y repetition) ∷ past) (repetition_at past (records.Polygon info layer datatype points x y repetition)) rule (k.drawn (some_is (is_wanted wanted ((records.Polygon info layer datatype points x y repetition) ∷ past)) on)); dimension = λ off e. d.1 (k.dimension e) }
+geometry_keeps bytes wanted past (records.Path info layer datatype half_width extension start end points x y repetition) dims rule d before k = record { drawn = λ on. keeps_from (records.Path info layer datatype half_width extension start end points x y repetition) ((records.Path info layer datatype half_width extension start end points x y repetition) ∷ past) (repetition_at past (records.Path info layer datatype half_width extension start end points x y repetition)) rule (k.drawn (some_is (is_wanted wanted ((records.Path info layer datatype half_width extension start end points x y repetition) ∷ past)) on)); dimension = λ off e. d.1 (k.dimension e) }
+geometry_keeps bytes wanted past (records.Trapezoid info layer datatype width height delta_a delta_b x y repetition) dims rule d before k = record { drawn = λ on. keeps_from (records.Trapezoid info layer datatype width height delta_a delta_b x y repetition) ((records.Trapezoid info layer datatype width height delta_a delta_b x y repetition) ∷ past) (repetition_at past (records.Trapezoid info layer datatype width height delta_a delta_b x y repetition)) rule (k.drawn (some_is (is_wanted wanted ((records.Trapezoid info layer datatype width height delta_a delta_b x y repetition) ∷ past)) on)); dimension = λ off e. d.1 (k.dimension e) }
+geometry_keeps bytes wanted past (records.TrapezoidA info layer datatype width height delta_a x y repetition) dims rule d before k = record { drawn = λ on. keeps_from (records.TrapezoidA info layer datatype width height delta_a x y repetition) ((records.TrapezoidA info layer datatype width height delta_a x y repetition) ∷ past) (repetition_at past (records.TrapezoidA info layer datatype width height delta_a x y repetition)) rule (k.drawn (some_is (is_wanted wanted ((records.TrapezoidA info layer datatype width height delta_a x y repetition) ∷ past)) on)); dimension = λ off e. d.1 (k.dimension e) }
+geometry_keeps bytes wanted past (records.TrapezoidB info layer datatype width height delta_b x y repetition) dims rule d before k = record { drawn = λ on. keeps_from (records.TrapezoidB info layer datatype width height delta_b x y repetition) ((records.TrapezoidB info layer datatype width height delta_b x y repetition) ∷ past) (repetition_at past (records.TrapezoidB info layer datatype width height delta_b x y repetition)) rule (k.drawn (some_is (is_wanted wanted ((records.TrapezoidB info layer datatype width height delta_b x y repetition) ∷ past)) on)); dimension = λ off e. d.1 (k.dimension e) }
+geometry_keeps bytes wanted past (records.Ctrapezoid info layer datatype kind width height x y repetition) dims rule d before k = record { drawn = λ on. keeps_from (records.Ctrapezoid info layer datatype kind width height x y repetition) ((records.Ctrapezoid info layer datatype kind width height x y repetition) ∷ past) (repetition_at past (records.Ctrapezoid info layer datatype kind width height x y repetition)) rule (k.drawn (some_is (is_wanted wanted ((records.Ctrapezoid info layer datatype kind width height x y repetition) ∷ past)) on)); dimension = λ off e. d.1 (k.dimension e) }
+geometry_keeps bytes wanted past (records.Circle info layer datatype radius x y repetition) dims rule d before k = record { drawn = λ on seven. k.other seven (some_is (is_wanted wanted ((records.Circle info layer datatype radius x y repetition) ∷ past)) on); dimension = λ off e. d.1 (k.dimension e) }
+geometry_keeps bytes wanted past (records.Property info name count values) dims rule d before k = record { drawn = λ on. absurd (cc); dimension = λ off e. d.1 (k.dimension e) }
+geometry_keeps bytes wanted past records.LastProperty dims rule d before k = record { drawn = λ on. absurd (cc); dimension = λ off e. d.1 (k.dimension e) }
+geometry_keeps bytes wanted past (records.XName attribute text) dims rule d before k = record { drawn = λ on. absurd (cc); dimension = λ off e. d.1 (k.dimension e) }
+geometry_keeps bytes wanted past (records.NumberedXName attribute text number) dims rule d before k = record { drawn = λ on. absurd (cc); dimension = λ off e. d.1 (k.dimension e) }
+geometry_keeps bytes wanted past (records.XElement attribute text) dims rule d before k = record { drawn = λ on. absurd (cc); dimension = λ off e. d.1 (k.dimension e) }
+geometry_keeps bytes wanted past (records.XGeometry info attribute layer datatype text x y repetition) dims rule d before k = record { drawn = λ on seven. k.other seven (some_is (is_wanted wanted ((records.XGeometry info attribute layer datatype text x y repetition) ∷ past)) on); dimension = λ off e. d.1 (k.dimension e) }
 
 -- one that breaks a rule of its geometry has no name of its own to look at
 pub own_kept : (bytes : List ℕ) (wanted : List Pair) (past : List OasRecord) (r : OasRecord) (dims : Bool) (rule : ℕ)
@@ -486,8 +486,8 @@ pub own_kept : (bytes : List ℕ) (wanted : List Pair) (past : List OasRecord) (
 own_kept bytes wanted past records.Pad dims rule d wrong = tt
 own_kept bytes wanted past (records.Start version unit offset_flag tables) dims rule d wrong = tt
 own_kept bytes wanted past (records.End tables padding scheme validation) dims rule d wrong = tt
-own_kept bytes wanted past (records.CellName name) dims rule d wrong = absurd (wrong (record { drawn = λ yes. absurd (cc); dimension = λ no e. d.1 tt }))
-own_kept bytes wanted past (records.NumberedCellName name number) dims rule d wrong = absurd (wrong (record { drawn = λ yes. absurd (cc); dimension = λ no e. d.1 tt }))
+own_kept bytes wanted past (records.CellName name) dims rule d wrong = absurd (wrong (record { drawn = λ on. absurd (cc); dimension = λ off e. d.1 tt }))
+own_kept bytes wanted past (records.NumberedCellName name number) dims rule d wrong = absurd (wrong (record { drawn = λ on. absurd (cc); dimension = λ off e. d.1 tt }))
 own_kept bytes wanted past (records.TextString text) dims rule d wrong = tt
 own_kept bytes wanted past (records.NumberedTextString text number) dims rule d wrong = tt
 own_kept bytes wanted past (records.PropName name) dims rule d wrong = tt
@@ -497,7 +497,7 @@ own_kept bytes wanted past (records.NumberedPropString text number) dims rule d 
 own_kept bytes wanted past (records.LayerName name layers datatypes) dims rule d wrong = tt
 own_kept bytes wanted past (records.TextLayerName name layers datatypes) dims rule d wrong = tt
 own_kept bytes wanted past (records.NumberedCell number) dims rule d wrong = tt
-own_kept bytes wanted past (records.Cell name) dims rule d wrong = absurd (wrong (record { drawn = λ yes. absurd (cc); dimension = λ no e. d.1 tt }))
+own_kept bytes wanted past (records.Cell name) dims rule d wrong = absurd (wrong (record { drawn = λ on. absurd (cc); dimension = λ off e. d.1 tt }))
 own_kept bytes wanted past records.XyAbsolute dims rule d wrong = tt
 own_kept bytes wanted past records.XyRelative dims rule d wrong = tt
 own_kept bytes wanted past (records.Placement info cell x y repetition) dims rule d wrong = tt
@@ -588,7 +588,7 @@ positions_lowest bytes wanted past r wrong = record {
   lower = λ other less.
       keeps_all bytes wanted past r other (λ e. absurd (omega arith)) (λ e. absurd (omega arith)) (λ e. absurd (omega arith)) (λ e. absurd (omega arith))
       (λ e. absurd (omega arith)) (λ e. absurd (omega arith)) (λ e. absurd (omega arith)) (λ e. absurd (omega arith)) (λ e. absurd (omega arith))
-      (λ yes. drawn_below r (r ∷ past) (repetition_at past r) other less);
+      (λ on. drawn_below r (r ∷ past) (repetition_at past r) other less);
 }
 
 pub version_lowest : (bytes : List ℕ) (wanted : List Pair) (past : List OasRecord) (r : OasRecord) → (KeepsVersionBy bytes (body_of r) → ⊥)
@@ -711,5 +711,5 @@ pub dimensions_behind : (bytes : List ℕ) (unit : ℕ) (wanted : List Pair) (pa
     → HasDimensionsIn (repetition_of (records_in past))
 dimensions_behind bytes unit wanted [] at allowed = subst HasDimensionsIn (sym nothing_last) tt
 dimensions_behind bytes unit wanted (last ∷ past) at allowed =
-    allowed_behind (records_in past) last.r (begins_cell last.r) refl ((allowed.1.0.rules 11).dimension refl)
-    (dimensions_behind bytes unit wanted past last.at allowed.1.1)
+    allowed_behind (records_in past) last.r (begins_cell last.r) refl ((allowed.1.rules 11).dimension refl)
+    (dimensions_behind bytes unit wanted past last.at allowed.2)

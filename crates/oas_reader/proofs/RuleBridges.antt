@@ -108,7 +108,7 @@ looked_at bytes wanted sorted past r outline fields wanting rule b l own = recor
   positions = λ e. near_to (r ∷ past) fields b.fields_are l.near;
   version = subst (KeepsVersionBy bytes) b.body l.version;
   scheme = subst KeepsSchemeBy b.body l.scheme;
-  dims = b.dims;
+  dimensions = b.dims;
   defined = sym b.undefined ∙ l.defined;
   own = own;
 }
