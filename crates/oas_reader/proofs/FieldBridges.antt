@@ -91,20 +91,21 @@ needs_are past (records.NumberedXName attribute text number) = refl
 needs_are past (records.XElement attribute text) = refl
 needs_are past (records.XGeometry info attribute layer datatype text x y repetition) = rw (repeated_is repetition) refl
 
+joined : (all : List OasRecord) (fields : Fields) → AreFields all fields → (pair form repetition : List Variable)
+    → or_else (first_in fields pair) (or_else (first_in fields form) (first_in fields repetition)) ≡ first_undefined all (pair ++ (form ++ repetition))
+joined all fields a pair form repetition =
+    ap (λ x. or_else x (or_else (first_in fields form) (first_in fields repetition))) (first_by all fields a pair)
+    ∙ ap (λ x. or_else (first_undefined all pair) (or_else x (first_in fields repetition))) (first_by all fields a form)
+    ∙ ap (λ x. or_else (first_undefined all pair) (or_else (first_undefined all form) x)) (first_by all fields a repetition)
+    ∙ ap (λ x. or_else (first_undefined all pair) x) (sym (first_of_two all form repetition)) ∙ sym (first_of_two all pair (form ++ repetition))
+
 -- what a record needs and hasn't, by what is kept of it
 pub undefined_is : (past : List OasRecord) (r : OasRecord) (fields : Fields) → AreFields (r ∷ past) fields
     → undefined_in (body_of r) (is_there (repetition_in r)) fields ≡ undefined_of past r
 undefined_is past r fields a =
-    rw (
-      needs_are past r,
-      first_of_two (r ∷ past) (pair_needs (has_a_pair (body_of r))) (form_needs (body_of r) (kind_of (r ∷ past)) ++ repetition_needs (is_there (repetition_in r))),
-      first_of_two (r ∷ past) (form_needs (body_of r) (kind_of (r ∷ past))) (repetition_needs (is_there (repetition_in r))),
-      a.kind,
-      first_by (r ∷ past) fields a (pair_needs (has_a_pair (body_of r))),
-      first_by (r ∷ past) fields a (form_needs (body_of r) (kind_of (r ∷ past))),
-      first_by (r ∷ past) fields a (repetition_needs (is_there (repetition_in r))),
-    )
-    refl
+    joined (r ∷ past) fields a (pair_needs (has_a_pair (body_of r))) (form_needs (body_of r) fields.kind) (repetition_needs (is_there (repetition_in r)))
+    ∙ ap (λ kind. first_undefined (r ∷ past) (pair_needs (has_a_pair (body_of r)) ++ (form_needs (body_of r) kind ++ repetition_needs (is_there (repetition_in r))))) a.kind
+    ∙ sym (ap (λ needs. first_undefined (r ∷ past) needs) (needs_are past r))
 
 -- ---- pairs and shapes
 

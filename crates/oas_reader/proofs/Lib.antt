@@ -14,3 +14,8 @@ mod BodyLemmas
 mod CountLemmas
 mod TakenLemmas
 mod ReadLemmas
+mod RealLemmas
+mod PlacedLemmas
+mod RecordRules
+mod RuleBridges
+mod GeometryLemmas

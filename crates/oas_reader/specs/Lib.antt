@@ -19,3 +19,4 @@ pub mod Files
 pub mod Placed
 pub mod Taking
 pub mod Behind
+pub mod Geometry

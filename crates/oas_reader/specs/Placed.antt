@@ -1,5 +1,5 @@
 -- Placements by what the program keeps of a record.
-use Rattle.std.specs.Prelude.{◌≡◌, ◌<◌, ℕ, Bool, Option, None, List}
+use Rattle.std.specs.Prelude.{◌≡◌, ◌⊎◌, ◌<◌, ℕ, Bool, Option, None, List}
 use Rattle.layout_model.specs.declared.orient.Orient.{Orient}
 use Rattle.oas_lex.specs.declared.reals.Real.{Real}
 use Rattle.oas_record.specs.declared.fields.Called.{Called}
@@ -13,6 +13,8 @@ use Rattle.oas_reader.specs.Reals.{IsFactor, IsQuarterAngle, factor_of, turns_of
 use Rattle.oas_reader.specs.Rules.{IsNamed}
 use Rattle.oas_reader.specs.declared.bodies.Turning.{Turning}
 use Rattle.oas_reader.specs.declared.bodies.Turning.TheVariants as turnings
+use Rattle.oas_reader.specs.declared.refusing.OasBad.{OasBad}
+use Rattle.oas_reader.specs.declared.refusing.OasBad.TheVariants as faults
 
 abbrev pub magnification_in : Turning → Option Real
 magnification_in (turnings.Quarters turns) = None
@@ -39,6 +41,23 @@ pub record KeepsPlaced (bytes : List ℕ) (called : Option Called) (turning : Tu
   pub magnification : rule ≡ 4 → IsFactor (magnification_in turning)
   pub angle : rule ≡ 5 → IsQuarterAngle (angle_in turning)
   pub dimension : rule ≡ 11 → HasDimensionsIn rep
+
+-- its offsets keep the rule
+pub record KeepsOffsetsIn (rep : Option Rep) (rule : ℕ) : Type 0 where
+  pub near : rule ≡ 1 → AreNear (offsets_in rep)
+  pub dimension : rule ≡ 11 → HasDimensionsIn rep
+
+-- its name and its turning do
+pub record KeepsTurned (bytes : List ℕ) (called : Option Called) (turning : Turning) (rule : ℕ) : Type 0 where
+  pub name : rule ≡ 2 → IsNamed bytes called
+  pub magnification : rule ≡ 4 → IsFactor (magnification_in turning)
+  pub angle : rule ≡ 5 → IsQuarterAngle (angle_in turning)
+
+-- the magnification is none that is allowed, or it is, and the angle isn't
+abbrev pub IsBadTurning : Turning → ℕ → OasBad → Type 0
+IsBadTurning turning at bad =
+    ((IsFactor (magnification_in turning) → ⊥) × (bad ≡ faults.Value at 4))
+    ⊎ (IsFactor (magnification_in turning) × (IsQuarterAngle (angle_in turning) → ⊥) × (bad ≡ faults.Value at 5))
 
 -- what it gives
 abbrev pub placed_by : Fields → Bool → Turning → Option Rep → Placing

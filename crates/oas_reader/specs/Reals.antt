@@ -1,5 +1,5 @@
 -- What the real of a magnification or an angle is, rounded to 0 to a whole number: exact where it is one.
-use Rattle.std.specs.Prelude.{ℕ, zero, suc, ◌+◌, ◌*◌, ◌/◌, ◌%◌, ◌^◌, ◌≤◌, ℤ, pos, neg_ℤ, ◌*ℤ◌, ◌≤ℤ◌, Option, Some, None}
+use Rattle.std.specs.Prelude.{◌≡◌, ◌⊎◌, ℕ, zero, suc, ◌+◌, ◌*◌, ◌/◌, ◌%◌, ◌^◌, ◌≤◌, ℤ, pos, neg_ℤ, ◌*ℤ◌, ◌≤ℤ◌, Option, Some, None}
 use Rattle.oas_lex.specs.Reals.{RealForm, OneNumber, TwoNumbers, FourBytes, EightBytes, form_of, sign_of, top_of, bottom_of, IsWholeReal}
 use Rattle.oas_lex.specs.declared.reals.Real.{Real}
 
@@ -45,3 +45,11 @@ abbrev pub IsQuarterAngle : Option Real → Type 0
 IsQuarterAngle None = Unit {0}
 IsQuarterAngle (Some real) =
     (quarters : ℤ) × IsWholeReal real (pos 90 *ℤ quarters) × (neg_ℤ (pos 4) ≤ℤ quarters) × (quarters ≤ℤ pos 4)
+
+-- so many degrees are so many quarter turns counterclockwise
+abbrev pub IsTurn : ℤ → ℕ → Type 0
+IsTurn degrees turns =
+    ((turns ≡ 0) × ((degrees ≡ pos 0) ⊎ (degrees ≡ pos 360) ⊎ (degrees ≡ neg_ℤ (pos 360))))
+    ⊎ ((turns ≡ 1) × ((degrees ≡ pos 90) ⊎ (degrees ≡ neg_ℤ (pos 270))))
+    ⊎ ((turns ≡ 2) × ((degrees ≡ pos 180) ⊎ (degrees ≡ neg_ℤ (pos 180))))
+    ⊎ ((turns ≡ 3) × ((degrees ≡ pos 270) ⊎ (degrees ≡ neg_ℤ (pos 90))))

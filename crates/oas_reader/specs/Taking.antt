@@ -7,7 +7,7 @@ use Rattle.oas_record.specs.declared.fields.Called.{Called}
 use Rattle.oas_record.specs.declared.records.OasRecord.{OasRecord}
 use Rattle.oas_record.specs.declared.records.OasRecord.TheVariants as records
 use Rattle.oas_shapes.specs.Repetitions.{HasDimensionsIn}
-use Rattle.oas_fields.specs.Values.{AreFields}
+use Rattle.oas_fields.specs.Values.{AreFields, repetition_of}
 use Rattle.oas_fields.specs.declared.fields.Fields.{Fields}
 use Rattle.oas_fields.specs.declared.variables.Variable.{Variable}
 use Rattle.oas_reader.specs.Bodies.{body_of}
@@ -39,11 +39,12 @@ IsBodyWithin bytes (bodies.Cell called) = IsCalledWithin bytes called
 IsBodyWithin bytes (bodies.Placement called flips turning) = AreCalledWithin bytes called × IsTurning turning
 IsBodyWithin bytes _ = Unit {0}
 
--- the record's outline and the fields behind it
+-- the record's outline and the fields behind it; the dimensions of the last repetition before it are allowed
 pub record IsTaken (wanted sorted : List Pair) (past : List OasRecord) (r : OasRecord) (outline : Outline) (fields : Fields) : Type 0 where
   pub same : AreSamePairs wanted sorted
   pub looked_at : IsOutlineOf r outline
   pub values : AreFields (r ∷ past) fields
+  pub last_allowed : HasDimensionsIn (repetition_of past)
 
 -- whether its pair is wanted, where it has one
 abbrev pub wanting_of : List Pair → List OasRecord → OasRecord → Option Bool

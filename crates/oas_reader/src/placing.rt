@@ -1,14 +1,18 @@
 //! Placements.
-ghost use Rattle.std.specs.Prelude.{◌≡◌, ◌^◌, ℕ, IfSome, IfNone, IfOk, IfErr, IsSome, option_copied};
-ghost use Rattle.layout_model.specs.Layouts.{IsWithin};
+ghost use Rattle.std.specs.Prelude.{◌≡◌, ◌^◌, ◌≤◌, ◌<◌, ℕ, pos, IfSome, IfNone, IfOk, IfErr, IsSome, Err, option_copied};
+ghost use Rattle.layout_model.specs.Images.{IsOrient};
+ghost use Rattle.layout_model.specs.Layouts.{IsWithin, IsMove, AreOffsets};
 ghost use Rattle.oas_fields.specs.Values.{IsPlaceWithin};
 ghost use Rattle.oas_shapes.specs.Plane.{doubled as the_doubled};
+ghost use Rattle.oas_shapes.specs.Repetitions.{offsets_in as the_offsets_in};
+ghost use Rattle.oas_shapes.specs.Rules.{IsLowest};
+ghost use Rattle.oas_shapes.specs.declared.drawing.Undrawn.TheVariants.{Rule};
 ghost use Rattle.oas_reader.specs.Drawn.{repetition_kept, bad_at, is_first, IsRefusedBy};
 ghost use Rattle.oas_reader.specs.Naming.{AreCalledWithin};
-ghost use Rattle.oas_reader.specs.Placed.{KeepsPlaced, IsTurning, placed_by};
+ghost use Rattle.oas_reader.specs.Placed.{KeepsPlaced, KeepsOffsetsIn, KeepsTurned, IsBadTurning, IsTurning, magnification_in, angle_in, orient_in, placed_by};
 ghost use Rattle.oas_reader.specs.Readers.{placing_of as the_placing_of, IsPlacingOnGrid};
 ghost use Rattle.oas_reader.specs.Meaning.{point_at};
-ghost use Rattle.oas_reader.specs.Reals.{IsFactor, IsQuarterAngle, factor_of as the_factor_of, turns_of as the_turns_of};
+ghost use Rattle.oas_reader.specs.Reals.{IsFactor, IsQuarterAngle, IsTurn, factor_of as the_factor_of, turns_of as the_turns_of};
 
 use crate::bodies::{Outline, Turning};
 use crate::naming::look_at_called;
@@ -39,43 +43,78 @@ pub(crate) struct Placing {
     pub(crate) offsets: Offsets,
 }
 
+// The number where it is 1 to 16.
+fn factor_in(n: i64) -> Option<u8>
+    ensures some { IfSome result (λ factor. (n ≡ pos factor) × (1 ≤ factor) × (factor ≤ 16)) }
+    ensures none { IfNone result ((factor : ℕ) → n ≡ pos factor → 1 ≤ factor → factor ≤ 16 → ⊥) }
+{
+    if n < 1 {
+        return None;
+    }
+    if n > 16 {
+        return None;
+    }
+    Some(n as u8)
+}
+
 // A magnification from 1 to 16.
 fn factor_of(magnification: Option<Real>) -> Option<u8>
     ensures some { IfSome result (λ factor. IsFactor magnification × (factor ≡ the_factor_of magnification)) }
+    ensures bounds { IfSome result (λ factor. (1 ≤ factor) × (factor ≤ 16)) }
     ensures none { IfNone result (IsFactor magnification → ⊥) }
 {
     let Some(real) = magnification else {
         return Some(1);
     };
     match real_whole(real) {
-        Some(whole) => {
-            if whole >= 1 && whole <= 16 {
-                return Some(whole as u8);
-            }
-            None
-        }
+        Some(n) => factor_in(n),
         None => None,
     }
+}
+
+// The quarter turns counterclockwise of a multiple of 90 degrees from -360 to 360.
+fn turns_in(degrees: i64) -> Option<u8>
+    ensures some { IfSome result (λ turns. IsTurn degrees turns) }
+    ensures none { IfNone result ((turns : ℕ) → ¬ IsTurn degrees turns) }
+{
+    if degrees == 0 || degrees == 360 || degrees == -360 {
+        return Some(0);
+    }
+    if degrees == 90 || degrees == -270 {
+        return Some(1);
+    }
+    if degrees == 180 || degrees == -180 {
+        return Some(2);
+    }
+    if degrees == 270 || degrees == -90 {
+        return Some(3);
+    }
+    None
 }
 
 // The quarter turns of an angle that is a multiple of 90 degrees from -360 to 360.
 fn turns_of(angle: Option<Real>) -> Option<u8>
     ensures some { IfSome result (λ turns. IsQuarterAngle angle × (turns ≡ the_turns_of angle)) }
+    ensures few { IfSome result (λ turns. turns < 4) }
     ensures none { IfNone result (IsQuarterAngle angle → ⊥) }
 {
     let Some(real) = angle else {
         return Some(0);
     };
     match real_whole(real) {
-        Some(-360 | 0 | 360) => Some(0),
-        Some(-270 | 90) => Some(1),
-        Some(-180 | 180) => Some(2),
-        Some(-90 | 270) => Some(3),
-        _ => None,
+        Some(degrees) => turns_in(degrees),
+        None => None,
     }
 }
 
-fn orient_of(flips: bool, turning: Turning, at: usize) -> Result<Orient, OasBad> {
+// The orientation of a placement.
+fn orient_of(flips: bool, turning: Turning, at: usize) -> Result<Orient, OasBad>
+    requires { IsTurning turning }
+    ensures value { IfOk result (λ orient. orient ≡ orient_in flips turning) }
+    ensures grid { IfOk result IsOrient }
+    ensures kept { IfOk result (λ _. IsFactor (magnification_in turning) × IsQuarterAngle (angle_in turning)) }
+    ensures broken { IfErr result (IsBadTurning turning at) }
+{
     match turning {
         Turning::Quarters(turns) => Ok(Orient {
             flip: flips,
@@ -101,6 +140,31 @@ fn orient_of(flips: bool, turning: Turning, at: usize) -> Result<Orient, OasBad>
     }
 }
 
+// The orientation of a placement that calls its cell so.
+fn named_orient(
+    alloc: Global,
+    bytes: &[u8],
+    called: Option<Called>,
+    flips: bool,
+    turning: Turning,
+    at: usize,
+) -> Result<Orient, OasBad>
+    requires turning { IsTurning turning }
+    requires called { AreCalledWithin bytes.now called }
+    ensures value { IfOk result (λ orient. orient ≡ orient_in flips turning) }
+    ensures grid { IfOk result IsOrient }
+    ensures kept { IfOk result (λ _. (rule : ℕ) → KeepsTurned bytes.now called turning rule) }
+    ensures broken { IfErr result (IsRefusedBy (KeepsTurned bytes.now called turning) at) }
+{
+    if let Err(bad) = look_at_called(alloc, bytes, called, at) {
+        return Err(bad);
+    }
+    match orient_of(flips, turning, at) {
+        Ok(orient) => Ok(orient),
+        Err(bad) => Err(bad),
+    }
+}
+
 /// A position as a point, in grid steps. It is near.
 pub(crate) fn point_of(place: Place) -> Point
     requires { IsPlaceWithin (2 ^ 40) place }
@@ -116,7 +180,8 @@ pub(crate) fn point_of(place: Place) -> Point
 // From grid steps to half units.
 fn doubled(point: Point) -> Point
     requires { IsWithin (2 ^ 40) point }
-    ensures { result ≡ the_doubled point }
+    ensures value { result ≡ the_doubled point }
+    ensures grid { IsMove result }
 {
     Point {
         x: 2 * point.x,
@@ -135,9 +200,17 @@ pub(crate) fn repetition_in(fields: &Fields, repeats: bool) -> Option<&Rep>
 }
 
 // The offsets of a placement.
-fn offsets_in(alloc: Global, repetition: Option<&Rep>) -> Result<Offsets, Undrawn> {
+fn offsets_in(alloc: Global, repetition: Option<&Rep>) -> Result<Offsets, Undrawn>
+    ensures offsets { IfOk result (λ offsets. offsets ≡ the_offsets_in (option_copied repetition.entry)) }
+    ensures grid { IfOk result AreOffsets }
+    ensures kept { IfOk result (λ _. (rule : ℕ) → KeepsOffsetsIn (option_copied repetition.entry) rule) }
+    ensures broken { (rule : ℕ) → result ≡ Err (Rule rule) → IsLowest (KeepsOffsetsIn (option_copied repetition.entry)) rule }
+{
     match repetition {
-        Some(repetition) => offsets_of(alloc, repetition),
+        Some(repetition) => match offsets_of(alloc, repetition) {
+            Ok(offsets) => Ok(offsets),
+            Err(undrawn) => Err(undrawn),
+        },
         None => match Offsets::list(alloc, &[ORIGIN]) {
             Ok(offsets) => Ok(offsets),
             Err(_) => Err(Undrawn::NoMemory),
@@ -192,13 +265,16 @@ pub(crate) fn placing_of(
             if is_first(undrawn) {
                 return Err(bad_at(undrawn, at));
             }
-            look_at_called(alloc, bytes, called, at)?;
-            orient_of(flips, turning, at)?;
-            return Err(bad_at(undrawn, at));
+            return match named_orient(alloc, bytes, called, flips, turning, at) {
+                Ok(_) => Err(bad_at(undrawn, at)),
+                Err(bad) => Err(bad),
+            };
         }
     };
-    look_at_called(alloc, bytes, called, at)?;
-    let orient = orient_of(flips, turning, at)?;
+    let orient = match named_orient(alloc, bytes, called, flips, turning, at) {
+        Ok(orient) => orient,
+        Err(bad) => return Err(bad),
+    };
     let Some(target) = fields.cell else {
         return Err(OasBad::NoMemory);
     };

@@ -1,0 +1,715 @@
+-- The rules of records, and what the program keeps of them.
+use Rattle.std.proofs.Common.{◌≡◌, ℕ, ◌<◌, ◌≤◌, ◌^◌, Bool, true, false, if◌then◌else◌, Option, Some, None, List, [], ◌∷◌, ◌++◌, refl, sym, ap, subst, ◌∙◌, inl, inr, arith}
+use Rattle.std.specs.Prelude.{◌⊎◌, ◌↔◌, IsTrue, IsSome}
+use Rattle.std.proofs.lemmas.List.Elements.{All-nil}
+use Rattle.half_grid.specs.declared.plane.Point.{Point}
+use Rattle.layout_model.specs.declared.pair.Pair.{Pair}
+use Rattle.layout_model.specs.declared.shapes.Shape.{Shape}
+use Rattle.oas_record.specs.Taken.{repetition_in}
+use Rattle.oas_record.specs.declared.fields.Called.{Called}
+use Rattle.oas_record.specs.declared.fields.Called.TheVariants.{Number, Text}
+use Rattle.oas_record.specs.declared.fields.Deltas.{Deltas}
+use Rattle.oas_record.specs.declared.records.OasRecord.{OasRecord}
+use Rattle.oas_record.specs.declared.records.OasRecord.TheVariants as records
+use Rattle.oas_record.specs.declared.repetition.Rep.{Rep}
+use Rattle.oas_record.specs.declared.repetition.Rep.TheVariants as reps
+use Rattle.oas_shapes.specs.Repetitions.{offsets_in, IsDimension, HasDimensionsIn}
+use Rattle.oas_shapes.specs.Rules.{IsLowest}
+use Rattle.oas_shapes.specs.declared.figures.Brush.{Brush}
+use Rattle.oas_shapes.specs.declared.figures.Figure.{Figure}
+use Rattle.oas_fields.specs.Values.{begins_cell, or_else, last_written, polygon_points_of, path_points_of, repetition_of, kind_of}
+use Rattle.oas_fields.specs.Writes.{repetition_written, repetition_by as the_written}
+use Rattle.oas_fields.specs.declared.variables.Variable.{Variable}
+use Rattle.oas_fields.specs.declared.variables.Variable.TheVariants.{Layer, Datatype, PolygonPoints, PathHalfWidth, PathStart, PathEnd, PathPoints}
+use Rattle.oas_reader.specs.Bodies.{body_of}
+use Rattle.oas_reader.specs.Drawn.{KeepsDrawnIn, KeepsWantedIn, repetition_kept}
+use Rattle.oas_reader.specs.Geometry.{shapes_if, placings_in, KeepsShapes, KeepsGeometry}
+use Rattle.oas_reader.specs.Items.{Item, records_in}
+use Rattle.oas_reader.specs.Kept.{fields_at, has_a_pair, KeepsVersionBy, KeepsSchemeBy}
+use Rattle.oas_reader.specs.Meaning.{repetition_by, repetition_at, is_wanted, has_pair, shapes_drawn, placings_at, figure_of, at_of, brush_of}
+use Rattle.oas_reader.specs.Names.{cell_called}
+use Rattle.oas_reader.specs.Placed.{KeepsPlaced}
+use Rattle.oas_reader.specs.Reading.{AreAllowed}
+use Rattle.oas_reader.specs.Rules.{ArePositionsNear, KeepsOffsets, KeepsName, KeepsMagnification, KeepsAngle, KeepsToOthers, KeepsVersion, KeepsScheme, FigureKeeps, PolygonKeeps, PathKeeps, KeepsDrawn, Keeps}
+use Rattle.oas_reader.specs.Taking.{KeepsOwnName, wanting_of}
+use Rattle.oas_reader.specs.Undefined.{is_there, is_defined, first_undefined, undefined_of}
+use Rattle.oas_reader.specs.declared.bodies.Body.{Body}
+use Rattle.oas_reader.specs.declared.bodies.Body.TheVariants as bodies
+use Rattle.oas_reader.proofs.DrawBridges.{keeps_to, keeps_from}
+
+-- ---- pairs and cells
+
+pub has_pair_is : (r : OasRecord) → has_a_pair (body_of r) ≡ has_pair r
+has_pair_is records.Pad = refl
+has_pair_is (records.Start version unit offset_flag tables) = refl
+has_pair_is (records.End tables padding scheme validation) = refl
+has_pair_is (records.CellName name) = refl
+has_pair_is (records.NumberedCellName name number) = refl
+has_pair_is (records.TextString text) = refl
+has_pair_is (records.NumberedTextString text number) = refl
+has_pair_is (records.PropName name) = refl
+has_pair_is (records.NumberedPropName name number) = refl
+has_pair_is (records.PropString text) = refl
+has_pair_is (records.NumberedPropString text number) = refl
+has_pair_is (records.LayerName name layers datatypes) = refl
+has_pair_is (records.TextLayerName name layers datatypes) = refl
+has_pair_is (records.NumberedCell number) = refl
+has_pair_is (records.Cell name) = refl
+has_pair_is records.XyAbsolute = refl
+has_pair_is records.XyRelative = refl
+has_pair_is (records.Placement info cell x y repetition) = refl
+has_pair_is (records.TurnedPlacement info cell magnification angle x y repetition) = refl
+has_pair_is (records.Text info text textlayer texttype x y repetition) = refl
+has_pair_is (records.Rectangle info layer datatype width height x y repetition) = refl
+has_pair_is (records.Polygon info layer datatype points x y repetition) = refl
+has_pair_is (records.Path info layer datatype half_width extension start end points x y repetition) = refl
+has_pair_is (records.Trapezoid info layer datatype width height delta_a delta_b x y repetition) = refl
+has_pair_is (records.TrapezoidA info layer datatype width height delta_a x y repetition) = refl
+has_pair_is (records.TrapezoidB info layer datatype width height delta_b x y repetition) = refl
+has_pair_is (records.Ctrapezoid info layer datatype kind width height x y repetition) = refl
+has_pair_is (records.Circle info layer datatype radius x y repetition) = refl
+has_pair_is (records.Property info name count values) = refl
+has_pair_is records.LastProperty = refl
+has_pair_is (records.XName attribute text) = refl
+has_pair_is (records.NumberedXName attribute text number) = refl
+has_pair_is (records.XElement attribute text) = refl
+has_pair_is (records.XGeometry info attribute layer datatype text x y repetition) = refl
+
+-- a record that begins no cell calls none
+pub calls_none : (r : OasRecord) → begins_cell r ≡ false → cell_called r ≡ None
+calls_none records.Pad e = refl
+calls_none (records.Start version unit offset_flag tables) e = refl
+calls_none (records.End tables padding scheme validation) e = refl
+calls_none (records.CellName name) e = refl
+calls_none (records.NumberedCellName name number) e = refl
+calls_none (records.TextString text) e = refl
+calls_none (records.NumberedTextString text number) e = refl
+calls_none (records.PropName name) e = refl
+calls_none (records.NumberedPropName name number) e = refl
+calls_none (records.PropString text) e = refl
+calls_none (records.NumberedPropString text number) e = refl
+calls_none (records.LayerName name layers datatypes) e = refl
+calls_none (records.TextLayerName name layers datatypes) e = refl
+calls_none (records.NumberedCell number) e = absurd (cc)
+calls_none (records.Cell name) e = absurd (cc)
+calls_none records.XyAbsolute e = refl
+calls_none records.XyRelative e = refl
+calls_none (records.Placement info cell x y repetition) e = refl
+calls_none (records.TurnedPlacement info cell magnification angle x y repetition) e = refl
+calls_none (records.Text info text textlayer texttype x y repetition) e = refl
+calls_none (records.Rectangle info layer datatype width height x y repetition) e = refl
+calls_none (records.Polygon info layer datatype points x y repetition) e = refl
+calls_none (records.Path info layer datatype half_width extension start end points x y repetition) e = refl
+calls_none (records.Trapezoid info layer datatype width height delta_a delta_b x y repetition) e = refl
+calls_none (records.TrapezoidA info layer datatype width height delta_a x y repetition) e = refl
+calls_none (records.TrapezoidB info layer datatype width height delta_b x y repetition) e = refl
+calls_none (records.Ctrapezoid info layer datatype kind width height x y repetition) e = refl
+calls_none (records.Circle info layer datatype radius x y repetition) e = refl
+calls_none (records.Property info name count values) e = refl
+calls_none records.LastProperty e = refl
+calls_none (records.XName attribute text) e = refl
+calls_none (records.NumberedXName attribute text number) e = refl
+calls_none (records.XElement attribute text) e = refl
+calls_none (records.XGeometry info attribute layer datatype text x y repetition) e = refl
+
+-- one that begins a cell has the body of a CELL record
+pub cell_body_is : (r : OasRecord) → begins_cell r ≡ true → (called : Called) × (body_of r ≡ bodies.Cell called)
+cell_body_is records.Pad e = absurd (cc)
+cell_body_is (records.Start version unit offset_flag tables) e = absurd (cc)
+cell_body_is (records.End tables padding scheme validation) e = absurd (cc)
+cell_body_is (records.CellName name) e = absurd (cc)
+cell_body_is (records.NumberedCellName name number) e = absurd (cc)
+cell_body_is (records.TextString text) e = absurd (cc)
+cell_body_is (records.NumberedTextString text number) e = absurd (cc)
+cell_body_is (records.PropName name) e = absurd (cc)
+cell_body_is (records.NumberedPropName name number) e = absurd (cc)
+cell_body_is (records.PropString text) e = absurd (cc)
+cell_body_is (records.NumberedPropString text number) e = absurd (cc)
+cell_body_is (records.LayerName name layers datatypes) e = absurd (cc)
+cell_body_is (records.TextLayerName name layers datatypes) e = absurd (cc)
+cell_body_is (records.NumberedCell number) e = (Number number, refl)
+cell_body_is (records.Cell name) e = (Text name.0 name.1, refl)
+cell_body_is records.XyAbsolute e = absurd (cc)
+cell_body_is records.XyRelative e = absurd (cc)
+cell_body_is (records.Placement info cell x y repetition) e = absurd (cc)
+cell_body_is (records.TurnedPlacement info cell magnification angle x y repetition) e = absurd (cc)
+cell_body_is (records.Text info text textlayer texttype x y repetition) e = absurd (cc)
+cell_body_is (records.Rectangle info layer datatype width height x y repetition) e = absurd (cc)
+cell_body_is (records.Polygon info layer datatype points x y repetition) e = absurd (cc)
+cell_body_is (records.Path info layer datatype half_width extension start end points x y repetition) e = absurd (cc)
+cell_body_is (records.Trapezoid info layer datatype width height delta_a delta_b x y repetition) e = absurd (cc)
+cell_body_is (records.TrapezoidA info layer datatype width height delta_a x y repetition) e = absurd (cc)
+cell_body_is (records.TrapezoidB info layer datatype width height delta_b x y repetition) e = absurd (cc)
+cell_body_is (records.Ctrapezoid info layer datatype kind width height x y repetition) e = absurd (cc)
+cell_body_is (records.Circle info layer datatype radius x y repetition) e = absurd (cc)
+cell_body_is (records.Property info name count values) e = absurd (cc)
+cell_body_is records.LastProperty e = absurd (cc)
+cell_body_is (records.XName attribute text) e = absurd (cc)
+cell_body_is (records.NumberedXName attribute text number) e = absurd (cc)
+cell_body_is (records.XElement attribute text) e = absurd (cc)
+cell_body_is (records.XGeometry info attribute layer datatype text x y repetition) e = absurd (cc)
+
+-- ---- what is placed and drawn
+
+pub placings_are : (past : List OasRecord) (r : OasRecord)
+    → placings_in (body_of r) (fields_at (r ∷ past)) (repetition_at past r) ≡ placings_at past r
+placings_are past records.Pad = refl
+placings_are past (records.Start version unit offset_flag tables) = refl
+placings_are past (records.End tables padding scheme validation) = refl
+placings_are past (records.CellName name) = refl
+placings_are past (records.NumberedCellName name number) = refl
+placings_are past (records.TextString text) = refl
+placings_are past (records.NumberedTextString text number) = refl
+placings_are past (records.PropName name) = refl
+placings_are past (records.NumberedPropName name number) = refl
+placings_are past (records.PropString text) = refl
+placings_are past (records.NumberedPropString text number) = refl
+placings_are past (records.LayerName name layers datatypes) = refl
+placings_are past (records.TextLayerName name layers datatypes) = refl
+placings_are past (records.NumberedCell number) = refl
+placings_are past (records.Cell name) = refl
+placings_are past records.XyAbsolute = refl
+placings_are past records.XyRelative = refl
+placings_are past (records.Placement info cell x y repetition) = refl
+placings_are past (records.TurnedPlacement info cell magnification angle x y repetition) = refl
+placings_are past (records.Text info text textlayer texttype x y repetition) = refl
+placings_are past (records.Rectangle info layer datatype width height x y repetition) = refl
+placings_are past (records.Polygon info layer datatype points x y repetition) = refl
+placings_are past (records.Path info layer datatype half_width extension start end points x y repetition) = refl
+placings_are past (records.Trapezoid info layer datatype width height delta_a delta_b x y repetition) = refl
+placings_are past (records.TrapezoidA info layer datatype width height delta_a x y repetition) = refl
+placings_are past (records.TrapezoidB info layer datatype width height delta_b x y repetition) = refl
+placings_are past (records.Ctrapezoid info layer datatype kind width height x y repetition) = refl
+placings_are past (records.Circle info layer datatype radius x y repetition) = refl
+placings_are past (records.Property info name count values) = refl
+placings_are past records.LastProperty = refl
+placings_are past (records.XName attribute text) = refl
+placings_are past (records.NumberedXName attribute text number) = refl
+placings_are past (records.XElement attribute text) = refl
+placings_are past (records.XGeometry info attribute layer datatype text x y repetition) = refl
+
+undrawn : (r : OasRecord) (all : List OasRecord) (offsets : List Point) → has_pair r ≡ false → shapes_drawn r all offsets ≡ []
+undrawn records.Pad all offsets e = refl
+undrawn (records.Start version unit offset_flag tables) all offsets e = refl
+undrawn (records.End tables padding scheme validation) all offsets e = refl
+undrawn (records.CellName name) all offsets e = refl
+undrawn (records.NumberedCellName name number) all offsets e = refl
+undrawn (records.TextString text) all offsets e = refl
+undrawn (records.NumberedTextString text number) all offsets e = refl
+undrawn (records.PropName name) all offsets e = refl
+undrawn (records.NumberedPropName name number) all offsets e = refl
+undrawn (records.PropString text) all offsets e = refl
+undrawn (records.NumberedPropString text number) all offsets e = refl
+undrawn (records.LayerName name layers datatypes) all offsets e = refl
+undrawn (records.TextLayerName name layers datatypes) all offsets e = refl
+undrawn (records.NumberedCell number) all offsets e = refl
+undrawn (records.Cell name) all offsets e = refl
+undrawn records.XyAbsolute all offsets e = refl
+undrawn records.XyRelative all offsets e = refl
+undrawn (records.Placement info cell x y repetition) all offsets e = refl
+undrawn (records.TurnedPlacement info cell magnification angle x y repetition) all offsets e = refl
+undrawn (records.Text info text textlayer texttype x y repetition) all offsets e = refl
+undrawn (records.Rectangle info layer datatype width height x y repetition) all offsets e = absurd (cc)
+undrawn (records.Polygon info layer datatype points x y repetition) all offsets e = absurd (cc)
+undrawn (records.Path info layer datatype half_width extension start end points x y repetition) all offsets e = absurd (cc)
+undrawn (records.Trapezoid info layer datatype width height delta_a delta_b x y repetition) all offsets e = absurd (cc)
+undrawn (records.TrapezoidA info layer datatype width height delta_a x y repetition) all offsets e = absurd (cc)
+undrawn (records.TrapezoidB info layer datatype width height delta_b x y repetition) all offsets e = absurd (cc)
+undrawn (records.Ctrapezoid info layer datatype kind width height x y repetition) all offsets e = absurd (cc)
+undrawn (records.Circle info layer datatype radius x y repetition) all offsets e = refl
+undrawn (records.Property info name count values) all offsets e = refl
+undrawn records.LastProperty all offsets e = refl
+undrawn (records.XName attribute text) all offsets e = refl
+undrawn (records.NumberedXName attribute text number) all offsets e = refl
+undrawn (records.XElement attribute text) all offsets e = refl
+undrawn (records.XGeometry info attribute layer datatype text x y repetition) all offsets e = refl
+
+shapes_by : (has wanted : Bool) (drawn : List Shape) → (has ≡ false → drawn ≡ [])
+    → shapes_if (if has then Some wanted else None) drawn ≡ (if wanted then drawn else [])
+shapes_by true true drawn none = refl
+shapes_by true false drawn none = refl
+shapes_by false true drawn none = sym (none refl)
+shapes_by false false drawn none = refl
+
+pub shapes_wanted : (wanted : List Pair) (past : List OasRecord) (r : OasRecord) (offsets : List Point)
+    → shapes_if (wanting_of wanted past r) (shapes_drawn r (r ∷ past) offsets)
+    ≡ (if is_wanted wanted (r ∷ past) then shapes_drawn r (r ∷ past) offsets else [])
+shapes_wanted wanted past r offsets =
+    shapes_by (has_pair r) (is_wanted wanted (r ∷ past)) (shapes_drawn r (r ∷ past) offsets) (undrawn r (r ∷ past) offsets)
+
+-- ---- repetitions
+
+pub repetition_is : (written last : Option Rep) → repetition_kept (is_there written) last ≡ repetition_by written last
+repetition_is None last = refl
+repetition_is (Some rep) last = refl
+
+in_force : (past : List OasRecord) (r : OasRecord) → begins_cell r ≡ false
+    → repetition_of (r ∷ past) ≡ or_else (repetition_written r) (repetition_of past)
+unfolding repetition_of
+in_force past r e = rw e refl
+
+-- a repetition as it is written is allowed where the one in force is
+written_allowed : (written last : Option Rep) → HasDimensionsIn (repetition_by written (or_else (the_written written) last)) → HasDimensionsIn written
+written_allowed None last h = tt
+written_allowed (Some reps.Same) last h = All-nil IsDimension
+written_allowed (Some (reps.Grid x_dim y_dim x_space y_space)) last h = h
+written_allowed (Some (reps.Row dim space)) last h = h
+written_allowed (Some (reps.Column dim space)) last h = h
+written_allowed (Some (reps.RowSpaces dim spaces)) last h = h
+written_allowed (Some (reps.RowOnGrid dim grid spaces)) last h = h
+written_allowed (Some (reps.ColumnSpaces dim spaces)) last h = h
+written_allowed (Some (reps.ColumnOnGrid dim grid spaces)) last h = h
+written_allowed (Some (reps.Lattice n_dim m_dim u v)) last h = h
+written_allowed (Some (reps.Line dim u)) last h = h
+written_allowed (Some (reps.Moves dim moves)) last h = h
+written_allowed (Some (reps.MovesOnGrid dim grid moves)) last h = h
+
+-- and the one in force where it is, and the last one was
+force_allowed : (written last : Option Rep) → HasDimensionsIn written → HasDimensionsIn last → HasDimensionsIn (repetition_by written (or_else (the_written written) last))
+force_allowed None last h before = tt
+force_allowed (Some reps.Same) last h before = before
+force_allowed (Some (reps.Grid x_dim y_dim x_space y_space)) last h before = h
+force_allowed (Some (reps.Row dim space)) last h before = h
+force_allowed (Some (reps.Column dim space)) last h before = h
+force_allowed (Some (reps.RowSpaces dim spaces)) last h before = h
+force_allowed (Some (reps.RowOnGrid dim grid spaces)) last h before = h
+force_allowed (Some (reps.ColumnSpaces dim spaces)) last h before = h
+force_allowed (Some (reps.ColumnOnGrid dim grid spaces)) last h before = h
+force_allowed (Some (reps.Lattice n_dim m_dim u v)) last h before = h
+force_allowed (Some (reps.Line dim u)) last h before = h
+force_allowed (Some (reps.Moves dim moves)) last h before = h
+force_allowed (Some (reps.MovesOnGrid dim grid moves)) last h before = h
+
+written_kept : (past : List OasRecord) (r : OasRecord) → begins_cell r ≡ false
+    → HasDimensionsIn (repetition_at past r) → HasDimensionsIn (repetition_in r)
+written_kept past r e h =
+    written_allowed (repetition_in r) (repetition_of past) (subst (λ q. HasDimensionsIn (repetition_by (repetition_in r) q)) (in_force past r e) h)
+
+force_kept : (past : List OasRecord) (r : OasRecord) → begins_cell r ≡ false → HasDimensionsIn (repetition_of past)
+    → HasDimensionsIn (repetition_in r) → HasDimensionsIn (repetition_at past r)
+force_kept past r e before h =
+    subst (λ q. HasDimensionsIn (repetition_by (repetition_in r) q)) (sym (in_force past r e)) (force_allowed (repetition_in r) (repetition_of past) h before)
+
+-- ---- dimensions of shapes
+
+figure_dimension : (figure : Figure) (at : Point) (rep : Option Rep) (rule : ℕ) → FigureKeeps (Some figure) at rep rule → rule ≡ 11 → HasDimensionsIn rep
+figure_dimension figure at rep rule k e = k.dimension e
+
+polygon_dimension : (points : Option Deltas) (at : Point) (rep : Option Rep) (rule : ℕ) → is_there points ≡ true → PolygonKeeps points at rep rule
+    → rule ≡ 11 → HasDimensionsIn rep
+polygon_dimension None at rep rule there k e = absurd (cc)
+polygon_dimension (Some points) at rep rule there k e = k.dimension e
+
+path_dimension : (points : Option Deltas) (at : Point) (brush : Brush) (rep : Option Rep) (rule : ℕ) → is_there points ≡ true
+    → PathKeeps points at brush rep rule → rule ≡ 11 → HasDimensionsIn rep
+path_dimension None at brush rep rule there k e = absurd (cc)
+path_dimension (Some points) at brush rep rule there k e = k.dimension e
+
+-- a variable that is defined, and the next ones
+step : (b : Bool) (variable : Variable) (rest : Option Variable) → (if b then rest else Some variable) ≡ None → (b ≡ true) × (rest ≡ None)
+step true variable rest e = (refl, e)
+step false variable rest e = absurd (cc)
+
+defined_step : (all : List OasRecord) (variable : Variable) (variables : List Variable) → first_undefined all (variable ∷ variables) ≡ None
+    → (is_defined all variable ≡ true) × (first_undefined all variables ≡ None)
+defined_step all variable variables e = step (is_defined all variable) variable (first_undefined all variables) e
+
+third : (all : List OasRecord) (a b c : Variable) (rest : List Variable) → first_undefined all (a ∷ b ∷ c ∷ rest) ≡ None → is_defined all c ≡ true
+third all a b c rest e =
+    let one = defined_step all a (b ∷ c ∷ rest) e in
+    let two = defined_step all b (c ∷ rest) one.1 in
+    (defined_step all c rest two.1).0
+
+sixth : (all : List OasRecord) (a b c d f g : Variable) (rest : List Variable)
+    → first_undefined all (a ∷ b ∷ c ∷ d ∷ f ∷ g ∷ rest) ≡ None → is_defined all g ≡ true
+sixth all a b c d f g rest e =
+    let one = defined_step all a (b ∷ c ∷ d ∷ f ∷ g ∷ rest) e in
+    let two = defined_step all b (c ∷ d ∷ f ∷ g ∷ rest) one.1 in
+    let three = defined_step all c (d ∷ f ∷ g ∷ rest) two.1 in
+    third all d f g rest three.1
+
+-- ---- all rules of a record
+
+-- what is known of a record before its geometry
+pub record IsLookedAt (bytes : List ℕ) (past : List OasRecord) (r : OasRecord) (dims : Bool) (rule : ℕ) : Type 0 where
+  pub positions : rule ≡ 1 → ArePositionsNear (r ∷ past)
+  pub version : KeepsVersionBy bytes (body_of r)
+  pub scheme : KeepsSchemeBy (body_of r)
+  pub dimensions : IsTrue dims ↔ HasDimensionsIn (repetition_in r)
+  pub defined : undefined_of past r ≡ None
+  pub own : rule ≡ 2 → KeepsOwnName bytes r
+
+keeps_all : (bytes : List ℕ) (wanted : List Pair) (past : List OasRecord) (r : OasRecord) (rule : ℕ) → (rule ≡ 1 → ArePositionsNear (r ∷ past))
+    → (rule ≡ 1 → KeepsOffsets past r) → (rule ≡ 2 → KeepsName bytes r) → (rule ≡ 4 → KeepsMagnification r) → (rule ≡ 5 → KeepsAngle r)
+    → (rule ≡ 7 → KeepsToOthers (is_wanted wanted (r ∷ past)) r) → (rule ≡ 9 → KeepsVersion bytes r) → (rule ≡ 10 → KeepsScheme r) → (rule ≡ 11 → HasDimensionsIn (repetition_in r))
+    → (IsTrue (is_wanted wanted (r ∷ past)) → KeepsDrawn r (r ∷ past) (repetition_at past r) rule) → Keeps bytes wanted past r rule
+keeps_all bytes wanted past r rule positions offsets name magnification angle other version scheme dimension drawn = record {
+  positions = positions;
+  offsets = offsets;
+  name = name;
+  magnification = magnification;
+  angle = angle;
+  other = other;
+  version = version;
+  scheme = scheme;
+  dimension = dimension;
+  drawn = drawn;
+}
+
+-- on a wanted pair, or not
+either : {A : Type 0} (wanted : Bool) → (IsTrue wanted → A) → ((Some wanted ≡ Some true → ⊥) → A) → A
+either true on off = on refl
+either false on off = off (λ e. absurd (cc))
+
+-- a record that keeps the rules of its geometry keeps all
+pub keeps_geometry : (bytes : List ℕ) (wanted : List Pair) (past : List OasRecord) (r : OasRecord) (dims : Bool) (rule : ℕ)
+    → IsLookedAt bytes past r dims rule
+    → (rule ≡ 11 → KeepsGeometry bytes (body_of r) dims (wanting_of wanted past r) (fields_at (r ∷ past)) (repetition_at past r) 7)
+    → KeepsGeometry bytes (body_of r) dims (wanting_of wanted past r) (fields_at (r ∷ past)) (repetition_at past r) rule
+    → Keeps bytes wanted past r rule
+keeps_geometry bytes wanted past records.Pad dims rule l s g =
+    keeps_all bytes wanted past records.Pad rule l.positions (λ e. tt) (λ e. tt) (λ e. tt) (λ e. tt) (λ e. tt) (λ e. tt) (λ e. tt) (λ e. tt) (λ e. tt)
+keeps_geometry bytes wanted past (records.Start version unit offset_flag tables) dims rule l s g =
+    keeps_all bytes wanted past (records.Start version unit offset_flag tables) rule l.positions (λ e. tt) (λ e. tt) (λ e. tt) (λ e. tt) (λ e. tt) (λ e. l.version) (λ e. tt) (λ e. tt) (λ e. tt)
+keeps_geometry bytes wanted past (records.End tables padding scheme validation) dims rule l s g =
+    keeps_all bytes wanted past (records.End tables padding scheme validation) rule l.positions (λ e. tt) (λ e. tt) (λ e. tt) (λ e. tt) (λ e. tt) (λ e. tt) (λ e. l.scheme) (λ e. tt) (λ e. tt)
+keeps_geometry bytes wanted past (records.CellName name) dims rule l s g =
+    keeps_all bytes wanted past (records.CellName name) rule l.positions (λ e. tt) l.own (λ e. tt) (λ e. tt) (λ e. tt) (λ e. tt) (λ e. tt) (λ e. tt) (λ e. tt)
+keeps_geometry bytes wanted past (records.NumberedCellName name number) dims rule l s g =
+    keeps_all bytes wanted past (records.NumberedCellName name number) rule l.positions (λ e. tt) l.own (λ e. tt) (λ e. tt) (λ e. tt) (λ e. tt) (λ e. tt) (λ e. tt) (λ e. tt)
+keeps_geometry bytes wanted past (records.TextString text) dims rule l s g =
+    keeps_all bytes wanted past (records.TextString text) rule l.positions (λ e. tt) (λ e. tt) (λ e. tt) (λ e. tt) (λ e. tt) (λ e. tt) (λ e. tt) (λ e. tt) (λ e. tt)
+keeps_geometry bytes wanted past (records.NumberedTextString text number) dims rule l s g =
+    keeps_all bytes wanted past (records.NumberedTextString text number) rule l.positions (λ e. tt) (λ e. tt) (λ e. tt) (λ e. tt) (λ e. tt) (λ e. tt) (λ e. tt) (λ e. tt) (λ e. tt)
+keeps_geometry bytes wanted past (records.PropName name) dims rule l s g =
+    keeps_all bytes wanted past (records.PropName name) rule l.positions (λ e. tt) (λ e. tt) (λ e. tt) (λ e. tt) (λ e. tt) (λ e. tt) (λ e. tt) (λ e. tt) (λ e. tt)
+keeps_geometry bytes wanted past (records.NumberedPropName name number) dims rule l s g =
+    keeps_all bytes wanted past (records.NumberedPropName name number) rule l.positions (λ e. tt) (λ e. tt) (λ e. tt) (λ e. tt) (λ e. tt) (λ e. tt) (λ e. tt) (λ e. tt) (λ e. tt)
+keeps_geometry bytes wanted past (records.PropString text) dims rule l s g =
+    keeps_all bytes wanted past (records.PropString text) rule l.positions (λ e. tt) (λ e. tt) (λ e. tt) (λ e. tt) (λ e. tt) (λ e. tt) (λ e. tt) (λ e. tt) (λ e. tt)
+keeps_geometry bytes wanted past (records.NumberedPropString text number) dims rule l s g =
+    keeps_all bytes wanted past (records.NumberedPropString text number) rule l.positions (λ e. tt) (λ e. tt) (λ e. tt) (λ e. tt) (λ e. tt) (λ e. tt) (λ e. tt) (λ e. tt) (λ e. tt)
+keeps_geometry bytes wanted past (records.LayerName name layers datatypes) dims rule l s g =
+    keeps_all bytes wanted past (records.LayerName name layers datatypes) rule l.positions (λ e. tt) (λ e. tt) (λ e. tt) (λ e. tt) (λ e. tt) (λ e. tt) (λ e. tt) (λ e. tt) (λ e. tt)
+keeps_geometry bytes wanted past (records.TextLayerName name layers datatypes) dims rule l s g =
+    keeps_all bytes wanted past (records.TextLayerName name layers datatypes) rule l.positions (λ e. tt) (λ e. tt) (λ e. tt) (λ e. tt) (λ e. tt) (λ e. tt) (λ e. tt) (λ e. tt) (λ e. tt)
+keeps_geometry bytes wanted past (records.NumberedCell number) dims rule l s g =
+    keeps_all bytes wanted past (records.NumberedCell number) rule l.positions (λ e. tt) (λ e. tt) (λ e. tt) (λ e. tt) (λ e. tt) (λ e. tt) (λ e. tt) (λ e. tt) (λ e. tt)
+keeps_geometry bytes wanted past (records.Cell name) dims rule l s g =
+    keeps_all bytes wanted past (records.Cell name) rule l.positions (λ e. tt) l.own (λ e. tt) (λ e. tt) (λ e. tt) (λ e. tt) (λ e. tt) (λ e. tt) (λ e. tt)
+keeps_geometry bytes wanted past records.XyAbsolute dims rule l s g =
+    keeps_all bytes wanted past records.XyAbsolute rule l.positions (λ e. tt) (λ e. tt) (λ e. tt) (λ e. tt) (λ e. tt) (λ e. tt) (λ e. tt) (λ e. tt) (λ e. tt)
+keeps_geometry bytes wanted past records.XyRelative dims rule l s g =
+    keeps_all bytes wanted past records.XyRelative rule l.positions (λ e. tt) (λ e. tt) (λ e. tt) (λ e. tt) (λ e. tt) (λ e. tt) (λ e. tt) (λ e. tt) (λ e. tt)
+keeps_geometry bytes wanted past (records.Placement info cell x y repetition) dims rule l s g =
+    keeps_all bytes wanted past (records.Placement info cell x y repetition) rule l.positions g.near g.name (λ e. tt) (λ e. tt) (λ e. tt) (λ e. tt) (λ e. tt) (λ e. written_kept past (records.Placement info cell x y repetition) refl (g.dimension e)) (λ e. tt)
+keeps_geometry bytes wanted past (records.TurnedPlacement info cell magnification angle x y repetition) dims rule l s g =
+    keeps_all bytes wanted past (records.TurnedPlacement info cell magnification angle x y repetition) rule l.positions g.near g.name g.magnification g.angle (λ e. tt) (λ e. tt) (λ e. tt) (λ e. written_kept past (records.TurnedPlacement info cell magnification angle x y repetition) refl (g.dimension e)) (λ e. tt)
+keeps_geometry bytes wanted past (records.Text info text textlayer texttype x y repetition) dims rule l s g =
+    keeps_all bytes wanted past (records.Text info text textlayer texttype x y repetition) rule l.positions (λ e. tt) (λ e. tt) (λ e. tt) (λ e. tt) (λ e. tt) (λ e. tt) (λ e. tt) (λ e. l.dimensions.0 (g.dimension (λ e. absurd (cc)) e)) (λ e. tt)
+keeps_geometry bytes wanted past (records.Rectangle info layer datatype width height x y repetition) dims rule l s g =
+    keeps_all bytes wanted past (records.Rectangle info layer datatype width height x y repetition) rule l.positions (λ e. tt) (λ e. tt) (λ e. tt) (λ e. tt) (λ e. tt) (λ e. tt) (λ e. tt) (λ e. either (is_wanted wanted ((records.Rectangle info layer datatype width height x y repetition) ∷ past)) (λ on. written_kept past (records.Rectangle info layer datatype width height x y repetition) refl (figure_dimension _ _ _ rule (g.drawn (ap Some on)) e)) (λ off. l.dimensions.0 (g.dimension off e))) (λ on. keeps_to (records.Rectangle info layer datatype width height x y repetition) ((records.Rectangle info layer datatype width height x y repetition) ∷ past) (repetition_at past (records.Rectangle info layer datatype width height x y repetition)) rule (g.drawn (ap Some on)))
+keeps_geometry bytes wanted past (records.Polygon info layer datatype points x y repetition) dims rule l s g =
+    keeps_all bytes wanted past (records.Polygon info layer datatype points x y repetition) rule l.positions (λ e. tt) (λ e. tt) (λ e. tt) (λ e. tt) (λ e. tt) (λ e. tt) (λ e. tt) (λ e. either (is_wanted wanted ((records.Polygon info layer datatype points x y repetition) ∷ past)) (λ on. written_kept past (records.Polygon info layer datatype points x y repetition) refl (polygon_dimension _ _ _ rule (third ((records.Polygon info layer datatype points x y repetition) ∷ past) Layer Datatype PolygonPoints _ l.defined) (g.drawn (ap Some on)) e)) (λ off. l.dimensions.0 (g.dimension off e))) (λ on. keeps_to (records.Polygon info layer datatype points x y repetition) ((records.Polygon info layer datatype points x y repetition) ∷ past) (repetition_at past (records.Polygon info layer datatype points x y repetition)) rule (g.drawn (ap Some on)))
+keeps_geometry bytes wanted past (records.Path info layer datatype half_width extension start end points x y repetition) dims rule l s g =
+    keeps_all bytes wanted past (records.Path info layer datatype half_width extension start end points x y repetition) rule l.positions (λ e. tt) (λ e. tt) (λ e. tt) (λ e. tt) (λ e. tt) (λ e. tt) (λ e. tt) (λ e. either (is_wanted wanted ((records.Path info layer datatype half_width extension start end points x y repetition) ∷ past)) (λ on. written_kept past (records.Path info layer datatype half_width extension start end points x y repetition) refl (path_dimension _ _ _ _ rule (sixth ((records.Path info layer datatype half_width extension start end points x y repetition) ∷ past) Layer Datatype PathHalfWidth PathStart PathEnd PathPoints _ l.defined) (g.drawn (ap Some on)) e)) (λ off. l.dimensions.0 (g.dimension off e))) (λ on. keeps_to (records.Path info layer datatype half_width extension start end points x y repetition) ((records.Path info layer datatype half_width extension start end points x y repetition) ∷ past) (repetition_at past (records.Path info layer datatype half_width extension start end points x y repetition)) rule (g.drawn (ap Some on)))
+keeps_geometry bytes wanted past (records.Trapezoid info layer datatype width height delta_a delta_b x y repetition) dims rule l s g =
+    keeps_all bytes wanted past (records.Trapezoid info layer datatype width height delta_a delta_b x y repetition) rule l.positions (λ e. tt) (λ e. tt) (λ e. tt) (λ e. tt) (λ e. tt) (λ e. tt) (λ e. tt) (λ e. either (is_wanted wanted ((records.Trapezoid info layer datatype width height delta_a delta_b x y repetition) ∷ past)) (λ on. written_kept past (records.Trapezoid info layer datatype width height delta_a delta_b x y repetition) refl (figure_dimension _ _ _ rule (g.drawn (ap Some on)) e)) (λ off. l.dimensions.0 (g.dimension off e))) (λ on. keeps_to (records.Trapezoid info layer datatype width height delta_a delta_b x y repetition) ((records.Trapezoid info layer datatype width height delta_a delta_b x y repetition) ∷ past) (repetition_at past (records.Trapezoid info layer datatype width height delta_a delta_b x y repetition)) rule (g.drawn (ap Some on)))
+keeps_geometry bytes wanted past (records.TrapezoidA info layer datatype width height delta_a x y repetition) dims rule l s g =
+    keeps_all bytes wanted past (records.TrapezoidA info layer datatype width height delta_a x y repetition) rule l.positions (λ e. tt) (λ e. tt) (λ e. tt) (λ e. tt) (λ e. tt) (λ e. tt) (λ e. tt) (λ e. either (is_wanted wanted ((records.TrapezoidA info layer datatype width height delta_a x y repetition) ∷ past)) (λ on. written_kept past (records.TrapezoidA info layer datatype width height delta_a x y repetition) refl (figure_dimension _ _ _ rule (g.drawn (ap Some on)) e)) (λ off. l.dimensions.0 (g.dimension off e))) (λ on. keeps_to (records.TrapezoidA info layer datatype width height delta_a x y repetition) ((records.TrapezoidA info layer datatype width height delta_a x y repetition) ∷ past) (repetition_at past (records.TrapezoidA info layer datatype width height delta_a x y repetition)) rule (g.drawn (ap Some on)))
+keeps_geometry bytes wanted past (records.TrapezoidB info layer datatype width height delta_b x y repetition) dims rule l s g =
+    keeps_all bytes wanted past (records.TrapezoidB info layer datatype width height delta_b x y repetition) rule l.positions (λ e. tt) (λ e. tt) (λ e. tt) (λ e. tt) (λ e. tt) (λ e. tt) (λ e. tt) (λ e. either (is_wanted wanted ((records.TrapezoidB info layer datatype width height delta_b x y repetition) ∷ past)) (λ on. written_kept past (records.TrapezoidB info layer datatype width height delta_b x y repetition) refl (figure_dimension _ _ _ rule (g.drawn (ap Some on)) e)) (λ off. l.dimensions.0 (g.dimension off e))) (λ on. keeps_to (records.TrapezoidB info layer datatype width height delta_b x y repetition) ((records.TrapezoidB info layer datatype width height delta_b x y repetition) ∷ past) (repetition_at past (records.TrapezoidB info layer datatype width height delta_b x y repetition)) rule (g.drawn (ap Some on)))
+keeps_geometry bytes wanted past (records.Ctrapezoid info layer datatype kind width height x y repetition) dims rule l s g =
+    keeps_all bytes wanted past (records.Ctrapezoid info layer datatype kind width height x y repetition) rule l.positions (λ e. tt) (λ e. tt) (λ e. tt) (λ e. tt) (λ e. tt) (λ e. tt) (λ e. tt) (λ e. either (is_wanted wanted ((records.Ctrapezoid info layer datatype kind width height x y repetition) ∷ past)) (λ on. written_kept past (records.Ctrapezoid info layer datatype kind width height x y repetition) refl (figure_dimension _ _ _ rule (g.drawn (ap Some on)) e)) (λ off. l.dimensions.0 (g.dimension off e))) (λ on. keeps_to (records.Ctrapezoid info layer datatype kind width height x y repetition) ((records.Ctrapezoid info layer datatype kind width height x y repetition) ∷ past) (repetition_at past (records.Ctrapezoid info layer datatype kind width height x y repetition)) rule (g.drawn (ap Some on)))
+keeps_geometry bytes wanted past (records.Circle info layer datatype radius x y repetition) dims rule l s g =
+    keeps_all bytes wanted past (records.Circle info layer datatype radius x y repetition) rule l.positions (λ e. tt) (λ e. tt) (λ e. tt) (λ e. tt) (λ e on. g.drawn (ap Some on) e) (λ e. tt) (λ e. tt) (λ e. either (is_wanted wanted ((records.Circle info layer datatype radius x y repetition) ∷ past)) (λ on. absurd ((s e).drawn (ap Some on) refl)) (λ off. l.dimensions.0 (g.dimension off e))) (λ e. tt)
+keeps_geometry bytes wanted past (records.Property info name count values) dims rule l s g =
+    keeps_all bytes wanted past (records.Property info name count values) rule l.positions (λ e. tt) (λ e. tt) (λ e. tt) (λ e. tt) (λ e. tt) (λ e. tt) (λ e. tt) (λ e. tt) (λ e. tt)
+keeps_geometry bytes wanted past records.LastProperty dims rule l s g =
+    keeps_all bytes wanted past records.LastProperty rule l.positions (λ e. tt) (λ e. tt) (λ e. tt) (λ e. tt) (λ e. tt) (λ e. tt) (λ e. tt) (λ e. tt) (λ e. tt)
+keeps_geometry bytes wanted past (records.XName attribute text) dims rule l s g =
+    keeps_all bytes wanted past (records.XName attribute text) rule l.positions (λ e. tt) (λ e. tt) (λ e. tt) (λ e. tt) (λ e. tt) (λ e. tt) (λ e. tt) (λ e. tt) (λ e. tt)
+keeps_geometry bytes wanted past (records.NumberedXName attribute text number) dims rule l s g =
+    keeps_all bytes wanted past (records.NumberedXName attribute text number) rule l.positions (λ e. tt) (λ e. tt) (λ e. tt) (λ e. tt) (λ e. tt) (λ e. tt) (λ e. tt) (λ e. tt) (λ e. tt)
+keeps_geometry bytes wanted past (records.XElement attribute text) dims rule l s g =
+    keeps_all bytes wanted past (records.XElement attribute text) rule l.positions (λ e. tt) (λ e. tt) (λ e. tt) (λ e. tt) (λ e. tt) (λ e. tt) (λ e. tt) (λ e. tt) (λ e. tt)
+keeps_geometry bytes wanted past (records.XGeometry info attribute layer datatype text x y repetition) dims rule l s g =
+    keeps_all bytes wanted past (records.XGeometry info attribute layer datatype text x y repetition) rule l.positions (λ e. tt) (λ e. tt) (λ e. tt) (λ e. tt) (λ e on. g.drawn (ap Some on) e) (λ e. tt) (λ e. tt) (λ e. either (is_wanted wanted ((records.XGeometry info attribute layer datatype text x y repetition) ∷ past)) (λ on. absurd ((s e).drawn (ap Some on) refl)) (λ off. l.dimensions.0 (g.dimension off e))) (λ e. tt)
+
+some_is : (b : Bool) → Some b ≡ Some true → IsTrue b
+some_is true e = refl
+some_is false e = absurd (cc)
+
+-- a record that keeps all rules keeps those of its geometry
+pub geometry_keeps : (bytes : List ℕ) (wanted : List Pair) (past : List OasRecord) (r : OasRecord) (dims : Bool) (rule : ℕ)
+    → (IsTrue dims ↔ HasDimensionsIn (repetition_in r)) → HasDimensionsIn (repetition_of past) → Keeps bytes wanted past r rule
+    → KeepsGeometry bytes (body_of r) dims (wanting_of wanted past r) (fields_at (r ∷ past)) (repetition_at past r) rule
+geometry_keeps bytes wanted past records.Pad dims rule d before k = record { drawn = λ on. absurd (cc); dimension = λ off e. d.1 (k.dimension e) }
+geometry_keeps bytes wanted past (records.Start version unit offset_flag tables) dims rule d before k = record { drawn = λ on. absurd (cc); dimension = λ off e. d.1 (k.dimension e) }
+geometry_keeps bytes wanted past (records.End tables padding scheme validation) dims rule d before k = record { drawn = λ on. absurd (cc); dimension = λ off e. d.1 (k.dimension e) }
+geometry_keeps bytes wanted past (records.CellName name) dims rule d before k = record { drawn = λ on. absurd (cc); dimension = λ off e. d.1 (k.dimension e) }
+geometry_keeps bytes wanted past (records.NumberedCellName name number) dims rule d before k = record { drawn = λ on. absurd (cc); dimension = λ off e. d.1 (k.dimension e) }
+geometry_keeps bytes wanted past (records.TextString text) dims rule d before k = record { drawn = λ on. absurd (cc); dimension = λ off e. d.1 (k.dimension e) }
+geometry_keeps bytes wanted past (records.NumberedTextString text number) dims rule d before k = record { drawn = λ on. absurd (cc); dimension = λ off e. d.1 (k.dimension e) }
+geometry_keeps bytes wanted past (records.PropName name) dims rule d before k = record { drawn = λ on. absurd (cc); dimension = λ off e. d.1 (k.dimension e) }
+geometry_keeps bytes wanted past (records.NumberedPropName name number) dims rule d before k = record { drawn = λ on. absurd (cc); dimension = λ off e. d.1 (k.dimension e) }
+geometry_keeps bytes wanted past (records.PropString text) dims rule d before k = record { drawn = λ on. absurd (cc); dimension = λ off e. d.1 (k.dimension e) }
+geometry_keeps bytes wanted past (records.NumberedPropString text number) dims rule d before k = record { drawn = λ on. absurd (cc); dimension = λ off e. d.1 (k.dimension e) }
+geometry_keeps bytes wanted past (records.LayerName name layers datatypes) dims rule d before k = record { drawn = λ on. absurd (cc); dimension = λ off e. d.1 (k.dimension e) }
+geometry_keeps bytes wanted past (records.TextLayerName name layers datatypes) dims rule d before k = record { drawn = λ on. absurd (cc); dimension = λ off e. d.1 (k.dimension e) }
+geometry_keeps bytes wanted past (records.NumberedCell number) dims rule d before k = record { drawn = λ on. absurd (cc); dimension = λ off e. d.1 (k.dimension e) }
+geometry_keeps bytes wanted past (records.Cell name) dims rule d before k = record { drawn = λ on. absurd (cc); dimension = λ off e. d.1 (k.dimension e) }
+geometry_keeps bytes wanted past records.XyAbsolute dims rule d before k = record { drawn = λ on. absurd (cc); dimension = λ off e. d.1 (k.dimension e) }
+geometry_keeps bytes wanted past records.XyRelative dims rule d before k = record { drawn = λ on. absurd (cc); dimension = λ off e. d.1 (k.dimension e) }
+geometry_keeps bytes wanted past (records.Placement info cell x y repetition) dims rule d before k = record { near = k.offsets; name = k.name; magnification = (λ e. tt); angle = (λ e. tt); dimension = λ e. force_kept past (records.Placement info cell x y repetition) refl before (k.dimension e) }
+geometry_keeps bytes wanted past (records.TurnedPlacement info cell magnification angle x y repetition) dims rule d before k = record { near = k.offsets; name = k.name; magnification = k.magnification; angle = k.angle; dimension = λ e. force_kept past (records.TurnedPlacement info cell magnification angle x y repetition) refl before (k.dimension e) }
+geometry_keeps bytes wanted past (records.Text info text textlayer texttype x y repetition) dims rule d before k = record { drawn = λ on. absurd (cc); dimension = λ off e. d.1 (k.dimension e) }
+geometry_keeps bytes wanted past (records.Rectangle info layer datatype width height x y repetition) dims rule d before k = record { drawn = λ on. keeps_from (records.Rectangle info layer datatype width height x y repetition) ((records.Rectangle info layer datatype width height x y repetition) ∷ past) (repetition_at past (records.Rectangle info layer datatype width height x y repetition)) rule (k.drawn (some_is (is_wanted wanted ((records.Rectangle info layer datatype width height x y repetition) ∷ past)) on)); dimension = λ off e. d.1 (k.dimension e) }
+geometry_keeps bytes wanted past (records.Polygon info layer datatype points x y repetition) dims rule d before k = record { drawn = λ on. keeps_from (records.Polygon info layer datatype points x y repetition) ((records.Polygon info layer datatype points x y repetition) ∷ past) (repetition_at past (records.Polygon info layer datatype points x y repetition)) rule (k.drawn (some_is (is_wanted wanted ((records.Polygon info layer datatype points x y repetition) ∷ past)) on)); dimension = λ off e. d.1 (k.dimension e) }
+geometry_keeps bytes wanted past (records.Path info layer datatype half_width extension start end points x y repetition) dims rule d before k = record { drawn = λ on. keeps_from (records.Path info layer datatype half_width extension start end points x y repetition) ((records.Path info layer datatype half_width extension start end points x y repetition) ∷ past) (repetition_at past (records.Path info layer datatype half_width extension start end points x y repetition)) rule (k.drawn (some_is (is_wanted wanted ((records.Path info layer datatype half_width extension start end points x y repetition) ∷ past)) on)); dimension = λ off e. d.1 (k.dimension e) }
+geometry_keeps bytes wanted past (records.Trapezoid info layer datatype width height delta_a delta_b x y repetition) dims rule d before k = record { drawn = λ on. keeps_from (records.Trapezoid info layer datatype width height delta_a delta_b x y repetition) ((records.Trapezoid info layer datatype width height delta_a delta_b x y repetition) ∷ past) (repetition_at past (records.Trapezoid info layer datatype width height delta_a delta_b x y repetition)) rule (k.drawn (some_is (is_wanted wanted ((records.Trapezoid info layer datatype width height delta_a delta_b x y repetition) ∷ past)) on)); dimension = λ off e. d.1 (k.dimension e) }
+geometry_keeps bytes wanted past (records.TrapezoidA info layer datatype width height delta_a x y repetition) dims rule d before k = record { drawn = λ on. keeps_from (records.TrapezoidA info layer datatype width height delta_a x y repetition) ((records.TrapezoidA info layer datatype width height delta_a x y repetition) ∷ past) (repetition_at past (records.TrapezoidA info layer datatype width height delta_a x y repetition)) rule (k.drawn (some_is (is_wanted wanted ((records.TrapezoidA info layer datatype width height delta_a x y repetition) ∷ past)) on)); dimension = λ off e. d.1 (k.dimension e) }
+geometry_keeps bytes wanted past (records.TrapezoidB info layer datatype width height delta_b x y repetition) dims rule d before k = record { drawn = λ on. keeps_from (records.TrapezoidB info layer datatype width height delta_b x y repetition) ((records.TrapezoidB info layer datatype width height delta_b x y repetition) ∷ past) (repetition_at past (records.TrapezoidB info layer datatype width height delta_b x y repetition)) rule (k.drawn (some_is (is_wanted wanted ((records.TrapezoidB info layer datatype width height delta_b x y repetition) ∷ past)) on)); dimension = λ off e. d.1 (k.dimension e) }
+geometry_keeps bytes wanted past (records.Ctrapezoid info layer datatype kind width height x y repetition) dims rule d before k = record { drawn = λ on. keeps_from (records.Ctrapezoid info layer datatype kind width height x y repetition) ((records.Ctrapezoid info layer datatype kind width height x y repetition) ∷ past) (repetition_at past (records.Ctrapezoid info layer datatype kind width height x y repetition)) rule (k.drawn (some_is (is_wanted wanted ((records.Ctrapezoid info layer datatype kind width height x y repetition) ∷ past)) on)); dimension = λ off e. d.1 (k.dimension e) }
+geometry_keeps bytes wanted past (records.Circle info layer datatype radius x y repetition) dims rule d before k = record { drawn = λ on seven. k.other seven (some_is (is_wanted wanted ((records.Circle info layer datatype radius x y repetition) ∷ past)) on); dimension = λ off e. d.1 (k.dimension e) }
+geometry_keeps bytes wanted past (records.Property info name count values) dims rule d before k = record { drawn = λ on. absurd (cc); dimension = λ off e. d.1 (k.dimension e) }
+geometry_keeps bytes wanted past records.LastProperty dims rule d before k = record { drawn = λ on. absurd (cc); dimension = λ off e. d.1 (k.dimension e) }
+geometry_keeps bytes wanted past (records.XName attribute text) dims rule d before k = record { drawn = λ on. absurd (cc); dimension = λ off e. d.1 (k.dimension e) }
+geometry_keeps bytes wanted past (records.NumberedXName attribute text number) dims rule d before k = record { drawn = λ on. absurd (cc); dimension = λ off e. d.1 (k.dimension e) }
+geometry_keeps bytes wanted past (records.XElement attribute text) dims rule d before k = record { drawn = λ on. absurd (cc); dimension = λ off e. d.1 (k.dimension e) }
+geometry_keeps bytes wanted past (records.XGeometry info attribute layer datatype text x y repetition) dims rule d before k = record { drawn = λ on seven. k.other seven (some_is (is_wanted wanted ((records.XGeometry info attribute layer datatype text x y repetition) ∷ past)) on); dimension = λ off e. d.1 (k.dimension e) }
+
+-- one that breaks a rule of its geometry has no name of its own to look at
+pub own_kept : (bytes : List ℕ) (wanted : List Pair) (past : List OasRecord) (r : OasRecord) (dims : Bool) (rule : ℕ)
+    → (IsTrue dims ↔ HasDimensionsIn (repetition_in r))
+    → (KeepsGeometry bytes (body_of r) dims (wanting_of wanted past r) (fields_at (r ∷ past)) (repetition_at past r) rule → ⊥) → KeepsOwnName bytes r
+own_kept bytes wanted past records.Pad dims rule d wrong = tt
+own_kept bytes wanted past (records.Start version unit offset_flag tables) dims rule d wrong = tt
+own_kept bytes wanted past (records.End tables padding scheme validation) dims rule d wrong = tt
+own_kept bytes wanted past (records.CellName name) dims rule d wrong = absurd (wrong (record { drawn = λ on. absurd (cc); dimension = λ off e. d.1 tt }))
+own_kept bytes wanted past (records.NumberedCellName name number) dims rule d wrong = absurd (wrong (record { drawn = λ on. absurd (cc); dimension = λ off e. d.1 tt }))
+own_kept bytes wanted past (records.TextString text) dims rule d wrong = tt
+own_kept bytes wanted past (records.NumberedTextString text number) dims rule d wrong = tt
+own_kept bytes wanted past (records.PropName name) dims rule d wrong = tt
+own_kept bytes wanted past (records.NumberedPropName name number) dims rule d wrong = tt
+own_kept bytes wanted past (records.PropString text) dims rule d wrong = tt
+own_kept bytes wanted past (records.NumberedPropString text number) dims rule d wrong = tt
+own_kept bytes wanted past (records.LayerName name layers datatypes) dims rule d wrong = tt
+own_kept bytes wanted past (records.TextLayerName name layers datatypes) dims rule d wrong = tt
+own_kept bytes wanted past (records.NumberedCell number) dims rule d wrong = tt
+own_kept bytes wanted past (records.Cell name) dims rule d wrong = absurd (wrong (record { drawn = λ on. absurd (cc); dimension = λ off e. d.1 tt }))
+own_kept bytes wanted past records.XyAbsolute dims rule d wrong = tt
+own_kept bytes wanted past records.XyRelative dims rule d wrong = tt
+own_kept bytes wanted past (records.Placement info cell x y repetition) dims rule d wrong = tt
+own_kept bytes wanted past (records.TurnedPlacement info cell magnification angle x y repetition) dims rule d wrong = tt
+own_kept bytes wanted past (records.Text info text textlayer texttype x y repetition) dims rule d wrong = tt
+own_kept bytes wanted past (records.Rectangle info layer datatype width height x y repetition) dims rule d wrong = tt
+own_kept bytes wanted past (records.Polygon info layer datatype points x y repetition) dims rule d wrong = tt
+own_kept bytes wanted past (records.Path info layer datatype half_width extension start end points x y repetition) dims rule d wrong = tt
+own_kept bytes wanted past (records.Trapezoid info layer datatype width height delta_a delta_b x y repetition) dims rule d wrong = tt
+own_kept bytes wanted past (records.TrapezoidA info layer datatype width height delta_a x y repetition) dims rule d wrong = tt
+own_kept bytes wanted past (records.TrapezoidB info layer datatype width height delta_b x y repetition) dims rule d wrong = tt
+own_kept bytes wanted past (records.Ctrapezoid info layer datatype kind width height x y repetition) dims rule d wrong = tt
+own_kept bytes wanted past (records.Circle info layer datatype radius x y repetition) dims rule d wrong = tt
+own_kept bytes wanted past (records.Property info name count values) dims rule d wrong = tt
+own_kept bytes wanted past records.LastProperty dims rule d wrong = tt
+own_kept bytes wanted past (records.XName attribute text) dims rule d wrong = tt
+own_kept bytes wanted past (records.NumberedXName attribute text number) dims rule d wrong = tt
+own_kept bytes wanted past (records.XElement attribute text) dims rule d wrong = tt
+own_kept bytes wanted past (records.XGeometry info attribute layer datatype text x y repetition) dims rule d wrong = tt
+
+-- ---- rules that are broken before
+
+figure_below : (figure : Option Figure) (at : Point) (rep : Option Rep) (rule : ℕ) → rule < 1 → FigureKeeps figure at rep rule
+figure_below None at rep rule less = tt
+figure_below (Some figure) at rep rule less = record {
+  near = λ e. absurd (omega arith);
+  edges = λ e. absurd (omega arith);
+  dimension = λ e. absurd (omega arith);
+}
+
+polygon_below : (points : Option Deltas) (at : Point) (rep : Option Rep) (rule : ℕ) → rule < 1 → PolygonKeeps points at rep rule
+polygon_below None at rep rule less = tt
+polygon_below (Some points) at rep rule less = record {
+  near = λ e. absurd (omega arith);
+  edges = λ e. absurd (omega arith);
+  dimension = λ e. absurd (omega arith);
+}
+
+path_below : (points : Option Deltas) (at : Point) (brush : Brush) (rep : Option Rep) (rule : ℕ) → rule < 1 → PathKeeps points at brush rep rule
+path_below None at brush rep rule less = tt
+path_below (Some points) at brush rep rule less = record {
+  near = λ e. absurd (omega arith);
+  drawn = λ e. absurd (omega arith);
+  dimension = λ e. absurd (omega arith);
+}
+
+-- there is no rule 0
+drawn_below : (r : OasRecord) (all : List OasRecord) (rep : Option Rep) (rule : ℕ) → rule < 1 → KeepsDrawn r all rep rule
+drawn_below records.Pad all rep rule less = tt
+drawn_below (records.Start version unit offset_flag tables) all rep rule less = tt
+drawn_below (records.End tables padding scheme validation) all rep rule less = tt
+drawn_below (records.CellName name) all rep rule less = tt
+drawn_below (records.NumberedCellName name number) all rep rule less = tt
+drawn_below (records.TextString text) all rep rule less = tt
+drawn_below (records.NumberedTextString text number) all rep rule less = tt
+drawn_below (records.PropName name) all rep rule less = tt
+drawn_below (records.NumberedPropName name number) all rep rule less = tt
+drawn_below (records.PropString text) all rep rule less = tt
+drawn_below (records.NumberedPropString text number) all rep rule less = tt
+drawn_below (records.LayerName name layers datatypes) all rep rule less = tt
+drawn_below (records.TextLayerName name layers datatypes) all rep rule less = tt
+drawn_below (records.NumberedCell number) all rep rule less = tt
+drawn_below (records.Cell name) all rep rule less = tt
+drawn_below records.XyAbsolute all rep rule less = tt
+drawn_below records.XyRelative all rep rule less = tt
+drawn_below (records.Placement info cell x y repetition) all rep rule less = tt
+drawn_below (records.TurnedPlacement info cell magnification angle x y repetition) all rep rule less = tt
+drawn_below (records.Text info text textlayer texttype x y repetition) all rep rule less = tt
+drawn_below (records.Rectangle info layer datatype width height x y repetition) all rep rule less = figure_below (figure_of (records.Rectangle info layer datatype width height x y repetition) all) (at_of all) rep rule less
+drawn_below (records.Polygon info layer datatype points x y repetition) all rep rule less = polygon_below (polygon_points_of all) (at_of all) rep rule less
+drawn_below (records.Path info layer datatype half_width extension start end points x y repetition) all rep rule less = path_below (path_points_of all) (at_of all) (brush_of all) rep rule less
+drawn_below (records.Trapezoid info layer datatype width height delta_a delta_b x y repetition) all rep rule less = figure_below (figure_of (records.Trapezoid info layer datatype width height delta_a delta_b x y repetition) all) (at_of all) rep rule less
+drawn_below (records.TrapezoidA info layer datatype width height delta_a x y repetition) all rep rule less = figure_below (figure_of (records.TrapezoidA info layer datatype width height delta_a x y repetition) all) (at_of all) rep rule less
+drawn_below (records.TrapezoidB info layer datatype width height delta_b x y repetition) all rep rule less = figure_below (figure_of (records.TrapezoidB info layer datatype width height delta_b x y repetition) all) (at_of all) rep rule less
+drawn_below (records.Ctrapezoid info layer datatype kind width height x y repetition) all rep rule less = figure_below (figure_of (records.Ctrapezoid info layer datatype kind width height x y repetition) all) (at_of all) rep rule less
+drawn_below (records.Circle info layer datatype radius x y repetition) all rep rule less = tt
+drawn_below (records.Property info name count values) all rep rule less = tt
+drawn_below records.LastProperty all rep rule less = tt
+drawn_below (records.XName attribute text) all rep rule less = tt
+drawn_below (records.NumberedXName attribute text number) all rep rule less = tt
+drawn_below (records.XElement attribute text) all rep rule less = tt
+drawn_below (records.XGeometry info attribute layer datatype text x y repetition) all rep rule less = tt
+
+pub positions_lowest : (bytes : List ℕ) (wanted : List Pair) (past : List OasRecord) (r : OasRecord) → (ArePositionsNear (r ∷ past) → ⊥)
+    → IsLowest (Keeps bytes wanted past r) 1
+positions_lowest bytes wanted past r wrong = record {
+  broken = λ k. wrong (k.positions refl);
+  lower = λ other less.
+      keeps_all bytes wanted past r other (λ e. absurd (omega arith)) (λ e. absurd (omega arith)) (λ e. absurd (omega arith)) (λ e. absurd (omega arith))
+      (λ e. absurd (omega arith)) (λ e. absurd (omega arith)) (λ e. absurd (omega arith)) (λ e. absurd (omega arith)) (λ e. absurd (omega arith))
+      (λ on. drawn_below r (r ∷ past) (repetition_at past r) other less);
+}
+
+pub version_lowest : (bytes : List ℕ) (wanted : List Pair) (past : List OasRecord) (r : OasRecord) → (KeepsVersionBy bytes (body_of r) → ⊥)
+    → ArePositionsNear (r ∷ past) → IsLowest (Keeps bytes wanted past r) 9
+version_lowest bytes wanted past records.Pad wrong near = absurd (wrong tt)
+version_lowest bytes wanted past (records.Start version unit offset_flag tables) wrong near = record {
+  broken = λ k. wrong (k.version refl);
+  lower = λ other less.
+      keeps_all bytes wanted past (records.Start version unit offset_flag tables) other (λ e. near) (λ e. tt) (λ e. tt) (λ e. tt) (λ e. tt) (λ e. tt) (λ e. absurd (omega arith)) (λ e. tt) (λ e. tt) (λ e. tt);
+}
+version_lowest bytes wanted past (records.End tables padding scheme validation) wrong near = absurd (wrong tt)
+version_lowest bytes wanted past (records.CellName name) wrong near = absurd (wrong tt)
+version_lowest bytes wanted past (records.NumberedCellName name number) wrong near = absurd (wrong tt)
+version_lowest bytes wanted past (records.TextString text) wrong near = absurd (wrong tt)
+version_lowest bytes wanted past (records.NumberedTextString text number) wrong near = absurd (wrong tt)
+version_lowest bytes wanted past (records.PropName name) wrong near = absurd (wrong tt)
+version_lowest bytes wanted past (records.NumberedPropName name number) wrong near = absurd (wrong tt)
+version_lowest bytes wanted past (records.PropString text) wrong near = absurd (wrong tt)
+version_lowest bytes wanted past (records.NumberedPropString text number) wrong near = absurd (wrong tt)
+version_lowest bytes wanted past (records.LayerName name layers datatypes) wrong near = absurd (wrong tt)
+version_lowest bytes wanted past (records.TextLayerName name layers datatypes) wrong near = absurd (wrong tt)
+version_lowest bytes wanted past (records.NumberedCell number) wrong near = absurd (wrong tt)
+version_lowest bytes wanted past (records.Cell name) wrong near = absurd (wrong tt)
+version_lowest bytes wanted past records.XyAbsolute wrong near = absurd (wrong tt)
+version_lowest bytes wanted past records.XyRelative wrong near = absurd (wrong tt)
+version_lowest bytes wanted past (records.Placement info cell x y repetition) wrong near = absurd (wrong tt)
+version_lowest bytes wanted past (records.TurnedPlacement info cell magnification angle x y repetition) wrong near = absurd (wrong tt)
+version_lowest bytes wanted past (records.Text info text textlayer texttype x y repetition) wrong near = absurd (wrong tt)
+version_lowest bytes wanted past (records.Rectangle info layer datatype width height x y repetition) wrong near = absurd (wrong tt)
+version_lowest bytes wanted past (records.Polygon info layer datatype points x y repetition) wrong near = absurd (wrong tt)
+version_lowest bytes wanted past (records.Path info layer datatype half_width extension start end points x y repetition) wrong near = absurd (wrong tt)
+version_lowest bytes wanted past (records.Trapezoid info layer datatype width height delta_a delta_b x y repetition) wrong near = absurd (wrong tt)
+version_lowest bytes wanted past (records.TrapezoidA info layer datatype width height delta_a x y repetition) wrong near = absurd (wrong tt)
+version_lowest bytes wanted past (records.TrapezoidB info layer datatype width height delta_b x y repetition) wrong near = absurd (wrong tt)
+version_lowest bytes wanted past (records.Ctrapezoid info layer datatype kind width height x y repetition) wrong near = absurd (wrong tt)
+version_lowest bytes wanted past (records.Circle info layer datatype radius x y repetition) wrong near = absurd (wrong tt)
+version_lowest bytes wanted past (records.Property info name count values) wrong near = absurd (wrong tt)
+version_lowest bytes wanted past records.LastProperty wrong near = absurd (wrong tt)
+version_lowest bytes wanted past (records.XName attribute text) wrong near = absurd (wrong tt)
+version_lowest bytes wanted past (records.NumberedXName attribute text number) wrong near = absurd (wrong tt)
+version_lowest bytes wanted past (records.XElement attribute text) wrong near = absurd (wrong tt)
+version_lowest bytes wanted past (records.XGeometry info attribute layer datatype text x y repetition) wrong near = absurd (wrong tt)
+
+pub scheme_lowest : (bytes : List ℕ) (wanted : List Pair) (past : List OasRecord) (r : OasRecord) → (KeepsSchemeBy (body_of r) → ⊥)
+    → ArePositionsNear (r ∷ past) → IsLowest (Keeps bytes wanted past r) 10
+scheme_lowest bytes wanted past records.Pad wrong near = absurd (wrong tt)
+scheme_lowest bytes wanted past (records.Start version unit offset_flag tables) wrong near = absurd (wrong tt)
+scheme_lowest bytes wanted past (records.End tables padding scheme validation) wrong near = record {
+  broken = λ k. wrong (k.scheme refl);
+  lower = λ other less.
+      keeps_all bytes wanted past (records.End tables padding scheme validation) other (λ e. near) (λ e. tt) (λ e. tt) (λ e. tt) (λ e. tt) (λ e. tt) (λ e. tt) (λ e. absurd (omega arith)) (λ e. tt) (λ e. tt);
+}
+scheme_lowest bytes wanted past (records.CellName name) wrong near = absurd (wrong tt)
+scheme_lowest bytes wanted past (records.NumberedCellName name number) wrong near = absurd (wrong tt)
+scheme_lowest bytes wanted past (records.TextString text) wrong near = absurd (wrong tt)
+scheme_lowest bytes wanted past (records.NumberedTextString text number) wrong near = absurd (wrong tt)
+scheme_lowest bytes wanted past (records.PropName name) wrong near = absurd (wrong tt)
+scheme_lowest bytes wanted past (records.NumberedPropName name number) wrong near = absurd (wrong tt)
+scheme_lowest bytes wanted past (records.PropString text) wrong near = absurd (wrong tt)
+scheme_lowest bytes wanted past (records.NumberedPropString text number) wrong near = absurd (wrong tt)
+scheme_lowest bytes wanted past (records.LayerName name layers datatypes) wrong near = absurd (wrong tt)
+scheme_lowest bytes wanted past (records.TextLayerName name layers datatypes) wrong near = absurd (wrong tt)
+scheme_lowest bytes wanted past (records.NumberedCell number) wrong near = absurd (wrong tt)
+scheme_lowest bytes wanted past (records.Cell name) wrong near = absurd (wrong tt)
+scheme_lowest bytes wanted past records.XyAbsolute wrong near = absurd (wrong tt)
+scheme_lowest bytes wanted past records.XyRelative wrong near = absurd (wrong tt)
+scheme_lowest bytes wanted past (records.Placement info cell x y repetition) wrong near = absurd (wrong tt)
+scheme_lowest bytes wanted past (records.TurnedPlacement info cell magnification angle x y repetition) wrong near = absurd (wrong tt)
+scheme_lowest bytes wanted past (records.Text info text textlayer texttype x y repetition) wrong near = absurd (wrong tt)
+scheme_lowest bytes wanted past (records.Rectangle info layer datatype width height x y repetition) wrong near = absurd (wrong tt)
+scheme_lowest bytes wanted past (records.Polygon info layer datatype points x y repetition) wrong near = absurd (wrong tt)
+scheme_lowest bytes wanted past (records.Path info layer datatype half_width extension start end points x y repetition) wrong near = absurd (wrong tt)
+scheme_lowest bytes wanted past (records.Trapezoid info layer datatype width height delta_a delta_b x y repetition) wrong near = absurd (wrong tt)
+scheme_lowest bytes wanted past (records.TrapezoidA info layer datatype width height delta_a x y repetition) wrong near = absurd (wrong tt)
+scheme_lowest bytes wanted past (records.TrapezoidB info layer datatype width height delta_b x y repetition) wrong near = absurd (wrong tt)
+scheme_lowest bytes wanted past (records.Ctrapezoid info layer datatype kind width height x y repetition) wrong near = absurd (wrong tt)
+scheme_lowest bytes wanted past (records.Circle info layer datatype radius x y repetition) wrong near = absurd (wrong tt)
+scheme_lowest bytes wanted past (records.Property info name count values) wrong near = absurd (wrong tt)
+scheme_lowest bytes wanted past records.LastProperty wrong near = absurd (wrong tt)
+scheme_lowest bytes wanted past (records.XName attribute text) wrong near = absurd (wrong tt)
+scheme_lowest bytes wanted past (records.NumberedXName attribute text number) wrong near = absurd (wrong tt)
+scheme_lowest bytes wanted past (records.XElement attribute text) wrong near = absurd (wrong tt)
+scheme_lowest bytes wanted past (records.XGeometry info attribute layer datatype text x y repetition) wrong near = absurd (wrong tt)
+
+last_allowed : (written last : Option Rep) → HasDimensionsIn written → HasDimensionsIn last → HasDimensionsIn (or_else (the_written written) last)
+last_allowed None last h before = before
+last_allowed (Some reps.Same) last h before = before
+last_allowed (Some (reps.Grid x_dim y_dim x_space y_space)) last h before = h
+last_allowed (Some (reps.Row dim space)) last h before = h
+last_allowed (Some (reps.Column dim space)) last h before = h
+last_allowed (Some (reps.RowSpaces dim spaces)) last h before = h
+last_allowed (Some (reps.RowOnGrid dim grid spaces)) last h before = h
+last_allowed (Some (reps.ColumnSpaces dim spaces)) last h before = h
+last_allowed (Some (reps.ColumnOnGrid dim grid spaces)) last h before = h
+last_allowed (Some (reps.Lattice n_dim m_dim u v)) last h before = h
+last_allowed (Some (reps.Line dim u)) last h before = h
+last_allowed (Some (reps.Moves dim moves)) last h before = h
+last_allowed (Some (reps.MovesOnGrid dim grid moves)) last h before = h
+
+-- the last repetition of records that keep the rules has allowed dimensions
+written_last : (past : List OasRecord) (r : OasRecord) → HasDimensionsIn (repetition_in r) → HasDimensionsIn (repetition_of past)
+    → HasDimensionsIn (or_else (repetition_written r) (repetition_of past))
+written_last past r h before = last_allowed (repetition_in r) (repetition_of past) h before
+
+repetition_behind : (past : List OasRecord) (r : OasRecord) (b : Bool) → begins_cell r ≡ b
+    → repetition_of (r ∷ past) ≡ (if b then None else or_else (repetition_written r) (repetition_of past))
+unfolding repetition_of
+repetition_behind past r b e = rw e refl
+
+allowed_behind : (past : List OasRecord) (r : OasRecord) (b : Bool) → begins_cell r ≡ b → HasDimensionsIn (repetition_in r)
+    → HasDimensionsIn (repetition_of past) → HasDimensionsIn (repetition_of (r ∷ past))
+allowed_behind past r true e h before = subst HasDimensionsIn (sym (repetition_behind past r true e)) tt
+allowed_behind past r false e h before = subst HasDimensionsIn (sym (repetition_behind past r false e)) (written_last past r h before)
+
+nothing_last : repetition_of [] ≡ None
+unfolding repetition_of
+nothing_last = refl
+
+pub dimensions_behind : (bytes : List ℕ) (unit : ℕ) (wanted : List Pair) (past : List Item) (at : ℕ) → AreAllowed bytes unit wanted past at
+    → HasDimensionsIn (repetition_of (records_in past))
+dimensions_behind bytes unit wanted [] at allowed = subst HasDimensionsIn (sym nothing_last) tt
+dimensions_behind bytes unit wanted (last ∷ past) at allowed =
+    allowed_behind (records_in past) last.r (begins_cell last.r) refl ((allowed.1.rules 11).dimension refl)
+    (dimensions_behind bytes unit wanted past last.at allowed.2)
