@@ -1,11 +1,10 @@
 -- Shapes by what the program keeps are those of the records.
-use Rattle.std.proofs.Common.{◌≡◌, ℕ, ℤ, pos, Bool, true, false, if◌then◌else◌, nat_le, Option, Some, None, List, [], ◌∷◌, refl, sym, ap, subst, ◌∙◌}
+use Rattle.std.proofs.Common.{◌≡◌, ℕ, ℤ, pos, Bool, true, false, if◌then◌else◌, nat_le, Option, Some, List, refl, sym, ap, subst}
 use Rattle.oas_record.specs.declared.records.OasRecord.{OasRecord}
 use Rattle.oas_record.specs.declared.records.OasRecord.TheVariants as records
 use Rattle.oas_record.specs.declared.repetition.Rep.{Rep}
 use Rattle.oas_shapes.specs.Repetitions.{offsets_in}
-use Rattle.oas_shapes.specs.declared.figures.Figure.{Figure}
-use Rattle.oas_fields.specs.Values.{AreFields, is_relative, layer_of, datatype_of, width_of, height_of, polygon_points_of, half_width_of, start_of, end_of, path_points_of, kind_of, cell_of, repetition_of, placement_of, geometry_of, text_of}
+use Rattle.oas_fields.specs.Values.{AreFields}
 use Rattle.oas_fields.specs.declared.fields.Fields.{Fields}
 use Rattle.oas_reader.specs.Bodies.{body_of}
 use Rattle.oas_reader.specs.Drawn.{figure_in, shapes_in, trapezoid_in, KeepsDrawnIn}

@@ -1,18 +1,17 @@
 -- What the program keeps is what the records say.
-use Rattle.std.proofs.Common.{◌≡◌, ℕ, ℤ, Bool, true, false, if◌then◌else◌, nat_le, Option, Some, None, List, [], ◌∷◌, ◌++◌, refl, sym, ap, ◌∙◌}
+use Rattle.std.proofs.Common.{◌≡◌, Bool, true, false, if◌then◌else◌, Option, Some, None, List, [], ◌∷◌, ◌++◌, refl, sym, ap, ◌∙◌}
 use Rattle.oas_record.specs.Taken.{repetition_in}
 use Rattle.oas_record.specs.declared.records.OasRecord.{OasRecord}
 use Rattle.oas_record.specs.declared.records.OasRecord.TheVariants as records
 use Rattle.oas_record.specs.declared.repetition.Rep.{Rep}
-use Rattle.oas_shapes.specs.Repetitions.{offsets_in}
 use Rattle.oas_fields.specs.Values.{AreFields, or_else, kind_of}
 use Rattle.oas_fields.specs.declared.fields.Fields.{Fields}
 use Rattle.oas_fields.specs.declared.variables.Variable.{Variable}
 use Rattle.oas_fields.specs.declared.variables.Variable.TheVariants.{Layer, Datatype, GeometryW, GeometryH, PolygonPoints, PathHalfWidth, PathStart, PathEnd, PathPoints, CtrapezoidType, PlacementCell, Repetition}
 use Rattle.oas_reader.specs.Bodies.{body_of}
-use Rattle.oas_reader.specs.Drawn.{shapes_in, pair_in}
-use Rattle.oas_reader.specs.Kept.{fields_at, is_defined_in, first_in, form_needs, has_a_pair, pair_needs, repetition_needs, undefined_in}
-use Rattle.oas_reader.specs.Meaning.{shapes_drawn, pair_of}
+use Rattle.oas_reader.specs.Drawn.{pair_in}
+use Rattle.oas_reader.specs.Kept.{is_defined_in, first_in, form_needs, has_a_pair, pair_needs, repetition_needs, undefined_in}
+use Rattle.oas_reader.specs.Meaning.{pair_of}
 use Rattle.oas_reader.specs.Undefined.{is_there, is_defined, repeated, needs_of, first_undefined, undefined_of}
 
 -- ---- values that are needed

@@ -5,7 +5,7 @@ use Rattle.layout_model.specs.declared.shapes.Shape.{Shape}
 use Rattle.oas_record.specs.declared.fields.Deltas.{Deltas}
 use Rattle.oas_shapes.specs.declared.figures.Brush.{Brush}
 use Rattle.oas_shapes.specs.Rules.{KeepsPolygon, KeepsPath}
-use Rattle.std.proofs.Common.{◌++◌, ◌∙◌, ◌≡◌, ℕ, ◌<◌, Option, Some, None, List, [], ◌∷◌, refl, sym, ap, subst}
+use Rattle.std.proofs.Common.{◌++◌, ◌∙◌, ◌≡◌, ℕ, Option, Some, List, [], ◌∷◌, sym, ap, subst}
 use Rattle.oas_record.specs.declared.repetition.Rep.{Rep}
 use Rattle.oas_shapes.specs.Outlines.{figure_outline, outline_shape}
 use Rattle.oas_shapes.specs.Repetitions.{offsets_in}

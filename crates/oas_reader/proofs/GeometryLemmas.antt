@@ -1,19 +1,17 @@
 -- What a record adds to the open cell.
-use Rattle.std.proofs.Common.{◌≡◌, ℕ, Bool, true, Option, Some, None, List, [], ◌∷◌, ◌++◌, Result, Ok, Err, refl, sym, ap, subst, ◌∙◌, inl, inr}
+use Rattle.std.proofs.Common.{◌≡◌, ℕ, Bool, Option, List, [], ◌∷◌, ◌++◌, Result, Ok, Err, refl, sym, ap, subst, ◌∙◌, inl, inr}
 use Rattle.std.specs.Prelude.{All, IfErr}
 use Rattle.std.proofs.lemmas.List.{append-nil}
 use Rattle.std.proofs.lemmas.List.Elements.{All-nil, All-cons, All-append}
 use Rattle.layout_model.specs.Layouts.{IsShapeOnGrid}
 use Rattle.oas_record.specs.declared.fields.Called.{Called}
 use Rattle.oas_record.specs.declared.repetition.Rep.{Rep}
-use Rattle.oas_shapes.specs.Rules.{IsLowest}
 use Rattle.oas_fields.specs.declared.fields.Fields.{Fields}
 use Rattle.oas_reader.specs.Geometry.{placings_in, KeepsShapes, KeepsGeometry}
 use Rattle.oas_reader.specs.Drawn.{IsRefusedBy}
 use Rattle.oas_reader.specs.Meaning.{Placing as APlacing}
 use Rattle.oas_reader.specs.Naming.{IsCalledWithin, AreCalledWithin}
-use Rattle.oas_reader.specs.Placed.{placed_by}
-use Rattle.oas_reader.specs.Readers.{placing_of, placings_of, IsPlacingOnGrid, IsBegunWithin, ArePlacingsWithin, IsDraftWithin, IsDraftOnGrid, AreDraftsWithin}
+use Rattle.oas_reader.specs.Readers.{placing_of, placings_of, IsPlacingOnGrid, IsBegunWithin, IsDraftWithin, IsDraftOnGrid, AreDraftsWithin}
 use Rattle.oas_reader.specs.declared.bodies.Body.{Body}
 use Rattle.oas_reader.specs.declared.bodies.Body.TheVariants as bodies
 use Rattle.oas_reader.specs.declared.bodies.Turning.{Turning}

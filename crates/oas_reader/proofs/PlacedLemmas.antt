@@ -1,10 +1,10 @@
 -- Placements, and why they are refused.
-use Rattle.std.proofs.Common.{◌≡◌, ℕ, ℤ, pos, ◌+◌, ◌<◌, ◌≤◌, Bool, true, false, nat_eq, Option, Some, None, List, refl, sym, ap, subst, ◌∙◌, inl, inr, arith}
-use Rattle.std.specs.Prelude.{◌≢◌, ◌⊎◌}
+use Rattle.std.proofs.Common.{◌≡◌, ℕ, ◌≤◌, true, false, nat_eq, Option, Some, List, refl, inl, inr, arith}
+use Rattle.std.specs.Prelude.{◌⊎◌}
 use Rattle.std.proofs.lemmas.Bool.{cases_lt}
 use Rattle.oas_record.specs.declared.fields.Called.{Called}
 use Rattle.oas_record.specs.declared.repetition.Rep.{Rep}
-use Rattle.oas_shapes.specs.Repetitions.{offsets_in, HasDimensionsIn}
+use Rattle.oas_shapes.specs.Repetitions.{offsets_in}
 use Rattle.oas_shapes.specs.Rules.{AreNear, KeepsRepetition, IsLowest}
 use Rattle.oas_shapes.specs.declared.drawing.Undrawn.{Undrawn}
 use Rattle.oas_shapes.specs.declared.drawing.Undrawn.TheVariants as undrawns

@@ -1,5 +1,5 @@
 -- Reals that are whole numbers, and how they are rounded down.
-use Rattle.std.proofs.Common.{◌≡◌, ◌≢◌, ℕ, zero, suc, ◌+◌, ◌-◌, ◌*◌, ◌/◌, ◌%◌, ◌^◌, ◌<◌, ◌≤◌, ◌↔◌, inl, inr, refl, sym, ap, subst, ◌∙◌, arith, lit<, add-one, Option, Some, None}
+use Rattle.std.proofs.Common.{◌≡◌, ℕ, zero, suc, ◌+◌, ◌-◌, ◌*◌, ◌/◌, ◌%◌, ◌^◌, ◌<◌, ◌≤◌, ◌↔◌, inl, inr, refl, sym, ap, subst, ◌∙◌, arith, add-one, Option, Some, None}
 use Rattle.std.specs.Prelude.{IfSome, IfNone, ℤ, pos, negsuc, ◌*ℤ◌, ◌≤ℤ◌, neg_ℤ, unsigned_abs}
 use Rattle.std.proofs.Math.Nat.{mul-div_cancel, mul_assoc, pow-succ', mul-lt-mul_of_pos_right, mul-add-mod_self_right, mod-eq_of_lt}
 use Rattle.std.proofs.Math.Pow.{pow-lt}

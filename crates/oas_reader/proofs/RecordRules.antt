@@ -1,6 +1,6 @@
 -- The rules of records, and what the program keeps of them.
-use Rattle.std.proofs.Common.{◌≡◌, ℕ, ◌<◌, ◌≤◌, ◌^◌, Bool, true, false, if◌then◌else◌, Option, Some, None, List, [], ◌∷◌, ◌++◌, refl, sym, ap, subst, ◌∙◌, inl, inr, arith}
-use Rattle.std.specs.Prelude.{◌⊎◌, ◌↔◌, IsTrue, IsSome}
+use Rattle.std.proofs.Common.{◌≡◌, ℕ, ◌<◌, Bool, true, false, if◌then◌else◌, Option, Some, None, List, [], ◌∷◌, refl, sym, ap, subst, arith}
+use Rattle.std.specs.Prelude.{◌↔◌, IsTrue}
 use Rattle.std.proofs.lemmas.List.Elements.{All-nil}
 use Rattle.half_grid.specs.declared.plane.Point.{Point}
 use Rattle.layout_model.specs.declared.pair.Pair.{Pair}
@@ -13,27 +13,25 @@ use Rattle.oas_record.specs.declared.records.OasRecord.{OasRecord}
 use Rattle.oas_record.specs.declared.records.OasRecord.TheVariants as records
 use Rattle.oas_record.specs.declared.repetition.Rep.{Rep}
 use Rattle.oas_record.specs.declared.repetition.Rep.TheVariants as reps
-use Rattle.oas_shapes.specs.Repetitions.{offsets_in, IsDimension, HasDimensionsIn}
+use Rattle.oas_shapes.specs.Repetitions.{IsDimension, HasDimensionsIn}
 use Rattle.oas_shapes.specs.Rules.{IsLowest}
 use Rattle.oas_shapes.specs.declared.figures.Brush.{Brush}
 use Rattle.oas_shapes.specs.declared.figures.Figure.{Figure}
-use Rattle.oas_fields.specs.Values.{begins_cell, or_else, last_written, polygon_points_of, path_points_of, repetition_of, kind_of}
+use Rattle.oas_fields.specs.Values.{begins_cell, or_else, polygon_points_of, path_points_of, repetition_of}
 use Rattle.oas_fields.specs.Writes.{repetition_written, repetition_by as the_written}
 use Rattle.oas_fields.specs.declared.variables.Variable.{Variable}
 use Rattle.oas_fields.specs.declared.variables.Variable.TheVariants.{Layer, Datatype, PolygonPoints, PathHalfWidth, PathStart, PathEnd, PathPoints}
 use Rattle.oas_reader.specs.Bodies.{body_of}
-use Rattle.oas_reader.specs.Drawn.{KeepsDrawnIn, KeepsWantedIn, repetition_kept}
-use Rattle.oas_reader.specs.Geometry.{shapes_if, placings_in, KeepsShapes, KeepsGeometry}
+use Rattle.oas_reader.specs.Drawn.{repetition_kept}
+use Rattle.oas_reader.specs.Geometry.{shapes_if, placings_in, KeepsGeometry}
 use Rattle.oas_reader.specs.Items.{Item, records_in}
 use Rattle.oas_reader.specs.Kept.{fields_at, has_a_pair, KeepsVersionBy, KeepsSchemeBy}
 use Rattle.oas_reader.specs.Meaning.{repetition_by, repetition_at, is_wanted, has_pair, shapes_drawn, placings_at, figure_of, at_of, brush_of}
 use Rattle.oas_reader.specs.Names.{cell_called}
-use Rattle.oas_reader.specs.Placed.{KeepsPlaced}
 use Rattle.oas_reader.specs.Reading.{AreAllowed}
 use Rattle.oas_reader.specs.Rules.{ArePositionsNear, KeepsOffsets, KeepsName, KeepsMagnification, KeepsAngle, KeepsToOthers, KeepsVersion, KeepsScheme, FigureKeeps, PolygonKeeps, PathKeeps, KeepsDrawn, Keeps}
 use Rattle.oas_reader.specs.Taking.{KeepsOwnName, wanting_of}
 use Rattle.oas_reader.specs.Undefined.{is_there, is_defined, first_undefined, undefined_of}
-use Rattle.oas_reader.specs.declared.bodies.Body.{Body}
 use Rattle.oas_reader.specs.declared.bodies.Body.TheVariants as bodies
 use Rattle.oas_reader.proofs.DrawBridges.{keeps_to, keeps_from}
 

@@ -1,24 +1,21 @@
 -- What the program finds of a record is what the definitions say of it.
-use Rattle.std.proofs.Common.{◌≡◌, ℕ, ◌<◌, ◌^◌, Bool, true, false, if◌then◌else◌, Option, Some, None, List, [], ◌∷◌, ◌++◌, map, refl, sym, ap, subst, ◌∙◌, inl, inr, arith}
-use Rattle.std.specs.Prelude.{◌⊎◌, ◌↔◌, IsTrue}
+use Rattle.std.proofs.Common.{◌≡◌, ℕ, ◌^◌, Bool, false, if◌then◌else◌, Option, Some, None, List, ◌∷◌, ◌++◌, map, refl, sym, ap, subst, ◌∙◌, inl, inr, arith}
+use Rattle.std.specs.Prelude.{◌↔◌, IsTrue}
 use Rattle.std.specs.List.{list_any}
 use Rattle.layout_model.specs.declared.pair.Pair.{Pair}
-use Rattle.layout_model.specs.declared.shapes.Shape.{Shape}
 use Rattle.oas_record.specs.Taken.{repetition_in}
 use Rattle.oas_record.specs.declared.records.OasRecord.{OasRecord}
 use Rattle.oas_record.specs.declared.repetition.Rep.{Rep}
 use Rattle.oas_shapes.specs.Repetitions.{offsets_in, HasDimensionsIn}
 use Rattle.oas_shapes.specs.Rules.{IsLowest}
-use Rattle.oas_fields.specs.Values.{AreFields, ArePlacesWithin, IsPlaceWithin, begins_cell, repetition_of}
+use Rattle.oas_fields.specs.Values.{ArePlacesWithin, begins_cell, repetition_of}
 use Rattle.oas_fields.specs.declared.fields.Fields.{Fields}
-use Rattle.oas_fields.specs.declared.variables.Variable.{Variable}
 use Rattle.oas_reader.specs.Bodies.{body_of}
-use Rattle.oas_reader.specs.Drawn.{pair_in, repetition_kept, shapes_in, IsRefusedBy}
+use Rattle.oas_reader.specs.Drawn.{repetition_kept, shapes_in, IsRefusedBy}
 use Rattle.oas_reader.specs.Geometry.{wanting_in, rep_in, shapes_if, placings_in, KeepsGeometry, IsBadLook}
 use Rattle.oas_reader.specs.Items.{Item, records_in}
-use Rattle.oas_reader.specs.Kept.{fields_at, has_a_pair, undefined_in, KeepsVersionBy, KeepsSchemeBy}
-use Rattle.oas_reader.specs.Meaning.{Placing, repetition_at, same_pair, pair_of, has_pair, is_wanted, shapes_at, placings_at, given_in_cell}
-use Rattle.oas_reader.specs.Names.{cell_called}
+use Rattle.oas_reader.specs.Kept.{fields_at, undefined_in, KeepsVersionBy, KeepsSchemeBy}
+use Rattle.oas_reader.specs.Meaning.{repetition_at, same_pair, pair_of, has_pair, shapes_at, placings_at, given_in_cell}
 use Rattle.oas_reader.specs.Reading.{item}
 use Rattle.oas_reader.specs.Readers.{begun_by, begun_of, placings_of, whole_cell, whole_of, AreDraftsOf}
 use Rattle.oas_reader.specs.Rules.{ArePositionsNear, Keeps}
@@ -29,7 +26,6 @@ use Rattle.oas_reader.specs.declared.bodies.Body.{Body}
 use Rattle.oas_reader.specs.declared.bodies.Outline.{Outline}
 use Rattle.oas_reader.specs.declared.cells.Drafts.{Drafts}
 use Rattle.oas_reader.specs.declared.refusing.OasBad.{OasBad}
-use Rattle.oas_reader.specs.declared.refusing.OasBad.TheVariants as faults
 use Rattle.oas_reader.proofs.DrawBridges.{fields_are, shapes_are}
 use Rattle.oas_reader.proofs.FieldBridges.{undefined_is}
 use Rattle.oas_reader.proofs.RecordRules.{has_pair_is, calls_none, placings_are, shapes_wanted, repetition_is, IsLookedAt, keeps_geometry, geometry_keeps, own_kept, positions_lowest, version_lowest, scheme_lowest}

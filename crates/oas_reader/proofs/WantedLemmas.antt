@@ -1,5 +1,5 @@
 -- Records on wanted pairs, and why they are refused.
-use Rattle.std.proofs.Common.{◌≡◌, ℕ, ◌<◌, Option, refl, sym, inl, inr}
+use Rattle.std.proofs.Common.{◌≡◌, ℕ, Option, refl, inl, inr}
 use Rattle.std.specs.Prelude.{◌≢◌}
 use Rattle.oas_record.specs.declared.repetition.Rep.{Rep}
 use Rattle.oas_shapes.specs.Rules.{IsLowest}

@@ -1,5 +1,5 @@
 -- What the program keeps of a record beside its modal fields, its point list and its repetition.
-use Rattle.std.specs.Prelude.{ℕ, ◌/◌, ◌%◌, ℤ, pos, nat_eq, nat_le, Bool, true, false, Option, Some, None}
+use Rattle.std.specs.Prelude.{ℕ, ◌/◌, ◌%◌, ℤ, pos, nat_eq, nat_le, Option, Some, None}
 use Rattle.oas_record.specs.declared.fields.Called.{Called}
 use Rattle.oas_record.specs.declared.fields.Called.TheVariants.{Number, Text}
 use Rattle.oas_record.specs.declared.records.OasRecord.{OasRecord}

@@ -1,5 +1,5 @@
 -- What a record needs, by what the program keeps of it.
-use Rattle.std.specs.Prelude.{◌≡◌, ◌≤◌, ◌^◌, ℕ, Bool, true, false, if◌then◌else◌, List, [], ◌∷◌, ◌++◌, Option, Some, None}
+use Rattle.std.specs.Prelude.{◌≡◌, ◌≤◌, ℕ, Bool, true, false, if◌then◌else◌, List, [], ◌∷◌, Option, Some, None}
 use Rattle.oas_record.specs.declared.records.OasRecord.{OasRecord}
 use Rattle.oas_fields.specs.Values.{or_else, is_relative, layer_of, datatype_of, width_of, height_of, polygon_points_of, half_width_of, start_of, end_of, path_points_of, kind_of, cell_of, repetition_of, placement_of, geometry_of, text_of}
 use Rattle.oas_fields.specs.declared.fields.Fields.{Fields}

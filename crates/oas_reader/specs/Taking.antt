@@ -1,9 +1,8 @@
 -- A record that is being taken, by what the program keeps of it.
-use Rattle.std.specs.Prelude.{◌≡◌, ◌⊎◌, ◌↔◌, ℕ, IsTrue, Bool, true, false, if◌then◌else◌, List, [], ◌∷◌, Option, Some, None}
+use Rattle.std.specs.Prelude.{◌≡◌, ◌⊎◌, ◌↔◌, ℕ, IsTrue, Bool, if◌then◌else◌, List, ◌∷◌, Option, Some, None}
 use Rattle.layout_model.specs.Names.{IsName}
 use Rattle.layout_model.specs.declared.pair.Pair.{Pair}
 use Rattle.oas_record.specs.Taken.{repetition_in}
-use Rattle.oas_record.specs.declared.fields.Called.{Called}
 use Rattle.oas_record.specs.declared.records.OasRecord.{OasRecord}
 use Rattle.oas_record.specs.declared.records.OasRecord.TheVariants as records
 use Rattle.oas_shapes.specs.Repetitions.{HasDimensionsIn}
@@ -11,12 +10,12 @@ use Rattle.oas_fields.specs.Values.{AreFields, repetition_of}
 use Rattle.oas_fields.specs.declared.fields.Fields.{Fields}
 use Rattle.oas_fields.specs.declared.variables.Variable.{Variable}
 use Rattle.oas_reader.specs.Bodies.{body_of}
-use Rattle.oas_reader.specs.Items.{Item, records_in, text_in}
+use Rattle.oas_reader.specs.Items.{Item, text_in}
 use Rattle.oas_reader.specs.Meaning.{is_wanted, has_pair}
 use Rattle.oas_reader.specs.Names.{conflict_of}
 use Rattle.oas_reader.specs.Naming.{IsSpan, IsCalledWithin, AreCalledWithin}
 use Rattle.oas_reader.specs.Placed.{IsTurning}
-use Rattle.oas_reader.specs.Rules.{IsNamed, Keeps, IsLowestBroken}
+use Rattle.oas_reader.specs.Rules.{Keeps, IsLowestBroken}
 use Rattle.oas_reader.specs.Undefined.{is_there, undefined_of}
 use Rattle.oas_reader.specs.Wanting.{AreSamePairs}
 use Rattle.oas_reader.specs.declared.bodies.Body.{Body}

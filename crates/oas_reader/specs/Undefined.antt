@@ -1,6 +1,5 @@
 -- Fields that have no value. A record needs the values of its fields in the order of its row, written or not.
-use Rattle.std.specs.Prelude.{ℕ, nat_le, Bool, true, false, not, if◌then◌else◌, List, [], ◌∷◌, ◌++◌, Option, Some, None}
-use Rattle.oas_record.specs.Taken.{repetition_in}
+use Rattle.std.specs.Prelude.{ℕ, Bool, true, false, if◌then◌else◌, List, [], ◌∷◌, ◌++◌, Option, Some, None}
 use Rattle.oas_record.specs.declared.records.OasRecord.{OasRecord}
 use Rattle.oas_record.specs.declared.records.OasRecord.TheVariants as records
 use Rattle.oas_record.specs.declared.repetition.Rep.{Rep}

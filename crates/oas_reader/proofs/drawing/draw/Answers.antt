@@ -1,4 +1,4 @@
-use Rattle.std.proofs.Common.{◌≡◌, Err, ap}
+use Rattle.std.proofs.Common.{Err, ap}
 use Rattle.oas_reader.proofs.WantedLemmas.{wanted_keeps, wanted_lowest, refused_by}
 use Rattle.oas_reader.proofs.drawing.draw.Goals as goal
 

@@ -1,5 +1,5 @@
 use Rattle.std.proofs.Common.{rules, subst, sym, FitsSigned, w64}
-use Rattle.std.specs.Prelude.{IfSome, IfNone, ◌≡◌, ℕ, ◌≤◌, pos, Some}
+use Rattle.std.specs.Prelude.{IfSome, IfNone, ◌≡◌}
 use Rattle.std.proofs.lemmas.Int.{to_z-of_z}
 use Rattle.oas_reader.specs.Reals.{IsFactor, factor_of}
 use Rattle.oas_reader.proofs.RealLemmas.{factor_some, factor_bounds, factor_none, never_factor}

@@ -1,7 +1,6 @@
 use Rattle.std.proofs.Common.{refl, subst, sym, ap, ◌∙◌, Err}
-use Rattle.oas_shapes.specs.Rules.{IsLowest}
 use Rattle.oas_reader.specs.Drawn.{IsRefusedBy}
-use Rattle.oas_reader.specs.Placed.{KeepsOffsetsIn, KeepsPlaced}
+use Rattle.oas_reader.specs.Placed.{KeepsPlaced}
 use Rattle.oas_reader.proofs.PlacedLemmas.{both_keep, near_by, refused_first, refused_last, refused_turned}
 use Rattle.oas_reader.proofs.placing.placing_of.Goals as goal
 

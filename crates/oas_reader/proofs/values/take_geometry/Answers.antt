@@ -1,5 +1,3 @@
-use Rattle.std.proofs.Common.{◌≡◌, [], ◌++◌, sym, ap, subst, ◌∙◌}
-use Rattle.std.specs.Prelude.{OnOk, IfErr}
 use Rattle.std.proofs.lemmas.Result.{on_ok_weaker}
 use Rattle.oas_reader.proofs.GeometryLemmas.{placings_still, shapes_keep, shapes_refused, err_weaker}
 use Rattle.oas_reader.proofs.values.take_geometry.Goals as goal

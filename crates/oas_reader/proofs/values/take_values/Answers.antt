@@ -1,4 +1,4 @@
-use Rattle.oas_reader.proofs.RuleBridges.{IsLooked, IsAdded, values_kept, look_bad, geometry_bad, drafts_added}
+use Rattle.oas_reader.proofs.RuleBridges.{values_kept, look_bad, geometry_bad, drafts_added}
 use Rattle.oas_reader.proofs.values.take_values.Goals as goal
 
 pub returns-in-Err-clause-bad : goal.returns-in-Err-clause-bad
