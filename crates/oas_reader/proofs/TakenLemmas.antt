@@ -7,7 +7,7 @@ use Rattle.layout_model.specs.declared.pair.Pair.{Pair}
 use Rattle.oas_record.specs.Records.{id_of}
 use Rattle.oas_record.specs.Taken.{repetition_in}
 use Rattle.oas_record.specs.declared.records.OasRecord.{OasRecord}
-use Rattle.oas_fields.specs.Values.{AreFields, ArePlacesWithin, IsPlaceWithin, begins_cell, place_of, coordinate, cell_of, placement_of, geometry_of, text_of}
+use Rattle.oas_fields.specs.Values.{AreFields, ArePlacesWithin, IsPlaceWithin, begins_cell, place_of, coordinate, cell_of, placement_of, geometry_of, text_of, repetition_of}
 use Rattle.oas_fields.specs.declared.fields.Fields.{Fields}
 use Rattle.oas_fields.specs.declared.places.Place.{Place as APlace}
 use Rattle.oas_shapes.specs.Repetitions.{HasDimensionsIn}
@@ -192,11 +192,12 @@ place_on past r id place is at = subst (λ i. IsPlace (i ∷ ids_of past) place)
 pub taken_on : (wanted sorted : List Pair) (past : List OasRecord) (r : OasRecord) (outline : Outline) (fields : Fields) → AreSamePairs wanted sorted
     → outline.body ≡ body_of r → outline.repeats ≡ is_there (repetition_in r)
     → IsTrue outline.has_dimensions ↔ HasDimensionsIn (repetition_in r) → AreFields (r ∷ past) fields
-    → IsTaken wanted sorted past r outline fields
-taken_on wanted sorted past r outline fields same body repeats dimensions values = record {
+    → HasDimensionsIn (repetition_of past) → IsTaken wanted sorted past r outline fields
+taken_on wanted sorted past r outline fields same body repeats dimensions values last = record {
   same = same;
   looked_at = record { body = body; repeats = repeats; dimensions = dimensions };
   values = values;
+  last_allowed = last;
 }
 
 pub body_allowed : (bytes : List ℕ) (unit : ℕ) (wanted : List Pair) (past : List Item) (at : ℕ) (r : OasRecord) (next : ℕ) (body : Body)

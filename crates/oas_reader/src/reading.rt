@@ -6,7 +6,7 @@ ghost use Rattle.layout_model.specs.declared.pair.Pair.{Pair as APair};
 ghost use Rattle.oas_lex.specs.Reals.{IsWholeReal};
 ghost use Rattle.oas_record.specs.Taken.{repetition_in};
 ghost use Rattle.oas_record.specs.declared.records.OasRecord.{OasRecord as ARecord};
-ghost use Rattle.oas_fields.specs.Values.{AreFields, ArePlacesWithin};
+ghost use Rattle.oas_fields.specs.Values.{AreFields, ArePlacesWithin, repetition_of};
 ghost use Rattle.oas_shapes.specs.Repetitions.{HasDimensionsIn};
 ghost use Rattle.oas_reader.specs.Bodies.{body_of};
 ghost use Rattle.oas_reader.specs.Drawn.{AreAtMost};
@@ -247,13 +247,16 @@ impl<'a> Reader<'a> {
         requires counted { self.old.names.counted < 2 ^ 63 }
         requires few { AreAtMost (2 ^ 63) self.old.counts }
         ensures reader { (wanted : AList APair) (past : AList Item) → AreSamePairs wanted sorted.now → IsReaderOf bytes.now wanted past self.old
+            → HasDimensionsIn (repetition_of (records_in past))
             → OnOk result (IsReaderOf bytes.now wanted (item at current ∷ past) self.new) }
         ensures within { OnOk result (IsReaderWithin bytes.now self.new) }
         ensures order { (wanted : AList APair) (past : AList Item) → AreSamePairs wanted sorted.now → IsReaderOf bytes.now wanted past self.old
             → OnOk result (is_in_order (records_in past) current ≡ true) }
         ensures allowed { (wanted : AList APair) (past : AList Item) → AreSamePairs wanted sorted.now → IsReaderOf bytes.now wanted past self.old
+            → HasDimensionsIn (repetition_of (records_in past))
             → OnOk result (IsAllowed bytes.now unit wanted past at current next) }
         ensures refused { (wanted : AList APair) (past : AList Item) → AreSamePairs wanted sorted.now → IsReaderOf bytes.now wanted past self.old
+            → HasDimensionsIn (repetition_of (records_in past))
             → IfErr result (λ bad. bad ≢ bads.NoMemory → IsRefused bytes.now unit wanted past at current next bad) }
     {
         let Some(place) = self.place.after(id_of(&current)) else {

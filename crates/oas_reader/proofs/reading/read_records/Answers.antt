@@ -1,6 +1,7 @@
 use Rattle.std.proofs.Common.{rules, ◌<◌, ◌^◌, length, refl}
 use Rattle.oas_reader.specs.Wanting.{AreSamePairs}
 use Rattle.oas_reader.proofs.BodyLemmas.{body_within}
+use Rattle.oas_reader.proofs.RecordRules.{dimensions_behind}
 use Rattle.oas_reader.proofs.ReadLemmas.{stands_first, have_records, counted_few, counts_small, lexical_first, refused_first, stands_on, ends, goes_on, ended_ok, ended_bad}
 use Rattle.oas_reader.proofs.reading.read_records.Goals as goal
 
@@ -35,7 +36,8 @@ pub returns-in-Err-take-clause-first_fault : goal.returns-in-Err-take-clause-fir
 returns-in-Err-take-clause-first_fault c = λ wanted same more.
     refused_first c.args.bytes.now c.args.unit wanted c.args.sorted.now c.records.at c.records.reader c.in-Ok.found.0 c.in-Ok.found.1 c.in-Err-take.bad
     c.records.invariant same c.in-Ok.ensures.ok
-    (c.in-Err-take.ensures.refused wanted c.records.invariant.past same (c.records.invariant.reader_is wanted same) more)
+    (c.in-Err-take.ensures.refused wanted c.records.invariant.past same (c.records.invariant.reader_is wanted same)
+    (dimensions_behind c.args.bytes.now c.args.unit wanted c.records.invariant.past c.records.at (c.records.invariant.allowed wanted same)) more)
 
 pub records-preserved : goal.records-preserved
 records-preserved c =
@@ -45,22 +47,24 @@ records-preserved c =
     c.in-Ok-take.ensures.within
     (λ wanted same.
     let reader = c.records.invariant.reader_is wanted same in
+    let last = dimensions_behind c.args.bytes.now c.args.unit wanted c.records.invariant.past c.records.at (c.records.invariant.allowed wanted same) in
     record {
       order = c.in-Ok-take.ensures.order wanted c.records.invariant.past same reader;
-      allowed = c.in-Ok-take.ensures.allowed wanted c.records.invariant.past same reader;
-      reader_is = c.in-Ok-take.ensures.reader wanted c.records.invariant.past same reader;
+      allowed = c.in-Ok-take.ensures.allowed wanted c.records.invariant.past same reader last;
+      reader_is = c.in-Ok-take.ensures.reader wanted c.records.invariant.past same reader last;
     })
 
 pub returns-then-is_last-clause-found : goal.returns-then-is_last-clause-found
 returns-then-is_last-clause-found c = λ wanted same.
     let reader = c.records.invariant.reader_is wanted same in
+    let last = dimensions_behind c.args.bytes.now c.args.unit wanted c.records.invariant.past c.records.at (c.records.invariant.allowed wanted same) in
     let end = ends c.in-Ok.found.0 c.id_of-is_last.result c.id_of-is_last.ensures c.if-is_last.true in
-    let now = c.in-Ok-take.ensures.reader wanted c.records.invariant.past same reader in
+    let now = c.in-Ok-take.ensures.reader wanted c.records.invariant.past same reader last in
     ended_ok c.args.bytes.now c.args.unit wanted c.args.sorted.now c.records.at c.records.reader c.take.new.self c.in-Ok.found.0 c.in-Ok.found.1
     c.finish.result c.records.invariant same c.in-Ok.ensures.ok end
     (record {
       order = c.in-Ok-take.ensures.order wanted c.records.invariant.past same reader;
-      allowed = c.in-Ok-take.ensures.allowed wanted c.records.invariant.past same reader;
+      allowed = c.in-Ok-take.ensures.allowed wanted c.records.invariant.past same reader last;
       reader_is = now;
     })
     (c.finish.ensures.ok wanted c.records.invariant.past _ now end c.records.invariant.goes_on)
@@ -69,20 +73,22 @@ pub returns-then-is_last-clause-grid : goal.returns-then-is_last-clause-grid
 returns-then-is_last-clause-grid c =
     let same : AreSamePairs c.args.sorted.now c.args.sorted.now = λ pair. refl in
     let reader = c.records.invariant.reader_is c.args.sorted.now same in
+    let last = dimensions_behind c.args.bytes.now c.args.unit c.args.sorted.now c.records.invariant.past c.records.at (c.records.invariant.allowed c.args.sorted.now same) in
     let end = ends c.in-Ok.found.0 c.id_of-is_last.result c.id_of-is_last.ensures c.if-is_last.true in
-    let now = c.in-Ok-take.ensures.reader c.args.sorted.now c.records.invariant.past same reader in
+    let now = c.in-Ok-take.ensures.reader c.args.sorted.now c.records.invariant.past same reader last in
     c.finish.ensures.grid c.args.sorted.now c.records.invariant.past _ now end c.records.invariant.goes_on
 
 pub returns-then-is_last-clause-first_fault : goal.returns-then-is_last-clause-first_fault
 returns-then-is_last-clause-first_fault c = λ wanted same.
     let reader = c.records.invariant.reader_is wanted same in
+    let last = dimensions_behind c.args.bytes.now c.args.unit wanted c.records.invariant.past c.records.at (c.records.invariant.allowed wanted same) in
     let end = ends c.in-Ok.found.0 c.id_of-is_last.result c.id_of-is_last.ensures c.if-is_last.true in
-    let now = c.in-Ok-take.ensures.reader wanted c.records.invariant.past same reader in
+    let now = c.in-Ok-take.ensures.reader wanted c.records.invariant.past same reader last in
     ended_bad c.args.bytes.now c.args.unit wanted c.args.sorted.now c.records.at c.records.reader c.take.new.self c.in-Ok.found.0 c.in-Ok.found.1
     c.finish.result c.records.invariant same c.in-Ok.ensures.ok end
     (record {
       order = c.in-Ok-take.ensures.order wanted c.records.invariant.past same reader;
-      allowed = c.in-Ok-take.ensures.allowed wanted c.records.invariant.past same reader;
+      allowed = c.in-Ok-take.ensures.allowed wanted c.records.invariant.past same reader last;
       reader_is = now;
     })
     (c.finish.ensures.bad wanted c.records.invariant.past _ now end c.records.invariant.goes_on)

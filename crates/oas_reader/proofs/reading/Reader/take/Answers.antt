@@ -6,30 +6,30 @@ use Rattle.oas_reader.proofs.TakenLemmas.{order_on, place_on, taken_on, body_ref
 use Rattle.oas_reader.proofs.reading.Reader.take.Goals as goal
 
 pub returns-in-Err-clause-refused : goal.returns-in-Err-clause-refused
-returns-in-Err-clause-refused c = λ wanted past same reader more.
+returns-in-Err-clause-refused c = λ wanted past same reader last more.
     let outline = c.outline_of-outline.ensures in
     let taken = taken_on wanted c.args.sorted.now (records_in past) c.args.current c.outline_of-outline.result c.take_fields.new.fields same outline.body
-    outline.repeats outline.dimensions (c.take_fields.ensures.fields (records_in past) reader.fields) in
+    outline.repeats outline.dimensions (c.take_fields.ensures.fields (records_in past) reader.fields) last in
     body_refused c.args.bytes.now c.args.unit wanted past c.args.at c.args.current c.args.next c.in-Err.bad
     (order_on (records_in past) c.args.current c.id_of.result c.id_of.ensures (c.in-Some.ensures.some (ids_of (records_in past)) reader.place).0)
     more (c.in-Err.ensures.bad wanted past c.args.current taken reader.names)
 
 pub returns-in-Err-look_at_file-clause-refused : goal.returns-in-Err-look_at_file-clause-refused
-returns-in-Err-look_at_file-clause-refused c = λ wanted past same reader more.
+returns-in-Err-look_at_file-clause-refused c = λ wanted past same reader last more.
     let outline = c.outline_of-outline.ensures in
     let taken = taken_on wanted c.args.sorted.now (records_in past) c.args.current c.outline_of-outline.result c.take_fields.new.fields same outline.body
-    outline.repeats outline.dimensions (c.take_fields.ensures.fields (records_in past) reader.fields) in
+    outline.repeats outline.dimensions (c.take_fields.ensures.fields (records_in past) reader.fields) last in
     file_refused c.args.bytes.now c.args.unit wanted past c.args.at c.args.current c.args.next c.outline_of-outline.result.body c.in-Err-look_at_file.bad
     outline.body
     (order_on (records_in past) c.args.current c.id_of.result c.id_of.ensures (c.in-Some.ensures.some (ids_of (records_in past)) reader.place).0)
     (c.in-Ok.ensures.kept wanted past c.args.current taken reader.names) c.in-Err-look_at_file.ensures.broken
 
 pub returns-clause-reader : goal.returns-clause-reader
-returns-clause-reader c = λ wanted past same reader.
+returns-clause-reader c = λ wanted past same reader last.
     let outline = c.outline_of-outline.ensures in
     let values = c.take_fields.ensures.fields (records_in past) reader.fields in
     let taken = taken_on wanted c.args.sorted.now (records_in past) c.args.current c.outline_of-outline.result c.take_fields.new.fields same outline.body
-    outline.repeats outline.dimensions values in
+    outline.repeats outline.dimensions values last in
     record {
       place = place_on (records_in past) c.args.current c.id_of.result c.in-Some.place c.id_of.ensures
           (c.in-Some.ensures.some (ids_of (records_in past)) reader.place).1;
@@ -43,9 +43,9 @@ returns-clause-reader c = λ wanted past same reader.
     }
 
 pub returns-clause-allowed : goal.returns-clause-allowed
-returns-clause-allowed c = λ wanted past same reader.
+returns-clause-allowed c = λ wanted past same reader last.
     let outline = c.outline_of-outline.ensures in
     let taken = taken_on wanted c.args.sorted.now (records_in past) c.args.current c.outline_of-outline.result c.take_fields.new.fields same outline.body
-    outline.repeats outline.dimensions (c.take_fields.ensures.fields (records_in past) reader.fields) in
+    outline.repeats outline.dimensions (c.take_fields.ensures.fields (records_in past) reader.fields) last in
     body_allowed c.args.bytes.now c.args.unit wanted past c.args.at c.args.current c.args.next c.outline_of-outline.result.body outline.body
     (c.in-Ok.ensures.kept wanted past c.args.current taken reader.names) c.in-Ok-look_at_file.ensures.kept
