@@ -10,6 +10,9 @@ use Rattle.trap_join.specs.Joins.{IsTakenIn}
 use Rattle.scan_line.specs.Rules.{IsWinding, IsTheAnswer, IsRule, Takes}
 use Rattle.column_sweep.specs.Looking.{IsFirstTaken}
 use Rattle.column_sweep.specs.Sweeps.{IsSwept}
+use Rattle.column_sweep.specs.Tries.{IsTried}
+use Rattle.column_sweep.specs.declared.sweep.Tried.{Tried}
+use Rattle.column_sweep.specs.declared.sweep.Tried.TheVariants.{Whole, GivenUp}
 use Rattle.column_sweep.specs.declared.lowest_tile.LowestTile.{LowestTile}
 
 no_winding : IsWinding (pos 0)
@@ -61,3 +64,7 @@ module _ (post : ℤ → ℤ → Bool → Type 0) (gives : ℤ → ℤ → Bool 
     b = lowest.b;
     first = λ t taken. lowest.first t (taken_lent edges window t taken);
   }
+
+  pub lent_tried : (edges : List EdgeParts) (window : RowRange) (tried : Tried) → IsTried gives edges window tried → IsTried post edges window tried
+  lent_tried edges window (Whole traps) h = lent_swept edges window traps.items h
+  lent_tried edges window (GivenUp rest) h = h

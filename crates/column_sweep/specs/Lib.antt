@@ -1,4 +1,5 @@
 pub mod Sweeps
+pub mod Tries
 pub mod ColumnLaws
 pub mod Lowest
 pub mod Looking

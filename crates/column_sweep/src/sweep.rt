@@ -1,7 +1,8 @@
-ghost use Rattle.std.specs.Prelude.{IfOk, IfSome, ◌≡◌, ◌↔◌, IsTrue};
+ghost use Rattle.std.specs.Prelude.{IfOk, ◌≡◌, ◌↔◌, IsTrue};
 ghost use Rattle.scan_line.specs.Rules.{IsRule, IsWinding, Takes};
 ghost use Rattle.scan_line.specs.Runs.{IsBalanced};
 ghost use Rattle.column_sweep.specs.Sweeps.{IsSwept};
+ghost use Rattle.column_sweep.specs.Tries.{IsTried};
 
 use crate::columns::swept_columns;
 use crate::cuts::{Cut, chosen_cuts, plain_budget};
@@ -29,25 +30,34 @@ fn joined<F: Fn(i128, i128) -> bool + Drop>(
     Ok(traps)
 }
 
-// The same, where that goes over no more edges than this. None where it goes over more.
+/// What became of a sweep that may not go over too many edges.
+#[derive(Drop)]
+pub(crate) enum Tried {
+    /// All trapezoids.
+    Whole(Vec<Trap>),
+    /// It was given up, and the edges are given back.
+    GivenUp(Vec<Edge>),
+}
+
+// The same, as long as it goes over no more edges than this.
 fn joined_within<F: Fn(i128, i128) -> bool + Drop>(
     alloc: Global,
     scan: Scan<F>,
     most: u64,
-) -> Result<Option<Vec<Trap>>, NoMemory>
+) -> Result<Tried, NoMemory>
     requires rule { IsRule (F.pre scan.rule) (F.post scan.rule) }
     requires fresh { scan.y ≡ scan.window.y0 }
-    ensures { IfOk result (λ answer. IfSome answer (λ traps. IsSwept (F.post scan.rule) scan.edges scan.window traps.items)) }
+    ensures { IfOk result (IsTried (F.post scan.rule) scan.edges scan.window) }
 {
     let mut join = Join::begin(alloc, scan)?;
     let mut traps = Vec::new(alloc);
-    while let Some(trap) = join.next()? {
-        if most < join.walked() {
-            return Ok(None);
+    while join.climb_within(most)? {
+        match join.next()? {
+            Some(trap) => traps.push(trap)?,
+            None => return Ok(Tried::Whole(traps)),
         }
-        traps.push(trap)?;
     }
-    Ok(Some(traps))
+    Ok(Tried::GivenUp(join.into_edges()))
 }
 
 /// The same list as of `swept`, for a lent rule, by one sweep of the whole window without columns. That takes about as long
@@ -74,17 +84,17 @@ pub fn plain<F: Fn(i128, i128) -> bool + Drop>(
     joined(alloc, scan)
 }
 
-// The same, where that goes over no more edges than this. None where it goes over more.
+// The same, as long as that goes over no more edges than this.
 fn plain_within<F: Fn(i128, i128) -> bool + Drop>(
     alloc: Global,
     edges: Vec<Edge>,
     window: Window,
     rule: &Rule<F>,
     most: u64,
-) -> Result<Option<Vec<Trap>>, NoMemory>
+) -> Result<Tried, NoMemory>
     requires rule { IsRule (F.pre rule.now) (F.post rule.now) }
     requires balanced { IsBalanced edges.items window }
-    ensures { IfOk result (λ answer. IfSome answer (λ traps. IsSwept (F.post rule.now) edges.items window traps.items)) }
+    ensures { IfOk result (IsTried (F.post rule.now) edges.items window) }
 {
     let asked = Rule::new(
         |a: i128, b: i128| -> bool
@@ -96,6 +106,23 @@ fn plain_within<F: Fn(i128, i128) -> bool + Drop>(
     );
     let scan = Scan::begin(alloc, edges, window, asked)?;
     joined_within(alloc, scan, most)
+}
+
+// Without columns, where that is likely to be cheap, and as long as it is.
+fn tried_plain<F: Fn(i128, i128) -> bool + Drop>(
+    alloc: Global,
+    edges: Vec<Edge>,
+    window: Window,
+    rule: &Rule<F>,
+) -> Result<Tried, NoMemory>
+    requires rule { IsRule (F.pre rule.now) (F.post rule.now) }
+    requires balanced { IsBalanced edges.items window }
+    ensures { IfOk result (IsTried (F.post rule.now) edges.items window) }
+{
+    match plain_budget(alloc, edges.as_slice())? {
+        Some(most) => plain_within(alloc, edges, window, rule, most),
+        None => Ok(Tried::GivenUp(edges)),
+    }
 }
 
 /// The joined list, swept in the columns between these cuts, whatever they are.
@@ -118,6 +145,21 @@ pub(crate) fn swept_at<F: Fn(i128, i128) -> bool + Drop>(
     Ok(whole)
 }
 
+// In columns, between cuts that are chosen by the edges.
+fn swept_in_columns<F: Fn(i128, i128) -> bool + Drop>(
+    alloc: Global,
+    edges: Vec<Edge>,
+    window: Window,
+    rule: &Rule<F>,
+) -> Result<Vec<Trap>, NoMemory>
+    requires rule { IsRule (F.pre rule.now) (F.post rule.now) }
+    requires balanced { IsBalanced edges.items window }
+    ensures { IfOk result (λ traps. IsSwept (F.post rule.now) edges.items window traps.items) }
+{
+    let cuts = chosen_cuts(alloc, edges.as_slice())?;
+    swept_at(alloc, edges, window, rule, cuts.as_slice())
+}
+
 /// The joined list of the window's tiles that the rule takes. Want of memory is its only refusal. In each row of the
 /// window each operand has as many edges that go up as edges that go down.
 pub fn swept<F: Fn(i128, i128) -> bool + Drop>(
@@ -130,12 +172,8 @@ pub fn swept<F: Fn(i128, i128) -> bool + Drop>(
     requires balanced { IsBalanced edges.items window }
     ensures { IfOk result (λ traps. IsSwept (F.post rule) edges.items window traps.items) }
 {
-    if let Some(most) = plain_budget(alloc, edges.as_slice())? {
-        let copy = Vec::from_slice(alloc, edges.as_slice())?;
-        if let Some(traps) = plain_within(alloc, copy, window, &rule, most)? {
-            return Ok(traps);
-        }
+    match tried_plain(alloc, edges, window, &rule)? {
+        Tried::Whole(traps) => Ok(traps),
+        Tried::GivenUp(rest) => swept_in_columns(alloc, rest, window, &rule),
     }
-    let cuts = chosen_cuts(alloc, edges.as_slice())?;
-    swept_at(alloc, edges, window, &rule, cuts.as_slice())
 }

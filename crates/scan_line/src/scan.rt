@@ -98,3 +98,12 @@ impl<F: Fn(i128, i128) -> bool> Scan<F> {
         self.sweep.walked()
     }
 }
+
+impl<F: Drop> Scan<F> {
+    /// Gives its edges back, as the scan keeps them.
+    pub fn into_edges(self) -> Vec<Edge>
+        ensures { result.items ≡ self.edges }
+    {
+        self.sweep.into_edges()
+    }
+}

@@ -8,7 +8,7 @@ ghost use Rattle.trap_join.specs.Joins.{IsTakenIn, IsJoinedSoFar, IsFrontOf, Has
 
 use crate::front::Front;
 use geo_stream::NoMemory;
-use half_grid::Trap;
+use half_grid::{Edge, Trap};
 use scan_line::Scan;
 use std::alloc::Global;
 use std::collections::VecDeque;
@@ -96,6 +96,34 @@ fn take_next<F: Fn(i128, i128) -> bool>(
     }
 }
 
+// Goes on until a trapezoid waits, or nothing is left. False as soon as more edges than this were gone over.
+fn climb<F: Fn(i128, i128) -> bool>(
+    scan: &mut Scan<F>,
+    front: &mut Front,
+    most: u64,
+) -> Result<bool, NoMemory>
+    requires rule { IsRule (F.pre scan.old.rule) (F.post scan.old.rule) }
+    requires so_far { (given : List Trapezoid) × IsFrontOf (F.post scan.old.rule) scan.old front.old given }
+    requires top { TopIsKnown front.old scan.old.y }
+    ensures joined { (given : List Trapezoid) → IsFrontOf (F.post scan.old.rule) scan.old front.old given → OnOk result (IsFrontOf (F.post scan.old.rule) scan.new front.new given) }
+    ensures never_more { OnOk result (left_in scan.new front.new ≤ left_in scan.old front.old) }
+    ensures over { IfOk result (λ within. within ≡ false → most < scan.new.walked) }
+    ensures rule { scan.new.rule ≡ scan.old.rule }
+    ensures edges { scan.new.edges ≡ scan.old.edges }
+    ensures window { scan.new.window ≡ scan.old.window }
+    ensures top { TopIsKnown front.new scan.new.y }
+{
+    while front.waiting.is_empty() {
+        if most < scan.walked() {
+            return Ok(false);
+        }
+        if !advance(scan, front)? {
+            break;
+        }
+    }
+    Ok(true)
+}
+
 impl<F: Fn(i128, i128) -> bool> Join<F> {
     /// A join of a scan whose first slab wasn't taken yet. It takes no memory.
     pub fn begin(alloc: Global, scan: Scan<F>) -> Result<Join<F>, NoMemory>
@@ -153,10 +181,43 @@ impl<F: Fn(i128, i128) -> bool> Join<F> {
         }
     }
 
+    /// Goes up slab by slab to where the next trapezoid ends, which `next` then gives at once, or to the end of the
+    /// window. False as soon as the scan has gone over more than `most` edges, and none is ready: the join may go on all
+    /// the same. After NoMemory each call answers NoMemory.
+    pub fn climb_within(&mut self, most: u64) -> Result<bool, NoMemory>
+        requires rule { IsRule (F.pre self.old.rule) (F.post self.old.rule) }
+        requires going { self.old.failed ≡ false → (given : List Trapezoid) × HasGiven (F.post self.old.rule) self.old given }
+        ensures same { (given : List Trapezoid) → HasGiven (F.post self.old.rule) self.old given → OnOk result (HasGiven (F.post self.old.rule) self.new given) }
+        ensures never_more { OnOk result (left_to_give self.new ≤ left_to_give self.old) }
+        ensures over { IfOk result (λ within. within ≡ false → most < self.new.walked) }
+        ensures going { OnOk result (self.new.failed ≡ false) }
+        ensures fails { OnErr result (self.new.failed ≡ true) }
+        ensures failed { self.old.failed ≡ true → IsErr result }
+        ensures rule { self.new.rule ≡ self.old.rule }
+        ensures edges { self.new.edges ≡ self.old.edges }
+        ensures window { self.new.window ≡ self.old.window }
+    {
+        if self.failed {
+            return Err(NoMemory);
+        }
+        let climbed = climb(&mut self.scan, &mut self.front, most);
+        self.failed = climbed.is_err();
+        climbed
+    }
+
     /// How many edges its scan went over so far.
     pub fn walked(&self) -> u64
         ensures { result ≡ self.now.walked }
     {
         self.scan.walked()
+    }
+}
+
+impl<F: Drop> Join<F> {
+    /// Gives the edges of its scan back, as the scan keeps them.
+    pub fn into_edges(self) -> Vec<Edge>
+        ensures { result.items ≡ self.edges }
+    {
+        self.scan.into_edges()
     }
 }

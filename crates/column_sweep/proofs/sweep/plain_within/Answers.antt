@@ -1,11 +1,9 @@
 use Rattle.std.proofs.Common.{ℤ, Bool, ap, sym, subst, ◌≡◌, ◌∙◌}
-use Rattle.std.proofs.lemmas.Option.{IfSome_then}
 use Rattle.std.proofs.lemmas.Result.{IfOk-weaker}
-use Rattle.std.specs.Prelude.{IfSome}
 use Rattle.scan_line.specs.Rules.{IsRule}
-use Rattle.column_sweep.specs.Sweeps.{IsSwept}
-use Rattle.column_sweep.proofs.Sweeping.{swept_of_given}
-use Rattle.column_sweep.proofs.Lending.{lent_is_rule, lent_swept}
+use Rattle.column_sweep.specs.Tries.{IsTried}
+use Rattle.column_sweep.proofs.Sweeping.{tried_of_given}
+use Rattle.column_sweep.proofs.Lending.{lent_is_rule, lent_tried}
 use Rattle.column_sweep.proofs.sweep.plain_within.Goals as goal
 
 pub new-asked-requires : goal.new-asked-requires
@@ -30,7 +28,7 @@ pub returns : goal.returns
 returns g c =
     let post : g.row.F.Denot → ℤ → ℤ → Bool → Type 0 = λ rule a b r. g.F.Fn.post rule (a, (b, tt)) r in
     let kept : c.in_ok-scan.scan.rule.0.now ≡ c.args.rule.now = ap (λ rule. rule.0.now) c.in_ok-scan.ensures.rule ∙ ap (λ rule. rule.0.now) c.new-asked.ensures in
-    IfOk-weaker c.joined_within.result _ (λ answer. IfSome answer (λ traps. IsSwept (post c.args.rule.now) c.args.edges.items c.args.window traps.items))
-    (λ answer some. IfSome_then answer some (λ traps swept. swept_of_given post c.args.rule.now c.in_ok-scan.scan.rule.0.now c.in_ok-scan.scan.edges c.args.edges.items c.args.window c.in_ok-scan.scan.window kept c.in_ok-scan.ensures.edges c.in_ok-scan.ensures.window traps.items
-    (lent_swept (post c.in_ok-scan.scan.rule.0.now) _ (λ a b r h. h) (λ a b r h. h) c.in_ok-scan.scan.edges c.in_ok-scan.scan.window traps.items swept)))
+    IfOk-weaker c.joined_within.result _ (IsTried (post c.args.rule.now) c.args.edges.items c.args.window)
+    (λ tried h. tried_of_given post c.args.rule.now c.in_ok-scan.scan.rule.0.now c.in_ok-scan.scan.edges c.args.edges.items c.args.window c.in_ok-scan.scan.window kept c.in_ok-scan.ensures.edges c.in_ok-scan.ensures.window tried
+    (lent_tried (post c.in_ok-scan.scan.rule.0.now) _ (λ a b r h. h) (λ a b r h. h) c.in_ok-scan.scan.edges c.in_ok-scan.scan.window tried h))
     c.joined_within.ensures

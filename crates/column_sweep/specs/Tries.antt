@@ -1,0 +1,11 @@
+-- A sweep that may be given up: either it gives the whole joined list, or the edges are given back, in any order.
+use Rattle.std.specs.Prelude.{ℤ, Bool, List, IsPermutation}
+use Rattle.half_grid.specs.Edges.{EdgeParts}
+use Rattle.half_grid.specs.Windows.{RowRange}
+use Rattle.column_sweep.specs.Sweeps.{IsSwept}
+use Rattle.column_sweep.specs.declared.sweep.Tried.{Tried}
+use Rattle.column_sweep.specs.declared.sweep.Tried.TheVariants.{Whole, GivenUp}
+
+abbrev pub IsTried : (ℤ → ℤ → Bool → Type 0) → List EdgeParts → RowRange → Tried → Type 0
+IsTried post edges window (Whole traps) = IsSwept post edges window traps.items
+IsTried post edges window (GivenUp rest) = IsPermutation rest.items edges
