@@ -1,4 +1,4 @@
-use Rattle.std.proofs.Common.{◌≡◌, [], ◌∷◌, sym, ap, subst, ◌∙◌}
+use Rattle.std.proofs.Common.{[], ◌∷◌, sym, ap, subst, ◌∙◌}
 use Rattle.half_grid.specs.Quads.{ring_of, corners_of}
 use Rattle.flat_walk.specs.Tables.{HasShape, AreCut}
 use Rattle.flat_walk.proofs.TestLemmas.{all_cut, has_first, has_still}
