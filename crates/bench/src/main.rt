@@ -6,6 +6,7 @@ mod layouts;
 mod memory;
 mod records;
 mod shapes;
+mod walking;
 
 use agreeing::{Agreement, sweep_both_ways};
 use bool_ops::{Op, combine};
@@ -17,6 +18,7 @@ use std::alloc::{AllocError, Global};
 use std::process::ExitCode;
 use std::time::Instant;
 use std::{env, io};
+use walking::time_walks;
 
 /// No input is larger than this.
 const MOST: u32 = 16_000_000;
@@ -41,6 +43,8 @@ enum Task {
     Gds(u32),
     /// OASIS records of so many rectangles, with all their fields and with their places alone.
     Oasis(u32),
+    /// Walks over a flat cell of so many squares a side, an array of so many cells a side, and nested arrays.
+    Walk(u16),
     /// So many random cases, in columns and at once.
     Agree(u32),
 }
@@ -57,6 +61,7 @@ fn task_of(kind: &str, count: u32) -> Option<Task> {
         "pile" => Some(Task::Pile(count.min(10_000))),
         "wires" => Some(Task::Wires(count)),
         "jogs" => Some(Task::Jogs(count)),
+        "walk" => Some(Task::Walk(count.min(2000) as u16)),
         "agree" => Some(Task::Agree(count)),
         "gds" => Some(Task::Gds(count)),
         "oasis" => Some(Task::Oasis(count)),
@@ -157,6 +162,7 @@ fn measure(rt: &HostRuntime, alloc: Global, task: Task) -> io::Result<()> {
         Task::Pile(count) => unite_made(rt, "pile", shapes::pile(alloc, count)),
         Task::Wires(count) => unite_made(rt, "wires", shapes::wires(alloc, count)),
         Task::Jogs(count) => unite_made(rt, "jogs", shapes::jogs(alloc, count)),
+        Task::Walk(side) => time_walks(rt, side),
         Task::Agree(count) => compare(rt, alloc, count),
         Task::Gds(count) => match layouts::file(alloc, count) {
             Ok(bytes) => read(rt, alloc, bytes.as_slice()),
@@ -177,7 +183,7 @@ fn run(rt: &HostRuntime) -> io::Result<()> {
     match asked(words.as_slice()) {
         Some(task) => measure(rt, alloc, task),
         None => println!(rt;
-            "words: squares SIDE or hatch SIDE, random, comb, pile, wires, jogs, gds, oasis or agree COUNT; up to {MOST}"
+            "words: squares SIDE, hatch SIDE or walk SIDE, random, comb, pile, wires, jogs, gds, oasis or agree COUNT; up to {MOST}"
         ),
     }
 }

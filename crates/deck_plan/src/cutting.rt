@@ -58,8 +58,8 @@ fn cut_cell(alloc: Global, parts: &mut Parts, cells: &[Cell], cell: usize) -> Re
     Ok(())
 }
 
-/// The pieces of each shape of the tree's cells.
-pub(crate) fn cut_parts(alloc: Global, tree: &Tree) -> Result<Parts, NoMemory>
+/// The pieces of each shape of the tree's cells. Want of memory is the only refusal.
+pub fn cut_parts(alloc: Global, tree: &Tree) -> Result<Parts, NoMemory>
     ensures { IfOk result (λ parts. AreAllCut tree.now.layout.cells parts) }
 {
     let cells = tree.cells();

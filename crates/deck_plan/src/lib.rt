@@ -16,4 +16,5 @@ mod steps;
 mod tests;
 mod windows;
 
+pub use cutting::cut_parts;
 pub use plans::Plan;

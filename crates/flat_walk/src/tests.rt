@@ -5,7 +5,7 @@ ghost use Rattle.half_grid.specs.Quads.{ring_of, corners_of};
 ghost use Rattle.half_grid.specs.Trapezoids.{trapezoid};
 ghost use Rattle.half_grid.specs.declared.plane.Line.TheVariants.{Upright, Rising};
 ghost use Rattle.layout_model.specs.Images.{IsOrient};
-ghost use Rattle.layout_model.specs.Layouts.{AreOffsets, IsShapeOnGrid, IsPlacementOnGrid, IsCellOnGrid, IsLayoutOnGrid};
+ghost use Rattle.layout_model.specs.Layouts.{IsMove, AreOffsets, IsShapeOnGrid, IsPlacementOnGrid, IsCellOnGrid, IsLayoutOnGrid};
 ghost use Rattle.layout_model.specs.declared.pair.Pair.{Pair as APair};
 ghost use Rattle.layout_model.specs.declared.shapes.Shape.{Shape as AShape};
 ghost use Rattle.flat_walk.specs.Tables.{AreCut, HasShape, with_pieces};
@@ -41,6 +41,13 @@ const OTHER: Pair = Pair {
 const RIGHT: Point = Point { x: 20, y: 0 };
 
 const UP: Point = Point { x: 0, y: 40 };
+
+// Where cells are placed.
+const ORIGIN: Point = Point { x: 0, y: 0 };
+
+const CORNER: Point = Point { x: 200, y: 400 };
+
+const ASIDE: Point = Point { x: 10, y: 20 };
 
 fn point(x: i64, y: i64) -> Point
     ensures x { result.x ≡ x }
@@ -102,16 +109,18 @@ fn placed(
     alloc: Global,
     target: &[u8],
     orient: Orient,
+    at: Point,
     offsets: Offsets,
 ) -> Placement
     requires orient { IsOrient orient }
+    requires at { IsMove at }
     requires offsets { AreOffsets offsets }
     ensures { IsPlacementOnGrid result }
 {
     Placement {
         target: name(rt, alloc, target),
         orient,
-        at: point(0, 0),
+        at,
         offsets,
     }
 }
@@ -253,34 +262,50 @@ fn ask(
     }
 }
 
+// The triangle in a cell that is placed in a cell that is placed.
+fn placed_twice(rt: &impl Abort, alloc: Global, inner: Placement, outer: Placement) -> Tree
+    requires inner { IsPlacementOnGrid inner }
+    requires outer { IsPlacementOnGrid outer }
+    ensures { (shape : AShape) × (map (λ cell. cell.shapes) result.layout.cells ≡ (shape ∷ []) ∷ [] ∷ [] ∷ [])
+        × (shape.points ≡ ring_of (corners_of (trapezoid (pos 0) (pos 8) (Rising (pos 0)) (Upright (pos 8))))) }
+{
+    let shape = triangle(rt, alloc, places(rt, alloc, 1, 1));
+    tree(rt, alloc, shape, inner, outer)
+}
+
+// One place of a cell.
+fn once(rt: &impl Abort, alloc: Global, target: &[u8], orient: Orient, at: Point) -> Placement
+    requires orient { IsOrient orient }
+    requires at { IsMove at }
+    ensures { IsPlacementOnGrid result }
+{
+    placed(rt, alloc, target, orient, at, places(rt, alloc, 1, 1))
+}
+
+// An array of 3 by 2 of C.
+fn array(rt: &impl Abort, alloc: Global, orient: Orient, at: Point) -> Placement
+    requires orient { IsOrient orient }
+    requires at { IsMove at }
+    ensures { IsPlacementOnGrid result }
+{
+    placed(rt, alloc, b"C", orient, at, places(rt, alloc, 3, 2))
+}
+
 // An array of 3 by 2 of a cell that is mirrored and turned three times.
 #[test]
 fn a_window_cuts_an_array(rt: HostRuntime) {
     let alloc = rt.alloc();
-    let shape = triangle(&rt, alloc, places(&rt, alloc, 1, 1));
-    let inner = placed(
-        &rt,
-        alloc,
-        b"C",
-        orient(false, 0, 1),
-        places(&rt, alloc, 1, 1),
-    );
-    let outer = placed(
-        &rt,
-        alloc,
-        b"B",
-        orient(true, 3, 1),
-        places(&rt, alloc, 3, 2),
-    );
-    let tree = tree(&rt, alloc, shape, inner, outer);
+    let inner = array(&rt, alloc, orient(true, 3, 1), CORNER);
+    let outer = once(&rt, alloc, b"B", orient(false, 0, 1), ORIGIN);
+    let tree = placed_twice(&rt, alloc, inner, outer);
     let parts = cut(&rt, alloc, &tree);
-    let low = [(0, 0), (0, -8), (-8, -8), (-8, -8)];
-    let high = [(0, 40), (0, 32), (-8, 32), (-8, 32)];
+    let low = [(200, 400), (200, 392), (192, 392), (192, 392)];
+    let high = [(200, 440), (200, 432), (192, 432), (192, 432)];
     ask(&rt, alloc, &tree, &parts, ALL, 6, low);
-    ask(&rt, alloc, &tree, &parts, (-1, 32), 3, low);
-    ask(&rt, alloc, &tree, &parts, (0, 40), 3, high);
-    ask(&rt, alloc, &tree, &parts, (0, 32), 0, high);
-    ask(&rt, alloc, &tree, &parts, (-5, -5), 0, low);
+    ask(&rt, alloc, &tree, &parts, (399, 432), 3, low);
+    ask(&rt, alloc, &tree, &parts, (400, 440), 3, high);
+    ask(&rt, alloc, &tree, &parts, (400, 432), 0, high);
+    ask(&rt, alloc, &tree, &parts, (395, 395), 0, low);
     let quads = shown(&rt, alloc, &tree, &parts, OTHER, ALL);
     assert!(rt; quads.is_empty());
 }
@@ -289,25 +314,78 @@ fn a_window_cuts_an_array(rt: HostRuntime) {
 #[test]
 fn a_window_cuts_a_turned_array(rt: HostRuntime) {
     let alloc = rt.alloc();
-    let shape = triangle(&rt, alloc, places(&rt, alloc, 1, 1));
-    let inner = placed(
-        &rt,
-        alloc,
-        b"C",
-        orient(false, 0, 1),
-        places(&rt, alloc, 3, 2),
-    );
-    let outer = placed(
-        &rt,
-        alloc,
-        b"B",
-        orient(false, 1, 1),
-        places(&rt, alloc, 1, 1),
-    );
-    let tree = tree(&rt, alloc, shape, inner, outer);
+    let inner = array(&rt, alloc, orient(false, 0, 1), ORIGIN);
+    let outer = once(&rt, alloc, b"B", orient(false, 1, 1), ORIGIN);
+    let tree = placed_twice(&rt, alloc, inner, outer);
     let parts = cut(&rt, alloc, &tree);
     let second = [(0, 20), (-8, 28), (-8, 28), (0, 28)];
     ask(&rt, alloc, &tree, &parts, (20, 28), 2, second);
     ask(&rt, alloc, &tree, &parts, (8, 20), 0, second);
     ask(&rt, alloc, &tree, &parts, (27, 41), 4, second);
+}
+
+// The mirrored and turned array in a cell that is enlarged by 3, mirrored or not, turned and moved.
+fn ask_enlarged(
+    rt: &impl Abort,
+    alloc: Global,
+    is_mirrored: bool,
+    turns: u8,
+    first: [(i64, i64); 4],
+)
+    requires { turns < 4 }
+{
+    let inner = array(rt, alloc, orient(true, 3, 1), CORNER);
+    let outer = once(rt, alloc, b"B", orient(is_mirrored, turns, 3), ASIDE);
+    let tree = placed_twice(rt, alloc, inner, outer);
+    let parts = cut(rt, alloc, &tree);
+    ask(rt, alloc, &tree, &parts, ALL, 6, first);
+}
+
+// The corners (200, 400), (192, 392), (200, 392) of the first triangle are enlarged to (600, 1200), (576, 1176),
+// (600, 1176); the last step moves them by (10, 20).
+#[test]
+fn eight_orientations_enlarge_an_array(rt: HostRuntime) {
+    let alloc = rt.alloc();
+    let plain = [
+        [(610, 1220), (610, 1196), (586, 1196), (586, 1196)],
+        [(-1190, 620), (-1166, 620), (-1166, 596), (-1166, 596)],
+        [(-590, -1180), (-590, -1156), (-566, -1156), (-566, -1156)],
+        [(1210, -580), (1186, -580), (1186, -556), (1186, -556)],
+    ];
+    let mirrored = [
+        [(610, -1180), (586, -1156), (586, -1156), (610, -1156)],
+        [(1210, 620), (1186, 596), (1186, 596), (1186, 620)],
+        [(-590, 1220), (-566, 1196), (-566, 1196), (-590, 1196)],
+        [(-1190, -580), (-1166, -556), (-1166, -556), (-1166, -580)],
+    ];
+    for turns in 0..4u8 {
+        ask_enlarged(&rt, alloc, false, turns, plain[usize::from(turns)]);
+        ask_enlarged(&rt, alloc, true, turns, mirrored[usize::from(turns)]);
+    }
+}
+
+// The square round the triangle, and later the triangle in its place.
+fn cut_again(rt: &impl Abort, alloc: Global, tree: &Tree) -> Parts
+    requires { (shape : AShape) × (map (λ cell. cell.shapes) tree.now.layout.cells ≡ (shape ∷ []) ∷ [] ∷ [] ∷ [])
+        × (shape.points ≡ ring_of (corners_of (trapezoid (pos 0) (pos 8) (Rising (pos 0)) (Upright (pos 8))))) }
+    ensures { (pair : APair) → AreCut tree.now.layout.cells tree.now.top result pair }
+{
+    let mut parts = Parts::new(alloc, tree).expect(rt, "memory");
+    let square = Trap::new(0, 8, Line::Upright(0), Line::Upright(8)).expect(rt, "a trapezoid");
+    put(rt, &mut parts, &square);
+    let whole = piece(rt);
+    let _bottom = whole.y0();
+    put(rt, &mut parts, &whole);
+    parts
+}
+
+#[test]
+fn later_pieces_replace_earlier_ones(rt: HostRuntime) {
+    let alloc = rt.alloc();
+    let inner = once(&rt, alloc, b"C", orient(false, 0, 1), ORIGIN);
+    let outer = once(&rt, alloc, b"B", orient(false, 0, 1), ORIGIN);
+    let tree = placed_twice(&rt, alloc, inner, outer);
+    let parts = cut_again(&rt, alloc, &tree);
+    let triangle = [(0, 0), (8, 8), (8, 8), (8, 0)];
+    ask(&rt, alloc, &tree, &parts, ALL, 1, triangle);
 }
