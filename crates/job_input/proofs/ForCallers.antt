@@ -4,15 +4,19 @@ use Rattle.depot.specs.Content.{Content}
 use Rattle.cell_tree.specs.Trees.{Rooted}
 use Rattle.deck_text.specs.declared.deck.Deck.{Deck}
 use Rattle.job_input.specs.Accepted.{IsTreeFor, HoldsInput}
+use Rattle.job_input.specs.declared.formats.Format.{Format}
 use Rattle.job_input.specs.declared.reading.Input.{Input}
-use Rattle.job_input.proofs.Causes.{GoodLayout, GoodDeck, one_class, same_root}
+use Rattle.job_input.proofs.Causes.{GoodLayout, GoodDeck, OasisLaws, one_class, same_root}
 pub use Rattle.job_input.proofs.Causes.{deck_deck}
 
-pub one_input : (c : Content) (layout deck : List ℕ) (i j : Input) → HoldsInput c layout deck i → HoldsInput c layout deck j → i ≡ j
-one_input c layout deck i j h g =
-    let same : GoodDeck i.deck (GoodLayout i.tree.layout) ≡ GoodDeck j.deck (GoodLayout j.tree.layout) =
-    one_class c layout deck (GoodDeck i.deck (GoodLayout i.tree.layout)) (GoodDeck j.deck (GoodLayout j.tree.layout)) (h.holds_deck, h.holds_layout) (g.holds_deck, g.holds_layout) in
+pub one_input : OasisLaws → (c : Content) (layout deck : List ℕ) (i j : Input) → HoldsInput c layout deck i → HoldsInput c layout deck j → i ≡ j
+one_input laws c layout deck i j h g =
+    let same : GoodDeck i.deck (GoodLayout i.format i.tree.layout) ≡ GoodDeck j.deck (GoodLayout j.format j.tree.layout) =
+    one_class laws c layout deck (GoodDeck i.deck (GoodLayout i.format i.tree.layout)) (GoodDeck j.deck (GoodLayout j.format j.tree.layout)) (h.holds_deck, h.holds_layout) (g.holds_deck, g.holds_layout) in
     let decks : i.deck ≡ j.deck = cc in
+    let formats : i.format ≡ j.format = cc in
     let layouts : i.tree.layout ≡ j.tree.layout = cc in
     let trees : i.tree ≡ j.tree = same_root j.deck i.tree j.tree layouts (subst (λ (d : Deck). IsTreeFor d i.tree) decks h.is_tree) g.is_tree in
-    ap (λ (d : Deck). record { deck = d; tree = i.tree }) decks ∙ ap (λ (t : Rooted). record { deck = j.deck; tree = t }) trees
+    ap (λ (d : Deck). record { deck = d; format = i.format; tree = i.tree }) decks
+    ∙ ap (λ (f : Format). record { deck = j.deck; format = f; tree = i.tree }) formats
+    ∙ ap (λ (t : Rooted). record { deck = j.deck; format = j.format; tree = t }) trees
