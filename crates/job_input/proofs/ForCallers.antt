@@ -9,6 +9,12 @@ use Rattle.job_input.specs.declared.reading.Input.{Input}
 use Rattle.job_input.proofs.Causes.{GoodLayout, GoodDeck, OasisLaws, one_class, same_root}
 pub use Rattle.job_input.proofs.Causes.{deck_deck}
 
+input_of : Deck → Format → Rooted → Input
+input_of d f t = record { deck = d; format = f; tree = t }
+
+same_parts : (d e : Deck) (f g : Format) (t u : Rooted) → d ≡ e → f ≡ g → t ≡ u → input_of d f t ≡ input_of e g u
+same_parts d e f g t u decks formats trees = ap (λ x. input_of x f t) decks ∙ ap (λ x. input_of e x t) formats ∙ ap (input_of e g) trees
+
 pub one_input : OasisLaws → (c : Content) (layout deck : List ℕ) (i j : Input) → HoldsInput c layout deck i → HoldsInput c layout deck j → i ≡ j
 one_input laws c layout deck i j h g =
     let same : GoodDeck i.deck (GoodLayout i.format i.tree.layout) ≡ GoodDeck j.deck (GoodLayout j.format j.tree.layout) =
@@ -17,6 +23,4 @@ one_input laws c layout deck i j h g =
     let formats : i.format ≡ j.format = cc in
     let layouts : i.tree.layout ≡ j.tree.layout = cc in
     let trees : i.tree ≡ j.tree = same_root j.deck i.tree j.tree layouts (subst (λ (d : Deck). IsTreeFor d i.tree) decks h.is_tree) g.is_tree in
-    ap (λ (d : Deck). record { deck = d; format = i.format; tree = i.tree }) decks
-    ∙ ap (λ (f : Format). record { deck = j.deck; format = f; tree = i.tree }) formats
-    ∙ ap (λ (t : Rooted). record { deck = j.deck; format = j.format; tree = t }) trees
+    same_parts i.deck j.deck i.format j.format i.tree j.tree decks formats trees
