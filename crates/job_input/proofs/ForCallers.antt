@@ -9,7 +9,7 @@ use Rattle.job_input.specs.declared.reading.Input.{Input}
 use Rattle.job_input.proofs.Causes.{GoodLayout, GoodDeck, OasisLaws, one_class, same_root}
 pub use Rattle.job_input.proofs.Causes.{deck_deck}
 
-input_of : Deck → Format → Rooted → Input
+abbrev input_of : Deck → Format → Rooted → Input
 input_of d f t = record { deck = d; format = f; tree = t }
 
 same_parts : (d e : Deck) (f g : Format) (t u : Rooted) → d ≡ e → f ≡ g → t ≡ u → input_of d f t ≡ input_of e g u

@@ -78,9 +78,13 @@ cause_name causes.NoMemory = codes "memory"
 abbrev pub oas_fault : List ℕ → ℕ → List ℕ
 oas_fault what at = codes "layout refused: oasis " ++ what ++ codes " at " ++ decimal at ++ codes "\n"
 
--- a line that begins so, with an offset and a word
+-- a fault of an OASIS file at an offset, with a word
 abbrev pub oas_word : List ℕ → ℕ → List ℕ → List ℕ
-oas_word begin at word = begin ++ decimal at ++ codes " " ++ word ++ codes "\n"
+oas_word what at word = what ++ decimal at ++ codes " " ++ word ++ codes "\n"
+
+-- a fault of an OASIS file at an offset, with a second number behind a text
+abbrev pub oas_number : List ℕ → ℕ → List ℕ → ℕ → List ℕ
+oas_number what at between number = what ++ decimal at ++ between ++ decimal number ++ codes "\n"
 
 -- a refused OASIS file
 unfoldable pub oas_line : OasBad → List ℕ
@@ -88,9 +92,8 @@ oas_line oas_faults.Magic = codes "layout refused: oasis magic\n"
 oas_line (oas_faults.Lexical at cause) = oas_word (codes "layout refused: oasis record at ") at (cause_name cause)
 oas_line (oas_faults.Order at) = oas_fault (codes "order") at
 oas_line (oas_faults.Undefined at variable) = oas_word (codes "layout refused: oasis undefined at ") at (variable_name variable)
-oas_line (oas_faults.Value at rule) = codes "layout refused: oasis value at " ++ decimal at ++ codes " rule " ++ decimal rule ++ codes "\n"
-oas_line (oas_faults.Names first second) =
-    codes "layout refused: oasis names at " ++ decimal first ++ codes " and " ++ decimal second ++ codes "\n"
+oas_line (oas_faults.Value at rule) = oas_number (codes "layout refused: oasis value at ") at (codes " rule ") rule
+oas_line (oas_faults.Names first second) = oas_number (codes "layout refused: oasis names at ") first (codes " and ") second
 oas_line (oas_faults.Tail at) = oas_fault (codes "tail") at
 oas_line (oas_faults.Unit at) = oas_fault (codes "unit") at
 oas_line oas_faults.NoMemory = memory_line

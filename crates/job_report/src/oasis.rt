@@ -1,7 +1,7 @@
 //! The line of a refused OASIS file.
 ghost use Rattle.std.specs.Prelude.{◌≡◌, ◌++◌, codes, decimal};
 ghost use Rattle.job_report.specs.Pieces.{spelled};
-ghost use Rattle.job_report.specs.Lines.{variable_name, cause_name, oas_line, oas_fault, oas_word};
+ghost use Rattle.job_report.specs.Lines.{variable_name, cause_name, oas_line, oas_fault, oas_word, oas_number};
 
 use crate::pieces::{Line, Piece};
 use oas_fields::Variable;
@@ -43,7 +43,7 @@ fn cause_name(cause: RecordBad) -> &'static [u8]
 }
 
 // The line of a fault of this name at an offset.
-fn fault_at(what: &[u8], at: usize) -> Line<'_>
+fn fault_at(what: &'static [u8], at: usize) -> Line<'static>
     ensures { spelled result ≡ oas_fault what.now at }
 {
     [
@@ -55,12 +55,12 @@ fn fault_at(what: &[u8], at: usize) -> Line<'_>
     ]
 }
 
-// The line that begins so, with an offset and a word.
-fn word_at<'a>(begin: &'a [u8], at: usize, word: &'a [u8]) -> Line<'a>
-    ensures { spelled result ≡ oas_word begin.now at word.now }
+// The line of a fault of this name at an offset, with a word.
+fn word_at(what: &'static [u8], at: usize, word: &'static [u8]) -> Line<'static>
+    ensures { spelled result ≡ oas_word what.now at word.now }
 {
     [
-        Piece::Text(begin),
+        Piece::Text(what),
         Piece::Count(at as u128),
         Piece::Text(b" "),
         Piece::Text(word),
@@ -68,8 +68,21 @@ fn word_at<'a>(begin: &'a [u8], at: usize, word: &'a [u8]) -> Line<'a>
     ]
 }
 
+// The line of a fault of this name at an offset, with a second number behind a text.
+fn number_at(what: &'static [u8], at: usize, between: &'static [u8], number: usize) -> Line<'static>
+    ensures { spelled result ≡ oas_number what.now at between.now number }
+{
+    [
+        Piece::Text(what),
+        Piece::Count(at as u128),
+        Piece::Text(between),
+        Piece::Count(number as u128),
+        Piece::Text(b"\n"),
+    ]
+}
+
 // The line of one piece.
-fn whole(text: &[u8]) -> Line<'_>
+fn whole(text: &'static [u8]) -> Line<'static>
     ensures { spelled result ≡ text.now }
 {
     [
@@ -81,36 +94,27 @@ fn whole(text: &[u8]) -> Line<'_>
     ]
 }
 
+// How the lines of four kinds of faults begin.
+const RECORD: &[u8] = b"layout refused: oasis record at ";
+
+const UNDEFINED: &[u8] = b"layout refused: oasis undefined at ";
+
+const VALUE: &[u8] = b"layout refused: oasis value at ";
+
+const NAMES: &[u8] = b"layout refused: oasis names at ";
+
 /// The line of an OASIS file's first fault. Want of memory has a line of its own.
 #[tactic(auto, unfolding(crate::specs::Lines::oas_line))]
-pub fn oas_line(bad: &OasBad) -> Line<'_>
+pub fn oas_line(bad: &OasBad) -> Line<'static>
     ensures { spelled result ≡ oas_line bad.now }
 {
     match bad {
         OasBad::Magic => whole(b"layout refused: oasis magic\n"),
-        OasBad::Lexical(at, cause) => {
-            word_at(b"layout refused: oasis record at ", *at, cause_name(*cause))
-        }
+        OasBad::Lexical(at, cause) => word_at(RECORD, *at, cause_name(*cause)),
         OasBad::Order(at) => fault_at(b"order", *at),
-        OasBad::Undefined(at, variable) => word_at(
-            b"layout refused: oasis undefined at ",
-            *at,
-            variable_name(*variable),
-        ),
-        OasBad::Value(at, rule) => [
-            Piece::Text(b"layout refused: oasis value at "),
-            Piece::Count(*at as u128),
-            Piece::Text(b" rule "),
-            Piece::Count(u128::from(*rule)),
-            Piece::Text(b"\n"),
-        ],
-        OasBad::Names(first, second) => [
-            Piece::Text(b"layout refused: oasis names at "),
-            Piece::Count(*first as u128),
-            Piece::Text(b" and "),
-            Piece::Count(*second as u128),
-            Piece::Text(b"\n"),
-        ],
+        OasBad::Undefined(at, variable) => word_at(UNDEFINED, *at, variable_name(*variable)),
+        OasBad::Value(at, rule) => number_at(VALUE, *at, b" rule ", usize::from(*rule)),
+        OasBad::Names(first, second) => number_at(NAMES, *first, b" and ", *second),
         OasBad::Tail(at) => fault_at(b"tail", *at),
         OasBad::Unit(at) => fault_at(b"unit", *at),
         OasBad::NoMemory => whole(b"want of memory\n"),
