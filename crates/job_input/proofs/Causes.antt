@@ -16,7 +16,7 @@ use Rattle.deck_text.specs.Decks.{IsDeck, layers_of}
 use Rattle.deck_text.specs.declared.refusal.DeckBad.{DeckBad}
 use Rattle.deck_text.specs.declared.deck.Deck.{Deck}
 use Rattle.deck_text.proofs.ForCallers.{one_deck, one_fault as one_deck_fault, never_both}
-use Rattle.job_input.specs.Accepted.{Holds, HoldsDeck, BeginsAsOasis, IsLayoutFor, HoldsLayout, IsTreeFor}
+use Rattle.job_input.specs.Accepted.{Holds, HoldsDeck, IsLayoutFor, HoldsLayout, IsTreeFor}
 use Rattle.job_input.specs.Refused.{HoldsDeckFault, IsGdsFaultFor, IsOasFaultFor}
 use Rattle.job_input.specs.declared.formats.Format.{Format}
 use Rattle.job_input.specs.declared.formats.Format.TheVariants.{Gdsii, Oasis}

@@ -3,7 +3,7 @@ ghost use Rattle.std.specs.Prelude.{◌≡◌, ◌≢◌, ◌⊎◌, ℕ, List, 
 ghost use Rattle.depot.specs.Content.{IsNotThere, ChangesLeftOnly, with_left};
 ghost use Rattle.depot.specs.Counts.{NeverFall, Rose};
 ghost use Rattle.layout_model.specs.Layouts.{IsLayoutOnGrid};
-ghost use Rattle.job_input.specs.Accepted.{BeginsAsOasis, IsFormatOf, IsLayoutFor, IsTreeFor};
+ghost use Rattle.job_input.specs.Accepted.{IsFormatOf, IsLayoutFor, IsTreeFor};
 ghost use Rattle.job_input.specs.Clauses.{IsWantingOas};
 ghost use Rattle.job_input.specs.Parts.{IsLayoutTold, IsRootTold, IsTreeTold, IsTreeAnswer, IsRealLayout, LayoutCountsFor};
 
