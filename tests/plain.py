@@ -5,7 +5,8 @@
 
 Makes COUNT random small layouts and decks (100 where it is missing), and runs `fracture` on each with bands of 1,024,
 4,096 and 1,048,576 rows. Each triangle of the half grid must be in exactly one shot where it is in the area that the deck
-denotes, and in none otherwise; each shot must be within the limits and in one band; the report must count both right.
+denotes, and in none otherwise; each shot must be within the limits and in one band; the report must count both right. The
+same layout as an OASIS file must give the same shot files, byte for byte.
 
 What the area is is worked out here by the plain meaning of the deck's lines, with sets of triangles: the winding number of
 each polygon at a point of each triangle, sets for the operations, and for sizing each pair of near triangles. No band,
@@ -21,7 +22,7 @@ import subprocess
 import sys
 import tempfile
 
-GDS = os.path.join(os.path.dirname(os.path.abspath(__file__)), "..", "tools", "gds")
+TOOLS = os.path.join(os.path.dirname(os.path.abspath(__file__)), "..", "tools")
 BANDS = [1024, 4096, 1048576]
 # A sizing that would ask for more pairs than this is made smaller.
 MOST_PAIRS = 2_000_000
@@ -359,14 +360,33 @@ def fault_in_band(program, folder, steps, areas, frame, limits, band, outputs):
     return None
 
 
+def fault_in_oasis(program, folder, count):
+    """What differs where the same layout is read of an OASIS file, with the deck that was the last."""
+    names = [os.path.join(folder, f"out{k}.oas") for k in range(count)]
+    files = []
+    for name in names:
+        with open(name, "rb") as file:
+            files.append(file.read())
+        os.remove(name)
+    status, said = run([program, "fracture", "G.oas", "K"], folder)
+    if status != 0 or not said.startswith("format oasis\n"):
+        return f"OASIS: status {status}: {said}"
+    for k, name in enumerate(names):
+        with open(name, "rb") as file:
+            if file.read() != files[k]:
+                return f"OASIS: output {k} differs"
+    return None
+
+
 def compare(program, folder, seed):
     """What is wrong with the case of this seed, or nothing; and how many triangles were compared."""
     chance = random.Random(seed)
     layout, places = random_layout(chance)
     with open(os.path.join(folder, "layout.txt"), "w") as file:
         file.write(layout_text({name: layout[name] for name in sorted(layout)}))
-    with open(os.path.join(folder, "layout.txt")) as file:
-        subprocess.run([GDS, "G.gds"], cwd=folder, stdin=file, check=True)
+    for name in ("gds", "oas"):
+        with open(os.path.join(folder, "layout.txt")) as file:
+            subprocess.run([os.path.join(TOOLS, name), "G." + name], cwd=folder, stdin=file, check=True)
     polygons = list(flattened({name: [it[:6] for it in cell] for name, cell in layout.items()}, "TOP"))
     x, y = 2 * places[0][0], 2 * places[0][1]
     frame = (x - 17, y - 12, x + 15, y + 19)
@@ -378,7 +398,7 @@ def compare(program, folder, seed):
         fault = fault_in_band(program, folder, steps, areas, frame, limits, band, outputs)
         if fault:
             return f"band {band}: {fault}", triangles
-    return None, triangles
+    return fault_in_oasis(program, folder, len(outputs)), triangles
 
 
 def main(program, count=100, seed=1):

@@ -41,14 +41,19 @@ top='top TOP'
 layer='layer A 1 0'
 write='write A out.oas 1 0'
 
-# What a layout has, for its report.
+# The layout's file and its format, and what it has, for its report.
+file=G.gds
+format=gdsii
 cells=1
 kept=1
 other=0
+texts=0
+properties=0
 
 # report LINE..: the report of the layout, with these lines for its outputs
 report() {
-    printf 'format gdsii\ncells %d\nkept %d\nother %d\ntexts 0\nnodes 0\nboxes 0\nproperties 0\n' "$cells" "$kept" "$other"
+    printf 'format %s\ncells %d\nkept %d\nother %d\ntexts %d\nnodes 0\nboxes 0\nproperties %d\n' \
+        "$format" "$cells" "$kept" "$other" "$texts" "$properties"
     printf '%s\n' "$@"
 }
 
@@ -75,7 +80,7 @@ says() {
 # counts SHOTS TRIANGLES: `fracture` of layout and deck says the report with these sums
 counts() {
     rm -f out.oas
-    says 0 "$(report "output out.oas shots $1 triangles $2")"$'\n' fracture G.gds K
+    says 0 "$(report "output out.oas shots $1 triangles $2")"$'\n' fracture "$file" K
 }
 
 # row WHAT TRIANGLES SHOT..: `fracture` of layout and deck gives these shots
@@ -89,7 +94,7 @@ row() {
 # nothing_made STATUS LINE: `fracture` says this line alone, and makes no file
 nothing_made() {
     rm -f out.oas
-    says "$1" "$2"$'\n' fracture G.gds K && [ ! -e out.oas ]
+    says "$1" "$2"$'\n' fracture "$file" K && [ ! -e out.oas ]
 }
 
 # refused WHAT STATUS LINE
@@ -100,7 +105,7 @@ refused() {
 # accepted WHAT: `fracture` ends with status 0
 is_accepted() {
     rm -f out.oas
-    "$program" fracture G.gds K >said && [ -e out.oas ]
+    "$program" fracture "$file" K >said && [ -e out.oas ]
 }
 accepted() {
     check "$1" is_accepted
@@ -383,7 +388,7 @@ shot_file() {
 judged() {
     local before
     before=$(md5sum out.oas 2>/dev/null)
-    says "$1" "$2" check G.gds K && [ "$before" = "$(md5sum out.oas 2>/dev/null)" ]
+    says "$1" "$2" check "$file" K && [ "$before" = "$(md5sum out.oas 2>/dev/null)" ]
 }
 
 # exact WHAT HEX SHOTS TRIANGLES: the file with these records is exact
@@ -491,6 +496,130 @@ written_is_exact() {
     "$program" fracture G.gds K >said && "$program" check G.gds K >judged && cmp judged <(sed 's/^output /exact /' said)
 }
 check 'what fracture writes is exact' written_is_exact
+
+# ---- OASIS layouts
+
+file=G.oas
+format=oasis
+
+# bytes HEX: these bytes
+bytes() {
+    printf '%b' "$(sed 's/../\\x&/g' <<<"${1// /}")"
+}
+
+# oasis_file HEX: the layout G.oas of these bytes behind the magic ones
+oasis_file() {
+    {
+        printf '%%SEMI-OASIS\r\n'
+        bytes "$1"
+    } >G.oas
+}
+
+# START of 1,000 grid steps a micrometre, the cell TOP, and END
+start='01 03 31 2E 30 00 E8 07 00 00 00 00 00 00 00 00 00 00 00 00 00'
+cell='0E 03 54 4F 50'
+end="02 FC 01$(printf ' 00%.0s' {1..253})"
+
+# oasis HEX: the layout G.oas of the cell TOP with these records, the first at 39
+oasis() {
+    oasis_file "$start$cell$1$end"
+}
+
+# oasis_row WHAT HEX TEXT: the layout with these records is refused by this text
+oasis_row() {
+    oasis "$2"
+    refused "$1" 3 "layout refused: oasis $3"
+}
+
+deck "$unit" "$top" "$layer" "$write"
+rectangle='14 7B 01 00 0A 0A 00 00'
+oasis "$rectangle"
+row 'a rectangle' 800 '0 20 0 20 0 20'
+check 'a rectangle: bytes' cmp out.oas square.oas
+oasis_row 'a layer that was never written' '14 7A 00 0A 0A 00 00' 'undefined at 39 layer'
+oasis_row 'a layer that was written in another cell' "$rectangle 0E 01 41 14 7A 00 0A 0A 00 00" 'undefined at 50 layer'
+oasis "$rectangle 14 18 14 00"
+kept=2 row 'values of the rectangle before' 1600 '0 20 0 40 0 40'
+oasis '1A DB 01 00 10 05 00 00'
+row 'a triangle by its type' 100 '0 10 0 10 0 0'
+oasis '14 7F 01 00 0A 0A 00 00 01 01 00 14 1E'
+row 'three columns and two rows' 4800 \
+    '0 20 0 20 0 20' '0 20 40 60 40 60' '0 20 80 100 80 100' '60 80 0 20 0 20' '60 80 40 60 40 60' '60 80 80 100 80 100'
+oasis "$rectangle 1A 90 18 28"
+kept=2 row 'values of a record of another kind' 1600 '0 20 0 20 0 20' '0 20 40 60 40 60'
+oasis "$rectangle 14 7B 09 00 0A 0A 00 00 1B 3B 09 00 05 00 00 13 5B 01 41 05 00 00 00 1C 14 01 41 08 05"
+other=2 texts=1 properties=1 row 'what is counted and passed over' 800 '0 20 0 20 0 20'
+
+# properties and padding, a cell by its number, its name behind it, and the offsets of tables in END
+oasis_file "01 03 31 2E 30 00 E8 07 01 1C 14 04 54 45 53 54 08 05 0D 00 $rectangle 00 03 03 54 4F 50 02 $(printf ' 00%.0s' {1..12}) F0 01 $(printf ' 00%.0s' {1..241})"
+check 'names behind the cells: size' has_size G.oas 303
+properties=1 row 'names behind the cells' 800 '0 20 0 20 0 20'
+check 'names behind the cells: bytes' cmp out.oas square.oas
+
+# each beginning of that file is refused at the record that it cuts; that of no bytes is no OASIS file
+cp G.oas names.oas
+cut_oasis_is_refused() {
+    local length at=0 start
+    : >G.oas
+    nothing_made 3 'layout refused: gdsii short at 0' || return 1
+    for ((length = 1; length < 303; length++)); do
+        head -c "$length" names.oas >G.oas
+        if [ "$length" -lt 13 ]; then
+            nothing_made 3 'layout refused: oasis magic' || return 1
+            continue
+        fi
+        for start in 13 22 31 33 41 42 47; do
+            [ "$start" -gt "$length" ] || at=$start
+        done
+        nothing_made 3 "layout refused: oasis record at $at short" || return 1
+    done
+}
+check 'cut OASIS files' cut_oasis_is_refused
+
+oasis_row 'a compressed block' '22' 'record at 39 packed'
+oasis_row 'too wide a number' '14 01 FF FF FF FF FF FF FF FF FF 01' 'record at 39 wide'
+oasis_row 'no id of a record' '23' 'record at 39 kind'
+oasis_row 'no info byte of a polygon' '15 80' 'record at 39 shape'
+oasis_row 'a second START' "$start" 'order at 39'
+oasis_row 'a shape outside of cells' "03 01 41 $rectangle" 'order at 42'
+oasis_row 'enlarged by 17' '12 84 01 41 00 11' 'value at 39 rule 4'
+oasis_row 'turned by 45 degrees' '12 82 01 41 00 2D' 'value at 39 rule 5'
+oasis_row 'an edge at another angle' '15 3B 01 00 04 02 29 06 01 14 00 00' 'value at 39 rule 6'
+oasis_row 'a circle' '1B 3B 01 00 05 00 00' 'value at 39 rule 7'
+oasis_row 'too large a repetition' '14 7F 01 00 0A 0A 00 00 02 FF FF FF 07 01' 'value at 39 rule 11'
+oasis_row 'two cells of a name' "$rectangle $cell" 'names at 34 and 47'
+oasis_row 'a name for two numbers' '03 01 41 04 01 41 01' 'names at 39 and 42'
+oasis_file "$start 0D 00 $rectangle $end"
+refused 'a cell without a name' 3 'layout refused: oasis value at 34 rule 3'
+oasis_file "01 03 32 2E 30 00 E8 07 00 00 00 00 00 00 00 00 00 00 00 00 00 $cell $end"
+refused 'another version' 3 'layout refused: oasis value at 13 rule 9'
+oasis "$rectangle"
+printf '\0' >>G.oas
+refused 'a byte behind END' 3 'layout refused: oasis tail at 47'
+deck 'unit 2000' "$top" "$layer" "$write"
+oasis "$rectangle"
+refused 'another unit of OASIS' 3 'layout refused: oasis unit at 13'
+deck "$unit" 'top R' "$layer" "$write"
+refused 'no top cell in OASIS' 3 'layout refused: no cell R'
+printf '%%' >G.oas
+refused 'one byte' 3 'layout refused: oasis magic'
+
+# The same cells in GDSII, in OASIS, and in OASIS by numbers and in relative mode: the shot files are the same.
+deck "$unit" "$top" "$layer" 'grow E A 7 3' 'write E out.oas 1 0'
+layout 'cell C' "$small" 'path 1 0 type=2 width=4 10,10 20,10 20,30' 'cell TOP' \
+    'aref C flip angle=270 size=3x2 100,200 190,200 100,320' 'sref C mag=2 angle=90 -50,-60' "$square"
+is_same() {
+    rm -f out.oas
+    "$program" fracture "$1" K >said && cmp out.oas gds.oas
+}
+file=G.gds accepted 'cells in GDSII'
+cp out.oas gds.oas
+shapes='15 3B 01 00 03 02 20 21 00 00 16 FB 01 00 02 0A 02 02 28 51 14 14'
+oasis_file "$start 0E 01 43 $shapes $cell 11 BF 01 43 C8 01 90 03 01 01 00 1E 3C 12 B6 01 43 00 02 00 5A 65 79 $rectangle $end"
+check 'the same cells in OASIS' is_same G.oas
+check 'the same cells in OASIS: check' judged 0 "$(sed -e 's/^output /exact /' said)"$'\n'
+oasis_file "$start 0D 00 $shapes 0D 01 10 11 FF 00 C8 01 90 03 01 01 00 1E 3C 12 36 00 02 00 5A AD 02 89 04 $rectangle 03 01 43 03 03 54 4F 50 $end"
+check 'the same cells by numbers, in relative mode' is_same G.oas
 
 printf '%d rows passed, %d failed\n' "$passed" "$failed"
 [ "$failed" -eq 0 ]

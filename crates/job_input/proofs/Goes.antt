@@ -4,10 +4,11 @@ use Rattle.depot.specs.Content.{Content, with_left}
 use Rattle.depot.specs.Counts.{Counts, Rose}
 use Rattle.layout_model.specs.Layouts.{IsLayoutOnGrid}
 use Rattle.layout_model.specs.declared.cells.Layout.{Layout}
-use Rattle.cell_tree.specs.Trees.{Rooted}
 use Rattle.deck_text.specs.declared.deck.Deck.{Deck}
 use Rattle.job_input.specs.Accepted.{Holds, HoldsDeck, HoldsLayout, IsTreeFor, HoldsInput}
 use Rattle.job_input.specs.Parts.{IsTreeAnswer, IsInputAnswer, layout_refused}
+use Rattle.job_input.specs.declared.formats.Format.{Format}
+use Rattle.job_input.specs.declared.layouts.Found.{Found}
 use Rattle.job_input.specs.declared.refusing.LayoutBad.{LayoutBad}
 use Rattle.job_input.specs.declared.refusing.LayoutBad.TheVariants as layouts
 use Rattle.job_input.specs.declared.refusing.LayoutFault.TheVariants as layout_faults
@@ -16,18 +17,18 @@ use Rattle.job_input.specs.declared.refusing.LayoutFault.TheVariants as layout_f
 same_held : (c : Content) (name : List ℕ) (limit : ℕ) (bytes : List ℕ) → Holds (with_left c []) name limit bytes → Holds c name limit bytes
 same_held c name limit bytes h = record { held = h.held; short = h.short }
 
-pub same_layout : (c : Content) (layout : List ℕ) (d : Deck) (l : Layout) → HoldsLayout (with_left c []) layout d l → HoldsLayout c layout d l
-same_layout c layout d l h = record { bytes = h.bytes; holds = same_held c layout 268435456 h.bytes h.holds; is_layout = h.is_layout }
+pub same_layout : (c : Content) (layout : List ℕ) (d : Deck) (f : Format) (l : Layout) → HoldsLayout (with_left c []) layout d f l → HoldsLayout c layout d f l
+same_layout c layout d f l h = record { bytes = h.bytes; holds = same_held c layout 268435456 h.bytes h.holds; is_layout = h.is_layout }
 
 refused_here : (c : Content) (read_rose : Type 0) (layout deck : List ℕ) (d : Deck) (bad : LayoutBad) → HoldsDeck c layout deck d
     → IsTreeAnswer (with_left c []) read_rose layout d (Err bad) → IsInputAnswer c read_rose layout deck (Err (layout_refused bad d.top))
 refused_here c read_rose layout deck d (layouts.Refused layout_faults.Long) holds a = record { deck_is = d; top_is = refl; holds_deck = holds; long = a }
-refused_here c read_rose layout deck d (layouts.Refused layout_faults.Early) holds (bytes, h, oasis) =
-    record { deck_is = d; top_is = refl; holds_deck = holds; bytes = bytes; holds = same_held c layout 268435456 bytes h; oasis = oasis }
 refused_here c read_rose layout deck d (layouts.Refused (layout_faults.Gds bad)) holds (bytes, h, fault) =
     record { deck_is = d; top_is = refl; holds_deck = holds; bytes = bytes; holds = same_held c layout 268435456 bytes h; fault = fault }
-refused_here c read_rose layout deck d (layouts.Refused (layout_faults.Tree bad)) holds (l, h, fault, grid) =
-    (record { deck_is = d; top_is = refl; holds_deck = holds; layout_is = l; holds_layout = same_layout c layout d l h; fault = fault }, grid)
+refused_here c read_rose layout deck d (layouts.Refused (layout_faults.Oas bad)) holds (bytes, h, fault) =
+    record { deck_is = d; top_is = refl; holds_deck = holds; bytes = bytes; holds = same_held c layout 268435456 bytes h; fault = fault }
+refused_here c read_rose layout deck d (layouts.Refused (layout_faults.Tree bad)) holds (f, l, h, fault, grid) =
+    (record { deck_is = d; top_is = refl; holds_deck = holds; format_is = f; layout_is = l; holds_layout = same_layout c layout d f l h; fault = fault }, grid)
 refused_here c read_rose layout deck d layouts.ReadFault holds (inl rose) = inl rose
 refused_here c read_rose layout deck d layouts.ReadFault holds (inr missing) = inr (inr (record { deck_is = d; holds_deck = holds; missing = missing }))
 refused_here c read_rose layout deck d layouts.NoMemory holds a = tt
@@ -41,12 +42,15 @@ refused_for c m o n p layout deck d bad holds left same a =
     (subst (λ (x : Counts). IsTreeAnswer (with_left c []) (Rose x.read_faults p.read_faults) layout d (Err bad)) same
     (subst (λ (x : Content). IsTreeAnswer x (Rose n.read_faults p.read_faults) layout d (Err bad)) left a))
 
-given_here : (c : Content) (layout deck : List ℕ) (d : Deck) (t : Rooted) → HoldsDeck c layout deck d → HoldsLayout (with_left c []) layout d t.layout × IsTreeFor d t × IsLayoutOnGrid t.layout
-    → HoldsInput c layout deck (record { deck = d; tree = t }) × IsLayoutOnGrid t.layout
-given_here c layout deck d t holds (h, tree, grid) = (record { holds_deck = holds; holds_layout = same_layout c layout d t.layout h; is_tree = tree }, grid)
+given_here : (c : Content) (layout deck : List ℕ) (d : Deck) (x : Found) → HoldsDeck c layout deck d
+    → HoldsLayout (with_left c []) layout d x.format x.tree.layout × IsTreeFor d x.tree × IsLayoutOnGrid x.tree.layout
+    → HoldsInput c layout deck (record { deck = d; format = x.format; tree = x.tree }) × IsLayoutOnGrid x.tree.layout
+given_here c layout deck d x holds (h, tree, grid) =
+    (record { holds_deck = holds; holds_layout = same_layout c layout d x.format x.tree.layout h; is_tree = tree }, grid)
 
 -- what is told of an accepted layout is told of both
-pub given_for : (c m : Content) (layout deck : List ℕ) (d : Deck) (t : Rooted) → HoldsDeck c layout deck d → m ≡ with_left c []
-    → HoldsLayout m layout d t.layout × IsTreeFor d t × IsLayoutOnGrid t.layout → HoldsInput c layout deck (record { deck = d; tree = t }) × IsLayoutOnGrid t.layout
-given_for c m layout deck d t holds left a =
-    given_here c layout deck d t holds (subst (λ (x : Content). HoldsLayout x layout d t.layout × IsTreeFor d t × IsLayoutOnGrid t.layout) left a)
+pub given_for : (c m : Content) (layout deck : List ℕ) (d : Deck) (x : Found) → HoldsDeck c layout deck d → m ≡ with_left c []
+    → HoldsLayout m layout d x.format x.tree.layout × IsTreeFor d x.tree × IsLayoutOnGrid x.tree.layout
+    → HoldsInput c layout deck (record { deck = d; format = x.format; tree = x.tree }) × IsLayoutOnGrid x.tree.layout
+given_for c m layout deck d x holds left a =
+    given_here c layout deck d x holds (subst (λ (y : Content). HoldsLayout y layout d x.format x.tree.layout × IsTreeFor d x.tree × IsLayoutOnGrid x.tree.layout) left a)

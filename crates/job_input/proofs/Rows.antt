@@ -5,6 +5,7 @@ use Rattle.depot.specs.Content.{Content, IsLongerThan}
 use Rattle.layout_model.specs.Layouts.{IsLayoutOnGrid}
 use Rattle.layout_model.specs.declared.cells.Layout.{Layout}
 use Rattle.gds_reader.specs.declared.refusing.GdsBad.{GdsBad}
+use Rattle.oas_reader.specs.declared.refusing.OasBad.{OasBad}
 use Rattle.cell_tree.specs.Trees.{Rooted}
 use Rattle.cell_tree.specs.Faults.{IsFirstFault, order_of}
 use Rattle.cell_tree.specs.declared.faults.TreeBad.{TreeBad}
@@ -12,14 +13,15 @@ use Rattle.cell_tree.proofs.ForCallers.{no_fault, answered}
 use Rattle.deck_text.specs.declared.refusal.DeckBad.{DeckBad}
 use Rattle.deck_text.specs.declared.deck.Deck.{Deck}
 use Rattle.job_input.specs.Accepted.{IsTreeFor, HoldsInput}
-use Rattle.job_input.specs.Refused.{HoldsDeckFault, IsLongLayout, HoldsOasis, HoldsGdsFault, IsTreeFaultFor, HoldsTreeFault, IsWanting}
+use Rattle.job_input.specs.Refused.{HoldsDeckFault, IsLongLayout, HoldsGdsFault, HoldsOasFault, IsTreeFaultFor, HoldsTreeFault, IsWanting}
 use Rattle.job_input.specs.Clauses.{Answer, ComesExactlyWhere, IsOfKind, ComesByKind}
 use Rattle.job_input.specs.Parts.{IsInputAnswer}
+use Rattle.job_input.specs.declared.formats.Format.{Format}
 use Rattle.job_input.specs.declared.reading.Input.{Input}
 use Rattle.job_input.specs.declared.refusing.InputBad.TheVariants as answers
 use Rattle.job_input.specs.declared.refusing.DeckFault.TheVariants as deck_faults
 use Rattle.job_input.specs.declared.refusing.LayoutFault.TheVariants as layout_faults
-use Rattle.job_input.proofs.Causes.{LayoutClass, NoLayout, LongLayout, OasisLayout, GdsFault, GoodLayout, Class, NoDeck, LongDeck, BadDeck, GoodDeck, IsClass, one_class, same_root}
+use Rattle.job_input.proofs.Causes.{LayoutClass, NoLayout, LongLayout, GdsFault, OasFault, GoodLayout, Class, NoDeck, LongDeck, BadDeck, GoodDeck, IsClass, OasisLaws, one_class, same_root}
 
 -- ---- the tree
 
@@ -42,18 +44,18 @@ no_tree_fault d t bad grid tree (inr (n, e, some, first)) =
 -- ---- what is due
 
 -- the tree of a layout, or a fault of it
-abbrev DueTree : Deck → Layout → Answer → Type 0
-DueTree d l r =
+abbrev DueTree : Deck → Format → Layout → Answer → Type 0
+DueTree d f l r =
     IsLayoutOnGrid l
-    × (((t : Rooted) × (t.layout ≡ l) × IsTreeFor d t × (r ≡ Ok (record { deck = d; tree = t })))
+    × (((t : Rooted) × (t.layout ≡ l) × IsTreeFor d t × (r ≡ Ok (record { deck = d; format = f; tree = t })))
     ⊎ ((bad : TreeBad) × IsTreeFaultFor d l bad × (r ≡ Err (answers.Layout (layout_faults.Tree bad) d.top))))
 
 abbrev DueLayout : Deck → LayoutClass → Answer → Type 0
 DueLayout d NoLayout r = r ≡ Err answers.ReadFault
 DueLayout d LongLayout r = r ≡ Err (answers.Layout layout_faults.Long d.top)
-DueLayout d OasisLayout r = r ≡ Err (answers.Layout layout_faults.Early d.top)
 DueLayout d (GdsFault bad) r = r ≡ Err (answers.Layout (layout_faults.Gds bad) d.top)
-DueLayout d (GoodLayout l) r = DueTree d l r
+DueLayout d (OasFault bad) r = r ≡ Err (answers.Layout (layout_faults.Oas bad) d.top)
+DueLayout d (GoodLayout f l) r = DueTree d f l r
 
 abbrev Due : Class → Answer → Type 0
 Due NoDeck r = r ≡ Err answers.ReadFault
@@ -65,29 +67,29 @@ Due (GoodDeck d x) r = DueLayout d x r
 abbrev Aside : Type 0 → Answer → Type 0
 Aside read_rose r = (r ≡ Err answers.NoMemory) ⊎ ((r ≡ Err answers.ReadFault) × read_rose)
 
-module _ (c : Content) (read_rose : Type 0) (layout deck : List ℕ) where
+module _ (laws : OasisLaws) (c : Content) (read_rose : Type 0) (layout deck : List ℕ) where
   abbrev Settled : Answer → Type 0
   Settled r = ((y : Class) × IsClass c layout deck y × Due y r) ⊎ Aside read_rose r
 
   settled : (r : Answer) → IsInputAnswer c read_rose layout deck r → Settled r
-  settled (Ok input) (h, grid) = inl (GoodDeck input.deck (GoodLayout input.tree.layout), (h.holds_deck, h.holds_layout), (grid, inl (input.tree, refl, h.is_tree, refl)))
+  settled (Ok input) (h, grid) = inl (GoodDeck input.deck (GoodLayout input.format input.tree.layout), (h.holds_deck, h.holds_layout), (grid, inl (input.tree, refl, h.is_tree, refl)))
   settled (Err (answers.Deck deck_faults.Long)) a = inl (LongDeck, a, refl)
   settled (Err (answers.Deck (deck_faults.Bad bad))) a = inl (BadDeck bad, a, refl)
   settled (Err (answers.Layout layout_faults.Long top)) a =
       inl (GoodDeck a.deck_is LongLayout, (a.holds_deck, a.long), ap (λ (t : List ℕ). Err (answers.Layout layout_faults.Long t)) a.top_is)
-  settled (Err (answers.Layout layout_faults.Early top)) a =
-      inl (GoodDeck a.deck_is OasisLayout, (a.holds_deck, (a.bytes, a.holds, a.oasis)), ap (λ (t : List ℕ). Err (answers.Layout layout_faults.Early t)) a.top_is)
   settled (Err (answers.Layout (layout_faults.Gds bad) top)) a =
       inl (GoodDeck a.deck_is (GdsFault bad), (a.holds_deck, (a.bytes, a.holds, a.fault)), ap (λ (t : List ℕ). Err (answers.Layout (layout_faults.Gds bad) t)) a.top_is)
+  settled (Err (answers.Layout (layout_faults.Oas bad) top)) a =
+      inl (GoodDeck a.deck_is (OasFault bad), (a.holds_deck, (a.bytes, a.holds, a.fault)), ap (λ (t : List ℕ). Err (answers.Layout (layout_faults.Oas bad) t)) a.top_is)
   settled (Err (answers.Layout (layout_faults.Tree bad) top)) (a, grid) =
-      inl (GoodDeck a.deck_is (GoodLayout a.layout_is), (a.holds_deck, a.holds_layout), (grid, inr (bad, a.fault, ap (λ (t : List ℕ). Err (answers.Layout (layout_faults.Tree bad) t)) a.top_is)))
+      inl (GoodDeck a.deck_is (GoodLayout a.format_is a.layout_is), (a.holds_deck, a.holds_layout), (grid, inr (bad, a.fault, ap (λ (t : List ℕ). Err (answers.Layout (layout_faults.Tree bad) t)) a.top_is)))
   settled (Err answers.ReadFault) (inl rose) = inr (inr (refl, rose))
   settled (Err answers.ReadFault) (inr (inl missing)) = inl (NoDeck, missing, refl)
   settled (Err answers.ReadFault) (inr (inr a)) = inl (GoodDeck a.deck_is NoLayout, (a.holds_deck, a.missing), refl)
   settled (Err answers.NoMemory) a = inr (inl refl)
 
   due_by : (x : Class) (r : Answer) → IsClass c layout deck x → Settled r → Due x r ⊎ Aside read_rose r
-  due_by x r holds (inl (y, is, due)) = inl (subst (λ (z : Class). Due z r) (one_class c layout deck y x is holds) due)
+  due_by x r holds (inl (y, is, due)) = inl (subst (λ (z : Class). Due z r) (one_class laws c layout deck y x is holds) due)
   due_by x r holds (inr aside) = inr aside
 
   module _ (r : Answer) (a : IsInputAnswer c read_rose layout deck r) where
@@ -114,44 +116,44 @@ module _ (c : Content) (read_rose : Type 0) (layout deck : List ℕ) where
       whenever = λ h. named (λ t. Err (answers.Layout layout_faults.Long t)) h.deck_is.top top h.top_is (due (GoodDeck h.deck_is LongLayout) (h.holds_deck, h.long));
     }
 
-    pub layout_early : (top : List ℕ) → ComesExactlyWhere read_rose r (Err (answers.Layout layout_faults.Early top)) (HoldsOasis c layout deck top)
-    layout_early top = record {
-      only = λ e. told (Err (answers.Layout layout_faults.Early top)) e;
-      whenever = λ h. named (λ t. Err (answers.Layout layout_faults.Early t)) h.deck_is.top top h.top_is (due (GoodDeck h.deck_is OasisLayout) (h.holds_deck, (h.bytes, h.holds, h.oasis)));
-    }
-
     pub layout_gds : (bad : GdsBad) (top : List ℕ) → ComesExactlyWhere read_rose r (Err (answers.Layout (layout_faults.Gds bad) top)) (HoldsGdsFault c layout deck bad top)
     layout_gds bad top = record {
       only = λ e. told (Err (answers.Layout (layout_faults.Gds bad) top)) e;
       whenever = λ h. named (λ t. Err (answers.Layout (layout_faults.Gds bad) t)) h.deck_is.top top h.top_is (due (GoodDeck h.deck_is (GdsFault bad)) (h.holds_deck, (h.bytes, h.holds, h.fault)));
     }
 
-    of_kind : (d : Deck) (l : Layout) (bad : TreeBad) (top : List ℕ) → top ≡ d.top → IsTreeFaultFor d l bad → DueTree d l r ⊎ Aside read_rose r → IsOfKind bad top r ⊎ Aside read_rose r
-    of_kind d l bad top same fault (inl (grid, inl (t, of, tree, e))) =
+    pub layout_oas : (bad : OasBad) (top : List ℕ) → ComesExactlyWhere read_rose r (Err (answers.Layout (layout_faults.Oas bad) top)) (HoldsOasFault c layout deck bad top)
+    layout_oas bad top = record {
+      only = λ e. told (Err (answers.Layout (layout_faults.Oas bad) top)) e;
+      whenever = λ h. named (λ t. Err (answers.Layout (layout_faults.Oas bad) t)) h.deck_is.top top h.top_is (due (GoodDeck h.deck_is (OasFault bad)) (h.holds_deck, (h.bytes, h.holds, h.fault)));
+    }
+
+    of_kind : (d : Deck) (f : Format) (l : Layout) (bad : TreeBad) (top : List ℕ) → top ≡ d.top → IsTreeFaultFor d l bad → DueTree d f l r ⊎ Aside read_rose r → IsOfKind bad top r ⊎ Aside read_rose r
+    of_kind d f l bad top same fault (inl (grid, inl (t, of, tree, e))) =
         absurd (no_tree_fault d t bad (subst IsLayoutOnGrid (sym of) grid) tree (subst (λ (m : Layout). IsTreeFaultFor d m bad) (sym of) fault))
-    of_kind d l bad top same fault (inl (grid, inr (other, there, e))) = inl (record {
+    of_kind d f l bad top same fault (inl (grid, inr (other, there, e))) = inl (record {
       other = other;
       answer = e ∙ ap (λ (t : List ℕ). Err (answers.Layout (layout_faults.Tree other) t)) (sym same);
       same = one_kind d l bad other grid fault there;
     })
-    of_kind d l bad top same fault (inr aside) = inr aside
+    of_kind d f l bad top same fault (inr aside) = inr aside
 
     pub layout_tree : (bad : TreeBad) (top : List ℕ) → ComesByKind read_rose r bad top (HoldsTreeFault c layout deck bad top)
     layout_tree bad top = record {
       only = λ e. (told (Err (answers.Layout (layout_faults.Tree bad) top)) e).0;
-      whenever = λ h. of_kind h.deck_is h.layout_is bad top h.top_is h.fault (due (GoodDeck h.deck_is (GoodLayout h.layout_is)) (h.holds_deck, h.holds_layout));
+      whenever = λ h. of_kind h.deck_is h.format_is h.layout_is bad top h.top_is h.fault (due (GoodDeck h.deck_is (GoodLayout h.format_is h.layout_is)) (h.holds_deck, h.holds_layout));
     }
 
-    given_by : (input : Input) → HoldsInput c layout deck input → DueTree input.deck input.tree.layout r ⊎ Aside read_rose r → (r ≡ Ok input) ⊎ Aside read_rose r
+    given_by : (input : Input) → HoldsInput c layout deck input → DueTree input.deck input.format input.tree.layout r ⊎ Aside read_rose r → (r ≡ Ok input) ⊎ Aside read_rose r
     given_by input h (inl (grid, inl (t, of, tree, e))) =
-        inl (e ∙ ap (λ (u : Rooted). Ok (record { deck = input.deck; tree = u })) (same_root input.deck t input.tree of tree h.is_tree))
+        inl (e ∙ ap (λ (u : Rooted). Ok (record { deck = input.deck; format = input.format; tree = u })) (same_root input.deck t input.tree of tree h.is_tree))
     given_by input h (inl (grid, inr (bad, fault, e))) = absurd (no_tree_fault input.deck input.tree bad grid h.is_tree fault)
     given_by input h (inr aside) = inr aside
 
     pub given : (input : Input) → ComesExactlyWhere read_rose r (Ok input) (HoldsInput c layout deck input)
     given input = record {
       only = λ e. (told (Ok input) e).0;
-      whenever = λ h. given_by input h (due (GoodDeck input.deck (GoodLayout input.tree.layout)) (h.holds_deck, h.holds_layout));
+      whenever = λ h. given_by input h (due (GoodDeck input.deck (GoodLayout input.format input.tree.layout)) (h.holds_deck, h.holds_layout));
     }
 
     faulted : (r ≡ Err answers.ReadFault) ⊎ Aside read_rose r → (r ≡ Err answers.ReadFault) ⊎ (r ≡ Err answers.NoMemory)

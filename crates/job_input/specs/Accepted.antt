@@ -9,11 +9,15 @@
 use Rattle.std.specs.Prelude.{◌≡◌, ℕ, ◌≤◌, List, length, slice_get, Some}
 use Rattle.depot.specs.Content.{Content, held_as}
 use Rattle.layout_model.specs.declared.cells.Layout.{Layout}
-use Rattle.gds_reader.specs.Reading.{IsLayoutOf}
+use Rattle.layout_model.specs.declared.pair.Pair.{Pair}
+use Rattle.gds_reader.specs.Reading.{IsLayoutOf as IsGdsLayoutOf}
+use Rattle.oas_reader.specs.Reading.{IsLayoutOf as IsOasLayoutOf}
 use Rattle.cell_tree.specs.Cells.{cell_number}
 use Rattle.cell_tree.specs.Trees.{IsTree, Rooted}
 use Rattle.deck_text.specs.Decks.{IsDeck, layers_of}
 use Rattle.deck_text.specs.declared.deck.Deck.{Deck}
+use Rattle.job_input.specs.declared.formats.Format.{Format}
+use Rattle.job_input.specs.declared.formats.Format.TheVariants.{Gdsii, Oasis}
 use Rattle.job_input.specs.declared.reading.Input.{Input}
 
 -- the name holds these bytes, which are at most so many
@@ -31,16 +35,26 @@ pub record HoldsDeck (c : Content) (layout deck : List ℕ) (d : Deck) : Type 0 
 abbrev pub BeginsAsOasis : List ℕ → Type 0
 BeginsAsOasis bytes = slice_get bytes 0 ≡ Some 0x25
 
--- the bytes are a GDSII file with this layout, of the deck's unit and with the shapes on the deck's layers
-pub record IsLayoutFor (d : Deck) (bytes : List ℕ) (l : Layout) : Type 0 where
-  pub not_oasis : BeginsAsOasis bytes → ⊥
-  pub is_layout : IsLayoutOf bytes d.unit (layers_of d.steps) l
+-- the format of a file, by its first byte
+abbrev pub IsFormatOf : List ℕ → Format → Type 0
+IsFormatOf bytes Gdsii = BeginsAsOasis bytes → ⊥
+IsFormatOf bytes Oasis = BeginsAsOasis bytes
 
--- the name holds this layout
-pub record HoldsLayout (c : Content) (layout : List ℕ) (d : Deck) (l : Layout) : Type 0 where
+-- the bytes of a file of this format hold this layout, with so many grid steps in a micrometre and the shapes on these pairs
+abbrev pub IsLayoutIn : Format → List ℕ → ℕ → List Pair → Layout → Type 0
+IsLayoutIn Gdsii bytes unit wanted l = IsGdsLayoutOf bytes unit wanted l
+IsLayoutIn Oasis bytes unit wanted l = IsOasLayoutOf bytes unit wanted l
+
+-- the bytes are a file of this format with this layout, of the deck's unit and with the shapes on the deck's layers
+pub record IsLayoutFor (d : Deck) (bytes : List ℕ) (f : Format) (l : Layout) : Type 0 where
+  pub is_format : IsFormatOf bytes f
+  pub is_layout : IsLayoutIn f bytes d.unit (layers_of d.steps) l
+
+-- the name holds this layout, in a file of this format
+pub record HoldsLayout (c : Content) (layout : List ℕ) (d : Deck) (f : Format) (l : Layout) : Type 0 where
   pub bytes : List ℕ
   pub holds : Holds c layout 268435456 bytes
-  pub is_layout : IsLayoutFor d bytes l
+  pub is_layout : IsLayoutFor d bytes f l
 
 -- the layout's cells below the deck's top cell, which has this number, are a tree within the limits
 pub record IsTreeFor (d : Deck) (t : Rooted) : Type 0 where
@@ -50,7 +64,7 @@ pub record IsTreeFor (d : Deck) (t : Rooted) : Type 0 where
 -- deck and layout are accepted, and say this
 pub record HoldsInput (c : Content) (layout deck : List ℕ) (input : Input) : Type 0 where
   pub holds_deck : HoldsDeck c layout deck input.deck
-  pub holds_layout : HoldsLayout c layout input.deck input.tree.layout
+  pub holds_layout : HoldsLayout c layout input.deck input.format input.tree.layout
   pub is_tree : IsTreeFor input.deck input.tree
 
 -- the deck and the layout of some bytes, whatever is told of where they stand
@@ -58,5 +72,5 @@ pub record IsOfBytes (layout deck : List ℕ) (input : Input) : Type 0 where
   pub deck_bytes : List ℕ
   pub is_deck : IsDeck deck_bytes layout deck input.deck
   pub layout_bytes : List ℕ
-  pub is_layout : IsLayoutFor input.deck layout_bytes input.tree.layout
+  pub is_layout : IsLayoutFor input.deck layout_bytes input.format input.tree.layout
   pub is_tree : IsTreeFor input.deck input.tree

@@ -6,6 +6,9 @@ use Rattle.cell_tree.specs.declared.faults.TreeBad.{TreeBad}
 use Rattle.cell_tree.specs.declared.faults.TreeBad.TheVariants as tree_faults
 use Rattle.deck_text.specs.declared.refusal.DeckBad.TheVariants as deck_bads
 use Rattle.gds_reader.specs.declared.refusing.GdsBad.TheVariants as gds_bads
+use Rattle.oas_record.specs.declared.faults.RecordBad.TheVariants as record_bads
+use Rattle.oas_reader.specs.declared.refusing.OasBad.{OasBad}
+use Rattle.oas_reader.specs.declared.refusing.OasBad.TheVariants as oas_bads
 use Rattle.job_input.specs.declared.reading.Input.{Input}
 use Rattle.job_input.specs.declared.refusing.InputBad.{InputBad}
 use Rattle.job_input.specs.declared.refusing.InputBad.TheVariants as answers
@@ -33,15 +36,21 @@ pub record ComesByKind (read_rose : Type 0) (result : Answer) (bad : TreeBad) (t
   pub only : result ≡ Err (answers.Layout (layout_faults.Tree bad) top) → cause
   pub whenever : cause → IsOfKind bad top result ⊎ (result ≡ Err answers.NoMemory) ⊎ ((result ≡ Err answers.ReadFault) × read_rose)
 
+-- the fault of an OASIS layout is want of memory, or that of a record
+abbrev pub IsWantingOas : OasBad → Type 0
+IsWantingOas oas_bads.NoMemory = ⊤
+IsWantingOas (oas_bads.Lexical at record_bads.NoMemory) = ⊤
+IsWantingOas bad = ⊥
+
 -- the fault that is kept isn't want of memory
 abbrev pub IsReal : InputBad → Type 0
 IsReal (answers.Deck deck_faults.Long) = ⊤
 IsReal (answers.Deck (deck_faults.Bad deck_bads.NoMemory)) = ⊥
 IsReal (answers.Deck (deck_faults.Bad bad)) = ⊤
 IsReal (answers.Layout layout_faults.Long top) = ⊤
-IsReal (answers.Layout layout_faults.Early top) = ⊤
 IsReal (answers.Layout (layout_faults.Gds gds_bads.NoMemory) top) = ⊥
 IsReal (answers.Layout (layout_faults.Gds bad) top) = ⊤
+IsReal (answers.Layout (layout_faults.Oas bad) top) = IsWantingOas bad → ⊥
 IsReal (answers.Layout (layout_faults.Tree tree_faults.NoMemory) top) = ⊥
 IsReal (answers.Layout (layout_faults.Tree bad) top) = ⊤
 IsReal answers.ReadFault = ⊤

@@ -7,9 +7,11 @@ use Rattle.layout_model.specs.declared.cells.Layout.{Layout}
 use Rattle.cell_tree.specs.Trees.{Rooted}
 use Rattle.deck_text.specs.Decks.{IsDeck, IsFirstFault}
 use Rattle.deck_text.specs.declared.deck.Deck.{Deck}
-use Rattle.job_input.specs.Accepted.{Holds, HoldsDeck, BeginsAsOasis, IsLayoutFor, HoldsLayout, IsTreeFor, HoldsInput}
-use Rattle.job_input.specs.Refused.{HoldsDeckFault, IsLongLayout, HoldsOasis, IsGdsFaultFor, HoldsGdsFault, IsTreeFaultFor, HoldsTreeFault, IsWanting}
-use Rattle.job_input.specs.Clauses.{Answer}
+use Rattle.job_input.specs.Accepted.{Holds, HoldsDeck, IsLayoutFor, HoldsLayout, IsTreeFor, HoldsInput}
+use Rattle.job_input.specs.Refused.{HoldsDeckFault, IsLongLayout, IsGdsFaultFor, HoldsGdsFault, IsOasFaultFor, HoldsOasFault, IsTreeFaultFor, HoldsTreeFault, IsWanting}
+use Rattle.job_input.specs.Clauses.{Answer, IsWantingOas}
+use Rattle.job_input.specs.declared.formats.Format.{Format}
+use Rattle.job_input.specs.declared.layouts.Found.{Found}
 use Rattle.job_input.specs.declared.refusing.InputBad.{InputBad}
 use Rattle.cell_tree.specs.declared.faults.TreeBad.TheVariants as tree_faults
 use Rattle.gds_reader.specs.declared.refusing.GdsBad.TheVariants as gds_bads
@@ -41,53 +43,56 @@ IsDeckAnswer c read_rose layout deck (Err answers.NoMemory) = ⊤
 
 -- ---- the layout, for an accepted deck
 
--- what is told of the bytes of a layout, its tree aside
-abbrev pub IsLayoutTold : Deck → List ℕ → Result Layout LayoutBad → Type 0
-IsLayoutTold d bytes (Ok l) = IsLayoutFor d bytes l
-IsLayoutTold d bytes (Err (layouts.Refused layout_faults.Long)) = ⊥
-IsLayoutTold d bytes (Err (layouts.Refused layout_faults.Early)) = BeginsAsOasis bytes
-IsLayoutTold d bytes (Err (layouts.Refused (layout_faults.Gds bad))) = IsGdsFaultFor d bytes bad
-IsLayoutTold d bytes (Err (layouts.Refused (layout_faults.Tree bad))) = ⊥
-IsLayoutTold d bytes (Err layouts.ReadFault) = ⊥
-IsLayoutTold d bytes (Err layouts.NoMemory) = ⊤
+-- what is told of the bytes of a layout in a file of this format, its tree aside
+abbrev pub IsLayoutTold : Deck → List ℕ → Format → Result Layout LayoutBad → Type 0
+IsLayoutTold d bytes f (Ok l) = IsLayoutFor d bytes f l
+IsLayoutTold d bytes f (Err (layouts.Refused layout_faults.Long)) = ⊥
+IsLayoutTold d bytes f (Err (layouts.Refused (layout_faults.Gds bad))) = IsGdsFaultFor d bytes bad
+IsLayoutTold d bytes f (Err (layouts.Refused (layout_faults.Oas bad))) = IsOasFaultFor d bytes bad
+IsLayoutTold d bytes f (Err (layouts.Refused (layout_faults.Tree bad))) = ⊥
+IsLayoutTold d bytes f (Err layouts.ReadFault) = ⊥
+IsLayoutTold d bytes f (Err layouts.NoMemory) = ⊤
 
 -- what is told of a layout's tree
 abbrev pub IsRootTold : Deck → Layout → Result Rooted LayoutBad → Type 0
 IsRootTold d l (Ok t) = (t.layout ≡ l) × IsTreeFor d t
 IsRootTold d l (Err (layouts.Refused layout_faults.Long)) = ⊥
-IsRootTold d l (Err (layouts.Refused layout_faults.Early)) = ⊥
 IsRootTold d l (Err (layouts.Refused (layout_faults.Gds bad))) = ⊥
+IsRootTold d l (Err (layouts.Refused (layout_faults.Oas bad))) = ⊥
 IsRootTold d l (Err (layouts.Refused (layout_faults.Tree bad))) = IsTreeFaultFor d l bad
 IsRootTold d l (Err layouts.ReadFault) = ⊥
 IsRootTold d l (Err layouts.NoMemory) = ⊤
 
 -- what is told of the bytes of a layout
-abbrev pub IsTreeTold : Deck → List ℕ → Result Rooted LayoutBad → Type 0
-IsTreeTold d bytes (Ok t) = IsLayoutFor d bytes t.layout × IsTreeFor d t × IsLayoutOnGrid t.layout
+abbrev pub IsTreeTold : Deck → List ℕ → Result Found LayoutBad → Type 0
+IsTreeTold d bytes (Ok x) = IsLayoutFor d bytes x.format x.tree.layout × IsTreeFor d x.tree × IsLayoutOnGrid x.tree.layout
 IsTreeTold d bytes (Err (layouts.Refused layout_faults.Long)) = ⊥
-IsTreeTold d bytes (Err (layouts.Refused layout_faults.Early)) = BeginsAsOasis bytes
 IsTreeTold d bytes (Err (layouts.Refused (layout_faults.Gds bad))) = IsGdsFaultFor d bytes bad
-IsTreeTold d bytes (Err (layouts.Refused (layout_faults.Tree bad))) = (l : Layout) × IsLayoutFor d bytes l × IsTreeFaultFor d l bad × IsLayoutOnGrid l
+IsTreeTold d bytes (Err (layouts.Refused (layout_faults.Oas bad))) = IsOasFaultFor d bytes bad
+IsTreeTold d bytes (Err (layouts.Refused (layout_faults.Tree bad))) =
+    (f : Format) × (l : Layout) × IsLayoutFor d bytes f l × IsTreeFaultFor d l bad × IsLayoutOnGrid l
 IsTreeTold d bytes (Err layouts.ReadFault) = ⊥
 IsTreeTold d bytes (Err layouts.NoMemory) = ⊤
 
 -- what is told of the layout's name
-abbrev pub IsTreeAnswer : Content → (read_rose : Type 0) → List ℕ → Deck → Result Rooted LayoutBad → Type 0
-IsTreeAnswer c read_rose layout d (Ok t) = HoldsLayout c layout d t.layout × IsTreeFor d t × IsLayoutOnGrid t.layout
+abbrev pub IsTreeAnswer : Content → (read_rose : Type 0) → List ℕ → Deck → Result Found LayoutBad → Type 0
+IsTreeAnswer c read_rose layout d (Ok x) = HoldsLayout c layout d x.format x.tree.layout × IsTreeFor d x.tree × IsLayoutOnGrid x.tree.layout
 IsTreeAnswer c read_rose layout d (Err (layouts.Refused layout_faults.Long)) = IsLongerThan 268435456 c layout
-IsTreeAnswer c read_rose layout d (Err (layouts.Refused layout_faults.Early)) = (bytes : List ℕ) × Holds c layout 268435456 bytes × BeginsAsOasis bytes
 IsTreeAnswer c read_rose layout d (Err (layouts.Refused (layout_faults.Gds bad))) =
     (bytes : List ℕ) × Holds c layout 268435456 bytes × IsGdsFaultFor d bytes bad
-IsTreeAnswer c read_rose layout d (Err (layouts.Refused (layout_faults.Tree bad))) = (l : Layout) × HoldsLayout c layout d l × IsTreeFaultFor d l bad × IsLayoutOnGrid l
+IsTreeAnswer c read_rose layout d (Err (layouts.Refused (layout_faults.Oas bad))) =
+    (bytes : List ℕ) × Holds c layout 268435456 bytes × IsOasFaultFor d bytes bad
+IsTreeAnswer c read_rose layout d (Err (layouts.Refused (layout_faults.Tree bad))) =
+    (f : Format) × (l : Layout) × HoldsLayout c layout d f l × IsTreeFaultFor d l bad × IsLayoutOnGrid l
 IsTreeAnswer c read_rose layout d (Err layouts.ReadFault) = read_rose ⊎ IsNotThere c layout
 IsTreeAnswer c read_rose layout d (Err layouts.NoMemory) = ⊤
 
 -- the fault that is kept isn't want of memory
 abbrev pub IsRealLayout : LayoutBad → Type 0
 IsRealLayout (layouts.Refused layout_faults.Long) = ⊤
-IsRealLayout (layouts.Refused layout_faults.Early) = ⊤
 IsRealLayout (layouts.Refused (layout_faults.Gds gds_bads.NoMemory)) = ⊥
 IsRealLayout (layouts.Refused (layout_faults.Gds bad)) = ⊤
+IsRealLayout (layouts.Refused (layout_faults.Oas bad)) = IsWantingOas bad → ⊥
 IsRealLayout (layouts.Refused (layout_faults.Tree tree_faults.NoMemory)) = ⊥
 IsRealLayout (layouts.Refused (layout_faults.Tree bad)) = ⊤
 IsRealLayout layouts.ReadFault = ⊤
@@ -113,8 +118,8 @@ IsInputAnswer c read_rose layout deck (Ok input) = HoldsInput c layout deck inpu
 IsInputAnswer c read_rose layout deck (Err (answers.Deck deck_faults.Long)) = IsLongerThan 65536 c deck
 IsInputAnswer c read_rose layout deck (Err (answers.Deck (deck_faults.Bad bad))) = HoldsDeckFault c layout deck bad
 IsInputAnswer c read_rose layout deck (Err (answers.Layout layout_faults.Long top)) = IsLongLayout c layout deck top
-IsInputAnswer c read_rose layout deck (Err (answers.Layout layout_faults.Early top)) = HoldsOasis c layout deck top
 IsInputAnswer c read_rose layout deck (Err (answers.Layout (layout_faults.Gds bad) top)) = HoldsGdsFault c layout deck bad top
+IsInputAnswer c read_rose layout deck (Err (answers.Layout (layout_faults.Oas bad) top)) = HoldsOasFault c layout deck bad top
 IsInputAnswer c read_rose layout deck (Err (answers.Layout (layout_faults.Tree bad) top)) =
     (h : HoldsTreeFault c layout deck bad top) × IsLayoutOnGrid h.layout_is
 IsInputAnswer c read_rose layout deck (Err answers.ReadFault) = read_rose ⊎ IsWanting c layout deck

@@ -4,6 +4,8 @@ use Rattle.depot.specs.Content.{Content, IsNotThere, IsLongerThan}
 use Rattle.layout_model.specs.declared.cells.Layout.{Layout}
 use Rattle.gds_reader.specs.Reading.{IsFirstFault as IsFirstGdsFault}
 use Rattle.gds_reader.specs.declared.refusing.GdsBad.{GdsBad}
+use Rattle.oas_reader.specs.Reading.{IsFirstFault as IsFirstOasFault}
+use Rattle.oas_reader.specs.declared.refusing.OasBad.{OasBad}
 use Rattle.cell_tree.specs.Cells.{cell_number}
 use Rattle.cell_tree.specs.Faults.{IsFirstFault as IsFirstTreeFault}
 use Rattle.cell_tree.specs.declared.faults.TreeBad.{TreeBad}
@@ -11,7 +13,9 @@ use Rattle.cell_tree.specs.declared.faults.TreeBad.TheVariants.{NoTop, NoMemory 
 use Rattle.deck_text.specs.Decks.{IsFirstFault as IsFirstDeckFault, layers_of}
 use Rattle.deck_text.specs.declared.refusal.DeckBad.{DeckBad}
 use Rattle.deck_text.specs.declared.deck.Deck.{Deck}
-use Rattle.job_input.specs.Accepted.{Holds, HoldsDeck, HoldsLayout, BeginsAsOasis}
+use Rattle.job_input.specs.Accepted.{Holds, HoldsDeck, IsFormatOf, HoldsLayout}
+use Rattle.job_input.specs.declared.formats.Format.{Format}
+use Rattle.job_input.specs.declared.formats.Format.TheVariants.{Gdsii, Oasis}
 
 -- ---- the deck
 
@@ -30,18 +34,9 @@ pub record IsLongLayout (c : Content) (layout deck : List ℕ) (top : List ℕ) 
   pub holds_deck : HoldsDeck c layout deck deck_is
   pub long : IsLongerThan 268435456 c layout
 
--- the layout has bytes within the limit, the first of which is 25 hex
-pub record HoldsOasis (c : Content) (layout deck : List ℕ) (top : List ℕ) : Type 0 where
-  pub deck_is : Deck
-  pub top_is : top ≡ deck_is.top
-  pub holds_deck : HoldsDeck c layout deck deck_is
-  pub bytes : List ℕ
-  pub holds : Holds c layout 268435456 bytes
-  pub oasis : BeginsAsOasis bytes
-
 -- the bytes are no GDSII layout of the deck's unit, and this is their first fault
 pub record IsGdsFaultFor (d : Deck) (bytes : List ℕ) (bad : GdsBad) : Type 0 where
-  pub not_oasis : BeginsAsOasis bytes → ⊥
+  pub is_format : IsFormatOf bytes Gdsii
   pub fault : IsFirstGdsFault bytes d.unit (layers_of d.steps) bad
 
 -- the layout has bytes within the limit that are no GDSII layout, and this is their first fault
@@ -52,6 +47,20 @@ pub record HoldsGdsFault (c : Content) (layout deck : List ℕ) (bad : GdsBad) (
   pub bytes : List ℕ
   pub holds : Holds c layout 268435456 bytes
   pub fault : IsGdsFaultFor deck_is bytes bad
+
+-- the bytes are no OASIS layout of the deck's unit, and this is their first fault
+pub record IsOasFaultFor (d : Deck) (bytes : List ℕ) (bad : OasBad) : Type 0 where
+  pub is_format : IsFormatOf bytes Oasis
+  pub fault : IsFirstOasFault bytes d.unit (layers_of d.steps) bad
+
+-- the layout has bytes within the limit that are no OASIS layout, and this is their first fault
+pub record HoldsOasFault (c : Content) (layout deck : List ℕ) (bad : OasBad) (top : List ℕ) : Type 0 where
+  pub deck_is : Deck
+  pub top_is : top ≡ deck_is.top
+  pub holds_deck : HoldsDeck c layout deck deck_is
+  pub bytes : List ℕ
+  pub holds : Holds c layout 268435456 bytes
+  pub fault : IsOasFaultFor deck_is bytes bad
 
 -- No cell has the name of the deck's top cell; or one has it, and this is a first fault of the tree of cells below it. Of
 -- several such things of one kind the refusal keeps one.
@@ -65,8 +74,9 @@ pub record HoldsTreeFault (c : Content) (layout deck : List ℕ) (bad : TreeBad)
   pub deck_is : Deck
   pub top_is : top ≡ deck_is.top
   pub holds_deck : HoldsDeck c layout deck deck_is
+  pub format_is : Format
   pub layout_is : Layout
-  pub holds_layout : HoldsLayout c layout deck_is layout_is
+  pub holds_layout : HoldsLayout c layout deck_is format_is layout_is
   pub fault : IsTreeFaultFor deck_is layout_is bad
 
 -- ---- what isn't there

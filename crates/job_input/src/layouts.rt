@@ -1,30 +1,33 @@
 //! The layout of a name.
-ghost use Rattle.std.specs.Prelude.{◌≡◌, ◌≢◌, ◌⊎◌, ◌↔◌, ℕ, List, [], Err, IsTrue, IfOk, IfErr, OnOk};
+ghost use Rattle.std.specs.Prelude.{◌≡◌, ◌≢◌, ◌⊎◌, ℕ, List, [], Err, IsTrue, IfOk, IfErr, OnOk};
 ghost use Rattle.depot.specs.Content.{IsNotThere, ChangesLeftOnly, with_left};
 ghost use Rattle.depot.specs.Counts.{NeverFall, Rose};
 ghost use Rattle.layout_model.specs.Layouts.{IsLayoutOnGrid};
-ghost use Rattle.job_input.specs.Accepted.{BeginsAsOasis, IsLayoutFor, IsTreeFor};
+ghost use Rattle.job_input.specs.Accepted.{IsFormatOf, IsLayoutFor, IsTreeFor};
+ghost use Rattle.job_input.specs.Clauses.{IsWantingOas};
 ghost use Rattle.job_input.specs.Parts.{IsLayoutTold, IsRootTold, IsTreeTold, IsTreeAnswer, IsRealLayout, LayoutCountsFor};
 
+use crate::formats::{Format, format_of};
 use crate::refusing::{LayoutBad, LayoutFault};
 use cell_tree::{Tree, TreeBad, resolve};
 use deck_text::Deck;
 use depot::{Depot, Refused, read_all};
 use gds_reader::{GdsBad, read_gds};
 use layout_model::Layout;
+use oas_reader::{OasBad, read_oas};
+use oas_record::RecordBad;
 use std::alloc::Global;
 
 /// A layout has at most so many bytes.
 const LAYOUT_LIMIT: usize = 268_435_456;
 
-// Whether the bytes begin as an OASIS file does.
-fn begins_as_oasis(bytes: &[u8]) -> bool
-    ensures { IsTrue result ↔ BeginsAsOasis bytes.now }
-{
-    match bytes.first() {
-        Some(first) => *first == 0x25,
-        None => false,
-    }
+/// An accepted layout.
+#[derive(Drop)]
+pub(crate) struct Found {
+    /// The format of its file.
+    pub(crate) format: Format,
+    /// Its cells below the deck's top cell.
+    pub(crate) tree: Tree,
 }
 
 // The answer to bytes that are no GDSII layout.
@@ -35,6 +38,17 @@ fn gds_refused(bad: GdsBad) -> LayoutBad
     match bad {
         GdsBad::NoMemory => LayoutBad::NoMemory,
         bad => LayoutBad::Refused(LayoutFault::Gds(bad)),
+    }
+}
+
+// The answer to bytes that are no OASIS layout.
+fn oas_refused(bad: OasBad) -> LayoutBad
+    ensures { (IsWantingOas bad × (result ≡ LayoutBad.NoMemory))
+        ⊎ ((IsWantingOas bad → ⊥) × (result ≡ LayoutBad.Refused (LayoutFault.Oas bad))) }
+{
+    match bad {
+        OasBad::NoMemory | OasBad::Lexical(_, RecordBad::NoMemory) => LayoutBad::NoMemory,
+        bad => LayoutBad::Refused(LayoutFault::Oas(bad)),
     }
 }
 
@@ -49,21 +63,48 @@ fn tree_refused(bad: TreeBad) -> LayoutBad
     }
 }
 
-// The layout that the bytes are.
-fn layout_in(alloc: Global, bytes: &[u8], deck: &Deck) -> Result<Layout, LayoutBad>
-    ensures told { IsLayoutTold deck.now bytes.now result }
+// The layout that the bytes of a GDSII file are.
+fn gds_layout(alloc: Global, bytes: &[u8], deck: &Deck) -> Result<Layout, LayoutBad>
+    requires { IsFormatOf bytes.now Format.Gdsii }
+    ensures told { IsLayoutTold deck.now bytes.now Format.Gdsii result }
     ensures grid { IfOk result IsLayoutOnGrid }
     ensures real { IfErr result IsRealLayout }
 {
-    if begins_as_oasis(bytes) {
-        return Err(LayoutBad::Refused(LayoutFault::Early));
-    }
     let Ok(pairs) = deck.layers(alloc) else {
         return Err(LayoutBad::NoMemory);
     };
     match read_gds(alloc, bytes, deck.unit, pairs.as_slice()) {
         Ok(layout) => Ok(layout),
         Err(bad) => Err(gds_refused(bad)),
+    }
+}
+
+// The layout that the bytes of an OASIS file are.
+fn oas_layout(alloc: Global, bytes: &[u8], deck: &Deck) -> Result<Layout, LayoutBad>
+    requires { IsFormatOf bytes.now Format.Oasis }
+    ensures told { IsLayoutTold deck.now bytes.now Format.Oasis result }
+    ensures grid { IfOk result IsLayoutOnGrid }
+    ensures real { IfErr result IsRealLayout }
+{
+    let Ok(pairs) = deck.layers(alloc) else {
+        return Err(LayoutBad::NoMemory);
+    };
+    match read_oas(alloc, bytes, deck.unit, pairs.as_slice()) {
+        Ok(layout) => Ok(layout),
+        Err(bad) => Err(oas_refused(bad)),
+    }
+}
+
+// The layout that the bytes of a file of this format are.
+fn layout_in(alloc: Global, bytes: &[u8], format: Format, deck: &Deck) -> Result<Layout, LayoutBad>
+    requires { IsFormatOf bytes.now format }
+    ensures told { IsLayoutTold deck.now bytes.now format result }
+    ensures grid { IfOk result IsLayoutOnGrid }
+    ensures real { IfErr result IsRealLayout }
+{
+    match format {
+        Format::Gdsii => gds_layout(alloc, bytes, deck),
+        Format::Oasis => oas_layout(alloc, bytes, deck),
     }
 }
 
@@ -79,28 +120,31 @@ fn tree_of(alloc: Global, layout: Layout, deck: &Deck) -> Result<Tree, LayoutBad
     }
 }
 
-// The tree of the layout that the bytes are.
-fn tree_in(alloc: Global, bytes: &[u8], deck: &Deck) -> Result<Tree, LayoutBad>
+// The layout that the bytes are, with the tree of its cells.
+fn tree_in(alloc: Global, bytes: &[u8], deck: &Deck) -> Result<Found, LayoutBad>
     ensures told { IsTreeTold deck.now bytes.now result }
     ensures real { IfErr result IsRealLayout }
 {
-    let layout = layout_in(alloc, bytes, deck)?;
-    tree_of(alloc, layout, deck)
+    let format = format_of(bytes);
+    let layout = layout_in(alloc, bytes, format, deck)?;
+    let tree = tree_of(alloc, layout, deck)?;
+    Ok(Found { format, tree })
 }
 
 /// Reads the layout of the name, for an accepted deck.
-pub(crate) fn take_tree<D: Depot>(
+pub(crate) fn take_layout<D: Depot>(
     alloc: Global,
     depot: &mut D,
     layout: &str,
     deck: &Deck,
-) -> Result<Tree, LayoutBad>
+) -> Result<Found, LayoutBad>
     ensures answer { IsTrue D.tells → IsTreeAnswer (D.content depot.old)
         (Rose (D.counts depot.old).read_faults (D.counts depot.new).read_faults) layout.now deck.now result }
     ensures read_fault { result ≡ Err LayoutBad.ReadFault
         → Rose (D.counts depot.old).read_faults (D.counts depot.new).read_faults
         ⊎ (IsTrue D.tells × IsNotThere (D.content depot.old) layout.now) }
-    ensures of_bytes { IfOk result (λ t. (bytes : List ℕ) × IsLayoutFor deck.now bytes t.layout × IsTreeFor deck.now t) }
+    ensures of_bytes { IfOk result (λ found. (bytes : List ℕ)
+        × IsLayoutFor deck.now bytes found.format found.tree.layout × IsTreeFor deck.now found.tree) }
     ensures missing { IsTrue D.tells → IsNotThere (D.content depot.old) layout.now
         → (result ≡ Err LayoutBad.ReadFault)
         ⊎ ((result ≡ Err LayoutBad.NoMemory) × Rose (D.counts depot.old).refused (D.counts depot.new).refused) }

@@ -5,11 +5,13 @@
 #![tactic(auto)]
 
 mod decks;
+mod formats;
 mod layouts;
 mod reading;
 mod refusing;
 #[cfg(test)]
 mod tests;
 
+pub use formats::Format;
 pub use reading::{Input, read_input};
 pub use refusing::{DeckFault, InputBad, LayoutFault};

@@ -3,21 +3,24 @@ ghost use Rattle.std.specs.Prelude.{◌≡◌, ◌⊎◌, ℕ, List as Items, []
 ghost use Rattle.depot.specs.Content.{IsNotThere, IsLongerThan, ChangesLeftOnly, with_left};
 ghost use Rattle.depot.specs.Counts.{NeverFall, Rose};
 ghost use Rattle.gds_reader.specs.declared.refusing.GdsBad.{GdsBad as AGdsBad};
+ghost use Rattle.oas_reader.specs.declared.refusing.OasBad.{OasBad as AnOasBad};
 ghost use Rattle.cell_tree.specs.declared.faults.TreeBad.{TreeBad as ATreeBad};
 ghost use Rattle.deck_text.specs.declared.refusal.DeckBad.{DeckBad as ADeckBad};
 ghost use Rattle.job_input.specs.Accepted.{HoldsInput, IsOfBytes};
-ghost use Rattle.job_input.specs.Refused.{HoldsDeckFault, IsLongLayout, HoldsOasis, HoldsGdsFault, HoldsTreeFault, IsWanting};
+ghost use Rattle.job_input.specs.Refused.{HoldsDeckFault, IsLongLayout, HoldsGdsFault, HoldsOasFault, HoldsTreeFault, IsWanting};
 ghost use Rattle.job_input.specs.Clauses.{ComesExactlyWhere, ComesByKind, IsReal, CountsFor};
 ghost use Rattle.job_input.specs.Parts.{IsInputAnswer, layout_refused};
 ghost use Rattle.job_input.specs.declared.reading.Input.{Input as AnInput};
 
 use crate::decks::take_deck;
-use crate::layouts::take_tree;
+use crate::formats::Format;
+use crate::layouts::take_layout;
 use crate::refusing::{DeckFault, InputBad, LayoutBad, LayoutFault};
 use cell_tree::Tree;
 use deck_text::Deck;
 use depot::Depot;
 use layout_model::Name;
+use oas_reader::reading_laws;
 use std::alloc::Global;
 
 /// What a job is about: an accepted deck, and the cells of an accepted layout below the deck's top cell.
@@ -25,6 +28,8 @@ use std::alloc::Global;
 pub struct Input {
     /// What the deck says.
     pub deck: Deck,
+    /// The format of the layout's file.
+    pub format: Format,
     /// The layout's cells. Shapes that are on none of the deck's layers were left out.
     pub tree: Tree,
 }
@@ -64,15 +69,19 @@ fn read_both<D: Depot>(
     ensures counted { NeverFall (D.counts depot.old) (D.counts depot.new) }
 {
     let deck = take_deck(alloc, depot, layout, deck)?;
-    match take_tree(alloc, depot, layout, &deck) {
-        Ok(tree) => Ok(Input { deck, tree }),
+    match take_layout(alloc, depot, layout, &deck) {
+        Ok(found) => Ok(Input {
+            deck,
+            format: found.format,
+            tree: found.tree,
+        }),
         Err(bad) => Err(layout_refused(bad, deck.top)),
     }
 }
 
 /// Reads the deck and the layout of these names. The deck is read first and judged, then the layout is read and judged,
-/// and then the tree of its cells below the deck's top cell. The first refusal is answered. An output may take neither of
-/// the two names.
+/// as an OASIS file where its first byte is 25 hex and else as a GDSII file, and then the tree of its cells below the
+/// deck's top cell. The first refusal is answered. An output may take neither of the two names.
 ///
 /// But for what is left to be read, the content of the depot is as before, whatever the answer. The clauses on content hold
 /// over a depot that tells it. The others hold over every depot.
@@ -98,12 +107,12 @@ pub fn read_input<D: Depot>(
     ensures layout_long { IsTrue D.tells → (top : Items ℕ) → ComesExactlyWhere
         (Rose (D.counts depot.old).read_faults (D.counts depot.new).read_faults) result
         (Err (InputBad.Layout LayoutFault.Long top)) (IsLongLayout (D.content depot.old) layout.now deck.now top) }
-    ensures layout_early { IsTrue D.tells → (top : Items ℕ) → ComesExactlyWhere
-        (Rose (D.counts depot.old).read_faults (D.counts depot.new).read_faults) result
-        (Err (InputBad.Layout LayoutFault.Early top)) (HoldsOasis (D.content depot.old) layout.now deck.now top) }
     ensures layout_gds { IsTrue D.tells → (bad : AGdsBad) (top : Items ℕ) → ComesExactlyWhere
         (Rose (D.counts depot.old).read_faults (D.counts depot.new).read_faults) result
         (Err (InputBad.Layout (LayoutFault.Gds bad) top)) (HoldsGdsFault (D.content depot.old) layout.now deck.now bad top) }
+    ensures layout_oas { IsTrue D.tells → (bad : AnOasBad) (top : Items ℕ) → ComesExactlyWhere
+        (Rose (D.counts depot.old).read_faults (D.counts depot.new).read_faults) result
+        (Err (InputBad.Layout (LayoutFault.Oas bad) top)) (HoldsOasFault (D.content depot.old) layout.now deck.now bad top) }
     ensures layout_tree { IsTrue D.tells → (bad : ATreeBad) (top : Items ℕ) → ComesByKind
         (Rose (D.counts depot.old).read_faults (D.counts depot.new).read_faults) result
         bad top (HoldsTreeFault (D.content depot.old) layout.now deck.now bad top) }
@@ -134,5 +143,7 @@ pub fn read_input<D: Depot>(
     ensures counts { CountsFor (D.counts depot.old) (D.counts depot.new) result }
     ensures counted { NeverFall (D.counts depot.old) (D.counts depot.new) }
 {
+    // bytes are one OASIS layout at most, or have one first fault
+    reading_laws();
     read_both(alloc, depot, layout, deck)
 }

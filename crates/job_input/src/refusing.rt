@@ -3,6 +3,7 @@ use cell_tree::TreeBad;
 use deck_text::DeckBad;
 use gds_reader::GdsBad;
 use layout_model::Name;
+use oas_reader::OasBad;
 
 /// Why a deck is refused.
 #[derive(Debug, Drop)]
@@ -18,10 +19,10 @@ pub enum DeckFault {
 pub enum LayoutFault {
     /// It has more than 268,435,456 bytes.
     Long,
-    /// It begins with the byte 25 hex, as OASIS files do, which aren't read so far.
-    Early,
-    /// It is no GDSII layout. This is its first fault, which is never want of memory.
+    /// It doesn't begin with the byte 25 hex and is no GDSII layout. This is its first fault, which is never want of memory.
     Gds(GdsBad),
+    /// It begins with that byte and is no OASIS layout. This is its first fault, which is never want of memory.
+    Oas(OasBad),
     /// It is a layout, and its cells are no tree within the limits below the top cell. The fault is never want of memory.
     Tree(TreeBad),
 }

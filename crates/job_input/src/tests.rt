@@ -5,6 +5,7 @@ use deck_text::DeckBad;
 use depot::MemDepot;
 use gds_reader::GdsBad;
 use geo_stream::NoMemory;
+use oas_reader::OasBad;
 use std::alloc::Global;
 use std::test::Fail;
 
@@ -113,7 +114,10 @@ fn is_missing(alloc: Global) -> bool {
 // Whether a layout that begins with 25 hex is refused as OASIS.
 fn is_oasis(alloc: Global) -> bool {
     let answer = read(alloc, Some(b"%"), DECK);
-    matches!(answer, Ok(Err(InputBad::Layout(LayoutFault::Early, _))))
+    matches!(
+        answer,
+        Ok(Err(InputBad::Layout(LayoutFault::Oas(OasBad::Magic), _)))
+    )
 }
 
 // Whether a layout of no bytes is refused at its begin.

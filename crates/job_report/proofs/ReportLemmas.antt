@@ -6,7 +6,7 @@ use Rattle.std.specs.List.{zip}
 use Rattle.layout_model.specs.declared.cells.Counts.{Counts}
 use Rattle.deck_text.specs.declared.deck.Output.{Output}
 use Rattle.shot_writer.specs.declared.parts.Sums.{Sums}
-use Rattle.job_report.specs.declared.layouts.Format.{Format}
+use Rattle.job_input.specs.declared.formats.Format.{Format}
 use Rattle.job_report.specs.Report.{format_name, layout_lines, output_line, report}
 
 -- a line of a word and a number

@@ -6,8 +6,8 @@ use Rattle.std.specs.List.{zip}
 use Rattle.layout_model.specs.declared.cells.Counts.{Counts}
 use Rattle.deck_text.specs.declared.deck.Output.{Output}
 use Rattle.shot_writer.specs.declared.parts.Sums.{Sums}
-use Rattle.job_report.specs.declared.layouts.Format.{Format}
-use Rattle.job_report.specs.declared.layouts.Format.TheVariants.{Gdsii, Oasis}
+use Rattle.job_input.specs.declared.formats.Format.{Format}
+use Rattle.job_input.specs.declared.formats.Format.TheVariants.{Gdsii, Oasis}
 
 -- the format's name
 abbrev pub format_name : Format → List ℕ

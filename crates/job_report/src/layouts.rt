@@ -1,19 +1,10 @@
-//! Layouts: their formats, and the line of a refused GDSII file.
+//! The line of a refused GDSII file.
 ghost use Rattle.std.specs.Prelude.{◌≡◌, ◌++◌, codes, decimal};
 ghost use Rattle.job_report.specs.Pieces.{spelled};
 ghost use Rattle.job_report.specs.Lines.{gds_line, gds_fault};
 
 use crate::pieces::{Line, Piece};
 use gds_reader::GdsBad;
-
-/// The format of a layout file.
-#[derive(Clone, Copy, Debug, PartialEq, Eq)]
-pub enum Format {
-    /// GDSII stream format.
-    Gdsii,
-    /// SEMI P39 OASIS.
-    Oasis,
-}
 
 // The line of a fault of this name at an offset.
 fn fault_at(what: &[u8], at: usize) -> Line<'_>

@@ -7,6 +7,7 @@
 mod decks;
 mod hexadecimal;
 mod layouts;
+mod oasis;
 mod pieces;
 mod report;
 mod saying;
@@ -15,7 +16,8 @@ mod tests;
 mod trees;
 
 pub use decks::deck_line;
-pub use layouts::{Format, gds_line};
+pub use layouts::gds_line;
+pub use oasis::oas_line;
 pub use pieces::{Line, Piece};
 pub use report::say_report;
 pub use saying::say_pieces;

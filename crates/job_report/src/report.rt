@@ -7,11 +7,11 @@ ghost use Rattle.shot_listing.specs.Saying.{IsSaidButFor};
 ghost use Rattle.job_report.specs.Pieces.{spelled};
 ghost use Rattle.job_report.specs.Report.{format_name, layout_lines, output_line, report};
 
-use crate::layouts::Format;
 use crate::pieces::Piece;
 use crate::saying::put_pieces;
 use deck_text::Output;
 use depot::{Buffer, Depot, DepotBad};
+use job_input::Format;
 use layout_model::Counts;
 use shot_listing::flush;
 use shot_writer::Sums;

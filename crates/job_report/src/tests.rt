@@ -1,11 +1,15 @@
 // Lines and a report, by their texts.
-use crate::{Format, deck_line, gds_line, say_pieces, say_report, tree_line};
+use crate::{deck_line, gds_line, oas_line, say_pieces, say_report, tree_line};
 use cell_tree::TreeBad;
 use deck_text::{DeckBad, Output, Text};
 use depot::MemDepot;
 use gds_reader::GdsBad;
 use geo_stream::List;
+use job_input::Format;
 use layout_model::{Counts, Name, Pair};
+use oas_fields::Variable;
+use oas_reader::OasBad;
+use oas_record::RecordBad;
 use shot_writer::Sums;
 use std::alloc::Global;
 use std::test::Fail;
@@ -30,6 +34,27 @@ fn lines_of_refusals(rt: HostRuntime) -> Result<(), Fail> {
     say_pieces(&mut depot, &[])?;
     let lines =
         b"deck refused: line 4 column 7\ndeck refused: line 4 out of range -1\nlayout refused: gdsii unit 3944b82fa09b5a54\nlayout refused: gdsii name at 88 repeats 60\nlayout refused: no cell T\nlayout refused: cycle P Q\n";
+    assert_eq!(rt; depot.said(), lines.as_slice());
+    Ok(())
+}
+
+#[test]
+fn lines_of_oasis_files(rt: HostRuntime) -> Result<(), Fail> {
+    let mut depot = MemDepot::new(rt.alloc());
+    say_pieces(&mut depot, &oas_line(&OasBad::Magic))?;
+    say_pieces(
+        &mut depot,
+        &oas_line(&OasBad::Lexical(39, RecordBad::Packed)),
+    )?;
+    say_pieces(
+        &mut depot,
+        &oas_line(&OasBad::Undefined(39, Variable::Layer)),
+    )?;
+    say_pieces(&mut depot, &oas_line(&OasBad::Value(13, 9)))?;
+    say_pieces(&mut depot, &oas_line(&OasBad::Names(34, 47)))?;
+    say_pieces(&mut depot, &oas_line(&OasBad::Unit(13)))?;
+    let lines =
+        b"layout refused: oasis magic\nlayout refused: oasis record at 39 packed\nlayout refused: oasis undefined at 39 layer\nlayout refused: oasis value at 13 rule 9\nlayout refused: oasis names at 34 and 47\nlayout refused: oasis unit at 13\n";
     assert_eq!(rt; depot.said(), lines.as_slice());
     Ok(())
 }

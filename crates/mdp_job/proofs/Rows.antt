@@ -3,12 +3,13 @@ use Rattle.std.proofs.Common.{◌≡◌, ◌≢◌, ◌⊎◌, inl, inr, ℕ, Bo
 use Rattle.std.specs.Prelude.{IsTrue}
 use Rattle.depot.specs.Content.{Content, IsNotThere, IsLongerThan, ChangesLeftOnly, with_left}
 use Rattle.gds_reader.specs.declared.refusing.GdsBad.{GdsBad}
+use Rattle.oas_reader.specs.declared.refusing.OasBad.{OasBad}
 use Rattle.cell_tree.specs.Faults.{order_of}
 use Rattle.cell_tree.specs.declared.faults.TreeBad.{TreeBad}
 use Rattle.deck_text.specs.declared.refusal.DeckBad.{DeckBad}
 use Rattle.deck_text.specs.declared.deck.Deck.{Deck}
 use Rattle.job_input.specs.Accepted.{HoldsDeck, HoldsInput}
-use Rattle.job_input.specs.Refused.{HoldsDeckFault, IsLongLayout, HoldsOasis, HoldsGdsFault, HoldsTreeFault, IsWanting}
+use Rattle.job_input.specs.Refused.{HoldsDeckFault, IsLongLayout, HoldsGdsFault, HoldsOasFault, HoldsTreeFault, IsWanting}
 use Rattle.job_input.specs.Clauses.{Answer, ComesExactlyWhere as InputComes, ComesByKind}
 use Rattle.job_input.specs.declared.reading.Input.{Input}
 use Rattle.job_input.specs.declared.refusing.InputBad.{InputBad}
@@ -146,13 +147,13 @@ pub layout_long : (made : Input → Status → Type 0) (r : Run) (layout deck : 
     → ComesExactlyWhere (ReadRose r) s (answers.Layout layout_faults.Long) ((name : List ℕ) × IsLongLayout r.before layout deck name)
 layout_long made r layout deck s top keeps h = layout_row made r layout deck s top keeps h layout_faults.Long (λ name. IsLongLayout r.before layout deck name) h.told.layout_long
 
-pub layout_early : (made : Input → Status → Type 0) (r : Run) (layout deck : List ℕ) (s : Status) (top : Option (List ℕ)) → KeepsInput made → IsAnswerBy made r layout deck s top
-    → ComesExactlyWhere (ReadRose r) s (answers.Layout layout_faults.Early) ((name : List ℕ) × HoldsOasis r.before layout deck name)
-layout_early made r layout deck s top keeps h = layout_row made r layout deck s top keeps h layout_faults.Early (λ name. HoldsOasis r.before layout deck name) h.told.layout_early
-
 pub layout_gds : (made : Input → Status → Type 0) (r : Run) (layout deck : List ℕ) (s : Status) (top : Option (List ℕ)) → KeepsInput made → IsAnswerBy made r layout deck s top → (bad : GdsBad)
     → ComesExactlyWhere (ReadRose r) s (answers.Layout (layout_faults.Gds bad)) ((name : List ℕ) × HoldsGdsFault r.before layout deck bad name)
 layout_gds made r layout deck s top keeps h bad = layout_row made r layout deck s top keeps h (layout_faults.Gds bad) (λ name. HoldsGdsFault r.before layout deck bad name) (h.told.layout_gds bad)
+
+pub layout_oas : (made : Input → Status → Type 0) (r : Run) (layout deck : List ℕ) (s : Status) (top : Option (List ℕ)) → KeepsInput made → IsAnswerBy made r layout deck s top → (bad : OasBad)
+    → ComesExactlyWhere (ReadRose r) s (answers.Layout (layout_faults.Oas bad)) ((name : List ℕ) × HoldsOasFault r.before layout deck bad name)
+layout_oas made r layout deck s top keeps h bad = layout_row made r layout deck s top keeps h (layout_faults.Oas bad) (λ name. HoldsOasFault r.before layout deck bad name) (h.told.layout_oas bad)
 
 tree_due : (made : Input → Status → Type 0) (r : Run) (layout deck : List ℕ) (s : Status) (top : Option (List ℕ)) (h : IsAnswerBy made r layout deck s top) (bad : TreeBad) (name : List ℕ) → HoldsTreeFault r.before layout deck bad name
     → IsOfKind bad s ⊎ (s ≡ answers.NoMemory) ⊎ ((s ≡ answers.ReadFault) × ReadRose r)
@@ -175,8 +176,8 @@ layout_tree made r layout deck s top keeps h bad = record {
 top_deck : (b : Content) (rr fr : Type 0) (layout deck : List ℕ) (a : Answer) (fault : LayoutFault) (name : List ℕ) → IsInputTold b rr fr layout deck a → a ≡ Err (bads.Layout fault name)
     → (d : Deck) × HoldsDeck b layout deck d × (name ≡ d.top)
 top_deck b rr fr layout deck a layout_faults.Long name t e = let h = (t.layout_long name).only e in (h.deck_is, h.holds_deck, h.top_is)
-top_deck b rr fr layout deck a layout_faults.Early name t e = let h = (t.layout_early name).only e in (h.deck_is, h.holds_deck, h.top_is)
 top_deck b rr fr layout deck a (layout_faults.Gds bad) name t e = let h = (t.layout_gds bad name).only e in (h.deck_is, h.holds_deck, h.top_is)
+top_deck b rr fr layout deck a (layout_faults.Oas bad) name t e = let h = (t.layout_oas bad name).only e in (h.deck_is, h.holds_deck, h.top_is)
 top_deck b rr fr layout deck a (layout_faults.Tree bad) name t e = let h = (t.layout_tree bad name).only e in (h.deck_is, h.holds_deck, h.top_is)
 
 pub top_named : (made : Input → Status → Type 0) (r : Run) (layout deck : List ℕ) (s : Status) (top : Option (List ℕ)) → KeepsInput made → IsAnswerBy made r layout deck s top → (fault : LayoutFault) → s ≡ answers.Layout fault

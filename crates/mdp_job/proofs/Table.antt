@@ -16,7 +16,7 @@ use Rattle.mdp_job.specs.Table.{IsAnswerTo, NamesFile}
 use Rattle.deck_text.specs.declared.deck.Output.{Output}
 use Rattle.mdp_job.specs.Lines.{name_of, file_of, file_at, file_or}
 use Rattle.mdp_job.specs.Certificates.{IsFileAt}
-use Rattle.mdp_job.specs.Clauses.{IsAccepted, Accepts, IsUnreadable, IsUnreadableAtOnce, ReadFaults, WriteFaults, DeckLong, DeckBroken, LayoutLong, LayoutEarly, LayoutBroken, TreeBroken, FileRefused, ShotsLong, ShotsBad, IsTopOf, IsFileOf}
+use Rattle.mdp_job.specs.Clauses.{IsAccepted, Accepts, IsUnreadable, IsUnreadableAtOnce, ReadFaults, WriteFaults, DeckLong, DeckBroken, LayoutLong, GdsBroken, OasBroken, TreeBroken, FileRefused, ShotsLong, ShotsBad, IsTopOf, IsFileOf}
 use Rattle.mdp_job.specs.declared.status.Status.{Status}
 use Rattle.mdp_job.specs.declared.status.Status.TheVariants as answers
 use Rattle.file_check.specs.declared.faults.CheckFault.{CheckFault}
@@ -147,13 +147,13 @@ pub layout_long : (tells : Bool) (r : Run) (words : List (List ℕ)) (s : Status
 layout_long tells r words s top t layout deck (inl is) = rows.layout_long (IsFractured tells r) r layout deck s top (rows.fractured_keeps tells r) (fracture_for tells r words s top t layout deck is)
 layout_long tells r words s top t layout deck (inr is) = rows.layout_long (IsChecked r) r layout deck s top (checks.checked_keeps r) (check_for tells r words s top t layout deck is)
 
-pub layout_early : (tells : Bool) (r : Run) (words : List (List ℕ)) (s : Status) (top : Option (List ℕ)) → IsAnswerTo tells r words s top → LayoutEarly r words s
-layout_early tells r words s top t layout deck (inl is) = rows.layout_early (IsFractured tells r) r layout deck s top (rows.fractured_keeps tells r) (fracture_for tells r words s top t layout deck is)
-layout_early tells r words s top t layout deck (inr is) = rows.layout_early (IsChecked r) r layout deck s top (checks.checked_keeps r) (check_for tells r words s top t layout deck is)
-
-pub layout_gds : (tells : Bool) (r : Run) (words : List (List ℕ)) (s : Status) (top : Option (List ℕ)) → IsAnswerTo tells r words s top → LayoutBroken r words s
+pub layout_gds : (tells : Bool) (r : Run) (words : List (List ℕ)) (s : Status) (top : Option (List ℕ)) → IsAnswerTo tells r words s top → GdsBroken r words s
 layout_gds tells r words s top t layout deck (inl is) = rows.layout_gds (IsFractured tells r) r layout deck s top (rows.fractured_keeps tells r) (fracture_for tells r words s top t layout deck is)
 layout_gds tells r words s top t layout deck (inr is) = rows.layout_gds (IsChecked r) r layout deck s top (checks.checked_keeps r) (check_for tells r words s top t layout deck is)
+
+pub layout_oas : (tells : Bool) (r : Run) (words : List (List ℕ)) (s : Status) (top : Option (List ℕ)) → IsAnswerTo tells r words s top → OasBroken r words s
+layout_oas tells r words s top t layout deck (inl is) = rows.layout_oas (IsFractured tells r) r layout deck s top (rows.fractured_keeps tells r) (fracture_for tells r words s top t layout deck is)
+layout_oas tells r words s top t layout deck (inr is) = rows.layout_oas (IsChecked r) r layout deck s top (checks.checked_keeps r) (check_for tells r words s top t layout deck is)
 
 pub layout_tree : (tells : Bool) (r : Run) (words : List (List ℕ)) (s : Status) (top : Option (List ℕ)) → IsAnswerTo tells r words s top → TreeBroken r words s
 layout_tree tells r words s top t layout deck (inl is) = rows.layout_tree (IsFractured tells r) r layout deck s top (rows.fractured_keeps tells r) (fracture_for tells r words s top t layout deck is)

@@ -7,13 +7,14 @@ use Rattle.half_grid.specs.declared.plane.Tile.{Tile}
 use Rattle.shot_reader.specs.declared.refusing.ShotBad.{ShotBad}
 use Rattle.shot_checker.specs.declared.verdicts.Verdict.TheVariants as verdicts
 use Rattle.gds_reader.specs.declared.refusing.GdsBad.{GdsBad}
+use Rattle.oas_reader.specs.declared.refusing.OasBad.{OasBad}
 use Rattle.cell_tree.specs.Faults.{order_of}
 use Rattle.cell_tree.specs.declared.faults.TreeBad.{TreeBad}
 use Rattle.deck_text.specs.declared.refusal.DeckBad.{DeckBad}
 use Rattle.deck_text.specs.declared.deck.Deck.{Deck}
 use Rattle.shot_writer.specs.declared.parts.Sums.{Sums}
 use Rattle.job_input.specs.Accepted.{HoldsDeck, HoldsInput}
-use Rattle.job_input.specs.Refused.{HoldsDeckFault, IsLongLayout, HoldsOasis, HoldsGdsFault, HoldsTreeFault, IsWanting}
+use Rattle.job_input.specs.Refused.{HoldsDeckFault, IsLongLayout, HoldsGdsFault, HoldsOasFault, HoldsTreeFault, IsWanting}
 use Rattle.job_input.specs.declared.reading.Input.{Input}
 use Rattle.job_input.specs.declared.refusing.DeckFault.{DeckFault}
 use Rattle.job_input.specs.declared.refusing.DeckFault.TheVariants as deck_faults
@@ -133,17 +134,17 @@ LayoutLong r words result =
     (layout deck : List ℕ) → ReadsInput words layout deck
     → ComesExactlyWhere (ReadRose r) result (answers.Layout layout_faults.Long) ((top : List ℕ) × IsLongLayout r.before layout deck top)
 
--- the deck is accepted, and the layout's first byte is 25 hex
-abbrev pub LayoutEarly : Run → List (List ℕ) → Status → Type 0
-LayoutEarly r words result =
-    (layout deck : List ℕ) → ReadsInput words layout deck
-    → ComesExactlyWhere (ReadRose r) result (answers.Layout layout_faults.Early) ((top : List ℕ) × HoldsOasis r.before layout deck top)
-
--- the deck is accepted, and the layout has this first fault
-abbrev pub LayoutBroken : Run → List (List ℕ) → Status → Type 0
-LayoutBroken r words result =
+-- the deck is accepted, and the layout, whose first byte isn't 25 hex, has this first fault of a GDSII file
+abbrev pub GdsBroken : Run → List (List ℕ) → Status → Type 0
+GdsBroken r words result =
     (layout deck : List ℕ) → ReadsInput words layout deck → (bad : GdsBad)
     → ComesExactlyWhere (ReadRose r) result (answers.Layout (layout_faults.Gds bad)) ((top : List ℕ) × HoldsGdsFault r.before layout deck bad top)
+
+-- the deck is accepted, and the layout, whose first byte is 25 hex, has this first fault of an OASIS file
+abbrev pub OasBroken : Run → List (List ℕ) → Status → Type 0
+OasBroken r words result =
+    (layout deck : List ℕ) → ReadsInput words layout deck → (bad : OasBad)
+    → ComesExactlyWhere (ReadRose r) result (answers.Layout (layout_faults.Oas bad)) ((top : List ℕ) × HoldsOasFault r.before layout deck bad top)
 
 -- a fault of the tree of the same kind
 pub record IsOfKind (bad : TreeBad) (result : Status) : Type 0 where

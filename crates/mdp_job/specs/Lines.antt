@@ -13,7 +13,7 @@ use Rattle.job_input.specs.declared.refusing.DeckFault.{DeckFault}
 use Rattle.job_input.specs.declared.refusing.DeckFault.TheVariants as deck_faults
 use Rattle.job_input.specs.declared.refusing.LayoutFault.{LayoutFault}
 use Rattle.job_input.specs.declared.refusing.LayoutFault.TheVariants as layout_faults
-use Rattle.job_report.specs.Lines.{memory_line, deck_line, gds_line, tree_line}
+use Rattle.job_report.specs.Lines.{memory_line, deck_line, gds_line, oas_line, tree_line}
 use Rattle.mdp_job.specs.declared.status.Status.{Status}
 use Rattle.mdp_job.specs.declared.status.Status.TheVariants.{Done, Words, Deck, Layout, ReadFault, WriteFault, NoMemory, No}
 use Rattle.file_check.specs.declared.faults.CheckFault.{CheckFault}
@@ -26,8 +26,8 @@ deck_fault_line (deck_faults.Bad bad) = deck_line bad
 -- a refused layout, by the name of the deck's top cell and the fault
 abbrev pub layout_fault_line : List ℕ → LayoutFault → List ℕ
 layout_fault_line top layout_faults.Long = codes "layout refused: longer than 268435456 bytes\n"
-layout_fault_line top layout_faults.Early = codes "layout refused: not built\n"
 layout_fault_line top (layout_faults.Gds bad) = gds_line bad
+layout_fault_line top (layout_faults.Oas bad) = oas_line bad
 layout_fault_line top (layout_faults.Tree bad) = tree_line top bad
 
 -- a refused shot file, by its name, the fault and the fault's offset

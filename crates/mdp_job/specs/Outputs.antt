@@ -22,7 +22,6 @@ use Rattle.shot_output.specs.TileCounts.{IsNumberOfTilesIn}
 use Rattle.shot_output.specs.Files.{rules_of, text_of, IsBeginning}
 use Rattle.job_input.specs.declared.reading.Input.{Input}
 use Rattle.job_report.specs.Report.{report}
-use Rattle.job_report.specs.declared.layouts.Format.TheVariants.{Gdsii}
 
 -- deck and cells, as the areas of outputs are made of them
 abbrev pub plan_of : Input → Planned
@@ -96,7 +95,7 @@ pub record AreSummed (files : Files) (input : Input) (sums : List Sums) : Type 0
 
 -- the report on an accepted input, whose outputs have these sums, with this word before each of them
 abbrev pub report_of : List ℕ → Input → List Sums → List ℕ
-report_of word input sums = report Gdsii (length input.tree.layout.cells) input.tree.layout.counts word input.deck.outputs sums
+report_of word input sums = report input.format (length input.tree.layout.cells) input.tree.layout.counts word input.deck.outputs sums
 
 -- the report of `fracture`
 abbrev pub report_on : Input → List Sums → List ℕ

@@ -8,13 +8,14 @@ use Rattle.depot.specs.declared.outside.DepotBad.TheVariants as depot
 use Rattle.depot.specs.declared.whole.Refused.{Refused}
 use Rattle.depot.specs.declared.whole.Refused.TheVariants as reading
 use Rattle.gds_reader.specs.declared.refusing.GdsBad.{GdsBad}
+use Rattle.oas_reader.specs.declared.refusing.OasBad.{OasBad}
 use Rattle.cell_tree.specs.declared.faults.TreeBad.{TreeBad}
 use Rattle.deck_text.specs.declared.refusal.DeckBad.{DeckBad}
 use Rattle.shot_writer.specs.declared.parts.Sums.{Sums}
 use Rattle.shot_output.specs.Files.{AreWritten, AreCutShort}
 use Rattle.job_input.specs.Accepted.{HoldsInput}
-use Rattle.job_input.specs.Refused.{HoldsDeckFault, IsLongLayout, HoldsOasis, HoldsGdsFault, HoldsTreeFault, IsWanting}
-use Rattle.job_input.specs.Clauses.{Answer, ComesExactlyWhere, ComesByKind}
+use Rattle.job_input.specs.Refused.{HoldsDeckFault, IsLongLayout, HoldsGdsFault, HoldsOasFault, HoldsTreeFault, IsWanting}
+use Rattle.job_input.specs.Clauses.{Answer, ComesExactlyWhere, ComesByKind, IsWantingOas}
 use Rattle.job_input.specs.declared.reading.Input.{Input}
 use Rattle.job_input.specs.declared.refusing.InputBad.{InputBad}
 use Rattle.job_input.specs.declared.refusing.InputBad.TheVariants as bads
@@ -70,9 +71,10 @@ pub record IsInputTold (before : Content) (read_rose refused_rose : Type 0) (lay
   pub deck_long : ComesExactlyWhere read_rose a (Err (bads.Deck deck_faults.Long)) (IsLongerThan 65536 before deck)
   pub deck_bad : (bad : DeckBad) → ComesExactlyWhere read_rose a (Err (bads.Deck (deck_faults.Bad bad))) (HoldsDeckFault before layout deck bad)
   pub layout_long : (top : List ℕ) → ComesExactlyWhere read_rose a (Err (bads.Layout layout_faults.Long top)) (IsLongLayout before layout deck top)
-  pub layout_early : (top : List ℕ) → ComesExactlyWhere read_rose a (Err (bads.Layout layout_faults.Early top)) (HoldsOasis before layout deck top)
   pub layout_gds : (bad : GdsBad) (top : List ℕ)
       → ComesExactlyWhere read_rose a (Err (bads.Layout (layout_faults.Gds bad) top)) (HoldsGdsFault before layout deck bad top)
+  pub layout_oas : (bad : OasBad) (top : List ℕ)
+      → ComesExactlyWhere read_rose a (Err (bads.Layout (layout_faults.Oas bad) top)) (HoldsOasFault before layout deck bad top)
   pub layout_tree : (bad : TreeBad) (top : List ℕ) → ComesByKind read_rose a bad top (HoldsTreeFault before layout deck bad top)
   pub read_fault : a ≡ Err bads.ReadFault → read_rose ⊎ IsWanting before layout deck
   pub missing : IsWanting before layout deck → (a ≡ Err bads.ReadFault) ⊎ (a ≡ Err bads.NoMemory)
@@ -136,8 +138,8 @@ IsOfFracture answers.Words = ⊥
 IsOfFracture (answers.Deck deck_faults.Long) = ⊤
 IsOfFracture (answers.Deck (deck_faults.Bad bad)) = bad ≢ DeckWanting
 IsOfFracture (answers.Layout layout_faults.Long) = ⊤
-IsOfFracture (answers.Layout layout_faults.Early) = ⊤
 IsOfFracture (answers.Layout (layout_faults.Gds bad)) = bad ≢ GdsWanting
+IsOfFracture (answers.Layout (layout_faults.Oas bad)) = IsWantingOas bad → ⊥
 IsOfFracture (answers.Layout (layout_faults.Tree bad)) = bad ≢ TreeWanting
 IsOfFracture answers.ReadFault = ⊤
 IsOfFracture answers.WriteFault = ⊤
@@ -151,8 +153,8 @@ IsOfCheck answers.Words = ⊥
 IsOfCheck (answers.Deck deck_faults.Long) = ⊤
 IsOfCheck (answers.Deck (deck_faults.Bad bad)) = bad ≢ DeckWanting
 IsOfCheck (answers.Layout layout_faults.Long) = ⊤
-IsOfCheck (answers.Layout layout_faults.Early) = ⊤
 IsOfCheck (answers.Layout (layout_faults.Gds bad)) = bad ≢ GdsWanting
+IsOfCheck (answers.Layout (layout_faults.Oas bad)) = IsWantingOas bad → ⊥
 IsOfCheck (answers.Layout (layout_faults.Tree bad)) = bad ≢ TreeWanting
 IsOfCheck answers.ReadFault = ⊤
 IsOfCheck answers.WriteFault = ⊤

@@ -5,7 +5,7 @@ ghost use Rattle.depot.specs.Counts.{NeverFall, Rose};
 ghost use Rattle.depot.specs.Sure.{sure_content, sure_counts};
 ghost use Rattle.mdp_job.specs.Words.{IsNoCommand};
 ghost use Rattle.mdp_job.specs.Runs.{texts, run_of};
-ghost use Rattle.mdp_job.specs.Clauses.{IsAccepted, Belongs, FaultsTold, Covers, Spares, Certifies, Reports, Generates, Lists, Accepts, DeckLong, DeckBroken, LayoutLong, LayoutEarly, LayoutBroken, TreeBroken, FileLong, FileBad, FileHead, FileTooLarge, FileMiscovered, ShotsLong, ShotsBad, ReadFaults, WriteFaults, Says, Refuses, Keeps, Spoils};
+ghost use Rattle.mdp_job.specs.Clauses.{IsAccepted, Belongs, FaultsTold, Covers, Spares, Certifies, Reports, Generates, Lists, Accepts, DeckLong, DeckBroken, LayoutLong, GdsBroken, OasBroken, TreeBroken, FileLong, FileBad, FileHead, FileTooLarge, FileMiscovered, ShotsLong, ShotsBad, ReadFaults, WriteFaults, Says, Refuses, Keeps, Spoils};
 ghost use Rattle.mdp_job.specs.Table.{IsAnswerTo, NamesFile};
 ghost use Rattle.mdp_job.specs.Parts.{CountsFor};
 
@@ -109,10 +109,10 @@ pub fn run<D: Depot>(alloc: Global, words: &[String], depot: &mut D) -> Status
     ensures layout_long { IsTrue D.tells → LayoutLong
         (run_of (D.content depot.old) (D.content depot.new) (D.counts depot.old) (D.counts depot.new))
         (texts words.now) result }
-    ensures layout_early { IsTrue D.tells → LayoutEarly
+    ensures layout_gds { IsTrue D.tells → GdsBroken
         (run_of (D.content depot.old) (D.content depot.new) (D.counts depot.old) (D.counts depot.new))
         (texts words.now) result }
-    ensures layout_gds { IsTrue D.tells → LayoutBroken
+    ensures layout_oas { IsTrue D.tells → OasBroken
         (run_of (D.content depot.old) (D.content depot.new) (D.counts depot.old) (D.counts depot.new))
         (texts words.now) result }
     ensures layout_tree { IsTrue D.tells → TreeBroken

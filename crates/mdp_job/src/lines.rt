@@ -13,7 +13,7 @@ use depot::Depot;
 use file_check::CheckFault;
 use half_grid::{Side, Tile};
 use job_input::{DeckFault, LayoutFault};
-use job_report::{Line, Piece, deck_line, gds_line, say_pieces, tree_line};
+use job_report::{Line, Piece, deck_line, gds_line, oas_line, say_pieces, tree_line};
 use shot_checker::Verdict;
 use shot_reader::ShotBad;
 
@@ -56,8 +56,8 @@ fn layout_fault_line<'a>(top: &'a [u8], fault: &'a LayoutFault) -> Line<'a>
 {
     match fault {
         LayoutFault::Long => whole(b"layout refused: longer than 268435456 bytes\n"),
-        LayoutFault::Early => whole(b"layout refused: not built\n"),
         LayoutFault::Gds(bad) => gds_line(bad),
+        LayoutFault::Oas(bad) => oas_line(bad),
         LayoutFault::Tree(bad) => tree_line(top, bad),
     }
 }

@@ -8,7 +8,7 @@ use crate::ending::fault_status;
 use crate::status::Status;
 use depot::Depot;
 use job_input::Input;
-use job_report::{Format, say_report};
+use job_report::say_report;
 use shot_writer::Sums;
 
 /// Says the report on an accepted input whose outputs have these sums, with this word before each of them.
@@ -34,7 +34,7 @@ pub(crate) fn say_report_on<D: Depot>(
     let outputs = input.deck.outputs.as_slice();
     match say_report(
         depot,
-        Format::Gdsii,
+        input.format,
         tree.cells().len(),
         &counts,
         word,

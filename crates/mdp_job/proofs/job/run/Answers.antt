@@ -5,7 +5,7 @@ use Rattle.mdp_job.specs.Words.{file_word}
 use Rattle.mdp_job.specs.Lines.{file_of}
 use Rattle.file_check.specs.declared.faults.CheckFault.TheVariants as faults
 use Rattle.shot_checker.specs.declared.verdicts.Verdict.TheVariants as verdicts
-use Rattle.mdp_job.proofs.Table.{table_later, accepts, deck_long, deck_bad, layout_long, layout_early, layout_gds, layout_tree, file_refused, file_named, shots_long, shots_bad, read_faults, write_faults}
+use Rattle.mdp_job.proofs.Table.{table_later, accepts, deck_long, deck_bad, layout_long, layout_gds, layout_oas, layout_tree, file_refused, file_named, shots_long, shots_bad, read_faults, write_faults}
 use Rattle.mdp_job.proofs.Finals.{Ends, covers, economy, certifies, reports, generates, lists, says, refuses, keeps, spoils, faults_told}
 use Rattle.mdp_job.proofs.job.run.Goals as goal
 
@@ -29,14 +29,14 @@ returns-clause-layout_long g c = λ told.
     layout_long g.D.Depot.tells (run_of (g.D.Depot.content c.args.depot.now) (g.D.Depot.content c.answered-ending.new.depot) (g.D.Depot.counts c.args.depot.now) (g.D.Depot.counts c.say_line.new.depot)) (texts c.args.words.now) c.answered-ending.result.status c.answered-ending.result.top
     (table_later g.D.Depot.tells (g.D.Depot.content c.args.depot.now) (g.D.Depot.content c.answered-ending.new.depot) (g.D.Depot.counts c.args.depot.now) (g.D.Depot.counts c.answered-ending.new.depot) (g.D.Depot.counts c.say_line.new.depot) (texts c.args.words.now) c.answered-ending.result.status c.answered-ending.result.top c.say_line.ensures.counted (c.answered-ending.ensures.table told))
 
-pub returns-clause-layout_early : goal.returns-clause-layout_early
-returns-clause-layout_early g c = λ told.
-    layout_early g.D.Depot.tells (run_of (g.D.Depot.content c.args.depot.now) (g.D.Depot.content c.answered-ending.new.depot) (g.D.Depot.counts c.args.depot.now) (g.D.Depot.counts c.say_line.new.depot)) (texts c.args.words.now) c.answered-ending.result.status c.answered-ending.result.top
-    (table_later g.D.Depot.tells (g.D.Depot.content c.args.depot.now) (g.D.Depot.content c.answered-ending.new.depot) (g.D.Depot.counts c.args.depot.now) (g.D.Depot.counts c.answered-ending.new.depot) (g.D.Depot.counts c.say_line.new.depot) (texts c.args.words.now) c.answered-ending.result.status c.answered-ending.result.top c.say_line.ensures.counted (c.answered-ending.ensures.table told))
-
 pub returns-clause-layout_gds : goal.returns-clause-layout_gds
 returns-clause-layout_gds g c = λ told.
     layout_gds g.D.Depot.tells (run_of (g.D.Depot.content c.args.depot.now) (g.D.Depot.content c.answered-ending.new.depot) (g.D.Depot.counts c.args.depot.now) (g.D.Depot.counts c.say_line.new.depot)) (texts c.args.words.now) c.answered-ending.result.status c.answered-ending.result.top
+    (table_later g.D.Depot.tells (g.D.Depot.content c.args.depot.now) (g.D.Depot.content c.answered-ending.new.depot) (g.D.Depot.counts c.args.depot.now) (g.D.Depot.counts c.answered-ending.new.depot) (g.D.Depot.counts c.say_line.new.depot) (texts c.args.words.now) c.answered-ending.result.status c.answered-ending.result.top c.say_line.ensures.counted (c.answered-ending.ensures.table told))
+
+pub returns-clause-layout_oas : goal.returns-clause-layout_oas
+returns-clause-layout_oas g c = λ told.
+    layout_oas g.D.Depot.tells (run_of (g.D.Depot.content c.args.depot.now) (g.D.Depot.content c.answered-ending.new.depot) (g.D.Depot.counts c.args.depot.now) (g.D.Depot.counts c.say_line.new.depot)) (texts c.args.words.now) c.answered-ending.result.status c.answered-ending.result.top
     (table_later g.D.Depot.tells (g.D.Depot.content c.args.depot.now) (g.D.Depot.content c.answered-ending.new.depot) (g.D.Depot.counts c.args.depot.now) (g.D.Depot.counts c.answered-ending.new.depot) (g.D.Depot.counts c.say_line.new.depot) (texts c.args.words.now) c.answered-ending.result.status c.answered-ending.result.top c.say_line.ensures.counted (c.answered-ending.ensures.table told))
 
 pub returns-clause-layout_tree : goal.returns-clause-layout_tree

@@ -1,0 +1,122 @@
+//! The line of a refused OASIS file.
+ghost use Rattle.std.specs.Prelude.{◌≡◌, ◌++◌, codes, decimal};
+ghost use Rattle.job_report.specs.Pieces.{spelled};
+ghost use Rattle.job_report.specs.Lines.{variable_name, cause_name, oas_line, oas_fault, oas_word, oas_number};
+
+use crate::pieces::{Line, Piece};
+use oas_fields::Variable;
+use oas_reader::OasBad;
+use oas_record::RecordBad;
+
+// The name of a modal variable.
+fn variable_name(variable: Variable) -> &'static [u8]
+    ensures { result.now ≡ variable_name variable }
+{
+    match variable {
+        Variable::Layer => b"layer",
+        Variable::Datatype => b"datatype",
+        Variable::GeometryW => b"geometry-w",
+        Variable::GeometryH => b"geometry-h",
+        Variable::PolygonPoints => b"polygon-points",
+        Variable::PathHalfWidth => b"path-half-width",
+        Variable::PathStart => b"path-start",
+        Variable::PathEnd => b"path-end",
+        Variable::PathPoints => b"path-points",
+        Variable::CtrapezoidType => b"ctrapezoid-type",
+        Variable::PlacementCell => b"placement-cell",
+        Variable::Repetition => b"repetition",
+    }
+}
+
+// Why no record stands at an offset, in a word.
+fn cause_name(cause: RecordBad) -> &'static [u8]
+    ensures { result.now ≡ cause_name cause }
+{
+    match cause {
+        RecordBad::Short => b"short",
+        RecordBad::Wide => b"wide",
+        RecordBad::Kind => b"kind",
+        RecordBad::Packed => b"packed",
+        RecordBad::Shape => b"shape",
+        RecordBad::NoMemory => b"memory",
+    }
+}
+
+// The line of a fault of this name at an offset.
+fn fault_at(what: &'static [u8], at: usize) -> Line<'static>
+    ensures { spelled result ≡ oas_fault what.now at }
+{
+    [
+        Piece::Text(b"layout refused: oasis "),
+        Piece::Text(what),
+        Piece::Text(b" at "),
+        Piece::Count(at as u128),
+        Piece::Text(b"\n"),
+    ]
+}
+
+// The line of a fault of this name at an offset, with a word.
+fn word_at(what: &'static [u8], at: usize, word: &'static [u8]) -> Line<'static>
+    ensures { spelled result ≡ oas_word what.now at word.now }
+{
+    [
+        Piece::Text(what),
+        Piece::Count(at as u128),
+        Piece::Text(b" "),
+        Piece::Text(word),
+        Piece::Text(b"\n"),
+    ]
+}
+
+// The line of a fault of this name at an offset, with a second number behind a text.
+fn number_at(what: &'static [u8], at: usize, between: &'static [u8], number: usize) -> Line<'static>
+    ensures { spelled result ≡ oas_number what.now at between.now number }
+{
+    [
+        Piece::Text(what),
+        Piece::Count(at as u128),
+        Piece::Text(between),
+        Piece::Count(number as u128),
+        Piece::Text(b"\n"),
+    ]
+}
+
+// The line of one piece.
+fn whole(text: &'static [u8]) -> Line<'static>
+    ensures { spelled result ≡ text.now }
+{
+    [
+        Piece::Text(text),
+        Piece::Text(b""),
+        Piece::Text(b""),
+        Piece::Text(b""),
+        Piece::Text(b""),
+    ]
+}
+
+// How the lines of four kinds of faults begin.
+const RECORD: &[u8] = b"layout refused: oasis record at ";
+
+const UNDEFINED: &[u8] = b"layout refused: oasis undefined at ";
+
+const VALUE: &[u8] = b"layout refused: oasis value at ";
+
+const NAMES: &[u8] = b"layout refused: oasis names at ";
+
+/// The line of an OASIS file's first fault. Want of memory has a line of its own.
+#[tactic(auto, unfolding(crate::specs::Lines::oas_line))]
+pub fn oas_line(bad: &OasBad) -> Line<'static>
+    ensures { spelled result ≡ oas_line bad.now }
+{
+    match bad {
+        OasBad::Magic => whole(b"layout refused: oasis magic\n"),
+        OasBad::Lexical(at, cause) => word_at(RECORD, *at, cause_name(*cause)),
+        OasBad::Order(at) => fault_at(b"order", *at),
+        OasBad::Undefined(at, variable) => word_at(UNDEFINED, *at, variable_name(*variable)),
+        OasBad::Value(at, rule) => number_at(VALUE, *at, b" rule ", usize::from(*rule)),
+        OasBad::Names(first, second) => number_at(NAMES, *first, b" and ", *second),
+        OasBad::Tail(at) => fault_at(b"tail", *at),
+        OasBad::Unit(at) => fault_at(b"unit", *at),
+        OasBad::NoMemory => whole(b"want of memory\n"),
+    }
+}
