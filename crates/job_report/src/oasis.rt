@@ -9,8 +9,8 @@ use oas_reader::OasBad;
 use oas_record::RecordBad;
 
 // The name of a modal variable.
-fn variable_name(variable: Variable) -> &'static [u8]
-    ensures { result.now ≡ variable_name variable }
+fn variable_name(variable: &Variable) -> &[u8]
+    ensures { result.now ≡ variable_name variable.now }
 {
     match variable {
         Variable::Layer => b"layer",
@@ -29,8 +29,8 @@ fn variable_name(variable: Variable) -> &'static [u8]
 }
 
 // Why no record stands at an offset, in a word.
-fn cause_name(cause: RecordBad) -> &'static [u8]
-    ensures { result.now ≡ cause_name cause }
+fn cause_name(cause: &RecordBad) -> &[u8]
+    ensures { result.now ≡ cause_name cause.now }
 {
     match cause {
         RecordBad::Short => b"short",
@@ -43,7 +43,7 @@ fn cause_name(cause: RecordBad) -> &'static [u8]
 }
 
 // The line of a fault of this name at an offset.
-fn fault_at(what: &'static [u8], at: usize) -> Line<'static>
+fn fault_at(what: &[u8], at: usize) -> Line<'_>
     ensures { spelled result ≡ oas_fault what.now at }
 {
     [
@@ -56,7 +56,7 @@ fn fault_at(what: &'static [u8], at: usize) -> Line<'static>
 }
 
 // The line of a fault of this name at an offset, with a word.
-fn word_at(what: &'static [u8], at: usize, word: &'static [u8]) -> Line<'static>
+fn word_at<'a>(what: &'a [u8], at: usize, word: &'a [u8]) -> Line<'a>
     ensures { spelled result ≡ oas_word what.now at word.now }
 {
     [
@@ -69,7 +69,7 @@ fn word_at(what: &'static [u8], at: usize, word: &'static [u8]) -> Line<'static>
 }
 
 // The line of a fault of this name at an offset, with a second number behind a text.
-fn number_at(what: &'static [u8], at: usize, between: &'static [u8], number: usize) -> Line<'static>
+fn number_at<'a>(what: &'a [u8], at: usize, between: &'a [u8], number: usize) -> Line<'a>
     ensures { spelled result ≡ oas_number what.now at between.now number }
 {
     [
@@ -82,7 +82,7 @@ fn number_at(what: &'static [u8], at: usize, between: &'static [u8], number: usi
 }
 
 // The line of one piece.
-fn whole(text: &'static [u8]) -> Line<'static>
+fn whole(text: &[u8]) -> Line<'_>
     ensures { spelled result ≡ text.now }
 {
     [
@@ -94,27 +94,36 @@ fn whole(text: &'static [u8]) -> Line<'static>
     ]
 }
 
-// How the lines of four kinds of faults begin.
-const RECORD: &[u8] = b"layout refused: oasis record at ";
-
-const UNDEFINED: &[u8] = b"layout refused: oasis undefined at ";
-
-const VALUE: &[u8] = b"layout refused: oasis value at ";
-
-const NAMES: &[u8] = b"layout refused: oasis names at ";
-
 /// The line of an OASIS file's first fault. Want of memory has a line of its own.
 #[tactic(auto, unfolding(crate::specs::Lines::oas_line))]
-pub fn oas_line(bad: &OasBad) -> Line<'static>
+pub fn oas_line(bad: &OasBad) -> Line<'_>
     ensures { spelled result ≡ oas_line bad.now }
 {
     match bad {
         OasBad::Magic => whole(b"layout refused: oasis magic\n"),
-        OasBad::Lexical(at, cause) => word_at(RECORD, *at, cause_name(*cause)),
+        OasBad::Lexical(at, cause) => word_at(
+            b"layout refused: oasis record at ",
+            *at,
+            cause_name(cause),
+        ),
         OasBad::Order(at) => fault_at(b"order", *at),
-        OasBad::Undefined(at, variable) => word_at(UNDEFINED, *at, variable_name(*variable)),
-        OasBad::Value(at, rule) => number_at(VALUE, *at, b" rule ", usize::from(*rule)),
-        OasBad::Names(first, second) => number_at(NAMES, *first, b" and ", *second),
+        OasBad::Undefined(at, variable) => word_at(
+            b"layout refused: oasis undefined at ",
+            *at,
+            variable_name(variable),
+        ),
+        OasBad::Value(at, rule) => number_at(
+            b"layout refused: oasis value at ",
+            *at,
+            b" rule ",
+            usize::from(*rule),
+        ),
+        OasBad::Names(first, second) => number_at(
+            b"layout refused: oasis names at ",
+            *first,
+            b" and ",
+            *second,
+        ),
         OasBad::Tail(at) => fault_at(b"tail", *at),
         OasBad::Unit(at) => fault_at(b"unit", *at),
         OasBad::NoMemory => whole(b"want of memory\n"),

@@ -101,6 +101,26 @@ fn the_square_is_written(rt: HostRuntime) -> Result<(), Fail> {
     Ok(())
 }
 
+/// The same square in an OASIS file, without END.
+const OASIS: &[u8] =
+    b"%SEMI-OASIS\r\n\x01\x031.0\x00\xE8\x07\x00\0\0\0\0\0\0\0\0\0\0\0\0\x0E\x03TOP\x14\x7B\x01\x00\x0A\x0A\x00\x00";
+
+#[test]
+fn an_oasis_layout_is_written(rt: HostRuntime) -> Result<(), Fail> {
+    let alloc = rt.alloc();
+    let mut layout = Vec::from_slice(alloc, OASIS)?;
+    layout.extend_from_slice(&[0x02, 0xFC, 0x01])?;
+    layout.extend_from_slice(&[0; 253])?;
+    let mut depot = MemDepot::new(alloc);
+    depot.add("G.gds", &layout)?;
+    depot.add("K", DECK)?;
+    assert!(rt; run(alloc, &words(alloc, &FRACTURE)?, &mut depot).code() == 0);
+    let made = depot.made("out.oas").ok_or("no file")?;
+    assert_eq!(rt; made, square_file(alloc, 1)?.as_slice());
+    assert!(rt; depot.said().starts_with(b"format oasis\ncells 1\n"));
+    Ok(())
+}
+
 // What a run over a depot, one of whose calls fails, made and said, with its code.
 #[derive(Drop)]
 struct Ended {
