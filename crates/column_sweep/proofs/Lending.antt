@@ -66,5 +66,5 @@ module _ (post : ℤ → ℤ → Bool → Type 0) (gives : ℤ → ℤ → Bool 
   }
 
   pub lent_tried : (edges : List EdgeParts) (window : RowRange) (tried : Tried) → IsTried gives edges window tried → IsTried post edges window tried
-  lent_tried edges window (Whole traps) h = lent_swept edges window traps.items h
-  lent_tried edges window (GivenUp rest) h = h
+  lent_tried edges window (Whole swept) h = lent_swept edges window swept.traps.items h
+  lent_tried edges window (GivenUp rest walked) h = h

@@ -30,5 +30,5 @@ module _ {F : Type 0} (post : F → ℤ → ℤ → Bool → Type 0) where
 
   pub tried_of_given : (rule own : F) (edges others : List EdgeParts) (window range : RowRange) → own ≡ rule → IsPermutation edges others → range ≡ window
       → (tried : Tried) → IsTried (post own) edges range tried → IsTried (post rule) others window tried
-  tried_of_given rule own edges others window range r same w (Whole traps) h = swept_of_given rule own edges others window range r same w traps.items h
-  tried_of_given rule own edges others window range r same w (GivenUp rest) h = IsPermutation-trans rest.items edges others h same
+  tried_of_given rule own edges others window range r same w (Whole swept) h = swept_of_given rule own edges others window range r same w swept.traps.items h
+  tried_of_given rule own edges others window range r same w (GivenUp rest walked) h = IsPermutation-trans rest.items edges others h same

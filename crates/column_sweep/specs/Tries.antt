@@ -7,5 +7,5 @@ use Rattle.column_sweep.specs.declared.sweep.Tried.{Tried}
 use Rattle.column_sweep.specs.declared.sweep.Tried.TheVariants.{Whole, GivenUp}
 
 abbrev pub IsTried : (ℤ → ℤ → Bool → Type 0) → List EdgeParts → RowRange → Tried → Type 0
-IsTried post edges window (Whole traps) = IsSwept post edges window traps.items
-IsTried post edges window (GivenUp rest) = IsPermutation rest.items edges
+IsTried post edges window (Whole swept) = IsSwept post edges window swept.traps.items
+IsTried post edges window (GivenUp rest walked) = IsPermutation rest.items edges

@@ -12,18 +12,20 @@ ghost use Rattle.column_sweep.specs.Sewing.{CoverTogether, AreSewn, AreSorted, A
 
 use crate::cuts::Cut;
 use crate::parting::parted;
-use crate::sweep::plain;
+use crate::sweep::plain_counted;
 use crate::waiting::{sort_by_least_x, take_before};
 use geo_stream::NoMemory;
 use half_grid::{Edge, REACH, Trap, Window};
 use scan_line::Rule;
 use std::alloc::Global;
 
-/// Trapezoids of an area. The final ones are maximal in all of it. The others have the rest of its tiles.
+/// Trapezoids of an area, and how many edges were gone over to make them. The final ones are maximal in all of it. The
+/// others have the rest of its tiles.
 #[derive(Drop)]
 pub(crate) struct Sewn {
     pub(crate) finals: Vec<Trap>,
     pub(crate) seams: Vec<Trap>,
+    pub(crate) walked: u64,
 }
 
 /// The tiles from one X up to below another.
@@ -99,12 +101,13 @@ fn sort_in(sewn: &mut Sewn, trap: &Trap, column: Column) -> Result<(), NoMemory>
 }
 
 // The trapezoids of a column: those strictly inside it, and those that touch a side.
-fn sort_out(alloc: Global, traps: &[Trap], column: Column) -> Result<Sewn, NoMemory>
+fn sort_out(alloc: Global, traps: &[Trap], walked: u64, column: Column) -> Result<Sewn, NoMemory>
     ensures { IfOk result (λ sewn. AreSorted column.from.x column.to.x traps.now sewn.finals.items sewn.seams.items) }
 {
     let mut sewn = Sewn {
         finals: Vec::new(alloc),
         seams: Vec::new(alloc),
+        walked,
     };
     for trap in traps {
         sort_in(&mut sewn, trap, column)?;
@@ -119,6 +122,7 @@ fn add(sewn: &mut Sewn, part: &Sewn) -> Result<(), NoMemory>
 {
     sewn.finals.extend_from_slice(part.finals.as_slice())?;
     sewn.seams.extend_from_slice(part.seams.as_slice())?;
+    sewn.walked = sewn.walked.saturating_add(part.walked);
     Ok(())
 }
 
@@ -134,8 +138,8 @@ fn swept_part<F: Fn(i128, i128) -> bool + Drop>(
     requires balanced { IsBalanced edges.items window }
     ensures { IfOk result (λ part. AreSweptIn (IsTakenIn (F.post rule.now) edges.items window) window column.from.x column.to.x part.finals.items part.seams.items) }
 {
-    let traps = plain(alloc, edges, window, rule)?;
-    sort_out(alloc, traps.as_slice(), column)
+    let swept = plain_counted(alloc, edges, window, rule)?;
+    sort_out(alloc, swept.traps.as_slice(), swept.walked, column)
 }
 
 // One column further, up to the cut. None of the edges that wait lies left of it.
@@ -217,6 +221,7 @@ fn begin(alloc: Global) -> Progress
         sewn: Sewn {
             finals: Vec::new(alloc),
             seams: Vec::new(alloc),
+            walked: 0,
         },
     }
 }

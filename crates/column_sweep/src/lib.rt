@@ -4,6 +4,7 @@
 #![tactic(auto)]
 
 mod columns;
+mod counted;
 mod cuts;
 mod laws;
 mod looking;
@@ -17,8 +18,9 @@ mod sweep;
 mod tests;
 mod waiting;
 
+pub use counted::Swept;
 pub use laws::column_laws;
 pub use looking::lowest;
 pub use lowest_tile::LowestTile;
 pub use operands::operand_edges;
-pub use sweep::{plain, swept};
+pub use sweep::{plain, swept, swept_counted};

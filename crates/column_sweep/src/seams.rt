@@ -10,9 +10,10 @@ ghost use Rattle.column_sweep.specs.Sewing.{AreSewn, HaveSameTiles, StandSorted}
 ghost use Rattle.column_sweep.specs.Standings.{standing_of};
 
 use crate::columns::{Sewn, swept_columns};
+use crate::counted::Swept;
 use crate::cuts::{Cut, fewer};
 use crate::sums::Level;
-use crate::sweep::plain;
+use crate::sweep::plain_counted;
 use geo_stream::NoMemory;
 use half_grid::{Edge, Operand, Trap, Window, place_of};
 use scan_line::Rule;
@@ -48,14 +49,15 @@ fn resewn(alloc: Global, sewn: Sewn, window: Window, cuts: &[Cut]) -> Result<Sew
     Ok(Sewn {
         finals,
         seams: next.seams,
+        walked: sewn.walked.saturating_add(next.walked),
     })
 }
 
 // The seams swept at once. Each trapezoid is final then.
-fn closed(alloc: Global, sewn: Sewn, window: Window) -> Result<Vec<Trap>, NoMemory>
+fn closed(alloc: Global, sewn: Sewn, window: Window) -> Result<Swept, NoMemory>
     requires { AreSewn window sewn.finals.items sewn.seams.items }
-    ensures sewn { IfOk result (λ traps. AreSewn window traps.items []) }
-    ensures same { IfOk result (λ traps. HaveSameTiles traps.items [] sewn.finals.items sewn.seams.items) }
+    ensures sewn { IfOk result (λ swept. AreSewn window swept.traps.items []) }
+    ensures same { IfOk result (λ swept. HaveSameTiles swept.traps.items [] sewn.finals.items sewn.seams.items) }
 {
     let edges = edges_of(alloc, sewn.seams.as_slice())?;
     let inside = Rule::new(
@@ -63,10 +65,13 @@ fn closed(alloc: Global, sewn: Sewn, window: Window) -> Result<Vec<Trap>, NoMemo
             ensures { result ≡ not (int_eq a (pos 0)) }
         { a != 0 },
     );
-    let last = plain(alloc, edges, window, &inside)?;
+    let last = plain_counted(alloc, edges, window, &inside)?;
     let mut finals = sewn.finals;
-    finals.extend_from_slice(last.as_slice())?;
-    Ok(finals)
+    finals.extend_from_slice(last.traps.as_slice())?;
+    Ok(Swept {
+        traps: finals,
+        walked: sewn.walked.saturating_add(last.walked),
+    })
 }
 
 /// Where a trapezoid stands in a joined list: its top, and then its left line's place in the row below it.
@@ -108,10 +113,10 @@ pub(crate) fn joined_seams(
     sewn: Sewn,
     window: Window,
     cuts: &[Cut],
-) -> Result<Vec<Trap>, NoMemory>
+) -> Result<Swept, NoMemory>
     requires { AreSewn window sewn.finals.items sewn.seams.items }
-    ensures joined { IfOk result (λ traps. IsJoined window traps.items) }
-    ensures same { IfOk result (λ traps. HaveSameTiles traps.items [] sewn.finals.items sewn.seams.items) }
+    ensures joined { IfOk result (λ swept. IsJoined window swept.traps.items) }
+    ensures same { IfOk result (λ swept. HaveSameTiles swept.traps.items [] sewn.finals.items sewn.seams.items) }
 {
     let mut sewn = sewn;
     let mut cuts = fewer(alloc, cuts)?;
@@ -119,7 +124,7 @@ pub(crate) fn joined_seams(
         sewn = resewn(alloc, sewn, window, cuts.as_slice())?;
         cuts = fewer(alloc, cuts.as_slice())?;
     }
-    let mut traps = closed(alloc, sewn, window)?;
-    put_in_order(&mut traps);
-    Ok(traps)
+    let mut swept = closed(alloc, sewn, window)?;
+    put_in_order(&mut swept.traps);
+    Ok(swept)
 }

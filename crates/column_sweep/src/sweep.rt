@@ -5,6 +5,7 @@ ghost use Rattle.column_sweep.specs.Sweeps.{IsSwept};
 ghost use Rattle.column_sweep.specs.Tries.{IsTried};
 
 use crate::columns::swept_columns;
+use crate::counted::Swept;
 use crate::cuts::{Cut, chosen_cuts, plain_budget};
 use crate::seams::joined_seams;
 use geo_stream::NoMemory;
@@ -14,29 +15,27 @@ use std::alloc::Global;
 use trap_join::Join;
 
 // All trapezoids of a scan that gave no slab yet.
-fn joined<F: Fn(i128, i128) -> bool + Drop>(
-    alloc: Global,
-    scan: Scan<F>,
-) -> Result<Vec<Trap>, NoMemory>
+fn joined<F: Fn(i128, i128) -> bool + Drop>(alloc: Global, scan: Scan<F>) -> Result<Swept, NoMemory>
     requires rule { IsRule (F.pre scan.rule) (F.post scan.rule) }
     requires fresh { scan.y ≡ scan.window.y0 }
-    ensures { IfOk result (λ traps. IsSwept (F.post scan.rule) scan.edges scan.window traps.items) }
+    ensures { IfOk result (λ swept. IsSwept (F.post scan.rule) scan.edges scan.window swept.traps.items) }
 {
     let mut join = Join::begin(alloc, scan)?;
     let mut traps = Vec::new(alloc);
     while let Some(trap) = join.next()? {
         traps.push(trap)?;
     }
-    Ok(traps)
+    let walked = join.walked();
+    Ok(Swept { traps, walked })
 }
 
 /// What became of a sweep that may not go over too many edges.
 #[derive(Drop)]
 pub(crate) enum Tried {
     /// All trapezoids.
-    Whole(Vec<Trap>),
-    /// It was given up, and the edges are given back.
-    GivenUp(Vec<Edge>),
+    Whole(Swept),
+    /// It was given up, and the edges are given back. So many were gone over for nothing.
+    GivenUp(Vec<Edge>, u64),
 }
 
 // The same, as long as it goes over no more edges than this.
@@ -54,10 +53,14 @@ fn joined_within<F: Fn(i128, i128) -> bool + Drop>(
     while join.climb_within(most)? {
         match join.next()? {
             Some(trap) => traps.push(trap)?,
-            None => return Ok(Tried::Whole(traps)),
+            None => {
+                let walked = join.walked();
+                return Ok(Tried::Whole(Swept { traps, walked }));
+            }
         }
     }
-    Ok(Tried::GivenUp(join.into_edges()))
+    let walked = join.walked();
+    Ok(Tried::GivenUp(join.into_edges(), walked))
 }
 
 /// The same list as of `swept`, for a lent rule, by one sweep of the whole window without columns. That takes about as long
@@ -71,6 +74,20 @@ pub fn plain<F: Fn(i128, i128) -> bool + Drop>(
     requires rule { IsRule (F.pre rule.now) (F.post rule.now) }
     requires balanced { IsBalanced edges.items window }
     ensures { IfOk result (λ traps. IsSwept (F.post rule.now) edges.items window traps.items) }
+{
+    Ok(plain_counted(alloc, edges, window, rule)?.traps)
+}
+
+/// The same, with the count of edges gone over.
+pub(crate) fn plain_counted<F: Fn(i128, i128) -> bool + Drop>(
+    alloc: Global,
+    edges: Vec<Edge>,
+    window: Window,
+    rule: &Rule<F>,
+) -> Result<Swept, NoMemory>
+    requires rule { IsRule (F.pre rule.now) (F.post rule.now) }
+    requires balanced { IsBalanced edges.items window }
+    ensures { IfOk result (λ swept. IsSwept (F.post rule.now) edges.items window swept.traps.items) }
 {
     let asked = Rule::new(
         |a: i128, b: i128| -> bool
@@ -121,7 +138,7 @@ fn tried_plain<F: Fn(i128, i128) -> bool + Drop>(
 {
     match plain_budget(alloc, edges.as_slice())? {
         Some(most) => plain_within(alloc, edges, window, rule, most),
-        None => Ok(Tried::GivenUp(edges)),
+        None => Ok(Tried::GivenUp(edges, 0)),
     }
 }
 
@@ -132,13 +149,13 @@ pub(crate) fn swept_at<F: Fn(i128, i128) -> bool + Drop>(
     window: Window,
     rule: &Rule<F>,
     cuts: &[Cut],
-) -> Result<Vec<Trap>, NoMemory>
+) -> Result<Swept, NoMemory>
     requires rule { IsRule (F.pre rule.now) (F.post rule.now) }
     requires balanced { IsBalanced edges.items window }
-    ensures { IfOk result (λ traps. IsSwept (F.post rule.now) edges.items window traps.items) }
+    ensures { IfOk result (λ swept. IsSwept (F.post rule.now) edges.items window swept.traps.items) }
 {
     if cuts.is_empty() {
-        return plain(alloc, edges, window, rule);
+        return plain_counted(alloc, edges, window, rule);
     }
     let sewn = swept_columns(alloc, edges, window, rule, cuts)?;
     let whole = joined_seams(alloc, sewn, window, cuts)?;
@@ -151,10 +168,10 @@ fn swept_in_columns<F: Fn(i128, i128) -> bool + Drop>(
     edges: Vec<Edge>,
     window: Window,
     rule: &Rule<F>,
-) -> Result<Vec<Trap>, NoMemory>
+) -> Result<Swept, NoMemory>
     requires rule { IsRule (F.pre rule.now) (F.post rule.now) }
     requires balanced { IsBalanced edges.items window }
-    ensures { IfOk result (λ traps. IsSwept (F.post rule.now) edges.items window traps.items) }
+    ensures { IfOk result (λ swept. IsSwept (F.post rule.now) edges.items window swept.traps.items) }
 {
     let cuts = chosen_cuts(alloc, edges.as_slice())?;
     swept_at(alloc, edges, window, rule, cuts.as_slice())
@@ -172,8 +189,27 @@ pub fn swept<F: Fn(i128, i128) -> bool + Drop>(
     requires balanced { IsBalanced edges.items window }
     ensures { IfOk result (λ traps. IsSwept (F.post rule) edges.items window traps.items) }
 {
+    Ok(swept_counted(alloc, edges, window, rule)?.traps)
+}
+
+/// The same list as of `swept`, with the count of edges gone over: in the columns, at the seams, and in a sweep of the whole
+/// window that was given up.
+pub fn swept_counted<F: Fn(i128, i128) -> bool + Drop>(
+    alloc: Global,
+    edges: Vec<Edge>,
+    window: Window,
+    rule: Rule<F>,
+) -> Result<Swept, NoMemory>
+    requires rule { IsRule (F.pre rule) (F.post rule) }
+    requires balanced { IsBalanced edges.items window }
+    ensures { IfOk result (λ swept. IsSwept (F.post rule) edges.items window swept.traps.items) }
+{
     match tried_plain(alloc, edges, window, &rule)? {
-        Tried::Whole(traps) => Ok(traps),
-        Tried::GivenUp(rest) => swept_in_columns(alloc, rest, window, &rule),
+        Tried::Whole(swept) => Ok(swept),
+        Tried::GivenUp(rest, before) => {
+            let mut again = swept_in_columns(alloc, rest, window, &rule)?;
+            again.walked = again.walked.saturating_add(before);
+            Ok(again)
+        }
     }
 }

@@ -61,7 +61,7 @@ fn check_cuts(rt: &HostRuntime, cuts: &[Cut]) -> Result<(), Fail> {
         { a != 0 && b == 0 },
     );
     let rows = Window::new(0, 4).ok_or("no window")?;
-    let traps = swept_at(rt.alloc(), two_bars(rt.alloc())?, rows, &rule, cuts)?;
+    let traps = swept_at(rt.alloc(), two_bars(rt.alloc())?, rows, &rule, cuts)?.traps;
     let left = Trap::new(0, 4, Line::Upright(0), Line::Rising(2)).ok_or("no piece")?;
     let right = Trap::new(0, 4, Line::Rising(6), Line::Upright(20)).ok_or("no piece")?;
     if traps.as_slice() != [left, right].as_slice() {
@@ -119,7 +119,7 @@ fn check_wedge(rt: &HostRuntime, cuts: &[Cut]) -> Result<(), Fail> {
     );
     let rows = Window::new(0, 8).ok_or("no window")?;
     let edges = edges_in(rt.alloc(), &[bar], &[wedge], rows)?;
-    let traps = swept_at(rt.alloc(), edges, rows, &rule, cuts)?;
+    let traps = swept_at(rt.alloc(), edges, rows, &rule, cuts)?.traps;
     let left = Trap::new(0, 8, Line::Upright(0), Line::Falling(4)).ok_or("no piece")?;
     let right = Trap::new(0, 8, Line::Rising(6), Line::Upright(20)).ok_or("no piece")?;
     if traps.as_slice() != [left, right].as_slice() {

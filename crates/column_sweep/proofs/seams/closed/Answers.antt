@@ -6,8 +6,8 @@ use Rattle.scan_line.specs.Runs.{IsBalancedAt}
 use Rattle.column_sweep.proofs.Stitching.{sewn_again, same_again, taken_has, has_taken, seams_balanced, joined_sewn, joined_covers}
 use Rattle.column_sweep.proofs.seams.closed.Goals as goal
 
-pub plain-requires-clause-balanced : goal.plain-requires-clause-balanced
-plain-requires-clause-balanced c = λ o j low high.
+pub plain_counted-requires-clause-balanced : goal.plain_counted-requires-clause-balanced
+plain_counted-requires-clause-balanced c = λ o j low high.
     subst (λ (xs : List EdgeParts). IsBalancedAt xs o j) (sym (c.in_ok-edges.ensures ∙ ap (flat_map (edges_of_trapezoid A)) c.as_slice.ensures.value)) (seams_balanced o A c.args.sewn.seams.items j)
 
 pub returns-clause-sewn : goal.returns-clause-sewn

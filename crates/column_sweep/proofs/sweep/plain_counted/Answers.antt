@@ -4,7 +4,7 @@ use Rattle.scan_line.specs.Rules.{IsRule}
 use Rattle.column_sweep.specs.Sweeps.{IsSwept}
 use Rattle.column_sweep.proofs.Sweeping.{swept_of_given}
 use Rattle.column_sweep.proofs.Lending.{lent_is_rule, lent_swept}
-use Rattle.column_sweep.proofs.sweep.plain.Goals as goal
+use Rattle.column_sweep.proofs.sweep.plain_counted.Goals as goal
 
 pub new-asked-requires : goal.new-asked-requires
 new-asked-requires g c = lent_is_rule _ _ _ _ c.requires.rule (λ a b h k. (c.requires.rule, (h, k))) (λ a b r h. h) (λ a b r h. h)
@@ -28,7 +28,7 @@ pub returns : goal.returns
 returns g c =
     let post : g.row.F.Denot → ℤ → ℤ → Bool → Type 0 = λ rule a b r. g.F.Fn.post rule (a, (b, tt)) r in
     let kept : c.in_ok-scan.scan.rule.0.now ≡ c.args.rule.now = ap (λ rule. rule.0.now) c.in_ok-scan.ensures.rule ∙ ap (λ rule. rule.0.now) c.new-asked.ensures in
-    IfOk-weaker c.joined.result _ (λ traps. IsSwept (post c.args.rule.now) c.args.edges.items c.args.window traps.items)
-    (λ traps swept. swept_of_given post c.args.rule.now c.in_ok-scan.scan.rule.0.now c.in_ok-scan.scan.edges c.args.edges.items c.args.window c.in_ok-scan.scan.window kept c.in_ok-scan.ensures.edges c.in_ok-scan.ensures.window traps.items
-    (lent_swept (post c.in_ok-scan.scan.rule.0.now) _ (λ a b r h. h) (λ a b r h. h) c.in_ok-scan.scan.edges c.in_ok-scan.scan.window traps.items swept))
+    IfOk-weaker c.joined.result _ (λ swept. IsSwept (post c.args.rule.now) c.args.edges.items c.args.window swept.traps.items)
+    (λ whole swept. swept_of_given post c.args.rule.now c.in_ok-scan.scan.rule.0.now c.in_ok-scan.scan.edges c.args.edges.items c.args.window c.in_ok-scan.scan.window kept c.in_ok-scan.ensures.edges c.in_ok-scan.ensures.window whole.traps.items
+    (lent_swept (post c.in_ok-scan.scan.rule.0.now) _ (λ a b r h. h) (λ a b r h. h) c.in_ok-scan.scan.edges c.in_ok-scan.scan.window whole.traps.items swept))
     c.joined.ensures
