@@ -4,20 +4,18 @@
 mod agreeing;
 mod layouts;
 mod memory;
+mod reading;
 mod records;
 mod shapes;
+mod uniting;
 mod walking;
 
 use agreeing::{Agreement, sweep_both_ways};
-use bool_ops::{Op, combine};
-use gds_reader::read_gds;
-use half_grid::{Trap, Window};
-use layout_model::Pair;
-use memory::greatest_memory;
-use std::alloc::{AllocError, Global};
+use reading::{time_gds, time_oasis};
+use std::alloc::Global;
 use std::process::ExitCode;
-use std::time::Instant;
 use std::{env, io};
+use uniting::{Figure, Way, unite};
 use walking::time_walks;
 
 /// No input is larger than this.
@@ -25,23 +23,11 @@ const MOST: u32 = 16_000_000;
 
 /// What the words ask for.
 enum Task {
-    /// A square array of so many squares a side.
-    Squares(u32),
-    /// So many random rectangles.
-    Random(u32),
-    /// So many tall rectangles, all alive at once.
-    Comb(u32),
-    /// So many upright bars, and as many level ones across them.
-    Hatch(u32),
-    /// So many squares round one point.
-    Pile(u32),
-    /// So many random rectangles, and upright wires over all of them.
-    Wires(u32),
-    /// Wires with so many corners in all, each corner a jog.
-    Jogs(u32),
-    /// A GDSII file of so many rectangles.
+    /// A figure, united.
+    Unite(Figure, Way),
+    /// A GDSII file of so many squares.
     Gds(u32),
-    /// OASIS records of so many rectangles, with all their fields and with their places alone.
+    /// OASIS records and files of so many rectangles, with all their fields and with their places alone.
     Oasis(u32),
     /// Walks over a flat cell of so many squares a side, an array of so many cells a side, and nested arrays.
     Walk(u16),
@@ -49,97 +35,38 @@ enum Task {
     Agree(u32),
 }
 
-fn task_of(kind: &str, count: u32) -> Option<Task> {
+fn count_of(word: &str) -> Option<u32> {
+    let count: u32 = word.parse().ok()?;
     if count > MOST {
         return None;
     }
+    Some(count)
+}
+
+fn task_of(kind: &str, count: u32) -> Option<Task> {
     match kind {
-        "squares" => Some(Task::Squares(count.min(2000))),
-        "random" => Some(Task::Random(count)),
-        "comb" => Some(Task::Comb(count)),
-        "hatch" => Some(Task::Hatch(count.min(1000))),
-        "pile" => Some(Task::Pile(count.min(10_000))),
-        "wires" => Some(Task::Wires(count)),
-        "jogs" => Some(Task::Jogs(count)),
         "walk" => Some(Task::Walk(count.min(2000) as u16)),
         "agree" => Some(Task::Agree(count)),
         "gds" => Some(Task::Gds(count)),
         "oasis" => Some(Task::Oasis(count)),
+        _ => Some(Task::Unite(Figure::named(kind, count)?, Way::Usual)),
+    }
+}
+
+fn plain_task_of(word: &str, kind: &str, count: u32) -> Option<Task> {
+    match word {
+        "plain" => Some(Task::Unite(Figure::named(kind, count)?, Way::Plain)),
         _ => None,
     }
 }
 
 fn asked(words: &[String]) -> Option<Task> {
     match words {
-        [kind, count] => task_of(kind.as_str(), count.as_str().parse().ok()?),
-        _ => None,
-    }
-}
-
-// Unites the trapezoids, and prints how many maximal ones they have and how long it took.
-fn unite(rt: &HostRuntime, alloc: Global, kind: &str, traps: &[Trap]) -> io::Result<()> {
-    let Some(window) = Window::new(-1_000_000_000, 1_000_000_000) else {
-        return Ok(());
-    };
-    let start = Instant::now(rt)?;
-    let Ok(joined) = combine(alloc, Op::Or, traps, &[], window) else {
-        return println!(rt; "{kind}: want of memory");
-    };
-    let milliseconds = start.elapsed(rt)?.as_millis();
-    println!(rt;
-        "{kind}: {} shapes, {} maximal trapezoids, {milliseconds} ms, {} MB",
-        traps.len(),
-        joined.len(),
-        greatest_memory(rt)
-    )
-}
-
-// Reads the file, and prints its size and how long it took.
-fn read(rt: &HostRuntime, alloc: Global, bytes: &[u8]) -> io::Result<()> {
-    let wanted = [Pair {
-        layer: 1,
-        datatype: 0,
-    }];
-    let start = Instant::now(rt)?;
-    let answer = read_gds(alloc, bytes, 1000, &wanted);
-    let milliseconds = start.elapsed(rt)?.as_millis();
-    match answer {
-        Ok(layout) => {
-            let kept = layout.counts.kept;
-            println!(rt;
-                "gds: {} bytes, {kept} shapes, {milliseconds} ms, {} MB",
-                bytes.len(),
-                greatest_memory(rt)
-            )
+        [kind, count] => task_of(kind.as_str(), count_of(count.as_str())?),
+        [word, kind, count] => {
+            plain_task_of(word.as_str(), kind.as_str(), count_of(count.as_str())?)
         }
-        Err(_) => println!(rt; "gds: refused"),
-    }
-}
-
-// Reads the records, and prints their size and how long it took.
-fn read_records(rt: &HostRuntime, alloc: Global, count: u32, is_whole: bool) -> io::Result<()> {
-    let fields = if is_whole {
-        "all fields"
-    } else {
-        "places alone"
-    };
-    let Ok(bytes) = records::rectangles(alloc, count, is_whole) else {
-        return println!(rt; "oasis: want of memory");
-    };
-    let start = Instant::now(rt)?;
-    let placed = records::placed(alloc, bytes.as_slice());
-    let milliseconds = start.elapsed(rt)?.as_millis();
-    println!(rt;
-        "oasis, {fields}: {} bytes, {placed} rectangles, {milliseconds} ms",
-        bytes.len()
-    )
-}
-
-// Unites the trapezoids, where there was memory for them.
-fn unite_made(rt: &HostRuntime, kind: &str, made: Result<Vec<Trap>, AllocError>) -> io::Result<()> {
-    match made {
-        Ok(traps) => unite(rt, rt.alloc(), kind, traps.as_slice()),
-        Err(_) => println!(rt; "{kind}: want of memory"),
+        _ => None,
     }
 }
 
@@ -155,23 +82,11 @@ fn compare(rt: &HostRuntime, alloc: Global, count: u32) -> io::Result<()> {
 
 fn measure(rt: &HostRuntime, alloc: Global, task: Task) -> io::Result<()> {
     match task {
-        Task::Squares(side) => unite_made(rt, "squares", shapes::squares(alloc, side)),
-        Task::Random(count) => unite_made(rt, "random", shapes::rectangles(alloc, count)),
-        Task::Comb(count) => unite_made(rt, "comb", shapes::comb(alloc, count)),
-        Task::Hatch(count) => unite_made(rt, "hatch", shapes::hatch(alloc, count)),
-        Task::Pile(count) => unite_made(rt, "pile", shapes::pile(alloc, count)),
-        Task::Wires(count) => unite_made(rt, "wires", shapes::wires(alloc, count)),
-        Task::Jogs(count) => unite_made(rt, "jogs", shapes::jogs(alloc, count)),
+        Task::Unite(figure, way) => unite(rt, figure, way),
+        Task::Gds(count) => time_gds(rt, alloc, count),
+        Task::Oasis(count) => time_oasis(rt, alloc, count),
         Task::Walk(side) => time_walks(rt, side),
         Task::Agree(count) => compare(rt, alloc, count),
-        Task::Gds(count) => match layouts::file(alloc, count) {
-            Ok(bytes) => read(rt, alloc, bytes.as_slice()),
-            Err(_) => println!(rt; "gds: want of memory"),
-        },
-        Task::Oasis(count) => {
-            read_records(rt, alloc, count, true)?;
-            read_records(rt, alloc, count, false)
-        }
     }
 }
 
@@ -183,7 +98,7 @@ fn run(rt: &HostRuntime) -> io::Result<()> {
     match asked(words.as_slice()) {
         Some(task) => measure(rt, alloc, task),
         None => println!(rt;
-            "words: squares SIDE, hatch SIDE or walk SIDE, random, comb, pile, wires, jogs, gds, oasis or agree COUNT; up to {MOST}"
+            "words: [plain] squares or hatch SIDE, [plain] random, comb, pile, wires or jogs COUNT, walk SIDE, gds, oasis or agree COUNT; up to {MOST}"
         ),
     }
 }
