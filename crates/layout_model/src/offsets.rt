@@ -236,6 +236,7 @@ fn box_of(points: &[Point]) -> Frame
 
 impl Offsets {
     /// These places. One place takes no memory.
+    #[inline(always)]
     pub fn list(alloc: Global, places: &[Point]) -> Result<Offsets, NoMemory>
         ensures ok { IfOk result (λ offsets. offsets ≡ places.now) }
         ensures one { length places.now ≡ 1 → IsOk result }

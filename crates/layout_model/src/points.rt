@@ -26,6 +26,7 @@ impl Model for Points {
 
 impl Points {
     /// The list of these points. Up to eight points take no memory.
+    #[inline(always)]
     pub fn new(alloc: Global, points: &[Point]) -> Result<Points, NoMemory>
         ensures ok { IfOk result (λ list. list ≡ points.now) }
         ensures few { length points.now ≤ 8 → IsOk result }

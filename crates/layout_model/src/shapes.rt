@@ -42,6 +42,7 @@ impl From<NoMemory> for ShapeBad {
     }
 }
 
+#[inline(always)]
 fn is_on_grid(a: Point, b: Point) -> bool
     ensures { IsTrue result ↔ IsOnGrid (a, b) }
 {
@@ -49,6 +50,7 @@ fn is_on_grid(a: Point, b: Point) -> bool
 }
 
 // The number of the first edge that isn't on the grid.
+#[inline(always)]
 fn first_slant(points: &[Point]) -> Option<usize>
     ensures some { IfSome result (IsFirstSlant points.now) }
     ensures none { IfNone result (HasGridEdges points.now) }
@@ -69,6 +71,7 @@ fn first_slant(points: &[Point]) -> Option<usize>
 impl Shape {
     /// The shape of this outline, which may be enlarged. A shape of up to eight points takes no memory. The list isn't
     /// empty, its last point is its first, and all points are within reach.
+    #[inline(always)]
     pub fn new(
         alloc: Global,
         pair: Pair,
