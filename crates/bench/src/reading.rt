@@ -1,6 +1,6 @@
 //! Layout files, read from memory.
 
-use crate::memory::greatest_memory;
+use crate::memory::{greatest_memory, system_time};
 use crate::{layouts, records};
 use gds_reader::read_gds;
 use layout_model::Pair;
@@ -71,14 +71,16 @@ fn time_file(rt: &HostRuntime, alloc: Global, count: u32, is_whole: bool) -> io:
     let Ok(bytes) = records::file(alloc, count, is_whole) else {
         return println!(rt; "oasis file, {fields}: want of memory");
     };
+    let before = system_time(rt);
     let start = Instant::now(rt)?;
     let answer = read_oas(alloc, bytes.as_slice(), 1000, &WANTED);
     let nanoseconds = start.elapsed(rt)?.as_nanos();
+    let in_system = system_time(rt).saturating_sub(before);
     match answer {
         Ok(layout) => {
             let kept = layout.counts.kept;
             println!(rt;
-                "oasis file, {fields}: {} bytes, {kept} shapes, {} ms, {} MB/s, {} MB",
+                "oasis file, {fields}: {} bytes, {kept} shapes, {} ms, of which {in_system} in the system, {} MB/s, {} MB",
                 bytes.len(),
                 nanoseconds / 1_000_000,
                 rate_of(bytes.len(), nanoseconds),
