@@ -1,5 +1,5 @@
 -- The pass over the edges of a row that fills in its runs, in all rows at once.
-use Rattle.std.proofs.Common.{ℕ, ℤ, pos, neg_ℤ, ◌≡◌, ◌+◌, ◌≤◌, ◌<◌, ◌^◌, ◌+ℤ◌, ◌≤ℤ◌, Bool, true, false, IsTrue, List, [], ◌∷◌, ◌++◌, All, Option, Some, None, cond, arith, refl, subst, sym, length}
+use Rattle.std.proofs.Common.{ℕ, ℤ, pos, neg_ℤ, ◌≡◌, ◌+◌, ◌≤◌, ◌<◌, ◌^◌, ◌+ℤ◌, ◌≤ℤ◌, ◌<ℤ◌, Bool, true, false, IsTrue, List, [], ◌∷◌, ◌++◌, All, Option, Some, None, cond, arith, refl, ap, subst, sym, ◌∙◌, length}
 use Rattle.std.specs.Prelude.{◌↔◌, IfSome}
 use Rattle.std.specs.List.{Contains}
 use Rattle.std.proofs.lemmas.Int.{ints}
@@ -10,10 +10,10 @@ use Rattle.half_grid.specs.declared.plane.Line.{Line}
 use Rattle.half_grid.specs.declared.border.Operand.{Operand}
 use Rattle.half_grid.specs.declared.border.Operand.TheVariants.{A, B}
 use Rattle.scan_line.specs.Actives.{AreInOrder}
-use Rattle.scan_line.specs.OpenRuns.{ended_at, open_after, ends_at}
-use Rattle.scan_line.specs.Rules.{IsRule, IsWinding, Takes}
+use Rattle.scan_line.specs.OpenRuns.{IsOpen, ended_at, open_after, ends_at}
+use Rattle.scan_line.specs.Rules.{IsRule, Takes}
 use Rattle.scan_line.specs.Runs.{AreRuns}
-use Rattle.scan_line.specs.Windings.{adds, BeginsOn, IsEven, IsLineOf, HasLinesOf}
+use Rattle.scan_line.specs.Windings.{HasNext, adds, BeginsOn, IsEven, IsLineOf, HasLinesOf}
 use Rattle.scan_line.specs.declared.runs.Run.{Run}
 use Rattle.scan_line.specs.declared.sums.Windings.{Windings}
 use Rattle.scan_line.proofs.RuleLemmas.{takes_no_nothing}
@@ -24,10 +24,10 @@ use Rattle.scan_line.proofs.RowRuns.{SoFar, so_far_none, so_far_same_line, so_fa
 pub record AreSums (w : Windings) (left : List EdgeParts) : Type 0 where
   pub all_a : w.a +ℤ total A left ≡ pos 0
   pub all_b : w.b +ℤ total B left ≡ pos 0
-  pub low_a : pos (length left) ≤ℤ (w.a +ℤ pos (2 ^ 64))
-  pub high_a : (w.a +ℤ pos (length left)) ≤ℤ pos (2 ^ 64)
-  pub low_b : pos (length left) ≤ℤ (w.b +ℤ pos (2 ^ 64))
-  pub high_b : (w.b +ℤ pos (length left)) ≤ℤ pos (2 ^ 64)
+  pub low_a : pos (length left) ≤ℤ (w.a +ℤ pos (2 ^ 63))
+  pub high_a : (w.a +ℤ pos (length left)) <ℤ pos (2 ^ 63)
+  pub low_b : pos (length left) ≤ℤ (w.b +ℤ pos (2 ^ 63))
+  pub high_b : (w.b +ℤ pos (length left)) <ℤ pos (2 ^ 63)
 
 -- no run is open past all edges
 abbrev pub EndsClosed : List EdgeParts → Option Run → Type 0
@@ -48,7 +48,7 @@ ends_none : (edges : List EdgeParts) → EndsClosed edges None
 ends_none [] = refl
 ends_none (e ∷ edges) = tt
 
-pub filled_none : (pre : ℤ → ℤ → Type 0) (post : ℤ → ℤ → Bool → Type 0) (edges : List EdgeParts) (w : Windings) (runs : List Run) (most : ℕ) → IsRule pre post → ((o : Operand) → IsEven edges o) → length edges < 2 ^ 64 → length edges ≤ most → w.a ≡ pos 0 → w.b ≡ pos 0 → runs ≡ []
+pub filled_none : (pre : ℤ → ℤ → Type 0) (post : ℤ → ℤ → Bool → Type 0) (edges : List EdgeParts) (w : Windings) (runs : List Run) (most : ℕ) → IsRule pre post → ((o : Operand) → IsEven edges o) → length edges < 2 ^ 63 → length edges ≤ most → w.a ≡ pos 0 → w.b ≡ pos 0 → runs ≡ []
     → Filled post edges edges w None runs most
 filled_none pre post edges w runs most rule even short fits a b none = subst (λ (rs : List Run). Filled post edges edges w None rs most) (sym none) (record {
   rows = λ j ordered. so_far_none pre post edges j w rule ordered a b;
@@ -75,10 +75,10 @@ small_step false up = (omega (arith, ints), omega (arith, ints))
 adds_small : (o : Operand) (e : EdgeParts) → (neg_ℤ (pos 1) ≤ℤ adds o e) × (adds o e ≤ℤ pos 1)
 adds_small o e = small_step (is_of o e.operand) e.up
 
-low_past : (x y s : ℤ) (n : ℕ) → y ≡ x +ℤ s → neg_ℤ (pos 1) ≤ℤ s → pos (n + 1) ≤ℤ (x +ℤ pos (2 ^ 64)) → pos n ≤ℤ (y +ℤ pos (2 ^ 64))
+low_past : (x y s : ℤ) (n : ℕ) → y ≡ x +ℤ s → neg_ℤ (pos 1) ≤ℤ s → pos (n + 1) ≤ℤ (x +ℤ pos (2 ^ 63)) → pos n ≤ℤ (y +ℤ pos (2 ^ 63))
 low_past x y s n e h k = omega (arith, ints, e, h, k)
 
-high_past : (x y s : ℤ) (n : ℕ) → y ≡ x +ℤ s → s ≤ℤ pos 1 → (x +ℤ pos (n + 1)) ≤ℤ pos (2 ^ 64) → (y +ℤ pos n) ≤ℤ pos (2 ^ 64)
+high_past : (x y s : ℤ) (n : ℕ) → y ≡ x +ℤ s → s ≤ℤ pos 1 → (x +ℤ pos (n + 1)) <ℤ pos (2 ^ 63) → (y +ℤ pos n) <ℤ pos (2 ^ 63)
 high_past x y s n e h k = omega (arith, ints, e, h, k)
 
 one_more : (e : EdgeParts) (rest : List EdgeParts) → length (e ∷ rest) ≡ length rest + 1
@@ -93,27 +93,30 @@ sums_past w now e rest i a b =
     record {
       all_a = omega (arith, ints, a, all_a);
       all_b = omega (arith, ints, b, all_b);
-      low_a = low_past w.a now.a (adds A e) (length rest) a (adds_small A e).0 (subst (λ (n : ℕ). pos n ≤ℤ (w.a +ℤ pos (2 ^ 64))) one i.low_a);
-      high_a = high_past w.a now.a (adds A e) (length rest) a (adds_small A e).1 (subst (λ (n : ℕ). (w.a +ℤ pos n) ≤ℤ pos (2 ^ 64)) one i.high_a);
-      low_b = low_past w.b now.b (adds B e) (length rest) b (adds_small B e).0 (subst (λ (n : ℕ). pos n ≤ℤ (w.b +ℤ pos (2 ^ 64))) one i.low_b);
-      high_b = high_past w.b now.b (adds B e) (length rest) b (adds_small B e).1 (subst (λ (n : ℕ). (w.b +ℤ pos n) ≤ℤ pos (2 ^ 64)) one i.high_b);
+      low_a = low_past w.a now.a (adds A e) (length rest) a (adds_small A e).0 (subst (λ (n : ℕ). pos n ≤ℤ (w.a +ℤ pos (2 ^ 63))) one i.low_a);
+      high_a = high_past w.a now.a (adds A e) (length rest) a (adds_small A e).1 (subst (λ (n : ℕ). (w.a +ℤ pos n) <ℤ pos (2 ^ 63)) one i.high_a);
+      low_b = low_past w.b now.b (adds B e) (length rest) b (adds_small B e).0 (subst (λ (n : ℕ). pos n ≤ℤ (w.b +ℤ pos (2 ^ 63))) one i.low_b);
+      high_b = high_past w.b now.b (adds B e) (length rest) b (adds_small B e).1 (subst (λ (n : ℕ). (w.b +ℤ pos n) <ℤ pos (2 ^ 63)) one i.high_b);
     }
 
-pub record BothWindings (w : Windings) : Type 0 where
-  pub a : IsWinding w.a
-  pub b : IsWinding w.b
+-- what one more edge asks of them
+pub record BothNext (w : Windings) : Type 0 where
+  pub a : HasNext w.a
+  pub b : HasNext w.b
 
-low_fits : (x : ℤ) (n : ℕ) → pos n ≤ℤ (x +ℤ pos (2 ^ 64)) → neg_ℤ (pos (2 ^ 64)) ≤ℤ x
-low_fits x n h = omega (arith, ints, h)
+next_of : (x : ℤ) (n : ℕ) → pos (n + 1) ≤ℤ (x +ℤ pos (2 ^ 63)) → (x +ℤ pos (n + 1)) <ℤ pos (2 ^ 63) → HasNext x
+next_of x n low high = record { below = omega (arith, ints, low, high); above = omega (arith, ints, low, high) }
 
-high_fits : (x : ℤ) (n : ℕ) → (x +ℤ pos n) ≤ℤ pos (2 ^ 64) → x ≤ℤ pos (2 ^ 64)
-high_fits x n h = omega (arith, ints, h)
+next_both : (w : Windings) (e : EdgeParts) (rest : List EdgeParts) → AreSums w (e ∷ rest) → BothNext w
+next_both w e rest i =
+    let one = one_more e rest in
+    record {
+      a = next_of w.a (length rest) (subst (λ (n : ℕ). pos n ≤ℤ (w.a +ℤ pos (2 ^ 63))) one i.low_a) (subst (λ (n : ℕ). (w.a +ℤ pos n) <ℤ pos (2 ^ 63)) one i.high_a);
+      b = next_of w.b (length rest) (subst (λ (n : ℕ). pos n ≤ℤ (w.b +ℤ pos (2 ^ 63))) one i.low_b) (subst (λ (n : ℕ). (w.b +ℤ pos n) <ℤ pos (2 ^ 63)) one i.high_b);
+    }
 
-pub sums_fit : (w : Windings) (left : List EdgeParts) → AreSums w left → BothWindings w
-sums_fit w left i = record {
-  a = record { low = low_fits w.a (length left) i.low_a; high = high_fits w.a (length left) i.high_a };
-  b = record { low = low_fits w.b (length left) i.low_b; high = high_fits w.b (length left) i.high_b };
-}
+pub sums_next : (w : Windings) (left : List EdgeParts) (e : EdgeParts) (rest : List EdgeParts) → AreSums w left → left ≡ e ∷ rest → BothNext w
+sums_next w left e rest i same = next_both w e rest (subst (AreSums w) same i)
 
 ends_same_line : (e : EdgeParts) (rest : List EdgeParts) (begun : Option Run) → BeginsOn e.line rest → EndsClosed rest begun
 ends_same_line e [] begun on = absurd on
@@ -199,9 +202,6 @@ filled_rows post edges left w begun runs most i h j ordered =
     let closed : EndsClosed [] begun = subst (λ (l : List EdgeParts). EndsClosed l begun) none i.ends in
     runs_of_row post edges left j w begun runs (i.rows j ordered) none closed
 
-pub sums_next : (w now : Windings) (left : List EdgeParts) (e : EdgeParts) (rest : List EdgeParts) → AreSums w left → left ≡ e ∷ rest → now.a ≡ w.a +ℤ adds A e → now.b ≡ w.b +ℤ adds B e → BothWindings now
-sums_next w now left e rest i same a b = sums_fit now rest (sums_past w now e rest (subst (AreSums w) same i) a b)
-
 pub filled_room : (post : ℤ → ℤ → Bool → Type 0) (edges left : List EdgeParts) (w : Windings) (begun : Option Run) (runs : List Run) (most now : ℕ) → now ≡ most → Filled post edges left w begun runs most → Filled post edges left w begun runs now
 filled_room post edges left w begun runs most now e i = subst (λ (n : ℕ). Filled post edges left w begun runs n) (sym e) i
 
@@ -211,3 +211,72 @@ on_line line own rest e h = subst (λ (l : Line). BeginsOn l rest) e h
 
 pub not_both : (b : Bool) → b ≡ false → b ≡ true → ⊥
 not_both b h k = let none : ⊥ = cc in none
+
+-- the same, where an open run is the last of the list
+pub record Filling (post : ℤ → ℤ → Bool → Type 0) (edges left : List EdgeParts) (w : Windings) (inside : Bool) (runs : List Run) (most : ℕ) : Type 0 where
+  pub done : List Run
+  pub begun : Option Run
+  pub is_open : IsOpen runs inside done begun
+  pub filled : Filled post edges left w begun done most
+
+pub filling_none : (pre : ℤ → ℤ → Type 0) (post : ℤ → ℤ → Bool → Type 0) (edges : List EdgeParts) (w : Windings) (runs : List Run) (most : ℕ) → IsRule pre post → ((o : Operand) → IsEven edges o) → length edges < 2 ^ 63 → length edges ≤ most → w.a ≡ pos 0 → w.b ≡ pos 0 → runs ≡ []
+    → Filling post edges edges w false runs most
+filling_none pre post edges w runs most rule even short fits a b none = record {
+  done = [];
+  begun = None;
+  is_open = record { whole = none; is = refl };
+  filled = filled_none pre post edges w [] most rule even short fits a b refl;
+}
+
+pub filling_same_line : (post : ℤ → ℤ → Bool → Type 0) (edges left : List EdgeParts) (e : EdgeParts) (rest : List EdgeParts) (w now : Windings) (inside : Bool) (runs : List Run) (most : ℕ)
+    → Filling post edges left w inside runs most → left ≡ e ∷ rest → now.a ≡ w.a +ℤ adds A e → now.b ≡ w.b +ℤ adds B e → BeginsOn e.line rest → Filling post edges rest now inside runs most
+filling_same_line post edges left e rest w now inside runs most i same a b on = record {
+  done = i.done;
+  begun = i.begun;
+  is_open = i.is_open;
+  filled = filled_same_line post edges left e rest w now i.begun i.done most i.filled same a b on;
+}
+
+-- what a turn makes of the list
+abbrev pub Turns : List Run → List Run → Bool → Line → Windings → Bool → Type 0
+Turns runs now inside line w taken = (done : List Run) (run : Option Run) → IsOpen runs inside done run → IsOpen now taken (done ++ ends_at line run taken) (open_after line w run taken)
+
+pub filling_last : (pre : ℤ → ℤ → Type 0) (post : ℤ → ℤ → Bool → Type 0) (edges left : List EdgeParts) (e : EdgeParts) (rest : List EdgeParts) (w now : Windings) (inside taken : Bool) (runs now_runs : List Run) (most now_most : ℕ)
+    → now_most ≡ most → IsRule pre post → Filling post edges left w inside runs most → left ≡ e ∷ rest → now.a ≡ w.a +ℤ adds A e → now.b ≡ w.b +ℤ adds B e → (BeginsOn e.line rest → ⊥)
+    → IsTrue taken ↔ Takes post now.a now.b → Turns runs now_runs inside e.line now taken → Filling post edges rest now taken now_runs now_most
+filling_last pre post edges left e rest w now inside taken runs now_runs most now_most room rule i same a b last says turns = record {
+  done = i.done ++ ends_at e.line i.begun taken;
+  begun = open_after e.line now i.begun taken;
+  is_open = turns i.done i.begun i.is_open;
+  filled = filled_room post edges rest now (open_after e.line now i.begun taken) (i.done ++ ends_at e.line i.begun taken) most now_most room
+      (filled_last pre post edges left e rest w now i.begun (open_after e.line now i.begun taken) taken i.done (i.done ++ ends_at e.line i.begun taken) most rule i.filled same a b last says refl refl);
+}
+
+-- where none is open there is room for one
+closed_list : (done runs : List Run) (begun : Option Run) → IsOpen runs false done begun → runs ≡ done
+closed_list done runs None i = i.whole ∙ append-nil done
+closed_list done runs (Some run) i = absurd (not_both false refl i.is)
+
+pub room_for_one : (post : ℤ → ℤ → Bool → Type 0) (edges left : List EdgeParts) (e : EdgeParts) (rest : List EdgeParts) (w : Windings) (inside : Bool) (runs : List Run) (most : ℕ) → Filling post edges left w inside runs most → left ≡ e ∷ rest → inside ≡ false → length runs < most
+room_for_one post edges left e rest w inside runs most i same closed =
+    let fits = i.filled.fits in
+    let shut : IsOpen runs false i.done i.begun = subst (λ (b : Bool). IsOpen runs b i.done i.begun) closed i.is_open in
+    let all = closed_list i.done runs i.begun shut in
+    let more : length left ≡ length rest + 1 = ap length same ∙ one_more e rest in
+    omega (arith, fits, more, ap length all)
+
+-- past all edges none is open
+all_done : (edges left : List EdgeParts) (begun : Option Run) (done runs : List Run) (inside : Bool) → EndsClosed left begun → left ≡ [] → IsOpen runs inside done begun → runs ≡ done
+all_done edges [] None done runs inside closed none i = i.whole ∙ append-nil done
+all_done edges [] (Some run) done runs inside closed none i = let no : ⊥ = cc in absurd no
+all_done edges (e ∷ left) begun done runs inside closed none i = let no : ⊥ = cc in absurd no
+
+pub filling_done : (post : ℤ → ℤ → Bool → Type 0) (edges left : List EdgeParts) (w : Windings) (inside : Bool) (runs : List Run) (most : ℕ) → (i : Filling post edges left w inside runs most) → length left ≡ 0 → runs ≡ i.done
+filling_done post edges left w inside runs most i h = all_done edges left i.begun i.done runs inside i.filled.ends (nil_of left h) i.is_open
+
+pub filling_rows : (post : ℤ → ℤ → Bool → Type 0) (edges left : List EdgeParts) (w : Windings) (inside : Bool) (runs : List Run) (most : ℕ) → Filling post edges left w inside runs most → length left ≡ 0 → (j : ℤ) → AreInOrder j edges → AreRuns post edges j runs
+filling_rows post edges left w inside runs most i h j ordered =
+    subst (AreRuns post edges j) (sym (filling_done post edges left w inside runs most i h)) (filled_rows post edges left w i.begun i.done most i.filled h j ordered)
+
+pub filling_lines : (post : ℤ → ℤ → Bool → Type 0) (edges left : List EdgeParts) (w : Windings) (inside : Bool) (runs : List Run) (most : ℕ) → Filling post edges left w inside runs most → length left ≡ 0 → All (HasLinesOf edges) runs
+filling_lines post edges left w inside runs most i h = subst (All (HasLinesOf edges)) (sym (filling_done post edges left w inside runs most i h)) i.filled.lines

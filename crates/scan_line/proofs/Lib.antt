@@ -4,6 +4,7 @@ pub mod Turning
 pub mod RuleLemmas
 pub mod RowWindings
 pub mod RowRuns
+pub mod Opening
 pub mod FillLemmas
 pub mod Keeping
 pub mod Starting

@@ -1,6 +1,6 @@
 -- A run that began and didn't end yet, at the last edge of a line: where the tiles on the line's right are taken it
 -- goes on, or begins, and where they aren't it ends.
-use Rattle.std.specs.Prelude.{Bool, true, false, List, [], ◌∷◌, Option, Some, None}
+use Rattle.std.specs.Prelude.{◌≡◌, ◌++◌, Bool, true, false, List, [], ◌∷◌, Option, Some, None}
 use Rattle.half_grid.specs.declared.plane.Line.{Line}
 use Rattle.scan_line.specs.declared.runs.Run.{Run}
 use Rattle.scan_line.specs.declared.sums.Windings.{Windings}
@@ -24,3 +24,16 @@ abbrev pub ends_at : Line → Option Run → Bool → List Run
 ends_at line None taken = []
 ends_at line (Some run) true = []
 ends_at line (Some run) false = ended_at line run ∷ []
+
+-- where a run is open, it is the last of the list: the others are done
+abbrev pub opened : Option Run → List Run
+opened None = []
+opened (Some run) = run ∷ []
+
+abbrev pub some_open : Option Run → Bool
+some_open None = false
+some_open (Some run) = true
+
+pub record IsOpen (runs : List Run) (inside : Bool) (done : List Run) (run : Option Run) : Type 0 where
+  pub whole : runs ≡ done ++ opened run
+  pub is : inside ≡ some_open run

@@ -1,10 +1,12 @@
 -- Where the order of edges may change: at the end of one, or where two of different lines meet.
 --
 -- Of edges in the order of a row two that meet above it, with no meeting of others between, are neighbours.
-use Rattle.std.specs.Prelude.{ℤ, ◌≤ℤ◌, ◌<ℤ◌, ◌≡◌, ◌≢◌, ◌⊎◌, List, [], ◌∷◌}
+use Rattle.std.specs.Prelude.{ℕ, ℤ, ◌≤ℤ◌, ◌<ℤ◌, ◌≡◌, ◌≢◌, ◌⊎◌, List, [], ◌∷◌}
 use Rattle.std.specs.List.{Contains}
 use Rattle.half_grid.specs.Edges.{EdgeParts}
 use Rattle.half_grid.specs.Meetings.{MeetAt}
+use Rattle.half_grid.specs.declared.plane.Line.{Line}
+use Rattle.half_grid.specs.declared.plane.Line.TheVariants.{Upright, Rising, Falling}
 use Rattle.scan_line.specs.declared.runs.Slab.{Slab}
 
 -- strictly between the two Y the edges meet nowhere, unless they lie on one line
@@ -45,3 +47,9 @@ pub record IsLower (slab rows : Slab) : Type 0 where
   pub bottom : rows.y0 ≡ slab.y0
   pub has_rows : rows.y0 <ℤ rows.y1
   pub top : rows.y1 ≤ℤ slab.y1
+
+-- the way that a line goes, as a number: two lines of one way meet nowhere, or are one
+abbrev pub way_of : Line → ℕ
+way_of (Upright c) = 0
+way_of (Rising c) = 1
+way_of (Falling c) = 2

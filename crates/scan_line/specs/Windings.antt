@@ -1,5 +1,5 @@
 -- The windings along a row, edge by edge from left to right.
-use Rattle.std.specs.Prelude.{ℤ, pos, neg_ℤ, ◌≡◌, ◌&&◌, not, if◌then◌else◌, List, [], ◌∷◌, count_by}
+use Rattle.std.specs.Prelude.{ℤ, pos, neg_ℤ, ◌≡◌, ◌+ℤ◌, ◌<ℤ◌, ◌^◌, ◌&&◌, not, if◌then◌else◌, List, [], ◌∷◌, count_by}
 use Rattle.std.specs.List.{Contains}
 use Rattle.half_grid.specs.Edges.{EdgeParts, is_of}
 use Rattle.half_grid.specs.declared.plane.Line.{Line}
@@ -7,6 +7,11 @@ use Rattle.half_grid.specs.declared.border.Operand.{Operand}
 use Rattle.half_grid.specs.declared.border.Operand.TheVariants.{A, B}
 use Rattle.scan_line.specs.declared.runs.Run.{Run}
 use Rattle.scan_line.specs.declared.sums.Windings.{Windings}
+
+-- one less and one more than the winding are whole numbers of 64 bits
+pub record HasNext (w : ℤ) : Type 0 where
+  pub below : neg_ℤ (pos (2 ^ 63)) <ℤ w
+  pub above : (w +ℤ pos 1) <ℤ pos (2 ^ 63)
 
 -- what an edge adds to an operand's winding at the tiles on its right
 abbrev pub adds : Operand → EdgeParts → ℤ

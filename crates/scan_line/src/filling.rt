@@ -1,8 +1,8 @@
 //! The runs of a row, from its edges.
-ghost use Rattle.std.specs.Prelude.{◌≡◌, ◌↔◌, ◌<◌, ◌≤◌, ◌++◌, ℤ, All, IsTrue, length, vec_len, vec_capacity};
+ghost use Rattle.std.specs.Prelude.{◌≡◌, ◌↔◌, ◌<◌, ◌≤◌, ◌++◌, ◌∷◌, ℤ, List, [], Option, All, IsTrue, false, length, vec_len, vec_capacity};
 ghost use Rattle.half_grid.specs.declared.border.Operand.{Operand};
 ghost use Rattle.scan_line.specs.Actives.{AreInOrder};
-ghost use Rattle.scan_line.specs.OpenRuns.{open_after, ends_at};
+ghost use Rattle.scan_line.specs.OpenRuns.{IsOpen, run_between, ended_at, open_after, ends_at};
 ghost use Rattle.scan_line.specs.Rules.{IsRule};
 ghost use Rattle.scan_line.specs.Runs.{AreRuns};
 ghost use Rattle.scan_line.specs.Windings.{BeginsOn, HasLinesOf, IsEven};
@@ -23,44 +23,47 @@ fn goes_on(line: Line, edges: &[Edge]) -> bool
     }
 }
 
-// At the last edge of a line: a run begins there, goes on, or ends. Gives the one that is open then.
+// Begins a run at the line.
 #[inline]
-fn turn(
-    runs: &mut Vec<Run>,
-    run: Option<Run>,
-    line: Line,
-    windings: Windings,
-    taken: bool,
-) -> Option<Run>
+fn begin(runs: &mut Vec<Run>, line: Line, windings: Windings)
     requires { vec_len runs.old < vec_capacity runs.old }
-    ensures run { result ≡ open_after line windings run taken }
-    ensures runs { runs.new.items ≡ runs.old.items ++ ends_at line run taken }
+    ensures items { runs.new.items ≡ runs.old.items ++ run_between line line windings ∷ [] }
     ensures room { vec_capacity runs.new ≡ vec_capacity runs.old }
 {
-    match run {
-        None => {
-            if taken {
-                return Some(Run {
-                    left: line,
-                    right: line,
-                    a: windings.a,
-                    b: windings.b,
-                });
-            }
-            None
+    runs.push_reserved(Run {
+        left: line,
+        right: line,
+        a: i128::from(windings.a),
+        b: i128::from(windings.b),
+    });
+}
+
+// Ends the last run at the line.
+#[inline]
+fn end(runs: &mut Vec<Run>, line: Line)
+    ensures items { (done : List Run) (run : Run) → runs.old.items ≡ done ++ run ∷ [] → runs.new.items ≡ done ++ ended_at line run ∷ [] }
+    ensures room { vec_capacity runs.new ≡ vec_capacity runs.old }
+{
+    if let Some(run) = runs.last_mut() {
+        run.right = line;
+    }
+}
+
+// At the last edge of a line: a run begins there, goes on, or ends. The last run is one that is open where `inside`.
+#[inline]
+fn turn(runs: &mut Vec<Run>, inside: bool, line: Line, windings: Windings, taken: bool)
+    requires { inside ≡ false → vec_len runs.old < vec_capacity runs.old }
+    ensures items { (done : List Run) (run : Option Run) → IsOpen runs.old.items inside done run → IsOpen runs.new.items taken (done ++ ends_at line run taken) (open_after line windings run taken) }
+    ensures room { vec_capacity runs.new ≡ vec_capacity runs.old }
+{
+    if taken {
+        if !inside {
+            begin(runs, line, windings);
         }
-        Some(run) => {
-            if taken {
-                return Some(run);
-            }
-            runs.push_reserved(Run {
-                left: run.left,
-                right: line,
-                a: run.a,
-                b: run.b,
-            });
-            None
-        }
+        return;
+    }
+    if inside {
+        end(runs, line);
     }
 }
 
@@ -75,13 +78,14 @@ pub(crate) fn fill<F: Fn(i128, i128) -> bool>(runs: &mut Vec<Run>, edges: &[Edge
 {
     runs.clear();
     let mut windings = Windings::none();
-    let mut open = None;
+    let mut inside = false;
     let mut left = edges;
     while let Some((edge, rest)) = left.split_first() {
         windings = windings.past(edge);
-        let line = edge.line();
-        if !goes_on(line, rest) {
-            open = turn(runs, open, line, windings, takes(rule, windings));
+        if !goes_on(edge.line(), rest) {
+            let taken = takes(rule, windings);
+            turn(runs, inside, edge.line(), windings, taken);
+            inside = taken;
         }
         left = rest;
     }

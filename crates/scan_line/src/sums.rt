@@ -1,42 +1,29 @@
 //! The two windings along a row.
-ghost use Rattle.std.specs.Prelude.{◌≡◌, ◌↔◌, ◌+ℤ◌, pos, IsTrue};
-ghost use Rattle.half_grid.specs.Edges.{is_of};
+ghost use Rattle.std.specs.Prelude.{◌≡◌, ◌↔◌, ◌+ℤ◌, if◌then◌else◌, pos, neg_ℤ, IsTrue};
 ghost use Rattle.half_grid.specs.declared.border.Operand.TheVariants.{A, B};
-ghost use Rattle.scan_line.specs.Rules.{IsRule, IsWinding, Takes};
-ghost use Rattle.scan_line.specs.Windings.{adds};
+ghost use Rattle.scan_line.specs.Rules.{IsRule, Takes};
+ghost use Rattle.scan_line.specs.Windings.{HasNext, adds};
 
 use crate::rule::Rule;
 use half_grid::{Edge, Operand};
 
-/// The windings of both operands.
+/// The windings of both operands. A list has fewer than `2^63` edges.
 #[derive(Clone, Copy)]
 pub(crate) struct Windings {
-    pub(crate) a: i128,
-    pub(crate) b: i128,
+    pub(crate) a: i64,
+    pub(crate) b: i64,
 }
 
-// Whether the edge belongs to the operand.
+// The winding right of one more edge of its operand.
 #[inline]
-fn belongs(edge: &Edge, operand: Operand) -> bool
-    ensures { result ≡ is_of operand edge.now.operand }
+fn crossed(winding: i64, up: bool) -> i64
+    requires { HasNext winding }
+    ensures { result ≡ winding +ℤ (if up then pos 1 else neg_ℤ (pos 1)) }
 {
-    match (operand, edge.operand()) {
-        (Operand::A, Operand::A) => true,
-        (Operand::A, Operand::B) => false,
-        (Operand::B, Operand::A) => false,
-        (Operand::B, Operand::B) => true,
+    if up {
+        return winding + 1;
     }
-}
-
-// What the edge adds to the winding of the operand.
-#[inline]
-fn step(edge: &Edge, operand: Operand) -> i128
-    ensures { result ≡ adds operand edge.now }
-{
-    if !belongs(edge, operand) {
-        return 0;
-    }
-    if edge.is_up() { 1 } else { -1 }
+    winding - 1
 }
 
 impl Windings {
@@ -51,14 +38,20 @@ impl Windings {
     /// Right of one more edge.
     #[inline]
     pub(crate) fn past(self, edge: &Edge) -> Windings
-        requires a { IsWinding self.a }
-        requires b { IsWinding self.b }
+        requires a { HasNext self.a }
+        requires b { HasNext self.b }
         ensures a { result.a ≡ self.a +ℤ adds A edge.now }
         ensures b { result.b ≡ self.b +ℤ adds B edge.now }
     {
-        Windings {
-            a: self.a + step(edge, Operand::A),
-            b: self.b + step(edge, Operand::B),
+        match edge.operand() {
+            Operand::A => Windings {
+                a: crossed(self.a, edge.is_up()),
+                b: self.b,
+            },
+            Operand::B => Windings {
+                a: self.a,
+                b: crossed(self.b, edge.is_up()),
+            },
         }
     }
 }
@@ -66,10 +59,8 @@ impl Windings {
 /// Whether the rule takes the windings.
 #[inline]
 pub(crate) fn takes<F: Fn(i128, i128) -> bool>(rule: &Rule<F>, windings: Windings) -> bool
-    requires rule { IsRule (F.pre rule.now) (F.post rule.now) }
-    requires a { IsWinding windings.a }
-    requires b { IsWinding windings.b }
+    requires { IsRule (F.pre rule.now) (F.post rule.now) }
     ensures { IsTrue result ↔ Takes (F.post rule.now) windings.a windings.b }
 {
-    rule.asks(windings.a, windings.b)
+    rule.asks(i128::from(windings.a), i128::from(windings.b))
 }
