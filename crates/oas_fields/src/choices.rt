@@ -2,12 +2,14 @@
 ghost use Rattle.std.specs.Prelude.{◌≡◌};
 ghost use Rattle.oas_fields.specs.Steps.{value_or, height_by};
 ghost use Rattle.oas_fields.specs.Values.{or_else, length_of};
-ghost use Rattle.oas_fields.specs.Writes.{repetition_by};
+ghost use Rattle.oas_fields.specs.Writes.{repetition_by, writes_of};
+ghost use Rattle.oas_record.specs.Plain.{rectangle_of};
 
 use crate::extension::Extension;
 use crate::written::Written;
-use oas_record::{Called, Deltas, Rep};
+use oas_record::{Called, Deltas, PlainRectangle, Rep};
 
+#[inline(always)]
 pub(crate) fn number_or(written: Option<u64>, before: Option<u64>) -> Option<u64>
     ensures { result ≡ or_else written before }
 {
@@ -17,6 +19,7 @@ pub(crate) fn number_or(written: Option<u64>, before: Option<u64>) -> Option<u64
     }
 }
 
+#[inline(always)]
 pub(crate) fn length_or(written: Option<i128>, before: Option<i128>) -> Option<i128>
     ensures { result ≡ or_else written before }
 {
@@ -26,6 +29,7 @@ pub(crate) fn length_or(written: Option<i128>, before: Option<i128>) -> Option<i
     }
 }
 
+#[inline(always)]
 pub(crate) fn cell_or(written: Option<Called>, before: Option<Called>) -> Option<Called>
     ensures { result ≡ or_else written before }
 {
@@ -35,6 +39,7 @@ pub(crate) fn cell_or(written: Option<Called>, before: Option<Called>) -> Option
     }
 }
 
+#[inline(always)]
 pub(crate) fn mode_or(written: Option<bool>, before: bool) -> bool
     ensures { result ≡ value_or written before }
 {
@@ -45,6 +50,7 @@ pub(crate) fn mode_or(written: Option<bool>, before: bool) -> bool
 }
 
 /// The height that a record writes, with this width: a square's is the width.
+#[inline(always)]
 pub(crate) fn height_by(written: Written, width: Option<u64>) -> Option<u64>
     ensures { result ≡ height_by written width }
 {
@@ -54,7 +60,19 @@ pub(crate) fn height_by(written: Written, width: Option<u64>) -> Option<u64>
     written.height
 }
 
+/// The height that a RECTANGLE writes, with this width: a square's is the width.
+#[inline(always)]
+pub(crate) fn square_height(current: &PlainRectangle, width: Option<u64>) -> Option<u64>
+    ensures { result ≡ height_by (writes_of (rectangle_of current.now)) width }
+{
+    if current.info >= 128 {
+        return width;
+    }
+    current.height
+}
+
 /// The length of an end of a path of this half width.
+#[inline(always)]
 pub(crate) fn length_of(half_width: Option<u64>, written: Option<Extension>) -> Option<i128>
     ensures { result ≡ length_of half_width written }
 {

@@ -2,14 +2,17 @@
 ghost use Rattle.std.specs.Prelude.{List, [], ◌∷◌, ◌^◌};
 ghost use Rattle.oas_fields.specs.Steps.{AreWritten, AreKept};
 ghost use Rattle.oas_fields.specs.Values.{AreFields, ArePlacesWithin};
+ghost use Rattle.oas_fields.specs.Writes.{writes_of};
+ghost use Rattle.oas_record.specs.Plain.{rectangle_of};
 ghost use Rattle.oas_record.specs.declared.records.OasRecord.{OasRecord as ARecord};
 
 use crate::choices::{
     cell_or, height_by, keep_points, keep_repetition, length_of, length_or, mode_or, number_or,
+    square_height,
 };
-use crate::places::{Place, moved};
+use crate::places::{Place, Step, moved};
 use crate::written::Written;
-use oas_record::{Called, Deltas, Lists, OasRecord, Rep};
+use oas_record::{Called, Deltas, Lists, OasRecord, PlainRectangle, Rep};
 
 /// The values that the fields of the last record have, written or not: of each modal variable the value that was written
 /// last in the same cell, None where none was, and the positions. Lengths are in grid steps.
@@ -90,6 +93,34 @@ impl Fields {
         }
         self.put(written);
         self.keep(lists);
+    }
+
+    /// Takes a RECTANGLE that writes no repetition: the values are those of its own fields then. Positions before it are
+    /// within 2^100 of 0.
+    #[inline(always)]
+    pub fn take_rectangle(&mut self, current: &PlainRectangle)
+        requires near { ArePlacesWithin (2 ^ 100) self.old }
+        ensures fields { (past : List ARecord) → AreFields past self.old → AreFields (rectangle_of current.now ∷ past) self.new }
+    {
+        self.put_rectangle(current);
+    }
+
+    // Takes what a RECTANGLE writes but for its repetition.
+    #[inline(always)]
+    fn put_rectangle(&mut self, current: &PlainRectangle)
+        requires near { ArePlacesWithin (2 ^ 100) self.old }
+        ensures { AreWritten (writes_of (rectangle_of current.now)) self.old self.new }
+    {
+        self.layer = number_or(current.layer, self.layer);
+        self.datatype = number_or(current.datatype, self.datatype);
+        self.width = number_or(current.width, self.width);
+        let height = square_height(current, self.width);
+        self.height = number_or(height, self.height);
+        let step = Step {
+            x: current.x,
+            y: current.y,
+        };
+        self.geometry = moved(self.is_relative, step, self.geometry);
     }
 
     // Takes what a record that doesn't begin a cell writes but for lists.

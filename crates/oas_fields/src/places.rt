@@ -22,6 +22,7 @@ pub(crate) struct Step {
 }
 
 // A coordinate with what is written of it.
+#[inline(always)]
 fn coordinate(is_relative: bool, written: Option<i64>, before: i128) -> i128
     requires { IsNear before }
     ensures { result ≡ coordinate_moved is_relative written before }
@@ -38,6 +39,7 @@ fn coordinate(is_relative: bool, written: Option<i64>, before: i128) -> i128
 }
 
 /// The position behind a record that writes this of it.
+#[inline(always)]
 pub(crate) fn moved(is_relative: bool, written: Step, before: Place) -> Place
     requires { IsPlaceWithin (2 ^ 100) before }
     ensures { result ≡ place_moved is_relative written before }

@@ -3,7 +3,7 @@ ghost use Rattle.std.specs.Prelude.{◌≡◌, ◌^◌, true};
 ghost use Rattle.oas_fields.specs.Values.{IsPlaceWithin, ArePlacesWithin};
 
 use crate::{Fields, Place};
-use oas_record::{OasRecord, Rep};
+use oas_record::{OasRecord, PlainRectangle, Rep};
 use std::process::Abort;
 use std::rt::HostRuntime;
 
@@ -66,4 +66,29 @@ fn values_last_to_the_end_of_a_cell(rt: HostRuntime) {
     assert_eq!(rt; fields.layer, None);
     assert_eq!(rt; fields.geometry.x, 0);
     assert!(rt; !fields.is_relative);
+}
+
+#[test]
+fn takes_a_plain_rectangle(rt: HostRuntime) {
+    let mut fields = Fields::new();
+    let row = Rep::Row { dim: 2, space: 9 };
+    take(&rt, &mut fields, square(Some(7), Some(5), Some(row)));
+    take(&rt, &mut fields, OasRecord::XyRelative);
+    let plain = PlainRectangle {
+        info: 0x80,
+        layer: None,
+        datatype: Some(4),
+        width: Some(8),
+        height: None,
+        x: Some(6),
+        y: None,
+    };
+    assert!(rt; are_near(&fields));
+    fields.take_rectangle(&plain);
+    assert_eq!(rt; fields.layer, Some(3));
+    assert_eq!(rt; fields.datatype, Some(4));
+    assert_eq!(rt; fields.width, Some(8));
+    assert_eq!(rt; fields.height, Some(8));
+    assert_eq!(rt; fields.geometry, Place { x: 11, y: 0 });
+    assert!(rt; matches!(&fields.repetition, Some(Rep::Row { dim: 2, .. })));
 }

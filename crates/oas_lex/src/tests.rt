@@ -19,6 +19,9 @@ fn reads_unsigned_numbers(rt: HostRuntime) {
     spelling_laws();
     assert_eq!(rt; unsigned(&[0x00], 0), Ok((0, 1)));
     assert_eq!(rt; unsigned(&[0x7F, 0x80, 0x01], 1), Ok((128, 3)));
+    assert_eq!(rt; unsigned(&[0x81, 0x82, 0x03], 0), Ok((49409, 3)));
+    assert_eq!(rt; unsigned(&[0x81, 0x80, 0x80, 0x01], 0), Ok((2_097_153, 4)));
+    assert_eq!(rt; unsigned(&[0x81, 0x80], 0), Err(LexBad::Short));
     // Zero groups at the end are allowed, as many as there are.
     assert_eq!(rt; unsigned(&[0x81, 0x00], 0), Ok((1, 2)));
     assert_eq!(rt;

@@ -11,3 +11,4 @@ pub mod RepReaders
 pub mod FieldReaders
 pub mod SameRecords
 pub mod RecordReaders
+pub mod PlainLemmas

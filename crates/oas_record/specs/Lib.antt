@@ -7,3 +7,4 @@ pub mod Records
 pub mod Parts
 pub mod Laws
 pub mod Taken
+pub mod Plain

@@ -24,6 +24,7 @@ pub(crate) fn info_at(bytes: &[u8], at: usize, limit: u16) -> Result<u8, RecordB
 }
 
 // Whether an info byte of a rectangle is that of no square with a height.
+#[inline(always)]
 fn allows_square(info: u8) -> bool
     ensures { result ≡ allows Square info }
 {
@@ -31,6 +32,7 @@ fn allows_square(info: u8) -> bool
 }
 
 // The info byte at `at` of a rectangle: a square has no height.
+#[inline(always)]
 pub(crate) fn square_info_at(bytes: &[u8], at: usize) -> Result<u8, RecordBad>
     requires { at ≤ length bytes.now }
     ensures ok { IfOk result (λ info. info ≡ slice_index bytes.now at) }

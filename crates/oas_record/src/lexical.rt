@@ -10,6 +10,7 @@ use crate::faults::RecordBad;
 use oas_lex::{Real, end_of_bytes, real, signed, text, unsigned};
 
 // The byte at `at`.
+#[inline(always)]
 pub(crate) fn byte_at(bytes: &[u8], at: usize) -> Result<u8, RecordBad>
     requires { at ≤ length bytes.now }
     ensures ok { IfOk result (λ byte. byte ≡ slice_index bytes.now at) }
@@ -23,6 +24,7 @@ pub(crate) fn byte_at(bytes: &[u8], at: usize) -> Result<u8, RecordBad>
 }
 
 // The unsigned number at `at`, and the offset after it.
+#[inline(always)]
 pub(crate) fn number_at(bytes: &[u8], at: usize) -> Result<(u64, usize), RecordBad>
     requires { at ≤ length bytes.now }
     ensures ok { IfOk result (λ r. HasUnsigned bytes.now at r.0 r.1) }
@@ -34,6 +36,7 @@ pub(crate) fn number_at(bytes: &[u8], at: usize) -> Result<(u64, usize), RecordB
 }
 
 // The signed number at `at`, and the offset after it.
+#[inline(always)]
 pub(crate) fn signed_at(bytes: &[u8], at: usize) -> Result<(i64, usize), RecordBad>
     requires { at ≤ length bytes.now }
     ensures ok { IfOk result (λ r. HasSigned bytes.now at r.0 r.1) }

@@ -18,6 +18,7 @@ use std::alloc::Global;
 const LAST_TYPE: u64 = 25;
 
 // Whether a bit of the info byte is set.
+#[inline(always)]
 pub(crate) fn is_set(info: u8, bit: u8) -> bool
     requires { bit < 8 }
     ensures { result ≡ is_set bit info }
@@ -26,6 +27,7 @@ pub(crate) fn is_set(info: u8, bit: u8) -> bool
 }
 
 // The number at `at` where the bit is set, and the offset after it.
+#[inline(always)]
 pub(crate) fn number_where(
     bytes: &[u8],
     at: usize,
@@ -46,6 +48,7 @@ pub(crate) fn number_where(
 }
 
 // The signed number at `at` where it is written, and the offset after it.
+#[inline(always)]
 pub(crate) fn signed_if(
     bytes: &[u8],
     at: usize,
@@ -64,6 +67,7 @@ pub(crate) fn signed_if(
 }
 
 // The signed number at `at` where the bit is set, and the offset after it.
+#[inline(always)]
 pub(crate) fn signed_where(
     bytes: &[u8],
     at: usize,

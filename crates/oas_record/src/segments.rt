@@ -11,6 +11,7 @@ use crate::repetition::Rep;
 use std::alloc::Global;
 
 // The layer and the datatype, by bits 0 and 1, and the offset after them.
+#[inline(always)]
 pub(crate) fn pair_at(
     bytes: &[u8],
     at: usize,
@@ -27,6 +28,7 @@ pub(crate) fn pair_at(
 }
 
 // The width and the height, by bits 6 and 5, and the offset after them.
+#[inline(always)]
 pub(crate) fn box_at(
     bytes: &[u8],
     at: usize,

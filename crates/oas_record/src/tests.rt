@@ -1,4 +1,4 @@
-use crate::{RecordBad, record_at, record_laws};
+use crate::{PlainRectangle, RecordBad, plain_rectangle_at, record_at, record_laws};
 use std::alloc::{AllocError, Global};
 use std::process::Abort;
 use std::test::Fail;
@@ -508,4 +508,61 @@ fn refuses_at_the_first_byte_that_breaks(rt: HostRuntime) {
         ),
         Ok(15)
     );
+}
+
+// The bytes are one plain rectangle, and cut anywhere they are none.
+fn is_plain(rt: &impl Abort, bytes: &[u8], wanted: PlainRectangle) {
+    assert_eq!(rt; plain_rectangle_at(bytes, 0), Some((wanted, bytes.len())));
+    for cut in 0..bytes.len() {
+        assert_eq!(rt; plain_rectangle_at(&bytes[..cut], 0), None);
+    }
+}
+
+// A repetition, the height of a square, another id.
+const NOT_PLAIN: [&[u8]; 3] = [
+    &[0x14, 0x1C, 3, 2, 0],
+    &[0x14, 0xA0, 5],
+    &[0x1B, 0x18, 3, 2],
+];
+
+fn are_not_plain(rt: &impl Abort, cases: &[&[u8]]) {
+    for bytes in cases {
+        assert_eq!(rt; plain_rectangle_at(bytes, 0), None);
+    }
+}
+
+#[test]
+fn reads_plain_rectangles(rt: HostRuntime) {
+    let bare = PlainRectangle {
+        info: 0,
+        layer: None,
+        datatype: None,
+        width: None,
+        height: None,
+        x: None,
+        y: None,
+    };
+    let placed = PlainRectangle {
+        info: 0x18,
+        x: Some(-1),
+        y: Some(1),
+        ..bare
+    };
+    let whole = PlainRectangle {
+        info: 0x7B,
+        layer: Some(1),
+        datatype: Some(0),
+        width: Some(300),
+        height: Some(20),
+        x: Some(-150),
+        y: Some(64),
+    };
+    is_plain(&rt, &[0x14, 0], bare);
+    is_plain(&rt, &[0x14, 0x18, 3, 2], placed);
+    is_plain(
+        &rt,
+        &[0x14, 0x7B, 1, 0, 0xAC, 2, 20, 0xAD, 2, 0x80, 1],
+        whole,
+    );
+    are_not_plain(&rt, &NOT_PLAIN);
 }

@@ -1,7 +1,7 @@
 use Rattle.std.proofs.Common.{take, drop}
 use Rattle.oas_lex.specs.Numbers.{GoesOn}
 use Rattle.oas_lex.proofs.Reading.{Summed}
-use Rattle.oas_lex.proofs.numbers.unsigned.Given as goal
+use Rattle.oas_lex.proofs.numbers.long_unsigned.Given as goal
 
 abbrev pub invariant-loop-index : goal.invariant-loop-index
 invariant-loop-index l = record {
