@@ -14,3 +14,4 @@ mod Progressing
 mod PartWindings
 mod Stitching
 mod Ordering
+mod Dealt

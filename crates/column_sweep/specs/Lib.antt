@@ -8,5 +8,6 @@ pub mod RowSums
 pub mod Steps
 pub mod Parts
 pub mod Waiting
+pub mod Dealing
 pub mod Sewing
 pub mod Standings

@@ -11,9 +11,10 @@ ghost use Rattle.column_sweep.specs.Parts.{LiesRight};
 ghost use Rattle.column_sweep.specs.Sewing.{CoverTogether, AreSewn, AreSorted, AreSweptIn, AreSweptTo, AreLeft};
 
 use crate::cuts::Cut;
+use crate::dealing::sort_for_cuts;
 use crate::parting::parted;
 use crate::sweep::plain_counted;
-use crate::waiting::{sort_by_least_x, take_before};
+use crate::waiting::take_before;
 use geo_stream::NoMemory;
 use half_grid::{Edge, REACH, Trap, Window};
 use scan_line::Rule;
@@ -241,7 +242,7 @@ pub(crate) fn swept_columns<F: Fn(i128, i128) -> bool + Drop>(
     ensures covers { IfOk result (λ sewn. CoverTogether (IsTakenIn (F.post rule.now) edges.items window) sewn.finals.items sewn.seams.items) }
 {
     let mut waiting = edges;
-    sort_by_least_x(&mut waiting);
+    sort_for_cuts(&mut waiting, cuts);
     know_edges(waiting.as_slice());
     let mut later = waiting.as_slice();
     let mut progress = begin(alloc);

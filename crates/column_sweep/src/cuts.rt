@@ -26,7 +26,7 @@ pub(crate) fn fewer(alloc: Global, cuts: &[Cut]) -> Result<Vec<Cut>, NoMemory>
 }
 
 /// No more edges than this are looked at for where to cut.
-const SAMPLE: usize = 8192;
+const SAMPLE: usize = 16384;
 
 /// Sums over all edges, and the box round them.
 #[derive(Clone, Copy)]

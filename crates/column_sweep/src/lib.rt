@@ -6,6 +6,7 @@
 mod columns;
 mod counted;
 mod cuts;
+mod dealing;
 mod laws;
 mod looking;
 mod lowest_tile;

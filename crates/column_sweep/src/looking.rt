@@ -10,9 +10,10 @@ ghost use Rattle.column_sweep.specs.Parts.{LiesRight};
 
 use crate::columns::{before_all, is_next, know_edges};
 use crate::cuts::{Cut, chosen_cuts};
+use crate::dealing::sort_for_cuts;
 use crate::lowest_tile::{LowestTile, lowest_within};
 use crate::parting::parted;
-use crate::waiting::{sort_by_least_x, take_before};
+use crate::waiting::take_before;
 use geo_stream::NoMemory;
 use half_grid::{Edge, Window};
 use scan_line::Rule;
@@ -158,7 +159,7 @@ fn looked_columns<F: Fn(i128, i128) -> bool + Drop>(
     ensures { IfOk result (IsFirstTaken (F.post rule.now) edges.items window) }
 {
     let mut waiting = edges;
-    sort_by_least_x(&mut waiting);
+    sort_for_cuts(&mut waiting, cuts);
     know_edges(waiting.as_slice());
     let mut later = waiting.as_slice();
     let mut looked = begin(alloc);

@@ -1,5 +1,5 @@
 //! Seams between columns, swept again.
-ghost use Rattle.std.specs.Prelude.{◌≡◌, ◌∷◌, [], ◌-ℤ◌, pos, not, IsPermutation, IfOk};
+ghost use Rattle.std.specs.Prelude.{◌≡◌, ◌∷◌, [], ◌-ℤ◌, pos, not, IsPermutation, IfOk, OnOk};
 ghost use Rattle.std.specs.List.{flat_map};
 ghost use Rattle.std.specs.Ordering.{int_eq};
 ghost use Rattle.half_grid.specs.Edges.{edges_of_trapezoid};
@@ -99,12 +99,13 @@ fn standing_of(trap: &Trap) -> Standing
     }
 }
 
-// Puts the trapezoids in the order of joined lists. It takes no memory.
-fn put_in_order(traps: &mut Vec<Trap>)
+// Puts the trapezoids in the order of joined lists. They are a few dozen lists in that order, which this merges.
+fn put_in_order(traps: &mut Vec<Trap>) -> Result<(), NoMemory>
     ensures permutation { IsPermutation traps.old.items traps.new.items }
-    ensures sorted { StandSorted traps.new.items }
+    ensures sorted { OnOk result (StandSorted traps.new.items) }
 {
-    traps.sort_unstable_by_key(|trap| standing_of(trap));
+    traps.sort_by_key(|trap| standing_of(trap))?;
+    Ok(())
 }
 
 /// All maximal trapezoids, from the final ones and the seams.
@@ -125,6 +126,6 @@ pub(crate) fn joined_seams(
         cuts = fewer(alloc, cuts.as_slice())?;
     }
     let mut swept = closed(alloc, sewn, window)?;
-    put_in_order(&mut swept.traps);
+    put_in_order(&mut swept.traps)?;
     Ok(swept)
 }

@@ -1,6 +1,7 @@
 //! The order in which columns come to edges.
-ghost use Rattle.std.specs.Prelude.{◌≡◌, ◌++◌, All, IsPermutation, IfOk};
+ghost use Rattle.std.specs.Prelude.{◌≡◌, ◌++◌, ℤ, All, IsPermutation, IfOk};
 ghost use Rattle.column_sweep.specs.Parts.{LiesRight};
+ghost use Rattle.column_sweep.specs.Dealing.{RisesPast};
 ghost use Rattle.column_sweep.specs.Waiting.{least_x, LeastsAscend};
 
 use crate::cuts::Cut;
@@ -31,9 +32,9 @@ pub(crate) fn take_before<'a>(
     waiting: &'a [Edge],
     cut: Cut,
 ) -> Result<&'a [Edge], NoMemory>
-    requires { LeastsAscend waiting.now }
+    requires { RisesPast cut.x waiting.now }
     ensures whole { IfOk result (λ rest. edges.new.items ++ rest.now ≡ edges.old.items ++ waiting.now) }
-    ensures ascend { IfOk result (λ rest. LeastsAscend rest.now) }
+    ensures rises { (x : ℤ) → RisesPast x waiting.now → IfOk result (λ rest. RisesPast x rest.now) }
     ensures right { IfOk result (λ rest. All (LiesRight cut.x) rest.now) }
 {
     let mut left = waiting;

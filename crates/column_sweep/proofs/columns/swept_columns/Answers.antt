@@ -2,9 +2,11 @@ use Rattle.std.proofs.Common.{ℤ, Bool, List, pos, negsuc, ◌^◌, ◌+◌, Al
 use Rattle.std.proofs.lemmas.Int.{ints}
 use Rattle.std.proofs.lemmas.Result.{IfOk-weaker}
 use Rattle.std.proofs.lemmas.List.Sorted.{All-permutation, IsPermutation-sym}
+use Rattle.std.proofs.lemmas.List.Elements.{All-weaker}
 use Rattle.half_grid.specs.Edges.{EdgeParts, IsEdge}
 use Rattle.trap_join.specs.Joins.{IsTakenIn}
 use Rattle.column_sweep.specs.Sewing.{CoverTogether, AreSewn, AreLeft}
+use Rattle.column_sweep.specs.Dealing.{RisesPast}
 use Rattle.column_sweep.proofs.PartWindings.{first_left, rest_balanced, none_before, none_behind}
 use Rattle.column_sweep.proofs.Progressing.{swept_none, all_sewn, all_covered}
 use Rattle.column_sweep.proofs.columns.swept_columns.Goals as goal
@@ -15,14 +17,17 @@ loop-cut-init g c =
     let post : g.row.F.Denot → ℤ → ℤ → Bool → Type 0 = λ rule a b r. g.F.Fn.post rule (a, (b, tt)) r in
     let begin = c.begin-progress.ensures in
     let waiting = rw c.as_slice.ensures.value at c.know_edges.ensures in
-    let known : All IsEdge c.args.edges.items = All-permutation IsEdge _ _ (IsPermutation-sym _ _ c.sort_by_least_x.ensures.permutation) waiting in
+    let known : All IsEdge c.args.edges.items = All-permutation IsEdge _ _ (IsPermutation-sym _ _ c.sort_for_cuts.ensures.permutation) waiting in
     record {
-      left = rw (begin.from, begin.edges, c.as_slice-later.ensures.value) (first_left c.args.edges.items _ c.sort_by_least_x.ensures.permutation waiting);
+      left = rw (begin.from, begin.edges, c.as_slice-later.ensures.value) (first_left c.args.edges.items _ c.sort_for_cuts.ensures.permutation waiting);
       swept = rw (begin.from, begin.finals, begin.seams) (swept_none (IsTakenIn (post c.args.rule.now) c.args.edges.items c.args.window) c.args.window (negsuc (2 ^ 44)) (none_before (pre c.args.rule.now) (post c.args.rule.now) c.requires.rule c.args.window c.args.edges.items known));
-      ascend = rw c.as_slice-later.ensures.value c.sort_by_least_x.ensures.ascend;
+      rises = subst (λ (xs : List EdgeParts). All (λ d. RisesPast d.x xs) c.args.cuts.now) (sym c.as_slice-later.ensures.value) c.sort_for_cuts.ensures.rises;
       low = rw begin.from (omega (arith, ints));
       high = rw begin.from (omega (arith, ints));
     }
+
+pub take_before-requires : goal.take_before-requires
+take_before-requires g c = c.loop-cut.invariant.rises c.loop-cut.cut-index _ (omega arith)
 
 pub loop-cut-preserved : goal.loop-cut-preserved
 loop-cut-preserved g c =
@@ -36,7 +41,7 @@ loop-cut-preserved g c =
     record {
       left = rw next.from (next.left c.args.edges.items c.in_ok-later.later.now c.in_ok-later.ensures.right lt left);
       swept = rw next.from (next.swept c.args.edges.items c.in_ok-later.later.now (negsuc (2 ^ 44)) c.in_ok-later.ensures.right i.low lt left i.swept);
-      ascend = c.in_ok-later.ensures.ascend;
+      rises = All-weaker (λ d. RisesPast d.x c.loop-cut.later.now) (λ d. RisesPast d.x c.in_ok-later.later.now) (λ d. c.in_ok-later.ensures.rises d.x) c.args.cuts.now i.rises;
       low = rw next.from (omega (arith, ints, low, lt));
       high = rw next.from (omega (arith, ints, high));
     }
@@ -48,7 +53,7 @@ pub returns-clause-sewn : goal.returns-clause-sewn
 returns-clause-sewn g c =
     let post : g.row.F.Denot → ℤ → ℤ → Bool → Type 0 = λ rule a b r. g.F.Fn.post rule (a, (b, tt)) r in
     let i = c.loop-cut.invariant in
-    let known : All IsEdge c.args.edges.items = All-permutation IsEdge _ _ (IsPermutation-sym _ _ c.sort_by_least_x.ensures.permutation) (rw c.as_slice.ensures.value at c.know_edges.ensures) in
+    let known : All IsEdge c.args.edges.items = All-permutation IsEdge _ _ (IsPermutation-sym _ _ c.sort_for_cuts.ensures.permutation) (rw c.as_slice.ensures.value at c.know_edges.ensures) in
     IfOk-weaker c.finish.result _ (λ sewn. AreSewn c.args.window sewn.finals.items sewn.seams.items)
     (λ sewn. all_sewn (IsTakenIn (post c.args.rule.now) c.args.edges.items c.args.window) c.args.window (negsuc (2 ^ 44)) (pos (2 ^ 44 + 1)) sewn.finals.items sewn.seams.items)
     (c.finish.ensures c.args.edges.items (negsuc (2 ^ 44)) i.low i.high known c.requires.balanced i.left i.swept)
@@ -58,7 +63,7 @@ returns-clause-covers g c =
     let pre : g.row.F.Denot → ℤ → ℤ → Type 0 = λ rule a b. g.F.Fn.pre rule (a, (b, tt)) in
     let post : g.row.F.Denot → ℤ → ℤ → Bool → Type 0 = λ rule a b r. g.F.Fn.post rule (a, (b, tt)) r in
     let i = c.loop-cut.invariant in
-    let known : All IsEdge c.args.edges.items = All-permutation IsEdge _ _ (IsPermutation-sym _ _ c.sort_by_least_x.ensures.permutation) (rw c.as_slice.ensures.value at c.know_edges.ensures) in
+    let known : All IsEdge c.args.edges.items = All-permutation IsEdge _ _ (IsPermutation-sym _ _ c.sort_for_cuts.ensures.permutation) (rw c.as_slice.ensures.value at c.know_edges.ensures) in
     IfOk-weaker c.finish.result _ (λ sewn. CoverTogether (IsTakenIn (post c.args.rule.now) c.args.edges.items c.args.window) sewn.finals.items sewn.seams.items)
     (λ sewn. all_covered (IsTakenIn (post c.args.rule.now) c.args.edges.items c.args.window) c.args.window (negsuc (2 ^ 44)) (pos (2 ^ 44 + 1)) sewn.finals.items sewn.seams.items
     (none_behind (pre c.args.rule.now) (post c.args.rule.now) c.requires.rule c.args.window c.args.edges.items known c.requires.balanced))

@@ -2,8 +2,10 @@ use Rattle.std.proofs.Common.{ℤ, Bool, List, negsuc, ◌^◌, All, subst, sym,
 use Rattle.std.proofs.lemmas.Int.{ints}
 use Rattle.std.proofs.lemmas.Result.{IfOk-weaker}
 use Rattle.std.proofs.lemmas.List.Sorted.{All-permutation, IsPermutation-sym}
+use Rattle.std.proofs.lemmas.List.Elements.{All-weaker}
 use Rattle.half_grid.specs.Edges.{EdgeParts, IsEdge}
 use Rattle.column_sweep.specs.Looking.{IsLookedTo, IsFirstTaken}
+use Rattle.column_sweep.specs.Dealing.{RisesPast}
 use Rattle.column_sweep.proofs.PartWindings.{first_left, none_before}
 use Rattle.column_sweep.proofs.LookedColumns.{found_from, looked_none, left_in_balanced, found_at_all}
 use Rattle.column_sweep.proofs.looking.looked_columns.Goals as goal
@@ -14,18 +16,21 @@ loop-cut-init g c =
     let post : g.row.F.Denot → ℤ → ℤ → Bool → Type 0 = λ rule a b r. g.F.Fn.post rule (a, (b, tt)) r in
     let begin = c.begin-looked.ensures in
     let waiting = rw c.as_slice.ensures.value at c.know_edges.ensures in
-    let known : All IsEdge c.args.edges.items = All-permutation IsEdge _ _ (IsPermutation-sym _ _ c.sort_by_least_x.ensures.permutation) waiting in
+    let known : All IsEdge c.args.edges.items = All-permutation IsEdge _ _ (IsPermutation-sym _ _ c.sort_for_cuts.ensures.permutation) waiting in
     record {
       looked = rw (begin.from, begin.edges, c.as_slice-later.ensures.value)
           (looked_none (post c.args.rule.now) c.args.edges.items c.args.window (negsuc (2 ^ 44)) _ (none_before (pre c.args.rule.now) (post c.args.rule.now) c.requires.rule c.args.window c.args.edges.items known)
-          c.requires.balanced (first_left c.args.edges.items _ c.sort_by_least_x.ensures.permutation waiting) _ begin.found);
-      ascend = rw c.as_slice-later.ensures.value c.sort_by_least_x.ensures.ascend;
+          c.requires.balanced (first_left c.args.edges.items _ c.sort_for_cuts.ensures.permutation waiting) _ begin.found);
+      rises = subst (λ (xs : List EdgeParts). All (λ d. RisesPast d.x xs) c.args.cuts.now) (sym c.as_slice-later.ensures.value) c.sort_for_cuts.ensures.rises;
       high = rw begin.from (omega (arith, ints));
     }
 
 pub looked_column-requires-clause-found : goal.looked_column-requires-clause-found
 looked_column-requires-clause-found g c =
     found_from _ c.args.window c.loop-cut.looked.from.x c.args.edges.items c.loop-cut.looked.found c.loop-cut.invariant.looked.known
+
+pub take_before-requires : goal.take_before-requires
+take_before-requires g c = c.loop-cut.invariant.rises c.loop-cut.cut-index _ (omega arith)
 
 pub loop-cut-preserved : goal.loop-cut-preserved
 loop-cut-preserved g c =
@@ -38,7 +43,7 @@ loop-cut-preserved g c =
     let next = c.in_ok-looked.ensures in
     record {
       looked = rw next.from (next.looked c.args.edges.items c.in_ok-later.later.now c.in_ok-later.ensures.right lt looked);
-      ascend = c.in_ok-later.ensures.ascend;
+      rises = All-weaker (λ d. RisesPast d.x c.loop-cut.later.now) (λ d. RisesPast d.x c.in_ok-later.later.now) (λ d. c.in_ok-later.ensures.rises d.x) c.args.cuts.now i.rises;
       high = rw next.from (omega (arith, ints, high));
     }
 
@@ -54,7 +59,7 @@ returns g c =
     let pre : g.row.F.Denot → ℤ → ℤ → Type 0 = λ rule a b. g.F.Fn.pre rule (a, (b, tt)) in
     let post : g.row.F.Denot → ℤ → ℤ → Bool → Type 0 = λ rule a b r. g.F.Fn.post rule (a, (b, tt)) r in
     let i = c.loop-cut.invariant in
-    let known : All IsEdge c.args.edges.items = All-permutation IsEdge _ _ (IsPermutation-sym _ _ c.sort_by_least_x.ensures.permutation) (rw c.as_slice.ensures.value at c.know_edges.ensures) in
+    let known : All IsEdge c.args.edges.items = All-permutation IsEdge _ _ (IsPermutation-sym _ _ c.sort_for_cuts.ensures.permutation) (rw c.as_slice.ensures.value at c.know_edges.ensures) in
     IfOk-weaker c.finish.result _ (IsFirstTaken (post c.args.rule.now) c.args.edges.items c.args.window)
     (λ found. found_at_all (pre c.args.rule.now) (post c.args.rule.now) c.requires.rule c.args.edges.items c.args.window known c.requires.balanced found)
     (c.finish.ensures c.args.edges.items i.high known c.requires.balanced i.looked)

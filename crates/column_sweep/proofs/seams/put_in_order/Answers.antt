@@ -5,4 +5,4 @@ use Rattle.column_sweep.proofs.Ordering.{stand_sorted}
 use Rattle.column_sweep.proofs.seams.put_in_order.Goals as goal
 
 pub returns-clause-sorted : goal.returns-clause-sorted
-returns-clause-sorted c = stand_sorted _ (c.sort_unstable_by_key.ensures.sorted standing_of (answers_always _ _ _ (λ f a r g h. search rules)))
+returns-clause-sorted c = stand_sorted _ (c.in_ok-sort_by_key.ensures.sorted standing_of (answers_always _ _ _ (λ f a r g h. search rules)))
