@@ -4,8 +4,10 @@ use Rattle.std.specs.Prelude.{◌≢◌, ◌↔◌, IfSome, IsTrue}
 use Rattle.std.proofs.lemmas.Int.{ints}
 use Rattle.layout_model.specs.declared.cells.Counts.{Counts}
 use Rattle.layout_model.specs.declared.pair.Pair.{Pair}
+use Rattle.oas_record.specs.Plain.{rectangle_of}
 use Rattle.oas_record.specs.Records.{id_of}
 use Rattle.oas_record.specs.Taken.{repetition_in}
+use Rattle.oas_record.specs.declared.plain.PlainRectangle.{PlainRectangle}
 use Rattle.oas_record.specs.declared.records.OasRecord.{OasRecord}
 use Rattle.oas_fields.specs.Values.{AreFields, ArePlacesWithin, IsPlaceWithin, begins_cell, place_of, coordinate, cell_of, placement_of, geometry_of, text_of, repetition_of}
 use Rattle.oas_fields.specs.declared.fields.Fields.{Fields}
@@ -27,6 +29,7 @@ use Rattle.oas_reader.specs.Taking.{IsTaken, wanting_of, KeepsOwnName, AreValues
 use Rattle.oas_reader.specs.Undefined.{is_there}
 use Rattle.oas_reader.specs.Wanting.{AreSamePairs}
 use Rattle.oas_reader.specs.declared.bodies.Body.{Body}
+use Rattle.oas_reader.specs.declared.bodies.Body.TheVariants as bodies
 use Rattle.oas_reader.specs.declared.bodies.Outline.{Outline}
 use Rattle.oas_reader.specs.declared.cells.Drafts.{Drafts}
 use Rattle.oas_reader.specs.declared.naming.Given.{Given}
@@ -211,6 +214,22 @@ body_allowed bytes unit wanted past at r next body is kept keeps =
       unit_agrees = unit_kept bytes unit at next r file;
       tail = tail_kept bytes unit at next r file;
     }
+
+-- ---- a rectangle that writes no repetition
+
+abbrev pub plain_outline : Outline
+plain_outline = record { body = bodies.Rectangle; repeats = false; has_dimensions = true }
+
+pub plain_taken : (wanted sorted : List Pair) (past : List OasRecord) (p : PlainRectangle) (fields : Fields) → AreSamePairs wanted sorted
+    → AreFields (rectangle_of p ∷ past) fields → HasDimensionsIn (repetition_of past) → IsTaken wanted sorted past (rectangle_of p) plain_outline fields
+plain_taken wanted sorted past p fields same values last =
+    taken_on wanted sorted past (rectangle_of p) plain_outline fields same refl refl (λ _. tt, λ _. refl) values last
+
+pub plain_allowed : (bytes : List ℕ) (unit : ℕ) (wanted : List Pair) (past : List Item) (at : ℕ) (p : PlainRectangle) (next : ℕ)
+    → IsBodyKept bytes wanted past (rectangle_of p) → IsAllowed bytes unit wanted past at (rectangle_of p) next
+plain_allowed bytes unit wanted past at p next kept = body_allowed bytes unit wanted past at (rectangle_of p) next bodies.Rectangle refl kept tt
+
+-- ---- the table offsets
 
 pub tables_on : (past : List OasRecord) (r : OasRecord) (body : Body) (old same new : Bool) → new ≡ tables_by body same → same ≡ old
     → old ≡ tables_at_end past → body ≡ body_of r → new ≡ tables_at_end (r ∷ past)

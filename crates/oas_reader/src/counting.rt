@@ -15,6 +15,7 @@ pub(crate) const NONE: Counts = Counts {
 };
 
 /// The counts with one more record. `wanted` says of a record with a pair whether it is wanted.
+#[inline(always)]
 pub(crate) fn with(counts: Counts, body: Body, wanted: Option<bool>) -> Counts
     requires { AreAtMost (2 ^ 63) counts }
     ensures { result ≡ with_record wanted body counts }

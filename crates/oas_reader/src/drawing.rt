@@ -19,6 +19,7 @@ use std::alloc::Global;
 /// The rule of records that can't be on wanted pairs.
 const PAIR_RULE: u8 = 7;
 
+#[inline(always)]
 fn or_none(number: Option<u64>) -> u64
     ensures { result ≡ or_none number }
 {
@@ -28,6 +29,7 @@ fn or_none(number: Option<u64>) -> u64
     }
 }
 
+#[inline(always)]
 fn or_zero(length: Option<i128>) -> i128
     ensures { result ≡ or_zero length }
 {
@@ -38,6 +40,7 @@ fn or_zero(length: Option<i128>) -> i128
 }
 
 /// The pair of the last record.
+#[inline(always)]
 pub(crate) fn pair_of(fields: &Fields) -> Pair
     ensures { result ≡ pair_in fields.now }
 {
@@ -77,6 +80,7 @@ fn trapezoid(is_upright: bool, width: u64, height: u64, a: i64, b: i64) -> Figur
 }
 
 // The rectangle or trapezoid of a body, if it is one.
+#[inline(always)]
 fn figure_of(body: Body, fields: &Fields) -> Option<Figure>
     ensures { result ≡ figure_in body fields.now }
 {
@@ -99,6 +103,7 @@ fn figure_of(body: Body, fields: &Fields) -> Option<Figure>
 }
 
 // Adds the shapes of a body whose pair is wanted. It isn't a CIRCLE or XGEOMETRY.
+#[inline(always)]
 fn draw_body(
     alloc: Global,
     fields: &Fields,
@@ -135,6 +140,7 @@ fn draw_body(
 }
 
 /// Adds the shapes of the record at this offset, whose pair is wanted. The fields have taken the record.
+#[inline(always)]
 pub(crate) fn draw(
     alloc: Global,
     fields: &Fields,

@@ -16,6 +16,7 @@ pub(crate) enum Place {
 
 impl Place {
     /// The place behind one more record of this id, which may stand there; else none.
+    #[inline(always)]
     pub(crate) fn after(self, id: u8) -> Option<Place>
         ensures some { (past : List ℕ) → IsPlace past self → IfSome result (λ place. (may_follow past id ≡ true) × IsPlace (id ∷ past) place) }
         ensures none { (past : List ℕ) → IsPlace past self → IfNone result (may_follow past id ≡ false) }

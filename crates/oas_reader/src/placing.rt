@@ -166,6 +166,7 @@ fn named_orient(
 }
 
 /// A position as a point, in grid steps. It is near.
+#[inline(always)]
 pub(crate) fn point_of(place: Place) -> Point
     requires { IsPlaceWithin (2 ^ 40) place }
     ensures value { result ≡ point_at place }
@@ -190,6 +191,7 @@ fn doubled(point: Point) -> Point
 }
 
 /// The repetition of a record, if it has one.
+#[inline(always)]
 pub(crate) fn repetition_in(fields: &Fields, repeats: bool) -> Option<&Rep>
     ensures { option_copied result ≡ repetition_kept repeats fields.now.repetition }
 {

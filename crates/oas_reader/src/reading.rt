@@ -4,6 +4,7 @@ ghost use Rattle.layout_model.specs.Layouts.{IsLayoutOnGrid};
 ghost use Rattle.layout_model.specs.declared.cells.Layout.{Layout as ALayout};
 ghost use Rattle.layout_model.specs.declared.pair.Pair.{Pair as APair};
 ghost use Rattle.oas_lex.specs.Reals.{IsWholeReal};
+ghost use Rattle.oas_record.specs.Plain.{rectangle_of};
 ghost use Rattle.oas_record.specs.Taken.{repetition_in};
 ghost use Rattle.oas_record.specs.declared.records.OasRecord.{OasRecord as ARecord};
 ghost use Rattle.oas_fields.specs.Values.{AreFields, ArePlacesWithin, repetition_of};
@@ -37,13 +38,23 @@ use crate::wanting::sorted_pairs;
 use layout_model::{Counts, Layout, Pair};
 use oas_fields::Fields;
 use oas_lex::{Real, real_whole};
-use oas_record::{OasRecord, RecordBad, Rep, record_at};
+use oas_record::{OasRecord, PlainRectangle, RecordBad, Rep, plain_rectangle_at, record_at};
 use oas_shapes::dimensions_are_allowed;
 use std::alloc::Global;
 
 const MAGIC: &[u8] = b"%SEMI-OASIS\r\n";
 
 const END_SIZE: usize = 256;
+
+// The id of a RECTANGLE.
+const RECTANGLE: u8 = 20;
+
+// The outline of a RECTANGLE that writes no repetition.
+const PLAIN: Outline = Outline {
+    body: Body::Rectangle,
+    repeats: false,
+    has_dimensions: true,
+};
 
 /// What is kept of the records so far.
 #[derive(Drop)]
@@ -153,6 +164,18 @@ fn take_fields(bytes: &[u8], fields: &mut Fields, current: OasRecord)
     fields.take(current);
 }
 
+// Takes a rectangle into the fields.
+#[inline(always)]
+fn take_rectangle_fields(bytes: &[u8], fields: &mut Fields, current: &PlainRectangle)
+    requires near { ArePlacesWithin (2 ^ 100) fields.old }
+    requires some { HaveRecords fields.old }
+    requires cell { AreCalledWithin bytes.now fields.old.cell }
+    ensures fields { (past : AList ARecord) → AreFields past fields.old → AreFields (rectangle_of current.now ∷ past) fields.new }
+    ensures cell { AreCalledWithin bytes.now fields.new.cell }
+{
+    fields.take_rectangle(current);
+}
+
 impl<'a> Reader<'a> {
     fn new(alloc: Global) -> Reader<'a>
         ensures reader { (bytes : AList ℕ) (wanted : AList APair) → IsReaderOf bytes wanted [] result }
@@ -169,6 +192,7 @@ impl<'a> Reader<'a> {
     }
 
     // Looks at the values of the record at this offset, and takes what it gives. The fields have taken it.
+    #[inline(always)]
     fn take_body(
         &mut self,
         alloc: Global,
@@ -276,6 +300,46 @@ impl<'a> Reader<'a> {
         self.place = place;
         Ok(())
     }
+
+    // Takes the rectangle at this offset.
+    #[inline(always)]
+    fn take_rectangle(
+        &mut self,
+        alloc: Global,
+        bytes: &'a [u8],
+        sorted: &[Pair],
+        current: &PlainRectangle,
+        at: usize,
+    ) -> Result<(), OasBad>
+        requires sorted { AreSorted sorted.now }
+        requires within { IsReaderWithin bytes.now self.old }
+        requires some { HaveRecords self.old.fields }
+        requires counted { self.old.names.counted < 2 ^ 63 }
+        requires few { AreAtMost (2 ^ 63) self.old.counts }
+        ensures reader { (wanted : AList APair) (past : AList Item) → AreSamePairs wanted sorted.now → IsReaderOf bytes.now wanted past self.old
+            → HasDimensionsIn (repetition_of (records_in past))
+            → OnOk result (IsReaderOf bytes.now wanted (item at (rectangle_of current.now) ∷ past) self.new) }
+        ensures within { OnOk result (IsReaderWithin bytes.now self.new) }
+        ensures order { (wanted : AList APair) (past : AList Item) → AreSamePairs wanted sorted.now → IsReaderOf bytes.now wanted past self.old
+            → OnOk result (is_in_order (records_in past) (rectangle_of current.now) ≡ true) }
+        ensures allowed { (unit next : ℕ) (wanted : AList APair) (past : AList Item) → AreSamePairs wanted sorted.now
+            → IsReaderOf bytes.now wanted past self.old → HasDimensionsIn (repetition_of (records_in past))
+            → OnOk result (IsAllowed bytes.now unit wanted past at (rectangle_of current.now) next) }
+        ensures refused { (unit next : ℕ) (wanted : AList APair) (past : AList Item) → AreSamePairs wanted sorted.now
+            → IsReaderOf bytes.now wanted past self.old → HasDimensionsIn (repetition_of (records_in past))
+            → IfErr result (λ bad. bad ≢ bads.NoMemory → IsRefused bytes.now unit wanted past at (rectangle_of current.now) next bad) }
+    {
+        let Some(place) = self.place.after(RECTANGLE) else {
+            return Err(OasBad::Order(at));
+        };
+        take_rectangle_fields(bytes, &mut self.fields, current);
+        match self.take_body(alloc, bytes, sorted, PLAIN, at) {
+            Ok(()) => {}
+            Err(bad) => return Err(bad),
+        }
+        self.place = place;
+        Ok(())
+    }
 }
 
 // The layout of a reader that has taken END.
@@ -322,6 +386,14 @@ fn read_records(alloc: Global, bytes: &[u8], unit: u32, sorted: &[Pair]) -> Resu
     let mut reader = Reader::new(alloc);
     let mut at = MAGIC.len();
     'records: loop {
+        if let Some((rectangle, next)) = plain_rectangle_at(bytes, at) {
+            match reader.take_rectangle(alloc, bytes, sorted, &rectangle, at) {
+                Ok(()) => {}
+                Err(bad) => return Err(bad),
+            }
+            at = next;
+            continue 'records;
+        }
         let (current, next) = match record_at(alloc, bytes, at, reader.tables) {
             Ok(found) => found,
             Err(bad) => return Err(lexical_bad(bad, at)),

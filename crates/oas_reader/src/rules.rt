@@ -11,6 +11,7 @@ use oas_fields::{Fields, Place};
 /// Positions, sizes, vertices and offsets aren't farther from 0.
 const FAR: i128 = 1 << 40;
 
+#[inline(always)]
 fn is_near(place: Place) -> bool
     ensures { IsTrue result ↔ IsPlaceWithin (2 ^ 40) place }
 {
@@ -24,6 +25,7 @@ fn is_near(place: Place) -> bool
 }
 
 /// Whether all three positions are near.
+#[inline(always)]
 pub(crate) fn positions_are_near(fields: &Fields) -> bool
     ensures { IsTrue result ↔ ArePlacesWithin (2 ^ 40) fields.now }
 {
@@ -49,6 +51,7 @@ fn is_version(bytes: &[u8], version: (usize, usize), offset_flag: u64) -> bool
 }
 
 /// The rule of START or END that is broken, if one is.
+#[inline(always)]
 pub(crate) fn broken_by_file(bytes: &[u8], body: Body) -> Option<u8>
     requires { HasVersion (length bytes.now) body }
     ensures some { IfSome result (λ rule. ((rule ≡ 9) × (KeepsVersionBy bytes.now body → ⊥)) ⊎ ((rule ≡ 10) × (KeepsSchemeBy body → ⊥))) }

@@ -73,6 +73,7 @@ fn take_cell<'a>(
 }
 
 /// Takes what the record at this offset names, looks at its own name, and begins the cell of a CELL record.
+#[inline(always)]
 pub(crate) fn take_names<'a>(
     alloc: Global,
     bytes: &'a [u8],

@@ -9,6 +9,7 @@ use oas_fields::{Fields, Variable};
 use oas_shapes::{uses_height, uses_width};
 
 // The first of a pair's variables that has no value.
+#[inline(always)]
 fn undefined_pair(fields: &Fields) -> Option<Variable>
     ensures { result ≡ first_in fields.now (variables.Layer ∷ variables.Datatype ∷ []) }
 {
@@ -22,6 +23,7 @@ fn undefined_pair(fields: &Fields) -> Option<Variable>
 }
 
 // That of a box.
+#[inline(always)]
 fn undefined_box(fields: &Fields) -> Option<Variable>
     ensures { result ≡ first_in fields.now (variables.GeometryW ∷ variables.GeometryH ∷ []) }
 {
@@ -88,6 +90,7 @@ fn undefined_cell(fields: &Fields) -> Option<Variable>
 }
 
 // The first variable without a value of those that the body needs behind its pair.
+#[inline(always)]
 fn undefined_form(body: Body, fields: &Fields) -> Option<Variable>
     ensures { result ≡ first_in fields.now (form_needs body fields.now.kind) }
 {
@@ -103,6 +106,7 @@ fn undefined_form(body: Body, fields: &Fields) -> Option<Variable>
 }
 
 /// Whether a record with this body has a layer and a datatype that are looked at.
+#[inline(always)]
 pub(crate) fn has_pair(body: Body) -> bool
     ensures { result ≡ has_a_pair body }
 {
@@ -119,6 +123,7 @@ pub(crate) fn has_pair(body: Body) -> bool
 
 /// The first variable, in the order of the record's fields, that the record needs and that has no value. The fields
 /// have taken the record.
+#[inline(always)]
 pub(crate) fn first_undefined(body: Body, repeats: bool, fields: &Fields) -> Option<Variable>
     ensures { result ≡ undefined_in body repeats fields.now }
 {

@@ -34,6 +34,7 @@ const POSITION_RULE: u8 = 1;
 
 // Looks at the values of a record, its shapes, its placement and its own name aside, and says of one with a pair whether
 // it is wanted.
+#[inline(always)]
 fn look_at_values(
     bytes: &[u8],
     sorted: &[Pair],
@@ -102,6 +103,7 @@ fn take_placing(
 }
 
 // Adds the shapes of the record at this offset to the open cell, where its pair is wanted.
+#[inline(always)]
 fn take_shapes(
     alloc: Global,
     fields: &Fields,
@@ -137,6 +139,7 @@ fn take_shapes(
 
 // Adds the placement or the shapes of a record to the open cell. `wanted` says of a record with a pair whether it is
 // wanted.
+#[inline(always)]
 fn take_geometry(
     alloc: Global,
     bytes: &[u8],
@@ -175,6 +178,7 @@ fn take_geometry(
 
 /// Looks at the values of the record at this offset, which the fields have taken, its own name aside, adds what it draws
 /// or places to the open cell, and says of one with a pair whether it is wanted.
+#[inline(always)]
 pub(crate) fn take_values(
     alloc: Global,
     bytes: &[u8],

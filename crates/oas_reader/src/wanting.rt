@@ -20,6 +20,7 @@ pub(crate) fn sorted_pairs(alloc: Global, pairs: &[Pair]) -> Result<Vec<Pair>, N
 }
 
 /// Whether the pair is among these, which are in ascending order.
+#[inline(always)]
 pub(crate) fn is_among(sorted: &[Pair], pair: Pair) -> bool
     requires { AreSorted sorted.now }
     ensures { result ≡ list_any (same_pair pair) sorted.now }

@@ -77,6 +77,7 @@ impl Stretch {
 }
 
 impl Size {
+    #[inline(always)]
     fn coordinate(self, mark: Mark) -> i128
         ensures { result ≡ coordinate_of (pos self.width) (pos self.height) mark }
     {
@@ -93,6 +94,7 @@ impl Size {
         }
     }
 
+    #[inline(always)]
     fn corner(self, marks: (Mark, Mark)) -> Wide
         ensures { way_of result ≡ corner_of (pos self.width) (pos self.height) marks }
     {
@@ -103,6 +105,7 @@ impl Size {
         }
     }
 
+    #[inline(always)]
     fn ring(self, sketch: Sketch) -> Ring
         ensures { corners_of result ≡ map (corner_of (pos self.width) (pos self.height)) (marks_of sketch) }
     {
@@ -163,6 +166,7 @@ impl Size {
 }
 
 // The corners of a figure.
+#[inline(always)]
 fn ring_of(figure: Figure) -> Ring
     ensures { corners_of result ≡ figure_corners figure }
 {
@@ -189,6 +193,7 @@ fn ring_of(figure: Figure) -> Ring
 }
 
 // Whether a width or a height is at most 2^40.
+#[inline(always)]
 fn is_size(length: u64) -> bool
     ensures { IsTrue result ↔ IsSize length }
 {
@@ -196,6 +201,7 @@ fn is_size(length: u64) -> bool
 }
 
 /// Whether those of its sizes that count are at most 2^40.
+#[inline(always)]
 pub(crate) fn is_sized(figure: Figure) -> bool
     ensures { IsTrue result ↔ IsSized figure }
 {
@@ -212,6 +218,7 @@ pub(crate) fn is_sized(figure: Figure) -> bool
 }
 
 // A corner in half units, if it is near 0.
+#[inline(always)]
 fn placed(at: Point, corner: Wide) -> Option<Point>
     requires { IsNear at }
     ensures some { IfSome result (λ p. (p ≡ in_halves (place_after at (way_of corner))) × IsNearInHalves p) }
@@ -223,6 +230,7 @@ fn placed(at: Point, corner: Wide) -> Option<Point>
     }
 }
 
+#[inline(always)]
 fn three(at: Point, a: Wide, b: Wide, c: Wide) -> Option<Outline>
     requires { IsNear at }
     ensures outline { IfSome result (λ o. points_of o ≡ outline_of (map (place_after at) (way_of a ∷ way_of b ∷ way_of c ∷ []))) }
@@ -241,6 +249,7 @@ fn three(at: Point, a: Wide, b: Wide, c: Wide) -> Option<Outline>
     Some(Outline::Three(first, second, third))
 }
 
+#[inline(always)]
 fn four(at: Point, a: Wide, b: Wide, c: Wide, d: Wide) -> Option<Outline>
     requires { IsNear at }
     ensures outline { IfSome result (λ o. points_of o ≡ outline_of (map (place_after at) (way_of a ∷ way_of b ∷ way_of c ∷ way_of d ∷ []))) }
@@ -263,6 +272,7 @@ fn four(at: Point, a: Wide, b: Wide, c: Wide, d: Wide) -> Option<Outline>
 }
 
 // The outline of a ring at this position, if it is near 0.
+#[inline(always)]
 fn outline_of(at: Point, ring: Ring) -> Option<Outline>
     requires { IsNear at }
     ensures outline { IfSome result (λ o. points_of o ≡ outline_of (map (place_after at) (corners_of ring))) }
@@ -276,6 +286,7 @@ fn outline_of(at: Point, ring: Ring) -> Option<Outline>
 }
 
 /// The outline of a figure at this position, if it is near 0.
+#[inline(always)]
 pub(crate) fn outline_at(at: Point, figure: Figure) -> Option<Outline>
     requires { IsNear at }
     ensures outline { IfSome result (λ o. points_of o ≡ figure_outline at figure) }

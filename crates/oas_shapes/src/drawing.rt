@@ -32,6 +32,7 @@ pub enum Undrawn {
 }
 
 // The shape of an outline at these offsets.
+#[inline(always)]
 fn shape_of(
     alloc: Global,
     pair: Pair,
@@ -69,6 +70,7 @@ fn rule_of_many(alloc: Global, pair: Pair, outline: &[Point]) -> Undrawn
 }
 
 // The shape of a closed outline that is near 0, repeated so.
+#[inline(always)]
 fn repeated(
     alloc: Global,
     pair: Pair,
@@ -91,6 +93,7 @@ fn repeated(
 }
 
 // Adds it to the shapes.
+#[inline(always)]
 fn add(
     alloc: Global,
     pair: Pair,
@@ -115,6 +118,7 @@ fn add(
 }
 
 // Adds the shape of an outline of three or four corners.
+#[inline(always)]
 fn add_outline(
     alloc: Global,
     pair: Pair,
@@ -135,6 +139,7 @@ fn add_outline(
 }
 
 /// Adds the shape of a RECTANGLE, a TRAPEZOID or a CTRAPEZOID at this position, repeated so.
+#[inline(always)]
 pub fn draw_figure(
     alloc: Global,
     pair: Pair,

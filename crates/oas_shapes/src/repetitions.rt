@@ -62,6 +62,7 @@ pub fn dimensions_are_allowed(repetition: &Rep) -> bool
 }
 
 /// One place.
+#[inline(always)]
 pub(crate) fn alone(alloc: Global) -> Result<Offsets, Unplaced>
     ensures ok { IfOk result (λ offsets. (offsets ≡ origin ∷ []) × AreOffsets offsets) }
     ensures far { (result ≡ Err Far) → ⊥ }
@@ -234,6 +235,7 @@ fn spread(alloc: Global, repetition: &Rep, is_allowed: bool) -> Result<Offsets, 
 }
 
 /// The offsets of a record with this repetition, or none, in half units.
+#[inline(always)]
 pub(crate) fn offsets_in(alloc: Global, repetition: Option<&Rep>) -> Result<Offsets, Unplaced>
     ensures offsets { IfOk result (λ offsets. offsets ≡ all_offsets (option_copied repetition.entry)) }
     ensures grid { IfOk result AreOffsets }

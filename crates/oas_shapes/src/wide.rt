@@ -29,6 +29,7 @@ struct Leg {
 
 impl Leg {
     // Where it ends, if that is near 0.
+    #[inline(always)]
     fn end(self) -> Option<i64>
         requires { IsLength self.from }
         ensures some { IfSome result (λ end. (end ≡ self.from +ℤ self.way) × IsLength end) }
@@ -47,6 +48,7 @@ impl Leg {
 }
 
 /// The place that a move leads to, if it is near 0.
+#[inline(always)]
 pub(crate) fn moved(from: Point, way: Wide) -> Option<Point>
     requires { IsNear from }
     ensures some { IfSome result (λ to. (to ≡ place_after from (way_of way)) × IsNear to) }
@@ -85,6 +87,7 @@ pub(crate) fn times(count: u64, way: Wide) -> Option<Wide>
 }
 
 /// A point near 0, in half units.
+#[inline(always)]
 pub(crate) fn doubled(point: Point) -> Point
     requires { IsNear point }
     ensures { result ≡ in_halves point }
