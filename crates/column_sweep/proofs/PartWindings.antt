@@ -21,7 +21,8 @@ use Rattle.trap_join.specs.Joins.{IsTakenIn}
 use Rattle.column_sweep.specs.ColumnLaws.{IsInColumn}
 use Rattle.column_sweep.specs.RowSums.{any_line}
 use Rattle.column_sweep.specs.Parts.{LiesLeft, LiesRight, AreParts}
-use Rattle.column_sweep.specs.Sewing.{AreLeft, AreSweptTo, AreSweptIn}
+use Rattle.column_sweep.specs.Sewing.{AreLeft, AreSweptTo, AreSweptIn, AreSweptBehind}
+use Rattle.column_sweep.specs.Sweeps.{IsSwept}
 use Rattle.column_sweep.proofs.Adding.{sum_append, sum_permuted, balanced_by_sum, sum_by_balance}
 use Rattle.column_sweep.proofs.Awaiting.{right_of_least}
 use Rattle.column_sweep.proofs.Closing.{right_of_left, left_of_right}
@@ -61,6 +62,14 @@ module _ (pre : ℤ → ℤ → Type 0) (post : ℤ → ℤ → Bool → Type 0)
   further low low_from from_x finals seams insides crossings before part =
       column_swept (IsTakenIn post edges window) (IsTakenIn post own window) window low from x low_from from_x column_of own_to_area area_to_own
       finals seams part.traps insides crossings before part.joined part.covers part.sorted
+
+  -- the same where those of the column were put behind those before
+  pub further_behind : (low : ℤ) → low ≤ℤ from → from <ℤ x → (finals seams all_finals all_seams : List Trapezoid) → AreSweptTo (IsTakenIn post edges window) window low from finals seams
+      → AreSweptBehind (IsSwept post own window) from x finals seams all_finals all_seams → AreSweptTo (IsTakenIn post edges window) window low x all_finals all_seams
+  further_behind low low_from from_x finals seams all_finals all_seams before part =
+      rw (part.sorted.finals_are, part.sorted.seams_are)
+      (further low low_from from_x finals seams part.sorted.insides part.sorted.crossings before
+      (record { traps = part.traps; joined = part.all.joined; covers = part.all.covers; sorted = part.sorted.sorted }))
 
 -- ---- a column between two cuts
 

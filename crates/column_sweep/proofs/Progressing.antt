@@ -1,5 +1,5 @@
 -- One column further: what is settled left of it stays so, and what lies strictly inside it is settled.
-use Rattle.std.proofs.Common.{◌≡◌, ℕ, suc, zero, ◌+◌, ◌<◌, ◌≤◌, ℤ, pos, ◌-ℤ◌, ◌≤ℤ◌, ◌<ℤ◌, arith, refl, List, [], ◌∷◌, ◌++◌}
+use Rattle.std.proofs.Common.{◌≡◌, ℕ, suc, zero, ◌+◌, ◌<◌, ◌≤◌, ℤ, pos, ◌-ℤ◌, ◌≤ℤ◌, ◌<ℤ◌, arith, refl, sym, ap, ◌∙◌, append_assoc, append-nil, List, [], ◌∷◌, ◌++◌}
 use Rattle.std.proofs.lemmas.Int.{ints, by_lt_z}
 use Rattle.std.proofs.lemmas.List.Sums.{sum_by-append}
 use Rattle.std.proofs.lemmas.List.Elements.{All-append, All-weaker, All-contains, All-nil, All-push, Contains-append_left, Contains-push}
@@ -13,7 +13,7 @@ use Rattle.half_grid.specs.declared.plane.Tile.{Tile}
 use Rattle.trap_join.specs.Maximal.{IsRunAt, IsMaximal}
 use Rattle.trap_join.proofs.ForCallers.{member_maximal}
 use Rattle.column_sweep.specs.ColumnLaws.{IsInColumn, PartIn, IsStrictlyInside}
-use Rattle.column_sweep.specs.Sewing.{CoverTogether, HasTile, IsPiece, AreSewn, LeftOf, IsSettled, AreSweptTo, AreSorted}
+use Rattle.column_sweep.specs.Sewing.{CoverTogether, HasTile, IsPiece, AreSewn, LeftOf, IsSettled, AreSweptTo, AreSorted, AreSortedBehind, AreSweptBehind}
 use Rattle.column_sweep.proofs.InColumns.{one_of_whole}
 
 -- ---- the same area, said in another way
@@ -232,3 +232,41 @@ sorted_crossing from x traps insides crossings w h = record {
   others = All-push (Contains (traps ++ w ∷ [])) crossings w (All-weaker (Contains traps) (Contains (traps ++ w ∷ [])) (λ z k. Contains-append_left traps (w ∷ []) z k) crossings h.others) (last_is_there traps w);
   counts = λ t. (let before = h.counts t in let a = count_append crossings (w ∷ []) t in let b = count_append traps (w ∷ []) t in omega (arith, before, a, b));
 }
+
+-- ---- and put behind those of other columns
+
+push_behind : (all front back : List Trapezoid) (w : Trapezoid) → all ≡ front ++ back → all ++ w ∷ [] ≡ front ++ (back ++ w ∷ [])
+push_behind all front back w h = ap (λ (xs : List Trapezoid). xs ++ w ∷ []) h ∙ append_assoc front back (w ∷ [])
+
+pub behind_none : (from x : ℤ) (finals seams : List Trapezoid) → AreSortedBehind from x [] finals seams finals seams
+behind_none from x finals seams = record {
+  insides = [];
+  crossings = [];
+  finals_are = sym (append-nil finals);
+  seams_are = sym (append-nil seams);
+  sorted = sorted_none from x;
+}
+
+pub behind_inside : (from x : ℤ) (traps finals seams all_finals all_seams : List Trapezoid) (w : Trapezoid) → AreSortedBehind from x traps finals seams all_finals all_seams → IsStrictlyInside from x w
+    → AreSortedBehind from x (traps ++ w ∷ []) finals seams (all_finals ++ w ∷ []) all_seams
+behind_inside from x traps finals seams all_finals all_seams w h inside = record {
+  insides = h.insides ++ w ∷ [];
+  crossings = h.crossings;
+  finals_are = push_behind all_finals finals h.insides w h.finals_are;
+  seams_are = h.seams_are;
+  sorted = sorted_inside from x traps h.insides h.crossings w h.sorted inside;
+}
+
+pub behind_crossing : (from x : ℤ) (traps finals seams all_finals all_seams : List Trapezoid) (w : Trapezoid) → AreSortedBehind from x traps finals seams all_finals all_seams
+    → AreSortedBehind from x (traps ++ w ∷ []) finals seams all_finals (all_seams ++ w ∷ [])
+behind_crossing from x traps finals seams all_finals all_seams w h = record {
+  insides = h.insides;
+  crossings = h.crossings ++ w ∷ [];
+  finals_are = h.finals_are;
+  seams_are = push_behind all_seams seams h.crossings w h.seams_are;
+  sorted = sorted_crossing from x traps h.insides h.crossings w h.sorted;
+}
+
+pub swept_as : (AreAll AreOthers : List Trapezoid → Type 0) → ((traps : List Trapezoid) → AreAll traps → AreOthers traps) → (from x : ℤ) (finals seams all_finals all_seams : List Trapezoid)
+    → AreSweptBehind AreAll from x finals seams all_finals all_seams → AreSweptBehind AreOthers from x finals seams all_finals all_seams
+swept_as AreAll AreOthers to from x finals seams all_finals all_seams h = record { traps = h.traps; all = to h.traps h.all; sorted = h.sorted }

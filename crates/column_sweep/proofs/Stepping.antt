@@ -19,7 +19,7 @@ use Rattle.column_sweep.specs.declared.sums.Level.{Level}
 use Rattle.column_sweep.specs.RowSums.{any_line, row_sum}
 use Rattle.column_sweep.specs.Steps.{up_to, height, AreSteps}
 use Rattle.column_sweep.specs.Parts.{AreSumsOf, AreSums}
-use Rattle.column_sweep.proofs.Adding.{sum_nil, sum_one, sum_append}
+use Rattle.column_sweep.proofs.Adding.{sum_nil, sum_one, sum_cons, sum_append}
 
 abbrev Within : Level → Type 0
 Within level = IsWithinReach level.y
@@ -113,34 +113,94 @@ down_steps e is up r f high low hr hf o own = pair_steps (λ j. row_sum o j (e �
 
 -- ---- lists of edges
 
-pub steps_none : (o : Operand) → AreSteps (λ j. row_sum o j []) [] []
-steps_none o = record {
-  sums = λ j. rw (height_nil j, sum_nil o j any_line) refl;
-  as_many = refl;
-  rises_within = All-nil Within;
-  falls_within = All-nil Within;
-}
-
-pub steps_more : (o : Operand) (edges : List EdgeParts) (e : EdgeParts) (rises falls : List Level) (r f : Level) → AreSteps (λ j. row_sum o j edges) rises falls
-    → AreSteps (λ j. row_sum o j (e ∷ [])) (r ∷ []) (f ∷ []) → AreSteps (λ j. row_sum o j (edges ++ e ∷ [])) (rises ++ r ∷ []) (falls ++ f ∷ [])
-steps_more o edges e rises falls r f h k = record {
-  sums = λ j. (let first = h.sums j in let later = k.sums j in rw (height_append j rises falls (r ∷ []) (f ∷ []), sum_append o j any_line edges (e ∷ []), first, later) refl);
+pub steps_more : (o : Operand) (sum : ℤ → ℤ) (e : EdgeParts) (rises falls : List Level) (r f : Level) → AreSteps sum rises falls
+    → AreSteps (λ j. row_sum o j (e ∷ [])) (r ∷ []) (f ∷ []) → AreSteps (λ j. sum j +ℤ row_sum o j (e ∷ [])) (rises ++ r ∷ []) (falls ++ f ∷ [])
+steps_more o sum e rises falls r f h k = record {
+  sums = λ j. (let first = h.sums j in let later = k.sums j in rw (height_append j rises falls (r ∷ []) (f ∷ []), first, later) refl);
   as_many = (let n = h.as_many in rw (length-append rises (r ∷ []), length-append falls (f ∷ []), n) refl);
   rises_within = All-append Within rises (r ∷ []) h.rises_within k.rises_within;
   falls_within = All-append Within falls (f ∷ []) h.falls_within k.falls_within;
 }
 
-none_of : (o : Operand) (j : ℤ) (e : EdgeParts) → is_of o e.operand ≡ false → row_sum o j (e ∷ []) ≡ pos 0
-none_of o j e h = sum_one o j any_line e ∙ (rw h refl)
-
-pub steps_skip : (o : Operand) (edges : List EdgeParts) (e : EdgeParts) (rises falls : List Level) → AreSteps (λ j. row_sum o j edges) rises falls
-    → is_of o e.operand ≡ false → AreSteps (λ j. row_sum o j (edges ++ e ∷ [])) rises falls
-steps_skip o edges e rises falls h other = record {
-  sums = λ j. (let first = h.sums j in rw (sum_append o j any_line edges (e ∷ []), none_of o j e other, first) (omega (arith, ints)));
+-- the same steps, whose sum is said in another way
+pub steps_as : (sum other : ℤ → ℤ) (rises falls : List Level) → ((j : ℤ) → sum j ≡ other j) → AreSteps sum rises falls → AreSteps other rises falls
+steps_as sum other rises falls same h = record {
+  sums = λ j. h.sums j ∙ same j;
   as_many = h.as_many;
   rises_within = h.rises_within;
   falls_within = h.falls_within;
 }
+
+none_of : (o : Operand) (j : ℤ) (e : EdgeParts) → is_of o e.operand ≡ false → row_sum o j (e ∷ []) ≡ pos 0
+none_of o j e h = sum_one o j any_line e ∙ (rw h refl)
+
+pub steps_skip : (o : Operand) (sum : ℤ → ℤ) (e : EdgeParts) (rises falls : List Level) → AreSteps sum rises falls
+    → is_of o e.operand ≡ false → AreSteps (λ j. sum j +ℤ row_sum o j (e ∷ [])) rises falls
+steps_skip o sum e rises falls h other = steps_as sum (λ j. sum j +ℤ row_sum o j (e ∷ [])) rises falls (λ j. (let none = none_of o j e other in omega (arith, ints, none))) h
+
+-- ---- what is left of a list
+
+-- what the edges add up to, less what those that are left do
+abbrev pub sum_so_far : Operand → List EdgeParts → List EdgeParts → ℤ → ℤ
+sum_so_far o edges left j = row_sum o j edges -ℤ row_sum o j left
+
+pub steps_begin : (o : Operand) (edges : List EdgeParts) → AreSteps (sum_so_far o edges edges) [] []
+steps_begin o edges = record {
+  sums = λ j. rw (height_nil j) (omega (arith, ints));
+  as_many = refl;
+  rises_within = All-nil Within;
+  falls_within = All-nil Within;
+}
+
+pub steps_go_on : (o : Operand) (edges : List EdgeParts) (e : EdgeParts) (rest : List EdgeParts) (rises falls : List Level) → AreSteps (λ j. sum_so_far o edges (e ∷ rest) j +ℤ row_sum o j (e ∷ [])) rises falls
+    → AreSteps (sum_so_far o edges rest) rises falls
+steps_go_on o edges e rest rises falls h =
+    steps_as (λ j. sum_so_far o edges (e ∷ rest) j +ℤ row_sum o j (e ∷ [])) (sum_so_far o edges rest) rises falls (λ j. (let one = sum_cons o j any_line e rest in omega (arith, ints, one))) h
+
+pub steps_left : (o : Operand) (edges left rest : List EdgeParts) (rises falls : List Level) → ((j : ℤ) → row_sum o j rest ≡ row_sum o j left) → AreSteps (sum_so_far o edges left) rises falls
+    → AreSteps (sum_so_far o edges rest) rises falls
+steps_left o edges left rest rises falls same h =
+    steps_as (sum_so_far o edges left) (sum_so_far o edges rest) rises falls (λ j. (let at = same j in omega (arith, ints, at))) h
+
+pub steps_all : (o : Operand) (edges left : List EdgeParts) (rises falls : List Level) → length left ≡ 0 → AreSteps (sum_so_far o edges left) rises falls → AreSteps (λ j. row_sum o j edges) rises falls
+steps_all o edges [] rises falls none h =
+    steps_as (sum_so_far o edges []) (λ j. row_sum o j edges) rises falls (λ j. (let nil = sum_nil o j any_line in omega (arith, ints, nil))) h
+steps_all o edges (e ∷ left) rises falls none h = absurd (omega (arith, none))
+
+-- ---- two edges that add up to nothing
+
+opposites : (a b c d : Bool) → (c ≡ d → ⊥) → pos (count_one (a && (c && b))) -ℤ pos (count_one (a && (not c && b))) ≡ pos (count_one (a && (not d && b))) -ℤ pos (count_one (a && (d && b)))
+opposites a b true true h = absurd (h refl)
+opposites a b true false h = refl
+opposites a b false true h = refl
+opposites a b false false h = absurd (h refl)
+
+pub opposites_add : (e f : EdgeParts) → e.y0 ≡ f.y0 → e.y1 ≡ f.y1 → (e.up ≡ f.up → ⊥) → e.operand ≡ f.operand → (o : Operand) (j : ℤ) → row_sum o j (e ∷ f ∷ []) ≡ pos 0
+opposites_add e f low high up of o j =
+    let both = sum_cons o j any_line e (f ∷ []) in
+    let first = sum_one o j any_line e in
+    let second = sum_one o j any_line f in
+    let same : (spans e j && true) ≡ (spans f j && true) = rw (low, high) refl in
+    let against = opposites (is_of o f.operand) (spans f j && true) e.up f.up up in
+    both ∙ (rw (first, second, of, same) (omega (arith, ints, against)))
+
+pub without_opposites : (e f : EdgeParts) (rest : List EdgeParts) → ((o : Operand) (j : ℤ) → row_sum o j (e ∷ f ∷ []) ≡ pos 0) → (o : Operand) (j : ℤ) → row_sum o j rest ≡ row_sum o j (e ∷ f ∷ rest)
+without_opposites e f rest none o j =
+    let all : row_sum o j (e ∷ f ∷ rest) ≡ row_sum o j (e ∷ f ∷ []) +ℤ row_sum o j rest = sum_append o j any_line (e ∷ f ∷ []) rest in
+    let two = none o j in
+    omega (arith, ints, all, two)
+
+pub same_one_of : (o p : Operand) → is_of o p ≡ true → o ≡ p
+same_one_of A A h = refl
+same_one_of A B h = absurd (no_of_false h)
+  where
+    no_of_false : false ≡ true → ⊥
+    no_of_false e = cc
+same_one_of B A h = absurd (no_of_false h)
+  where
+    no_of_false : false ≡ true → ⊥
+    no_of_false e = cc
+same_one_of B B h = refl
 
 pub steps_sorted : (sum : ℤ → ℤ) (rises falls rs fs : List Level) → IsPermutation rises rs → IsPermutation falls fs → AreSteps sum rises falls → AreSteps sum rs fs
 steps_sorted sum rises falls rs fs h k s = record {

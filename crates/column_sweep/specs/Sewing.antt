@@ -1,6 +1,6 @@
 -- Maximal trapezoids of an area that are known, and others that have the rest of its tiles.
 use Rattle.std.specs.List.{Contains}
-use Rattle.std.specs.Prelude.{ℤ, pos, ◌+◌, ◌<◌, ◌≤◌, ◌-ℤ◌, ◌≤ℤ◌, ◌<ℤ◌, ◌≡◌, ◌⊎◌, List, [], ◌∷◌, All}
+use Rattle.std.specs.Prelude.{ℤ, pos, ◌+◌, ◌<◌, ◌≤◌, ◌-ℤ◌, ◌≤ℤ◌, ◌<ℤ◌, ◌≡◌, ◌⊎◌, List, [], ◌∷◌, ◌++◌, All}
 use Rattle.half_grid.specs.Edges.{EdgeParts, edges_winding}
 use Rattle.half_grid.specs.JoinedLists.{IsInWindow, IsJoined}
 use Rattle.half_grid.specs.Rows.{place}
@@ -53,6 +53,20 @@ pub record AreSweptIn (area : Tile → Type 0) (window : RowRange) (from x : ℤ
   pub joined : IsJoined window traps
   pub covers : CoversExactly traps area
   pub sorted : AreSorted from x traps insides crossings
+
+-- the trapezoids of a column, told apart and put behind others
+pub record AreSortedBehind (from x : ℤ) (traps finals seams all_finals all_seams : List Trapezoid) : Type 0 where
+  pub insides : List Trapezoid
+  pub crossings : List Trapezoid
+  pub finals_are : all_finals ≡ finals ++ insides
+  pub seams_are : all_seams ≡ seams ++ crossings
+  pub sorted : AreSorted from x traps insides crossings
+
+-- all trapezoids of a column, whatever makes a list all of them, told apart and put behind others
+pub record AreSweptBehind (AreAll : List Trapezoid → Type 0) (from x : ℤ) (finals seams all_finals all_seams : List Trapezoid) : Type 0 where
+  pub traps : List Trapezoid
+  pub all : AreAll traps
+  pub sorted : AreSortedBehind from x traps finals seams all_finals all_seams
 
 -- Both lists have an area's part left of a line. The first are maximal in all that they have, and don't touch the line.
 -- All of it lies right of some other line.

@@ -1,24 +1,25 @@
 //! Columns swept one after another from left to right.
-ghost use Rattle.std.specs.Prelude.{◌≡◌, ◌<ℤ◌, ◌≤ℤ◌, ◌++◌, ◌+◌, ◌^◌, ℤ, pos, negsuc, true, List, [], ◌∷◌, All, IfOk, OnOk};
+ghost use Rattle.std.specs.Prelude.{◌≡◌, ◌↔◌, ◌<ℤ◌, ◌≤ℤ◌, ◌++◌, ◌+◌, ◌^◌, ℤ, pos, negsuc, true, List, [], ◌∷◌, All, IsTrue, IfOk, OnOk};
 ghost use Rattle.half_grid.specs.Edges.{EdgeParts, IsEdge};
 ghost use Rattle.half_grid.specs.Trapezoids.{Trapezoid};
 ghost use Rattle.half_grid.specs.Reach.{IsWithinReach};
-ghost use Rattle.scan_line.specs.Rules.{IsRule};
+ghost use Rattle.scan_line.specs.Rules.{IsRule, IsWinding, Takes};
 ghost use Rattle.scan_line.specs.Runs.{IsBalanced};
 ghost use Rattle.trap_join.specs.Joins.{IsTakenIn};
 ghost use Rattle.column_sweep.specs.ColumnLaws.{IsStrictlyInside};
 ghost use Rattle.column_sweep.specs.Parts.{LiesRight};
-ghost use Rattle.column_sweep.specs.Sewing.{CoverTogether, AreSewn, AreSorted, AreSweptIn, AreSweptTo, AreLeft};
+ghost use Rattle.column_sweep.specs.Sewing.{CoverTogether, AreSewn, AreSortedBehind, AreSweptBehind, AreSweptTo, AreLeft};
+ghost use Rattle.column_sweep.specs.Sweeps.{IsSwept};
 
 use crate::cuts::Cut;
 use crate::dealing::sort_for_cuts;
 use crate::parting::parted;
-use crate::sweep::plain_counted;
-use crate::waiting::take_before;
+use crate::waiting::split_before;
 use geo_stream::NoMemory;
 use half_grid::{Edge, REACH, Trap, Window};
-use scan_line::Rule;
+use scan_line::{Rule, Scan};
 use std::alloc::Global;
+use trap_join::Join;
 
 /// Trapezoids of an area, and how many edges were gone over to make them. The final ones are maximal in all of it. The
 /// others have the rest of its tiles.
@@ -91,7 +92,8 @@ fn is_inside(trap: &Trap, column: Column) -> bool
 
 // Puts one more trapezoid of a column where it belongs.
 fn sort_in(sewn: &mut Sewn, trap: &Trap, column: Column) -> Result<(), NoMemory>
-    ensures { (traps : List Trapezoid) → AreSorted column.from.x column.to.x traps sewn.old.finals.items sewn.old.seams.items → OnOk result (AreSorted column.from.x column.to.x (traps ++ trap.now ∷ []) sewn.new.finals.items sewn.new.seams.items) }
+    ensures { (traps finals seams : List Trapezoid) → AreSortedBehind column.from.x column.to.x traps finals seams sewn.old.finals.items sewn.old.seams.items
+        → OnOk result (AreSortedBehind column.from.x column.to.x (traps ++ trap.now ∷ []) finals seams sewn.new.finals.items sewn.new.seams.items) }
 {
     if is_inside(trap, column) {
         sewn.finals.push(*trap)?;
@@ -101,52 +103,57 @@ fn sort_in(sewn: &mut Sewn, trap: &Trap, column: Column) -> Result<(), NoMemory>
     Ok(())
 }
 
-// The trapezoids of a column: those strictly inside it, and those that touch a side.
-fn sort_out(alloc: Global, traps: &[Trap], walked: u64, column: Column) -> Result<Sewn, NoMemory>
-    ensures { IfOk result (λ sewn. AreSorted column.from.x column.to.x traps.now sewn.finals.items sewn.seams.items) }
+// Puts all trapezoids of a scan that gave no slab yet behind those of the columns before: those strictly inside the column,
+// and those that touch a side.
+fn sort_out<F: Fn(i128, i128) -> bool + Drop>(
+    alloc: Global,
+    sewn: &mut Sewn,
+    scan: Scan<F>,
+    column: Column,
+) -> Result<(), NoMemory>
+    requires rule { IsRule (F.pre scan.rule) (F.post scan.rule) }
+    requires fresh { scan.y ≡ scan.window.y0 }
+    ensures { OnOk result (AreSweptBehind (IsSwept (F.post scan.rule) scan.edges scan.window) column.from.x column.to.x sewn.old.finals.items sewn.old.seams.items sewn.new.finals.items sewn.new.seams.items) }
 {
-    let mut sewn = Sewn {
-        finals: Vec::new(alloc),
-        seams: Vec::new(alloc),
-        walked,
-    };
-    for trap in traps {
-        sort_in(&mut sewn, trap, column)?;
+    let mut join = Join::begin(alloc, scan)?;
+    while let Some(trap) = join.next()? {
+        sort_in(sewn, &trap, column)?;
     }
-    Ok(sewn)
-}
-
-// Puts the trapezoids of a column to those of the columns before.
-fn add(sewn: &mut Sewn, part: &Sewn) -> Result<(), NoMemory>
-    ensures finals { OnOk result (sewn.new.finals.items ≡ sewn.old.finals.items ++ part.now.finals.items) }
-    ensures seams { OnOk result (sewn.new.seams.items ≡ sewn.old.seams.items ++ part.now.seams.items) }
-{
-    sewn.finals.extend_from_slice(part.finals.as_slice())?;
-    sewn.seams.extend_from_slice(part.seams.as_slice())?;
-    sewn.walked = sewn.walked.saturating_add(part.walked);
+    sewn.walked = sewn.walked.saturating_add(join.walked());
     Ok(())
 }
 
-// The trapezoids of one column, from edges that wind round no tile outside of it.
-fn swept_part<F: Fn(i128, i128) -> bool + Drop>(
+// The trapezoids of one column, from edges that wind round no tile outside of it, behind those of the columns before.
+fn sweep_part<F: Fn(i128, i128) -> bool + Drop>(
     alloc: Global,
+    sewn: &mut Sewn,
     edges: Vec<Edge>,
     window: Window,
     rule: &Rule<F>,
     column: Column,
-) -> Result<Sewn, NoMemory>
+) -> Result<(), NoMemory>
     requires rule { IsRule (F.pre rule.now) (F.post rule.now) }
     requires balanced { IsBalanced edges.items window }
-    ensures { IfOk result (λ part. AreSweptIn (IsTakenIn (F.post rule.now) edges.items window) window column.from.x column.to.x part.finals.items part.seams.items) }
+    ensures { OnOk result (AreSweptBehind (IsSwept (F.post rule.now) edges.items window) column.from.x column.to.x sewn.old.finals.items sewn.old.seams.items sewn.new.finals.items sewn.new.seams.items) }
 {
-    let swept = plain_counted(alloc, edges, window, rule)?;
-    sort_out(alloc, swept.traps.as_slice(), swept.walked, column)
+    let asked = Rule::new(
+        |a: i128, b: i128| -> bool
+            requires rule { IsRule (F.pre rule.now) (F.post rule.now) }
+            requires first { IsWinding a }
+            requires second { IsWinding b }
+            ensures { IsTrue result ↔ Takes (F.post rule.entry.now) a b }
+        { rule.asks(a, b) },
+    );
+    let scan = Scan::begin(alloc, edges, window, asked)?;
+    sort_out(alloc, sewn, scan, column)
 }
 
-// One column further, up to the cut. None of the edges that wait lies left of it.
+// One column further, up to the cut, with those of the waiting edges that were taken for it. None of the others lies left
+// of the cut.
 fn swept_column<F: Fn(i128, i128) -> bool + Drop>(
     alloc: Global,
     progress: Progress,
+    taken: &[Edge],
     window: Window,
     rule: &Rule<F>,
     cut: Cut,
@@ -154,20 +161,19 @@ fn swept_column<F: Fn(i128, i128) -> bool + Drop>(
     requires rule { IsRule (F.pre rule.now) (F.post rule.now) }
     requires cut { IsWithinReach cut.x }
     ensures from { IfOk result (λ next. next.from ≡ cut) }
-    ensures left { (edges later : List EdgeParts) → All (LiesRight cut.x) later → progress.from.x <ℤ cut.x → AreLeft progress.from.x edges (progress.edges.items ++ later)
+    ensures left { (edges later : List EdgeParts) → All (LiesRight cut.x) later → progress.from.x <ℤ cut.x → AreLeft progress.from.x edges ((progress.edges.items ++ taken.now) ++ later)
         → IfOk result (λ next. AreLeft cut.x edges (next.edges.items ++ later)) }
-    ensures swept { (edges later : List EdgeParts) (low : ℤ) → All (LiesRight cut.x) later → low ≤ℤ progress.from.x → progress.from.x <ℤ cut.x → AreLeft progress.from.x edges (progress.edges.items ++ later)
+    ensures swept { (edges later : List EdgeParts) (low : ℤ) → All (LiesRight cut.x) later → low ≤ℤ progress.from.x → progress.from.x <ℤ cut.x → AreLeft progress.from.x edges ((progress.edges.items ++ taken.now) ++ later)
         → AreSweptTo (IsTakenIn (F.post rule.now) edges window) window low progress.from.x progress.sewn.finals.items progress.sewn.seams.items
         → IfOk result (λ next. AreSweptTo (IsTakenIn (F.post rule.now) edges window) window low cut.x next.sewn.finals.items next.sewn.seams.items) }
 {
-    let parts = parted(alloc, progress.edges.as_slice(), cut)?;
+    let parts = parted(alloc, progress.edges.as_slice(), taken, cut)?;
     let column = Column {
         from: progress.from,
         to: cut,
     };
-    let part = swept_part(alloc, parts.own, window, rule, column)?;
     let mut sewn = progress.sewn;
-    add(&mut sewn, &part)?;
+    sweep_part(alloc, &mut sewn, parts.own, window, rule, column)?;
     Ok(Progress {
         from: cut,
         edges: parts.beyond,
@@ -195,9 +201,8 @@ fn finish<F: Fn(i128, i128) -> bool + Drop>(
         from: progress.from,
         to: behind_all(),
     };
-    let part = swept_part(alloc, edges, window, rule, column)?;
     let mut sewn = progress.sewn;
-    add(&mut sewn, &part)?;
+    sweep_part(alloc, &mut sewn, edges, window, rule, column)?;
     Ok(sewn)
 }
 
@@ -250,8 +255,9 @@ pub(crate) fn swept_columns<F: Fn(i128, i128) -> bool + Drop>(
         if !is_next(progress.from, *cut) {
             continue;
         }
-        later = take_before(&mut progress.edges, later, *cut)?;
-        progress = swept_column(alloc, progress, window, rule, *cut)?;
+        let (taken, rest) = split_before(later, *cut);
+        progress = swept_column(alloc, progress, taken, window, rule, *cut)?;
+        later = rest;
     }
     finish(alloc, progress, later, window, rule)
 }

@@ -13,7 +13,7 @@ use crate::cuts::{Cut, chosen_cuts};
 use crate::dealing::sort_for_cuts;
 use crate::lowest_tile::{LowestTile, lowest_within};
 use crate::parting::parted;
-use crate::waiting::take_before;
+use crate::waiting::split_before;
 use geo_stream::NoMemory;
 use half_grid::{Edge, Window};
 use scan_line::Rule;
@@ -102,7 +102,7 @@ fn looked_column<F: Fn(i128, i128) -> bool + Drop>(
 {
     let rows = rows_below(window, looked.found);
     let edges = lower_edges(alloc, looked.edges, rows, window)?;
-    let parts = parted(alloc, edges.as_slice(), cut)?;
+    let parts = parted(alloc, edges.as_slice(), &[], cut)?;
     let lower = lowest_within(alloc, parts.own, rows, rule)?;
     Ok(Looked {
         from: cut,
@@ -167,7 +167,9 @@ fn looked_columns<F: Fn(i128, i128) -> bool + Drop>(
         if !is_next(looked.from, *cut) {
             continue;
         }
-        later = take_before(&mut looked.edges, later, *cut)?;
+        let (taken, rest) = split_before(later, *cut);
+        looked.edges.extend_from_slice(taken)?;
+        later = rest;
         looked = looked_column(alloc, looked, window, rule, *cut)?;
     }
     finish(alloc, looked, later, window, rule)

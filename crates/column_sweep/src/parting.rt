@@ -1,5 +1,6 @@
 //! Edges parted at an upright line.
-ghost use Rattle.std.specs.Prelude.{◌≡◌, ◌≤ℤ◌, ◌-ℤ◌, ◌+ℤ◌, ℤ, ◌∷◌, ◌++◌, [], All, map, IfOk, OnOk};
+ghost use Rattle.std.specs.Prelude.{◌≡◌, ◌≤ℤ◌, ◌-ℤ◌, ◌+ℤ◌, ℤ, List, ◌∷◌, ◌++◌, [], All, map, IfOk, OnOk};
+ghost use Rattle.half_grid.specs.Edges.{EdgeParts};
 ghost use Rattle.std.specs.Option.{option_to_list};
 ghost use Rattle.std.specs.Int.{int_min, int_max};
 ghost use Rattle.half_grid.specs.Lines.{first_strip};
@@ -115,19 +116,17 @@ fn halves_of(edge: &Edge, cut: Cut) -> Halves
     }
 }
 
-// The parts of the edges left of the cut, and those right of it.
-fn split(alloc: Global, edges: &[Edge], cut: Cut) -> Result<Parts, NoMemory>
+// Puts the parts of the edges left of the cut, and those right of it, behind those of others.
+fn split(parts: &mut Parts, edges: &[Edge], cut: Cut) -> Result<(), NoMemory>
     requires { IsWithinReach cut.x }
-    ensures { IfOk result (λ parts. AreSplit cut.x edges.now parts.own.items parts.beyond.items) }
+    ensures { (before : List EdgeParts) → AreSplit cut.x before parts.old.own.items parts.old.beyond.items → OnOk result (AreSplit cut.x (before ++ edges.now) parts.new.own.items parts.new.beyond.items) }
 {
-    let mut own = Vec::new(alloc);
-    let mut beyond = Vec::new(alloc);
     for edge in edges {
         let halves = halves_of(edge, cut);
-        put(&mut own, halves.left)?;
-        put(&mut beyond, halves.right)?;
+        put(&mut parts.own, halves.left)?;
+        put(&mut parts.beyond, halves.right)?;
     }
-    Ok(Parts { own, beyond })
+    Ok(())
 }
 
 // The same edge the other way.
@@ -158,13 +157,23 @@ fn close(parts: &mut Parts, sums: &[Edge]) -> Result<(), NoMemory>
     Ok(())
 }
 
-/// Edges for the tiles left of the cut, and edges for those right of it: on its own side each list winds as all do,
-/// and on the other it winds round nothing.
-pub(crate) fn parted(alloc: Global, edges: &[Edge], cut: Cut) -> Result<Parts, NoMemory>
+/// Edges for the tiles left of the cut, and edges for those right of it: on its own side each list winds as all of both
+/// lists do, and on the other it winds round nothing.
+pub(crate) fn parted(
+    alloc: Global,
+    edges: &[Edge],
+    others: &[Edge],
+    cut: Cut,
+) -> Result<Parts, NoMemory>
     requires { IsWithinReach cut.x }
-    ensures { IfOk result (λ parts. AreParts cut.x edges.now parts.own.items parts.beyond.items) }
+    ensures { IfOk result (λ parts. AreParts cut.x (edges.now ++ others.now) parts.own.items parts.beyond.items) }
 {
-    let mut parts = split(alloc, edges, cut)?;
+    let mut parts = Parts {
+        own: Vec::new(alloc),
+        beyond: Vec::new(alloc),
+    };
+    split(&mut parts, edges, cut)?;
+    split(&mut parts, others, cut)?;
     let sums = row_sums(alloc, parts.own.as_slice(), cut)?;
     close(&mut parts, sums.as_slice())?;
     Ok(parts)

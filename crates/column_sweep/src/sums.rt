@@ -1,8 +1,8 @@
 //! Upright edges that sum up in each row to what other edges do.
 
-ghost use Rattle.std.specs.Prelude.{◌≡◌, ℤ, true, List, [], ◌∷◌, ◌++◌, IfOk, OnOk};
+ghost use Rattle.std.specs.Prelude.{◌≡◌, ◌<◌, ◌+ℤ◌, ℤ, pos, true, [], ◌∷◌, ◌++◌, length, IfOk, IfSome, OnOk};
 ghost use Rattle.std.specs.Option.{option_to_list};
-ghost use Rattle.half_grid.specs.Edges.{EdgeParts, is_of};
+ghost use Rattle.half_grid.specs.Edges.{is_of};
 ghost use Rattle.half_grid.specs.Reach.{IsWithinReach};
 ghost use Rattle.half_grid.specs.declared.border.Operand.{Operand};
 ghost use Rattle.half_grid.specs.declared.plane.Line.TheVariants.{Upright};
@@ -78,7 +78,7 @@ fn is_of(operand: Operand, other: Operand) -> bool
 
 // Puts the edge's step at the end, where the edge is the operand's.
 fn add_step(steps: &mut Steps, edge: &Edge, operand: Operand) -> Result<(), NoMemory>
-    ensures { (edges : List EdgeParts) → AreSteps (λ j. row_sum operand j edges) steps.old.rises.items steps.old.falls.items → OnOk result (AreSteps (λ j. row_sum operand j (edges ++ edge.now ∷ [])) steps.new.rises.items steps.new.falls.items) }
+    ensures { (sum : ℤ → ℤ) → AreSteps sum steps.old.rises.items steps.old.falls.items → OnOk result (AreSteps (λ j. sum j +ℤ row_sum operand j (edge.now ∷ [])) steps.new.rises.items steps.new.falls.items) }
 {
     if !is_of(operand, edge.operand()) {
         return Ok(());
@@ -89,6 +89,35 @@ fn add_step(steps: &mut Steps, edge: &Edge, operand: Operand) -> Result<(), NoMe
     Ok(())
 }
 
+// Whether the two edges go over the same rows for one operand, one up and the other down, so that they add up to nothing.
+fn are_opposite(e: &Edge, f: &Edge) -> bool
+    ensures { result ≡ true → (o : Operand) (j : ℤ) → row_sum o j (e.now ∷ f.now ∷ []) ≡ pos 0 }
+{
+    if e.y0() != f.y0() {
+        return false;
+    }
+    if e.y1() != f.y1() {
+        return false;
+    }
+    if e.is_up() == f.is_up() {
+        return false;
+    }
+    is_of(e.operand(), f.operand())
+}
+
+// The edges behind the first two, where these add up to nothing, as the two sides of a trapezoid do.
+fn behind_opposites(edges: &[Edge]) -> Option<&[Edge]>
+    ensures sums { IfSome result (λ rest. (o : Operand) (j : ℤ) → row_sum o j rest.now ≡ row_sum o j edges.now) }
+    ensures fewer { IfSome result (λ rest. length rest.now < length edges.now) }
+{
+    let (first, later) = edges.split_first()?;
+    let (second, rest) = later.split_first()?;
+    if are_opposite(first, second) {
+        return Some(rest);
+    }
+    None
+}
+
 // The steps of the operand's edges.
 fn steps_of(alloc: Global, edges: &[Edge], operand: Operand) -> Result<Steps, NoMemory>
     ensures { IfOk result (λ steps. AreSteps (λ j. row_sum operand j edges.now) steps.rises.items steps.falls.items) }
@@ -97,8 +126,14 @@ fn steps_of(alloc: Global, edges: &[Edge], operand: Operand) -> Result<Steps, No
         rises: Vec::new(alloc),
         falls: Vec::new(alloc),
     };
-    for edge in edges {
+    let mut left = edges;
+    while let Some((edge, rest)) = left.split_first() {
+        if let Some(others) = behind_opposites(left) {
+            left = others;
+            continue;
+        }
         add_step(&mut steps, edge, operand)?;
+        left = rest;
     }
     Ok(steps)
 }

@@ -1,11 +1,10 @@
 //! The order in which columns come to edges.
-ghost use Rattle.std.specs.Prelude.{◌≡◌, ◌++◌, ℤ, All, IsPermutation, IfOk};
+ghost use Rattle.std.specs.Prelude.{◌≡◌, ◌++◌, ℤ, All, IsPermutation};
 ghost use Rattle.column_sweep.specs.Parts.{LiesRight};
 ghost use Rattle.column_sweep.specs.Dealing.{RisesPast};
 ghost use Rattle.column_sweep.specs.Waiting.{least_x, LeastsAscend};
 
 use crate::cuts::Cut;
-use geo_stream::NoMemory;
 use half_grid::{Edge, x_at};
 
 /// The least X of an edge.
@@ -25,25 +24,21 @@ pub(crate) fn sort_by_least_x(edges: &mut Vec<Edge>)
     edges.sort_unstable_by_key(|edge| least_x(edge));
 }
 
-/// Copies those of the waiting edges that lie left of the cut with some part to the end of the others. Gives those that
-/// wait on.
-pub(crate) fn take_before<'a>(
-    edges: &mut Vec<Edge>,
-    waiting: &'a [Edge],
-    cut: Cut,
-) -> Result<&'a [Edge], NoMemory>
+/// Parts the waiting edges in those that lie left of the cut with some part, and those that wait on.
+pub(crate) fn split_before(waiting: &[Edge], cut: Cut) -> (&[Edge], &[Edge])
     requires { RisesPast cut.x waiting.now }
-    ensures whole { IfOk result (λ rest. edges.new.items ++ rest.now ≡ edges.old.items ++ waiting.now) }
-    ensures rises { (x : ℤ) → RisesPast x waiting.now → IfOk result (λ rest. RisesPast x rest.now) }
-    ensures right { IfOk result (λ rest. All (LiesRight cut.x) rest.now) }
+    ensures whole { result.0.now ++ result.1.now ≡ waiting.now }
+    ensures rises { (x : ℤ) → RisesPast x waiting.now → RisesPast x result.1.now }
+    ensures right { All (LiesRight cut.x) result.1.now }
 {
+    let mut count = 0;
     let mut left = waiting;
     while let Some((edge, rest)) = left.split_first() {
         if cut.x <= least_x(edge).x {
-            return Ok(left);
+            return waiting.split_at(count);
         }
-        edges.push(*edge)?;
+        count += 1;
         left = rest;
     }
-    Ok(left)
+    waiting.split_at(count)
 }

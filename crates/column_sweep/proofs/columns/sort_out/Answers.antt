@@ -1,19 +1,48 @@
-use Rattle.std.proofs.Common.{rules, ◌≡◌, ◌+◌, take, ◌++◌, ◌∷◌, [], List, subst}
-use Rattle.std.proofs.lemmas.List.{take_more, take_all}
-use Rattle.half_grid.specs.Trapezoids.{Trapezoid}
-use Rattle.column_sweep.specs.Sewing.{AreSorted}
-use Rattle.column_sweep.proofs.Progressing.{sorted_none}
+use Rattle.std.proofs.Common.{ℤ, Bool, [], ◌∷◌, ◌++◌, ◌∙◌, sym, subst}
+use Rattle.half_grid.specs.JoinedLists.{IsJoined}
+use Rattle.half_grid.specs.Windows.{RowRange}
+use Rattle.trap_join.proofs.ForCallers.{moved_rule, moved_cover}
+use Rattle.column_sweep.proofs.Progressing.{behind_none}
 use Rattle.column_sweep.proofs.columns.sort_out.Goals as goal
 
-pub loop-trap-init : goal.loop-trap-init
-loop-trap-init c = rw (c.new.ensures.items, c.new-2.ensures.items) (sorted_none c.args.column.from.x c.args.column.to.x)
+pub loop-join-init : goal.loop-join-init
+loop-join-init g c = record {
+  given = ([], (c.in_ok-join.ensures.given, behind_none c.args.column.from.x c.args.column.to.x c.args.sewn.now.finals.items c.args.sewn.now.seams.items));
+  rule = c.in_ok-join.ensures.rule;
+  edges = c.in_ok-join.ensures.edges;
+  window = c.in_ok-join.ensures.window;
+}
 
-pub loop-trap-preserved : goal.loop-trap-preserved
-loop-trap-preserved c =
-    let taken : take (c.loop-trap.trap-index + 1) c.args.traps.now ≡ take c.loop-trap.trap-index c.args.traps.now ++ c.trap-item.result ∷ [] = search (rules, take_more) in
-    rw taken (c.in_ok-sort_in.ensures (take c.loop-trap.trap-index c.args.traps.now) c.loop-trap.invariant)
+pub next-requires-clause-going : goal.next-requires-clause-going
+next-requires-clause-going g c = λ _.
+    let given = c.loop-join.invariant.given in
+    (given.0, moved_rule (λ rule a b r. g.F.Fn.post rule (a, (b, tt)) r) c.args.scan.rule c.loop-join.join.rule _ _ _ _ _ (sym c.loop-join.invariant.rule) given.1.0)
+
+pub loop-join-preserved : goal.loop-join-preserved
+loop-join-preserved g c =
+    let post : g.row.F.Denot → ℤ → ℤ → Bool → Type 0 = λ rule a b r. g.F.Fn.post rule (a, (b, tt)) r in
+    let given = c.loop-join.invariant.given in
+    let before = moved_rule post c.args.scan.rule c.loop-join.join.rule _ _ _ _ _ (sym c.loop-join.invariant.rule) given.1.0 in
+    let after = rw c.in-Some.is at (c.in_ok-trap.ensures.gives given.0 before) in
+    let back = moved_rule post c.loop-join.join.rule c.args.scan.rule c.next.new.self.edges c.next.new.self.window c.next.new.self.y _ _ c.loop-join.invariant.rule after in
+    record {
+      given = (given.0 ++ c.in-Some.trap ∷ [], (back, c.in_ok-sort_in.ensures given.0 _ _ given.1.1));
+      rule = c.in_ok-trap.ensures.rule ∙ c.loop-join.invariant.rule;
+      edges = c.in_ok-trap.ensures.edges ∙ c.loop-join.invariant.edges;
+      window = c.in_ok-trap.ensures.window ∙ c.loop-join.invariant.window;
+    }
 
 pub returns : goal.returns
-returns c =
-    let whole : take c.loop-trap.trap-index c.args.traps.now ≡ c.args.traps.now = take_all _ _ c.loop-trap-test.false in
-    subst (λ (traps : List Trapezoid). AreSorted c.args.column.from.x c.args.column.to.x traps c.loop-trap.sewn.finals.items c.loop-trap.sewn.seams.items) whole c.loop-trap.invariant
+returns g c =
+    let post : g.row.F.Denot → ℤ → ℤ → Bool → Type 0 = λ rule a b r. g.F.Fn.post rule (a, (b, tt)) r in
+    let given = c.loop-join.invariant.given in
+    let before = moved_rule post c.args.scan.rule c.loop-join.join.rule _ _ _ _ _ (sym c.loop-join.invariant.rule) given.1.0 in
+    record {
+      traps = given.0;
+      all = record {
+        joined = subst (λ (window : RowRange). IsJoined window given.0) c.loop-join.invariant.window (rw c.in_default.is at (c.in_ok-trap.ensures.joined given.0 before));
+        covers = moved_cover post c.loop-join.join.rule c.args.scan.rule c.loop-join.join.edges c.args.scan.edges c.loop-join.join.window c.args.scan.window given.0
+            c.loop-join.invariant.rule c.loop-join.invariant.edges c.loop-join.invariant.window (rw c.in_default.is at (c.in_ok-trap.ensures.covers given.0 before));
+      };
+      sorted = given.1.1;
+    }

@@ -8,6 +8,7 @@ use Rattle.trap_join.specs.Joins.{IsTakenIn}
 use Rattle.column_sweep.specs.Sewing.{CoverTogether, AreSewn, AreLeft}
 use Rattle.column_sweep.specs.Dealing.{RisesPast}
 use Rattle.column_sweep.proofs.PartWindings.{first_left, rest_balanced, none_before, none_behind}
+use Rattle.column_sweep.proofs.Dealt.{taken_apart}
 use Rattle.column_sweep.proofs.Progressing.{swept_none, all_sewn, all_covered}
 use Rattle.column_sweep.proofs.columns.swept_columns.Goals as goal
 
@@ -26,8 +27,8 @@ loop-cut-init g c =
       high = rw begin.from (omega (arith, ints));
     }
 
-pub take_before-requires : goal.take_before-requires
-take_before-requires g c = c.loop-cut.invariant.rises c.loop-cut.cut-index _ (omega arith)
+pub split_before-requires : goal.split_before-requires
+split_before-requires g c = c.loop-cut.invariant.rises c.loop-cut.cut-index _ (omega arith)
 
 pub loop-cut-preserved : goal.loop-cut-preserved
 loop-cut-preserved g c =
@@ -36,12 +37,12 @@ loop-cut-preserved g c =
     let within = c.is_next.ensures.within c.if-not-is_next.false in
     let low = i.low in
     let high = within.high in
-    let left = subst (λ (xs : List EdgeParts). AreLeft c.loop-cut.progress.from.x c.args.edges.items xs) (sym c.in_ok-later.ensures.whole) i.left in
+    let left = subst (λ (xs : List EdgeParts). AreLeft c.loop-cut.progress.from.x c.args.edges.items xs) (taken_apart c.loop-cut.progress.edges.items _ _ _ c.split_before.ensures.whole) i.left in
     let next = c.in_ok-progress.ensures in
     record {
-      left = rw next.from (next.left c.args.edges.items c.in_ok-later.later.now c.in_ok-later.ensures.right lt left);
-      swept = rw next.from (next.swept c.args.edges.items c.in_ok-later.later.now (negsuc (2 ^ 44)) c.in_ok-later.ensures.right i.low lt left i.swept);
-      rises = All-weaker (λ d. RisesPast d.x c.loop-cut.later.now) (λ d. RisesPast d.x c.in_ok-later.later.now) (λ d. c.in_ok-later.ensures.rises d.x) c.args.cuts.now i.rises;
+      left = rw next.from (next.left c.args.edges.items c.split_before.result.1.now c.split_before.ensures.right lt left);
+      swept = rw next.from (next.swept c.args.edges.items c.split_before.result.1.now (negsuc (2 ^ 44)) c.split_before.ensures.right i.low lt left i.swept);
+      rises = All-weaker (λ d. RisesPast d.x c.loop-cut.later.now) (λ d. RisesPast d.x c.split_before.result.1.now) (λ d. c.split_before.ensures.rises d.x) c.args.cuts.now i.rises;
       low = rw next.from (omega (arith, ints, low, lt));
       high = rw next.from (omega (arith, ints, high));
     }

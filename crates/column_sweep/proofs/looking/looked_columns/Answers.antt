@@ -1,4 +1,4 @@
-use Rattle.std.proofs.Common.{ℤ, Bool, List, negsuc, ◌^◌, All, subst, sym, arith}
+use Rattle.std.proofs.Common.{ℤ, Bool, List, negsuc, ◌^◌, All, subst, sym, ap, ◌∙◌, ◌++◌, arith}
 use Rattle.std.proofs.lemmas.Int.{ints}
 use Rattle.std.proofs.lemmas.Result.{IfOk-weaker}
 use Rattle.std.proofs.lemmas.List.Sorted.{All-permutation, IsPermutation-sym}
@@ -7,6 +7,7 @@ use Rattle.half_grid.specs.Edges.{EdgeParts, IsEdge}
 use Rattle.column_sweep.specs.Looking.{IsLookedTo, IsFirstTaken}
 use Rattle.column_sweep.specs.Dealing.{RisesPast}
 use Rattle.column_sweep.proofs.PartWindings.{first_left, none_before}
+use Rattle.column_sweep.proofs.Dealt.{taken_apart}
 use Rattle.column_sweep.proofs.LookedColumns.{found_from, looked_none, left_in_balanced, found_at_all}
 use Rattle.column_sweep.proofs.looking.looked_columns.Goals as goal
 
@@ -29,8 +30,8 @@ pub looked_column-requires-clause-found : goal.looked_column-requires-clause-fou
 looked_column-requires-clause-found g c =
     found_from _ c.args.window c.loop-cut.looked.from.x c.args.edges.items c.loop-cut.looked.found c.loop-cut.invariant.looked.known
 
-pub take_before-requires : goal.take_before-requires
-take_before-requires g c = c.loop-cut.invariant.rises c.loop-cut.cut-index _ (omega arith)
+pub split_before-requires : goal.split_before-requires
+split_before-requires g c = c.loop-cut.invariant.rises c.loop-cut.cut-index _ (omega arith)
 
 pub loop-cut-preserved : goal.loop-cut-preserved
 loop-cut-preserved g c =
@@ -39,11 +40,11 @@ loop-cut-preserved g c =
     let lt = c.is_next.ensures.right c.if-not-is_next.false in
     let within = c.is_next.ensures.within c.if-not-is_next.false in
     let high = within.high in
-    let looked = subst (λ (xs : List EdgeParts). IsLookedTo (post c.args.rule.now) c.args.edges.items c.args.window c.loop-cut.looked.from.x xs c.loop-cut.looked.found) (sym c.in_ok-later.ensures.whole) i.looked in
+    let looked = subst (λ (xs : List EdgeParts). IsLookedTo (post c.args.rule.now) c.args.edges.items c.args.window c.loop-cut.looked.from.x xs c.loop-cut.looked.found) (taken_apart c.loop-cut.looked.edges.items _ _ _ c.split_before.ensures.whole ∙ ap (λ (xs : List EdgeParts). xs ++ c.split_before.result.1.now) (sym c.in_ok-extend_from_slice.ensures.items)) i.looked in
     let next = c.in_ok-looked.ensures in
     record {
-      looked = rw next.from (next.looked c.args.edges.items c.in_ok-later.later.now c.in_ok-later.ensures.right lt looked);
-      rises = All-weaker (λ d. RisesPast d.x c.loop-cut.later.now) (λ d. RisesPast d.x c.in_ok-later.later.now) (λ d. c.in_ok-later.ensures.rises d.x) c.args.cuts.now i.rises;
+      looked = rw next.from (next.looked c.args.edges.items c.split_before.result.1.now c.split_before.ensures.right lt looked);
+      rises = All-weaker (λ d. RisesPast d.x c.loop-cut.later.now) (λ d. RisesPast d.x c.split_before.result.1.now) (λ d. c.split_before.ensures.rises d.x) c.args.cuts.now i.rises;
       high = rw next.from (omega (arith, ints, high));
     }
 
