@@ -2,6 +2,7 @@ pub mod Halves
 pub mod StripBounds
 pub mod Places
 pub mod Naming
+pub mod WayLemmas
 pub mod LineLemmas
 pub mod WindingLemmas
 pub mod ReachLemmas

@@ -8,6 +8,7 @@ pub mod Outlines
 pub mod Trapezoids
 pub mod Sides
 pub mod RowLaws
+pub mod Ways
 pub mod Edges
 pub mod Windows
 pub mod Quads
