@@ -1,10 +1,11 @@
 -- What edges add up to in a row, list by list.
-use Rattle.std.proofs.Common.{◌≡◌, ℕ, ◌+◌, Bool, true, false, ◌&&◌, not, ℤ, pos, ◌+ℤ◌, ◌-ℤ◌, ◌≤ℤ◌, ◌<ℤ◌, arith, refl, sym, ap, ◌∙◌, List, [], ◌∷◌, ◌++◌, count_by}
+use Rattle.std.proofs.Common.{◌≡◌, ℕ, ◌+◌, Bool, true, false, ◌&&◌, not, ℤ, pos, ◌+ℤ◌, ◌-ℤ◌, ◌≤ℤ◌, ◌<ℤ◌, arith, refl, sym, ap, ◌∙◌, List, [], ◌∷◌, ◌++◌, count_by, append_assoc, Option}
 use Rattle.std.proofs.lemmas.Int.{ints}
 use Rattle.std.proofs.lemmas.List.Sums.{sum_by-append}
 use Rattle.std.proofs.lemmas.List.Sorted.{sum_by-IsPermutation}
 use Rattle.std.proofs.lemmas.List.Elements.{All-head, All-tail, All-weaker}
 use Rattle.std.specs.List.{All}
+use Rattle.std.specs.Option.{option_to_list}
 use Rattle.std.specs.Prelude.{int_le, IsPermutation}
 use Rattle.half_grid.specs.Lines.{strip_along, first_strip}
 use Rattle.half_grid.specs.Rows.{place, number_in_row}
@@ -16,7 +17,7 @@ use Rattle.half_grid.specs.declared.border.Operand.{Operand}
 use Rattle.half_grid.proofs.ForCallers.{count_by-cons, right_by_place, left_by_place, le_yes, le_no}
 use Rattle.scan_line.specs.Actives.{SpansRow}
 use Rattle.scan_line.specs.Runs.{IsBalancedAt}
-use Rattle.column_sweep.specs.RowSums.{up_among, down_among, sum_among, any_line, row_sum}
+use Rattle.column_sweep.specs.RowSums.{up_among, down_among, sum_among, any_line, row_sum, AddUpAlike}
 
 -- whether the tile is right of the line
 abbrev pub has_right : Tile → Line → Bool
@@ -141,3 +142,35 @@ count_single p e = count_by-cons p e [] ∙ (omega arith)
 pub sum_one : (o : Operand) (j : ℤ) (some : Line → Bool) (e : EdgeParts) → sum_among o j some (e ∷ []) ≡ pos (count_one (up_among o j some e)) -ℤ pos (count_one (down_among o j some e))
 unfolding sum_among
 sum_one o j some e = rw (count_single (up_among o j some) e, count_single (down_among o j some) e) refl
+
+-- ---- lists that add up alike
+
+pub alike_refl : (xs : List EdgeParts) → AddUpAlike xs xs
+alike_refl xs o j some = refl
+
+pub alike_trans : (xs ys zs : List EdgeParts) → AddUpAlike xs ys → AddUpAlike ys zs → AddUpAlike xs zs
+alike_trans xs ys zs h k o j some = h o j some ∙ k o j some
+
+pub alike_append : (xs ys us vs : List EdgeParts) → AddUpAlike xs ys → AddUpAlike us vs → AddUpAlike (xs ++ us) (ys ++ vs)
+alike_append xs ys us vs h k o j some = sum_append o j some xs us ∙ (rw (h o j some, k o j some) (sym (sum_append o j some ys vs)))
+
+pub winding_alike : (o : Operand) (t : Tile) (xs ys : List EdgeParts) → AddUpAlike xs ys → edges_winding o xs t ≡ edges_winding o ys t
+winding_alike o t xs ys h = winding_is_sum o xs t ∙ (h o t.j (has_right t) ∙ sym (winding_is_sum o ys t))
+
+pub balanced_alike : (o : Operand) (j : ℤ) (xs ys : List EdgeParts) → AddUpAlike xs ys → IsBalancedAt ys o j → IsBalancedAt xs o j
+balanced_alike o j xs ys h k = balanced_by_sum o j xs (h o j any_line ∙ sum_by_balance o j ys k)
+
+-- what is put in the place of the last edge and one more
+pub alike_behind : (all front rests : List EdgeParts) (e f : EdgeParts) → all ≡ front ++ e ∷ [] → AddUpAlike rests (e ∷ f ∷ []) → AddUpAlike (front ++ rests) (all ++ f ∷ [])
+alike_behind all front rests e f is h o j some =
+    let rest = h o j some in
+    let two = sum_cons o j some e (f ∷ []) in
+    rw (is, sum_append o j some front rests, sum_append o j some (front ++ e ∷ []) (f ∷ []), sum_append o j some front (e ∷ [])) (omega (arith, ints, rest, two))
+
+-- four parts put one after another
+pub four_put : (xs ys zs us vs : List EdgeParts) (a b c d p q r s : Option EdgeParts) → ys ≡ xs ++ option_to_list a → zs ≡ ys ++ option_to_list b → us ≡ zs ++ option_to_list c → vs ≡ us ++ option_to_list d
+    → a ≡ p → b ≡ q → c ≡ r → d ≡ s → vs ≡ xs ++ (option_to_list p ++ (option_to_list q ++ (option_to_list r ++ option_to_list s)))
+four_put xs ys zs us vs a b c d p q r s hy hz hu hv ha hb hc hd =
+    rw (hv, hu, hz, hy, ha, hb, hc, hd)
+    (append_assoc ((xs ++ option_to_list p) ++ option_to_list q) (option_to_list r) (option_to_list s)
+    ∙ (append_assoc (xs ++ option_to_list p) (option_to_list q) (option_to_list r ++ option_to_list s) ∙ append_assoc xs (option_to_list p) (option_to_list q ++ (option_to_list r ++ option_to_list s))))

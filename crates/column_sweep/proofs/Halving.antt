@@ -1,5 +1,5 @@
 -- An edge's parts below and above a Y, and on both sides of an upright line.
-use Rattle.std.proofs.Common.{FitsSigned, w64, to_z, of_z, ◌*ℤ◌, ◌≡◌, Bool, true, false, ◌&&◌, not, ℤ, pos, ◌+ℤ◌, ◌-ℤ◌, ◌≤ℤ◌, ◌<ℤ◌, arith, refl, sym, ap, ◌∙◌, cond, List, [], ◌∷◌, Option, Some, None}
+use Rattle.std.proofs.Common.{FitsSigned, w64, to_z, of_z, ◌*ℤ◌, ◌≡◌, Bool, true, false, ◌&&◌, not, ℤ, pos, ◌+ℤ◌, ◌-ℤ◌, ◌≤ℤ◌, ◌<ℤ◌, arith, refl, sym, ap, ◌∙◌, cond, List, [], ◌∷◌, ◌++◌, Option, Some, None}
 use Rattle.std.proofs.lemmas.Int.{ints, clamps, by_lt_z, to_z-of_z}
 use Rattle.std.proofs.lemmas.List.Elements.{All-cons, All-nil}
 use Rattle.std.specs.List.{All}
@@ -8,14 +8,15 @@ use Rattle.std.specs.Int.{int_min, int_max}
 use Rattle.std.specs.Prelude.{int_lt, int_le, SomeIff}
 use Rattle.half_grid.specs.Lines.{x_on, first_strip}
 use Rattle.half_grid.specs.Reach.{IsWithinReach}
-use Rattle.half_grid.specs.Edges.{EdgeParts, IsEdge, edge_parts, spans}
+use Rattle.half_grid.specs.Winding.{count_one}
+use Rattle.half_grid.specs.Edges.{EdgeParts, IsEdge, edge_parts, spans, is_of}
 use Rattle.half_grid.specs.declared.plane.Line.{Line}
 use Rattle.half_grid.specs.declared.plane.Line.TheVariants.{Upright, Rising, Falling}
 use Rattle.half_grid.specs.declared.border.Operand.{Operand}
 use Rattle.half_grid.proofs.ForCallers.{strip_within}
-use Rattle.column_sweep.specs.RowSums.{sum_among}
-use Rattle.column_sweep.specs.Parts.{LiesLeft, LiesRight, part_over, part_below, part_above, AddUp}
-use Rattle.column_sweep.proofs.Adding.{sum_nil, sum_one, sum_none}
+use Rattle.column_sweep.specs.RowSums.{sum_among, AddUpAlike}
+use Rattle.column_sweep.specs.Parts.{LiesLeft, LiesRight, part_over, part_below, part_above, rests, AddUp}
+use Rattle.column_sweep.proofs.Adding.{sum_nil, sum_one, sum_cons, sum_append, sum_none}
 
 pub between : (a b y : ℤ) → IsWithinReach a → IsWithinReach b → a ≤ℤ y → y ≤ℤ b → IsWithinReach y
 between a b y ha hb l h = record { low = omega (arith, ints, ha.low, l); high = omega (arith, ints, hb.high, h) }
@@ -107,6 +108,68 @@ parts_add y e o j some =
     (λ ge. (let here = sum_over o j some e _ _ (above_spans e y j ge) in
     let none = single_none o j some (over e e.y0 (int_min e.y1 y)) (below_not e y j ge) in
     rw (below, above, here, none) (omega (arith, ints))))
+
+-- what an edge has besides the rows of another
+not_below : (f : EdgeParts) (j : ℤ) → j <ℤ f.y0 → spans f j ≡ false
+not_below f j h = both_or (int_le f.y0 j) (int_lt j f.y1) (λ p q. absurd (grind (arith, ints)))
+
+not_above : (f : EdgeParts) (j : ℤ) → f.y1 ≤ℤ j → spans f j ≡ false
+not_above f j h = both_or (int_le f.y0 j) (int_lt j f.y1) (λ p q. absurd (grind (arith, ints)))
+
+in_between : (f : EdgeParts) (j : ℤ) → f.y0 ≤ℤ j → j <ℤ f.y1 → spans f j ≡ true
+in_between f j h k =
+    let low : int_le f.y0 j ≡ true = grind (arith, ints) in
+    let high : int_lt j f.y1 ≡ true = grind (arith, ints) in
+    rw (low, high) refl
+
+rest_sum : (o : Operand) (j : ℤ) (some : Line → Bool) (e f : EdgeParts) → f.y0 <ℤ f.y1
+    → (sum_among o j some (option_to_list (part_below f.y0 e)) +ℤ sum_among o j some (option_to_list (part_above f.y1 e))) ≡ cond (spans f j) (pos 0) (sum_among o j some (e ∷ []))
+rest_sum o j some e f rows =
+    let below = sum_part o j some e e.y0 (int_min e.y1 f.y0) _ refl in
+    let above = sum_part o j some e (int_max e.y0 f.y1) e.y1 _ refl in
+    by_lt_z j f.y0
+    (λ lt. (let here = sum_over o j some e _ _ (below_spans e f.y0 j lt) in
+    let none = single_none o j some (over e (int_max e.y0 f.y1) e.y1) (above_not e f.y1 j (omega (arith, ints, lt, rows))) in
+    rw (below, above, here, none, not_below f j lt) (omega (arith, ints))))
+    (λ ge. by_lt_z j f.y1
+    (λ lt. (let none = single_none o j some (over e e.y0 (int_min e.y1 f.y0)) (below_not e f.y0 j ge) in
+    let nothing = single_none o j some (over e (int_max e.y0 f.y1) e.y1) (above_not e f.y1 j lt) in
+    rw (below, above, none, nothing, in_between f j ge lt) (omega (arith, ints))))
+    (λ over_top. (let none = single_none o j some (over e e.y0 (int_min e.y1 f.y0)) (below_not e f.y0 j ge) in
+    let here = sum_over o j some e _ _ (above_spans e f.y1 j over_top) in
+    rw (below, above, here, none, not_above f j over_top) (omega (arith, ints)))))
+
+both_rests : (p q : Bool) (a b x y : ℤ) → (p ≡ false → x ≡ pos 0) → (q ≡ false → y ≡ pos 0) → (p ≡ true → q ≡ true → (x +ℤ y) ≡ pos 0) → a ≡ cond q (pos 0) x → b ≡ cond p (pos 0) y → (a +ℤ b) ≡ (x +ℤ y)
+both_rests true true a b x y hx hy both ha hb = let none = both refl refl in omega (arith, ints, ha, hb, none)
+both_rests true false a b x y hx hy both ha hb = let none = hy refl in omega (arith, ints, ha, hb, none)
+both_rests false true a b x y hx hy both ha hb = let none = hx refl in omega (arith, ints, ha, hb, none)
+both_rests false false a b x y hx hy both ha hb = omega (arith, ints, ha, hb)
+
+pub opposites : (a b c d : Bool) → (c ≡ d → ⊥) → pos (count_one (a && (c && b))) -ℤ pos (count_one (a && (not c && b))) ≡ pos (count_one (a && (not d && b))) -ℤ pos (count_one (a && (d && b)))
+opposites a b true true h = absurd (h refl)
+opposites a b true false h = refl
+opposites a b false true h = refl
+opposites a b false false h = absurd (h refl)
+
+-- edges that go opposite ways on one line add up to nothing in the rows of both
+against : (o : Operand) (j : ℤ) (some : Line → Bool) (e f : EdgeParts) → e.line ≡ f.line → (e.up ≡ f.up → ⊥) → e.operand ≡ f.operand → spans e j ≡ true → spans f j ≡ true
+    → (sum_among o j some (e ∷ []) +ℤ sum_among o j some (f ∷ [])) ≡ pos 0
+against o j some e f line up of he hf =
+    let opposite = opposites (is_of o f.operand) (true && some f.line) e.up f.up up in
+    rw (sum_one o j some e, sum_one o j some f, of, line, he, hf) (omega (arith, ints, opposite))
+
+pub rests_add : (e f : EdgeParts) → e.y0 <ℤ e.y1 → f.y0 <ℤ f.y1 → e.line ≡ f.line → (e.up ≡ f.up → ⊥) → e.operand ≡ f.operand → AddUpAlike (rests e f) (e ∷ f ∷ [])
+rests_add e f rows_e rows_f line up of o j some =
+    let first = rest_sum o j some e f rows_f in
+    let second = rest_sum o j some f e rows_e in
+    let all = both_rests (spans e j) (spans f j) _ _ (sum_among o j some (e ∷ [])) (sum_among o j some (f ∷ [])) (single_none o j some e) (single_none o j some f) (against o j some e f line up of) first second in
+    rw (
+      sum_append o j some (option_to_list (part_below f.y0 e)) (option_to_list (part_below e.y0 f) ++ (option_to_list (part_above f.y1 e) ++ option_to_list (part_above e.y1 f))),
+      sum_append o j some (option_to_list (part_below e.y0 f)) (option_to_list (part_above f.y1 e) ++ option_to_list (part_above e.y1 f)),
+      sum_append o j some (option_to_list (part_above f.y1 e)) (option_to_list (part_above e.y1 f)),
+      sum_cons o j some e (f ∷ []),
+    )
+    (omega (arith, ints, all))
 
 pub add_other_way : (own beyond edges : List EdgeParts) → AddUp own beyond edges → AddUp beyond own edges
 add_other_way own beyond edges h o j some = let same = h o j some in omega (arith, ints, same)

@@ -1,5 +1,5 @@
 -- The edges of trapezoids that have rows of a window: they are in balance, and wind by count.
-use Rattle.std.proofs.Common.{◌≡◌, ℤ, ◌≤ℤ◌, ◌<ℤ◌, ◌+◌, Bool, true, false, ◌&&◌, not, refl, sym, ap, ◌∙◌, add_comm, List, [], ◌∷◌, ◌++◌, All, count_by, filter, arith}
+use Rattle.std.proofs.Common.{◌≡◌, ℤ, ◌≤ℤ◌, ◌<ℤ◌, ◌+◌, Bool, true, false, ◌&&◌, not, refl, sym, ap, subst, ◌∙◌, append_assoc, append-nil, add_comm, List, [], ◌∷◌, ◌++◌, All, count_by, filter, arith}
 use Rattle.std.specs.Prelude.{int_lt}
 use Rattle.std.specs.List.{flat_map}
 use Rattle.std.proofs.lemmas.Int.{ints}
@@ -15,6 +15,8 @@ use Rattle.half_grid.specs.declared.border.Operand.TheVariants.{A, B}
 use Rattle.half_grid.proofs.ForCallers.{count_by-cons, windings_add, winding_is_count, operands_apart, has_in}
 use Rattle.scan_line.specs.Runs.{IsBalanced, IsBalancedAt}
 use Rattle.column_sweep.specs.Operands.{meets, edges_meeting, WindsByCount}
+use Rattle.column_sweep.specs.RowSums.{AddUpAlike}
+use Rattle.column_sweep.proofs.Adding.{winding_alike, balanced_alike, alike_refl, alike_trans, alike_append}
 
 -- ---- balance
 
@@ -36,9 +38,9 @@ list_balanced o p [] j = refl
 list_balanced o p (z ∷ traps) j =
     both_balanced (edges_of_trapezoid p z) (flat_map (edges_of_trapezoid p) traps) o j (pair_balanced o p z j) (list_balanced o p traps j)
 
-pub operands_balanced : (a b : List Trapezoid) (window rows : RowRange) (edges : List EdgeParts) → edges ≡ edges_meeting A window a ++ edges_meeting B window b → IsBalanced edges rows
-operands_balanced a b window rows edges is = λ o j low high.
-    rw is (both_balanced (edges_meeting A window a) (edges_meeting B window b) o j (list_balanced o A (filter (meets window) a) j) (list_balanced o B (filter (meets window) b) j))
+pub operands_balanced : (a b : List Trapezoid) (window rows : RowRange) (edges : List EdgeParts) → AddUpAlike edges (edges_meeting A window a ++ edges_meeting B window b) → IsBalanced edges rows
+operands_balanced a b window rows edges alike = λ o j low high.
+    balanced_alike o j edges (edges_meeting A window a ++ edges_meeting B window b) alike (both_balanced (edges_meeting A window a) (edges_meeting B window b) o j (list_balanced o A (filter (meets window) a) j) (list_balanced o B (filter (meets window) b) j))
 
 -- ---- windings
 
@@ -79,12 +81,41 @@ legal_meeting window (z ∷ traps) h = legal_by _ window z traps refl (All-head 
 different : A ≡ B → ⊥
 different e = grind (arith, ap (is_of A) e)
 
-pub winds_by_first : (a b : List Trapezoid) (window : RowRange) (edges : List EdgeParts) → All IsShot a → edges ≡ edges_meeting A window a ++ edges_meeting B window b → WindsByCount A edges a window
-winds_by_first a b window edges h is = λ t low high.
-    rw is (windings_add A (edges_meeting A window a) (edges_meeting B window b) t
+pub winds_by_first : (a b : List Trapezoid) (window : RowRange) (edges : List EdgeParts) → All IsShot a → AddUpAlike edges (edges_meeting A window a ++ edges_meeting B window b) → WindsByCount A edges a window
+winds_by_first a b window edges h alike = λ t low high.
+    winding_alike A t edges (edges_meeting A window a ++ edges_meeting B window b) alike
+    ∙ (windings_add A (edges_meeting A window a) (edges_meeting B window b) t
     ∙ (rw (winding_is_count A (filter (meets window) a) t (legal_meeting window a h), operands_apart A B (filter (meets window) b) t different, count_meeting window a t low high) (omega (arith, ints))))
 
-pub winds_by_second : (a b : List Trapezoid) (window : RowRange) (edges : List EdgeParts) → All IsShot b → edges ≡ edges_meeting A window a ++ edges_meeting B window b → WindsByCount B edges b window
-winds_by_second a b window edges h is = λ t low high.
-    rw is (windings_add B (edges_meeting A window a) (edges_meeting B window b) t
+pub winds_by_second : (a b : List Trapezoid) (window : RowRange) (edges : List EdgeParts) → All IsShot b → AddUpAlike edges (edges_meeting A window a ++ edges_meeting B window b) → WindsByCount B edges b window
+winds_by_second a b window edges h alike = λ t low high.
+    winding_alike B t edges (edges_meeting A window a ++ edges_meeting B window b) alike
+    ∙ (windings_add B (edges_meeting A window a) (edges_meeting B window b) t
     ∙ (rw (winding_is_count B (filter (meets window) b) t (legal_meeting window b h), operands_apart B A (filter (meets window) a) t (λ e. different (sym e)), count_meeting window b t low high) (omega (arith, ints))))
+
+-- ---- put one after another
+
+with_edges : (o : Operand) (window : RowRange) (z : Trapezoid) (traps : List Trapezoid) → meets window z ≡ true → edges_meeting o window (z ∷ traps) ≡ left_edge z o ∷ right_edge z o ∷ edges_meeting o window traps
+with_edges o window z traps e = rw e refl
+
+without_edges : (o : Operand) (window : RowRange) (z : Trapezoid) (traps : List Trapezoid) → meets window z ≡ false → edges_meeting o window (z ∷ traps) ≡ edges_meeting o window traps
+without_edges o window z traps e = rw e refl
+
+one_by_one : (xs ys : List EdgeParts) (e f : EdgeParts) → ((xs ++ e ∷ []) ++ f ∷ []) ++ ys ≡ xs ++ e ∷ f ∷ ys
+one_by_one xs ys e f = append_assoc (xs ++ e ∷ []) (f ∷ []) ys ∙ append_assoc xs (e ∷ []) (f ∷ ys)
+
+module _ (o : Operand) (window : RowRange) (left rest : List Trapezoid) (z : Trapezoid) (first : left ≡ z ∷ rest) (edges all : List EdgeParts) (before : AddUpAlike (edges ++ edges_meeting o window left) all) where
+  pub put_more : (more final : List EdgeParts) → meets window z ≡ true → AddUpAlike more (edges ++ left_edge z o ∷ []) → final ≡ more ++ right_edge z o ∷ [] → AddUpAlike (final ++ edges_meeting o window rest) all
+  put_more more final e alike is =
+      let both = alike_append final ((edges ++ left_edge z o ∷ []) ++ right_edge z o ∷ []) (edges_meeting o window rest) (edges_meeting o window rest)
+      (subst (λ (xs : List EdgeParts). AddUpAlike xs ((edges ++ left_edge z o ∷ []) ++ right_edge z o ∷ [])) (sym is) (alike_append more (edges ++ left_edge z o ∷ []) (right_edge z o ∷ []) (right_edge z o ∷ []) alike (alike_refl (right_edge z o ∷ []))))
+      (alike_refl (edges_meeting o window rest)) in
+      let same : ((edges ++ left_edge z o ∷ []) ++ right_edge z o ∷ []) ++ edges_meeting o window rest ≡ edges ++ edges_meeting o window left =
+      one_by_one edges (edges_meeting o window rest) (left_edge z o) (right_edge z o) ∙ ap (λ (xs : List EdgeParts). edges ++ xs) (sym (ap (edges_meeting o window) first ∙ with_edges o window z rest e)) in
+      alike_trans _ _ _ both (subst (λ (xs : List EdgeParts). AddUpAlike xs all) (sym same) before)
+
+  pub put_skipped : meets window z ≡ false → AddUpAlike (edges ++ edges_meeting o window rest) all
+  put_skipped e = subst (λ (xs : List EdgeParts). AddUpAlike (edges ++ xs) all) (ap (edges_meeting o window) first ∙ without_edges o window z rest e) before
+
+pub put_all : (o : Operand) (window : RowRange) (left : List Trapezoid) (edges all : List EdgeParts) → left ≡ [] → AddUpAlike (edges ++ edges_meeting o window left) all → AddUpAlike edges all
+put_all o window left edges all none h = subst (λ (xs : List EdgeParts). AddUpAlike xs all) (ap (λ (traps : List Trapezoid). edges ++ edges_meeting o window traps) none ∙ append-nil edges) h

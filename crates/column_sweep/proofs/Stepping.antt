@@ -19,6 +19,7 @@ use Rattle.column_sweep.specs.declared.sums.Level.{Level}
 use Rattle.column_sweep.specs.RowSums.{any_line, row_sum}
 use Rattle.column_sweep.specs.Steps.{up_to, height, AreSteps}
 use Rattle.column_sweep.specs.Parts.{AreSumsOf, AreSums}
+use Rattle.column_sweep.proofs.Halving.{opposites}
 use Rattle.column_sweep.proofs.Adding.{sum_nil, sum_one, sum_cons, sum_append}
 
 abbrev Within : Level → Type 0
@@ -168,12 +169,6 @@ steps_all o edges [] rises falls none h =
 steps_all o edges (e ∷ left) rises falls none h = absurd (omega (arith, none))
 
 -- ---- two edges that add up to nothing
-
-opposites : (a b c d : Bool) → (c ≡ d → ⊥) → pos (count_one (a && (c && b))) -ℤ pos (count_one (a && (not c && b))) ≡ pos (count_one (a && (not d && b))) -ℤ pos (count_one (a && (d && b)))
-opposites a b true true h = absurd (h refl)
-opposites a b true false h = refl
-opposites a b false true h = refl
-opposites a b false false h = absurd (h refl)
 
 pub opposites_add : (e f : EdgeParts) → e.y0 ≡ f.y0 → e.y1 ≡ f.y1 → (e.up ≡ f.up → ⊥) → e.operand ≡ f.operand → (o : Operand) (j : ℤ) → row_sum o j (e ∷ f ∷ []) ≡ pos 0
 opposites_add e f low high up of o j =

@@ -1,6 +1,7 @@
 -- Edges for the tiles left of an upright line X = x, and edges for those right of it.
-use Rattle.std.specs.Prelude.{ℤ, pos, ◌+ℤ◌, ◌≤ℤ◌, ◌<ℤ◌, ◌≡◌, Bool, not, Option, Some, None, if◌then◌else◌, int_lt, List, All}
+use Rattle.std.specs.Prelude.{ℤ, pos, ◌+ℤ◌, ◌≤ℤ◌, ◌<ℤ◌, ◌≡◌, Bool, not, Option, Some, None, if◌then◌else◌, int_lt, List, ◌++◌, All}
 use Rattle.std.specs.Int.{int_min, int_max}
+use Rattle.std.specs.Option.{option_to_list}
 use Rattle.half_grid.specs.Edges.{EdgeParts, edge_parts, edges_winding, is_of}
 use Rattle.half_grid.specs.Rows.{place}
 use Rattle.half_grid.specs.declared.plane.Tile.{Tile}
@@ -28,6 +29,10 @@ part_below y e = part_over e e.y0 (int_min e.y1 y)
 
 abbrev pub part_above : ℤ → EdgeParts → Option EdgeParts
 part_above y e = part_over e (int_max e.y0 y) e.y1
+
+-- what each of two edges has besides the rows of the other
+abbrev pub rests : EdgeParts → EdgeParts → List EdgeParts
+rests e f = option_to_list (part_below f.y0 e) ++ (option_to_list (part_below e.y0 f) ++ (option_to_list (part_above f.y1 e) ++ option_to_list (part_above e.y1 f)))
 
 -- the two lists have together what the edges have, in each row
 abbrev pub AddUp : List EdgeParts → List EdgeParts → List EdgeParts → Type 0

@@ -4,7 +4,9 @@ ghost use Rattle.half_grid.specs.Windows.{RowRange};
 ghost use Rattle.half_grid.specs.declared.border.Operand.TheVariants.{A, B};
 ghost use Rattle.scan_line.specs.Runs.{IsBalanced};
 ghost use Rattle.column_sweep.specs.Operands.{meets, edges_meeting, WindsByCount};
+ghost use Rattle.column_sweep.specs.RowSums.{AddUpAlike};
 
+use crate::meeting::put_edge;
 use geo_stream::NoMemory;
 use half_grid::{Edge, Operand, Trap, Window};
 use std::alloc::Global;
@@ -25,20 +27,22 @@ fn meets(trap: &Trap, window: Window) -> bool
     trap.y0() < window.y1() && window.y0() < trap.y1()
 }
 
-// Puts the two edges of each trapezoid that has a row of the window at the end.
+// Puts the two edges of each trapezoid that has a row of the window at the end, less what a left side shares with the right
+// side of the trapezoid before.
 fn put_edges(
     edges: &mut Vec<Edge>,
     traps: &[Trap],
     operand: Operand,
     window: Window,
 ) -> Result<(), NoMemory>
-    ensures { OnOk result (edges.new.items ≡ edges.old.items ++ edges_meeting operand window traps.now) }
+    ensures { OnOk result (AddUpAlike edges.new.items (edges.old.items ++ edges_meeting operand window traps.now)) }
 {
     for trap in traps {
-        if meets(trap, window) {
-            edges.push(Edge::left_of(trap, operand))?;
-            edges.push(Edge::right_of(trap, operand))?;
+        if !meets(trap, window) {
+            continue;
         }
+        put_edge(edges, Edge::left_of(trap, operand))?;
+        edges.push(Edge::right_of(trap, operand))?;
     }
     Ok(())
 }
@@ -50,7 +54,7 @@ fn edges_of_both(
     b: &[Trap],
     window: Window,
 ) -> Result<Vec<Edge>, NoMemory>
-    ensures { IfOk result (λ edges. edges.items ≡ edges_meeting A window a.now ++ edges_meeting B window b.now) }
+    ensures { IfOk result (λ edges. AddUpAlike edges.items (edges_meeting A window a.now ++ edges_meeting B window b.now)) }
 {
     let mut edges = Vec::new(alloc);
     put_edges(&mut edges, a, Operand::A, window)?;
@@ -62,7 +66,9 @@ fn edges_of_both(
 /// an operand's winding is the number of its trapezoids that have the tile. In each row as many edges go up as down.
 /// Want of memory is the only refusal.
 ///
-/// Trapezoids with no row of the window give no edges, so this takes memory for the others alone.
+/// Trapezoids with no row of the window give no edges, so this takes memory for the others alone. Where one meets the next
+/// in the list with an upright or slanted side, the common rows of both sides are left out, so that a row of trapezoids side
+/// by side is no more to sweep than one.
 pub fn operand_edges(
     alloc: Global,
     a: &[Trap],

@@ -59,13 +59,15 @@ fn part_over(edge: &Edge, rows: Slab) -> Option<Edge>
     Edge::new(rows.y0, rows.y1, edge.line(), edge.is_up(), edge.operand())
 }
 
-fn part_below(edge: &Edge, level: Level) -> Option<Edge>
+/// The edge's part below the level.
+pub(crate) fn part_below(edge: &Edge, level: Level) -> Option<Edge>
     ensures { result ≡ part_below level.y edge.now }
 {
     part_over(edge, rows_below(edge, level))
 }
 
-fn part_above(edge: &Edge, level: Level) -> Option<Edge>
+/// The edge's part above the level.
+pub(crate) fn part_above(edge: &Edge, level: Level) -> Option<Edge>
     ensures { result ≡ part_above level.y edge.now }
 {
     part_over(edge, rows_above(edge, level))

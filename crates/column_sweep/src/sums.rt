@@ -28,14 +28,16 @@ struct Steps {
     falls: Vec<Level>,
 }
 
-fn bottom_of(edge: &Edge) -> Level
+/// Where the edge begins.
+pub(crate) fn bottom_of(edge: &Edge) -> Level
     ensures level { result.y ≡ edge.now.y0 }
     ensures within { IsWithinReach result.y }
 {
     Level { y: edge.y0() }
 }
 
-fn top_of(edge: &Edge) -> Level
+/// Where it ends.
+pub(crate) fn top_of(edge: &Edge) -> Level
     ensures level { result.y ≡ edge.now.y1 }
     ensures within { IsWithinReach result.y }
 {
@@ -65,7 +67,7 @@ fn step_of(edge: &Edge) -> Step
 }
 
 // Whether two operands are one.
-fn is_of(operand: Operand, other: Operand) -> bool
+pub(crate) fn is_of(operand: Operand, other: Operand) -> bool
     ensures { result ≡ is_of operand other }
 {
     match (operand, other) {
