@@ -98,7 +98,7 @@ fn run(rt: &HostRuntime) -> io::Result<()> {
     match asked(words.as_slice()) {
         Some(task) => measure(rt, alloc, task),
         None => println!(rt;
-            "words: [plain] squares or hatch SIDE, [plain] random, comb, pile, wires or jogs COUNT, walk SIDE, gds, oasis or agree COUNT; up to {MOST}"
+            "words: [plain] squares or hatch SIDE, [plain] random, comb, pile, wires, jogs or mixed COUNT, walk SIDE, gds, oasis or agree COUNT; up to {MOST}"
         ),
     }
 }

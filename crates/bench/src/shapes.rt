@@ -146,6 +146,19 @@ pub(crate) fn jogs(alloc: Global, corners: u32) -> Result<Vec<Trap>, AllocError>
     Ok(traps)
 }
 
+/// The same wires, of each the first rectangle, then of each the second, and so on: none stands beside its neighbours in the
+/// list.
+pub(crate) fn mixed(alloc: Global, corners: u32) -> Result<Vec<Trap>, AllocError> {
+    let wires = jogs(alloc, corners)?;
+    let mut traps = Vec::new(alloc);
+    for k in 0..500 {
+        for trap in wires.iter().skip(k).step_by(500) {
+            traps.push(*trap)?;
+        }
+    }
+    Ok(traps)
+}
+
 // A random line through about this X in the rows from about this Y on: upright, or a slanted one.
 fn line_by(state: u64, x: i64, y: i64) -> Line {
     match below(state, 3) {

@@ -31,6 +31,8 @@ pub(crate) enum Figure {
     Wires(u32),
     /// Wires with so many corners in all, each corner a jog.
     Jogs(u32),
+    /// The same wires, their rectangles in an order in which neighbours don't follow one another.
+    Mixed(u32),
 }
 
 /// How they are united.
@@ -53,6 +55,7 @@ impl Figure {
             "pile" => Some(Figure::Pile(count.min(10_000))),
             "wires" => Some(Figure::Wires(count)),
             "jogs" => Some(Figure::Jogs(count)),
+            "mixed" => Some(Figure::Mixed(count)),
             _ => None,
         }
     }
@@ -66,6 +69,7 @@ impl Figure {
             Figure::Pile(_) => "pile",
             Figure::Wires(_) => "wires",
             Figure::Jogs(_) => "jogs",
+            Figure::Mixed(_) => "mixed",
         }
     }
 
@@ -78,6 +82,7 @@ impl Figure {
             Figure::Pile(count) => shapes::pile(alloc, count),
             Figure::Wires(count) => shapes::wires(alloc, count),
             Figure::Jogs(corners) => shapes::jogs(alloc, corners),
+            Figure::Mixed(corners) => shapes::mixed(alloc, corners),
         }
     }
 }

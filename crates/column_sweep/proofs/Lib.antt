@@ -15,3 +15,4 @@ mod PartWindings
 mod Stitching
 mod Ordering
 mod Dealt
+pub mod ForCallers

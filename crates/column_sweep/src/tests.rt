@@ -1,5 +1,5 @@
 // A bar, swept by the nonzero rule; a bar without a slanted one, and a bar without a wedge that leans both ways, swept in
-// columns between cuts through every kind of corner and side; the edges of two lists, and the lowest tile in which they
+// columns between cuts through every kind of corner and side; the edges of two lists, and of sides that meet; and the lowest tile in which they
 // differ, looked for in the same columns; and the laws, called once.
 ghost use Rattle.std.specs.Prelude.{◌≡◌, ◌&&◌, ℤ, pos, not, IfOk};
 ghost use Rattle.std.specs.Ordering.{int_eq};
@@ -154,6 +154,26 @@ fn edges_of_two_lists(rt: HostRuntime) -> Result<(), Fail> {
         Edge::right_of(&bar, Operand::A),
         Edge::left_of(&slanted, Operand::B),
         Edge::right_of(&slanted, Operand::B),
+    ];
+    assert_eq!(rt; edges.as_slice(), wanted.as_slice());
+    Ok(())
+}
+
+#[test]
+fn sides_that_meet(rt: HostRuntime) -> Result<(), Fail> {
+    // the second stands a row higher than the first, and the third beside all of the second
+    let first = Trap::new(0, 4, Line::Upright(0), Line::Upright(10)).ok_or("no bar")?;
+    let second = Trap::new(1, 5, Line::Upright(10), Line::Rising(10)).ok_or("no bar")?;
+    let third = Trap::new(1, 5, Line::Rising(10), Line::Upright(40)).ok_or("no bar")?;
+    let rows = Window::new(0, 8).ok_or("no window")?;
+    let edges = operand_edges(rt.alloc(), &[first, second, third], &[], rows)?;
+    let below = Edge::new(0, 1, Line::Upright(10), false, Operand::A).ok_or("no rest")?;
+    let above = Edge::new(4, 5, Line::Upright(10), true, Operand::A).ok_or("no rest")?;
+    let wanted = [
+        Edge::left_of(&first, Operand::A),
+        below,
+        above,
+        Edge::right_of(&third, Operand::A),
     ];
     assert_eq!(rt; edges.as_slice(), wanted.as_slice());
     Ok(())

@@ -1,5 +1,5 @@
 -- The area of a layer by the windings of its pieces.
-use Rattle.std.proofs.Common.{◌≡◌, ◌≢◌, ◌↔◌, ℕ, ◌≤◌, ℤ, pos, ◌+ℤ◌, ◌≤ℤ◌, ◌<ℤ◌, Bool, ◌&&◌, not, ◌⊎◌, inl, inr, List, [], ◌∷◌, ◌++◌, flat_map, All, Any, ap, refl, sym, ◌∙◌, arith, count_by, append_assoc, append-nil}
+use Rattle.std.proofs.Common.{◌≡◌, ◌≢◌, ◌↔◌, ℕ, ◌≤◌, ℤ, pos, ◌+ℤ◌, ◌≤ℤ◌, ◌<ℤ◌, Bool, ◌&&◌, not, ◌⊎◌, inl, inr, List, [], ◌∷◌, ◌++◌, flat_map, All, Any, ap, refl, sym, subst, ◌∙◌, arith, count_by, append_assoc, append-nil}
 use Rattle.std.proofs.lemmas.Int.{ints}
 use Rattle.std.proofs.lemmas.List.Elements.{All-head, All-tail}
 use Rattle.std.proofs.lemmas.List.Sums.{sum_by-append}
@@ -15,6 +15,8 @@ use Rattle.half_grid.specs.declared.plane.Tile.{Tile}
 use Rattle.half_grid.proofs.ForCallers.{windings_add}
 use Rattle.scan_line.specs.Runs.{IsBalanced, IsBalancedAt}
 use Rattle.scan_line.proofs.ForCallers.{winding_nil, winds_as_outline, outline_is_balanced}
+use Rattle.column_sweep.specs.RowSums.{AddUpAlike}
+use Rattle.column_sweep.proofs.ForCallers.{alike_refl, alike_trans, alike_append, winding_alike, balanced_alike}
 use Rattle.layout_model.specs.declared.pair.Pair.{Pair}
 use Rattle.layout_model.specs.declared.cells.Cell.{Cell}
 use Rattle.cell_tree.specs.Flattening.{IsInLayer}
@@ -67,32 +69,36 @@ balanced_at (q ∷ quads) o j all =
     let k = balanced_at quads o j (All-tail (λ q. HasGridEdges (ring_of q)) q quads all) in
     sum_by-append _ (edges_of_quad q) (flat_map edges_of_quad quads) ∙ (rw (h, k) (sym (sum_by-append _ (edges_of_quad q) (flat_map edges_of_quad quads))))
 
-pub quads_balanced : (quads : List Corners) (edges : List EdgeParts) (window : RowRange) → All (λ q. HasGridEdges (ring_of q)) quads → edges ≡ flat_map edges_of_quad quads → IsBalanced edges window
-quads_balanced quads edges window all is = λ o j low high. rw is (balanced_at quads o j all)
+pub quads_balanced : (quads : List Corners) (edges : List EdgeParts) (window : RowRange) → All (λ q. HasGridEdges (ring_of q)) quads → AddUpAlike edges (flat_map edges_of_quad quads) → IsBalanced edges window
+quads_balanced quads edges window all alike = λ o j low high. balanced_alike o j edges (flat_map edges_of_quad quads) alike (balanced_at quads o j all)
 
 pub layer_has : (cells : List Cell) (top : ℕ) (pair : Pair) (window : RowRange) (quads : List Corners) → All IsQuad quads → CoversLayer cells top pair window quads
-    → (edges : List EdgeParts) → edges ≡ flat_map edges_of_quad quads → (traps : List Trapezoid) → IsJoinedOf window (IsWoundIn edges window) traps → HasArea window (IsInLayer cells top pair) traps
-layer_has cells top pair window quads all covers edges is traps joined =
-    let same : (t : Tile) → edges_winding A edges t ≡ winds quads t = λ t. ap (λ es. edges_winding A es t) is in
+    → (edges : List EdgeParts) → AddUpAlike edges (flat_map edges_of_quad quads) → (traps : List Trapezoid) → IsJoinedOf window (IsWoundIn edges window) traps → HasArea window (IsInLayer cells top pair) traps
+layer_has cells top pair window quads all covers edges alike traps joined =
+    let same : (t : Tile) → edges_winding A edges t ≡ winds quads t = λ t. winding_alike A t edges (flat_map edges_of_quad quads) alike in
     joined_has window (IsWoundIn edges window) (IsInLayer cells top pair) traps joined (wound_decided edges window)
     (λ t h. (h.rows, (covers t h.rows.from h.rows.below).0 (elim (quads_wind quads t all) [ inl w ↦ has_any (In t) quads w.0 | inr w ↦ absurd (h.wound (same t ∙ w.1)) ])))
     (λ t rows a. record {
       rows = rows;
       wound = λ e. elim (quads_wind quads t all) [
-        | inl w ↦ (let more = w.1 in let alike = same t in omega (arith, ints, more, alike, e))
+        | inl w ↦ (let more = w.1 in let at = same t in omega (arith, ints, more, at, e))
         | inr w ↦ w.0 (any_has (In t) quads ((covers t rows.from rows.below).1 a))
       ];
     })
 
 -- ---- the loops
 
-pub one_put : {X : Type 0} (xs new rest others target : List X) (x : X) → new ≡ xs ++ x ∷ [] → rest ≡ x ∷ others → xs ++ rest ≡ target → new ++ others ≡ target
-one_put xs new rest others target x is first all = rw is (append_assoc xs (x ∷ []) others ∙ ap (λ ys. xs ++ ys) (sym first) ∙ all)
+pub one_put : (xs new rest others target : List EdgeParts) (x : EdgeParts) → AddUpAlike new (xs ++ x ∷ []) → rest ≡ x ∷ others → AddUpAlike (xs ++ rest) target → AddUpAlike (new ++ others) target
+one_put xs new rest others target x alike first all =
+    alike_trans (new ++ others) ((xs ++ x ∷ []) ++ others) target (alike_append new (xs ++ x ∷ []) others others alike (alike_refl others))
+    (subst (λ (ys : List EdgeParts). AddUpAlike ys target) (sym (append_assoc xs (x ∷ []) others ∙ ap (λ ys. xs ++ ys) (sym first))) all)
 
-pub ring_put : (quad : Corners) (rest others : List Corners) (edges new target : List EdgeParts) → target ≡ edges ++ flat_map edges_of_quad rest → rest ≡ quad ∷ others
-    → new ≡ edges ++ edges_of_quad quad → target ≡ new ++ flat_map edges_of_quad others
-ring_put quad rest others edges new target all first is =
-    all ∙ ap (λ qs. edges ++ flat_map edges_of_quad qs) first ∙ sym (append_assoc edges (edges_of_quad quad) (flat_map edges_of_quad others)) ∙ ap (λ es. es ++ flat_map edges_of_quad others) (sym is)
+pub ring_put : (quad : Corners) (rest others : List Corners) (edges new target : List EdgeParts) → AddUpAlike (edges ++ flat_map edges_of_quad rest) target → rest ≡ quad ∷ others
+    → AddUpAlike new (edges ++ edges_of_quad quad) → AddUpAlike (new ++ flat_map edges_of_quad others) target
+ring_put quad rest others edges new target all first alike =
+    alike_trans (new ++ flat_map edges_of_quad others) ((edges ++ edges_of_quad quad) ++ flat_map edges_of_quad others) target
+    (alike_append new (edges ++ edges_of_quad quad) (flat_map edges_of_quad others) (flat_map edges_of_quad others) alike (alike_refl (flat_map edges_of_quad others)))
+    (subst (λ (ys : List EdgeParts). AddUpAlike ys target) (sym (append_assoc edges (edges_of_quad quad) (flat_map edges_of_quad others) ∙ ap (λ qs. edges ++ flat_map edges_of_quad qs) (sym first))) all)
 
-pub all_put : (rest : List Corners) (edges target : List EdgeParts) → target ≡ edges ++ flat_map edges_of_quad rest → rest ≡ [] → edges ≡ target
-all_put rest edges target all none = sym (all ∙ ap (λ qs. edges ++ flat_map edges_of_quad qs) none ∙ append-nil edges)
+pub all_put : (rest : List Corners) (edges target : List EdgeParts) → AddUpAlike (edges ++ flat_map edges_of_quad rest) target → rest ≡ [] → AddUpAlike edges target
+all_put rest edges target all none = subst (λ (ys : List EdgeParts). AddUpAlike ys target) (ap (λ qs. edges ++ flat_map edges_of_quad qs) none ∙ append-nil edges) all

@@ -5,6 +5,7 @@ ghost use Rattle.half_grid.specs.Quads.{IsQuad, Corners, ring_of};
 ghost use Rattle.half_grid.specs.declared.border.Operand.TheVariants.{A};
 ghost use Rattle.scan_line.specs.OutlineEdges.{edges_along};
 ghost use Rattle.cell_tree.specs.Flattening.{IsInLayer};
+ghost use Rattle.column_sweep.specs.RowSums.{AddUpAlike};
 ghost use Rattle.flat_walk.specs.Tables.{AreCut};
 ghost use Rattle.flat_walk.specs.Walks.{pieces_in};
 ghost use Rattle.deck_plan.specs.Lists.{HasArea};
@@ -12,6 +13,7 @@ ghost use Rattle.deck_plan.specs.Rings.{edges_of_quad};
 
 use bool_ops::unite;
 use cell_tree::Tree;
+use column_sweep::put_edge;
 use flat_walk::{Parts, Walk};
 use geo_stream::{NoMemory, Stream};
 use half_grid::{Edge, Operand, Quad, Trap, Window};
@@ -19,22 +21,22 @@ use layout_model::Pair;
 use scan_line::EdgesOf;
 use std::alloc::Global;
 
-// Puts the edges of the quadrilateral at the end.
+// Puts the edges of the quadrilateral at the end, less what a side has in common with the last one.
 fn put_ring(edges: &mut Vec<Edge>, quad: &Quad) -> Result<(), NoMemory>
-    ensures { OnOk result (edges.new.items ≡ edges.old.items ++ edges_of_quad quad.now) }
+    ensures { OnOk result (AddUpAlike edges.new.items (edges.old.items ++ edges_of_quad quad.now)) }
 {
     let ring = [quad.a(), quad.b(), quad.c(), quad.d(), quad.a()];
     let mut sides = EdgesOf::new(&ring, Operand::A);
     while let Some(edge) = sides.next() {
-        edges.push(edge)?;
+        put_edge(edges, edge)?;
     }
     Ok(())
 }
 
-// The edges of all quadrilaterals of a stream.
+// The edges of all quadrilaterals of a stream, less what sides that meet one after the other have in common.
 fn edges_of<S: Stream<Item = Quad>>(alloc: Global, quads: &mut S) -> Result<Vec<Edge>, NoMemory>
     requires { (list : List Corners) × S.stands_for quads.old list }
-    ensures { (list : List Corners) → S.stands_for quads.old list → IfOk result (λ edges. edges.items ≡ flat_map edges_of_quad list) }
+    ensures { (list : List Corners) → S.stands_for quads.old list → IfOk result (λ edges. AddUpAlike edges.items (flat_map edges_of_quad list)) }
 {
     let mut edges = Vec::new(alloc);
     while let Some(quad) = quads.next() {
