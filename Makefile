@@ -63,7 +63,7 @@ bench: $(BENCH) $(PROGRAM)
 	$(BENCH) gds 1000000
 	$(BENCH) oasis 4000000
 	$(BENCH) walk 1000
-	for words in 'squares 300' 'squares 1000' 'random 100000' 'random 1000000' 'jogs 1000000' 'jogs 10000000' \
+	for words in 'squares 300' 'squares 1000' 'random 100000' 'random 1000000' 'jogs 1000000' 'jogs 10000000' 'mixed 10000000' \
 	    'comb 30000' 'comb 100000' 'hatch 200' 'hatch 400' 'wires 100000' 'wires 1000000' 'pile 1000' 'pile 3000' \
 	    'plain random 100000' 'plain squares 1000'; do \
 	    $(BENCH) $$words || exit 1; \

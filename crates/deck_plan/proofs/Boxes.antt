@@ -1,12 +1,12 @@
 -- Tiles of trapezoids that a box has, and tiles near to them.
-use Rattle.std.proofs.Common.{◌≡◌, ◌∙◌, ap, ℕ, ◌^◌, ℤ, pos, ◌+ℤ◌, ◌-ℤ◌, ◌≤ℤ◌, ◌<ℤ◌, List, [], ◌∷◌, All, arith}
+use Rattle.std.proofs.Common.{◌≡◌, ◌∙◌, ap, ◌^◌, ℤ, pos, ◌+ℤ◌, ◌-ℤ◌, ◌≤ℤ◌, ◌<ℤ◌, List, [], ◌∷◌, All, arith}
 use Rattle.std.proofs.lemmas.Int.{ints, clamps}
 use Rattle.std.proofs.lemmas.List.Elements.{All-contains, All-push}
 use Rattle.std.specs.Int.{int_min, int_max}
 use Rattle.half_grid.specs.Halves.{twice}
 use Rattle.half_grid.specs.Lines.{x_on}
 use Rattle.half_grid.specs.Nearness.{IsNear}
-use Rattle.half_grid.specs.Rows.{place, number_in_row}
+use Rattle.half_grid.specs.Rows.{place}
 use Rattle.half_grid.specs.Trapezoids.{Trapezoid, IsInTrapezoid, IsLegal}
 use Rattle.half_grid.specs.declared.plane.Tile.{Tile}
 use Rattle.half_grid.specs.declared.plane.Line.{Line}

@@ -1,5 +1,5 @@
 -- The area of a layer by the windings of its pieces.
-use Rattle.std.proofs.Common.{◌≡◌, ◌≢◌, ◌↔◌, ℕ, ◌≤◌, ℤ, pos, ◌+ℤ◌, ◌≤ℤ◌, ◌<ℤ◌, Bool, ◌&&◌, not, ◌⊎◌, inl, inr, List, [], ◌∷◌, ◌++◌, flat_map, All, Any, ap, refl, sym, subst, ◌∙◌, arith, count_by, append_assoc, append-nil}
+use Rattle.std.proofs.Common.{◌≡◌, ℕ, ℤ, pos, ◌+ℤ◌, ◌≤ℤ◌, ◌⊎◌, inl, inr, List, [], ◌∷◌, ◌++◌, flat_map, All, ap, refl, sym, subst, ◌∙◌, arith, append_assoc, append-nil}
 use Rattle.std.proofs.lemmas.Int.{ints}
 use Rattle.std.proofs.lemmas.List.Elements.{All-head, All-tail}
 use Rattle.std.proofs.lemmas.List.Sums.{sum_by-append}
@@ -22,7 +22,7 @@ use Rattle.layout_model.specs.declared.cells.Cell.{Cell}
 use Rattle.cell_tree.specs.Flattening.{IsInLayer}
 use Rattle.cell_tree.proofs.ForCallers.{Has, has_any, any_has}
 use Rattle.flat_walk.specs.Walks.{CoversLayer}
-use Rattle.bool_ops.specs.Operations.{IsInRows, IsJoinedOf, IsWoundIn}
+use Rattle.bool_ops.specs.Operations.{IsJoinedOf, IsWoundIn}
 use Rattle.deck_plan.specs.Lists.{HasArea}
 use Rattle.deck_plan.specs.Rings.{edges_of_quad}
 use Rattle.deck_plan.proofs.AreaLists.{joined_has}

@@ -1,8 +1,8 @@
 -- The areas of steps with one operand that neither grow nor shrink.
-use Rattle.std.proofs.Common.{◌≡◌, ◌↔◌, ℕ, ◌≤◌, ◌^◌, ℤ, pos, ◌≤ℤ◌, Bool, true, false, ◌⊎◌, inl, inr, List, [], ◌∷◌, map, ap, subst, refl, sym, ◌∙◌, arith, All}
+use Rattle.std.proofs.Common.{◌≡◌, ◌↔◌, ◌≤◌, ◌^◌, ℤ, Bool, true, false, ◌⊎◌, inl, inr, List, [], ◌∷◌, map, ap, subst, refl, sym, ◌∙◌, arith, All}
 use Rattle.std.proofs.lemmas.Int.{ints}
 use Rattle.std.proofs.lemmas.List.Elements.{All-weaker}
-use Rattle.half_grid.specs.Trapezoids.{Trapezoid, IsInTrapezoid, count_in, trapezoid_has, HasCornersWithinReach}
+use Rattle.half_grid.specs.Trapezoids.{Trapezoid, IsInTrapezoid, count_in, trapezoid_has}
 use Rattle.half_grid.specs.Windows.{RowRange}
 use Rattle.half_grid.specs.Winding.{count_one}
 use Rattle.half_grid.specs.declared.plane.Tile.{Tile}
@@ -14,7 +14,7 @@ use Rattle.tone_mirror.specs.Mirrors.{mirrored_tile, mirrored_trapezoid, HasImag
 use Rattle.tone_mirror.proofs.ForCallers.{image_x, images_have_count}
 use Rattle.deck_text.specs.Sound.{IsNear}
 use Rattle.bool_ops.specs.declared.operations.Op.TheVariants.{Or, Sub}
-use Rattle.bool_ops.specs.Operations.{IsInRows, IsJoinedOf, IsInResult}
+use Rattle.bool_ops.specs.Operations.{IsJoinedOf, IsInResult}
 use Rattle.deck_plan.specs.Lists.{HasArea}
 use Rattle.deck_plan.specs.Bounds.{HasCornersUpTo}
 use Rattle.deck_plan.proofs.AreaLists.{combined_has, same_area}

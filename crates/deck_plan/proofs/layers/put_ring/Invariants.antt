@@ -1,7 +1,6 @@
 use Rattle.std.proofs.Common.{◌++◌, List, length}
 use Rattle.half_grid.specs.Edges.{EdgeParts}
 use Rattle.scan_line.specs.OutlineStreams.{StandsForOutline}
-use Rattle.half_grid.specs.declared.border.Operand.TheVariants.{A}
 use Rattle.column_sweep.specs.RowSums.{AddUpAlike}
 use Rattle.deck_plan.specs.Rings.{edges_of_quad}
 use Rattle.deck_plan.proofs.layers.put_ring.Given as goal
