@@ -42,7 +42,8 @@ pub struct ShotFields {
     pub y: i64,
 }
 
-fn id_for(left_delta: i64, right_delta: i64) -> u8
+/// The id of the record of a shot with these deltas.
+pub fn id_for(left_delta: i64, right_delta: i64) -> u8
     ensures { result ≡ id_for left_delta right_delta }
 {
     if left_delta == 0 {
@@ -58,8 +59,8 @@ fn id_for(left_delta: i64, right_delta: i64) -> u8
     }
 }
 
-// Appends a delta, which isn't written where it is 0.
-fn put_delta(spell: &mut Spell, delta: i64)
+/// Appends a delta, which isn't written where it is 0.
+pub fn put_delta(spell: &mut Spell, delta: i64)
     requires narrow { unsigned_abs delta < 2 ^ 62 }
     requires room { length spell.old + 9 ≤ ROOM }
     ensures value { spell.new ≡ spell.old ++ delta_text delta }

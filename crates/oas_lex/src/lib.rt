@@ -15,12 +15,12 @@ mod spell;
 mod strings;
 
 pub use deltas::{delta_g, delta2, delta3};
-pub use fields::{INFO, RECTANGLE, ShotFields, TRAPEZOID, TRAPEZOID_A, TRAPEZOID_B, spell_fields};
+pub use fields::{INFO, RECTANGLE, ShotFields, TRAPEZOID, TRAPEZOID_A, TRAPEZOID_B, id_for, put_delta, spell_fields};
 pub use laws::{shot_laws, spelling_laws};
 pub use numbers::{signed, unsigned};
 pub use real_readers::real;
 pub use reals::{Real, real_whole};
-pub use shots::{end_text, head_text, spell_shot};
+pub use shots::{end_text, fields_of, head_text, spell_shot};
 pub use spell::{ROOM, Spell, put_signed, put_unsigned};
 pub use strings::{end_of_bytes, text};
 

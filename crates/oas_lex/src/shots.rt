@@ -43,8 +43,8 @@ fn height(trap: &Trap) -> u64
     trap.height().unsigned_abs()
 }
 
-// The numbers of a shot's record.
-fn fields_of(trap: &Trap, layer: u64, datatype: u64) -> ShotFields
+/// The numbers of a shot's record, for a layer and a datatype.
+pub fn fields_of(trap: &Trap, layer: u64, datatype: u64) -> ShotFields
     requires layer { layer < 2 ^ 63 }
     requires datatype { datatype < 2 ^ 63 }
     ensures value { result ≡ fields_of layer datatype trap.now }

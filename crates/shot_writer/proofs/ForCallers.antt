@@ -11,7 +11,7 @@ use Rattle.layout_model.specs.declared.pair.Pair.{Pair}
 use Rattle.oas_lex.specs.ShotText.{head, end, spelling_of, shot_text}
 use Rattle.shot_writer.specs.Writing.{records_of}
 use Rattle.shot_writer.specs.WritingLaw.{after_puts, WritingLaw}
-use Rattle.shot_writer.proofs.SoFar.{part_of}
+pub use Rattle.shot_writer.proofs.SoFar.{part_of, with_written-twice}
 
 -- the bytes before END
 abbrev pub text_so_far : ℕ → Pair → List Trapezoid → List ℕ

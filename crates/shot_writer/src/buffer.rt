@@ -8,7 +8,7 @@ use depot::{BUFFER_SIZE, Buffer, Depot, DepotBad, write_whole};
 use oas_lex::ROOM;
 
 /// Writes what the buffer has, and empties it.
-pub(crate) fn flush<D: Depot>(depot: &mut D, buffer: &mut Buffer) -> Result<(), DepotBad>
+pub fn flush<D: Depot>(depot: &mut D, buffer: &mut Buffer) -> Result<(), DepotBad>
     requires { IsTrue D.tells → IsSome (D.content depot.old).current }
     ensures empty { OnOk result (buffer.new ≡ []) }
     ensures ok { OnOk result (IsTrue D.tells
@@ -51,7 +51,7 @@ fn make_room<D: Depot>(depot: &mut D, buffer: &mut Buffer) -> Result<(), DepotBa
 }
 
 /// Puts one spelling into the buffer, which is written first where it has no room.
-pub(crate) fn put_bytes<D: Depot>(
+pub fn put_bytes<D: Depot>(
     depot: &mut D,
     buffer: &mut Buffer,
     bytes: &[u8],

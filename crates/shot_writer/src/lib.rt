@@ -11,6 +11,7 @@ mod pouring;
 mod tests;
 mod writer;
 
+pub use buffer::{flush, put_bytes};
 pub use laws::writing_law;
 pub use parts::{Head, Sums, encode, triangles_in};
 pub use writer::ShotWriter;
