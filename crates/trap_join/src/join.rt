@@ -108,6 +108,9 @@ fn climb<F: Fn(i128, i128) -> bool>(
     ensures joined { (given : List Trapezoid) → IsFrontOf (F.post scan.old.rule) scan.old front.old given → OnOk result (IsFrontOf (F.post scan.old.rule) scan.new front.new given) }
     ensures never_more { OnOk result (left_in scan.new front.new ≤ left_in scan.old front.old) }
     ensures over { IfOk result (λ within. within ≡ false → most < scan.new.walked) }
+    ensures none_ready { IfOk result (λ within. within ≡ false → front.new.waiting.items ≡ []) }
+    ensures ends { IfOk result (λ within. within ≡ true → front.new.waiting.items ≡ [] → scan.new.y ≡ scan.new.window.y1) }
+    ensures none_grows { IfOk result (λ within. within ≡ true → front.new.waiting.items ≡ [] → front.new.growing.items ≡ []) }
     ensures rule { scan.new.rule ≡ scan.old.rule }
     ensures edges { scan.new.edges ≡ scan.old.edges }
     ensures window { scan.new.window ≡ scan.old.window }
@@ -182,14 +185,17 @@ impl<F: Fn(i128, i128) -> bool> Join<F> {
     }
 
     /// Goes up slab by slab to where the next trapezoid ends, which `next` then gives at once, or to the end of the
-    /// window. False as soon as the scan has gone over more than `most` edges, and none is ready: the join may go on all
-    /// the same. After NoMemory each call answers NoMemory.
+    /// window, where none is left. False where none is ready, and the scan has gone over more than `most` edges: the join
+    /// may go on all the same. After NoMemory each call answers NoMemory.
     pub fn climb_within(&mut self, most: u64) -> Result<bool, NoMemory>
         requires rule { IsRule (F.pre self.old.rule) (F.post self.old.rule) }
         requires going { self.old.failed ≡ false → (given : List Trapezoid) × HasGiven (F.post self.old.rule) self.old given }
         ensures same { (given : List Trapezoid) → HasGiven (F.post self.old.rule) self.old given → OnOk result (HasGiven (F.post self.old.rule) self.new given) }
         ensures never_more { OnOk result (left_to_give self.new ≤ left_to_give self.old) }
         ensures over { IfOk result (λ within. within ≡ false → most < self.new.walked) }
+        ensures none_ready { IfOk result (λ within. within ≡ false → self.new.waiting ≡ []) }
+        ensures ends { IfOk result (λ within. within ≡ true → self.new.waiting ≡ [] → self.new.y ≡ self.new.window.y1) }
+        ensures none_grows { IfOk result (λ within. within ≡ true → self.new.waiting ≡ [] → self.new.front ≡ []) }
         ensures going { OnOk result (self.new.failed ≡ false) }
         ensures fails { OnErr result (self.new.failed ≡ true) }
         ensures failed { self.old.failed ≡ true → IsErr result }
