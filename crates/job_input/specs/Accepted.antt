@@ -1,9 +1,9 @@
 -- What is accepted of the files that a command names.
 --
 -- A deck is accepted where its content has at most 65,536 bytes and is a deck, with the names of layout and deck as names
--- that its outputs may not take. A layout is accepted where its content has at most 268,435,456 bytes, doesn't begin with
--- the byte 25 hex, and is a GDSII stream file with the deck's unit, whose shapes on the deck's layers keep the rules, and
--- where the cells below the deck's top cell are a tree within the limits.
+-- that its outputs may not take. A layout is accepted where its content has at most 268,435,456 bytes and is, with the
+-- deck's unit and layers, a file of the format that its first byte tells (OASIS where it is 25 hex, else a GDSII stream
+-- file), and where the cells below the deck's top cell are a tree within the limits.
 --
 -- GDSII Stream Format Manual 6.0; SEMI P39, section 6 (the magic string `%SEMI-OASIS`).
 use Rattle.std.specs.Prelude.{◌≡◌, ℕ, ◌≤◌, List, length, slice_get, Some}
