@@ -10,7 +10,7 @@ use Rattle.oas_record.specs.Records.{HasRecord, NoRecord, id_of}
 use Rattle.oas_record.specs.declared.faults.RecordBad.{RecordBad}
 use Rattle.oas_record.specs.declared.faults.RecordBad.TheVariants as causes
 use Rattle.oas_record.specs.declared.records.OasRecord.{OasRecord}
-use Rattle.oas_record.proofs.RecordReaders.{one_record}
+use Rattle.oas_record.proofs.ForCallers.{one_record}
 use Rattle.oas_reader.specs.Drawn.{AreAtMost}
 use Rattle.oas_reader.specs.Files.{lexical_fault, HaveRecords, IsStanding, IsLayoutBehind}
 use Rattle.oas_reader.specs.Items.{Item, records_in, tables_at_end, magic, is_end}

@@ -12,3 +12,4 @@ pub mod FieldReaders
 pub mod SameRecords
 pub mod RecordReaders
 pub mod PlainLemmas
+pub mod ForCallers

@@ -1,2 +1,3 @@
 pub mod SaidSoFar
 pub mod Fields
+pub mod ForCallers

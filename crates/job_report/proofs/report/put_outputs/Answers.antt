@@ -3,7 +3,7 @@ use Rattle.std.specs.List.{zip}
 use Rattle.depot.specs.Content.{IsPartSaid}
 use Rattle.depot.proofs.ForCallers.{refused}
 use Rattle.shot_listing.specs.Saying.{IsSaidButFor}
-use Rattle.shot_listing.proofs.SaidSoFar.{part_of_more_texts, said_then, texts_more}
+use Rattle.shot_listing.proofs.ForCallers.{part_of_more_texts, said_then, texts_more}
 use Rattle.deck_text.specs.declared.deck.Output.{Output}
 use Rattle.shot_writer.specs.declared.parts.Sums.{Sums}
 use Rattle.job_report.specs.Report.{output_line}
