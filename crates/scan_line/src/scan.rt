@@ -91,7 +91,7 @@ impl<F: Fn(i128, i128) -> bool> Scan<F> {
         self.runs.as_slice()
     }
 
-    /// How many edges were gone over so far.
+    /// How many edges were gone over so far, each as often as a slab has it. It is a measure, of which nothing is promised.
     pub fn walked(&self) -> u64
         ensures { result ≡ self.now.walked }
     {

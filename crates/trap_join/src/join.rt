@@ -96,7 +96,7 @@ fn take_next<F: Fn(i128, i128) -> bool>(
     }
 }
 
-// Goes on until a trapezoid waits, or nothing is left. False as soon as more edges than this were gone over.
+// Goes on until a trapezoid waits, or nothing is left. False where none waits, and more edges than this were gone over.
 fn climb<F: Fn(i128, i128) -> bool>(
     scan: &mut Scan<F>,
     front: &mut Front,
@@ -211,7 +211,7 @@ impl<F: Fn(i128, i128) -> bool> Join<F> {
         climbed
     }
 
-    /// How many edges its scan went over so far.
+    /// How many edges its scan went over so far. It is a measure, of which nothing is promised.
     pub fn walked(&self) -> u64
         ensures { result ≡ self.now.walked }
     {
