@@ -1,5 +1,6 @@
 // Real files and standard output. What a file holds no clause can say, so this depot tells its counts alone.
-ghost use Rattle.std.specs.Prelude.{◌≡◌, ◌⊎◌, ◌↔◌, ◌<◌, ◌≤◌, false, IsNone, IfOk, IfErr, OnOk, Ok, Err, length};
+ghost use Rattle.std.specs.Prelude.{◌≡◌, ◌⊎◌, ◌↔◌, ◌<◌, ◌≤◌, false, IsNone, IsSome, IfOk, IfErr, OnOk, OnErr, IsErrOf, Ok, Err, length};
+ghost use Rattle.std.specs.Io.KnownBytes.{ReadConsumes, WriteAppends};
 ghost use Rattle.depot.specs.Counts.{Rose, no_counts, raised};
 ghost use Rattle.depot.specs.System.{IsOutOfMemory, faults_after, wants_after};
 ghost use Rattle.depot.specs.declared.outside.DepotBad.TheVariants.{Failed, NoMemory as Wanting};
@@ -36,6 +37,48 @@ impl<R: Runtime> FileDepot<R> {
             read_faults: 0,
             write_faults: 0,
             refused: 0,
+        }
+    }
+
+    // Starts to read a file. After a refusal none is read.
+    fn open(&mut self, name: &str) -> Result<(), DepotBad>
+        ensures started { OnOk result (IsSome self.new.reading) }
+        ensures stopped { OnErr result (IsNone self.new.reading) }
+        ensures failed { IsErrOf result Failed → Rose self.old.read_faults self.new.read_faults }
+        ensures no_memory { IsErrOf result Wanting → Rose self.old.refused self.new.refused }
+        ensures uncounted { OnOk result ((self.new.read_faults ≡ self.old.read_faults) × (self.new.refused ≡ self.old.refused)) }
+        ensures faults_grow { self.old.read_faults ≤ self.new.read_faults }
+        ensures refused_grow { self.old.refused ≤ self.new.refused }
+        ensures writes { self.new.write_faults ≡ self.old.write_faults }
+    {
+        self.reading = None;
+        match File::open(&self.rt, name) {
+            Ok(file) => {
+                self.reading = Some(file);
+                Ok(())
+            }
+            Err(error) => Err(counted(&error, &mut self.read_faults, &mut self.refused)),
+        }
+    }
+
+    // Makes a file with no bytes, which is written from here on. After a refusal none is written.
+    fn create(&mut self, name: &str) -> Result<(), DepotBad>
+        ensures started { OnOk result (IsSome self.new.writing) }
+        ensures stopped { OnErr result (IsNone self.new.writing) }
+        ensures failed { IsErrOf result Failed → Rose self.old.write_faults self.new.write_faults }
+        ensures no_memory { IsErrOf result Wanting → Rose self.old.refused self.new.refused }
+        ensures uncounted { OnOk result ((self.new.write_faults ≡ self.old.write_faults) × (self.new.refused ≡ self.old.refused)) }
+        ensures faults_grow { self.old.write_faults ≤ self.new.write_faults }
+        ensures refused_grow { self.old.refused ≤ self.new.refused }
+        ensures reads { self.new.read_faults ≡ self.old.read_faults }
+    {
+        self.writing = None;
+        match File::create(&self.rt, name) {
+            Ok(file) => {
+                self.writing = Some(file);
+                Ok(())
+            }
+            Err(error) => Err(counted(&error, &mut self.write_faults, &mut self.refused)),
         }
     }
 
@@ -120,6 +163,44 @@ fn taken(
     }
 }
 
+// Reads from a file. What the file is known to have left begins with the bytes that it gives, and loses them; it gives
+// none only at its end, and a refusal takes none.
+fn read_from<F: Read>(
+    file: &mut F,
+    buf: &mut [u8],
+    faults: &mut u64,
+    refused: &mut u64,
+) -> Result<usize, DepotBad>
+    ensures bytes { ReadConsumes (F.remaining file.old) (F.remaining file.new) result buf.new }
+    ensures bound { IfOk result (λ n. n ≤ length buf.old) }
+    ensures uncounted { OnOk result ((faults.new ≡ faults.old) × (refused.new ≡ refused.old)) }
+    ensures failed { IsErrOf result Failed → Rose faults.old faults.new }
+    ensures no_memory { IsErrOf result Wanting → Rose refused.old refused.new }
+    ensures faults_grow { faults.old ≤ faults.new }
+    ensures refused_grow { refused.old ≤ refused.new }
+{
+    moved(file.read(buf), faults, refused)
+}
+
+// Writes to a file. What the file is known to hold grows by the bytes that it takes, and by none at a refusal.
+fn write_to<F: Write>(
+    file: &mut F,
+    piece: &[u8],
+    faults: &mut u64,
+    refused: &mut u64,
+) -> Result<usize, DepotBad>
+    ensures bytes { WriteAppends (F.contents file.old) (F.contents file.new) result piece.now }
+    ensures bound { IfOk result (λ n. n ≤ length piece.now) }
+    ensures progress { IfOk result (λ n. 0 < length piece.now → 0 < n) }
+    ensures uncounted { OnOk result ((faults.new ≡ faults.old) × (refused.new ≡ refused.old)) }
+    ensures failed { IsErrOf result Failed → Rose faults.old faults.new }
+    ensures no_memory { IsErrOf result Wanting → Rose refused.old refused.new }
+    ensures faults_grow { faults.old ≤ faults.new }
+    ensures refused_grow { refused.old ≤ refused.new }
+{
+    taken(piece, file.write(piece), faults, refused)
+}
+
 impl<R: Runtime> Depot for FileDepot<R> {
     ghost tells = { false };
 
@@ -128,44 +209,25 @@ impl<R: Runtime> Depot for FileDepot<R> {
     ghost counts = { λ d. record { read_faults = d.read_faults; write_faults = d.write_faults; refused = d.refused } };
 
     fn start_read(&mut self, name: &str) -> Result<(), DepotBad> {
-        self.reading = None;
-        match File::open(&self.rt, name) {
-            Ok(file) => {
-                self.reading = Some(file);
-                Ok(())
-            }
-            Err(error) => Err(counted(&error, &mut self.read_faults, &mut self.refused)),
-        }
+        self.open(name)
     }
 
     fn read(&mut self, buf: &mut [u8]) -> Result<usize, DepotBad> {
         let Some(file) = &mut self.reading else {
             return Ok(0);
         };
-        moved(file.read(buf), &mut self.read_faults, &mut self.refused)
+        read_from(file, buf, &mut self.read_faults, &mut self.refused)
     }
 
     fn start_write(&mut self, name: &str) -> Result<(), DepotBad> {
-        self.writing = None;
-        match File::create(&self.rt, name) {
-            Ok(file) => {
-                self.writing = Some(file);
-                Ok(())
-            }
-            Err(error) => Err(counted(&error, &mut self.write_faults, &mut self.refused)),
-        }
+        self.create(name)
     }
 
     fn write(&mut self, bytes: &[u8]) -> Result<usize, DepotBad> {
         let Some(file) = &mut self.writing else {
             return Err(self.write_fault());
         };
-        taken(
-            bytes,
-            file.write(bytes),
-            &mut self.write_faults,
-            &mut self.refused,
-        )
+        write_to(file, bytes, &mut self.write_faults, &mut self.refused)
     }
 
     fn say(&mut self, bytes: &[u8]) -> Result<usize, DepotBad> {

@@ -110,6 +110,7 @@ fn limits_and_missing_files(rt: HostRuntime) -> Result<(), Fail> {
 #[test]
 fn real_files(rt: HostRuntime) -> Result<(), Fail> {
     let mut depot = FileDepot::new(rt.clone()?);
+    make_file(&mut depot, "depot-test.tmp", b"a longer file before")?;
     make_file(&mut depot, "depot-test.tmp", b"\x00abc")?;
     let bytes = read_all(rt.alloc(), &mut depot, "depot-test.tmp", LIMIT)?;
     fs::remove_file(&rt, "depot-test.tmp")?;

@@ -1,6 +1,6 @@
 //! Repetitions among bytes.
 
-ghost use Rattle.std.specs.Prelude.{◌≡◌, ◌⊎◌, ◌+◌, ◌<◌, ◌≤◌, ◌^◌, Some, [], ◌∷◌, length, IfOk, IfErr};
+ghost use Rattle.std.specs.Prelude.{◌≡◌, ◌⊎◌, ◌+◌, ◌<◌, ◌≤◌, ◌^◌, Some, Err, [], ◌∷◌, length, IfOk, IfErr};
 ghost use Rattle.oas_record.specs.Repetitions.{rep_rows, row_at, kind_of, dims_of, numbers_of, deltas_of, HasRow, HasRep, RowFails, NoRep};
 ghost use Rattle.oas_record.specs.declared.faults.RecordBad.TheVariants.{NoMemory as Wanting};
 
@@ -160,12 +160,13 @@ fn moves_on_grid(alloc: Global, bytes: &[u8], at: usize) -> Result<(Rep, usize),
     Ok((rep, next))
 }
 
-// The rest of a repetition of this kind, from `at` on.
+// The rest of a repetition of this kind, from `at` on. A kind that isn't there takes no memory.
 fn rest_of(alloc: Global, bytes: &[u8], at: usize, kind: u8) -> Result<(Rep, usize), RecordBad>
     requires { at ≤ length bytes.now }
     ensures kind { IfOk result (λ r. kind_of r.0 ≡ kind) }
     ensures ok { IfOk result (λ r. HasRow (row_at rep_rows kind) bytes.now at (dims_of r.0) (numbers_of r.0) (deltas_of r.0) r.1) }
     ensures bad { IfErr result (λ bad. (bad ≡ Wanting) ⊎ RowFails (row_at rep_rows kind) bytes.now at bad) }
+    ensures memory { result ≡ Err Wanting → kind < 12 }
     ensures within { IfOk result (λ r. r.1 ≤ length bytes.now) }
 {
     match kind {
