@@ -16,3 +16,4 @@ pub mod SoundSteps
 pub mod SoundOutputs
 pub mod Sounds
 pub mod ForCallers
+mod Neither

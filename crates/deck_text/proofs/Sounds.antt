@@ -20,10 +20,10 @@ use Rattle.deck_text.proofs.SoundOutputs.{AreFew, none_few, few_stay, names_coun
 
 -- ---- settings
 
-abbrev IsInRange : Said → Type 0
+abbrev pub IsInRange : Said → Type 0
 IsInRange m = out_of_range m.says ≡ None
 
-in_range : (layout deck : List ℕ) (ls : List (List ℕ)) → AreAccepted layout deck ls (length ls) → All IsInRange (saids_from 1 ls)
+pub in_range : (layout deck : List ℕ) (ls : List (List ℕ)) → AreAccepted layout deck ls (length ls) → All IsInRange (saids_from 1 ls)
 in_range layout deck ls h =
     of_all layout deck ls (λ saids. All IsInRange saids) (All-nil IsInRange)
     (λ before n s all kept. All-push IsInRange before (said n s) all (keeps_rules layout deck before n s kept).range) h
@@ -32,7 +32,7 @@ first_is : {A : Type 0} (o next : Option A) (x : A) → first_or o next ≡ Some
 first_is (Some y) next x e = inl e
 first_is None next x e = inr e
 
-setting_from : {A : Type 0} (h : Statement → Option A) (R : A → Type 0) → ((s : Statement) (x : A) → out_of_range s ≡ None → h s ≡ Some x → R x)
+pub setting_from : {A : Type 0} (h : Statement → Option A) (R : A → Type 0) → ((s : Statement) (x : A) → out_of_range s ≡ None → h s ≡ Some x → R x)
     → (saids : List Said) → All IsInRange saids → (x : A) → setting_in h saids ≡ Some x → R x
 setting_from h R each [] all x e = absurd (let clash : ⊥ = cc in clash)
 setting_from h R each (m ∷ saids) all x e = elim (first_is (h m.says) (setting_in h saids) x e) [

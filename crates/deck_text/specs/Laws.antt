@@ -1,5 +1,5 @@
--- Bytes have one deck at most, one first fault at most, and never both.
-use Rattle.std.specs.Prelude.{◌≡◌, ℕ, List}
+-- Bytes have one deck at most, one first fault at most, never both, and never neither.
+use Rattle.std.specs.Prelude.{◌≡◌, ◌⊎◌, ℕ, List}
 use Rattle.deck_text.specs.Decks.{IsDeck, IsFirstFault}
 use Rattle.deck_text.specs.declared.refusal.DeckBad.{DeckBad}
 use Rattle.deck_text.specs.declared.deck.Deck.{Deck}
@@ -12,3 +12,7 @@ OneFault = (bytes layout deck : List ℕ) (bad other : DeckBad) → IsFirstFault
 
 abbrev pub NeverBoth : Type 0
 NeverBoth = (bytes layout deck : List ℕ) (d : Deck) (bad : DeckBad) → IsDeck bytes layout deck d → IsFirstFault bytes layout deck bad → ⊥
+
+abbrev pub NeverNeither : Type 0
+NeverNeither =
+    (bytes layout deck : List ℕ) → ((d : Deck) × IsDeck bytes layout deck d) ⊎ ((bad : DeckBad) × IsFirstFault bytes layout deck bad)
