@@ -15,7 +15,10 @@ mod spell;
 mod strings;
 
 pub use deltas::{delta_g, delta2, delta3};
-pub use fields::{INFO, RECTANGLE, ShotFields, TRAPEZOID, TRAPEZOID_A, TRAPEZOID_B, id_for, put_delta, spell_fields};
+pub use fields::{
+    INFO, RECTANGLE, ShotFields, TRAPEZOID, TRAPEZOID_A, TRAPEZOID_B, id_for, put_delta,
+    spell_fields,
+};
 pub use laws::{shot_laws, spelling_laws};
 pub use numbers::{signed, unsigned};
 pub use real_readers::real;

@@ -51,11 +51,7 @@ fn make_room<D: Depot>(depot: &mut D, buffer: &mut Buffer) -> Result<(), DepotBa
 }
 
 /// Puts one spelling into the buffer, which is written first where it has no room.
-pub fn put_bytes<D: Depot>(
-    depot: &mut D,
-    buffer: &mut Buffer,
-    bytes: &[u8],
-) -> Result<(), DepotBad>
+pub fn put_bytes<D: Depot>(depot: &mut D, buffer: &mut Buffer, bytes: &[u8]) -> Result<(), DepotBad>
     requires current { IsTrue D.tells → IsSome (D.content depot.old).current }
     requires short { length bytes.now ≤ ROOM }
     ensures ok { OnOk result (IsTrue D.tells → IsWrittenButFor
