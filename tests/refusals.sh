@@ -1,7 +1,8 @@
 #!/usr/bin/env bash
-# Refuses each allocation of two small runs in turn, and lets each of their calls for files fail in turn (opening, reading,
+# Refuses each allocation of some small runs in turn, and lets each of their calls for files fail in turn (opening, reading,
 # writing, also what is said), and judges what is left: status and line, and that all outputs before some place are whole,
-# the one there as before, empty or the beginning of the right text, and those behind it as before.
+# the one there as before, empty or the beginning of the right text, and those after it as before. A run over two bands is
+# once refused memory when the first band's shot is written and nothing of the second: bands are written one by one.
 #
 # A small library stands between the program and the C library for that, which cc makes: it needs Linux and glibc.
 #
@@ -94,10 +95,12 @@ ssize_t write(int file, const void *bytes, size_t count) {
 END
 cc -O1 -fno-builtin -shared -fPIC -o between.so between.c || exit 1
 
-# run_with SETTING..: `fracture` of layout and deck with these settings; sets status
+# run_with SETTING..: the command that is tried, with these settings; sets status
+command=(fracture G.gds K)
+inputs=(G.gds K)
 run_with() {
     status=0
-    env "$@" LD_PRELOAD="$room/between.so" "$program" fracture G.gds K >said || status=$?
+    env "$@" LD_PRELOAD="$room/between.so" "$program" "${command[@]}" >said || status=$?
 }
 
 # What the outputs hold before a run: nothing, or an older text.
@@ -137,7 +140,10 @@ outputs_are_sound() {
 }
 
 inputs_are_untouched() {
-    cmp -s G.gds right/G.gds && cmp -s K right/K
+    local name
+    for name in "${inputs[@]}"; do
+        cmp -s "$name" "right/$name" || return 1
+    done
 }
 
 # line_is_right LINE..: the status is that of one of these lines, which alone is said
@@ -165,10 +171,15 @@ nothing_began() {
 # The program did without it, and the run ended as ever.
 ended_as_ever() {
     local name
-    [ "$status" -eq 0 ] && cmp -s said right/said || return 1
+    [ "$status" -eq "$wanted" ] && cmp -s said right/said || return 1
     for name in "${outputs[@]}"; do
         cmp -s "$name" "right/$name" || return 1
     done
+}
+
+# line_is_lost NUMBER: the last call was to say the line of a refusal, which changes no status
+line_is_lost() {
+    [ "$wanted" -ne 0 ] && [ "$1" -eq "$calls" ] && [ "$status" -eq "$wanted" ] && [ ! -s said ]
 }
 
 # judge WHAT NUMBER HOW LINE..
@@ -176,8 +187,10 @@ judge() {
     local what=$1 number=$2 how=$3
     shift 3
     runs=$((runs + 1))
+    [ "$what" != allocation ] || [ "$status" -ne 6 ] || [ ! -e out.oas ] || sizes+=" $(stat -c %s out.oas) "
     if inputs_are_untouched; then
         [ "$what" = allocation ] && { nothing_began "$how" || ended_as_ever; } && return
+        [ "$what" = call ] && line_is_lost "$number" && return
         line_is_right "$@" && outputs_are_sound "$how" && return
     fi
     failed=$((failed + 1))
@@ -185,21 +198,23 @@ judge() {
     head -n 5 said
 }
 
-# row NAME OUTPUT..: all of it on the layout and the deck that stand there
+# row STATUS NAME OUTPUT..: all of it with the command on the files that stand there, which ends with this status
 row() {
-    row=$1
-    shift
+    wanted=$1
+    row=$2
+    shift 2
     outputs=("$@")
+    sizes=
     prepare absent
     run_with COUNTS=counts
-    if [ "$status" -ne 0 ]; then
+    if [ "$status" -ne "$wanted" ]; then
         printf 'FAILED: %s ends with status %d\n' "$row" "$status"
         failed=$((failed + 1))
         return
     fi
     rm -rf right
     mkdir right
-    cp G.gds K said "${outputs[@]}" right/
+    cp "${inputs[@]}" said "${outputs[@]}" right/
     local allocations calls number how
     read -r allocations calls <counts
     for how in absent older; do
@@ -217,14 +232,46 @@ row() {
     printf '%s: %d allocations and %d calls, each refused twice\n' "$row" "$allocations" "$calls"
 }
 
-printf '%s\n' 'cell TOP' 'boundary 1 0 0,0 0,10 10,10 10,0' | "$gds" G.gds
-printf '%s\n' 'unit 1000' 'top TOP' 'layer A 1 0' 'write A out.oas 1 0' 'write A two.oas 2 0' >K
-row 'a square in two outputs' out.oas two.oas
+square='boundary 1 0 0,0 0,10 10,10 10,0'
+layer='layer A 1 0'
+printf '%s\n' 'cell TOP' "$square" | "$gds" G.gds
+printf '%s\n' 'unit 1000' 'top TOP' "$layer" 'write A out.oas 1 0' 'write A two.oas 2 0' >K
+row 0 'a square in two outputs' out.oas two.oas
 
 printf '%s\n' 'cell TOP' 'boundary 1 0 0,0 11,0 11,11' 'boundary 2 0 0,0 11,0 0,11' | "$gds" G.gds
-printf '%s\n' 'unit 1000' 'top TOP' 'band 1024' 'layer A 1 0' 'layer B 2 0' 'and C A B' 'grow E C 1' 'shrink S A 2' \
+printf '%s\n' 'unit 1000' 'top TOP' 'band 1024' "$layer" 'layer B 2 0' 'and C A B' 'grow E C 1' 'shrink S A 2' \
     'write E out.oas 1 0' 'write S two.oas 1 0' 'write C three.oas 1 0' >K
-row 'a tip, grown, in three outputs' out.oas two.oas three.oas
+row 0 'a tip, grown, in three outputs' out.oas two.oas three.oas
+
+printf '%s\n' 'cell TOP' 'boundary 1 0 0,0 1000,0 1000,1000' | "$gds" G.gds
+printf '%s\n' 'unit 1000' 'top TOP' 'band 1024' "$layer" 'write A out.oas 1 0' >K
+row 0 'a triangle over two bands' out.oas
+if [[ "$sizes" != *' 53 '* ]] || ! cmp -s <(head -c 53 right/out.oas | tail -c 12) <(printf '\x18\x7B\x01\x00\xD0\x0F\x80\x08\x80\x10\x00\x00'); then
+    printf 'FAILED: no run ends with the first band alone, but with files of these lengths:%s\n' "$sizes"
+    failed=$((failed + 1))
+fi
+
+printf '%s\n' 'unit 1000' 'top TOP' "$layer" 'write A out.oas 1 0' >K
+# a square with a property, padding and the cell's name after it
+{
+    printf '%%SEMI-OASIS\r\n\001\0031.0\000\350\007\001\034\024\004TEST\010\005\015\000\024\173\001\000\012\012\000\000\000\003\003TOP\002'
+    head -c 12 /dev/zero
+    printf '\360\001'
+    head -c 241 /dev/zero
+} >G.oas
+command=(fracture G.oas K)
+inputs=(G.oas K)
+row 0 'a square of OASIS' out.oas
+
+printf '%s\n' 'cell TOP' "$square" | "$gds" G.gds
+"$program" fracture G.gds K >said || exit 1
+{
+    head -c 49 out.oas
+    tail -c +42 out.oas
+} >doubled && mv doubled out.oas
+command=(check G.gds K)
+inputs=(G.gds K out.oas)
+row 7 'a check of a doubled shot'
 
 printf '%d runs, %d failed\n' "$runs" "$failed"
 [ "$failed" -eq 0 ]
