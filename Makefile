@@ -7,7 +7,7 @@ PROGRAM := build/nettletide
 BENCH := build/bench
 SOURCES := crates.txt HANDLES $(shell find crates -name out -prune -o \( -name '*.rt' -o -name '*.antt' \) -print)
 
-.PHONY: all try test example pictures compare bench agree clean
+.PHONY: all try test example pictures compare hostile fuzz slurm bench agree clean
 
 # how large the layouts of `make bench` are: small, or large, which has up to 16 million shots
 SIZE := small
@@ -51,6 +51,23 @@ pictures: $(PROGRAM)
 compare: $(PROGRAM)
 	tests/plain.py $(PROGRAM) 200
 	tests/refusals.sh $(PROGRAM)
+
+# Layouts, decks and shot files made to take as much time and memory as they can, with limits of both.
+hostile: $(PROGRAM)
+	tests/cuts.py $(PROGRAM)
+	tests/hostile/run.py $(PROGRAM)
+
+# how long `make fuzz` runs, and from which seed on
+SECONDS := 600
+SEED :=
+
+# Small files, changed at random.
+fuzz: $(PROGRAM)
+	cd build && ../tests/fuzz.py ../$(PROGRAM) $(SECONDS) $(SEED)
+
+# Strips on the batch system Slurm, which is brought up for that where it is installed.
+slurm: $(PROGRAM)
+	tests/slurm.sh $(PROGRAM)
 
 $(BENCH): $(SOURCES)
 	mkdir -p build

@@ -1,0 +1,57 @@
+"""Decks whose steps need much more than what they give."""
+import random
+
+from records import *
+
+FRACTURE = ["fracture", "layout", "deck"]
+
+
+def grown(steps, band):
+    """A square grown again and again by the most that a step can: cut at each band's edge, and by the width."""
+    gds(cell("TOP", polygon(SQUARE)))
+    lines = [f"grow S{k} {'A' if k == 0 else f'S{k - 1}'} 65536" for k in range(steps)]
+    deck(f"band {band}", "layer A 1 0", *lines, f"write S{steps - 1} out.oas 1 0")
+    far, side = 65536 * steps, 20 + 2 * 65536 * steps
+    bands = -(-(20 + far) // band) + -(-far // band)
+    return FRACTURE, 0, f"output out.oas shots {bands * -(-side // 2097152)} triangles {2 * side * side}"
+
+
+def grown_layout(count, band):
+    """Squares in a row, upwards, grown by more than a band: one column."""
+    chance = random.Random(1)
+    places = [(chance.randrange(1000), 500 * k) for k in range(count)]
+    gds(cell("TOP", box(0, 0, 1010, 10), *(box(x, y, x + 10, y + 10) for x, y in places)))
+    deck(f"band {band}", "layer A 1 0", "grow G A 65536", "write G out.oas 1 0")
+    return FRACTURE, 0, f"output out.oas shots .."
+
+
+def mirrored(times):
+    """A square beside its image, both beside theirs, and so on: 2^times squares in a row."""
+    gds(cell("TOP", polygon(SQUARE)))
+    lines, name = [], "A"
+    for k in range(times):
+        lines += [f"mirror M{k} {name} {40 * 2**k - 10}", f"or B{k} {name} M{k}"]
+        name = f"B{k}"
+    deck("layer A 1 0", *lines, f"write {name} out.oas 1 0")
+    return FRACTURE, 0, f"output out.oas shots {2**times} triangles {800 * 2**times}"
+
+
+def longest():
+    """A deck of as many lines as fit, each of which is read before the last is refused."""
+    with open("deck", "w") as file:
+        lines = ["unit 1000", "top TOP", "layer A 1 0"] + [f"or N{k} A A" for k in range(255)]
+        body = "\n".join(lines) + "\n"
+        file.write(body + "#\n" * ((65536 - len(body) - 4) // 2) + "or\n")
+    gds(cell("TOP", polygon(SQUARE)))
+    return FRACTURE, 2, "deck refused: line .."
+
+
+CASES = [
+    ("a square grown by 65,536 once, band 1024", True, lambda: grown(1, 1024)),
+    ("a square grown by 65,536 255 times, band 1048576", True, lambda: grown(255, 1048576)),
+    ("a square grown by 65,536 255 times, band 1024", False, lambda: grown(255, 1024)),
+    ("10,000 squares grown by 65,536, band 1048576", True, lambda: grown_layout(10000, 1048576)),
+    ("10,000 squares grown by 65,536, band 1024", False, lambda: grown_layout(10000, 1024)),
+    ("a row doubled 20 times by its mirror image", False, lambda: mirrored(20)),
+    ("a deck of 65,536 bytes", True, longest),
+]

@@ -1,0 +1,73 @@
+"""Shapes and shots of which many meet at one place or along one line."""
+from records import *
+
+FRACTURE = ["fracture", "layout", "deck"]
+
+
+def wires(count, length, step):
+    """Slanted wires side by side, 4 steps wide; each begins a step higher where the step isn't 0."""
+    for k in range(count):
+        x, y = 10 * k, step * k
+        yield polygon([(x, y), (x + length, y + length), (x + length + 4, y + length), (x + 4, y)])
+
+
+def slanted(count, length, step):
+    """Each wire is one shot where all lie in one band: so many rows, and 8 half units wide."""
+    gds(cell("TOP", b"".join(wires(count, length, step))))
+    deck("band 16777216", "limits 2097152 4194304", "layer A 1 0", "write A out.oas 1 0")
+    return FRACTURE, 0, f"output out.oas shots {count} triangles {count * 2 * length * 16}"
+
+
+def pile(count):
+    """Squares round one place, each a little larger: the largest, cut where a band ends."""
+    gds(cell("TOP", b"".join(box(-1000 - k, -1000 - k, 1000 + k, 1000 + k) for k in range(count))))
+    deck()
+    side = 4 * (1000 + count - 1)
+    return FRACTURE, 0, f"output out.oas shots 2 triangles {2 * side * side}"
+
+
+def same(count):
+    gds(cell("TOP", polygon(SQUARE) * count))
+    deck()
+    return FRACTURE, 0, SQUARE_LINE
+
+
+def zigzag(teeth, height):
+    """A polygon that goes up and down to the right and down and up to the left: it crosses itself at each slanted edge."""
+    there = [(k * height, height * (k % 2)) for k in range(teeth + 1)]
+    back = [(x, height - y) for x, y in reversed(there)]
+    gds(cell("TOP", polygon(there + back)))
+    deck()
+    return FRACTURE, 0, f"output out.oas shots {2 * teeth + 2} triangles {4 * teeth * height * height}"
+
+
+def check_same(count):
+    """A shot given many times, for `check`."""
+    gds(cell("TOP", polygon(SQUARE)))
+    deck()
+    write("out.oas", SHOTS_HEAD, shot(0, 0, 20, 20) * count, END)
+    return ["check", "layout", "deck"], 7, f"check refused: out.oas: tile 0 0 left count {count} wanted 1"
+
+
+def wide(word, count):
+    """Shots 2^44 wide, as wide as a shot can be on one side of 0."""
+    gds(cell("TOP", polygon(SQUARE)))
+    deck()
+    write("out.oas", SHOTS_HEAD, b"".join(shot(0, k, 1 << 44, 1) for k in range(count)), END)
+    if word == "check":
+        return ["check", "layout", "deck"], 7, "check refused: out.oas: shot 0 too large"
+    return ["shots", "out.oas"], 0, f"shots {count} triangles {count << 45}"
+
+
+CASES = [
+    ("300 slanted wires, each a step higher", True, lambda: slanted(300, 400000, 1)),
+    ("100,000 slanted wires, side by side", False, lambda: slanted(100000, 400000, 0)),
+    ("100,000 slanted wires, each a step higher", False, lambda: slanted(100000, 400000, 1)),
+    ("a pile of 1,000 squares", True, lambda: pile(1000)),
+    ("a pile of 100,000 squares", False, lambda: pile(100000)),
+    ("a square 1,000,000 times", False, lambda: same(1000000)),
+    ("a polygon of 8,191 points that crosses itself at each edge", True, lambda: zigzag(4094, 100)),
+    ("a shot 1,000,000 times, checked", False, lambda: check_same(1000000)),
+    ("100,000 shots 2^44 wide, checked", True, lambda: wide("check", 100000)),
+    ("100,000 shots 2^44 wide, listed", True, lambda: wide("shots", 100000)),
+]

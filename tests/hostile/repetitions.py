@@ -1,0 +1,82 @@
+"""OASIS layouts that give a long list once, and use it again in records of a few bytes."""
+from records import *
+
+OTHER = 9  # a layer that the deck doesn't name
+
+
+def moves(count):
+    """A repetition of kind 10: places one after the other, at irregular distances."""
+    return unsigned(10, count - 2) + b"".join(unsigned(4 * (20 + k % 7) + 1) + signed(k % 5 - 2) for k in range(count - 1))
+
+
+def spaces(count):
+    """A repetition of kind 4: a row with irregular spaces."""
+    return unsigned(4, count - 2) + unsigned(*(20 + k % 7 for k in range(count - 1)))
+
+
+def many_points(count):
+    """A staircase and back, as a point list of kind 0, whose moves are level and upright in turn."""
+    steps = [1] * (count // 2 - 2) + [3, -count]
+    return unsigned(0, len(steps)) + signed(*steps)
+
+
+def in_cell(name, first, again, times, reached=False):
+    """TOP has a square; the cell has the first record and the other one so often."""
+    top = rectangle(0, 0, 10, 10) + (b"\x11\xB0" + text(name) + signed(0, 0) if reached else b"")
+    oas(oas_cell(name, first), again * times, oas_cell("TOP", top))
+    deck()
+    return ["fracture", "layout", "deck"], 0, SQUARE_LINE
+
+
+def unreached_rectangles(repetition, times):
+    return in_cell("OTHER", rectangle(0, 0, 10, 10, repetition=repetition), b"\x14\x04\x00", times)
+
+
+def unwanted_rectangles(repetition, times):
+    return in_cell("OTHER", rectangle(0, 0, 10, 10, OTHER, repetition), b"\x14\x04\x00", times, True)
+
+
+def texts(repetition, times):
+    first = b"\x13\x5F" + text("T") + unsigned(OTHER, 0) + signed(0, 0) + repetition
+    return in_cell("OTHER", first, b"\x13\x04\x00", times, True)
+
+
+def placements(repetition, times):
+    """Of a cell that has nothing."""
+    first = b"\x11\xB8" + text("EMPTY") + signed(0, 0) + repetition
+    oas(oas_cell("EMPTY"), oas_cell("TOP", rectangle(0, 0, 10, 10), first), b"\x11\x08\x00" * times)
+    deck()
+    return ["fracture", "layout", "deck"], 0, SQUARE_LINE
+
+
+def polygons(layer, points, times, reached):
+    first = b"\x15\x3B" + unsigned(layer, 0) + many_points(points) + signed(0, 0)
+    return in_cell("OTHER", first, b"\x15\x00", times, reached)
+
+
+def paths(layer, points, times, reached):
+    first = b"\x16\xFB" + unsigned(layer, 0, 1, 5) + unsigned(0, points) + signed(*[2] * points) + signed(0, 0)
+    return in_cell("OTHER", first, b"\x16\x00", times, reached)
+
+
+def counted(repetition, count, times):
+    """Shapes on the deck's layer, more than a layout may have: refused by their number."""
+    oas(oas_cell("TOP", rectangle(0, 0, 10, 10, repetition=repetition)), b"\x14\x04\x00" * (times - 1))
+    deck()
+    return ["fracture", "layout", "deck"], 3, f"layout refused: count TOP {count * times}"
+
+
+CASES = [
+    ("a list of 1,000 moves in rectangles that nothing reaches, 1,000 times", True, lambda: unreached_rectangles(moves(1000), 1000)),
+    ("a list of 100,000 moves in rectangles that nothing reaches, 20,000 times", False, lambda: unreached_rectangles(moves(100000), 20000)),
+    ("a list of 100,000 spaces in rectangles that nothing reaches, 20,000 times", False, lambda: unreached_rectangles(spaces(100000), 20000)),
+    ("a list of 100,000 moves on an unwanted pair, 100,000 times", False, lambda: unwanted_rectangles(moves(100000), 100000)),
+    ("a list of 100,000 spaces on an unwanted pair, 100,000 times", False, lambda: unwanted_rectangles(spaces(100000), 100000)),
+    ("a list of 100,000 moves in texts, 100,000 times", False, lambda: texts(moves(100000), 100000)),
+    ("a list of 100,000 moves in placements of an empty cell, 20,000 times", False, lambda: placements(moves(100000), 20000)),
+    ("a grid of 2^30 places, 1,024 times and once more", True, lambda: counted(unsigned(1, 32766, 32766, 1, 1), 1 << 30, 1025)),
+    ("a polygon of 100,000 points on an unwanted pair, 100,000 times", False, lambda: polygons(OTHER, 100000, 100000, True)),
+    ("a polygon of 100,000 points that nothing reaches, 10,000 times", False, lambda: polygons(1, 100000, 10000, False)),
+    ("a path of 100,000 points on an unwanted pair, 100,000 times", False, lambda: paths(OTHER, 100000, 100000, True)),
+    ("a path of 10,000 points that nothing reaches, 10,000 times", False, lambda: paths(1, 10000, 10000, False)),
+]

@@ -1,0 +1,108 @@
+#!/usr/bin/env python3
+"""Runs the program on layouts, decks and shot files made to take as much time or memory as they can.
+
+    usage: tests/hostile/run.py PROGRAM [quick | WORD..]
+
+Each case is made by a script of this folder, and must be answered with the status and the line that were worked out for it
+(what stands after `..` is free), within 4 GB of address space and 60 seconds of the processor. Time and memory are printed.
+With `quick` only the cases run that take less than a second each, with other words those whose name has all of them.
+
+What today's program can't do within the limits is listed in beyond.txt, a case a line, with what was measured. Such a case
+is run too, and named where it fails and where it doesn't any more; it doesn't make the whole fail.
+"""
+import os
+import resource
+import signal
+import subprocess
+import sys
+import tempfile
+import time
+
+HERE = os.path.dirname(os.path.abspath(__file__))
+sys.path.insert(0, HERE)
+import decks
+import geometry
+import names
+import repetitions
+import trees
+
+MEMORY, SECONDS = 4 << 30, 60
+CASES = [case for module in (names, repetitions, trees, geometry, decks) for case in module.CASES]
+
+
+def beyond():
+    """The cases that are known to fail, with what was measured."""
+    with open(os.path.join(HERE, "beyond.txt")) as file:
+        lines = [line.rstrip("\n").split(" | ") for line in file if line.strip() and not line.startswith("#")]
+    return {words[0]: words[1] for words in lines}
+
+
+def limit():
+    resource.setrlimit(resource.RLIMIT_AS, (MEMORY, MEMORY))
+    resource.setrlimit(resource.RLIMIT_CPU, (SECONDS, SECONDS + 1))
+    resource.setrlimit(resource.RLIMIT_CORE, (0, 0))
+
+
+def answer(program, words):
+    """Status, last line, processor seconds and megabytes; a status below 0 is the signal that ended the program."""
+    with open("said", "wb") as said:
+        child = subprocess.Popen([program, *words], stdout=said, stderr=subprocess.DEVNULL, preexec_fn=limit)
+        _, status, usage = os.wait4(child.pid, 0)
+        child.returncode = os.waitstatus_to_exitcode(status)
+    with open("said", "rb") as said:
+        lines = said.read().decode(errors="replace").splitlines()
+    return child.returncode, lines[-1] if lines else "", usage.ru_utime + usage.ru_stime, usage.ru_maxrss / 1000
+
+
+def fits(line, wanted):
+    return line.startswith(wanted[:-2]) if wanted.endswith("..") else line == wanted
+
+
+def run(program, make):
+    """What was measured of a case, and what is wrong with its answer, or nothing."""
+    home = os.getcwd()
+    with tempfile.TemporaryDirectory() as folder:
+        os.chdir(folder)
+        try:
+            words, wanted, line = make()
+            status, said, seconds, memory = answer(program, words)
+        finally:
+            os.chdir(home)
+    measured = f"{seconds:.2f} s, {memory:.0f} MB"
+    if status < 0:
+        out_of_time = -status in (signal.SIGXCPU, signal.SIGKILL)
+        return measured, f"no answer within {SECONDS} s" if out_of_time else f"ended by signal {-status}"
+    if status != wanted or not fits(said, line):
+        return measured, f"status {status} in place of {wanted}: {said[:100]}"
+    return measured, None
+
+
+def chosen(words):
+    if words == ["quick"]:
+        return [case for case in CASES if case[1]]
+    return [case for case in CASES if all(word in case[0] for word in words)]
+
+
+def main(program, words):
+    program = os.path.realpath(program)
+    known = beyond()
+    failed = past = 0
+    begun = time.monotonic()
+    cases = chosen(words)
+    for name, _, make in cases:
+        measured, fault = run(program, make)
+        if fault is None:
+            print(f"{measured}: {name}" + (", which beyond.txt doesn't expect" if name in known else ""), flush=True)
+        elif name in known:
+            past += 1
+            print(f"{measured}: beyond the limits, as expected: {name}: {fault}", flush=True)
+        else:
+            failed += 1
+            print(f"{measured}: FAILED: {name}: {fault}", flush=True)
+    print(f"{len(cases)} hostile cases, {failed} failed, {past} beyond the limits as expected, {time.monotonic() - begun:.0f} s")
+    return 1 if failed else 0
+
+
+if len(sys.argv) >= 2:
+    sys.exit(main(sys.argv[1], sys.argv[2:]))
+sys.exit(__doc__)
