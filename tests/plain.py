@@ -2,6 +2,7 @@
 """Compares the program with a plain one, triangle by triangle.
 
     usage: tests/plain.py PROGRAM [COUNT [SEED]]
+           tests/plain.py case FOLDER SEED       writes a case as FOLDER/G.gds, G.oas and K, and compares nothing
 
 Makes COUNT random small layouts and decks (100 where it is missing), and runs `fracture` on each with bands of 1,024,
 4,096 and 1,048,576 rows. Each triangle of the half grid must be in exactly one shot where it is in the area that the deck
@@ -378,8 +379,8 @@ def fault_in_oasis(program, folder, count):
     return None
 
 
-def compare(program, folder, seed):
-    """What is wrong with the case of this seed, or nothing; and how many triangles were compared."""
+def random_case(folder, seed):
+    """Writes the layout of this seed as G.gds and G.oas, and gives its deck: steps with areas, frame, limits, outputs."""
     chance = random.Random(seed)
     layout, places = random_layout(chance)
     with open(os.path.join(folder, "layout.txt"), "w") as file:
@@ -393,6 +394,19 @@ def compare(program, folder, seed):
     steps, areas = random_deck(chance, polygons, frame)
     outputs = [len(steps) - 1, chance.randrange(len(steps))]
     limits = chance.choice([(1048576, 2097152), (1048576, 2097152), (8, 16), (3, 40)])
+    return steps, areas, frame, limits, outputs
+
+
+def write_case(folder, seed):
+    """Writes the layout of this seed as G.gds and G.oas, and its deck as K, for other programs to judge."""
+    steps, _, frame, limits, outputs = random_case(folder, int(seed))
+    with open(os.path.join(folder, "K"), "w") as file:
+        file.write(deck_text(steps, frame, limits, BANDS[int(seed) % 3], outputs))
+
+
+def compare(program, folder, seed):
+    """What is wrong with the case of this seed, or nothing; and how many triangles were compared."""
+    steps, areas, frame, limits, outputs = random_case(folder, seed)
     triangles = sum(len(areas[name]) for name in outputs)
     for band in BANDS:
         fault = fault_in_band(program, folder, steps, areas, frame, limits, band, outputs)
@@ -415,6 +429,8 @@ def main(program, count=100, seed=1):
     return 1 if failed else 0
 
 
+if len(sys.argv) == 4 and sys.argv[1] == "case":
+    sys.exit(write_case(*sys.argv[2:]))
 if 2 <= len(sys.argv) <= 4:
     sys.exit(main(*sys.argv[1:]))
 sys.exit(__doc__)

@@ -1,0 +1,97 @@
+#!/usr/bin/env bash
+# A second opinion: KLayout reads layouts and shots, works the areas out with its own operations on doubled coordinates, and
+# compares. The examples, the pictures' decks and COUNT random layouts with their decks (30 where it is missing, the first
+# with the number FIRST, half of them as OASIS files) are judged; where the program has `pack` and `split`, so are packed
+# files and the union of stripes.
+#
+#     usage: tests/klayout.sh PROGRAM [COUNT [FIRST]]
+set -u
+program=$(realpath "$1") || exit 1
+count=${2:-30}
+first=${3:-1}
+top=$(cd "$(dirname "$0")/.." && pwd)
+if ! command -v klayout >/dev/null; then
+    echo 'skipped: a second opinion, since KLayout is not installed'
+    exit 0
+fi
+export QT_QPA_PLATFORM=offscreen
+room=$(mktemp -d) || exit 1
+trap 'rm -rf "$room"' EXIT
+stripe=64
+failed=0
+
+# knows COMMAND WORD..: whether these words are a command of the program; no file of theirs is there
+knows() {
+    [ "$(cd "$room" && "$program" "$@" 2>/dev/null)" != 'words refused' ]
+}
+
+# done_well COMMAND WORD..: the program ends with status 0
+done_well() {
+    local said
+    if said=$("$program" "$@"); then
+        printf '%s\n' "$said"
+        return
+    fi
+    printf 'FAILED: %s: %s\n' "$*" "$said" >&2
+    failed=$((failed + 1))
+    return 1
+}
+
+packs=no
+splits=no
+knows pack none.oas none.packed && packs=yes
+knows split $stripe none.oas none.oas && splits=yes
+
+# derived FILE: packs and splits a shot file, and unpacks it again
+derived() {
+    if [ $packs = yes ]; then
+        done_well pack "$1" "$1.packed" >/dev/null && done_well unpack "$1.packed" "$1.plain" >/dev/null || return
+        cmp "$1" "$1.plain" || failed=$((failed + 1))
+    fi
+    if [ $splits = yes ]; then
+        done_well split $stripe "$1" "$1" >"$1.split"
+    fi
+}
+
+# case_of FOLDER LAYOUT DECK: fractures what the folder has, and puts it on the list of what KLayout judges
+case_of() {
+    local file
+    cd "$1" || exit 1
+    if done_well fracture "$2" "$3" >report; then
+        for file in $(awk '$1 == "write" { print $3 }' "$3"); do
+            derived "$file"
+        done
+        printf '%s %s %s\n' "$1" "$2" "$3" >>"$room/list"
+    fi
+    cd "$room" || exit 1
+}
+
+for name in square block; do
+    mkdir "$room/$name"
+    cp "$top/example/$name.deck" "$room/$name/K"
+done
+cp "$top/example/square.gds" "$room/square/G.gds"
+"$top/tools/gds" "$room/block/G.gds" <"$top/example/block.txt"
+for deck in "$top"/example/pictures/*.deck; do
+    name=picture-$(basename "$deck" .deck)
+    mkdir "$room/$name"
+    cp "$deck" "$room/$name/K"
+    "$top/tools/gds" "$room/$name/G.gds" <"$top/example/pictures/shapes.txt"
+done
+for folder in "$room"/*/; do
+    case_of "${folder%/}" G.gds K
+done
+for ((number = first; number < first + count; number++)); do
+    mkdir "$room/$number"
+    "$top/tests/plain.py" case "$room/$number" "$number" || exit 1
+    if [ $((number % 2)) -eq 0 ]; then
+        case_of "$room/$number" G.gds K
+    else
+        case_of "$room/$number" G.oas K
+    fi
+done
+
+[ $packs = yes ] || echo 'skipped: packed files, since the program has no command pack'
+[ $splits = yes ] || echo 'skipped: stripes, since the program has no command split'
+klayout -b -rd list="$room/list" -rd stripe=$stripe -r "$top/tests/klayout.py" | tee "$room/said"
+grep -q ', 0 failed$' "$room/said" && [ "$failed" -eq 0 ]
