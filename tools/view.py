@@ -1,0 +1,128 @@
+"""Shows a layout and shots side by side in KLayout; tools/view runs it, and says what the words are.
+
+Each panel right of the layout has shots in the layout's scale, and above it the numbers that the report of `fracture` has, as
+KLayout counts them in the files: how many shots, and their area in triangles of the half grid.
+"""
+import pya
+
+COLOURS = [0x1F77B4, 0xD62728, 0x2CA02C, 0x9467BD, 0xFF7F0E, 0x17BECF]
+
+
+def deck_lines(name):
+    with open(name) as lines:
+        return [line.split() for line in lines if line.split() and line.split()[0][0] != "#"]
+
+
+def panels_of(words, deck):
+    """The files of each panel: those that were asked for, else each output of the deck."""
+    if not words:
+        return [[line[2]] for line in deck if line[0] == "write"]
+    panels = [[]]
+    for word in words:
+        if word == "--":
+            panels.append([])
+        else:
+            panels[-1].append(word)
+    return panels
+
+
+def numbers(layout):
+    """How many shots a file has, and how many triangles of the half grid they have in all."""
+    shots = triangles = 0
+    for index in layout.layer_indexes():
+        shapes = layout.top_cell().begin_shapes_rec(index)
+        while not shapes.at_end():
+            triangles += shapes.shape().polygon.area2()
+            shots += 1
+            shapes.next()
+    return shots, triangles
+
+
+def show(view, layers):
+    """Shows these layers: source, colour, and by how many micrometres each is moved to the right."""
+    view.clear_layers()
+    for source, colour, move in layers:
+        layer = pya.LayerPropertiesNode()
+        layer.source = source
+        layer.trans = [pya.DCplxTrans(1.0, 0.0, False, move, 0.0)]
+        layer.fill_color = layer.frame_color = colour
+        layer.dither_pattern = 3
+        view.insert_layer(view.end_layers(), layer)
+    view.update_content()
+
+
+def label(view, x, y, text):
+    note = pya.Annotation()
+    note.p1 = note.p2 = pya.DPoint(x, y)
+    note.style = pya.Annotation.StyleLine
+    note.fmt, note.fmt_x, note.fmt_y = text, "", ""
+    view.insert_annotation(note)
+
+
+def load(view, name):
+    """Opens a file beside those that are open; gives its number and its layout."""
+    number = view.load_layout(name, True)
+    return number, view.cellview(number).layout()
+
+
+def load_layout(view, name, deck):
+    """Opens the layout at the deck's top cell; gives the layers that the deck takes, and their box in micrometres."""
+    number, layout = load(view, name)
+    top = [line[1] for line in deck if line[0] == "top"][0]
+    view.cellview(number).cell = layout.cell(top)
+    layers, box = [], pya.DBox()
+    for pair in dict.fromkeys((int(line[2]), int(line[3])) for line in deck if line[0] == "layer"):
+        layers.append((f"{pair[0]}/{pair[1]}@{number + 1}", COLOURS[len(layers) % len(COLOURS)], 0.0))
+        index = layout.find_layer(*pair)
+        if index is not None:
+            box += layout.cell(top).dbbox_per_layer(index)
+    return layers, box
+
+
+def load_panel(view, names, move, first):
+    """Opens shots of some files; gives their layers, their box, and what is said of them."""
+    layers, box, said = [], pya.DBox(), []
+    for k, name in enumerate(names):
+        number, layout = load(view, name)
+        box += layout.top_cell().dbbox()
+        for info in layout.layer_infos():
+            source = f"{info.layer}/{info.datatype}@{number + 1}"
+            layers.append((source, COLOURS[(first + k) % len(COLOURS)], move))
+        said.append("output %s shots %d triangles %d" % (name, *numbers(layout)))
+    return layers, box.moved(move, 0.0), said
+
+
+def fill(view, layout_name, deck_name, words):
+    """Fills the view, and gives the box of all."""
+    deck = deck_lines(deck_name)
+    layers, box = load_layout(view, layout_name, deck)
+    step, height, line_height = 1.15 * box.width(), box.height(), 0.05 * box.width()
+    whole, first = box + pya.DPoint(box.left, box.top + 2 * line_height), 0
+    label(view, box.left, box.top + line_height, layout_name)
+    for place, names in enumerate(panels_of(words, deck)):
+        move = step * (place + 1)
+        some, shots, said = load_panel(view, names, move, first)
+        layers += some
+        first += len(names)
+        for row, line in enumerate(reversed(said)):
+            label(view, box.left + move, box.top + (row + 1) * line_height, line)
+        print("\n".join(said))
+        whole += shots + pya.DPoint(box.left + move, box.top + (len(said) + 1) * line_height)
+    show(view, layers)
+    return whole
+
+
+def main():
+    window = pya.Application.instance().main_window()
+    window.create_view()
+    view = window.current_view()
+    for name, value in (("background-color", "#ffffff"), ("grid-visible", "false"), ("text-visible", "false")):
+        view.set_config(name, value)
+    whole = fill(view, layout, deck, [word for word in shots.split("\n") if word])
+    view.max_hier()
+    view.zoom_box(whole.enlarged(0.02 * whole.width(), 0.02 * whole.height()))
+    if picture:
+        view.save_image(picture, 1600, max(200, int(1600 * whole.height() / max(whole.width(), 1e-9))))
+
+
+main()
