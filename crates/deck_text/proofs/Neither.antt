@@ -1,13 +1,13 @@
 -- Bytes are a deck or have a first fault.
-use Rattle.std.proofs.Common.{◌≡◌, ◌⊎◌, inl, inr, ℕ, ◌+◌, true, false, List, [], ◌∷◌, drop, length, Option, Some, None, refl, sym, ap, ◌∙◌, arith}
+use Rattle.std.proofs.Common.{◌≡◌, ◌⊎◌, inl, inr, ℕ, ◌+◌, true, false, List, [], ◌∷◌, drop, length, Option, Some, None, refl, arith}
 use Rattle.std.specs.Prelude.{ℤ, pos, negsuc, unwrap_or, IsSome}
 use Rattle.std.proofs.lemmas.Bool.{false≢true}
 use Rattle.std.proofs.lemmas.Int.{ints}
 use Rattle.deck_text.specs.Lines.{lines_of}
-use Rattle.deck_text.specs.Statements.{Reading, Passed, Refused, Says, Said}
+use Rattle.deck_text.specs.Statements.{Passed, Refused, Says, Said}
 use Rattle.deck_text.specs.Forms.{reading}
 use Rattle.deck_text.specs.Rules.{bound, broken_rule}
-use Rattle.deck_text.specs.Decks.{saids_from, AreAccepted, IsRefusedAt, HasNoOutput, has_output, setting_in, unit_of, top_of, band_of, limits_of, limits, frame_of, steps_of, outputs_of, IsDeckOf, IsDeck, IsFirstFault}
+use Rattle.deck_text.specs.Decks.{saids_from, AreAccepted, IsRefusedAt, HasNoOutput, has_output, setting_in, unit_of, top_of, band_of, limits_of, limits, frame_of, steps_of, outputs_of, IsDeckOf}
 use Rattle.deck_text.specs.Laws.{NeverNeither}
 use Rattle.deck_text.specs.declared.deck.Deck.{Deck}
 use Rattle.deck_text.specs.declared.refusal.DeckBad.{DeckBad}

@@ -1,10 +1,14 @@
 -- The shapes of boundaries and paths, and why they are refused.
-use Rattle.std.proofs.Common.{◌≡◌, ℕ, ◌<◌, ◌≤◌, Bool, true, false, cond, List, [], ◌∷◌, length, get_or, refl, sym, ap, subst, ◌∙◌, inl, inr, arith}
+use Rattle.std.proofs.Common.{◌≡◌, ℕ, zero, suc, ◌<◌, ◌≤◌, Bool, true, false, cond, List, [], ◌∷◌, length, get_or, refl, sym, ap, subst, ◌∙◌, inl, inr, arith}
 use Rattle.std.specs.Prelude.{All, ◌≢◌, pos, ℤ}
+use Rattle.std.specs.List.{AllWithin}
 use Rattle.std.specs.Ordering.{int_eq}
+use Rattle.std.proofs.lemmas.Bool.{cases_lt}
+use Rattle.std.proofs.lemmas.List.{get_or_default}
 use Rattle.std.proofs.lemmas.List.Elements.{All-map}
 use Rattle.half_grid.specs.declared.plane.Point.{Point}
-use Rattle.half_grid.specs.Outlines.{IsClosed}
+use Rattle.half_grid.specs.Outlines.{IsOnGrid, IsClosed}
+use Rattle.half_grid.specs.Winding.{edges_of}
 use Rattle.half_grid.proofs.ForCallers.{int_eq_true, int_eq_false}
 use Rattle.layout_model.specs.Layouts.{AreOffsets, IsShapeOnGrid}
 use Rattle.layout_model.specs.PathLaws.{IsOutline}
@@ -34,6 +38,30 @@ slant_lowest points k least most closed slant = record {
     edges = λ e. absurd (omega arith);
   };
 }
+
+-- where no edge is the first that isn't on the grid, the first n edges aren't off the grid
+front_on_grid : (points : List Point) → ((k : ℕ) → IsFirstSlant points k → ⊥) → (n : ℕ) → n ≤ length (edges_of points)
+    → (AllWithin IsOnGrid (edges_of points) 0 n → ⊥) → ⊥
+front_on_grid points none zero le refute = refute (λ j d low high. absurd (omega arith))
+front_on_grid points none (suc n) le refute =
+    front_on_grid points none n (omega arith) (λ before.
+    none n (record {
+      inside = omega arith;
+      on_grid = before;
+      slanted = λ d on. refute (λ j e low high. elim (cases_lt j n) [
+        | inl less ↦ before j e low less
+        | inr more ↦
+            let same : n ≡ j = omega arith in
+            subst (λ i. IsOnGrid (get_or (edges_of points) i e)) same (subst IsOnGrid (get_or_default (edges_of points) n d e (omega arith)) on)
+      ]);
+    }))
+
+-- want of memory hides no broken rule of a boundary
+pub no_rule_hidden : (points : List Point) (rule : ℕ) → 4 ≤ length points → length points ≤ 8191 → IsClosed points
+    → ((k : ℕ) → IsFirstSlant points k → ⊥) → IsLowest (KeepsBoundary points) rule → ⊥
+no_rule_hidden points rule least most closed none low =
+    front_on_grid points none (length (edges_of points)) (omega arith) (λ all.
+    low.broken (record { count = λ e. (least, most); closed = λ e. closed; edges = λ e j d lt. all j d (omega arith) lt }))
 
 pub refused_by : (K : ℕ → Type 0) (at : ℕ) (u : Undrawn) (bad : GdsBad) → ((rule : ℕ) → u ≡ undrawn.Rule rule → bad ≡ bads.Value at rule)
     → (u ≡ undrawn.NoMemory → bad ≡ bads.NoMemory) → ((rule : ℕ) → u ≡ undrawn.Rule rule → IsLowest K rule) → IsRefusedBy K at bad

@@ -16,3 +16,4 @@ mod TakeLemmas
 mod StepLemmas
 mod CellLemmas
 mod ReadLemmas
+mod NeitherLemmas

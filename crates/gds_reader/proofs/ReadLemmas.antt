@@ -52,7 +52,7 @@ pub next_stands : (bytes : List ℕ) (past : List Record) (at : ℕ) (r : Record
     → IsNext bytes past at r
 next_stands bytes past at r stands some = record { stands = stands; order = next_begins past r (next_after (place_behind past) r) refl some }
 
-no_next : (past : List Record) (r : Record) (place : Place) → place_behind past ≡ Some place → next_after (place_behind past) r ≡ None
+pub no_next : (past : List Record) (r : Record) (place : Place) → place_behind past ≡ Some place → next_after (place_behind past) r ≡ None
     → ¬ IsBeginning (kinds_of (reverse (r ∷ past)))
 no_next past r place e none begins =
     let nowhere : next_place place r.kind ≡ None = sym (ap (λ p. next_after p r) e) ∙ none in
@@ -180,7 +180,7 @@ pub record IsEnded (bytes : List ℕ) (unit : ℕ) (sorted : List Pair) (at : �
   pub allowed : (wanted : List Pair) → AreSamePairs wanted sorted → AreAllowed bytes unit wanted (r ∷ past)
   pub reader_is : (wanted : List Pair) → AreSamePairs wanted sorted → IsReaderOf bytes wanted (r ∷ past) reader
 
-ended_place : (past : List Record) (r : Record) (b : Option Place) (place : Place) → place_behind past ≡ b → next_after b r ≡ Some place → r.kind ≡ EndLib
+pub ended_place : (past : List Record) (r : Record) (b : Option Place) (place : Place) → place_behind past ≡ b → next_after b r ≡ Some place → r.kind ≡ EndLib
     → place ≡ places.End
 ended_place past r None place e f end = absurd (cc)
 ended_place past r (Some p) place e f end = end_next p place (subst (λ k. next_place p k ≡ Some place) end f)

@@ -161,3 +161,14 @@ abbrev pub NoLayoutWithFault : Type 0
 NoLayoutWithFault =
     (bytes : List ℕ) (unit : ℕ) (wanted : List Pair) (layout : Layout) (bad : GdsBad)
     → IsLayoutOf bytes unit wanted layout → ¬ IsFirstFault bytes unit wanted bad
+
+-- they hold none
+abbrev pub HoldNoLayout : List ℕ → ℕ → List Pair → Type 0
+HoldNoLayout bytes unit wanted = (layout : Layout) → ¬ IsLayoutOf bytes unit wanted layout
+
+abbrev pub HaveNoFault : List ℕ → ℕ → List Pair → Type 0
+HaveNoFault bytes unit wanted = (bad : GdsBad) → ¬ IsFirstFault bytes unit wanted bad
+
+-- bytes that hold no layout have a first fault: none hold no layout and have no first fault
+abbrev pub OthersHaveFault : Type 0
+OthersHaveFault = (bytes : List ℕ) (unit : ℕ) (wanted : List Pair) → HoldNoLayout bytes unit wanted → ¬ HaveNoFault bytes unit wanted

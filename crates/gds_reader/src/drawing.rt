@@ -63,6 +63,7 @@ fn shape_of_boundary(alloc: Global, element: &Element, points: &[Point]) -> Resu
     ensures grid { IfOk result IsShapeOnGrid }
     ensures kept { IfOk result (λ _. (rule : ℕ) → KeepsBoundary points.now rule) }
     ensures broken { (rule : ℕ) → result ≡ Err (Rule rule) → IsLowest (KeepsBoundary points.now) rule }
+    ensures memory { result ≡ Err Wanting → (rule : ℕ) → ¬ IsLowest (KeepsBoundary points.now) rule }
 {
     if points.len() < LEAST {
         return Err(Undrawn::Rule(10));

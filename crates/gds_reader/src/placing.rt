@@ -7,7 +7,7 @@ ghost use Rattle.layout_model.specs.Names.{IsName};
 ghost use Rattle.gds_record.specs.declared.kinds.Kind.TheVariants.{Sref, Aref};
 ghost use Rattle.gds_reader.specs.Elements.{IsHeld, IsFilePoint, KeepsOf, place_kept, placements_kept};
 ghost use Rattle.gds_reader.specs.Meaning.{first_of, step_of, array_places as the_places};
-ghost use Rattle.gds_reader.specs.declared.drawing.Undrawn.TheVariants.{Rule};
+ghost use Rattle.gds_reader.specs.declared.drawing.Undrawn.TheVariants.{Rule, NoMemory as Wanting};
 ghost use Rattle.gds_reader.specs.Refused.{IsRefusedBy};
 ghost use Rattle.gds_reader.specs.Steppings.{IsNear, IsEvenPart, IsPartOf, IsStepping};
 ghost use Rattle.gds_reader.specs.Values.{Divides, KeepsAref, IsLowest, name_in};
@@ -145,6 +145,7 @@ fn array_places(alloc: Global, element: &Element, points: &[Point]) -> Result<Of
     ensures three { IfOk result (λ _. length points.now ≡ 3) }
     ensures kept { IfOk result (λ _. (rule : ℕ) → KeepsAref element.now.columns element.now.rows points.now rule) }
     ensures broken { (rule : ℕ) → result ≡ Err (Rule rule) → IsLowest (KeepsAref element.now.columns element.now.rows points.now) rule }
+    ensures memory { result ≡ Err Wanting → (rule : ℕ) → KeepsAref element.now.columns element.now.rows points.now rule }
 {
     let [origin, right, up] = points else {
         return Err(Undrawn::Rule(8));

@@ -2,7 +2,7 @@ use Rattle.std.proofs.Common.{◌≡◌, rules, arith, subst}
 use Rattle.half_grid.specs.Outlines.{IsClosed}
 use Rattle.gds_reader.specs.Values.{KeepsBoundary, IsLowest}
 use Rattle.gds_reader.proofs.drawing.shape_of_boundary.Goals as goal
-use Rattle.gds_reader.proofs.DrawLemmas.{slant_lowest}
+use Rattle.gds_reader.proofs.DrawLemmas.{slant_lowest, no_rule_hidden}
 
 pub returns-in-Err-Slant-clause-broken : goal.returns-in-Err-Slant-clause-broken
 returns-in-Err-Slant-clause-broken c = λ rule e.
@@ -10,3 +10,8 @@ returns-in-Err-Slant-clause-broken c = λ rule e.
     let closed : IsClosed c.args.points.now = search rules in
     subst (IsLowest (KeepsBoundary c.args.points.now)) same
     (slant_lowest c.args.points.now c.in-Err-Slant.field-0-0 (omega arith) (omega arith) closed ((c.new.ensures.slant c.in-Err-Slant.field-0-0).0 (cc)))
+
+pub returns-in-Err-NoMemory-clause-memory : goal.returns-in-Err-NoMemory-clause-memory
+returns-in-Err-NoMemory-clause-memory c = λ e rule low.
+    let closed : IsClosed c.args.points.now = search rules in
+    no_rule_hidden c.args.points.now rule (omega arith) (omega arith) closed (λ k first. absurd (let told = (c.new.ensures.slant k).1 first in cc)) low
