@@ -1,0 +1,84 @@
+//! A depot that shows what goes through another one.
+ghost use Rattle.std.specs.Prelude.{◌≡◌};
+
+use crate::screen::Screen;
+use depot::{Depot, DepotBad};
+use std::fs::Files;
+use std::io::Write;
+use std::time::Clock;
+
+/// A depot that answers, tells and counts as another one does, and shows on a screen, where there is one, what is
+/// read and written.
+#[derive(Drop)]
+pub struct ShownDepot<D: Drop, R: Drop, W: Drop> {
+    depot: D,
+    screen: Option<Screen<R, W>>,
+}
+
+impl<D: Depot + Drop, R: Clock + Files + Drop, W: Write + Drop> ShownDepot<D, R, W> {
+    /// The depot, shown on this screen, or on none.
+    pub fn new(depot: D, screen: Option<Screen<R, W>>) -> ShownDepot<D, R, W>
+        ensures content { ⟦<ShownDepot<D, R, W> as Depot>⟧.content result ≡ D.content depot }
+        ensures counts { ⟦<ShownDepot<D, R, W> as Depot>⟧.counts result ≡ D.counts depot }
+    {
+        ShownDepot { depot, screen }
+    }
+
+    /// Takes the line off the screen. The depot is as before.
+    pub fn wipe(&mut self)
+        ensures { self.new.depot ≡ self.old.depot }
+    {
+        if let Some(screen) = &mut self.screen {
+            screen.wipe();
+        }
+    }
+
+    // Says to the screen that bytes were moved.
+    fn advance(&mut self, count: usize)
+        ensures { self.new.depot ≡ self.old.depot }
+    {
+        if let Some(screen) = &mut self.screen {
+            screen.advance(count);
+        }
+    }
+}
+
+impl<D: Depot + Drop, R: Clock + Files + Drop, W: Write + Drop> Depot for ShownDepot<D, R, W> {
+    ghost tells = { D.tells };
+
+    ghost content = { λ s. D.content s.depot };
+
+    ghost counts = { λ s. D.counts s.depot };
+
+    fn start_read(&mut self, name: &str) -> Result<(), DepotBad> {
+        if let Some(screen) = &mut self.screen {
+            screen.start_read(name);
+        }
+        self.depot.start_read(name)
+    }
+
+    fn read(&mut self, buf: &mut [u8]) -> Result<usize, DepotBad> {
+        let count = self.depot.read(buf)?;
+        self.advance(count);
+        Ok(count)
+    }
+
+    fn start_write(&mut self, name: &str) -> Result<(), DepotBad> {
+        if let Some(screen) = &mut self.screen {
+            screen.start_write(name);
+        }
+        self.depot.start_write(name)
+    }
+
+    fn write(&mut self, bytes: &[u8]) -> Result<usize, DepotBad> {
+        let count = self.depot.write(bytes)?;
+        self.advance(count);
+        Ok(count)
+    }
+
+    /// The line is taken away first, since both may go to one terminal.
+    fn say(&mut self, bytes: &[u8]) -> Result<usize, DepotBad> {
+        self.wipe();
+        self.depot.say(bytes)
+    }
+}
