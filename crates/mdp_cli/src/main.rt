@@ -1,26 +1,33 @@
 //! The program: it takes the words of the command, does them over the real files, and ends with the code of the answer.
 #![tactic(auto)]
 
+mod ending;
+mod usage;
+mod words;
+
 use depot::FileDepot;
-use mdp_job::run;
-use std::alloc::Global;
-use std::env;
+use ending::exit_code;
+use progress_line::{Screen, ShownDepot};
+use std::io::{IsTerminal, Stderr};
 use std::process::ExitCode;
+use usage::tell_usage;
+use words::words;
 
-/// The code where the system refuses to hand over the words.
-const NO_WORDS: u8 = 8;
-
-// The words of the command, without the program's own name.
-fn words(rt: &HostRuntime, alloc: Global) -> Option<Vec<String>> {
-    let arguments = env::args(rt).ok()?;
-    arguments.skip(1).collect(alloc).ok()
+// Standard error, where it is a terminal.
+fn screen(rt: HostRuntime) -> Option<Screen<HostRuntime, Stderr>> {
+    let to = rt.stderr();
+    if to.is_terminal() {
+        Some(Screen::new(rt, to))
+    } else {
+        None
+    }
 }
 
 fn main(rt: HostRuntime) -> ExitCode {
-    let alloc = rt.alloc();
-    let Some(words) = words(&rt, alloc) else {
-        return ExitCode::from(NO_WORDS);
-    };
-    let mut depot = FileDepot::new(rt);
-    ExitCode::from(run(alloc, &words, &mut depot).code())
+    let words = words(&rt, rt.alloc());
+    let mut depot = ShownDepot::new(FileDepot::new(rt), screen(rt));
+    let code = exit_code(rt.alloc(), &words, &mut depot);
+    depot.wipe();
+    tell_usage(&rt, code);
+    ExitCode::from(code)
 }
