@@ -76,7 +76,7 @@ MpiDefault=none
 ReturnToService=2
 SlurmdParameters=config_overrides
 SchedulerParameters=sched_min_interval=10000,batch_sched_delay=0
-NodeName=$host NodeAddr=127.0.0.1 CPUs=$(nproc) State=UNKNOWN
+NodeName=$host NodeAddr=127.0.0.1 CPUs=$(nproc) RealMemory=1000 State=UNKNOWN
 PartitionName=all Nodes=ALL Default=YES MaxTime=INFINITE State=UP
 CONF
 export SLURM_CONF=$room/slurm.conf
@@ -143,6 +143,10 @@ ln -sf /dev/full strips/strip-2/out0.oas
 timeout 120 sbatch --wait --array=2 strips/array.sbatch >/dev/null 2>&1
 check 'the status of a strip is that of its task' test $? -eq 5
 check 'and Slurm tells it' grep -q 'JobState=FAILED.*ExitCode=5:0' <(scontrol -o show job | tail -n 1)
+
+"$tools/make_layout" random 100000 strips/layout
+timeout 120 sbatch --wait --array=2 --mem=8 strips/array.sbatch >/dev/null 2>&1
+check 'a strip with too little memory ends with status 6' test "$? $(<strips/strip-2/status)" = '6 6'
 
 printf '%d on Slurm passed, %d failed\n' "$passed" "$failed"
 [ "$failed" -eq 0 ]
