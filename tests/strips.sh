@@ -110,7 +110,7 @@ same 'inverted in a frame with odd and even edges' 5
 deck 'band 1024' 'frame 0 0 1 1' -- 'or NONE_ A B' 'sub STRIP_ NONE_ B' 'or OUT_ STRIP_ A' 'write OUT_ out.oas 1 0' >K
 same 'names that are taken, and a frame that nothing uses' 4
 {
-    printf '# a remark\r\n\n'
+    printf '# a remark \377 \f or A A A\r\n\n'
     deck 'band 1024' -- "$write" | sed 's/ /\t  /; s/$/\r/'
 } >K
 same 'spaces, remarks and line ends' 2
@@ -139,8 +139,8 @@ deck 'band 1024' -- 'write C out.oas 1 0' >K
 strips_refused 'a deck that the program refuses' 'the deck: deck refused: line 6 unknown C'
 deck 'band 1024' -- "$write" >K
 strips_refused 'a layout that the program refuses' 'the layout: layout refused: gdsii' told
-for ((k = 0; k < 250; k++)); do echo "or X$k A B"; done >more
-deck 'band 1024' -- "$(<more)" 'or Y A B' 'or Z A B' "$write" >K
+for ((k = 0; k < 254; k++)); do echo "layer X$k $k 1"; done >more
+deck 'band 1024' -- "$(<more)" "$write" >K
 strips_refused 'too many definitions' 'the deck has no room for 3 more definitions'
 
 # What isn't whole isn't joined.
