@@ -4,7 +4,7 @@
 Layouts of both formats, decks and shot files are cut, spliced, and changed in some bytes, numbers or lines. Whatever they
 are then, the program must end with a status from 0 to 7 within 10 seconds of the processor and 1 GB. With another status
 than 0 it must say one line, that of the status, and with 1 to 3 it must leave no file. After status 0 of `fracture`, `check`
-must find each file exact and say the same sums, and `shots` must list it.
+must find each file exact and say the same sums, `shots` must list it, and another band must give as many triangles.
 
 A run that was accepted may take long by right, since a few bytes can ask for very many shots: where its output is begun, or
 its file has reached 64 MB, it is counted as long and isn't a fault. The seed is printed, and what fails is kept in the
@@ -176,6 +176,26 @@ def fault_of_answer(status, said):
     return None
 
 
+def triangles(outputs):
+    return [line.split()[-1] for line in outputs]
+
+
+def fault_in_other_band(program, folder, outputs):
+    """The same deck with another band must give as many triangles."""
+    with open(os.path.join(folder, "K"), "rb") as file:
+        lines = [line for line in file.read().split(b"\n") if line.split()[:1] != [b"band"]]
+    first = next(k for k, line in enumerate(lines) if line.split()[:1] == [b"unit"])
+    lines.insert(first, b"band 65536" if len(lines) % 2 else b"band 4097")
+    write(folder, "J", b"\n".join(lines))
+    status, said = ask(program, ["fracture", "L", "J"], folder)
+    if status is None:
+        raise Long
+    others = [line for line in said if line.startswith("output ")]
+    if status != 0 or triangles(others) != triangles(outputs):
+        return f"with another band, status {status} and triangles {triangles(others)} in place of {triangles(outputs)}"
+    return None
+
+
 def fault_of_fracture(program, folder, counts):
     """What is wrong with `fracture` and what follows it, or nothing."""
     status, said = ask(program, ["fracture", "L", "K"], folder)
@@ -197,7 +217,7 @@ def fault_of_fracture(program, folder, counts):
         status, listed = ask(program, ["shots", name], folder)
         if status != 0 or listed[-1] != f"shots {sums}":
             return f"shots of {name} ended with status {status}: {listed[-1:]}"
-    return None
+    return fault_in_other_band(program, folder, outputs)
 
 
 def try_case(program, chance, folder, begin, counts):
