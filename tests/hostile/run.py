@@ -21,13 +21,18 @@ import time
 HERE = os.path.dirname(os.path.abspath(__file__))
 sys.path.insert(0, HERE)
 import decks
+import further
 import geometry
 import names
 import repetitions
 import trees
 
 MEMORY, SECONDS = 4 << 30, 60
-CASES = [case for module in (names, repetitions, trees, geometry, decks) for case in module.CASES]
+CASES = [case for module in (names, repetitions, trees, geometry, decks, further) for case in module.CASES]
+
+
+class Skipped(Exception):
+    """Why a case can't be run."""
 
 
 def beyond():
@@ -68,6 +73,8 @@ def run(program, make):
             status, said, seconds, memory = answer(program, words)
         finally:
             os.chdir(home)
+    if status == 1 and wanted != 1 and said == "words refused":
+        raise Skipped("the program doesn't know these words")
     measured = f"{seconds:.2f} s, {memory:.0f} MB"
     if status < 0:
         out_of_time = -status in (signal.SIGXCPU, signal.SIGKILL)
@@ -90,7 +97,14 @@ def main(program, words):
     begun = time.monotonic()
     cases = chosen(words)
     for name, _, make in cases:
-        measured, fault = run(program, make)
+        try:
+            measured, fault = run(program, make)
+        except FileNotFoundError as missing:
+            print(f"skipped: {name}, since there is no {missing.filename}", flush=True)
+            continue
+        except Skipped as why:
+            print(f"skipped: {name}, since {why}", flush=True)
+            continue
         if fault is None:
             print(f"{measured}: {name}" + (", which beyond.txt doesn't expect" if name in known else ""), flush=True)
         elif name in known:
