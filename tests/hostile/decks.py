@@ -25,6 +25,14 @@ def grown_layout(count, band):
     return FRACTURE, 0, f"output out.oas shots .."
 
 
+def framed(count, reach, is_apart):
+    """An inverted layer in a narrow frame of many bands, beside which all shapes are, in the top cell or in one of their own."""
+    shapes = b"".join(box(20 * k, 0, 20 * k + 10, 10) for k in range(count))
+    gds(*([cell("SHAPES", shapes), cell("TOP", place("SHAPES"))] if is_apart else [cell("TOP", shapes)]))
+    deck("band 1024", f"frame -2000 {-reach} -1000 {reach}", "layer A 1 0", "invert C A", "write C out.oas 1 0")
+    return FRACTURE, 0, f"output out.oas shots {reach // 512} triangles {4000 * reach}"
+
+
 def mirrored(times):
     """A square beside its image, both beside theirs, and so on: 2^times squares in a row."""
     gds(cell("TOP", polygon(SQUARE)))
@@ -52,6 +60,8 @@ CASES = [
     ("a square grown by 65,536 255 times, band 1024", False, lambda: grown(255, 1024)),
     ("10,000 squares grown by 65,536, band 1048576", True, lambda: grown_layout(10000, 1048576)),
     ("10,000 squares grown by 65,536, band 1024", False, lambda: grown_layout(10000, 1024)),
+    ("100,000 shapes in a cell, beside a frame of 2^31 rows, band 1024", False, lambda: framed(100000, 1 << 30, True)),
+    ("100,000 shapes in the top cell, beside a frame of 2^31 rows, band 1024", False, lambda: framed(100000, 1 << 30, False)),
     ("a row doubled 20 times by its mirror image", False, lambda: mirrored(20)),
     ("a deck of 65,536 bytes", True, longest),
 ]
