@@ -67,9 +67,12 @@ def counted(repetition, count, times):
 
 
 CASES = [
-    ("a list of 1,000 moves in rectangles that nothing reaches, 1,000 times", True, lambda: unreached_rectangles(moves(1000), 1000)),
-    ("a list of 100,000 moves in rectangles that nothing reaches, 20,000 times", False, lambda: unreached_rectangles(moves(100000), 20000)),
-    ("a list of 100,000 spaces in rectangles that nothing reaches, 20,000 times", False, lambda: unreached_rectangles(spaces(100000), 20000)),
+    ("a list of 1,000 moves in rectangles that nothing reaches, 1,000 times", True,
+     lambda: unreached_rectangles(moves(1000), 1000)),
+    ("a list of 100,000 moves in rectangles that nothing reaches, 20,000 times", False,
+     lambda: unreached_rectangles(moves(100000), 20000)),
+    ("a list of 100,000 spaces in rectangles that nothing reaches, 20,000 times", False,
+     lambda: unreached_rectangles(spaces(100000), 20000)),
     ("a list of 100,000 moves on an unwanted pair, 100,000 times", False, lambda: unwanted_rectangles(moves(100000), 100000)),
     ("a list of 100,000 spaces on an unwanted pair, 100,000 times", False, lambda: unwanted_rectangles(spaces(100000), 100000)),
     ("a list of 100,000 moves in texts, 100,000 times", False, lambda: texts(moves(100000), 100000)),
