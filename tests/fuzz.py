@@ -8,7 +8,7 @@ must find each file exact and say the same sums, `shots` must list it, and anoth
 
 A run that was accepted may take long by right, since a few bytes can ask for very many shots: where its output is begun, or
 its file has reached 64 MB, it is counted as long and isn't a fault. The seed is printed, and what fails is kept in the
-folder fuzz-SEED of the working folder, a folder a case, with its words.
+folder fuzz-SEED of the working folder, a folder a case: F for `shots`, L and K for `fracture` and `check`.
 """
 import os
 import random
