@@ -47,9 +47,12 @@ example: $(PROGRAM)
 pictures: $(PROGRAM)
 	tools/pictures $(PROGRAM)
 
-# The program against a plain one on random small layouts, and with each allocation and each call for a file refused.
+# The program against a plain one on random small layouts, against KLayout where it is installed, and with each allocation
+# and each call for a file refused.
 compare: $(PROGRAM)
 	tests/plain.py $(PROGRAM) 200
+	tests/klayout.sh $(PROGRAM)
+	tests/readable.py $(PROGRAM)
 	tests/refusals.sh $(PROGRAM)
 
 # Layouts, decks and shot files made to take as much time and memory as they can, with limits of both.
@@ -75,7 +78,8 @@ $(BENCH): $(SOURCES)
 	cd crates/bench && { $(RT) run; test -x out/bench; }
 	cp crates/bench/out/bench $(BENCH)
 
-# Single layers, timed on inputs that the program makes in memory; then whole runs on layouts in build/bench.
+# Single layers, timed on inputs that the program makes in memory; then whole runs on layouts in build/bench, beside KLayout
+# and Boost.Polygon where they are installed.
 bench: $(BENCH) $(PROGRAM)
 	$(BENCH) gds 1000000
 	$(BENCH) oasis 4000000

@@ -104,7 +104,8 @@ static void add_path(Shapes &shapes, const Element &element) {
         int ax = p[k] - dx * before, ay = p[k + 1] - dy * before;
         int bx = p[k + 2] + dx * after, by = p[k + 3] + dy * after;
         int wide = dy ? half : 0, high = dx ? half : 0;
-        add_box(shapes, std::min(ax, bx) - wide, std::min(ay, by) - high, std::max(ax, bx) + wide, std::max(ay, by) + high);
+        add_box(shapes, std::min(ax, bx) - wide, std::min(ay, by) - high, std::max(ax, bx) + wide,
+                std::max(ay, by) + high);
     }
 }
 
@@ -178,6 +179,14 @@ static Move followed(const Move &outer, const Reference &reference, int dx, int 
             outer.d * a + outer.e * d, outer.d * b + outer.e * e, outer.d * dx + outer.e * dy + outer.f};
 }
 
+// Where a place of an array is, in x (axis 0) or y (axis 1).
+static int place(const Reference &it, int axis, int column, int row) {
+    int at = it.at[axis];
+    if (it.columns > 1) at += column * ((it.at[2 + axis] - it.at[axis]) / it.columns);
+    if (it.rows > 1) at += row * ((it.at[4 + axis] - it.at[axis]) / it.rows);
+    return at;
+}
+
 static void flatten(const Cells &cells, const std::string &name, const Move &move, Shapes &out) {
     const Cell &cell = cells.at(name);
     const std::vector<int> &p = cell.shapes.coordinates;
@@ -192,10 +201,7 @@ static void flatten(const Cells &cells, const std::string &name, const Move &mov
     for (const Reference &it : cell.references) {
         for (int row = 0; row < it.rows; row++) {
             for (int column = 0; column < it.columns; column++) {
-                int dx = it.at[0], dy = it.at[1];
-                if (it.columns > 1) dx += column * ((it.at[2] - it.at[0]) / it.columns), dy += column * ((it.at[3] - it.at[1]) / it.columns);
-                if (it.rows > 1) dx += row * ((it.at[4] - it.at[0]) / it.rows), dy += row * ((it.at[5] - it.at[1]) / it.rows);
-                flatten(cells, it.name, followed(move, it, dx, dy), out);
+                flatten(cells, it.name, followed(move, it, place(it, 0, column, row), place(it, 1, column, row)), out);
             }
         }
     }
@@ -212,7 +218,8 @@ static std::vector<Polygon> united_45(const Shapes &shapes) {
     for (size_t end : shapes.ends) {
         const int *p = &shapes.coordinates[begin];
         if (is_box(p, end - begin)) {
-            set.insert(poly::rectangle_data<int>(std::min(p[0], p[4]), std::min(p[1], p[5]), std::max(p[0], p[4]), std::max(p[1], p[5])));
+            int x0 = std::min(p[0], p[4]), y0 = std::min(p[1], p[5]);
+            set.insert(poly::rectangle_data<int>(x0, y0, std::max(p[0], p[4]), std::max(p[1], p[5])));
         } else {
             std::vector<Point> points;
             for (size_t k = 0; k < end - begin; k += 2) points.emplace_back(p[k], p[k + 1]);
@@ -243,7 +250,8 @@ static std::vector<Polygon> united_90(const Shapes &shapes) {
     set.get_rectangles(boxes, poly::HORIZONTAL);
     std::vector<Polygon> out;
     for (const auto &box : boxes) {
-        Point points[4] = {{poly::xl(box), poly::yl(box)}, {poly::xh(box), poly::yl(box)}, {poly::xh(box), poly::yh(box)}, {poly::xl(box), poly::yh(box)}};
+        int x0 = poly::xl(box), y0 = poly::yl(box), x1 = poly::xh(box), y1 = poly::yh(box);
+        Point points[4] = {{x0, y0}, {x1, y0}, {x1, y1}, {x0, y1}};
         Polygon polygon;
         polygon.set(points, points + 4);
         out.push_back(polygon);
