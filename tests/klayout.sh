@@ -2,7 +2,7 @@
 # A second opinion: KLayout reads layouts and shots, works the areas out with its own operations on doubled coordinates, and
 # compares. The examples, the pictures' decks and COUNT random layouts with their decks (30 where it is missing, the first
 # with the number FIRST, half of them as OASIS files) are judged; where the program has `pack` and `split`, so are packed
-# files and the union of stripes.
+# files and the union of stripes. What tools/adapt writes must be read.
 #
 #     usage: tests/klayout.sh PROGRAM [COUNT [FIRST]]
 set -u
@@ -90,6 +90,28 @@ for ((number = first; number < first + count; number++)); do
         case_of "$room/$number" G.oas K
     fi
 done
+
+# A layout with all that tools/adapt changes: it is read once that has written it, with steps and without.
+"$top/tools/gds" odd.gds <<'END'
+cell LEAF
+boundary 1 0 0,0 100,0 300,170
+cell TOP
+box 2 0 0,0 100,100
+path 3 0 type=1 width=40 0,0 0,300 500,300
+path 4 0 width=40 0,0 0,300 500,500
+boundary 5 0 0,0 1000,0 700,331
+sref LEAF angle=422D000000000000 1000,1000
+sref LEAF angle=90 mag=3 2000,2000
+sref LEAF angle=90 mag=40C0000000000000 2000,2000
+END
+adapted() {
+    "$top/tools/adapt" odd.gds "$1" ${2+"$2"} >/dev/null && "$top/tools/readable" "$1" "$program" >odd.said && return
+    printf 'FAILED: tools/adapt odd.gds %s\n' "$*"
+    cat odd.said
+    failed=$((failed + 1))
+}
+adapted steps.gds 10
+adapted steps.oas 10
 
 [ $packs = yes ] || echo 'skipped: packed files, since the program has no command pack'
 [ $splits = yes ] || echo 'skipped: stripes, since the program has no command split'

@@ -62,20 +62,37 @@ def is_plain_reference(reference):
     return is_whole and abs(move.angle - round(move.angle / 90.0) * 90.0) < 1e-9
 
 
+def moves_of(reference):
+    """How each copy of an array, or the one of a single reference, is placed."""
+    for column in range(max(1, reference.na)):
+        for row in range(max(1, reference.nb)):
+            yield pya.ICplxTrans(reference.a * column + reference.b * row) * reference.cplx_trans
+
+
+def copy_shapes(layout, cell, child, moves):
+    """Puts all that the child and the cells below it have into the cell."""
+    for index in layout.layer_indexes():
+        for move in moves:
+            shapes = child.begin_shapes_rec(index)
+            while not shapes.at_end():
+                cell.shapes(index).insert(shapes.shape(), move * shapes.trans())
+                shapes.next()
+
+
 def adapt_references(layout, counts):
-    """Other references are made shapes, from the top down, since what they place is then turned in their place."""
-    for index in layout.each_cell_top_down():
+    """Other references are made shapes, with all that they place."""
+    for index in [index for index in layout.each_cell_bottom_up()]:
         cell = layout.cell(index)
-        while True:
-            others = [reference for reference in cell.each_inst() if not is_plain_reference(reference)]
-            if not others:
-                break
-            others[0].explode()
-            counts["references made shapes"] += 1
+        others = [reference for reference in cell.each_inst() if not is_plain_reference(reference)]
+        for reference in others:
+            copy_shapes(layout, cell, reference.cell, list(moves_of(reference)))
+        for reference in others:
+            reference.delete()
+        counts["references made shapes"] += len(others)
 
 
 def main():
-    layout, counts = pya.Layout(), dict.fromkeys(
+    layout, counts = pya.Layout(True), dict.fromkeys(
         ("references made shapes", "paths made polygons", "polygons given steps", "polygons put on another datatype"), 0)
     layout.read(source)
     adapt_references(layout, counts)
