@@ -5,6 +5,8 @@ KLayout counts them in the files: how many shots, and their area in triangles of
 """
 import pya
 
+# A panel of more files than this has one line, with their sums.
+MOST_LINES = 4
 COLOURS = [0x1F77B4, 0xD62728, 0x2CA02C, 0x9467BD, 0xFF7F0E, 0x17BECF]
 
 
@@ -81,14 +83,18 @@ def load_layout(view, name, deck):
 
 def load_panel(view, names, move, first):
     """Opens shots of some files; gives their layers, their box, and what is said of them."""
-    layers, box, said = [], pya.DBox(), []
+    layers, box, said, sums = [], pya.DBox(), [], [0, 0]
     for k, name in enumerate(names):
         number, layout = load(view, name)
         box += layout.top_cell().dbbox()
         for info in layout.layer_infos():
             source = f"{info.layer}/{info.datatype}@{number + 1}"
             layers.append((source, COLOURS[(first + k) % len(COLOURS)], move))
-        said.append("output %s shots %d triangles %d" % (name, *numbers(layout)))
+        shots, triangles = numbers(layout)
+        said.append(f"output {name} shots {shots} triangles {triangles}")
+        sums = [sums[0] + shots, sums[1] + triangles]
+    if len(names) > MOST_LINES:
+        said = [f"{len(names)} files shots {sums[0]} triangles {sums[1]}"]
     return layers, box.moved(move, 0.0), said
 
 
