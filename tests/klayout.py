@@ -1,6 +1,6 @@
 """Judges shot files by KLayout's own operations; tests/klayout.sh runs it inside KLayout.
 
-    klayout -b -rd list=FILE -rd stripe=SIZE -r tests/klayout.py
+    klayout -b -rd cases=FILE -rd stripe=SIZE -r tests/klayout.py
 
 Each line of FILE names a folder, a layout and a deck in it, whose outputs stand in the folder. For each output KLayout
 reads the layout and works out the area of the deck on doubled coordinates, and reads the shots. Asked is that both areas
@@ -178,14 +178,14 @@ def judge(folder, layout, deck, size):
 def main(names, size):
     failed = files = 0
     with open(names) as lines:
-        cases = [line.split() for line in lines]
-    for folder, layout, deck in cases:
+        folders = [line.split() for line in lines]
+    for folder, layout, deck in folders:
         faults, count = judge(folder, layout, deck, size)
         files += count
         failed += bool(faults)
         for it in faults:
             print(f"FAILED: {folder}/{deck}: {it}")
-    print(f"KLayout {pya.Application.instance().version().split()[-1]}: {len(cases)} decks, {files} files, {failed} failed")
+    print(f"KLayout {pya.Application.instance().version().split()[-1]}: {len(folders)} decks, {files} files, {failed} failed")
 
 
-main(list, int(stripe))
+main(cases, int(stripe))

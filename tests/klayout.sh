@@ -61,7 +61,7 @@ case_of() {
         for file in $(awk '$1 == "write" { print $3 }' "$3"); do
             derived "$file"
         done
-        printf '%s %s %s\n' "$1" "$2" "$3" >>"$room/list"
+        printf '%s %s %s\n' "$1" "$2" "$3" >>"$room/cases"
     fi
     cd "$room" || exit 1
 }
@@ -115,5 +115,5 @@ adapted steps.oas 10
 
 [ $packs = yes ] || echo 'skipped: packed files, since the program has no command pack'
 [ $splits = yes ] || echo 'skipped: stripes, since the program has no command split'
-klayout -b -rd list="$room/list" -rd stripe=$stripe -r "$top/tests/klayout.py" | tee "$room/said"
+klayout -b -rd cases="$room/cases" -rd stripe=$stripe -r "$top/tests/klayout.py" | tee "$room/said"
 grep -q ', 0 failed$' "$room/said" && [ "$failed" -eq 0 ]
