@@ -1,4 +1,4 @@
-# Tries, tests and builds the program with the kit, and runs it on the example.
+# Tries, tests, proves, builds, packs and measures the program. `make help` lists the targets.
 
 # the kit's command: the one on PATH, else where the kit stands
 RT := $(shell command -v rt 2>/dev/null || echo /opt/rattle/bin/rt)
@@ -7,12 +7,38 @@ PROGRAM := build/nettletide
 BENCH := build/bench
 SOURCES := crates.txt HANDLES $(shell find crates -name out -prune -o \( -name '*.rt' -o -name '*.antt' \) -print)
 
-.PHONY: all try test example pictures compare hostile fuzz slurm bench agree clean
+VERSION := $(shell cat VERSION)
+
+# where `make install` puts the program, its man page and its documents
+PREFIX := /usr/local
+
+.PHONY: all help try test check gate example system readme pictures compare hostile fuzz slurm bench agree install dist clean
 
 # how large the layouts of `make bench` are: small, or large, which has up to 16 million shots
 SIZE := small
 
 all: $(PROGRAM)
+
+help:
+	@echo 'make                 proves and builds the program, build/nettletide'
+	@echo 'make try             runs it on the example with nothing proved'
+	@echo 'make test            runs the tests of all crates, or of CRATE=NAME, with nothing proved'
+	@echo 'make check CRATE=N   proves one crate, over what was proved before'
+	@echo 'make gate CRATE=N    passes the gate with one crate and those below it: proofs, edits that must fail, tests'
+	@echo 'bash .ci/run         passes the gate with all, and the checks of the repository'
+	@echo 'make example         runs the built program on example/'
+	@echo 'make system          checks the built program: answers, statuses, files, and what the system refuses'
+	@echo 'make readme          runs the commands of README.md and compares what they print'
+	@echo 'make compare         compares it with a plain program, and refuses each allocation and each call for a file'
+	@echo 'make hostile         gives it layouts that are made to be hard'
+	@echo 'make fuzz            gives it broken files'
+	@echo 'make slurm           runs strips on the batch system Slurm, where it is installed'
+	@echo 'make agree           sweeps random cases in columns and at once, and compares'
+	@echo 'make bench           measures single layers and whole runs; SIZE=large for the large layouts'
+	@echo 'make pictures        draws the pictures of docs/'
+	@echo 'make install         puts program, man page and documents under PREFIX, /usr/local if not given'
+	@echo 'make dist            packs them into build/nettletide-$(VERSION).tar.gz, with a checksum'
+	@echo 'make clean           takes build/ away, and what the example wrote'
 
 # The kit proves the program before it builds it, and then runs it. Without words the program ends with status 1, so
 # what tells of success is that a program stands there.
@@ -29,12 +55,22 @@ try:
 	cd crates/mdp_cli && $(RT) try -- fracture $(CURDIR)/example/square.gds $(CURDIR)/build/try.deck
 	@echo 'Nothing was proved here. make example proves and builds the program, and bash .ci/run proves and tests all.'
 
-# The kit runs each crate's tests without any proof.
+# The kit runs each crate's tests, or those of CRATE, without any proof.
 test:
-	@for crate in $$(grep -rl --include='*.rt' '#\[test\]' crates/*/src | cut -d/ -f2 | sort -u); do \
+	@for crate in $$(grep -rl --include='*.rt' '#\[test\]' crates/$(or $(CRATE),*)/src | cut -d/ -f2 | sort -u); do \
 	    echo "$$crate"; (cd crates/$$crate && $(RT) try --test) || exit 1; \
 	done
 	@echo 'Nothing was proved here. bash .ci/run proves and tests all.'
+
+# One crate is proved.
+check:
+	@test -n '$(CRATE)' || { echo 'which crate? make check CRATE=NAME, a name of crates.txt'; exit 1; }
+	cd crates/$(CRATE) && $(RT) check
+
+# One crate and those below it pass the gate.
+gate:
+	@test -n '$(CRATE)' || { echo 'which crate? make gate CRATE=NAME, a name of crates.txt'; exit 1; }
+	$(RT) ci $(CRATE)
 
 # A square, and a block of standard cells.
 example: $(PROGRAM)
@@ -42,6 +78,14 @@ example: $(PROGRAM)
 	wc -c example/square.oas
 	tools/gds example/block.gds <example/block.txt
 	cd example && ../$(PROGRAM) fracture block.gds block.deck
+
+# The built program on small inputs, with files that the system refuses.
+system: $(PROGRAM)
+	tests/system.sh $(PROGRAM)
+
+# The commands of README.md, each with what it prints.
+readme: $(PROGRAM)
+	tests/readme.sh $(PROGRAM)
 
 # The pictures of docs/, drawn from what the program writes.
 pictures: $(PROGRAM)
@@ -96,6 +140,24 @@ bench: $(BENCH) $(PROGRAM)
 agree: $(BENCH)
 	$(BENCH) agree 1000 | tee build/agree.txt
 	grep -q 'both ways' build/agree.txt
+
+# The program, its man page and its documents.
+install: $(PROGRAM)
+	install -d $(DESTDIR)$(PREFIX)/bin $(DESTDIR)$(PREFIX)/share/man/man1 $(DESTDIR)$(PREFIX)/share/doc/nettletide/pictures
+	install -m 755 $(PROGRAM) $(DESTDIR)$(PREFIX)/bin/nettletide
+	install -m 644 docs/nettletide.1 $(DESTDIR)$(PREFIX)/share/man/man1
+	install -m 644 VERSION CHANGELOG.md docs/*.md $(DESTDIR)$(PREFIX)/share/doc/nettletide
+	install -m 644 docs/pictures/*.svg $(DESTDIR)$(PREFIX)/share/doc/nettletide/pictures
+
+# The same in an archive, with its checksum.
+dist: PACKED := nettletide-$(VERSION)
+dist: $(PROGRAM)
+	rm -rf build/$(PACKED)
+	$(MAKE) --no-print-directory install DESTDIR= PREFIX=build/$(PACKED)
+	tar -C build --sort=name --owner=0 --group=0 --numeric-owner --mtime="@$$(git log -1 --format=%ct)" \
+	    -czf build/$(PACKED).tar.gz $(PACKED)
+	cd build && sha256sum $(PACKED).tar.gz >$(PACKED).tar.gz.sha256
+	cat build/$(PACKED).tar.gz.sha256
 
 # What the kit has proved stays in crates/*/out, since to prove it again takes minutes.
 clean:
