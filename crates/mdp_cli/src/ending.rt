@@ -8,10 +8,10 @@ use mdp_job::run;
 use std::alloc::Global;
 
 /// The number where there are no words.
-pub const NO_WORDS: u8 = 8;
+pub(crate) const NO_WORDS: u8 = 8;
 
 /// Does what the words say, and gives the number with which the program ends: that of the answer, or `NO_WORDS`.
-pub fn exit_code<D: Depot>(alloc: Global, words: &Option<Vec<String>>, depot: &mut D) -> u8
+pub(crate) fn exit_code<D: Depot>(alloc: Global, words: &Option<Vec<String>>, depot: &mut D) -> u8
     ensures no_words { IsNone words.now → result ≡ NO_WORDS }
     ensures end { IfSome words.now (λ w. IsEnd D.tells
         (run_of (D.content depot.old) (D.content depot.new) (D.counts depot.old) (D.counts depot.new))

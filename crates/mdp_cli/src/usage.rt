@@ -16,7 +16,7 @@ share/doc/nettletide/ where the program was installed. FORMATS.md beside it has 
 
 /// Tells on standard error how the program is used, where that number says that the words are no command. A refusal is
 /// passed over.
-pub fn tell_usage(rt: &impl Eprint, code: u8) {
+pub(crate) fn tell_usage(rt: &impl Eprint, code: u8) {
     if code == REFUSED_WORDS {
         let _told = rt.eprintln(USAGE);
     }
