@@ -4,6 +4,8 @@
 #     tests/readme.sh PROGRAM    runs the blocks marked `console`, with this program as `nettletide`
 #     tests/readme.sh            runs the blocks marked `sh` first, which prove and build the program: hours
 #
+# Each file that README.md names in backquotes, with a folder before it or .md at its end, must be there.
+#
 # In a `console` block a line that begins with `$ ` is a command, and the lines up to the next one are its whole output.
 set -u
 program=${1:+$(realpath "$1")}
@@ -35,6 +37,12 @@ count=$(find "$room/wanted" -name '*.command' | wc -l)
 
 failed=0
 cd "$room/copy" || exit 1
+for name in $(grep -oE '`[A-Za-z_./]+`' README.md | tr -d '`' | grep -E '^(tests|tools|docs)/.|\.md$' | sort -u); do
+    if [ ! -e "$name" ] && [ ! -e "docs/$name" ]; then
+        printf 'FAILED: README.md names %s, which is not there\n' "$name"
+        failed=$((failed + 1))
+    fi
+done
 for n in $(seq "$count"); do
     command=$(cat "$room/wanted/$n.command")
     if ! eval "$command" >"$room/printed" 2>&1 || ! diff -u "$room/wanted/$n.output" "$room/printed"; then
@@ -42,5 +50,5 @@ for n in $(seq "$count"); do
         failed=$((failed + 1))
     fi
 done
-printf '%d commands of README.md, %d failed\n' "$count" "$failed"
+printf '%d commands of README.md, %d failures\n' "$count" "$failed"
 [ "$failed" -eq 0 ]
