@@ -10,8 +10,8 @@ use Rattle.mdp_job.specs.declared.status.Status.TheVariants as answers
 -- The program's number is that of an answer to its words, for which the promises of the command hold.
 pub record IsEnd (tells : Bool) (r : Run) (words : List (List ℕ)) (number : ℕ) : Type 0 where
   pub answer : Status
-  pub number : number ≡ code_of answer
-  pub words : (answer ≡ answers.Words) ↔ IsNoCommand words
+  pub is : number ≡ code_of answer
+  pub refused : (answer ≡ answers.Words) ↔ IsNoCommand words
   pub cover : IsTrue tells → Covers r words answer
   pub certificate : IsTrue tells → Certifies r words answer
   pub report : IsTrue tells → Reports r words answer
