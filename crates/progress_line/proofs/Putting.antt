@@ -1,5 +1,5 @@
 -- Texts that are put at the end of a line, one after another.
-use Rattle.std.proofs.Common.{◌≡◌, ℕ, zero, suc, ◌+◌, ◌-◌, ◌<◌, ◌≤◌, List, [], ◌∷◌, ◌++◌, length, take, map, min, drop, codes, Bool, true, false, IsTrue, nat_le, if◌then◌else◌, slice_set, get_or, refl, sym, ap, subst, ◌∙◌, append_assoc, arith}
+use Rattle.std.proofs.Common.{◌≡◌, ℕ, zero, suc, ◌+◌, ◌-◌, ◌<◌, ◌≤◌, List, [], ◌∷◌, ◌++◌, length, take, map, drop, codes, Bool, true, false, IsTrue, nat_le, if◌then◌else◌, slice_set, get_or, refl, sym, ap, ◌∙◌, append_assoc, arith}
 use Rattle.std.proofs.lemmas.Bool.Decides.{nat_tests}
 use Rattle.std.proofs.lemmas.List.{map-append, take_all, take-append-le, take_more, take_more_set, length-append, length-drop, length-take-le, append-nil}
 use Rattle.progress_line.specs.Text.{shown, put, short_name}

@@ -43,7 +43,7 @@ impl FileLine {
         }
     }
 
-    /// So many more bytes are done.
+    /// That many more bytes are done.
     pub fn advance(&mut self, count: usize)
         ensures done { self.new.done ≡ min (self.old.done + count) (2 ^ 64 - 1) }
         ensures label { self.new.label ≡ self.old.label }

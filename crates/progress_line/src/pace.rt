@@ -25,6 +25,13 @@ impl Pace {
         }
     }
 
+    /// Whether this second comes after the last one.
+    pub fn is_new(&self, second: u64) -> bool
+        ensures { IsTrue result ↔ self.now.second < second }
+    {
+        self.second < second
+    }
+
     /// Whether a line may be shown in this second. A second before the last one counts as the last one.
     pub fn is_due(&mut self, second: u64) -> bool
         ensures due { IsTrue result ↔ 0 < refilled self.old.left self.old.second second }

@@ -59,13 +59,19 @@ impl<R: Clock + Files + Drop, W: Write + Drop> Screen<R, W> {
         self.show();
     }
 
-    /// So many more bytes of the file are read or written.
+    /// That many more bytes of the file are read or written. They are shown once a second, so that what is saved up of
+    /// the pace is left for the names of files.
     pub fn advance(&mut self, count: usize)
         ensures label { self.new.file.label ≡ self.old.file.label }
         ensures done { self.new.file.done ≡ min (self.old.file.done + count) (2 ^ 64 - 1) }
     {
         self.file.advance(count);
-        self.show();
+        let Ok(time) = self.rt.monotonic() else {
+            return;
+        };
+        if self.pace.is_new(time.as_secs()) {
+            self.show();
+        }
     }
 
     /// Takes the line away.

@@ -1,4 +1,4 @@
-use Rattle.std.proofs.Common.{◌≡◌, ap, sym}
+use Rattle.std.proofs.Common.{ap, sym}
 use Rattle.progress_line.specs.Text.{amount}
 use Rattle.progress_line.proofs.Putting.{put_as, put_three}
 use Rattle.progress_line.proofs.file.put_amount.Goals as goal

@@ -1,4 +1,4 @@
-use Rattle.std.proofs.Common.{◌≡◌, ◌∙◌}
+use Rattle.std.proofs.Common.{◌∙◌}
 use Rattle.progress_line.proofs.Putting.{put_as, put_three}
 use Rattle.progress_line.proofs.file.put_megabytes.Goals as goal
 

@@ -1,4 +1,3 @@
-use Rattle.std.proofs.Common.{◌≡◌}
 use Rattle.progress_line.proofs.Putting.{put_as, put_two, long_name}
 use Rattle.progress_line.proofs.file.put_name.Goals as goal
 

@@ -1,4 +1,3 @@
-use Rattle.std.proofs.Common.{◌≡◌, ◌∙◌}
 use Rattle.progress_line.proofs.Putting.{put_first, put_three}
 use Rattle.progress_line.proofs.file.FileLine.line.Goals as goal
 

@@ -1,4 +1,4 @@
-use Rattle.std.proofs.Common.{◌≡◌, ◌∙◌, ap}
+use Rattle.std.proofs.Common.{ap}
 use Rattle.progress_line.specs.Text.{short_name}
 use Rattle.progress_line.proofs.Putting.{put_as, put_first, put_two, put_three}
 use Rattle.progress_line.proofs.file.FileLine.new.Goals as goal

@@ -1,4 +1,4 @@
-use Rattle.std.proofs.Common.{◌≡◌, ◌≤◌, ◌∙◌, subst, sym, arith}
+use Rattle.std.proofs.Common.{◌≤◌, subst, sym}
 use Rattle.progress_line.proofs.Putting.{put_nothing, used_length, put_next}
 use Rattle.progress_line.proofs.line.Line.put.Goals as goal
 
