@@ -1,5 +1,5 @@
 -- What a line of progress says: `reading NAME: 1.5 of 20.0 MB` or `writing NAME: 1.5 MB`.
-use Rattle.std.specs.Prelude.{ℕ, ◌+◌, ◌-◌, ◌/◌, ◌%◌, List, [], Option, Some, None, ◌++◌, ◌&&◌, codes, decimal, length, drop, map, take, nat_le, if◌then◌else◌}
+use Rattle.std.specs.Prelude.{ℕ, ◌-◌, ◌/◌, ◌%◌, List, [], Option, Some, None, ◌++◌, ◌&&◌, codes, decimal, length, drop, map, take, nat_le, if◌then◌else◌}
 
 -- a visible ASCII character or a space as it is, and another byte as `?`
 abbrev pub shown : ℕ → ℕ
