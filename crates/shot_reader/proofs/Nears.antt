@@ -7,7 +7,7 @@ use Rattle.oas_lex.proofs.ForCallers.{width_near, rows_near, left_near, right_ne
 use Rattle.shot_reader.specs.Fields.{HasShape}
 use Rattle.shot_reader.specs.Near.{AreNear}
 
-own_near : (l d : ℕ) (z : Trapezoid) → IsShot z → AreNear (fields_of l d z)
+pub own_near : (l d : ℕ) (z : Trapezoid) → IsShot z → AreNear (fields_of l d z)
 own_near l d z h = record {
   width = width_near z h;
   height = rows_near z h;

@@ -107,7 +107,7 @@ fn trap_with(corners: &Corners) -> Option<Trap>
 }
 
 /// The shot that the fields name. None exactly where they are those of no shot.
-pub(crate) fn trap_of(fields: &ShotFields) -> Option<Trap>
+pub fn trap_of(fields: &ShotFields) -> Option<Trap>
     ensures some { IfSome result (λ z. IsShot z × HasShape fields.now z) }
     ensures all { (z : Trapezoid) → IsShot z → HasShape fields.now z → IsSome result }
 {

@@ -6,7 +6,7 @@ ghost use Rattle.oas_lex.specs.ShotText.{AreNarrow, delta_text, text_of};
 use oas_lex::{ShotFields, TRAPEZOID, TRAPEZOID_A, TRAPEZOID_B, signed, unsigned};
 
 /// Whether the text stands among the bytes at `at`.
-pub(crate) fn stands_at(bytes: &[u8], at: usize, text: &[u8]) -> bool
+pub fn stands_at(bytes: &[u8], at: usize, text: &[u8]) -> bool
     requires { at ≤ length bytes.now }
     ensures stands { IsTrue result → drop at bytes.now ≡ text.now ++ drop (at + length text.now) bytes.now }
     ensures within { IsTrue result → at + length text.now ≤ length bytes.now }
@@ -15,8 +15,8 @@ pub(crate) fn stands_at(bytes: &[u8], at: usize, text: &[u8]) -> bool
     bytes[at..].starts_with(text)
 }
 
-// The unsigned number at `at`, and the offset after it. One that can't be read counts as 0, which is spelled otherwise.
-pub(crate) fn unsigned_at(bytes: &[u8], at: usize) -> (u64, usize)
+/// The unsigned number at `at`, and the offset after it. One that can't be read counts as 0, which is spelled otherwise.
+pub fn unsigned_at(bytes: &[u8], at: usize) -> (u64, usize)
     requires { at ≤ length bytes.now }
     ensures within { result.1 ≤ length bytes.now }
     ensures narrow { result.0 < 2 ^ 63 }
@@ -29,8 +29,8 @@ pub(crate) fn unsigned_at(bytes: &[u8], at: usize) -> (u64, usize)
     }
 }
 
-// The signed number at `at`, and the offset after it. One that can't be read counts as 0, which is spelled otherwise.
-fn signed_at(bytes: &[u8], at: usize) -> (i64, usize)
+/// The signed number at `at`, and the offset after it. One that can't be read counts as 0, which is spelled otherwise.
+pub fn signed_at(bytes: &[u8], at: usize) -> (i64, usize)
     requires { at ≤ length bytes.now }
     ensures within { result.1 ≤ length bytes.now }
     ensures narrow { unsigned_abs result.0 < 2 ^ 62 }
@@ -43,8 +43,8 @@ fn signed_at(bytes: &[u8], at: usize) -> (i64, usize)
     }
 }
 
-// The delta at `at`, where the record has it, and the offset after it.
-fn delta_at(bytes: &[u8], at: usize, is_there: bool) -> (i64, usize)
+/// The delta at `at`, where the record has it, and the offset after it.
+pub fn delta_at(bytes: &[u8], at: usize, is_there: bool) -> (i64, usize)
     requires { at ≤ length bytes.now }
     ensures within { result.1 ≤ length bytes.now }
     ensures narrow { unsigned_abs result.0 < 2 ^ 62 }
@@ -66,15 +66,15 @@ fn byte_at(bytes: &[u8], at: usize) -> u8
     bytes[at]
 }
 
-// Whether the record of this id has delta a.
-fn has_left(id: u8) -> bool
+/// Whether the record of this id has delta a.
+pub fn has_left(id: u8) -> bool
     ensures { result ≡ (nat_eq id 23 || nat_eq id 24) }
 {
     id == TRAPEZOID || id == TRAPEZOID_A
 }
 
-// Whether the record of this id has delta b.
-fn has_right(id: u8) -> bool
+/// Whether the record of this id has delta b.
+pub fn has_right(id: u8) -> bool
     ensures { result ≡ (nat_eq id 23 || nat_eq id 25) }
 {
     id == TRAPEZOID || id == TRAPEZOID_B

@@ -15,7 +15,7 @@ const LEAST: u64 = 2;
 const MOST: u64 = 2_000_000;
 
 /// The unit of the head that begins the bytes, and the head's length. None exactly where no head begins them.
-pub(crate) fn head_of(bytes: &[u8]) -> Option<(u32, usize)>
+pub fn head_of(bytes: &[u8]) -> Option<(u32, usize)>
     ensures found { IfSome result (λ r. IsUnit r.0 × (r.1 ≤ length bytes.now) × (bytes.now ≡ head r.0 ++ drop r.1 bytes.now)) }
     ensures read { (unit : ℕ) (after : List ℕ) → IsUnit unit → bytes.now ≡ head unit ++ after → IsSome result }
 {
@@ -89,7 +89,7 @@ fn nearest_unit(bytes: &[u8]) -> u64
 }
 
 /// The length of the longest prefix of the bytes that begins some head.
-pub(crate) fn longest_head(bytes: &[u8]) -> usize
+pub fn longest_head(bytes: &[u8]) -> usize
     ensures begins { BeginsHead bytes.now result }
     ensures longest { (count : ℕ) → BeginsHead bytes.now count → count ≤ result }
 {

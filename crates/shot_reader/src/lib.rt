@@ -10,6 +10,9 @@ mod refusing;
 #[cfg(test)]
 mod tests;
 
+pub use corners::trap_of;
+pub use fields::{delta_at, has_left, has_right, signed_at, stands_at, unsigned_at};
+pub use head::{head_of, longest_head};
 pub use laws::reading_laws;
-pub use reading::{ShotFile, read_shots};
+pub use reading::{ShotFile, ends_at, read_shots};
 pub use refusing::ShotBad;

@@ -81,8 +81,8 @@ fn read_record(bytes: &[u8], at: usize, first: Option<Pair>) -> Result<Record, S
     }
 }
 
-// Whether END, and nothing else, stands at `at`.
-fn ends_at(bytes: &[u8], at: usize) -> bool
+/// Whether END, and nothing else, stands at `at`.
+pub fn ends_at(bytes: &[u8], at: usize) -> bool
     requires { at ≤ length bytes.now }
     ensures { IsTrue result ↔ (drop at bytes.now ≡ end) }
 {
