@@ -1,0 +1,17 @@
+pub mod Texts
+pub mod Unique
+pub mod Wholes
+pub mod Rights
+pub mod Lasts
+pub mod Gifts
+pub mod Numbers
+pub mod Puts
+pub mod Standing
+pub mod Steps
+pub mod Progressing
+pub mod Files
+pub mod Others
+pub mod Repeated
+pub mod Followers
+pub mod Packings
+pub mod Written

@@ -1,0 +1,11 @@
+pub mod Records
+pub mod Values
+pub mod Packed
+pub mod Refusals
+pub mod Laws
+pub mod Packing
+pub mod PackingLaws
+pub mod Modal
+pub mod Giving
+pub mod Progress
+pub mod Numbers
