@@ -1,19 +1,19 @@
 -- A packed shot file says one thing, and has no fault.
 use Rattle.std.proofs.Common.{◌≡◌, ◌≢◌, ◌⊎◌, ℕ, suc, ◌+◌, ◌≤◌, List, [], ◌∷◌, ◌++◌, map, length, take, drop, Option, Some, None, All, refl, arith, ap, sym, subst, ◌∙◌, inl, inr, append_assoc, length-append}
-use Rattle.std.specs.Prelude.{flat_map, Result, Err, sum_by}
+use Rattle.std.specs.Prelude.{flat_map, Result, Err}
 use Rattle.std.proofs.lemmas.List.Sums.{sum_by-append}
 use Rattle.std.proofs.Math.Seq.{take-append_seam, drop-append_seam}
 use Rattle.half_grid.specs.Trapezoids.{Trapezoid, IsShot}
 use Rattle.layout_model.specs.declared.pair.Pair.{Pair}
-use Rattle.oas_lex.specs.ShotText.{IsUnit, head, end, fields_of}
+use Rattle.oas_lex.specs.ShotText.{head, end, fields_of}
 use Rattle.oas_lex.specs.declared.fields.ShotFields.{ShotFields}
 use Rattle.oas_lex.proofs.ForCallers.{head_peel, shot_names}
 use Rattle.shot_reader.specs.Reading.{IsPairOf, Agrees}
 use Rattle.shot_reader.proofs.ForCallers.{unit_small}
 use Rattle.shot_repeat.specs.Packed.{IsPackedText, IsPackedFile, HasFew, most_of_file}
 use Rattle.shot_repeat.specs.Records.{IsNarrow, record_text}
-use Rattle.shot_repeat.specs.Refusals.{first_pair, HasFirstPair, count_given, AreRight, IsReadUpTo, IsFirstFault}
-use Rattle.shot_repeat.specs.Values.{fields_in, count_of, step_of, moved_from, given, all_given, AreDefined}
+use Rattle.shot_repeat.specs.Refusals.{HasFirstPair, count_given, AreRight, IsReadUpTo, IsFirstFault}
+use Rattle.shot_repeat.specs.Values.{fields_in, count_of, step_of, given, all_given, AreDefined}
 use Rattle.shot_repeat.specs.declared.record.PackRecord.{PackRecord}
 use Rattle.shot_repeat.specs.declared.refusing.PackBad.{PackBad}
 use Rattle.shot_repeat.specs.declared.refusing.PackBad.TheVariants as faults

@@ -1,5 +1,5 @@
 -- Runs of shots that follow one another by one step.
-use Rattle.std.proofs.Common.{◌≡◌, ℕ, zero, suc, ℤ, pos, ◌+◌, ◌-◌, ◌<◌, ◌≤◌, ◌+ℤ◌, ◌-ℤ◌, ◌*ℤ◌, Bool, true, false, cond, ◌&&◌, nat_eq, nat_le, min, List, [], ◌∷◌, ◌++◌, map, length, take, drop, Option, Some, None, All, refl, arith, ap, sym, subst, ◌∙◌}
+use Rattle.std.proofs.Common.{◌≡◌, ℕ, zero, suc, ℤ, pos, ◌+◌, ◌-◌, ◌≤◌, ◌+ℤ◌, ◌-ℤ◌, ◌*ℤ◌, Bool, true, false, cond, ◌&&◌, nat_eq, nat_le, List, [], ◌∷◌, map, length, take, Option, Some, None, refl, arith, ap, sym, subst, ◌∙◌}
 use Rattle.std.specs.Ordering.{int_eq}
 use Rattle.std.proofs.lemmas.Int.{ints}
 use Rattle.std.proofs.lemmas.Bool.Decides.{Decides-eqb, Decides-int_eq, nat_tests}
@@ -9,7 +9,7 @@ use Rattle.oas_lex.specs.ShotText.{fields_of}
 use Rattle.oas_lex.specs.declared.fields.ShotFields.{ShotFields}
 use Rattle.oas_lex.proofs.ForCallers.{same_fields}
 use Rattle.shot_repeat.specs.Packed.{most_of_record}
-use Rattle.shot_repeat.specs.Packing.{step_between, has_shape_of, is_step, followers, run_length, IsRun, repetition_of, packed_record, records_of}
+use Rattle.shot_repeat.specs.Packing.{step_between, has_shape_of, is_step, followers, run_length, IsRun, repetition_of}
 use Rattle.shot_repeat.specs.Values.{moved, moved_from, count_of, step_of}
 use Rattle.shot_repeat.specs.declared.record.Repetition.{Repetition}
 use Rattle.shot_repeat.proofs.Gifts.{moved_none, moved_next}

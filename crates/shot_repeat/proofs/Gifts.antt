@@ -1,14 +1,14 @@
 -- The shots that records give.
-use Rattle.std.proofs.Common.{◌≡◌, ◌≢◌, ℕ, zero, suc, ℤ, pos, ◌+◌, ◌-◌, ◌*◌, ◌<◌, ◌≤◌, ◌+ℤ◌, ◌*ℤ◌, List, [], ◌∷◌, ◌++◌, map, length, take, drop, Option, Some, None, All, refl, arith, ap, sym, subst, ◌∙◌, append_assoc, length-append}
-use Rattle.std.proofs.lemmas.List.{append-nil, map-append, take-append-drop}
+use Rattle.std.proofs.Common.{◌≡◌, ℕ, zero, suc, ℤ, pos, ◌≤◌, ◌+ℤ◌, ◌*ℤ◌, List, [], ◌∷◌, ◌++◌, map, length, Option, Some, None, All, refl, arith, ap, sym, ◌∙◌, append_assoc}
+use Rattle.std.proofs.lemmas.List.{append-nil}
 use Rattle.std.proofs.lemmas.List.Elements.{All-cons}
 use Rattle.std.proofs.lemmas.Int.{ints}
-use Rattle.half_grid.specs.Trapezoids.{Trapezoid, IsShot}
+use Rattle.half_grid.specs.Trapezoids.{Trapezoid}
 use Rattle.half_grid.specs.declared.plane.Point.{Point}
 use Rattle.oas_lex.specs.ShotText.{fields_of}
 use Rattle.oas_lex.specs.declared.fields.ShotFields.{ShotFields}
 use Rattle.oas_lex.proofs.ForCallers.{same_fields}
-use Rattle.shot_repeat.specs.Values.{moved, moved_from, given, all_given, count_of, step_of, fields_in}
+use Rattle.shot_repeat.specs.Values.{moved, moved_from, given, all_given, count_of}
 use Rattle.shot_repeat.specs.declared.record.PackRecord.{PackRecord}
 use Rattle.shot_repeat.specs.declared.record.Repetition.{Repetition}
 

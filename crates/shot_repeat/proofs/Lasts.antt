@@ -1,9 +1,9 @@
 -- The last values are kept from record to record.
-use Rattle.std.proofs.Common.{◌≡◌, ℕ, ℤ, pos, List, [], ◌∷◌, ◌++◌, Option, Some, None, unwrap_or, IsSome, refl, ap, sym, subst, ◌∙◌}
+use Rattle.std.proofs.Common.{◌≡◌, ℕ, ℤ, pos, List, [], ◌∷◌, ◌++◌, Option, Some, None, unwrap_or, IsSome, refl, ap, sym, ◌∙◌}
 use Rattle.oas_lex.specs.declared.fields.ShotFields.{ShotFields}
 use Rattle.oas_lex.proofs.ForCallers.{same_fields}
 use Rattle.shot_repeat.specs.Modal.{updated, AreLast, IsShown}
-use Rattle.shot_repeat.specs.Values.{newer, last_written, value_in, IsDefined, fields_in}
+use Rattle.shot_repeat.specs.Values.{newer, last_written, IsDefined, fields_in}
 use Rattle.shot_repeat.specs.declared.modal.Modal.{Modal}
 use Rattle.shot_repeat.specs.declared.record.PackRecord.{PackRecord}
 

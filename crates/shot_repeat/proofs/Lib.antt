@@ -15,3 +15,4 @@ pub mod Repeated
 pub mod Followers
 pub mod Packings
 pub mod Written
+pub mod ForCallers

@@ -1,21 +1,19 @@
 -- Bytes that are no packed shot file of few enough shots have a first fault.
-use Rattle.std.proofs.Common.{◌≡◌, ◌≢◌, ℕ, zero, suc, ◌+◌, ◌-◌, ◌<◌, ◌≤◌, ◌^◌, List, [], ◌∷◌, ◌++◌, map, length, take, drop, Option, Some, None, unwrap_or, All, refl, arith, ap, sym, subst, ◌∙◌, inl, inr, append_assoc, length-append}
-use Rattle.std.specs.Prelude.{flat_map, sum_by}
+use Rattle.std.proofs.Common.{◌≡◌, ◌≢◌, ℕ, zero, suc, ◌+◌, ◌-◌, ◌<◌, ◌≤◌, ◌^◌, List, [], ◌∷◌, ◌++◌, map, length, take, drop, Option, Some, None, unwrap_or, All, refl, arith, ap, sym, ◌∙◌, inl, inr, append_assoc, length-append}
+use Rattle.std.specs.Prelude.{flat_map}
 use Rattle.std.proofs.lemmas.Bool.{cases_lt}
 use Rattle.std.proofs.lemmas.List.{append-nil, flat_map_more, length-take-le, map-append}
 use Rattle.std.proofs.lemmas.List.Sums.{sum_by-append, sum_by-cons}
 use Rattle.std.proofs.lemmas.List.Elements.{All-append}
 use Rattle.std.proofs.Math.Seq.{take-append_seam}
 use Rattle.half_grid.specs.Trapezoids.{Trapezoid, IsShot}
-use Rattle.layout_model.specs.declared.pair.Pair.{Pair}
 use Rattle.oas_lex.specs.ShotLaws.{IsNarrowPair}
 use Rattle.oas_lex.specs.ShotText.{IsUnit, head, end, fields_of}
-use Rattle.shot_reader.specs.Reading.{IsPairOf, Agrees}
 use Rattle.shot_reader.specs.Refusals.{BeginsHead, BeginsEnd}
 use Rattle.shot_repeat.specs.Laws.{IsNoFile, HasNoFault}
-use Rattle.shot_repeat.specs.Packed.{IsPackedFile, most_of_file}
-use Rattle.shot_repeat.specs.Records.{IsNarrow, IsNarrowNumber, record_text}
-use Rattle.shot_repeat.specs.Refusals.{HasFirstPair, count_given, IsLegalAfter, IsSpelled, IsValueFault, IsRight, AreRight, IsRecordFault, IsReadUpTo, IsFirstFault}
+use Rattle.shot_repeat.specs.Packed.{most_of_file}
+use Rattle.shot_repeat.specs.Records.{IsNarrowNumber, record_text}
+use Rattle.shot_repeat.specs.Refusals.{count_given, IsLegalAfter, IsSpelled, IsValueFault, IsRight, AreRight, IsRecordFault, IsReadUpTo}
 use Rattle.shot_repeat.specs.Values.{fields_in, count_of, step_of, given, all_given}
 use Rattle.shot_repeat.specs.declared.record.PackRecord.{PackRecord}
 use Rattle.shot_repeat.specs.declared.refusing.PackBad.{PackBad}

@@ -1,25 +1,21 @@
 -- The packed text of shots stands for them.
-use Rattle.std.proofs.Common.{◌≡◌, ℕ, zero, suc, ℤ, pos, ◌+◌, ◌-◌, ◌<◌, ◌≤◌, ◌^◌, ◌-ℤ◌, unsigned_abs, Bool, true, false, cond, nat_eq, nat_le, List, [], ◌∷◌, ◌++◌, map, length, take, drop, Option, Some, None, unwrap_or, is_some, All, refl, arith, ap, sym, subst, ◌∙◌, append_assoc}
-use Rattle.std.specs.Prelude.{flat_map}
+use Rattle.std.proofs.Common.{◌≡◌, ℕ, zero, suc, ℤ, pos, ◌-◌, ◌<◌, ◌≤◌, ◌^◌, ◌-ℤ◌, unsigned_abs, Bool, true, false, cond, nat_eq, nat_le, List, [], ◌∷◌, ◌++◌, map, take, drop, Option, Some, None, unwrap_or, is_some, All, refl, arith, ap, sym, subst, ◌∙◌}
 use Rattle.std.specs.Ordering.{int_eq}
 use Rattle.std.proofs.lemmas.Int.{ints}
 use Rattle.std.proofs.lemmas.Bool.Decides.{Decides-eqb, Decides-int_eq}
-use Rattle.std.proofs.lemmas.List.{take-append-drop, drop-drop}
+use Rattle.std.proofs.lemmas.List.{take-append-drop}
 use Rattle.std.proofs.lemmas.List.Elements.{All-cons}
 use Rattle.half_grid.specs.Trapezoids.{Trapezoid, IsShot}
-use Rattle.layout_model.specs.declared.pair.Pair.{Pair}
-use Rattle.oas_lex.specs.ShotLaws.{IsNarrowPair}
-use Rattle.oas_lex.specs.ShotText.{IsUnit, head, end, fields_of}
+use Rattle.oas_lex.specs.ShotText.{fields_of}
 use Rattle.oas_lex.specs.declared.fields.ShotFields.{ShotFields}
 use Rattle.oas_lex.proofs.ForCallers.{same_fields}
 use Rattle.shot_reader.specs.Near.{AreNear}
-use Rattle.shot_reader.specs.Reading.{IsPairOf, Agrees}
 use Rattle.shot_reader.proofs.ForCallers.{own_near}
-use Rattle.shot_repeat.specs.Packed.{IsPackedText, IsPackedFile, HasFew, most_of_file}
+use Rattle.shot_repeat.specs.Packed.{HasFew}
 use Rattle.shot_repeat.specs.Packing.{run_length, repetition_of, changed, changed_place, packed_record, records_of, packed_records, packed_text}
 use Rattle.shot_repeat.specs.PackingLaws.{TextStands, TextIsFile}
-use Rattle.shot_repeat.specs.Records.{IsNarrowRepetition, IsNarrow, IsNarrowNumber, IsNarrowPlace, record_text}
-use Rattle.shot_repeat.specs.Values.{newer, last_written, value_in, IsDefined, fields_in, count_of, step_of, moved_from, given, all_given, AreDefined}
+use Rattle.shot_repeat.specs.Records.{IsNarrowRepetition, IsNarrow, IsNarrowNumber, IsNarrowPlace}
+use Rattle.shot_repeat.specs.Values.{newer, last_written, IsDefined, fields_in, count_of, step_of, moved_from, given, all_given, AreDefined}
 use Rattle.shot_repeat.specs.declared.record.PackRecord.{PackRecord}
 use Rattle.shot_repeat.specs.declared.record.Repetition.{Repetition}
 use Rattle.shot_repeat.proofs.Gifts.{some_given}

@@ -1,6 +1,6 @@
 -- What is kept of the records, and what was read, with one more record.
-use Rattle.std.proofs.Common.{◌≡◌, ◌≢◌, ◌⊎◌, ℕ, suc, ◌+◌, ◌<◌, ◌≤◌, ◌^◌, List, [], ◌∷◌, ◌++◌, map, length, take, drop, get_or, Option, Some, None, All, refl, arith, ap, sym, subst, ◌∙◌, inl, inr, append_assoc, length-append}
-use Rattle.std.specs.Prelude.{flat_map, sum_by}
+use Rattle.std.proofs.Common.{◌≡◌, ◌≢◌, ◌⊎◌, ℕ, ◌+◌, ◌<◌, ◌≤◌, ◌^◌, List, [], ◌∷◌, ◌++◌, map, length, take, drop, get_or, Option, Some, None, All, refl, arith, ap, sym, subst, ◌∙◌, inl, inr, append_assoc, length-append}
+use Rattle.std.specs.Prelude.{flat_map}
 use Rattle.std.specs.List.{concat}
 use Rattle.std.proofs.lemmas.List.{append-nil, map-append, take-append-drop, append_cancel_right}
 use Rattle.std.proofs.lemmas.List.Elements.{All-append}
@@ -16,19 +16,19 @@ use Rattle.shot_reader.specs.Reading.{IsPairOf, Agrees}
 use Rattle.shot_reader.specs.Refusals.{BeginsEnd}
 use Rattle.shot_repeat.specs.Giving.{IsGivenBy}
 use Rattle.shot_repeat.specs.Modal.{updated, AreLast, IsShown}
-use Rattle.shot_repeat.specs.Packed.{IsPackedText, IsPackedFile, most_of_file}
+use Rattle.shot_repeat.specs.Packed.{IsPackedFile}
 use Rattle.shot_repeat.specs.Progress.{IsUnspelled, AreKept, IsJudged, HasRead, first_of, layer_in, datatype_in}
 use Rattle.shot_repeat.specs.Records.{IsNarrow, IsNarrowNumber, record_text}
-use Rattle.shot_repeat.specs.Refusals.{IsWhole, IsSpelled, first_pair, HasFirstPair, count_given, IsFewAfter, IsLegalAfter, IsValueFault, IsRecordFault, IsRight, AreRight, IsReadUpTo, IsFirstFault}
-use Rattle.shot_repeat.specs.Values.{newer, last_written, value_in, IsDefined, fields_in, count_of, step_of, moved_from, given, all_given}
+use Rattle.shot_repeat.specs.Refusals.{IsWhole, IsSpelled, first_pair, HasFirstPair, count_given, IsValueFault, IsRecordFault, IsReadUpTo, IsFirstFault}
+use Rattle.shot_repeat.specs.Values.{newer, IsDefined, fields_in, count_of, step_of, moved_from, given, all_given}
 use Rattle.shot_repeat.specs.declared.modal.Modal.{Modal}
 use Rattle.shot_repeat.specs.declared.reading.Progress.{Progress}
 use Rattle.shot_repeat.specs.declared.record.PackRecord.{PackRecord}
 use Rattle.shot_repeat.specs.declared.refusing.PackBad.{PackBad}
 use Rattle.shot_repeat.specs.declared.refusing.PackBad.TheVariants as faults
-use Rattle.shot_repeat.proofs.Gifts.{length_moved, length_map, some_given, all_more, first_given}
+use Rattle.shot_repeat.proofs.Gifts.{length_moved, length_map, some_given, all_more}
 use Rattle.shot_repeat.proofs.Lasts.{lasts_more, shown_fields, shown_defined, defined_shown}
-use Rattle.shot_repeat.proofs.Rights.{right_more, right_narrow, right_defined, right_few, no_fault}
+use Rattle.shot_repeat.proofs.Rights.{right_more, right_narrow, right_defined, right_few}
 
 -- ---- at one record
 

@@ -1,5 +1,5 @@
 -- The shots that a record gives, put one by one.
-use Rattle.std.proofs.Common.{◌≡◌, ℕ, suc, ◌+◌, ◌-◌, ◌<◌, ◌≤◌, List, [], ◌∷◌, ◌++◌, map, length, All, refl, arith, ap, sym, subst, ◌∙◌, append_assoc}
+use Rattle.std.proofs.Common.{◌≡◌, ℕ, suc, ◌-◌, ◌<◌, ◌≤◌, List, [], ◌∷◌, ◌++◌, map, All, arith, ap, sym, subst, ◌∙◌, append_assoc}
 use Rattle.std.proofs.lemmas.List.{append-nil, map-append}
 use Rattle.half_grid.specs.Trapezoids.{Trapezoid, IsShot}
 use Rattle.half_grid.specs.declared.plane.Point.{Point}
@@ -9,7 +9,7 @@ use Rattle.shot_reader.specs.Fields.{HasShape}
 use Rattle.shot_reader.proofs.ForCallers.{all_more}
 use Rattle.shot_repeat.specs.Giving.{IsGivenBy}
 use Rattle.shot_repeat.specs.Values.{moved, moved_from}
-use Rattle.shot_repeat.proofs.Gifts.{Halves, halves, all_front, all_rest}
+use Rattle.shot_repeat.proofs.Gifts.{halves, all_rest}
 
 -- so many of the shots were put, and the others are left
 pub record PutSoFar (f : ShotFields) (step : Point) (done count : ℕ) (before now : List Trapezoid) : Type 0 where

@@ -1,5 +1,5 @@
 -- A repetition, and a whole record, by the numbers that stand there.
-use Rattle.std.proofs.Common.{◌≡◌, ℕ, suc, ◌+◌, ◌%◌, ◌<◌, ◌≤◌, Bool, true, false, is_some, List, [], ◌∷◌, ◌++◌, length, drop, get_or, Option, Some, None, IfSome, IsSome, All, refl, arith, ap, sym, subst, ◌∙◌, append_assoc}
+use Rattle.std.proofs.Common.{◌≡◌, ℕ, ◌+◌, ◌%◌, ◌<◌, ◌≤◌, Bool, true, false, is_some, List, [], ◌∷◌, ◌++◌, length, drop, get_or, Option, Some, None, IfSome, All, refl, arith, ap, sym, subst, ◌∙◌, append_assoc}
 use Rattle.std.specs.List.{concat}
 use Rattle.std.proofs.lemmas.List.{append-nil, drop-drop, drop_more, length-drop}
 use Rattle.std.proofs.lemmas.List.Elements.{All-cons}

@@ -1,11 +1,10 @@
 -- Lists of records with which nothing is wrong: what follows them, and where they end.
-use Rattle.std.proofs.Common.{◌≡◌, ◌⊎◌, ℕ, suc, ◌+◌, ◌≤◌, List, [], ◌∷◌, ◌++◌, length, take, drop, All, refl, arith, ap, sym, subst, ◌∙◌, inl, inr, append_assoc}
+use Rattle.std.proofs.Common.{◌≡◌, ℕ, ◌≤◌, List, [], ◌∷◌, ◌++◌, length, drop, All, refl, arith, ap, sym, subst, ◌∙◌, inl, inr, append_assoc}
 use Rattle.std.specs.Prelude.{flat_map}
 use Rattle.std.proofs.lemmas.List.{append-nil, take-append-drop, length-drop}
 use Rattle.std.proofs.lemmas.List.Elements.{All-cons}
-use Rattle.oas_lex.specs.ShotText.{IsUnit, head, end}
+use Rattle.oas_lex.specs.ShotText.{head, end}
 use Rattle.oas_lex.proofs.ForCallers.{head_peel}
-use Rattle.shot_reader.specs.Refusals.{BeginsEnd}
 use Rattle.shot_reader.proofs.ForCallers.{unit_small}
 use Rattle.shot_repeat.specs.Packed.{HasFew}
 use Rattle.shot_repeat.specs.Records.{IsNarrow, record_text}
@@ -14,7 +13,7 @@ use Rattle.shot_repeat.specs.Refusals.{IsWhole, IsSpelled, IsRight, AreRight, Is
 use Rattle.shot_repeat.specs.declared.record.PackRecord.{PackRecord}
 use Rattle.shot_repeat.specs.declared.refusing.PackBad.{PackBad}
 use Rattle.shot_repeat.specs.declared.refusing.PackBad.TheVariants as faults
-use Rattle.shot_repeat.proofs.Unique.{one_record, record_not_end, more}
+use Rattle.shot_repeat.proofs.Unique.{one_record, more}
 use Rattle.shot_repeat.proofs.Wholes.{text_whole, whole_not_end}
 
 -- ---- one more record

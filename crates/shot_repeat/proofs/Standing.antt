@@ -1,8 +1,8 @@
 -- What stands at a place is read.
-use Rattle.std.proofs.Common.{◌≡◌, ℕ, ℤ, ◌+◌, ◌+ℤ◌, ◌-ℤ◌, ◌≤◌, ◌<◌, ◌^◌, unsigned_abs, true, is_some, List, [], ◌∷◌, ◌++◌, length, drop, Option, Some, None, refl, arith, ap, sym, ◌∙◌, append_assoc, FitsSigned, w64}
+use Rattle.std.proofs.Common.{◌≡◌, ℕ, ℤ, ◌+◌, ◌+ℤ◌, ◌-ℤ◌, ◌≤◌, ◌<◌, ◌^◌, unsigned_abs, true, is_some, List, ◌++◌, length, drop, Option, Some, None, arith, ap, sym, ◌∙◌, append_assoc, FitsSigned, w64}
 use Rattle.std.proofs.lemmas.Int.{ints}
 use Rattle.std.proofs.lemmas.List.{drop-drop}
-use Rattle.shot_repeat.specs.Records.{IsNarrow, IsNarrowRepetition, steps_text, repetition_text, body_text, record_text}
+use Rattle.shot_repeat.specs.Records.{IsNarrowRepetition, steps_text, repetition_text, body_text, record_text}
 use Rattle.shot_reader.proofs.ForCallers.{after_text}
 use Rattle.shot_repeat.specs.declared.record.PackRecord.{PackRecord}
 use Rattle.shot_repeat.specs.declared.record.Repetition.{Repetition}

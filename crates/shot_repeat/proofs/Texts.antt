@@ -1,14 +1,12 @@
 -- The text of a record: its id, its info byte, its fields in order.
-use Rattle.std.proofs.Common.{◌≡◌, ℕ, ℤ, pos, ◌+◌, ◌*◌, ◌/◌, ◌%◌, ◌<◌, ◌≤◌, Bool, true, false, nat_eq, is_some, List, [], ◌∷◌, ◌++◌, length, drop, get_or, Option, Some, None, refl, arith, ap, sym, ◌∙◌, append_assoc, length-append, FitsSigned, w64}
+use Rattle.std.proofs.Common.{◌≡◌, ℕ, ℤ, ◌+◌, ◌*◌, ◌/◌, ◌%◌, ◌<◌, ◌≤◌, Bool, true, false, nat_eq, is_some, List, [], ◌∷◌, ◌++◌, length, drop, get_or, refl, arith, ap, sym, ◌∙◌, append_assoc, length-append, FitsSigned, w64}
 use Rattle.std.proofs.lemmas.Int.{to_z-of_z}
 use mir.Val.{to_z, of_z}
 use Rattle.std.proofs.lemmas.List.{drop-drop, length-drop, get_or-drop}
-use Rattle.oas_lex.specs.Spelling.{unsigned_text, signed_text}
 use Rattle.oas_lex.specs.ShotText.{id_for, delta_text}
-use Rattle.shot_repeat.specs.Records.{bit, info_of, number_text, place_text, repetition_text, steps_text, body_text, record_text}
+use Rattle.shot_repeat.specs.Records.{bit, info_of, number_text, place_text, repetition_text, body_text, record_text}
 use Rattle.shot_repeat.specs.Refusals.{has}
 use Rattle.shot_repeat.specs.declared.record.PackRecord.{PackRecord}
-use Rattle.shot_repeat.specs.declared.record.Repetition.{Repetition}
 
 -- a body that is put together field by field is that of the record
 pub body_spelled : (r : PackRecord) (s0 s1 s2 s3 s4 s5 s6 s7 s8 s9 s10 : List ℕ)

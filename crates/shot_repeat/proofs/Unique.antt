@@ -1,5 +1,5 @@
 -- One text has one record, and no record begins another or END.
-use Rattle.std.proofs.Common.{◌≡◌, ℕ, ℤ, pos, negsuc, suc, ◌+◌, ◌*◌, ◌<◌, ◌^◌, unsigned_abs, is_some, List, [], ◌∷◌, ◌++◌, Option, Some, None, All, refl, arith, ap, sym, ◌∙◌, append_assoc}
+use Rattle.std.proofs.Common.{◌≡◌, ℕ, ℤ, pos, negsuc, suc, ◌<◌, ◌^◌, unsigned_abs, is_some, List, [], ◌∷◌, ◌++◌, Option, Some, None, All, refl, arith, ap, sym, ◌∙◌, append_assoc}
 use Rattle.std.specs.Prelude.{flat_map}
 use Rattle.std.proofs.lemmas.Int.{ints}
 use Rattle.oas_lex.specs.Spelling.{unsigned_text, signed_text}

@@ -1,5 +1,5 @@
 -- The text of a record is a whole one, and a whole one doesn't begin as END does.
-use Rattle.std.proofs.Common.{◌≡◌, ℕ, ℤ, pos, negsuc, ◌+◌, ◌<◌, ◌≤◌, ◌^◌, ◌%◌, Bool, true, false, cond, unsigned_abs, is_some, nat_eq, List, [], ◌∷◌, ◌++◌, length, Option, Some, None, All, refl, arith, ap, sym, ◌∙◌, inl, inr, append_assoc, length-append}
+use Rattle.std.proofs.Common.{◌≡◌, ℕ, ℤ, pos, negsuc, ◌+◌, ◌<◌, ◌≤◌, ◌^◌, ◌%◌, Bool, true, false, cond, unsigned_abs, is_some, List, [], ◌∷◌, ◌++◌, length, Option, Some, None, All, refl, arith, ap, sym, ◌∙◌, inl, inr, append_assoc, length-append}
 use Rattle.std.specs.List.{concat}
 use Rattle.std.specs.Ordering.{int_eq}
 use Rattle.std.proofs.lemmas.List.{append-nil}

@@ -1,5 +1,5 @@
 -- The last value of each field, kept from record to record.
-use Rattle.std.specs.Prelude.{◌≡◌, List, [], Option, Some, None, pos, unwrap_or}
+use Rattle.std.specs.Prelude.{◌≡◌, List, Some, pos, unwrap_or}
 use Rattle.oas_lex.specs.declared.fields.ShotFields.{ShotFields}
 use Rattle.shot_repeat.specs.Values.{newer, last_written}
 use Rattle.shot_repeat.specs.declared.modal.Modal.{Modal}

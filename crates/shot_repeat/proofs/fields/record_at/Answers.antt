@@ -1,4 +1,4 @@
-use Rattle.std.proofs.Common.{◌≡◌, ◌+◌, ◌∷◌, ℕ, ap, sym, ◌∙◌, arith, FitsSigned, w64, rules}
+use Rattle.std.proofs.Common.{◌≡◌, ◌+◌, ◌∷◌, ℕ, ap, ◌∙◌, arith, FitsSigned, w64, rules}
 use Rattle.std.proofs.lemmas.Int.{to_z-of_z}
 use Rattle.shot_reader.proofs.ForCallers.{byte_is, left_there, right_there}
 use Rattle.shot_repeat.specs.Records.{info_of}

@@ -1,4 +1,4 @@
-use Rattle.std.proofs.Common.{◌≡◌, length, drop, refl, ap, sym, ◌∙◌, inr}
+use Rattle.std.proofs.Common.{length, drop, refl, ap, sym, inr}
 use Rattle.std.specs.Prelude.{Some}
 use Rattle.std.proofs.lemmas.Result.{err_from_is_err_and}
 use Rattle.shot_reader.proofs.ForCallers.{not_begun}

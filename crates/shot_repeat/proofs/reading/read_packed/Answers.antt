@@ -1,4 +1,4 @@
-use Rattle.std.proofs.Common.{◌≡◌, ◌⊎◌, ℕ, length, drop, get_or, refl, ap, sym, ◌∙◌, arith, inl, []}
+use Rattle.std.proofs.Common.{◌≡◌, ◌⊎◌, ℕ, drop, get_or, refl, ap, ◌∙◌, arith, inl, []}
 use Rattle.std.proofs.Math.Seq.{drop-length}
 use Rattle.std.proofs.lemmas.Result.{err_from_is_err_and}
 use Rattle.shot_reader.proofs.ForCallers.{first_byte}

@@ -1,4 +1,4 @@
-use Rattle.std.proofs.Common.{◌-◌, ◌≤◌, List, length}
+use Rattle.std.proofs.Common.{◌-◌, List, length}
 use Rattle.shot_repeat.specs.Progress.{HasRead}
 use Rattle.shot_repeat.specs.declared.record.PackRecord.{PackRecord}
 use Rattle.shot_repeat.proofs.reading.read_packed.Given as goal

@@ -1,4 +1,4 @@
-use Rattle.std.proofs.Common.{◌≡◌, ◌+◌, ◌++◌, length, drop, refl, ap, sym, ◌∙◌, arith}
+use Rattle.std.proofs.Common.{◌++◌, length, ap, sym, ◌∙◌, arith}
 use Rattle.shot_repeat.specs.Records.{body_text, repetition_text}
 use Rattle.shot_repeat.proofs.Standing.{record_stands, body_stands, after_body}
 use Rattle.shot_repeat.proofs.Texts.{body_some}

@@ -1,4 +1,4 @@
-use Rattle.std.proofs.Common.{◌≡◌, ℕ, ◌+◌, ◌≤◌, ◌-◌, length, drop, map, min}
+use Rattle.std.proofs.Common.{◌≡◌, ◌+◌, ◌≤◌, ◌-◌, length, drop, map, min}
 use Rattle.oas_lex.specs.ShotText.{fields_of}
 use Rattle.shot_reader.specs.Near.{AreNear}
 use Rattle.shot_repeat.specs.Packed.{most_of_record}

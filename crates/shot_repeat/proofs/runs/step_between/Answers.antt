@@ -1,5 +1,5 @@
-use Rattle.std.proofs.Common.{◌-ℤ◌, FitsSigned, w64, rules, refl, arith}
-use Rattle.std.proofs.lemmas.Int.{to_z-of_z, ints}
+use Rattle.std.proofs.Common.{◌-ℤ◌, FitsSigned, w64, rules, refl}
+use Rattle.std.proofs.lemmas.Int.{to_z-of_z}
 use Rattle.shot_repeat.proofs.Standing.{fits_difference}
 use Rattle.shot_repeat.proofs.Steps.{same_point}
 use Rattle.shot_repeat.proofs.runs.step_between.Goals as goal

@@ -1,0 +1,5 @@
+-- What crates above may cite: bytes stand for one list of shots at most, have one first fault at most, a packed shot file
+-- has none, and the packed text of shots stands for them.
+pub use Rattle.shot_repeat.proofs.Files.{one_file, file_right}
+pub use Rattle.shot_repeat.proofs.Rights.{one_fault}
+pub use Rattle.shot_repeat.proofs.Packings.{text_stands, text_is_file}
