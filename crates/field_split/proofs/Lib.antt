@@ -1,0 +1,13 @@
+pub mod Turns
+pub mod Stacks
+pub mod PieceLemmas
+pub mod ColumnLemmas
+pub mod Numbers
+pub mod FieldLemmas
+pub mod StripeLemmas
+pub mod TileLemmas
+pub mod PartAnswers
+pub mod HandLemmas
+pub mod FewLemmas
+pub mod LookLemmas
+pub mod ForCallers
