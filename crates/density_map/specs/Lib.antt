@@ -1,0 +1,6 @@
+pub mod Frames
+pub mod Wedges
+pub mod Windows
+pub mod Counts
+pub mod Rows
+pub mod Laws
