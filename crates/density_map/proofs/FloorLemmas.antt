@@ -65,9 +65,18 @@ floor_by (negsuc n) x some near = absurd (omega (arith, ints, some))
 pub floor_is : (size x q : ℤ) → IsWindowSize size → IsNear x → q ≡ int_div_euclid x size → IsFloor size x q
 floor_is size x q h near e = subst (λ (z : ℤ). IsFloor size x z) (sym e) (floor_by size x (omega (arith, ints, h.low)) near)
 
+-- each number lies in some window
+pub floor_of : (size x : ℤ) → pos 0 <ℤ size → (q : ℤ) × ((q *ℤ size) ≤ℤ x) × (x <ℤ ((q +ℤ pos 1) *ℤ size))
+floor_of (pos n) x some = (
+  int_div_euclid x (pos n),
+  floor_low x n (omega (arith, ints, some)),
+  subst (λ (z : ℤ). x <ℤ z) (sym (next_side (int_div_euclid x (pos n)) (pos n))) (floor_high x n (omega (arith, ints, some))),
+)
+floor_of (negsuc n) x some = absurd (omega (arith, ints, some))
+
 -- ---- gaps
 
-gap_is : (a b : ℤ) → a ≤ℤ b → a +ℤ pos (int_gap a b) ≡ b
+pub gap_is : (a b : ℤ) → a ≤ℤ b → a +ℤ pos (int_gap a b) ≡ b
 gap_is (pos m) (pos n) h = omega (arith, ints, h)
 gap_is (pos m) (negsuc n) h = absurd (omega (arith, ints, h))
 gap_is (negsuc m) (pos n) h = omega (arith, ints)

@@ -193,9 +193,17 @@ count_is_sum zs (t ∷ ts) apart =
     let rest = count_is_sum zs ts apart in
     omega (arith, one, two, here, rest)
 
+not_one_and_none : (n : ℕ) → n ≡ 1 → n ≡ 0 → ⊥
+not_one_and_none n e f = omega (arith, e, f)
+
+none_of_one : (n : ℕ) → n ≤ 1 → (n ≡ 1 → ⊥) → n ≡ 0
+none_of_one zero h out = refl
+none_of_one (suc zero) h out = absurd (out refl)
+none_of_one (suc (suc n)) h out = absurd (omega (arith, h))
+
 -- where in the window the trapezoids have the tiles of an area
 pub sum_is_count : (area : Tile → Type 0) (size i j : ℤ) (zs : List Trapezoid) → AreApart zs
-    → ((t : Tile) → IsInFrame (window size i j) t → area t ↔ (count_in zs t ≡ 1)) → IsWindowCount area size i j (window_sum size i j zs)
+    → ((t : Tile) → IsInFrame (window size i j) t → (area t → count_in zs t ≡ 1) × ((area t → ⊥) → count_in zs t ≡ 0)) → IsWindowCount area size i j (window_sum size i j zs)
 sum_is_count area size i j zs apart same =
     let f = window size i j in
     record {
@@ -208,7 +216,7 @@ sum_is_count area size i j zs apart same =
     never_by : (t : Tile) (b : Bool) → is_one (count_in zs t) ≡ b → (IsInWindow area size i j t → ⊥) → count_by (is_tile t) (kept (λ (t : Tile). is_one (count_in zs t)) (frame_tiles (window size i j))) ≡ 0
     never_by t true e out =
         kept_all (λ (t : Tile). is_one (count_in zs t)) t (frame_tiles (window size i j)) e
-        ∙ no_other (window size i j) t (λ inside. out (record { inside = inside; taken = (same t inside).1 (one_is (count_in zs t) e) }))
+        ∙ no_other (window size i j) t (λ inside. not_one_and_none (count_in zs t) (one_is (count_in zs t) e) ((same t inside).1 (λ a. out (record { inside = inside; taken = a }))))
     never_by t false e out = kept_none (λ (t : Tile). is_one (count_in zs t)) t (frame_tiles (window size i j)) e
 
 pub one_more : OneMore
@@ -220,4 +228,4 @@ one_more m new zs z counted added i =
     same size row e f = rw (e, f) refl
 
 pub sum_of_own : SumIsCount
-sum_of_own size i j zs apart = sum_is_count (λ (t : Tile). count_in zs t ≡ 1) size i j zs apart (λ t h. (λ e. e, λ e. e))
+sum_of_own size i j zs apart = sum_is_count (λ (t : Tile). count_in zs t ≡ 1) size i j zs apart (λ t h. (λ e. e, λ out. none_of_one (count_in zs t) (apart t) out))

@@ -1,5 +1,5 @@
 -- Sums over lists of trapezoids and over lists of tiles, one in place of the other.
-use Rattle.std.proofs.Common.{ℕ, zero, suc, ◌+◌, ◌*◌, ◌^◌, ◌≤◌, ◌≡◌, ℤ, pos, ◌+ℤ◌, ◌-ℤ◌, ◌*ℤ◌, List, [], ◌∷◌, ◌++◌, sum_by, count_by, length, arith, refl, sym}
+use Rattle.std.proofs.Common.{ap, ℕ, zero, suc, ◌+◌, ◌*◌, ◌^◌, ◌≤◌, ◌≡◌, ℤ, pos, ◌+ℤ◌, ◌-ℤ◌, ◌*ℤ◌, List, [], ◌∷◌, ◌++◌, sum_by, count_by, length, arith, refl, sym}
 use Rattle.std.proofs.lemmas.Int.{ints}
 use Rattle.std.proofs.lemmas.List.{length-append}
 use Rattle.std.proofs.lemmas.List.Sums.{sum_by-cons, sum_by_push}
@@ -89,6 +89,19 @@ window_small size i j h =
     let high = side j size h in
     let all = rows_length (i *ℤ size) (j *ℤ size) k n in
     let product = product_small n (k + k) (2 ^ 24) (2 ^ 25) high (omega (arith, wide)) in
+    omega (arith, all, product)
+
+-- the same by its size
+pub window_few : (size i j : ℤ) → IsWindowSize size → length (frame_tiles (window size i j)) ≤ natural size * 2 ^ 25
+unfolding frame_tiles
+window_few size i j h =
+    let k = natural (((i +ℤ pos 1) *ℤ size) -ℤ (i *ℤ size)) in
+    let n = natural (((j +ℤ pos 1) *ℤ size) -ℤ (j *ℤ size)) in
+    let wide = side i size h in
+    let all = rows_length (i *ℤ size) (j *ℤ size) k n in
+    let e = next_side j size in
+    let high : n ≡ natural size = ap natural (let same : ((j +ℤ pos 1) *ℤ size) -ℤ (j *ℤ size) ≡ size = omega (arith, ints, e) in same) in
+    let product = product_small n (k + k) (natural size) (2 ^ 25) (omega (arith, high)) (omega (arith, wide)) in
     omega (arith, all, product)
 
 -- where a trapezoid shares no tile with those that are counted, there is room for it
