@@ -1,5 +1,5 @@
 -- Places that are listed one by one: in half units those before the place that was reached, and that place in grid steps.
-use Rattle.std.specs.Prelude.{◌≡◌, List, ◌++◌, map}
+use Rattle.std.specs.Prelude.{◌≡◌, ◌≤◌, List, ◌++◌, map}
 use Rattle.half_grid.specs.declared.plane.Point.{Point}
 use Rattle.oas_shapes.specs.Plane.{IsNear, doubled, places_along}
 use Rattle.oas_shapes.specs.Rules.{AreNear}
@@ -10,3 +10,5 @@ pub record IsTrail (whole : List Point) (trail : Trail) (moves : List Point) : T
   pub joined : trail.listed.items ++ map doubled (places_along trail.at moves) ≡ map doubled whole
   pub near : AreNear trail.listed.items
   pub here : IsNear trail.at
+  -- so many places take no memory
+  pub room : 12 ≤ trail.listed.capacity

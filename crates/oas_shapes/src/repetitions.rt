@@ -1,5 +1,5 @@
 //! The offsets of repetitions.
-ghost use Rattle.std.specs.Prelude.{◌≡◌, ◌↔◌, ℕ, map, All, [], ◌∷◌, IsTrue, IfOk, Err, option_copied, false};
+ghost use Rattle.std.specs.Prelude.{◌≡◌, ◌⊎◌, ◌↔◌, ◌<◌, ℕ, length, map, All, [], ◌∷◌, IsTrue, IfOk, IfErr, Err, option_copied, false};
 ghost use Rattle.layout_model.specs.Layouts.{AreOffsets};
 ghost use Rattle.oas_shapes.specs.Plane.{origin, doubled as in_halves, places_along};
 ghost use Rattle.oas_shapes.specs.Ways.{way_of, towards as towards_of};
@@ -90,7 +90,7 @@ fn listed(alloc: Global, places: &[Point], is_allowed: bool) -> Result<Offsets, 
     }
 }
 
-// A row, or a column where it is upright.
+// A row, or a column where it is upright. Up to twelve places take no memory until all of them are known to be near.
 fn by_spaces(
     alloc: Global,
     is_upright: bool,
@@ -101,6 +101,7 @@ fn by_spaces(
     ensures ok { IfOk result (λ offsets. (offsets ≡ map in_halves (places_along origin (map (λ space. enlarged grid (towards_of is_upright space)) spaces.now))) × AreOffsets offsets × IsTrue is_allowed) }
     ensures far { result ≡ Err Far → ¬ AreNear (map in_halves (places_along origin (map (λ space. enlarged grid (towards_of is_upright space)) spaces.now))) }
     ensures many { result ≡ Err Many → AreNear (map in_halves (places_along origin (map (λ space. enlarged grid (towards_of is_upright space)) spaces.now))) × (is_allowed ≡ false) }
+    ensures few { length spaces.now < 12 → IfErr result (λ bad. (bad ≡ Far) ⊎ AreNear (map in_halves (places_along origin (map (λ space. enlarged grid (towards_of is_upright space)) spaces.now)))) }
 {
     match along_spaces(alloc, is_upright, grid, spaces) {
         Ok(places) => listed(alloc, places.as_slice(), is_allowed),
@@ -119,6 +120,7 @@ fn by_own_spaces(
     ensures ok { IfOk result (λ offsets. (offsets ≡ map in_halves (places_along origin (map (towards_of is_upright) spaces.now))) × AreOffsets offsets × IsTrue is_allowed) }
     ensures far { result ≡ Err Far → ¬ AreNear (map in_halves (places_along origin (map (towards_of is_upright) spaces.now))) }
     ensures many { result ≡ Err Many → AreNear (map in_halves (places_along origin (map (towards_of is_upright) spaces.now))) × (is_allowed ≡ false) }
+    ensures few { length spaces.now < 12 → IfErr result (λ bad. (bad ≡ Far) ⊎ AreNear (map in_halves (places_along origin (map (towards_of is_upright) spaces.now)))) }
 {
     by_spaces(alloc, is_upright, 1, spaces, is_allowed)
 }
@@ -127,6 +129,7 @@ fn by_moves(alloc: Global, moves: &[Point], is_allowed: bool) -> Result<Offsets,
     ensures ok { IfOk result (λ offsets. (offsets ≡ map in_halves (places_along origin moves.now)) × AreOffsets offsets × IsTrue is_allowed) }
     ensures far { result ≡ Err Far → ¬ AreNear (map in_halves (places_along origin moves.now)) }
     ensures many { result ≡ Err Many → AreNear (map in_halves (places_along origin moves.now)) × (is_allowed ≡ false) }
+    ensures few { length moves.now < 12 → IfErr result (λ bad. (bad ≡ Far) ⊎ AreNear (map in_halves (places_along origin moves.now))) }
 {
     match along(alloc, ORIGIN, moves) {
         Ok(places) => listed(alloc, places.as_slice(), is_allowed),
@@ -144,6 +147,7 @@ fn by_moves_on_grid(
     ensures ok { IfOk result (λ offsets. (offsets ≡ map in_halves (places_along origin (map (enlarged grid) moves.now))) × AreOffsets offsets × IsTrue is_allowed) }
     ensures far { result ≡ Err Far → ¬ AreNear (map in_halves (places_along origin (map (enlarged grid) moves.now))) }
     ensures many { result ≡ Err Many → AreNear (map in_halves (places_along origin (map (enlarged grid) moves.now))) × (is_allowed ≡ false) }
+    ensures few { length moves.now < 12 → IfErr result (λ bad. (bad ≡ Far) ⊎ AreNear (map in_halves (places_along origin (map (enlarged grid) moves.now)))) }
 {
     match along_grid(alloc, grid, moves) {
         Ok(places) => listed(alloc, places.as_slice(), is_allowed),

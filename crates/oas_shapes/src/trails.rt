@@ -1,5 +1,5 @@
 //! Places along moves, in half units.
-ghost use Rattle.std.specs.Prelude.{◌≡◌, ◌-ℤ◌, List, [], ◌∷◌, map, OnOk, IfOk, Err};
+ghost use Rattle.std.specs.Prelude.{◌≡◌, ◌<◌, ◌≤◌, ◌-ℤ◌, List, [], ◌∷◌, length, map, IsOk, OnOk, IfOk, IfErr, Err};
 ghost use Rattle.half_grid.specs.declared.plane.Point.{Point as APoint};
 ghost use Rattle.layout_model.specs.Images.{enlarged, moved as place_after};
 ghost use Rattle.oas_shapes.specs.Plane.{IsNear, east, north, origin, doubled as in_halves, places_along};
@@ -55,6 +55,7 @@ impl Trail {
         ensures on { (whole moves : List APoint) → IsTrail whole self.old (way_of way ∷ moves) → OnOk result (IsTrail whole self.new moves) }
         ensures at { OnOk result (self.new.at ≡ place_after self.old.at (way_of way)) }
         ensures far { (whole moves : List APoint) → IsTrail whole self.old (way_of way ∷ moves) → result ≡ Err Far → ¬ AreNear (map in_halves whole) }
+        ensures few { (whole moves : List APoint) → IsTrail whole self.old (way_of way ∷ moves) → length whole ≤ 12 → IfErr result (λ bad. bad ≡ Far) }
     {
         let Some(next) = moved(self.at, way) else {
             return Err(Unplaced::Far);
@@ -74,6 +75,7 @@ impl Trail {
         ensures places { (whole : List APoint) → IsTrail whole self [] → IfOk result (λ places. places.items ≡ map in_halves whole) }
         ensures near { (whole : List APoint) → IsTrail whole self [] → AreNear (map in_halves whole) }
         ensures far { (result ≡ Err Far) → ⊥ }
+        ensures few { (whole : List APoint) → IsTrail whole self [] → length whole ≤ 12 → IsOk result }
     {
         let mut listed = self.listed;
         match listed.push(doubled(self.at)) {
@@ -83,12 +85,13 @@ impl Trail {
     }
 }
 
-/// The places along these moves.
+/// The places along these moves. Up to twelve places take no memory.
 pub(crate) fn along(alloc: Global, start: Point, moves: &[Point]) -> Result<Places, Unplaced>
     requires { IsNear start }
     ensures places { IfOk result (λ places. places.items ≡ map in_halves (places_along start moves.now)) }
     ensures near { IfOk result (λ places. AreNear places.items) }
     ensures far { result ≡ Err Far → ¬ AreNear (map in_halves (places_along start moves.now)) }
+    ensures few { length moves.now < 12 → IfErr result (λ bad. bad ≡ Far) }
 {
     let mut trail = Trail::new(alloc, start);
     for step in moves {
@@ -124,11 +127,12 @@ pub(crate) fn along_changes(
     trail.finish()
 }
 
-/// The places along moves that are multiplied by a grid.
+/// The places along moves that are multiplied by a grid. Up to twelve places take no memory.
 pub(crate) fn along_grid(alloc: Global, grid: u64, moves: &[Point]) -> Result<Places, Unplaced>
     ensures places { IfOk result (λ places. places.items ≡ map in_halves (places_along origin (map (enlarged grid) moves.now))) }
     ensures near { IfOk result (λ places. AreNear places.items) }
     ensures far { result ≡ Err Far → ¬ AreNear (map in_halves (places_along origin (map (enlarged grid) moves.now))) }
+    ensures few { length moves.now < 12 → IfErr result (λ bad. bad ≡ Far) }
 {
     let mut trail = Trail::new(alloc, ORIGIN);
     for step in moves {
@@ -143,7 +147,8 @@ pub(crate) fn along_grid(alloc: Global, grid: u64, moves: &[Point]) -> Result<Pl
     trail.finish()
 }
 
-/// The places along a row, or along a column where it is upright, at these spaces times the grid.
+/// The places along a row, or along a column where it is upright, at these spaces times the grid. Up to twelve places take
+/// no memory.
 pub(crate) fn along_spaces(
     alloc: Global,
     is_upright: bool,
@@ -153,6 +158,7 @@ pub(crate) fn along_spaces(
     ensures places { IfOk result (λ places. places.items ≡ map in_halves (places_along origin (map (λ space. enlarged grid (towards is_upright space)) spaces.now))) }
     ensures near { IfOk result (λ places. AreNear places.items) }
     ensures far { result ≡ Err Far → ¬ AreNear (map in_halves (places_along origin (map (λ space. enlarged grid (towards is_upright space)) spaces.now))) }
+    ensures few { length spaces.now < 12 → IfErr result (λ bad. bad ≡ Far) }
 {
     let mut trail = Trail::new(alloc, ORIGIN);
     for space in spaces {

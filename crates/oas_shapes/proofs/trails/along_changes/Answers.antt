@@ -1,10 +1,10 @@
-use Rattle.std.proofs.Common.{◌≡◌, ◌+◌, ◌∷◌, ◌∙◌, drop, get_or, sym, ap, subst}
-use Rattle.std.proofs.lemmas.List.{drop_more}
+use Rattle.std.proofs.Common.{◌≡◌, ◌+◌, ◌∷◌, ◌∙◌, drop, get_or, sym, ap, subst, arith}
+use Rattle.std.proofs.lemmas.List.{drop_more, drop_all}
 use Rattle.layout_model.specs.Images.{moved}
 use Rattle.oas_shapes.specs.Plane.{origin, places_along}
 use Rattle.oas_shapes.specs.PointLists.{added_up}
 use Rattle.oas_shapes.specs.Trails.{IsTrail}
-use Rattle.oas_shapes.proofs.TrailLemmas.{changes_on}
+use Rattle.oas_shapes.proofs.TrailLemmas.{changes_on, finished_near}
 use Rattle.oas_shapes.proofs.trails.along_changes.Goals as goal
 
 pub loop-change-preserved : goal.loop-change-preserved
@@ -36,3 +36,10 @@ way_between-way-requires-clause-to c =
     let t = subst (λ xs. IsTrail whole trail (added_up c.loop-change.way xs)) here c.loop-change.invariant in
     let same = c.joined.ensures in
     (c.in-Ok.ensures.on whole (added_up way rest) (subst (λ w. IsTrail whole trail (w ∷ added_up way rest)) (sym same) t)).here
+
+pub returns-clause-near : goal.returns-clause-near
+returns-clause-near c =
+    let items = c.args.changes.now in
+    let whole = places_along c.args.start (added_up origin items) in
+    let t = subst (λ xs. IsTrail whole c.loop-change.trail (added_up c.loop-change.way xs)) (drop_all c.loop-change.change-index items (omega arith)) c.loop-change.invariant in
+    finished_near whole c.finish.result (c.finish.ensures.near whole t) (c.finish.ensures.places whole t)
