@@ -52,7 +52,7 @@ pub(crate) struct Names<'a> {
     used: IndexMap<u64, usize>,
 }
 
-/// Looks at what is written of a cell's name.
+/// Looks at what is written of a cell's name. That it is none is told even where memory is wanting.
 pub(crate) fn look_at_name(
     alloc: Global,
     bytes: &[u8],
@@ -63,6 +63,7 @@ pub(crate) fn look_at_name(
     requires { IsSpan bytes.now (first, next) }
     ensures ok { OnOk result (IsName (text_in bytes.now (first, next))) }
     ensures bad { IfErr result (IsNoName (text_in bytes.now (first, next)) at) }
+    ensures no_name { (IsName (text_in bytes.now (first, next)) → ⊥) → result ≡ Err (bads.Value at 2) }
 {
     match Name::new(alloc, &bytes[first..next]) {
         Ok(_) => Ok(()),
@@ -81,6 +82,7 @@ pub(crate) fn look_at_called(
     requires { AreCalledWithin bytes.now called }
     ensures ok { OnOk result (IsNamed bytes.now called) }
     ensures bad { IfErr result (λ bad. (bad ≡ bads.NoMemory) ⊎ ((IsNamed bytes.now called → ⊥) × (bad ≡ bads.Value at 2))) }
+    ensures no_name { (IsNamed bytes.now called → ⊥) → result ≡ Err (bads.Value at 2) }
 {
     match called {
         Some(Called::Text(first, next)) => look_at_name(alloc, bytes, first, next, at),
