@@ -19,6 +19,11 @@ pub record IsBand (band : RowRange) : Type 0 where
   pub high : IsWithinReach band.y1
   pub has_rows : band.y0 <ℤ band.y1
 
+-- a band that an area is asked for: it has at most as many rows as a deck's bands may have
+pub record IsAskedBand (band : RowRange) : Type 0 where
+  pub is_band : IsBand band
+  pub few : band.y1 ≤ℤ (band.y0 +ℤ pos 16777216)
+
 -- An operand of a step is taken by its name, and with a halo: how many rows beyond a row of the step its area is looked
 -- at.
 abbrev pub taken : ℕ → ℤ → Taken

@@ -8,7 +8,7 @@ ghost use Rattle.deck_plan.specs.Bounds.{HasCornersUpTo, IsTileUpTo};
 ghost use Rattle.deck_plan.specs.Lists.{HasArea, IsListed, list_at};
 ghost use Rattle.bool_ops.specs.Operations.{IsInRows, IsJoinedOf};
 ghost use Rattle.deck_plan.specs.Areas.{IsInOutput, IsInBand, IsInStep};
-ghost use Rattle.deck_plan.specs.Needs.{IsBand, IsNeeded};
+ghost use Rattle.deck_plan.specs.Needs.{IsBand, IsAskedBand, IsNeeded};
 ghost use Rattle.layout_model.specs.declared.pair.Pair.{Pair as APair};
 ghost use Rattle.cell_tree.specs.Flattening.{IsInLayer};
 ghost use Rattle.deck_plan.specs.Halos.{AreHalos};
@@ -110,11 +110,11 @@ impl<'t> Plan<'t> {
         Needs::of(self.deck(), named).window(name, band)
     }
 
-    /// The joined list, in the band, of the part of the output's area in the band. The band has rows, and lies within
-    /// reach. Want of memory is the only refusal.
+    /// The joined list, in the band, of the part of the output's area in the band. The band has rows, 16,777,216 at most,
+    /// and lies within reach. Want of memory is the only refusal.
     pub fn area(&self, alloc: Global, output: usize, band: Window) -> Result<Vec<Trap>, NoMemory>
         requires output { output < length self.now.deck.outputs }
-        requires band { IsBand band }
+        requires band { IsAskedBand band }
         ensures shots { IfOk result (λ traps. All IsShot traps.items) }
         ensures joined { IfOk result (λ traps. IsJoinedOf band (IsInBand self.now.cells self.now.top self.now.deck output band) traps.items) }
     {

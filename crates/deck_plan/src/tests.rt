@@ -160,6 +160,7 @@ fn band_of(rt: &impl Abort, y0: i64, y1: i64) -> Window {
 fn area(rt: &impl Abort, alloc: Global, plan: &Plan, output: usize, band: Window) -> Vec<Trap> {
     assert!(rt; output < plan.deck().outputs.as_slice().len());
     assert!(rt; -REACH <= band.y0() && band.y0() < band.y1() && band.y1() <= REACH);
+    assert!(rt; band.y1() <= band.y0() + 16_777_216);
     plan.area(alloc, output, band).expect(rt, "memory")
 }
 

@@ -9,7 +9,7 @@ use Rattle.bool_ops.specs.Operations as ops
 use Rattle.shot_checker.specs.Verdicts.{IsInRows, CoversAlike}
 use Rattle.shot_checker.specs.Verdicts as checked
 use Rattle.deck_plan.specs.Areas.{IsInBand}
-use Rattle.deck_plan.specs.Needs.{IsBand}
+use Rattle.deck_plan.specs.Needs.{IsAskedBand}
 use Rattle.deck_plan.specs.Plans.{Planned}
 use Rattle.output_check.specs.Certificates.{area_of, IsFirstFault}
 use Rattle.output_check.specs.Fronts.{BottomsAscend, IsFrontAt}
@@ -19,12 +19,15 @@ use Rattle.output_check.proofs.Faults.{AgreesBelow, IsPartOf, no_fault, a_fault,
 pub first_front : (shots sorted meeting later : List Trapezoid) (y : ℤ) → meeting ≡ [] → later ≡ sorted → ((t : Tile) → count_in sorted t ≡ count_in shots t) → BottomsAscend sorted → IsFrontAt shots y meeting later
 first_front shots sorted meeting later y none is counts ascend = record { ascend = rw is ascend; counts = λ t le. (let n = counts t in rw (none, is) (omega (arith, n))) }
 
--- a band is within reach
-pub is_band : (window : RowRange) (rows : ℤ) → neg_ℤ (pos 4294967296) ≤ℤ window.y0 → window.y0 ≤ℤ pos 4294967296 → window.y1 ≡ window.y0 +ℤ rows → pos 1024 ≤ℤ rows → rows ≤ℤ pos 16777216 → IsBand window
+-- a band of a deck may be asked for
+pub is_band : (window : RowRange) (rows : ℤ) → neg_ℤ (pos 4294967296) ≤ℤ window.y0 → window.y0 ≤ℤ pos 4294967296 → window.y1 ≡ window.y0 +ℤ rows → pos 1024 ≤ℤ rows → rows ≤ℤ pos 16777216 → IsAskedBand window
 is_band window rows low high height some few = record {
-  low = record { low = omega (arith, ints, low); high = omega (arith, ints, high) };
-  high = record { low = omega (arith, ints, low, height, some); high = omega (arith, ints, high, height, few) };
-  has_rows = omega (arith, ints, height, some);
+  is_band = record {
+    low = record { low = omega (arith, ints, low); high = omega (arith, ints, high) };
+    high = record { low = omega (arith, ints, low, height, some); high = omega (arith, ints, high, height, few) };
+    has_rows = omega (arith, ints, height, some);
+  };
+  few = omega (arith, ints, height, few);
 }
 
 pub fewer_rows : (a b : ℤ) → a <ℤ b → pos 0 <ℤ b → rows_up a < rows_up b

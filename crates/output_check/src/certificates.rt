@@ -1,8 +1,8 @@
 //! The verdict on the shots of an output.
-ghost use Rattle.std.specs.Prelude.{◌≡◌, ◌↔◌, ◌<◌, ℕ, IfOk, IfSome, IfNone, All, length};
+ghost use Rattle.std.specs.Prelude.{◌≡◌, ◌↔◌, ◌<◌, ℕ, IfOk, OnErr, IfSome, IfNone, All, length};
 ghost use Rattle.half_grid.specs.Trapezoids.{IsShot, CoversExactly};
 ghost use Rattle.half_grid.specs.declared.plane.Tile.{Tile};
-ghost use Rattle.shot_checker.specs.Verdicts.{IsFirstTooLarge};
+ghost use Rattle.shot_checker.specs.Verdicts.{Fits, IsFirstTooLarge};
 ghost use Rattle.shot_checker.specs.declared.verdicts.Verdict.TheVariants.{Exact, Miscovered, TooLarge};
 ghost use Rattle.output_check.specs.Certificates.{area_of, IsFirstFault, IsCertified, IsMiscover};
 
@@ -60,7 +60,7 @@ fn fault_of_output(
 /// The verdict on shots of an output of the deck, whoever made them. TooLarge where some shot doesn't fit the deck's
 /// limits, with the first such shot. Otherwise Miscovered where some tile of the plane isn't in exactly one shot if it is
 /// in the output's area, and in none otherwise: with the lowest such tile, leftmost in its row, its number of shots and
-/// its wanted number. Otherwise Exact. Want of memory is the only refusal.
+/// its wanted number. Otherwise Exact. Want of memory is the only refusal, and never comes where some shot doesn't fit.
 ///
 /// The area is computed band by band, from below, up to the first fault. Shots are sorted by their lower ends once, and
 /// each is looked at in the bands that it meets, and with all others in the rows below and above all bands.
@@ -74,6 +74,7 @@ pub fn check_output(
     ensures exact { IfOk result (λ verdict. (verdict ≡ Exact) ↔ IsCertified plan.now output shots.now) }
     ensures miscovered { IfOk result (λ verdict. (t : Tile) (count wanted : ℕ) → (verdict ≡ Miscovered t count wanted) ↔ IsMiscover plan.now output shots.now t count wanted) }
     ensures too_large { IfOk result (λ verdict. (k : ℕ) → (verdict ≡ TooLarge k) ↔ IsFirstTooLarge shots.now plan.now.deck.limits k) }
+    ensures memory { OnErr result (All (Fits plan.now.deck.limits) shots.now) }
 {
     if let Some(k) = too_large(shots, &plan.deck().limits) {
         return Ok(Verdict::TooLarge(k));

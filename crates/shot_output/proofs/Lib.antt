@@ -6,4 +6,5 @@ pub mod PutLemmas
 pub mod FileLemmas
 pub mod OutputLemmas
 pub mod LawLemmas
+pub mod AreaLemmas
 pub mod ForCallers

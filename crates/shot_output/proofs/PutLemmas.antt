@@ -16,7 +16,7 @@ use Rattle.half_grid.specs.declared.plane.Tile.{Tile}
 use Rattle.layout_model.specs.declared.pair.Pair.{Pair}
 use Rattle.oas_lex.specs.ShotText.{spelling_of}
 use Rattle.deck_text.specs.declared.deck.Deck.{Deck}
-use Rattle.deck_plan.specs.Needs.{IsBand}
+use Rattle.deck_plan.specs.Needs.{IsAskedBand}
 use Rattle.deck_plan.specs.Plans.{Planned}
 use Rattle.fracture.specs.Cutting.{cut_list, shots_of}
 use Rattle.shot_writer.specs.Writing.{AreSumsAfter, no_sums, records_of, triangles_in}
@@ -188,11 +188,14 @@ pub band_height : (deck : Deck) (m : ℤ) (window : RowRange) → window ≡ ban
 band_height deck m window at =
     ap (λ (w : RowRange). w.y1) at ∙ next_bottom m deck.band ∙ sym (ap (λ (w : RowRange). w.y0 +ℤ deck.band) at)
 
-pub band_within : (deck : Deck) (m : ℤ) (window : RowRange) → pos 0 <ℤ deck.band → deck.band ≤ℤ pos 16777216 → neg_ℤ (pos 4294967296) ≤ℤ window.y0 → window.y0 ≤ℤ pos 4294967296 → window ≡ band deck.band m → IsBand window
+pub band_within : (deck : Deck) (m : ℤ) (window : RowRange) → pos 0 <ℤ deck.band → deck.band ≤ℤ pos 16777216 → neg_ℤ (pos 4294967296) ≤ℤ window.y0 → window.y0 ≤ℤ pos 4294967296 → window ≡ band deck.band m → IsAskedBand window
 band_within deck m window some few low high at =
     let top = band_height deck m window at in
     record {
-      low = record { low = omega (arith, ints, low); high = omega (arith, ints, high) };
-      high = record { low = omega (arith, ints, low, top, some); high = omega (arith, ints, high, top, few) };
-      has_rows = omega (arith, ints, top, some);
+      is_band = record {
+        low = record { low = omega (arith, ints, low); high = omega (arith, ints, high) };
+        high = record { low = omega (arith, ints, low, top, some); high = omega (arith, ints, high, top, few) };
+        has_rows = omega (arith, ints, top, some);
+      };
+      few = omega (arith, ints, top, few);
     }

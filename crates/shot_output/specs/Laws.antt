@@ -1,10 +1,14 @@
 -- What holds of the shot list of each output, for every height of bands.
-use Rattle.std.specs.Prelude.{pos, ◌<ℤ◌, ◌≡◌, ◌↔◌, ℕ, List, ◌++◌}
+use Rattle.std.specs.Prelude.{ℤ, pos, ◌<ℤ◌, ◌≡◌, ◌↔◌, ℕ, List, ◌++◌, Some, slice_get}
 use Rattle.std.specs.List.{All}
-use Rattle.half_grid.specs.Trapezoids.{Trapezoid, IsShot, FitsLimits, CoversExactly}
+use Rattle.half_grid.specs.Trapezoids.{Trapezoid, IsShot, FitsLimits, CoversExactly, count_in}
 use Rattle.half_grid.specs.declared.plane.Tile.{Tile}
 use Rattle.fracture.specs.Limits.{AreLimits}
 use Rattle.fracture.specs.Economy.{HasNoNeedlessCut}
+use Rattle.layout_model.specs.declared.cells.Cell.{Cell}
+use Rattle.layout_model.specs.declared.pair.Pair.{Pair}
+use Rattle.cell_tree.specs.Flattening.{IsInLayer}
+use Rattle.deck_text.specs.declared.deck.Step.TheVariants.{Layer}
 use Rattle.deck_text.specs.declared.deck.Output.{Output}
 use Rattle.deck_text.specs.declared.deck.Deck.{Deck}
 use Rattle.deck_plan.specs.Plans.{Planned}
@@ -49,3 +53,24 @@ OneShotList = (p q : Planned) (k m : ℕ) (xs ys : List Trapezoid) → HasRules 
 abbrev pub BeginningIsPrefix : Type 0
 BeginningIsPrefix = (p : Planned) (k : ℕ) (output : Output) (bytes : List ℕ) (shots : List Trapezoid) → HasRules p.deck
     → IsBeginning p k output bytes → IsListOf p k shots → (rest : List ℕ) × (text_of p.deck output shots ≡ bytes ++ rest)
+
+-- two trees of cells have the same areas on the layers of the deck
+abbrev pub HaveSameLayers : Deck → List Cell → ℕ → List Cell → ℕ → Type 0
+HaveSameLayers deck cells top others other_top =
+    (n : ℕ) (pair : Pair) (t : Tile) → slice_get deck.steps n ≡ Some (Layer pair) → IsInLayer cells top pair t ↔ IsInLayer others other_top pair t
+
+-- With one deck, layouts whose layers have the same areas give the same files, byte for byte.
+abbrev pub SameLayersSameFiles : Type 0
+SameLayersSameFiles = (deck : Deck) (cells : List Cell) (top : ℕ) (others : List Cell) (other_top k : ℕ) (output : Output) (xs ys : List Trapezoid)
+    → HasRules deck → HaveSameLayers deck cells top others other_top
+    → IsListOf (record { deck = deck; cells = cells; top = top }) k xs
+    → IsListOf (record { deck = deck; cells = others; top = other_top }) k ys → text_of deck output xs ≡ text_of deck output ys
+
+-- the same plan, but for the rows of a band
+abbrev pub with_rows : Planned → ℤ → Planned
+with_rows p rows = record p { deck = record p.deck { band = rows } }
+
+-- Decks that differ in their rows per band alone cover the same triangles.
+abbrev pub BandsCoverTheSame : Type 0
+BandsCoverTheSame = (p : Planned) (rows : ℤ) (k : ℕ) (xs ys : List Trapezoid) → HasRules p.deck → HasRules (with_rows p rows).deck
+    → IsListOf p k xs → IsListOf (with_rows p rows) k ys → (t : Tile) → count_in xs t ≡ count_in ys t

@@ -5,7 +5,7 @@ ghost use Rattle.half_grid.specs.Windows.{row_range};
 ghost use Rattle.depot.specs.Counts.{Rose, NeverFall};
 ghost use Rattle.shot_writer.specs.Writing.{no_sums};
 ghost use Rattle.shot_writer.specs.WriterView.{pair_of, sums_of, refusal_of};
-ghost use Rattle.deck_plan.specs.Needs.{IsBand};
+ghost use Rattle.deck_plan.specs.Needs.{IsAskedBand};
 ghost use Rattle.shot_output.specs.Laws.{HasRules};
 ghost use Rattle.shot_output.specs.Bands.{IsNear, IsBandOfDeck, HasRoomFor, IsBandPut, IsBandPart, IsPut, IsPutPart, HasRows};
 
@@ -70,7 +70,7 @@ fn put_band<D: Depot>(
 ) -> Result<(), DepotBad>
     requires output { output < length plan.now.deck.outputs }
     requires rules { HasRules plan.now.deck }
-    requires band { IsBand band }
+    requires band { IsAskedBand band }
     requires current { IsTrue D.tells → IsSome (D.content depot.old).current }
     requires kept { refusal_of writer.old ≡ None }
     requires room { HasRoomFor plan.now output band (sums_of writer.old) }
