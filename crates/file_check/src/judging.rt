@@ -1,5 +1,6 @@
 //! The bytes of a shot file, judged for an output.
-ghost use Rattle.std.specs.Prelude.{◌≡◌, ◌≢◌, ◌≤◌, ◌<◌, ◌*◌, ◌↔◌, IsTrue, IfOk, IfErr, IfSome, length};
+ghost use Rattle.std.specs.Prelude.{◌≡◌, ◌≢◌, ◌≤◌, ◌<◌, ◌*◌, ◌↔◌, Err, IsTrue, IfOk, IfErr, IfSome, All, length};
+ghost use Rattle.shot_checker.specs.Verdicts.{Fits};
 ghost use Rattle.output_check.specs.Certificates.{IsCertified};
 ghost use Rattle.file_check.specs.Files.{HasHeadOf, AreSumsOf, IsExactText, OfOutput};
 ghost use Rattle.file_check.specs.Judgements.{data_of, IsBytesFault, IsShotsFault};
@@ -64,13 +65,14 @@ fn refused_shots(place: usize, bad: ShotBad) -> CheckBad
     }
 }
 
-// Judges the shots of a file whose head is right.
+// Judges the shots of a file whose head is right. A shot that doesn't fit is told even where memory is wanting.
 fn judge_shots(alloc: Global, plan: &Plan, place: usize, shots: &[Trap]) -> Result<Sums, CheckBad>
     requires place { place < length plan.now.deck.outputs }
     requires few { length shots.now ≤ 268435456 }
     ensures ok { IfOk result (AreSumsOf shots.now) }
     ensures exact { IfOk result (λ _. IsCertified plan.now place shots.now) }
     ensures refused { IfErr result (IsShotsFault plan.now place shots.now) }
+    ensures memory { result ≡ Err CheckBad.NoMemory → All (Fits plan.now.deck.limits) shots.now }
 {
     let verdict = match check_output(alloc, plan, place, shots) {
         Ok(verdict) => verdict,
