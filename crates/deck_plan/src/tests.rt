@@ -6,7 +6,7 @@ use crate::Plan;
 use cell_tree::{Tree, resolve};
 use deck_text::{Deck, read_deck};
 use geo_stream::List;
-use half_grid::{Point, REACH, Trap, Window};
+use half_grid::{Point, Trap, Window};
 use layout_model::{Cell, Counts, Layout, Name, Offsets, Pair, Shape};
 use std::alloc::Global;
 use std::process::Abort;
@@ -159,8 +159,9 @@ fn band_of(rt: &impl Abort, y0: i64, y1: i64) -> Window {
 // The area of an output in a band.
 fn area(rt: &impl Abort, alloc: Global, plan: &Plan, output: usize, band: Window) -> Vec<Trap> {
     assert!(rt; output < plan.deck().outputs.as_slice().len());
-    assert!(rt; -REACH <= band.y0() && band.y0() < band.y1() && band.y1() <= REACH);
-    assert!(rt; band.y1() <= band.y0() + 16_777_216);
+    assert!(rt; -8_388_608 <= band.y0());
+    assert!(rt; band.y0() < band.y1());
+    assert!(rt; band.y1() <= 8_388_608);
     plan.area(alloc, output, band).expect(rt, "memory")
 }
 
