@@ -1,0 +1,8 @@
+-- The word that the line of a refused shot file names.
+use Rattle.std.specs.Prelude.{ℕ, List, [], ◌∷◌}
+
+-- FILE of `shots FILE`, `pack FILE OUT` and `unpack FILE OUT`
+abbrev pub file_word : List (List ℕ) → List ℕ
+file_word [] = []
+file_word (command ∷ []) = []
+file_word (command ∷ file ∷ more) = file

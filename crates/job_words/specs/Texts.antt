@@ -1,0 +1,7 @@
+-- Words as the program is handed them.
+use Rattle.std.specs.Prelude.{ℕ, List, map, string_bytes, String}
+use Rattle.std.specs.declared.alloc.Global.{Global}
+
+-- the bytes of each word
+abbrev pub texts : List (String Global) → List (List ℕ)
+texts words = map (λ w. string_bytes w) words
