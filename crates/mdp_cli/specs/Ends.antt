@@ -1,9 +1,10 @@
 -- How the program ends.
 use Rattle.std.specs.Prelude.{◌≡◌, ◌↔◌, ℕ, List, Bool, IsTrue}
+use Rattle.job_words.specs.Words.{IsNoCommand}
 use Rattle.mdp_job.specs.Codes.{code_of}
-use Rattle.mdp_job.specs.Words.{IsNoCommand}
 use Rattle.mdp_job.specs.Runs.{Run}
-use Rattle.mdp_job.specs.Clauses.{Covers, Certifies, Reports, Accepts, FaultsTold}
+use Rattle.mdp_job.specs.Headline.{Certifies}
+use Rattle.mdp_job.specs.Clauses.{Coverage, Acceptance, Refusals, Remains, Speech, FaultsTold}
 use Rattle.mdp_job.specs.declared.status.Status.{Status}
 use Rattle.mdp_job.specs.declared.status.Status.TheVariants as answers
 
@@ -12,8 +13,10 @@ pub record IsEnd (tells : Bool) (r : Run) (words : List (List ℕ)) (number : �
   pub answer : Status
   pub is : number ≡ code_of answer
   pub refused : (answer ≡ answers.Words) ↔ IsNoCommand words
-  pub cover : IsTrue tells → Covers r words answer
-  pub certificate : IsTrue tells → Certifies r words answer
-  pub report : IsTrue tells → Reports r words answer
-  pub accepted : IsTrue tells → Accepts r words answer
-  pub faults_told : FaultsTold r.old r.new answer
+  pub faults_told : FaultsTold r.old r.new (IsTrue tells) answer
+  pub covers : IsTrue tells → Coverage r words answer
+  pub certifies : IsTrue tells → Certifies r words answer
+  pub accepts : IsTrue tells → Acceptance r words answer
+  pub refuses : IsTrue tells → Refusals r words answer
+  pub leaves : IsTrue tells → Remains r words answer
+  pub says : IsTrue tells → Speech r words answer

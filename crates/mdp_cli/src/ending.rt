@@ -1,14 +1,23 @@
 //! The number with which the program ends.
 ghost use Rattle.std.specs.Prelude.{◌≡◌, IsNone, IfSome};
-ghost use Rattle.mdp_job.specs.Runs.{texts, run_of};
+ghost use Rattle.job_words.specs.Texts.{texts};
+ghost use Rattle.mdp_job.specs.Codes.{code_of};
+ghost use Rattle.mdp_job.specs.Runs.{run_of};
 ghost use Rattle.mdp_cli.specs.Ends.{IsEnd};
 
 use depot::Depot;
-use mdp_job::run;
+use mdp_job::{Status, run};
 use std::alloc::Global;
 
 /// The number where there are no words.
 pub(crate) const NO_WORDS: u8 = 8;
+
+// The number of an answer.
+fn number(answer: Status) -> u8
+    ensures { result ≡ code_of answer }
+{
+    answer.code()
+}
 
 /// Does what the words say, and gives the number with which the program ends: that of the answer, or `NO_WORDS`.
 pub(crate) fn exit_code<D: Depot>(alloc: Global, words: &Option<Vec<String>>, depot: &mut D) -> u8
@@ -18,7 +27,7 @@ pub(crate) fn exit_code<D: Depot>(alloc: Global, words: &Option<Vec<String>>, de
         (texts w.items) result) }
 {
     match words {
-        Some(words) => run(alloc, words, depot).code(),
+        Some(words) => number(run(alloc, words, depot)),
         None => NO_WORDS,
     }
 }

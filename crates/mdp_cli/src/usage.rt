@@ -5,10 +5,12 @@ const REFUSED_WORDS: u8 = 1;
 
 const USAGE: &str = "nettletide 1.0.0 writes the shot files of a chip layout for mask writers.
 
-    nettletide fracture LAYOUT DECK    writes the deck's shot files, and prints a report
-    nettletide check LAYOUT DECK       judges the deck's shot files, whoever made them, by the layout
-    nettletide shots FILE              lists a shot file
-    nettletide generate N FILE         writes a GDSII layout for tests and measurements, N from 1 to 1,000
+    nettletide fracture LAYOUT DECK        writes the deck's shot files, and prints a report
+    nettletide check LAYOUT DECK           judges the deck's shot files, whoever made them, by the layout
+    nettletide shots FILE                  lists a shot file
+    nettletide pack FILE OUT               writes a shot file with repetitions
+    nettletide unpack FILE OUT             writes a packed shot file without
+    nettletide generate N FILE             writes a GDSII layout for tests and measurements, N from 1 to 1,000
 
 LAYOUT is a GDSII or an OASIS file, and DECK a text that says which layers are taken and what is made of them.
 DECK.md has every line of a deck and every refusal with what to do about it: it is in docs/ of the sources, and in

@@ -1,5 +1,5 @@
 -- The rows of the table of answers that speak of `check`, from its answer.
-use Rattle.std.proofs.Common.{◌≡◌, ◌≢◌, ◌⊎◌, inl, inr, ℕ, List, length, Option, Some, refl, ap, subst, ◌∙◌, arith}
+use Rattle.std.proofs.Common.{◌≡◌, ◌≢◌, ◌⊎◌, inl, inr, ℕ, List, length, Option, Some, refl, sym, ap, subst, ◌∙◌, arith}
 use Rattle.depot.specs.Content.{Content, ChangesLeftOnly, with_left, with_said, IsPartSaid}
 use Rattle.depot.specs.Counts.{Counts, NeverFall}
 use Rattle.depot.proofs.ForCallers.{Rose-earlier}
@@ -8,14 +8,19 @@ use Rattle.shot_writer.specs.declared.parts.Sums.{Sums}
 use Rattle.job_input.specs.Accepted.{HoldsInput}
 use Rattle.job_input.specs.Refused.{IsWanting}
 use Rattle.job_input.specs.declared.reading.Input.{Input}
-use Rattle.file_check.specs.declared.faults.CheckFault.{CheckFault}
+use Rattle.file_check.specs.declared.faults.CheckFault.{CheckFault as OutputFault}
 use Rattle.file_check.specs.declared.faults.CheckFault.TheVariants as faults
+use Rattle.file_check.specs.Files.{IsFirstFileFault}
 use Rattle.file_check.specs.declared.faults.CheckBad.TheVariants as bads
 use Rattle.file_check.proofs.ForCallers.{Class, Missing, class_of, same_class, fault_class, AllClasses, IsFirstAt, no_first, one_first, all_classes, files_before, first_before, refused_file, fault_first, MissingFile, missing_file, missing_first}
 use Rattle.mdp_job.specs.Runs.{Run, run_of, ReadRose, WriteRose, ComesExactlyWhere}
-use Rattle.mdp_job.specs.Outputs.{plan_of}
-use Rattle.mdp_job.specs.Certificates.{AreExact, IsRefusedAt, HasNoFile, exact_report}
+use Rattle.mdp_job.specs.Denoted.{plan_of}
+use Rattle.mdp_job.specs.Faults.{fault_of}
+use Rattle.mdp_job.specs.Headline.{AreExact}
+use Rattle.mdp_job.specs.Certificates.{IsRefusedAt, HasNoFile, exact_report}
 use Rattle.mdp_job.specs.Checking.{AreAllExact, IsHalfReported, IsAllReported, IsChecked, IsCheckAnswer, HasOutputs}
+use Rattle.mdp_job.specs.declared.faults.CheckFault.{CheckFault}
+use Rattle.mdp_job.specs.declared.faults.CheckFault.TheVariants as all
 use Rattle.mdp_job.specs.declared.status.Status.{Status}
 use Rattle.mdp_job.specs.declared.status.Status.TheVariants as answers
 use Rattle.mdp_job.proofs.Rows.{KeepsInput, done_given, write_given, no_given, read_cause, input_due}
@@ -24,6 +29,26 @@ use Rattle.mdp_job.proofs.Exactness.{before_exact, all_exact, classes_before, cl
 
 pub checked_keeps : (r : Run) → KeepsInput (IsChecked r)
 checked_keeps r = record { deck = λ input fault x. x; layout = λ input fault x. x }
+
+-- ---- the faults of outputs, among all
+
+-- the fault of an output's file that this is, if it is one
+output_fault : OutputFault → CheckFault → OutputFault
+output_fault other all.Long = faults.Long
+output_fault other (all.Bad bad) = faults.Bad bad
+output_fault other all.Head = faults.Head
+output_fault other (all.Verdict verdict) = faults.Verdict verdict
+output_fault other (all.Pack bad) = other
+
+back : (other fault : OutputFault) → output_fault other (fault_of fault) ≡ fault
+unfolding output_fault
+back other faults.Long = refl
+back other (faults.Bad bad) = refl
+back other faults.Head = refl
+back other (faults.Verdict verdict) = refl
+
+same_of : (fault other : OutputFault) → fault_of fault ≡ fault_of other → fault ≡ other
+same_of fault other e = sym (back fault fault) ∙ ap (output_fault fault) e ∙ back fault other
 
 -- ---- later, and from the content before the reading
 
@@ -54,8 +79,12 @@ checked_before before now after o p q input answers.ReadFault e later (x, rest) 
 checked_before before now after o p q input answers.WriteFault e later (rose, x) = (Rose-earlier o.write_faults p.write_faults q.write_faults rose later.write_faults, half_before before now after input e x)
 checked_before before now after o p q input answers.NoMemory e later (inl rest) = inl (left_before before now after e rest)
 checked_before before now after o p q input answers.NoMemory e later (inr (rose, x)) = inr (Rose-earlier o.refused p.refused q.refused rose later.refused, half_before before now after input e x)
-checked_before before now after o p q input (answers.No place fault) e later (x, rest) =
-    (first_before (plan_of input) before now _ _ (bads.Refused place fault) e (λ rose. Rose-earlier o.read_faults p.read_faults q.read_faults rose later.read_faults) x, left_before before now after e rest)
+checked_before before now after o p q input (answers.No place fault) e later (of, is, x, rest) = (
+  of,
+  is,
+  first_before (plan_of input) before now _ _ (bads.Refused place of) e (λ rose. Rose-earlier o.read_faults p.read_faults q.read_faults rose later.read_faults) x,
+  left_before before now after e rest,
+)
 
 pub check_later : (b m : Content) (o p q : Counts) (layout deck : List ℕ) (s : Status) (top : Option (List ℕ)) → NeverFall p q
     → IsCheckAnswer (run_of b m o p) layout deck s top → IsCheckAnswer (run_of b m o q) layout deck s top
@@ -73,18 +102,18 @@ pub outputs_told : (r : Run) (layout deck : List ℕ) (input : Input) (s : Statu
     → HasOutputs r.before layout deck s outputs
 outputs_told r layout deck input s outputs holds x e place fault is =
     let refused : IsChecked r input (answers.No place fault) = subst (λ (t : Status). IsChecked r input t) is x in
-    let f = refused_file (plan_of input) r.before (ReadRose r) place fault refused.0 in
+    let f = refused_file (plan_of input) r.before (ReadRose r) place refused.0 refused.2 in
     (f.output.file, record { input = input; holds = holds; output = f.output; at = f.at; file_is = refl }, e)
 
 -- ---- the first file that isn't exact
 
-class_there : (fault : CheckFault) → Missing ≡ class_of fault → ⊥
+class_there : (fault : OutputFault) → Missing ≡ class_of fault → ⊥
 class_there faults.Long e = cc
 class_there (faults.Bad bad) e = cc
 class_there faults.Head e = cc
 class_there (faults.Verdict verdict) e = cc
 
-refused_first : (c : Content) (layout deck : List ℕ) (place : ℕ) (fault : CheckFault) (h : IsRefusedAt c layout deck place fault) → IsFirstAt (plan_of h.input) c place (class_of fault)
+refused_first : (c : Content) (layout deck : List ℕ) (place : ℕ) (fault : OutputFault) (h : IsRefusedAt c layout deck place fault) → IsFirstAt (plan_of h.input) c place (class_of fault)
 refused_first c layout deck place fault h =
     let class = fault_class (plan_of h.input) place h.output c fault h.fault_is in
     record { before = classes_before h.input c layout deck place h.holds h.before; output = h.output; at = h.at; class = class.0; not_exact = class.1 }
@@ -103,11 +132,11 @@ module _ (r : Run) (input : Input) where
   none_first : (place : ℕ) (x : Class) (sums : List Sums) → AreAllExact r.before input sums → IsFirstAt (plan_of input) r.before place x → ⊥
   none_first place x sums all first = no_first (plan_of input) r.before place x (all_classes (plan_of input) r.before (length input.deck.outputs) sums all) first
 
-  missing_refused : (place : ℕ) (fault : CheckFault) → MissingFile (plan_of input) r.before → IsFirstAt (plan_of input) r.before place (class_of fault) → ⊥
+  missing_refused : (place : ℕ) (fault : OutputFault) → MissingFile (plan_of input) r.before → IsFirstAt (plan_of input) r.before place (class_of fault) → ⊥
   missing_refused place fault m first = class_there fault (one_first (plan_of input) r.before m.place place Missing (class_of fault) (missing_first (plan_of input) r.before m) first).1
 
-  pub fault_due : (s : Status) (place : ℕ) (fault : CheckFault) → IsChecked r input s → IsFirstAt (plan_of input) r.before place (class_of fault)
-      → (s ≡ answers.No place fault) ⊎ (s ≡ answers.NoMemory) ⊎ ((s ≡ answers.ReadFault) × ReadRose r)
+  pub fault_due : (s : Status) (place : ℕ) (fault : OutputFault) → IsChecked r input s → IsFirstAt (plan_of input) r.before place (class_of fault)
+      → (s ≡ answers.No place (fault_of fault)) ⊎ (s ≡ answers.NoMemory) ⊎ ((s ≡ answers.ReadFault) × ReadRose r)
   fault_due answers.Done place fault x first = absurd (none_first place (class_of fault) x.sums x.exact first)
   fault_due answers.Words place fault x first = absurd x
   fault_due (answers.Deck other) place fault x first = absurd x
@@ -119,10 +148,10 @@ module _ (r : Run) (input : Input) where
       ]
   fault_due answers.WriteFault place fault (rose, x) first = absurd (none_first place (class_of fault) x.sums x.exact first)
   fault_due answers.NoMemory place fault x first = inr (inl refl)
-  fault_due (answers.No other bad) place fault (x, rest) first =
-      let one = one_first (plan_of input) r.before other place (class_of bad) (class_of fault) (fault_first (plan_of input) r.before (ReadRose r) other bad x) first in
-      let same : bad ≡ fault = same_class bad fault one.1 in
-      inl (rw (one.0, same) refl)
+  fault_due (answers.No other bad) place fault (of, is, x, rest) first =
+      let one = one_first (plan_of input) r.before other place (class_of of) (class_of fault) (fault_first (plan_of input) r.before (ReadRose r) other of x) first in
+      let same : of ≡ fault = same_class of fault one.1 in
+      inl (ap (λ (k : ℕ). answers.No k bad) one.0 ∙ ap (answers.No place) (is ∙ ap fault_of same))
 
   pub nothing_due : (s : Status) (place : ℕ) → IsChecked r input s → IsFirstAt (plan_of input) r.before place Missing → (s ≡ answers.ReadFault) ⊎ (s ≡ answers.NoMemory)
   nothing_due answers.Done place x first = absurd (none_first place Missing x.sums x.exact first)
@@ -132,9 +161,9 @@ module _ (r : Run) (input : Input) where
   nothing_due answers.ReadFault place x first = inl refl
   nothing_due answers.WriteFault place (rose, x) first = absurd (none_first place Missing x.sums x.exact first)
   nothing_due answers.NoMemory place x first = inr refl
-  nothing_due (answers.No other bad) place (x, rest) first =
-      let one = one_first (plan_of input) r.before place other Missing (class_of bad) first (fault_first (plan_of input) r.before (ReadRose r) other bad x) in
-      absurd (class_there bad one.1)
+  nothing_due (answers.No other bad) place (of, is, x, rest) first =
+      let one = one_first (plan_of input) r.before place other Missing (class_of of) first (fault_first (plan_of input) r.before (ReadRose r) other of x) in
+      absurd (class_there of one.1)
 
   pub exact_due : (s : Status) → IsChecked r input s → AllClasses (plan_of input) r.before (length input.deck.outputs) → (ReadRose r → ⊥) → (WriteRose r → ⊥) → s ≢ answers.NoMemory → s ≡ answers.Done
   exact_due answers.Done x all reads writes memory = refl
@@ -148,20 +177,22 @@ module _ (r : Run) (input : Input) where
       ]
   exact_due answers.WriteFault (rose, x) all reads writes memory = absurd (writes rose)
   exact_due answers.NoMemory x all reads writes memory = absurd (memory refl)
-  exact_due (answers.No place fault) (x, rest) all reads writes memory =
-      absurd (no_first (plan_of input) r.before place (class_of fault) all (fault_first (plan_of input) r.before (ReadRose r) place fault x))
+  exact_due (answers.No place fault) (of, is, x, rest) all reads writes memory =
+      absurd (no_first (plan_of input) r.before place (class_of of) all (fault_first (plan_of input) r.before (ReadRose r) place of x))
 
 -- ---- the rows
 
 module _ (r : Run) (layout deck : List ℕ) (s : Status) (top : Option (List ℕ)) (h : IsCheckAnswer r layout deck s top) where
-  refused_only : (place : ℕ) (fault : CheckFault) → s ≡ answers.No place fault → IsRefusedAt r.before layout deck place fault
+  refused_only : (place : ℕ) (fault : OutputFault) → s ≡ answers.No place (fault_of fault) → IsRefusedAt r.before layout deck place fault
   refused_only place fault e =
-      let given = no_given (IsChecked r) r layout deck s top place fault h e in
-      let x : IsChecked r given.input (answers.No place fault) = subst (λ (t : Status). IsChecked r given.input t) e given.is in
-      let f = refused_file (plan_of given.input) r.before (ReadRose r) place fault x.0 in
+      let given = no_given (IsChecked r) r layout deck s top place (fault_of fault) h e in
+      let x : IsChecked r given.input (answers.No place (fault_of fault)) = subst (λ (t : Status). IsChecked r given.input t) e given.is in
+      let same : x.0 ≡ fault = same_of x.0 fault (sym x.1) in
+      let first = subst (λ (f : OutputFault). IsFirstFileFault (plan_of given.input) r.before (ReadRose r) (bads.Refused place f)) same x.2 in
+      let f = refused_file (plan_of given.input) r.before (ReadRose r) place fault first in
       record { input = given.input; holds = given.holds; before = before_exact given.input r.before place f.sums f.before; output = f.output; at = f.at; fault_is = f.fault_is }
 
-  pub file_refused : (place : ℕ) (fault : CheckFault) → ComesExactlyWhere (ReadRose r) s (answers.No place fault) (IsRefusedAt r.before layout deck place fault)
+  pub file_refused : (place : ℕ) (fault : OutputFault) → ComesExactlyWhere (ReadRose r) s (answers.No place (fault_of fault)) (IsRefusedAt r.before layout deck place fault)
   file_refused place fault = record {
     only = refused_only place fault;
     whenever = λ cause. elim (input_due (IsChecked r) r layout deck s top h cause.input cause.holds) [

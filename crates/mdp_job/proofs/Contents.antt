@@ -1,5 +1,5 @@
 -- What names hold, and what changes.
-use Rattle.std.proofs.Common.{◌≡◌, ◌⊎◌, ℕ, ◌≤◌, ◌<◌, List, [], length, sym, subst, ◌∙◌, arith, Some, None, Option, refl}
+use Rattle.std.proofs.Common.{◌≡◌, ℕ, ◌≤◌, ◌<◌, List, [], length, sym, subst, ◌∙◌, arith, Some, None, Option, refl}
 use Rattle.std.specs.Prelude.{IsSomeAnd}
 use Rattle.depot.specs.Content.{Content, held_as, IsLongerThan, ChangesLeftOnly, with_left}
 

@@ -24,8 +24,9 @@ use Rattle.job_input.specs.declared.reading.Input.{Input}
 use Rattle.output_check.specs.Certificates.{IsCertified}
 use Rattle.file_check.specs.Files.{IsExactFile, AreExactFiles}
 use Rattle.file_check.proofs.ForCallers.{IsClass, Judged, AllClasses, file_of_place}
-use Rattle.mdp_job.specs.Outputs.{plan_of, area_of}
-use Rattle.mdp_job.specs.Certificates.{IsExact, AreExact, AreExactBefore, IsExactSum, AreExactSums}
+use Rattle.mdp_job.specs.Denoted.{plan_of, area_of}
+use Rattle.mdp_job.specs.Headline.{AreExact}
+use Rattle.mdp_job.specs.Certificates.{IsExact, AreExactBefore, IsExactSum, AreExactSums}
 
 -- the area of an output that is there, by the output's place
 abbrev area_at : Input → Option Output → Tile → Type 0
@@ -48,18 +49,18 @@ cover_of : (input : Input) (k : ℕ) (output : Output) (shots : List Trapezoid) 
 cover_of input k output shots at h = subst (λ (o : Option Output). CoversExactly shots (area_at input o)) at h.covers
 
 pub file_exact : (input : Input) (c : Content) (k : ℕ) (output : Output) (sums : Sums) → slice_get input.deck.outputs k ≡ Some output → IsExactFile (plan_of input) k output c sums → IsExact c input output
-file_exact input c k output sums at (bytes, holds, x) = record {
-  bytes = bytes;
-  held = holds.held;
-  short = holds.short;
-  is = record {
+file_exact input c k output sums at (bytes, holds, x) = (
+  bytes,
+  holds.held,
+  holds.short,
+  record {
     shots = x.s.shots;
     text = text_with bytes x.s.unit x.s.pair x.s.shots input.deck output x.text x.head.unit x.head.pair;
     legal = x.text.legal;
     within = x.certified.fit;
     cover = cover_of input k output x.s.shots at x.certified;
-  };
-}
+  },
+)
 
 file_sum : (input : Input) (c : Content) (k : ℕ) (output : Output) (sums : Sums) → slice_get input.deck.outputs k ≡ Some output → IsExactFile (plan_of input) k output c sums → IsExactSum c input output sums
 file_sum input c k output sums at (bytes, holds, x) =
@@ -121,26 +122,26 @@ narrow_pair layout deck count o s = record { layer_bits = omega (arith, s.narrow
 
 pub exact_file : (input : Input) (c : Content) (layout deck : List ℕ) (k : ℕ) (output : Output) → HoldsInput c layout deck input → slice_get input.deck.outputs k ≡ Some output → IsExact c input output
     → IsClass (plan_of input) k output c (Judged Exact)
-exact_file input c layout deck k output holds at x =
+exact_file input c layout deck k output holds at (bytes, held, short, is) =
     let s = sound holds.holds_deck.bytes layout deck input.deck holds.holds_deck.is_deck in
-    let pair = pair_for output x.is.shots in (
-      x.bytes,
-      record { held = x.held; short = x.short },
+    let pair = pair_for output is.shots in (
+      bytes,
+      record { held = held; short = short },
       record {
-        s = record { unit = 2 * input.deck.unit; pair = pair; shots = x.is.shots };
+        s = record { unit = 2 * input.deck.unit; pair = pair; shots = is.shots };
         text = record {
           unit_fits = unit_fits layout deck input.deck s;
-          legal = x.is.legal;
-          pair_fits = pair_fits output x.is.shots (narrow_pair layout deck (length input.deck.steps) output (output_sound layout deck input.deck k output s at));
+          legal = is.legal;
+          pair_fits = pair_fits output is.shots (narrow_pair layout deck (length input.deck.steps) output (output_sound layout deck input.deck k output s at));
           layer = output.pair.layer;
           datatype = output.pair.datatype;
-          agrees = pair_agrees output x.is.shots;
-          text = x.is.text;
+          agrees = pair_agrees output is.shots;
+          text = is.text;
         };
-        head = record { unit = refl; pair = pair_is output x.is.shots };
+        head = record { unit = refl; pair = pair_is output is.shots };
         verdict_is = record {
-          fit = x.is.within;
-          covers = subst (λ (o : Option Output). CoversExactly x.is.shots (area_at input o)) (sym at) x.is.cover;
+          fit = is.within;
+          covers = subst (λ (o : Option Output). CoversExactly is.shots (area_at input o)) (sym at) is.cover;
         };
       },
     )

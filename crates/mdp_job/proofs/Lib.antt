@@ -1,4 +1,3 @@
-pub mod WordLemmas
 pub mod Spellings
 pub mod Contents
 pub mod Written
@@ -6,7 +5,12 @@ pub mod Made
 pub mod Rows
 pub mod Exactness
 pub mod CheckRows
-pub mod ListingGoes
-pub mod ListingRows
+pub mod FileRows
+pub mod Taken
+pub mod PlainFiles
+pub mod OneThing
 pub mod Table
+pub mod Ends
 pub mod Finals
+pub mod Said
+pub mod Left

@@ -1,26 +1,25 @@
 -- How the parts of the commands `fracture` and `check` fit together.
-use Rattle.std.proofs.Common.{◌≡◌, ◌≢◌, ◌⊎◌, inl, inr, ℕ, Bool, List, [], take, Option, None, Some, Ok, Err, refl, sym, ap, subst, ◌∙◌}
+use Rattle.std.proofs.Common.{◌≡◌, ◌⊎◌, inl, inr, ℕ, Bool, List, [], take, Option, None, Ok, Err, refl, sym, ap, subst, ◌∙◌}
 use Rattle.depot.specs.Content.{Content, ChangesLeftOnly, with_left, with_said, IsPartSaid}
 use Rattle.depot.specs.Counts.{Counts, NeverFall, Rose}
 use Rattle.depot.specs.declared.outside.DepotBad.{DepotBad}
 use Rattle.depot.specs.declared.outside.DepotBad.TheVariants as depot
-use Rattle.depot.proofs.ForCallers.{Rose-later, Rose-earlier}
+use Rattle.depot.proofs.ForCallers.{Rose-earlier}
 use Rattle.shot_writer.specs.declared.parts.Sums.{Sums}
 use Rattle.cell_tree.specs.declared.faults.TreeBad.{TreeBad}
 use Rattle.job_input.specs.Clauses.{Answer, ComesExactlyWhere, ComesByKind}
 use Rattle.job_input.specs.declared.reading.Input.{Input}
-use Rattle.job_input.specs.declared.refusing.InputBad.{InputBad}
 use Rattle.mdp_job.specs.Runs.{run_of}
-use Rattle.mdp_job.specs.Outputs.{plan_of, report_on}
+use Rattle.mdp_job.specs.Denoted.{plan_of}
+use Rattle.mdp_job.specs.Outputs.{report_on}
 use Rattle.file_check.specs.Files.{IsFirstFileFault, IsReal, CountsFor as FileCounts}
 use Rattle.file_check.specs.declared.faults.CheckBad.{CheckBad}
 use Rattle.file_check.specs.declared.faults.CheckBad.TheVariants as checks
 use Rattle.file_check.specs.declared.faults.CheckFault.TheVariants as check_faults
 use Rattle.mdp_job.specs.Certificates.{exact_report}
-use Rattle.mdp_job.specs.Parts.{fault_status, status_of, top_of, IsSaidSo, IsInputTold, IsAllWritten, IsDone, IsUnsaid, IsMade, IsOutcomeBy, IsAnswerBy, IsFractured, IsAnswer, IsOfCheck, CountsFor}
+use Rattle.mdp_job.specs.Parts.{fault_status, IsSaidSo, IsInputTold, IsAllWritten, IsMade, IsOutcomeBy, IsAnswerBy, IsFractured, IsAnswer, IsOfInput, refuses_output, CountsFor}
 use Rattle.mdp_job.specs.Checking.{checked_status, AreAllExact, IsChecked}
 use Rattle.mdp_job.specs.declared.status.Status.{Status}
-use Rattle.mdp_job.specs.declared.status.Status.TheVariants as answers
 
 -- a text that was cut short
 pub said_fault : (b a : Content) (wr rr : Type 0) (text : List ℕ) (bad : DepotBad) (s : Status) → s ≡ fault_status bad → IsPartSaid b text a → (bad ≡ depot.Failed → wr) → (bad ≡ depot.NoMemory → rr) → IsSaidSo b a wr rr text s
@@ -157,11 +156,11 @@ said_checked b m a o n p input sums s same rest exact (inr (inr (e, rose, part))
 
 -- what the first file that isn't exact owes
 pub refused_checked : (b a : Content) (o p : Counts) (input : Input) (bad : CheckBad) → ChangesLeftOnly b a → IsFirstFileFault (plan_of input) b (Rose o.read_faults p.read_faults) bad → IsChecked (run_of b a o p) input (checked_status bad)
-refused_checked b a o p input (checks.Refused place fault) rest h = (h, rest)
+refused_checked b a o p input (checks.Refused place fault) rest h = (fault, refl, h, rest)
 refused_checked b a o p input checks.ReadFault rest h = (h, rest)
 refused_checked b a o p input checks.NoMemory rest h = inl rest
 
-pub checked_kind : (bad : CheckBad) → IsReal bad → IsOfCheck (checked_status bad)
+pub checked_kind : (bad : CheckBad) → IsReal bad → IsOfInput refuses_output (checked_status bad)
 checked_kind (checks.Refused place check_faults.Long) h = tt
 checked_kind (checks.Refused place (check_faults.Bad bad)) h = h
 checked_kind (checks.Refused place check_faults.Head) h = tt

@@ -1,16 +1,14 @@
 -- The rows of the table of answers that speak of the reading of deck and layout, and those of `fracture`, from the answer.
-use Rattle.std.proofs.Common.{◌≡◌, ◌≢◌, ◌⊎◌, inl, inr, ℕ, Bool, List, [], ◌∷◌, Option, None, Some, Ok, Err, refl, sym, ap, subst, ◌∙◌}
-use Rattle.std.specs.Prelude.{IsTrue}
+use Rattle.std.proofs.Common.{◌≡◌, ◌≢◌, ◌⊎◌, inl, inr, ℕ, Bool, List, [], Option, Some, Ok, Err, refl, sym, ap, subst, ◌∙◌}
 use Rattle.depot.specs.Content.{Content, IsNotThere, IsLongerThan, ChangesLeftOnly, with_left}
 use Rattle.gds_reader.specs.declared.refusing.GdsBad.{GdsBad}
 use Rattle.oas_reader.specs.declared.refusing.OasBad.{OasBad}
-use Rattle.cell_tree.specs.Faults.{order_of}
 use Rattle.cell_tree.specs.declared.faults.TreeBad.{TreeBad}
 use Rattle.deck_text.specs.declared.refusal.DeckBad.{DeckBad}
 use Rattle.deck_text.specs.declared.deck.Deck.{Deck}
 use Rattle.job_input.specs.Accepted.{HoldsDeck, HoldsInput}
 use Rattle.job_input.specs.Refused.{HoldsDeckFault, IsLongLayout, HoldsGdsFault, HoldsOasFault, HoldsTreeFault, IsWanting}
-use Rattle.job_input.specs.Clauses.{Answer, ComesExactlyWhere as InputComes, ComesByKind}
+use Rattle.job_input.specs.Clauses.{Answer, ComesExactlyWhere as InputComes}
 use Rattle.job_input.specs.declared.reading.Input.{Input}
 use Rattle.job_input.specs.declared.refusing.InputBad.{InputBad}
 use Rattle.job_input.specs.declared.refusing.InputBad.TheVariants as bads
@@ -20,7 +18,7 @@ use Rattle.job_input.specs.declared.refusing.LayoutFault.{LayoutFault}
 use Rattle.job_input.specs.declared.refusing.LayoutFault.TheVariants as layout_faults
 use Rattle.mdp_job.specs.Runs.{Run, ReadRose, WriteRose, RefusedRose, ComesExactlyWhere}
 use Rattle.mdp_job.specs.Clauses.{IsOfKind, IsTreeFault}
-use Rattle.file_check.specs.declared.faults.CheckFault.{CheckFault}
+use Rattle.mdp_job.specs.declared.faults.CheckFault.{CheckFault}
 use Rattle.mdp_job.specs.Parts.{status_of, top_of, IsInputTold, IsMade, IsOutcomeBy, IsAnswerBy, IsFractured, IsAnswer}
 use Rattle.mdp_job.specs.declared.status.Status.{Status}
 use Rattle.mdp_job.specs.declared.status.Status.TheVariants as answers
@@ -69,17 +67,17 @@ made_kind tells b a wr rr input s (inl x) = inl x.0
 made_kind tells b a wr rr input s (inr (inl x)) = inr (inl x.0)
 made_kind tells b a wr rr input s (inr (inr x)) = inr (inr x.0)
 
-deck_made : (fault : DeckFault) → (answers.Deck fault ≡ answers.Done) ⊎ (answers.Deck fault ≡ answers.WriteFault) ⊎ (answers.Deck fault ≡ answers.NoMemory) → ⊥
+pub deck_made : (fault : DeckFault) → (answers.Deck fault ≡ answers.Done) ⊎ (answers.Deck fault ≡ answers.WriteFault) ⊎ (answers.Deck fault ≡ answers.NoMemory) → ⊥
 deck_made fault (inl e) = cc
 deck_made fault (inr (inl e)) = cc
 deck_made fault (inr (inr e)) = cc
 
-layout_made : (fault : LayoutFault) → (answers.Layout fault ≡ answers.Done) ⊎ (answers.Layout fault ≡ answers.WriteFault) ⊎ (answers.Layout fault ≡ answers.NoMemory) → ⊥
+pub layout_made : (fault : LayoutFault) → (answers.Layout fault ≡ answers.Done) ⊎ (answers.Layout fault ≡ answers.WriteFault) ⊎ (answers.Layout fault ≡ answers.NoMemory) → ⊥
 layout_made fault (inl e) = cc
 layout_made fault (inr (inl e)) = cc
 layout_made fault (inr (inr e)) = cc
 
-read_made : (answers.ReadFault ≡ answers.Done) ⊎ (answers.ReadFault ≡ answers.WriteFault) ⊎ (answers.ReadFault ≡ answers.NoMemory) → ⊥
+pub read_made : (answers.ReadFault ≡ answers.Done) ⊎ (answers.ReadFault ≡ answers.WriteFault) ⊎ (answers.ReadFault ≡ answers.NoMemory) → ⊥
 read_made (inl e) = cc
 read_made (inr (inl e)) = cc
 read_made (inr (inr e)) = cc

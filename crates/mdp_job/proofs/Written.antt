@@ -1,15 +1,14 @@
 -- What the writing of the outputs leaves, in the words of the program's call.
-use Rattle.std.proofs.Common.{◌≡◌, ◌⊎◌, inl, inr, ℕ, suc, ◌<◌, ◌≤◌, ◌+◌, ◌*◌, ℤ, pos, ◌≤ℤ◌, ◌<ℤ◌, Bool, List, [], ◌++◌, length, take, flat_map, slice_get, Option, Some, refl, sym, ap, subst, ◌∙◌, arith, append_assoc}
-use Rattle.std.proofs.lemmas.Int.{ints}
+use Rattle.std.proofs.Common.{◌≡◌, ◌⊎◌, inl, inr, ℕ, suc, ◌≤◌, Bool, List, [], length, take, slice_get, Option, Some, refl, sym, ap, subst, ◌∙◌, arith}
 use Rattle.std.proofs.lemmas.List.{take-append-le}
 use Rattle.std.proofs.lemmas.Option.{slice_get_within}
 use Rattle.std.specs.Prelude.{IsTrue, IsSomeAnd}
 use Rattle.std.specs.FinMap.{get}
-use Rattle.half_grid.specs.Trapezoids.{Trapezoid, CoversExactly}
+use Rattle.half_grid.specs.Trapezoids.{CoversExactly}
 use Rattle.half_grid.specs.declared.plane.Tile.{Tile}
 use Rattle.depot.specs.Content.{Content, Files, with_left, with_said}
 use Rattle.fracture.specs.Economy.{HasNoNeedlessCut}
-use Rattle.shot_writer.specs.Writing.{triangles_of, no_sums}
+use Rattle.shot_writer.specs.Writing.{triangles_of}
 use Rattle.shot_writer.specs.declared.parts.Sums.{Sums}
 use Rattle.deck_text.specs.Decks.{IsDeck}
 use Rattle.deck_text.proofs.ForCallers.{sound}
@@ -20,9 +19,11 @@ use Rattle.shot_output.specs.ShotLists.{IsShotList}
 use Rattle.shot_output.specs.TileCounts.{IsNumberOfTilesIn}
 use Rattle.shot_output.specs.Laws.{HasRules}
 use Rattle.shot_output.proofs.ForCallers.{has_rules, shots_are_legal, shots_fit, shots_cover, shots_are_few, triangles_are_tiles, beginning_is_prefix}
-use Rattle.shot_output.specs.Files.{rules_of, text_of, IsBeginning, IsWhole, OnlyFilesOf, AreWritten, IsPartOf, AreCutShort}
+use Rattle.shot_output.specs.Files.{rules_of, text_of, IsBeginning, IsWhole, OnlyFilesOf, IsPartOf, AreCutShort}
 use Rattle.job_input.specs.declared.reading.Input.{Input}
-use Rattle.mdp_job.specs.Outputs.{plan_of, area_of, IsShotFile, IsCovered, IsNoFileOf, ChangesOnly, AreCovered, IsEconomic, AreEconomic, IsSummed, AreSummed, IsReported, IsBegun, AreSpoiled, report_on}
+use Rattle.mdp_job.specs.Denoted.{plan_of, area_of, ChangesOnly}
+use Rattle.mdp_job.specs.Headline.{AreCovered}
+use Rattle.mdp_job.specs.Outputs.{IsCovered, IsEconomic, AreEconomic, IsSummed, AreSummed, IsBegun, AreSpoiled}
 use Rattle.mdp_job.specs.Parts.{IsAllWritten}
 
 pub rules : (bytes layout deck : List ℕ) (d : Deck) → IsDeck bytes layout deck d → HasRules d
@@ -36,17 +37,17 @@ area_at input o t = IsSomeAnd o (λ output. IsInArea input.tree.layout.cells inp
 
 pub whole_covered : (tells : Bool) (input : Input) (now : Content) (k : ℕ) (output : Output) (sum : Sums) → IsTrue tells → HasRules input.deck → slice_get input.deck.outputs k ≡ Some output
     → IsWhole (plan_of input) k tells now sum → IsCovered now.made input output
-whole_covered tells input now k output sum told rules e w = record {
-  bytes = text_of input.deck output w.shots;
-  made = w.holds output e told;
-  is = record {
+whole_covered tells input now k output sum told rules e w = (
+  text_of input.deck output w.shots,
+  w.holds output e told,
+  record {
     shots = w.shots;
     text = refl;
     legal = shots_are_legal (plan_of input) k w.shots rules w.list;
     within = shots_fit (plan_of input) k w.shots rules w.list;
     cover = subst (λ (o : Option Output). CoversExactly w.shots (area_at input o)) e (shots_cover (plan_of input) k w.shots rules w.list);
-  };
-}
+  },
+)
 
 whole_economic : (tells : Bool) (input : Input) (now : Content) (k : ℕ) (output : Output) (sum : Sums) → IsTrue tells → HasRules input.deck → slice_get input.deck.outputs k ≡ Some output
     → IsWhole (plan_of input) k tells now sum → IsEconomic now.made input output
@@ -149,7 +150,8 @@ cut_spoiled tells input b m a x told rules w e =
       inside = w.inside;
       whole = λ k output less there.
           let each = w.whole k less in
-          subst (λ (f : Files). IsCovered f input output) (sym files) (whole_covered tells input m k output each.0 told rules there each.1);
+          subst (λ (f : Files). IsCovered f input output × IsEconomic f input output) (sym files)
+          (whole_covered tells input m k output each.0 told rules there each.1, whole_economic tells input m k output each.0 told rules there each.1);
       part = λ output there.
           part_then input b w.k output a.made m.made files (part_begun input b m w.k output rules there (w.part told (slice_get_within input.deck.outputs w.k output there)));
       others = only_files b m a input (suc w.k) x (w.rest told) e;
@@ -170,7 +172,8 @@ unsaid_spoiled tells input b m a sums x told rules w e =
       place = length input.deck.outputs;
       inside = omega (arith);
       whole = λ k output less there.
-          subst (λ (f : Files). IsCovered f input output) (sym files) (all_covered tells input (with_left b []) m sums told rules w k output there);
+          subst (λ (f : Files). IsCovered f input output × IsEconomic f input output) (sym files)
+          (all_covered tells input (with_left b []) m sums told rules w k output there, all_economic tells input (with_left b []) m sums told rules w k output there);
       part = λ output there. absurd (none_there input output there);
       others = only_files b m a input (suc (length input.deck.outputs)) x (fewer input (length input.deck.outputs) (with_left b []) m (w.rest told)) e;
     }

@@ -14,21 +14,16 @@ use Rattle.shot_output.specs.TileCounts.{IsNumberOfTilesIn}
 use Rattle.job_input.specs.Accepted.{HoldsInput}
 use Rattle.job_input.specs.declared.reading.Input.{Input}
 use Rattle.file_check.specs.Files.{IsFaultOf}
-use Rattle.file_check.specs.declared.faults.CheckFault.{CheckFault}
-use Rattle.mdp_job.specs.Outputs.{plan_of, area_of, IsShotFile, report_of}
+use Rattle.file_check.specs.declared.faults.CheckFault.{CheckFault as OutputFault}
+use Rattle.mdp_job.specs.Denoted.{plan_of, area_of}
+use Rattle.mdp_job.specs.Headline.{IsShotFile}
+use Rattle.mdp_job.specs.Outputs.{report_of}
 
 -- ---- what is certified
 
 -- the file of the output is exact
-pub record IsExact (c : Content) (input : Input) (output : Output) : Type 0 where
-  pub bytes : List ℕ
-  pub held : held_as c output.file ≡ Some bytes
-  pub short : length bytes ≤ 268435456
-  pub is : IsShotFile input output bytes
-
--- the file of each output is exact
-abbrev pub AreExact : Content → Input → Type 0
-AreExact c input = (k : ℕ) (output : Output) → slice_get input.deck.outputs k ≡ Some output → IsExact c input output
+abbrev pub IsExact : Content → Input → Output → Type 0
+IsExact c input output = (bytes : List ℕ) × (held_as c output.file ≡ Some bytes) × (length bytes ≤ 268435456) × IsShotFile input output bytes
 
 -- the file of each output before a place is exact
 abbrev pub AreExactBefore : Content → Input → ℕ → Type 0
@@ -38,7 +33,7 @@ AreExactBefore c input place = (k : ℕ) (output : Output) → k < place → sli
 
 -- deck and layout are accepted, the files of the outputs before this place are exact, and this is why that of the output
 -- there isn't
-pub record IsRefusedAt (c : Content) (layout deck : List ℕ) (place : ℕ) (fault : CheckFault) : Type 0 where
+pub record IsRefusedAt (c : Content) (layout deck : List ℕ) (place : ℕ) (fault : OutputFault) : Type 0 where
   pub input : Input
   pub holds : HoldsInput c layout deck input
   pub before : AreExactBefore c input place

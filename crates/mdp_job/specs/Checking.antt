@@ -5,11 +5,13 @@ use Rattle.deck_text.specs.declared.deck.Output.{Output}
 use Rattle.shot_writer.specs.declared.parts.Sums.{Sums}
 use Rattle.job_input.specs.declared.reading.Input.{Input}
 use Rattle.file_check.specs.Files.{AreExactFiles, IsFirstFileFault}
-use Rattle.file_check.specs.declared.faults.CheckFault.{CheckFault}
+use Rattle.file_check.specs.declared.faults.CheckFault.{CheckFault as OutputFault}
 use Rattle.file_check.specs.declared.faults.CheckBad.{CheckBad}
 use Rattle.file_check.specs.declared.faults.CheckBad.TheVariants as bads
 use Rattle.mdp_job.specs.Runs.{Run, ReadRose, WriteRose, RefusedRose}
-use Rattle.mdp_job.specs.Outputs.{plan_of}
+use Rattle.mdp_job.specs.Denoted.{plan_of}
+use Rattle.mdp_job.specs.Faults.{fault_of}
+use Rattle.mdp_job.specs.declared.faults.CheckFault.{CheckFault}
 use Rattle.mdp_job.specs.Certificates.{IsFileAt, exact_report}
 use Rattle.mdp_job.specs.Parts.{IsAnswerBy}
 use Rattle.mdp_job.specs.declared.status.Status.{Status}
@@ -17,7 +19,7 @@ use Rattle.mdp_job.specs.declared.status.Status.TheVariants as answers
 
 -- the answer to files that aren't all exact
 abbrev pub checked_status : CheckBad → Status
-checked_status (bads.Refused place fault) = answers.No place fault
+checked_status (bads.Refused place fault) = answers.No place (fault_of fault)
 checked_status bads.ReadFault = answers.ReadFault
 checked_status bads.NoMemory = answers.NoMemory
 
@@ -47,7 +49,8 @@ IsChecked r input answers.ReadFault = IsFirstFileFault (plan_of input) r.before 
 IsChecked r input answers.WriteFault = WriteRose r × IsHalfReported r.before r.after input
 IsChecked r input answers.NoMemory = ChangesLeftOnly r.before r.after ⊎ (RefusedRose r × IsHalfReported r.before r.after input)
 IsChecked r input (answers.No place fault) =
-    IsFirstFileFault (plan_of input) r.before (ReadRose r) (bads.Refused place fault) × ChangesLeftOnly r.before r.after
+    (of : OutputFault) × (fault ≡ fault_of of) × IsFirstFileFault (plan_of input) r.before (ReadRose r) (bads.Refused place of)
+    × ChangesLeftOnly r.before r.after
 
 -- what holds where the command with these names gives the answer, with the name that its line may need
 abbrev pub IsCheckAnswer : Run → (layout deck : List ℕ) → Status → Option (List ℕ) → Type 0

@@ -1,82 +1,99 @@
--- The rows of the table of answers, each as it stands on the program's call: about what was there before the command and
--- after it, the words, and the answer.
+-- What `run` promises of each command: six records, whose fields are the rows of the table of answers, each about what was
+-- there before the command and after it, the words and the answer.
 use Rattle.std.specs.Prelude.{◌≡◌, ◌≢◌, ◌⊎◌, ◌↔◌, ℕ, List, [], ◌++◌, take, ⊤}
-use Rattle.depot.specs.Content.{Content, IsNotThere, IsLongerThan, ChangesLeftOnly, with_left, with_said, IsPartMade}
-use Rattle.depot.specs.Counts.{Counts, Rose}
 use Rattle.half_grid.specs.declared.plane.Tile.{Tile}
-use Rattle.shot_reader.specs.declared.refusing.ShotBad.{ShotBad}
-use Rattle.shot_checker.specs.declared.verdicts.Verdict.TheVariants as verdicts
+use Rattle.depot.specs.Content.{Content, IsNotThere, IsLongerThan, ChangesLeftOnly, with_left, with_said, IsPartMade}
+use Rattle.depot.specs.Counts.{Counts, NeverFall, Rose}
 use Rattle.gds_reader.specs.declared.refusing.GdsBad.{GdsBad}
 use Rattle.oas_reader.specs.declared.refusing.OasBad.{OasBad}
 use Rattle.cell_tree.specs.Faults.{order_of}
 use Rattle.cell_tree.specs.declared.faults.TreeBad.{TreeBad}
 use Rattle.deck_text.specs.declared.refusal.DeckBad.{DeckBad}
 use Rattle.deck_text.specs.declared.deck.Deck.{Deck}
+use Rattle.shot_reader.specs.declared.refusing.ShotBad.{ShotBad}
+use Rattle.shot_checker.specs.declared.verdicts.Verdict.TheVariants as verdicts
+use Rattle.shot_repeat.specs.Packed.{IsPackedText}
+use Rattle.shot_repeat.specs.declared.refusing.PackBad.{PackBad}
 use Rattle.shot_writer.specs.declared.parts.Sums.{Sums}
 use Rattle.job_input.specs.Accepted.{HoldsDeck, HoldsInput}
 use Rattle.job_input.specs.Refused.{HoldsDeckFault, IsLongLayout, HoldsGdsFault, HoldsOasFault, HoldsTreeFault, IsWanting}
 use Rattle.job_input.specs.declared.reading.Input.{Input}
-use Rattle.job_input.specs.declared.refusing.DeckFault.{DeckFault}
 use Rattle.job_input.specs.declared.refusing.DeckFault.TheVariants as deck_faults
 use Rattle.job_input.specs.declared.refusing.LayoutFault.{LayoutFault}
 use Rattle.job_input.specs.declared.refusing.LayoutFault.TheVariants as layout_faults
 use Rattle.layout_gen.specs.Generated.{generated}
-use Rattle.mdp_job.specs.Words.{IsFracture, IsCheck, IsShots, IsGenerate}
+use Rattle.file_check.specs.declared.faults.CheckFault.{CheckFault as OutputFault}
+use Rattle.file_check.specs.declared.faults.CheckFault.TheVariants as of_output
+use Rattle.job_words.specs.Words.{Command, Fracture, Check, Shots, Pack, Unpack, Generate, AreWordsOf, IsFracture, IsCheck, IsShots, IsPack, IsUnpack, IsGenerate}
 use Rattle.mdp_job.specs.Runs.{Run, ReadRose, WriteRose, RefusedRose, ComesExactlyWhere}
-use Rattle.mdp_job.specs.Outputs.{AreCovered, AreEconomic, IsReported, AreSummed, AreSpoiled, report_on}
-use Rattle.mdp_job.specs.Listings.{ShotData, HoldsShots, HoldsFault, listed}
-use Rattle.mdp_job.specs.Generating.{IsGenerated, generated_line}
-use Rattle.mdp_job.specs.Certificates.{AreExact, IsRefusedAt, HasNoFile, IsFileAt, AreExactSums, exact_report, IsExactReported}
-use Rattle.mdp_job.specs.Parts.{IsOfFracture, IsOfCheck, IsOfShots, IsOfGenerate}
+use Rattle.mdp_job.specs.Headline.{AreCovered, AreExact, Covers, Accepts}
+use Rattle.mdp_job.specs.Outputs.{AreEconomic, IsReported, AreSummed, AreSpoiled, report_on}
+use Rattle.mdp_job.specs.Certificates.{IsRefusedAt, HasNoFile, IsFileAt, AreExactSums, exact_report, IsExactReported}
+use Rattle.mdp_job.specs.ShotFiles.{ShotData, HoldsShots, HoldsPacked, HoldsFault, HoldsPackFault, listed, packed_of, packed_said, plain_of, unpacked_said}
+use Rattle.mdp_job.specs.Filing.{IsFiled}
+use Rattle.mdp_job.specs.Generating.{generated_line}
+use Rattle.mdp_job.specs.Parts.{IsOf}
 use Rattle.mdp_job.specs.Lines.{line_of}
+use Rattle.mdp_job.specs.Faults.{fault_of}
+use Rattle.mdp_job.specs.declared.faults.CheckFault.{CheckFault}
+use Rattle.mdp_job.specs.declared.faults.CheckFault.TheVariants as check_faults
 use Rattle.mdp_job.specs.declared.status.Status.{Status}
 use Rattle.mdp_job.specs.declared.status.Status.TheVariants as answers
-use Rattle.file_check.specs.declared.faults.CheckFault.{CheckFault}
-use Rattle.file_check.specs.declared.faults.CheckFault.TheVariants as check_faults
 
 -- ---- what is accepted
 
--- words, deck and layout of `fracture` are accepted
-abbrev pub IsFractureAccepted : List (List ℕ) → Content → Type 0
-IsFractureAccepted words c = (layout deck : List ℕ) × IsFracture words layout deck × (input : Input) × HoldsInput c layout deck input
+-- what the command reads is accepted: deck and layout, and for `check` each output's file is exact; or the shot file
+abbrev pub IsInputOf : Content → Command → Type 0
+IsInputOf c (Fracture layout deck) = (input : Input) × HoldsInput c layout deck input
+IsInputOf c (Check layout deck) = (input : Input) × HoldsInput c layout deck input × AreExact c input
+IsInputOf c (Shots file) = (s : ShotData) × HoldsShots c file s
+IsInputOf c (Pack file out) = (s : ShotData) × HoldsShots c file s
+IsInputOf c (Unpack file out) = (s : ShotData) × HoldsPacked c file s
+IsInputOf c (Generate n file) = ⊤
 
--- words, deck and layout of `check` are accepted, and each output's file is exact
-abbrev pub IsCheckAccepted : List (List ℕ) → Content → Type 0
-IsCheckAccepted words c = (layout deck : List ℕ) × IsCheck words layout deck × (input : Input) × HoldsInput c layout deck input × AreExact c input
-
--- words and shot file of `shots` are accepted
-abbrev pub IsListingAccepted : List (List ℕ) → Content → Type 0
-IsListingAccepted words c = (file : List ℕ) × IsShots words file × (s : ShotData) × HoldsShots c file s
-
--- the words of `generate` are accepted
-abbrev pub IsGenerateAccepted : List (List ℕ) → Type 0
-IsGenerateAccepted words = (n : ℕ) × (file : List ℕ) × IsGenerate words n file
-
--- words and input are accepted
+-- the words are a command, and what it reads is accepted
 abbrev pub IsAccepted : List (List ℕ) → Content → Type 0
-IsAccepted words c = IsFractureAccepted words c ⊎ IsListingAccepted words c ⊎ IsGenerateAccepted words ⊎ IsCheckAccepted words c
+IsAccepted words c = (command : Command) × AreWordsOf words command × IsInputOf c command
 
--- the command reads a layout and a deck of these names
+-- the command reads a deck and a layout of these names
 abbrev pub ReadsInput : List (List ℕ) → List ℕ → List ℕ → Type 0
 ReadsInput words layout deck = IsFracture words layout deck ⊎ IsCheck words layout deck
 
+-- the command reads a shot file of this name, plain or packed
+abbrev pub ReadsFile : List (List ℕ) → List ℕ → Type 0
+ReadsFile words file =
+    IsShots words file ⊎ ((out : List ℕ) × IsPack words file out) ⊎ ((out : List ℕ) × IsUnpack words file out)
+
+-- the command reads a plain one
+abbrev pub ReadsShots : List (List ℕ) → List ℕ → Type 0
+ReadsShots words file = IsShots words file ⊎ ((out : List ℕ) × IsPack words file out)
+
 -- A name that the command has to read isn't there: DECK, LAYOUT where the deck is accepted, the file of an output of
--- `check` where the layout is accepted and the files of the outputs before it are exact, or FILE of `shots`.
+-- `check` where the layout is accepted and the files of the outputs before it are exact, or FILE.
+abbrev pub IsUnreadableBy : Content → Command → Type 0
+IsUnreadableBy c (Fracture layout deck) = IsWanting c layout deck
+IsUnreadableBy c (Check layout deck) = IsWanting c layout deck ⊎ HasNoFile c layout deck
+IsUnreadableBy c (Shots file) = IsNotThere c file
+IsUnreadableBy c (Pack file out) = IsNotThere c file
+IsUnreadableBy c (Unpack file out) = IsNotThere c file
+IsUnreadableBy c (Generate n file) = ⊥
+
+-- the name that the command reads first isn't there: DECK, or FILE
+abbrev pub IsUnreadableAtOnceBy : Content → Command → Type 0
+IsUnreadableAtOnceBy c (Fracture layout deck) = IsNotThere c deck
+IsUnreadableAtOnceBy c (Check layout deck) = IsNotThere c deck
+IsUnreadableAtOnceBy c (Shots file) = IsNotThere c file
+IsUnreadableAtOnceBy c (Pack file out) = IsNotThere c file
+IsUnreadableAtOnceBy c (Unpack file out) = IsNotThere c file
+IsUnreadableAtOnceBy c (Generate n file) = ⊥
+
 abbrev pub IsUnreadable : List (List ℕ) → Content → Type 0
-IsUnreadable words c =
-    ((layout deck : List ℕ) × ReadsInput words layout deck × IsWanting c layout deck)
-    ⊎ ((layout deck : List ℕ) × IsCheck words layout deck × HasNoFile c layout deck)
-    ⊎ ((file : List ℕ) × IsShots words file × IsNotThere c file)
+IsUnreadable words c = (command : Command) × AreWordsOf words command × IsUnreadableBy c command
+
+abbrev pub IsUnreadableAtOnce : List (List ℕ) → Content → Type 0
+IsUnreadableAtOnce words c = (command : Command) × AreWordsOf words command × IsUnreadableAtOnceBy c command
 
 -- ---- after Done
-
--- Deck and layout are accepted. Every output file is the one text of a list of legal shots within the deck's limits; each
--- half-grid triangle lies in exactly one of them if it lies in the area that the deck denotes of the layout, and in none
--- otherwise. All other names are as before.
-abbrev pub Covers : Run → List (List ℕ) → Status → Type 0
-Covers r words result =
-    (layout deck : List ℕ) → IsFracture words layout deck → result ≡ answers.Done
-    → (input : Input) × HoldsInput r.before layout deck input × AreCovered r.before r.after input
 
 -- The shots of each file are the shot list of its output's area, and no cut is needless, for every height of bands.
 abbrev pub Spares : Run → List (List ℕ) → Status → Type 0
@@ -84,35 +101,40 @@ Spares r words result =
     (layout deck : List ℕ) → IsFracture words layout deck → result ≡ answers.Done
     → (input : Input) × HoldsInput r.before layout deck input × AreEconomic r.after.made input
 
--- The certificate: deck and layout are accepted, and the file of each output, whoever made it, is exact.
-abbrev pub Certifies : Run → List (List ℕ) → Status → Type 0
-Certifies r words result =
-    (layout deck : List ℕ) → IsCheck words layout deck → result ≡ answers.Done
-    → (input : Input) × HoldsInput r.before layout deck input × AreExact r.before input
-
--- The report was said, with true sums: of `fracture` that on the files that it made, and of `check` that on the files that
--- it read.
-pub record Reports (r : Run) (words : List (List ℕ)) (result : Status) : Type 0 where
-  pub fracture : (layout deck : List ℕ) → IsFracture words layout deck → result ≡ answers.Done
-      → (input : Input) × HoldsInput r.before layout deck input × IsReported r.before r.after input
-  pub check : (layout deck : List ℕ) → IsCheck words layout deck → result ≡ answers.Done
-      → (input : Input) × HoldsInput r.before layout deck input × IsExactReported r.before r.after input
-
 -- The file holds the generated layout, how many bytes it has was said, and nothing else has changed.
 abbrev pub Generates : Run → List (List ℕ) → Status → Type 0
 Generates r words result =
-    (n : ℕ) (file : List ℕ) → IsGenerate words n file → result ≡ answers.Done → IsGenerated r.before r.after n file
+    (n : ℕ) (file : List ℕ) → IsGenerate words n file → result ≡ answers.Done
+    → IsFiled r.before r.after file (generated n) (generated_line n)
 
--- The listing of the shot file was said, and nothing else has changed but what is left to be read.
-abbrev pub Lists : Run → List (List ℕ) → Status → Type 0
-Lists r words result =
-    (file : List ℕ) → IsShots words file → result ≡ answers.Done
-    → (s : ShotData) × HoldsShots r.before file s × (r.after ≡ with_said (with_left r.before []) (listed s))
+-- OUT holds the packed text of FILE's shots, which stands for them in their order, the line was said, and nothing else has
+-- changed but what is left to be read.
+abbrev pub Packs : Run → List (List ℕ) → Status → Type 0
+Packs r words result =
+    (file out : List ℕ) → IsPack words file out → result ≡ answers.Done
+    → (s : ShotData) × HoldsShots r.before file s × IsPackedText (packed_of s) s.unit s.pair s.shots
+    × IsFiled (with_left r.before []) r.after out (packed_of s) (packed_said s)
 
--- Without a counted fault or want of memory, Done comes exactly where words and input are accepted.
-abbrev pub Accepts : Run → List (List ℕ) → Status → Type 0
-Accepts r words result =
-    (ReadRose r → ⊥) → (WriteRose r → ⊥) → result ≢ answers.NoMemory → (result ≡ answers.Done) ↔ IsAccepted words r.before
+-- OUT holds the plain text of the shots for which FILE stands, the line was said, and nothing else has changed but what is
+-- left to be read.
+abbrev pub Unpacks : Run → List (List ℕ) → Status → Type 0
+Unpacks r words result =
+    (file out : List ℕ) → IsUnpack words file out → result ≡ answers.Done
+    → (s : ShotData) × HoldsPacked r.before file s × IsFiled (with_left r.before []) r.after out (plain_of s) (unpacked_said s)
+
+-- `covers`: what commands make
+pub record Coverage (r : Run) (words : List (List ℕ)) (result : Status) : Type 0 where
+  pub cover : Covers r words result
+  pub economy : Spares r words result
+  pub packed : Packs r words result
+  pub unpacked : Unpacks r words result
+  pub generated : Generates r words result
+
+-- `accepts`: when a command is done
+pub record Acceptance (r : Run) (words : List (List ℕ)) (result : Status) : Type 0 where
+  pub fracture : Accepts r words result
+  -- without a counted fault or want of memory, Done comes exactly where words and input are accepted
+  pub all : (ReadRose r → ⊥) → (WriteRose r → ⊥) → result ≢ answers.NoMemory → (result ≡ answers.Done) ↔ IsAccepted words r.before
 
 -- ---- the cause of each refusal
 
@@ -165,90 +187,132 @@ TreeBroken r words result = (layout deck : List ℕ) → ReadsInput words layout
 -- the shot file has more than 268,435,456 bytes
 abbrev pub ShotsLong : Run → List (List ℕ) → Status → Type 0
 ShotsLong r words result =
-    (file : List ℕ) → IsShots words file
+    (file : List ℕ) → ReadsFile words file
     → ComesExactlyWhere (ReadRose r) result (answers.No 0 check_faults.Long) (IsLongerThan 268435456 r.before file)
 
 -- the shot file has this first fault
 abbrev pub ShotsBad : Run → List (List ℕ) → Status → Type 0
 ShotsBad r words result =
-    (file : List ℕ) → IsShots words file → (bad : ShotBad)
+    (file : List ℕ) → ReadsShots words file → (bad : ShotBad)
     → ComesExactlyWhere (ReadRose r) result (answers.No 0 (check_faults.Bad bad)) (HoldsFault r.before file bad)
 
+-- the packed shot file has this first fault
+abbrev pub PackedBad : Run → List (List ℕ) → Status → Type 0
+PackedBad r words result =
+    (file out : List ℕ) → IsUnpack words file out → (bad : PackBad)
+    → ComesExactlyWhere (ReadRose r) result (answers.No 0 (check_faults.Pack bad)) (HoldsPackFault r.before file bad)
+
 -- The files of the outputs before this place are exact, and this is why the file of the output there isn't.
-abbrev pub FileRefused : Run → List (List ℕ) → Status → ℕ → CheckFault → Type 0
+abbrev pub FileRefused : Run → List (List ℕ) → Status → ℕ → OutputFault → Type 0
 FileRefused r words result place fault =
     (layout deck : List ℕ) → IsCheck words layout deck
-    → ComesExactlyWhere (ReadRose r) result (answers.No place fault) (IsRefusedAt r.before layout deck place fault)
+    → ComesExactlyWhere (ReadRose r) result (answers.No place (fault_of fault)) (IsRefusedAt r.before layout deck place fault)
 
 -- the file has more than 268,435,456 bytes
 abbrev pub FileLong : Run → List (List ℕ) → Status → Type 0
-FileLong r words result = (place : ℕ) → FileRefused r words result place check_faults.Long
+FileLong r words result = (place : ℕ) → FileRefused r words result place of_output.Long
 
 -- it isn't the text of a list of shots, and has this first fault
 abbrev pub FileBad : Run → List (List ℕ) → Status → Type 0
-FileBad r words result = (place : ℕ) (bad : ShotBad) → FileRefused r words result place (check_faults.Bad bad)
+FileBad r words result = (place : ℕ) (bad : ShotBad) → FileRefused r words result place (of_output.Bad bad)
 
 -- its number isn't twice the deck's unit, or it has shots and their pair isn't the output's
 abbrev pub FileHead : Run → List (List ℕ) → Status → Type 0
-FileHead r words result = (place : ℕ) → FileRefused r words result place check_faults.Head
+FileHead r words result = (place : ℕ) → FileRefused r words result place of_output.Head
 
 -- this shot is the first that doesn't fit the deck's limits
 abbrev pub FileTooLarge : Run → List (List ℕ) → Status → Type 0
-FileTooLarge r words result = (place shot : ℕ) → FileRefused r words result place (check_faults.Verdict (verdicts.TooLarge shot))
+FileTooLarge r words result = (place shot : ℕ) → FileRefused r words result place (of_output.Verdict (verdicts.TooLarge shot))
 
 -- all shots fit, and this tile, in the lowest row and there the leftmost of those that differ, is in so many shots in
 -- place of the wanted number
 abbrev pub FileMiscovered : Run → List (List ℕ) → Status → Type 0
 FileMiscovered r words result =
-    (place : ℕ) (t : Tile) (count wanted : ℕ) → FileRefused r words result place (check_faults.Verdict (verdicts.Miscovered t count wanted))
+    (place : ℕ) (t : Tile) (count wanted : ℕ) → FileRefused r words result place (of_output.Verdict (verdicts.Miscovered t count wanted))
 
--- Each command has its answers. Refusals of a deck and of a layout come for `fracture` and `check` alone, and those of a
--- shot file for `check` and for `shots`, where its place is 0. A fault that is kept is never want of memory, and a verdict
--- that is kept never Exact.
-pub record Belongs (words : List (List ℕ)) (result : Status) : Type 0 where
-  pub fracture : (layout deck : List ℕ) → IsFracture words layout deck → IsOfFracture result
-  pub check : (layout deck : List ℕ) → IsCheck words layout deck → IsOfCheck result
-  pub shots : (file : List ℕ) → IsShots words file → IsOfShots result
-  pub generate : (n : ℕ) (file : List ℕ) → IsGenerate words n file → IsOfGenerate result
+-- Each command has its answers. Refusals of a deck and of a layout come for `fracture` and `check` alone, and
+-- those of a shot file for `check` and for the commands that read one, where its place is 0. A fault that is kept is never
+-- want of memory, and a verdict that is kept never Exact.
+abbrev pub Belongs : List (List ℕ) → Status → Type 0
+Belongs words result = (command : Command) → AreWordsOf words command → IsOf command result
 
 -- ---- faults
 
--- the name that the command reads first isn't there: DECK, or FILE of `shots`
-abbrev pub IsUnreadableAtOnce : List (List ℕ) → Content → Type 0
-IsUnreadableAtOnce words c =
-    ((layout deck : List ℕ) × ReadsInput words layout deck × IsNotThere c deck)
-    ⊎ ((file : List ℕ) × IsShots words file × IsNotThere c file)
-
 -- A read fault was counted, or a name that has to be read isn't there; where such a name isn't there no other answer
 -- comes but want of memory, and where the name that is read first isn't there, that comes only where it was counted.
-abbrev pub ReadFaults : Run → List (List ℕ) → Status → Type 0
-ReadFaults r words result =
-    (result ≡ answers.ReadFault → ReadRose r ⊎ IsUnreadable words r.before)
-    × (IsUnreadable words r.before → (result ≡ answers.ReadFault) ⊎ (result ≡ answers.NoMemory))
-    × (IsUnreadableAtOnce words r.before → (result ≡ answers.ReadFault) ⊎ ((result ≡ answers.NoMemory) × RefusedRose r))
+pub record ReadFaults (r : Run) (words : List (List ℕ)) (result : Status) : Type 0 where
+  pub cause : result ≡ answers.ReadFault → ReadRose r ⊎ IsUnreadable words r.before
+  pub due : IsUnreadable words r.before → (result ≡ answers.ReadFault) ⊎ (result ≡ answers.NoMemory)
+  pub at_once : IsUnreadableAtOnce words r.before → (result ≡ answers.ReadFault) ⊎ ((result ≡ answers.NoMemory) × RefusedRose r)
 
 -- A write fault was counted, and the input is accepted.
 abbrev pub WriteFaults : Run → List (List ℕ) → Status → Type 0
 WriteFaults r words result = result ≡ answers.WriteFault → WriteRose r × IsAccepted words r.before
 
+-- `refuses`: the cause of each refusal and fault
+pub record Refusals (r : Run) (words : List (List ℕ)) (result : Status) : Type 0 where
+  pub deck_long : DeckLong r words result
+  pub deck_bad : DeckBroken r words result
+  pub layout_long : LayoutLong r words result
+  pub layout_gds : GdsBroken r words result
+  pub layout_oas : OasBroken r words result
+  pub layout_tree : TreeBroken r words result
+  pub file_long : FileLong r words result
+  pub file_bad : FileBad r words result
+  pub file_head : FileHead r words result
+  pub file_too_large : FileTooLarge r words result
+  pub file_miscovered : FileMiscovered r words result
+  pub shots_long : ShotsLong r words result
+  pub shots_bad : ShotsBad r words result
+  pub packed_bad : PackedBad r words result
+  pub read_fault : ReadFaults r words result
+  pub write_fault : WriteFaults r words result
+
 -- ---- what was said
 
--- A text of the command: the report on an accepted input, all of whose outputs are covered, or all of whose files are
--- exact, the listing of an accepted shot file, or the line of a generated layout.
-abbrev pub IsTextOf : Run → List (List ℕ) → List ℕ → Type 0
-IsTextOf r words text =
-    ((layout deck : List ℕ) × IsFracture words layout deck × (input : Input) × HoldsInput r.before layout deck input
-    × AreCovered r.before r.after input × (sums : List Sums) × AreSummed r.after.made input sums × (text ≡ report_on input sums))
-    ⊎ ((file : List ℕ) × IsShots words file × (s : ShotData) × HoldsShots r.before file s × (text ≡ listed s))
-    ⊎ ((n : ℕ) × (file : List ℕ) × IsGenerate words n file × (text ≡ generated_line n))
-    ⊎ ((layout deck : List ℕ) × IsCheck words layout deck × (input : Input) × HoldsInput r.before layout deck input
-    × AreExact r.before input × (sums : List Sums) × AreExactSums r.before input sums × (text ≡ exact_report input sums))
+-- The report was said, with true sums: of `fracture` that on the files that it made, and of `check` that on the files that
+-- it read.
+pub record Reports (r : Run) (words : List (List ℕ)) (result : Status) : Type 0 where
+  pub fracture : (layout deck : List ℕ) → IsFracture words layout deck → result ≡ answers.Done
+      → (input : Input) × HoldsInput r.before layout deck input × IsReported r.before r.after input
+  pub check : (layout deck : List ℕ) → IsCheck words layout deck → result ≡ answers.Done
+      → (input : Input) × HoldsInput r.before layout deck input × IsExactReported r.before r.after input
 
--- What the command itself may have said before it ended so: something of its text where saying it failed or a want of
--- memory was counted, and nothing for every other answer.
+-- The listing of the shot file was said, and nothing else has changed but what is left to be read.
+abbrev pub Lists : Run → List (List ℕ) → Status → Type 0
+Lists r words result =
+    (file : List ℕ) → IsShots words file → result ≡ answers.Done
+    → (s : ShotData) × HoldsShots r.before file s × (r.after ≡ with_said (with_left r.before []) (listed s))
+
+-- A text of the command: the report on an accepted input, all of whose outputs are covered, or all of whose files are
+-- exact; the counts of windows; the listing of an accepted shot file; or the lines of the files that were made of one, or
+-- of a generated layout.
+abbrev pub IsTextBy : Run → Command → List ℕ → Type 0
+IsTextBy r (Fracture layout deck) text =
+    (input : Input) × HoldsInput r.before layout deck input × AreCovered r.before r.after input
+    × (sums : List Sums) × AreSummed r.after.made input sums × (text ≡ report_on input sums)
+IsTextBy r (Check layout deck) text =
+    (input : Input) × HoldsInput r.before layout deck input × AreExact r.before input
+    × (sums : List Sums) × AreExactSums r.before input sums × (text ≡ exact_report input sums)
+IsTextBy r (Shots file) text = (s : ShotData) × HoldsShots r.before file s × (text ≡ listed s)
+IsTextBy r (Pack file out) text = (s : ShotData) × HoldsShots r.before file s × (text ≡ packed_said s)
+IsTextBy r (Unpack file out) text = (s : ShotData) × HoldsPacked r.before file s × (text ≡ unpacked_said s)
+IsTextBy r (Generate n file) text = text ≡ generated_line n
+
+-- saying it may have ended early: it failed, or a want of memory was counted
+abbrev pub MayBreakOff : Run → Command → Status → Type 0
+MayBreakOff r (Fracture layout deck) result = (result ≡ answers.WriteFault) ⊎ ((result ≡ answers.NoMemory) × RefusedRose r)
+MayBreakOff r (Check layout deck) result = (result ≡ answers.WriteFault) ⊎ ((result ≡ answers.NoMemory) × RefusedRose r)
+MayBreakOff r (Shots file) result = (result ≡ answers.WriteFault) ⊎ ((result ≡ answers.NoMemory) × RefusedRose r)
+MayBreakOff r (Pack file out) result = (result ≡ answers.WriteFault) ⊎ ((result ≡ answers.NoMemory) × RefusedRose r)
+MayBreakOff r (Unpack file out) result = (result ≡ answers.WriteFault) ⊎ ((result ≡ answers.NoMemory) × RefusedRose r)
+MayBreakOff r (Generate n file) result = (result ≡ answers.WriteFault) ⊎ ((result ≡ answers.NoMemory) × RefusedRose r)
+
+-- What the command itself may have said before it ended so: something of its text where saying it ended early, and nothing
+-- for every other answer.
 abbrev pub MaySay : Run → List (List ℕ) → Status → List ℕ → Type 0
 MaySay r words result text =
-    (text ≡ []) ⊎ (((result ≡ answers.WriteFault) ⊎ ((result ≡ answers.NoMemory) × RefusedRose r)) × IsTextOf r words text)
+    (text ≡ []) ⊎ ((command : Command) × AreWordsOf words command × MayBreakOff r command result × IsTextBy r command text)
 
 -- the name that the line of a refused layout may give is that of the deck's top cell
 abbrev pub IsTopOf : Run → List (List ℕ) → Status → List ℕ → Type 0
@@ -256,15 +320,21 @@ IsTopOf r words result top =
     (layout deck : List ℕ) (fault : LayoutFault) → ReadsInput words layout deck → result ≡ answers.Layout fault
     → (d : Deck) × HoldsDeck r.before layout deck d × (top ≡ d.top)
 
--- the name that the line of a refused shot file gives is that of the file: of the refused output for `check`, and FILE of
--- `shots`
+-- the name that the line of a refused shot file gives is that of the file: of the refused output for `check`, and else FILE
 pub record IsFileOf (r : Run) (words : List (List ℕ)) (result : Status) (file : List ℕ) : Type 0 where
   pub check : (layout deck : List ℕ) → IsCheck words layout deck → (place : ℕ) (fault : CheckFault) → result ≡ answers.No place fault
       → IsFileAt r.before layout deck place file
-  pub shots : (name : List ℕ) → IsShots words name → file ≡ name
+  pub read : (name : List ℕ) → ReadsFile words name → file ≡ name
 
--- Where the answer isn't Done, a prefix of the command's text was said and then a prefix of the answer's line, which is
--- whole unless a write fault or want of memory was counted.
+-- a counted fault of writing is answered as that, or as want of memory where a want of memory was counted too
+abbrev pub IsWriteTold : Run → Status → Type 0
+IsWriteTold r result =
+    result ≢ answers.WriteFault → result ≢ answers.ReadFault
+    → (r.new.write_faults ≡ r.old.write_faults) ⊎ ((result ≡ answers.NoMemory) × RefusedRose r)
+
+-- Where the answer isn't Done, a prefix of the command's text was said and then a prefix of the answer's line. The line is
+-- whole, and then no fault of writing was counted but one that is the answer; or a write fault or want of memory was
+-- counted, which the saying of the line may have been.
 pub record SaysLine (r : Run) (words : List (List ℕ)) (result : Status) : Type 0 where
   pub text : List ℕ
   pub may : MaySay r words result text
@@ -275,10 +345,13 @@ pub record SaysLine (r : Run) (words : List (List ℕ)) (result : Status) : Type
   pub of_text : ℕ
   pub of_line : ℕ
   pub said : r.after.said ≡ (r.before.said ++ take of_text text) ++ take of_line (line_of file top result)
-  pub whole : (take of_line (line_of file top result) ≡ line_of file top result) ⊎ WriteRose r ⊎ RefusedRose r
+  pub whole : ((take of_line (line_of file top result) ≡ line_of file top result) × IsWriteTold r result) ⊎ WriteRose r ⊎ RefusedRose r
 
-abbrev pub Says : Run → List (List ℕ) → Status → Type 0
-Says r words result = result ≢ answers.Done → SaysLine r words result
+-- `says`: what was said, after Done and after every other answer
+pub record Speech (r : Run) (words : List (List ℕ)) (result : Status) : Type 0 where
+  pub report : Reports r words result
+  pub listed : Lists r words result
+  pub line : result ≢ answers.Done → SaysLine r words result
 
 -- ---- what stays
 
@@ -302,25 +375,57 @@ abbrev pub Refuses : Run → Status → Type 0
 Refuses r result = IsRefusal result → ChangesLeftOnly r.before (quiet r).after
 
 -- `check` and `shots` change nothing but what is left to be read and what was said, whatever the answer
-pub record Keeps (r : Run) (words : List (List ℕ)) : Type 0 where
-  pub check : (layout deck : List ℕ) → IsCheck words layout deck → ChangesLeftOnly r.before (quiet r).after
-  pub shots : (file : List ℕ) → IsShots words file → ChangesLeftOnly r.before (quiet r).after
+abbrev pub IsQuietCommand : Command → Type 0
+IsQuietCommand (Fracture layout deck) = ⊥
+IsQuietCommand (Check layout deck) = ⊤
+IsQuietCommand (Shots file) = ⊤
+IsQuietCommand (Pack file out) = ⊥
+IsQuietCommand (Unpack file out) = ⊥
+IsQuietCommand (Generate n file) = ⊥
 
--- After a write fault or want of memory of `fracture` nothing but what is left to be read and what was said has changed;
--- or there is a place before which all outputs are whole, at which the file is as before, empty or a prefix of the texts
--- that Done would allow, and behind which nothing has changed. That of `generate` leaves its file as before, or with a
--- prefix of the generated layout.
+abbrev pub Keeps : Run → List (List ℕ) → Type 0
+Keeps r words = (command : Command) → AreWordsOf words command → IsQuietCommand command → ChangesLeftOnly r.before (quiet r).after
+
+-- What a write fault or want of memory leaves, but for what was said. Of a command that reads, nothing but what is left to
+-- be read has changed, or:
+--
+-- - of `fracture` there is a place before which all outputs are whole, at which the file is as before, empty or a prefix of
+--   the texts that Done would allow, and after which nothing has changed;
+-- - of `pack` and `unpack` OUT is as before or a prefix of its text.
+--
+-- Of `generate` the file is as before or a prefix of the generated layout.
+abbrev pub IsLeftBy : Run → Command → Type 0
+IsLeftBy r (Fracture layout deck) =
+    ChangesLeftOnly r.before (quiet r).after ⊎ ((input : Input) × HoldsInput r.before layout deck input × AreSpoiled r.before r.after input)
+IsLeftBy r (Check layout deck) = ChangesLeftOnly r.before (quiet r).after
+IsLeftBy r (Shots file) = ChangesLeftOnly r.before (quiet r).after
+IsLeftBy r (Pack file out) =
+    ChangesLeftOnly r.before (quiet r).after
+    ⊎ ((s : ShotData) × HoldsShots r.before file s × IsPartMade (with_left r.before []) out (packed_of s) (quiet r).after)
+IsLeftBy r (Unpack file out) =
+    ChangesLeftOnly r.before (quiet r).after
+    ⊎ ((s : ShotData) × HoldsPacked r.before file s × IsPartMade (with_left r.before []) out (plain_of s) (quiet r).after)
+IsLeftBy r (Generate n file) = IsPartMade r.before file (generated n) (quiet r).after
+
 pub record Spoils (r : Run) (words : List (List ℕ)) (result : Status) : Type 0 where
-  pub fracture : (layout deck : List ℕ) → IsFracture words layout deck → (result ≡ answers.WriteFault) ⊎ (result ≡ answers.NoMemory)
-      → ChangesLeftOnly r.before (quiet r).after
-      ⊎ ((input : Input) × HoldsInput r.before layout deck input × AreSpoiled r.before r.after input)
-  pub generate : (n : ℕ) (file : List ℕ) → IsGenerate words n file → (result ≡ answers.WriteFault) ⊎ (result ≡ answers.NoMemory)
-      → IsPartMade r.before file (generated n) (quiet r).after
+  pub left : (command : Command) → AreWordsOf words command → (result ≡ answers.WriteFault) ⊎ (result ≡ answers.NoMemory) → IsLeftBy r command
+  -- `generate` takes no memory of its own
+  pub counted : (n : ℕ) (file : List ℕ) → IsGenerate words n file → result ≡ answers.NoMemory → RefusedRose r
+
+-- `leaves`: what stays
+pub record Remains (r : Run) (words : List (List ℕ)) (result : Status) : Type 0 where
+  pub refusals : Refuses r result
+  pub keeps : Keeps r words
+  pub spoiled : Spoils r words result
 
 -- ---- what holds over every depot
 
 -- After Done nothing was counted. A fault of reading that was counted is answered as that, or as want of memory where a
--- want of memory was counted too.
-pub record FaultsTold (old new : Counts) (result : Status) : Type 0 where
+-- want of memory was counted too. A fault of reading comes only where one was counted or the depot tells its content, and
+-- one of writing only where one was counted.
+pub record FaultsTold (old new : Counts) (tells : Type 0) (result : Status) : Type 0 where
   pub done : result ≡ answers.Done → new ≡ old
   pub reads : result ≢ answers.ReadFault → (new.read_faults ≡ old.read_faults) ⊎ ((result ≡ answers.NoMemory) × Rose old.refused new.refused)
+  pub read_fault : result ≡ answers.ReadFault → Rose old.read_faults new.read_faults ⊎ tells
+  pub write_fault : result ≡ answers.WriteFault → Rose old.write_faults new.write_faults
+  pub never_fall : NeverFall old new

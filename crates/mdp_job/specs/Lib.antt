@@ -1,12 +1,18 @@
-pub mod Words
-pub mod Runs
-pub mod Codes
+-- ---- what is promised, in reading order
+pub mod Headline
+pub mod Clauses
+pub mod Denoted
 pub mod Outputs
 pub mod Certificates
-pub mod Listings
+pub mod ShotFiles
 pub mod Generating
+pub mod Filing
 pub mod Lines
+pub mod Faults
+pub mod Codes
+-- ---- what is kept inside: how the parts of a command fit together
+pub mod Runs
 pub mod Parts
 pub mod Checking
+pub mod FileAnswers
 pub mod Table
-pub mod Clauses

@@ -9,6 +9,8 @@ use Rattle.shot_checker.specs.declared.verdicts.Verdict.{Verdict}
 use Rattle.shot_checker.specs.declared.verdicts.Verdict.TheVariants as verdicts
 use Rattle.shot_reader.specs.declared.refusing.ShotBad.{ShotBad}
 use Rattle.shot_reader.specs.declared.refusing.ShotBad.TheVariants.{Head, Record, Spelling, Illegal, End, NoMemory as Wanting}
+use Rattle.shot_repeat.specs.declared.refusing.PackBad.{PackBad}
+use Rattle.shot_repeat.specs.declared.refusing.PackBad.TheVariants as packs
 use Rattle.job_input.specs.declared.refusing.DeckFault.{DeckFault}
 use Rattle.job_input.specs.declared.refusing.DeckFault.TheVariants as deck_faults
 use Rattle.job_input.specs.declared.refusing.LayoutFault.{LayoutFault}
@@ -16,8 +18,8 @@ use Rattle.job_input.specs.declared.refusing.LayoutFault.TheVariants as layout_f
 use Rattle.job_report.specs.Lines.{memory_line, deck_line, gds_line, oas_line, tree_line}
 use Rattle.mdp_job.specs.declared.status.Status.{Status}
 use Rattle.mdp_job.specs.declared.status.Status.TheVariants.{Done, Words, Deck, Layout, ReadFault, WriteFault, NoMemory, No}
-use Rattle.file_check.specs.declared.faults.CheckFault.{CheckFault}
-use Rattle.file_check.specs.declared.faults.CheckFault.TheVariants as check_faults
+use Rattle.mdp_job.specs.declared.faults.CheckFault.{CheckFault}
+use Rattle.mdp_job.specs.declared.faults.CheckFault.TheVariants as check_faults
 
 abbrev pub deck_fault_line : DeckFault → List ℕ
 deck_fault_line deck_faults.Long = codes "deck refused: longer than 65536 bytes\n"
@@ -41,6 +43,18 @@ shot_line_of file (Spelling at) = fault_line file (codes ": spelling at ") at
 shot_line_of file (Illegal at) = fault_line file (codes ": illegal at ") at
 shot_line_of file (End at) = fault_line file (codes ": end at ") at
 shot_line_of file Wanting = memory_line
+
+-- a refused packed shot file
+abbrev pub pack_line_of : List ℕ → PackBad → List ℕ
+pack_line_of file (packs.Head at) = fault_line file (codes ": packed head at ") at
+pack_line_of file (packs.Record at) = fault_line file (codes ": packed record at ") at
+pack_line_of file (packs.Spelling at) = fault_line file (codes ": packed spelling at ") at
+pack_line_of file (packs.Undefined at) = fault_line file (codes ": packed undefined at ") at
+pack_line_of file (packs.Pair at) = fault_line file (codes ": packed pair at ") at
+pack_line_of file (packs.Many at) = fault_line file (codes ": packed many at ") at
+pack_line_of file (packs.Illegal at) = fault_line file (codes ": packed illegal at ") at
+pack_line_of file (packs.End at) = fault_line file (codes ": packed end at ") at
+pack_line_of file packs.NoMemory = memory_line
 
 -- a refused shot file, by its name and what is wrong with it
 abbrev pub text_line : List ℕ → List ℕ → List ℕ
@@ -71,6 +85,7 @@ check_line file check_faults.Long = text_line file (codes ": longer than 2684354
 check_line file (check_faults.Bad bad) = shot_line_of file bad
 check_line file check_faults.Head = text_line file (codes ": unit or layer differs\n")
 check_line file (check_faults.Verdict verdict) = verdict_line file verdict
+check_line file (check_faults.Pack bad) = pack_line_of file bad
 
 -- the file of an output that is there, and else the file of this name
 abbrev pub file_or : List ℕ → Option Output → List ℕ

@@ -21,13 +21,17 @@ use Rattle.job_input.specs.declared.refusing.InputBad.{InputBad}
 use Rattle.job_input.specs.declared.refusing.InputBad.TheVariants as bads
 use Rattle.job_input.specs.declared.refusing.DeckFault.TheVariants as deck_faults
 use Rattle.job_input.specs.declared.refusing.LayoutFault.TheVariants as layout_faults
-use Rattle.mdp_job.specs.Runs.{Run, ReadRose, WriteRose, RefusedRose}
-use Rattle.mdp_job.specs.Outputs.{plan_of, report_on}
+use Rattle.mdp_job.specs.Runs.{Run, ReadRose, WriteRose, RefusedRose, IsEndedSo}
+use Rattle.mdp_job.specs.Denoted.{plan_of}
+use Rattle.mdp_job.specs.Outputs.{report_on}
 use Rattle.mdp_job.specs.declared.status.Status.{Status}
 use Rattle.mdp_job.specs.declared.status.Status.TheVariants as answers
-use Rattle.file_check.specs.declared.faults.CheckFault.TheVariants as check_faults
+use Rattle.mdp_job.specs.declared.faults.CheckFault.{CheckFault}
+use Rattle.mdp_job.specs.declared.faults.CheckFault.TheVariants as check_faults
+use Rattle.job_words.specs.Words.{Command, Fracture, Check, Shots, Pack, Unpack, Generate}
 use Rattle.shot_checker.specs.declared.verdicts.Verdict.TheVariants.{Exact}
 use Rattle.shot_reader.specs.declared.refusing.ShotBad.TheVariants.{NoMemory as Wanting}
+use Rattle.shot_repeat.specs.declared.refusing.PackBad.TheVariants.{NoMemory as PackWanting}
 use Rattle.deck_text.specs.declared.refusal.DeckBad.TheVariants.{NoMemory as DeckWanting}
 use Rattle.gds_reader.specs.declared.refusing.GdsBad.TheVariants.{NoMemory as GdsWanting}
 use Rattle.cell_tree.specs.declared.faults.TreeBad.TheVariants.{NoMemory as TreeWanting}
@@ -59,9 +63,7 @@ top_of bads.NoMemory = None
 -- what holds where saying a text gives the answer
 abbrev pub IsSaidSo : Content → Content → (write_rose refused_rose : Type 0) → List ℕ → Status → Type 0
 IsSaidSo before now write_rose refused_rose text result =
-    ((result ≡ answers.Done) × (now ≡ with_said before text))
-    ⊎ ((result ≡ answers.WriteFault) × write_rose × IsPartSaid before text now)
-    ⊎ ((result ≡ answers.NoMemory) × refused_rose × IsPartSaid before text now)
+    IsEndedSo write_rose refused_rose (now ≡ with_said before text) (IsPartSaid before text now) result
 
 -- ---- reading
 
@@ -131,63 +133,80 @@ IsAnswer tells r layout deck result top = IsAnswerBy (IsFractured tells r) r lay
 
 -- ---- what holds over every depot
 
--- the answer may come for `fracture`; no fault that is kept is want of memory
-abbrev pub IsOfFracture : Status → Type 0
-IsOfFracture answers.Done = ⊤
-IsOfFracture answers.Words = ⊥
-IsOfFracture (answers.Deck deck_faults.Long) = ⊤
-IsOfFracture (answers.Deck (deck_faults.Bad bad)) = bad ≢ DeckWanting
-IsOfFracture (answers.Layout layout_faults.Long) = ⊤
-IsOfFracture (answers.Layout (layout_faults.Gds bad)) = bad ≢ GdsWanting
-IsOfFracture (answers.Layout (layout_faults.Oas bad)) = IsWantingOas bad → ⊥
-IsOfFracture (answers.Layout (layout_faults.Tree bad)) = bad ≢ TreeWanting
-IsOfFracture answers.ReadFault = ⊤
-IsOfFracture answers.WriteFault = ⊤
-IsOfFracture answers.NoMemory = ⊤
-IsOfFracture (answers.No place fault) = ⊥
+-- the answer may come of writing and saying alone: no input is refused
+abbrev pub IsOfWriting : Status → Type 0
+IsOfWriting answers.Done = ⊤
+IsOfWriting answers.Words = ⊥
+IsOfWriting (answers.Deck fault) = ⊥
+IsOfWriting (answers.Layout fault) = ⊥
+IsOfWriting answers.ReadFault = ⊥
+IsOfWriting answers.WriteFault = ⊤
+IsOfWriting answers.NoMemory = ⊤
+IsOfWriting (answers.No place fault) = ⊥
 
--- the answer may come for `check`; no fault that is kept is want of memory, and no verdict that is kept is Exact
-abbrev pub IsOfCheck : Status → Type 0
-IsOfCheck answers.Done = ⊤
-IsOfCheck answers.Words = ⊥
-IsOfCheck (answers.Deck deck_faults.Long) = ⊤
-IsOfCheck (answers.Deck (deck_faults.Bad bad)) = bad ≢ DeckWanting
-IsOfCheck (answers.Layout layout_faults.Long) = ⊤
-IsOfCheck (answers.Layout (layout_faults.Gds bad)) = bad ≢ GdsWanting
-IsOfCheck (answers.Layout (layout_faults.Oas bad)) = IsWantingOas bad → ⊥
-IsOfCheck (answers.Layout (layout_faults.Tree bad)) = bad ≢ TreeWanting
-IsOfCheck answers.ReadFault = ⊤
-IsOfCheck answers.WriteFault = ⊤
-IsOfCheck answers.NoMemory = ⊤
-IsOfCheck (answers.No place check_faults.Long) = ⊤
-IsOfCheck (answers.No place (check_faults.Bad bad)) = bad ≢ Wanting
-IsOfCheck (answers.No place check_faults.Head) = ⊤
-IsOfCheck (answers.No place (check_faults.Verdict verdict)) = verdict ≢ Exact
+-- the answer may come of a deck and a layout that are read, where this says which files may be refused; no fault that is
+-- kept is want of memory
+abbrev pub IsOfInput : (ℕ → CheckFault → Type 0) → Status → Type 0
+IsOfInput of_file answers.Done = ⊤
+IsOfInput of_file answers.Words = ⊥
+IsOfInput of_file (answers.Deck deck_faults.Long) = ⊤
+IsOfInput of_file (answers.Deck (deck_faults.Bad bad)) = bad ≢ DeckWanting
+IsOfInput of_file (answers.Layout layout_faults.Long) = ⊤
+IsOfInput of_file (answers.Layout (layout_faults.Gds bad)) = bad ≢ GdsWanting
+IsOfInput of_file (answers.Layout (layout_faults.Oas bad)) = IsWantingOas bad → ⊥
+IsOfInput of_file (answers.Layout (layout_faults.Tree bad)) = bad ≢ TreeWanting
+IsOfInput of_file answers.ReadFault = ⊤
+IsOfInput of_file answers.WriteFault = ⊤
+IsOfInput of_file answers.NoMemory = ⊤
+IsOfInput of_file (answers.No place fault) = of_file place fault
 
--- the answer may come for `generate`
-abbrev pub IsOfGenerate : Status → Type 0
-IsOfGenerate answers.Done = ⊤
-IsOfGenerate answers.Words = ⊥
-IsOfGenerate (answers.Deck fault) = ⊥
-IsOfGenerate (answers.Layout fault) = ⊥
-IsOfGenerate answers.ReadFault = ⊥
-IsOfGenerate answers.WriteFault = ⊤
-IsOfGenerate answers.NoMemory = ⊤
-IsOfGenerate (answers.No place fault) = ⊥
+-- the answer may come of a shot file that is read, where this says which faults it may have
+abbrev pub IsOfFile : (CheckFault → Type 0) → Status → Type 0
+IsOfFile of_fault answers.Done = ⊤
+IsOfFile of_fault answers.Words = ⊥
+IsOfFile of_fault (answers.Deck fault) = ⊥
+IsOfFile of_fault (answers.Layout fault) = ⊥
+IsOfFile of_fault answers.ReadFault = ⊤
+IsOfFile of_fault answers.WriteFault = ⊤
+IsOfFile of_fault answers.NoMemory = ⊤
+IsOfFile of_fault (answers.No place fault) = (place ≡ 0) × of_fault fault
 
--- the answer may come for `shots`
-abbrev pub IsOfShots : Status → Type 0
-IsOfShots answers.Done = ⊤
-IsOfShots answers.Words = ⊥
-IsOfShots (answers.Deck fault) = ⊥
-IsOfShots (answers.Layout fault) = ⊥
-IsOfShots answers.ReadFault = ⊤
-IsOfShots answers.WriteFault = ⊤
-IsOfShots answers.NoMemory = ⊤
-IsOfShots (answers.No place check_faults.Long) = place ≡ 0
-IsOfShots (answers.No place (check_faults.Bad bad)) = (place ≡ 0) × (bad ≢ Wanting)
-IsOfShots (answers.No place check_faults.Head) = ⊥
-IsOfShots (answers.No place (check_faults.Verdict verdict)) = ⊥
+-- no file is refused by `fracture`
+abbrev pub refuses_none : ℕ → CheckFault → Type 0
+refuses_none place fault = ⊥
+
+-- those of `check`, whose verdict is never Exact
+abbrev pub refuses_output : ℕ → CheckFault → Type 0
+refuses_output place check_faults.Long = ⊤
+refuses_output place (check_faults.Bad bad) = bad ≢ Wanting
+refuses_output place check_faults.Head = ⊤
+refuses_output place (check_faults.Verdict verdict) = verdict ≢ Exact
+refuses_output place (check_faults.Pack bad) = ⊥
+
+-- those of `shots` and of `pack`
+abbrev pub refuses_shots : CheckFault → Type 0
+refuses_shots check_faults.Long = ⊤
+refuses_shots (check_faults.Bad bad) = bad ≢ Wanting
+refuses_shots check_faults.Head = ⊥
+refuses_shots (check_faults.Verdict verdict) = ⊥
+refuses_shots (check_faults.Pack bad) = ⊥
+
+-- those of `unpack`
+abbrev pub refuses_packed : CheckFault → Type 0
+refuses_packed check_faults.Long = ⊤
+refuses_packed (check_faults.Bad bad) = ⊥
+refuses_packed check_faults.Head = ⊥
+refuses_packed (check_faults.Verdict verdict) = ⊥
+refuses_packed (check_faults.Pack bad) = bad ≢ PackWanting
+
+-- the answer may come for the command
+abbrev pub IsOf : Command → Status → Type 0
+IsOf (Fracture layout deck) result = IsOfInput refuses_none result
+IsOf (Check layout deck) result = IsOfInput refuses_output result
+IsOf (Shots file) result = IsOfFile refuses_shots result
+IsOf (Pack file out) result = IsOfFile refuses_shots result
+IsOf (Unpack file out) result = IsOfFile refuses_packed result
+IsOf (Generate n file) result = IsOfWriting result
 
 -- What was counted where the command gives the answer, up to the line of a refusal. Nothing, but for a fault of reading
 -- and of writing; and nothing or a want of memory for want of memory.

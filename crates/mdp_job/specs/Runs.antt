@@ -1,6 +1,5 @@
--- What is known of a command: contents and counts before and after it.
-use Rattle.std.specs.Prelude.{◌≡◌, ◌⊎◌, ℕ, List, map, string_bytes, String}
-use Rattle.std.specs.declared.alloc.Global.{Global}
+-- What is known of a command: contents and counts before and after it, and how it ended.
+use Rattle.std.specs.Prelude.{◌≡◌, ◌⊎◌}
 use Rattle.depot.specs.Content.{Content}
 use Rattle.depot.specs.Counts.{Counts, Rose}
 use Rattle.mdp_job.specs.declared.status.Status.{Status}
@@ -31,6 +30,10 @@ pub record ComesExactlyWhere (read_rose : Type 0) (result answer : Status) (caus
   pub only : result ≡ answer → cause
   pub whenever : cause → (result ≡ answer) ⊎ (result ≡ answers.NoMemory) ⊎ ((result ≡ answers.ReadFault) × read_rose)
 
--- the bytes of each word
-abbrev pub texts : List (String Global) → List (List ℕ)
-texts words = map (λ w. string_bytes w) words
+-- What was to be done was done, or was done in part and the answer is a fault of writing or want of memory that was
+-- counted.
+abbrev pub IsEndedSo : (write_rose refused_rose done half : Type 0) → Status → Type 0
+IsEndedSo write_rose refused_rose done half result =
+    ((result ≡ answers.Done) × done)
+    ⊎ ((result ≡ answers.WriteFault) × write_rose × half)
+    ⊎ ((result ≡ answers.NoMemory) × refused_rose × half)

@@ -1,28 +1,61 @@
 -- The table of answers to all words.
 use Rattle.std.specs.Prelude.{◌≡◌, ◌⊎◌, ℕ, Bool, List, Option, None}
-use Rattle.depot.specs.Content.{Content}
+use Rattle.depot.specs.Content.{Content, with_said, IsPartSaid}
 use Rattle.deck_text.specs.declared.deck.Output.{Output}
-use Rattle.mdp_job.specs.Words.{IsFracture, IsCheck, IsShots, IsGenerate, IsNoCommand}
+use Rattle.job_words.specs.Words.{Command, Fracture, Check, Shots, Pack, Unpack, Generate, AreWordsOf, IsNoCommand, IsCheck}
 use Rattle.mdp_job.specs.Runs.{Run, WriteRose, RefusedRose}
-use Rattle.mdp_job.specs.Listings.{IsListingAnswer}
+use Rattle.mdp_job.specs.ShotFiles.{HoldsShots, HoldsPacked, IsShotsFault, IsPackedFault, listed, packed_of, packed_said, plain_of, unpacked_said}
+use Rattle.mdp_job.specs.Filing.{IsFiled, IsHalfFiled}
+use Rattle.mdp_job.specs.FileAnswers.{FileCommand, IsFileAnswer}
 use Rattle.mdp_job.specs.Generating.{IsGeneratedSo}
 use Rattle.mdp_job.specs.Parts.{IsAnswer}
 use Rattle.mdp_job.specs.Checking.{IsCheckAnswer, HasOutputs}
 use Rattle.mdp_job.specs.declared.status.Status.{Status}
 use Rattle.mdp_job.specs.declared.status.Status.TheVariants as answers
 
--- The answer to the words, up to the line of a refusal: that of the command `fracture` with its two names, that of `check`
--- with its two names, that of `shots` with its name, that of `generate` with its number and name, or Words where they are
--- no command.
+-- `shots` says the listing of the shot file
+abbrev pub listing_command : FileCommand
+listing_command = record {
+  holds = HoldsShots;
+  faulty = IsShotsFault;
+  done = λ before now s. now ≡ with_said before (listed s);
+  half = λ before now s. IsPartSaid before (listed s) now;
+}
+
+-- `pack` makes OUT with the packed text, and says how much it is
+abbrev pub packing_command : List ℕ → FileCommand
+packing_command out = record {
+  holds = HoldsShots;
+  faulty = IsShotsFault;
+  done = λ before now s. IsFiled before now out (packed_of s) (packed_said s);
+  half = λ before now s. IsHalfFiled before now out (packed_of s) (packed_said s);
+}
+
+-- `unpack` makes OUT with the plain text, and says how much it is
+abbrev pub unpacking_command : List ℕ → FileCommand
+unpacking_command out = record {
+  holds = HoldsPacked;
+  faulty = IsPackedFault;
+  done = λ before now s. IsFiled before now out (plain_of s) (unpacked_said s);
+  half = λ before now s. IsHalfFiled before now out (plain_of s) (unpacked_said s);
+}
+
+-- what holds where the command gives the answer, up to the line of a refusal, with the name that this line may need
+abbrev pub IsAnswerOf : Bool → Run → Command → Status → Option (List ℕ) → Type 0
+IsAnswerOf tells r (Fracture layout deck) result top = IsAnswer tells r layout deck result top
+IsAnswerOf tells r (Check layout deck) result top = IsCheckAnswer r layout deck result top
+IsAnswerOf tells r (Shots file) result top = IsFileAnswer listing_command r file result
+IsAnswerOf tells r (Pack file out) result top = IsFileAnswer (packing_command out) r file result
+IsAnswerOf tells r (Unpack file out) result top = IsFileAnswer (unpacking_command out) r file result
+IsAnswerOf tells r (Generate n file) result top = IsGeneratedSo r.before r.after (WriteRose r) (RefusedRose r) n file result
+
+-- the words are a command and this is its answer, or they are none and the answer is Words
 abbrev pub IsAnswerTo : Bool → Run → List (List ℕ) → Status → Option (List ℕ) → Type 0
 IsAnswerTo tells r words result top =
-    ((layout deck : List ℕ) × IsFracture words layout deck × IsAnswer tells r layout deck result top)
-    ⊎ ((file : List ℕ) × IsShots words file × IsListingAnswer r file result)
-    ⊎ ((n : ℕ) × (file : List ℕ) × IsGenerate words n file × IsGeneratedSo r.before r.after (WriteRose r) (RefusedRose r) n file result)
-    ⊎ ((layout deck : List ℕ) × IsCheck words layout deck × IsCheckAnswer r layout deck result top)
+    ((command : Command) × AreWordsOf words command × IsAnswerOf tells r command result top)
     ⊎ (IsNoCommand words × (result ≡ answers.Words) × (r.after ≡ r.before))
 
--- the outputs that the line of a refused file may need: those of the deck for `check`, and none for `shots`
+-- the outputs that the line of a refused file may need: those of the deck for `check`, and none for all other commands
 pub record NamesFile (before : Content) (words : List (List ℕ)) (result : Status) (outputs : Option (List Output)) : Type 0 where
   pub check : (layout deck : List ℕ) → IsCheck words layout deck → HasOutputs before layout deck result outputs
-  pub shots : (file : List ℕ) → IsShots words file → outputs ≡ None
+  pub others : ((layout deck : List ℕ) → IsCheck words layout deck → ⊥) → outputs ≡ None

@@ -4,9 +4,10 @@ ghost use Rattle.depot.specs.Counts.{NeverFall, Rose};
 ghost use Rattle.deck_plan.specs.Plans.{IsRead};
 ghost use Rattle.mdp_job.specs.Runs.{run_of};
 ghost use Rattle.mdp_job.specs.Checking.{checked_status, IsChecked, IsCheckAnswer, HasOutputs};
-ghost use Rattle.mdp_job.specs.Parts.{IsOfCheck, CountsFor};
+ghost use Rattle.mdp_job.specs.Parts.{IsOfInput, refuses_output, CountsFor};
 
 use crate::ending::Ending;
+use crate::faults::fault_of;
 use crate::reading::refused_input;
 use crate::reporting::say_report_on;
 use crate::status::Status;
@@ -21,7 +22,7 @@ fn checked_status(bad: CheckBad) -> Status
     ensures { result ≡ checked_status bad }
 {
     match bad {
-        CheckBad::Refused(place, fault) => Status::No(place, fault),
+        CheckBad::Refused(place, fault) => Status::No(place, fault_of(fault)),
         CheckBad::ReadFault => Status::ReadFault,
         CheckBad::NoMemory => Status::NoMemory,
     }
@@ -37,7 +38,7 @@ fn check_all<D: Depot>(alloc: Global, input: &Input, depot: &mut D) -> Status
         → Rose (D.counts depot.old).write_faults (D.counts depot.new).write_faults }
     ensures read_fault { result ≡ Status.ReadFault
         → Rose (D.counts depot.old).read_faults (D.counts depot.new).read_faults ⊎ IsTrue D.tells }
-    ensures of_check { IsOfCheck result }
+    ensures kind { IsOfInput refuses_output result }
     ensures counts { CountsFor (D.counts depot.old) (D.counts depot.new) result }
     ensures counted { NeverFall (D.counts depot.old) (D.counts depot.new) }
 {
@@ -63,7 +64,7 @@ fn check_input<D: Depot>(alloc: Global, input: Input, depot: &mut D) -> Ending
         → Rose (D.counts depot.old).write_faults (D.counts depot.new).write_faults }
     ensures read_fault { result.status ≡ Status.ReadFault
         → Rose (D.counts depot.old).read_faults (D.counts depot.new).read_faults ⊎ IsTrue D.tells }
-    ensures of_check { IsOfCheck result.status }
+    ensures kind { IsOfInput refuses_output result.status }
     ensures counts { CountsFor (D.counts depot.old) (D.counts depot.new) result.status }
     ensures counted { NeverFall (D.counts depot.old) (D.counts depot.new) }
 {
@@ -86,7 +87,7 @@ pub(crate) fn check<D: Depot>(alloc: Global, layout: &str, deck: &str, depot: &m
         → Rose (D.counts depot.old).write_faults (D.counts depot.new).write_faults }
     ensures read_fault { result.status ≡ Status.ReadFault
         → Rose (D.counts depot.old).read_faults (D.counts depot.new).read_faults ⊎ IsTrue D.tells }
-    ensures of_check { IsOfCheck result.status }
+    ensures kind { IsOfInput refuses_output result.status }
     ensures counts { CountsFor (D.counts depot.old) (D.counts depot.new) result.status }
     ensures counted { NeverFall (D.counts depot.old) (D.counts depot.new) }
 {

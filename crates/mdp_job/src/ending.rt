@@ -1,11 +1,14 @@
 //! How a command ended, with what its line may need.
-ghost use Rattle.std.specs.Prelude.{◌≡◌, None};
-ghost use Rattle.mdp_job.specs.Parts.{fault_status};
+ghost use Rattle.std.specs.Prelude.{◌≡◌, None, IsTrue};
+ghost use Rattle.depot.specs.Counts.{NeverFall, Rose};
+ghost use Rattle.job_report.specs.Pieces.{spelled};
+ghost use Rattle.mdp_job.specs.Parts.{fault_status, IsSaidSo, IsOfWriting, CountsFor};
 
 use crate::status::Status;
 use deck_text::Output;
-use depot::DepotBad;
+use depot::{Depot, DepotBad};
 use geo_stream::List;
+use job_report::{Piece, say_pieces};
 use layout_model::Name;
 
 /// How a command ended, the name of the deck's top cell where the layout is refused, and the deck's outputs where their
@@ -39,5 +42,23 @@ pub(crate) fn fault_status(bad: DepotBad) -> Status
     match bad {
         DepotBad::Failed => Status::WriteFault,
         DepotBad::NoMemory => Status::NoMemory,
+    }
+}
+
+/// Says the last text of a command.
+pub(crate) fn say_text<D: Depot>(pieces: &[Piece], depot: &mut D) -> Status
+    ensures said { IsTrue D.tells → IsSaidSo (D.content depot.old) (D.content depot.new)
+        (Rose (D.counts depot.old).write_faults (D.counts depot.new).write_faults)
+        (Rose (D.counts depot.old).refused (D.counts depot.new).refused)
+        (spelled pieces.now) result }
+    ensures write_fault { result ≡ Status.WriteFault
+        → Rose (D.counts depot.old).write_faults (D.counts depot.new).write_faults }
+    ensures kind { IsOfWriting result }
+    ensures counts { CountsFor (D.counts depot.old) (D.counts depot.new) result }
+    ensures counted { NeverFall (D.counts depot.old) (D.counts depot.new) }
+{
+    match say_pieces(depot, pieces) {
+        Ok(()) => Status::Done,
+        Err(bad) => fault_status(bad),
     }
 }

@@ -1,10 +1,10 @@
 //! The command `fracture`: the outputs of a deck, written of a layout, and the report on them.
-ghost use Rattle.std.specs.Prelude.{◌≡◌, ◌⊎◌, IsTrue, length};
+ghost use Rattle.std.specs.Prelude.{◌≡◌, ◌⊎◌, IsTrue, None, length};
 ghost use Rattle.depot.specs.Counts.{NeverFall, Rose};
 ghost use Rattle.deck_plan.specs.Plans.{IsRead};
 ghost use Rattle.mdp_job.specs.Runs.{run_of};
 ghost use Rattle.mdp_job.specs.Outputs.{report_on};
-ghost use Rattle.mdp_job.specs.Parts.{status_of, top_of, IsSaidSo, IsMade, IsAnswer, IsOfFracture, IsOfGenerate, CountsFor};
+ghost use Rattle.mdp_job.specs.Parts.{status_of, top_of, IsSaidSo, IsMade, IsAnswer, IsOfInput, IsOfWriting, refuses_none, CountsFor};
 
 use crate::ending::{Ending, fault_status};
 use crate::reading::refused_input;
@@ -24,7 +24,7 @@ fn write_all<D: Depot>(alloc: Global, input: &Input, depot: &mut D) -> Status
         (Rose (D.counts depot.old).refused (D.counts depot.new).refused) input.now result }
     ensures write_fault { result ≡ Status.WriteFault
         → Rose (D.counts depot.old).write_faults (D.counts depot.new).write_faults }
-    ensures kind { IsOfGenerate result }
+    ensures kind { IsOfWriting result }
     ensures counts { CountsFor (D.counts depot.old) (D.counts depot.new) result }
     ensures counted { NeverFall (D.counts depot.old) (D.counts depot.new) }
 {
@@ -42,11 +42,12 @@ pub(crate) fn fracture<D: Depot>(alloc: Global, layout: &str, deck: &str, depot:
     ensures answer { IsTrue D.tells → IsAnswer D.tells
         (run_of (D.content depot.old) (D.content depot.new) (D.counts depot.old) (D.counts depot.new))
         layout.now deck.now result.status result.top }
+    ensures outputs { result.outputs ≡ None }
     ensures write_fault { result.status ≡ Status.WriteFault
         → Rose (D.counts depot.old).write_faults (D.counts depot.new).write_faults }
     ensures read_fault { result.status ≡ Status.ReadFault
         → Rose (D.counts depot.old).read_faults (D.counts depot.new).read_faults ⊎ IsTrue D.tells }
-    ensures of_fracture { IsOfFracture result.status }
+    ensures kind { IsOfInput refuses_none result.status }
     ensures counts { CountsFor (D.counts depot.old) (D.counts depot.new) result.status }
     ensures counted { NeverFall (D.counts depot.old) (D.counts depot.new) }
 {

@@ -2,12 +2,12 @@
 ghost use Rattle.std.specs.Prelude.{◌≡◌, ◌≤◌, IsTrue};
 ghost use Rattle.depot.specs.Counts.{NeverFall, Rose};
 ghost use Rattle.mdp_job.specs.Generating.{IsGeneratedSo, size_line};
-ghost use Rattle.mdp_job.specs.Parts.{IsSaidSo, IsOfGenerate, CountsFor};
+ghost use Rattle.mdp_job.specs.Parts.{IsSaidSo, IsOfWriting, CountsFor};
 
-use crate::ending::fault_status;
+use crate::ending::{fault_status, say_text};
 use crate::status::Status;
 use depot::Depot;
-use job_report::{Piece, say_pieces};
+use job_report::Piece;
 use layout_gen::generate;
 
 // Says how many bytes the file has.
@@ -18,7 +18,7 @@ fn say_size<D: Depot>(size: u64, depot: &mut D) -> Status
         (size_line size) result }
     ensures write_fault { result ≡ Status.WriteFault
         → Rose (D.counts depot.old).write_faults (D.counts depot.new).write_faults }
-    ensures kind { IsOfGenerate result }
+    ensures kind { IsOfWriting result }
     ensures counts { CountsFor (D.counts depot.old) (D.counts depot.new) result }
     ensures counted { NeverFall (D.counts depot.old) (D.counts depot.new) }
 {
@@ -27,10 +27,7 @@ fn say_size<D: Depot>(size: u64, depot: &mut D) -> Status
         Piece::Count(u128::from(size)),
         Piece::Text(b" bytes\n"),
     ];
-    match say_pieces(depot, &pieces) {
-        Ok(()) => Status::Done,
-        Err(bad) => fault_status(bad),
-    }
+    say_text(&pieces, depot)
 }
 
 /// Writes the generated layout for `n`, which is 1 to 1,000, and says how many bytes it has.
@@ -42,7 +39,7 @@ pub(crate) fn generate_layout<D: Depot>(n: u16, file: &str, depot: &mut D) -> St
         (Rose (D.counts depot.old).refused (D.counts depot.new).refused) n file.now result }
     ensures write_fault { result ≡ Status.WriteFault
         → Rose (D.counts depot.old).write_faults (D.counts depot.new).write_faults }
-    ensures kind { IsOfGenerate result }
+    ensures kind { IsOfWriting result }
     ensures counts { CountsFor (D.counts depot.old) (D.counts depot.new) result }
     ensures counted { NeverFall (D.counts depot.old) (D.counts depot.new) }
 {

@@ -3,9 +3,11 @@
 ghost use Rattle.std.specs.Prelude.{◌≡◌, ◌≢◌, ◌⊎◌, ◌↔◌, IsTrue};
 ghost use Rattle.depot.specs.Counts.{NeverFall, Rose};
 ghost use Rattle.depot.specs.Sure.{sure_content, sure_counts};
-ghost use Rattle.mdp_job.specs.Words.{IsNoCommand};
-ghost use Rattle.mdp_job.specs.Runs.{texts, run_of};
-ghost use Rattle.mdp_job.specs.Clauses.{IsAccepted, Belongs, FaultsTold, Covers, Spares, Certifies, Reports, Generates, Lists, Accepts, DeckLong, DeckBroken, LayoutLong, GdsBroken, OasBroken, TreeBroken, FileLong, FileBad, FileHead, FileTooLarge, FileMiscovered, ShotsLong, ShotsBad, ReadFaults, WriteFaults, Says, Refuses, Keeps, Spoils};
+ghost use Rattle.job_words.specs.Texts.{texts};
+ghost use Rattle.job_words.specs.Words.{IsNoCommand};
+ghost use Rattle.mdp_job.specs.Runs.{run_of};
+ghost use Rattle.mdp_job.specs.Headline.{Covers, Certifies};
+ghost use Rattle.mdp_job.specs.Clauses.{IsAccepted, Belongs, FaultsTold, Coverage, Acceptance, Refusals, Speech, Remains};
 ghost use Rattle.mdp_job.specs.Table.{IsAnswerTo, NamesFile};
 ghost use Rattle.mdp_job.specs.Parts.{CountsFor};
 
@@ -15,9 +17,12 @@ use crate::fracturing::fracture;
 use crate::generating::generate_layout;
 use crate::lines::say_line;
 use crate::listing::list_shots;
+use crate::packing::{pack, unpack};
 use crate::status::Status;
-use crate::words::{check_names, file_word, fracture_names, generate_words, shots_name};
 use depot::{Depot, SureDepot};
+use job_words::{
+    check_names, file_word, fracture_names, generate_words, pack_names, shots_name, unpack_names,
+};
 use std::alloc::Global;
 
 // Does the command, by the table of answers.
@@ -44,6 +49,12 @@ fn answered<D: Depot>(alloc: Global, words: &[String], depot: &mut D) -> Ending
     if let Some(file) = shots_name(words) {
         return Ending::plain(list_shots(alloc, file, depot));
     }
+    if let Some((file, out)) = pack_names(words) {
+        return Ending::plain(pack(alloc, file, out, depot));
+    }
+    if let Some((file, out)) = unpack_names(words) {
+        return Ending::plain(unpack(alloc, file, out, depot));
+    }
     if let Some((n, file)) = generate_words(words) {
         return Ending::plain(generate_layout(n, file, depot));
     }
@@ -57,117 +68,38 @@ fn answered<D: Depot>(alloc: Global, words: &[String], depot: &mut D) -> Ending
 /// - `check LAYOUT DECK`: the files of the deck's outputs, whoever made them, are judged by the areas that the deck denotes
 ///   of the layout, and where all are exact the report is said;
 /// - `shots FILE`: the shots of a shot file are listed on standard output;
+/// - `pack FILE OUT`: a shot file is written with modal fields and repetitions;
+/// - `unpack FILE OUT`: a packed shot file is written as a plain one;
 /// - `generate N FILE`: the generated layout of a number from 1 to 1,000 is written.
 ///
 /// An answer other than Done is said in one line; a failure to say that line changes nothing.
 ///
-/// The clauses on content hold over a depot that tells it. The others hold over every depot.
+/// The first three clauses hold over every depot, the others over one that tells its content. The headline is the field
+/// `cover` of the first of these: after `fracture` ends with Done, every output file is the one text of a list of legal
+/// shots within the deck's limits; each half-grid triangle lies in exactly one of them if it lies in the area that the deck
+/// denotes of the layout, and in none otherwise.
 pub fn run<D: Depot>(alloc: Global, words: &[String], depot: &mut D) -> Status
     ensures words { (result ≡ Status.Words) ↔ IsNoCommand (texts words.now) }
     ensures belongs { Belongs (texts words.now) result }
-
-    // After `fracture` ends with Done, every output file is the one text of a list of legal shots within the deck's limits;
-    // each half-grid triangle lies in exactly one of them if it lies in the area that the deck denotes of the layout, and
-    // in none otherwise.
-    ensures cover { IsTrue D.tells → Covers
+    ensures faults_told { FaultsTold (D.counts depot.old) (D.counts depot.new) (IsTrue D.tells) result }
+    ensures covers { IsTrue D.tells → Coverage
         (run_of (D.content depot.old) (D.content depot.new) (D.counts depot.old) (D.counts depot.new))
         (texts words.now) result }
-    // The shots are those of the bands' joined lists, cut as the limits ask and no more.
-    ensures economy { IsTrue D.tells → Spares
+    ensures certifies { IsTrue D.tells → Certifies
         (run_of (D.content depot.old) (D.content depot.new) (D.counts depot.old) (D.counts depot.new))
         (texts words.now) result }
-    // After `check` ends with Done, every output's file, whoever made it, is the one text of a list of legal shots within
-    // the deck's limits, with the deck's unit and the output's pair; each half-grid triangle lies in exactly one of them if
-    // it lies in the area that the deck denotes of the layout, and in none otherwise.
-    ensures certificate { IsTrue D.tells → Certifies
+    ensures accepts { IsTrue D.tells → Acceptance
         (run_of (D.content depot.old) (D.content depot.new) (D.counts depot.old) (D.counts depot.new))
         (texts words.now) result }
-    ensures report { IsTrue D.tells → Reports
+    ensures refuses { IsTrue D.tells → Refusals
         (run_of (D.content depot.old) (D.content depot.new) (D.counts depot.old) (D.counts depot.new))
         (texts words.now) result }
-    // After `generate` and `shots` end with Done.
-    ensures generated { IsTrue D.tells → Generates
+    ensures leaves { IsTrue D.tells → Remains
         (run_of (D.content depot.old) (D.content depot.new) (D.counts depot.old) (D.counts depot.new))
         (texts words.now) result }
-    ensures listed { IsTrue D.tells → Lists
+    ensures says { IsTrue D.tells → Speech
         (run_of (D.content depot.old) (D.content depot.new) (D.counts depot.old) (D.counts depot.new))
         (texts words.now) result }
-
-    // Without a counted fault or want of memory, Done comes exactly where words, deck and layout are accepted, and for
-    // `check` each output's file is exact.
-    ensures accepted { IsTrue D.tells → Accepts
-        (run_of (D.content depot.old) (D.content depot.new) (D.counts depot.old) (D.counts depot.new))
-        (texts words.now) result }
-
-    // The cause of each refusal.
-    ensures deck_long { IsTrue D.tells → DeckLong
-        (run_of (D.content depot.old) (D.content depot.new) (D.counts depot.old) (D.counts depot.new))
-        (texts words.now) result }
-    ensures deck_bad { IsTrue D.tells → DeckBroken
-        (run_of (D.content depot.old) (D.content depot.new) (D.counts depot.old) (D.counts depot.new))
-        (texts words.now) result }
-    ensures layout_long { IsTrue D.tells → LayoutLong
-        (run_of (D.content depot.old) (D.content depot.new) (D.counts depot.old) (D.counts depot.new))
-        (texts words.now) result }
-    ensures layout_gds { IsTrue D.tells → GdsBroken
-        (run_of (D.content depot.old) (D.content depot.new) (D.counts depot.old) (D.counts depot.new))
-        (texts words.now) result }
-    ensures layout_oas { IsTrue D.tells → OasBroken
-        (run_of (D.content depot.old) (D.content depot.new) (D.counts depot.old) (D.counts depot.new))
-        (texts words.now) result }
-    ensures layout_tree { IsTrue D.tells → TreeBroken
-        (run_of (D.content depot.old) (D.content depot.new) (D.counts depot.old) (D.counts depot.new))
-        (texts words.now) result }
-    ensures file_long { IsTrue D.tells → FileLong
-        (run_of (D.content depot.old) (D.content depot.new) (D.counts depot.old) (D.counts depot.new))
-        (texts words.now) result }
-    ensures file_bad { IsTrue D.tells → FileBad
-        (run_of (D.content depot.old) (D.content depot.new) (D.counts depot.old) (D.counts depot.new))
-        (texts words.now) result }
-    ensures file_head { IsTrue D.tells → FileHead
-        (run_of (D.content depot.old) (D.content depot.new) (D.counts depot.old) (D.counts depot.new))
-        (texts words.now) result }
-    ensures file_too_large { IsTrue D.tells → FileTooLarge
-        (run_of (D.content depot.old) (D.content depot.new) (D.counts depot.old) (D.counts depot.new))
-        (texts words.now) result }
-    ensures file_miscovered { IsTrue D.tells → FileMiscovered
-        (run_of (D.content depot.old) (D.content depot.new) (D.counts depot.old) (D.counts depot.new))
-        (texts words.now) result }
-    ensures shots_long { IsTrue D.tells → ShotsLong
-        (run_of (D.content depot.old) (D.content depot.new) (D.counts depot.old) (D.counts depot.new))
-        (texts words.now) result }
-    ensures shots_bad { IsTrue D.tells → ShotsBad
-        (run_of (D.content depot.old) (D.content depot.new) (D.counts depot.old) (D.counts depot.new))
-        (texts words.now) result }
-
-    // The causes of faults: first over a depot that tells, then over every depot.
-    ensures read_fault { IsTrue D.tells → ReadFaults
-        (run_of (D.content depot.old) (D.content depot.new) (D.counts depot.old) (D.counts depot.new))
-        (texts words.now) result }
-    ensures write_fault { IsTrue D.tells → WriteFaults
-        (run_of (D.content depot.old) (D.content depot.new) (D.counts depot.old) (D.counts depot.new))
-        (texts words.now) result }
-    ensures read_counted { result ≡ Status.ReadFault
-        → Rose (D.counts depot.old).read_faults (D.counts depot.new).read_faults ⊎ IsTrue D.tells }
-    ensures write_counted { result ≡ Status.WriteFault
-        → Rose (D.counts depot.old).write_faults (D.counts depot.new).write_faults }
-
-    // After Done nothing was counted, and a counted fault of reading is answered as that.
-    ensures faults_told { FaultsTold (D.counts depot.old) (D.counts depot.new) result }
-
-    // What is said, and what refusals, checks, listings and faults leave.
-    ensures said { IsTrue D.tells → Says
-        (run_of (D.content depot.old) (D.content depot.new) (D.counts depot.old) (D.counts depot.new))
-        (texts words.now) result }
-    ensures refusals { IsTrue D.tells → Refuses
-        (run_of (D.content depot.old) (D.content depot.new) (D.counts depot.old) (D.counts depot.new)) result }
-    ensures keeps { IsTrue D.tells → Keeps
-        (run_of (D.content depot.old) (D.content depot.new) (D.counts depot.old) (D.counts depot.new))
-        (texts words.now) }
-    ensures spoiled { IsTrue D.tells → Spoils
-        (run_of (D.content depot.old) (D.content depot.new) (D.counts depot.old) (D.counts depot.new))
-        (texts words.now) result }
-    ensures counted { NeverFall (D.counts depot.old) (D.counts depot.new) }
 {
     let ending = answered(alloc, words, depot);
     say_line(depot, file_word(words), &ending);

@@ -5,17 +5,18 @@ ghost use Rattle.depot.specs.Content.{with_said, IsPartSaid};
 ghost use Rattle.depot.specs.Counts.{NeverFall, Rose};
 ghost use Rattle.std.specs.Fmt.{signed_decimal};
 ghost use Rattle.job_report.specs.Pieces.{spelled, text_of};
-ghost use Rattle.mdp_job.specs.Lines.{deck_fault_line, layout_fault_line, fault_line, shot_line_of, side_text, tile_line, too_large_line, verdict_line, text_line, check_line, file_of, name_of, line_of};
+ghost use Rattle.mdp_job.specs.Lines.{deck_fault_line, layout_fault_line, fault_line, shot_line_of, pack_line_of, side_text, tile_line, too_large_line, verdict_line, text_line, check_line, file_of, name_of, line_of};
 
 use crate::ending::Ending;
+use crate::faults::CheckFault;
 use crate::status::Status;
 use depot::Depot;
-use file_check::CheckFault;
 use half_grid::{Side, Tile};
 use job_input::{DeckFault, LayoutFault};
 use job_report::{Line, Piece, deck_line, gds_line, oas_line, say_pieces, tree_line};
 use shot_checker::Verdict;
 use shot_reader::ShotBad;
+use shot_repeat::PackBad;
 
 /// A line of up to eleven pieces.
 type LongLine<'a> = [Piece<'a>; 11];
@@ -86,6 +87,23 @@ fn shot_line<'a>(file: &'a str, bad: &ShotBad) -> Line<'a>
         ShotBad::Illegal(at) => fault_line(file, ": illegal at ", *at),
         ShotBad::End(at) => fault_line(file, ": end at ", *at),
         ShotBad::NoMemory => whole(b"want of memory\n"),
+    }
+}
+
+// The line of a packed shot file that stands for no shots.
+fn pack_line<'a>(file: &'a str, bad: &PackBad) -> Line<'a>
+    ensures { spelled result ≡ pack_line_of file.now bad.now }
+{
+    match bad {
+        PackBad::Head(at) => fault_line(file, ": packed head at ", *at),
+        PackBad::Record(at) => fault_line(file, ": packed record at ", *at),
+        PackBad::Spelling(at) => fault_line(file, ": packed spelling at ", *at),
+        PackBad::Undefined(at) => fault_line(file, ": packed undefined at ", *at),
+        PackBad::Pair(at) => fault_line(file, ": packed pair at ", *at),
+        PackBad::Many(at) => fault_line(file, ": packed many at ", *at),
+        PackBad::Illegal(at) => fault_line(file, ": packed illegal at ", *at),
+        PackBad::End(at) => fault_line(file, ": packed end at ", *at),
+        PackBad::NoMemory => whole(b"want of memory\n"),
     }
 }
 
@@ -193,6 +211,7 @@ fn check_line<'a>(file: &'a str, fault: &CheckFault) -> LongLine<'a>
         CheckFault::Bad(bad) => long(shot_line(file, bad)),
         CheckFault::Head => text_line(file, b": unit or layer differs\n"),
         CheckFault::Verdict(verdict) => verdict_line(file, verdict),
+        CheckFault::Pack(bad) => long(pack_line(file, bad)),
     }
 }
 
@@ -244,7 +263,8 @@ pub(crate) fn say_line<D: Depot>(depot: &mut D, word: &str, ending: &Ending)
     ensures done { ending.now.status ≡ Status.Done → depot.new ≡ depot.old }
     ensures said { IsTrue D.tells → IsPartSaid (D.content depot.old) (line_of (file_of word.now ending.now.outputs ending.now.status) (name_of ending.now.top) ending.now.status) (D.content depot.new) }
     ensures whole { IsTrue D.tells
-        → (D.content depot.new ≡ with_said (D.content depot.old) (line_of (file_of word.now ending.now.outputs ending.now.status) (name_of ending.now.top) ending.now.status))
+        → ((D.content depot.new ≡ with_said (D.content depot.old) (line_of (file_of word.now ending.now.outputs ending.now.status) (name_of ending.now.top) ending.now.status))
+        × (D.counts depot.new ≡ D.counts depot.old))
         ⊎ Rose (D.counts depot.old).write_faults (D.counts depot.new).write_faults
         ⊎ Rose (D.counts depot.old).refused (D.counts depot.new).refused }
     ensures reads { (D.counts depot.new).read_faults ≡ (D.counts depot.old).read_faults }

@@ -2,7 +2,7 @@
 ghost use Rattle.std.specs.Prelude.{◌≡◌, IsTrue, length};
 ghost use Rattle.depot.specs.Counts.{NeverFall, Rose};
 ghost use Rattle.mdp_job.specs.Outputs.{report_of};
-ghost use Rattle.mdp_job.specs.Parts.{IsSaidSo, IsOfGenerate, CountsFor};
+ghost use Rattle.mdp_job.specs.Parts.{IsSaidSo, IsOfWriting, CountsFor};
 
 use crate::ending::fault_status;
 use crate::status::Status;
@@ -25,7 +25,7 @@ pub(crate) fn say_report_on<D: Depot>(
         (report_of word.now input.now sums.now) result }
     ensures write_fault { result ≡ Status.WriteFault
         → Rose (D.counts depot.old).write_faults (D.counts depot.new).write_faults }
-    ensures kind { IsOfGenerate result }
+    ensures kind { IsOfWriting result }
     ensures counts { CountsFor (D.counts depot.old) (D.counts depot.new) result }
     ensures counted { NeverFall (D.counts depot.old) (D.counts depot.new) }
 {

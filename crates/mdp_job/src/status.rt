@@ -1,4 +1,4 @@
-use file_check::CheckFault;
+use crate::faults::CheckFault;
 use job_input::{DeckFault, LayoutFault};
 
 /// How a command ended.
@@ -18,7 +18,7 @@ pub enum Status {
     WriteFault,
     /// Memory was wanting.
     NoMemory,
-    /// A shot file was read and is refused. The number is its output's place from 0; it is 0 for `shots`.
+    /// A shot file was read and is refused. The number is its output's place from 0; it is 0 but for `check`.
     No(usize, CheckFault),
 }
 

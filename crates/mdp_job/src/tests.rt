@@ -1,6 +1,6 @@
 //! The commands from end to end: files and lines that were worked out by hand, and calls that fail.
 use crate::{run, run_surely};
-use depot::{MemDepot, SureDepot};
+use depot::{MemDepot, Refused, SureDepot};
 use geo_stream::NoMemory;
 use std::alloc::Global;
 use std::test::Fail;
@@ -360,5 +360,63 @@ fn a_layout_is_generated(rt: HostRuntime) -> Result<(), Fail> {
     assert_eq!(rt; depot.said(), b"generated 1266 bytes\n".as_slice());
     let made = depot.made("F").ok_or("no file")?;
     assert_eq!(rt; made.len(), 1266);
+    Ok(())
+}
+
+/// Three squares of side 10 side by side, 10 apart; and the one record with a repetition that stands for them.
+const THREE: &[u8] = &[
+    0x14, 0x7B, 0x01, 0x00, 0x14, 0x14, 0x00, 0x00, //
+    0x14, 0x7B, 0x01, 0x00, 0x14, 0x14, 0x50, 0x00, //
+    0x14, 0x7B, 0x01, 0x00, 0x14, 0x14, 0xA0, 0x01, 0x00,
+];
+
+const PACKED: &[u8] = &[
+    0x14, 0x67, 0x01, 0x00, 0x14, 0x14, 0x09, 0x01, 0xA1, 0x01, 0x00,
+];
+
+#[test]
+fn files_are_packed_and_unpacked(rt: HostRuntime) -> Result<(), Fail> {
+    let alloc = rt.alloc();
+    let plain = file_of(alloc, THREE)?;
+    let packed = file_of(alloc, PACKED)?;
+    let mut depot = MemDepot::new(alloc);
+    depot.add("F", &plain)?;
+    depot.add("P", &packed)?;
+    assert_eq!(rt;
+        run(alloc, &words(alloc, &["pack", "F", "A"])?, &mut depot).code(),
+        0
+    );
+    assert_eq!(rt;
+        run(alloc, &words(alloc, &["unpack", "P", "B"])?, &mut depot).code(),
+        0
+    );
+    assert_eq!(rt; depot.made("A").ok_or("no file")?, packed.as_slice());
+    assert_eq!(rt; depot.made("B").ok_or("no file")?, plain.as_slice());
+    assert_eq!(rt;
+        run(alloc, &words(alloc, &["pack", "P", "A"])?, &mut depot).code(),
+        7
+    );
+    assert_eq!(rt;
+        run(alloc, &words(alloc, &["unpack", "G", "A"])?, &mut depot).code(),
+        4
+    );
+    assert_eq!(rt;
+        depot.said(),
+        b"packed 3 shots in 1 records\nunpacked 3 shots\ncheck refused: P: record at 41\nread fault\n".as_slice()
+    );
+    Ok(())
+}
+
+#[test]
+fn why_a_file_is_not_read(rt: HostRuntime) -> Result<(), Fail> {
+    let alloc = rt.alloc();
+    let rows = [
+        (Refused::Fault, "the file can't be read"),
+        (Refused::TooLong, "the file is too long"),
+        (Refused::NoMemory, "memory is wanting"),
+    ];
+    for (refused, text) in rows {
+        assert_eq!(rt; format!(in alloc; "{refused}")?.as_str(), text);
+    }
     Ok(())
 }

@@ -6,7 +6,7 @@ use Rattle.deck_plan.specs.Plans.{Planned}
 use Rattle.file_check.specs.Files.{AreExactFiles, IsFirstFileFault}
 use Rattle.mdp_job.specs.Runs.{run_of}
 use Rattle.mdp_job.specs.Outputs.{report_of}
-use Rattle.mdp_job.specs.Parts.{IsSaidSo, IsOfCheck, CountsFor}
+use Rattle.mdp_job.specs.Parts.{IsSaidSo, IsOfInput, refuses_output, CountsFor}
 use Rattle.mdp_job.specs.Checking.{AreAllExact, IsChecked}
 use Rattle.mdp_job.specs.declared.status.Status.{Status}
 use Rattle.mdp_job.proofs.Made.{said_checked, refused_checked, checked_kind, checked_counts}
@@ -40,8 +40,8 @@ returns-clause-checked g c = λ told.
     subst (λ (s : Status). IsChecked (run_of (at c.args.depot.now) (at c.check_files.new.depot) (counts c.args.depot.now) (counts c.check_files.new.depot)) c.args.input.now s) (sym c.checked_status.ensures)
     (refused_checked (at c.args.depot.now) (at c.check_files.new.depot) (counts c.args.depot.now) (counts c.check_files.new.depot) c.args.input.now c.in-Err.bad (c.in-Err.ensures.others told) first)
 
-pub returns-clause-of_check : goal.returns-clause-of_check
-returns-clause-of_check g c = subst IsOfCheck (sym c.checked_status.ensures) (checked_kind c.in-Err.bad c.in-Err.ensures.real)
+pub returns-clause-kind : goal.returns-clause-kind
+returns-clause-kind g c = subst (IsOfInput refuses_output) (sym c.checked_status.ensures) (checked_kind c.in-Err.bad c.in-Err.ensures.real)
 
 pub returns-clause-counts : goal.returns-clause-counts
 returns-clause-counts g c =

@@ -1,8 +1,7 @@
-use Rattle.std.proofs.Common.{◌≡◌, ◌⊎◌, inl, inr, ℕ, List, Option, None, Ok, Err, ap, subst, sym, refl, ◌∙◌}
+use Rattle.std.proofs.Common.{Ok, Err, subst, sym}
 use Rattle.depot.specs.Counts.{Rose}
-use Rattle.job_input.specs.Refused.{IsWanting}
 use Rattle.mdp_job.specs.Runs.{run_of}
-use Rattle.mdp_job.specs.Parts.{IsInputTold, IsMade, IsFractured, IsAnswer}
+use Rattle.mdp_job.specs.Parts.{IsInputTold, IsFractured, IsAnswer}
 use Rattle.mdp_job.proofs.Made.{given_answers, fractured_from, fault_told}
 use Rattle.mdp_job.specs.declared.status.Status.{Status}
 use Rattle.mdp_job.proofs.fracturing.fracture.Goals as goal

@@ -1,4 +1,4 @@
-use Rattle.std.proofs.Common.{◌≡◌, ℕ, List, ap, subst, sym, refl, ◌∙◌, length}
+use Rattle.std.proofs.Common.{List, subst, length}
 use Rattle.depot.specs.Counts.{Rose}
 use Rattle.depot.proofs.ForCallers.{Rose-later}
 use Rattle.shot_writer.specs.declared.parts.Sums.{Sums}

@@ -3,4 +3,4 @@ use Rattle.depot.proofs.ForCallers.{zero_stays}
 use Rattle.mdp_job.proofs.job.run_surely.Goals as goal
 
 pub returns-clause-accepted : goal.returns-clause-accepted
-returns-clause-accepted c = λ memory. c.run.ensures.accepted refl zero_stays zero_stays memory
+returns-clause-accepted c = λ memory. (c.run.ensures.accepts refl).all zero_stays zero_stays memory

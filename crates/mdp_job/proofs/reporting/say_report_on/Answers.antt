@@ -1,4 +1,4 @@
-use Rattle.std.proofs.Common.{◌≡◌, ℕ, List, Err, length, ap, subst, sym, refl, ◌∙◌}
+use Rattle.std.proofs.Common.{◌≡◌, ℕ, List, Err, length, ap, subst, refl}
 use Rattle.depot.specs.Content.{IsPartSaid}
 use Rattle.job_report.specs.Report.{report}
 use Rattle.mdp_job.specs.Outputs.{report_of}

@@ -1,0 +1,26 @@
+use Rattle.std.proofs.Common.{◌≡◌, IfSome, subst, sym}
+use Rattle.job_words.specs.Texts.{texts}
+use Rattle.mdp_job.specs.Runs.{run_of}
+use Rattle.mdp_cli.specs.Ends.{IsEnd}
+use Rattle.mdp_cli.proofs.ending.exit_code.Goals as goal
+
+pub returns-in-Some-clause-end : goal.returns-in-Some-clause-end
+returns-in-Some-clause-end g c =
+    subst
+    (λ o. IfSome o (λ w. IsEnd g.D.Depot.tells (run_of (g.D.Depot.content c.args.depot.now) (g.D.Depot.content c.run.new.depot) (g.D.Depot.counts c.args.depot.now) (g.D.Depot.counts c.run.new.depot)) (texts w.items) c.number.result))
+    (sym c.in-Some.is)
+    (subst
+    (λ ws. IsEnd g.D.Depot.tells (run_of (g.D.Depot.content c.args.depot.now) (g.D.Depot.content c.run.new.depot) (g.D.Depot.counts c.args.depot.now) (g.D.Depot.counts c.run.new.depot)) (texts ws) c.number.result)
+    c.deref.ensures.value
+    (record {
+      answer = c.run.result;
+      is = c.number.ensures;
+      refused = c.run.ensures.words;
+      faults_told = c.run.ensures.faults_told;
+      covers = c.run.ensures.covers;
+      certifies = c.run.ensures.certifies;
+      accepts = c.run.ensures.accepts;
+      refuses = c.run.ensures.refuses;
+      leaves = c.run.ensures.leaves;
+      says = c.run.ensures.says;
+    }))

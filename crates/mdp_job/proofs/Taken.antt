@@ -1,0 +1,79 @@
+-- What follows of a shot file that was read, or wasn't taken; and a shot file hasn't more shots than bytes.
+use Rattle.std.proofs.Common.{◌≡◌, ◌≢◌, Some, inl, inr, ℕ, ◌≤◌, List, [], ◌∷◌, ◌++◌, length, refl, ap, subst, arith, length-append, Option}
+use Rattle.std.specs.Prelude.{flat_map}
+use Rattle.half_grid.specs.Trapezoids.{Trapezoid}
+use Rattle.depot.specs.Content.{Content, held_as, with_left}
+use Rattle.depot.specs.Counts.{Counts, Rose}
+use Rattle.layout_model.specs.declared.pair.Pair.{Pair}
+use Rattle.oas_lex.specs.ShotText.{head, end, spelling_of, shot_text}
+use Rattle.oas_lex.proofs.ForCallers.{spelling_some}
+use Rattle.shot_reader.specs.Reading.{IsFileOf}
+use Rattle.shot_reader.specs.Refusals.{IsFirstFault}
+use Rattle.shot_reader.specs.declared.refusing.ShotBad.{ShotBad}
+use Rattle.shot_reader.specs.declared.refusing.ShotBad.TheVariants.{Head, Record, Spelling, Illegal, End, NoMemory as Wanting}
+use Rattle.shot_repeat.specs.Refusals.{IsFirstFault as IsFirstPackFault}
+use Rattle.shot_repeat.specs.declared.refusing.PackBad.{PackBad}
+use Rattle.shot_repeat.specs.declared.refusing.PackBad.TheVariants as packs
+use Rattle.mdp_job.specs.Runs.{run_of, IsEndedSo}
+use Rattle.mdp_job.specs.ShotFiles.{ShotData, IsShotsFault, IsPackedFault}
+use Rattle.mdp_job.specs.FileAnswers.{FileCommand, IsFileAnswer, IsRefusedFile, refused_shots, refused_packed}
+use Rattle.mdp_job.specs.declared.faults.CheckFault.TheVariants as faults
+use Rattle.mdp_job.specs.declared.status.Status.{Status}
+use Rattle.mdp_job.specs.declared.status.Status.TheVariants as answers
+use Rattle.mdp_job.proofs.Contents.{left_only, there}
+
+-- ---- taken
+
+pub made_answers : (command : FileCommand) (b m a : Content) (o n p : Counts) (file : List ℕ) (s : ShotData) (result : Status) → command.holds b file s → m ≡ with_left b [] → n ≡ o
+    → IsEndedSo (Rose n.write_faults p.write_faults) (Rose n.refused p.refused) (command.done m a s) (command.half m a s) result → IsFileAnswer command (run_of b a o p) file result
+made_answers command b m a o n p file s result holds rest same made = inl (
+  s,
+  holds,
+  subst (λ (c : Content). IsEndedSo (Rose o.write_faults p.write_faults) (Rose o.refused p.refused) (command.done c a s) (command.half c a s) result) rest
+      (subst (λ (x : Counts). IsEndedSo (Rose x.write_faults p.write_faults) (Rose x.refused p.refused) (command.done m a s) (command.half m a s) result) same made),
+)
+
+-- ---- not taken
+
+module _ (b a : Content) (o p : Counts) (file bytes : List ℕ) (held : held_as b file ≡ Some bytes) (short : length bytes ≤ 268435456) (rest : a ≡ with_left b []) where
+  plain_refused : (bad : ShotBad) → IsFirstFault bytes bad → IsRefusedFile IsShotsFault (run_of b a o p) file (answers.No 0 (faults.Bad bad))
+  plain_refused bad fault = inl (faults.Bad bad, refl, record { bytes = bytes; held = held; short = short; fault = fault }, left_only b a rest)
+
+  pub shots_refused : (bad : ShotBad) → (bad ≢ Wanting → IsFirstFault bytes bad) → IsRefusedFile IsShotsFault (run_of b a o p) file (refused_shots bad)
+  shots_refused (Head at) fault = plain_refused (Head at) (fault (λ e. let no : ⊥ = cc in no))
+  shots_refused (Record at) fault = plain_refused (Record at) (fault (λ e. let no : ⊥ = cc in no))
+  shots_refused (Spelling at) fault = plain_refused (Spelling at) (fault (λ e. let no : ⊥ = cc in no))
+  shots_refused (Illegal at) fault = plain_refused (Illegal at) (fault (λ e. let no : ⊥ = cc in no))
+  shots_refused (End at) fault = plain_refused (End at) (fault (λ e. let no : ⊥ = cc in no))
+  shots_refused Wanting fault = inr (inr (refl, λ missing. absurd (there (held_as b file) bytes held missing), left_only b a rest))
+
+  pack_refused : (bad : PackBad) → IsFirstPackFault bytes bad → IsRefusedFile IsPackedFault (run_of b a o p) file (answers.No 0 (faults.Pack bad))
+  pack_refused bad fault = inl (faults.Pack bad, refl, record { bytes = bytes; held = held; short = short; fault = fault }, left_only b a rest)
+
+  pub packed_refused : (bad : PackBad) → (bad ≢ packs.NoMemory → IsFirstPackFault bytes bad) → IsRefusedFile IsPackedFault (run_of b a o p) file (refused_packed bad)
+  packed_refused (packs.Head at) fault = pack_refused (packs.Head at) (fault (λ e. let no : ⊥ = cc in no))
+  packed_refused (packs.Record at) fault = pack_refused (packs.Record at) (fault (λ e. let no : ⊥ = cc in no))
+  packed_refused (packs.Spelling at) fault = pack_refused (packs.Spelling at) (fault (λ e. let no : ⊥ = cc in no))
+  packed_refused (packs.Undefined at) fault = pack_refused (packs.Undefined at) (fault (λ e. let no : ⊥ = cc in no))
+  packed_refused (packs.Pair at) fault = pack_refused (packs.Pair at) (fault (λ e. let no : ⊥ = cc in no))
+  packed_refused (packs.Many at) fault = pack_refused (packs.Many at) (fault (λ e. let no : ⊥ = cc in no))
+  packed_refused (packs.Illegal at) fault = pack_refused (packs.Illegal at) (fault (λ e. let no : ⊥ = cc in no))
+  packed_refused (packs.End at) fault = pack_refused (packs.End at) (fault (λ e. let no : ⊥ = cc in no))
+  packed_refused packs.NoMemory fault = inr (inr (refl, λ missing. absurd (there (held_as b file) bytes held missing), left_only b a rest))
+
+-- ---- how many shots
+
+-- each record has a byte at least
+records_long : (l d : ℕ) (shots : List Trapezoid) → length shots ≤ length (flat_map (spelling_of l d) shots)
+records_long l d [] = omega (arith)
+records_long l d (z ∷ shots) =
+    omega (arith, spelling_some l d z, records_long l d shots, length-append (spelling_of l d z) (flat_map (spelling_of l d) shots))
+
+text_long : (unit l d : ℕ) (shots : List Trapezoid) → length shots ≤ length (shot_text unit l d shots)
+unfolding shot_text
+text_long unit l d shots =
+    let r = flat_map (spelling_of l d) shots in
+    omega (arith, records_long l d shots, length-append (head unit) (r ++ end), length-append (head unit ++ r) end, length-append (head unit) r, length-append r end)
+
+pub few_shots : (bytes : List ℕ) (unit : ℕ) (pair : Option Pair) (shots : List Trapezoid) → IsFileOf bytes unit pair shots → length bytes ≤ 268435456 → length shots ≤ 268435456
+few_shots bytes unit pair shots f short = omega (arith, text_long unit f.layer f.datatype shots, ap length f.text, short)

@@ -1,0 +1,98 @@
+-- What the commands on a shot file read, `shots` and `pack` a plain one and `unpack` a packed one, and what they make of it.
+use Rattle.std.specs.Prelude.{◌≡◌, ℕ, ◌≤◌, List, ◌++◌, length, Option, None, Some, codes, decimal}
+use Rattle.depot.specs.Content.{Content, held_as, IsLongerThan}
+use Rattle.layout_model.specs.declared.pair.Pair.{Pair}
+use Rattle.oas_lex.specs.ShotText.{shot_text}
+use Rattle.shot_reader.specs.Reading.{IsFileOf}
+use Rattle.shot_reader.specs.Refusals.{IsFirstFault}
+use Rattle.shot_reader.specs.declared.refusing.ShotBad.{ShotBad}
+use Rattle.shot_listing.specs.Listing.{listing}
+use Rattle.shot_repeat.specs.Packed.{IsPackedFile}
+use Rattle.shot_repeat.specs.Packing.{packed_text, packed_records}
+use Rattle.shot_repeat.specs.Refusals.{IsFirstFault as IsFirstPackFault}
+use Rattle.shot_repeat.specs.declared.refusing.PackBad.{PackBad}
+pub use Rattle.file_check.specs.Files.{ShotData}
+use Rattle.mdp_job.specs.declared.faults.CheckFault.{CheckFault}
+use Rattle.mdp_job.specs.declared.faults.CheckFault.TheVariants.{Long, Bad, Head, Verdict, Pack}
+
+-- ---- what a name holds
+
+-- the name holds the one text of this unit, this pair and these shots
+pub record HoldsShots (c : Content) (file : List ℕ) (s : ShotData) : Type 0 where
+  pub bytes : List ℕ
+  pub held : held_as c file ≡ Some bytes
+  pub short : length bytes ≤ 268435456
+  pub form : IsFileOf bytes s.unit s.pair s.shots
+
+-- the name holds bytes within the limit with this first fault
+pub record HoldsFault (c : Content) (file : List ℕ) (bad : ShotBad) : Type 0 where
+  pub bytes : List ℕ
+  pub held : held_as c file ≡ Some bytes
+  pub short : length bytes ≤ 268435456
+  pub fault : IsFirstFault bytes bad
+
+-- the name holds a packed shot file of this unit, this pair and these shots
+pub record HoldsPacked (c : Content) (file : List ℕ) (s : ShotData) : Type 0 where
+  pub bytes : List ℕ
+  pub held : held_as c file ≡ Some bytes
+  pub short : length bytes ≤ 268435456
+  pub form : IsPackedFile bytes s.unit s.pair s.shots
+
+-- the name holds bytes within the limit with this first fault as a packed shot file
+pub record HoldsPackFault (c : Content) (file : List ℕ) (bad : PackBad) : Type 0 where
+  pub bytes : List ℕ
+  pub held : held_as c file ≡ Some bytes
+  pub short : length bytes ≤ 268435456
+  pub fault : IsFirstPackFault bytes bad
+
+-- ---- why a file is refused
+
+-- as a shot file
+abbrev pub IsShotsFault : Content → List ℕ → CheckFault → Type 0
+IsShotsFault c file Long = IsLongerThan 268435456 c file
+IsShotsFault c file (Bad bad) = HoldsFault c file bad
+IsShotsFault c file Head = ⊥
+IsShotsFault c file (Verdict verdict) = ⊥
+IsShotsFault c file (Pack bad) = ⊥
+
+-- as a packed one
+abbrev pub IsPackedFault : Content → List ℕ → CheckFault → Type 0
+IsPackedFault c file Long = IsLongerThan 268435456 c file
+IsPackedFault c file (Bad bad) = ⊥
+IsPackedFault c file Head = ⊥
+IsPackedFault c file (Verdict verdict) = ⊥
+IsPackedFault c file (Pack bad) = HoldsPackFault c file bad
+
+-- ---- what is made of a file, and said
+
+-- the lines of `shots`
+abbrev pub listed : ShotData → List ℕ
+listed s = listing s.unit s.pair s.shots
+
+-- the pair of the records, if there are any
+abbrev pub pair_or : Option Pair → Pair
+pair_or None = record { layer = 0; datatype = 0 }
+pair_or (Some pair) = pair
+
+-- the packed text, and the plain one
+abbrev pub packed_of : ShotData → List ℕ
+packed_of s = packed_text s.unit (pair_or s.pair).layer (pair_or s.pair).datatype s.shots
+
+abbrev pub plain_of : ShotData → List ℕ
+plain_of s = shot_text s.unit (pair_or s.pair).layer (pair_or s.pair).datatype s.shots
+
+-- `packed 3 shots in 1 records`
+abbrev pub packed_line : (shots records : ℕ) → List ℕ
+packed_line shots records = codes "packed " ++ decimal shots ++ codes " shots in " ++ decimal records ++ codes " records\n"
+
+-- the line of `pack`
+abbrev pub packed_said : ShotData → List ℕ
+packed_said s = packed_line (length s.shots) (length (packed_records (pair_or s.pair).layer (pair_or s.pair).datatype s.shots))
+
+-- `unpacked 3 shots`
+abbrev pub unpacked_line : ℕ → List ℕ
+unpacked_line shots = codes "unpacked " ++ decimal shots ++ codes " shots\n"
+
+-- the line of `unpack`
+abbrev pub unpacked_said : ShotData → List ℕ
+unpacked_said s = unpacked_line (length s.shots)

@@ -1,0 +1,36 @@
+//! Why a shot file is refused.
+ghost use Rattle.std.specs.Prelude.{◌≡◌};
+ghost use Rattle.mdp_job.specs.Faults.{fault_of};
+
+use file_check::CheckFault as OutputFault;
+use shot_checker::Verdict;
+use shot_reader::ShotBad;
+use shot_repeat::PackBad;
+
+/// Why a shot file is refused.
+#[derive(Clone, Copy, Debug, PartialEq, Eq)]
+pub enum CheckFault {
+    /// It has more than 268,435,456 bytes.
+    Long,
+    /// It isn't the text of a list of shots. This is its first fault, which is never want of memory.
+    Bad(ShotBad),
+    /// Its head has another number than twice the deck's unit, or it has shots and their pair isn't the output's.
+    Head,
+    /// What is to be said of its shots, which is never Exact.
+    Verdict(Verdict),
+    /// It stands for no list of shots as a packed file, or for too many. This is its first fault, which is never want of
+    /// memory. It comes for `unpack` alone.
+    Pack(PackBad),
+}
+
+/// The fault of an output's file.
+pub(crate) fn fault_of(fault: OutputFault) -> CheckFault
+    ensures { result ≡ fault_of fault }
+{
+    match fault {
+        OutputFault::Long => CheckFault::Long,
+        OutputFault::Bad(bad) => CheckFault::Bad(bad),
+        OutputFault::Head => CheckFault::Head,
+        OutputFault::Verdict(verdict) => CheckFault::Verdict(verdict),
+    }
+}

@@ -1,0 +1,113 @@
+//! Shot files that are read: plain ones and packed ones.
+ghost use Rattle.std.specs.Prelude.{◌≡◌, ◌⊎◌, [], IsTrue, IfOk, IfErr, OnOk};
+ghost use Rattle.depot.specs.Content.{with_left};
+ghost use Rattle.depot.specs.Counts.{NeverFall, Rose};
+ghost use Rattle.mdp_job.specs.Runs.{run_of};
+ghost use Rattle.mdp_job.specs.ShotFiles.{HoldsShots, HoldsPacked, IsShotsFault, IsPackedFault};
+ghost use Rattle.mdp_job.specs.FileAnswers.{IsRefusedFile, IsOfRefusedFile, IsPlainData, IsPackedData, shot_data, refused_shots, refused_packed};
+ghost use Rattle.mdp_job.specs.Parts.{refuses_shots, refuses_packed, CountsFor};
+
+use crate::faults::CheckFault;
+use crate::reading::refused_status;
+use crate::status::Status;
+use depot::{Depot, read_all};
+use shot_listing::MOST_SHOTS;
+use shot_reader::{ShotBad, ShotFile, read_shots};
+use shot_repeat::{PackBad, read_packed};
+use std::alloc::Global;
+
+/// A shot file has at most so many bytes, so a plain one has no more shots than that.
+const SHOTS_LIMIT: usize = MOST_SHOTS;
+
+// The answer to bytes that are no shot file.
+fn refused_shots(bad: ShotBad) -> Status
+    ensures { result ≡ refused_shots bad }
+{
+    match bad {
+        ShotBad::Head(_)
+        | ShotBad::Record(_)
+        | ShotBad::Spelling(_)
+        | ShotBad::Illegal(_)
+        | ShotBad::End(_) => Status::No(0, CheckFault::Bad(bad)),
+        ShotBad::NoMemory => Status::NoMemory,
+    }
+}
+
+// The answer to bytes that are no packed shot file.
+fn refused_packed(bad: PackBad) -> Status
+    ensures { result ≡ refused_packed bad }
+{
+    match bad {
+        PackBad::Head(_)
+        | PackBad::Record(_)
+        | PackBad::Spelling(_)
+        | PackBad::Undefined(_)
+        | PackBad::Pair(_)
+        | PackBad::Many(_)
+        | PackBad::Illegal(_)
+        | PackBad::End(_) => Status::No(0, CheckFault::Pack(bad)),
+        PackBad::NoMemory => Status::NoMemory,
+    }
+}
+
+/// Reads a plain shot file, or answers why it isn't taken.
+pub(crate) fn read_shot_file<D: Depot>(
+    alloc: Global,
+    file: &str,
+    depot: &mut D,
+) -> Result<ShotFile, Status>
+    ensures held { IfOk result (λ read. IsTrue D.tells
+        → HoldsShots (D.content depot.old) file.now (shot_data read)) }
+    ensures plain { IfOk result (λ read. IsPlainData (shot_data read)) }
+    ensures whole { OnOk result (IsTrue D.tells
+        → D.content depot.new ≡ with_left (D.content depot.old) []) }
+    ensures uncounted { OnOk result (D.counts depot.new ≡ D.counts depot.old) }
+    ensures refused { IfErr result (λ status. IsTrue D.tells → IsRefusedFile IsShotsFault
+        (run_of (D.content depot.old) (D.content depot.new) (D.counts depot.old) (D.counts depot.new))
+        file.now status) }
+    ensures kind { IfErr result (IsOfRefusedFile refuses_shots) }
+    ensures read_fault { IfErr result (λ status. status ≡ Status.ReadFault
+        → Rose (D.counts depot.old).read_faults (D.counts depot.new).read_faults ⊎ IsTrue D.tells) }
+    ensures counts { IfErr result (λ status. CountsFor (D.counts depot.old) (D.counts depot.new) status) }
+    ensures counted { NeverFall (D.counts depot.old) (D.counts depot.new) }
+{
+    let bytes = match read_all(alloc, depot, file, SHOTS_LIMIT) {
+        Ok(bytes) => bytes,
+        Err(refused) => return Err(refused_status(refused, Status::No(0, CheckFault::Long))),
+    };
+    match read_shots(alloc, &bytes) {
+        Ok(read) => Ok(read),
+        Err(bad) => Err(refused_shots(bad)),
+    }
+}
+
+/// Reads a packed shot file, or answers why it isn't taken.
+pub(crate) fn read_packed_file<D: Depot>(
+    alloc: Global,
+    file: &str,
+    depot: &mut D,
+) -> Result<ShotFile, Status>
+    ensures held { IfOk result (λ read. IsTrue D.tells
+        → HoldsPacked (D.content depot.old) file.now (shot_data read)) }
+    ensures packed { IfOk result (λ read. IsPackedData (shot_data read)) }
+    ensures whole { OnOk result (IsTrue D.tells
+        → D.content depot.new ≡ with_left (D.content depot.old) []) }
+    ensures uncounted { OnOk result (D.counts depot.new ≡ D.counts depot.old) }
+    ensures refused { IfErr result (λ status. IsTrue D.tells → IsRefusedFile IsPackedFault
+        (run_of (D.content depot.old) (D.content depot.new) (D.counts depot.old) (D.counts depot.new))
+        file.now status) }
+    ensures kind { IfErr result (IsOfRefusedFile refuses_packed) }
+    ensures read_fault { IfErr result (λ status. status ≡ Status.ReadFault
+        → Rose (D.counts depot.old).read_faults (D.counts depot.new).read_faults ⊎ IsTrue D.tells) }
+    ensures counts { IfErr result (λ status. CountsFor (D.counts depot.old) (D.counts depot.new) status) }
+    ensures counted { NeverFall (D.counts depot.old) (D.counts depot.new) }
+{
+    let bytes = match read_all(alloc, depot, file, SHOTS_LIMIT) {
+        Ok(bytes) => bytes,
+        Err(refused) => return Err(refused_status(refused, Status::No(0, CheckFault::Long))),
+    };
+    match read_packed(alloc, &bytes) {
+        Ok(read) => Ok(read),
+        Err(bad) => Err(refused_packed(bad)),
+    }
+}

@@ -1,0 +1,43 @@
+//! A plain shot file, written whole.
+
+ghost use Rattle.std.specs.Prelude.{◌≡◌, ◌<◌, ◌≤◌, ◌^◌, All, IsTrue, OnOk, OnErr, IsErrOf, length};
+ghost use Rattle.depot.specs.Content.{with_file, IsPartMade};
+ghost use Rattle.depot.specs.Counts.{NeverFall, Rose};
+ghost use Rattle.half_grid.specs.Trapezoids.{IsShot};
+ghost use Rattle.oas_lex.specs.ShotText.{IsUnit, shot_text};
+
+use depot::{Depot, DepotBad};
+use geo_stream::FromSlice;
+use half_grid::Trap;
+use shot_writer::{Head, ShotWriter};
+
+/// Makes the plain file of a list of shots. After a refusal the name is as before, or holds a prefix of the text.
+pub(crate) fn write_shots<D: Depot>(
+    depot: &mut D,
+    name: &str,
+    head: Head,
+    shots: &[Trap],
+) -> Result<(), DepotBad>
+    requires unit { IsUnit head.unit }
+    requires layer { head.pair.layer < 2 ^ 63 }
+    requires datatype { head.pair.datatype < 2 ^ 63 }
+    requires legal { All IsShot shots.now }
+    requires few { length shots.now ≤ 33554432 }
+    ensures ok { OnOk result (IsTrue D.tells → D.content depot.new
+        ≡ with_file (D.content depot.old) name.now (shot_text head.unit head.pair.layer head.pair.datatype shots.now)) }
+    ensures refused { OnErr result (IsTrue D.tells → IsPartMade
+        (D.content depot.old) name.now (shot_text head.unit head.pair.layer head.pair.datatype shots.now) (D.content depot.new)) }
+    ensures failed { IsErrOf result DepotBad.Failed
+        → Rose (D.counts depot.old).write_faults (D.counts depot.new).write_faults }
+    ensures no_memory { IsErrOf result DepotBad.NoMemory
+        → Rose (D.counts depot.old).refused (D.counts depot.new).refused }
+    ensures uncounted { OnOk result (D.counts depot.new ≡ D.counts depot.old) }
+    ensures reads { (D.counts depot.new).read_faults ≡ (D.counts depot.old).read_faults }
+    ensures counted { NeverFall (D.counts depot.old) (D.counts depot.new) }
+{
+    let mut writer = ShotWriter::start(depot, name, head)?;
+    let mut stream = FromSlice::new(shots);
+    writer.put(depot, &mut stream)?;
+    writer.finish(depot)?;
+    Ok(())
+}
