@@ -7,7 +7,8 @@
 Makes COUNT random small layouts and decks (100 where it is missing), and runs `fracture` on each with bands of 1,024,
 4,096 and 1,048,576 rows. Each triangle of the half grid must be in exactly one shot where it is in the area that the deck
 denotes, and in none otherwise; each shot must be within the limits and in one band; the report must count both right. The
-same layout as an OASIS file must give the same shot files, byte for byte.
+same layout as an OASIS file must give the same shot files, byte for byte. Each shot file must be what its packed file is
+unpacked to.
 
 What the area is is worked out here by the plain meaning of the deck's lines, with sets of triangles: the winding number of
 each polygon at a point of each triangle, sets for the operations, and for sizing each pair of near triangles. No band,
@@ -379,6 +380,29 @@ def fault_in_oasis(program, folder, count):
     return None
 
 
+def fault_of_packing(program, folder, name):
+    """What is wrong where a shot file is packed and unpacked again."""
+    with open(os.path.join(folder, name), "rb") as file:
+        plain = file.read()
+    for words in (["pack", name, "packed.oas"], ["unpack", "packed.oas", "plain.oas"]):
+        status, said = run([program, *words], folder)
+        if status != 0:
+            return f"{words[0]}: status {status}: {said}"
+    with open(os.path.join(folder, "plain.oas"), "rb") as file:
+        if file.read() != plain:
+            return f"{name} isn't what its packed file is unpacked to"
+    return None
+
+
+def fault_in_files(program, folder, count):
+    """What is wrong with what is made of the shot files that the last deck left."""
+    for k in range(count):
+        fault = fault_of_packing(program, folder, f"out{k}.oas")
+        if fault:
+            return f"output {k}: {fault}"
+    return None
+
+
 def random_case(folder, seed):
     """Writes the layout of this seed as G.gds and G.oas, and gives its deck: steps with areas, frame, limits, outputs."""
     chance = random.Random(seed)
@@ -412,7 +436,7 @@ def compare(program, folder, seed):
         fault = fault_in_band(program, folder, steps, areas, frame, limits, band, outputs)
         if fault:
             return f"band {band}: {fault}", triangles
-    return fault_in_oasis(program, folder, len(outputs)), triangles
+    return fault_in_oasis(program, folder, len(outputs)) or fault_in_files(program, folder, len(outputs)), triangles
 
 
 def main(program, count=100, seed=1):

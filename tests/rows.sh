@@ -621,5 +621,57 @@ check 'the same cells in OASIS: check' judged 0 "$(sed -e 's/^output /exact /' s
 oasis_file "$start 0D 00 $shapes 0D 01 10 11 FF 00 C8 01 90 03 01 01 00 1E 3C 12 36 00 02 00 5A AD 02 89 04 $rectangle 03 01 43 03 03 54 4F 50 $end"
 check 'the same cells by numbers, in relative mode' is_same G.oas
 
+# ---- packed files
+
+# shot_file NAME HEX: the shot file with these records
+shot_file() {
+    {
+        head -c 41 square.oas
+        bytes "$2"
+        tail -c 256 square.oas
+    } >"$1"
+}
+
+# packs TEXT PLAIN PACKED: the file of these records is packed into the file of those, and back, and this is said
+packs() {
+    shot_file F "$2"
+    shot_file P "$3"
+    says 0 "$1"$'\n' pack F packed && cmp packed P && says 0 "un${1%% in *}"$'\n' unpack packed plain && cmp plain F
+}
+
+check 'three squares' packs 'packed 3 shots in 1 records' \
+    '147B0100141400 00 147B01001414 50 00 147B01001414 A001 00' '14 67 01 00 14 14 09 01 A1 01 00'
+check 'three rectangles' packs 'packed 3 shots in 3 records' \
+    '147B0100140A0000 147B01001E0A0014 147B0100140A1428' '14 63 01 00 14 0A 14 48 1E 14 14 58 14 14 28'
+check 'two squares' packs 'packed 2 shots in 2 records' '147B010014140000 147B010014142800' '1463010014 14 14 10 28'
+check 'a square three times' packs 'packed 3 shots in 1 records' \
+    '147B010014140000 147B010014140000 147B010014140000' '14 67 01 00 14 14 09 01 01 00'
+check 'squares to the west' packs 'packed 3 shots in 1 records' \
+    '147B010014145000 147B010014142800 147B010014140000' '14 77 01 00 14 14 50 09 01 53 00'
+check 'no shots' packs 'packed 0 shots in 0 records' '' ''
+
+# unpack_refused LINE HEX: `unpack` refuses the file of these records, with this line, and makes no file
+unpack_refused() {
+    shot_file F "$2"
+    says 7 "check refused: F: $1"$'\n' unpack F none && [ ! -e none ]
+}
+check 'a plain file is a packed one' says 0 $'unpacked 1 shots\n' unpack square.oas plain
+check 'a plain file is a packed one: bytes' cmp plain square.oas
+check 'no layer' unpack_refused 'packed undefined at 41' '14 7A 00 14 14 00 00'
+check 'no such id' unpack_refused 'packed record at 41' '15 7B 01 00 14 14 00 00'
+check 'bit 80' unpack_refused 'packed record at 41' '14 FB 01 00 14 14 00 00'
+check 'another kind of repetition' unpack_refused 'packed record at 41' '14 7F 01 00 14 14 00 00 02 01 14'
+check 'west of nothing' unpack_refused 'packed spelling at 41' '14 7F 01 00 14 14 00 00 09 01 03 00'
+check 'another layer' unpack_refused 'packed pair at 49' '14 7B 01 00 14 14 00 00 14 01 02'
+check 'too many shots' unpack_refused 'packed many at 41' '14 7F 01 00 14 14 00 00 09 FF FF FF 07 01 00'
+check 'a shot of no height' unpack_refused 'packed illegal at 41' '14 7B 01 00 14 00 00 00'
+check 'a byte after the records' unpack_refused 'packed end at 41' '02'
+shot_file F '14 67 01 00 14 14 09 01 A1 01 00'
+check 'a packed file is no shot file' says 7 $'check refused: F: record at 41\n' shots F
+check 'nor to be packed' says 7 $'check refused: F: record at 41\n' pack F none
+check 'one name twice' says 1 $'words refused\n' pack F F
+check 'no file' says 4 $'read fault\n' unpack missing none
+check 'no folder' says 5 $'write fault\n' unpack F missing/none
+
 printf '%d rows passed, %d failed\n' "$passed" "$failed"
 [ "$failed" -eq 0 ]
