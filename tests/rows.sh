@@ -70,7 +70,7 @@ listing() {
 says() {
     local wanted=$1 text=$2 status=0
     shift 2
-    "$program" "$@" >said || status=$?
+    "$program" "$@" >said 2>/dev/null || status=$?
     [ "$status" -eq "$wanted" ] && cmp -s said <(printf '%s' "$text") && return
     printf 'status %d, and it said:\n' "$status"
     head -n 20 said
