@@ -6,24 +6,11 @@
 #     usage: tests/rows.sh PROGRAM
 set -u
 program=$(realpath "$1") || exit 1
+. "$(dirname "$0")/check.sh" || exit 1
 gds=$(realpath "$(dirname "$0")/../tools/gds") || exit 1
 room=$(mktemp -d) || exit 1
 trap 'rm -rf "$room"' EXIT
 cd "$room" || exit 1
-passed=0
-failed=0
-
-# check WHAT COMMAND..: runs the command, and counts and names a failure
-check() {
-    local what=$1
-    shift
-    if "$@"; then
-        passed=$((passed + 1))
-    else
-        failed=$((failed + 1))
-        printf 'FAILED: %s\n' "$what"
-    fi
-}
 
 # layout LINE..: the layout G.gds of these lines, in the words of tools/gds
 layout() {

@@ -16,6 +16,7 @@ if [ "$(id -u)" -ne 0 ]; then
     exit 0
 fi
 PATH=$PATH:/usr/sbin
+. "$(dirname "$0")/check.sh" || exit 1
 NETTLETIDE=$(realpath "$1") || exit 1
 export NETTLETIDE
 tools=$(realpath "$(dirname "$0")/../tools") || exit 1
@@ -29,20 +30,6 @@ stop() {
 }
 trap stop EXIT
 cd "$room" || exit 1
-passed=0
-failed=0
-
-# check WHAT COMMAND..: runs the command, and counts and names a failure
-check() {
-    local what=$1
-    shift
-    if "$@"; then
-        passed=$((passed + 1))
-    else
-        failed=$((failed + 1))
-        printf 'FAILED: %s\n' "$what"
-    fi
-}
 
 # ---- Slurm on this machine
 

@@ -4,26 +4,13 @@
 #
 #     usage: tests/strips.sh PROGRAM
 set -u
+. "$(dirname "$0")/check.sh" || exit 1
 NETTLETIDE=$(realpath "$1") || exit 1
 export NETTLETIDE
 tools=$(realpath "$(dirname "$0")/../tools") || exit 1
 room=$(mktemp -d) || exit 1
 trap 'rm -rf "$room"' EXIT
 cd "$room" || exit 1
-passed=0
-failed=0
-
-# check WHAT COMMAND..: runs the command, and counts and names a failure
-check() {
-    local what=$1
-    shift
-    if "$@"; then
-        passed=$((passed + 1))
-    else
-        failed=$((failed + 1))
-        printf 'FAILED: %s\n' "$what"
-    fi
-}
 
 # Bars and slanted shapes from Y = -8,000 to 25,000 half units.
 shapes='cell LEAF

@@ -6,26 +6,13 @@
 set -u
 program=$(realpath "$1") || exit 1
 cd "$(dirname "$0")/.." || exit 1
-passed=0
-failed=0
+. tests/check.sh || exit 1
 room=$(mktemp -d) || exit 1
 trap 'rm -rf "$room"' EXIT
 version=$(cat VERSION)
 cp "$program" "$room/nettletide"
 program=$room/nettletide
 chmod 755 "$program"
-
-# check WHAT COMMAND..: runs the command, and counts and names a failure
-check() {
-    local what=$1
-    shift
-    if "$@"; then
-        passed=$((passed + 1))
-    else
-        failed=$((failed + 1))
-        printf 'FAILED: %s\n' "$what"
-    fi
-}
 
 zeros() {
     head -c "$1" /dev/zero
