@@ -1,10 +1,11 @@
 # Tries, tests, proves, builds, packs and measures the program. `make help` lists the targets.
 
-# the kit's command: the one on PATH, else where the kit stands
+# the kit's command: the one on PATH, else where the kit is
 RT := $(shell command -v rt 2>/dev/null || echo /opt/rattle/bin/rt)
 
 PROGRAM := build/nettletide
 BENCH := build/bench
+MEMORY := build/memory_cli
 SOURCES := crates.txt HANDLES $(shell find crates -name out -prune -o \( -name '*.rt' -o -name '*.antt' \) -print)
 
 VERSION := $(shell cat VERSION)
@@ -12,7 +13,7 @@ VERSION := $(shell cat VERSION)
 # where `make install` puts the program, its man page and its documents
 PREFIX := /usr/local
 
-.PHONY: all help try test check gate example system readme pictures compare hostile fuzz slurm bench agree install dist clean
+.PHONY: all help try test check gate example system readme pictures compare hostile fuzz slurm bench figures agree install dist clean
 
 # how large the layouts of `make bench` are: small, or large, which has up to 16 million shots
 SIZE := small
@@ -34,14 +35,15 @@ help:
 	@echo 'make fuzz            gives it broken files'
 	@echo 'make slurm           runs strips on the batch system Slurm, where it is installed'
 	@echo 'make agree           sweeps random cases in columns and at once, and compares'
-	@echo 'make bench           measures single layers and whole runs; SIZE=large for the large layouts'
+	@echo 'make bench           measures whole runs beside peers, and single layers; SIZE=large for the large layouts'
+	@echo 'make figures         measures all, and puts the tables into docs/: an hour'
 	@echo 'make pictures        draws the pictures of docs/'
 	@echo 'make install         puts program, man page and documents under PREFIX, /usr/local if not given'
 	@echo 'make dist            packs them into build/nettletide-$(VERSION).tar.gz, with a checksum'
-	@echo 'make clean           takes build/ away, and what the example wrote'
+	@echo 'make clean           removes build/, and what the example wrote'
 
 # The kit proves the program before it builds it, and then runs it. Without words the program ends with status 1, so
-# what tells of success is that a program stands there.
+# what tells of success is that a program is there.
 $(PROGRAM): $(SOURCES)
 	mkdir -p build
 	rm -f crates/mdp_cli/out/mdp_cli crates/mdp_cli/out/mdp_cli.stamp
@@ -83,7 +85,7 @@ example: $(PROGRAM)
 system: $(PROGRAM)
 	tests/system.sh $(PROGRAM)
 
-# The commands of README.md, each with what it prints.
+# The commands of README.md and docs/FIELDS.md, each with what it prints.
 readme: $(PROGRAM)
 	tests/readme.sh $(PROGRAM)
 
@@ -91,13 +93,21 @@ readme: $(PROGRAM)
 pictures: $(PROGRAM)
 	tools/pictures $(PROGRAM)
 
-# The program against a plain one on random small layouts, against KLayout where it is installed, and with each allocation
-# and each call for a file refused.
-compare: $(PROGRAM)
+# The program over a depot in memory, for the two last scripts of `make compare`.
+$(MEMORY): $(SOURCES)
+	mkdir -p build
+	rm -f crates/memory_cli/out/memory_cli crates/memory_cli/out/memory_cli.stamp
+	cd crates/memory_cli && { $(RT) run; test -x out/memory_cli; }
+	cp crates/memory_cli/out/memory_cli $(MEMORY)
+
+# The program against a plain one on random small layouts, against KLayout where it is installed, with each allocation and
+# each call for a file refused, and with one byte a call.
+compare: $(PROGRAM) $(MEMORY)
 	tests/plain.py $(PROGRAM) 200
 	tests/klayout.sh $(PROGRAM)
 	tests/readable.py $(PROGRAM)
-	tests/refusals.sh $(PROGRAM)
+	tests/refusals.sh $(PROGRAM) $(MEMORY)
+	tests/short.sh $(PROGRAM) $(MEMORY)
 
 # Layouts, decks and shot files made to take as much time and memory as they can, with limits of both.
 hostile: $(PROGRAM)
@@ -123,18 +133,18 @@ $(BENCH): $(SOURCES)
 	cp crates/bench/out/bench $(BENCH)
 
 # Single layers, timed on inputs that the program makes in memory; then whole runs on layouts in build/bench, beside KLayout
-# and Boost.Polygon where they are installed.
+# and Boost.Polygon where they are installed, and what the program alone takes. WHAT chooses one of the tables of tools/bench.
 bench: $(BENCH) $(PROGRAM)
-	$(BENCH) gds 1000000
-	$(BENCH) oasis 4000000
-	$(BENCH) walk 1000
-	for words in 'squares 300' 'squares 1000' 'random 100000' 'random 1000000' 'jogs 1000000' 'jogs 10000000' 'mixed 10000000' \
-	    'comb 30000' 'comb 100000' 'hatch 200' 'hatch 400' 'wires 100000' 'wires 1000000' 'pile 1000' 'pile 3000' \
-	    'plain random 100000' 'plain squares 1000'; do \
-	    $(BENCH) $$words || exit 1; \
-	done
-	tools/bench $(PROGRAM) build/bench $(SIZE)
-	tools/bench $(PROGRAM) build/bench steps
+	tools/bench $(PROGRAM) build/bench $(or $(WHAT),$(SIZE))
+ifndef WHAT
+	for what in steps files densities strips; do tools/measure $(PROGRAM) build/bench $$what || exit 1; done
+	tools/check_bench $(PROGRAM) build/bench 400000
+	tools/measure $(BENCH) build/bench layers
+endif
+
+# All that is measured, put into docs/.
+figures: $(BENCH) $(PROGRAM)
+	tools/figures $(PROGRAM) $(BENCH) build/bench
 
 # A thousand random cases, swept in columns and at once, which must give the same trapezoids.
 agree: $(BENCH)

@@ -1,14 +1,16 @@
 #!/usr/bin/env python3
 """Runs the program on small files that are changed at random: tests/fuzz.py PROGRAM SECONDS [SEED]
 
-Layouts of both formats, decks and shot files are cut, spliced, and changed in some bytes, numbers or lines. Whatever they
-are then, the program must end with a status from 0 to 7 within 10 seconds of the processor and 1 GB. With another status
-than 0 it must say one line, that of the status, and with 1 to 3 it must leave no file. After status 0 of `fracture`, `check`
-must find each file exact and say the same sums, `shots` must list it, and another band must give as many triangles.
+Layouts of both formats, decks, shot files and packed ones are cut, spliced, and changed in some bytes, numbers or lines.
+Whatever they are then, the program must end with a status from 0 to 7 within 10 seconds of the processor and 1 GB. With
+another status than 0 it must print one line, that of the status, and with 1 to 3 it must leave no file. After status 0 of
+`fracture`, `check` must find each file exact and print the same sums, `shots` must list it, another band and `density` must
+give as many triangles, and so must the stripes of `split`. After status 0 of `unpack`, `shots` must list what it made, which
+must be the same once it was packed and unpacked.
 
 A run that was accepted may take long by right, since a few bytes can ask for very many shots: where its output is begun, or
 its file has reached 64 MB, it is counted as long and isn't a fault. The seed is printed, and what fails is kept in the
-folder fuzz-SEED of the working folder, a folder a case: F for `shots`, L and K for `fracture` and `check`.
+folder fuzz-SEED of the working folder, a folder a case: F for `shots` and `unpack`, L and K for `fracture` and `check`.
 """
 import os
 import random
@@ -50,25 +52,31 @@ def tool(name, description, folder):
 
 
 def seeds(program, folder):
-    """Layouts, decks and shot files to begin with."""
+    """Layouts, decks, shot files and packed ones to begin with."""
     layouts = [tool(name, shapes, folder) for name in ("gds", "oas") for shapes in SHAPES]
     head, end = tool("oas", "cell TOP", folder)[:-256], b"\x02\xFC\x01" + bytes(253)
     layouts += [head + bytes.fromhex(records) + end for records in OASIS]
     decks = [f"unit 1000\ntop TOP\n{lines}\n".encode() for lines in DECKS]
-    shots = []
+    shots, packed = [], []
     for layout in layouts[:len(SHAPES)]:
         write(folder, "L", layout)
         write(folder, "K", decks[1])
         subprocess.run([program, "fracture", "L", "K"], cwd=folder, stdout=subprocess.DEVNULL, check=True)
         for name in ("out.oas", "two.oas"):
-            with open(os.path.join(folder, name), "rb") as file:
-                shots.append(file.read())
-    return layouts, decks, shots
+            subprocess.run([program, "pack", name, "packed"], cwd=folder, stdout=subprocess.DEVNULL, check=True)
+            shots.append(read(folder, name))
+            packed.append(read(folder, "packed"))
+    return layouts, decks, shots, packed
 
 
 def write(folder, name, data):
     with open(os.path.join(folder, name), "wb") as file:
         file.write(data)
+
+
+def read(folder, name):
+    with open(os.path.join(folder, name), "rb") as file:
+        return file.read()
 
 
 # ---- changes
@@ -197,6 +205,35 @@ def fault_in_other_band(program, folder, outputs):
     return None
 
 
+def fault_of_split(program, folder, output):
+    """A shot file must have as many triangles in its stripes."""
+    _, name, _, _, _, count = output
+    status, said = ask(program, ["split", "1000", name, "stripe"], folder)
+    if status in (None, 5, 6, 7):
+        raise Long
+    shots = triangles = 0
+    for line in said[:-1]:
+        _, number, _, some, _, most = line.split()
+        listed = ask(program, ["shots", f"stripe.{number}"], folder)[1]
+        if listed[-1] != f"shots {some} triangles {most}":
+            return f"{line}, and then shots said {listed[-1:]}"
+        shots, triangles = shots + int(some), triangles + int(most)
+    if status != 0 or triangles != int(count) or said[-1] != f"shots {shots} triangles {triangles}":
+        return f"split of {count} triangles ended with status {status}: {said[-1:]}"
+    return None
+
+
+def fault_of_density(program, folder, outputs):
+    """The triangles of all windows must be those of the outputs."""
+    status, said = ask(program, ["density", "4096", "L", "K"], folder)
+    if status in (None, 5, 6):
+        raise Long
+    sums = [line for line in said if line.startswith("triangles ")]
+    if status != 0 or triangles(sums) != triangles(outputs):
+        return f"density ended with status {status}: {sums} in place of {triangles(outputs)}"
+    return None
+
+
 def fault_of_fracture(program, folder, counts):
     """What is wrong with `fracture` and what follows it, or nothing."""
     status, said = ask(program, ["fracture", "L", "K"], folder)
@@ -218,13 +255,36 @@ def fault_of_fracture(program, folder, counts):
         status, listed = ask(program, ["shots", name], folder)
         if status != 0 or listed[-1] != f"shots {sums}":
             return f"shots of {name} ended with status {status}: {listed[-1:]}"
-    return fault_in_other_band(program, folder, outputs)
+    return (fault_of_split(program, folder, outputs[0].split()) or fault_of_density(program, folder, outputs)
+            or fault_in_other_band(program, folder, outputs))
+
+
+def fault_of_unpack(program, folder, counts):
+    """What is wrong with `unpack` and what follows it, or nothing."""
+    status, said = ask(program, ["unpack", "F", "plain"], folder)
+    if status == 6 or status == 5 and os.path.exists(os.path.join(folder, "plain")):
+        raise Long
+    fault = fault_of_answer(status, said)
+    if fault or status > 0:
+        return fault or (f"status {status} and a file" if os.path.exists(os.path.join(folder, "plain")) else None)
+    counts["unpacked"] += 1
+    status, listed = ask(program, ["shots", "plain"], folder)
+    if status != 0 or listed[-1].split()[:2] != said[0].split()[2:0:-1]:
+        return f"{said[0]}, and then shots ended with status {status}: {listed[-1:]}"
+    for words in (["pack", "plain", "again"], ["unpack", "again", "twice"]):
+        status, said = ask(program, words, folder)
+        if status != 0:
+            return f"{words[0]} of what was unpacked ended with status {status}: {said}"
+    return None if read(folder, "plain") == read(folder, "twice") else "packed and unpacked again it is another file"
 
 
 def try_case(program, chance, folder, begin, counts):
     """What is wrong with a case, or nothing."""
-    layouts, decks, shots = begin
-    kind = chance.randrange(4)
+    layouts, decks, shots, packed = begin
+    kind = chance.randrange(5)
+    if kind == 4:
+        write(folder, "F", changed(chance, chance.choice(packed), packed + shots))
+        return fault_of_unpack(program, folder, counts)
     if kind == 0:
         write(folder, "F", changed(chance, chance.choice(shots), shots))
         return fault_of_answer(*ask(program, ["shots", "F"], folder))
@@ -248,7 +308,7 @@ def main(program, seconds, seed):
     kept = f"fuzz-{seed}"
     print(f"seed {seed}", flush=True)
     cases = failed = 0
-    counts = {"accepted": 0, "long": 0}
+    counts = {"accepted": 0, "unpacked": 0, "long": 0}
     with tempfile.TemporaryDirectory() as room:
         begin = seeds(program, room)
         until = time.monotonic() + seconds
@@ -267,7 +327,7 @@ def main(program, seconds, seed):
             shutil.rmtree(folder)
             cases += 1
     print(f"{cases} changed files, {counts['accepted']} of them layouts and decks that were accepted, "
-          f"{counts['long']} long, {failed} failed")
+          f"{counts['unpacked']} packed files that were unpacked, {counts['long']} long, {failed} failed")
     return 1 if failed else 0
 
 

@@ -2,7 +2,7 @@
 
     klayout -b -rd cases=FILE -rd stripe=SIZE -r tests/klayout.py
 
-Each line of FILE names a folder, a layout and a deck in it, whose outputs stand in the folder. For each output KLayout
+Each line of FILE names a folder, a layout and a deck in it, whose outputs are in the folder. For each output KLayout
 reads the layout and works out the area of the deck on doubled coordinates, and reads the shots. Asked is that both areas
 are the same, that the shots' areas add up to it (so no two overlap), that `report`, what `fracture` printed, counts both
 right, and that each file that packs the shots or splits them into stripes, OUT.packed and OUT.0, OUT.1, .., holds the same

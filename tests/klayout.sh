@@ -2,7 +2,7 @@
 # A second opinion: KLayout reads layouts and shots, works the areas out with its own operations on doubled coordinates, and
 # compares. The examples, the pictures' decks and COUNT random layouts with their decks (30 where it is missing, the first
 # with the number FIRST, half of them as OASIS files) are judged; where the program has `pack` and `split`, so are packed
-# files and the union of stripes. What tools/adapt writes must be read.
+# files and the union of stripes. What tools/adapt writes must be read, and what tools/view prints must be the report's numbers.
 #
 #     usage: tests/klayout.sh PROGRAM [COUNT [FIRST]]
 set -u
@@ -90,6 +90,28 @@ for ((number = first; number < first + count; number++)); do
         case_of "$room/$number" G.oas K
     fi
 done
+
+# viewed WANTED FILE..: tools/view of the block with these panels prints these lines
+viewed() {
+    local wanted=$1 said
+    shift
+    said=$("$top/tools/view" -o picture.png G.gds K "$@" 2>&1)
+    [ "$said" = "$wanted" ] && [ -s picture.png ] && return
+    printf 'FAILED: tools/view %s printed\n%s\nin place of\n%s\n' "$*" "$said" "$wanted"
+    failed=$((failed + 1))
+}
+cd "$room/block" || exit 1
+viewed "$(grep '^output ' report)"
+if [ $packs = yes ]; then
+    viewed "$(sed -n '/block_open/{s/ shots/.packed&/;p}' report)" block_open.oas.packed
+fi
+if [ $splits = yes ]; then
+    shopt -s nullglob
+    stripes=(block_open.oas.[0-9]* block_open.oas.-[0-9]*)
+    shopt -u nullglob
+    viewed "${#stripes[@]} files $(tail -n 1 block_open.oas.split)" "${stripes[@]}"
+fi
+cd "$room" || exit 1
 
 # A layout with all that tools/adapt changes: it is read once that has written it, with steps and without.
 "$top/tools/gds" odd.gds <<'END'

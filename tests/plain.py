@@ -8,7 +8,8 @@ Makes COUNT random small layouts and decks (100 where it is missing), and runs `
 4,096 and 1,048,576 rows. Each triangle of the half grid must be in exactly one shot where it is in the area that the deck
 denotes, and in none otherwise; each shot must be within the limits and in one band; the report must count both right. The
 same layout as an OASIS file must give the same shot files, byte for byte. Each shot file must be what its packed file is
-unpacked to.
+unpacked to. The stripes into which a shot file is split, and those of a random list of shots, must be the maximal trapezoids
+of each shot in each field. The densities of the deck must count the triangles of each area in each window.
 
 What the area is is worked out here by the plain meaning of the deck's lines, with sets of triangles: the winding number of
 each polygon at a point of each triangle, sets for the operations, and for sizing each pair of near triangles. No band,
@@ -18,14 +19,23 @@ the corners and the inner points of triangles.
 All numbers are half units. A triangle is (i, j, side): the left (0) or the right one (1) of the square with the lower left
 corner (i, j). The diagonal of the square rises where i + j is even, and falls where it is odd.
 """
+import functools
 import os
 import random
 import subprocess
 import sys
 import tempfile
 
-TOOLS = os.path.join(os.path.dirname(os.path.abspath(__file__)), "..", "tools")
+HERE = os.path.dirname(os.path.abspath(__file__))
+sys.path.insert(0, os.path.join(HERE, "hostile"))
+import records
+
+TOOLS = os.path.join(HERE, "..", "tools")
 BANDS = [1024, 4096, 1048576]
+FIELDS = [16, 17, 23, 64, 1024, 16777216]
+WINDOWS = [64, 65, 100, 1024, 16777216]
+# Where a file would be split into more stripes than this, the fields are made larger.
+MOST_STRIPES = 40
 # A sizing that would ask for more pairs than this is made smaller.
 MOST_PAIRS = 2_000_000
 
@@ -72,11 +82,11 @@ def path_rectangles(points, width, kind):
     """The rectangles of a path of level and upright moves: half the width to both sides and round corners."""
     for k, ((ax, ay), (bx, by)) in enumerate(zip(points, points[1:])):
         before = width if k > 0 or kind == 2 else 0
-        behind = width if k + 2 < len(points) or kind == 2 else 0
+        after = width if k + 2 < len(points) or kind == 2 else 0
         across = (width, 0) if ax == bx else (0, width)
         dx, dy = (bx > ax) - (bx < ax), (by > ay) - (by < ay)
-        xs = [ax - dx * before, bx + dx * behind]
-        ys = [ay - dy * before, by + dy * behind]
+        xs = [ax - dx * before, bx + dx * after]
+        ys = [ay - dy * before, by + dy * after]
         x0, x1, y0, y1 = min(xs) - across[0], max(xs) + across[0], min(ys) - across[1], max(ys) + across[1]
         yield [(x0, y0), (x1, y0), (x1, y1), (x0, y1)]
 
@@ -168,6 +178,7 @@ def area_of(step, areas, polygons, frame):
 
 # ---- shots
 
+@functools.lru_cache(maxsize=256)
 def shot_tiles(shot):
     """The triangles of a shot, as the program lists it: two Y, two X of the lower side, two of the upper."""
     y0, y1, a, b, c, d = shot
@@ -191,6 +202,76 @@ def fault_of_shots(shots, area, band, limits):
         tile = min(seen ^ area)
         return f"triangle {tile} is {'in' if tile in area else 'not in'} the area, but {'not in' if tile in area else 'in'} a shot"
     return None
+
+
+# ---- stripes of fields
+
+def side_line(tile, is_left):
+    """What bounds a run of triangles on its left, of which this is the first, or on its right, of which it is the last."""
+    i, j, side = tile
+    if side == (0 if is_left else 1):
+        return "upright", i + side
+    return ("rising", i - j) if (i + j) % 2 == 0 else ("falling", i + j + 1)
+
+
+def x_on(line, y):
+    kind, at = line
+    return at + {"upright": 0, "rising": y, "falling": -y}[kind]
+
+
+def runs_of(row):
+    """The first and the last triangle of each run of a row's triangles, which are in order."""
+    runs = []
+    for i, j, side in row:
+        if runs and runs[-1][1] == (i + side - 1, j, 1 - side):
+            runs[-1][1] = (i, j, side)
+        else:
+            runs.append([(i, j, side), (i, j, side)])
+    return runs
+
+
+def joined(tiles):
+    """The maximal trapezoids of a set of triangles, as shots, by upper Y and from left to right."""
+    rows, spans = {}, {}
+    for tile in sorted(tiles):
+        rows.setdefault(tile[1], []).append(tile)
+    for j in sorted(rows):
+        for first, last in runs_of(rows[j]):
+            some = spans.setdefault((side_line(first, True), side_line(last, False)), [])
+            if some and some[-1][1] == j:
+                some[-1][1] = j + 1
+            else:
+                some.append([j, j + 1])
+    def order(it):
+        (left, _), (_, y1) = it
+        return y1, x_on(left, y1 - 1) + x_on(left, y1)
+    traps = sorted(((lines, span) for lines, some in spans.items() for span in some), key=order)
+    return [(*span, *(x_on(line, y) for y in span for line in lines)) for lines, span in traps]
+
+
+def stripes_of(shots, size):
+    """By number, the shots of each stripe from the least to the greatest: of each shot, field by field, what lies in it."""
+    stripes = {}
+    for shot in shots:
+        fields = {}
+        for tile in shot_tiles(shot):
+            fields.setdefault((tile[1] // size, tile[0] // size), []).append(tile)
+        for stripe, column in sorted(fields):
+            stripes.setdefault(stripe, []).extend(joined(fields[stripe, column]))
+    return {stripe: stripes.get(stripe, []) for stripe in range(min(stripes), max(stripes) + 1)} if stripes else {}
+
+
+# ---- windows
+
+def density_lines(name, area, size):
+    """What is printed of the windows of an output."""
+    counts = {}
+    for i, j, _ in area:
+        counts[j // size, i // size] = counts.get((j // size, i // size), 0) + 1
+    windows = [f"{column} {row} {counts[row, column]}" for row, column in sorted(counts)]
+    most = max(sorted(counts), key=counts.get, default=None)
+    most_line = [f"most {most[1]} {most[0]} {counts[most]}"] if counts else []
+    return [f"density {name} size {size}", *windows, *most_line, f"triangles {len(area)}"]
 
 
 # ---- random layouts and decks
@@ -293,6 +374,27 @@ def random_deck(chance, polygons, frame):
     return steps, areas
 
 
+def random_shot(chance, size):
+    """A legal shot near a corner of four fields, up to twice as high and some times as wide as a field."""
+    while True:
+        y0, high = chance.randrange(-2 * size, 2 * size), chance.choice([1, 2, size, chance.randrange(1, 2 * size)])
+        sides = []
+        for _ in range(2):
+            x, slant = chance.choice([0, size, chance.randrange(-2 * size, 2 * size)]), chance.choice([-1, 0, 0, 1])
+            x += (x + y0) % 2 if slant else 0
+            sides.append((x, x + slant * high))
+        (a, c), (b, d) = sides
+        if a <= b and c <= d and sides[0] != sides[1]:
+            return y0, y0 + high, a, b, c, d
+
+
+def random_shots(chance, size):
+    """Shots in any order, which may share triangles, round 0 or far from it."""
+    far = chance.choice([0, 0, 1 << 40, -(1 << 40)])
+    shots = [random_shot(chance, size) for _ in range(chance.randrange(1, 6))]
+    return [tuple(number + far for number in shot) for shot in shots]
+
+
 # ---- files
 
 def element_line(element):
@@ -343,6 +445,13 @@ def listed_shots(program, folder, name):
     return [tuple(map(int, line.split())) for line in lines if line[0] in "-0123456789"]
 
 
+def listing(shots):
+    """What `shots` prints of a list on layer 1, datatype 0."""
+    triangles = sum(len(shot_tiles(shot)) for shot in shots)
+    lines = ["unit 2000", *["layer 1 0"][:len(shots)], *(" ".join(map(str, shot)) for shot in shots)]
+    return [*lines, f"shots {len(shots)} triangles {triangles}"]
+
+
 def fault_in_band(program, folder, steps, areas, frame, limits, band, outputs):
     with open(os.path.join(folder, "K"), "w") as file:
         file.write(deck_text(steps, frame, limits, band, outputs))
@@ -381,26 +490,81 @@ def fault_in_oasis(program, folder, count):
 
 
 def fault_of_packing(program, folder, name):
-    """What is wrong where a shot file is packed and unpacked again."""
-    with open(os.path.join(folder, name), "rb") as file:
-        plain = file.read()
-    for words in (["pack", name, "packed.oas"], ["unpack", "packed.oas", "plain.oas"]):
+    """What is wrong where a shot file is packed, unpacked and packed again."""
+    for words in (["pack", name, "packed.oas"], ["unpack", "packed.oas", "plain.oas"], ["pack", "plain.oas", "again.oas"]):
         status, said = run([program, *words], folder)
         if status != 0:
             return f"{words[0]}: status {status}: {said}"
-    with open(os.path.join(folder, "plain.oas"), "rb") as file:
-        if file.read() != plain:
-            return f"{name} isn't what its packed file is unpacked to"
+    for first, second in ((name, "plain.oas"), ("packed.oas", "again.oas")):
+        with open(os.path.join(folder, first), "rb") as one, open(os.path.join(folder, second), "rb") as other:
+            if one.read() != other.read():
+                return f"{second} differs from {first}"
     return None
 
 
-def fault_in_files(program, folder, count):
-    """What is wrong with what is made of the shot files that the last deck left."""
-    for k in range(count):
-        fault = fault_of_packing(program, folder, f"out{k}.oas")
+def stripe_files(folder):
+    return [os.path.join(folder, file) for file in os.listdir(folder) if file.startswith("stripe.")]
+
+
+def fault_of_stripes(program, folder, name, size):
+    """What is wrong where a shot file is split into stripes of fields of this size."""
+    shots = listed_shots(program, folder, name)
+    while shots and (max(shot[1] for shot in shots) - min(shot[0] for shot in shots)) // size > MOST_STRIPES:
+        size *= 2
+    for file in stripe_files(folder):
+        os.remove(file)
+    status, said = run([program, "split", str(size), name, "stripe"], folder)
+    if status != 0:
+        return f"split {size}: status {status}: {said}"
+    lines, count = [], 0
+    for number, some in stripes_of(shots, size).items():
+        wanted, found = listing(some), run([program, "shots", f"stripe.{number}"], folder)[1].splitlines()
+        if found != wanted:
+            return f"split {size}: stripe {number} has {found}, not {wanted}"
+        lines.append(f"stripe {number} {wanted[-1]}")
+        count += len(some)
+        os.remove(os.path.join(folder, f"stripe.{number}"))
+    lines.append(f"shots {count} triangles {sum(len(shot_tiles(shot)) for shot in shots)}")
+    if said.splitlines() != lines:
+        return f"split {size} says {said.splitlines()}, not {lines}"
+    return f"split {size} makes {stripe_files(folder)}" if stripe_files(folder) else None
+
+
+def fault_of_random_stripes(program, folder, seed):
+    """The same of a random list of shots."""
+    chance = random.Random(f"stripes {seed}")
+    size = chance.randrange(16, 20)
+    shots = random_shots(chance, size)
+    records.write(os.path.join(folder, "random.oas"), records.SHOTS_HEAD, (records.trapezoid(*it) for it in shots), records.END)
+    if listed_shots(program, folder, "random.oas") != shots:
+        return f"the list {shots} isn't read as it is"
+    fault = fault_of_stripes(program, folder, "random.oas", size)
+    return f"{shots}: {fault}" if fault else None
+
+
+def fault_of_densities(program, folder, areas, outputs, size):
+    """What is wrong with the counts in windows of this size, by the last deck."""
+    wanted = [line for k, name in enumerate(outputs) for line in density_lines(f"out{k}.oas", areas[name], size)]
+    for k in range(len(outputs)):
+        os.remove(os.path.join(folder, f"out{k}.oas"))
+    for layout in ("G.gds", "G.oas"):
+        status, said = run([program, "density", str(size), layout, "K"], folder)
+        if status != 0 or said.splitlines() != wanted:
+            return f"density {size} {layout}: status {status}: {said.splitlines()}, not {wanted}"
+    made = [file for file in os.listdir(folder) if file.startswith("out")]
+    return f"density {size} makes {made}" if made else None
+
+
+def fault_in_files(program, folder, seed, areas, outputs):
+    """What is wrong with what is made of the shot files that the last deck left, and with its densities."""
+    chance = random.Random(f"files {seed}")
+    for k in range(len(outputs)):
+        name = f"out{k}.oas"
+        fault = fault_of_packing(program, folder, name) or fault_of_stripes(program, folder, name, chance.choice(FIELDS))
         if fault:
             return f"output {k}: {fault}"
-    return None
+    return (fault_of_random_stripes(program, folder, seed)
+            or fault_of_densities(program, folder, areas, outputs, chance.choice(WINDOWS)))
 
 
 def random_case(folder, seed):
@@ -436,7 +600,7 @@ def compare(program, folder, seed):
         fault = fault_in_band(program, folder, steps, areas, frame, limits, band, outputs)
         if fault:
             return f"band {band}: {fault}", triangles
-    return fault_in_oasis(program, folder, len(outputs)) or fault_in_files(program, folder, len(outputs)), triangles
+    return fault_in_oasis(program, folder, len(outputs)) or fault_in_files(program, folder, seed, areas, outputs), triangles
 
 
 def main(program, count=100, seed=1):

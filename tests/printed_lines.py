@@ -4,7 +4,7 @@
     tests/printed_lines.py
 
 The lines are those of `line_of`, the definition of which the program is proved to print; each number, name or word that
-changes is one word in capitals. In docs/DECK.md they are what stands in backquotes in the first column of the tables
+changes is one word in capitals. In docs/DECK.md they are what is in backquotes in the first column of the tables
 under `## What is refused, and what to do`, after the text that the column's title ends with. Ends with status 1 where a
 line isn't explained, or one is explained that is never printed.
 """
@@ -37,7 +37,7 @@ def equations():
 
 
 def words_of(text):
-    """The words of a text, where what stands in brackets or quotes is one."""
+    """The words of a text, where what is in brackets or quotes is one."""
     words, depth, quoted, word = [], 0, False, ""
     for char in text:
         if char == '"':

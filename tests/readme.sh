@@ -1,5 +1,6 @@
 #!/usr/bin/env bash
-# The commands of README.md, each with what README.md says that it prints, in a fresh copy of the repository's files.
+# The commands of README.md, and after them those of docs/FIELDS.md, each with what the page says that it prints, in a fresh
+# copy of the repository's files.
 #
 #     tests/readme.sh PROGRAM    runs the blocks marked `console`, with this program as `nettletide`
 #     tests/readme.sh            runs the blocks marked `sh` first, which prove and build the program: hours
@@ -17,7 +18,7 @@ git ls-files -z | xargs -0 cp --parents -t "$room/copy" || exit 1
 
 # block WORD: the lines of the blocks that are marked so
 block() {
-    awk -v mark="\`\`\`$1" '$0 == mark { on = 1; next } /^```/ { on = 0 } on' README.md
+    awk -v mark="\`\`\`$1" '$0 == mark { on = 1; next } /^```/ { on = 0 } on' README.md docs/FIELDS.md
 }
 
 if [ -z "$program" ]; then
@@ -33,7 +34,7 @@ block console | awk -v to="$room/wanted" '
     /^\$ / { n += 1; print substr($0, 3) >(to "/" n ".command"); printf "" >(to "/" n ".output"); next }
     { print >(to "/" n ".output") }'
 count=$(find "$room/wanted" -name '*.command' | wc -l)
-[ "$count" -gt 0 ] || { echo 'no commands in README.md'; exit 1; }
+[ "$count" -gt 0 ] || { echo 'no commands in README.md and docs/FIELDS.md'; exit 1; }
 
 failed=0
 cd "$room/copy" || exit 1
@@ -50,5 +51,5 @@ for n in $(seq "$count"); do
         failed=$((failed + 1))
     fi
 done
-printf '%d commands of README.md, %d failures\n' "$count" "$failed"
+printf '%d commands of README.md and docs/FIELDS.md, %d failures\n' "$count" "$failed"
 [ "$failed" -eq 0 ]

@@ -4,103 +4,36 @@
 # the one there as before, empty or the beginning of the right text, and those after it as before. A run over two bands is
 # once refused memory when the first band's shot is written and nothing of the second: bands are written one by one.
 #
-# A small library stands between the program and the C library for that, which cc makes: it needs Linux and glibc.
+# A small library is put between the program and the C library for that, which cc makes: it needs Linux and glibc. With
+# MEMORY, the built program of crates/memory_cli, the same is done once more over a depot in memory, which counts what it
+# refuses: there the calls that fail are those of the depot, until a run has fewer.
 #
-#     usage: tests/refusals.sh PROGRAM
+#     usage: tests/refusals.sh PROGRAM [MEMORY]
 set -u
 program=$(realpath "$1") || exit 1
+memory=${2:+$(realpath "$2")} || exit 1
 gds=$(realpath "$(dirname "$0")/../tools/gds") || exit 1
+between=$(realpath "$(dirname "$0")/between.c") || exit 1
 room=$(mktemp -d) || exit 1
 trap 'rm -rf "$room"' EXIT
 cd "$room" || exit 1
 runs=0
 failed=0
 
-# The library counts what the program itself asks for, from the start of `main` on. REFUSE_ALLOCATION and REFUSE_CALL are
-# the numbers, from 1, of what is refused; COUNTS is a file that gets both counts at the end.
-cat >between.c <<'END'
-#define _GNU_SOURCE
-#include <errno.h>
-#include <fcntl.h>
-#include <stdarg.h>
-#include <stdio.h>
-#include <stdlib.h>
-#include <sys/syscall.h>
-#include <unistd.h>
+cc -O1 -fno-builtin -shared -fPIC -o between.so "$between" || exit 1
 
-extern void *__libc_malloc(size_t);
-extern void *__libc_calloc(size_t, size_t);
-extern void *__libc_realloc(void *, size_t);
-
-static long allocations, calls, refused_allocation, refused_call;
-static int begun;
-
-static long number(const char *name) {
-    const char *text = getenv(name);
-    return text ? atol(text) : 0;
-}
-
-__attribute__((constructor)) static void begin(void) {
-    refused_allocation = number("REFUSE_ALLOCATION");
-    refused_call = number("REFUSE_CALL");
-    begun = 1;
-}
-
-__attribute__((destructor)) static void end(void) {
-    const char *name = getenv("COUNTS");
-    char text[64];
-    begun = 0;
-    if (!name) return;
-    int length = snprintf(text, sizeof text, "%ld %ld\n", allocations, calls);
-    int file = syscall(SYS_openat, AT_FDCWD, name, O_WRONLY | O_CREAT | O_TRUNC, 0644);
-    syscall(SYS_write, file, text, length);
-}
-
-static int is_refused(long *count, long refused) {
-    return begun && ++*count == refused;
-}
-
-void *malloc(size_t size) {
-    return is_refused(&allocations, refused_allocation) ? NULL : __libc_malloc(size);
-}
-
-void *calloc(size_t count, size_t size) {
-    return is_refused(&allocations, refused_allocation) ? NULL : __libc_calloc(count, size);
-}
-
-void *realloc(void *old, size_t size) {
-    return is_refused(&allocations, refused_allocation) ? NULL : __libc_realloc(old, size);
-}
-
-static int call_fails(void) {
-    errno = EIO;
-    return is_refused(&calls, refused_call);
-}
-
-int open(const char *name, int flags, ...) {
-    va_list rest;
-    va_start(rest, flags);
-    int mode = va_arg(rest, int);
-    va_end(rest);
-    return call_fails() ? -1 : syscall(SYS_openat, AT_FDCWD, name, flags, mode);
-}
-
-ssize_t read(int file, void *bytes, size_t count) {
-    return call_fails() ? -1 : syscall(SYS_read, file, bytes, count);
-}
-
-ssize_t write(int file, const void *bytes, size_t count) {
-    return call_fails() ? -1 : syscall(SYS_write, file, bytes, count);
-}
-END
-cc -O1 -fno-builtin -shared -fPIC -o between.so between.c || exit 1
-
-# run_with SETTING..: the command that is tried, with these settings; sets status
+# run_with SETTING..: the command that is tried, with these settings; sets status. `over` is the program, and what comes
+# before the words of the command.
 command=(fracture G.gds K)
 inputs=(G.gds K)
 run_with() {
     status=0
-    env "$@" LD_PRELOAD="$room/between.so" "$program" "${command[@]}" >said || status=$?
+    env "$@" LD_PRELOAD="$room/between.so" "${over[@]}" "${command[@]}" >said 2>told || status=$?
+}
+
+# over_memory HOW: the program over a depot in memory
+over_memory() {
+    over=("$memory" "$1" "${inputs[@]}" , "${outputs[@]}" ,)
 }
 
 # What the outputs hold before a run: nothing, or an older text.
@@ -177,9 +110,15 @@ ended_as_ever() {
     done
 }
 
-# line_is_lost NUMBER: the last call was to say the line of a refusal, which changes no status
+# line_is_lost WHAT NUMBER: the last call was to say the line of a refusal, which changes no status. Over a depot in memory
+# that may want memory, which the depot counts.
 line_is_lost() {
-    [ "$wanted" -ne 0 ] && [ "$1" -eq "$calls" ] && [ "$status" -eq "$wanted" ] && [ ! -s said ]
+    [ "$wanted" -ne 0 ] && [ "$status" -eq "$wanted" ] && [ ! -s said ] || return 1
+    if [ "$1" = call ]; then
+        [ "$2" -eq "$calls" ]
+    else
+        [ "$(cat told)" = 'counted: want of memory' ]
+    fi
 }
 
 # judge WHAT NUMBER HOW LINE..
@@ -187,15 +126,26 @@ judge() {
     local what=$1 number=$2 how=$3
     shift 3
     runs=$((runs + 1))
-    [ "$what" != allocation ] || [ "$status" -ne 6 ] || [ ! -e out.oas ] || sizes+=" $(stat -c %s out.oas) "
+    # how long the output is where want of memory is the answer, and no depot counted one
+    [ "$what" != allocation ] || [ "$status" -ne 6 ] || [ ! -e out.oas ] || [ -s told ] || sizes+=" $(stat -c %s out.oas) "
     if inputs_are_untouched; then
         [ "$what" = allocation ] && { nothing_began "$how" || ended_as_ever; } && return
-        [ "$what" = call ] && line_is_lost "$number" && return
+        line_is_lost "$what" "$number" && return
         line_is_right "$@" && outputs_are_sound "$how" && return
     fi
     failed=$((failed + 1))
     printf 'FAILED: %s, %s %d of it refused, outputs %s before: status %d, and it said:\n' "$row" "$what" "$number" "$how" "$status"
-    head -n 5 said
+    head -n 5 said told
+}
+
+# each_allocation HOW COUNT: each allocation refused in turn, over outputs that were so before
+each_allocation() {
+    local number
+    for ((number = 1; number <= $2; number++)); do
+        prepare "$1"
+        run_with REFUSE_ALLOCATION="$number"
+        judge allocation "$number" "$1" 'want of memory'
+    done
 }
 
 # row STATUS NAME OUTPUT..: all of it with the command on the files that stand there, which ends with this status
@@ -205,6 +155,7 @@ row() {
     shift 2
     outputs=("$@")
     sizes=
+    over=("$program")
     prepare absent
     run_with COUNTS=counts
     if [ "$status" -ne "$wanted" ]; then
@@ -218,11 +169,7 @@ row() {
     local allocations calls number how
     read -r allocations calls <counts
     for how in absent older; do
-        for ((number = 1; number <= allocations; number++)); do
-            prepare "$how"
-            run_with REFUSE_ALLOCATION="$number"
-            judge allocation "$number" "$how" 'want of memory'
-        done
+        each_allocation "$how" "$allocations"
         for ((number = 1; number <= calls; number++)); do
             prepare "$how"
             run_with REFUSE_CALL="$number"
@@ -230,6 +177,49 @@ row() {
         done
     done
     printf '%s: %d allocations and %d calls, each refused twice\n' "$row" "$allocations" "$calls"
+    file_sizes=$sizes
+    [ -z "$memory" ] || row_over_memory
+}
+
+# The same row over a depot in memory, in which no output was made before.
+row_over_memory() {
+    local allocations calls number
+    row="$row, over a depot in memory"
+    sizes=
+    over_memory whole
+    prepare absent
+    run_with COUNTS=counts
+    read -r allocations calls <counts
+    each_allocation absent "$allocations"
+    # the number of a call that there isn't is counted nowhere
+    for ((number = 0; number < 1000; number++)); do
+        over_memory "$number"
+        prepare absent
+        run_with
+        [ -s told ] || break
+        calls=$((number + 1))
+        judge call "$calls" absent 'read fault' 'write fault'
+    done
+    runs=$((runs + 1))
+    if ! ended_as_ever || [ -s told ]; then
+        printf 'FAILED: %s, with no call refused: status %d\n' "$row" "$status"
+        failed=$((failed + 1))
+    fi
+    printf '%s: %d allocations and %d calls, each refused\n' "$row" "$allocations" "$calls"
+}
+
+# In some run where memory is refused, the head and the first band's shot are all that is written.
+first_band_alone() {
+    local lengths
+    for lengths in "$file_sizes" "$sizes"; do
+        [[ "$lengths" != *' 53 '* ]] || continue
+        printf 'FAILED: %s: no run ends with the first band alone, but with files of these lengths:%s\n' "$row" "$lengths"
+        failed=$((failed + 1))
+    done
+    if ! cmp -s <(head -c 53 right/out.oas | tail -c 12) <(printf '\x18\x7B\x01\x00\xD0\x0F\x80\x08\x80\x10\x00\x00'); then
+        printf 'FAILED: %s: the first band has another shot\n' "$row"
+        failed=$((failed + 1))
+    fi
 }
 
 square='boundary 1 0 0,0 0,10 10,10 10,0'
@@ -246,10 +236,7 @@ row 0 'a tip, grown, in three outputs' out.oas two.oas three.oas
 printf '%s\n' 'cell TOP' 'boundary 1 0 0,0 1000,0 1000,1000' | "$gds" G.gds
 printf '%s\n' 'unit 1000' 'top TOP' 'band 1024' "$layer" 'write A out.oas 1 0' >K
 row 0 'a triangle over two bands' out.oas
-if [[ "$sizes" != *' 53 '* ]] || ! cmp -s <(head -c 53 right/out.oas | tail -c 12) <(printf '\x18\x7B\x01\x00\xD0\x0F\x80\x08\x80\x10\x00\x00'); then
-    printf 'FAILED: no run ends with the first band alone, but with files of these lengths:%s\n' "$sizes"
-    failed=$((failed + 1))
-fi
+first_band_alone
 
 printf '%s\n' 'unit 1000' 'top TOP' "$layer" 'write A out.oas 1 0' >K
 # a square with a property, padding and the cell's name after it

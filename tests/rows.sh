@@ -22,7 +22,7 @@ deck() {
     printf '%s\n' "$@" >K
 }
 
-# What stands in most decks.
+# What is in most decks.
 unit='unit 1000'
 top='top TOP'
 layer='layer A 1 0'
@@ -237,12 +237,12 @@ deck "$unit" "$top" "$layer" "$write"
     cat square.gds
     head -c 2048 /dev/zero
 } >G.gds
-accepted 'zero bytes behind the library'
+accepted 'zero bytes after the library'
 {
     cat square.gds
     printf '\0\0\1'
 } >G.gds
-refused 'another byte behind the library' 3 'layout refused: gdsii tail at 170'
+refused 'another byte after the library' 3 'layout refused: gdsii tail at 170'
 
 # each beginning of the square's file is refused at the record that it cuts
 cut_is_refused() {
@@ -494,7 +494,7 @@ bytes() {
     printf '%b' "$(sed 's/../\\x&/g' <<<"${1// /}")"
 }
 
-# oasis_file HEX: the layout G.oas of these bytes behind the magic ones
+# oasis_file HEX: the layout G.oas of these bytes after the magic ones
 oasis_file() {
     {
         printf '%%SEMI-OASIS\r\n'
@@ -537,11 +537,11 @@ kept=2 row 'values of a record of another kind' 1600 '0 20 0 20 0 20' '0 20 40 6
 oasis "$rectangle 14 7B 09 00 0A 0A 00 00 1B 3B 09 00 05 00 00 13 5B 01 41 05 00 00 00 1C 14 01 41 08 05"
 other=2 texts=1 properties=1 row 'what is counted and passed over' 800 '0 20 0 20 0 20'
 
-# properties and padding, a cell by its number, its name behind it, and the offsets of tables in END
+# properties and padding, a cell by its number, its name after it, and the offsets of tables in END
 oasis_file "01 03 31 2E 30 00 E8 07 01 1C 14 04 54 45 53 54 08 05 0D 00 $rectangle 00 03 03 54 4F 50 02 $(printf ' 00%.0s' {1..12}) F0 01 $(printf ' 00%.0s' {1..241})"
-check 'names behind the cells: size' has_size G.oas 303
-properties=1 row 'names behind the cells' 800 '0 20 0 20 0 20'
-check 'names behind the cells: bytes' cmp out.oas square.oas
+check 'names after the cells: size' has_size G.oas 303
+properties=1 row 'names after the cells' 800 '0 20 0 20 0 20'
+check 'names after the cells: bytes' cmp out.oas square.oas
 
 # each beginning of that file is refused at the record that it cuts; that of no bytes is no OASIS file
 cp G.oas names.oas
@@ -582,7 +582,7 @@ oasis_file "01 03 32 2E 30 00 E8 07 00 00 00 00 00 00 00 00 00 00 00 00 00 $cell
 refused 'another version' 3 'layout refused: oasis value at 13 rule 9'
 oasis "$rectangle"
 printf '\0' >>G.oas
-refused 'a byte behind END' 3 'layout refused: oasis tail at 47'
+refused 'a byte after END' 3 'layout refused: oasis tail at 47'
 deck 'unit 2000' "$top" "$layer" "$write"
 oasis "$rectangle"
 refused 'another unit of OASIS' 3 'layout refused: oasis unit at 13'
@@ -635,6 +635,10 @@ check 'a square three times' packs 'packed 3 shots in 1 records' \
     '147B010014140000 147B010014140000 147B010014140000' '14 67 01 00 14 14 09 01 01 00'
 check 'squares to the west' packs 'packed 3 shots in 1 records' \
     '147B010014145000 147B010014142800 147B010014140000' '14 77 01 00 14 14 50 09 01 53 00'
+check 'a run, the last of which begins another' packs 'packed 4 shots in 2 records' \
+    '147B010014140000 147B01001414000A 147B010014140012 147B01001414001A' '14 63 01 00 14 14 14 0C 0A 09 01 01 08'
+check 'a rectangle, a trapezoid of its size, and the rectangle' packs 'packed 3 shots in 3 records' \
+    '147B010014140000 187B01001414280000 147B010014140000' '14 63 01 00 14 14 18 00 28 14 00'
 check 'no shots' packs 'packed 0 shots in 0 records' '' ''
 
 # unpack_refused LINE HEX: `unpack` refuses the file of these records, with this line, and makes no file
@@ -651,6 +655,14 @@ check 'another kind of repetition' unpack_refused 'packed record at 41' '14 7F 0
 check 'west of nothing' unpack_refused 'packed spelling at 41' '14 7F 01 00 14 14 00 00 09 01 03 00'
 check 'another layer' unpack_refused 'packed pair at 49' '14 7B 01 00 14 14 00 00 14 01 02'
 check 'too many shots' unpack_refused 'packed many at 41' '14 7F 01 00 14 14 00 00 09 FF FF FF 07 01 00'
+# without_memory ..: as `says`, with less memory than half of the shots that a file may ask for take
+without_memory() {
+    (ulimit -v 400000 && says "$@") && [ ! -e none ]
+}
+shot_file F "14 67 01 00 14 14 09 FE FF FF 07 01 00 14 0C 28 09 FE FF FF 07 01 00 14 08 50"
+check 'a shot too many, without memory' without_memory 7 $'check refused: F: packed many at 64\n' unpack F none
+shot_file F "14 67 01 00 14 14 09 FE FF FF 07 01 00 14 20 00 14 2C 14 28 09 FE FF FF 07 01 00 14 0C 50 09 FE FF FF 07 01 00"
+check 'a shot of no height before too many, without memory' without_memory 7 $'check refused: F: packed illegal at 54\n' unpack F none
 check 'a shot of no height' unpack_refused 'packed illegal at 41' '14 7B 01 00 14 00 00 00'
 check 'a byte after the records' unpack_refused 'packed end at 41' '02'
 shot_file F '14 67 01 00 14 14 09 01 A1 01 00'
@@ -659,6 +671,144 @@ check 'nor to be packed' says 7 $'check refused: F: record at 41\n' pack F none
 check 'one name twice' says 1 $'words refused\n' pack F F
 check 'no file' says 4 $'read fault\n' unpack missing none
 check 'no folder' says 5 $'write fault\n' unpack F missing/none
+check 'no folder to pack into' says 5 $'write fault\n' pack square.oas missing/none
+check 'no room on the device' says 5 $'write fault\n' unpack F /dev/full
+check 'nor to pack into' says 5 $'write fault\n' pack square.oas /dev/full
+
+# ---- stripes
+
+# stripe WHAT K TRIANGLES SHOT..: the file of stripe K has these shots
+stripe() {
+    local what=$1 k=$2
+    shift 2
+    check "$what: stripe $k" says 0 "$(listing "$@")"$'\n' shots "s.$k"
+}
+
+shot_file F '18 7B 01 00 14 14 28 00 00'
+check 'a triangle over two stripes' says 0 \
+    $'stripe 0 shots 2 triangles 384\nstripe 1 shots 1 triangles 16\nshots 3 triangles 400\n' split 16 F s
+stripe 'a triangle over two stripes' 0 384 '0 16 0 16 16 16' '0 16 16 20 16 20'
+stripe 'a triangle over two stripes' 1 16 '16 20 16 20 20 20'
+
+shot_file F '18 7B 01 00 14 14 28 08 00'
+check 'a triangle over two fields and two stripes' says 0 \
+    $'stripe 0 shots 3 triangles 384\nstripe 1 shots 1 triangles 16\nshots 4 triangles 400\n' split 16 F s
+stripe 'a triangle over two fields and two stripes' 0 384 '0 12 4 16 16 16' '0 12 16 24 16 24' '12 16 16 24 20 24'
+stripe 'a triangle over two fields and two stripes' 1 16 '16 20 20 24 24 24'
+
+shot_file F '14 7B 01 00 14 14 09 09'
+check 'negative stripes and columns' says 0 \
+    $'stripe -1 shots 2 triangles 160\nstripe 0 shots 2 triangles 640\nshots 4 triangles 800\n' split 016 F s
+stripe 'negative stripes and columns' -1 160 '-4 0 -4 0 -4 0' '-4 0 0 16 0 16'
+stripe 'negative stripes and columns' 0 640 '0 16 -4 0 -4 0' '0 16 0 16 0 16'
+
+shot_file F '17 7B 01 00 20 10 20 21 00 00'
+check 'a tip on the corner of a field' says 0 $'stripe 0 shots 2 triangles 512\nshots 2 triangles 512\n' split 16 F s
+stripe 'a tip on the corner of a field' 0 512 '0 16 0 16 16 16' '0 16 16 32 16 16'
+
+shot_file F '17 7B 01 00 03 01 02 02 1E 02'
+check 'a line of a field crossed within a row' says 0 $'stripe 0 shots 2 triangles 4\nshots 2 triangles 4\n' split 16 F s
+stripe 'a line of a field crossed within a row' 0 4 '1 2 15 16 16 16' '1 2 16 17 16 18'
+
+shot_file F '14 7B 01 00 04 04 00 00 14 7B 01 00 04 04 00 50'
+check 'an empty stripe' says 0 \
+    $'stripe 0 shots 1 triangles 32\nstripe 1 shots 0 triangles 0\nstripe 2 shots 1 triangles 32\nshots 2 triangles 64\n' \
+    split 16 F s
+stripe 'an empty stripe' 1 0
+check 'an empty stripe: size' has_size s.1 297
+mkdir t.2
+check 'a stripe that can not be written' says 5 $'write fault\n' split 16 F t
+check 'a stripe that can not be written: those below it' cmp t.0 s.0
+check 'a stripe that can not be written: the one below it' cmp t.1 s.1
+
+shot_file F ''
+no_stripes() {
+    says 0 $'shots 0 triangles 0\n' split 16 F none && [ "$(echo none.*)" = 'none.*' ]
+}
+check 'no shots, no stripes' no_stripes
+
+# split_refused LINE SIZE HEX: `split` refuses the file of these records, with this line, and makes no file
+split_refused() {
+    shot_file F "$3"
+    says 7 "check refused: F: $1"$'\n' split "$2" F none && [ "$(echo none.*)" = 'none.*' ]
+}
+shot_file F '14 7B 01 00 02 80 80 80 08 00 00'
+check 'as high as a field' says 0 $'stripe 0 shots 1 triangles 67108864\nshots 1 triangles 67108864\n' split 16777216 F s
+check 'higher than a field' split_refused 'shot 0 past field reach' 16777216 '14 7B 01 00 02 81 80 80 08 00 00'
+shot_file F '14 7B 01 00 80 80 80 10 02 00 00'
+check 'as wide as two fields' says 0 $'stripe 0 shots 2 triangles 134217728\nshots 2 triangles 134217728\n' split 16777216 F s
+check 'wider than two fields' split_refused 'shot 1 past field reach' 16777216 \
+    '14 7B 01 00 02 02 00 00 14 7B 01 00 81 80 80 10 02 00 00'
+shot_file F '14 7B 01 00 02 02 00 00 14 7B 01 00 02 02 00 E0 FF 07'
+mkdir stripes
+many_stripes() {
+    "$program" split 16 F stripes/s >said && [ "$(tail -n 1 said)" = 'shots 2 triangles 16' ] &&
+        [ "$(ls stripes | wc -l)" -eq 4096 ]
+}
+check '4,096 stripes' many_stripes
+check '4,097 stripes' split_refused '4097 stripes' 16 '14 7B 01 00 02 02 00 00 14 7B 01 00 02 02 00 80 80 08'
+check 'a shot past reach, and too many stripes' split_refused 'shot 1 past field reach' 16 \
+    '14 7B 01 00 02 02 00 00 14 7B 01 00 02 81 80 80 08 00 00'
+check 'not to be split' says 7 $'check refused: G.gds: head at 0\n' split 16 G.gds none
+check 'too small a field' says 1 $'words refused\n' split 15 F s
+check 'too large a field' says 1 $'words refused\n' split 16777217 F s
+check 'a size of 19 digits' says 1 $'words refused\n' split 0000000000000000016 F s
+check 'a size with a sign' says 1 $'words refused\n' split +16 F s
+check 'a stripe onto its file' says 1 $'words refused\n' split 16 s.0 s
+check 'a stripe onto its file, with zeros' says 1 $'words refused\n' split 16 s.-007 s
+check 'no file to be split' says 4 $'read fault\n' split 16 s. s
+check 'no folder for stripes' says 5 $'write fault\n' split 16 square.oas missing/s
+
+# ---- windows
+
+# dense WHAT SIZE LINE..: `density` of layout and deck says these lines, and makes no file
+is_dense() {
+    local size=$1
+    shift
+    rm -f out.oas
+    says 0 "$(printf '%s\n' "$@")"$'\n' density "$size" G.gds K && [ ! -e out.oas ]
+}
+dense() {
+    check "density: $1" is_dense "${@:2}"
+}
+
+layout 'cell TOP' "$square"
+deck "$unit" "$top" "$layer" "$write"
+dense 'a square' 64 'density out.oas size 64' '0 0 800' 'most 0 0 800' 'triangles 800'
+dense 'one large window' 16777216 'density out.oas size 16777216' '0 0 800' 'most 0 0 800' 'triangles 800'
+deck "$unit" "$top" 'layer A 9 0' "$write"
+dense 'nothing' 64 'density out.oas size 64' 'triangles 0'
+layout 'cell TOP' "$triangle"
+deck "$unit" "$top" "$layer" 'mirror M A 5' 'write M out.oas 1 0'
+dense 'mirrored' 64 'density out.oas size 64' '-1 0 300' '0 0 100' 'most -1 0 300' 'triangles 400'
+layout 'cell TOP' 'boundary 1 0 0,0 64,0 64,64'
+deck "$unit" "$top" "$layer" "$write" 'write A two.oas 2 0'
+dense "a side through a window's corner, and two outputs" 64 \
+    'density out.oas size 64' '0 0 4096' '1 0 8192' '1 1 4096' 'most 1 0 8192' 'triangles 16384' \
+    'density two.oas size 64' '0 0 4096' '1 0 8192' '1 1 4096' 'most 1 0 8192' 'triangles 16384'
+layout 'cell TOP' 'boundary 1 0 0,0 0,10 10,10 10,0' 'boundary 1 0 100,-40 100,-30 110,-30 110,-40' \
+    'boundary 1 0 100,0 100,10 110,10 110,0'
+deck "$unit" "$top" "$layer" "$write"
+dense 'equal counts, and empty windows between' 64 \
+    'density out.oas size 64' '3 -2 640' '3 -1 160' '0 0 800' '3 0 800' 'most 0 0 800' 'triangles 2400'
+
+# The counts of the generated layout add up to its triangles.
+adds_up() {
+    "$program" generate 1 G.gds >said && deck "$unit" 'top TOP' "$layer" "$write" &&
+        "$program" density 256 G.gds K | awk '$2 == "out.oas" || $1 == "most" { next }
+            $1 == "triangles" { ended = sum == 684032 && $2 == sum; next }
+            { sum += $3 } END { exit !ended }'
+}
+check 'density: the generated layout' adds_up
+layout 'cell TOP' "$square"
+check 'too small a window' says 1 $'words refused\n' density 63 G.gds K
+check 'too large a window' says 1 $'words refused\n' density 16777217 G.gds K
+check 'no deck for windows' says 4 $'read fault\n' density 64 G.gds missing
+check 'no layout for windows' says 4 $'read fault\n' density 64 missing K
+deck "$unit" "$top" "$layer"
+check 'no deck at all for windows' says 2 $'deck refused: line 4 out of order\n' density 64 G.gds K
+deck "$unit" 'top OTHER' "$layer" "$write"
+check 'no such cell for windows' says 3 $'layout refused: no cell OTHER\n' density 64 G.gds K
 
 printf '%d rows passed, %d failed\n' "$passed" "$failed"
 [ "$failed" -eq 0 ]

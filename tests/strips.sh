@@ -52,7 +52,7 @@ all_run() {
     runs $(seq 0 $(($(wc -l <strips/jobs) - 1)))
 }
 
-# is_same COUNT LAYOUT: so many strips of the deck K, joined, give the files and the sums of one run
+# is_same COUNT LAYOUT: this number of strips of the deck K, joined, give the files and the sums of one run
 is_same() {
     local files=() joined=() file
     for file in $(awk '$1 == "write" { print $3 }' K); do

@@ -223,13 +223,14 @@ no_matter_where() {
     [ "$status" -eq 1 ] && cmp said.txt <(echo 'words refused') && cmp report.txt <(report) && is_expected
 }
 
-# The example on a pseudo terminal: what is shown of the files, that it is taken away in the end, and the same answers.
+# The example on a pseudo terminal: what is shown of the files, that it is removed in the end, and the same answers.
 is_shown() {
     local wipe=$'\r\033[K'
     rm -f square.oas
     script -qec "$program fracture square.gds square.deck >report.txt" /dev/null </dev/null >shown.txt || return 1
     cmp report.txt <(report) && is_expected || return 1
     grep -qF "${wipe}reading square.gds: 0.0 of 0.0 MB" shown.txt && grep -qF "${wipe}writing square.oas: 0.0 MB" shown.txt &&
+        grep -qF "${wipe}writing square.oas: band 0 of " shown.txt &&
         cmp <(tail -c 4 shown.txt) <(printf '%s' "$wipe")
 }
 
@@ -243,7 +244,7 @@ if [ -c /dev/full ]; then
     check 'a full standard error changes nothing' no_matter_where /dev/full
 fi
 if script -qec true /dev/null </dev/null >/dev/null 2>&1; then
-    check 'progress is shown on a terminal and taken away' is_shown
+    check 'progress is shown on a terminal and removed' is_shown
 else
     echo 'skipped: a pseudo terminal, since there is no script'
 fi

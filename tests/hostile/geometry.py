@@ -12,7 +12,7 @@ def wires(count, length, step):
 
 
 def slanted(count, length, step):
-    """Each wire is one shot where all lie in one band: so many rows, and 8 half units wide."""
+    """Each wire is one shot where all lie in one band: that many rows, and 8 half units wide."""
     gds(cell("TOP", b"".join(wires(count, length, step))))
     deck("band 16777216", "limits 2097152 4194304", "layer A 1 0", "write A out.oas 1 0")
     return FRACTURE, 0, f"output out.oas shots {count} triangles {count * 2 * length * 16}"
@@ -41,6 +41,21 @@ def zigzag(teeth, height):
     return FRACTURE, 0, f"output out.oas shots {2 * teeth + 2} triangles {4 * teeth * height * height}"
 
 
+def woven(count, width):
+    """A polygon that goes up and down so often, and then to and fro: each of its upright edges crosses each of its level ones.
+
+    Of the squares that they make every other one is inside, and left of them a column of every other one, each of which is in
+    one shot with its neighbour.
+    """
+    side = count * width
+    up = [(x, y) for k in range(count) for x, y in ((k * width, 0 if k % 2 == 0 else side), (k * width, side if k % 2 == 0 else 0))]
+    across = [(x, y) for k in range(count) for x, y in
+              ((-width if k % 2 == 0 else side, k * width), (side if k % 2 == 0 else -width, k * width))]
+    gds(cell("TOP", polygon(up + [(-width, 0)] + across[1:] + [(-width, side), (0, side), (0, 0)])))
+    deck()
+    return FRACTURE, 0, f"output out.oas shots {count * count // 2} triangles {count * (count + 1) // 2 * 8 * width * width}"
+
+
 def check_same(count):
     """A shot given many times, for `check`."""
     gds(cell("TOP", polygon(SQUARE)))
@@ -67,6 +82,8 @@ CASES = [
     ("a pile of 100,000 squares", False, lambda: pile(100000)),
     ("a square 1,000,000 times", False, lambda: same(1000000)),
     ("a polygon of 8,191 points that crosses itself at each edge", True, lambda: zigzag(4094, 100)),
+    ("a polygon whose edges cross each other 40,000 times", True, lambda: woven(200, 10)),
+    ("a polygon whose edges cross each other 4,000,000 times", False, lambda: woven(2000, 10)),
     ("a shot 1,000,000 times, checked", False, lambda: check_same(1000000)),
     ("100,000 shots 2^44 wide, checked", True, lambda: wide("check", 100000)),
     ("100,000 shots 2^44 wide, listed", True, lambda: wide("shots", 100000)),

@@ -90,6 +90,14 @@ def shot(x, y, width, height):
     return b"\x14\x7B\x01\x00" + unsigned(width, height) + signed(x, y)
 
 
+def trapezoid(y0, y1, a, b, c, d):
+    """A shot by its two Y, the two X of its lower side, and those of its upper one."""
+    slants = [slant for slant in (c - a, d - b) if slant != 0]
+    record_id = 0x14 if not slants else 0x17 if len(slants) == 2 else 0x18 if c != a else 0x19
+    left = min(a, c)
+    return bytes([record_id, 0x7B, 1, 0]) + unsigned(max(b, d) - left, y1 - y0) + signed(*slants, left, y0)
+
+
 # ---- files
 
 DECK = "unit 1000\ntop TOP\nlayer A 1 0\nwrite A out.oas 1 0\n"

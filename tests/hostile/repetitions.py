@@ -41,10 +41,12 @@ def texts(repetition, times):
     return in_cell("OTHER", first, b"\x13\x04\x00", times, True)
 
 
-def placements(repetition, times):
-    """Of a cell that has nothing."""
+def placements(repetition, times, name="TOP"):
+    """Of a cell that has nothing, in TOP, or in a cell that nothing reaches."""
     first = b"\x11\xB8" + text("EMPTY") + signed(0, 0) + repetition
-    oas(oas_cell("EMPTY"), oas_cell("TOP", rectangle(0, 0, 10, 10), first), b"\x11\x08\x00" * times)
+    square = rectangle(0, 0, 10, 10)
+    above = [] if name == "TOP" else [oas_cell("TOP", square)]
+    oas(oas_cell("EMPTY"), *above, oas_cell(name, square, first), b"\x11\x08\x00" * times)
     deck()
     return ["fracture", "layout", "deck"], 0, SQUARE_LINE
 
@@ -76,7 +78,12 @@ CASES = [
     ("a list of 100,000 moves on an unwanted pair, 100,000 times", False, lambda: unwanted_rectangles(moves(100000), 100000)),
     ("a list of 100,000 spaces on an unwanted pair, 100,000 times", False, lambda: unwanted_rectangles(spaces(100000), 100000)),
     ("a list of 100,000 moves in texts, 100,000 times", False, lambda: texts(moves(100000), 100000)),
+    ("a list of 100,000 spaces in texts, 100,000 times", False, lambda: texts(spaces(100000), 100000)),
+    ("a list of 1,000 moves in placements of an empty cell, 1,000 times", True, lambda: placements(moves(1000), 1000)),
     ("a list of 100,000 moves in placements of an empty cell, 20,000 times", False, lambda: placements(moves(100000), 20000)),
+    ("a list of 100,000 spaces in placements of an empty cell, 20,000 times", False, lambda: placements(spaces(100000), 20000)),
+    ("a list of 100,000 moves in placements that nothing reaches, 20,000 times", False,
+     lambda: placements(moves(100000), 20000, "OTHER")),
     ("a grid of 2^30 places, 1,024 times and once more", True, lambda: counted(unsigned(1, 32766, 32766, 1, 1), 1 << 30, 1025)),
     ("a polygon of 100,000 points on an unwanted pair, 100,000 times", False, lambda: polygons(OTHER, 100000, 100000, True)),
     ("a polygon of 100,000 points that nothing reaches, 10,000 times", False, lambda: polygons(1, 100000, 10000, False)),

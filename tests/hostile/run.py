@@ -4,7 +4,7 @@
     usage: tests/hostile/run.py PROGRAM [quick | WORD..]
 
 Each case is made by a script of this folder, and must be answered with the status and the line that were worked out for it
-(what stands after `..` is free), within 4 GB of address space and 60 seconds of the processor. Time and memory are printed.
+(what comes after `..` is free), within 4 GB of address space and 60 seconds of the processor. Time and memory are printed.
 With `quick` only the cases run that take less than a second each, with other words those whose name has all of them.
 
 What today's program can't do within the limits is listed in beyond.txt, a case a line, with what was measured. Such a case
@@ -28,6 +28,8 @@ import repetitions
 import trees
 
 MEMORY, SECONDS = 4 << 30, 60
+# The last line that is printed has fewer bytes.
+LONGEST_LINE = 1 << 24
 CASES = [case for module in (names, repetitions, trees, geometry, decks, further) for case in module.CASES]
 
 
@@ -55,6 +57,7 @@ def answer(program, words):
         _, status, usage = os.wait4(child.pid, 0)
         child.returncode = os.waitstatus_to_exitcode(status)
     with open("said", "rb") as said:
+        said.seek(max(0, os.path.getsize("said") - LONGEST_LINE))
         lines = said.read().decode(errors="replace").splitlines()
     return child.returncode, lines[-1] if lines else "", usage.ru_utime + usage.ru_stime, usage.ru_maxrss / 1000
 

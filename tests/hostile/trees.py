@@ -25,7 +25,7 @@ def chain(count):
 
 
 def chains(count, depth):
-    """TOP places so many chains, of which all but the first have a square beside it; with TOP each is so deep."""
+    """TOP places this number of chains, of which all but the first have a square beside it; with TOP each is so deep."""
     below = depth - 1
     yield cell("TOP", *(place("C%d.1" % k) for k in range(count)))
     for k in range(count):
@@ -82,6 +82,12 @@ def cycle(count):
         yield cell(name, place(below))
 
 
+def nearly_alike(count):
+    """Cells whose names differ in their last bytes alone, each placed once: of the last of them nothing is in the file."""
+    names = ["N" * 1000 + "%06d" % k for k in range(count)]
+    return cell("TOP", *map(place, names)), (cell(name) for name in names[:-1])
+
+
 def unknown(count):
     """The last of many placements is of no cell."""
     yield cell("LEAF", polygon(SQUARE))
@@ -100,6 +106,8 @@ CASES = [
     ("2^60 shapes, by placing each cell twice", True, lambda: refused(f"layout refused: count C19 {MOST * 2}", doubled(60))),
     ("a cycle of two cells", True, lambda: refused("layout refused: cycle ..", cycle(2))),
     ("a cycle of 100,000 cells", False, lambda: refused("layout refused: cycle ..", cycle(100000))),
+    ("50,000 placements of cells of 1,006 bytes, of which the last is of no cell", False,
+     lambda: refused("layout refused: cell TOP places unknown N..", *nearly_alike(50000))),
     ("a million placements, of which the last is of no cell", False,
      lambda: refused("layout refused: cell TOP places unknown NONE", unknown(1000000))),
 ]

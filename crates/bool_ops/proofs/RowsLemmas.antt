@@ -70,12 +70,6 @@ none_under xs w t closed rows h = closed_under xs t w.y0 closed (recursion_from_
 pub none_over : (xs : List Point) (w : RowRange) (t : Tile) → IsClosed xs → AreRowsOf xs w → w.y1 ≤ℤ t.j → winding xs t ≡ pos 0
 none_over xs w t closed rows h = closed_over xs t w.y1 closed (recursion_from_All (λ p. p.y ≤ℤ w.y1) xs rows.below) h
 
-pub rows_window : (xs : List Point) (least greatest : ℤ) → AreRowsOf xs (row_range least greatest) → least ≤ℤ greatest
-rows_window xs least greatest rows =
-    let (k, p, inside, at, e) = rows.least in
-    let below_p = All-contains (λ x. x.y ≤ℤ greatest) xs p rows.below (k, inside, at) in
-    omega (arith, ints, below_p, e)
-
 -- what is united of an outline's edges are its pieces
 pub pieces_are : (points : List Point) (edges : List EdgeParts) (window : RowRange) → edges ≡ edges_along A points → IsClosed points → AreRowsOf points window
     → (traps : List Trapezoid) → IsJoinedOf window (IsWoundIn edges window) traps → ArePieces points traps

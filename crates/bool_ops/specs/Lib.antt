@@ -1,1 +1,2 @@
+-- ---- what is promised, in reading order
 pub mod Operations

@@ -6,7 +6,6 @@ use Rattle.std.proofs.lemmas.List.{take_more, take_all, length-map}
 use Rattle.std.proofs.lemmas.Option.{slice_get-get_or, get_or_from_slice_get}
 use Rattle.std.proofs.lemmas.List.Sums.{sum_by_push}
 use Rattle.layout_model.specs.declared.cells.Placement.{Placement}
-use Rattle.layout_model.specs.declared.shapes.Shape.{Shape}
 use Rattle.layout_model.specs.declared.cells.Cell.{Cell}
 use Rattle.cell_tree.specs.Cells.{PlacesAt, shapes_at, placements_at, targets_at, cell_number}
 use Rattle.cell_tree.specs.Chains.{IsShort}
@@ -17,12 +16,6 @@ use Rattle.cell_tree.proofs.FlatLemmas.{count_is}
 
 abbrev pub IsCount : List Cell → ℕ → ℕ → Type 0
 IsCount cells n count = (count ≡ shape_count cells n) × (count ≤ 2 ^ 40)
-
-pub saturated_add : (a b : ℕ) → saturated (saturated a + b) ≡ saturated (a + b)
-saturated_add a b = omega arith
-
-pub saturated_both : (a b : ℕ) → saturated (saturated a + saturated b) ≡ saturated (a + b)
-saturated_both a b = omega arith
 
 pub copies_is : (cells : List Cell) (counts : List ℕ) (placement : Placement) (target : Option ℕ) → target ≡ cell_number cells placement.target
     → ((m : ℕ) → target ≡ Some m → get_or counts m 0 ≡ shape_count cells m) → copies_of counts placement target ≡ placed_count cells placement
@@ -40,12 +33,6 @@ pub count_more : (cells : List Cell) (n k own : ℕ) (count copies : ℕ) (place
 count_more cells n k own count copies placement inside is so this =
     let e = take_more (placements_at cells n) k placement inside in
     let s = ap (λ l. sum_by (placed_count cells) l) (e ∙ ap (λ p. take k (placements_at cells n) ++ p ∷ []) is) ∙ sum_by_push (placed_count cells) (take k (placements_at cells n)) placement in
-    omega arith
-
-pub own_count_more : (shapes : List Shape) (k count : ℕ) (shape : Shape) → k < length shapes → get_or shapes k shape ≡ shape → count ≡ saturated (own_count (take k shapes))
-    → saturated (count + length shape.offsets) ≡ saturated (own_count (take (k + 1) shapes))
-own_count_more shapes k count shape inside is so =
-    let s = ap own_count (take_more shapes k shape inside ∙ ap (λ p. take k shapes ++ p ∷ []) is) ∙ sum_by_push (λ s. length s.offsets) (take k shapes) shape in
     omega arith
 
 -- a placement that is looked at, as the code shows it

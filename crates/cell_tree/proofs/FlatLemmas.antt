@@ -153,9 +153,6 @@ has_own shapes bound pair p own =
     (map_has (On pair p) (λ by. record { pair = own.shape.pair; points = map (moved by) own.shape.points }) own.shape.offsets
     (slot_has (λ by. On pair p (record { pair = own.shape.pair; points = map (moved by) own.shape.points })) own.shape.offsets own.vertex.place own.vertex.by own.vertex.offset (own.on_pair, c))))
 
-shown_below : (cells : List Cell) (placement : Placement) → List Flat
-shown_below cells placement = option_map_or (flattened cells) (cell_number cells placement.target) []
-
 module _ (cells : List Cell) (n : ℕ) (pair : Pair) (p : Point) where
   below_vertex : (k : ℕ) (placement : Placement) (o : Option ℕ) → cell_number cells placement.target ≡ o → slice_get (placements_at cells n) k ≡ Some placement
       → Has (On pair p) (placed_things flat_image placement (option_map_or (flattened cells) o [])) → PlacedVertex cells n (length (placements_at cells n)) pair p

@@ -115,9 +115,6 @@ pointed_more cells keys k i cell distinct inside is named so_far =
 
 -- ---- targets
 
-places_among-map : (names : List (List ℕ)) (placements : List Placement) → places_among names placements ≡ map (λ placement. position (pointwise nat_eq placement.target) names) placements
-places_among-map names placements = refl
-
 pub target_more : (keys : List (Bor (List ℕ))) (placements : List Placement) (targets : List (Option ℕ)) (i : ℕ) (placement : Placement) (k : Bor (List ℕ)) → i < length placements
     → placement ≡ get_or placements i placement → k.now ≡ placement.target → targets ≡ places_among (pointed keys) (take i placements)
     → targets ++ position (same_name k) keys ∷ [] ≡ places_among (pointed keys) (take (i + 1) placements)

@@ -1,12 +1,11 @@
 -- The boxes of shapes and of placements.
-use Rattle.std.proofs.Common.{◌≡◌, ◌≢◌, ◌⊎◌, ℕ, ℤ, ◌+ℤ◌, ◌+◌, ◌^◌, ◌<◌, ◌≤◌, List, [], ◌∷◌, Option, Some, None, IfSome, All, length, get_or, slice_get, refl, sym, ap, subst, ◌∙◌, inl, inr, arith, true≢false}
+use Rattle.std.proofs.Common.{◌≡◌, ◌≢◌, ◌⊎◌, ℕ, ℤ, ◌+ℤ◌, ◌+◌, ◌^◌, ◌<◌, ◌≤◌, List, [], Option, Some, None, IfSome, All, length, get_or, slice_get, refl, sym, ap, subst, ◌∙◌, inl, inr, arith, true≢false}
 use Rattle.std.specs.Option.{option_map}
 use Rattle.std.proofs.lemmas.Int.{ints}
 use Rattle.std.proofs.lemmas.Option.{none-some, same_Some, slice_get-get_or, get_or_from_slice_get}
 use Rattle.std.proofs.lemmas.List.{length-map}
 use Rattle.cell_tree.specs.Chains.{IsShort}
 use Rattle.cell_tree.proofs.FlatLemmas.{vertex_cases, own_vertex, placed_vertex}
-use Rattle.half_grid.specs.Outlines.{IsClosed}
 use Rattle.half_grid.specs.declared.plane.Point.{Point}
 use Rattle.half_grid.specs.declared.extent.Frame.{Frame}
 use Rattle.layout_model.specs.Hulls.{IsInBox, IsLeastBoxOf}
@@ -35,10 +34,6 @@ pub box_more : (a b : ℕ) (box : Frame) → a ≤ b → IsBoxUpTo a box → IsB
 box_more a b box less near = record { x0 = up_to_more a b box.x0 less near.x0; y0 = up_to_more a b box.y0 less near.y0; x1 = up_to_more a b box.x1 less near.x1; y1 = up_to_more a b box.y1 less near.y1 }
 
 -- ---- shapes
-
-pub closed_some : (points : List Point) → IsClosed points → points ≢ []
-closed_some [] closed e = closed
-closed_some (p ∷ points) closed e = cc
 
 pub points_up_to : (shape : Shape) (box : Frame) → IsShapeOnGrid shape → IsLeastBox (IsOneOf shape.points) box → IsBoxUpTo (2 ^ 60) box
 points_up_to shape box on least = box_more (2 ^ 42) (2 ^ 60) box (omega arith) (least_up_to (IsOneOf shape.points) box (2 ^ 42) least (λ p one. All-slot shape.points (IsWithin (2 ^ 42)) on.near one.0 p one.1))

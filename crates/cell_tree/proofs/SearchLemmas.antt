@@ -25,9 +25,6 @@ apart zero (suc n) = inr (λ e. omega arith)
 apart (suc m) zero = inr (λ e. omega arith)
 apart (suc m) (suc n) = elim (apart m n) [ inl e ↦ inl (ap suc e) | inr differs ↦ inr (λ e. differs (omega arith)) ]
 
-done_open : (marks : List Mark) (n : ℕ) → slice_get marks n ≡ Some Done → slice_get marks n ≡ Some Open → ⊥
-done_open marks n done opened = let e = one_slot marks n Done Open done opened in cc
-
 new_met : (marks : List Mark) (n : ℕ) → slice_get marks n ≡ Some New → IsMet marks n → ⊥
 new_met marks n new met = elim met [ inl opened ↦ (let e = one_slot marks n New Open new opened in cc) | inr done ↦ (let e = one_slot marks n New Done new done in cc) ]
 
@@ -388,9 +385,6 @@ enter_work (Done ∷ marks) (cell ∷ cells) (suc m) inside new = enter_work mar
 module _ (cells : List Cell) (marks : List Mark) (path : List Stop) (stop : Stop) where
   pub leaves_smaller : work_left cells (set marks stop.cell Done) path < work_left cells marks (path ++ stop ∷ [])
   leaves_smaller = let more = sum_by_push (stop_work cells) path stop in let less = mark_work marks cells stop.cell in omega arith
-
-  pub looks_smaller : stop.next < length (targets_at cells stop.cell) → work_left cells marks (path ++ onward stop ∷ []) < work_left cells marks (path ++ stop ∷ [])
-  looks_smaller inside = let more = sum_by_push (stop_work cells) path stop in let less = sum_by_push (stop_work cells) path (onward stop) in omega arith
 
   pub enters_smaller : (m : ℕ) → stop.next < length (targets_at cells stop.cell) → m < length cells → slice_get marks m ≡ Some New
       → work_left cells (set marks m Open) ((path ++ onward stop ∷ []) ++ record { cell = m; next = 0 } ∷ []) < work_left cells marks (path ++ stop ∷ [])

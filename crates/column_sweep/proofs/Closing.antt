@@ -51,10 +51,6 @@ left_of_right o x t edges h at =
     let n = number_left x t at in
     left_of_all o t edges (All-weaker (LiesRight x) (λ e. SpansRow t.j e → number_in_row t <ℤ place e.line t.j) (λ e k s. (let p = k t.j s in omega (arith, ints, p, n))) edges h)
 
--- upright edges on the line itself
-OnLine : ℤ → EdgeParts → Type 0
-OnLine x e = e.line ≡ Upright x
-
 on_right : (x : ℤ) (e : EdgeParts) → e.line ≡ Upright x → LiesRight x e
 on_right x e h = λ j s. rw h (omega (arith, ints))
 
@@ -71,9 +67,6 @@ all_turned x [] h = h
 all_turned x (e ∷ edges) h =
     let P : EdgeParts → Type 0 = λ f. f.line ≡ Upright x in
     All-cons P (turned e) (map turned edges) (All-head P e edges h) (all_turned x edges (All-tail P e edges h))
-
-zero_and : (a b : ℤ) → a ≡ pos 0 → b ≡ pos 0 → (a +ℤ b) ≡ pos 0
-zero_and a b h k = omega (arith, ints, h, k)
 
 -- split edges with their sums on the line, the other way in the left part
 pub parts_closed : (x : ℤ) (edges own beyond sums : List EdgeParts) → AreSplit x edges own beyond → AreSums x own sums → AreParts x edges (own ++ map turned sums) (beyond ++ sums)

@@ -206,12 +206,6 @@ module _ (x c y : ℤ) (e : EdgeParts) where
   pub falling_right : e.line ≡ Falling c → y ≡ (c +ℤ c) -ℤ x → All (LiesRight x) (option_to_list (part_below y e))
   falling_right line at = part_has (LiesRight x) e e.y0 (int_min e.y1 y) _ refl (λ lt j s. (let below = s.below in rw line (omega (arith, ints, clamps, below, at))))
 
-pub upright_left : (x c : ℤ) (e : EdgeParts) → e.line ≡ Upright c → c <ℤ x → LiesLeft x e
-upright_left x c e line lt = λ j s. rw line (omega (arith, ints, lt))
-
-pub upright_right : (x c : ℤ) (e : EdgeParts) → e.line ≡ Upright c → x ≤ℤ c → LiesRight x e
-upright_right x c e line le = λ j s. rw line (omega (arith, ints, le))
-
 -- ---- the row in which a line passes the cut
 
 fits : (n : ℤ) → IsWithinReach n → FitsSigned w64 n

@@ -59,22 +59,6 @@ module _ (post : ℤ → ℤ → Bool → Type 0) (edges : List EdgeParts) (wind
   abbrev pub TakesNoneBelow : ℤ → Type 0
   TakesNoneBelow y = TakesNone post edges (row_range window.y0 y)
 
-  pub none_at_first : (y : ℤ) → y ≡ window.y0 → TakesNoneBelow y
-  none_at_first y e t taken = let from = taken.from in let below = taken.below in absurd (omega (arith, ints, e, from, below))
-
-  -- a tile of a row that has no runs isn't taken
-  none_in_row : (j : ℤ) (t : Tile) → AreRuns post edges j [] → t.j ≡ j → IsTaken post edges t → ⊥
-  none_in_row j t are e taken = let some = (are.taken t e).0 taken in omega (arith, some.2)
-
-  pub none_in_slab : (y : ℤ) (slab : RowRange) → slab.y0 ≡ y → AreRunsOfSlab post edges slab [] → TakesNoneBelow y → TakesNoneBelow slab.y1
-  none_in_slab y slab e are none t taken =
-      by_lt_z t.j slab.y0
-      (λ lt. none t (record { from = taken.from; below = rw (← e) lt; taken = taken.taken }))
-      (λ ge. none_in_row t.j t (are.rows t.j ge taken.below) refl taken.taken)
-
-  pub none_at_all : (y : ℤ) → y ≡ window.y1 → TakesNoneBelow y → TakesNone post edges window
-  none_at_all y e none t taken = none t (record { from = taken.from; below = rw e taken.below; taken = taken.taken })
-
   -- a tile that is taken stands no further left in its row than the first run
   not_left_of_first : (j : ℤ) (run : Run) (later : List Run) (t : Tile) → AreRuns post edges j (run ∷ later) → t.j ≡ j → IsTaken post edges t → place run.left j ≤ℤ number_in_row t
   not_left_of_first j run later t are e taken =

@@ -331,15 +331,6 @@ paired_rest r f rises falls h = record {
   falls_within = All-tail Within f falls h.falls_within;
 }
 
-pub first_within : (r : Level) (rises falls : List Level) → ArePaired (r ∷ rises) falls → IsWithinReach r.y
-first_within r rises falls h = All-head Within r rises h.rises_within
-
-pub fall_within : (rises : List Level) (f : Level) (falls : List Level) → ArePaired rises (f ∷ falls) → IsWithinReach f.y
-fall_within rises f falls h = All-head Within f falls h.falls_within
-
-pub some_fall : (r : Level) (rises : List Level) → ArePaired (r ∷ rises) [] → ⊥
-some_fall r rises h = let n = h.as_many in absurd (omega (arith, n))
-
 none_so_far : (b : Bool) (z y : ℤ) → z ≡ y → (pos 0 +ℤ cond b z (pos 0)) ≡ cond b y (pos 0)
 none_so_far true z y h = omega (arith, ints, h)
 none_so_far false z y h = refl

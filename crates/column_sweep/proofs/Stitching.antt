@@ -82,9 +82,6 @@ module _ (window : RowRange) (seams : List Trapezoid) (pieces : All (IsPiece win
 
 -- ---- sewn again
 
-one_each : (n : ℕ) → n ≤ 1 → 0 < n → n ≡ 1
-one_each n h k = omega (arith, h, k)
-
 no_count : (n : ℕ) → (0 < n → ⊥) → n ≡ 0
 no_count zero h = refl
 no_count (suc n) h = absurd (h (omega arith))
@@ -137,10 +134,6 @@ module _ (window : RowRange) (finals seams more rest : List Trapezoid) (sewn : A
 
   pub same_again : HaveSameTiles (finals ++ more) rest finals seams
   same_again = total
-
--- a joined list alone
-more_none : (n : ℕ) → n + 0 ≡ n
-more_none n = omega arith
 
 pub joined_sewn : (window : RowRange) (traps : List Trapezoid) → IsJoined window traps → AreSewn window traps []
 joined_sewn window traps joined = record {

@@ -1,10 +1,12 @@
+-- ---- what is promised, in reading order
 pub mod Sweeps
-pub mod Tries
 pub mod ColumnLaws
 pub mod Lowest
-pub mod Looking
 pub mod Operands
 pub mod RowSums
+-- ---- what is kept inside
+pub mod Tries
+pub mod Looking
 pub mod Steps
 pub mod Parts
 pub mod Waiting

@@ -1,5 +1,5 @@
 -- The rows of the definitions, from the first one up.
-use Rattle.std.proofs.Common.{◌≡◌, ◌⊎◌, inl, inr, ℕ, zero, suc, ◌+◌, ◌*◌, ◌^◌, ◌<◌, ◌≤◌, ℤ, pos, neg_ℤ, ◌+ℤ◌, ◌-ℤ◌, ◌≤ℤ◌, ◌<ℤ◌, Bool, true, false, int_le, if◌then◌else◌, List, [], ◌∷◌, Option, Some, None, IfSome, IsSomeAnd, length, set, replicate, get_or, slice_get, refl, sym, ap, subst, ◌∙◌, arith}
+use Rattle.std.proofs.Common.{◌≡◌, ◌⊎◌, inl, inr, ℕ, zero, suc, ◌+◌, ◌^◌, ◌<◌, ◌≤◌, ℤ, pos, ◌≤ℤ◌, Bool, true, false, int_le, if◌then◌else◌, List, Option, Some, None, IfSome, IsSomeAnd, length, set, replicate, get_or, slice_get, refl, sym, ap, subst, ◌∙◌, arith}
 use Rattle.std.proofs.lemmas.Int.{ints, clamps}
 use Rattle.half_grid.specs.Nearness.{IsNear}
 use Rattle.half_grid.specs.Windows.{RowRange, row_range}
@@ -10,18 +10,15 @@ use Rattle.tone_mirror.specs.Frames.{IsInFrame}
 use Rattle.tone_mirror.specs.Mirrors.{mirrored_tile}
 use Rattle.layout_model.specs.declared.pair.Pair.{Pair}
 use Rattle.layout_model.specs.declared.cells.Cell.{Cell}
-use Rattle.cell_tree.specs.Boxes.{IsUpTo}
-use Rattle.square_size.specs.Ranges.{IsRectangle}
 use Rattle.bool_ops.specs.Operations.{IsInRows}
 use Rattle.deck_text.specs.declared.deck.Step.{Step}
 use Rattle.deck_text.specs.declared.deck.Step.TheVariants.{Layer, Or, And, Sub, Xor, Grow, Shrink, Invert, Mirror}
 use Rattle.deck_text.specs.declared.deck.Deck.{Deck}
-use Rattle.deck_text.specs.Sound.{IsSoundStep, AreSides, IsFrame}
+use Rattle.deck_text.specs.Sound.{IsSoundStep, IsFrame}
 use Rattle.deck_plan.specs.Areas.{IsInStep, IsInArea}
-use Rattle.deck_plan.specs.Needs.{operands_of, widened}
-use Rattle.deck_plan.specs.Extents.{IsInRowsOf, IsRowsUpTo, rows_bound, joined_rows, either_rows, wider_rows, frame_rows, option_rows, derived_rows, rows_at, AreRowsOf, AreExtents}
+use Rattle.deck_plan.specs.Extents.{IsInRowsOf, IsRowsUpTo, rows_bound, either_rows, wider_rows, option_rows, AreRowsOf, AreExtents}
 use Rattle.deck_plan.proofs.Slots.{get_cases, get_alike, set_length, alike_length}
-use Rattle.deck_plan.proofs.Sizes.{near_rows, near_itself}
+use Rattle.deck_plan.proofs.Sizes.{near_itself}
 use Rattle.deck_plan.proofs.StepLemmas.{area_step}
 
 -- ---- rows that a tile is in
@@ -100,9 +97,6 @@ near_layer n (Some w) h = record {
 -- ---- one step
 
 module _ (cells : List Cell) (top : ℕ) (frame : Option Frame) (area : ℕ → Tile → Type 0) (rows : List (Option RowRange)) (n : ℕ) (known : (a : ℕ) → a < n → (t : Tile) → area a t → IsInRowsOf (get_or rows a None) t) where
-  abbrev Derived : Step → Option RowRange
-  Derived step = derived_rows frame step (rows_at rows (slice_get (operands_of step) 0)) (rows_at rows (slice_get (operands_of step) 1))
-
   widen_in : (window : Option RowRange) (dx dy : ℤ) (t u : Tile) → IsNear dx dy t u → IsInRowsOf window u → IsInRowsOf (wider_rows dy window) t
   widen_in None dx dy t u near h = absurd h
   widen_in (Some w) dx dy t u near h = record { from = omega (arith, ints, h.from, near.rows.above, near.rows.below); below = omega (arith, ints, h.below, near.rows.above, near.rows.below) }

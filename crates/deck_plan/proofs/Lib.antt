@@ -1,3 +1,5 @@
+pub mod BandNumbers
+pub mod ForCallers
 pub mod Corners
 pub mod AreaLists
 pub mod Singles

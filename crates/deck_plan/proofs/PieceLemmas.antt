@@ -1,7 +1,7 @@
 -- The pieces of shapes, shape by shape.
-use Rattle.std.proofs.Common.{◌≡◌, ◌⊎◌, inl, inr, ℕ, zero, suc, ◌+◌, ◌<◌, ◌≤◌, ℤ, ◌≤ℤ◌, ◌<ℤ◌, List, [], ◌∷◌, Some, All, Any, length, slice_get, get_or, refl, sym, ap, subst, ◌∙◌, arith}
+use Rattle.std.proofs.Common.{◌≡◌, ◌⊎◌, inl, inr, ℕ, zero, suc, ◌+◌, ◌<◌, ◌≤◌, ℤ, ◌≤ℤ◌, List, [], ◌∷◌, Some, All, Any, length, slice_get, get_or, refl, sym, ap, subst, ◌∙◌, arith}
 use Rattle.std.proofs.lemmas.Int.{ints, clamps, by_lt_z}
-use Rattle.std.proofs.lemmas.Option.{slice_get_within, get_or_from_slice_get, slice_get-get_or, same_Some, none-some}
+use Rattle.std.proofs.lemmas.Option.{slice_get_within, get_or_from_slice_get, same_Some, none-some}
 use Rattle.std.specs.Int.{int_min, int_max}
 use Rattle.half_grid.specs.Outlines.{IsClosed}
 use Rattle.half_grid.specs.Trapezoids.{Trapezoid, CoversExactly}
@@ -13,8 +13,8 @@ use Rattle.layout_model.specs.declared.shapes.Shape.{Shape}
 use Rattle.layout_model.specs.declared.cells.Cell.{Cell}
 use Rattle.cell_tree.specs.Cells.{shapes_at}
 use Rattle.cell_tree.proofs.ForCallers.{shapes_on_grid}
-use Rattle.flat_walk.specs.Tables.{HasShape, IsCut, with_pieces, lists_at, no_pieces}
-use Rattle.flat_walk.proofs.ForCallers.{put_length, shape_stays, cut_here, cut_elsewhere, cut_beside, shape_at_first}
+use Rattle.flat_walk.specs.Tables.{HasShape, IsCut, with_pieces}
+use Rattle.flat_walk.proofs.ForCallers.{shape_stays, cut_here, cut_elsewhere, cut_beside}
 use Rattle.bool_ops.specs.Operations.{AreRowsOf, ArePieces}
 use Rattle.deck_plan.specs.Plans.{AreAllCut, AreCutUpTo, HaveShapes}
 
@@ -128,11 +128,3 @@ cell_of (cell ∷ cells) (suc n) k shape there = let h = cell_of cells n k shape
 -- all cells are cut
 pub all_cut : (cells : List Cell) (table : List (List (List Trapezoid))) (cell : ℕ) → length cells ≤ cell → AreCutUpTo cells table cell 0 → AreAllCut cells table
 all_cut cells table cell all cut = λ n k shape there. cut n k shape (inl (omega (arith, all, cell_of cells n k shape there))) there
-
-some_shape : (cells : List Cell) (n k : ℕ) (shapes : List Shape) → shapes_at cells n ≡ shapes → k < length shapes → HasShape (no_pieces cells) n k
-some_shape cells n k [] e inside = absurd (omega (arith, inside))
-some_shape cells n k (shape ∷ shapes) e inside =
-    shape_at_first cells n k (get_or (shape ∷ shapes) k shape) (ap (λ list. slice_get list k) e ∙ slice_get-get_or (shape ∷ shapes) k shape inside)
-
-pub first_shapes : (cells : List Cell) → HaveShapes cells (no_pieces cells)
-first_shapes cells = λ n k in_cells in_shapes. some_shape cells n k (shapes_at cells n) refl in_shapes

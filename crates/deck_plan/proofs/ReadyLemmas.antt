@@ -1,30 +1,29 @@
 -- The areas of the definitions of an output, from the first one up.
-use Rattle.std.proofs.Common.{◌≡◌, ◌∙◌, ◌⊎◌, inl, inr, ℕ, zero, suc, ◌+◌, ◌*◌, ◌^◌, ◌<◌, ◌≤◌, ℤ, pos, ◌+ℤ◌, ◌-ℤ◌, ◌≤ℤ◌, ◌<ℤ◌, List, [], ◌∷◌, ◌++◌, Option, Some, None, IfSome, IsSomeAnd, All, Contains, Bool, true, false, if◌then◌else◌, map, length, set, get_or, slice_get, refl, sym, ap, subst, arith, length-append}
+use Rattle.std.proofs.Common.{◌≡◌, ◌∙◌, ◌⊎◌, inl, inr, ℕ, zero, suc, ◌+◌, ◌^◌, ◌<◌, ◌≤◌, ℤ, pos, ◌+ℤ◌, ◌-ℤ◌, ◌≤ℤ◌, List, [], ◌∷◌, ◌++◌, Option, Some, None, IfSome, IsSomeAnd, All, Bool, true, false, if◌then◌else◌, map, length, set, get_or, slice_get, refl, sym, ap, subst, arith, length-append}
 use Rattle.std.proofs.lemmas.Int.{ints}
 use Rattle.std.proofs.lemmas.Bool.{eqb-true, false≢true}
 use Rattle.std.proofs.lemmas.List.Elements.{All-contains}
-use Rattle.half_grid.specs.Trapezoids.{Trapezoid, IsLegal, IsShot, CoversExactly}
+use Rattle.half_grid.specs.Trapezoids.{Trapezoid, IsLegal, IsShot}
 use Rattle.half_grid.specs.Windows.{RowRange, row_range}
 use Rattle.half_grid.specs.declared.plane.Tile.{Tile}
 use Rattle.layout_model.specs.declared.pair.Pair.{Pair}
 use Rattle.layout_model.specs.declared.cells.Cell.{Cell}
 use Rattle.trap_join.proofs.ForCallers.{all_members}
 use Rattle.cell_tree.specs.Flattening.{IsInLayer}
-use Rattle.square_size.specs.EdgeLaws.{IsInSome}
-use Rattle.bool_ops.specs.Operations.{IsInRows, IsJoinedOf}
+use Rattle.bool_ops.specs.Operations.{IsJoinedOf}
 use Rattle.deck_text.specs.declared.deck.Deck.{Deck}
 use Rattle.deck_text.specs.declared.deck.Step.{Step}
 use Rattle.deck_text.specs.declared.deck.Output.{Output}
 use Rattle.deck_text.specs.Sound.{IsSoundStep, IsFrame}
 use Rattle.deck_plan.specs.declared.needs.Taken.{Taken}
 use Rattle.deck_plan.specs.declared.needs.Need.{Need}
-use Rattle.deck_plan.specs.Areas.{IsInArea, IsInStep, IsInOutput, IsInBand}
-use Rattle.deck_plan.specs.Needs.{operands_of, Takes, IsBand, widened}
+use Rattle.deck_plan.specs.Areas.{IsInArea, IsInStep, IsInBand}
+use Rattle.deck_plan.specs.Needs.{Takes, IsBand, widened}
 use Rattle.cell_tree.specs.Boxes.{IsUpTo}
 use Rattle.std.proofs.lemmas.Option.{none-some, same_Some, get_or_from_slice_get}
 use Rattle.deck_plan.specs.Halos.{NeedIs, AreHalos, window_for}
 use Rattle.deck_plan.specs.Lists.{HasArea, IsListed, list_at}
-use Rattle.deck_plan.specs.Bounds.{IsTileUpTo, HasCornersUpTo, bound_of}
+use Rattle.deck_plan.specs.Bounds.{IsTileUpTo, HasCornersUpTo}
 use Rattle.deck_plan.specs.Ready.{IsReady, IsPast, IsHeld, AreHeld, ends_at, let_go}
 use Rattle.deck_plan.proofs.AreaLists.{covers_exactly}
 use Rattle.deck_plan.proofs.Corners.{corners_of_all}
@@ -290,8 +289,3 @@ window_near band halo b low high = (
 
 pub window_of : (band : RowRange) (need : Need) (found : Option Need) (window : RowRange) → found ≡ Some need → window ≡ window_for band found → window ≡ widened need.halo band
 window_of band need found window e is = is ∙ ap (window_for band) e
-
-pub list_is : {V : Type 0} (f : V → List Trapezoid) (vs : List V) (n : ℕ) (v : V) → n < length vs → list_at (map f vs) n ≡ f (get_or vs n v)
-list_is f [] n v inside = absurd (omega (arith, inside))
-list_is f (w ∷ vs) zero v inside = refl
-list_is f (w ∷ vs) (suc n) v inside = list_is f vs n v (omega (arith, inside))

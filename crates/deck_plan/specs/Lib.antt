@@ -1,6 +1,9 @@
+-- ---- what is promised, in reading order
 pub mod Areas
 pub mod Plans
 pub mod Needs
+pub mod Bands
+-- ---- what is kept inside
 pub mod Lists
 pub mod Bounds
 pub mod Rings

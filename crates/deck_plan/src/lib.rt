@@ -4,6 +4,7 @@
 //! definitions that the output uses, each computed once in the rows that it needs. Numbers are half units.
 #![tactic(auto)]
 
+mod bands;
 mod cutting;
 mod extents;
 mod layers;
@@ -16,5 +17,6 @@ mod steps;
 mod tests;
 mod windows;
 
+pub use bands::{first_band, next_band};
 pub use cutting::cut_parts;
 pub use plans::Plan;

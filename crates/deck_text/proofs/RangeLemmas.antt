@@ -1,12 +1,11 @@
 -- Numbers in range.
 use Rattle.std.proofs.Common.{◌≡◌, Bool, true, false, ◌||◌, List, [], ◌∷◌, Option, Some, None, refl, sym, subst, arith}
 use Rattle.std.specs.Prelude.{ℤ, pos, negsuc, ◌≤ℤ◌, ◌+ℤ◌, int_lt, unsigned_abs, FitsSigned}
-use Rattle.std.proofs.lemmas.Int.{ints, to_z-of_z}
+use Rattle.std.proofs.lemmas.Int.{ints}
 use Rattle.std.proofs.lemmas.Bool.{false≢true}
-use mir.Val.{to_z, of_z, Fits}
-use mir.Syntax.{w64, w32}
+use mir.Val.{Fits}
+use mir.Syntax.{w64}
 use lib.Dec.{T}
-use lib.Signed.{non_neg}
 use Rattle.deck_text.specs.Statements.{Statement, Sets, Defines, Writes, UnitIs, TopIs, BandIs, LimitsAre, FrameIs}
 use Rattle.deck_text.specs.Rules.{Bound, bound, is_outside, first_outside, within_reach, above, out_of_range}
 use Rattle.deck_text.specs.Decks.{unit_of}
@@ -55,19 +54,9 @@ unit_range (Writes a file layer datatype) n h e = absurd cc
 pub small_fits : (n : ℤ) → IsInside (bound n (pos 1) (pos 1000000)) → FitsSigned w64 n
 small_fits n h = omega (arith, ints)
 
-casts : (n : ℤ) → pos 1 ≤ℤ n → n ≤ℤ pos 1000000 → T (non_neg n) × Fits w32 (unsigned_abs n)
-casts (pos n) low high = (tt, omega (arith, ints))
-casts (negsuc n) low high = absurd (omega (arith, ints))
-
 value : (n : ℤ) → pos 1 ≤ℤ n → n ≡ pos (unsigned_abs n)
 value (pos n) low = refl
 value (negsuc n) low = absurd (omega (arith, ints))
-
-pub unit_casts : (n : ℤ) → IsInside (bound n (pos 1) (pos 1000000)) → T (non_neg (to_z w64 (of_z w64 n))) × Fits w32 (unsigned_abs (to_z w64 (of_z w64 n)))
-unit_casts n h = rw (to_z-of_z w64 n (small_fits n h)) (casts n h.low h.high)
-
-pub unit_value : (n : ℤ) → IsInside (bound n (pos 1) (pos 1000000)) → n ≡ pos (unsigned_abs (to_z w64 (of_z w64 n)))
-unit_value n h = rw (to_z-of_z w64 n (small_fits n h)) (value n h.low)
 
 -- ---- the frame
 

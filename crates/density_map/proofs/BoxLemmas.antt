@@ -4,7 +4,7 @@ use Rattle.std.proofs.lemmas.Int.{ints, clamps, by_lt_z}
 use Rattle.std.specs.Int.{int_min, int_max}
 use Rattle.half_grid.specs.Lines.{x_on}
 use Rattle.half_grid.specs.Rows.{place}
-use Rattle.half_grid.specs.Trapezoids.{Trapezoid, IsInTrapezoid, IsLegal}
+use Rattle.half_grid.specs.Trapezoids.{Trapezoid, IsInTrapezoid}
 use Rattle.half_grid.specs.declared.extent.Frame.{Frame}
 use Rattle.half_grid.specs.declared.plane.Line.{Line}
 use Rattle.half_grid.specs.declared.plane.Line.TheVariants.{Upright, Rising, Falling}
@@ -51,6 +51,3 @@ none_beside z frame side =
 corner : (l r : Line) (y0 y1 : ℤ) → pos 0 ≤ℤ (x_on r y0 -ℤ x_on l y0) → pos 0 ≤ℤ (x_on r y1 -ℤ x_on l y1) → pos 0 <ℤ ((x_on r y0 -ℤ x_on l y0) +ℤ (x_on r y1 -ℤ x_on l y1))
     → int_min (x_on l y0) (x_on l y1) <ℤ int_max (x_on r y0) (x_on r y1)
 corner l r y0 y1 a b c = omega (arith, ints, clamps)
-
-pub box_wide : (z : Trapezoid) → IsLegal z → least_x z <ℤ greatest_x z
-box_wide z h = corner z.left z.right z.y0 z.y1 h.bottom h.top h.not_flat

@@ -30,8 +30,3 @@ odd_step (negsuc n) =
     let twice : natural ((negsuc n +ℤ negsuc n) +ℤ pos 1) ≡ 0 = natural_none ((negsuc n +ℤ negsuc n) +ℤ pos 1) (omega (arith, ints)) in
     let next : natural (negsuc n +ℤ pos 1) ≡ 0 = natural_none (negsuc n +ℤ pos 1) (omega (arith, ints)) in
     rw (twice, next) refl
-
-pub natural_up : (y z : ℤ) → y ≤ℤ z → natural y ≤ natural z
-natural_up (pos m) (pos n) h = omega (arith, ints, h)
-natural_up (pos m) (negsuc n) h = absurd (omega (arith, ints, h))
-natural_up (negsuc m) z h = omega arith

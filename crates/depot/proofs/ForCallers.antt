@@ -1,5 +1,5 @@
--- Facts about files and contents, for the proofs of callers: what a name has after a file was made, and how
--- pieces that are written one after another add up.
+-- Facts about files and contents, for the proofs of callers: what a name has after a file was made, how pieces that are
+-- written one after another add up, and how what was said and what a buffer holds do.
 use Rattle.std.proofs.Common.{Result, Ok, Err, OnErr, ◌≡◌, ℕ, ◌+◌, ◌≤◌, ◌<◌, Bool, true, false, cond, List, [], ◌∷◌, ◌++◌, length, take, drop, Option, None, Some, unwrap_or, IsSomeAnd, refl, sym, ap, ◌∙◌, arith, append_assoc, subst, inl, inr}
 use Rattle.std.proofs.lemmas.List.{append-nil, take-take, drop-take, take-append-drop}
 use Rattle.std.specs.Ordering.{nat_cmp, eq_by_cmp, is_eq}
@@ -12,6 +12,7 @@ use Rattle.std.specs.FinMap.{get, insert, get-insert, same_map, slice_cmp-IsAnti
 use Rattle.depot.specs.Content.{Files, Content, appended, with_written, with_said, with_file, with_current, begun, IsPartWritten, IsPartMade, IsNotThere, IsLongerThan}
 use Rattle.depot.specs.Sure.{Sure, sure_content}
 use Rattle.depot.specs.Counts.{Counts, NeverFall, Rose}
+pub use Rattle.depot.proofs.SaidSoFar.{hold_more, part_held, part_of_longer, part_of_more_texts, part_of_texts, said_then, say_held, texts_more}
 
 -- two names tie in the order of names
 abbrev tie : List ℕ → List ℕ → Bool
@@ -38,11 +39,6 @@ overwritten false v w o = refl
 pub insert-insert_same : (m : Files) (k v w : List ℕ) → insert (insert m k v) k w ≡ insert m k w
 insert-insert_same m k v w =
     same_files _ _ (λ q. get-insert-tie (insert m k v) k w q ∙ ap (cond (tie q k) (Some w)) (get-insert-tie m k v q) ∙ overwritten (tie q k) v w (get m q) ∙ sym (get-insert-tie m k w q))
-
--- what a name has, after bytes were put behind what it had
-pub get-appended : (m : Files) (k bytes : List ℕ) → unwrap_or (get (appended m (Some k) bytes) k) [] ≡ unwrap_or (get m k) [] ++ bytes
-get-appended m k [] = sym (append-nil _)
-get-appended m k (b ∷ bytes) = ap (λ o. unwrap_or o []) (get-insert_same m k _)
 
 -- two pieces that are written one after another are written as one
 pub appended-appended : (m : Files) (current : Option (List ℕ)) (a b : List ℕ) → appended (appended m current a) current b ≡ appended m current (a ++ b)

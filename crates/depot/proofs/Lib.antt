@@ -2,3 +2,4 @@ pub mod ForCallers
 mod Reading
 mod FilingLemmas
 mod StoreLemmas
+pub mod SaidSoFar

@@ -1,6 +1,5 @@
 -- What a store shows, from its lists of files.
-use Rattle.std.proofs.Common.{◌≡◌, ℕ, zero, suc, ◌+◌, ◌≤◌, ◌<◌, List, [], length, drop, Option, None, Some, MatchOption, is_some, unwrap_or, option_map, refl, sym, ap, ◌∙◌, subst, arith}
-use Rattle.std.proofs.lemmas.List.{drop-drop}
+use Rattle.std.proofs.Common.{◌≡◌, ℕ, List, [], Option, None, Some, MatchOption, is_some, unwrap_or, option_map, refl, sym, ap, ◌∙◌, subst, arith}
 use Rattle.std.specs.FinMap.{get}
 use Rattle.depot.specs.Content.{Files, Content, appended}
 use Rattle.depot.specs.declared.filing.File.{File}
@@ -23,23 +22,6 @@ left_of-start fs (Some i) = refl
 pub is_some-map : (fs : List File) (o : Option ℕ) → is_some (option_map (bytes_at fs) o) ≡ is_some o
 is_some-map fs None = refl
 is_some-map fs (Some i) = refl
-
-drop_none : (m : ℕ) → ◌≡◌ {A = List ℕ} [] (drop m [])
-drop_none zero = refl
-drop_none (suc m) = refl
-
-pub left_of-more : (fs : List File) (o : Option ℕ) (n m : ℕ) → left_of fs o (n + m) ≡ drop m (left_of fs o n)
-left_of-more fs None n m = drop_none m
-left_of-more fs (Some i) n m = sym (drop-drop m n (bytes_at fs i))
-
-pub IsReadAt-some : (fs : List File) (o : Option ℕ) (i n : ℕ) → o ≡ Some i → IsReadAt fs o n → (i < length fs) × (n ≤ length (bytes_at fs i))
-IsReadAt-some fs o i n is at = subst (λ x. IsReadAt fs x n) is at
-
-pub IsReadAt-from : (fs : List File) (o : Option ℕ) (i n : ℕ) → o ≡ Some i → i < length fs → n ≤ length (bytes_at fs i) → IsReadAt fs o n
-IsReadAt-from fs o i n is lt le = subst (λ x. IsReadAt fs x n) (sym is) (lt, le)
-
-pub left_of-some : (fs : List File) (o : Option ℕ) (i n : ℕ) → o ≡ Some i → left_of fs o n ≡ drop n (bytes_at fs i)
-left_of-some fs o i n is = ap (λ x. left_of fs x n) is
 
 pub IsPlace-own : (fs : List File) (name : List ℕ) (i : ℕ) → IsPlace fs name i → IsPlace fs (name_at fs i) i
 IsPlace-own fs name i at = subst (λ k. IsPlace fs k i) (sym (name_at-place fs name i at)) at

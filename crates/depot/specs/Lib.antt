@@ -1,8 +1,11 @@
+-- ---- what is promised, in reading order
 pub mod Content
 pub mod Counts
+pub mod Printing
 pub mod Refusals
 pub mod StoreView
 pub mod Filing
 pub mod Memory
 pub mod Sure
+-- ---- what is kept inside
 pub mod System

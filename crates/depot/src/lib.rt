@@ -1,10 +1,12 @@
-//! The outside of the program: files by name, and what it says. Files in memory, real files, and whole reads and writes.
+//! The outside of the program: files by name, and what it says. Files in memory, real files, whole reads and writes, and
+//! what is said piece by piece.
 #![tactic(auto)]
 
 mod buffer;
 mod filing;
 mod memory;
 mod outside;
+mod printing;
 mod real;
 mod store;
 mod sure;
@@ -12,7 +14,8 @@ mod whole;
 
 pub use buffer::{BUFFER_SIZE, Buffer};
 pub use memory::MemDepot;
-pub use outside::{Depot, DepotBad};
+pub use outside::{Depot, DepotBad, Progress};
+pub use printing::{flush, put_piece};
 pub use real::FileDepot;
 pub use sure::{SureDepot, nothing_fails};
 pub use whole::{Refused, make_file, read_all, say_whole, write_whole};

@@ -7,7 +7,7 @@ ghost use Rattle.depot.specs.Counts.{NeverFall};
 ghost use Rattle.depot.specs.Memory.{new_memory, memory_content, is_told, with_content, next_call, with_failing, most_moved, read_fault, write_fault, memory_refused};
 ghost use Rattle.depot.specs.declared.outside.DepotBad.TheVariants.{Failed, NoMemory as Wanting};
 
-use crate::outside::{Depot, DepotBad};
+use crate::outside::{Depot, DepotBad, Progress};
 use crate::store::Store;
 use geo_stream::NoMemory;
 use std::alloc::Global;
@@ -264,4 +264,9 @@ impl Depot for MemDepot {
             Err(NoMemory) => Err(self.refuse()),
         }
     }
+
+    /// It does nothing, and isn't one of the numbered calls.
+    fn note(&mut self, _progress: Progress)
+        ensures { self.new ≡ self.old }
+    {}
 }

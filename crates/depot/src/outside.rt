@@ -12,6 +12,17 @@ pub enum DepotBad {
     NoMemory,
 }
 
+/// How far the writing of an output is that is made band by band.
+#[derive(Clone, Copy, Debug, PartialEq, Eq)]
+pub struct Progress {
+    /// How many of its bands are written.
+    pub band: u64,
+    /// How many bands it has.
+    pub bands: u64,
+    /// How many shots are written.
+    pub shots: u128,
+}
+
 /// A store of files, and standard output: all that the program uses of the outside. One file at a time is
 /// read, and one is written. Files that are made aren't seen by a read. A call that succeeds counts nothing, and
 /// those that write or say never count a fault of reading.
@@ -103,4 +114,10 @@ pub trait Depot {
         ensures uncounted { OnOk result (counts self.new ≡ counts self.old) }
         ensures reads { (counts self.new).read_faults ≡ (counts self.old).read_faults }
         ensures counted { NeverFall (counts self.old) (counts self.new) };
+
+    /// Is told how far the output is that is being written, so that it can show it. It does nothing else: its content
+    /// and its counts are as before.
+    fn note(&mut self, progress: Progress)
+        ensures content { content self.new ≡ content self.old }
+        ensures counts { counts self.new ≡ counts self.old };
 }

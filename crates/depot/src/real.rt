@@ -6,7 +6,7 @@ ghost use Rattle.depot.specs.System.{IsOutOfMemory, faults_after, wants_after};
 ghost use Rattle.depot.specs.declared.outside.DepotBad.TheVariants.{Failed, NoMemory as Wanting};
 ghost use Rattle.depot.specs.Content.{nothing};
 
-use crate::outside::{Depot, DepotBad};
+use crate::outside::{Depot, DepotBad, Progress};
 use std::fs::File;
 use std::io::{self, ErrorKind, Read, Write};
 use std::rt::{Files, Runtime};
@@ -238,4 +238,9 @@ impl<R: Runtime> Depot for FileDepot<R> {
             &mut self.refused,
         )
     }
+
+    /// It does nothing.
+    fn note(&mut self, _progress: Progress)
+        ensures { self.new ≡ self.old }
+    {}
 }

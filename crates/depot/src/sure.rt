@@ -6,7 +6,7 @@ ghost use Rattle.depot.specs.Content.{with_held, with_left, begun, with_current,
 ghost use Rattle.depot.specs.Sure.{NothingFails, new_sure, sure_content, sure_counts, with_content, sure_refused};
 ghost use Rattle.depot.specs.declared.outside.DepotBad.TheVariants.{NoMemory as Wanting};
 
-use crate::outside::{Depot, DepotBad};
+use crate::outside::{Depot, DepotBad, Progress};
 use crate::store::Store;
 use geo_stream::NoMemory;
 use std::alloc::Global;
@@ -144,6 +144,11 @@ impl Depot for SureDepot {
             Err(NoMemory) => Err(self.refuse()),
         }
     }
+
+    /// It does nothing.
+    fn note(&mut self, _progress: Progress)
+        ensures { self.new ≡ self.old }
+    {}
 }
 
 /// The law that no call over a `SureDepot` answers `Failed`: neither count of faults rises, and each name is there.

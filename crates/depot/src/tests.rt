@@ -1,7 +1,7 @@
 // One happy path of each public call over each depot, and a refusal of each kind.
 use crate::{
-    Depot, FileDepot, MemDepot, Refused, SureDepot, make_file, nothing_fails, read_all, say_whole,
-    write_whole,
+    Buffer, Depot, FileDepot, MemDepot, Progress, Refused, SureDepot, flush, make_file,
+    nothing_fails, put_piece, read_all, say_whole, write_whole,
 };
 use std::alloc::Global;
 use std::fs;
@@ -9,10 +9,15 @@ use std::test::Fail;
 
 const LIMIT: usize = 268_435_456;
 
-// Reads one file, makes another of its bytes, and says a line.
+// Reads one file, makes another of its bytes, tells how far that is, and says a line.
 fn copy<D: Depot>(alloc: Global, depot: &mut D) -> Result<(), Refused> {
     let bytes = read_all(alloc, depot, "in", LIMIT)?;
     make_file(depot, "out", &bytes)?;
+    depot.note(Progress {
+        band: 1,
+        bands: 1,
+        shots: 2,
+    });
     say_whole(depot, b"done\n")?;
     Ok(())
 }
@@ -118,5 +123,19 @@ fn real_files(rt: HostRuntime) -> Result<(), Fail> {
     let missing = read_all(rt.alloc(), &mut depot, "depot-test.tmp", LIMIT);
     assert_eq!(rt; missing.err(), Some(Refused::Fault));
     say_whole(&mut depot, b"done\n")?;
+    Ok(())
+}
+
+#[test]
+fn a_long_piece(rt: HostRuntime) -> Result<(), Fail> {
+    let mut depot = MemDepot::new(rt.alloc());
+    let mut buffer = Buffer::new();
+    put_piece(&mut depot, &mut buffer, b"check refused: ")?;
+    put_piece(&mut depot, &mut buffer, &[b'x'; 9000])?;
+    put_piece(&mut depot, &mut buffer, b": head at 0\n")?;
+    flush(&mut depot, &mut buffer)?;
+    assert_eq!(rt; depot.said().len(), 15 + 9000 + 12);
+    assert!(rt; depot.said().starts_with(b"check refused: x"));
+    assert!(rt; depot.said().ends_with(b"x: head at 0\n"));
     Ok(())
 }

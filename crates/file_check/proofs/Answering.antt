@@ -12,7 +12,7 @@ use Rattle.shot_reader.specs.declared.reading.ShotFile.{ShotFile}
 use Rattle.shot_reader.specs.declared.refusing.ShotBad.{ShotBad}
 use Rattle.shot_reader.specs.declared.refusing.ShotBad.TheVariants.{Head, Record, Spelling, Illegal, End, NoMemory as Wanting}
 use Rattle.shot_writer.specs.declared.parts.Sums.{Sums}
-use Rattle.output_check.specs.Certificates.{IsCertified}
+use Rattle.file_check.specs.Certificates.{IsCertified}
 use Rattle.file_check.specs.Files.{Holds, HasHeadOf, IsTextOf, AreSumsOf, IsExactText, IsExactFile, IsFaultOf, IsFileFault, OfOutput, AreExactFiles, IsFirstFileFault}
 use Rattle.file_check.specs.Judgements.{data_of, IsShotsFault, IsBytesFault}
 use Rattle.file_check.specs.declared.faults.CheckFault.{CheckFault}
@@ -100,9 +100,6 @@ first_before p before now old new bad e f h = record {
 
 pub left_again : (a b c : Content) → ChangesLeftOnly a b → ChangesLeftOnly b c → ChangesLeftOnly a c
 left_again a b c e f = f ∙ ap (λ (x : Content). with_left x c.left) e
-
-pub no_files : (p : Planned) (c : Content) → AreExactFiles p c 0 []
-no_files p c = record { count = refl; each = λ k sum at. absurd (let within = slice_get_within [] k sum at in omega (arith, within)) }
 
 pub counted : (sums after : List Sums) (sum : Sums) (n : ℕ) → after ≡ sums ++ sum ∷ [] → length sums ≡ n → length after ≡ n + 1
 counted sums after sum n pushed count = let lengths = length-append sums (sum ∷ []) in rw pushed (omega (arith, lengths, count))

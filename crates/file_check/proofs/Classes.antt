@@ -17,8 +17,8 @@ use Rattle.shot_writer.specs.declared.parts.Sums.{Sums}
 use Rattle.shot_checker.specs.Verdicts.{IsFirstTooLarge}
 use Rattle.shot_checker.specs.declared.verdicts.Verdict.{Verdict}
 use Rattle.shot_checker.specs.declared.verdicts.Verdict.TheVariants.{Exact, Miscovered, TooLarge}
-use Rattle.output_check.specs.Certificates.{area_of}
-use Rattle.output_check.proofs.ForCallers.{one_miscover, not_covered, not_all_fit}
+use Rattle.file_check.specs.Certificates.{area_of}
+use Rattle.file_check.proofs.Certifying.{one_fault as one_miscover, not_covered, not_all_fit}
 use Rattle.file_check.specs.Files.{ShotData, IsTextOf, HasHeadOf, IsVerdictOn, HasOtherHead, Holds, IsExactFile, IsFaultOf, OfOutput, AreExactFiles, IsFileFault, IsFirstFileFault}
 use Rattle.file_check.specs.declared.faults.CheckFault.{CheckFault}
 use Rattle.file_check.specs.declared.faults.CheckFault.TheVariants as faults

@@ -1,3 +1,8 @@
+mod Sorting
+mod Passing
+mod FaultLemmas
+mod Covers
+mod Certifying
 mod Lengths
 mod Answering
 mod Classes

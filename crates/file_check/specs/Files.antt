@@ -19,7 +19,7 @@ use Rattle.shot_writer.specs.declared.parts.Sums.{Sums}
 use Rattle.shot_checker.specs.Verdicts.{IsFirstTooLarge}
 use Rattle.shot_checker.specs.declared.verdicts.Verdict.{Verdict}
 use Rattle.shot_checker.specs.declared.verdicts.Verdict.TheVariants as verdicts
-use Rattle.output_check.specs.Certificates.{IsCertified, IsMiscover}
+use Rattle.file_check.specs.Certificates.{IsCertified, IsMiscover}
 use Rattle.file_check.specs.declared.faults.CheckFault.{CheckFault}
 use Rattle.file_check.specs.declared.faults.CheckFault.TheVariants as faults
 use Rattle.file_check.specs.declared.faults.CheckBad.{CheckBad}

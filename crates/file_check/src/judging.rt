@@ -1,15 +1,15 @@
 //! The bytes of a shot file, judged for an output.
 ghost use Rattle.std.specs.Prelude.{◌≡◌, ◌≢◌, ◌≤◌, ◌<◌, ◌*◌, ◌↔◌, Err, IsTrue, IfOk, IfErr, IfSome, All, length};
 ghost use Rattle.shot_checker.specs.Verdicts.{Fits};
-ghost use Rattle.output_check.specs.Certificates.{IsCertified};
+ghost use Rattle.file_check.specs.Certificates.{IsCertified};
 ghost use Rattle.file_check.specs.Files.{HasHeadOf, AreSumsOf, IsExactText, OfOutput};
 ghost use Rattle.file_check.specs.Judgements.{data_of, IsBytesFault, IsShotsFault};
 
+use crate::certificates::check_output;
 use crate::faults::{CheckBad, CheckFault};
 use deck_plan::Plan;
 use deck_text::Output;
 use half_grid::Trap;
-use output_check::check_output;
 use shot_checker::Verdict;
 use shot_reader::{ShotBad, ShotFile, read_shots};
 use shot_writer::{Sums, triangles_in};

@@ -1,13 +1,20 @@
-//! The shot files of a deck's outputs, checked: whoever made them, Exact means exact.
+//! The shot files of a deck's outputs, checked: whoever made them, Exact means exact. The certificate of an output is
+//! the verdict on whether shots cover the area that a deck denotes exactly.
 //!
 //! Numbers are half units.
 #![tactic(auto)]
 
+#[cfg(test)]
+mod certificate_tests;
+mod certificates;
 mod checking;
 mod faults;
+mod front;
 mod judging;
+mod outside;
 #[cfg(test)]
 mod tests;
 
+pub use certificates::check_output;
 pub use checking::check_files;
 pub use faults::{CheckBad, CheckFault};

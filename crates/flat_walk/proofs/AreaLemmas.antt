@@ -1,38 +1,34 @@
 -- The quadrilaterals of a walk and the area of a pair: a tile of the window's rows is in one of them exactly where it is in
 -- the area.
-use Rattle.std.proofs.Common.{◌≡◌, ◌≢◌, ◌⊎◌, inl, inr, ℕ, ℤ, zero, suc, pos, neg_ℤ, ◌≤◌, ◌≤ℤ◌, ◌<ℤ◌, Bool, true, false, cond, List, [], ◌∷◌, ◌++◌, Option, Some, None, Any, map, slice_get, length, int_lt, nat_eq, ◌&&◌, refl, sym, ap, subst, ◌∙◌, arith}
+use Rattle.std.proofs.Common.{◌≡◌, ◌≢◌, inl, inr, ℕ, ℤ, zero, suc, pos, neg_ℤ, ◌≤◌, ◌≤ℤ◌, ◌<ℤ◌, Bool, true, false, cond, List, [], ◌∷◌, Option, Some, None, map, slice_get, int_lt, nat_eq, ◌&&◌, refl, sym, ap, subst, ◌∙◌, arith}
 use Rattle.std.specs.Int.{int_min, int_max}
 use Rattle.std.specs.List.{filter, flat_map, AllByRecursion}
 use Rattle.std.specs.Option.{option_map_or}
 use Rattle.std.proofs.lemmas.Int.{ints, clamps, by_lt_z}
-use Rattle.std.proofs.lemmas.List.Elements.{recursion_from_All}
 use Rattle.std.proofs.lemmas.Option.{none-some, same_Some}
 use Rattle.std.proofs.lemmas.Bool.Decides.{nat_tests}
-use Rattle.half_grid.specs.Outlines.{IsOnGrid}
 use Rattle.half_grid.specs.Quads.{Corners, ring_of, corners_of}
-use Rattle.half_grid.specs.Trapezoids.{Trapezoid, IsShot, IsInTrapezoid, CoversExactly, count_in, trapezoid_has}
-use Rattle.half_grid.specs.Winding.{winding, IsInPolygon, edges_of, count_one}
+use Rattle.half_grid.specs.Trapezoids.{Trapezoid, IsShot, CoversExactly, count_in, trapezoid_has}
+use Rattle.half_grid.specs.Winding.{winding, IsInPolygon, count_one}
 use Rattle.half_grid.specs.Windows.{RowRange}
 use Rattle.half_grid.specs.declared.plane.Tile.{Tile}
 use Rattle.half_grid.specs.declared.plane.Point.{Point}
 use Rattle.half_grid.proofs.ForCallers.{has_in, ring_inside, ring_outside, count_by-cons, closed_under, closed_over}
-use Rattle.layout_model.specs.Images.{image_of, moved}
+use Rattle.layout_model.specs.Images.{moved}
 use Rattle.layout_model.specs.Layouts.{IsMove, IsShapeOnGrid, IsPlacementOnGrid}
 use Rattle.layout_model.specs.declared.pair.Pair.{Pair}
-use Rattle.layout_model.specs.declared.orient.Orient.{Orient}
 use Rattle.layout_model.specs.declared.shapes.Shape.{Shape}
 use Rattle.layout_model.specs.declared.cells.Placement.{Placement}
-use Rattle.layout_model.specs.declared.cells.Cell.{Cell}
 use Rattle.cell_tree.specs.Cells.{shapes_at, placements_at, cell_number}
 use Rattle.cell_tree.specs.Chains.{IsReachable}
-use Rattle.cell_tree.specs.Flattening.{placed_things, things_within, Flat, flats_of_shape, own_flats, flat_image, flattened, IsInLayer}
+use Rattle.cell_tree.specs.Flattening.{placed_things, things_within, Flat, flats_of_shape, own_flats, flat_image, flattened}
 use Rattle.cell_tree.proofs.ForCallers.{top_reachable, reach_more, shapes_on_grid, on_grid, Has, has_any, any_has, has_left, has_right, has_split, has_slot, slot_has, has_flat, flat_has, has_map, map_has}
 use Rattle.flat_walk.specs.Quads.{quad_image, moved_quad, lowest_of, highest_of, has_row_in}
-use Rattle.flat_walk.specs.Tables.{lists_at, IsKept, AreKept}
+use Rattle.flat_walk.specs.Tables.{lists_at, IsKept}
 use Rattle.flat_walk.specs.Walks.{is_on, pieces_of_shape, pieces_of_shapes, own_pieces, placed_pieces, pieces_in, CoversLayer}
 use Rattle.flat_walk.specs.Ways.{IsScene, cells_of}
 use Rattle.flat_walk.specs.declared.scenes.Scene.{Scene}
-use Rattle.flat_walk.proofs.AllThings.{each_both, each_map, each_flat, all_things}
+use Rattle.flat_walk.proofs.AllThings.{each_map, each_flat, all_things}
 use Rattle.flat_walk.proofs.Motions.{IsLoop, signed, before_move, before_image, move_loop, move_winding, image_loop, image_winding, even_sum}
 use Rattle.flat_walk.proofs.RestLemmas.{slot_all}
 use Rattle.flat_walk.proofs.RingImages.{IsRing, ring_image, quad_winding, shot_ring}
@@ -47,10 +43,6 @@ On pair t flat = (flat.pair ≡ pair) × IsInPolygon flat.points t
 has_on : {X : Type 0} (L P Q : X → Type 0) (xs : List X) → AllByRecursion L xs → ((x : X) → L x → P x → Q x) → Has P xs → Has Q xs
 has_on L P Q [] all step h = absurd h
 has_on L P Q (x ∷ xs) all step h = elim h [ inl p ↦ inl (step x all.0 p) | inr r ↦ inr (has_on L P Q xs all.1 step r) ]
-
-has_each : {X : Type 0} (P Q : X → Type 0) (xs : List X) → ((x : X) → P x → Q x) → Has P xs → Has Q xs
-has_each P Q [] step h = absurd h
-has_each P Q (x ∷ xs) step h = elim h [ inl p ↦ inl (step x p) | inr r ↦ inr (has_each P Q xs step r) ]
 
 -- ---- the pieces of shapes, by number
 

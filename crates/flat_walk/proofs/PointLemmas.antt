@@ -1,10 +1,9 @@
 -- Points, how far they are from 0, and what becomes of that.
-use Rattle.std.proofs.Common.{◌≡◌, ℕ, ℤ, zero, suc, pos, negsuc, neg_ℤ, ◌+ℤ◌, ◌*ℤ◌, ◌≤ℤ◌, ◌+◌, ◌*◌, ◌^◌, ◌≤◌, Bool, true, false, refl, sym, ap, subst, ◌∙◌, arith}
+use Rattle.std.proofs.Common.{◌≡◌, ℕ, ℤ, zero, suc, pos, negsuc, neg_ℤ, ◌*ℤ◌, ◌≤ℤ◌, ◌+◌, ◌*◌, ◌≤◌, Bool, true, false, sym, subst, arith}
 use Rattle.std.proofs.Math.IntN.{pos-*ℤ-pos, pos-*ℤ-negsuc}
 use Rattle.std.proofs.Math.Nat.{mul-le-mul}
 use Rattle.std.proofs.lemmas.Int.{ints}
 use Rattle.half_grid.specs.declared.plane.Point.{Point}
-use Rattle.half_grid.specs.Reach.{IsPointWithinReach}
 use Rattle.layout_model.specs.Images.{moved, turned, flipped, enlarged, quarter_turn, image_of}
 use Rattle.layout_model.specs.declared.orient.Orient.{Orient}
 use Rattle.flat_walk.specs.Poses.{oriented}
@@ -32,11 +31,6 @@ enlarged_within mag bound p small near =
     let x = product_between mag bound p.x small (record { low = near.x_low; high = near.x_high }) in
     let y = product_between mag bound p.y small (record { low = near.y_low; high = near.y_high }) in
     record { x_low = x.low; x_high = x.high; y_low = y.low; y_high = y.high }
-
-pub reach_within : (p : Point) → IsPointWithinReach p → IsWithin (2 ^ 53) p
-reach_within p reach =
-    let a = reach.x.low in let b = reach.x.high in let c = reach.y.low in let d = reach.y.high in
-    record { x_low = omega (arith, ints); x_high = omega (arith, ints); y_low = omega (arith, ints); y_high = omega (arith, ints) }
 
 pub enlarged_near : (mag bound : ℕ) (p q : Point) → mag ≤ 16 → IsWithin bound p → q ≡ enlarged mag p → IsWithin (16 * bound) q
 enlarged_near mag bound p q small near is = subst (IsWithin (16 * bound)) (sym is) (enlarged_within mag bound p small near)

@@ -1,5 +1,5 @@
 -- Lists with marks, and what is skipped of them.
-use Rattle.std.proofs.Common.{◌≡◌, ℕ, zero, suc, ◌+◌, ◌<◌, ◌≤◌, Bool, true, false, cond, not, List, [], ◌∷◌, ◌++◌, Option, Some, None, All, IfSome, MatchOption, map, drop, length, slice_get, refl, sym, ap, subst, ◌∙◌, arith, append_assoc, append-nil}
+use Rattle.std.proofs.Common.{◌≡◌, ℕ, zero, suc, ◌+◌, ◌≤◌, Bool, true, false, not, List, [], ◌∷◌, ◌++◌, Option, Some, None, All, map, drop, length, slice_get, refl, sym, ap, subst, ◌∙◌, arith, append_assoc, append-nil}
 use Rattle.std.specs.List.{filter, flat_map, AllByRecursion}
 use Rattle.std.proofs.lemmas.List.{map-append}
 use Rattle.std.proofs.lemmas.List.Elements.{filter-append, All-head, All-tail, All-from_recursion}
@@ -19,9 +19,6 @@ use Rattle.flat_walk.specs.Hands.{steps_of, steps_from}
 use Rattle.flat_walk.proofs.PoseLemmas.{quad_moved}
 
 -- ---- skipping
-
-pub skip_none : (w : RowRange) (a : List (Option Corners)) → Skips w a a
-skip_none w a = record { front = []; is = refl; none = refl }
 
 pub skip_same : (w : RowRange) (a b : List (Option Corners)) → a ≡ b → Skips w a b
 skip_same w a b e = record { front = []; is = e; none = refl }
@@ -102,13 +99,6 @@ places_on orient at by pair shape pieces place on at_place =
 pub places_off : (pair : Pair) (shape : Shape) (pieces : List Trapezoid) (place : ℕ) → is_on pair shape ≡ false → places_rest pair shape pieces place ≡ []
 places_off pair shape pieces place off = rw off refl
 
-places_none : (b : Bool) (pieces : List Trapezoid) (offsets : List Point) → offsets ≡ [] → cond b (flat_map (λ by. map (λ piece. moved_quad by (corners_of piece)) pieces) offsets) [] ≡ []
-places_none true pieces offsets e = rw e refl
-places_none false pieces offsets e = refl
-
-pub places_past : (pair : Pair) (shape : Shape) (pieces : List Trapezoid) (place : ℕ) → length shape.offsets ≤ place → places_rest pair shape pieces place ≡ []
-places_past pair shape pieces place past = places_none (is_on pair shape) pieces (drop place shape.offsets) (drop_past shape.offsets place past)
-
 pub shapes_from_first : (pair : Pair) (shapes : List Shape) (lists : List (List Trapezoid)) → shapes_rest pair shapes lists 0 ≡ pieces_of_shapes pair shapes lists
 shapes_from_first pair [] lists = refl
 shapes_from_first pair (shape ∷ shapes) [] = refl
@@ -138,34 +128,12 @@ pub cursor_skip : (orient : Orient) (at : Point) (pair : Pair) (shapes rest : Li
 cursor_skip orient at pair shapes rest shape lists later pieces place is are none =
     rw (is, are) (placed_rest_is orient at pair shape rest pieces later place ∙ (rw none (ap (map (quad_image orient at)) (sym (shapes_from_first pair rest later)))))
 
--- a place of a shape
-pub cursor_take : (orient : Orient) (at : Point) (pair : Pair) (shapes rest : List Shape) (shape : Shape) (lists later : List (List Trapezoid)) (pieces : List Trapezoid) (place : ℕ) (hand : List Corners)
-    → shapes ≡ shape ∷ rest → lists ≡ pieces ∷ later → map (quad_image orient at) (places_rest pair shape pieces place) ≡ hand ++ map (quad_image orient at) (places_rest pair shape pieces (place + 1))
-    → placed_rest orient at pair shapes lists place ≡ hand ++ placed_rest orient at pair shapes lists (place + 1)
-cursor_take orient at pair shapes rest shape lists later pieces place hand is are here =
-    rw (is, are) (placed_rest_is orient at pair shape rest pieces later place
-    ∙ (ap (λ l. l ++ map (quad_image orient at) (pieces_of_shapes pair rest later)) here
-    ∙ (append_assoc hand (map (quad_image orient at) (places_rest pair shape pieces (place + 1))) (map (quad_image orient at) (pieces_of_shapes pair rest later))
-    ∙ ap (λ l. hand ++ l) (sym (placed_rest_is orient at pair shape rest pieces later (place + 1))))))
-
-pub cursor_none : (orient : Orient) (at : Point) (pair : Pair) (shapes : List Shape) (lists : List (List Trapezoid)) (place : ℕ) → lists ≡ [] → placed_rest orient at pair shapes lists place ≡ []
-cursor_none orient at pair [] lists place none = refl
-cursor_none orient at pair (shape ∷ shapes) lists place none = rw none refl
-
 steps_first : (shapes : List Shape) → steps_from shapes 0 ≡ steps_of shapes
 steps_first [] = refl
 steps_first (shape ∷ shapes) = refl
 
 pub steps_skip : (shapes rest : List Shape) (shape : Shape) (place : ℕ) → shapes ≡ shape ∷ rest → steps_from rest 0 ≤ steps_from shapes place
 steps_skip shapes rest shape place is = rw is (let e = steps_first rest in omega (arith, e))
-
-drop_long : {X : Type 0} (xs : List X) (k : ℕ) → k < length xs → length (drop k xs) ≡ suc (length (drop (k + 1) xs))
-drop_long [] k inside = absurd (omega arith)
-drop_long (x ∷ xs) zero inside = refl
-drop_long (x ∷ xs) (suc k) inside = let e : suc k + 1 ≡ suc (k + 1) = omega arith in rw e (drop_long xs k (omega arith))
-
-pub steps_take : (shapes rest : List Shape) (shape : Shape) (place : ℕ) → shapes ≡ shape ∷ rest → place < length shape.offsets → steps_from shapes (place + 1) < steps_from shapes place
-steps_take shapes rest shape place is inside = rw is (let e = drop_long shape.offsets place inside in omega (arith, e))
 
 pub slot_all : {X : Type 0} (P : X → Type 0) (xs : List X) (k : ℕ) (x : X) → All P xs → slice_get xs k ≡ Some x → P x
 slot_all P [] k x all at = absurd (none-some x at)

@@ -1,8 +1,8 @@
 -- Where the places of a placement bring a cell's rows into a window.
-use Rattle.std.proofs.Common.{◌≡◌, ◌≤◌, ◌<◌, ◌+◌, ◌*◌, ◌/◌, ◌^◌, ◌⊎◌, inl, inr, ℕ, ℤ, zero, suc, pos, negsuc, neg_ℤ, ◌+ℤ◌, ◌-ℤ◌, ◌*ℤ◌, ◌≤ℤ◌, ◌<ℤ◌, Bool, true, false, refl, sym, ap, subst, ◌∙◌, arith, int_lt}
+use Rattle.std.proofs.Common.{◌≡◌, ◌≤◌, ◌<◌, ◌+◌, ◌*◌, ◌/◌, ◌^◌, ℕ, ℤ, zero, suc, pos, negsuc, neg_ℤ, ◌+ℤ◌, ◌-ℤ◌, ◌*ℤ◌, ◌≤ℤ◌, ◌<ℤ◌, Bool, true, false, refl, sym, ap, subst, ◌∙◌, arith, int_lt}
 use Rattle.std.specs.Int.{int_min, int_max, int_div_euclid}
 use Rattle.std.proofs.Math.IntN.{pos-*ℤ-pos, pos-*ℤ-negsuc}
-use Rattle.std.proofs.Math.Nat.{mul-div-le, lt-mul-div-succ, div-le_self}
+use Rattle.std.proofs.Math.Nat.{mul-div-le, lt-mul-div-succ}
 use Rattle.std.proofs.lemmas.Int.{ints, clamps, by_lt_z}
 use Rattle.half_grid.specs.Windows.{RowRange}
 use Rattle.half_grid.specs.declared.plane.Point.{Point}
@@ -14,7 +14,7 @@ use Rattle.layout_model.specs.declared.intervals.Axis.TheVariants.{X, Y}
 use Rattle.layout_model.specs.declared.intervals.Interval.{Interval}
 use Rattle.layout_model.specs.declared.orient.Orient.{Orient}
 use Rattle.flat_walk.specs.Poses.{oriented}
-use Rattle.flat_walk.specs.Rises.{upward, is_upright, rise_in, signed, meets_at, IsRange, IsAmid}
+use Rattle.flat_walk.specs.Rises.{upward, is_upright, signed, meets_at, IsRange, IsAmid}
 use Rattle.flat_walk.specs.declared.rows.Rows.{Rows}
 use Rattle.flat_walk.proofs.Motions.{mul_up}
 use Rattle.flat_walk.proofs.PointLemmas.{image_within, moved_within}
@@ -74,10 +74,6 @@ floor_over (pos a) m some =
 floor_over (negsuc a) m some =
     let h = mul-div-le a m in
     subst (λ z. negsuc a <ℤ z) (sym (ap (λ z. pos m *ℤ z) (less_one (a / m)) ∙ neg_times m (a / m))) (omega (arith, ints, h))
-
-pub floor_small : (bound : ℕ) (a : ℤ) (m : ℕ) → neg_ℤ (pos bound) ≤ℤ a → a ≤ℤ pos bound → (neg_ℤ (pos bound) ≤ℤ int_div_euclid a (pos m)) × (int_div_euclid a (pos m) ≤ℤ pos bound)
-floor_small bound (pos a) m l h = let q = div-le_self a m in (omega (arith, ints), omega (arith, ints, q, h))
-floor_small bound (negsuc a) m l h = let q = div-le_self a m in (omega (arith, ints, q, l), omega (arith, ints))
 
 by_order : (a b : ℤ) → (a <ℤ b → ⊥) → b ≤ℤ a
 by_order a b never = by_lt_z a b (λ less. absurd (never less)) (λ reached. reached)

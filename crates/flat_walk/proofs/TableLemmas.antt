@@ -1,5 +1,5 @@
 -- The table of pieces, before and after pieces are put.
-use Rattle.std.proofs.Common.{◌≡◌, ◌≢◌, ◌⊎◌, inl, inr, ℕ, zero, suc, ◌<◌, List, [], ◌∷◌, Some, map, length, get_or, set, slice_get, All, refl, sym, ap, subst, ◌∙◌, arith}
+use Rattle.std.proofs.Common.{◌≡◌, ◌≢◌, ◌⊎◌, inl, inr, ℕ, zero, suc, ◌<◌, List, [], ◌∷◌, Some, map, length, get_or, set, slice_get, All, refl, ap, subst, ◌∙◌, arith}
 use Rattle.std.specs.List.{AllByRecursion}
 use Rattle.std.proofs.lemmas.Option.{none-some}
 use Rattle.std.proofs.lemmas.List.Elements.{recursion_from_All, All-from_recursion}
@@ -115,10 +115,6 @@ pub item_at : {V X : Type 0} (f : V → X) (vs : List V) (n : ℕ) (v : V) (d : 
 item_at f [] n v d inside = absurd (omega arith)
 item_at f (w ∷ vs) zero v d inside = refl
 item_at f (w ∷ vs) (suc n) v d inside = item_at f vs n v d (omega arith)
-
-pub map_long : {V X : Type 0} (f : V → X) (vs : List V) → length (map f vs) ≡ length vs
-map_long f [] = refl
-map_long f (v ∷ vs) = ap suc (map_long f vs)
 
 pub put_view : {V X : Type 0} (f : V → List X) (vs : List V) (table : List (List X)) (n k : ℕ) (v w : V) (x y : X)
     → map f vs ≡ table → n < length table → v ≡ get_or vs n v → f w ≡ set (f v) k x → x ≡ y → map f (set vs n w) ≡ set table n (set (get_or table n []) k y)

@@ -1,37 +1,33 @@
 -- The cells on the way, and what they still place.
-use Rattle.std.proofs.Common.{◌≡◌, ℕ, ℤ, zero, suc, pos, neg_ℤ, ◌+◌, ◌*◌, ◌^◌, ◌<◌, ◌≤◌, ◌≤ℤ◌, Bool, true, false, List, [], ◌∷◌, ◌++◌, Option, Some, None, All, IfSome, MatchOption, is_some, ltb, map, drop, length, get_or, slice_get, refl, sym, ap, subst, ◌∙◌, arith, append_assoc, length-append}
-use Rattle.std.specs.List.{filter, flat_map, AllByRecursion}
-use Rattle.std.specs.Option.{option_map_or}
-use Rattle.std.proofs.Math.Nat.{mul-le-mul}
+use Rattle.std.proofs.Common.{◌≡◌, ℕ, ℤ, pos, neg_ℤ, ◌+◌, ◌*◌, ◌^◌, ◌<◌, ◌≤◌, ◌≤ℤ◌, true, false, List, [], ◌∷◌, ◌++◌, Option, Some, None, All, IfSome, MatchOption, is_some, ltb, map, drop, length, get_or, slice_get, refl, sym, ap, subst, ◌∙◌, arith, append_assoc, length-append}
+use Rattle.std.specs.List.{flat_map, AllByRecursion}
 use Rattle.std.proofs.lemmas.Int.{ints}
 use Rattle.std.proofs.lemmas.List.{map-append, length-map}
 use Rattle.std.proofs.lemmas.List.Elements.{recursion_from_All, All-from_recursion}
 use Rattle.std.proofs.lemmas.Bool.Decides.{nat_tests}
 use Rattle.std.proofs.lemmas.Option.{slice_get-get_or}
 use Rattle.half_grid.specs.Quads.{Corners}
-use Rattle.half_grid.specs.Windows.{RowRange}
 use Rattle.half_grid.specs.declared.plane.Point.{Point}
 use Rattle.half_grid.specs.declared.extent.Frame.{Frame}
 use Rattle.layout_model.specs.Hulls.{IsInBox}
-use Rattle.layout_model.specs.Images.{IsOrient, image_of, moved}
-use Rattle.layout_model.specs.Layouts.{IsWithin, IsMove, IsPlacementOnGrid}
+use Rattle.layout_model.specs.Images.{IsOrient, moved}
+use Rattle.layout_model.specs.Layouts.{IsWithin, IsMove}
 use Rattle.layout_model.specs.declared.orient.Orient.{Orient}
 use Rattle.layout_model.specs.declared.cells.Placement.{Placement}
 use Rattle.layout_model.specs.declared.cells.Cell.{Cell}
-use Rattle.cell_tree.specs.Boxes.{IsHull, IsLeastBox}
+use Rattle.cell_tree.specs.Boxes.{IsLeastBox}
 use Rattle.cell_tree.specs.Cells.{placements_at, cell_number}
-use Rattle.cell_tree.specs.Chains.{Link, IsChain, IsReachable, chain_cells, chain_end, chain_factor}
+use Rattle.cell_tree.specs.Chains.{Link, IsChain, IsReachable, chain_end, chain_factor}
 use Rattle.cell_tree.specs.Flattening.{IsVertex, placed_things}
 use Rattle.cell_tree.proofs.ForCallers.{chain_joined, end_joined, factor_joined, reachable_within, near_below}
-use Rattle.flat_walk.specs.Poses.{oriented, composed}
-use Rattle.flat_walk.specs.Rests.{Skips, marked_image, shows_in}
-use Rattle.flat_walk.specs.Ways.{low_corner, high_corner, IsScene, cells_of, marked_of, spots_rest, run_rest, things_at, placements_rest, level_rest, IsBetweenRows, HasRowsBetween, AreRowsBetween, IsRun, IsLevel, IsSpot, IsSamePlace, IsInner}
+use Rattle.flat_walk.specs.Rests.{Skips, marked_image}
+use Rattle.flat_walk.specs.Ways.{low_corner, high_corner, IsScene, cells_of, marked_of, run_rest, things_at, placements_rest, level_rest, IsBetweenRows, HasRowsBetween, AreRowsBetween, IsRun, IsLevel, IsSpot, IsSamePlace, IsInner}
 use Rattle.flat_walk.specs.declared.scenes.Scene.{Scene}
 use Rattle.flat_walk.specs.declared.levels.Run.{Run}
 use Rattle.flat_walk.specs.declared.levels.Level.{Level}
 use Rattle.flat_walk.proofs.PointLemmas.{image_within, moved_within, within_more}
 use Rattle.flat_walk.proofs.RestLemmas.{skip_on, skip_same, skip_left, skip_over, drop_here, drop_past}
-use Rattle.flat_walk.proofs.ShowLemmas.{AreMarks, nothing_shown}
+use Rattle.flat_walk.proofs.ShowLemmas.{AreMarks}
 use Rattle.flat_walk.proofs.Amid.{IsAmid, IsSpanned}
 use Rattle.flat_walk.proofs.SpanLemmas.{marked_spanned}
 
@@ -45,9 +41,6 @@ pub level_near : (scene : Scene) (level : Level) → IsScene scene → IsLevel s
 level_near scene level sc is = let d = level_shallow scene level sc is in within_more (level.depth * 2 ^ 47) (2 ^ 54) level.at (omega (arith, d)) is.near
 
 -- ---- a placed cell
-
-one_link : (scene : Scene) (level : Level) (run : Run) → IsRun scene level.cell level.orient run → Link
-one_link scene level run is = record { placement = run.placement.now; cell = run.target }
 
 placed_chain : (cells : List Cell) (top n m number : ℕ) (links : List Link) (placement : Placement) → IsChain cells top links → chain_end top links ≡ n
     → slice_get (placements_at cells n) number ≡ Some placement → cell_number cells placement.target ≡ Some m → IsChain cells top (links ++ record { placement = placement; cell = m } ∷ [])

@@ -1,10 +1,12 @@
-pub mod Hands
+-- ---- what is promised, in reading order
 pub mod Kept
-pub mod Poses
 pub mod Quads
-pub mod Rests
 pub mod Tables
 pub mod Walks
+-- ---- what is kept inside
+pub mod Hands
+pub mod Poses
+pub mod Rests
 pub mod Streams
 pub mod Ways
 pub mod Rises

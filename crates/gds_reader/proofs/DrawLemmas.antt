@@ -24,7 +24,7 @@ use Rattle.gds_reader.specs.declared.refusing.GdsBad.{GdsBad}
 use Rattle.gds_reader.specs.declared.refusing.GdsBad.TheVariants as bads
 use Rattle.gds_reader.specs.Brushes.{undrawn_by}
 use Rattle.gds_reader.specs.Meaning.{origin, path_shapes_of}
-use Rattle.gds_reader.specs.Refused.{IsRefusedBy}
+use Rattle.gds_reader.specs.Refused.{IsRefusedBy, BreaksNone}
 use Rattle.gds_reader.specs.Values.{KeepsBoundary, KeepsPath, IsLowest}
 use Rattle.gds_reader.proofs.GridLemmas.{origin_offsets}
 
@@ -67,6 +67,19 @@ pub refused_by : (K : ℕ → Type 0) (at : ℕ) (u : Undrawn) (bad : GdsBad) �
     → (u ≡ undrawn.NoMemory → bad ≡ bads.NoMemory) → ((rule : ℕ) → u ≡ undrawn.Rule rule → IsLowest K rule) → IsRefusedBy K at bad
 refused_by K at (undrawn.Rule rule) bad told wanting low = inr (rule, told rule refl, low rule refl)
 refused_by K at undrawn.NoMemory bad told wanting low = inl (wanting refl)
+
+-- want of memory is told of one that is wanting alone
+pub wanting_alone : (K : ℕ → Type 0) (at : ℕ) (u : Undrawn) (bad : GdsBad) → ((rule : ℕ) → u ≡ undrawn.Rule rule → bad ≡ bads.Value at rule)
+    → (u ≡ undrawn.NoMemory → BreaksNone K) → bad ≡ bads.NoMemory → BreaksNone K
+wanting_alone K at (undrawn.Rule rule) bad told none e = absurd (let value : bads.Value at rule ≡ bads.NoMemory = sym (told rule refl) ∙ e in cc)
+wanting_alone K at undrawn.NoMemory bad told none e = none refl
+
+pub wanting_path : (bad : PathBad) → undrawn_by bad ≡ undrawn.NoMemory → bad ≡ paths.NoMemory
+wanting_path paths.NoMemory e = refl
+wanting_path paths.NoLength e = absurd (cc)
+wanting_path (paths.Diagonal k) e = absurd (cc)
+wanting_path (paths.TurnBack k) e = absurd (cc)
+wanting_path paths.EmptyEnd e = absurd (cc)
 
 -- the shapes of a path, whether it has a width or not
 pub path_items : (pair : Pair) (fixed : Bool) (half begin end : ℤ) (points : List Point) (items : List Shape) (offsets : List Point)

@@ -71,6 +71,3 @@ closed_by_ends (p ∷ points) d some =
 
 pub all_more : {X : Type 0} (P : X → Type 0) (xs ys : List X) (x : X) → All P xs → P x → ys ≡ xs ++ x ∷ [] → All P ys
 all_more P xs ys x all one e = subst (All P) (sym e) (All-append P xs (x ∷ []) all (All-cons P x [] one (All-nil P)))
-
-pub all_joined : {X : Type 0} (P : X → Type 0) (xs ys zs : List X) → All P xs → All P ys → zs ≡ xs ++ ys → All P zs
-all_joined P xs ys zs one other e = subst (All P) (sym e) (All-append P xs ys one other)

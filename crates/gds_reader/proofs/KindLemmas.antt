@@ -1,6 +1,5 @@
 -- Kinds of records as a test.
-use Rattle.std.proofs.Common.{◌≡◌, true, false, Some, refl, sym, ap, ◌∙◌}
-use Rattle.std.specs.Prelude.{◌≢◌}
+use Rattle.std.proofs.Common.{◌≡◌, true, Some, refl, sym, ap, ◌∙◌}
 use Rattle.gds_record.specs.Heads.{head_of, kind_with_head}
 use Rattle.gds_record.specs.declared.kinds.Kind.{Kind}
 use Rattle.gds_record.specs.declared.kinds.Kind.TheVariants.{Header}
@@ -21,6 +20,3 @@ same_kind_is a b h = one_head a b (eqb-true (head_of a) (head_of b) h)
 
 pub same_kind_refl : (a : Kind) → same_kind a a ≡ true
 same_kind_refl a = eq-eqb (head_of a) (head_of a) refl
-
-pub other_kind : (a b : Kind) → a ≢ b → same_kind a b ≡ false
-other_kind a b h = elim (same_kind a b) as (λ v. same_kind a b ≡ v → same_kind a b ≡ false) [ true ↦ λ e. absurd (h (same_kind_is a b e)) | false ↦ λ e. e ] refl

@@ -5,7 +5,8 @@ use Rattle.layout_model.specs.Layouts.{IsShapeOnGrid, IsPlacementOnGrid}
 use Rattle.layout_model.specs.Names.{IsName}
 use Rattle.layout_model.specs.declared.pair.Pair.{Pair}
 use Rattle.gds_record.specs.declared.kinds.Kind.{Kind}
-use Rattle.gds_record.specs.declared.kinds.Kind.TheVariants.{EndStr, StrName, Xy}
+use Rattle.gds_record.specs.Reals.{Agrees}
+use Rattle.gds_record.specs.declared.kinds.Kind.TheVariants.{EndStr, StrName, Units, Xy}
 use Rattle.gds_record.specs.declared.records.Record.{Record}
 use Rattle.gds_reader.specs.declared.elements.Element.{Element}
 use Rattle.gds_reader.specs.declared.order.Place.{Place}
@@ -15,7 +16,9 @@ use Rattle.gds_reader.specs.Past.{same_kind, structure_record, given_in_structur
 use Rattle.gds_reader.specs.Values.{name_in, points_in, Keeps, KeepsRules}
 use Rattle.gds_reader.specs.Meaning.{wanted_at, shapes_at, placements_at}
 use Rattle.gds_reader.specs.Elements.{IsHeld, IsElementOf, shapes_by, KeepsBy, placements_kept}
-use Rattle.gds_reader.specs.Readers.{IsStructureOf, next_after}
+use Rattle.gds_reader.specs.Readers.{IsStructureOf, next_after, place_behind, IsRefused, IsBadXy}
+use Rattle.gds_reader.specs.Names.{place_of as place_of_name}
+use Rattle.gds_reader.specs.Reading.{unit_in}
 use Rattle.gds_reader.specs.Refused.{IsRefusedBy}
 use Rattle.gds_reader.specs.Steps.{next_place}
 use Rattle.gds_reader.proofs.BridgeLemmas.{shapes_of_xy, placements_of_xy, keeps_of_xy, lowest_of_xy}
@@ -78,3 +81,18 @@ kind_cases a b =
 pub next_is : (behind : Option Place) (place following : Place) (r : Record) → behind ≡ Some place → next_place place r.kind ≡ Some following
     → next_after behind r ≡ Some following
 next_is behind place following r e f = ap (λ p. next_after p r) e ∙ f
+
+-- what may still be refused of a record whose kind, values, unit and name were looked at is an XY for its points
+pub refused_xy : (bytes : List ℕ) (unit : ℕ) (wanted : List Pair) (past : List Record) (r : Record) (at : ℕ) → IsSome (next_after (place_behind past) r)
+    → (r.kind ≢ Xy → KeepsRules bytes wanted past r) → (r.kind ≡ Units → Agrees (unit_in bytes r) unit)
+    → (r.kind ≡ StrName → place_of_name bytes (name_in bytes r) past ≡ None)
+    → (bad : GdsBad) → IsRefused bytes unit wanted past r at bad → IsBadXy past r
+refused_xy bytes unit wanted past r at some rules agrees new bad (inl order) =
+    absurd (let none : IsSome {T = Place} None = subst (λ n. IsSome n) order.none some in cc)
+refused_xy bytes unit wanted past r at some rules agrees new bad (inr (inl rule)) = elim (kind_cases r.kind Xy) [
+  | inl xy ↦ (xy, some)
+  | inr other ↦ absurd (rule.broken.broken (rules other rule.rule))
+]
+refused_xy bytes unit wanted past r at some rules agrees new bad (inr (inr (inl other))) = absurd (other.disagrees (agrees other.kind))
+refused_xy bytes unit wanted past r at some rules agrees new bad (inr (inr (inr name))) =
+    absurd (let same : None ≡ Some name.first = sym (new name.kind) ∙ name.found in cc)

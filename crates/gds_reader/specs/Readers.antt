@@ -7,7 +7,7 @@ use Rattle.layout_model.specs.declared.cells.Counts.{Counts}
 use Rattle.layout_model.specs.declared.pair.Pair.{Pair}
 use Rattle.gds_record.specs.Reals.{Agrees}
 use Rattle.gds_record.specs.Runs.{IsRun, NoneEnds}
-use Rattle.gds_record.specs.declared.kinds.Kind.TheVariants.{StrName, Units}
+use Rattle.gds_record.specs.declared.kinds.Kind.TheVariants.{StrName, Units, Xy}
 use Rattle.gds_record.specs.declared.records.Record.{Record}
 use Rattle.gds_reader.specs.declared.order.Place.{Place}
 use Rattle.gds_reader.specs.declared.order.Place.TheVariants.{Header}
@@ -100,6 +100,10 @@ abbrev pub IsRefused : List ℕ → ℕ → List Pair → List Record → Record
 IsRefused bytes unit wanted past r at bad =
     BreaksOrder past r at bad ⊎ BreaksRule bytes wanted past r at bad ⊎ BreaksUnit bytes unit wanted past r bad
     ⊎ BreaksName bytes wanted past r at bad
+
+-- the record is an XY in its order: its points are read into memory before their rules are looked at
+abbrev pub IsBadXy : List Record → Record → Type 0
+IsBadXy past r = (r.kind ≡ Xy) × IsSome (next_after (place_behind past) r)
 
 -- nothing is wrong with the record
 pub record IsTaken (bytes : List ℕ) (unit : ℕ) (wanted : List Pair) (past : List Record) (r : Record) : Type 0 where

@@ -7,3 +7,7 @@ use Rattle.gds_reader.specs.declared.refusing.GdsBad.TheVariants.{Value, NoMemor
 -- want of memory, or the lowest rule that isn't kept, at this offset
 abbrev pub IsRefusedBy : (ℕ → Type 0) → ℕ → GdsBad → Type 0
 IsRefusedBy Kept at bad = (bad ≡ NoMemory) ⊎ ((rule : ℕ) × (bad ≡ Value at rule) × IsLowest Kept rule)
+
+-- no rule is the lowest that isn't kept
+abbrev pub BreaksNone : (ℕ → Type 0) → Type 0
+BreaksNone Kept = (rule : ℕ) → ¬ IsLowest Kept rule

@@ -8,7 +8,7 @@ ghost use Rattle.gds_reader.specs.declared.drawing.Undrawn.TheVariants.{Rule, No
 ghost use Rattle.gds_reader.specs.declared.refusing.GdsBad.TheVariants as bads;
 ghost use Rattle.gds_reader.specs.Elements.{IsFilePoint, KeepsPathOf, KeepsOf, path_kept, shapes_kept};
 ghost use Rattle.gds_reader.specs.Meaning.{boundary_shape, path_shapes_of, is_drawn};
-ghost use Rattle.gds_reader.specs.Refused.{IsRefusedBy};
+ghost use Rattle.gds_reader.specs.Refused.{IsRefusedBy, BreaksNone};
 ghost use Rattle.gds_reader.specs.Values.{KeepsBoundary, KeepsPath, IsLowest, extension};
 
 use crate::elements::Element;
@@ -146,6 +146,7 @@ fn shapes_of_path(
     ensures grid { IfOk result (λ shapes. All IsShapeOnGrid shapes.items) }
     ensures kept { IfOk result (λ _. (rule : ℕ) → KeepsPath brush.half brush.begin brush.end points.now rule) }
     ensures broken { (rule : ℕ) → result ≡ Err (Rule rule) → IsLowest (KeepsPath brush.half brush.begin brush.end points.now) rule }
+    ensures memory { result ≡ Err Wanting → (rule : ℕ) → KeepsPath brush.half brush.begin brush.end points.now rule }
 {
     let Brush { half, begin, end } = brush;
     let offsets = Offsets::list(alloc, &[ORIGIN])?;
@@ -188,6 +189,7 @@ fn draw_boundary(
     ensures grid { All IsShapeOnGrid shapes.old → OnOk result (All IsShapeOnGrid shapes.new) }
     ensures kept { OnOk result ((rule : ℕ) → KeepsBoundary points.now rule) }
     ensures broken { IfErr result (IsRefusedBy (KeepsBoundary points.now) at) }
+    ensures memory { result ≡ Err bads.NoMemory → BreaksNone (KeepsBoundary points.now) }
 {
     match shape_of_boundary(alloc, element, points) {
         Ok(shape) => {
@@ -210,6 +212,7 @@ fn draw_path(
     ensures grid { All IsShapeOnGrid shapes.old → OnOk result (All IsShapeOnGrid shapes.new) }
     ensures kept { OnOk result ((rule : ℕ) → KeepsPathOf element.now points.now rule) }
     ensures broken { IfErr result (IsRefusedBy (KeepsPathOf element.now points.now) at) }
+    ensures memory { result ≡ Err bads.NoMemory → BreaksNone (KeepsPathOf element.now points.now) }
 {
     let fixed = element.width < 0;
     match shapes_of_path(alloc, element.pair, points, element.brush(), fixed) {
@@ -221,7 +224,8 @@ fn draw_path(
     }
 }
 
-/// Draws an element with these points that is on a wanted pair. `at` is the offset of its XY.
+/// Draws an element with these points that is on a wanted pair. `at` is the offset of its XY. A rule that it breaks is
+/// told even where memory is wanting.
 pub(crate) fn draw(
     alloc: Global,
     element: &Element,
@@ -235,6 +239,7 @@ pub(crate) fn draw(
     ensures grid { All IsShapeOnGrid shapes.old → OnOk result (All IsShapeOnGrid shapes.new) }
     ensures kept { is_drawn element.now.kind ≡ true → OnOk result ((rule : ℕ) → KeepsOf element.now.kind element.now points.now rule) }
     ensures broken { IfErr result (IsRefusedBy (KeepsOf element.now.kind element.now points.now) at) }
+    ensures memory { result ≡ Err bads.NoMemory → BreaksNone (KeepsOf element.now.kind element.now points.now) }
 {
     match element.kind {
         Some(Kind::Boundary) => draw_boundary(alloc, element, points, at, shapes),

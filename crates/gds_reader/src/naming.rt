@@ -1,10 +1,11 @@
 //! Names in records, and the table of the structures' names.
-ghost use Rattle.std.specs.Prelude.{◌≡◌, ◌+◌, ℕ, List, [], ◌∷◌, Some, None, if◌then◌else◌, OnOk, IfErr};
+ghost use Rattle.std.specs.Prelude.{◌≡◌, ◌+◌, ℕ, List, [], ◌∷◌, Some, None, if◌then◌else◌, OnOk, IfErr, Err};
 ghost use Rattle.gds_record.specs.declared.kinds.Kind.TheVariants.{StrName};
 ghost use Rattle.gds_record.specs.declared.records.Record.{Record as ARecord};
 ghost use Rattle.gds_reader.specs.Elements.{IsHeld};
 ghost use Rattle.gds_reader.specs.Names.{same_name, place_of as the_place_of, place_in, AreNamesOf, IsTwice};
 ghost use Rattle.gds_reader.specs.Values.{name_in, without_nuls};
+ghost use Rattle.gds_reader.specs.declared.refusing.GdsBad.TheVariants as bads;
 
 use crate::refusing::GdsBad;
 use gds_record::{Kind, Record};
@@ -79,6 +80,8 @@ pub(crate) fn enter<'a>(
         → OnOk result (the_place_of bytes.now (name_in bytes.now current) past ≡ None) }
     ensures twice { (past : List ARecord) → AreNamesOf bytes.now past names.old
         → IfErr result (IsTwice bytes.now past current at) }
+    ensures memory { (past : List ARecord) → AreNamesOf bytes.now past names.old → result ≡ Err bads.NoMemory
+        → the_place_of bytes.now (name_in bytes.now current) past ≡ None }
 {
     if current.kind != Kind::StrName {
         return Ok(());

@@ -8,7 +8,8 @@ ghost use Rattle.gds_record.specs.declared.kinds.Kind.TheVariants.{Sref, Aref};
 ghost use Rattle.gds_reader.specs.Elements.{IsHeld, IsFilePoint, KeepsOf, place_kept, placements_kept};
 ghost use Rattle.gds_reader.specs.Meaning.{first_of, step_of, array_places as the_places};
 ghost use Rattle.gds_reader.specs.declared.drawing.Undrawn.TheVariants.{Rule, NoMemory as Wanting};
-ghost use Rattle.gds_reader.specs.Refused.{IsRefusedBy};
+ghost use Rattle.gds_reader.specs.Refused.{IsRefusedBy, BreaksNone};
+ghost use Rattle.gds_reader.specs.declared.refusing.GdsBad.TheVariants as bads;
 ghost use Rattle.gds_reader.specs.Steppings.{IsNear, IsEvenPart, IsPartOf, IsStepping};
 ghost use Rattle.gds_reader.specs.Values.{Divides, KeepsAref, IsLowest, name_in};
 
@@ -211,6 +212,7 @@ fn place_array(
     ensures grid { All IsPlacementOnGrid placements.old → OnOk result (All IsPlacementOnGrid placements.new) }
     ensures kept { OnOk result ((rule : ℕ) → KeepsAref element.now.columns element.now.rows points.now rule) }
     ensures broken { IfErr result (IsRefusedBy (KeepsAref element.now.columns element.now.rows points.now) at) }
+    ensures memory { result ≡ Err bads.NoMemory → BreaksNone (KeepsAref element.now.columns element.now.rows points.now) }
 {
     match array_places(alloc, element, points) {
         Ok(offsets) => {
@@ -221,7 +223,8 @@ fn place_array(
     }
 }
 
-/// Places the structure of a reference with these points. `at` is the offset of its XY.
+/// Places the structure of a reference with these points. `at` is the offset of its XY. A rule that it breaks is told even
+/// where memory is wanting.
 pub(crate) fn place(
     alloc: Global,
     bytes: &[u8],
@@ -239,6 +242,7 @@ pub(crate) fn place(
     ensures grid { All IsPlacementOnGrid placements.old → OnOk result (All IsPlacementOnGrid placements.new) }
     ensures kept { OnOk result ((rule : ℕ) → KeepsOf element.now.kind element.now points.now rule) }
     ensures broken { IfErr result (IsRefusedBy (KeepsOf element.now.kind element.now points.now) at) }
+    ensures memory { result ≡ Err bads.NoMemory → BreaksNone (KeepsOf element.now.kind element.now points.now) }
 {
     match element.kind {
         Some(Kind::Sref) => {

@@ -10,7 +10,7 @@ ghost use Rattle.gds_record.specs.declared.kinds.Kind.TheVariants.{Xy, EndStr, S
 ghost use Rattle.gds_record.specs.declared.records.Record.{Record as ARecord};
 ghost use Rattle.gds_reader.specs.Elements.{IsHeld, IsElementOf, AreSamePairs, TellsShape, KeepsBy, shapes_by, placements_kept};
 ghost use Rattle.gds_reader.specs.Meaning.{wanted_at, cells_at};
-ghost use Rattle.gds_reader.specs.Readers.{IsReaderOf, IsStructureOf, IsTaken, IsRefused, IsTail, AreAtMost, cells_kept};
+ghost use Rattle.gds_reader.specs.Readers.{IsReaderOf, IsStructureOf, IsTaken, IsRefused, IsBadXy, IsTail, AreAtMost, cells_kept};
 ghost use Rattle.gds_reader.specs.Reading.{IsLayoutOf, IsFirstFault, framing_fault, unit_in};
 ghost use Rattle.gds_reader.specs.Refused.{IsRefusedBy};
 ghost use Rattle.gds_reader.specs.Values.{Keeps, KeepsRules, name_in, points_in};
@@ -285,7 +285,7 @@ impl<'a> Reader<'a> {
         }
     }
 
-    // Takes the record at this offset.
+    // Takes the record at this offset. Only the points of an XY take memory before their rules are looked at.
     fn take(
         &mut self,
         alloc: Global,
@@ -311,6 +311,9 @@ impl<'a> Reader<'a> {
         ensures refused { (past : Items ARecord) (wanted : Items APair) → AreSamePairs wanted sorted.now
             → IsReaderOf bytes.now wanted past self.old
             → IfErr result (λ bad. bad ≢ bads.NoMemory → IsRefused bytes.now unit wanted past current at bad) }
+        ensures memory { (past : Items ARecord) (wanted : Items APair) → AreSamePairs wanted sorted.now
+            → IsReaderOf bytes.now wanted past self.old → result ≡ Err bads.NoMemory
+            → (bad : ABad) → IsRefused bytes.now unit wanted past current at bad → IsBadXy past current }
     {
         let Some(place) = self.place.after(current.kind) else {
             return Err(GdsBad::Order(at));

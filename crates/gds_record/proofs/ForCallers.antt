@@ -1,19 +1,15 @@
 -- What a crate that reads the records of a file may cite.
 use Rattle.std.proofs.Common.{◌≡◌, ℕ, ◌+◌, ◌-◌, ◌^◌, ◌<◌, ◌≤◌, ◌⊎◌, inl, inr, List, [], ◌∷◌, ◌++◌, length, drop, slice_index, refl, sym, ap, subst, ◌∙◌, arith}
-use Rattle.std.proofs.lemmas.Int.{of_z-to_z}
 use Rattle.std.proofs.lemmas.List.{get_or-drop}
-use Rattle.std.specs.Int.{w16, cast_unsigned}
 use Rattle.std.specs.Prelude.{◌≢◌}
 use Rattle.byteorder.specs.Numbers.{big_from-lt}
 use Rattle.gds_record.specs.declared.kinds.Kind.TheVariants.{EndLib}
 use Rattle.gds_record.specs.declared.records.Record.{Record}
 use Rattle.gds_record.specs.declared.records.Framing.{Framing}
-use Rattle.gds_record.specs.Faults.{IsFaultAt}
 use Rattle.gds_record.specs.Framing.{IsRecordAt}
 use Rattle.gds_record.specs.Heads.{content_of, IsAllowed}
-use Rattle.gds_record.specs.Numbers.{number_at, signed_at}
+use Rattle.gds_record.specs.Numbers.{number_at}
 use Rattle.gds_record.specs.Runs.{IsRun, NoneEnds, EndsOnlyLast, IsClosed, IsRecordsOf, RecordsUnique}
-use Rattle.gds_record.proofs.NumberLemmas.{cast_signed-two}
 pub use Rattle.gds_record.proofs.FramingLemmas.{record_unique, record_or_fault, fault_unique}
 pub use Rattle.gds_record.proofs.RealLemmas.{real_value_unique}
 pub use Rattle.gds_record.proofs.RecordLists.{Answer, some_answer}
@@ -40,39 +36,13 @@ pub number_at-lt : (n : ℕ) (bytes : List ℕ) (at : ℕ) → ((i : ℕ) → sl
 unfolding number_at
 number_at-lt n bytes at small = big_from-lt 0 n (drop at bytes) (λ i. rw get_or-drop (small (at + i)))
 
--- two bytes with a sign, taken again without
-pub unsigned_two : (bytes : List ℕ) (at : ℕ) → number_at 2 bytes at < 2 ^ 16
-    → cast_unsigned w16 (signed_at 2 bytes at) ≡ number_at 2 bytes at
-unsigned_two bytes at small =
-    ap (cast_unsigned w16) (sym (cast_signed-two (number_at 2 bytes at) small)) ∙ of_z-to_z w16 (number_at 2 bytes at) small
-
 -- ---- a run of records
-
--- a run goes onward
-pub run_onward : (bytes : List ℕ) (from : ℕ) (rs : List Record) (to : ℕ) → IsRun bytes from rs to → from ≤ to
-run_onward bytes from [] to run = let same : from ≡ to = run in omega arith
-run_onward bytes from (r ∷ rs) to run =
-    omega (arith, record_onward bytes from r run.0, run_onward bytes r.next rs to run.1)
 
 -- one more record
 pub run_push : (bytes : List ℕ) (from : ℕ) (rs : List Record) (at : ℕ) (r : Record) → IsRun bytes from rs at → IsRecordAt bytes at r
     → IsRun bytes from (rs ++ r ∷ []) r.next
 run_push bytes from [] at r run p = (subst (λ start. IsRecordAt bytes start r) (sym run) p, refl)
 run_push bytes from (s ∷ rs) at r run p = (run.0, run_push bytes s.next rs at r run.1 p)
-
--- between two offsets there is at most one run
-pub run_unique : (bytes : List ℕ) (from : ℕ) (rs ss : List Record) (to : ℕ) → IsRun bytes from rs to → IsRun bytes from ss to → rs ≡ ss
-run_unique bytes from [] [] to p q = refl
-run_unique bytes from [] (s ∷ ss) to p q =
-    let same : from ≡ to = p in
-    absurd (omega (arith, record_onward bytes from s q.0, run_onward bytes s.next ss to q.1))
-run_unique bytes from (r ∷ rs) [] to p q =
-    let same : from ≡ to = q in
-    absurd (omega (arith, record_onward bytes from r p.0, run_onward bytes r.next rs to p.1))
-run_unique bytes from (r ∷ rs) (s ∷ ss) to p q =
-    let first : r ≡ s = record_unique bytes from r s p.0 q.0 in
-    let rest : rs ≡ ss = run_unique bytes s.next rs ss to (subst (λ t. IsRun bytes t.next rs to) first p.1) q.1 in
-    cc
 
 -- one more record that doesn't end the library
 pub none_ends-push : (rs : List Record) (r : Record) → NoneEnds rs → r.kind ≢ EndLib → NoneEnds (rs ++ r ∷ [])
@@ -90,11 +60,6 @@ closed_push [] r end = end
 closed_push (s ∷ []) r end = end
 closed_push (s ∷ t ∷ rs) r end = closed_push (t ∷ rs) r end
 
-ends_only_last : (rs : List Record) → NoneEnds rs → EndsOnlyLast rs
-ends_only_last [] none = tt
-ends_only_last (s ∷ []) none = tt
-ends_only_last (s ∷ t ∷ rs) none = (none.0, ends_only_last (t ∷ rs) none.1)
-
 -- the records of a file whose library ends
 pub records_closed : (bytes : List ℕ) (rs : List Record) (at : ℕ) (r : Record) → IsRun bytes 0 rs at → NoneEnds rs
     → IsRecordAt bytes at r → r.kind ≡ EndLib → IsRecordsOf bytes (rs ++ r ∷ []) r.next
@@ -102,15 +67,6 @@ records_closed bytes rs at r run none p end = record {
   run = run_push bytes 0 rs at r run p;
   ends = ends_only_last-push rs r none;
   longest = inl (closed_push rs r end);
-}
-
--- the records of a file where no record stands behind them
-pub records_stopped : (bytes : List ℕ) (rs : List Record) (at : ℕ) (f : Framing) → IsRun bytes 0 rs at → NoneEnds rs
-    → IsFaultAt bytes at f → IsRecordsOf bytes rs at
-records_stopped bytes rs at f run none fault = record {
-  run = run;
-  ends = ends_only_last rs none;
-  longest = inr (λ r p. record_or_fault bytes at r f p fault);
 }
 
 -- ---- the records of a file

@@ -1,8 +1,7 @@
 -- What a caller of the adapters may want: the list that a mapped stream stands for, by the function that its closure computes, and the stable merge.
-use Rattle.std.proofs.Common.{◌≡◌, List, [], ◌∷◌, All, map}
+use Rattle.std.proofs.Common.{List, [], ◌∷◌, All, map}
 use Rattle.std.specs.List.{AllZip, AllByRecursion}
 use Rattle.std.proofs.lemmas.List.Elements.{recursion_from_All}
-use Rattle.geo_stream.specs.Mapped.{IsTheAnswer}
 -- the merge of two sorted lists is sorted, has the items of both, and keeps the order of those that tie
 pub use Rattle.geo_stream.proofs.StableMerge.{merge_is_stable}
 
@@ -13,11 +12,3 @@ listed {A} {B} R items h = by_recursion items (recursion_from_All (λ x. (y : B)
     by_recursion : (items : List A) → AllByRecursion (λ x. (y : B) × R x y) items → (others : List B) × AllZip R items others
     by_recursion [] h = ([], tt)
     by_recursion (x ∷ items) h = let rest = by_recursion items h.1 in (h.0.0 ∷ rest.0, (h.0.1, rest.1))
-
--- the answers of a closure that may be called on each item and computes f are `map f`
-pub answers_by : {A U : Type 0} (pre : A → Type 0) (post : A → U → Type 0) (f : A → U) → (items : List A) → All (λ x. pre x × post x (f x) × ((y : U) → post x y → y ≡ f x)) items → AllZip (IsTheAnswer pre post) items (map f items)
-answers_by {A} {U} pre post f items h = by_recursion items (recursion_from_All (λ x. pre x × post x (f x) × ((y : U) → post x y → y ≡ f x)) items h)
-  where
-    by_recursion : (items : List A) → AllByRecursion (λ x. pre x × post x (f x) × ((y : U) → post x y → y ≡ f x)) items → AllZip (IsTheAnswer pre post) items (map f items)
-    by_recursion [] h = tt
-    by_recursion (x ∷ items) h = (record { callable = h.0.0; allowed = h.0.1; only = h.0.2 }, by_recursion items h.1)

@@ -1,7 +1,9 @@
+-- ---- what is promised, in reading order
 pub mod Flattened
-pub mod Joined
-pub mod Laws
 pub mod Mapped
 pub mod Merged
-pub mod Peeked
 pub mod Stream
+-- ---- what is kept inside
+pub mod Joined
+pub mod Laws
+pub mod Peeked

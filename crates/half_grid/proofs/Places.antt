@@ -1,7 +1,5 @@
 -- Places of lines in a row against numbers of tiles: the arithmetic of one row, for all crates.
-use Rattle.std.proofs.Common.{◌≡◌, ℤ, ◌≤ℤ◌, ◌<ℤ◌, arith, refl, ap, ◌∙◌, Bool, true, false}
-use Rattle.half_grid.specs.Halves.{half, is_even}
-use Rattle.half_grid.proofs.Halves.{half_even, half_odd}
+use Rattle.std.proofs.Common.{◌≡◌, ℤ, ◌≤ℤ◌, ◌<ℤ◌, arith, refl, ap, ◌∙◌}
 use Rattle.std.proofs.lemmas.Int.{ints}
 use Rattle.half_grid.specs.Tiles.{strips_of}
 use Rattle.half_grid.specs.Lines.{IsRightOf, IsLeftOf}
@@ -93,11 +91,3 @@ legal_lines y0 y1 (Falling c) (Falling d) j h a b = omega (arith, ints, h.bottom
 -- In each row of a legal trapezoid the left line's place is below the right line's.
 pub legal_places : (z : Trapezoid) (j : ℤ) → IsLegal z → z.y0 ≤ℤ j → j <ℤ z.y1 → place z.left j <ℤ place z.right j
 legal_places z j h a b = legal_lines z.y0 z.y1 z.left z.right j h a b
-
-numbered_by : (b : Bool) (row n : ℤ) → is_even n ≡ b → (t : Tile) × (t.j ≡ row) × (number_in_row t ≡ n)
-numbered_by true row n e = (record { i = half n; j = row; side = Left }, refl, omega (arith, ints, half_even n e))
-numbered_by false row n e = (record { i = half n; j = row; side = Right }, refl, omega (arith, ints, half_odd n e))
-
--- Each number of a row is that of a tile.
-pub tile_numbered : (row n : ℤ) → (t : Tile) × (t.j ≡ row) × (number_in_row t ≡ n)
-tile_numbered row n = numbered_by (is_even n) row n refl

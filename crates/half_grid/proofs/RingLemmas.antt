@@ -24,9 +24,6 @@ int_le_false x y h = grind (arith, ints)
 pub int_lt_true : (x y : ℤ) → int_lt x y ≡ true → x <ℤ y
 int_lt_true x y h = grind (arith, ints)
 
-pub int_lt_false : (x y : ℤ) → int_lt x y ≡ false → y ≤ℤ x
-int_lt_false x y h = grind (arith, ints)
-
 pub int_le_yes : (x y : ℤ) → x ≤ℤ y → int_le x y ≡ true
 int_le_yes x y h = grind (arith, ints)
 

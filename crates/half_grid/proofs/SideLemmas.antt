@@ -1,6 +1,5 @@
 -- A trapezoid is a shot exactly where its parallel sides are sides, not both of length 0, one above the other.
-use Rattle.std.proofs.Common.{◌≡◌, ℤ, pos, ◌+ℤ◌, ◌<ℤ◌, arith}
-use Rattle.std.proofs.lemmas.Int.{ints}
+use Rattle.std.proofs.Common.{ℤ, pos, ◌+ℤ◌, ◌<ℤ◌}
 use Rattle.half_grid.specs.Reach.{IsWithinReach}
 use Rattle.half_grid.specs.Sides.{IsSide, side_length}
 use Rattle.half_grid.specs.Trapezoids.{IsShot, trapezoid}
@@ -11,9 +10,6 @@ bottom_side y0 y1 left right h = record { left_end = h.reach.bottom_left; right_
 
 pub top_side : (y0 y1 : ℤ) (left right : Line) → IsShot (trapezoid y0 y1 left right) → IsSide left right y1
 top_side y0 y1 left right h = record { left_end = h.reach.top_left; right_end = h.reach.top_right; not_negative = h.legal.top }
-
-pub not_both_empty : (y0 y1 : ℤ) (left right : Line) → IsShot (trapezoid y0 y1 left right) → (side_length left right y0 +ℤ side_length left right y1) ≡ pos 0 → ⊥
-not_both_empty y0 y1 left right h e = omega (arith, ints, h.legal.not_flat, e)
 
 pub shot_of_sides : (y0 y1 : ℤ) (left right : Line) → IsWithinReach y0 → IsWithinReach y1 → y0 <ℤ y1 → IsSide left right y0 → IsSide left right y1 → pos 0 <ℤ (side_length left right y0 +ℤ side_length left right y1) → IsShot (trapezoid y0 y1 left right)
 shot_of_sides y0 y1 left right r0 r1 rows bottom top area = record {

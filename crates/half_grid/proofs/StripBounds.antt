@@ -1,6 +1,6 @@
 -- The strips of a tile, by its number in the row. With n the number, 2i <= n <= 2i + 1,
 -- 4p <= n + 2j + 1 <= 4p + 3 and 4q <= n - 2j - 1 <= 4q + 3.
-use Rattle.std.proofs.Common.{◌≡◌, ◌+◌, ◌*◌, ◌≤◌, Bool, true, false, ℤ, pos, ◌+ℤ◌, ◌-ℤ◌, arith, refl, cond}
+use Rattle.std.proofs.Common.{◌≡◌, ◌+◌, ◌*◌, ◌≤◌, Bool, true, false, ℤ, pos, ◌+ℤ◌, ◌-ℤ◌, arith, refl}
 use borrow.Author.Differences.{up, down}
 use Rattle.std.proofs.lemmas.Int.{ints}
 use Rattle.half_grid.specs.Halves.{half, is_even}
@@ -9,10 +9,7 @@ use Rattle.half_grid.specs.Rows.{number_at, number_in_row}
 use Rattle.half_grid.specs.declared.plane.Side.{Side}
 use Rattle.half_grid.specs.declared.plane.Side.TheVariants.{Left, Right}
 use Rattle.half_grid.specs.declared.plane.Tile.{Tile}
-use Rattle.half_grid.proofs.Halves.{half_low, half_high, half_even, half_odd, chosen}
-
-by_parity : (z x y : ℤ) {w : ℤ} → (is_even z ≡ true → x ≡ w) → (is_even z ≡ false → y ≡ w) → cond (is_even z) x y ≡ w
-by_parity z x y {w} f g = chosen (is_even z) x y w f g
+use Rattle.half_grid.proofs.Halves.{half_low, half_high, half_even, half_odd}
 
 sum_low : (b : Bool) (i j : ℤ) (side : Side) → is_even (i +ℤ j) ≡ b → 4 * up (sum_strip i j side) + down (number_at i side) + 2 * down j ≤ 4 * down (sum_strip i j side) + up (number_at i side) + 2 * up j + 1
 sum_low true i j Left e = rw e (omega (arith, ints, half_even (i +ℤ j) e))
@@ -73,16 +70,3 @@ i_low t = number_low t.i t.side
 -- n <= 2i + 1
 pub i_high : (t : Tile) → up (number_in_row t) + 2 * down t.i ≤ down (number_in_row t) + 2 * up t.i + 1
 i_high t = number_high t.i t.side
-
--- The table in one formula a side: rounding down does the choice by parity.
-pub sum_strip_left : (i j : ℤ) → sum_strip i j Left ≡ half (i +ℤ j)
-sum_strip_left i j = by_parity (i +ℤ j) (half (i +ℤ j)) (half ((i +ℤ j) -ℤ pos 1)) (λ e. refl) (λ e. omega (arith, ints, half_odd (i +ℤ j) e, half_low ((i +ℤ j) -ℤ pos 1), half_high ((i +ℤ j) -ℤ pos 1)))
-
-pub sum_strip_right : (i j : ℤ) → sum_strip i j Right ≡ half ((i +ℤ j) +ℤ pos 1)
-sum_strip_right i j = by_parity (i +ℤ j) (half (i +ℤ j)) (half ((i +ℤ j) +ℤ pos 1)) (λ e. omega (arith, ints, half_even (i +ℤ j) e, half_low ((i +ℤ j) +ℤ pos 1), half_high ((i +ℤ j) +ℤ pos 1))) (λ e. refl)
-
-pub difference_strip_left : (i j : ℤ) → difference_strip i j Left ≡ half ((i -ℤ j) -ℤ pos 1)
-difference_strip_left i j = by_parity (i +ℤ j) (half (i -ℤ j) -ℤ pos 1) (half ((i -ℤ j) -ℤ pos 1)) (λ e. omega (arith, ints, half_even (i +ℤ j) e, half_low (i -ℤ j), half_high (i -ℤ j), half_low ((i -ℤ j) -ℤ pos 1), half_high ((i -ℤ j) -ℤ pos 1))) (λ e. refl)
-
-pub difference_strip_right : (i j : ℤ) → difference_strip i j Right ≡ half (i -ℤ j)
-difference_strip_right i j = by_parity (i +ℤ j) (half (i -ℤ j)) (half ((i -ℤ j) -ℤ pos 1)) (λ e. refl) (λ e. omega (arith, ints, half_odd (i +ℤ j) e, half_low (i -ℤ j), half_high (i -ℤ j), half_low ((i -ℤ j) -ℤ pos 1), half_high ((i -ℤ j) -ℤ pos 1)))

@@ -1,3 +1,4 @@
+-- ---- what is promised, in reading order
 pub mod Halves
 pub mod Reach
 pub mod Tiles

@@ -20,5 +20,5 @@ pub use layouts::gds_line;
 pub use oasis::oas_line;
 pub use pieces::{Line, Piece};
 pub use report::say_report;
-pub use saying::say_pieces;
+pub use saying::{put_pieces, say_pieces};
 pub use trees::tree_line;

@@ -3,17 +3,16 @@ ghost use Rattle.std.specs.Prelude.{◌≡◌, IsTrue, OnOk, OnErr, IsErrOf, ◌
 ghost use Rattle.std.specs.List.{zip};
 ghost use Rattle.depot.specs.Content.{with_said, IsPartSaid};
 ghost use Rattle.depot.specs.Counts.{Rose, NeverFall};
-ghost use Rattle.shot_listing.specs.Saying.{IsSaidButFor};
+ghost use Rattle.depot.specs.Printing.{IsSaidButFor};
 ghost use Rattle.job_report.specs.Pieces.{spelled};
 ghost use Rattle.job_report.specs.Report.{format_name, layout_lines, output_line, report};
 
 use crate::pieces::Piece;
 use crate::saying::put_pieces;
 use deck_text::Output;
-use depot::{Buffer, Depot, DepotBad};
+use depot::{Buffer, Depot, DepotBad, flush};
 use job_input::Format;
 use layout_model::Counts;
-use shot_listing::flush;
 use shot_writer::Sums;
 
 fn format_name(format: Format) -> &'static str

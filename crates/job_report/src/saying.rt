@@ -2,14 +2,13 @@
 ghost use Rattle.std.specs.Prelude.{◌≡◌, IsTrue, OnOk, OnErr, IsErrOf, ◌∷◌, ◌++◌};
 ghost use Rattle.depot.specs.Content.{with_said, IsPartSaid};
 ghost use Rattle.depot.specs.Counts.{Rose, NeverFall};
-ghost use Rattle.shot_listing.specs.Saying.{IsSaidButFor};
+ghost use Rattle.depot.specs.Printing.{IsSaidButFor};
 ghost use Rattle.job_report.specs.Pieces.{names_text, text_of, spelled};
 
 use crate::hexadecimal::digits_of;
 use crate::pieces::Piece;
-use depot::{Buffer, Depot, DepotBad};
+use depot::{Buffer, Depot, DepotBad, flush, put_piece};
 use layout_model::Name;
-use shot_listing::{flush, put_piece};
 
 // Puts a name behind a space.
 fn put_name<D: Depot>(depot: &mut D, buffer: &mut Buffer, name: &Name) -> Result<(), DepotBad>
@@ -74,7 +73,7 @@ fn put_one<D: Depot>(depot: &mut D, buffer: &mut Buffer, piece: &Piece) -> Resul
 }
 
 /// Puts what the pieces say, one after another.
-pub(crate) fn put_pieces<D: Depot>(
+pub fn put_pieces<D: Depot>(
     depot: &mut D,
     buffer: &mut Buffer,
     pieces: &[Piece],

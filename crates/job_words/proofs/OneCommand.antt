@@ -2,7 +2,7 @@
 use Rattle.std.proofs.Common.{◌≡◌, ℕ, ◌+◌, ◌*◌, List, [], Option, get_or, refl, sym, ap, subst, ◌∙◌}
 use Rattle.std.specs.Prelude.{◌==◌, if◌then◌else◌, unwrap_or}
 use Rattle.deck_text.specs.Kinds.{digits_value}
-use Rattle.job_words.specs.Words.{Command, Fracture, Check, Shots, Pack, Unpack, Generate, AreWordsOf}
+use Rattle.job_words.specs.Words.{Command, Fracture, Check, Shots, Pack, Unpack, Split, Density, Generate, AreWordsOf}
 
 word : ℕ → List (List ℕ) → List ℕ
 word k words = get_or words k []
@@ -22,6 +22,8 @@ shape t words =
     else if t == 334 then Shots (word 1 words)
     else if t == 321 then Pack (word 1 words) (word 2 words)
     else if t == 344 then Unpack (word 1 words) (word 2 words)
+    else if t == 342 then Split (number (word 1 words)) (word 2 words) (word 3 words)
+    else if t == 301 then Density (number (word 1 words)) (word 2 words) (word 3 words)
     else Generate (number (word 1 words)) (word 2 words)
 
 shaped : (words : List (List ℕ)) (command : Command) → AreWordsOf words command → shape (tag words) words ≡ command
@@ -31,6 +33,12 @@ shaped words (Check layout deck) h = subst (λ (w : List (List ℕ)). shape (tag
 shaped words (Shots file) h = subst (λ (w : List (List ℕ)). shape (tag w) w ≡ Shots file) (sym h) refl
 shaped words (Pack file out) h = subst (λ (w : List (List ℕ)). shape (tag w) w ≡ Pack file out) (sym h.are) refl
 shaped words (Unpack file out) h = subst (λ (w : List (List ℕ)). shape (tag w) w ≡ Unpack file out) (sym h.are) refl
+shaped words (Split size file out) h =
+    subst (λ (w : List (List ℕ)). shape (tag w) w ≡ Split size file out) (sym h.are)
+    (ap (λ (m : Option ℕ). Split (unwrap_or m 0) file out) h.number.value)
+shaped words (Density size layout deck) h =
+    subst (λ (w : List (List ℕ)). shape (tag w) w ≡ Density size layout deck) (sym h.are)
+    (ap (λ (m : Option ℕ). Density (unwrap_or m 0) layout deck) h.number.value)
 shaped words (Generate n file) h =
     subst (λ (w : List (List ℕ)). shape (tag w) w ≡ Generate n file) (sym h.are)
     (ap (λ (m : Option ℕ). Generate (unwrap_or m 0) file) h.number.value)

@@ -7,5 +7,6 @@ mod numbers;
 mod tests;
 
 pub use commands::{
-    check_names, file_word, fracture_names, generate_words, pack_names, shots_name, unpack_names,
+    check_names, density_words, file_word, fracture_names, generate_words, pack_names, shots_name,
+    split_words, unpack_names,
 };

@@ -1,7 +1,9 @@
 //! Numbers in words.
 
-ghost use Rattle.std.specs.Prelude.{ℕ, IfSome, IfNone};
-ghost use Rattle.job_words.specs.Words.{IsNumberWithin};
+ghost use Rattle.std.specs.Prelude.{◌≡◌, ℕ, IfSome, IfNone};
+ghost use Rattle.std.specs.List.{list_all};
+ghost use Rattle.std.specs.Char.{is_ascii_digit};
+ghost use Rattle.job_words.specs.Words.{IsNumberWithin, are_some_digits, is_whole_number, is_stripe_ending};
 
 use deck_text::digits_value;
 
@@ -20,4 +22,50 @@ pub(crate) fn number_within(digits: &[u8], least: u32, most: u32) -> Option<u32>
         return None;
     }
     Some(value as u32)
+}
+
+// Whether each byte is a digit.
+fn all_digits(bytes: &[u8]) -> bool
+    ensures { result ≡ list_all is_ascii_digit bytes.now }
+{
+    for byte in bytes {
+        if !byte.is_ascii_digit() {
+            return false;
+        }
+    }
+    true
+}
+
+// Whether these are one digit or more.
+fn are_some_digits(digits: &[u8]) -> bool
+    ensures { result ≡ are_some_digits digits.now }
+{
+    match digits {
+        [] => false,
+        [_, ..] => all_digits(digits),
+    }
+}
+
+// Whether this is an optional `-` and then one digit or more.
+#[tactic(auto, unfolding(crate::specs::Words::is_whole_number))]
+fn is_whole_number(text: &[u8]) -> bool
+    ensures { result ≡ is_whole_number text.now }
+{
+    match text {
+        [] => false,
+        [b'-', digits @ ..] => are_some_digits(digits),
+        [_, ..] => are_some_digits(text),
+    }
+}
+
+/// Whether this is a point and then a whole number, as the names of stripes' files end.
+#[tactic(auto, unfolding(crate::specs::Words::is_stripe_ending))]
+pub(crate) fn is_stripe_ending(ending: &[u8]) -> bool
+    ensures { result ≡ is_stripe_ending ending.now }
+{
+    match ending {
+        [] => false,
+        [b'.', number @ ..] => is_whole_number(number),
+        [_, ..] => false,
+    }
 }

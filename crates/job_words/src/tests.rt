@@ -1,5 +1,5 @@
 //! Words that are a command, and words that almost are one.
-use crate::{file_word, generate_words, pack_names, unpack_names};
+use crate::{density_words, file_word, generate_words, pack_names, split_words, unpack_names};
 use geo_stream::NoMemory;
 use std::alloc::Global;
 use std::test::Fail;
@@ -31,5 +31,30 @@ fn numbers(rt: HostRuntime) -> Result<(), Fail> {
     assert!(rt; generate_words(&words(alloc, &["generate", "1001", "f"])?).is_none());
     assert!(rt; generate_words(&words(alloc, &["generate", "+1", "f"])?).is_none());
     assert!(rt; generate_words(&words(alloc, &["generate", "", "f"])?).is_none());
+    Ok(())
+}
+
+#[test]
+fn a_number_and_two_names(rt: HostRuntime) -> Result<(), Fail> {
+    let alloc = rt.alloc();
+    let split = words(alloc, &["split", "16", "f", "s"])?;
+    assert!(rt; split_words(&split) == Some((16, "f", "s")));
+    assert!(rt; file_word(&split) == "f");
+    assert!(rt; split_words(&words(alloc, &["split", "16777217", "f", "s"])?).is_none());
+    let density = words(alloc, &["density", "64", "l", "d"])?;
+    assert!(rt; density_words(&density) == Some((64, "l", "d")));
+    assert!(rt; density_words(&words(alloc, &["density", "63", "l", "d"])?).is_none());
+    Ok(())
+}
+
+#[test]
+fn a_stripe_onto_its_file(rt: HostRuntime) -> Result<(), Fail> {
+    let alloc = rt.alloc();
+    assert!(rt; split_words(&words(alloc, &["split", "16", "s.0", "s"])?).is_none());
+    assert!(rt; split_words(&words(alloc, &["split", "16", "s.-007", "s"])?).is_none());
+    assert!(rt; split_words(&words(alloc, &["split", "16", "s.", "s"])?).is_some());
+    assert!(rt; split_words(&words(alloc, &["split", "16", "s.-", "s"])?).is_some());
+    assert!(rt; split_words(&words(alloc, &["split", "16", "s.1x", "s"])?).is_some());
+    assert!(rt; split_words(&words(alloc, &["split", "16", "s", "s"])?).is_some());
     Ok(())
 }

@@ -14,10 +14,6 @@ use Rattle.layout_model.proofs.Cuts.{cut_at, get_at, get_past, HasNone, none_mor
 one_more : (k : ℕ) → k + 1 ≡ suc k
 one_more k = omega arith
 
--- what a look at some place of a list decides
-no_look : {A : Type 0} (P : A → Type 0) (xs : List A) (k : ℕ) (x : A) → slice_get xs k ≡ Some x → (P x → ⊥) → IsSomeAnd (slice_get xs k) P → ⊥
-no_look P xs k x e never = rw e never
-
 no_place : {A : Type 0} (P : A → Type 0) (xs : List A) (k : ℕ) → slice_get xs k ≡ None → IsSomeAnd (slice_get xs k) P → ⊥
 no_place P xs k e = rw e (λ h. h)
 
@@ -27,9 +23,6 @@ no_place P xs k e = rw e (λ h. h)
 pub record Straight (points : List Point) (at : Point) (rest : List Point) (number : ℕ) : Type 0 where
   pub edges : drop number (edges_of points) ≡ edges_of (at ∷ rest)
   pub none : HasNone (IsDiagonalAt points) number
-
-pub straight_start : (a : Point) (rest : List Point) → Straight (a ∷ rest) a rest 0
-straight_start a rest = record { edges = refl; none = λ k low. absurd (omega (arith, low)) }
 
 pub straight_more : (points : List Point) (a b : Point) (rest : List Point) (k : ℕ) → Straight points a (b ∷ rest) k → is_diagonal (a, b) ≡ false → Straight points b rest (k + 1)
 straight_more points a b rest k p off =
@@ -57,9 +50,6 @@ pub record Onward (points : List Point) (at : Point) (rest : List Point) (headin
   pub left : drop number (moves points) ≡ moves (at ∷ rest)
   pub last : heading ≡ last_direction (take number (moves points))
   pub none : HasNone (IsTurnBackAt points) number
-
-pub onward_start : (a : Point) (rest : List Point) → Onward (a ∷ rest) a rest Still 0
-onward_start a rest = record { left = refl; last = refl; none = λ k low. absurd (omega (arith, low)) }
 
 pub onward_more : (points : List Point) (a b : Point) (rest : List Point) (heading : Direction) (k : ℕ) → Onward points a (b ∷ rest) heading k
     → are_opposite heading (direction_of a b) ≡ false → Onward points b rest (later heading (direction_of a b)) (k + 1)

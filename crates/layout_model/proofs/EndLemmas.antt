@@ -1,5 +1,5 @@
 -- The first and the last segment, as a walk finds them.
-use Rattle.std.proofs.Common.{◌≡◌, ◌-◌, true, false, List, [], ◌∷◌, ◌++◌, length, Option, Some, None, unwrap_or, slice_get, refl, ap, ◌∙◌, sym, arith, append_assoc, length-append}
+use Rattle.std.proofs.Common.{◌≡◌, ◌-◌, true, false, List, [], ◌∷◌, ◌++◌, length, Option, Some, unwrap_or, slice_get, refl, ap, ◌∙◌, sym, arith, append_assoc, length-append}
 use Rattle.half_grid.specs.declared.plane.Point.{Point}
 use Rattle.layout_model.specs.declared.stretches.Stretch.{Stretch}
 use Rattle.layout_model.specs.declared.stretches.Brush.{Brush}
@@ -12,9 +12,6 @@ pub record Ended (brush : Brush) (whole : List Stretch) (walk : Walk) (first : O
   pub done : List Stretch
   pub split : done ++ walk_list brush walk rest ≡ whole
   pub start : slice_get done 0 ≡ first
-
-pub ended_start : (b : Brush) (w : Walk) (rest : List Point) → Ended b (walk_list b w rest) w None rest
-ended_start b w rest = record { done = []; split = refl; start = refl }
 
 first_of_more : (done : List Stretch) (first : Option Stretch) (s : Stretch) (more : List Stretch) → slice_get done 0 ≡ first → slice_get (done ++ s ∷ more) 0 ≡ Some (unwrap_or first s)
 first_of_more [] first s more e = rw (← e) refl

@@ -1,5 +1,5 @@
 -- The edges that a walk along a point list has passed, all of them on the grid.
-use Rattle.std.proofs.Common.{◌≡◌, ◌<◌, ℕ, ◌+◌, List, [], ◌∷◌, get_or, drop, refl, sym, subst, arith, below_more, pos, suc, inl, inr}
+use Rattle.std.proofs.Common.{◌≡◌, ◌<◌, ℕ, ◌+◌, List, [], ◌∷◌, get_or, drop, sym, subst, arith, below_more, pos, suc, inl, inr}
 use Rattle.std.proofs.lemmas.Bool.{cases_lt}
 use Rattle.std.specs.List.{AllWithin}
 use Rattle.half_grid.specs.declared.plane.Point.{Point}
@@ -12,9 +12,6 @@ use Rattle.layout_model.proofs.Cuts.{cut_at, past_end}
 pub record Passed (points : List Point) (at : Point) (rest : List Point) (number : ℕ) : Type 0 where
   pub edges : drop number (edges_of points) ≡ edges_of (at ∷ rest)
   pub on_grid : AllWithin IsOnGrid (edges_of points) 0 number
-
-pub passed_start : (a : Point) (rest : List Point) → Passed (a ∷ rest) a rest 0
-passed_start a rest = record { edges = refl; on_grid = λ k d low high. absurd (omega (arith, high)) }
 
 one_more : (P : ℕ → Type 0) (n : ℕ) → ((k : ℕ) → k < n → P k) → P n → (k : ℕ) → k < n + 1 → P k
 one_more P n = below_more P n

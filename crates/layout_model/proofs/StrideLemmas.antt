@@ -29,11 +29,6 @@ steps_exact length pace l p n el ep some = rw (el, ep, pos-*ℤ-pos n p) (
   (λ h. (let e = (steps_least l p n some).0 h in omega (arith, ints, e))),
 )
 
-pub steps_none : (length pace : ℤ) (n : ℕ) → length ≤ℤ pos 0 → pos 1 ≤ℤ pace → (length ≤ℤ (pos n *ℤ pace)) ↔ (0 ≤ n)
-steps_none length pace n none some =
-    let e = farther 0 n pace (omega arith) (omega (arith, ints, some)) in
-    let z = zero-*ℤ pace in ((λ h. omega arith), (λ h. omega (arith, ints, e, z, none)))
-
 neg_product : (n : ℕ) (z : ℤ) → pos n *ℤ neg_ℤ z ≡ neg_ℤ (pos n *ℤ z)
 neg_product zero z = rw (zero-*ℤ (neg_ℤ z), zero-*ℤ z) refl
 neg_product (suc n) (pos zero) = rw (*ℤ-zero (pos (suc n))) refl
@@ -41,9 +36,6 @@ neg_product (suc n) (pos (suc m)) = rw (pos-*ℤ-negsuc (suc n) m, pos-*ℤ-pos 
 neg_product (suc n) (negsuc m) = rw (pos-*ℤ-negsuc (suc n) m, pos-*ℤ-pos (suc n) (suc m)) (omega (arith, ints))
 
 -- ---- steps up and down
-
-pub up_early : (low high start step length : ℤ) (r n : ℕ) → length ≡ low -ℤ start → (length ≤ℤ (pos n *ℤ step)) ↔ (r ≤ n) → n < r → ¬ IsBetween low high (start +ℤ (pos n *ℤ step))
-up_early low high start step length r n e g h between = let a = between.above in let k = g.0 (omega (arith, ints, a, e)) in absurd (omega arith)
 
 pub up_onward : (low high start step length : ℤ) (r n m : ℕ) → length ≡ low -ℤ start → (length ≤ℤ (pos n *ℤ step)) ↔ (r ≤ n) → pos 0 ≤ℤ step → r ≤ n → n ≤ m → IsBetween low high (start +ℤ (pos m *ℤ step)) → IsBetween low high (start +ℤ (pos n *ℤ step))
 up_onward low high start step length r n m e g up h k between =
@@ -66,9 +58,6 @@ down_onward low high start step length pace r n m e p g down h k between =
     let q = ap (λ z. pos n *ℤ z) p ∙ neg_product n step in
     let f = nearer n m step k down in
     record { above = omega (arith, ints, a, f); below = omega (arith, ints, b, e, q) }
-
-pub still_onward : (low high start step : ℤ) (n m : ℕ) → step ≡ pos 0 → IsBetween low high (start +ℤ (pos m *ℤ step)) → IsBetween low high (start +ℤ (pos n *ℤ step))
-still_onward low high start step n m e between = subst (λ z. IsBetween low high (start +ℤ z)) (ap (λ z. pos m *ℤ z) e ∙ *ℤ-zero (pos m) ∙ sym (ap (λ z. pos n *ℤ z) e ∙ *ℤ-zero (pos n))) between
 
 -- ---- searches
 
@@ -142,15 +131,6 @@ pub alike_none : (interval : Interval) (ruler : Ruler) (stride : Stride) (from :
     → HasNoneBetween interval (after_steps stride) (from / ruler.nu) ruler.nv → HasNoneBetween interval (mark ruler) from (ruler.nu * ruler.nv)
 alike_none interval ruler stride from some none start step empty = λ k after before between.
     empty (k / ruler.nu) (rows_order ruler.nu from k some after) (row_inside ruler.nu ruler.nv k some before) (subst (IsBetween interval.low interval.high) (alike ruler stride k none start step) between)
-
-pub alike_here : (interval : Interval) (ruler : Ruler) (stride : Stride) (from row : ℕ) → from < ruler.nu * ruler.nv → ruler.u ≡ pos 0 → stride.start ≡ pos 0 → stride.step ≡ ruler.v → row ≡ from / ruler.nu
-    → IsFirstBetween interval (after_steps stride) (from / ruler.nu) ruler.nv row → IsFirstBetween interval (mark ruler) from (ruler.nu * ruler.nv) from
-alike_here interval ruler stride from row inside none start step here found = record {
-  after = omega arith;
-  before = inside;
-  inside = subst (IsBetween interval.low interval.high) (ap (after_steps stride) here ∙ sym (alike ruler stride from none start step)) found.inside;
-  none = λ k after before between. absurd (omega arith);
-}
 
 pub alike_there : (interval : Interval) (ruler : Ruler) (stride : Stride) (from row : ℕ) → 1 ≤ ruler.nu → ruler.u ≡ pos 0 → stride.start ≡ pos 0 → stride.step ≡ ruler.v → (row ≡ from / ruler.nu → ⊥)
     → IsFirstBetween interval (after_steps stride) (from / ruler.nu) ruler.nv row → IsFirstBetween interval (mark ruler) from (ruler.nu * ruler.nv) (row * ruler.nu)

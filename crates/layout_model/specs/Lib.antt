@@ -1,3 +1,4 @@
+-- ---- what is promised, in reading order
 pub mod Pairs
 pub mod Products
 pub mod Names
@@ -5,11 +6,12 @@ pub mod Grids
 pub mod Hulls
 pub mod Offsets
 pub mod Intervals
-pub mod Strides
 pub mod Images
 pub mod Slants
 pub mod Paths
 pub mod PathBounds
 pub mod PathLaws
-pub mod Walks
 pub mod Layouts
+-- ---- what is kept inside
+pub mod Strides
+pub mod Walks

@@ -1,1 +1,3 @@
+-- ---- what is promised, in reading order
+-- ---- what is kept inside
 pub mod Ends

@@ -10,6 +10,8 @@ const USAGE: &str = "nettletide 1.0.0 writes the shot files of a chip layout for
     nettletide shots FILE                  lists a shot file
     nettletide pack FILE OUT               writes a shot file with repetitions
     nettletide unpack FILE OUT             writes a packed shot file without
+    nettletide split SIZE FILE OUT         writes a shot file for each stripe of fields, SIZE from 16 half units
+    nettletide density SIZE LAYOUT DECK    counts triangles of the deck's areas in windows, SIZE from 64 half units
     nettletide generate N FILE             writes a GDSII layout for tests and measurements, N from 1 to 1,000
 
 LAYOUT is a GDSII or an OASIS file, and DECK a text that says which layers are taken and what is made of them.

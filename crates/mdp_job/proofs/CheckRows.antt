@@ -12,7 +12,8 @@ use Rattle.file_check.specs.declared.faults.CheckFault.{CheckFault as OutputFaul
 use Rattle.file_check.specs.declared.faults.CheckFault.TheVariants as faults
 use Rattle.file_check.specs.Files.{IsFirstFileFault}
 use Rattle.file_check.specs.declared.faults.CheckBad.TheVariants as bads
-use Rattle.file_check.proofs.ForCallers.{Class, Missing, class_of, same_class, fault_class, AllClasses, IsFirstAt, no_first, one_first, all_classes, files_before, first_before, refused_file, fault_first, MissingFile, missing_file, missing_first}
+use Rattle.file_check.proofs.ForCallers.{Class, Missing, class_of, same_class, fault_class, AllClasses, IsFirstAt, no_first, one_first, all_classes}
+use Rattle.file_check.proofs.ForCallers.{files_before, first_before, refused_file, fault_first, MissingFile, missing_file, missing_first}
 use Rattle.mdp_job.specs.Runs.{Run, run_of, ReadRose, WriteRose, ComesExactlyWhere}
 use Rattle.mdp_job.specs.Denoted.{plan_of}
 use Rattle.mdp_job.specs.Faults.{fault_of}
@@ -39,6 +40,8 @@ output_fault other (all.Bad bad) = faults.Bad bad
 output_fault other all.Head = faults.Head
 output_fault other (all.Verdict verdict) = faults.Verdict verdict
 output_fault other (all.Pack bad) = other
+output_fault other (all.Wide k) = other
+output_fault other (all.Stripes value) = other
 
 back : (other fault : OutputFault) → output_fault other (fault_of fault) ≡ fault
 unfolding output_fault
@@ -69,36 +72,46 @@ all_before before now after input e h = record {
 left_before : (before now after : Content) → ChangesLeftOnly before now → ChangesLeftOnly now after → ChangesLeftOnly before after
 left_before before now after e h = h ∙ ap (λ (c : Content). with_left c after.left) e
 
-pub checked_before : (before now after : Content) (o p q : Counts) (input : Input) (s : Status) → ChangesLeftOnly before now → NeverFall p q → IsChecked (run_of now after o p) input s → IsChecked (run_of before after o q) input s
+pub checked_before : (before now after : Content) (o p q : Counts) (input : Input) (s : Status)
+    → ChangesLeftOnly before now → NeverFall p q → IsChecked (run_of now after o p) input s → IsChecked (run_of before after o q) input s
 checked_before before now after o p q input answers.Done e later x = all_before before now after input e x
 checked_before before now after o p q input answers.Words e later x = x
 checked_before before now after o p q input (answers.Deck fault) e later x = x
 checked_before before now after o p q input (answers.Layout fault) e later x = x
-checked_before before now after o p q input answers.ReadFault e later (x, rest) =
-    (first_before (plan_of input) before now _ _ bads.ReadFault e (λ rose. Rose-earlier o.read_faults p.read_faults q.read_faults rose later.read_faults) x, left_before before now after e rest)
-checked_before before now after o p q input answers.WriteFault e later (rose, x) = (Rose-earlier o.write_faults p.write_faults q.write_faults rose later.write_faults, half_before before now after input e x)
+checked_before before now after o p q input answers.ReadFault e later (x, rest) = (
+  first_before (plan_of input) before now _ _ bads.ReadFault e
+      (λ rose. Rose-earlier o.read_faults p.read_faults q.read_faults rose later.read_faults) x,
+  left_before before now after e rest,
+)
+checked_before before now after o p q input answers.WriteFault e later (rose, x) =
+    (Rose-earlier o.write_faults p.write_faults q.write_faults rose later.write_faults, half_before before now after input e x)
 checked_before before now after o p q input answers.NoMemory e later (inl rest) = inl (left_before before now after e rest)
-checked_before before now after o p q input answers.NoMemory e later (inr (rose, x)) = inr (Rose-earlier o.refused p.refused q.refused rose later.refused, half_before before now after input e x)
+checked_before before now after o p q input answers.NoMemory e later (inr (rose, x)) =
+    inr (Rose-earlier o.refused p.refused q.refused rose later.refused, half_before before now after input e x)
 checked_before before now after o p q input (answers.No place fault) e later (of, is, x, rest) = (
   of,
   is,
-  first_before (plan_of input) before now _ _ (bads.Refused place of) e (λ rose. Rose-earlier o.read_faults p.read_faults q.read_faults rose later.read_faults) x,
+  first_before (plan_of input) before now _ _ (bads.Refused place of) e
+      (λ rose. Rose-earlier o.read_faults p.read_faults q.read_faults rose later.read_faults) x,
   left_before before now after e rest,
 )
 
 pub check_later : (b m : Content) (o p q : Counts) (layout deck : List ℕ) (s : Status) (top : Option (List ℕ)) → NeverFall p q
     → IsCheckAnswer (run_of b m o p) layout deck s top → IsCheckAnswer (run_of b m o q) layout deck s top
 check_later b m o p q layout deck s top later h =
-    answer_later (IsChecked (run_of b m o q)) (IsChecked (run_of b m o p)) b m o p q layout deck s top later (λ input t x. checked_before b b m o p q input t refl later x) h
+    answer_later (IsChecked (run_of b m o q)) (IsChecked (run_of b m o p)) b m o p q layout deck s top later
+    (λ input t x. checked_before b b m o p q input t refl later x) h
 
 -- from the content before the reading
-pub checked_from : (before now after : Content) (o n p : Counts) (input : Input) (s : Status) → n ≡ o → ChangesLeftOnly before now → IsChecked (run_of now after n p) input s → IsChecked (run_of before after o p) input s
+pub checked_from : (before now after : Content) (o n p : Counts) (input : Input) (s : Status) → n ≡ o
+    → ChangesLeftOnly before now → IsChecked (run_of now after n p) input s → IsChecked (run_of before after o p) input s
 checked_from before now after o n p input s same e x =
     subst (λ (c : Counts). IsChecked (run_of before after c p) input s) same
     (checked_before before now after n p p input s e (record { read_faults = omega (arith); write_faults = omega (arith); refused = omega (arith) }) x)
 
 -- the outputs that the line of a refused file needs
-pub outputs_told : (r : Run) (layout deck : List ℕ) (input : Input) (s : Status) (outputs : Option (List Output)) → HoldsInput r.before layout deck input → IsChecked r input s → outputs ≡ Some input.deck.outputs
+pub outputs_told : (r : Run) (layout deck : List ℕ) (input : Input) (s : Status) (outputs : Option (List Output))
+    → HoldsInput r.before layout deck input → IsChecked r input s → outputs ≡ Some input.deck.outputs
     → HasOutputs r.before layout deck s outputs
 outputs_told r layout deck input s outputs holds x e place fault is =
     let refused : IsChecked r input (answers.No place fault) = subst (λ (t : Status). IsChecked r input t) is x in
@@ -113,7 +126,8 @@ class_there (faults.Bad bad) e = cc
 class_there faults.Head e = cc
 class_there (faults.Verdict verdict) e = cc
 
-refused_first : (c : Content) (layout deck : List ℕ) (place : ℕ) (fault : OutputFault) (h : IsRefusedAt c layout deck place fault) → IsFirstAt (plan_of h.input) c place (class_of fault)
+refused_first : (c : Content) (layout deck : List ℕ) (place : ℕ) (fault : OutputFault)
+    (h : IsRefusedAt c layout deck place fault) → IsFirstAt (plan_of h.input) c place (class_of fault)
 refused_first c layout deck place fault h =
     let class = fault_class (plan_of h.input) place h.output c fault h.fault_is in
     record { before = classes_before h.input c layout deck place h.holds h.before; output = h.output; at = h.at; class = class.0; not_exact = class.1 }
@@ -130,10 +144,12 @@ nothing_first c layout deck h = record {
 module _ (r : Run) (input : Input) where
   -- all files are exact, so none is the first that isn't
   none_first : (place : ℕ) (x : Class) (sums : List Sums) → AreAllExact r.before input sums → IsFirstAt (plan_of input) r.before place x → ⊥
-  none_first place x sums all first = no_first (plan_of input) r.before place x (all_classes (plan_of input) r.before (length input.deck.outputs) sums all) first
+  none_first place x sums all first =
+      no_first (plan_of input) r.before place x (all_classes (plan_of input) r.before (length input.deck.outputs) sums all) first
 
   missing_refused : (place : ℕ) (fault : OutputFault) → MissingFile (plan_of input) r.before → IsFirstAt (plan_of input) r.before place (class_of fault) → ⊥
-  missing_refused place fault m first = class_there fault (one_first (plan_of input) r.before m.place place Missing (class_of fault) (missing_first (plan_of input) r.before m) first).1
+  missing_refused place fault m first =
+      class_there fault (one_first (plan_of input) r.before m.place place Missing (class_of fault) (missing_first (plan_of input) r.before m) first).1
 
   pub fault_due : (s : Status) (place : ℕ) (fault : OutputFault) → IsChecked r input s → IsFirstAt (plan_of input) r.before place (class_of fault)
       → (s ≡ answers.No place (fault_of fault)) ⊎ (s ≡ answers.NoMemory) ⊎ ((s ≡ answers.ReadFault) × ReadRose r)
@@ -149,11 +165,13 @@ module _ (r : Run) (input : Input) where
   fault_due answers.WriteFault place fault (rose, x) first = absurd (none_first place (class_of fault) x.sums x.exact first)
   fault_due answers.NoMemory place fault x first = inr (inl refl)
   fault_due (answers.No other bad) place fault (of, is, x, rest) first =
-      let one = one_first (plan_of input) r.before other place (class_of of) (class_of fault) (fault_first (plan_of input) r.before (ReadRose r) other of x) first in
+      let one = one_first (plan_of input) r.before other place (class_of of) (class_of fault)
+      (fault_first (plan_of input) r.before (ReadRose r) other of x) first in
       let same : of ≡ fault = same_class of fault one.1 in
       inl (ap (λ (k : ℕ). answers.No k bad) one.0 ∙ ap (answers.No place) (is ∙ ap fault_of same))
 
-  pub nothing_due : (s : Status) (place : ℕ) → IsChecked r input s → IsFirstAt (plan_of input) r.before place Missing → (s ≡ answers.ReadFault) ⊎ (s ≡ answers.NoMemory)
+  pub nothing_due : (s : Status) (place : ℕ) → IsChecked r input s → IsFirstAt (plan_of input) r.before place Missing
+      → (s ≡ answers.ReadFault) ⊎ (s ≡ answers.NoMemory)
   nothing_due answers.Done place x first = absurd (none_first place Missing x.sums x.exact first)
   nothing_due answers.Words place x first = absurd x
   nothing_due (answers.Deck other) place x first = absurd x
@@ -165,7 +183,8 @@ module _ (r : Run) (input : Input) where
       let one = one_first (plan_of input) r.before place other Missing (class_of of) first (fault_first (plan_of input) r.before (ReadRose r) other of x) in
       absurd (class_there of one.1)
 
-  pub exact_due : (s : Status) → IsChecked r input s → AllClasses (plan_of input) r.before (length input.deck.outputs) → (ReadRose r → ⊥) → (WriteRose r → ⊥) → s ≢ answers.NoMemory → s ≡ answers.Done
+  pub exact_due : (s : Status) → IsChecked r input s → AllClasses (plan_of input) r.before (length input.deck.outputs)
+      → (ReadRose r → ⊥) → (WriteRose r → ⊥) → s ≢ answers.NoMemory → s ≡ answers.Done
   exact_due answers.Done x all reads writes memory = refl
   exact_due answers.Words x all reads writes memory = absurd x
   exact_due (answers.Deck other) x all reads writes memory = absurd x
@@ -190,9 +209,17 @@ module _ (r : Run) (layout deck : List ℕ) (s : Status) (top : Option (List ℕ
       let same : x.0 ≡ fault = same_of x.0 fault (sym x.1) in
       let first = subst (λ (f : OutputFault). IsFirstFileFault (plan_of given.input) r.before (ReadRose r) (bads.Refused place f)) same x.2 in
       let f = refused_file (plan_of given.input) r.before (ReadRose r) place fault first in
-      record { input = given.input; holds = given.holds; before = before_exact given.input r.before place f.sums f.before; output = f.output; at = f.at; fault_is = f.fault_is }
+      record {
+        input = given.input;
+        holds = given.holds;
+        before = before_exact given.input r.before place f.sums f.before;
+        output = f.output;
+        at = f.at;
+        fault_is = f.fault_is;
+      }
 
-  pub file_refused : (place : ℕ) (fault : OutputFault) → ComesExactlyWhere (ReadRose r) s (answers.No place (fault_of fault)) (IsRefusedAt r.before layout deck place fault)
+  pub file_refused : (place : ℕ) (fault : OutputFault)
+      → ComesExactlyWhere (ReadRose r) s (answers.No place (fault_of fault)) (IsRefusedAt r.before layout deck place fault)
   file_refused place fault = record {
     only = refused_only place fault;
     whenever = λ cause. elim (input_due (IsChecked r) r layout deck s top h cause.input cause.holds) [
@@ -215,7 +242,8 @@ module _ (r : Run) (layout deck : List ℕ) (s : Status) (top : Option (List ℕ
   pub certified : s ≡ answers.Done → (input : Input) × HoldsInput r.before layout deck input × AreExact r.before input
   certified e = let x = done_exactly e in (x.input, x.holds, all_exact x.input r.before x.reported.sums x.reported.exact)
 
-  pub exact_where : (ReadRose r → ⊥) → (WriteRose r → ⊥) → s ≢ answers.NoMemory → (input : Input) → HoldsInput r.before layout deck input → AreExact r.before input → s ≡ answers.Done
+  pub exact_where : (ReadRose r → ⊥) → (WriteRose r → ⊥) → s ≢ answers.NoMemory → (input : Input)
+      → HoldsInput r.before layout deck input → AreExact r.before input → s ≡ answers.Done
   exact_where reads writes memory input holds exact =
       elim (input_due (IsChecked r) r layout deck s top h input holds) [
         | inl x ↦ exact_due r input s x (classes_all input r.before layout deck holds exact) reads writes memory
@@ -230,7 +258,15 @@ module _ (r : Run) (layout deck : List ℕ) (s : Status) (top : Option (List ℕ
         | inr (inl want) ↦ inr (inl want)
         | inr (inr (input, holds, x)) ↦ elim (missing_file (plan_of input) r.before (ReadRose r) x.0) [
           | inl rose ↦ inl rose
-          | inr m ↦ inr (inr (record { input = input; holds = holds; place = m.place; before = before_exact input r.before m.place m.sums m.before; output = m.output; at = m.at; missing = m.missing }))
+          | inr m ↦ inr (inr (record {
+            input = input;
+            holds = holds;
+            place = m.place;
+            before = before_exact input r.before m.place m.sums m.before;
+            output = m.output;
+            at = m.at;
+            missing = m.missing;
+          }))
         ]
       ]
 

@@ -35,10 +35,12 @@ pub record Ends (tells : Bool) (b m a : Content) (o p q : Counts) (words : List 
   pub counts : CountsFor o p s
 
 -- from what the parts of the call say
-pub ends_of : (tells : Bool) (b m a : Content) (o p q : Counts) (words : List (List ℕ)) (s : Status) (top : Option (List ℕ)) (outputs : Option (List Output)) → IsTrue tells
+pub ends_of : (tells : Bool) (b m a : Content) (o p q : Counts) (words : List (List ℕ)) (s : Status)
+    (top : Option (List ℕ)) (outputs : Option (List Output)) → IsTrue tells
     → IsAnswerTo tells (run_of b m o p) words s top → NamesFile b words s outputs → CountsFor o p s → NeverFall o p → NeverFall p q → (s ≡ answers.Done → a ≡ m)
     → IsPartSaid m (line_of (file_of (file_word words) outputs s) (name_of top) s) a
-    → ((a ≡ with_said m (line_of (file_of (file_word words) outputs s) (name_of top) s)) × (q ≡ p)) ⊎ Rose p.write_faults q.write_faults ⊎ Rose p.refused q.refused
+    → ((a ≡ with_said m (line_of (file_of (file_word words) outputs s) (name_of top) s)) × (q ≡ p))
+    ⊎ Rose p.write_faults q.write_faults ⊎ Rose p.refused q.refused
     → Ends tells b m a o p q words s top
 ends_of tells b m a o p q words s top outputs told table file counts earlier later done part whole = record {
   told = told;
@@ -104,12 +106,15 @@ pub whole_quiet : (b a : Content) (file bytes x : List ℕ) → a ≡ with_said 
 whole_quiet b a file bytes x e = inr (
   length bytes,
   omega (arith),
-  subst (λ (c : Content). unsaid b c ≡ with_current (with_file b file (take (length bytes) bytes)) (unsaid b c).current) (sym e) (ap (λ (t : List ℕ). with_file b file t) (sym (take-length bytes))),
+  subst (λ (c : Content). unsaid b c ≡ with_current (with_file b file (take (length bytes) bytes)) (unsaid b c).current)
+      (sym e) (ap (λ (t : List ℕ). with_file b file t) (sym (take-length bytes))),
 )
 
 -- a file is made and a part of its line said, and then something more
-pub line_quiet : (b m a : Content) (file bytes line x : List ℕ) → IsPartSaid (with_file b file bytes) line m → a ≡ with_said m x → IsPartMade b file bytes (unsaid b a)
+pub line_quiet : (b m a : Content) (file bytes line x : List ℕ) → IsPartSaid (with_file b file bytes) line m → a
+    ≡ with_said m x → IsPartMade b file bytes (unsaid b a)
 line_quiet b m a file bytes line x (n, few, f) e =
     let front = take n line in
     let made = with_file b file bytes in
-    whole_quiet b a file bytes (front ++ x) (e ∙ ap (λ (c : Content). with_said c x) f ∙ ap (λ (t : List ℕ). record made { said = t }) (append_assoc made.said front x))
+    whole_quiet b a file bytes (front ++ x)
+    (e ∙ ap (λ (c : Content). with_said c x) f ∙ ap (λ (t : List ℕ). record made { said = t }) (append_assoc made.said front x))

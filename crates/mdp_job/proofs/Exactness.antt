@@ -21,7 +21,7 @@ use Rattle.shot_output.specs.TileCounts.{IsNumberOfTilesIn}
 use Rattle.shot_output.proofs.ForCallers.{area_count}
 use Rattle.job_input.specs.Accepted.{HoldsInput}
 use Rattle.job_input.specs.declared.reading.Input.{Input}
-use Rattle.output_check.specs.Certificates.{IsCertified}
+use Rattle.file_check.specs.Certificates.{IsCertified}
 use Rattle.file_check.specs.Files.{IsExactFile, AreExactFiles}
 use Rattle.file_check.proofs.ForCallers.{IsClass, Judged, AllClasses, file_of_place}
 use Rattle.mdp_job.specs.Denoted.{plan_of, area_of}
@@ -34,7 +34,8 @@ area_at input o t = IsSomeAnd o (λ output. IsInArea input.tree.layout.cells inp
 
 -- ---- from a shot file
 
-text_with : (bytes : List ℕ) (unit : ℕ) (pair : Option Pair) (shots : List Trapezoid) (deck : Deck) (output : Output) → IsFileOf bytes unit pair shots → unit ≡ 2 * deck.unit → IfSome pair (λ p. p ≡ output.pair)
+text_with : (bytes : List ℕ) (unit : ℕ) (pair : Option Pair) (shots : List Trapezoid) (deck : Deck) (output : Output)
+    → IsFileOf bytes unit pair shots → unit ≡ 2 * deck.unit → IfSome pair (λ p. p ≡ output.pair)
     → bytes ≡ text_of deck output shots
 unfolding shot_text
 text_with bytes unit None shots deck output f e h =
@@ -45,10 +46,12 @@ text_with bytes unit (Some p) shots deck output f e h =
     let datatype : f.datatype ≡ output.pair.datatype = sym f.agrees.1 ∙ ap (λ (q : Pair). q.datatype) h in
     f.text ∙ rw (layer, datatype, e) refl
 
-cover_of : (input : Input) (k : ℕ) (output : Output) (shots : List Trapezoid) → slice_get input.deck.outputs k ≡ Some output → IsCertified (plan_of input) k shots → CoversExactly shots (area_of input output)
+cover_of : (input : Input) (k : ℕ) (output : Output) (shots : List Trapezoid) → slice_get input.deck.outputs k
+    ≡ Some output → IsCertified (plan_of input) k shots → CoversExactly shots (area_of input output)
 cover_of input k output shots at h = subst (λ (o : Option Output). CoversExactly shots (area_at input o)) at h.covers
 
-pub file_exact : (input : Input) (c : Content) (k : ℕ) (output : Output) (sums : Sums) → slice_get input.deck.outputs k ≡ Some output → IsExactFile (plan_of input) k output c sums → IsExact c input output
+pub file_exact : (input : Input) (c : Content) (k : ℕ) (output : Output) (sums : Sums) → slice_get input.deck.outputs k
+    ≡ Some output → IsExactFile (plan_of input) k output c sums → IsExact c input output
 file_exact input c k output sums at (bytes, holds, x) = (
   bytes,
   holds.held,
@@ -62,7 +65,8 @@ file_exact input c k output sums at (bytes, holds, x) = (
   },
 )
 
-file_sum : (input : Input) (c : Content) (k : ℕ) (output : Output) (sums : Sums) → slice_get input.deck.outputs k ≡ Some output → IsExactFile (plan_of input) k output c sums → IsExactSum c input output sums
+file_sum : (input : Input) (c : Content) (k : ℕ) (output : Output) (sums : Sums) → slice_get input.deck.outputs k
+    ≡ Some output → IsExactFile (plan_of input) k output c sums → IsExactSum c input output sums
 file_sum input c k output sums at (bytes, holds, x) =
     let text = text_with bytes x.s.unit x.s.pair x.s.shots input.deck output x.text x.head.unit x.head.pair in
     let tiles = area_count (area_of input output) x.s.shots x.text.legal (cover_of input k output x.s.shots at x.certified) in
@@ -112,15 +116,18 @@ pair_is output (z ∷ shots) = refl
 unit_fits : (layout deck : List ℕ) (d : Deck) → IsSound layout deck d → IsUnit (2 * d.unit)
 unit_fits layout deck d s = record { even = omega (arith); some = omega (arith, s.unit_low); few = omega (arith, s.unit_high) }
 
-output_sound : (layout deck : List ℕ) (d : Deck) (k : ℕ) (output : Output) → IsSound layout deck d → slice_get d.outputs k ≡ Some output → IsSoundOutput layout deck (length d.steps) output
+output_sound : (layout deck : List ℕ) (d : Deck) (k : ℕ) (output : Output) → IsSound layout deck d
+    → slice_get d.outputs k ≡ Some output → IsSoundOutput layout deck (length d.steps) output
 output_sound layout deck d k output s at =
     let within = slice_get_within d.outputs k output at in
-    subst (IsSoundOutput layout deck (length d.steps)) (get_or_from_slice_get d.outputs k output output at) (All-get_or (IsSoundOutput layout deck (length d.steps)) d.outputs k output within s.outputs)
+    subst (IsSoundOutput layout deck (length d.steps)) (get_or_from_slice_get d.outputs k output output at)
+    (All-get_or (IsSoundOutput layout deck (length d.steps)) d.outputs k output within s.outputs)
 
 narrow_pair : (layout deck : List ℕ) (count : ℕ) (o : Output) → IsSoundOutput layout deck count o → IsNarrowPair o.pair.layer o.pair.datatype
 narrow_pair layout deck count o s = record { layer_bits = omega (arith, s.narrow.layer); datatype_bits = omega (arith, s.narrow.datatype) }
 
-pub exact_file : (input : Input) (c : Content) (layout deck : List ℕ) (k : ℕ) (output : Output) → HoldsInput c layout deck input → slice_get input.deck.outputs k ≡ Some output → IsExact c input output
+pub exact_file : (input : Input) (c : Content) (layout deck : List ℕ) (k : ℕ) (output : Output)
+    → HoldsInput c layout deck input → slice_get input.deck.outputs k ≡ Some output → IsExact c input output
     → IsClass (plan_of input) k output c (Judged Exact)
 exact_file input c layout deck k output holds at (bytes, held, short, is) =
     let s = sound holds.holds_deck.bytes layout deck input.deck holds.holds_deck.is_deck in
@@ -146,8 +153,10 @@ exact_file input c layout deck k output holds at (bytes, held, short, is) =
       },
     )
 
-pub classes_before : (input : Input) (c : Content) (layout deck : List ℕ) (n : ℕ) → HoldsInput c layout deck input → AreExactBefore c input n → AllClasses (plan_of input) c n
+pub classes_before : (input : Input) (c : Content) (layout deck : List ℕ) (n : ℕ) → HoldsInput c layout deck input
+    → AreExactBefore c input n → AllClasses (plan_of input) c n
 classes_before input c layout deck n holds h k output less at = exact_file input c layout deck k output holds at (h k output less at)
 
-pub classes_all : (input : Input) (c : Content) (layout deck : List ℕ) → HoldsInput c layout deck input → AreExact c input → AllClasses (plan_of input) c (length input.deck.outputs)
+pub classes_all : (input : Input) (c : Content) (layout deck : List ℕ) → HoldsInput c layout deck input
+    → AreExact c input → AllClasses (plan_of input) c (length input.deck.outputs)
 classes_all input c layout deck holds h k output less at = exact_file input c layout deck k output holds at (h k output at)

@@ -58,7 +58,8 @@ ended_kind wr rr done half s (inl x) = inl x.0
 ended_kind wr rr done half s (inr (inl x)) = inr (inl x.0)
 ended_kind wr rr done half s (inr (inr x)) = inr (inr x.0)
 
-not_ended : (s t : Status) → (s ≡ answers.Done) ⊎ (s ≡ answers.WriteFault) ⊎ (s ≡ answers.NoMemory) → s ≡ t → (t ≡ answers.Done → ⊥) → (t ≡ answers.WriteFault → ⊥) → (t ≡ answers.NoMemory → ⊥) → ⊥
+not_ended : (s t : Status) → (s ≡ answers.Done) ⊎ (s ≡ answers.WriteFault) ⊎ (s ≡ answers.NoMemory) → s ≡ t
+    → (t ≡ answers.Done → ⊥) → (t ≡ answers.WriteFault → ⊥) → (t ≡ answers.NoMemory → ⊥) → ⊥
 not_ended s t (inl x) e a b c = a (sym e ∙ x)
 not_ended s t (inr (inl x)) e a b c = b (sym e ∙ x)
 not_ended s t (inr (inr x)) e a b c = c (sym e ∙ x)
@@ -105,7 +106,8 @@ module _ (command : FileCommand) (known : IsOneThing command) (r : Run) (file : 
   fault_due (inr (inr (inl (is, inr missing, rest)))) fault cause = absurd (known.fault_there r.before file fault cause missing)
   fault_due (inr (inr (inr (is, why, rest)))) fault cause = inr (inl is)
 
-  pub fault_row : IsFileAnswer command r file s → (fault : CheckFault) → ComesExactlyWhere (ReadRose r) s (answers.No 0 fault) (command.faulty r.before file fault)
+  pub fault_row : IsFileAnswer command r file s → (fault : CheckFault)
+      → ComesExactlyWhere (ReadRose r) s (answers.No 0 fault) (command.faulty r.before file fault)
   fault_row answer fault = record { only = fault_only answer fault; whenever = fault_due answer fault }
 
   pub missing_due : IsFileAnswer command r file s → IsNotThere r.before file → (s ≡ answers.ReadFault) ⊎ ((s ≡ answers.NoMemory) × RefusedRose r)
@@ -114,7 +116,8 @@ module _ (command : FileCommand) (known : IsOneThing command) (r : Run) (file : 
   missing_due (inr (inr (inl (is, why, rest)))) missing = inl is
   missing_due (inr (inr (inr (is, why, rest)))) missing = inr (is, why missing)
 
-  pub done_where : IsFileAnswer command r file s → (ReadRose r → ⊥) → (WriteRose r → ⊥) → s ≢ answers.NoMemory → (d : ShotData) → command.holds r.before file d → s ≡ answers.Done
+  pub done_where : IsFileAnswer command r file s → (ReadRose r → ⊥) → (WriteRose r → ⊥) → s ≢ answers.NoMemory
+      → (d : ShotData) → command.holds r.before file d → s ≡ answers.Done
   done_where (inl (d, h, made)) reads writes memory other g = ended_where _ _ _ _ s made writes memory
   done_where (inr (inl (f, is, cause, rest))) reads writes memory other g = absurd (known.right r.before file other f g cause)
   done_where (inr (inr (inl (is, inl rose, rest)))) reads writes memory other g = absurd (reads rose)
@@ -128,7 +131,8 @@ module _ (command : FileCommand) (r : Run) (file : List ℕ) (s : Status) where
   read_cause (inr (inr (inl (is, why, rest)))) e = why
   read_cause (inr (inr (inr (is, why, rest)))) e = absurd (read_memory (sym e ∙ is))
 
-  pub done_is : IsFileAnswer command r file s → s ≡ answers.Done → (d : ShotData) × command.holds r.before file d × command.done (with_left r.before []) r.after d
+  pub done_is : IsFileAnswer command r file s → s ≡ answers.Done → (d : ShotData) × command.holds r.before file d
+      × command.done (with_left r.before []) r.after d
   done_is (inl (d, h, made)) e = (d, h, ended_done _ _ _ _ s made e)
   done_is (inr (inl (f, is, cause, rest))) e = absurd (no_done f (sym is ∙ e))
   done_is (inr (inr (inl (is, why, rest)))) e = absurd (read_done (sym is ∙ e))
@@ -143,7 +147,8 @@ module _ (command : FileCommand) (r : Run) (file : List ℕ) (s : Status) where
   -- an answer other than Done leaves the content as it was but for what is left to be read, or a part is made
   pub left_or_half : IsFileAnswer command r file s → s ≢ answers.Done
       → ChangesLeftOnly r.before r.after
-      ⊎ (((s ≡ answers.WriteFault) ⊎ ((s ≡ answers.NoMemory) × RefusedRose r)) × (d : ShotData) × command.holds r.before file d × command.half (with_left r.before []) r.after d)
+      ⊎ (((s ≡ answers.WriteFault) ⊎ ((s ≡ answers.NoMemory) × RefusedRose r)) × (d : ShotData)
+      × command.holds r.before file d × command.half (with_left r.before []) r.after d)
   left_or_half (inl (d, h, inl (is, x))) n = absurd (n is)
   left_or_half (inl (d, h, inr (inl (is, rose, half)))) n = inr (inl is, d, h, half)
   left_or_half (inl (d, h, inr (inr (is, rose, half)))) n = inr (inr (is, rose), d, h, half)

@@ -1,5 +1,5 @@
 -- What holds after Done, from the table of answers.
-use Rattle.std.proofs.Common.{◌≡◌, ◌≢◌, ◌⊎◌, inl, inr, ℕ, ◌≤◌, Bool, List, [], ◌++◌, Option, None, Some, refl, sym, ap, subst, ◌∙◌, arith}
+use Rattle.std.proofs.Common.{◌≡◌, ◌≢◌, ◌⊎◌, inl, inr, ℕ, pos, ◌≤◌, Bool, List, [], ◌++◌, Option, None, Some, refl, sym, ap, subst, ◌∙◌, arith}
 use Rattle.depot.specs.Content.{Content, with_left}
 use Rattle.depot.specs.Counts.{Counts, NeverFall, Rose}
 use Rattle.depot.proofs.ForCallers.{Rose-earlier}
@@ -11,27 +11,31 @@ use Rattle.shot_repeat.specs.Packed.{IsPackedText}
 use Rattle.shot_repeat.proofs.ForCallers.{text_stands}
 use Rattle.job_input.specs.Accepted.{HoldsInput}
 use Rattle.job_input.specs.declared.reading.Input.{Input}
-use Rattle.job_words.specs.Words.{Fracture, Check, Shots, Pack, Unpack, Generate, IsFracture, IsCheck}
+use Rattle.job_words.specs.Words.{Fracture, Check, Shots, Pack, Unpack, Split, Density, Generate, IsFracture, IsCheck}
 use Rattle.mdp_job.specs.Runs.{run_of}
 use Rattle.mdp_job.specs.Headline.{Covers, Certifies}
 use Rattle.mdp_job.specs.Outputs.{AreEconomic, AreSummed, IsReported, report_on}
 use Rattle.mdp_job.specs.Certificates.{IsExactReported}
 use Rattle.mdp_job.specs.ShotFiles.{ShotData, pair_or, packed_of}
+use Rattle.mdp_job.specs.Splitting.{IsSplit}
+use Rattle.mdp_job.specs.Densities.{AreTablesSaid}
 use Rattle.mdp_job.specs.Parts.{IsDone, IsMade, IsFractured}
-use Rattle.mdp_job.specs.Table.{listing_command, packing_command, unpacking_command}
-use Rattle.mdp_job.specs.Clauses.{Spares, Generates, Packs, Unpacks, Coverage, Reports, Lists, FaultsTold}
+use Rattle.mdp_job.specs.Table.{listing_command, packing_command, unpacking_command, splitting_command}
+use Rattle.mdp_job.specs.Clauses.{Spares, Generates, Packs, Unpacks, Splits, Tabulates, Coverage, Reports, Lists, FaultsTold}
 use Rattle.mdp_job.specs.Parts.{CountsFor}
 use Rattle.mdp_job.specs.declared.status.Status.{Status}
 use Rattle.mdp_job.specs.declared.status.Status.TheVariants as answers
 use Rattle.mdp_job.proofs.Rows.{done_given}
 use Rattle.mdp_job.proofs.CheckRows.{done_exactly, certified}
+use Rattle.mdp_job.proofs.DensityRows.{density_done}
 use Rattle.mdp_job.proofs.FileRows.{done_is, ended_done, memory_done, write_done}
 use Rattle.mdp_job.proofs.Exactness.{all_summed as exact_summed}
 use Rattle.mdp_job.proofs.Table.{answer_for}
 use Rattle.mdp_job.proofs.Ends.{Ends, input_rules}
 use Rattle.mdp_job.proofs.Written.{all_economic, all_summed, covered_then, written_said}
 
-made_done : (tells : Bool) (b a : Content) (wr rr : Type 0) (input : Input) (s : Status) → IsMade tells b a wr rr input s → s ≡ answers.Done → IsDone tells b a input
+made_done : (tells : Bool) (b a : Content) (wr rr : Type 0) (input : Input) (s : Status)
+    → IsMade tells b a wr rr input s → s ≡ answers.Done → IsDone tells b a input
 made_done tells b a wr rr input s (inl x) e = x.1
 made_done tells b a wr rr input s (inr (inl x)) e = absurd (write_done (sym x.0 ∙ e))
 made_done tells b a wr rr input s (inr (inr x)) e = absurd (memory_done (sym x.0 ∙ e))
@@ -54,12 +58,15 @@ agrees_or (Some pair) = (refl, refl)
 
 packed_stands : (bytes : List ℕ) (s : ShotData) → IsTextFile bytes s.unit s.pair s.shots → IsPackedText (packed_of s) s.unit s.pair s.shots
 packed_stands bytes s f =
-    text_stands s.unit (pair_or s.pair).layer (pair_or s.pair).datatype s.pair s.shots f.unit_fits (narrow_or s.pair s.shots f.pair_fits) f.legal f.pair_fits (agrees_or s.pair)
+    text_stands s.unit (pair_or s.pair).layer (pair_or s.pair).datatype s.pair s.shots f.unit_fits
+    (narrow_or s.pair s.shots f.pair_fits) f.legal f.pair_fits (agrees_or s.pair)
 
-module _ (tells : Bool) (b m a : Content) (o p q : Counts) (words : List (List ℕ)) (s : Status) (top : Option (List ℕ)) (h : Ends tells b m a o p q words s top) where
+module _ (tells : Bool) (b m a : Content) (o p q : Counts) (words : List (List ℕ)) (s : Status) (top : Option (List ℕ))
+    (h : Ends tells b m a o p q words s top) where
   finished : (layout deck : List ℕ) → IsFracture words layout deck → s ≡ answers.Done → Finished tells b a layout deck
   finished layout deck is e =
-      let given = done_given (IsFractured tells (run_of b m o p)) (run_of b m o p) layout deck s top (answer_for tells (run_of b m o p) words s top h.table (Fracture layout deck) is) e in
+      let given = done_given (IsFractured tells (run_of b m o p)) (run_of b m o p) layout deck s top
+      (answer_for tells (run_of b m o p) words s top h.table (Fracture layout deck) is) e in
       record {
         input = given.input;
         holds = given.holds;
@@ -69,8 +76,12 @@ module _ (tells : Bool) (b m a : Content) (o p q : Counts) (words : List (List �
 
   covers : Covers (run_of b a o q) words s
   covers layout deck is e =
-      let f = finished layout deck is e in
-      (f.input, f.holds, covered_then tells f.input b f.done.whole a f.done.sums (report_on f.input f.done.sums) h.told (input_rules b layout deck f.input f.holds) f.done.written f.done.said)
+      let f = finished layout deck is e in (
+        f.input,
+        f.holds,
+        covered_then tells f.input b f.done.whole a f.done.sums (report_on f.input f.done.sums) h.told
+            (input_rules b layout deck f.input f.holds) f.done.written f.done.said,
+      )
 
   economy : Spares (run_of b a o q) words s
   economy layout deck is e =
@@ -88,11 +99,17 @@ module _ (tells : Bool) (b m a : Content) (o p q : Counts) (words : List (List �
       let x = done_is (unpacking_command out) (run_of b m o p) file s (answer_for tells (run_of b m o p) words s top h.table (Unpack file out) is) e in
       (x.0, x.1, h.done e ∙ x.2)
 
+  splits : Splits (run_of b a o q) words s
+  splits size file out is e =
+      let x = done_is (splitting_command (pos size) out) (run_of b m o p) file s
+      (answer_for tells (run_of b m o p) words s top h.table (Split size file out) is) e in
+      (x.0, x.1, subst (λ (c : Content). IsSplit (with_left b []) c (pos size) out x.0) (sym (h.done e)) x.2)
+
   generates : Generates (run_of b a o q) words s
   generates n file is e = h.done e ∙ ended_done _ _ _ _ s (answer_for tells (run_of b m o p) words s top h.table (Generate n file) is) e
 
   pub coverage : Coverage (run_of b a o q) words s
-  coverage = record { cover = covers; economy = economy; packed = packs; unpacked = unpacks; generated = generates }
+  coverage = record { cover = covers; economy = economy; packed = packs; unpacked = unpacks; split = splits; generated = generates }
 
   pub certifies : Certifies (run_of b a o q) words s
   certifies layout deck is e = certified (run_of b m o p) layout deck s top (answer_for tells (run_of b m o p) words s top h.table (Check layout deck) is) e
@@ -108,11 +125,13 @@ module _ (tells : Bool) (b m a : Content) (o p q : Counts) (words : List (List �
         record {
           sums = f.done.sums;
           summed = subst (λ files. AreSummed files f.input f.done.sums) (sym (ap (λ (c : Content). c.made) f.done.said)) summed;
-          said = ap (λ (c : Content). c.said) f.done.said ∙ ap (λ t. t ++ report_on f.input f.done.sums) (written_said tells f.input b f.done.whole f.done.sums h.told f.done.written);
+          said = ap (λ (c : Content). c.said) f.done.said
+              ∙ ap (λ t. t ++ report_on f.input f.done.sums) (written_said tells f.input b f.done.whole f.done.sums h.told f.done.written);
         },
       )
 
-  exactly_reported : (layout deck : List ℕ) → IsCheck words layout deck → s ≡ answers.Done → (input : Input) × HoldsInput b layout deck input × IsExactReported b a input
+  exactly_reported : (layout deck : List ℕ) → IsCheck words layout deck → s ≡ answers.Done → (input : Input)
+      × HoldsInput b layout deck input × IsExactReported b a input
   exactly_reported layout deck is e =
       let x = done_exactly (run_of b m o p) layout deck s top (answer_for tells (run_of b m o p) words s top h.table (Check layout deck) is) e in (
         x.input,
@@ -131,6 +150,12 @@ module _ (tells : Bool) (b m a : Content) (o p q : Counts) (words : List (List �
   lists file is e =
       let x = done_is listing_command (run_of b m o p) file s (answer_for tells (run_of b m o p) words s top h.table (Shots file) is) e in
       (x.0, x.1, h.done e ∙ x.2)
+
+  pub tabulates : Tabulates (run_of b a o q) words s
+  tabulates size layout deck is e =
+      let x = density_done (run_of b m o p) (pos size) layout deck s top
+      (answer_for tells (run_of b m o p) words s top h.table (Density size layout deck) is) e in
+      (x.0, x.1, subst (λ (c : Content). AreTablesSaid (with_left b []) c (pos size) x.0) (sym (h.done e)) x.2)
 
 -- ---- what was counted
 
@@ -153,8 +178,10 @@ both_never o p q h k = record {
   refused = omega (arith, h.refused, k.refused);
 }
 
-pub faults_told : (o p q : Counts) (tells : Type 0) (s : Status) → CountsFor o p s → NeverFall o p → NeverFall p q → q.read_faults ≡ p.read_faults → (s ≡ answers.Done → q ≡ p)
-    → (s ≡ answers.ReadFault → Rose o.read_faults p.read_faults ⊎ tells) → (s ≡ answers.WriteFault → Rose o.write_faults p.write_faults) → FaultsTold o q tells s
+pub faults_told : (o p q : Counts) (tells : Type 0) (s : Status) → CountsFor o p s → NeverFall o p → NeverFall p q
+    → q.read_faults ≡ p.read_faults → (s ≡ answers.Done → q ≡ p)
+    → (s ≡ answers.ReadFault → Rose o.read_faults p.read_faults ⊎ tells)
+    → (s ≡ answers.WriteFault → Rose o.write_faults p.write_faults) → FaultsTold o q tells s
 faults_told o p q tells s c earlier later same done read write = record {
   done = λ e. done e ∙ subst (λ (x : Status). CountsFor o p x) e c;
   reads = reads_told o p q s c same later.refused;

@@ -9,6 +9,11 @@ pub mod FileRows
 pub mod Taken
 pub mod PlainFiles
 pub mod OneThing
+pub mod FieldLooks
+pub mod DensityRows
+pub mod StripeFiles
+pub mod Splits
+pub mod SplitCovers
 pub mod Table
 pub mod Ends
 pub mod Finals

@@ -20,31 +20,31 @@ use Rattle.mdp_job.proofs.FileRows.{IsOneThing}
 -- ---- plain files
 
 module _ (c : Content) (file : List ℕ) where
-  shots_there : (s : ShotData) → HoldsShots c file s → IsNotThere c file → ⊥
+  pub shots_there : (s : ShotData) → HoldsShots c file s → IsNotThere c file → ⊥
   shots_there s h missing = there (held_as c file) h.bytes h.held missing
 
-  shots_short : (s : ShotData) → HoldsShots c file s → IsLongerThan 268435456 c file → ⊥
+  pub shots_short : (s : ShotData) → HoldsShots c file s → IsLongerThan 268435456 c file → ⊥
   shots_short s h long = too_long 268435456 c file h.bytes long h.held h.short
 
-  bad_there : (bad : ShotBad) → HoldsFault c file bad → IsNotThere c file → ⊥
+  pub bad_there : (bad : ShotBad) → HoldsFault c file bad → IsNotThere c file → ⊥
   bad_there bad h missing = there (held_as c file) h.bytes h.held missing
 
-  bad_short : (bad : ShotBad) → HoldsFault c file bad → IsLongerThan 268435456 c file → ⊥
+  pub bad_short : (bad : ShotBad) → HoldsFault c file bad → IsLongerThan 268435456 c file → ⊥
   bad_short bad h long = too_long 268435456 c file h.bytes long h.held h.short
 
   -- a shot file has no fault
-  shots_right : (s : ShotData) (bad : ShotBad) → HoldsShots c file s → HoldsFault c file bad → ⊥
+  pub shots_right : (s : ShotData) (bad : ShotBad) → HoldsShots c file s → HoldsFault c file bad → ⊥
   shots_right s bad h k =
       file_right k.bytes s.unit s.pair s.shots bad
       (subst (λ (b : List ℕ). IsFileOf b s.unit s.pair s.shots) (one_content (held_as c file) h.bytes k.bytes h.held k.held) h.form) k.fault
 
   -- a file has one first fault
-  same_bad : (bad other : ShotBad) → HoldsFault c file bad → HoldsFault c file other → bad ≡ other
+  pub same_bad : (bad other : ShotBad) → HoldsFault c file bad → HoldsFault c file other → bad ≡ other
   same_bad bad other h k =
       one_fault k.bytes bad other (subst (λ (b : List ℕ). IsFirstFault b bad) (one_content (held_as c file) h.bytes k.bytes h.held k.held) h.fault) k.fault
 
   -- a file has one list of shots
-  same_shots : (s t : ShotData) → HoldsShots c file s → HoldsShots c file t → s.shots ≡ t.shots
+  pub same_shots : (s t : ShotData) → HoldsShots c file s → HoldsShots c file t → s.shots ≡ t.shots
   same_shots s t h k =
       (one_file k.bytes s.unit t.unit s.pair t.pair s.shots t.shots
       (subst (λ (b : List ℕ). IsFileOf b s.unit s.pair s.shots) (one_content (held_as c file) h.bytes k.bytes h.held k.held) h.form) k.form).2
@@ -55,6 +55,8 @@ module _ (c : Content) (file : List ℕ) where
   plain_there faults.Head h missing = h
   plain_there (faults.Verdict verdict) h missing = h
   plain_there (faults.Pack bad) h missing = h
+  plain_there (faults.Wide k) h missing = h
+  plain_there (faults.Stripes value) h missing = h
 
   plain_right : (s : ShotData) (fault : CheckFault) → HoldsShots c file s → IsShotsFault c file fault → ⊥
   plain_right s faults.Long h k = shots_short s h k
@@ -62,6 +64,8 @@ module _ (c : Content) (file : List ℕ) where
   plain_right s faults.Head h k = k
   plain_right s (faults.Verdict verdict) h k = k
   plain_right s (faults.Pack bad) h k = k
+  plain_right s (faults.Wide j) h k = k
+  plain_right s (faults.Stripes value) h k = k
 
   one_plain : (fault other : CheckFault) → IsShotsFault c file fault → IsShotsFault c file other → fault ≡ other
   one_plain faults.Long faults.Long h k = refl
@@ -71,9 +75,13 @@ module _ (c : Content) (file : List ℕ) where
   one_plain faults.Head other h k = absurd h
   one_plain (faults.Verdict verdict) other h k = absurd h
   one_plain (faults.Pack bad) other h k = absurd h
+  one_plain (faults.Wide j) other h k = absurd h
+  one_plain (faults.Stripes value) other h k = absurd h
   one_plain fault faults.Head h k = absurd k
   one_plain fault (faults.Verdict verdict) h k = absurd k
   one_plain fault (faults.Pack bad) h k = absurd k
+  one_plain fault (faults.Wide j) h k = absurd k
+  one_plain fault (faults.Stripes value) h k = absurd k
 
 pub listing_one : IsOneThing listing_command
 listing_one = record { held_there = shots_there; fault_there = plain_there; right = plain_right; one = one_plain }
@@ -92,6 +100,8 @@ module _ (c : Content) (file : List ℕ) where
   pack_fault_there (faults.Bad bad) h missing = h
   pack_fault_there faults.Head h missing = h
   pack_fault_there (faults.Verdict verdict) h missing = h
+  pack_fault_there (faults.Wide k) h missing = h
+  pack_fault_there (faults.Stripes value) h missing = h
   pack_fault_there (faults.Pack bad) h missing = there (held_as c file) h.bytes h.held missing
 
   no_pack_fault : (s : ShotData) (bad : PackBad) → HoldsPacked c file s → HoldsPackFault c file bad → ⊥
@@ -104,11 +114,14 @@ module _ (c : Content) (file : List ℕ) where
   packed_right s (faults.Bad bad) h k = k
   packed_right s faults.Head h k = k
   packed_right s (faults.Verdict verdict) h k = k
+  packed_right s (faults.Wide j) h k = k
+  packed_right s (faults.Stripes value) h k = k
   packed_right s (faults.Pack bad) h k = no_pack_fault s bad h k
 
   same_pack_fault : (bad other : PackBad) → HoldsPackFault c file bad → HoldsPackFault c file other → bad ≡ other
   same_pack_fault bad other h k =
-      one_pack_fault k.bytes bad other (subst (λ (b : List ℕ). IsFirstPackFault b bad) (one_content (held_as c file) h.bytes k.bytes h.held k.held) h.fault) k.fault
+      one_pack_fault k.bytes bad other
+      (subst (λ (b : List ℕ). IsFirstPackFault b bad) (one_content (held_as c file) h.bytes k.bytes h.held k.held) h.fault) k.fault
 
   one_packed : (fault other : CheckFault) → IsPackedFault c file fault → IsPackedFault c file other → fault ≡ other
   one_packed faults.Long faults.Long h k = refl
@@ -118,9 +131,13 @@ module _ (c : Content) (file : List ℕ) where
   one_packed (faults.Bad bad) other h k = absurd h
   one_packed faults.Head other h k = absurd h
   one_packed (faults.Verdict verdict) other h k = absurd h
+  one_packed (faults.Wide j) other h k = absurd h
+  one_packed (faults.Stripes value) other h k = absurd h
   one_packed fault (faults.Bad bad) h k = absurd k
   one_packed fault faults.Head h k = absurd k
   one_packed fault (faults.Verdict verdict) h k = absurd k
+  one_packed fault (faults.Wide j) h k = absurd k
+  one_packed fault (faults.Stripes value) h k = absurd k
 
 pub unpacking_one : (out : List ℕ) → IsOneThing (unpacking_command out)
 unpacking_one out = record { held_there = packed_there; fault_there = pack_fault_there; right = packed_right; one = one_packed }

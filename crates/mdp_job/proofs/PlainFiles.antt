@@ -1,5 +1,6 @@
 -- What a plain shot file holds after each call of its writer, and how many triangles its shots have at most.
-use Rattle.std.proofs.Common.{◌≡◌, ℕ, ◌+◌, ◌*◌, ◌^◌, ◌≤◌, ◌<◌, ℤ, ◌-ℤ◌, ◌+ℤ◌, unsigned_abs, inl, inr, List, [], ◌∷◌, ◌++◌, length, take, All, sym, ap, subst, refl, ◌∙◌, arith, append_assoc, mul-suc}
+use Rattle.std.proofs.Common.{◌≡◌, ℕ, ◌+◌, ◌*◌, ◌^◌, ◌≤◌, ◌<◌, ℤ, ◌-ℤ◌, ◌+ℤ◌, unsigned_abs, inl, inr, List, [], ◌∷◌, ◌++◌, length, take, All, sym}
+use Rattle.std.proofs.Common.{ap, subst, refl, ◌∙◌, arith, append_assoc, mul-suc}
 use Rattle.std.proofs.lemmas.Int.{ints, unsigned_abs-mul}
 use Rattle.std.proofs.lemmas.List.{append-nil, length-append, take-append-le}
 use Rattle.std.proofs.lemmas.List.Elements.{All-head, All-tail}
@@ -25,7 +26,8 @@ of_one : (z : Trapezoid) → IsShot z → triangles_in z ≤ 2 ^ 91
 of_one z shot =
     let r = shot.reach in
     let rows : unsigned_abs (z.y1 -ℤ z.y0) ≤ 2 ^ 45 = small _ _ r.y1 r.y0 in
-    let sides : unsigned_abs (bottom_of z +ℤ top_of z) ≤ 2 ^ 46 = small_sum (bottom_of z) (top_of z) (small _ _ r.bottom_right r.bottom_left) (small _ _ r.top_right r.top_left) in
+    let sides : unsigned_abs (bottom_of z +ℤ top_of z) ≤ 2 ^ 46 =
+    small_sum (bottom_of z) (top_of z) (small _ _ r.bottom_right r.bottom_left) (small _ _ r.top_right r.top_left) in
     subst (λ (m : ℕ). m ≤ 2 ^ 91) (sym (unsigned_abs-mul (z.y1 -ℤ z.y0) (bottom_of z +ℤ top_of z))) (mul-le _ _ (2 ^ 45) (2 ^ 46) rows sides)
 
 of_all : (zs : List Trapezoid) → All IsShot zs → triangles_of zs ≤ 2 ^ 91 * length zs
@@ -61,7 +63,8 @@ module _ (c : Content) (name : List ℕ) (unit : ℕ) (pair : Pair) (shots : Lis
   started_part now (inr (n, few, e)) = inr (
     n,
     omega (arith, few, head_few),
-    e ∙ ap (λ (bytes : List ℕ). with_current (with_file c name bytes) now.current) (sym (take-append-le n (head unit) (records_of pair shots ++ end) few) ∙ ap (take n) whole_is),
+    e ∙ ap (λ (bytes : List ℕ). with_current (with_file c name bytes) now.current)
+        (sym (take-append-le n (head unit) (records_of pair shots ++ end) few) ∙ ap (take n) whole_is),
   )
 
   module _ (s : Content) (started : s ≡ with_file c name (head unit)) where

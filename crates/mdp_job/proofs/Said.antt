@@ -1,5 +1,5 @@
 -- What was said where a command wasn't done: a prefix of its text, and a prefix of the answer's line.
-use Rattle.std.proofs.Common.{◌≡◌, ◌≢◌, ◌⊎◌, inl, inr, ℕ, Bool, List, [], ◌++◌, length, take, Option, refl, sym, ap, subst, ◌∙◌, append_assoc}
+use Rattle.std.proofs.Common.{◌≡◌, ◌≢◌, ◌⊎◌, inl, inr, ℕ, pos, Bool, List, [], ◌++◌, length, take, Option, refl, sym, ap, subst, ◌∙◌, append_assoc}
 use Rattle.std.specs.Prelude.{IsTrue}
 use Rattle.std.proofs.lemmas.List.{append-nil}
 use Rattle.std.proofs.Math.Seq.{take-length}
@@ -9,28 +9,33 @@ use Rattle.depot.proofs.ForCallers.{Rose-later, Rose-earlier}
 use Rattle.layout_gen.specs.Generated.{generated}
 use Rattle.job_input.specs.Accepted.{HoldsInput}
 use Rattle.job_input.specs.declared.reading.Input.{Input}
-use Rattle.job_words.specs.Words.{Command, Fracture, Check, Shots, Pack, Unpack, Generate, AreWordsOf, IsFracture, IsCheck, IsGenerate}
+use Rattle.job_words.specs.Words.{Command, Fracture, Check, Shots, Pack, Unpack, Split, Density, Generate, AreWordsOf}
+use Rattle.job_words.specs.Words.{IsFracture, IsCheck, IsDensity, IsGenerate, IsSplit as IsSplitting}
 use Rattle.mdp_job.specs.Runs.{run_of}
 use Rattle.mdp_job.specs.Outputs.{report_on, AreSummed}
 use Rattle.mdp_job.specs.Certificates.{exact_report}
 use Rattle.mdp_job.specs.ShotFiles.{ShotData, listed, packed_of, packed_said, plain_of, unpacked_said}
+use Rattle.mdp_job.specs.Splitting.{HoldsFields, IsHalfSplit, split_text}
+use Rattle.mdp_job.specs.Densities.{IsCounted, IsDensityAnswer, AreTablesCutShort}
 use Rattle.mdp_job.specs.Filing.{IsHalfFiled}
 use Rattle.mdp_job.specs.Generating.{generated_line}
 use Rattle.mdp_job.specs.Lines.{line_of, name_of}
 use Rattle.mdp_job.specs.Parts.{IsUnsaid, IsMade, IsFractured, IsAnswer, CountsFor}
 use Rattle.mdp_job.specs.Checking.{IsHalfReported, IsChecked, IsCheckAnswer}
 use Rattle.mdp_job.specs.FileAnswers.{FileCommand, IsFileAnswer}
-use Rattle.mdp_job.specs.Table.{listing_command, packing_command, unpacking_command, IsAnswerOf, IsAnswerTo}
+use Rattle.mdp_job.specs.Table.{listing_command, packing_command, unpacking_command, splitting_command, IsAnswerOf, IsAnswerTo}
 use Rattle.mdp_job.specs.Clauses.{IsTextBy, MayBreakOff, MaySay, IsWriteTold, SaysLine, Speech}
 use Rattle.mdp_job.specs.declared.status.Status.{Status}
 use Rattle.mdp_job.specs.declared.status.Status.TheVariants as answers
 use Rattle.mdp_job.proofs.Rows.{left_or_made}
 use Rattle.mdp_job.proofs.Exactness.{all_exact, all_summed as exact_summed}
 use Rattle.mdp_job.proofs.FileRows.{left_or_half}
+use Rattle.mdp_job.proofs.StripeFiles.{cut_said as stripes_cut_said, all_quiet, all_said}
+use Rattle.mdp_job.proofs.DensityRows.{NotCounted, not_counted}
 use Rattle.mdp_job.proofs.Table.{top_of}
 use Rattle.mdp_job.proofs.Written.{all_summed, covered_then, cut_said, written_said}
 use Rattle.mdp_job.proofs.Ends.{Ends, input_rules, left_said, part_made_said}
-use Rattle.mdp_job.proofs.Finals.{reports, lists}
+use Rattle.mdp_job.proofs.Finals.{reports, lists, tabulates}
 
 module _ (b m a : Content) (o p q : Counts) (words : List (List ℕ)) (s : Status) where
   record Middle : Type 0 where
@@ -43,7 +48,8 @@ module _ (b m a : Content) (o p q : Counts) (words : List (List ℕ)) (s : Statu
   silent e = record { text = []; may = inl refl; of_text = 0; said = e ∙ sym (append-nil b.said) }
 
   -- a part of a text of the command was said
-  spoken : (command : Command) → AreWordsOf words command → MayBreakOff (run_of b a o q) command s → (text : List ℕ) → IsTextBy (run_of b a o q) command text → (n : ℕ) → m.said ≡ b.said ++ take n text → Middle
+  spoken : (command : Command) → AreWordsOf words command → MayBreakOff (run_of b a o q) command s → (text : List ℕ)
+      → IsTextBy (run_of b a o q) command text → (n : ℕ) → m.said ≡ b.said ++ take n text → Middle
   spoken command is may text by n e = record { text = text; may = inr (command, is, may, by); of_text = n; said = e }
 
   -- how saying may have ended early, of commands that take no memory for it
@@ -56,34 +62,41 @@ module _ (b m a : Content) (o p q : Counts) (words : List (List ℕ)) (s : Statu
 
   -- ---- `fracture`
 
-  unsaid_middle : (tells : Bool) (layout deck : List ℕ) (input : Input) (x : List ℕ) → IsTrue tells → Broken → IsFracture words layout deck → HoldsInput b layout deck input
+  unsaid_middle : (tells : Bool) (layout deck : List ℕ) (input : Input) (x : List ℕ) → IsTrue tells → Broken
+      → IsFracture words layout deck → HoldsInput b layout deck input
       → IsUnsaid tells (with_left b []) m input → a ≡ with_said m x → Middle
   unsaid_middle tells layout deck input x told which is holds w e =
       let legal = input_rules b layout deck input holds in
       let said = report_on input w.sums in
       let front = take w.said.0 said in
-      let whole : a ≡ with_said w.whole (front ++ x) = e ∙ ap (λ (c : Content). with_said c x) w.said.2 ∙ ap (λ (t : List ℕ). record w.whole { said = t }) (append_assoc w.whole.said front x) in
+      let whole : a ≡ with_said w.whole (front ++ x) =
+      e ∙ ap (λ (c : Content). with_said c x) w.said.2 ∙ ap (λ (t : List ℕ). record w.whole { said = t }) (append_assoc w.whole.said front x) in
       spoken (Fracture layout deck) is which said (
         input,
         holds,
         covered_then tells input b w.whole a w.sums (front ++ x) told legal w.written whole,
         w.sums,
-        subst (λ files. AreSummed files input w.sums) (sym (ap (λ (c : Content). c.made) whole)) (all_summed tells input (with_left b []) w.whole w.sums told legal w.written),
+        subst (λ files. AreSummed files input w.sums) (sym (ap (λ (c : Content). c.made) whole))
+            (all_summed tells input (with_left b []) w.whole w.sums told legal w.written),
         refl,
       )
       w.said.0 (ap (λ (c : Content). c.said) w.said.2 ∙ ap (λ t. t ++ front) (written_said tells input b w.whole w.sums told w.written))
 
-  made_middle : (tells : Bool) (layout deck : List ℕ) (input : Input) (x : List ℕ) → IsTrue tells → NeverFall p q → s ≢ answers.Done → IsFracture words layout deck
-      → HoldsInput b layout deck input → a ≡ with_said m x → IsMade tells (with_left b []) m (Rose o.write_faults p.write_faults) (Rose o.refused p.refused) input s → Middle
+  made_middle : (tells : Bool) (layout deck : List ℕ) (input : Input) (x : List ℕ) → IsTrue tells → NeverFall p q
+      → s ≢ answers.Done → IsFracture words layout deck
+      → HoldsInput b layout deck input → a ≡ with_said m x
+      → IsMade tells (with_left b []) m (Rose o.write_faults p.write_faults) (Rose o.refused p.refused) input s → Middle
   made_middle tells layout deck input x told later n is holds e (inl (f, done)) = absurd (n f)
   made_middle tells layout deck input x told later n is holds e (inr (inl (f, rose, inl cut))) = silent (cut_said tells input b m told cut)
-  made_middle tells layout deck input x told later n is holds e (inr (inl (f, rose, inr unsaid))) = unsaid_middle tells layout deck input x told (inl f) is holds unsaid e
+  made_middle tells layout deck input x told later n is holds e (inr (inl (f, rose, inr unsaid))) =
+      unsaid_middle tells layout deck input x told (inl f) is holds unsaid e
   made_middle tells layout deck input x told later n is holds e (inr (inr (f, inl same))) = silent (ap (λ (c : Content). c.said) same)
   made_middle tells layout deck input x told later n is holds e (inr (inr (f, inr (inl cut)))) = silent (cut_said tells input b m told cut)
   made_middle tells layout deck input x told later n is holds e (inr (inr (f, inr (inr (rose, unsaid))))) =
       unsaid_middle tells layout deck input x told (inr (f, Rose-earlier o.refused p.refused q.refused rose later.refused)) is holds unsaid e
 
-  fracture_middle : (tells : Bool) (top : Option (List ℕ)) (layout deck : List ℕ) (x : List ℕ) → IsTrue tells → NeverFall p q → s ≢ answers.Done → IsFracture words layout deck
+  fracture_middle : (tells : Bool) (top : Option (List ℕ)) (layout deck : List ℕ) (x : List ℕ) → IsTrue tells
+      → NeverFall p q → s ≢ answers.Done → IsFracture words layout deck
       → a ≡ with_said m x → IsAnswer tells (run_of b m o p) layout deck s top → Middle
   fracture_middle tells top layout deck x told later n is e answer =
       elim (left_or_made (IsFractured tells (run_of b m o p)) (run_of b m o p) layout deck s top answer) [
@@ -93,7 +106,8 @@ module _ (b m a : Content) (o p q : Counts) (words : List (List ℕ)) (s : Statu
 
   -- ---- `check`
 
-  half_reported : (layout deck : List ℕ) (input : Input) → Broken → IsCheck words layout deck → HoldsInput b layout deck input → IsHalfReported b m input → Middle
+  half_reported : (layout deck : List ℕ) (input : Input) → Broken → IsCheck words layout deck
+      → HoldsInput b layout deck input → IsHalfReported b m input → Middle
   half_reported layout deck input which is holds h =
       let (n, few, e) = h.part in
       spoken (Check layout deck) is which (exact_report input h.sums)
@@ -103,7 +117,8 @@ module _ (b m a : Content) (o p q : Counts) (words : List (List ℕ)) (s : Statu
   -- ---- commands on a shot file
 
   -- what was said of a half that is a file or a part of it, and of its line
-  filed_middle : (command : Command) → AreWordsOf words command → MayBreakOff (run_of b a o q) command s → (out bytes line : List ℕ) → IsTextBy (run_of b a o q) command line
+  filed_middle : (command : Command) → AreWordsOf words command → MayBreakOff (run_of b a o q) command s
+      → (out bytes line : List ℕ) → IsTextBy (run_of b a o q) command line
       → IsHalfFiled (with_left b []) m out bytes line → Middle
   filed_middle command is may out bytes line by (inl part) = silent (part_made_said (with_left b []) m out bytes part)
   filed_middle command is may out bytes line by (inr (n, few, e)) = spoken command is may line by n (ap (λ (c : Content). c.said) e)
@@ -120,20 +135,69 @@ module _ (b m a : Content) (o p q : Counts) (words : List (List ℕ)) (s : Statu
   generated_middle n file is which (inl part) = silent (part_made_said b m file (generated n) part)
   generated_middle n file is which (inr (k, few, e)) = spoken (Generate n file) is which (generated_line n) refl k (ap (λ (c : Content). c.said) e)
 
-checked_middle : (b m a : Content) (o p q : Counts) (words : List (List ℕ)) (s : Status) (layout deck : List ℕ) (input : Input) → NeverFall p q → s ≢ answers.Done → IsCheck words layout deck
+-- a part of the lines of stripes was said, and then something more
+split_middle : (b m a : Content) (o p q : Counts) (words : List (List ℕ)) (s : Status) (size : ℕ) (file out : List ℕ)
+    (d : ShotData) (x : List ℕ) → a ≡ with_said m x
+    → IsSplitting words size file out → (s ≡ answers.WriteFault) ⊎ ((s ≡ answers.NoMemory) × Rose o.refused q.refused) → HoldsFields (pos size) b file d
+    → IsHalfSplit (with_left b []) m (pos size) out d → Middle b m a o p q words s
+split_middle b m a o p q words s size file out d x e is which holds (inl cut) =
+    silent b m a o p q words s (stripes_cut_said (with_left b []) m (pos size) out d cut)
+split_middle b m a o p q words s size file out d x e is which holds (inr u) =
+    let text = split_text u.first u.lists in
+    spoken b m a o p q words s (Split size file out) is which text (
+      d,
+      holds,
+      record {
+        first = u.first;
+        lists = u.lists;
+        stripes = u.stripes;
+        content = all_quiet b m a (pos size) out d x u e;
+        is = refl;
+      },
+    )
+    u.part.0 (all_said (with_left b []) m (pos size) out d u)
+
+-- a part of the tables was said
+tables_middle : (b m a : Content) (o p q : Counts) (words : List (List ℕ)) (s : Status) (size : ℕ) (layout deck : List ℕ) (input : Input)
+    → IsDensity words size layout deck → (s ≡ answers.WriteFault) ⊎ (s ≡ answers.NoMemory) → HoldsInput b layout deck input
+    → AreTablesCutShort (with_left b []) m (pos size) input → Middle b m a o p q words s
+tables_middle b m a o p q words s size layout deck input is which holds (inl same) = silent b m a o p q words s (ap (λ (c : Content). c.said) same)
+tables_middle b m a o p q words s size layout deck input is which holds (inr (text, beginning, (n, few, e))) =
+    spoken b m a o p q words s (Density size layout deck) is which text (input, holds, beginning) n (ap (λ (c : Content). c.said) e)
+
+counted_middle : (b m a : Content) (o p q : Counts) (words : List (List ℕ)) (s : Status) (size : ℕ) (layout deck : List ℕ) (input : Input)
+    → IsDensity words size layout deck → HoldsInput b layout deck input → NotCounted (run_of b m o p) (pos size) input s → Middle b m a o p q words s
+counted_middle b m a o p q words s size layout deck input is holds cut = tables_middle b m a o p q words s size layout deck input is cut.which holds cut.cut
+
+density_middle : (b m a : Content) (o p q : Counts) (words : List (List ℕ)) (s : Status) (top : Option (List ℕ))
+    (size : ℕ) (layout deck : List ℕ) (x : List ℕ) → a ≡ with_said m x
+    → s ≢ answers.Done → IsDensity words size layout deck → IsDensityAnswer (run_of b m o p) (pos size) layout deck s top → Middle b m a o p q words s
+density_middle b m a o p q words s top size layout deck x e n is answer =
+    elim (left_or_made (IsCounted (run_of b m o p) (pos size)) (run_of b m o p) layout deck s top answer) [
+      | inl rest ↦ silent b m a o p q words s (left_said b m rest)
+      | inr given ↦ counted_middle b m a o p q words s size layout deck given.input is given.holds
+          (not_counted (run_of b m o p) (pos size) given.input s given.is n)
+    ]
+
+checked_middle : (b m a : Content) (o p q : Counts) (words : List (List ℕ)) (s : Status) (layout deck : List ℕ)
+    (input : Input) → NeverFall p q → s ≢ answers.Done → IsCheck words layout deck
     → HoldsInput b layout deck input → IsChecked (run_of b m o p) input s → Middle b m a o p q words s
 checked_middle b m a o p q words answers.Done layout deck input later n is holds x = absurd (n refl)
 checked_middle b m a o p q words answers.Words layout deck input later n is holds x = absurd x
 checked_middle b m a o p q words (answers.Deck fault) layout deck input later n is holds x = absurd x
 checked_middle b m a o p q words (answers.Layout fault) layout deck input later n is holds x = absurd x
-checked_middle b m a o p q words answers.ReadFault layout deck input later n is holds (x, rest) = silent b m a o p q words answers.ReadFault (left_said b m rest)
-checked_middle b m a o p q words answers.WriteFault layout deck input later n is holds (rose, x) = half_reported b m a o p q words answers.WriteFault layout deck input (inl refl) is holds x
+checked_middle b m a o p q words answers.ReadFault layout deck input later n is holds (x, rest) =
+    silent b m a o p q words answers.ReadFault (left_said b m rest)
+checked_middle b m a o p q words answers.WriteFault layout deck input later n is holds (rose, x) =
+    half_reported b m a o p q words answers.WriteFault layout deck input (inl refl) is holds x
 checked_middle b m a o p q words answers.NoMemory layout deck input later n is holds (inl rest) = silent b m a o p q words answers.NoMemory (left_said b m rest)
 checked_middle b m a o p q words answers.NoMemory layout deck input later n is holds (inr (rose, x)) =
     half_reported b m a o p q words answers.NoMemory layout deck input (inr (refl, Rose-earlier o.refused p.refused q.refused rose later.refused)) is holds x
-checked_middle b m a o p q words (answers.No place fault) layout deck input later n is holds (of, x, y, rest) = silent b m a o p q words (answers.No place fault) (left_said b m rest)
+checked_middle b m a o p q words (answers.No place fault) layout deck input later n is holds (of, x, y, rest) =
+    silent b m a o p q words (answers.No place fault) (left_said b m rest)
 
-check_middle : (b m a : Content) (o p q : Counts) (words : List (List ℕ)) (s : Status) (top : Option (List ℕ)) (layout deck : List ℕ) → NeverFall p q → s ≢ answers.Done → IsCheck words layout deck
+check_middle : (b m a : Content) (o p q : Counts) (words : List (List ℕ)) (s : Status) (top : Option (List ℕ))
+    (layout deck : List ℕ) → NeverFall p q → s ≢ answers.Done → IsCheck words layout deck
     → IsCheckAnswer (run_of b m o p) layout deck s top → Middle b m a o p q words s
 check_middle b m a o p q words s top layout deck later n is answer =
     elim (left_or_made (IsChecked (run_of b m o p)) (run_of b m o p) layout deck s top answer) [
@@ -168,17 +232,23 @@ module _ (tells : Bool) (b m a : Content) (o p q : Counts) (words : List (List �
   answer_middle x told later e n (Unpack file out) is answer =
       file_middle b m a o p q words s (unpacking_command out) file later n answer
       (λ d which holds half. filed_middle b m a o p q words s (Unpack file out) is which out (plain_of d) (unpacked_said d) (d, holds, refl) half)
+  answer_middle x told later e n (Split size file out) is answer =
+      file_middle b m a o p q words s (splitting_command (pos size) out) file later n answer
+      (λ d which holds half. split_middle b m a o p q words s size file out d x e is which holds half)
+  answer_middle x told later e n (Density size layout deck) is answer = density_middle b m a o p q words s top size layout deck x e n is answer
   answer_middle x told later e n (Generate k file) is (inl y) = absurd (n y.0)
   answer_middle x told later e n (Generate k file) is (inr (inl (f, rose, half))) = generated_middle b m a o p q words s k file is (inl f) half
   answer_middle x told later e n (Generate k file) is (inr (inr (f, rose, half))) =
       generated_middle b m a o p q words s k file is (inr (f, Rose-earlier o.refused p.refused q.refused rose later.refused)) half
 
-  middle : (x : List ℕ) → IsTrue tells → NeverFall p q → a ≡ with_said m x → IsAnswerTo tells (run_of b m o p) words s top → s ≢ answers.Done → Middle b m a o p q words s
+  middle : (x : List ℕ) → IsTrue tells → NeverFall p q → a ≡ with_said m x
+      → IsAnswerTo tells (run_of b m o p) words s top → s ≢ answers.Done → Middle b m a o p q words s
   middle x told later e (inl (command, is, answer)) n = answer_middle x told later e n command is answer
   middle x told later e (inr (none, f, same)) n = silent b m a o p q words s (ap (λ (c : Content). c.said) same)
 
   says_by : (h : Ends tells b m a o p q words s top) → Middle b m a o p q words s
-      → ((a ≡ with_said m (line_of h.file (name_of top) s)) × (q ≡ p)) ⊎ Rose p.write_faults q.write_faults ⊎ Rose p.refused q.refused → SaysLine (run_of b a o q) words s
+      → ((a ≡ with_said m (line_of h.file (name_of top) s)) × (q ≡ p)) ⊎ Rose p.write_faults q.write_faults
+      ⊎ Rose p.refused q.refused → SaysLine (run_of b a o q) words s
   says_by h k (inl (e, same)) =
       let line = line_of h.file (name_of top) s in
       record {
@@ -215,5 +285,6 @@ module _ (tells : Bool) (b m a : Content) (o p q : Counts) (words : List (List �
   speaks h = record {
     report = reports tells b m a o p q words s top h;
     listed = lists tells b m a o p q words s top h;
+    densities = tabulates tells b m a o p q words s top h;
     line = λ n. says_by h (middle (take h.part.0 (line_of h.file (name_of top) s)) h.told h.later h.part.2 h.table n) h.whole;
   }

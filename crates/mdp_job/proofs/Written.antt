@@ -35,7 +35,8 @@ area_at input o t = IsSomeAnd o (λ output. IsInArea input.tree.layout.cells inp
 
 -- ---- an output that is whole
 
-pub whole_covered : (tells : Bool) (input : Input) (now : Content) (k : ℕ) (output : Output) (sum : Sums) → IsTrue tells → HasRules input.deck → slice_get input.deck.outputs k ≡ Some output
+pub whole_covered : (tells : Bool) (input : Input) (now : Content) (k : ℕ) (output : Output) (sum : Sums) → IsTrue tells
+    → HasRules input.deck → slice_get input.deck.outputs k ≡ Some output
     → IsWhole (plan_of input) k tells now sum → IsCovered now.made input output
 whole_covered tells input now k output sum told rules e w = (
   text_of input.deck output w.shots,
@@ -49,16 +50,19 @@ whole_covered tells input now k output sum told rules e w = (
   },
 )
 
-whole_economic : (tells : Bool) (input : Input) (now : Content) (k : ℕ) (output : Output) (sum : Sums) → IsTrue tells → HasRules input.deck → slice_get input.deck.outputs k ≡ Some output
+whole_economic : (tells : Bool) (input : Input) (now : Content) (k : ℕ) (output : Output) (sum : Sums) → IsTrue tells
+    → HasRules input.deck → slice_get input.deck.outputs k ≡ Some output
     → IsWhole (plan_of input) k tells now sum → IsEconomic now.made input output
 whole_economic tells input now k output sum told rules e w = record {
   shots = w.shots;
   made = w.holds output e told;
   list = subst (λ (o : Option Output). IsShotList (rules_of input.deck) (area_at input o) w.shots) e w.list;
-  few = subst (λ (o : Option Output). HasNoNeedlessCut input.deck.band input.deck.limits.height input.deck.limits.width (area_at input o) w.shots) e (shots_are_few (plan_of input) k w.shots rules w.list);
+  few = subst (λ (o : Option Output). HasNoNeedlessCut input.deck.band input.deck.limits.height input.deck.limits.width
+      (area_at input o) w.shots) e (shots_are_few (plan_of input) k w.shots rules w.list);
 }
 
-whole_summed : (tells : Bool) (input : Input) (now : Content) (k : ℕ) (output : Output) (sum : Sums) → IsTrue tells → HasRules input.deck → slice_get input.deck.outputs k ≡ Some output
+whole_summed : (tells : Bool) (input : Input) (now : Content) (k : ℕ) (output : Output) (sum : Sums) → IsTrue tells
+    → HasRules input.deck → slice_get input.deck.outputs k ≡ Some output
     → IsWhole (plan_of input) k tells now sum → IsSummed now.made input output sum
 whole_summed tells input now k output sum told rules e w =
     let tiles : IsNumberOfTilesIn (area_of input output) (triangles_of w.shots) =
@@ -74,13 +78,15 @@ whole_summed tells input now k output sum told rules e w =
 
 -- ---- all outputs
 
-pub all_covered : (tells : Bool) (input : Input) (before now : Content) (sums : List Sums) → IsTrue tells → HasRules input.deck → IsAllWritten tells before now input sums
+pub all_covered : (tells : Bool) (input : Input) (before now : Content) (sums : List Sums) → IsTrue tells
+    → HasRules input.deck → IsAllWritten tells before now input sums
     → (k : ℕ) (output : Output) → slice_get input.deck.outputs k ≡ Some output → IsCovered now.made input output
 all_covered tells input before now sums told rules w k output e =
     let each = w.each k (slice_get_within input.deck.outputs k output e) in
     whole_covered tells input now k output each.0 told rules e each.2
 
-pub all_economic : (tells : Bool) (input : Input) (before now : Content) (sums : List Sums) → IsTrue tells → HasRules input.deck → IsAllWritten tells before now input sums → AreEconomic now.made input
+pub all_economic : (tells : Bool) (input : Input) (before now : Content) (sums : List Sums) → IsTrue tells
+    → HasRules input.deck → IsAllWritten tells before now input sums → AreEconomic now.made input
 all_economic tells input before now sums told rules w k output e =
     let each = w.each k (slice_get_within input.deck.outputs k output e) in
     whole_economic tells input now k output each.0 told rules e each.2
@@ -88,34 +94,41 @@ all_economic tells input before now sums told rules w k output e =
 same_sum : (o : Option Sums) (x y : Sums) → o ≡ Some x → o ≡ Some y → x ≡ y
 same_sum o x y e f = let h : Some x ≡ Some y = sym e ∙ f in cc
 
-pub all_summed : (tells : Bool) (input : Input) (before now : Content) (sums : List Sums) → IsTrue tells → HasRules input.deck → IsAllWritten tells before now input sums → AreSummed now.made input sums
+pub all_summed : (tells : Bool) (input : Input) (before now : Content) (sums : List Sums) → IsTrue tells
+    → HasRules input.deck → IsAllWritten tells before now input sums → AreSummed now.made input sums
 all_summed tells input before now sums told rules w = record {
   count = w.count;
   each = λ k output sum e f.
       let each = w.each k (slice_get_within input.deck.outputs k output e) in
-      subst (λ (s : Sums). IsSummed now.made input output s) (same_sum (slice_get sums k) each.0 sum each.1 f) (whole_summed tells input now k output each.0 told rules e each.2);
+      subst (λ (s : Sums). IsSummed now.made input output s) (same_sum (slice_get sums k) each.0 sum each.1 f)
+      (whole_summed tells input now k output each.0 told rules e each.2);
 }
 
 -- ---- what else changes
 
 -- but for the files nothing changed in the writing, and then something was said
-only_files : (b m a : Content) (input : Input) (n : ℕ) (x : List ℕ) → OnlyFilesOf (plan_of input) n (with_left b []) m → a ≡ with_said m x → ChangesOnly b a input.deck n
+only_files : (b m a : Content) (input : Input) (n : ℕ) (x : List ℕ) → OnlyFilesOf (plan_of input) n (with_left b []) m
+    → a ≡ with_said m x → ChangesOnly b a input.deck n
 only_files b m a input n x only e = record {
   others = λ name free. ap (λ (c : Content). get c.made name) e ∙ only.others name free;
-  rest = subst (λ (c : Content). c ≡ record b { left = []; made = c.made; current = c.current; said = c.said }) (sym (e ∙ ap (λ (c : Content). with_said c x) only.rest)) refl;
+  rest = subst (λ (c : Content). c ≡ record b { left = []; made = c.made; current = c.current; said = c.said })
+      (sym (e ∙ ap (λ (c : Content). with_said c x) only.rest)) refl;
 }
 
-pub covered_then : (tells : Bool) (input : Input) (b m a : Content) (sums : List Sums) (x : List ℕ) → IsTrue tells → HasRules input.deck → IsAllWritten tells (with_left b []) m input sums → a ≡ with_said m x
+pub covered_then : (tells : Bool) (input : Input) (b m a : Content) (sums : List Sums) (x : List ℕ) → IsTrue tells
+    → HasRules input.deck → IsAllWritten tells (with_left b []) m input sums → a ≡ with_said m x
     → AreCovered b a input
 covered_then tells input b m a sums x told rules w e = record {
   each = λ k output there.
-      subst (λ (f : Files). IsCovered f input output) (sym (ap (λ (c : Content). c.made) e)) (all_covered tells input (with_left b []) m sums told rules w k output there);
+      subst (λ (f : Files). IsCovered f input output) (sym (ap (λ (c : Content). c.made) e))
+      (all_covered tells input (with_left b []) m sums told rules w k output there);
   others = only_files b m a input (length input.deck.outputs) x (w.rest told) e;
 }
 
 -- ---- outputs that were cut short
 
-begun : (input : Input) (now : Content) (k : ℕ) (output : Output) (text : List ℕ) (n : ℕ) → HasRules input.deck → slice_get input.deck.outputs k ≡ Some output → IsBeginning (plan_of input) k output text → n ≤ length text
+begun : (input : Input) (now : Content) (k : ℕ) (output : Output) (text : List ℕ) (n : ℕ) → HasRules input.deck
+    → slice_get input.deck.outputs k ≡ Some output → IsBeginning (plan_of input) k output text → n ≤ length text
     → get now.made output.file ≡ Some (take n text) → IsBegun now.made input k output
 begun input now k output text n rules e beginning some is = record {
   bytes = take n text;
@@ -131,7 +144,8 @@ begun input now k output text n rules e beginning some is = record {
       sym (ap (take n) rest.1 ∙ take-append-le n text rest.0 some);
 }
 
-part_begun : (input : Input) (b m : Content) (k : ℕ) (output : Output) → HasRules input.deck → slice_get input.deck.outputs k ≡ Some output → IsPartOf (plan_of input) k (with_left b []) m
+part_begun : (input : Input) (b m : Content) (k : ℕ) (output : Output) → HasRules input.deck
+    → slice_get input.deck.outputs k ≡ Some output → IsPartOf (plan_of input) k (with_left b []) m
     → (get m.made output.file ≡ get b.made output.file) ⊎ IsBegun m.made input k output
 part_begun input b m k output rules e p =
     elim (p output e) [
@@ -139,10 +153,12 @@ part_begun input b m k output rules e p =
       | inr (text, n, beginning, some, is) ↦ inr (begun input m k output text n rules e beginning some is)
     ]
 
-part_then : (input : Input) (b : Content) (k : ℕ) (output : Output) (f g : Files) → f ≡ g → (get g output.file ≡ get b.made output.file) ⊎ IsBegun g input k output → (get f output.file ≡ get b.made output.file) ⊎ IsBegun f input k output
+part_then : (input : Input) (b : Content) (k : ℕ) (output : Output) (f g : Files) → f ≡ g
+    → (get g output.file ≡ get b.made output.file) ⊎ IsBegun g input k output → (get f output.file ≡ get b.made output.file) ⊎ IsBegun f input k output
 part_then input b k output f g e p = subst (λ (x : Files). (get x output.file ≡ get b.made output.file) ⊎ IsBegun x input k output) (sym e) p
 
-pub cut_spoiled : (tells : Bool) (input : Input) (b m a : Content) (x : List ℕ) → IsTrue tells → HasRules input.deck → AreCutShort (plan_of input) tells (with_left b []) m → a ≡ with_said m x → AreSpoiled b a input
+pub cut_spoiled : (tells : Bool) (input : Input) (b m a : Content) (x : List ℕ) → IsTrue tells → HasRules input.deck
+    → AreCutShort (plan_of input) tells (with_left b []) m → a ≡ with_said m x → AreSpoiled b a input
 cut_spoiled tells input b m a x told rules w e =
     let files : a.made ≡ m.made = ap (λ (c : Content). c.made) e in
     record {
@@ -153,7 +169,8 @@ cut_spoiled tells input b m a x told rules w e =
           subst (λ (f : Files). IsCovered f input output × IsEconomic f input output) (sym files)
           (whole_covered tells input m k output each.0 told rules there each.1, whole_economic tells input m k output each.0 told rules there each.1);
       part = λ output there.
-          part_then input b w.k output a.made m.made files (part_begun input b m w.k output rules there (w.part told (slice_get_within input.deck.outputs w.k output there)));
+          part_then input b w.k output a.made m.made files
+          (part_begun input b m w.k output rules there (w.part told (slice_get_within input.deck.outputs w.k output there)));
       others = only_files b m a input (suc w.k) x (w.rest told) e;
     }
 
@@ -164,7 +181,8 @@ fewer p n b m only = record { others = λ name free. only.others name (λ i outp
 none_there : (input : Input) (output : Output) → slice_get input.deck.outputs (length input.deck.outputs) ≡ Some output → ⊥
 none_there input output e = let less = slice_get_within input.deck.outputs (length input.deck.outputs) output e in omega (arith, less)
 
-pub unsaid_spoiled : (tells : Bool) (input : Input) (b m a : Content) (sums : List Sums) (x : List ℕ) → IsTrue tells → HasRules input.deck → IsAllWritten tells (with_left b []) m input sums → a ≡ with_said m x
+pub unsaid_spoiled : (tells : Bool) (input : Input) (b m a : Content) (sums : List Sums) (x : List ℕ) → IsTrue tells
+    → HasRules input.deck → IsAllWritten tells (with_left b []) m input sums → a ≡ with_said m x
     → AreSpoiled b a input
 unsaid_spoiled tells input b m a sums x told rules w e =
     let files : a.made ≡ m.made = ap (λ (c : Content). c.made) e in
@@ -172,8 +190,11 @@ unsaid_spoiled tells input b m a sums x told rules w e =
       place = length input.deck.outputs;
       inside = omega (arith);
       whole = λ k output less there.
-          subst (λ (f : Files). IsCovered f input output × IsEconomic f input output) (sym files)
-          (all_covered tells input (with_left b []) m sums told rules w k output there, all_economic tells input (with_left b []) m sums told rules w k output there);
+          subst (λ (f : Files). IsCovered f input output × IsEconomic f input output) (sym files) (
+            all_covered tells input (with_left b []) m sums told rules w k output there,
+            all_economic tells input
+                (with_left b []) m sums told rules w k output there,
+          );
       part = λ output there. absurd (none_there input output there);
       others = only_files b m a input (suc (length input.deck.outputs)) x (fewer input (length input.deck.outputs) (with_left b []) m (w.rest told)) e;
     }
@@ -182,5 +203,6 @@ unsaid_spoiled tells input b m a sums x told rules w e =
 pub cut_said : (tells : Bool) (input : Input) (b m : Content) → IsTrue tells → AreCutShort (plan_of input) tells (with_left b []) m → m.said ≡ b.said
 cut_said tells input b m told w = ap (λ (c : Content). c.said) (w.rest told).rest
 
-pub written_said : (tells : Bool) (input : Input) (b m : Content) (sums : List Sums) → IsTrue tells → IsAllWritten tells (with_left b []) m input sums → m.said ≡ b.said
+pub written_said : (tells : Bool) (input : Input) (b m : Content) (sums : List Sums) → IsTrue tells
+    → IsAllWritten tells (with_left b []) m input sums → m.said ≡ b.said
 written_said tells input b m sums told w = ap (λ (c : Content). c.said) (w.rest told).rest

@@ -1,6 +1,6 @@
 -- What `run` promises of each command: six records, whose fields are the rows of the table of answers, each about what was
 -- there before the command and after it, the words and the answer.
-use Rattle.std.specs.Prelude.{◌≡◌, ◌≢◌, ◌⊎◌, ◌↔◌, ℕ, List, [], ◌++◌, take, ⊤}
+use Rattle.std.specs.Prelude.{◌≡◌, ◌≢◌, ◌⊎◌, ◌↔◌, ℕ, pos, List, [], ◌++◌, take, ⊤}
 use Rattle.half_grid.specs.declared.plane.Tile.{Tile}
 use Rattle.depot.specs.Content.{Content, IsNotThere, IsLongerThan, ChangesLeftOnly, with_left, with_said, IsPartMade}
 use Rattle.depot.specs.Counts.{Counts, NeverFall, Rose}
@@ -24,12 +24,15 @@ use Rattle.job_input.specs.declared.refusing.LayoutFault.TheVariants as layout_f
 use Rattle.layout_gen.specs.Generated.{generated}
 use Rattle.file_check.specs.declared.faults.CheckFault.{CheckFault as OutputFault}
 use Rattle.file_check.specs.declared.faults.CheckFault.TheVariants as of_output
-use Rattle.job_words.specs.Words.{Command, Fracture, Check, Shots, Pack, Unpack, Generate, AreWordsOf, IsFracture, IsCheck, IsShots, IsPack, IsUnpack, IsGenerate}
+use Rattle.job_words.specs.Words.{Command, Fracture, Check, Shots, Pack, Unpack, Split, Density, Generate, AreWordsOf}
+use Rattle.job_words.specs.Words.{IsFracture, IsCheck, IsShots, IsPack, IsUnpack, IsSplit as IsSplitting, IsDensity, IsGenerate}
 use Rattle.mdp_job.specs.Runs.{Run, ReadRose, WriteRose, RefusedRose, ComesExactlyWhere}
 use Rattle.mdp_job.specs.Headline.{AreCovered, AreExact, Covers, Accepts}
 use Rattle.mdp_job.specs.Outputs.{AreEconomic, IsReported, AreSummed, AreSpoiled, report_on}
 use Rattle.mdp_job.specs.Certificates.{IsRefusedAt, HasNoFile, IsFileAt, AreExactSums, exact_report, IsExactReported}
 use Rattle.mdp_job.specs.ShotFiles.{ShotData, HoldsShots, HoldsPacked, HoldsFault, HoldsPackFault, listed, packed_of, packed_said, plain_of, unpacked_said}
+use Rattle.mdp_job.specs.Splitting.{HoldsFields, HoldsWide, HoldsManyStripes, IsSplit, IsPartSplit, IsSplitText}
+use Rattle.mdp_job.specs.Densities.{IsDensityBeginning, AreTablesSaid}
 use Rattle.mdp_job.specs.Filing.{IsFiled}
 use Rattle.mdp_job.specs.Generating.{generated_line}
 use Rattle.mdp_job.specs.Parts.{IsOf}
@@ -49,6 +52,8 @@ IsInputOf c (Check layout deck) = (input : Input) × HoldsInput c layout deck in
 IsInputOf c (Shots file) = (s : ShotData) × HoldsShots c file s
 IsInputOf c (Pack file out) = (s : ShotData) × HoldsShots c file s
 IsInputOf c (Unpack file out) = (s : ShotData) × HoldsPacked c file s
+IsInputOf c (Split size file out) = (s : ShotData) × HoldsFields (pos size) c file s
+IsInputOf c (Density size layout deck) = (input : Input) × HoldsInput c layout deck input
 IsInputOf c (Generate n file) = ⊤
 
 -- the words are a command, and what it reads is accepted
@@ -57,16 +62,17 @@ IsAccepted words c = (command : Command) × AreWordsOf words command × IsInputO
 
 -- the command reads a deck and a layout of these names
 abbrev pub ReadsInput : List (List ℕ) → List ℕ → List ℕ → Type 0
-ReadsInput words layout deck = IsFracture words layout deck ⊎ IsCheck words layout deck
+ReadsInput words layout deck =
+    IsFracture words layout deck ⊎ IsCheck words layout deck ⊎ ((size : ℕ) × IsDensity words size layout deck)
+
+-- the command reads a plain shot file of this name
+abbrev pub ReadsShots : List (List ℕ) → List ℕ → Type 0
+ReadsShots words file =
+    IsShots words file ⊎ ((out : List ℕ) × IsPack words file out) ⊎ ((size : ℕ) × (out : List ℕ) × IsSplitting words size file out)
 
 -- the command reads a shot file of this name, plain or packed
 abbrev pub ReadsFile : List (List ℕ) → List ℕ → Type 0
-ReadsFile words file =
-    IsShots words file ⊎ ((out : List ℕ) × IsPack words file out) ⊎ ((out : List ℕ) × IsUnpack words file out)
-
--- the command reads a plain one
-abbrev pub ReadsShots : List (List ℕ) → List ℕ → Type 0
-ReadsShots words file = IsShots words file ⊎ ((out : List ℕ) × IsPack words file out)
+ReadsFile words file = ReadsShots words file ⊎ ((out : List ℕ) × IsUnpack words file out)
 
 -- A name that the command has to read isn't there: DECK, LAYOUT where the deck is accepted, the file of an output of
 -- `check` where the layout is accepted and the files of the outputs before it are exact, or FILE.
@@ -76,6 +82,8 @@ IsUnreadableBy c (Check layout deck) = IsWanting c layout deck ⊎ HasNoFile c l
 IsUnreadableBy c (Shots file) = IsNotThere c file
 IsUnreadableBy c (Pack file out) = IsNotThere c file
 IsUnreadableBy c (Unpack file out) = IsNotThere c file
+IsUnreadableBy c (Split size file out) = IsNotThere c file
+IsUnreadableBy c (Density size layout deck) = IsWanting c layout deck
 IsUnreadableBy c (Generate n file) = ⊥
 
 -- the name that the command reads first isn't there: DECK, or FILE
@@ -85,6 +93,8 @@ IsUnreadableAtOnceBy c (Check layout deck) = IsNotThere c deck
 IsUnreadableAtOnceBy c (Shots file) = IsNotThere c file
 IsUnreadableAtOnceBy c (Pack file out) = IsNotThere c file
 IsUnreadableAtOnceBy c (Unpack file out) = IsNotThere c file
+IsUnreadableAtOnceBy c (Split size file out) = IsNotThere c file
+IsUnreadableAtOnceBy c (Density size layout deck) = IsNotThere c deck
 IsUnreadableAtOnceBy c (Generate n file) = ⊥
 
 abbrev pub IsUnreadable : List (List ℕ) → Content → Type 0
@@ -122,12 +132,20 @@ Unpacks r words result =
     (file out : List ℕ) → IsUnpack words file out → result ≡ answers.Done
     → (s : ShotData) × HoldsPacked r.before file s × IsFiled (with_left r.before []) r.after out (plain_of s) (unpacked_said s)
 
+-- Each stripe's file holds the text of its stripe list, the lines were said, and nothing else has changed but what is left to
+-- be read.
+abbrev pub Splits : Run → List (List ℕ) → Status → Type 0
+Splits r words result =
+    (size : ℕ) (file out : List ℕ) → IsSplitting words size file out → result ≡ answers.Done
+    → (s : ShotData) × HoldsFields (pos size) r.before file s × IsSplit (with_left r.before []) r.after (pos size) out s
+
 -- `covers`: what commands make
 pub record Coverage (r : Run) (words : List (List ℕ)) (result : Status) : Type 0 where
   pub cover : Covers r words result
   pub economy : Spares r words result
   pub packed : Packs r words result
   pub unpacked : Unpacks r words result
+  pub split : Splits r words result
   pub generated : Generates r words result
 
 -- `accepts`: when a command is done
@@ -202,6 +220,18 @@ PackedBad r words result =
     (file out : List ℕ) → IsUnpack words file out → (bad : PackBad)
     → ComesExactlyWhere (ReadRose r) result (answers.No 0 (check_faults.Pack bad)) (HoldsPackFault r.before file bad)
 
+-- the file is a shot file, and this shot of it is the first that is past a field's reach
+abbrev pub SplitWide : Run → List (List ℕ) → Status → Type 0
+SplitWide r words result =
+    (size : ℕ) (file out : List ℕ) → IsSplitting words size file out → (k : ℕ)
+    → ComesExactlyWhere (ReadRose r) result (answers.No 0 (check_faults.Wide k)) (HoldsWide r.before file k)
+
+-- none is, and the shots meet this number of stripes, which is above 4,096
+abbrev pub SplitStripes : Run → List (List ℕ) → Status → Type 0
+SplitStripes r words result =
+    (size : ℕ) (file out : List ℕ) → IsSplitting words size file out → (value : ℕ)
+    → ComesExactlyWhere (ReadRose r) result (answers.No 0 (check_faults.Stripes value)) (HoldsManyStripes (pos size) r.before file value)
+
 -- The files of the outputs before this place are exact, and this is why the file of the output there isn't.
 abbrev pub FileRefused : Run → List (List ℕ) → Status → ℕ → OutputFault → Type 0
 FileRefused r words result place fault =
@@ -230,7 +260,7 @@ abbrev pub FileMiscovered : Run → List (List ℕ) → Status → Type 0
 FileMiscovered r words result =
     (place : ℕ) (t : Tile) (count wanted : ℕ) → FileRefused r words result place (of_output.Verdict (verdicts.Miscovered t count wanted))
 
--- Each command has its answers. Refusals of a deck and of a layout come for `fracture` and `check` alone, and
+-- Each command has its answers. Refusals of a deck and of a layout come for `fracture`, `check` and `density` alone, and
 -- those of a shot file for `check` and for the commands that read one, where its place is 0. A fault that is kept is never
 -- want of memory, and a verdict that is kept never Exact.
 abbrev pub Belongs : List (List ℕ) → Status → Type 0
@@ -265,6 +295,8 @@ pub record Refusals (r : Run) (words : List (List ℕ)) (result : Status) : Type
   pub shots_long : ShotsLong r words result
   pub shots_bad : ShotsBad r words result
   pub packed_bad : PackedBad r words result
+  pub split_wide : SplitWide r words result
+  pub split_stripes : SplitStripes r words result
   pub read_fault : ReadFaults r words result
   pub write_fault : WriteFaults r words result
 
@@ -284,6 +316,13 @@ Lists r words result =
     (file : List ℕ) → IsShots words file → result ≡ answers.Done
     → (s : ShotData) × HoldsShots r.before file s × (r.after ≡ with_said (with_left r.before []) (listed s))
 
+-- The windows of each output were said with their counts, and nothing else has changed but what is left to be read.
+abbrev pub Tabulates : Run → List (List ℕ) → Status → Type 0
+Tabulates r words result =
+    (size : ℕ) (layout deck : List ℕ) → IsDensity words size layout deck → result ≡ answers.Done
+    → (input : Input) × HoldsInput r.before layout deck input
+    × AreTablesSaid (with_left r.before []) r.after (pos size) input
+
 -- A text of the command: the report on an accepted input, all of whose outputs are covered, or all of whose files are
 -- exact; the counts of windows; the listing of an accepted shot file; or the lines of the files that were made of one, or
 -- of a generated layout.
@@ -297,15 +336,22 @@ IsTextBy r (Check layout deck) text =
 IsTextBy r (Shots file) text = (s : ShotData) × HoldsShots r.before file s × (text ≡ listed s)
 IsTextBy r (Pack file out) text = (s : ShotData) × HoldsShots r.before file s × (text ≡ packed_said s)
 IsTextBy r (Unpack file out) text = (s : ShotData) × HoldsPacked r.before file s × (text ≡ unpacked_said s)
+IsTextBy r (Split size file out) text =
+    (s : ShotData) × HoldsFields (pos size) r.before file s
+    × IsSplitText (with_left r.before []) (record r.after { said = r.before.said }) (pos size) out s text
+IsTextBy r (Density size layout deck) text = (input : Input) × HoldsInput r.before layout deck input × IsDensityBeginning (pos size) input text
 IsTextBy r (Generate n file) text = text ≡ generated_line n
 
--- saying it may have ended early: it failed, or a want of memory was counted
+-- Saying it may have ended early: it failed, or a want of memory was counted. `density` computes what it says as it goes, so
+-- any want of memory may end it.
 abbrev pub MayBreakOff : Run → Command → Status → Type 0
 MayBreakOff r (Fracture layout deck) result = (result ≡ answers.WriteFault) ⊎ ((result ≡ answers.NoMemory) × RefusedRose r)
 MayBreakOff r (Check layout deck) result = (result ≡ answers.WriteFault) ⊎ ((result ≡ answers.NoMemory) × RefusedRose r)
 MayBreakOff r (Shots file) result = (result ≡ answers.WriteFault) ⊎ ((result ≡ answers.NoMemory) × RefusedRose r)
 MayBreakOff r (Pack file out) result = (result ≡ answers.WriteFault) ⊎ ((result ≡ answers.NoMemory) × RefusedRose r)
 MayBreakOff r (Unpack file out) result = (result ≡ answers.WriteFault) ⊎ ((result ≡ answers.NoMemory) × RefusedRose r)
+MayBreakOff r (Split size file out) result = (result ≡ answers.WriteFault) ⊎ ((result ≡ answers.NoMemory) × RefusedRose r)
+MayBreakOff r (Density size layout deck) result = (result ≡ answers.WriteFault) ⊎ (result ≡ answers.NoMemory)
 MayBreakOff r (Generate n file) result = (result ≡ answers.WriteFault) ⊎ ((result ≡ answers.NoMemory) × RefusedRose r)
 
 -- What the command itself may have said before it ended so: something of its text where saying it ended early, and nothing
@@ -351,6 +397,7 @@ pub record SaysLine (r : Run) (words : List (List ℕ)) (result : Status) : Type
 pub record Speech (r : Run) (words : List (List ℕ)) (result : Status) : Type 0 where
   pub report : Reports r words result
   pub listed : Lists r words result
+  pub densities : Tabulates r words result
   pub line : result ≢ answers.Done → SaysLine r words result
 
 -- ---- what stays
@@ -374,13 +421,15 @@ IsRefusal (answers.No place fault) = ⊤
 abbrev pub Refuses : Run → Status → Type 0
 Refuses r result = IsRefusal result → ChangesLeftOnly r.before (quiet r).after
 
--- `check` and `shots` change nothing but what is left to be read and what was said, whatever the answer
+-- `check`, `shots` and `density` change nothing but what is left to be read and what was said, whatever the answer
 abbrev pub IsQuietCommand : Command → Type 0
 IsQuietCommand (Fracture layout deck) = ⊥
 IsQuietCommand (Check layout deck) = ⊤
 IsQuietCommand (Shots file) = ⊤
 IsQuietCommand (Pack file out) = ⊥
 IsQuietCommand (Unpack file out) = ⊥
+IsQuietCommand (Split size file out) = ⊥
+IsQuietCommand (Density size layout deck) = ⊤
 IsQuietCommand (Generate n file) = ⊥
 
 abbrev pub Keeps : Run → List (List ℕ) → Type 0
@@ -391,7 +440,9 @@ Keeps r words = (command : Command) → AreWordsOf words command → IsQuietComm
 --
 -- - of `fracture` there is a place before which all outputs are whole, at which the file is as before, empty or a prefix of
 --   the texts that Done would allow, and after which nothing has changed;
--- - of `pack` and `unpack` OUT is as before or a prefix of its text.
+-- - of `pack` and `unpack` OUT is as before or a prefix of its text;
+-- - of `split` the files of the stripes below some stripe are whole, its own is as before or a prefix of its text, and those of
+--   the stripes above it are as before; or all are whole.
 --
 -- Of `generate` the file is as before or a prefix of the generated layout.
 abbrev pub IsLeftBy : Run → Command → Type 0
@@ -405,6 +456,10 @@ IsLeftBy r (Pack file out) =
 IsLeftBy r (Unpack file out) =
     ChangesLeftOnly r.before (quiet r).after
     ⊎ ((s : ShotData) × HoldsPacked r.before file s × IsPartMade (with_left r.before []) out (plain_of s) (quiet r).after)
+IsLeftBy r (Split size file out) =
+    ChangesLeftOnly r.before (quiet r).after
+    ⊎ ((s : ShotData) × HoldsFields (pos size) r.before file s × IsPartSplit (with_left r.before []) (quiet r).after (pos size) out s)
+IsLeftBy r (Density size layout deck) = ChangesLeftOnly r.before (quiet r).after
 IsLeftBy r (Generate n file) = IsPartMade r.before file (generated n) (quiet r).after
 
 pub record Spoils (r : Run) (words : List (List ℕ)) (result : Status) : Type 0 where

@@ -5,6 +5,9 @@ pub mod Denoted
 pub mod Outputs
 pub mod Certificates
 pub mod ShotFiles
+pub mod Splitting
+pub mod SplitLaws
+pub mod Densities
 pub mod Generating
 pub mod Filing
 pub mod Lines
@@ -15,4 +18,5 @@ pub mod Runs
 pub mod Parts
 pub mod Checking
 pub mod FileAnswers
+pub mod FieldAnswers
 pub mod Table

@@ -74,6 +74,14 @@ tile_line file t count wanted =
 abbrev pub too_large_line : List ℕ → ℕ → List ℕ
 too_large_line file k = codes "check refused: " ++ file ++ codes ": shot " ++ decimal k ++ codes " too large\n"
 
+-- a shot that is past a field's reach: `shot 0 past field reach`
+abbrev pub wide_line : List ℕ → ℕ → List ℕ
+wide_line file k = codes "check refused: " ++ file ++ codes ": shot " ++ decimal k ++ codes " past field reach\n"
+
+-- too many stripes: `4097 stripes`
+abbrev pub stripes_line : List ℕ → ℕ → List ℕ
+stripes_line file value = codes "check refused: " ++ file ++ codes ": " ++ decimal value ++ codes " stripes\n"
+
 -- the line of a verdict, which is never Exact
 abbrev pub verdict_line : List ℕ → Verdict → List ℕ
 verdict_line file verdicts.Exact = []
@@ -86,6 +94,8 @@ check_line file (check_faults.Bad bad) = shot_line_of file bad
 check_line file check_faults.Head = text_line file (codes ": unit or layer differs\n")
 check_line file (check_faults.Verdict verdict) = verdict_line file verdict
 check_line file (check_faults.Pack bad) = pack_line_of file bad
+check_line file (check_faults.Wide k) = wide_line file k
+check_line file (check_faults.Stripes value) = stripes_line file value
 
 -- the file of an output that is there, and else the file of this name
 abbrev pub file_or : List ℕ → Option Output → List ℕ

@@ -28,7 +28,7 @@ use Rattle.mdp_job.specs.declared.status.Status.{Status}
 use Rattle.mdp_job.specs.declared.status.Status.TheVariants as answers
 use Rattle.mdp_job.specs.declared.faults.CheckFault.{CheckFault}
 use Rattle.mdp_job.specs.declared.faults.CheckFault.TheVariants as check_faults
-use Rattle.job_words.specs.Words.{Command, Fracture, Check, Shots, Pack, Unpack, Generate}
+use Rattle.job_words.specs.Words.{Command, Fracture, Check, Shots, Pack, Unpack, Split, Density, Generate}
 use Rattle.shot_checker.specs.declared.verdicts.Verdict.TheVariants.{Exact}
 use Rattle.shot_reader.specs.declared.refusing.ShotBad.TheVariants.{NoMemory as Wanting}
 use Rattle.shot_repeat.specs.declared.refusing.PackBad.TheVariants.{NoMemory as PackWanting}
@@ -171,7 +171,7 @@ IsOfFile of_fault answers.WriteFault = ⊤
 IsOfFile of_fault answers.NoMemory = ⊤
 IsOfFile of_fault (answers.No place fault) = (place ≡ 0) × of_fault fault
 
--- no file is refused by `fracture`
+-- no file is refused by `fracture` and `density`
 abbrev pub refuses_none : ℕ → CheckFault → Type 0
 refuses_none place fault = ⊥
 
@@ -182,6 +182,8 @@ refuses_output place (check_faults.Bad bad) = bad ≢ Wanting
 refuses_output place check_faults.Head = ⊤
 refuses_output place (check_faults.Verdict verdict) = verdict ≢ Exact
 refuses_output place (check_faults.Pack bad) = ⊥
+refuses_output place (check_faults.Wide k) = ⊥
+refuses_output place (check_faults.Stripes value) = ⊥
 
 -- those of `shots` and of `pack`
 abbrev pub refuses_shots : CheckFault → Type 0
@@ -190,6 +192,8 @@ refuses_shots (check_faults.Bad bad) = bad ≢ Wanting
 refuses_shots check_faults.Head = ⊥
 refuses_shots (check_faults.Verdict verdict) = ⊥
 refuses_shots (check_faults.Pack bad) = ⊥
+refuses_shots (check_faults.Wide k) = ⊥
+refuses_shots (check_faults.Stripes value) = ⊥
 
 -- those of `unpack`
 abbrev pub refuses_packed : CheckFault → Type 0
@@ -198,6 +202,18 @@ refuses_packed (check_faults.Bad bad) = ⊥
 refuses_packed check_faults.Head = ⊥
 refuses_packed (check_faults.Verdict verdict) = ⊥
 refuses_packed (check_faults.Pack bad) = bad ≢ PackWanting
+refuses_packed (check_faults.Wide k) = ⊥
+refuses_packed (check_faults.Stripes value) = ⊥
+
+-- those of `split`
+abbrev pub refuses_fields : CheckFault → Type 0
+refuses_fields check_faults.Long = ⊤
+refuses_fields (check_faults.Bad bad) = bad ≢ Wanting
+refuses_fields check_faults.Head = ⊥
+refuses_fields (check_faults.Verdict verdict) = ⊥
+refuses_fields (check_faults.Pack bad) = ⊥
+refuses_fields (check_faults.Wide k) = ⊤
+refuses_fields (check_faults.Stripes value) = ⊤
 
 -- the answer may come for the command
 abbrev pub IsOf : Command → Status → Type 0
@@ -206,6 +222,8 @@ IsOf (Check layout deck) result = IsOfInput refuses_output result
 IsOf (Shots file) result = IsOfFile refuses_shots result
 IsOf (Pack file out) result = IsOfFile refuses_shots result
 IsOf (Unpack file out) result = IsOfFile refuses_packed result
+IsOf (Split size file out) result = IsOfFile refuses_fields result
+IsOf (Density size layout deck) result = IsOfInput refuses_none result
 IsOf (Generate n file) result = IsOfWriting result
 
 -- What was counted where the command gives the answer, up to the line of a refusal. Nothing, but for a fault of reading

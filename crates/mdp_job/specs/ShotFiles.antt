@@ -13,7 +13,7 @@ use Rattle.shot_repeat.specs.Refusals.{IsFirstFault as IsFirstPackFault}
 use Rattle.shot_repeat.specs.declared.refusing.PackBad.{PackBad}
 pub use Rattle.file_check.specs.Files.{ShotData}
 use Rattle.mdp_job.specs.declared.faults.CheckFault.{CheckFault}
-use Rattle.mdp_job.specs.declared.faults.CheckFault.TheVariants.{Long, Bad, Head, Verdict, Pack}
+use Rattle.mdp_job.specs.declared.faults.CheckFault.TheVariants.{Long, Bad, Head, Verdict, Pack, Wide, Stripes}
 
 -- ---- what a name holds
 
@@ -54,6 +54,8 @@ IsShotsFault c file (Bad bad) = HoldsFault c file bad
 IsShotsFault c file Head = ⊥
 IsShotsFault c file (Verdict verdict) = ⊥
 IsShotsFault c file (Pack bad) = ⊥
+IsShotsFault c file (Wide k) = ⊥
+IsShotsFault c file (Stripes value) = ⊥
 
 -- as a packed one
 abbrev pub IsPackedFault : Content → List ℕ → CheckFault → Type 0
@@ -62,6 +64,8 @@ IsPackedFault c file (Bad bad) = ⊥
 IsPackedFault c file Head = ⊥
 IsPackedFault c file (Verdict verdict) = ⊥
 IsPackedFault c file (Pack bad) = HoldsPackFault c file bad
+IsPackedFault c file (Wide k) = ⊥
+IsPackedFault c file (Stripes value) = ⊥
 
 -- ---- what is made of a file, and said
 

@@ -21,6 +21,12 @@ pub enum CheckFault {
     /// It stands for no list of shots as a packed file, or for too many. This is its first fault, which is never want of
     /// memory. It comes for `unpack` alone.
     Pack(PackBad),
+    /// Its shot of this number, from 0, is the first that is more than 16,777,216 half units high, or in a box of more than
+    /// 33,554,432. It comes for `split` alone.
+    Wide(usize),
+    /// Its shots meet this number of stripes, from the lowest to the highest, which is more than 4,096. It comes for `split`
+    /// alone.
+    Stripes(u128),
 }
 
 /// The fault of an output's file.

@@ -17,11 +17,14 @@ use crate::fracturing::fracture;
 use crate::generating::generate_layout;
 use crate::lines::say_line;
 use crate::listing::list_shots;
+use crate::mapping::density;
 use crate::packing::{pack, unpack};
+use crate::splitting::split;
 use crate::status::Status;
 use depot::{Depot, SureDepot};
 use job_words::{
-    check_names, file_word, fracture_names, generate_words, pack_names, shots_name, unpack_names,
+    check_names, density_words, file_word, fracture_names, generate_words, pack_names, shots_name,
+    split_words, unpack_names,
 };
 use std::alloc::Global;
 
@@ -55,6 +58,12 @@ fn answered<D: Depot>(alloc: Global, words: &[String], depot: &mut D) -> Ending
     if let Some((file, out)) = unpack_names(words) {
         return Ending::plain(unpack(alloc, file, out, depot));
     }
+    if let Some((size, file, out)) = split_words(words) {
+        return Ending::plain(split(alloc, size, file, out, depot));
+    }
+    if let Some((size, layout, deck)) = density_words(words) {
+        return density(alloc, size, layout, deck, depot);
+    }
     if let Some((n, file)) = generate_words(words) {
         return Ending::plain(generate_layout(n, file, depot));
     }
@@ -70,6 +79,10 @@ fn answered<D: Depot>(alloc: Global, words: &[String], depot: &mut D) -> Ending
 /// - `shots FILE`: the shots of a shot file are listed on standard output;
 /// - `pack FILE OUT`: a shot file is written with modal fields and repetitions;
 /// - `unpack FILE OUT`: a packed shot file is written as a plain one;
+/// - `split SIZE FILE OUT`: the shots of a shot file are cut along the lines of square fields of that size, 16 to 16,777,216
+///   half units, and those of each stripe of fields are written into a file of its own;
+/// - `density SIZE LAYOUT DECK`: for each of the deck's outputs it is said how many triangles of the area that the deck
+///   denotes of the layout are in each square window of that size, 64 to 16,777,216 half units;
 /// - `generate N FILE`: the generated layout of a number from 1 to 1,000 is written.
 ///
 /// An answer other than Done is said in one line; a failure to say that line changes nothing.

@@ -1,5 +1,5 @@
 //! All that the program does: `run` takes the words of a command, reads from a depot and writes to it. It makes the shot
-//! files of a deck's outputs and checks them, and lists and packs shot files.
+//! files of a deck's outputs and checks them, says how dense the outputs are, and lists, packs and splits shot files.
 #![tactic(auto)]
 
 mod checking;
@@ -9,17 +9,22 @@ mod files;
 mod fracturing;
 mod generating;
 mod job;
+mod laws;
 mod lines;
 mod listing;
+mod mapping;
 mod packing;
 mod plain_files;
 mod reading;
 mod reporting;
+mod splitting;
 mod status;
+mod stripe_lines;
 #[cfg(test)]
 mod tests;
 
 pub use faults::CheckFault;
 pub use job::{run, run_surely};
 pub use job_input::{DeckFault, LayoutFault};
+pub use laws::split_laws;
 pub use status::Status;

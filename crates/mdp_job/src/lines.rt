@@ -5,7 +5,8 @@ ghost use Rattle.depot.specs.Content.{with_said, IsPartSaid};
 ghost use Rattle.depot.specs.Counts.{NeverFall, Rose};
 ghost use Rattle.std.specs.Fmt.{signed_decimal};
 ghost use Rattle.job_report.specs.Pieces.{spelled, text_of};
-ghost use Rattle.mdp_job.specs.Lines.{deck_fault_line, layout_fault_line, fault_line, shot_line_of, pack_line_of, side_text, tile_line, too_large_line, verdict_line, text_line, check_line, file_of, name_of, line_of};
+ghost use Rattle.mdp_job.specs.Lines.{deck_fault_line, layout_fault_line, fault_line, shot_line_of, pack_line_of, side_text, tile_line};
+ghost use Rattle.mdp_job.specs.Lines.{too_large_line, wide_line, stripes_line, verdict_line, text_line, check_line, file_of, name_of, line_of};
 
 use crate::ending::Ending;
 use crate::faults::CheckFault;
@@ -178,6 +179,32 @@ fn too_large_line(file: &str, shot: usize) -> Line<'_>
     ]
 }
 
+// The line of a shot file with a shot that is past a field's reach.
+fn wide_line(file: &str, shot: usize) -> Line<'_>
+    ensures { spelled result ≡ wide_line file.now shot }
+{
+    [
+        Piece::Text(b"check refused: "),
+        Piece::Text(file.as_bytes()),
+        Piece::Text(b": shot "),
+        Piece::Count(shot as u128),
+        Piece::Text(b" past field reach\n"),
+    ]
+}
+
+// The line of a shot file whose shots meet too many stripes.
+fn stripes_line(file: &str, stripes: u128) -> Line<'_>
+    ensures { spelled result ≡ stripes_line file.now stripes }
+{
+    [
+        Piece::Text(b"check refused: "),
+        Piece::Text(file.as_bytes()),
+        Piece::Text(b": "),
+        Piece::Count(stripes),
+        Piece::Text(b" stripes\n"),
+    ]
+}
+
 // The line of a shot file whose shots have this verdict, which is never Exact.
 fn verdict_line<'a>(file: &'a str, verdict: &Verdict) -> LongLine<'a>
     ensures { spelled result ≡ verdict_line file.now verdict.now }
@@ -212,6 +239,8 @@ fn check_line<'a>(file: &'a str, fault: &CheckFault) -> LongLine<'a>
         CheckFault::Head => text_line(file, b": unit or layer differs\n"),
         CheckFault::Verdict(verdict) => verdict_line(file, verdict),
         CheckFault::Pack(bad) => long(pack_line(file, bad)),
+        CheckFault::Wide(shot) => long(wide_line(file, *shot)),
+        CheckFault::Stripes(stripes) => long(stripes_line(file, *stripes)),
     }
 }
 
@@ -261,9 +290,11 @@ fn line_of<'a>(file: &'a str, ending: &'a Ending) -> LongLine<'a>
 /// nothing.
 pub(crate) fn say_line<D: Depot>(depot: &mut D, word: &str, ending: &Ending)
     ensures done { ending.now.status ≡ Status.Done → depot.new ≡ depot.old }
-    ensures said { IsTrue D.tells → IsPartSaid (D.content depot.old) (line_of (file_of word.now ending.now.outputs ending.now.status) (name_of ending.now.top) ending.now.status) (D.content depot.new) }
-    ensures whole { IsTrue D.tells
-        → ((D.content depot.new ≡ with_said (D.content depot.old) (line_of (file_of word.now ending.now.outputs ending.now.status) (name_of ending.now.top) ending.now.status))
+    ensures said { IsTrue D.tells → IsPartSaid (D.content depot.old)
+        (line_of (file_of word.now ending.now.outputs ending.now.status) (name_of ending.now.top) ending.now.status)
+        (D.content depot.new) }
+    ensures whole { IsTrue D.tells → ((D.content depot.new ≡ with_said (D.content depot.old)
+        (line_of (file_of word.now ending.now.outputs ending.now.status) (name_of ending.now.top) ending.now.status))
         × (D.counts depot.new ≡ D.counts depot.old))
         ⊎ Rose (D.counts depot.old).write_faults (D.counts depot.new).write_faults
         ⊎ Rose (D.counts depot.old).refused (D.counts depot.new).refused }

@@ -21,8 +21,8 @@ use shot_repeat::pack_shots;
 use shot_writer::Head;
 use std::alloc::Global;
 
-// The pair of the records; where there are none any pair does.
-fn pair_or(pair: Option<Pair>) -> Pair
+/// The pair of the records; where there are none any pair does.
+pub(crate) fn pair_or(pair: Option<Pair>) -> Pair
     ensures { result ≡ pair_or pair }
 {
     match pair {

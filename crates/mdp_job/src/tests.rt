@@ -288,7 +288,8 @@ const SMALL: &[u8] =
     b"unit 1000\ntop TOP\nlimits 10 20\nlayer A 1 0\nwrite A out.oas 1 0\nwrite A two.oas 2 0\n";
 
 const EXACT: &str =
-    "format gdsii\ncells 1\nkept 1\nother 0\ntexts 0\nnodes 0\nboxes 0\nproperties 0\nexact out.oas shots 1 triangles 800\nexact two.oas shots 1 triangles 800\n";
+    "format gdsii\ncells 1\nkept 1\nother 0\ntexts 0\nnodes 0\nboxes 0\nproperties 0\n\
+exact out.oas shots 1 triangles 800\nexact two.oas shots 1 triangles 800\n";
 
 // The deck, the records of both files, if they are there, the code, what is said.
 const CHECKS: [(&[u8], Option<&[u8]>, Option<&[u8]>, u8, &str); 8] = [
@@ -375,34 +376,67 @@ const PACKED: &[u8] = &[
 ];
 
 #[test]
-fn files_are_packed_and_unpacked(rt: HostRuntime) -> Result<(), Fail> {
+fn a_file_is_packed(rt: HostRuntime) -> Result<(), Fail> {
     let alloc = rt.alloc();
-    let plain = file_of(alloc, THREE)?;
-    let packed = file_of(alloc, PACKED)?;
     let mut depot = MemDepot::new(alloc);
-    depot.add("F", &plain)?;
-    depot.add("P", &packed)?;
+    depot.add("F", &file_of(alloc, THREE)?)?;
+    let command = words(alloc, &["pack", "F", "A"])?;
+    assert_eq!(rt; run(alloc, &command, &mut depot).code(), 0);
     assert_eq!(rt;
-        run(alloc, &words(alloc, &["pack", "F", "A"])?, &mut depot).code(),
-        0
+        depot.made("A").ok_or("no file")?,
+        file_of(alloc, PACKED)?.as_slice()
     );
+    assert_eq!(rt; depot.said(), b"packed 3 shots in 1 records\n".as_slice());
+    Ok(())
+}
+
+#[test]
+fn a_packed_file_is_unpacked(rt: HostRuntime) -> Result<(), Fail> {
+    let alloc = rt.alloc();
+    let mut depot = MemDepot::new(alloc);
+    depot.add("P", &file_of(alloc, PACKED)?)?;
+    let command = words(alloc, &["unpack", "P", "B"])?;
+    assert_eq!(rt; run(alloc, &command, &mut depot).code(), 0);
     assert_eq!(rt;
-        run(alloc, &words(alloc, &["unpack", "P", "B"])?, &mut depot).code(),
-        0
+        depot.made("B").ok_or("no file")?,
+        file_of(alloc, THREE)?.as_slice()
     );
-    assert_eq!(rt; depot.made("A").ok_or("no file")?, packed.as_slice());
-    assert_eq!(rt; depot.made("B").ok_or("no file")?, plain.as_slice());
+    assert_eq!(rt; depot.said(), b"unpacked 3 shots\n".as_slice());
+    Ok(())
+}
+
+/// A triangle with its right angle at the lower right, and what of it lies in the fields of 16 half units of stripe 1.
+const TRIANGLE: &[u8] = &[0x18, 0x7B, 0x01, 0x00, 0x14, 0x14, 0x28, 0x00, 0x00];
+
+const TIP: &[u8] = &[0x18, 0x7B, 0x01, 0x00, 0x04, 0x04, 0x08, 0x20, 0x20];
+
+#[test]
+fn a_file_is_split(rt: HostRuntime) -> Result<(), Fail> {
+    let alloc = rt.alloc();
+    let mut depot = MemDepot::new(alloc);
+    depot.add("F", &file_of(alloc, TRIANGLE)?)?;
+    let command = words(alloc, &["split", "16", "F", "s"])?;
+    assert_eq!(rt; run(alloc, &command, &mut depot).code(), 0);
     assert_eq!(rt;
-        run(alloc, &words(alloc, &["pack", "P", "A"])?, &mut depot).code(),
-        7
-    );
-    assert_eq!(rt;
-        run(alloc, &words(alloc, &["unpack", "G", "A"])?, &mut depot).code(),
-        4
+        depot.made("s.1").ok_or("no file")?,
+        file_of(alloc, TIP)?.as_slice()
     );
     assert_eq!(rt;
         depot.said(),
-        b"packed 3 shots in 1 records\nunpacked 3 shots\ncheck refused: P: record at 41\nread fault\n".as_slice()
+        b"stripe 0 shots 2 triangles 384\nstripe 1 shots 1 triangles 16\nshots 3 triangles 400\n".as_slice()
+    );
+    Ok(())
+}
+
+#[test]
+fn windows_are_counted(rt: HostRuntime) -> Result<(), Fail> {
+    let alloc = rt.alloc();
+    let mut depot = depot_of(alloc, DECK)?;
+    let command = words(alloc, &["density", "64", "G.gds", "K"])?;
+    assert_eq!(rt; run(alloc, &command, &mut depot).code(), 0);
+    assert_eq!(rt;
+        depot.said(),
+        b"density out.oas size 64\n0 0 800\nmost 0 0 800\ntriangles 800\n".as_slice()
     );
     Ok(())
 }

@@ -1,3 +1,4 @@
+-- ---- what is promised, in reading order
 pub mod Spelling
 pub mod Numbers
 pub mod SpellingLaws

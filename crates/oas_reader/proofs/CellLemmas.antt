@@ -1,5 +1,5 @@
 -- The cells behind one more CELL record.
-use Rattle.std.proofs.Common.{◌≡◌, ℕ, List, [], ◌∷◌, ◌++◌, Option, Some, None, map, All, refl, sym, ap, subst, ◌∙◌}
+use Rattle.std.proofs.Common.{◌≡◌, ℕ, List, [], ◌++◌, Option, Some, None, map, All, refl, sym, ap, subst, ◌∙◌}
 use Rattle.std.proofs.lemmas.List.{map-append}
 use Rattle.std.proofs.lemmas.List.Elements.{All-nil, All-cons, All-append}
 use Rattle.std.specs.declared.vec.Vec.{Vec}
@@ -8,11 +8,10 @@ use Rattle.layout_model.specs.Layouts.{IsShapeOnGrid}
 use Rattle.layout_model.specs.declared.pair.Pair.{Pair}
 use Rattle.layout_model.specs.declared.shapes.Shape.{Shape}
 use Rattle.oas_record.specs.declared.fields.Called.{Called}
-use Rattle.oas_record.specs.declared.fields.Called.TheVariants.{Number, Text}
 use Rattle.oas_reader.specs.Cells.{begun_at, draft_of, closed}
 use Rattle.oas_reader.specs.Items.{Item, records_in}
 use Rattle.oas_reader.specs.Meaning.{given_in_cell, shapes_at, placings_at}
-use Rattle.oas_reader.specs.Naming.{IsCalledWithin, cell_record}
+use Rattle.oas_reader.specs.Naming.{IsCalledWithin}
 use Rattle.oas_reader.specs.Reading.{item}
 use Rattle.oas_reader.specs.Readers.{placings_of, IsPlacingOnGrid, begun_of, whole_by, whole_of, whole_cell, ArePlacingsWithin, IsDraftWithin, IsBegunWithin, IsDraftOnGrid, AreDraftsWithin, AreDraftsOf}
 use Rattle.oas_reader.specs.declared.cells.Begun.{Begun}
@@ -84,19 +83,4 @@ begun_within bytes at called old new begins within are = record {
   shapes_grid = subst (All IsShapeOnGrid) (sym begins.shapes) (All-nil IsShapeOnGrid);
   placings_grid = subst (All IsPlacingOnGrid) (sym begins.placings) (All-nil IsPlacingOnGrid);
   whole_grid = subst (All IsDraftOnGrid) (sym begins.whole) (all_grid bytes old are);
-}
-
-pub begun_drafts : (wanted : List Pair) (past : List Item) (at : ℕ) (called : Called) (old new : Drafts) → Begins at called old new
-    → AreDraftsOf wanted past old → AreDraftsOf wanted (item at (cell_record called) ∷ past) new
-begun_drafts wanted past at (Number number) old new begins are = record {
-  begun = begins.begun;
-  shapes = begins.shapes;
-  placings = ap placings_of begins.placings;
-  whole = ap (map whole_cell) begins.whole ∙ all_cells wanted past old are;
-}
-begun_drafts wanted past at (Text first next) old new begins are = record {
-  begun = begins.begun;
-  shapes = begins.shapes;
-  placings = ap placings_of begins.placings;
-  whole = ap (map whole_cell) begins.whole ∙ all_cells wanted past old are;
 }

@@ -65,9 +65,6 @@ or_none : {A : Type 0} → (o : Option A) → or_else o None ≡ o
 or_none None = refl
 or_none (Some a) = refl
 
-nothing_conflicts : (claim : Claim) → do_conflict NoClaim claim ≡ false
-nothing_conflicts claim = refl
-
 conflict_kept : (bytes : List ℕ) (past : List Item) (at : ℕ) (r : OasRecord) (claim : Claim) → claim_of bytes (records_in past) r ≡ NoClaim
     → first_conflict bytes claim past ≡ first_conflict bytes claim (item at r ∷ past)
 conflict_kept bytes past at r claim none =

@@ -1,6 +1,5 @@
 -- Placements, and why they are refused.
 use Rattle.std.proofs.Common.{◌≡◌, ℕ, ◌≤◌, true, false, nat_eq, Option, Some, List, refl, inl, inr, arith}
-use Rattle.std.specs.Prelude.{◌⊎◌}
 use Rattle.std.proofs.lemmas.Bool.{cases_lt}
 use Rattle.oas_record.specs.declared.fields.Called.{Called}
 use Rattle.oas_record.specs.declared.repetition.Rep.{Rep}
@@ -9,7 +8,7 @@ use Rattle.oas_shapes.specs.Rules.{AreNear, KeepsRepetition, IsLowest}
 use Rattle.oas_shapes.specs.declared.drawing.Undrawn.{Undrawn}
 use Rattle.oas_shapes.specs.declared.drawing.Undrawn.TheVariants as undrawns
 use Rattle.oas_reader.specs.Drawn.{IsRefusedBy, bad_at, is_first}
-use Rattle.oas_reader.specs.Placed.{KeepsPlaced, KeepsOffsetsIn, KeepsTurned, IsBadTurning, magnification_in, angle_in}
+use Rattle.oas_reader.specs.Placed.{KeepsPlaced, KeepsOffsetsIn, KeepsTurned, magnification_in, angle_in}
 use Rattle.oas_reader.specs.Reals.{IsFactor, IsQuarterAngle}
 use Rattle.oas_reader.specs.Rules.{IsNamed}
 use Rattle.oas_reader.specs.declared.bodies.Turning.{Turning}
@@ -39,49 +38,6 @@ turned bytes called turning rule name magnification angle = record {
   magnification = λ e. magnification;
   angle = λ e. angle;
 }
-
-pub unnamed : (bytes : List ℕ) (called : Option Called) (turning : Turning) (at : ℕ) (bad : OasBad)
-    → (bad ≡ faults.NoMemory) ⊎ ((IsNamed bytes called → ⊥) × (bad ≡ faults.Value at 2)) → IsRefusedBy (KeepsTurned bytes called turning) at bad
-unnamed bytes called turning at bad (inl none) = inl none
-unnamed bytes called turning at bad (inr (wrong, told)) = inr (
-  2,
-  told,
-  record {
-    broken = λ k. wrong (k.name refl);
-    lower = λ other less. record {
-      name = λ e. absurd (omega arith);
-      magnification = λ e. absurd (omega arith);
-      angle = λ e. absurd (omega arith);
-    };
-  },
-)
-
-pub badly_turned : (bytes : List ℕ) (called : Option Called) (turning : Turning) (at : ℕ) (bad : OasBad) → IsNamed bytes called
-    → IsBadTurning turning at bad → IsRefusedBy (KeepsTurned bytes called turning) at bad
-badly_turned bytes called turning at bad name (inl (wrong, told)) = inr (
-  4,
-  told,
-  record {
-    broken = λ k. wrong (k.magnification refl);
-    lower = λ other less. record {
-      name = λ e. name;
-      magnification = λ e. absurd (omega arith);
-      angle = λ e. absurd (omega arith);
-    };
-  },
-)
-badly_turned bytes called turning at bad name (inr (magnification, wrong, told)) = inr (
-  5,
-  told,
-  record {
-    broken = λ k. wrong (k.angle refl);
-    lower = λ other less. record {
-      name = λ e. name;
-      magnification = λ e. magnification;
-      angle = λ e. absurd (omega arith);
-    };
-  },
-)
 
 -- ---- all of it
 

@@ -6,7 +6,6 @@ use Rattle.half_grid.specs.declared.plane.Point.{Point}
 use Rattle.layout_model.specs.declared.pair.Pair.{Pair}
 use Rattle.layout_model.specs.declared.shapes.Shape.{Shape}
 use Rattle.oas_record.specs.Taken.{repetition_in}
-use Rattle.oas_record.specs.declared.fields.Called.{Called}
 use Rattle.oas_record.specs.declared.fields.Called.TheVariants.{Number, Text}
 use Rattle.oas_record.specs.declared.fields.Deltas.{Deltas}
 use Rattle.oas_record.specs.declared.records.OasRecord.{OasRecord}
@@ -109,43 +108,6 @@ calls_none (records.XName attribute text) e = refl
 calls_none (records.NumberedXName attribute text number) e = refl
 calls_none (records.XElement attribute text) e = refl
 calls_none (records.XGeometry info attribute layer datatype text x y repetition) e = refl
-
--- one that begins a cell has the body of a CELL record
-pub cell_body_is : (r : OasRecord) → begins_cell r ≡ true → (called : Called) × (body_of r ≡ bodies.Cell called)
-cell_body_is records.Pad e = absurd (cc)
-cell_body_is (records.Start version unit offset_flag tables) e = absurd (cc)
-cell_body_is (records.End tables padding scheme validation) e = absurd (cc)
-cell_body_is (records.CellName name) e = absurd (cc)
-cell_body_is (records.NumberedCellName name number) e = absurd (cc)
-cell_body_is (records.TextString text) e = absurd (cc)
-cell_body_is (records.NumberedTextString text number) e = absurd (cc)
-cell_body_is (records.PropName name) e = absurd (cc)
-cell_body_is (records.NumberedPropName name number) e = absurd (cc)
-cell_body_is (records.PropString text) e = absurd (cc)
-cell_body_is (records.NumberedPropString text number) e = absurd (cc)
-cell_body_is (records.LayerName name layers datatypes) e = absurd (cc)
-cell_body_is (records.TextLayerName name layers datatypes) e = absurd (cc)
-cell_body_is (records.NumberedCell number) e = (Number number, refl)
-cell_body_is (records.Cell name) e = (Text name.0 name.1, refl)
-cell_body_is records.XyAbsolute e = absurd (cc)
-cell_body_is records.XyRelative e = absurd (cc)
-cell_body_is (records.Placement info cell x y repetition) e = absurd (cc)
-cell_body_is (records.TurnedPlacement info cell magnification angle x y repetition) e = absurd (cc)
-cell_body_is (records.Text info text textlayer texttype x y repetition) e = absurd (cc)
-cell_body_is (records.Rectangle info layer datatype width height x y repetition) e = absurd (cc)
-cell_body_is (records.Polygon info layer datatype points x y repetition) e = absurd (cc)
-cell_body_is (records.Path info layer datatype half_width extension start end points x y repetition) e = absurd (cc)
-cell_body_is (records.Trapezoid info layer datatype width height delta_a delta_b x y repetition) e = absurd (cc)
-cell_body_is (records.TrapezoidA info layer datatype width height delta_a x y repetition) e = absurd (cc)
-cell_body_is (records.TrapezoidB info layer datatype width height delta_b x y repetition) e = absurd (cc)
-cell_body_is (records.Ctrapezoid info layer datatype kind width height x y repetition) e = absurd (cc)
-cell_body_is (records.Circle info layer datatype radius x y repetition) e = absurd (cc)
-cell_body_is (records.Property info name count values) e = absurd (cc)
-cell_body_is records.LastProperty e = absurd (cc)
-cell_body_is (records.XName attribute text) e = absurd (cc)
-cell_body_is (records.NumberedXName attribute text number) e = absurd (cc)
-cell_body_is (records.XElement attribute text) e = absurd (cc)
-cell_body_is (records.XGeometry info attribute layer datatype text x y repetition) e = absurd (cc)
 
 -- ---- what is placed and drawn
 

@@ -141,10 +141,6 @@ values_kept bytes wanted sorted past r outline fields wanting t l k =
           (geometry_to bytes wanted sorted past r outline fields wanting rule b l (k rule));
     }
 
-pub wanting_told : (wanted sorted : List Pair) (past : List OasRecord) (r : OasRecord) (outline : Outline) (fields : Fields) (wanting : Option Bool)
-    → IsTaken wanted sorted past r outline fields → wanting ≡ wanting_in sorted outline.body fields → wanting ≡ wanting_of wanted past r
-wanting_told wanted sorted past r outline fields wanting t e = e ∙ (bridge wanted sorted past r outline fields t).wanting
-
 -- ---- refusals
 
 pub look_bad : (bytes : List ℕ) (wanted sorted : List Pair) (past : List OasRecord) (r : OasRecord) (outline : Outline) (fields : Fields) (at : ℕ)

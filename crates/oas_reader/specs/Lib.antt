@@ -1,3 +1,4 @@
+-- ---- what is promised, in reading order
 pub mod Items
 pub mod Order
 pub mod Names
@@ -6,6 +7,7 @@ pub mod Reals
 pub mod Meaning
 pub mod Rules
 pub mod Reading
+-- ---- what is kept inside
 pub mod Bodies
 pub mod Kept
 pub mod Drawn

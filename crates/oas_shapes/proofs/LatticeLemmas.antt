@@ -39,10 +39,6 @@ grid_at P nu nv u v all a b ha hb =
     let within : k < length (grid_places nu nv u v) = subst (λ n. k < n) (sym (length-map-range_with_len (nth_place nu u v) 0 (nu * nv))) few in
     subst P (get_or-map-range_with_len (nth_place nu u v) 0 (nu * nv) k k u few (omega arith) ∙ is) (all k u within)
 
-pub no_places : (P : Point → Type 0) (nu nv : ℕ) (u v : Point) → nu * nv ≡ 0 → All P (grid_places nu nv u v)
-no_places P nu nv u v none = λ k d lt.
-    absurd (let e = length-map-range_with_len (nth_place nu u v) 0 (nu * nv) in omega (arith, lt, e, none))
-
 -- ---- corners
 
 -- the sum of two products lies between those of the corners

@@ -60,8 +60,5 @@ are_moves ps h =
 pub are_offsets : (ps : List Point) → map doubled ps ≢ [] → AreNear (map doubled ps) → AreOffsets (map doubled ps)
 are_offsets ps some h = record { nonempty = some; moves = are_moves ps h }
 
-pub near_offsets : (ps : List Point) → AreOffsets ps → AreNear ps
-near_offsets ps o = All-weaker IsMove IsNearInHalves (λ p m. m.near) ps o.moves
-
 pub same_point : (a b c d : ℤ) → a ≡ b → c ≡ d → point a c ≡ point b d
 same_point a b c d e f = ap (λ x. point x c) e ∙ ap (λ y. point b y) f

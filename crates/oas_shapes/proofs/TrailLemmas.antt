@@ -1,8 +1,8 @@
 -- Places that are listed one by one.
-use Rattle.std.proofs.Common.{◌≡◌, ◌+◌, ◌<◌, ◌≤◌, length, ℤ, pos, List, [], ◌∷◌, ◌++◌, map, sym, ap, subst, ◌∙◌, append_assoc, length-append, arith, Result, Ok, Err}
+use Rattle.std.proofs.Common.{◌≡◌, ◌+◌, ◌<◌, ◌≤◌, length, ℤ, pos, List, [], ◌∷◌, ◌++◌, map, sym, ap, subst, ◌∙◌, arith, Result, Ok, Err}
 use Rattle.std.specs.Prelude.{IsOk, IfOk, IfErr, ◌≢◌, ◌*ℤ◌, ◌+ℤ◌, ◌-ℤ◌}
 use Rattle.std.proofs.lemmas.List.{length-map}
-use Rattle.std.proofs.lemmas.List.Elements.{All-head, All-tail, All-push, All-nil}
+use Rattle.std.proofs.lemmas.List.Elements.{All-head, All-tail}
 use Rattle.std.proofs.lemmas.Int.{ints}
 use Rattle.half_grid.specs.declared.plane.Point.{Point}
 use Rattle.layout_model.specs.Images.{moved, enlarged}
@@ -12,20 +12,7 @@ use Rattle.oas_shapes.specs.Rules.{AreNear}
 use Rattle.oas_shapes.specs.Trails.{IsTrail}
 use Rattle.oas_shapes.specs.declared.trails.Trail.{Trail}
 use Rattle.smallvec.specs.SmallVec.{SmallVec}
-use Rattle.oas_shapes.proofs.NearLemmas.{halves_near, near_halves, all_after, same_point}
-
-pub trail_on : (whole : List Point) (old new : Trail) (move : Point) (moves : List Point) → IsTrail whole old (move ∷ moves)
-    → new.listed.items ≡ old.listed.items ++ doubled old.at ∷ [] → new.at ≡ moved old.at move → IsNear new.at → old.listed.capacity ≤ new.listed.capacity
-    → IsTrail whole new moves
-trail_on whole old new move moves t e f near room = record {
-  joined =
-      ap (λ xs. xs ++ map doubled (places_along new.at moves)) e
-      ∙ append_assoc old.listed.items (doubled old.at ∷ []) (map doubled (places_along new.at moves))
-      ∙ ap (λ p. old.listed.items ++ doubled old.at ∷ map doubled (places_along p moves)) f ∙ t.joined;
-  near = subst AreNear (sym e) (All-push IsNearInHalves old.listed.items (doubled old.at) t.near (halves_near old.at t.here));
-  here = near;
-  room = omega (arith, t.room, room);
-}
+use Rattle.oas_shapes.proofs.NearLemmas.{near_halves, all_after, same_point}
 
 pub first_place : (p : Point) (moves : List Point) → AreNear (map doubled (places_along p moves)) → IsNear p
 first_place p [] h = near_halves p (All-head IsNearInHalves (doubled p) [] h)
@@ -38,20 +25,6 @@ trail_far whole trail move moves t far near =
     let all : AreNear (trail.listed.items ++ doubled trail.at ∷ rest) = subst AreNear (sym t.joined) near in
     let after = all_after IsNearInHalves trail.listed.items (doubled trail.at ∷ rest) all in
     far (first_place (moved trail.at move) moves (All-tail IsNearInHalves (doubled trail.at) rest after))
-
-pub trail_near : (whole : List Point) (trail : Trail) → IsTrail whole trail [] → AreNear (map doubled whole)
-trail_near whole trail t =
-    subst AreNear t.joined (All-push IsNearInHalves trail.listed.items (doubled trail.at) t.near (halves_near trail.at t.here))
-
-pub trail_start : (start : Point) (moves : List Point) (trail : Trail) → trail.listed.items ≡ [] → trail.at ≡ start → IsNear start
-    → 12 ≤ trail.listed.capacity → IsTrail (places_along start moves) trail moves
-trail_start start moves trail none here near room = record {
-  joined =
-      ap (λ xs. xs ++ map doubled (places_along trail.at moves)) none ∙ ap (λ p. map doubled (places_along p moves)) here;
-  near = subst AreNear (sym none) (All-nil IsNearInHalves);
-  here = subst IsNear (sym here) near;
-  room = room;
-}
 
 pub some_places : (p : Point) (moves : List Point) → map doubled (places_along p moves) ≢ []
 some_places p [] e = absurd (cc)
@@ -89,22 +62,6 @@ changes_on whole old new next move rest x y e t =
 pub places_count : (start : Point) (moves : List Point) → length (places_along start moves) ≡ length moves + 1
 places_count start [] = omega arith
 places_count start (m ∷ moves) = let more = places_count (moved start m) moves in omega (arith, more)
-
-halves_count : (points : List Point) → length (map doubled points) ≡ length points
-halves_count points = length-map points doubled
-
--- the place that was reached and those after it come after those that are listed
-pub listed_count : (whole : List Point) (trail : Trail) (moves : List Point) → IsTrail whole trail moves
-    → length trail.listed.items + length moves + 1 ≡ length whole
-listed_count whole trail moves t =
-    let both = length-append trail.listed.items (map doubled (places_along trail.at moves)) in
-    let same : length (trail.listed.items ++ map doubled (places_along trail.at moves)) ≡ length (map doubled whole) = ap length t.joined in
-    omega (arith, both, same, halves_count (places_along trail.at moves), halves_count whole, places_count trail.at moves)
-
--- a place more takes no memory where there are few
-pub room_left : (whole : List Point) (trail : Trail) (moves : List Point) → IsTrail whole trail moves → length whole ≤ 12
-    → length trail.listed.items + 1 ≤ trail.listed.capacity
-room_left whole trail moves t few = omega (arith, listed_count whole trail moves t, few, t.room)
 
 pub few_places : (start : Point) (moves : List Point) → length moves < 12 → length (places_along start moves) ≤ 12
 few_places start moves few = omega (arith, places_count start moves, few)

@@ -1,12 +1,14 @@
+-- ---- what is promised, in reading order
 pub mod Plane
-pub mod Ways
-pub mod Sketches
-pub mod Trails
-pub mod Lattices
 pub mod Figures
 pub mod PointLists
 pub mod Repetitions
 pub mod Outlines
-pub mod Vertices
 pub mod Rules
+-- ---- what is kept inside
+pub mod Ways
+pub mod Sketches
+pub mod Trails
+pub mod Lattices
+pub mod Vertices
 pub mod Brushes

@@ -64,15 +64,15 @@ pub put_first : (line later text meant : List ℕ) → line ≡ [] → later ≡
 put_first line later text meant none e is = e ∙ ap (λ l. put l text) none ∙ ap (put []) is
 
 -- the last bytes of a long name
-pub long_name : (name : List ℕ) → 40 < length name → codes ".." ++ take (length name - (length name - 38)) (drop (length name - 38) name) ≡ short_name name
+pub long_name : (name : List ℕ) → 24 < length name → codes ".." ++ take (length name - (length name - 22)) (drop (length name - 22) name) ≡ short_name name
 long_name name long =
-    chosen (nat_le (length name) 40) (λ t. not_within (length name) t long) name _ _
-    (ap (λ l. codes ".." ++ l) (take_all (length name - (length name - 38)) (drop (length name - 38) name) (rest (length-drop (length name - 38) name))))
+    chosen (nat_le (length name) 24) (λ t. not_within (length name) t long) name _ _
+    (ap (λ l. codes ".." ++ l) (take_all (length name - (length name - 22)) (drop (length name - 22) name) (rest (length-drop (length name - 22) name))))
   where
-    rest : {n : ℕ} → n ≡ length name - (length name - 38) → n ≤ length name - (length name - 38)
+    rest : {n : ℕ} → n ≡ length name - (length name - 22) → n ≤ length name - (length name - 22)
     rest e = omega arith
 
-    not_within : (n : ℕ) → IsTrue (nat_le n 40) → 40 < n → ⊥
+    not_within : (n : ℕ) → IsTrue (nat_le n 24) → 24 < n → ⊥
     not_within n t lt = grind (arith, nat_tests)
 
     chosen : (b : Bool) → (IsTrue b → ⊥) → (x y z : List ℕ) → y ≡ z → y ≡ (if b then x else z)

@@ -1,15 +1,16 @@
 //! What is shown of a file.
-ghost use Rattle.std.specs.Prelude.{◌≡◌, [], ◌++◌, ◌+◌, ◌^◌, ◌-◌, min, codes};
-ghost use Rattle.progress_line.specs.Text.{put, label, short_name, amount, megabytes};
+ghost use Rattle.std.specs.Prelude.{◌≡◌, None, Some, [], ◌++◌, ◌+◌, ◌^◌, ◌-◌, min, codes};
+ghost use Rattle.progress_line.specs.Text.{put, label, short_name, bands_done, amount, megabytes};
 
 use crate::line::Line;
+use depot::Progress;
 use itoa::Buffer;
 
 /// How many bytes of a name are shown whole.
-const LONGEST_NAME: usize = 40;
+const LONGEST_NAME: usize = 24;
 
 /// How many of the last bytes of a longer name are shown.
-const END_OF_NAME: usize = 38;
+const END_OF_NAME: usize = 22;
 
 const MEGABYTE: u64 = 1_000_000;
 
@@ -19,6 +20,7 @@ const TENTH: u64 = 100_000;
 #[derive(Drop)]
 pub struct FileLine {
     label: Line,
+    bands: Option<Progress>,
     done: u64,
     all: Option<u64>,
 }
@@ -28,6 +30,7 @@ impl FileLine {
     /// that is known.
     pub fn new(verb: &str, name: &str, size: Option<u64>) -> FileLine
         ensures label { result.label ≡ label verb.now name.now }
+        ensures bands { result.bands ≡ None }
         ensures done { result.done ≡ 0 }
         ensures all { result.all ≡ size }
     {
@@ -38,6 +41,7 @@ impl FileLine {
         line.put(b": ");
         FileLine {
             label: line,
+            bands: None,
             done: 0,
             all: size,
         }
@@ -47,17 +51,30 @@ impl FileLine {
     pub fn advance(&mut self, count: usize)
         ensures done { self.new.done ≡ min (self.old.done + count) (2 ^ 64 - 1) }
         ensures label { self.new.label ≡ self.old.label }
+        ensures bands { self.new.bands ≡ self.old.bands }
         ensures all { self.new.all ≡ self.old.all }
     {
         self.done = self.done.saturating_add(count as u64);
     }
 
+    /// Its bands and shots are that far.
+    pub fn note(&mut self, progress: Progress)
+        ensures bands { self.new.bands ≡ Some progress }
+        ensures label { self.new.label ≡ self.old.label }
+        ensures done { self.new.done ≡ self.old.done }
+        ensures all { self.new.all ≡ self.old.all }
+    {
+        self.bands = Some(progress);
+    }
+
     /// The line to be shown.
     pub fn line(&self) -> Line
-        ensures { result ≡ put [] (self.now.label ++ amount self.now.done self.now.all ++ codes " MB") }
+        ensures { result
+            ≡ put [] (self.now.label ++ bands_done self.now.bands ++ amount self.now.done self.now.all ++ codes " MB") }
     {
         let mut line = Line::new();
         line.put(self.label.bytes());
+        put_bands(&mut line, self.bands);
         put_amount(&mut line, self.done, self.all);
         line.put(b" MB");
         line
@@ -74,6 +91,30 @@ fn put_name(line: &mut Line, name: &[u8])
     }
     line.put(b"..");
     line.put(&name[name.len() - END_OF_NAME..]);
+}
+
+// Puts how many bands and shots are done at the end, where that is known.
+fn put_bands(line: &mut Line, bands: Option<Progress>)
+    ensures { line.new ≡ put line.old (bands_done bands) }
+{
+    match bands {
+        Some(progress) => put_progress(line, progress),
+        None => line.put(b""),
+    }
+}
+
+// Puts how many bands and shots are done at the end.
+fn put_progress(line: &mut Line, progress: Progress)
+    ensures { line.new ≡ put line.old (bands_done (Some progress)) }
+{
+    let mut digits = Buffer::new();
+    line.put(b"band ");
+    line.put(digits.format(progress.band).as_bytes());
+    line.put(b" of ");
+    line.put(digits.format(progress.bands).as_bytes());
+    line.put(b", ");
+    line.put(digits.format(progress.shots).as_bytes());
+    line.put(b" shots, ");
 }
 
 // Puts how much is done at the end, and of how much where that is known.

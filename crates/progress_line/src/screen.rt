@@ -1,9 +1,10 @@
 //! A terminal on which one line is shown, over and over.
-ghost use Rattle.std.specs.Prelude.{◌≡◌, ◌+◌, ◌-◌, ◌^◌, min, false, None, codes};
+ghost use Rattle.std.specs.Prelude.{◌≡◌, ◌+◌, ◌-◌, ◌^◌, min, false, None, Some, codes};
 ghost use Rattle.progress_line.specs.Text.{label};
 
 use crate::file::FileLine;
 use crate::pace::Pace;
+use depot::Progress;
 use std::fs::{Files, metadata};
 use std::io::Write;
 use std::time::Clock;
@@ -66,11 +67,21 @@ impl<R: Clock + Files + Drop, W: Write + Drop> Screen<R, W> {
         ensures done { self.new.file.done ≡ min (self.old.file.done + count) (2 ^ 64 - 1) }
     {
         self.file.advance(count);
-        let Ok(time) = self.rt.monotonic() else {
-            return;
-        };
-        if self.pace.is_new(time.as_secs()) {
+        self.show_once();
+    }
+
+    /// The file's bands and shots are that far. How many bands there are is shown at once, and then what is done once a
+    /// second.
+    pub fn note(&mut self, progress: Progress)
+        ensures bands { self.new.file.bands ≡ Some progress }
+        ensures label { self.new.file.label ≡ self.old.file.label }
+        ensures done { self.new.file.done ≡ self.old.file.done }
+    {
+        self.file.note(progress);
+        if progress.band == 0 {
             self.show();
+        } else {
+            self.show_once();
         }
     }
 
@@ -81,6 +92,18 @@ impl<R: Clock + Files + Drop, W: Write + Drop> Screen<R, W> {
         if self.is_shown {
             let _refused = self.to.write_all(WIPE);
             self.is_shown = false;
+        }
+    }
+
+    // Shows the line, where none was shown in this second.
+    fn show_once(&mut self)
+        ensures { self.new.file ≡ self.old.file }
+    {
+        let Ok(time) = self.rt.monotonic() else {
+            return;
+        };
+        if self.pace.is_new(time.as_secs()) {
+            self.show();
         }
     }
 

@@ -2,7 +2,7 @@
 ghost use Rattle.std.specs.Prelude.{◌≡◌};
 
 use crate::screen::Screen;
-use depot::{Depot, DepotBad};
+use depot::{Depot, DepotBad, Progress};
 use std::fs::Files;
 use std::io::Write;
 use std::time::Clock;
@@ -80,5 +80,13 @@ impl<D: Depot + Drop, R: Clock + Files + Drop, W: Write + Drop> Depot for ShownD
     fn say(&mut self, bytes: &[u8]) -> Result<usize, DepotBad> {
         self.wipe();
         self.depot.say(bytes)
+    }
+
+    /// It is shown, and the other depot is told.
+    fn note(&mut self, progress: Progress) {
+        if let Some(screen) = &mut self.screen {
+            screen.note(progress);
+        }
+        self.depot.note(progress);
     }
 }

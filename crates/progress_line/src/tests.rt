@@ -2,7 +2,7 @@
 use crate::file::FileLine;
 use crate::pace::Pace;
 use crate::{Screen, ShownDepot};
-use depot::{Depot, SureDepot, make_file, read_all, say_whole};
+use depot::{Depot, Progress, SureDepot, make_file, read_all, say_whole};
 use std::io::sink;
 use std::test::Fail;
 
@@ -22,15 +22,26 @@ fn a_file_of_known_size(rt: HostRuntime) {
 
 #[test]
 fn a_long_name_with_a_control_character(rt: HostRuntime) {
-    let mut file = FileLine::new(
-        "writing",
-        "0123456789\x1b[2J012345678901234567890123456789.oas",
-        None,
-    );
+    let mut file = FileLine::new("writing", "0123456789012\x1b[2J34567890123456.oas", None);
     file.advance(150_000);
     let line = file.line();
-    let shown = b"writing ..?[2J012345678901234567890123456789.oas: 0.1 MB";
+    let shown = b"writing ..?[2J34567890123456.oas: 0.1 MB";
     assert_eq!(rt; line.bytes(), shown.as_slice());
+}
+
+#[test]
+fn bands_of_a_file(rt: HostRuntime) {
+    let mut file = FileLine::new("writing", "metal.oas", None);
+    file.note(Progress {
+        band: 3,
+        bands: 40,
+        shots: 1200,
+    });
+    file.advance(1_500_000);
+    assert_eq!(rt;
+        file.line().bytes(),
+        b"writing metal.oas: band 3 of 40, 1200 shots, 1.5 MB".as_slice()
+    );
 }
 
 #[test]
@@ -53,6 +64,11 @@ fn a_shown_depot_answers_as_the_other(rt: HostRuntime) -> Result<(), Fail> {
     let bytes = read_all(rt.alloc(), &mut depot, "in", 10)?;
     assert_eq!(rt; bytes.as_slice(), b"abc".as_slice());
     make_file(&mut depot, "out", &bytes)?;
+    depot.note(Progress {
+        band: 0,
+        bands: 1,
+        shots: 0,
+    });
     say_whole(&mut depot, b"done\n")?;
     depot.wipe();
     Ok(())

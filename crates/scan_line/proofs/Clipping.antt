@@ -18,11 +18,6 @@ lt_yes x y h = grind (arith, ints)
 lt_no : (x y : ℤ) → y ≤ℤ x → int_lt x y ≡ false
 lt_no x y h = grind (arith, ints)
 
-pub part_none : (window : RowRange) (e : EdgeParts) (rows : Slab) → rows.y0 ≡ int_max e.y0 window.y0 → rows.y1 ≡ int_min e.y1 window.y1 → rows.y1 ≤ℤ rows.y0 → None ≡ part_in window e
-part_none window e rows bottom top le =
-    let test : int_lt (int_max e.y0 window.y0) (int_min e.y1 window.y1) ≡ false = subst (λ (x : ℤ). int_lt x (int_min e.y1 window.y1) ≡ false) bottom (subst (λ (y : ℤ). int_lt rows.y0 y ≡ false) top (lt_no rows.y0 rows.y1 le)) in
-    rw test refl
-
 some_by : (r : Option EdgeParts) (e : EdgeParts) → SomeIff r (IsEdge e) e → IsEdge e → r ≡ Some e
 some_by None e h is = absurd (h is)
 some_by (Some x) e h is = ap Some h.1
@@ -51,17 +46,6 @@ part_some window e rows r is bottom top lt h =
 -- ---- the stream
 
 module _ {S : Type 0} (stands_for : S → List EdgeParts → Type 0) (window : RowRange) where
-  -- an edge with no part in the window is skipped
-  pub clipped_skips : (before after : S) (e : EdgeParts) → ((items : List EdgeParts) → stands_for before items → TakesFirst stands_for items (Some e) after) → None ≡ part_in window e
-      → (items : List EdgeParts) → StandsForClipped stands_for window before items → StandsForClipped stands_for window after items
-  clipped_skips before after e first none items p =
-      let taken = first p.edges p.source in
-      record {
-        edges = taken.0;
-        source = taken.2;
-        each = p.each ∙ (ap (λ (l : List EdgeParts). parts_in window l) taken.1 ∙ ap (λ (o : Option EdgeParts). cons_option o (parts_in window taken.0)) (sym none));
-      }
-
   -- the part of one comes first
   pub clipped_takes : (before after : S) (e part : EdgeParts) → ((items : List EdgeParts) → stands_for before items → TakesFirst stands_for items (Some e) after) → Some part ≡ part_in window e
       → (items : List EdgeParts) → StandsForClipped stands_for window before items → TakesFirst (StandsForClipped stands_for window) items (Some part) after

@@ -1,7 +1,7 @@
 -- The edges of a point list, edge by edge.
-use Rattle.std.proofs.Common.{◌≡◌, List, [], ◌∷◌, Option, Some, None, refl, sym, ap, subst, ◌∙◌, length, arith}
+use Rattle.std.proofs.Common.{◌≡◌, List, [], ◌∷◌, Option, Some, None, refl, sym, ap, subst, ◌∙◌, arith}
 use Rattle.std.specs.List.{cons_option}
-use Rattle.std.proofs.lemmas.List.Elements.{All-head, All-tail, All-nil}
+use Rattle.std.proofs.lemmas.List.Elements.{All-head, All-tail}
 use Rattle.half_grid.specs.Edges.{EdgeParts}
 use Rattle.half_grid.specs.Reach.{IsPointWithinReach}
 use Rattle.half_grid.specs.declared.plane.Point.{Point}
@@ -22,10 +22,6 @@ pub along_some : (o : Operand) (points : List Point) (point : Point) (rest : Lis
 along_some o points point rest e same some =
     ap (λ (l : List Point). edges_along o l) same ∙ (along_cons o point rest ∙ ap (λ (x : Option EdgeParts). cons_option x (edges_along o rest)) (sym some))
 
-pub along_end : (o : Operand) (points : List Point) → length points ≡ 0 → edges_along o points ≡ []
-along_end o [] h = refl
-along_end o (a ∷ points) h = absurd (omega (arith, h))
-
 -- a point of a list whose points are near, and the others
 pub record NearStep (point : Point) (rest : List Point) : Type 0 where
   pub first : IsPointWithinReach point
@@ -36,6 +32,3 @@ near_step points point rest h same =
     let near : AreNear (point ∷ rest) = subst AreNear same h in
     let few = near.few in
     record { first = All-head IsPointWithinReach point rest near.reach; later = record { reach = All-tail IsPointWithinReach point rest near.reach; few = omega (arith, few) } }
-
-pub near_nil : (points : List Point) → AreNear points → length points ≡ 0 → AreNear []
-near_nil points h none = record { reach = All-nil IsPointWithinReach; few = omega arith }

@@ -2,7 +2,7 @@
 use Rattle.std.proofs.Common.{subst, ℤ, ◌≡◌, ◌≢◌, ◌≤ℤ◌, ◌<ℤ◌, ◌⊎◌, List, [], ◌∷◌, All, length, arith, refl, inl, inr, ◌∙◌, sym}
 use Rattle.std.proofs.lemmas.Int.{ints}
 use Rattle.std.specs.List.{Contains}
-use Rattle.std.proofs.lemmas.List.Elements.{All-head, All-tail, All-contains, Contains-append_right, All-contains_itself}
+use Rattle.std.proofs.lemmas.List.Elements.{All-tail, All-contains, Contains-append_right, All-contains_itself}
 use Rattle.half_grid.specs.Edges.{EdgeParts}
 use Rattle.half_grid.specs.Meetings.{MeetAt}
 use Rattle.scan_line.specs.Turns.{IsLower, PassesNext, AreQuiet, IsTurn}
@@ -87,10 +87,3 @@ quiet_all edges (e ∷ left) slab rows i h = absurd (omega (arith, h))
 pub record IsNext (slab : Slab) (e : EdgeParts) : Type 0 where
   pub rows : slab.y0 <ℤ slab.y1
   pub edge : slab.y0 <ℤ e.y1
-
-pub below_needs : (edges left : List EdgeParts) (e : EdgeParts) (rest : List EdgeParts) (slab rows : Slab) → AreBelow edges left slab rows → left ≡ e ∷ rest → IsNext rows e
-below_needs edges left e rest slab rows i same =
-    let above : All (λ f. slab.y0 <ℤ f.y1) (e ∷ rest) = subst (All (λ (f : EdgeParts). slab.y0 <ℤ f.y1)) same i.above in
-    let bottom = i.lower.bottom in
-    let here = All-head (λ f. slab.y0 <ℤ f.y1) e rest above in
-    record { rows = i.lower.has_rows; edge = omega (arith, ints) }

@@ -1,16 +1,18 @@
+-- ---- what is promised, in reading order
 pub mod Rules
 pub mod Stops
 pub mod Runs
 pub mod Actives
-pub mod Turns
-pub mod Windings
 pub mod Sweeps
-pub mod Starts
-pub mod OpenRuns
 pub mod OutlineEdges
 pub mod OutlineLaws
-pub mod OutlineStreams
 pub mod ClippedEdges
-pub mod ClippedStreams
 pub mod ClippedLaws
 pub mod Scans
+-- ---- what is kept inside
+pub mod Turns
+pub mod Windings
+pub mod Starts
+pub mod OpenRuns
+pub mod OutlineStreams
+pub mod ClippedStreams

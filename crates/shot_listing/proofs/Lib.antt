@@ -1,3 +1,1 @@
-pub mod SaidSoFar
 pub mod Fields
-pub mod ForCallers

@@ -1,2 +1,2 @@
+-- ---- what is promised, in reading order
 pub mod Listing
-pub mod Saying

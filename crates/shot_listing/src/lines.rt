@@ -3,7 +3,7 @@ ghost use Rattle.std.specs.Prelude.{◌≡◌, ◌+◌, ◌≤◌, ◌∷◌, []
 ghost use Rattle.std.specs.Fmt.{signed_decimal};
 ghost use Rattle.shot_listing.specs.Listing.{unit_line, layer_line, shot_line, sums_line};
 
-use crate::buffer::ROOM;
+use crate::room::ROOM;
 use depot::{BUFFER_SIZE, Buffer};
 use half_grid::Trap;
 use layout_model::Pair;

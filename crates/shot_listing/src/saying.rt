@@ -4,10 +4,10 @@ ghost use Rattle.depot.specs.Content.{with_said, IsPartSaid};
 ghost use Rattle.depot.specs.Counts.{Rose, NeverFall};
 ghost use Rattle.shot_listing.specs.Listing.{listing, sums_line};
 
-use crate::buffer::{flush, make_room};
 use crate::lines::{put_layer, put_sums, put_unit};
+use crate::room::make_room;
 use crate::shots::put_shots;
-use depot::{Buffer, Depot, DepotBad};
+use depot::{Buffer, Depot, DepotBad, flush};
 use half_grid::Trap;
 use layout_model::Pair;
 

@@ -2,12 +2,12 @@
 ghost use Rattle.std.specs.Prelude.{◌≡◌, ◌+◌, ◌^◌, ◌<◌, ◌≤◌, IsTrue, IfOk, OnOk, OnErr, IsErrOf, ◌++◌, length, flat_map};
 ghost use Rattle.depot.specs.Content.{IsPartSaid};
 ghost use Rattle.depot.specs.Counts.{Rose, NeverFall};
+ghost use Rattle.depot.specs.Printing.{IsSaidButFor};
 ghost use Rattle.shot_writer.specs.Writing.{triangles_of};
 ghost use Rattle.shot_listing.specs.Listing.{shot_line};
-ghost use Rattle.shot_listing.specs.Saying.{IsSaidButFor};
 
-use crate::buffer::make_room;
 use crate::lines::put_shot;
+use crate::room::make_room;
 use crate::saying::MOST_SHOTS;
 use depot::{Buffer, Depot, DepotBad};
 use half_grid::Trap;

@@ -1,6 +1,6 @@
 // Listings by their text, and what is said of one where a call fails.
-use crate::{MOST_SHOTS, flush, put_piece, say_listing};
-use depot::{Buffer, MemDepot};
+use crate::{MOST_SHOTS, say_listing};
+use depot::MemDepot;
 use half_grid::{Line, Trap};
 use layout_model::Pair;
 use std::alloc::Global;
@@ -113,19 +113,5 @@ fn each_call_fails_in_turn(rt: HostRuntime) -> Result<(), Fail> {
     let slowly = said_of_many(rt.alloc(), true, Some(12345))?;
     assert_eq!(rt; slowly.len(), 12345);
     assert!(rt; whole.starts_with(&slowly));
-    Ok(())
-}
-
-#[test]
-fn a_long_piece(rt: HostRuntime) -> Result<(), Fail> {
-    let mut depot = MemDepot::new(rt.alloc());
-    let mut buffer = Buffer::new();
-    put_piece(&mut depot, &mut buffer, b"check refused: ")?;
-    put_piece(&mut depot, &mut buffer, &[b'x'; 9000])?;
-    put_piece(&mut depot, &mut buffer, b": head at 0\n")?;
-    flush(&mut depot, &mut buffer)?;
-    assert_eq!(rt; depot.said().len(), 15 + 9000 + 12);
-    assert!(rt; depot.said().starts_with(b"check refused: x"));
-    assert!(rt; depot.said().ends_with(b"x: head at 0\n"));
     Ok(())
 }

@@ -13,8 +13,9 @@ use Rattle.fracture.specs.Limits.{AreLimits}
 use Rattle.fracture.specs.Cutting.{cut_list, shots_of}
 use Rattle.fracture.specs.Economy.{HasNoNeedlessCut}
 use Rattle.fracture.proofs.ForCallers.{same_tiles_of_list, list_of_shots, list_fits, joined_needless, shots_in_window, EndsBy, BeginsAt, needless_append}
-use Rattle.shot_output.specs.ShotLists.{Rules, band, IsInPart, IsBandList, AreBandLists, IsShotListBelow, IsShotList}
-use Rattle.shot_output.proofs.BandNumbers.{multiples}
+use Rattle.deck_plan.specs.Bands.{band}
+use Rattle.shot_output.specs.ShotLists.{Rules, IsInPart, IsBandList, AreBandLists, IsShotListBelow, IsShotList}
+use Rattle.deck_plan.proofs.ForCallers.{multiples}
 
 pub count_in-append : (xs ys : List Trapezoid) (t : Tile) → count_in (xs ++ ys) t ≡ count_in xs t + count_in ys t
 count_in-append xs ys t = sum_by-append _ xs ys

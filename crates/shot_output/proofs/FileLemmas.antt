@@ -16,7 +16,7 @@ use Rattle.shot_writer.specs.declared.parts.Sums.{Sums}
 use Rattle.shot_writer.proofs.ForCallers.{file_more, started_text, put_text, finished_text, finish_part}
 use Rattle.shot_output.specs.Files.{IsFrontOf, text_of, front_of, IsBeginning}
 use Rattle.shot_output.specs.Bands.{HasRows, IsPut, IsPutPart}
-use Rattle.shot_output.proofs.BandNumbers.{bottom_is, rem_low}
+use Rattle.deck_plan.proofs.ForCallers.{bottom_is, rem_low}
 
 -- what holds of an answer by two of its facts, and of a refusal by one
 pub ok_both : {T E : Type 0} (r : Result T E) {A : Type 0} {P Q : T → Type 0} → OnOk r A → IfOk r P → ((x : T) → A → P x → Q x) → IfOk r Q

@@ -14,8 +14,10 @@ use Rattle.half_grid.specs.declared.plane.Tile.{Tile}
 use Rattle.half_grid.proofs.ForCallers.{one_joined_list, same_tiles}
 use Rattle.bool_ops.specs.Operations.{IsInRows}
 use Rattle.fracture.specs.Cutting.{cut_list, shots_of}
-use Rattle.shot_output.specs.ShotLists.{Rules, band, IsInPart, IsBandList, AreBandLists, IsShotListBelow, IsShotList}
-use Rattle.shot_output.proofs.BandNumbers.{multiples, gap_is}
+use Rattle.deck_plan.specs.Bands.{band}
+use Rattle.shot_output.specs.ShotLists.{Rules, IsInPart, IsBandList, AreBandLists, IsShotListBelow, IsShotList}
+use Rattle.deck_plan.proofs.ForCallers.{multiples}
+use Rattle.shot_output.proofs.Gaps.{gap_is}
 
 nil_joined : (window : RowRange) → IsJoined window []
 nil_joined window = record {

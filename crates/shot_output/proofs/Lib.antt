@@ -1,4 +1,4 @@
-pub mod BandNumbers
+pub mod Gaps
 pub mod CoverLemmas
 pub mod TileLemmas
 pub mod FrontLemmas

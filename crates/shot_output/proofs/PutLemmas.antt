@@ -21,11 +21,12 @@ use Rattle.deck_plan.specs.Plans.{Planned}
 use Rattle.fracture.specs.Cutting.{cut_list, shots_of}
 use Rattle.shot_writer.specs.Writing.{AreSumsAfter, no_sums, records_of, triangles_in}
 use Rattle.shot_writer.specs.declared.parts.Sums.{Sums}
-use Rattle.shot_output.specs.ShotLists.{band, IsBandList, AreBandLists, IsShotListBelow}
+use Rattle.deck_plan.specs.Bands.{band}
+use Rattle.shot_output.specs.ShotLists.{IsBandList, AreBandLists, IsShotListBelow}
 use Rattle.shot_output.specs.Files.{rules_of, area_of}
 use Rattle.shot_output.specs.Laws.{HasRules}
 use Rattle.shot_output.specs.Bands.{IsBandOf, HasRows, band_shots, HasRoomFor, IsBandPut, IsBandPart, IsPutBelow, IsPut, IsPutPart}
-use Rattle.shot_output.proofs.BandNumbers.{next_bottom}
+use Rattle.deck_plan.proofs.ForCallers.{next_bottom}
 use Rattle.shot_output.proofs.CoverLemmas.{below_shots, below_covers}
 use Rattle.shot_output.proofs.FrontLemmas.{ends_append}
 use Rattle.shot_output.proofs.TileLemmas.{few_triangles}
@@ -199,3 +200,9 @@ band_within deck m window some few low high at =
       };
       few = omega (arith, ints, top, few);
     }
+
+-- a call that leaves the content leaves what was put
+pub put_told : {p : Planned} {k : ℕ} {window : RowRange} {pair : Pair} {tells : Bool} {before now later : Content} {sums : Sums} → later ≡ now
+    → IsPutBelow p k window pair tells before now sums → IsPutBelow p k window pair tells before later sums
+put_told {p} {k} {window} {pair} {tells} {before} {now} {later} {sums} same put =
+    subst (λ (c : Content). IsPutBelow p k window pair tells before c sums) (sym same) put

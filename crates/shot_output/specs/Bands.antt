@@ -13,18 +13,9 @@ use Rattle.fracture.specs.Cutting.{shots_of}
 use Rattle.layout_model.specs.declared.pair.Pair.{Pair}
 use Rattle.shot_writer.specs.Writing.{AreSumsAfter, no_sums, records_of, triangles_of}
 use Rattle.shot_writer.specs.declared.parts.Sums.{Sums}
-use Rattle.shot_output.specs.ShotLists.{band, IsShotListBelow}
+use Rattle.deck_plan.specs.Bands.{band}
+use Rattle.shot_output.specs.ShotLists.{IsShotListBelow}
 use Rattle.shot_output.specs.Files.{rules_of, area_of, IsListOf, IsFrontOf}
-
--- some band of the deck
-abbrev pub IsBandOfDeck : Deck → RowRange → Type 0
-IsBandOfDeck deck window = (k : ℤ) × (window ≡ band deck.band k)
-
--- within 2^31 of 0
-pub record IsNear (rows : RowRange) : Type 0 where
-  pub low : neg_ℤ (pos 2147483648) ≤ℤ rows.y0
-  pub high : rows.y1 ≤ℤ pos 2147483648
-  pub window : rows.y0 ≤ℤ rows.y1
 
 -- no tile of the output's area lies outside the rows
 abbrev pub HasRows : Planned → ℕ → RowRange → Type 0

@@ -8,10 +8,11 @@
 use Rattle.std.specs.Prelude.{ℤ, pos, ◌≡◌, ◌+ℤ◌, ◌*ℤ◌, ◌≤ℤ◌, ◌<ℤ◌, List, [], ◌∷◌, length}
 use Rattle.std.specs.List.{All}
 use Rattle.half_grid.specs.Trapezoids.{Trapezoid, IsShot}
-use Rattle.half_grid.specs.Windows.{RowRange, row_range}
+use Rattle.half_grid.specs.Windows.{RowRange}
 use Rattle.half_grid.specs.declared.plane.Tile.{Tile}
 use Rattle.geo_stream.specs.Flattened.{end_to_end}
 use Rattle.bool_ops.specs.Operations.{IsInRows, IsJoinedOf}
+use Rattle.deck_plan.specs.Bands.{band}
 use Rattle.fracture.specs.Cutting.{shots_of}
 
 -- how many rows a band has, and the limits of a shot: its greatest height and its greatest width
@@ -19,10 +20,6 @@ pub record Rules : Type 0 where
   pub rows : ℤ
   pub height : ℤ
   pub width : ℤ
-
--- band k, of so many rows
-abbrev pub band : ℤ → ℤ → RowRange
-band rows k = row_range (k *ℤ rows) ((k +ℤ pos 1) *ℤ rows)
 
 -- the part of an area in the rows of a window
 pub record IsInPart (area : Tile → Type 0) (window : RowRange) (t : Tile) : Type 0 where

@@ -1,61 +1,42 @@
 //! The bands of an output, put to its writer one after another.
-ghost use Rattle.std.specs.Prelude.{◌≡◌, ◌⊎◌, pos, neg_ℤ, ◌+ℤ◌, ◌≤ℤ◌, ◌<ℤ◌, ◌<◌, None, IsTrue, IsSome, OnOk, OnErr, IsErrOf, length};
-ghost use Rattle.std.specs.Int.{int_rem_euclid};
-ghost use Rattle.half_grid.specs.Windows.{row_range};
+ghost use Rattle.std.specs.Prelude.{◌≡◌, ◌⊎◌, pos, ◌-ℤ◌, ◌≤ℤ◌, ◌<ℤ◌, ◌<◌, ◌+◌, ◌-◌, ◌^◌, min, unsigned_abs, None, IsTrue, IsSome, OnOk, OnErr, IsErrOf, length};
+ghost use Rattle.std.specs.Int.{div_ceil};
 ghost use Rattle.depot.specs.Counts.{Rose, NeverFall};
 ghost use Rattle.shot_writer.specs.Writing.{no_sums};
 ghost use Rattle.shot_writer.specs.WriterView.{pair_of, sums_of, refusal_of};
+ghost use Rattle.deck_plan.specs.Bands.{AreRowsNear};
 ghost use Rattle.deck_plan.specs.Needs.{IsAskedBand};
 ghost use Rattle.shot_output.specs.Laws.{HasRules};
-ghost use Rattle.shot_output.specs.Bands.{IsNear, IsBandOfDeck, HasRoomFor, IsBandPut, IsBandPart, IsPut, IsPutPart, HasRows};
+ghost use Rattle.shot_output.specs.Bands.{HasRoomFor, IsBandPut, IsBandPart, IsPut, IsPutPart, HasRows};
 
-use deck_plan::Plan;
+use deck_plan::{Plan, first_band, next_band};
 use deck_text::Deck;
-use depot::{Depot, DepotBad};
+use depot::{Depot, DepotBad, Progress};
 use fracture::Cuts;
 use geo_stream::FromSlice;
 use half_grid::Window;
 use shot_writer::ShotWriter;
 use std::alloc::Global;
 
-/// How many rows of a band lie below the first row of the window.
-fn rows_below(deck: &Deck, rows: Window) -> i64
-    requires some { pos 0 <ℤ deck.now.band }
-    requires few { deck.now.band ≤ℤ pos 16777216 }
-    ensures value { result ≡ int_rem_euclid rows.y0 deck.now.band }
-    ensures low { pos 0 ≤ℤ result }
-    ensures high { result ≤ℤ pos 16777216 }
+/// How many bands of the deck have the rows from the first one of this band up to the end of the window.
+fn bands_up(deck: &Deck, band: Window, rows: Window) -> u64
+    requires { pos 0 <ℤ deck.now.band }
+    ensures { result ≡ div_ceil (unsigned_abs (rows.y1 -ℤ band.y0)) (unsigned_abs deck.now.band) }
 {
-    rows.y0().rem_euclid(deck.band)
+    let height = deck.band.unsigned_abs();
+    rows.y1().abs_diff(band.y0()).div_ceil(height)
 }
 
-/// The band that has the first row of the window.
-fn first_band(deck: &Deck, rows: Window) -> Window
-    requires some { pos 0 <ℤ deck.now.band }
-    requires few { deck.now.band ≤ℤ pos 16777216 }
-    requires near { IsNear rows }
-    ensures band { IsBandOfDeck deck.now result }
-    ensures below { result.y0 ≤ℤ rows.y0 }
-    ensures near { neg_ℤ (pos 4294967296) ≤ℤ result.y0 }
+/// How far an output is of which one more band was put to the writer.
+fn further(progress: Progress, writer: &ShotWriter) -> Progress
+    ensures band { result.band ≡ min (progress.band + 1) (2 ^ 64 - 1) }
+    ensures bands { result.bands ≡ progress.bands }
+    ensures shots { result.shots ≡ (sums_of writer.now).shots }
 {
-    let bottom = rows.y0() - rows_below(deck, rows);
-    match Window::new(bottom, bottom + deck.band) {
-        Some(band) => band,
-        None => unreachable!(),
-    }
-}
-
-/// The band above a band.
-fn next_band(deck: &Deck, band: Window) -> Window
-    requires some { pos 0 <ℤ deck.now.band }
-    requires few { deck.now.band ≤ℤ pos 16777216 }
-    requires low { band.y0 ≤ℤ pos 4294967296 }
-    requires band { IsBandOfDeck deck.now band }
-    ensures { result ≡ row_range band.y1 (band.y1 +ℤ deck.now.band) }
-{
-    match Window::new(band.y1(), band.y1() + deck.band) {
-        Some(next) => next,
-        None => unreachable!(),
+    Progress {
+        band: progress.band.saturating_add(1),
+        bands: progress.bands,
+        shots: writer.sums().shots,
     }
 }
 
@@ -98,8 +79,8 @@ fn put_band<D: Depot>(
     writer.put(depot, &mut shots)
 }
 
-/// Puts all shots of an output to its writer, band by band in ascending order. After a refusal the records of its
-/// first shots are written, or a prefix of them.
+/// Puts all shots of an output to its writer, band by band in ascending order, and tells the depot how far that is.
+/// After a refusal the records of its first shots are written, or a prefix of them.
 pub(crate) fn put_bands<D: Depot>(
     alloc: Global,
     depot: &mut D,
@@ -111,7 +92,7 @@ pub(crate) fn put_bands<D: Depot>(
     requires output { output < length plan.now.deck.outputs }
     requires rules { HasRules plan.now.deck }
     requires few { plan.now.deck.band ≤ℤ pos 16777216 }
-    requires narrow { IsNear rows }
+    requires narrow { AreRowsNear rows }
     requires outside { HasRows plan.now output rows }
     requires current { IsTrue D.tells → IsSome (D.content depot.old).current }
     requires kept { refusal_of writer.old ≡ None }
@@ -133,8 +114,16 @@ pub(crate) fn put_bands<D: Depot>(
 {
     let deck = plan.deck();
     let mut band = first_band(deck, rows);
+    let mut progress = Progress {
+        band: 0,
+        bands: bands_up(deck, band, rows),
+        shots: 0,
+    };
+    depot.note(progress);
     while band.y0() < rows.y1() {
         put_band(alloc, depot, writer, plan, output, band)?;
+        progress = further(progress, writer);
+        depot.note(progress);
         band = next_band(deck, band);
     }
     Ok(())

@@ -7,3 +7,4 @@ pub use Rattle.shot_reader.proofs.Ids.{byte_is, left_there, right_there, first_b
 pub use Rattle.shot_reader.proofs.Records.{not_begun}
 pub use Rattle.shot_reader.proofs.Nears.{own_near, near_fields}
 pub use Rattle.shot_reader.proofs.Rests.{unit_small, not_nil, all_more}
+pub use Rattle.shot_reader.proofs.Shorts.{opens_by}

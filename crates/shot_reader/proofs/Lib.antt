@@ -2,6 +2,7 @@ pub mod Places
 pub mod Shapes
 pub mod Nears
 pub mod Ids
+pub mod Shorts
 pub mod Rests
 pub mod Ends
 pub mod Wholes

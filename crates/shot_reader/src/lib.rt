@@ -11,7 +11,7 @@ mod refusing;
 mod tests;
 
 pub use corners::trap_of;
-pub use fields::{delta_at, has_left, has_right, signed_at, stands_at, unsigned_at};
+pub use fields::{delta_at, end_where, has_left, has_right, past_end, signed_at, unsigned_at};
 pub use head::{head_of, longest_head};
 pub use laws::reading_laws;
 pub use reading::{ShotFile, ends_at, read_shots};

@@ -8,13 +8,13 @@ ghost use Rattle.shot_reader.specs.Refusals.{IsRecordFault, IsFirstFault};
 ghost use Rattle.shot_reader.specs.declared.refusing.ShotBad.{ShotBad};
 
 use crate::corners::trap_of;
-use crate::fields::{fields_at, stands_at};
+use crate::fields::fields_at;
 use crate::head::{head_of, longest_head};
 use crate::refusing::{ShotBad, record_refusal};
 use geo_stream::List;
 use half_grid::Trap;
 use layout_model::Pair;
-use oas_lex::{end_text, spell_fields};
+use oas_lex::end_text;
 use std::alloc::Global;
 
 /// The first byte of END.
@@ -59,9 +59,8 @@ fn read_record(bytes: &[u8], at: usize, first: Option<Pair>) -> Result<Record, S
     ensures found { IfOk result (λ r. drop at bytes.now ≡ spelling_of r.pair.layer r.pair.datatype r.shot ++ drop r.next bytes.now) }
     ensures refused { IfErr result (λ bad. IsRecordFault first (drop at bytes.now) at bad) }
 {
-    let fields = fields_at(bytes, at);
-    let spelled = spell_fields(&fields);
-    if !stands_at(bytes, at, spelled.bytes()) {
+    let (fields, next) = fields_at(bytes, at);
+    if bytes.len() < next {
         return Err(record_refusal(bytes, at));
     }
     let pair = Pair {
@@ -72,11 +71,7 @@ fn read_record(bytes: &[u8], at: usize, first: Option<Pair>) -> Result<Record, S
         return Err(ShotBad::Spelling(at));
     }
     match trap_of(&fields) {
-        Some(shot) => Ok(Record {
-            pair,
-            shot,
-            next: at + spelled.bytes().len(),
-        }),
+        Some(shot) => Ok(Record { pair, shot, next }),
         None => Err(ShotBad::Illegal(at)),
     }
 }

@@ -1,6 +1,6 @@
 -- A packed shot file says one thing, and has no fault.
 use Rattle.std.proofs.Common.{◌≡◌, ◌≢◌, ◌⊎◌, ℕ, suc, ◌+◌, ◌≤◌, List, [], ◌∷◌, ◌++◌, map, length, take, drop, Option, Some, None, All, refl, arith, ap, sym, subst, ◌∙◌, inl, inr, append_assoc, length-append}
-use Rattle.std.specs.Prelude.{flat_map, Result, Err}
+use Rattle.std.specs.Prelude.{flat_map, Result, Ok, Err, IfOk, IfErr}
 use Rattle.std.proofs.lemmas.List.Sums.{sum_by-append}
 use Rattle.std.proofs.Math.Seq.{take-append_seam, drop-append_seam}
 use Rattle.half_grid.specs.Trapezoids.{Trapezoid, IsShot}
@@ -147,3 +147,9 @@ told {T} bytes own result e f bad w =
 pub told_by : {T : Type 0} (bytes : List ℕ) (own : PackBad) (result : Result T PackBad) → result ≡ Err own → (own ≡ faults.NoMemory) ⊎ IsFirstFault bytes own → (bad : PackBad) → IsFirstFault bytes bad → (result ≡ Err bad) ⊎ (result ≡ Err faults.NoMemory)
 told_by {T} bytes own result e (inl m) bad w = let wrong : PackBad → Result T PackBad = λ b. Err b in inr (e ∙ ap wrong m)
 told_by {T} bytes own result e (inr f) bad w = told bytes own result e f bad w
+
+-- the same of an answer, which is no fault where the bytes have none
+pub told_of : {T : Type 0} (P : T → Type 0) (bytes : List ℕ) (result : Result T PackBad) → ((x : T) → P x → (bad : PackBad) → IsFirstFault bytes bad → ⊥) → IfOk result P
+    → IfErr result (λ own. (own ≡ faults.NoMemory) ⊎ IsFirstFault bytes own) → (bad : PackBad) → IsFirstFault bytes bad → (result ≡ Err bad) ⊎ (result ≡ Err faults.NoMemory)
+told_of {T} P bytes (Ok x) none found refused bad w = absurd (none x found bad w)
+told_of {T} P bytes (Err own) none found refused bad w = told_by bytes own (Err own) refl refused bad w

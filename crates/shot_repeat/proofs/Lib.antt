@@ -7,6 +7,7 @@ pub mod Gifts
 pub mod Numbers
 pub mod Puts
 pub mod Standing
+pub mod Asks
 pub mod Steps
 pub mod Progressing
 pub mod Files

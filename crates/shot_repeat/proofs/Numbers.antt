@@ -27,9 +27,6 @@ pub record GoneOn (bytes : List ℕ) (at next : ℕ) : Type 0 where
   pub on : All (λ b. 128 ≤ b) front
   pub text : drop at bytes ≡ front ++ drop next bytes
 
-pub none_gone : (bytes : List ℕ) (at : ℕ) → at ≤ length bytes → GoneOn bytes at at
-none_gone bytes at h = record { within = h; front = []; on = λ k d below. absurd (omega arith); text = refl }
-
 pub gone_more : (bytes : List ℕ) (at next byte : ℕ) → GoneOn bytes at next → next < length bytes → byte ≡ get_or bytes next 0 → 128 ≤ byte → GoneOn bytes at (next + 1)
 gone_more bytes at next byte g h e on = record {
   within = omega (arith, h);

@@ -1,6 +1,6 @@
 -- What is kept of the records, and what was read, with one more record.
 use Rattle.std.proofs.Common.{◌≡◌, ◌≢◌, ◌⊎◌, ℕ, ◌+◌, ◌<◌, ◌≤◌, ◌^◌, List, [], ◌∷◌, ◌++◌, map, length, take, drop, get_or, Option, Some, None, All, refl, arith, ap, sym, subst, ◌∙◌, inl, inr, append_assoc, length-append}
-use Rattle.std.specs.Prelude.{flat_map}
+use Rattle.std.specs.Prelude.{flat_map, Result, Ok, Err, IfOk, IfErr, OnOk}
 use Rattle.std.specs.List.{concat}
 use Rattle.std.proofs.lemmas.List.{append-nil, map-append, take-append-drop, append_cancel_right}
 use Rattle.std.proofs.lemmas.List.Elements.{All-append}
@@ -159,7 +159,7 @@ text_more unit records r bytes rest after e f =
     ∙ ap (λ (t : List ℕ). t ++ after) (sym (flat_map-append record_text records (r ∷ []))))))
 
 -- the shots of the record are one or more
-given_some : (f : ShotFields) (r : PackRecord) (zs : List Trapezoid) → IsGivenBy f (step_of r.repetition) (count_of r.repetition) zs → length zs ≡ count_of r.repetition
+pub given_some : (f : ShotFields) (r : PackRecord) (zs : List Trapezoid) → IsGivenBy f (step_of r.repetition) (count_of r.repetition) zs → length zs ≡ count_of r.repetition
 given_some f r zs g =
     sym (length_map (fields_of f.layer f.datatype) zs) ∙ (ap length g.are ∙ length_moved f (step_of r.repetition) 0 (count_of r.repetition))
 
@@ -273,6 +273,19 @@ pub own_by : {A B : Type 0} → A ⊎ B → (B → ⊥) → A
 own_by {A} {B} (inl a) h = a
 own_by {A} {B} (inr b) h = absurd (h b)
 
+-- what holds of an answer, by what holds of it
+pub ok_by : {T E : Type 0} (r : Result T E) (P Q : T → Type 0) → ((x : T) → P x → Q x) → IfOk r P → IfOk r Q
+ok_by {T} {E} (Ok x) P Q f h = f x h
+ok_by {T} {E} (Err e) P Q f h = tt
+
+pub on_ok_by : {T E : Type 0} (r : Result T E) (A B : Type 0) → (A → B) → OnOk r A → OnOk r B
+on_ok_by {T} {E} (Ok x) A B f h = f h
+on_ok_by {T} {E} (Err e) A B f h = tt
+
+pub err_by : {T E : Type 0} (r : Result T E) (P Q : E → Type 0) → ((e : E) → P e → Q e) → IfErr r P → IfErr r Q
+err_by {T} {E} (Ok x) P Q f h = tt
+err_by {T} {E} (Err e) P Q f h = f e h
+
 pub kept_by : (before : List PackRecord) (p : Progress) (so_far len : ℕ) → AreKept before p so_far → so_far ≡ len → AreKept before p len
 kept_by before p so_far len k e = subst (λ (n : ℕ). AreKept before p n) e k
 
@@ -283,11 +296,15 @@ given_as f r step count zs e g h = subst (λ (n : ℕ). IsGivenBy f (step_of r.r
 pub none_as : (f : ShotFields) (r : PackRecord) (step : Point) (count : ℕ) → step ≡ step_of r.repetition → count ≡ count_of r.repetition → ((zs : List Trapezoid) → IsGivenBy f step count zs → ⊥) → (zs : List Trapezoid) → IsGivenBy f (step_of r.repetition) (count_of r.repetition) zs → ⊥
 none_as f r step count e g none = λ zs h. none zs (subst (λ (n : ℕ). IsGivenBy f step n zs) (sym g) (subst (λ (s : Point). IsGivenBy f s (count_of r.repetition) zs) (sym e) h))
 
+pub illegal_fault : (before : List PackRecord) (rest after : List ℕ) (r : PackRecord) (f : ShotFields) (step : Point) (count at : ℕ) (bad : PackBad) → IsNarrow r → rest ≡ record_text r ++ after → IsJudged before r f → step ≡ step_of r.repetition → count ≡ count_of r.repetition
+    → (bad ≡ faults.Illegal at) × ((zs : List Trapezoid) → IsGivenBy f step count zs → ⊥) → IsRecordFault before rest at bad
+illegal_fault before rest after r f step count at bad n e j s m a =
+    value_fault before rest after r at bad n e (subst (λ (b : PackBad). IsValueFault before r at b) (sym a.0) (not_legal before r f at j (none_as f r step count s m a.1)))
+
 pub illegal_by : (before : List PackRecord) (rest after : List ℕ) (r : PackRecord) (f : ShotFields) (step : Point) (count at : ℕ) (bad : PackBad) → IsNarrow r → rest ≡ record_text r ++ after → IsJudged before r f → step ≡ step_of r.repetition → count ≡ count_of r.repetition
     → (bad ≡ faults.NoMemory) ⊎ ((bad ≡ faults.Illegal at) × ((zs : List Trapezoid) → IsGivenBy f step count zs → ⊥)) → (bad ≡ faults.NoMemory) ⊎ IsRecordFault before rest at bad
 illegal_by before rest after r f step count at bad n e j s m (inl a) = inl a
-illegal_by before rest after r f step count at bad n e j s m (inr a) =
-    inr (value_fault before rest after r at bad n e (subst (λ (b : PackBad). IsValueFault before r at b) (sym a.0) (not_legal before r f at j (none_as f r step count s m a.1))))
+illegal_by before rest after r f step count at bad n e j s m (inr a) = inr (illegal_fault before rest after r f step count at bad n e j s m a)
 
 -- the bytes end where a record is to begin
 pub cut_fault : (before : List PackRecord) (rest : List ℕ) (at : ℕ) → rest ≡ [] → IsRecordFault before rest at (faults.Record at)

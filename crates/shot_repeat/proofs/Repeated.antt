@@ -181,9 +181,5 @@ pub none_repeats : (b : Bool) → b ≡ false → IsRepetitionIf b []
 none_repeats true e = absurd (cc)
 none_repeats false e = refl
 
-pub one_repeats : (b : Bool) (rep : List ℕ) → b ≡ true → IsRepetition rep → IsRepetitionIf b rep
-one_repeats true rep e h = h
-one_repeats false rep e h = absurd (cc)
-
 pub same_count : (a b : ℕ) → Some a ≡ Some b → b ≡ a
 same_count a b e = cc

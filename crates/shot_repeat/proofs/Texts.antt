@@ -5,6 +5,7 @@ use mir.Val.{to_z, of_z}
 use Rattle.std.proofs.lemmas.List.{drop-drop, length-drop, get_or-drop}
 use Rattle.oas_lex.specs.ShotText.{id_for, delta_text}
 use Rattle.shot_repeat.specs.Records.{bit, info_of, number_text, place_text, repetition_text, body_text, record_text}
+use Rattle.shot_reader.proofs.ForCallers.{opens_by}
 use Rattle.shot_repeat.specs.Refusals.{has}
 use Rattle.shot_repeat.specs.declared.record.PackRecord.{PackRecord}
 
@@ -157,3 +158,24 @@ after_two bytes rest at start x y e s = ap (λ (n : ℕ). drop n bytes) s ∙ (s
 
 pub two_there : (bytes rest : List ℕ) (at x y : ℕ) → drop at bytes ≡ x ∷ y ∷ rest → at + 2 ≤ length bytes
 two_there bytes rest at x y e = omega (arith, ap length e, length-drop at bytes)
+
+-- a record stands where its parts do, one after another
+pub spelled_record : (q : PackRecord) (bytes : List ℕ) (at start a b w h l r x y last : ℕ) → get_or bytes at 0 ≡ id_for q.left_delta q.right_delta → get_or bytes (at + 1) 0 ≡ info_of q → start ≡ at + 2 → start ≤ length bytes
+    → drop start bytes ≡ number_text q.layer ++ drop a bytes → drop a bytes ≡ number_text q.datatype ++ drop b bytes
+    → drop b bytes ≡ number_text q.width ++ drop w bytes → drop w bytes ≡ number_text q.height ++ drop h bytes
+    → drop h bytes ≡ delta_text q.left_delta ++ drop l bytes → drop l bytes ≡ delta_text q.right_delta ++ drop r bytes
+    → drop r bytes ≡ place_text q.x ++ drop x bytes → drop x bytes ≡ place_text q.y ++ drop y bytes
+    → drop y bytes ≡ repetition_text q.repetition ++ drop last bytes
+    → drop at bytes ≡ record_text q ++ drop last bytes
+spelled_record q bytes at start a b w h l r x y last id info s within ea eb ew eh el er ex ey ep =
+    opens_by bytes at start (id_for q.left_delta q.right_delta) (info_of q) id s info within
+    ∙ (ap (λ (t : List ℕ). id_for q.left_delta q.right_delta ∷ info_of q ∷ t)
+    (ea ∙ ap (λ (t : List ℕ). number_text q.layer ++ t)
+    (eb ∙ ap (λ (t : List ℕ). number_text q.datatype ++ t)
+    (ew ∙ ap (λ (t : List ℕ). number_text q.width ++ t)
+    (eh ∙ ap (λ (t : List ℕ). number_text q.height ++ t)
+    (el ∙ ap (λ (t : List ℕ). delta_text q.left_delta ++ t)
+    (er ∙ ap (λ (t : List ℕ). delta_text q.right_delta ++ t)
+    (ex ∙ ap (λ (t : List ℕ). place_text q.x ++ t)
+    (ey ∙ ap (λ (t : List ℕ). place_text q.y ++ t) ep))))))))
+    ∙ sym (record_opens q (drop last bytes)))

@@ -1,13 +1,15 @@
-//! The fields of one record, as far as they can be read.
-ghost use Rattle.std.specs.Prelude.{◌≡◌, ◌+◌, ◌^◌, ◌<◌, ◌≤◌, ◌++◌, ℕ, ℤ, List, Option, length, drop, get_or, is_some, unsigned_abs};
+//! The fields of one record, each in its one spelling.
+ghost use Rattle.std.specs.Prelude.{◌≡◌, ◌+◌, ◌^◌, ◌<◌, ◌≤◌, ◌++◌, ℕ, ℤ, List, Option, length, drop, get_or, is_some, unsigned_abs, IsTrue, ◌↔◌};
 ghost use Rattle.oas_lex.specs.Spelling.{unsigned_text};
-ghost use Rattle.shot_repeat.specs.Records.{IsNarrowNumber, IsNarrowPlace, IsNarrowRepetition, IsNarrow, number_text, place_text, step_code, steps_text, repetition_text, record_text};
+ghost use Rattle.oas_lex.specs.ShotText.{id_for};
+ghost use Rattle.shot_repeat.specs.Records.{info_of, IsNarrowNumber, IsNarrowPlace, IsNarrowRepetition, IsNarrow, number_text, place_text, step_code, steps_text, repetition_text, record_text};
 ghost use Rattle.shot_repeat.specs.Refusals.{has, one_or_none};
 ghost use Rattle.shot_repeat.specs.declared.record.PackRecord.{PackRecord as Written};
 ghost use Rattle.shot_repeat.specs.declared.record.Repetition.{Repetition as Repeats};
 
-use crate::record::{PackRecord, Repetition};
-use shot_reader::{delta_at, has_left, has_right, signed_at, unsigned_at};
+use crate::record::{KIND, PackRecord, Repetition, info_of, step_code};
+use oas_lex::id_for;
+use shot_reader::{delta_at, end_where, has_left, has_right, past_end, signed_at, unsigned_at};
 
 /// Whether the bit of this weight is set.
 pub(crate) fn has(info: u8, weight: u8) -> bool
@@ -27,11 +29,11 @@ pub(crate) fn one_or_none(is_there: bool) -> usize
 
 // The unsigned field at `at`, where it is written, and the offset after it.
 fn number_at(bytes: &[u8], at: usize, is_there: bool) -> (Option<u64>, usize)
-    requires { at ≤ length bytes.now }
-    ensures within { result.1 ≤ length bytes.now }
     ensures narrow { IsNarrowNumber result.0 }
-    ensures read { (field : Option ℕ) (after : List ℕ) → IsNarrowNumber field → is_there ≡ is_some field → drop at bytes.now ≡ number_text field ++ after
-        → (result.0 ≡ field) × (drop result.1 bytes.now ≡ after) }
+    ensures spelled { result.1 ≤ length bytes.now → (at ≤ result.1) × (drop at bytes.now ≡ number_text result.0 ++ drop result.1 bytes.now) }
+    ensures read { (field : Option ℕ) (after : List ℕ) → IsNarrowNumber field → is_there ≡ is_some field → at ≤ length bytes.now
+        → drop at bytes.now ≡ number_text field ++ after
+        → (result.0 ≡ field) × (drop result.1 bytes.now ≡ after) × (result.1 ≤ length bytes.now) }
 {
     if !is_there {
         return (None, at);
@@ -42,11 +44,11 @@ fn number_at(bytes: &[u8], at: usize, is_there: bool) -> (Option<u64>, usize)
 
 // The x or y at `at`, where it is written, and the offset after it.
 fn place_at(bytes: &[u8], at: usize, is_there: bool) -> (Option<i64>, usize)
-    requires { at ≤ length bytes.now }
-    ensures within { result.1 ≤ length bytes.now }
     ensures narrow { IsNarrowPlace result.0 }
-    ensures read { (field : Option ℤ) (after : List ℕ) → IsNarrowPlace field → is_there ≡ is_some field → drop at bytes.now ≡ place_text field ++ after
-        → (result.0 ≡ field) × (drop result.1 bytes.now ≡ after) }
+    ensures spelled { result.1 ≤ length bytes.now → (at ≤ result.1) × (drop at bytes.now ≡ place_text result.0 ++ drop result.1 bytes.now) }
+    ensures read { (field : Option ℤ) (after : List ℕ) → IsNarrowPlace field → is_there ≡ is_some field → at ≤ length bytes.now
+        → drop at bytes.now ≡ place_text field ++ after
+        → (result.0 ≡ field) × (drop result.1 bytes.now ≡ after) × (result.1 ≤ length bytes.now) }
 {
     if !is_there {
         return (None, at);
@@ -69,37 +71,41 @@ fn step_of(code: u64) -> i64
     }
 }
 
-// The numbers of the repetition at `at`, after its kind, as far as they can be read.
-fn steps_at(bytes: &[u8], at: usize) -> Repetition
-    requires { at ≤ length bytes.now }
-    ensures narrow { IsNarrowRepetition (Some result) }
-    ensures read { (repetition : Repeats) (after : List ℕ) → IsNarrowRepetition (Some repetition) → drop at bytes.now ≡ steps_text repetition ++ after
-        → result ≡ repetition }
+// The numbers of the repetition at `at`, after its kind, and the offset after them.
+fn steps_at(bytes: &[u8], at: usize) -> (Repetition, usize)
+    ensures narrow { IsNarrowRepetition (Some result.0) }
+    ensures spelled { result.1 ≤ length bytes.now → (at ≤ result.1) × (drop at bytes.now ≡ steps_text result.0 ++ drop result.1 bytes.now) }
+    ensures read { (repetition : Repeats) (after : List ℕ) → IsNarrowRepetition (Some repetition) → at ≤ length bytes.now
+        → drop at bytes.now ≡ steps_text repetition ++ after
+        → (result.0 ≡ repetition) × (drop result.1 bytes.now ≡ after) × (result.1 ≤ length bytes.now) }
 {
     let (more, after_more) = unsigned_at(bytes, at);
     let (code, after_code) = unsigned_at(bytes, after_more);
-    let (y, _after_y) = signed_at(bytes, after_code);
-    Repetition {
-        more,
-        x: step_of(code),
-        y,
-    }
+    let (y, after_y) = signed_at(bytes, after_code);
+    let x = step_of(code);
+    let next = end_where(bytes, step_code(x) == code, after_y);
+    (Repetition { more, x, y }, next)
 }
 
-// The repetition at `at`, where it is written.
-fn repetition_at(bytes: &[u8], at: usize, is_there: bool) -> Option<Repetition>
-    requires { at ≤ length bytes.now }
-    ensures narrow { IsNarrowRepetition result }
-    ensures read { (field : Option Repeats) (after : List ℕ) → IsNarrowRepetition field → is_there ≡ is_some field → drop at bytes.now ≡ repetition_text field ++ after
-        → result ≡ field }
+// The repetition at `at`, where it is written, and the offset after it.
+fn repetition_at(bytes: &[u8], at: usize, is_there: bool) -> (Option<Repetition>, usize)
+    ensures narrow { IsNarrowRepetition result.0 }
+    ensures spelled { result.1 ≤ length bytes.now → (at ≤ result.1) × (drop at bytes.now ≡ repetition_text result.0 ++ drop result.1 bytes.now) }
+    ensures read { (field : Option Repeats) (after : List ℕ) → IsNarrowRepetition field → is_there ≡ is_some field → at ≤ length bytes.now
+        → drop at bytes.now ≡ repetition_text field ++ after
+        → (result.0 ≡ field) × (drop result.1 bytes.now ≡ after) × (result.1 ≤ length bytes.now) }
 {
     if !is_there {
-        return None;
+        return (None, at);
     }
-    if at == bytes.len() {
-        return None;
+    if bytes.len() <= at {
+        return (None, past_end(bytes));
     }
-    Some(steps_at(bytes, at + 1))
+    if bytes[at] != KIND {
+        return (None, past_end(bytes));
+    }
+    let (repetition, next) = steps_at(bytes, at + 1);
+    (Some(repetition), next)
 }
 
 // The byte at `at`, or 0 past the end.
@@ -112,15 +118,27 @@ fn byte_at(bytes: &[u8], at: usize) -> u8
     }
 }
 
-/// The record at `at`, as far as it can be read.
-pub(crate) fn record_at(bytes: &[u8], at: usize) -> PackRecord
+// Whether a record of these fields begins with this id and this info byte.
+fn opens_as(written: &PackRecord, id: u8, info: u8) -> bool
+    ensures { IsTrue result ↔ ((id ≡ id_for written.now.left_delta written.now.right_delta) × (info ≡ info_of written.now)) }
+{
+    if id_for(written.left_delta, written.right_delta) != id {
+        return false;
+    }
+    info_of(written) == info
+}
+
+/// The record at `at`, and the offset after it, which is past the end where none is spelled there.
+pub(crate) fn record_at(bytes: &[u8], at: usize) -> (PackRecord, usize)
     requires { at < length bytes.now }
-    ensures narrow { IsNarrow result }
-    ensures read { (r : Written) (after : List ℕ) → IsNarrow r → drop at bytes.now ≡ record_text r ++ after → result ≡ r }
+    ensures narrow { IsNarrow result.0 }
+    ensures spelled { result.1 ≤ length bytes.now → (at < result.1) × (drop at bytes.now ≡ record_text result.0 ++ drop result.1 bytes.now) }
+    ensures read { (r : Written) (after : List ℕ) → IsNarrow r → drop at bytes.now ≡ record_text r ++ after
+        → (result.0 ≡ r) × (result.1 ≤ length bytes.now) }
 {
     let id = byte_at(bytes, at);
     let info = byte_at(bytes, at + 1);
-    let start = (at + 2).min(bytes.len());
+    let start = at + 2;
     let (layer, after_layer) = number_at(bytes, start, has(info, 1));
     let (datatype, after_datatype) = number_at(bytes, after_layer, has(info, 2));
     let (width, after_width) = number_at(bytes, after_datatype, has(info, 64));
@@ -129,8 +147,8 @@ pub(crate) fn record_at(bytes: &[u8], at: usize) -> PackRecord
     let (right_delta, after_right) = delta_at(bytes, after_left, has_right(id));
     let (x, after_x) = place_at(bytes, after_right, has(info, 16));
     let (y, after_y) = place_at(bytes, after_x, has(info, 8));
-    let repetition = repetition_at(bytes, after_y, has(info, 4));
-    PackRecord {
+    let (repetition, after_repetition) = repetition_at(bytes, after_y, has(info, 4));
+    let record = PackRecord {
         layer,
         datatype,
         width,
@@ -140,5 +158,7 @@ pub(crate) fn record_at(bytes: &[u8], at: usize) -> PackRecord
         x,
         y,
         repetition,
-    }
+    };
+    let is_right = opens_as(&record, id, info);
+    (record, end_where(bytes, is_right, after_repetition))
 }

@@ -61,3 +61,30 @@ pub(crate) fn put_shots(
     }
     Ok(())
 }
+
+/// Whether so many shots, the first of these fields, each next one moved by one step more, are shots. Illegal with the
+/// offset where the fields of one are those of no shot. It takes no memory.
+pub(crate) fn look_at_shots(
+    fields: &ShotFields,
+    step: Point,
+    count: u64,
+    at: usize,
+) -> Result<(), PackBad>
+    requires step_x { unsigned_abs step.x < 2 ^ 62 }
+    requires step_y { unsigned_abs step.y < 2 ^ 62 }
+    ensures ok { OnOk result ((given : Items Trapezoid) × IsGivenBy fields.now step count given) }
+    ensures refused { IfErr result (λ bad. (bad ≡ PackBad.Illegal at)
+        × ((given : Items Trapezoid) → IsGivenBy fields.now step count given → ⊥)) }
+{
+    let mut next = *fields;
+    let mut done = 0;
+    while done < count {
+        let Some(shot) = trap_of(&next) else {
+            return Err(PackBad::Illegal(at));
+        };
+        let _bottom = shot.y0();
+        next = stepped(&next, step);
+        done += 1;
+    }
+    Ok(())
+}

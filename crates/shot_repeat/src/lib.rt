@@ -4,7 +4,9 @@
 mod fields;
 mod giving;
 mod laws;
+mod looking;
 mod modal;
+mod packed_file;
 mod packing;
 mod reading;
 mod record;
@@ -14,6 +16,6 @@ mod runs;
 mod tests;
 
 pub use laws::{packing_laws, reading_laws};
+pub use packed_file::read_packed;
 pub use packing::pack_shots;
-pub use reading::read_packed;
 pub use refusing::PackBad;

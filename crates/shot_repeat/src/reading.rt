@@ -1,33 +1,27 @@
-//! The whole file.
-ghost use Rattle.std.specs.Prelude.{◌≡◌, ◌≢◌, ◌⊎◌, ◌∷◌, [], ◌++◌, ◌<◌, ◌≤◌, ℕ, List as Items, Option, length, drop, slice_index, IsTrue, ◌↔◌, IfOk, IfErr};
-ghost use Rattle.half_grid.specs.Trapezoids.{Trapezoid};
-ghost use Rattle.layout_model.specs.declared.pair.Pair.{Pair as APair};
+//! The next record of a file, and the file's end.
+ghost use Rattle.std.specs.Prelude.{◌≡◌, ◌≢◌, ◌⊎◌, ◌∷◌, [], ◌++◌, ◌<◌, ◌≤◌, ℕ, List as Items, Option, length, drop, slice_index, IsTrue, ◌↔◌, OnOk, IfOk, IfErr};
+ghost use Rattle.oas_lex.specs.ShotText.{end};
 ghost use Rattle.shot_repeat.specs.Modal.{updated};
-ghost use Rattle.shot_repeat.specs.Packed.{IsPackedFile, most_of_file};
-ghost use Rattle.shot_repeat.specs.Progress.{IsUnspelled, AreKept, IsJudged, HasRead, first_of};
+ghost use Rattle.shot_repeat.specs.Packed.{most_of_file};
+ghost use Rattle.shot_repeat.specs.Progress.{IsUnspelled, AreKept, IsJudged, IsNext, first_of};
 ghost use Rattle.shot_repeat.specs.Records.{IsNarrow, record_text};
-ghost use Rattle.shot_repeat.specs.Refusals.{IsValueFault, IsRecordFault, IsFirstFault};
+ghost use Rattle.shot_repeat.specs.Refusals.{IsValueFault, IsRecordFault};
 ghost use Rattle.shot_repeat.specs.declared.record.PackRecord.{PackRecord as Written};
-ghost use Rattle.shot_repeat.specs.declared.refusing.PackBad.{PackBad as Bad};
 
 use crate::fields::record_at;
-use crate::giving::put_shots;
-use crate::modal::{Modal, agrees, count_of, fields_shown, nothing_written, step_of, updated};
-use crate::record::{PackRecord, spell_body, spell_repetition};
+use crate::modal::{Modal, agrees, count_of, fields_shown, updated};
+use crate::record::PackRecord;
 use crate::refusing::{PackBad, record_refusal};
-use geo_stream::List;
-use half_grid::Trap;
 use layout_model::Pair;
 use oas_lex::ShotFields;
-use shot_reader::{ShotFile, ends_at, head_of, longest_head, stands_at};
-use std::alloc::Global;
+use shot_reader::ends_at;
 
 /// The first byte of END.
-const END: u8 = 2;
+pub(crate) const END: u8 = 2;
 /// How many shots one record may give.
-const MOST_OF_RECORD: u64 = 16_777_216;
+pub(crate) const MOST_OF_RECORD: u64 = 16_777_216;
 /// How many shots a file may give.
-const MOST_OF_FILE: u64 = 33_554_432;
+pub(crate) const MOST_OF_FILE: u64 = 33_554_432;
 
 /// One record, and the offset after it.
 #[derive(Clone, Copy)]
@@ -52,20 +46,11 @@ fn spelled_at(bytes: &[u8], at: usize) -> Result<Spelled, PackBad>
     ensures found { IfOk result (λ s. drop at bytes.now ≡ record_text s.record ++ drop s.next bytes.now) }
     ensures refused { IfErr result (λ bad. IsUnspelled (drop at bytes.now) at bad) }
 {
-    let record = record_at(bytes, at);
-    let body = spell_body(&record);
-    if !stands_at(bytes, at, body.bytes()) {
+    let (record, next) = record_at(bytes, at);
+    if bytes.len() < next {
         return Err(record_refusal(bytes, at));
     }
-    let middle = at + body.bytes().len();
-    let repetition = spell_repetition(&record);
-    if !stands_at(bytes, middle, repetition.bytes()) {
-        return Err(record_refusal(bytes, at));
-    }
-    Ok(Spelled {
-        record,
-        next: middle + repetition.bytes().len(),
-    })
+    Ok(Spelled { record, next })
 }
 
 // The fields of the first shot of a record, by the last values after it, where nothing is wrong with its values and the
@@ -113,70 +98,50 @@ fn first_of(first: Option<Pair>, fields: &ShotFields) -> Pair
     }
 }
 
-// Reads the next record, and puts its shots last.
-fn read_one(bytes: &[u8], progress: &Progress, shots: &mut List<Trap>) -> Result<Progress, PackBad>
+/// A record, the fields of its first shot, and how far the reading has come after it.
+#[derive(Clone, Copy)]
+pub(crate) struct Next {
+    pub(crate) record: PackRecord,
+    pub(crate) fields: ShotFields,
+    pub(crate) progress: Progress,
+}
+
+/// The next record, where nothing is wrong with it but perhaps a shot that it gives.
+pub(crate) fn next_record(bytes: &[u8], progress: &Progress, so_far: usize) -> Result<Next, PackBad>
     requires here { progress.now.at < length bytes.now }
     requires no_end { slice_index bytes.now progress.now.at ≢ 2 }
-    requires few { length shots.old ≤ most_of_file }
-    ensures next { IfOk result (λ p. progress.now.at < p.at) }
-    ensures ok { (unit : ℕ) (records : Items Written) → HasRead bytes.now unit records progress.now shots.old
-        → IfOk result (λ p. (r : Written) × HasRead bytes.now unit (records ++ r ∷ []) p shots.new) }
-    ensures refused { (unit : ℕ) (records : Items Written) → HasRead bytes.now unit records progress.now shots.old
-        → IfErr result (λ bad. (bad ≡ PackBad.NoMemory)
-        ⊎ IsRecordFault records (drop progress.now.at bytes.now) progress.now.at bad) }
+    requires few { so_far ≤ most_of_file }
+    ensures ok { IfOk result (IsNext bytes.now progress.now so_far) }
+    ensures refused { (records : Items Written) → AreKept records progress.now so_far
+        → IfErr result (λ bad. IsRecordFault records (drop progress.now.at bytes.now) progress.now.at bad) }
 {
     let spelled = spelled_at(bytes, progress.at)?;
     let record = spelled.record;
     let modal = updated(&progress.modal, &record);
-    let fields = judged(progress, &modal, &record, shots.as_slice().len())?;
-    let count = count_of(&record.repetition);
-    put_shots(
-        shots,
-        &fields,
-        step_of(&record.repetition),
-        count,
-        progress.at,
-    )?;
-    Ok(Progress {
-        at: spelled.next,
-        first: Some(first_of(progress.first, &fields)),
-        modal,
+    let fields = judged(progress, &modal, &record, so_far)?;
+    Ok(Next {
+        record,
+        fields,
+        progress: Progress {
+            at: spelled.next,
+            first: Some(first_of(progress.first, &fields)),
+            modal,
+        },
     })
 }
 
-/// The unit, the pair and the shots for which the bytes of a packed shot file stand. Other bytes are refused, by the first
-/// fault, whatever comes after it; so are more than 16,777,216 shots of one record and more than 33,554,432 in all, before
-/// memory is taken for them. NoMemory may come in place of any answer where memory is wanting.
-pub fn read_packed(alloc: Global, bytes: &[u8]) -> Result<ShotFile, PackBad>
-    ensures found { IfOk result (λ file. IsPackedFile bytes.now file.unit file.pair file.shots) }
-    ensures read { (unit : ℕ) (pair : Option APair) (shots : Items Trapezoid) → IsPackedFile bytes.now unit pair shots
-        → IfOk result (λ file. (file.unit ≡ unit) × (file.pair ≡ pair) × (file.shots ≡ shots)) }
-    ensures refused { (unit : ℕ) (pair : Option APair) (shots : Items Trapezoid) → IsPackedFile bytes.now unit pair shots
-        → IfErr result (λ bad. bad ≡ PackBad.NoMemory) }
-    ensures first_fault { IfErr result (λ bad. bad ≢ PackBad.NoMemory → IsFirstFault bytes.now bad) }
-    ensures every_fault { (bad : Bad) → IsFirstFault bytes.now bad → (result ≡ Err bad) ⊎ (result ≡ Err PackBad.NoMemory) }
+/// Whether the file ends as it should where its last record does.
+pub(crate) fn ends_right(bytes: &[u8], at: usize) -> Result<(), PackBad>
+    requires within { at ≤ length bytes.now }
+    requires stops { at < length bytes.now → slice_index bytes.now at ≡ 2 }
+    ensures ok { OnOk result (drop at bytes.now ≡ end) }
+    ensures refused { (records : Items Written) → IfErr result (λ bad. IsRecordFault records (drop at bytes.now) at bad) }
 {
-    let Some((unit, first)) = head_of(bytes) else {
-        return Err(PackBad::Head(longest_head(bytes)));
-    };
-    let mut progress = Progress {
-        at: first,
-        first: None,
-        modal: nothing_written(),
-    };
-    let mut shots = List::new(alloc);
-    while progress.at < bytes.len() && bytes[progress.at] != END {
-        progress = read_one(bytes, &progress, &mut shots)?;
+    if at == bytes.len() {
+        return Err(PackBad::Record(at));
     }
-    if progress.at == bytes.len() {
-        return Err(PackBad::Record(progress.at));
+    if !ends_at(bytes, at) {
+        return Err(PackBad::End(at));
     }
-    if !ends_at(bytes, progress.at) {
-        return Err(PackBad::End(progress.at));
-    }
-    Ok(ShotFile {
-        unit,
-        pair: progress.first,
-        shots,
-    })
+    Ok(())
 }

@@ -6,7 +6,7 @@ ghost use Rattle.shot_repeat.specs.Records.{IsNarrowNumber, IsNarrowPlace, IsNar
 use oas_lex::{ROOM, Spell, id_for, put_delta};
 
 /// The kind of the repetition of a packed shot file: shots at one distance in any direction.
-const KIND: u8 = 9;
+pub(crate) const KIND: u8 = 9;
 
 /// The numbers of a repetition as it is written.
 #[derive(Clone, Copy)]
@@ -42,8 +42,8 @@ fn bit(weight: u8, is_there: bool) -> u8
     if is_there { weight } else { 0 }
 }
 
-// The info byte: which fields are written.
-fn info_of(written: &PackRecord) -> u8
+/// The info byte: which fields are written.
+pub(crate) fn info_of(written: &PackRecord) -> u8
     ensures { result ≡ info_of written.now }
 {
     let sizes = bit(64, written.width.is_some()) + bit(32, written.height.is_some());
@@ -76,8 +76,8 @@ fn put_place(spell: &mut Spell, place: Option<i64>)
     }
 }
 
-// The first number of a step's spelling: bit 0 is set, bit 1 says west, and the magnitude is above.
-fn step_code(x: i64) -> u64
+/// The first number of a step's spelling: bit 0 is set, bit 1 says west, and the magnitude is above.
+pub(crate) fn step_code(x: i64) -> u64
     requires { unsigned_abs x < 2 ^ 61 }
     ensures value { result ≡ step_code x }
     ensures narrow { result < 2 ^ 63 }

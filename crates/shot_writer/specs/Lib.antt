@@ -1,3 +1,4 @@
+-- ---- what is promised, in reading order
 pub mod Writing
 pub mod WritingLaw
 pub mod WriterView

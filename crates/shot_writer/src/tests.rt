@@ -92,7 +92,13 @@ fn write_file(depot: &mut MemDepot, shots: &[Trap]) -> Result<Sums, DepotBad>
     };
     let mut writer = ShotWriter::start(depot, "out", head)?;
     writer.put(depot, &mut FromSlice::new(shots))?;
-    writer.finish(depot)
+    let so_far = writer.sums();
+    let all = writer.finish(depot)?;
+    if all == so_far {
+        Ok(all)
+    } else {
+        Err(DepotBad::Failed)
+    }
 }
 
 #[test]

@@ -116,6 +116,13 @@ impl ShotWriter {
         }
     }
 
+    /// The sums of all shots that were put.
+    pub fn sums(&self) -> Sums
+        ensures { result ≡ sums_of self.now }
+    {
+        self.sums
+    }
+
     /// Appends END, and answers the sums of all shots that were put.
     pub fn finish<D: Depot>(self, depot: &mut D) -> Result<Sums, DepotBad>
         requires { IsTrue D.tells → IsSome (D.content depot.old).current }

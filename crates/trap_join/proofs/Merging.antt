@@ -203,12 +203,6 @@ lengths_differ [] (n ∷ runs) h = refl
 lengths_differ (o ∷ front) [] h = refl
 lengths_differ (o ∷ front) (n ∷ runs) h = rw (← lengths_differ front runs (λ e. h (ap suc e))) (sym (and_false (goes_on o n)))
 
-pub one_goes_on : (o : Growing) (n : Run) (fs os : List Growing) (rs ns : List Run) → fs ≡ o ∷ os → rs ≡ n ∷ ns → goes_on o n ≡ true → all_go_on os ns ≡ all_go_on fs rs
-one_goes_on o n fs os rs ns ef er goes = rw (ef, er, goes) refl
-
-pub one_stays : (o : Growing) (n : Run) (fs os : List Growing) (rs ns : List Run) → fs ≡ o ∷ os → rs ≡ n ∷ ns → goes_on o n ≡ false → false ≡ all_go_on fs rs
-one_stays o n fs os rs ns ef er goes = rw (ef, er, goes) refl
-
 pub both_go : (o : Growing) (n : Run) (front : List Growing) (runs : List Run) → all_go_on (o ∷ front) (n ∷ runs) ≡ true → (goes_on o n ≡ true) × (all_go_on front runs ≡ true)
 both_go o n front runs h = both_true (goes_on o n) (all_go_on front runs) h
 

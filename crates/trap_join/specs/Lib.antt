@@ -1,3 +1,4 @@
+-- ---- what is promised, in reading order
 pub mod Maximal
 pub mod Fronts
 pub mod Joins

@@ -1,9 +1,8 @@
 use Rattle.std.proofs.Common.{ℕ, List, ◌++◌, get_or, refl, subst, ◌∙◌, rules, arith, flat_map}
 use Rattle.std.specs.List.{zip}
 use Rattle.depot.specs.Content.{IsPartSaid}
-use Rattle.depot.proofs.ForCallers.{refused}
-use Rattle.shot_listing.specs.Saying.{IsSaidButFor}
-use Rattle.shot_listing.proofs.ForCallers.{part_of_more_texts, said_then, texts_more}
+use Rattle.depot.proofs.ForCallers.{refused, part_of_more_texts, said_then, texts_more}
+use Rattle.depot.specs.Printing.{IsSaidButFor}
 use Rattle.deck_text.specs.declared.deck.Output.{Output}
 use Rattle.shot_writer.specs.declared.parts.Sums.{Sums}
 use Rattle.job_report.specs.Report.{output_line}

@@ -1,7 +1,7 @@
 use Rattle.std.proofs.Common.{◌≡◌, ◌++◌, take, flat_map, length, IsTrue}
 use Rattle.std.specs.List.{zip}
 use Rattle.depot.specs.Counts.{NeverFall}
-use Rattle.shot_listing.specs.Saying.{IsSaidButFor}
+use Rattle.depot.specs.Printing.{IsSaidButFor}
 use Rattle.job_report.specs.Report.{output_line}
 use Rattle.job_report.proofs.report.put_outputs.Given as goal
 

@@ -2,8 +2,7 @@ use Rattle.std.proofs.Common.{ℕ, List, ap, subst, ◌∙◌, flat_map}
 use Rattle.std.proofs.lemmas.Result.{on_ok_weaker, on_err_weaker}
 use Rattle.std.specs.List.{zip}
 use Rattle.depot.specs.Content.{IsPartSaid, with_said}
-use Rattle.depot.proofs.ForCallers.{refused}
-use Rattle.shot_listing.proofs.ForCallers.{part_of_longer, part_held, say_held, hold_more, said_then}
+use Rattle.depot.proofs.ForCallers.{refused, part_of_longer, part_held, say_held, hold_more, said_then}
 use Rattle.job_report.specs.Report.{output_line}
 use Rattle.job_report.proofs.ReportLemmas.{report_is}
 use Rattle.job_report.proofs.report.say_report.Goals as goal

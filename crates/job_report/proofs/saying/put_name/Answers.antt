@@ -1,8 +1,7 @@
 use Rattle.std.proofs.Common.{ℕ, List, [], ◌∷◌, ◌++◌, append_assoc, ap, ◌∙◌, subst}
 use Rattle.std.proofs.lemmas.Result.{on_err_weaker}
 use Rattle.depot.specs.Content.{IsPartSaid}
-use Rattle.depot.proofs.ForCallers.{refused}
-use Rattle.shot_listing.proofs.ForCallers.{part_of_longer, part_held, hold_more}
+use Rattle.depot.proofs.ForCallers.{refused, part_of_longer, part_held, hold_more}
 use Rattle.job_report.proofs.saying.put_name.Goals as goal
 
 pub returns-in_err-put_piece-clause-refused : goal.returns-in_err-put_piece-clause-refused

@@ -1,8 +1,7 @@
 use Rattle.std.proofs.Common.{ℕ, List, ◌∷◌, [], ◌++◌, take, sym, ap, ◌∙◌, subst, rules}
 use Rattle.std.proofs.lemmas.List.{take_more}
-use Rattle.depot.proofs.ForCallers.{refused}
-use Rattle.shot_listing.proofs.ForCallers.{part_of_more_texts, said_then, texts_more}
-use Rattle.shot_listing.specs.Saying.{IsSaidButFor}
+use Rattle.depot.proofs.ForCallers.{refused, part_of_more_texts, said_then, texts_more}
+use Rattle.depot.specs.Printing.{IsSaidButFor}
 use Rattle.job_report.proofs.saying.put_names.Goals as goal
 
 pub returns-in_err-put_name-clause-refused : goal.returns-in_err-put_name-clause-refused

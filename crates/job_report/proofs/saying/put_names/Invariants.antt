@@ -1,6 +1,6 @@
 use Rattle.std.proofs.Common.{◌≡◌, ◌++◌, take, IsTrue}
 use Rattle.depot.specs.Counts.{NeverFall}
-use Rattle.shot_listing.specs.Saying.{IsSaidButFor}
+use Rattle.depot.specs.Printing.{IsSaidButFor}
 use Rattle.job_report.specs.Pieces.{names_text}
 use Rattle.job_report.proofs.saying.put_names.Given as goal
 

@@ -1,7 +1,6 @@
 use Rattle.std.proofs.Common.{◌∷◌, [], ◌++◌, take, sym, ap, ◌∙◌}
 use Rattle.std.proofs.lemmas.List.{take_more}
-use Rattle.depot.proofs.ForCallers.{refused}
-use Rattle.shot_listing.proofs.ForCallers.{part_of_more_texts}
+use Rattle.depot.proofs.ForCallers.{refused, part_of_more_texts}
 use Rattle.job_report.specs.Pieces.{text_of}
 use Rattle.job_report.proofs.saying.put_pieces.Goals as goal
 

@@ -1,7 +1,7 @@
 use Rattle.std.proofs.Common.{List, ℕ, ◌++◌, ap, subst}
 use Rattle.std.proofs.lemmas.Result.{on_err_weaker}
 use Rattle.depot.specs.Content.{IsPartSaid}
-use Rattle.shot_listing.proofs.ForCallers.{part_held}
+use Rattle.depot.proofs.ForCallers.{part_held}
 use Rattle.job_report.specs.Pieces.{spelled}
 use Rattle.job_report.proofs.saying.say_pieces.Goals as goal
 

@@ -13,7 +13,9 @@ returns-in-Ok-clause-answer g c = λ tells.
     let at = g.D.Depot.content in
     let counts = g.D.Depot.counts in
     let e = c.in-Ok.ensures in
-    let told : IsInputTold (at c.args.depot.now) (Rose (counts c.args.depot.now).read_faults (counts c.read_input.new.depot).read_faults) (Rose (counts c.args.depot.now).refused (counts c.read_input.new.depot).refused) c.args.layout.now c.args.deck.now (Ok c.in-Ok.input) =
+    let told : IsInputTold (at c.args.depot.now)
+    (Rose (counts c.args.depot.now).read_faults (counts c.read_input.new.depot).read_faults)
+    (Rose (counts c.args.depot.now).refused (counts c.read_input.new.depot).refused) c.args.layout.now c.args.deck.now (Ok c.in-Ok.input) =
     record {
       given = e.given tells;
       deck_long = e.deck_long tells;
@@ -26,9 +28,12 @@ returns-in-Ok-clause-answer g c = λ tells.
       missing = e.missing tells;
       missing_deck = e.missing_deck tells;
     } in
-    given_answers (IsChecked (run_of (at c.args.depot.now) (at c.check_input.new.depot) (counts c.args.depot.now) (counts c.check_input.new.depot))) (at c.args.depot.now) (at c.check_input.new.depot)
-    (counts c.args.depot.now) (counts c.read_input.new.depot) (counts c.check_input.new.depot) c.args.layout.now c.args.deck.now c.in-Ok.input c.check_input.result.status c.check_input.result.top told c.check_input.ensures.counted
-    (checked_from (at c.args.depot.now) (at c.read_input.new.depot) (at c.check_input.new.depot) (counts c.args.depot.now) (counts c.read_input.new.depot) (counts c.check_input.new.depot) c.in-Ok.input c.check_input.result.status
+    given_answers (IsChecked (run_of (at c.args.depot.now) (at c.check_input.new.depot) (counts c.args.depot.now)
+    (counts c.check_input.new.depot))) (at c.args.depot.now) (at c.check_input.new.depot)
+    (counts c.args.depot.now) (counts c.read_input.new.depot) (counts c.check_input.new.depot) c.args.layout.now
+    c.args.deck.now c.in-Ok.input c.check_input.result.status c.check_input.result.top told c.check_input.ensures.counted
+    (checked_from (at c.args.depot.now) (at c.read_input.new.depot) (at c.check_input.new.depot)
+    (counts c.args.depot.now) (counts c.read_input.new.depot) (counts c.check_input.new.depot) c.in-Ok.input c.check_input.result.status
     e.counts (left_only (at c.args.depot.now) (at c.read_input.new.depot) (e.whole tells)) (c.check_input.ensures.checked tells))
     c.check_input.ensures.top
 
@@ -37,9 +42,11 @@ returns-in-Ok-clause-outputs g c = λ tells.
     let at = g.D.Depot.content in
     let counts = g.D.Depot.counts in
     let e = c.in-Ok.ensures in
-    outputs_told (run_of (at c.args.depot.now) (at c.check_input.new.depot) (counts c.args.depot.now) (counts c.check_input.new.depot)) c.args.layout.now c.args.deck.now c.in-Ok.input c.check_input.result.status c.check_input.result.outputs
+    outputs_told (run_of (at c.args.depot.now) (at c.check_input.new.depot) (counts c.args.depot.now)
+    (counts c.check_input.new.depot)) c.args.layout.now c.args.deck.now c.in-Ok.input c.check_input.result.status c.check_input.result.outputs
     ((e.given tells c.in-Ok.input).only refl)
-    (checked_from (at c.args.depot.now) (at c.read_input.new.depot) (at c.check_input.new.depot) (counts c.args.depot.now) (counts c.read_input.new.depot) (counts c.check_input.new.depot) c.in-Ok.input c.check_input.result.status
+    (checked_from (at c.args.depot.now) (at c.read_input.new.depot) (at c.check_input.new.depot)
+    (counts c.args.depot.now) (counts c.read_input.new.depot) (counts c.check_input.new.depot) c.in-Ok.input c.check_input.result.status
     e.counts (left_only (at c.args.depot.now) (at c.read_input.new.depot) (e.whole tells)) (c.check_input.ensures.checked tells))
     c.check_input.ensures.outputs
 

@@ -25,20 +25,28 @@ returns-in-Ok-check_files-clause-checked g c = λ told.
     let sums = c.in-Ok-check_files.sums.items in
     let exact : AreAllExact (at c.args.depot.now) input sums =
     subst (λ (p : Planned). AreExactFiles p (at c.args.depot.now) (length p.deck.outputs) sums) c.in-Ok.ensures (c.in-Ok-check_files.ensures.ok told) in
-    said_checked (at c.args.depot.now) (at c.check_files.new.depot) (at c.say_report_on.new.depot) (counts c.args.depot.now) (counts c.check_files.new.depot) (counts c.say_report_on.new.depot) input sums c.say_report_on.result
+    said_checked (at c.args.depot.now) (at c.check_files.new.depot) (at c.say_report_on.new.depot)
+    (counts c.args.depot.now) (counts c.check_files.new.depot) (counts c.say_report_on.new.depot) input sums c.say_report_on.result
     c.in-Ok-check_files.ensures.uncounted (c.in-Ok-check_files.ensures.others told) exact
     (subst (λ (l : List Sums). IsSaidSo (at c.check_files.new.depot) (at c.say_report_on.new.depot)
-    (Rose (counts c.check_files.new.depot).write_faults (counts c.say_report_on.new.depot).write_faults) (Rose (counts c.check_files.new.depot).refused (counts c.say_report_on.new.depot).refused) (report_of (codes "exact") input l) c.say_report_on.result)
+    (Rose (counts c.check_files.new.depot).write_faults (counts c.say_report_on.new.depot).write_faults)
+    (Rose (counts c.check_files.new.depot).refused (counts c.say_report_on.new.depot).refused) (report_of (codes "exact") input l) c.say_report_on.result)
     c.deref.ensures.value (c.say_report_on.ensures.said told))
 
 pub returns-clause-checked : goal.returns-clause-checked
 returns-clause-checked g c = λ told.
     let at = g.D.Depot.content in
     let counts = g.D.Depot.counts in
-    let first : IsFirstFileFault _ (at c.args.depot.now) (Rose (counts c.args.depot.now).read_faults (counts c.check_files.new.depot).read_faults) c.in-Err.bad =
-    subst (λ (p : Planned). IsFirstFileFault p (at c.args.depot.now) (Rose (counts c.args.depot.now).read_faults (counts c.check_files.new.depot).read_faults) c.in-Err.bad) c.in-Ok.ensures (c.in-Err.ensures.refused told) in
-    subst (λ (s : Status). IsChecked (run_of (at c.args.depot.now) (at c.check_files.new.depot) (counts c.args.depot.now) (counts c.check_files.new.depot)) c.args.input.now s) (sym c.checked_status.ensures)
-    (refused_checked (at c.args.depot.now) (at c.check_files.new.depot) (counts c.args.depot.now) (counts c.check_files.new.depot) c.args.input.now c.in-Err.bad (c.in-Err.ensures.others told) first)
+    let first : IsFirstFileFault _ (at c.args.depot.now)
+    (Rose (counts c.args.depot.now).read_faults (counts c.check_files.new.depot).read_faults) c.in-Err.bad =
+    subst (λ (p : Planned). IsFirstFileFault p (at c.args.depot.now)
+    (Rose (counts c.args.depot.now).read_faults (counts c.check_files.new.depot).read_faults) c.in-Err.bad)
+    c.in-Ok.ensures (c.in-Err.ensures.refused told) in
+    subst (λ (s : Status). IsChecked
+    (run_of (at c.args.depot.now) (at c.check_files.new.depot) (counts c.args.depot.now)
+    (counts c.check_files.new.depot)) c.args.input.now s) (sym c.checked_status.ensures)
+    (refused_checked (at c.args.depot.now) (at c.check_files.new.depot) (counts c.args.depot.now)
+    (counts c.check_files.new.depot) c.args.input.now c.in-Err.bad (c.in-Err.ensures.others told) first)
 
 pub returns-clause-kind : goal.returns-clause-kind
 returns-clause-kind g c = subst (IsOfInput refuses_output) (sym c.checked_status.ensures) (checked_kind c.in-Err.bad c.in-Err.ensures.real)

@@ -11,7 +11,9 @@ returns-in-Ok-clause-answer g c = λ tells.
     let at = g.D.Depot.content in
     let counts = g.D.Depot.counts in
     let e = c.in-Ok.ensures in
-    let told : IsInputTold (at c.args.depot.now) (Rose (counts c.args.depot.now).read_faults (counts c.read_input.new.depot).read_faults) (Rose (counts c.args.depot.now).refused (counts c.read_input.new.depot).refused) c.args.layout.now c.args.deck.now (Ok c.in-Ok.input) =
+    let told : IsInputTold (at c.args.depot.now)
+    (Rose (counts c.args.depot.now).read_faults (counts c.read_input.new.depot).read_faults)
+    (Rose (counts c.args.depot.now).refused (counts c.read_input.new.depot).refused) c.args.layout.now c.args.deck.now (Ok c.in-Ok.input) =
     record {
       given = e.given tells;
       deck_long = e.deck_long tells;
@@ -24,10 +26,17 @@ returns-in-Ok-clause-answer g c = λ tells.
       missing = e.missing tells;
       missing_deck = e.missing_deck tells;
     } in
-    subst (λ (s : Status). IsAnswer g.D.Depot.tells (run_of (at c.args.depot.now) (at c.write_all.new.depot) (counts c.args.depot.now) (counts c.write_all.new.depot)) c.args.layout.now c.args.deck.now s c.plain.result.top) (sym c.plain.ensures.status)
-    (given_answers (IsFractured g.D.Depot.tells (run_of (at c.args.depot.now) (at c.write_all.new.depot) (counts c.args.depot.now) (counts c.write_all.new.depot))) (at c.args.depot.now) (at c.write_all.new.depot) (counts c.args.depot.now) (counts c.read_input.new.depot) (counts c.write_all.new.depot)
+    subst (λ (s : Status). IsAnswer g.D.Depot.tells
+    (run_of (at c.args.depot.now) (at c.write_all.new.depot) (counts c.args.depot.now)
+    (counts c.write_all.new.depot)) c.args.layout.now c.args.deck.now s c.plain.result.top) (sym c.plain.ensures.status)
+    (given_answers (IsFractured g.D.Depot.tells
+    (run_of (at c.args.depot.now) (at c.write_all.new.depot) (counts c.args.depot.now)
+    (counts c.write_all.new.depot))) (at c.args.depot.now) (at c.write_all.new.depot) (counts c.args.depot.now)
+    (counts c.read_input.new.depot) (counts c.write_all.new.depot)
     c.args.layout.now c.args.deck.now c.in-Ok.input c.write_all.result c.plain.result.top told c.write_all.ensures.counted
-    (fractured_from g.D.Depot.tells (at c.args.depot.now) (at c.read_input.new.depot) (at c.write_all.new.depot) (counts c.args.depot.now) (counts c.read_input.new.depot) (counts c.write_all.new.depot) c.in-Ok.input c.write_all.result e.counts (e.whole tells) (c.write_all.ensures.made tells))
+    (fractured_from g.D.Depot.tells (at c.args.depot.now) (at c.read_input.new.depot) (at c.write_all.new.depot)
+    (counts c.args.depot.now) (counts c.read_input.new.depot) (counts c.write_all.new.depot) c.in-Ok.input
+    c.write_all.result e.counts (e.whole tells) (c.write_all.ensures.made tells))
     c.plain.ensures.top)
 
 pub returns-in-Err-clause-answer : goal.returns-in-Err-clause-answer

@@ -59,17 +59,33 @@ returns-clause-says g c = λ told.
 
 pub returns-clause-accepts : goal.returns-clause-accepts
 returns-clause-accepts g c = λ told.
-    accepts_after (g.D.Depot.content c.args.depot.now) (g.D.Depot.content c.answered-ending.new.depot) (g.D.Depot.content c.say_line.new.depot) (g.D.Depot.counts c.args.depot.now) (g.D.Depot.counts c.say_line.new.depot) (texts c.args.words.now) c.answered-ending.result.status
-    (accepts g.D.Depot.tells (run_of (g.D.Depot.content c.args.depot.now) (g.D.Depot.content c.answered-ending.new.depot) (g.D.Depot.counts c.args.depot.now) (g.D.Depot.counts c.say_line.new.depot)) (texts c.args.words.now) c.answered-ending.result.status c.answered-ending.result.top
-    (table_later g.D.Depot.tells (g.D.Depot.content c.args.depot.now) (g.D.Depot.content c.answered-ending.new.depot) (g.D.Depot.counts c.args.depot.now) (g.D.Depot.counts c.answered-ending.new.depot) (g.D.Depot.counts c.say_line.new.depot) (texts c.args.words.now) c.answered-ending.result.status c.answered-ending.result.top c.say_line.ensures.counted (c.answered-ending.ensures.table told)))
+    accepts_after (g.D.Depot.content c.args.depot.now) (g.D.Depot.content c.answered-ending.new.depot)
+    (g.D.Depot.content c.say_line.new.depot) (g.D.Depot.counts c.args.depot.now)
+    (g.D.Depot.counts c.say_line.new.depot) (texts c.args.words.now) c.answered-ending.result.status
+    (accepts g.D.Depot.tells (run_of (g.D.Depot.content c.args.depot.now)
+    (g.D.Depot.content c.answered-ending.new.depot) (g.D.Depot.counts c.args.depot.now)
+    (g.D.Depot.counts c.say_line.new.depot)) (texts c.args.words.now) c.answered-ending.result.status c.answered-ending.result.top
+    (table_later g.D.Depot.tells (g.D.Depot.content c.args.depot.now) (g.D.Depot.content c.answered-ending.new.depot)
+    (g.D.Depot.counts c.args.depot.now) (g.D.Depot.counts c.answered-ending.new.depot)
+    (g.D.Depot.counts c.say_line.new.depot) (texts c.args.words.now) c.answered-ending.result.status
+    c.answered-ending.result.top c.say_line.ensures.counted (c.answered-ending.ensures.table told)))
 
 pub returns-clause-refuses : goal.returns-clause-refuses
 returns-clause-refuses g c = λ told.
-    refuses_after (g.D.Depot.content c.args.depot.now) (g.D.Depot.content c.answered-ending.new.depot) (g.D.Depot.content c.say_line.new.depot) (g.D.Depot.counts c.args.depot.now) (g.D.Depot.counts c.say_line.new.depot) (texts c.args.words.now) c.answered-ending.result.status
-    (refuses g.D.Depot.tells (run_of (g.D.Depot.content c.args.depot.now) (g.D.Depot.content c.answered-ending.new.depot) (g.D.Depot.counts c.args.depot.now) (g.D.Depot.counts c.say_line.new.depot)) (texts c.args.words.now) c.answered-ending.result.status c.answered-ending.result.top
-    (table_later g.D.Depot.tells (g.D.Depot.content c.args.depot.now) (g.D.Depot.content c.answered-ending.new.depot) (g.D.Depot.counts c.args.depot.now) (g.D.Depot.counts c.answered-ending.new.depot) (g.D.Depot.counts c.say_line.new.depot) (texts c.args.words.now) c.answered-ending.result.status c.answered-ending.result.top c.say_line.ensures.counted (c.answered-ending.ensures.table told)))
+    refuses_after (g.D.Depot.content c.args.depot.now) (g.D.Depot.content c.answered-ending.new.depot)
+    (g.D.Depot.content c.say_line.new.depot) (g.D.Depot.counts c.args.depot.now)
+    (g.D.Depot.counts c.say_line.new.depot) (texts c.args.words.now) c.answered-ending.result.status
+    (refuses g.D.Depot.tells (run_of (g.D.Depot.content c.args.depot.now)
+    (g.D.Depot.content c.answered-ending.new.depot) (g.D.Depot.counts c.args.depot.now)
+    (g.D.Depot.counts c.say_line.new.depot)) (texts c.args.words.now) c.answered-ending.result.status c.answered-ending.result.top
+    (table_later g.D.Depot.tells (g.D.Depot.content c.args.depot.now) (g.D.Depot.content c.answered-ending.new.depot)
+    (g.D.Depot.counts c.args.depot.now) (g.D.Depot.counts c.answered-ending.new.depot)
+    (g.D.Depot.counts c.say_line.new.depot) (texts c.args.words.now) c.answered-ending.result.status
+    c.answered-ending.result.top c.say_line.ensures.counted (c.answered-ending.ensures.table told)))
 
 pub returns-clause-faults_told : goal.returns-clause-faults_told
 returns-clause-faults_told g c =
-    faults_told (g.D.Depot.counts c.args.depot.now) (g.D.Depot.counts c.answered-ending.new.depot) (g.D.Depot.counts c.say_line.new.depot) (IsTrue g.D.Depot.tells) c.answered-ending.result.status c.answered-ending.ensures.counts c.answered-ending.ensures.counted c.say_line.ensures.counted
+    faults_told (g.D.Depot.counts c.args.depot.now) (g.D.Depot.counts c.answered-ending.new.depot)
+    (g.D.Depot.counts c.say_line.new.depot) (IsTrue g.D.Depot.tells) c.answered-ending.result.status
+    c.answered-ending.ensures.counts c.answered-ending.ensures.counted c.say_line.ensures.counted
     c.say_line.ensures.reads (λ e. ap g.D.Depot.counts (c.say_line.ensures.done e)) c.answered-ending.ensures.read_fault c.answered-ending.ensures.write_fault

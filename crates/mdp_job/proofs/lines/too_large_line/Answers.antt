@@ -6,6 +6,7 @@ use Rattle.mdp_job.proofs.lines.too_large_line.Goals as goal
 
 pub returns : goal.returns
 returns c =
-    let line : codes "check refused: " ++ (c.as_bytes.result.now ++ (codes ": shot " ++ (decimal c.args.shot ++ codes " too large\n"))) ≡ too_large_line c.args.file.now c.args.shot =
+    let line : codes "check refused: " ++ (c.as_bytes.result.now ++ (codes
+    ": shot " ++ (decimal c.args.shot ++ codes " too large\n"))) ≡ too_large_line c.args.file.now c.args.shot =
     rw c.as_bytes.ensures.value (five_spell (codes "check refused: ") c.args.file.now (codes ": shot ") (decimal c.args.shot) (codes " too large\n")) in
     line

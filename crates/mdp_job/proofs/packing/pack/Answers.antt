@@ -8,5 +8,6 @@ returns-in-Ok-clause-answer g c = λ told.
     let at = g.D.Depot.content in
     let counts = g.D.Depot.counts in
     let e = c.in-Ok.ensures in
-    made_answers (packing_command c.args.out.now) (at c.args.depot.now) _ (at c.pack_file.new.depot) (counts c.args.depot.now) _ (counts c.pack_file.new.depot) c.args.file.now (shot_data c.in-Ok.read) c.pack_file.result
+    made_answers (packing_command c.args.out.now) (at c.args.depot.now) _ (at c.pack_file.new.depot)
+    (counts c.args.depot.now) _ (counts c.pack_file.new.depot) c.args.file.now (shot_data c.in-Ok.read) c.pack_file.result
     (e.held told) (e.whole told) e.uncounted (c.pack_file.ensures.made told)

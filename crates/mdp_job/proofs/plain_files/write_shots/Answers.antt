@@ -10,7 +10,8 @@ use Rattle.mdp_job.proofs.plain_files.write_shots.Goals as goal
 
 pub returns-in_err-writer-clause-refused : goal.returns-in_err-writer-clause-refused
 returns-in_err-writer-clause-refused g c = refused c.from_residual.result _ (λ told.
-    started_part (g.D.Depot.content c.args.depot.now) c.args.name.now c.args.head.unit c.args.head.pair c.args.shots.now (g.D.Depot.content c.start.new.depot) (c.in_err-writer.ensures.refused told))
+    started_part (g.D.Depot.content c.args.depot.now) c.args.name.now c.args.head.unit c.args.head.pair c.args.shots.now
+    (g.D.Depot.content c.start.new.depot) (c.in_err-writer.ensures.refused told))
 
 pub put-requires-clause-room : goal.put-requires-clause-room
 put-requires-clause-room g c = λ items e.
@@ -22,19 +23,27 @@ put-requires-clause-room g c = λ items e.
 pub returns-in_err-put-clause-refused : goal.returns-in_err-put-clause-refused
 returns-in_err-put-clause-refused g c = refused c.from_residual-in_err-put.result _ (λ told.
     let at = g.D.Depot.content in
-    put_cut (at c.args.depot.now) c.args.name.now c.args.head.unit c.args.head.pair c.args.shots.now (at c.start.new.depot) (c.in_ok-writer.ensures.ok told) (at c.put.new.depot)
-    (subst (λ (q : Pair). IsPartWritten (at c.start.new.depot) (records_of q c.args.shots.now) (at c.put.new.depot)) c.in_ok-writer.ensures.pair (c.in_err-put.ensures.refused c.args.shots.now c.new-stream.ensures.list told)))
+    put_cut (at c.args.depot.now) c.args.name.now c.args.head.unit c.args.head.pair c.args.shots.now
+    (at c.start.new.depot) (c.in_ok-writer.ensures.ok told) (at c.put.new.depot)
+    (subst (λ (q : Pair). IsPartWritten (at c.start.new.depot) (records_of q c.args.shots.now) (at c.put.new.depot))
+    c.in_ok-writer.ensures.pair (c.in_err-put.ensures.refused c.args.shots.now c.new-stream.ensures.list told)))
 
 pub returns-in_err-finish-clause-refused : goal.returns-in_err-finish-clause-refused
 returns-in_err-finish-clause-refused g c = refused c.from_residual-in_err-finish.result _ (λ told.
     let at = g.D.Depot.content in
-    let put = subst (λ (q : Pair). at c.put.new.depot ≡ with_written (at c.start.new.depot) (records_of q c.args.shots.now)) c.in_ok-writer.ensures.pair (c.in_ok-put.ensures.ok c.args.shots.now c.new-stream.ensures.list told) in
-    finish_cut (at c.args.depot.now) c.args.name.now c.args.head.unit c.args.head.pair c.args.shots.now (at c.start.new.depot) (c.in_ok-writer.ensures.ok told) (at c.put.new.depot) put (at c.finish.new.depot)
+    let put = subst (λ (q : Pair). at c.put.new.depot
+    ≡ with_written (at c.start.new.depot) (records_of q c.args.shots.now)) c.in_ok-writer.ensures.pair
+    (c.in_ok-put.ensures.ok c.args.shots.now c.new-stream.ensures.list told) in
+    finish_cut (at c.args.depot.now) c.args.name.now c.args.head.unit c.args.head.pair c.args.shots.now
+    (at c.start.new.depot) (c.in_ok-writer.ensures.ok told) (at c.put.new.depot) put (at c.finish.new.depot)
     (c.in_err-finish.ensures.refused told))
 
 pub returns-clause-ok : goal.returns-clause-ok
 returns-clause-ok g c = λ told.
     let at = g.D.Depot.content in
-    let put = subst (λ (q : Pair). at c.put.new.depot ≡ with_written (at c.start.new.depot) (records_of q c.args.shots.now)) c.in_ok-writer.ensures.pair (c.in_ok-put.ensures.ok c.args.shots.now c.new-stream.ensures.list told) in
-    finished (at c.args.depot.now) c.args.name.now c.args.head.unit c.args.head.pair c.args.shots.now (at c.start.new.depot) (c.in_ok-writer.ensures.ok told) (at c.put.new.depot) put (at c.finish.new.depot)
+    let put = subst (λ (q : Pair). at c.put.new.depot
+    ≡ with_written (at c.start.new.depot) (records_of q c.args.shots.now)) c.in_ok-writer.ensures.pair
+    (c.in_ok-put.ensures.ok c.args.shots.now c.new-stream.ensures.list told) in
+    finished (at c.args.depot.now) c.args.name.now c.args.head.unit c.args.head.pair c.args.shots.now
+    (at c.start.new.depot) (c.in_ok-writer.ensures.ok told) (at c.put.new.depot) put (at c.finish.new.depot)
     (c.in_ok-finish.ensures.ok told)

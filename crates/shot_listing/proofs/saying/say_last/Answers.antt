@@ -2,7 +2,7 @@ use Rattle.std.proofs.Common.{List, ℕ, subst}
 use Rattle.std.proofs.lemmas.Result.{on_err_weaker}
 use Rattle.depot.specs.Content.{IsPartSaid}
 use Rattle.shot_listing.specs.Listing.{sums_line}
-use Rattle.shot_listing.proofs.SaidSoFar.{part_held, hold_more}
+use Rattle.depot.proofs.ForCallers.{part_held, hold_more}
 use Rattle.shot_listing.proofs.saying.say_last.Goals as goal
 
 pub returns-clause-refused : goal.returns-clause-refused

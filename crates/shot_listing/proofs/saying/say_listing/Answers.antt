@@ -5,8 +5,7 @@ use Rattle.layout_model.specs.declared.pair.Pair.{Pair}
 use Rattle.depot.specs.Content.{IsPartSaid, with_said}
 use Rattle.shot_writer.specs.Writing.{triangles_of}
 use Rattle.shot_listing.specs.Listing.{listing, unit_line, layer_line, shot_line, sums_line}
-use Rattle.depot.proofs.ForCallers.{refused}
-use Rattle.shot_listing.proofs.SaidSoFar.{part_of_longer, part_held, say_held, hold_more}
+use Rattle.depot.proofs.ForCallers.{refused, part_of_longer, part_held, say_held, hold_more}
 use Rattle.shot_listing.proofs.saying.say_listing.Goals as goal
 
 -- what is in the buffer before the shots

@@ -4,9 +4,8 @@ use Rattle.depot.specs.Counts.{Counts}
 use Rattle.std.proofs.lemmas.List.Sums.{sum_by_more}
 use Rattle.shot_writer.specs.Writing.{triangles_in, triangles_of}
 use Rattle.shot_listing.specs.Listing.{shot_line}
-use Rattle.shot_listing.specs.Saying.{IsSaidButFor}
-use Rattle.depot.proofs.ForCallers.{refused}
-use Rattle.shot_listing.proofs.SaidSoFar.{part_of_texts, said_then, texts_more}
+use Rattle.depot.specs.Printing.{IsSaidButFor}
+use Rattle.depot.proofs.ForCallers.{refused, part_of_texts, said_then, texts_more}
 use Rattle.shot_listing.proofs.shots.put_shots.Goals as goal
 
 pub returns-in_err-put_line-clause-refused : goal.returns-in_err-put_line-clause-refused

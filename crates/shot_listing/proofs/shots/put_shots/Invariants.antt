@@ -2,7 +2,7 @@ use Rattle.std.proofs.Common.{◌≡◌, ◌*◌, ◌^◌, ◌≤◌, ◌++◌, 
 use Rattle.depot.specs.Counts.{NeverFall}
 use Rattle.shot_writer.specs.Writing.{triangles_of}
 use Rattle.shot_listing.specs.Listing.{shot_line}
-use Rattle.shot_listing.specs.Saying.{IsSaidButFor}
+use Rattle.depot.specs.Printing.{IsSaidButFor}
 use Rattle.shot_listing.proofs.shots.put_shots.Given as goal
 
 abbrev pub invariant-loop-shot : goal.invariant-loop-shot

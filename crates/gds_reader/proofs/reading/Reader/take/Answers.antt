@@ -4,7 +4,7 @@ use Rattle.gds_reader.specs.Meaning.{wanted_at, cells_at}
 use Rattle.gds_reader.specs.Readers.{place_behind}
 use Rattle.gds_reader.specs.Values.{KeepsRules}
 use Rattle.gds_reader.proofs.reading.Reader.take.Goals as goal
-use Rattle.gds_reader.proofs.TakeLemmas.{some_next, next_is, kind_cases}
+use Rattle.gds_reader.proofs.TakeLemmas.{some_next, next_is, kind_cases, refused_xy}
 
 pub returns-in-Some-broken_rule-clause-refused : goal.returns-in-Some-broken_rule-clause-refused
 returns-in-Some-broken_rule-clause-refused c = λ past wanted same reader more.
@@ -62,3 +62,17 @@ returns-clause-taken c = λ past wanted same reader.
       unit_agrees = c.in-None-other_unit.ensures.none;
       new_name = λ kind. c.in-Ok.ensures.new past reader.names kind;
     }
+
+pub returns-in-Err-clause-memory : goal.returns-in-Err-clause-memory
+returns-in-Err-clause-memory c = λ past wanted same reader e.
+    refused_xy c.args.bytes.now c.args.unit wanted past c.args.current c.args.at
+    (some_next (place_behind past) c.args.self.now.place c.in-Some.place c.args.current reader.place (sym c.after.ensures ∙ c.in-Some.is))
+    (λ other. c.in-None.ensures.kept past wanted reader.element same other) c.in-None-other_unit.ensures.none
+    (λ kind. c.enter.ensures.memory past reader.names (c.in-Err.is ∙ e))
+
+pub returns-in-Err-built-clause-memory : goal.returns-in-Err-built-clause-memory
+returns-in-Err-built-clause-memory c = λ past wanted same reader e.
+    refused_xy c.args.bytes.now c.args.unit wanted past c.args.current c.args.at
+    (some_next (place_behind past) c.args.self.now.place c.in-Some.place c.args.current reader.place (sym c.after.ensures ∙ c.in-Some.is))
+    (λ other. c.in-None.ensures.kept past wanted reader.element same other) c.in-None-other_unit.ensures.none
+    (λ kind. c.in-Ok.ensures.new past reader.names kind)

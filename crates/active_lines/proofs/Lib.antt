@@ -1,0 +1,10 @@
+pub mod Meeting
+pub mod Halving
+pub mod Chunks
+pub mod Places
+pub mod Edited
+pub mod Lasts
+pub mod Points
+pub mod Seams
+pub mod Opens
+pub mod LeaningLemmas

@@ -1,0 +1,18 @@
+//! The active lines of a sweep, from left to right, with a place among them that goes along.
+#![tactic(auto)]
+
+mod chunk;
+mod editing;
+mod item;
+mod laws;
+mod leaning;
+mod lines;
+mod looking;
+mod place;
+mod slices;
+#[cfg(test)]
+mod tests;
+
+pub use item::{ActiveLine, Opened, Windings};
+pub use laws::leaning_law;
+pub use lines::ActiveLines;

@@ -1,0 +1,12 @@
+pub mod NumberLemmas
+pub mod EntryLemmas
+pub mod TableLemmas
+pub mod TotalsLemmas
+pub mod BoundLemmas
+pub mod OneTable
+pub mod BeginLemmas
+pub mod StripLemmas
+pub mod TextLemmas
+pub mod RowSteps
+pub mod TableSteps
+pub mod ForCallers

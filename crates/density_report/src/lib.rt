@@ -1,0 +1,18 @@
+//! The density of a deck's outputs: how many triangles of an output's area each window has, said as a table for each
+//! output.
+//!
+//! All numbers are half units.
+#![tactic(auto)]
+
+mod entries;
+mod laws;
+mod lines;
+mod saying;
+mod strips;
+mod tables;
+#[cfg(test)]
+mod tests;
+
+pub use entries::{Entry, Totals};
+pub use laws::density_laws;
+pub use tables::say_densities;

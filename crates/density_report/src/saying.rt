@@ -1,0 +1,129 @@
+//! The lines of a table, said through a buffer.
+ghost use Rattle.std.specs.Prelude.{◌≡◌, ◌+◌, ◌≤◌, IsTrue, OnOk, OnErr, IsErrOf, ◌++◌, length, flat_map};
+ghost use Rattle.depot.specs.Content.{IsPartSaid};
+ghost use Rattle.depot.specs.Counts.{Rose, NeverFall};
+ghost use Rattle.depot.specs.Printing.{IsSaidButFor};
+ghost use Rattle.density_report.specs.Texts.{entry_line, last_lines, size_line};
+ghost use Rattle.density_report.specs.Rows.{counted_line};
+
+use crate::entries::{Entry, Totals, entry_of};
+use crate::lines::{ROOM, put_entry, put_most, put_size, put_triangles};
+use crate::strips::{Mesh, Strip};
+use density_map::Counted;
+use depot::{BUFFER_SIZE, Buffer, Depot, DepotBad, flush, put_piece};
+
+// Has room for one more line in the buffer, which is said first where it has none.
+fn make_room<D: Depot>(depot: &mut D, buffer: &mut Buffer) -> Result<(), DepotBad>
+    ensures room { OnOk result (length buffer.new + ROOM ≤ BUFFER_SIZE) }
+    ensures ok { OnOk result (IsTrue D.tells
+        → IsSaidButFor (D.content depot.old) buffer.old buffer.new (D.content depot.new)) }
+    ensures refused { OnErr result (IsTrue D.tells
+        → IsPartSaid (D.content depot.old) buffer.old (D.content depot.new)) }
+    ensures failed { IsErrOf result DepotBad.Failed
+        → Rose (D.counts depot.old).write_faults (D.counts depot.new).write_faults }
+    ensures no_memory { IsErrOf result DepotBad.NoMemory
+        → Rose (D.counts depot.old).refused (D.counts depot.new).refused }
+    ensures uncounted { OnOk result (D.counts depot.new ≡ D.counts depot.old) }
+    ensures reads { (D.counts depot.new).read_faults ≡ (D.counts depot.old).read_faults }
+    ensures counted { NeverFall (D.counts depot.old) (D.counts depot.new) }
+{
+    if ROOM <= buffer.room() {
+        return Ok(());
+    }
+    flush(depot, buffer)
+}
+
+// Puts the line of a window.
+fn say_entry<D: Depot>(depot: &mut D, buffer: &mut Buffer, entry: &Entry) -> Result<(), DepotBad>
+    ensures ok { OnOk result (IsTrue D.tells → IsSaidButFor
+        (D.content depot.old) (buffer.old ++ entry_line entry.now) buffer.new (D.content depot.new)) }
+    ensures refused { OnErr result (IsTrue D.tells
+        → IsPartSaid (D.content depot.old) buffer.old (D.content depot.new)) }
+    ensures failed { IsErrOf result DepotBad.Failed
+        → Rose (D.counts depot.old).write_faults (D.counts depot.new).write_faults }
+    ensures no_memory { IsErrOf result DepotBad.NoMemory
+        → Rose (D.counts depot.old).refused (D.counts depot.new).refused }
+    ensures uncounted { OnOk result (D.counts depot.new ≡ D.counts depot.old) }
+    ensures reads { (D.counts depot.new).read_faults ≡ (D.counts depot.old).read_faults }
+    ensures counted { NeverFall (D.counts depot.old) (D.counts depot.new) }
+{
+    make_room(depot, buffer)?;
+    put_entry(buffer, entry);
+    Ok(())
+}
+
+/// Puts the lines of a row of windows.
+pub(crate) fn say_row<D: Depot>(
+    depot: &mut D,
+    buffer: &mut Buffer,
+    strip: &Strip,
+    counts: &[Counted],
+) -> Result<(), DepotBad>
+    ensures ok { OnOk result (IsTrue D.tells → IsSaidButFor (D.content depot.old)
+        (buffer.old ++ flat_map (counted_line strip.now.row) counts.now) buffer.new (D.content depot.new)) }
+    ensures refused { OnErr result (IsTrue D.tells → IsPartSaid
+        (D.content depot.old) (buffer.old ++ flat_map (counted_line strip.now.row) counts.now) (D.content depot.new)) }
+    ensures failed { IsErrOf result DepotBad.Failed
+        → Rose (D.counts depot.old).write_faults (D.counts depot.new).write_faults }
+    ensures no_memory { IsErrOf result DepotBad.NoMemory
+        → Rose (D.counts depot.old).refused (D.counts depot.new).refused }
+    ensures uncounted { OnOk result (D.counts depot.new ≡ D.counts depot.old) }
+    ensures reads { (D.counts depot.new).read_faults ≡ (D.counts depot.old).read_faults }
+    ensures counted { NeverFall (D.counts depot.old) (D.counts depot.new) }
+{
+    for counted in counts {
+        say_entry(depot, buffer, &entry_of(strip, counted))?;
+    }
+    Ok(())
+}
+
+/// Puts the first line of a table.
+pub(crate) fn say_size<D: Depot>(
+    depot: &mut D,
+    buffer: &mut Buffer,
+    file: &str,
+    mesh: &Mesh,
+) -> Result<(), DepotBad>
+    ensures ok { OnOk result (IsTrue D.tells → IsSaidButFor (D.content depot.old)
+        (buffer.old ++ size_line file.now mesh.now.size) buffer.new (D.content depot.new)) }
+    ensures refused { OnErr result (IsTrue D.tells → IsPartSaid
+        (D.content depot.old) (buffer.old ++ size_line file.now mesh.now.size) (D.content depot.new)) }
+    ensures failed { IsErrOf result DepotBad.Failed
+        → Rose (D.counts depot.old).write_faults (D.counts depot.new).write_faults }
+    ensures no_memory { IsErrOf result DepotBad.NoMemory
+        → Rose (D.counts depot.old).refused (D.counts depot.new).refused }
+    ensures uncounted { OnOk result (D.counts depot.new ≡ D.counts depot.old) }
+    ensures reads { (D.counts depot.new).read_faults ≡ (D.counts depot.old).read_faults }
+    ensures counted { NeverFall (D.counts depot.old) (D.counts depot.new) }
+{
+    put_piece(depot, buffer, b"density ")?;
+    put_piece(depot, buffer, file.as_bytes())?;
+    make_room(depot, buffer)?;
+    put_size(buffer, mesh);
+    Ok(())
+}
+
+/// Puts the last lines of a table.
+pub(crate) fn say_totals<D: Depot>(
+    depot: &mut D,
+    buffer: &mut Buffer,
+    totals: &Totals,
+) -> Result<(), DepotBad>
+    ensures ok { OnOk result (IsTrue D.tells → IsSaidButFor (D.content depot.old)
+        (buffer.old ++ last_lines totals.now.most totals.now.triangles) buffer.new (D.content depot.new)) }
+    ensures refused { OnErr result (IsTrue D.tells → IsPartSaid (D.content depot.old)
+        (buffer.old ++ last_lines totals.now.most totals.now.triangles) (D.content depot.new)) }
+    ensures failed { IsErrOf result DepotBad.Failed
+        → Rose (D.counts depot.old).write_faults (D.counts depot.new).write_faults }
+    ensures no_memory { IsErrOf result DepotBad.NoMemory
+        → Rose (D.counts depot.old).refused (D.counts depot.new).refused }
+    ensures uncounted { OnOk result (D.counts depot.new ≡ D.counts depot.old) }
+    ensures reads { (D.counts depot.new).read_faults ≡ (D.counts depot.old).read_faults }
+    ensures counted { NeverFall (D.counts depot.old) (D.counts depot.new) }
+{
+    make_room(depot, buffer)?;
+    put_most(buffer, totals.most);
+    make_room(depot, buffer)?;
+    put_triangles(buffer, totals.triangles);
+    Ok(())
+}

@@ -1,0 +1,151 @@
+//! The density tables of a deck's outputs, said on a depot.
+ghost use Rattle.std.specs.Prelude.{◌≡◌, ◌⊎◌, ◌<◌, IsTrue, IfOk, OnOk, OnErr, IsErrOf, length};
+ghost use Rattle.depot.specs.Counts.{Rose, NeverFall};
+ghost use Rattle.density_map.specs.Windows.{IsWindowSize};
+ghost use Rattle.deck_plan.specs.Bands.{AreRowsNear};
+ghost use Rattle.density_report.specs.Saying.{IsSaid, IsCutShort};
+ghost use Rattle.density_report.specs.Rows.{HasRows, AreRowsPut, AreRowsCut, IsTablePut, IsTableCut};
+
+use crate::entries::{Totals, count_row};
+use crate::saying::{say_row, say_size, say_totals};
+use crate::strips::{Mesh, first_strip, map_of, next_strip, rows_of};
+use deck_plan::Plan;
+use depot::{Buffer, Depot, DepotBad, flush};
+use half_grid::Window;
+use std::alloc::Global;
+
+// Puts the lines of all windows of an output, row by row, and answers the totals. No tile of its area lies outside
+// these rows.
+fn say_rows<D: Depot>(
+    alloc: Global,
+    depot: &mut D,
+    buffer: &mut Buffer,
+    plan: &Plan,
+    output: usize,
+    mesh: &Mesh,
+    rows: Window,
+) -> Result<Totals, DepotBad>
+    requires output { output < length plan.now.deck.outputs }
+    requires size { IsWindowSize mesh.now.size }
+    requires near { AreRowsNear rows }
+    requires outside { HasRows plan.now output rows }
+    ensures ok { IfOk result (λ totals. AreRowsPut plan.now output mesh.now.size D.tells
+        (D.content depot.old) buffer.old totals buffer.new (D.content depot.new)) }
+    ensures refused { OnErr result (IsTrue D.tells
+        → AreRowsCut plan.now output mesh.now.size (D.content depot.old) buffer.old (D.content depot.new)) }
+    ensures failed { IsErrOf result DepotBad.Failed
+        → Rose (D.counts depot.old).write_faults (D.counts depot.new).write_faults }
+    ensures no_memory { IsErrOf result DepotBad.NoMemory
+        → Rose (D.counts depot.old).refused (D.counts depot.new).refused
+        ⊎ (D.counts depot.new ≡ D.counts depot.old) }
+    ensures uncounted { OnOk result (D.counts depot.new ≡ D.counts depot.old) }
+    ensures reads { (D.counts depot.new).read_faults ≡ (D.counts depot.old).read_faults }
+    ensures counted { NeverFall (D.counts depot.old) (D.counts depot.new) }
+{
+    let mut totals = Totals {
+        most: None,
+        triangles: 0,
+    };
+    let mut strip = first_strip(mesh, rows);
+    while rows_of(&strip).y0() < rows.y1() {
+        let map = match map_of(alloc, plan, output, &strip) {
+            Ok(map) => map,
+            Err(_wanting) => return Err(DepotBad::NoMemory),
+        };
+        let counts = map.counts();
+        count_row(&mut totals, &strip, counts);
+        say_row(depot, buffer, &strip, counts)?;
+        strip = next_strip(&strip);
+    }
+    Ok(totals)
+}
+
+// Puts the table of an output.
+fn say_table<D: Depot>(
+    alloc: Global,
+    depot: &mut D,
+    buffer: &mut Buffer,
+    plan: &Plan,
+    output: usize,
+    mesh: &Mesh,
+) -> Result<(), DepotBad>
+    requires output { output < length plan.now.deck.outputs }
+    requires size { IsWindowSize mesh.now.size }
+    ensures ok { OnOk result (IsTablePut plan.now output mesh.now.size D.tells
+        (D.content depot.old) buffer.old buffer.new (D.content depot.new)) }
+    ensures refused { OnErr result (IsTrue D.tells
+        → IsTableCut plan.now output mesh.now.size (D.content depot.old) buffer.old (D.content depot.new)) }
+    ensures failed { IsErrOf result DepotBad.Failed
+        → Rose (D.counts depot.old).write_faults (D.counts depot.new).write_faults }
+    ensures no_memory { IsErrOf result DepotBad.NoMemory
+        → Rose (D.counts depot.old).refused (D.counts depot.new).refused
+        ⊎ (D.counts depot.new ≡ D.counts depot.old) }
+    ensures uncounted { OnOk result (D.counts depot.new ≡ D.counts depot.old) }
+    ensures reads { (D.counts depot.new).read_faults ≡ (D.counts depot.old).read_faults }
+    ensures counted { NeverFall (D.counts depot.old) (D.counts depot.new) }
+{
+    let deck = plan.deck();
+    let rows = plan.rows(output);
+    let counted = &deck.outputs.as_slice()[output];
+    say_size(depot, buffer, counted.file.as_str(), mesh)?;
+    let totals = say_rows(alloc, depot, buffer, plan, output, mesh, rows)?;
+    say_totals(depot, buffer, &totals)
+}
+
+// Says the tables of all outputs, one after another.
+fn say_tables<D: Depot>(
+    alloc: Global,
+    depot: &mut D,
+    plan: &Plan,
+    mesh: &Mesh,
+) -> Result<(), DepotBad>
+    requires { IsWindowSize mesh.now.size }
+    ensures ok { OnOk result (IsSaid plan.now mesh.now.size D.tells (D.content depot.old) (D.content depot.new)) }
+    ensures refused { OnErr result (IsTrue D.tells
+        → IsCutShort plan.now mesh.now.size (D.content depot.old) (D.content depot.new)) }
+    ensures failed { IsErrOf result DepotBad.Failed
+        → Rose (D.counts depot.old).write_faults (D.counts depot.new).write_faults }
+    ensures no_memory { IsErrOf result DepotBad.NoMemory
+        → Rose (D.counts depot.old).refused (D.counts depot.new).refused
+        ⊎ (D.counts depot.new ≡ D.counts depot.old) }
+    ensures uncounted { OnOk result (D.counts depot.new ≡ D.counts depot.old) }
+    ensures reads { (D.counts depot.new).read_faults ≡ (D.counts depot.old).read_faults }
+    ensures counted { NeverFall (D.counts depot.old) (D.counts depot.new) }
+{
+    let count = plan.deck().outputs.as_slice().len();
+    let mut buffer = Buffer::new();
+    for output in 0..count {
+        say_table(alloc, depot, &mut buffer, plan, output, mesh)?;
+    }
+    flush(depot, &mut buffer)
+}
+
+/// Says the density table of each output of the deck, in its order, for windows of this size. After a refusal a prefix
+/// of what begins their text was said; want of memory may be that of an area or of a row of windows, which no depot
+/// counts.
+///
+/// For each row of windows from the first that has some of the output's rows to the last, the area is computed once, in
+/// the rows of these windows. It takes the time of these areas, and a time linear in their trapezoids and in the
+/// windows that each of them meets. The memory is that of one row of windows and its area.
+pub fn say_densities<D: Depot>(
+    alloc: Global,
+    depot: &mut D,
+    plan: &Plan,
+    size: i64,
+) -> Result<(), DepotBad>
+    requires size { IsWindowSize size }
+    ensures ok { OnOk result (IsSaid plan.now size D.tells (D.content depot.old) (D.content depot.new)) }
+    ensures refused { OnErr result (IsTrue D.tells
+        → IsCutShort plan.now size (D.content depot.old) (D.content depot.new)) }
+    ensures failed { IsErrOf result DepotBad.Failed
+        → Rose (D.counts depot.old).write_faults (D.counts depot.new).write_faults }
+    ensures no_memory { IsErrOf result DepotBad.NoMemory
+        → Rose (D.counts depot.old).refused (D.counts depot.new).refused
+        ⊎ (D.counts depot.new ≡ D.counts depot.old) }
+    ensures uncounted { OnOk result (D.counts depot.new ≡ D.counts depot.old) }
+    ensures reads { (D.counts depot.new).read_faults ≡ (D.counts depot.old).read_faults }
+    ensures counted { NeverFall (D.counts depot.old) (D.counts depot.new) }
+{
+    let mesh = Mesh { size };
+    say_tables(alloc, depot, plan, &mesh)
+}

@@ -1,0 +1,52 @@
+// What is said piece by piece, through a buffer.
+ghost use Rattle.std.specs.Prelude.{◌≡◌, IsTrue, OnOk, OnErr, IsErrOf, [], ◌++◌};
+ghost use Rattle.depot.specs.Content.{with_said, IsPartSaid};
+ghost use Rattle.depot.specs.Counts.{Rose, NeverFall};
+ghost use Rattle.depot.specs.Printing.{IsSaidButFor};
+
+use crate::buffer::Buffer;
+use crate::outside::{Depot, DepotBad};
+use crate::whole::say_whole;
+
+/// Says what the buffer has, and empties it. After a refusal a prefix of what it had was said.
+pub fn flush<D: Depot>(depot: &mut D, buffer: &mut Buffer) -> Result<(), DepotBad>
+    ensures empty { OnOk result (buffer.new ≡ []) }
+    ensures ok { OnOk result (IsTrue D.tells
+        → D.content depot.new ≡ with_said (D.content depot.old) buffer.old) }
+    ensures refused { OnErr result (IsTrue D.tells
+        → IsPartSaid (D.content depot.old) buffer.old (D.content depot.new)) }
+    ensures failed { IsErrOf result DepotBad.Failed
+        → Rose (D.counts depot.old).write_faults (D.counts depot.new).write_faults }
+    ensures no_memory { IsErrOf result DepotBad.NoMemory
+        → Rose (D.counts depot.old).refused (D.counts depot.new).refused }
+    ensures uncounted { OnOk result (D.counts depot.new ≡ D.counts depot.old) }
+    ensures reads { (D.counts depot.new).read_faults ≡ (D.counts depot.old).read_faults }
+    ensures counted { NeverFall (D.counts depot.old) (D.counts depot.new) }
+{
+    say_whole(depot, buffer.bytes())?;
+    buffer.clear();
+    Ok(())
+}
+
+/// Puts a piece of any length, where it has room; else the buffer is said, and then the piece. After a refusal a prefix
+/// of what the buffer had and the piece was said.
+pub fn put_piece<D: Depot>(depot: &mut D, buffer: &mut Buffer, bytes: &[u8]) -> Result<(), DepotBad>
+    ensures ok { OnOk result (IsTrue D.tells → IsSaidButFor
+        (D.content depot.old) (buffer.old ++ bytes.now) buffer.new (D.content depot.new)) }
+    ensures refused { OnErr result (IsTrue D.tells
+        → IsPartSaid (D.content depot.old) (buffer.old ++ bytes.now) (D.content depot.new)) }
+    ensures failed { IsErrOf result DepotBad.Failed
+        → Rose (D.counts depot.old).write_faults (D.counts depot.new).write_faults }
+    ensures no_memory { IsErrOf result DepotBad.NoMemory
+        → Rose (D.counts depot.old).refused (D.counts depot.new).refused }
+    ensures uncounted { OnOk result (D.counts depot.new ≡ D.counts depot.old) }
+    ensures reads { (D.counts depot.new).read_faults ≡ (D.counts depot.old).read_faults }
+    ensures counted { NeverFall (D.counts depot.old) (D.counts depot.new) }
+{
+    if bytes.len() <= buffer.room() {
+        buffer.put(bytes);
+        return Ok(());
+    }
+    flush(depot, buffer)?;
+    say_whole(depot, bytes)
+}

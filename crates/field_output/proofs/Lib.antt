@@ -1,0 +1,10 @@
+pub mod NumberLemmas
+pub mod ChainLemmas
+pub mod PlaceLemmas
+pub mod ChoiceLemmas
+pub mod MeetLemmas
+pub mod FileLemmas
+pub mod ListLemmas
+pub mod NextLemmas
+pub mod SpanLemmas
+pub mod ForCallers

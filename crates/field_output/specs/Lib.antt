@@ -1,0 +1,7 @@
+-- ---- what is promised
+pub mod Stripes
+-- ---- what is kept inside
+pub mod Meeting
+pub mod Chains
+pub mod Lists
+pub mod StreamLaws

@@ -1,0 +1,19 @@
+use Rattle.std.proofs.Common.{◌≡◌, ◌+ℤ◌, ◌-ℤ◌, ◌≤ℤ◌, pos, neg_ℤ}
+use Rattle.trap_join.specs.Joins.{rows_up}
+use Rattle.file_check.specs.Certificates.{area_of}
+use Rattle.file_check.specs.Fronts.{IsFrontAt}
+use Rattle.file_check.proofs.FaultLemmas.{AgreesBelow}
+use Rattle.file_check.proofs.certificates.fault_of_output.Given as goal
+
+-- below the band there is no fault
+abbrev pub invariant-loop-deck : goal.invariant-loop-deck
+invariant-loop-deck l = record {
+  front : IsFrontAt l.shots l.band.y0 l.front.meeting.items l.front.later.now;
+  agrees : AgreesBelow (area_of l.plan l.output) l.shots l.band.y0;
+  low : neg_ℤ (pos 4294967296) ≤ℤ l.band.y0;
+  high : l.band.y0 ≤ℤ pos 4294967296;
+  height : l.band.y1 ≡ l.band.y0 +ℤ l.deck.band;
+}
+
+abbrev pub decreases-loop-deck : goal.decreases-loop-deck
+decreases-loop-deck l = rows_up (l.rows.y1 -ℤ l.band.y0)

@@ -1,0 +1,61 @@
+-- The files of stripes: what was said while they were made, and that their lists are one.
+use Rattle.std.proofs.Common.{◌≡◌, ◌⊎◌, inl, inr, ℕ, suc, ℤ, pos, ◌+ℤ◌, List, [], ◌∷◌, ◌++◌, length, take, All, refl, sym, ap, subst, ◌∙◌, arith}
+use Rattle.std.proofs.lemmas.Int.{ints}
+use Rattle.half_grid.specs.Trapezoids.{Trapezoid, IsShot}
+use Rattle.geo_stream.specs.Flattened.{end_to_end}
+use Rattle.depot.specs.Content.{Content, with_left, with_file, with_said, IsPartSaid}
+use Rattle.shot_writer.specs.declared.parts.Head.{Head}
+use Rattle.field_split.specs.Fields.{IsFieldSize, AreStripeLists}
+use Rattle.field_split.proofs.ForCallers.{one_stripe_list}
+use Rattle.field_output.specs.Stripes.{AreAllStripeLists, with_stripe_files, stripe_name, stripe_text}
+use Rattle.mdp_job.specs.ShotFiles.{ShotData}
+use Rattle.mdp_job.specs.Splitting.{head_of, with_all_stripes, split_text, IsCutShort, IsUnsaid, IsHalfSplit, IsPartSplit}
+use Rattle.mdp_job.proofs.Ends.{unsaid, quiet_is, part_made_said}
+
+-- ---- what was said
+
+stripes_said : (c : Content) (base : List ℕ) (head : Head) (k : ℤ) (lists : List (List Trapezoid)) → (with_stripe_files c base head k lists).said ≡ c.said
+stripes_said c base head k [] = refl
+stripes_said c base head k (pieces ∷ lists) = stripes_said (with_file c (stripe_name base k) (stripe_text head pieces)) base head (k +ℤ pos 1) lists
+
+module _ (b m : Content) (size : ℤ) (out : List ℕ) (s : ShotData) where
+  pub cut_said : IsCutShort b m size out s → m.said ≡ b.said
+  cut_said cut =
+      let w = cut.files in
+      part_made_said (with_stripe_files b out (head_of s) cut.first w.whole) m _ _ w.files ∙ stripes_said b out (head_of s) cut.first w.whole
+
+  pub all_said : (u : IsUnsaid b m size out s) → m.said ≡ b.said ++ take u.part.0 (split_text u.first u.lists)
+  all_said u =
+      ap (λ (c : Content). c.said) u.part.2
+      ∙ ap (λ (t : List ℕ). t ++ take u.part.0 (split_text u.first u.lists)) (stripes_said b out (head_of s) u.first u.lists)
+
+-- all files were made and a part of their lines said, and then something more: but for what was said they are made
+pub all_quiet : (b m a : Content) (size : ℤ) (out : List ℕ) (s : ShotData) (x : List ℕ) (u : IsUnsaid (with_left b []) m size out s) → a ≡ with_said m x
+    → unsaid b a ≡ with_all_stripes (with_left b []) out s u.first u.lists
+all_quiet b m a size out s x u e =
+    let w = with_all_stripes (with_left b []) out s u.first u.lists in
+    ap (unsaid b) e ∙ ap (λ (c : Content). unsaid b (with_said c x)) u.part.2
+    ∙ ap (λ (t : List ℕ). record w { said = t }) (sym (stripes_said (with_left b []) out (head_of s) u.first u.lists))
+
+pub half_quiet : (b m a : Content) (size : ℤ) (out : List ℕ) (s : ShotData) (x : List ℕ) → IsHalfSplit (with_left b []) m size out s → a ≡ with_said m x
+    → IsPartSplit (with_left b []) (unsaid b a) size out s
+half_quiet b m a size out s x (inl cut) e =
+    let quiet = quiet_is b m a x (cut_said (with_left b []) m size out s cut) e in
+    inl (subst (λ (c : Content). IsCutShort (with_left b []) c size out s) (sym quiet) cut)
+half_quiet b m a size out s x (inr u) e = inr (record { first = u.first; lists = u.lists; stripes = u.stripes; content = all_quiet b m a size out s x u e })
+
+-- ---- there is one list of stripe lists
+
+module _ (size : ℤ) (fields : IsFieldSize size) (shots : List Trapezoid) (legal : All IsShot shots) where
+  lists_one : (k : ℤ) (xs ys : List (List Trapezoid)) → AreStripeLists size k shots xs → AreStripeLists size k shots ys → length xs ≡ length ys → xs ≡ ys
+  lists_one k [] [] p q e = refl
+  lists_one k [] (y ∷ ys) p q e = absurd (omega (arith, e))
+  lists_one k (x ∷ xs) [] p q e = absurd (omega (arith, e))
+  lists_one k (x ∷ xs) (y ∷ ys) p q e =
+      let here : x ≡ y = one_stripe_list size k fields shots x y legal p.0 q.0 in
+      let rest : xs ≡ ys = lists_one (k +ℤ pos 1) xs ys p.1 q.1 (omega (arith, e)) in
+      ap (λ (z : List Trapezoid). z ∷ xs) here ∙ ap (λ (zs : List (List Trapezoid)). y ∷ zs) rest
+
+  pub all_lists_one : (first last : ℤ) (xs ys : List (List Trapezoid)) → AreAllStripeLists shots size first last xs
+      → AreAllStripeLists shots size first last ys → xs ≡ ys
+  all_lists_one first last xs ys p q = lists_one first xs ys p.each q.each (omega (arith, ints, p.number, q.number))

@@ -1,0 +1,12 @@
+use Rattle.std.proofs.Common.{◌≡◌, ◌++◌}
+use Rattle.std.specs.Prelude.{codes, decimal}
+use Rattle.mdp_job.specs.Lines.{stripes_line}
+use Rattle.mdp_job.proofs.Spellings.{five_spell}
+use Rattle.mdp_job.proofs.lines.stripes_line.Goals as goal
+
+pub returns : goal.returns
+returns c =
+    let line : codes "check refused: " ++ (c.as_bytes.result.now ++ (codes
+    ": " ++ (decimal c.args.stripes ++ codes " stripes\n"))) ≡ stripes_line c.args.file.now c.args.stripes =
+    rw c.as_bytes.ensures.value (five_spell (codes "check refused: ") c.args.file.now (codes ": ") (decimal c.args.stripes) (codes " stripes\n")) in
+    line

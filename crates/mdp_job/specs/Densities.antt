@@ -1,0 +1,50 @@
+-- What the program owes for `density SIZE LAYOUT DECK`: the windows of each output with their counts, which are said and no
+-- file is made.
+use Rattle.std.specs.Prelude.{◌≡◌, ◌⊎◌, ℕ, ℤ, List, [], length, Option}
+use Rattle.depot.specs.Content.{Content, with_left, with_said}
+use Rattle.density_report.specs.Tables.{Table}
+use Rattle.density_report.specs.Texts.{tables_text}
+use Rattle.density_report.specs.Saying.{AreTables, IsBeginning, IsCutShort}
+use Rattle.job_input.specs.declared.reading.Input.{Input}
+use Rattle.mdp_job.specs.Runs.{Run, WriteRose}
+use Rattle.mdp_job.specs.Denoted.{plan_of}
+use Rattle.mdp_job.specs.Parts.{IsAnswerBy}
+use Rattle.mdp_job.specs.declared.status.Status.{Status}
+use Rattle.mdp_job.specs.declared.status.Status.TheVariants as answers
+
+-- the text is that of the table of each output's area, in the order of the deck
+pub record IsDensityText (size : ℤ) (input : Input) (text : List ℕ) : Type 0 where
+  pub tables : List Table
+  pub are : AreTables (plan_of input) size (length input.deck.outputs) tables
+  pub is : text ≡ tables_text size input.deck.outputs tables
+
+-- the text begins such a one: the tables of the first outputs, and the first lines of the next
+abbrev pub IsDensityBeginning : ℤ → Input → List ℕ → Type 0
+IsDensityBeginning size input text = IsBeginning (plan_of input) size text
+
+-- the tables were said, and nothing else has changed
+abbrev pub AreTablesSaid : Content → Content → ℤ → Input → Type 0
+AreTablesSaid before now size input = (text : List ℕ) × IsDensityText size input text × (now ≡ with_said before text)
+
+-- nothing has changed, or a prefix of such a beginning was said
+abbrev pub AreTablesCutShort : Content → Content → ℤ → Input → Type 0
+AreTablesCutShort before now size input = (now ≡ before) ⊎ IsCutShort (plan_of input) size before now
+
+-- what holds where the counting of an accepted input's windows gives the answer
+abbrev pub AreCounted : Content → Content → (write_rose : Type 0) → ℤ → Input → Status → Type 0
+AreCounted before now write_rose size input answers.Done = AreTablesSaid before now size input
+AreCounted before now write_rose size input answers.Words = ⊥
+AreCounted before now write_rose size input (answers.Deck fault) = ⊥
+AreCounted before now write_rose size input (answers.Layout fault) = ⊥
+AreCounted before now write_rose size input answers.ReadFault = ⊥
+AreCounted before now write_rose size input answers.WriteFault = write_rose × AreTablesCutShort before now size input
+AreCounted before now write_rose size input answers.NoMemory = AreTablesCutShort before now size input
+AreCounted before now write_rose size input (answers.No place fault) = ⊥
+
+-- the same, from the content before deck and layout were read
+abbrev pub IsCounted : Run → ℤ → Input → Status → Type 0
+IsCounted r size input result = AreCounted (with_left r.before []) r.after (WriteRose r) size input result
+
+-- what holds where the command with these names gives the answer, with the name that its line may need
+abbrev pub IsDensityAnswer : Run → ℤ → (layout deck : List ℕ) → Status → Option (List ℕ) → Type 0
+IsDensityAnswer r size layout deck result top = IsAnswerBy (IsCounted r size) r layout deck result top

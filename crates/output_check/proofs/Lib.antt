@@ -1,7 +1,0 @@
-mod Sorting
-mod Passing
-mod Faults
-mod Numbers
-mod Covers
-mod Judging
-pub mod ForCallers
