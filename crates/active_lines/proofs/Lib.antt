@@ -8,3 +8,4 @@ pub mod Points
 pub mod Seams
 pub mod Opens
 pub mod LeaningLemmas
+pub mod ForCallers
