@@ -16,4 +16,5 @@ pub mod Outlines
 pub mod ExtentLemmas
 pub mod PieceLemmas
 pub mod Arms
+pub mod KeptLemmas
 pub mod ReadyLemmas

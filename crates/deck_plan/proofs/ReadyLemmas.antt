@@ -1,5 +1,5 @@
 -- The areas of the definitions of an output, from the first one up.
-use Rattle.std.proofs.Common.{◌≡◌, ◌∙◌, ◌⊎◌, inl, inr, ℕ, zero, suc, ◌+◌, ◌^◌, ◌<◌, ◌≤◌, ℤ, pos, ◌+ℤ◌, ◌-ℤ◌, ◌≤ℤ◌, List, [], ◌∷◌, ◌++◌, Option, Some, None, IfSome, IsSomeAnd, All, Bool, true, false, if◌then◌else◌, map, length, set, get_or, slice_get, refl, sym, ap, subst, arith, length-append}
+use Rattle.std.proofs.Common.{Contains, ◌≡◌, ◌∙◌, ◌⊎◌, inl, inr, ℕ, zero, suc, ◌+◌, ◌^◌, ◌<◌, ◌≤◌, ℤ, pos, ◌+ℤ◌, ◌-ℤ◌, ◌≤ℤ◌, List, [], ◌∷◌, ◌++◌, Option, Some, None, IfSome, IsSomeAnd, All, Bool, true, false, if◌then◌else◌, map, length, set, get_or, slice_get, refl, sym, ap, subst, arith, length-append}
 use Rattle.std.proofs.lemmas.Int.{ints}
 use Rattle.std.proofs.lemmas.Bool.{eqb-true, false≢true}
 use Rattle.std.proofs.lemmas.List.Elements.{All-contains}
@@ -22,7 +22,7 @@ use Rattle.deck_plan.specs.Needs.{Takes, IsBand, widened}
 use Rattle.cell_tree.specs.Boxes.{IsUpTo}
 use Rattle.std.proofs.lemmas.Option.{none-some, same_Some, get_or_from_slice_get}
 use Rattle.deck_plan.specs.Halos.{NeedIs, AreHalos, window_for}
-use Rattle.deck_plan.specs.Lists.{HasArea, IsListed, list_at}
+use Rattle.deck_plan.specs.Lists.{HasArea, IsJoinedSomewhere, IsListed, list_at}
 use Rattle.deck_plan.specs.Bounds.{IsTileUpTo, HasCornersUpTo}
 use Rattle.deck_plan.specs.Ready.{IsReady, IsPast, IsHeld, AreHeld, ends_at, let_go}
 use Rattle.deck_plan.proofs.AreaLists.{covers_exactly}
@@ -61,6 +61,33 @@ pub let_go_length : (needs : List (Option Need)) (user : ℕ) (operand : Option 
 let_go_length needs user None lists = refl
 let_go_length needs user (Some operand) lists = by_test_length lists operand.name (ends_at (get_or needs operand.name None) user)
 
+below_or : (a n : ℕ) → (a < n) ⊎ (n ≤ a)
+below_or zero zero = inr (omega arith)
+below_or zero (suc n) = inl (omega arith)
+below_or (suc a) zero = inr (omega arith)
+below_or (suc a) (suc n) = elim (below_or a n) [ inl h ↦ inl (omega (arith, h)) | inr h ↦ inr (omega (arith, h)) ]
+
+past : (lists : List (List Trapezoid)) (a : ℕ) → length lists ≤ a → list_at lists a ≡ []
+past [] a h = refl
+past (list ∷ lists) zero h = absurd (omega (arith, h))
+past (list ∷ lists) (suc a) h = past lists a (omega (arith, h))
+
+none_among : {X : Type 0} (x : X) → Contains [] x → ⊥
+none_among x (k, inside, is) = omega (arith, inside)
+
+joined_empty : (traps : List Trapezoid) → traps ≡ [] → IsJoinedSomewhere traps
+joined_empty traps e = subst IsJoinedSomewhere (sym e) (
+  row_range (pos 0) (pos 0),
+  record {
+    legal = λ k d inside. absurd (omega (arith, inside));
+    in_window = λ k d inside. absurd (omega (arith, inside));
+    apart = λ t. omega arith;
+    ends_free = λ z t among. absurd (none_among z among);
+    not_stacked = λ y z among. absurd (none_among y among);
+    in_order = tt;
+  },
+)
+
 module _ (cells : List Cell) (top : ℕ) (deck : Deck) (band : RowRange) (needs : List (Option Need)) where
   abbrev Ready : ℕ → List Trapezoid → Type 0
   Ready n traps = IsReady cells top deck band needs n traps
@@ -70,6 +97,20 @@ module _ (cells : List Cell) (top : ℕ) (deck : Deck) (band : RowRange) (needs 
 
   abbrev All_held : ℕ → List (List Trapezoid) → Type 0
   All_held from lists = AreHeld cells top deck band needs from lists
+
+  joined_by_need : (n : ℕ) (traps : List Trapezoid) → Ready n traps → (found : Option Need) → get_or needs n None ≡ found → IsJoinedSomewhere traps
+  joined_by_need n traps r None e = joined_empty traps (r.others e)
+  joined_by_need n traps r (Some need) e = (widened need.halo band, (r.needed need (filled needs n need e)).joined)
+
+  held_joined : (from n : ℕ) (traps : List Trapezoid) → Held from n traps → IsJoinedSomewhere traps
+  held_joined from n traps h = elim h [ inl r ↦ joined_by_need n traps r (get_or needs n None) refl | inr gone ↦ joined_empty traps gone.0 ]
+
+  -- each list so far is joined
+  pub lists_joined : (from : ℕ) (lists : List (List Trapezoid)) → All_held from lists → (a : ℕ) → IsJoinedSomewhere (list_at lists a)
+  lists_joined from lists held a = elim (below_or a (length lists)) [
+    | inl early ↦ held_joined from a (list_at lists a) (held a early)
+    | inr late ↦ joined_empty (list_at lists a) (past lists a late)
+  ]
 
   module _ (sound : (k : ℕ) (step : Step) → slice_get deck.steps k ≡ Some step → IsSoundStep deck.frame k step) where
     module _ (name : ℕ) (halos : AreHalos deck name 0 needs) (lists : List (List Trapezoid)) (n : ℕ) (held : (m : ℕ) → m < n → Held n m (list_at lists m)) where
@@ -115,17 +156,6 @@ module _ (cells : List Cell) (top : ℕ) (deck : Deck) (band : RowRange) (needs 
 
       held_near : (from n : ℕ) (traps : List Trapezoid) → n < 256 → Held from n traps → All IsLegal traps × All (HasCornersUpTo (2 ^ 42)) traps
       held_near from n traps few h = elim h [ inl r ↦ ready_near n traps few r | inr gone ↦ (empty_all IsLegal traps gone.0, empty_all (HasCornersUpTo (2 ^ 42)) traps gone.0) ]
-
-      below_or : (a n : ℕ) → (a < n) ⊎ (n ≤ a)
-      below_or zero zero = inr (omega arith)
-      below_or zero (suc n) = inl (omega arith)
-      below_or (suc a) zero = inr (omega arith)
-      below_or (suc a) (suc n) = elim (below_or a n) [ inl h ↦ inl (omega (arith, h)) | inr h ↦ inr (omega (arith, h)) ]
-
-      past : (lists : List (List Trapezoid)) (a : ℕ) → length lists ≤ a → list_at lists a ≡ []
-      past [] a h = refl
-      past (list ∷ lists) zero h = absurd (omega (arith, h))
-      past (list ∷ lists) (suc a) h = past lists a (omega (arith, h))
 
       -- all lists so far
       pub lists_near : (from : ℕ) (lists : List (List Trapezoid)) → length lists ≤ 256 → All_held from lists → (a : ℕ) → All IsLegal (list_at lists a) × All (HasCornersUpTo (2 ^ 42)) (list_at lists a)

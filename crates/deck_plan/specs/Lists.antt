@@ -15,6 +15,10 @@ pub record HasArea (window : RowRange) (area : Tile → Type 0) (traps : List Tr
   pub inside : (t : Tile) → IsInSome traps t → IsInRows window t × area t
   pub all : (t : Tile) → IsInRows window t → area t → IsInSome traps t
 
+-- the joined list of what it has, in some window
+abbrev pub IsJoinedSomewhere : List Trapezoid → Type 0
+IsJoinedSomewhere traps = (window : RowRange) × IsJoined window traps
+
 -- the list of a number
 abbrev pub list_at : List (List Trapezoid) → ℕ → List Trapezoid
 list_at lists n = get_or lists n []

@@ -7,6 +7,7 @@
 mod bands;
 mod cutting;
 mod extents;
+mod kept;
 mod layers;
 mod lists;
 mod needs;

@@ -5,7 +5,7 @@ ghost use Rattle.half_grid.specs.declared.plane.Tile.{Tile};
 ghost use Rattle.deck_text.specs.Sound.{IsSound, IsSoundStep};
 ghost use Rattle.cell_tree.specs.Boxes.{IsUpTo};
 ghost use Rattle.deck_plan.specs.Bounds.{HasCornersUpTo, IsTileUpTo};
-ghost use Rattle.deck_plan.specs.Lists.{HasArea, IsListed, list_at};
+ghost use Rattle.deck_plan.specs.Lists.{HasArea, IsJoinedSomewhere, IsListed, list_at};
 ghost use Rattle.bool_ops.specs.Operations.{IsInRows, IsJoinedOf};
 ghost use Rattle.deck_plan.specs.Areas.{IsInOutput, IsInBand, IsInStep};
 ghost use Rattle.deck_plan.specs.Needs.{IsBand, IsAskedBand, IsNeeded};
@@ -138,6 +138,7 @@ impl<'t> Plan<'t> {
     ) -> Result<Vec<Trap>, NoMemory>
         requires sound { IsSoundStep self.now.deck.frame (length areas.now) step.now }
         requires legal { (a : ℕ) → All IsLegal (list_at (map (λ list. list.items) areas.now) a) }
+        requires joined { (a : ℕ) → IsJoinedSomewhere (list_at (map (λ list. list.items) areas.now) a) }
         requires near { (a : ℕ) → All (HasCornersUpTo (2 ^ 42)) (list_at (map (λ list. list.items) areas.now) a) }
         requires low { IsUpTo (2 ^ 50) window.y0 }
         requires high { IsUpTo (2 ^ 50) window.y1 }

@@ -7,16 +7,18 @@ ghost use Rattle.square_size.specs.EdgeLaws.{IsInSome};
 ghost use Rattle.tone_mirror.specs.Frames.{IsFrame, IsInFrame};
 ghost use Rattle.tone_mirror.specs.Mirrors.{mirrored_tile};
 ghost use Rattle.deck_text.specs.Sound.{IsNear};
-ghost use Rattle.deck_plan.specs.Lists.{HasArea, OfBoth};
+ghost use Rattle.deck_plan.specs.Lists.{HasArea, IsJoinedSomewhere, OfBoth};
 ghost use Rattle.deck_plan.specs.Bounds.{HasCornersUpTo};
 
+use crate::kept::{kept, lie_in};
 use bool_ops::{Op, combine};
 use geo_stream::{FromSlice, NoMemory, gather};
 use half_grid::{Frame, Trap, Window};
 use std::alloc::Global;
 use tone_mirror::{Mirrored, frame_trap};
 
-/// The joined list, in the window, of the tiles that the operation takes of two lists.
+/// The joined list, in the window, of the tiles that the operation takes of two joined lists. No sweep is needed where it
+/// is one of the two.
 pub(crate) fn combined_area(
     alloc: Global,
     op: Op,
@@ -24,8 +26,17 @@ pub(crate) fn combined_area(
     b: &[Trap],
     window: Window,
 ) -> Result<Vec<Trap>, NoMemory>
+    requires first { IsJoinedSomewhere a.now }
+    requires second { IsJoinedSomewhere b.now }
     ensures { IfOk result (λ combined. HasArea window (λ t. OfBoth op (IsInSome a.now t) (IsInSome b.now t)) combined.items) }
 {
+    if let Some(list) = kept(op, a, b)
+        && lie_in(list, window)
+    {
+        let mut copy = Vec::new(alloc);
+        copy.extend_from_slice(list)?;
+        return Ok(copy);
+    }
     combine(alloc, op, a, b, window)
 }
 

@@ -11,7 +11,7 @@ use Rattle.deck_plan.specs.Needs.{widened}
 use Rattle.deck_plan.specs.Ready.{IsReady}
 use Rattle.deck_plan.proofs.Slots.{filled}
 use Rattle.deck_plan.proofs.PlanLemmas.{halo_bounds}
-use Rattle.deck_plan.proofs.ReadyLemmas.{lists_near, next_area, ready_some, ready_none, window_near, window_of, map_same}
+use Rattle.deck_plan.proofs.ReadyLemmas.{lists_near, lists_joined, next_area, ready_some, ready_none, window_near, window_of, map_same}
 use Rattle.deck_plan.proofs.plans.Plan.needed_area.Goals as goal
 
 pub window-window-requires-clause-halo : goal.window-window-requires-clause-halo
@@ -28,6 +28,12 @@ step_area-requires-clause-legal c = λ a.
     let lists = map (λ list. list.items) c.args.areas.now in
     let long = map_same (λ list. list.items) c.args.areas.now in
     (lists_near plan.cells plan.top plan.deck c.args.band c.args.needs.now.by_name s.steps c.layers_are_near.ensures s.frame (length c.args.areas.now) lists (omega (arith, long, n.1, n.2, s.few_steps)) c.requires.held a).0
+
+pub step_area-requires-clause-joined : goal.step_area-requires-clause-joined
+step_area-requires-clause-joined c = λ a.
+    let plan = c.args.self.now in
+    let lists = map (λ list. list.items) c.args.areas.now in
+    lists_joined plan.cells plan.top plan.deck c.args.band c.args.needs.now.by_name (length c.args.areas.now) lists c.requires.held a
 
 pub step_area-requires-clause-near : goal.step_area-requires-clause-near
 step_area-requires-clause-near c = λ a.

@@ -15,7 +15,7 @@ use Rattle.deck_text.specs.declared.deck.Step.{Step}
 use Rattle.deck_text.specs.declared.deck.Step.TheVariants.{Layer, Or, And, Sub, Xor, Grow, Shrink, Invert, Mirror}
 use Rattle.deck_plan.specs.Areas.{IsInStep}
 use Rattle.deck_plan.specs.Plans.{Planned}
-use Rattle.deck_plan.specs.Lists.{HasArea, list_at, IsListed}
+use Rattle.deck_plan.specs.Lists.{HasArea, IsJoinedSomewhere, list_at, IsListed}
 use Rattle.deck_plan.specs.Bounds.{HasCornersUpTo}
 use Rattle.deck_plan.proofs.Arms.{of_two, of_one, of_step, of_frame, some_frame, corners_wider}
 use Rattle.deck_plan.proofs.plans.Plan.step_area.Goals as goal
@@ -23,6 +23,30 @@ use Rattle.deck_plan.proofs.plans.Plan.step_area.Goals as goal
 pub grown_area-requires-clause-near : goal.grown_area-requires-clause-near
 grown_area-requires-clause-near c =
     corners_wider c.list-in-Grow.result.now (subst (All (HasCornersUpTo (2 ^ 42))) (sym c.list-in-Grow.ensures) (c.requires.near c.in-Grow.a))
+
+pub combined_area-requires-clause-first : goal.combined_area-requires-clause-first
+combined_area-requires-clause-first c = subst IsJoinedSomewhere (sym c.list.ensures) (c.requires.joined c.in-Or.a)
+
+pub combined_area-requires-clause-second : goal.combined_area-requires-clause-second
+combined_area-requires-clause-second c = subst IsJoinedSomewhere (sym c.list-in-Or.ensures) (c.requires.joined c.in-Or.b)
+
+pub combined_area-requires-in-And-clause-first : goal.combined_area-requires-in-And-clause-first
+combined_area-requires-in-And-clause-first c = subst IsJoinedSomewhere (sym c.list-in-And.ensures) (c.requires.joined c.in-And.a)
+
+pub combined_area-requires-in-And-clause-second : goal.combined_area-requires-in-And-clause-second
+combined_area-requires-in-And-clause-second c = subst IsJoinedSomewhere (sym c.list-in-And-2.ensures) (c.requires.joined c.in-And.b)
+
+pub combined_area-requires-in-Sub-clause-first : goal.combined_area-requires-in-Sub-clause-first
+combined_area-requires-in-Sub-clause-first c = subst IsJoinedSomewhere (sym c.list-in-Sub.ensures) (c.requires.joined c.in-Sub.a)
+
+pub combined_area-requires-in-Sub-clause-second : goal.combined_area-requires-in-Sub-clause-second
+combined_area-requires-in-Sub-clause-second c = subst IsJoinedSomewhere (sym c.list-in-Sub-2.ensures) (c.requires.joined c.in-Sub.b)
+
+pub combined_area-requires-in-Xor-clause-first : goal.combined_area-requires-in-Xor-clause-first
+combined_area-requires-in-Xor-clause-first c = subst IsJoinedSomewhere (sym c.list-in-Xor.ensures) (c.requires.joined c.in-Xor.a)
+
+pub combined_area-requires-in-Xor-clause-second : goal.combined_area-requires-in-Xor-clause-second
+combined_area-requires-in-Xor-clause-second c = subst IsJoinedSomewhere (sym c.list-in-Xor-2.ensures) (c.requires.joined c.in-Xor.b)
 
 pub inverted_area-requires : goal.inverted_area-requires
 inverted_area-requires c =
