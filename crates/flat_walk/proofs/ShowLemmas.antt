@@ -1,10 +1,10 @@
 -- What a placed cell shows at one of its places, and when it shows nothing in a window.
-use Rattle.std.proofs.Common.{◌≡◌, ℕ, ℤ, zero, suc, pos, neg_ℤ, ◌+◌, ◌-◌, ◌*◌, ◌^◌, ◌<◌, ◌≤◌, ◌+ℤ◌, ◌*ℤ◌, ◌≤ℤ◌, ◌<ℤ◌, Bool, true, false, List, [], ◌∷◌, ◌++◌, Option, Some, None, All, IfSome, map, drop, length, slice_get, get_or, int_lt, refl, sym, ap, subst, ◌∙◌, arith, append_assoc}
+use Rattle.std.proofs.Common.{◌≡◌, ℕ, ℤ, zero, suc, pos, neg_ℤ, ◌+◌, ◌-◌, ◌<◌, ◌≤◌, ◌+ℤ◌, ◌*ℤ◌, ◌≤ℤ◌, Bool, true, false, List, [], ◌∷◌, ◌++◌, Option, Some, None, IfSome, map, drop, length, slice_get, get_or, int_lt, refl, sym, ap, subst, ◌∙◌, arith}
 use Rattle.std.specs.Int.{int_min, int_max}
 use Rattle.std.specs.List.{filter, flat_map, AllByRecursion}
 use Rattle.std.proofs.lemmas.Int.{ints, clamps}
 use Rattle.std.proofs.lemmas.List.{map-append}
-use Rattle.std.proofs.lemmas.List.Elements.{filter-append, recursion_from_All}
+use Rattle.std.proofs.lemmas.List.Elements.{recursion_from_All}
 use Rattle.std.proofs.lemmas.Option.{slice_get-get_or}
 use Rattle.half_grid.specs.Quads.{Corners}
 use Rattle.half_grid.specs.Windows.{RowRange}
@@ -106,7 +106,7 @@ marks_placed placement (by ∷ offsets) items all =
     marks_both (map (marked_image placement.orient (moved by placement.at)) items) (flat_map (λ by. map (marked_image placement.orient (moved by placement.at)) items) offsets)
     (marks_image placement.orient (moved by placement.at) items all) (marks_placed placement offsets items all)
 
-marks_hidden : (w : RowRange) (items : List (Option Corners)) → AreMarks items → filter (shows_in w) items ≡ []
+pub marks_hidden : (w : RowRange) (items : List (Option Corners)) → AreMarks items → filter (shows_in w) items ≡ []
 marks_hidden w [] all = refl
 marks_hidden w (item ∷ items) all = rw all.0 (marks_hidden w items all.1)
 

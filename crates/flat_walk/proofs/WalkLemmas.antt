@@ -1,16 +1,20 @@
 -- The cells on the way as a list, and the cell that is entered.
-use Rattle.std.proofs.Common.{◌≡◌, ℕ, zero, suc, ◌+◌, ◌<◌, ◌≤◌, Bool, true, false, List, [], ◌∷◌, ◌++◌, Option, Some, None, All, IfSome, map, drop, length, refl, sym, ap, subst, ◌∙◌, arith, append_assoc, append-nil, length-append}
+use Rattle.std.proofs.Common.{◌≡◌, ℕ, ℤ, pos, ◌+ℤ◌, int_lt, suc, ◌+◌, ◌<◌, ◌≤◌, Bool, true, false, List, [], ◌∷◌, ◌++◌, Option, Some, None, All, map, length, refl, sym, ap, subst, ◌∙◌, arith, append_assoc, append-nil, length-append}
 use Rattle.std.proofs.lemmas.Int.{ints}
+use Rattle.std.specs.Int.{int_min, int_max}
 use Rattle.layout_model.specs.Images.{IsOrient}
-use Rattle.std.specs.List.{filter, flat_map}
+use Rattle.std.specs.List.{filter}
 use Rattle.std.proofs.lemmas.List.{map-append}
 use Rattle.half_grid.specs.Quads.{Corners}
-use Rattle.half_grid.specs.Windows.{RowRange}
 use Rattle.half_grid.specs.declared.plane.Point.{Point}
+use Rattle.half_grid.specs.declared.extent.Frame.{Frame}
+use Rattle.layout_model.specs.Hulls.{IsInBox}
 use Rattle.layout_model.specs.declared.orient.Orient.{Orient}
-use Rattle.cell_tree.specs.Cells.{shapes_at, placements_at}
+use Rattle.cell_tree.specs.Cells.{shapes_at}
+use Rattle.cell_tree.specs.Boxes.{IsLeastBox}
 use Rattle.cell_tree.specs.Chains.{IsReachable}
-use Rattle.cell_tree.proofs.ForCallers.{short_below, things_are, below}
+use Rattle.cell_tree.specs.Flattening.{IsVertex}
+use Rattle.cell_tree.proofs.ForCallers.{short_below, things_are, below, top_reachable}
 use Rattle.std.proofs.lemmas.List.Elements.{All-tail}
 use Rattle.std.proofs.lemmas.Option.{same_Some}
 use Rattle.flat_walk.specs.Quads.{quad_image, has_row_in}
@@ -19,12 +23,13 @@ use Rattle.flat_walk.specs.Streams.{rest_of, StandsForWalk, walk_size}
 use Rattle.flat_walk.specs.declared.owned.Own.{Own}
 use Rattle.flat_walk.specs.Tables.{lists_at}
 use Rattle.flat_walk.specs.Walks.{own_pieces, pieces_in}
-use Rattle.flat_walk.specs.Rests.{Skips, IsMarkedQuad, shows_in, marked_image, marked_own, marked, placed_rest, shapes_rest}
-use Rattle.flat_walk.specs.Ways.{IsScene, cells_of, marked_of, run_rest, placements_rest, level_rest, levels_rest, IsLevel, AreLevels, IsSamePlace, IsInner}
+use Rattle.flat_walk.specs.Rests.{Skips, IsMarkedQuad, shows_in, marked_image, marked_own, marked, placed_rest}
+use Rattle.flat_walk.specs.Ways.{IsScene, cells_of, marked_of, placements_rest, level_rest, levels_rest, IsLevel, AreLevels, IsInner, IsBetweenRows}
 use Rattle.flat_walk.specs.declared.scenes.Scene.{Scene}
 use Rattle.flat_walk.specs.declared.levels.Level.{Level}
-use Rattle.flat_walk.proofs.RestLemmas.{skip_on, skip_same, skip_one, skip_left, skip_over, skip_shows, skip_quads, shapes_from_first}
-use Rattle.flat_walk.proofs.WayLemmas.{level_reached}
+use Rattle.flat_walk.proofs.RestLemmas.{skip_on, skip_one, skip_left, skip_over, skip_shows, skip_quads, shapes_from_first}
+use Rattle.flat_walk.proofs.WayLemmas.{level_reached, hull_rows, no_hull}
+use Rattle.flat_walk.proofs.ShowLemmas.{hidden_at, meet_off, marks_hidden}
 use Rattle.flat_walk.proofs.ListLemmas.{still, zero_point, still_list, top_shows, top_quads, list_few}
 
 -- ---- the innermost cell comes first
@@ -194,3 +199,30 @@ walk_begins scene level own room sc o cell orient at depth none first own_is mos
       few = list_few scene sc;
       shows = sym (ap (filter (shows_in scene.window)) whole) ∙ top_shows (cells_of scene) scene.tree.now.top scene.parts.now scene.pair scene.window;
     }
+
+-- the hull of the top cell has no rows in the window
+pub top_hidden : (scene : Scene) (box : Frame) (low high ly hy : ℤ) (met : Bool) → IsScene scene → IsLeastBox (IsVertex (cells_of scene) scene.tree.now.top scene.pair) box
+    → ((p : Point) → IsInBox box p → IsBetweenRows still low high p) → ly ≡ low +ℤ pos 0 → hy ≡ high +ℤ pos 0 → met ≡ int_lt (int_max scene.window.y0 ly) (int_min scene.window.y1 hy) → met ≡ false
+    → filter (shows_in scene.window) (marked_of scene scene.tree.now.top) ≡ []
+top_hidden scene box low high ly hy met sc least each el eh is off =
+    ap (filter (shows_in scene.window)) (sym (still_list (marked_of scene scene.tree.now.top)))
+    ∙ hidden_at scene.window still zero_point low high (marked_of scene scene.tree.now.top)
+    (hull_rows scene scene.tree.now.top box still low high sc (top_reachable (cells_of scene) scene.tree.now.top) least each)
+    (meet_off scene.window low high ly hy (pos 0) met el eh is off)
+
+-- the top cell has nothing on the pair
+pub top_bare : (scene : Scene) → IsScene scene → ((p : Point) → IsVertex (cells_of scene) scene.tree.now.top scene.pair p → ⊥) → filter (shows_in scene.window) (marked_of scene scene.tree.now.top) ≡ []
+top_bare scene sc none = marks_hidden scene.window (marked_of scene scene.tree.now.top) (no_hull scene scene.tree.now.top sc (top_reachable (cells_of scene) scene.tree.now.top) none)
+
+-- a walk over nothing
+pub walk_none : (scene : Scene) (own : Own) (levels : List Level) (room : ℕ) → IsScene scene → IsOwn own → own_rest scene.pair own ≡ [] → levels ≡ [] → 64 ≤ room
+    → filter (shows_in scene.window) (marked_of scene scene.tree.now.top) ≡ [] → StandsForWalk scene own levels room (pieces_in (cells_of scene) scene.tree.now.top scene.parts.now scene.pair scene.window)
+walk_none scene own levels room sc o none empty most hidden = record {
+  is_scene = sc;
+  is_own = o;
+  are_levels = rw empty tt;
+  has_room = most;
+  are_quads = rw (none, empty) (λ k d inside. absurd (omega arith));
+  few = list_few scene sc;
+  shows = rw (none, empty) (sym hidden ∙ top_shows (cells_of scene) scene.tree.now.top scene.parts.now scene.pair scene.window);
+}

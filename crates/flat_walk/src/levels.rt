@@ -41,8 +41,8 @@ pub(crate) struct Level<'t> {
     next: usize,
 }
 
-// The rows moved.
-fn raised(rows: Rows, at: Point) -> Rows
+/// The rows moved.
+pub(crate) fn raised(rows: Rows, at: Point) -> Rows
     requires rows { IsWithin (2 ^ 58) (record { x = rows.low; y = rows.high }) }
     requires at { IsWithin (2 ^ 58) at }
     ensures low { result.low ≡ rows.low +ℤ at.y }
@@ -135,8 +135,8 @@ fn high_corner(hull: &Frame) -> Point
     }
 }
 
-// The rows of a box that is turned so.
-fn rows_of(orient: Orient, hull: Frame) -> Rows
+/// The rows of a box that is turned so.
+pub(crate) fn rows_of(orient: Orient, hull: Frame) -> Rows
     requires orient { IsOrient orient }
     requires low { IsWithin (2 ^ 53) (low_corner hull) }
     requires high { IsWithin (2 ^ 53) (high_corner hull) }

@@ -1,5 +1,6 @@
 //! The walk over the placed pieces.
-ghost use Rattle.std.specs.Prelude.{◌≡◌, ◌^◌, ◌≤◌, ◌<◌, [], ◌∷◌, ◌++◌, None, Some, map, length, IfOk, IfSome, All, MatchOption, List};
+ghost use Rattle.std.specs.Prelude.{◌≡◌, ◌^◌, ◌≤◌, ◌<◌, [], ◌∷◌, ◌++◌, None, Some, map, length, IfOk, IfSome, All, MatchOption, List, false};
+ghost use Rattle.std.specs.List.{filter};
 ghost use Rattle.std.specs.Vec.{vec_capacity};
 ghost use Rattle.half_grid.specs.Outlines.{HasGridEdges};
 ghost use Rattle.half_grid.specs.Quads.{IsQuad, Corners, ring_of};
@@ -7,13 +8,14 @@ ghost use Rattle.layout_model.specs.declared.pair.Pair.{Pair as APair};
 ghost use Rattle.cell_tree.specs.Cells.{shapes_at};
 ghost use Rattle.flat_walk.specs.Tables.{AreCut, lists_at};
 ghost use Rattle.flat_walk.specs.Walks.{pieces_in, CoversLayer};
-ghost use Rattle.flat_walk.specs.Rests.{Skips, placed_rest};
+ghost use Rattle.flat_walk.specs.Rests.{Skips, shows_in, placed_rest};
 ghost use Rattle.flat_walk.specs.Hands.{own_rest, IsOwn};
-ghost use Rattle.flat_walk.specs.Ways.{IsScene, cells_of, levels_rest, IsLevel, AreLevels};
+ghost use Rattle.flat_walk.specs.Ways.{IsScene, cells_of, marked_of, levels_rest, IsLevel, AreLevels};
 ghost use Rattle.flat_walk.specs.Streams.{StandsForWalk, walk_size, Walk-one_list, Walk-no_longer, Walk-bounded};
 
-use crate::levels::Level;
+use crate::levels::{Level, raised, rows_of};
 use crate::owned::Own;
+use crate::rows::meet;
 use crate::scenes::Scene;
 use crate::tables::Parts;
 use cell_tree::Tree;
@@ -38,8 +40,22 @@ const UPRIGHT: Orient = Orient {
     mag: 1,
 };
 
+const ORIGIN: Point = Point { x: 0, y: 0 };
+
 // A chain of placements has at most so many cells.
 const DEPTH: usize = 64;
+
+// Whether the top cell may have rows in the window: its hull has some there.
+fn top_meets(scene: &Scene) -> bool
+    requires { IsScene scene.now }
+    ensures { result ≡ false → filter (shows_in scene.now.window) (marked_of scene.now scene.now.tree.now.top) ≡ [] }
+{
+    let Some(hull) = scene.tree.hull(scene.tree.top(), scene.pair) else {
+        return false;
+    };
+    let rows = raised(rows_of(UPRIGHT, hull), ORIGIN);
+    meet(rows, scene.window)
+}
 
 // The shapes of a cell.
 fn shapes_of<'t>(scene: &Scene<'t>, cell: usize) -> &'t [Shape]
@@ -116,7 +132,11 @@ impl<'t> Walk<'t> {
             window,
         };
         let mut levels = Vec::with_capacity(alloc, DEPTH)?;
-        let level = Level::of(top, UPRIGHT, Point { x: 0, y: 0 }, 0);
+        if !top_meets(&scene) {
+            let own = Own::of(&[], &[], UPRIGHT, ORIGIN);
+            return Ok(Walk { scene, own, levels });
+        }
+        let level = Level::of(top, UPRIGHT, ORIGIN, 0);
         let own = own_of(&scene, &level);
         levels.push_reserved(level);
         Ok(Walk { scene, own, levels })

@@ -1,4 +1,4 @@
-use Rattle.std.proofs.Common.{rules, ◌∙◌, sym, ap, subst, refl, vec_capacity, ◌++◌, ◌∷◌, [], ◌≤◌}
+use Rattle.std.proofs.Common.{rules, ◌∙◌, sym, ap, subst, vec_capacity, ◌++◌, ◌∷◌, [], ◌≤◌}
 use Rattle.flat_walk.specs.Walks.{pieces_in}
 use Rattle.flat_walk.specs.Streams.{StandsForWalk}
 use Rattle.flat_walk.specs.Ways.{IsScene}
@@ -6,7 +6,7 @@ use Rattle.flat_walk.specs.declared.scenes.Scene.{Scene}
 use Rattle.flat_walk.proofs.ListLemmas.{list_quads}
 use Rattle.flat_walk.proofs.AreaLemmas.{list_area}
 use Rattle.flat_walk.proofs.GridLemmas.{list_grid}
-use Rattle.flat_walk.proofs.WalkLemmas.{top_level, walk_begins}
+use Rattle.flat_walk.proofs.WalkLemmas.{top_level, walk_begins, walk_none}
 use Rattle.flat_walk.proofs.walks.Walk.begin.Goals as goal
 
 pub own_of-own-requires-clause-level : goal.own_of-own-requires-clause-level
@@ -60,3 +60,27 @@ returns-clause-list c =
     let most = subst (λ n. 64 ≤ n) (sym c.push_reserved.ensures.capacity) c.in_ok-levels.ensures.capacity in
     subst (λ l. StandsForWalk scene c.own_of-own.result l (vec_capacity c.push_reserved.new.self) (pieces_in c.args.tree.now.layout.cells c.args.tree.now.top c.args.parts.now c.args.pair c.args.window)) (sym items)
     (walk_begins scene c.of-level.result c.own_of-own.result (vec_capacity c.push_reserved.new.self) sc c.own_of-own.ensures.own (o.cell ∙ c.top-top.ensures.value) o.orient o.at o.depth o.run o.next c.own_of-own.ensures.list most)
+
+pub returns-then-not-top_meets-clause-quads : goal.returns-then-not-top_meets-clause-quads
+returns-then-not-top_meets-clause-quads c =
+    let scene : Scene = record { tree = c.args.tree; parts = c.args.parts; pair = c.args.pair; window = c.args.window } in
+    let sc : IsScene scene = search rules in
+    list_quads scene sc
+
+pub returns-then-not-top_meets-clause-grid : goal.returns-then-not-top_meets-clause-grid
+returns-then-not-top_meets-clause-grid c =
+    let scene : Scene = record { tree = c.args.tree; parts = c.args.parts; pair = c.args.pair; window = c.args.window } in
+    let sc : IsScene scene = search rules in
+    list_grid scene sc
+
+pub returns-then-not-top_meets-clause-area : goal.returns-then-not-top_meets-clause-area
+returns-then-not-top_meets-clause-area c =
+    let scene : Scene = record { tree = c.args.tree; parts = c.args.parts; pair = c.args.pair; window = c.args.window } in
+    let sc : IsScene scene = search rules in
+    list_area scene sc
+
+pub returns-then-not-top_meets-clause-list : goal.returns-then-not-top_meets-clause-list
+returns-then-not-top_meets-clause-list c =
+    let scene : Scene = record { tree = c.args.tree; parts = c.args.parts; pair = c.args.pair; window = c.args.window } in
+    let sc : IsScene scene = search rules in
+    walk_none scene c.of-own.result c.in_ok-levels.levels.items (vec_capacity c.in_ok-levels.levels) sc c.of-own.ensures.own (c.of-own.ensures.list scene.pair) c.in_ok-levels.ensures.items c.in_ok-levels.ensures.capacity (c.top_meets.ensures c.if-not-top_meets.true)
