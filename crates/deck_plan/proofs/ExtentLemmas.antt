@@ -1,11 +1,12 @@
 -- The rows of the definitions, from the first one up.
-use Rattle.std.proofs.Common.{◌≡◌, ◌⊎◌, inl, inr, ℕ, zero, suc, ◌+◌, ◌^◌, ◌<◌, ◌≤◌, ℤ, pos, ◌≤ℤ◌, Bool, true, false, int_le, if◌then◌else◌, List, Option, Some, None, IfSome, IsSomeAnd, length, set, replicate, get_or, slice_get, refl, sym, ap, subst, ◌∙◌, arith}
-use Rattle.std.proofs.lemmas.Int.{ints, clamps}
+use Rattle.std.proofs.Common.{◌≡◌, ◌⊎◌, inl, inr, ℕ, zero, suc, ◌+◌, ◌^◌, ◌<◌, ◌≤◌, ℤ, pos, ◌≤ℤ◌, Bool, true, false, int_le, if◌then◌else◌, List, Option, Some, None, IfSome, IsSomeAnd, SomeIff, length, set, replicate, get_or, slice_get, refl, sym, ap, subst, ◌∙◌, arith}
+use Rattle.std.proofs.lemmas.Int.{ints, clamps, by_lt_z}
+use Rattle.std.specs.Int.{int_min, int_max}
 use Rattle.half_grid.specs.Nearness.{IsNear}
-use Rattle.half_grid.specs.Windows.{RowRange, row_range}
+use Rattle.half_grid.specs.Windows.{RowRange, row_range, IsWindow}
 use Rattle.half_grid.specs.declared.plane.Tile.{Tile}
 use Rattle.half_grid.specs.declared.extent.Frame.{Frame}
-use Rattle.half_grid.proofs.ForCallers.{le_yes}
+use Rattle.half_grid.proofs.ForCallers.{le_yes, le_no}
 use Rattle.tone_mirror.specs.Frames.{IsInFrame}
 use Rattle.tone_mirror.specs.Mirrors.{mirrored_tile}
 use Rattle.layout_model.specs.declared.pair.Pair.{Pair}
@@ -16,7 +17,7 @@ use Rattle.deck_text.specs.declared.deck.Step.TheVariants.{Layer, Or, And, Sub, 
 use Rattle.deck_text.specs.declared.deck.Deck.{Deck}
 use Rattle.deck_text.specs.Sound.{IsSoundStep, IsFrame}
 use Rattle.deck_plan.specs.Areas.{IsInStep, IsInArea}
-use Rattle.deck_plan.specs.Extents.{IsInRowsOf, IsRowsUpTo, rows_bound, either_rows, wider_rows, option_rows, AreRowsOf, AreExtents}
+use Rattle.deck_plan.specs.Extents.{IsInRowsOf, IsRowsUpTo, rows_bound, either_rows, shared_rows, both_rows, wider_rows, option_rows, AreRowsOf, AreExtents}
 use Rattle.deck_plan.proofs.Slots.{get_cases, get_alike, set_length, alike_length}
 use Rattle.deck_plan.proofs.Sizes.{near_itself}
 use Rattle.deck_plan.proofs.StepLemmas.{area_step}
@@ -32,6 +33,22 @@ right_in : (a b : Option RowRange) (t : Tile) → IsInRowsOf b t → IsInRowsOf 
 right_in None b t h = h
 right_in (Some a) None t h = absurd h
 right_in (Some a) (Some b) t h = record { from = omega (arith, ints, clamps, h.from); below = omega (arith, ints, clamps, h.below) }
+
+rows_if : (low high : ℤ) (rows : Option RowRange) → SomeIff rows (IsWindow (row_range low high)) (row_range low high) → rows ≡ (if int_le low high then Some (row_range low high) else None)
+rows_if low high None h = by_lt_z high low (λ less. rw (le_no low high less) refl) (λ up. absurd (h up))
+rows_if low high (Some w) h = rw (le_yes low high h.0) (ap Some h.1)
+
+pub shared_is : (a b : RowRange) (low high : ℤ) (rows : Option RowRange) → low ≡ int_max a.y0 b.y0 → high ≡ int_min a.y1 b.y1 → SomeIff rows (IsWindow (row_range low high)) (row_range low high) → rows ≡ shared_rows a b
+shared_is a b low high rows start end h = rows_if low high rows h ∙ rw (start, end) refl
+
+shared_in : (a b : RowRange) (t : Tile) → IsInRows a t → IsInRows b t → IsInRowsOf (shared_rows a b) t
+shared_in a b t h k = rw (le_yes (int_max a.y0 b.y0) (int_min a.y1 b.y1) (omega (arith, ints, clamps, h.from, h.below, k.from, k.below)))
+    (record { from = omega (arith, ints, clamps, h.from, k.from); below = omega (arith, ints, clamps, h.below, k.below) })
+
+both_in : (a b : Option RowRange) (t : Tile) → IsInRowsOf a t → IsInRowsOf b t → IsInRowsOf (both_rows a b) t
+both_in None b t h k = absurd h
+both_in (Some a) None t h k = absurd k
+both_in (Some a) (Some b) t h k = shared_in a b t h k
 
 frame_in : (frame : Option Frame) (t : Tile) → IsSomeAnd frame (λ frame. IsInFrame frame t) → IsInRowsOf (option_rows frame) t
 frame_in None t h = absurd h
@@ -80,6 +97,17 @@ near_if : (n : ℕ) (b : Bool) (window : RowRange) → IsRowsUpTo (rows_bound n)
 near_if n true window h = h
 near_if n false window h = tt
 
+near_shared : (n : ℕ) (a b : RowRange) → IsRowsUpTo (rows_bound n) a → IsRowsUpTo (rows_bound n) b → Near n (shared_rows a b)
+near_shared n a b h k = near_if n (int_le (int_max a.y0 b.y0) (int_min a.y1 b.y1)) (row_range (int_max a.y0 b.y0) (int_min a.y1 b.y1)) (record {
+  low = record { low = omega (arith, ints, clamps, h.low.low, k.low.low); high = omega (arith, ints, clamps, h.low.high, k.low.high) };
+  high = record { low = omega (arith, ints, clamps, h.high.low, k.high.low); high = omega (arith, ints, clamps, h.high.high, k.high.high) };
+})
+
+near_both : (n : ℕ) (a b : Option RowRange) → Near n a → Near n b → Near n (both_rows a b)
+near_both n None b h k = tt
+near_both n (Some a) None h k = tt
+near_both n (Some a) (Some b) h k = near_shared n a b h k
+
 near_frame : (n : ℕ) (frame : Option Frame) → IfSome frame IsFrame → Near n (option_rows frame)
 near_frame n None h = tt
 near_frame n (Some frame) h = near_if n (int_le frame.y0 frame.y1) (row_range frame.y0 frame.y1) (record {
@@ -109,7 +137,7 @@ module _ (cells : List Cell) (top : ℕ) (frame : Option Frame) (area : ℕ → 
   derived_in (Layer pair) result s r t h = (r.layer pair refl).outside t h
   derived_in (Or a b) result s r t (inl h) = rw (r.derived (no_layer (Or a b) refl)) (left_in (get_or rows a None) (get_or rows b None) t (known a s.0 t h))
   derived_in (Or a b) result s r t (inr h) = rw (r.derived (no_layer (Or a b) refl)) (right_in (get_or rows a None) (get_or rows b None) t (known b s.1 t h))
-  derived_in (And a b) result s r t h = rw (r.derived (no_layer (And a b) refl)) (known a s.0 t h.0)
+  derived_in (And a b) result s r t h = rw (r.derived (no_layer (And a b) refl)) (both_in (get_or rows a None) (get_or rows b None) t (known a s.0 t h.0) (known b s.1 t h.1))
   derived_in (Sub a b) result s r t h = rw (r.derived (no_layer (Sub a b) refl)) (known a s.0 t h.0)
   derived_in (Xor a b) result s r t (inl h) = rw (r.derived (no_layer (Xor a b) refl)) (left_in (get_or rows a None) (get_or rows b None) t (known a s.0 t h.0))
   derived_in (Xor a b) result s r t (inr h) = rw (r.derived (no_layer (Xor a b) refl)) (right_in (get_or rows a None) (get_or rows b None) t (known b s.1 t h.1))
@@ -122,7 +150,7 @@ derived_near : (cells : List Cell) (top : ℕ) (frame : Option Frame) → IfSome
     → AreRowsOf cells top frame rows step result → Near n result
 derived_near cells top frame f rows n near (Layer pair) result s r = near_layer n result (r.layer pair refl).near
 derived_near cells top frame f rows n near (Or a b) result s r = rw (r.derived (no_layer (Or a b) refl)) (near_either n (get_or rows a None) (get_or rows b None) (near_more a n _ s.0 (near a)) (near_more b n _ s.1 (near b)))
-derived_near cells top frame f rows n near (And a b) result s r = rw (r.derived (no_layer (And a b) refl)) (near_more a n _ s.0 (near a))
+derived_near cells top frame f rows n near (And a b) result s r = rw (r.derived (no_layer (And a b) refl)) (near_both n (get_or rows a None) (get_or rows b None) (near_more a n _ s.0 (near a)) (near_more b n _ s.1 (near b)))
 derived_near cells top frame f rows n near (Sub a b) result s r = rw (r.derived (no_layer (Sub a b) refl)) (near_more a n _ s.0 (near a))
 derived_near cells top frame f rows n near (Xor a b) result s r = rw (r.derived (no_layer (Xor a b) refl)) (near_either n (get_or rows a None) (get_or rows b None) (near_more a n _ s.0 (near a)) (near_more b n _ s.1 (near b)))
 derived_near cells top frame f rows n near (Grow a dx dy) result s r = rw (r.derived (no_layer (Grow a dx dy) refl)) (near_wider a n dy (get_or rows a None) s.0 s.1.dy_low s.1.dy_high (near a))

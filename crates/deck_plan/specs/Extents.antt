@@ -37,6 +37,15 @@ either_rows None b = b
 either_rows (Some a) None = Some a
 either_rows (Some a) (Some b) = Some (joined_rows a b)
 
+-- the rows that are in both
+abbrev pub shared_rows : RowRange → RowRange → Option RowRange
+shared_rows a b = if int_le (int_max a.y0 b.y0) (int_min a.y1 b.y1) then Some (row_range (int_max a.y0 b.y0) (int_min a.y1 b.y1)) else None
+
+abbrev pub both_rows : Option RowRange → Option RowRange → Option RowRange
+both_rows None b = None
+both_rows (Some a) None = None
+both_rows (Some a) (Some b) = shared_rows a b
+
 abbrev pub wider_rows : ℤ → Option RowRange → Option RowRange
 wider_rows by None = None
 wider_rows by (Some a) = Some (widened by a)
@@ -52,7 +61,7 @@ option_rows (Some frame) = frame_rows frame
 abbrev pub derived_rows : Option Frame → Step → Option RowRange → Option RowRange → Option RowRange
 derived_rows frame (Layer pair) first second = None
 derived_rows frame (Or a b) first second = either_rows first second
-derived_rows frame (And a b) first second = first
+derived_rows frame (And a b) first second = both_rows first second
 derived_rows frame (Sub a b) first second = first
 derived_rows frame (Xor a b) first second = either_rows first second
 derived_rows frame (Grow a dx dy) first second = wider_rows dy first

@@ -7,7 +7,7 @@ ghost use Rattle.half_grid.specs.declared.plane.Tile.{Tile};
 ghost use Rattle.cell_tree.specs.Flattening.{IsInLayer};
 ghost use Rattle.deck_text.specs.Sound.{IsFrame, IsSoundStep};
 ghost use Rattle.deck_text.specs.declared.deck.Step.{Step as AStep};
-ghost use Rattle.deck_plan.specs.Extents.{joined_rows, either_rows, wider_rows, frame_rows, derived_rows, rows_at, AreExtents, AreRowsOf, IsInRowsOf, IsRowsUpTo};
+ghost use Rattle.deck_plan.specs.Extents.{joined_rows, either_rows, shared_rows, both_rows, wider_rows, frame_rows, derived_rows, rows_at, AreExtents, AreRowsOf, IsInRowsOf, IsRowsUpTo};
 
 use crate::needs::{Taken, operands_of, step_at};
 use crate::windows::widened;
@@ -34,6 +34,35 @@ pub(crate) fn either_rows(a: Option<Window>, b: Option<Window>) -> Option<Window
         (None, _) => b,
         (Some(_), None) => a,
         (Some(first), Some(second)) => Some(joined_rows(first, second)),
+    }
+}
+
+fn later_start(a: Window, b: Window) -> i64
+    ensures { result ≡ int_max a.y0 b.y0 }
+{
+    a.y0().max(b.y0())
+}
+
+fn earlier_end(a: Window, b: Window) -> i64
+    ensures { result ≡ int_min a.y1 b.y1 }
+{
+    a.y1().min(b.y1())
+}
+
+// The rows that are in both windows, which may be none.
+fn shared_rows(a: Window, b: Window) -> Option<Window>
+    ensures { result ≡ shared_rows a b }
+{
+    Window::new(later_start(a, b), earlier_end(a, b))
+}
+
+/// The rows of what two areas share, where they have some.
+pub(crate) fn both_rows(a: Option<Window>, b: Option<Window>) -> Option<Window>
+    ensures { result ≡ both_rows a b }
+{
+    match (a, b) {
+        (Some(first), Some(second)) => shared_rows(first, second),
+        _ => None,
     }
 }
 
@@ -89,7 +118,7 @@ fn derived_rows(
     match step {
         Step::Layer(_) => None,
         Step::Or(_, _) => either_rows(first, second),
-        Step::And(_, _) => first,
+        Step::And(_, _) => both_rows(first, second),
         Step::Sub(_, _) => first,
         Step::Xor(_, _) => either_rows(first, second),
         Step::Grow(_, _, dy) => wider_rows(first, *dy),
