@@ -1,6 +1,6 @@
 -- The lines before and after a place, where one chunk has changed.
 use Rattle.std.proofs.Common.{ℕ, ◌≡◌, ◌+◌, ◌-◌, ◌<◌, ◌≤◌, zero, suc, List, [], ◌∷◌, ◌++◌, All, length, take, drop, get_or, set, arith, ap, subst, sym, refl, ◌∙◌, add-one, append_assoc, length-append}
-use Rattle.std.proofs.lemmas.List.{drop_more, length-take-le, take_all, take-set, drop-set-lt, get_or-set_same, length-set, take_at, drop_at, get_or_at, drop-drop}
+use Rattle.std.proofs.lemmas.List.{drop_more, length-take-le, take_all, take-take, take-append-le, take-set, drop-set-lt, get_or-set_same, length-set, take_at, drop_at, get_or_at, drop-drop}
 use Rattle.std.proofs.lemmas.List.Edits.{insert_end, length-insert}
 use Rattle.std.proofs.lemmas.List.Elements.{All-append, All-cons, All-take, All-drop, All-set}
 use Rattle.std.specs.List.{insert, remove, HoldsAt}
@@ -111,6 +111,11 @@ module _ (chunks : List (List ActiveLine)) (c : ℕ) (h : c < length chunks) whe
         ∙ (ap (λ (rest : List (List ActiveLine)). drop 1 rest)
         (drop_at (take (c + 1) (set chunks c lower)) (upper ∷ drop (c + 1) (set chunks c lower)) (c + 1) few)
         ∙ drop-set-lt (c + 1) chunks c lower (omega arith))
+
+    pub split_front : take c (insert (set chunks c lower) (c + 1) upper) ≡ take c chunks
+    split_front =
+        take-append-le c (take (c + 1) (set chunks c lower)) (upper ∷ drop (c + 1) (set chunks c lower)) (omega (arith, few))
+        ∙ (take-take c (c + 1) (set chunks c lower) (omega arith) ∙ take-set chunks c lower)
 
     take_both : (k : ℕ) → length lower ≤ k → take k (lower ++ upper) ≡ lower ++ take (k - length lower) upper
     take_both k le = both lower k le

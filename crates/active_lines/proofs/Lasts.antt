@@ -4,7 +4,7 @@ use Rattle.std.proofs.lemmas.Bool.{cases_lt}
 use Rattle.std.proofs.lemmas.List.{length-take-le, get_or-take, append-nil, drop_more}
 use Rattle.std.specs.List.{HoldsAt}
 use Rattle.active_lines.specs.declared.item.ActiveLine.{ActiveLine}
-use Rattle.active_lines.specs.ActiveLists.{first_of, last_of}
+use Rattle.active_lines.specs.ActiveLists.{first_of, last_of, BeginsOn}
 use Rattle.active_lines.specs.Chunked.{HasLine, IsPlace, chunk_at, lines_of, lines_before, lines_after}
 use Rattle.active_lines.proofs.Chunks.{last_is}
 use Rattle.active_lines.proofs.Places.{lines_up_to, chunk_read}
@@ -31,6 +31,11 @@ last_drop lines zero h = refl
 last_drop [] (suc k) h = refl
 last_drop (l ∷ []) (suc k) h = absurd (omega (arith, h))
 last_drop (l ∷ m ∷ lines) (suc k) h = last_drop (m ∷ lines) k (omega (arith, h))
+
+-- a list begins on the line of its first one
+pub begins_on : (lines : List ActiveLine) (l : ActiveLine) → first_of lines ≡ Some l → BeginsOn l.line lines
+begins_on [] l e = absurd (cc)
+begins_on (k ∷ lines) l e = let same : k ≡ l = cc in ap (λ (m : ActiveLine). m.line) same
 
 -- what is before the last line
 pub front_of : List ActiveLine → List ActiveLine

@@ -6,6 +6,7 @@ pub mod Edited
 pub mod Lasts
 pub mod Points
 pub mod Seams
+pub mod PageLemmas
 pub mod Opens
 pub mod LeaningLemmas
 pub mod ForCallers

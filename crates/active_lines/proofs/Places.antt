@@ -1,8 +1,8 @@
 -- The lines of chunks before and after a place.
-use Rattle.std.proofs.Common.{ℕ, ◌≡◌, ◌+◌, ◌<◌, ◌≤◌, zero, suc, List, [], ◌∷◌, ◌++◌, All, length, take, drop, get_or, arith, ap, subst, sym, refl, ◌∙◌, add-one, append_assoc}
-use Rattle.std.proofs.lemmas.List.{take-append-drop, take_more, drop_more, append-nil, nil_from_length, length-take-le, get_or_read, drop_at}
+use Rattle.std.proofs.Common.{ℕ, ◌≡◌, ◌+◌, ◌<◌, ◌≤◌, zero, suc, List, [], ◌∷◌, ◌++◌, All, length, take, drop, get_or, set, arith, ap, subst, sym, refl, ◌∙◌, add-one, append_assoc}
+use Rattle.std.proofs.lemmas.List.{take-append-drop, take_more, drop_more, append-nil, nil_from_length, length-take-le, get_or_read, take_at, drop_at, length-set}
 use Rattle.std.proofs.lemmas.List.Edits.{length-remove}
-use Rattle.std.proofs.lemmas.List.Elements.{All-append, All-cons}
+use Rattle.std.proofs.lemmas.List.Elements.{All-append, All-cons, All-set}
 use Rattle.std.proofs.lemmas.List.Concat.{flat_map-append}
 use Rattle.std.specs.List.{remove}
 use Rattle.active_lines.specs.declared.item.ActiveLine.{ActiveLine}
@@ -54,6 +54,28 @@ place_at_start chunks c full h = record { full = full; inside = h; at_line = λ 
 pub place_in_chunk : (chunks : List (List ActiveLine)) (c k : ℕ) → All HasLine chunks → c < length chunks → k < length (chunk_at chunks c) → IsPlace chunks c k
 place_in_chunk chunks c k full h less = record { full = full; inside = omega (arith, h); at_line = λ _. less; at_end = λ e. absurd (omega (arith, h, e)) }
 
+-- ---- a chunk with other lines, and as many
+
+length_at : (chunks : List (List ActiveLine)) (b c : ℕ) (new : List ActiveLine) → length new ≡ length (chunk_at chunks b)
+    → length (chunk_at (set chunks b new) c) ≡ length (chunk_at chunks c)
+length_at [] zero c new e = refl
+length_at [] (suc b) c new e = refl
+length_at (lines ∷ chunks) zero zero new e = e
+length_at (lines ∷ chunks) zero (suc c) new e = refl
+length_at (lines ∷ chunks) (suc b) zero new e = refl
+length_at (lines ∷ chunks) (suc b) (suc c) new e = length_at chunks b c new e
+
+pub place_set : (chunks : List (List ActiveLine)) (c k b : ℕ) (new : List ActiveLine) → IsPlace chunks c k → HasLine new
+    → length new ≡ length (chunk_at chunks b) → IsPlace (set chunks b new) c k
+place_set chunks c k b new p some e =
+    let size = length-set chunks b new in
+    record {
+      full = All-set HasLine chunks b new some p.full;
+      inside = omega (arith, p.inside, size);
+      at_line = λ less. let line = p.at_line (omega (arith, less, size)) in omega (arith, line, length_at chunks b c new e);
+      at_end = λ f. p.at_end (omega (arith, f, size));
+    }
+
 -- ---- an empty chunk taken out
 
 full_without : (chunks : List (List ActiveLine)) (c : ℕ) → All HasLine (take c chunks) → All HasLine (drop (c + 1) chunks) → All HasLine (remove chunks c)
@@ -72,6 +94,9 @@ after_without chunks c k h e =
     none : (k : ℕ) → lines_of (drop (suc c) chunks) ≡ drop {A = ActiveLine} k [] ++ lines_of (drop (suc c) chunks)
     none zero = refl
     none (suc k) = refl
+
+pub front_without : (chunks : List (List ActiveLine)) (c : ℕ) → c < length chunks → take c (remove chunks c) ≡ take c chunks
+front_without chunks c h = take_at (take c chunks) (drop (suc c) chunks) c (length-take-le c chunks (omega (arith, h)))
 
 -- the chunk that is read
 pub chunk_read : (chunks : List (List ActiveLine)) (c : ℕ) (lines : List ActiveLine) → c < length chunks

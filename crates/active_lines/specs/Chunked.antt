@@ -1,5 +1,5 @@
 -- Lines that are kept in chunks, and a place among them: the number of a chunk, and that of a line in it.
-use Rattle.std.specs.Prelude.{ℕ, ◌+◌, ◌-◌, ◌<◌, ◌≤◌, ◌≡◌, ◌++◌, List, [], All, length, take, drop, slice_index_or}
+use Rattle.std.specs.Prelude.{ℕ, ◌+◌, ◌-◌, ◌*◌, ◌<◌, ◌≤◌, ◌≡◌, ◌++◌, List, [], All, length, take, drop, slice_index_or}
 use Rattle.std.specs.List.{flat_map, HoldsAt}
 use Rattle.active_lines.specs.declared.item.ActiveLine.{ActiveLine}
 use Rattle.active_lines.specs.declared.chunk.Least.{Least}
@@ -42,6 +42,19 @@ pub record IsPlace (chunks : List (List ActiveLine)) (c k : ℕ) : Type 0 where
   pub inside : c ≤ length chunks
   pub at_line : c < length chunks → k < length (chunk_at chunks c)
   pub at_end : c ≡ length chunks → k ≡ 0
+
+-- the chunks of a page, of which each has 32, and the first one after them
+abbrev pub page_at : List (List ActiveLine) → ℕ → List (List ActiveLine)
+page_at chunks p = take 33 (drop (32 * p) chunks)
+
+-- what is kept of the least meetings in pages is so
+abbrev pub ArePages : List (List ActiveLine) → List Least → Type 0
+ArePages chunks leasts = (p : ℕ) → IsKept (lines_of (page_at chunks p)) (slice_index_or leasts p Unknown)
+
+-- the place is one, and so is what is kept of pages
+pub record IsPaged (chunks : List (List ActiveLine)) (c k : ℕ) (leasts : List Least) : Type 0 where
+  pub place : IsPlace chunks c k
+  pub pages : ArePages chunks leasts
 
 -- of the lines before the place (c, k) those after the first n of the chunk b are shut, and the last of these n is open
 pub record IsOpenUpTo (chunks : List (List ActiveLine)) (c k b n : ℕ) : Type 0 where

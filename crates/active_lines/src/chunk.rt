@@ -1,8 +1,11 @@
 //! A chunk of neighbouring lines.
-ghost use Rattle.std.specs.Prelude.{◌≡◌, ◌-◌, ◌<◌, ◌≤◌, ◌++◌, ◌∷◌, [], All, IfOk, OnOk, OnErr, IfSome, IfNone, IsTrue, Some, length, take, drop, slice_set};
+ghost use Rattle.std.specs.Prelude.{List, ◌≡◌, ◌-◌, ◌<◌, ◌≤◌, ◌++◌, ◌∷◌, [], All, IfOk, OnOk, OnErr, IfSome, IfNone, IsTrue, Some, length, take, drop, slice_set};
 ghost use Rattle.std.specs.List.{HoldsAt, insert, remove};
 ghost use Rattle.half_grid.specs.Reach.{IsWithinReach};
+ghost use Rattle.active_lines.specs.declared.item.ActiveLine.{ActiveLine};
 ghost use Rattle.active_lines.specs.Points.{IsBefore, IsNotBefore, AscendAt};
+ghost use Rattle.active_lines.specs.Neighbours.{SomeMeeting};
+ghost use Rattle.active_lines.specs.Chunked.{IsKept};
 
 use crate::item::ActiveLine;
 use crate::leaning::Level;
@@ -19,6 +22,18 @@ pub(crate) enum Least {
     Unknown,
     /// The least Y at which a line of the chunk meets the next one, if there is one.
     Known(Option<i64>),
+}
+
+/// Whether what is kept of lines says that none of them meets the next one at the level.
+#[inline]
+pub(crate) fn is_quiet_at(kept: Least, level: Level) -> bool
+    ensures { IsTrue result → (lines : List ActiveLine) → IsKept lines kept → SomeMeeting lines level.y → ⊥ }
+{
+    match kept {
+        Least::Known(Some(least)) => level.y < least,
+        Least::Known(None) => true,
+        Least::Unknown => false,
+    }
 }
 
 /// Neighbouring lines, from left to right. Contracts see the list of them.
@@ -173,24 +188,13 @@ impl Chunk {
         place_of(self.lines.as_slice(), point)
     }
 
-    // Whether what is kept says that no line meets the next one at the level.
-    fn is_quiet_at(&self, level: Level) -> bool
-        ensures { IsTrue result → SomeMeeting self.now level.y → ⊥ }
-    {
-        match self.least {
-            Least::Known(Some(least)) => level.y < least,
-            Least::Known(None) => true,
-            Least::Unknown => false,
-        }
-    }
-
     /// The leftmost of its lines from number `k` on that meets the next one at the level.
     pub(crate) fn first_meeting(&self, k: usize, level: Level) -> Option<ActiveLine>
         requires { k ≤ length self.now }
         ensures some { IfSome result (IsFirstMeeting (drop k self.now) level.y) }
         ensures none { IfNone result (SomeMeeting (drop k self.now) level.y → ⊥) }
     {
-        if self.is_quiet_at(level) {
+        if is_quiet_at(self.least, level) {
             return None;
         }
         first_meeting(&self.lines.as_slice()[k..], level)

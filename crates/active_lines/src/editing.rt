@@ -2,10 +2,11 @@
 ghost use Rattle.std.specs.Prelude.{◌≡◌, ◌+◌, ◌<◌, ◌≤◌, ◌++◌, ◌∷◌, [], All, IfOk, OnOk, OnErr, IsTrue, length, take, drop, ◌-◌, slice_set, vec_len, vec_capacity};
 ghost use Rattle.std.specs.List.{HoldsAt};
 ghost use Rattle.active_lines.specs.ActiveLists.{BeginsOn, reopened};
-ghost use Rattle.active_lines.specs.Chunked.{IsNear, IsPlace, HasLine, chunk_at, lines_of, lines_before, lines_after};
+ghost use Rattle.active_lines.specs.Chunked.{IsNear, IsPlace, ArePages, HasLine, chunk_at, lines_of, lines_before, lines_after};
 
-use crate::chunk::Chunk;
+use crate::chunk::{Chunk, Least};
 use crate::item::{ActiveLine, Opened};
+use crate::pages::{forget, forget_from};
 use crate::place::Place;
 use geo_stream::NoMemory;
 use std::alloc::Global;
@@ -23,15 +24,19 @@ fn last_has_room(chunks: &[Chunk]) -> bool
 /// Puts a line after all others.
 pub(crate) fn append(
     chunks: &mut Vec<Chunk>,
+    leasts: &mut Vec<Least>,
     alloc: Global,
     line: ActiveLine,
 ) -> Result<(), NoMemory>
     requires full { All HasLine chunks.old.items }
     requires near { IsNear line }
+    requires pages { ArePages chunks.old.items leasts.old.items }
     ensures full { All HasLine chunks.new.items }
     ensures ok { OnOk result (lines_of chunks.new.items ≡ lines_of chunks.old.items ++ line ∷ []) }
     ensures no_memory { OnErr result (chunks.new.items ≡ chunks.old.items) }
+    ensures pages { ArePages chunks.new.items leasts.new.items }
 {
+    forget_from(leasts, chunks.len().saturating_sub(1));
     if last_has_room(chunks.as_slice()) {
         let last = chunks.len() - 1;
         let end = chunks[last].len();
@@ -53,6 +58,7 @@ fn split_at(chunks: &mut Vec<Chunk>, alloc: Global, place: Place) -> Result<Plac
     ensures before { IfOk result (λ p. lines_before chunks.new.items p.chunk p.at ≡ lines_before chunks.old.items place.chunk place.at) }
     ensures after { IfOk result (λ p. lines_after chunks.new.items p.chunk p.at ≡ lines_after chunks.old.items place.chunk place.at) }
     ensures no_memory { OnErr result (chunks.new.items ≡ chunks.old.items) }
+    ensures front { take place.chunk chunks.new.items ≡ take place.chunk chunks.old.items }
 {
     let upper = chunks[place.chunk].split(alloc)?;
     let half = chunks[place.chunk].len();
@@ -69,67 +75,90 @@ fn split_at(chunks: &mut Vec<Chunk>, alloc: Global, place: Place) -> Result<Plac
 /// Sees to it that the chunk at the place has room for one more line. The place may be another one then, at the same line.
 pub(crate) fn make_room(
     chunks: &mut Vec<Chunk>,
+    leasts: &mut Vec<Least>,
     alloc: Global,
     place: Place,
 ) -> Result<Place, NoMemory>
     requires place { IsPlace chunks.old.items place.chunk place.at }
     requires line { place.chunk < length chunks.old.items }
+    requires pages { ArePages chunks.old.items leasts.old.items }
     ensures place { IfOk result (λ p. IsPlace chunks.new.items p.chunk p.at) }
     ensures line { IfOk result (λ p. p.chunk < length chunks.new.items) }
     ensures before { IfOk result (λ p. lines_before chunks.new.items p.chunk p.at ≡ lines_before chunks.old.items place.chunk place.at) }
     ensures after { IfOk result (λ p. lines_after chunks.new.items p.chunk p.at ≡ lines_after chunks.old.items place.chunk place.at) }
     ensures no_memory { OnErr result (chunks.new.items ≡ chunks.old.items) }
+    ensures pages { ArePages chunks.new.items leasts.new.items }
 {
     if !chunks[place.chunk].is_full() {
         return Ok(place);
     }
     chunks.reserve(1)?;
+    forget_from(leasts, place.chunk);
     split_at(chunks, alloc, place)
 }
 
 /// Puts a line before the one at the place. The place may be another one then: it is where the line after it is.
 pub(crate) fn insert_at(
     chunks: &mut Vec<Chunk>,
+    leasts: &mut Vec<Least>,
     place: Place,
     line: ActiveLine,
 ) -> Result<(), NoMemory>
     requires place { IsPlace chunks.old.items place.chunk place.at }
     requires chunk { place.chunk < length chunks.old.items }
     requires near { IsNear line }
+    requires pages { ArePages chunks.old.items leasts.old.items }
     ensures place { OnOk result (IsPlace chunks.new.items place.chunk (place.at + 1)) }
     ensures chunk { place.chunk < length chunks.new.items }
     ensures line { OnOk result (place.at + 1 < length (chunk_at chunks.new.items place.chunk)) }
     ensures before { OnOk result (lines_before chunks.new.items place.chunk (place.at + 1) ≡ lines_before chunks.old.items place.chunk place.at ++ line ∷ []) }
     ensures after { OnOk result (lines_after chunks.new.items place.chunk (place.at + 1) ≡ lines_after chunks.old.items place.chunk place.at) }
     ensures no_memory { OnErr result (chunks.new.items ≡ chunks.old.items) }
+    ensures pages { ArePages chunks.new.items leasts.new.items }
 {
+    forget(leasts, place.chunk);
     chunks[place.chunk].insert(place.at, line)
 }
 
 /// Takes the line at the place out of its chunk, which may then be empty.
-pub(crate) fn remove_at(chunks: &mut Vec<Chunk>, place: Place) -> ActiveLine
+pub(crate) fn remove_at(
+    chunks: &mut Vec<Chunk>,
+    leasts: &mut Vec<Least>,
+    place: Place,
+) -> ActiveLine
     requires place { IsPlace chunks.old.items place.chunk place.at }
     requires chunk { place.chunk < length chunks.old.items }
+    requires pages { ArePages chunks.old.items leasts.old.items }
     ensures chunk { place.chunk < length chunks.new.items }
     ensures at { place.at ≤ length (chunk_at chunks.new.items place.chunk) }
     ensures left { All HasLine (take place.chunk chunks.new.items) }
     ensures right { All HasLine (drop (place.chunk + 1) chunks.new.items) }
     ensures before { lines_before chunks.new.items place.chunk place.at ≡ lines_before chunks.old.items place.chunk place.at }
     ensures after { lines_after chunks.old.items place.chunk place.at ≡ result ∷ lines_after chunks.new.items place.chunk place.at }
+    ensures pages { ArePages chunks.new.items leasts.new.items }
 {
+    forget(leasts, place.chunk);
     chunks[place.chunk].remove(place.at)
 }
 
 /// Puts another in place of the line at the place, on the same line.
-pub(crate) fn replace_at(chunks: &mut Vec<Chunk>, place: Place, line: ActiveLine)
+pub(crate) fn replace_at(
+    chunks: &mut Vec<Chunk>,
+    leasts: &mut Vec<Least>,
+    place: Place,
+    line: ActiveLine,
+)
     requires place { IsPlace chunks.old.items place.chunk place.at }
     requires chunk { place.chunk < length chunks.old.items }
     requires same { BeginsOn line.line (lines_after chunks.old.items place.chunk place.at) }
+    requires pages { ArePages chunks.old.items leasts.old.items }
     ensures place { IsPlace chunks.new.items place.chunk place.at }
     ensures chunk { place.chunk < length chunks.new.items }
     ensures before { lines_before chunks.new.items place.chunk (place.at + 1) ≡ lines_before chunks.old.items place.chunk place.at ++ line ∷ [] }
     ensures after { lines_after chunks.new.items place.chunk (place.at + 1) ≡ drop 1 (lines_after chunks.old.items place.chunk place.at) }
+    ensures pages { ArePages chunks.new.items leasts.new.items }
 {
+    forget(leasts, place.chunk);
     chunks[place.chunk].replace(place.at, line);
 }
 

@@ -8,6 +8,7 @@ mod laws;
 mod leaning;
 mod lines;
 mod looking;
+mod pages;
 mod place;
 mod slices;
 #[cfg(test)]

@@ -5,11 +5,12 @@ ghost use Rattle.active_lines.specs.Points.{IsBefore, IsNotBefore, AscendAt};
 ghost use Rattle.active_lines.specs.Neighbours.{SomeMeeting, IsLeastMeeting, IsFirstMeeting};
 ghost use Rattle.active_lines.specs.Leaning.{IsNearLine};
 
-use crate::chunk::Chunk;
+use crate::chunk::{Chunk, Least};
 use crate::editing::{append, insert_at, make_room, remove_at, reopen_at, replace_at};
 use crate::item::{ActiveLine, Opened};
 use crate::leaning::Level;
-use crate::looking::{first_meeting, last_before, least_meeting, open_before, place_of};
+use crate::looking::{first_meeting, last_before, open_before, place_of};
+use crate::pages::{forget, least_of_pages};
 use crate::place::{Place, further, next_place, settled};
 use geo_stream::NoMemory;
 use half_grid::Point;
@@ -19,23 +20,24 @@ use std::marker::Model;
 /// The active lines of a sweep, from left to right, with a place among them. Contracts see the lines before the place
 /// and those after it.
 ///
-/// They are in chunks of at most 64, and each chunk keeps the least Y at which one of its lines meets the next one, until
-/// its lines change.
+/// They are in chunks of at most 64. Each chunk keeps the least Y at which one of its lines meets the next one, until its
+/// lines change, and so does each page of 32 chunks.
 #[derive(Drop)]
 pub struct ActiveLines {
     chunks: Vec<Chunk>,
     place: Place,
+    leasts: Vec<Least>,
 }
 
 impl Model for ActiveLines {
     ghost use Rattle.active_lines.specs.ActiveLists.{ActiveList, active_list};
-    ghost use Rattle.active_lines.specs.Chunked.{IsPlace, lines_before, lines_after};
+    ghost use Rattle.active_lines.specs.Chunked.{IsPaged, lines_before, lines_after};
 
     ghost Value = { ActiveList };
 
     ghost view = { λ list. active_list (lines_before list.chunks.items list.place.chunk list.place.at) (lines_after list.chunks.items list.place.chunk list.place.at) };
 
-    ghost invariant = { λ list. IsPlace list.chunks.items list.place.chunk list.place.at };
+    ghost invariant = { λ list. IsPaged list.chunks.items list.place.chunk list.place.at list.leasts.items };
 }
 
 impl ActiveLines {
@@ -48,6 +50,7 @@ impl ActiveLines {
         ActiveLines {
             chunks: Vec::new(alloc),
             place: Place { chunk: 0, at: 0 },
+            leasts: Vec::new(alloc),
         }
     }
 
@@ -96,8 +99,8 @@ impl ActiveLines {
         if self.chunks.len() <= self.place.chunk {
             return None;
         }
-        let line = remove_at(&mut self.chunks, self.place);
-        self.place = settled(&mut self.chunks, self.place);
+        let line = remove_at(&mut self.chunks, &mut self.leasts, self.place);
+        self.place = settled(&mut self.chunks, &mut self.leasts, self.place);
         Some(line)
     }
 
@@ -109,15 +112,15 @@ impl ActiveLines {
         ensures no_memory { OnErr result (self.new.before ≡ self.old.before) }
     {
         if self.chunks.len() <= self.place.chunk {
-            append(&mut self.chunks, alloc, line)?;
+            append(&mut self.chunks, &mut self.leasts, alloc, line)?;
             self.place = Place {
                 chunk: self.chunks.len(),
                 at: 0,
             };
             return Ok(());
         }
-        self.place = make_room(&mut self.chunks, alloc, self.place)?;
-        insert_at(&mut self.chunks, self.place, line)?;
+        self.place = make_room(&mut self.chunks, &mut self.leasts, alloc, self.place)?;
+        insert_at(&mut self.chunks, &mut self.leasts, self.place, line)?;
         self.place = further(self.chunks.as_slice(), self.place);
         Ok(())
     }
@@ -129,7 +132,7 @@ impl ActiveLines {
         ensures before { self.new.before ≡ self.old.before ++ line ∷ [] }
         ensures after { self.new.after ≡ drop 1 self.old.after }
     {
-        replace_at(&mut self.chunks, self.place, line);
+        replace_at(&mut self.chunks, &mut self.leasts, self.place, line);
         self.place = next_place(self.chunks.as_slice(), self.place);
     }
 
@@ -145,6 +148,7 @@ impl ActiveLines {
         if place.at == 0 {
             return None;
         }
+        forget(&mut self.leasts, place.chunk);
         Some(reopen_at(&mut self.chunks, place, opened))
     }
 
@@ -153,7 +157,7 @@ impl ActiveLines {
         ensures least { IsLeastMeeting (items self.old) result }
         ensures same { self.new ≡ self.old }
     {
-        least_meeting(self.chunks.as_mut_slice())
+        least_of_pages(self.chunks.as_mut_slice(), &mut self.leasts)
     }
 
     /// The leftmost line after the place that meets the next one at `y`, if one does.
@@ -161,6 +165,11 @@ impl ActiveLines {
         ensures some { IfSome result (IsFirstMeeting self.now.after y) }
         ensures none { IfNone result (SomeMeeting self.now.after y → ⊥) }
     {
-        first_meeting(self.chunks.as_slice(), self.place, Level { y })
+        first_meeting(
+            self.chunks.as_slice(),
+            self.leasts.as_slice(),
+            self.place,
+            Level { y },
+        )
     }
 }

@@ -5,11 +5,12 @@ ghost use Rattle.half_grid.specs.Reach.{IsWithinReach};
 ghost use Rattle.active_lines.specs.Points.{IsBefore, IsNotBefore, AscendAt, EndsNotBefore};
 ghost use Rattle.active_lines.specs.Neighbours.{SomeMeeting, IsLeastMeeting, IsFirstMeeting, IsSeam, MeetAtSeam, IsLastMeeting};
 ghost use Rattle.active_lines.specs.ActiveLists.{IsShut, last_of};
-ghost use Rattle.active_lines.specs.Chunked.{IsPlace, HasLine, chunk_at, lines_of, lines_before, lines_after, IsOpenUpTo};
+ghost use Rattle.active_lines.specs.Chunked.{IsPlace, ArePages, HasLine, chunk_at, lines_of, lines_before, lines_after, IsOpenUpTo};
 
-use crate::chunk::Chunk;
+use crate::chunk::{Chunk, Least};
 use crate::item::ActiveLine;
 use crate::leaning::{Level, is_at, lesser, meeting_above};
+use crate::pages::{is_quiet_page, page_end};
 use crate::place::Place;
 use crate::slices::is_before;
 use half_grid::Point;
@@ -101,15 +102,25 @@ fn meeting_after(chunks: &[Chunk], c: usize, level: Level) -> Option<ActiveLine>
     None
 }
 
-/// The leftmost line from the place on that meets the next one at the level.
-pub(crate) fn first_meeting(chunks: &[Chunk], place: Place, level: Level) -> Option<ActiveLine>
-    requires { IsPlace chunks.now place.chunk place.at }
+/// The leftmost line from the place on that meets the next one at the level. Pages in which none does are passed over.
+pub(crate) fn first_meeting(
+    chunks: &[Chunk],
+    leasts: &[Least],
+    place: Place,
+    level: Level,
+) -> Option<ActiveLine>
+    requires place { IsPlace chunks.now place.chunk place.at }
+    requires pages { ArePages chunks.now leasts.now }
     ensures some { IfSome result (IsFirstMeeting (lines_after chunks.now place.chunk place.at) level.y) }
     ensures none { IfNone result (SomeMeeting (lines_after chunks.now place.chunk place.at) level.y → ⊥) }
 {
     let mut c = place.chunk;
     let mut from = place.at;
     while c < chunks.len() {
+        if from == 0 && is_quiet_page(leasts, c, level) {
+            c = page_end(chunks, c);
+            continue;
+        }
         if let Some(line) = chunks[c].first_meeting(from, level) {
             return Some(line);
         }

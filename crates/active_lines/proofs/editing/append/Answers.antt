@@ -1,4 +1,5 @@
-use Rattle.std.proofs.Common.{◌≡◌, ◌-◌, ◌<◌, ℕ, length, arith, ap, sym, ◌∙◌, rules, List}
+use Rattle.std.proofs.Common.{◌≡◌, ◌++◌, ◌∷◌, [], ◌-◌, ◌<◌, ◌≤◌, ℕ, length, take, set, arith, ap, refl, sym, ◌∙◌, rules, List}
+use Rattle.std.proofs.lemmas.List.{take-set-le, take-append-le}
 use Rattle.std.proofs.lemmas.Result.{on_ok_weaker}
 use Rattle.std.specs.List.{insert}
 use Rattle.active_lines.specs.declared.item.ActiveLine.{ActiveLine}
@@ -20,3 +21,30 @@ returns-then-last_has_room-clause-ok c =
     (λ e. appended chunks k inside c.index_mut.result.now c.insert.new.self c.index_mut.ensures.value c.args.line (omega (arith, n, some))
     (e ∙ ap (λ (i : ℕ). insert c.index_mut.result.now i c.args.line) end))
     c.insert.ensures.ok
+
+pub returns-then-last_has_room-clause-pages : goal.returns-then-last_has_room-clause-pages
+returns-then-last_has_room-clause-pages c =
+    let chunks = c.args.chunks.now.items in
+    let k = c.len-last.result - 1 in
+    let n : c.len-last.result ≡ length chunks = search rules in
+    let m : c.saturating_sub.result ≡ length chunks - 1 = search rules in
+    c.forget_from.ensures chunks (set chunks k c.insert.new.self) c.requires.pages
+    (take-set-le c.saturating_sub.result chunks k c.insert.new.self (omega (arith, n, m)))
+
+pub returns-in_err-chunk-clause-pages : goal.returns-in_err-chunk-clause-pages
+returns-in_err-chunk-clause-pages c = c.forget_from.ensures c.args.chunks.now.items c.args.chunks.now.items c.requires.pages refl
+
+pub returns-in_err-push-clause-pages : goal.returns-in_err-push-clause-pages
+returns-in_err-push-clause-pages c =
+    let e : c.push.new.self.items ≡ c.args.chunks.now.items = search rules in
+    c.forget_from.ensures c.args.chunks.now.items c.push.new.self.items c.requires.pages
+    (ap (λ (xs : List (List ActiveLine)). take c.saturating_sub.result xs) e)
+
+pub returns-clause-pages : goal.returns-clause-pages
+returns-clause-pages c =
+    let chunks = c.args.chunks.now.items in
+    let e : c.push.new.self.items ≡ chunks ++ c.in_ok-chunk.chunk ∷ [] = search rules in
+    let m : c.saturating_sub.result ≡ length chunks - 1 = search rules in
+    c.forget_from.ensures chunks c.push.new.self.items c.requires.pages
+    (ap (λ (xs : List (List ActiveLine)). take c.saturating_sub.result xs) e
+    ∙ take-append-le c.saturating_sub.result chunks (c.in_ok-chunk.chunk ∷ []) (omega (arith, m)))

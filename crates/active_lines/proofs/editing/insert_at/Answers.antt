@@ -15,3 +15,6 @@ returns-clause-after c =
     (λ e. inserted_after c.args.chunks.now.items c.args.place.chunk c.requires.chunk c.index_mut.result.now
     c.insert.new.self c.index_mut.ensures.value c.args.place.at c.args.line e)
     c.insert.ensures.ok
+
+pub returns-clause-pages : goal.returns-clause-pages
+returns-clause-pages c = c.forget.ensures c.args.chunks.now.items c.insert.new.self c.requires.pages

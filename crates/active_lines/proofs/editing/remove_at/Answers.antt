@@ -8,3 +8,6 @@ returns-clause-after c =
     (c.requires.place.at_line c.requires.chunk)
     c.remove.ensures.line
     c.remove.ensures.rest
+
+pub returns-clause-pages : goal.returns-clause-pages
+returns-clause-pages c = c.forget.ensures c.args.chunks.now.items c.remove.new.self c.requires.pages

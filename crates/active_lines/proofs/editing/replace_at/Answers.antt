@@ -7,3 +7,6 @@ returns-clause-after c =
     c.index_mut.ensures.value c.args.place.at c.args.line
     (c.requires.place.at_line c.requires.chunk)
     c.replace.ensures
+
+pub returns-clause-pages : goal.returns-clause-pages
+returns-clause-pages c = c.forget.ensures c.args.chunks.now.items c.replace.new.self c.requires.pages

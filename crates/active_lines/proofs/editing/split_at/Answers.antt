@@ -1,10 +1,10 @@
 use Rattle.std.proofs.Common.{◌≡◌, ◌+◌, ◌<◌, ◌≤◌, List, ◌++◌, length, set, arith, ap, sym, ◌∙◌, rules}
-use Rattle.std.proofs.lemmas.List.{length-set}
+use Rattle.std.proofs.lemmas.List.{length-set, take-set}
 use Rattle.std.specs.List.{insert}
 use Rattle.active_lines.specs.declared.item.ActiveLine.{ActiveLine}
 use Rattle.active_lines.specs.Chunked.{chunk_at}
 use Rattle.active_lines.proofs.Places.{chunk_read}
-use Rattle.active_lines.proofs.Edited.{split_before, split_after, split_place, chunk_now}
+use Rattle.active_lines.proofs.Edited.{split_before, split_after, split_front, split_place, chunk_now}
 use Rattle.active_lines.proofs.editing.split_at.Goals as goal
 
 half_is : (c : goal.After-struct_known-4-1) → length c.split.new.self ≡ c.len-half.result
@@ -42,3 +42,19 @@ returns-clause-after c =
     let le : length c.split.new.self ≤ c.args.place.at = omega (arith, half_is c, c.if-place-half.false) in
     rw (items_are c, ← half_is c) (split_after c.args.chunks.now.items c.args.place.chunk c.requires.line c.split.new.self c.in_ok-upper.upper
     (cut_is c) c.args.place.at le)
+
+pub returns-in_err-upper-clause-front : goal.returns-in_err-upper-clause-front
+returns-in_err-upper-clause-front c = take-set c.args.chunks.now.items c.args.place.chunk c.split.new.self
+
+pub returns-then-place-half-clause-front : goal.returns-then-place-half-clause-front
+returns-then-place-half-clause-front c =
+    let chunks = c.args.chunks.now.items in
+    let k = c.args.place.chunk in
+    let upper = c.in_ok-upper.upper in
+    let e : c.insert.new.self.items ≡ insert (set chunks k c.split.new.self) (k + 1) upper = search rules in
+    let cut = sym (chunk_read chunks k c.index_mut.result.now c.requires.line c.index_mut.ensures.value) ∙ c.in_ok-upper.ensures.whole in
+    rw e (split_front chunks k c.requires.line c.split.new.self upper cut)
+
+pub returns-clause-front : goal.returns-clause-front
+returns-clause-front c =
+    rw (items_are c) (split_front c.args.chunks.now.items c.args.place.chunk c.requires.line c.split.new.self c.in_ok-upper.upper (cut_is c))

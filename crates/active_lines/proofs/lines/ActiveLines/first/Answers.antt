@@ -8,5 +8,5 @@ returns c =
     let chunks = c.self.inside.chunks.items in
     let place = c.self.inside.place in
     let inside : place.chunk < length chunks = search rules in
-    first_after chunks place.chunk place.at c.self.invariant inside c.index.result.now c.get.result c.index.ensures c.get.ensures.line
+    first_after chunks place.chunk place.at c.self.invariant.place inside c.index.result.now c.get.result c.index.ensures c.get.ensures.line
     ∙ ap (λ (list : ActiveList). first_of list.after) c.self.view_is

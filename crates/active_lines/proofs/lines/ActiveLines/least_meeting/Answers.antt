@@ -11,4 +11,4 @@ returns-clause-least c =
     let chunks = c.self.inside.chunks.items in
     let place = c.self.inside.place in
     let all = ap lines_of c.as_mut_slice.ensures.value ∙ (sym (whole chunks place.chunk place.at) ∙ ap items c.self.view_is) in
-    subst (λ (lines : List ActiveLine). IsLeastMeeting lines c.least_meeting.result) all c.least_meeting.ensures.least
+    subst (λ (lines : List ActiveLine). IsLeastMeeting lines c.least_of_pages.result) all c.least_of_pages.ensures.least
