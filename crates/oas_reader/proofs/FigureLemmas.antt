@@ -10,9 +10,10 @@ use Rattle.oas_record.specs.declared.repetition.Rep.{Rep}
 use Rattle.oas_shapes.specs.Outlines.{figure_outline, outline_shape}
 use Rattle.oas_shapes.specs.Repetitions.{offsets_in}
 use Rattle.oas_shapes.specs.Rules.{KeepsFigure, IsLowest}
+use Rattle.oas_shapes.specs.Short.{HasFewPoints, HasFewVertices}
 use Rattle.oas_shapes.specs.declared.figures.Figure.{Figure}
 use Rattle.oas_fields.specs.declared.fields.Fields.{Fields}
-use Rattle.oas_reader.specs.Drawn.{pair_in, at_in, brush_in, figure_in, shapes_in, KeepsDrawnIn}
+use Rattle.oas_reader.specs.Drawn.{pair_in, at_in, brush_in, figure_in, shapes_in, HasShortPolygon, HasShortPath, HasShortList, KeepsDrawnIn}
 use Rattle.oas_reader.specs.Meaning.{figure_shapes}
 use Rattle.oas_reader.specs.Rules.{FigureKeeps, PolygonKeeps, PathKeeps}
 use Rattle.oas_reader.specs.declared.bodies.Body.{Body}
@@ -105,6 +106,17 @@ polygon_keeps : (body : Body) (fields : Fields) (rep : Option Rep) (points : Del
 polygon_keeps body fields rep points rule b p k =
     subst (λ q. KeepsDrawnIn q fields rep rule) (sym b) (subst (λ q. PolygonKeeps q (at_in fields) rep rule) (sym p) k)
 
+pub polygon_keeps_by : (body : Body) (fields : Fields) (rep copied : Option Rep) (points : Deltas) (at : Point) (rule : ℕ)
+    → body ≡ bodies.Polygon → fields.polygon_points ≡ Some points → at ≡ at_in fields → copied ≡ rep
+    → KeepsPolygon at points copied rule → KeepsDrawnIn body fields rep rule
+polygon_keeps_by body fields rep copied points at rule b p a r k =
+    polygon_keeps body fields rep points rule b p
+    (subst (λ q. KeepsPolygon (at_in fields) points q rule) r (subst (λ q. KeepsPolygon q points copied rule) a k))
+
+pub polygon_few : (body : Body) (fields : Fields) (points : Deltas) → body ≡ bodies.Polygon → fields.polygon_points ≡ Some points
+    → HasShortList body fields → HasFewVertices points
+polygon_few body fields points b p short = subst HasShortPolygon p (subst (λ q. HasShortList q fields) b short)
+
 polygon_kept : (body : Body) (fields : Fields) (rep : Option Rep) (points : Deltas) (rule : ℕ)
     → body ≡ bodies.Polygon → fields.polygon_points ≡ Some points → KeepsDrawnIn body fields rep rule → KeepsPolygon (at_in fields) points rep rule
 polygon_kept body fields rep points rule b p k =
@@ -125,6 +137,18 @@ path_keeps : (body : Body) (fields : Fields) (rep : Option Rep) (points : Deltas
     → body ≡ bodies.Path → fields.path_points ≡ Some points → KeepsPath (at_in fields) (brush_in fields) points rep rule → KeepsDrawnIn body fields rep rule
 path_keeps body fields rep points rule b p k =
     subst (λ q. KeepsDrawnIn q fields rep rule) (sym b) (subst (λ q. PathKeeps q (at_in fields) (brush_in fields) rep rule) (sym p) k)
+
+pub path_keeps_by : (body : Body) (fields : Fields) (rep copied : Option Rep) (points : Deltas) (brush : Brush) (at : Point) (rule : ℕ)
+    → body ≡ bodies.Path → fields.path_points ≡ Some points → at ≡ at_in fields → brush ≡ brush_in fields → copied ≡ rep
+    → KeepsPath at brush points copied rule → KeepsDrawnIn body fields rep rule
+path_keeps_by body fields rep copied points brush at rule b p a w r k =
+    path_keeps body fields rep points rule b p
+    (subst (λ q. KeepsPath (at_in fields) (brush_in fields) points q rule) r
+    (subst (λ q. KeepsPath (at_in fields) q points copied rule) w (subst (λ q. KeepsPath q brush points copied rule) a k)))
+
+pub path_few : (body : Body) (fields : Fields) (points : Deltas) → body ≡ bodies.Path → fields.path_points ≡ Some points
+    → HasShortList body fields → HasFewPoints points
+path_few body fields points b p short = subst HasShortPath p (subst (λ q. HasShortList q fields) b short)
 
 path_kept : (body : Body) (fields : Fields) (rep : Option Rep) (points : Deltas) (rule : ℕ)
     → body ≡ bodies.Path → fields.path_points ≡ Some points → KeepsDrawnIn body fields rep rule → KeepsPath (at_in fields) (brush_in fields) points rep rule

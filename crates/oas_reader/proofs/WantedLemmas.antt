@@ -1,5 +1,5 @@
 -- Records on wanted pairs, and why they are refused.
-use Rattle.std.proofs.Common.{◌≡◌, ℕ, Option, refl, inl, inr}
+use Rattle.std.proofs.Common.{◌≡◌, ℕ, Option, refl, sym, ◌∙◌, inl, inr}
 use Rattle.std.specs.Prelude.{◌≢◌}
 use Rattle.oas_record.specs.declared.repetition.Rep.{Rep}
 use Rattle.oas_shapes.specs.Rules.{IsLowest}
@@ -10,6 +10,7 @@ use Rattle.oas_reader.specs.Drawn.{KeepsDrawnIn, KeepsWantedIn, IsRefusedBy, bad
 use Rattle.oas_reader.specs.declared.bodies.Body.{Body}
 use Rattle.oas_reader.specs.declared.bodies.Body.TheVariants as bodies
 use Rattle.oas_reader.specs.declared.refusing.OasBad.{OasBad}
+use Rattle.oas_reader.specs.declared.refusing.OasBad.TheVariants as faults
 
 pub wanted_keeps : (body : Body) (fields : Fields) (rep : Option Rep) (rule : ℕ) → body ≢ bodies.Undrawn
     → KeepsDrawnIn body fields rep rule → KeepsWantedIn body fields rep rule
@@ -56,3 +57,8 @@ pub refused_by : (K : ℕ → Type 0) (at : ℕ) (u : Undrawn) (bad : OasBad) �
     → ((rule : ℕ) → u ≡ undrawns.Rule rule → IsLowest K rule) → IsRefusedBy K at bad
 refused_by K at (undrawns.Rule rule) bad told low = inr (rule, told, low rule refl)
 refused_by K at undrawns.NoMemory bad told low = inl told
+
+-- want of memory is told of one that is wanting alone
+pub wanting_by : (at : ℕ) (u : Undrawn) (bad : OasBad) → bad ≡ bad_at u at → bad ≡ faults.NoMemory → u ≡ undrawns.NoMemory
+wanting_by at (undrawns.Rule rule) bad told e = absurd (let value : faults.Value at rule ≡ faults.NoMemory = sym told ∙ e in cc)
+wanting_by at undrawns.NoMemory bad told e = refl

@@ -4,11 +4,13 @@ use Rattle.half_grid.specs.declared.plane.Point.{Point}
 use Rattle.layout_model.specs.declared.cells.Counts.{Counts}
 use Rattle.layout_model.specs.declared.pair.Pair.{Pair}
 use Rattle.layout_model.specs.declared.shapes.Shape.{Shape}
+use Rattle.oas_record.specs.declared.fields.Deltas.{Deltas}
 use Rattle.oas_record.specs.declared.repetition.Rep.{Rep}
 use Rattle.oas_fields.specs.Values.{or_zero}
 use Rattle.oas_fields.specs.declared.fields.Fields.{Fields}
 use Rattle.oas_shapes.specs.Repetitions.{offsets_in}
 use Rattle.oas_shapes.specs.Rules.{IsLowest}
+use Rattle.oas_shapes.specs.Short.{HasFewPoints, HasFewVertices}
 use Rattle.oas_shapes.specs.declared.drawing.Undrawn.{Undrawn}
 use Rattle.oas_shapes.specs.declared.drawing.Undrawn.TheVariants as undrawns
 use Rattle.oas_shapes.specs.declared.figures.Brush.{Brush}
@@ -72,6 +74,20 @@ KeepsDrawnIn body fields rep rule = FigureKeeps (figure_in body fields) (at_in f
 abbrev pub KeepsWantedIn : Body → Fields → Option Rep → ℕ → Type 0
 KeepsWantedIn bodies.Undrawn fields rep rule = rule ≡ 7 → ⊥
 KeepsWantedIn body fields rep rule = KeepsDrawnIn body fields rep rule
+
+-- the point list of a POLYGON or a PATH is short: it is gone through without memory
+abbrev pub HasShortPolygon : Option Deltas → Type 0
+HasShortPolygon None = Unit {0}
+HasShortPolygon (Some points) = HasFewVertices points
+
+abbrev pub HasShortPath : Option Deltas → Type 0
+HasShortPath None = Unit {0}
+HasShortPath (Some points) = HasFewPoints points
+
+abbrev pub HasShortList : Body → Fields → Type 0
+HasShortList bodies.Polygon fields = HasShortPolygon fields.polygon_points
+HasShortList bodies.Path fields = HasShortPath fields.path_points
+HasShortList body fields = Unit {0}
 
 -- ---- counts
 

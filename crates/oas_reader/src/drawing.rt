@@ -3,9 +3,11 @@ ghost use Rattle.std.specs.Prelude.{◌≡◌, ◌++◌, ◌^◌, ℕ, All, OnOk
 ghost use Rattle.layout_model.specs.Layouts.{IsShapeOnGrid};
 ghost use Rattle.oas_fields.specs.Values.{IsPlaceWithin, or_zero};
 ghost use Rattle.oas_shapes.specs.Rules.{IsLowest};
-ghost use Rattle.oas_shapes.specs.declared.drawing.Undrawn.TheVariants.{Rule};
+ghost use Rattle.oas_shapes.specs.Short.{IsShortIn};
+ghost use Rattle.oas_shapes.specs.declared.drawing.Undrawn.TheVariants.{Rule, NoMemory as Wanting};
 ghost use Rattle.oas_reader.specs.Meaning.{or_none};
-ghost use Rattle.oas_reader.specs.Drawn.{pair_in, brush_in, trapezoid_in, figure_in, repetition_kept, shapes_in, KeepsDrawnIn, KeepsWantedIn, IsRefusedBy};
+ghost use Rattle.oas_reader.specs.Drawn.{pair_in, brush_in, trapezoid_in, figure_in, repetition_kept, shapes_in, HasShortList, KeepsDrawnIn, KeepsWantedIn, IsRefusedBy};
+ghost use Rattle.oas_reader.specs.declared.refusing.OasBad.TheVariants as faults;
 
 use crate::bodies::{Body, Outline};
 use crate::placing::{bad_at, point_of, repetition_in};
@@ -116,6 +118,9 @@ fn draw_body(
     ensures kept { OnOk result ((rule : ℕ) → KeepsDrawnIn outline.body fields.now (repetition_kept outline.repeats fields.now.repetition) rule) }
     ensures broken { (rule : ℕ) → result ≡ Err (Rule rule)
         → IsLowest (KeepsDrawnIn outline.body fields.now (repetition_kept outline.repeats fields.now.repetition)) rule }
+    ensures memory { HasShortList outline.body fields.now → IsShortIn (repetition_kept outline.repeats fields.now.repetition)
+        → result ≡ Err Wanting
+        → (rule : ℕ) → KeepsDrawnIn outline.body fields.now (repetition_kept outline.repeats fields.now.repetition) rule }
 {
     let pair = pair_of(fields);
     let at = point_of(fields.geometry);
@@ -139,7 +144,9 @@ fn draw_body(
     }
 }
 
-/// Adds the shapes of the record at this offset, whose pair is wanted. The fields have taken the record.
+/// Adds the shapes of the record at this offset, whose pair is wanted. The fields have taken the record. A rule that it
+/// breaks is told even where memory is wanting, unless its outline, its points or its repetition's places are more than
+/// twelve.
 #[inline(always)]
 pub(crate) fn draw(
     alloc: Global,
@@ -153,6 +160,9 @@ pub(crate) fn draw(
     ensures grid { All IsShapeOnGrid shapes.old → OnOk result (All IsShapeOnGrid shapes.new) }
     ensures kept { OnOk result ((rule : ℕ) → KeepsWantedIn outline.body fields.now (repetition_kept outline.repeats fields.now.repetition) rule) }
     ensures broken { IfErr result (IsRefusedBy (KeepsWantedIn outline.body fields.now (repetition_kept outline.repeats fields.now.repetition)) at) }
+    ensures memory { HasShortList outline.body fields.now → IsShortIn (repetition_kept outline.repeats fields.now.repetition)
+        → result ≡ Err faults.NoMemory
+        → (rule : ℕ) → KeepsWantedIn outline.body fields.now (repetition_kept outline.repeats fields.now.repetition) rule }
 {
     match outline.body {
         Body::Undrawn => Err(OasBad::Value(at, PAIR_RULE)),

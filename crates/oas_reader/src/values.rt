@@ -1,10 +1,11 @@
 //! The values of a record: whether they are there and keep the rules, and what they draw or place.
-ghost use Rattle.std.specs.Prelude.{◌≡◌, ◌^◌, ◌++◌, ℕ, true, false, List, [], ◌∷◌, None as Nothing, IsSome, OnOk, IfOk, IfErr};
+ghost use Rattle.std.specs.Prelude.{◌≡◌, ◌^◌, ◌++◌, ℕ, true, false, List, [], ◌∷◌, None as Nothing, IsSome, OnOk, IfOk, IfErr, Err};
 ghost use Rattle.layout_model.specs.declared.pair.Pair.{Pair as APair};
 ghost use Rattle.oas_record.specs.declared.fields.Called.{Called as ACalled};
 ghost use Rattle.oas_record.specs.declared.records.OasRecord.{OasRecord as ARecord};
+ghost use Rattle.oas_shapes.specs.Short.{IsShortIn};
 ghost use Rattle.oas_fields.specs.Values.{IsPlaceWithin, ArePlacesWithin, begins_cell};
-ghost use Rattle.oas_reader.specs.Drawn.{shapes_in, IsRefusedBy};
+ghost use Rattle.oas_reader.specs.Drawn.{shapes_in, HasShortList, IsRefusedBy};
 ghost use Rattle.oas_reader.specs.Geometry.{wanting_in, rep_in, shapes_if, placings_in, KeepsShapes, KeepsGeometry, IsBadLook};
 ghost use Rattle.oas_reader.specs.Items.{Item, records_in};
 ghost use Rattle.oas_reader.specs.Kept.{undefined_in, KeepsVersionBy, KeepsSchemeBy};
@@ -15,6 +16,7 @@ ghost use Rattle.oas_reader.specs.Readers.{placings_of, AreDraftsOf, AreDraftsWi
 ghost use Rattle.oas_reader.specs.Taking.{IsBodyWithin, IsTaken, wanting_of, AreValuesKept, IsBadValue};
 ghost use Rattle.oas_reader.specs.Wanting.{AreSorted};
 ghost use Rattle.oas_reader.specs.declared.bodies.Body.TheVariants as bodies;
+ghost use Rattle.oas_reader.specs.declared.refusing.OasBad.TheVariants as faults;
 
 use crate::bodies::{Body, Outline, Turning};
 use crate::cells::Drafts;
@@ -122,6 +124,8 @@ fn take_shapes(
     ensures within { (bytes : List ℕ) → AreDraftsWithin bytes drafts.old → OnOk result (AreDraftsWithin bytes drafts.new) }
     ensures kept { OnOk result ((rule : ℕ) → KeepsShapes outline.body outline.has_dimensions wanted fields.now (rep_in outline fields.now) rule) }
     ensures broken { IfErr result (IsRefusedBy (KeepsShapes outline.body outline.has_dimensions wanted fields.now (rep_in outline fields.now)) at) }
+    ensures memory { HasShortList outline.body fields.now → IsShortIn (rep_in outline fields.now) → result ≡ Err faults.NoMemory
+        → (rule : ℕ) → KeepsShapes outline.body outline.has_dimensions wanted fields.now (rep_in outline fields.now) rule }
 {
     match wanted {
         Some(true) => match draw(alloc, fields, outline, at, &mut drafts.shapes) {

@@ -5,3 +5,4 @@ mod RuleLemmas
 mod ShapeLemmas
 mod VertexLemmas
 mod ArmLemmas
+mod EdgeLemmas

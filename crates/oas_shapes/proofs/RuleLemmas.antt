@@ -6,16 +6,10 @@ use Rattle.oas_record.specs.declared.fields.Deltas.{Deltas}
 use Rattle.oas_record.specs.declared.repetition.Rep.{Rep}
 use Rattle.oas_shapes.specs.Figures.{IsSized}
 use Rattle.oas_shapes.specs.Outlines.{figure_outline, polygon_outline, path_points}
-use Rattle.oas_shapes.specs.Repetitions.{offsets_of, HasDimensions}
-use Rattle.oas_shapes.specs.Rules.{AreNear, IsBrush, KeepsRepetition, KeepsShape, KeepsFigure, KeepsPolygon, KeepsPath, IsLowest}
+use Rattle.oas_shapes.specs.Rules.{AreNear, IsBrush, KeepsShape, KeepsFigure, KeepsPolygon, KeepsPath, IsLowest}
 use Rattle.oas_shapes.specs.Brushes.{KeepsCourse, halves_of}
 use Rattle.oas_shapes.specs.declared.figures.Figure.{Figure}
 use Rattle.oas_shapes.specs.declared.figures.Brush.{Brush}
-
-pub repetition_kept : (rep : Rep) → AreNear (offsets_of rep) → HasDimensions rep → (rule : ℕ) → KeepsRepetition rep rule
-repetition_kept rep near few rule = record { near = λ e. near; dimension = λ e. few }
-
--- ---- shapes
 
 -- ---- figures and polygons, whose sizes and outlines are near
 

@@ -5,7 +5,6 @@ use Rattle.std.specs.Ordering.{int_eq}
 use Rattle.std.proofs.lemmas.Int.{ints}
 use Rattle.std.proofs.lemmas.List.Elements.{All-map, All-weaker}
 use Rattle.half_grid.specs.Outlines.{IsClosed, HasGridEdges}
-use Rattle.half_grid.specs.Reach.{IsPointWithinReach}
 use Rattle.half_grid.specs.declared.plane.Point.{Point}
 use Rattle.half_grid.proofs.ForCallers.{int_eq_true, int_eq_false}
 use Rattle.layout_model.specs.Layouts.{IsWithin, AreOffsets, IsShapeOnGrid}
@@ -23,12 +22,6 @@ use Rattle.oas_shapes.specs.Brushes.{IsDrawn, drawn_by, undrawn_by}
 use Rattle.oas_shapes.specs.declared.paths.Halves.{Halves}
 use Rattle.oas_shapes.specs.declared.drawing.Undrawn.TheVariants as undrawn
 
-near_reach : (p : Point) → IsNearInHalves p → IsPointWithinReach p
-near_reach p n = record {
-  x = record { low = omega (arith, ints, n.x_low); high = omega (arith, ints, n.x_high) };
-  y = record { low = omega (arith, ints, n.y_low); high = omega (arith, ints, n.y_high) };
-}
-
 near_within : (p : Point) → IsNearInHalves p → IsWithin (2 ^ 42) p
 near_within p n = record {
   x_low = omega (arith, ints, n.x_low);
@@ -36,9 +29,6 @@ near_within p n = record {
   y_low = omega (arith, ints, n.y_low);
   y_high = omega (arith, ints, n.y_high);
 }
-
-pub all_reach : (points : List Point) → AreNear points → All IsPointWithinReach points
-all_reach points h = All-weaker IsNearInHalves IsPointWithinReach near_reach points h
 
 pub on_grid : (pair : Pair) (outline offsets : List Point) → IsClosed outline → HasGridEdges outline → AreNear outline → AreOffsets offsets
     → IsShapeOnGrid (outline_shape pair outline offsets)
@@ -100,3 +90,10 @@ path_broken b points paths.NoLength rule e wide none = undrawn_rule b points rul
 path_broken b points (paths.Diagonal k) rule e wide none = undrawn_rule b points rule wide (none (λ x. absurd (cc))) e
 path_broken b points (paths.TurnBack k) rule e wide none = undrawn_rule b points rule wide (none (λ x. absurd (cc))) e
 path_broken b points paths.EmptyEnd rule e wide none = undrawn_rule b points rule wide (none (λ x. absurd (cc))) e
+
+pub wanting_path : (bad : PathBad) → undrawn_by bad ≡ undrawn.NoMemory → bad ≡ paths.NoMemory
+wanting_path paths.NoMemory e = refl
+wanting_path paths.NoLength e = absurd (cc)
+wanting_path (paths.Diagonal k) e = absurd (cc)
+wanting_path (paths.TurnBack k) e = absurd (cc)
+wanting_path paths.EmptyEnd e = absurd (cc)

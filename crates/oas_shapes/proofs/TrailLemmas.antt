@@ -70,6 +70,13 @@ pub few_mapped : {A : Type 0} (start : Point) (way : A → Point) (items : List 
     → length (places_along start (map way items)) ≤ 12
 few_mapped start way items few = let same = length-map items way in omega (arith, places_count start (map way items), same, few)
 
+pub added_count : (move : Point) (deltas : List Point) → length (added_up move deltas) ≡ length deltas
+added_count move [] = omega arith
+added_count move (d ∷ deltas) = let more = added_count (moved move d) deltas in omega (arith, more)
+
+pub few_changes : (start move : Point) (deltas : List Point) → length deltas < 12 → length (places_along start (added_up move deltas)) ≤ 12
+few_changes start move deltas few = few_places start (added_up move deltas) (let same = added_count move deltas in omega (arith, same, few))
+
 -- ---- what a finished list says
 
 pub finished_near : {E : Type 0} (whole : List Point) (r : Result (SmallVec Point) E) → AreNear (map doubled whole)

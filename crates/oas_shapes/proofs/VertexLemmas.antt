@@ -1,18 +1,19 @@
 -- The outline of a polygon by its vertices in half units.
-use Rattle.std.proofs.Common.{◌≡◌, ℕ, ◌-◌, ◌==◌, Bool, true, false, cond, List, [], ◌∷◌, ◌++◌, map, length, get_or, refl, sym, ap, subst, ◌∙◌, arith}
+use Rattle.std.proofs.Common.{◌≡◌, ℕ, ◌+◌, ◌-◌, ◌<◌, ◌≤◌, ◌==◌, Bool, true, false, cond, List, [], ◌∷◌, ◌++◌, map, length, get_or, refl, sym, ap, subst, ◌∙◌, arith}
 use Rattle.std.specs.Prelude.{All, ◌≢◌}
-use Rattle.std.proofs.lemmas.List.{map-append}
+use Rattle.std.proofs.lemmas.List.{map-append, length-map}
 use Rattle.std.proofs.lemmas.List.Elements.{All-nil, All-cons, All-head, All-tail, All-append, All-push}
 use Rattle.half_grid.specs.Outlines.{last_of, IsClosed}
 use Rattle.half_grid.specs.declared.plane.Point.{Point}
 use Rattle.layout_model.specs.Images.{moved}
 use Rattle.oas_record.specs.declared.fields.Deltas.{Deltas}
 use Rattle.oas_shapes.specs.Plane.{point, origin, doubled, places_along, IsNear, IsNearInHalves}
-use Rattle.oas_shapes.specs.PointLists.{implied, moves_by}
+use Rattle.oas_shapes.specs.PointLists.{implied, added_up, moves_by}
 use Rattle.oas_shapes.specs.Outlines.{closed, outline_of, path_points, polygon_outline}
 use Rattle.oas_shapes.specs.Rules.{AreNear}
 use Rattle.oas_shapes.specs.Vertices.{ring_by}
 use Rattle.oas_shapes.proofs.NearLemmas.{all_halves, halves_all}
+use Rattle.oas_shapes.proofs.TrailLemmas.{places_count, added_count}
 
 -- ---- the outline by the first and the last vertex
 
@@ -129,6 +130,19 @@ some_along p (m ∷ moves) e = absurd (cc)
 
 pub some_points : (at : Point) (d : Deltas) → path_points at d ≢ []
 some_points at d = some_along at (moves_by d.kind d.items)
+
+-- ---- few
+
+by_kind : (five : Bool) (at : Point) (items : List Point) → length (places_along at (cond five (added_up origin items) items)) ≡ length items + 1
+by_kind true at items = let more = places_count at (added_up origin items) in let same = added_count origin items in omega (arith, more, same)
+by_kind false at items = places_count at items
+
+pub few_vertices : (at : Point) (d : Deltas) (vertices : List Point) → vertices ≡ path_points at d → length d.items < 10 → length vertices ≤ 10
+few_vertices at d vertices is few =
+    let same : length vertices ≡ length (path_points at d) = ap length is in
+    let count = by_kind (d.kind == 5) at d.items in
+    let mapped = length-map (places_along at (moves_by d.kind d.items)) doubled in
+    omega (arith, same, count, mapped, few)
 
 -- ---- closed
 

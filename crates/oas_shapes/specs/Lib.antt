@@ -5,6 +5,7 @@ pub mod PointLists
 pub mod Repetitions
 pub mod Outlines
 pub mod Rules
+pub mod Short
 -- ---- what is kept inside
 pub mod Ways
 pub mod Sketches

@@ -6,7 +6,8 @@ ghost use Rattle.oas_shapes.specs.Sketches.{points_of};
 ghost use Rattle.oas_shapes.specs.Outlines.{figure_outline, polygon_outline as the_polygon_outline, outline_shape, path_shapes_of};
 ghost use Rattle.oas_shapes.specs.Repetitions.{offsets_in as all_offsets};
 ghost use Rattle.oas_shapes.specs.Rules.{AreNear, KeepsShape, KeepsFigure, KeepsPolygon, KeepsPath, IsLowest};
-ghost use Rattle.oas_shapes.specs.declared.drawing.Undrawn.TheVariants.{Rule};
+ghost use Rattle.oas_shapes.specs.Short.{IsShortIn, HasFewPoints, HasFewVertices};
+ghost use Rattle.oas_shapes.specs.declared.drawing.Undrawn.TheVariants.{Rule, NoMemory as Wanting};
 
 use crate::corners::{Outline, is_sized, outline_at};
 use crate::figures::{Brush, Figure};
@@ -46,6 +47,7 @@ fn shape_of(
     ensures grid { IfOk result IsShapeOnGrid }
     ensures edges { IfOk result (λ _. HasGridEdges outline.now) }
     ensures slant { (rule : ℕ) → result ≡ Err (Rule rule) → (rule ≡ 6) × ¬ HasGridEdges outline.now }
+    ensures memory { result ≡ Err Wanting → HasGridEdges outline.now }
 {
     match Shape::new(alloc, pair, outline, offsets) {
         Ok(shape) => Ok(shape),
@@ -54,17 +56,35 @@ fn shape_of(
     }
 }
 
-// The rule that an outline breaks whose repetition has too large a dimension.
+// The rule that an outline breaks whose repetition has too large a dimension. Where memory is wanting for its shape, its
+// edges have been looked at.
 fn rule_of_many(alloc: Global, pair: Pair, outline: &[Point]) -> Undrawn
     requires closed { IsClosed outline.now }
     requires near { AreNear outline.now }
     ensures many { (rule : ℕ) → result ≡ Rule rule → ((rule ≡ 6) × ¬ HasGridEdges outline.now) ⊎ ((rule ≡ 11) × HasGridEdges outline.now) }
+    ensures memory { (result ≡ Wanting) → ⊥ }
 {
     let Ok(offsets) = alone(alloc) else {
         return Undrawn::NoMemory;
     };
     match shape_of(alloc, pair, outline, offsets) {
-        Ok(_) => Undrawn::Rule(11),
+        Ok(_) | Err(Undrawn::NoMemory) => Undrawn::Rule(11),
+        Err(Undrawn::Rule(rule)) => Undrawn::Rule(rule),
+    }
+}
+
+// The rule that an outline breaks whose offsets break none, or else the want of memory for these.
+fn rule_of_unkept(alloc: Global, pair: Pair, outline: &[Point]) -> Undrawn
+    requires closed { IsClosed outline.now }
+    requires near { AreNear outline.now }
+    ensures slant { (rule : ℕ) → result ≡ Rule rule → (rule ≡ 6) × ¬ HasGridEdges outline.now }
+    ensures memory { result ≡ Wanting → HasGridEdges outline.now }
+{
+    let Ok(offsets) = alone(alloc) else {
+        return Undrawn::NoMemory;
+    };
+    match shape_of(alloc, pair, outline, offsets) {
+        Ok(_) => Undrawn::NoMemory,
         Err(bad) => bad,
     }
 }
@@ -83,11 +103,14 @@ fn repeated(
     ensures grid { IfOk result IsShapeOnGrid }
     ensures kept { IfOk result (λ _. (rule : ℕ) → KeepsShape outline.now (option_copied repetition.entry) rule) }
     ensures broken { (rule : ℕ) → result ≡ Err (Rule rule) → IsLowest (KeepsShape outline.now (option_copied repetition.entry)) rule }
+    ensures memory { IsShortIn (option_copied repetition.entry) → result ≡ Err Wanting
+        → (rule : ℕ) → KeepsShape outline.now (option_copied repetition.entry) rule }
 {
     match offsets_in(alloc, repetition) {
         Ok(offsets) => shape_of(alloc, pair, outline, offsets),
         Err(Unplaced::Far) => Err(Undrawn::Rule(1)),
         Err(Unplaced::Many) => Err(rule_of_many(alloc, pair, outline)),
+        Err(Unplaced::Unkept) => Err(rule_of_unkept(alloc, pair, outline)),
         Err(Unplaced::NoMemory) => Err(Undrawn::NoMemory),
     }
 }
@@ -107,6 +130,8 @@ fn add(
     ensures grid { All IsShapeOnGrid shapes.old → OnOk result (All IsShapeOnGrid shapes.new) }
     ensures kept { OnOk result ((rule : ℕ) → KeepsShape outline.now (option_copied repetition.entry) rule) }
     ensures broken { (rule : ℕ) → result ≡ Err (Rule rule) → IsLowest (KeepsShape outline.now (option_copied repetition.entry)) rule }
+    ensures memory { IsShortIn (option_copied repetition.entry) → result ≡ Err Wanting
+        → (rule : ℕ) → KeepsShape outline.now (option_copied repetition.entry) rule }
 {
     match repeated(alloc, pair, outline, repetition) {
         Ok(shape) => match shapes.push(shape) {
@@ -131,6 +156,8 @@ fn add_outline(
     ensures grid { All IsShapeOnGrid shapes.old → OnOk result (All IsShapeOnGrid shapes.new) }
     ensures kept { OnOk result ((rule : ℕ) → KeepsShape (points_of outline) (option_copied repetition.entry) rule) }
     ensures broken { (rule : ℕ) → result ≡ Err (Rule rule) → IsLowest (KeepsShape (points_of outline) (option_copied repetition.entry)) rule }
+    ensures memory { IsShortIn (option_copied repetition.entry) → result ≡ Err Wanting
+        → (rule : ℕ) → KeepsShape (points_of outline) (option_copied repetition.entry) rule }
 {
     match outline {
         Outline::Three(a, b, c) => add(alloc, pair, &[a, b, c, a], repetition, shapes),
@@ -138,7 +165,8 @@ fn add_outline(
     }
 }
 
-/// Adds the shape of a RECTANGLE, a TRAPEZOID or a CTRAPEZOID at this position, repeated so.
+/// Adds the shape of a RECTANGLE, a TRAPEZOID or a CTRAPEZOID at this position, repeated so. A rule that it breaks is told
+/// even where memory is wanting, unless the repetition lists more than twelve places.
 #[inline(always)]
 pub fn draw_figure(
     alloc: Global,
@@ -153,6 +181,8 @@ pub fn draw_figure(
     ensures grid { All IsShapeOnGrid shapes.old → OnOk result (All IsShapeOnGrid shapes.new) }
     ensures kept { OnOk result ((rule : ℕ) → KeepsFigure at figure (option_copied repetition.entry) rule) }
     ensures broken { (rule : ℕ) → result ≡ Err (Rule rule) → IsLowest (KeepsFigure at figure (option_copied repetition.entry)) rule }
+    ensures memory { IsShortIn (option_copied repetition.entry) → result ≡ Err Wanting
+        → (rule : ℕ) → KeepsFigure at figure (option_copied repetition.entry) rule }
 {
     if !is_sized(figure) {
         return Err(Undrawn::Rule(1));
@@ -163,7 +193,8 @@ pub fn draw_figure(
     }
 }
 
-/// Adds the shape of a POLYGON at this position, repeated so.
+/// Adds the shape of a POLYGON at this position, repeated so. A rule that it breaks is told even where memory is wanting,
+/// unless its outline or the repetition has more than twelve places.
 pub fn draw_polygon(
     alloc: Global,
     pair: Pair,
@@ -177,6 +208,8 @@ pub fn draw_polygon(
     ensures grid { All IsShapeOnGrid shapes.old → OnOk result (All IsShapeOnGrid shapes.new) }
     ensures kept { OnOk result ((rule : ℕ) → KeepsPolygon at points.now (option_copied repetition.entry) rule) }
     ensures broken { (rule : ℕ) → result ≡ Err (Rule rule) → IsLowest (KeepsPolygon at points.now (option_copied repetition.entry)) rule }
+    ensures memory { HasFewVertices points.now → IsShortIn (option_copied repetition.entry) → result ≡ Err Wanting
+        → (rule : ℕ) → KeepsPolygon at points.now (option_copied repetition.entry) rule }
 {
     match polygon_outline(alloc, at, points) {
         Ok(outline) => add(alloc, pair, outline.as_slice(), repetition, shapes),
@@ -185,7 +218,9 @@ pub fn draw_polygon(
     }
 }
 
-/// Adds the shapes of a PATH at this position, repeated so. One without width has none, but its numbers are looked at.
+/// Adds the shapes of a PATH at this position, repeated so. One without width has none, but its numbers are looked at. A
+/// rule that it breaks is told even where memory is wanting, unless its points or the repetition list more than twelve
+/// places.
 pub fn draw_path(
     alloc: Global,
     pair: Pair,
@@ -200,6 +235,8 @@ pub fn draw_path(
     ensures grid { All IsShapeOnGrid shapes.old → OnOk result (All IsShapeOnGrid shapes.new) }
     ensures kept { OnOk result ((rule : ℕ) → KeepsPath at brush points.now (option_copied repetition.entry) rule) }
     ensures broken { (rule : ℕ) → result ≡ Err (Rule rule) → IsLowest (KeepsPath at brush points.now (option_copied repetition.entry)) rule }
+    ensures memory { HasFewPoints points.now → IsShortIn (option_copied repetition.entry) → result ≡ Err Wanting
+        → (rule : ℕ) → KeepsPath at brush points.now (option_copied repetition.entry) rule }
 {
     if !brush.is_near() {
         return Err(Undrawn::Rule(1));

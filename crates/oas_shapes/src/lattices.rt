@@ -6,7 +6,7 @@ ghost use Rattle.oas_shapes.specs.Plane.{IsNear, doubled as in_halves};
 ghost use Rattle.oas_shapes.specs.Lattices.{IsLattice, places_of};
 ghost use Rattle.oas_shapes.specs.Rules.{AreNear};
 ghost use Rattle.oas_shapes.specs.Ways.{way_of};
-ghost use Rattle.oas_shapes.specs.declared.trails.Unplaced.TheVariants.{Far, Many};
+ghost use Rattle.oas_shapes.specs.declared.trails.Unplaced.TheVariants.{Far, Many, Unkept, NoMemory as Wanting};
 
 use crate::trails::Unplaced;
 use crate::wide::{ORIGIN, Wide, doubled, moved, times, widened};
@@ -73,10 +73,11 @@ impl Lattice {
         ensures ok { IfOk result (λ offsets. (offsets ≡ map in_halves (places_of self)) × AreOffsets offsets) }
         ensures far { (result ≡ Err Far) → ⊥ }
         ensures many { (result ≡ Err Many) → ⊥ }
+        ensures wanting { (result ≡ Err Wanting) → ⊥ }
     {
         match Offsets::grid(alloc, self.nu, self.nv, short(self.u), short(self.v)) {
             Ok(offsets) => Ok(offsets),
-            Err(_) => Err(Unplaced::NoMemory),
+            Err(_) => Err(Unplaced::Unkept),
         }
     }
 
@@ -86,6 +87,8 @@ impl Lattice {
         ensures ok { IfOk result (λ offsets. (offsets ≡ map in_halves (places_of self)) × AreOffsets offsets × IsTrue is_allowed) }
         ensures far { result ≡ Err Far → ¬ AreNear (map in_halves (places_of self)) }
         ensures many { result ≡ Err Many → AreNear (map in_halves (places_of self)) × (is_allowed ≡ false) }
+        ensures unkept { result ≡ Err Unkept → AreNear (map in_halves (places_of self)) × IsTrue is_allowed }
+        ensures wanting { (result ≡ Err Wanting) → ⊥ }
     {
         if !self.is_near() {
             return Err(Unplaced::Far);

@@ -7,7 +7,8 @@ ghost use Rattle.oas_shapes.specs.Plane.{IsLength};
 ghost use Rattle.oas_shapes.specs.Brushes.{halves_of, AreHalves, IsDrawn, drawn_by, undrawn_by, KeepsCourse};
 ghost use Rattle.oas_shapes.specs.Repetitions.{offsets_in as all_offsets};
 ghost use Rattle.oas_shapes.specs.Rules.{AreNear, IsBrush, IsLowest};
-ghost use Rattle.oas_shapes.specs.declared.drawing.Undrawn.TheVariants.{Rule};
+ghost use Rattle.oas_shapes.specs.Short.{IsShortIn};
+ghost use Rattle.oas_shapes.specs.declared.drawing.Undrawn.TheVariants.{Rule, NoMemory as Wanting};
 
 use crate::drawing::Undrawn;
 use crate::figures::Brush;
@@ -104,6 +105,7 @@ fn drawn(
     ensures grid { IfOk result (λ shapes. All IsShapeOnGrid shapes.items) }
     ensures kept { IfOk result (λ _. IsDrawn brush points.now) }
     ensures broken { (rule : ℕ) → result ≡ Err (Rule rule) → (rule ≡ 8) × ¬ IsDrawn brush points.now }
+    ensures memory { result ≡ Err Wanting → IsDrawn brush points.now }
 {
     let Halves { half, begin, end } = brush;
     match path_shapes(alloc, pair, points, half, begin, end, offsets, false) {
@@ -112,18 +114,36 @@ fn drawn(
     }
 }
 
-// The rule that a path breaks whose repetition has too large a dimension.
+// The rule that a path breaks whose repetition has too large a dimension. Where memory is wanting for its shapes, it has
+// been looked at whether it can be drawn.
 fn rule_of_many(alloc: Global, pair: Pair, points: &[Point], brush: Halves) -> Undrawn
     requires points { AreNear points.now }
     requires brush { AreHalves brush }
-    ensures { (rule : ℕ) → result ≡ Rule rule
+    ensures many { (rule : ℕ) → result ≡ Rule rule
         → ((rule ≡ 8) × ¬ IsDrawn brush points.now) ⊎ ((rule ≡ 11) × IsDrawn brush points.now) }
+    ensures memory { (result ≡ Wanting) → ⊥ }
 {
     let Ok(offsets) = alone(alloc) else {
         return Undrawn::NoMemory;
     };
     match drawn(alloc, pair, points, brush, &offsets) {
-        Ok(_) => Undrawn::Rule(11),
+        Ok(_) | Err(Undrawn::NoMemory) => Undrawn::Rule(11),
+        Err(Undrawn::Rule(rule)) => Undrawn::Rule(rule),
+    }
+}
+
+// The rule that a path breaks whose offsets break none, or else the want of memory for these.
+fn rule_of_unkept(alloc: Global, pair: Pair, points: &[Point], brush: Halves) -> Undrawn
+    requires points { AreNear points.now }
+    requires brush { AreHalves brush }
+    ensures undrawn { (rule : ℕ) → result ≡ Rule rule → (rule ≡ 8) × ¬ IsDrawn brush points.now }
+    ensures memory { result ≡ Wanting → IsDrawn brush points.now }
+{
+    let Ok(offsets) = alone(alloc) else {
+        return Undrawn::NoMemory;
+    };
+    match drawn(alloc, pair, points, brush, &offsets) {
+        Ok(_) => Undrawn::NoMemory,
         Err(bad) => bad,
     }
 }
@@ -142,11 +162,14 @@ fn repeated(
     ensures grid { IfOk result (λ shapes. All IsShapeOnGrid shapes.items) }
     ensures kept { IfOk result (λ _. (rule : ℕ) → KeepsCourse brush points.now (option_copied repetition.entry) rule) }
     ensures broken { (rule : ℕ) → result ≡ Err (Rule rule) → IsLowest (KeepsCourse brush points.now (option_copied repetition.entry)) rule }
+    ensures memory { IsShortIn (option_copied repetition.entry) → result ≡ Err Wanting
+        → (rule : ℕ) → KeepsCourse brush points.now (option_copied repetition.entry) rule }
 {
     match offsets_in(alloc, repetition) {
         Ok(offsets) => drawn(alloc, pair, points, brush, &offsets),
         Err(Unplaced::Far) => Err(Undrawn::Rule(1)),
         Err(Unplaced::Many) => Err(rule_of_many(alloc, pair, points, brush)),
+        Err(Unplaced::Unkept) => Err(rule_of_unkept(alloc, pair, points, brush)),
         Err(Unplaced::NoMemory) => Err(Undrawn::NoMemory),
     }
 }
@@ -175,6 +198,8 @@ pub(crate) fn add_path(
     ensures grid { All IsShapeOnGrid shapes.old → OnOk result (All IsShapeOnGrid shapes.new) }
     ensures kept { OnOk result ((rule : ℕ) → KeepsCourse brush points.now (option_copied repetition.entry) rule) }
     ensures broken { (rule : ℕ) → result ≡ Err (Rule rule) → IsLowest (KeepsCourse brush points.now (option_copied repetition.entry)) rule }
+    ensures memory { IsShortIn (option_copied repetition.entry) → result ≡ Err Wanting
+        → (rule : ℕ) → KeepsCourse brush points.now (option_copied repetition.entry) rule }
 {
     match repeated(alloc, pair, points, brush, repetition) {
         Ok(drawn) => match push_all(shapes, drawn) {

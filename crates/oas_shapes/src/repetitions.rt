@@ -1,5 +1,5 @@
 //! The offsets of repetitions.
-ghost use Rattle.std.specs.Prelude.{◌≡◌, ◌⊎◌, ◌↔◌, ◌<◌, ℕ, length, map, All, [], ◌∷◌, IsTrue, IfOk, IfErr, Err, option_copied, false};
+ghost use Rattle.std.specs.Prelude.{◌≡◌, ◌↔◌, ℕ, map, All, [], ◌∷◌, IsTrue, IsOk, IfOk, Err, option_copied, false};
 ghost use Rattle.layout_model.specs.Layouts.{AreOffsets};
 ghost use Rattle.oas_shapes.specs.Plane.{origin, doubled as in_halves, places_along};
 ghost use Rattle.oas_shapes.specs.Ways.{way_of, towards as towards_of};
@@ -8,8 +8,10 @@ ghost use Rattle.layout_model.specs.Images.{enlarged};
 ghost use Rattle.layout_model.specs.Grids.{grid_places};
 ghost use Rattle.oas_shapes.specs.Repetitions.{IsDimension, HasDimensions, HasDimensionsIn, offsets_of as the_offsets_of, offsets_in as all_offsets};
 ghost use Rattle.oas_shapes.specs.Rules.{AreNear, KeepsRepetition, IsLowest};
+ghost use Rattle.oas_shapes.specs.Short.{AreFew, IsShort, IsShortIn};
 ghost use Rattle.oas_shapes.specs.declared.drawing.Undrawn.TheVariants.{Rule};
-ghost use Rattle.oas_shapes.specs.declared.trails.Unplaced.TheVariants.{Far, Many};
+ghost use Rattle.oas_shapes.specs.declared.drawing.Undrawn.TheVariants as undrawns;
+ghost use Rattle.oas_shapes.specs.declared.trails.Unplaced.TheVariants.{Far, Many, Unkept, NoMemory as Wanting};
 
 use crate::drawing::Undrawn;
 use crate::lattices::Lattice;
@@ -61,12 +63,15 @@ pub fn dimensions_are_allowed(repetition: &Rep) -> bool
     }
 }
 
-/// One place.
+/// One place, which takes no memory.
 #[inline(always)]
 pub(crate) fn alone(alloc: Global) -> Result<Offsets, Unplaced>
+    ensures some { IsOk result }
     ensures ok { IfOk result (λ offsets. (offsets ≡ origin ∷ []) × AreOffsets offsets) }
     ensures far { (result ≡ Err Far) → ⊥ }
     ensures many { (result ≡ Err Many) → ⊥ }
+    ensures unkept { (result ≡ Err Unkept) → ⊥ }
+    ensures wanting { (result ≡ Err Wanting) → ⊥ }
 {
     match Offsets::list(alloc, &[ORIGIN]) {
         Ok(offsets) => Ok(offsets),
@@ -80,13 +85,15 @@ fn listed(alloc: Global, places: &[Point], is_allowed: bool) -> Result<Offsets, 
     ensures ok { IfOk result (λ offsets. (offsets ≡ places.now) × AreOffsets offsets × IsTrue is_allowed) }
     ensures far { (result ≡ Err Far) → ⊥ }
     ensures many { result ≡ Err Many → is_allowed ≡ false }
+    ensures unkept { result ≡ Err Unkept → IsTrue is_allowed }
+    ensures wanting { (result ≡ Err Wanting) → ⊥ }
 {
     if !is_allowed {
         return Err(Unplaced::Many);
     }
     match Offsets::list(alloc, places) {
         Ok(offsets) => Ok(offsets),
-        Err(_) => Err(Unplaced::NoMemory),
+        Err(_) => Err(Unplaced::Unkept),
     }
 }
 
@@ -101,7 +108,8 @@ fn by_spaces(
     ensures ok { IfOk result (λ offsets. (offsets ≡ map in_halves (places_along origin (map (λ space. enlarged grid (towards_of is_upright space)) spaces.now))) × AreOffsets offsets × IsTrue is_allowed) }
     ensures far { result ≡ Err Far → ¬ AreNear (map in_halves (places_along origin (map (λ space. enlarged grid (towards_of is_upright space)) spaces.now))) }
     ensures many { result ≡ Err Many → AreNear (map in_halves (places_along origin (map (λ space. enlarged grid (towards_of is_upright space)) spaces.now))) × (is_allowed ≡ false) }
-    ensures few { length spaces.now < 12 → IfErr result (λ bad. (bad ≡ Far) ⊎ AreNear (map in_halves (places_along origin (map (λ space. enlarged grid (towards_of is_upright space)) spaces.now)))) }
+    ensures unkept { result ≡ Err Unkept → AreNear (map in_halves (places_along origin (map (λ space. enlarged grid (towards_of is_upright space)) spaces.now))) × IsTrue is_allowed }
+    ensures few { AreFew spaces.now → result ≡ Err Wanting → ⊥ }
 {
     match along_spaces(alloc, is_upright, grid, spaces) {
         Ok(places) => listed(alloc, places.as_slice(), is_allowed),
@@ -120,7 +128,8 @@ fn by_own_spaces(
     ensures ok { IfOk result (λ offsets. (offsets ≡ map in_halves (places_along origin (map (towards_of is_upright) spaces.now))) × AreOffsets offsets × IsTrue is_allowed) }
     ensures far { result ≡ Err Far → ¬ AreNear (map in_halves (places_along origin (map (towards_of is_upright) spaces.now))) }
     ensures many { result ≡ Err Many → AreNear (map in_halves (places_along origin (map (towards_of is_upright) spaces.now))) × (is_allowed ≡ false) }
-    ensures few { length spaces.now < 12 → IfErr result (λ bad. (bad ≡ Far) ⊎ AreNear (map in_halves (places_along origin (map (towards_of is_upright) spaces.now)))) }
+    ensures unkept { result ≡ Err Unkept → AreNear (map in_halves (places_along origin (map (towards_of is_upright) spaces.now))) × IsTrue is_allowed }
+    ensures few { AreFew spaces.now → result ≡ Err Wanting → ⊥ }
 {
     by_spaces(alloc, is_upright, 1, spaces, is_allowed)
 }
@@ -129,7 +138,8 @@ fn by_moves(alloc: Global, moves: &[Point], is_allowed: bool) -> Result<Offsets,
     ensures ok { IfOk result (λ offsets. (offsets ≡ map in_halves (places_along origin moves.now)) × AreOffsets offsets × IsTrue is_allowed) }
     ensures far { result ≡ Err Far → ¬ AreNear (map in_halves (places_along origin moves.now)) }
     ensures many { result ≡ Err Many → AreNear (map in_halves (places_along origin moves.now)) × (is_allowed ≡ false) }
-    ensures few { length moves.now < 12 → IfErr result (λ bad. (bad ≡ Far) ⊎ AreNear (map in_halves (places_along origin moves.now))) }
+    ensures unkept { result ≡ Err Unkept → AreNear (map in_halves (places_along origin moves.now)) × IsTrue is_allowed }
+    ensures few { AreFew moves.now → result ≡ Err Wanting → ⊥ }
 {
     match along(alloc, ORIGIN, moves) {
         Ok(places) => listed(alloc, places.as_slice(), is_allowed),
@@ -147,7 +157,8 @@ fn by_moves_on_grid(
     ensures ok { IfOk result (λ offsets. (offsets ≡ map in_halves (places_along origin (map (enlarged grid) moves.now))) × AreOffsets offsets × IsTrue is_allowed) }
     ensures far { result ≡ Err Far → ¬ AreNear (map in_halves (places_along origin (map (enlarged grid) moves.now))) }
     ensures many { result ≡ Err Many → AreNear (map in_halves (places_along origin (map (enlarged grid) moves.now))) × (is_allowed ≡ false) }
-    ensures few { length moves.now < 12 → IfErr result (λ bad. (bad ≡ Far) ⊎ AreNear (map in_halves (places_along origin (map (enlarged grid) moves.now)))) }
+    ensures unkept { result ≡ Err Unkept → AreNear (map in_halves (places_along origin (map (enlarged grid) moves.now))) × IsTrue is_allowed }
+    ensures few { AreFew moves.now → result ≡ Err Wanting → ⊥ }
 {
     match along_grid(alloc, grid, moves) {
         Ok(places) => listed(alloc, places.as_slice(), is_allowed),
@@ -162,6 +173,8 @@ fn by_step(alloc: Global, dim: u64, step: Wide, is_allowed: bool) -> Result<Offs
     ensures ok { IfOk result (λ offsets. (offsets ≡ map in_halves (grid_places dim 1 (way_of step) origin)) × AreOffsets offsets × IsTrue is_allowed) }
     ensures far { result ≡ Err Far → ¬ AreNear (map in_halves (grid_places dim 1 (way_of step) origin)) }
     ensures many { result ≡ Err Many → AreNear (map in_halves (grid_places dim 1 (way_of step) origin)) × (is_allowed ≡ false) }
+    ensures unkept { result ≡ Err Unkept → AreNear (map in_halves (grid_places dim 1 (way_of step) origin)) × IsTrue is_allowed }
+    ensures wanting { (result ≡ Err Wanting) → ⊥ }
 {
     let steps = Lattice {
         nu: dim,
@@ -178,6 +191,8 @@ fn spread(alloc: Global, repetition: &Rep, is_allowed: bool) -> Result<Offsets, 
     ensures ok { IfOk result (λ offsets. (offsets ≡ the_offsets_of repetition.now) × AreOffsets offsets × HasDimensions repetition.now) }
     ensures far { result ≡ Err Far → ¬ AreNear (the_offsets_of repetition.now) }
     ensures many { result ≡ Err Many → AreNear (the_offsets_of repetition.now) × (is_allowed ≡ false) }
+    ensures unkept { result ≡ Err Unkept → AreNear (the_offsets_of repetition.now) × IsTrue is_allowed }
+    ensures few { IsShort repetition.now → result ≡ Err Wanting → ⊥ }
 {
     match repetition {
         Rep::Same => alone(alloc),
@@ -246,6 +261,8 @@ pub(crate) fn offsets_in(alloc: Global, repetition: Option<&Rep>) -> Result<Offs
     ensures allowed { IfOk result (λ _. HasDimensionsIn (option_copied repetition.entry)) }
     ensures far { result ≡ Err Far → ¬ AreNear (all_offsets (option_copied repetition.entry)) }
     ensures many { result ≡ Err Many → AreNear (all_offsets (option_copied repetition.entry)) × ¬ HasDimensionsIn (option_copied repetition.entry) }
+    ensures unkept { result ≡ Err Unkept → AreNear (all_offsets (option_copied repetition.entry)) × HasDimensionsIn (option_copied repetition.entry) }
+    ensures few { IsShortIn (option_copied repetition.entry) → result ≡ Err Wanting → ⊥ }
 {
     match repetition {
         Some(repetition) => spread(alloc, repetition, dimensions_are_allowed(repetition)),
@@ -253,17 +270,20 @@ pub(crate) fn offsets_in(alloc: Global, repetition: Option<&Rep>) -> Result<Offs
     }
 }
 
-/// The offsets of a repetition in half units: those of a placement, say. One that is regular is kept as a grid.
+/// The offsets of a repetition in half units: those of a placement, say. One that is regular is kept as a grid. Whatever
+/// rule one of at most twelve places or a regular one breaks is told, also where memory is wanting.
 pub fn offsets_of(alloc: Global, repetition: &Rep) -> Result<Offsets, Undrawn>
     ensures offsets { IfOk result (λ offsets. offsets ≡ the_offsets_of repetition.now) }
     ensures grid { IfOk result AreOffsets }
     ensures kept { IfOk result (λ _. (rule : ℕ) → KeepsRepetition repetition.now rule) }
     ensures broken { (rule : ℕ) → result ≡ Err (Rule rule) → IsLowest (KeepsRepetition repetition.now) rule }
+    ensures memory { IsShort repetition.now → result ≡ Err undrawns.NoMemory → (rule : ℕ) → KeepsRepetition repetition.now rule }
 {
     match spread(alloc, repetition, dimensions_are_allowed(repetition)) {
         Ok(offsets) => Ok(offsets),
         Err(Unplaced::Far) => Err(Undrawn::Rule(1)),
         Err(Unplaced::Many) => Err(Undrawn::Rule(11)),
+        Err(Unplaced::Unkept) => Err(Undrawn::NoMemory),
         Err(Unplaced::NoMemory) => Err(Undrawn::NoMemory),
     }
 }

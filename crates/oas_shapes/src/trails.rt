@@ -24,7 +24,9 @@ pub(crate) enum Unplaced {
     Far,
     /// A repetition's dimension is too large.
     Many,
-    /// Memory was wanting.
+    /// They are near and not too many, but memory was wanting to keep them.
+    Unkept,
+    /// Memory was wanting before all of them were known.
     NoMemory,
 }
 
@@ -76,6 +78,7 @@ impl Trail {
         ensures near { (whole : List APoint) → IsTrail whole self [] → AreNear (map in_halves whole) }
         ensures far { (result ≡ Err Far) → ⊥ }
         ensures few { (whole : List APoint) → IsTrail whole self [] → length whole ≤ 12 → IsOk result }
+        ensures room { (whole : List APoint) → IsTrail whole self [] → IfOk result (λ places. 12 ≤ places.capacity) }
     {
         let mut listed = self.listed;
         match listed.push(doubled(self.at)) {
@@ -92,6 +95,7 @@ pub(crate) fn along(alloc: Global, start: Point, moves: &[Point]) -> Result<Plac
     ensures near { IfOk result (λ places. AreNear places.items) }
     ensures far { result ≡ Err Far → ¬ AreNear (map in_halves (places_along start moves.now)) }
     ensures few { length moves.now < 12 → IfErr result (λ bad. bad ≡ Far) }
+    ensures room { IfOk result (λ places. 12 ≤ places.capacity) }
 {
     let mut trail = Trail::new(alloc, start);
     for step in moves {
@@ -103,7 +107,7 @@ pub(crate) fn along(alloc: Global, start: Point, moves: &[Point]) -> Result<Plac
     trail.finish()
 }
 
-/// The places along moves each of which is added to the one before it.
+/// The places along moves each of which is added to the one before it. Up to twelve places take no memory.
 pub(crate) fn along_changes(
     alloc: Global,
     start: Point,
@@ -113,6 +117,8 @@ pub(crate) fn along_changes(
     ensures places { IfOk result (λ places. places.items ≡ map in_halves (places_along start (added_up origin changes.now))) }
     ensures near { IfOk result (λ places. AreNear places.items) }
     ensures far { result ≡ Err Far → ¬ AreNear (map in_halves (places_along start (added_up origin changes.now))) }
+    ensures few { length changes.now < 12 → IfErr result (λ bad. bad ≡ Far) }
+    ensures room { IfOk result (λ places. 12 ≤ places.capacity) }
 {
     let mut trail = Trail::new(alloc, start);
     let mut way = ORIGIN;

@@ -21,3 +21,10 @@ returns-in-Some-clause-broken c = λ rule bad.
     let rep = option_copied c.args.repetition in
     figure_lowest c.args.at c.args.figure rep (c.if-not-is_sized.ensures.0 refl) (subst AreNear e c.in-Some.ensures.near) rule
     (subst (λ o. IsLowest (KeepsShape o rep) rule) e (c.add_outline.ensures.broken rule bad))
+
+pub returns-in-Some-clause-memory : goal.returns-in-Some-clause-memory
+returns-in-Some-clause-memory c = λ short wanting rule.
+    let e = c.in-Some.ensures.outline in
+    let rep = option_copied c.args.repetition in
+    figure_keeps c.args.at c.args.figure rep (c.if-not-is_sized.ensures.0 refl) (subst AreNear e c.in-Some.ensures.near) rule
+    (subst (λ o. KeepsShape o rep rule) e (c.add_outline.ensures.memory short wanting rule))

@@ -25,3 +25,11 @@ returns-in-Ok-clause-broken c = λ rule bad.
     path_lowest c.args.at c.args.brush c.args.points.now rep (c.if-not-is_near.ensures.0 refl) (subst AreNear c.in-Ok.ensures.places c.in-Ok.ensures.near) rule
     (subst (λ b. IsLowest (KeepsCourse b (path_points c.args.at c.args.points.now) rep) rule) c.halves.ensures.value
     (subst (λ ps. IsLowest (KeepsCourse c.halves.result ps rep) rule) e (c.add_path.ensures.broken rule bad)))
+
+pub returns-in-Ok-clause-memory : goal.returns-in-Ok-clause-memory
+returns-in-Ok-clause-memory c = λ few short wanting rule.
+    let e = c.as_slice.ensures ∙ c.in-Ok.ensures.places in
+    let rep = option_copied c.args.repetition in
+    path_keeps c.args.at c.args.brush c.args.points.now rep (c.if-not-is_near.ensures.0 refl) (subst AreNear c.in-Ok.ensures.places c.in-Ok.ensures.near) rule
+    (subst (λ b. KeepsCourse b (path_points c.args.at c.args.points.now) rep rule) c.halves.ensures.value
+    (subst (λ ps. KeepsCourse c.halves.result ps rep rule) e (c.add_path.ensures.memory short wanting rule)))

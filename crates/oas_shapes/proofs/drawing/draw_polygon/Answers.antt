@@ -27,3 +27,10 @@ returns-in-Ok-clause-broken c = λ rule bad.
     let rep = option_copied c.args.repetition in
     polygon_lowest c.args.at c.args.points.now rep (subst AreNear c.in-Ok.ensures.outline c.in-Ok.ensures.near) rule
     (subst (λ o. IsLowest (KeepsShape o rep) rule) e (c.add.ensures.broken rule bad))
+
+pub returns-in-Ok-clause-memory : goal.returns-in-Ok-clause-memory
+returns-in-Ok-clause-memory c = λ few short wanting rule.
+    let e = c.as_slice.ensures ∙ c.in-Ok.ensures.outline in
+    let rep = option_copied c.args.repetition in
+    polygon_keeps c.args.at c.args.points.now rep (subst AreNear c.in-Ok.ensures.outline c.in-Ok.ensures.near) rule
+    (subst (λ o. KeepsShape o rep rule) e (c.add.ensures.memory short wanting rule))

@@ -1,7 +1,7 @@
 use Rattle.std.proofs.Common.{◌∙◌, sym, ap, subst}
 use Rattle.oas_shapes.specs.Rules.{AreNear}
 use Rattle.oas_shapes.specs.Vertices.{ring_by}
-use Rattle.oas_shapes.proofs.VertexLemmas.{some_points, polygon_is, polygon_near, near_polygon}
+use Rattle.oas_shapes.proofs.VertexLemmas.{some_points, few_vertices, polygon_is, polygon_near, near_polygon}
 use Rattle.oas_shapes.proofs.lists.polygon_outline.Goals as goal
 
 pub closed-requires : goal.closed-requires
@@ -19,3 +19,10 @@ returns-in-Ok-closed-clause-near c =
 
 pub returns-in-Err-clause-far : goal.returns-in-Err-clause-far
 returns-in-Err-clause-far c = λ e near. c.in-Err.ensures.far e (near_polygon c.args.at c.args.points.now near)
+
+pub returns-in-Err-closed-clause-few : goal.returns-in-Err-closed-clause-few
+returns-in-Err-closed-clause-few c = λ few.
+    let taken =
+    c.in-Err-closed.ensures.few
+    (few_vertices c.args.at c.args.points.now c.in-Ok.vertices.items c.in-Ok.ensures.places few) c.in-Ok.ensures.room in
+    absurd (let no : ⊥ = cc in no)

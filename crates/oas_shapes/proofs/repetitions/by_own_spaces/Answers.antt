@@ -4,7 +4,7 @@ use Rattle.layout_model.specs.Layouts.{AreOffsets}
 use Rattle.oas_shapes.specs.Plane.{origin, doubled, places_along}
 use Rattle.oas_shapes.specs.Rules.{AreNear}
 use Rattle.oas_shapes.specs.Ways.{towards}
-use Rattle.oas_shapes.specs.declared.trails.Unplaced.TheVariants.{Far}
+use Rattle.oas_shapes.specs.declared.trails.Unplaced.TheVariants.{Far, Unkept}
 use Rattle.oas_shapes.proofs.NearLemmas.{map_same}
 use Rattle.oas_shapes.proofs.TrailLemmas.{once}
 use Rattle.oas_shapes.proofs.repetitions.by_own_spaces.Goals as goal
@@ -21,3 +21,10 @@ returns-clause-far c =
     let up = c.args.is_upright in
     let same = map_same (λ space. enlarged 1 (towards up space)) (towards up) (λ space. once (towards up space)) c.args.spaces.now in
     subst (λ ms. c.by_spaces.result ≡ Err Far → ¬ AreNear (map doubled (places_along origin ms))) same c.by_spaces.ensures.far
+
+pub returns-clause-unkept : goal.returns-clause-unkept
+returns-clause-unkept c =
+    let up = c.args.is_upright in
+    let same = map_same (λ space. enlarged 1 (towards up space)) (towards up) (λ space. once (towards up space)) c.args.spaces.now in
+    subst (λ ms. c.by_spaces.result ≡ Err Unkept → AreNear (map doubled (places_along origin ms)) × IsTrue c.args.is_allowed) same
+    c.by_spaces.ensures.unkept

@@ -1,11 +1,12 @@
-use Rattle.std.proofs.Common.{ℕ, List, ◌∙◌, map, sym, ap}
+use Rattle.std.proofs.Common.{ℕ, List, ◌∙◌, map, sym, ap, subst}
 use Rattle.half_grid.specs.declared.plane.Point.{Point}
 use Rattle.layout_model.specs.Grids.{grid_places}
 use Rattle.layout_model.specs.Images.{enlarged}
 use Rattle.oas_shapes.specs.Plane.{origin, east, north, places_along}
 use Rattle.oas_shapes.specs.Ways.{way_of}
 use Rattle.oas_shapes.specs.Repetitions.{steps_of}
-use Rattle.oas_shapes.proofs.ArmLemmas.{arm_ok, arm_far, arm_same}
+use Rattle.oas_shapes.specs.Short.{AreFew, IsShort}
+use Rattle.oas_shapes.proofs.ArmLemmas.{arm_ok, arm_far, arm_unkept, arm_same}
 use Rattle.oas_shapes.proofs.repetitions.spread.Goals as goal
 
 pub returns-in-RowSpaces-clause-ok : goal.returns-in-RowSpaces-clause-ok
@@ -98,3 +99,79 @@ returns-in-Lattice-clause-far c =
     (ap (λ u. grid_places g.n_dim g.m_dim u (way_of c.widened-in-Lattice.result)) c.widened.ensures
     ∙ ap (λ v. grid_places g.n_dim g.m_dim g.u v) c.widened-in-Lattice.ensures ∙ sym (ap steps_of g.is))
     c.offsets-in-Lattice.ensures.far
+
+pub returns-in-RowSpaces-clause-unkept : goal.returns-in-RowSpaces-clause-unkept
+returns-in-RowSpaces-clause-unkept c =
+    let places : List ℕ → List Point = λ xs. places_along origin (map east xs) in
+    arm_unkept c.args.repetition.now c.args.is_allowed (places c.as_slice.result.now) _
+    (ap places c.as_slice.ensures ∙ sym (ap steps_of c.in-RowSpaces.is)) c.by_own_spaces.ensures.unkept
+
+pub returns-in-RowSpaces-clause-few : goal.returns-in-RowSpaces-clause-few
+returns-in-RowSpaces-clause-few c = λ short.
+    c.by_own_spaces.ensures.few (subst AreFew (sym c.as_slice.ensures) (subst IsShort c.in-RowSpaces.is short))
+
+pub returns-in-ColumnSpaces-clause-unkept : goal.returns-in-ColumnSpaces-clause-unkept
+returns-in-ColumnSpaces-clause-unkept c =
+    let places : List ℕ → List Point = λ xs. places_along origin (map north xs) in
+    arm_unkept c.args.repetition.now c.args.is_allowed (places c.as_slice-in-ColumnSpaces.result.now) _
+    (ap places c.as_slice-in-ColumnSpaces.ensures ∙ sym (ap steps_of c.in-ColumnSpaces.is)) c.by_own_spaces-in-ColumnSpaces.ensures.unkept
+
+pub returns-in-ColumnSpaces-clause-few : goal.returns-in-ColumnSpaces-clause-few
+returns-in-ColumnSpaces-clause-few c = λ short.
+    c.by_own_spaces-in-ColumnSpaces.ensures.few (subst AreFew (sym c.as_slice-in-ColumnSpaces.ensures) (subst IsShort c.in-ColumnSpaces.is short))
+
+pub returns-in-RowOnGrid-clause-unkept : goal.returns-in-RowOnGrid-clause-unkept
+returns-in-RowOnGrid-clause-unkept c =
+    let places : List ℕ → List Point = λ xs. places_along origin (map (λ space. enlarged c.in-RowOnGrid.grid (east space)) xs) in
+    arm_unkept c.args.repetition.now c.args.is_allowed (places c.as_slice-in-RowOnGrid.result.now) _
+    (ap places c.as_slice-in-RowOnGrid.ensures ∙ sym (ap steps_of c.in-RowOnGrid.is)) c.by_spaces.ensures.unkept
+
+pub returns-in-RowOnGrid-clause-few : goal.returns-in-RowOnGrid-clause-few
+returns-in-RowOnGrid-clause-few c = λ short.
+    c.by_spaces.ensures.few (subst AreFew (sym c.as_slice-in-RowOnGrid.ensures) (subst IsShort c.in-RowOnGrid.is short))
+
+pub returns-in-ColumnOnGrid-clause-unkept : goal.returns-in-ColumnOnGrid-clause-unkept
+returns-in-ColumnOnGrid-clause-unkept c =
+    let places : List ℕ → List Point = λ xs. places_along origin (map (λ space. enlarged c.in-ColumnOnGrid.grid (north space)) xs) in
+    arm_unkept c.args.repetition.now c.args.is_allowed (places c.as_slice-in-ColumnOnGrid.result.now) _
+    (ap places c.as_slice-in-ColumnOnGrid.ensures ∙ sym (ap steps_of c.in-ColumnOnGrid.is)) c.by_spaces-in-ColumnOnGrid.ensures.unkept
+
+pub returns-in-ColumnOnGrid-clause-few : goal.returns-in-ColumnOnGrid-clause-few
+returns-in-ColumnOnGrid-clause-few c = λ short.
+    c.by_spaces-in-ColumnOnGrid.ensures.few (subst AreFew (sym c.as_slice-in-ColumnOnGrid.ensures) (subst IsShort c.in-ColumnOnGrid.is short))
+
+pub returns-in-Moves-clause-unkept : goal.returns-in-Moves-clause-unkept
+returns-in-Moves-clause-unkept c =
+    let places : List Point → List Point = λ xs. places_along origin xs in
+    arm_unkept c.args.repetition.now c.args.is_allowed (places c.as_slice-in-Moves.result.now) _
+    (ap places c.as_slice-in-Moves.ensures ∙ sym (ap steps_of c.in-Moves.is)) c.by_moves.ensures.unkept
+
+pub returns-in-Moves-clause-few : goal.returns-in-Moves-clause-few
+returns-in-Moves-clause-few c = λ short.
+    c.by_moves.ensures.few (subst AreFew (sym c.as_slice-in-Moves.ensures) (subst IsShort c.in-Moves.is short))
+
+pub returns-in-MovesOnGrid-clause-unkept : goal.returns-in-MovesOnGrid-clause-unkept
+returns-in-MovesOnGrid-clause-unkept c =
+    let places : List Point → List Point = λ xs. places_along origin (map (enlarged c.in-MovesOnGrid.grid) xs) in
+    arm_unkept c.args.repetition.now c.args.is_allowed (places c.as_slice-in-MovesOnGrid.result.now) _
+    (ap places c.as_slice-in-MovesOnGrid.ensures ∙ sym (ap steps_of c.in-MovesOnGrid.is)) c.by_moves_on_grid.ensures.unkept
+
+pub returns-in-MovesOnGrid-clause-few : goal.returns-in-MovesOnGrid-clause-few
+returns-in-MovesOnGrid-clause-few c = λ short.
+    c.by_moves_on_grid.ensures.few (subst AreFew (sym c.as_slice-in-MovesOnGrid.ensures) (subst IsShort c.in-MovesOnGrid.is short))
+
+pub returns-in-Grid-clause-unkept : goal.returns-in-Grid-clause-unkept
+returns-in-Grid-clause-unkept c =
+    let g = c.in-Grid in
+    arm_unkept c.args.repetition.now c.args.is_allowed (grid_places g.x_dim g.y_dim (way_of c.towards.result) (way_of c.towards-in-Grid.result)) _
+    (ap (λ u. grid_places g.x_dim g.y_dim u (way_of c.towards-in-Grid.result)) c.towards.ensures
+    ∙ ap (λ v. grid_places g.x_dim g.y_dim (east g.x_space) v) c.towards-in-Grid.ensures ∙ sym (ap steps_of g.is))
+    c.offsets.ensures.unkept
+
+pub returns-in-Lattice-clause-unkept : goal.returns-in-Lattice-clause-unkept
+returns-in-Lattice-clause-unkept c =
+    let g = c.in-Lattice in
+    arm_unkept c.args.repetition.now c.args.is_allowed (grid_places g.n_dim g.m_dim (way_of c.widened.result) (way_of c.widened-in-Lattice.result)) _
+    (ap (λ u. grid_places g.n_dim g.m_dim u (way_of c.widened-in-Lattice.result)) c.widened.ensures
+    ∙ ap (λ v. grid_places g.n_dim g.m_dim g.u v) c.widened-in-Lattice.ensures ∙ sym (ap steps_of g.is))
+    c.offsets-in-Lattice.ensures.unkept

@@ -41,3 +41,10 @@ returns-clause-few c = λ few.
     let whole = places_along c.args.start items in
     let t = subst (λ xs. IsTrail whole c.loop-step.trail xs) (drop_all c.loop-step.step-index items (omega arith)) c.loop-step.invariant in
     no_refusal _ c.finish.result (c.finish.ensures.few whole t (few_places c.args.start items few))
+
+pub returns-clause-room : goal.returns-clause-room
+returns-clause-room c =
+    let items = c.args.moves.now in
+    let whole = places_along c.args.start items in
+    let t = subst (λ xs. IsTrail whole c.loop-step.trail xs) (drop_all c.loop-step.step-index items (omega arith)) c.loop-step.invariant in
+    c.finish.ensures.room whole t

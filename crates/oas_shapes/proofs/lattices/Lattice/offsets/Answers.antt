@@ -9,3 +9,6 @@ returns-then-not-is_near-clause-far c = λ e near.
 
 pub returns-then-not-is_allowed-clause-many : goal.returns-then-not-is_allowed-clause-many
 returns-then-not-is_allowed-clause-many c = λ e. (all_halves (places_of c.args.self) (c.if-not-is_near.ensures.0 refl), cc)
+
+pub returns-clause-unkept : goal.returns-clause-unkept
+returns-clause-unkept c = λ e. (all_halves (places_of c.args.self) (c.if-not-is_near.ensures.0 refl), cc)
