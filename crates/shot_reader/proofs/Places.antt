@@ -1,13 +1,13 @@
 -- A number that stands next among the bytes is read, and what follows it stands after it.
-use Rattle.std.proofs.Common.{◌≡◌, ℕ, ◌+◌, ◌<◌, ◌≤◌, ◌^◌, ℤ, unsigned_abs, List, ◌++◌, Bool, true, false, nat_eq, length, take, drop, min, refl, arith, ap, sym, subst, ◌∙◌}
+use Rattle.std.proofs.Common.{◌≡◌, ℕ, ◌+◌, ◌<◌, ◌≤◌, ◌^◌, List, ◌++◌, Bool, true, false, nat_eq, length, take, drop, min, refl, arith, ap, sym, subst, ◌∙◌}
 use Rattle.std.proofs.lemmas.List.{take-append-drop, length-append, length-drop}
 use Rattle.std.proofs.Math.Seq.{drop-append_seam, drop-append-add, take-append_seam}
 use Rattle.std.specs.Cmp.Lexicographic.{same_text, other_text}
 use lib.Pointwise.{pointwise}
 use Rattle.oas_lex.specs.ShotText.{head}
-use Rattle.oas_lex.specs.Spelling.{unsigned_text, signed_text}
-use Rattle.oas_lex.specs.Numbers.{HasUnsigned, HasSigned}
-use Rattle.oas_lex.proofs.ForCallers.{unsigned_back, signed_back, before_unit, after_unit, head_is}
+use Rattle.oas_lex.specs.Spelling.{unsigned_text}
+use Rattle.oas_lex.specs.Numbers.{HasUnsigned}
+use Rattle.oas_lex.proofs.ForCallers.{unsigned_back, before_unit, after_unit, head_is}
 
 take_size : (at : ℕ) (bytes : List ℕ) → at ≤ length bytes → length (take at bytes) ≡ at
 take_size at bytes h = omega (arith, ap length (take-append-drop at bytes), length-append (take at bytes) (drop at bytes), length-drop at bytes, h)
@@ -28,11 +28,6 @@ pub unsigned_there : (at n : ℕ) (bytes after : List ℕ) → at ≤ length byt
 unsigned_there at n bytes after h narrow e =
     subst (λ (p : ℕ). HasUnsigned bytes p n (p + length (unsigned_text n))) (take_size at bytes h)
     (subst (λ (l : List ℕ). HasUnsigned l (length (take at bytes)) n (length (take at bytes) + length (unsigned_text n))) (sym (split_at at bytes (unsigned_text n) after e)) (unsigned_back n (take at bytes) after narrow))
-
-pub signed_there : (at : ℕ) (z : ℤ) (bytes after : List ℕ) → at ≤ length bytes → unsigned_abs z < 2 ^ 62 → drop at bytes ≡ signed_text z ++ after → HasSigned bytes at z (at + length (signed_text z))
-signed_there at z bytes after h narrow e =
-    subst (λ (p : ℕ). HasSigned bytes p z (p + length (signed_text z))) (take_size at bytes h)
-    (subst (λ (l : List ℕ). HasSigned l (length (take at bytes)) z (length (take at bytes) + length (signed_text z))) (sym (split_at at bytes (signed_text z) after e)) (signed_back z (take at bytes) after narrow))
 
 -- the offset and what follows, for a number that was read
 pub read_next : {A : Type 0} (z w : A) (at next : ℕ) (bytes text after : List ℕ) → at ≤ length bytes → drop at bytes ≡ text ++ after → w ≡ z → next ≡ at + length text → (w ≡ z) × (drop next bytes ≡ after)

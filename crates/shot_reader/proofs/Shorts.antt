@@ -1,11 +1,9 @@
 -- A number that ends with no group of zeros is in its one shortest spelling.
-use Rattle.std.proofs.Common.{◌≡◌, ◌≢◌, ◌⊎◌, ℕ, zero, suc, ◌+◌, ◌-◌, ◌*◌, ◌/◌, ◌%◌, ◌^◌, ◌<◌, ◌≤◌, ℤ, pos, negsuc, neg_ℤ, Bool, true, false, cond, List, [], ◌∷◌, ◌++◌, length, take, drop, get_or, refl, arith, inl, inr, ap, sym, subst, ◌∙◌}
+use Rattle.std.proofs.Common.{◌≡◌, ◌≢◌, ◌⊎◌, ℕ, zero, suc, ◌+◌, ◌-◌, ◌*◌, ◌/◌, ◌%◌, ◌^◌, ◌<◌, ◌≤◌, List, [], ◌∷◌, ◌++◌, length, take, drop, get_or, arith, inl, inr, ap, sym, subst, ◌∙◌}
 use Rattle.std.proofs.lemmas.Bool.{cases_lt, cases_eq}
-use Rattle.std.specs.Ordering.{int_eq}
-use Rattle.std.proofs.lemmas.Bool.Decides.{nat_tests, Decides-int_eq}
 use Rattle.std.proofs.lemmas.List.{drop-drop, length-drop, length-append, take-append-drop, get_or-drop, get_or-take, get_or_append_left, drop_more}
-use Rattle.oas_lex.specs.Spelling.{groups, unsigned_text, signed_code, signed_text}
-use Rattle.oas_lex.specs.Numbers.{IsWhole, HasUnsigned, value_of, signed_value}
+use Rattle.oas_lex.specs.Spelling.{groups, unsigned_text, signed_text}
+use Rattle.oas_lex.specs.Numbers.{IsWhole, HasUnsigned, value_of}
 use Rattle.oas_lex.specs.ShotText.{id_for, delta_text, text_of}
 use Rattle.oas_lex.specs.declared.fields.ShotFields.{ShotFields}
 use Rattle.oas_lex.proofs.ForCallers.{groups_last, groups_next, whole_some, text_opens}
@@ -152,38 +150,6 @@ short_by bytes at m next e s = subst (λ (i : ℕ). IsShort bytes at i) e s
 
 -- ---- signed numbers
 
-value_even : (code : ℕ) → code % 2 ≡ 0 → signed_value code ≡ pos (code / 2)
-value_even code h = grind (arith, nat_tests)
-
-value_odd : (code : ℕ) → code % 2 ≡ 1 → signed_value code ≡ neg_ℤ (pos (code / 2))
-value_odd code h = grind (arith, nat_tests)
-
-code_neg : (n : ℕ) → 1 ≤ n → signed_code (neg_ℤ (pos n)) ≡ 2 * n + 1
-code_neg zero h = absurd (omega (arith, h))
-code_neg (suc n) h = omega arith
-
--- the code of a code's number is the code, but for that of minus 0
-pub code_again : (code : ℕ) → code ≢ 1 → signed_code (signed_value code) ≡ code
-code_again code h =
-    elim (cases_lt (code % 2) 1) [
-      | inl even ↦ let none : code % 2 ≡ 0 = omega (arith, even) in ap signed_code (value_even code none) ∙ omega (arith, none)
-      | inr odd ↦ let one : code % 2 ≡ 1 = omega (arith, odd) in elim (cases_lt (code / 2) 1) [
-        | inl few ↦ absurd (h (omega (arith, one, few)))
-        | inr some ↦ ap signed_code (value_odd code one) ∙ (code_neg (code / 2) some ∙ omega (arith, one))
-      ]
-    ]
-
-pub no_minus : (z : ℤ) → signed_code z ≢ 1
-no_minus (pos n) e = omega (arith, e)
-no_minus (negsuc n) e = omega (arith, e)
-
-pub value_back : (z : ℤ) → signed_value (signed_code z) ≡ z
-value_back (pos n) = let half : 2 * n / 2 ≡ n = omega arith in value_even (2 * n) (omega arith) ∙ ap pos half
-value_back (negsuc n) =
-    let half : (2 * (n + 1) + 1) / 2 ≡ suc n = omega arith in
-    let turned : neg_ℤ (pos ((2 * (n + 1) + 1) / 2)) ≡ negsuc n = rw half refl in
-    value_odd (2 * (n + 1) + 1) (omega arith) ∙ turned
-
 -- ---- a record
 
 plus_two : (at : ℕ) → at + 1 + 1 ≡ at + 2
@@ -214,10 +180,3 @@ spelled_record f bytes at start a b w h l r x y id s i within ea eb ew eh el er 
     (er ∙ ap (λ (t : List ℕ). delta_text f.right_delta ++ t)
     (ex ∙ ap (λ (t : List ℕ). signed_text f.x ++ t) ey)))))))
     ∙ sym (text_opens f (drop y bytes)))
-
-delta_by : (b : Bool) (z : ℤ) → (b ≡ true → z ≡ pos 0) → z ≢ pos 0 → cond b [] (signed_text z) ≡ signed_text z
-delta_by true z f h = absurd (h (f refl))
-delta_by false z f h = refl
-
-pub delta_some : (z : ℤ) → z ≢ pos 0 → delta_text z ≡ signed_text z
-delta_some z h = delta_by (int_eq z (pos 0)) z (Decides-int_eq z (pos 0)).0 h
