@@ -6,10 +6,9 @@ use Rattle.half_grid.specs.Windows.{RowRange}
 use Rattle.density_map.specs.Frames.{IsNear}
 use Rattle.density_map.specs.Windows.{IsWindowSize, IsRowWithinReach}
 use Rattle.density_map.proofs.ForCallers.{next_side, less_by_multiples, IsFloor, gap_is, no_gap}
-use Rattle.deck_plan.specs.Needs.{IsAskedBand}
 use Rattle.density_report.specs.declared.strips.Strip.{Strip}
 use Rattle.deck_plan.specs.Bands.{AreRowsNear}
-use Rattle.density_report.specs.Rows.{rows_of, IsNearStrip}
+use Rattle.density_report.specs.Rows.{IsNearStrip}
 
 some : (size : ℤ) → IsWindowSize size → pos 0 <ℤ size
 some size h = let low = h.low in omega (arith, ints, low)
@@ -50,23 +49,6 @@ strip_after strip size row y h near same next less high =
     subst (λ (s : ℤ). IsNearStrip (record { size = s; row = row })) (sym same)
     (subst (λ (r : ℤ). IsNearStrip (record { size = strip.size; row = r })) (sym next)
     (near_strip strip.size (strip.row +ℤ pos 1) h (omega (arith, ints, e, low, least)) (omega (arith, ints, e, less, high, most))))
-
--- its rows are rows that an area may be asked for
-pub asked : (strip : Strip) → IsWindowSize strip.size → IsNearStrip strip → IsAskedBand (rows_of strip.size strip.row)
-asked strip h near =
-    let e = next_side strip.row strip.size in
-    let low = near.low in
-    let high = near.high in
-    let least = h.low in
-    let most = h.high in
-    record {
-      is_band = record {
-        low = record { low = omega (arith, ints, low); high = omega (arith, ints, high) };
-        high = record { low = omega (arith, ints, e, low, least); high = omega (arith, ints, e, high, most) };
-        has_rows = omega (arith, ints, e, least);
-      };
-      few = omega (arith, ints, e, most);
-    }
 
 pub reached : (strip : Strip) → IsWindowSize strip.size → IsNearStrip strip → IsRowWithinReach strip.size strip.row
 reached strip h near =

@@ -1,50 +1,12 @@
 -- The first entry that has the most, and the sum, as entries come one after another.
-use Rattle.std.proofs.Common.{ℕ, ◌+◌, ◌≤◌, ◌<◌, ◌≡◌, ℤ, List, [], ◌∷◌, ◌++◌, Option, None, take, length, get_or, arith, refl, sym, ap, subst, ◌∙◌, append_assoc}
+use Rattle.std.proofs.Common.{ℕ, ◌+◌, ◌<◌, ◌≡◌, ℤ, List, [], ◌∷◌, ◌++◌, Option, None, take, length, get_or, arith, refl, sym, ap, subst, ◌∙◌, append_assoc}
 use Rattle.std.proofs.lemmas.List.{take_more}
-use Rattle.std.proofs.lemmas.List.Elements.{All-nil, All-cons, All-append, All-push, All-weaker}
 use Rattle.std.proofs.lemmas.List.Sums.{sum_by_push}
-use Rattle.std.specs.List.{All}
 use Rattle.density_map.specs.declared.counts.Counted.{Counted}
 use Rattle.density_report.specs.declared.entries.Entry.{Entry}
 use Rattle.density_report.specs.declared.entries.Totals.{Totals}
-use Rattle.density_report.specs.Tables.{IsFirstGreatest, IsMost}
+use Rattle.density_report.specs.Tables.{IsMost}
 use Rattle.density_report.specs.Rows.{entry_of, entries_of, sum_of, AreTotals}
-
--- ---- one more entry, which is the last
-
-pub last_not_more : (entries : List Entry) (greatest last : Entry) → last.tiles ≤ greatest.tiles → IsFirstGreatest entries greatest → IsFirstGreatest (entries ++ last ∷ []) greatest
-last_not_more entries greatest last less p = record {
-  before = p.before;
-  after = p.after ++ last ∷ [];
-  here = ap (λ l. l ++ last ∷ []) p.here ∙ append_assoc p.before (greatest ∷ p.after) (last ∷ []);
-  less = p.less;
-  no_greater = All-push (λ (e : Entry). e.tiles ≤ greatest.tiles) p.after last p.no_greater less;
-}
-
-pub last_more : (entries : List Entry) (greatest last : Entry) → greatest.tiles < last.tiles → IsFirstGreatest entries greatest → IsFirstGreatest (entries ++ last ∷ []) last
-last_more entries greatest last more p = record {
-  before = entries;
-  after = [];
-  here = refl;
-  less = subst (λ l. All (λ (e : Entry). e.tiles < last.tiles) l) (sym p.here)
-      (All-append (λ (e : Entry). e.tiles < last.tiles) p.before (greatest ∷ p.after)
-      (All-weaker (λ (e : Entry). e.tiles < greatest.tiles) (λ (e : Entry). e.tiles < last.tiles) (λ e h. omega (arith, h, more)) p.before p.less)
-      (All-cons (λ (e : Entry). e.tiles < last.tiles) greatest p.after more
-      (All-weaker (λ (e : Entry). e.tiles ≤ greatest.tiles) (λ (e : Entry). e.tiles < last.tiles) (λ e h. omega (arith, h, more)) p.after p.no_greater)));
-  no_greater = All-nil (λ (e : Entry). e.tiles ≤ last.tiles);
-}
-
-pub last_alone : (last : Entry) → IsFirstGreatest (last ∷ []) last
-last_alone last = record {
-  before = [];
-  after = [];
-  here = refl;
-  less = All-nil (λ (e : Entry). e.tiles < last.tiles);
-  no_greater = All-nil (λ (e : Entry). e.tiles ≤ last.tiles);
-}
-
-pub none_yet : (entries : List Entry) (last : Entry) → entries ≡ [] → IsFirstGreatest (entries ++ last ∷ []) last
-none_yet entries last none = subst (λ (l : List Entry). IsFirstGreatest (l ++ last ∷ []) last) (sym none) (last_alone last)
 
 -- ---- a row of windows, count by count
 

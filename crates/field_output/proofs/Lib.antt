@@ -7,4 +7,3 @@ pub mod FileLemmas
 pub mod ListLemmas
 pub mod NextLemmas
 pub mod SpanLemmas
-pub mod ForCallers

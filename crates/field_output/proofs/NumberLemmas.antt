@@ -51,10 +51,6 @@ ascending_sorted low ns h = λ k d from below. sorted_at low ns h k d below
 
 -- ---- two lists of numbers, merged
 
-merge_none : (xs : List ℕ) → merge nat_cmp xs [] ≡ xs
-merge_none [] = refl
-merge_none (x ∷ xs) = ap (λ l. x ∷ l) (merge_none xs)
-
 first_goes : (n : ℕ) (xs ys : List ℕ) → IsAscending (suc n) ys → merge nat_cmp (n ∷ xs) ys ≡ n ∷ merge nat_cmp xs ys
 first_goes n xs [] h = refl
 first_goes n xs (y ∷ ys) h = ap (λ b. cond b (n ∷ merge nat_cmp xs (y ∷ ys)) (y ∷ merge_from nat_cmp n (merge nat_cmp xs) ys)) (less_first n y
