@@ -9,9 +9,7 @@ use Rattle.oas_fields.specs.declared.fields.Fields.{Fields}
 use Rattle.oas_fields.specs.declared.variables.Variable.{Variable}
 use Rattle.oas_fields.specs.declared.variables.Variable.TheVariants.{Layer, Datatype, GeometryW, GeometryH, PolygonPoints, PathHalfWidth, PathStart, PathEnd, PathPoints, CtrapezoidType, PlacementCell, Repetition}
 use Rattle.oas_reader.specs.Bodies.{body_of}
-use Rattle.oas_reader.specs.Drawn.{pair_in}
 use Rattle.oas_reader.specs.Kept.{is_defined_in, first_in, form_needs, has_a_pair, pair_needs, repetition_needs, undefined_in}
-use Rattle.oas_reader.specs.Meaning.{pair_of}
 use Rattle.oas_reader.specs.Undefined.{is_there, is_defined, repeated, needs_of, first_undefined, undefined_of}
 
 -- ---- values that are needed
@@ -107,6 +105,3 @@ undefined_is past r fields a =
     ∙ sym (ap (λ needs. first_undefined (r ∷ past) needs) (needs_are past r))
 
 -- ---- pairs and shapes
-
-pub pair_is : (past : List OasRecord) (fields : Fields) → AreFields past fields → pair_in fields ≡ pair_of past
-pair_is past fields a = rw (a.layer, a.datatype) refl

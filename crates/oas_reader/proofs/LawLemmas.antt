@@ -101,13 +101,6 @@ good_in bytes unit wanted past at (y ∷ more) up (inl same) run allowed =
     good_at bytes unit wanted past at y more up same run.0 allowed.0 allowed.1
 good_in bytes unit wanted past at (y ∷ more) up (inr on) run allowed = good_in bytes unit wanted past at more y.at on run.1 allowed.2
 
--- a record at the offset is the one that stands there
-record IsThere (bytes : List ℕ) (past : List Item) (at : ℕ) (P : OasRecord → ℕ → Type 0) : Type 0 where
-  r : OasRecord
-  next : ℕ
-  stands : HasRecord bytes at (tables_at_end (records_in past)) r next
-  holds : P r next
-
 abbrev Fault : List ℕ → ℕ → List Pair → List Item → ℕ → OasBad → Type 0
 Fault bytes unit wanted past at bad = IsLexicalFault bytes past at bad ⊎ IsRecordFault bytes unit wanted past at bad
 
@@ -239,10 +232,6 @@ same_fault bytes unit wanted past at one other law apart cause (inr f) (inr g) =
     same_refusal bytes unit wanted past at g.r g.next one other refused g.refused
 
 -- ---- whole files
-
-abbrev ends_of : List Item → Bool
-ends_of [] = false
-ends_of (item ∷ past) = is_end item.r
 
 -- records of which none ends aren't whole
 not_whole : (xs : List Item) (last : Item) (past : List Item) → xs ≡ last ∷ past → NoneEnds xs → is_end last.r ≡ true → ⊥
