@@ -162,7 +162,7 @@ pub(crate) fn replace_at(
     chunks[place.chunk].replace(place.at, line);
 }
 
-/// Opens another trapezoid at the last of so many lines of a chunk. The answer is the line as it was.
+/// Opens another trapezoid at the last of this many lines of a chunk. The answer is the line as it was.
 pub(crate) fn reopen_at(chunks: &mut Vec<Chunk>, place: Place, opened: Opened) -> ActiveLine
     requires chunk { place.chunk < length chunks.old.items }
     requires some { 0 < place.at }

@@ -13,11 +13,11 @@ use std::alloc::{AllocError, Global};
 /// What came of the cases.
 #[derive(Clone, Copy, PartialEq, Eq)]
 pub(crate) enum Agreement {
-    /// Each gave the same list both ways, and so many trapezoids in all.
+    /// Each gave the same list both ways, and this many trapezoids in all.
     All(u64),
     /// The case of this number didn't.
     NotIn(u32),
-    /// Memory was wanting.
+    /// Memory ran out.
     Unknown,
 }
 
@@ -90,7 +90,7 @@ fn case_from(alloc: Global, state: u64) -> Result<(Case, u64), AllocError> {
     Ok((Case { a, b }, after_b))
 }
 
-/// Sweeps so many random cases both ways.
+/// Sweeps this many random cases both ways.
 pub(crate) fn sweep_both_ways(alloc: Global, count: u32) -> Agreement {
     let Some(window) = Window::new(-10, 1000) else {
         return Agreement::Unknown;

@@ -25,11 +25,11 @@ const MOST: u32 = 16_000_000;
 enum Task {
     /// A figure, united.
     Unite(Figure, Way),
-    /// A GDSII file of so many squares.
+    /// A GDSII file of this many squares.
     Gds(u32),
-    /// OASIS records and files of so many rectangles, with all their fields and with their places alone.
+    /// OASIS records and files of this many rectangles, with all their fields and with their places alone.
     Oasis(u32),
-    /// Walks over a flat cell of so many squares a side, an array of so many cells a side, and nested arrays.
+    /// Walks over a flat cell of this many squares a side, an array of this many cells a side, and nested arrays.
     Walk(u16),
     /// So many random cases, in columns and at once.
     Agree(u32),

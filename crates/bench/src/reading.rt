@@ -14,7 +14,7 @@ const WANTED: [Pair; 1] = [Pair {
     datatype: 0,
 }];
 
-/// Reads a GDSII file of so many squares, and prints its size and how long it took.
+/// Reads a GDSII file of this many squares, and prints its size and how long it took.
 pub(crate) fn time_gds(rt: &HostRuntime, alloc: Global, count: u32) -> io::Result<()> {
     let Ok(bytes) = layouts::file(alloc, count) else {
         return println!(rt; "gds: want of memory");
@@ -91,7 +91,7 @@ fn time_file(rt: &HostRuntime, alloc: Global, count: u32, is_whole: bool) -> io:
     }
 }
 
-/// Reads OASIS records of so many rectangles, and files of them: with all their fields, and with their places alone.
+/// Reads OASIS records of this many rectangles, and files of them: with all their fields, and with their places alone.
 pub(crate) fn time_oasis(rt: &HostRuntime, alloc: Global, count: u32) -> io::Result<()> {
     time_records(rt, alloc, count, true)?;
     time_records(rt, alloc, count, false)?;

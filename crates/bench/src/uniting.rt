@@ -17,7 +17,7 @@ use trap_join::Join;
 /// The trapezoids that are united.
 #[derive(Clone, Copy)]
 pub(crate) enum Figure {
-    /// A square array of so many squares a side.
+    /// A square array of this many squares a side.
     Squares(u32),
     /// So many random rectangles.
     Random(u32),
@@ -29,7 +29,7 @@ pub(crate) enum Figure {
     Pile(u32),
     /// So many random rectangles, and upright wires over all of them.
     Wires(u32),
-    /// Wires with so many corners in all, each corner a jog.
+    /// Wires with this many corners in all, each corner a jog.
     Jogs(u32),
     /// The same wires, their rectangles in an order in which neighbours don't follow one another.
     Mixed(u32),
@@ -45,7 +45,7 @@ pub(crate) enum Way {
 }
 
 impl Figure {
-    /// The figure of this name with so many shapes.
+    /// The figure of this name with this many shapes.
     pub(crate) fn named(kind: &str, count: u32) -> Option<Figure> {
         match kind {
             "squares" => Some(Figure::Squares(count.min(2000))),

@@ -145,7 +145,7 @@ fn time_file(
     Ok(())
 }
 
-/// Walks over a flat cell of so many squares a side, over an array of so many cells a side, and over nested arrays.
+/// Walks over a flat cell of this many squares a side, over an array of this many cells a side, and over nested arrays.
 pub(crate) fn time_walks(rt: &HostRuntime, side: u16) -> io::Result<()> {
     let alloc = rt.alloc();
     let squares = u32::from(side).wrapping_mul(u32::from(side));

@@ -64,7 +64,7 @@ fn window_of(points: &[Point]) -> Window
     }
 }
 
-/// The joined list of the tiles in a shape's outline as it stands, moved by none of its offsets, over all its rows, by
+/// The joined list of the tiles in a shape's outline as it is drawn, moved by none of its offsets, over all its rows, by
 /// the nonzero rule. The outline is closed, on the half grid and within reach. Want of memory is the only refusal.
 pub fn pieces(alloc: Global, shape: &Shape) -> Result<Vec<Trap>, NoMemory>
     requires closed { IsClosed shape.now.points }

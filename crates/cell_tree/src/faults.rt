@@ -28,7 +28,7 @@ pub enum TreeBad {
     /// A cell with more than 2^40 flattened shapes, while no cell that it places has more. Their number is kept, or
     /// 2^128 - 1 where there are more.
     Count(Name, u128),
-    /// Memory was wanting.
+    /// Memory ran out.
     NoMemory,
 }
 

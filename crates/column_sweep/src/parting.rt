@@ -1,4 +1,4 @@
-//! Edges parted at an upright line.
+//! Edges split at an upright line.
 ghost use Rattle.std.specs.Prelude.{◌≡◌, ◌≤ℤ◌, ◌-ℤ◌, ◌+ℤ◌, ℤ, List, ◌∷◌, ◌++◌, [], All, map, IfOk, OnOk};
 ghost use Rattle.half_grid.specs.Edges.{EdgeParts};
 ghost use Rattle.std.specs.Option.{option_to_list};

@@ -74,7 +74,7 @@ fn closed(alloc: Global, sewn: Sewn, window: Window) -> Result<Swept, NoMemory>
     })
 }
 
-/// Where a trapezoid stands in a joined list: its top, and then its left line's place in the row below it.
+/// The place of a trapezoid in a joined list: its top, and then its left line's place in the row below it.
 #[derive(Clone, Copy, PartialEq, Eq, PartialOrd, Ord)]
 struct Standing {
     top: i64,

@@ -177,7 +177,7 @@ fn swept_in_columns<F: Fn(i128, i128) -> bool + Drop>(
     swept_at(alloc, edges, window, rule, cuts.as_slice())
 }
 
-/// The joined list of the window's tiles that the rule takes. Want of memory is its only refusal. In each row of the
+/// The joined list of the window's tiles that the rule takes. It is refused only where memory runs out. In each row of the
 /// window each operand has as many edges that go up as edges that go down.
 pub fn swept<F: Fn(i128, i128) -> bool + Drop>(
     alloc: Global,

@@ -161,7 +161,7 @@ impl Extents {
         )
     }
 
-    /// The rows of the first definitions of a deck, so many.
+    /// The rows of this many first definitions of a deck.
     pub(crate) fn of(deck: &Deck, tree: &Tree, count: usize) -> Extents
         requires count { count ≤ length deck.now.steps }
         requires few { length deck.now.steps ≤ 256 }

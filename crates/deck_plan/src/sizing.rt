@@ -98,8 +98,8 @@ fn wider(hull: &Frame, dx: i64, dy: i64) -> Frame
 /// The joined list, in the window, of the tiles all of whose near ones are in the trapezoids, by a rectangle of half
 /// sides `dx` and `dy`.
 ///
-/// What isn't in the trapezoids grows and is taken away from them. It is asked within their hull, widened by the half
-/// sides, where all tiles stand that are near to one of theirs.
+/// What isn't in the trapezoids grows and is removed from them. It is asked within their hull, widened by the half
+/// sides, where all tiles are that are near to one of theirs.
 pub(crate) fn shrunk_area(
     alloc: Global,
     traps: &[Trap],

@@ -6,7 +6,7 @@ ghost use Rattle.deck_plan.specs.Needs.{widened};
 
 use half_grid::Window;
 
-/// The window with so many more rows on both sides.
+/// The window with this many more rows on both sides.
 pub(crate) fn widened(window: Window, by: i64) -> Window
     requires low { IsUpTo (2 ^ 50) window.y0 }
     requires high { IsUpTo (2 ^ 50) window.y1 }

@@ -20,7 +20,7 @@ use std::collections::BTreeMap;
 pub(crate) struct Defined {
     /// Its line, counted from 1.
     pub line: usize,
-    /// How many definitions stand before it.
+    /// How many definitions are before it.
     pub number: usize,
 }
 
@@ -71,7 +71,7 @@ impl<'a> Index<'a> {
         self.defined(name).is_some()
     }
 
-    /// How many definitions stand before that of the name.
+    /// How many definitions are before that of the name.
     pub(crate) fn number_of(&self, name: &str) -> usize
         ensures { (saids : Items ASaid) → IsIndexOf saids self.now → result ≡ number_of (names_of saids) name.now }
     {
@@ -139,7 +139,7 @@ impl<'a> Index<'a> {
         Ok(())
     }
 
-    /// Adds a statement behind the others.
+    /// Adds a statement after the others.
     pub(crate) fn put(&mut self, said: Said<'a>) -> Result<(), NoMemory>
         requires room { HasRoom self.old (statement_view said.says) }
         requires new { HasNewName self.old (statement_view said.says) }

@@ -118,7 +118,7 @@ fn cell_value(token: &[u8]) -> Option<CellWord<'_>>
     Some(CellWord { bytes: token })
 }
 
-/// The NAME from `at` on and the offset behind it, or the column of what doesn't fit.
+/// The NAME from `at` on and the offset after it, or the column of what doesn't fit.
 #[tactic(auto, unfolding(crate::specs::Kinds::taken_as))]
 pub(crate) fn name(line: &[u8], at: usize) -> Result<(&str, usize), usize>
     requires { at ≤ length line.now }
@@ -134,7 +134,7 @@ pub(crate) fn name(line: &[u8], at: usize) -> Result<(&str, usize), usize>
     }
 }
 
-/// The FILE from `at` on and the offset behind it, or the column of what doesn't fit.
+/// The FILE from `at` on and the offset after it, or the column of what doesn't fit.
 #[tactic(auto, unfolding(crate::specs::Kinds::taken_as))]
 pub(crate) fn file(line: &[u8], at: usize) -> Result<(&str, usize), usize>
     requires { at ≤ length line.now }
@@ -150,7 +150,7 @@ pub(crate) fn file(line: &[u8], at: usize) -> Result<(&str, usize), usize>
     }
 }
 
-/// The CELL from `at` on and the offset behind it, or the column of what doesn't fit.
+/// The CELL from `at` on and the offset after it, or the column of what doesn't fit.
 #[tactic(auto, unfolding(crate::specs::Kinds::taken_as))]
 pub(crate) fn cell(line: &[u8], at: usize) -> Result<(CellWord<'_>, usize), usize>
     requires { at ≤ length line.now }
@@ -166,7 +166,7 @@ pub(crate) fn cell(line: &[u8], at: usize) -> Result<(CellWord<'_>, usize), usiz
     }
 }
 
-/// The number from `at` on and the offset behind it, or the column of what doesn't fit.
+/// The number from `at` on and the offset after it, or the column of what doesn't fit.
 #[tactic(auto, unfolding(crate::specs::Kinds::taken_as))]
 pub(crate) fn number(line: &[u8], at: usize) -> Result<(i64, usize), usize>
     requires { at ≤ length line.now }
@@ -196,7 +196,7 @@ fn second_side(line: &[u8], at: usize, first: i64) -> Result<((i64, i64), usize)
     Ok(((first, second), at))
 }
 
-/// The half sides from `at` on, by one number or two, and the offset behind them, or the column of what doesn't fit.
+/// The half sides from `at` on, by one number or two, and the offset after them, or the column of what doesn't fit.
 pub(crate) fn sides(line: &[u8], at: usize) -> Result<((i64, i64), usize), usize>
     requires { at ≤ length line.now }
     ensures read { Reads (λ x. (x.0, pieces_at line.now x.1)) result (taken Sides (past line.now) (pieces_at line.now at)) }
@@ -206,7 +206,7 @@ pub(crate) fn sides(line: &[u8], at: usize) -> Result<((i64, i64), usize), usize
     second_side(line, at, first)
 }
 
-/// Refuses a piece that stands behind the last, by its column.
+/// Refuses a piece that comes after the last, by its column.
 #[tactic(auto, unfolding(crate::specs::Kinds::ended))]
 pub(crate) fn end(line: &[u8], at: usize) -> Result<(), usize>
     requires { at ≤ length line.now }

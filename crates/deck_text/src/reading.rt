@@ -137,7 +137,7 @@ fn statements<'a>(alloc: Global, bytes: &'a [u8], names: Names) -> Result<Lines<
 }
 
 /// The deck that the bytes are, where the command gives these names of layout and deck. Bytes that are no deck are
-/// refused by their first fault. NoMemory may come in place of any answer where memory is wanting.
+/// refused by their first fault. NoMemory may come in place of any answer where memory runs out.
 pub fn read_deck(alloc: Global, bytes: &[u8], layout: &str, deck: &str) -> Result<Deck, DeckBad>
     requires { length bytes.now ≤ 65536 }
     ensures found { IfOk result (IsDeck bytes.now layout.now deck.now) }

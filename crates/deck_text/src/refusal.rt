@@ -25,6 +25,6 @@ pub enum DeckBad {
     Names(usize),
     /// The 257th definition or the 65th output.
     Many(usize),
-    /// Memory was wanting.
+    /// Memory ran out.
     NoMemory,
 }

@@ -12,10 +12,10 @@ use crate::said::Said;
 use crate::statement::{Operation, Setting, Statement};
 use half_grid::{Frame, Limits};
 
-/// At most so many definitions.
+/// At most this many definitions.
 const DEFINITIONS: usize = 256;
 
-/// At most so many outputs.
+/// At most this many outputs.
 const OUTPUTS: usize = 64;
 
 /// Frames and mirrors are so near to 0.

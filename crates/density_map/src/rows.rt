@@ -187,7 +187,7 @@ impl MapRow {
     }
 
     /// Adds the trapezoid's tiles to each window that it meets. It shares no tile with one that was added before. The
-    /// memory is taken first, and after want of it all is as before.
+    /// memory is taken first, and where it runs out all is as before.
     ///
     /// It takes a search among the counts, then the same time for each window that it meets. Where a window has its
     /// first count, the counts after it move: none, where trapezoids are added from left to right.

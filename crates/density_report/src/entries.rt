@@ -1,4 +1,4 @@
-//! What a density table lists, and what it says at its end.
+//! What a density table lists, and what is at its end.
 ghost use Rattle.std.specs.Prelude.{List, [], ◌∷◌, ◌++◌, ◌≡◌, ◌+◌, ◌^◌, ◌<◌};
 ghost use Rattle.density_report.specs.Tables.{IsMost};
 ghost use Rattle.density_report.specs.Rows.{entry_of, entries_of, triangles_of, AreTotals};
@@ -18,7 +18,7 @@ pub struct Entry {
     pub tiles: u128,
 }
 
-/// What a table says at its end.
+/// What a table has at its end.
 #[derive(Clone, Copy, Debug, PartialEq, Eq)]
 pub struct Totals {
     /// The first entry that has the most triangles, if there is any.

@@ -1,4 +1,4 @@
-//! The density of a deck's outputs: how many triangles of an output's area each window has, said as a table for each
+//! The density of a deck's outputs: how many triangles of an output's area each window has, printed as a table for each
 //! output.
 //!
 //! All numbers are half units.

@@ -1,4 +1,4 @@
-//! The lines of a table, said through a buffer.
+//! The lines of a table, printed through a buffer.
 ghost use Rattle.std.specs.Prelude.{◌≡◌, ◌+◌, ◌≤◌, IsTrue, OnOk, OnErr, IsErrOf, ◌++◌, length, flat_map};
 ghost use Rattle.depot.specs.Content.{IsPartSaid};
 ghost use Rattle.depot.specs.Counts.{Rose, NeverFall};

@@ -1,4 +1,4 @@
-//! The density tables of a deck's outputs, said on a depot.
+//! The density tables of a deck's outputs, printed on a depot.
 ghost use Rattle.std.specs.Prelude.{◌≡◌, ◌⊎◌, ◌<◌, IsTrue, IfOk, OnOk, OnErr, IsErrOf, length};
 ghost use Rattle.depot.specs.Counts.{Rose, NeverFall};
 ghost use Rattle.density_map.specs.Windows.{IsWindowSize};
@@ -120,8 +120,8 @@ fn say_tables<D: Depot>(
     flush(depot, &mut buffer)
 }
 
-/// Says the density table of each output of the deck, in its order, for windows of this size. After a refusal a prefix
-/// of what begins their text was said; want of memory may be that of an area or of a row of windows, which no depot
+/// Prints the density table of each output of the deck, in its order, for windows of this size. After a refusal a prefix
+/// of what begins their text was printed; memory may have run out for an area or a row of windows, which no depot
 /// counts.
 ///
 /// For each row of windows from the first that has some of the output's rows to the last, the area is computed once, in

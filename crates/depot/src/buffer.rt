@@ -6,7 +6,7 @@ use std::marker::Model;
 /// How many bytes a buffer holds.
 pub const BUFFER_SIZE: usize = 8192;
 
-/// Bytes that were put and haven't been written or said, in an array that takes no memory. Contracts see the list of them.
+/// Bytes that were put and haven't been written or printed, in an array that takes no memory. Contracts see the list of them.
 #[derive(Drop)]
 pub struct Buffer {
     bytes: [u8; BUFFER_SIZE],
@@ -55,7 +55,7 @@ impl Buffer {
         self.used = 0;
     }
 
-    /// Puts a byte behind those that it has.
+    /// Puts a byte after those that it has.
     pub fn push(&mut self, byte: u8)
         requires { length self.old < BUFFER_SIZE }
         ensures value { self.new ≡ self.old ++ byte ∷ [] }
@@ -65,7 +65,7 @@ impl Buffer {
         self.used += 1;
     }
 
-    /// Puts bytes behind those that it has.
+    /// Puts bytes after those that it has.
     pub fn put(&mut self, bytes: &[u8])
         requires { length self.old + length bytes.now ≤ BUFFER_SIZE }
         ensures value { self.new ≡ self.old ++ bytes.now }

@@ -1,5 +1,5 @@
-//! The outside of the program: files by name, and what it says. Files in memory, real files, whole reads and writes, and
-//! what is said piece by piece.
+//! The outside of the program: files by name, and what it prints. Files in memory, real files, whole reads and writes, and
+//! what is printed piece by piece.
 #![tactic(auto)]
 
 mod buffer;

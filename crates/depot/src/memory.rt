@@ -14,7 +14,7 @@ use std::alloc::Global;
 use std::marker::Model;
 
 /// A depot in memory. Its calls are numbered from 0, and those that it was told fail. It tells all, and a
-/// name that wasn't added isn't there. It counts the faults that it was told and each want of memory.
+/// name that wasn't added isn't there. It counts the faults that it was told and each time that memory ran out.
 #[derive(Drop)]
 pub struct MemDepot {
     store: Store,
@@ -99,7 +99,7 @@ impl MemDepot {
         self.store.made(name)
     }
 
-    /// The bytes that were said.
+    /// The bytes that were printed.
     pub fn said(&self) -> &[u8]
         ensures { result.now ≡ self.now.content.said }
     {

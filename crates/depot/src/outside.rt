@@ -8,7 +8,7 @@ ghost use Rattle.depot.specs.Counts.{Counts, Rose, NeverFall};
 pub enum DepotBad {
     /// The outside refused it. The depot has counted it, unless a name to be read isn't there.
     Failed,
-    /// Memory was wanting. The depot has counted it.
+    /// Memory ran out. The depot has counted it.
     NoMemory,
 }
 
@@ -30,7 +30,7 @@ pub trait Depot {
     /// Whether the depot tells its content. The clauses on content hold for one that does.
     ghost tells: { Bool };
 
-    /// What it holds, gives, has made and said.
+    /// What it holds, gives, has made and printed.
     ghost content: { Self → Content };
 
     /// How often it refused, by kind.
@@ -99,8 +99,8 @@ pub trait Depot {
         ensures reads { (counts self.new).read_faults ≡ (counts self.old).read_faults }
         ensures counted { NeverFall (counts self.old) (counts self.new) };
 
-    /// Says the first bytes of the piece on standard output and answers how many: at least one of a piece
-    /// that isn't empty. A refusal says nothing.
+    /// Prints the first bytes of the piece on standard output and answers how many: at least one of a piece
+    /// that isn't empty. A refusal prints nothing.
     fn say(&mut self, bytes: &[u8]) -> Result<usize, DepotBad>
         ensures bound { IfOk result (λ n. n ≤ length bytes.now) }
         ensures progress { IfOk result (λ n. 0 < length bytes.now → 0 < n) }
@@ -115,7 +115,7 @@ pub trait Depot {
         ensures reads { (counts self.new).read_faults ≡ (counts self.old).read_faults }
         ensures counted { NeverFall (counts self.old) (counts self.new) };
 
-    /// Is told how far the output is that is being written, so that it can show it. It does nothing else: its content
+    /// Takes note of how far the output is that is being written, so that it can show it. It does nothing else: its content
     /// and its counts are as before.
     fn note(&mut self, progress: Progress)
         ensures content { content self.new ≡ content self.old }

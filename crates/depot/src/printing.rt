@@ -8,7 +8,7 @@ use crate::buffer::Buffer;
 use crate::outside::{Depot, DepotBad};
 use crate::whole::say_whole;
 
-/// Says what the buffer has, and empties it. After a refusal a prefix of what it had was said.
+/// Prints what the buffer has, and empties it. After a refusal a prefix of what it had was printed.
 pub fn flush<D: Depot>(depot: &mut D, buffer: &mut Buffer) -> Result<(), DepotBad>
     ensures empty { OnOk result (buffer.new ≡ []) }
     ensures ok { OnOk result (IsTrue D.tells
@@ -28,8 +28,8 @@ pub fn flush<D: Depot>(depot: &mut D, buffer: &mut Buffer) -> Result<(), DepotBa
     Ok(())
 }
 
-/// Puts a piece of any length, where it has room; else the buffer is said, and then the piece. After a refusal a prefix
-/// of what the buffer had and the piece was said.
+/// Puts a piece of any length, where it has room; else the buffer is printed, and then the piece. After a refusal a prefix
+/// of what the buffer had and the piece was printed.
 pub fn put_piece<D: Depot>(depot: &mut D, buffer: &mut Buffer, bytes: &[u8]) -> Result<(), DepotBad>
     ensures ok { OnOk result (IsTrue D.tells → IsSaidButFor
         (D.content depot.old) (buffer.old ++ bytes.now) buffer.new (D.content depot.new)) }

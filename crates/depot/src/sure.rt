@@ -13,7 +13,7 @@ use std::alloc::Global;
 use std::marker::Model;
 
 /// A depot in memory that never fails: a name that wasn't added is an empty file, and it counts no fault. It
-/// tells all. Only memory may be wanting, which it counts.
+/// tells all. Only memory may run out, which it counts.
 #[derive(Drop)]
 pub struct SureDepot {
     store: Store,
@@ -58,7 +58,7 @@ impl SureDepot {
         self.store.made(name)
     }
 
-    /// The bytes that were said.
+    /// The bytes that were printed.
     pub fn said(&self) -> &[u8]
         ensures { result.now ≡ self.now.content.said }
     {
@@ -102,7 +102,7 @@ impl Depot for SureDepot {
         Ok(self.store.read(buf, usize::MAX))
     }
 
-    /// Only memory may be wanting.
+    /// Only memory may run out.
     fn start_write(&mut self, name: &str) -> Result<(), DepotBad>
         ensures begun { MatchResult result
             (λ _. self.new ≡ with_content self.old (begun self.old.content name.now))
@@ -116,7 +116,7 @@ impl Depot for SureDepot {
         }
     }
 
-    /// Takes the whole piece. Only memory may be wanting.
+    /// Takes the whole piece. Only memory may run out.
     fn write(&mut self, bytes: &[u8]) -> Result<usize, DepotBad>
         requires { IsSome self.old.content.current }
         ensures written { MatchResult result
@@ -131,7 +131,7 @@ impl Depot for SureDepot {
         }
     }
 
-    /// Takes the whole piece. Only memory may be wanting.
+    /// Takes the whole piece. Only memory may run out.
     fn say(&mut self, bytes: &[u8]) -> Result<usize, DepotBad>
         ensures said { MatchResult result
             (λ n. (n ≡ length bytes.now)

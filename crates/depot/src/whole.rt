@@ -19,7 +19,7 @@ pub enum Refused {
     /// The file has more bytes than the limit.
     #[error("the file is too long")]
     TooLong,
-    /// Memory was wanting.
+    /// Memory ran out.
     #[error("memory is wanting")]
     NoMemory,
 }
@@ -51,8 +51,8 @@ impl From<AllocError> for Refused {
 
 /// All bytes of a file, if it has at most `limit`. A longer one is `TooLong`, and a name that isn't there is
 /// `Fault`. Each turn takes at least one byte. But for what is left to be read, the content of the depot is
-/// as before, also after a refusal. `NoMemory` comes where the depot counted a want of memory; where it counted
-/// nothing the memory for the bytes was wanting, and then the file is there.
+/// as before, also after a refusal. `NoMemory` comes where the depot counted that memory ran out; where it counted
+/// nothing, memory ran out for the bytes, and then the file is there.
 pub fn read_all<D: Depot>(
     alloc: Global,
     depot: &mut D,
@@ -146,7 +146,7 @@ pub fn write_whole<D: Depot>(depot: &mut D, bytes: &[u8]) -> Result<(), DepotBad
     Ok(())
 }
 
-/// Says a whole piece on standard output, or a prefix of it where refused.
+/// Prints a whole piece on standard output, or a prefix of it where refused.
 pub fn say_whole<D: Depot>(depot: &mut D, bytes: &[u8]) -> Result<(), DepotBad>
     ensures ok { OnOk result (IsTrue D.tells
         → D.content depot.new ≡ with_said (D.content depot.old) bytes.now) }

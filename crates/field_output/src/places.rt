@@ -39,7 +39,7 @@ impl Span {
         }
     }
 
-    /// The number of the stripe that is so many above the first.
+    /// The number of the stripe that is this many above the first.
     pub(crate) fn number_of(self, place: usize) -> i64
         requires { place < self.count }
         ensures { result ≡ self.first +ℤ pos place }

@@ -8,7 +8,7 @@ use crate::parts::{Columns, parts_in};
 use crate::stripe::{Stripe, in_stripe};
 use half_grid::Trap;
 
-/// The fields of a stripe that are still to be opened: so many, of which the first begins at the column `x`.
+/// The fields of a stripe that are still to be opened: this many, of which the first begins at the column `x`.
 #[derive(Clone, Copy, Debug)]
 pub(crate) struct Ahead {
     part: Part,
@@ -19,7 +19,7 @@ pub(crate) struct Ahead {
     ghost high: { (x +ℤ (pos fields *ℤ pos 16777216)) ≤ℤ pos (2 ^ 52) },
 }
 
-/// What is left of the shot in hand: the pieces of the field that was opened last, and the fields ahead.
+/// What is left of the current shot: the pieces of the field that was opened last, and the fields ahead.
 #[derive(Clone, Copy, Debug)]
 pub(crate) struct InHand {
     lower: Option<Part>,
@@ -122,7 +122,7 @@ impl Ahead {
 impl InHand {
     ghost use Rattle.field_split.specs.Pieces.{waiting, waiting_in, fields_ahead, pieces_in_hand};
 
-    /// Nothing in hand.
+    /// No current shot.
     pub(crate) fn none() -> InHand
         ensures { (size : ℤ) → pieces_in_hand size result ≡ [] }
     {
@@ -134,7 +134,7 @@ impl InHand {
         }
     }
 
-    /// The whole shot in hand.
+    /// The whole of a shot.
     pub(crate) fn of(shot: &Trap, stripe: Stripe) -> InHand
         requires { IsWithinFieldReach shot.now }
         ensures { pieces_in_hand stripe.size result ≡ pieces_of_shot stripe.size stripe.number shot.now }
@@ -186,7 +186,7 @@ impl InHand {
         true
     }
 
-    /// The first piece in hand, which it takes off. None exactly where none is in hand.
+    /// The first piece that is left, which is removed. None exactly where none is left.
     pub(crate) fn next(&mut self, stripe: Stripe) -> Option<Trap>
         ensures { MatchOption result
             ((pieces_in_hand stripe.size self.old ≡ []) × (pieces_in_hand stripe.size self.new ≡ []))

@@ -11,7 +11,7 @@ use depot::{Depot, Refused, read_all};
 use shot_writer::Sums;
 use std::alloc::Global;
 
-/// A shot file has at most so many bytes.
+/// A shot file has at most this many bytes.
 const LIMIT: usize = 268435456;
 
 // The answer to a file that wasn't read.

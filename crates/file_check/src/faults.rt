@@ -6,11 +6,11 @@ use shot_reader::ShotBad;
 pub enum CheckFault {
     /// It has more than 268,435,456 bytes.
     Long,
-    /// It isn't the text of a list of shots. This is its first fault, which is never want of memory.
+    /// It isn't the text of a list of shots. This is its first fault, which is never NoMemory.
     Bad(ShotBad),
     /// Its head has another number than twice the deck's unit, or it has shots and their pair isn't the output's.
     Head,
-    /// What is to be said of its shots, which is never Exact.
+    /// The verdict on its shots, which is never Exact.
     Verdict(Verdict),
 }
 
@@ -21,6 +21,6 @@ pub enum CheckBad {
     Refused(usize, CheckFault),
     /// A read failed, or the file of an output isn't there.
     ReadFault,
-    /// Memory was wanting.
+    /// Memory ran out.
     NoMemory,
 }

@@ -19,17 +19,17 @@ use half_grid::Point;
 use layout_model::{Offsets, Pair, PathBad, Shape, ShapeBad, path_shapes};
 use std::alloc::Global;
 
-/// Where an element stands by itself.
+/// Where an element is without a placement.
 pub(crate) const ORIGIN: Point = Point { x: 0, y: 0 };
 
-/// A boundary has at least so many points.
+/// A boundary has at least this many points.
 const LEAST: usize = 4;
 
 /// Why an element can't be drawn or placed.
 pub(crate) enum Undrawn {
     /// It breaks this value rule.
     Rule(u8),
-    /// Memory is wanting.
+    /// Memory ran out.
     NoMemory,
 }
 
@@ -156,7 +156,7 @@ fn shapes_of_path(
     }
 }
 
-/// The value rule or the want of memory, at this offset.
+/// The value rule, or that memory ran out, at this offset.
 pub(crate) fn bad_at(undrawn: Undrawn, at: usize) -> GdsBad
     ensures rule { (rule : ℕ) → undrawn ≡ Rule rule → result ≡ bads.Value at rule }
     ensures memory { undrawn ≡ Wanting → result ≡ bads.NoMemory }
@@ -225,7 +225,7 @@ fn draw_path(
 }
 
 /// Draws an element with these points that is on a wanted pair. `at` is the offset of its XY. A rule that it breaks is
-/// told even where memory is wanting.
+/// reported even where memory runs out.
 pub(crate) fn draw(
     alloc: Global,
     element: &Element,

@@ -300,7 +300,7 @@ fn in_text(kind: Kind) -> Option<Place>
 }
 
 impl Place {
-    /// The place behind a record of this kind, or none where it may not stand here.
+    /// The place after a record of this kind, or none where it may not come here.
     pub(crate) fn after(self, kind: Kind) -> Option<Place>
         ensures { result ≡ next_place self kind }
     {

@@ -223,8 +223,8 @@ fn place_array(
     }
 }
 
-/// Places the structure of a reference with these points. `at` is the offset of its XY. A rule that it breaks is told even
-/// where memory is wanting.
+/// Places the structure of a reference with these points. `at` is the offset of its XY. A rule that it breaks is reported even
+/// where memory runs out.
 pub(crate) fn place(
     alloc: Global,
     bytes: &[u8],

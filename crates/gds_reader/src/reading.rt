@@ -416,7 +416,7 @@ fn read_records(alloc: Global, bytes: &[u8], unit: u32, sorted: &[Pair]) -> Resu
 /// the wanted pairs alone. A micrometre has `unit` database units, and lengths of the layout are half
 /// units. Bytes that hold no layout are refused by their first fault; the first record that is refused
 /// decides, and at one record first its framing, then its order, then its value rules, then the unit or
-/// the name. NoMemory may come in place of any answer where memory is wanting.
+/// the name. NoMemory may come in place of any answer where memory runs out.
 pub fn read_gds(alloc: Global, bytes: &[u8], unit: u32, wanted: &[Pair]) -> Result<Layout, GdsBad>
     ensures found { IfOk result (λ layout. IsLayoutOf bytes.now unit wanted.now layout) }
     ensures grid { IfOk result IsLayoutOnGrid }

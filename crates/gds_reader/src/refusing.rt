@@ -16,17 +16,17 @@ pub enum GdsBad {
     Kind(usize),
     /// A record's content hasn't the length of its kind.
     Size(usize),
-    /// The record isn't allowed behind those before it.
+    /// The record isn't allowed after those before it.
     Order(usize),
     /// The record at the first number breaks the value rule of the second, the lowest that it breaks.
     Value(usize, u8),
-    /// The first byte behind the end of the library that isn't 0.
+    /// The first byte after the end of the library that isn't 0.
     Tail(usize),
     /// The database unit, by the bits of the real in metres, isn't the one that was asked for.
     Unit(u64),
     /// The structures' names at these two offsets are the same.
     Twice(usize, usize),
-    /// Memory was wanting.
+    /// Memory ran out.
     NoMemory,
 }
 

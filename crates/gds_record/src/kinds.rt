@@ -87,7 +87,7 @@ pub enum Kind {
     Plex,
     /// BGNEXTN: how far a path goes on before its first point.
     BgnExtn,
-    /// ENDEXTN: how far a path goes on behind its last point.
+    /// ENDEXTN: how far a path goes on beyond its last point.
     EndExtn,
     /// STRCLASS: the class of a structure.
     StrClass,

@@ -18,11 +18,11 @@ pub struct Record {
     pub kind: Kind,
     /// The offset of its content.
     pub first: usize,
-    /// The offset behind it, where the next record stands.
+    /// The offset after it, where the next record begins.
     pub next: usize,
 }
 
-/// Why no record stands at an offset.
+/// Why no record is at an offset.
 #[derive(Clone, Copy, Debug, PartialEq, Eq)]
 pub enum Framing {
     /// Fewer bytes are left than a record's head, or than the record's length.
@@ -35,7 +35,7 @@ pub enum Framing {
     Size,
 }
 
-/// The record at an offset, or the first cause why none stands there, in the order Short (fewer than
+/// The record at an offset, or the first cause why none is there, in the order Short (fewer than
 /// four bytes), Length, Short (fewer bytes than the length), Kind, Size.
 pub fn record_at(bytes: &[u8], at: usize) -> Result<Record, Framing>
     requires { at ≤ length bytes.now }

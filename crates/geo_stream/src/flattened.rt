@@ -31,7 +31,7 @@ where
     }
 }
 
-/// The first item of the stream in hand, if there is one.
+/// The first item of the current stream, if there is one.
 fn next_in_hand<J: Stream>(in_hand: &mut Option<J>) -> Option<J::Item>
     requires { (items : List J.Item) × InHandStandsFor J.stands_for in_hand.old items }
     ensures first { (items : List J.Item) → InHandStandsFor J.stands_for in_hand.old items → TakesFirst (InHandStandsFor J.stands_for) items result in_hand.new }

@@ -5,7 +5,7 @@ ghost use Rattle.geo_stream.specs.Stream.{HasList};
 use crate::{NoMemory, Stream};
 use std::alloc::Global;
 
-/// The list that the stream stands for. Want of memory is its only refusal.
+/// The list that the stream stands for. It is refused only where memory runs out.
 pub fn gather<S: Stream + Drop>(alloc: Global, mut stream: S) -> Result<Vec<S::Item>, NoMemory>
 where
     S::Item: Drop,

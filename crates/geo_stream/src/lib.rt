@@ -1,4 +1,4 @@
-//! Lists that come one by one, and the want of memory.
+//! Lists that come one by one, and what comes where memory runs out.
 #![tactic(auto)]
 
 use std::alloc::{AllocError, AllocFailed};
@@ -24,7 +24,7 @@ pub use mapped::Mapped;
 pub use merged::Merged;
 pub use stream::Stream;
 
-/// Memory was wanting. What was to be changed is as before, unless the call says otherwise.
+/// Memory ran out. What was to be changed is as before, unless the call says otherwise.
 #[derive(Clone, Copy, Debug, PartialEq, Eq)]
 pub struct NoMemory;
 

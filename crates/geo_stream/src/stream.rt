@@ -19,7 +19,7 @@ pub trait Stream {
     // The size of no stream of this type is greater. A stream of streams has its size by this number.
     ghost most: { ℕ };
 
-    /// The first item of the list, which it takes off the list. None exactly where the list is empty, and it stays empty. It takes no memory.
+    /// The first item of the list, which it removes from the list. None exactly where the list is empty, and it stays empty. It takes no memory.
     fn next(&mut self) -> Option<Self::Item>
         requires { HasList stands_for self.old }
         ensures first { (items : List Self.Item) → stands_for self.old items → TakesFirst stands_for items result self.new }

@@ -93,7 +93,7 @@ fn ties_come_from_the_first_stream_first(rt: HostRuntime) {
     assert!(rt; gives(tags, &[10, 20, 11, 12, 21, 22]));
 }
 
-/// A vector with room, which is refused where memory is wanting.
+/// A vector with room, which is refused where memory runs out.
 fn with_room(alloc: Global, room: usize) -> Result<Vec<u8>, NoMemory> {
     Ok(Vec::with_capacity(alloc, room)?)
 }

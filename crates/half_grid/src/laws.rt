@@ -3,7 +3,7 @@ ghost use Rattle.half_grid.specs.LineLaws.{PlacesDiffer, OrderChanges, NumbersOf
 ghost use Rattle.half_grid.specs.EdgeLaws.{WindingsAdd, OneInside, NoneOutside, WindingIsCount, OperandsApart};
 ghost use Rattle.half_grid.specs.JoinedLists.{OneJoinedList};
 
-/// The arithmetic of one row, on which everything above stands: it holds of all tiles and lines, and costs nothing.
+/// The arithmetic of one row, on which everything above rests: it holds of all tiles and lines, and costs nothing.
 pub fn row_laws()
     ensures right_by_place { RightByPlace }
     ensures left_by_place { LeftByPlace }

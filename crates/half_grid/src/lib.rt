@@ -1,4 +1,4 @@
-//! The geometry that everything stands on: the half grid's triangles, the lines of its four directions,
+//! The geometry that everything rests on: the half grid's triangles, the lines of its four directions,
 //! and the trapezoids between two such lines.
 //!
 //! All numbers are half units: a layout coordinate of `n` grid steps is `2n`. Nothing here takes memory.

@@ -11,7 +11,7 @@ use deck_text::{Deck, DeckBad, read_deck};
 use depot::{Depot, Refused, read_all};
 use std::alloc::Global;
 
-/// A deck has at most so many bytes.
+/// A deck has at most this many bytes.
 const DECK_LIMIT: usize = 65_536;
 
 // The answer to bytes that are no deck.

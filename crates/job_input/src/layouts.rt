@@ -18,7 +18,7 @@ use oas_reader::{OasBad, read_oas};
 use oas_record::RecordBad;
 use std::alloc::Global;
 
-/// A layout has at most so many bytes.
+/// A layout has at most this many bytes.
 const LAYOUT_LIMIT: usize = 268_435_456;
 
 /// An accepted layout.

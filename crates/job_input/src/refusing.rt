@@ -10,7 +10,7 @@ use oas_reader::OasBad;
 pub enum DeckFault {
     /// It has more than 65,536 bytes.
     Long,
-    /// It is no deck. This is its first fault, which is never want of memory.
+    /// It is no deck. This is its first fault, which is never NoMemory.
     Bad(DeckBad),
 }
 
@@ -19,11 +19,11 @@ pub enum DeckFault {
 pub enum LayoutFault {
     /// It has more than 268,435,456 bytes.
     Long,
-    /// It doesn't begin with the byte 25 hex and is no GDSII layout. This is its first fault, which is never want of memory.
+    /// It doesn't begin with the byte 25 hex and is no GDSII layout. This is its first fault, which is never NoMemory.
     Gds(GdsBad),
-    /// It begins with that byte and is no OASIS layout. This is its first fault, which is never want of memory.
+    /// It begins with that byte and is no OASIS layout. This is its first fault, which is never NoMemory.
     Oas(OasBad),
-    /// It is a layout, and its cells are no tree within the limits below the top cell. The fault is never want of memory.
+    /// It is a layout, and its cells are no tree within the limits below the top cell. The fault is never NoMemory.
     Tree(TreeBad),
 }
 
@@ -36,7 +36,7 @@ pub enum InputBad {
     Layout(LayoutFault, Name),
     /// A read failed, or a file that has to be read isn't there.
     ReadFault,
-    /// Memory was wanting.
+    /// Memory ran out.
     NoMemory,
 }
 
@@ -47,6 +47,6 @@ pub(crate) enum LayoutBad {
     Refused(LayoutFault),
     /// A read failed, or the layout isn't there.
     ReadFault,
-    /// Memory was wanting.
+    /// Memory ran out.
     NoMemory,
 }

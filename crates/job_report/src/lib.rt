@@ -1,7 +1,7 @@
-//! What the program says on standard output besides listings: the report of a command that was done, and the line of a
+//! What the program prints on standard output besides listings: the report of a command that was done, and the line of a
 //! refused deck or layout.
 //!
-//! A line is a few pieces of text and numbers. What is said goes through a buffer on the stack. Nothing here takes memory.
+//! A line is a few pieces of text and numbers. What is printed goes through a buffer on the stack. Nothing here takes memory.
 #![tactic(auto)]
 
 mod decks;

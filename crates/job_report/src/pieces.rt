@@ -12,7 +12,7 @@ pub enum Piece<'a> {
     Number(i64),
     /// These bits as 16 lower case hexadecimal digits.
     Bits(u64),
-    /// Each of these names behind a space.
+    /// Each of these names after a space.
     Names(&'a [Name]),
 }
 

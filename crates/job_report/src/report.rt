@@ -94,8 +94,8 @@ fn put_outputs<D: Depot>(
     Ok(())
 }
 
-/// Says the report: the layout's format, the number of its cells, its counts, and for each output a line behind the word
-/// with its sums. After a refusal a prefix of it was said. It takes time linear in the text, and no memory.
+/// Prints the report: the layout's format, the number of its cells, its counts, and for each output a line of the word,
+/// its file and its sums. After a refusal a prefix of it was printed. It takes time linear in the text, and no memory.
 pub fn say_report<D: Depot>(
     depot: &mut D,
     format: Format,

@@ -1,4 +1,4 @@
-//! Pieces that are said one after another.
+//! Pieces that are printed one after another.
 ghost use Rattle.std.specs.Prelude.{◌≡◌, IsTrue, OnOk, OnErr, IsErrOf, ◌∷◌, ◌++◌};
 ghost use Rattle.depot.specs.Content.{with_said, IsPartSaid};
 ghost use Rattle.depot.specs.Counts.{Rose, NeverFall};
@@ -96,7 +96,7 @@ pub fn put_pieces<D: Depot>(
     Ok(())
 }
 
-/// Says the pieces one after another. After a refusal a prefix of the whole was said.
+/// Prints the pieces one after another. After a refusal a prefix of the whole was printed.
 pub fn say_pieces<D: Depot>(depot: &mut D, pieces: &[Piece]) -> Result<(), DepotBad>
     ensures ok { OnOk result (IsTrue D.tells → D.content depot.new
         ≡ with_said (D.content depot.old) (spelled pieces.now)) }

@@ -15,7 +15,7 @@ const USER_UNITS: u64 = 0x3E41_8937_4BC6_A7F0;
 
 const METRES: u64 = 0x3944_B82F_A09B_5A54;
 
-/// Puts what stands before the cells.
+/// Puts what comes before the cells.
 fn put_library(buffer: &mut Buffer)
     requires room { length buffer.old + 62 ≤ BUFFER_SIZE }
     ensures value { buffer.new ≡ buffer.old ++ library_bytes }

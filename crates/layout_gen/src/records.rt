@@ -54,7 +54,7 @@ pub(crate) const ANGLE: u16 = 0x1C05;
 
 pub(crate) const PATH_TYPE: u16 = 0x2102;
 
-/// Puts the length and the head of a record whose content has so many bytes.
+/// Puts the length and the head of a record whose content has this many bytes.
 fn put_head(buffer: &mut Buffer, head: u16, content: usize)
     requires room { length buffer.old + (content + 4) ≤ BUFFER_SIZE }
     ensures value { buffer.new ≡ buffer.old ++ (big_bytes 2 (content + 4) ++ big_bytes 2 head) }

@@ -5,7 +5,7 @@ use crate::shapes::Shape;
 use geo_stream::List;
 use half_grid::Point;
 
-/// The placement of a cell: it stands once at each of the offsets, enlarged, mirrored and turned as `orient` says and
+/// The placement of a cell: it is there once at each of the offsets, enlarged, mirrored and turned as `orient` says and
 /// then moved by `at` and by the offset.
 #[derive(Debug, Drop)]
 pub struct Placement {

@@ -1,6 +1,6 @@
 //! A layout as plain data: cells of shapes and placements.
 //!
-//! Lengths are half units. A shape stands once at each of its offsets.
+//! Lengths are half units. A shape is there once at each of its offsets.
 #![tactic(auto)]
 
 mod cells;

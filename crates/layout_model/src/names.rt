@@ -32,7 +32,7 @@ impl Model for Name {
 pub enum NameBad {
     /// There aren't 1 to 1,024 bytes, or a byte isn't from 20 to 7E hex.
     Form,
-    /// Memory was wanting.
+    /// Memory ran out.
     NoMemory,
 }
 

@@ -32,7 +32,7 @@ enum Places {
     Regular(Box<Grid>),
 }
 
-/// The places at which a shape or a placed cell stands: a list of moves. A grid is kept by its two counts and two
+/// The places at which a shape or a placed cell is: a list of moves. A grid is kept by its two counts and two
 /// steps, and one place takes no memory. Contracts see the list.
 #[derive(Debug, Drop)]
 pub struct Offsets {

@@ -26,7 +26,7 @@ pub enum PathBad {
     TurnBack(usize),
     /// The first or the last rectangle has no positive length.
     EmptyEnd,
-    /// Memory was wanting.
+    /// Memory ran out.
     NoMemory,
 }
 

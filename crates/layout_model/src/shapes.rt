@@ -11,14 +11,14 @@ use geo_stream::NoMemory;
 use half_grid::{Point, line_through};
 use std::alloc::Global;
 
-/// A closed outline on a layer, which stands once at each of its offsets.
+/// A closed outline on a layer, which is there once at each of its offsets.
 #[derive(Debug, Drop)]
 pub struct Shape {
     /// Its layer and datatype.
     pub pair: Pair,
     /// Its outline; the last point is the first.
     pub points: Points,
-    /// The moves at which it stands.
+    /// The moves at which it is there.
     pub offsets: Offsets,
     /// Whether it may not be enlarged.
     pub fixed: bool,
@@ -30,7 +30,7 @@ pub enum ShapeBad {
     /// The edge from the point of this number to the next isn't at a multiple of 45 degrees on the half grid. It is
     /// the first such edge.
     Slant(usize),
-    /// Memory was wanting.
+    /// Memory ran out.
     NoMemory,
 }
 

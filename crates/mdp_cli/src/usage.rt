@@ -18,7 +18,7 @@ LAYOUT is a GDSII or an OASIS file, and DECK a text that says which layers are t
 DECK.md has every line of a deck and every refusal with what to do about it: it is in docs/ of the sources, and in
 share/doc/nettletide/ where the program was installed. FORMATS.md beside it has the formats.";
 
-/// Tells on standard error how the program is used, where that number says that the words are no command. A refusal is
+/// Prints on standard error how the program is used, where that number says that the words are no command. A refusal is
 /// passed over.
 pub(crate) fn tell_usage(rt: &impl Eprint, code: u8) {
     if code == REFUSED_WORDS {

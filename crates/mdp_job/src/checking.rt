@@ -77,7 +77,7 @@ fn check_input<D: Depot>(alloc: Global, input: Input, depot: &mut D) -> Ending
     }
 }
 
-/// Reads deck and layout, judges the files of the deck's outputs and says the report where all are exact.
+/// Reads deck and layout, judges the files of the deck's outputs and prints the report where all are exact.
 pub(crate) fn check<D: Depot>(alloc: Global, layout: &str, deck: &str, depot: &mut D) -> Ending
     ensures answer { IsTrue D.tells → IsCheckAnswer
         (run_of (D.content depot.old) (D.content depot.new) (D.counts depot.old) (D.counts depot.new))

@@ -45,7 +45,7 @@ pub(crate) fn fault_status(bad: DepotBad) -> Status
     }
 }
 
-/// Says the last text of a command.
+/// Prints the last text of a command.
 pub(crate) fn say_text<D: Depot>(pieces: &[Piece], depot: &mut D) -> Status
     ensures said { IsTrue D.tells → IsSaidSo (D.content depot.old) (D.content depot.new)
         (Rose (D.counts depot.old).write_faults (D.counts depot.new).write_faults)

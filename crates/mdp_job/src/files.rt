@@ -16,7 +16,7 @@ use shot_reader::{ShotBad, ShotFile, read_shots};
 use shot_repeat::{PackBad, read_packed};
 use std::alloc::Global;
 
-/// A shot file has at most so many bytes, so a plain one has no more shots than that.
+/// A shot file has at most this many bytes, so a plain one has no more shots than that.
 const SHOTS_LIMIT: usize = MOST_SHOTS;
 
 // The answer to bytes that are no shot file.

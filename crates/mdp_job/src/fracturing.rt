@@ -37,7 +37,7 @@ fn write_all<D: Depot>(alloc: Global, input: &Input, depot: &mut D) -> Status
     }
 }
 
-/// Reads deck and layout, writes the deck's outputs and says the report.
+/// Reads deck and layout, writes the deck's outputs and prints the report.
 pub(crate) fn fracture<D: Depot>(alloc: Global, layout: &str, deck: &str, depot: &mut D) -> Ending
     ensures answer { IsTrue D.tells → IsAnswer D.tells
         (run_of (D.content depot.old) (D.content depot.new) (D.counts depot.old) (D.counts depot.new))

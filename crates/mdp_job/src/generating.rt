@@ -30,7 +30,7 @@ fn say_size<D: Depot>(size: u64, depot: &mut D) -> Status
     say_text(&pieces, depot)
 }
 
-/// Writes the generated layout for `n`, which is 1 to 1,000, and says how many bytes it has.
+/// Writes the generated layout for `n`, which is 1 to 1,000, and prints how many bytes it has.
 pub(crate) fn generate_layout<D: Depot>(n: u16, file: &str, depot: &mut D) -> Status
     requires least { 1 ≤ n }
     requires most { n ≤ 1000 }

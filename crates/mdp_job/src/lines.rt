@@ -1,4 +1,4 @@
-//! The line that is said where a command wasn't done.
+//! The line that is printed where a command wasn't done.
 
 ghost use Rattle.std.specs.Prelude.{◌≡◌, ◌⊎◌, List, ℕ, IsTrue, decimal};
 ghost use Rattle.depot.specs.Content.{with_said, IsPartSaid};
@@ -286,7 +286,7 @@ fn line_of<'a>(file: &'a str, ending: &'a Ending) -> LongLine<'a>
     }
 }
 
-/// Says the line of an ending other than Done, where the word after the command is this one. A failure to say it changes
+/// Prints the line of an ending other than Done, where the word after the command is this one. A failure to print it changes
 /// nothing.
 pub(crate) fn say_line<D: Depot>(depot: &mut D, word: &str, ending: &Ending)
     ensures done { ending.now.status ≡ Status.Done → depot.new ≡ depot.old }

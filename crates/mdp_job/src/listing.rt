@@ -35,7 +35,7 @@ fn say_file<D: Depot>(file: &ShotFile, depot: &mut D) -> Status
     }
 }
 
-/// Reads a shot file and says its listing.
+/// Reads a shot file and prints its listing.
 pub(crate) fn list_shots<D: Depot>(alloc: Global, file: &str, depot: &mut D) -> Status
     ensures answer { IsTrue D.tells → IsFileAnswer listing_command
         (run_of (D.content depot.old) (D.content depot.new) (D.counts depot.old) (D.counts depot.new))

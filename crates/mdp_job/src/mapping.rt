@@ -36,7 +36,7 @@ fn count_all<D: Depot>(alloc: Global, size: u32, input: &Input, depot: &mut D) -
     }
 }
 
-/// Reads deck and layout, and says for each of the deck's outputs how many of its triangles are in each window of this
+/// Reads deck and layout, and prints for each of the deck's outputs how many of its triangles are in each window of this
 /// size, 64 to 16,777,216 half units.
 pub(crate) fn density<D: Depot>(
     alloc: Global,

@@ -16,7 +16,7 @@ pub enum Status {
     ReadFault,
     /// A write failed.
     WriteFault,
-    /// Memory was wanting.
+    /// Memory ran out.
     NoMemory,
     /// A shot file was read and is refused. The number is its output's place from 0; it is 0 but for `check`.
     No(usize, CheckFault),

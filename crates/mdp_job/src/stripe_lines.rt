@@ -88,7 +88,7 @@ fn say_lines<D: Depot>(depot: &mut D, each: &[StripeSums], all: &Sums) -> Result
     flush(depot, &mut buffer)
 }
 
-/// Says how much each stripe's file is, and how much all are.
+/// Prints how much each stripe's file is, and how much all are.
 pub(crate) fn say_stripes<D: Depot>(each: &[StripeSums], all: &Sums, depot: &mut D) -> Status
     ensures said { IsTrue D.tells → IsSaidSo (D.content depot.old) (D.content depot.new)
         (Rose (D.counts depot.old).write_faults (D.counts depot.new).write_faults)

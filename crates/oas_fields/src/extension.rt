@@ -9,7 +9,7 @@ pub(crate) enum Extension {
     Flush,
     /// By the half width of the record.
     HalfWidth,
-    /// By so many grid steps; less far where they are below 0.
+    /// By this many grid steps; less far where they are below 0.
     Length(i64),
 }
 

@@ -38,7 +38,7 @@ fn coordinate(is_relative: bool, written: Option<i64>, before: i128) -> i128
     }
 }
 
-/// The position behind a record that writes this of it.
+/// The position after a record that writes this of it.
 #[inline(always)]
 pub(crate) fn moved(is_relative: bool, written: Step, before: Place) -> Place
     requires { IsPlaceWithin (2 ^ 100) before }

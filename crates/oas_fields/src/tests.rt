@@ -1,4 +1,4 @@
-//! The values of the fields of records that stand one after another.
+//! The values of the fields of records that come one after another.
 ghost use Rattle.std.specs.Prelude.{◌≡◌, ◌^◌, true};
 ghost use Rattle.oas_fields.specs.Values.{IsPlaceWithin, ArePlacesWithin};
 

@@ -35,7 +35,7 @@ fn sideways(west: u64, magnitude: u64) -> i64
     if west == 0 { far } else { -far }
 }
 
-/// The 2-delta that stands at `at`, in grid steps, and the offset after it. It is refused where its number is.
+/// The 2-delta at `at`, in grid steps, and the offset after it. It is refused where its number is.
 pub fn delta2(bytes: &[u8], at: usize) -> Result<(Point, usize), LexBad>
     requires { at ≤ length bytes.now }
     ensures found { (p : APoint) (next : ℕ) → (result ≡ Ok (p, next)) ↔ HasDelta2 bytes.now at p next }
@@ -45,7 +45,7 @@ pub fn delta2(bytes: &[u8], at: usize) -> Result<(Point, usize), LexBad>
     Ok((towards(code % 4, code / 4), next))
 }
 
-/// The 3-delta that stands at `at`, in grid steps, and the offset after it. It is refused where its number is.
+/// The 3-delta at `at`, in grid steps, and the offset after it. It is refused where its number is.
 pub fn delta3(bytes: &[u8], at: usize) -> Result<(Point, usize), LexBad>
     requires { at ≤ length bytes.now }
     ensures found { (p : APoint) (next : ℕ) → (result ≡ Ok (p, next)) ↔ HasDelta3 bytes.now at p next }
@@ -55,7 +55,7 @@ pub fn delta3(bytes: &[u8], at: usize) -> Result<(Point, usize), LexBad>
     Ok((towards(code % 8, code / 8), next))
 }
 
-/// The g-delta that stands at `at`, in grid steps, and the offset after it. It is refused where its first number is, or
+/// The g-delta at `at`, in grid steps, and the offset after it. It is refused where its first number is, or
 /// its second where it has one.
 pub fn delta_g(bytes: &[u8], at: usize) -> Result<(Point, usize), LexBad>
     requires { at ≤ length bytes.now }

@@ -66,7 +66,7 @@ fn long_unsigned(bytes: &[u8], at: usize) -> Result<(u64, usize), LexBad>
     Err(LexBad::Short)
 }
 
-/// The unsigned number that stands at `at`, and the offset after it.
+/// The unsigned number at `at`, and the offset after it.
 ///
 /// `Short` exactly where the bytes end before the number does, and `Wide` exactly where its value takes more than 63
 /// bits: the first byte that breaks decides. Groups of zeros are allowed at its end.
@@ -85,7 +85,7 @@ pub fn unsigned(bytes: &[u8], at: usize) -> Result<(u64, usize), LexBad>
     }
 }
 
-/// The signed number that stands at `at`, and the offset after it: its sign is bit 0, its magnitude the bits above.
+/// The signed number at `at`, and the offset after it: its sign is bit 0, its magnitude the bits above.
 ///
 /// `Short` and `Wide` exactly where `unsigned` says so, since the sign counts as a bit.
 #[inline(always)]

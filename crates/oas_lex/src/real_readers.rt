@@ -72,7 +72,7 @@ fn byte_at(bytes: &[u8], at: usize) -> u8
     bytes[at]
 }
 
-/// The real that stands at `at`, and the offset after it.
+/// The real at `at`, and the offset after it.
 ///
 /// `RealKind` exactly where its kind is above 7, `Wide` where a number of it is, and `Short` where the bytes end first.
 pub fn real(bytes: &[u8], at: usize) -> Result<(Real, usize), LexBad>

@@ -4,7 +4,7 @@ ghost use Rattle.oas_lex.specs.Strings.{HasBytes, HasText, BytesFail, TextFails}
 use crate::LexBad;
 use crate::numbers::unsigned;
 
-/// The offset after so many bytes from `at` on.
+/// The offset after this many bytes from `at` on.
 pub fn end_of_bytes(bytes: &[u8], at: usize, count: u64) -> Result<usize, LexBad>
     requires { at ≤ length bytes.now }
     ensures ok { IfOk result (λ next. HasBytes bytes.now at count next) }
@@ -18,7 +18,7 @@ pub fn end_of_bytes(bytes: &[u8], at: usize, count: u64) -> Result<usize, LexBad
     Ok(at + count as usize)
 }
 
-/// Where the bytes of the string that stands at `at` start and end. The string ends there too.
+/// Where the bytes of the string at `at` start and end. The string ends there too.
 ///
 /// `Short` and `Wide` are those of its length, and `Short` comes also where fewer bytes follow than its length says.
 pub fn text(bytes: &[u8], at: usize) -> Result<(usize, usize), LexBad>

@@ -8,7 +8,7 @@ use oas_record::{Called, OasRecord};
 /// How a placement turns and enlarges the placed cell.
 #[derive(Clone, Copy)]
 pub(crate) enum Turning {
-    /// By so many quarter turns.
+    /// By this many quarter turns.
     Quarters(u8),
     /// By a magnification and an angle, 1 and 0 where they are absent.
     Reals {

@@ -1,4 +1,4 @@
-//! What comes behind END: names.
+//! What comes after END: names.
 ghost use Rattle.std.specs.Prelude.{◌≡◌, ◌⊎◌, Some, None, List as AList, ◌∷◌, true, map, All, OnOk, IfOk, IfErr};
 ghost use Rattle.layout_model.specs.Layouts.{IsPlacementOnGrid, IsCellOnGrid, AreDistinct};
 ghost use Rattle.layout_model.specs.declared.pair.Pair.{Pair as APair};

@@ -52,7 +52,7 @@ pub(crate) struct Names<'a> {
     used: IndexMap<u64, usize>,
 }
 
-/// Looks at what is written of a cell's name. That it is none is told even where memory is wanting.
+/// Looks at what is written of a cell's name. That it is none is reported even where memory runs out.
 pub(crate) fn look_at_name(
     alloc: Global,
     bytes: &[u8],
@@ -259,7 +259,7 @@ impl<'a> Names<'a> {
     }
 }
 
-/// The cells' names behind END, each with the offset of its CELL record.
+/// The cells' names after END, each with the offset of its CELL record.
 #[derive(Drop)]
 pub(crate) struct Cells<'a> {
     places: IndexMap<&'a [u8], usize>,
@@ -274,7 +274,7 @@ impl<'a> Cells<'a> {
         }
     }
 
-    /// Takes the name of the cell whose CELL record is at this offset, which comes behind those before.
+    /// Takes the name of the cell whose CELL record is at this offset, which comes after those before.
     pub(crate) fn enter(&mut self, name: &'a [u8], at: usize) -> Result<(), OasBad>
         ensures cells { (bytes : List ℕ) (all : List ARecord) (past : List Item) (r : ARecord) → AreCellsOf bytes all past self.old
             → cell_name bytes all (cell_called r) ≡ Some name.now → OnOk result (AreCellsOf bytes all (item at r ∷ past) self.new) }

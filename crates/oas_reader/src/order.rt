@@ -3,7 +3,7 @@ ghost use Rattle.std.specs.Prelude.{◌≡◌, ℕ, List, [], ◌∷◌, IfSome,
 ghost use Rattle.oas_reader.specs.Order.{may_follow};
 ghost use Rattle.oas_reader.specs.Places.{IsPlace};
 
-/// Where a file is behind some records.
+/// Where a file is after some records.
 #[derive(Clone, Copy, Debug, PartialEq, Eq)]
 pub(crate) enum Place {
     /// Before START.
@@ -15,7 +15,7 @@ pub(crate) enum Place {
 }
 
 impl Place {
-    /// The place behind one more record of this id, which may stand there; else none.
+    /// The place after one more record of this id, which may come there; else none.
     #[inline(always)]
     pub(crate) fn after(self, id: u8) -> Option<Place>
         ensures some { (past : List ℕ) → IsPlace past self → IfSome result (λ place. (may_follow past id ≡ true) × IsPlace (id ∷ past) place) }

@@ -414,7 +414,7 @@ fn read_records(alloc: Global, bytes: &[u8], unit: u32, sorted: &[Pair]) -> Resu
 /// alone. A micrometre has `unit` grid steps, and lengths of the layout are half units. Bytes that hold no layout are
 /// refused by their first fault; the first record that is refused decides, and at one record first its bytes, then its
 /// order, a value that isn't there, its value rules, its names, the unit and the end of the file. Names by number are
-/// looked at behind END. NoMemory may come in place of any answer where memory is wanting.
+/// looked at after END. NoMemory may come in place of any answer where memory runs out.
 pub fn read_oas(alloc: Global, bytes: &[u8], unit: u32, wanted: &[Pair]) -> Result<Layout, OasBad>
     ensures found { IfOk result (λ layout. IsLayoutOf bytes.now unit wanted.now layout) }
     ensures grid { IfOk result IsLayoutOnGrid }

@@ -8,9 +8,9 @@ use oas_record::RecordBad;
 pub enum OasBad {
     /// The file doesn't begin with the 13 bytes of its kind.
     Magic,
-    /// No record stands at the offset.
+    /// No record is at the offset.
     Lexical(usize, RecordBad),
-    /// The record may not stand there.
+    /// The record may not come there.
     Order(usize),
     /// A field is absent, and this variable has no value.
     Undefined(usize, Variable),
@@ -23,6 +23,6 @@ pub enum OasBad {
     Tail(usize),
     /// The unit of START is another.
     Unit(usize),
-    /// Memory was wanting.
+    /// Memory ran out.
     NoMemory,
 }

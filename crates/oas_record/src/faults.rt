@@ -5,7 +5,7 @@ ghost use Rattle.oas_record.specs.declared.faults.RecordBad.TheVariants.{NoMemor
 use geo_stream::NoMemory;
 use oas_lex::LexBad;
 
-/// Why no record stands at an offset: what the first byte that breaks shows.
+/// Why no record is at an offset: what the first byte that breaks shows.
 #[derive(Clone, Copy, Debug, PartialEq, Eq)]
 pub enum RecordBad {
     /// The bytes end inside the record.
@@ -18,7 +18,7 @@ pub enum RecordBad {
     Packed,
     /// A field, an info byte, a point list or a repetition that no record has.
     Shape,
-    /// Memory was wanting.
+    /// Memory ran out.
     NoMemory,
 }
 

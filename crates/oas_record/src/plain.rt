@@ -96,7 +96,7 @@ fn plain_rest_at(bytes: &[u8], at: usize) -> Result<(PlainRectangle, usize), Rec
     Ok((rectangle, next))
 }
 
-/// The RECTANGLE at `at` and the offset after it, where one stands there that writes no repetition. None where none does.
+/// The RECTANGLE at `at` and the offset after it, where one is there that writes no repetition. None where none is.
 #[inline(always)]
 pub fn plain_rectangle_at(bytes: &[u8], at: usize) -> Option<(PlainRectangle, usize)>
     requires { at ≤ length bytes.now }

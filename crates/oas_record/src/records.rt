@@ -6,19 +6,19 @@ use oas_lex::Real;
 
 /// A record with its written and its absent fields, in the order in which they are written. Numbers and moves are in grid
 /// steps. Strings, table offsets, validation bytes and the values of a property are the two offsets between which their
-/// bytes stand. An absent field is None: its bit of the info byte is clear.
+/// bytes are. An absent field is None: its bit of the info byte is clear.
 #[derive(Debug)]
 pub enum OasRecord {
     /// Id 0, PAD.
     Pad,
-    /// Id 1, START. The table offsets stand here where the offset flag is 0.
+    /// Id 1, START. The table offsets are here where the offset flag is 0.
     Start {
         version: (usize, usize),
         unit: Real,
         offset_flag: u64,
         tables: Option<(usize, usize)>,
     },
-    /// Id 2, END. The table offsets stand here where START's offset flag is 1, the validation bytes where the scheme
+    /// Id 2, END. The table offsets are here where START's offset flag is 1, the validation bytes where the scheme
     /// isn't 0.
     End {
         tables: Option<(usize, usize)>,

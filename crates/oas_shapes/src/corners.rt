@@ -21,7 +21,7 @@ enum Ring {
     Four(Wide, Wide, Wide, Wide),
 }
 
-/// The corners of a figure in half units, where it stands.
+/// The corners of a figure in half units, at its place.
 #[derive(Clone, Copy)]
 pub(crate) enum Outline {
     Three(Point, Point, Point),

@@ -28,7 +28,7 @@ pub enum Undrawn {
     /// 0, 6 an edge isn't at a multiple of 45 degrees, 8 a path can't be drawn, 11 a repetition's dimension is above
     /// 16,777,216.
     Rule(u8),
-    /// Memory was wanting.
+    /// Memory ran out.
     NoMemory,
 }
 

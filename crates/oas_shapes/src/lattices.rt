@@ -81,7 +81,7 @@ impl Lattice {
         }
     }
 
-    /// Its places in half units, where they are near and there may be so many.
+    /// Its places in half units, where they are near and there may be this many.
     pub(crate) fn offsets(self, alloc: Global, is_allowed: bool) -> Result<Offsets, Unplaced>
         requires { IsTrue is_allowed → IsLattice self }
         ensures ok { IfOk result (λ offsets. (offsets ≡ map in_halves (places_of self)) × AreOffsets offsets × IsTrue is_allowed) }

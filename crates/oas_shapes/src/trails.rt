@@ -24,9 +24,9 @@ pub(crate) enum Unplaced {
     Far,
     /// A repetition's dimension is too large.
     Many,
-    /// They are near and not too many, but memory was wanting to keep them.
+    /// They are near and not too many, but memory ran out before they were kept.
     Unkept,
-    /// Memory was wanting before all of them were known.
+    /// Memory ran out before all of them were known.
     NoMemory,
 }
 

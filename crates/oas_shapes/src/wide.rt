@@ -7,7 +7,7 @@ ghost use Rattle.oas_shapes.specs.Ways.{way_of};
 
 use half_grid::Point;
 
-/// Where cells and shapes stand by themselves.
+/// Where cells and shapes are without a placement.
 pub(crate) const ORIGIN: Point = Point { x: 0, y: 0 };
 
 // How far from 0 a coordinate is at most, in grid steps.

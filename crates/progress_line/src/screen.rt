@@ -9,7 +9,7 @@ use std::fs::{Files, metadata};
 use std::io::Write;
 use std::time::Clock;
 
-/// Takes what stands in the row away, and goes to its first column.
+/// Removes what is in the row, and goes to its first column.
 const WIPE: &[u8] = b"\r\x1b[K";
 
 /// A terminal with one line of progress: its clock and files tell the time and how long a file is, and its writer is

@@ -76,13 +76,13 @@ impl<D: Depot + Drop, R: Clock + Files + Drop, W: Write + Drop> Depot for ShownD
         Ok(count)
     }
 
-    /// The line is taken away first, since both may go to one terminal.
+    /// The line is removed first, since both may go to one terminal.
     fn say(&mut self, bytes: &[u8]) -> Result<usize, DepotBad> {
         self.wipe();
         self.depot.say(bytes)
     }
 
-    /// It is shown, and the other depot is told.
+    /// It is shown, and passed on to the other depot.
     fn note(&mut self, progress: Progress) {
         if let Some(screen) = &mut self.screen {
             screen.note(progress);

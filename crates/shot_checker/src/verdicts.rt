@@ -12,7 +12,7 @@ use half_grid::{Limits, Tile, Trap, Window};
 use scan_line::Rule;
 use std::alloc::Global;
 
-/// What is to be said of a list of shots.
+/// The verdict on a list of shots.
 #[derive(Clone, Copy, Debug, PartialEq, Eq)]
 pub enum Verdict {
     /// Each shot fits the limits, and they cover what they should.

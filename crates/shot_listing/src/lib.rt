@@ -1,7 +1,7 @@
-//! The listing of a shot file, said on a depot: its unit, its layer and datatype, a line of numbers for each shot, and
+//! The listing of a shot file, printed on a depot: its unit, its layer and datatype, a line of numbers for each shot, and
 //! the sums.
 //!
-//! What is said goes through a buffer on the stack. Nothing here takes memory.
+//! What is printed goes through a buffer on the stack. Nothing here takes memory.
 #![tactic(auto)]
 
 mod lines;

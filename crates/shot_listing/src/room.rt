@@ -9,7 +9,7 @@ use depot::{BUFFER_SIZE, Buffer, Depot, DepotBad, flush};
 /// How many bytes a line of a listing has at most.
 pub(crate) const ROOM: usize = 128;
 
-/// Has room for one more line in the buffer, which is said first where it has none.
+/// Has room for one more line in the buffer, which is printed first where it has none.
 pub(crate) fn make_room<D: Depot>(depot: &mut D, buffer: &mut Buffer) -> Result<(), DepotBad>
     ensures room { OnOk result (length buffer.new + ROOM ≤ BUFFER_SIZE) }
     ensures ok { OnOk result (IsTrue D.tells

@@ -1,4 +1,4 @@
-//! Whole texts, said on a depot.
+//! Whole texts, printed on a depot.
 ghost use Rattle.std.specs.Prelude.{◌≡◌, ◌+◌, ◌≤◌, IsTrue, OnOk, OnErr, IsErrOf, ◌++◌, length};
 ghost use Rattle.depot.specs.Content.{with_said, IsPartSaid};
 ghost use Rattle.depot.specs.Counts.{Rose, NeverFall};
@@ -11,7 +11,7 @@ use depot::{Buffer, Depot, DepotBad, flush};
 use half_grid::Trap;
 use layout_model::Pair;
 
-/// As many shots as a listing has at most: a shot file has at most so many bytes.
+/// As many shots as a listing has at most: a shot file has at most this many bytes.
 pub const MOST_SHOTS: usize = 268_435_456;
 
 // Says what the buffer has, and then the line of the sums.
@@ -38,8 +38,8 @@ fn say_last<D: Depot>(
     flush(depot, buffer)
 }
 
-/// Says the listing of a unit, of a layer and a datatype where there is one, and of these shots. After a refusal a
-/// prefix of it was said. It takes time linear in the text, and no memory.
+/// Prints the listing of a unit, of a layer and a datatype where there is one, and of these shots. After a refusal a
+/// prefix of it was printed. It takes time linear in the text, and no memory.
 pub fn say_listing<D: Depot>(
     depot: &mut D,
     unit: u32,

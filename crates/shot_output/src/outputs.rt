@@ -11,7 +11,7 @@ use std::alloc::Global;
 
 /// Writes one output of the deck into its file, band by band in ascending order: the shots of a band are written before
 /// the next band is computed. It answers the sums of the shots. After a refusal the file is as before, or holds a prefix
-/// of this text; want of memory may be that of the area, which no depot counts.
+/// of this text; memory may have run out for the area, which no depot counts.
 pub fn write_output<D: Depot>(
     alloc: Global,
     depot: &mut D,
@@ -45,7 +45,7 @@ pub fn write_output<D: Depot>(
 
 /// Writes all outputs of the deck in its order, and stops at the first refusal. It answers the sums of each. After a
 /// refusal there is an output before which all are whole, whose file is as before or holds a prefix of its text, and
-/// behind which nothing has changed.
+/// after which nothing has changed.
 pub fn write_outputs<D: Depot>(
     alloc: Global,
     depot: &mut D,

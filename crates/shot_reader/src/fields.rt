@@ -7,7 +7,7 @@ ghost use Rattle.shot_reader.specs.Spelled.{IsShort};
 
 use oas_lex::{INFO, ShotFields, TRAPEZOID, TRAPEZOID_A, TRAPEZOID_B, id_for, unsigned};
 
-/// Whether the text stands among the bytes at `at`.
+/// Whether the text is among the bytes at `at`.
 pub(crate) fn stands_at(bytes: &[u8], at: usize, text: &[u8]) -> bool
     requires { at ≤ length bytes.now }
     ensures stands { IsTrue result → drop at bytes.now ≡ text.now ++ drop (at + length text.now) bytes.now }
@@ -37,7 +37,7 @@ fn is_short(bytes: &[u8], at: usize, next: usize) -> bool
     bytes[next - 1] != 0
 }
 
-/// The unsigned number at `at` in its shortest spelling, and the offset after it. Where none stands there it is 0, and the
+/// The unsigned number at `at` in its shortest spelling, and the offset after it. Where none is there it is 0, and the
 /// offset is past the end.
 #[inline(always)]
 pub fn unsigned_at(bytes: &[u8], at: usize) -> (u64, usize)
@@ -71,7 +71,7 @@ fn value_of_code(code: u64) -> i64
     if code % 2 == 0 { magnitude } else { -magnitude }
 }
 
-/// The signed number at `at` in its shortest spelling, and the offset after it. Where none stands there it is 0, and the
+/// The signed number at `at` in its shortest spelling, and the offset after it. Where none is there it is 0, and the
 /// offset is past the end. That of 0 is one byte 0.
 #[inline(always)]
 pub fn signed_at(bytes: &[u8], at: usize) -> (i64, usize)

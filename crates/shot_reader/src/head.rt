@@ -7,7 +7,7 @@ ghost use Rattle.shot_reader.specs.Alike.{BeginAlike};
 use crate::fields::{stands_at, unsigned_at};
 use oas_lex::head_text;
 
-/// How many bytes stand before the unit: the magic bytes, and START up to its real of kind 0.
+/// How many bytes come before the unit: the magic bytes, and START up to its real of kind 0.
 const BEFORE: usize = 19;
 /// The least unit.
 const LEAST: u64 = 2;

@@ -76,7 +76,7 @@ fn read_record(bytes: &[u8], at: usize, first: Option<Pair>) -> Result<Record, S
     }
 }
 
-/// Whether END, and nothing else, stands at `at`.
+/// Whether END, and nothing else, is at `at`.
 pub fn ends_at(bytes: &[u8], at: usize) -> bool
     requires { at ≤ length bytes.now }
     ensures { IsTrue result ↔ (drop at bytes.now ≡ end) }
@@ -86,7 +86,7 @@ pub fn ends_at(bytes: &[u8], at: usize) -> bool
 }
 
 /// The unit, the pair and the shots of which the bytes are the text. Bytes that are no such text are refused, by the
-/// first fault, whatever comes after it. NoMemory may come in place of any answer where memory is wanting.
+/// first fault, whatever comes after it. NoMemory may come in place of any answer where memory runs out.
 pub fn read_shots(alloc: Global, bytes: &[u8]) -> Result<ShotFile, ShotBad>
     ensures found { IfOk result (λ file. IsFileOf bytes.now file.unit file.pair file.shots) }
     ensures read { (unit l d : ℕ) (shots : Items Trapezoid) → IsUnit unit → IsNarrowPair l d → All IsShot shots

@@ -18,7 +18,7 @@ pub enum ShotBad {
     Illegal(usize),
     /// The END record isn't that of a shot file, or isn't the file's end.
     End(usize),
-    /// Memory was wanting.
+    /// Memory ran out.
     NoMemory,
 }
 

@@ -31,7 +31,7 @@ fn stepped(fields: &ShotFields, step: Point) -> ShotFields
     }
 }
 
-/// Puts so many shots last, the first of these fields, each next one moved by one step more. Illegal with the offset
+/// Puts this many shots last, the first of these fields, each next one moved by one step more. Illegal with the offset
 /// where the fields of one are those of no shot.
 pub(crate) fn put_shots(
     shots: &mut List<Trap>,
@@ -62,7 +62,7 @@ pub(crate) fn put_shots(
     Ok(())
 }
 
-/// Whether so many shots, the first of these fields, each next one moved by one step more, are shots. Illegal with the
+/// Whether this many shots, the first of these fields, each next one moved by one step more, are shots. Illegal with the
 /// offset where the fields of one are those of no shot. It takes no memory.
 pub(crate) fn look_at_shots(
     fields: &ShotFields,

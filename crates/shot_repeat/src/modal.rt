@@ -104,7 +104,7 @@ pub(crate) fn fields_shown(modal: &Modal, written: &PackRecord) -> Option<ShotFi
     })
 }
 
-/// Whether a record with the pair may stand after those with the first.
+/// Whether a record with the pair may come after those with the first.
 pub(crate) fn agrees(first: Option<Pair>, layer: u64, datatype: u64) -> bool
     ensures { IsTrue result ↔ Agrees first layer datatype }
 {

@@ -61,7 +61,7 @@ fn take_file(alloc: Global, bytes: &[u8], unit: u32, start: &Progress) -> Result
 
 /// The unit, the pair and the shots for which the bytes of a packed shot file stand. Other bytes are refused, by the first
 /// fault, whatever comes after it; so are more than 16,777,216 shots of one record and more than 33,554,432 in all, before
-/// memory is taken for them. NoMemory may come in place of any answer where memory is wanting.
+/// memory is taken for them. NoMemory may come in place of any answer where memory runs out.
 pub fn read_packed(alloc: Global, bytes: &[u8]) -> Result<ShotFile, PackBad>
     ensures found { IfOk result (λ file. IsPackedFile bytes.now file.unit file.pair file.shots) }
     ensures read { (unit : ℕ) (pair : Option APair) (shots : Items Trapezoid) → IsPackedFile bytes.now unit pair shots

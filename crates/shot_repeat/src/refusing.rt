@@ -28,7 +28,7 @@ pub enum PackBad {
     Illegal(usize),
     /// The END record isn't that of a shot file, or isn't the file's end.
     End(usize),
-    /// Memory was wanting.
+    /// Memory ran out.
     NoMemory,
 }
 

@@ -78,7 +78,7 @@ impl Pieces {
         }
     }
 
-    /// The next edge, which is taken off. None exactly where there is none.
+    /// The next edge, which is removed. None exactly where there is none.
     pub(crate) fn take_first(&mut self) -> Option<Edge>
         ensures first { self.old ≡ option_to_list result ++ self.new }
         ensures none { IfNone result (self.old ≡ []) }
