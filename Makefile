@@ -21,7 +21,7 @@ SIZE := small
 all: $(PROGRAM)
 
 help:
-	@echo 'make                 proves and builds the program, build/nettletide'
+	@echo 'make                 proves and builds the program, build/nettletide; JOBS=N proves N crates at a time'
 	@echo 'make try             runs it on the example with nothing proved'
 	@echo 'make test            runs the tests of all crates, or of CRATE=NAME, with nothing proved'
 	@echo 'make check CRATE=N   proves one crate, over what was proved before'
@@ -42,11 +42,16 @@ help:
 	@echo 'make dist            packs them into build/nettletide-$(VERSION).tar.gz, with a checksum'
 	@echo 'make clean           removes build/, and what the example wrote'
 
-# The kit proves the program before it builds it, and then runs it. Without words the program ends with status 1, so
-# what tells of success is that a program is there.
+# how many crates are proved at a time: one a processor, if there are 5 GB of memory for each
+JOBS := $(shell awk -v most=$$(nproc) '/^MemAvailable/ { fit = int($$2 / 5000000); \
+    print fit < 1 ? 1 : fit < most ? fit : most }' /proc/meminfo)
+
+# The kit proves crates side by side where none needs the other, and keeps their libraries. Then it builds the program over
+# them, and runs it. Without words the program ends with status 1, so what tells of success is that a program is there.
 $(PROGRAM): $(SOURCES)
 	mkdir -p build
 	rm -f crates/mdp_cli/out/mdp_cli crates/mdp_cli/out/mdp_cli.stamp
+	$(RT) all check --jobs $(JOBS) || true
 	cd crates/mdp_cli && { $(RT) run; test -x out/mdp_cli; }
 	cp crates/mdp_cli/out/mdp_cli $(PROGRAM)
 
