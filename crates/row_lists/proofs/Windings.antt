@@ -15,7 +15,7 @@ use Rattle.active_lines.specs.declared.item.ActiveLine.{ActiveLine}
 use Rattle.active_lines.specs.declared.item.Windings.{Windings}
 use Rattle.active_lines.specs.Leaning.{MeetAbove}
 use Rattle.active_lines.proofs.ForCallers.{leans_where_it_meets}
-use Rattle.scan_line.proofs.RowWindings.{winding_left}
+use Rattle.scan_line.proofs.ForCallers.{winding_left}
 use Rattle.row_lists.specs.Weights.{weight, NoEnds, NoneSpans}
 use Rattle.row_lists.specs.RowLists.{IsRowList, AscendIn, NoMeetings, no_windings, winding_of, change_at, windings_at}
 use Rattle.row_lists.proofs.Steps.{weight_nil, weight_cons, winding_step, same_place, other_share, same_weight, no_weight}
