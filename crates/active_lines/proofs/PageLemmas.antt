@@ -48,7 +48,8 @@ unknown_still (x ∷ leasts) zero (suc q) h = h
 unknown_still (x ∷ leasts) (suc p) (suc q) h = unknown_still leasts p q h
 
 module _ (chunks : List (List ActiveLine)) (c : ℕ) (lines : List ActiveLine) (leasts : List Least) (kept : ArePages chunks leasts) where
-  same_at : (p : ℕ) → (p ≡ c / 32 → ⊥) → (p ≡ (c - 1) / 32 → ⊥) → get_or (set (set leasts (c / 32) Unknown) ((c - 1) / 32) Unknown) p Unknown ≡ get_or leasts p Unknown
+  same_at : (p : ℕ) → (p ≡ c / 32 → ⊥) → (p ≡ (c - 1) / 32 → ⊥)
+      → get_or (set (set leasts (c / 32) Unknown) ((c - 1) / 32) Unknown) p Unknown ≡ get_or leasts p Unknown
   same_at p first second =
       get_or-set_other (set leasts (c / 32) Unknown) ((c - 1) / 32) p Unknown Unknown second ∙ get_or-set_other leasts (c / 32) p Unknown Unknown first
 
