@@ -1,2 +1,3 @@
 mod TakingLemmas
 mod RowsLemmas
+mod LoneLemmas

@@ -3,12 +3,14 @@
 //! Numbers are half units.
 #![tactic(auto)]
 
+mod lone;
 mod operations;
 mod outline;
 #[cfg(test)]
 mod tests;
 mod unions;
 
+pub use lone::lone_piece;
 pub use operations::{Op, combine};
 pub use outline::pieces;
 pub use unions::unite;

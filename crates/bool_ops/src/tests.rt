@@ -1,6 +1,6 @@
 // Two triangles that cross under each operation, two squares, and a figure eight, by their trapezoids.
 
-use crate::{Op, combine, pieces};
+use crate::{Op, combine, lone_piece, pieces};
 use half_grid::{Line, Point, Trap, Window, size_of};
 use layout_model::{Offsets, Pair, Shape};
 use std::process::Abort;
@@ -99,5 +99,31 @@ fn a_figure_eight(rt: HostRuntime) -> Result<(), Fail> {
     for (trap, numbers_of) in traps.iter().zip(wanted.iter()) {
         assert_eq!(rt; numbers(trap), *numbers_of);
     }
+    Ok(())
+}
+
+const RECTANGLE: [Point; 5] = [
+    Point { x: 0, y: 0 },
+    Point { x: 0, y: 20 },
+    Point { x: 30, y: 20 },
+    Point { x: 30, y: 0 },
+    Point { x: 0, y: 0 },
+];
+
+const COUNTERCLOCKWISE: [Point; 5] = [
+    Point { x: 0, y: 0 },
+    Point { x: 30, y: 0 },
+    Point { x: 20, y: 10 },
+    Point { x: 10, y: 10 },
+    Point { x: 0, y: 0 },
+];
+
+#[test]
+fn one_trapezoid(rt: HostRuntime) -> Result<(), Fail> {
+    let rectangle = lone_piece(&RECTANGLE).ok_or("no rectangle")?;
+    assert_eq!(rt; numbers(&rectangle), [0, 20, 0, 30, 0, 30]);
+    let narrowing = lone_piece(&COUNTERCLOCKWISE).ok_or("no trapezoid")?;
+    assert_eq!(rt; numbers(&narrowing), [0, 10, 0, 30, 10, 20]);
+    assert!(rt; lone_piece(&EIGHT).is_none());
     Ok(())
 }

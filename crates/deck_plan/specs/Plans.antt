@@ -1,9 +1,10 @@
 -- What a plan is seen as: a deck, and the cells of a layout with the number of its top cell.
 use Rattle.std.specs.Prelude.{◌≡◌, ◌<◌, ◌⊎◌, ℕ, List, Some, slice_get, length}
-use Rattle.half_grid.specs.Trapezoids.{Trapezoid}
+use Rattle.half_grid.specs.Trapezoids.{Trapezoid, CoversExactly}
+use Rattle.half_grid.specs.Winding.{IsInPolygon}
 use Rattle.layout_model.specs.declared.shapes.Shape.{Shape}
 use Rattle.cell_tree.specs.Cells.{shapes_at}
-use Rattle.flat_walk.specs.Tables.{IsCut, HasShape}
+use Rattle.flat_walk.specs.Tables.{IsCut, HasShape, with_pieces}
 use Rattle.layout_model.specs.declared.cells.Cell.{Cell}
 use Rattle.deck_text.specs.Decks.{IsDeck}
 use Rattle.deck_text.specs.declared.deck.Deck.{Deck}
@@ -31,6 +32,12 @@ AreAllCut cells table = (n k : ℕ) (shape : Shape) → slice_get (shapes_at cel
 -- each shape of the cells before this one, and the first so many of this one
 abbrev pub AreCutUpTo : List Cell → List (List (List Trapezoid)) → ℕ → ℕ → Type 0
 AreCutUpTo cells table cell count = (n k : ℕ) (shape : Shape) → (n < cell) ⊎ ((n ≡ cell) × (k < count)) → slice_get (shapes_at cells n) k ≡ Some shape → IsCut table n k shape
+
+-- a list that covers the shape's own tiles exactly is put in the place of shape k of cell n
+pub record IsPutFor (shape : Shape) (before : List (List (List Trapezoid))) (n k : ℕ) (after : List (List (List Trapezoid))) : Type 0 where
+  pub pieces : List Trapezoid
+  pub covers : CoversExactly pieces (IsInPolygon shape.points)
+  pub is : after ≡ with_pieces before n k pieces
 
 -- each shape has a place in the table
 abbrev pub HaveShapes : List Cell → List (List (List Trapezoid)) → Type 0

@@ -6,9 +6,9 @@ ghost use Rattle.cell_tree.specs.Cells.{shapes_at};
 ghost use Rattle.flat_walk.specs.Tables.{HasShape, IsCut, with_pieces};
 ghost use Rattle.half_grid.specs.Trapezoids.{CoversExactly};
 ghost use Rattle.half_grid.specs.Winding.{IsInPolygon};
-ghost use Rattle.deck_plan.specs.Plans.{AreAllCut, AreCutUpTo, HaveShapes};
+ghost use Rattle.deck_plan.specs.Plans.{AreAllCut, AreCutUpTo, HaveShapes, IsPutFor};
 
-use bool_ops::pieces;
+use bool_ops::{lone_piece, pieces};
 use cell_tree::Tree;
 use flat_walk::Parts;
 use geo_stream::NoMemory;
@@ -39,6 +39,25 @@ fn shape_at(shapes: &[Shape], number: usize) -> &Shape
     &shapes[number]
 }
 
+// Puts the pieces of one shape. A rectangle needs no sweep and no memory for a list.
+fn cut_shape(
+    alloc: Global,
+    parts: &mut Parts,
+    cell: usize,
+    number: usize,
+    shape: &Shape,
+) -> Result<(), NoMemory>
+    requires grid { IsShapeOnGrid shape.now }
+    requires place { HasShape parts.old cell number }
+    ensures { OnOk result (IsPutFor shape.now parts.old cell number parts.new) }
+{
+    if let Some(trap) = lone_piece(shape.points.as_slice()) {
+        return parts.put(cell, number, &[trap]);
+    }
+    let traps = pieces_of(alloc, shape)?;
+    parts.put(cell, number, traps.as_slice())
+}
+
 // The pieces of the shapes of a cell.
 fn cut_cell(alloc: Global, parts: &mut Parts, cells: &[Cell], cell: usize) -> Result<(), NoMemory>
     requires grid { All IsCellOnGrid cells.now }
@@ -51,8 +70,7 @@ fn cut_cell(alloc: Global, parts: &mut Parts, cells: &[Cell], cell: usize) -> Re
     let shapes = shapes_of(cells, cell);
     let mut number = 0;
     while number < shapes.len() {
-        let traps = pieces_of(alloc, shape_at(shapes, number))?;
-        parts.put(cell, number, traps.as_slice())?;
+        cut_shape(alloc, parts, cell, number, shape_at(shapes, number))?;
         number += 1;
     }
     Ok(())

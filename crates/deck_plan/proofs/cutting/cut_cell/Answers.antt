@@ -1,22 +1,22 @@
-use Rattle.std.proofs.Common.{◌≡◌, ◌∙◌, ◌+◌, ap, sym, subst, List, Some, slice_get, length, arith}
-use Rattle.half_grid.specs.Trapezoids.{Trapezoid, CoversExactly}
-use Rattle.half_grid.specs.Winding.{IsInPolygon}
+use Rattle.std.proofs.Common.{◌≡◌, ◌+◌, ap, sym, subst, List, Some, slice_get, length, arith}
+use Rattle.std.proofs.lemmas.Option.{slice_get_within}
+use Rattle.half_grid.specs.Trapezoids.{Trapezoid}
 use Rattle.layout_model.specs.declared.shapes.Shape.{Shape}
 use Rattle.cell_tree.specs.Cells.{shapes_at}
-use Rattle.flat_walk.specs.Tables.{with_pieces}
 use Rattle.deck_plan.specs.Plans.{AreCutUpTo, HaveShapes}
-use Rattle.deck_plan.proofs.PieceLemmas.{shape_on_grid, place, shapes_put, cut_more, cell_cut}
+use Rattle.deck_plan.proofs.PieceLemmas.{shape_on_grid, shapes_put, cut_more, cell_cut}
 use Rattle.deck_plan.proofs.cutting.cut_cell.Goals as goal
 
-pub pieces_of-requires : goal.pieces_of-requires
-pieces_of-requires c =
+pub cut_shape-requires-clause-grid : goal.cut_shape-requires-clause-grid
+cut_shape-requires-clause-grid c =
     let here = subst (λ (shapes : List Shape). slice_get shapes c.loop-number.number ≡ Some c.shape_at.result.now) c.shapes_of-shapes.ensures c.shape_at.ensures in
     shape_on_grid c.args.cells.now c.requires.grid c.args.cell c.loop-number.number c.shape_at.result.now here
 
-pub put-requires : goal.put-requires
-put-requires c =
+pub cut_shape-requires-clause-place : goal.cut_shape-requires-clause-place
+cut_shape-requires-clause-place c =
     let here = subst (λ (shapes : List Shape). slice_get shapes c.loop-number.number ≡ Some c.shape_at.result.now) c.shapes_of-shapes.ensures c.shape_at.ensures in
-    place c.args.cells.now c.loop-number.parts c.args.cell c.loop-number.number c.shape_at.result.now c.in_ok-traps.traps.items c.requires.cell here c.loop-number.invariant.shapes c.in_ok-traps.ensures
+    c.loop-number.invariant.shapes c.args.cell c.loop-number.number c.requires.cell
+    (slice_get_within (shapes_at c.args.cells.now c.args.cell) c.loop-number.number c.shape_at.result.now here)
 
 pub loop-number-preserved : goal.loop-number-preserved
 loop-number-preserved c =
@@ -24,11 +24,13 @@ loop-number-preserved c =
     let n = c.loop-number.number in
     let shape : Shape = c.shape_at.result.now in
     let here = subst (λ (shapes : List Shape). slice_get shapes n ≡ Some shape) c.shapes_of-shapes.ensures c.shape_at.ensures in
-    let put : c.put.new.self ≡ with_pieces c.loop-number.parts c.args.cell n c.in_ok-traps.traps.items = c.in_ok-put.ensures.ok ∙ ap (with_pieces c.loop-number.parts c.args.cell n) c.as_slice.ensures.value in
+    let put = c.in_ok-cut_shape.ensures in
     record {
-      shapes = subst (HaveShapes cells) (sym put) (shapes_put cells c.loop-number.parts c.args.cell n shape c.in_ok-traps.traps.items c.requires.cell here c.loop-number.invariant.shapes c.in_ok-traps.ensures);
-      cut = subst (λ (table : List (List (List Trapezoid))). AreCutUpTo cells table c.args.cell (n + 1)) (sym put)
-          (cut_more cells c.loop-number.parts c.args.cell n shape c.in_ok-traps.traps.items c.requires.cell here c.loop-number.invariant.shapes c.in_ok-traps.ensures c.loop-number.invariant.cut);
+      shapes = subst (HaveShapes cells) (sym put.is)
+          (shapes_put cells c.loop-number.parts c.args.cell n shape put.pieces c.requires.cell here c.loop-number.invariant.shapes put.covers);
+      cut = subst (λ (table : List (List (List Trapezoid))). AreCutUpTo cells table c.args.cell (n + 1)) (sym put.is)
+          (cut_more cells c.loop-number.parts c.args.cell n shape put.pieces c.requires.cell here c.loop-number.invariant.shapes put.covers
+          c.loop-number.invariant.cut);
       few = omega (arith, c.loop-number-test.true);
     }
 
