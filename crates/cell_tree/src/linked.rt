@@ -1,14 +1,19 @@
 //! A layout with the cell of each placement.
 ghost use Rattle.std.specs.Prelude.{◌≡◌, ◌<◌, IfOk, length, map};
+ghost use Rattle.keyed_hash.specs.Keys.{hasher_after_all, start_of};
 ghost use Rattle.layout_model.specs.Layouts.{AreDistinct, IsLayoutOnGrid};
 ghost use Rattle.cell_tree.specs.Cells.{cell_names, cell_number, all_targets};
 ghost use Rattle.cell_tree.specs.Linking.{pointed, places_among};
 
 use geo_stream::NoMemory;
 use indexmap::IndexSet;
+use keyed_hash::KeyedState;
 use layout_model::{Cell, Layout, Name, Placement, Shape};
 use std::alloc::Global;
 use std::marker::Model;
+
+// Names in order, in a table with a key of its own.
+type KeyedNames<'a> = IndexSet<&'a [u8], KeyedState>;
 
 /// The number of the cell of this name.
 pub(crate) fn number_of(cells: &[Cell], name: &Name) -> Option<usize>
@@ -22,12 +27,23 @@ pub(crate) fn number_of(cells: &[Cell], name: &Name) -> Option<usize>
     None
 }
 
+// The key of a table of the cells' names: it depends on each of them.
+fn key_of(cells: &[Cell]) -> KeyedState
+    ensures { start_of result ≡ hasher_after_all (cell_names cells.now) }
+{
+    let mut key = KeyedState::new();
+    for cell in cells {
+        key.take(cell.name.bytes());
+    }
+    key
+}
+
 // The names of the cells in order.
-fn names_in_order<'a>(alloc: Global, cells: &'a [Cell]) -> Result<IndexSet<&'a [u8]>, NoMemory>
+fn names_in_order<'a>(alloc: Global, cells: &'a [Cell]) -> Result<KeyedNames<'a>, NoMemory>
     requires { AreDistinct (cell_names cells.now) }
     ensures { IfOk result (λ names. pointed names.keys ≡ cell_names cells.entry.now) }
 {
-    let mut names = IndexSet::new(alloc);
+    let mut names = IndexSet::with_hasher(alloc, key_of(cells));
     for cell in cells {
         names.insert(cell.name.bytes())?;
     }
@@ -37,7 +53,7 @@ fn names_in_order<'a>(alloc: Global, cells: &'a [Cell]) -> Result<IndexSet<&'a [
 // The place of each placement's target among the names.
 fn targets_of(
     alloc: Global,
-    names: &IndexSet<&[u8]>,
+    names: &KeyedNames,
     placements: &[Placement],
 ) -> Result<Vec<Option<usize>>, NoMemory>
     ensures { IfOk result (λ targets. targets.items ≡ places_among (pointed names.now.keys) placements.now) }

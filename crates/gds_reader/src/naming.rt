@@ -6,11 +6,14 @@ ghost use Rattle.gds_reader.specs.Elements.{IsHeld};
 ghost use Rattle.gds_reader.specs.Names.{same_name, place_of as the_place_of, place_in, AreNamesOf, IsTwice};
 ghost use Rattle.gds_reader.specs.Values.{name_in, without_nuls};
 ghost use Rattle.gds_reader.specs.declared.refusing.GdsBad.TheVariants as bads;
+ghost use Rattle.indexmap.specs.IndexMap.{hasher_of};
+ghost use Rattle.keyed_hash.specs.Keys.{hasher_after, start_of};
 
 use crate::refusing::GdsBad;
 use gds_record::{Kind, Record};
 use geo_stream::NoMemory;
 use indexmap::IndexMap;
+use keyed_hash::KeyedState;
 use std::alloc::Global;
 
 // The bytes without the NULs at their end.
@@ -32,18 +35,21 @@ pub(crate) fn name_of(bytes: &[u8], current: Record) -> &[u8]
     trimmed(&bytes[current.first..current.next])
 }
 
-/// The names of the structures so far, each with the offset of its STRNAME.
+/// The names of the structures so far, each with the offset of its STRNAME. The table's hash depends on all bytes of the
+/// file.
 #[derive(Drop)]
 pub(crate) struct Names<'a> {
-    places: IndexMap<&'a [u8], usize>,
+    places: IndexMap<&'a [u8], usize, KeyedState>,
 }
 
 impl<'a> Names<'a> {
-    pub(crate) fn new(alloc: Global) -> Names<'a>
-        ensures { (bytes : List ℕ) → AreNamesOf bytes [] result }
+    /// No names. The file has these bytes.
+    pub(crate) fn new(alloc: Global, file: &[u8]) -> Names<'a>
+        ensures names { (bytes : List ℕ) → AreNamesOf bytes [] result }
+        ensures key { start_of (hasher_of result.places) ≡ hasher_after file.now }
     {
         Names {
-            places: IndexMap::new(alloc),
+            places: IndexMap::with_hasher(alloc, KeyedState::of(file)),
         }
     }
 

@@ -267,13 +267,13 @@ fn build(
 }
 
 impl<'a> Reader<'a> {
-    fn new(alloc: Global) -> Reader<'a>
+    fn new(alloc: Global, file: &[u8]) -> Reader<'a>
         ensures { (bytes : Items ℕ) (wanted : Items APair) → IsReaderOf bytes wanted [] result }
     {
         Reader {
             place: Place::Header,
             element: Element::new(None),
-            names: Names::new(alloc),
+            names: Names::new(alloc, file),
             structure: Structure {
                 named: None,
                 shapes: List::new(alloc),
@@ -394,7 +394,7 @@ fn read_records(alloc: Global, bytes: &[u8], unit: u32, sorted: &[Pair]) -> Resu
     ensures first_fault { (wanted : Items APair) → AreSamePairs wanted sorted.now
         → IfErr result (λ bad. bad ≢ bads.NoMemory → IsFirstFault bytes.now unit wanted bad) }
 {
-    let mut reader = Reader::new(alloc);
+    let mut reader = Reader::new(alloc, bytes);
     let mut at = 0;
     'records: loop {
         let current = match record_at(bytes, at) {

@@ -49,7 +49,7 @@ fn look_at_cells<'a>(
     ensures twins { (past : AList Item) → AreNamesOf bytes.now past names.now
         → IfErr result (AreTwins bytes.now (records_in past) (cell_items drafts.now)) }
 {
-    let mut cells = Cells::new(alloc);
+    let mut cells = Cells::new(alloc, names.key());
     for draft in drafts {
         let name = bytes_of(names, bytes, draft.called)?;
         match cells.enter(name, draft.at) {

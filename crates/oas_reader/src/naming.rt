@@ -8,10 +8,13 @@ ghost use Rattle.oas_reader.specs.Names.{conflict_of, name_called as the_name_ca
 ghost use Rattle.oas_reader.specs.Naming.{IsSpan, IsCalledWithin, AreCalledWithin, IsNoName, cell_name_record, cell_record, IsConflict, conflict_in, given_in, first_marked, HaveSpans, Calls, Mentions, AreNamesOf, AreCellsOf, IsTwin};
 ghost use Rattle.oas_reader.specs.Reading.{item};
 ghost use Rattle.oas_reader.specs.Rules.{IsNamed};
+ghost use Rattle.indexmap.specs.IndexMap.{hasher_of};
+ghost use Rattle.keyed_hash.specs.Keys.{hasher_after, start_of};
 
 use crate::refusing::OasBad;
 use geo_stream::NoMemory;
 use indexmap::IndexMap;
+use keyed_hash::KeyedState;
 use layout_model::{Name, NameBad};
 use oas_record::Called;
 use std::alloc::Global;
@@ -37,19 +40,19 @@ struct Numbering {
     is_written: bool,
 }
 
-/// The names of the records so far.
+/// The names of the records so far. The hashes of the tables depend on all bytes of the file.
 #[derive(Drop)]
 pub(crate) struct Names<'a> {
     // Those that CELLNAME records give, by their numbers.
-    given: IndexMap<u64, Given>,
+    given: IndexMap<u64, Given, KeyedState>,
     numbering: Option<Numbering>,
     // How many CELLNAME records don't write their number.
     counted: u64,
     // The names of the cells that write theirs, each with the offset of its CELL record.
-    cells: IndexMap<&'a [u8], usize>,
+    cells: IndexMap<&'a [u8], usize, KeyedState>,
     // The numbers that CELL and PLACEMENT records write, each with the offset of the first such record, in the order of
     // the file.
-    used: IndexMap<u64, usize>,
+    used: IndexMap<u64, usize, KeyedState>,
 }
 
 /// Looks at what is written of a cell's name. That it is none is reported even where memory runs out.
@@ -91,16 +94,28 @@ pub(crate) fn look_at_called(
 }
 
 impl<'a> Names<'a> {
-    pub(crate) fn new(alloc: Global) -> Names<'a>
-        ensures { (bytes : List ℕ) → AreNamesOf bytes [] result }
+    /// No names. The file has these bytes.
+    pub(crate) fn new(alloc: Global, file: &[u8]) -> Names<'a>
+        ensures names { (bytes : List ℕ) → AreNamesOf bytes [] result }
+        ensures given_key { start_of (hasher_of result.given) ≡ hasher_after file.now }
+        ensures cells_key { start_of (hasher_of result.cells) ≡ hasher_after file.now }
+        ensures used_key { start_of (hasher_of result.used) ≡ hasher_after file.now }
     {
+        let key = KeyedState::of(file);
         Names {
-            given: IndexMap::new(alloc),
+            given: IndexMap::with_hasher(alloc, key),
             numbering: None,
             counted: 0,
-            cells: IndexMap::new(alloc),
-            used: IndexMap::new(alloc),
+            cells: IndexMap::with_hasher(alloc, key),
+            used: IndexMap::with_hasher(alloc, key),
         }
+    }
+
+    /// What the hashes of the tables begin with.
+    pub(crate) fn key(&self) -> KeyedState
+        ensures { result ≡ hasher_of self.now.cells }
+    {
+        *self.cells.hasher()
     }
 
     // The offset of the first CELLNAME record that conflicts with one of this number.
@@ -262,15 +277,17 @@ impl<'a> Names<'a> {
 /// The cells' names after END, each with the offset of its CELL record.
 #[derive(Drop)]
 pub(crate) struct Cells<'a> {
-    places: IndexMap<&'a [u8], usize>,
+    places: IndexMap<&'a [u8], usize, KeyedState>,
 }
 
 impl<'a> Cells<'a> {
-    pub(crate) fn new(alloc: Global) -> Cells<'a>
-        ensures { (bytes : List ℕ) (all : List ARecord) → AreCellsOf bytes all [] result }
+    /// No cells. The hash of the table begins with this key.
+    pub(crate) fn new(alloc: Global, key: KeyedState) -> Cells<'a>
+        ensures cells { (bytes : List ℕ) (all : List ARecord) → AreCellsOf bytes all [] result }
+        ensures key { hasher_of result.places ≡ key }
     {
         Cells {
-            places: IndexMap::new(alloc),
+            places: IndexMap::with_hasher(alloc, key),
         }
     }
 

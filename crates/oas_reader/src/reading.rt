@@ -177,7 +177,7 @@ fn take_rectangle_fields(bytes: &[u8], fields: &mut Fields, current: &PlainRecta
 }
 
 impl<'a> Reader<'a> {
-    fn new(alloc: Global) -> Reader<'a>
+    fn new(alloc: Global, file: &[u8]) -> Reader<'a>
         ensures reader { (bytes : AList ℕ) (wanted : AList APair) → IsReaderOf bytes wanted [] result }
         ensures within { (bytes : AList ℕ) → IsReaderWithin bytes result }
     {
@@ -185,7 +185,7 @@ impl<'a> Reader<'a> {
             place: Place::Start,
             tables: false,
             fields: Fields::new(),
-            names: Names::new(alloc),
+            names: Names::new(alloc, file),
             drafts: Drafts::new(alloc),
             counts: counting::NONE,
         }
@@ -383,7 +383,7 @@ fn read_records(alloc: Global, bytes: &[u8], unit: u32, sorted: &[Pair]) -> Resu
     ensures first_fault { (wanted : AList APair) → AreSamePairs wanted sorted.now
         → IfErr result (λ bad. bad ≢ bads.NoMemory → IsFirstFault bytes.now unit wanted bad) }
 {
-    let mut reader = Reader::new(alloc);
+    let mut reader = Reader::new(alloc, bytes);
     let mut at = MAGIC.len();
     'records: loop {
         if let Some((rectangle, next)) = plain_rectangle_at(bytes, at) {

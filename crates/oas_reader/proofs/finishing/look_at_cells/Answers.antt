@@ -8,7 +8,7 @@ use Rattle.oas_reader.proofs.FinishLemmas.{items_more, called_back, distinct_mor
 use Rattle.oas_reader.proofs.finishing.look_at_cells.Goals as goal
 
 pub loop-draft-init : goal.loop-draft-init
-loop-draft-init c = λ past are. (c.new-cells.ensures c.args.bytes.now (records_in past), refl)
+loop-draft-init c = λ past are. (c.new-cells.ensures.cells c.args.bytes.now (records_in past), refl)
 
 pub loop-draft-preserved : goal.loop-draft-preserved
 loop-draft-preserved c = λ past are.

@@ -7,7 +7,7 @@ returns-clause-reader c = λ bytes wanted. record {
   place = refl;
   tables = refl;
   fields = c.new.ensures;
-  names = c.new-2.ensures bytes;
+  names = c.new-2.ensures.names bytes;
   drafts = c.new-3.ensures.drafts wanted;
   counts = refl;
 }
@@ -16,6 +16,6 @@ pub returns-clause-within : goal.returns-clause-within
 returns-clause-within c = λ bytes. record {
   near = near_first c.new.result c.new.ensures;
   cell = cell_first bytes c.new.result c.new.ensures;
-  spans = spans_first bytes c.new-2.result (c.new-2.ensures bytes);
+  spans = spans_first bytes c.new-2.result (c.new-2.ensures.names bytes);
   drafts = c.new-3.ensures.within bytes;
 }
