@@ -6,6 +6,7 @@ ghost use Rattle.half_grid.specs.declared.border.Operand.TheVariants.{A};
 ghost use Rattle.scan_line.specs.OutlineEdges.{edges_along};
 ghost use Rattle.cell_tree.specs.Flattening.{IsInLayer};
 ghost use Rattle.column_sweep.specs.RowSums.{AddUpAlike};
+ghost use Rattle.flat_walk.specs.Boxes.{AreAllBoxed};
 ghost use Rattle.flat_walk.specs.Tables.{AreCut};
 ghost use Rattle.flat_walk.specs.Walks.{pieces_in};
 ghost use Rattle.deck_plan.specs.Lists.{HasArea};
@@ -14,7 +15,7 @@ ghost use Rattle.deck_plan.specs.Rings.{edges_of_quad};
 use bool_ops::unite;
 use cell_tree::Tree;
 use column_sweep::put_edge;
-use flat_walk::{Parts, Walk};
+use flat_walk::{Boxes, Parts, Walk};
 use geo_stream::{NoMemory, Stream};
 use half_grid::{Edge, Operand, Quad, Trap, Window};
 use layout_model::Pair;
@@ -50,13 +51,15 @@ pub(crate) fn layer_area<'t>(
     alloc: Global,
     tree: &'t Tree,
     parts: &'t Parts,
+    boxes: &'t Boxes,
     pair: Pair,
     window: Window,
 ) -> Result<Vec<Trap>, NoMemory>
-    requires { AreCut tree.now.layout.cells tree.now.top parts.now pair }
+    requires cut { AreCut tree.now.layout.cells tree.now.top parts.now pair }
+    requires boxed { AreAllBoxed tree.now.layout.cells parts.now boxes.now }
     ensures { IfOk result (λ traps. HasArea window (IsInLayer tree.now.layout.cells tree.now.top pair) traps.items) }
 {
-    let mut walk = match Walk::begin(alloc, tree, parts, pair, window) {
+    let mut walk = match Walk::begin_boxed(alloc, tree, parts, boxes, pair, window) {
         Ok(walk) => walk,
         Err(NoMemory) => return Err(NoMemory),
     };

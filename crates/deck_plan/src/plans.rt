@@ -26,7 +26,7 @@ use crate::windows::no_rows;
 use bool_ops::Op;
 use cell_tree::Tree;
 use deck_text::{Deck, Step};
-use flat_walk::Parts;
+use flat_walk::{Boxes, Parts};
 use geo_stream::NoMemory;
 use half_grid::{Trap, Window};
 use std::alloc::Global;
@@ -39,28 +39,36 @@ pub struct Plan<'t> {
     deck: &'t Deck,
     tree: &'t Tree,
     parts: Parts,
+    boxes: Boxes,
 }
 
 impl<'t> Model for Plan<'t> {
     ghost use Rattle.deck_plan.specs.Plans.{Planned, planned, IsRead, AreAllCut};
+    ghost use Rattle.flat_walk.specs.Boxes.{AreAllBoxed};
 
     ghost Value = { Planned };
 
     ghost view = { λ plan. planned plan.deck.now plan.tree.now };
 
-    ghost invariant = { λ plan. IsRead plan.deck.now × AreAllCut plan.tree.now.layout.cells plan.parts };
+    ghost invariant = { λ plan. IsRead plan.deck.now × AreAllCut plan.tree.now.layout.cells plan.parts × AreAllBoxed plan.tree.now.layout.cells plan.parts plan.boxes };
 }
 
 impl<'t> Plan<'t> {
     /// The plan of a deck over a layout's tree. The deck is one that was read. Want of memory is the only refusal.
     ///
-    /// Each shape is cut into its pieces here, once.
+    /// Each shape is cut into its pieces here, once, and a box is put round them.
     pub fn new(alloc: Global, deck: &'t Deck, tree: &'t Tree) -> Result<Plan<'t>, NoMemory>
         requires { IsRead deck.now }
         ensures { IfOk result (λ plan. plan ≡ planned deck.now tree.now) }
     {
         let parts = cut_parts(alloc, tree)?;
-        Ok(Plan { deck, tree, parts })
+        let boxes = Boxes::of(alloc, tree, &parts)?;
+        Ok(Plan {
+            deck,
+            tree,
+            parts,
+            boxes,
+        })
     }
 
     /// Its deck, which is one that was read.
@@ -145,7 +153,9 @@ impl<'t> Plan<'t> {
         ensures { IfOk result (λ traps. HasArea window (λ t. IsInStep self.now.cells self.now.top self.now.deck.frame (IsListed (map (λ list. list.items) areas.now)) step.now t) traps.items) }
     {
         match step {
-            Step::Layer(pair) => layer_area(alloc, self.tree, &self.parts, *pair, window),
+            Step::Layer(pair) => {
+                layer_area(alloc, self.tree, &self.parts, &self.boxes, *pair, window)
+            },
             Step::Or(a, b) => combined_area(
                 alloc,
                 Op::Or,

@@ -11,6 +11,7 @@ pub mod ListLemmas
 pub mod Motions
 pub mod PoseLemmas
 pub mod ReadLemmas
+pub mod BoxLemmas
 pub mod RestLemmas
 pub mod RingImages
 pub mod ShowLemmas

@@ -118,7 +118,7 @@ hand_skip w before orient at pieces rest piece is off s =
     skip_on w before (map Some (placed_list orient at pieces)) (map Some (placed_list orient at rest)) s
     (subst (λ l. Skips w (map Some (placed_list orient at l)) (map Some (placed_list orient at rest))) (sym is) (skip_one w (Some (quad_image orient at (corners_of piece))) (map Some (placed_list orient at rest)) off))
 
-placed_rest_is : (orient : Orient) (at : Point) (pair : Pair) (shape : Shape) (shapes : List Shape) (pieces : List Trapezoid) (lists : List (List Trapezoid)) (place : ℕ)
+pub placed_rest_is : (orient : Orient) (at : Point) (pair : Pair) (shape : Shape) (shapes : List Shape) (pieces : List Trapezoid) (lists : List (List Trapezoid)) (place : ℕ)
     → placed_rest orient at pair (shape ∷ shapes) (pieces ∷ lists) place ≡ map (quad_image orient at) (places_rest pair shape pieces place) ++ map (quad_image orient at) (pieces_of_shapes pair shapes lists)
 placed_rest_is orient at pair shape shapes pieces lists place = map-append (quad_image orient at) (places_rest pair shape pieces place) (pieces_of_shapes pair shapes lists)
 
@@ -152,18 +152,19 @@ marked_first (q ∷ qs) rest all = (All-head IsMarkedQuad (Some q) (map Some qs 
 pub marked_hand : (qs : List Corners) (rest : List (Option Corners)) → All IsMarkedQuad (map Some qs ++ rest) → All IsQuad qs
 marked_hand qs rest all = All-from_recursion IsQuad qs (marked_first qs rest all)
 
--- the hand shows nothing more, and the cursor gives another one
-pub hand_changes : (w : RowRange) (before : List (Option Corners)) (hand cursor hand' cursor' : List Corners) → Skips w before (map Some hand ++ map Some cursor) → Skips w (map Some hand) []
-    → cursor ≡ hand' ++ cursor' → Skips w before (map Some hand' ++ map Some cursor')
-hand_changes w before hand cursor hand' cursor' s over is =
-    skip_on w before (map Some hand ++ map Some cursor) (map Some hand' ++ map Some cursor') s
-    (skip_on w (map Some hand ++ map Some cursor) (map Some cursor) (map Some hand' ++ map Some cursor') (skip_over w (map Some hand) (map Some cursor) over)
-    (skip_same w (map Some cursor) (map Some hand' ++ map Some cursor') (ap (map Some) is ∙ marks_apart hand' cursor')))
+-- the hand shows nothing more, and the cursor passes by some
+pub hand_passes : (w : RowRange) (before : List (Option Corners)) (hand cursor passed : List Corners) → Skips w before (map Some hand ++ map Some cursor) → Skips w (map Some hand) [] → Skips w (map Some cursor) (map Some passed)
+    → Skips w before (map Some passed)
+hand_passes w before hand cursor passed s over past =
+    skip_on w before (map Some hand ++ map Some cursor) (map Some passed) s
+    (skip_on w (map Some hand ++ map Some cursor) (map Some cursor) (map Some passed) (skip_over w (map Some hand) (map Some cursor) over) past)
 
-pub hand_ends : (w : RowRange) (before : List (Option Corners)) (hand cursor : List Corners) → Skips w before (map Some hand ++ map Some cursor) → Skips w (map Some hand) [] → cursor ≡ [] → Skips w before []
-hand_ends w before hand cursor s over is =
-    skip_on w before (map Some hand ++ map Some cursor) [] s
-    (skip_on w (map Some hand ++ map Some cursor) (map Some cursor) [] (skip_over w (map Some hand) (map Some cursor) over) (skip_same w (map Some cursor) [] (ap (map Some) is)))
+pub passed_changes : (w : RowRange) (before : List (Option Corners)) (passed hand' cursor' : List Corners) → Skips w before (map Some passed) → passed ≡ hand' ++ cursor' → Skips w before (map Some hand' ++ map Some cursor')
+passed_changes w before passed hand' cursor' s is =
+    skip_on w before (map Some passed) (map Some hand' ++ map Some cursor') s (skip_same w (map Some passed) (map Some hand' ++ map Some cursor') (ap (map Some) is ∙ marks_apart hand' cursor'))
+
+pub passed_ends : (w : RowRange) (before : List (Option Corners)) (passed : List Corners) → Skips w before (map Some passed) → passed ≡ [] → Skips w before []
+passed_ends w before passed s is = skip_on w before (map Some passed) [] s (skip_same w (map Some passed) [] (ap (map Some) is))
 
 pub marked_left : (xs ys : List (Option Corners)) → All IsMarkedQuad (xs ++ ys) → All IsMarkedQuad xs
 marked_left xs ys all = All-from_recursion IsMarkedQuad xs (by_recursion xs ys all)

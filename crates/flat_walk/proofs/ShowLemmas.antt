@@ -68,7 +68,7 @@ raised_high : (orient : Orient) (at : Point) (low high : ℤ) (p : Point) → Is
 raised_high orient at low high p h = let a = h.below in omega (arith, ints, a)
 
 -- a quadrilateral has no row in the window where the rows of its hull have none
-quad_hidden : (w : RowRange) (orient : Orient) (at : Point) (low high : ℤ) (q : Corners) → HasRowsBetween orient low high q → int_lt (int_max w.y0 (low +ℤ at.y)) (int_min w.y1 (high +ℤ at.y)) ≡ false
+pub quad_hidden : (w : RowRange) (orient : Orient) (at : Point) (low high : ℤ) (q : Corners) → HasRowsBetween orient low high q → int_lt (int_max w.y0 (low +ℤ at.y)) (int_min w.y1 (high +ℤ at.y)) ≡ false
     → has_row_in w (quad_image orient at q) ≡ false
 unfolding has_row_in
 quad_hidden w orient at low high q h apart =

@@ -6,6 +6,7 @@ use Rattle.layout_model.specs.Images.{IsOrient}
 use Rattle.layout_model.specs.Layouts.{IsShapeOnGrid, IsWithin}
 use Rattle.layout_model.specs.declared.pair.Pair.{Pair}
 use Rattle.layout_model.specs.declared.shapes.Shape.{Shape}
+use Rattle.flat_walk.specs.Boxes.{AreBoxed}
 use Rattle.flat_walk.specs.Rests.{placed_list, placed_rest}
 use Rattle.flat_walk.specs.declared.owned.Hand.{Hand}
 use Rattle.flat_walk.specs.declared.owned.Cursor.{Cursor}
@@ -25,6 +26,7 @@ pub record IsCursor (cursor : Cursor) : Type 0 where
   pub orient : IsOrient cursor.orient
   pub near : IsWithin (2 ^ 54) cursor.at
   pub grid : All IsShapeOnGrid cursor.shapes.now
+  pub boxed : AreBoxed cursor.shapes.now cursor.lists.now cursor.boxes.now
 
 -- how many shapes and offsets there are
 abbrev pub steps_of : List Shape → ℕ

@@ -3,6 +3,7 @@ pub mod Kept
 pub mod Quads
 pub mod Tables
 pub mod Walks
+pub mod Boxes
 -- ---- what is kept inside
 pub mod Hands
 pub mod Poses

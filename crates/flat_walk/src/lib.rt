@@ -4,6 +4,7 @@
 //! in the order of the flattened layout. Lengths are half units.
 #![tactic(auto)]
 
+mod boxes;
 mod levels;
 mod owned;
 mod rises;
@@ -15,5 +16,6 @@ mod tests;
 mod turning;
 mod walks;
 
+pub use boxes::Boxes;
 pub use tables::Parts;
 pub use walks::Walk;

@@ -1,17 +1,19 @@
 //! The pieces of a cell's own shapes, where the cell is placed.
-ghost use Rattle.std.specs.Prelude.{◌≡◌, ◌^◌, ◌<◌, ◌+◌, [], ◌∷◌, ◌++◌, map, Some, All, MatchOption, OnSome, IfSome, length};
+ghost use Rattle.std.specs.Prelude.{◌≡◌, ◌^◌, ◌<◌, ◌+◌, [], ◌∷◌, ◌++◌, map, Some, All, MatchOption, OnSome, IfSome, length, ◌≤◌, drop};
 ghost use Rattle.half_grid.specs.Quads.{IsQuad, corners_of};
 ghost use Rattle.layout_model.specs.Images.{IsOrient};
 ghost use Rattle.layout_model.specs.declared.pair.Pair.{Pair as APair};
 ghost use Rattle.layout_model.specs.Layouts.{IsShapeOnGrid, IsWithin};
 ghost use Rattle.flat_walk.specs.Quads.{quad_image};
-ghost use Rattle.flat_walk.specs.Rests.{IsMarkedQuad, Gives, places_rest, placed_rest};
+ghost use Rattle.flat_walk.specs.Rests.{IsMarkedQuad, Skips, Gives, places_rest, placed_rest};
+ghost use Rattle.flat_walk.specs.Boxes.{AreBoxed};
 ghost use Rattle.flat_walk.specs.Hands.{hand_list, IsHand, cursor_list, IsCursor, steps_left, own_rest, IsOwn};
 
+use crate::boxes::may_show;
 use crate::rows::has_row;
 use crate::tables::Pieces;
 use crate::turning::image;
-use half_grid::{Point, Quad, Trap, Window};
+use half_grid::{Frame, Point, Quad, Trap, Window};
 use layout_model::{Orient, Pair, Shape};
 
 // Pieces of a shape at one of its offsets, and how they are enlarged, mirrored, turned and moved.
@@ -22,12 +24,13 @@ pub(crate) struct Hand<'t> {
     at: Point,
 }
 
-// Shapes with the pieces of each, and how their cell is placed. Of the first shape those offsets are left whose number is
+// Shapes with the pieces of each, boxes round what the first of them show, and how their cell is placed. Of the first shape those offsets are left whose number is
 // at least `place`.
 #[derive(Clone, Copy)]
 pub(crate) struct Cursor<'t> {
     shapes: &'t [Shape],
     lists: &'t [Pieces],
+    boxes: &'t [Frame],
     place: u64,
     orient: Orient,
     at: Point,
@@ -123,18 +126,60 @@ impl<'t> Cursor<'t> {
             }
             self.shapes = shapes;
             self.lists = lists;
+            self.boxes = after_first(self.boxes);
             self.place = 0;
         }
         None
+    }
+
+    // Passes by the shapes, from the first one on, that have nothing in the window.
+    fn pass_by(&mut self, window: Window)
+        requires { IsCursor self.old }
+        ensures cursor { IsCursor self.new }
+        ensures skips { (pair : APair) → Skips window (map Some (cursor_list pair self.old)) (map Some (cursor_list pair self.new)) }
+        ensures steps { steps_left self.new ≤ steps_left self.old }
+    {
+        while let Some((around, boxes)) = self.boxes.split_first() {
+            if may_show(around, self.orient, self.at, window) {
+                return;
+            }
+            let Some((_shape, shapes)) = self.shapes.split_first() else {
+                return;
+            };
+            let Some((_list, lists)) = self.lists.split_first() else {
+                return;
+            };
+            self.shapes = shapes;
+            self.lists = lists;
+            self.boxes = boxes;
+            self.place = 0;
+        }
+    }
+}
+
+// All but the first box, where there is one.
+fn after_first(boxes: &[Frame]) -> &[Frame]
+    ensures { result.now ≡ drop 1 boxes.now }
+{
+    match boxes.split_first() {
+        Some((_first, others)) => others,
+        None => boxes,
     }
 }
 
 impl<'t> Own<'t> {
     /// All that a cell's own shapes show, where it is placed so.
-    pub(crate) fn of(shapes: &'t [Shape], lists: &'t [Pieces], orient: Orient, at: Point) -> Own<'t>
+    pub(crate) fn of(
+        shapes: &'t [Shape],
+        lists: &'t [Pieces],
+        boxes: &'t [Frame],
+        orient: Orient,
+        at: Point,
+    ) -> Own<'t>
         requires orient { IsOrient orient }
         requires near { IsWithin (2 ^ 54) at }
         requires grid { All IsShapeOnGrid shapes.now }
+        requires boxed { AreBoxed shapes.now lists.now boxes.now }
         ensures own { IsOwn result }
         ensures list { (pair : APair) → own_rest pair result ≡ map Some (placed_rest orient at pair shapes.now lists.now 0) }
     {
@@ -147,6 +192,7 @@ impl<'t> Own<'t> {
             cursor: Cursor {
                 shapes,
                 lists,
+                boxes,
                 place: 0,
                 orient,
                 at,
@@ -165,6 +211,7 @@ impl<'t> Own<'t> {
             if let Some(quad) = self.hand.next(window) {
                 return Some(quad);
             }
+            self.cursor.pass_by(window);
             match self.cursor.next(pair) {
                 Some(hand) => self.hand = hand,
                 None => return None,

@@ -6,13 +6,15 @@ ghost use Rattle.half_grid.specs.Outlines.{HasGridEdges};
 ghost use Rattle.half_grid.specs.Quads.{IsQuad, Corners, ring_of};
 ghost use Rattle.layout_model.specs.declared.pair.Pair.{Pair as APair};
 ghost use Rattle.cell_tree.specs.Cells.{shapes_at};
+ghost use Rattle.flat_walk.specs.Boxes.{AreAllBoxed, boxes_at};
 ghost use Rattle.flat_walk.specs.Tables.{AreCut, lists_at};
 ghost use Rattle.flat_walk.specs.Walks.{pieces_in, CoversLayer};
 ghost use Rattle.flat_walk.specs.Rests.{Skips, shows_in, placed_rest};
 ghost use Rattle.flat_walk.specs.Hands.{own_rest, IsOwn};
-ghost use Rattle.flat_walk.specs.Ways.{IsScene, cells_of, marked_of, levels_rest, IsLevel, AreLevels};
+ghost use Rattle.flat_walk.specs.Ways.{IsScene, cells_of, boxes_of, marked_of, levels_rest, IsLevel, AreLevels};
 ghost use Rattle.flat_walk.specs.Streams.{StandsForWalk, walk_size, Walk-one_list, Walk-no_longer, Walk-bounded};
 
+use crate::boxes::{Boxes, no_boxes};
 use crate::levels::{Level, raised, rows_of};
 use crate::owned::Own;
 use crate::rows::meet;
@@ -20,7 +22,7 @@ use crate::scenes::Scene;
 use crate::tables::Parts;
 use cell_tree::Tree;
 use geo_stream::{NoMemory, Stream};
-use half_grid::{Point, Quad, Window};
+use half_grid::{Frame, Point, Quad, Window};
 use layout_model::{Orient, Pair, Shape};
 use std::alloc::Global;
 
@@ -66,6 +68,16 @@ fn shapes_of<'t>(scene: &Scene<'t>, cell: usize) -> &'t [Shape]
     cells[cell].shapes.as_slice()
 }
 
+// The boxes of the shapes of a cell.
+fn boxes_of<'t>(scene: &Scene<'t>, cell: usize) -> &'t [Frame]
+    ensures { result.now ≡ boxes_at (boxes_of scene.now) cell }
+{
+    match scene.boxes.get(cell) {
+        Some(boxes) => boxes.as_slice(),
+        None => &[],
+    }
+}
+
 // All that the own shapes of a cell on the way show.
 fn own_of<'t>(scene: &Scene<'t>, level: &Level<'t>) -> Own<'t>
     requires scene { IsScene scene.now }
@@ -76,7 +88,8 @@ fn own_of<'t>(scene: &Scene<'t>, level: &Level<'t>) -> Own<'t>
 {
     let shapes = shapes_of(scene, level.cell());
     let lists = scene.parts.lists(level.cell());
-    Own::of(shapes, lists, level.orient(), level.at())
+    let boxes = boxes_of(scene, level.cell());
+    Own::of(shapes, lists, boxes, level.orient(), level.at())
 }
 
 // Enters the next placed cell that may have rows in the window.
@@ -102,6 +115,23 @@ fn enter<'t>(levels: &mut Vec<Level<'t>>, scene: &Scene<'t>) -> Option<Own<'t>>
     None
 }
 
+// Enters the top cell, where it may have rows in the window, and else nothing.
+fn enter_top<'t>(levels: &mut Vec<Level<'t>>, scene: &Scene<'t>) -> Own<'t>
+    requires scene { IsScene scene.now }
+    requires levels { levels.old.items ≡ [] }
+    requires room { 64 ≤ vec_capacity levels.old }
+    ensures { StandsForWalk scene.now result levels.new.items (vec_capacity levels.new)
+        (pieces_in (cells_of scene.now) scene.now.tree.now.top scene.now.parts.now scene.now.pair scene.now.window) }
+{
+    if !top_meets(scene) {
+        return Own::of(&[], &[], &[], UPRIGHT, ORIGIN);
+    }
+    let level = Level::of(scene.tree.top(), UPRIGHT, ORIGIN, 0);
+    let own = own_of(scene, &level);
+    levels.push_reserved(level);
+    own
+}
+
 impl<'t> Walk<'t> {
     /// A stream of the images of the pieces of all flattened shapes on the pair that have a row in the window, depth
     /// first in the order of the file. Each shape on the pair in a reachable cell of the tree has its pieces, and they
@@ -124,21 +154,51 @@ impl<'t> Walk<'t> {
     {
         parts.kept();
         let _cells = tree.cells();
-        let top = tree.top();
+        let _top = tree.top();
         let scene = Scene {
             tree,
             parts,
+            boxes: no_boxes(),
             pair,
             window,
         };
         let mut levels = Vec::with_capacity(alloc, DEPTH)?;
-        if !top_meets(&scene) {
-            let own = Own::of(&[], &[], UPRIGHT, ORIGIN);
-            return Ok(Walk { scene, own, levels });
-        }
-        let level = Level::of(top, UPRIGHT, ORIGIN, 0);
-        let own = own_of(&scene, &level);
-        levels.push_reserved(level);
+        let own = enter_top(&mut levels, &scene);
+        Ok(Walk { scene, own, levels })
+    }
+
+    /// The same stream. By the boxes of the shapes it passes by those that have nothing in the window, and looks at no
+    /// more of them.
+    pub fn begin_boxed(
+        alloc: Global,
+        tree: &'t Tree,
+        parts: &'t Parts,
+        boxes: &'t Boxes,
+        pair: Pair,
+        window: Window,
+    ) -> Result<Walk<'t>, NoMemory>
+        requires cut { AreCut tree.now.layout.cells tree.now.top parts.now pair }
+        requires boxed { AreAllBoxed tree.now.layout.cells parts.now boxes.now }
+        ensures list { IfOk result (λ walk. ⟦<Walk<'t> as Stream>⟧.stands_for walk
+            (pieces_in tree.entry.now.layout.cells tree.entry.now.top parts.entry.now pair window)) }
+        ensures quads { All IsQuad (pieces_in tree.now.layout.cells tree.now.top parts.now pair window) }
+        ensures grid { All (λ q. HasGridEdges (ring_of q))
+            (pieces_in tree.now.layout.cells tree.now.top parts.now pair window) }
+        ensures area { CoversLayer tree.now.layout.cells tree.now.top pair window
+            (pieces_in tree.now.layout.cells tree.now.top parts.now pair window) }
+    {
+        parts.kept();
+        let _cells = tree.cells();
+        let _top = tree.top();
+        let scene = Scene {
+            tree,
+            parts,
+            boxes: boxes.as_slice(),
+            pair,
+            window,
+        };
+        let mut levels = Vec::with_capacity(alloc, DEPTH)?;
+        let own = enter_top(&mut levels, &scene);
         Ok(Walk { scene, own, levels })
     }
 }

@@ -1,0 +1,20 @@
+use Rattle.std.proofs.Common.{◌≡◌, ◌∙◌, ap, sym, subst, arith, All, length, Some, slice_get, ◌++◌, ◌∷◌, []}
+use Rattle.layout_model.specs.Layouts.{IsShapeOnGrid}
+use Rattle.flat_walk.specs.Boxes.{AreBoxed}
+use Rattle.flat_walk.proofs.RestLemmas.{slot_all}
+use Rattle.flat_walk.proofs.BoxLemmas.{boxed_none, boxed_more}
+use Rattle.flat_walk.proofs.boxes.boxes_for.Goals as goal
+
+pub loop-boxes-init : goal.loop-boxes-init
+loop-boxes-init c = subst (AreBoxed c.args.shapes.now c.args.lists.now) (sym c.in_ok-boxes.ensures.items) (boxed_none c.args.shapes.now c.args.lists.now)
+
+pub loop-boxes-preserved : goal.loop-boxes-preserved
+loop-boxes-preserved c =
+    let k : c.len-number.result ≡ length c.loop-boxes.boxes.items = omega (arith, c.len-number.ensures, c.loop-boxes.boxes.ok) in
+    let here = subst (λ k. slice_get c.args.shapes.now k ≡ Some c.shape_at.result.now) k c.shape_at.ensures in
+    let there = subst (λ k. slice_get c.args.lists.now k ≡ Some c.pieces_at.result.now) k c.pieces_at.ensures in
+    subst (AreBoxed c.args.shapes.now c.args.lists.now) (sym c.in_ok-push.ensures.items)
+    (boxed_more c.args.shapes.now c.args.lists.now c.loop-boxes.boxes.items c.shape_at.result.now c.pieces_at.result.now c.box_of_shape-around.result c.loop-boxes.invariant here there c.box_of_shape-around.ensures)
+
+pub box_of_shape-around-requires : goal.box_of_shape-around-requires
+box_of_shape-around-requires c = slot_all IsShapeOnGrid c.args.shapes.now c.len-number.result c.shape_at.result.now c.requires c.shape_at.ensures
