@@ -1,9 +1,9 @@
 -- Boxes round what shapes show, and shapes that are passed by.
-use Rattle.std.proofs.Common.{◌≡◌, ℕ, ℤ, zero, suc, pos, neg_ℤ, ◌+◌, ◌*◌, ◌^◌, ◌<◌, ◌≤◌, ◌+ℤ◌, ◌≤ℤ◌, Bool, true, false, int_lt, if◌then◌else◌, List, [], ◌∷◌, ◌++◌, Option, Some, None, All, Any, map, drop, length, get_or, slice_get, refl, sym, ap, subst, ◌∙◌, arith}
+use Rattle.std.proofs.Common.{◌≡◌, ℕ, ℤ, zero, suc, pos, neg_ℤ, ◌+◌, ◌-◌, ◌*◌, ◌^◌, ◌<◌, ◌≤◌, ◌+ℤ◌, ◌≤ℤ◌, Bool, true, false, int_lt, if◌then◌else◌, List, [], ◌∷◌, ◌++◌, Option, Some, None, All, Any, map, drop, length, get_or, slice_get, refl, sym, ap, subst, ◌∙◌, arith, append_assoc, length-append}
 use Rattle.std.specs.Int.{int_min, int_max}
 use Rattle.std.specs.List.{filter, flat_map, AllByRecursion}
 use Rattle.std.proofs.lemmas.Int.{ints, clamps}
-use Rattle.std.proofs.lemmas.List.{map-append}
+use Rattle.std.proofs.lemmas.List.{length-drop}
 use Rattle.std.proofs.lemmas.List.Elements.{filter-append, recursion_from_All, All-from_recursion, All-head, All-tail}
 use Rattle.std.proofs.lemmas.Option.{none-some, same_Some, slice_get-get_or}
 use Rattle.half_grid.specs.Quads.{Corners, corners_of}
@@ -13,7 +13,7 @@ use Rattle.half_grid.specs.Windows.{RowRange}
 use Rattle.half_grid.specs.declared.plane.Point.{Point}
 use Rattle.half_grid.specs.declared.extent.Frame.{Frame}
 use Rattle.layout_model.specs.Hulls.{IsInBox, IsLeastBoxOf}
-use Rattle.layout_model.specs.Images.{IsOrient, moved}
+use Rattle.layout_model.specs.Images.{image_of, moved}
 use Rattle.layout_model.specs.Layouts.{IsWithin, IsMove, AreOffsets}
 use Rattle.layout_model.specs.declared.pair.Pair.{Pair}
 use Rattle.layout_model.specs.declared.orient.Orient.{Orient}
@@ -25,9 +25,11 @@ use Rattle.flat_walk.specs.Boxes.{IsQuadIn, HasBox, AreBoxed, boxes_at, AreAllBo
 use Rattle.flat_walk.specs.Tables.{lists_at}
 use Rattle.flat_walk.specs.Quads.{quad_image, moved_quad, has_row_in}
 use Rattle.flat_walk.specs.Walks.{is_on, pieces_of_shape, pieces_of_shapes}
-use Rattle.flat_walk.specs.Rests.{Skips, shows_in, marked_image, places_rest, placed_rest}
-use Rattle.flat_walk.specs.Ways.{IsBetweenRows, HasRowsBetween}
-use Rattle.flat_walk.proofs.RestLemmas.{skip_on, skip_same, skip_front, placed_rest_is, shapes_from_first, marks_apart, slot_all}
+use Rattle.flat_walk.specs.Rests.{Skips, shows_in, ShowsNothing, placed_list, places_rest, placed_rest}
+use Rattle.flat_walk.specs.Hands.{steps_from}
+use Rattle.flat_walk.specs.Ways.{IsBetweenRows, HasRowsBetween, low_corner, high_corner}
+use Rattle.flat_walk.proofs.RestLemmas.{skip_on, skip_same, skip_front, placed_rest_is, shapes_from_first, marks_apart, slot_all, places_on, places_off, drop_past}
+use Rattle.flat_walk.proofs.PointLemmas.{same_point}
 use Rattle.flat_walk.proofs.ShowLemmas.{quad_hidden}
 
 -- ---- boxes
@@ -78,6 +80,12 @@ four_in q a b c d l r box ha hb hc hd el er is =
 pub four_near : (n : ℕ) (a b c d l r box : Frame) → IsBoxUpTo n a → IsBoxUpTo n b → IsBoxUpTo n c → IsBoxUpTo n d → l ≡ joined_box a b → r ≡ joined_box c d → box ≡ joined_box l r → IsBoxUpTo n box
 four_near n a b c d l r box ha hb hc hd el er is =
     subst (IsBoxUpTo n) (sym (is ∙ (ap (λ k. joined_box k r) el ∙ ap (joined_box (joined_box a b)) er))) (near_both n (joined_box a b) (joined_box c d) (near_both n a b ha hb) (near_both n c d hc hd))
+
+pub box_corners : (box : Frame) → IsBoxUpTo (2 ^ 44) box → IsWithin (2 ^ 53) (low_corner box) × IsWithin (2 ^ 53) (high_corner box)
+box_corners box near = (
+  record { x_low = omega (arith, ints, near.x0.low); x_high = omega (arith, ints, near.x0.high); y_low = omega (arith, ints, near.y0.low); y_high = omega (arith, ints, near.y0.high) },
+  record { x_low = omega (arith, ints, near.x1.low); x_high = omega (arith, ints, near.x1.high); y_low = omega (arith, ints, near.y1.low); y_high = omega (arith, ints, near.y1.high) },
+)
 
 -- one more piece
 pieces_wider : (a b : Frame) (pieces : List Trapezoid) → AllByRecursion (λ piece. IsQuadIn a (corners_of piece)) pieces → AllByRecursion (λ piece. IsQuadIn (joined_box a b) (corners_of piece)) pieces
@@ -240,11 +248,26 @@ rest_in box pair shape pieces place all = by_test (is_on pair shape)
     by_test true = all_dropped (IsQuadIn box) (λ by. map (λ piece. moved_quad by (corners_of piece)) pieces) shape.offsets place all
     by_test false = tt
 
+pub box_shows_none : (w : RowRange) (orient : Orient) (at : Point) (pair : Pair) (shape : Shape) (pieces : List Trapezoid) (place : ℕ) (box : Frame) → ((q : Corners) → IsQuadIn box q → has_row_in w (quad_image orient at q) ≡ false) → HasBox shape pieces box
+    → ShowsNothing w orient at pair shape pieces place
+box_shows_none w orient at pair shape pieces place box hides has =
+    hidden_list w orient at box (places_rest pair shape pieces place) hides (rest_in box pair shape pieces place (recursion_from_All (IsQuadIn box) (pieces_of_shape shape pieces) has.around))
+
+pub other_shows_none : (w : RowRange) (orient : Orient) (at : Point) (pair : Pair) (shape : Shape) (pieces : List Trapezoid) (place : ℕ) → is_on pair shape ≡ false → ShowsNothing w orient at pair shape pieces place
+other_shows_none w orient at pair shape pieces place off = ap (λ l. filter (shows_in w) (map Some (map (quad_image orient at) l))) (places_off pair shape pieces place off)
+
+pub past_shows_none : (w : RowRange) (orient : Orient) (at : Point) (pair : Pair) (shape : Shape) (pieces : List Trapezoid) (place : ℕ) → length shape.offsets ≤ place → ShowsNothing w orient at pair shape pieces place
+past_shows_none w orient at pair shape pieces place past = ap (λ l. filter (shows_in w) (map Some (map (quad_image orient at) l))) (by_test (is_on pair shape))
+  where
+    by_test : (on : Bool) → (if on then flat_map (λ by. map (λ piece. moved_quad by (corners_of piece)) pieces) (drop place shape.offsets) else []) ≡ []
+    by_test true = ap (flat_map (λ by. map (λ piece. moved_quad by (corners_of piece)) pieces)) (drop_past shape.offsets place past)
+    by_test false = refl
+
 -- the first shape shows nothing
-pub shape_passed : (w : RowRange) (before : List (Option Corners)) (orient : Orient) (at : Point) (pair : Pair) (shapes rest : List Shape) (shape : Shape) (lists later : List (List Trapezoid)) (pieces : List Trapezoid) (place : ℕ) (box : Frame)
-    → shapes ≡ shape ∷ rest → lists ≡ pieces ∷ later → HasBox shape pieces box → ((q : Corners) → IsQuadIn box q → has_row_in w (quad_image orient at q) ≡ false)
+pub shape_passed : (w : RowRange) (before : List (Option Corners)) (orient : Orient) (at : Point) (pair : Pair) (shapes rest : List Shape) (shape : Shape) (lists later : List (List Trapezoid)) (pieces : List Trapezoid) (place : ℕ)
+    → shapes ≡ shape ∷ rest → lists ≡ pieces ∷ later → ShowsNothing w orient at pair shape pieces place
     → Skips w before (map Some (placed_rest orient at pair shapes lists place)) → Skips w before (map Some (placed_rest orient at pair rest later 0))
-shape_passed w before orient at pair shapes rest shape lists later pieces place box is are has hides s =
+shape_passed w before orient at pair shapes rest shape lists later pieces place is are none s =
     let here = map (quad_image orient at) (places_rest pair shape pieces place) in
     let after = map (quad_image orient at) (pieces_of_shapes pair rest later) in
     let e : map Some (placed_rest orient at pair shapes lists place) ≡ map Some here ++ map Some after =
@@ -252,5 +275,73 @@ shape_passed w before orient at pair shapes rest shape lists later pieces place 
     let last : map Some after ≡ map Some (placed_rest orient at pair rest later 0) = ap (λ l. map Some (map (quad_image orient at) l)) (sym (shapes_from_first pair rest later)) in
     subst (Skips w before) last
     (skip_on w before (map Some (placed_rest orient at pair shapes lists place)) (map Some after) s
-    (subst (λ l. Skips w l (map Some after)) (sym e) (skip_front w (map Some here) (map Some after)
-    (hidden_list w orient at box (places_rest pair shape pieces place) hides (rest_in box pair shape pieces place (recursion_from_All (IsQuadIn box) (pieces_of_shape shape pieces) has.around))))))
+    (subst (λ l. Skips w l (map Some after)) (sym e) (skip_front w (map Some here) (map Some after) none)))
+
+-- ---- the places of a shape
+
+pieces_hidden : (w : RowRange) (orient : Orient) (spot : Point) (low high : ℤ) (box : Frame) (pieces : List Trapezoid) → ((p : Point) → IsInBox box p → IsBetweenRows orient low high p)
+    → AllByRecursion (λ piece. IsQuadIn box (corners_of piece)) pieces → int_lt (int_max w.y0 (low +ℤ spot.y)) (int_min w.y1 (high +ℤ spot.y)) ≡ false → filter (shows_in w) (map Some (placed_list orient spot pieces)) ≡ []
+pieces_hidden w orient spot low high box [] each all apart = refl
+pieces_hidden w orient spot low high box (piece ∷ pieces) each all apart =
+    rw (box_hides w orient spot low high box each apart (corners_of piece) all.0) (pieces_hidden w orient spot low high box pieces each all.1 apart)
+
+place_passed : (w : RowRange) (before : List (Option Corners)) (orient : Orient) (at by : Point) (pair : Pair) (shape : Shape) (rest : List Shape) (pieces : List Trapezoid) (later : List (List Trapezoid)) (place : ℕ)
+    → slice_get shape.offsets place ≡ Some by → filter (shows_in w) (map Some (placed_list orient (image_of orient at by) pieces)) ≡ []
+    → Skips w before (map Some (placed_rest orient at pair (shape ∷ rest) (pieces ∷ later) place)) → Skips w before (map Some (placed_rest orient at pair (shape ∷ rest) (pieces ∷ later) (place + 1)))
+place_passed w before orient at by pair shape rest pieces later place here hidden s = by_test (is_on pair shape) refl
+  where
+    after : List Corners
+    after = map (quad_image orient at) (pieces_of_shapes pair rest later)
+
+    next : List Corners
+    next = map (quad_image orient at) (places_rest pair shape pieces (place + 1))
+
+    by_test : (on : Bool) → is_on pair shape ≡ on → Skips w before (map Some (placed_rest orient at pair (shape ∷ rest) (pieces ∷ later) (place + 1)))
+    by_test true on =
+        let shown = placed_list orient (image_of orient at by) pieces in
+        let e : map Some (placed_rest orient at pair (shape ∷ rest) (pieces ∷ later) place) ≡ map Some shown ++ map Some (next ++ after) =
+        ap (map Some) (placed_rest_is orient at pair shape rest pieces later place ∙ (ap (λ l. l ++ after) (places_on orient at by pair shape pieces place on here) ∙ append_assoc shown next after)) ∙ marks_apart shown (next ++ after) in
+        subst (Skips w before) (ap (map Some) (sym (placed_rest_is orient at pair shape rest pieces later (place + 1))))
+        (skip_on w before (map Some (placed_rest orient at pair (shape ∷ rest) (pieces ∷ later) place)) (map Some (next ++ after)) s
+        (subst (λ l. Skips w l (map Some (next ++ after))) (sym e) (skip_front w (map Some shown) (map Some (next ++ after)) hidden)))
+    by_test false off =
+        let e : placed_rest orient at pair (shape ∷ rest) (pieces ∷ later) place ≡ placed_rest orient at pair (shape ∷ rest) (pieces ∷ later) (place + 1) =
+        placed_rest_is orient at pair shape rest pieces later place
+        ∙ (ap (λ l. map (quad_image orient at) l ++ after) (places_off pair shape pieces place off ∙ sym (places_off pair shape pieces (place + 1) off)) ∙ sym (placed_rest_is orient at pair shape rest pieces later (place + 1))) in
+        subst (λ l. Skips w before (map Some l)) e s
+
+-- the places from one on up to below another
+pub places_over : (w : RowRange) (before : List (Option Corners)) (orient : Orient) (at : Point) (low high : ℤ) (box : Frame) (pair : Pair) (shape : Shape) (rest : List Shape) (pieces : List Trapezoid) (later : List (List Trapezoid))
+    (many from : ℕ) → ((p : Point) → IsInBox box p → IsBetweenRows orient low high p) → AreIn box pieces → from + many ≤ length shape.offsets
+    → ((k : ℕ) (by : Point) → from ≤ k → k < from + many → slice_get shape.offsets k ≡ Some by → int_lt (int_max w.y0 (low +ℤ (image_of orient at by).y)) (int_min w.y1 (high +ℤ (image_of orient at by).y)) ≡ false)
+    → Skips w before (map Some (placed_rest orient at pair (shape ∷ rest) (pieces ∷ later) from)) → Skips w before (map Some (placed_rest orient at pair (shape ∷ rest) (pieces ∷ later) (from + many)))
+places_over w before orient at low high box pair shape rest pieces later zero from each all few none s =
+    let e : from + zero ≡ from = omega arith in
+    subst (λ k. Skips w before (map Some (placed_rest orient at pair (shape ∷ rest) (pieces ∷ later) k))) (sym e) s
+places_over w before orient at low high box pair shape rest pieces later (suc many) from each all few none s =
+    let by : Point = get_or shape.offsets from at in
+    let here = slice_get-get_or shape.offsets from at (omega arith) in
+    let e : (from + 1) + many ≡ from + suc many = omega arith in
+    subst (λ k. Skips w before (map Some (placed_rest orient at pair (shape ∷ rest) (pieces ∷ later) k))) e
+    (places_over w before orient at low high box pair shape rest pieces later many (from + 1) each all (omega arith) (λ k by after early there. none k by (omega arith) (omega arith) there)
+    (place_passed w before orient at by pair shape rest pieces later from here
+    (pieces_hidden w orient (image_of orient at by) low high box pieces each (recursion_from_All (λ piece. IsQuadIn box (corners_of piece)) pieces all) (none from by (omega arith) (omega arith) here)) s))
+
+pub moved_by_none : (p : Point) → moved p (record { x = pos 0; y = pos 0 }) ≡ p
+moved_by_none p = same_point _ _ (omega (arith, ints)) (omega (arith, ints))
+
+-- how many steps are left at a later place
+pub steps_later : (shapes rest : List Shape) (shape : Shape) (j k : ℕ) → shapes ≡ shape ∷ rest → j ≤ k → steps_from shapes k ≤ steps_from shapes j
+steps_later shapes rest shape j k is less = rw is (let a = length-drop j shape.offsets in let b = length-drop k shape.offsets in omega (arith, a, b, less))
+
+-- the first shape shows nothing before a later place
+pub places_passed : (w : RowRange) (orient : Orient) (at : Point) (low high : ℤ) (box : Frame) (pair : Pair) (shapes rest : List Shape) (shape : Shape) (lists later : List (List Trapezoid)) (pieces : List Trapezoid) (from end : ℕ)
+    → shapes ≡ shape ∷ rest → lists ≡ pieces ∷ later → ((p : Point) → IsInBox box p → IsBetweenRows orient low high p) → AreIn box pieces → from ≤ end → end ≤ length shape.offsets
+    → ((k : ℕ) (by : Point) → from ≤ k → k < end → slice_get shape.offsets k ≡ Some by → int_lt (int_max w.y0 (low +ℤ (image_of orient at by).y)) (int_min w.y1 (high +ℤ (image_of orient at by).y)) ≡ false)
+    → Skips w (map Some (placed_rest orient at pair shapes lists from)) (map Some (placed_rest orient at pair shapes lists end))
+places_passed w orient at low high box pair shapes rest shape lists later pieces from end is are each all less few none =
+    let many : ℕ = end - from in
+    let e : from + many ≡ end = omega (arith, less) in
+    rw (is, are) (subst (λ k. Skips w (map Some (placed_rest orient at pair (shape ∷ rest) (pieces ∷ later) from)) (map Some (placed_rest orient at pair (shape ∷ rest) (pieces ∷ later) k))) e
+    (places_over w (map Some (placed_rest orient at pair (shape ∷ rest) (pieces ∷ later) from)) orient at low high box pair shape rest pieces later many from each all (omega (arith, e, few))
+    (λ k by after early here. none k by after (omega (arith, e, early)) here) (skip_same w _ _ refl)))

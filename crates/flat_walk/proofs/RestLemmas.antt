@@ -84,7 +84,7 @@ drop_past [] (suc k) h = refl
 drop_past (x ∷ xs) zero h = absurd (omega arith)
 drop_past (x ∷ xs) (suc k) h = drop_past xs k (omega arith)
 
-placed_moved : (orient : Orient) (at by : Point) (pieces : List Trapezoid) → map (quad_image orient at) (map (λ piece. moved_quad by (corners_of piece)) pieces) ≡ placed_list orient (image_of orient at by) pieces
+pub placed_moved : (orient : Orient) (at by : Point) (pieces : List Trapezoid) → map (quad_image orient at) (map (λ piece. moved_quad by (corners_of piece)) pieces) ≡ placed_list orient (image_of orient at by) pieces
 placed_moved orient at by [] = refl
 placed_moved orient at by (piece ∷ pieces) = ap (λ q. q ∷ map (quad_image orient at) (map (λ piece. moved_quad by (corners_of piece)) pieces)) (quad_moved orient at by (corners_of piece))
     ∙ ap (λ l. quad_image orient (image_of orient at by) (corners_of piece) ∷ l) (placed_moved orient at by pieces)

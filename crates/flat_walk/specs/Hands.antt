@@ -1,12 +1,18 @@
 -- What a walk keeps of the cell that it entered last, and what that still shows. This is for the contracts of the walk's
 -- own functions.
-use Rattle.std.specs.Prelude.{◌≡◌, ◌^◌, ◌+◌, ℕ, List, [], ◌∷◌, ◌++◌, Option, Some, map, length, drop, All}
-use Rattle.half_grid.specs.Quads.{Corners}
+use Rattle.std.specs.Prelude.{◌≡◌, ◌^◌, ◌+◌, ◌<◌, ℕ, List, [], ◌∷◌, ◌++◌, Option, Some, map, length, drop, All}
+use Rattle.half_grid.specs.Quads.{Corners, corners_of}
+use Rattle.half_grid.specs.Trapezoids.{Trapezoid}
+use Rattle.half_grid.specs.declared.plane.Point.{Point}
+use Rattle.half_grid.specs.declared.extent.Frame.{Frame}
+use Rattle.layout_model.specs.Hulls.{IsInBox}
 use Rattle.layout_model.specs.Images.{IsOrient}
 use Rattle.layout_model.specs.Layouts.{IsShapeOnGrid, IsWithin}
 use Rattle.layout_model.specs.declared.pair.Pair.{Pair}
 use Rattle.layout_model.specs.declared.shapes.Shape.{Shape}
-use Rattle.flat_walk.specs.Boxes.{AreBoxed}
+use Rattle.flat_walk.specs.Boxes.{IsQuadIn, AreBoxed}
+use Rattle.flat_walk.specs.Ways.{IsBetweenRows}
+use Rattle.flat_walk.specs.declared.rows.Rows.{Rows}
 use Rattle.flat_walk.specs.Rests.{placed_list, placed_rest}
 use Rattle.flat_walk.specs.declared.owned.Hand.{Hand}
 use Rattle.flat_walk.specs.declared.owned.Cursor.{Cursor}
@@ -47,3 +53,16 @@ own_rest pair own = map Some (hand_list own.hand) ++ map Some (cursor_list pair 
 pub record IsOwn (own : Own) : Type 0 where
   pub hand : IsHand own.hand
   pub cursor : IsCursor own.cursor
+
+-- the first shape has a place of the cursor's number, and its pieces are in a box whose rows, as they are placed, are these
+pub record IsLongRun (cursor : Cursor) (shape : Shape) (rows : Rows) : Type 0 where
+  pub rest : List Shape
+  pub pieces : List Trapezoid
+  pub later : List (List Trapezoid)
+  pub box : Frame
+  pub shapes : cursor.shapes.now ≡ shape ∷ rest
+  pub lists : cursor.lists.now ≡ pieces ∷ later
+  pub around : All (λ piece. IsQuadIn box (corners_of piece)) pieces
+  pub between : (p : Point) → IsInBox box p → IsBetweenRows cursor.orient rows.low rows.high p
+  pub near : IsWithin (2 ^ 58) (record { x = rows.low; y = rows.high })
+  pub inside : cursor.place < length shape.offsets

@@ -1,6 +1,6 @@
 -- How far up the image of a point is, by one of its coordinates, and which coordinates bring a cell's rows into a window.
 -- This is for the contracts of the walk's own functions.
-use Rattle.std.specs.Prelude.{◌≡◌, ◌<◌, ◌<ℤ◌, ◌≤ℤ◌, ◌+ℤ◌, ◌*ℤ◌, ◌≤◌, ℕ, ℤ, zero, suc, pos, neg_ℤ, Bool, true, false, not, Some, slice_get, int_lt}
+use Rattle.std.specs.Prelude.{◌≡◌, ◌<◌, ◌<ℤ◌, ◌≤ℤ◌, ◌+ℤ◌, ◌*ℤ◌, ◌≤◌, ℕ, ℤ, zero, suc, pos, neg_ℤ, List, Bool, true, false, not, Some, slice_get, int_lt}
 use Rattle.std.specs.Int.{int_min, int_max}
 use Rattle.half_grid.specs.Windows.{RowRange}
 use Rattle.half_grid.specs.declared.plane.Point.{Point}
@@ -53,3 +53,8 @@ pub record IsAmid (range : Rows) (z : ℤ) : Type 0 where
 abbrev pub HasNoneBefore : RowRange → Orient → Point → Run → ℕ → Type 0
 HasNoneBefore window outer at run end = (k : ℕ) (by : Point) → run.place < k → k < end → slice_get run.placement.now.offsets k ≡ Some by
     → meets_at window run.rows (image_of outer at (moved by run.placement.now.at)).y ≡ false
+
+-- at no place from number `from` on and before number `end` do rows so far from the place's come into the window
+abbrev pub HasNoPlaceBefore : RowRange → Orient → Point → Rows → List Point → ℕ → ℕ → Type 0
+HasNoPlaceBefore window orient at rows places from end = (k : ℕ) (by : Point) → from ≤ k → k < end → slice_get places k ≡ Some by
+    → meets_at window rows (image_of orient at by).y ≡ false

@@ -87,8 +87,8 @@ fn box_of_piece(piece: &Trap) -> Frame
     joined(left, right)
 }
 
-// The box of pieces, of which there is one at least.
-fn box_of_pieces(first: &Trap, others: &[Trap]) -> Frame
+/// The box of pieces, of which there is one at least.
+pub(crate) fn box_of_pieces(first: &Trap, others: &[Trap]) -> Frame
     ensures around { All (λ piece. IsQuadIn result (corners_of piece)) (first.now ∷ others.now) }
     ensures near { IsBoxUpTo (2 ^ 44) result }
 {

@@ -1,20 +1,30 @@
 //! The pieces of a cell's own shapes, where the cell is placed.
-ghost use Rattle.std.specs.Prelude.{◌≡◌, ◌^◌, ◌<◌, ◌+◌, [], ◌∷◌, ◌++◌, map, Some, All, MatchOption, OnSome, IfSome, length, ◌≤◌, drop};
+ghost use Rattle.std.specs.Prelude.{◌≡◌, ◌^◌, ◌<◌, ◌+◌, [], ◌∷◌, ◌++◌, map, Some, All, MatchOption, OnSome, IfSome, length, ◌≤◌, drop, List, false};
 ghost use Rattle.half_grid.specs.Quads.{IsQuad, corners_of};
 ghost use Rattle.layout_model.specs.Images.{IsOrient};
 ghost use Rattle.layout_model.specs.declared.pair.Pair.{Pair as APair};
 ghost use Rattle.layout_model.specs.Layouts.{IsShapeOnGrid, IsWithin};
 ghost use Rattle.flat_walk.specs.Quads.{quad_image};
-ghost use Rattle.flat_walk.specs.Rests.{IsMarkedQuad, Skips, Gives, places_rest, placed_rest};
-ghost use Rattle.flat_walk.specs.Boxes.{AreBoxed};
-ghost use Rattle.flat_walk.specs.Hands.{hand_list, IsHand, cursor_list, IsCursor, steps_left, own_rest, IsOwn};
+ghost use Rattle.flat_walk.specs.Rests.{IsMarkedQuad, Skips, Gives, ShowsNothing, places_rest, placed_rest};
+ghost use Rattle.cell_tree.specs.Boxes.{IsBoxUpTo};
+ghost use Rattle.half_grid.specs.Trapezoids.{Trapezoid};
+ghost use Rattle.flat_walk.specs.Boxes.{HasBox, AreBoxed};
+ghost use Rattle.flat_walk.specs.Rises.{HasNoPlaceBefore};
+ghost use Rattle.flat_walk.specs.Hands.{hand_list, IsHand, cursor_list, IsCursor, steps_left, own_rest, IsOwn, IsLongRun};
 
-use crate::boxes::may_show;
-use crate::rows::has_row;
+use crate::boxes::{box_of_pieces, may_show};
+use crate::levels::rows_of;
+use crate::rises::places_in;
+use crate::rows::{Rows, has_row};
 use crate::tables::Pieces;
 use crate::turning::image;
 use half_grid::{Frame, Point, Quad, Trap, Window};
 use layout_model::{Orient, Pair, Shape};
+
+// The places of a shape that has no more of them are gone through one by one.
+const FEW: u64 = 4;
+
+const ORIGIN: Point = Point { x: 0, y: 0 };
 
 // Pieces of a shape at one of its offsets, and how they are enlarged, mirrored, turned and moved.
 #[derive(Clone, Copy)]
@@ -132,20 +142,40 @@ impl<'t> Cursor<'t> {
         None
     }
 
-    // Passes by the shapes, from the first one on, that have nothing in the window.
-    fn pass_by(&mut self, window: Window)
+    // Whether the first shape, which is in this box, may have something in the window from the current place on.
+    fn has_more(&self, shape: &Shape, around: &Frame, pair: Pair, window: Window) -> bool
+        requires orient { IsOrient self.now.orient }
+        requires near { IsWithin (2 ^ 54) self.now.at }
+        requires boxed { IsBoxUpTo (2 ^ 53) around.now }
+        ensures { result ≡ false → (pieces : List Trapezoid) → HasBox shape.now pieces around.now
+            → ShowsNothing window self.now.orient self.now.at pair shape.now pieces self.now.place }
+    {
+        if !may_show(around, self.orient, self.at, window) {
+            return false;
+        }
+        if shape.pair != pair {
+            return false;
+        }
+        if shape.offsets.count() <= self.place {
+            return false;
+        }
+        true
+    }
+
+    // Passes by the shapes, from the first one on, that have nothing more in the window.
+    fn pass_by(&mut self, pair: Pair, window: Window)
         requires { IsCursor self.old }
         ensures cursor { IsCursor self.new }
-        ensures skips { (pair : APair) → Skips window (map Some (cursor_list pair self.old)) (map Some (cursor_list pair self.new)) }
+        ensures skips { Skips window (map Some (cursor_list pair self.old)) (map Some (cursor_list pair self.new)) }
         ensures steps { steps_left self.new ≤ steps_left self.old }
     {
         while let Some((around, boxes)) = self.boxes.split_first() {
-            if may_show(around, self.orient, self.at, window) {
-                return;
-            }
-            let Some((_shape, shapes)) = self.shapes.split_first() else {
+            let Some((shape, shapes)) = self.shapes.split_first() else {
                 return;
             };
+            if self.has_more(shape, around, pair, window) {
+                return;
+            }
             let Some((_list, lists)) = self.lists.split_first() else {
                 return;
             };
@@ -154,6 +184,65 @@ impl<'t> Cursor<'t> {
             self.boxes = boxes;
             self.place = 0;
         }
+    }
+}
+
+impl<'t> Cursor<'t> {
+    // The number of the first shape's next place, from the current one on, at which its pieces may have rows in the window,
+    // or how many places there are.
+    fn onward(&self, shape: &Shape, rows: Rows, window: Window) -> u64
+        requires orient { IsOrient self.now.orient }
+        requires near { IsWithin (2 ^ 54) self.now.at }
+        requires grid { IsShapeOnGrid shape.now }
+        requires rows { IsWithin (2 ^ 58) (record { x = rows.low; y = rows.high }) }
+        requires inside { self.now.place < length shape.now.offsets }
+        ensures later { self.now.place ≤ result }
+        ensures inside { result ≤ length shape.now.offsets }
+        ensures none { HasNoPlaceBefore window self.now.orient self.now.at rows shape.now.offsets self.now.place result }
+    {
+        let count = shape.offsets.count();
+        let wanted = places_in(self.orient, self.at, ORIGIN, rows, window);
+        match shape.offsets.first_in(wanted, self.place) {
+            Some(place) => place,
+            None => count,
+        }
+    }
+
+    // The first shape and the rows of its pieces as they are placed, where it has many places and is not past them.
+    fn long_run(&self) -> Option<(&'t Shape, Rows)>
+        requires { IsCursor self.now }
+        ensures { IfSome result (λ first. IsLongRun self.now first.0.now first.1) }
+    {
+        let Some((shape, _shapes)) = self.shapes.split_first() else {
+            return None;
+        };
+        let Some((list, _lists)) = self.lists.split_first() else {
+            return None;
+        };
+        let Some((first, others)) = list.as_slice().split_first() else {
+            return None;
+        };
+        let count = shape.offsets.count();
+        if count <= FEW {
+            return None;
+        }
+        if count <= self.place {
+            return None;
+        }
+        Some((shape, rows_of(self.orient, box_of_pieces(first, others))))
+    }
+
+    // Passes by the places of the first shape, from the current one on, at which it has nothing in the window.
+    fn pass_places(&mut self, window: Window)
+        requires { IsCursor self.old }
+        ensures cursor { IsCursor self.new }
+        ensures skips { (pair : APair) → Skips window (map Some (cursor_list pair self.old)) (map Some (cursor_list pair self.new)) }
+        ensures steps { steps_left self.new ≤ steps_left self.old }
+    {
+        let Some((shape, rows)) = self.long_run() else {
+            return;
+        };
+        self.place = self.onward(shape, rows, window);
     }
 }
 
@@ -211,7 +300,8 @@ impl<'t> Own<'t> {
             if let Some(quad) = self.hand.next(window) {
                 return Some(quad);
             }
-            self.cursor.pass_by(window);
+            self.cursor.pass_by(pair, window);
+            self.cursor.pass_places(window);
             match self.cursor.next(pair) {
                 Some(hand) => self.hand = hand,
                 None => return None,

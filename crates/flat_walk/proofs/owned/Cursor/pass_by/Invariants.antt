@@ -1,5 +1,4 @@
 use Rattle.std.proofs.Common.{◌≡◌, ◌≤◌, Some, map, length}
-use Rattle.layout_model.specs.declared.pair.Pair.{Pair}
 use Rattle.flat_walk.specs.Rests.{Skips}
 use Rattle.flat_walk.specs.Hands.{cursor_list, IsCursor, steps_left}
 use Rattle.flat_walk.proofs.owned.Cursor.pass_by.Given as goal
@@ -7,7 +6,7 @@ use Rattle.flat_walk.proofs.owned.Cursor.pass_by.Given as goal
 abbrev pub invariant-loop-around : goal.invariant-loop-around
 invariant-loop-around l = record {
   cursor : IsCursor l.self;
-  skips : (pair : Pair) → Skips l.window (map Some (cursor_list pair l.fn.self)) (map Some (cursor_list pair l.self));
+  skips : Skips l.window (map Some (cursor_list l.pair l.fn.self)) (map Some (cursor_list l.pair l.self));
   steps : steps_left l.self ≤ steps_left l.fn.self;
 }
 
