@@ -1,7 +1,7 @@
 -- What the crates above may cite: lemmas over plain variables, by topic. Their own modules are this crate's answers.
 --
 -- Weights: edge by edge, in two rows that the same edges span, and by events.
-pub use Rattle.row_lists.proofs.Steps.{weight_nil, weight_cons, winding_step, same_weight, no_weight}
+pub use Rattle.row_lists.proofs.Steps.{share, weight_nil, weight_cons, winding_step, same_weight, no_weight}
 pub use Rattle.row_lists.proofs.EventLemmas.{amount_permuted, weights_by_events, before_both}
 -- Changes along a list, and along two that follow one another.
 pub use Rattle.row_lists.proofs.Alike.{no_change, left_of_all, change_step}

@@ -9,5 +9,7 @@ pub use Rattle.scan_line.proofs.Transport.{count_alike, winding_alike, even_alik
 -- The edges of a point list, and the parts of edges in a window.
 pub use Rattle.scan_line.proofs.OutlineWinding.{winds_as_outline, winds_not_for_other, outline_is_balanced}
 pub use Rattle.scan_line.proofs.ClipWinding.{winds_in_window, stays_balanced}
+-- Where the Y and the X of an edge are within reach.
+pub use Rattle.scan_line.proofs.Reaches.{x_within, y_within}
 -- What a rule answers.
 pub use Rattle.scan_line.proofs.RuleLemmas.{answer_says, takes_no_nothing}

@@ -9,10 +9,13 @@ pub use Rattle.trap_join.proofs.MaximalLemmas.{in_at, tile_inside, run_left, run
 pub use Rattle.trap_join.proofs.MaximalLemmas.{maximal_joined, maximal_cover, all_found, joined_maximal, member_maximal, covered}
 -- The runs of a scan are the runs of its area.
 pub use Rattle.trap_join.proofs.Slabs.{scan_run, found_run}
--- Two shots between the same lines, one upon the other.
-pub use Rattle.trap_join.proofs.Growth.{taller_shot}
+-- Two shots between the same lines, one upon the other, and what is joined so far, one slab further.
+pub use Rattle.trap_join.proofs.Growth.{taller_shot, joined_more}
+-- Trapezoids that go on in a run, and runs in which none goes on.
+pub use Rattle.trap_join.proofs.XOrder.{goes_on_left, goes_on_right, goes_on_by}
+pub use Rattle.trap_join.proofs.Merging.{in_none, bottom_here}
 -- Members of lists, and parts of lists that stand in order.
-pub use Rattle.trap_join.proofs.Members.{all_members, Found, found, counted, one_only, none_counted, some_member, any_by, mapped, origin, passed, passing}
+pub use Rattle.trap_join.proofs.Members.{is_first, among_rest, all_members, Found, found, counted, one_only, none_counted, some_member, any_by, mapped, origin, passed, passing}
 pub use Rattle.trap_join.proofs.Orders.{order_append, order_first, order_second, order_between}
 -- What a join has given, and what it covers, at an equal rule, at equal edges and at an equal window.
 pub use Rattle.trap_join.proofs.Advances.{moved_rule, stays_joined, moved_cover}

@@ -1,0 +1,16 @@
+pub mod Settling
+pub mod PointSteps
+pub mod OldLines
+pub mod NewLines
+pub mod Lefts
+pub mod PointStates
+pub mod Within
+pub mod SlabRuns
+pub mod Quiet
+pub mod PointPassed
+pub mod Entering
+pub mod Passing
+pub mod Openings
+pub mod RunsAlong
+pub mod Small
+pub mod Staying
