@@ -98,12 +98,12 @@ readme: $(PROGRAM)
 pictures: $(PROGRAM)
 	tools/pictures $(PROGRAM)
 
-# The program over a depot in memory, for the two last scripts of `make compare`.
-$(MEMORY): $(SOURCES)
+# The program over a depot in memory, for the two last scripts of `make compare`, and the one that times single layers.
+$(MEMORY) $(BENCH): build/%: $(SOURCES)
 	mkdir -p build
-	rm -f crates/memory_cli/out/memory_cli crates/memory_cli/out/memory_cli.stamp
-	cd crates/memory_cli && { $(RT) run; test -x out/memory_cli; }
-	cp crates/memory_cli/out/memory_cli $(MEMORY)
+	rm -f crates/$*/out/$* crates/$*/out/$*.stamp
+	cd crates/$* && { $(RT) run; test -x out/$*; }
+	cp crates/$*/out/$* $@
 
 # The program against a plain one on random small layouts, against KLayout where it is installed, with each allocation and
 # each call for a file refused, and with one byte a call.
@@ -130,12 +130,6 @@ fuzz: $(PROGRAM)
 # Strips on the batch system Slurm, which is brought up for that where it is installed.
 slurm: $(PROGRAM)
 	tests/slurm.sh $(PROGRAM)
-
-$(BENCH): $(SOURCES)
-	mkdir -p build
-	rm -f crates/bench/out/bench crates/bench/out/bench.stamp
-	cd crates/bench && { $(RT) run; test -x out/bench; }
-	cp crates/bench/out/bench $(BENCH)
 
 # Single layers, timed on inputs that the program makes in memory; then whole runs on layouts in build/bench, beside KLayout
 # and Boost.Polygon where they are installed, and what the program alone takes. WHAT chooses one of the tables of tools/bench.
