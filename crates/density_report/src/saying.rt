@@ -1,7 +1,7 @@
 //! The lines of a table, printed through a buffer.
-ghost use Rattle.std.specs.Prelude.{◌≡◌, ◌+◌, ◌≤◌, IsTrue, OnOk, OnErr, IsErrOf, ◌++◌, length, flat_map};
+ghost use Rattle.std.specs.Prelude.{◌+◌, ◌≤◌, IsTrue, OnOk, OnErr, ◌++◌, length, flat_map};
 ghost use Rattle.depot.specs.Content.{IsPartSaid};
-ghost use Rattle.depot.specs.Counts.{Rose, NeverFall};
+ghost use Rattle.depot.specs.Counting.{CountsWrites};
 ghost use Rattle.depot.specs.Printing.{IsSaidButFor};
 ghost use Rattle.density_report.specs.Texts.{entry_line, last_lines, size_line};
 ghost use Rattle.density_report.specs.Rows.{counted_line};
@@ -19,13 +19,7 @@ fn make_room<D: Depot>(depot: &mut D, buffer: &mut Buffer) -> Result<(), DepotBa
         → IsSaidButFor (D.content depot.old) buffer.old buffer.new (D.content depot.new)) }
     ensures refused { OnErr result (IsTrue D.tells
         → IsPartSaid (D.content depot.old) buffer.old (D.content depot.new)) }
-    ensures failed { IsErrOf result DepotBad.Failed
-        → Rose (D.counts depot.old).write_faults (D.counts depot.new).write_faults }
-    ensures no_memory { IsErrOf result DepotBad.NoMemory
-        → Rose (D.counts depot.old).refused (D.counts depot.new).refused }
-    ensures uncounted { OnOk result (D.counts depot.new ≡ D.counts depot.old) }
-    ensures reads { (D.counts depot.new).read_faults ≡ (D.counts depot.old).read_faults }
-    ensures counted { NeverFall (D.counts depot.old) (D.counts depot.new) }
+    ensures counts { CountsWrites (D.counts depot.old) (D.counts depot.new) result }
 {
     if ROOM <= buffer.room() {
         return Ok(());
@@ -39,13 +33,7 @@ fn say_entry<D: Depot>(depot: &mut D, buffer: &mut Buffer, entry: &Entry) -> Res
         (D.content depot.old) (buffer.old ++ entry_line entry.now) buffer.new (D.content depot.new)) }
     ensures refused { OnErr result (IsTrue D.tells
         → IsPartSaid (D.content depot.old) buffer.old (D.content depot.new)) }
-    ensures failed { IsErrOf result DepotBad.Failed
-        → Rose (D.counts depot.old).write_faults (D.counts depot.new).write_faults }
-    ensures no_memory { IsErrOf result DepotBad.NoMemory
-        → Rose (D.counts depot.old).refused (D.counts depot.new).refused }
-    ensures uncounted { OnOk result (D.counts depot.new ≡ D.counts depot.old) }
-    ensures reads { (D.counts depot.new).read_faults ≡ (D.counts depot.old).read_faults }
-    ensures counted { NeverFall (D.counts depot.old) (D.counts depot.new) }
+    ensures counts { CountsWrites (D.counts depot.old) (D.counts depot.new) result }
 {
     make_room(depot, buffer)?;
     put_entry(buffer, entry);
@@ -63,13 +51,7 @@ pub(crate) fn say_row<D: Depot>(
         (buffer.old ++ flat_map (counted_line strip.now.row) counts.now) buffer.new (D.content depot.new)) }
     ensures refused { OnErr result (IsTrue D.tells → IsPartSaid
         (D.content depot.old) (buffer.old ++ flat_map (counted_line strip.now.row) counts.now) (D.content depot.new)) }
-    ensures failed { IsErrOf result DepotBad.Failed
-        → Rose (D.counts depot.old).write_faults (D.counts depot.new).write_faults }
-    ensures no_memory { IsErrOf result DepotBad.NoMemory
-        → Rose (D.counts depot.old).refused (D.counts depot.new).refused }
-    ensures uncounted { OnOk result (D.counts depot.new ≡ D.counts depot.old) }
-    ensures reads { (D.counts depot.new).read_faults ≡ (D.counts depot.old).read_faults }
-    ensures counted { NeverFall (D.counts depot.old) (D.counts depot.new) }
+    ensures counts { CountsWrites (D.counts depot.old) (D.counts depot.new) result }
 {
     for counted in counts {
         say_entry(depot, buffer, &entry_of(strip, counted))?;
@@ -88,13 +70,7 @@ pub(crate) fn say_size<D: Depot>(
         (buffer.old ++ size_line file.now mesh.now.size) buffer.new (D.content depot.new)) }
     ensures refused { OnErr result (IsTrue D.tells → IsPartSaid
         (D.content depot.old) (buffer.old ++ size_line file.now mesh.now.size) (D.content depot.new)) }
-    ensures failed { IsErrOf result DepotBad.Failed
-        → Rose (D.counts depot.old).write_faults (D.counts depot.new).write_faults }
-    ensures no_memory { IsErrOf result DepotBad.NoMemory
-        → Rose (D.counts depot.old).refused (D.counts depot.new).refused }
-    ensures uncounted { OnOk result (D.counts depot.new ≡ D.counts depot.old) }
-    ensures reads { (D.counts depot.new).read_faults ≡ (D.counts depot.old).read_faults }
-    ensures counted { NeverFall (D.counts depot.old) (D.counts depot.new) }
+    ensures counts { CountsWrites (D.counts depot.old) (D.counts depot.new) result }
 {
     put_piece(depot, buffer, b"density ")?;
     put_piece(depot, buffer, file.as_bytes())?;
@@ -113,13 +89,7 @@ pub(crate) fn say_totals<D: Depot>(
         (buffer.old ++ last_lines totals.now.most totals.now.triangles) buffer.new (D.content depot.new)) }
     ensures refused { OnErr result (IsTrue D.tells → IsPartSaid (D.content depot.old)
         (buffer.old ++ last_lines totals.now.most totals.now.triangles) (D.content depot.new)) }
-    ensures failed { IsErrOf result DepotBad.Failed
-        → Rose (D.counts depot.old).write_faults (D.counts depot.new).write_faults }
-    ensures no_memory { IsErrOf result DepotBad.NoMemory
-        → Rose (D.counts depot.old).refused (D.counts depot.new).refused }
-    ensures uncounted { OnOk result (D.counts depot.new ≡ D.counts depot.old) }
-    ensures reads { (D.counts depot.new).read_faults ≡ (D.counts depot.old).read_faults }
-    ensures counted { NeverFall (D.counts depot.old) (D.counts depot.new) }
+    ensures counts { CountsWrites (D.counts depot.old) (D.counts depot.new) result }
 {
     make_room(depot, buffer)?;
     put_most(buffer, totals.most);

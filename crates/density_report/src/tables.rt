@@ -1,6 +1,6 @@
 //! The density tables of a deck's outputs, printed on a depot.
-ghost use Rattle.std.specs.Prelude.{◌≡◌, ◌⊎◌, ◌<◌, IsTrue, IfOk, OnOk, OnErr, IsErrOf, length};
-ghost use Rattle.depot.specs.Counts.{Rose, NeverFall};
+ghost use Rattle.std.specs.Prelude.{◌<◌, IsTrue, IfOk, OnOk, OnErr, length};
+ghost use Rattle.depot.specs.Counting.{CountsWritesInMemory};
 ghost use Rattle.density_map.specs.Windows.{IsWindowSize};
 ghost use Rattle.deck_plan.specs.Bands.{AreRowsNear};
 ghost use Rattle.density_report.specs.Saying.{IsSaid, IsCutShort};
@@ -33,14 +33,7 @@ fn say_rows<D: Depot>(
         (D.content depot.old) buffer.old totals buffer.new (D.content depot.new)) }
     ensures refused { OnErr result (IsTrue D.tells
         → AreRowsCut plan.now output mesh.now.size (D.content depot.old) buffer.old (D.content depot.new)) }
-    ensures failed { IsErrOf result DepotBad.Failed
-        → Rose (D.counts depot.old).write_faults (D.counts depot.new).write_faults }
-    ensures no_memory { IsErrOf result DepotBad.NoMemory
-        → Rose (D.counts depot.old).refused (D.counts depot.new).refused
-        ⊎ (D.counts depot.new ≡ D.counts depot.old) }
-    ensures uncounted { OnOk result (D.counts depot.new ≡ D.counts depot.old) }
-    ensures reads { (D.counts depot.new).read_faults ≡ (D.counts depot.old).read_faults }
-    ensures counted { NeverFall (D.counts depot.old) (D.counts depot.new) }
+    ensures counts { CountsWritesInMemory (D.counts depot.old) (D.counts depot.new) result }
 {
     let mut totals = Totals {
         most: None,
@@ -75,14 +68,7 @@ fn say_table<D: Depot>(
         (D.content depot.old) buffer.old buffer.new (D.content depot.new)) }
     ensures refused { OnErr result (IsTrue D.tells
         → IsTableCut plan.now output mesh.now.size (D.content depot.old) buffer.old (D.content depot.new)) }
-    ensures failed { IsErrOf result DepotBad.Failed
-        → Rose (D.counts depot.old).write_faults (D.counts depot.new).write_faults }
-    ensures no_memory { IsErrOf result DepotBad.NoMemory
-        → Rose (D.counts depot.old).refused (D.counts depot.new).refused
-        ⊎ (D.counts depot.new ≡ D.counts depot.old) }
-    ensures uncounted { OnOk result (D.counts depot.new ≡ D.counts depot.old) }
-    ensures reads { (D.counts depot.new).read_faults ≡ (D.counts depot.old).read_faults }
-    ensures counted { NeverFall (D.counts depot.old) (D.counts depot.new) }
+    ensures counts { CountsWritesInMemory (D.counts depot.old) (D.counts depot.new) result }
 {
     let deck = plan.deck();
     let rows = plan.rows(output);
@@ -103,14 +89,7 @@ fn say_tables<D: Depot>(
     ensures ok { OnOk result (IsSaid plan.now mesh.now.size D.tells (D.content depot.old) (D.content depot.new)) }
     ensures refused { OnErr result (IsTrue D.tells
         → IsCutShort plan.now mesh.now.size (D.content depot.old) (D.content depot.new)) }
-    ensures failed { IsErrOf result DepotBad.Failed
-        → Rose (D.counts depot.old).write_faults (D.counts depot.new).write_faults }
-    ensures no_memory { IsErrOf result DepotBad.NoMemory
-        → Rose (D.counts depot.old).refused (D.counts depot.new).refused
-        ⊎ (D.counts depot.new ≡ D.counts depot.old) }
-    ensures uncounted { OnOk result (D.counts depot.new ≡ D.counts depot.old) }
-    ensures reads { (D.counts depot.new).read_faults ≡ (D.counts depot.old).read_faults }
-    ensures counted { NeverFall (D.counts depot.old) (D.counts depot.new) }
+    ensures counts { CountsWritesInMemory (D.counts depot.old) (D.counts depot.new) result }
 {
     let count = plan.deck().outputs.as_slice().len();
     let mut buffer = Buffer::new();
@@ -137,14 +116,7 @@ pub fn say_densities<D: Depot>(
     ensures ok { OnOk result (IsSaid plan.now size D.tells (D.content depot.old) (D.content depot.new)) }
     ensures refused { OnErr result (IsTrue D.tells
         → IsCutShort plan.now size (D.content depot.old) (D.content depot.new)) }
-    ensures failed { IsErrOf result DepotBad.Failed
-        → Rose (D.counts depot.old).write_faults (D.counts depot.new).write_faults }
-    ensures no_memory { IsErrOf result DepotBad.NoMemory
-        → Rose (D.counts depot.old).refused (D.counts depot.new).refused
-        ⊎ (D.counts depot.new ≡ D.counts depot.old) }
-    ensures uncounted { OnOk result (D.counts depot.new ≡ D.counts depot.old) }
-    ensures reads { (D.counts depot.new).read_faults ≡ (D.counts depot.old).read_faults }
-    ensures counted { NeverFall (D.counts depot.old) (D.counts depot.new) }
+    ensures counts { CountsWritesInMemory (D.counts depot.old) (D.counts depot.new) result }
 {
     let mesh = Mesh { size };
     say_tables(alloc, depot, plan, &mesh)

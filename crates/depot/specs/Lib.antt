@@ -1,6 +1,7 @@
 -- ---- what is promised, in reading order
 pub mod Content
 pub mod Counts
+pub mod Counting
 pub mod Printing
 pub mod Refusals
 pub mod StoreView

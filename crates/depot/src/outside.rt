@@ -1,7 +1,8 @@
 // What a program uses of the outside.
 ghost use Rattle.std.specs.Prelude.{◌≡◌, ◌⊎◌, ℕ, ◌<◌, ◌≤◌, [], Bool, IsTrue, IsSome, IfOk, OnOk, OnErr, IsErrOf, length, take};
 ghost use Rattle.depot.specs.Content.{Content, IsNotThere, with_left, StartsReading, TakesFirst, begun, IsNotBegun, with_written, with_said};
-ghost use Rattle.depot.specs.Counts.{Counts, Rose, NeverFall};
+ghost use Rattle.depot.specs.Counts.{Counts};
+ghost use Rattle.depot.specs.Counting.{CountsReads, CountsStarts, CountsWrites};
 
 /// Why a call of a depot was refused.
 #[derive(Clone, Copy, Debug, PartialEq, Eq)]
@@ -43,13 +44,8 @@ pub trait Depot {
         ensures refused { OnErr result (IsTrue tells → content self.new ≡ with_left (content self.old) []) }
         ensures missing { IsTrue tells → IsNotThere (content self.old) name.now
             → IsErrOf result DepotBad.Failed ⊎ IsErrOf result DepotBad.NoMemory }
-        ensures failed { IsErrOf result DepotBad.Failed
-            → Rose (counts self.old).read_faults (counts self.new).read_faults
-            ⊎ (IsTrue tells × IsNotThere (content self.old) name.now) }
-        ensures no_memory { IsErrOf result DepotBad.NoMemory
-            → Rose (counts self.old).refused (counts self.new).refused }
-        ensures uncounted { OnOk result (counts self.new ≡ counts self.old) }
-        ensures counted { NeverFall (counts self.old) (counts self.new) };
+        ensures counts { CountsStarts (counts self.old) (counts self.new)
+            (IsTrue tells × IsNotThere (content self.old) name.now) result };
 
     /// Puts the next bytes of the started file first in the buffer and answers how many. It answers 0 at a
     /// buffer that isn't empty only at the file's end. A refusal takes nothing.
@@ -61,12 +57,7 @@ pub trait Depot {
             → (content self.old).left ≡ []) }
         ensures refused { OnErr result (IsTrue tells
             → (content self.new ≡ content self.old) × (buf.new ≡ buf.old)) }
-        ensures failed { IsErrOf result DepotBad.Failed
-            → Rose (counts self.old).read_faults (counts self.new).read_faults }
-        ensures no_memory { IsErrOf result DepotBad.NoMemory
-            → Rose (counts self.old).refused (counts self.new).refused }
-        ensures uncounted { OnOk result (counts self.new ≡ counts self.old) }
-        ensures counted { NeverFall (counts self.old) (counts self.new) };
+        ensures counts { CountsReads (counts self.old) (counts self.new) result };
 
     /// Makes the file with no bytes; later writes go to it. After a refusal writes go nowhere, and the name
     /// is as before or has no bytes.
@@ -74,13 +65,7 @@ pub trait Depot {
         ensures ok { OnOk result (IsTrue tells → content self.new ≡ begun (content self.old) name.now) }
         ensures refused { OnErr result (IsTrue tells
             → IsNotBegun (content self.old) name.now (content self.new)) }
-        ensures failed { IsErrOf result DepotBad.Failed
-            → Rose (counts self.old).write_faults (counts self.new).write_faults }
-        ensures no_memory { IsErrOf result DepotBad.NoMemory
-            → Rose (counts self.old).refused (counts self.new).refused }
-        ensures uncounted { OnOk result (counts self.new ≡ counts self.old) }
-        ensures reads { (counts self.new).read_faults ≡ (counts self.old).read_faults }
-        ensures counted { NeverFall (counts self.old) (counts self.new) };
+        ensures counts { CountsWrites (counts self.old) (counts self.new) result };
 
     /// Appends the first bytes of the piece to the started file and answers how many: at least one of a
     /// piece that isn't empty. A refusal appends nothing.
@@ -91,13 +76,7 @@ pub trait Depot {
         ensures ok { IfOk result (λ n. IsTrue tells
             → content self.new ≡ with_written (content self.old) (take n bytes.now)) }
         ensures refused { OnErr result (IsTrue tells → content self.new ≡ content self.old) }
-        ensures failed { IsErrOf result DepotBad.Failed
-            → Rose (counts self.old).write_faults (counts self.new).write_faults }
-        ensures no_memory { IsErrOf result DepotBad.NoMemory
-            → Rose (counts self.old).refused (counts self.new).refused }
-        ensures uncounted { OnOk result (counts self.new ≡ counts self.old) }
-        ensures reads { (counts self.new).read_faults ≡ (counts self.old).read_faults }
-        ensures counted { NeverFall (counts self.old) (counts self.new) };
+        ensures counts { CountsWrites (counts self.old) (counts self.new) result };
 
     /// Prints the first bytes of the piece on standard output and answers how many: at least one of a piece
     /// that isn't empty. A refusal prints nothing.
@@ -107,13 +86,7 @@ pub trait Depot {
         ensures ok { IfOk result (λ n. IsTrue tells
             → content self.new ≡ with_said (content self.old) (take n bytes.now)) }
         ensures refused { OnErr result (IsTrue tells → content self.new ≡ content self.old) }
-        ensures failed { IsErrOf result DepotBad.Failed
-            → Rose (counts self.old).write_faults (counts self.new).write_faults }
-        ensures no_memory { IsErrOf result DepotBad.NoMemory
-            → Rose (counts self.old).refused (counts self.new).refused }
-        ensures uncounted { OnOk result (counts self.new ≡ counts self.old) }
-        ensures reads { (counts self.new).read_faults ≡ (counts self.old).read_faults }
-        ensures counted { NeverFall (counts self.old) (counts self.new) };
+        ensures counts { CountsWrites (counts self.old) (counts self.new) result };
 
     /// Takes note of how far the output is that is being written, so that it can show it. It does nothing else: its content
     /// and its counts are as before.

@@ -1,7 +1,7 @@
 // What is said piece by piece, through a buffer.
-ghost use Rattle.std.specs.Prelude.{◌≡◌, IsTrue, OnOk, OnErr, IsErrOf, [], ◌++◌};
+ghost use Rattle.std.specs.Prelude.{◌≡◌, IsTrue, OnOk, OnErr, [], ◌++◌};
 ghost use Rattle.depot.specs.Content.{with_said, IsPartSaid};
-ghost use Rattle.depot.specs.Counts.{Rose, NeverFall};
+ghost use Rattle.depot.specs.Counting.{CountsWrites};
 ghost use Rattle.depot.specs.Printing.{IsSaidButFor};
 
 use crate::buffer::Buffer;
@@ -15,13 +15,7 @@ pub fn flush<D: Depot>(depot: &mut D, buffer: &mut Buffer) -> Result<(), DepotBa
         → D.content depot.new ≡ with_said (D.content depot.old) buffer.old) }
     ensures refused { OnErr result (IsTrue D.tells
         → IsPartSaid (D.content depot.old) buffer.old (D.content depot.new)) }
-    ensures failed { IsErrOf result DepotBad.Failed
-        → Rose (D.counts depot.old).write_faults (D.counts depot.new).write_faults }
-    ensures no_memory { IsErrOf result DepotBad.NoMemory
-        → Rose (D.counts depot.old).refused (D.counts depot.new).refused }
-    ensures uncounted { OnOk result (D.counts depot.new ≡ D.counts depot.old) }
-    ensures reads { (D.counts depot.new).read_faults ≡ (D.counts depot.old).read_faults }
-    ensures counted { NeverFall (D.counts depot.old) (D.counts depot.new) }
+    ensures counts { CountsWrites (D.counts depot.old) (D.counts depot.new) result }
 {
     say_whole(depot, buffer.bytes())?;
     buffer.clear();
@@ -35,13 +29,7 @@ pub fn put_piece<D: Depot>(depot: &mut D, buffer: &mut Buffer, bytes: &[u8]) -> 
         (D.content depot.old) (buffer.old ++ bytes.now) buffer.new (D.content depot.new)) }
     ensures refused { OnErr result (IsTrue D.tells
         → IsPartSaid (D.content depot.old) (buffer.old ++ bytes.now) (D.content depot.new)) }
-    ensures failed { IsErrOf result DepotBad.Failed
-        → Rose (D.counts depot.old).write_faults (D.counts depot.new).write_faults }
-    ensures no_memory { IsErrOf result DepotBad.NoMemory
-        → Rose (D.counts depot.old).refused (D.counts depot.new).refused }
-    ensures uncounted { OnOk result (D.counts depot.new ≡ D.counts depot.old) }
-    ensures reads { (D.counts depot.new).read_faults ≡ (D.counts depot.old).read_faults }
-    ensures counted { NeverFall (D.counts depot.old) (D.counts depot.new) }
+    ensures counts { CountsWrites (D.counts depot.old) (D.counts depot.new) result }
 {
     if bytes.len() <= buffer.room() {
         buffer.put(bytes);

@@ -2,6 +2,7 @@
 ghost use Rattle.std.specs.Prelude.{◌≡◌, ◌⊎◌, ◌<◌, ◌≤◌, [], Some, IsTrue, IsSome, IfOk, OnOk, OnErr, IsErr, IsErrOf, ◌++◌, length, vec_len};
 ghost use Rattle.depot.specs.Content.{held_as, IsNotThere, IsLongerThan, with_left, ChangesLeftOnly, with_file, with_written, IsPartWritten, with_said, IsPartSaid, IsPartMade};
 ghost use Rattle.depot.specs.Counts.{Rose, NeverFall};
+ghost use Rattle.depot.specs.Counting.{CountsWrites};
 
 use crate::outside::{Depot, DepotBad};
 use std::alloc::{AllocError, Global};
@@ -131,13 +132,7 @@ pub fn write_whole<D: Depot>(depot: &mut D, bytes: &[u8]) -> Result<(), DepotBad
         → D.content depot.new ≡ with_written (D.content depot.old) bytes.now) }
     ensures refused { OnErr result (IsTrue D.tells
         → IsPartWritten (D.content depot.old) bytes.now (D.content depot.new)) }
-    ensures failed { IsErrOf result DepotBad.Failed
-        → Rose (D.counts depot.old).write_faults (D.counts depot.new).write_faults }
-    ensures no_memory { IsErrOf result DepotBad.NoMemory
-        → Rose (D.counts depot.old).refused (D.counts depot.new).refused }
-    ensures uncounted { OnOk result (D.counts depot.new ≡ D.counts depot.old) }
-    ensures reads { (D.counts depot.new).read_faults ≡ (D.counts depot.old).read_faults }
-    ensures counted { NeverFall (D.counts depot.old) (D.counts depot.new) }
+    ensures counts { CountsWrites (D.counts depot.old) (D.counts depot.new) result }
 {
     let mut done = 0;
     while done < bytes.len() {
@@ -152,13 +147,7 @@ pub fn say_whole<D: Depot>(depot: &mut D, bytes: &[u8]) -> Result<(), DepotBad>
         → D.content depot.new ≡ with_said (D.content depot.old) bytes.now) }
     ensures refused { OnErr result (IsTrue D.tells
         → IsPartSaid (D.content depot.old) bytes.now (D.content depot.new)) }
-    ensures failed { IsErrOf result DepotBad.Failed
-        → Rose (D.counts depot.old).write_faults (D.counts depot.new).write_faults }
-    ensures no_memory { IsErrOf result DepotBad.NoMemory
-        → Rose (D.counts depot.old).refused (D.counts depot.new).refused }
-    ensures uncounted { OnOk result (D.counts depot.new ≡ D.counts depot.old) }
-    ensures reads { (D.counts depot.new).read_faults ≡ (D.counts depot.old).read_faults }
-    ensures counted { NeverFall (D.counts depot.old) (D.counts depot.new) }
+    ensures counts { CountsWrites (D.counts depot.old) (D.counts depot.new) result }
 {
     let mut done = 0;
     while done < bytes.len() {
@@ -174,13 +163,7 @@ pub fn make_file<D: Depot>(depot: &mut D, name: &str, bytes: &[u8]) -> Result<()
         → D.content depot.new ≡ with_file (D.content depot.old) name.now bytes.now) }
     ensures refused { OnErr result (IsTrue D.tells
         → IsPartMade (D.content depot.old) name.now bytes.now (D.content depot.new)) }
-    ensures failed { IsErrOf result DepotBad.Failed
-        → Rose (D.counts depot.old).write_faults (D.counts depot.new).write_faults }
-    ensures no_memory { IsErrOf result DepotBad.NoMemory
-        → Rose (D.counts depot.old).refused (D.counts depot.new).refused }
-    ensures uncounted { OnOk result (D.counts depot.new ≡ D.counts depot.old) }
-    ensures reads { (D.counts depot.new).read_faults ≡ (D.counts depot.old).read_faults }
-    ensures counted { NeverFall (D.counts depot.old) (D.counts depot.new) }
+    ensures counts { CountsWrites (D.counts depot.old) (D.counts depot.new) result }
 {
     depot.start_write(name)?;
     write_whole(depot, bytes)

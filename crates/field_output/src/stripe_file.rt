@@ -1,9 +1,9 @@
 //! The file of one stripe.
 ghost use Rattle.std.specs.Prelude.{◌≡◌, ◌<◌, ◌≤◌, ◌^◌, ℤ, All, List, length};
-ghost use Rattle.std.specs.Prelude.{IsTrue, IfOk, OnOk, OnErr, IsErrOf};
+ghost use Rattle.std.specs.Prelude.{IsTrue, IfOk, OnOk, OnErr};
 ghost use Rattle.std.specs.List.{AllZip};
 ghost use Rattle.depot.specs.Content.{with_file, IsPartMade};
-ghost use Rattle.depot.specs.Counts.{NeverFall, Rose};
+ghost use Rattle.depot.specs.Counting.{CountsWrites};
 ghost use Rattle.field_output.specs.Meeting.{HasNumber};
 ghost use Rattle.field_output.specs.Stripes.{stripe_text, sums_of};
 ghost use Rattle.field_split.specs.Cutting.{pieces_of};
@@ -41,13 +41,7 @@ fn write_list<D: Depot, S: Stream<Item = Trap>>(
     ensures refused { (items : List Trapezoid) → S.stands_for shots.old items
         → OnErr result (IsTrue D.tells → IsPartMade
         (D.content depot.old) name.now (stripe_text head items) (D.content depot.new)) }
-    ensures failed { IsErrOf result DepotBad.Failed
-        → Rose (D.counts depot.old).write_faults (D.counts depot.new).write_faults }
-    ensures no_memory { IsErrOf result DepotBad.NoMemory
-        → Rose (D.counts depot.old).refused (D.counts depot.new).refused }
-    ensures uncounted { OnOk result (D.counts depot.new ≡ D.counts depot.old) }
-    ensures reads { (D.counts depot.new).read_faults ≡ (D.counts depot.old).read_faults }
-    ensures counted { NeverFall (D.counts depot.old) (D.counts depot.new) }
+    ensures counts { CountsWrites (D.counts depot.old) (D.counts depot.new) result }
 {
     let mut writer = ShotWriter::start(depot, name, head)?;
     writer.put(depot, shots)?;
@@ -81,13 +75,7 @@ pub(crate) fn write_stripe<D: Depot>(
     ensures refused { (chosen : List Trapezoid) → AllZip (HasNumber shots.now) numbers.now chosen
         → OnErr result (IsTrue D.tells → IsPartMade
         (D.content depot.old) name.now (stripe_text head (pieces_of fields.now stripe chosen)) (D.content depot.new)) }
-    ensures failed { IsErrOf result DepotBad.Failed
-        → Rose (D.counts depot.old).write_faults (D.counts depot.new).write_faults }
-    ensures no_memory { IsErrOf result DepotBad.NoMemory
-        → Rose (D.counts depot.old).refused (D.counts depot.new).refused }
-    ensures uncounted { OnOk result (D.counts depot.new ≡ D.counts depot.old) }
-    ensures reads { (D.counts depot.new).read_faults ≡ (D.counts depot.old).read_faults }
-    ensures counted { NeverFall (D.counts depot.old) (D.counts depot.new) }
+    ensures counts { CountsWrites (D.counts depot.old) (D.counts depot.new) result }
 {
     let mut pieces = Pieces::new(Chosen::new(shots, numbers), *fields, stripe);
     write_list(depot, name, head, &mut pieces)

@@ -3,6 +3,7 @@ ghost use Rattle.std.specs.Prelude.{◌≡◌, ◌⊎◌, ◌+◌, ◌<◌, ◌�
 ghost use Rattle.std.specs.Prelude.{All, IsTrue, IfOk, OnOk, OnErr, IsErrOf, length};
 ghost use Rattle.depot.specs.Content.{with_file, IsPartMade};
 ghost use Rattle.depot.specs.Counts.{NeverFall, Rose};
+ghost use Rattle.depot.specs.Counting.{CountsWrites};
 ghost use Rattle.field_output.specs.Lists.{AreBegun, IsRoom, list_at, lists_from};
 ghost use Rattle.field_output.specs.Meeting.{IsPlaced, HaveRows};
 ghost use Rattle.field_output.specs.Stripes.{AreStripesWritten, AreStripesPartWritten, AreStripeSums};
@@ -92,13 +93,7 @@ fn write_next<D: Depot>(
         (stripe_name base.now (span.first +ℤ pos place))
         (stripe_text head (list_at span.size shots.now span.first place))
         (D.content depot.new)) }
-    ensures failed { IsErrOf result DepotBad.Failed
-        → Rose (D.counts depot.old).write_faults (D.counts depot.new).write_faults }
-    ensures no_memory { IsErrOf result DepotBad.NoMemory
-        → Rose (D.counts depot.old).refused (D.counts depot.new).refused }
-    ensures uncounted { OnOk result (D.counts depot.new ≡ D.counts depot.old) }
-    ensures reads { (D.counts depot.new).read_faults ≡ (D.counts depot.old).read_faults }
-    ensures counted { NeverFall (D.counts depot.old) (D.counts depot.new) }
+    ensures counts { CountsWrites (D.counts depot.old) (D.counts depot.new) result }
 {
     let number = span.number_of(place);
     spell_name(&mut room.name, base, number);
@@ -144,13 +139,7 @@ fn write_all<D: Depot>(
         ≡ sums_of (end_to_end (lists_from span.size shots.now span.first span.count))) }
     ensures refused { OnErr result (IsTrue D.tells → AreBegun (D.content depot.old)
         base.now head shots.now span.size span.first span.count (D.content depot.new)) }
-    ensures failed { IsErrOf result DepotBad.Failed
-        → Rose (D.counts depot.old).write_faults (D.counts depot.new).write_faults }
-    ensures no_memory { IsErrOf result DepotBad.NoMemory
-        → Rose (D.counts depot.old).refused (D.counts depot.new).refused }
-    ensures uncounted { OnOk result (D.counts depot.new ≡ D.counts depot.old) }
-    ensures reads { (D.counts depot.new).read_faults ≡ (D.counts depot.old).read_faults }
-    ensures counted { NeverFall (D.counts depot.old) (D.counts depot.new) }
+    ensures counts { CountsWrites (D.counts depot.old) (D.counts depot.new) result }
 {
     let mut room = room;
     let mut all = Sums {

@@ -1,8 +1,8 @@
 //! The report of a command that was done.
-ghost use Rattle.std.specs.Prelude.{◌≡◌, IsTrue, OnOk, OnErr, IsErrOf, ◌++◌, length, flat_map};
+ghost use Rattle.std.specs.Prelude.{◌≡◌, IsTrue, OnOk, OnErr, ◌++◌, length, flat_map};
 ghost use Rattle.std.specs.List.{zip};
 ghost use Rattle.depot.specs.Content.{with_said, IsPartSaid};
-ghost use Rattle.depot.specs.Counts.{Rose, NeverFall};
+ghost use Rattle.depot.specs.Counting.{CountsWrites};
 ghost use Rattle.depot.specs.Printing.{IsSaidButFor};
 ghost use Rattle.job_report.specs.Pieces.{spelled};
 ghost use Rattle.job_report.specs.Report.{format_name, layout_lines, output_line, report};
@@ -80,13 +80,7 @@ fn put_outputs<D: Depot>(
         (buffer.old ++ flat_map (output_line word.now) (zip outputs.now sums.now)) buffer.new (D.content depot.new)) }
     ensures refused { OnErr result (IsTrue D.tells → IsPartSaid (D.content depot.old)
         (buffer.old ++ flat_map (output_line word.now) (zip outputs.now sums.now)) (D.content depot.new)) }
-    ensures failed { IsErrOf result DepotBad.Failed
-        → Rose (D.counts depot.old).write_faults (D.counts depot.new).write_faults }
-    ensures no_memory { IsErrOf result DepotBad.NoMemory
-        → Rose (D.counts depot.old).refused (D.counts depot.new).refused }
-    ensures uncounted { OnOk result (D.counts depot.new ≡ D.counts depot.old) }
-    ensures reads { (D.counts depot.new).read_faults ≡ (D.counts depot.old).read_faults }
-    ensures counted { NeverFall (D.counts depot.old) (D.counts depot.new) }
+    ensures counts { CountsWrites (D.counts depot.old) (D.counts depot.new) result }
 {
     for k in 0..outputs.len() {
         put_pieces(depot, buffer, &output_pieces(word, &outputs[k], &sums[k]))?;
@@ -110,13 +104,7 @@ pub fn say_report<D: Depot>(
         (report format cells counts.now word.now outputs.now sums.now)) }
     ensures refused { OnErr result (IsTrue D.tells → IsPartSaid (D.content depot.old)
         (report format cells counts.now word.now outputs.now sums.now) (D.content depot.new)) }
-    ensures failed { IsErrOf result DepotBad.Failed
-        → Rose (D.counts depot.old).write_faults (D.counts depot.new).write_faults }
-    ensures no_memory { IsErrOf result DepotBad.NoMemory
-        → Rose (D.counts depot.old).refused (D.counts depot.new).refused }
-    ensures uncounted { OnOk result (D.counts depot.new ≡ D.counts depot.old) }
-    ensures reads { (D.counts depot.new).read_faults ≡ (D.counts depot.old).read_faults }
-    ensures counted { NeverFall (D.counts depot.old) (D.counts depot.new) }
+    ensures counts { CountsWrites (D.counts depot.old) (D.counts depot.new) result }
 {
     let mut buffer = Buffer::new();
     put_pieces(depot, &mut buffer, &layout_pieces(format, cells, counts))?;

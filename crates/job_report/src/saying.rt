@@ -1,7 +1,7 @@
 //! Pieces that are printed one after another.
-ghost use Rattle.std.specs.Prelude.{◌≡◌, IsTrue, OnOk, OnErr, IsErrOf, ◌∷◌, ◌++◌};
+ghost use Rattle.std.specs.Prelude.{◌≡◌, IsTrue, OnOk, OnErr, ◌∷◌, ◌++◌};
 ghost use Rattle.depot.specs.Content.{with_said, IsPartSaid};
-ghost use Rattle.depot.specs.Counts.{Rose, NeverFall};
+ghost use Rattle.depot.specs.Counting.{CountsWrites};
 ghost use Rattle.depot.specs.Printing.{IsSaidButFor};
 ghost use Rattle.job_report.specs.Pieces.{names_text, text_of, spelled};
 
@@ -16,13 +16,7 @@ fn put_name<D: Depot>(depot: &mut D, buffer: &mut Buffer, name: &Name) -> Result
         (D.content depot.old) (buffer.old ++ (32 ∷ name.now)) buffer.new (D.content depot.new)) }
     ensures refused { OnErr result (IsTrue D.tells → IsPartSaid
         (D.content depot.old) (buffer.old ++ (32 ∷ name.now)) (D.content depot.new)) }
-    ensures failed { IsErrOf result DepotBad.Failed
-        → Rose (D.counts depot.old).write_faults (D.counts depot.new).write_faults }
-    ensures no_memory { IsErrOf result DepotBad.NoMemory
-        → Rose (D.counts depot.old).refused (D.counts depot.new).refused }
-    ensures uncounted { OnOk result (D.counts depot.new ≡ D.counts depot.old) }
-    ensures reads { (D.counts depot.new).read_faults ≡ (D.counts depot.old).read_faults }
-    ensures counted { NeverFall (D.counts depot.old) (D.counts depot.new) }
+    ensures counts { CountsWrites (D.counts depot.old) (D.counts depot.new) result }
 {
     put_piece(depot, buffer, b" ")?;
     put_piece(depot, buffer, name.bytes())
@@ -34,13 +28,7 @@ fn put_names<D: Depot>(depot: &mut D, buffer: &mut Buffer, names: &[Name]) -> Re
         (D.content depot.old) (buffer.old ++ names_text names.now) buffer.new (D.content depot.new)) }
     ensures refused { OnErr result (IsTrue D.tells → IsPartSaid
         (D.content depot.old) (buffer.old ++ names_text names.now) (D.content depot.new)) }
-    ensures failed { IsErrOf result DepotBad.Failed
-        → Rose (D.counts depot.old).write_faults (D.counts depot.new).write_faults }
-    ensures no_memory { IsErrOf result DepotBad.NoMemory
-        → Rose (D.counts depot.old).refused (D.counts depot.new).refused }
-    ensures uncounted { OnOk result (D.counts depot.new ≡ D.counts depot.old) }
-    ensures reads { (D.counts depot.new).read_faults ≡ (D.counts depot.old).read_faults }
-    ensures counted { NeverFall (D.counts depot.old) (D.counts depot.new) }
+    ensures counts { CountsWrites (D.counts depot.old) (D.counts depot.new) result }
 {
     for name in names {
         put_name(depot, buffer, name)?;
@@ -54,13 +42,7 @@ fn put_one<D: Depot>(depot: &mut D, buffer: &mut Buffer, piece: &Piece) -> Resul
         (D.content depot.old) (buffer.old ++ text_of piece.now) buffer.new (D.content depot.new)) }
     ensures refused { OnErr result (IsTrue D.tells → IsPartSaid
         (D.content depot.old) (buffer.old ++ text_of piece.now) (D.content depot.new)) }
-    ensures failed { IsErrOf result DepotBad.Failed
-        → Rose (D.counts depot.old).write_faults (D.counts depot.new).write_faults }
-    ensures no_memory { IsErrOf result DepotBad.NoMemory
-        → Rose (D.counts depot.old).refused (D.counts depot.new).refused }
-    ensures uncounted { OnOk result (D.counts depot.new ≡ D.counts depot.old) }
-    ensures reads { (D.counts depot.new).read_faults ≡ (D.counts depot.old).read_faults }
-    ensures counted { NeverFall (D.counts depot.old) (D.counts depot.new) }
+    ensures counts { CountsWrites (D.counts depot.old) (D.counts depot.new) result }
 {
     let mut digits = itoa::Buffer::new();
     match piece {
@@ -82,13 +64,7 @@ pub fn put_pieces<D: Depot>(
         (D.content depot.old) (buffer.old ++ spelled pieces.now) buffer.new (D.content depot.new)) }
     ensures refused { OnErr result (IsTrue D.tells → IsPartSaid
         (D.content depot.old) (buffer.old ++ spelled pieces.now) (D.content depot.new)) }
-    ensures failed { IsErrOf result DepotBad.Failed
-        → Rose (D.counts depot.old).write_faults (D.counts depot.new).write_faults }
-    ensures no_memory { IsErrOf result DepotBad.NoMemory
-        → Rose (D.counts depot.old).refused (D.counts depot.new).refused }
-    ensures uncounted { OnOk result (D.counts depot.new ≡ D.counts depot.old) }
-    ensures reads { (D.counts depot.new).read_faults ≡ (D.counts depot.old).read_faults }
-    ensures counted { NeverFall (D.counts depot.old) (D.counts depot.new) }
+    ensures counts { CountsWrites (D.counts depot.old) (D.counts depot.new) result }
 {
     for piece in pieces {
         put_one(depot, buffer, piece)?;
@@ -102,13 +78,7 @@ pub fn say_pieces<D: Depot>(depot: &mut D, pieces: &[Piece]) -> Result<(), Depot
         ≡ with_said (D.content depot.old) (spelled pieces.now)) }
     ensures refused { OnErr result (IsTrue D.tells → IsPartSaid
         (D.content depot.old) (spelled pieces.now) (D.content depot.new)) }
-    ensures failed { IsErrOf result DepotBad.Failed
-        → Rose (D.counts depot.old).write_faults (D.counts depot.new).write_faults }
-    ensures no_memory { IsErrOf result DepotBad.NoMemory
-        → Rose (D.counts depot.old).refused (D.counts depot.new).refused }
-    ensures uncounted { OnOk result (D.counts depot.new ≡ D.counts depot.old) }
-    ensures reads { (D.counts depot.new).read_faults ≡ (D.counts depot.old).read_faults }
-    ensures counted { NeverFall (D.counts depot.old) (D.counts depot.new) }
+    ensures counts { CountsWrites (D.counts depot.old) (D.counts depot.new) result }
 {
     let mut buffer = Buffer::new();
     put_pieces(depot, &mut buffer, pieces)?;

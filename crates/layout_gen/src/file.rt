@@ -1,7 +1,7 @@
 //! The whole file.
-ghost use Rattle.std.specs.Prelude.{◌≡◌, ◌+◌, ◌≤◌, ◌++◌, length, IsTrue, OnOk, OnErr, IfOk, IsErrOf};
+ghost use Rattle.std.specs.Prelude.{◌≡◌, ◌+◌, ◌≤◌, ◌++◌, length, IsTrue, OnOk, OnErr, IfOk};
 ghost use Rattle.depot.specs.Content.{with_file, IsPartMade};
-ghost use Rattle.depot.specs.Counts.{Rose, NeverFall};
+ghost use Rattle.depot.specs.Counting.{CountsWrites};
 ghost use Rattle.layout_gen.specs.Generated.{library_bytes, generated};
 
 use crate::cells::{put_leaf, put_top};
@@ -52,13 +52,7 @@ pub fn generate<D: Depot>(depot: &mut D, n: u16, name: &str) -> Result<u64, Depo
     ensures bytes { IfOk result (λ size. size ≡ 1266) }
     ensures refused { OnErr result (IsTrue D.tells
         → IsPartMade (D.content depot.old) name.now (generated n) (D.content depot.new)) }
-    ensures failed { IsErrOf result DepotBad.Failed
-        → Rose (D.counts depot.old).write_faults (D.counts depot.new).write_faults }
-    ensures no_memory { IsErrOf result DepotBad.NoMemory
-        → Rose (D.counts depot.old).refused (D.counts depot.new).refused }
-    ensures uncounted { OnOk result (D.counts depot.new ≡ D.counts depot.old) }
-    ensures reads { (D.counts depot.new).read_faults ≡ (D.counts depot.old).read_faults }
-    ensures counted { NeverFall (D.counts depot.old) (D.counts depot.new) }
+    ensures counts { CountsWrites (D.counts depot.old) (D.counts depot.new) result }
 {
     let file = file_of(n);
     make_file(depot, name, file.bytes())?;

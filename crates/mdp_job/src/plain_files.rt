@@ -1,8 +1,8 @@
 //! A plain shot file, written whole.
 
-ghost use Rattle.std.specs.Prelude.{◌≡◌, ◌<◌, ◌≤◌, ◌^◌, All, IsTrue, OnOk, OnErr, IsErrOf, length};
+ghost use Rattle.std.specs.Prelude.{◌≡◌, ◌<◌, ◌≤◌, ◌^◌, All, IsTrue, OnOk, OnErr, length};
 ghost use Rattle.depot.specs.Content.{with_file, IsPartMade};
-ghost use Rattle.depot.specs.Counts.{NeverFall, Rose};
+ghost use Rattle.depot.specs.Counting.{CountsWrites};
 ghost use Rattle.half_grid.specs.Trapezoids.{IsShot};
 ghost use Rattle.oas_lex.specs.ShotText.{IsUnit, shot_text};
 
@@ -27,13 +27,7 @@ pub(crate) fn write_shots<D: Depot>(
         ≡ with_file (D.content depot.old) name.now (shot_text head.unit head.pair.layer head.pair.datatype shots.now)) }
     ensures refused { OnErr result (IsTrue D.tells → IsPartMade
         (D.content depot.old) name.now (shot_text head.unit head.pair.layer head.pair.datatype shots.now) (D.content depot.new)) }
-    ensures failed { IsErrOf result DepotBad.Failed
-        → Rose (D.counts depot.old).write_faults (D.counts depot.new).write_faults }
-    ensures no_memory { IsErrOf result DepotBad.NoMemory
-        → Rose (D.counts depot.old).refused (D.counts depot.new).refused }
-    ensures uncounted { OnOk result (D.counts depot.new ≡ D.counts depot.old) }
-    ensures reads { (D.counts depot.new).read_faults ≡ (D.counts depot.old).read_faults }
-    ensures counted { NeverFall (D.counts depot.old) (D.counts depot.new) }
+    ensures counts { CountsWrites (D.counts depot.old) (D.counts depot.new) result }
 {
     let mut writer = ShotWriter::start(depot, name, head)?;
     let mut stream = FromSlice::new(shots);

@@ -1,8 +1,9 @@
 //! The lines of stripes' files.
 
-ghost use Rattle.std.specs.Prelude.{◌≡◌, ◌++◌, IsTrue, OnOk, OnErr, IsErrOf, flat_map};
+ghost use Rattle.std.specs.Prelude.{◌≡◌, ◌++◌, IsTrue, OnOk, OnErr, flat_map};
 ghost use Rattle.depot.specs.Content.{with_said, IsPartSaid};
 ghost use Rattle.depot.specs.Counts.{NeverFall, Rose};
+ghost use Rattle.depot.specs.Counting.{CountsWrites};
 ghost use Rattle.depot.specs.Printing.{IsSaidButFor};
 ghost use Rattle.job_report.specs.Pieces.{spelled};
 ghost use Rattle.mdp_job.specs.Splitting.{stripe_line, sums_text, lines_of_stripes};
@@ -54,13 +55,7 @@ fn put_stripes<D: Depot>(
         (buffer.old ++ flat_map stripe_line each.now) buffer.new (D.content depot.new)) }
     ensures refused { OnErr result (IsTrue D.tells → IsPartSaid (D.content depot.old)
         (buffer.old ++ flat_map stripe_line each.now) (D.content depot.new)) }
-    ensures failed { IsErrOf result DepotBad.Failed
-        → Rose (D.counts depot.old).write_faults (D.counts depot.new).write_faults }
-    ensures no_memory { IsErrOf result DepotBad.NoMemory
-        → Rose (D.counts depot.old).refused (D.counts depot.new).refused }
-    ensures uncounted { OnOk result (D.counts depot.new ≡ D.counts depot.old) }
-    ensures reads { (D.counts depot.new).read_faults ≡ (D.counts depot.old).read_faults }
-    ensures counted { NeverFall (D.counts depot.old) (D.counts depot.new) }
+    ensures counts { CountsWrites (D.counts depot.old) (D.counts depot.new) result }
 {
     for stripe in each {
         put_pieces(depot, buffer, &stripe_pieces(stripe))?;
@@ -74,13 +69,7 @@ fn say_lines<D: Depot>(depot: &mut D, each: &[StripeSums], all: &Sums) -> Result
         ≡ with_said (D.content depot.old) (lines_of_stripes each.now all.now)) }
     ensures refused { OnErr result (IsTrue D.tells → IsPartSaid
         (D.content depot.old) (lines_of_stripes each.now all.now) (D.content depot.new)) }
-    ensures failed { IsErrOf result DepotBad.Failed
-        → Rose (D.counts depot.old).write_faults (D.counts depot.new).write_faults }
-    ensures no_memory { IsErrOf result DepotBad.NoMemory
-        → Rose (D.counts depot.old).refused (D.counts depot.new).refused }
-    ensures uncounted { OnOk result (D.counts depot.new ≡ D.counts depot.old) }
-    ensures reads { (D.counts depot.new).read_faults ≡ (D.counts depot.old).read_faults }
-    ensures counted { NeverFall (D.counts depot.old) (D.counts depot.new) }
+    ensures counts { CountsWrites (D.counts depot.old) (D.counts depot.new) result }
 {
     let mut buffer = Buffer::new();
     put_stripes(depot, &mut buffer, each)?;

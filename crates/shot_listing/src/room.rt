@@ -1,7 +1,7 @@
 //! Room for a line in a buffer.
-ghost use Rattle.std.specs.Prelude.{◌≡◌, ◌+◌, ◌≤◌, IsTrue, OnOk, OnErr, IsErrOf, length};
+ghost use Rattle.std.specs.Prelude.{◌+◌, ◌≤◌, IsTrue, OnOk, OnErr, length};
 ghost use Rattle.depot.specs.Content.{IsPartSaid};
-ghost use Rattle.depot.specs.Counts.{Rose, NeverFall};
+ghost use Rattle.depot.specs.Counting.{CountsWrites};
 ghost use Rattle.depot.specs.Printing.{IsSaidButFor};
 
 use depot::{BUFFER_SIZE, Buffer, Depot, DepotBad, flush};
@@ -16,13 +16,7 @@ pub(crate) fn make_room<D: Depot>(depot: &mut D, buffer: &mut Buffer) -> Result<
         → IsSaidButFor (D.content depot.old) buffer.old buffer.new (D.content depot.new)) }
     ensures refused { OnErr result (IsTrue D.tells
         → IsPartSaid (D.content depot.old) buffer.old (D.content depot.new)) }
-    ensures failed { IsErrOf result DepotBad.Failed
-        → Rose (D.counts depot.old).write_faults (D.counts depot.new).write_faults }
-    ensures no_memory { IsErrOf result DepotBad.NoMemory
-        → Rose (D.counts depot.old).refused (D.counts depot.new).refused }
-    ensures uncounted { OnOk result (D.counts depot.new ≡ D.counts depot.old) }
-    ensures reads { (D.counts depot.new).read_faults ≡ (D.counts depot.old).read_faults }
-    ensures counted { NeverFall (D.counts depot.old) (D.counts depot.new) }
+    ensures counts { CountsWrites (D.counts depot.old) (D.counts depot.new) result }
 {
     if ROOM <= buffer.room() {
         return Ok(());

@@ -1,7 +1,7 @@
 //! Whole texts, printed on a depot.
-ghost use Rattle.std.specs.Prelude.{◌≡◌, ◌+◌, ◌≤◌, IsTrue, OnOk, OnErr, IsErrOf, ◌++◌, length};
+ghost use Rattle.std.specs.Prelude.{◌≡◌, ◌+◌, ◌≤◌, IsTrue, OnOk, OnErr, ◌++◌, length};
 ghost use Rattle.depot.specs.Content.{with_said, IsPartSaid};
-ghost use Rattle.depot.specs.Counts.{Rose, NeverFall};
+ghost use Rattle.depot.specs.Counting.{CountsWrites};
 ghost use Rattle.shot_listing.specs.Listing.{listing, sums_line};
 
 use crate::lines::{put_layer, put_sums, put_unit};
@@ -25,13 +25,7 @@ fn say_last<D: Depot>(
         ≡ with_said (D.content depot.old) (buffer.old ++ sums_line shots triangles)) }
     ensures refused { OnErr result (IsTrue D.tells → IsPartSaid
         (D.content depot.old) (buffer.old ++ sums_line shots triangles) (D.content depot.new)) }
-    ensures failed { IsErrOf result DepotBad.Failed
-        → Rose (D.counts depot.old).write_faults (D.counts depot.new).write_faults }
-    ensures no_memory { IsErrOf result DepotBad.NoMemory
-        → Rose (D.counts depot.old).refused (D.counts depot.new).refused }
-    ensures uncounted { OnOk result (D.counts depot.new ≡ D.counts depot.old) }
-    ensures reads { (D.counts depot.new).read_faults ≡ (D.counts depot.old).read_faults }
-    ensures counted { NeverFall (D.counts depot.old) (D.counts depot.new) }
+    ensures counts { CountsWrites (D.counts depot.old) (D.counts depot.new) result }
 {
     make_room(depot, buffer)?;
     put_sums(buffer, shots, triangles);
@@ -51,13 +45,7 @@ pub fn say_listing<D: Depot>(
         ≡ with_said (D.content depot.old) (listing unit pair shots.now)) }
     ensures refused { OnErr result (IsTrue D.tells → IsPartSaid
         (D.content depot.old) (listing unit pair shots.now) (D.content depot.new)) }
-    ensures failed { IsErrOf result DepotBad.Failed
-        → Rose (D.counts depot.old).write_faults (D.counts depot.new).write_faults }
-    ensures no_memory { IsErrOf result DepotBad.NoMemory
-        → Rose (D.counts depot.old).refused (D.counts depot.new).refused }
-    ensures uncounted { OnOk result (D.counts depot.new ≡ D.counts depot.old) }
-    ensures reads { (D.counts depot.new).read_faults ≡ (D.counts depot.old).read_faults }
-    ensures counted { NeverFall (D.counts depot.old) (D.counts depot.new) }
+    ensures counts { CountsWrites (D.counts depot.old) (D.counts depot.new) result }
 {
     let mut buffer = Buffer::new();
     put_unit(&mut buffer, unit);

@@ -1,7 +1,7 @@
 //! The shots of a listing, one after another.
-ghost use Rattle.std.specs.Prelude.{◌≡◌, ◌+◌, ◌^◌, ◌<◌, ◌≤◌, IsTrue, IfOk, OnOk, OnErr, IsErrOf, ◌++◌, length, flat_map};
+ghost use Rattle.std.specs.Prelude.{◌≡◌, ◌+◌, ◌^◌, ◌<◌, ◌≤◌, IsTrue, IfOk, OnOk, OnErr, ◌++◌, length, flat_map};
 ghost use Rattle.depot.specs.Content.{IsPartSaid};
-ghost use Rattle.depot.specs.Counts.{Rose, NeverFall};
+ghost use Rattle.depot.specs.Counting.{CountsWrites};
 ghost use Rattle.depot.specs.Printing.{IsSaidButFor};
 ghost use Rattle.shot_writer.specs.Writing.{triangles_of};
 ghost use Rattle.shot_listing.specs.Listing.{shot_line};
@@ -19,13 +19,7 @@ fn put_line<D: Depot>(depot: &mut D, buffer: &mut Buffer, shot: &Trap) -> Result
         (D.content depot.old) (buffer.old ++ shot_line shot.now) buffer.new (D.content depot.new)) }
     ensures refused { OnErr result (IsTrue D.tells
         → IsPartSaid (D.content depot.old) buffer.old (D.content depot.new)) }
-    ensures failed { IsErrOf result DepotBad.Failed
-        → Rose (D.counts depot.old).write_faults (D.counts depot.new).write_faults }
-    ensures no_memory { IsErrOf result DepotBad.NoMemory
-        → Rose (D.counts depot.old).refused (D.counts depot.new).refused }
-    ensures uncounted { OnOk result (D.counts depot.new ≡ D.counts depot.old) }
-    ensures reads { (D.counts depot.new).read_faults ≡ (D.counts depot.old).read_faults }
-    ensures counted { NeverFall (D.counts depot.old) (D.counts depot.new) }
+    ensures counts { CountsWrites (D.counts depot.old) (D.counts depot.new) result }
 {
     make_room(depot, buffer)?;
     put_shot(buffer, shot);
@@ -44,13 +38,7 @@ pub(crate) fn put_shots<D: Depot>(
         (buffer.old ++ flat_map shot_line shots.now) buffer.new (D.content depot.new)) }
     ensures refused { OnErr result (IsTrue D.tells → IsPartSaid
         (D.content depot.old) (buffer.old ++ flat_map shot_line shots.now) (D.content depot.new)) }
-    ensures failed { IsErrOf result DepotBad.Failed
-        → Rose (D.counts depot.old).write_faults (D.counts depot.new).write_faults }
-    ensures no_memory { IsErrOf result DepotBad.NoMemory
-        → Rose (D.counts depot.old).refused (D.counts depot.new).refused }
-    ensures uncounted { OnOk result (D.counts depot.new ≡ D.counts depot.old) }
-    ensures reads { (D.counts depot.new).read_faults ≡ (D.counts depot.old).read_faults }
-    ensures counted { NeverFall (D.counts depot.old) (D.counts depot.new) }
+    ensures counts { CountsWrites (D.counts depot.old) (D.counts depot.new) result }
 {
     let mut triangles = 0;
     for shot in shots {

@@ -1,7 +1,7 @@
 //! The bands of an output, put to its writer one after another.
-ghost use Rattle.std.specs.Prelude.{◌≡◌, ◌⊎◌, pos, ◌-ℤ◌, ◌≤ℤ◌, ◌<ℤ◌, ◌<◌, ◌+◌, ◌-◌, ◌^◌, min, unsigned_abs, None, IsTrue, IsSome, OnOk, OnErr, IsErrOf, length};
+ghost use Rattle.std.specs.Prelude.{◌≡◌, ◌⊎◌, pos, ◌-ℤ◌, ◌≤ℤ◌, ◌<ℤ◌, ◌<◌, ◌+◌, ◌-◌, ◌^◌, min, unsigned_abs, None, IsTrue, IsSome, OnOk, OnErr, length};
 ghost use Rattle.std.specs.Int.{div_ceil};
-ghost use Rattle.depot.specs.Counts.{Rose, NeverFall};
+ghost use Rattle.depot.specs.Counting.{CountsWritesInMemory};
 ghost use Rattle.shot_writer.specs.Writing.{no_sums};
 ghost use Rattle.shot_writer.specs.WriterView.{pair_of, sums_of, refusal_of};
 ghost use Rattle.deck_plan.specs.Bands.{AreRowsNear};
@@ -62,14 +62,7 @@ fn put_band<D: Depot>(
         (D.content depot.old) (D.content depot.new)) }
     ensures pair { pair_of writer.new ≡ pair_of writer.old }
     ensures kept { OnOk result (refusal_of writer.new ≡ None) }
-    ensures failed { IsErrOf result DepotBad.Failed
-        → Rose (D.counts depot.old).write_faults (D.counts depot.new).write_faults }
-    ensures no_memory { IsErrOf result DepotBad.NoMemory
-        → Rose (D.counts depot.old).refused (D.counts depot.new).refused
-        ⊎ (D.counts depot.new ≡ D.counts depot.old) }
-    ensures uncounted { OnOk result (D.counts depot.new ≡ D.counts depot.old) }
-    ensures reads { (D.counts depot.new).read_faults ≡ (D.counts depot.old).read_faults }
-    ensures counted { NeverFall (D.counts depot.old) (D.counts depot.new) }
+    ensures counts { CountsWritesInMemory (D.counts depot.old) (D.counts depot.new) result }
 {
     let traps = match plan.area(alloc, output, band) {
         Ok(traps) => traps,
@@ -103,14 +96,7 @@ pub(crate) fn put_bands<D: Depot>(
         (D.content depot.old) (D.content depot.new)) }
     ensures pair { pair_of writer.new ≡ pair_of writer.old }
     ensures kept { OnOk result (refusal_of writer.new ≡ None) }
-    ensures failed { IsErrOf result DepotBad.Failed
-        → Rose (D.counts depot.old).write_faults (D.counts depot.new).write_faults }
-    ensures no_memory { IsErrOf result DepotBad.NoMemory
-        → Rose (D.counts depot.old).refused (D.counts depot.new).refused
-        ⊎ (D.counts depot.new ≡ D.counts depot.old) }
-    ensures uncounted { OnOk result (D.counts depot.new ≡ D.counts depot.old) }
-    ensures reads { (D.counts depot.new).read_faults ≡ (D.counts depot.old).read_faults }
-    ensures counted { NeverFall (D.counts depot.old) (D.counts depot.new) }
+    ensures counts { CountsWritesInMemory (D.counts depot.old) (D.counts depot.new) result }
 {
     let deck = plan.deck();
     let mut band = first_band(deck, rows);

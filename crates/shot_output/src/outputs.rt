@@ -1,6 +1,6 @@
 //! The outputs of a deck, each written into its file.
-ghost use Rattle.std.specs.Prelude.{◌≡◌, ◌⊎◌, ◌<◌, IsTrue, IfOk, OnOk, OnErr, IsErrOf, length};
-ghost use Rattle.depot.specs.Counts.{Rose, NeverFall};
+ghost use Rattle.std.specs.Prelude.{◌<◌, IsTrue, IfOk, OnErr, length};
+ghost use Rattle.depot.specs.Counting.{CountsWritesInMemory};
 ghost use Rattle.shot_output.specs.Files.{IsWritten, IsCutShort, AreWritten, AreCutShort};
 
 use crate::bands::put_bands;
@@ -22,14 +22,7 @@ pub fn write_output<D: Depot>(
     ensures ok { IfOk result (λ sums. IsWritten plan.now output D.tells (D.content depot.old) (D.content depot.new) sums) }
     ensures refused { OnErr result (IsTrue D.tells
         → IsCutShort plan.now output (D.content depot.old) (D.content depot.new)) }
-    ensures failed { IsErrOf result DepotBad.Failed
-        → Rose (D.counts depot.old).write_faults (D.counts depot.new).write_faults }
-    ensures no_memory { IsErrOf result DepotBad.NoMemory
-        → Rose (D.counts depot.old).refused (D.counts depot.new).refused
-        ⊎ (D.counts depot.new ≡ D.counts depot.old) }
-    ensures uncounted { OnOk result (D.counts depot.new ≡ D.counts depot.old) }
-    ensures reads { (D.counts depot.new).read_faults ≡ (D.counts depot.old).read_faults }
-    ensures counted { NeverFall (D.counts depot.old) (D.counts depot.new) }
+    ensures counts { CountsWritesInMemory (D.counts depot.old) (D.counts depot.new) result }
 {
     let deck = plan.deck();
     let rows = plan.rows(output);
@@ -53,14 +46,7 @@ pub fn write_outputs<D: Depot>(
 ) -> Result<Vec<Sums>, DepotBad>
     ensures ok { IfOk result (λ sums. AreWritten plan.now (length plan.now.deck.outputs) D.tells (D.content depot.old) (D.content depot.new) sums.items) }
     ensures refused { OnErr result (AreCutShort plan.now D.tells (D.content depot.old) (D.content depot.new)) }
-    ensures failed { IsErrOf result DepotBad.Failed
-        → Rose (D.counts depot.old).write_faults (D.counts depot.new).write_faults }
-    ensures no_memory { IsErrOf result DepotBad.NoMemory
-        → Rose (D.counts depot.old).refused (D.counts depot.new).refused
-        ⊎ (D.counts depot.new ≡ D.counts depot.old) }
-    ensures uncounted { OnOk result (D.counts depot.new ≡ D.counts depot.old) }
-    ensures reads { (D.counts depot.new).read_faults ≡ (D.counts depot.old).read_faults }
-    ensures counted { NeverFall (D.counts depot.old) (D.counts depot.new) }
+    ensures counts { CountsWritesInMemory (D.counts depot.old) (D.counts depot.new) result }
 {
     let count = plan.deck().outputs.as_slice().len();
     let mut all = Vec::new(alloc);

@@ -1,7 +1,7 @@
 //! Shots, written as a packed shot file.
-ghost use Rattle.std.specs.Prelude.{◌≡◌, ◌+◌, ◌<◌, ◌≤◌, ◌^◌, ◌++◌, None, map, length, flat_map, IsTrue, IsSome, IfOk, OnOk, OnErr, IsErrOf, IfSome};
+ghost use Rattle.std.specs.Prelude.{◌≡◌, ◌+◌, ◌<◌, ◌≤◌, ◌^◌, ◌++◌, None, map, length, flat_map, IsTrue, IsSome, IfOk, OnOk, OnErr, IfSome};
 ghost use Rattle.depot.specs.Content.{with_file, with_written, IsPartWritten, IsPartMade};
-ghost use Rattle.depot.specs.Counts.{Rose, NeverFall};
+ghost use Rattle.depot.specs.Counting.{CountsWrites};
 ghost use Rattle.oas_lex.specs.ShotText.{IsUnit, fields_of};
 ghost use Rattle.shot_reader.specs.Near.{AreNear};
 ghost use Rattle.shot_repeat.specs.Packing.{changed, changed_place, packed_record, packed_records, packed_text};
@@ -96,13 +96,7 @@ fn put_record<D: Depot>(
         (D.content depot.old) (buffer.old ++ record_text written.now) buffer.new (D.content depot.new)) }
     ensures refused { OnErr result (IsTrue D.tells
         → IsPartWritten (D.content depot.old) (buffer.old ++ record_text written.now) (D.content depot.new)) }
-    ensures failed { IsErrOf result DepotBad.Failed
-        → Rose (D.counts depot.old).write_faults (D.counts depot.new).write_faults }
-    ensures no_memory { IsErrOf result DepotBad.NoMemory
-        → Rose (D.counts depot.old).refused (D.counts depot.new).refused }
-    ensures uncounted { OnOk result (D.counts depot.new ≡ D.counts depot.old) }
-    ensures reads { (D.counts depot.new).read_faults ≡ (D.counts depot.old).read_faults }
-    ensures counted { NeverFall (D.counts depot.old) (D.counts depot.new) }
+    ensures counts { CountsWrites (D.counts depot.old) (D.counts depot.new) result }
 {
     put_bytes(depot, buffer, spell_body(written).bytes())?;
     put_bytes(depot, buffer, spell_repetition(written).bytes())
@@ -118,13 +112,7 @@ fn put_records<D: Depot>(depot: &mut D, pair: Pair, shots: &[Trap]) -> Result<u6
     ensures count { IfOk result (λ count. count ≡ length (packed_records pair.layer pair.datatype shots.now)) }
     ensures refused { OnErr result (IsTrue D.tells → IsPartWritten
         (D.content depot.old) (flat_map record_text (packed_records pair.layer pair.datatype shots.now)) (D.content depot.new)) }
-    ensures failed { IsErrOf result DepotBad.Failed
-        → Rose (D.counts depot.old).write_faults (D.counts depot.new).write_faults }
-    ensures no_memory { IsErrOf result DepotBad.NoMemory
-        → Rose (D.counts depot.old).refused (D.counts depot.new).refused }
-    ensures uncounted { OnOk result (D.counts depot.new ≡ D.counts depot.old) }
-    ensures reads { (D.counts depot.new).read_faults ≡ (D.counts depot.old).read_faults }
-    ensures counted { NeverFall (D.counts depot.old) (D.counts depot.new) }
+    ensures counts { CountsWrites (D.counts depot.old) (D.counts depot.new) result }
 {
     let mut buffer = Buffer::new();
     let mut last = None;
@@ -159,13 +147,7 @@ pub fn pack_shots<D: Depot>(
     ensures count { IfOk result (λ count. count ≡ length (packed_records head.pair.layer head.pair.datatype shots.now)) }
     ensures refused { OnErr result (IsTrue D.tells → IsPartMade
         (D.content depot.old) name.now (packed_text head.unit head.pair.layer head.pair.datatype shots.now) (D.content depot.new)) }
-    ensures failed { IsErrOf result DepotBad.Failed
-        → Rose (D.counts depot.old).write_faults (D.counts depot.new).write_faults }
-    ensures no_memory { IsErrOf result DepotBad.NoMemory
-        → Rose (D.counts depot.old).refused (D.counts depot.new).refused }
-    ensures uncounted { OnOk result (D.counts depot.new ≡ D.counts depot.old) }
-    ensures reads { (D.counts depot.new).read_faults ≡ (D.counts depot.old).read_faults }
-    ensures counted { NeverFall (D.counts depot.old) (D.counts depot.new) }
+    ensures counts { CountsWrites (D.counts depot.old) (D.counts depot.new) result }
 {
     make_file(depot, name, head_text(u64::from(head.unit)).bytes())?;
     let records = put_records(depot, head.pair, shots)?;

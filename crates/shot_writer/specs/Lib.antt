@@ -2,3 +2,4 @@
 pub mod Writing
 pub mod WritingLaw
 pub mod WriterView
+pub mod Counting

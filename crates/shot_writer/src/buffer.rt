@@ -1,7 +1,7 @@
 //! What a buffer has, written.
-ghost use Rattle.std.specs.Prelude.{◌≡◌, ◌+◌, ◌≤◌, IsTrue, IsSome, OnOk, OnErr, IsErrOf, [], ◌++◌, length};
+ghost use Rattle.std.specs.Prelude.{◌≡◌, ◌+◌, ◌≤◌, IsTrue, IsSome, OnOk, OnErr, [], ◌++◌, length};
 ghost use Rattle.depot.specs.Content.{with_written, IsPartWritten};
-ghost use Rattle.depot.specs.Counts.{Rose, NeverFall};
+ghost use Rattle.depot.specs.Counting.{CountsWrites};
 ghost use Rattle.shot_writer.specs.Writing.{IsWrittenButFor};
 
 use depot::{BUFFER_SIZE, Buffer, Depot, DepotBad, write_whole};
@@ -15,13 +15,7 @@ pub fn flush<D: Depot>(depot: &mut D, buffer: &mut Buffer) -> Result<(), DepotBa
         → D.content depot.new ≡ with_written (D.content depot.old) buffer.old) }
     ensures refused { OnErr result (IsTrue D.tells
         → IsPartWritten (D.content depot.old) buffer.old (D.content depot.new)) }
-    ensures failed { IsErrOf result DepotBad.Failed
-        → Rose (D.counts depot.old).write_faults (D.counts depot.new).write_faults }
-    ensures no_memory { IsErrOf result DepotBad.NoMemory
-        → Rose (D.counts depot.old).refused (D.counts depot.new).refused }
-    ensures uncounted { OnOk result (D.counts depot.new ≡ D.counts depot.old) }
-    ensures reads { (D.counts depot.new).read_faults ≡ (D.counts depot.old).read_faults }
-    ensures counted { NeverFall (D.counts depot.old) (D.counts depot.new) }
+    ensures counts { CountsWrites (D.counts depot.old) (D.counts depot.new) result }
 {
     write_whole(depot, buffer.bytes())?;
     buffer.clear();
@@ -36,13 +30,7 @@ fn make_room<D: Depot>(depot: &mut D, buffer: &mut Buffer) -> Result<(), DepotBa
         → IsWrittenButFor (D.content depot.old) buffer.old buffer.new (D.content depot.new)) }
     ensures refused { OnErr result (IsTrue D.tells
         → IsPartWritten (D.content depot.old) buffer.old (D.content depot.new)) }
-    ensures failed { IsErrOf result DepotBad.Failed
-        → Rose (D.counts depot.old).write_faults (D.counts depot.new).write_faults }
-    ensures no_memory { IsErrOf result DepotBad.NoMemory
-        → Rose (D.counts depot.old).refused (D.counts depot.new).refused }
-    ensures uncounted { OnOk result (D.counts depot.new ≡ D.counts depot.old) }
-    ensures reads { (D.counts depot.new).read_faults ≡ (D.counts depot.old).read_faults }
-    ensures counted { NeverFall (D.counts depot.old) (D.counts depot.new) }
+    ensures counts { CountsWrites (D.counts depot.old) (D.counts depot.new) result }
 {
     if ROOM <= buffer.room() {
         return Ok(());
@@ -58,13 +46,7 @@ pub fn put_bytes<D: Depot>(depot: &mut D, buffer: &mut Buffer, bytes: &[u8]) -> 
         (D.content depot.old) (buffer.old ++ bytes.now) buffer.new (D.content depot.new)) }
     ensures refused { OnErr result (IsTrue D.tells
         → IsPartWritten (D.content depot.old) buffer.old (D.content depot.new)) }
-    ensures failed { IsErrOf result DepotBad.Failed
-        → Rose (D.counts depot.old).write_faults (D.counts depot.new).write_faults }
-    ensures no_memory { IsErrOf result DepotBad.NoMemory
-        → Rose (D.counts depot.old).refused (D.counts depot.new).refused }
-    ensures uncounted { OnOk result (D.counts depot.new ≡ D.counts depot.old) }
-    ensures reads { (D.counts depot.new).read_faults ≡ (D.counts depot.old).read_faults }
-    ensures counted { NeverFall (D.counts depot.old) (D.counts depot.new) }
+    ensures counts { CountsWrites (D.counts depot.old) (D.counts depot.new) result }
 {
     make_room(depot, buffer)?;
     buffer.put(bytes);

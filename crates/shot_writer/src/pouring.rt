@@ -1,7 +1,7 @@
 //! The shots of a stream, poured into a depot.
-ghost use Rattle.std.specs.Prelude.{◌≡◌, ◌+◌, ◌^◌, ◌<◌, ◌≤◌, List, [], IsTrue, IsSome, IfOk, OnOk, OnErr, IsErrOf, length};
+ghost use Rattle.std.specs.Prelude.{◌≡◌, ◌+◌, ◌^◌, ◌<◌, ◌≤◌, List, [], IsTrue, IsSome, IfOk, OnOk, OnErr, length};
 ghost use Rattle.depot.specs.Content.{with_written, IsPartWritten};
-ghost use Rattle.depot.specs.Counts.{Rose, NeverFall};
+ghost use Rattle.depot.specs.Counting.{CountsWrites};
 ghost use Rattle.geo_stream.specs.Stream.{HasList};
 ghost use Rattle.half_grid.specs.Trapezoids.{Trapezoid};
 ghost use Rattle.shot_writer.specs.Writing.{triangles_of, records_of, StandsForSuffix, AreSumsAfter};
@@ -41,13 +41,7 @@ pub(crate) fn pour<D: Depot, S: Stream<Item = Trap>>(
         → StandsForSuffix S.stands_for items shots.new }
     ensures current { IsTrue D.tells
         → (D.content depot.new).current ≡ (D.content depot.old).current }
-    ensures failed { IsErrOf result DepotBad.Failed
-        → Rose (D.counts depot.old).write_faults (D.counts depot.new).write_faults }
-    ensures no_memory { IsErrOf result DepotBad.NoMemory
-        → Rose (D.counts depot.old).refused (D.counts depot.new).refused }
-    ensures uncounted { OnOk result (D.counts depot.new ≡ D.counts depot.old) }
-    ensures reads { (D.counts depot.new).read_faults ≡ (D.counts depot.old).read_faults }
-    ensures counted { NeverFall (D.counts depot.old) (D.counts depot.new) }
+    ensures counts { CountsWrites (D.counts depot.old) (D.counts depot.new) result }
 {
     let mut sums = before;
     let mut buffer = Buffer::new();

@@ -1,9 +1,9 @@
-ghost use Rattle.std.specs.Prelude.{◌≡◌, ◌⊎◌, ◌+◌, ◌^◌, ◌<◌, ◌≤◌, List, [], None, Some, Err, IsTrue, IsSome, IfOk, OnOk, OnErr, IsErrOf, length};
+ghost use Rattle.std.specs.Prelude.{◌≡◌, ◌+◌, ◌^◌, ◌<◌, ◌≤◌, List, [], None, Some, Err, IsTrue, IsSome, IfOk, OnOk, OnErr, length};
 ghost use Rattle.std.specs.Result.{result_err};
 ghost use Rattle.depot.specs.Content.{with_file, with_written, IsPartWritten, IsPartMade};
-ghost use Rattle.depot.specs.Counts.{Rose, NeverFall};
+ghost use Rattle.depot.specs.Counting.{CountsWrites};
+ghost use Rattle.shot_writer.specs.Counting.{CountsUnlessKept};
 ghost use Rattle.depot.specs.declared.outside.DepotBad.{DepotBad as Bad};
-ghost use Rattle.depot.specs.declared.outside.DepotBad.TheVariants.{Failed, NoMemory};
 ghost use Rattle.geo_stream.specs.Stream.{HasList};
 ghost use Rattle.half_grid.specs.Trapezoids.{Trapezoid};
 ghost use Rattle.oas_lex.specs.ShotText.{IsUnit, head as head_of, end};
@@ -45,13 +45,7 @@ impl ShotWriter {
         ensures kept { IfOk result (λ writer. refusal_of writer ≡ None) }
         ensures refused { OnErr result (IsTrue D.tells
             → IsPartMade (D.content depot.old) name.now (head_of head.unit) (D.content depot.new)) }
-        ensures failed { IsErrOf result DepotBad.Failed
-            → Rose (D.counts depot.old).write_faults (D.counts depot.new).write_faults }
-        ensures no_memory { IsErrOf result DepotBad.NoMemory
-            → Rose (D.counts depot.old).refused (D.counts depot.new).refused }
-        ensures uncounted { OnOk result (D.counts depot.new ≡ D.counts depot.old) }
-        ensures reads { (D.counts depot.new).read_faults ≡ (D.counts depot.old).read_faults }
-        ensures counted { NeverFall (D.counts depot.old) (D.counts depot.new) }
+        ensures counts { CountsWrites (D.counts depot.old) (D.counts depot.new) result }
     {
         make_file(depot, name, head_text(u64::from(head.unit)).bytes())?;
         Ok(ShotWriter {
@@ -93,13 +87,7 @@ impl ShotWriter {
             → (result ≡ Err bad) × (depot.new ≡ depot.old) × (shots.new ≡ shots.old) }
         ensures current { IsTrue D.tells
             → (D.content depot.new).current ≡ (D.content depot.old).current }
-        ensures failed { IsErrOf result DepotBad.Failed → (refusal_of self.old ≡ Some Failed)
-            ⊎ Rose (D.counts depot.old).write_faults (D.counts depot.new).write_faults }
-        ensures no_memory { IsErrOf result DepotBad.NoMemory → (refusal_of self.old ≡ Some NoMemory)
-            ⊎ Rose (D.counts depot.old).refused (D.counts depot.new).refused }
-        ensures uncounted { OnOk result (D.counts depot.new ≡ D.counts depot.old) }
-        ensures reads { (D.counts depot.new).read_faults ≡ (D.counts depot.old).read_faults }
-        ensures counted { NeverFall (D.counts depot.old) (D.counts depot.new) }
+        ensures counts { CountsUnlessKept (refusal_of self.old) (D.counts depot.old) (D.counts depot.new) result }
     {
         if let Some(bad) = self.refusal {
             return Err(bad);
@@ -135,13 +123,7 @@ impl ShotWriter {
             → (result ≡ Err bad) × (depot.new ≡ depot.old) }
         ensures current { IsTrue D.tells
             → (D.content depot.new).current ≡ (D.content depot.old).current }
-        ensures failed { IsErrOf result DepotBad.Failed → (refusal_of self ≡ Some Failed)
-            ⊎ Rose (D.counts depot.old).write_faults (D.counts depot.new).write_faults }
-        ensures no_memory { IsErrOf result DepotBad.NoMemory → (refusal_of self ≡ Some NoMemory)
-            ⊎ Rose (D.counts depot.old).refused (D.counts depot.new).refused }
-        ensures uncounted { OnOk result (D.counts depot.new ≡ D.counts depot.old) }
-        ensures reads { (D.counts depot.new).read_faults ≡ (D.counts depot.old).read_faults }
-        ensures counted { NeverFall (D.counts depot.old) (D.counts depot.new) }
+        ensures counts { CountsUnlessKept (refusal_of self) (D.counts depot.old) (D.counts depot.new) result }
     {
         if let Some(kept) = self.refusal {
             return Err(kept);

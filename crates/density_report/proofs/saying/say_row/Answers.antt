@@ -1,6 +1,5 @@
 use Rattle.std.proofs.Common.{ℕ, pos, List, ◌++◌, get_or, ap, subst, ◌∙◌, rules}
 use Rattle.std.proofs.lemmas.List.{take_more}
-use Rattle.depot.specs.Counts.{Counts}
 use Rattle.depot.specs.Printing.{IsSaidButFor}
 use Rattle.depot.proofs.ForCallers.{refused}
 use Rattle.depot.proofs.ForCallers.{part_of_longer, part_of_more_texts, said_then, texts_more}
@@ -35,9 +34,6 @@ loop-counted-preserved g c =
       said = λ told. subst (λ (t : List ℕ). IsSaidButFor (at c.args.depot.now) t c.say_entry.new.buffer (at c.say_entry.new.depot)) (texts_more (counted_line row) c.args.buffer.now xs l.counted-index x more)
           (said_then (counted_line row x) (l.invariant.said told)
           (subst (λ (t : List ℕ). IsSaidButFor (at l.depot) (l.buffer ++ t) c.say_entry.new.buffer (at c.say_entry.new.depot)) line (c.in_ok-say_entry.ensures.ok told)));
-      uncounted = c.in_ok-say_entry.ensures.uncounted ∙ l.invariant.uncounted;
+      uncounted = c.in_ok-say_entry.ensures.counts.uncounted ∙ l.invariant.uncounted;
       counted = search rules;
     }
-
-pub returns-in_err-say_entry-clause-reads : goal.returns-in_err-say_entry-clause-reads
-returns-in_err-say_entry-clause-reads g c = c.say_entry.ensures.reads ∙ ap (λ (n : Counts). n.read_faults) c.loop-counted.invariant.uncounted

@@ -79,7 +79,7 @@ loop-alloc-preserved g c =
           (subst (λ (s : ℤ). IsWindowSize s) (sym l.invariant.size) c.requires.size) l.invariant.near c.next_strip-strip.ensures.size c.next_strip-strip.ensures.row
           (omega (arith, ints, test, c.y0.ensures.value, c.y1.ensures.value, bottom)) high;
       size = c.next_strip-strip.ensures.size ∙ l.invariant.size;
-      uncounted = c.in_ok-say_row.ensures.uncounted ∙ l.invariant.uncounted;
+      uncounted = c.in_ok-say_row.ensures.counts.uncounted ∙ l.invariant.uncounted;
     }
 
 pub returns-clause-ok : goal.returns-clause-ok

@@ -30,7 +30,7 @@ loop-output-preserved g c =
     record {
       put = subst (λ (n : ℕ). AreTablesPut c.args.plan.now n c.args.mesh.now.size g.D.Depot.tells (at c.args.depot.now) c.say_table.new.buffer (at c.say_table.new.depot)) one_more
           (one_put c.args.plan.now c.args.mesh.now.size g.D.Depot.tells (at c.args.depot.now) l.output (at l.depot) (at c.say_table.new.depot) l.buffer c.say_table.new.buffer l.invariant.put c.in_ok-say_table.ensures.ok);
-      uncounted = c.in_ok-say_table.ensures.uncounted ∙ l.invariant.uncounted;
+      uncounted = c.in_ok-say_table.ensures.counts.uncounted ∙ l.invariant.uncounted;
     }
 
 pub returns-clause-ok : goal.returns-clause-ok

@@ -1,6 +1,5 @@
 use Rattle.std.proofs.Common.{◌≡◌, ◌+ℤ◌, pos, ℕ, ap, subst, sym, refl, ◌∙◌, arith}
 use Rattle.depot.specs.Content.{Content, IsPartMade}
-use Rattle.depot.specs.Counts.{Counts}
 use Rattle.depot.proofs.ForCallers.{NeverFall-trans, refused}
 use Rattle.geo_stream.specs.Flattened.{end_to_end}
 use Rattle.field_split.specs.Fields.{IsFieldSize}
@@ -30,9 +29,6 @@ returns-in_err-sums-clause-refused g c = refused c.from_residual.result _ (λ to
           (c.loop-place.invariant.content told) (c.in_err-sums.ensures.refused told);
     })
 
-pub returns-in_err-sums-clause-reads : goal.returns-in_err-sums-clause-reads
-returns-in_err-sums-clause-reads g c = c.write_next.ensures.reads ∙ ap (λ (n : Counts). n.read_faults) c.loop-place.invariant.uncounted
-
 pub added-all-requires-clause-shots : goal.added-all-requires-clause-shots
 added-all-requires-clause-shots g c =
     let span = c.args.span in
@@ -58,8 +54,8 @@ loop-place-preserved g c =
           (at c.write_next.new.depot) c.args.base.now c.args.head (i.content told) (c.in_ok-sums.ensures.ok told);
       all = sums_step span.size c.args.shots.now span.first c.loop-place.place c.loop-place.all c.in_ok-sums.sums c.added-all.result i.all
           c.in_ok-sums.ensures.sums c.added-all.ensures.shots c.added-all.ensures.triangles;
-      uncounted = c.in_ok-sums.ensures.uncounted ∙ i.uncounted;
-      counted = NeverFall-trans _ _ _ i.counted c.write_next.ensures.counted;
+      uncounted = c.in_ok-sums.ensures.counts.uncounted ∙ i.uncounted;
+      counted = NeverFall-trans _ _ _ i.counted c.write_next.ensures.counts.counted;
     }
 
 pub returns-clause-ok : goal.returns-clause-ok
@@ -81,6 +77,3 @@ returns-clause-all g c =
     let span = c.args.span in
     let end : c.loop-place.place ≡ span.count = omega (arith, c.loop-place.auto.place-end, c.loop-place-test.false) in
     c.loop-place.invariant.all ∙ ap (λ (n : ℕ). sums_of (end_to_end (lists_from span.size c.args.shots.now span.first n))) end
-
-pub returns-clause-reads : goal.returns-clause-reads
-returns-clause-reads g c = ap (λ (n : Counts). n.read_faults) c.loop-place.invariant.uncounted

@@ -35,7 +35,7 @@ loop-k-preserved g c =
       said = λ told. subst (λ (t : List ℕ). IsSaidButFor (at c.args.depot.now) t c.put_pieces.new.buffer (at c.put_pieces.new.depot)) (texts_more (output_line c.args.word.now) c.args.buffer.now (zip os ss) l.k (x, y) more)
           (said_then (output_line c.args.word.now (x, y)) (l.invariant.said told) (subst (λ (t : List ℕ). IsSaidButFor (at l.depot) (l.buffer ++ t) c.put_pieces.new.buffer (at c.put_pieces.new.depot)) c.output_pieces.ensures (c.in_ok-put_pieces.ensures.ok told)));
       same = l.invariant.same;
-      uncounted = c.in_ok-put_pieces.ensures.uncounted ∙ l.invariant.uncounted;
+      uncounted = c.in_ok-put_pieces.ensures.counts.uncounted ∙ l.invariant.uncounted;
       counted = search rules;
     }
 

@@ -23,6 +23,6 @@ loop-name-preserved g c =
     record {
       said = λ told. subst (λ (t : List ℕ). IsSaidButFor (at c.args.depot.now) t c.put_name.new.buffer (at c.put_name.new.depot)) (texts_more (λ name. 32 ∷ name) c.args.buffer.now xs l.name-index x more)
           (said_then (32 ∷ x) (l.invariant.said told) (c.in_ok-put_name.ensures.ok told));
-      uncounted = c.in_ok-put_name.ensures.uncounted ∙ l.invariant.uncounted;
+      uncounted = c.in_ok-put_name.ensures.counts.uncounted ∙ l.invariant.uncounted;
       counted = search rules;
     }

@@ -18,7 +18,7 @@ returns-in-Ok-write_outputs-clause-made g c = λ told.
     let written : IsAllWritten g.D.Depot.tells (at c.args.depot.now) (at c.write_outputs.new.depot) input sums =
     subst (λ (p : Planned). AreWritten p (length p.deck.outputs) g.D.Depot.tells (at c.args.depot.now)
     (at c.write_outputs.new.depot) sums) c.in-Ok.ensures c.in-Ok-write_outputs.ensures.ok in
-    let later = c.in-Ok-write_outputs.ensures.counted in
+    let later = c.in-Ok-write_outputs.ensures.counts.counted in
     said_made g.D.Depot.tells (at c.args.depot.now) (at c.write_outputs.new.depot) (at c.say_report_on.new.depot) _ _ _ _ input sums c.say_report_on.result
     (λ rose. Rose-later (counts c.args.depot.now).write_faults (counts c.write_outputs.new.depot).write_faults
     (counts c.say_report_on.new.depot).write_faults later.write_faults rose)

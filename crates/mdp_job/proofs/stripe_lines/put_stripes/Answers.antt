@@ -35,6 +35,6 @@ loop-stripe-preserved g c =
           (said_then (stripe_line x) (l.invariant.said told)
           (subst (λ (t : List ℕ). IsSaidButFor (at l.depot) (l.buffer ++ t) c.put_pieces.new.buffer
           (at c.put_pieces.new.depot)) c.stripe_pieces.ensures (c.in_ok-put_pieces.ensures.ok told)));
-      uncounted = c.in_ok-put_pieces.ensures.uncounted ∙ l.invariant.uncounted;
+      uncounted = c.in_ok-put_pieces.ensures.counts.uncounted ∙ l.invariant.uncounted;
       counted = search rules;
     }

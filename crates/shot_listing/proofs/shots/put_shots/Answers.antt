@@ -1,6 +1,5 @@
 use Rattle.std.proofs.Common.{ℕ, ◌+◌, List, ◌∷◌, [], ◌++◌, take, sym, ap, subst, ◌∙◌, rules}
 use Rattle.std.proofs.lemmas.List.{take_more}
-use Rattle.depot.specs.Counts.{Counts}
 use Rattle.std.proofs.lemmas.List.Sums.{sum_by_more}
 use Rattle.shot_writer.specs.Writing.{triangles_in, triangles_of}
 use Rattle.shot_listing.specs.Listing.{shot_line}
@@ -28,9 +27,6 @@ loop-shot-preserved g c =
       few = search rules;
       said = λ told. subst (λ (t : List ℕ). IsSaidButFor (at c.args.depot.now) t c.put_line.new.buffer (at c.put_line.new.depot)) (texts_more shot_line c.args.buffer.now xs l.shot-index z more)
           (said_then (shot_line z) (l.invariant.said told) (c.in_ok-put_line.ensures.ok told));
-      uncounted = c.in_ok-put_line.ensures.uncounted ∙ l.invariant.uncounted;
+      uncounted = c.in_ok-put_line.ensures.counts.uncounted ∙ l.invariant.uncounted;
       counted = search rules;
     }
-
-pub returns-in_err-put_line-clause-reads : goal.returns-in_err-put_line-clause-reads
-returns-in_err-put_line-clause-reads g c = c.put_line.ensures.reads ∙ ap (λ (n : Counts). n.read_faults) c.loop-shot.invariant.uncounted

@@ -75,7 +75,7 @@ loop-deck-preserved g c =
       kept = c.in_ok-put_band.ensures.kept;
       low = omega (arith, ints, low, height, i.low, c.requires.rules.some_rows);
       high = omega (arith, ints, low, height, test, c.y0.ensures.value, c.y1.ensures.value, near.high, c.requires.few);
-      uncounted = c.note-in-loop-deck.ensures.counts ∙ c.in_ok-put_band.ensures.uncounted ∙ i.uncounted;
+      uncounted = c.note-in-loop-deck.ensures.counts ∙ c.in_ok-put_band.ensures.counts.uncounted ∙ i.uncounted;
     }
 
 pub returns-clause-ok : goal.returns-clause-ok

@@ -39,5 +39,5 @@ loop-output-preserved g c =
     record {
       written = subst (λ (s : List Sums). AreWritten c.args.plan.now (c.loop-output.output + 1) g.D.Depot.tells (g.D.Depot.content c.args.depot.now) (g.D.Depot.content c.write_output.new.depot) s) (sym pushed)
           (subst (λ (n : ℕ). AreWritten c.args.plan.now n g.D.Depot.tells (g.D.Depot.content c.args.depot.now) (g.D.Depot.content c.write_output.new.depot) (c.loop-output.all.items ++ c.in_ok-sums.sums ∷ [])) one_more next);
-      uncounted = c.in_ok-sums.ensures.uncounted ∙ c.loop-output.invariant.uncounted;
+      uncounted = c.in_ok-sums.ensures.counts.uncounted ∙ c.loop-output.invariant.uncounted;
     }

@@ -23,8 +23,8 @@ loop-at-preserved g c =
       written = subst (λ (n : ℕ). WrittenSoFar (IsTrue g.D.Depot.tells) (g.D.Depot.content c.args.depot.now) l d c.args.shots.now (c.loop-at.at + n) (Some f) (c.loop-at.records + 1) c.put_record.new.buffer (g.D.Depot.content c.put_record.new.depot)) (sym c.count_of.ensures)
           (one_written (IsTrue g.D.Depot.tells) (g.D.Depot.content c.args.depot.now) (g.D.Depot.content c.loop-at.depot) (g.D.Depot.content c.put_record.new.depot) l d c.args.shots.now c.loop-at.at c.loop-at.last c.loop-at.records c.loop-at.buffer c.put_record.new.buffer f o c.packed_record-record.result
           c.loop-at.invariant.written c.loop-at-test.true c.fields_at-fields.ensures.value c.repetition_from-repetition.ensures.value c.packed_record-record.ensures.value (λ told. c.in_ok-put_record.ensures.ok told));
-      uncounted = c.in_ok-put_record.ensures.uncounted ∙ c.loop-at.invariant.uncounted;
-      counted = NeverFall-trans _ _ _ c.loop-at.invariant.counted c.put_record.ensures.counted;
+      uncounted = c.in_ok-put_record.ensures.counts.uncounted ∙ c.loop-at.invariant.uncounted;
+      counted = NeverFall-trans _ _ _ c.loop-at.invariant.counted c.put_record.ensures.counts.counted;
     }
 
 pub returns-in_err-flush-clause-refused : goal.returns-in_err-flush-clause-refused

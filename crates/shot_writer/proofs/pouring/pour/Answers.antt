@@ -1,6 +1,5 @@
 use Rattle.std.proofs.Common.{◌++◌, ◌∷◌, [], ℕ, ap, subst, append_assoc, List, arith, sym, ◌∙◌}
 use Rattle.depot.specs.Content.{Content}
-use Rattle.depot.specs.Counts.{Counts}
 use Rattle.depot.proofs.ForCallers.{NeverFall-trans, refused}
 use Rattle.shot_writer.specs.Writing.{IsWrittenButFor}
 use Rattle.shot_writer.proofs.SoFar.{one_more, refused_part, all_poured}
@@ -23,8 +22,8 @@ loop-shot-preserved g c = record {
       let first = c.in-Some.ensures.first p.rest p.stands in
       one_more p c.in-Some.shot first.0 c.next.new.self first.1 first.2 (g.D.Depot.content c.put_bytes.new.depot) c.put_bytes.new.buffer (λ told. subst (λ (l : List ℕ). IsWrittenButFor (g.D.Depot.content c.loop-shot.depot) (c.loop-shot.buffer ++ l) c.put_bytes.new.buffer (g.D.Depot.content c.put_bytes.new.depot)) (c.bytes.ensures.value ∙ c.encode.ensures) (c.in_ok-put_bytes.ensures.ok told)) c.triangles_in.result c.triangles_in.ensures.value;
   fewer = omega (arith, c.loop-shot.invariant.fewer, c.triangles_in.ensures.some);
-  uncounted = c.in_ok-put_bytes.ensures.uncounted ∙ c.loop-shot.invariant.uncounted;
-  counted = NeverFall-trans _ _ _ c.loop-shot.invariant.counted c.put_bytes.ensures.counted;
+  uncounted = c.in_ok-put_bytes.ensures.counts.uncounted ∙ c.loop-shot.invariant.uncounted;
+  counted = NeverFall-trans _ _ _ c.loop-shot.invariant.counted c.put_bytes.ensures.counts.counted;
 }
 
 pub returns-in_err-flush-clause-refused : goal.returns-in_err-flush-clause-refused
@@ -46,15 +45,3 @@ returns-in_err-flush-clause-current g c = λ told.
 
 pub returns-clause-current : goal.returns-clause-current
 returns-clause-current g c = λ told. ap (λ (now : Content). now.current) (returns-clause-ok g c c.requires.list.0 c.requires.list.1 told)
-
-pub returns-in_err-put_bytes-clause-reads : goal.returns-in_err-put_bytes-clause-reads
-returns-in_err-put_bytes-clause-reads g c = c.put_bytes.ensures.reads ∙ ap (λ (n : Counts). n.read_faults) c.loop-shot.invariant.uncounted
-
-pub returns-in_err-flush-clause-reads : goal.returns-in_err-flush-clause-reads
-returns-in_err-flush-clause-reads g c = c.flush.ensures.reads ∙ ap (λ (n : Counts). n.read_faults) c.loop-shot.invariant.uncounted
-
-pub returns-clause-reads : goal.returns-clause-reads
-returns-clause-reads g c = c.flush.ensures.reads ∙ ap (λ (n : Counts). n.read_faults) c.loop-shot.invariant.uncounted
-
-pub returns-clause-uncounted : goal.returns-clause-uncounted
-returns-clause-uncounted g c = c.in_ok-flush.ensures.uncounted ∙ c.loop-shot.invariant.uncounted
