@@ -13,5 +13,6 @@ mod HullLemmas
 mod ReachLemmas
 mod TreeLemmas
 mod OwnLemmas
+mod SpotLemmas
 mod TestLemmas
 pub mod ForCallers

@@ -3,6 +3,7 @@ pub mod Cells
 pub mod Chains
 pub mod Flattening
 pub mod Boxes
+pub mod Spots
 pub mod Trees
 pub mod Faults
 pub mod Orders

@@ -170,8 +170,8 @@ fn widen_by_placed(
     Ok(())
 }
 
-// The box of a placement's moves.
-fn moves_of(placement: &Placement) -> Frame
+/// The box of a placement's moves.
+pub(crate) fn moves_of(placement: &Placement) -> Frame
     requires { IsPlacementOnGrid placement.now }
     ensures least { IsLeastBox (IsMoveOf placement.now) result }
     ensures small { IsBoxUpTo (2 ^ 43) result }

@@ -14,6 +14,7 @@ mod heights;
 mod hulls;
 mod linked;
 mod orders;
+mod spots;
 #[cfg(test)]
 mod tests;
 mod trees;

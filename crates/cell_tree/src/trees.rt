@@ -1,5 +1,5 @@
 //! The tree of a layout's cells.
-ghost use Rattle.std.specs.Prelude.{◌≡◌, ◌≢◌, ◌<◌, ◌↔◌, ◌⊎◌, ℕ, length, slice_get, Some, None, Ok, Err, IfOk, IfErr, OnOk, IsOk, IsErrAnd};
+ghost use Rattle.std.specs.Prelude.{◌≡◌, ◌≢◌, ◌<◌, ◌^◌, ◌↔◌, ◌⊎◌, ℕ, length, slice_get, Some, None, Ok, Err, IfOk, IfErr, OnOk, IsOk, IsErrAnd};
 ghost use Rattle.layout_model.specs.Layouts.{IsLayoutOnGrid};
 ghost use Rattle.cell_tree.specs.Cells.{cell_number};
 ghost use Rattle.cell_tree.specs.Orders.{IsOrder};
@@ -18,6 +18,7 @@ use crate::heights::{deep_chain, heights};
 use crate::hulls::{PairHull, hull_on, hulls, whole_hull};
 use crate::linked::{Linked, number_of};
 use crate::orders::{Found, search_from};
+use crate::spots::{placed_box, wide};
 use crate::unknowns::find_unknown;
 use half_grid::Frame;
 use layout_model::{Cell, Counts, Layout, Name, Pair};
@@ -52,7 +53,10 @@ impl Tree {
     ghost use Rattle.cell_tree.specs.Cells.{placements_at};
     ghost use Rattle.cell_tree.specs.Chains.{IsReachable};
     ghost use Rattle.cell_tree.specs.Flattening.{IsVertex};
-    ghost use Rattle.cell_tree.specs.Boxes.{IsHull};
+    ghost use Rattle.cell_tree.specs.Boxes.{IsHull, IsBoxUpTo};
+    ghost use Rattle.cell_tree.specs.Spots.{IsSpotVertex};
+    ghost use Rattle.half_grid.specs.declared.plane.Point.{Point as APoint};
+    ghost use Rattle.layout_model.specs.Hulls.{IsInBox};
     ghost use Rattle.layout_model.specs.declared.cells.Placement.{Placement as APlacement};
 
     /// The cells in the order of the file.
@@ -99,6 +103,24 @@ impl Tree {
         ensures { IsHull (IsVertex self.now.layout.cells cell pair) result }
     {
         hull_on(self.hulls[cell].as_slice(), pair)
+    }
+
+    /// A box round all that a placement shows, of whatever pair, as the cell that has it counts, within 2^53 of 0. It is
+    /// one where that cell is reachable.
+    pub fn spot(&self, cell: usize, placement: usize) -> Frame
+        requires cell { cell < length self.now.layout.cells }
+        requires placement { placement < length (placements_at self.now.layout.cells cell) }
+        ensures near { IsBoxUpTo (2 ^ 53) result }
+        ensures around { (placed : APlacement) (p : APoint) → IsReachable self.now.layout.cells self.now.top cell
+            → slice_get (placements_at self.now.layout.cells cell) placement ≡ Some placed → IsSpotVertex self.now.layout.cells placed p → IsInBox result p }
+    {
+        let Some(target) = self.linked.targets(cell)[placement] else {
+            return wide();
+        };
+        match whole_hull(self.hulls[target].as_slice()) {
+            Some(hull) => placed_box(&self.linked.placements(cell)[placement], hull),
+            None => wide(),
+        }
     }
 }
 
