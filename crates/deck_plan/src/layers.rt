@@ -56,7 +56,7 @@ pub(crate) fn layer_area<'t>(
     window: Window,
 ) -> Result<Vec<Trap>, NoMemory>
     requires cut { AreCut tree.now.layout.cells tree.now.top parts.now pair }
-    requires boxed { AreAllBoxed tree.now.layout.cells parts.now boxes.now }
+    requires boxed { AreAllBoxed tree.now.layout.cells tree.now.top parts.now boxes.now }
     ensures { IfOk result (λ traps. HasArea window (IsInLayer tree.now.layout.cells tree.now.top pair) traps.items) }
 {
     let mut walk = match Walk::begin_boxed(alloc, tree, parts, boxes, pair, window) {

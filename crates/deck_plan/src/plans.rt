@@ -50,13 +50,13 @@ impl<'t> Model for Plan<'t> {
 
     ghost view = { λ plan. planned plan.deck.now plan.tree.now };
 
-    ghost invariant = { λ plan. IsRead plan.deck.now × AreAllCut plan.tree.now.layout.cells plan.parts × AreAllBoxed plan.tree.now.layout.cells plan.parts plan.boxes };
+    ghost invariant = { λ plan. IsRead plan.deck.now × AreAllCut plan.tree.now.layout.cells plan.parts × AreAllBoxed plan.tree.now.layout.cells plan.tree.now.top plan.parts plan.boxes };
 }
 
 impl<'t> Plan<'t> {
     /// The plan of a deck over a layout's tree. The deck is one that was read. Want of memory is the only refusal.
     ///
-    /// Each shape is cut into its pieces here, once, and a box is put round them.
+    /// Each shape is cut into its pieces here, once, and a box is put round them, and round what each placement shows.
     pub fn new(alloc: Global, deck: &'t Deck, tree: &'t Tree) -> Result<Plan<'t>, NoMemory>
         requires { IsRead deck.now }
         ensures { IfOk result (λ plan. plan ≡ planned deck.now tree.now) }

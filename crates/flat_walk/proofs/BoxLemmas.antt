@@ -19,9 +19,11 @@ use Rattle.layout_model.specs.declared.pair.Pair.{Pair}
 use Rattle.layout_model.specs.declared.orient.Orient.{Orient}
 use Rattle.layout_model.specs.declared.shapes.Shape.{Shape}
 use Rattle.layout_model.specs.declared.cells.Cell.{Cell}
+use Rattle.layout_model.specs.declared.cells.Placement.{Placement}
 use Rattle.cell_tree.specs.Boxes.{IsUpTo, IsBoxUpTo, joined_box, summed_box}
-use Rattle.cell_tree.specs.Cells.{shapes_at}
-use Rattle.flat_walk.specs.Boxes.{IsQuadIn, HasBox, AreBoxed, boxes_at, AreAllBoxed}
+use Rattle.cell_tree.specs.Cells.{shapes_at, placements_at}
+use Rattle.cell_tree.specs.Chains.{IsReachable}
+use Rattle.flat_walk.specs.Boxes.{IsQuadIn, HasBox, AreBoxed, AreNear, AreSpots, boxes_at, AreAllBoxed}
 use Rattle.flat_walk.specs.Tables.{lists_at}
 use Rattle.flat_walk.specs.Quads.{quad_image, moved_quad, has_row_in}
 use Rattle.flat_walk.specs.Walks.{is_on, pieces_of_shape, pieces_of_shapes}
@@ -191,20 +193,6 @@ boxed_after shapes rest lists later [] others shape pieces is are past boxed = s
 boxed_after shapes rest lists later (b ∷ boxes) others shape pieces is are past boxed =
     subst (AreBoxed rest later) (sym past) (subst (λ l. AreBoxed (shape ∷ rest) l (b ∷ boxes)) are (subst (λ s. AreBoxed s lists (b ∷ boxes)) is boxed)).1
 
-pub boxed_first : (shapes rest : List Shape) (lists later : List (List Trapezoid)) (boxes others : List Frame) (shape : Shape) (pieces : List Trapezoid) (box : Frame) → shapes ≡ shape ∷ rest → lists ≡ pieces ∷ later → boxes ≡ box ∷ others
-    → AreBoxed shapes lists boxes → HasBox shape pieces box × AreBoxed rest later others
-boxed_first shapes rest lists later boxes others shape pieces box is are there boxed =
-    subst (λ b. AreBoxed (shape ∷ rest) (pieces ∷ later) b) there (subst (λ l. AreBoxed (shape ∷ rest) l boxes) are (subst (λ s. AreBoxed s lists boxes) is boxed))
-
--- a box that is there is near
-pub boxed_near : (shapes : List Shape) (lists : List (List Trapezoid)) (boxes others : List Frame) (box : Frame) → boxes ≡ box ∷ others → AreBoxed shapes lists boxes → IsBoxUpTo (2 ^ 53) box
-boxed_near shapes lists boxes others box there boxed = by_first shapes lists others box (subst (AreBoxed shapes lists) there boxed)
-  where
-    by_first : (shapes : List Shape) (lists : List (List Trapezoid)) (others : List Frame) (box : Frame) → AreBoxed shapes lists (box ∷ others) → IsBoxUpTo (2 ^ 53) box
-    by_first [] lists others box boxed = absurd boxed
-    by_first (s ∷ shapes) [] others box boxed = absurd boxed
-    by_first (s ∷ shapes) (l ∷ lists) others box boxed = boxed.0.near
-
 get_pushed : {X : Type 0} (xs : List X) (x none : X) (n : ℕ) (P : ℕ → X → Type 0) → P (length xs) x → ((k : ℕ) → P k (get_or xs k none)) → P n (get_or (xs ++ x ∷ []) n none)
 get_pushed [] x none zero P h each = h
 get_pushed [] x none (suc n) P h each = each (suc n)
@@ -212,12 +200,34 @@ get_pushed (y ∷ xs) x none zero P h each = each 0
 get_pushed (y ∷ xs) x none (suc n) P h each = get_pushed xs x none n (λ k. P (suc k)) h (λ k. each (suc k))
 
 -- the boxes of one more cell
-pub cells_more : (cells : List Cell) (table : List (List (List Trapezoid))) (boxes : List (List Frame)) (new : List Frame) → AreAllBoxed cells table boxes → AreBoxed (shapes_at cells (length boxes)) (lists_at table (length boxes)) new
-    → AreAllBoxed cells table (boxes ++ new ∷ [])
+pub cells_more : (cells : List Cell) (table : List (List (List Trapezoid))) (boxes : List (List Frame)) (new : List Frame) → ((n : ℕ) → AreBoxed (shapes_at cells n) (lists_at table n) (boxes_at boxes n))
+    → AreBoxed (shapes_at cells (length boxes)) (lists_at table (length boxes)) new → (n : ℕ) → AreBoxed (shapes_at cells n) (lists_at table n) (boxes_at (boxes ++ new ∷ []) n)
 cells_more cells table boxes new all here = λ n. get_pushed boxes new [] n (λ k list. AreBoxed (shapes_at cells k) (lists_at table k) list) here all
 
-pub cells_none : (cells : List Cell) (table : List (List (List Trapezoid))) → AreAllBoxed cells table []
-cells_none cells table = λ n. boxed_none (shapes_at cells n) (lists_at table n)
+pub spots_more : (cells : List Cell) (top : ℕ) (boxes : List (List Frame)) (new : List Frame) → ((n : ℕ) → IsReachable cells top n → AreSpots cells (placements_at cells n) (boxes_at boxes n))
+    → (IsReachable cells top (length boxes) → AreSpots cells (placements_at cells (length boxes)) new) → (n : ℕ) → IsReachable cells top n → AreSpots cells (placements_at cells n) (boxes_at (boxes ++ new ∷ []) n)
+spots_more cells top boxes new all here = λ n. get_pushed boxes new [] n (λ k list. IsReachable cells top k → AreSpots cells (placements_at cells k) list) here all
+
+pub no_spots : (cells : List Cell) (placements : List Placement) → AreSpots cells placements []
+no_spots cells placements = λ k placement box p here there vertex. absurd (none-some box there)
+
+-- no boxes
+pub none_boxed : (cells : List Cell) (top : ℕ) (table : List (List (List Trapezoid))) → AreAllBoxed cells top table (record { shapes = []; spots = [] })
+none_boxed cells top table = record { shapes = λ n. boxed_none (shapes_at cells n) (lists_at table n); spots = λ n reach. no_spots cells (placements_at cells n) }
+
+-- the boxes of shapes are near, and no more than the shapes
+pub boxed_all_near : (shapes : List Shape) (lists : List (List Trapezoid)) (boxes : List Frame) → AreBoxed shapes lists boxes → AreNear boxes
+boxed_all_near shapes lists [] boxed k box there = absurd (none-some box there)
+boxed_all_near [] lists (b ∷ boxes) boxed k box there = absurd boxed
+boxed_all_near (s ∷ shapes) [] (b ∷ boxes) boxed k box there = absurd boxed
+boxed_all_near (s ∷ shapes) (l ∷ lists) (b ∷ boxes) boxed zero box there = subst (IsBoxUpTo (2 ^ 53)) (same_Some b box there) boxed.0.near
+boxed_all_near (s ∷ shapes) (l ∷ lists) (b ∷ boxes) boxed (suc k) box there = boxed_all_near shapes lists boxes boxed.1 k box there
+
+pub boxed_long : (shapes : List Shape) (lists : List (List Trapezoid)) (boxes : List Frame) → AreBoxed shapes lists boxes → length boxes ≤ length shapes
+boxed_long shapes lists [] boxed = omega arith
+boxed_long [] lists (b ∷ boxes) boxed = absurd boxed
+boxed_long (s ∷ shapes) [] (b ∷ boxes) boxed = absurd boxed
+boxed_long (s ∷ shapes) (l ∷ lists) (b ∷ boxes) boxed = let h = boxed_long shapes lists boxes boxed.1 in omega (arith, h)
 
 -- ---- what is passed by
 
@@ -253,11 +263,9 @@ pub box_shows_none : (w : RowRange) (orient : Orient) (at : Point) (pair : Pair)
 box_shows_none w orient at pair shape pieces place box hides has =
     hidden_list w orient at box (places_rest pair shape pieces place) hides (rest_in box pair shape pieces place (recursion_from_All (IsQuadIn box) (pieces_of_shape shape pieces) has.around))
 
-pub other_shows_none : (w : RowRange) (orient : Orient) (at : Point) (pair : Pair) (shape : Shape) (pieces : List Trapezoid) (place : ℕ) → is_on pair shape ≡ false → ShowsNothing w orient at pair shape pieces place
-other_shows_none w orient at pair shape pieces place off = ap (λ l. filter (shows_in w) (map Some (map (quad_image orient at) l))) (places_off pair shape pieces place off)
-
-pub past_shows_none : (w : RowRange) (orient : Orient) (at : Point) (pair : Pair) (shape : Shape) (pieces : List Trapezoid) (place : ℕ) → length shape.offsets ≤ place → ShowsNothing w orient at pair shape pieces place
-past_shows_none w orient at pair shape pieces place past = ap (λ l. filter (shows_in w) (map Some (map (quad_image orient at) l))) (by_test (is_on pair shape))
+-- a shape that has no more places shows nothing
+pub places_past : (pair : Pair) (shape : Shape) (pieces : List Trapezoid) (place : ℕ) → length shape.offsets ≤ place → places_rest pair shape pieces place ≡ []
+places_past pair shape pieces place past = by_test (is_on pair shape)
   where
     by_test : (on : Bool) → (if on then flat_map (λ by. map (λ piece. moved_quad by (corners_of piece)) pieces) (drop place shape.offsets) else []) ≡ []
     by_test true = ap (flat_map (λ by. map (λ piece. moved_quad by (corners_of piece)) pieces)) (drop_past shape.offsets place past)

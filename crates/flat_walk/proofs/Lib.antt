@@ -12,6 +12,7 @@ pub mod Motions
 pub mod PoseLemmas
 pub mod ReadLemmas
 pub mod BoxLemmas
+pub mod BlockLemmas
 pub mod RestLemmas
 pub mod RingImages
 pub mod ShowLemmas

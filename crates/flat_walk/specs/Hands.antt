@@ -11,6 +11,7 @@ use Rattle.layout_model.specs.Layouts.{IsShapeOnGrid, IsWithin}
 use Rattle.layout_model.specs.declared.pair.Pair.{Pair}
 use Rattle.layout_model.specs.declared.shapes.Shape.{Shape}
 use Rattle.flat_walk.specs.Boxes.{IsQuadIn, AreBoxed}
+use Rattle.flat_walk.specs.Blocks.{boxes_in}
 use Rattle.flat_walk.specs.Ways.{IsBetweenRows}
 use Rattle.flat_walk.specs.declared.rows.Rows.{Rows}
 use Rattle.flat_walk.specs.Rests.{placed_list, placed_rest}
@@ -32,7 +33,8 @@ pub record IsCursor (cursor : Cursor) : Type 0 where
   pub orient : IsOrient cursor.orient
   pub near : IsWithin (2 ^ 54) cursor.at
   pub grid : All IsShapeOnGrid cursor.shapes.now
-  pub boxed : AreBoxed cursor.shapes.now cursor.lists.now cursor.boxes.now
+  pub boxed : AreBoxed cursor.shapes.now cursor.lists.now (drop cursor.number (boxes_in cursor.boxes))
+  pub few : cursor.number + length cursor.shapes.now < 2 ^ 64
 
 -- how many shapes and offsets there are
 abbrev pub steps_of : List Shape → ℕ

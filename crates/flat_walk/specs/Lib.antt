@@ -5,6 +5,7 @@ pub mod Tables
 pub mod Walks
 pub mod Boxes
 -- ---- what is kept inside
+pub mod Blocks
 pub mod Hands
 pub mod Poses
 pub mod Rests

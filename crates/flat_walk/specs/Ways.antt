@@ -21,7 +21,8 @@ use Rattle.cell_tree.specs.Chains.{Link, IsChain, chain_end, chain_factor}
 use Rattle.cell_tree.specs.Trees.{IsTree}
 use Rattle.cell_tree.specs.Flattening.{placed_things}
 use Rattle.flat_walk.specs.Poses.{oriented, composed}
-use Rattle.flat_walk.specs.Boxes.{AreAllBoxed}
+use Rattle.flat_walk.specs.Boxes.{Boxed, AreAllBoxed}
+use Rattle.flat_walk.specs.Blocks.{boxed_in}
 use Rattle.flat_walk.specs.Tables.{AreCut, AreKept}
 use Rattle.flat_walk.specs.Rests.{marked_image, marked}
 use Rattle.flat_walk.specs.declared.scenes.Scene.{Scene}
@@ -36,8 +37,8 @@ cells_of scene = scene.tree.now.layout.cells
 abbrev pub marked_of : Scene → ℕ → List (Option Corners)
 marked_of scene n = marked (cells_of scene) scene.parts.now scene.pair n
 
-abbrev pub boxes_of : Scene → List (List Frame)
-boxes_of scene = map (λ list. list.items) scene.boxes.now
+abbrev pub boxes_of : Scene → Boxed
+boxes_of scene = boxed_in scene.boxes
 
 pub record IsScene (scene : Scene) : Type 0 where
   pub grid : IsLayoutOnGrid scene.tree.now.layout
@@ -45,7 +46,7 @@ pub record IsScene (scene : Scene) : Type 0 where
   pub top : scene.tree.now.top < length (cells_of scene)
   pub kept : AreKept scene.parts.now
   pub cut : AreCut (cells_of scene) scene.tree.now.top scene.parts.now scene.pair
-  pub boxed : AreAllBoxed (cells_of scene) scene.parts.now (boxes_of scene)
+  pub boxed : AreAllBoxed (cells_of scene) scene.tree.now.top scene.parts.now (boxes_of scene)
 
 -- ---- rests
 

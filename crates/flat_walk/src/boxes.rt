@@ -1,44 +1,43 @@
-//! Boxes round what shapes show.
-ghost use Rattle.std.specs.Prelude.{◌≡◌, ◌^◌, ◌<◌, ◌∷◌, [], All, IfOk, length, map, false, slice_get, Some};
-ghost use Rattle.half_grid.specs.Quads.{Corners, corners_of};
-ghost use Rattle.half_grid.specs.declared.plane.Point.{Point as APoint};
+//! Boxes round what shapes and placements show.
+ghost use Rattle.std.specs.Prelude.{◌≡◌, ◌^◌, ◌<◌, ◌∷◌, ℕ, All, IfOk, length, slice_get, Some};
+ghost use Rattle.half_grid.specs.Quads.{corners_of};
 ghost use Rattle.half_grid.specs.Reach.{IsPointWithinReach};
 ghost use Rattle.layout_model.specs.Hulls.{IsInBox};
-ghost use Rattle.layout_model.specs.Images.{IsOrient};
-ghost use Rattle.layout_model.specs.Layouts.{IsShapeOnGrid, IsWithin};
+ghost use Rattle.layout_model.specs.Layouts.{IsShapeOnGrid, IsCellOnGrid};
 ghost use Rattle.cell_tree.specs.Boxes.{joined_box, summed_box, IsBoxUpTo};
-ghost use Rattle.cell_tree.specs.Cells.{shapes_at};
-ghost use Rattle.flat_walk.specs.Boxes.{IsQuadIn, HasBox, AreBoxed, AreAllBoxed, boxes_at};
-ghost use Rattle.flat_walk.specs.Quads.{quad_image, has_row_in};
+ghost use Rattle.cell_tree.specs.Cells.{shapes_at, placements_at};
+ghost use Rattle.cell_tree.specs.Chains.{IsReachable};
+ghost use Rattle.flat_walk.specs.Blocks.{boxes_in, boxed_in};
+ghost use Rattle.flat_walk.specs.Boxes.{IsQuadIn, HasBox, AreBoxed, AreNear, AreSpots, AreAllBoxed, boxes_at};
+ghost use Rattle.flat_walk.specs.Tables.{lists_at};
 
-use crate::levels::{raised, rows_of};
-use crate::rows::meet;
+use crate::blocks::BoxList;
 use crate::tables::{Parts, Pieces};
 use cell_tree::Tree;
 use geo_stream::NoMemory;
-use half_grid::{Frame, Point, Quad, Trap, Window};
-use layout_model::{Cell, Orient, Shape};
+use half_grid::{Frame, Point, Quad, Trap};
+use layout_model::{Cell, Shape};
 use std::alloc::Global;
 use std::marker::Model;
 
-/// For each shape of a tree's cells a box round its pieces at all its places. Contracts see a table that holds, by cell, a
-/// list of boxes.
+/// For each shape of a tree's cells a box round its pieces at all its places, and for each placement one round what it
+/// shows. Contracts see two tables that hold, by cell, a list of boxes.
 #[derive(Drop)]
 pub struct Boxes {
-    cells: Vec<Vec<Frame>>,
+    shapes: Vec<BoxList>,
+    spots: Vec<BoxList>,
 }
 
 impl Model for Boxes {
-    ghost use Rattle.std.specs.Prelude.{List, map};
-    ghost use Rattle.half_grid.specs.declared.extent.Frame.{Frame};
+    ghost use Rattle.flat_walk.specs.Boxes.{Boxed};
 
-    ghost Value = { List (List Frame) };
+    ghost Value = { Boxed };
 
-    ghost view = { λ boxes. map (λ list. list.items) boxes.cells.items };
+    ghost view = { λ boxes. record { shapes = boxes.shapes.items; spots = boxes.spots.items } };
 }
 
-// The least box of two.
-fn joined(a: Frame, b: Frame) -> Frame
+/// The least box of two.
+pub(crate) fn joined(a: Frame, b: Frame) -> Frame
     ensures { result ≡ joined_box a b }
 {
     Frame {
@@ -146,42 +145,113 @@ fn shapes_of(cells: &[Cell], cell: usize) -> &[Shape]
     cells[cell].shapes.as_slice()
 }
 
-/// Whether what a box is round may have a row in the window, where its cell is placed so.
-pub(crate) fn may_show(around: &Frame, orient: Orient, at: Point, window: Window) -> bool
-    requires near { IsBoxUpTo (2 ^ 53) around.now }
-    requires orient { IsOrient orient }
-    requires at { IsWithin (2 ^ 54) at }
-    ensures { result ≡ false → (q : Corners) → IsQuadIn around.now q → has_row_in window (quad_image orient at q) ≡ false }
+// The boxes of the shapes of the first cells.
+fn shape_boxes(alloc: Global, cells: &[Cell], parts: &Parts) -> Result<Vec<BoxList>, NoMemory>
+    requires { All IsCellOnGrid cells.now }
+    ensures { IfOk result (λ lists. (n : ℕ) → AreBoxed (shapes_at cells.now n) (lists_at parts.now n) (boxes_at lists.items n)) }
 {
-    meet(raised(rows_of(orient, *around), at), window)
+    let mut lists = Vec::with_capacity(alloc, cells.len())?;
+    while lists.len() < cells.len() {
+        let cell = lists.len();
+        let boxes = boxes_for(alloc, shapes_of(cells, cell), parts.lists(cell))?;
+        let list = BoxList::of(alloc, boxes)?;
+        lists.push(list)?;
+    }
+    Ok(lists)
 }
 
-/// No boxes.
-pub(crate) fn no_boxes<'t>() -> &'t [Vec<Frame>]
-    ensures { map (λ list. list.items) result.now ≡ [] }
+// How many placements a cell has.
+fn count_of(cells: &[Cell], cell: usize) -> usize
+    requires { cell < length cells.now }
+    ensures { result ≡ length (placements_at cells.now cell) }
 {
-    &[]
+    cells[cell].placements.as_slice().len()
+}
+
+// The boxes of a cell's placements.
+fn spots_for(alloc: Global, tree: &Tree, cell: usize) -> Result<Vec<Frame>, NoMemory>
+    requires { cell < length tree.now.layout.cells }
+    ensures near { IfOk result (λ boxes. AreNear boxes.items) }
+    ensures around { IfOk result (λ boxes. IsReachable tree.now.layout.cells tree.now.top cell
+        → AreSpots tree.now.layout.cells (placements_at tree.now.layout.cells cell) boxes.items) }
+{
+    let count = count_of(tree.cells(), cell);
+    let mut boxes = Vec::with_capacity(alloc, count)?;
+    while boxes.len() < count {
+        let number = boxes.len();
+        let around = tree.spot(cell, number);
+        boxes.push(around)?;
+    }
+    Ok(boxes)
+}
+
+// The boxes of the placements of the tree's cells.
+fn spot_boxes(alloc: Global, tree: &Tree) -> Result<Vec<BoxList>, NoMemory>
+    ensures { IfOk result (λ lists. (n : ℕ) → IsReachable tree.now.layout.cells tree.now.top n
+        → AreSpots tree.now.layout.cells (placements_at tree.now.layout.cells n) (boxes_at lists.items n)) }
+{
+    let count = tree.cells().len();
+    let mut lists = Vec::with_capacity(alloc, count)?;
+    while lists.len() < count {
+        let cell = lists.len();
+        let boxes = spots_for(alloc, tree, cell)?;
+        let list = BoxList::of(alloc, boxes)?;
+        lists.push(list)?;
+    }
+    Ok(lists)
+}
+
+// Those of a cell, if there are some.
+fn list_of(lists: &[BoxList], cell: usize) -> Option<&BoxList>
+    ensures { boxes_in result ≡ boxes_at lists.now cell }
+{
+    match lists.get(cell) {
+        Some(list) => Some(list),
+        None => None,
+    }
+}
+
+/// The boxes of a cell's shapes, if there are some.
+pub(crate) fn shapes_in(boxes: Option<&Boxes>, cell: usize) -> Option<&BoxList>
+    ensures { boxes_in result ≡ boxes_at (boxed_in boxes.entry).shapes cell }
+{
+    match boxes {
+        Some(boxes) => boxes.shapes_of(cell),
+        None => None,
+    }
+}
+
+/// The boxes of a cell's placements, if there are some.
+pub(crate) fn spots_in(boxes: Option<&Boxes>, cell: usize) -> Option<&BoxList>
+    ensures { boxes_in result ≡ boxes_at (boxed_in boxes.entry).spots cell }
+{
+    match boxes {
+        Some(boxes) => boxes.spots_of(cell),
+        None => None,
+    }
 }
 
 impl Boxes {
-    /// The box of each shape of the tree's cells, round its pieces at all its places.
+    /// The box of each shape and placement of the tree's cells.
     pub fn of(alloc: Global, tree: &Tree, parts: &Parts) -> Result<Boxes, NoMemory>
-        ensures { IfOk result (λ boxes. AreAllBoxed tree.now.layout.cells parts.now boxes) }
+        ensures { IfOk result (λ boxes. AreAllBoxed tree.now.layout.cells tree.now.top parts.now boxes) }
     {
-        let cells = tree.cells();
-        let mut table = Vec::with_capacity(alloc, cells.len())?;
-        while table.len() < cells.len() {
-            let cell = table.len();
-            let boxes = boxes_for(alloc, shapes_of(cells, cell), parts.lists(cell))?;
-            table.push(boxes)?;
-        }
-        Ok(Boxes { cells: table })
+        let shapes = shape_boxes(alloc, tree.cells(), parts)?;
+        let spots = spot_boxes(alloc, tree)?;
+        Ok(Boxes { shapes, spots })
     }
 
-    // The boxes by cell.
-    pub(crate) fn as_slice(&self) -> &[Vec<Frame>]
-        ensures { map (λ list. list.items) result.now ≡ self.now }
+    // The boxes of a cell's shapes, if there are some.
+    fn shapes_of(&self, cell: usize) -> Option<&BoxList>
+        ensures { boxes_in result ≡ boxes_at self.now.shapes cell }
     {
-        self.cells.as_slice()
+        list_of(self.shapes.as_slice(), cell)
+    }
+
+    // The boxes of a cell's placements, if there are some.
+    fn spots_of(&self, cell: usize) -> Option<&BoxList>
+        ensures { boxes_in result ≡ boxes_at self.now.spots cell }
+    {
+        list_of(self.spots.as_slice(), cell)
     }
 }

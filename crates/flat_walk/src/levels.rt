@@ -8,8 +8,10 @@ ghost use Rattle.layout_model.specs.Layouts.{IsWithin, IsPlacementOnGrid};
 ghost use Rattle.cell_tree.specs.Cells.{placements_at};
 ghost use Rattle.flat_walk.specs.Rests.{Skips, marked_image};
 ghost use Rattle.flat_walk.specs.Rises.{HasNoneBefore};
-ghost use Rattle.flat_walk.specs.Ways.{low_corner, high_corner, IsScene, cells_of, marked_of, run_rest, things_at, level_rest, IsBetweenRows, IsRun, IsLevel, IsSpot, IsSamePlace, IsInner};
+ghost use Rattle.flat_walk.specs.Ways.{low_corner, high_corner, IsScene, cells_of, marked_of, run_rest, things_at, placements_rest, level_rest, IsBetweenRows, IsRun, IsLevel, IsSpot, IsSamePlace, IsInner};
 
+use crate::blocks::next_in;
+use crate::boxes::spots_in;
 use crate::rises::places_in;
 use crate::rows::{Rows, meet, rows_between};
 use crate::scenes::Scene;
@@ -243,6 +245,23 @@ impl<'t> Level<'t> {
         })
     }
 
+    // The number of the cell's next placement by whose box it may have something in the window.
+    fn onward(&self, scene: &Scene<'t>) -> usize
+        requires scene { IsScene scene.now }
+        requires level { IsLevel scene.now self.now }
+        ensures later { self.now.next ≤ result }
+        ensures skips { Skips scene.now.window (placements_rest scene.now self.now.orient self.now.at self.now.cell self.now.next)
+            (placements_rest scene.now self.now.orient self.now.at self.now.cell result) }
+    {
+        next_in(
+            spots_in(scene.boxes, self.cell),
+            self.next,
+            self.orient,
+            self.at,
+            scene.window,
+        )
+    }
+
     /// The next placed cell that may have rows in the window.
     pub(crate) fn next(&mut self, scene: &Scene<'t>) -> Option<Level<'t>>
         requires scene { IsScene scene.now }
@@ -260,11 +279,12 @@ impl<'t> Level<'t> {
             if found.is_some() {
                 return found;
             }
-            let Some(placement) = placements_of(scene, self.cell).get(self.next) else {
+            let next = self.onward(scene);
+            let Some(placement) = placements_of(scene, self.cell).get(next) else {
                 return None;
             };
-            self.run = self.run_of(scene, placement, self.next);
-            self.next += 1;
+            self.run = self.run_of(scene, placement, next);
+            self.next = next + 1;
         }
     }
 }

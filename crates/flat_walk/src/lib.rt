@@ -4,6 +4,7 @@
 //! in the order of the flattened layout. Lengths are half units.
 #![tactic(auto)]
 
+mod blocks;
 mod boxes;
 mod levels;
 mod owned;

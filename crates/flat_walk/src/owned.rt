@@ -5,20 +5,21 @@ ghost use Rattle.layout_model.specs.Images.{IsOrient};
 ghost use Rattle.layout_model.specs.declared.pair.Pair.{Pair as APair};
 ghost use Rattle.layout_model.specs.Layouts.{IsShapeOnGrid, IsWithin};
 ghost use Rattle.flat_walk.specs.Quads.{quad_image};
-ghost use Rattle.flat_walk.specs.Rests.{IsMarkedQuad, Skips, Gives, ShowsNothing, places_rest, placed_rest};
-ghost use Rattle.cell_tree.specs.Boxes.{IsBoxUpTo};
+ghost use Rattle.flat_walk.specs.Rests.{IsMarkedQuad, Skips, Gives, places_rest, placed_rest};
 ghost use Rattle.half_grid.specs.Trapezoids.{Trapezoid};
-ghost use Rattle.flat_walk.specs.Boxes.{HasBox, AreBoxed};
+ghost use Rattle.flat_walk.specs.Blocks.{boxes_in};
+ghost use Rattle.flat_walk.specs.Boxes.{AreBoxed};
 ghost use Rattle.flat_walk.specs.Rises.{HasNoPlaceBefore};
 ghost use Rattle.flat_walk.specs.Hands.{hand_list, IsHand, cursor_list, IsCursor, steps_left, own_rest, IsOwn, IsLongRun};
 
-use crate::boxes::{box_of_pieces, may_show};
+use crate::blocks::{BoxList, next_in};
+use crate::boxes::box_of_pieces;
 use crate::levels::rows_of;
 use crate::rises::places_in;
 use crate::rows::{Rows, has_row};
 use crate::tables::Pieces;
 use crate::turning::image;
-use half_grid::{Frame, Point, Quad, Trap, Window};
+use half_grid::{Point, Quad, Trap, Window};
 use layout_model::{Orient, Pair, Shape};
 
 // The places of a shape that has no more of them are gone through one by one.
@@ -34,13 +35,15 @@ pub(crate) struct Hand<'t> {
     at: Point,
 }
 
-// Shapes with the pieces of each, boxes round what the first of them show, and how their cell is placed. Of the first shape those offsets are left whose number is
-// at least `place`.
+// The shapes of a cell from one on with the pieces of each, boxes round what the cell's shapes show, and how the cell is
+// placed. Of the first shape those offsets are left whose number is at least `place`.
 #[derive(Clone, Copy)]
 pub(crate) struct Cursor<'t> {
     shapes: &'t [Shape],
     lists: &'t [Pieces],
-    boxes: &'t [Frame],
+    boxes: Option<&'t BoxList>,
+    // The number of the first shape in the cell.
+    number: usize,
     place: u64,
     orient: Orient,
     at: Point,
@@ -136,23 +139,16 @@ impl<'t> Cursor<'t> {
             }
             self.shapes = shapes;
             self.lists = lists;
-            self.boxes = after_first(self.boxes);
+            self.number += 1;
             self.place = 0;
         }
         None
     }
 
-    // Whether the first shape, which is in this box, may have something in the window from the current place on.
-    fn has_more(&self, shape: &Shape, around: &Frame, pair: Pair, window: Window) -> bool
-        requires orient { IsOrient self.now.orient }
-        requires near { IsWithin (2 ^ 54) self.now.at }
-        requires boxed { IsBoxUpTo (2 ^ 53) around.now }
-        ensures { result ≡ false → (pieces : List Trapezoid) → HasBox shape.now pieces around.now
-            → ShowsNothing window self.now.orient self.now.at pair shape.now pieces self.now.place }
+    // Whether the first shape is on the pair and has a place left.
+    fn has_more(&self, shape: &Shape, pair: Pair) -> bool
+        ensures { result ≡ false → (pieces : List Trapezoid) → places_rest pair shape.now pieces self.now.place ≡ [] }
     {
-        if !may_show(around, self.orient, self.at, window) {
-            return false;
-        }
         if shape.pair != pair {
             return false;
         }
@@ -162,6 +158,25 @@ impl<'t> Cursor<'t> {
         true
     }
 
+    // Passes by the shapes, from the first one on, that have boxes beside the window.
+    fn pass_boxes(&mut self, window: Window)
+        requires { IsCursor self.old }
+        ensures cursor { IsCursor self.new }
+        ensures skips { (pair : APair) → Skips window (map Some (cursor_list pair self.old)) (map Some (cursor_list pair self.new)) }
+        ensures steps { steps_left self.new ≤ steps_left self.old }
+        ensures shorter { length self.new.shapes.now ≤ length self.old.shapes.now }
+    {
+        let next = next_in(self.boxes, self.number, self.orient, self.at, window);
+        if next == self.number {
+            return;
+        }
+        let count = next - self.number;
+        self.shapes = rest(self.shapes, count);
+        self.lists = rest(self.lists, count);
+        self.number = next;
+        self.place = 0;
+    }
+
     // Passes by the shapes, from the first one on, that have nothing more in the window.
     fn pass_by(&mut self, pair: Pair, window: Window)
         requires { IsCursor self.old }
@@ -169,11 +184,12 @@ impl<'t> Cursor<'t> {
         ensures skips { Skips window (map Some (cursor_list pair self.old)) (map Some (cursor_list pair self.new)) }
         ensures steps { steps_left self.new ≤ steps_left self.old }
     {
-        while let Some((around, boxes)) = self.boxes.split_first() {
+        loop {
+            self.pass_boxes(window);
             let Some((shape, shapes)) = self.shapes.split_first() else {
                 return;
             };
-            if self.has_more(shape, around, pair, window) {
+            if self.has_more(shape, pair) {
                 return;
             }
             let Some((_list, lists)) = self.lists.split_first() else {
@@ -181,7 +197,7 @@ impl<'t> Cursor<'t> {
             };
             self.shapes = shapes;
             self.lists = lists;
-            self.boxes = boxes;
+            self.number += 1;
             self.place = 0;
         }
     }
@@ -246,13 +262,14 @@ impl<'t> Cursor<'t> {
     }
 }
 
-// All but the first box, where there is one.
-fn after_first(boxes: &[Frame]) -> &[Frame]
-    ensures { result.now ≡ drop 1 boxes.now }
+// All but so many, or none where there are fewer.
+fn rest<T>(items: &[T], count: usize) -> &[T]
+    ensures { result.now ≡ drop count items.now }
 {
-    match boxes.split_first() {
-        Some((_first, others)) => others,
-        None => boxes,
+    if count <= items.len() {
+        &items[count..]
+    } else {
+        &[]
     }
 }
 
@@ -261,14 +278,14 @@ impl<'t> Own<'t> {
     pub(crate) fn of(
         shapes: &'t [Shape],
         lists: &'t [Pieces],
-        boxes: &'t [Frame],
+        boxes: Option<&'t BoxList>,
         orient: Orient,
         at: Point,
     ) -> Own<'t>
         requires orient { IsOrient orient }
         requires near { IsWithin (2 ^ 54) at }
         requires grid { All IsShapeOnGrid shapes.now }
-        requires boxed { AreBoxed shapes.now lists.now boxes.now }
+        requires boxed { AreBoxed shapes.now lists.now (boxes_in boxes) }
         ensures own { IsOwn result }
         ensures list { (pair : APair) → own_rest pair result ≡ map Some (placed_rest orient at pair shapes.now lists.now 0) }
     {
@@ -282,6 +299,7 @@ impl<'t> Own<'t> {
                 shapes,
                 lists,
                 boxes,
+                number: 0,
                 place: 0,
                 orient,
                 at,

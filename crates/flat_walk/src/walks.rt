@@ -6,15 +6,15 @@ ghost use Rattle.half_grid.specs.Outlines.{HasGridEdges};
 ghost use Rattle.half_grid.specs.Quads.{IsQuad, Corners, ring_of};
 ghost use Rattle.layout_model.specs.declared.pair.Pair.{Pair as APair};
 ghost use Rattle.cell_tree.specs.Cells.{shapes_at};
-ghost use Rattle.flat_walk.specs.Boxes.{AreAllBoxed, boxes_at};
+ghost use Rattle.flat_walk.specs.Boxes.{AreAllBoxed};
 ghost use Rattle.flat_walk.specs.Tables.{AreCut, lists_at};
 ghost use Rattle.flat_walk.specs.Walks.{pieces_in, CoversLayer};
 ghost use Rattle.flat_walk.specs.Rests.{Skips, shows_in, placed_rest};
 ghost use Rattle.flat_walk.specs.Hands.{own_rest, IsOwn};
-ghost use Rattle.flat_walk.specs.Ways.{IsScene, cells_of, boxes_of, marked_of, levels_rest, IsLevel, AreLevels};
+ghost use Rattle.flat_walk.specs.Ways.{IsScene, cells_of, marked_of, levels_rest, IsLevel, AreLevels};
 ghost use Rattle.flat_walk.specs.Streams.{StandsForWalk, walk_size, Walk-one_list, Walk-no_longer, Walk-bounded};
 
-use crate::boxes::{Boxes, no_boxes};
+use crate::boxes::{Boxes, shapes_in};
 use crate::levels::{Level, raised, rows_of};
 use crate::owned::Own;
 use crate::rows::meet;
@@ -22,7 +22,7 @@ use crate::scenes::Scene;
 use crate::tables::Parts;
 use cell_tree::Tree;
 use geo_stream::{NoMemory, Stream};
-use half_grid::{Frame, Point, Quad, Window};
+use half_grid::{Point, Quad, Window};
 use layout_model::{Orient, Pair, Shape};
 use std::alloc::Global;
 
@@ -68,16 +68,6 @@ fn shapes_of<'t>(scene: &Scene<'t>, cell: usize) -> &'t [Shape]
     cells[cell].shapes.as_slice()
 }
 
-// The boxes of the shapes of a cell.
-fn boxes_of<'t>(scene: &Scene<'t>, cell: usize) -> &'t [Frame]
-    ensures { result.now ≡ boxes_at (boxes_of scene.now) cell }
-{
-    match scene.boxes.get(cell) {
-        Some(boxes) => boxes.as_slice(),
-        None => &[],
-    }
-}
-
 // All that the own shapes of a cell on the way show.
 fn own_of<'t>(scene: &Scene<'t>, level: &Level<'t>) -> Own<'t>
     requires scene { IsScene scene.now }
@@ -88,7 +78,7 @@ fn own_of<'t>(scene: &Scene<'t>, level: &Level<'t>) -> Own<'t>
 {
     let shapes = shapes_of(scene, level.cell());
     let lists = scene.parts.lists(level.cell());
-    let boxes = boxes_of(scene, level.cell());
+    let boxes = shapes_in(scene.boxes, level.cell());
     Own::of(shapes, lists, boxes, level.orient(), level.at())
 }
 
@@ -124,7 +114,7 @@ fn enter_top<'t>(levels: &mut Vec<Level<'t>>, scene: &Scene<'t>) -> Own<'t>
         (pieces_in (cells_of scene.now) scene.now.tree.now.top scene.now.parts.now scene.now.pair scene.now.window) }
 {
     if !top_meets(scene) {
-        return Own::of(&[], &[], &[], UPRIGHT, ORIGIN);
+        return Own::of(&[], &[], None, UPRIGHT, ORIGIN);
     }
     let level = Level::of(scene.tree.top(), UPRIGHT, ORIGIN, 0);
     let own = own_of(scene, &level);
@@ -158,7 +148,7 @@ impl<'t> Walk<'t> {
         let scene = Scene {
             tree,
             parts,
-            boxes: no_boxes(),
+            boxes: None,
             pair,
             window,
         };
@@ -167,8 +157,8 @@ impl<'t> Walk<'t> {
         Ok(Walk { scene, own, levels })
     }
 
-    /// The same stream. By the boxes of the shapes it passes by those that have nothing in the window, and looks at no
-    /// more of them.
+    /// The same stream. By the boxes of shapes and placements it passes by those that have nothing in the window, 64 at a
+    /// time where these lie apart from it, and looks at no more of them.
     pub fn begin_boxed(
         alloc: Global,
         tree: &'t Tree,
@@ -178,7 +168,7 @@ impl<'t> Walk<'t> {
         window: Window,
     ) -> Result<Walk<'t>, NoMemory>
         requires cut { AreCut tree.now.layout.cells tree.now.top parts.now pair }
-        requires boxed { AreAllBoxed tree.now.layout.cells parts.now boxes.now }
+        requires boxed { AreAllBoxed tree.now.layout.cells tree.now.top parts.now boxes.now }
         ensures list { IfOk result (λ walk. ⟦<Walk<'t> as Stream>⟧.stands_for walk
             (pieces_in tree.entry.now.layout.cells tree.entry.now.top parts.entry.now pair window)) }
         ensures quads { All IsQuad (pieces_in tree.now.layout.cells tree.now.top parts.now pair window) }
@@ -193,7 +183,7 @@ impl<'t> Walk<'t> {
         let scene = Scene {
             tree,
             parts,
-            boxes: boxes.as_slice(),
+            boxes: Some(boxes),
             pair,
             window,
         };

@@ -1,7 +1,7 @@
 use Rattle.std.proofs.Common.{◌≡◌, ◌∙◌, ap, sym, subst}
 use Rattle.flat_walk.proofs.ShowLemmas.{meet_off}
 use Rattle.flat_walk.proofs.BoxLemmas.{box_hides}
-use Rattle.flat_walk.proofs.boxes.may_show.Goals as goal
+use Rattle.flat_walk.proofs.blocks.may_show.Goals as goal
 
 pub returns : goal.returns
 returns c = λ no q inside.

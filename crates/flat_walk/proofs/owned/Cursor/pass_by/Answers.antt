@@ -1,35 +1,43 @@
-use Rattle.std.proofs.Common.{◌∙◌, sym, ap, subst, arith, refl, ◌≡◌, All, map, Some}
+use Rattle.std.proofs.Common.{◌∙◌, ◌+◌, sym, ap, subst, arith, refl, ◌≡◌, All, map, Some, length}
 use Rattle.std.proofs.lemmas.List.Elements.{All-tail}
 use Rattle.layout_model.specs.Layouts.{IsShapeOnGrid}
+use Rattle.flat_walk.specs.Blocks.{boxes_in}
 use Rattle.flat_walk.specs.Hands.{cursor_list}
-use Rattle.flat_walk.proofs.RestLemmas.{skip_same, steps_skip}
-use Rattle.flat_walk.proofs.BoxLemmas.{boxed_near, boxed_first, shape_passed}
+use Rattle.flat_walk.proofs.RestLemmas.{skip_same, skip_on, cursor_skip, steps_skip}
+use Rattle.flat_walk.proofs.BlockLemmas.{drop_on}
+use Rattle.flat_walk.proofs.BoxLemmas.{boxed_after}
 use Rattle.flat_walk.proofs.owned.Cursor.pass_by.Goals as goal
 
-pub loop-around-init : goal.loop-around-init
-loop-around-init c = record { cursor = c.requires; skips = skip_same c.args.window _ _ refl; steps = omega arith }
+pub loop-shape-init : goal.loop-shape-init
+loop-shape-init c = record { cursor = c.requires; skips = skip_same c.args.window _ _ refl; steps = omega arith }
 
-pub has_more-requires-clause-boxed : goal.has_more-requires-clause-boxed
-has_more-requires-clause-boxed c =
-    let s = c.loop-around.self in
-    boxed_near s.shapes.now s.lists.now s.boxes.now c.in-Some.boxes.now c.in-Some.around.now c.in-Some.ensures.cases.0 c.loop-around.invariant.cursor.boxed
-
-pub loop-around-preserved : goal.loop-around-preserved
-loop-around-preserved c =
-    let s = c.loop-around.self in
-    let i = c.loop-around.invariant in
-    let there = c.in-Some.ensures.cases.0 in
-    let is = c.in-Some-split_first.ensures.cases.0 in
-    let are = c.in-Some-split_first-2.ensures.cases.0 in
-    let first = boxed_first s.shapes.now c.in-Some-split_first.shapes.now s.lists.now c.in-Some-split_first-2.lists.now s.boxes.now c.in-Some.boxes.now c.in-Some-split_first.shape.now c.in-Some-split_first-2._list.now c.in-Some.around.now is are there i.cursor.boxed in
+pub loop-shape-preserved : goal.loop-shape-preserved
+loop-shape-preserved c =
+    let s = c.pass_boxes.new.self in
+    let i = c.loop-shape.invariant in
+    let p = c.pass_boxes.ensures in
+    let same = c.in-Some.ensures.cases.0 in
+    let are = c.in-Some-split_first.ensures.cases.0 in
     record {
       cursor = record {
-        orient = i.cursor.orient;
-        near = i.cursor.near;
-        grid = All-tail IsShapeOnGrid c.in-Some-split_first.shape.now c.in-Some-split_first.shapes.now (subst (All IsShapeOnGrid) is i.cursor.grid);
-        boxed = first.1;
+        orient = p.cursor.orient;
+        near = p.cursor.near;
+        grid = All-tail IsShapeOnGrid c.in-Some.shape.now c.in-Some.shapes.now (subst (All IsShapeOnGrid) same p.cursor.grid);
+        boxed = boxed_after s.shapes.now c.in-Some.shapes.now s.lists.now c.in-Some-split_first.lists.now _ _ c.in-Some.shape.now c.in-Some-split_first._list.now same are
+            (sym (drop_on s.number 1 (s.number + 1) (boxes_in s.boxes) refl)) p.cursor.boxed;
+        few = let e = ap length same in let f = p.cursor.few in omega (arith, e, f);
       };
-      skips = shape_passed c.args.window (map Some (cursor_list c.args.pair c.args.self.now)) s.orient s.at c.args.pair s.shapes.now c.in-Some-split_first.shapes.now c.in-Some-split_first.shape.now
-          s.lists.now c.in-Some-split_first-2.lists.now c.in-Some-split_first-2._list.now s.place is are (c.has_more.ensures c.if-has_more.false c.in-Some-split_first-2._list.now first.0) i.skips;
-      steps = let h = steps_skip s.shapes.now c.in-Some-split_first.shapes.now c.in-Some-split_first.shape.now s.place is in omega (arith, h, i.steps);
+      skips = skip_on c.args.window _ _ _ i.skips (skip_on c.args.window _ _ _ (p.skips c.args.pair) (skip_same c.args.window _ _ (ap (map Some)
+          (cursor_skip s.orient s.at c.args.pair s.shapes.now c.in-Some.shapes.now c.in-Some.shape.now s.lists.now c.in-Some-split_first.lists.now c.in-Some-split_first._list.now s.place same are
+          (c.has_more.ensures c.if-has_more.false c.in-Some-split_first._list.now)))));
+      steps = let h = steps_skip s.shapes.now c.in-Some.shapes.now c.in-Some.shape.now s.place same in omega (arith, h, p.steps, i.steps);
     }
+
+pub returns-in_default-clause-skips : goal.returns-in_default-clause-skips
+returns-in_default-clause-skips c = skip_on c.args.window _ _ _ c.loop-shape.invariant.skips (c.pass_boxes.ensures.skips c.args.pair)
+
+pub returns-then-has_more-clause-skips : goal.returns-then-has_more-clause-skips
+returns-then-has_more-clause-skips c = skip_on c.args.window _ _ _ c.loop-shape.invariant.skips (c.pass_boxes.ensures.skips c.args.pair)
+
+pub returns-in_default-split_first-clause-skips : goal.returns-in_default-split_first-clause-skips
+returns-in_default-split_first-clause-skips c = skip_on c.args.window _ _ _ c.loop-shape.invariant.skips (c.pass_boxes.ensures.skips c.args.pair)
