@@ -1,5 +1,5 @@
 -- Set operations whose list is one of the two: where a list is empty, or a rectangle has all of the other.
-use Rattle.std.proofs.Common.{◌≡◌, ◌⊎◌, inl, inr, ◌↔◌, ◌≤◌, ◌≤ℤ◌, ◌<ℤ◌, ℤ, List, [], All, Contains, sym, subst, arith}
+use Rattle.std.proofs.Common.{◌≡◌, inl, inr, ◌↔◌, ◌≤◌, ◌≤ℤ◌, ◌<ℤ◌, ℤ, List, [], All, Contains, subst, arith}
 use Rattle.std.proofs.lemmas.Int.{ints, clamps}
 use Rattle.std.proofs.lemmas.List.Elements.{All-contains}
 use Rattle.std.specs.Int.{int_min, int_max}
@@ -11,6 +11,8 @@ use Rattle.half_grid.specs.declared.plane.Tile.{Tile}
 use Rattle.half_grid.specs.declared.plane.Line.{Line}
 use Rattle.half_grid.specs.declared.plane.Line.TheVariants.{Upright}
 use Rattle.half_grid.specs.declared.extent.Frame.{Frame}
+use Rattle.half_grid.specs.declared.border.Operand.{Operand}
+use Rattle.half_grid.specs.declared.border.Operand.TheVariants.{A, B}
 use Rattle.half_grid.proofs.ForCallers.{has_in, in_has}
 use Rattle.trap_join.proofs.ForCallers.{found, counted}
 use Rattle.square_size.specs.EdgeLaws.{IsInSome}
@@ -19,6 +21,7 @@ use Rattle.bool_ops.specs.declared.operations.Op.TheVariants.{Or, And, Sub, Xor}
 use Rattle.bool_ops.specs.Operations.{IsInRows}
 use Rattle.deck_plan.specs.Bounds.{IsAround}
 use Rattle.deck_plan.specs.Lists.{HasArea, IsJoinedSomewhere, OfBoth}
+use Rattle.deck_plan.specs.Moves.{list_of}
 use Rattle.deck_plan.proofs.Boxes.{some_in_box}
 
 -- a joined list in another window that has all of its trapezoids
@@ -32,7 +35,7 @@ joined_in own window traps joined inside = record {
   in_order = joined.in_order;
 }
 
-rows_of_some : (window : RowRange) (traps : List Trapezoid) (t : Tile) → All (IsInWindow window) traps → IsInSome traps t → IsInRows window t
+pub rows_of_some : (window : RowRange) (traps : List Trapezoid) (t : Tile) → All (IsInWindow window) traps → IsInSome traps t → IsInRows window t
 rows_of_some window traps t all some =
     let f = found t traps some in
     let w = All-contains (IsInWindow window) traps f.0 all f.1 in
@@ -47,9 +50,9 @@ kept_has window area list somewhere inside same = record {
   all = λ t rows h. (same t).1 h;
 }
 
-pub one_of_joined : (a b list : List Trapezoid) → (list ≡ a) ⊎ (list ≡ b) → IsJoinedSomewhere a → IsJoinedSomewhere b → IsJoinedSomewhere list
-one_of_joined a b list (inl e) h k = subst IsJoinedSomewhere (sym e) h
-one_of_joined a b list (inr e) h k = subst IsJoinedSomewhere (sym e) k
+pub one_of_joined : (operand : Operand) (a b : List Trapezoid) → IsJoinedSomewhere a → IsJoinedSomewhere b → IsJoinedSomewhere (list_of operand a b)
+one_of_joined A a b h k = h
+one_of_joined B a b h k = k
 
 -- ---- a rectangle that has all of a list
 

@@ -17,4 +17,6 @@ pub mod ExtentLemmas
 pub mod PieceLemmas
 pub mod Arms
 pub mod KeptLemmas
+pub mod ImageLemmas
+pub mod MoveLemmas
 pub mod ReadyLemmas

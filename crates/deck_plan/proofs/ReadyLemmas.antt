@@ -38,10 +38,15 @@ map_put : {V : Type 0} (f : V → List Trapezoid) (vs : List V) (v : V) → map 
 map_put f [] v = refl
 map_put f (w ∷ vs) v = ap (λ rest. f w ∷ rest) (map_put f vs v)
 
-map_set : {V : Type 0} (f : V → List Trapezoid) (vs : List V) (n : ℕ) (v : V) → map f (set vs n v) ≡ set (map f vs) n (f v)
+pub map_set : {V : Type 0} (f : V → List Trapezoid) (vs : List V) (n : ℕ) (v : V) → map f (set vs n v) ≡ set (map f vs) n (f v)
 map_set f [] n v = refl
 map_set f (w ∷ vs) zero v = refl
 map_set f (w ∷ vs) (suc n) v = ap (λ rest. f w ∷ rest) (map_set f vs n v)
+
+pub taken_list : {V : Type 0} (f : V → List Trapezoid) (vs : List V) (n : ℕ) (v : V) → n < length vs → v ≡ get_or vs n v → f v ≡ list_at (map f vs) n
+taken_list f [] n v inside e = absurd (omega (arith, inside))
+taken_list f (w ∷ vs) zero v inside e = ap f e
+taken_list f (w ∷ vs) (suc n) v inside e = taken_list f vs n v (omega (arith, inside)) e
 
 chosen : (lists : List (List Trapezoid)) (n : ℕ) (test : Bool) → test ≡ true → set lists n [] ≡ (if test then set lists n [] else lists)
 chosen lists n true e = refl
@@ -205,9 +210,12 @@ module _ (cells : List Cell) (top : ℕ) (deck : Deck) (band : RowRange) (needs 
   held_on : (from n : ℕ) (traps : List Trapezoid) → Held from n traps → Held (from + 1) n traps
   held_on from n traps h = elim h [ inl r ↦ inl r | inr gone ↦ inr (gone.0, λ need is. (let past = gone.1 need is in omega (arith, past))) ]
 
-  held_put : (lists : List (List Trapezoid)) (traps : List Trapezoid) → All_held (length lists) lists → Ready (length lists) traps → All_held (length lists + 1) (lists ++ traps ∷ [])
+  pub all_held_on : (from : ℕ) (lists : List (List Trapezoid)) → All_held from lists → All_held (from + 1) lists
+  all_held_on from lists held m inside = held_on from m (list_at lists m) (held m inside)
+
+  held_put : (lists : List (List Trapezoid)) (traps : List Trapezoid) → All_held (length lists + 1) lists → Ready (length lists) traps → All_held (length lists + 1) (lists ++ traps ∷ [])
   held_put lists traps before new m inside = elim (at_last m (length lists) (omega (arith, inside, length-append lists (traps ∷ [])))) [
-    | inl early ↦ held_on (length lists) m (list_at (lists ++ traps ∷ []) m) (subst (λ list. Held (length lists) m list) (sym (put_before lists traps m early)) (before m early))
+    | inl early ↦ subst (λ list. Held (length lists + 1) m list) (sym (put_before lists traps m early)) (before m early)
     | inr last ↦ inl (subst (λ k. Ready k (list_at (lists ++ traps ∷ []) k)) (sym last) (subst (λ list. Ready (length lists) list) (sym (put_last lists traps)) new))
   ]
 
@@ -227,6 +235,10 @@ module _ (cells : List Cell) (top : ℕ) (deck : Deck) (band : RowRange) (needs 
         | inr other ↦ subst (λ traps. Held (user + 1) m traps) (sym other.1) (held m early)
       ]
 
+  -- the list of an operand is moved, which no later definition takes
+  pub held_moved : (user n : ℕ) (lists : List (List Trapezoid)) → n < length lists → ends_at (get_or needs n None) user ≡ true → All_held user lists → All_held (user + 1) (set lists n [])
+  held_moved user n lists inside ends held = held_one user n lists inside (past_last user n (get_or needs n None) ends refl) (all_held_on user lists held)
+
   by_test : (user n : ℕ) (lists : List (List Trapezoid)) (test : Bool) → ends_at (get_or needs n None) user ≡ test → n < length lists → All_held (user + 1) lists → All_held (user + 1) (if test then set lists n [] else lists)
   by_test user n lists true e inside held = held_one user n lists inside (past_last user n (get_or needs n None) e refl) held
   by_test user n lists false e inside held = held
@@ -239,7 +251,7 @@ module _ (cells : List Cell) (top : ℕ) (deck : Deck) (band : RowRange) (needs 
   inside_still operand n k e h = subst (λ k. IfSome operand (λ operand. operand.name < k)) e h
 
   -- what is held once the next definition is done, which has these operands
-  pub held_next : (lists : List (List Trapezoid)) (traps : List Trapezoid) (first second : Option Taken) → All_held (length lists) lists → Ready (length lists) traps
+  pub held_next : (lists : List (List Trapezoid)) (traps : List Trapezoid) (first second : Option Taken) → All_held (length lists + 1) lists → Ready (length lists) traps
       → IfSome first (λ operand. operand.name < length lists + 1) → IfSome second (λ operand. operand.name < length lists + 1)
       → All_held (length lists + 1) (let_go needs (length lists) second (let_go needs (length lists) first (lists ++ traps ∷ [])))
   held_next lists traps first second held ready one two =
@@ -250,7 +262,7 @@ module _ (cells : List Cell) (top : ℕ) (deck : Deck) (band : RowRange) (needs 
       (held_let_go (length lists) first put (inside_still first (length lists + 1) (length put) (sym long) one) (held_put lists traps held ready))
 
   -- the same of what is kept of each list
-  pub held_step : {V : Type 0} (f : V → List Trapezoid) (vs : List V) (v : V) (first second : Option Taken) (after : List V) → All_held (length vs) (map f vs) → Ready (length vs) (f v)
+  pub held_step : {V : Type 0} (f : V → List Trapezoid) (vs : List V) (v : V) (first second : Option Taken) (after : List V) → All_held (length vs + 1) (map f vs) → Ready (length vs) (f v)
       → IfSome first (λ operand. operand.name < length vs + 1) → IfSome second (λ operand. operand.name < length vs + 1)
       → map f after ≡ let_go needs (length vs) second (let_go needs (length vs) first (map f (vs ++ v ∷ [])))
       → (length after ≡ length vs + 1) × All_held (length after) (map f after)
@@ -259,7 +271,7 @@ module _ (cells : List Cell) (top : ℕ) (deck : Deck) (band : RowRange) (needs 
       let e : length lists ≡ length vs = map_same f vs in
       let put = lists ++ f v ∷ [] in
       let more = ap (λ n. n + 1) (sym e) in
-      let base = held_next lists (f v) first second (subst (λ n. All_held n lists) (sym e) held) (subst (λ n. Ready n (f v)) (sym e) ready)
+      let base = held_next lists (f v) first second (subst (λ n. All_held (n + 1) lists) (sym e) held) (subst (λ n. Ready n (f v)) (sym e) ready)
       (inside_still first (length vs + 1) (length lists + 1) more one) (inside_still second (length vs + 1) (length lists + 1) more two) in
       let moved = subst (λ n. All_held (n + 1) (let_go needs n second (let_go needs n first put))) e base in
       let all = is ∙ ap (λ xs. let_go needs (length vs) second (let_go needs (length vs) first xs)) (map_put f vs v) in

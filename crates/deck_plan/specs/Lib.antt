@@ -5,8 +5,10 @@ pub mod Needs
 pub mod Bands
 -- ---- what is kept inside
 pub mod Lists
+pub mod Images
 pub mod Bounds
 pub mod Rings
 pub mod Halos
 pub mod Extents
 pub mod Ready
+pub mod Moves

@@ -10,6 +10,8 @@ mod extents;
 mod kept;
 mod layers;
 mod lists;
+mod mirroring;
+mod moving;
 mod needs;
 mod plans;
 mod sizing;

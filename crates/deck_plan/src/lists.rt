@@ -1,11 +1,12 @@
 //! The lists of the definitions of an output, each as long as it is needed.
-ghost use Rattle.std.specs.Prelude.{◌≡◌, ◌<◌, ◌≤◌, length, map, IfSome};
+ghost use Rattle.std.specs.Prelude.{◌≡◌, ◌<◌, ◌≤◌, [], length, map, slice_set, IfSome};
 ghost use Rattle.deck_plan.specs.Lists.{list_at};
 ghost use Rattle.deck_plan.specs.Ready.{let_go};
 
 use crate::needs::{Needs, Operands, Taken};
 use half_grid::Trap;
 use std::alloc::Global;
+use std::mem::replace;
 
 /// The list of a definition.
 pub(crate) fn list(areas: &[Vec<Trap>], number: usize) -> &[Trap]
@@ -13,6 +14,15 @@ pub(crate) fn list(areas: &[Vec<Trap>], number: usize) -> &[Trap]
     ensures { result.now ≡ list_at (map (λ list. list.items) areas.now) number }
 {
     areas[number].as_slice()
+}
+
+/// Takes the list of a definition, which has none then.
+pub(crate) fn take_list(alloc: Global, areas: &mut Vec<Vec<Trap>>, name: usize) -> Vec<Trap>
+    requires { name < length areas.old.items }
+    ensures list { result.items ≡ list_at (map (λ list. list.items) areas.old.items) name }
+    ensures left { map (λ list. list.items) areas.new.items ≡ slice_set (map (λ list. list.items) areas.old.items) name [] }
+{
+    replace(&mut areas[name], Vec::new(alloc))
 }
 
 // Lets go of the list of an operand, where the definition `user` is the last that takes it.

@@ -1,5 +1,5 @@
 //! Plans, and the areas of their outputs.
-ghost use Rattle.std.specs.Prelude.{◌≡◌, ◌<◌, ◌≤◌, ◌+◌, ◌^◌, ◌≤ℤ◌, map, neg_ℤ, pos, ℕ, length, slice_get, Some, All, IfOk, OnOk, IsSomeAnd, List};
+ghost use Rattle.std.specs.Prelude.{◌≡◌, ◌<◌, ◌≤◌, ◌+◌, ◌^◌, ◌≤ℤ◌, map, neg_ℤ, pos, ℕ, true, length, get_or, slice_get, Some, None, All, IfOk, IfSome, OnOk, IsSomeAnd, List};
 ghost use Rattle.half_grid.specs.Trapezoids.{IsLegal, IsShot};
 ghost use Rattle.half_grid.specs.declared.plane.Tile.{Tile};
 ghost use Rattle.deck_text.specs.Sound.{IsSound, IsSoundStep};
@@ -12,13 +12,14 @@ ghost use Rattle.deck_plan.specs.Needs.{IsBand, IsAskedBand, IsNeeded};
 ghost use Rattle.layout_model.specs.declared.pair.Pair.{Pair as APair};
 ghost use Rattle.cell_tree.specs.Flattening.{IsInLayer};
 ghost use Rattle.deck_plan.specs.Halos.{AreHalos};
-ghost use Rattle.deck_plan.specs.Ready.{AreHeld, IsReady};
+ghost use Rattle.deck_plan.specs.Ready.{AreHeld, IsReady, ends_at};
 ghost use Rattle.deck_plan.specs.Plans.{planned, IsRead};
 
 use crate::cutting::cut_parts;
 use crate::extents::Extents;
 use crate::layers::layer_area;
-use crate::lists::{let_go, list};
+use crate::lists::{let_go, list, take_list};
+use crate::moving::kept_operand;
 use crate::needs::{Needs, operands_of, step_at};
 use crate::sizing::{grown_area, shrunk_area};
 use crate::steps::{combined_area, inverted_area, mirrored_area};
@@ -133,7 +134,7 @@ impl<'t> Plan<'t> {
         while areas.len() < named {
             self.put_next(alloc, &needs, &mut areas, band)?;
         }
-        self.needed_area(alloc, &needs, areas.as_slice(), band)
+        self.next_list(alloc, &needs, &mut areas, band)
     }
 
     // The area of a step in the window, by lists of the areas of its operands.
@@ -225,6 +226,48 @@ impl<'t> Plan<'t> {
             None => Ok(Vec::new(alloc)),
         }
     }
+
+    // The operand of the next definition whose list is what is needed of that, where no later definition takes the operand.
+    fn moved(&self, needs: &Needs, areas: &[Vec<Trap>], band: Window) -> Option<usize>
+        requires band { IsBand band }
+        requires named { (name : ℕ) × (length areas.now ≤ name) × (name < length self.now.deck.steps) × AreHalos self.now.deck name 0 needs.now.by_name }
+        requires held { AreHeld self.now.cells self.now.top self.now.deck band needs.now.by_name (length areas.now) (map (λ list. list.items) areas.now) }
+        ensures inside { IfSome result (λ name. name < length areas.now) }
+        ensures last { IfSome result (λ name. ends_at (get_or needs.now.by_name name None) (length areas.now) ≡ true) }
+        ensures ready { IfSome result (λ name. IsReady self.now.cells self.now.top self.now.deck band needs.now.by_name (length areas.now) (list_at (map (λ list. list.items) areas.now) name)) }
+    {
+        let deck = self.deck();
+        match needs.by_name[areas.len()] {
+            Some(_need) => {
+                let window = needs.window(areas.len(), band);
+                let step = step_at(deck.steps.as_slice(), areas.len());
+                kept_operand(needs, &step, areas, areas.len(), window)
+            }
+            None => None,
+        }
+    }
+
+    // The list of the next definition. Where it is that of an operand which no later definition takes, it is moved.
+    fn next_list(
+        &self,
+        alloc: Global,
+        needs: &Needs,
+        areas: &mut Vec<Vec<Trap>>,
+        band: Window,
+    ) -> Result<Vec<Trap>, NoMemory>
+        requires band { IsBand band }
+        requires named { (name : ℕ) × (length areas.old.items ≤ name) × (name < length self.now.deck.steps) × AreHalos self.now.deck name 0 needs.now.by_name }
+        requires held { AreHeld self.now.cells self.now.top self.now.deck band needs.now.by_name (length areas.old.items) (map (λ list. list.items) areas.old.items) }
+        ensures same { length areas.new.items ≡ length areas.old.items }
+        ensures ready { IfOk result (λ traps. IsReady self.now.cells self.now.top self.now.deck band needs.now.by_name (length areas.old.items) traps.items) }
+        ensures held { AreHeld self.now.cells self.now.top self.now.deck band needs.now.by_name (length areas.old.items + 1) (map (λ list. list.items) areas.new.items) }
+    {
+        match self.moved(needs, areas.as_slice(), band) {
+            Some(name) => Ok(take_list(alloc, areas, name)),
+            None => self.needed_area(alloc, needs, areas.as_slice(), band),
+        }
+    }
+
     // Puts the list of the next definition, and lets go of the lists that no later one takes.
     fn put_next(
         &self,
@@ -240,7 +283,7 @@ impl<'t> Plan<'t> {
         ensures held { OnOk result (AreHeld self.now.cells self.now.top self.now.deck band needs.now.by_name (length areas.new.items) (map (λ list. list.items) areas.new.items)) }
     {
         let number = areas.len();
-        let list = self.needed_area(alloc, needs, areas.as_slice(), band)?;
+        let list = self.next_list(alloc, needs, areas, band)?;
         areas.push(list)?;
         let step = step_at(self.deck().steps.as_slice(), number);
         let_go(alloc, areas, needs, operands_of(&step), number);

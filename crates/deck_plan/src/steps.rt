@@ -10,7 +10,8 @@ ghost use Rattle.deck_text.specs.Sound.{IsNear};
 ghost use Rattle.deck_plan.specs.Lists.{HasArea, IsJoinedSomewhere, OfBoth};
 ghost use Rattle.deck_plan.specs.Bounds.{HasCornersUpTo};
 
-use crate::kept::{kept, lie_in};
+use crate::kept::{kept, lie_in, list_of};
+use crate::mirroring::{Axis, images_in_order};
 use bool_ops::{Op, combine};
 use geo_stream::{FromSlice, NoMemory, gather};
 use half_grid::{Frame, Trap, Window};
@@ -30,11 +31,9 @@ pub(crate) fn combined_area(
     requires second { IsJoinedSomewhere b.now }
     ensures { IfOk result (λ combined. HasArea window (λ t. OfBoth op (IsInSome a.now t) (IsInSome b.now t)) combined.items) }
 {
-    if let Some(list) = kept(op, a, b)
-        && lie_in(list, window)
-    {
+    if let Some(operand) = kept(op, a, b, window) {
         let mut copy = Vec::new(alloc);
-        copy.extend_from_slice(list)?;
+        copy.extend_from_slice(list_of(operand, a, b))?;
         return Ok(copy);
     }
     combine(alloc, op, a, b, window)
@@ -54,17 +53,22 @@ pub(crate) fn inverted_area(
     combine(alloc, Op::Sub, &whole, traps, window)
 }
 
-/// The joined list, in the window, of the tiles whose mirror images at `X = m` are in the trapezoids.
+/// The joined list, in the window, of the tiles whose mirror images at `X = m` are in the trapezoids of a joined list. No
+/// sweep is needed where all of these lie in the window.
 pub(crate) fn mirrored_area(
     alloc: Global,
     traps: &[Trap],
     m: i64,
     window: Window,
 ) -> Result<Vec<Trap>, NoMemory>
+    requires joined { IsJoinedSomewhere traps.now }
     requires near { All (HasCornersUpTo (2 ^ 42)) traps.now }
     requires at { IsNear m }
     ensures { IfOk result (λ mirrored. HasArea window (λ t. IsInSome traps.now (mirrored_tile m t)) mirrored.items) }
 {
+    if lie_in(traps, window) {
+        return images_in_order(alloc, traps, Axis { m });
+    }
     let images = gather(alloc, Mirrored::new(FromSlice::new(traps), m))?;
     combine(alloc, Op::Or, images.as_slice(), &[], window)
 }

@@ -23,14 +23,14 @@ const PLACES: [Point; 1] = [Point { x: 0, y: 0 }];
 
 const DECK: &[u8] = b"unit 1000\ntop TOP\nframe -2 -2 24 4\n\
 layer A 1 0\nlayer N 9 0\nmirror B A 11\nxor Unused A N\n\
-or O A B\nand C A B\nsub D B A\nxor X A B\ngrow E C 1\nshrink S A 2\ninvert I A\ngrow G A 4\nshrink K G 4\n\
-write N n 1 0\nwrite O o 1 0\nwrite C c 1 0\nwrite D d 1 0\nwrite X x 1 0\nwrite E e 1 0\nwrite S s 1 0\nwrite I i 1 0\nwrite K k 1 0\n";
+or O A B\nand C A B\nsub D B A\nxor X A B\ngrow E C 1\nshrink S A 2\ninvert I A\ngrow G A 4\nshrink K G 4\nmirror Y X 0\nsub M A N\n\
+write N n 1 0\nwrite O o 1 0\nwrite C c 1 0\nwrite D d 1 0\nwrite X x 1 0\nwrite E e 1 0\nwrite S s 1 0\nwrite I i 1 0\nwrite K k 1 0\nwrite Y y 1 0\nwrite M m 1 0\n";
 
 // The same but for an operand of a definition that no output uses.
 const OTHER: &[u8] = b"unit 1000\ntop TOP\nframe -2 -2 24 4\n\
 layer A 1 0\nlayer N 9 0\nmirror B A 11\nxor Unused A B\n\
-or O A B\nand C A B\nsub D B A\nxor X A B\ngrow E C 1\nshrink S A 2\ninvert I A\ngrow G A 4\nshrink K G 4\n\
-write N n 1 0\nwrite O o 1 0\nwrite C c 1 0\nwrite D d 1 0\nwrite X x 1 0\nwrite E e 1 0\nwrite S s 1 0\nwrite I i 1 0\nwrite K k 1 0\n";
+or O A B\nand C A B\nsub D B A\nxor X A B\ngrow E C 1\nshrink S A 2\ninvert I A\ngrow G A 4\nshrink K G 4\nmirror Y X 0\nsub M A N\n\
+write N n 1 0\nwrite O o 1 0\nwrite C c 1 0\nwrite D d 1 0\nwrite X x 1 0\nwrite E e 1 0\nwrite S s 1 0\nwrite I i 1 0\nwrite K k 1 0\nwrite Y y 1 0\nwrite M m 1 0\n";
 
 // The places of outputs and definitions in the decks.
 const N_OUT: usize = 0;
@@ -51,10 +51,14 @@ const I_OUT: usize = 7;
 
 const K_OUT: usize = 8;
 
+const Y_OUT: usize = 9;
+
+const M_OUT: usize = 10;
+
 /// The output, a band, and the trapezoids: lower and upper Y, two X below, two above.
 type Row = (usize, i64, i64, &'static [[i64; 6]]);
 
-const ROWS: [Row; 14] = [
+const ROWS: [Row; 16] = [
     (N_OUT, -1024, 1024, &[]),
     (
         O_OUT,
@@ -104,6 +108,20 @@ const ROWS: [Row; 14] = [
     (K_OUT, 8, 12, &[[8, 12, 8, 22, 12, 22]]),
     (K_OUT, 12, 1024, &[[12, 22, 12, 22, 22, 22]]),
     (K_OUT, 22, 1024, &[]),
+    // two trapezoids with one top change places
+    (
+        Y_OUT,
+        0,
+        1024,
+        &[
+            [0, 11, -22, -22, -22, -11],
+            [0, 11, 0, 0, -11, 0],
+            [11, 22, -22, -11, -22, -22],
+            [11, 22, -11, 0, 0, 0],
+        ],
+    ),
+    // the list of the layer, as it is
+    (M_OUT, 0, 1024, &[[0, 22, 0, 22, 22, 22]]),
 ];
 
 fn only<T: Drop>(rt: &impl Abort, alloc: Global, item: T) -> List<T>

@@ -20,11 +20,11 @@ number_goes m i Left = omega (arith, ints)
 number_goes m i Right = omega (arith, ints)
 
 -- the numbers of a tile and of its image
-image_number : (m : ℤ) (t : Tile) → number_in_row (mirrored_tile m t) +ℤ number_in_row t ≡ twice (twice m) -ℤ pos 1
+pub image_number : (m : ℤ) (t : Tile) → number_in_row (mirrored_tile m t) +ℤ number_in_row t ≡ twice (twice m) -ℤ pos 1
 image_number m t = number_goes m t.i t.side
 
 -- the places of a line and of its image
-image_place : (m : ℤ) (line : Line) (j : ℤ) → place (mirrored_line m line) j +ℤ place line j ≡ twice (twice m)
+pub image_place : (m : ℤ) (line : Line) (j : ℤ) → place (mirrored_line m line) j +ℤ place line j ≡ twice (twice m)
 image_place m (Upright c) j = omega (arith, ints)
 image_place m (Rising c) j = omega (arith, ints)
 image_place m (Falling c) j = omega (arith, ints)

@@ -1,21 +1,18 @@
-use Rattle.std.proofs.Common.{◌≡◌, ◌∙◌, ℕ, ◌^◌, map, sym, subst, ap, List, Option, Some, IfSome, All, w64, FitsSigned, rules}
+use Rattle.std.proofs.Common.{◌∙◌, ◌^◌, map, sym, subst, ap, All, w64, FitsSigned, rules}
 use Rattle.std.proofs.lemmas.Int.{to_z-of_z}
 use Rattle.std.proofs.lemmas.Result.{IfOk-weaker}
 use Rattle.half_grid.specs.Nearness.{IsGrown, IsShrunk}
-use Rattle.half_grid.specs.Trapezoids.{Trapezoid}
-use Rattle.half_grid.specs.declared.extent.Frame.{Frame}
 use Rattle.square_size.specs.EdgeLaws.{IsInSome}
 use Rattle.tone_mirror.specs.Frames.{IsInFrame}
 use Rattle.tone_mirror.specs.Mirrors.{mirrored_tile}
 use Rattle.cell_tree.specs.Flattening.{IsInLayer}
 use Rattle.bool_ops.specs.declared.operations.Op.TheVariants as ops
-use Rattle.deck_text.specs.Sound.{IsSoundStep, IsFrame}
+use Rattle.deck_text.specs.Sound.{IsSoundStep}
 use Rattle.deck_text.specs.declared.deck.Deck.{Deck}
-use Rattle.deck_text.specs.declared.deck.Step.{Step}
 use Rattle.deck_text.specs.declared.deck.Step.TheVariants.{Layer, Or, And, Sub, Xor, Grow, Shrink, Invert, Mirror}
 use Rattle.deck_plan.specs.Areas.{IsInStep}
 use Rattle.deck_plan.specs.Plans.{Planned}
-use Rattle.deck_plan.specs.Lists.{HasArea, IsJoinedSomewhere, list_at, IsListed}
+use Rattle.deck_plan.specs.Lists.{HasArea, IsJoinedSomewhere, IsListed}
 use Rattle.deck_plan.specs.Bounds.{HasCornersUpTo}
 use Rattle.deck_plan.proofs.Arms.{of_two, of_one, of_step, of_frame, some_frame, corners_wider}
 use Rattle.deck_plan.proofs.plans.Plan.step_area.Goals as goal
@@ -47,6 +44,9 @@ combined_area-requires-in-Xor-clause-first c = subst IsJoinedSomewhere (sym c.li
 
 pub combined_area-requires-in-Xor-clause-second : goal.combined_area-requires-in-Xor-clause-second
 combined_area-requires-in-Xor-clause-second c = subst IsJoinedSomewhere (sym c.list-in-Xor-2.ensures) (c.requires.joined c.in-Xor.b)
+
+pub mirrored_area-requires-clause-joined : goal.mirrored_area-requires-clause-joined
+mirrored_area-requires-clause-joined c = subst IsJoinedSomewhere (sym c.list-in-Mirror.ensures) (c.requires.joined c.in-Mirror.a)
 
 pub inverted_area-requires : goal.inverted_area-requires
 inverted_area-requires c =
