@@ -8,6 +8,7 @@ ghost use Rattle.file_check.specs.Certificates.{area_of, IsFirstFault, IsCertifi
 
 use crate::front::{Front, ascending, fault_in};
 use crate::outside::{rows_below, rows_from};
+use band_areas::BandAreas;
 use deck_plan::{Plan, first_band, next_band};
 use geo_stream::NoMemory;
 use half_grid::Trap;
@@ -47,8 +48,9 @@ fn fault_of_output(
     if let Some(fault) = fault_in(alloc, &mut front, &[], rows_below(band))? {
         return Ok(Some(fault));
     }
+    let mut areas = BandAreas::new(alloc, plan, output);
     while band.y0() < rows.y1() {
-        let traps = plan.area(alloc, output, band)?;
+        let traps = areas.area(alloc, plan, output, band)?;
         if let Some(fault) = fault_in(alloc, &mut front, traps.as_slice(), band)? {
             return Ok(Some(fault));
         }

@@ -4,11 +4,13 @@ ghost use Rattle.std.specs.Int.{div_ceil};
 ghost use Rattle.depot.specs.Counting.{CountsWritesInMemory};
 ghost use Rattle.shot_writer.specs.Writing.{no_sums};
 ghost use Rattle.shot_writer.specs.WriterView.{pair_of, sums_of, refusal_of};
+ghost use Rattle.band_areas.specs.Parts.{AreAreasOf};
 ghost use Rattle.deck_plan.specs.Bands.{AreRowsNear};
 ghost use Rattle.deck_plan.specs.Needs.{IsAskedBand};
 ghost use Rattle.shot_output.specs.Laws.{HasRules};
 ghost use Rattle.shot_output.specs.Bands.{HasRoomFor, IsBandPut, IsBandPart, IsPut, IsPutPart, HasRows};
 
+use band_areas::BandAreas;
 use deck_plan::{Plan, first_band, next_band};
 use deck_text::Deck;
 use depot::{Depot, DepotBad, Progress};
@@ -46,10 +48,12 @@ fn put_band<D: Depot>(
     depot: &mut D,
     writer: &mut ShotWriter,
     plan: &Plan,
+    areas: &mut BandAreas,
     output: usize,
     band: Window,
 ) -> Result<(), DepotBad>
     requires output { output < length plan.now.deck.outputs }
+    requires areas { AreAreasOf plan.now output areas.old }
     requires rules { HasRules plan.now.deck }
     requires band { IsAskedBand band }
     requires current { IsTrue D.tells → IsSome (D.content depot.old).current }
@@ -60,11 +64,12 @@ fn put_band<D: Depot>(
     ensures refused { OnErr result ((D.content depot.new ≡ D.content depot.old)
         ⊎ IsBandPart plan.now output band (pair_of writer.old) D.tells
         (D.content depot.old) (D.content depot.new)) }
+    ensures areas { AreAreasOf plan.now output areas.new }
     ensures pair { pair_of writer.new ≡ pair_of writer.old }
     ensures kept { OnOk result (refusal_of writer.new ≡ None) }
     ensures counts { CountsWritesInMemory (D.counts depot.old) (D.counts depot.new) result }
 {
-    let traps = match plan.area(alloc, output, band) {
+    let traps = match areas.area(alloc, plan, output, band) {
         Ok(traps) => traps,
         Err(_wanting) => return Err(DepotBad::NoMemory),
     };
@@ -106,8 +111,9 @@ pub(crate) fn put_bands<D: Depot>(
         shots: 0,
     };
     depot.note(progress);
+    let mut areas = BandAreas::new(alloc, plan, output);
     while band.y0() < rows.y1() {
-        put_band(alloc, depot, writer, plan, output, band)?;
+        put_band(alloc, depot, writer, plan, &mut areas, output, band)?;
         progress = further(progress, writer);
         depot.note(progress);
         band = next_band(deck, band);

@@ -27,6 +27,7 @@ loop-deck-init c =
     let order = c.rows-rows.ensures.high in
     let window : c.rows-rows.result.y0 ≤ℤ c.rows-rows.result.y1 = search rules in
     record {
+      areas = c.new-areas.ensures;
       front = subst (λ y. IsFrontAt c.args.shots.now y c.fault_in.new.front.meeting.items c.fault_in.new.front.later.now) top (c.in_ok-fault.ensures.front c.args.shots.now at);
       agrees = subst (AgreesBelow (area_of c.args.plan.now c.args.output) c.args.shots.now) top
           (first_none c.args.plan.now c.args.output c.args.shots.now c.rows-rows.result c.rows-rows.ensures.outside c.rows_below.result c.first_band-band.result.y0 c.rows_below.ensures c.first_band-band.ensures.below c.rows-rows.ensures.low c.requires.shots alike);
@@ -86,6 +87,7 @@ loop-deck-preserved c =
     let order = c.rows-rows.ensures.high in
     let alike = rw (c.in_default-2.is, c.as_slice-in-loop-deck.ensures.value) at (c.in_ok-fault-2.ensures.none c.args.shots.now i.front) in
     record {
+      areas = c.area.ensures.areas;
       front = subst (λ y. IsFrontAt c.args.shots.now y c.fault_in-in-loop-deck.new.front.meeting.items c.fault_in-in-loop-deck.new.front.later.now) (sym next) (c.in_ok-fault-2.ensures.front c.args.shots.now i.front);
       agrees = subst (AgreesBelow (area_of c.args.plan.now c.args.output) c.args.shots.now) (sym next)
           (band_none c.args.plan.now c.args.output c.args.shots.now c.loop-deck.band c.in_ok-traps.traps.items i.agrees c.in_ok-traps.ensures.joined.covers alike);

@@ -19,6 +19,7 @@ loop-deck-init g c =
       put = put_told c.note.ensures.content
           (put_none c.args.plan.now c.args.output c.first_band-band.result c.args.rows c.first_band-band.ensures.band.0 (pair_of c.args.writer.now) g.D.Depot.tells (g.D.Depot.content c.args.depot.now) (sums_of c.args.writer.now)
           (c.first_band-band.ensures.band.1 ∙ ap (λ (d : Deck). band d.band c.first_band-band.ensures.band.0) c.deck-deck.ensures.value) below c.requires.outside c.requires.sums);
+      areas = c.new-areas.ensures;
       pair = refl;
       kept = c.requires.kept;
       low = c.first_band-band.ensures.low;
@@ -71,6 +72,7 @@ loop-deck-preserved g c =
       put = put_told c.note-in-loop-deck.ensures.content
           (subst (λ (w : RowRange). IsPutBelow c.args.plan.now c.args.output w (pair_of c.args.writer.now) g.D.Depot.tells (g.D.Depot.content c.args.depot.now) (g.D.Depot.content c.put_band.new.depot) (sums_of c.put_band.new.writer)) next
           (put_next c.args.plan.now c.args.output c.loop-deck.band (pair_of c.args.writer.now) g.D.Depot.tells (g.D.Depot.content c.args.depot.now) (g.D.Depot.content c.loop-deck.depot) (sums_of c.loop-deck.writer) i.put (g.D.Depot.content c.put_band.new.depot) (sums_of c.put_band.new.writer) done));
+      areas = c.put_band.ensures.areas;
       pair = c.put_band.ensures.pair ∙ i.pair;
       kept = c.in_ok-put_band.ensures.kept;
       low = omega (arith, ints, low, height, i.low, c.requires.rules.some_rows);

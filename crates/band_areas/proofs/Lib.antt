@@ -1,0 +1,4 @@
+pub mod CutLemmas
+pub mod Sorting
+pub mod PartLemmas
+pub mod RowLemmas

@@ -1,0 +1,135 @@
+//! The areas of an output in its bands.
+ghost use Rattle.std.specs.Prelude.{◌≡◌, ◌<◌, ◌≤ℤ◌, pos, All, IfOk, length};
+ghost use Rattle.half_grid.specs.Trapezoids.{IsShot};
+ghost use Rattle.bool_ops.specs.Operations.{IsJoinedOf};
+ghost use Rattle.deck_plan.specs.Areas.{IsInBand};
+ghost use Rattle.deck_plan.specs.Bands.{AreRowsNear};
+ghost use Rattle.deck_plan.specs.Needs.{IsAskedBand};
+ghost use Rattle.band_areas.specs.Parts.{IsPart, IsWithin, AreAreasOf};
+
+use crate::groups::{Rise, group_of};
+use crate::parts::{Part, narrowed, taken};
+use deck_plan::Plan;
+use geo_stream::NoMemory;
+use half_grid::{Trap, Window};
+use std::alloc::Global;
+
+// How many rows below the first of a band the output's area in the band looks at of this definition.
+fn rows_below_first(plan: &Plan, output: usize, name: usize) -> Rise
+    requires output { output < length plan.now.deck.outputs }
+    requires name { name < length plan.now.deck.steps }
+{
+    let Some(row) = Window::new(0, 1) else {
+        return Rise { rows: 0 };
+    };
+    Rise {
+        rows: plan.needs(output, name, row).y0().saturating_neg(),
+    }
+}
+
+fn greater(a: Rise, b: Rise) -> Rise {
+    Rise {
+        rows: a.rows.max(b.rows),
+    }
+}
+
+// How many rows beyond a row the output's area looks at. It is for speed alone: no area depends on it.
+fn halo_of(plan: &Plan, output: usize) -> Rise
+    requires { output < length plan.now.deck.outputs }
+{
+    let mut halo = Rise { rows: 0 };
+    for name in 0..plan.deck().steps.as_slice().len() {
+        halo = greater(halo, rows_below_first(plan, output, name));
+    }
+    halo
+}
+
+/// The areas of an output in its bands. Each is asked for by its band, best from below: what was computed of the bands
+/// above is kept until one of them is asked for. In another order each answer is the same, and takes longer.
+#[derive(Drop)]
+pub struct BandAreas {
+    halo: Rise,
+    rows: Window,
+    parts: Vec<Part>,
+}
+
+impl BandAreas {
+    /// The areas of an output, of which none is computed yet. It takes no memory.
+    pub fn new(alloc: Global, plan: &Plan, output: usize) -> BandAreas
+        requires { output < length plan.now.deck.outputs }
+        ensures { AreAreasOf plan.now output result }
+    {
+        BandAreas {
+            halo: halo_of(plan, output),
+            rows: plan.rows(output),
+            parts: Vec::new(alloc),
+        }
+    }
+
+    // The area in the rows of a group of bands, of which this is the lowest.
+    fn group(
+        &self,
+        alloc: Global,
+        plan: &Plan,
+        output: usize,
+        band: Window,
+    ) -> Result<Part, NoMemory>
+        requires output { output < length plan.now.deck.outputs }
+        requires band { IsAskedBand band }
+        requires near { AreRowsNear self.now.rows }
+        ensures part { IfOk result (IsPart plan.now output) }
+        ensures within { IfOk result (λ part. IsWithin band part.rows) }
+    {
+        let rows = group_of(band, self.halo, self.rows);
+        let traps = plan.area(alloc, output, rows)?;
+        Ok(Part { rows, traps })
+    }
+
+    // A part that has the rows of the band: one that is kept, or that of a group of which this is the lowest band.
+    fn part_with(
+        &mut self,
+        alloc: Global,
+        plan: &Plan,
+        output: usize,
+        band: Window,
+    ) -> Result<Part, NoMemory>
+        requires output { output < length plan.now.deck.outputs }
+        requires band { IsAskedBand band }
+        requires areas { AreAreasOf plan.now output self.old }
+        ensures part { IfOk result (IsPart plan.now output) }
+        ensures within { IfOk result (λ part. IsWithin band part.rows) }
+        ensures areas { AreAreasOf plan.now output self.new }
+    {
+        if let Some(part) = taken(&mut self.parts, band) {
+            return Ok(part);
+        }
+        self.group(alloc, plan, output, band)
+    }
+
+    /// The joined list, in the band, of the part of the output's area in the band, by the plan and the output that these
+    /// areas were made for. The band has rows, 16,777,216 at most, and lies within reach. Want of memory is the only
+    /// refusal.
+    ///
+    /// Where the area looks at no more rows beyond a band than the band has, it is what [`Plan::area`] gives. Else it is
+    /// computed for a group of bands together, with at least as many rows as it looks at beyond them, so each row is looked
+    /// at some three times. Then it is cut at the bands' edges, each trapezoid as often as there are bands that it meets
+    /// and some log2 times the number of bands, with a sort of those that are cut.
+    pub fn area(
+        &mut self,
+        alloc: Global,
+        plan: &Plan,
+        output: usize,
+        band: Window,
+    ) -> Result<Vec<Trap>, NoMemory>
+        requires output { output < length plan.now.deck.outputs }
+        requires band { IsAskedBand band }
+        requires areas { AreAreasOf plan.now output self.old }
+        ensures shots { IfOk result (λ traps. All IsShot traps.items) }
+        ensures joined { IfOk result (λ traps. IsJoinedOf band (IsInBand plan.now.cells plan.now.top plan.now.deck output band) traps.items) }
+        ensures areas { AreAreasOf plan.now output self.new }
+    {
+        let part = self.part_with(alloc, plan, output, band)?;
+        let cut = narrowed(alloc, &mut self.parts, part, band)?;
+        Ok(cut.traps)
+    }
+}
