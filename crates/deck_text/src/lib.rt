@@ -24,7 +24,7 @@ mod writing;
 
 pub use deck::{Deck, Output, Step};
 pub use laws::deck_law;
-pub use numbers::digits_value;
+pub use numbers::{all_digits, digits_value};
 pub use reading::read_deck;
 pub use refusal::DeckBad;
 pub use text::Text;

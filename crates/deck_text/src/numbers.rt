@@ -4,8 +4,8 @@ ghost use Rattle.std.specs.List.{list_all};
 ghost use Rattle.std.specs.Char.{is_ascii_digit};
 ghost use Rattle.deck_text.specs.Kinds.{are_digits, decimal_value, digits_value, number_value};
 
-// Whether each byte is a digit.
-fn all_digits(bytes: &[u8]) -> bool
+/// Whether each byte is a digit. That of no bytes is so.
+pub fn all_digits(bytes: &[u8]) -> bool
     ensures { result ≡ list_all is_ascii_digit bytes.now }
 {
     for byte in bytes {

@@ -1,11 +1,9 @@
 //! Numbers in words.
 
 ghost use Rattle.std.specs.Prelude.{◌≡◌, ℕ, IfSome, IfNone};
-ghost use Rattle.std.specs.List.{list_all};
-ghost use Rattle.std.specs.Char.{is_ascii_digit};
 ghost use Rattle.job_words.specs.Words.{IsNumberWithin, are_some_digits, is_whole_number, is_stripe_ending};
 
-use deck_text::digits_value;
+use deck_text::{all_digits, digits_value};
 
 /// The number that 1 to 18 digits say, where it is in this range.
 pub(crate) fn number_within(digits: &[u8], least: u32, most: u32) -> Option<u32>
@@ -22,18 +20,6 @@ pub(crate) fn number_within(digits: &[u8], least: u32, most: u32) -> Option<u32>
         return None;
     }
     Some(value as u32)
-}
-
-// Whether each byte is a digit.
-fn all_digits(bytes: &[u8]) -> bool
-    ensures { result ≡ list_all is_ascii_digit bytes.now }
-{
-    for byte in bytes {
-        if !byte.is_ascii_digit() {
-            return false;
-        }
-    }
-    true
 }
 
 // Whether these are one digit or more.
