@@ -1,5 +1,5 @@
 -- Least boxes of points, and what becomes of them.
-use Rattle.std.proofs.Common.{◌≡◌, ◌⊎◌, ℕ, ℤ, zero, suc, pos, negsuc, neg_ℤ, ◌+ℤ◌, ◌*ℤ◌, ◌≤ℤ◌, ◌+◌, ◌*◌, ◌^◌, ◌≤◌, Bool, true, false, List, [], ◌∷◌, ◌++◌, Option, Some, None, Any, length, slice_get, refl, sym, ap, subst, ◌∙◌, inl, inr, arith}
+use Rattle.std.proofs.Common.{◌≡◌, ◌⊎◌, ℕ, ℤ, zero, suc, pos, negsuc, neg_ℤ, ◌+ℤ◌, ◌*ℤ◌, ◌≤ℤ◌, ◌+◌, ◌*◌, ◌^◌, ◌≤◌, Bool, true, false, List, Option, Some, None, Any, refl, sym, ap, subst, ◌∙◌, inl, inr, arith}
 use Rattle.std.proofs.Math.IntN.{pos-*ℤ-pos, pos-*ℤ-negsuc}
 use Rattle.std.proofs.Math.Nat.{mul-le-mul, mul-le-mul_left}
 use Rattle.std.proofs.lemmas.Int.{ints, clamps}
@@ -10,8 +10,8 @@ use Rattle.layout_model.specs.Hulls.{IsInBox, IsLeastBoxOf}
 use Rattle.layout_model.specs.Images.{moved, turned, flipped, enlarged, quarter_turn}
 use Rattle.layout_model.specs.declared.orient.Orient.{Orient}
 use Rattle.layout_model.specs.Layouts.{IsWithin}
-use Rattle.cell_tree.proofs.SlotLemmas.{All-slot, slot_before, slot_last, slot_push}
-use Rattle.std.proofs.lemmas.Option.{slice_get-get_or, none-some, same_Some}
+use Rattle.cell_tree.proofs.SlotLemmas.{All-slot}
+use Rattle.std.proofs.lemmas.Option.{slice_get-get_or}
 use Rattle.cell_tree.specs.Boxes.{IsLeastBox, IsOneOf, IsHull, IsUpTo, IsBoxUpTo, joined_box, summed_box, enlarged_box, flipped_box, quarter_box, turned_box, oriented_box}
 
 pub same_frame : (a b : Frame) → a.x0 ≡ b.x0 → a.y0 ≡ b.y0 → a.x1 ≡ b.x1 → a.y1 ≡ b.y1 → a ≡ b
@@ -35,10 +35,7 @@ enlarged_up_to mag a b small near is = subst (IsBoxUpTo (2 ^ 57)) (sym is) (reco
   y1 = product_up_to mag a.y1 small near.y1;
 })
 
--- ---- one more point
-
-abbrev pub point_box : Point → Frame
-point_box p = record { x0 = p.x; y0 = p.y; x1 = p.x; y1 = p.y }
+-- ---- the least and the greatest of two numbers
 
 -- one of two numbers is the least, or the greatest
 least_one : (a b : ℤ) → (int_min a b ≡ a) ⊎ (int_min a b ≡ b)
@@ -77,15 +74,6 @@ same_least P Q box into out least = record {
 pub same_hull : (P Q : Point → Type 0) (hull : Option Frame) → ((p : Point) → P p → Q p) → ((p : Point) → Q p → P p) → IsHull P hull → IsHull Q hull
 same_hull P Q None into out none = λ p q. none p (out p q)
 same_hull P Q (Some box) into out least = same_least P Q box into out least
-
-pub point_least : (p : Point) → IsLeastBox (λ q. p ≡ q) (point_box p)
-point_least p = record {
-  around = λ q e. (let x = ap (λ r. r.x) e in let y = ap (λ r. r.y) e in record { left = omega (arith, ints); bottom = omega (arith, ints); right = omega (arith, ints); top = omega (arith, ints) });
-  left = (p, refl, refl);
-  bottom = (p, refl, refl);
-  right = (p, refl, refl);
-  top = (p, refl, refl);
-}
 
 -- a least box of a list of points
 pub least_of : (points : List Point) (box : Frame) → IsLeastBoxOf points box → IsLeastBox (IsOneOf points) box
@@ -219,19 +207,3 @@ least_up_to P box bound least near =
       x1 = subst (IsUpTo bound) least.right.2 (record { low = r.x_low; high = r.x_high });
       y1 = subst (IsUpTo bound) least.top.2 (record { low = t.y_low; high = t.y_high });
     }
-
--- ---- point by point
-
-pub first_least : (p : Point) (box : Frame) → box ≡ point_box p → IsLeastBox (IsOneOf (p ∷ [])) box
-first_least p box is = subst (IsLeastBox (IsOneOf (p ∷ []))) (sym is)
-    (same_least (λ q. p ≡ q) (IsOneOf (p ∷ [])) (point_box p) (λ q e. (0, ap Some e)) (λ q one. only p q one.0 one.1) (point_least p))
-  where
-    only : (p q : Point) (k : ℕ) → slice_get (p ∷ []) k ≡ Some q → p ≡ q
-    only p q zero at = same_Some p q at
-    only p q (suc k) at = absurd (none-some q at)
-
-pub one_more_least : (points : List Point) (p : Point) (old by new : Frame) → IsLeastBox (IsOneOf points) old → by ≡ point_box p → new ≡ joined_box old by → IsLeastBox (IsOneOf (points ++ p ∷ [])) new
-one_more_least points p old by new least is joined = subst (IsLeastBox (IsOneOf (points ++ p ∷ []))) (sym (joined ∙ ap (joined_box old) is))
-    (joined_least (IsOneOf points) (λ q. p ≡ q) (IsOneOf (points ++ p ∷ [])) old (point_box p)
-    (λ q one. (one.0, slot_before points (p ∷ []) one.0 q one.1)) (λ q e. (length points, slot_last points p ∙ ap Some e))
-    (λ q one. elim (slot_push points p one.0 q one.1) [ inl before ↦ inl (one.0, before) | inr last ↦ inr last.1 ]) least (point_least p))

@@ -9,7 +9,8 @@ use Rattle.half_grid.specs.declared.plane.Point.{Point}
 use Rattle.half_grid.specs.declared.extent.Frame.{Frame}
 use Rattle.layout_model.specs.declared.pair.Pair.{Pair}
 use Rattle.cell_tree.specs.Boxes.{IsLeastBox, IsHull, joined_box}
-use Rattle.cell_tree.specs.HullTables.{same_pair, is_before, hull_in, IsBeforeAll, AreInOrder, wider, widest, widened_list, whole_from}
+use Rattle.layout_model.specs.Pairs.{same_pair}
+use Rattle.cell_tree.specs.HullTables.{is_before, hull_in, IsBeforeAll, AreInOrder, wider, widest, widened_list, whole_from}
 use Rattle.cell_tree.specs.declared.hulls.PairHull.{PairHull}
 use Rattle.cell_tree.proofs.BoxLemmas.{same_least, joined_least}
 

@@ -19,7 +19,8 @@ use Rattle.cell_tree.specs.Cells.{PlacesAt, placements_at, shapes_at, targets_at
 use Rattle.cell_tree.specs.Linking.{AreTargetsBelow}
 use Rattle.cell_tree.specs.Flattening.{IsVertex}
 use Rattle.cell_tree.specs.Boxes.{IsLeastBox, IsOneOf, IsHull, IsUpTo, IsBoxUpTo, summed_box, moved_box, oriented_box}
-use Rattle.cell_tree.specs.HullTables.{same_pair, ShapeVertex, IsMoveOf, OwnVertex, PlacedVertex, placed_hull, hull_in, hulls_at, widest, widened_list, AreInOrder, AreCellHulls, HasNearVertices}
+use Rattle.layout_model.specs.Pairs.{same_pair}
+use Rattle.cell_tree.specs.HullTables.{ShapeVertex, IsMoveOf, OwnVertex, PlacedVertex, placed_hull, hull_in, hulls_at, widest, widened_list, AreInOrder, AreCellHulls, HasNearVertices}
 use Rattle.cell_tree.specs.declared.hulls.PairHull.{PairHull}
 use Rattle.cell_tree.proofs.SlotLemmas.{All-slot, All-from_slots, one_slot, slot_map}
 use Rattle.std.proofs.lemmas.List.Elements.{All-nil}

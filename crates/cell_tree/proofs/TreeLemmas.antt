@@ -28,7 +28,8 @@ use Rattle.cell_tree.specs.Factors.{IsFarthest, AreFarthest, AreFarthestBelow}
 use Rattle.cell_tree.specs.Heights.{IsHeight, AreHeights, AreHeightsBelow}
 use Rattle.cell_tree.specs.declared.factors.Far.{Far}
 use Rattle.cell_tree.proofs.NameLemmas.{targets_below}
-use Rattle.cell_tree.specs.HullTables.{same_pair, hull_in, AreCellHulls, AreHulls, AreHullsBelow, HasNearVertices, whole_from, extent_in}
+use Rattle.layout_model.specs.Pairs.{same_pair}
+use Rattle.cell_tree.specs.HullTables.{hull_in, AreCellHulls, AreHulls, AreHullsBelow, HasNearVertices, whole_from, extent_in}
 use Rattle.cell_tree.proofs.ReachLemmas.{near_below}
 use Rattle.cell_tree.specs.declared.hulls.PairHull.{PairHull}
 use Rattle.cell_tree.proofs.SlotLemmas.{map_slot, slot_map, All-slot, All-from_slots}

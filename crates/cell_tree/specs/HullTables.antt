@@ -1,10 +1,11 @@
 -- The least boxes of a cell, pair by pair, by its own vertices and those of the cells that it places.
-use Rattle.std.specs.Prelude.{◌≡◌, ◌<◌, ◌&&◌, ◌^◌, ℕ, ℤ, nat_eq, nat_lt, Bool, true, false, List, [], ◌∷◌, Option, Some, None, length, slice_get, get_or, if◌then◌else◌}
+use Rattle.std.specs.Prelude.{◌≡◌, ◌<◌, ◌^◌, ℕ, ℤ, nat_lt, Bool, true, false, List, [], ◌∷◌, Option, Some, None, length, slice_get, get_or, if◌then◌else◌}
 use Rattle.std.specs.Option.{option_and_then}
 use Rattle.half_grid.specs.declared.plane.Point.{Point}
 use Rattle.half_grid.specs.declared.extent.Frame.{Frame}
 use Rattle.layout_model.specs.Images.{image_of, moved}
 use Rattle.layout_model.specs.Layouts.{IsWithin}
+use Rattle.layout_model.specs.Pairs.{same_pair}
 use Rattle.layout_model.specs.declared.pair.Pair.{Pair}
 use Rattle.layout_model.specs.declared.orient.Orient.{Orient}
 use Rattle.layout_model.specs.declared.shapes.Shape.{Shape}
@@ -17,9 +18,6 @@ use Rattle.cell_tree.specs.Flattening.{IsVertex}
 use Rattle.cell_tree.specs.Boxes.{IsHull, joined_box, summed_box, oriented_box}
 use Rattle.cell_tree.specs.Faults.{first_beyond}
 use Rattle.cell_tree.specs.declared.hulls.PairHull.{PairHull}
-
-abbrev pub same_pair : Pair → Pair → Bool
-same_pair a b = nat_eq a.layer b.layer && nat_eq a.datatype b.datatype
 
 -- the box of a pair
 abbrev pub hull_in : List PairHull → Pair → Option Frame

@@ -1,7 +1,7 @@
 //! Least boxes of points.
-ghost use Rattle.std.specs.Prelude.{◌≡◌, ◌≢◌, ◌^◌, ◌<◌, ◌≤◌, ◌*ℤ◌, pos, [], ◌∷◌};
+ghost use Rattle.std.specs.Prelude.{◌≡◌, ◌^◌, ◌<◌, ◌≤◌, ◌*ℤ◌, pos};
 ghost use Rattle.layout_model.specs.Images.{IsOrient};
-ghost use Rattle.cell_tree.specs.Boxes.{IsLeastBox, IsOneOf, joined_box, summed_box, moved_box, enlarged_box, flipped_box, quarter_box, turned_box, oriented_box, IsUpTo, IsBoxUpTo};
+ghost use Rattle.cell_tree.specs.Boxes.{joined_box, summed_box, moved_box, enlarged_box, flipped_box, quarter_box, turned_box, oriented_box, IsUpTo, IsBoxUpTo};
 
 use half_grid::{Frame, Point};
 use layout_model::Orient;
@@ -118,38 +118,4 @@ pub(crate) fn oriented(orient: Orient, a: Frame) -> Frame
     ensures small { IsBoxUpTo (2 ^ 57) result }
 {
     turned(orient.turns, flipped(orient.flip, enlarged(orient.mag, a)))
-}
-
-// The box of one point.
-fn point_box(p: Point) -> Frame
-    ensures { result ≡ record { x0 = p.x; y0 = p.y; x1 = p.x; y1 = p.y } }
-{
-    Frame {
-        x0: p.x,
-        y0: p.y,
-        x1: p.x,
-        y1: p.y,
-    }
-}
-
-// The least box of a point and more.
-fn box_from(first: Point, rest: &[Point]) -> Frame
-    ensures { IsLeastBox (IsOneOf (first ∷ rest.now)) result }
-{
-    let mut least = point_box(first);
-    for point in rest {
-        least = joined(least, point_box(*point));
-    }
-    least
-}
-
-/// The least box of points, of which there is at least one.
-pub(crate) fn box_of(points: &[Point]) -> Frame
-    requires { points.now ≢ [] }
-    ensures { IsLeastBox (IsOneOf points.now) result }
-{
-    match points.split_first() {
-        Some((first, rest)) => box_from(*first, rest),
-        None => unreachable!(),
-    }
 }

@@ -12,11 +12,11 @@ ghost use Rattle.cell_tree.specs.HullTables.{ShapeVertex, IsMoveOf, is_before, h
 ghost use Rattle.cell_tree.specs.declared.hulls.PairHull.{PairHull as APairHull};
 ghost use Rattle.half_grid.specs.declared.extent.Frame.{Frame as AFrame};
 
-use crate::boxes::{box_of, joined, moved, oriented, summed};
+use crate::boxes::{joined, moved, oriented, summed};
 use crate::linked::Linked;
 use geo_stream::NoMemory;
 use half_grid::Frame;
-use layout_model::{Orient, Pair, Placement, Shape};
+use layout_model::{Orient, Pair, Placement, Shape, box_of};
 use std::alloc::Global;
 
 /// A pair, and the least box of what is on it.

@@ -1,5 +1,5 @@
 -- Points, how far they are from 0, and what becomes of that.
-use Rattle.std.proofs.Common.{◌≡◌, ℕ, ℤ, zero, suc, pos, negsuc, neg_ℤ, ◌*ℤ◌, ◌≤ℤ◌, ◌+◌, ◌*◌, ◌≤◌, Bool, true, false, sym, subst, arith}
+use Rattle.std.proofs.Common.{◌≡◌, ℕ, ℤ, zero, suc, pos, negsuc, neg_ℤ, ◌*ℤ◌, ◌≤ℤ◌, ◌+◌, ◌*◌, ◌≤◌, Bool, true, false, arith}
 use Rattle.std.proofs.Math.IntN.{pos-*ℤ-pos, pos-*ℤ-negsuc}
 use Rattle.std.proofs.Math.Nat.{mul-le-mul}
 use Rattle.std.proofs.lemmas.Int.{ints}
@@ -32,9 +32,6 @@ enlarged_within mag bound p small near =
     let y = product_between mag bound p.y small (record { low = near.y_low; high = near.y_high }) in
     record { x_low = x.low; x_high = x.high; y_low = y.low; y_high = y.high }
 
-pub enlarged_near : (mag bound : ℕ) (p q : Point) → mag ≤ 16 → IsWithin bound p → q ≡ enlarged mag p → IsWithin (16 * bound) q
-enlarged_near mag bound p q small near is = subst (IsWithin (16 * bound)) (sym is) (enlarged_within mag bound p small near)
-
 neg_between : (bound : ℕ) (z : ℤ) → IsBetween bound z → IsBetween bound (neg_ℤ z)
 neg_between bound z b = let l = b.low in let h = b.high in record { low = omega (arith, ints); high = omega (arith, ints) }
 
@@ -58,6 +55,10 @@ moved_within a b at p u v =
     let ul = u.x_low in let uh = u.x_high in let um = u.y_low in let un = u.y_high in
     let vl = v.x_low in let vh = v.x_high in let vm = v.y_low in let vn = v.y_high in
     record { x_low = omega (arith, ints); x_high = omega (arith, ints); y_low = omega (arith, ints); y_high = omega (arith, ints) }
+
+-- a move by nothing
+pub not_moved : (p : Point) → moved (record { x = pos 0; y = pos 0 }) p ≡ p
+not_moved p = same_point _ _ (omega (arith, ints)) (omega (arith, ints))
 
 pub image_within : (orient : Orient) (a b : ℕ) (at p : Point) → orient.mag ≤ 16 → IsWithin a at → IsWithin b p → IsWithin (a + 16 * b) (image_of orient at p)
 image_within orient a b at p small u v = moved_within a (16 * b) at (oriented orient p) u (oriented_within orient b p small v)

@@ -5,7 +5,6 @@ mod PlaceLemmas
 mod RealFacts
 mod NameLemmas
 mod PointLemmas
-mod PairLemmas
 mod GridLemmas
 mod DrawLemmas
 mod RunLemmas

@@ -19,10 +19,12 @@ use Rattle.gds_reader.specs.declared.reading.Reader.{Reader}
 use Rattle.gds_reader.specs.declared.refusing.GdsBad.{GdsBad}
 use Rattle.gds_reader.specs.declared.refusing.GdsBad.TheVariants.{Short, Length, Kind, Size, Order, Value, Tail, Unit, Twice, NoMemory}
 use Rattle.gds_reader.specs.Grammar.{IsBeginning}
-use Rattle.gds_reader.specs.Elements.{IsHeld, AreSamePairs}
+use Rattle.layout_model.specs.Pairs.{AreSamePairs}
+use Rattle.layout_model.specs.Counting.{AreAtMost}
+use Rattle.gds_reader.specs.Elements.{IsHeld}
 use Rattle.gds_reader.specs.Meaning.{layout_of, cells_of, counts_of, is_kept, is_other, wanted_at}
 use Rattle.gds_reader.specs.Past.{has_kind}
-use Rattle.gds_reader.specs.Readers.{IsReaderOf, IsTaken, IsRefused, IsStanding, IsTail, AreAtMost, place_behind, next_after}
+use Rattle.gds_reader.specs.Readers.{IsReaderOf, IsTaken, IsRefused, IsStanding, IsTail, place_behind, next_after}
 use Rattle.gds_reader.specs.Reading.{kinds_of, IsAllowed, AreAllowed, IsLayoutOf, IsReadUpTo, IsNext, IsFault, IsFirstFault, framing_fault}
 use Rattle.gds_reader.specs.Steps.{next_place}
 use Rattle.gds_reader.proofs.CellLemmas.{count_few, names_distinct}

@@ -1,11 +1,9 @@
 -- What the program keeps of the records so far, in words for its own contracts.
-use Rattle.std.specs.Prelude.{◌≡◌, ◌≤◌, ◌-◌, ◌⊎◌, ◌^◌, ℕ, ℤ, pos, neg_ℤ, unsigned_abs, int_lt, Bool, true, false, List, [], ◌∷◌, Option, Some, None, IfSome, length}
-use Rattle.std.specs.List.{list_any}
+use Rattle.std.specs.Prelude.{◌≡◌, ◌≤◌, ◌-◌, ◌^◌, ℕ, ℤ, pos, unsigned_abs, int_lt, Bool, true, false, List, [], ◌∷◌, Option, Some, None, IfSome, length}
 use Rattle.half_grid.specs.Halves.{is_even}
 use Rattle.half_grid.specs.declared.plane.Point.{Point}
 use Rattle.layout_model.specs.Layouts.{IsWithin}
 use Rattle.layout_model.specs.Names.{IsName}
-use Rattle.layout_model.specs.declared.pair.Pair.{Pair}
 use Rattle.layout_model.specs.declared.shapes.Shape.{Shape}
 use Rattle.layout_model.specs.declared.cells.Placement.{Placement}
 use Rattle.gds_record.specs.Heads.{content_of, IsAllowed}
@@ -14,7 +12,7 @@ use Rattle.gds_record.specs.declared.kinds.Kind.TheVariants.{Boundary, Path, Sre
 use Rattle.gds_record.specs.declared.records.Record.{Record}
 use Rattle.gds_reader.specs.declared.elements.Element.{Element}
 use Rattle.gds_reader.specs.Past.{element_kind, own_record}
-use Rattle.gds_reader.specs.Values.{name_in, number2_in, signed4_in, pair_of, columns_in, rows_in, same_pair, extension, IsReference, KeepsSref, KeepsAref, KeepsBoundary, KeepsPath}
+use Rattle.gds_reader.specs.Values.{name_in, number2_in, signed4_in, pair_of, columns_in, rows_in, extension, IsReference, KeepsSref, KeepsAref, KeepsBoundary, KeepsPath}
 use Rattle.gds_reader.specs.Meaning.{orient_of, origin, boundary_shape, path_shapes_of, first_of, array_places, is_drawn}
 
 -- the record's content lies within the bytes and has a length of its kind
@@ -53,18 +51,6 @@ new_element kind = record {
   columns = 0;
   rows = 0;
 }
-
--- so many degrees are so many quarter turns counterclockwise
-abbrev pub IsTurn : ℤ → ℕ → Type 0
-IsTurn degrees turns =
-    ((turns ≡ 0) × ((degrees ≡ pos 0) ⊎ (degrees ≡ pos 360) ⊎ (degrees ≡ neg_ℤ (pos 360))))
-    ⊎ ((turns ≡ 1) × ((degrees ≡ pos 90) ⊎ (degrees ≡ neg_ℤ (pos 270))))
-    ⊎ ((turns ≡ 2) × ((degrees ≡ pos 180) ⊎ (degrees ≡ neg_ℤ (pos 180))))
-    ⊎ ((turns ≡ 3) × ((degrees ≡ pos 270) ⊎ (degrees ≡ neg_ℤ (pos 90))))
-
--- the same pairs are in both lists
-abbrev pub AreSamePairs : List Pair → List Pair → Type 0
-AreSamePairs wanted sorted = (pair : Pair) → list_any (same_pair pair) wanted ≡ list_any (same_pair pair) sorted
 
 -- ---- points
 

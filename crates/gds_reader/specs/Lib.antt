@@ -8,7 +8,6 @@ pub mod Reading
 pub mod Steps
 pub mod Elements
 pub mod Names
-pub mod Wanting
 pub mod Refused
 pub mod Steppings
 pub mod Readers

@@ -1,9 +1,9 @@
 -- What the reader keeps of the records so far.
 use Rattle.std.specs.Prelude.{◌≡◌, ◌≢◌, ◌⊎◌, ◌<◌, ◌≤◌, ℕ, List, [], ◌∷◌, Option, Some, None, IfSome, IsSome, All, length, reverse, slice_index, ◌*◌}
 use Rattle.layout_model.specs.Names.{IsName}
+use Rattle.layout_model.specs.Pairs.{AreSamePairs}
 use Rattle.layout_model.specs.Layouts.{IsShapeOnGrid, IsPlacementOnGrid, IsCellOnGrid}
 use Rattle.layout_model.specs.Images.{IsOrient}
-use Rattle.layout_model.specs.declared.cells.Counts.{Counts}
 use Rattle.layout_model.specs.declared.pair.Pair.{Pair}
 use Rattle.gds_record.specs.Reals.{Agrees}
 use Rattle.gds_record.specs.Runs.{IsRun, NoneEnds}
@@ -21,7 +21,7 @@ use Rattle.gds_reader.specs.declared.refusing.GdsBad.TheVariants as faults
 use Rattle.gds_reader.specs.Past.{structure_record, given_in_structure}
 use Rattle.gds_reader.specs.Values.{name_in, KeepsRules, IsLowestBroken}
 use Rattle.gds_reader.specs.Meaning.{shapes_at, placements_at, cells_of, counts_of}
-use Rattle.gds_reader.specs.Elements.{IsHeld, IsElementOf, AreSamePairs}
+use Rattle.gds_reader.specs.Elements.{IsHeld, IsElementOf}
 use Rattle.gds_reader.specs.Names.{AreNamesOf, place_of as place_of_name}
 use Rattle.gds_reader.specs.Reading.{AreAllowed, unit_in}
 use Rattle.gds_reader.specs.Steps.{next_place}
@@ -34,15 +34,6 @@ next_after (Some place) r = next_place place r.kind
 abbrev pub place_behind : List Record → Option Place
 place_behind [] = Some Header
 place_behind (r ∷ past) = next_after (place_behind past) r
-
--- no count is above this
-pub record AreAtMost (limit : ℕ) (counts : Counts) : Type 0 where
-  pub kept : counts.kept ≤ limit
-  pub other : counts.other ≤ limit
-  pub texts : counts.texts ≤ limit
-  pub nodes : counts.nodes ≤ limit
-  pub boxes : counts.boxes ≤ limit
-  pub properties : counts.properties ≤ limit
 
 -- the cell of a structure with this STRNAME
 abbrev pub cells_kept : List ℕ → Option Record → List Shape → List Placement → List Cell

@@ -1,12 +1,14 @@
 -- What the records of a file say (GDSII Stream Format Manual 6.0, record description), and the rules that their values
 -- must keep. Lengths are half units: a coordinate of the file counts two of them.
-use Rattle.std.specs.Prelude.{◌≡◌, ◌≢◌, ◌⊎◌, ◌<◌, ◌≤◌, ◌+◌, ◌-◌, ◌*◌, ◌/◌, ◌%◌, ◌^◌, ◌==◌, ℕ, zero, suc, ℤ, pos, neg_ℤ, ◌-ℤ◌, ◌*ℤ◌, ◌≤ℤ◌, unsigned_abs, int_lt, bit_and, Bool, if◌then◌else◌, ◌&&◌, List, [], ◌∷◌, Option, Some, None, length, map, slice_range, IsTrue}
+use Rattle.std.specs.Prelude.{◌≡◌, ◌≢◌, ◌⊎◌, ◌<◌, ◌≤◌, ◌+◌, ◌-◌, ◌*◌, ◌/◌, ◌^◌, ◌==◌, ℕ, ℤ, pos, ◌-ℤ◌, ◌*ℤ◌, unsigned_abs, int_lt, bit_and, Bool, if◌then◌else◌, List, [], ◌∷◌, Option, Some, None, length, map, slice_range, IsTrue}
 use Rattle.std.specs.List.{range_with_len, list_any}
 use Rattle.half_grid.specs.Halves.{twice}
 use Rattle.half_grid.specs.Outlines.{IsClosed, HasGridEdges}
 use Rattle.half_grid.specs.declared.plane.Point.{Point}
 use Rattle.layout_model.specs.Names.{IsName}
+use Rattle.layout_model.specs.Pairs.{same_pair}
 use Rattle.layout_model.specs.Paths.{IsDrawable}
+use Rattle.layout_model.specs.Turns.{turns_by, IsFactorBy, IsQuarterAngleBy}
 use Rattle.layout_model.specs.declared.pair.Pair.{Pair}
 use Rattle.gds_record.specs.Numbers.{number_at, signed_at}
 use Rattle.gds_record.specs.Reals.{sign_of, exponent_of, fraction_of, IsWholeReal}
@@ -35,9 +37,6 @@ pair_of bytes past = record {
   layer = number2_in bytes (own_record Layer past);
   datatype = number2_in bytes (own_record DataType past);
 }
-
-abbrev pub same_pair : Pair → Pair → Bool
-same_pair p q = (p.layer == q.layer) && (p.datatype == q.datatype)
 
 -- the element's pair is among the wanted ones
 abbrev pub is_wanted : List ℕ → List Pair → List Record → Bool
@@ -104,24 +103,19 @@ abbrev pub factor_in : List ℕ → Option Record → ℕ
 factor_in bytes None = 1
 factor_in bytes (Some r) = magnitude_of (number_at 8 bytes r.first)
 
--- how many quarter turns counterclockwise so many times 90 degrees are, by the sign's bit
-abbrev pub turns_of : ℕ → ℕ → ℕ
-turns_of zero quarters = quarters % 4
-turns_of (suc sign) quarters = (3 * quarters) % 4
-
 abbrev pub turns_in : List ℕ → Option Record → ℕ
 turns_in bytes None = 0
 turns_in bytes (Some r) =
     let bits = number_at 8 bytes r.first in
-    turns_of (sign_of bits) (magnitude_of bits / 90)
+    turns_by (sign_of bits) (magnitude_of bits / 90)
 
 -- a whole number from 1 to 16
 abbrev pub IsFactor : ℕ → Type 0
-IsFactor bits = (n : ℕ) × IsWholeReal bits (pos n) × (1 ≤ n) × (n ≤ 16)
+IsFactor bits = IsFactorBy (IsWholeReal bits)
 
 -- a multiple of 90 from -360 to 360
 abbrev pub IsQuarterAngle : ℕ → Type 0
-IsQuarterAngle bits = (quarters : ℤ) × IsWholeReal bits (pos 90 *ℤ quarters) × (neg_ℤ (pos 4) ≤ℤ quarters) × (quarters ≤ℤ pos 4)
+IsQuarterAngle bits = IsQuarterAngleBy (IsWholeReal bits)
 
 -- ---- arrays
 

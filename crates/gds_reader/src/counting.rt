@@ -1,21 +1,12 @@
 //! The counts of a file.
 ghost use Rattle.std.specs.Prelude.{◌≡◌, ◌^◌, ℕ, List, ◌∷◌};
+ghost use Rattle.layout_model.specs.Counting.{AreAtMost};
 ghost use Rattle.layout_model.specs.declared.pair.Pair.{Pair as APair};
 ghost use Rattle.gds_record.specs.declared.records.Record.{Record as ARecord};
 ghost use Rattle.gds_reader.specs.Meaning.{counts_of, wanted_at};
-ghost use Rattle.gds_reader.specs.Readers.{AreAtMost};
 
 use gds_record::{Kind, Record};
 use layout_model::Counts;
-
-pub(crate) const NONE: Counts = Counts {
-    kept: 0,
-    other: 0,
-    texts: 0,
-    nodes: 0,
-    boxes: 0,
-    properties: 0,
-};
 
 /// The counts with one more record. `drawn` says of the XY of a boundary or a path whether it is on a
 /// wanted pair.

@@ -1,15 +1,16 @@
 //! What is kept of the element that is being read.
-ghost use Rattle.std.specs.Prelude.{◌≡◌, ◌≤◌, ◌<◌, ◌↔◌, ◌/◌, ◌⊎◌, ℕ, pos, Some, IsSome, IfSome, IfNone, IsTrue, List, ◌∷◌};
+ghost use Rattle.std.specs.Prelude.{◌≡◌, ◌≤◌, ◌<◌, ◌↔◌, ◌/◌, ◌⊎◌, Some, IsSome, IfSome, IsTrue, List, ◌∷◌};
 ghost use Rattle.gds_record.specs.Reals.{sign_of};
 ghost use Rattle.gds_record.specs.declared.kinds.Kind.TheVariants.{Sref, Aref};
 ghost use Rattle.gds_record.specs.declared.records.Record.{Record as ARecord};
-ghost use Rattle.gds_reader.specs.Elements.{IsHeld, IsElementOf, IsTurn, new_element};
-ghost use Rattle.gds_reader.specs.Values.{name_in, magnitude_of, turns_of, IsFactor, IsQuarterAngle, KeepsRules};
+ghost use Rattle.gds_reader.specs.Elements.{IsHeld, IsElementOf, new_element};
+ghost use Rattle.gds_reader.specs.Values.{magnitude_of, IsFactor, IsQuarterAngle, KeepsRules};
 ghost use Rattle.layout_model.specs.Images.{IsOrient};
+ghost use Rattle.layout_model.specs.Turns.{turns_by};
 ghost use Rattle.layout_model.specs.declared.pair.Pair.{Pair as APair};
 
 use gds_record::{Kind, Record, int4, int8, real_whole, unsigned2};
-use layout_model::{Orient, Pair};
+use layout_model::{Orient, Pair, factor_in, turns_in};
 
 /// What the records of an element say, those so far.
 #[derive(Clone, Copy)]
@@ -31,20 +32,6 @@ pub(crate) struct Element {
     pub(crate) rows: u16,
 }
 
-// The number where it is 1 to 16.
-fn factor_in(n: i64) -> Option<u8>
-    ensures some { IfSome result (λ factor. (n ≡ pos factor) × (1 ≤ factor) × (factor ≤ 16)) }
-    ensures none { IfNone result ((factor : ℕ) → n ≡ pos factor → 1 ≤ factor → factor ≤ 16 → ⊥) }
-{
-    if n < 1 {
-        return None;
-    }
-    if n > 16 {
-        return None;
-    }
-    Some(n as u8)
-}
-
 /// The factor of a MAG: a whole number from 1 to 16.
 pub(crate) fn factor_of(bits: u64) -> Option<u8>
     ensures some { IsSome result ↔ IsFactor bits }
@@ -57,30 +44,10 @@ pub(crate) fn factor_of(bits: u64) -> Option<u8>
     }
 }
 
-// The quarter turns counterclockwise of a multiple of 90 degrees from -360 to 360.
-fn turns_in(degrees: i64) -> Option<u8>
-    ensures some { IfSome result (λ turns. IsTurn degrees turns) }
-    ensures none { IfNone result ((turns : ℕ) → ¬ IsTurn degrees turns) }
-{
-    if degrees == 0 || degrees == 360 || degrees == -360 {
-        return Some(0);
-    }
-    if degrees == 90 || degrees == -270 {
-        return Some(1);
-    }
-    if degrees == 180 || degrees == -180 {
-        return Some(2);
-    }
-    if degrees == 270 || degrees == -90 {
-        return Some(3);
-    }
-    None
-}
-
 /// The quarter turns of an ANGLE: those of a multiple of 90 degrees from -360 to 360.
 pub(crate) fn quarter_turns(bits: u64) -> Option<u8>
     ensures some { IsSome result ↔ IsQuarterAngle bits }
-    ensures value { IfSome result (λ turns. turns ≡ turns_of (sign_of bits) (magnitude_of bits / 90)) }
+    ensures value { IfSome result (λ turns. turns ≡ turns_by (sign_of bits) (magnitude_of bits / 90)) }
     ensures few { IfSome result (λ turns. turns < 4) }
 {
     match real_whole(bits) {

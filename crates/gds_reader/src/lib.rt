@@ -13,7 +13,6 @@ mod pointing;
 mod reading;
 mod refusing;
 mod values;
-mod wanting;
 
 pub use laws::reading_laws;
 pub use reading::read_gds;

@@ -8,13 +8,14 @@ ghost use Rattle.layout_model.specs.declared.cells.Layout.{Layout as ALayout};
 ghost use Rattle.gds_record.specs.Reals.{Agrees};
 ghost use Rattle.gds_record.specs.declared.kinds.Kind.TheVariants.{Xy, EndStr, StrName, Units};
 ghost use Rattle.gds_record.specs.declared.records.Record.{Record as ARecord};
-ghost use Rattle.gds_reader.specs.Elements.{IsHeld, IsElementOf, AreSamePairs, TellsShape, KeepsBy, shapes_by, placements_kept};
+ghost use Rattle.layout_model.specs.Pairs.{AreSamePairs, AreSorted};
+ghost use Rattle.layout_model.specs.Counting.{AreAtMost};
+ghost use Rattle.gds_reader.specs.Elements.{IsHeld, IsElementOf, TellsShape, KeepsBy, shapes_by, placements_kept};
 ghost use Rattle.gds_reader.specs.Meaning.{wanted_at, cells_at};
-ghost use Rattle.gds_reader.specs.Readers.{IsReaderOf, IsStructureOf, IsTaken, IsRefused, IsBadXy, IsTail, AreAtMost, cells_kept};
+ghost use Rattle.gds_reader.specs.Readers.{IsReaderOf, IsStructureOf, IsTaken, IsRefused, IsBadXy, IsTail, cells_kept};
 ghost use Rattle.gds_reader.specs.Reading.{IsLayoutOf, IsFirstFault, framing_fault, unit_in};
 ghost use Rattle.gds_reader.specs.Refused.{IsRefusedBy};
 ghost use Rattle.gds_reader.specs.Values.{Keeps, KeepsRules, name_in, points_in};
-ghost use Rattle.gds_reader.specs.Wanting.{AreSorted};
 ghost use Rattle.gds_reader.specs.declared.refusing.GdsBad.{GdsBad as ABad};
 ghost use Rattle.gds_reader.specs.declared.refusing.GdsBad.TheVariants as bads;
 
@@ -27,11 +28,12 @@ use crate::placing::place;
 use crate::pointing::read_points;
 use crate::refusing::GdsBad;
 use crate::values::broken_rule;
-use crate::wanting::{is_among, sorted_pairs};
 use gds_record::{Framing, Kind, Record, int8, record_at, unit_agrees};
 use geo_stream::{List, NoMemory};
 use half_grid::Point;
-use layout_model::{Cell, Counts, Layout, Name, Pair, Placement, Shape};
+use layout_model::{
+    Cell, Counts, Layout, NO_COUNTS, Name, Pair, Placement, Shape, is_among, sorted_pairs,
+};
 use std::alloc::Global;
 use std::mem::replace;
 
@@ -280,7 +282,7 @@ impl<'a> Reader<'a> {
                 placements: List::new(alloc),
             },
             cells: List::new(alloc),
-            counts: counting::NONE,
+            counts: NO_COUNTS,
             points: Vec::new(alloc),
         }
     }

@@ -1,28 +1,19 @@
 //! The value rules of single records.
-ghost use Rattle.std.specs.Prelude.{◌≡◌, ◌≢◌, ◌≤◌, ◌+◌, ◌↔◌, ◌⊎◌, List, None, bit_and, if◌then◌else◌, IsTrue, IfSome, IfNone, length};
+ghost use Rattle.std.specs.Prelude.{◌≡◌, ◌≢◌, ◌+◌, ◌↔◌, ◌⊎◌, List, None, bit_and, if◌then◌else◌, IsTrue, IfSome, IfNone};
 ghost use Rattle.std.specs.List.{list_any};
 ghost use Rattle.layout_model.specs.Names.{IsName};
+ghost use Rattle.layout_model.specs.Pairs.{same_pair, AreSamePairs, AreSorted};
 ghost use Rattle.layout_model.specs.declared.pair.Pair.{Pair as APair};
-ghost use Rattle.gds_record.specs.Numbers.{number_at};
 ghost use Rattle.gds_record.specs.declared.kinds.Kind.TheVariants.{Xy, Path, StrName};
 ghost use Rattle.gds_record.specs.declared.records.Record.{Record as ARecord};
-ghost use Rattle.gds_reader.specs.Elements.{IsHeld, IsElementOf, AreSamePairs};
-ghost use Rattle.gds_reader.specs.Wanting.{AreSorted};
-ghost use Rattle.gds_reader.specs.Values.{same_pair, name_in, IsCount, IsLowestBroken, KeepsRules};
+ghost use Rattle.gds_reader.specs.Elements.{IsHeld, IsElementOf};
+ghost use Rattle.gds_reader.specs.Values.{name_in, IsCount, IsLowestBroken, KeepsRules};
 ghost use Rattle.std.specs.Prelude.{Some};
 
 use crate::elements::{Element, factor_of, quarter_turns};
 use crate::naming::name_of;
-use crate::wanting::is_among;
 use gds_record::{Kind, Record, int8, unsigned2};
-use layout_model::Pair;
-
-fn is_name(bytes: &[u8]) -> bool
-    ensures { IsTrue result ↔ IsName bytes.now }
-{
-    let length = bytes.len();
-    length >= 1 && length <= 1024 && bytes.iter().all(|byte| *byte >= 0x20 && *byte <= 0x7E)
-}
+use layout_model::{Pair, is_among, is_name};
 
 fn is_count(number: u16) -> bool
     ensures { IsTrue result ↔ IsCount number }

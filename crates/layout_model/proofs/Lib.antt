@@ -1,3 +1,4 @@
+pub mod ForCallers
 mod Cuts
 mod SlantLemmas
 mod GridLemmas
@@ -15,3 +16,5 @@ mod CornerLemmas
 mod HullLemmas
 mod StrideLemmas
 mod RulerLemmas
+mod PairLemmas
+mod TurnLemmas

@@ -7,11 +7,13 @@ pub mod Hulls
 pub mod Offsets
 pub mod Intervals
 pub mod Images
+pub mod Turns
 pub mod Slants
 pub mod Paths
 pub mod PathBounds
 pub mod PathLaws
 pub mod Layouts
+pub mod Counting
 -- ---- what is kept inside
 pub mod Strides
 pub mod Walks

@@ -47,6 +47,16 @@ pub struct Counts {
     pub properties: u64,
 }
 
+/// The counts of a file without things.
+pub const NO_COUNTS: Counts = Counts {
+    kept: 0,
+    other: 0,
+    texts: 0,
+    nodes: 0,
+    boxes: 0,
+    properties: 0,
+};
+
 /// A layout: its cells, in the order of the file, and the counts.
 #[derive(Debug, Drop)]
 pub struct Layout {

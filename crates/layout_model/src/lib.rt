@@ -3,6 +3,7 @@
 //! Lengths are half units. A shape is there once at each of its offsets.
 #![tactic(auto)]
 
+mod boxes;
 mod cells;
 mod courses;
 mod directions;
@@ -20,13 +21,18 @@ mod stretches;
 mod strides;
 #[cfg(test)]
 mod tests;
+mod turns;
+mod wanted;
 
-pub use cells::{Cell, Counts, Layout, Placement};
+pub use boxes::box_of;
+pub use cells::{Cell, Counts, Layout, NO_COUNTS, Placement};
 pub use intervals::{Axis, Interval};
-pub use names::{Name, NameBad};
+pub use names::{Name, NameBad, is_name};
 pub use offsets::Offsets;
 pub use orient::{Orient, image};
 pub use pair::{Pair, pair_law};
 pub use paths::{PathBad, path_laws, path_shapes};
 pub use points::Points;
 pub use shapes::{Shape, ShapeBad};
+pub use turns::{factor_in, turns_in};
+pub use wanted::{is_among, sorted_pairs};

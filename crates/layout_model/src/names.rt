@@ -58,7 +58,8 @@ fn is_printable(bytes: &[u8]) -> bool
     true
 }
 
-fn is_name(bytes: &[u8]) -> bool
+/// Whether these bytes are a name: 1 to 1,024 of them, each from 20 to 7E hex. It takes no memory.
+pub fn is_name(bytes: &[u8]) -> bool
     ensures { IsTrue result ↔ IsName bytes.now }
 {
     if bytes.is_empty() {

@@ -1,11 +1,11 @@
-ghost use Rattle.std.specs.Int.{int_min, int_max};
-ghost use Rattle.std.specs.Prelude.{◌≢◌, [], ◌∷◌, ℕ, ◌≤◌, ◌≤ℤ◌, ◌≡◌, ◌<◌, ◌*◌, ◌^◌, pos, ◌+ℤ◌, ◌*ℤ◌, Some, length, slice_get, IfOk, IsOk, MatchOption};
+ghost use Rattle.std.specs.Prelude.{◌≢◌, [], ℕ, ◌≤◌, ◌≤ℤ◌, ◌≡◌, ◌<◌, ◌*◌, pos, ◌*ℤ◌, Some, length, slice_get, IfOk, IsOk, MatchOption};
 ghost use Rattle.half_grid.specs.Reach.{IsWithinReach};
 ghost use Rattle.layout_model.specs.Grids.{IsGrid, grid_place, grid_places, nth_place};
 ghost use Rattle.layout_model.specs.Hulls.{IsLeastBoxOf};
 ghost use Rattle.layout_model.specs.Intervals.{along, HasNoneIn, IsFirstIn};
 ghost use Rattle.layout_model.specs.Strides.{mark, IsNearby, IsRuler};
 
+use crate::boxes::{box_between, box_of};
 use crate::intervals::{Axis, Interval};
 use crate::products::combine;
 use crate::strides::Ruler;
@@ -14,6 +14,9 @@ use half_grid::{Frame, Point};
 use smallvec::SmallVec;
 use std::alloc::Global;
 use std::marker::Model;
+use std::rc::Rc;
+
+const ORIGIN: Point = Point { x: 0, y: 0 };
 
 // The places `a*u + b*v` for `a < nu`, `b < nv`, where `a` runs fastest.
 #[derive(Clone, Copy, Debug)]
@@ -24,16 +27,24 @@ struct Grid {
     v: Point,
 }
 
-// Most shapes stand at one place. What is seldom is boxed, so that a shape stays small.
+// Places one by one, and their least box where there is one of them at least.
+#[derive(Debug, Drop)]
+struct Listed {
+    places: SmallVec<Point, 4>,
+    hull: Frame,
+}
+
+// Most shapes are at one place. What is seldom is boxed, so that a shape stays small. Listed places are shared by all that
+// are copied from each other.
 #[derive(Debug, Drop)]
 enum Places {
     One(Point),
-    Listed(Box<SmallVec<Point, 4>>),
+    Listed(Rc<Listed>),
     Regular(Box<Grid>),
 }
 
 /// The places at which a shape or a placed cell is: a list of moves. A grid is kept by its two counts and two
-/// steps, and one place takes no memory. Contracts see the list.
+/// steps, and one place takes no memory. A list is kept once, however often it is copied. Contracts see the list.
 #[derive(Debug, Drop)]
 pub struct Offsets {
     places: Places,
@@ -182,56 +193,14 @@ impl Grid {
     }
 }
 
-// The box with these points on its sides.
-fn box_between(left: Point, bottom: Point, right: Point, top: Point) -> Frame
-    ensures x0 { result.x0 ≡ left.x }
-    ensures y0 { result.y0 ≡ bottom.y }
-    ensures x1 { result.x1 ≡ right.x }
-    ensures y1 { result.y1 ≡ top.y }
+// The least box of places where there is one of them.
+fn hull_of(places: &[Point]) -> Frame
+    ensures { places.now ≢ [] → IsLeastBoxOf places.now result }
 {
-    Frame {
-        x0: left.x,
-        y0: bottom.y,
-        x1: right.x,
-        y1: top.y,
+    if places.is_empty() {
+        return box_between(ORIGIN, ORIGIN, ORIGIN, ORIGIN);
     }
-}
-
-// The least box that has a box and a point.
-fn box_with(hull: &Frame, p: &Point) -> Frame
-    ensures x0 { result.x0 ≡ int_min hull.now.x0 p.now.x }
-    ensures y0 { result.y0 ≡ int_min hull.now.y0 p.now.y }
-    ensures x1 { result.x1 ≡ int_max hull.now.x1 p.now.x }
-    ensures y1 { result.y1 ≡ int_max hull.now.y1 p.now.y }
-{
-    Frame {
-        x0: hull.x0.min(p.x),
-        y0: hull.y0.min(p.y),
-        x1: hull.x1.max(p.x),
-        y1: hull.y1.max(p.y),
-    }
-}
-
-// The least box of a point and more.
-fn box_from(first: Point, rest: &[Point]) -> Frame
-    ensures { IsLeastBoxOf (first ∷ rest.now) result }
-{
-    let mut hull = box_between(first, first, first, first);
-    for p in rest {
-        hull = box_with(&hull, p);
-    }
-    hull
-}
-
-// The least box of points, of which there is one.
-fn box_of(points: &[Point]) -> Frame
-    requires { points.now ≢ [] }
-    ensures { IsLeastBoxOf points.now result }
-{
-    match points.split_first() {
-        Some((first, rest)) => box_from(*first, rest),
-        None => unreachable!(),
-    }
+    box_of(places)
 }
 
 impl Offsets {
@@ -245,8 +214,9 @@ impl Offsets {
             let places = Places::One(places[0]);
             return Ok(Offsets { places });
         }
-        let listed = SmallVec::from_slice(alloc, places)?;
-        let places = Places::Listed(Box::new(alloc, listed)?);
+        let hull = hull_of(places);
+        let places = SmallVec::from_slice(alloc, places)?;
+        let places = Places::Listed(Rc::new(alloc, Listed { places, hull })?);
         Ok(Offsets { places })
     }
 
@@ -259,7 +229,7 @@ impl Offsets {
         ensures one { nu * nv ≡ 1 → IsOk result }
     {
         if nu * nv == 1 {
-            let places = Places::One(Point { x: 0, y: 0 });
+            let places = Places::One(ORIGIN);
             return Ok(Offsets { places });
         }
         let (nu, nv) = (nu as u32, nv as u32);
@@ -267,7 +237,7 @@ impl Offsets {
         Ok(Offsets { places })
     }
 
-    /// The same places again. One place takes no memory.
+    /// The same places again, in constant time: those of a list are shared. One place takes no memory.
     pub fn copy(&self, alloc: Global) -> Result<Offsets, NoMemory>
         ensures ok { IfOk result (λ copy. copy ≡ self.now) }
         ensures one { length self.now ≡ 1 → IsOk result }
@@ -276,22 +246,24 @@ impl Offsets {
             Places::One(place) => Ok(Offsets {
                 places: Places::One(*place),
             }),
-            Places::Listed(places) => Offsets::list(alloc, places.as_slice()),
+            Places::Listed(listed) => Ok(Offsets {
+                places: Places::Listed(listed.clone()?),
+            }),
             Places::Regular(grid) => Ok(Offsets {
                 places: Places::Regular(Box::new(alloc, **grid)?),
             }),
         }
     }
 
-    /// The least box of its places, of which there is one at least. That of a grid comes from its corners, so it takes
-    /// no longer for many places.
+    /// The least box of its places, of which there is one at least, in constant time: that of a list is kept with it, and
+    /// that of a grid comes from its corners.
     pub fn hull(&self) -> Frame
         requires { self.now ≢ [] }
         ensures { IsLeastBoxOf self.now result }
     {
         match &self.places {
             Places::One(place) => box_between(*place, *place, *place, *place),
-            Places::Listed(places) => box_of(places.as_slice()),
+            Places::Listed(listed) => listed.hull,
             Places::Regular(grid) => grid.hull(),
         }
     }
@@ -302,7 +274,7 @@ impl Offsets {
     {
         match &self.places {
             Places::One(_) => 1,
-            Places::Listed(places) => places.len() as u64,
+            Places::Listed(listed) => listed.places.len() as u64,
             Places::Regular(grid) => u64::from(grid.nu) * u64::from(grid.nv),
         }
     }
@@ -314,7 +286,7 @@ impl Offsets {
     {
         match &self.places {
             Places::One(place) => *place,
-            Places::Listed(places) => places.as_slice()[k as usize],
+            Places::Listed(listed) => listed.places.as_slice()[k as usize],
             Places::Regular(grid) => grid.place(k),
         }
     }
@@ -330,7 +302,7 @@ impl Offsets {
         }
         match &self.places {
             Places::One(place) => first_of(&[*place], interval, from),
-            Places::Listed(places) => first_of(places.as_slice(), interval, from),
+            Places::Listed(listed) => first_of(listed.places.as_slice(), interval, from),
             Places::Regular(grid) => grid.first_in(interval, from),
         }
     }

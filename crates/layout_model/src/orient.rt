@@ -1,5 +1,5 @@
-ghost use Rattle.std.specs.Prelude.{◌≡◌, ◌+ℤ◌};
-ghost use Rattle.half_grid.specs.Reach.{IsPointWithinReach};
+ghost use Rattle.std.specs.Prelude.{◌≡◌, ◌^◌, ◌+ℤ◌};
+ghost use Rattle.layout_model.specs.Layouts.{IsWithin};
 ghost use Rattle.layout_model.specs.Products.{IsProduct};
 ghost use Rattle.layout_model.specs.Images.{IsOrient, IsWide, image_of, enlarged, flipped, turned, moved, wide_point};
 
@@ -85,7 +85,7 @@ fn shift(at: Point, point: Wide) -> Wide
 }
 
 fn narrow(point: Wide) -> Point
-    requires { IsPointWithinReach (wide_point point) }
+    requires { IsWithin (2 ^ 62) (wide_point point) }
     ensures { result ≡ wide_point point }
 {
     Point {
@@ -96,10 +96,11 @@ fn narrow(point: Wide) -> Point
 
 /// The image of a point under an orientation and a move: both coordinates are multiplied by `mag`; y is negated where
 /// `flip`; then come `turns` quarter turns counterclockwise, each of which sends `(x, y)` to `(-y, x)`; then the move
-/// by `at`, which isn't enlarged. The image has to be within reach.
+/// by `at`, which isn't enlarged. The image has to be within `2^62` of 0.
+#[inline(always)]
 pub fn image(orient: Orient, at: Point, p: Point) -> Point
     requires orient { IsOrient orient }
-    requires reach { IsPointWithinReach (image_of orient at p) }
+    requires near { IsWithin (2 ^ 62) (image_of orient at p) }
     ensures { result ≡ image_of orient at p }
 {
     let turned = turn(orient, flip(orient, enlarge(orient, p)));

@@ -5,7 +5,8 @@ use Rattle.layout_model.specs.declared.pair.Pair.{Pair}
 use Rattle.oas_record.specs.declared.records.OasRecord.{OasRecord}
 use Rattle.oas_record.specs.declared.records.OasRecord.TheVariants as records
 use Rattle.oas_reader.specs.Bodies.{body_of}
-use Rattle.oas_reader.specs.Drawn.{AreAtMost, with_record}
+use Rattle.layout_model.specs.Counting.{AreAtMost}
+use Rattle.oas_reader.specs.Drawn.{with_record}
 use Rattle.oas_reader.specs.Items.{Item, records_in, count_in}
 use Rattle.oas_reader.specs.Meaning.{counts_of, is_kept, is_other, is_text, is_property, is_wanted}
 use Rattle.oas_reader.specs.Rules.{KeepsToOthers}

@@ -1,4 +1,3 @@
-mod PairLemmas
 mod LawLemmas
 mod NameLemmas
 mod CellLemmas

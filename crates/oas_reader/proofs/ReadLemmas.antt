@@ -11,14 +11,14 @@ use Rattle.oas_record.specs.declared.faults.RecordBad.{RecordBad}
 use Rattle.oas_record.specs.declared.faults.RecordBad.TheVariants as causes
 use Rattle.oas_record.specs.declared.records.OasRecord.{OasRecord}
 use Rattle.oas_record.proofs.ForCallers.{one_record}
-use Rattle.oas_reader.specs.Drawn.{AreAtMost}
+use Rattle.layout_model.specs.Pairs.{AreSamePairs}
+use Rattle.layout_model.specs.Counting.{AreAtMost}
 use Rattle.oas_reader.specs.Files.{lexical_fault, HaveRecords, IsStanding, IsLayoutBehind}
 use Rattle.oas_reader.specs.Items.{Item, records_in, tables_at_end, magic, is_end}
 use Rattle.oas_reader.specs.Names.{is_unnumbered}
 use Rattle.oas_reader.specs.Order.{is_in_order}
 use Rattle.oas_reader.specs.Readers.{IsReaderOf, IsReaderWithin}
 use Rattle.oas_reader.specs.Reading.{item, IsAllowed, IsReadUpTo, IsWhole, IsLayoutOf, IsRefused, IsFaultOf, IsFirstFault}
-use Rattle.oas_reader.specs.Wanting.{AreSamePairs}
 use Rattle.oas_reader.specs.declared.reading.Reader.{Reader}
 use Rattle.oas_reader.specs.declared.refusing.OasBad.{OasBad}
 use Rattle.oas_reader.specs.declared.refusing.OasBad.TheVariants.{Magic, Lexical, Order, Undefined, Value, Names, Tail, Unit, NoMemory}

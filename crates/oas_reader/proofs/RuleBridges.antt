@@ -15,13 +15,13 @@ use Rattle.oas_reader.specs.Drawn.{repetition_kept, shapes_in, IsRefusedBy}
 use Rattle.oas_reader.specs.Geometry.{wanting_in, rep_in, shapes_if, placings_in, KeepsGeometry, IsBadLook}
 use Rattle.oas_reader.specs.Items.{Item, records_in}
 use Rattle.oas_reader.specs.Kept.{fields_at, undefined_in, KeepsVersionBy, KeepsSchemeBy}
-use Rattle.oas_reader.specs.Meaning.{repetition_at, same_pair, pair_of, has_pair, shapes_at, placings_at, given_in_cell}
+use Rattle.layout_model.specs.Pairs.{same_pair, AreSamePairs}
+use Rattle.oas_reader.specs.Meaning.{repetition_at, pair_of, has_pair, shapes_at, placings_at, given_in_cell}
 use Rattle.oas_reader.specs.Reading.{item}
 use Rattle.oas_reader.specs.Readers.{begun_by, begun_of, placings_of, whole_cell, whole_of, AreDraftsOf}
 use Rattle.oas_reader.specs.Rules.{ArePositionsNear, Keeps}
 use Rattle.oas_reader.specs.Taking.{IsTaken, KeepsOwnName, wanting_of, AreValuesKept, IsBadValue}
 use Rattle.oas_reader.specs.Undefined.{is_there, undefined_of}
-use Rattle.oas_reader.specs.Wanting.{AreSamePairs}
 use Rattle.oas_reader.specs.declared.bodies.Body.{Body}
 use Rattle.oas_reader.specs.declared.bodies.Outline.{Outline}
 use Rattle.oas_reader.specs.declared.cells.Drafts.{Drafts}

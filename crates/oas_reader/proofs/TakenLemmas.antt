@@ -27,7 +27,7 @@ use Rattle.oas_reader.specs.Reading.{item, IsAllowed, IsRefused}
 use Rattle.oas_reader.specs.Rules.{KeepsToOthers}
 use Rattle.oas_reader.specs.Taking.{IsTaken, wanting_of, KeepsOwnName, AreValuesKept, IsBadValue, IsBadName}
 use Rattle.oas_reader.specs.Undefined.{is_there}
-use Rattle.oas_reader.specs.Wanting.{AreSamePairs}
+use Rattle.layout_model.specs.Pairs.{AreSamePairs}
 use Rattle.oas_reader.specs.declared.bodies.Body.{Body}
 use Rattle.oas_reader.specs.declared.bodies.Body.TheVariants as bodies
 use Rattle.oas_reader.specs.declared.bodies.Outline.{Outline}

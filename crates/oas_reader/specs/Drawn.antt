@@ -1,5 +1,5 @@
 -- What a record draws or places, by what the program keeps of it.
-use Rattle.std.specs.Prelude.{◌≡◌, ◌⊎◌, ◌+◌, ◌≤◌, ℕ, ℤ, Bool, true, false, nat_eq, List, Option, Some, None}
+use Rattle.std.specs.Prelude.{◌≡◌, ◌⊎◌, ◌+◌, ℕ, ℤ, Bool, true, false, nat_eq, List, Option, Some, None}
 use Rattle.half_grid.specs.declared.plane.Point.{Point}
 use Rattle.layout_model.specs.declared.cells.Counts.{Counts}
 use Rattle.layout_model.specs.declared.pair.Pair.{Pair}
@@ -106,15 +106,6 @@ abbrev pub with_record : Option Bool → Body → Counts → Counts
 with_record (Some true) body counts = with_kept counts
 with_record (Some false) body counts = with_other counts
 with_record None body counts = with_body body counts
-
--- no count is above this
-pub record AreAtMost (limit : ℕ) (counts : Counts) : Type 0 where
-  pub kept : counts.kept ≤ limit
-  pub other : counts.other ≤ limit
-  pub texts : counts.texts ≤ limit
-  pub nodes : counts.nodes ≤ limit
-  pub boxes : counts.boxes ≤ limit
-  pub properties : counts.properties ≤ limit
 
 -- ---- refusals
 

@@ -16,7 +16,7 @@ use Rattle.oas_reader.specs.Readers.{IsReaderOf, IsReaderWithin}
 use Rattle.oas_reader.specs.Reading.{IsTail, AreAllowed}
 use Rattle.oas_reader.specs.Rules.{KeepsRules, IsLowestBroken}
 use Rattle.oas_reader.specs.Undefined.{undefined_of}
-use Rattle.oas_reader.specs.Wanting.{AreSamePairs}
+use Rattle.layout_model.specs.Pairs.{AreSamePairs}
 use Rattle.oas_reader.specs.declared.bodies.Body.{Body}
 use Rattle.oas_reader.specs.declared.bodies.Body.TheVariants as bodies
 use Rattle.oas_reader.specs.declared.reading.Reader.{Reader}

@@ -9,7 +9,8 @@ use Rattle.oas_fields.specs.declared.fields.Fields.{Fields}
 use Rattle.oas_fields.specs.declared.variables.Variable.{Variable}
 use Rattle.oas_reader.specs.Drawn.{pair_in, repetition_kept, KeepsWantedIn}
 use Rattle.oas_reader.specs.Kept.{has_a_pair, undefined_in, KeepsVersionBy, KeepsSchemeBy}
-use Rattle.oas_reader.specs.Meaning.{Placing, same_pair}
+use Rattle.layout_model.specs.Pairs.{same_pair}
+use Rattle.oas_reader.specs.Meaning.{Placing}
 use Rattle.oas_reader.specs.Placed.{KeepsPlaced, placed_by}
 use Rattle.oas_reader.specs.declared.bodies.Body.{Body}
 use Rattle.oas_reader.specs.declared.bodies.Body.TheVariants as bodies

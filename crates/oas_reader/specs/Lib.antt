@@ -13,7 +13,6 @@ pub mod Kept
 pub mod Drawn
 pub mod Cells
 pub mod Places
-pub mod Wanting
 pub mod Naming
 pub mod Finished
 pub mod Readers

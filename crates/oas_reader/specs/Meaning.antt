@@ -2,9 +2,10 @@
 --
 -- Each CELL record gives a cell, with the shapes on wanted pairs and the placements up to the next CELL record. Lengths
 -- of a layout are half units, those of a file whole grid steps.
-use Rattle.std.specs.Prelude.{◌/◌, ◌%◌, ◌==◌, ◌&&◌, ℕ, ℤ, pos, nat_eq, nat_le, Bool, true, not, if◌then◌else◌, List, [], ◌∷◌, ◌++◌, Option, Some, None, map, ◌||◌}
+use Rattle.std.specs.Prelude.{◌/◌, ◌%◌, ◌&&◌, ℕ, ℤ, pos, nat_eq, nat_le, Bool, true, not, if◌then◌else◌, List, [], ◌∷◌, ◌++◌, Option, Some, None, map, ◌||◌}
 use Rattle.std.specs.List.{list_any}
 use Rattle.half_grid.specs.declared.plane.Point.{Point}
+use Rattle.layout_model.specs.Pairs.{same_pair}
 use Rattle.layout_model.specs.declared.orient.Orient.{Orient}
 use Rattle.layout_model.specs.declared.shapes.Shape.{Shape}
 use Rattle.layout_model.specs.declared.cells.Placement.{Placement}
@@ -57,9 +58,6 @@ repetition_at past r = repetition_by (repetition_in r) (repetition_of (r ∷ pas
 -- the last record's pair
 abbrev pub pair_of : List OasRecord → Pair
 pair_of all = record { layer = or_none (layer_of all); datatype = or_none (datatype_of all) }
-
-abbrev pub same_pair : Pair → Pair → Bool
-same_pair p q = (p.layer == q.layer) && (p.datatype == q.datatype)
 
 -- it is among the wanted ones
 abbrev pub is_wanted : List Pair → List OasRecord → Bool

@@ -1,5 +1,6 @@
 -- What the real of a magnification or an angle is, rounded to 0 to a whole number: exact where it is one.
-use Rattle.std.specs.Prelude.{◌≡◌, ◌⊎◌, ℕ, zero, suc, ◌+◌, ◌*◌, ◌/◌, ◌%◌, ◌^◌, ◌≤◌, ℤ, pos, neg_ℤ, ◌*ℤ◌, ◌≤ℤ◌, Option, Some, None}
+use Rattle.std.specs.Prelude.{ℕ, ◌+◌, ◌*◌, ◌/◌, ◌%◌, ◌^◌, Option, Some, None}
+use Rattle.layout_model.specs.Turns.{turns_by, IsFactorBy, IsQuarterAngleBy}
 use Rattle.oas_lex.specs.Reals.{RealForm, OneNumber, TwoNumbers, FourBytes, EightBytes, form_of, sign_of, top_of, bottom_of, IsWholeReal}
 use Rattle.oas_lex.specs.declared.reals.Real.{Real}
 
@@ -23,11 +24,6 @@ abbrev pub factor_of : Option Real → ℕ
 factor_of None = 1
 factor_of (Some real) = floor_of real
 
--- how many quarter turns counterclockwise so many times 90 degrees are, by the sign
-abbrev pub turns_by : ℕ → ℕ → ℕ
-turns_by zero quarters = quarters % 4
-turns_by (suc sign) quarters = (3 * quarters) % 4
-
 -- a missing angle is 0
 abbrev pub turns_of : Option Real → ℕ
 turns_of None = 0
@@ -38,18 +34,9 @@ turns_of (Some real) = turns_by (sign_of (form_of real.kind) real) (floor_of rea
 -- a whole number from 1 to 16
 abbrev pub IsFactor : Option Real → Type 0
 IsFactor None = Unit {0}
-IsFactor (Some real) = (n : ℕ) × IsWholeReal real (pos n) × (1 ≤ n) × (n ≤ 16)
+IsFactor (Some real) = IsFactorBy (IsWholeReal real)
 
 -- a multiple of 90 from -360 to 360
 abbrev pub IsQuarterAngle : Option Real → Type 0
 IsQuarterAngle None = Unit {0}
-IsQuarterAngle (Some real) =
-    (quarters : ℤ) × IsWholeReal real (pos 90 *ℤ quarters) × (neg_ℤ (pos 4) ≤ℤ quarters) × (quarters ≤ℤ pos 4)
-
--- so many degrees are so many quarter turns counterclockwise
-abbrev pub IsTurn : ℤ → ℕ → Type 0
-IsTurn degrees turns =
-    ((turns ≡ 0) × ((degrees ≡ pos 0) ⊎ (degrees ≡ pos 360) ⊎ (degrees ≡ neg_ℤ (pos 360))))
-    ⊎ ((turns ≡ 1) × ((degrees ≡ pos 90) ⊎ (degrees ≡ neg_ℤ (pos 270))))
-    ⊎ ((turns ≡ 2) × ((degrees ≡ pos 180) ⊎ (degrees ≡ neg_ℤ (pos 180))))
-    ⊎ ((turns ≡ 3) × ((degrees ≡ pos 270) ⊎ (degrees ≡ neg_ℤ (pos 90))))
+IsQuarterAngle (Some real) = IsQuarterAngleBy (IsWholeReal real)

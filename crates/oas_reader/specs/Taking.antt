@@ -17,7 +17,7 @@ use Rattle.oas_reader.specs.Naming.{IsSpan, IsCalledWithin, AreCalledWithin}
 use Rattle.oas_reader.specs.Placed.{IsTurning}
 use Rattle.oas_reader.specs.Rules.{Keeps, IsLowestBroken}
 use Rattle.oas_reader.specs.Undefined.{is_there, undefined_of}
-use Rattle.oas_reader.specs.Wanting.{AreSamePairs}
+use Rattle.layout_model.specs.Pairs.{AreSamePairs}
 use Rattle.oas_reader.specs.declared.bodies.Body.{Body}
 use Rattle.oas_reader.specs.declared.bodies.Body.TheVariants as bodies
 use Rattle.oas_reader.specs.declared.bodies.Outline.{Outline}

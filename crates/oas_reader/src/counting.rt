@@ -1,18 +1,10 @@
 //! The counts of a file.
 ghost use Rattle.std.specs.Prelude.{◌≡◌, ◌^◌};
-ghost use Rattle.oas_reader.specs.Drawn.{AreAtMost, with_record};
+ghost use Rattle.layout_model.specs.Counting.{AreAtMost};
+ghost use Rattle.oas_reader.specs.Drawn.{with_record};
 
 use crate::bodies::Body;
 use layout_model::Counts;
-
-pub(crate) const NONE: Counts = Counts {
-    kept: 0,
-    other: 0,
-    texts: 0,
-    nodes: 0,
-    boxes: 0,
-    properties: 0,
-};
 
 /// The counts with one more record. `wanted` says of a record with a pair whether it is wanted.
 #[inline(always)]

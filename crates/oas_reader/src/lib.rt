@@ -18,7 +18,6 @@ mod rules;
 mod taking;
 mod undefined;
 mod values;
-mod wanting;
 
 pub use laws::reading_laws;
 pub use reading::read_oas;

@@ -1,5 +1,5 @@
 //! Placements.
-ghost use Rattle.std.specs.Prelude.{◌≡◌, ◌^◌, ◌≤◌, ◌<◌, ℕ, pos, IfSome, IfNone, IfOk, IfErr, IsSome, Err, option_copied};
+ghost use Rattle.std.specs.Prelude.{◌≡◌, ◌^◌, ◌≤◌, ◌<◌, ℕ, IfSome, IfNone, IfOk, IfErr, IsSome, Err, option_copied};
 ghost use Rattle.layout_model.specs.Images.{IsOrient};
 ghost use Rattle.layout_model.specs.Layouts.{IsWithin, IsMove, AreOffsets};
 ghost use Rattle.oas_fields.specs.Values.{IsPlaceWithin};
@@ -12,13 +12,13 @@ ghost use Rattle.oas_reader.specs.Naming.{AreCalledWithin};
 ghost use Rattle.oas_reader.specs.Placed.{KeepsPlaced, KeepsOffsetsIn, KeepsTurned, IsBadTurning, IsTurning, magnification_in, angle_in, orient_in, placed_by};
 ghost use Rattle.oas_reader.specs.Readers.{placing_of as the_placing_of, IsPlacingOnGrid};
 ghost use Rattle.oas_reader.specs.Meaning.{point_at};
-ghost use Rattle.oas_reader.specs.Reals.{IsFactor, IsQuarterAngle, IsTurn, factor_of as the_factor_of, turns_of as the_turns_of};
+ghost use Rattle.oas_reader.specs.Reals.{IsFactor, IsQuarterAngle, factor_of as the_factor_of, turns_of as the_turns_of};
 
 use crate::bodies::{Outline, Turning};
 use crate::naming::look_at_called;
 use crate::refusing::OasBad;
 use half_grid::Point;
-use layout_model::{Offsets, Orient};
+use layout_model::{Offsets, Orient, factor_in, turns_in};
 use oas_fields::{Fields, Place};
 use oas_lex::{Real, real_whole};
 use oas_record::{Called, Rep};
@@ -43,20 +43,6 @@ pub(crate) struct Placing {
     pub(crate) offsets: Offsets,
 }
 
-// The number where it is 1 to 16.
-fn factor_in(n: i64) -> Option<u8>
-    ensures some { IfSome result (λ factor. (n ≡ pos factor) × (1 ≤ factor) × (factor ≤ 16)) }
-    ensures none { IfNone result ((factor : ℕ) → n ≡ pos factor → 1 ≤ factor → factor ≤ 16 → ⊥) }
-{
-    if n < 1 {
-        return None;
-    }
-    if n > 16 {
-        return None;
-    }
-    Some(n as u8)
-}
-
 // A magnification from 1 to 16.
 fn factor_of(magnification: Option<Real>) -> Option<u8>
     ensures some { IfSome result (λ factor. IsFactor magnification × (factor ≡ the_factor_of magnification)) }
@@ -70,26 +56,6 @@ fn factor_of(magnification: Option<Real>) -> Option<u8>
         Some(n) => factor_in(n),
         None => None,
     }
-}
-
-// The quarter turns counterclockwise of a multiple of 90 degrees from -360 to 360.
-fn turns_in(degrees: i64) -> Option<u8>
-    ensures some { IfSome result (λ turns. IsTurn degrees turns) }
-    ensures none { IfNone result ((turns : ℕ) → ¬ IsTurn degrees turns) }
-{
-    if degrees == 0 || degrees == 360 || degrees == -360 {
-        return Some(0);
-    }
-    if degrees == 90 || degrees == -270 {
-        return Some(1);
-    }
-    if degrees == 180 || degrees == -180 {
-        return Some(2);
-    }
-    if degrees == 270 || degrees == -90 {
-        return Some(3);
-    }
-    None
 }
 
 // The quarter turns of an angle that is a multiple of 90 degrees from -360 to 360.

@@ -10,7 +10,8 @@ ghost use Rattle.oas_record.specs.declared.records.OasRecord.{OasRecord as AReco
 ghost use Rattle.oas_fields.specs.Values.{AreFields, ArePlacesWithin, repetition_of};
 ghost use Rattle.oas_shapes.specs.Repetitions.{HasDimensionsIn};
 ghost use Rattle.oas_reader.specs.Bodies.{body_of};
-ghost use Rattle.oas_reader.specs.Drawn.{AreAtMost};
+ghost use Rattle.layout_model.specs.Pairs.{AreSorted, AreSamePairs};
+ghost use Rattle.layout_model.specs.Counting.{AreAtMost};
 ghost use Rattle.oas_reader.specs.Files.{KeepsFile, BreaksFile, lexical_fault, tables_by, HaveRecords, IsBodyKept, IsBadBody, IsLayoutBehind};
 ghost use Rattle.oas_reader.specs.Items.{Item, records_in, magic, is_end, NoneEnds};
 ghost use Rattle.oas_reader.specs.Meaning.{counts_of};
@@ -20,7 +21,6 @@ ghost use Rattle.oas_reader.specs.Readers.{AreDraftsOf, AreDraftsWithin, IsReade
 ghost use Rattle.oas_reader.specs.Reading.{item, IsAllowed, IsRefused, IsLayoutOf, IsFaultOf, IsFirstFault};
 ghost use Rattle.oas_reader.specs.Taking.{IsBodyWithin, IsTaken};
 ghost use Rattle.oas_reader.specs.Undefined.{is_there};
-ghost use Rattle.oas_reader.specs.Wanting.{AreSorted, AreSamePairs};
 ghost use Rattle.oas_reader.specs.declared.refusing.OasBad.{OasBad as ABad};
 ghost use Rattle.oas_reader.specs.declared.refusing.OasBad.TheVariants as bads;
 
@@ -34,8 +34,7 @@ use crate::order::Place;
 use crate::refusing::OasBad;
 use crate::taking::take_names;
 use crate::values::take_values;
-use crate::wanting::sorted_pairs;
-use layout_model::{Counts, Layout, Pair};
+use layout_model::{Counts, Layout, NO_COUNTS, Pair, sorted_pairs};
 use oas_fields::Fields;
 use oas_lex::{Real, real_whole};
 use oas_record::{OasRecord, PlainRectangle, RecordBad, Rep, plain_rectangle_at, record_at};
@@ -187,7 +186,7 @@ impl<'a> Reader<'a> {
             fields: Fields::new(),
             names: Names::new(alloc, file),
             drafts: Drafts::new(alloc),
-            counts: counting::NONE,
+            counts: NO_COUNTS,
         }
     }
 

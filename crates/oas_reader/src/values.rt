@@ -14,7 +14,7 @@ ghost use Rattle.oas_reader.specs.Placed.{KeepsPlaced, IsTurning, placed_by};
 ghost use Rattle.oas_reader.specs.Reading.{item};
 ghost use Rattle.oas_reader.specs.Readers.{placings_of, AreDraftsOf, AreDraftsWithin};
 ghost use Rattle.oas_reader.specs.Taking.{IsBodyWithin, IsTaken, wanting_of, AreValuesKept, IsBadValue};
-ghost use Rattle.oas_reader.specs.Wanting.{AreSorted};
+ghost use Rattle.layout_model.specs.Pairs.{AreSorted};
 ghost use Rattle.oas_reader.specs.declared.bodies.Body.TheVariants as bodies;
 ghost use Rattle.oas_reader.specs.declared.refusing.OasBad.TheVariants as faults;
 
@@ -25,8 +25,7 @@ use crate::placing::{DIMENSION_RULE, placing_of};
 use crate::refusing::OasBad;
 use crate::rules::{broken_by_file, positions_are_near};
 use crate::undefined::{first_undefined, has_pair};
-use crate::wanting::is_among;
-use layout_model::Pair;
+use layout_model::{Pair, is_among};
 use oas_fields::Fields;
 use oas_record::Called;
 use std::alloc::Global;

@@ -60,5 +60,9 @@ are_moves ps h =
 pub are_offsets : (ps : List Point) → map doubled ps ≢ [] → AreNear (map doubled ps) → AreOffsets (map doubled ps)
 are_offsets ps some h = record { nonempty = some; moves = are_moves ps h }
 
+-- offsets are near 0
+pub offsets_near : (ps : List Point) → AreOffsets ps → AreNear ps
+offsets_near ps h = All-weaker IsMove IsNearInHalves (λ p move. move.near) ps h.moves
+
 pub same_point : (a b c d : ℤ) → a ≡ b → c ≡ d → point a c ≡ point b d
 same_point a b c d e f = ap (λ x. point x c) e ∙ ap (λ y. point b y) f

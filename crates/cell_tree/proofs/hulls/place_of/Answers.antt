@@ -1,7 +1,7 @@
 use Rattle.std.proofs.Common.{◌≡◌, ◌<◌, pos, true, false, length, get_or, sym, ap, ◌∙◌, arith}
 use Rattle.std.proofs.lemmas.List.{get_or_default}
 use Rattle.std.proofs.lemmas.Option.{slice_get_within, get_or_from_slice_get}
-use Rattle.cell_tree.specs.HullTables.{same_pair}
+use Rattle.layout_model.specs.Pairs.{same_pair}
 use Rattle.cell_tree.specs.declared.hulls.PairHull.{PairHull}
 use Rattle.cell_tree.proofs.HullLemmas.{IsPlace, IsMissing, widened_at, hull_at, widened_between, no_hull}
 use Rattle.cell_tree.proofs.hulls.place_of.Goals as goal

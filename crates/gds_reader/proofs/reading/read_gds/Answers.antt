@@ -1,6 +1,5 @@
 use Rattle.std.proofs.Common.{sym, subst}
-use Rattle.gds_reader.specs.Elements.{AreSamePairs}
-use Rattle.gds_reader.specs.Wanting.{AreSorted}
+use Rattle.layout_model.specs.Pairs.{AreSamePairs, AreSorted}
 use Rattle.gds_reader.proofs.reading.read_gds.Goals as goal
 use Rattle.gds_reader.proofs.ReadLemmas.{every_layout, every_first_fault}
 

@@ -2,8 +2,8 @@ use Rattle.std.proofs.Common.{rules, arith, Fits, w64, ◌≡◌, ◌<◌, ◌^�
 use Rattle.std.specs.Prelude.{◌≢◌}
 use Rattle.std.proofs.lemmas.Grind.{common_steps}
 use Rattle.gds_record.specs.declared.kinds.Kind.TheVariants.{EndLib}
-use Rattle.gds_reader.specs.Elements.{AreSamePairs}
-use Rattle.gds_reader.specs.Readers.{AreAtMost}
+use Rattle.layout_model.specs.Pairs.{AreSamePairs}
+use Rattle.layout_model.specs.Counting.{AreAtMost}
 use Rattle.gds_reader.proofs.reading.read_records.Goals as goal
 use Rattle.gds_reader.proofs.ReadLemmas.{IsEnded, framing_first, refused_first, held, stands_on, few_counts, taken_allowed, ended_ok, ended_grid, ended_bad}
 

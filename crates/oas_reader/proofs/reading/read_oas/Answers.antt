@@ -1,5 +1,5 @@
 use Rattle.std.proofs.Common.{sym, subst}
-use Rattle.oas_reader.specs.Wanting.{AreSorted, AreSamePairs}
+use Rattle.layout_model.specs.Pairs.{AreSorted, AreSamePairs}
 use Rattle.oas_reader.proofs.ReadLemmas.{every_layout, every_first_fault}
 use Rattle.oas_reader.proofs.reading.read_oas.Goals as goal
 

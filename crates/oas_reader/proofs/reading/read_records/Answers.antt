@@ -1,6 +1,6 @@
 use Rattle.std.proofs.Common.{rules, ◌<◌, ◌^◌, length, refl}
 use Rattle.oas_record.specs.Plain.{rectangle_of}
-use Rattle.oas_reader.specs.Wanting.{AreSamePairs}
+use Rattle.layout_model.specs.Pairs.{AreSamePairs}
 use Rattle.oas_reader.proofs.BodyLemmas.{body_within}
 use Rattle.oas_reader.proofs.RecordRules.{dimensions_behind}
 use Rattle.oas_reader.proofs.ReadLemmas.{stands_first, have_records, counted_few, counts_small, lexical_first, refused_first, stands_on, ends, goes_on, ended_ok, ended_bad}

@@ -10,8 +10,7 @@ use Rattle.std.proofs.lemmas.Bool.{cases_lt}
 use Rattle.std.proofs.lemmas.List.Folds.{list_any_at, list_any_none}
 use Rattle.std.proofs.lemmas.List.Sorted.{IsNonDecreasingBy-from_all_adjacent}
 use Rattle.layout_model.specs.declared.pair.Pair.{Pair}
-use Rattle.gds_reader.specs.Values.{same_pair}
-use Rattle.gds_reader.specs.Wanting.{pair_cmp, AreSorted}
+use Rattle.layout_model.specs.Pairs.{same_pair, by_layer, AreSorted}
 
 less : (x y : ℕ) → x < y → nat_cmp x y ≡ Less
 less x y h = sym (nat_cmp_is x y Less h)
@@ -24,15 +23,15 @@ at_most_two Less = omega arith
 at_most_two Equal = omega arith
 at_most_two Greater = omega arith
 
-by_layer : (al bl pl : ℕ) (x y : Ordering) → al < bl
+layers_rise : (al bl pl : ℕ) (x y : Ordering) → al < bl
     → ordering_index (ordering_then (nat_cmp al pl) x) ≤ ordering_index (ordering_then (nat_cmp bl pl) y)
-by_layer al bl pl x y h = elim (cases_lt pl bl) [
+layers_rise al bl pl x y h = elim (cases_lt pl bl) [
   | inl below ↦ rw (greater bl pl below) (at_most_two (ordering_then (nat_cmp al pl) x))
   | inr above ↦ let lower : al < pl = omega arith in rw (less al pl lower) (omega arith)
 ]
 
-by_datatype : (ad bd pd : ℕ) → ad ≤ bd → ordering_index (nat_cmp ad pd) ≤ ordering_index (nat_cmp bd pd)
-by_datatype ad bd pd h = grind arith
+datatypes_rise : (ad bd pd : ℕ) → ad ≤ bd → ordering_index (nat_cmp ad pd) ≤ ordering_index (nat_cmp bd pd)
+datatypes_rise ad bd pd h = grind arith
 
 in_layer : (o a b : Ordering) → ordering_index a ≤ ordering_index b → ordering_index (ordering_then o a) ≤ ordering_index (ordering_then o b)
 in_layer Less a b h = omega arith
@@ -45,14 +44,14 @@ not_less x y h = grind arith
 adjacent : (al ad bl bd pl pd : ℕ) → is_lt (ordering_then (nat_cmp bl al) (nat_cmp bd ad)) ≡ false
     → ordering_index (ordering_then (nat_cmp al pl) (nat_cmp ad pd)) ≤ ordering_index (ordering_then (nat_cmp bl pl) (nat_cmp bd pd))
 adjacent al ad bl bd pl pd h = elim (cases_lt al bl) [
-  | inl up ↦ by_layer al bl pl (nat_cmp ad pd) (nat_cmp bd pd) up
+  | inl up ↦ layers_rise al bl pl (nat_cmp ad pd) (nat_cmp bd pd) up
   | inr other ↦ elim (cases_lt bl al) [
     | inl down ↦ absurd (let e = less bl al down in let g = rw e at h in cc)
     | inr level ↦
         let same : bl ≡ al = omega arith in
         let e : nat_cmp bl al ≡ Equal = sym (nat_cmp_is bl al Equal same) in
         let datatypes : ad ≤ bd = not_less bd ad (rw e at h) in
-        rw same (in_layer (nat_cmp al pl) (nat_cmp ad pd) (nat_cmp bd pd) (by_datatype ad bd pd datatypes))
+        rw same (in_layer (nat_cmp al pl) (nat_cmp ad pd) (nat_cmp bd pd) (datatypes_rise ad bd pd datatypes))
   ]
 ]
 
@@ -65,14 +64,14 @@ less_pair yl yd pl pd h = grind arith
 greater_pair : (yl yd pl pd : ℕ) → ordering_then (nat_cmp yl pl) (nat_cmp yd pd) ≡ Greater → (nat_eq pl yl && nat_eq pd yd) ≡ false
 greater_pair yl yd pl pd h = grind arith
 
-pub sorted_all : (xs : List Pair) → IsSorted pair_cmp xs → AreSorted xs
-sorted_all xs up p = IsNonDecreasingBy-from_all_adjacent (λ y. ordering_index (pair_cmp y p)) xs (λ k d lt.
+pub sorted_all : (xs : List Pair) → IsSorted by_layer xs → AreSorted xs
+sorted_all xs up p = IsNonDecreasingBy-from_all_adjacent (λ y. ordering_index (by_layer y p)) xs (λ k d lt.
     let a = get_or xs k d in
     let b = get_or xs (k + 1) d in
     adjacent a.layer a.datatype b.layer b.datatype p.layer p.datatype (up k d (omega arith) lt))
 
 pub searched_pair : (xs : List Pair) (p : Pair) (r : Result ℕ ℕ) → IsSearchInRange r (length xs)
-    → IsBinarySearchResult (λ y. pair_cmp y p) xs r → AreSorted xs → is_ok r ≡ list_any (same_pair p) xs
+    → IsBinarySearchResult (λ y. by_layer y p) xs r → AreSorted xs → is_ok r ≡ list_any (same_pair p) xs
 searched_pair xs p (Ok i) bound found up =
     let y = get_or xs i p in
     sym (list_any_at (same_pair p) xs i p bound (equal_pair y.layer y.datatype p.layer p.datatype (found p)))

@@ -2,7 +2,7 @@ use Rattle.std.proofs.Common.{◌∷◌, take, sym, subst, arith}
 use Rattle.std.proofs.lemmas.List.{take_more}
 use Rattle.layout_model.specs.Hulls.{IsLeastBoxOf}
 use Rattle.layout_model.proofs.HullLemmas.{box_grows}
-use Rattle.layout_model.proofs.offsets.box_from.Goals as goal
+use Rattle.layout_model.proofs.boxes.box_from.Goals as goal
 
 pub loop-p-preserved : goal.loop-p-preserved
 loop-p-preserved c =

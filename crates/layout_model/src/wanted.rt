@@ -1,16 +1,14 @@
-//! The wanted pairs.
+//! The pairs whose shapes are wanted of a file.
 ghost use Rattle.std.specs.Prelude.{◌≡◌, IfOk};
 ghost use Rattle.std.specs.List.{list_any};
-ghost use Rattle.oas_reader.specs.Wanting.{AreSamePairs};
-ghost use Rattle.oas_reader.specs.Wanting.{AreSorted};
-ghost use Rattle.oas_reader.specs.Meaning.{same_pair};
+ghost use Rattle.layout_model.specs.Pairs.{same_pair, AreSamePairs, AreSorted};
 
+use crate::pair::Pair;
 use geo_stream::NoMemory;
-use layout_model::Pair;
 use std::alloc::Global;
 
 /// The pairs in ascending order.
-pub(crate) fn sorted_pairs(alloc: Global, pairs: &[Pair]) -> Result<Vec<Pair>, NoMemory>
+pub fn sorted_pairs(alloc: Global, pairs: &[Pair]) -> Result<Vec<Pair>, NoMemory>
     ensures same { IfOk result (λ sorted. AreSamePairs pairs.now sorted.items) }
     ensures order { IfOk result (λ sorted. AreSorted sorted.items) }
 {
@@ -19,9 +17,10 @@ pub(crate) fn sorted_pairs(alloc: Global, pairs: &[Pair]) -> Result<Vec<Pair>, N
     Ok(sorted)
 }
 
-/// Whether the pair is among these, which are in ascending order.
+/// Whether the pair is among these, which are in ascending order. It takes no memory, and the logarithm of their number
+/// in time.
 #[inline(always)]
-pub(crate) fn is_among(sorted: &[Pair], pair: Pair) -> bool
+pub fn is_among(sorted: &[Pair], pair: Pair) -> bool
     requires { AreSorted sorted.now }
     ensures { result ≡ list_any (same_pair pair) sorted.now }
 {

@@ -1,6 +1,6 @@
 use Rattle.std.proofs.Common.{◌∙◌}
-use Rattle.gds_reader.proofs.wanting.is_among.Goals as goal
-use Rattle.gds_reader.proofs.PairLemmas.{searched_pair}
+use Rattle.layout_model.proofs.wanted.is_among.Goals as goal
+use Rattle.layout_model.proofs.PairLemmas.{searched_pair}
 
 pub returns : goal.returns
 returns c =

@@ -1,9 +1,9 @@
 use Rattle.std.proofs.Common.{◌∙◌, sym, ap}
 use Rattle.std.specs.List.{list_any}
 use Rattle.std.proofs.lemmas.List.Sorted.{list_any-IsPermutation}
-use Rattle.gds_reader.specs.Values.{same_pair}
-use Rattle.gds_reader.proofs.wanting.sorted_pairs.Goals as goal
-use Rattle.gds_reader.proofs.PairLemmas.{sorted_all}
+use Rattle.layout_model.specs.Pairs.{same_pair}
+use Rattle.layout_model.proofs.wanted.sorted_pairs.Goals as goal
+use Rattle.layout_model.proofs.PairLemmas.{sorted_all}
 
 pub returns-clause-same : goal.returns-clause-same
 returns-clause-same c = λ pair.

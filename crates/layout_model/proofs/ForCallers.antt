@@ -1,0 +1,4 @@
+-- What crates above may cite.
+--
+-- The factor and the quarter turns of a placement, by the real of a file that says them.
+pub use Rattle.layout_model.proofs.TurnLemmas.{IsOneReal, factor_bounds, turns_few, factor_some, factor_none, turns_some, turns_none}
