@@ -1,6 +1,7 @@
 -- What a placed cell shows at one of its places, and when it shows nothing in a window.
 use Rattle.std.proofs.Common.{◌≡◌, ℕ, ℤ, zero, suc, pos, neg_ℤ, ◌+◌, ◌-◌, ◌<◌, ◌≤◌, ◌+ℤ◌, ◌*ℤ◌, ◌≤ℤ◌, Bool, true, false, List, [], ◌∷◌, ◌++◌, Option, Some, None, IfSome, map, drop, length, slice_get, get_or, int_lt, refl, sym, ap, subst, ◌∙◌, arith}
 use Rattle.std.specs.Int.{int_min, int_max}
+use Rattle.std.proofs.Math.IntN.{suc_ℤ-*ℤ, zero-*ℤ}
 use Rattle.std.specs.List.{filter, flat_map, AllByRecursion}
 use Rattle.std.proofs.lemmas.Int.{ints, clamps}
 use Rattle.std.proofs.lemmas.List.{map-append}
@@ -19,6 +20,7 @@ use Rattle.flat_walk.specs.Poses.{oriented, composed}
 use Rattle.flat_walk.specs.Quads.{quad_image, turned_round, with_corners, lowest_of, highest_of, has_row_in}
 use Rattle.flat_walk.specs.Rests.{Skips, marked_image, shows_in}
 use Rattle.flat_walk.specs.Ways.{spots_rest, low_corner, high_corner, IsBetweenRows, HasRowsBetween, AreRowsBetween}
+use Rattle.flat_walk.proofs.PointLemmas.{same_point}
 use Rattle.flat_walk.proofs.PoseLemmas.{quad_twice}
 use Rattle.flat_walk.proofs.Motions.{mul_up}
 use Rattle.flat_walk.proofs.RestLemmas.{drop_here, skip_on, skip_front}
@@ -157,6 +159,13 @@ box_between orient box p turns inside =
     let y = mul_order orient.mag box.y0 p.y box.y1 inside.bottom inside.top in
     let h = amid_turned orient.turns orient.flip (enlarged orient.mag (low_corner box)) (enlarged orient.mag p) (enlarged orient.mag (high_corner box)) turns (record { left = x.0; right = x.1; bottom = y.0; top = y.1 }) in
     record { above = h.0; below = h.1 }
+
+once : (z : ℤ) → pos 1 *ℤ z ≡ z
+once z = rw (suc_ℤ-*ℤ (pos 0) z, zero-*ℤ z) (omega (arith, ints))
+
+-- a point that isn't turned
+pub plain_point : (orient : Orient) (p : Point) → orient.flip ≡ false → orient.turns ≡ 0 → orient.mag ≡ 1 → oriented orient p ≡ p
+plain_point orient p f t m = rw (f, t, m) (same_point _ _ (once p.x) (once p.y))
 
 -- ---- steps of the code
 

@@ -1,5 +1,5 @@
 //! The cells on the way from the top cell to the one whose shapes are shown, and what they still place.
-ghost use Rattle.std.specs.Prelude.{◌≡◌, ◌^◌, ◌<◌, ◌≤◌, ◌+ℤ◌, [], ◌++◌, None, Some, map, length, slice_get, MatchOption, IfSome};
+ghost use Rattle.std.specs.Prelude.{◌≡◌, ◌^◌, ◌<◌, ◌≤◌, ◌+ℤ◌, true, false, [], ◌++◌, None, Some, map, length, slice_get, MatchOption, IfSome};
 ghost use Rattle.half_grid.specs.declared.plane.Point.{Point as APoint};
 ghost use Rattle.layout_model.specs.Hulls.{IsInBox};
 ghost use Rattle.layout_model.specs.declared.cells.Placement.{Placement as APlacement};
@@ -137,6 +137,21 @@ fn high_corner(hull: &Frame) -> Point
     }
 }
 
+// Whether nothing is enlarged, mirrored or turned.
+fn is_plain(orient: Orient) -> bool
+    ensures flip { result ≡ true → orient.flip ≡ false }
+    ensures turns { result ≡ true → orient.turns ≡ 0 }
+    ensures mag { result ≡ true → orient.mag ≡ 1 }
+{
+    if orient.flip {
+        return false;
+    }
+    if orient.turns != 0 {
+        return false;
+    }
+    orient.mag == 1
+}
+
 /// The rows of a box that is turned so.
 pub(crate) fn rows_of(orient: Orient, hull: Frame) -> Rows
     requires orient { IsOrient orient }
@@ -145,9 +160,12 @@ pub(crate) fn rows_of(orient: Orient, hull: Frame) -> Rows
     ensures between { (p : APoint) → IsInBox hull p → IsBetweenRows orient result.low result.high p }
     ensures near { IsWithin (2 ^ 58) (record { x = result.low; y = result.high }) }
 {
-    let low = oriented(orient, low_corner(&hull));
-    let high = oriented(orient, high_corner(&hull));
-    rows_between(low, high)
+    let low = low_corner(&hull);
+    let high = high_corner(&hull);
+    if is_plain(orient) {
+        return rows_between(low, high);
+    }
+    rows_between(oriented(orient, low), oriented(orient, high))
 }
 
 // The placements of a cell.
