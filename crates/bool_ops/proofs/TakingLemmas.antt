@@ -1,5 +1,5 @@
 -- Whether a list has a tile, by the windings of its edges.
-use Rattle.std.proofs.Common.{◌≡◌, ◌≢◌, ◌≤ℤ◌, ◌<ℤ◌, ℤ, pos, Bool, true, not, refl, sym, ◌∙◌, List, [], ◌∷◌, count_by, subst, arith}
+use Rattle.std.proofs.Common.{◌≡◌, ◌≢◌, ◌≤ℤ◌, ◌<ℤ◌, ℤ, pos, Bool, true, false, ◌&&◌, not, refl, sym, ◌∙◌, List, [], ◌∷◌, count_by, subst, arith}
 use Rattle.std.specs.Ordering.{int_eq}
 use Rattle.std.specs.List.{list_any}
 use Rattle.half_grid.specs.Trapezoids.{Trapezoid, count_in, trapezoid_has}
@@ -13,7 +13,7 @@ use Rattle.trap_join.specs.Joins.{IsTakenIn}
 use Rattle.column_sweep.specs.Operands.{WindsByCount}
 use Rattle.column_sweep.specs.Sweeps.{IsSwept}
 use Rattle.bool_ops.specs.declared.operations.Op.{Op}
-use Rattle.bool_ops.specs.Operations.{has_tile, takes, IsInResult, IsWoundIn, IsJoinedOf}
+use Rattle.bool_ops.specs.Operations.{has_tile, takes, IsInResult, IsLeftIn, IsWoundIn, IsJoinedOf}
 
 -- a list has an item that passes a test exactly where the number of these isn't 0
 any_by_count : {X : Type 0} (p : X → Bool) (xs : List X) → not (int_eq (pos (count_by p xs)) (pos 0)) ≡ list_any p xs
@@ -66,6 +66,54 @@ swept_union window post only allowed edges traps swept =
       from = h.rows.from;
       below = h.rows.below;
       taken = subst (λ r. post (edges_winding A edges t) (edges_winding B edges t) r) (test_nonzero (edges_winding A edges t) h.wound) (allowed (edges_winding A edges t) (edges_winding B edges t));
+    } in
+    record {
+      joined = swept.joined;
+      covers = record { once = λ t h. swept.covers.once t (back t h); never = λ t h. swept.covers.never t (λ taken. h (to t taken)) };
+    }
+
+and_first : (a b : Bool) → (a && b) ≡ true → a ≡ true
+and_first true b h = refl
+and_first false b h = h
+
+and_second : (a b : Bool) → (a && b) ≡ true → b ≡ true
+and_second true b h = h
+and_second false true h = refl
+and_second false false h = h
+
+and_both : (a b : Bool) → a ≡ true → b ≡ true → (a && b) ≡ true
+and_both true b e f = f
+and_both false b e f = e
+
+zero_test : (w : ℤ) → int_eq w (pos 0) ≡ true → w ≡ pos 0
+zero_test w h = grind (arith, ints, h)
+
+test_zero : (w : ℤ) → w ≡ pos 0 → int_eq w (pos 0) ≡ true
+test_zero w e = grind (arith, ints, e)
+
+left_test : (a b : ℤ) → (int_eq a (pos 0) && not (int_eq b (pos 0))) ≡ true → (a ≡ pos 0) × (b ≢ pos 0)
+left_test a b h = (
+  zero_test a (and_first (int_eq a (pos 0)) (not (int_eq b (pos 0))) h),
+  nonzero_test b (and_second (int_eq a (pos 0)) (not (int_eq b (pos 0))) h),
+)
+
+test_left : (a b : ℤ) → a ≡ pos 0 → b ≢ pos 0 → (int_eq a (pos 0) && not (int_eq b (pos 0))) ≡ true
+test_left a b e h = and_both (int_eq a (pos 0)) (not (int_eq b (pos 0))) (test_zero a e) (test_nonzero b h)
+
+-- what a sweep gives of operand B where operand A isn't
+pub swept_left : (window : RowRange) (post : ℤ → ℤ → Bool → Type 0)
+    → ((x y : ℤ) (r : Bool) → post x y r → r ≡ (int_eq x (pos 0) && not (int_eq y (pos 0)))) → ((x y : ℤ) → post x y (int_eq x (pos 0) && not (int_eq y (pos 0))))
+    → (edges : List EdgeParts) (traps : List Trapezoid) → IsSwept post edges window traps → IsJoinedOf window (IsLeftIn edges window) traps
+swept_left window post only allowed edges traps swept =
+    let to : (t : Tile) → IsTakenIn post edges window t → IsLeftIn edges window t = λ t h. (let told = left_test (edges_winding A edges t) (edges_winding B edges t) (sym (only _ _ true h.taken)) in record {
+      rows = record { from = h.from; below = h.below };
+      free = told.0;
+      wound = told.1;
+    }) in
+    let back : (t : Tile) → IsLeftIn edges window t → IsTakenIn post edges window t = λ t h. record {
+      from = h.rows.from;
+      below = h.rows.below;
+      taken = subst (λ r. post (edges_winding A edges t) (edges_winding B edges t) r) (test_left (edges_winding A edges t) (edges_winding B edges t) h.free h.wound) (allowed (edges_winding A edges t) (edges_winding B edges t));
     } in
     record {
       joined = swept.joined;

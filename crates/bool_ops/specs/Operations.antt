@@ -4,7 +4,7 @@
 use Rattle.std.specs.Prelude.{All, Any, ◌≡◌, pos, ◌≢◌, ◌≤ℤ◌, ◌<ℤ◌, ◌&&◌, ◌||◌, not, Bool, IsTrue, List}
 use Rattle.std.specs.List.{list_any}
 use Rattle.half_grid.specs.Edges.{EdgeParts, edges_winding}
-use Rattle.half_grid.specs.declared.border.Operand.TheVariants.{A}
+use Rattle.half_grid.specs.declared.border.Operand.TheVariants.{A, B}
 use Rattle.half_grid.specs.JoinedLists.{IsJoined}
 use Rattle.half_grid.specs.Trapezoids.{Trapezoid, CoversExactly, trapezoid_has}
 use Rattle.half_grid.specs.Winding.{IsInPolygon}
@@ -38,6 +38,12 @@ pub record IsInResult (op : Op) (a b : List Trapezoid) (window : RowRange) (t : 
 pub record IsWoundIn (edges : List EdgeParts) (window : RowRange) (t : Tile) : Type 0 where
   pub rows : IsInRows window t
   pub wound : edges_winding A edges t ≢ pos 0
+
+-- the tile is in the window's rows, and the winding of operand B there isn't 0, but that of operand A is
+pub record IsLeftIn (edges : List EdgeParts) (window : RowRange) (t : Tile) : Type 0 where
+  pub rows : IsInRows window t
+  pub free : edges_winding A edges t ≡ pos 0
+  pub wound : edges_winding B edges t ≢ pos 0
 
 -- the list is the joined list, in the window, of an area
 pub record IsJoinedOf (window : RowRange) (area : Tile → Type 0) (traps : List Trapezoid) : Type 0 where

@@ -13,4 +13,4 @@ mod unions;
 pub use lone::lone_piece;
 pub use operations::{Op, combine};
 pub use outline::pieces;
-pub use unions::unite;
+pub use unions::{left_over, unite};

@@ -1,31 +1,35 @@
 -- Areas that grow and shrink, by the windings of rings.
-use Rattle.std.proofs.Common.{◌≡◌, ◌≢◌, ◌↔◌, ◌^◌, ℤ, pos, ◌+ℤ◌, ◌≤ℤ◌, Bool, true, false, ◌⊎◌, inl, inr, List, [], ◌∷◌, flat_map, length, ap, refl, ◌∙◌, arith, All}
+use Rattle.std.proofs.Common.{◌≡◌, ◌≢◌, ◌↔◌, ◌^◌, ◌≤◌, ℕ, zero, suc, ℤ, pos, ◌+ℤ◌, ◌≤ℤ◌, Bool, true, false, ◌⊎◌, inl, inr, List, [], ◌∷◌, ◌++◌, flat_map, length, append_assoc, ap, sym, refl, ◌∙◌, arith, All}
 use Rattle.std.proofs.lemmas.Int.{ints, by_lt_z, clamps}
 use Rattle.std.proofs.lemmas.List.Elements.{All-weaker, All-head, All-tail}
+use Rattle.std.proofs.lemmas.List.{append-nil}
+use Rattle.std.proofs.lemmas.List.Sums.{sum_by-append}
 use Rattle.half_grid.specs.Edges.{EdgeParts, edges_winding}
 use Rattle.half_grid.specs.Nearness.{IsNear, IsGrown, IsShrunk}
-use Rattle.half_grid.specs.Trapezoids.{Trapezoid, IsInTrapezoid, IsLegal, trapezoid_has}
+use Rattle.half_grid.specs.Trapezoids.{Trapezoid, IsInTrapezoid, IsLegal, count_in, trapezoid_has}
 use Rattle.half_grid.specs.Windows.{RowRange}
 use Rattle.half_grid.specs.Winding.{count_one}
-use Rattle.half_grid.specs.declared.border.Operand.TheVariants.{A}
+use Rattle.half_grid.specs.declared.border.Operand.{Operand}
+use Rattle.half_grid.specs.declared.border.Operand.TheVariants.{A, B}
 use Rattle.half_grid.specs.declared.plane.Tile.{Tile}
 use Rattle.half_grid.specs.declared.extent.Frame.{Frame}
-use Rattle.half_grid.proofs.ForCallers.{count_by-cons, has_in, in_has}
-use Rattle.scan_line.specs.Runs.{IsBalanced}
+use Rattle.half_grid.proofs.ForCallers.{count_by-cons, has_in, in_has, windings_add}
+use Rattle.scan_line.specs.Runs.{IsBalanced, IsBalancedAt}
+use Rattle.column_sweep.specs.Operands.{WindsByCount}
 use Rattle.square_size.specs.EdgeLaws.{IsInSome}
 use Rattle.square_size.specs.Edges.{edges_of_grown}
 use Rattle.square_size.specs.Ranges.{IsRectangle}
 use Rattle.square_size.specs.Rings.{IsSizing, HasRingWithinReach}
-use Rattle.square_size.proofs.ForCallers.{half_twice, near_or_not, grown_wind, others_do_not_wind, grown_are_balanced}
+use Rattle.square_size.proofs.ForCallers.{half_twice, near_or_not, grown_wind, others_do_not_wind, grown_not_for_other, grown_are_balanced}
 use Rattle.tone_mirror.specs.Frames.{IsInFrame}
 use Rattle.bool_ops.specs.declared.operations.Op.TheVariants.{Sub}
-use Rattle.bool_ops.specs.Operations.{IsInRows, IsJoinedOf, IsInResult, IsWoundIn}
+use Rattle.bool_ops.specs.Operations.{IsInRows, IsJoinedOf, IsInResult, IsLeftIn, IsWoundIn}
 use Rattle.deck_plan.specs.Lists.{HasArea}
 use Rattle.deck_plan.specs.Needs.{widened}
 use Rattle.deck_plan.specs.Bounds.{wider, HasCornersUpTo, IsFullBox}
 use Rattle.deck_plan.proofs.Boxes.{wider_tile}
 use Rattle.deck_plan.proofs.Corners.{corners_of_all}
-use Rattle.deck_plan.proofs.AreaLists.{Decided, rows_decided, joined_has, same_area, combined_has, some_decided}
+use Rattle.deck_plan.proofs.AreaLists.{Decided, rows_decided, joined_has, combined_has, some_decided}
 use Rattle.deck_plan.proofs.Singles.{in_one, one_in}
 
 -- ---- grown
@@ -51,7 +55,7 @@ near_decided dx dy r (z ∷ traps) t legal =
     ])
 
 wound_by : (edges : List EdgeParts) (window : RowRange) (t : Tile) → IsInRows window t → Decided (edges_winding A edges t ≡ pos 0) → Decided (IsWoundIn edges window t)
-wound_by edges window t rows (inl zero) = inr (λ h. h.wound zero)
+wound_by edges window t rows (inl none) = inr (λ h. h.wound none)
 wound_by edges window t rows (inr wound) = inl (record { rows = rows; wound = wound })
 
 pub zero_decided : (w : ℤ) → Decided (w ≡ pos 0)
@@ -107,33 +111,83 @@ near_itself dx dy r t =
 pub near_rows : (dx dy : ℤ) (window : RowRange) (t u : Tile) → IsInRows window t → IsNear dx dy t u → IsInRows (widened dy window) u
 near_rows dx dy window t u rows near = record { from = omega (arith, ints, rows.from, near.rows.above, near.rows.below); below = omega (arith, ints, rows.below, near.rows.above, near.rows.below) }
 
-module _ (dx dy : ℤ) (r : IsRectangle dx dy) (traps : List Trapezoid) (window : RowRange) (frame : Frame) (z : Trapezoid) (tiles : (t : Tile) → IsInTrapezoid z t ↔ IsInFrame frame t)
-    (around : (t : Tile) → IsInSome traps t → (u : Tile) → IsNear dx dy t u → IsInFrame frame u) (outside grown shrunk : List Trapezoid)
-    (outside_is : IsJoinedOf (widened dy window) (IsInResult Sub (z ∷ []) traps (widened dy window)) outside)
-    (grown_is : HasArea window (IsGrown dx dy (IsInSome outside)) grown)
-    (shrunk_is : IsJoinedOf window (IsInResult Sub traps grown window) shrunk) where
-  outside_has : HasArea (widened dy window) (λ t. IsInSome (z ∷ []) t × (IsInSome traps t → ⊥)) outside
-  outside_has = combined_has Sub (z ∷ []) traps (widened dy window) outside outside_is
+pub one_edge_put : (edges after rest more whole : List EdgeParts) (edge : EdgeParts) → after ≡ edges ++ edge ∷ [] → rest ≡ edge ∷ more → edges ++ rest ≡ whole → after ++ more ≡ whole
+one_edge_put edges after rest more whole edge put first before =
+    ap (λ (es : List EdgeParts). es ++ more) put ∙ (append_assoc edges (edge ∷ []) more ∙ (ap (λ (es : List EdgeParts). edges ++ es) (sym first) ∙ before))
 
-  kept : (t : Tile) → IsInRows window t → IsInSome traps t → (IsInSome grown t → ⊥) → (u : Tile) → IsNear dx dy t u → IsInSome traps u
-  kept t rows some out u near = elim (some_decided traps u) [
-    | inl h ↦ h
-    | inr none ↦ (let there = outside_has.all u (near_rows dx dy window t u rows near) (one_in z u ((tiles u).1 (around t some u near)), none) in
-        absurd (out (grown_is.all t rows (u, there, near))))
+pub all_edges_put : (edges rest whole : List EdgeParts) → rest ≡ [] → edges ++ rest ≡ whole → edges ≡ whole
+all_edges_put edges rest whole none all = sym (append-nil edges) ∙ (ap (λ (es : List EdgeParts). edges ++ es) (sym none) ∙ all)
+
+some_of : (n : ℕ) → (n ≡ 0 → ⊥) → 1 ≤ n
+some_of zero f = absurd (f refl)
+some_of (suc n) f = omega arith
+
+-- two lists of edges in balance are in balance together
+both_balanced : (es fs : List EdgeParts) (o : Operand) (j : ℤ) → IsBalancedAt es o j → IsBalancedAt fs o j → IsBalancedAt (es ++ fs) o j
+both_balanced es fs o j h k = sum_by-append _ es fs ∙ (rw (h, k) (sym (sum_by-append _ es fs)))
+
+-- the edges of a list as operand B, and those of the rings round another list
+module _ (dx dy : ℤ) (r : IsRectangle dx dy) (traps outside : List Trapezoid) (legal : All IsLegal outside) (window : RowRange) (own edges : List EdgeParts)
+    (first : WindsByCount A own [] window) (second : WindsByCount B own traps window) (is : edges ≡ own ++ flat_map (edges_of_grown dx dy) outside) where
+  abbrev rings : List EdgeParts
+  rings = flat_map (edges_of_grown dx dy) outside
+
+  pub rings_balanced : IsBalanced own window → IsBalanced edges window
+  rings_balanced balanced = λ o j low high. rw is (both_balanced own rings o j (balanced o j low high) (grown_are_balanced dx dy outside o j r legal))
+
+  round_rings : (t : Tile) → IsInRows window t → edges_winding A edges t ≡ edges_winding A rings t
+  round_rings t rows =
+      let sum = ap (λ (es : List EdgeParts). edges_winding A es t) is ∙ windings_add A own rings t in
+      let none = first t rows.from rows.below in
+      omega (arith, ints, sum, none)
+
+  round_traps : (t : Tile) → IsInRows window t → edges_winding B edges t ≡ pos (count_in traps t)
+  round_traps t rows =
+      let sum = ap (λ (es : List EdgeParts). edges_winding B es t) is ∙ windings_add B own rings t in
+      let count = second t rows.from rows.below in
+      let none = grown_not_for_other dx dy outside t in
+      omega (arith, ints, sum, count, none)
+
+  left_by : (t : Tile) → IsInRows window t → Decided (edges_winding A edges t ≡ pos 0) → Decided (edges_winding B edges t ≡ pos 0) → Decided (IsLeftIn edges window t)
+  left_by t rows (inl free) (inl none) = inr (λ h. h.wound none)
+  left_by t rows (inl free) (inr wound) = inl (record { rows = rows; free = free; wound = wound })
+  left_by t rows (inr round) b = inr (λ h. round h.free)
+
+  left_decided : (t : Tile) → Decided (IsLeftIn edges window t)
+  left_decided t = elim (rows_decided window t) [
+    | inl rows ↦ left_by t rows (zero_decided (edges_winding A edges t)) (zero_decided (edges_winding B edges t))
+    | inr out ↦ inr (λ h. out h.rows)
   ]
 
-  not_grown : (t : Tile) → IsShrunk dx dy (IsInSome traps) t → IsInSome grown t → ⊥
-  not_grown t all some =
-      let g = (grown_is.inside t some).1 in
-      let o = (outside_has.inside g.0 g.1).1 in
-      o.1 (all g.0 g.2)
+  module _ (frame : Frame) (z : Trapezoid) (tiles : (t : Tile) → IsInTrapezoid z t ↔ IsInFrame frame t)
+      (around : (t : Tile) → IsInSome traps t → (u : Tile) → IsNear dx dy t u → IsInFrame frame u)
+      (outside_is : IsJoinedOf (widened dy window) (IsInResult Sub (z ∷ []) traps (widened dy window)) outside) where
+    outside_has : HasArea (widened dy window) (λ t. IsInSome (z ∷ []) t × (IsInSome traps t → ⊥)) outside
+    outside_has = combined_has Sub (z ∷ []) traps (widened dy window) outside outside_is
 
-  pub shrunk_has : HasArea window (IsShrunk dx dy (IsInSome traps)) shrunk
-  shrunk_has =
-      same_area window (λ t. IsInSome traps t × (IsInSome grown t → ⊥)) (IsShrunk dx dy (IsInSome traps)) shrunk
-      (λ t rows h. kept t rows h.0 h.1)
-      (λ t rows all. (all t (near_itself dx dy r t), not_grown t all))
-      (combined_has Sub traps grown window shrunk shrunk_is)
+    kept : (t : Tile) → IsInRows window t → IsInSome traps t → edges_winding A edges t ≡ pos 0 → (u : Tile) → IsNear dx dy t u → IsInSome traps u
+    kept t rows some free u near = elim (some_decided traps u) [
+      | inl h ↦ h
+      | inr none ↦ (let there = outside_has.all u (near_rows dx dy window t u rows near) (one_in z u ((tiles u).1 (around t some u near)), none) in
+          let round = grown_wind dx dy r outside t legal (u, there, near) in
+          let same = round_rings t rows in
+          absurd (omega (arith, ints, round, same, free)))
+    ]
+
+    not_round : (t : Tile) → IsInRows window t → IsShrunk dx dy (IsInSome traps) t → edges_winding A edges t ≡ pos 0
+    not_round t rows all = round_rings t rows ∙ others_do_not_wind dx dy r outside t legal (λ g. (outside_has.inside g.0 g.1).1.1 (all g.0 g.2))
+
+    some_by : (t : Tile) → IsLeftIn edges window t → IsInSome traps t
+    some_by t h = some_of (count_in traps t) (λ e. h.wound (round_traps t h.rows ∙ ap pos e))
+
+    wound_by_some : (t : Tile) → IsInRows window t → IsInSome traps t → edges_winding B edges t ≢ pos 0
+    wound_by_some t rows some e = (let same = round_traps t rows in omega (arith, ints, same, some, e))
+
+    pub shrunk_has : (shrunk : List Trapezoid) → IsJoinedOf window (IsLeftIn edges window) shrunk → HasArea window (IsShrunk dx dy (IsInSome traps)) shrunk
+    shrunk_has shrunk joined =
+        joined_has window (IsLeftIn edges window) (IsShrunk dx dy (IsInSome traps)) shrunk joined left_decided
+        (λ t h. (h.rows, kept t h.rows (some_by t h) h.free))
+        (λ t rows all. record { rows = rows; free = not_round t rows all; wound = wound_by_some t rows (all t (near_itself dx dy r t)) })
 
 -- what isn't in the list, within the widened hull, isn't far
 pub outside_near : (dx dy : ℤ) (hull : Frame) → IsSizing dx dy → IsFullBox (2 ^ 42) hull → (z : Trapezoid) → ((t : Tile) → IsInTrapezoid z t ↔ IsInFrame (wider dx dy hull) t) → (traps : List Trapezoid) (rows : RowRange) (outside : List Trapezoid)

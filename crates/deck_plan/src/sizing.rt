@@ -1,10 +1,13 @@
 //! Areas that grow and shrink.
-ghost use Rattle.std.specs.Prelude.{◌≡◌, ◌≢◌, ◌^◌, ℤ, pos, ◌+ℤ◌, ◌-ℤ◌, ◌≤ℤ◌, All, [], ◌∷◌, IfOk, MatchOption, Contains};
+ghost use Rattle.std.specs.Prelude.{◌≡◌, ◌≢◌, ◌^◌, ℤ, pos, ◌+ℤ◌, ◌-ℤ◌, ◌≤ℤ◌, ◌++◌, All, List, [], ◌∷◌, IfOk, OnOk, MatchOption, Contains};
+ghost use Rattle.std.specs.List.{flat_map};
+ghost use Rattle.half_grid.specs.Edges.{EdgeParts};
 ghost use Rattle.half_grid.specs.Nearness.{IsGrown, IsShrunk};
 ghost use Rattle.half_grid.specs.Trapezoids.{IsLegal, IsShot};
 ghost use Rattle.half_grid.specs.Lines.{x_on};
 ghost use Rattle.std.specs.Int.{int_min, int_max};
 ghost use Rattle.square_size.specs.EdgeLaws.{IsInSome};
+ghost use Rattle.square_size.specs.Edges.{edges_of_grown};
 ghost use Rattle.square_size.specs.Rings.{IsSizing};
 ghost use Rattle.cell_tree.specs.Boxes.{IsUpTo};
 ghost use Rattle.deck_plan.specs.Lists.{HasArea};
@@ -12,9 +15,10 @@ ghost use Rattle.deck_plan.specs.Needs.{widened};
 ghost use Rattle.deck_plan.specs.Bounds.{HasCornersUpTo, IsAround, IsFullBox, wider};
 
 use crate::windows::widened;
-use bool_ops::{Op, combine, unite};
-use geo_stream::{FromSlice, NoMemory, gather};
-use half_grid::{Frame, Trap, Window};
+use bool_ops::{Op, combine, left_over, unite};
+use column_sweep::operand_edges;
+use geo_stream::{FromSlice, NoMemory, Stream, gather};
+use half_grid::{Edge, Frame, Trap, Window};
 use square_size::Grown;
 use std::alloc::Global;
 use tone_mirror::frame_trap;
@@ -35,6 +39,33 @@ pub(crate) fn grown_area(
 {
     let edges = gather(alloc, Grown::new(alloc, FromSlice::new(traps), dx, dy))?;
     unite(alloc, edges, window)
+}
+
+// Puts the edges of the stream at the end.
+fn put_all<S: Stream<Item = Edge>>(edges: &mut Vec<Edge>, stream: &mut S) -> Result<(), NoMemory>
+    requires { (list : List EdgeParts) × S.stands_for stream.old list }
+    ensures { (list : List EdgeParts) → S.stands_for stream.old list → OnOk result (edges.new.items ≡ edges.old.items ++ list) }
+{
+    while let Some(edge) = stream.next() {
+        edges.push(edge)?;
+    }
+    Ok(())
+}
+
+// Puts the edges of the rings of the grown trapezoids at the end.
+fn put_rings(
+    alloc: Global,
+    edges: &mut Vec<Edge>,
+    traps: &[Trap],
+    dx: i64,
+    dy: i64,
+) -> Result<(), NoMemory>
+    requires sizing { IsSizing dx dy }
+    requires near { All (HasCornersUpTo (2 ^ 43)) traps.now }
+    ensures { OnOk result (edges.new.items ≡ edges.old.items ++ flat_map (edges_of_grown dx dy) traps.now) }
+{
+    let mut rings = Grown::new(alloc, FromSlice::new(traps), dx, dy);
+    put_all(edges, &mut rings)
 }
 
 // The box of one trapezoid.
@@ -98,8 +129,9 @@ fn wider(hull: &Frame, dx: i64, dy: i64) -> Frame
 /// The joined list, in the window, of the tiles all of whose near ones are in the trapezoids, by a rectangle of half
 /// sides `dx` and `dy`.
 ///
-/// What isn't in the trapezoids grows and is removed from them. It is asked within their hull, widened by the half
-/// sides, where all tiles are that are near to one of theirs.
+/// What isn't in the trapezoids grows, and its edges are swept with theirs at once: what is left are tiles of theirs that
+/// nothing of it winds round. It is asked within their hull, widened by the half sides, where all tiles are that are near
+/// to one of theirs.
 pub(crate) fn shrunk_area(
     alloc: Global,
     traps: &[Trap],
@@ -119,6 +151,7 @@ pub(crate) fn shrunk_area(
     };
     let around = [frame_trap(&wider(&hull_from(first, rest), dx, dy))];
     let outside = combine(alloc, Op::Sub, &around, traps, widened(window, dy))?;
-    let grown = grown_area(alloc, outside.as_slice(), dx, dy, window)?;
-    combine(alloc, Op::Sub, traps, grown.as_slice(), window)
+    let mut edges = operand_edges(alloc, &[], traps, window)?;
+    put_rings(alloc, &mut edges, outside.as_slice(), dx, dy)?;
+    left_over(alloc, edges, window)
 }

@@ -53,3 +53,17 @@ edges_have_winding o (a ∷ []) t = no_edges o t
 edges_have_winding o (a ∷ b ∷ points) t =
     windings_add o (edge_of_pair o (a, b)) (edges_of_points o (b ∷ points)) t
     ∙ (rw (pair_adds o a b t _ _ refl refl, edges_have_winding o (b ∷ points) t) (sym (winding-cons t a b points)))
+
+pair_adds_none : (o p : Operand) (a b : Point) (t : Tile) (found : Option Line) (up : Bool) → is_of o p ≡ false → int_lt a.y b.y ≡ up → edges_winding o (option_to_list (edge_along p a b found)) t ≡ pos 0
+pair_adds_none o p a b t None up other k = no_edges o t
+pair_adds_none o p a b t (Some line) true other k = rw k (one_edge o (edge_parts a.y b.y line true p) t ∙ (rw other (omega (arith, ints))))
+pair_adds_none o p a b t (Some line) false other k = rw k (one_edge o (edge_parts b.y a.y line false p) t ∙ (rw other (omega (arith, ints))))
+
+-- the edges of one operand don't wind for the other
+pub none_for_other : (o p : Operand) (points : List Point) (t : Tile) → is_of o p ≡ false → edges_winding o (edges_of_points p points) t ≡ pos 0
+none_for_other o p [] t other = no_edges o t
+none_for_other o p (a ∷ []) t other = no_edges o t
+none_for_other o p (a ∷ b ∷ points) t other =
+    let first = pair_adds_none o p a b t (line_of a b) _ other refl in
+    let later = none_for_other o p (b ∷ points) t other in
+    windings_add o (edge_of_pair p (a, b)) (edges_of_points p (b ∷ points)) t ∙ (rw (first, later) (omega (arith, ints)))

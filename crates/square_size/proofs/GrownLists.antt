@@ -6,14 +6,14 @@ use Rattle.half_grid.specs.Edges.{edges_winding}
 use Rattle.half_grid.specs.Nearness.{IsGrown}
 use Rattle.half_grid.specs.Trapezoids.{Trapezoid, IsInTrapezoid, IsLegal, trapezoid_has}
 use Rattle.half_grid.specs.Winding.{count_one}
-use Rattle.half_grid.specs.declared.border.Operand.TheVariants.{A}
+use Rattle.half_grid.specs.declared.border.Operand.TheVariants.{A, B}
 use Rattle.half_grid.specs.declared.plane.Tile.{Tile}
 use Rattle.half_grid.proofs.ForCallers.{windings_add, count_by-cons, has_in, in_has}
 use Rattle.square_size.specs.EdgeLaws.{IsInSome}
 use Rattle.square_size.specs.Edges.{edges_of_grown}
 use Rattle.square_size.specs.Ranges.{IsRectangle}
 use Rattle.square_size.specs.Rings.{grown_ring}
-use Rattle.square_size.proofs.EdgeWindings.{edges_have_winding, no_edges}
+use Rattle.square_size.proofs.EdgeWindings.{edges_have_winding, no_edges, none_for_other}
 use Rattle.square_size.proofs.RingLaw.{ring_inside, ring_outside, near_or_not}
 
 module _ (dx dy : ℤ) (r : IsRectangle dx dy) where
@@ -75,3 +75,11 @@ module _ (dx dy : ℤ) (r : IsRectangle dx dy) where
       let none = no_ring z t (All-head IsLegal z traps legal) (λ h. out (h.0, in_first z traps h.0 h.1, h.2)) in
       let later = others_do_not_wind traps t (All-tail IsLegal z traps legal) (λ h. out (h.0, in_later z traps h.0 h.1, h.2)) in
       omega (arith, ints, none, later, one_more z traps t)
+
+-- they don't wind for operand B
+pub grown_not_for_other : (dx dy : ℤ) (traps : List Trapezoid) (t : Tile) → edges_winding B (flat_map (edges_of_grown dx dy) traps) t ≡ pos 0
+grown_not_for_other dx dy [] t = no_edges B t
+grown_not_for_other dx dy (z ∷ traps) t =
+    let first = none_for_other B A (grown_ring dx dy z) t refl in
+    let later = grown_not_for_other dx dy traps t in
+    windings_add B (edges_of_grown dx dy z) (flat_map (edges_of_grown dx dy) traps) t ∙ (rw (first, later) (omega (arith, ints)))
