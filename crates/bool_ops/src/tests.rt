@@ -1,7 +1,6 @@
 // Two triangles that cross under each operation, two squares, and a figure eight, by their trapezoids.
 
-use crate::{Op, combine, left_over, lone_piece, pieces};
-use column_sweep::operand_edges;
+use crate::{Op, combine, lone_piece, pieces};
 use half_grid::{Line, Point, Trap, Window, size_of};
 use layout_model::{Offsets, Pair, Shape};
 use std::process::Abort;
@@ -66,13 +65,6 @@ fn two_squares(rt: HostRuntime) -> Result<(), Fail> {
     ];
     assert_eq!(rt; traps.len(), wanted.len());
     for (trap, numbers_of) in traps.iter().zip(wanted.iter()) {
-        assert_eq!(rt; numbers(trap), *numbers_of);
-    }
-    let edges = operand_edges(rt.alloc(), &low, &high, rows)?;
-    let rest = left_over(rt.alloc(), edges, rows)?;
-    let wanted = [[10, 20, 20, 30, 20, 30], [20, 30, 10, 30, 10, 30]];
-    assert_eq!(rt; rest.len(), wanted.len());
-    for (trap, numbers_of) in rest.iter().zip(wanted.iter()) {
         assert_eq!(rt; numbers(trap), *numbers_of);
     }
     Ok(())
