@@ -1,5 +1,6 @@
 -- What edits of a list of lines keep.
-use Rattle.std.proofs.Common.{ℕ, ℤ, ◌≡◌, ◌-◌, ◌<◌, inl, inr, zero, suc, List, [], ◌∷◌, Option, Some, None, All, length, take, drop, get_or, set, arith, ap, subst, sym, refl, ◌∙◌}
+use Rattle.std.proofs.Common.{ℕ, ℤ, ◌≡◌, ◌-◌, ◌<◌, inl, inr, zero, suc, List, [], ◌∷◌, Option, Some, None, All, length}
+use Rattle.std.proofs.Common.{take, drop, get_or, set, arith, ap, subst, sym, refl, ◌∙◌}
 use Rattle.std.proofs.lemmas.List.{take-append-drop, set-set, set-get_or, get_or-set_same}
 use Rattle.std.proofs.lemmas.List.Elements.{All-append, All-take, All-drop, All-cons, All-set}
 use Rattle.std.specs.List.{insert, HoldsAt}

@@ -1,6 +1,8 @@
 -- The lines before and after a place, where one chunk has changed.
-use Rattle.std.proofs.Common.{ℕ, ◌≡◌, ◌+◌, ◌-◌, ◌<◌, ◌≤◌, zero, suc, List, [], ◌∷◌, ◌++◌, All, length, take, drop, get_or, set, arith, ap, subst, sym, refl, ◌∙◌, add-one, append_assoc, length-append}
-use Rattle.std.proofs.lemmas.List.{drop_more, length-take-le, take_all, take-take, take-append-le, take-set, drop-set-lt, get_or-set_same, length-set, take_at, drop_at, get_or_at, drop-drop}
+use Rattle.std.proofs.Common.{ℕ, ◌≡◌, ◌+◌, ◌-◌, ◌<◌, ◌≤◌, zero, suc, List, [], ◌∷◌, ◌++◌, All, length, take, drop}
+use Rattle.std.proofs.Common.{get_or, set, arith, ap, subst, sym, refl, ◌∙◌, add-one, append_assoc, length-append}
+use Rattle.std.proofs.lemmas.List.{drop_more, length-take-le, take_all, take-take, take-append-le, take-set}
+use Rattle.std.proofs.lemmas.List.{drop-set-lt, get_or-set_same, length-set, take_at, drop_at, get_or_at, drop-drop}
 use Rattle.std.proofs.lemmas.List.Edits.{insert_end, length-insert}
 use Rattle.std.proofs.lemmas.List.Elements.{All-append, All-cons, All-take, All-drop, All-set}
 use Rattle.std.specs.List.{insert, remove, HoldsAt}

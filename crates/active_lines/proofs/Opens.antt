@@ -1,5 +1,6 @@
 -- The last line before a place at which a trapezoid is open.
-use Rattle.std.proofs.Common.{ℕ, ◌≡◌, ◌+◌, ◌-◌, ◌<◌, ◌≤◌, zero, suc, ◌⊎◌, inl, inr, List, [], ◌∷◌, ◌++◌, All, length, take, drop, set, arith, ap, subst, sym, refl, ◌∙◌, append_assoc, length-append}
+use Rattle.std.proofs.Common.{ℕ, ◌≡◌, ◌+◌, ◌-◌, ◌<◌, ◌≤◌, zero, suc, ◌⊎◌, inl, inr, List, [], ◌∷◌, ◌++◌, All, length}
+use Rattle.std.proofs.Common.{take, drop, set, arith, ap, subst, sym, refl, ◌∙◌, append_assoc, length-append}
 use Rattle.std.proofs.lemmas.List.{take-append-drop, take-take, append-nil, take_more, get_or_past, length-take-le, set_at, set-append_left, set-append_right}
 use Rattle.std.proofs.lemmas.List.Elements.{All-append}
 use Rattle.std.proofs.lemmas.Bool.{cases_lt}

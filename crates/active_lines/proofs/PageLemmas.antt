@@ -1,14 +1,19 @@
 -- What is kept of pages of chunks.
-use Rattle.std.proofs.Common.{ℕ, ℤ, ◌≡◌, ◌+◌, ◌-◌, ◌*◌, ◌/◌, ◌%◌, ◌<◌, ◌≤◌, ◌⊎◌, inl, inr, zero, suc, min, Bool, true, false, cond, List, [], ◌∷◌, ◌++◌, Option, Some, None, IfSome, All, length, take, drop, get_or, set, arith, ap, subst, sym, refl, ◌∙◌, append_assoc}
+use Rattle.std.proofs.Common.{ℕ, ℤ, ◌≡◌, ◌+◌, ◌-◌, ◌*◌, ◌/◌, ◌%◌, ◌<◌, ◌≤◌, ◌⊎◌, inl, inr, zero, suc, min, Bool, true}
+use Rattle.std.proofs.Common.{false, cond, List, [], ◌∷◌, ◌++◌, Option, Some, None, IfSome, All, length, take, drop}
+use Rattle.std.proofs.Common.{get_or, set, arith, ap, subst, sym, refl, ◌∙◌, append_assoc}
 use Rattle.std.proofs.lemmas.Bool.{cases_lt}
-use Rattle.std.proofs.lemmas.List.{drop-take, take-take, take-set, drop-set-lt, take-append-drop, drop_more, drop-drop, take_all, take_min, drop_min, drop_all, append-nil, length-drop, get_or-take, get_or-set_other}
+use Rattle.std.proofs.lemmas.List.{drop-take, take-take, take-set, drop-set-lt, take-append-drop, drop_more, drop-drop}
+use Rattle.std.proofs.lemmas.List.{take_all, take_min, drop_min, drop_all, append-nil, length-drop, get_or-take}
+use Rattle.std.proofs.lemmas.List.{get_or-set_other}
 use Rattle.std.proofs.lemmas.List.Concat.{flat_map-append}
 use Rattle.active_lines.specs.declared.item.ActiveLine.{ActiveLine}
 use Rattle.active_lines.specs.declared.chunk.Least.{Least}
 use Rattle.active_lines.specs.declared.chunk.Least.TheVariants.{Unknown, Known}
 use Rattle.active_lines.specs.Neighbours.{SomeMeeting, MeetAtSeam, IsUpTo, IsLeastMeeting, IsFirstMeeting, lesser_of}
 use Rattle.active_lines.specs.Chunked.{IsKept, ArePages, page_at, HasLine, chunk_at, lines_of, lines_after}
-use Rattle.active_lines.proofs.Meeting.{MeetIn, in_left, at_seam, in_right, meeting_cases, meeting_left, meeting_right, meeting_seam, lesser_some, up_to_first, up_to_second}
+use Rattle.active_lines.proofs.Meeting.{MeetIn, in_left, at_seam, in_right, meeting_cases, meeting_left, meeting_right}
+use Rattle.active_lines.proofs.Meeting.{meeting_seam, lesser_some, up_to_first, up_to_second}
 use Rattle.active_lines.proofs.Places.{lines_up_to, lines_from, chunk_full, after_start}
 use Rattle.active_lines.proofs.Seams.{seam_less, seam_none, first_in_right, only_in_right}
 

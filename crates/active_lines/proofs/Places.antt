@@ -1,6 +1,8 @@
 -- The lines of chunks before and after a place.
-use Rattle.std.proofs.Common.{ℕ, ◌≡◌, ◌+◌, ◌<◌, ◌≤◌, zero, suc, List, [], ◌∷◌, ◌++◌, All, length, take, drop, get_or, set, arith, ap, subst, sym, refl, ◌∙◌, add-one, append_assoc}
-use Rattle.std.proofs.lemmas.List.{take-append-drop, take_more, drop_more, append-nil, nil_from_length, length-take-le, get_or_read, take_at, drop_at, length-set}
+use Rattle.std.proofs.Common.{ℕ, ◌≡◌, ◌+◌, ◌<◌, ◌≤◌, zero, suc, List, [], ◌∷◌, ◌++◌, All, length, take, drop, get_or}
+use Rattle.std.proofs.Common.{set, arith, ap, subst, sym, refl, ◌∙◌, add-one, append_assoc}
+use Rattle.std.proofs.lemmas.List.{take-append-drop, take_more, drop_more, append-nil, nil_from_length, length-take-le}
+use Rattle.std.proofs.lemmas.List.{get_or_read, take_at, drop_at, length-set}
 use Rattle.std.proofs.lemmas.List.Edits.{length-remove}
 use Rattle.std.proofs.lemmas.List.Elements.{All-append, All-cons, All-set}
 use Rattle.std.proofs.lemmas.List.Concat.{flat_map-append}

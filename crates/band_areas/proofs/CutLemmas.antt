@@ -1,5 +1,6 @@
 -- A joined list that is cut to some rows is the joined list there.
-use Rattle.std.proofs.Common.{◌≡◌, ℕ, ◌+◌, ◌≤◌, ℤ, pos, ◌+ℤ◌, ◌-ℤ◌, ◌≤ℤ◌, ◌<ℤ◌, Bool, true, false, ◌&&◌, cond, int_le, int_lt, arith, refl, sym, ap, subst, ◌∙◌, List, [], ◌∷◌, ◌++◌, map, filter}
+use Rattle.std.proofs.Common.{◌≡◌, ℕ, ◌+◌, ◌≤◌, ℤ, pos, ◌+ℤ◌, ◌-ℤ◌, ◌≤ℤ◌, ◌<ℤ◌, Bool, true, false, ◌&&◌, cond, int_le}
+use Rattle.std.proofs.Common.{int_lt, arith, refl, sym, ap, subst, ◌∙◌, List, [], ◌∷◌, ◌++◌, map, filter}
 use Rattle.std.proofs.lemmas.Int.{ints, clamps, by_lt_z}
 use Rattle.std.proofs.lemmas.List.Elements.{All-append, All-weaker, All-contains, All-head, All-tail}
 use Rattle.std.proofs.lemmas.List.Sorted.{All-permutation, sum_by-IsPermutation}
@@ -50,7 +51,8 @@ same_by y z t f g true false d e = let yes = in_has t z (f (has_in t y d)) in ab
 same_by y z t f g false true d e = let yes = in_has t y (g (has_in t z e)) in absurd cc
 same_by y z t f g false false d e = refl
 
-same_test : (y z : Trapezoid) (t : Tile) → (IsInTrapezoid y t → IsInTrapezoid z t) → (IsInTrapezoid z t → IsInTrapezoid y t) → trapezoid_has t y ≡ trapezoid_has t z
+same_test : (y z : Trapezoid) (t : Tile) → (IsInTrapezoid y t → IsInTrapezoid z t)
+    → (IsInTrapezoid z t → IsInTrapezoid y t) → trapezoid_has t y ≡ trapezoid_has t z
 same_test y z t f g = same_by y z t f g _ _ refl refl
 
 no_by : (z : Trapezoid) (t : Tile) → (IsInTrapezoid z t → ⊥) → (b : Bool) → trapezoid_has t z ≡ b → b ≡ false
@@ -96,7 +98,8 @@ rows_shot z a b s low some high =
 pub cut_shot : (rows : RowRange) (z : Trapezoid) → rows.y0 <ℤ rows.y1 → Meets rows z → IsShot z → IsShot (cut_to rows z)
 cut_shot rows z some m s =
     let legal = s.legal.has_rows in
-    rows_shot z (int_max z.y0 rows.y0) (int_min z.y1 rows.y1) s (omega (arith, ints, clamps)) (omega (arith, ints, clamps, some, m.begins, m.ends, legal)) (omega (arith, ints, clamps))
+    rows_shot z (int_max z.y0 rows.y0) (int_min z.y1 rows.y1) s (omega (arith, ints, clamps))
+    (omega (arith, ints, clamps, some, m.begins, m.ends, legal)) (omega (arith, ints, clamps))
 
 -- its tiles in the rows
 cut_in : (rows : RowRange) (z : Trapezoid) (t : Tile) → IsInTrapezoid (cut_to rows z) t → IsInTrapezoid z t
@@ -132,7 +135,8 @@ cut_those rows p traps = map (cut_to rows) (filter p traps)
 none_by : (rows : RowRange) (p : Trapezoid → Bool) (z : Trapezoid) (traps : List Trapezoid) (t : Tile) (b : Bool) → p z ≡ b → (IsInRows rows t → ⊥)
     → count_in (cut_those rows p traps) t ≡ 0 → count_in (cut_those rows p (z ∷ traps)) t ≡ 0
 none_by rows p z traps t true e out later =
-    rw e (count_by-cons (trapezoid_has t) (cut_to rows z) (cut_those rows p traps) ∙ (rw (no_test (cut_to rows z) t (λ h. out (cut_rows rows z t h)), later) refl))
+    rw e (count_by-cons (trapezoid_has t) (cut_to rows z)
+    (cut_those rows p traps) ∙ (rw (no_test (cut_to rows z) t (λ h. out (cut_rows rows z t h)), later) refl))
 none_by rows p z traps t false e out later = rw e later
 
 -- of no tile outside of the rows
@@ -197,7 +201,9 @@ pub record IsCutOf (rows : RowRange) (traps : List Trapezoid) (z : Trapezoid) : 
   pub meets : Meets rows from
   pub is : cut_to rows from ≡ z
 
-cuts_of : (rows : RowRange) (p : Trapezoid → Bool) (traps : List Trapezoid) → ((z : Trapezoid) → Contains traps z → p z ≡ true → Meets rows z) → All (IsCutOf rows traps) (cut_those rows p traps)
+cuts_of : (rows : RowRange) (p : Trapezoid → Bool) (traps : List Trapezoid)
+    → ((z : Trapezoid) → Contains traps z → p z ≡ true → Meets rows z)
+    → All (IsCutOf rows traps) (cut_those rows p traps)
 cuts_of rows p traps meets = all_members (IsCutOf rows traps) (cut_those rows p traps) (λ z h.
     (let o = origin (cut_to rows) z (filter p traps) h in
     let m = passing p o.0 traps o.1 in
@@ -223,7 +229,9 @@ ended_order_by rows z traps true e before later = rw e (
   all_members (StandsBefore (cut_to rows z)) (cut_those rows (ends_in rows) traps) (λ y h.
       (let o = origin (cut_to rows) y (filter (ends_in rows) traps) h in
       let m = passing (ends_in rows) o.0 traps o.1 in
-      subst (StandsBefore (cut_to rows z)) o.2 (ended_before rows z o.0 (ends_below rows z e) (ends_below rows o.0 m.1) (All-contains (StandsBefore z) traps o.0 before m.0)))),
+      subst (StandsBefore (cut_to rows z)) o.2
+      (ended_before rows z o.0 (ends_below rows z e) (ends_below rows o.0 m.1)
+      (All-contains (StandsBefore z) traps o.0 before m.0)))),
   later,
 )
 ended_order_by rows z traps false e before later = rw e later
@@ -239,7 +247,8 @@ module _ (top : ℤ) where
     pub legal : IsLegal z
     pub top_is : z.y1 ≡ top
 
-  one_place : (y z : Trapezoid) (zs : List Trapezoid) → EndsAt y → EndsAt z → Contains zs z → ((t : Tile) → count_in (y ∷ zs) t ≤ 1) → top_place y ≡ top_place z → ⊥
+  one_place : (y z : Trapezoid) (zs : List Trapezoid) → EndsAt y → EndsAt z → Contains zs z
+      → ((t : Tile) → count_in (y ∷ zs) t ≤ 1) → top_place y ≡ top_place z → ⊥
   one_place y z zs ey ez member apart same =
       let j = y.y1 -ℤ pos 1 in
       let p = place y.left j in
@@ -253,14 +262,17 @@ module _ (top : ℤ) where
       let wide_z = legal_places z j ez.legal (omega (arith, ints, rows_z, top_y, top_z)) (omega (arith, ints, top_y, top_z)) in
       let t = tile_with p j in
       let in_y = in_has t y (in_at y p j (omega (arith, ints, rows_y)) (omega (arith, ints)) (omega (arith, ints)) wide_y) in
-      let in_z = in_has t z (in_at z p j (omega (arith, ints, rows_z, top_y, top_z)) (omega (arith, ints, top_y, top_z)) (omega (arith, ints, at)) (omega (arith, ints, at, wide_z))) in
+      let in_z = in_has t z
+      (in_at z p j (omega (arith, ints, rows_z, top_y, top_z)) (omega (arith, ints, top_y, top_z))
+      (omega (arith, ints, at)) (omega (arith, ints, at, wide_z))) in
       let later = counted t z zs member in_z in
       let all = count_by-cons (trapezoid_has t) y zs in
       let one = ap count_one in_y in
       let most = apart t in
       omega (arith, later, all, one, most)
 
-  left_of : (y z : Trapezoid) (zs : List Trapezoid) → EndsAt y → EndsAt z → Contains zs z → ((t : Tile) → count_in (y ∷ zs) t ≤ 1) → top_place y ≤ℤ top_place z → StandsBefore y z
+  left_of : (y z : Trapezoid) (zs : List Trapezoid) → EndsAt y → EndsAt z → Contains zs z
+      → ((t : Tile) → count_in (y ∷ zs) t ≤ 1) → top_place y ≤ℤ top_place z → StandsBefore y z
   left_of y z zs ey ez member apart le =
       by_lt_z (top_place y) (top_place z) (λ lt. inr (ey.top_is ∙ sym ez.top_is, lt))
       (λ ge. (let same : top_place y ≡ top_place z = omega (arith, ints, le, ge) in absurd (one_place y z zs ey ez member apart same)))
@@ -268,7 +280,10 @@ module _ (top : ℤ) where
   last_order : (zs : List Trapezoid) → All EndsAt zs → ((t : Tile) → count_in zs t ≤ 1) → PlacesAscend zs → StandInOrder zs
   last_order [] ends apart up = tt
   last_order (y ∷ zs) ends apart up = (
-    all_members (StandsBefore y) zs (λ z member. left_of y z zs (All-head EndsAt y zs ends) (All-contains EndsAt zs z (All-tail EndsAt y zs ends) member) member apart (All-contains (λ (x : Trapezoid). top_place y ≤ℤ top_place x) zs z up.0 member)),
+    all_members (StandsBefore y) zs
+        (λ z member. left_of y z zs (All-head EndsAt y zs ends)
+        (All-contains EndsAt zs z (All-tail EndsAt y zs ends) member) member apart
+        (All-contains (λ (x : Trapezoid). top_place y ≤ℤ top_place x) zs z up.0 member)),
     last_order zs (All-tail EndsAt y zs ends) (λ t. (let most = apart t in let all = count_by-cons (trapezoid_has t) y zs in omega (arith, most, all))) up.1,
   )
 
@@ -291,7 +306,8 @@ module _ (rows : RowRange) (traps part : List Trapezoid) (some : rows.y0 <ℤ ro
 
   pub all_cuts : All (IsCutOf rows traps) part
   all_cuts = subst (All (IsCutOf rows traps)) (sym c.is)
-      (All-append (IsCutOf rows traps) (cut_those rows (ends_in rows) traps) c.last (cuts_of rows (ends_in rows) traps (λ z h e. meets_ended rows z some (has_rows z h) e)) last_cuts)
+      (All-append (IsCutOf rows traps) (cut_those rows (ends_in rows) traps) c.last
+      (cuts_of rows (ends_in rows) traps (λ z h e. meets_ended rows z some (has_rows z h) e)) last_cuts)
 
   cut_is_shot : (z : Trapezoid) → IsCutOf rows traps z → IsShot z
   cut_is_shot z cut = subst IsShot cut.is (cut_shot rows cut.from some cut.meets (All-contains IsShot traps cut.from shots cut.member))
@@ -301,8 +317,11 @@ module _ (rows : RowRange) (traps part : List Trapezoid) (some : rows.y0 <ℤ ro
 
   count_parts : (t : Tile) → count_in part t ≡ counted_both rows traps t
   count_parts t =
-      let sorted : count_in c.last t ≡ count_in (cut_those rows (reaches_top rows) traps) t = sum_by-IsPermutation _ (cut_those rows (reaches_top rows) traps) c.last c.permuted in
-      let sum : count_in (cut_those rows (ends_in rows) traps ++ c.last) t ≡ count_in (cut_those rows (ends_in rows) traps) t + count_in c.last t = sum_by-append _ (cut_those rows (ends_in rows) traps) c.last in
+      let sorted : count_in c.last t ≡ count_in (cut_those rows (reaches_top rows) traps) t = sum_by-IsPermutation _
+      (cut_those rows (reaches_top rows) traps) c.last c.permuted in
+      let sum : count_in (cut_those rows (ends_in rows) traps ++ c.last) t ≡ count_in
+      (cut_those rows (ends_in rows) traps) t + count_in c.last t = sum_by-append _
+      (cut_those rows (ends_in rows) traps) c.last in
       ap (λ (zs : List Trapezoid). count_in zs t) c.is ∙ sum ∙ (rw sorted refl)
 
   inside : (t : Tile) → IsInRows rows t → count_in part t ≡ count_in traps t
@@ -342,7 +361,8 @@ module _ (rows : RowRange) (traps part : List Trapezoid) (some : rows.y0 <ℤ ro
       inside t (record { from = omega (arith, ints, low, above); below = omega (arith, ints, high, under) })
       ∙ joined.ends_free cut.from t cut.member (beside cut.from t (subst (λ (u : Trapezoid). IsBeside u t) (sym cut.is) h))
 
-  not_stacked : (window : RowRange) → IsJoined window traps → (y z : Trapezoid) → Contains part y → Contains part z → y.left ≡ z.left → y.right ≡ z.right → y.y1 ≡ z.y0 → ⊥
+  not_stacked : (window : RowRange) → IsJoined window traps → (y z : Trapezoid) → Contains part y → Contains part z
+      → y.left ≡ z.left → y.right ≡ z.right → y.y1 ≡ z.y0 → ⊥
   not_stacked window joined y z my mz left right same =
       let a = All-contains (IsCutOf rows traps) part y all_cuts my in
       let b = All-contains (IsCutOf rows traps) part z all_cuts mz in
@@ -367,7 +387,8 @@ module _ (rows : RowRange) (traps part : List Trapezoid) (some : rows.y0 <ℤ ro
       subst (EndsAt rows.y1) o.2 (record { legal = s.legal; top_is = min_second o.0.y1 rows.y1 over })
 
   all_end : All (EndsAt rows.y1) c.last
-  all_end = All-permutation (EndsAt rows.y1) (cut_those rows (reaches_top rows) traps) c.last c.permuted (all_members (EndsAt rows.y1) (cut_those rows (reaches_top rows) traps) last_ends)
+  all_end = All-permutation (EndsAt rows.y1) (cut_those rows (reaches_top rows) traps) c.last c.permuted
+      (all_members (EndsAt rows.y1) (cut_those rows (reaches_top rows) traps) last_ends)
 
   ended_lower : (y z : Trapezoid) → Contains (cut_those rows (ends_in rows) traps) y → Contains c.last z → StandsBefore y z
   ended_lower y z hy hz =
@@ -383,7 +404,9 @@ module _ (rows : RowRange) (traps part : List Trapezoid) (some : rows.y0 <ℤ ro
       (order_append (cut_those rows (ends_in rows) traps) c.last (ended_order rows traps order)
       (last_order rows.y1 c.last all_end (λ t.
       (let most = apart t in
-      let sum : count_in (cut_those rows (ends_in rows) traps ++ c.last) t ≡ count_in (cut_those rows (ends_in rows) traps) t + count_in c.last t = sum_by-append _ (cut_those rows (ends_in rows) traps) c.last in
+      let sum : count_in (cut_those rows (ends_in rows) traps ++ c.last) t ≡ count_in
+      (cut_those rows (ends_in rows) traps) t + count_in c.last t = sum_by-append _
+      (cut_those rows (ends_in rows) traps) c.last in
       let same : count_in part t ≡ count_in (cut_those rows (ends_in rows) traps ++ c.last) t = ap (λ (zs : List Trapezoid). count_in zs t) c.is in
       omega (arith, most, sum, same))) c.ascend)
       ended_lower)
@@ -432,7 +455,8 @@ pub cut_shot_at : (rows : RowRange) (z : Trapezoid) (y0 y1 : ℤ) (left right : 
     → y0 ≡ int_max z.y0 rows.y0 → y1 ≡ int_min z.y1 rows.y1 → left ≡ z.left → right ≡ z.right → IsShot (trapezoid y0 y1 left right)
 cut_shot_at rows z y0 y1 left right some m s a b l r = rw (a, b, l, r) (cut_shot rows z some m s)
 
-pub cut_is : (rows : RowRange) (traps ended reaching last slice part : List Trapezoid) → ended ≡ cut_those rows (ends_in rows) traps → reaching ≡ cut_those rows (reaches_top rows) traps
+pub cut_is : (rows : RowRange) (traps ended reaching last slice part : List Trapezoid)
+    → ended ≡ cut_those rows (ends_in rows) traps → reaching ≡ cut_those rows (reaches_top rows) traps
     → IsPermutation reaching last → PlacesAscend last → slice ≡ last → part ≡ ended ++ slice → AreCut rows traps part
 cut_is rows traps ended reaching last slice part e r permuted ascend same is = record {
   last = last;

@@ -16,13 +16,25 @@ pub upper_band : (w r : RowRange) (y : ℤ) → r ≡ row_range y w.y1 → IsBan
 upper_band w r y is b low high =
     let from = b.low in
     let to = b.high in
-    subst IsBand (sym is) (record { low = record { low = omega (arith, ints, from.low, low); high = omega (arith, ints, to.high, high) }; high = to; has_rows = high })
+    subst IsBand (sym is)
+    (record {
+      low = record { low = omega (arith, ints, from.low, low); high = omega (arith, ints, to.high, high) };
+      high = to;
+      has_rows = high;
+    })
 
 pub lower_band : (w r : RowRange) (y : ℤ) → r ≡ row_range w.y0 y → IsBand w → w.y0 <ℤ y → y ≤ℤ w.y1 → IsBand r
 lower_band w r y is b low high =
     let from = b.low in
     let to = b.high in
-    subst IsBand (sym is) (record { low = from; high = record { low = omega (arith, ints, from.low, low); high = omega (arith, ints, to.high, high) }; has_rows = low })
+    subst IsBand (sym is)
+    (record {
+      low = from;
+      high =
+          record { low = omega (arith, ints, from.low, low); high = omega (arith, ints, to.high, high) };
+      has_rows =
+          low;
+    })
 
 pub upper_within : (w r : RowRange) (y : ℤ) → r ≡ row_range y w.y1 → w.y0 ≤ℤ y → IsWithin r w
 upper_within w r y is low = subst (λ (x : RowRange). IsWithin x w) (sym is) (record { from = low; to = omega (arith, ints) })

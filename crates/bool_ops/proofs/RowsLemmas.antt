@@ -42,8 +42,12 @@ same_range v w low high = ap (λ y. row_range y v.y1) low ∙ ap (λ y. row_rang
 pub rows_grow : (xs : List Point) (p : Point) (least greatest low high : ℤ) → AreRowsOf xs (row_range least greatest)
     → low ≡ int_min least p.y → high ≡ int_max greatest p.y → AreRowsOf (xs ++ p ∷ []) (row_range low high)
 rows_grow xs p least greatest low high rows l h = record {
-  above = All-push (λ q. low ≤ℤ q.y) xs p (All-weaker (λ q. least ≤ℤ q.y) (λ q. low ≤ℤ q.y) (λ q a. omega (arith, ints, clamps, a, l)) xs rows.above) (omega (arith, ints, clamps, l));
-  below = All-push (λ q. q.y ≤ℤ high) xs p (All-weaker (λ q. q.y ≤ℤ greatest) (λ q. q.y ≤ℤ high) (λ q a. omega (arith, ints, clamps, a, h)) xs rows.below) (omega (arith, ints, clamps, h));
+  above = All-push (λ q. low ≤ℤ q.y) xs p
+      (All-weaker (λ q. least ≤ℤ q.y) (λ q. low ≤ℤ q.y) (λ q a. omega (arith, ints, clamps, a, l)) xs rows.above)
+      (omega (arith, ints, clamps, l));
+  below = All-push (λ q. q.y ≤ℤ high) xs p
+      (All-weaker (λ q. q.y ≤ℤ greatest) (λ q. q.y ≤ℤ high) (λ q a. omega (arith, ints, clamps, a, h)) xs rows.below)
+      (omega (arith, ints, clamps, h));
   least = reached xs p least low rows.least (one_of l (min_is_one least p.y));
   greatest = reached xs p greatest high rows.greatest (one_of h (max_is_one greatest p.y));
 }

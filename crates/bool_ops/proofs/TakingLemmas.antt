@@ -30,7 +30,9 @@ pub swept_result : (op : Op) (a b : List Trapezoid) (window : RowRange) (post : 
     → (edges : List EdgeParts) → WindsByCount A edges a window → WindsByCount B edges b window
     → (traps : List Trapezoid) → IsSwept post edges window traps → IsJoinedOf window (IsInResult op a b window) traps
 swept_result op a b window post only allowed edges first second traps swept =
-    let answer : (t : Tile) → window.y0 ≤ℤ t.j → t.j <ℤ window.y1 → takes op (not (int_eq (edges_winding A edges t) (pos 0))) (not (int_eq (edges_winding B edges t) (pos 0))) ≡ takes op (has_tile a t) (has_tile b t) = λ t low high.
+    let answer : (t : Tile) → window.y0 ≤ℤ t.j → t.j <ℤ window.y1
+    → takes op (not (int_eq (edges_winding A edges t) (pos 0)))
+    (not (int_eq (edges_winding B edges t) (pos 0))) ≡ takes op (has_tile a t) (has_tile b t) = λ t low high.
     rw (has_by_winding a t (edges_winding A edges t) (first t low high), has_by_winding b t (edges_winding B edges t) (second t low high)) refl in
     let to : (t : Tile) → IsTakenIn post edges window t → IsInResult op a b window t = λ t h. record {
       rows = record { from = h.from; below = h.below };
@@ -39,7 +41,8 @@ swept_result op a b window post only allowed edges first second traps swept =
     let back : (t : Tile) → IsInResult op a b window t → IsTakenIn post edges window t = λ t h. record {
       from = h.rows.from;
       below = h.rows.below;
-      taken = subst (λ r. post (edges_winding A edges t) (edges_winding B edges t) r) (answer t h.rows.from h.rows.below ∙ h.taken) (allowed (edges_winding A edges t) (edges_winding B edges t));
+      taken = subst (λ r. post (edges_winding A edges t) (edges_winding B edges t) r)
+          (answer t h.rows.from h.rows.below ∙ h.taken) (allowed (edges_winding A edges t) (edges_winding B edges t));
     } in
     record {
       joined = swept.joined;
@@ -65,7 +68,9 @@ swept_union window post only allowed edges traps swept =
     let back : (t : Tile) → IsWoundIn edges window t → IsTakenIn post edges window t = λ t h. record {
       from = h.rows.from;
       below = h.rows.below;
-      taken = subst (λ r. post (edges_winding A edges t) (edges_winding B edges t) r) (test_nonzero (edges_winding A edges t) h.wound) (allowed (edges_winding A edges t) (edges_winding B edges t));
+      taken = subst (λ r. post (edges_winding A edges t) (edges_winding B edges t) r)
+          (test_nonzero (edges_winding A edges t) h.wound)
+          (allowed (edges_winding A edges t) (edges_winding B edges t));
     } in
     record {
       joined = swept.joined;
@@ -102,10 +107,14 @@ test_left a b e h = and_both (int_eq a (pos 0)) (not (int_eq b (pos 0))) (test_z
 
 -- what a sweep gives of operand B where operand A isn't
 pub swept_left : (window : RowRange) (post : ℤ → ℤ → Bool → Type 0)
-    → ((x y : ℤ) (r : Bool) → post x y r → r ≡ (int_eq x (pos 0) && not (int_eq y (pos 0)))) → ((x y : ℤ) → post x y (int_eq x (pos 0) && not (int_eq y (pos 0))))
+    → ((x y : ℤ) (r : Bool) → post x y r → r ≡ (int_eq x (pos 0) && not (int_eq y (pos 0))))
+    → ((x y : ℤ) → post x y (int_eq x (pos 0) && not (int_eq y (pos 0))))
     → (edges : List EdgeParts) (traps : List Trapezoid) → IsSwept post edges window traps → IsJoinedOf window (IsLeftIn edges window) traps
 swept_left window post only allowed edges traps swept =
-    let to : (t : Tile) → IsTakenIn post edges window t → IsLeftIn edges window t = λ t h. (let told = left_test (edges_winding A edges t) (edges_winding B edges t) (sym (only _ _ true h.taken)) in record {
+    let to : (t : Tile) → IsTakenIn post edges window t
+    → IsLeftIn edges window t = λ t h.
+    (let told = left_test (edges_winding A edges t) (edges_winding B edges t) (sym (only _ _ true h.taken)) in
+    record {
       rows = record { from = h.from; below = h.below };
       free = told.0;
       wound = told.1;
@@ -113,7 +122,9 @@ swept_left window post only allowed edges traps swept =
     let back : (t : Tile) → IsLeftIn edges window t → IsTakenIn post edges window t = λ t h. record {
       from = h.rows.from;
       below = h.rows.below;
-      taken = subst (λ r. post (edges_winding A edges t) (edges_winding B edges t) r) (test_left (edges_winding A edges t) (edges_winding B edges t) h.free h.wound) (allowed (edges_winding A edges t) (edges_winding B edges t));
+      taken = subst (λ r. post (edges_winding A edges t) (edges_winding B edges t) r)
+          (test_left (edges_winding A edges t) (edges_winding B edges t) h.free h.wound)
+          (allowed (edges_winding A edges t) (edges_winding B edges t));
     } in
     record {
       joined = swept.joined;

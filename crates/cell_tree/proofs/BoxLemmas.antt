@@ -1,5 +1,6 @@
 -- Least boxes of points, and what becomes of them.
-use Rattle.std.proofs.Common.{◌≡◌, ◌⊎◌, ℕ, ℤ, zero, suc, pos, negsuc, neg_ℤ, ◌+ℤ◌, ◌*ℤ◌, ◌≤ℤ◌, ◌+◌, ◌*◌, ◌^◌, ◌≤◌, Bool, true, false, List, Option, Some, None, Any, refl, sym, ap, subst, ◌∙◌, inl, inr, arith}
+use Rattle.std.proofs.Common.{◌≡◌, ◌⊎◌, ℕ, ℤ, zero, suc, pos, negsuc, neg_ℤ, ◌+ℤ◌, ◌*ℤ◌, ◌≤ℤ◌, ◌+◌, ◌*◌, ◌^◌, ◌≤◌, Bool}
+use Rattle.std.proofs.Common.{true, false, List, Option, Some, None, Any, refl, sym, ap, subst, ◌∙◌, inl, inr, arith}
 use Rattle.std.proofs.Math.IntN.{pos-*ℤ-pos, pos-*ℤ-negsuc}
 use Rattle.std.proofs.Math.Nat.{mul-le-mul, mul-le-mul_left}
 use Rattle.std.proofs.lemmas.Int.{ints, clamps}
@@ -12,7 +13,8 @@ use Rattle.layout_model.specs.declared.orient.Orient.{Orient}
 use Rattle.layout_model.specs.Layouts.{IsWithin}
 use Rattle.cell_tree.proofs.SlotLemmas.{All-slot}
 use Rattle.std.proofs.lemmas.Option.{slice_get-get_or}
-use Rattle.cell_tree.specs.Boxes.{IsLeastBox, IsOneOf, IsHull, IsUpTo, IsBoxUpTo, joined_box, summed_box, enlarged_box, flipped_box, quarter_box, turned_box, oriented_box}
+use Rattle.cell_tree.specs.Boxes.{IsLeastBox, IsOneOf, IsHull, IsUpTo, IsBoxUpTo, joined_box, summed_box, enlarged_box}
+use Rattle.cell_tree.specs.Boxes.{flipped_box, quarter_box, turned_box, oriented_box}
 
 pub same_frame : (a b : Frame) → a.x0 ≡ b.x0 → a.y0 ≡ b.y0 → a.x1 ≡ b.x1 → a.y1 ≡ b.y1 → a ≡ b
 same_frame a b e f g h = λ i. record { x0 = e i; y0 = f i; x1 = g i; y1 = h i }
@@ -78,7 +80,8 @@ same_hull P Q (Some box) into out least = same_least P Q box into out least
 -- a least box of a list of points
 pub least_of : (points : List Point) (box : Frame) → IsLeastBoxOf points box → IsLeastBox (IsOneOf points) box
 least_of points box least =
-    let side : (P : Point → Type 0) → Any P points → (p : Point) × IsOneOf points p × P p = λ P a. (a.1, (a.0, slice_get-get_or points a.0 a.1 a.2 ∙ ap Some a.3), a.4) in
+    let side : (P : Point → Type 0) → Any P points → (p : Point) × IsOneOf points p
+    × P p = λ P a. (a.1, (a.0, slice_get-get_or points a.0 a.1 a.2 ∙ ap Some a.3), a.4) in
     record {
       around = λ p one. All-slot points (IsInBox box) least.around one.0 p one.1;
       left = side (λ p. p.x ≡ box.x0) least.left;
@@ -94,23 +97,52 @@ module _ (P Q R : Point → Type 0) (a b : Frame) (left : (p : Point) → P p �
   joined_least p q = record {
     around = λ r h. elim (out r h) [
       | inl hp ↦ (let i = p.around r hp in let l = i.left in let m = i.bottom in let n = i.right in let o = i.top in
-          record { left = omega (arith, ints, clamps); bottom = omega (arith, ints, clamps); right = omega (arith, ints, clamps); top = omega (arith, ints, clamps) })
+          record {
+            left = omega (arith, ints, clamps);
+            bottom = omega (arith, ints, clamps);
+            right = omega
+                (arith, ints, clamps);
+            top = omega (arith, ints, clamps);
+          })
       | inr hq ↦ (let i = q.around r hq in let l = i.left in let m = i.bottom in let n = i.right in let o = i.top in
-          record { left = omega (arith, ints, clamps); bottom = omega (arith, ints, clamps); right = omega (arith, ints, clamps); top = omega (arith, ints, clamps) })
+          record {
+            left = omega (arith, ints, clamps);
+            bottom = omega (arith, ints, clamps);
+            right = omega
+                (arith, ints, clamps);
+            top = omega (arith, ints, clamps);
+          })
     ];
-    left = elim (least_one a.x0 b.x0) [ inl e ↦ (p.left.0, left p.left.0 p.left.1, p.left.2 ∙ sym e) | inr e ↦ (q.left.0, right q.left.0 q.left.1, q.left.2 ∙ sym e) ];
-    bottom = elim (least_one a.y0 b.y0) [ inl e ↦ (p.bottom.0, left p.bottom.0 p.bottom.1, p.bottom.2 ∙ sym e) | inr e ↦ (q.bottom.0, right q.bottom.0 q.bottom.1, q.bottom.2 ∙ sym e) ];
-    right = elim (greatest_one a.x1 b.x1) [ inl e ↦ (p.right.0, left p.right.0 p.right.1, p.right.2 ∙ sym e) | inr e ↦ (q.right.0, right q.right.0 q.right.1, q.right.2 ∙ sym e) ];
-    top = elim (greatest_one a.y1 b.y1) [ inl e ↦ (p.top.0, left p.top.0 p.top.1, p.top.2 ∙ sym e) | inr e ↦ (q.top.0, right q.top.0 q.top.1, q.top.2 ∙ sym e) ];
+    left = elim (least_one a.x0 b.x0) [
+      | inl e ↦ (p.left.0, left p.left.0 p.left.1, p.left.2 ∙ sym e)
+      | inr e ↦
+          (q.left.0, right q.left.0 q.left.1, q.left.2 ∙ sym e)
+    ];
+    bottom = elim (least_one a.y0 b.y0) [
+      | inl e ↦ (p.bottom.0, left p.bottom.0 p.bottom.1, p.bottom.2 ∙ sym e)
+      | inr e ↦ (q.bottom.0, right q.bottom.0 q.bottom.1, q.bottom.2 ∙ sym e)
+    ];
+    right = elim (greatest_one a.x1 b.x1) [
+      | inl e ↦ (p.right.0, left p.right.0 p.right.1, p.right.2 ∙ sym e)
+      | inr e ↦
+          (q.right.0, right q.right.0 q.right.1, q.right.2 ∙ sym e)
+    ];
+    top = elim (greatest_one a.y1 b.y1) [
+      | inl e ↦ (p.top.0, left p.top.0 p.top.1, p.top.2 ∙ sym e)
+      | inr e ↦
+          (q.top.0, right q.top.0 q.top.1, q.top.2 ∙ sym e)
+    ];
   }
 
 -- ---- sums
 
-pub summed_least : (P Q R : Point → Type 0) (a b : Frame) → ((p q : Point) → P p → Q q → R (moved q p)) → ((r : Point) → R r → (p : Point) × (q : Point) × P p × Q q × (moved q p ≡ r))
+pub summed_least : (P Q R : Point → Type 0) (a b : Frame) → ((p q : Point) → P p → Q q → R (moved q p))
+    → ((r : Point) → R r → (p : Point) × (q : Point) × P p × Q q × (moved q p ≡ r))
     → IsLeastBox P a → IsLeastBox Q b → IsLeastBox R (summed_box a b)
 summed_least P Q R a b into out p q = record {
   around = λ r h. (let o = out r h in let i = p.around o.0 o.2 in let j = q.around o.1 o.3 in let x = ap (λ s. s.x) o.4 in let y = ap (λ s. s.y) o.4 in
-      let il = i.left in let ib = i.bottom in let ir = i.right in let it = i.top in let jl = j.left in let jb = j.bottom in let jr = j.right in let jt = j.top in
+      let il = i.left in let ib = i.bottom in let ir = i.right in let it = i.top in let jl = j.left in let jb =
+      j.bottom in let jr = j.right in let jt = j.top in
       record { left = omega (arith, ints); bottom = omega (arith, ints); right = omega (arith, ints); top = omega (arith, ints) });
   left = (moved q.left.0 p.left.0, into p.left.0 q.left.0 p.left.1 q.left.1, λ i. p.left.2 i +ℤ q.left.2 i);
   bottom = (moved q.bottom.0 p.bottom.0, into p.bottom.0 q.bottom.0 p.bottom.1 q.bottom.1, λ i. p.bottom.2 i +ℤ q.bottom.2 i);
@@ -125,7 +157,9 @@ abbrev pub Image : (Point → Point) → (Point → Type 0) → Point → Type 0
 Image f P r = (p : Point) × P p × (f p ≡ r)
 
 product_order : (m : ℕ) (a b : ℤ) → a ≤ℤ b → (pos m *ℤ a) ≤ℤ (pos m *ℤ b)
-product_order m (pos a) (pos b) h = rw (pos-*ℤ-pos m a, pos-*ℤ-pos m b) (let low : a ≤ b = omega (arith, ints, h) in let p : m * a ≤ m * b = mul-le-mul_left m low in omega (arith, ints, p))
+product_order m (pos a) (pos b) h = rw (pos-*ℤ-pos m a, pos-*ℤ-pos m b)
+    (let low : a ≤ b = omega (arith, ints, h) in let p : m * a ≤ m * b = mul-le-mul_left m low in omega
+    (arith, ints, p))
 product_order m (pos a) (negsuc b) h = absurd (omega (arith, ints, h))
 product_order m (negsuc a) (pos b) h = rw (pos-*ℤ-negsuc m a, pos-*ℤ-pos m b) (omega (arith, ints))
 product_order m (negsuc a) (negsuc b) h = rw (pos-*ℤ-negsuc m a, pos-*ℤ-negsuc m b)
@@ -184,7 +218,8 @@ composed_least f g P a p = same_least (Image g (Image f P)) (Image (λ p. g (f p
 
 turned_least : (turns : ℕ) (P : Point → Type 0) (a : Frame) → IsLeastBox P a → IsLeastBox (Image (turned turns) P) (turned_box turns a)
 turned_least zero P a p = same_least P (Image (turned zero) P) a (λ q h. (q, h, refl)) (λ q h. subst P h.2 h.1) p
-turned_least (suc turns) P a p = composed_least quarter_turn (turned turns) P (turned_box turns (quarter_box a)) (turned_least turns (Image quarter_turn P) (quarter_box a) (quarter_least P a p))
+turned_least (suc turns) P a p = composed_least quarter_turn (turned turns) P (turned_box turns (quarter_box a))
+    (turned_least turns (Image quarter_turn P) (quarter_box a) (quarter_least P a p))
 
 abbrev pub oriented_point : Orient → Point → Point
 oriented_point orient p = turned orient.turns (flipped orient.flip (enlarged orient.mag p))
@@ -200,7 +235,8 @@ oriented_least orient P a p =
 
 pub least_up_to : (P : Point → Type 0) (box : Frame) (bound : ℕ) → IsLeastBox P box → ((p : Point) → P p → IsWithin bound p) → IsBoxUpTo bound box
 least_up_to P box bound least near =
-    let l = near least.left.0 least.left.1 in let b = near least.bottom.0 least.bottom.1 in let r = near least.right.0 least.right.1 in let t = near least.top.0 least.top.1 in
+    let l = near least.left.0 least.left.1 in let b = near least.bottom.0 least.bottom.1 in let r =
+    near least.right.0 least.right.1 in let t = near least.top.0 least.top.1 in
     record {
       x0 = subst (IsUpTo bound) least.left.2 (record { low = l.x_low; high = l.x_high });
       y0 = subst (IsUpTo bound) least.bottom.2 (record { low = b.y_low; high = b.y_high });

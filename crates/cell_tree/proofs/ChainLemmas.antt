@@ -1,5 +1,6 @@
 -- Chains of placements.
-use Rattle.std.proofs.Common.{◌≡◌, ℕ, zero, suc, ◌*◌, ◌<◌, List, [], ◌∷◌, ◌++◌, Some, length, take, get_or, slice_get, refl, sym, ap, subst, ◌∙◌, arith, mul_assoc}
+use Rattle.std.proofs.Common.{◌≡◌, ℕ, zero, suc, ◌*◌, ◌<◌, List, [], ◌∷◌, ◌++◌, Some, length, take, get_or, slice_get}
+use Rattle.std.proofs.Common.{refl, sym, ap, subst, ◌∙◌, arith, mul_assoc}
 use Rattle.std.proofs.lemmas.List.{map_push}
 use Rattle.layout_model.specs.declared.cells.Placement.{Placement}
 use Rattle.layout_model.specs.declared.cells.Cell.{Cell}
@@ -28,7 +29,8 @@ pub places_cell : (cells : List Cell) (n k m : ℕ) → PlacesAt cells n k m →
 places_cell cells n k m at = ((placement_of cells n k m at).placement, places_by cells n k m at)
 
 pub places_at : (cells : List Cell) (n : ℕ) (placement : Placement) (m : ℕ) (places : Places cells n placement m) → PlacesAt cells n places.number m
-places_at cells n placement m places = slot_map (λ p. cell_number cells p.target) (placements_at cells n) places.number placement places.placed ∙ ap Some places.target
+places_at cells n placement m places = slot_map (λ p. cell_number cells p.target)
+    (placements_at cells n) places.number placement places.placed ∙ ap Some places.target
 
 pub placed_within : (cells : List Cell) (n : ℕ) (placement : Placement) (m : ℕ) → Places cells n placement m → m < length cells
 placed_within cells n placement m places = number_within cells placement.target m places.target
@@ -45,7 +47,8 @@ end_joined n (link ∷ a) b = end_joined link.cell a b
 
 pub factor_joined : (a b : List Link) → chain_factor (a ++ b) ≡ chain_factor a * chain_factor b
 factor_joined [] b = omega arith
-factor_joined (link ∷ a) b = ap (λ f. link.placement.orient.mag * f) (factor_joined a b) ∙ sym (mul_assoc link.placement.orient.mag (chain_factor a) (chain_factor b))
+factor_joined (link ∷ a) b = ap (λ f. link.placement.orient.mag * f) (factor_joined a b) ∙ sym
+    (mul_assoc link.placement.orient.mag (chain_factor a) (chain_factor b))
 
 pub chain_take : (cells : List Cell) (n : ℕ) (k : ℕ) (links : List Link) → IsChain cells n links → IsChain cells n (take k links)
 chain_take cells n zero links chain = tt
@@ -63,7 +66,8 @@ pub top_reachable : (cells : List Cell) (top : ℕ) → IsReachable cells top to
 top_reachable cells top = record { links = []; chain = tt; end = refl }
 
 -- a chain from a reachable cell goes on from one that leads there
-pub reach_along : (cells : List Cell) (top n : ℕ) (links : List Link) → IsReachable cells top n → IsChain cells n links → IsReachable cells top (chain_end n links)
+pub reach_along : (cells : List Cell) (top n : ℕ) (links : List Link) → IsReachable cells top n → IsChain cells n links
+    → IsReachable cells top (chain_end n links)
 reach_along cells top n links reach chain = record {
   links = reach.links ++ links;
   chain = chain_joined cells top reach.links links reach.chain (subst (λ m. IsChain cells m links) (sym reach.end) chain);
@@ -74,7 +78,8 @@ pub reach_more : (cells : List Cell) (top n m : ℕ) → IsReachable cells top n
 reach_more cells top n m reach places = reach_along cells top n (record { placement = places.0; cell = m } ∷ []) reach (places.1, tt)
 
 -- what holds at the top, and at each placed cell where it holds at the placing one, holds at each reachable cell
-pub along : (P : ℕ → Type 0) (cells : List Cell) (n : ℕ) (links : List Link) → ((a b : ℕ) → P a → PlacesCell cells a b → P b) → P n → IsChain cells n links → P (chain_end n links)
+pub along : (P : ℕ → Type 0) (cells : List Cell) (n : ℕ) (links : List Link)
+    → ((a b : ℕ) → P a → PlacesCell cells a b → P b) → P n → IsChain cells n links → P (chain_end n links)
 along P cells n [] step here chain = here
 along P cells n (link ∷ links) step here chain = along P cells link.cell links step (step n link.cell here (link.placement, chain.0)) chain.1
 

@@ -1,5 +1,7 @@
 -- The greatest factor of chains from a cell by those of the cells that it places.
-use Rattle.std.proofs.Common.{◌≡◌, ◌⊎◌, ℕ, zero, suc, ◌+◌, ◌-◌, ◌*◌, ◌<◌, ◌≤◌, Bool, true, false, List, [], ◌∷◌, ◌++◌, Option, Some, None, IfSome, IsSomeAnd, All, get_or, slice_get, min, nat_lt, if◌then◌else◌, refl, sym, ap, subst, ◌∙◌, inl, inr, arith, mul_assoc}
+use Rattle.std.proofs.Common.{◌≡◌, ◌⊎◌, ℕ, zero, suc, ◌+◌, ◌-◌, ◌*◌, ◌<◌, ◌≤◌, Bool, true, false, List, [], ◌∷◌, ◌++◌}
+use Rattle.std.proofs.Common.{Option, Some, None, IfSome, IsSomeAnd, All, get_or, slice_get, min, nat_lt, if◌then◌else◌}
+use Rattle.std.proofs.Common.{refl, sym, ap, subst, ◌∙◌, inl, inr, arith, mul_assoc}
 use Rattle.std.proofs.lemmas.Bool.Decides.{nat_tests}
 use Rattle.std.proofs.lemmas.Bool.{false≢true}
 use Rattle.std.proofs.Math.Nat.{mul-le-mul_left, mul-le-mul_right}
@@ -63,7 +65,8 @@ through_capped farthest placement (Some m) = by (get_or farthest m None)
     by None = tt
     by (Some far) = omega arith
 
-through_leads : (cells : List Cell) (farthest : List (Option Far)) (n k : ℕ) (placement : Placement) (target : Option ℕ) → slice_get (placements_at cells n) k ≡ Some placement
+through_leads : (cells : List Cell) (farthest : List (Option Far)) (n k : ℕ) (placement : Placement)
+    (target : Option ℕ) → slice_get (placements_at cells n) k ≡ Some placement
     → slice_get (targets_at cells n) k ≡ Some target → IfSome (through farthest placement target) (λ far. LeadsFar cells farthest n far)
 through_leads cells farthest n k placement None placed places = tt
 through_leads cells farthest n k placement (Some m) placed places = by (get_or farthest m None) refl
@@ -72,14 +75,20 @@ through_leads cells farthest n k placement (Some m) placed places = by (get_or f
     by None e = tt
     by (Some from) e = record { number = k; placement = placement; target = m; from = from; placed = placed; places = places; there = e; is = refl }
 
-leads_through : (cells : List Cell) (farthest : List (Option Far)) (n k : ℕ) (placement : Placement) (target : Option ℕ) (far : Far) (leads : LeadsFar cells farthest n far)
-    → slice_get (placements_at cells n) k ≡ Some placement → slice_get (targets_at cells n) k ≡ Some target → leads.number ≡ k → IsSomeAnd (through farthest placement target) (λ best. far.factor ≤ best.factor)
+leads_through : (cells : List Cell) (farthest : List (Option Far)) (n k : ℕ) (placement : Placement)
+    (target : Option ℕ) (far : Far) (leads : LeadsFar cells farthest n far)
+    → slice_get (placements_at cells n) k ≡ Some placement → slice_get (targets_at cells n) k ≡ Some target
+    → leads.number ≡ k → IsSomeAnd (through farthest placement target) (λ best. far.factor ≤ best.factor)
 leads_through cells farthest n k placement target far leads placed places e =
-    let p : leads.placement ≡ placement = one_slot (placements_at cells n) k leads.placement placement (subst (λ j. slice_get (placements_at cells n) j ≡ Some leads.placement) e leads.placed) placed in
-    let t : Some leads.target ≡ target = one_slot (targets_at cells n) k (Some leads.target) target (subst (λ j. slice_get (targets_at cells n) j ≡ Some (Some leads.target)) e leads.places) places in
+    let p : leads.placement ≡ placement = one_slot (placements_at cells n) k leads.placement placement
+    (subst (λ j. slice_get (placements_at cells n) j ≡ Some leads.placement) e leads.placed) placed in
+    let t : Some leads.target ≡ target = one_slot (targets_at cells n) k (Some leads.target) target
+    (subst (λ j. slice_get (targets_at cells n) j ≡ Some (Some leads.target)) e leads.places) places in
     let start : IsSomeAnd (through farthest leads.placement (Some leads.target)) (λ best. far.factor ≤ best.factor) =
-    subst (λ o. IsSomeAnd (option_map (placed_far leads.placement) o) (λ best. far.factor ≤ best.factor)) (sym leads.there) (let same = ap (λ f. f.factor) leads.is in omega arith) in
-    subst (λ x. IsSomeAnd (through farthest placement x) (λ best. far.factor ≤ best.factor)) t (subst (λ x. IsSomeAnd (through farthest x (Some leads.target)) (λ best. far.factor ≤ best.factor)) p start)
+    subst (λ o. IsSomeAnd (option_map (placed_far leads.placement) o) (λ best. far.factor ≤ best.factor))
+    (sym leads.there) (let same = ap (λ f. f.factor) leads.is in omega arith) in
+    subst (λ x. IsSomeAnd (through farthest placement x) (λ best. far.factor ≤ best.factor)) t
+    (subst (λ x. IsSomeAnd (through farthest x (Some leads.target)) (λ best. far.factor ≤ best.factor)) p start)
 
 pub far_more : (cells : List Cell) (only_fixed : Bool) (farthest : List (Option Far)) (n k : ℕ) (best : Option Far) (placement : Placement) (target : Option ℕ)
     → SoFar cells only_fixed farthest n k best → slice_get (placements_at cells n) k ≡ Some placement → slice_get (targets_at cells n) k ≡ Some target
@@ -89,11 +98,15 @@ far_more cells only_fixed farthest n k best placement target so placed places =
       better_one (λ far. far.factor ≤ 17) best (through farthest placement target) so.0 (through_capped farthest placement target),
       λ end. better_first 1 best (through farthest placement target) (so.1 end),
       λ far leads below. elim (apart leads.number k) [
-        | inl e ↦ better_second far.factor best (through farthest placement target) (leads_through cells farthest n k placement target far leads placed places e)
+        | inl e ↦ better_second far.factor best (through farthest placement target)
+            (leads_through cells farthest n k placement target far leads placed places e)
         | inr differs ↦ better_first far.factor best (through farthest placement target) (so.2 far leads (omega arith))
       ],
-      better_one (λ far. ((far.cell ≡ n) × (far.factor ≡ 1) × IsEnd cells only_fixed n) ⊎ LeadsFar cells farthest n far) best (through farthest placement target) so.3
-          (some_right (through farthest placement target) (λ far. (far.cell ≡ n) × (far.factor ≡ 1) × IsEnd cells only_fixed n) (λ far. LeadsFar cells farthest n far) (through_leads cells farthest n k placement target placed places)),
+      better_one (λ far. ((far.cell ≡ n) × (far.factor ≡ 1) × IsEnd cells only_fixed n)
+          ⊎ LeadsFar cells farthest n far) best (through farthest placement target) so.3
+          (some_right (through farthest placement target)
+          (λ far. (far.cell ≡ n) × (far.factor ≡ 1) × IsEnd cells only_fixed n)
+          (λ far. LeadsFar cells farthest n far) (through_leads cells farthest n k placement target placed places)),
     )
   where
     some_right : (o : Option Far) (P Q : Far → Type 0) → IfSome o Q → IfSome o (λ far. P far ⊎ Q far)
@@ -112,10 +125,13 @@ capped_product mag f some = elim (small f) [
     small f = elim (apart (f - 17) 0) [ inl e ↦ inl (omega arith) | inr e ↦ inr (omega arith) ]
 
 at_end : (cells : List Cell) (only_fixed : Bool) (farthest : List (Option Far)) (n : ℕ) (far : Far) →
-    ((m : ℕ) (k : ℕ) → PlacesAt cells n k m → IsFarthest cells only_fixed m (get_or farthest m None)) → ((k : ℕ) (p : Placement) → slice_get (placements_at cells n) k ≡ Some p → 1 ≤ p.orient.mag)
+    ((m : ℕ) (k : ℕ) → PlacesAt cells n k m → IsFarthest cells only_fixed m (get_or farthest m None))
+    → ((k : ℕ) (p : Placement) → slice_get (placements_at cells n) k ≡ Some p → 1 ≤ p.orient.mag)
     → LeadsFar cells farthest n far → IsEndOfChain cells only_fixed n far
 at_end cells only_fixed farthest n far known mags leads =
-    let there : IsEndOfChain cells only_fixed leads.target leads.from = subst (λ o. IfSome o (IsEndOfChain cells only_fixed leads.target)) leads.there (known leads.target leads.number leads.places).chain in
+    let there : IsEndOfChain cells only_fixed leads.target leads.from = subst
+    (λ o. IfSome o (IsEndOfChain cells only_fixed leads.target)) leads.there
+    (known leads.target leads.number leads.places).chain in
     let by = placement_of cells n leads.number leads.target leads.places in
     let p : by.placement ≡ leads.placement = one_slot (placements_at cells n) leads.number by.placement leads.placement by.here leads.placed in
     let cell : far.cell ≡ leads.from.cell = ap (λ f. f.cell) leads.is in
@@ -133,25 +149,41 @@ some_and : (o : Option Far) (v : ℕ) → IsSomeAnd o (λ far. v ≤ far.factor)
 some_and None v h = absurd h
 some_and (Some far) v h = (far, refl, h)
 
-pub is_farthest : (cells : List Cell) (only_fixed : Bool) (farthest : List (Option Far)) (n : ℕ) (best : Option Far) → IsFarthestOf cells only_fixed farthest n best
-    → ((m : ℕ) (k : ℕ) → PlacesAt cells n k m → IsFarthest cells only_fixed m (get_or farthest m None)) → ((k : ℕ) (p : Placement) → slice_get (placements_at cells n) k ≡ Some p → 1 ≤ p.orient.mag)
+pub is_farthest : (cells : List Cell) (only_fixed : Bool) (farthest : List (Option Far)) (n : ℕ) (best : Option Far)
+    → IsFarthestOf cells only_fixed farthest n best
+    → ((m : ℕ) (k : ℕ) → PlacesAt cells n k m → IsFarthest cells only_fixed m (get_or farthest m None))
+    → ((k : ℕ) (p : Placement) → slice_get (placements_at cells n) k ≡ Some p → 1 ≤ p.orient.mag)
     → IsFarthest cells only_fixed n best
 is_farthest cells only_fixed farthest n best of known mags = record { chain = ends best of.from; greatest = greatest }
   where
-    ends : (o : Option Far) → IfSome o (λ far. ((far.cell ≡ n) × (far.factor ≡ 1) × IsEnd cells only_fixed n) ⊎ LeadsFar cells farthest n far) → IfSome o (IsEndOfChain cells only_fixed n)
+    ends : (o : Option Far)
+        → IfSome o (λ far. ((far.cell ≡ n) × (far.factor ≡ 1) × IsEnd cells only_fixed n)
+        ⊎ LeadsFar cells farthest n far) → IfSome o (IsEndOfChain cells only_fixed n)
     ends None h = tt
     ends (Some far) h = elim h [
       | inl here ↦ record { links = []; chain = tt; end = sym here.0; ends = subst (IsEnd cells only_fixed) (sym here.0) here.2; factor = here.1 }
       | inr leads ↦ at_end cells only_fixed farthest n far known mags leads
     ]
 
-    greatest : (links : List Link) → IsChain cells n links → IsEnd cells only_fixed (chain_end n links) → IsSomeAnd best (λ far. min 17 (chain_factor links) ≤ far.factor)
+    greatest : (links : List Link) → IsChain cells n links → IsEnd cells only_fixed (chain_end n links)
+        → IsSomeAnd best (λ far. min 17 (chain_factor links) ≤ far.factor)
     greatest [] chain end = of.here end
     greatest (link ∷ links) chain end =
         let k = chain.0.number in let mag = link.placement.orient.mag in
         let at = places_at cells n link.placement link.cell chain.0 in
         let next = some_and (get_or farthest link.cell None) (min 17 (chain_factor links)) ((known link.cell k at).greatest links chain.1 end) in
-        let leads : LeadsFar cells farthest n (placed_far link.placement next.0) = record { number = k; placement = link.placement; target = link.cell; from = next.0; placed = chain.0.placed; places = at; there = next.1; is = refl } in
+        let leads : LeadsFar cells farthest n (placed_far link.placement next.0) =
+        record {
+          number = k;
+          placement = link.placement;
+          target = link.cell;
+          from = next.0;
+          placed =
+              chain.0.placed;
+          places = at;
+          there = next.1;
+          is = refl;
+        } in
         let high = some_and best (min 17 (mag * next.0.factor)) (of.above (placed_far link.placement next.0) leads) in
         let e = capped_product mag (chain_factor links) (mags k link.placement chain.0.placed) in
         let more = mul-le-mul_left mag next.2 in
@@ -177,27 +209,44 @@ keeps cells top far is low links chain fixed = by far low (is.greatest links cha
     by (Some f) low high = omega arith
 
 -- where a factor above 16 lies ahead, some placement leads to it
-pub leads_on : (cells : List Cell) (farthest : List (Option Far)) (n factor : ℕ) (far : Far) → IsFarthest cells false n (Some far) → factor ≤ 16 → 17 ≤ factor * far.factor
-    → ((m : ℕ) (k : ℕ) → PlacesAt cells n k m → IsFarthest cells false m (get_or farthest m None)) → ((k : ℕ) (p : Placement) → slice_get (placements_at cells n) k ≡ Some p → 1 ≤ p.orient.mag)
+pub leads_on : (cells : List Cell) (farthest : List (Option Far)) (n factor : ℕ) (far : Far)
+    → IsFarthest cells false n (Some far) → factor ≤ 16 → 17 ≤ factor * far.factor
+    → ((m : ℕ) (k : ℕ) → PlacesAt cells n k m → IsFarthest cells false m (get_or farthest m None))
+    → ((k : ℕ) (p : Placement) → slice_get (placements_at cells n) k ≡ Some p → 1 ≤ p.orient.mag)
     → (k : ℕ) × (far' : Far) × LeadsBeyond (placements_at cells n) (targets_at cells n) farthest factor k far'
 leads_on cells farthest n factor far is small ahead known mags = by is.chain.links is.chain.chain is.chain.factor
   where
-    by : (links : List Link) → IsChain cells n links → far.factor ≡ min 17 (chain_factor links) → (k : ℕ) × (far' : Far) × LeadsBeyond (placements_at cells n) (targets_at cells n) farthest factor k far'
+    by : (links : List Link) → IsChain cells n links → far.factor ≡ min 17 (chain_factor links) → (k : ℕ)
+        × (far' : Far) × LeadsBeyond (placements_at cells n) (targets_at cells n) farthest factor k far'
     by [] chain e = absurd (let one : factor * far.factor ≡ factor * 1 = ap (λ x. factor * x) e in omega arith)
     by (link ∷ links) chain e =
         let k = chain.0.number in let mag = link.placement.orient.mag in
         let at = places_at cells n link.placement link.cell chain.0 in
-        let next = some_and (get_or farthest link.cell None) (min 17 (chain_factor links)) ((known link.cell k at).greatest links chain.1 (mild_end cells (chain_end link.cell links))) in
+        let next = some_and (get_or farthest link.cell None) (min 17 (chain_factor links))
+        ((known link.cell k at).greatest links chain.1 (mild_end cells (chain_end link.cell links))) in
         let c = capped_product mag (chain_factor links) (mags k link.placement chain.0.placed) in
         let more = mul-le-mul_left mag next.2 in
         let low : far.factor ≤ mag * next.0.factor = omega arith in
         let product = mul-le-mul_left factor low in
-        let e' = mul_assoc factor mag next.0.factor in
-        (k, record { cell = link.cell; factor = factor * mag }, record { placement = link.placement; target = Some link.cell; placed = chain.0.placed; targeted = at; goes = record { from = next.0; places = refl; there = next.1; is = refl; beyond = omega arith } })
+        let e' = mul_assoc factor mag next.0.factor in (
+          k,
+          record { cell = link.cell; factor = factor * mag },
+          record {
+            placement = link.placement;
+            target =
+                Some link.cell;
+            placed = chain.0.placed;
+            targeted = at;
+            goes =
+                record { from = next.0; places = refl; there = next.1; is = refl; beyond = omega arith };
+          },
+        )
 
-pub beyond_more : (placements : List Placement) (targets : List (Option ℕ)) (farthest : List (Option Far)) (factor k : ℕ) (placement : Placement) (target : Option ℕ)
+pub beyond_more : (placements : List Placement) (targets : List (Option ℕ)) (farthest : List (Option Far))
+    (factor k : ℕ) (placement : Placement) (target : Option ℕ)
     → slice_get placements k ≡ Some placement → slice_get targets k ≡ Some target → ((far : Far) → GoesBeyond farthest factor placement target far → ⊥)
-    → ((j : ℕ) (far : Far) → j < k → LeadsBeyond placements targets farthest factor j far → ⊥) → (j : ℕ) (far : Far) → j < k + 1 → LeadsBeyond placements targets farthest factor j far → ⊥
+    → ((j : ℕ) (far : Far) → j < k → LeadsBeyond placements targets farthest factor j far → ⊥) → (j : ℕ) (far : Far)
+    → j < k + 1 → LeadsBeyond placements targets farthest factor j far → ⊥
 beyond_more placements targets farthest factor k placement target placed targeted none before j far below leads = elim (apart j k) [
   | inl e ↦ (let p = one_slot placements k leads.placement placement (subst (λ i. slice_get placements i ≡ Some leads.placement) e leads.placed) placed in
       let t = one_slot targets k leads.target target (subst (λ i. slice_get targets i ≡ Some leads.target) e leads.targeted) targeted in
@@ -214,13 +263,17 @@ pub mags_on_grid : (cells : List Cell) → All IsCellOnGrid cells → (n k : ℕ
 mags_on_grid cells all n k p at = (All-slot (placements_at cells n) IsPlacementOnGrid (on_grid cells all n) k p at).orient.enlarges
 
 -- one step along a placement that leads beyond
-pub beyond_at : (cells : List Cell) (farthest : List (Option Far)) (n factor k : ℕ) (far : Far) → LeadsBeyond (placements_at cells n) (targets_at cells n) farthest factor k far → PlacesAt cells n k far.cell
+pub beyond_at : (cells : List Cell) (farthest : List (Option Far)) (n factor k : ℕ) (far : Far)
+    → LeadsBeyond (placements_at cells n) (targets_at cells n) farthest factor k far → PlacesAt cells n k far.cell
 beyond_at cells farthest n factor k far leads = leads.targeted ∙ ap Some leads.goes.places
 
-pub beyond_factor : (cells : List Cell) (farthest : List (Option Far)) (n factor k : ℕ) (far : Far) (leads : LeadsBeyond (placements_at cells n) (targets_at cells n) farthest factor k far) (at : PlacesAt cells n k far.cell)
+pub beyond_factor : (cells : List Cell) (farthest : List (Option Far)) (n factor k : ℕ) (far : Far)
+    (leads : LeadsBeyond (placements_at cells n) (targets_at cells n) farthest factor k far)
+    (at : PlacesAt cells n k far.cell)
     → far.factor ≡ factor * (link_at cells n k far.cell at).placement.orient.mag
 beyond_factor cells farthest n factor k far leads at =
-    let p = one_slot (placements_at cells n) k leads.placement (placement_of cells n k far.cell at).placement leads.placed (placement_of cells n k far.cell at).here in
+    let p = one_slot (placements_at cells n) k leads.placement
+    (placement_of cells n k far.cell at).placement leads.placed (placement_of cells n k far.cell at).here in
     leads.goes.is ∙ ap (λ q. factor * q.orient.mag) p
 
 pub factor_pushed : (links : List Link) (link : Link) → chain_factor (links ++ link ∷ []) ≡ chain_factor links * link.placement.orient.mag

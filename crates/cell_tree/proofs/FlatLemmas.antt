@@ -1,5 +1,6 @@
 -- The flattened shapes of a cell, by its own and those of the cells that it places.
-use Rattle.std.proofs.Common.{◌≡◌, ◌⊎◌, ℕ, zero, suc, ◌+◌, ◌*◌, ◌<◌, List, [], ◌∷◌, ◌++◌, Option, Some, None, Any, Contains, length, get_or, slice_get, map, refl, sym, ap, subst, ◌∙◌, inl, inr, arith}
+use Rattle.std.proofs.Common.{◌≡◌, ◌⊎◌, ℕ, zero, suc, ◌+◌, ◌*◌, ◌<◌, List, [], ◌∷◌, ◌++◌, Option, Some, None, Any}
+use Rattle.std.proofs.Common.{Contains, length, get_or, slice_get, map, refl, sym, ap, subst, ◌∙◌, inl, inr, arith}
 use Rattle.std.specs.List.{flat_map, sum_by}
 use Rattle.std.specs.Option.{option_map_or}
 use Rattle.std.proofs.lemmas.List.{length-map, length-append}
@@ -85,14 +86,17 @@ slot_contains xs k x at = (k, slice_get_within xs k x at, get_or_from_slice_get 
 
 -- ---- the depth of what is said
 
-pub short_placed : (cells : List Cell) (depth n k : ℕ) (placement : Placement) (m : ℕ) → IsShort cells (suc depth) n → slice_get (placements_at cells n) k ≡ Some placement → cell_number cells placement.target ≡ Some m
+pub short_placed : (cells : List Cell) (depth n k : ℕ) (placement : Placement) (m : ℕ) → IsShort cells (suc depth) n
+    → slice_get (placements_at cells n) k ≡ Some placement → cell_number cells placement.target ≡ Some m
     → IsShort cells depth m
 short_placed cells depth n k placement m short placed target links chain =
     let long = short (record { placement = placement; cell = m } ∷ links) (record { number = k; placed = placed; target = target }, chain) in omega arith
 
 pub short_below : (cells : List Cell) (top n : ℕ) → IsShallow cells top → IsReachable cells top n → IsShort cells 64 n
 short_below cells top n shallow reach links chain =
-    let low = shallow (reach.links ++ links) (chain_joined cells top reach.links links reach.chain (subst (λ m. IsChain cells m links) (sym reach.end) chain)) in
+    let low = shallow (reach.links ++ links)
+    (chain_joined cells top reach.links links reach.chain
+    (subst (λ m. IsChain cells m links) (sym reach.end) chain)) in
     omega (arith, length-append reach.links links, length-map (reach.links ++ links) (λ link. link.cell))
 
 flat_map_same : {X Y : Type 0} (f g : X → List Y) (xs : List X) → ((k : ℕ) (x : X) → slice_get xs k ≡ Some x → f x ≡ g x) → flat_map f xs ≡ flat_map g xs
@@ -108,7 +112,9 @@ module _ {X : Type 0} (own : ℕ → List X) (carry : Orient → Point → X →
   abbrev pub below : (ℕ → List X) → ℕ → List X
   below things n = flat_map (λ placement. placed_things carry placement (option_map_or things (cell_number cells placement.target) [])) (placements_at cells n)
 
-  pub below_same : (f g : ℕ → List X) (n : ℕ) → ((k : ℕ) (placement : Placement) (m : ℕ) → slice_get (placements_at cells n) k ≡ Some placement → cell_number cells placement.target ≡ Some m → f m ≡ g m)
+  pub below_same : (f g : ℕ → List X) (n : ℕ)
+      → ((k : ℕ) (placement : Placement) (m : ℕ) → slice_get (placements_at cells n) k ≡ Some placement
+      → cell_number cells placement.target ≡ Some m → f m ≡ g m)
       → below f n ≡ below g n
   below_same f g n same = flat_map_same (λ placement. placed_things carry placement (option_map_or f (cell_number cells placement.target) []))
       (λ placement. placed_things carry placement (option_map_or g (cell_number cells placement.target) [])) (placements_at cells n)
@@ -121,11 +127,13 @@ module _ {X : Type 0} (own : ℕ → List X) (carry : Orient → Point → X →
       (λ k placement m placed target. deep_enough depth m (short_placed cells depth n k placement m short placed target)))
 
   -- what a cell shows, by its own and by what the placed cells show
-  pub things_are : (depth n : ℕ) → IsShort cells (suc depth) n → things_within own carry cells (suc depth) n ≡ own n ++ below (things_within own carry cells (suc depth)) n
+  pub things_are : (depth n : ℕ) → IsShort cells (suc depth) n
+      → things_within own carry cells (suc depth) n ≡ own n ++ below (things_within own carry cells (suc depth)) n
   things_are depth n short = ap (λ l. own n ++ l) (below_same (things_within own carry cells depth) (things_within own carry cells (suc depth)) n
       (λ k placement m placed target. sym (deep_enough depth m (short_placed cells depth n k placement m short placed target))))
 
-pub flattened_is : (cells : List Cell) (n : ℕ) → IsShort cells 64 n → flattened cells n ≡ own_flats cells n ++ below (own_flats cells) flat_image cells (flattened cells) n
+pub flattened_is : (cells : List Cell) (n : ℕ) → IsShort cells 64 n
+    → flattened cells n ≡ own_flats cells n ++ below (own_flats cells) flat_image cells (flattened cells) n
 unfolding flattened
 flattened_is cells n short = things_are (own_flats cells) flat_image cells 63 n short
 
@@ -143,27 +151,44 @@ own_has shapes pair p h =
     let by : Point = o.1 in
     let c = contains_slot (map (moved by) shape.points) p o.3.1 in
     let v = map_slot (moved by) shape.points c.0 p c.1 in
-    record { number = s.0; early = slice_get_within shapes s.0 shape s.2; shape = shape; here = s.2; on_pair = o.3.0; vertex = record { place = o.0; by = by; offset = o.2; corner = c.0; v = v.0; point = v.1; is = v.2 } }
+    record {
+      number = s.0;
+      early = slice_get_within shapes s.0 shape s.2;
+      shape = shape;
+      here = s.2;
+      on_pair =
+          o.3.0;
+      vertex = record { place = o.0; by = by; offset = o.2; corner = c.0; v = v.0; point = v.1; is = v.2 };
+    }
 
 has_own : (shapes : List Shape) (bound : ℕ) (pair : Pair) (p : Point) → OwnVertex shapes bound pair p → Has (On pair p) (flat_map flats_of_shape shapes)
 has_own shapes bound pair p own =
     let flat_at : Point → Flat = λ by. record { pair = own.shape.pair; points = map (moved by) own.shape.points } in
-    let c : Contains (map (moved own.vertex.by) own.shape.points) p = slot_contains (map (moved own.vertex.by) own.shape.points) own.vertex.corner p (slot_map (moved own.vertex.by) own.shape.points own.vertex.corner own.vertex.v own.vertex.point ∙ ap Some own.vertex.is) in
+    let c : Contains (map (moved own.vertex.by) own.shape.points) p = slot_contains
+    (map (moved own.vertex.by) own.shape.points) own.vertex.corner p
+    (slot_map (moved own.vertex.by) own.shape.points own.vertex.corner own.vertex.v own.vertex.point
+    ∙ ap Some own.vertex.is) in
     flat_has (On pair p) flats_of_shape shapes (slot_has (λ shape. Has (On pair p) (flats_of_shape shape)) shapes own.number own.shape own.here
     (map_has (On pair p) (λ by. record { pair = own.shape.pair; points = map (moved by) own.shape.points }) own.shape.offsets
-    (slot_has (λ by. On pair p (record { pair = own.shape.pair; points = map (moved by) own.shape.points })) own.shape.offsets own.vertex.place own.vertex.by own.vertex.offset (own.on_pair, c))))
+    (slot_has (λ by. On pair p (record { pair = own.shape.pair; points = map (moved by) own.shape.points }))
+    own.shape.offsets own.vertex.place own.vertex.by own.vertex.offset (own.on_pair, c))))
 
 module _ (cells : List Cell) (n : ℕ) (pair : Pair) (p : Point) where
   below_vertex : (k : ℕ) (placement : Placement) (o : Option ℕ) → cell_number cells placement.target ≡ o → slice_get (placements_at cells n) k ≡ Some placement
-      → Has (On pair p) (placed_things flat_image placement (option_map_or (flattened cells) o [])) → PlacedVertex cells n (length (placements_at cells n)) pair p
+      → Has (On pair p) (placed_things flat_image placement (option_map_or (flattened cells) o []))
+      → PlacedVertex cells n (length (placements_at cells n)) pair p
   below_vertex k placement None e placed h =
-      let o = has_slot (λ by. Has (On pair p) (map (flat_image placement.orient (moved by placement.at)) [])) placement.offsets (has_flat (On pair p) (λ by. map (flat_image placement.orient (moved by placement.at)) []) placement.offsets h) in
+      let o = has_slot (λ by. Has (On pair p) (map (flat_image placement.orient (moved by placement.at)) []))
+      placement.offsets (has_flat (On pair p)
+      (λ by. map (flat_image placement.orient (moved by placement.at)) []) placement.offsets h) in
       absurd o.3
   below_vertex k placement (Some m) e placed h =
       let o = has_slot (λ by. Has (On pair p) (map (flat_image placement.orient (moved by placement.at)) (flattened cells m))) placement.offsets
       (has_flat (On pair p) (λ by. map (flat_image placement.orient (moved by placement.at)) (flattened cells m)) placement.offsets h) in
       let by : Point = o.1 in
-      let f = has_slot (λ flat. On pair p (flat_image placement.orient (moved by placement.at) flat)) (flattened cells m) (has_map (On pair p) (flat_image placement.orient (moved by placement.at)) (flattened cells m) o.3) in
+      let f = has_slot (λ flat. On pair p (flat_image placement.orient (moved by placement.at) flat))
+      (flattened cells m) (has_map (On pair p) (flat_image placement.orient (moved by placement.at))
+      (flattened cells m) o.3) in
       let flat : Flat = f.1 in
       let c = contains_slot (map (image_of placement.orient (moved by placement.at)) flat.points) p f.3.1 in
       let v = map_slot (image_of placement.orient (moved by placement.at)) flat.points c.0 p c.1 in
@@ -178,7 +203,8 @@ module _ (cells : List Cell) (n : ℕ) (pair : Pair) (p : Point) where
         by = by;
         offset = o.2;
         v = v.0;
-        vertex = has_any (On pair v.0) (flattened cells m) (slot_has (On pair v.0) (flattened cells m) f.0 flat f.2 (f.3.0, slot_contains flat.points c.0 v.0 v.1));
+        vertex = has_any (On pair v.0) (flattened cells m)
+            (slot_has (On pair v.0) (flattened cells m) f.0 flat f.2 (f.3.0, slot_contains flat.points c.0 v.0 v.1));
         is = v.2;
       }
 
@@ -189,7 +215,9 @@ module _ (cells : List Cell) (n : ℕ) (pair : Pair) (p : Point) where
       let flat : Flat = f.1 in
       let c = contains_slot flat.points pv.v f.3.1 in
       flat_has (On pair p) (λ by. map (flat_image pv.placement.orient (moved by pv.placement.at)) (flattened cells pv.target)) pv.placement.offsets
-      (slot_has (λ by. Has (On pair p) (map (flat_image pv.placement.orient (moved by pv.placement.at)) (flattened cells pv.target))) pv.placement.offsets pv.place pv.by pv.offset
+      (slot_has (λ by. Has (On pair p)
+      (map (flat_image pv.placement.orient (moved by pv.placement.at)) (flattened cells pv.target)))
+      pv.placement.offsets pv.place pv.by pv.offset
       (map_has (On pair p) (flat_image pv.placement.orient (moved pv.by pv.placement.at)) (flattened cells pv.target)
       (slot_has (λ flat. On pair p (flat_image pv.placement.orient (moved pv.by pv.placement.at) flat)) (flattened cells pv.target) f.0 flat f.2 (
         f.3.0,
@@ -197,13 +225,21 @@ module _ (cells : List Cell) (n : ℕ) (pair : Pair) (p : Point) where
             (slot_map (image_of pv.placement.orient (moved pv.by pv.placement.at)) flat.points c.0 pv.v c.1 ∙ ap Some pv.is),
       ))))
 
-  pub vertex_cases : IsShort cells 64 n → IsVertex cells n pair p → OwnVertex (shapes_at cells n) (length (shapes_at cells n)) pair p ⊎ PlacedVertex cells n (length (placements_at cells n)) pair p
+  pub vertex_cases : IsShort cells 64 n → IsVertex cells n pair p
+      → OwnVertex (shapes_at cells n) (length (shapes_at cells n)) pair p
+      ⊎ PlacedVertex cells n (length (placements_at cells n)) pair p
   vertex_cases short vertex =
       let h = subst (Has (On pair p)) (flattened_is cells n short) (any_has (On pair p) (flattened cells n) vertex) in
       elim (has_split (On pair p) (own_flats cells n) (below (own_flats cells) flat_image cells (flattened cells) n) h) [
         | inl own ↦ inl (own_has (shapes_at cells n) pair p own)
-        | inr placed ↦ inr (let s = has_slot (λ placement. Has (On pair p) (placed_things flat_image placement (option_map_or (flattened cells) (cell_number cells placement.target) []))) (placements_at cells n)
-            (has_flat (On pair p) (λ placement. placed_things flat_image placement (option_map_or (flattened cells) (cell_number cells placement.target) [])) (placements_at cells n) placed) in
+        | inr placed ↦ inr (let s = has_slot
+            (λ placement. Has (On pair p)
+            (placed_things flat_image placement
+            (option_map_or (flattened cells) (cell_number cells placement.target) []))) (placements_at cells n)
+            (has_flat (On pair p)
+            (λ placement. placed_things flat_image placement
+            (option_map_or (flattened cells) (cell_number cells placement.target) []))
+            (placements_at cells n) placed) in
             below_vertex s.0 s.1 (cell_number cells s.1.target) refl s.2 s.3)
       ]
 
@@ -214,19 +250,28 @@ module _ (cells : List Cell) (n : ℕ) (pair : Pair) (p : Point) where
   pub placed_vertex : (bound : ℕ) → IsShort cells 64 n → PlacedVertex cells n bound pair p → IsVertex cells n pair p
   placed_vertex bound short pv = has_any (On pair p) (flattened cells n) (subst (Has (On pair p)) (sym (flattened_is cells n short))
       (has_right (On pair p) (own_flats cells n) (below (own_flats cells) flat_image cells (flattened cells) n)
-      (flat_has (On pair p) (λ placement. placed_things flat_image placement (option_map_or (flattened cells) (cell_number cells placement.target) [])) (placements_at cells n)
-      (slot_has (λ placement. Has (On pair p) (placed_things flat_image placement (option_map_or (flattened cells) (cell_number cells placement.target) []))) (placements_at cells n) pv.number pv.placement pv.placed
-      (subst (λ o. Has (On pair p) (placed_things flat_image pv.placement (option_map_or (flattened cells) o []))) (sym pv.targeted) (vertex_below bound pv))))))
+      (flat_has (On pair p)
+      (λ placement. placed_things flat_image placement
+      (option_map_or (flattened cells) (cell_number cells placement.target) [])) (placements_at cells n)
+      (slot_has (λ placement. Has (On pair p)
+      (placed_things flat_image placement
+      (option_map_or (flattened cells) (cell_number cells placement.target) [])))
+      (placements_at cells n) pv.number pv.placement pv.placed
+      (subst (λ o. Has (On pair p) (placed_things flat_image pv.placement (option_map_or (flattened cells) o [])))
+      (sym pv.targeted) (vertex_below bound pv))))))
 
 -- ---- numbers
 
-length_copies : {X Y : Type 0} (f : X → Y → Y) (offsets : List X) (things : List Y) → length (flat_map (λ by. map (f by) things) offsets) ≡ length offsets * length things
+length_copies : {X Y : Type 0} (f : X → Y → Y) (offsets : List X) (things : List Y)
+    → length (flat_map (λ by. map (f by) things) offsets) ≡ length offsets * length things
 length_copies f [] things = omega arith
 length_copies f (by ∷ offsets) things =
     let h = length_copies f offsets things in
     length-append (map (f by) things) (flat_map (λ b. map (f b) things) offsets) ∙ omega (arith, length-map things (f by))
 
-placed_count_is : (cells : List Cell) (placement : Placement) (o : Option ℕ) → length (placed_things flat_image placement (option_map_or (flattened cells) o [])) ≡ length placement.offsets * option_map_or (shape_count cells) o 0
+placed_count_is : (cells : List Cell) (placement : Placement) (o : Option ℕ)
+    → length (placed_things flat_image placement (option_map_or (flattened cells) o []))
+    ≡ length placement.offsets * option_map_or (shape_count cells) o 0
 placed_count_is cells placement None = length_copies (λ by. flat_image placement.orient (moved by placement.at)) placement.offsets []
 placed_count_is cells placement (Some m) = length_copies (λ by. flat_image placement.orient (moved by placement.at)) placement.offsets (flattened cells m)
 
@@ -234,11 +279,19 @@ sum_same : {X : Type 0} (f g : X → ℕ) (xs : List X) → ((x : X) → f x ≡
 sum_same f g [] same = refl
 sum_same f g (x ∷ xs) same = sum_by-cons f x xs ∙ (let h = sum_same f g xs same in let e = same x in omega arith) ∙ sym (sum_by-cons g x xs)
 
-pub count_is : (cells : List Cell) (n : ℕ) → IsShort cells 64 n → shape_count cells n ≡ sum_by (λ shape. length shape.offsets) (shapes_at cells n) + sum_by (placed_count cells) (placements_at cells n)
+pub count_is : (cells : List Cell) (n : ℕ) → IsShort cells 64 n
+    → shape_count cells n ≡ sum_by (λ shape. length shape.offsets) (shapes_at cells n) + sum_by (placed_count cells)
+    (placements_at cells n)
 count_is cells n short =
     let f = λ (placement : Placement). placed_things flat_image placement (option_map_or (flattened cells) (cell_number cells placement.target) []) in
-    let own = length-flat_map flats_of_shape (shapes_at cells n) ∙ sum_same (λ shape. length (flats_of_shape shape)) (λ shape. length shape.offsets) (shapes_at cells n)
+    let own = length-flat_map flats_of_shape (shapes_at cells n) ∙ sum_same (λ shape. length (flats_of_shape shape))
+    (λ shape. length shape.offsets) (shapes_at cells n)
     (λ shape. length-map shape.offsets (λ by. record { pair = shape.pair; points = map (moved by) shape.points })) in
-    let placed = length-flat_map f (placements_at cells n) ∙ sum_same (λ placement. length (placed_things flat_image placement (option_map_or (flattened cells) (cell_number cells placement.target) []))) (placed_count cells) (placements_at cells n)
+    let placed = length-flat_map f (placements_at cells n) ∙ sum_same
+    (λ placement. length
+    (placed_things flat_image placement
+    (option_map_or (flattened cells) (cell_number cells placement.target) []))) (placed_count cells)
+    (placements_at cells n)
     (λ placement. placed_count_is cells placement (cell_number cells placement.target)) in
-    ap length (flattened_is cells n short) ∙ length-append (own_flats cells n) (below (own_flats cells) flat_image cells (flattened cells) n) ∙ (omega (arith, own, placed))
+    ap length (flattened_is cells n short) ∙ length-append (own_flats cells n)
+    (below (own_flats cells) flat_image cells (flattened cells) n) ∙ (omega (arith, own, placed))

@@ -1,5 +1,7 @@
 -- Lists of boxes by pair.
-use Rattle.std.proofs.Common.{◌≡◌, ◌⊎◌, ℕ, zero, suc, ◌+◌, ◌<◌, ◌≤◌, nat_eq, nat_lt, ◌&&◌, Bool, true, false, if◌then◌else◌, List, [], ◌∷◌, ◌++◌, Option, Some, None, length, take, insert, set, get_or, slice_get, refl, sym, ap, subst, ◌∙◌, inl, inr, arith, true≢false}
+use Rattle.std.proofs.Common.{◌≡◌, ◌⊎◌, ℕ, zero, suc, ◌+◌, ◌<◌, ◌≤◌, nat_eq, nat_lt, ◌&&◌, Bool, true, false}
+use Rattle.std.proofs.Common.{if◌then◌else◌, List, [], ◌∷◌, ◌++◌, Option, Some, None, length, take, insert, set, get_or}
+use Rattle.std.proofs.Common.{slice_get, refl, sym, ap, subst, ◌∙◌, inl, inr, arith, true≢false}
 use Rattle.std.specs.Option.{option_map}
 use Rattle.std.proofs.lemmas.Bool.{cases_lt}
 use Rattle.std.proofs.lemmas.Bool.Decides.{nat_tests}
@@ -20,7 +22,8 @@ pub pair_true : (a b : Pair) → same_pair a b ≡ true → a ≡ b
 pair_true a b e = by (nat_eq a.layer b.layer) (nat_eq a.datatype b.datatype) refl refl e
   where
     by : (s t : Bool) → nat_eq a.layer b.layer ≡ s → nat_eq a.datatype b.datatype ≡ t → (s && t) ≡ true → a ≡ b
-    by true true e f h = let l : a.layer ≡ b.layer = grind (arith, nat_tests) in let d : a.datatype ≡ b.datatype = grind (arith, nat_tests) in λ i. record { layer = l i; datatype = d i }
+    by true true e f h = let l : a.layer ≡ b.layer = grind (arith, nat_tests) in let d : a.datatype ≡ b.datatype =
+        grind (arith, nat_tests) in λ i. record { layer = l i; datatype = d i }
     by true false e f h = absurd (true≢false (sym h))
     by false t e f h = absurd (true≢false (sym h))
 
@@ -144,7 +147,11 @@ stand : (here : PairHull) (pair : Pair) → Stand here pair
 stand here pair = elim (order here.pair pair) [
   | inl b ↦ inl (is_true here.pair pair b)
   | inr rest ↦ elim rest [
-    | inl same ↦ inr (inl (subst (λ p. is_before here.pair p ≡ false) same (is_false here.pair here.pair (not_self here.pair)), subst (λ p. same_pair here.pair p ≡ true) same (pair_same here.pair)))
+    | inl same ↦ inr (inl (
+      subst (λ p. is_before here.pair p ≡ false) same (is_false here.pair here.pair (not_self here.pair)),
+      subst
+          (λ p. same_pair here.pair p ≡ true) same (pair_same here.pair),
+    ))
     | inr g ↦ let behind = is_true pair here.pair g in
         inr (inr (is_false here.pair pair (λ b. not_both here.pair pair b g), pair_turned pair here.pair (before_other pair here.pair behind), behind))
   ]
@@ -167,16 +174,19 @@ pub before_none : (pair : Pair) (hulls : List PairHull) → IsBeforeAll pair hul
 before_none pair [] all = refl
 before_none pair (here ∷ hulls) all = head_other here hulls pair (pair_turned pair here.pair (before_other pair here.pair all.0)) ∙ before_none pair hulls all.1
 
-before_at : (pair : Pair) (hulls : List PairHull) (k : ℕ) (here : PairHull) → IsBeforeAll pair hulls → slice_get hulls k ≡ Some here → is_before pair here.pair ≡ true
+before_at : (pair : Pair) (hulls : List PairHull) (k : ℕ) (here : PairHull) → IsBeforeAll pair hulls
+    → slice_get hulls k ≡ Some here → is_before pair here.pair ≡ true
 before_at pair [] k here all at = absurd (none-some here at)
 before_at pair (first ∷ hulls) zero here all at = subst (λ h. is_before pair h.pair ≡ true) (same_Some first here at) all.0
 before_at pair (first ∷ hulls) (suc k) here all at = before_at pair hulls k here all.1 at
 
 -- of two entries the earlier one's pair comes before the other's
-pub order_at : (hulls : List PairHull) (j k : ℕ) (a b : PairHull) → AreInOrder hulls → j < k → slice_get hulls j ≡ Some a → slice_get hulls k ≡ Some b → is_before a.pair b.pair ≡ true
+pub order_at : (hulls : List PairHull) (j k : ℕ) (a b : PairHull) → AreInOrder hulls → j < k
+    → slice_get hulls j ≡ Some a → slice_get hulls k ≡ Some b → is_before a.pair b.pair ≡ true
 order_at [] j k a b so less at-j at-k = absurd (none-some a at-j)
 order_at (first ∷ hulls) zero zero a b so less at-j at-k = absurd (omega arith)
-order_at (first ∷ hulls) zero (suc k) a b so less at-j at-k = subst (λ h. is_before h.pair b.pair ≡ true) (same_Some first a at-j) (before_at first.pair hulls k b so.0 at-k)
+order_at (first ∷ hulls) zero (suc k) a b so less at-j at-k = subst (λ h. is_before h.pair b.pair ≡ true)
+    (same_Some first a at-j) (before_at first.pair hulls k b so.0 at-k)
 order_at (first ∷ hulls) (suc j) zero a b so less at-j at-k = absurd (omega arith)
 order_at (first ∷ hulls) (suc j) (suc k) a b so less at-j at-k = order_at hulls j k a b so.1 (omega arith) at-j at-k
 
@@ -188,19 +198,24 @@ new_entry pair by = record { pair = pair; hull = by }
 abbrev choice : {X : Type 0} → Bool → Bool → X → X → X → X
 choice s t on same new = if s then on else if t then same else new
 
-widened_on : (here : PairHull) (hulls : List PairHull) (pair : Pair) (by : Frame) → is_before here.pair pair ≡ true → widened_list (here ∷ hulls) pair by ≡ here ∷ widened_list hulls pair by
-widened_on here hulls pair by e = ap (λ s. choice s (same_pair here.pair pair) (here ∷ widened_list hulls pair by) (new_entry pair (joined_box here.hull by) ∷ hulls) (new_entry pair by ∷ here ∷ hulls)) e
+widened_on : (here : PairHull) (hulls : List PairHull) (pair : Pair) (by : Frame) → is_before here.pair pair ≡ true
+    → widened_list (here ∷ hulls) pair by ≡ here ∷ widened_list hulls pair by
+widened_on here hulls pair by e = ap
+    (λ s. choice s (same_pair here.pair pair) (here ∷ widened_list hulls pair by)
+    (new_entry pair (joined_box here.hull by) ∷ hulls) (new_entry pair by ∷ here ∷ hulls)) e
 
 widened_same : (here : PairHull) (hulls : List PairHull) (pair : Pair) (by : Frame) → is_before here.pair pair ≡ false → same_pair here.pair pair ≡ true
     → widened_list (here ∷ hulls) pair by ≡ new_entry pair (joined_box here.hull by) ∷ hulls
 widened_same here hulls pair by isnt e =
-    ap (λ s. choice s (same_pair here.pair pair) (here ∷ widened_list hulls pair by) (new_entry pair (joined_box here.hull by) ∷ hulls) (new_entry pair by ∷ here ∷ hulls)) isnt
+    ap (λ s. choice s (same_pair here.pair pair) (here ∷ widened_list hulls pair by)
+    (new_entry pair (joined_box here.hull by) ∷ hulls) (new_entry pair by ∷ here ∷ hulls)) isnt
     ∙ ap (λ t. choice false t (here ∷ widened_list hulls pair by) (new_entry pair (joined_box here.hull by) ∷ hulls) (new_entry pair by ∷ here ∷ hulls)) e
 
 widened_new : (here : PairHull) (hulls : List PairHull) (pair : Pair) (by : Frame) → is_before here.pair pair ≡ false → same_pair here.pair pair ≡ false
     → widened_list (here ∷ hulls) pair by ≡ new_entry pair by ∷ here ∷ hulls
 widened_new here hulls pair by isnt e =
-    ap (λ s. choice s (same_pair here.pair pair) (here ∷ widened_list hulls pair by) (new_entry pair (joined_box here.hull by) ∷ hulls) (new_entry pair by ∷ here ∷ hulls)) isnt
+    ap (λ s. choice s (same_pair here.pair pair) (here ∷ widened_list hulls pair by)
+    (new_entry pair (joined_box here.hull by) ∷ hulls) (new_entry pair by ∷ here ∷ hulls)) isnt
     ∙ ap (λ t. choice false t (here ∷ widened_list hulls pair by) (new_entry pair (joined_box here.hull by) ∷ hulls) (new_entry pair by ∷ here ∷ hulls)) e
 
 abbrev Test : PairHull → Pair → Type 0
@@ -214,22 +229,26 @@ test here pair = by (same_pair here.pair pair) refl
     by false e = inr e
 
 -- the pair that is widened
-pub widened_here : (hulls : List PairHull) (pair : Pair) (by : Frame) → AreInOrder hulls → hull_in (widened_list hulls pair by) pair ≡ Some (wider (hull_in hulls pair) by)
+pub widened_here : (hulls : List PairHull) (pair : Pair) (by : Frame) → AreInOrder hulls
+    → hull_in (widened_list hulls pair by) pair ≡ Some (wider (hull_in hulls pair) by)
 widened_here [] pair by so = head_same (new_entry pair by) [] pair (pair_same pair)
 widened_here (here ∷ hulls) pair by so = elim (stand here pair) [
   | inl on ↦ let other = before_other here.pair pair on in
       ap (λ l. hull_in l pair) (widened_on here hulls pair by on) ∙ head_other here (widened_list hulls pair by) pair other ∙ widened_here hulls pair by so.1
       ∙ sym (ap (λ o. Some (wider o by)) (head_other here hulls pair other))
   | inr rest ↦ elim rest [
-    | inl same ↦ ap (λ l. hull_in l pair) (widened_same here hulls pair by same.0 same.1) ∙ head_same (new_entry pair (joined_box here.hull by)) hulls pair (pair_same pair)
+    | inl same ↦ ap (λ l. hull_in l pair) (widened_same here hulls pair by same.0 same.1) ∙ head_same
+        (new_entry pair (joined_box here.hull by)) hulls pair (pair_same pair)
         ∙ sym (ap (λ o. Some (wider o by)) (head_same here hulls pair same.1))
-    | inr behind ↦ ap (λ l. hull_in l pair) (widened_new here hulls pair by behind.0 behind.1) ∙ head_same (new_entry pair by) (here ∷ hulls) pair (pair_same pair)
+    | inr behind ↦ ap (λ l. hull_in l pair) (widened_new here hulls pair by behind.0 behind.1) ∙ head_same
+        (new_entry pair by) (here ∷ hulls) pair (pair_same pair)
         ∙ sym (ap (λ o. Some (wider o by)) (before_none pair (here ∷ hulls) (behind.2, before_more pair here.pair hulls behind.2 so.0)))
   ]
 ]
 
 -- another pair
-pub widened_elsewhere : (hulls : List PairHull) (pair q : Pair) (by : Frame) → same_pair pair q ≡ false → hull_in (widened_list hulls pair by) q ≡ hull_in hulls q
+pub widened_elsewhere : (hulls : List PairHull) (pair q : Pair) (by : Frame) → same_pair pair q ≡ false
+    → hull_in (widened_list hulls pair by) q ≡ hull_in hulls q
 widened_elsewhere [] pair q by other = head_other (new_entry pair by) [] q other
 widened_elsewhere (here ∷ hulls) pair q by other = elim (stand here pair) [
   | inl on ↦ ap (λ l. hull_in l q) (widened_on here hulls pair by on) ∙ elim (test here q) [
@@ -243,7 +262,8 @@ widened_elsewhere (here ∷ hulls) pair q by other = elim (stand here pair) [
   ]
 ]
 
-before_widened : (p : Pair) (hulls : List PairHull) (pair : Pair) (by : Frame) → IsBeforeAll p hulls → is_before p pair ≡ true → IsBeforeAll p (widened_list hulls pair by)
+before_widened : (p : Pair) (hulls : List PairHull) (pair : Pair) (by : Frame) → IsBeforeAll p hulls
+    → is_before p pair ≡ true → IsBeforeAll p (widened_list hulls pair by)
 before_widened p [] pair by all e = (e, tt)
 before_widened p (here ∷ hulls) pair by all e = elim (stand here pair) [
   | inl on ↦ subst (IsBeforeAll p) (sym (widened_on here hulls pair by on)) (all.0, before_widened p hulls pair by all.1 e)
@@ -258,7 +278,8 @@ widened_in_order [] pair by so = (tt, tt)
 widened_in_order (here ∷ hulls) pair by so = elim (stand here pair) [
   | inl on ↦ subst AreInOrder (sym (widened_on here hulls pair by on)) (before_widened here.pair hulls pair by so.0 on, widened_in_order hulls pair by so.1)
   | inr rest ↦ elim rest [
-    | inl same ↦ subst AreInOrder (sym (widened_same here hulls pair by same.0 same.1)) (subst (λ p. IsBeforeAll p hulls) (pair_true here.pair pair same.1) so.0, so.1)
+    | inl same ↦ subst AreInOrder (sym (widened_same here hulls pair by same.0 same.1))
+        (subst (λ p. IsBeforeAll p hulls) (pair_true here.pair pair same.1) so.0, so.1)
     | inr behind ↦ subst AreInOrder (sym (widened_new here hulls pair by behind.0 behind.1)) ((behind.2, before_more pair here.pair hulls behind.2 so.0), so)
   ]
 ]
@@ -279,14 +300,16 @@ next_place first hulls pair k is = let w = is.within in record {
   above = λ j here least at. is.above (suc j) here (omega arith) at;
 }
 
-pub widened_at : (hulls : List PairHull) (pair : Pair) (by : Frame) (k : ℕ) (d : PairHull) → k < length hulls → IsPlace hulls pair k → same_pair (get_or hulls k d).pair pair ≡ true
+pub widened_at : (hulls : List PairHull) (pair : Pair) (by : Frame) (k : ℕ) (d : PairHull) → k < length hulls
+    → IsPlace hulls pair k → same_pair (get_or hulls k d).pair pair ≡ true
     → widened_list hulls pair by ≡ set hulls k (record { pair = pair; hull = joined_box (get_or hulls k d).hull by })
 widened_at [] pair by k d inside at is = absurd (omega arith)
 widened_at (here ∷ hulls) pair by zero d inside at is = widened_same here hulls pair by (at.above 0 here (omega arith) refl) is
 widened_at (here ∷ hulls) pair by (suc k) d inside at is = widened_on here hulls pair by (at.below 0 here (omega arith) refl)
     ∙ ap (λ l. here ∷ l) (widened_at hulls pair by k d (omega arith) (next_place here hulls pair k at) is)
 
-pub hull_at : (hulls : List PairHull) (pair : Pair) (k : ℕ) (d : PairHull) → k < length hulls → IsPlace hulls pair k → same_pair (get_or hulls k d).pair pair ≡ true → hull_in hulls pair ≡ Some (get_or hulls k d).hull
+pub hull_at : (hulls : List PairHull) (pair : Pair) (k : ℕ) (d : PairHull) → k < length hulls → IsPlace hulls pair k
+    → same_pair (get_or hulls k d).pair pair ≡ true → hull_in hulls pair ≡ Some (get_or hulls k d).hull
 hull_at [] pair k d inside at is = absurd (omega arith)
 hull_at (here ∷ hulls) pair zero d inside at is = head_same here hulls pair is
 hull_at (here ∷ hulls) pair (suc k) d inside at is = head_other here hulls pair (before_other here.pair pair (at.below 0 here (omega arith) refl))
@@ -296,7 +319,8 @@ hull_at (here ∷ hulls) pair (suc k) d inside at is = head_other here hulls pai
 abbrev pub IsMissing : List PairHull → Pair → ℕ → Type 0
 IsMissing hulls pair k = (here : PairHull) → slice_get hulls k ≡ Some here → same_pair here.pair pair ≡ false
 
-pub widened_between : (hulls : List PairHull) (pair : Pair) (by : Frame) (k : ℕ) → IsPlace hulls pair k → IsMissing hulls pair k → widened_list hulls pair by ≡ insert hulls k (record { pair = pair; hull = by })
+pub widened_between : (hulls : List PairHull) (pair : Pair) (by : Frame) (k : ℕ) → IsPlace hulls pair k
+    → IsMissing hulls pair k → widened_list hulls pair by ≡ insert hulls k (record { pair = pair; hull = by })
 widened_between [] pair by zero at none = refl
 widened_between [] pair by (suc k) at none = absurd (let w = at.within in omega arith)
 widened_between (here ∷ hulls) pair by zero at none = widened_new here hulls pair by (at.above 0 here (omega arith) refl) (none here refl)
@@ -309,14 +333,18 @@ no_hull (here ∷ hulls) pair zero so at none =
     let behind = behind_of here pair (at.above 0 here (omega arith) refl) (none here refl) in
     before_none pair (here ∷ hulls) (behind, before_more pair here.pair hulls behind so.0)
 no_hull (here ∷ hulls) pair (suc k) so at none =
-    head_other here hulls pair (before_other here.pair pair (at.below 0 here (omega arith) refl)) ∙ no_hull hulls pair k so.1 (next_place here hulls pair k at) none
+    head_other here hulls pair (before_other here.pair pair (at.below 0 here (omega arith) refl))
+    ∙ no_hull hulls pair k so.1 (next_place here hulls pair k at) none
 
 -- an entry is the box of its pair
 pub entry_hull : (hulls : List PairHull) (k : ℕ) (here : PairHull) → AreInOrder hulls → slice_get hulls k ≡ Some here → hull_in hulls here.pair ≡ Some here.hull
 entry_hull [] k here apart at = absurd (none-some here at)
-entry_hull (first ∷ hulls) zero here apart at = let e = same_Some first here at in head_same first hulls here.pair (ap (λ h. same_pair h.pair here.pair) e ∙ pair_same here.pair) ∙ ap (λ h. Some h.hull) e
+entry_hull (first ∷ hulls) zero here apart at = let e = same_Some first here at in head_same first hulls here.pair
+    (ap (λ h. same_pair h.pair here.pair) e ∙ pair_same here.pair) ∙ ap (λ h. Some h.hull) e
 entry_hull (first ∷ hulls) (suc k) here apart at = elim (test first here.pair) [
-  | inl e ↦ absurd (none-some here.hull (sym (before_none first.pair hulls apart.0) ∙ ap (hull_in hulls) (pair_true first.pair here.pair e) ∙ entry_hull hulls k here apart.1 at))
+  | inl e ↦ absurd (none-some here.hull
+      (sym (before_none first.pair hulls apart.0) ∙ ap (hull_in hulls) (pair_true first.pair here.pair e)
+      ∙ entry_hull hulls k here apart.1 at))
   | inr e ↦ head_other first hulls here.pair e ∙ entry_hull hulls k here apart.1 at
 ]
 
@@ -337,32 +365,42 @@ hull_pushed_new (first ∷ hulls) here none = elim (test first here.pair) [
 ]
 
 -- no earlier entry has the pair
-pub earlier_none : (hulls : List PairHull) (k : ℕ) (here : PairHull) → AreInOrder hulls → slice_get hulls k ≡ Some here → hull_in (take k hulls) here.pair ≡ None
+pub earlier_none : (hulls : List PairHull) (k : ℕ) (here : PairHull) → AreInOrder hulls → slice_get hulls k ≡ Some here
+    → hull_in (take k hulls) here.pair ≡ None
 earlier_none [] k here apart at = absurd (none-some here at)
 earlier_none (first ∷ hulls) zero here apart at = refl
 earlier_none (first ∷ hulls) (suc k) here apart at = elim (test first here.pair) [
-  | inl e ↦ absurd (none-some here.hull (sym (before_none first.pair hulls apart.0) ∙ ap (hull_in hulls) (pair_true first.pair here.pair e) ∙ entry_hull hulls k here apart.1 at))
+  | inl e ↦ absurd (none-some here.hull
+      (sym (before_none first.pair hulls apart.0) ∙ ap (hull_in hulls) (pair_true first.pair here.pair e)
+      ∙ entry_hull hulls k here apart.1 at))
   | inr e ↦ head_other first (take k hulls) here.pair e ∙ earlier_none hulls k here apart.1 at
 ]
 
 -- what widening entry by entry gives
-pub merge_more : (f : Frame → Frame) (old new placed : List PairHull) (k : ℕ) (here : PairHull) → AreInOrder new → AreInOrder placed → k < length placed → slice_get placed k ≡ Some here
+pub merge_more : (f : Frame → Frame) (old new placed : List PairHull) (k : ℕ) (here : PairHull) → AreInOrder new
+    → AreInOrder placed → k < length placed → slice_get placed k ≡ Some here
     → ((q : Pair) → hull_in new q ≡ widest (hull_in old q) (option_map f (hull_in (take k placed) q)))
     → (q : Pair) → hull_in (widened_list new here.pair (f here.hull)) q ≡ widest (hull_in old q) (option_map f (hull_in (take (k + 1) placed) q))
 merge_more f old new placed k here sorted apart inside at so q =
     let e = same_Some (get_or placed k here) here (sym (slice_get-get_or placed k here inside) ∙ at) in
     let more : take (k + 1) placed ≡ take k placed ++ here ∷ [] = take_more placed k here inside ∙ ap (λ h. take k placed ++ h ∷ []) e in
     elim (pairs here.pair q) [
-      | inl same ↦ subst (λ p. hull_in (widened_list new here.pair (f here.hull)) p ≡ widest (hull_in old p) (option_map f (hull_in (take (k + 1) placed) p))) same
-          (widened_here new here.pair (f here.hull) sorted ∙ ap (λ o. Some (wider o (f here.hull))) (so here.pair ∙ ap (λ o. widest (hull_in old here.pair) (option_map f o)) (earlier_none placed k here apart at))
-          ∙ sym (ap (λ o. widest (hull_in old here.pair) (option_map f o)) (ap (λ l. hull_in l here.pair) more ∙ hull_pushed_new (take k placed) here (earlier_none placed k here apart at))))
+      | inl same ↦ subst (λ p. hull_in (widened_list new here.pair (f here.hull)) p ≡ widest (hull_in old p)
+          (option_map f (hull_in (take (k + 1) placed) p))) same
+          (widened_here new here.pair (f here.hull) sorted ∙ ap (λ o. Some (wider o (f here.hull)))
+          (so here.pair ∙ ap (λ o. widest (hull_in old here.pair) (option_map f o))
+          (earlier_none placed k here apart at))
+          ∙ sym (ap (λ o. widest (hull_in old here.pair) (option_map f o))
+          (ap (λ l. hull_in l here.pair) more ∙ hull_pushed_new (take k placed) here
+          (earlier_none placed k here apart at))))
       | inr other ↦ widened_elsewhere new here.pair q (f here.hull) other ∙ so q
           ∙ sym (ap (λ o. widest (hull_in old q) (option_map f o)) (ap (λ l. hull_in l q) more ∙ hull_pushed_other (take k placed) here q other))
     ]
 
 -- ---- what the boxes are of
 
-pub widest_hull : (P Q R : Point → Type 0) (a b : Option Frame) → ((p : Point) → P p → R p) → ((p : Point) → Q p → R p) → ((p : Point) → R p → P p ⊎ Q p) → IsHull P a → IsHull Q b → IsHull R (widest a b)
+pub widest_hull : (P Q R : Point → Type 0) (a b : Option Frame) → ((p : Point) → P p → R p) → ((p : Point) → Q p → R p)
+    → ((p : Point) → R p → P p ⊎ Q p) → IsHull P a → IsHull Q b → IsHull R (widest a b)
 widest_hull P Q R None None left right out p q = λ r h. elim (out r h) [ inl hp ↦ p r hp | inr hq ↦ q r hq ]
 widest_hull P Q R None (Some b) left right out p q = same_least Q R b right (λ r h. elim (out r h) [ inl hp ↦ absurd (p r hp) | inr hq ↦ hq ]) q
 widest_hull P Q R (Some a) None left right out p q = same_least P R a left (λ r h. elim (out r h) [ inl hp ↦ hp | inr hq ↦ absurd (q r hq) ]) p
@@ -403,7 +441,8 @@ module _ (hulls : List PairHull) (pair : Pair) (m : ℕ) (middle : PairHull) whe
       → (j : ℕ) (here : PairHull) → j < m + 1 → slice_get hulls j ≡ Some here → is_before here.pair pair ≡ true
   all_below so mid e j here less at = elim (cases_lt j m) [
     | inl below ↦ before_through here.pair middle.pair pair (order_at hulls j m here middle so below at mid) e
-    | inr other ↦ let same : m ≡ j = omega arith in subst (λ h. is_before h.pair pair ≡ true) (same_Some middle here (sym mid ∙ ap (slice_get hulls) same ∙ at)) e
+    | inr other ↦ let same : m ≡ j = omega arith in subst (λ h. is_before h.pair pair ≡ true)
+        (same_Some middle here (sym mid ∙ ap (slice_get hulls) same ∙ at)) e
   ]
 
   -- it doesn't, so those above it don't
@@ -411,7 +450,8 @@ module _ (hulls : List PairHull) (pair : Pair) (m : ℕ) (middle : PairHull) whe
       → (j : ℕ) (here : PairHull) → m ≤ j → slice_get hulls j ≡ Some here → is_before here.pair pair ≡ false
   none_above so mid e j here least at = elim (cases_lt m j) [
     | inl above ↦ by (is_before here.pair pair) refl above
-    | inr other ↦ let same : m ≡ j = omega arith in subst (λ h. is_before h.pair pair ≡ false) (same_Some middle here (sym mid ∙ ap (slice_get hulls) same ∙ at)) e
+    | inr other ↦ let same : m ≡ j = omega arith in subst (λ h. is_before h.pair pair ≡ false)
+        (same_Some middle here (sym mid ∙ ap (slice_get hulls) same ∙ at)) e
   ]
     where
       by : (t : Bool) → is_before here.pair pair ≡ t → m < j → is_before here.pair pair ≡ false

@@ -1,5 +1,7 @@
 -- Cells by name: the first place of a name among distinct names.
-use Rattle.std.proofs.Common.{◌≡◌, ℕ, zero, suc, ◌+◌, ◌<◌, ◌≤◌, nat_eq, Bool, true, false, cond, not, ◌||◌, List, [], ◌∷◌, ◌++◌, Option, Some, None, map, length, take, get_or, position, below_more, refl, sym, ap, ◌∙◌, arith, if◌then◌else◌}
+use Rattle.std.proofs.Common.{◌≡◌, ℕ, zero, suc, ◌+◌, ◌<◌, ◌≤◌, nat_eq, Bool, true, false, cond, not, ◌||◌, List, []}
+use Rattle.std.proofs.Common.{◌∷◌, ◌++◌, Option, Some, None, map, length, take, get_or, position, below_more, refl, sym}
+use Rattle.std.proofs.Common.{ap, ◌∙◌, arith, if◌then◌else◌}
 use Rattle.std.specs.List.{position_or_len, list_any}
 use Rattle.std.specs.Borrow.{Bor}
 use Rattle.std.specs.Cmp.Lexicographic.{pointwise, bytes_decides}
@@ -60,7 +62,8 @@ pub number_here : (cells : List Cell) (name : List ℕ) (n : ℕ) (cell : Cell) 
 unfolding cell_number
 number_here cells name n cell inside is before here =
     let inside' : n < length (cell_names cells) = omega (arith, length-names cells) in
-    sym (first_place (pointwise nat_eq name) (cell_names cells) n [] inside' before (ap (pointwise nat_eq name) (name_of_cell cells n cell inside is) ∙ sym here))
+    sym (first_place (pointwise nat_eq name) (cell_names cells) n [] inside' before
+    (ap (pointwise nat_eq name) (name_of_cell cells n cell inside is) ∙ sym here))
 
 pub number_nowhere : (cells : List Cell) (name : List ℕ) (n : ℕ) → length cells ≤ n → IsNotBefore cells name n → None ≡ cell_number cells name
 unfolding cell_number
@@ -80,7 +83,8 @@ or_false : (b c : Bool) → (b ≡ true → ⊥) → c ≡ false → (b || c) �
 or_false true c differs e = absurd (differs refl)
 or_false false c differs e = e
 
-none_equal : (k : Bor (List ℕ)) (keys : List (Bor (List ℕ))) → ((j : ℕ) → j < length keys → get_or (pointed keys) j [] ≡ k.now → ⊥) → list_any (same_name k) keys ≡ false
+none_equal : (k : Bor (List ℕ)) (keys : List (Bor (List ℕ)))
+    → ((j : ℕ) → j < length keys → get_or (pointed keys) j [] ≡ k.now → ⊥) → list_any (same_name k) keys ≡ false
 none_equal k [] other = refl
 none_equal k (key ∷ keys) other =
     or_false (pointwise nat_eq k.now key.now) (list_any (same_name k) keys) (λ e. other 0 (omega arith) (sym ((bytes_decides k.now key.now).0 e)))
@@ -115,7 +119,8 @@ pointed_more cells keys k i cell distinct inside is named so_far =
 
 -- ---- targets
 
-pub target_more : (keys : List (Bor (List ℕ))) (placements : List Placement) (targets : List (Option ℕ)) (i : ℕ) (placement : Placement) (k : Bor (List ℕ)) → i < length placements
+pub target_more : (keys : List (Bor (List ℕ))) (placements : List Placement) (targets : List (Option ℕ)) (i : ℕ)
+    (placement : Placement) (k : Bor (List ℕ)) → i < length placements
     → placement ≡ get_or placements i placement → k.now ≡ placement.target → targets ≡ places_among (pointed keys) (take i placements)
     → targets ++ position (same_name k) keys ∷ [] ≡ places_among (pointed keys) (take (i + 1) placements)
 target_more keys placements targets i placement k inside is named so_far =
@@ -124,7 +129,8 @@ target_more keys placements targets i placement k inside is named so_far =
     position-map (λ x. x.now) (pointwise nat_eq k.now) keys ∙ ap (λ n. position (pointwise nat_eq n) (pointed keys)) named ∙ ap f is in
     ap (λ l. l ++ position (same_name k) keys ∷ []) so_far ∙ ap (λ x. map f (take i placements) ++ x ∷ []) here ∙ sym (map_more f placements i placement inside)
 
-pub row_more : {A : Type 0} (view : A → List (Option ℕ)) (cells : List Cell) (rows : List A) (row : A) (keys : List (Bor (List ℕ))) (i : ℕ) (cell : Cell) → i < length cells
+pub row_more : {A : Type 0} (view : A → List (Option ℕ)) (cells : List Cell) (rows : List A) (row : A)
+    (keys : List (Bor (List ℕ))) (i : ℕ) (cell : Cell) → i < length cells
     → cell ≡ get_or cells i cell → pointed keys ≡ cell_names cells → view row ≡ places_among (pointed keys) cell.placements
     → map view rows ≡ map (λ c. targets_of cells c.placements) (take i cells)
     → map view (rows ++ row ∷ []) ≡ map (λ c. targets_of cells c.placements) (take (i + 1) cells)
@@ -139,7 +145,8 @@ targets_get all [] n = refl
 targets_get all (cell ∷ cells) zero = refl
 targets_get all (cell ∷ cells) (suc n) = targets_get all cells n
 
-pub row_at : {A : Type 0} (view : A → List (Option ℕ)) (cells : List Cell) (rows : List A) (n : ℕ) (row : A) → n < length cells → map view rows ≡ all_targets cells → row ≡ get_or rows n row → view row ≡ targets_at cells n
+pub row_at : {A : Type 0} (view : A → List (Option ℕ)) (cells : List Cell) (rows : List A) (n : ℕ) (row : A)
+    → n < length cells → map view rows ≡ all_targets cells → row ≡ get_or rows n row → view row ≡ targets_at cells n
 row_at view cells rows n row inside is here =
     let long : n < length rows = omega (arith, length-map rows view, ap length is, length-map cells (λ c. targets_of cells c.placements)) in
     ap view here ∙ sym (get_or-map view rows n row [] long) ∙ ap (λ l. get_or l n []) is ∙ targets_get cells cells n

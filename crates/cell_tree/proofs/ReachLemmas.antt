@@ -1,5 +1,7 @@
 -- How far the vertices of a reachable cell are from 0.
-use Rattle.std.proofs.Common.{◌≡◌, ℕ, ℤ, zero, suc, pos, negsuc, neg_ℤ, ◌+ℤ◌, ◌+◌, ◌*◌, ◌^◌, ◌≤◌, Bool, true, false, List, [], ◌∷◌, ◌++◌, All, length, unsigned_abs, refl, sym, ap, subst, inl, inr, arith, mul_assoc}
+use Rattle.std.proofs.Common.{◌≡◌, ℕ, ℤ, zero, suc, pos, negsuc, neg_ℤ, ◌+ℤ◌, ◌+◌, ◌*◌, ◌^◌, ◌≤◌, Bool, true, false}
+use Rattle.std.proofs.Common.{List, [], ◌∷◌, ◌++◌, All, length, unsigned_abs, refl, sym, ap, subst, inl, inr, arith}
+use Rattle.std.proofs.Common.{mul_assoc}
 use Rattle.std.proofs.Math.Nat.{mul-le-mul, mul-le-mul_left, mul-le-mul_right}
 use Rattle.std.proofs.lemmas.Int.{ints, unsigned_abs-mul}
 use Rattle.std.proofs.lemmas.List.Elements.{All-head, All-tail}
@@ -61,10 +63,12 @@ fits_enlarged mag a bound p f = record {
 }
 
 fits_oriented : (orient : Orient) (a bound : ℕ) (p : Point) → Fits (a * orient.mag) bound p → Fits a bound (oriented_point orient p)
-fits_oriented orient a bound p f = fits_turned orient.turns a bound (flipped orient.flip (enlarged orient.mag p)) (fits_flipped orient.flip a bound (enlarged orient.mag p) (fits_enlarged orient.mag a bound p f))
+fits_oriented orient a bound p f = fits_turned orient.turns a bound (flipped orient.flip (enlarged orient.mag p))
+    (fits_flipped orient.flip a bound (enlarged orient.mag p) (fits_enlarged orient.mag a bound p f))
 
 -- a move by so much more
-fits_moved : (a bound most : ℕ) (at p : Point) → a ≤ 16 → Fits a bound p → unsigned_abs at.x ≤ most → unsigned_abs at.y ≤ most → Fits a (bound + 16 * most) (moved at p)
+fits_moved : (a bound most : ℕ) (at p : Point) → a ≤ 16 → Fits a bound p → unsigned_abs at.x ≤ most
+    → unsigned_abs at.y ≤ most → Fits a (bound + 16 * most) (moved at p)
 fits_moved a bound most at p small f x y = record {
   x = let s = mul-le-mul_left a (abs_sum p.x at.x) in let m = mul-le-mul small x in omega (arith, f.x);
   y = let s = mul-le-mul_left a (abs_sum p.y at.y) in let m = mul-le-mul small y in omega (arith, f.y);
@@ -89,10 +93,13 @@ module _ (cells : List Cell) (grid : All IsCellOnGrid cells) where
       let by = (All-slot own.shape.offsets IsMove shape.offsets.moves own.vertex.place own.vertex.by own.vertex.offset).near in
       let vx = within_x (2 ^ 42) own.vertex.v v in let vy = within_y (2 ^ 42) own.vertex.v v in
       let start : Fits a (16 * 2 ^ 42) own.vertex.v = record { x = mul-le-mul small vx; y = mul-le-mul small vy } in
-      let f = fits_moved a (16 * 2 ^ 42) (2 ^ 41) own.vertex.by own.vertex.v small start (within_x (2 ^ 41) own.vertex.by by) (within_y (2 ^ 41) own.vertex.by by) in
+      let f = fits_moved a (16 * 2 ^ 42) (2 ^ 41) own.vertex.by own.vertex.v small start
+      (within_x (2 ^ 41) own.vertex.by by) (within_y (2 ^ 41) own.vertex.by by) in
       subst (Fits a (2 ^ 47)) own.vertex.is (record { x = omega (arith, f.x); y = omega (arith, f.y) })
 
-  near_within : (depth n a : ℕ) → depth ≤ 64 → IsShort cells depth n → 1 ≤ a → ((links : List Link) → IsChain cells n links → a * chain_factor links ≤ 16) → (pair : Pair) (p : Point) → IsVertex cells n pair p
+  near_within : (depth n a : ℕ) → depth ≤ 64 → IsShort cells depth n → 1 ≤ a
+      → ((links : List Link) → IsChain cells n links → a * chain_factor links ≤ 16) → (pair : Pair) (p : Point)
+      → IsVertex cells n pair p
       → Fits a ((depth + 1) * 2 ^ 46) p
   near_within zero n a low short some mild pair p vertex = absurd (let none = short [] tt in omega arith)
   near_within (suc depth) n a low short some mild pair p vertex =
@@ -103,14 +110,17 @@ module _ (cells : List Cell) (grid : All IsCellOnGrid cells) where
             let by = (All-slot pv.placement.offsets IsMove placement.offsets.moves pv.place pv.by pv.offset).near in
             let mag = pv.placement.orient.mag in
             let more : 1 ≤ a * mag = mul-le-mul some placement.orient.enlarges in
-            let step = near_within depth pv.target (a * pv.placement.orient.mag) (omega arith) (short_placed cells depth n pv.number pv.placement pv.target short pv.placed pv.targeted) more
-            (λ links chain. (let h = mild (record { placement = pv.placement; cell = pv.target } ∷ links) (record { number = pv.number; placed = pv.placed; target = pv.targeted }, chain) in
+            let step = near_within depth pv.target (a * pv.placement.orient.mag) (omega arith)
+            (short_placed cells depth n pv.number pv.placement pv.target short pv.placed pv.targeted) more
+            (λ links chain. (let h = mild (record { placement = pv.placement; cell = pv.target } ∷ links)
+            (record { number = pv.number; placed = pv.placed; target = pv.targeted }, chain) in
             let e = mul_assoc a pv.placement.orient.mag (chain_factor links) in omega arith)) pair pv.v pv.vertex in
             let o = fits_oriented pv.placement.orient a ((depth + 1) * 2 ^ 46) pv.v step in
             let bx = within_x (2 ^ 41) pv.by by in let by' = within_y (2 ^ 41) pv.by by in
             let ax = within_x (2 ^ 41) pv.placement.at placement.at.near in let ay = within_y (2 ^ 41) pv.placement.at placement.at.near in
             let mx = abs_sum pv.placement.at.x pv.by.x in let my = abs_sum pv.placement.at.y pv.by.y in
-            let f = fits_moved a ((depth + 1) * 2 ^ 46) (2 ^ 42) (moved pv.by pv.placement.at) (oriented_point pv.placement.orient pv.v) small o (omega arith) (omega arith) in
+            let f = fits_moved a ((depth + 1) * 2 ^ 46) (2 ^ 42) (moved pv.by pv.placement.at)
+            (oriented_point pv.placement.orient pv.v) small o (omega arith) (omega arith) in
             subst (Fits a ((suc depth + 1) * 2 ^ 46)) pv.is (record { x = omega (arith, f.x); y = omega (arith, f.y) }))
       ]
 
@@ -124,8 +134,11 @@ module _ (cells : List Cell) (grid : All IsCellOnGrid cells) where
   pub near_below : (top n : ℕ) → IsShallow cells top → IsMild cells top → IsReachable cells top n → HasNearVertices cells n
   near_below top n shallow mild reach pair p vertex =
       let f = near_within 64 n 1 (omega arith) (short_below cells top n shallow reach) (omega arith)
-      (λ links chain. (let h = mild (reach.links ++ links) (chain_joined cells top reach.links links reach.chain (subst (λ m. IsChain cells m links) (sym reach.end) chain)) in
-      let e = factor_joined reach.links links in let one = factor_some top reach.links reach.chain in let m = mul-le-mul_right (chain_factor links) one in omega arith)) pair p vertex in
+      (λ links chain. (let h = mild (reach.links ++ links)
+      (chain_joined cells top reach.links links reach.chain
+      (subst (λ m. IsChain cells m links) (sym reach.end) chain)) in
+      let e = factor_joined reach.links links in let one = factor_some top reach.links reach.chain in let m =
+      mul-le-mul_right (chain_factor links) one in omega arith)) pair p vertex in
       let x = abs_in p.x in let y = abs_in p.y in
       let xl = x.low in let xh = x.high in let yl = y.low in let yh = y.high in let fx = f.x in let fy = f.y in
       record { x_low = omega (arith, ints); x_high = omega (arith, ints); y_low = omega (arith, ints); y_high = omega (arith, ints) }

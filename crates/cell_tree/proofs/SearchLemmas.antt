@@ -1,5 +1,7 @@
 -- The steps of a search.
-use Rattle.std.proofs.Common.{◌≡◌, ◌≢◌, ◌⊎◌, ℕ, zero, suc, ◌+◌, ◌-◌, ◌<◌, ◌≤◌, List, [], ◌∷◌, ◌++◌, Option, Some, None, map, length, drop, set, get_or, slice_get, replicate, refl, sym, ap, subst, ◌∙◌, inl, inr, arith}
+use Rattle.std.proofs.Common.{◌≡◌, ◌≢◌, ◌⊎◌, ℕ, zero, suc, ◌+◌, ◌-◌, ◌<◌, ◌≤◌, List, [], ◌∷◌, ◌++◌, Option, Some, None}
+use Rattle.std.proofs.Common.{map, length, drop, set, get_or, slice_get, replicate, refl, sym, ap, subst, ◌∙◌, inl, inr}
+use Rattle.std.proofs.Common.{arith}
 use Rattle.std.proofs.lemmas.List.{length-set, length_push, length-map, length-drop, length-replicate}
 use Rattle.std.proofs.lemmas.List.Sums.{sum_by_push}
 use Rattle.std.proofs.lemmas.Option.{none-some, same_Some, slice_get_within, slice_get-get_or}
@@ -11,7 +13,8 @@ use Rattle.cell_tree.specs.Searches.{IsMet, IsStop, IsOnPath, IsSearch, new_work
 use Rattle.cell_tree.specs.declared.orders.Mark.{Mark}
 use Rattle.cell_tree.specs.declared.orders.Mark.TheVariants.{New, Open, Done}
 use Rattle.cell_tree.specs.declared.orders.Stop.{Stop}
-use Rattle.cell_tree.proofs.SlotLemmas.{slot_set_same, slot_set_other, slot_push, slot_before, slot_last, slot_past, slot_drop, map_slot, one_slot, All-from_slots, slot_read}
+use Rattle.cell_tree.proofs.SlotLemmas.{slot_set_same, slot_set_other, slot_push, slot_before, slot_last, slot_past}
+use Rattle.cell_tree.proofs.SlotLemmas.{slot_drop, map_slot, one_slot, All-from_slots, slot_read}
 use Rattle.cell_tree.proofs.NameLemmas.{targets_below}
 use Rattle.cell_tree.proofs.ChainLemmas.{reach_more, reachable_within, top_reachable, places_cell, places_at, along}
 
@@ -26,7 +29,12 @@ apart (suc m) zero = inr (λ e. omega arith)
 apart (suc m) (suc n) = elim (apart m n) [ inl e ↦ inl (ap suc e) | inr differs ↦ inr (λ e. differs (omega arith)) ]
 
 new_met : (marks : List Mark) (n : ℕ) → slice_get marks n ≡ Some New → IsMet marks n → ⊥
-new_met marks n new met = elim met [ inl opened ↦ (let e = one_slot marks n New Open new opened in cc) | inr done ↦ (let e = one_slot marks n New Done new done in cc) ]
+new_met marks n new met =
+    elim met [
+      | inl opened ↦ (let e = one_slot marks n New Open new opened in cc)
+      | inr done ↦
+          (let e = one_slot marks n New Done new done in cc)
+    ]
 
 -- a mark that is set: at its place, and elsewhere
 abbrev SetAt : List Mark → ℕ → Mark → ℕ → Type 0
@@ -159,7 +167,12 @@ old_cell path stop i at on = elim (old_stop path stop i at on) [
 new_stop : (path : List Stop) (stop : Stop) (i n : ℕ) → IsStop (path ++ stop ∷ []) i n → IsStop (path ++ onward stop ∷ []) i n
 new_stop path stop i n at = elim (slot_push path stop i at.0 at.1) [
   | inl before ↦ (at.0, slot_before path (onward stop ∷ []) i at.0 before, at.2)
-  | inr last ↦ (onward stop, subst (λ k. slice_get (path ++ onward stop ∷ []) k ≡ Some (onward stop)) (sym last.0) (slot_last path (onward stop)), ap (λ s. s.cell) last.1 ∙ at.2)
+  | inr last ↦ (
+    onward stop,
+    subst (λ k. slice_get (path ++ onward stop ∷ []) k ≡ Some (onward stop)) (sym last.0)
+        (slot_last path (onward stop)),
+    ap (λ s. s.cell) last.1 ∙ at.2,
+  )
 ]
 
 below_next : (k next : ℕ) → k < next + 1 → (k < next) ⊎ (k ≡ next)
@@ -173,7 +186,8 @@ module _ (cells : List Cell) (top : ℕ) (marks : List Mark) (path : List Stop) 
   on_reachable : (i : ℕ) (at : Stop) → slice_get (path ++ onward stop ∷ []) i ≡ Some at → IsReachable cells top at.cell
   on_reachable i at on = let old = old_cell path stop i at on in subst (IsReachable cells top) old.2 (s.path_reachable i old.0 old.1)
 
-  on_onward : (i : ℕ) (at next : Stop) → slice_get (path ++ onward stop ∷ []) i ≡ Some at → slice_get (path ++ onward stop ∷ []) (suc i) ≡ Some next → PlacesCell cells at.cell next.cell
+  on_onward : (i : ℕ) (at next : Stop) → slice_get (path ++ onward stop ∷ []) i ≡ Some at
+      → slice_get (path ++ onward stop ∷ []) (suc i) ≡ Some next → PlacesCell cells at.cell next.cell
   on_onward i at next on after =
       let old = old_cell path stop i at on in let old' = old_cell path stop (suc i) next after in
       subst (λ c. PlacesCell cells c next.cell) old.2 (subst (PlacesCell cells old.0.cell) old'.2 (s.path_onward i old.0 old'.0 old.1 old'.1))
@@ -251,7 +265,8 @@ module _ (cells : List Cell) (top : ℕ) (marks : List Mark) (path : List Stop) 
           (reach_more cells top stop.cell m (s.path_reachable (length path) stop stop_here) (places_cell cells stop.cell stop.next m places))
     ]
 
-    new_onward : (i : ℕ) (at next : Stop) → slice_get (on ++ fresh ∷ []) i ≡ Some at → slice_get (on ++ fresh ∷ []) (suc i) ≡ Some next → PlacesCell cells at.cell next.cell
+    new_onward : (i : ℕ) (at next : Stop) → slice_get (on ++ fresh ∷ []) i ≡ Some at
+        → slice_get (on ++ fresh ∷ []) (suc i) ≡ Some next → PlacesCell cells at.cell next.cell
     new_onward i at next there after =
         let long = length_push path (onward stop) in
         elim (slot_push on fresh (suc i) next after) [
@@ -260,8 +275,11 @@ module _ (cells : List Cell) (top : ℕ) (marks : List Mark) (path : List Stop) 
             | inr last ↦ absurd (omega (arith, last.0))
           ])
           | inr last ↦ (let e : i ≡ length path = omega (arith, last.0) in elim (slot_push on fresh i at there) [
-            | inl there' ↦ (let here' = one_slot on (length path) at (onward stop) (subst (λ j. slice_get on j ≡ Some at) e there') (slot_last path (onward stop)) in
-                subst (λ a. PlacesCell cells a.cell next.cell) (sym here') (subst (λ a. PlacesCell cells stop.cell a.cell) last.1 (places_cell cells stop.cell stop.next m places)))
+            | inl there' ↦ (let here' = one_slot on (length path) at (onward stop)
+                (subst (λ j. slice_get on j ≡ Some at) e there') (slot_last path (onward stop)) in
+                subst (λ a. PlacesCell cells a.cell next.cell) (sym here')
+                (subst (λ a. PlacesCell cells stop.cell a.cell) last.1
+                (places_cell cells stop.cell stop.next m places)))
             | inr last' ↦ absurd (omega (arith, last.0, last'.0))
           ])
         ]
@@ -333,13 +351,15 @@ module _ (cells : List Cell) (top : ℕ) (marks : List Mark) (path : List Stop) 
 -- the cells of the path from the place of a cell on, which the last of them places
 pub closes : (cells : List Cell) (top : ℕ) (path : List Stop) (last : Stop) (m i : ℕ) (numbers : List ℕ)
     → ((j : ℕ) (at : Stop) → slice_get (path ++ last ∷ []) j ≡ Some at → IsReachable cells top at.cell)
-    → ((j : ℕ) (at next : Stop) → slice_get (path ++ last ∷ []) j ≡ Some at → slice_get (path ++ last ∷ []) (suc j) ≡ Some next → PlacesCell cells at.cell next.cell)
+    → ((j : ℕ) (at next : Stop) → slice_get (path ++ last ∷ []) j ≡ Some at
+    → slice_get (path ++ last ∷ []) (suc j) ≡ Some next → PlacesCell cells at.cell next.cell)
     → PlacesCell cells last.cell m → IsStop (path ++ last ∷ []) i m → numbers ≡ map (λ stop. stop.cell) (drop i (path ++ last ∷ []))
     → IsCycle cells top numbers
 closes cells top path last m i numbers reach onto places at is =
     let p : List Stop = path ++ last ∷ [] in
     let within = slice_get_within (path ++ last ∷ []) i at.0 at.1 in
-    let long : length numbers ≡ length (path ++ last ∷ []) - i = ap length is ∙ length-map (drop i (path ++ last ∷ [])) (λ stop. stop.cell) ∙ length-drop i (path ++ last ∷ []) in
+    let long : length numbers ≡ length (path ++ last ∷ []) - i = ap length is ∙ length-map (drop i (path ++ last ∷ []))
+    (λ stop. stop.cell) ∙ length-drop i (path ++ last ∷ []) in
     let whole = length_push path last in
     let slot : (k n : ℕ) → slice_get numbers k ≡ Some n → IsStop (path ++ last ∷ []) (i + k) n = λ k n here.
     (let there = map_slot (λ stop. stop.cell) (drop i (path ++ last ∷ [])) k n (sym (ap (λ l. slice_get l k) is) ∙ here) in
@@ -353,9 +373,11 @@ closes cells top path last m i numbers reach onto places at is =
       back = λ n o here first. (let s = slot (length numbers - 1) n here in let t = slot 0 o first in
           let e : i + (length numbers - 1) ≡ length path = omega arith in
           let e' : i + 0 ≡ i = omega arith in
-          let s' : s.0 ≡ last = one_slot (path ++ last ∷ []) (length path) s.0 last (subst (λ j. slice_get (path ++ last ∷ []) j ≡ Some s.0) e s.1) (slot_last path last) in
+          let s' : s.0 ≡ last = one_slot (path ++ last ∷ []) (length path) s.0 last
+          (subst (λ j. slice_get (path ++ last ∷ []) j ≡ Some s.0) e s.1) (slot_last path last) in
           let t' : t.0 ≡ at.0 = one_slot (path ++ last ∷ []) i t.0 at.0 (subst (λ j. slice_get (path ++ last ∷ []) j ≡ Some t.0) e' t.1) at.1 in
-          subst (λ c. PlacesCell cells c o) (sym (ap (λ a. a.cell) s') ∙ s.2) (subst (PlacesCell cells last.cell) (sym at.2 ∙ sym (ap (λ a. a.cell) t') ∙ t.2) places));
+          subst (λ c. PlacesCell cells c o) (sym (ap (λ a. a.cell) s') ∙ s.2)
+          (subst (PlacesCell cells last.cell) (sym at.2 ∙ sym (ap (λ a. a.cell) t') ∙ t.2) places));
     }
 
 -- ---- the work that is left
@@ -408,7 +430,9 @@ begins cells top inside =
     let fresh : Stop = record { cell = top; next = 0 } in
     let one : (i : ℕ) (at : Stop) → slice_get (record { cell = top; next = 0 } ∷ []) i ≡ Some at → record { cell = top; next = 0 } ≡ at = λ i at here.
     elim (slot_push [] (record { cell = top; next = 0 }) i at here) [ inl before ↦ absurd (none-some at before) | inr last ↦ last.1 ] in
-    let none : (n : ℕ) (mark : Mark) → (mark ≡ New → ⊥) → slice_get (set (replicate (length cells) New) top Open) n ≡ Some mark → (n ≡ top) × (Open ≡ mark) = λ n mark other here.
+    let none : (n : ℕ) (mark : Mark) → (mark ≡ New → ⊥)
+    → slice_get (set (replicate (length cells) New) top Open) n ≡ Some mark → (n ≡ top)
+    × (Open ≡ mark) = λ n mark other here.
     elim (set_at (replicate (length cells) New) top Open n marked) [
       | inl at ↦ (at.0, same_Some Open mark (sym at.1 ∙ here))
       | inr at ↦ absurd (other (replicated (length cells) n mark (sym at.1 ∙ here)))
@@ -433,7 +457,8 @@ begins cells top inside =
     replicated (suc count) zero mark here = sym (same_Some New mark here)
     replicated (suc count) (suc n) mark here = replicated count n mark here
 
-pub ends : (cells : List Cell) (top : ℕ) (marks : List Mark) (order cycle : List ℕ) → top < length cells → IsSearch cells top marks [] order cycle → IsFound cells top order cycle
+pub ends : (cells : List Cell) (top : ℕ) (marks : List Mark) (order cycle : List ℕ) → top < length cells
+    → IsSearch cells top marks [] order cycle → IsFound cells top order cycle
 ends cells top marks order cycle inside s =
     let done : (n : ℕ) → IsMet marks n → IsAmong order n = λ n met. elim met [
       | inl opened ↦ absurd (let on = s.on_path n opened in none-some on.1.0 on.1.1)
@@ -453,7 +478,8 @@ ends cells top marks order cycle inside s =
 
 pub stop_within : (cells : List Cell) (top : ℕ) (marks : List Mark) (path : List Stop) (order cycle : List ℕ) (stop : Stop) → top < length cells
     → IsSearch cells top marks (path ++ stop ∷ []) order cycle → stop.cell < length cells
-stop_within cells top marks path order cycle stop inside s = reachable_within cells top stop.cell inside (s.path_reachable (length path) stop (slot_last path stop))
+stop_within cells top marks path order cycle stop inside s = reachable_within cells top stop.cell inside
+    (s.path_reachable (length path) stop (slot_last path stop))
 
 module _ (cells : List Cell) (top : ℕ) (marks : List Mark) (path : List Stop) (order cycle : List ℕ) (stop : Stop)
     (s : IsSearch cells top marks (path ++ stop ∷ []) order cycle) (inside : stop.next < length (targets_at cells stop.cell)) where
@@ -471,9 +497,12 @@ module _ (cells : List Cell) (top : ℕ) (marks : List Mark) (path : List Stop) 
   module _ (m : ℕ) (is : get_or (targets_at cells stop.cell) stop.next None ≡ Some m) where
     pub go_done : slice_get marks m ≡ Some Done → IsSearch cells top marks (path ++ onward stop ∷ []) order cycle
     go_done done = looks cells top marks path order cycle stop s cycle (λ e. e) s.cyclic
-        (λ n at. (let e : m ≡ n = one_target m n (next_places m is) at in let done' = subst (λ k. slice_get marks k ≡ Some Done) e done in (inr done', λ none. done')))
+        (λ n at. (let e : m ≡ n = one_target m n (next_places m is) at in let done' = subst
+        (λ k. slice_get marks k ≡ Some Done) e done in (inr done', λ none. done')))
 
-    pub go_new : m < length cells → slice_get marks m ≡ Some New → IsSearch cells top (set marks m Open) ((path ++ onward stop ∷ []) ++ record { cell = m; next = 0 } ∷ []) order cycle
+    pub go_new : m < length cells → slice_get marks m ≡ Some New
+        → IsSearch cells top (set marks m Open)
+        ((path ++ onward stop ∷ []) ++ record { cell = m; next = 0 } ∷ []) order cycle
     go_new there new = enters cells top marks path order cycle stop s m there (next_places m is) new
 
     pub go_open : slice_get marks m ≡ Some Open → IsOnPath (path ++ onward stop ∷ []) m
@@ -483,18 +512,22 @@ module _ (cells : List Cell) (top : ℕ) (marks : List Mark) (path : List Stop) 
     opened_met opened n at = inl (subst (λ k. slice_get marks k ≡ Some Open) (one_target m n (next_places m is) at) opened)
 
     pub go_old_cycle : slice_get marks m ≡ Some Open → cycle ≢ [] → IsSearch cells top marks (path ++ onward stop ∷ []) order cycle
-    go_old_cycle opened some = looks cells top marks path order cycle stop s cycle (λ e. e) s.cyclic (λ n at. (opened_met opened n at, λ none. absurd (some none)))
+    go_old_cycle opened some = looks cells top marks path order cycle stop s cycle (λ e. e) s.cyclic
+        (λ n at. (opened_met opened n at, λ none. absurd (some none)))
 
     pub go_new_cycle : (i : ℕ) (numbers : List ℕ) → slice_get marks m ≡ Some Open → cycle ≡ [] → IsStop (path ++ onward stop ∷ []) i m
         → numbers ≡ map (λ stop. stop.cell) (drop i (path ++ onward stop ∷ [])) → IsSearch cells top marks (path ++ onward stop ∷ []) order numbers
     go_new_cycle i numbers opened none at are =
-        let ring : IsCycle cells top numbers = closes cells top path (onward stop) m i numbers (on_reachable cells top marks path order cycle stop s) (on_onward cells top marks path order cycle stop s)
+        let ring : IsCycle cells top numbers = closes cells top path (onward stop) m i numbers
+        (on_reachable cells top marks path order cycle stop s)
+        (on_onward cells top marks path order cycle stop s)
         (places_cell cells stop.cell stop.next m (next_places m is)) at are in
         let some : numbers ≡ [] → ⊥ = λ e. (let more = ring.nonempty in let long = ap length e in omega arith) in
         looks cells top marks path order cycle stop s numbers (λ e. absurd (some e)) (inr ring) (λ n at'. (opened_met opened n at', λ e. absurd (some e)))
 
 pub same_search : (cells : List Cell) (top : ℕ) (marks marks' : List Mark) (path path' : List Stop) (order order' cycle cycle' : List ℕ)
-    → marks' ≡ marks → path' ≡ path → order' ≡ order → cycle' ≡ cycle → IsSearch cells top marks path order cycle → IsSearch cells top marks' path' order' cycle'
+    → marks' ≡ marks → path' ≡ path → order' ≡ order → cycle' ≡ cycle → IsSearch cells top marks path order cycle
+    → IsSearch cells top marks' path' order' cycle'
 same_search cells top marks marks' path path' order order' cycle cycle' a b c d s =
     subst (λ m. IsSearch cells top m path' order' cycle') (sym a) (subst (λ p. IsSearch cells top marks p order' cycle') (sym b)
     (subst (λ o. IsSearch cells top marks path o cycle') (sym c) (subst (IsSearch cells top marks path order) (sym d) s)))
@@ -505,15 +538,21 @@ same_work cells marks marks' path path' bound a b less =
     subst (λ m. work_left cells m path' < bound) (sym a) (subst (λ p. work_left cells marks p < bound) (sym b) less)
 
 -- the target that a list of targets gives
-pub shown_inside : (cells : List Cell) (cell next : ℕ) (now : List (Option ℕ)) → now ≡ targets_at cells cell → next < length now → next < length (targets_at cells cell)
+pub shown_inside : (cells : List Cell) (cell next : ℕ) (now : List (Option ℕ)) → now ≡ targets_at cells cell
+    → next < length now → next < length (targets_at cells cell)
 shown_inside cells cell next now value inside = subst (λ l. next < length l) value inside
 
-pub shown : (cells : List Cell) (cell next : ℕ) (now : List (Option ℕ)) (target : Option ℕ) → now ≡ targets_at cells cell → get_or now next None ≡ target → get_or (targets_at cells cell) next None ≡ target
+pub shown : (cells : List Cell) (cell next : ℕ) (now : List (Option ℕ)) (target : Option ℕ)
+    → now ≡ targets_at cells cell → get_or now next None ≡ target → get_or (targets_at cells cell) next None ≡ target
 shown cells cell next now target value is = ap (λ l. get_or l next None) (sym value) ∙ is
 
-pub shown_within : (cells : List Cell) (cell next : ℕ) (now : List (Option ℕ)) (target : ℕ) → now ≡ targets_at cells cell → next < length now → get_or now next None ≡ Some target → target < length cells
+pub shown_within : (cells : List Cell) (cell next : ℕ) (now : List (Option ℕ)) (target : ℕ)
+    → now ≡ targets_at cells cell → next < length now → get_or now next None ≡ Some target → target < length cells
 shown_within cells cell next now target value inside is =
-    targets_below cells cell next target (slice_get-get_or (targets_at cells cell) next None (shown_inside cells cell next now value inside) ∙ ap Some (shown cells cell next now (Some target) value is))
+    targets_below cells cell next target
+    (slice_get-get_or (targets_at cells cell) next None (shown_inside cells cell next now value inside) ∙ ap Some
+    (shown cells cell next now (Some target) value is))
 
-pub mark_is : (marks : List Mark) (n : ℕ) (result mark : Mark) → n < length marks → result ≡ get_or marks n result → result ≡ mark → slice_get marks n ≡ Some mark
+pub mark_is : (marks : List Mark) (n : ℕ) (result mark : Mark) → n < length marks → result ≡ get_or marks n result
+    → result ≡ mark → slice_get marks n ≡ Some mark
 mark_is marks n result mark inside read is = slot_read marks n result inside read ∙ ap Some is

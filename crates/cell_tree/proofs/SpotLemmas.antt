@@ -34,20 +34,32 @@ own_least hull v inside = let l = inside.left in let b = inside.bottom in let r 
 }
 
 -- the box of a placed cell has the image of each point of the cell's box
-pub spot_in : (placement : Placement) (hull moves box : Frame) (k : ℕ) (by v : Point) → slice_get placement.offsets k ≡ Some by → IsInBox hull v → IsLeastBox (IsMoveOf placement) moves → box ≡ placed_hull placement.orient moves hull
+pub spot_in : (placement : Placement) (hull moves box : Frame) (k : ℕ) (by v : Point)
+    → slice_get placement.offsets k ≡ Some by → IsInBox hull v → IsLeastBox (IsMoveOf placement) moves
+    → box ≡ placed_hull placement.orient moves hull
     → IsInBox box (image_of placement.orient (moved by placement.at) v)
 spot_in placement hull moves box k by v here inside least is =
     let o = (oriented_least placement.orient (IsInBox hull) hull (own_least hull v inside)).around (oriented_point placement.orient v) (v, inside, refl) in
     let m = least.around (moved by placement.at) (record { place = k; by = by; offset = here; is = refl }) in
     let ol = o.left in let ob = o.bottom in let or = o.right in let ot = o.top in let ml = m.left in let mb = m.bottom in let mr = m.right in let mt = m.top in
     subst (λ b. IsInBox b (image_of placement.orient (moved by placement.at) v)) (sym is)
-    (record { left = omega (arith, ints, ol, ml); bottom = omega (arith, ints, ob, mb); right = omega (arith, ints, or, mr); top = omega (arith, ints, ot, mt) })
+    (record {
+      left = omega (arith, ints, ol, ml);
+      bottom = omega (arith, ints, ob, mb);
+      right = omega
+          (arith, ints, or, mr);
+      top = omega (arith, ints, ot, mt);
+    })
 
-module _ (cells : List Cell) (top n k : ℕ) (placed : Placement) (grid : All IsCellOnGrid cells) (tree : IsTree cells top) (reach : IsReachable cells top n) (here : slice_get (placements_at cells n) k ≡ Some placed) where
+module _ (cells : List Cell) (top n k : ℕ) (placed : Placement) (grid : All IsCellOnGrid cells)
+    (tree : IsTree cells top) (reach : IsReachable cells top n)
+    (here : slice_get (placements_at cells n) k ≡ Some placed) where
   -- what a placement of a reachable cell shows is near
   pub spot_near : (p : Point) → IsSpotVertex cells placed p → IsWithin (2 ^ 53) p
   spot_near p s =
-      near_below cells grid top n tree.shallow tree.mild reach s.pair p (placed_vertex cells n s.pair p (length (placements_at cells n)) (short_below cells top n tree.shallow reach) (record {
+      near_below cells grid top n tree.shallow tree.mild reach s.pair p
+      (placed_vertex cells n s.pair p (length (placements_at cells n)) (short_below cells top n tree.shallow reach)
+      (record {
         number = k;
         early = slice_get_within (placements_at cells n) k placed here;
         placement = placed;
@@ -66,7 +78,8 @@ module _ (cells : List Cell) (top n k : ℕ) (placed : Placement) (grid : All Is
   spot_reached m target = reach_more cells top n m reach (placed, record { number = k; placed = here; target = target })
 
 -- the box of a cell has its vertices, of whatever pair
-pub vertex_in : (cells : List Cell) (m : ℕ) (hulls : List PairHull) (hull : Frame) (placed : Placement) (p : Point) (s : IsSpotVertex cells placed p) → cell_number cells placed.target ≡ Some m → AreCellHulls cells m hulls
+pub vertex_in : (cells : List Cell) (m : ℕ) (hulls : List PairHull) (hull : Frame) (placed : Placement) (p : Point)
+    (s : IsSpotVertex cells placed p) → cell_number cells placed.target ≡ Some m → AreCellHulls cells m hulls
     → whole_from None hulls ≡ Some hull → IsInBox hull s.v
 vertex_in cells m hulls hull placed p s target are is =
     let same : s.target ≡ m = same_Some s.target m (sym s.targeted ∙ target) in

@@ -21,9 +21,11 @@ module _ {X : Type 0} (F : ℕ → X → Type 0) (d : X) (order : List ℕ) (tab
   ]
 
 -- what is known in the end
-pub known_all : {X : Type 0} (F : ℕ → X → Type 0) (d : X) (order : List ℕ) (table : List X) → Known F d order table (length order) → (n : ℕ) → IsAmong order n → F n (get_or table n d)
+pub known_all : {X : Type 0} (F : ℕ → X → Type 0) (d : X) (order : List ℕ) (table : List X)
+    → Known F d order table (length order) → (n : ℕ) → IsAmong order n → F n (get_or table n d)
 known_all F d order table known n among = known among.0 n (slice_get_within order among.0 n among.1) among.1
 
 -- what is known of a cell that stands before
-pub known_before : {X : Type 0} (F : ℕ → X → Type 0) (d : X) (order : List ℕ) (table : List X) (i m : ℕ) → Known F d order table i → IsBefore order i m → F m (get_or table m d)
+pub known_before : {X : Type 0} (F : ℕ → X → Type 0) (d : X) (order : List ℕ) (table : List X) (i m : ℕ)
+    → Known F d order table i → IsBefore order i m → F m (get_or table m d)
 known_before F d order table i m known before = known before.0 m before.1 before.2

@@ -1,5 +1,6 @@
 -- Layouts of cells with different names, and lists of equal moves.
-use Rattle.std.proofs.Common.{◌≡◌, ◌≢◌, ℕ, ℤ, pos, ◌<◌, ◌≤◌, ◌*◌, ◌/◌, ◌%◌, ◌*ℤ◌, ◌+ℤ◌, nat_eq, true, false, List, [], ◌∷◌, ◌++◌, All, None, map, length, get_or, position, refl, sym, ap, subst, ◌∙◌, arith}
+use Rattle.std.proofs.Common.{◌≡◌, ◌≢◌, ℕ, ℤ, pos, ◌<◌, ◌≤◌, ◌*◌, ◌/◌, ◌%◌, ◌*ℤ◌, ◌+ℤ◌, nat_eq, true, false, List, []}
+use Rattle.std.proofs.Common.{◌∷◌, ◌++◌, All, None, map, length, get_or, position, refl, sym, ap, subst, ◌∙◌, arith}
 use Rattle.std.specs.List.{position_or_len, range_with_len}
 use Rattle.std.specs.Cmp.Lexicographic.{pointwise, bytes_decides}
 use Rattle.std.proofs.Math.IntN.{pos-*ℤ-pos}
@@ -25,7 +26,8 @@ three_cells {a} {b} {c} {cells} {counts} e ga gb gc na nb nc =
     let ab : a.name ≢ b.name = λ h. clash 65 66 (omega arith) (sym na ∙ h ∙ nb) in
     let ac : a.name ≢ c.name = λ h. clash 65 67 (omega arith) (sym na ∙ h ∙ nc) in
     let bc : b.name ≢ c.name = λ h. clash 66 67 (omega arith) (sym nb ∙ h ∙ nc) in
-    let grid : All IsCellOnGrid (a ∷ b ∷ c ∷ []) = All-cons IsCellOnGrid a (b ∷ c ∷ []) ga (All-cons IsCellOnGrid b (c ∷ []) gb (All-cons IsCellOnGrid c [] gc (All-nil IsCellOnGrid))) in
+    let grid : All IsCellOnGrid (a ∷ b ∷ c ∷ []) = All-cons IsCellOnGrid a (b ∷ c ∷ []) ga
+    (All-cons IsCellOnGrid b (c ∷ []) gb (All-cons IsCellOnGrid c [] gc (All-nil IsCellOnGrid))) in
     let names : AreDistinct (a.name ∷ b.name ∷ c.name ∷ []) = (
       All-cons (λ other. a.name ≢ other) b.name (c.name ∷ []) ab (All-cons (λ other. a.name ≢ other) c.name [] ac (All-nil (λ other. a.name ≢ other))),
       (All-cons (λ other. b.name ≢ other) c.name [] bc (All-nil (λ other. b.name ≢ other)), (All-nil (λ other. c.name ≢ other), tt)),
@@ -46,14 +48,19 @@ all_differ name names none = λ k d inside same.
 
 distinct_push : (names : List (List ℕ)) (name : List ℕ) → AreDistinct names → All (λ other. other ≢ name) names → AreDistinct (names ++ (name ∷ []))
 distinct_push [] name distinct new = (All-nil (λ other. name ≢ other), tt)
-distinct_push (x ∷ names) name distinct new =
-    (All-push (λ other. x ≢ other) names name distinct.0 (All-head (λ z. z ≢ name) x names new), distinct_push names name distinct.1 (All-tail (λ z. z ≢ name) x names new))
+distinct_push (x ∷ names) name distinct new = (
+  All-push (λ other. x ≢ other) names name distinct.0
+      (All-head (λ z. z ≢ name) x names new),
+  distinct_push names name distinct.1
+      (All-tail (λ z. z ≢ name) x names new),
+)
 
 names_push : (cells : List Cell) (cell : Cell) → cell_names (cells ++ cell ∷ []) ≡ cell_names cells ++ cell.name ∷ []
 names_push [] cell = refl
 names_push (x ∷ cells) cell = ap (λ names. x.name ∷ names) (names_push cells cell)
 
-pub one_more_cell : (layout : Layout) (cell : Cell) (cells : List Cell) (counts : Counts) → IsLayoutOnGrid layout → IsCellOnGrid cell → cell_number layout.cells cell.name ≡ None
+pub one_more_cell : (layout : Layout) (cell : Cell) (cells : List Cell) (counts : Counts) → IsLayoutOnGrid layout
+    → IsCellOnGrid cell → cell_number layout.cells cell.name ≡ None
     → cells ≡ layout.cells ++ cell ∷ [] → IsLayoutOnGrid (record { cells = cells; counts = counts })
 unfolding cell_number
 one_more_cell layout cell cells counts grid cell_grid new e = record {
@@ -80,7 +87,18 @@ zero_place : (a b : ℕ) → grid_place origin origin a b ≡ origin
 zero_place a b = ap (λ (z : ℤ). point_of z) (zero_sum a b)
 
 origin_move : IsMove origin
-origin_move = record { even_x = refl; even_y = refl; near = record { x_low = omega (arith, ints); x_high = omega (arith, ints); y_low = omega (arith, ints); y_high = omega (arith, ints) } }
+origin_move = record {
+  even_x = refl;
+  even_y = refl;
+  near =
+      record {
+        x_low = omega (arith, ints);
+        x_high = omega (arith, ints);
+        y_low = omega (arith, ints);
+        y_high = omega
+            (arith, ints);
+      };
+}
 
 pub equal_offsets : (count : ℕ) (offsets : List Point) → 1 ≤ count → offsets ≡ grid_places count 1 origin origin → AreOffsets offsets
 equal_offsets count offsets some e = subst AreOffsets (sym e) (record {

@@ -1,5 +1,8 @@
 -- What the passes say of a tree.
-use Rattle.std.proofs.Common.{◌≡◌, ◌≢◌, ◌⊎◌, ℕ, ℤ, zero, suc, pos, ◌+◌, ◌-◌, ◌*◌, ◌^◌, ◌<◌, ◌≤◌, List, [], ◌∷◌, Option, Some, None, Bool, true, false, ◌||◌, int_lt, ◌≤ℤ◌, neg_ℤ, if◌then◌else◌, cond, find, true≢false, Result, Ok, Err, IfErr, OnOk, IsOk, IsErrAnd, All, map, length, get_or, slice_get, refl, sym, ap, subst, ◌∙◌, inl, inr, arith}
+use Rattle.std.proofs.Common.{◌≡◌, ◌≢◌, ◌⊎◌, ℕ, ℤ, zero, suc, pos, ◌+◌, ◌-◌, ◌*◌, ◌^◌, ◌<◌, ◌≤◌, List, [], ◌∷◌, Option}
+use Rattle.std.proofs.Common.{Some, None, Bool, true, false, ◌||◌, int_lt, ◌≤ℤ◌, neg_ℤ, if◌then◌else◌, cond, find}
+use Rattle.std.proofs.Common.{true≢false, Result, Ok, Err, IfErr, OnOk, IsOk, IsErrAnd, All, map, length, get_or}
+use Rattle.std.proofs.Common.{slice_get, refl, sym, ap, subst, ◌∙◌, inl, inr, arith}
 use Rattle.std.proofs.lemmas.Option.{none-some, same_Some, slice_get_within, slice_get-get_or, get_or_from_slice_get}
 use Rattle.std.proofs.lemmas.List.{length-map, get_or_read, get_or-map}
 use Rattle.layout_model.specs.declared.cells.Placement.{Placement}
@@ -42,7 +45,8 @@ use Rattle.cell_tree.proofs.HullLemmas.{pair_true, entry_hull, whole_hull}
 
 -- ---- no cycle
 
-module _ (cells : List Cell) (top : ℕ) (order : List ℕ) (upward : (j n k m : ℕ) → slice_get order j ≡ Some n → PlacesAt cells n k m → IsBefore order j m) (numbers : List ℕ) (ring : IsCycle cells top numbers) where
+module _ (cells : List Cell) (top : ℕ) (order : List ℕ) (upward : (j n k m : ℕ) → slice_get order j ≡ Some n
+    → PlacesAt cells n k m → IsBefore order j m) (numbers : List ℕ) (ring : IsCycle cells top numbers) where
   -- the next cell of the cycle
   next : (k n : ℕ) → slice_get numbers k ≡ Some n → (j : ℕ) × (m : ℕ) × (slice_get numbers j ≡ Some m) × PlacesCell cells n m
   next k n at = by (slice_get numbers (k + 1)) refl
@@ -88,9 +92,12 @@ in_order cells top order cycle found none = record {
 pub known : (cells : List Cell) (top : ℕ) (order : List ℕ) → ((n : ℕ) → IsReachable cells top n → IsAmong order n)
     → ((n k : ℕ) → IsAmong order n → slice_get (targets_at cells n) k ≡ Some None → ⊥) → IsKnown cells top
 known cells top order all none n placement reach unknown =
-    none n unknown.number (all n reach) (slot_map (λ p. cell_number cells p.target) (placements_at cells n) unknown.number placement unknown.placed ∙ ap Some unknown.unknown)
+    none n unknown.number (all n reach)
+    (slot_map (λ p. cell_number cells p.target) (placements_at cells n) unknown.number placement unknown.placed
+    ∙ ap Some unknown.unknown)
 
-pub unknown_at : (cells : List Cell) (n k : ℕ) → slice_get (targets_at cells n) k ≡ Some None → (placement : Placement) × (slice_get (placements_at cells n) k ≡ Some placement) × PlacesUnknown cells n placement
+pub unknown_at : (cells : List Cell) (n k : ℕ) → slice_get (targets_at cells n) k ≡ Some None → (placement : Placement)
+    × (slice_get (placements_at cells n) k ≡ Some placement) × PlacesUnknown cells n placement
 unknown_at cells n k at =
     let p = map_slot (λ p. cell_number cells p.target) (placements_at cells n) k None at in
     (p.0, p.1, record { number = k; placed = p.1; unknown = p.2 })
@@ -121,7 +128,11 @@ module _ (cells : List Cell) (grid : All IsCellOnGrid cells) (top : ℕ) (shallo
   pub fewer_below : (n : ℕ) → IsReachable cells top n → shape_count cells n ≤ shape_count cells top
   fewer_below n reach = subst (λ m. shape_count cells m ≤ shape_count cells top) reach.end
       (along (λ m. IsReachable cells top m × (shape_count cells m ≤ shape_count cells top)) cells top reach.links
-      (λ a b here places. (reach_more cells top a b here.0 places, (let h = placed_fewer a b here.0 places in omega (arith, here.1)))) (top_reachable cells top, omega arith) reach.chain).1
+      (λ a b here places. (
+        reach_more cells top a b here.0 places,
+        (let h = placed_fewer a b here.0 places in omega (arith, here.1)),
+      ))
+      (top_reachable cells top, omega arith) reach.chain).1
 
 -- ---- extents
 
@@ -133,7 +144,12 @@ beyond_not z near = let l = near.low in let h = near.high in
     not_less a b h = grind (arith, ints)
 
 beyond_up_to : (z : ℤ) → is_beyond z ≡ false → IsUpTo (2 ^ 30) z
-beyond_up_to z e = record { low = by_lt_z (neg_ℤ (pos (2 ^ 30))) z (or_left (int_lt z (neg_ℤ (pos (2 ^ 30)))) (int_lt (pos (2 ^ 30)) z) e); high = by_lt_z z (pos (2 ^ 30)) (or_right (int_lt z (neg_ℤ (pos (2 ^ 30)))) (int_lt (pos (2 ^ 30)) z) e) }
+beyond_up_to z e = record {
+  low = by_lt_z (neg_ℤ (pos (2 ^ 30))) z
+      (or_left (int_lt z (neg_ℤ (pos (2 ^ 30)))) (int_lt (pos (2 ^ 30)) z) e);
+  high = by_lt_z z (pos (2 ^ 30))
+      (or_right (int_lt z (neg_ℤ (pos (2 ^ 30)))) (int_lt (pos (2 ^ 30)) z) e);
+}
   where
     or_left : (a b : Bool) → (a || b) ≡ false → a ≡ false
     or_left true b e = absurd (true≢false e)
@@ -150,7 +166,8 @@ find_none : (z : ℤ) (zs : List ℤ) → is_beyond z ≡ false → find is_beyo
 find_none z zs e = ap (λ b. if b then Some z else find is_beyond zs) e
 
 none_beyond : (box : Frame) → IsBoxUpTo (2 ^ 30) box → first_beyond box ≡ None
-none_beyond box near = find_none box.x0 (box.y0 ∷ box.x1 ∷ box.y1 ∷ []) (beyond_not box.x0 near.x0) ∙ find_none box.y0 (box.x1 ∷ box.y1 ∷ []) (beyond_not box.y0 near.y0)
+none_beyond box near = find_none box.x0 (box.y0 ∷ box.x1 ∷ box.y1 ∷ []) (beyond_not box.x0 near.x0) ∙ find_none box.y0
+    (box.x1 ∷ box.y1 ∷ []) (beyond_not box.y0 near.y0)
     ∙ find_none box.x1 (box.y1 ∷ []) (beyond_not box.x1 near.x1) ∙ find_none box.y1 [] (beyond_not box.y1 near.y1)
 
 find_passed : (z : ℤ) (zs : List ℤ) → find is_beyond (z ∷ zs) ≡ None → (is_beyond z ≡ false) × (find is_beyond zs ≡ None)
@@ -176,17 +193,20 @@ whole_of cells n hulls are = whole_hull (IsVertex cells n) (λ p. ⊥) (Every ce
     (λ p h. absurd h) (λ k here p at v. (here.pair, v))
     (λ p every. inr (entry_of hulls every.0 p (hull_in hulls every.0) refl (are.1 every.0) every.1))
   where
-    found_by : (first : PairHull) (hulls : List PairHull) (pair : Pair) (box : Frame) (b : Bool) → same_pair first.pair pair ≡ b → (if b then Some first.hull else hull_in hulls pair) ≡ Some box
+    found_by : (first : PairHull) (hulls : List PairHull) (pair : Pair) (box : Frame) (b : Bool)
+        → same_pair first.pair pair ≡ b → (if b then Some first.hull else hull_in hulls pair) ≡ Some box
         → (hull_in hulls pair ≡ Some box → (k : ℕ) × (here : PairHull) × (slice_get hulls k ≡ Some here) × (here.pair ≡ pair))
         → (k : ℕ) × (here : PairHull) × (slice_get (first ∷ hulls) k ≡ Some here) × (here.pair ≡ pair)
     found_by first hulls pair box true f e rest = (0, first, refl, pair_true first.pair pair f)
     found_by first hulls pair box false f e rest = let r = rest e in (suc r.0, r.1, r.2, r.3)
 
-    find_entry : (hulls : List PairHull) (pair : Pair) (box : Frame) → hull_in hulls pair ≡ Some box → (k : ℕ) × (here : PairHull) × (slice_get hulls k ≡ Some here) × (here.pair ≡ pair)
+    find_entry : (hulls : List PairHull) (pair : Pair) (box : Frame) → hull_in hulls pair ≡ Some box → (k : ℕ)
+        × (here : PairHull) × (slice_get hulls k ≡ Some here) × (here.pair ≡ pair)
     find_entry [] pair box e = absurd (none-some box e)
     find_entry (first ∷ hulls) pair box e = found_by first hulls pair box (same_pair first.pair pair) refl e (find_entry hulls pair box)
 
-    entry_of : (hulls : List PairHull) (pair : Pair) (p : Point) (o : Option Frame) → hull_in hulls pair ≡ o → IsHull (IsVertex cells n pair) (hull_in hulls pair) → IsVertex cells n pair p
+    entry_of : (hulls : List PairHull) (pair : Pair) (p : Point) (o : Option Frame) → hull_in hulls pair ≡ o
+        → IsHull (IsVertex cells n pair) (hull_in hulls pair) → IsVertex cells n pair p
         → (k : ℕ) × (here : PairHull) × (slice_get hulls k ≡ Some here) × IsVertex cells n here.pair p
     entry_of hulls pair p None e is v = absurd (subst (IsHull (IsVertex cells n pair)) e is p v)
     entry_of hulls pair p (Some box) e is v = let f = find_entry hulls pair box e in (f.0, f.1, f.2, subst (λ q. IsVertex cells n q p) (sym f.3) v)
@@ -197,10 +217,12 @@ near_of cells top hulls are none pair p vertex = by (whole_from None hulls) (who
     by : (o : Option Frame) → IsHull (Every cells top) o → option_and_then first_beyond o ≡ None → IsWithin (2 ^ 30) p
     by None is e = absurd (is p (pair, vertex))
     by (Some box) is e = let b = box_near box e in let i = is.around p (pair, vertex) in
-        let il = i.left in let ib = i.bottom in let ir = i.right in let it = i.top in let bl = b.x0.low in let bb = b.y0.low in let br = b.x1.high in let bt = b.y1.high in
+        let il = i.left in let ib = i.bottom in let ir = i.right in let it = i.top in let bl = b.x0.low in let bb =
+        b.y0.low in let br = b.x1.high in let bt = b.y1.high in
         record { x_low = omega (arith, ints); x_high = omega (arith, ints); y_low = omega (arith, ints); y_high = omega (arith, ints) }
 
-pub extent_is : (cells : List Cell) (top : ℕ) (hulls : List PairHull) (value : ℤ) → AreCellHulls cells top hulls → extent_in hulls ≡ Some value → IsExtent cells top value
+pub extent_is : (cells : List Cell) (top : ℕ) (hulls : List PairHull) (value : ℤ) → AreCellHulls cells top hulls
+    → extent_in hulls ≡ Some value → IsExtent cells top value
 extent_is cells top hulls value are some = by (whole_from None hulls) (whole_of cells top hulls are) some
   where
     by : (o : Option Frame) → IsHull (Every cells top) o → option_and_then first_beyond o ≡ Some value → IsExtent cells top value
@@ -217,7 +239,8 @@ found_meets P p (x ∷ xs) v all e = by (p x) e (λ later. found_meets P p xs v 
     by false e rest = rest e
 
 -- what is kept of an extent is that number
-pub extent_same : (cells : List Cell) (top : ℕ) (value shown : ℤ) → HasNearVertices cells top → IsExtent cells top value → (IsUpTo (2 ^ 53) value → shown ≡ value) → IsExtent cells top shown
+pub extent_same : (cells : List Cell) (top : ℕ) (value shown : ℤ) → HasNearVertices cells top
+    → IsExtent cells top value → (IsUpTo (2 ^ 53) value → shown ≡ value) → IsExtent cells top shown
 extent_same cells top value shown near extent same =
     let box = extent.box in let least = extent.least in
     let left = near least.left.1.0 least.left.0 least.left.1.1 in
@@ -239,19 +262,25 @@ no_fault cells top (Unknown cell name) grid tree fault = absurd (tree.known faul
 no_fault cells top (Cycle names) grid tree fault = absurd (tree.acyclic fault.1.numbers fault.1.cycle)
 no_fault cells top (Deep names) grid tree fault = absurd (let low = tree.shallow fault.2.links fault.2.chain in let many = fault.2.many in omega arith)
 no_fault cells top (Scale value names) grid tree fault = absurd (let low = tree.mild fault.3.links fault.3.chain in let high = fault.3.above in omega arith)
-no_fault cells top (Fixed value cell) grid tree fault = absurd (let low = tree.fixed fault.4.links fault.4.chain fault.4.fixed in let high = fault.4.above in omega arith)
+no_fault cells top (Fixed value cell) grid tree fault = absurd
+    (let low = tree.fixed fault.4.links fault.4.chain fault.4.fixed in let high = fault.4.above in omega arith)
 no_fault cells top (Extent value) grid tree fault = absurd (none-some value (sym (none_beyond fault.5.box
     (least_up_to (Every cells top) fault.5.box (2 ^ 30) fault.5.least (λ p every. tree.near every.0 p every.1))) ∙ fault.5.first))
-no_fault cells top (Count cell value) grid tree fault = absurd (let low = fewer_below cells grid top tree.shallow fault.6.number fault.6.reachable in let high = fault.6.many in let all = tree.counted in omega arith)
+no_fault cells top (Count cell value) grid tree fault = absurd
+    (let low = fewer_below cells grid top tree.shallow fault.6.number fault.6.reachable in let high = fault.6.many in
+    let all = tree.counted in omega arith)
 no_fault cells top NoMemory grid tree fault = refl
 
 -- ---- names
 
-pub name_of : (cells now : List Cell) (n : ℕ) (d : Cell) (name : List ℕ) → now ≡ cells → n < length cells → name ≡ (get_or now n d).name → name ≡ name_at cells n
+pub name_of : (cells now : List Cell) (n : ℕ) (d : Cell) (name : List ℕ) → now ≡ cells → n < length cells
+    → name ≡ (get_or now n d).name → name ≡ name_at cells n
 name_of cells now n d name shown inside is = is ∙ ap (λ l. (get_or l n d).name) shown ∙ sym (name_read cells n d inside)
 
-pub unknown_is : (cells : List Cell) (top n k : ℕ) (cell name : List ℕ) (placements : List Placement) (placement : Placement) → IsReachable cells top n → slice_get (targets_at cells n) k ≡ Some None
-    → cell ≡ name_at cells n → placements ≡ placements_at cells n → placement ≡ get_or placements k placement → name ≡ placement.target → IsUnknown cells top cell name
+pub unknown_is : (cells : List Cell) (top n k : ℕ) (cell name : List ℕ) (placements : List Placement)
+    (placement : Placement) → IsReachable cells top n → slice_get (targets_at cells n) k ≡ Some None
+    → cell ≡ name_at cells n → placements ≡ placements_at cells n → placement ≡ get_or placements k placement
+    → name ≡ placement.target → IsUnknown cells top cell name
 unknown_is cells top n k cell name placements placement reach none named shown is target =
     let u = unknown_at cells n k none in
     let there : slice_get placements k ≡ Some u.0 = ap (λ l. slice_get l k) shown ∙ u.1 in
@@ -266,67 +295,92 @@ shown_among order shown n e among = (among.0, ap (λ l. slice_get l among.0) e �
 
 -- ---- numbers that are those of cells
 
-pub all_shown : (bound : ℕ) (numbers shown : List ℕ) (cells now : List Cell) → shown ≡ numbers → now ≡ cells → All (λ n. n < length cells) numbers → All (λ n. n < length now) shown
+pub all_shown : (bound : ℕ) (numbers shown : List ℕ) (cells now : List Cell) → shown ≡ numbers → now ≡ cells
+    → All (λ n. n < length cells) numbers → All (λ n. n < length now) shown
 all_shown bound numbers shown cells now e f all = subst (λ l. All (λ n. n < length now) l) (sym e) (subst (λ c. All (λ n. n < length c) numbers) (sym f) all)
 
-pub ring_within : (cells : List Cell) (top : ℕ) (numbers : List ℕ) → top < length cells → (numbers ≡ []) ⊎ IsCycle cells top numbers → All (λ n. n < length cells) numbers
+pub ring_within : (cells : List Cell) (top : ℕ) (numbers : List ℕ) → top < length cells → (numbers ≡ [])
+    ⊎ IsCycle cells top numbers → All (λ n. n < length cells) numbers
 ring_within cells top numbers inside ring = All-from_slots numbers (λ n. n < length cells) (λ k n at. elim ring [
   | inl none ↦ absurd (none-some n (sym (ap (λ l. slice_get l k) none) ∙ at))
   | inr r ↦ reachable_within cells top n inside (r.reachable k n at)
 ])
 
-chain_slots : (cells : List Cell) (n : ℕ) (links : List Link) → n < length cells → IsChain cells n links → (k m : ℕ) → slice_get (chain_cells n links) k ≡ Some m → m < length cells
+chain_slots : (cells : List Cell) (n : ℕ) (links : List Link) → n < length cells → IsChain cells n links → (k m : ℕ)
+    → slice_get (chain_cells n links) k ≡ Some m → m < length cells
 chain_slots cells n links inside chain zero m at = subst (λ c. c < length cells) (same_Some n m at) inside
 chain_slots cells n [] inside chain (suc k) m at = absurd (none-some m at)
-chain_slots cells n (link ∷ links) inside chain (suc k) m at = chain_slots cells link.cell links (placed_within cells n link.placement link.cell chain.0) chain.1 k m at
+chain_slots cells n (link ∷ links) inside chain (suc k) m at = chain_slots cells link.cell links
+    (placed_within cells n link.placement link.cell chain.0) chain.1 k m at
 
-pub chain_within : (cells : List Cell) (top : ℕ) (links : List Link) (numbers : List ℕ) → top < length cells → IsChain cells top links → numbers ≡ chain_cells top links → All (λ n. n < length cells) numbers
-chain_within cells top links numbers inside chain are = subst (All (λ n. n < length cells)) (sym are) (All-from_slots (chain_cells top links) (λ n. n < length cells) (chain_slots cells top links inside chain))
+pub chain_within : (cells : List Cell) (top : ℕ) (links : List Link) (numbers : List ℕ) → top < length cells
+    → IsChain cells top links → numbers ≡ chain_cells top links → All (λ n. n < length cells) numbers
+chain_within cells top links numbers inside chain are = subst (All (λ n. n < length cells)) (sym are)
+    (All-from_slots (chain_cells top links) (λ n. n < length cells) (chain_slots cells top links inside chain))
 
-pub names_shown : (cells now : List Cell) (numbers shown : List ℕ) (names : List (List ℕ)) → now ≡ cells → shown ≡ numbers → names ≡ map (name_at now) shown → names ≡ map (name_at cells) numbers
+pub names_shown : (cells now : List Cell) (numbers shown : List ℕ) (names : List (List ℕ)) → now ≡ cells
+    → shown ≡ numbers → names ≡ map (name_at now) shown → names ≡ map (name_at cells) numbers
 names_shown cells now numbers shown names e f is = is ∙ ap (λ l. map (name_at l) shown) e ∙ ap (map (name_at cells)) f
 
 -- ---- targets
 
-pub target_known : (cells : List Cell) (top n k : ℕ) (shown : List (Option ℕ)) → IsTree cells top → IsReachable cells top n → shown ≡ targets_at cells n → k < length (placements_at cells n) → get_or shown k None ≡ None → ⊥
+pub target_known : (cells : List Cell) (top n k : ℕ) (shown : List (Option ℕ)) → IsTree cells top
+    → IsReachable cells top n → shown ≡ targets_at cells n → k < length (placements_at cells n)
+    → get_or shown k None ≡ None → ⊥
 target_known cells top n k shown tree reach is inside none =
     let long = length-map (placements_at cells n) (λ p. cell_number cells p.target) in
-    let slot : slice_get (targets_at cells n) k ≡ Some None = slice_get-get_or (targets_at cells n) k None (omega arith) ∙ ap Some (ap (λ l. get_or l k None) (sym is) ∙ none) in
+    let slot : slice_get (targets_at cells n) k ≡ Some None = slice_get-get_or (targets_at cells n) k None
+    (omega arith) ∙ ap Some (ap (λ l. get_or l k None) (sym is) ∙ none) in
     let u = unknown_at cells n k slot in
     tree.known n u.0 reach u.2
 
-pub target_value : (cells : List Cell) (n k m : ℕ) (shown : List (Option ℕ)) (placed : Placement) → shown ≡ targets_at cells n → get_or shown k None ≡ Some m → slice_get (placements_at cells n) k ≡ Some placed
+pub target_value : (cells : List Cell) (n k m : ℕ) (shown : List (Option ℕ)) (placed : Placement)
+    → shown ≡ targets_at cells n → get_or shown k None ≡ Some m → slice_get (placements_at cells n) k ≡ Some placed
     → cell_number cells placed.target ≡ Some m
 target_value cells n k m shown placed is some at =
-    sym (get_or_from_slice_get (targets_at cells n) k (cell_number cells placed.target) None (slot_map (λ p. cell_number cells p.target) (placements_at cells n) k placed at)) ∙ ap (λ l. get_or l k None) (sym is) ∙ some
+    sym (get_or_from_slice_get (targets_at cells n) k (cell_number cells placed.target) None
+    (slot_map (λ p. cell_number cells p.target) (placements_at cells n) k placed at)) ∙ ap (λ l. get_or l k None)
+    (sym is) ∙ some
 
-pub target_inside : (cells : List Cell) (n k m : ℕ) (shown : List (Option ℕ)) → shown ≡ targets_at cells n → k < length (placements_at cells n) → get_or shown k None ≡ Some m → m < length cells
+pub target_inside : (cells : List Cell) (n k m : ℕ) (shown : List (Option ℕ)) → shown ≡ targets_at cells n
+    → k < length (placements_at cells n) → get_or shown k None ≡ Some m → m < length cells
 target_inside cells n k m shown is inside some =
     let long = length-map (placements_at cells n) (λ p. cell_number cells p.target) in
     targets_below cells n k m (slice_get-get_or (targets_at cells n) k None (omega arith) ∙ ap Some (ap (λ l. get_or l k None) (sym is) ∙ some))
 
 -- ---- the greatest factor at the top
 
-pub farthest_top : (cells : List Cell) (only_fixed : Bool) (top : ℕ) (order shown : List ℕ) (farthest : List (Option Far)) (far : Option Far) → shown ≡ order → IsOrder cells top order → AreFarthest cells only_fixed shown farthest
+pub farthest_top : (cells : List Cell) (only_fixed : Bool) (top : ℕ) (order shown : List ℕ)
+    (farthest : List (Option Far)) (far : Option Far) → shown ≡ order → IsOrder cells top order
+    → AreFarthest cells only_fixed shown farthest
     → top < length farthest → far ≡ get_or farthest top far → IsFarthest cells only_fixed top far
 farthest_top cells only_fixed top order shown farthest far e in_order are inside is =
-    subst (IsFarthest cells only_fixed top) (sym (get_or_read farthest top far inside is None)) (are top (shown_among order shown top e (in_order.all top (top_reachable cells top))))
+    subst (IsFarthest cells only_fixed top) (sym (get_or_read farthest top far inside is None))
+    (are top (shown_among order shown top e (in_order.all top (top_reachable cells top))))
 
-pub farthest_below : (cells : List Cell) (only_fixed : Bool) (top : ℕ) (order shown : List ℕ) (farthest farthest' : List (Option Far)) → shown ≡ order → farthest' ≡ farthest → IsOrder cells top order → AreFarthest cells only_fixed shown farthest
+pub farthest_below : (cells : List Cell) (only_fixed : Bool) (top : ℕ) (order shown : List ℕ)
+    (farthest farthest' : List (Option Far)) → shown ≡ order → farthest' ≡ farthest → IsOrder cells top order
+    → AreFarthest cells only_fixed shown farthest
     → AreFarthestBelow cells only_fixed top farthest'
 farthest_below cells only_fixed top order shown farthest farthest' e f in_order are n reach =
     subst (λ l. IsFarthest cells only_fixed n (get_or l n None)) (sym f) (are n (shown_among order shown n e (in_order.all n reach)))
 
-pub heights_below : (cells : List Cell) (top : ℕ) (order shown heights heights' : List ℕ) → shown ≡ order → heights' ≡ heights → IsOrder cells top order → AreHeights cells shown heights → AreHeightsBelow cells top heights'
+pub heights_below : (cells : List Cell) (top : ℕ) (order shown heights heights' : List ℕ) → shown ≡ order
+    → heights' ≡ heights → IsOrder cells top order → AreHeights cells shown heights → AreHeightsBelow cells top heights'
 heights_below cells top order shown heights heights' e f in_order are n reach =
     subst (λ l. IsHeight cells n (get_or l n 0)) (sym f) (are n (shown_among order shown n e (in_order.all n reach)))
 
-pub height_top : (cells : List Cell) (top : ℕ) (order shown heights : List ℕ) (h : ℕ) → shown ≡ order → IsOrder cells top order → AreHeights cells shown heights → top < length heights → h ≡ get_or heights top h → IsHeight cells top h
+pub height_top : (cells : List Cell) (top : ℕ) (order shown heights : List ℕ) (h : ℕ) → shown ≡ order
+    → IsOrder cells top order → AreHeights cells shown heights → top < length heights → h ≡ get_or heights top h
+    → IsHeight cells top h
 height_top cells top order shown heights h e in_order are inside is =
-    subst (IsHeight cells top) (sym (get_or_read heights top h inside is 0)) (are top (shown_among order shown top e (in_order.all top (top_reachable cells top))))
+    subst (IsHeight cells top) (sym (get_or_read heights top h inside is 0))
+    (are top (shown_among order shown top e (in_order.all top (top_reachable cells top))))
 
 -- a cell with a fixed shape that is enlarged
-pub enlarged_is : (cells : List Cell) (top : ℕ) (far : Far) (value : ℤ) (name : List ℕ) → IsMild cells top → IsFarthest cells true top (Some far) → 1 < far.factor → value ≡ pos far.factor → name ≡ name_at cells far.cell → IsEnlarged cells top value name
+pub enlarged_is : (cells : List Cell) (top : ℕ) (far : Far) (value : ℤ) (name : List ℕ) → IsMild cells top
+    → IsFarthest cells true top (Some far) → 1 < far.factor → value ≡ pos far.factor → name ≡ name_at cells far.cell
+    → IsEnlarged cells top value name
 enlarged_is cells top far value name mild is more shown named =
     let c = is.chain in
     let low = mild c.links c.chain in
@@ -340,36 +394,47 @@ enlarged_is cells top far value name mild is more shown named =
       named = named ∙ ap (name_at cells) (sym c.end);
     }
 
-pub far_within : (cells : List Cell) (only_fixed : Bool) (top : ℕ) (far : Far) → top < length cells → IsFarthest cells only_fixed top (Some far) → far.cell < length cells
+pub far_within : (cells : List Cell) (only_fixed : Bool) (top : ℕ) (far : Far) → top < length cells
+    → IsFarthest cells only_fixed top (Some far) → far.cell < length cells
 far_within cells only_fixed top far inside is = subst (λ n. n < length cells) is.chain.end (end_within cells top is.chain.links inside is.chain.chain)
 
-pub crowd_is : (cells : List Cell) (top n count : ℕ) (order shown : List ℕ) (name : List ℕ) → shown ≡ order → IsOrder cells top order → IsCrowd cells shown n count → name ≡ name_at cells n → IsCrowded cells top name count
+pub crowd_is : (cells : List Cell) (top n count : ℕ) (order shown : List ℕ) (name : List ℕ) → shown ≡ order
+    → IsOrder cells top order → IsCrowd cells shown n count → name ≡ name_at cells n → IsCrowded cells top name count
 crowd_is cells top n count order shown name e in_order crowd named =
     let among = among_shown order shown n e crowd.among in
     record { number = n; reachable = in_order.reachable among.0 n among.1; many = crowd.many; lowest = crowd.lowest; named = named; count = crowd.number }
 
-pub order_short : (cells : List Cell) (top : ℕ) (order shown : List ℕ) → shown ≡ order → IsOrder cells top order → IsShallow cells top → (n : ℕ) → IsAmong shown n → IsShort cells 64 n
-order_short cells top order shown e in_order shallow n among = let a = among_shown order shown n e among in short_below cells top n shallow (in_order.reachable a.0 n a.1)
+pub order_short : (cells : List Cell) (top : ℕ) (order shown : List ℕ) → shown ≡ order → IsOrder cells top order
+    → IsShallow cells top → (n : ℕ) → IsAmong shown n → IsShort cells 64 n
+order_short cells top order shown e in_order shallow n among = let a = among_shown order shown n e among in
+    short_below cells top n shallow (in_order.reachable a.0 n a.1)
 
 -- ---- the answer
 
-pub accepted : {T : Type 0} (cells : List Cell) (top : ℕ) (r : Result T TreeBad) → All IsCellOnGrid cells → IfErr r (IsFirstFault cells top) → IsTree cells top → IsOk r ⊎ (r ≡ Err NoMemory)
+pub accepted : {T : Type 0} (cells : List Cell) (top : ℕ) (r : Result T TreeBad) → All IsCellOnGrid cells
+    → IfErr r (IsFirstFault cells top) → IsTree cells top → IsOk r ⊎ (r ≡ Err NoMemory)
 accepted cells top (Ok tree) grid fault is = inl refl
 accepted cells top (Err bad) grid fault is = inr (ap Err (no_fault cells top bad grid is fault))
 
-pub order_near : (cells : List Cell) (top : ℕ) (order shown : List ℕ) → All IsCellOnGrid cells → shown ≡ order → IsOrder cells top order → IsShallow cells top → IsMild cells top → (n : ℕ) → IsAmong shown n → HasNearVertices cells n
-order_near cells top order shown grid e in_order shallow mild n among = let a = among_shown order shown n e among in near_below cells grid top n shallow mild (in_order.reachable a.0 n a.1)
+pub order_near : (cells : List Cell) (top : ℕ) (order shown : List ℕ) → All IsCellOnGrid cells → shown ≡ order
+    → IsOrder cells top order → IsShallow cells top → IsMild cells top → (n : ℕ) → IsAmong shown n
+    → HasNearVertices cells n
+order_near cells top order shown grid e in_order shallow mild n among = let a = among_shown order shown n e among in
+    near_below cells grid top n shallow mild (in_order.reachable a.0 n a.1)
 
-pub hulls_below : (cells : List Cell) (top : ℕ) (order shown : List ℕ) (hulls : List (List PairHull)) → shown ≡ order → IsOrder cells top order → AreHulls cells shown hulls → AreHullsBelow cells top hulls
+pub hulls_below : (cells : List Cell) (top : ℕ) (order shown : List ℕ) (hulls : List (List PairHull)) → shown ≡ order
+    → IsOrder cells top order → AreHulls cells shown hulls → AreHullsBelow cells top hulls
 hulls_below cells top order shown hulls e in_order are n reach = are n (shown_among order shown n e (in_order.all n reach))
 
 -- the list that an index gives
-pub hulls_read : {A : Type 0} (view : A → List PairHull) (cells : List Cell) (top n : ℕ) (hulls : List A) (list : A) → n < length hulls → list ≡ get_or hulls n list → AreHullsBelow cells top (map view hulls) → IsReachable cells top n
+pub hulls_read : {A : Type 0} (view : A → List PairHull) (cells : List Cell) (top n : ℕ) (hulls : List A) (list : A)
+    → n < length hulls → list ≡ get_or hulls n list → AreHullsBelow cells top (map view hulls) → IsReachable cells top n
     → AreCellHulls cells n (view list)
 hulls_read view cells top n hulls list inside is are reach =
     subst (AreCellHulls cells n) (get_or-map view hulls n list [] inside ∙ ap view (sym is)) (are n reach)
 
-pub top_hulls : {A : Type 0} (view : A → List PairHull) (cells : List Cell) (top : ℕ) (order shown : List ℕ) (hulls : List A) (list : A) → shown ≡ order → IsOrder cells top order → AreHulls cells shown (map view hulls)
+pub top_hulls : {A : Type 0} (view : A → List PairHull) (cells : List Cell) (top : ℕ) (order shown : List ℕ)
+    (hulls : List A) (list : A) → shown ≡ order → IsOrder cells top order → AreHulls cells shown (map view hulls)
     → top < length hulls → list ≡ get_or hulls top list → AreCellHulls cells top (view list)
 top_hulls view cells top order shown hulls list e in_order are inside is =
     hulls_read view cells top top hulls list inside is (hulls_below cells top order shown (map view hulls) e in_order are) (top_reachable cells top)
@@ -445,7 +510,8 @@ top_order (Count cell value) some = omega arith
 top_order NoMemory some = absurd (some refl)
 
 no_less : (cells : List Cell) (top : ℕ) (a b : TreeBad) → IsFirstFault cells top a → IsFirstFault cells top b → b ≢ NoMemory → order_of a < order_of b → ⊥
-no_less cells top a b first second some less = let most = top_order b some in breaks cells top a first (omega arith) (asked_before cells top b second some (order_of a) less)
+no_less cells top a b first second some less = let most = top_order b some in breaks cells top a first (omega arith)
+    (asked_before cells top b second some (order_of a) less)
 
 is_wanting : (bad : TreeBad) → (bad ≡ NoMemory) ⊎ (bad ≢ NoMemory)
 is_wanting NoTop = inr (λ e. cc)
@@ -458,7 +524,9 @@ is_wanting (Extent value) = inr (λ e. cc)
 is_wanting (Count cell value) = inr (λ e. cc)
 is_wanting NoMemory = inl refl
 
-pub answered : {T : Type 0} (cells : List Cell) (top : ℕ) (r : Result T TreeBad) (bad : TreeBad) → All IsCellOnGrid cells → OnOk r (IsTree cells top) → IfErr r (IsFirstFault cells top) → IsFirstFault cells top bad → bad ≢ NoMemory
+pub answered : {T : Type 0} (cells : List Cell) (top : ℕ) (r : Result T TreeBad) (bad : TreeBad)
+    → All IsCellOnGrid cells → OnOk r (IsTree cells top) → IfErr r (IsFirstFault cells top)
+    → IsFirstFault cells top bad → bad ≢ NoMemory
     → IsErrAnd r (λ answer. (order_of answer ≡ order_of bad) ⊎ (answer ≡ NoMemory))
 answered cells top (Ok tree) bad grid is fault first some = absurd (some (no_fault cells top bad grid is first))
 answered cells top (Err answer) bad grid is fault first some = elim (is_wanting answer) [

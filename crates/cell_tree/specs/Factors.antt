@@ -1,6 +1,7 @@
 -- The greatest factor of the chains of placements from a cell, or 17 where one is greater than 16; also of those alone
 -- that end in a cell with a fixed shape.
-use Rattle.std.specs.Prelude.{◌≡◌, ◌≤◌, ◌<◌, ◌*◌, ◌-◌, ◌⊎◌, ℕ, true, Bool, List, Option, Some, None, slice_get, get_or, take, length, IfSome, IsSomeAnd, min, nat_lt, if◌then◌else◌}
+use Rattle.std.specs.Prelude.{◌≡◌, ◌≤◌, ◌<◌, ◌*◌, ◌-◌, ◌⊎◌, ℕ, true, Bool, List, Option, Some, None, slice_get, get_or}
+use Rattle.std.specs.Prelude.{take, length, IfSome, IsSomeAnd, min, nat_lt, if◌then◌else◌}
 use Rattle.std.specs.Option.{option_map}
 use Rattle.layout_model.specs.declared.cells.Placement.{Placement}
 use Rattle.layout_model.specs.declared.cells.Cell.{Cell}

@@ -29,7 +29,10 @@ placed_things carry placement things = flat_map (λ by. map (carry placement.ori
 -- the things of a cell, by what each cell has of its own, over chains of at most so many cells
 abbrev pub things_within : {X : Type 0} → (ℕ → List X) → (Orient → Point → X → X) → List Cell → ℕ → ℕ → List X
 things_within own carry cells zero n = []
-things_within own carry cells (suc depth) n = own n ++ flat_map (λ placement. placed_things carry placement (option_map_or (things_within own carry cells depth) (cell_number cells placement.target) [])) (placements_at cells n)
+things_within own carry cells (suc depth) n = own n ++ flat_map
+    (λ placement. placed_things carry placement
+    (option_map_or (things_within own carry cells depth) (cell_number cells placement.target) []))
+    (placements_at cells n)
 
 -- a shape where it stands
 pub record Flat : Type 0 where

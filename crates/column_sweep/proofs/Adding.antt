@@ -1,5 +1,6 @@
 -- What edges add up to in a row, list by list.
-use Rattle.std.proofs.Common.{◌≡◌, ℕ, ◌+◌, Bool, true, false, ◌&&◌, not, ℤ, pos, ◌+ℤ◌, ◌-ℤ◌, ◌≤ℤ◌, ◌<ℤ◌, arith, refl, sym, ap, ◌∙◌, List, [], ◌∷◌, ◌++◌, count_by, append_assoc, Option}
+use Rattle.std.proofs.Common.{◌≡◌, ℕ, ◌+◌, Bool, true, false, ◌&&◌, not, ℤ, pos, ◌+ℤ◌, ◌-ℤ◌, ◌≤ℤ◌, ◌<ℤ◌, arith, refl}
+use Rattle.std.proofs.Common.{sym, ap, ◌∙◌, List, [], ◌∷◌, ◌++◌, count_by, append_assoc, Option}
 use Rattle.std.proofs.lemmas.Int.{ints}
 use Rattle.std.proofs.lemmas.List.Sums.{sum_by-append}
 use Rattle.std.proofs.lemmas.List.Sorted.{sum_by-IsPermutation}
@@ -57,13 +58,18 @@ count_equal : (p q : EdgeParts → Bool) (edges : List EdgeParts) → ((e : Edge
 count_equal p q edges h = count_same p q edges (λ k d lt. h _)
 
 -- where two tests agree on the edges that span the row, they add up to the same
-pub sum_alike : (o : Operand) (j : ℤ) (some other : Line → Bool) (edges : List EdgeParts) → All (λ e. (spans e j && some e.line) ≡ (spans e j && other e.line)) edges
+pub sum_alike : (o : Operand) (j : ℤ) (some other : Line → Bool) (edges : List EdgeParts)
+    → All (λ e. (spans e j && some e.line) ≡ (spans e j && other e.line)) edges
     → sum_among o j some edges ≡ sum_among o j other edges
 unfolding sum_among
 sum_alike o j some other edges h =
     let Alike : EdgeParts → Type 0 = λ e. (spans e j && some e.line) ≡ (spans e j && other e.line) in
-    let up = count_same (up_among o j some) (up_among o j other) edges (All-weaker Alike (λ e. up_among o j some e ≡ up_among o j other e) (λ e k. ap (λ (b : Bool). is_of o e.operand && (e.up && b)) k) edges h) in
-    let down = count_same (down_among o j some) (down_among o j other) edges (All-weaker Alike (λ e. down_among o j some e ≡ down_among o j other e) (λ e k. ap (λ (b : Bool). is_of o e.operand && (not e.up && b)) k) edges h) in
+    let up = count_same (up_among o j some) (up_among o j other) edges
+    (All-weaker Alike (λ e. up_among o j some e ≡ up_among o j other e)
+    (λ e k. ap (λ (b : Bool). is_of o e.operand && (e.up && b)) k) edges h) in
+    let down = count_same (down_among o j some) (down_among o j other) edges
+    (All-weaker Alike (λ e. down_among o j some e ≡ down_among o j other e)
+    (λ e k. ap (λ (b : Bool). is_of o e.operand && (not e.up && b)) k) edges h) in
     rw (up, down) refl
 
 no_line : Line → Bool
@@ -87,7 +93,8 @@ sum_no_line o j edges =
     rw (up, down) refl
 
 -- where no edge that spans the row passes the test, they add up to nothing
-pub sum_none : (o : Operand) (j : ℤ) (some : Line → Bool) (edges : List EdgeParts) → All (λ e. (spans e j && some e.line) ≡ (spans e j && false)) edges → sum_among o j some edges ≡ pos 0
+pub sum_none : (o : Operand) (j : ℤ) (some : Line → Bool) (edges : List EdgeParts)
+    → All (λ e. (spans e j && some e.line) ≡ (spans e j && false)) edges → sum_among o j some edges ≡ pos 0
 sum_none o j some edges h = sum_alike o j some (λ line. false) edges h ∙ sum_no_line o j edges
 
 and_true : (p q r : Bool) → (p && (q && (r && true))) ≡ (p && (q && r))
@@ -96,10 +103,12 @@ and_true true true false = refl
 and_true true false r = refl
 and_true false q r = refl
 
-up_in_row : (o : Operand) (j : ℤ) (edges : List EdgeParts) → count_by (up_among o j any_line) edges ≡ count_by (λ e. is_of o e.operand && (e.up && spans e j)) edges
+up_in_row : (o : Operand) (j : ℤ) (edges : List EdgeParts) → count_by (up_among o j any_line) edges ≡ count_by
+    (λ e. is_of o e.operand && (e.up && spans e j)) edges
 up_in_row o j edges = count_equal _ _ edges (λ e. and_true (is_of o e.operand) e.up (spans e j))
 
-down_in_row : (o : Operand) (j : ℤ) (edges : List EdgeParts) → count_by (down_among o j any_line) edges ≡ count_by (λ e. is_of o e.operand && (not e.up && spans e j)) edges
+down_in_row : (o : Operand) (j : ℤ) (edges : List EdgeParts) → count_by (down_among o j any_line) edges ≡ count_by
+    (λ e. is_of o e.operand && (not e.up && spans e j)) edges
 down_in_row o j edges = count_equal _ _ edges (λ e. and_true (is_of o e.operand) (not e.up) (spans e j))
 
 equal_by_difference : (a b : ℕ) → pos a -ℤ pos b ≡ pos 0 → a ≡ b
@@ -117,29 +126,41 @@ sum_by_balance o j edges h = let same = up_in_row o j edges ∙ (h ∙ sym (down
 span_from : (e : EdgeParts) (j : ℤ) → spans e j ≡ true → SpansRow j e
 span_from e j h = record { from = grind (arith, ints, h); below = grind (arith, ints, h) }
 
-right_if : (t : Tile) (e : EdgeParts) (b : Bool) → spans e t.j ≡ b → (SpansRow t.j e → place e.line t.j ≤ℤ number_in_row t) → (b && has_right t e.line) ≡ (b && true)
+right_if : (t : Tile) (e : EdgeParts) (b : Bool) → spans e t.j ≡ b
+    → (SpansRow t.j e → place e.line t.j ≤ℤ number_in_row t) → (b && has_right t e.line) ≡ (b && true)
 right_if t e true s h = le_yes _ _ (right_by_place t e.line (h (span_from e t.j s)))
 right_if t e false s h = refl
 
-left_if : (t : Tile) (e : EdgeParts) (b : Bool) → spans e t.j ≡ b → (SpansRow t.j e → number_in_row t <ℤ place e.line t.j) → (b && has_right t e.line) ≡ (b && false)
+left_if : (t : Tile) (e : EdgeParts) (b : Bool) → spans e t.j ≡ b
+    → (SpansRow t.j e → number_in_row t <ℤ place e.line t.j) → (b && has_right t e.line) ≡ (b && false)
 left_if t e true s h = le_no _ _ (left_by_place t e.line (h (span_from e t.j s)))
 left_if t e false s h = refl
 
 -- a tile that has all edges of its row on its left is wound round by their sum, one that has none by nothing
-pub right_of_all : (o : Operand) (t : Tile) (edges : List EdgeParts) → All (λ e. SpansRow t.j e → place e.line t.j ≤ℤ number_in_row t) edges → edges_winding o edges t ≡ row_sum o t.j edges
+pub right_of_all : (o : Operand) (t : Tile) (edges : List EdgeParts)
+    → All (λ e. SpansRow t.j e → place e.line t.j ≤ℤ number_in_row t) edges
+    → edges_winding o edges t ≡ row_sum o t.j edges
 right_of_all o t edges h =
     winding_is_sum o edges t
-    ∙ sum_alike o t.j (has_right t) any_line edges (All-weaker (λ e. SpansRow t.j e → place e.line t.j ≤ℤ number_in_row t) (λ e. (spans e t.j && has_right t e.line) ≡ (spans e t.j && true)) (λ e k. right_if t e (spans e t.j) refl k) edges h)
+    ∙ sum_alike o t.j (has_right t) any_line edges
+    (All-weaker (λ e. SpansRow t.j e → place e.line t.j ≤ℤ number_in_row t)
+    (λ e. (spans e t.j && has_right t e.line) ≡ (spans e t.j && true))
+    (λ e k. right_if t e (spans e t.j) refl k) edges h)
 
-pub left_of_all : (o : Operand) (t : Tile) (edges : List EdgeParts) → All (λ e. SpansRow t.j e → number_in_row t <ℤ place e.line t.j) edges → edges_winding o edges t ≡ pos 0
+pub left_of_all : (o : Operand) (t : Tile) (edges : List EdgeParts)
+    → All (λ e. SpansRow t.j e → number_in_row t <ℤ place e.line t.j) edges → edges_winding o edges t ≡ pos 0
 left_of_all o t edges h =
     winding_is_sum o edges t
-    ∙ sum_none o t.j (has_right t) edges (All-weaker (λ e. SpansRow t.j e → number_in_row t <ℤ place e.line t.j) (λ e. (spans e t.j && has_right t e.line) ≡ (spans e t.j && false)) (λ e k. left_if t e (spans e t.j) refl k) edges h)
+    ∙ sum_none o t.j (has_right t) edges
+    (All-weaker (λ e. SpansRow t.j e → number_in_row t <ℤ place e.line t.j)
+    (λ e. (spans e t.j && has_right t e.line) ≡ (spans e t.j && false))
+    (λ e k. left_if t e (spans e t.j) refl k) edges h)
 
 count_single : (p : EdgeParts → Bool) (e : EdgeParts) → count_by p (e ∷ []) ≡ count_one (p e)
 count_single p e = count_by-cons p e [] ∙ (omega arith)
 
-pub sum_one : (o : Operand) (j : ℤ) (some : Line → Bool) (e : EdgeParts) → sum_among o j some (e ∷ []) ≡ pos (count_one (up_among o j some e)) -ℤ pos (count_one (down_among o j some e))
+pub sum_one : (o : Operand) (j : ℤ) (some : Line → Bool) (e : EdgeParts)
+    → sum_among o j some (e ∷ []) ≡ pos (count_one (up_among o j some e)) -ℤ pos (count_one (down_among o j some e))
 unfolding sum_among
 sum_one o j some e = rw (count_single (up_among o j some) e, count_single (down_among o j some) e) refl
 
@@ -161,16 +182,25 @@ pub balanced_alike : (o : Operand) (j : ℤ) (xs ys : List EdgeParts) → AddUpA
 balanced_alike o j xs ys h k = balanced_by_sum o j xs (h o j any_line ∙ sum_by_balance o j ys k)
 
 -- what is put in the place of the last edge and one more
-pub alike_behind : (all front rests : List EdgeParts) (e f : EdgeParts) → all ≡ front ++ e ∷ [] → AddUpAlike rests (e ∷ f ∷ []) → AddUpAlike (front ++ rests) (all ++ f ∷ [])
+pub alike_behind : (all front rests : List EdgeParts) (e f : EdgeParts) → all ≡ front ++ e ∷ []
+    → AddUpAlike rests (e ∷ f ∷ []) → AddUpAlike (front ++ rests) (all ++ f ∷ [])
 alike_behind all front rests e f is h o j some =
     let rest = h o j some in
     let two = sum_cons o j some e (f ∷ []) in
-    rw (is, sum_append o j some front rests, sum_append o j some (front ++ e ∷ []) (f ∷ []), sum_append o j some front (e ∷ [])) (omega (arith, ints, rest, two))
+    rw (
+      is,
+      sum_append o j some front rests,
+      sum_append o j some (front ++ e ∷ []) (f ∷ []),
+      sum_append o j some front
+          (e ∷ []),
+    ) (omega (arith, ints, rest, two))
 
 -- four parts put one after another
-pub four_put : (xs ys zs us vs : List EdgeParts) (a b c d p q r s : Option EdgeParts) → ys ≡ xs ++ option_to_list a → zs ≡ ys ++ option_to_list b → us ≡ zs ++ option_to_list c → vs ≡ us ++ option_to_list d
+pub four_put : (xs ys zs us vs : List EdgeParts) (a b c d p q r s : Option EdgeParts) → ys ≡ xs ++ option_to_list a
+    → zs ≡ ys ++ option_to_list b → us ≡ zs ++ option_to_list c → vs ≡ us ++ option_to_list d
     → a ≡ p → b ≡ q → c ≡ r → d ≡ s → vs ≡ xs ++ (option_to_list p ++ (option_to_list q ++ (option_to_list r ++ option_to_list s)))
 four_put xs ys zs us vs a b c d p q r s hy hz hu hv ha hb hc hd =
     rw (hv, hu, hz, hy, ha, hb, hc, hd)
     (append_assoc ((xs ++ option_to_list p) ++ option_to_list q) (option_to_list r) (option_to_list s)
-    ∙ (append_assoc (xs ++ option_to_list p) (option_to_list q) (option_to_list r ++ option_to_list s) ∙ append_assoc xs (option_to_list p) (option_to_list q ++ (option_to_list r ++ option_to_list s))))
+    ∙ (append_assoc (xs ++ option_to_list p) (option_to_list q) (option_to_list r ++ option_to_list s)
+    ∙ append_assoc xs (option_to_list p) (option_to_list q ++ (option_to_list r ++ option_to_list s))))

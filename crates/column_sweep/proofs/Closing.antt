@@ -16,7 +16,8 @@ use Rattle.column_sweep.specs.RowSums.{sum_among, any_line, row_sum}
 use Rattle.column_sweep.specs.Parts.{LiesLeft, LiesRight, turned, AddUp, AreSplit, AreParts, AreSums}
 use Rattle.column_sweep.proofs.Adding.{has_right, winding_is_sum, sum_nil, sum_append, sum_cons, sum_one, right_of_all, left_of_all}
 
-turned_one : (a b c : Bool) → (pos (count_one (a && (not b && c))) -ℤ pos (count_one (a && (not (not b) && c)))) +ℤ (pos (count_one (a && (b && c))) -ℤ pos (count_one (a && (not b && c)))) ≡ pos 0
+turned_one : (a b c : Bool) → (pos (count_one (a && (not b && c))) -ℤ pos (count_one (a && (not (not b) && c))))
+    +ℤ (pos (count_one (a && (b && c))) -ℤ pos (count_one (a && (not b && c)))) ≡ pos 0
 turned_one true true true = refl
 turned_one true true false = refl
 turned_one true false true = refl
@@ -27,12 +28,17 @@ four : (a b c d : ℤ) → (a +ℤ c) ≡ pos 0 → (b +ℤ d) ≡ pos 0 → ((a
 four a b c d h k = omega (arith, ints, h, k)
 
 -- edges the other way add up to the opposite
-pub sum_turned : (o : Operand) (j : ℤ) (some : Line → Bool) (edges : List EdgeParts) → (sum_among o j some (map turned edges) +ℤ sum_among o j some edges) ≡ pos 0
+pub sum_turned : (o : Operand) (j : ℤ) (some : Line → Bool) (edges : List EdgeParts)
+    → (sum_among o j some (map turned edges) +ℤ sum_among o j some edges) ≡ pos 0
 sum_turned o j some [] = rw (sum_nil o j some) refl
 sum_turned o j some (e ∷ edges) =
-    let first : (sum_among o j some (turned e ∷ []) +ℤ sum_among o j some (e ∷ [])) ≡ pos 0 = rw (sum_one o j some (turned e), sum_one o j some e) (turned_one (is_of o e.operand) e.up (spans e j && some e.line)) in
+    let first : (sum_among o j some (turned e ∷ []) +ℤ sum_among o j some (e ∷ [])) ≡ pos 0 = rw
+    (sum_one o j some (turned e), sum_one o j some e)
+    (turned_one (is_of o e.operand) e.up (spans e j && some e.line)) in
     let later = sum_turned o j some edges in
-    rw (sum_cons o j some (turned e) (map turned edges), sum_cons o j some e edges) (four (sum_among o j some (turned e ∷ [])) (sum_among o j some (map turned edges)) (sum_among o j some (e ∷ [])) (sum_among o j some edges) first later)
+    rw (sum_cons o j some (turned e) (map turned edges), sum_cons o j some e edges)
+    (four (sum_among o j some (turned e ∷ [])) (sum_among o j some (map turned edges))
+    (sum_among o j some (e ∷ [])) (sum_among o j some edges) first later)
 
 -- tiles against a column's side, by their numbers
 number_right : (x : ℤ) (t : Tile) → x ≤ℤ t.i → (x +ℤ x) ≤ℤ number_in_row t
@@ -41,20 +47,26 @@ number_right x t h = let a = i_low t in omega (arith, ints, h, a)
 number_left : (x : ℤ) (t : Tile) → t.i <ℤ x → number_in_row t <ℤ (x +ℤ x)
 number_left x t h = let a = i_high t in omega (arith, ints, h, a)
 
-pub right_of_left : (o : Operand) (x : ℤ) (t : Tile) (edges : List EdgeParts) → All (LiesLeft x) edges → x ≤ℤ t.i → edges_winding o edges t ≡ row_sum o t.j edges
+pub right_of_left : (o : Operand) (x : ℤ) (t : Tile) (edges : List EdgeParts) → All (LiesLeft x) edges → x ≤ℤ t.i
+    → edges_winding o edges t ≡ row_sum o t.j edges
 right_of_left o x t edges h at =
     let n = number_right x t at in
-    right_of_all o t edges (All-weaker (LiesLeft x) (λ e. SpansRow t.j e → place e.line t.j ≤ℤ number_in_row t) (λ e k s. (let p = k t.j s in omega (arith, ints, p, n))) edges h)
+    right_of_all o t edges
+    (All-weaker (LiesLeft x) (λ e. SpansRow t.j e → place e.line t.j ≤ℤ number_in_row t)
+    (λ e k s. (let p = k t.j s in omega (arith, ints, p, n))) edges h)
 
 pub left_of_right : (o : Operand) (x : ℤ) (t : Tile) (edges : List EdgeParts) → All (LiesRight x) edges → t.i <ℤ x → edges_winding o edges t ≡ pos 0
 left_of_right o x t edges h at =
     let n = number_left x t at in
-    left_of_all o t edges (All-weaker (LiesRight x) (λ e. SpansRow t.j e → number_in_row t <ℤ place e.line t.j) (λ e k s. (let p = k t.j s in omega (arith, ints, p, n))) edges h)
+    left_of_all o t edges
+    (All-weaker (LiesRight x) (λ e. SpansRow t.j e → number_in_row t <ℤ place e.line t.j)
+    (λ e k s. (let p = k t.j s in omega (arith, ints, p, n))) edges h)
 
 on_right : (x : ℤ) (e : EdgeParts) → e.line ≡ Upright x → LiesRight x e
 on_right x e h = λ j s. rw h (omega (arith, ints))
 
-right_of_line : (o : Operand) (x : ℤ) (t : Tile) (edges : List EdgeParts) → All (λ e. e.line ≡ Upright x) edges → x ≤ℤ t.i → edges_winding o edges t ≡ row_sum o t.j edges
+right_of_line : (o : Operand) (x : ℤ) (t : Tile) (edges : List EdgeParts) → All (λ e. e.line ≡ Upright x) edges
+    → x ≤ℤ t.i → edges_winding o edges t ≡ row_sum o t.j edges
 right_of_line o x t edges h at =
     let n = number_right x t at in
     right_of_all o t edges (All-weaker (λ e. e.line ≡ Upright x) (λ e. SpansRow t.j e → place e.line t.j ≤ℤ number_in_row t) (λ e k s. rw k n) edges h)
@@ -69,7 +81,8 @@ all_turned x (e ∷ edges) h =
     All-cons P (turned e) (map turned edges) (All-head P e edges h) (all_turned x edges (All-tail P e edges h))
 
 -- split edges with their sums on the line, the other way in the left part
-pub parts_closed : (x : ℤ) (edges own beyond sums : List EdgeParts) → AreSplit x edges own beyond → AreSums x own sums → AreParts x edges (own ++ map turned sums) (beyond ++ sums)
+pub parts_closed : (x : ℤ) (edges own beyond sums : List EdgeParts) → AreSplit x edges own beyond → AreSums x own sums
+    → AreParts x edges (own ++ map turned sums) (beyond ++ sums)
 parts_closed x edges own beyond sums split are = record {
   left = λ o t at.
       (let all = winding_added o t in

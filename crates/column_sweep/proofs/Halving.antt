@@ -1,5 +1,6 @@
 -- An edge's parts below and above a Y, and on both sides of an upright line.
-use Rattle.std.proofs.Common.{FitsSigned, w64, to_z, of_z, ◌*ℤ◌, ◌≡◌, Bool, true, false, ◌&&◌, not, ℤ, pos, ◌+ℤ◌, ◌-ℤ◌, ◌≤ℤ◌, ◌<ℤ◌, arith, refl, sym, ap, ◌∙◌, cond, List, [], ◌∷◌, ◌++◌, Option, Some, None}
+use Rattle.std.proofs.Common.{FitsSigned, w64, to_z, of_z, ◌*ℤ◌, ◌≡◌, Bool, true, false, ◌&&◌, not, ℤ, pos, ◌+ℤ◌, ◌-ℤ◌}
+use Rattle.std.proofs.Common.{◌≤ℤ◌, ◌<ℤ◌, arith, refl, sym, ap, ◌∙◌, cond, List, [], ◌∷◌, ◌++◌, Option, Some, None}
 use Rattle.std.proofs.lemmas.Int.{ints, clamps, by_lt_z, to_z-of_z}
 use Rattle.std.proofs.lemmas.List.Elements.{All-cons, All-nil}
 use Rattle.std.specs.List.{All}
@@ -59,7 +60,8 @@ lt_no : (x y : ℤ) → y ≤ℤ x → int_lt x y ≡ false
 lt_no x y h = grind (arith, ints)
 
 -- what is made of these rows is the part
-pub part_is : (e : EdgeParts) (low high : ℤ) (r : Option EdgeParts) → IsEdge e → e.y0 ≤ℤ low → high ≤ℤ e.y1 → SomeIff r (IsEdge (over e low high)) (over e low high) → r ≡ part_over e low high
+pub part_is : (e : EdgeParts) (low high : ℤ) (r : Option EdgeParts) → IsEdge e → e.y0 ≤ℤ low → high ≤ℤ e.y1
+    → SomeIff r (IsEdge (over e low high)) (over e low high) → r ≡ part_over e low high
 part_is e low high r is from to h =
     by_lt_z low high
     (λ lt. some_by r (over e low high) h (over_is_edge e low high is from to lt) ∙ (rw (lt_yes low high lt) refl))
@@ -76,13 +78,18 @@ apart_rows : (low high j : ℤ) → int_lt low high ≡ false → int_le low j �
 apart_rows low high j h p q = absurd (grind (arith, ints))
 
 single_none : (o : Operand) (j : ℤ) (some : Line → Bool) (e : EdgeParts) → spans e j ≡ false → sum_among o j some (e ∷ []) ≡ pos 0
-single_none o j some e h = sum_none o j some (e ∷ []) (All-cons (λ f. (spans f j && some f.line) ≡ (spans f j && false)) e [] (rw h refl) (All-nil (λ f. (spans f j && some f.line) ≡ (spans f j && false))))
+single_none o j some e h = sum_none o j some (e ∷ [])
+    (All-cons (λ f. (spans f j && some f.line) ≡ (spans f j && false)) e [] (rw h refl)
+    (All-nil (λ f. (spans f j && some f.line) ≡ (spans f j && false))))
 
-sum_part : (o : Operand) (j : ℤ) (some : Line → Bool) (e : EdgeParts) (low high : ℤ) (b : Bool) → int_lt low high ≡ b → sum_among o j some (option_to_list (cond b (Some (over e low high)) None)) ≡ sum_among o j some (over e low high ∷ [])
+sum_part : (o : Operand) (j : ℤ) (some : Line → Bool) (e : EdgeParts) (low high : ℤ) (b : Bool) → int_lt low high ≡ b
+    → sum_among o j some (option_to_list (cond b (Some (over e low high)) None)) ≡ sum_among o j some
+    (over e low high ∷ [])
 sum_part o j some e low high true h = refl
 sum_part o j some e low high false h = sum_nil o j some ∙ sym (single_none o j some (over e low high) (both_or _ _ (apart_rows low high j h)))
 
-sum_over : (o : Operand) (j : ℤ) (some : Line → Bool) (e : EdgeParts) (low high : ℤ) → spans (over e low high) j ≡ spans e j → sum_among o j some (over e low high ∷ []) ≡ sum_among o j some (e ∷ [])
+sum_over : (o : Operand) (j : ℤ) (some : Line → Bool) (e : EdgeParts) (low high : ℤ)
+    → spans (over e low high) j ≡ spans e j → sum_among o j some (over e low high ∷ []) ≡ sum_among o j some (e ∷ [])
 sum_over o j some e low high h = sum_one o j some (over e low high) ∙ (rw h (sym (sum_one o j some e)))
 
 below_spans : (e : EdgeParts) (y j : ℤ) → j <ℤ y → spans (over e e.y0 (int_min e.y1 y)) j ≡ spans e j
@@ -123,7 +130,8 @@ in_between f j h k =
     rw (low, high) refl
 
 rest_sum : (o : Operand) (j : ℤ) (some : Line → Bool) (e f : EdgeParts) → f.y0 <ℤ f.y1
-    → (sum_among o j some (option_to_list (part_below f.y0 e)) +ℤ sum_among o j some (option_to_list (part_above f.y1 e))) ≡ cond (spans f j) (pos 0) (sum_among o j some (e ∷ []))
+    → (sum_among o j some (option_to_list (part_below f.y0 e)) +ℤ sum_among o j some
+    (option_to_list (part_above f.y1 e))) ≡ cond (spans f j) (pos 0) (sum_among o j some (e ∷ []))
 rest_sum o j some e f rows =
     let below = sum_part o j some e e.y0 (int_min e.y1 f.y0) _ refl in
     let above = sum_part o j some e (int_max e.y0 f.y1) e.y1 _ refl in
@@ -139,32 +147,40 @@ rest_sum o j some e f rows =
     let here = sum_over o j some e _ _ (above_spans e f.y1 j over_top) in
     rw (below, above, here, none, not_above f j over_top) (omega (arith, ints)))))
 
-both_rests : (p q : Bool) (a b x y : ℤ) → (p ≡ false → x ≡ pos 0) → (q ≡ false → y ≡ pos 0) → (p ≡ true → q ≡ true → (x +ℤ y) ≡ pos 0) → a ≡ cond q (pos 0) x → b ≡ cond p (pos 0) y → (a +ℤ b) ≡ (x +ℤ y)
+both_rests : (p q : Bool) (a b x y : ℤ) → (p ≡ false → x ≡ pos 0) → (q ≡ false → y ≡ pos 0)
+    → (p ≡ true → q ≡ true → (x +ℤ y) ≡ pos 0) → a ≡ cond q (pos 0) x → b ≡ cond p (pos 0) y → (a +ℤ b) ≡ (x +ℤ y)
 both_rests true true a b x y hx hy both ha hb = let none = both refl refl in omega (arith, ints, ha, hb, none)
 both_rests true false a b x y hx hy both ha hb = let none = hy refl in omega (arith, ints, ha, hb, none)
 both_rests false true a b x y hx hy both ha hb = let none = hx refl in omega (arith, ints, ha, hb, none)
 both_rests false false a b x y hx hy both ha hb = omega (arith, ints, ha, hb)
 
-pub opposites : (a b c d : Bool) → (c ≡ d → ⊥) → pos (count_one (a && (c && b))) -ℤ pos (count_one (a && (not c && b))) ≡ pos (count_one (a && (not d && b))) -ℤ pos (count_one (a && (d && b)))
+pub opposites : (a b c d : Bool) → (c ≡ d → ⊥)
+    → pos (count_one (a && (c && b))) -ℤ pos (count_one (a && (not c && b))) ≡ pos
+    (count_one (a && (not d && b))) -ℤ pos (count_one (a && (d && b)))
 opposites a b true true h = absurd (h refl)
 opposites a b true false h = refl
 opposites a b false true h = refl
 opposites a b false false h = absurd (h refl)
 
 -- edges that go opposite ways on one line add up to nothing in the rows of both
-against : (o : Operand) (j : ℤ) (some : Line → Bool) (e f : EdgeParts) → e.line ≡ f.line → (e.up ≡ f.up → ⊥) → e.operand ≡ f.operand → spans e j ≡ true → spans f j ≡ true
+against : (o : Operand) (j : ℤ) (some : Line → Bool) (e f : EdgeParts) → e.line ≡ f.line → (e.up ≡ f.up → ⊥)
+    → e.operand ≡ f.operand → spans e j ≡ true → spans f j ≡ true
     → (sum_among o j some (e ∷ []) +ℤ sum_among o j some (f ∷ [])) ≡ pos 0
 against o j some e f line up of he hf =
     let opposite = opposites (is_of o f.operand) (true && some f.line) e.up f.up up in
     rw (sum_one o j some e, sum_one o j some f, of, line, he, hf) (omega (arith, ints, opposite))
 
-pub rests_add : (e f : EdgeParts) → e.y0 <ℤ e.y1 → f.y0 <ℤ f.y1 → e.line ≡ f.line → (e.up ≡ f.up → ⊥) → e.operand ≡ f.operand → AddUpAlike (rests e f) (e ∷ f ∷ [])
+pub rests_add : (e f : EdgeParts) → e.y0 <ℤ e.y1 → f.y0 <ℤ f.y1 → e.line ≡ f.line → (e.up ≡ f.up → ⊥)
+    → e.operand ≡ f.operand → AddUpAlike (rests e f) (e ∷ f ∷ [])
 rests_add e f rows_e rows_f line up of o j some =
     let first = rest_sum o j some e f rows_f in
     let second = rest_sum o j some f e rows_e in
-    let all = both_rests (spans e j) (spans f j) _ _ (sum_among o j some (e ∷ [])) (sum_among o j some (f ∷ [])) (single_none o j some e) (single_none o j some f) (against o j some e f line up of) first second in
+    let all = both_rests (spans e j) (spans f j) _ _ (sum_among o j some (e ∷ [])) (sum_among o j some (f ∷ []))
+    (single_none o j some e) (single_none o j some f) (against o j some e f line up of) first second in
     rw (
-      sum_append o j some (option_to_list (part_below f.y0 e)) (option_to_list (part_below e.y0 f) ++ (option_to_list (part_above f.y1 e) ++ option_to_list (part_above e.y1 f))),
+      sum_append o j some (option_to_list (part_below f.y0 e))
+          (option_to_list (part_below e.y0 f)
+          ++ (option_to_list (part_above f.y1 e) ++ option_to_list (part_above e.y1 f))),
       sum_append o j some (option_to_list (part_below e.y0 f)) (option_to_list (part_above f.y1 e) ++ option_to_list (part_above e.y1 f)),
       sum_append o j some (option_to_list (part_above f.y1 e)) (option_to_list (part_above e.y1 f)),
       sum_cons o j some e (f ∷ []),
@@ -183,7 +199,8 @@ add_right e o j some = rw (sum_nil o j some) (omega (arith, ints))
 -- ---- the sides
 
 module _ (P : EdgeParts → Type 0) where
-  part_has : (e : EdgeParts) (low high : ℤ) (b : Bool) → int_lt low high ≡ b → (low <ℤ high → P (over e low high)) → All P (option_to_list (cond b (Some (over e low high)) None))
+  part_has : (e : EdgeParts) (low high : ℤ) (b : Bool) → int_lt low high ≡ b → (low <ℤ high → P (over e low high))
+      → All P (option_to_list (cond b (Some (over e low high)) None))
   part_has e low high true h k = All-cons P (over e low high) [] (k (grind (arith, ints))) (All-nil P)
   part_has e low high false h k = All-nil P
 
@@ -195,16 +212,19 @@ module _ (P : EdgeParts → Type 0) where
 
 module _ (x c y : ℤ) (e : EdgeParts) where
   pub rising_left : e.line ≡ Rising c → y ≡ x -ℤ (c +ℤ c) → All (LiesLeft x) (option_to_list (part_below y e))
-  rising_left line at = part_has (LiesLeft x) e e.y0 (int_min e.y1 y) _ refl (λ lt j s. (let below = s.below in rw line (omega (arith, ints, clamps, below, at))))
+  rising_left line at = part_has (LiesLeft x) e e.y0 (int_min e.y1 y) _ refl
+      (λ lt j s. (let below = s.below in rw line (omega (arith, ints, clamps, below, at))))
 
   pub rising_right : e.line ≡ Rising c → y ≡ x -ℤ (c +ℤ c) → All (LiesRight x) (option_to_list (part_above y e))
-  rising_right line at = part_has (LiesRight x) e (int_max e.y0 y) e.y1 _ refl (λ lt j s. (let from = s.from in rw line (omega (arith, ints, clamps, from, at))))
+  rising_right line at = part_has (LiesRight x) e (int_max e.y0 y) e.y1 _ refl
+      (λ lt j s. (let from = s.from in rw line (omega (arith, ints, clamps, from, at))))
 
   pub falling_left : e.line ≡ Falling c → y ≡ (c +ℤ c) -ℤ x → All (LiesLeft x) (option_to_list (part_above y e))
   falling_left line at = part_has (LiesLeft x) e (int_max e.y0 y) e.y1 _ refl (λ lt j s. (let from = s.from in rw line (omega (arith, ints, clamps, from, at))))
 
   pub falling_right : e.line ≡ Falling c → y ≡ (c +ℤ c) -ℤ x → All (LiesRight x) (option_to_list (part_below y e))
-  falling_right line at = part_has (LiesRight x) e e.y0 (int_min e.y1 y) _ refl (λ lt j s. (let below = s.below in rw line (omega (arith, ints, clamps, below, at))))
+  falling_right line at = part_has (LiesRight x) e e.y0 (int_min e.y1 y) _ refl
+      (λ lt j s. (let below = s.below in rw line (omega (arith, ints, clamps, below, at))))
 
 -- ---- the row in which a line passes the cut
 
@@ -214,15 +234,31 @@ fits n h = let low = h.low in let high = h.high in omega (arith, ints)
 twice_fits : (n : ℤ) → IsWithinReach n → FitsSigned w64 (pos 2 *ℤ n)
 twice_fits n h = let low = h.low in let high = h.high in omega (arith, ints)
 
-pub rising_level : (x c : ℤ) → IsWithinReach x → IsWithinReach c → to_z w64 (of_z w64 (to_z w64 (of_z w64 x) -ℤ to_z w64 (of_z w64 (pos 2 *ℤ to_z w64 (of_z w64 c))))) ≡ x -ℤ (c +ℤ c)
+pub rising_level : (x c : ℤ) → IsWithinReach x → IsWithinReach c
+    → to_z w64 (of_z w64 (to_z w64 (of_z w64 x) -ℤ to_z w64 (of_z w64 (pos 2 *ℤ to_z w64 (of_z w64 c)))))
+    ≡ x -ℤ (c +ℤ c)
 rising_level x c hx hc =
     let all : FitsSigned w64 (x -ℤ (pos 2 *ℤ c)) = (let a = hx.low in let b = hx.high in let d = hc.low in let e = hc.high in omega (arith, ints)) in
-    rw (to_z-of_z w64 x (fits x hx), to_z-of_z w64 c (fits c hc), to_z-of_z w64 (pos 2 *ℤ c) (twice_fits c hc), to_z-of_z w64 (x -ℤ (pos 2 *ℤ c)) all) (omega (arith, ints))
+    rw (
+      to_z-of_z w64 x (fits x hx),
+      to_z-of_z w64 c (fits c hc),
+      to_z-of_z w64 (pos 2 *ℤ c)
+          (twice_fits c hc),
+      to_z-of_z w64 (x -ℤ (pos 2 *ℤ c)) all,
+    ) (omega (arith, ints))
 
-pub falling_level : (x c : ℤ) → IsWithinReach x → IsWithinReach c → to_z w64 (of_z w64 (to_z w64 (of_z w64 (pos 2 *ℤ to_z w64 (of_z w64 c))) -ℤ to_z w64 (of_z w64 x))) ≡ (c +ℤ c) -ℤ x
+pub falling_level : (x c : ℤ) → IsWithinReach x → IsWithinReach c
+    → to_z w64 (of_z w64 (to_z w64 (of_z w64 (pos 2 *ℤ to_z w64 (of_z w64 c))) -ℤ to_z w64 (of_z w64 x)))
+    ≡ (c +ℤ c) -ℤ x
 falling_level x c hx hc =
     let all : FitsSigned w64 ((pos 2 *ℤ c) -ℤ x) = (let a = hx.low in let b = hx.high in let d = hc.low in let e = hc.high in omega (arith, ints)) in
-    rw (to_z-of_z w64 x (fits x hx), to_z-of_z w64 c (fits c hc), to_z-of_z w64 (pos 2 *ℤ c) (twice_fits c hc), to_z-of_z w64 ((pos 2 *ℤ c) -ℤ x) all) (omega (arith, ints))
+    rw (
+      to_z-of_z w64 x (fits x hx),
+      to_z-of_z w64 c (fits c hc),
+      to_z-of_z w64 (pos 2 *ℤ c)
+          (twice_fits c hc),
+      to_z-of_z w64 ((pos 2 *ℤ c) -ℤ x) all,
+    ) (omega (arith, ints))
 
 pub same_line : (c d : ℤ) (l m : Line) → first_strip l ≡ c → first_strip m ≡ d → l ≡ m → c ≡ d
 same_line c d l m h k e = sym h ∙ (ap (λ (n : Line). first_strip n) e ∙ k)

@@ -55,13 +55,15 @@ place_left_below : (l : Line) (j y b : ℤ) → y ≡ j +ℤ pos 1 → x_on l y 
 place_left_below l j y b e h = let m = moves_left l j in let k : x_on l (j +ℤ pos 1) <ℤ b = rw e at h in omega (arith, ints, k, m)
 
 -- a tile with a number between the doubled sides is in the column
-in_column : (from to : ℤ) (t : Tile) (low high : ℤ) → (from +ℤ from) <ℤ low → high <ℤ (to +ℤ to) → (low -ℤ pos 1) ≤ℤ number_in_row t → number_in_row t ≤ℤ high → IsInColumn from to t
+in_column : (from to : ℤ) (t : Tile) (low high : ℤ) → (from +ℤ from) <ℤ low → high <ℤ (to +ℤ to)
+    → (low -ℤ pos 1) ≤ℤ number_in_row t → number_in_row t ≤ℤ high → IsInColumn from to t
 in_column from to t low high a b c d = record {
   from_left = right_of_side from t (omega (arith, ints, a, c));
   below_right = left_of_side to t (omega (arith, ints, b, d));
 }
 
-module _ (area : Tile → Type 0) (window : RowRange) (from to : ℤ) (z : Trapezoid) (m : IsMaximal (PartIn from to area) window z) (s : IsStrictlyInside from to z) where
+module _ (area : Tile → Type 0) (window : RowRange) (from to : ℤ) (z : Trapezoid)
+    (m : IsMaximal (PartIn from to area) window z) (s : IsStrictlyInside from to z) where
   left_side : (y : ℤ) → z.y0 ≤ℤ y → y ≤ℤ z.y1 → from <ℤ x_on z.left y
   left_side y a b = right_between z.left z.y0 z.y1 y from a b s.bottom_left s.top_left
 
@@ -85,7 +87,8 @@ module _ (area : Tile → Type 0) (window : RowRange) (from to : ℤ) (z : Trape
       }
 
   -- a run of the area just above or just below lies in the column too
-  part_run : (j : ℤ) → (from +ℤ from) <ℤ place z.left j → place z.right j <ℤ (to +ℤ to) → IsRunAt area z.left z.right j → IsRunAt (PartIn from to area) z.left z.right j
+  part_run : (j : ℤ) → (from +ℤ from) <ℤ place z.left j → place z.right j <ℤ (to +ℤ to) → IsRunAt area z.left z.right j
+      → IsRunAt (PartIn from to area) z.left z.right j
   part_run j low high run = record {
     has_tile = run.has_tile;
     inside = λ t e f g. (in_column from to t (place z.left j) (place z.right j) low high (omega (arith, ints, f)) (omega (arith, ints, g)), run.inside t e f g);

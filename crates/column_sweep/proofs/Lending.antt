@@ -18,7 +18,8 @@ use Rattle.column_sweep.specs.declared.lowest_tile.LowestTile.{LowestTile}
 no_winding : IsWinding (pos 0)
 no_winding = record { low = omega (arith, ints); high = omega (arith, ints) }
 
-as_taken : (post : ℤ → ℤ → Bool → Type 0) (a b : ℤ) (answer other : Bool) → post a b answer → ((r : Bool) → post a b r → r ≡ answer) → (IsTrue other ↔ Takes post a b) → other ≡ answer
+as_taken : (post : ℤ → ℤ → Bool → Type 0) (a b : ℤ) (answer other : Bool) → post a b answer
+    → ((r : Bool) → post a b r → r ≡ answer) → (IsTrue other ↔ Takes post a b) → other ≡ answer
 as_taken post a b true other is only h = h.1 is
 as_taken post a b false true is only h = only true (h.0 refl)
 as_taken post a b false false is only h = refl
@@ -56,7 +57,8 @@ module _ (post : ℤ → ℤ → Bool → Type 0) (gives : ℤ → ℤ → Bool 
     covers = record { once = λ t a. h.covers.once t (taken_lent edges window t a); never = λ t no. h.covers.never t (λ a. no (lent_taken edges window t a)) };
   }
 
-  pub lent_first : (edges : List EdgeParts) (window : RowRange) (answer : Option LowestTile) → IsFirstTaken gives edges window answer → IsFirstTaken post edges window answer
+  pub lent_first : (edges : List EdgeParts) (window : RowRange) (answer : Option LowestTile)
+      → IsFirstTaken gives edges window answer → IsFirstTaken post edges window answer
   lent_first edges window None none = λ t taken. none t (taken_lent edges window t taken)
   lent_first edges window (Some found) lowest = record {
     taken = lent_taken edges window found.tile lowest.taken;

@@ -1,5 +1,6 @@
 -- The lowest tile that a rule takes, by the slabs of a scan.
-use Rattle.std.proofs.Common.{Option, Some, None, IfNone, ◌≡◌, ℤ, pos, ◌+ℤ◌, ◌≤ℤ◌, ◌<ℤ◌, ◌<◌, IsPermutation, Bool, arith, refl, sym, ◌∙◌, List, [], ◌∷◌, length, get_or, All}
+use Rattle.std.proofs.Common.{Option, Some, None, IfNone, ◌≡◌, ℤ, pos, ◌+ℤ◌, ◌≤ℤ◌, ◌<ℤ◌, ◌<◌, IsPermutation, Bool}
+use Rattle.std.proofs.Common.{arith, refl, sym, ◌∙◌, List, [], ◌∷◌, length, get_or, All}
 use Rattle.std.proofs.lemmas.Int.{ints, by_lt_z}
 use Rattle.std.proofs.lemmas.List.Elements.{All-head, All-cons, All-weaker, All-contains}
 use mathlib.Core.Logic.{inl, inr}
@@ -34,7 +35,8 @@ line_reach_between (Falling c) y0 y1 y a b l h = record { low = omega (arith, in
 
 -- the Y above the lowest row of a shot is within reach, and its left line there
 pub next_row_reach : (y0 y1 : ℤ) (l r : Line) → IsShot (trapezoid y0 y1 l r) → IsWithinReach (y0 +ℤ pos 1)
-next_row_reach y0 y1 l r s = let rows = s.legal.has_rows in reach_between y0 y1 (y0 +ℤ pos 1) s.reach.y0 s.reach.y1 (omega (arith, ints)) (omega (arith, ints, rows))
+next_row_reach y0 y1 l r s = let rows = s.legal.has_rows in reach_between y0 y1 (y0 +ℤ pos 1) s.reach.y0 s.reach.y1
+    (omega (arith, ints)) (omega (arith, ints, rows))
 
 pub left_reach : (y0 y1 : ℤ) (l r : Line) → IsShot (trapezoid y0 y1 l r) → IsWithinReach (x_on l (y0 +ℤ pos 1))
 left_reach y0 y1 l r s =
@@ -47,7 +49,8 @@ begin_no_further_left : (j : ℤ) (run : Run) (runs : List Run) → StandApart j
 begin_no_further_left j run runs apart =
     let own = apart.0 in
     All-cons (λ (n : Run). place run.left j ≤ℤ place n.left j) run runs (omega (arith, ints))
-    (All-weaker (λ (n : Run). place run.right j <ℤ place n.left j) (λ (n : Run). place run.left j ≤ℤ place n.left j) (λ n h. omega (arith, ints, own, h)) runs apart.1)
+    (All-weaker (λ (n : Run). place run.right j <ℤ place n.left j) (λ (n : Run). place run.left j ≤ℤ place n.left j)
+    (λ n h. omega (arith, ints, own, h)) runs apart.1)
 
 -- the first of the runs is the one at index 0
 pub first_is : (run : Run) (runs : List Run) → 0 < length runs → run ≡ get_or runs 0 run → (later : List Run) × (runs ≡ run ∷ later)
@@ -60,15 +63,18 @@ module _ (post : ℤ → ℤ → Bool → Type 0) (edges : List EdgeParts) (wind
   TakesNoneBelow y = TakesNone post edges (row_range window.y0 y)
 
   -- a tile that is taken stands no further left in its row than the first run
-  not_left_of_first : (j : ℤ) (run : Run) (later : List Run) (t : Tile) → AreRuns post edges j (run ∷ later) → t.j ≡ j → IsTaken post edges t → place run.left j ≤ℤ number_in_row t
+  not_left_of_first : (j : ℤ) (run : Run) (later : List Run) (t : Tile) → AreRuns post edges j (run ∷ later) → t.j ≡ j
+      → IsTaken post edges t → place run.left j ≤ℤ number_in_row t
   not_left_of_first j run later t are e taken =
       let some = some_member (RunHas t) (run ∷ later) ((are.taken t e).0 taken) in
       let left = All-contains (λ (n : Run). place run.left j ≤ℤ place n.left j) (run ∷ later) some.0 (begin_no_further_left j run later are.apart) some.1 in
       let from : place some.0.left j ≤ℤ number_in_row t = rw (← e) some.2.from_left in
       omega (arith, ints, left, from)
 
-  module _ (slab : RowRange) (run : Run) (later : List Run) (tile : Tile) (y : ℤ) (from : slab.y0 ≡ y) (has_rows : slab.y0 <ℤ slab.y1) (within : IsWithin window slab)
-      (are : AreRunsOfSlab post edges slab (run ∷ later)) (none : TakesNoneBelow y) (row : tile.j ≡ slab.y0) (number : number_in_row tile ≡ place run.left slab.y0) where
+  module _ (slab : RowRange) (run : Run) (later : List Run) (tile : Tile) (y : ℤ) (from : slab.y0 ≡ y)
+      (has_rows : slab.y0 <ℤ slab.y1) (within : IsWithin window slab)
+      (are : AreRunsOfSlab post edges slab (run ∷ later)) (none : TakesNoneBelow y) (row : tile.j ≡ slab.y0)
+      (number : number_in_row tile ≡ place run.left slab.y0) where
     first_row : AreRuns post edges slab.y0 (run ∷ later)
     first_row = are.rows slab.y0 (omega (arith, ints)) has_rows
 
@@ -115,9 +121,20 @@ module _ {F : Type 0} (post : F → ℤ → ℤ → Bool → Type 0) where
       → (found : LowestTile) → IsLowest (post own) edges range found → IsLowest (post rule) others window found
   lowest_of_given rule own edges others window range r same w found h =
       let here : IsLowest (post rule) edges window found = rw (r, w) at h in
-      let to : (t : Tile) → IsTakenIn (post rule) others window t → IsTakenIn (post rule) edges window t = λ t taken. record { from = taken.from; below = taken.below; taken = (taken_permuted (post rule) edges others t same).1 taken.taken } in
+      let to : (t : Tile) → IsTakenIn (post rule) others window t → IsTakenIn (post rule) edges window t = λ t taken.
       record {
-        taken = record { from = here.taken.from; below = here.taken.below; taken = (taken_permuted (post rule) edges others found.tile same).0 here.taken.taken };
+        from = taken.from;
+        below = taken.below;
+        taken =
+            (taken_permuted (post rule) edges others t same).1 taken.taken;
+      } in
+      record {
+        taken = record {
+          from = here.taken.from;
+          below = here.taken.below;
+          taken =
+              (taken_permuted (post rule) edges others found.tile same).0 here.taken.taken;
+        };
         a = here.a ∙ sym (winding_permuted A edges others found.tile same);
         b = here.b ∙ sym (winding_permuted B edges others found.tile same);
         first = λ t taken. here.first t (to t taken);
@@ -125,9 +142,11 @@ module _ {F : Type 0} (post : F → ℤ → ℤ → Bool → Type 0) where
 
   -- the first run of a slab, above rows of which the rule takes no tile
   pub lowest_in_slab : (rule own : F) (edges others : List EdgeParts) (window range : RowRange) → own ≡ rule → others ≡ edges → range ≡ window
-      → (y y0 y1 : ℤ) → y0 ≡ y → y0 <ℤ y1 → IsWithin range (row_range y0 y1) → (runs given : List Run) → AreRunsOfSlab (post own) others (row_range y0 y1) runs → given ≡ runs
+      → (y y0 y1 : ℤ) → y0 ≡ y → y0 <ℤ y1 → IsWithin range (row_range y0 y1) → (runs given : List Run)
+      → AreRunsOfSlab (post own) others (row_range y0 y1) runs → given ≡ runs
       → (run : Run) → 0 < length given → run ≡ get_or given 0 run → TakesNoneBelow (post rule) edges window y
-      → (found : LowestTile) → found.tile.j ≡ y0 → number_in_row found.tile ≡ place run.left y0 → found.a ≡ run.a → found.b ≡ run.b → IsLowest (post rule) edges window found
+      → (found : LowestTile) → found.tile.j ≡ y0 → number_in_row found.tile ≡ place run.left y0 → found.a ≡ run.a
+      → found.b ≡ run.b → IsLowest (post rule) edges window found
   lowest_in_slab rule own edges others window range r e w y y0 y1 from has_rows within runs given are same run some is none found row number a b =
       let first = first_is run given some is in
       let slab_runs : AreRunsOfSlab (post rule) edges (row_range y0 y1) (run ∷ first.0) = rw (r, e, ← same, first.1) at are in

@@ -37,7 +37,8 @@ pub record WindInColumn (window : RowRange) (from x : ℤ) (edges own : List Edg
 takes_as : (post : ℤ → ℤ → Bool → Type 0) (a b c d : ℤ) → a ≡ c → b ≡ d → Takes post a b → Takes post c d
 takes_as post a b c d h k t = subst (λ (x : ℤ). Takes post x d) h (subst (λ (y : ℤ). Takes post a y) k t)
 
-module _ (pre : ℤ → ℤ → Type 0) (post : ℤ → ℤ → Bool → Type 0) (rule : IsRule pre post) (window : RowRange) (from x : ℤ) (edges own : List EdgeParts) (winds : WindInColumn window from x edges own) where
+module _ (pre : ℤ → ℤ → Type 0) (post : ℤ → ℤ → Bool → Type 0) (rule : IsRule pre post) (window : RowRange)
+    (from x : ℤ) (edges own : List EdgeParts) (winds : WindInColumn window from x edges own) where
   not_taken : (t : Tile) → edges_winding A own t ≡ pos 0 → edges_winding B own t ≡ pos 0 → IsTakenIn post own window t → ⊥
   not_taken t a b h = takes_no_nothing pre post rule (takes_as post _ _ (pos 0) (pos 0) a b h.taken)
 
@@ -50,22 +51,38 @@ module _ (pre : ℤ → ℤ → Type 0) (post : ℤ → ℤ → Bool → Type 0)
   pub own_to_area : (t : Tile) → IsTakenIn post own window t → IsTakenIn post edges window t
   own_to_area t h =
       let c = column_of t h in
-      record { from = h.from; below = h.below; taken = takes_as post (edges_winding A own t) (edges_winding B own t) (edges_winding A edges t) (edges_winding B edges t) (winds.same A t h.from h.below c) (winds.same B t h.from h.below c) h.taken }
+      record {
+        from = h.from;
+        below = h.below;
+        taken = takes_as post (edges_winding A own t) (edges_winding B own t)
+            (edges_winding A edges t) (edges_winding B edges t) (winds.same A t h.from h.below c)
+            (winds.same B t h.from h.below c) h.taken;
+      }
 
   pub area_to_own : (t : Tile) → IsInColumn from x t → IsTakenIn post edges window t → IsTakenIn post own window t
   area_to_own t c h =
-      record { from = h.from; below = h.below; taken = takes_as post (edges_winding A edges t) (edges_winding B edges t) (edges_winding A own t) (edges_winding B own t) (sym (winds.same A t h.from h.below c)) (sym (winds.same B t h.from h.below c)) h.taken }
+      record {
+        from = h.from;
+        below = h.below;
+        taken = takes_as post (edges_winding A edges t)
+            (edges_winding B edges t) (edges_winding A own t) (edges_winding B own t)
+            (sym (winds.same A t h.from h.below c)) (sym (winds.same B t h.from h.below c)) h.taken;
+      }
 
   -- with the trapezoids of the column the area is swept up to its right side
-  pub further : (low : ℤ) → low ≤ℤ from → from <ℤ x → (finals seams insides crossings : List Trapezoid) → AreSweptTo (IsTakenIn post edges window) window low from finals seams
-      → AreSweptIn (IsTakenIn post own window) window from x insides crossings → AreSweptTo (IsTakenIn post edges window) window low x (finals ++ insides) (seams ++ crossings)
+  pub further : (low : ℤ) → low ≤ℤ from → from <ℤ x → (finals seams insides crossings : List Trapezoid)
+      → AreSweptTo (IsTakenIn post edges window) window low from finals seams
+      → AreSweptIn (IsTakenIn post own window) window from x insides crossings
+      → AreSweptTo (IsTakenIn post edges window) window low x (finals ++ insides) (seams ++ crossings)
   further low low_from from_x finals seams insides crossings before part =
       column_swept (IsTakenIn post edges window) (IsTakenIn post own window) window low from x low_from from_x column_of own_to_area area_to_own
       finals seams part.traps insides crossings before part.joined part.covers part.sorted
 
   -- the same where those of the column were put behind those before
-  pub further_behind : (low : ℤ) → low ≤ℤ from → from <ℤ x → (finals seams all_finals all_seams : List Trapezoid) → AreSweptTo (IsTakenIn post edges window) window low from finals seams
-      → AreSweptBehind (IsSwept post own window) from x finals seams all_finals all_seams → AreSweptTo (IsTakenIn post edges window) window low x all_finals all_seams
+  pub further_behind : (low : ℤ) → low ≤ℤ from → from <ℤ x → (finals seams all_finals all_seams : List Trapezoid)
+      → AreSweptTo (IsTakenIn post edges window) window low from finals seams
+      → AreSweptBehind (IsSwept post own window) from x finals seams all_finals all_seams
+      → AreSweptTo (IsTakenIn post edges window) window low x all_finals all_seams
   further_behind low low_from from_x finals seams all_finals all_seams before part =
       rw (part.sorted.finals_are, part.sorted.seams_are)
       (further low low_from from_x finals seams part.sorted.insides part.sorted.crossings before
@@ -73,7 +90,9 @@ module _ (pre : ℤ → ℤ → Type 0) (post : ℤ → ℤ → Bool → Type 0)
 
 -- ---- a column between two cuts
 
-module _ (edges rest later own beyond : List EdgeParts) (from x : ℤ) (from_x : from <ℤ x) (right : All (LiesRight x) later) (left : AreLeft from edges (rest ++ later)) (parts : AreParts x rest own beyond) where
+module _ (edges rest later own beyond : List EdgeParts) (from x : ℤ) (from_x : from <ℤ x)
+    (right : All (LiesRight x) later) (left : AreLeft from edges (rest ++ later))
+    (parts : AreParts x rest own beyond) where
   rest_left : (o : Operand) (t : Tile) → t.i <ℤ x → edges_winding o own t ≡ edges_winding o (rest ++ later) t
   rest_left o t lt =
       let none = left_of_right o x t later right lt in
@@ -140,7 +159,9 @@ first_left edges waiting same known = record {
 pub rest_balanced : (from : ℤ) (edges rest : List EdgeParts) (window : RowRange) → AreLeft from edges rest → IsBalanced edges window → IsBalanced rest window
 rest_balanced from edges rest window left h = λ o j a b. balanced_by_sum o j rest (left.sums o j ∙ sum_by_balance o j edges (h o j a b))
 
-pub last_winds : (window : RowRange) (from : ℤ) (edges rest : List EdgeParts) → from <ℤ pos (2 ^ 44 + 1) → All IsEdge edges → IsBalanced edges window → AreLeft from edges rest → WindInColumn window from (pos (2 ^ 44 + 1)) edges rest
+pub last_winds : (window : RowRange) (from : ℤ) (edges rest : List EdgeParts) → from <ℤ pos (2 ^ 44 + 1)
+    → All IsEdge edges → IsBalanced edges window → AreLeft from edges rest
+    → WindInColumn window from (pos (2 ^ 44 + 1)) edges rest
 last_winds window from edges rest from_x known balanced left = record {
   same = λ o t _ _ c. left.same o t c.from_left;
   left = λ o t _ _ lt. left.nothing o t lt;
@@ -152,12 +173,14 @@ last_winds window from edges rest from_x known balanced left = record {
 module _ (pre : ℤ → ℤ → Type 0) (post : ℤ → ℤ → Bool → Type 0) (rule : IsRule pre post) (window : RowRange) (edges : List EdgeParts) where
   pub none_before : All IsEdge edges → (t : Tile) → t.i <ℤ negsuc (2 ^ 44) → IsTakenIn post edges window t → ⊥
   none_before known t lt h =
-      let none : (o : Operand) → edges_winding o edges t ≡ pos 0 = λ o. left_of_right o (negsuc (2 ^ 44)) t edges (All-weaker IsEdge (LiesRight (negsuc (2 ^ 44))) edge_right edges known) lt in
+      let none : (o : Operand) → edges_winding o edges t ≡ pos 0 = λ o. left_of_right o (negsuc (2 ^ 44)) t edges
+      (All-weaker IsEdge (LiesRight (negsuc (2 ^ 44))) edge_right edges known) lt in
       takes_no_nothing pre post rule (takes_as post _ _ (pos 0) (pos 0) (none A) (none B) h.taken)
 
   pub none_behind : All IsEdge edges → IsBalanced edges window → (t : Tile) → IsTakenIn post edges window t → t.i <ℤ pos (2 ^ 44 + 1)
   none_behind known balanced t h =
       by_lt_z t.i (pos (2 ^ 44 + 1)) (λ lt. lt)
-      (λ ge. (let none : (o : Operand) → edges_winding o edges t ≡ pos 0 = λ o. right_of_left o (pos (2 ^ 44 + 1)) t edges (All-weaker IsEdge (LiesLeft (pos (2 ^ 44 + 1))) edge_left edges known) ge
+      (λ ge. (let none : (o : Operand) → edges_winding o edges t ≡ pos 0 = λ o. right_of_left o
+      (pos (2 ^ 44 + 1)) t edges (All-weaker IsEdge (LiesLeft (pos (2 ^ 44 + 1))) edge_left edges known) ge
       ∙ sum_by_balance o t.j edges (balanced o t.j h.from h.below) in
       absurd (takes_no_nothing pre post rule (takes_as post _ _ (pos 0) (pos 0) (none A) (none B) h.taken))))

@@ -1,5 +1,6 @@
 -- One column further: what is settled left of it stays so, and what lies strictly inside it is settled.
-use Rattle.std.proofs.Common.{◌≡◌, ℕ, suc, zero, ◌+◌, ◌<◌, ◌≤◌, ℤ, pos, ◌-ℤ◌, ◌≤ℤ◌, ◌<ℤ◌, arith, refl, sym, ap, ◌∙◌, append_assoc, append-nil, List, [], ◌∷◌, ◌++◌}
+use Rattle.std.proofs.Common.{◌≡◌, ℕ, suc, zero, ◌+◌, ◌<◌, ◌≤◌, ℤ, pos, ◌-ℤ◌, ◌≤ℤ◌, ◌<ℤ◌, arith, refl, sym, ap, ◌∙◌}
+use Rattle.std.proofs.Common.{append_assoc, append-nil, List, [], ◌∷◌, ◌++◌}
 use Rattle.std.proofs.lemmas.Int.{ints, by_lt_z}
 use Rattle.std.proofs.lemmas.List.Sums.{sum_by-append}
 use Rattle.std.proofs.lemmas.List.Elements.{All-append, All-weaker, All-contains, All-nil, All-push, Contains-append_left, Contains-push}
@@ -65,14 +66,16 @@ has_exactly window traps joined = record {
 }
 
 pub joined_member : (window : RowRange) (traps : List Trapezoid) → IsJoined window traps → (z : Trapezoid) → Contains traps z → IsMaximal (Has traps) window z
-joined_member window traps joined z h = member_maximal (Has traps) window traps (λ t. some_or_none (count_in traps t)) (has_exactly window traps joined) joined z h
+joined_member window traps joined z h = member_maximal (Has traps) window traps (λ t. some_or_none (count_in traps t))
+    (has_exactly window traps joined) joined z h
 
 by_two : (n : ℕ) {P : Type 0} → (n ≤ 1 → P) → (2 ≤ n → P) → P
 by_two zero a b = a (omega arith)
 by_two (suc zero) a b = a (omega arith)
 by_two (suc (suc n)) a b = b (omega arith)
 
-pub once_at_most : (area : Tile → Type 0) (finals seams : List Trapezoid) → CoverTogether area finals seams → (t : Tile) → count_in finals t + count_in seams t ≤ 1
+pub once_at_most : (area : Tile → Type 0) (finals seams : List Trapezoid) → CoverTogether area finals seams
+    → (t : Tile) → count_in finals t + count_in seams t ≤ 1
 once_at_most area finals seams covers t =
     by_two (count_in finals t + count_in seams t) (λ h. h)
     (λ two. (let none = covers.never t (λ a. (let one = covers.once t a in absurd (omega (arith, two, one)))) in absurd (omega (arith, two, none))))
@@ -97,8 +100,12 @@ module _ (area own : Tile → Type 0) (window : RowRange) (low from x : ℤ) (lo
   -- the column's trapezoids have only tiles of the column
   traps_within : (t : Tile) → Has traps t → IsInColumn from x t
   traps_within t h = record {
-    from_left = by_lt_z t.i from (λ lt. absurd (let none = covers.never t (λ o. (let c = (column t o).from_left in omega (arith, ints, c, lt))) in omega (arith, none, h))) (λ ge. ge);
-    below_right = by_lt_z t.i x (λ lt. lt) (λ ge. absurd (let none = covers.never t (λ o. (let c = (column t o).below_right in omega (arith, ints, c, ge))) in omega (arith, none, h)));
+    from_left = by_lt_z t.i from
+        (λ lt. absurd (let none = covers.never t
+        (λ o. (let c = (column t o).from_left in omega (arith, ints, c, lt))) in omega (arith, none, h))) (λ ge. ge);
+    below_right = by_lt_z t.i x (λ lt. lt)
+        (λ ge. absurd (let none = covers.never t
+        (λ o. (let c = (column t o).below_right in omega (arith, ints, c, ge))) in omega (arith, none, h)));
   }
 
   none_old : (t : Tile) → from ≤ℤ t.i → count_in finals t + count_in seams t ≡ 0
@@ -137,7 +144,9 @@ module _ (area own : Tile → Type 0) (window : RowRange) (low from x : ℤ) (lo
 
   newly_settled : (z : Trapezoid) → Contains traps z × IsStrictlyInside from x z → IsSettled Now window low x z
   newly_settled z s = record {
-    maximal = one_of_whole Now window from x z (same_area (Has traps) (PartIn from x Now) window new_part part_new z (joined_member window traps joined z s.0)) s.1;
+    maximal = one_of_whole Now window from x z
+        (same_area (Has traps) (PartIn from x Now) window new_part part_new z
+        (joined_member window traps joined z s.0)) s.1;
     inside = record {
       bottom_left = (let h = s.1.bottom_left in omega (arith, ints, h, low_from));
       top_left = (let h = s.1.top_left in omega (arith, ints, h, low_from));
@@ -153,14 +162,17 @@ module _ (area own : Tile → Type 0) (window : RowRange) (low from x : ℤ) (lo
   unfolding Now
   now_within t h =
       by_lt_z t.i from
-      (λ lt. (let n = total t in let none = none_new t lt in let w = before.within t (omega (arith, n, none, h)) in record { from_left = w.from_left; below_right = omega (arith, ints, lt, from_x) }))
-      (λ ge. (let n = total t in let none = none_old t ge in let w = traps_within t (omega (arith, n, none, h)) in record { from_left = omega (arith, ints, ge, low_from); below_right = w.below_right }))
+      (λ lt. (let n = total t in let none = none_new t lt in let w = before.within t (omega (arith, n, none, h)) in
+      record { from_left = w.from_left; below_right = omega (arith, ints, lt, from_x) }))
+      (λ ge. (let n = total t in let none = none_old t ge in let w = traps_within t (omega (arith, n, none, h)) in
+      record { from_left = omega (arith, ints, ge, low_from); below_right = w.below_right }))
 
   now_once : (t : Tile) → LeftOf x area t → count_in (finals ++ insides) t + count_in (seams ++ crossings) t ≡ 1
   now_once t h =
       by_lt_z t.i from
       (λ lt. (let n = total t in let none = none_new t lt in let one = before.covers.once t (h.0, lt) in omega (arith, n, none, one)))
-      (λ ge. (let n = total t in let none = none_old t ge in let one = covers.once t (to_own t (record { from_left = ge; below_right = h.1 }) h.0) in omega (arith, n, none, one)))
+      (λ ge. (let n = total t in let none = none_old t ge in let one = covers.once t
+      (to_own t (record { from_left = ge; below_right = h.1 }) h.0) in omega (arith, n, none, one)))
 
   now_never : (t : Tile) → (LeftOf x area t → ⊥) → count_in (finals ++ insides) t + count_in (seams ++ crossings) t ≡ 0
   now_never t h =
@@ -181,14 +193,16 @@ module _ (area own : Tile → Type 0) (window : RowRange) (low from x : ℤ) (lo
   }
 
 -- when all of the area lies left of the line
-pub all_sewn : (area : Tile → Type 0) (window : RowRange) (low x : ℤ) (finals seams : List Trapezoid) → AreSweptTo area window low x finals seams → AreSewn window finals seams
+pub all_sewn : (area : Tile → Type 0) (window : RowRange) (low x : ℤ) (finals seams : List Trapezoid)
+    → AreSweptTo area window low x finals seams → AreSewn window finals seams
 all_sewn area window low x finals seams h = record {
   maximal = All-weaker (IsSettled (HasTile finals seams) window low x) (IsMaximal (HasTile finals seams) window) (λ z s. s.maximal) finals h.settled;
   pieces = h.pieces;
   apart = once_at_most (LeftOf x area) finals seams h.covers;
 }
 
-pub all_covered : (area : Tile → Type 0) (window : RowRange) (low x : ℤ) (finals seams : List Trapezoid) → ((t : Tile) → area t → t.i <ℤ x) → AreSweptTo area window low x finals seams → CoverTogether area finals seams
+pub all_covered : (area : Tile → Type 0) (window : RowRange) (low x : ℤ) (finals seams : List Trapezoid)
+    → ((t : Tile) → area t → t.i <ℤ x) → AreSweptTo area window low x finals seams → CoverTogether area finals seams
 all_covered area window low x finals seams left h = record {
   once = λ t a. h.covers.once t (a, left t a);
   never = λ t no. h.covers.never t (λ k. no k.0);
@@ -217,10 +231,13 @@ last_is_there traps w = Contains-push traps w
 pub sorted_none : (from x : ℤ) → AreSorted from x [] [] []
 sorted_none from x = record { strictly_inside = All-nil (IsOneInside from x []); others = All-nil (Contains []); counts = λ t. refl }
 
-pub sorted_inside : (from x : ℤ) (traps insides crossings : List Trapezoid) (w : Trapezoid) → AreSorted from x traps insides crossings → IsStrictlyInside from x w
+pub sorted_inside : (from x : ℤ) (traps insides crossings : List Trapezoid) (w : Trapezoid)
+    → AreSorted from x traps insides crossings → IsStrictlyInside from x w
     → AreSorted from x (traps ++ w ∷ []) (insides ++ w ∷ []) crossings
 sorted_inside from x traps insides crossings w h inside = record {
-  strictly_inside = All-push (IsOneInside from x (traps ++ w ∷ [])) insides w (All-weaker (IsOneInside from x traps) (IsOneInside from x (traps ++ w ∷ [])) (still_inside from x traps w) insides h.strictly_inside) (last_is_there traps w, inside);
+  strictly_inside = All-push (IsOneInside from x (traps ++ w ∷ [])) insides w
+      (All-weaker (IsOneInside from x traps) (IsOneInside from x (traps ++ w ∷ []))
+      (still_inside from x traps w) insides h.strictly_inside) (last_is_there traps w, inside);
   others = All-weaker (Contains traps) (Contains (traps ++ w ∷ [])) (λ z k. Contains-append_left traps (w ∷ []) z k) crossings h.others;
   counts = λ t. (let before = h.counts t in let a = count_append insides (w ∷ []) t in let b = count_append traps (w ∷ []) t in omega (arith, before, a, b));
 }
@@ -229,7 +246,9 @@ pub sorted_crossing : (from x : ℤ) (traps insides crossings : List Trapezoid) 
     → AreSorted from x (traps ++ w ∷ []) insides (crossings ++ w ∷ [])
 sorted_crossing from x traps insides crossings w h = record {
   strictly_inside = All-weaker (IsOneInside from x traps) (IsOneInside from x (traps ++ w ∷ [])) (still_inside from x traps w) insides h.strictly_inside;
-  others = All-push (Contains (traps ++ w ∷ [])) crossings w (All-weaker (Contains traps) (Contains (traps ++ w ∷ [])) (λ z k. Contains-append_left traps (w ∷ []) z k) crossings h.others) (last_is_there traps w);
+  others = All-push (Contains (traps ++ w ∷ [])) crossings w
+      (All-weaker (Contains traps) (Contains (traps ++ w ∷ []))
+      (λ z k. Contains-append_left traps (w ∷ []) z k) crossings h.others) (last_is_there traps w);
   counts = λ t. (let before = h.counts t in let a = count_append crossings (w ∷ []) t in let b = count_append traps (w ∷ []) t in omega (arith, before, a, b));
 }
 
@@ -247,7 +266,8 @@ behind_none from x finals seams = record {
   sorted = sorted_none from x;
 }
 
-pub behind_inside : (from x : ℤ) (traps finals seams all_finals all_seams : List Trapezoid) (w : Trapezoid) → AreSortedBehind from x traps finals seams all_finals all_seams → IsStrictlyInside from x w
+pub behind_inside : (from x : ℤ) (traps finals seams all_finals all_seams : List Trapezoid) (w : Trapezoid)
+    → AreSortedBehind from x traps finals seams all_finals all_seams → IsStrictlyInside from x w
     → AreSortedBehind from x (traps ++ w ∷ []) finals seams (all_finals ++ w ∷ []) all_seams
 behind_inside from x traps finals seams all_finals all_seams w h inside = record {
   insides = h.insides ++ w ∷ [];
@@ -257,7 +277,8 @@ behind_inside from x traps finals seams all_finals all_seams w h inside = record
   sorted = sorted_inside from x traps h.insides h.crossings w h.sorted inside;
 }
 
-pub behind_crossing : (from x : ℤ) (traps finals seams all_finals all_seams : List Trapezoid) (w : Trapezoid) → AreSortedBehind from x traps finals seams all_finals all_seams
+pub behind_crossing : (from x : ℤ) (traps finals seams all_finals all_seams : List Trapezoid) (w : Trapezoid)
+    → AreSortedBehind from x traps finals seams all_finals all_seams
     → AreSortedBehind from x (traps ++ w ∷ []) finals seams all_finals (all_seams ++ w ∷ [])
 behind_crossing from x traps finals seams all_finals all_seams w h = record {
   insides = h.insides;
@@ -267,6 +288,8 @@ behind_crossing from x traps finals seams all_finals all_seams w h = record {
   sorted = sorted_crossing from x traps h.insides h.crossings w h.sorted;
 }
 
-pub swept_as : (AreAll AreOthers : List Trapezoid → Type 0) → ((traps : List Trapezoid) → AreAll traps → AreOthers traps) → (from x : ℤ) (finals seams all_finals all_seams : List Trapezoid)
+pub swept_as : (AreAll AreOthers : List Trapezoid → Type 0)
+    → ((traps : List Trapezoid) → AreAll traps → AreOthers traps)
+    → (from x : ℤ) (finals seams all_finals all_seams : List Trapezoid)
     → AreSweptBehind AreAll from x finals seams all_finals all_seams → AreSweptBehind AreOthers from x finals seams all_finals all_seams
 swept_as AreAll AreOthers to from x finals seams all_finals all_seams h = record { traps = h.traps; all = to h.traps h.all; sorted = h.sorted }

@@ -91,7 +91,9 @@ module _ (area : Tile → Type 0) (window : RowRange) (taken : List Trapezoid) (
       (same_run l r d.left d.right j d.y1 left right (let f = n.below_top in omega (arith, ints, f, e, ge)) (run_of_rest l r j above)))
 
   -- a run of the area whose tiles are all left is one of what is left
-  rest_run : (l r : Line) (j : ℤ) → IsRunAt area l r j → ((t : Tile) → t.j ≡ j → place l t.j ≤ℤ number_in_row t → number_in_row t <ℤ place r t.j → IsFree taken t) → IsRunAt (Rest area taken) l r j
+  rest_run : (l r : Line) (j : ℤ) → IsRunAt area l r j
+      → ((t : Tile) → t.j ≡ j → place l t.j ≤ℤ number_in_row t → number_in_row t <ℤ place r t.j → IsFree taken t)
+      → IsRunAt (Rest area taken) l r j
   rest_run l r j run free = record {
     has_tile = run.has_tile;
     inside = λ t e f g. (run.inside t e f g, free t e (rw e f) (rw e g));
@@ -109,7 +111,10 @@ module _ (area : Tile → Type 0) (window : RowRange) (taken : List Trapezoid) (
         legal = m.legal;
         in_window = m.in_window;
         runs = λ j a b. run_of_rest z.left z.right j (m.runs j a b);
-        top = λ lt run. m.top lt (rest_run z.left z.right z.y1 run (λ t e. above_free z.left z.right (z.y1 -ℤ pos 1) t (omega (arith, ints, rows, low)) (omega (arith, ints, e))
+        top = λ lt run. m.top lt
+            (rest_run z.left z.right z.y1 run
+            (λ t e. above_free z.left z.right (z.y1 -ℤ pos 1) t (omega (arith, ints, rows, low))
+            (omega (arith, ints, e))
             (m.runs (z.y1 -ℤ pos 1) (omega (arith, ints, rows)) (omega (arith, ints))) (subst (IsRunAt area z.left z.right) (sym e) run)));
         bottom = λ lt run. m.bottom lt (rest_run z.left z.right (z.y0 -ℤ pos 1) run (λ t e. below_free z.left z.right z.y0 t (omega (arith, ints, rows, high)) e
             (m.runs z.y0 (omega (arith, ints)) rows) (subst (IsRunAt area z.left z.right) (sym e) run)));

@@ -1,5 +1,6 @@
 -- The levels at which sums over rows change, and upright edges made of them.
-use Rattle.std.proofs.Common.{◌≡◌, ℕ, ◌+◌, Bool, true, false, ◌&&◌, not, ℤ, pos, ◌+ℤ◌, ◌-ℤ◌, ◌≤ℤ◌, ◌<ℤ◌, arith, refl, sym, ap, ◌∙◌, subst, cond, List, [], ◌∷◌, ◌++◌, Option, Some, None, length}
+use Rattle.std.proofs.Common.{◌≡◌, ℕ, ◌+◌, Bool, true, false, ◌&&◌, not, ℤ, pos, ◌+ℤ◌, ◌-ℤ◌, ◌≤ℤ◌, ◌<ℤ◌, arith, refl}
+use Rattle.std.proofs.Common.{sym, ap, ◌∙◌, subst, cond, List, [], ◌∷◌, ◌++◌, Option, Some, None, length}
 use Rattle.std.proofs.lemmas.Int.{ints, by_lt_z}
 use Rattle.std.proofs.lemmas.List.{length-append}
 use Rattle.std.proofs.lemmas.List.Sums.{sum_by-append}
@@ -96,7 +97,8 @@ module _ (o : Operand) (j : ℤ) (e : EdgeParts) (is : IsEdge e) (own : is_of o 
       let here = above_bottom (int_le e.y0 j) (int_le e.y1 j) (lower_first e.y0 e.y1 j is.has_rows) in
       rw (height_one j r f, sum_one o j any_line e, own, up, spans_as, low, high) (rw here (omega (arith, ints)))
 
-pair_steps : (sum : ℤ → ℤ) (r f : Level) → IsWithinReach r.y → IsWithinReach f.y → ((j : ℤ) → height j (r ∷ []) (f ∷ []) ≡ sum j) → AreSteps sum (r ∷ []) (f ∷ [])
+pair_steps : (sum : ℤ → ℤ) (r f : Level) → IsWithinReach r.y → IsWithinReach f.y
+    → ((j : ℤ) → height j (r ∷ []) (f ∷ []) ≡ sum j) → AreSteps sum (r ∷ []) (f ∷ [])
 pair_steps sum r f hr hf h = record {
   sums = h;
   as_many = refl;
@@ -137,7 +139,8 @@ none_of o j e h = sum_one o j any_line e ∙ (rw h refl)
 
 pub steps_skip : (o : Operand) (sum : ℤ → ℤ) (e : EdgeParts) (rises falls : List Level) → AreSteps sum rises falls
     → is_of o e.operand ≡ false → AreSteps (λ j. sum j +ℤ row_sum o j (e ∷ [])) rises falls
-steps_skip o sum e rises falls h other = steps_as sum (λ j. sum j +ℤ row_sum o j (e ∷ [])) rises falls (λ j. (let none = none_of o j e other in omega (arith, ints, none))) h
+steps_skip o sum e rises falls h other = steps_as sum (λ j. sum j +ℤ row_sum o j (e ∷ [])) rises falls
+    (λ j. (let none = none_of o j e other in omega (arith, ints, none))) h
 
 -- ---- what is left of a list
 
@@ -153,24 +156,29 @@ steps_begin o edges = record {
   falls_within = All-nil Within;
 }
 
-pub steps_go_on : (o : Operand) (edges : List EdgeParts) (e : EdgeParts) (rest : List EdgeParts) (rises falls : List Level) → AreSteps (λ j. sum_so_far o edges (e ∷ rest) j +ℤ row_sum o j (e ∷ [])) rises falls
+pub steps_go_on : (o : Operand) (edges : List EdgeParts) (e : EdgeParts) (rest : List EdgeParts)
+    (rises falls : List Level) → AreSteps (λ j. sum_so_far o edges (e ∷ rest) j +ℤ row_sum o j (e ∷ [])) rises falls
     → AreSteps (sum_so_far o edges rest) rises falls
 steps_go_on o edges e rest rises falls h =
-    steps_as (λ j. sum_so_far o edges (e ∷ rest) j +ℤ row_sum o j (e ∷ [])) (sum_so_far o edges rest) rises falls (λ j. (let one = sum_cons o j any_line e rest in omega (arith, ints, one))) h
+    steps_as (λ j. sum_so_far o edges (e ∷ rest) j +ℤ row_sum o j (e ∷ [])) (sum_so_far o edges rest) rises falls
+    (λ j. (let one = sum_cons o j any_line e rest in omega (arith, ints, one))) h
 
-pub steps_left : (o : Operand) (edges left rest : List EdgeParts) (rises falls : List Level) → ((j : ℤ) → row_sum o j rest ≡ row_sum o j left) → AreSteps (sum_so_far o edges left) rises falls
+pub steps_left : (o : Operand) (edges left rest : List EdgeParts) (rises falls : List Level)
+    → ((j : ℤ) → row_sum o j rest ≡ row_sum o j left) → AreSteps (sum_so_far o edges left) rises falls
     → AreSteps (sum_so_far o edges rest) rises falls
 steps_left o edges left rest rises falls same h =
     steps_as (sum_so_far o edges left) (sum_so_far o edges rest) rises falls (λ j. (let at = same j in omega (arith, ints, at))) h
 
-pub steps_all : (o : Operand) (edges left : List EdgeParts) (rises falls : List Level) → length left ≡ 0 → AreSteps (sum_so_far o edges left) rises falls → AreSteps (λ j. row_sum o j edges) rises falls
+pub steps_all : (o : Operand) (edges left : List EdgeParts) (rises falls : List Level) → length left ≡ 0
+    → AreSteps (sum_so_far o edges left) rises falls → AreSteps (λ j. row_sum o j edges) rises falls
 steps_all o edges [] rises falls none h =
     steps_as (sum_so_far o edges []) (λ j. row_sum o j edges) rises falls (λ j. (let nil = sum_nil o j any_line in omega (arith, ints, nil))) h
 steps_all o edges (e ∷ left) rises falls none h = absurd (omega (arith, none))
 
 -- ---- two edges that add up to nothing
 
-pub opposites_add : (e f : EdgeParts) → e.y0 ≡ f.y0 → e.y1 ≡ f.y1 → (e.up ≡ f.up → ⊥) → e.operand ≡ f.operand → (o : Operand) (j : ℤ) → row_sum o j (e ∷ f ∷ []) ≡ pos 0
+pub opposites_add : (e f : EdgeParts) → e.y0 ≡ f.y0 → e.y1 ≡ f.y1 → (e.up ≡ f.up → ⊥) → e.operand ≡ f.operand
+    → (o : Operand) (j : ℤ) → row_sum o j (e ∷ f ∷ []) ≡ pos 0
 opposites_add e f low high up of o j =
     let both = sum_cons o j any_line e (f ∷ []) in
     let first = sum_one o j any_line e in
@@ -179,7 +187,9 @@ opposites_add e f low high up of o j =
     let against = opposites (is_of o f.operand) (spans f j && true) e.up f.up up in
     both ∙ (rw (first, second, of, same) (omega (arith, ints, against)))
 
-pub without_opposites : (e f : EdgeParts) (rest : List EdgeParts) → ((o : Operand) (j : ℤ) → row_sum o j (e ∷ f ∷ []) ≡ pos 0) → (o : Operand) (j : ℤ) → row_sum o j rest ≡ row_sum o j (e ∷ f ∷ rest)
+pub without_opposites : (e f : EdgeParts) (rest : List EdgeParts)
+    → ((o : Operand) (j : ℤ) → row_sum o j (e ∷ f ∷ []) ≡ pos 0) → (o : Operand) (j : ℤ)
+    → row_sum o j rest ≡ row_sum o j (e ∷ f ∷ rest)
 without_opposites e f rest none o j =
     let all : row_sum o j (e ∷ f ∷ rest) ≡ row_sum o j (e ∷ f ∷ []) +ℤ row_sum o j rest = sum_append o j any_line (e ∷ f ∷ []) rest in
     let two = none o j in
@@ -197,7 +207,8 @@ same_one_of B A h = absurd (no_of_false h)
     no_of_false e = cc
 same_one_of B B h = refl
 
-pub steps_sorted : (sum : ℤ → ℤ) (rises falls rs fs : List Level) → IsPermutation rises rs → IsPermutation falls fs → AreSteps sum rises falls → AreSteps sum rs fs
+pub steps_sorted : (sum : ℤ → ℤ) (rises falls rs fs : List Level) → IsPermutation rises rs → IsPermutation falls fs
+    → AreSteps sum rises falls → AreSteps sum rs fs
 steps_sorted sum rises falls rs fs h k s = record {
   sums = λ j. height_permuted j rises falls rs fs h k ∙ s.sums j;
   as_many = length_permutation rises rs h ∙ (s.as_many ∙ sym (length_permutation falls fs k));
@@ -225,7 +236,8 @@ All-first P (x ∷ xs) ys h = All-cons P x xs (All-head P x (xs ++ ys) h) (All-f
 shorter : (a b c d : ℕ) → a + (1 + b) ≡ c + (1 + d) → a + b ≡ c + d
 shorter a b c d h = omega (arith, h)
 
-pub steps_cancel : (sum : ℤ → ℤ) (ups downs rises falls : List Level) (r f : Level) → r.y ≡ f.y → AreSteps sum (ups ++ r ∷ rises) (downs ++ f ∷ falls) → AreSteps sum (ups ++ rises) (downs ++ falls)
+pub steps_cancel : (sum : ℤ → ℤ) (ups downs rises falls : List Level) (r f : Level) → r.y ≡ f.y
+    → AreSteps sum (ups ++ r ∷ rises) (downs ++ f ∷ falls) → AreSteps sum (ups ++ rises) (downs ++ falls)
 steps_cancel sum ups downs rises falls r f same h = record {
   sums = λ j. (let all = h.sums j in
       let one = same_one j r f same in
@@ -233,16 +245,21 @@ steps_cancel sum ups downs rises falls r f same h = record {
       let first = height_cons j r f rises falls in
       rw (height_append j ups downs rises falls) (omega (arith, ints, all, one, parts, first)));
   as_many = (let n = h.as_many in
-      let m : length ups + length (r ∷ rises) ≡ length downs + length (f ∷ falls) = sym (length-append ups (r ∷ rises)) ∙ (n ∙ length-append downs (f ∷ falls)) in
+      let m : length ups + length (r ∷ rises) ≡ length downs + length (f ∷ falls) = sym (length-append ups (r ∷ rises))
+      ∙ (n ∙ length-append downs (f ∷ falls)) in
       length-append ups rises ∙ (shorter (length ups) (length rises) (length downs) (length falls) (omega (arith, m)) ∙ sym (length-append downs falls)));
-  rises_within = All-append Within ups rises (All-first Within ups (r ∷ rises) h.rises_within) (All-tail Within r rises (All-second Within ups (r ∷ rises) h.rises_within));
-  falls_within = All-append Within downs falls (All-first Within downs (f ∷ falls) h.falls_within) (All-tail Within f falls (All-second Within downs (f ∷ falls) h.falls_within));
+  rises_within = All-append Within ups rises (All-first Within ups (r ∷ rises) h.rises_within)
+      (All-tail Within r rises (All-second Within ups (r ∷ rises) h.rises_within));
+  falls_within = All-append Within downs falls (All-first Within downs (f ∷ falls) h.falls_within)
+      (All-tail Within f falls (All-second Within downs (f ∷ falls) h.falls_within));
 }
 
-pub steps_aside : (sum : ℤ → ℤ) (ups downs rises falls : List Level) (r : Level) → AreSteps sum (ups ++ r ∷ rises) (downs ++ falls) → AreSteps sum ((ups ++ r ∷ []) ++ rises) (downs ++ falls)
+pub steps_aside : (sum : ℤ → ℤ) (ups downs rises falls : List Level) (r : Level)
+    → AreSteps sum (ups ++ r ∷ rises) (downs ++ falls) → AreSteps sum ((ups ++ r ∷ []) ++ rises) (downs ++ falls)
 steps_aside sum ups downs rises falls r h = subst (λ (xs : List Level). AreSteps sum xs (downs ++ falls)) (sym (cons_append ups rises r)) h
 
-pub falls_aside : (sum : ℤ → ℤ) (ups downs rises falls : List Level) (f : Level) → AreSteps sum (ups ++ rises) (downs ++ f ∷ falls) → AreSteps sum (ups ++ rises) ((downs ++ f ∷ []) ++ falls)
+pub falls_aside : (sum : ℤ → ℤ) (ups downs rises falls : List Level) (f : Level)
+    → AreSteps sum (ups ++ rises) (downs ++ f ∷ falls) → AreSteps sum (ups ++ rises) ((downs ++ f ∷ []) ++ falls)
 falls_aside sum ups downs rises falls f h = subst (λ (xs : List Level). AreSteps sum (ups ++ rises) xs) (sym (cons_append downs falls f)) h
 
 pub same_operand : (o p q : Operand) (b c : Bool) → q ≡ p → b ≡ is_of o q → b ≡ c → is_of o p ≡ c
@@ -254,18 +271,22 @@ abbrev made : ℤ → ℤ → ℤ → Bool → Operand → EdgeParts
 made x low high up p = edge_parts low high (Upright x) up p
 
 sum_of_made : (o : Operand) (j : ℤ) (x low high : ℤ) (up : Bool) (p : Operand) → low <ℤ high → row_sum o j (made x low high up p ∷ [])
-    ≡ pos (count_one (is_of o p && (up && (int_le low j && (not (int_le high j) && true))))) -ℤ pos (count_one (is_of o p && (not up && (int_le low j && (not (int_le high j) && true)))))
+    ≡ pos (count_one (is_of o p && (up && (int_le low j && (not (int_le high j) && true))))) -ℤ pos
+    (count_one (is_of o p && (not up && (int_le low j && (not (int_le high j) && true)))))
 sum_of_made o j x low high up p lt =
-    let spanning : (spans (made x low high up p) j && true) ≡ (int_le low j && (not (int_le high j) && true)) = regroup (int_le low j) (int_lt j high) ∙ ap (λ (b : Bool). int_le low j && (b && true)) (not_yet high j) in
+    let spanning : (spans (made x low high up p) j && true) ≡ (int_le low j && (not (int_le high j) && true)) = regroup
+    (int_le low j) (int_lt j high) ∙ ap (λ (b : Bool). int_le low j && (b && true)) (not_yet high j) in
     sum_one o j any_line (made x low high up p) ∙ (rw spanning refl)
 
-up_made : (o : Operand) (j : ℤ) (x : ℤ) (p : Operand) (r f : Level) (b : Bool) → is_of o p ≡ b → r.y <ℤ f.y → row_sum o j (made x r.y f.y true p ∷ []) ≡ cond b (height j (r ∷ []) (f ∷ [])) (pos 0)
+up_made : (o : Operand) (j : ℤ) (x : ℤ) (p : Operand) (r f : Level) (b : Bool) → is_of o p ≡ b → r.y <ℤ f.y
+    → row_sum o j (made x r.y f.y true p ∷ []) ≡ cond b (height j (r ∷ []) (f ∷ [])) (pos 0)
 up_made o j x p r f true own lt =
     let here = below_top (int_le r.y j) (int_le f.y j) (lower_first r.y f.y j lt) in
     sum_of_made o j x r.y f.y true p lt ∙ (rw (own, height_one j r f) (rw here (omega (arith, ints))))
 up_made o j x p r f false own lt = sum_of_made o j x r.y f.y true p lt ∙ (rw own refl)
 
-down_made : (o : Operand) (j : ℤ) (x : ℤ) (p : Operand) (r f : Level) (b : Bool) → is_of o p ≡ b → f.y <ℤ r.y → row_sum o j (made x f.y r.y false p ∷ []) ≡ cond b (height j (r ∷ []) (f ∷ [])) (pos 0)
+down_made : (o : Operand) (j : ℤ) (x : ℤ) (p : Operand) (r f : Level) (b : Bool) → is_of o p ≡ b → f.y <ℤ r.y
+    → row_sum o j (made x f.y r.y false p ∷ []) ≡ cond b (height j (r ∷ []) (f ∷ [])) (pos 0)
 down_made o j x p r f true own lt =
     let here = above_bottom (int_le f.y j) (int_le r.y j) (lower_first f.y r.y j lt) in
     sum_of_made o j x f.y r.y false p lt ∙ (rw (own, height_one j r f) (rw here (omega (arith, ints))))
@@ -275,7 +296,8 @@ none_made : (j : ℤ) (r f : Level) (b : Bool) → r.y ≡ f.y → pos 0 ≡ con
 none_made j r f true same = sym (same_one j r f same)
 none_made j r f false same = refl
 
-made_is_edge : (x low high : ℤ) (up : Bool) (p : Operand) → IsWithinReach x → IsWithinReach low → IsWithinReach high → low <ℤ high → IsEdge (made x low high up p)
+made_is_edge : (x low high : ℤ) (up : Bool) (p : Operand) → IsWithinReach x → IsWithinReach low → IsWithinReach high
+    → low <ℤ high → IsEdge (made x low high up p)
 made_is_edge x low high up p hx hl hh lt = record { has_rows = lt; y0 = hl; y1 = hh; lower_end = hx; upper_end = hx }
 
 single_on : (x low high : ℤ) (up : Bool) (p : Operand) → All (λ e. e.line ≡ Upright x) (made x low high up p ∷ [])
@@ -341,17 +363,21 @@ summed_none x p sum rises falls h = record {
   on_line = All-nil (λ e. e.line ≡ Upright x);
 }
 
-one_further : (b : Bool) (s n one later all y : ℤ) → all ≡ one +ℤ later → (s +ℤ cond b all (pos 0)) ≡ cond b y (pos 0) → n ≡ cond b one (pos 0) → ((s +ℤ n) +ℤ cond b later (pos 0)) ≡ cond b y (pos 0)
+one_further : (b : Bool) (s n one later all y : ℤ) → all ≡ one +ℤ later → (s +ℤ cond b all (pos 0)) ≡ cond b y (pos 0)
+    → n ≡ cond b one (pos 0) → ((s +ℤ n) +ℤ cond b later (pos 0)) ≡ cond b y (pos 0)
 one_further true s n one later all y h k e = omega (arith, ints, h, k, e)
 one_further false s n one later all y h k e = omega (arith, ints, k, e)
 
-pub summed_more : (x : ℤ) (p : Operand) (sum : ℤ → ℤ) (r f : Level) (rises falls : List Level) (sums more : List EdgeParts) → AreSummed x p sum (r ∷ rises) (f ∷ falls) sums
+pub summed_more : (x : ℤ) (p : Operand) (sum : ℤ → ℤ) (r f : Level) (rises falls : List Level)
+    (sums more : List EdgeParts) → AreSummed x p sum (r ∷ rises) (f ∷ falls) sums
     → AreSumsOf x p (λ j. height j (r ∷ []) (f ∷ [])) more → AreSummed x p sum rises falls (sums ++ more)
 summed_more x p sum r f rises falls sums more h k = record {
   same = λ o j. (let before = h.same o j in
       let here = k.same o j in
       rw (sum_append o j any_line sums more)
-      (one_further (is_of o p) (row_sum o j sums) (row_sum o j more) (height j (r ∷ []) (f ∷ [])) (height j rises falls) (height j (r ∷ rises) (f ∷ falls)) (sum j) (height_cons j r f rises falls) before here));
+      (one_further (is_of o p) (row_sum o j sums) (row_sum o j more) (height j (r ∷ []) (f ∷ []))
+      (height j rises falls) (height j (r ∷ rises) (f ∷ falls)) (sum j)
+      (height_cons j r f rises falls) before here));
   on_line = All-append (λ e. e.line ≡ Upright x) sums more h.on_line k.on_line;
 }
 
@@ -363,7 +389,8 @@ no_level : (levels : List Level) → length levels ≡ 0 → levels ≡ []
 no_level [] h = refl
 no_level (f ∷ levels) h = absurd (omega (arith, h))
 
-pub summed_all : (x : ℤ) (p : Operand) (sum : ℤ → ℤ) (rises falls : List Level) (sums : List EdgeParts) → length rises ≡ 0 → ArePaired rises falls → AreSummed x p sum rises falls sums → AreSumsOf x p sum sums
+pub summed_all : (x : ℤ) (p : Operand) (sum : ℤ → ℤ) (rises falls : List Level) (sums : List EdgeParts)
+    → length rises ≡ 0 → ArePaired rises falls → AreSummed x p sum rises falls sums → AreSumsOf x p sum sums
 summed_all x p sum rises falls sums none pair h =
     let n = pair.as_many in
     let ups : rises ≡ [] = no_level rises none in
@@ -379,9 +406,12 @@ both_of : (o : Operand) (a b y : ℤ) → (o ≡ A → a ≡ y) → (o ≡ B →
 both_of A a b y h k = let e = h refl in omega (arith, ints, e)
 both_of B a b y h k = let e = k refl in omega (arith, ints, e)
 
-pub sums_both : (x : ℤ) (edges first second : List EdgeParts) → AreSumsOf x A (λ j. row_sum A j edges) first → AreSumsOf x B (λ j. row_sum B j edges) second → AreSums x edges (first ++ second)
+pub sums_both : (x : ℤ) (edges first second : List EdgeParts) → AreSumsOf x A (λ j. row_sum A j edges) first
+    → AreSumsOf x B (λ j. row_sum B j edges) second → AreSums x edges (first ++ second)
 sums_both x edges first second h k = record {
   same = λ o j. (let a = h.same o j in let b = k.same o j in
-      rw (sum_append o j any_line first second, a, b) (both_of o (row_sum A j edges) (row_sum B j edges) (row_sum o j edges) (λ e. (rw e refl)) (λ e. (rw e refl))));
+      rw (sum_append o j any_line first second, a, b)
+      (both_of o (row_sum A j edges) (row_sum B j edges) (row_sum o j edges) (λ e. (rw e refl))
+      (λ e. (rw e refl))));
   on_line = All-append (λ e. e.line ≡ Upright x) first second h.on_line k.on_line;
 }

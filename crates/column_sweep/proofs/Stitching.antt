@@ -1,5 +1,6 @@
 -- The seams of an area, swept again: what is maximal in them is maximal in the whole.
-use Rattle.std.proofs.Common.{◌≡◌, ℕ, suc, zero, ◌+◌, ◌<◌, ◌≤◌, ℤ, pos, ◌-ℤ◌, ◌≤ℤ◌, ◌<ℤ◌, Bool, true, false, ◌&&◌, not, add_comm, count_by, arith, refl, sym, ap, ◌∙◌, subst, List, [], ◌∷◌, ◌++◌}
+use Rattle.std.proofs.Common.{◌≡◌, ℕ, suc, zero, ◌+◌, ◌<◌, ◌≤◌, ℤ, pos, ◌-ℤ◌, ◌≤ℤ◌, ◌<ℤ◌, Bool, true, false, ◌&&◌, not}
+use Rattle.std.proofs.Common.{add_comm, count_by, arith, refl, sym, ap, ◌∙◌, subst, List, [], ◌∷◌, ◌++◌}
 use Rattle.std.proofs.lemmas.Int.{ints, by_lt_z}
 use Rattle.std.proofs.lemmas.List.Elements.{All-append, All-weaker, All-contains, All-nil, All-head, All-tail}
 use Rattle.std.proofs.lemmas.List.Sorted.{All-permutation, sum_by-IsPermutation}
@@ -77,7 +78,9 @@ module _ (window : RowRange) (seams : List Trapezoid) (pieces : All (IsPiece win
       record {
         from = omega (arith, ints, low, bottom);
         below = omega (arith, ints, high, top);
-        taken = subst (post (edges_winding A (flat_map (edges_of_trapezoid A) seams) t) (edges_winding B (flat_map (edges_of_trapezoid A) seams) t)) (sym (is_nonzero _ (count_in seams t) (wound t) h)) (allowed _ _);
+        taken = subst (post (edges_winding A (flat_map (edges_of_trapezoid A) seams) t)
+            (edges_winding B (flat_map (edges_of_trapezoid A) seams) t))
+            (sym (is_nonzero _ (count_in seams t) (wound t) h)) (allowed _ _);
       }
 
 -- ---- sewn again
@@ -121,7 +124,8 @@ module _ (window : RowRange) (finals seams more rest : List Trapezoid) (sewn : A
   kept z m = same_area (HasTile finals seams) (HasTile (finals ++ more) rest) window to_now from_now z m
 
   won : (z : Trapezoid) → IsMaximal (HasTile more rest) window z → IsMaximal (HasTile (finals ++ more) rest) window z
-  won z m = kept z (other_is_maximal (HasTile finals seams) window finals sewn.maximal z (same_area (HasTile more rest) (Rest (HasTile finals seams) finals) window rest_has has_rest z m))
+  won z m = kept z (other_is_maximal (HasTile finals seams) window finals sewn.maximal z
+      (same_area (HasTile more rest) (Rest (HasTile finals seams) finals) window rest_has has_rest z m))
 
   pub sewn_again : AreSewn window (finals ++ more) rest
   sewn_again = record {
@@ -137,13 +141,20 @@ module _ (window : RowRange) (finals seams more rest : List Trapezoid) (sewn : A
 
 pub joined_sewn : (window : RowRange) (traps : List Trapezoid) → IsJoined window traps → AreSewn window traps []
 joined_sewn window traps joined = record {
-  maximal = all_members (IsMaximal (HasTile traps []) window) traps (λ z h. same_area (Has traps) (HasTile traps []) window (λ t k. omega (arith, k)) (λ t k. omega (arith, k)) z (joined_member window traps joined z h));
+  maximal = all_members (IsMaximal (HasTile traps []) window) traps
+      (λ z h. same_area (Has traps) (HasTile traps []) window (λ t k. omega (arith, k)) (λ t k. omega (arith, k)) z
+      (joined_member window traps joined z h));
   pieces = All-nil (IsPiece window);
   apart = λ t. (let most = joined.apart t in omega (arith, most));
 }
 
 pub joined_covers : (area : Tile → Type 0) (traps : List Trapezoid) → CoversExactly traps area → CoverTogether area traps []
-joined_covers area traps covers = record { once = λ t a. (let n = covers.once t a in omega (arith, n)); never = λ t no. (let n = covers.never t no in omega (arith, n)) }
+joined_covers area traps covers =
+    record {
+      once = λ t a. (let n = covers.once t a in omega (arith, n));
+      never = λ t no.
+          (let n = covers.never t no in omega (arith, n));
+    }
 
 -- ---- the order of joined lists
 
@@ -153,7 +164,8 @@ counts_first t z zs h = count_by-cons (trapezoid_has t) z zs ∙ (rw h refl)
 counts_later : (t : Tile) (z : Trapezoid) (zs : List Trapezoid) → count_in zs t ≤ count_in (z ∷ zs) t
 counts_later t z zs = let all = count_by-cons (trapezoid_has t) z zs in omega (arith, all)
 
-module _ (z w : Trapezoid) (zs : List Trapezoid) (legal_z : IsLegal z) (legal_w : IsLegal w) (has : Contains zs w) (apart : (t : Tile) → count_in (z ∷ zs) t ≤ 1) where
+module _ (z w : Trapezoid) (zs : List Trapezoid) (legal_z : IsLegal z) (legal_w : IsLegal w) (has : Contains zs w)
+    (apart : (t : Tile) → count_in (z ∷ zs) t ≤ 1) where
   same_place : z.y1 ≡ w.y1 → place z.left (z.y1 -ℤ pos 1) ≡ place w.left (w.y1 -ℤ pos 1) → ⊥
   same_place top same =
       let rows_z = legal_z.has_rows in
@@ -186,7 +198,10 @@ module _ (z w : Trapezoid) (zs : List Trapezoid) (legal_z : IsLegal z) (legal_w 
 pub in_strict_order : (traps : List Trapezoid) → StandSorted traps → All IsLegal traps → ((t : Tile) → count_in traps t ≤ 1) → StandInOrder traps
 in_strict_order [] sorted legal apart = tt
 in_strict_order (z ∷ zs) sorted legal apart = (
-  all_members (StandsBefore z) zs (λ w h. before_or_same z w zs (All-head IsLegal z zs legal) (All-contains IsLegal zs w (All-tail IsLegal z zs legal) h) h apart (All-contains (StandsNotAfter z) zs w sorted.0 h)),
+  all_members (StandsBefore z) zs
+      (λ w h. before_or_same z w zs (All-head IsLegal z zs legal)
+      (All-contains IsLegal zs w (All-tail IsLegal z zs legal) h) h apart
+      (All-contains (StandsNotAfter z) zs w sorted.0 h)),
   in_strict_order zs sorted.1 (All-tail IsLegal z zs legal) (λ t. (let fewer = counts_later t z zs in let most = apart t in omega (arith, fewer, most))),
 )
 
@@ -194,7 +209,9 @@ in_strict_order (z ∷ zs) sorted legal apart = (
 
 pub permuted_sewn : (window : RowRange) (traps sorted : List Trapezoid) → IsPermutation traps sorted → AreSewn window traps [] → AreSewn window sorted []
 permuted_sewn window traps sorted same sewn = record {
-  maximal = all_members (IsMaximal (HasTile sorted []) window) sorted (λ z h. same_area (HasTile traps []) (HasTile sorted []) window (λ t k. (let n = counts t in omega (arith, n, k))) (λ t k. (let n = counts t in omega (arith, n, k))) z
+  maximal = all_members (IsMaximal (HasTile sorted []) window) sorted
+      (λ z h. same_area (HasTile traps []) (HasTile sorted []) window
+      (λ t k. (let n = counts t in omega (arith, n, k))) (λ t k. (let n = counts t in omega (arith, n, k))) z
       (All-contains (IsMaximal (HasTile traps []) window) sorted z (All-permutation (IsMaximal (HasTile traps []) window) traps sorted same sewn.maximal) h));
   pieces = All-nil (IsPiece window);
   apart = λ t. (let n = counts t in let most = sewn.apart t in omega (arith, n, most));
@@ -203,17 +220,21 @@ permuted_sewn window traps sorted same sewn = record {
     counts : (t : Tile) → count_in sorted t ≡ count_in traps t
     counts t = sum_by-IsPermutation _ traps sorted same
 
-pub permuted_count : (traps sorted : List Trapezoid) (t : Tile) → IsPermutation traps sorted → count_in sorted t + count_in [] t ≡ count_in traps t + count_in [] t
+pub permuted_count : (traps sorted : List Trapezoid) (t : Tile) → IsPermutation traps sorted
+    → count_in sorted t + count_in [] t ≡ count_in traps t + count_in [] t
 permuted_count traps sorted t same = let n : count_in sorted t ≡ count_in traps t = sum_by-IsPermutation _ traps sorted same in omega (arith, n)
 
 pub sorted_joined : (window : RowRange) (traps : List Trapezoid) → AreSewn window traps [] → StandSorted traps → IsJoined window traps
 sorted_joined window traps sewn sorted =
     maximal_joined (HasTile traps []) window traps
-    (in_strict_order traps sorted (All-weaker (IsMaximal (HasTile traps []) window) IsLegal (λ z m. m.legal) traps sewn.maximal) (λ t. (let most = sewn.apart t in omega (arith, most))))
+    (in_strict_order traps sorted
+    (All-weaker (IsMaximal (HasTile traps []) window) IsLegal (λ z m. m.legal) traps sewn.maximal)
+    (λ t. (let most = sewn.apart t in omega (arith, most))))
     sewn.maximal (λ t h. found t traps (omega (arith, h)))
 
 -- and they cover what both lists covered
-pub covers_all : (area : Tile → Type 0) (traps finals seams : List Trapezoid) → HaveSameTiles traps [] finals seams → CoverTogether area finals seams → CoversExactly traps area
+pub covers_all : (area : Tile → Type 0) (traps finals seams : List Trapezoid) → HaveSameTiles traps [] finals seams
+    → CoverTogether area finals seams → CoversExactly traps area
 covers_all area traps finals seams same covers = record {
   once = λ t a. (let n = same t in let one = covers.once t a in omega (arith, n, one));
   never = λ t no. (let n = same t in let none = covers.never t no in omega (arith, n, none));

@@ -14,12 +14,20 @@ use Rattle.column_sweep.specs.declared.sweep.Tried.TheVariants.{Whole, GivenUp}
 pub balanced_rest : (edges rest : List EdgeParts) (window : RowRange) → IsPermutation rest edges → IsBalanced edges window → IsBalanced rest window
 balanced_rest edges rest window same h = balanced_permuted edges rest window (IsPermutation-sym _ _ same) h
 
-pub swept_rest : (post : ℤ → ℤ → Bool → Type 0) (edges rest : List EdgeParts) (window : RowRange) → IsPermutation rest edges → (traps : List Trapezoid) → IsSwept post rest window traps → IsSwept post edges window traps
+pub swept_rest : (post : ℤ → ℤ → Bool → Type 0) (edges rest : List EdgeParts) (window : RowRange)
+    → IsPermutation rest edges → (traps : List Trapezoid) → IsSwept post rest window traps
+    → IsSwept post edges window traps
 swept_rest post edges rest window same traps h = record {
   joined = h.joined;
   covers = record {
     once = λ t taken. h.covers.once t (record { from = taken.from; below = taken.below; taken = (taken_permuted post rest edges t same).1 taken.taken });
-    never = λ t not. h.covers.never t (λ taken. not (record { from = taken.from; below = taken.below; taken = (taken_permuted post rest edges t same).0 taken.taken }));
+    never = λ t not. h.covers.never t
+        (λ taken. not (record {
+          from = taken.from;
+          below = taken.below;
+          taken =
+              (taken_permuted post rest edges t same).0 taken.taken;
+        }));
   };
 }
 

@@ -52,7 +52,8 @@ IsFoundLeftOf post edges window x None = (t : Tile) → t.i <ℤ x → IsTakenIn
 IsFoundLeftOf post edges window x (Some found) = IsLowestLeftOf post edges window x found
 
 -- what is left of the line is known, and these edges are left
-pub record IsLookedTo (post : ℤ → ℤ → Bool → Type 0) (edges : List EdgeParts) (window : RowRange) (x : ℤ) (rest : List EdgeParts) (found : Option LowestTile) : Type 0 where
+pub record IsLookedTo (post : ℤ → ℤ → Bool → Type 0) (edges : List EdgeParts) (window : RowRange) (x : ℤ)
+    (rest : List EdgeParts) (found : Option LowestTile) : Type 0 where
   pub left : AreLeftIn (rows_below window found) x edges rest
   pub known : IsFoundLeftOf post edges window x found
 

@@ -32,7 +32,9 @@ part_above y e = part_over e (int_max e.y0 y) e.y1
 
 -- what each of two edges has besides the rows of the other
 abbrev pub rests : EdgeParts → EdgeParts → List EdgeParts
-rests e f = option_to_list (part_below f.y0 e) ++ (option_to_list (part_below e.y0 f) ++ (option_to_list (part_above f.y1 e) ++ option_to_list (part_above e.y1 f)))
+rests e f = option_to_list
+    (part_below f.y0 e) ++ (option_to_list
+    (part_below e.y0 f) ++ (option_to_list (part_above f.y1 e) ++ option_to_list (part_above e.y1 f)))
 
 -- the two lists have together what the edges have, in each row
 abbrev pub AddUp : List EdgeParts → List EdgeParts → List EdgeParts → Type 0

@@ -27,7 +27,8 @@ joined_has window P area traps joined decided to back = record {
 
 -- the same list for an area of the same tiles in the window
 pub same_area : (window : RowRange) (area other : Tile → Type 0) (traps : List Trapezoid)
-    → ((t : Tile) → IsInRows window t → area t → other t) → ((t : Tile) → IsInRows window t → other t → area t) → HasArea window area traps → HasArea window other traps
+    → ((t : Tile) → IsInRows window t → area t → other t) → ((t : Tile) → IsInRows window t → other t → area t)
+    → HasArea window area traps → HasArea window other traps
 same_area window area other traps to back h = record {
   joined = h.joined;
   inside = λ t some. (let i = h.inside t some in (i.0, to t i.0 i.1));
@@ -53,7 +54,8 @@ pub rows_decided : (window : RowRange) (t : Tile) → Decided (IsInRows window t
 rows_decided window t =
     by_lt_z t.j window.y0
     (λ under. inr (λ h. (let from = h.from in omega (arith, ints, under, from))))
-    (λ from. by_lt_z t.j window.y1 (λ below. inl (record { from = from; below = below })) (λ over. inr (λ h. (let below = h.below in omega (arith, ints, over, below)))))
+    (λ from. by_lt_z t.j window.y1 (λ below. inl (record { from = from; below = below }))
+    (λ over. inr (λ h. (let below = h.below in omega (arith, ints, over, below)))))
 
 -- ---- the operations
 
@@ -91,7 +93,8 @@ none_has traps t out = by_test (has_tile traps t) refl (λ h. absurd (out (has_s
 pub some_decided : (traps : List Trapezoid) (t : Tile) → Decided (IsInSome traps t)
 some_decided traps t = by_test (has_tile traps t) refl (λ h. inl (has_some traps t h)) (λ h. inr (has_none traps t h))
 
-taken_of : (op : Op) (a b : List Trapezoid) (t : Tile) (p q : Bool) → has_tile a t ≡ p → has_tile b t ≡ q → takes op p q ≡ true → OfBoth op (IsInSome a t) (IsInSome b t)
+taken_of : (op : Op) (a b : List Trapezoid) (t : Tile) (p q : Bool) → has_tile a t ≡ p → has_tile b t ≡ q
+    → takes op p q ≡ true → OfBoth op (IsInSome a t) (IsInSome b t)
 taken_of Or a b t true q e f h = inl (has_some a t e)
 taken_of Or a b t false true e f h = inr (has_some b t f)
 taken_of Or a b t false false e f h = absurd (grind arith)
@@ -116,7 +119,8 @@ of_taken Xor a b t (inr (h, k)) = rw (none_has a t h, some_has b t k) refl
 
 result_decided : (op : Op) (a b : List Trapezoid) (window : RowRange) (t : Tile) → Decided (IsInResult op a b window t)
 result_decided op a b window t = elim (rows_decided window t) [
-  | inl rows ↦ by_test (takes op (has_tile a t) (has_tile b t)) refl (λ h. inl (record { rows = rows; taken = h })) (λ h. inr (λ r. false_true (sym h ∙ r.taken)))
+  | inl rows ↦ by_test (takes op (has_tile a t) (has_tile b t)) refl (λ h. inl (record { rows = rows; taken = h }))
+      (λ h. inr (λ r. false_true (sym h ∙ r.taken)))
   | inr out ↦ inr (λ r. out r.rows)
 ]
 

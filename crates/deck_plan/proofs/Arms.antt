@@ -20,16 +20,20 @@ use Rattle.deck_plan.proofs.Corners.{corners_more}
 
 module _ (window : RowRange) (lists : List (List Trapezoid)) where
   pub of_two : (op : Op) (a b : ℕ) (first second traps : List Trapezoid) → first ≡ list_at lists a → second ≡ list_at lists b
-      → HasArea window (λ t. OfBoth op (IsInSome first t) (IsInSome second t)) traps → HasArea window (λ t. OfBoth op (IsListed lists a t) (IsListed lists b t)) traps
+      → HasArea window (λ t. OfBoth op (IsInSome first t) (IsInSome second t)) traps
+      → HasArea window (λ t. OfBoth op (IsListed lists a t) (IsListed lists b t)) traps
   of_two op a b first second traps e f h =
       subst (λ x. HasArea window (λ t. OfBoth op (IsListed lists a t) (IsInSome x t)) traps) f
       (subst (λ x. HasArea window (λ t. OfBoth op (IsInSome x t) (IsInSome second t)) traps) e h)
 
-  pub of_one : (area : List Trapezoid → Tile → Type 0) (a : ℕ) (first traps : List Trapezoid) → first ≡ list_at lists a → HasArea window (area first) traps → HasArea window (area (list_at lists a)) traps
+  pub of_one : (area : List Trapezoid → Tile → Type 0) (a : ℕ) (first traps : List Trapezoid) → first ≡ list_at lists a
+      → HasArea window (area first) traps → HasArea window (area (list_at lists a)) traps
   of_one area a first traps e h = subst (λ x. HasArea window (area x) traps) e h
 
   module _ (cells : List Cell) (top : ℕ) (frame : Option Frame) where
-    pub of_step : (step is : Step) (traps : List Trapezoid) → step ≡ is → HasArea window (λ t. IsInStep cells top frame (IsListed lists) is t) traps → HasArea window (λ t. IsInStep cells top frame (IsListed lists) step t) traps
+    pub of_step : (step is : Step) (traps : List Trapezoid) → step ≡ is
+        → HasArea window (λ t. IsInStep cells top frame (IsListed lists) is t) traps
+        → HasArea window (λ t. IsInStep cells top frame (IsListed lists) step t) traps
     of_step step is traps e h = subst (λ s. HasArea window (λ t. IsInStep cells top frame (IsListed lists) s t) traps) (sym e) h
 
     pub of_frame : (own : Frame) (a : ℕ) (traps : List Trapezoid) → frame ≡ Some own → HasArea window (λ t. IsInFrame own t × (IsListed lists a t → ⊥)) traps

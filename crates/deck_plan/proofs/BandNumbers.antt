@@ -1,5 +1,6 @@
 -- The lowest rows of bands, as numbers.
-use Rattle.std.proofs.Common.{ℕ, ◌<◌, ◌/◌, ◌%◌, ◌-◌, ◌^◌, suc, sym, neg_ℤ, FitsSigned, w64, ◌+◌, ◌*◌, ◌≤◌, ℤ, pos, negsuc, ◌+ℤ◌, ◌-ℤ◌, ◌*ℤ◌, ◌≤ℤ◌, ◌<ℤ◌, ◌≡◌, arith, ap, ◌∙◌, mul-le-mul_left}
+use Rattle.std.proofs.Common.{ℕ, ◌<◌, ◌/◌, ◌%◌, ◌-◌, ◌^◌, suc, sym, neg_ℤ, FitsSigned, w64, ◌+◌, ◌*◌, ◌≤◌, ℤ, pos}
+use Rattle.std.proofs.Common.{negsuc, ◌+ℤ◌, ◌-ℤ◌, ◌*ℤ◌, ◌≤ℤ◌, ◌<ℤ◌, ◌≡◌, arith, ap, ◌∙◌, mul-le-mul_left}
 use Rattle.std.proofs.lemmas.Int.{ints}
 use Rattle.std.proofs.Math.IntN.{+ℤ_one, suc_ℤ-*ℤ}
 use Rattle.std.proofs.Math.Nat.{mod-lt}
@@ -44,7 +45,8 @@ bottom_is (pos a) (pos n) some = (pos (a / n), above a n)
 bottom_is (negsuc a) (pos n) some = (negsuc (a / n), below a n (omega (arith, ints, some)))
 bottom_is y (negsuc n) some = absurd (omega (arith, ints, some))
 
-pub first_is : (rows low y rest : ℤ) (window : RowRange) → pos 0 <ℤ rows → y ≡ low → rest ≡ int_rem_euclid low rows → window ≡ row_range (y -ℤ rest) ((y -ℤ rest) +ℤ rows) → (k : ℤ) × (window ≡ band rows k)
+pub first_is : (rows low y rest : ℤ) (window : RowRange) → pos 0 <ℤ rows → y ≡ low → rest ≡ int_rem_euclid low rows
+    → window ≡ row_range (y -ℤ rest) ((y -ℤ rest) +ℤ rows) → (k : ℤ) × (window ≡ band rows k)
 first_is rows low y rest window some same value is =
     let k = bottom_is low rows some in
     let bottom : y -ℤ rest ≡ k.0 *ℤ rows = ap (λ (z : ℤ). z -ℤ rest) same ∙ ap (λ (z : ℤ). low -ℤ z) value ∙ k.1 in

@@ -47,7 +47,8 @@ some_in_box box traps t all some =
     let f = found t traps some in
     in_box box f.0 t (All-contains (IsAround box) traps f.0 all f.1) (has_in t f.0 f.2)
 
-pub near_in_wider : (dx dy : ℤ) (hull : Frame) (traps : List Trapezoid) → All (IsAround hull) traps → (t : Tile) → IsInSome traps t → (u : Tile) → IsNear dx dy t u → IsInFrame (wider dx dy hull) u
+pub near_in_wider : (dx dy : ℤ) (hull : Frame) (traps : List Trapezoid) → All (IsAround hull) traps → (t : Tile)
+    → IsInSome traps t → (u : Tile) → IsNear dx dy t u → IsInFrame (wider dx dy hull) u
 near_in_wider dx dy hull traps all t some u near =
     let b = some_in_box hull traps t all some in
     let c = near.columns in
@@ -70,14 +71,16 @@ wider_frame dx dy hull s b = record {
 }
 
 -- its tiles aren't far
-pub wider_tile : (dx dy : ℤ) (hull : Frame) → IsSizing dx dy → IsFullBox (2 ^ 42) hull → (t : Tile) → IsInFrame (wider dx dy hull) t → IsTileUpTo 4398046576640 t
+pub wider_tile : (dx dy : ℤ) (hull : Frame) → IsSizing dx dy → IsFullBox (2 ^ 42) hull → (t : Tile)
+    → IsInFrame (wider dx dy hull) t → IsTileUpTo 4398046576640 t
 wider_tile dx dy hull s b t h = record {
   column = record { low = omega (arith, ints, b.x0.low, s.columns, h.from_left); high = omega (arith, ints, b.x1.high, s.columns, h.below_right) };
   row = record { low = omega (arith, ints, b.y0.low, s.rows, h.above_bottom); high = omega (arith, ints, b.y1.high, s.rows, h.below_top) };
 }
 
 -- the box of one trapezoid
-legal_columns : (l r : Line) (y0 y1 : ℤ) → (x_on l y0 ≤ℤ x_on r y0) → (x_on l y1 ≤ℤ x_on r y1) → (pos 0 <ℤ ((x_on r y0 -ℤ x_on l y0) +ℤ (x_on r y1 -ℤ x_on l y1)))
+legal_columns : (l r : Line) (y0 y1 : ℤ) → (x_on l y0 ≤ℤ x_on r y0) → (x_on l y1 ≤ℤ x_on r y1)
+    → (pos 0 <ℤ ((x_on r y0 -ℤ x_on l y0) +ℤ (x_on r y1 -ℤ x_on l y1)))
     → int_min (x_on l y0) (x_on l y1) <ℤ int_max (x_on r y0) (x_on r y1)
 legal_columns l r y0 y1 bottom top flat = omega (arith, ints, clamps, bottom, top, flat)
 
@@ -112,9 +115,17 @@ pub box_full : (z : Trapezoid) (box : Frame) → IsLegal z → HasCornersUpTo (2
 box_full z box legal h b = record {
   columns = omega (arith, ints, box_columns z legal, b.left, b.right);
   rows = omega (arith, ints, legal.has_rows, b.bottom, b.top);
-  x0 = record { low = omega (arith, ints, clamps, b.left, h.bottom_left.low, h.top_left.low); high = omega (arith, ints, clamps, b.left, h.bottom_left.high, h.top_left.high) };
+  x0 = record {
+    low = omega (arith, ints, clamps, b.left, h.bottom_left.low, h.top_left.low);
+    high = omega
+        (arith, ints, clamps, b.left, h.bottom_left.high, h.top_left.high);
+  };
   y0 = record { low = omega (arith, ints, b.bottom, h.y0.low); high = omega (arith, ints, b.bottom, h.y0.high) };
-  x1 = record { low = omega (arith, ints, clamps, b.right, h.bottom_right.low, h.top_right.low); high = omega (arith, ints, clamps, b.right, h.bottom_right.high, h.top_right.high) };
+  x1 = record {
+    low = omega (arith, ints, clamps, b.right, h.bottom_right.low, h.top_right.low);
+    high = omega
+        (arith, ints, clamps, b.right, h.bottom_right.high, h.top_right.high);
+  };
   y1 = record { low = omega (arith, ints, b.top, h.y1.low); high = omega (arith, ints, b.top, h.y1.high) };
 }
 
@@ -138,13 +149,18 @@ still_around hull y z box b h = record {
   top_right = omega (arith, ints, clamps, b.right, h.top_right);
 }
 
-pub with_full : (hull : Frame) (z : Trapezoid) (box : Frame) → HasCornersUpTo (2 ^ 42) z → IsBoxWith hull z box → IsFullBox (2 ^ 42) hull → IsFullBox (2 ^ 42) box
+pub with_full : (hull : Frame) (z : Trapezoid) (box : Frame) → HasCornersUpTo (2 ^ 42) z → IsBoxWith hull z box
+    → IsFullBox (2 ^ 42) hull → IsFullBox (2 ^ 42) box
 with_full hull z box h b f = record {
   columns = omega (arith, ints, clamps, f.columns, b.left, b.right);
   rows = omega (arith, ints, clamps, f.rows, b.bottom, b.top);
   x0 = record { low = omega (arith, ints, clamps, b.left, f.x0.low, h.bottom_left.low, h.top_left.low); high = omega (arith, ints, clamps, b.left, f.x0.high) };
   y0 = record { low = omega (arith, ints, clamps, b.bottom, f.y0.low, h.y0.low); high = omega (arith, ints, clamps, b.bottom, f.y0.high) };
-  x1 = record { low = omega (arith, ints, clamps, b.right, f.x1.low); high = omega (arith, ints, clamps, b.right, f.x1.high, h.bottom_right.high, h.top_right.high) };
+  x1 = record {
+    low = omega (arith, ints, clamps, b.right, f.x1.low);
+    high = omega
+        (arith, ints, clamps, b.right, f.x1.high, h.bottom_right.high, h.top_right.high);
+  };
   y1 = record { low = omega (arith, ints, clamps, b.top, f.y1.low); high = omega (arith, ints, clamps, b.top, f.y1.high, h.y1.high) };
 }
 
@@ -156,4 +172,5 @@ frame_of x0 y0 x1 y1 = record { x0 = x0; y0 = y0; x1 = x1; y1 = y1 }
 
 pub same_frame : (a b : Frame) → a.x0 ≡ b.x0 → a.y0 ≡ b.y0 → a.x1 ≡ b.x1 → a.y1 ≡ b.y1 → a ≡ b
 unfolding frame_of
-same_frame a b e f g h = ap (λ x. frame_of x a.y0 a.x1 a.y1) e ∙ ap (λ y. frame_of b.x0 y a.x1 a.y1) f ∙ ap (λ x. frame_of b.x0 b.y0 x a.y1) g ∙ ap (λ y. frame_of b.x0 b.y0 b.x1 y) h
+same_frame a b e f g h = ap (λ x. frame_of x a.y0 a.x1 a.y1) e ∙ ap (λ y. frame_of b.x0 y a.x1 a.y1) f ∙ ap
+    (λ x. frame_of b.x0 b.y0 x a.y1) g ∙ ap (λ y. frame_of b.x0 b.y0 b.x1 y) h

@@ -17,13 +17,27 @@ first_in : (z : Trapezoid) (k : ℤ) → IsLegal z → z.y0 ≤ℤ k → k <ℤ 
 first_in z k legal a b =
     let n = tile_with_number (place z.left k) k in
     let w = legal_places z k legal a b in
-    in_by_number z (tile_with (place z.left k) k) (record { above_bottom = a; below_top = b; from_left = omega (arith, ints, n); below_right = omega (arith, ints, n, w) })
+    in_by_number z (tile_with (place z.left k) k)
+    (record {
+      above_bottom = a;
+      below_top = b;
+      from_left = omega (arith, ints, n);
+      below_right = omega
+          (arith, ints, n, w);
+    })
 
 last_in : (z : Trapezoid) (k : ℤ) → IsLegal z → z.y0 ≤ℤ k → k <ℤ z.y1 → IsInTrapezoid z (tile_with (place z.right k -ℤ pos 1) k)
 last_in z k legal a b =
     let n = tile_with_number (place z.right k -ℤ pos 1) k in
     let w = legal_places z k legal a b in
-    in_by_number z (tile_with (place z.right k -ℤ pos 1) k) (record { above_bottom = a; below_top = b; from_left = omega (arith, ints, n, w); below_right = omega (arith, ints, n) })
+    in_by_number z (tile_with (place z.right k -ℤ pos 1) k)
+    (record {
+      above_bottom = a;
+      below_top = b;
+      from_left = omega (arith, ints, n, w);
+      below_right = omega
+          (arith, ints, n);
+    })
 
 -- a tile's number, by its column
 record Numbered (b : ℕ) (n : ℤ) : Type 0 where
@@ -81,7 +95,8 @@ module _ (b : ℕ) (z : Trapezoid) (legal : IsLegal z) (near : (t : Tile) → Is
   pub corners_up_to : HasCornersUpTo (b + 1) z
   corners_up_to =
       let low = (near (tile_with (place z.left z.y0) z.y0) (first_in z z.y0 legal (omega (arith, ints)) legal.has_rows)).row in
-      let high = (near (tile_with (place z.left (z.y1 -ℤ pos 1)) (z.y1 -ℤ pos 1)) (first_in z (z.y1 -ℤ pos 1) legal (omega (arith, ints, legal.has_rows)) (omega (arith, ints)))).row in
+      let high = (near (tile_with (place z.left (z.y1 -ℤ pos 1)) (z.y1 -ℤ pos 1))
+      (first_in z (z.y1 -ℤ pos 1) legal (omega (arith, ints, legal.has_rows)) (omega (arith, ints)))).row in
       record {
         y0 = record { low = omega (arith, ints, low.low); high = omega (arith, ints, low.high) };
         y1 = record { low = omega (arith, ints, high.low); high = omega (arith, ints, high.high) };
@@ -105,7 +120,8 @@ corners_more b c z more h = record {
 }
 
 -- the corners of a list, by its tiles
-pub corners_of_all : (b c : ℕ) (traps : List Trapezoid) → All IsLegal traps → ((t : Tile) → IsInSome traps t → IsTileUpTo b t) → b + 1 ≤ c → All (HasCornersUpTo c) traps
+pub corners_of_all : (b c : ℕ) (traps : List Trapezoid) → All IsLegal traps
+    → ((t : Tile) → IsInSome traps t → IsTileUpTo b t) → b + 1 ≤ c → All (HasCornersUpTo c) traps
 corners_of_all b c traps legal near more =
     all_members (HasCornersUpTo c) traps (λ z h. corners_more (b + 1) c z more
     (corners_up_to b z (All-contains IsLegal traps z legal h) (λ t i. near t (counted t z traps h (in_has t z i)))))

@@ -1,5 +1,7 @@
 -- The halos of an output, definition by definition from the last one down.
-use Rattle.std.proofs.Common.{◌≡◌, ◌⊎◌, inl, inr, ℕ, zero, suc, ◌+◌, ◌*◌, ◌<◌, ◌≤◌, ℤ, pos, ◌+ℤ◌, ◌≤ℤ◌, List, [], ◌∷◌, ◌++◌, Option, Some, None, length, set, get_or, slice_get, replicate, Contains, IfSome, refl, sym, ap, subst, ◌∙◌, arith}
+use Rattle.std.proofs.Common.{◌≡◌, ◌⊎◌, inl, inr, ℕ, zero, suc, ◌+◌, ◌*◌, ◌<◌, ◌≤◌, ℤ, pos, ◌+ℤ◌, ◌≤ℤ◌, List, [], ◌∷◌}
+use Rattle.std.proofs.Common.{◌++◌, Option, Some, None, length, set, get_or, slice_get, replicate, Contains, IfSome}
+use Rattle.std.proofs.Common.{refl, sym, ap, subst, ◌∙◌, arith}
 use Rattle.std.proofs.lemmas.Int.{ints, by_lt_z, clamps}
 use Rattle.std.proofs.lemmas.Option.{none-some, same_Some, slice_get_within, slice_get-get_or, get_or_from_slice_get}
 use Rattle.std.specs.Int.{int_max}
@@ -16,7 +18,8 @@ use Rattle.deck_plan.proofs.StepLemmas.{sound_operand}
 
 -- ---- chains
 
-pub chain_put : (deck : Deck) (n : ℕ) (chain : List Taken) (operand : Taken) → IsChain deck n chain → Takes deck (chain_end n chain) operand → IsChain deck n (chain ++ operand ∷ [])
+pub chain_put : (deck : Deck) (n : ℕ) (chain : List Taken) (operand : Taken) → IsChain deck n chain
+    → Takes deck (chain_end n chain) operand → IsChain deck n (chain ++ operand ∷ [])
 chain_put deck n [] operand chained takes = (takes, tt)
 chain_put deck n (first ∷ chain) operand chained takes = (chained.0, chain_put deck first.name chain operand chained.1 takes)
 
@@ -28,7 +31,8 @@ sum_put : (chain : List Taken) (operand : Taken) → halo_sum (chain ++ operand 
 sum_put [] operand = omega (arith, ints)
 sum_put (first ∷ chain) operand = let later = sum_put chain operand in omega (arith, ints, later)
 
-longer : (deck : Deck) (name n : ℕ) (halo : ℤ) (operand : Taken) → HasChain deck name n halo → Takes deck n operand → HasChain deck name operand.name (halo +ℤ operand.halo)
+longer : (deck : Deck) (name n : ℕ) (halo : ℤ) (operand : Taken) → HasChain deck name n halo → Takes deck n operand
+    → HasChain deck name operand.name (halo +ℤ operand.halo)
 longer deck name n halo operand h takes = record {
   chain = h.chain ++ operand ∷ [];
   chained = chain_put deck name h.chain operand h.chained (subst (λ m. Takes deck m operand) (sym h.end) takes);
@@ -58,7 +62,8 @@ module _ (deck : Deck) (name user : ℕ) (asked : Need) (before : List (Option N
   AreGiven needs [] = Unit {0}
   AreGiven needs (operand ∷ operands) = IsGiven needs operand × AreGiven needs operands
 
-  given_one : (needs : List (Option Need)) (operands : List Taken) (operand : Taken) → AreGiven needs operands → Contains operands operand → IsGiven needs operand
+  given_one : (needs : List (Option Need)) (operands : List Taken) (operand : Taken) → AreGiven needs operands
+      → Contains operands operand → IsGiven needs operand
   given_one needs [] operand given (k, inside, is) = absurd (omega (arith, inside))
   given_one needs (first ∷ operands) operand given (zero, inside, is) = subst (IsGiven needs) is given.0
   given_one needs (first ∷ operands) operand given (suc k, inside, is) = given_one needs operands operand given.1 (k, omega (arith, inside), is)
@@ -68,7 +73,8 @@ module _ (deck : Deck) (name user : ℕ) (asked : Need) (before : List (Option N
     given : AreGiven after operands
     still : (other : Taken) → IsGiven needs other → IsGiven after other
 
-  module _ (inside : user < 256) (used : HasChain deck name user asked.halo) (asked_low : pos 0 ≤ℤ asked.halo) (asked_high : (asked.halo +ℤ pos (65536 * user)) ≤ℤ pos (65536 * name)) (own : user ≤ name) where
+  module _ (inside : user < 256) (used : HasChain deck name user asked.halo) (asked_low : pos 0 ≤ℤ asked.halo)
+      (asked_high : (asked.halo +ℤ pos (65536 * user)) ≤ℤ pos (65536 * name)) (own : user ≤ name) where
     module _ (needs : List (Option Need)) (r : Raising needs) (operand : Taken) (takes : Takes deck user operand) (s : IsSoundOperand user operand) where
       abbrev Put : Need → List (Option Need)
       Put need = set needs operand.name (Some need)
@@ -101,20 +107,34 @@ module _ (deck : Deck) (name user : ℕ) (asked : Need) (before : List (Option N
             halo = omega (arith, ints, clamps);
             last = r.later operand.name need here;
             chain = by_lt_z need.halo (asked.halo +ℤ operand.halo)
-                (λ lt. (let e : asked.halo +ℤ operand.halo ≡ int_max need.halo (asked.halo +ℤ operand.halo) = omega (arith, ints, clamps, lt) in subst (HasChain deck name operand.name) e (longer deck name user asked.halo operand used takes)))
-                (λ ge. (let e : need.halo ≡ int_max need.halo (asked.halo +ℤ operand.halo) = omega (arith, ints, clamps, ge) in subst (HasChain deck name operand.name) e (r.reached operand.name need here)));
+                (λ lt. (let e : asked.halo +ℤ operand.halo ≡ int_max need.halo (asked.halo +ℤ operand.halo) = omega
+                (arith, ints, clamps, lt) in subst (HasChain deck name operand.name) e
+                (longer deck name user asked.halo operand used takes)))
+                (λ ge. (let e : need.halo ≡ int_max need.halo (asked.halo +ℤ operand.halo) = omega
+                (arith, ints, clamps, ge) in subst (HasChain deck name operand.name) e
+                (r.reached operand.name need here)));
             limit = (let old = r.high operand.name need here in let new = limit_new in omega (arith, ints, clamps, old, new));
-            old = λ other there. (let same = same_Some need other (one_slot needs operand.name (Some need) (Some other) here there) in (omega (arith, ints, clamps, ap (λ (x : Need). x.halo) same), omega (arith, ap (λ (x : Need). x.last) same)));
+            old = λ other there.
+                (let same = same_Some need other (one_slot needs operand.name (Some need) (Some other) here there) in (
+                  omega (arith, ints, clamps, ap (λ (x : Need). x.halo) same),
+                  omega
+                      (arith, ap (λ (x : Need). x.last) same),
+                ));
           }
 
       module _ (need : Need) (p : IsPut need) where
-        at : (n : ℕ) → ((n ≡ operand.name) × (slice_get (Put need) n ≡ Some (Some need))) ⊎ ((n ≡ operand.name → ⊥) × (slice_get (Put need) n ≡ slice_get needs n))
+        at : (n : ℕ) → ((n ≡ operand.name) × (slice_get (Put need) n ≡ Some (Some need)))
+            ⊎ ((n ≡ operand.name → ⊥) × (slice_get (Put need) n ≡ slice_get needs n))
         at n = set_cases needs operand.name (Some need) n within
 
         -- what holds of the new need and of the others holds of all
-        each : (P : ℕ → Need → Type 0) → P operand.name need → ((n : ℕ) (other : Need) → NeedIs needs n other → P n other) → (n : ℕ) (other : Need) → NeedIs (Put need) n other → P n other
+        each : (P : ℕ → Need → Type 0) → P operand.name need
+            → ((n : ℕ) (other : Need) → NeedIs needs n other → P n other) → (n : ℕ) (other : Need)
+            → NeedIs (Put need) n other → P n other
         each P here others n other is = elim (at n) [
-          | inl h ↦ subst (λ m. P m other) (sym h.0) (subst (P operand.name) (same_Some need other (one_slot (Put need) n (Some need) (Some other) h.1 is)) here)
+          | inl h ↦ subst (λ m. P m other) (sym h.0)
+              (subst (P operand.name)
+              (same_Some need other (one_slot (Put need) n (Some need) (Some other) h.1 is)) here)
           | inr h ↦ others n other (sym h.1 ∙ is)
         ]
 
@@ -151,14 +171,17 @@ module _ (deck : Deck) (name user : ℕ) (asked : Need) (before : List (Option N
     AllSound : List Taken → Type 0
     AllSound operands = (operand : Taken) → Contains operands operand → Takes deck user operand × IsSoundOperand user operand
 
-    all_raised : (operands : List Taken) (needs : List (Option Need)) → Raising needs → AllSound operands → Raised needs (raised_all needs asked.halo user operands) operands
+    all_raised : (operands : List Taken) (needs : List (Option Need)) → Raising needs → AllSound operands
+        → Raised needs (raised_all needs asked.halo user operands) operands
     unfolding AllSound
     all_raised [] needs r sound = record { raising = r; given = tt; still = λ other g. g }
     all_raised (operand ∷ operands) needs r sound =
         let s = sound operand (0, omega arith, refl) in
         let need = raised (get_or needs operand.name None) (asked.halo +ℤ operand.halo) user in
         let p = put_new needs r operand s.0 s.1 (get_or needs operand.name None) refl in
-        let rest = all_raised operands (set needs operand.name (Some need)) (put_raising needs r operand s.0 s.1 need p) (λ other c. sound other (suc c.0, omega (arith, c.1), c.2)) in
+        let rest = all_raised operands (set needs operand.name (Some need))
+        (put_raising needs r operand s.0 s.1 need p)
+        (λ other c. sound other (suc c.0, omega (arith, c.1), c.2)) in
         record {
           raising = rest.raising;
           given = (rest.still operand (put_given needs r operand s.0 s.1 need p), rest.given);
@@ -173,7 +196,9 @@ at_or_above zero (suc n) h = inr (omega arith)
 at_or_above (suc k) zero h = absurd (omega (arith, h))
 at_or_above (suc k) (suc n) h = elim (at_or_above k n (omega (arith, h))) [ inl e ↦ inl (ap suc e) | inr l ↦ inr (omega (arith, l)) ]
 
-module _ (deck : Deck) (name k : ℕ) (needs : List (Option Need)) (h : AreHalos deck name (suc k) needs) (few : name < 256) (step : Step) (here : slice_get deck.steps k ≡ Some step) (sound : IsSoundStep deck.frame k step) where
+module _ (deck : Deck) (name k : ℕ) (needs : List (Option Need)) (h : AreHalos deck name (suc k) needs)
+    (few : name < 256) (step : Step) (here : slice_get deck.steps k ≡ Some step)
+    (sound : IsSoundStep deck.frame k step) where
   takes_of : (operand : Taken) → Contains (operands_of step) operand → Takes deck k operand
   takes_of operand among = record { step = step; here = here; among = among }
 
@@ -224,9 +249,11 @@ module _ (deck : Deck) (name k : ℕ) (needs : List (Option Need)) (h : AreHalos
     before_is n need from is = sym (after.raising.kept n from) ∙ is
 
     of_step : (need : Need) (operand : Taken) → NeedIs needs k need → Takes deck k operand
-        → (other : Need) × NeedIs (raised_all needs asked.halo k (operands_of step)) operand.name other × ((need.halo +ℤ operand.halo) ≤ℤ other.halo) × (k ≤ other.last)
+        → (other : Need) × NeedIs (raised_all needs asked.halo k (operands_of step)) operand.name other
+        × ((need.halo +ℤ operand.halo) ≤ℤ other.halo) × (k ≤ other.last)
     of_step need operand is takes =
-        let g = given_one deck name k asked needs (raised_all needs asked.halo k (operands_of step)) (operands_of step) operand after.given (taken_of operand takes) in
+        let g = given_one deck name k asked needs (raised_all needs asked.halo k (operands_of step))
+        (operands_of step) operand after.given (taken_of operand takes) in
         let same = ap (λ (x : Need). x.halo) (one_slot_need need is) in
         (g.0, g.1, omega (arith, ints, g.2, same), g.3)
       where
@@ -234,7 +261,8 @@ module _ (deck : Deck) (name k : ℕ) (needs : List (Option Need)) (h : AreHalos
         one_slot_need need is = same_Some need asked (one_slot needs k (Some need) (Some asked) is there)
 
     of_later : (n : ℕ) (need : Need) (operand : Taken) → suc k ≤ n → NeedIs needs n need → Takes deck n operand
-        → (other : Need) × NeedIs (raised_all needs asked.halo k (operands_of step)) operand.name other × ((need.halo +ℤ operand.halo) ≤ℤ other.halo) × (n ≤ other.last)
+        → (other : Need) × NeedIs (raised_all needs asked.halo k (operands_of step)) operand.name other
+        × ((need.halo +ℤ operand.halo) ≤ℤ other.halo) × (n ≤ other.last)
     of_later n need operand above is takes =
         let o = h.operands n need operand above is takes in
         let g = after.raising.grown operand.name o.0 o.1 in
@@ -246,7 +274,8 @@ module _ (deck : Deck) (name k : ℕ) (needs : List (Option Need)) (h : AreHalos
       own = (h.own.0, after.raising.kept name own_low ∙ h.own.1, h.own.2);
       none = after.raising.none;
       operands = λ n need operand from is takes. elim (at_or_above k n from) [
-        | inl same ↦ (let g = of_step need operand (subst (λ m. NeedIs needs m need) same (before_is n need from is)) (subst (λ m. Takes deck m operand) same takes) in (g.0, g.1, g.2, omega (arith, g.3, same)))
+        | inl same ↦ (let g = of_step need operand (subst (λ m. NeedIs needs m need) same (before_is n need from is))
+            (subst (λ m. Takes deck m operand) same takes) in (g.0, g.1, g.2, omega (arith, g.3, same)))
         | inr above ↦ of_later n need operand above (before_is n need from is) takes
       ];
       reached = after.raising.reached;
@@ -297,11 +326,15 @@ module _ (deck : Deck) (name : ℕ) (few : name < 256) where
 
 -- ---- the operands as the code has them
 
-pub sound_first : (P : Taken → Type 0) (first second : Option Taken) (operands : List Taken) → option_to_list first ++ option_to_list second ≡ operands → ((operand : Taken) → Contains operands operand → P operand) → IfSome first P
+pub sound_first : (P : Taken → Type 0) (first second : Option Taken) (operands : List Taken)
+    → option_to_list first ++ option_to_list second ≡ operands
+    → ((operand : Taken) → Contains operands operand → P operand) → IfSome first P
 sound_first P None second operands is all = tt
 sound_first P (Some x) second operands is all = all x (subst (λ os. Contains os x) is (0, omega arith, refl))
 
-pub sound_second : (P : Taken → Type 0) (first second : Option Taken) (operands : List Taken) → option_to_list first ++ option_to_list second ≡ operands → ((operand : Taken) → Contains operands operand → P operand) → IfSome second P
+pub sound_second : (P : Taken → Type 0) (first second : Option Taken) (operands : List Taken)
+    → option_to_list first ++ option_to_list second ≡ operands
+    → ((operand : Taken) → Contains operands operand → P operand) → IfSome second P
 sound_second P first None operands is all = tt
 sound_second P None (Some y) operands is all = all y (subst (λ os. Contains os y) is (0, omega arith, refl))
 sound_second P (Some x) (Some y) operands is all = all y (subst (λ os. Contains os y) is (1, omega arith, refl))

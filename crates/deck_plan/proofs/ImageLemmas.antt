@@ -1,5 +1,7 @@
 -- The mirror images of a joined list: groups of one top one after another, each the other way round.
-use Rattle.std.proofs.Common.{◌≡◌, ◌≢◌, ◌∙◌, ◌⊎◌, inl, inr, ℕ, ◌+◌, ◌<◌, ◌≤◌, ℤ, pos, ◌-ℤ◌, ◌≤ℤ◌, ◌<ℤ◌, List, [], ◌∷◌, ◌++◌, All, Contains, length, map, reverse, drop, append_assoc, ap, sym, subst, refl, arith}
+use Rattle.std.proofs.Common.{◌≡◌, ◌≢◌, ◌∙◌, ◌⊎◌, inl, inr, ℕ, ◌+◌, ◌<◌, ◌≤◌, ℤ, pos, ◌-ℤ◌, ◌≤ℤ◌, ◌<ℤ◌, List, [], ◌∷◌}
+use Rattle.std.proofs.Common.{◌++◌, All, Contains, length, map, reverse, drop, append_assoc, ap, sym, subst, refl}
+use Rattle.std.proofs.Common.{arith}
 use Rattle.std.proofs.lemmas.Int.{ints, by_lt_z}
 use Rattle.std.proofs.lemmas.List.{reverse-append, append-nil, drop_all}
 use Rattle.std.proofs.lemmas.List.Sums.{sum_by-append}
@@ -68,7 +70,8 @@ module _ (m : ℤ) where
   back_count : (group : List Trapezoid) (t : Tile) → count_in (Back group) t ≡ count_in group (mirrored_tile m t)
   back_count [] t = refl
   back_count (z ∷ group) t =
-      let whole : count_in (Back (z ∷ group)) t ≡ count_in (Back group ++ Image z ∷ []) t = ap (λ (list : List Trapezoid). count_in list t) (back_more (mirrored_trapezoid m) z group) in
+      let whole : count_in (Back (z ∷ group)) t ≡ count_in (Back group ++ Image z ∷ []) t = ap
+      (λ (list : List Trapezoid). count_in list t) (back_more (mirrored_trapezoid m) z group) in
       let parts = count_more (Back group) (Image z ∷ []) t in
       let one : count_in (Image z ∷ []) t ≡ count_in (z ∷ []) (mirrored_tile m t) = images_have_count m (z ∷ []) t in
       let later = back_count group t in
@@ -78,7 +81,8 @@ module _ (m : ℤ) where
   back_origin : (group : List Trapezoid) (y : Trapezoid) → Contains (Back group) y → Origin group y
   back_origin [] y h = none_among y h
   back_origin (z ∷ group) y h =
-      elim (Contains-append_cases (Back group) (Image z ∷ []) y (subst (λ (list : List Trapezoid). Contains list y) (back_more (mirrored_trapezoid m) z group) h)) [
+      elim (Contains-append_cases (Back group) (Image z ∷ []) y
+      (subst (λ (list : List Trapezoid). Contains list y) (back_more (mirrored_trapezoid m) z group) h)) [
         | inl later ↦ (let o = back_origin group y later in (o.0, among_rest z o.0 group o.1, o.2))
         | inr here ↦ (z, is_first z group, only_one (Image z) y here)
       ]
@@ -88,7 +92,9 @@ module _ (m : ℤ) where
       → images ≡ old ++ Back (drop (n + 1) traps) → more ≡ images ++ image ∷ [] → image ≡ mirrored_trapezoid m trap → more ≡ old ++ Back (drop n traps)
   put_more traps n trap image old images more here before is own =
       let rest = drop (n + 1) traps in
-      let back : Back (drop n traps) ≡ Back rest ++ Image trap ∷ [] = ap (λ (list : List Trapezoid). reverse (map (mirrored_trapezoid m) list)) here ∙ back_more (mirrored_trapezoid m) trap rest in
+      let back : Back (drop n traps) ≡ Back rest ++ Image trap ∷ [] = ap
+      (λ (list : List Trapezoid). reverse (map (mirrored_trapezoid m) list)) here ∙ back_more
+      (mirrored_trapezoid m) trap rest in
       is ∙ (ap (λ (z : Trapezoid). images ++ z ∷ []) own ∙ (ap (λ (list : List Trapezoid). list ++ Image trap ∷ []) before
       ∙ (append_assoc old (Back rest) (Image trap ∷ []) ∙ ap (λ (list : List Trapezoid). old ++ list) (sym back))))
 
@@ -107,29 +113,48 @@ module _ (m : ℤ) where
         let own = legal_places z j (is_legal z hz) c d in
         let number = tile_with_number (place z.left j) j in
         let t = tile_with (place z.left j) j in
-        let in_y = in_by_number y t (record { above_bottom = a; below_top = b; from_left = omega (arith, ints, number, lt); below_right = omega (arith, ints, number, own, ge) }) in
-        let in_z = in_by_number z t (record { above_bottom = c; below_top = d; from_left = omega (arith, ints, number); below_right = omega (arith, ints, number, own) }) in
+        let in_y = in_by_number y t
+        (record {
+          above_bottom = a;
+          below_top = b;
+          from_left = omega (arith, ints, number, lt);
+          below_right =
+              omega (arith, ints, number, own, ge);
+        }) in
+        let in_z = in_by_number z t
+        (record {
+          above_bottom = c;
+          below_top = d;
+          from_left = omega (arith, ints, number);
+          below_right = omega
+              (arith, ints, number, own);
+        }) in
         let same = one_only t traps y z (once t) hy hz (in_has t y in_y) (in_has t z in_z) in
         let left : place y.left j ≡ place z.left j = ap (λ (u : Trapezoid). place u.left j) same in
         omega (arith, ints, lt, left)))
 
     -- of two with one top the image of the one further left stands after that of the other
-    image_after : (y z : Trapezoid) → Contains traps y → Contains traps z → y.y1 ≡ z.y1 → place y.left (y.y1 -ℤ pos 1) <ℤ place z.left (z.y1 -ℤ pos 1) → StandsBefore (Image z) (Image y)
+    image_after : (y z : Trapezoid) → Contains traps y → Contains traps z → y.y1 ≡ z.y1
+        → place y.left (y.y1 -ℤ pos 1) <ℤ place z.left (z.y1 -ℤ pos 1) → StandsBefore (Image z) (Image y)
     image_after y z hy hz e lt =
         let j = y.y1 -ℤ pos 1 in
         let rows_y = (is_legal y hy).has_rows in
         let rows_z = (is_legal z hz).has_rows in
-        let level : place y.left (y.y1 -ℤ pos 1) <ℤ place z.left (y.y1 -ℤ pos 1) = subst (λ (k : ℤ). place y.left (y.y1 -ℤ pos 1) <ℤ place z.left (k -ℤ pos 1)) (sym e) lt in
-        let right = ends_before y z (y.y1 -ℤ pos 1) hy hz (omega (arith, ints, rows_y)) (omega (arith, ints)) (omega (arith, ints, rows_z, e)) (omega (arith, ints, e)) level in
+        let level : place y.left (y.y1 -ℤ pos 1) <ℤ place z.left (y.y1 -ℤ pos 1) = subst
+        (λ (k : ℤ). place y.left (y.y1 -ℤ pos 1) <ℤ place z.left (k -ℤ pos 1)) (sym e) lt in
+        let right = ends_before y z (y.y1 -ℤ pos 1) hy hz (omega (arith, ints, rows_y)) (omega (arith, ints))
+        (omega (arith, ints, rows_z, e)) (omega (arith, ints, e)) level in
         let of_y = image_place m y.right (y.y1 -ℤ pos 1) in
         let of_z = image_place m z.right (y.y1 -ℤ pos 1) in
-        let images : place (mirrored_line m z.right) (y.y1 -ℤ pos 1) <ℤ place (mirrored_line m y.right) (y.y1 -ℤ pos 1) = omega (arith, ints, right, of_y, of_z) in
+        let images : place (mirrored_line m z.right) (y.y1 -ℤ pos 1) <ℤ place (mirrored_line m y.right)
+        (y.y1 -ℤ pos 1) = omega (arith, ints, right, of_y, of_z) in
         inr (sym e, subst (λ (k : ℤ). place (mirrored_line m z.right) (k -ℤ pos 1) <ℤ place (mirrored_line m y.right) (y.y1 -ℤ pos 1)) e images)
 
     by_order : (y z : Trapezoid) (top : ℤ) → Contains traps y → Contains traps z → y.y1 ≡ top → z.y1 ≡ top → StandsBefore y z → StandsBefore (Image z) (Image y)
     by_order y z top hy hz ty tz before = elim before [ inl lt ↦ absurd (omega (arith, ints, lt, ty, tz)) | inr same ↦ image_after y z hy hz same.0 same.1 ]
 
-    back_order : (top : ℤ) (group : List Trapezoid) → ((z : Trapezoid) → Contains group z → Contains traps z) → ((z : Trapezoid) → Contains group z → z.y1 ≡ top) → StandInOrder group → StandInOrder (Back group)
+    back_order : (top : ℤ) (group : List Trapezoid) → ((z : Trapezoid) → Contains group z → Contains traps z)
+        → ((z : Trapezoid) → Contains group z → z.y1 ≡ top) → StandInOrder group → StandInOrder (Back group)
     back_order top [] among tops order = tt
     back_order top (z ∷ group) among tops order =
         let later = back_order top group (λ y h. among y (among_rest z y group h)) (λ y h. tops y (among_rest z y group h)) order.1 in
@@ -137,7 +162,8 @@ module _ (m : ℤ) where
         subst StandInOrder (sym (back_more (mirrored_trapezoid m) z group)) (order_append (Back group) (Image z ∷ []) later last (λ x y hx hy.
         let o = back_origin group x hx in
         let before = All-contains (StandsBefore z) group o.0 order.0 o.1 in
-        let own = by_order z o.0 top (among z (is_first z group)) (among o.0 (among_rest z o.0 group o.1)) (tops z (is_first z group)) (tops o.0 (among_rest z o.0 group o.1)) before in
+        let own = by_order z o.0 top (among z (is_first z group)) (among o.0 (among_rest z o.0 group o.1))
+        (tops z (is_first z group)) (tops o.0 (among_rest z o.0 group o.1)) before in
         subst (λ (u : Trapezoid). StandsBefore u y) o.2 (subst (λ (u : Trapezoid). StandsBefore (Image o.0) u) (only_one (Image z) y hy) own)))
 
   -- ---- group by group
@@ -150,7 +176,11 @@ module _ (m : ℤ) where
       let lowest : first.y1 <ℤ r.y1 = elim (before r (is_first r above)) [ inl lt ↦ lt | inr same ↦ absurd (next r above refl (sym same.0)) ] in
       elim (first_or_later r z above h) [
         | inl e ↦ subst (λ (u : Trapezoid). first.y1 <ℤ u.y1) e lowest
-        | inr later ↦ elim (All-contains (StandsBefore r) above z order.0 later) [ inl lt ↦ omega (arith, ints, lowest, lt) | inr same ↦ omega (arith, ints, lowest, same.0) ]
+        | inr later ↦ elim (All-contains (StandsBefore r) above z order.0 later) [
+          | inl lt ↦ omega
+              (arith, ints, lowest, lt)
+          | inr same ↦ omega (arith, ints, lowest, same.0)
+        ]
       ]
 
   pub turned_all : (traps left images : List Trapezoid) → Turned m traps left images → length left ≡ 0 → AreImages m traps images
@@ -159,7 +189,8 @@ module _ (m : ℤ) where
 
   pub turned_within : (P : Trapezoid → Type 0) (traps left images : List Trapezoid) → Turned m traps left images → All P traps → All P left
   turned_within P traps left images h all =
-      all_members P left (λ z c. All-contains P traps z all (subst (λ (list : List Trapezoid). Contains list z) (sym h.parts) (Contains-append_right h.done left z c)))
+      all_members P left (λ z c. All-contains P traps z all
+      (subst (λ (list : List Trapezoid). Contains list z) (sym h.parts) (Contains-append_right h.done left z c)))
 
   module _ (traps left images group above : List Trapezoid) (first : Trapezoid) (joined : IsJoinedSomewhere traps) (before : Turned m traps left images)
       (parts : left ≡ group ++ above) (member : Contains group first) (same : All (HasTop first.y1) group)
@@ -174,7 +205,8 @@ module _ (m : ℤ) where
     in_left z h = subst (λ (list : List Trapezoid). Contains list z) (sym parts) h
 
     in_traps : (z : Trapezoid) → Contains group z → Contains traps z
-    in_traps z h = subst (λ (list : List Trapezoid). Contains list z) (sym before.parts) (Contains-append_right before.done left z (in_left z (Contains-append_left group above z h)))
+    in_traps z h = subst (λ (list : List Trapezoid). Contains list z) (sym before.parts)
+        (Contains-append_right before.done left z (in_left z (Contains-append_left group above z h)))
 
     above_group : (z : Trapezoid) → Contains above z → first.y1 <ℤ z.y1
     above_group z h = higher first above (λ z h. order_between group above after first z member h) (order_second group above after) next z h
@@ -212,7 +244,9 @@ module _ (m : ℤ) where
       done = before.done ++ group;
       parts = before.parts ∙ (ap (λ (list : List Trapezoid). before.done ++ list) parts ∙ sym (append_assoc before.done group above));
       are = record {
-        order = order_append images (Back group) before.are.order (back_order traps joined.1.legal joined.1.apart first.y1 group in_traps tops (order_first group above after)) under_group;
+        order = order_append images (Back group) before.are.order
+            (back_order traps joined.1.legal joined.1.apart first.y1 group in_traps tops
+            (order_first group above after)) under_group;
         count = more_count;
         origin = more_origin;
       };
@@ -239,7 +273,8 @@ module _ (m : ℤ) where
       let images : place (mirrored_line m k) (pos 0) ≡ place (mirrored_line m l) (pos 0) = ap (λ (line : Line). place line (pos 0)) e in
       one_line k l (pos 0) (omega (arith, ints, of_k, of_l, images))
 
-  module _ (own window : RowRange) (traps images : List Trapezoid) (joined : IsJoined own traps) (inside : All (IsInWindow window) traps) (are : AreImages m traps images) where
+  module _ (own window : RowRange) (traps images : List Trapezoid) (joined : IsJoined own traps)
+      (inside : All (IsInWindow window) traps) (are : AreImages m traps images) where
     image_inside : (y : Trapezoid) → Contains images y → IsInWindow window y
     image_inside y h =
         let o = are.origin y h in
@@ -262,7 +297,9 @@ module _ (m : ℤ) where
 
     images_joined : IsJoined window images
     images_joined = record {
-      legal = all_members IsLegal images (λ y h. (let o = are.origin y h in subst IsLegal o.2 (image_is_legal m o.0 (All-contains IsLegal traps o.0 joined.legal o.1))));
+      legal = all_members IsLegal images
+          (λ y h. (let o = are.origin y h in subst IsLegal o.2
+          (image_is_legal m o.0 (All-contains IsLegal traps o.0 joined.legal o.1))));
       in_window = all_members (IsInWindow window) images image_inside;
       apart = λ t. omega (arith, are.count t, joined.apart (mirrored_tile m t));
       ends_free = image_free;

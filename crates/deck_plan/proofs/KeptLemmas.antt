@@ -43,7 +43,8 @@ rows_of_some window traps t all some =
     record { from = omega (arith, ints, w.low, h.above_bottom); below = omega (arith, ints, w.high, h.below_top) }
 
 -- such a list has the area of its tiles
-pub kept_has : (window : RowRange) (area : Tile → Type 0) (list : List Trapezoid) → IsJoinedSomewhere list → All (IsInWindow window) list → ((t : Tile) → IsInSome list t ↔ area t) → HasArea window area list
+pub kept_has : (window : RowRange) (area : Tile → Type 0) (list : List Trapezoid) → IsJoinedSomewhere list
+    → All (IsInWindow window) list → ((t : Tile) → IsInSome list t ↔ area t) → HasArea window area list
 kept_has window area list somewhere inside same = record {
   joined = joined_in somewhere.0 window list somewhere.1 inside;
   inside = λ t some. (rows_of_some window list t inside some, (same t).0 some);
@@ -56,13 +57,31 @@ one_of_joined B a b h k = k
 
 -- ---- a rectangle that has all of a list
 
-upright_has : (y0 y1 x0 x1 : ℤ) (left right : Line) → left ≡ Upright x0 → right ≡ Upright x1 → (t : Tile) → IsInFrame (record { x0 = x0; y0 = y0; x1 = x1; y1 = y1 }) t → IsInTrapezoid (trapezoid y0 y1 left right) t
-upright_has y0 y1 x0 x1 left right e f t h = rw (e, f) (record { above_bottom = h.above_bottom; below_top = h.below_top; right_of_left = h.from_left; left_of_right = h.below_right })
+upright_has : (y0 y1 x0 x1 : ℤ) (left right : Line) → left ≡ Upright x0 → right ≡ Upright x1 → (t : Tile)
+    → IsInFrame (record { x0 = x0; y0 = y0; x1 = x1; y1 = y1 }) t → IsInTrapezoid (trapezoid y0 y1 left right) t
+upright_has y0 y1 x0 x1 left right e f t h = rw (e, f)
+    (record {
+      above_bottom = h.above_bottom;
+      below_top = h.below_top;
+      right_of_left = h.from_left;
+      left_of_right =
+          h.below_right;
+    })
 
-pub rectangle_has : (z : Trapezoid) (frame : Frame) → z.left ≡ Upright frame.x0 → z.right ≡ Upright frame.x1 → frame.y0 ≡ z.y0 → frame.y1 ≡ z.y1 → (t : Tile) → IsInFrame frame t → IsInTrapezoid z t
-rectangle_has z frame e f low high t h = upright_has z.y0 z.y1 frame.x0 frame.x1 z.left z.right e f t (record { from_left = h.from_left; below_right = h.below_right; above_bottom = subst (λ y. y ≤ℤ t.j) low h.above_bottom; below_top = subst (λ y. t.j <ℤ y) high h.below_top })
+pub rectangle_has : (z : Trapezoid) (frame : Frame) → z.left ≡ Upright frame.x0 → z.right ≡ Upright frame.x1
+    → frame.y0 ≡ z.y0 → frame.y1 ≡ z.y1 → (t : Tile) → IsInFrame frame t → IsInTrapezoid z t
+rectangle_has z frame e f low high t h = upright_has z.y0 z.y1 frame.x0 frame.x1 z.left z.right e f t
+    (record {
+      from_left = h.from_left;
+      below_right = h.below_right;
+      above_bottom = subst
+          (λ y. y ≤ℤ t.j) low h.above_bottom;
+      below_top = subst (λ y. t.j <ℤ y) high h.below_top;
+    })
 
-pub around_by : (frame : Frame) (z : Trapezoid) → frame.y0 ≤ℤ z.y0 → z.y1 ≤ℤ frame.y1 → frame.x0 ≤ℤ int_min (x_on z.left z.y0) (x_on z.left z.y1) → int_max (x_on z.right z.y0) (x_on z.right z.y1) ≤ℤ frame.x1 → IsAround frame z
+pub around_by : (frame : Frame) (z : Trapezoid) → frame.y0 ≤ℤ z.y0 → z.y1 ≤ℤ frame.y1
+    → frame.x0 ≤ℤ int_min (x_on z.left z.y0) (x_on z.left z.y1)
+    → int_max (x_on z.right z.y0) (x_on z.right z.y1) ≤ℤ frame.x1 → IsAround frame z
 around_by frame z low high left right = record {
   bottom = low;
   top = high;
@@ -72,7 +91,8 @@ around_by frame z low high left right = record {
   top_right = omega (arith, ints, clamps, right);
 }
 
-pub all_in_rectangle : (frame : Frame) (traps others : List Trapezoid) (z : Trapezoid) → All (IsAround frame) traps → ((t : Tile) → IsInFrame frame t → IsInTrapezoid z t) → Contains others z
+pub all_in_rectangle : (frame : Frame) (traps others : List Trapezoid) (z : Trapezoid) → All (IsAround frame) traps
+    → ((t : Tile) → IsInFrame frame t → IsInTrapezoid z t) → Contains others z
     → (t : Tile) → IsInSome traps t → IsInSome others t
 all_in_rectangle frame traps others z all has among t some = counted t z others among (in_has t z (has t (some_in_box frame traps t all some)))
 

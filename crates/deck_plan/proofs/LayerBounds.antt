@@ -1,5 +1,7 @@
 -- Where the tiles of a layer are, by its vertices.
-use Rattle.std.proofs.Common.{◌≡◌, ℕ, zero, suc, ◌+◌, ◌^◌, ℤ, pos, neg_ℤ, ◌≤ℤ◌, ◌<ℤ◌, List, [], ◌∷◌, Option, Some, None, All, Any, Contains, Bool, true, false, int_le, if◌then◌else◌, IfSome, refl, sym, ap, subst, ◌∙◌, arith}
+use Rattle.std.proofs.Common.{◌≡◌, ℕ, zero, suc, ◌+◌, ◌^◌, ℤ, pos, neg_ℤ, ◌≤ℤ◌, ◌<ℤ◌, List, [], ◌∷◌, Option, Some, None}
+use Rattle.std.proofs.Common.{All, Any, Contains, Bool, true, false, int_le, if◌then◌else◌, IfSome, refl, sym, ap}
+use Rattle.std.proofs.Common.{subst, ◌∙◌, arith}
 use Rattle.std.proofs.lemmas.Int.{ints, by_lt_z}
 use Rattle.std.proofs.lemmas.List.Elements.{All-contains, recursion_from_All}
 use Rattle.half_grid.specs.Outlines.{IsClosed, HasGridEdges, IsOnGrid}
@@ -27,7 +29,9 @@ pub record IsOutline (points : List Point) : Type 0 where
 
 module _ (points : List Point) (outline : IsOutline points) (t : Tile) (inside : IsInPolygon points t) where
   from_under : (y : ℤ) → All (λ p. y ≤ℤ p.y) points → y ≤ℤ t.j
-  from_under y all = by_lt_z t.j y (λ lt. absurd (inside (closed_under points t y outline.closed (recursion_from_All (λ p. y ≤ℤ p.y) points all) lt))) (λ ge. ge)
+  from_under y all = by_lt_z t.j y
+      (λ lt. absurd (inside
+      (closed_under points t y outline.closed (recursion_from_All (λ p. y ≤ℤ p.y) points all) lt))) (λ ge. ge)
 
   to_over : (y : ℤ) → All (λ p. p.y ≤ℤ y) points → t.j <ℤ y
   to_over y all = by_lt_z t.j y (λ lt. lt) (λ ge. absurd (inside (closed_over points t y outline.closed (recursion_from_All (λ p. p.y ≤ℤ y) points all) ge)))
@@ -35,14 +39,18 @@ module _ (points : List Point) (outline : IsOutline points) (t : Tile) (inside :
   from_left : (x : ℤ) → All (λ p. x ≤ℤ p.x) points → x ≤ℤ t.i
   from_left x all =
       by_lt_z t.i x
-      (λ lt. absurd (inside (closed_left points t x outline.closed (recursion_from_All (λ p. x ≤ℤ p.x) points all) (omega (arith, ints, i_low t, i_high t, lt)))))
+      (λ lt. absurd (inside
+      (closed_left points t x outline.closed (recursion_from_All (λ p. x ≤ℤ p.x) points all)
+      (omega (arith, ints, i_low t, i_high t, lt)))))
       (λ ge. ge)
 
   to_right : (x : ℤ) → All (λ p. p.x ≤ℤ x) points → t.i <ℤ x
   to_right x all =
       by_lt_z t.i x
       (λ lt. lt)
-      (λ ge. absurd (inside (closed_right points t x outline.closed (recursion_from_All (λ p. p.x ≤ℤ x) points all) (recursion_from_All IsOnGrid (edges_of points) outline.grid) (omega (arith, ints, i_low t, i_high t, ge)))))
+      (λ ge. absurd (inside
+      (closed_right points t x outline.closed (recursion_from_All (λ p. p.x ≤ℤ x) points all)
+      (recursion_from_All IsOnGrid (edges_of points) outline.grid) (omega (arith, ints, i_low t, i_high t, ge)))))
 
   pub outline_near : ((p : Point) → Contains points p → IsWithin (2 ^ 30) p) → IsTileUpTo (2 ^ 30) t
   outline_near near =
@@ -65,7 +73,8 @@ some_point : (points : List Point) → IsClosed points → (p : Point) × Contai
 some_point [] closed = absurd closed
 some_point (p ∷ points) closed = (p, (0, omega arith, refl))
 
-module _ (cells : List Cell) (top : ℕ) (outlines : All (λ flat. IsOutline flat.points) (flattened cells top)) (pair : Pair) (t : Tile) (inside : IsInLayer cells top pair t) where
+module _ (cells : List Cell) (top : ℕ) (outlines : All (λ flat. IsOutline flat.points) (flattened cells top))
+    (pair : Pair) (t : Tile) (inside : IsInLayer cells top pair t) where
   flat : Flat
   flat = inside.1
 
@@ -97,7 +106,8 @@ rows_if : (b : Bool) (window : RowRange) → IsRowsUpTo (2 ^ 30) window → IfSo
 rows_if true window h = h
 rows_if false window h = tt
 
-pub hull_near : (cells : List Cell) (top : ℕ) (pair : Pair) (frame : Frame) → IsNear cells top → IsHull (IsVertex cells top pair) (Some frame) → IfSome (frame_rows frame) (IsRowsUpTo (2 ^ 30))
+pub hull_near : (cells : List Cell) (top : ℕ) (pair : Pair) (frame : Frame) → IsNear cells top
+    → IsHull (IsVertex cells top pair) (Some frame) → IfSome (frame_rows frame) (IsRowsUpTo (2 ^ 30))
 hull_near cells top pair frame near least =
     let b = least.bottom in
     let t = least.top in

@@ -37,7 +37,8 @@ pub name_sound : (n : ℕ) (pair : Pair) (operand : Operand) → (pair.a < n) ×
 name_sound n pair A h = h.0
 name_sound n pair B h = h.1
 
-listed : (lists : List (List Trapezoid)) (pair : Pair) (operand : Operand) → list_of operand (list_at lists pair.a) (list_at lists pair.b) ≡ list_at lists (name_of pair operand)
+listed : (lists : List (List Trapezoid)) (pair : Pair) (operand : Operand)
+    → list_of operand (list_at lists pair.a) (list_at lists pair.b) ≡ list_at lists (name_of pair operand)
 listed lists pair A = refl
 listed lists pair B = refl
 
@@ -50,13 +51,18 @@ by_step cells top frame area Xor a b window traps h = h
 
 -- the list of an operand is the one that the operation gives in the window
 abbrev pub IsKept : RowRange → Op → Operand → List Trapezoid → List Trapezoid → Type 0
-IsKept window op operand a b = All (IsInWindow window) (list_of operand a b) × ((t : Tile) → IsInSome (list_of operand a b) t ↔ OfBoth op (IsInSome a t) (IsInSome b t))
+IsKept window op operand a b = All (IsInWindow window) (list_of operand a b)
+    × ((t : Tile) → IsInSome (list_of operand a b) t ↔ OfBoth op (IsInSome a t) (IsInSome b t))
 
-pub kept_of : (window : RowRange) (op : Op) (operand : Operand) (a c b d : List Trapezoid) → a ≡ c → b ≡ d → IsKept window op operand a b → IsKept window op operand c d
-kept_of window op operand a c b d e f h = subst (λ (y : List Trapezoid). IsKept window op operand c y) f (subst (λ (x : List Trapezoid). IsKept window op operand x b) e h)
+pub kept_of : (window : RowRange) (op : Op) (operand : Operand) (a c b d : List Trapezoid) → a ≡ c → b ≡ d
+    → IsKept window op operand a b → IsKept window op operand c d
+kept_of window op operand a c b d e f h = subst (λ (y : List Trapezoid). IsKept window op operand c y) f
+    (subst (λ (x : List Trapezoid). IsKept window op operand x b) e h)
 
 module _ (lists : List (List Trapezoid)) (joined : (a : ℕ) → IsJoinedSomewhere (list_at lists a)) (pair : Pair) (operand : Operand) (window : RowRange) where
-  kept_area : IsKept window pair.op operand (list_at lists pair.a) (list_at lists pair.b) → HasArea window (λ t. OfBoth pair.op (IsListed lists pair.a t) (IsListed lists pair.b t)) (list_at lists (name_of pair operand))
+  kept_area : IsKept window pair.op operand (list_at lists pair.a) (list_at lists pair.b)
+      → HasArea window (λ t. OfBoth pair.op (IsListed lists pair.a t) (IsListed lists pair.b t))
+      (list_at lists (name_of pair operand))
   kept_area h =
       subst (HasArea window (λ t. OfBoth pair.op (IsListed lists pair.a t) (IsListed lists pair.b t))) (listed lists pair operand)
       (kept_has window (λ t. OfBoth pair.op (IsListed lists pair.a t) (IsListed lists pair.b t)) (list_of operand (list_at lists pair.a) (list_at lists pair.b))
@@ -64,7 +70,9 @@ module _ (lists : List (List Trapezoid)) (joined : (a : ℕ) → IsJoinedSomewhe
 
   -- the list of the operand is that of the step
   pub moved_area : (step : Step) → step ≡ step_of pair → IsKept window pair.op operand (list_at lists pair.a) (list_at lists pair.b)
-      → (cells : List Cell) (top : ℕ) (frame : Option Frame) → HasArea window (λ t. IsInStep cells top frame (IsListed lists) step t) (list_at lists (name_of pair operand))
+      → (cells : List Cell) (top : ℕ) (frame : Option Frame)
+      → HasArea window (λ t. IsInStep cells top frame (IsListed lists) step t)
+      (list_at lists (name_of pair operand))
   moved_area step e h cells top frame =
       subst (λ (s : Step). HasArea window (λ t. IsInStep cells top frame (IsListed lists) s t) (list_at lists (name_of pair operand))) (sym e)
       (by_step cells top frame (IsListed lists) pair.op pair.a pair.b window (list_at lists (name_of pair operand)) (kept_area h))

@@ -1,5 +1,7 @@
 -- The flattened shapes of a layout on the grid are closed outlines on the half grid.
-use Rattle.std.proofs.Common.{◌≡◌, ◌⊎◌, inl, inr, ℕ, zero, suc, ◌+◌, ◌<◌, ℤ, pos, negsuc, Bool, false, ◌+ℤ◌, List, [], ◌∷◌, ◌++◌, Option, Some, None, All, Any, Contains, map, length, get_or, slice_get, true, refl, sym, ap, subst, ◌∙◌, arith}
+use Rattle.std.proofs.Common.{◌≡◌, ◌⊎◌, inl, inr, ℕ, zero, suc, ◌+◌, ◌<◌, ℤ, pos, negsuc, Bool, false, ◌+ℤ◌, List, []}
+use Rattle.std.proofs.Common.{◌∷◌, ◌++◌, Option, Some, None, All, Any, Contains, map, length, get_or, slice_get, true}
+use Rattle.std.proofs.Common.{refl, sym, ap, subst, ◌∙◌, arith}
 use Rattle.std.proofs.lemmas.Int.{ints}
 use Rattle.std.proofs.lemmas.Bool.Decides.{nat_tests}
 use Rattle.std.proofs.lemmas.List.Elements.{All-contains, recursion_from_All, All-from_recursion}
@@ -58,30 +60,48 @@ module _ (cells : List Cell) (grid : All IsCellOnGrid cells) where
       let m = slot_all IsMove shape.offsets o.0 by g.offsets.moves o.2 in
       subst (λ (x : Flat). IsLoop x.points) o.3 (move_loop by shape.points m.even_x m.even_y (shape_loop shape g))
 
-  below_loop : (things : ℕ → List Flat) (placement : Placement) (f : Flat) → IsPlacementOnGrid placement → ((m : ℕ) (g : Flat) → Has (λ x. x ≡ g) (things m) → IsLoop g.points) → (found : Option ℕ)
+  below_loop : (things : ℕ → List Flat) (placement : Placement) (f : Flat) → IsPlacementOnGrid placement
+      → ((m : ℕ) (g : Flat) → Has (λ x. x ≡ g) (things m) → IsLoop g.points) → (found : Option ℕ)
       → Has (λ x. x ≡ f) (placed_things flat_image placement (option_map_or things found [])) → IsLoop f.points
   below_loop things placement f g loops None h =
-      let o = has_slot (λ by. Has (λ x. x ≡ f) (map (flat_image placement.orient (moved by placement.at)) [])) placement.offsets (has_flat (λ x. x ≡ f) (λ by. map (flat_image placement.orient (moved by placement.at)) []) placement.offsets h) in
+      let o = has_slot (λ by. Has (λ x. x ≡ f) (map (flat_image placement.orient (moved by placement.at)) []))
+      placement.offsets (has_flat (λ x. x ≡ f)
+      (λ by. map (flat_image placement.orient (moved by placement.at)) []) placement.offsets h) in
       absurd o.3
   below_loop things placement f g loops (Some m) h =
       let o = has_slot (λ by. Has (λ x. x ≡ f) (map (flat_image placement.orient (moved by placement.at)) (things m))) placement.offsets
       (has_flat (λ x. x ≡ f) (λ by. map (flat_image placement.orient (moved by placement.at)) (things m)) placement.offsets h) in
       let by : Point = o.1 in
-      let i = has_slot (λ x. flat_image placement.orient (moved by placement.at) x ≡ f) (things m) (has_map (λ x. x ≡ f) (flat_image placement.orient (moved by placement.at)) (things m) o.3) in
+      let i = has_slot (λ x. flat_image placement.orient (moved by placement.at) x ≡ f) (things m)
+      (has_map (λ x. x ≡ f) (flat_image placement.orient (moved by placement.at)) (things m) o.3) in
       let inner : Flat = i.1 in
       let loop = loops m inner (any_in (things m) i.0 inner i.2) in
       let move = slot_all IsMove placement.offsets o.0 by g.offsets.moves o.2 in
       subst (λ (x : Flat). IsLoop x.points) i.3
-      (image_loop placement.orient (moved by placement.at) inner.points (even_sum placement.at.x by.x g.at.even_x move.even_x) (even_sum placement.at.y by.y g.at.even_y move.even_y) loop)
+      (image_loop placement.orient (moved by placement.at) inner.points
+      (even_sum placement.at.x by.x g.at.even_x move.even_x)
+      (even_sum placement.at.y by.y g.at.even_y move.even_y) loop)
 
   loop_in : (depth n : ℕ) (f : Flat) → Has (λ x. x ≡ f) (things_within (own_flats cells) flat_image cells depth n) → IsLoop f.points
   loop_in zero n f h = absurd h
   loop_in (suc depth) n f h =
-      elim (has_split (λ x. x ≡ f) (own_flats cells n) (flat_map (λ placement. placed_things flat_image placement (option_map_or (things_within (own_flats cells) flat_image cells depth) (cell_number cells placement.target) [])) (placements_at cells n)) h) [
+      elim (has_split (λ x. x ≡ f) (own_flats cells n)
+      (flat_map (λ placement. placed_things flat_image placement
+      (option_map_or (things_within (own_flats cells) flat_image cells depth)
+      (cell_number cells placement.target) [])) (placements_at cells n)) h) [
         | inl a ↦ own_loop n f a
-        | inr b ↦ (let s = has_slot (λ placement. Has (λ x. x ≡ f) (placed_things flat_image placement (option_map_or (things_within (own_flats cells) flat_image cells depth) (cell_number cells placement.target) []))) (placements_at cells n)
-            (has_flat (λ x. x ≡ f) (λ placement. placed_things flat_image placement (option_map_or (things_within (own_flats cells) flat_image cells depth) (cell_number cells placement.target) [])) (placements_at cells n) b) in
-            below_loop (things_within (own_flats cells) flat_image cells depth) s.1 f (slot_all IsPlacementOnGrid (placements_at cells n) s.0 s.1 (on_grid cells grid n) s.2) (loop_in depth) (cell_number cells s.1.target) s.3)
+        | inr b ↦ (let s = has_slot
+            (λ placement. Has (λ x. x ≡ f)
+            (placed_things flat_image placement
+            (option_map_or (things_within (own_flats cells) flat_image cells depth)
+            (cell_number cells placement.target) []))) (placements_at cells n)
+            (has_flat (λ x. x ≡ f)
+            (λ placement. placed_things flat_image placement
+            (option_map_or (things_within (own_flats cells) flat_image cells depth)
+            (cell_number cells placement.target) [])) (placements_at cells n) b) in
+            below_loop (things_within (own_flats cells) flat_image cells depth) s.1 f
+            (slot_all IsPlacementOnGrid (placements_at cells n) s.0 s.1 (on_grid cells grid n) s.2) (loop_in depth)
+            (cell_number cells s.1.target) s.3)
       ]
 
   pub outlines : (top : ℕ) → All (λ flat. IsOutline flat.points) (flattened cells top)

@@ -1,5 +1,6 @@
 -- The pieces of shapes, shape by shape.
-use Rattle.std.proofs.Common.{◌≡◌, ◌⊎◌, inl, inr, ℕ, zero, suc, ◌+◌, ◌<◌, ◌≤◌, ℤ, ◌≤ℤ◌, List, [], ◌∷◌, Some, All, Any, length, slice_get, get_or, refl, sym, ap, subst, ◌∙◌, arith}
+use Rattle.std.proofs.Common.{◌≡◌, ◌⊎◌, inl, inr, ℕ, zero, suc, ◌+◌, ◌<◌, ◌≤◌, ℤ, ◌≤ℤ◌, List, [], ◌∷◌, Some, All, Any}
+use Rattle.std.proofs.Common.{length, slice_get, get_or, refl, sym, ap, subst, ◌∙◌, arith}
 use Rattle.std.proofs.lemmas.Int.{ints, clamps, by_lt_z}
 use Rattle.std.proofs.lemmas.Option.{slice_get_within, get_or_from_slice_get, same_Some, none-some}
 use Rattle.std.specs.Int.{int_min, int_max}
@@ -48,8 +49,12 @@ rows_of a (b ∷ points) =
     let r = rest.1 in (
       row_range (int_min a.y w.y0) (int_max a.y w.y1),
       record {
-        above = all_cons (λ p. int_min a.y w.y0 ≤ℤ p.y) a (b ∷ points) (omega (arith, ints, clamps)) (all_more (λ p. w.y0 ≤ℤ p.y) (λ p. int_min a.y w.y0 ≤ℤ p.y) (b ∷ points) (λ p h. omega (arith, ints, clamps, h)) r.above);
-        below = all_cons (λ p. p.y ≤ℤ int_max a.y w.y1) a (b ∷ points) (omega (arith, ints, clamps)) (all_more (λ p. p.y ≤ℤ w.y1) (λ p. p.y ≤ℤ int_max a.y w.y1) (b ∷ points) (λ p h. omega (arith, ints, clamps, h)) r.below);
+        above = all_cons (λ p. int_min a.y w.y0 ≤ℤ p.y) a (b ∷ points) (omega (arith, ints, clamps))
+            (all_more (λ p. w.y0 ≤ℤ p.y) (λ p. int_min a.y w.y0 ≤ℤ p.y) (b ∷ points)
+            (λ p h. omega (arith, ints, clamps, h)) r.above);
+        below = all_cons (λ p. p.y ≤ℤ int_max a.y w.y1) a (b ∷ points) (omega (arith, ints, clamps))
+            (all_more (λ p. p.y ≤ℤ w.y1) (λ p. p.y ≤ℤ int_max a.y w.y1) (b ∷ points)
+            (λ p h. omega (arith, ints, clamps, h)) r.below);
         least = by_lt_z a.y w.y0
             (λ lt. any_first (λ p. p.y ≡ int_min a.y w.y0) a (b ∷ points) (omega (arith, ints, clamps, lt)))
             (λ ge. any_cons (λ p. p.y ≡ w.y0) (λ p. p.y ≡ int_min a.y w.y0) a (b ∷ points) (λ p h. omega (arith, ints, clamps, ge, h)) r.least);
@@ -65,9 +70,11 @@ pieces_cover (a ∷ points) traps closed pieces = let r = rows_of a points in (p
 
 -- ---- shape by shape
 
-pub shape_on_grid : (cells : List Cell) → All IsCellOnGrid cells → (n k : ℕ) (shape : Shape) → slice_get (shapes_at cells n) k ≡ Some shape → IsShapeOnGrid shape
+pub shape_on_grid : (cells : List Cell) → All IsCellOnGrid cells → (n k : ℕ) (shape : Shape)
+    → slice_get (shapes_at cells n) k ≡ Some shape → IsShapeOnGrid shape
 shape_on_grid cells all n k shape here =
-    subst IsShapeOnGrid (get_or_from_slice_get (shapes_at cells n) k shape shape here) (shapes_on_grid cells all n k shape (slice_get_within (shapes_at cells n) k shape here))
+    subst IsShapeOnGrid (get_or_from_slice_get (shapes_at cells n) k shape shape here)
+    (shapes_on_grid cells all n k shape (slice_get_within (shapes_at cells n) k shape here))
 
 apart_or_same : (a b : ℕ) → (a ≡ b) ⊎ (a ≡ b → ⊥)
 apart_or_same zero zero = inl refl
@@ -81,7 +88,10 @@ before_or_at zero (suc n) early apart = omega arith
 before_or_at (suc k) zero early apart = absurd (omega (arith, early))
 before_or_at (suc k) (suc n) early apart = let h = before_or_at k n (omega (arith, early)) (λ e. apart (ap suc e)) in omega (arith, h)
 
-module _ (cells : List Cell) (table : List (List (List Trapezoid))) (cell number : ℕ) (shape : Shape) (pieces : List Trapezoid) (inside : cell < length cells) (here : slice_get (shapes_at cells cell) number ≡ Some shape) (shapes : HaveShapes cells table) (covers : CoversExactly pieces (IsInPolygon shape.points)) where
+module _ (cells : List Cell) (table : List (List (List Trapezoid))) (cell number : ℕ) (shape : Shape)
+    (pieces : List Trapezoid) (inside : cell < length cells)
+    (here : slice_get (shapes_at cells cell) number ≡ Some shape) (shapes : HaveShapes cells table)
+    (covers : CoversExactly pieces (IsInPolygon shape.points)) where
   pub place : HasShape table cell number
   place = shapes cell number inside (slice_get_within (shapes_at cells cell) number shape here)
 
@@ -95,11 +105,14 @@ module _ (cells : List Cell) (table : List (List (List Trapezoid))) (cell number
     | inr d ↦ cut_elsewhere table cell number n k other pieces d cut
   ]
 
-  cut_new : (n k : ℕ) (other : Shape) → n ≡ cell → k ≡ number → slice_get (shapes_at cells n) k ≡ Some other → IsCut (with_pieces table cell number pieces) n k other
+  cut_new : (n k : ℕ) (other : Shape) → n ≡ cell → k ≡ number → slice_get (shapes_at cells n) k ≡ Some other
+      → IsCut (with_pieces table cell number pieces) n k other
   cut_new n k other e f there =
       let same : shape ≡ other = same_Some shape other (sym here ∙ (rw (sym e, sym f) there)) in
       subst (λ (s : Shape). IsCut (with_pieces table cell number pieces) n k s) same
-      (subst (λ m. IsCut (with_pieces table cell number pieces) m k shape) (sym e) (subst (λ m. IsCut (with_pieces table cell number pieces) cell m shape) (sym f) (cut_here table cell number shape pieces place covers)))
+      (subst (λ m. IsCut (with_pieces table cell number pieces) m k shape) (sym e)
+      (subst (λ m. IsCut (with_pieces table cell number pieces) cell m shape) (sym f)
+      (cut_here table cell number shape pieces place covers)))
 
   pub cut_more : AreCutUpTo cells table cell number → AreCutUpTo cells (with_pieces table cell number pieces) cell (number + 1)
   cut_more cut = λ n k other early there. elim early [
@@ -111,10 +124,12 @@ module _ (cells : List Cell) (table : List (List (List Trapezoid))) (cell number
   ]
 
 -- the cell is cut
-pub cell_cut : (cells : List Cell) (table : List (List (List Trapezoid))) (cell number : ℕ) → length (shapes_at cells cell) ≤ number → AreCutUpTo cells table cell number → AreCutUpTo cells table (cell + 1) 0
+pub cell_cut : (cells : List Cell) (table : List (List (List Trapezoid))) (cell number : ℕ)
+    → length (shapes_at cells cell) ≤ number → AreCutUpTo cells table cell number → AreCutUpTo cells table (cell + 1) 0
 cell_cut cells table cell number all cut = λ n k shape early there. elim early [
   | inl before ↦ elim (apart_or_same n cell) [
-    | inl e ↦ (let inside = slice_get_within (shapes_at cells n) k shape there in cut n k shape (inr (e, omega (arith, inside, all, ap (λ m. length (shapes_at cells m)) e))) there)
+    | inl e ↦ (let inside = slice_get_within (shapes_at cells n) k shape there in cut n k shape
+        (inr (e, omega (arith, inside, all, ap (λ m. length (shapes_at cells m)) e))) there)
     | inr d ↦ cut n k shape (inl (before_or_at n cell before d)) there
   ]
   | inr own ↦ absurd (omega (arith, own.1))
@@ -126,5 +141,6 @@ cell_of (cell ∷ cells) zero k shape there = omega arith
 cell_of (cell ∷ cells) (suc n) k shape there = let h = cell_of cells n k shape there in omega (arith, h)
 
 -- all cells are cut
-pub all_cut : (cells : List Cell) (table : List (List (List Trapezoid))) (cell : ℕ) → length cells ≤ cell → AreCutUpTo cells table cell 0 → AreAllCut cells table
+pub all_cut : (cells : List Cell) (table : List (List (List Trapezoid))) (cell : ℕ) → length cells ≤ cell
+    → AreCutUpTo cells table cell 0 → AreAllCut cells table
 all_cut cells table cell all cut = λ n k shape there. cut n k shape (inl (omega (arith, all, cell_of cells n k shape there))) there

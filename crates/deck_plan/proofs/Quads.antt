@@ -1,5 +1,6 @@
 -- The area of a layer by the windings of its pieces.
-use Rattle.std.proofs.Common.{◌≡◌, ℕ, ℤ, pos, ◌+ℤ◌, ◌≤ℤ◌, ◌⊎◌, inl, inr, List, [], ◌∷◌, ◌++◌, flat_map, All, ap, refl, sym, subst, ◌∙◌, arith, append_assoc, append-nil}
+use Rattle.std.proofs.Common.{◌≡◌, ℕ, ℤ, pos, ◌+ℤ◌, ◌≤ℤ◌, ◌⊎◌, inl, inr, List, [], ◌∷◌, ◌++◌, flat_map, All, ap, refl}
+use Rattle.std.proofs.Common.{sym, subst, ◌∙◌, arith, append_assoc, append-nil}
 use Rattle.std.proofs.lemmas.Int.{ints}
 use Rattle.std.proofs.lemmas.List.Elements.{All-head, All-tail}
 use Rattle.std.proofs.lemmas.List.Sums.{sum_by-append}
@@ -69,15 +70,23 @@ balanced_at (q ∷ quads) o j all =
     let k = balanced_at quads o j (All-tail (λ q. HasGridEdges (ring_of q)) q quads all) in
     sum_by-append _ (edges_of_quad q) (flat_map edges_of_quad quads) ∙ (rw (h, k) (sym (sum_by-append _ (edges_of_quad q) (flat_map edges_of_quad quads))))
 
-pub quads_balanced : (quads : List Corners) (edges : List EdgeParts) (window : RowRange) → All (λ q. HasGridEdges (ring_of q)) quads → AddUpAlike edges (flat_map edges_of_quad quads) → IsBalanced edges window
+pub quads_balanced : (quads : List Corners) (edges : List EdgeParts) (window : RowRange)
+    → All (λ q. HasGridEdges (ring_of q)) quads → AddUpAlike edges (flat_map edges_of_quad quads)
+    → IsBalanced edges window
 quads_balanced quads edges window all alike = λ o j low high. balanced_alike o j edges (flat_map edges_of_quad quads) alike (balanced_at quads o j all)
 
-pub layer_has : (cells : List Cell) (top : ℕ) (pair : Pair) (window : RowRange) (quads : List Corners) → All IsQuad quads → CoversLayer cells top pair window quads
-    → (edges : List EdgeParts) → AddUpAlike edges (flat_map edges_of_quad quads) → (traps : List Trapezoid) → IsJoinedOf window (IsWoundIn edges window) traps → HasArea window (IsInLayer cells top pair) traps
+pub layer_has : (cells : List Cell) (top : ℕ) (pair : Pair) (window : RowRange) (quads : List Corners)
+    → All IsQuad quads → CoversLayer cells top pair window quads
+    → (edges : List EdgeParts) → AddUpAlike edges (flat_map edges_of_quad quads) → (traps : List Trapezoid)
+    → IsJoinedOf window (IsWoundIn edges window) traps → HasArea window (IsInLayer cells top pair) traps
 layer_has cells top pair window quads all covers edges alike traps joined =
     let same : (t : Tile) → edges_winding A edges t ≡ winds quads t = λ t. winding_alike A t edges (flat_map edges_of_quad quads) alike in
     joined_has window (IsWoundIn edges window) (IsInLayer cells top pair) traps joined (wound_decided edges window)
-    (λ t h. (h.rows, (covers t h.rows.from h.rows.below).0 (elim (quads_wind quads t all) [ inl w ↦ has_any (In t) quads w.0 | inr w ↦ absurd (h.wound (same t ∙ w.1)) ])))
+    (λ t h. (
+      h.rows,
+      (covers t h.rows.from h.rows.below).0
+          (elim (quads_wind quads t all) [ inl w ↦ has_any (In t) quads w.0 | inr w ↦ absurd (h.wound (same t ∙ w.1)) ]),
+    ))
     (λ t rows a. record {
       rows = rows;
       wound = λ e. elim (quads_wind quads t all) [
@@ -88,17 +97,24 @@ layer_has cells top pair window quads all covers edges alike traps joined =
 
 -- ---- the loops
 
-pub one_put : (xs new rest others target : List EdgeParts) (x : EdgeParts) → AddUpAlike new (xs ++ x ∷ []) → rest ≡ x ∷ others → AddUpAlike (xs ++ rest) target → AddUpAlike (new ++ others) target
+pub one_put : (xs new rest others target : List EdgeParts) (x : EdgeParts) → AddUpAlike new (xs ++ x ∷ [])
+    → rest ≡ x ∷ others → AddUpAlike (xs ++ rest) target → AddUpAlike (new ++ others) target
 one_put xs new rest others target x alike first all =
     alike_trans (new ++ others) ((xs ++ x ∷ []) ++ others) target (alike_append new (xs ++ x ∷ []) others others alike (alike_refl others))
     (subst (λ (ys : List EdgeParts). AddUpAlike ys target) (sym (append_assoc xs (x ∷ []) others ∙ ap (λ ys. xs ++ ys) (sym first))) all)
 
-pub ring_put : (quad : Corners) (rest others : List Corners) (edges new target : List EdgeParts) → AddUpAlike (edges ++ flat_map edges_of_quad rest) target → rest ≡ quad ∷ others
+pub ring_put : (quad : Corners) (rest others : List Corners) (edges new target : List EdgeParts)
+    → AddUpAlike (edges ++ flat_map edges_of_quad rest) target → rest ≡ quad ∷ others
     → AddUpAlike new (edges ++ edges_of_quad quad) → AddUpAlike (new ++ flat_map edges_of_quad others) target
 ring_put quad rest others edges new target all first alike =
     alike_trans (new ++ flat_map edges_of_quad others) ((edges ++ edges_of_quad quad) ++ flat_map edges_of_quad others) target
-    (alike_append new (edges ++ edges_of_quad quad) (flat_map edges_of_quad others) (flat_map edges_of_quad others) alike (alike_refl (flat_map edges_of_quad others)))
-    (subst (λ (ys : List EdgeParts). AddUpAlike ys target) (sym (append_assoc edges (edges_of_quad quad) (flat_map edges_of_quad others) ∙ ap (λ qs. edges ++ flat_map edges_of_quad qs) (sym first))) all)
+    (alike_append new (edges ++ edges_of_quad quad) (flat_map edges_of_quad others)
+    (flat_map edges_of_quad others) alike (alike_refl (flat_map edges_of_quad others)))
+    (subst (λ (ys : List EdgeParts). AddUpAlike ys target)
+    (sym (append_assoc edges (edges_of_quad quad) (flat_map edges_of_quad others) ∙ ap
+    (λ qs. edges ++ flat_map edges_of_quad qs) (sym first))) all)
 
-pub all_put : (rest : List Corners) (edges target : List EdgeParts) → AddUpAlike (edges ++ flat_map edges_of_quad rest) target → rest ≡ [] → AddUpAlike edges target
-all_put rest edges target all none = subst (λ (ys : List EdgeParts). AddUpAlike ys target) (ap (λ qs. edges ++ flat_map edges_of_quad qs) none ∙ append-nil edges) all
+pub all_put : (rest : List Corners) (edges target : List EdgeParts)
+    → AddUpAlike (edges ++ flat_map edges_of_quad rest) target → rest ≡ [] → AddUpAlike edges target
+all_put rest edges target all none = subst (λ (ys : List EdgeParts). AddUpAlike ys target)
+    (ap (λ qs. edges ++ flat_map edges_of_quad qs) none ∙ append-nil edges) all

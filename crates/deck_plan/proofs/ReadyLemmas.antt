@@ -1,5 +1,8 @@
 -- The areas of the definitions of an output, from the first one up.
-use Rattle.std.proofs.Common.{Contains, ◌≡◌, ◌∙◌, ◌⊎◌, inl, inr, ℕ, zero, suc, ◌+◌, ◌^◌, ◌<◌, ◌≤◌, ℤ, pos, ◌+ℤ◌, ◌-ℤ◌, ◌≤ℤ◌, List, [], ◌∷◌, ◌++◌, Option, Some, None, IfSome, IsSomeAnd, All, Bool, true, false, if◌then◌else◌, map, length, set, get_or, slice_get, refl, sym, ap, subst, arith, length-append}
+use Rattle.std.proofs.Common.{Contains, ◌≡◌, ◌∙◌, ◌⊎◌, inl, inr, ℕ, zero, suc, ◌+◌, ◌^◌, ◌<◌, ◌≤◌, ℤ, pos, ◌+ℤ◌, ◌-ℤ◌}
+use Rattle.std.proofs.Common.{◌≤ℤ◌, List, [], ◌∷◌, ◌++◌, Option, Some, None, IfSome, IsSomeAnd, All, Bool, true, false}
+use Rattle.std.proofs.Common.{if◌then◌else◌, map, length, set, get_or, slice_get, refl, sym, ap, subst, arith}
+use Rattle.std.proofs.Common.{length-append}
 use Rattle.std.proofs.lemmas.Int.{ints}
 use Rattle.std.proofs.lemmas.Bool.{eqb-true, false≢true}
 use Rattle.std.proofs.lemmas.List.Elements.{All-contains}
@@ -52,17 +55,21 @@ chosen : (lists : List (List Trapezoid)) (n : ℕ) (test : Bool) → test ≡ tr
 chosen lists n true e = refl
 chosen lists n false e = absurd (false≢true e)
 
-pub let_go_list : {V : Type 0} (f : V → List Trapezoid) (vs : List V) (v : V) (needs : List (Option Need)) (user : ℕ) (found : Option Taken) (operand : Taken) → found ≡ Some operand
+pub let_go_list : {V : Type 0} (f : V → List Trapezoid) (vs : List V) (v : V) (needs : List (Option Need)) (user : ℕ)
+    (found : Option Taken) (operand : Taken) → found ≡ Some operand
     → ends_at (get_or needs operand.name None) user ≡ true → f v ≡ [] → map f (set vs operand.name v) ≡ let_go needs user found (map f vs)
 let_go_list f vs v needs user found operand is ends empty =
     subst (λ x. map f (set vs operand.name v) ≡ let_go needs user x (map f vs)) (sym is)
-    (map_set f vs operand.name v ∙ (ap (set (map f vs) operand.name) empty ∙ chosen (map f vs) operand.name (ends_at (get_or needs operand.name None) user) ends))
+    (map_set f vs operand.name v
+    ∙ (ap (set (map f vs) operand.name) empty ∙ chosen (map f vs) operand.name
+    (ends_at (get_or needs operand.name None) user) ends))
 
 by_test_length : (lists : List (List Trapezoid)) (n : ℕ) (test : Bool) → length (if test then set lists n [] else lists) ≡ length lists
 by_test_length lists n true = set_length lists n []
 by_test_length lists n false = refl
 
-pub let_go_length : (needs : List (Option Need)) (user : ℕ) (operand : Option Taken) (lists : List (List Trapezoid)) → length (let_go needs user operand lists) ≡ length lists
+pub let_go_length : (needs : List (Option Need)) (user : ℕ) (operand : Option Taken) (lists : List (List Trapezoid))
+    → length (let_go needs user operand lists) ≡ length lists
 let_go_length needs user None lists = refl
 let_go_length needs user (Some operand) lists = by_test_length lists operand.name (ends_at (get_or needs operand.name None) user)
 
@@ -120,12 +127,19 @@ module _ (cells : List Cell) (top : ℕ) (deck : Deck) (band : RowRange) (needs 
   module _ (sound : (k : ℕ) (step : Step) → slice_get deck.steps k ≡ Some step → IsSoundStep deck.frame k step) where
     module _ (name : ℕ) (halos : AreHalos deck name 0 needs) (lists : List (List Trapezoid)) (n : ℕ) (held : (m : ℕ) → m < n → Held n m (list_at lists m)) where
       -- what a definition from n on takes is there yet
-      still : (m : ℕ) (need : Need) → m < n → NeedIs needs m need → n ≤ need.last → HasArea (widened need.halo band) (IsInArea cells top deck m) (list_at lists m)
-      still m need early is later = elim (held m early) [ inl r ↦ r.needed need is | inr gone ↦ (let past = gone.1 need is in absurd (omega (arith, past, later))) ]
+      still : (m : ℕ) (need : Need) → m < n → NeedIs needs m need → n ≤ need.last
+          → HasArea (widened need.halo band) (IsInArea cells top deck m) (list_at lists m)
+      still m need early is later = elim
+          (held m early) [
+            | inl r ↦ r.needed need is
+            | inr gone ↦
+                (let past = gone.1 need is in absurd (omega (arith, past, later)))
+          ]
 
       -- the area of the next definition, by its step
       pub next_area : (step : Step) (need : Need) (traps : List Trapezoid) → slice_get deck.steps n ≡ Some step → NeedIs needs n need
-          → HasArea (widened need.halo band) (λ t. IsInStep cells top deck.frame (IsListed lists) step t) traps → HasArea (widened need.halo band) (IsInArea cells top deck n) traps
+          → HasArea (widened need.halo band) (λ t. IsInStep cells top deck.frame (IsListed lists) step t) traps
+          → HasArea (widened need.halo band) (IsInArea cells top deck n) traps
       next_area step need traps here is h =
           step_area cells top deck sound lists n step (widened need.halo band) traps here
           (λ operand among u rows.
@@ -133,8 +147,12 @@ module _ (cells : List Cell) (top : ℕ) (deck : Deck) (band : RowRange) (needs 
           let o = halos.operands n need operand (omega arith) is takes in
           let early = (sound_operand deck.frame n step operand (sound n step here) among).earlier in
           let has = still operand.name o.0 early o.1 o.3 in
-          let more = o.2 in
-          (λ listed. (has.inside u listed).1, λ area. has.all u (record { from = omega (arith, ints, rows.from, more); below = omega (arith, ints, rows.below, more) }) area))
+          let more = o.2 in (
+            λ listed. (has.inside u listed).1,
+            λ area. has.all u
+                (record { from = omega (arith, ints, rows.from, more); below = omega (arith, ints, rows.below, more) })
+                area,
+          ))
           h
 
     -- what is ready isn't far from 0
@@ -150,7 +168,8 @@ module _ (cells : List Cell) (top : ℕ) (deck : Deck) (band : RowRange) (needs 
       empty_all : (P : Trapezoid → Type 0) (traps : List Trapezoid) → traps ≡ [] → All P traps
       empty_all P traps e = subst (All P) (sym e) (λ k d inside. absurd (omega (arith, inside)))
 
-      by_need : (n : ℕ) (traps : List Trapezoid) → n < 256 → Ready n traps → (found : Option Need) → get_or needs n None ≡ found → All IsLegal traps × All (HasCornersUpTo (2 ^ 42)) traps
+      by_need : (n : ℕ) (traps : List Trapezoid) → n < 256 → Ready n traps → (found : Option Need)
+          → get_or needs n None ≡ found → All IsLegal traps × All (HasCornersUpTo (2 ^ 42)) traps
       by_need n traps few r None e = (empty_all IsLegal traps (r.others e), empty_all (HasCornersUpTo (2 ^ 42)) traps (r.others e))
       by_need n traps few r (Some need) e =
           let h = r.needed need (filled needs n need e) in
@@ -160,10 +179,16 @@ module _ (cells : List Cell) (top : ℕ) (deck : Deck) (band : RowRange) (needs 
       ready_near n traps few r = by_need n traps few r (get_or needs n None) refl
 
       held_near : (from n : ℕ) (traps : List Trapezoid) → n < 256 → Held from n traps → All IsLegal traps × All (HasCornersUpTo (2 ^ 42)) traps
-      held_near from n traps few h = elim h [ inl r ↦ ready_near n traps few r | inr gone ↦ (empty_all IsLegal traps gone.0, empty_all (HasCornersUpTo (2 ^ 42)) traps gone.0) ]
+      held_near from n traps few h =
+          elim h [
+            | inl r ↦ ready_near n traps few r
+            | inr gone ↦
+                (empty_all IsLegal traps gone.0, empty_all (HasCornersUpTo (2 ^ 42)) traps gone.0)
+          ]
 
       -- all lists so far
-      pub lists_near : (from : ℕ) (lists : List (List Trapezoid)) → length lists ≤ 256 → All_held from lists → (a : ℕ) → All IsLegal (list_at lists a) × All (HasCornersUpTo (2 ^ 42)) (list_at lists a)
+      pub lists_near : (from : ℕ) (lists : List (List Trapezoid)) → length lists ≤ 256 → All_held from lists → (a : ℕ)
+          → All IsLegal (list_at lists a) × All (HasCornersUpTo (2 ^ 42)) (list_at lists a)
       lists_near from lists few held a = elim (below_or a (length lists)) [
         | inl early ↦ held_near from a (list_at lists a) (omega (arith, early, few)) (held a early)
         | inr late ↦ (empty_all IsLegal (list_at lists a) (past lists a late), empty_all (HasCornersUpTo (2 ^ 42)) (list_at lists a) (past lists a late))
@@ -213,10 +238,12 @@ module _ (cells : List Cell) (top : ℕ) (deck : Deck) (band : RowRange) (needs 
   pub all_held_on : (from : ℕ) (lists : List (List Trapezoid)) → All_held from lists → All_held (from + 1) lists
   all_held_on from lists held m inside = held_on from m (list_at lists m) (held m inside)
 
-  held_put : (lists : List (List Trapezoid)) (traps : List Trapezoid) → All_held (length lists + 1) lists → Ready (length lists) traps → All_held (length lists + 1) (lists ++ traps ∷ [])
+  held_put : (lists : List (List Trapezoid)) (traps : List Trapezoid) → All_held (length lists + 1) lists
+      → Ready (length lists) traps → All_held (length lists + 1) (lists ++ traps ∷ [])
   held_put lists traps before new m inside = elim (at_last m (length lists) (omega (arith, inside, length-append lists (traps ∷ [])))) [
     | inl early ↦ subst (λ list. Held (length lists + 1) m list) (sym (put_before lists traps m early)) (before m early)
-    | inr last ↦ inl (subst (λ k. Ready k (list_at (lists ++ traps ∷ []) k)) (sym last) (subst (λ list. Ready (length lists) list) (sym (put_last lists traps)) new))
+    | inr last ↦ inl (subst (λ k. Ready k (list_at (lists ++ traps ∷ []) k)) (sym last)
+        (subst (λ list. Ready (length lists) list) (sym (put_last lists traps)) new))
   ]
 
   -- the definition `user` is done, and it was the last that takes this one
@@ -227,7 +254,8 @@ module _ (cells : List Cell) (top : ℕ) (deck : Deck) (band : RowRange) (needs 
       let last : need.last ≡ user = eqb-true need.last user ends in
       omega (arith, last, ap (λ (x : Need). x.last) same)
 
-  held_one : (user n : ℕ) (lists : List (List Trapezoid)) → n < length lists → IsPast needs (user + 1) n → All_held (user + 1) lists → All_held (user + 1) (set lists n [])
+  held_one : (user n : ℕ) (lists : List (List Trapezoid)) → n < length lists → IsPast needs (user + 1) n
+      → All_held (user + 1) lists → All_held (user + 1) (set lists n [])
   held_one user n lists inside past held m early_set =
       let early : m < length lists = subst (λ k. m < k) (set_length lists n []) early_set in
       elim (get_cases lists n [] [] m inside) [
@@ -236,14 +264,18 @@ module _ (cells : List Cell) (top : ℕ) (deck : Deck) (band : RowRange) (needs 
       ]
 
   -- the list of an operand is moved, which no later definition takes
-  pub held_moved : (user n : ℕ) (lists : List (List Trapezoid)) → n < length lists → ends_at (get_or needs n None) user ≡ true → All_held user lists → All_held (user + 1) (set lists n [])
+  pub held_moved : (user n : ℕ) (lists : List (List Trapezoid)) → n < length lists
+      → ends_at (get_or needs n None) user ≡ true → All_held user lists → All_held (user + 1) (set lists n [])
   held_moved user n lists inside ends held = held_one user n lists inside (past_last user n (get_or needs n None) ends refl) (all_held_on user lists held)
 
-  by_test : (user n : ℕ) (lists : List (List Trapezoid)) (test : Bool) → ends_at (get_or needs n None) user ≡ test → n < length lists → All_held (user + 1) lists → All_held (user + 1) (if test then set lists n [] else lists)
+  by_test : (user n : ℕ) (lists : List (List Trapezoid)) (test : Bool) → ends_at (get_or needs n None) user ≡ test
+      → n < length lists → All_held (user + 1) lists → All_held (user + 1) (if test then set lists n [] else lists)
   by_test user n lists true e inside held = held_one user n lists inside (past_last user n (get_or needs n None) e refl) held
   by_test user n lists false e inside held = held
 
-  held_let_go : (user : ℕ) (operand : Option Taken) (lists : List (List Trapezoid)) → IfSome operand (λ operand. operand.name < length lists) → All_held (user + 1) lists → All_held (user + 1) (let_go needs user operand lists)
+  held_let_go : (user : ℕ) (operand : Option Taken) (lists : List (List Trapezoid))
+      → IfSome operand (λ operand. operand.name < length lists) → All_held (user + 1) lists
+      → All_held (user + 1) (let_go needs user operand lists)
   held_let_go user None lists inside held = held
   held_let_go user (Some operand) lists inside held = by_test user operand.name lists (ends_at (get_or needs operand.name None) user) refl inside held
 
@@ -251,18 +283,22 @@ module _ (cells : List Cell) (top : ℕ) (deck : Deck) (band : RowRange) (needs 
   inside_still operand n k e h = subst (λ k. IfSome operand (λ operand. operand.name < k)) e h
 
   -- what is held once the next definition is done, which has these operands
-  pub held_next : (lists : List (List Trapezoid)) (traps : List Trapezoid) (first second : Option Taken) → All_held (length lists + 1) lists → Ready (length lists) traps
+  pub held_next : (lists : List (List Trapezoid)) (traps : List Trapezoid) (first second : Option Taken)
+      → All_held (length lists + 1) lists → Ready (length lists) traps
       → IfSome first (λ operand. operand.name < length lists + 1) → IfSome second (λ operand. operand.name < length lists + 1)
       → All_held (length lists + 1) (let_go needs (length lists) second (let_go needs (length lists) first (lists ++ traps ∷ [])))
   held_next lists traps first second held ready one two =
       let put = lists ++ traps ∷ [] in
       let long = length-append lists (traps ∷ []) in
       let after = let_go needs (length lists) first put in
-      held_let_go (length lists) second after (inside_still second (length lists + 1) (length after) (sym (let_go_length needs (length lists) first put ∙ long)) two)
+      held_let_go (length lists) second after
+      (inside_still second (length lists + 1) (length after)
+      (sym (let_go_length needs (length lists) first put ∙ long)) two)
       (held_let_go (length lists) first put (inside_still first (length lists + 1) (length put) (sym long) one) (held_put lists traps held ready))
 
   -- the same of what is kept of each list
-  pub held_step : {V : Type 0} (f : V → List Trapezoid) (vs : List V) (v : V) (first second : Option Taken) (after : List V) → All_held (length vs + 1) (map f vs) → Ready (length vs) (f v)
+  pub held_step : {V : Type 0} (f : V → List Trapezoid) (vs : List V) (v : V) (first second : Option Taken)
+      (after : List V) → All_held (length vs + 1) (map f vs) → Ready (length vs) (f v)
       → IfSome first (λ operand. operand.name < length vs + 1) → IfSome second (λ operand. operand.name < length vs + 1)
       → map f after ≡ let_go needs (length vs) second (let_go needs (length vs) first (map f (vs ++ v ∷ [])))
       → (length after ≡ length vs + 1) × All_held (length after) (map f after)
@@ -288,17 +324,22 @@ module _ (cells : List Cell) (top : ℕ) (deck : Deck) (band : RowRange) (needs 
       ap (λ y. row_range y (band.y1 +ℤ halo)) low ∙ ap (λ y. row_range band.y0 y) high
 
   pub own_area : (name : ℕ) (traps : List Trapezoid) → AreHalos deck name 0 needs → Ready name traps → HasArea band (IsInArea cells top deck name) traps
-  own_area name traps halos r = subst (λ w. HasArea w (IsInArea cells top deck name) traps) (own_window halos.own.0.halo halos.own.2) (r.needed halos.own.0 halos.own.1)
+  own_area name traps halos r = subst (λ w. HasArea w (IsInArea cells top deck name) traps)
+      (own_window halos.own.0.halo halos.own.2) (r.needed halos.own.0 halos.own.1)
 
-  by_output : (name : ℕ) (found : Option Output) (t : Tile) → IsSomeAnd found (λ output. output.name ≡ name) → IsInArea cells top deck name t → IsSomeAnd found (λ output. IsInArea cells top deck output.name t)
+  by_output : (name : ℕ) (found : Option Output) (t : Tile) → IsSomeAnd found (λ output. output.name ≡ name)
+      → IsInArea cells top deck name t → IsSomeAnd found (λ output. IsInArea cells top deck output.name t)
   by_output name None t e h = absurd e
   by_output name (Some output) t e h = subst (λ n. IsInArea cells top deck n t) (sym e) h
 
-  of_output : (name : ℕ) (found : Option Output) (t : Tile) → IsSomeAnd found (λ output. output.name ≡ name) → IsSomeAnd found (λ output. IsInArea cells top deck output.name t) → IsInArea cells top deck name t
+  of_output : (name : ℕ) (found : Option Output) (t : Tile) → IsSomeAnd found (λ output. output.name ≡ name)
+      → IsSomeAnd found (λ output. IsInArea cells top deck output.name t) → IsInArea cells top deck name t
   of_output name None t e h = absurd e
   of_output name (Some output) t e h = subst (λ n. IsInArea cells top deck n t) e h
 
-  pub output_area : (name k : ℕ) (traps : List Trapezoid) → IsSomeAnd (slice_get deck.outputs k) (λ output. output.name ≡ name) → HasArea band (IsInArea cells top deck name) traps → IsJoinedOf band (IsInBand cells top deck k band) traps
+  pub output_area : (name k : ℕ) (traps : List Trapezoid)
+      → IsSomeAnd (slice_get deck.outputs k) (λ output. output.name ≡ name)
+      → HasArea band (IsInArea cells top deck name) traps → IsJoinedOf band (IsInBand cells top deck k band) traps
   output_area name k traps named has =
       let all = covers_exactly band (IsInArea cells top deck name) traps has in
       record {
@@ -311,9 +352,12 @@ module _ (cells : List Cell) (top : ℕ) (deck : Deck) (band : RowRange) (needs 
 
   -- ---- the next list
 
-  pub ready_some : (n : ℕ) (need : Need) (traps : List Trapezoid) → NeedIs needs n need → HasArea (widened need.halo band) (IsInArea cells top deck n) traps → Ready n traps
+  pub ready_some : (n : ℕ) (need : Need) (traps : List Trapezoid) → NeedIs needs n need
+      → HasArea (widened need.halo band) (IsInArea cells top deck n) traps → Ready n traps
   ready_some n need traps is h = record {
-    needed = λ other there. (let same = one_slot needs n (Some need) (Some other) is there in subst (λ (x : Need). HasArea (widened x.halo band) (IsInArea cells top deck n) traps) (same_Some need other same) h);
+    needed = λ other there.
+        (let same = one_slot needs n (Some need) (Some other) is there in subst
+        (λ (x : Need). HasArea (widened x.halo band) (IsInArea cells top deck n) traps) (same_Some need other same) h);
     others = λ none. absurd (none-some need (sym none ∙ get_or_from_slice_get needs n (Some need) None is));
   }
 
@@ -323,11 +367,13 @@ module _ (cells : List Cell) (top : ℕ) (deck : Deck) (band : RowRange) (needs 
     others = λ same. e;
   }
 
-pub window_near : (band : RowRange) (halo : ℤ) → IsBand band → pos 0 ≤ℤ halo → halo ≤ℤ pos (2 ^ 40) → IsUpTo (2 ^ 50) (widened halo band).y0 × IsUpTo (2 ^ 50) (widened halo band).y1
+pub window_near : (band : RowRange) (halo : ℤ) → IsBand band → pos 0 ≤ℤ halo → halo ≤ℤ pos (2 ^ 40)
+    → IsUpTo (2 ^ 50) (widened halo band).y0 × IsUpTo (2 ^ 50) (widened halo band).y1
 window_near band halo b low high = (
   record { low = omega (arith, ints, b.low.low, high); high = omega (arith, ints, b.low.high, low) },
   record { low = omega (arith, ints, b.high.low, low); high = omega (arith, ints, b.high.high, high) },
 )
 
-pub window_of : (band : RowRange) (need : Need) (found : Option Need) (window : RowRange) → found ≡ Some need → window ≡ window_for band found → window ≡ widened need.halo band
+pub window_of : (band : RowRange) (need : Need) (found : Option Need) (window : RowRange) → found ≡ Some need
+    → window ≡ window_for band found → window ≡ widened need.halo band
 window_of band need found window e is = is ∙ ap (window_for band) e

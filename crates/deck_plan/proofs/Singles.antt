@@ -31,7 +31,8 @@ pub one_in : (z : Trapezoid) (t : Tile) → IsInTrapezoid z t → IsInSome (z �
 one_in z t h = let here = ap count_one (in_has t z h) in omega (arith, count_by-cons (trapezoid_has t) z [], here)
 
 -- what isn't in the list is taken from the frame
-pub inverted_has : (frame : Frame) (z : Trapezoid) → ((t : Tile) → IsInTrapezoid z t ↔ IsInFrame frame t) → (traps : List Trapezoid) (window : RowRange) (inverted : List Trapezoid)
+pub inverted_has : (frame : Frame) (z : Trapezoid) → ((t : Tile) → IsInTrapezoid z t ↔ IsInFrame frame t)
+    → (traps : List Trapezoid) (window : RowRange) (inverted : List Trapezoid)
     → IsJoinedOf window (IsInResult Sub (z ∷ []) traps window) inverted → HasArea window (λ t. IsInFrame frame t × (IsInSome traps t → ⊥)) inverted
 inverted_has frame z tiles traps window inverted joined =
     same_area window (λ t. IsInSome (z ∷ []) t × (IsInSome traps t → ⊥)) (λ t. IsInFrame frame t × (IsInSome traps t → ⊥)) inverted

@@ -1,5 +1,6 @@
 -- Areas that grow and shrink, by the windings of rings.
-use Rattle.std.proofs.Common.{◌≡◌, ◌≢◌, ◌↔◌, ◌^◌, ◌≤◌, ℕ, zero, suc, ℤ, pos, ◌+ℤ◌, ◌≤ℤ◌, Bool, true, false, ◌⊎◌, inl, inr, List, [], ◌∷◌, ◌++◌, flat_map, length, append_assoc, ap, sym, refl, ◌∙◌, arith, All}
+use Rattle.std.proofs.Common.{◌≡◌, ◌≢◌, ◌↔◌, ◌^◌, ◌≤◌, ℕ, zero, suc, ℤ, pos, ◌+ℤ◌, ◌≤ℤ◌, Bool, true, false, ◌⊎◌, inl}
+use Rattle.std.proofs.Common.{inr, List, [], ◌∷◌, ◌++◌, flat_map, length, append_assoc, ap, sym, refl, ◌∙◌, arith, All}
 use Rattle.std.proofs.lemmas.Int.{ints, by_lt_z, clamps}
 use Rattle.std.proofs.lemmas.List.Elements.{All-weaker, All-head, All-tail}
 use Rattle.std.proofs.lemmas.List.{append-nil}
@@ -40,7 +41,8 @@ in_first z traps u h = let here = ap count_one (in_has u z h) in omega (arith, c
 in_later : (z : Trapezoid) (traps : List Trapezoid) (u : Tile) → IsInSome traps u → IsInSome (z ∷ traps) u
 in_later z traps u h = omega (arith, count_by-cons (trapezoid_has u) z traps, h)
 
-in_either : (z : Trapezoid) (traps : List Trapezoid) (u : Tile) (has : Bool) → trapezoid_has u z ≡ has → IsInSome (z ∷ traps) u → IsInTrapezoid z u ⊎ IsInSome traps u
+in_either : (z : Trapezoid) (traps : List Trapezoid) (u : Tile) (has : Bool) → trapezoid_has u z ≡ has
+    → IsInSome (z ∷ traps) u → IsInTrapezoid z u ⊎ IsInSome traps u
 in_either z traps u true e h = inl (has_in u z e)
 in_either z traps u false e h = let none = ap count_one e in inr (omega (arith, count_by-cons (trapezoid_has u) z traps, none, h))
 
@@ -54,37 +56,57 @@ near_decided dx dy r (z ∷ traps) t legal =
       | inr none ↦ inr (λ h. elim (in_either z traps h.0 (trapezoid_has h.0 z) refl h.1) [ inl i ↦ far (h.0, i, h.2) | inr i ↦ none (h.0, i, h.2) ])
     ])
 
-wound_by : (edges : List EdgeParts) (window : RowRange) (t : Tile) → IsInRows window t → Decided (edges_winding A edges t ≡ pos 0) → Decided (IsWoundIn edges window t)
+wound_by : (edges : List EdgeParts) (window : RowRange) (t : Tile) → IsInRows window t
+    → Decided (edges_winding A edges t ≡ pos 0) → Decided (IsWoundIn edges window t)
 wound_by edges window t rows (inl none) = inr (λ h. h.wound none)
 wound_by edges window t rows (inr wound) = inl (record { rows = rows; wound = wound })
 
 pub zero_decided : (w : ℤ) → Decided (w ≡ pos 0)
-zero_decided w = by_lt_z w (pos 0) (λ lt. inr (λ e. omega (arith, ints, lt, e))) (λ ge. by_lt_z (pos 0) w (λ gt. inr (λ e. omega (arith, ints, gt, e))) (λ le. inl (omega (arith, ints, ge, le))))
+zero_decided w = by_lt_z w (pos 0) (λ lt. inr (λ e. omega (arith, ints, lt, e)))
+    (λ ge. by_lt_z (pos 0) w (λ gt. inr (λ e. omega (arith, ints, gt, e))) (λ le. inl (omega (arith, ints, ge, le))))
 
 -- whether a tile is wound round in the window
 pub wound_decided : (edges : List EdgeParts) (window : RowRange) (t : Tile) → Decided (IsWoundIn edges window t)
-wound_decided edges window t = elim (rows_decided window t) [ inl rows ↦ wound_by edges window t rows (zero_decided (edges_winding A edges t)) | inr out ↦ inr (λ h. out h.rows) ]
+wound_decided edges window t = elim
+    (rows_decided window t) [
+      | inl rows ↦ wound_by edges window t rows (zero_decided (edges_winding A edges t))
+      | inr out ↦ inr (λ h. out h.rows)
+    ]
 
 by_near : (P : Type 0) → Decided P → (w : ℤ) → w ≢ pos 0 → ((P → ⊥) → w ≡ pos 0) → P
 by_near P (inl h) w wound none = h
 by_near P (inr h) w wound none = absurd (wound (none h))
 
-pub grown_has : (dx dy : ℤ) → IsRectangle dx dy → (traps : List Trapezoid) → All IsLegal traps → (edges : List EdgeParts) → edges ≡ flat_map (edges_of_grown dx dy) traps
+pub grown_has : (dx dy : ℤ) → IsRectangle dx dy → (traps : List Trapezoid) → All IsLegal traps
+    → (edges : List EdgeParts) → edges ≡ flat_map (edges_of_grown dx dy) traps
     → (window : RowRange) (grown : List Trapezoid) → IsJoinedOf window (IsWoundIn edges window) grown → HasArea window (IsGrown dx dy (IsInSome traps)) grown
 grown_has dx dy r traps legal edges is window grown joined =
     let winding : (t : Tile) → edges_winding A edges t ≡ edges_winding A (flat_map (edges_of_grown dx dy) traps) t = λ t. ap (λ es. edges_winding A es t) is in
     joined_has window (IsWoundIn edges window) (IsGrown dx dy (IsInSome traps)) grown joined (wound_decided edges window)
-    (λ t h. (h.rows, by_near (IsGrown dx dy (IsInSome traps) t) (near_decided dx dy r traps t legal) (edges_winding A edges t) h.wound (λ out. winding t ∙ others_do_not_wind dx dy r traps t legal out)))
+    (λ t h. (
+      h.rows,
+      by_near (IsGrown dx dy (IsInSome traps) t) (near_decided dx dy r traps t legal)
+          (edges_winding A edges t) h.wound (λ out. winding t ∙ others_do_not_wind dx dy r traps t legal out),
+    ))
     (λ t rows h. record { rows = rows; wound = λ e. (let w = grown_wind dx dy r traps t legal h in let same = winding t in omega (arith, ints, w, same, e)) })
 
-pub grown_balanced : (dx dy : ℤ) → IsRectangle dx dy → (traps : List Trapezoid) → All IsLegal traps → (edges : List EdgeParts) → edges ≡ flat_map (edges_of_grown dx dy) traps
+pub grown_balanced : (dx dy : ℤ) → IsRectangle dx dy → (traps : List Trapezoid) → All IsLegal traps
+    → (edges : List EdgeParts) → edges ≡ flat_map (edges_of_grown dx dy) traps
     → (window : RowRange) → IsBalanced edges window
 grown_balanced dx dy r traps legal edges is window = λ o j low high. rw is (grown_are_balanced dx dy traps o j r legal)
 
 ring_within : (dx dy : ℤ) (z : Trapezoid) → IsSizing dx dy → HasCornersUpTo (2 ^ 43) z → HasRingWithinReach dx dy z
 ring_within dx dy z s h = record {
-  left = record { low = omega (arith, ints, clamps, h.bottom_left.low, h.top_left.low, s.columns); high = omega (arith, ints, clamps, h.bottom_left.high, h.top_left.high, s.rectangle.columns) };
-  right = record { low = omega (arith, ints, clamps, h.bottom_right.low, h.top_right.low, s.rectangle.columns); high = omega (arith, ints, clamps, h.bottom_right.high, h.top_right.high, s.columns) };
+  left = record {
+    low = omega (arith, ints, clamps, h.bottom_left.low, h.top_left.low, s.columns);
+    high = omega
+        (arith, ints, clamps, h.bottom_left.high, h.top_left.high, s.rectangle.columns);
+  };
+  right = record {
+    low = omega (arith, ints, clamps, h.bottom_right.low, h.top_right.low, s.rectangle.columns);
+    high =
+        omega (arith, ints, clamps, h.bottom_right.high, h.top_right.high, s.columns);
+  };
   bottom = record { low = omega (arith, ints, h.y0.low, s.rows); high = omega (arith, ints, h.y0.high, s.rectangle.rows) };
   top = record { low = omega (arith, ints, h.y1.low, s.rectangle.rows); high = omega (arith, ints, h.y1.high, s.rows) };
 }
@@ -109,9 +131,15 @@ near_itself dx dy r t =
 
 -- a tile near to one of the window's rows is in a row of the widened window
 pub near_rows : (dx dy : ℤ) (window : RowRange) (t u : Tile) → IsInRows window t → IsNear dx dy t u → IsInRows (widened dy window) u
-near_rows dx dy window t u rows near = record { from = omega (arith, ints, rows.from, near.rows.above, near.rows.below); below = omega (arith, ints, rows.below, near.rows.above, near.rows.below) }
+near_rows dx dy window t u rows near =
+    record {
+      from = omega (arith, ints, rows.from, near.rows.above, near.rows.below);
+      below = omega
+          (arith, ints, rows.below, near.rows.above, near.rows.below);
+    }
 
-pub one_edge_put : (edges after rest more whole : List EdgeParts) (edge : EdgeParts) → after ≡ edges ++ edge ∷ [] → rest ≡ edge ∷ more → edges ++ rest ≡ whole → after ++ more ≡ whole
+pub one_edge_put : (edges after rest more whole : List EdgeParts) (edge : EdgeParts) → after ≡ edges ++ edge ∷ []
+    → rest ≡ edge ∷ more → edges ++ rest ≡ whole → after ++ more ≡ whole
 one_edge_put edges after rest more whole edge put first before =
     ap (λ (es : List EdgeParts). es ++ more) put ∙ (append_assoc edges (edge ∷ []) more ∙ (ap (λ (es : List EdgeParts). edges ++ es) (sym first) ∙ before))
 
@@ -148,7 +176,8 @@ module _ (dx dy : ℤ) (r : IsRectangle dx dy) (traps outside : List Trapezoid) 
       let none = grown_not_for_other dx dy outside t in
       omega (arith, ints, sum, count, none)
 
-  left_by : (t : Tile) → IsInRows window t → Decided (edges_winding A edges t ≡ pos 0) → Decided (edges_winding B edges t ≡ pos 0) → Decided (IsLeftIn edges window t)
+  left_by : (t : Tile) → IsInRows window t → Decided (edges_winding A edges t ≡ pos 0)
+      → Decided (edges_winding B edges t ≡ pos 0) → Decided (IsLeftIn edges window t)
   left_by t rows (inl free) (inl none) = inr (λ h. h.wound none)
   left_by t rows (inl free) (inr wound) = inl (record { rows = rows; free = free; wound = wound })
   left_by t rows (inr round) b = inr (λ h. round h.free)
@@ -190,7 +219,9 @@ module _ (dx dy : ℤ) (r : IsRectangle dx dy) (traps outside : List Trapezoid) 
         (λ t rows all. record { rows = rows; free = not_round t rows all; wound = wound_by_some t rows (all t (near_itself dx dy r t)) })
 
 -- what isn't in the list, within the widened hull, isn't far
-pub outside_near : (dx dy : ℤ) (hull : Frame) → IsSizing dx dy → IsFullBox (2 ^ 42) hull → (z : Trapezoid) → ((t : Tile) → IsInTrapezoid z t ↔ IsInFrame (wider dx dy hull) t) → (traps : List Trapezoid) (rows : RowRange) (outside : List Trapezoid)
+pub outside_near : (dx dy : ℤ) (hull : Frame) → IsSizing dx dy → IsFullBox (2 ^ 42) hull → (z : Trapezoid)
+    → ((t : Tile) → IsInTrapezoid z t ↔ IsInFrame (wider dx dy hull) t)
+    → (traps : List Trapezoid) (rows : RowRange) (outside : List Trapezoid)
     → IsJoinedOf rows (IsInResult Sub (z ∷ []) traps rows) outside → All (HasCornersUpTo (2 ^ 43)) outside
 outside_near dx dy hull s full z tiles traps rows outside joined =
     let has = combined_has Sub (z ∷ []) traps rows outside joined in
@@ -205,7 +236,8 @@ no_items [] e = refl
 no_items (x ∷ xs) e = absurd (omega (arith, e))
 
 -- nothing shrinks to nothing
-pub empty_shrunk : (dx dy : ℤ) → IsRectangle dx dy → (traps none : List Trapezoid) (window : RowRange) → traps ≡ [] → none ≡ [] → HasArea window (IsShrunk dx dy (IsInSome traps)) none
+pub empty_shrunk : (dx dy : ℤ) → IsRectangle dx dy → (traps none : List Trapezoid) (window : RowRange) → traps ≡ []
+    → none ≡ [] → HasArea window (IsShrunk dx dy (IsInSome traps)) none
 empty_shrunk dx dy r traps none window is empty = rw (is, empty) (record {
   joined = record {
     legal = λ k d inside. absurd (omega (arith, inside));

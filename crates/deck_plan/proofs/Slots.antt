@@ -1,5 +1,6 @@
 -- What stands at a place of a list.
-use Rattle.std.proofs.Common.{◌≡◌, ◌⊎◌, inl, inr, ℕ, zero, suc, ◌<◌, List, [], ◌∷◌, Option, Some, None, length, set, get_or, slice_get, replicate, map, refl, sym, ap, ◌∙◌, arith}
+use Rattle.std.proofs.Common.{◌≡◌, ◌⊎◌, inl, inr, ℕ, zero, suc, ◌<◌, List, [], ◌∷◌, Option, Some, None, length, set}
+use Rattle.std.proofs.Common.{get_or, slice_get, replicate, map, refl, sym, ap, ◌∙◌, arith}
 use Rattle.std.proofs.lemmas.Option.{none-some, same_Some, slice_get_within, slice_get-get_or, get_or_from_slice_get}
 
 -- after one place was set
@@ -9,7 +10,12 @@ set_cases [] i y j inside = absurd (omega arith)
 set_cases (x ∷ xs) zero y zero inside = inl (refl, refl)
 set_cases (x ∷ xs) zero y (suc j) inside = inr (λ e. omega (arith, e), refl)
 set_cases (x ∷ xs) (suc i) y zero inside = inr (λ e. omega (arith, e), refl)
-set_cases (x ∷ xs) (suc i) y (suc j) inside = elim (set_cases xs i y j (omega arith)) [ inl h ↦ inl (ap suc h.0, h.1) | inr h ↦ inr (λ e. h.0 (omega (arith, e)), h.1) ]
+set_cases (x ∷ xs) (suc i) y (suc j) inside = elim
+    (set_cases xs i y j (omega arith)) [
+      | inl h ↦ inl (ap suc h.0, h.1)
+      | inr h ↦ inr
+          (λ e. h.0 (omega (arith, e)), h.1)
+    ]
 
 pub set_here : {A : Type 0} (xs : List A) (i : ℕ) (y : A) → i < length xs → slice_get (set xs i y) i ≡ Some y
 set_here [] i y inside = absurd (omega arith)
@@ -44,7 +50,12 @@ get_cases [] i y d j inside = absurd (omega arith)
 get_cases (x ∷ xs) zero y d zero inside = inl (refl, refl)
 get_cases (x ∷ xs) zero y d (suc j) inside = inr (λ e. omega (arith, e), refl)
 get_cases (x ∷ xs) (suc i) y d zero inside = inr (λ e. omega (arith, e), refl)
-get_cases (x ∷ xs) (suc i) y d (suc j) inside = elim (get_cases xs i y d j (omega arith)) [ inl h ↦ inl (ap suc h.0, h.1) | inr h ↦ inr (λ e. h.0 (omega (arith, e)), h.1) ]
+get_cases (x ∷ xs) (suc i) y d (suc j) inside = elim
+    (get_cases xs i y d j (omega arith)) [
+      | inl h ↦ inl (ap suc h.0, h.1)
+      | inr h ↦ inr
+          (λ e. h.0 (omega (arith, e)), h.1)
+    ]
 
 pub get_alike : {A : Type 0} (n : ℕ) (x : A) (k : ℕ) → get_or (replicate n x) k x ≡ x
 get_alike zero x k = refl

@@ -1,6 +1,8 @@
 -- The area of a step depends on the areas of its operands alone, in the rows that it takes of them; and the area of a
 -- definition is that of its step.
-use Rattle.std.proofs.Common.{◌≡◌, ◌⊎◌, inl, inr, ℕ, zero, suc, ◌+◌, ◌*◌, ◌^◌, ◌<◌, ◌≤◌, ℤ, pos, neg_ℤ, ◌+ℤ◌, ◌-ℤ◌, ◌≤ℤ◌, ◌<ℤ◌, List, [], ◌∷◌, length, slice_get, Option, Some, None, IsSomeAnd, Contains, IfSome, IsSome, refl, sym, ap, subst, ◌∙◌, arith}
+use Rattle.std.proofs.Common.{◌≡◌, ◌⊎◌, inl, inr, ℕ, zero, suc, ◌+◌, ◌*◌, ◌^◌, ◌<◌, ◌≤◌, ℤ, pos, neg_ℤ, ◌+ℤ◌, ◌-ℤ◌}
+use Rattle.std.proofs.Common.{◌≤ℤ◌, ◌<ℤ◌, List, [], ◌∷◌, length, slice_get, Option, Some, None, IsSomeAnd, Contains}
+use Rattle.std.proofs.Common.{IfSome, IsSome, refl, sym, ap, subst, ◌∙◌, arith}
 use Rattle.std.proofs.lemmas.Int.{ints}
 use Rattle.std.proofs.lemmas.Option.{slice_get_within}
 use Rattle.half_grid.specs.Nearness.{IsNear, IsGrown, IsShrunk}
@@ -62,7 +64,8 @@ either_operand n a b operand h k (inr is) = level_operand n b operand k is
 sized_operand : (n a : ℕ) (dx dy : ℤ) (operand : Taken) → a < n → AreSides dx dy → operand ≡ taken a dy → IsSoundOperand n operand
 sized_operand n a dx dy operand h s is = rw is (record { earlier = h; low = s.dy_low; high = s.dy_high })
 
-pub sound_operand : (frame : Option Frame) (n : ℕ) (step : Step) (operand : Taken) → IsSoundStep frame n step → Contains (operands_of step) operand → IsSoundOperand n operand
+pub sound_operand : (frame : Option Frame) (n : ℕ) (step : Step) (operand : Taken) → IsSoundStep frame n step
+    → Contains (operands_of step) operand → IsSoundOperand n operand
 sound_operand frame n (Layer pair) operand sound among = absurd (none_of operand among)
 sound_operand frame n (Or a b) operand sound among = either_operand n a b operand sound.0 sound.1 (two_of (taken a (pos 0)) (taken b (pos 0)) operand among)
 sound_operand frame n (And a b) operand sound among = either_operand n a b operand sound.0 sound.1 (two_of (taken a (pos 0)) (taken b (pos 0)) operand among)
@@ -79,14 +82,19 @@ level_rows : (window : RowRange) (t : Tile) → IsInRows window t → IsInRows (
 level_rows window t rows = record { from = omega (arith, ints, rows.from); below = omega (arith, ints, rows.below) }
 
 abbrev pub SameIn : (ℕ → Tile → Type 0) → (ℕ → Tile → Type 0) → RowRange → Taken → Type 0
-SameIn area other window operand = (u : Tile) → IsInRows (widened operand.halo window) u → (area operand.name u → other operand.name u) × (other operand.name u → area operand.name u)
+SameIn area other window operand = (u : Tile) → IsInRows (widened operand.halo window) u
+    → (area operand.name u → other operand.name u) × (other operand.name u → area operand.name u)
 
 -- two families of areas that agree on the operands, in the rows that the step takes of them
-pub step_to : (cells : List Cell) (top : ℕ) (frame : Option Frame) (area other : ℕ → Tile → Type 0) (step : Step) (window : RowRange) (t : Tile) → IsInRows window t
-    → ((operand : Taken) → Contains (operands_of step) operand → SameIn area other window operand) → IsInStep cells top frame area step t → IsInStep cells top frame other step t
+pub step_to : (cells : List Cell) (top : ℕ) (frame : Option Frame) (area other : ℕ → Tile → Type 0) (step : Step)
+    (window : RowRange) (t : Tile) → IsInRows window t
+    → ((operand : Taken) → Contains (operands_of step) operand → SameIn area other window operand)
+    → IsInStep cells top frame area step t → IsInStep cells top frame other step t
 step_to cells top frame area other (Layer pair) window t rows same h = h
-step_to cells top frame area other (Or a b) window t rows same (inl h) = inl ((same (taken a (pos 0)) (first_of (taken a (pos 0)) (taken b (pos 0))) t (level_rows window t rows)).0 h)
-step_to cells top frame area other (Or a b) window t rows same (inr h) = inr ((same (taken b (pos 0)) (second_of (taken a (pos 0)) (taken b (pos 0))) t (level_rows window t rows)).0 h)
+step_to cells top frame area other (Or a b) window t rows same (inl h) = inl
+    ((same (taken a (pos 0)) (first_of (taken a (pos 0)) (taken b (pos 0))) t (level_rows window t rows)).0 h)
+step_to cells top frame area other (Or a b) window t rows same (inr h) = inr
+    ((same (taken b (pos 0)) (second_of (taken a (pos 0)) (taken b (pos 0))) t (level_rows window t rows)).0 h)
 step_to cells top frame area other (And a b) window t rows same (h, k) = (
   (same (taken a (pos 0)) (first_of (taken a (pos 0)) (taken b (pos 0))) t (level_rows window t rows)).0 h,
   (same (taken b (pos 0)) (second_of (taken a (pos 0)) (taken b (pos 0))) t (level_rows window t rows)).0 k,
@@ -103,10 +111,15 @@ step_to cells top frame area other (Xor a b) window t rows same (inr (h, k)) = i
   λ o. h ((same (taken a (pos 0)) (first_of (taken a (pos 0)) (taken b (pos 0))) t (level_rows window t rows)).1 o),
   (same (taken b (pos 0)) (second_of (taken a (pos 0)) (taken b (pos 0))) t (level_rows window t rows)).0 k,
 )
-step_to cells top frame area other (Grow a dx dy) window t rows same (u, h, near) = (u, (same (taken a dy) (only_of (taken a dy)) u (near_rows dx dy window t u rows near)).0 h, near)
-step_to cells top frame area other (Shrink a dx dy) window t rows same h = λ u near. (same (taken a dy) (only_of (taken a dy)) u (near_rows dx dy window t u rows near)).0 (h u near)
-step_to cells top frame area other (Invert a) window t rows same (h, k) = (h, λ o. k ((same (taken a (pos 0)) (only_of (taken a (pos 0))) t (level_rows window t rows)).1 o))
-step_to cells top frame area other (Mirror a m) window t rows same h = (same (taken a (pos 0)) (only_of (taken a (pos 0))) (mirrored_tile m t) (record { from = omega (arith, ints, rows.from); below = omega (arith, ints, rows.below) })).0 h
+step_to cells top frame area other (Grow a dx dy) window t rows same (u, h, near) =
+    (u, (same (taken a dy) (only_of (taken a dy)) u (near_rows dx dy window t u rows near)).0 h, near)
+step_to cells top frame area other (Shrink a dx dy) window t rows same h = λ u near.
+    (same (taken a dy) (only_of (taken a dy)) u (near_rows dx dy window t u rows near)).0 (h u near)
+step_to cells top frame area other (Invert a) window t rows same (h, k) =
+    (h, λ o. k ((same (taken a (pos 0)) (only_of (taken a (pos 0))) t (level_rows window t rows)).1 o))
+step_to cells top frame area other (Mirror a m) window t rows same h =
+    (same (taken a (pos 0)) (only_of (taken a (pos 0))) (mirrored_tile m t)
+    (record { from = omega (arith, ints, rows.from); below = omega (arith, ints, rows.below) })).0 h
 
 -- ---- the area of a definition is that of its step
 
@@ -123,7 +136,8 @@ module _ (cells : List Cell) (top : ℕ) (deck : Deck) (sound : (k : ℕ) (step 
   AlikeBefore : (area other : ℕ → Tile → Type 0) → ℕ → Type 0
   AlikeBefore area other n = (m : ℕ) → m < n → (u : Tile) → (area m u → other m u) × (other m u → area m u)
 
-  alike_at : (area other : ℕ → Tile → Type 0) (n : ℕ) (t : Tile) → AlikeBefore area other n → (found : Option Step) → slice_get deck.steps n ≡ found → IsSomeAnd found (Step_of area t) → IsSomeAnd found (Step_of other t)
+  alike_at : (area other : ℕ → Tile → Type 0) (n : ℕ) (t : Tile) → AlikeBefore area other n → (found : Option Step)
+      → slice_get deck.steps n ≡ found → IsSomeAnd found (Step_of area t) → IsSomeAnd found (Step_of other t)
   unfolding AlikeBefore
   alike_at area other n t alike None e h = h
   alike_at area other n t alike (Some step) e h =
@@ -169,8 +183,12 @@ module _ (cells : List Cell) (top : ℕ) (deck : Deck) (sound : (k : ℕ) (step 
   pub area_step : (n : ℕ) (step : Step) → slice_get deck.steps n ≡ Some step → (t : Tile) → (Area n t → Step_of Area t step) × (Step_of Area t step → Area n t)
   area_step n step e t =
       let inside = slice_get_within deck.steps n step e in (
-        λ h. subst (λ found. IsSomeAnd found (Step_of Area t)) e (alike_at (Over n) Area n t (before_enough n inside) (slice_get deck.steps n) refl ((enough n inside t).1 h)),
-        λ h. (enough n inside t).0 (alike_at Area (Over n) n t (backwards (Over n) Area n (before_enough n inside)) (slice_get deck.steps n) refl (subst (λ found. IsSomeAnd found (Step_of Area t)) (sym e) h)),
+        λ h. subst (λ found. IsSomeAnd found (Step_of Area t)) e
+            (alike_at (Over n) Area n t (before_enough n inside) (slice_get deck.steps n) refl
+            ((enough n inside t).1 h)),
+        λ h. (enough n inside t).0
+            (alike_at Area (Over n) n t (backwards (Over n) Area n (before_enough n inside))
+            (slice_get deck.steps n) refl (subst (λ found. IsSomeAnd found (Step_of Area t)) (sym e) h)),
       )
 
   -- lists of the operands in the rows that the step takes of them give the area in the window
@@ -180,7 +198,9 @@ module _ (cells : List Cell) (top : ℕ) (deck : Deck) (sound : (k : ℕ) (step 
   step_area lists n step window traps e same h =
       same_area window (λ t. Step_of (IsListed lists) t step) (Area n) traps
       (λ t rows l. (area_step n step e t).1 (step_to cells top deck.frame (IsListed lists) Area step window t rows same l))
-      (λ t rows a. step_to cells top deck.frame Area (IsListed lists) step window t rows (λ operand among u inner. (let both = same operand among u inner in (both.1, both.0))) ((area_step n step e t).0 a))
+      (λ t rows a. step_to cells top deck.frame Area (IsListed lists) step window t rows
+      (λ operand among u inner. (let both = same operand among u inner in (both.1, both.0)))
+      ((area_step n step e t).0 a))
       h
 
   -- ---- how far from 0 an area is
@@ -197,8 +217,16 @@ module _ (cells : List Cell) (top : ℕ) (deck : Deck) (sound : (k : ℕ) (step 
 
     grown_near : (n a : ℕ) (dx dy : ℤ) (t u : Tile) → a < n → AreSides dx dy → IsNear dx dy t u → Near a u → Near n t
     grown_near n a dx dy t u earlier s near h = record {
-      column = record { low = omega (arith, ints, earlier, h.column.low, near.columns.below, s.dx_high); high = omega (arith, ints, earlier, h.column.high, near.columns.above, s.dx_high) };
-      row = record { low = omega (arith, ints, earlier, h.row.low, near.rows.below, s.dy_high); high = omega (arith, ints, earlier, h.row.high, near.rows.above, s.dy_high) };
+      column = record {
+        low = omega (arith, ints, earlier, h.column.low, near.columns.below, s.dx_high);
+        high = omega
+            (arith, ints, earlier, h.column.high, near.columns.above, s.dx_high);
+      };
+      row = record {
+        low = omega (arith, ints, earlier, h.row.low, near.rows.below, s.dy_high);
+        high = omega
+            (arith, ints, earlier, h.row.high, near.rows.above, s.dy_high);
+      };
     }
 
     frame_near : (n : ℕ) (frame : Option Frame) (t : Tile) → IfSome frame IsFrame → IsSomeAnd frame (λ frame. IsInFrame frame t) → Near n t
@@ -223,7 +251,8 @@ module _ (cells : List Cell) (top : ℕ) (deck : Deck) (sound : (k : ℕ) (step 
     rectangle : (dx dy : ℤ) → AreSides dx dy → IsRectangle dx dy
     rectangle dx dy s = record { columns = s.dx_low; rows = s.dy_low; even = s.even }
 
-    step_near : (area : ℕ → Tile → Type 0) (n : ℕ) → ((a : ℕ) → a < n → (u : Tile) → area a u → Near a u) → (step : Step) → IsSoundStep deck.frame n step → (t : Tile) → Step_of area t step → Near n t
+    step_near : (area : ℕ → Tile → Type 0) (n : ℕ) → ((a : ℕ) → a < n → (u : Tile) → area a u → Near a u)
+        → (step : Step) → IsSoundStep deck.frame n step → (t : Tile) → Step_of area t step → Near n t
     step_near area n before (Layer pair) s t h = layer_near n t (layers pair t h)
     step_near area n before (Or a b) s t (inl h) = far n a t s.0 (before a s.0 t h)
     step_near area n before (Or a b) s t (inr h) = far n b t s.1 (before b s.1 t h)
@@ -236,7 +265,8 @@ module _ (cells : List Cell) (top : ℕ) (deck : Deck) (sound : (k : ℕ) (step 
     step_near area n before (Invert a) s t (h, k) = frame_near n deck.frame t frames h
     step_near area n before (Mirror a m) s t h = mirror_near n a m t s.0 s.1 (before a s.0 (mirrored_tile m t) h)
 
-    found_near : (area : ℕ → Tile → Type 0) (n : ℕ) → ((a : ℕ) → a < n → (u : Tile) → area a u → Near a u) → (t : Tile) → (found : Option Step) → slice_get deck.steps n ≡ found → IsSomeAnd found (Step_of area t) → Near n t
+    found_near : (area : ℕ → Tile → Type 0) (n : ℕ) → ((a : ℕ) → a < n → (u : Tile) → area a u → Near a u) → (t : Tile)
+        → (found : Option Step) → slice_get deck.steps n ≡ found → IsSomeAnd found (Step_of area t) → Near n t
     found_near area n before t None e h = absurd h
     found_near area n before t (Some step) e h = step_near area n before step (sound n step e) t h
 

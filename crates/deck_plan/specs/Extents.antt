@@ -1,5 +1,6 @@
 -- Rows outside of which areas are empty, area by area: none where the area is empty.
-use Rattle.std.specs.Prelude.{◌≡◌, ◌<◌, ◌≤◌, length, slice_get, ◌≤ℤ◌, ◌+ℤ◌, ◌-ℤ◌, ◌+◌, ◌*◌, ◌^◌, ℕ, ℤ, pos, List, Option, Some, None, get_or, MatchOption, IfSome, int_le, if◌then◌else◌}
+use Rattle.std.specs.Prelude.{◌≡◌, ◌<◌, ◌≤◌, length, slice_get, ◌≤ℤ◌, ◌+ℤ◌, ◌-ℤ◌, ◌+◌, ◌*◌, ◌^◌, ℕ, ℤ, pos, List}
+use Rattle.std.specs.Prelude.{Option, Some, None, get_or, MatchOption, IfSome, int_le, if◌then◌else◌}
 use Rattle.std.specs.Int.{int_min, int_max}
 use Rattle.half_grid.specs.Windows.{RowRange, row_range}
 use Rattle.half_grid.specs.declared.plane.Tile.{Tile}
@@ -79,9 +80,12 @@ pub record AreLayerRows (cells : List Cell) (top : ℕ) (pair : Pair) (rows : Op
   pub near : IfSome rows (IsRowsUpTo (2 ^ 30))
 
 -- the rows of a step, by those of the definitions before it
-pub record AreRowsOf (cells : List Cell) (top : ℕ) (frame : Option Frame) (before : List (Option RowRange)) (step : Step) (rows : Option RowRange) : Type 0 where
+pub record AreRowsOf (cells : List Cell) (top : ℕ) (frame : Option Frame) (before : List (Option RowRange))
+    (step : Step) (rows : Option RowRange) : Type 0 where
   pub layer : (pair : Pair) → step ≡ Layer pair → AreLayerRows cells top pair rows
-  pub derived : ((pair : Pair) → step ≡ Layer pair → ⊥) → rows ≡ derived_rows frame step (rows_at before (slice_get (operands_of step) 0)) (rows_at before (slice_get (operands_of step) 1))
+  pub derived : ((pair : Pair) → step ≡ Layer pair → ⊥)
+      → rows ≡ derived_rows frame step (rows_at before (slice_get (operands_of step) 0))
+      (rows_at before (slice_get (operands_of step) 1))
 
 -- the rows of the first definitions of a deck, so many; no others are known yet
 pub record AreExtents (cells : List Cell) (top : ℕ) (deck : Deck) (count : ℕ) (rows : List (Option RowRange)) : Type 0 where

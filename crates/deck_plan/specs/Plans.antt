@@ -31,7 +31,8 @@ AreAllCut cells table = (n k : ℕ) (shape : Shape) → slice_get (shapes_at cel
 
 -- each shape of the cells before this one, and the first so many of this one
 abbrev pub AreCutUpTo : List Cell → List (List (List Trapezoid)) → ℕ → ℕ → Type 0
-AreCutUpTo cells table cell count = (n k : ℕ) (shape : Shape) → (n < cell) ⊎ ((n ≡ cell) × (k < count)) → slice_get (shapes_at cells n) k ≡ Some shape → IsCut table n k shape
+AreCutUpTo cells table cell count = (n k : ℕ) (shape : Shape) → (n < cell) ⊎ ((n ≡ cell) × (k < count))
+    → slice_get (shapes_at cells n) k ≡ Some shape → IsCut table n k shape
 
 -- a list that covers the shape's own tiles exactly is put in the place of shape k of cell n
 pub record IsPutFor (shape : Shape) (before : List (List (List Trapezoid))) (n k : ℕ) (after : List (List (List Trapezoid))) : Type 0 where

@@ -39,5 +39,6 @@ more_small i n d small le =
     let power : 10 ^ (i + 1) ≡ 10 ^ i * 10 = rw add-one (pow-suc 10 i) in
     omega (arith, power)
 
-pub more_value : (digits : List ℕ) (i n d : ℕ) → i < length digits → n ≡ decimal_value (take i digits) → d ≡ get_or digits i 0 - 48 → 10 * n + d ≡ decimal_value (take (i + 1) digits)
+pub more_value : (digits : List ℕ) (i n d : ℕ) → i < length digits → n ≡ decimal_value (take i digits)
+    → d ≡ get_or digits i 0 - 48 → 10 * n + d ≡ decimal_value (take (i + 1) digits)
 more_value digits i n d lt e f = rw (fold_more (λ m c. 10 * m + (c - 48)) 0 digits i 0 lt) (omega arith)

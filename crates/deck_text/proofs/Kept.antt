@@ -16,7 +16,9 @@ Stays layout deck P = (before : List Said) (n : ℕ) (s : Statement) → P befor
 none_some : (bad : DeckBad) → Some bad ≡ None → ⊥
 none_some bad e = let clash : ⊥ = cc in clash
 
-one_more : (layout deck : List ℕ) (P : List Said → Type 0) → Stays layout deck P → (before : List Said) (n : ℕ) (r : Reading) → P before → refusal layout deck before n r ≡ None → P (before ++ said_first n r [])
+one_more : (layout deck : List ℕ) (P : List Said → Type 0) → Stays layout deck P
+    → (before : List Said) (n : ℕ) (r : Reading) → P before → refusal layout deck before n r ≡ None
+    → P (before ++ said_first n r [])
 one_more layout deck P stays before n Passed h e = subst P (sym (append-nil before)) h
 one_more layout deck P stays before n (Refused column) h e = absurd (none_some _ e)
 one_more layout deck P stays before n (Says s) h e = stays before n s h e
@@ -33,11 +35,13 @@ up_to layout deck ls P start stays h (suc n) le =
     let line : List ℕ = get_or ls n [] in
     let left : drop n ls ≡ get_or ls n [] ∷ drop (n + 1) ls = drop_more ls n [] lt in
     let kept : refusal_after layout deck ls n (get_or ls n []) ≡ None = h n (get_or ls n []) lt (slice_get-get_or ls n [] lt) in
-    let more = one_more layout deck P stays (saids_from 1 (take n ls)) (n + 1) (reading (get_or ls n [])) (up_to layout deck ls P start stays h n (omega arith)) kept in
+    let more = one_more layout deck P stays (saids_from 1 (take n ls)) (n + 1) (reading (get_or ls n []))
+    (up_to layout deck ls P start stays h n (omega arith)) kept in
     subst (λ (k : ℕ). P (saids_from 1 (take k ls))) (add-one n) (subst P (sym (next_saids ls n (get_or ls n []) (drop (n + 1) ls) left)) more)
 
 -- a fact of no statements that each kept one keeps holds of all
-pub of_all : (layout deck : List ℕ) (ls : List (List ℕ)) (P : List Said → Type 0) → P [] → Stays layout deck P → AreAccepted layout deck ls (length ls) → P (saids_from 1 ls)
+pub of_all : (layout deck : List ℕ) (ls : List (List ℕ)) (P : List Said → Type 0) → P [] → Stays layout deck P
+    → AreAccepted layout deck ls (length ls) → P (saids_from 1 ls)
 of_all layout deck ls P start stays h =
     let whole : take (length ls) ls ≡ ls = take_all (length ls) ls (omega arith) in
     subst (λ (xs : List (List ℕ)). P (saids_from 1 xs)) whole (up_to layout deck ls P start stays h (length ls) (omega arith))

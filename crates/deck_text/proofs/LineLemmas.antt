@@ -1,5 +1,6 @@
 -- The first line of bytes, and the others.
-use Rattle.std.proofs.Common.{◌≡◌, ◌≢◌, ◌⊎◌, inl, inr, ℕ, suc, ◌+◌, ◌-◌, ◌<◌, ◌≤◌, Bool, true, false, ◌&&◌, cond, eqb, List, [], ◌∷◌, ◌++◌, length, get_or, take, drop, refl, sym, ap, ◌∙◌, arith}
+use Rattle.std.proofs.Common.{◌≡◌, ◌≢◌, ◌⊎◌, inl, inr, ℕ, suc, ◌+◌, ◌-◌, ◌<◌, ◌≤◌, Bool, true, false, ◌&&◌, cond, eqb}
+use Rattle.std.proofs.Common.{List, [], ◌∷◌, ◌++◌, length, get_or, take, drop, refl, sym, ap, ◌∙◌, arith}
 use Rattle.std.proofs.lemmas.Bool.Decides.{nat_tests}
 use Rattle.std.proofs.lemmas.List.{get_or-take, get_or-drop, length-take, length-drop, drop_more, drop_all, take_all}
 use Rattle.std.proofs.lemmas.List.Folds.{drop_split}
@@ -96,12 +97,16 @@ line_last bytes at end lt e h =
     let whole : lines_of (drop at bytes) ≡ drop at bytes ∷ [] = last_line (drop at bytes) (omega (arith, length-drop at bytes)) (rw all at one) in
     rw (same, none) whole
 
-pub line_first : (bytes x : List ℕ) (at end : ℕ) → at ≤ end → end < length bytes → get_or bytes end 0 ≡ 10 → ((k : ℕ) → at ≤ k → k < end → get_or bytes k 0 ≢ 10)
-    → (take (end - at) (drop at bytes) ≡ x ++ (13 ∷ [])) ⊎ ((x ≡ take (end - at) (drop at bytes)) × ((front : List ℕ) → take (end - at) (drop at bytes) ≢ front ++ (13 ∷ [])))
+pub line_first : (bytes x : List ℕ) (at end : ℕ) → at ≤ end → end < length bytes → get_or bytes end 0 ≡ 10
+    → ((k : ℕ) → at ≤ k → k < end → get_or bytes k 0 ≢ 10)
+    → (take (end - at) (drop at bytes) ≡ x ++ (13 ∷ []))
+    ⊎ ((x ≡ take (end - at) (drop at bytes))
+    × ((front : List ℕ) → take (end - at) (drop at bytes) ≢ front ++ (13 ∷ [])))
     → lines_of (drop at bytes) ≡ x ∷ lines_of (drop (end + 1) bytes)
 line_first bytes x at end le lt stop h s =
     let t : List ℕ = take (end - at) (drop at bytes) in
     let rest : drop end bytes ≡ 10 ∷ drop (end + 1) bytes = drop_more bytes end 0 lt ∙ ap (λ (b : ℕ). b ∷ drop (end + 1) bytes) stop in
-    let parts : drop at bytes ≡ take (end - at) (drop at bytes) ++ (10 ∷ drop (end + 1) bytes) = drop_split bytes at end le ∙ ap (λ (r : List ℕ). take (end - at) (drop at bytes) ++ r) rest in
+    let parts : drop at bytes ≡ take (end - at) (drop at bytes) ++ (10 ∷ drop (end + 1) bytes) =
+    drop_split bytes at end le ∙ ap (λ (r : List ℕ). take (end - at) (drop at bytes) ++ r) rest in
     ap lines_of parts ∙ (ended_line (take (end - at) (drop at bytes)) (drop (end + 1) bytes) (one_line bytes at end h)
     ∙ ap (λ (y : List ℕ). y ∷ lines_of (drop (end + 1) bytes)) (stripped_is (take (end - at) (drop at bytes)) x s))

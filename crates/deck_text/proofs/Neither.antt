@@ -7,7 +7,8 @@ use Rattle.deck_text.specs.Lines.{lines_of}
 use Rattle.deck_text.specs.Statements.{Passed, Refused, Says, Said}
 use Rattle.deck_text.specs.Forms.{reading}
 use Rattle.deck_text.specs.Rules.{bound, broken_rule}
-use Rattle.deck_text.specs.Decks.{saids_from, AreAccepted, IsRefusedAt, HasNoOutput, has_output, setting_in, unit_of, top_of, band_of, limits_of, limits, frame_of, steps_of, outputs_of, IsDeckOf}
+use Rattle.deck_text.specs.Decks.{saids_from, AreAccepted, IsRefusedAt, HasNoOutput, has_output, setting_in, unit_of}
+use Rattle.deck_text.specs.Decks.{top_of, band_of, limits_of, limits, frame_of, steps_of, outputs_of, IsDeckOf}
 use Rattle.deck_text.specs.Laws.{NeverNeither}
 use Rattle.deck_text.specs.declared.deck.Deck.{Deck}
 use Rattle.deck_text.specs.declared.refusal.DeckBad.{DeckBad}

@@ -1,5 +1,6 @@
 -- The first piece of a line from an offset on.
-use Rattle.std.proofs.Common.{◌≡◌, ℕ, suc, ◌+◌, ◌-◌, ◌<◌, ◌≤◌, Bool, true, false, ◌&&◌, List, [], ◌∷◌, ◌++◌, length, get_or, take, drop, refl, ap, subst, ◌∙◌, inl, inr, arith}
+use Rattle.std.proofs.Common.{◌≡◌, ℕ, suc, ◌+◌, ◌-◌, ◌<◌, ◌≤◌, Bool, true, false, ◌&&◌, List, [], ◌∷◌, ◌++◌, length}
+use Rattle.std.proofs.Common.{get_or, take, drop, refl, ap, subst, ◌∙◌, inl, inr, arith}
 use Rattle.std.specs.Char.{is_ascii_graphic}
 use Rattle.std.proofs.lemmas.Bool.{cases_lt}
 use Rattle.std.proofs.lemmas.Bool.Decides.{nat_tests}
@@ -26,11 +27,13 @@ tail_run : (b : ℕ) (t : List ℕ) → IsRun (b ∷ t) → IsRun t
 tail_run b t h k lt = h (suc k) (omega arith)
 
 -- one step at a byte of a token
-alone : (b : ℕ) (bytes : List ℕ) (column : ℕ) → is_blank b ≡ false → (is_ascii_graphic b && goes_on bytes) ≡ false → pieces_from column (b ∷ bytes) ≡ piece column (b ∷ []) ∷ pieces_from (column + 1) bytes
+alone : (b : ℕ) (bytes : List ℕ) (column : ℕ) → is_blank b ≡ false → (is_ascii_graphic b && goes_on bytes) ≡ false
+    → pieces_from column (b ∷ bytes) ≡ piece column (b ∷ []) ∷ pieces_from (column + 1) bytes
 unfolding pieces_from
 alone b bytes column blank end = rw (blank, end) refl
 
-joined : (b : ℕ) (bytes : List ℕ) (column : ℕ) → is_blank b ≡ false → (is_ascii_graphic b && goes_on bytes) ≡ true → pieces_from column (b ∷ bytes) ≡ longer column b (pieces_from (column + 1) bytes)
+joined : (b : ℕ) (bytes : List ℕ) (column : ℕ) → is_blank b ≡ false → (is_ascii_graphic b && goes_on bytes) ≡ true
+    → pieces_from column (b ∷ bytes) ≡ longer column b (pieces_from (column + 1) bytes)
 unfolding pieces_from
 joined b bytes column blank on = rw (blank, on) refl
 
@@ -45,7 +48,8 @@ further column n rest =
     let e : column + 1 + n ≡ column + suc n = omega arith in
     ap (λ (c : ℕ). pieces_from c rest) e
 
-pub run_first : (t rest : List ℕ) (column : ℕ) → 0 < length t → IsRun t → goes_on rest ≡ false → pieces_from column (t ++ rest) ≡ piece column t ∷ pieces_from (column + length t) rest
+pub run_first : (t rest : List ℕ) (column : ℕ) → 0 < length t → IsRun t → goes_on rest ≡ false
+    → pieces_from column (t ++ rest) ≡ piece column t ∷ pieces_from (column + length t) rest
 run_first [] rest column some h stop = absurd (omega arith)
 run_first (b ∷ []) rest column some h stop =
     let graphic : is_ascii_graphic b ≡ true = h 0 (omega arith) in
@@ -65,7 +69,9 @@ stop_at line end h = elim (cases_lt end (length line)) [
   | inr le ↦ rw (drop_all end line le) refl
 ]
 
-run_between : (line : List ℕ) (start end : ℕ) → ((k : ℕ) → start ≤ k → k < end → is_ascii_graphic (get_or line k 0) ≡ true) → IsRun (take (end - start) (drop start line))
+run_between : (line : List ℕ) (start end : ℕ)
+    → ((k : ℕ) → start ≤ k → k < end → is_ascii_graphic (get_or line k 0) ≡ true)
+    → IsRun (take (end - start) (drop start line))
 run_between line start end h k lt =
     let below : k < end - start = omega (arith, length-take (end - start) (drop start line)) in
     rw (get_or-take (end - start) (drop start line) k 0 below, get_or-drop start line k 0) (h (start + k) (omega arith) (omega arith))
@@ -82,10 +88,12 @@ pub run_at : (line : List ℕ) (start end : ℕ) → start < end → end ≤ len
     → pieces_at line start ≡ piece (start + 1) (take (end - start) (drop start line)) ∷ pieces_at line end
 run_at line start end lt within h stop =
     let t : List ℕ = take (end - start) (drop start line) in
-    let count : length (take (end - start) (drop start line)) ≡ end - start = omega (arith, length-take (end - start) (drop start line), length-drop start line) in
+    let count : length (take (end - start) (drop start line)) ≡ end - start = omega
+    (arith, length-take (end - start) (drop start line), length-drop start line) in
     let column : start + 1 + length (take (end - start) (drop start line)) ≡ end + 1 = omega (arith, count) in
     ap (λ (bytes : List ℕ). pieces_from (start + 1) bytes) (drop_split line start end (omega arith))
-    ∙ (run_first (take (end - start) (drop start line)) (drop end line) (start + 1) (omega (arith, count)) (run_between line start end h) (stop_at line end stop)
+    ∙ (run_first (take (end - start) (drop start line)) (drop end line) (start + 1) (omega (arith, count))
+    (run_between line start end h) (stop_at line end stop)
     ∙ ap (λ (c : ℕ). piece (start + 1) (take (end - start) (drop start line)) ∷ pieces_from c (drop end line)) column)
 
 pub stray_at : (line : List ℕ) (start : ℕ) → start < length line → is_blank (get_or line start 0) ≡ false → is_ascii_graphic (get_or line start 0) ≡ false
@@ -93,4 +101,5 @@ pub stray_at : (line : List ℕ) (start : ℕ) → start < length line → is_bl
 stray_at line start lt blank other =
     let parts : drop start line ≡ get_or line start 0 ∷ drop (start + 1) line = drop_more line start 0 lt in
     let one : start + 1 - start ≡ 1 = omega arith in
-    rw (one, parts) (alone (get_or line start 0) (drop (start + 1) line) (start + 1) blank (and_no (is_ascii_graphic (get_or line start 0)) (goes_on (drop (start + 1) line)) other))
+    rw (one, parts) (alone (get_or line start 0) (drop (start + 1) line) (start + 1) blank
+    (and_no (is_ascii_graphic (get_or line start 0)) (goes_on (drop (start + 1) line)) other))

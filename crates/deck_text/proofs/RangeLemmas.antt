@@ -15,7 +15,8 @@ neither true b e = absurd (false≢true (sym e))
 neither false b e = (refl, e)
 
 -- the first is inside, and so are the others
-pub inside_split : (b : Bound) (rest : List Bound) (o : Bool) → is_outside b ≡ o → first_outside (b ∷ rest) ≡ None → (is_outside b ≡ false) × (first_outside rest ≡ None)
+pub inside_split : (b : Bound) (rest : List Bound) (o : Bool) → is_outside b ≡ o → first_outside (b ∷ rest) ≡ None
+    → (is_outside b ≡ false) × (first_outside rest ≡ None)
 inside_split b rest true e h = absurd (let g = rw e at h in cc)
 inside_split b rest false e h = (e, rw e at h)
 
@@ -33,7 +34,8 @@ is_inside b e =
 
 unit_inside : (n : ℤ) → out_of_range (Sets (UnitIs n)) ≡ None → IsInside (bound n (pos 1) (pos 1000000))
 unfolding out_of_range
-unit_inside n h = is_inside (bound n (pos 1) (pos 1000000)) (inside_split (bound n (pos 1) (pos 1000000)) [] (is_outside (bound n (pos 1) (pos 1000000))) refl h).0
+unit_inside n h = is_inside (bound n (pos 1) (pos 1000000))
+    (inside_split (bound n (pos 1) (pos 1000000)) [] (is_outside (bound n (pos 1) (pos 1000000))) refl h).0
 
 abbrev pub some : ℤ → Option ℤ
 some n = Some n

@@ -2,7 +2,8 @@
 use Rattle.std.proofs.Common.{◌≡◌, ◌≢◌, ◌⊎◌, inl, inr, ℕ, Bool, true, false, List, Option, Some, None, refl, sym, ap, ◌∙◌}
 use Rattle.std.specs.Prelude.{ℤ, option_map}
 use Rattle.deck_text.specs.Statements.{Statement, Said}
-use Rattle.deck_text.specs.Rules.{is_misplaced, repeated_line, unknown_operand, lacks_frame, out_of_range, has_odd_sum, takes_name, is_too_many, when, or_else, broken_rule}
+use Rattle.deck_text.specs.Rules.{is_misplaced, repeated_line, unknown_operand, lacks_frame, out_of_range, has_odd_sum}
+use Rattle.deck_text.specs.Rules.{takes_name, is_too_many, when, or_else, broken_rule}
 use Rattle.deck_text.specs.declared.refusal.DeckBad.{DeckBad}
 use Rattle.deck_text.specs.declared.refusal.DeckBad.TheVariants as faults
 
@@ -19,7 +20,9 @@ rules_of n order twice unknown no_frame range odd names many =
     (when many (faults.Many n))))))))
 
 pub by_rules : (layout deck : List ℕ) (before : List Said) (n : ℕ) (s : Statement)
-    → broken_rule layout deck before n s ≡ rules_of n (is_misplaced before s) (repeated_line before s) (unknown_operand before s) (lacks_frame before s) (out_of_range s) (has_odd_sum s) (takes_name layout deck before s) (is_too_many before s)
+    → broken_rule layout deck before n s ≡ rules_of n (is_misplaced before s) (repeated_line before s)
+    (unknown_operand before s) (lacks_frame before s) (out_of_range s) (has_odd_sum s)
+    (takes_name layout deck before s) (is_too_many before s)
 unfolding broken_rule rules_of
 by_rules layout deck before n s = refl
 
@@ -33,7 +36,8 @@ pub breaks_twice : (n e : ℕ) (u : Option (List ℕ)) (f : Bool) (r : Option �
 unfolding rules_of
 breaks_twice n e u f r o m k = refl
 
-pub breaks_unknown : (n : ℕ) (name : List ℕ) (f : Bool) (r : Option ℤ) (o m k : Bool) → rules_of n false None (Some name) f r o m k ≡ Some (faults.Unknown n name)
+pub breaks_unknown : (n : ℕ) (name : List ℕ) (f : Bool) (r : Option ℤ) (o m k : Bool)
+    → rules_of n false None (Some name) f r o m k ≡ Some (faults.Unknown n name)
 unfolding rules_of
 breaks_unknown n name f r o m k = refl
 
@@ -67,48 +71,99 @@ rules_same n o p t v u w f g r q d e m i k j a b c x y z h l = rw (a, b, c, x, y
 
 -- ---- of a statement
 
-pub by_order : (layout deck : List ℕ) (before : List Said) (n : ℕ) (s : Statement) → is_misplaced before s ≡ true → broken_rule layout deck before n s ≡ Some (faults.Order n)
+pub by_order : (layout deck : List ℕ) (before : List Said) (n : ℕ) (s : Statement) → is_misplaced before s ≡ true
+    → broken_rule layout deck before n s ≡ Some (faults.Order n)
 by_order layout deck before n s a =
-    by_rules layout deck before n s ∙ (rules_same n (is_misplaced before s) true (repeated_line before s) (repeated_line before s) (unknown_operand before s) (unknown_operand before s) (lacks_frame before s) (lacks_frame before s) (out_of_range s) (out_of_range s) (has_odd_sum s) (has_odd_sum s) (takes_name layout deck before s) (takes_name layout deck before s) (is_too_many before s) (is_too_many before s) a refl refl refl refl refl refl refl
-    ∙ breaks_order n (repeated_line before s) (unknown_operand before s) (lacks_frame before s) (out_of_range s) (has_odd_sum s) (takes_name layout deck before s) (is_too_many before s))
+    by_rules layout deck before n s
+    ∙ (rules_same n (is_misplaced before s) true (repeated_line before s) (repeated_line before s)
+    (unknown_operand before s) (unknown_operand before s) (lacks_frame before s) (lacks_frame before s)
+    (out_of_range s) (out_of_range s) (has_odd_sum s) (has_odd_sum s) (takes_name layout deck before s)
+    (takes_name layout deck before s) (is_too_many before s)
+    (is_too_many before s) a refl refl refl refl refl refl refl
+    ∙ breaks_order n (repeated_line before s) (unknown_operand before s) (lacks_frame before s) (out_of_range s)
+    (has_odd_sum s) (takes_name layout deck before s) (is_too_many before s))
 
-pub by_twice : (layout deck : List ℕ) (before : List Said) (n : ℕ) (s : Statement) (e : ℕ) → is_misplaced before s ≡ false → repeated_line before s ≡ Some e → broken_rule layout deck before n s ≡ Some (faults.Twice n e)
+pub by_twice : (layout deck : List ℕ) (before : List Said) (n : ℕ) (s : Statement) (e : ℕ)
+    → is_misplaced before s ≡ false → repeated_line before s ≡ Some e
+    → broken_rule layout deck before n s ≡ Some (faults.Twice n e)
 by_twice layout deck before n s e a b =
-    by_rules layout deck before n s ∙ (rules_same n (is_misplaced before s) false (repeated_line before s) (Some e) (unknown_operand before s) (unknown_operand before s) (lacks_frame before s) (lacks_frame before s) (out_of_range s) (out_of_range s) (has_odd_sum s) (has_odd_sum s) (takes_name layout deck before s) (takes_name layout deck before s) (is_too_many before s) (is_too_many before s) a b refl refl refl refl refl refl
-    ∙ breaks_twice n e (unknown_operand before s) (lacks_frame before s) (out_of_range s) (has_odd_sum s) (takes_name layout deck before s) (is_too_many before s))
+    by_rules layout deck before n s ∙ (rules_same n (is_misplaced before s) false (repeated_line before s) (Some e)
+    (unknown_operand before s) (unknown_operand before s) (lacks_frame before s) (lacks_frame before s)
+    (out_of_range s) (out_of_range s) (has_odd_sum s) (has_odd_sum s) (takes_name layout deck before s)
+    (takes_name layout deck before s) (is_too_many before s)
+    (is_too_many before s) a b refl refl refl refl refl refl
+    ∙ breaks_twice n e (unknown_operand before s) (lacks_frame before s) (out_of_range s) (has_odd_sum s)
+    (takes_name layout deck before s) (is_too_many before s))
 
-pub by_unknown : (layout deck : List ℕ) (before : List Said) (n : ℕ) (s : Statement) (name : List ℕ) → is_misplaced before s ≡ false → repeated_line before s ≡ None → unknown_operand before s ≡ Some name → broken_rule layout deck before n s ≡ Some (faults.Unknown n name)
+pub by_unknown : (layout deck : List ℕ) (before : List Said) (n : ℕ) (s : Statement) (name : List ℕ)
+    → is_misplaced before s ≡ false → repeated_line before s ≡ None → unknown_operand before s ≡ Some name
+    → broken_rule layout deck before n s ≡ Some (faults.Unknown n name)
 by_unknown layout deck before n s name a b c =
-    by_rules layout deck before n s ∙ (rules_same n (is_misplaced before s) false (repeated_line before s) None (unknown_operand before s) (Some name) (lacks_frame before s) (lacks_frame before s) (out_of_range s) (out_of_range s) (has_odd_sum s) (has_odd_sum s) (takes_name layout deck before s) (takes_name layout deck before s) (is_too_many before s) (is_too_many before s) a b c refl refl refl refl refl
+    by_rules layout deck before n s ∙ (rules_same n (is_misplaced before s) false (repeated_line before s) None
+    (unknown_operand before s) (Some name) (lacks_frame before s) (lacks_frame before s) (out_of_range s)
+    (out_of_range s) (has_odd_sum s) (has_odd_sum s) (takes_name layout deck before s)
+    (takes_name layout deck before s) (is_too_many before s) (is_too_many before s) a b c refl refl refl refl refl
     ∙ breaks_unknown n name (lacks_frame before s) (out_of_range s) (has_odd_sum s) (takes_name layout deck before s) (is_too_many before s))
 
-pub by_frame : (layout deck : List ℕ) (before : List Said) (n : ℕ) (s : Statement) → is_misplaced before s ≡ false → repeated_line before s ≡ None → unknown_operand before s ≡ None → lacks_frame before s ≡ true → broken_rule layout deck before n s ≡ Some (faults.NoFrame n)
+pub by_frame : (layout deck : List ℕ) (before : List Said) (n : ℕ) (s : Statement) → is_misplaced before s ≡ false
+    → repeated_line before s ≡ None → unknown_operand before s ≡ None → lacks_frame before s ≡ true
+    → broken_rule layout deck before n s ≡ Some (faults.NoFrame n)
 by_frame layout deck before n s a b c d =
-    by_rules layout deck before n s ∙ (rules_same n (is_misplaced before s) false (repeated_line before s) None (unknown_operand before s) None (lacks_frame before s) true (out_of_range s) (out_of_range s) (has_odd_sum s) (has_odd_sum s) (takes_name layout deck before s) (takes_name layout deck before s) (is_too_many before s) (is_too_many before s) a b c d refl refl refl refl
+    by_rules layout deck before n s ∙ (rules_same n (is_misplaced before s) false (repeated_line before s) None
+    (unknown_operand before s) None (lacks_frame before s) true (out_of_range s) (out_of_range s) (has_odd_sum s)
+    (has_odd_sum s) (takes_name layout deck before s) (takes_name layout deck before s) (is_too_many before s)
+    (is_too_many before s) a b c d refl refl refl refl
     ∙ breaks_frame n (out_of_range s) (has_odd_sum s) (takes_name layout deck before s) (is_too_many before s))
 
-pub by_range : (layout deck : List ℕ) (before : List Said) (n : ℕ) (s : Statement) (value : ℤ) → is_misplaced before s ≡ false → repeated_line before s ≡ None → unknown_operand before s ≡ None → lacks_frame before s ≡ false → out_of_range s ≡ Some value → broken_rule layout deck before n s ≡ Some (faults.Range n value)
+pub by_range : (layout deck : List ℕ) (before : List Said) (n : ℕ) (s : Statement) (value : ℤ)
+    → is_misplaced before s ≡ false → repeated_line before s ≡ None → unknown_operand before s ≡ None
+    → lacks_frame before s ≡ false → out_of_range s ≡ Some value
+    → broken_rule layout deck before n s ≡ Some (faults.Range n value)
 by_range layout deck before n s value a b c d x =
-    by_rules layout deck before n s ∙ (rules_same n (is_misplaced before s) false (repeated_line before s) None (unknown_operand before s) None (lacks_frame before s) false (out_of_range s) (Some value) (has_odd_sum s) (has_odd_sum s) (takes_name layout deck before s) (takes_name layout deck before s) (is_too_many before s) (is_too_many before s) a b c d x refl refl refl
+    by_rules layout deck before n s ∙ (rules_same n (is_misplaced before s) false (repeated_line before s) None
+    (unknown_operand before s) None (lacks_frame before s) false (out_of_range s) (Some value) (has_odd_sum s)
+    (has_odd_sum s) (takes_name layout deck before s) (takes_name layout deck before s) (is_too_many before s)
+    (is_too_many before s) a b c d x refl refl refl
     ∙ breaks_range n value (has_odd_sum s) (takes_name layout deck before s) (is_too_many before s))
 
-pub by_odd : (layout deck : List ℕ) (before : List Said) (n : ℕ) (s : Statement) → is_misplaced before s ≡ false → repeated_line before s ≡ None → unknown_operand before s ≡ None → lacks_frame before s ≡ false → out_of_range s ≡ None → has_odd_sum s ≡ true → broken_rule layout deck before n s ≡ Some (faults.Odd n)
+pub by_odd : (layout deck : List ℕ) (before : List Said) (n : ℕ) (s : Statement) → is_misplaced before s ≡ false
+    → repeated_line before s ≡ None → unknown_operand before s ≡ None → lacks_frame before s ≡ false
+    → out_of_range s ≡ None → has_odd_sum s ≡ true → broken_rule layout deck before n s ≡ Some (faults.Odd n)
 by_odd layout deck before n s a b c d x y =
-    by_rules layout deck before n s ∙ (rules_same n (is_misplaced before s) false (repeated_line before s) None (unknown_operand before s) None (lacks_frame before s) false (out_of_range s) None (has_odd_sum s) true (takes_name layout deck before s) (takes_name layout deck before s) (is_too_many before s) (is_too_many before s) a b c d x y refl refl
+    by_rules layout deck before n s ∙ (rules_same n (is_misplaced before s) false (repeated_line before s) None
+    (unknown_operand before s) None (lacks_frame before s) false (out_of_range s) None (has_odd_sum s) true
+    (takes_name layout deck before s) (takes_name layout deck before s) (is_too_many before s)
+    (is_too_many before s) a b c d x y refl refl
     ∙ breaks_odd n (takes_name layout deck before s) (is_too_many before s))
 
-pub by_names : (layout deck : List ℕ) (before : List Said) (n : ℕ) (s : Statement) → is_misplaced before s ≡ false → repeated_line before s ≡ None → unknown_operand before s ≡ None → lacks_frame before s ≡ false → out_of_range s ≡ None → has_odd_sum s ≡ false → takes_name layout deck before s ≡ true → broken_rule layout deck before n s ≡ Some (faults.Names n)
+pub by_names : (layout deck : List ℕ) (before : List Said) (n : ℕ) (s : Statement) → is_misplaced before s ≡ false
+    → repeated_line before s ≡ None → unknown_operand before s ≡ None → lacks_frame before s ≡ false
+    → out_of_range s ≡ None → has_odd_sum s ≡ false → takes_name layout deck before s ≡ true
+    → broken_rule layout deck before n s ≡ Some (faults.Names n)
 by_names layout deck before n s a b c d x y z =
-    by_rules layout deck before n s ∙ (rules_same n (is_misplaced before s) false (repeated_line before s) None (unknown_operand before s) None (lacks_frame before s) false (out_of_range s) None (has_odd_sum s) false (takes_name layout deck before s) true (is_too_many before s) (is_too_many before s) a b c d x y z refl
+    by_rules layout deck before n s ∙ (rules_same n (is_misplaced before s) false (repeated_line before s) None
+    (unknown_operand before s) None (lacks_frame before s) false (out_of_range s) None (has_odd_sum s) false
+    (takes_name layout deck before s) true (is_too_many before s) (is_too_many before s) a b c d x y z refl
     ∙ breaks_names n (is_too_many before s))
 
-pub by_many : (layout deck : List ℕ) (before : List Said) (n : ℕ) (s : Statement) → is_misplaced before s ≡ false → repeated_line before s ≡ None → unknown_operand before s ≡ None → lacks_frame before s ≡ false → out_of_range s ≡ None → has_odd_sum s ≡ false → takes_name layout deck before s ≡ false → is_too_many before s ≡ true → broken_rule layout deck before n s ≡ Some (faults.Many n)
+pub by_many : (layout deck : List ℕ) (before : List Said) (n : ℕ) (s : Statement) → is_misplaced before s ≡ false
+    → repeated_line before s ≡ None → unknown_operand before s ≡ None → lacks_frame before s ≡ false
+    → out_of_range s ≡ None → has_odd_sum s ≡ false → takes_name layout deck before s ≡ false
+    → is_too_many before s ≡ true → broken_rule layout deck before n s ≡ Some (faults.Many n)
 by_many layout deck before n s a b c d x y z h =
-    by_rules layout deck before n s ∙ (rules_same n (is_misplaced before s) false (repeated_line before s) None (unknown_operand before s) None (lacks_frame before s) false (out_of_range s) None (has_odd_sum s) false (takes_name layout deck before s) false (is_too_many before s) true a b c d x y z h
+    by_rules layout deck before n s ∙ (rules_same n (is_misplaced before s) false (repeated_line before s) None
+    (unknown_operand before s) None (lacks_frame before s) false (out_of_range s) None (has_odd_sum s) false
+    (takes_name layout deck before s) false (is_too_many before s) true a b c d x y z h
     ∙ breaks_many n)
 
-pub by_none : (layout deck : List ℕ) (before : List Said) (n : ℕ) (s : Statement) → is_misplaced before s ≡ false → repeated_line before s ≡ None → unknown_operand before s ≡ None → lacks_frame before s ≡ false → out_of_range s ≡ None → has_odd_sum s ≡ false → takes_name layout deck before s ≡ false → is_too_many before s ≡ false → broken_rule layout deck before n s ≡ None
-by_none layout deck before n s a b c d x y z h = by_rules layout deck before n s ∙ (rules_same n (is_misplaced before s) false (repeated_line before s) None (unknown_operand before s) None (lacks_frame before s) false (out_of_range s) None (has_odd_sum s) false (takes_name layout deck before s) false (is_too_many before s) false a b c d x y z h ∙ breaks_none n)
+pub by_none : (layout deck : List ℕ) (before : List Said) (n : ℕ) (s : Statement) → is_misplaced before s ≡ false
+    → repeated_line before s ≡ None → unknown_operand before s ≡ None → lacks_frame before s ≡ false
+    → out_of_range s ≡ None → has_odd_sum s ≡ false → takes_name layout deck before s ≡ false
+    → is_too_many before s ≡ false → broken_rule layout deck before n s ≡ None
+by_none layout deck before n s a b c d x y z h = by_rules layout deck before n s
+    ∙ (rules_same n (is_misplaced before s) false (repeated_line before s) None (unknown_operand before s) None
+    (lacks_frame before s) false (out_of_range s) None (has_odd_sum s) false (takes_name layout deck before s) false
+    (is_too_many before s) false a b c d x y z h ∙ breaks_none n)
 
 pub by_memory : (r : Option DeckBad) (bad own : DeckBad) → r ≡ Some bad → (own ≡ bad) ⊎ (own ≡ faults.NoMemory) → own ≢ faults.NoMemory → r ≡ Some own
 by_memory r bad own e (inl same) other = e ∙ ap (λ (b : DeckBad). Some b) (sym same)
@@ -139,7 +194,8 @@ record AllKept (o : Bool) (t : Option ℕ) (u : Option (List ℕ)) (f : Bool) (r
 broken : (bad : DeckBad) → Some bad ≡ None → ⊥
 broken bad e = let clash : ⊥ = cc in clash
 
-all_kept : (n : ℕ) (o : Bool) (t : Option ℕ) (u : Option (List ℕ)) (f : Bool) (r : Option ℤ) (d m k : Bool) → rules_of n o t u f r d m k ≡ None → AllKept o t u f r d m k
+all_kept : (n : ℕ) (o : Bool) (t : Option ℕ) (u : Option (List ℕ)) (f : Bool) (r : Option ℤ) (d m k : Bool)
+    → rules_of n o t u f r d m k ≡ None → AllKept o t u f r d m k
 unfolding rules_of
 all_kept n true t u f r d m k e = absurd (broken _ e)
 all_kept n false (Some x) u f r d m k e = absurd (broken _ e)
@@ -149,9 +205,23 @@ all_kept n false None None false (Some x) d m k e = absurd (broken _ e)
 all_kept n false None None false None true m k e = absurd (broken _ e)
 all_kept n false None None false None false true k e = absurd (broken _ e)
 all_kept n false None None false None false false true e = absurd (broken _ e)
-all_kept n false None None false None false false false e = record { order = refl; twice = refl; unknown = refl; frame = refl; range = refl; odd = refl; names = refl; many = refl }
+all_kept n false None None false None false false false e =
+    record {
+      order = refl;
+      twice = refl;
+      unknown = refl;
+      frame = refl;
+      range = refl;
+      odd = refl;
+      names = refl;
+      many =
+          refl;
+    }
 
-pub keeps_rules : (layout deck : List ℕ) (before : List Said) (n : ℕ) (s : Statement) → broken_rule layout deck before n s ≡ None → KeepsRules layout deck before s
+pub keeps_rules : (layout deck : List ℕ) (before : List Said) (n : ℕ) (s : Statement)
+    → broken_rule layout deck before n s ≡ None → KeepsRules layout deck before s
 keeps_rules layout deck before n s e =
-    let h = all_kept n (is_misplaced before s) (repeated_line before s) (unknown_operand before s) (lacks_frame before s) (out_of_range s) (has_odd_sum s) (takes_name layout deck before s) (is_too_many before s) (sym (by_rules layout deck before n s) ∙ e) in
+    let h = all_kept n (is_misplaced before s) (repeated_line before s) (unknown_operand before s)
+    (lacks_frame before s) (out_of_range s) (has_odd_sum s) (takes_name layout deck before s)
+    (is_too_many before s) (sym (by_rules layout deck before n s) ∙ e) in
     record { order = h.order; twice = h.twice; unknown = h.unknown; frame = h.frame; range = h.range; odd = h.odd; names = h.names; many = h.many }

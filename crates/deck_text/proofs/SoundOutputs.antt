@@ -1,5 +1,6 @@
 -- The outputs are of definitions, and their files are free; neither they nor the definitions are too many.
-use Rattle.std.proofs.Common.{◌≡◌, ◌≢◌, ◌⊎◌, inl, inr, ℕ, ◌+◌, ◌<◌, ◌≤◌, Bool, true, false, ◌||◌, cond, leb, List, [], ◌∷◌, ◌++◌, length, Option, Some, None, refl, sym, ap, subst, ◌∙◌, arith}
+use Rattle.std.proofs.Common.{◌≡◌, ◌≢◌, ◌⊎◌, inl, inr, ℕ, ◌+◌, ◌<◌, ◌≤◌, Bool, true, false, ◌||◌, cond, leb, List, []}
+use Rattle.std.proofs.Common.{◌∷◌, ◌++◌, length, Option, Some, None, refl, sym, ap, subst, ◌∙◌, arith}
 use Rattle.std.specs.Prelude.{ℤ, All, filter_map, map}
 use Rattle.std.specs.List.{cons_option}
 use Rattle.std.specs.Str.{bytes_eq}
@@ -29,13 +30,15 @@ pub record AreFew (saids : List Said) : Type 0 where
 pub none_few : AreFew []
 none_few = record { definitions = omega arith; outputs = omega arith }
 
-count_push : (test : Statement → Bool) (before : List Said) (n : ℕ) (s : Statement) → count_before test (before ++ (said n s ∷ [])) ≡ count_before test before + cond (test s) 1 0
+count_push : (test : Statement → Bool) (before : List Said) (n : ℕ) (s : Statement)
+    → count_before test (before ++ (said n s ∷ [])) ≡ count_before test before + cond (test s) 1 0
 count_push test before n s = sum_by_push (λ m. cond (test m.says) 1 0) before (said n s)
 
 not_yet : (limit count : ℕ) → leb limit count ≡ false → count < limit
 not_yet limit count e = grind (arith, nat_tests)
 
-pub few_stay : (layout deck : List ℕ) (before : List Said) (n : ℕ) (s : Statement) → AreFew before → broken_rule layout deck before n s ≡ None → AreFew (before ++ (said n s ∷ []))
+pub few_stay : (layout deck : List ℕ) (before : List Said) (n : ℕ) (s : Statement) → AreFew before
+    → broken_rule layout deck before n s ≡ None → AreFew (before ++ (said n s ∷ []))
 few_stay layout deck before n (Sets setting) h kept = record {
   definitions = omega (arith, count_push is_definition before n (Sets setting), h.definitions);
   outputs = omega (arith, count_push is_output before n (Sets setting), h.outputs);
@@ -53,7 +56,9 @@ few_stay layout deck before n (Writes a file layer datatype) h kept =
       outputs = omega (arith, count_push is_output before n (Writes a file layer datatype), below);
     }
 
-next_names : (saids : List Said) (s : Statement) → length (names_of saids) ≡ count_before is_definition saids → length (cons_option (defined_name s) (names_of saids)) ≡ cond (is_definition s) 1 0 + count_before is_definition saids
+next_names : (saids : List Said) (s : Statement) → length (names_of saids) ≡ count_before is_definition saids
+    → length (cons_option (defined_name s) (names_of saids)) ≡ cond
+    (is_definition s) 1 0 + count_before is_definition saids
 next_names saids (Sets setting) e = omega (arith, e)
 next_names saids (Defines name operation) e = omega (arith, e)
 next_names saids (Writes a file layer datatype) e = omega (arith, e)
@@ -62,7 +67,8 @@ pub names_count : (saids : List Said) → length (names_of saids) ≡ count_befo
 names_count [] = refl
 names_count (m ∷ saids) = next_names saids m.says (names_count saids) ∙ sym (sum_by-cons (λ m. cond (is_definition m.says) 1 0) m saids)
 
-next_outputs : (names : List (List ℕ)) (saids : List Said) (s : Statement) → length (filter_map (λ m. output_in names m.says) saids) ≡ count_before is_output saids
+next_outputs : (names : List (List ℕ)) (saids : List Said) (s : Statement)
+    → length (filter_map (λ m. output_in names m.says) saids) ≡ count_before is_output saids
     → length (cons_option (output_in names s) (filter_map (λ m. output_in names m.says) saids)) ≡ cond (is_output s) 1 0 + count_before is_output saids
 next_outputs names saids (Sets setting) e = omega (arith, e)
 next_outputs names saids (Defines name operation) e = omega (arith, e)
@@ -90,7 +96,8 @@ some_outputs (m ∷ saids) e =
 
 -- the outputs so far, whatever definitions follow
 abbrev pub AreSoundOutputs : (layout deck : List ℕ) → List Said → Type 0
-AreSoundOutputs layout deck saids = (more : List (List ℕ)) → All (IsSoundOutput layout deck (length (names_of saids))) (filter_map (λ m. output_in (names_of saids ++ more) m.says) saids)
+AreSoundOutputs layout deck saids = (more : List (List ℕ)) → All (IsSoundOutput layout deck (length (names_of saids)))
+    (filter_map (λ m. output_in (names_of saids ++ more) m.says) saids)
 
 pub no_outputs : (layout deck : List ℕ) → AreSoundOutputs layout deck []
 no_outputs layout deck more = All-nil (IsSoundOutput layout deck 0)
@@ -104,7 +111,8 @@ free_of false false c e = (refl, refl, e)
 apart : (x y : List ℕ) → bytes_eq x y ≡ false → x ≢ y
 apart x y e same = false≢true (sym e ∙ (bytes_eq-Decides x y).1 same)
 
-own_output : (layout deck : List ℕ) (before : List Said) (more : List (List ℕ)) (a file : List ℕ) (layer datatype : ℤ) → KeepsRules layout deck before (Writes a file layer datatype)
+own_output : (layout deck : List ℕ) (before : List Said) (more : List (List ℕ)) (a file : List ℕ) (layer datatype : ℤ)
+    → KeepsRules layout deck before (Writes a file layer datatype)
     → IsSoundOutput layout deck (length (names_of before)) (record { name = number_of (names_of before ++ more) a; file = file; pair = pair layer datatype })
 own_output layout deck before more a file layer datatype h =
     let free = free_of (bytes_eq file layout) (bytes_eq file deck) (any_before (goes_to file) before) h.names in
@@ -120,23 +128,37 @@ new_outputs : (layout deck : List ℕ) (before : List Said) (more : List (List �
 new_outputs layout deck before more (Sets setting) h = All-nil (IsSoundOutput layout deck (length (names_of before)))
 new_outputs layout deck before more (Defines name operation) h = All-nil (IsSoundOutput layout deck (length (names_of before)))
 new_outputs layout deck before more (Writes a file layer datatype) h =
-    All-cons (IsSoundOutput layout deck (length (names_of before))) _ [] (own_output layout deck before more a file layer datatype h) (All-nil (IsSoundOutput layout deck (length (names_of before))))
+    All-cons (IsSoundOutput layout deck (length (names_of before))) _ []
+    (own_output layout deck before more a file layer datatype h)
+    (All-nil (IsSoundOutput layout deck (length (names_of before))))
 
 wider : (layout deck : List ℕ) (m n : ℕ) → m ≤ n → (o : Output) → IsSoundOutput layout deck m o → IsSoundOutput layout deck n o
 wider layout deck m n le o h = record { defined = omega (arith, h.defined); narrow = h.narrow; not_layout = h.not_layout; not_deck = h.not_deck }
 
-pub outputs_stay : (layout deck : List ℕ) (before : List Said) (n : ℕ) (s : Statement) → AreSoundOutputs layout deck before → broken_rule layout deck before n s ≡ None → AreSoundOutputs layout deck (before ++ (said n s ∷ []))
+pub outputs_stay : (layout deck : List ℕ) (before : List Said) (n : ℕ) (s : Statement)
+    → AreSoundOutputs layout deck before → broken_rule layout deck before n s ≡ None
+    → AreSoundOutputs layout deck (before ++ (said n s ∷ []))
 outputs_stay layout deck before n s h kept more =
     let own : List (List ℕ) = names_of (said n s ∷ []) ++ more in
-    let all = All-append (IsSoundOutput layout deck (length (names_of before))) (filter_map (λ m. output_in (names_of before ++ own) m.says) before) (cons_option (output_in (names_of before ++ own) s) [])
+    let all = All-append (IsSoundOutput layout deck (length (names_of before)))
+    (filter_map (λ m. output_in (names_of before ++ own) m.says) before)
+    (cons_option (output_in (names_of before ++ own) s) [])
     (h own) (new_outputs layout deck before own s (keeps_rules layout deck before n s kept)) in
     let names = names_push before n s more in
     let few : length (names_of before) ≤ length (names_of (before ++ (said n s ∷ []))) =
-    omega (arith, ap length (filter_map-append (λ m. defined_name m.says) before (said n s ∷ [])), length-append (names_of before) (names_of (said n s ∷ []))) in
+    omega (
+      arith,
+      ap length (filter_map-append (λ m. defined_name m.says) before (said n s ∷ [])),
+      length-append
+          (names_of before) (names_of (said n s ∷ [])),
+    ) in
     let parts = filter_map-append (λ m. output_in (names_of before ++ own) m.says) before (said n s ∷ []) in
     let whole = subst (λ (xs : List Output). All (IsSoundOutput layout deck (length (names_of before))) xs) (sym parts) all in
-    let moved = subst (λ (xs : List (List ℕ)). All (IsSoundOutput layout deck (length (names_of before))) (filter_map (λ m. output_in xs m.says) (before ++ (said n s ∷ [])))) (sym names) whole in
-    All-weaker (IsSoundOutput layout deck (length (names_of before))) (IsSoundOutput layout deck (length (names_of (before ++ (said n s ∷ []))))) (wider layout deck (length (names_of before)) (length (names_of (before ++ (said n s ∷ [])))) few) _ moved
+    let moved = subst (λ (xs : List (List ℕ)). All (IsSoundOutput layout deck (length (names_of before)))
+    (filter_map (λ m. output_in xs m.says) (before ++ (said n s ∷ [])))) (sym names) whole in
+    All-weaker (IsSoundOutput layout deck (length (names_of before)))
+    (IsSoundOutput layout deck (length (names_of (before ++ (said n s ∷ [])))))
+    (wider layout deck (length (names_of before)) (length (names_of (before ++ (said n s ∷ [])))) few) _ moved
 
 -- ---- files
 
@@ -162,7 +184,9 @@ neither : (a b : Bool) → (a || b) ≡ false → (a ≡ false) × (b ≡ false)
 neither true b e = absurd (false≢true (sym e))
 neither false b e = (refl, e)
 
-next_free : (file : List ℕ) (saids : List Said) (s : Statement) → goes_to file s ≡ false → All (λ other. other ≢ file) (files_of saids) → All (λ other. other ≢ file) (cons_option (file_in s) (files_of saids))
+next_free : (file : List ℕ) (saids : List Said) (s : Statement) → goes_to file s ≡ false
+    → All (λ other. other ≢ file) (files_of saids)
+    → All (λ other. other ≢ file) (cons_option (file_in s) (files_of saids))
 next_free file saids (Sets setting) e all = all
 next_free file saids (Defines name operation) e all = all
 next_free file saids (Writes a other layer datatype) e all = All-cons (λ other. other ≢ file) other (files_of saids) (apart other file e) all
@@ -178,15 +202,20 @@ distinct_push [] y h all = (All-nil (λ other. y ≢ other), tt)
 distinct_push (x ∷ xs) y h all =
     (All-push (λ other. x ≢ other) xs y h.0 (All-head (λ z. z ≢ y) x xs all), distinct_push xs y h.1 (All-tail (λ z. z ≢ y) x xs all))
 
-new_file : (layout deck : List ℕ) (before : List Said) (s : Statement) → KeepsRules layout deck before s → AreDistinct (files_of before) → AreDistinct (files_of before ++ cons_option (file_in s) [])
+new_file : (layout deck : List ℕ) (before : List Said) (s : Statement) → KeepsRules layout deck before s
+    → AreDistinct (files_of before) → AreDistinct (files_of before ++ cons_option (file_in s) [])
 new_file layout deck before (Sets setting) h d = subst AreDistinct (sym (append-nil (files_of before))) d
 new_file layout deck before (Defines name operation) h d = subst AreDistinct (sym (append-nil (files_of before))) d
 new_file layout deck before (Writes a file layer datatype) h d =
-    distinct_push (files_of before) file d (free_files file before (free_of (bytes_eq file layout) (bytes_eq file deck) (any_before (goes_to file) before) h.names).2)
+    distinct_push (files_of before) file d
+    (free_files file before
+    (free_of (bytes_eq file layout) (bytes_eq file deck) (any_before (goes_to file) before) h.names).2)
 
 abbrev pub HasDistinctFiles : List Said → Type 0
 HasDistinctFiles saids = AreDistinct (files_of saids)
 
-pub files_stay : (layout deck : List ℕ) (before : List Said) (n : ℕ) (s : Statement) → HasDistinctFiles before → broken_rule layout deck before n s ≡ None → HasDistinctFiles (before ++ (said n s ∷ []))
+pub files_stay : (layout deck : List ℕ) (before : List Said) (n : ℕ) (s : Statement) → HasDistinctFiles before
+    → broken_rule layout deck before n s ≡ None → HasDistinctFiles (before ++ (said n s ∷ []))
 files_stay layout deck before n s h kept =
-    subst AreDistinct (sym (filter_map-append (λ m. file_in m.says) before (said n s ∷ []))) (new_file layout deck before s (keeps_rules layout deck before n s kept) h)
+    subst AreDistinct (sym (filter_map-append (λ m. file_in m.says) before (said n s ∷ [])))
+    (new_file layout deck before s (keeps_rules layout deck before n s kept) h)

@@ -23,7 +23,9 @@ unfolding out_of_range
 band_range (Sets (UnitIs m)) n h e = absurd cc
 band_range (Sets (TopIs cell)) n h e = absurd cc
 band_range (Sets (BandIs rows)) n h e = subst (λ (z : ℤ). IsInside (bound z (pos 1024) (pos 16777216))) (same_some rows n e)
-    (is_inside (bound rows (pos 1024) (pos 16777216)) (inside_split (bound rows (pos 1024) (pos 16777216)) [] (is_outside (bound rows (pos 1024) (pos 16777216))) refl h).0)
+    (is_inside (bound rows (pos 1024) (pos 16777216))
+    (inside_split (bound rows (pos 1024) (pos 16777216)) []
+    (is_outside (bound rows (pos 1024) (pos 16777216))) refl h).0)
 band_range (Sets (LimitsAre height width)) n h e = absurd cc
 band_range (Sets (FrameIs x0 y0 x1 y1)) n h e = absurd cc
 band_range (Defines name operation) n h e = absurd cc
@@ -36,7 +38,9 @@ two_inside a b rest h =
     let second = inside_split b rest (is_outside b) refl first.1 in
     (is_inside a first.0, is_inside b second.0, second.1)
 
-limits_are : (height width : ℤ) → first_outside (bound height (pos 1) (pos 16777216) ∷ bound width (height +ℤ height) (pos 33554432) ∷ []) ≡ None → AreLimits (limits height width)
+limits_are : (height width : ℤ)
+    → first_outside (bound height (pos 1) (pos 16777216) ∷ bound width (height +ℤ height) (pos 33554432) ∷ []) ≡ None
+    → AreLimits (limits height width)
 limits_are height width h =
     let both = two_inside (bound height (pos 1) (pos 16777216)) (bound width (height +ℤ height) (pos 33554432)) [] h in
     record { height_low = both.0.low; height_high = both.0.high; width_low = both.1.low; width_high = both.1.high }
@@ -100,7 +104,8 @@ narrow_pair layer datatype h =
     let both = two_inside (narrow layer) (narrow datatype) [] h in
     record { layer = fits layer both.0; datatype = fits datatype both.1 }
 
-pub even_sides : (dx dy : ℤ) → first_outside (bound dx (pos 0) (pos 65536) ∷ bound dy (pos 0) (pos 65536) ∷ []) ≡ None → not (is_even (dx +ℤ dy)) ≡ false → AreSides dx dy
+pub even_sides : (dx dy : ℤ) → first_outside (bound dx (pos 0) (pos 65536) ∷ bound dy (pos 0) (pos 65536) ∷ []) ≡ None
+    → not (is_even (dx +ℤ dy)) ≡ false → AreSides dx dy
 even_sides dx dy h e =
     let both = two_inside (bound dx (pos 0) (pos 65536)) (bound dy (pos 0) (pos 65536)) [] h in
     record { dx_low = both.0.low; dx_high = both.0.high; dy_low = both.1.low; dy_high = both.1.high; even = not_odd (is_even (dx +ℤ dy)) e }

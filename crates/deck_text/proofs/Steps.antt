@@ -1,5 +1,7 @@
 -- Lines read one after another.
-use Rattle.std.proofs.Common.{◌≡◌, ◌⊎◌, inl, inr, ℕ, zero, suc, ◌+◌, ◌<◌, ◌≤◌, Bool, true, false, not, ◌&&◌, ◌||◌, List, [], ◌∷◌, ◌++◌, length, take, drop, Option, Some, None, refl, sym, ap, subst, ◌∙◌, arith, add-one, add-zero}
+use Rattle.std.proofs.Common.{◌≡◌, ◌⊎◌, inl, inr, ℕ, zero, suc, ◌+◌, ◌<◌, ◌≤◌, Bool, true, false, not, ◌&&◌, ◌||◌, List}
+use Rattle.std.proofs.Common.{[], ◌∷◌, ◌++◌, length, take, drop, Option, Some, None, refl, sym, ap, subst, ◌∙◌, arith}
+use Rattle.std.proofs.Common.{add-one, add-zero}
 use Rattle.std.specs.Prelude.{slice_get, IsSome}
 use Rattle.std.proofs.lemmas.Bool.{cases_lt, false≢true}
 use Rattle.std.proofs.lemmas.List.{length-take, take_all, append-nil}
@@ -7,7 +9,8 @@ use Rattle.std.proofs.lemmas.List.Folds.{list_any-append}
 use Rattle.deck_text.specs.Statements.{Statement, Sets, Defines, Writes, UnitIs, TopIs, BandIs, LimitsAre, FrameIs, Reading, Passed, Refused, Says, Said}
 use Rattle.deck_text.specs.Forms.{reading}
 use Rattle.deck_text.specs.Rules.{is_setting, is_output, is_unit, is_top, any_before, is_misplaced, broken_rule}
-use Rattle.deck_text.specs.Decks.{said, said_first, saids_from, refusal, refusal_after, AreAccepted, IsRefusedAt, HasNoOutput, has_output, first_or, setting_in, unit_of, top_of}
+use Rattle.deck_text.specs.Decks.{said, said_first, saids_from, refusal, refusal_after, AreAccepted, IsRefusedAt}
+use Rattle.deck_text.specs.Decks.{HasNoOutput, has_output, first_or, setting_in, unit_of, top_of}
 use Rattle.deck_text.specs.Begun.{IsBegun}
 use Rattle.deck_text.proofs.RuleLemmas.{by_order}
 use Rattle.deck_text.specs.declared.refusal.DeckBad.{DeckBad}
@@ -59,10 +62,12 @@ unfolding saids_from
 saids_push k [] line = ap (λ (n : ℕ). said_first n (reading line) []) (sym (add-zero k))
 saids_push k (x ∷ xs) line =
     let count : k + 1 + length xs ≡ k + suc (length xs) = omega arith in
-    ap (λ (rest : List Said). said_first k (reading x) rest) (saids_push (k + 1) xs line ∙ ap (λ (n : ℕ). saids_from (k + 1) xs ++ said_first n (reading line) []) count)
+    ap (λ (rest : List Said). said_first k (reading x) rest)
+    (saids_push (k + 1) xs line ∙ ap (λ (n : ℕ). saids_from (k + 1) xs ++ said_first n (reading line) []) count)
     ∙ first_append k (reading x) (saids_from (k + 1) xs) (said_first (k + suc (length xs)) (reading line) [])
 
-pub next_saids : (ls : List (List ℕ)) (n : ℕ) (line : List ℕ) (more : List (List ℕ)) → drop n ls ≡ line ∷ more → saids_from 1 (take (n + 1) ls) ≡ saids_from 1 (take n ls) ++ said_first (n + 1) (reading line) []
+pub next_saids : (ls : List (List ℕ)) (n : ℕ) (line : List ℕ) (more : List (List ℕ)) → drop n ls ≡ line ∷ more
+    → saids_from 1 (take (n + 1) ls) ≡ saids_from 1 (take n ls) ++ said_first (n + 1) (reading line) []
 next_saids ls n line more e =
     let within = line_within ls n line more e in
     let count : 1 + length (take n ls) ≡ n + 1 = omega (arith, length-take n ls) in
@@ -74,7 +79,8 @@ next_saids ls n line more e =
 some_line : (a b : List ℕ) → Some a ≡ Some b → a ≡ b
 some_line a b e = cc
 
-refusal_same : (layout deck : List ℕ) (ls : List (List ℕ)) (i n : ℕ) (other line : List ℕ) → i ≡ n → other ≡ line → refusal_after layout deck ls n line ≡ None → refusal_after layout deck ls i other ≡ None
+refusal_same : (layout deck : List ℕ) (ls : List (List ℕ)) (i n : ℕ) (other line : List ℕ) → i ≡ n → other ≡ line
+    → refusal_after layout deck ls n line ≡ None → refusal_after layout deck ls i other ≡ None
 refusal_same layout deck ls i n other line e f h = rw (e, f) h
 
 accepted_more : (layout deck : List ℕ) (ls : List (List ℕ)) (n : ℕ) (line : List ℕ) (more : List (List ℕ)) → drop n ls ≡ line ∷ more
@@ -141,12 +147,14 @@ both_given true true e = (refl, refl)
 both_given true false e = absurd (false≢true (sym e))
 both_given false t e = absurd (false≢true (sym e))
 
-placed : (before : List Said) (s : Statement) → not (is_setting s) ≡ true → is_misplaced before s ≡ false → (any_before is_unit before ≡ true) × (any_before is_top before ≡ true)
+placed : (before : List Said) (s : Statement) → not (is_setting s) ≡ true → is_misplaced before s ≡ false
+    → (any_before is_unit before ≡ true) × (any_before is_top before ≡ true)
 placed before (Sets setting) other e = absurd (false≢true other)
 placed before (Defines name operation) other e = both_given (any_before is_unit before) (any_before is_top before) e
 placed before (Writes a file layer datatype) other e = both_given (any_before is_unit before) (any_before is_top before) e
 
-in_place : (layout deck : List ℕ) (before : List Said) (n : ℕ) (s : Statement) (misplaced : Bool) → is_misplaced before s ≡ misplaced → broken_rule layout deck before n s ≡ None → is_misplaced before s ≡ false
+in_place : (layout deck : List ℕ) (before : List Said) (n : ℕ) (s : Statement) (misplaced : Bool)
+    → is_misplaced before s ≡ misplaced → broken_rule layout deck before n s ≡ None → is_misplaced before s ≡ false
 in_place layout deck before n s true e h =
     let broken = by_order layout deck before n s e in
     absurd (let clash : ⊥ = cc in clash)
@@ -161,10 +169,14 @@ only_one s n e = elim (either (is_other s) false e) [
   | inr none ↦ absurd (false≢true none)
 ]
 
-begun_more : (layout deck : List ℕ) (before : List Said) (n : ℕ) (s : Statement) → IsBegun before → broken_rule layout deck before n s ≡ None → IsBegun (before ++ (said n s ∷ []))
+begun_more : (layout deck : List ℕ) (before : List Said) (n : ℕ) (s : Statement) → IsBegun before
+    → broken_rule layout deck before n s ≡ None → IsBegun (before ++ (said n s ∷ []))
 begun_more layout deck before n s h kept e =
-    let parts : (any_before is_other before || any_before is_other (said n s ∷ [])) ≡ true = sym (list_any-append (λ m. is_other m.says) before (said n s ∷ [])) ∙ e in
-    let given : IsSome (setting_in unit_of before) × IsSome (setting_in top_of before) = elim (either (any_before is_other before) (any_before is_other (said n s ∷ [])) parts) [
+    let parts : (any_before is_other before || any_before is_other (said n s ∷ [])) ≡ true = sym
+    (list_any-append (λ m. is_other m.says) before (said n s ∷ [])) ∙ e in
+    let given : IsSome (setting_in unit_of before)
+    × IsSome (setting_in top_of before) = elim
+    (either (any_before is_other before) (any_before is_other (said n s ∷ [])) parts) [
       | inl earlier ↦ h earlier
       | inr own ↦
           let both = placed before s (only_one s n own) (in_place layout deck before n s (is_misplaced before s) refl kept) in
@@ -210,11 +222,13 @@ starts layout deck ls = record {
 }
 
 -- why the next line is refused
-why : (layout deck : List ℕ) (ls : List (List ℕ)) (n : ℕ) (saids : List Said) (line : List ℕ) (r : Reading) (o : Option DeckBad) → saids ≡ saids_from 1 (take n ls) → reading line ≡ r
+why : (layout deck : List ℕ) (ls : List (List ℕ)) (n : ℕ) (saids : List Said) (line : List ℕ) (r : Reading)
+    (o : Option DeckBad) → saids ≡ saids_from 1 (take n ls) → reading line ≡ r
     → refusal layout deck saids (n + 1) r ≡ o → refusal_after layout deck ls n line ≡ o
 why layout deck ls n saids line r o e f h = rw (← e, f) h
 
-pub refused_next : (layout deck : List ℕ) (ls : List (List ℕ)) (n : ℕ) (saids : List Said) (line : List ℕ) (more : List (List ℕ)) (r : Reading) (bad : DeckBad) → IsReadUpTo layout deck ls n saids
+pub refused_next : (layout deck : List ℕ) (ls : List (List ℕ)) (n : ℕ) (saids : List Said) (line : List ℕ)
+    (more : List (List ℕ)) (r : Reading) (bad : DeckBad) → IsReadUpTo layout deck ls n saids
     → drop n ls ≡ line ∷ more → reading line ≡ r → refusal layout deck saids (n + 1) r ≡ Some bad → IsRefusedAt layout deck ls n bad
 refused_next layout deck ls n saids line more r bad u e f h = record {
   line = line;
@@ -223,20 +237,27 @@ refused_next layout deck ls n saids line more r bad u e f h = record {
   before = u.accepted;
 }
 
-pub passes_next : (layout deck : List ℕ) (ls : List (List ℕ)) (n : ℕ) (saids : List Said) (line : List ℕ) (more : List (List ℕ)) → IsReadUpTo layout deck ls n saids
+pub passes_next : (layout deck : List ℕ) (ls : List (List ℕ)) (n : ℕ) (saids : List Said) (line : List ℕ)
+    (more : List (List ℕ)) → IsReadUpTo layout deck ls n saids
     → drop n ls ≡ line ∷ more → reading line ≡ Passed → IsReadUpTo layout deck ls (n + 1) saids
 passes_next layout deck ls n saids line more u e f = record {
   within = let lt = line_within ls n line more e in omega arith;
-  says = u.says ∙ (sym (append-nil (saids_from 1 (take n ls))) ∙ (ap (λ (r : Reading). saids_from 1 (take n ls) ++ said_first (n + 1) r []) (sym f) ∙ sym (next_saids ls n line more e)));
+  says = u.says ∙ (sym (append-nil (saids_from 1 (take n ls)))
+      ∙ (ap (λ (r : Reading). saids_from 1 (take n ls) ++ said_first (n + 1) r []) (sym f) ∙ sym
+      (next_saids ls n line more e)));
   accepted = accepted_more layout deck ls n line more e u.accepted (why layout deck ls n saids line Passed None u.says f refl);
   begun = u.begun;
 }
 
-pub says_next : (layout deck : List ℕ) (ls : List (List ℕ)) (n : ℕ) (saids : List Said) (line : List ℕ) (more : List (List ℕ)) (s : Statement) → IsReadUpTo layout deck ls n saids
-    → drop n ls ≡ line ∷ more → reading line ≡ Says s → broken_rule layout deck saids (n + 1) s ≡ None → IsReadUpTo layout deck ls (n + 1) (saids ++ (said (n + 1) s ∷ []))
+pub says_next : (layout deck : List ℕ) (ls : List (List ℕ)) (n : ℕ) (saids : List Said) (line : List ℕ)
+    (more : List (List ℕ)) (s : Statement) → IsReadUpTo layout deck ls n saids
+    → drop n ls ≡ line ∷ more → reading line ≡ Says s → broken_rule layout deck saids (n + 1) s ≡ None
+    → IsReadUpTo layout deck ls (n + 1) (saids ++ (said (n + 1) s ∷ []))
 says_next layout deck ls n saids line more s u e f h = record {
   within = let lt = line_within ls n line more e in omega arith;
-  says = ap (λ (xs : List Said). xs ++ (said (n + 1) s ∷ [])) u.says ∙ (ap (λ (r : Reading). saids_from 1 (take n ls) ++ said_first (n + 1) r []) (sym f) ∙ sym (next_saids ls n line more e));
+  says = ap (λ (xs : List Said). xs ++ (said (n + 1) s ∷ [])) u.says
+      ∙ (ap (λ (r : Reading). saids_from 1 (take n ls) ++ said_first (n + 1) r []) (sym f) ∙ sym
+      (next_saids ls n line more e));
   accepted = accepted_more layout deck ls n line more e u.accepted (why layout deck ls n saids line (Says s) None u.says f h);
   begun = begun_more layout deck saids (n + 1) s u.begun h;
 }
@@ -248,7 +269,8 @@ pub record IsReadAll (layout deck : List ℕ) (ls : List (List ℕ)) (n : ℕ) (
   pub accepted : AreAccepted layout deck ls (length ls)
   pub begun : IsBegun (saids_from 1 ls)
 
-pub ends : (layout deck : List ℕ) (ls : List (List ℕ)) (n : ℕ) (saids : List Said) → IsReadUpTo layout deck ls n saids → drop n ls ≡ [] → IsReadAll layout deck ls n saids
+pub ends : (layout deck : List ℕ) (ls : List (List ℕ)) (n : ℕ) (saids : List Said) → IsReadUpTo layout deck ls n saids
+    → drop n ls ≡ [] → IsReadAll layout deck ls n saids
 ends layout deck ls n saids u e =
     let past = no_line ls n e in
     let count : n ≡ length ls = omega (arith, u.within) in
@@ -260,7 +282,8 @@ ends layout deck ls n saids u e =
       begun = subst (λ (xs : List Said). IsBegun xs) whole u.begun;
     }
 
-pub no_output : (layout deck : List ℕ) (ls : List (List ℕ)) (n : ℕ) (saids : List Said) → IsReadAll layout deck ls n saids → has_output saids ≡ false → HasNoOutput layout deck ls (faults.Order (n + 1))
+pub no_output : (layout deck : List ℕ) (ls : List (List ℕ)) (n : ℕ) (saids : List Said)
+    → IsReadAll layout deck ls n saids → has_output saids ≡ false → HasNoOutput layout deck ls (faults.Order (n + 1))
 no_output layout deck ls n saids u e = record {
   accepted = u.accepted;
   none = rw (← u.says) e;

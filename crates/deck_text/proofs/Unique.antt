@@ -32,14 +32,16 @@ past_accepted layout deck ls n k bad h r = elim (cases_lt n k) [
 same_line : (a b : List ℕ) → Some a ≡ Some b → a ≡ b
 same_line a b e = cc
 
-at_same : (layout deck : List ℕ) (ls : List (List ℕ)) (n m : ℕ) (bad other : DeckBad) → n ≡ m → IsRefusedAt layout deck ls n bad → IsRefusedAt layout deck ls m other → bad ≡ other
+at_same : (layout deck : List ℕ) (ls : List (List ℕ)) (n m : ℕ) (bad other : DeckBad) → n ≡ m
+    → IsRefusedAt layout deck ls n bad → IsRefusedAt layout deck ls m other → bad ≡ other
 at_same layout deck ls n m bad other e r s =
     let here : slice_get ls m ≡ Some r.line = rw (← e) r.there in
     let line : r.line ≡ s.line = same_line r.line s.line (sym here ∙ s.there) in
     let own : refusal_after layout deck ls m s.line ≡ Some bad = rw (← e, ← line) r.why in
     some_bad bad other (sym own ∙ s.why)
 
-one_refused : (layout deck : List ℕ) (ls : List (List ℕ)) (n m : ℕ) (bad other : DeckBad) → IsRefusedAt layout deck ls n bad → IsRefusedAt layout deck ls m other → bad ≡ other
+one_refused : (layout deck : List ℕ) (ls : List (List ℕ)) (n m : ℕ) (bad other : DeckBad)
+    → IsRefusedAt layout deck ls n bad → IsRefusedAt layout deck ls m other → bad ≡ other
 one_refused layout deck ls n m bad other r s =
     let first = past_accepted layout deck ls m n other r.before s in
     let second = past_accepted layout deck ls n m bad s.before r in
@@ -69,15 +71,19 @@ same_top a b o e f = cc
 
 -- a deck by its fields
 deck_with : ℕ → List ℕ → ℤ → Limits → Option Frame → List Step → List Output → Deck
-deck_with unit top band limits frame steps outputs = record { unit = unit; top = top; band = band; limits = limits; frame = frame; steps = steps; outputs = outputs }
+deck_with unit top band limits frame steps outputs =
+    record { unit = unit; top = top; band = band; limits = limits; frame = frame; steps = steps; outputs = outputs }
 
 fields_same : (u v : ℕ) (s t : List ℕ) (b c : ℤ) (l m : Limits) (f g : Option Frame) (ps qs : List Step) (xs ys : List Output)
     → u ≡ v → s ≡ t → b ≡ c → l ≡ m → f ≡ g → ps ≡ qs → xs ≡ ys → deck_with u s b l f ps xs ≡ deck_with v t c m g qs ys
 fields_same u v s t b c l m f g ps qs xs ys e1 e2 e3 e4 e5 e6 e7 = rw (e1, e2, e3, e4, e5, e6, e7) refl
 
-same_deck : (d e : Deck) → d.unit ≡ e.unit → d.top ≡ e.top → d.band ≡ e.band → d.limits ≡ e.limits → d.frame ≡ e.frame → d.steps ≡ e.steps → d.outputs ≡ e.outputs → d ≡ e
+same_deck : (d e : Deck) → d.unit ≡ e.unit → d.top ≡ e.top → d.band ≡ e.band → d.limits ≡ e.limits → d.frame ≡ e.frame
+    → d.steps ≡ e.steps → d.outputs ≡ e.outputs → d ≡ e
 unfolding deck_with
-same_deck d e a b c x y z w = fields_same d.unit e.unit d.top e.top d.band e.band d.limits e.limits d.frame e.frame d.steps e.steps d.outputs e.outputs a b c x y z w
+same_deck d e a b c x y z w =
+    fields_same d.unit e.unit d.top e.top d.band e.band d.limits e.limits d.frame e.frame d.steps e.steps d.outputs
+    e.outputs a b c x y z w
 
 deck_of_one : (saids : List Said) (d e : Deck) → IsDeckOf saids d → IsDeckOf saids e → d ≡ e
 deck_of_one saids d e h g =
@@ -102,7 +108,8 @@ want (faults.Many n) = inr (λ e. cc)
 want faults.NoMemory = inl refl
 
 -- the answer of a refusal to bytes that have a first fault
-pub told_fault : (bytes layout deck : List ℕ) (r : Result Deck DeckBad) (own : DeckBad) → r ≡ Err own → (own ≢ faults.NoMemory → IsFirstFault bytes layout deck own)
+pub told_fault : (bytes layout deck : List ℕ) (r : Result Deck DeckBad) (own : DeckBad) → r ≡ Err own
+    → (own ≢ faults.NoMemory → IsFirstFault bytes layout deck own)
     → (bad : DeckBad) → IsFirstFault bytes layout deck bad → (r ≡ Err bad) ⊎ (r ≡ Err faults.NoMemory)
 told_fault bytes layout deck r own e h bad f = elim (want own) [
   | inl none ↦ inr (e ∙ ap (λ (b : DeckBad). Err b) none)
@@ -110,7 +117,8 @@ told_fault bytes layout deck r own e h bad f = elim (want own) [
 ]
 
 -- and to bytes that are a deck
-pub told_deck : (bytes layout deck : List ℕ) (r : Result Deck DeckBad) (own : DeckBad) → r ≡ Err own → (own ≢ faults.NoMemory → IsFirstFault bytes layout deck own)
+pub told_deck : (bytes layout deck : List ℕ) (r : Result Deck DeckBad) (own : DeckBad) → r ≡ Err own
+    → (own ≢ faults.NoMemory → IsFirstFault bytes layout deck own)
     → (d : Deck) → IsDeck bytes layout deck d → (r ≡ Ok d) ⊎ (r ≡ Err faults.NoMemory)
 told_deck bytes layout deck r own e h d g = elim (want own) [
   | inl none ↦ inr (e ∙ ap (λ (b : DeckBad). Err b) none)

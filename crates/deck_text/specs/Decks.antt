@@ -1,12 +1,15 @@
 -- Decks: their lines, the first line that is refused, and what accepted lines say.
-use Rattle.std.specs.Prelude.{◌≡◌, ◌⊎◌, ℕ, ◌+◌, ◌<◌, ℤ, pos, unsigned_abs, Bool, true, false, List, [], ◌∷◌, length, take, slice_get, filter_map, not, Option, Some, None, unwrap_or}
+use Rattle.std.specs.Prelude.{◌≡◌, ◌⊎◌, ℕ, ◌+◌, ◌<◌, ℤ, pos, unsigned_abs, Bool, true, false, List, [], ◌∷◌, length}
+use Rattle.std.specs.Prelude.{take, slice_get, filter_map, not, Option, Some, None, unwrap_or}
 use Rattle.std.specs.List.{prefix_len}
 use Rattle.std.specs.Str.{bytes_eq}
 use Rattle.half_grid.specs.declared.shot.Limits.{Limits}
 use Rattle.half_grid.specs.declared.extent.Frame.{Frame}
 use Rattle.layout_model.specs.declared.pair.Pair.{Pair}
 use Rattle.deck_text.specs.Lines.{lines_of}
-use Rattle.deck_text.specs.Statements.{UnitIs, TopIs, BandIs, LimitsAre, FrameIs, Operation, LayerOf, Combines, Sizes, Inverts, Mirrors, Statement, Sets, Defines, Writes, Reading, Passed, Refused, Says, Said}
+use Rattle.deck_text.specs.Statements.{UnitIs, TopIs, BandIs, LimitsAre, FrameIs, Operation, LayerOf, Combines, Sizes}
+use Rattle.deck_text.specs.Statements.{Inverts, Mirrors, Statement, Sets, Defines, Writes, Reading, Passed, Refused}
+use Rattle.deck_text.specs.Statements.{Says, Said}
 use Rattle.deck_text.specs.Forms.{reading}
 use Rattle.deck_text.specs.Rules.{any_before, is_output, broken_rule}
 use Rattle.deck_text.specs.declared.statement.Operator.{Operator}

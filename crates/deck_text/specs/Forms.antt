@@ -3,7 +3,8 @@ use Rattle.std.specs.Prelude.{ℕ, ◌+◌, Bool, false, ◌==◌, List, [], ◌
 use Rattle.std.specs.Str.{bytes_eq}
 use Rattle.deck_text.specs.Tokens.{Piece, pieces_at}
 use Rattle.deck_text.specs.Kinds.{Kind, Name, File, Cell, Number, Sides, Values, fields, ◌>>=◌}
-use Rattle.deck_text.specs.Statements.{UnitIs, TopIs, BandIs, LimitsAre, FrameIs, LayerOf, Combines, Sizes, Inverts, Mirrors, Statement, Sets, Defines, Writes, Reading, Passed, Refused, Says}
+use Rattle.deck_text.specs.Statements.{UnitIs, TopIs, BandIs, LimitsAre, FrameIs, LayerOf, Combines, Sizes, Inverts}
+use Rattle.deck_text.specs.Statements.{Mirrors, Statement, Sets, Defines, Writes, Reading, Passed, Refused, Says}
 use Rattle.deck_text.specs.declared.statement.Operator.TheVariants as operators
 use Rattle.deck_text.specs.declared.statement.Sizing.TheVariants as sizings
 use Rattle.deck_text.specs.declared.command.Command.{Command}

@@ -1,6 +1,7 @@
 -- What the tokens of a line may be. A NAME is a letter or `_`, then letters, digits or `_`, at most 32 bytes. A FILE is a
 -- token of 1 to 255 bytes, a CELL one of 1 to 1,024. A number is an optional `-` and 1 to 18 digits; zeros may lead.
-use Rattle.std.specs.Prelude.{ℕ, ◌+◌, ◌-◌, ◌*◌, ℤ, pos, neg_ℤ, Bool, false, ◌&&◌, ◌||◌, ◌==◌, nat_le, List, [], ◌∷◌, length, fold, Option, Some, None, option_map, Result, Ok, Err, if◌then◌else◌}
+use Rattle.std.specs.Prelude.{ℕ, ◌+◌, ◌-◌, ◌*◌, ℤ, pos, neg_ℤ, Bool, false, ◌&&◌, ◌||◌, ◌==◌, nat_le, List, [], ◌∷◌}
+use Rattle.std.specs.Prelude.{length, fold, Option, Some, None, option_map, Result, Ok, Err, if◌then◌else◌}
 use Rattle.std.specs.List.{list_all}
 use Rattle.std.specs.Char.{is_ascii_graphic, is_ascii_digit, is_ascii_alphabetic}
 use Rattle.deck_text.specs.Tokens.{Piece}

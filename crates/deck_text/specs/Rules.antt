@@ -1,9 +1,11 @@
 -- The rules of a deck, each about a line's statement and those of the lines before it.
-use Rattle.std.specs.Prelude.{ℕ, ℤ, pos, neg_ℤ, ◌+ℤ◌, int_lt, Bool, true, false, ◌&&◌, ◌||◌, not, nat_le, List, [], ◌∷◌, find, count_by, Option, Some, None, option_map, if◌then◌else◌}
+use Rattle.std.specs.Prelude.{ℕ, ℤ, pos, neg_ℤ, ◌+ℤ◌, int_lt, Bool, true, false, ◌&&◌, ◌||◌, not, nat_le, List, [], ◌∷◌}
+use Rattle.std.specs.Prelude.{find, count_by, Option, Some, None, option_map, if◌then◌else◌}
 use Rattle.std.specs.List.{list_any}
 use Rattle.std.specs.Str.{bytes_eq}
 use Rattle.half_grid.specs.Halves.{is_even}
-use Rattle.deck_text.specs.Statements.{Setting, UnitIs, TopIs, BandIs, LimitsAre, FrameIs, Operation, LayerOf, Combines, Sizes, Inverts, Mirrors, Statement, Sets, Defines, Writes, Said}
+use Rattle.deck_text.specs.Statements.{Setting, UnitIs, TopIs, BandIs, LimitsAre, FrameIs, Operation, LayerOf, Combines}
+use Rattle.deck_text.specs.Statements.{Sizes, Inverts, Mirrors, Statement, Sets, Defines, Writes, Said}
 use Rattle.deck_text.specs.declared.refusal.DeckBad.{DeckBad}
 use Rattle.deck_text.specs.declared.refusal.DeckBad.TheVariants as faults
 

@@ -1,6 +1,7 @@
 -- What every deck that is read meets: its numbers are in range, each operand is defined before, `invert` has a frame, and
 -- the files of its outputs are free.
-use Rattle.std.specs.Prelude.{◌≡◌, ◌≢◌, ℕ, ◌<◌, ◌≤◌, ℤ, pos, neg_ℤ, ◌+ℤ◌, ◌≤ℤ◌, ◌<ℤ◌, true, List, [], ◌∷◌, length, map, slice_get, All, Option, Some, IsSome, IfSome}
+use Rattle.std.specs.Prelude.{◌≡◌, ◌≢◌, ℕ, ◌<◌, ◌≤◌, ℤ, pos, neg_ℤ, ◌+ℤ◌, ◌≤ℤ◌, ◌<ℤ◌, true, List, [], ◌∷◌, length, map}
+use Rattle.std.specs.Prelude.{slice_get, All, Option, Some, IsSome, IfSome}
 use Rattle.half_grid.specs.Halves.{is_even}
 use Rattle.half_grid.specs.declared.shot.Limits.{Limits}
 use Rattle.half_grid.specs.declared.extent.Frame.{Frame}

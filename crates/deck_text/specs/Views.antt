@@ -1,6 +1,8 @@
 -- What the statements that are lent from a line say, without where their bytes lie.
 use Rattle.std.specs.Prelude.{◌≡◌, ℕ, Option, Some, None, Result, Ok, Err}
-use Rattle.deck_text.specs.Statements.{Setting, UnitIs, TopIs, BandIs, LimitsAre, FrameIs, Operation, LayerOf, Combines, Sizes, Inverts, Mirrors, Statement, Sets, Defines, Writes, Reading, Passed, Refused, Says}
+use Rattle.deck_text.specs.Statements.{Setting, UnitIs, TopIs, BandIs, LimitsAre, FrameIs, Operation, LayerOf, Combines}
+use Rattle.deck_text.specs.Statements.{Sizes, Inverts, Mirrors, Statement, Sets, Defines, Writes, Reading, Passed}
+use Rattle.deck_text.specs.Statements.{Refused, Says}
 use Rattle.deck_text.specs.declared.statement.Setting.{Setting as LentSetting}
 use Rattle.deck_text.specs.declared.statement.Setting.TheVariants as settings
 use Rattle.deck_text.specs.declared.statement.Operation.{Operation as LentOperation}

@@ -19,7 +19,9 @@ columns_are size z least greatest q r e f a b d g = record {
   from = subst (λ (x : ℤ). (q *ℤ size) ≤ℤ x) e a;
   not_before = subst (λ (x : ℤ). x <ℤ ((q +ℤ pos 1) *ℤ size)) e b;
   up_to = subst (λ (x : ℤ). x ≤ℤ ((r +ℤ pos 1) *ℤ size)) f (omega (arith, ints, g));
-  not_after = subst (λ (x : ℤ). ((((r +ℤ pos 1) -ℤ pos 1) *ℤ size)) <ℤ x) f (subst (λ (k : ℤ). (k *ℤ size) <ℤ greatest) (let back : r ≡ (r +ℤ pos 1) -ℤ pos 1 = omega (arith, ints) in back) (omega (arith, ints, d)));
+  not_after = subst (λ (x : ℤ). ((((r +ℤ pos 1) -ℤ pos 1) *ℤ size)) <ℤ x) f
+      (subst (λ (k : ℤ). (k *ℤ size) <ℤ greatest) (let back : r ≡ (r +ℤ pos 1) -ℤ pos 1 = omega (arith, ints) in back)
+      (omega (arith, ints, d)));
 }
 
 pub low_side : (size q least : ℤ) → IsWindowSize size → neg_ℤ (pos (2 ^ 44)) ≤ℤ least → least <ℤ ((q +ℤ pos 1) *ℤ size) → neg_ℤ (pos (2 ^ 45)) ≤ℤ (q *ℤ size)
@@ -29,7 +31,8 @@ low_side size q least h low below =
     omega (arith, ints, e, high, low, below)
 
 pub high_side : (size r greatest : ℤ) → greatest ≤ℤ pos (2 ^ 44) → (r *ℤ size) ≤ℤ (greatest -ℤ pos 1) → (((r +ℤ pos 1) -ℤ pos 1) *ℤ size) ≤ℤ pos (2 ^ 44)
-high_side size r greatest high from = subst (λ (k : ℤ). (k *ℤ size) ≤ℤ pos (2 ^ 44)) (let back : r ≡ (r +ℤ pos 1) -ℤ pos 1 = omega (arith, ints) in back) (omega (arith, ints, high, from))
+high_side size r greatest high from = subst (λ (k : ℤ). (k *ℤ size) ≤ℤ pos (2 ^ 44))
+    (let back : r ≡ (r +ℤ pos 1) -ℤ pos 1 = omega (arith, ints) in back) (omega (arith, ints, high, from))
 
 -- ---- window by window
 
@@ -41,19 +44,22 @@ pub record IsAddedBefore (size row : ℤ) (z : Trapezoid) (old now : List Counte
 positive : (size : ℤ) → IsWindowSize size → pos 0 <ℤ size
 positive size h = let low = h.low in omega (arith, ints, low)
 
-none_before : (size row first end i : ℤ) (z : Trapezoid) → IsWindowSize size → AreColumnsOf size z first end → i <ℤ first → count_in_frame (window size i row) z ≡ 0
+none_before : (size row first end i : ℤ) (z : Trapezoid) → IsWindowSize size → AreColumnsOf size z first end
+    → i <ℤ first → count_in_frame (window size i row) z ≡ 0
 none_before size row first end i z h columns less =
     let up = multiples (i +ℤ pos 1) first size (positive size h) (omega (arith, ints, less)) in
     let from = columns.from in
     none_beside z (window size i row) (inl (omega (arith, ints, up, from)))
 
-none_after : (size row first end i : ℤ) (z : Trapezoid) → IsWindowSize size → AreColumnsOf size z first end → end ≤ℤ i → count_in_frame (window size i row) z ≡ 0
+none_after : (size row first end i : ℤ) (z : Trapezoid) → IsWindowSize size → AreColumnsOf size z first end → end ≤ℤ i
+    → count_in_frame (window size i row) z ≡ 0
 none_after size row first end i z h columns more =
     let up = multiples end i size (positive size h) more in
     let to = columns.up_to in
     none_beside z (window size i row) (inr (omega (arith, ints, up, to)))
 
-pub none_added : (size row first end : ℤ) (z : Trapezoid) (old now : List Counted) → IsWindowSize size → AreColumnsOf size z first end → now ≡ old → IsAddedBefore size row z old now first
+pub none_added : (size row first end : ℤ) (z : Trapezoid) (old now : List Counted) → IsWindowSize size
+    → AreColumnsOf size z first end → now ≡ old → IsAddedBefore size row z old now first
 none_added size row first end z old now h columns e = record {
   done = λ i less. ap (count_at i) e ∙ (let none = none_before size row first end i z h columns less in omega (arith, none));
   rest = λ i from. ap (count_at i) e;
@@ -65,7 +71,9 @@ tiles_here i column n e = rw (int_eq_same column i (sym e)) refl
 tiles_there : (i column : ℤ) (n : ℕ) → (column ≡ i → ⊥) → tiles_at i (record { column = column; tiles = n }) ≡ 0
 tiles_there i column n apart = rw (int_eq_other column i apart) refl
 
-pub one_added : (size row first next : ℤ) (z : Trapezoid) (old now new : List Counted) → IsAddedBefore size row z old now first → IsCountedMore now (counted_in size row z first) new → next ≡ first +ℤ pos 1
+pub one_added : (size row first next : ℤ) (z : Trapezoid) (old now new : List Counted)
+    → IsAddedBefore size row z old now first → IsCountedMore now (counted_in size row z first) new
+    → next ≡ first +ℤ pos 1
     → IsAddedBefore size row z old new next
 one_added size row first next z old now new before more e = record {
   done = λ i less. by_lt_z i first
@@ -78,7 +86,8 @@ one_added size row first next z old now new before more e = record {
       let here : i ≡ first = omega (arith, ints, from, less, e) in
       let was = before.rest i from in
       let all = tiles_here i first (count_in_frame (window size first row) z) here in
-      let same : count_in_frame (window size first row) z ≡ count_in_frame (window size i row) z = ap (λ (k : ℤ). count_in_frame (window size k row) z) (sym here) in
+      let same : count_in_frame (window size first row) z ≡ count_in_frame (window size i row) z = ap
+      (λ (k : ℤ). count_in_frame (window size k row) z) (sym here) in
       let sum = more i in
       omega (arith, sum, was, all, same)
       ));
@@ -90,7 +99,9 @@ one_added size row first next z old now new before more e = record {
       );
 }
 
-pub all_added : (size row start first end : ℤ) (z : Trapezoid) (old now : List Counted) → IsWindowSize size → AreColumnsOf size z start end → IsAddedBefore size row z old now first → end ≤ℤ first → AreAdded size row old z now
+pub all_added : (size row start first end : ℤ) (z : Trapezoid) (old now : List Counted) → IsWindowSize size
+    → AreColumnsOf size z start end → IsAddedBefore size row z old now first → end ≤ℤ first
+    → AreAdded size row old z now
 all_added size row start first end z old now h columns before last i =
     by_lt_z i first
     (λ less. before.done i less)
@@ -102,12 +113,14 @@ all_added size row start first end z old now h columns before last i =
 
 -- ---- the sides of the next window
 
-pub side_near : (size first end : ℤ) → IsWindowSize size → neg_ℤ (pos (2 ^ 45)) ≤ℤ (first *ℤ size) → ((end -ℤ pos 1) *ℤ size) ≤ℤ pos (2 ^ 44) → first <ℤ end → IsNear (first *ℤ size)
+pub side_near : (size first end : ℤ) → IsWindowSize size → neg_ℤ (pos (2 ^ 45)) ≤ℤ (first *ℤ size)
+    → ((end -ℤ pos 1) *ℤ size) ≤ℤ pos (2 ^ 44) → first <ℤ end → IsNear (first *ℤ size)
 side_near size first end h low high less =
     let up = multiples first (end -ℤ pos 1) size (positive size h) (omega (arith, ints, less)) in
     record { low = low; high = omega (arith, ints, up, high) }
 
-pub next_near : (size first end : ℤ) → IsWindowSize size → neg_ℤ (pos (2 ^ 45)) ≤ℤ (first *ℤ size) → ((end -ℤ pos 1) *ℤ size) ≤ℤ pos (2 ^ 44) → first <ℤ end → IsNear ((first +ℤ pos 1) *ℤ size)
+pub next_near : (size first end : ℤ) → IsWindowSize size → neg_ℤ (pos (2 ^ 45)) ≤ℤ (first *ℤ size)
+    → ((end -ℤ pos 1) *ℤ size) ≤ℤ pos (2 ^ 44) → first <ℤ end → IsNear ((first +ℤ pos 1) *ℤ size)
 next_near size first end h low high less =
     let up = multiples first (end -ℤ pos 1) size (positive size h) (omega (arith, ints, less)) in
     let e = next_side first size in

@@ -43,11 +43,13 @@ none_beside z frame side =
         (λ less. (let n = natural_is (frame.x1 -ℤ frame.x0) (omega (arith, ints, less)) in omega (arith, ints, n, r)))
         (λ more. absurd (let n = natural_none (frame.x1 -ℤ frame.x0) (omega (arith, ints, more)) in omega (arith, ints, n, r, l)))
 
-    apart : (t : Tile) → (frame.x1 ≤ℤ least_x z) ⊎ (greatest_x z ≤ℤ frame.x0) → (least_x z ≤ℤ t.i) × (t.i <ℤ greatest_x z) → frame.x0 ≤ℤ t.i → t.i <ℤ frame.x1 → ⊥
+    apart : (t : Tile) → (frame.x1 ≤ℤ least_x z) ⊎ (greatest_x z ≤ℤ frame.x0) → (least_x z ≤ℤ t.i)
+        × (t.i <ℤ greatest_x z) → frame.x0 ≤ℤ t.i → t.i <ℤ frame.x1 → ⊥
     apart t (inl a) box l u = let low = box.0 in omega (arith, ints, a, low, u)
     apart t (inr a) box l u = let high = box.1 in omega (arith, ints, a, high, l)
 
 -- a legal trapezoid's box is wide
-corner : (l r : Line) (y0 y1 : ℤ) → pos 0 ≤ℤ (x_on r y0 -ℤ x_on l y0) → pos 0 ≤ℤ (x_on r y1 -ℤ x_on l y1) → pos 0 <ℤ ((x_on r y0 -ℤ x_on l y0) +ℤ (x_on r y1 -ℤ x_on l y1))
+corner : (l r : Line) (y0 y1 : ℤ) → pos 0 ≤ℤ (x_on r y0 -ℤ x_on l y0) → pos 0 ≤ℤ (x_on r y1 -ℤ x_on l y1)
+    → pos 0 <ℤ ((x_on r y0 -ℤ x_on l y0) +ℤ (x_on r y1 -ℤ x_on l y1))
     → int_min (x_on l y0) (x_on l y1) <ℤ int_max (x_on r y0) (x_on r y1)
 corner l r y0 y1 a b c = omega (arith, ints, clamps)

@@ -1,5 +1,7 @@
 -- The rows of a frame that a trapezoid has, and what they count.
-use Rattle.std.proofs.Common.{ℕ, zero, suc, ◌+◌, ◌-◌, ◌≤◌, ◌≡◌, Bool, true, false, Option, None, Some, SomeIff, ℤ, pos, ◌+ℤ◌, ◌-ℤ◌, ◌≤ℤ◌, ◌<ℤ◌, List, ◌∷◌, ◌++◌, count_by, append_assoc, arith, refl, ap, subst, ◌∙◌, sym}
+use Rattle.std.proofs.Common.{ℕ, zero, suc, ◌+◌, ◌-◌, ◌≤◌, ◌≡◌, Bool, true, false, Option, None, Some, SomeIff, ℤ, pos}
+use Rattle.std.proofs.Common.{◌+ℤ◌, ◌-ℤ◌, ◌≤ℤ◌, ◌<ℤ◌, List, ◌∷◌, ◌++◌, count_by, append_assoc, arith, refl, ap, subst}
+use Rattle.std.proofs.Common.{◌∙◌, sym}
 use Rattle.std.proofs.lemmas.Int.{ints, clamps, by_lt_z}
 use Rattle.std.proofs.lemmas.List.Sums.{sum_by-append, sum_by-cons}
 use Rattle.std.specs.Int.{int_min, int_max}
@@ -65,8 +67,10 @@ counted_by z frame rows r0 l1 l0 r1 legal r er el fl fr =
 abbrev before_in : Line → ℤ → RowRange → ℕ
 before_in line x rows = tiles_before line x rows.y0 (natural (rows.y1 -ℤ rows.y0))
 
-pub rows_counted : (z : Trapezoid) (frame : Frame) (rows : RowRange) (left right : Line) (r0 l1 l0 r1 : ℕ) → left ≡ z.left → right ≡ z.right → IsShot z → AreRowsOf z frame rows
-    → r0 ≡ before_in right frame.x0 rows → l1 ≡ before_in left frame.x1 rows → l0 ≡ before_in left frame.x0 rows → r1 ≡ before_in right frame.x1 rows → AreRowsCounted z frame rows (r0 + l1) (l0 + r1)
+pub rows_counted : (z : Trapezoid) (frame : Frame) (rows : RowRange) (left right : Line) (r0 l1 l0 r1 : ℕ)
+    → left ≡ z.left → right ≡ z.right → IsShot z → AreRowsOf z frame rows
+    → r0 ≡ before_in right frame.x0 rows → l1 ≡ before_in left frame.x1 rows → l0 ≡ before_in left frame.x0 rows
+    → r1 ≡ before_in right frame.x1 rows → AreRowsCounted z frame rows (r0 + l1) (l0 + r1)
 rows_counted z frame rows left right r0 l1 l0 r1 el er s r p q u v =
     counted_by z frame rows r0 l1 l0 r1 s.legal r
     (p ∙ ap (λ (l : Line). before_in l frame.x0 rows) er)
@@ -118,7 +122,9 @@ rows_split i j k zero b =
 rows_split i j k (suc a) b =
     let e : suc a + b ≡ suc (a + b) = omega arith in
     ap (rows_tiles i k j) e
-    ∙ ap (λ (l : List Tile). row_tiles i j k ++ l) (rows_split i (j +ℤ pos 1) k a b ∙ ap (λ (y : ℤ). rows_tiles i k (j +ℤ pos 1) a ++ rows_tiles i k y b) (next_first j a))
+    ∙ ap (λ (l : List Tile). row_tiles i j k ++ l)
+    (rows_split i (j +ℤ pos 1) k a b ∙ ap (λ (y : ℤ). rows_tiles i k (j +ℤ pos 1) a ++ rows_tiles i k y b)
+    (next_first j a))
     ∙ sym (append_assoc (row_tiles i j k) (rows_tiles i k (j +ℤ pos 1) a) (rows_tiles i k (j +ℤ pos (suc a)) b))
 
 -- where the rows below and above have none, the count is that of the rows between
@@ -134,10 +140,12 @@ count_split z i j k a b c below above =
 abbrev shared : Trapezoid → Frame → RowRange
 shared z frame = row_range (int_max z.y0 frame.y0) (int_min z.y1 frame.y1)
 
-pub shared_rows_are : (z : Trapezoid) (frame : Frame) → frame.x0 <ℤ frame.x1 → int_max z.y0 frame.y0 <ℤ int_min z.y1 frame.y1 → AreRowsOf z frame (shared z frame)
+pub shared_rows_are : (z : Trapezoid) (frame : Frame) → frame.x0 <ℤ frame.x1
+    → int_max z.y0 frame.y0 <ℤ int_min z.y1 frame.y1 → AreRowsOf z frame (shared z frame)
 shared_rows_are z frame wide some = record { wide = wide; low = omega (arith, ints, clamps); some = some; high = omega (arith, ints, clamps) }
 
-pub count_shared : (z : Trapezoid) (frame : Frame) → int_max z.y0 frame.y0 <ℤ int_min z.y1 frame.y1 → count_in_rows frame (shared z frame) z ≡ count_in_frame frame z
+pub count_shared : (z : Trapezoid) (frame : Frame) → int_max z.y0 frame.y0 <ℤ int_min z.y1 frame.y1
+    → count_in_rows frame (shared z frame) z ≡ count_in_frame frame z
 unfolding count_in_rows count_in_frame frame_tiles
 count_shared z frame some =
     let k = natural (frame.x1 -ℤ frame.x0) in
@@ -156,11 +164,13 @@ count_shared z frame some =
     let e : frame.y0 +ℤ pos a ≡ low = omega (arith, ints, na) in
     let f : (frame.y0 +ℤ pos a) +ℤ pos b ≡ high = omega (arith, ints, na, nb) in
     let g : natural (frame.y1 -ℤ frame.y0) ≡ a + (b + c) = omega (arith, ints, na, nb, nc, nn) in
-    let below : HasNone z (rows_tiles frame.x0 k frame.y0 a) = rows_none z frame.x0 frame.y0 k a (λ t l r d u h. below_none t (omega (arith, ints, u, e)) d h) in
+    let below : HasNone z (rows_tiles frame.x0 k frame.y0 a) = rows_none z frame.x0 frame.y0 k a
+    (λ t l r d u h. below_none t (omega (arith, ints, u, e)) d h) in
     let above : HasNone z (rows_tiles frame.x0 k ((frame.y0 +ℤ pos a) +ℤ pos b) c) =
     rows_none z frame.x0 ((frame.y0 +ℤ pos a) +ℤ pos b) k c (λ t l r d u h. above_none t (omega (arith, ints, d, f)) (omega (arith, ints, u, f, nc)) h) in
     let parts = count_split z frame.x0 frame.y0 k a b c below above in
-    sym (ap (λ (n : ℕ). count_by (λ t. trapezoid_has t z) (rows_tiles frame.x0 k frame.y0 n)) g ∙ parts ∙ ap (λ (y : ℤ). count_by (λ t. trapezoid_has t z) (rows_tiles frame.x0 k y b)) e)
+    sym (ap (λ (n : ℕ). count_by (λ t. trapezoid_has t z) (rows_tiles frame.x0 k frame.y0 n)) g ∙ parts ∙ ap
+    (λ (y : ℤ). count_by (λ t. trapezoid_has t z) (rows_tiles frame.x0 k y b)) e)
   where
     below_none : (t : Tile) → t.j <ℤ int_max z.y0 frame.y0 → frame.y0 ≤ℤ t.j → IsInTrapezoid z t → ⊥
     below_none t u d h = let low = h.above_bottom in omega (arith, ints, clamps)

@@ -1,5 +1,7 @@
 -- The tiles of a frame, each once, and the count of a window.
-use Rattle.std.proofs.Common.{ℕ, zero, suc, ◌+◌, ◌≤◌, ◌≡◌, ◌↔◌, Bool, true, false, cond, ◌&&◌, nat_eq, ℤ, pos, ◌+ℤ◌, ◌-ℤ◌, ◌≤ℤ◌, ◌<ℤ◌, List, [], ◌∷◌, ◌++◌, sum_by, count_by, length, arith, refl, ap, ◌∙◌, sym}
+use Rattle.std.proofs.Common.{ℕ, zero, suc, ◌+◌, ◌≤◌, ◌≡◌, ◌↔◌, Bool, true, false, cond, ◌&&◌, nat_eq, ℤ, pos, ◌+ℤ◌}
+use Rattle.std.proofs.Common.{◌-ℤ◌, ◌≤ℤ◌, ◌<ℤ◌, List, [], ◌∷◌, ◌++◌, sum_by, count_by, length, arith, refl, ap, ◌∙◌}
+use Rattle.std.proofs.Common.{sym}
 use Rattle.std.proofs.lemmas.Int.{ints, by_lt_z}
 use Rattle.std.proofs.lemmas.Bool.Decides.{nat_tests}
 use Rattle.std.proofs.lemmas.List.Sums.{sum_by-cons, sum_by_push, sum_by-append}
@@ -38,13 +40,16 @@ same_tile t u e =
     let i = int_eq_true t.i u.i p.0 in
     let j = int_eq_true t.j u.j q.0 in
     let side = same_side t.side u.side q.1 in
-    ap (λ (x : ℤ). record { i = x; j = t.j; side = t.side }) i ∙ (ap (λ (x : ℤ). record { i = u.i; j = x; side = t.side }) j ∙ ap (λ (x : Side). record { i = u.i; j = u.j; side = x }) side)
+    ap (λ (x : ℤ). record { i = x; j = t.j; side = t.side }) i
+    ∙ (ap (λ (x : ℤ). record { i = u.i; j = x; side = t.side }) j ∙ ap
+    (λ (x : Side). record { i = u.i; j = u.j; side = x }) side)
 
 not_one : (b : Bool) → (b ≡ true → ⊥) → bit b ≡ 0
 not_one true h = absurd (h refl)
 not_one false h = refl
 
-one_of_two : (t : Tile) (i j : ℤ) → t.i ≡ i → t.j ≡ j → bit (is_tile t (record { i = i; j = j; side = Left })) + bit (is_tile t (record { i = i; j = j; side = Right })) ≡ 1
+one_of_two : (t : Tile) (i j : ℤ) → t.i ≡ i → t.j ≡ j → bit (is_tile t (record { i = i; j = j; side = Left })) + bit
+    (is_tile t (record { i = i; j = j; side = Right })) ≡ 1
 one_of_two t i j e f = rw (int_eq_same t.i i e, int_eq_same t.j j f) (by t.side)
   where
     by : (s : Side) → bit (is_same_side s Left) + bit (is_same_side s Right) ≡ 1
@@ -52,15 +57,20 @@ one_of_two t i j e f = rw (int_eq_same t.i i e, int_eq_same t.j j f) (by t.side)
     by Right = refl
 
 two_more : (t u v : Tile) (ts : List Tile) → count_by (is_tile t) (u ∷ v ∷ ts) ≡ bit (is_tile t u) + (bit (is_tile t v) + count_by (is_tile t) ts)
-two_more t u v ts = sum_by-cons (λ (w : Tile). bit (is_tile t w)) u (v ∷ ts) ∙ ap (λ (n : ℕ). bit (is_tile t u) + n) (sum_by-cons (λ (w : Tile). bit (is_tile t w)) v ts)
+two_more t u v ts = sum_by-cons (λ (w : Tile). bit (is_tile t w)) u (v ∷ ts) ∙ ap (λ (n : ℕ). bit (is_tile t u) + n)
+    (sum_by-cons (λ (w : Tile). bit (is_tile t w)) v ts)
 
 row_never : (t : Tile) (i j : ℤ) (k : ℕ) → (t.j ≡ j → i ≤ℤ t.i → t.i <ℤ (i +ℤ pos k) → ⊥) → count_by (is_tile t) (row_tiles i j k) ≡ 0
 row_never t i j zero out = refl
 row_never t i j (suc k) out =
     let u : Tile = record { i = i; j = j; side = Left } in
     let v : Tile = record { i = i; j = j; side = Right } in
-    let first = not_one (is_tile t u) (λ e. (let s = same_tile t u e in let x : t.i ≡ i = ap (λ (w : Tile). w.i) s in out (ap (λ (w : Tile). w.j) s) (omega (arith, ints, x)) (omega (arith, ints, x)))) in
-    let second = not_one (is_tile t v) (λ e. (let s = same_tile t v e in let x : t.i ≡ i = ap (λ (w : Tile). w.i) s in out (ap (λ (w : Tile). w.j) s) (omega (arith, ints, x)) (omega (arith, ints, x)))) in
+    let first = not_one (is_tile t u)
+    (λ e. (let s = same_tile t u e in let x : t.i ≡ i = ap (λ (w : Tile). w.i) s in out
+    (ap (λ (w : Tile). w.j) s) (omega (arith, ints, x)) (omega (arith, ints, x)))) in
+    let second = not_one (is_tile t v)
+    (λ e. (let s = same_tile t v e in let x : t.i ≡ i = ap (λ (w : Tile). w.i) s in out
+    (ap (λ (w : Tile). w.j) s) (omega (arith, ints, x)) (omega (arith, ints, x)))) in
     let rest = row_never t (i +ℤ pos 1) j k (λ e low high. out e (omega (arith, ints, low)) (omega (arith, ints, high))) in
     let all = two_more t u v (row_tiles (i +ℤ pos 1) j k) in
     omega (arith, first, second, rest, all)
@@ -85,7 +95,8 @@ row_once t i j (suc k) e low high =
     omega (arith, here, rest, all)
     ))
 
-rows_never : (t : Tile) (i j : ℤ) (k n : ℕ) → (i ≤ℤ t.i → t.i <ℤ (i +ℤ pos k) → j ≤ℤ t.j → t.j <ℤ (j +ℤ pos n) → ⊥) → count_by (is_tile t) (rows_tiles i k j n) ≡ 0
+rows_never : (t : Tile) (i j : ℤ) (k n : ℕ) → (i ≤ℤ t.i → t.i <ℤ (i +ℤ pos k) → j ≤ℤ t.j → t.j <ℤ (j +ℤ pos n) → ⊥)
+    → count_by (is_tile t) (rows_tiles i k j n) ≡ 0
 rows_never t i j k zero out = refl
 rows_never t i j k (suc n) out =
     let here = row_never t i j k (λ e low high. out low high (omega (arith, ints, e)) (omega (arith, ints, e))) in
@@ -123,13 +134,21 @@ back_to x a b low high =
 pub each_once : EachTileOnce
 unfolding frame_tiles
 each_once f t h =
-    rows_once t f.x0 f.y0 (natural (f.x1 -ℤ f.x0)) (natural (f.y1 -ℤ f.y0)) h.from_left (up_to t.i f.x0 f.x1 h.from_left h.below_right) h.above_bottom (up_to t.j f.y0 f.y1 h.above_bottom h.below_top)
+    rows_once t f.x0 f.y0 (natural (f.x1 -ℤ f.x0)) (natural (f.y1 -ℤ f.y0)) h.from_left
+    (up_to t.i f.x0 f.x1 h.from_left h.below_right) h.above_bottom (up_to t.j f.y0 f.y1 h.above_bottom h.below_top)
 
 pub no_other : NoOtherTile
 unfolding frame_tiles
 no_other f t out =
     rows_never t f.x0 f.y0 (natural (f.x1 -ℤ f.x0)) (natural (f.y1 -ℤ f.y0))
-    (λ low high from under. out (record { from_left = low; below_right = back_to t.i f.x0 f.x1 low high; above_bottom = from; below_top = back_to t.j f.y0 f.y1 from under }))
+    (λ low high from under. out
+    (record {
+      from_left = low;
+      below_right = back_to t.i f.x0 f.x1 low high;
+      above_bottom = from;
+      below_top =
+          back_to t.j f.y0 f.y1 from under;
+    }))
 
 -- ---- the tiles of a list that pass a test
 
@@ -137,7 +156,8 @@ abbrev kept : (Tile → Bool) → List Tile → List Tile
 kept p [] = []
 kept p (t ∷ ts) = cond (p t) (t ∷ kept p ts) (kept p ts)
 
-kept_length_by : (p : Tile → Bool) (t : Tile) (ts : List Tile) (b : Bool) → length (kept p ts) ≡ count_by p ts → length (cond b (t ∷ kept p ts) (kept p ts)) ≡ bit b + count_by p ts
+kept_length_by : (p : Tile → Bool) (t : Tile) (ts : List Tile) (b : Bool) → length (kept p ts) ≡ count_by p ts
+    → length (cond b (t ∷ kept p ts) (kept p ts)) ≡ bit b + count_by p ts
 kept_length_by p t ts true h = omega (arith, h)
 kept_length_by p t ts false h = omega (arith, h)
 
@@ -157,7 +177,8 @@ kept_all : (p : Tile → Bool) (t : Tile) (ts : List Tile) → p t ≡ true → 
 kept_all p t [] pass = refl
 kept_all p t (u ∷ ts) pass = kept_all_by p t u ts (p u) pass refl (kept_all p t ts pass) ∙ sym (sum_by-cons (λ (w : Tile). bit (is_tile t w)) u ts)
 
-kept_none_by : (p : Tile → Bool) (t u : Tile) (ts : List Tile) (b : Bool) → p t ≡ false → p u ≡ b → count_by (is_tile t) (kept p ts) ≡ 0 → count_by (is_tile t) (cond b (u ∷ kept p ts) (kept p ts)) ≡ 0
+kept_none_by : (p : Tile → Bool) (t u : Tile) (ts : List Tile) (b : Bool) → p t ≡ false → p u ≡ b
+    → count_by (is_tile t) (kept p ts) ≡ 0 → count_by (is_tile t) (cond b (u ∷ kept p ts) (kept p ts)) ≡ 0
 kept_none_by p t u ts true no_pass e rest =
     let here = not_one (is_tile t u) (λ s. (let f = ap p (same_tile t u s) in let clash : ⊥ = cc in clash)) in
     let one = sum_by-cons (λ (w : Tile). bit (is_tile t w)) u (kept p ts) in
@@ -184,7 +205,8 @@ one_is n e = grind (arith, nat_tests)
 is_one_yes : (n : ℕ) → n ≡ 1 → is_one n ≡ true
 is_one_yes n e = rw e refl
 
-count_is_sum : (zs : List Trapezoid) (ts : List Tile) → AreApart zs → count_by (λ (t : Tile). is_one (count_in zs t)) ts ≡ sum_by (λ (t : Tile). count_in zs t) ts
+count_is_sum : (zs : List Trapezoid) (ts : List Tile) → AreApart zs
+    → count_by (λ (t : Tile). is_one (count_in zs t)) ts ≡ sum_by (λ (t : Tile). count_in zs t) ts
 count_is_sum zs [] apart = refl
 count_is_sum zs (t ∷ ts) apart =
     let one = sum_by-cons (λ (u : Tile). bit (is_one (count_in zs u))) t ts in
@@ -203,20 +225,25 @@ none_of_one (suc (suc n)) h out = absurd (omega (arith, h))
 
 -- where in the window the trapezoids have the tiles of an area
 pub sum_is_count : (area : Tile → Type 0) (size i j : ℤ) (zs : List Trapezoid) → AreApart zs
-    → ((t : Tile) → IsInFrame (window size i j) t → (area t → count_in zs t ≡ 1) × ((area t → ⊥) → count_in zs t ≡ 0)) → IsWindowCount area size i j (window_sum size i j zs)
+    → ((t : Tile) → IsInFrame (window size i j) t → (area t → count_in zs t ≡ 1) × ((area t → ⊥) → count_in zs t ≡ 0))
+    → IsWindowCount area size i j (window_sum size i j zs)
 sum_is_count area size i j zs apart same =
     let f = window size i j in
     record {
       tiles = kept (λ (t : Tile). is_one (count_in zs t)) (frame_tiles f);
-      once = λ t h. kept_all (λ (t : Tile). is_one (count_in zs t)) t (frame_tiles f) (is_one_yes (count_in zs t) ((same t h.inside).0 h.taken)) ∙ each_once f t h.inside;
+      once = λ t h. kept_all (λ (t : Tile). is_one (count_in zs t)) t (frame_tiles f)
+          (is_one_yes (count_in zs t) ((same t h.inside).0 h.taken)) ∙ each_once f t h.inside;
       never = λ t out. never_by t (is_one (count_in zs t)) refl out;
       count = kept_length (λ (t : Tile). is_one (count_in zs t)) (frame_tiles f) ∙ count_is_sum zs (frame_tiles f) apart ∙ sym (window_sum_is size i j zs);
     }
   where
-    never_by : (t : Tile) (b : Bool) → is_one (count_in zs t) ≡ b → (IsInWindow area size i j t → ⊥) → count_by (is_tile t) (kept (λ (t : Tile). is_one (count_in zs t)) (frame_tiles (window size i j))) ≡ 0
+    never_by : (t : Tile) (b : Bool) → is_one (count_in zs t) ≡ b → (IsInWindow area size i j t → ⊥)
+        → count_by (is_tile t) (kept (λ (t : Tile). is_one (count_in zs t)) (frame_tiles (window size i j))) ≡ 0
     never_by t true e out =
         kept_all (λ (t : Tile). is_one (count_in zs t)) t (frame_tiles (window size i j)) e
-        ∙ no_other (window size i j) t (λ inside. not_one_and_none (count_in zs t) (one_is (count_in zs t) e) ((same t inside).1 (λ a. out (record { inside = inside; taken = a }))))
+        ∙ no_other (window size i j) t
+        (λ inside. not_one_and_none (count_in zs t) (one_is (count_in zs t) e)
+        ((same t inside).1 (λ a. out (record { inside = inside; taken = a }))))
     never_by t false e out = kept_none (λ (t : Tile). is_one (count_in zs t)) t (frame_tiles (window size i j)) e
 
 pub one_more : OneMore
@@ -228,4 +255,5 @@ one_more m new zs z counted added i =
     same size row e f = rw (e, f) refl
 
 pub sum_of_own : SumIsCount
-sum_of_own size i j zs apart = sum_is_count (λ (t : Tile). count_in zs t ≡ 1) size i j zs apart (λ t h. (λ e. e, λ out. none_of_one (count_in zs t) (apart t) out))
+sum_of_own size i j zs apart = sum_is_count (λ (t : Tile). count_in zs t ≡ 1) size i j zs apart
+    (λ t h. (λ e. e, λ out. none_of_one (count_in zs t) (apart t) out))

@@ -66,13 +66,16 @@ module _ (z : Trapezoid) (legal : IsLegal z) where
   counted : Tile → ℕ
   counted t = bit (trapezoid_has t z)
 
-  two_more : (t u : Tile) (ts : List Tile) → count_by (λ t. trapezoid_has t z) (t ∷ u ∷ ts) ≡ bit (trapezoid_has t z) + (bit (trapezoid_has u z) + count_by (λ t. trapezoid_has t z) ts)
+  two_more : (t u : Tile) (ts : List Tile) → count_by (λ t. trapezoid_has t z) (t ∷ u ∷ ts) ≡ bit
+      (trapezoid_has t z) + (bit (trapezoid_has u z) + count_by (λ t. trapezoid_has t z) ts)
   two_more t u ts =
       sum_by-cons (λ t. bit (trapezoid_has t z)) t (u ∷ ts) ∙ ap (λ (n : ℕ). bit (trapezoid_has t z) + n) (sum_by-cons (λ t. bit (trapezoid_has t z)) u ts)
 
   -- the tiles of k columns of a row
   row_count : (i j : ℤ) (k : ℕ) → z.y0 ≤ℤ j → j <ℤ z.y1
-      → count_by (λ t. trapezoid_has t z) (row_tiles i j k) + (row_before z.left i j + row_before z.right (i +ℤ pos k) j) ≡ row_before z.right i j + row_before z.left (i +ℤ pos k) j
+      → count_by (λ t. trapezoid_has t z)
+      (row_tiles i j k) + (row_before z.left i j + row_before z.right (i +ℤ pos k) j) ≡ row_before z.right i j
+      + row_before z.left (i +ℤ pos k) j
   row_count i j zero low high =
       let e : i +ℤ pos 0 ≡ i = omega (arith, ints) in
       let l = ap (λ (x : ℤ). row_before z.left x j) e in
@@ -92,7 +95,9 @@ module _ (z : Trapezoid) (legal : IsLegal z) where
 
   -- the tiles of n rows
   pub rows_count : (i j : ℤ) (k n : ℕ) → z.y0 ≤ℤ j → (j +ℤ pos n) ≤ℤ z.y1
-      → count_by (λ t. trapezoid_has t z) (rows_tiles i k j n) + (tiles_before z.left i j n + tiles_before z.right (i +ℤ pos k) j n) ≡ tiles_before z.right i j n + tiles_before z.left (i +ℤ pos k) j n
+      → count_by (λ t. trapezoid_has t z)
+      (rows_tiles i k j n) + (tiles_before z.left i j n + tiles_before z.right (i +ℤ pos k) j n)
+      ≡ tiles_before z.right i j n + tiles_before z.left (i +ℤ pos k) j n
   rows_count i j k zero low high = omega arith
   rows_count i j k (suc n) low high =
       let here = row_count i j k low (omega (arith, ints, high)) in

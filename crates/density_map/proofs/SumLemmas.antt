@@ -1,5 +1,6 @@
 -- Sums over lists of trapezoids and over lists of tiles, one in place of the other.
-use Rattle.std.proofs.Common.{ap, ℕ, zero, suc, ◌+◌, ◌*◌, ◌^◌, ◌≤◌, ◌≡◌, ℤ, pos, ◌+ℤ◌, ◌-ℤ◌, ◌*ℤ◌, List, [], ◌∷◌, ◌++◌, sum_by, count_by, length, arith, refl, sym}
+use Rattle.std.proofs.Common.{ap, ℕ, zero, suc, ◌+◌, ◌*◌, ◌^◌, ◌≤◌, ◌≡◌, ℤ, pos, ◌+ℤ◌, ◌-ℤ◌, ◌*ℤ◌, List, [], ◌∷◌, ◌++◌}
+use Rattle.std.proofs.Common.{sum_by, count_by, length, arith, refl, sym}
 use Rattle.std.proofs.lemmas.Int.{ints}
 use Rattle.std.proofs.lemmas.List.{length-append}
 use Rattle.std.proofs.lemmas.List.Sums.{sum_by-cons, sum_by_push}
@@ -36,12 +37,14 @@ sum_same f g (x ∷ xs) same =
     omega (arith, one, two, rest, here)
 
 -- the tiles of each trapezoid in a list of tiles, together, are the trapezoids of each tile, together
-pub swapped : (ts : List Tile) (zs : List Trapezoid) → sum_by (λ (z : Trapezoid). count_by (λ t. trapezoid_has t z) ts) zs ≡ sum_by (λ (t : Tile). count_in zs t) ts
+pub swapped : (ts : List Tile) (zs : List Trapezoid)
+    → sum_by (λ (z : Trapezoid). count_by (λ t. trapezoid_has t z) ts) zs ≡ sum_by (λ (t : Tile). count_in zs t) ts
 swapped ts [] = sym (sum_none ts)
 swapped ts (z ∷ zs) =
     let one = sum_by-cons (λ (z : Trapezoid). count_by (λ t. trapezoid_has t z) ts) z zs in
     let rest = swapped ts zs in
-    let each = sum_same (λ (t : Tile). count_in (z ∷ zs) t) (λ (t : Tile). bit (trapezoid_has t z) + count_in zs t) ts (λ t. sum_by-cons (λ (y : Trapezoid). bit (trapezoid_has t y)) z zs) in
+    let each = sum_same (λ (t : Tile). count_in (z ∷ zs) t) (λ (t : Tile). bit (trapezoid_has t z) + count_in zs t) ts
+    (λ t. sum_by-cons (λ (y : Trapezoid). bit (trapezoid_has t y)) z zs) in
     let both = sum_two (λ (t : Tile). bit (trapezoid_has t z)) (λ (t : Tile). count_in zs t) ts in
     omega (arith, one, rest, each, both)
 

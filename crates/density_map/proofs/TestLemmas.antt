@@ -19,7 +19,8 @@ pub first_apart : (m : RowMap) (size row : ℤ) (z : Trapezoid) → m ≡ row_ma
 first_apart m size row z e = record {
   traps = [];
   counted = none_counted m size row e;
-  apart = λ t. (let one = sum_by-cons (λ (y : Trapezoid). bit (trapezoid_has t y)) z [] in let small = one_bit (trapezoid_has t z) in omega (arith, one, small));
+  apart = λ t. (let one = sum_by-cons (λ (y : Trapezoid). bit (trapezoid_has t y)) z [] in let small = one_bit
+      (trapezoid_has t z) in omega (arith, one, small));
 }
 
 not_both : (a b : Bool) → (a ≡ true → b ≡ true → ⊥) → bit a + bit b ≤ 1
@@ -34,7 +35,9 @@ second_apart m new size row y z e added above = record {
   apart = λ t. (
       let first = sum_by-cons (λ (x : Trapezoid). bit (trapezoid_has t x)) y (z ∷ []) in
       let second = sum_by-cons (λ (x : Trapezoid). bit (trapezoid_has t x)) z [] in
-      let small = not_both (trapezoid_has t y) (trapezoid_has t z) (λ a b. (let p = has_in t y a in let q = has_in t z b in let low = q.above_bottom in let high = p.below_top in omega (arith, ints, above, low, high))) in
+      let small = not_both (trapezoid_has t y) (trapezoid_has t z)
+      (λ a b. (let p = has_in t y a in let q = has_in t z b in let low = q.above_bottom in let high =
+      p.below_top in omega (arith, ints, above, low, high))) in
       omega (arith, first, second, small)
       );
 }

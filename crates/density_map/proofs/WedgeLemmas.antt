@@ -37,7 +37,8 @@ rising_sum c x j zero = let e = ap (λ (y : ℤ). square (beyond (Rising c) x y)
 rising_sum c x j (suc n) =
     let here = rising_step c x j in
     let rest = rising_sum c x (j +ℤ pos 1) n in
-    let sum : tiles_before (Rising c) x j (suc n) + square (beyond (Rising c) x j) ≡ square (beyond (Rising c) x ((j +ℤ pos 1) +ℤ pos n)) = omega (arith, here, rest) in
+    let sum : tiles_before (Rising c) x j (suc n) + square (beyond (Rising c) x j) ≡ square
+    (beyond (Rising c) x ((j +ℤ pos 1) +ℤ pos n)) = omega (arith, here, rest) in
     sum ∙ ap (λ (y : ℤ). square (beyond (Rising c) x y)) (next_row j n)
 
 falling_row : (c x j : ℤ) → place (Falling c) j -ℤ twice x ≡ (beyond (Falling c) x (j +ℤ pos 1) +ℤ beyond (Falling c) x (j +ℤ pos 1)) +ℤ pos 1
@@ -93,7 +94,8 @@ pub record AreRising (line : Line) (x y0 y1 : ℤ) (bottom top : ℕ) : Type 0 w
   pub order : bottom ≤ top
   pub value : top - bottom ≡ tiles_before line x y0 (natural (y1 -ℤ y0))
 
-rising_by : (c x y0 y1 : ℤ) (bottom top : ℕ) → y0 ≤ℤ y1 → bottom ≡ square (beyond (Rising c) x y0) → top ≡ square (beyond (Rising c) x y1) → AreRising (Rising c) x y0 y1 bottom top
+rising_by : (c x y0 y1 : ℤ) (bottom top : ℕ) → y0 ≤ℤ y1 → bottom ≡ square (beyond (Rising c) x y0)
+    → top ≡ square (beyond (Rising c) x y1) → AreRising (Rising c) x y0 y1 bottom top
 rising_by c x y0 y1 bottom top h e f =
     let s = rising_sum c x y0 (natural (y1 -ℤ y0)) in
     let last = ap (λ (z : ℤ). square (beyond (Rising c) x z)) (to_last y0 y1 h) in
@@ -105,13 +107,15 @@ rising_is line c x y0 y1 p q bottom top bottom2 top2 e h ep eq eb et eb2 et2 =
     let low = squares line x y0 p bottom bottom2 ep eb eb2 in
     let high = squares line x y1 q top top2 eq et et2 in
     subst (λ (l : Line). AreRising l x y0 y1 bottom2 top2) (sym e)
-    (rising_by c x y0 y1 bottom2 top2 h (subst (λ (l : Line). bottom2 ≡ square (beyond l x y0)) e low) (subst (λ (l : Line). top2 ≡ square (beyond l x y1)) e high))
+    (rising_by c x y0 y1 bottom2 top2 h (subst (λ (l : Line). bottom2 ≡ square (beyond l x y0)) e low)
+    (subst (λ (l : Line). top2 ≡ square (beyond l x y1)) e high))
 
 pub record AreFalling (line : Line) (x y0 y1 : ℤ) (bottom top : ℕ) : Type 0 where
   pub order : top ≤ bottom
   pub value : bottom - top ≡ tiles_before line x y0 (natural (y1 -ℤ y0))
 
-falling_by : (c x y0 y1 : ℤ) (bottom top : ℕ) → y0 ≤ℤ y1 → bottom ≡ square (beyond (Falling c) x y0) → top ≡ square (beyond (Falling c) x y1) → AreFalling (Falling c) x y0 y1 bottom top
+falling_by : (c x y0 y1 : ℤ) (bottom top : ℕ) → y0 ≤ℤ y1 → bottom ≡ square (beyond (Falling c) x y0)
+    → top ≡ square (beyond (Falling c) x y1) → AreFalling (Falling c) x y0 y1 bottom top
 falling_by c x y0 y1 bottom top h e f =
     let s = falling_sum c x y0 (natural (y1 -ℤ y0)) in
     let last = ap (λ (z : ℤ). square (beyond (Falling c) x z)) (to_last y0 y1 h) in
@@ -123,7 +127,8 @@ falling_is line c x y0 y1 p q bottom top bottom2 top2 e h ep eq eb et eb2 et2 =
     let low = squares line x y0 p bottom bottom2 ep eb eb2 in
     let high = squares line x y1 q top top2 eq et et2 in
     subst (λ (l : Line). AreFalling l x y0 y1 bottom2 top2) (sym e)
-    (falling_by c x y0 y1 bottom2 top2 h (subst (λ (l : Line). bottom2 ≡ square (beyond l x y0)) e low) (subst (λ (l : Line). top2 ≡ square (beyond l x y1)) e high))
+    (falling_by c x y0 y1 bottom2 top2 h (subst (λ (l : Line). bottom2 ≡ square (beyond l x y0)) e low)
+    (subst (λ (l : Line). top2 ≡ square (beyond l x y1)) e high))
 
 upright_by : (c x y0 : ℤ) (n bottom twofold : ℕ) → bottom ≡ natural (c -ℤ x) → twofold ≡ 2 * bottom → twofold * n ≡ tiles_before (Upright c) x y0 n
 upright_by c x y0 n bottom twofold e f = ap (λ (b : ℕ). b * n) (f ∙ ap (λ (b : ℕ). 2 * b) e) ∙ upright_sum c x y0 n

@@ -1,5 +1,6 @@
 -- Files in a list against the map from names to bytes.
-use Rattle.std.proofs.Common.{◌≡◌, ℕ, zero, suc, ◌+◌, ◌<◌, Bool, true, false, List, [], ◌∷◌, ◌++◌, length, get_or, set, take, None, Some, unwrap_or, Result, Ok, Err, OnErr, refl, sym, ap, ◌∙◌, arith, subst}
+use Rattle.std.proofs.Common.{◌≡◌, ℕ, zero, suc, ◌+◌, ◌<◌, Bool, true, false, List, [], ◌∷◌, ◌++◌, length, get_or, set}
+use Rattle.std.proofs.Common.{take, None, Some, unwrap_or, Result, Ok, Err, OnErr, refl, sym, ap, ◌∙◌, arith, subst}
 use Rattle.std.specs.Str.{bytes_eq}
 use Rattle.std.proofs.lemmas.Slice.Eq.{bytes_eq-Decides}
 use Rattle.std.proofs.lemmas.Bool.{both_ways}
@@ -33,7 +34,8 @@ place_within (f ∷ fs) name zero at = omega arith
 place_within (f ∷ fs) name (suc i) at = omega (arith, place_within fs name i at.1)
 
 -- a file of the same name takes the place of one
-pub files_of-set : (fs : List File) (name : List ℕ) (i : ℕ) (f : File) → IsPlace fs name i → string_bytes f.name ≡ name → files_of (set fs i f) ≡ insert (files_of fs) name f.bytes.items
+pub files_of-set : (fs : List File) (name : List ℕ) (i : ℕ) (f : File) → IsPlace fs name i → string_bytes f.name ≡ name
+    → files_of (set fs i f) ≡ insert (files_of fs) name f.bytes.items
 files_of-set [] name i f at same = absurd at
 files_of-set (g ∷ fs) name zero f at same =
     ap (λ k. insert (files_of fs) k f.bytes.items) same
@@ -49,7 +51,8 @@ place-set (g ∷ fs) name zero f at same = same
 place-set (g ∷ fs) name (suc i) f at same = (at.0, place-set fs name i f at.1 same)
 
 -- a file whose name is new goes behind the others
-pub files_of-push : (fs : List File) (name : List ℕ) (f : File) → HasNone fs name → string_bytes f.name ≡ name → files_of (fs ++ f ∷ []) ≡ insert (files_of fs) name f.bytes.items
+pub files_of-push : (fs : List File) (name : List ℕ) (f : File) → HasNone fs name → string_bytes f.name ≡ name
+    → files_of (fs ++ f ∷ []) ≡ insert (files_of fs) name f.bytes.items
 files_of-push [] name f none same = ap (λ k. insert empty k f.bytes.items) same
 files_of-push (g ∷ fs) name f none same =
     ap (λ m. insert m (string_bytes g.name) g.bytes.items) (files_of-push fs name f none.1 same)
@@ -60,8 +63,10 @@ place-push [] name f none same = same
 place-push (g ∷ fs) name f none same = (none.0, place-push fs name f none.1 same)
 
 -- what stands behind the bytes of a file was appended
-pub appended-place : (fs : List File) (name : List ℕ) (i : ℕ) (piece : List ℕ) → IsPlace fs name i → insert (files_of fs) name (bytes_at fs i ++ piece) ≡ appended (files_of fs) (Some name) piece
-appended-place fs name i [] at = ap (λ l. insert (files_of fs) name l) (append-nil (bytes_at fs i)) ∙ insert_same (files_of fs) name (bytes_at fs i) (get-place fs name i at)
+pub appended-place : (fs : List File) (name : List ℕ) (i : ℕ) (piece : List ℕ) → IsPlace fs name i
+    → insert (files_of fs) name (bytes_at fs i ++ piece) ≡ appended (files_of fs) (Some name) piece
+appended-place fs name i [] at = ap (λ l. insert (files_of fs) name l) (append-nil (bytes_at fs i)) ∙ insert_same
+    (files_of fs) name (bytes_at fs i) (get-place fs name i at)
 appended-place fs name i (b ∷ piece) at = ap (λ o. insert (files_of fs) name (unwrap_or o [] ++ b ∷ piece)) (sym (get-place fs name i at))
 
 none-push : (fs : List File) (name : List ℕ) (f : File) → HasNone fs name → (string_bytes f.name ≡ name → ⊥) → HasNone (fs ++ f ∷ []) name
@@ -69,10 +74,12 @@ none-push [] name f none differs = (differs, tt)
 none-push (g ∷ fs) name f none differs = (none.0, none-push fs name f none.1 differs)
 
 -- no file up to a place has the name, and then the file there has it or hasn't
-pub none-more : (fs : List File) (name : List ℕ) (i : ℕ) (d : File) → i < length fs → HasNone (take i fs) name → (string_bytes (get_or fs i d).name ≡ name → ⊥) → HasNone (take (i + 1) fs) name
+pub none-more : (fs : List File) (name : List ℕ) (i : ℕ) (d : File) → i < length fs → HasNone (take i fs) name
+    → (string_bytes (get_or fs i d).name ≡ name → ⊥) → HasNone (take (i + 1) fs) name
 none-more fs name i d lt none differs = subst (λ l. HasNone l name) (sym (take_more fs i d lt)) (none-push (take i fs) name (get_or fs i d) none differs)
 
-pub place-first : (fs : List File) (name : List ℕ) (i : ℕ) (d : File) → i < length fs → HasNone (take i fs) name → string_bytes (get_or fs i d).name ≡ name → IsPlace fs name i
+pub place-first : (fs : List File) (name : List ℕ) (i : ℕ) (d : File) → i < length fs → HasNone (take i fs) name
+    → string_bytes (get_or fs i d).name ≡ name → IsPlace fs name i
 place-first [] name i d lt none same = absurd (omega arith)
 place-first (f ∷ fs) name zero d lt none same = same
 place-first (f ∷ fs) name (suc i) d lt none same = (none.0, place-first fs name i d (omega arith) none.1 same)
@@ -95,14 +102,17 @@ pub bytes_read : (fs : List File) (i : ℕ) (x : File) → i < length fs → x �
 bytes_read fs i x lt is = ap (λ (f : File). f.bytes.items) is ∙ bytes_of-place fs i x lt
 
 -- a file is written again with the bytes that it had
-pub files_of-set_same : (fs : List File) (name : List ℕ) (i : ℕ) (x f : File) → IsPlace fs name i → x ≡ get_or fs i x → string_bytes f.name ≡ name → f.bytes.items ≡ x.bytes.items → files_of (set fs i f) ≡ files_of fs
+pub files_of-set_same : (fs : List File) (name : List ℕ) (i : ℕ) (x f : File) → IsPlace fs name i → x ≡ get_or fs i x
+    → string_bytes f.name ≡ name → f.bytes.items ≡ x.bytes.items → files_of (set fs i f) ≡ files_of fs
 files_of-set_same fs name i x f at is same bytes =
     files_of-set fs name i f at same
     ∙ ap (insert (files_of fs) name) (bytes ∙ bytes_read fs i x (place_within fs name i at) is)
     ∙ insert_same (files_of fs) name (bytes_at fs i) (get-place fs name i at)
 
 -- a file is written again with more bytes behind those that it had
-pub files_of-set_more : (fs : List File) (name : List ℕ) (i : ℕ) (x f : File) (piece : List ℕ) → IsPlace fs name i → x ≡ get_or fs i x → string_bytes f.name ≡ name → f.bytes.items ≡ x.bytes.items ++ piece → files_of (set fs i f) ≡ appended (files_of fs) (Some name) piece
+pub files_of-set_more : (fs : List File) (name : List ℕ) (i : ℕ) (x f : File) (piece : List ℕ) → IsPlace fs name i
+    → x ≡ get_or fs i x → string_bytes f.name ≡ name → f.bytes.items ≡ x.bytes.items ++ piece
+    → files_of (set fs i f) ≡ appended (files_of fs) (Some name) piece
 files_of-set_more fs name i x f piece at is same bytes =
     files_of-set fs name i f at same
     ∙ ap (insert (files_of fs) name) (bytes ∙ ap (λ l. l ++ piece) (bytes_read fs i x (place_within fs name i at) is))

@@ -1,6 +1,8 @@
 -- Facts about files and contents, for the proofs of callers: what a name has after a file was made, how pieces that are
 -- written one after another add up, and how what was said and what a buffer holds do.
-use Rattle.std.proofs.Common.{Result, Ok, Err, OnErr, ◌≡◌, ℕ, ◌+◌, ◌≤◌, ◌<◌, Bool, true, false, cond, List, [], ◌∷◌, ◌++◌, length, take, drop, Option, None, Some, unwrap_or, IsSomeAnd, refl, sym, ap, ◌∙◌, arith, append_assoc, subst, inl, inr}
+use Rattle.std.proofs.Common.{Result, Ok, Err, OnErr, ◌≡◌, ℕ, ◌+◌, ◌≤◌, ◌<◌, Bool, true, false, cond, List, [], ◌∷◌}
+use Rattle.std.proofs.Common.{◌++◌, length, take, drop, Option, None, Some, unwrap_or, IsSomeAnd, refl, sym, ap, ◌∙◌}
+use Rattle.std.proofs.Common.{arith, append_assoc, subst, inl, inr}
 use Rattle.std.proofs.lemmas.List.{append-nil, take-take, drop-take, take-append-drop}
 use Rattle.std.specs.Ordering.{nat_cmp, eq_by_cmp, is_eq}
 use Rattle.std.specs.declared.cmp.Ordering.{Ordering}
@@ -9,7 +11,8 @@ use Rattle.std.proofs.lemmas.Bool.{false_from_ne_true}
 use Rattle.std.specs.Cmp.{eq_by_cmp_equiv}
 use Rattle.std.specs.Cmp.Lexicographic.{slice_cmp, nat_list_cmp_total}
 use Rattle.std.specs.FinMap.{get, insert, get-insert, same_map, slice_cmp-IsAntisymmetric, nat_cmp-IsAntisymmetric}
-use Rattle.depot.specs.Content.{Files, Content, appended, with_written, with_said, with_file, with_current, begun, IsPartWritten, IsPartMade, IsNotThere, IsLongerThan}
+use Rattle.depot.specs.Content.{Files, Content, appended, with_written, with_said, with_file, with_current, begun}
+use Rattle.depot.specs.Content.{IsPartWritten, IsPartMade, IsNotThere, IsLongerThan}
 use Rattle.depot.specs.Sure.{Sure, sure_content}
 use Rattle.depot.specs.Counts.{Counts, NeverFall, Rose}
 pub use Rattle.depot.proofs.SaidSoFar.{hold_more, part_held, part_of_longer, part_of_more_texts, part_of_texts, said_then, say_held, texts_more}
@@ -38,7 +41,8 @@ overwritten false v w o = refl
 -- of two files put under one name the later stands
 pub insert-insert_same : (m : Files) (k v w : List ℕ) → insert (insert m k v) k w ≡ insert m k w
 insert-insert_same m k v w =
-    same_files _ _ (λ q. get-insert-tie (insert m k v) k w q ∙ ap (cond (tie q k) (Some w)) (get-insert-tie m k v q) ∙ overwritten (tie q k) v w (get m q) ∙ sym (get-insert-tie m k w q))
+    same_files _ _ (λ q. get-insert-tie (insert m k v) k w q ∙ ap (cond (tie q k) (Some w)) (get-insert-tie m k v q)
+    ∙ overwritten (tie q k) v w (get m q) ∙ sym (get-insert-tie m k w q))
 
 -- two pieces that are written one after another are written as one
 pub appended-appended : (m : Files) (current : Option (List ℕ)) (a b : List ℕ) → appended (appended m current a) current b ≡ appended m current (a ++ b)
@@ -64,18 +68,24 @@ take-append-take_drop xs n m =
     ∙ take-append-drop n (take (n + m) xs)
 
 -- a piece of which a prefix was written, and then a prefix of the rest
-pub with_written-more : (c₀ c₁ c₂ : Content) (bytes : List ℕ) (n m : ℕ) → c₁ ≡ with_written c₀ (take n bytes) → c₂ ≡ with_written c₁ (take m (drop n bytes)) → c₂ ≡ with_written c₀ (take (n + m) bytes)
+pub with_written-more : (c₀ c₁ c₂ : Content) (bytes : List ℕ) (n m : ℕ) → c₁ ≡ with_written c₀ (take n bytes)
+    → c₂ ≡ with_written c₁ (take m (drop n bytes)) → c₂ ≡ with_written c₀ (take (n + m) bytes)
 with_written-more c₀ c₁ c₂ bytes n m e f =
     f
     ∙ ap (λ c. with_written c (take m (drop n bytes))) e
-    ∙ ap (λ files. record c₀ { made = files }) (appended-appended c₀.made c₀.current (take n bytes) (take m (drop n bytes)) ∙ ap (appended c₀.made c₀.current) (take-append-take_drop bytes n m))
+    ∙ ap (λ files. record c₀ { made = files })
+    (appended-appended c₀.made c₀.current (take n bytes) (take m (drop n bytes)) ∙ ap (appended c₀.made c₀.current)
+    (take-append-take_drop bytes n m))
 
 -- a piece of which a prefix was said, and then a prefix of the rest
-pub with_said-more : (c₀ c₁ c₂ : Content) (bytes : List ℕ) (n m : ℕ) → c₁ ≡ with_said c₀ (take n bytes) → c₂ ≡ with_said c₁ (take m (drop n bytes)) → c₂ ≡ with_said c₀ (take (n + m) bytes)
+pub with_said-more : (c₀ c₁ c₂ : Content) (bytes : List ℕ) (n m : ℕ) → c₁ ≡ with_said c₀ (take n bytes)
+    → c₂ ≡ with_said c₁ (take m (drop n bytes)) → c₂ ≡ with_said c₀ (take (n + m) bytes)
 with_said-more c₀ c₁ c₂ bytes n m e f =
     f
     ∙ ap (λ c. with_said c (take m (drop n bytes))) e
-    ∙ ap (λ said. record c₀ { said = said }) (append_assoc c₀.said (take n bytes) (take m (drop n bytes)) ∙ ap (λ l. c₀.said ++ l) (take-append-take_drop bytes n m))
+    ∙ ap (λ said. record c₀ { said = said })
+    (append_assoc c₀.said (take n bytes) (take m (drop n bytes)) ∙ ap (λ l. c₀.said ++ l)
+    (take-append-take_drop bytes n m))
 
 -- a file that was begun, and whose bytes were then written, is made with these bytes
 pub with_file-whole : (c₀ c₁ c₂ : Content) (name bytes : List ℕ) → c₁ ≡ begun c₀ name → c₂ ≡ with_written c₁ bytes → c₂ ≡ with_file c₀ name bytes

@@ -31,7 +31,8 @@ pub not_missing : (held : Option (List ℕ)) (bytes : List ℕ) → held ≡ Som
 not_missing held bytes e f = cc
 
 -- what is left of a file is longer than the limit, and so is the file
-pub longer : (held : Option (List ℕ)) (first left : List ℕ) (limit : ℕ) → held ≡ Some left → first ≡ [] → limit < length (first ++ left) → IsSomeAnd held (λ b. limit < length b)
+pub longer : (held : Option (List ℕ)) (first left : List ℕ) (limit : ℕ) → held ≡ Some left → first ≡ []
+    → limit < length (first ++ left) → IsSomeAnd held (λ b. limit < length b)
 longer held first left limit e none more =
     let whole : limit < length left = subst (λ (t : List ℕ). limit < length (t ++ left)) none more in
     subst (λ o. IsSomeAnd o (λ b. limit < length b)) (sym e) whole

@@ -11,7 +11,8 @@ with_said-twice : (c : Content) (a b : List ℕ) → with_said (with_said c a) b
 with_said-twice c a b = ap (λ said. record c { said = said }) (append_assoc c.said a b)
 
 -- one more piece is put behind what is held
-pub hold_more : {old now : Content} {bytes held : List ℕ} (more : List ℕ) → IsSaidButFor old bytes held now → IsSaidButFor old (bytes ++ more) (held ++ more) now
+pub hold_more : {old now : Content} {bytes held : List ℕ} (more : List ℕ) → IsSaidButFor old bytes held now
+    → IsSaidButFor old (bytes ++ more) (held ++ more) now
 hold_more {old} {now} {bytes} {held} more p = record {
   said = p.said;
   content = p.content;
@@ -19,12 +20,14 @@ hold_more {old} {now} {bytes} {held} more p = record {
 }
 
 -- what was held is said
-pub say_held : {old now : Content} {bytes held : List ℕ} (later : Content) → IsSaidButFor old bytes held now → later ≡ with_said now held → later ≡ with_said old bytes
+pub say_held : {old now : Content} {bytes held : List ℕ} (later : Content) → IsSaidButFor old bytes held now
+    → later ≡ with_said now held → later ≡ with_said old bytes
 say_held {old} {now} {bytes} {held} later p e =
     e ∙ ap (λ c. with_said c held) p.content ∙ with_said-twice old p.said held ∙ ap (with_said old) p.whole
 
 -- one more piece is put behind what is held, of which some is said before
-pub said_then : {old now later : Content} {bytes held rest : List ℕ} (more : List ℕ) → IsSaidButFor old bytes held now → IsSaidButFor now (held ++ more) rest later → IsSaidButFor old (bytes ++ more) rest later
+pub said_then : {old now later : Content} {bytes held rest : List ℕ} (more : List ℕ) → IsSaidButFor old bytes held now
+    → IsSaidButFor now (held ++ more) rest later → IsSaidButFor old (bytes ++ more) rest later
 said_then {old} {now} {later} {bytes} {held} {rest} more p q = record {
   said = p.said ++ q.said;
   content = q.content ∙ ap (λ c. with_said c q.said) p.content ∙ with_said-twice old p.said q.said;
@@ -32,7 +35,8 @@ said_then {old} {now} {later} {bytes} {held} {rest} more p q = record {
 }
 
 -- a refusal of what was held leaves a prefix of all
-pub part_held : {old now : Content} {bytes held : List ℕ} (later : Content) → IsSaidButFor old bytes held now → IsPartSaid now held later → IsPartSaid old bytes later
+pub part_held : {old now : Content} {bytes held : List ℕ} (later : Content) → IsSaidButFor old bytes held now
+    → IsPartSaid now held later → IsPartSaid old bytes later
 part_held {old} {now} {bytes} {held} later p part = (
   length p.said + part.0,
   omega (arith, ap length p.whole, length-append p.said held, part.1),
@@ -49,13 +53,16 @@ part_of_longer old later bytes more part = (
 )
 
 -- the texts of a list behind others, cut in two
-texts_cut : {X : Type 0} (f : X → List ℕ) (bytes : List ℕ) (xs : List X) (i : ℕ) → (bytes ++ flat_map f (take i xs)) ++ flat_map f (drop i xs) ≡ bytes ++ flat_map f xs
+texts_cut : {X : Type 0} (f : X → List ℕ) (bytes : List ℕ) (xs : List X) (i : ℕ)
+    → (bytes ++ flat_map f (take i xs)) ++ flat_map f (drop i xs) ≡ bytes ++ flat_map f xs
 texts_cut f bytes xs i =
     append_assoc bytes (flat_map f (take i xs)) (flat_map f (drop i xs))
     ∙ ap (λ l. bytes ++ l) (sym (flat_map-append f (take i xs) (drop i xs)) ∙ ap (flat_map f) (take-append-drop i xs))
 
 -- one more text behind those of the first items
-pub texts_more : {X : Type 0} (f : X → List ℕ) (bytes : List ℕ) (xs : List X) (i : ℕ) (x : X) → take (i + 1) xs ≡ take i xs ++ x ∷ [] → (bytes ++ flat_map f (take i xs)) ++ f x ≡ bytes ++ flat_map f (take (i + 1) xs)
+pub texts_more : {X : Type 0} (f : X → List ℕ) (bytes : List ℕ) (xs : List X) (i : ℕ) (x : X)
+    → take (i + 1) xs ≡ take i xs ++ x ∷ [] → (bytes ++ flat_map f (take i xs)) ++ f x ≡ bytes ++ flat_map f
+    (take (i + 1) xs)
 texts_more f bytes xs i x e = flat_map_more f bytes (take i xs) x ∙ ap (λ l. bytes ++ flat_map f l) (sym e)
 
 -- a refusal after what was held is said leaves a prefix of it and of the next piece
@@ -68,11 +75,17 @@ flushed_part old now later held more e part = (
 )
 
 -- a refusal of what was held, as far as the first items, leaves a prefix of the texts of all
-pub part_of_texts : {X : Type 0} {old now : Content} {held : List ℕ} (later : Content) (f : X → List ℕ) (bytes : List ℕ) (xs : List X) (i : ℕ) → IsSaidButFor old (bytes ++ flat_map f (take i xs)) held now → IsPartSaid now held later → IsPartSaid old (bytes ++ flat_map f xs) later
+pub part_of_texts : {X : Type 0} {old now : Content} {held : List ℕ} (later : Content) (f : X → List ℕ)
+    (bytes : List ℕ) (xs : List X) (i : ℕ) → IsSaidButFor old (bytes ++ flat_map f (take i xs)) held now
+    → IsPartSaid now held later → IsPartSaid old (bytes ++ flat_map f xs) later
 part_of_texts {X} {old} {now} {held} later f bytes xs i p part =
-    subst (λ (l : List ℕ). IsPartSaid old l later) (texts_cut f bytes xs i) (part_of_longer old later (bytes ++ flat_map f (take i xs)) (flat_map f (drop i xs)) (part_held later p part))
+    subst (λ (l : List ℕ). IsPartSaid old l later) (texts_cut f bytes xs i)
+    (part_of_longer old later (bytes ++ flat_map f (take i xs)) (flat_map f (drop i xs)) (part_held later p part))
 
 -- the same where the text of one more item was to be said too
-pub part_of_more_texts : {X : Type 0} {old now : Content} {held : List ℕ} (later : Content) (f : X → List ℕ) (bytes : List ℕ) (xs : List X) (i : ℕ) (x : X) → take (i + 1) xs ≡ take i xs ++ x ∷ [] → IsSaidButFor old (bytes ++ flat_map f (take i xs)) held now → IsPartSaid now (held ++ f x) later → IsPartSaid old (bytes ++ flat_map f xs) later
+pub part_of_more_texts : {X : Type 0} {old now : Content} {held : List ℕ} (later : Content) (f : X → List ℕ)
+    (bytes : List ℕ) (xs : List X) (i : ℕ) (x : X) → take (i + 1) xs ≡ take i xs ++ x ∷ []
+    → IsSaidButFor old (bytes ++ flat_map f (take i xs)) held now → IsPartSaid now (held ++ f x) later
+    → IsPartSaid old (bytes ++ flat_map f xs) later
 part_of_more_texts {X} {old} {now} {held} later f bytes xs i x e p part =
     part_of_texts later f bytes xs (i + 1) (subst (λ (l : List ℕ). IsSaidButFor old l (held ++ f x) now) (texts_more f bytes xs i x e) (hold_more (f x) p)) part

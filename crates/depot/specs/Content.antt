@@ -1,7 +1,8 @@
 -- What stands outside a program, as a depot shows it: the files that can be read, what the started file has
 -- still to give, the files that were made, the name that writes go to, and what was said to standard output.
 -- A call changes one of these and leaves the rest, so each outcome is one equation between two contents.
-use Rattle.std.specs.Prelude.{◌≡◌, ◌⊎◌, ℕ, ◌<◌, ◌≤◌, Bool, List, [], ◌∷◌, ◌++◌, length, take, drop, Option, None, Some, unwrap_or, if◌then◌else◌, IsSomeAnd, false, refl}
+use Rattle.std.specs.Prelude.{◌≡◌, ◌⊎◌, ℕ, ◌<◌, ◌≤◌, Bool, List, [], ◌∷◌, ◌++◌, length, take, drop, Option, None, Some}
+use Rattle.std.specs.Prelude.{unwrap_or, if◌then◌else◌, IsSomeAnd, false, refl}
 use Rattle.std.specs.Ordering.{nat_cmp}
 use Rattle.std.specs.Cmp.Lexicographic.{slice_cmp}
 use Rattle.std.specs.Coded.{Coded, coded×, coded_list, coded_ℕ, coded_bool, coded_option, code_by}

@@ -19,9 +19,12 @@ use Rattle.half_grid.proofs.ForCallers.{number_between}
 use Rattle.field_split.specs.declared.parts.Rows.{Rows}
 use Rattle.field_split.specs.declared.parts.Columns.{Columns}
 use Rattle.field_split.specs.Cutting.{rows, turn, rows_left_of, rows_in, left_in, right_in, piece_shape, piece, first_turn, second_turn, pieces_in}
-use Rattle.field_split.proofs.Turns.{lt_yes, lt_no, IsRow, turn_low, turn_high, OnOneSide, stays_left, stays_right, turned, AreRowsOf, left_rows, right_rows, lies_left, lies_right, is_left_row, is_right_row}
+use Rattle.field_split.proofs.Turns.{lt_yes, lt_no, IsRow, turn_low, turn_high, OnOneSide, stays_left, stays_right}
+use Rattle.field_split.proofs.Turns.{turned, AreRowsOf, left_rows, right_rows, lies_left, lies_right, is_left_row}
+use Rattle.field_split.proofs.Turns.{is_right_row}
 use Rattle.field_split.proofs.Stacks.{StandFrom, joined_one_more, joined_none, counted_in, counted_out, count_in-append}
-use Rattle.field_split.proofs.PieceLemmas.{IsInColumns, IsSteady, IsBoxed, piece_legal, piece_in, in_piece, numbers_of, x_low, x_high, boxed_by_reach, boxed_by_itself, shot_of_box, width_in_box}
+use Rattle.field_split.proofs.PieceLemmas.{IsInColumns, IsSteady, IsBoxed, piece_legal, piece_in, in_piece, numbers_of}
+use Rattle.field_split.proofs.PieceLemmas.{x_low, x_high, boxed_by_reach, boxed_by_itself, shot_of_box, width_in_box}
 
 -- ---- the rows of the columns
 
@@ -58,7 +61,8 @@ opt_none z cols p q h = rw (lt_no p q h) refl
 
 all_opt : (P : Trapezoid → Type 0) (z : Trapezoid) (cols : Columns) (p q : ℤ) → (p <ℤ q → P (piece_shape z cols (rows p q))) → All P (opt z cols p q)
 all_opt P z cols p q h =
-    by_lt_z p q (λ lt. rw (opt_some z cols p q lt) (All-cons P (piece_shape z cols (rows p q)) [] (h lt) (All-nil P))) (λ le. rw (opt_none z cols p q le) (All-nil P))
+    by_lt_z p q (λ lt. rw (opt_some z cols p q lt) (All-cons P (piece_shape z cols (rows p q)) [] (h lt) (All-nil P)))
+    (λ le. rw (opt_none z cols p q le) (All-nil P))
 
 pub opt_length : (z : Trapezoid) (cols : Columns) (p q : ℤ) → length (opt z cols p q) ≤ 1
 opt_length z cols p q = by_lt_z p q (λ lt. rw (opt_some z cols p q lt) (omega arith)) (λ le. rw (opt_none z cols p q le) (omega arith))
@@ -114,10 +118,19 @@ module _ (z : Trapezoid) (cols : Columns) (legal : IsLegal z) (wide : cols.x0 <�
   steady p q low high l r = record {
     low = omega (arith, ints, low, in_range.low);
     high = omega (arith, ints, high, in_range.high);
-    left = λ j k a b c d lt. stays_left range cols.x0 j k (record { from = omega (arith, ints, a, low); below = omega (arith, ints, b, high) }) (record { from = omega (arith, ints, c, low); below = omega (arith, ints, d, high) }) z.left (one_side left_turn p q j k l a b c d) lt;
-    right = λ j k a b c d lt. stays_right range cols.x1 j k (record { from = omega (arith, ints, a, low); below = omega (arith, ints, b, high) }) (record { from = omega (arith, ints, c, low); below = omega (arith, ints, d, high) }) z.right (one_side right_turn p q j k r a b c d) lt;
-    from_left = λ j a b. lies_left z.left cols.x1 (rows z.y0 z.y1) j (left_row z cols j z_order (record { from = omega (arith, ints, a, low); below = omega (arith, ints, b, high) }));
-    to_right = λ j a b. lies_right z.right cols.x0 (rows_left_of z.left cols.x1 (rows z.y0 z.y1)) j (record { from = omega (arith, ints, a, low); below = omega (arith, ints, b, high) });
+    left = λ j k a b c d lt. stays_left range cols.x0 j k
+        (record { from = omega (arith, ints, a, low); below = omega (arith, ints, b, high) })
+        (record { from = omega (arith, ints, c, low); below = omega (arith, ints, d, high) }) z.left
+        (one_side left_turn p q j k l a b c d) lt;
+    right = λ j k a b c d lt. stays_right range cols.x1 j k
+        (record { from = omega (arith, ints, a, low); below = omega (arith, ints, b, high) })
+        (record { from = omega (arith, ints, c, low); below = omega (arith, ints, d, high) }) z.right
+        (one_side right_turn p q j k r a b c d) lt;
+    from_left = λ j a b. lies_left z.left cols.x1 (rows z.y0 z.y1) j
+        (left_row z cols j z_order
+        (record { from = omega (arith, ints, a, low); below = omega (arith, ints, b, high) }));
+    to_right = λ j a b. lies_right z.right cols.x0 (rows_left_of z.left cols.x1 (rows z.y0 z.y1)) j
+        (record { from = omega (arith, ints, a, low); below = omega (arith, ints, b, high) });
   }
 
   abbrev first : ℤ
@@ -136,7 +149,8 @@ module _ (z : Trapezoid) (cols : Columns) (legal : IsLegal z) (wide : cols.x0 <�
   turns_order = omega (arith, ints, clamps)
 
   pub lower_steady : IsSteady z cols range.y0 first
-  lower_steady = steady range.y0 first (omega (arith, ints)) (omega (arith, ints, turns_order, second_high)) (inl (omega (arith, ints, clamps))) (inl (omega (arith, ints, clamps)))
+  lower_steady = steady range.y0 first (omega (arith, ints)) (omega (arith, ints, turns_order, second_high))
+      (inl (omega (arith, ints, clamps))) (inl (omega (arith, ints, clamps)))
 
   pub middle_steady : IsSteady z cols first second
   middle_steady =
@@ -145,7 +159,8 @@ module _ (z : Trapezoid) (cols : Columns) (legal : IsLegal z) (wide : cols.x0 <�
       (λ le. steady first second first_low second_high (inl (omega (arith, ints, clamps, le))) (inr (omega (arith, ints, clamps, le))))
 
   pub upper_steady : IsSteady z cols second range.y1
-  upper_steady = steady second range.y1 (omega (arith, ints, first_low, turns_order)) (omega (arith, ints)) (inr (omega (arith, ints, clamps))) (inr (omega (arith, ints, clamps)))
+  upper_steady = steady second range.y1 (omega (arith, ints, first_low, turns_order)) (omega (arith, ints))
+      (inr (omega (arith, ints, clamps))) (inr (omega (arith, ints, clamps)))
 
   -- ---- touching pieces differ
 
@@ -165,12 +180,15 @@ module _ (z : Trapezoid) (cols : Columns) (legal : IsLegal z) (wide : cols.x0 <�
       let hr : IsRow range r = record { from = omega (arith, ints, a, b, c); below = d } in
       let same : place (right_in z cols p) p ≡ place (right_in z cols r) p = ap (λ (l : Line). place l p) e in
       elim (turned range cols.x1 p r hp hr z.right b c) [
-        | inl s ↦ (let here : place z.right p ≡ place (Upright cols.x1) p = rw (lt_no _ _ (later s.0), lt_yes _ _ s.1) at same in omega (arith, ints, here, s.0))
-        | inr s ↦ (let here : place (Upright cols.x1) p ≡ place z.right p = rw (lt_yes _ _ s.0, lt_no _ _ (later s.1)) at same in omega (arith, ints, here, s.0))
+        | inl s ↦ (let here : place z.right p ≡ place (Upright cols.x1) p = rw
+            (lt_no _ _ (later s.0), lt_yes _ _ s.1) at same in omega (arith, ints, here, s.0))
+        | inr s ↦ (let here : place (Upright cols.x1) p ≡ place z.right p = rw
+            (lt_yes _ _ s.0, lt_no _ _ (later s.1)) at same in omega (arith, ints, here, s.0))
       ]
 
   -- the Y at which two pieces touch is a turn
-  differ_at : (p q r : ℤ) → (q ≡ left_turn) ⊎ (q ≡ right_turn) → range.y0 ≤ℤ p → p <ℤ q → r <ℤ range.y1 → left_in z cols p ≡ left_in z cols r → right_in z cols p ≡ right_in z cols r → q ≢ r
+  differ_at : (p q r : ℤ) → (q ≡ left_turn) ⊎ (q ≡ right_turn) → range.y0 ≤ℤ p → p <ℤ q → r <ℤ range.y1
+      → left_in z cols p ≡ left_in z cols r → right_in z cols p ≡ right_in z cols r → q ≢ r
   differ_at p q r (inl e) a b c el er = λ same. left_differs p r a (omega (arith, ints, b, e)) (omega (arith, ints, e, same)) c el
   differ_at p q r (inr e) a b c el er = λ same. right_differs p r a (omega (arith, ints, b, e)) (omega (arith, ints, e, same)) c er
 
@@ -203,23 +221,37 @@ module _ (z : Trapezoid) (cols : Columns) (legal : IsLegal z) (wide : cols.x0 <�
 
     joined_upper : IsJoined window (upper ++ [])
     joined_upper =
-        joined_opt window z cols second range.y1 [] upper_legal (λ lt. inside second range.y1 (omega (arith, ints, first_low, turns_order)) (omega (arith, ints)))
+        joined_opt window z cols second range.y1 [] upper_legal
+        (λ lt. inside second range.y1 (omega (arith, ints, first_low, turns_order)) (omega (arith, ints)))
         (All-nil (λ (y : Trapezoid). range.y1 ≤ℤ y.y0)) (λ lt. All-nil _) (joined_none window)
 
     joined_middle : IsJoined window (middle ++ (upper ++ []))
     joined_middle =
         joined_opt window z cols first second (upper ++ []) middle_legal (λ lt. inside first second first_low second_high)
-        (All-append (λ (y : Trapezoid). second ≤ℤ y.y0) upper [] (all_opt (λ (y : Trapezoid). second ≤ℤ y.y0) z cols second range.y1 (λ lt. omega (arith, ints))) (All-nil _))
-        (λ lt. All-append (Differs z cols first second) upper [] (all_opt (Differs z cols first second) z cols second range.y1 (λ some el er. differ_at first second second second_is first_low lt some el er)) (All-nil _))
+        (All-append (λ (y : Trapezoid). second ≤ℤ y.y0) upper []
+        (all_opt (λ (y : Trapezoid). second ≤ℤ y.y0) z cols second range.y1 (λ lt. omega (arith, ints)))
+        (All-nil _))
+        (λ lt. All-append (Differs z cols first second) upper []
+        (all_opt (Differs z cols first second) z cols second range.y1
+        (λ some el er. differ_at first second second second_is first_low lt some el er)) (All-nil _))
         joined_upper
 
     joined_lower : IsJoined window (opt z cols range.y0 first ++ (middle ++ (upper ++ [])))
     joined_lower =
-        joined_opt window z cols range.y0 first (middle ++ (upper ++ [])) lower_legal (λ lt. inside range.y0 first (omega (arith, ints)) (omega (arith, ints, turns_order, second_high)))
-        (All-append (λ (y : Trapezoid). first ≤ℤ y.y0) middle (upper ++ []) (all_opt (λ (y : Trapezoid). first ≤ℤ y.y0) z cols first second (λ lt. omega (arith, ints)))
-        (All-append (λ (y : Trapezoid). first ≤ℤ y.y0) upper [] (all_opt (λ (y : Trapezoid). first ≤ℤ y.y0) z cols second range.y1 (λ lt. omega (arith, ints, turns_order))) (All-nil _)))
-        (λ lt. All-append (Differs z cols range.y0 first) middle (upper ++ []) (all_opt (Differs z cols range.y0 first) z cols first second (λ some el er. differ_at range.y0 first first first_is (omega (arith, ints)) lt (omega (arith, ints, some, second_high)) el er))
-        (All-append (Differs z cols range.y0 first) upper [] (all_opt (Differs z cols range.y0 first) z cols second range.y1 (λ some el er. differ_at range.y0 first second first_is (omega (arith, ints)) lt some el er)) (All-nil _)))
+        joined_opt window z cols range.y0 first (middle ++ (upper ++ [])) lower_legal
+        (λ lt. inside range.y0 first (omega (arith, ints)) (omega (arith, ints, turns_order, second_high)))
+        (All-append (λ (y : Trapezoid). first ≤ℤ y.y0) middle (upper ++ [])
+        (all_opt (λ (y : Trapezoid). first ≤ℤ y.y0) z cols first second (λ lt. omega (arith, ints)))
+        (All-append (λ (y : Trapezoid). first ≤ℤ y.y0) upper []
+        (all_opt (λ (y : Trapezoid). first ≤ℤ y.y0) z cols second range.y1
+        (λ lt. omega (arith, ints, turns_order))) (All-nil _)))
+        (λ lt. All-append (Differs z cols range.y0 first) middle (upper ++ [])
+        (all_opt (Differs z cols range.y0 first) z cols first second
+        (λ some el er. differ_at range.y0 first first first_is (omega (arith, ints)) lt
+        (omega (arith, ints, some, second_high)) el er))
+        (All-append (Differs z cols range.y0 first) upper []
+        (all_opt (Differs z cols range.y0 first) z cols second range.y1
+        (λ some el er. differ_at range.y0 first second first_is (omega (arith, ints)) lt some el er)) (All-nil _)))
         joined_middle
 
     pub pieces_joined : IsJoined window (pieces_in z cols)
@@ -237,7 +269,9 @@ module _ (z : Trapezoid) (cols : Columns) (legal : IsLegal z) (wide : cols.x0 <�
   opt_in : (p q : ℤ) (t : Tile) → IsSteady z cols p q → p ≤ℤ t.j → t.j <ℤ q → IsInColumns z cols t → count_in (opt z cols p q) t ≡ 1
   opt_in p q t s a b h =
       let lt : p <ℤ q = omega (arith, ints, a, b) in
-      rw (opt_some z cols p q lt) (let one = counted_in t (piece_shape z cols (rows p q)) [] (in_piece z cols legal wide p q s lt t a b h) in omega (arith, one))
+      rw (opt_some z cols p q lt)
+      (let one = counted_in t (piece_shape z cols (rows p q)) [] (in_piece z cols legal wide p q s lt t a b h) in
+      omega (arith, one))
 
   pieces_counted : (t : Tile) → count_in (pieces_in z cols) t ≡ count_in (opt z cols range.y0 first) t + (count_in middle t + count_in upper t)
   unfolding pieces_in
@@ -272,7 +306,16 @@ module _ (z : Trapezoid) (cols : Columns) (legal : IsLegal z) (wide : cols.x0 <�
   pub pieces_few : length (pieces_in z cols) ≤ 3
   unfolding pieces_in
   pieces_few =
-      omega (arith, length-append (opt z cols range.y0 first) (middle ++ upper), length-append middle upper, opt_length z cols range.y0 first, opt_length z cols first second, opt_length z cols second range.y1)
+      omega (
+        arith,
+        length-append (opt z cols range.y0 first)
+            (middle ++ upper),
+        length-append middle upper,
+        opt_length z cols range.y0 first,
+        opt_length z cols first
+            second,
+        opt_length z cols second range.y1,
+      )
 
   -- ---- the corners
 
@@ -298,7 +341,11 @@ module _ (z : Trapezoid) (cols : Columns) (legal : IsLegal z) (wide : cols.x0 <�
       let far = x_high z.right z.y0 p z.y1 high a (omega (arith, ints, c)) b.bottom_right b.top_right in
       let further = x_high z.right z.y0 (p +ℤ pos 1) z.y1 high (omega (arith, ints, a)) (omega (arith, ints, c)) b.bottom_right b.top_right in
       (omega (arith, ints, lt, at, next), omega (arith, ints, more, far, further))))
-      (λ less. rw (lt_no _ _ less) (x_low z.right z.y0 y z.y1 low d e b.right_bottom b.right_top, x_high z.right z.y0 y z.y1 high d e b.bottom_right b.top_right))
+      (λ less. rw (lt_no _ _ less) (
+        x_low z.right z.y0 y z.y1 low d e b.right_bottom b.right_top,
+        x_high z.right z.y0 y z.y1 high d e
+            b.bottom_right b.top_right,
+      ))
 
   pub piece_boxed : (low high : ℤ) → IsBoxed z low high → (p q : ℤ) → IsSteady z cols p q → p <ℤ q → IsBoxed (piece_shape z cols (rows p q)) low high
   piece_boxed low high b p q s lt =
@@ -328,7 +375,8 @@ module _ (z : Trapezoid) (cols : Columns) (legal : IsLegal z) (wide : cols.x0 <�
       (record { low = omega (arith, ints, s.low, lt, r.y0.low); high = omega (arith, ints, s.high, r.y1.high) })
       (piece_boxed _ _ (boxed_by_reach z shot) p q s lt)
 
-  pub piece_fits : (height width : ℤ) → FitsLimits height width z → (p q : ℤ) → IsSteady z cols p q → p <ℤ q → FitsLimits height width (piece_shape z cols (rows p q))
+  pub piece_fits : (height width : ℤ) → FitsLimits height width z → (p q : ℤ) → IsSteady z cols p q → p <ℤ q
+      → FitsLimits height width (piece_shape z cols (rows p q))
   piece_fits height width f p q s lt =
       let wide = width_in_box (piece_shape z cols (rows p q)) _ _ (piece_boxed _ _ (boxed_by_itself z legal) p q s lt) in
       let most = f.not_too_wide in
@@ -339,4 +387,5 @@ module _ (z : Trapezoid) (cols : Columns) (legal : IsLegal z) (wide : cols.x0 <�
   unfolding pieces_in
   all_pieces P h =
       All-append P (opt z cols range.y0 first) (middle ++ upper) (all_opt P z cols range.y0 first (λ lt. h range.y0 first lower_steady lt))
-      (All-append P middle upper (all_opt P z cols first second (λ lt. h first second middle_steady lt)) (all_opt P z cols second range.y1 (λ lt. h second range.y1 upper_steady lt)))
+      (All-append P middle upper (all_opt P z cols first second (λ lt. h first second middle_steady lt))
+      (all_opt P z cols second range.y1 (λ lt. h second range.y1 upper_steady lt)))

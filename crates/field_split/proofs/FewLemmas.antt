@@ -31,12 +31,14 @@ all_few size k shots sized h = λ i d lt. shot_length size k _ sized (h i d lt)
 -- ---- one call of the stream
 
 -- the next shot is in hand
-pub turned : (size k : ℤ) (old new : InHand) (shots others : List Trapezoid) (shot : Trapezoid) → pieces_in_hand size old ≡ [] → shots ≡ shot ∷ others → pieces_in_hand size new ≡ pieces_of_shot size k shot
+pub turned : (size k : ℤ) (old new : InHand) (shots others : List Trapezoid) (shot : Trapezoid)
+    → pieces_in_hand size old ≡ [] → shots ≡ shot ∷ others → pieces_in_hand size new ≡ pieces_of_shot size k shot
     → pieces_in_hand size old ++ pieces_of size k shots ≡ pieces_in_hand size new ++ pieces_of size k others
 turned size k old new shots others shot empty is begun = rw (empty, is, begun) refl
 
 -- no shot is left
-pub ended : (size k : ℤ) (hand : InHand) (shots : List Trapezoid) → pieces_in_hand size hand ≡ [] → shots ≡ [] → pieces_in_hand size hand ++ pieces_of size k shots ≡ []
+pub ended : (size k : ℤ) (hand : InHand) (shots : List Trapezoid) → pieces_in_hand size hand ≡ [] → shots ≡ []
+    → pieces_in_hand size hand ++ pieces_of size k shots ≡ []
 ended size k hand shots empty is = rw (empty, is) refl
 
 pub room : (hand after before whole old : ℕ) → hand ≤ most_pieces → after + 1 ≤ before → old + most_pieces * before ≤ whole → hand + most_pieces * after ≤ whole
@@ -58,9 +60,12 @@ near_high size k y sized reach s =
 
 -- ---- all pieces of a stripe
 
-pub pieces_few : (size k : ℤ) (shots pieces : List Trapezoid) → IsFieldSize size → All IsFieldShot shots → IsStripeList size k shots pieces → length pieces ≤ 2 ^ 28 * length shots
+pub pieces_few : (size k : ℤ) (shots pieces : List Trapezoid) → IsFieldSize size → All IsFieldShot shots
+    → IsStripeList size k shots pieces → length pieces ≤ 2 ^ 28 * length shots
 unfolding most_pieces most_fields
 pieces_few size k shots pieces sized h list =
     let all : All IsShot shots = λ i d lt. (h i d lt).shot in
-    let same = ap (λ (xs : List Trapezoid). length xs) (one_stripe_list size k sized shots pieces (pieces_of size k shots) all list (stripe_list_is size k sized shots all)) in
+    let same = ap (λ (xs : List Trapezoid). length xs)
+    (one_stripe_list size k sized shots pieces (pieces_of size k shots) all list
+    (stripe_list_is size k sized shots all)) in
     omega (arith, same, shots_length size k shots (all_few size k shots sized h))

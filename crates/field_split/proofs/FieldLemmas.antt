@@ -1,5 +1,6 @@
 -- The pieces of a shot in the fields of a stripe: a list for each field, and one list in all.
-use Rattle.std.proofs.Common.{◌≡◌, ℕ, zero, suc, ◌+◌, Bool, true, false, cond, ℤ, pos, ◌+ℤ◌, ◌-ℤ◌, ◌*ℤ◌, ◌≤ℤ◌, ◌<ℤ◌, List, [], ◌∷◌, ◌++◌, length, arith, refl, sym, ap, ◌∙◌, int_lt}
+use Rattle.std.proofs.Common.{◌≡◌, ℕ, zero, suc, ◌+◌, Bool, true, false, cond, ℤ, pos, ◌+ℤ◌, ◌-ℤ◌, ◌*ℤ◌, ◌≤ℤ◌, ◌<ℤ◌}
+use Rattle.std.proofs.Common.{List, [], ◌∷◌, ◌++◌, length, arith, refl, sym, ap, ◌∙◌, int_lt}
 use Rattle.std.proofs.lemmas.Int.{ints, clamps}
 use Rattle.std.proofs.lemmas.List.Elements.{All-nil, All-append}
 use Rattle.std.specs.Int.{int_min, int_max}
@@ -10,10 +11,13 @@ use Rattle.half_grid.proofs.ForCallers.{number_between, legal_places, one_joined
 use Rattle.geo_stream.specs.Flattened.{end_to_end}
 use Rattle.field_split.specs.declared.parts.Columns.{Columns}
 use Rattle.field_split.specs.Fields.{IsFieldSize, IsInStretch, IsInField, stripe_rows, IsInPart, IsPartList, ArePartLists, IsSplit}
-use Rattle.field_split.specs.Cutting.{count_of, columns, pieces_in, pieces_across, in_stripe, least_x, greatest_x, first_field, last_field, number_of_fields, pieces_of_part, pieces_of_shot, piece_shape, rows}
+use Rattle.field_split.specs.Cutting.{count_of, columns, pieces_in, pieces_across, in_stripe, least_x, greatest_x}
+use Rattle.field_split.specs.Cutting.{first_field, last_field, number_of_fields, pieces_of_part, pieces_of_shot}
+use Rattle.field_split.specs.Cutting.{piece_shape, rows}
 use Rattle.field_split.proofs.Turns.{lt_yes, lt_true, lt_false}
 use Rattle.field_split.proofs.Stacks.{joined_none}
-use Rattle.field_split.proofs.PieceLemmas.{IsInColumns, IsSteady, legal_between, x_low, x_high, boxed_by_reach, boxed_by_itself, shot_of_box, IsBoxed, width_in_box, piece_in}
+use Rattle.field_split.proofs.PieceLemmas.{IsInColumns, IsSteady, legal_between, x_low, x_high, boxed_by_reach}
+use Rattle.field_split.proofs.PieceLemmas.{boxed_by_itself, shot_of_box, IsBoxed, width_in_box, piece_in}
 use Rattle.field_split.proofs.ColumnLemmas.{pieces_joined, pieces_once, pieces_never, all_pieces, piece_shot, piece_fits}
 use Rattle.field_split.proofs.Numbers.{multiples, fewer, next_start, stretch_of, count_is}
 
@@ -37,7 +41,8 @@ module _ (f : ℤ → List Trapezoid) where
       ap (λ (x : ℕ). listed_from f x m) count ∙ ap (λ (x : ℤ). listed_from f n x) start
   more_left (suc d) n m k e h =
       let count : suc d + n ≡ suc (d + n) = omega arith in
-      ap (λ (x : ℕ). listed_from f x m) count ∙ ap (λ (xs : List Trapezoid). xs ++ listed_from f (d + n) (m +ℤ pos 1)) (h m (omega (arith, ints, e))) ∙ more_left d n (m +ℤ pos 1) k (omega (arith, ints, e)) h
+      ap (λ (x : ℕ). listed_from f x m) count ∙ ap (λ (xs : List Trapezoid). xs ++ listed_from f (d + n) (m +ℤ pos 1))
+      (h m (omega (arith, ints, e))) ∙ more_left d n (m +ℤ pos 1) k (omega (arith, ints, e)) h
 
   -- .. and at the right
   more_right : (n d : ℕ) (m : ℤ) → ((i : ℤ) → (m +ℤ pos n) ≤ℤ i → f i ≡ []) → listed_from f (n + d) m ≡ listed_from f n m
@@ -59,14 +64,16 @@ module _ (f : ℤ → List Trapezoid) where
       ap (λ (x : ℕ). listed_from f x low) sum ∙ more_left d (n + e) low m (omega (arith, ints, before)) left ∙ more_right n e m right
 
   -- two ranges outside of which the lists are empty
-  pub same_listed : (n m : ℕ) (j k : ℤ) → ((i : ℤ) → i <ℤ j → f i ≡ []) → ((i : ℤ) → (j +ℤ pos n) ≤ℤ i → f i ≡ []) → ((i : ℤ) → i <ℤ k → f i ≡ []) → ((i : ℤ) → (k +ℤ pos m) ≤ℤ i → f i ≡ [])
+  pub same_listed : (n m : ℕ) (j k : ℤ) → ((i : ℤ) → i <ℤ j → f i ≡ []) → ((i : ℤ) → (j +ℤ pos n) ≤ℤ i → f i ≡ [])
+      → ((i : ℤ) → i <ℤ k → f i ≡ []) → ((i : ℤ) → (k +ℤ pos m) ≤ℤ i → f i ≡ [])
       → listed_from f n j ≡ listed_from f m k
   same_listed n m j k a b c d =
       let low = int_min j k in
       let high = int_max (j +ℤ pos n) (k +ℤ pos m) in
       let all = count_is (high -ℤ low) (omega (arith, ints, clamps)) in
       let number = count_of (high -ℤ low) in
-      sym (wider n j low number (omega (arith, ints, clamps)) (omega (arith, ints, clamps, all)) a b) ∙ wider m k low number (omega (arith, ints, clamps)) (omega (arith, ints, clamps, all)) c d
+      sym (wider n j low number (omega (arith, ints, clamps)) (omega (arith, ints, clamps, all)) a b)
+      ∙ wider m k low number (omega (arith, ints, clamps)) (omega (arith, ints, clamps, all)) c d
 
 -- ---- the rows of a shot in a stripe
 
@@ -76,9 +83,11 @@ part_legal size k z legal h =
     let q = (in_stripe size k z).y1 in
     let low : z.y0 ≤ℤ p = omega (arith, ints, clamps) in
     let high : q ≤ℤ z.y1 = omega (arith, ints, clamps) in
-    legal_between z.left z.right p q h (legal_places z p legal low (omega (arith, ints, h, high))) (legal_places z (q -ℤ pos 1) legal (omega (arith, ints, h, low)) (omega (arith, ints, high)))
+    legal_between z.left z.right p q h (legal_places z p legal low (omega (arith, ints, h, high)))
+    (legal_places z (q -ℤ pos 1) legal (omega (arith, ints, h, low)) (omega (arith, ints, high)))
 
-pub part_boxed : (size k : ℤ) (z : Trapezoid) (low high : ℤ) → IsBoxed z low high → (in_stripe size k z).y0 <ℤ (in_stripe size k z).y1 → IsBoxed (in_stripe size k z) low high
+pub part_boxed : (size k : ℤ) (z : Trapezoid) (low high : ℤ) → IsBoxed z low high
+    → (in_stripe size k z).y0 <ℤ (in_stripe size k z).y1 → IsBoxed (in_stripe size k z) low high
 part_boxed size k z low high b h =
     let p = (in_stripe size k z).y0 in
     let q = (in_stripe size k z).y1 in
@@ -105,7 +114,8 @@ part_shot size k z s h =
     (record { low = omega (arith, ints, clamps, h, r.y0.low); high = omega (arith, ints, clamps, r.y1.high) })
     (part_boxed size k z _ _ (boxed_by_reach z s) h)
 
-pub part_fits : (size k : ℤ) (z : Trapezoid) (height width : ℤ) → IsLegal z → FitsLimits height width z → (in_stripe size k z).y0 <ℤ (in_stripe size k z).y1 → FitsLimits height width (in_stripe size k z)
+pub part_fits : (size k : ℤ) (z : Trapezoid) (height width : ℤ) → IsLegal z → FitsLimits height width z
+    → (in_stripe size k z).y0 <ℤ (in_stripe size k z).y1 → FitsLimits height width (in_stripe size k z)
 part_fits size k z height width legal f h =
     let wide = width_in_box (in_stripe size k z) _ _ (part_boxed size k z _ _ (boxed_by_itself z legal) h) in
     let most = f.not_too_wide in
@@ -116,7 +126,13 @@ pub part_in : (size k : ℤ) (z : Trapezoid) (t : Tile) → IsInTrapezoid (in_st
 part_in size k z t h =
     let a = h.above_bottom in
     let b = h.below_top in
-    record { above_bottom = omega (arith, ints, clamps, a); below_top = omega (arith, ints, clamps, b); right_of_left = h.right_of_left; left_of_right = h.left_of_right }
+    record {
+      above_bottom = omega (arith, ints, clamps, a);
+      below_top = omega (arith, ints, clamps, b);
+      right_of_left =
+          h.right_of_left;
+      left_of_right = h.left_of_right;
+    }
 
 pub part_row : (size k : ℤ) (z : Trapezoid) (t : Tile) → IsInTrapezoid (in_stripe size k z) t → IsInStretch size k t.j
 part_row size k z t h =
@@ -130,7 +146,13 @@ in_part size k z t h r =
     let b = h.below_top in
     let c = r.from in
     let d = r.below in
-    record { above_bottom = omega (arith, ints, clamps, a, c); below_top = omega (arith, ints, clamps, b, d); right_of_left = h.right_of_left; left_of_right = h.left_of_right }
+    record {
+      above_bottom = omega (arith, ints, clamps, a, c);
+      below_top = omega
+          (arith, ints, clamps, b, d);
+      right_of_left = h.right_of_left;
+      left_of_right = h.left_of_right;
+    }
 
 -- ---- the list of a field
 
@@ -158,7 +180,11 @@ module _ (size k : ℤ) (sized : IsFieldSize size) (z : Trapezoid) (legal : IsLe
   in_columns m t h = record { inside = in_part size k z t h.inside h.field.row; from = h.field.column.from; below = h.field.column.below }
 
   pub columns_in : (m : ℤ) (t : Tile) → IsInColumns part (field_columns m) t → IsInPart size m k z t
-  columns_in m t h = record { inside = part_in size k z t h.inside; field = record { column = record { from = h.from; below = h.below }; row = part_row size k z t h.inside } }
+  columns_in m t h = record {
+    inside = part_in size k z t h.inside;
+    field =
+        record { column = record { from = h.from; below = h.below }; row = part_row size k z t h.inside };
+  }
 
   no_rows : part.y1 ≤ℤ part.y0 → (t : Tile) → IsInTrapezoid z t → IsInStretch size k t.j → ⊥
   no_rows h t i r = let p = in_part size k z t i r in let a = p.above_bottom in let b = p.below_top in omega (arith, ints, a, b, h)
@@ -189,7 +215,12 @@ module _ (size k : ℤ) (sized : IsFieldSize size) (z : Trapezoid) (legal : IsLe
 
   empty_field : (m : ℤ) → ((t : Tile) → IsInPart size m k z t → ⊥) → field_list m ≡ []
   empty_field m none =
-      one_part_list m (field_list m) [] (field_list_is m) (record { joined = joined_none (stripe_rows size k); covers = record { once = λ t h. absurd (none t h); never = λ t h. refl } })
+      one_part_list m (field_list m) [] (field_list_is m)
+      (record {
+        joined = joined_none (stripe_rows size k);
+        covers =
+            record { once = λ t h. absurd (none t h); never = λ t h. refl };
+      })
 
   lists_are : (m : ℤ) (lists : List (List Trapezoid)) → ArePartLists size m k z lists → end_to_end lists ≡ listed_from field_list (length lists) m
   lists_are m [] p = refl
@@ -251,14 +282,18 @@ module _ (size k : ℤ) (sized : IsFieldSize size) (z : Trapezoid) (legal : IsLe
     column_from t h =
         let n = number_between part t h in
         let here = x_low part.left part.y0 t.j part.y1 (least_x part) n.above_bottom (omega (arith, ints, n.below_top)) boxed.bottom_left boxed.top_left in
-        let next = x_low part.left part.y0 (t.j +ℤ pos 1) part.y1 (least_x part) (omega (arith, ints, n.above_bottom)) (omega (arith, ints, n.below_top)) boxed.bottom_left boxed.top_left in
+        let next = x_low part.left part.y0 (t.j +ℤ pos 1) part.y1 (least_x part) (omega (arith, ints, n.above_bottom))
+        (omega (arith, ints, n.below_top)) boxed.bottom_left boxed.top_left in
         omega (arith, ints, here, next, n.from_left, i_low t, i_high t)
 
     column_below : (t : Tile) → IsInTrapezoid part t → t.i <ℤ greatest_x part
     column_below t h =
         let n = number_between part t h in
-        let here = x_high part.right part.y0 t.j part.y1 (greatest_x part) n.above_bottom (omega (arith, ints, n.below_top)) boxed.bottom_right boxed.top_right in
-        let next = x_high part.right part.y0 (t.j +ℤ pos 1) part.y1 (greatest_x part) (omega (arith, ints, n.above_bottom)) (omega (arith, ints, n.below_top)) boxed.bottom_right boxed.top_right in
+        let here = x_high part.right part.y0 t.j part.y1 (greatest_x part) n.above_bottom
+        (omega (arith, ints, n.below_top)) boxed.bottom_right boxed.top_right in
+        let next = x_high part.right part.y0 (t.j +ℤ pos 1) part.y1 (greatest_x part)
+        (omega (arith, ints, n.above_bottom))
+        (omega (arith, ints, n.below_top)) boxed.bottom_right boxed.top_right in
         omega (arith, ints, here, next, n.below_right, i_low t, i_high t)
 
     pub fields_order : first_field size part ≤ℤ last_field size part
@@ -283,8 +318,12 @@ module _ (size k : ℤ) (sized : IsFieldSize size) (z : Trapezoid) (legal : IsLe
           first = start;
           lists = lists;
           parts = are_lists number start;
-          none_left = λ t i r. (let column = column_from t (in_part size k z t i r) in let low = (stretch_of size (least_x part) some_size).from in omega (arith, ints, column, low));
-          none_right = λ t i r. rw count (let column = column_below t (in_part size k z t i r) in let high = (stretch_of size (greatest_x part -ℤ pos 1) some_size).below in omega (arith, ints, column, high));
+          none_left = λ t i r.
+              (let column = column_from t (in_part size k z t i r) in let low =
+              (stretch_of size (least_x part) some_size).from in omega (arith, ints, column, low));
+          none_right = λ t i r. rw count
+              (let column = column_below t (in_part size k z t i r) in let high =
+              (stretch_of size (greatest_x part -ℤ pos 1) some_size).below in omega (arith, ints, column, high));
           is = across_is number start;
         }
 
@@ -308,15 +347,20 @@ module _ (size k : ℤ) (sized : IsFieldSize size) (z : Trapezoid) (legal : IsLe
 
   -- ---- what holds of each piece
 
-  module _ (P : Trapezoid → Type 0) (each : (m : ℤ) (p q : ℤ) → part.y0 <ℤ part.y1 → IsSteady part (field_columns m) p q → p <ℤ q → P (piece_shape part (field_columns m) (rows p q))) where
+  module _ (P : Trapezoid → Type 0)
+      (each : (m : ℤ) (p q : ℤ) → part.y0 <ℤ part.y1 → IsSteady part (field_columns m) p q → p <ℤ q
+      → P (piece_shape part (field_columns m) (rows p q))) where
     all_lists : part.y0 <ℤ part.y1 → (n : ℕ) (m : ℤ) → All P (end_to_end (lists_from n m))
     all_lists some zero m = All-nil P
     all_lists some (suc n) m =
-        All-append P (pieces_in part (field_columns m)) (end_to_end (lists_from n (m +ℤ pos 1))) (all_pieces part (field_columns m) (part_legal size k z legal some) (field_wide m) P (λ p q s lt. each m p q some s lt)) (all_lists some n (m +ℤ pos 1))
+        All-append P (pieces_in part (field_columns m)) (end_to_end (lists_from n (m +ℤ pos 1)))
+        (all_pieces part (field_columns m) (part_legal size k z legal some) (field_wide m) P
+        (λ p q s lt. each m p q some s lt)) (all_lists some n (m +ℤ pos 1))
 
     all_of : (b : Bool) → has_rows ≡ b → All P (cond b (pieces_of_part size part) [])
     unfolding pieces_of_part
-    all_of true e = rw (across_is (number_of_fields size part) (first_field size part)) (all_lists (lt_true part.y0 part.y1 e) (number_of_fields size part) (first_field size part))
+    all_of true e = rw (across_is (number_of_fields size part) (first_field size part))
+        (all_lists (lt_true part.y0 part.y1 e) (number_of_fields size part) (first_field size part))
     all_of false e = All-nil P
 
     pub all_of_shot : All P (pieces_of_shot size k z)
@@ -324,13 +368,21 @@ module _ (size k : ℤ) (sized : IsFieldSize size) (z : Trapezoid) (legal : IsLe
     all_of_shot = all_of has_rows refl
 
   pub shot_pieces_shots : IsShot z → All IsShot (pieces_of_shot size k z)
-  shot_pieces_shots s = all_of_shot IsShot (λ m p q some steady lt. piece_shot part (field_columns m) (part_legal size k z legal some) (field_wide m) (part_shot size k z s some) p q steady lt)
+  shot_pieces_shots s = all_of_shot IsShot
+      (λ m p q some steady lt. piece_shot part (field_columns m) (part_legal size k z legal some) (field_wide m)
+      (part_shot size k z s some) p q steady lt)
 
   pub shot_pieces_fit : (height width : ℤ) → FitsLimits height width z → All (FitsLimits height width) (pieces_of_shot size k z)
   shot_pieces_fit height width f =
-      all_of_shot (FitsLimits height width) (λ m p q some steady lt. piece_fits part (field_columns m) (part_legal size k z legal some) (field_wide m) height width (part_fits size k z height width legal f some) p q steady lt)
+      all_of_shot (FitsLimits height width)
+      (λ m p q some steady lt. piece_fits part (field_columns m) (part_legal size k z legal some)
+      (field_wide m) height width (part_fits size k z height width legal f some) p q steady lt)
 
   pub shot_pieces_in_fields : All (λ (y : Trapezoid). (m : ℤ) × ((t : Tile) → IsInTrapezoid y t → IsInField size m k t)) (pieces_of_shot size k z)
   shot_pieces_in_fields =
       all_of_shot (λ (y : Trapezoid). (m : ℤ) × ((t : Tile) → IsInTrapezoid y t → IsInField size m k t))
-      (λ m p q some steady lt. (m, λ t i. (columns_in m t (piece_in part (field_columns m) (part_legal size k z legal some) (field_wide m) p q steady lt t i)).field))
+      (λ m p q some steady lt. (
+        m,
+        λ t i. (columns_in m t
+            (piece_in part (field_columns m) (part_legal size k z legal some) (field_wide m) p q steady lt t i)).field,
+      ))

@@ -1,5 +1,6 @@
 -- The fields that a shot meets, as numbers, and the pieces in hand.
-use Rattle.std.proofs.Common.{◌≡◌, ℕ, zero, suc, ◌+◌, ◌-◌, ◌<◌, ◌≤◌, ◌^◌, ℤ, pos, negsuc, neg_ℤ, unsigned_abs, ◌+ℤ◌, ◌-ℤ◌, ◌*ℤ◌, ◌≤ℤ◌, ◌<ℤ◌, List, [], ◌++◌, Option, Some, None, arith, refl, sym, ap, ◌∙◌}
+use Rattle.std.proofs.Common.{◌≡◌, ℕ, zero, suc, ◌+◌, ◌-◌, ◌<◌, ◌≤◌, ◌^◌, ℤ, pos, negsuc, neg_ℤ, unsigned_abs, ◌+ℤ◌}
+use Rattle.std.proofs.Common.{◌-ℤ◌, ◌*ℤ◌, ◌≤ℤ◌, ◌<ℤ◌, List, [], ◌++◌, Option, Some, None, arith, refl, sym, ap, ◌∙◌}
 use Rattle.std.proofs.lemmas.Int.{ints, clamps, by_lt_z}
 use Rattle.std.specs.Option.{option_to_list}
 use Rattle.half_grid.specs.Trapezoids.{Trapezoid, IsLegal, IsShot}
@@ -9,7 +10,9 @@ use Rattle.field_split.specs.declared.in_hand.InHand.{InHand}
 use Rattle.field_split.specs.declared.parts.Columns.{Columns}
 use Rattle.field_split.specs.Fields.{IsFieldSize}
 use Rattle.field_split.specs.Looks.{IsWithinFieldReach, IsFieldShot}
-use Rattle.field_split.specs.Cutting.{least_x, greatest_x, first_field, last_field, number_of_fields, count_of, most_fields, columns, rows_in, pieces_in, pieces_across, lower_piece, middle_piece, upper_piece, in_stripe, pieces_of_part, pieces_of_shot}
+use Rattle.field_split.specs.Cutting.{least_x, greatest_x, first_field, last_field, number_of_fields, count_of}
+use Rattle.field_split.specs.Cutting.{most_fields, columns, rows_in, pieces_in, pieces_across, lower_piece}
+use Rattle.field_split.specs.Cutting.{middle_piece, upper_piece, in_stripe, pieces_of_part, pieces_of_shot}
 use Rattle.field_split.specs.Pieces.{shape_of, shape_of_some, waiting, waiting_in, pieces_ahead, pieces_in_hand}
 use Rattle.field_split.proofs.Numbers.{multiples, fewer, next_start, stretch_of, count_is}
 use Rattle.field_split.proofs.Turns.{lt_yes, lt_no}
@@ -92,17 +95,21 @@ waiting_is : (o : Option Part) → waiting o ≡ option_to_list (shape_of_some o
 waiting_is None = refl
 waiting_is (Some part) = refl
 
-pub opened : (z : Trapezoid) (cols : Columns) (lower middle upper : Option Part) → shape_of_some lower ≡ lower_piece z cols (rows_in z cols) → shape_of_some middle ≡ middle_piece z cols (rows_in z cols)
+pub opened : (z : Trapezoid) (cols : Columns) (lower middle upper : Option Part)
+    → shape_of_some lower ≡ lower_piece z cols (rows_in z cols)
+    → shape_of_some middle ≡ middle_piece z cols (rows_in z cols)
     → shape_of_some upper ≡ upper_piece z cols (rows_in z cols) → waiting lower ++ (waiting middle ++ waiting upper) ≡ pieces_in z cols
 unfolding pieces_in
 opened z cols lower middle upper a b c = rw (waiting_is lower, waiting_is middle, waiting_is upper, a, b, c) refl
 
-pub across_next : (size : ℤ) (z : Trapezoid) (n : ℕ) (x : ℤ) → 0 < n → pieces_across size z n x ≡ pieces_in z (columns x (x +ℤ size)) ++ pieces_across size z (n - 1) (x +ℤ size)
+pub across_next : (size : ℤ) (z : Trapezoid) (n : ℕ) (x : ℤ) → 0 < n
+    → pieces_across size z n x ≡ pieces_in z (columns x (x +ℤ size)) ++ pieces_across size z (n - 1) (x +ℤ size)
 across_next size z zero x h = absurd (omega (arith, h))
 across_next size z (suc n) x h = let same : suc n - 1 ≡ n = omega arith in rw same refl
 
 -- a field is opened where no piece waits
-pub reopened : (size : ℤ) (hand : InHand) (ahead next : Ahead) (cols : Columns) (lower middle upper : Option Part) → waiting_in hand ≡ [] → hand.ahead ≡ Some ahead → cols ≡ columns ahead.x (ahead.x +ℤ size)
+pub reopened : (size : ℤ) (hand : InHand) (ahead next : Ahead) (cols : Columns) (lower middle upper : Option Part)
+    → waiting_in hand ≡ [] → hand.ahead ≡ Some ahead → cols ≡ columns ahead.x (ahead.x +ℤ size)
     → waiting lower ++ (waiting middle ++ waiting upper) ≡ pieces_in (shape_of ahead.part) cols
     → pieces_ahead size (Some ahead) ≡ pieces_in (shape_of ahead.part) (columns ahead.x (ahead.x +ℤ size)) ++ pieces_ahead size (Some next)
     → (waiting lower ++ (waiting middle ++ waiting upper)) ++ pieces_ahead size (Some next) ≡ pieces_in_hand size hand
@@ -111,7 +118,8 @@ reopened size hand ahead next cols lower middle upper empty is ec opens after =
     ∙ sym (ap (λ (xs : List Trapezoid). xs ++ pieces_ahead size hand.ahead) empty ∙ ap (pieces_ahead size) is)
 
 -- the pieces of a shot that has rows in the stripe, and of one that has none
-pub some_pieces : (size k : ℤ) (z : Trapezoid) → (in_stripe size k z).y0 <ℤ (in_stripe size k z).y1 → pieces_of_shot size k z ≡ pieces_of_part size (in_stripe size k z)
+pub some_pieces : (size k : ℤ) (z : Trapezoid) → (in_stripe size k z).y0 <ℤ (in_stripe size k z).y1
+    → pieces_of_shot size k z ≡ pieces_of_part size (in_stripe size k z)
 unfolding pieces_of_shot
 some_pieces size k z h = rw (lt_yes _ _ h) refl
 
@@ -138,7 +146,8 @@ number_few size sized z shot reach =
     let count = count_is (last_field size z -ℤ first_field size z) (omega (arith, ints, order)) in
     omega (arith, ints, is, few, count)
 
-pub part_number_few : (size k : ℤ) → IsFieldSize size → (z : Trapezoid) → IsFieldShot z → (in_stripe size k z).y0 <ℤ (in_stripe size k z).y1 → number_of_fields size (in_stripe size k z) ≤ most_fields
+pub part_number_few : (size k : ℤ) → IsFieldSize size → (z : Trapezoid) → IsFieldShot z
+    → (in_stripe size k z).y0 <ℤ (in_stripe size k z).y1 → number_of_fields size (in_stripe size k z) ≤ most_fields
 part_number_few size k sized z s some =
     let part = part_shot size k z s.shot some in
     number_few size sized (in_stripe size k z) part (part_fits size k z (pos 16777216) (pos 33554432) s.shot.legal s.reach some)

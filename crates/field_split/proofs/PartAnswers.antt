@@ -36,8 +36,10 @@ module _ (z : Trapezoid) (cols : Columns) (range : Rows) (a b f s : ℤ) (shot :
   upper_is e = rw (e, es, ea, eb, er) refl
 
 -- a shot's rows in a stripe, as they are computed
-pub rows_taken : (size k : ℤ) (z : Trapezoid) (range : Rows) (y0 y1 low high : ℤ) (left right : Line) → range ≡ rows (k *ℤ size) ((k +ℤ pos 1) *ℤ size) → y0 ≡ z.y0 → y1 ≡ z.y1 → left ≡ z.left → right ≡ z.right
-    → low ≡ int_max y0 range.y0 → high ≡ int_min y1 range.y1 → (trapezoid low high left right ≡ in_stripe size k z) × (IsShot z → low <ℤ high → IsShot (trapezoid low high left right))
+pub rows_taken : (size k : ℤ) (z : Trapezoid) (range : Rows) (y0 y1 low high : ℤ) (left right : Line)
+    → range ≡ rows (k *ℤ size) ((k +ℤ pos 1) *ℤ size) → y0 ≡ z.y0 → y1 ≡ z.y1 → left ≡ z.left → right ≡ z.right
+    → low ≡ int_max y0 range.y0 → high ≡ int_min y1 range.y1 → (trapezoid low high left right ≡ in_stripe size k z)
+    × (IsShot z → low <ℤ high → IsShot (trapezoid low high left right))
 rows_taken size k z range y0 y1 low high left right er e0 e1 el eh a b =
     let is : trapezoid low high left right ≡ in_stripe size k z = rw (a, b, e0, e1, er, el, eh) refl in
     let first : low ≡ (in_stripe size k z).y0 = ap (λ (w : Trapezoid). w.y0) is in

@@ -20,15 +20,78 @@ use Rattle.field_split.proofs.Turns.{lt_yes, lt_no}
 
 -- two lines that keep their order from the first to the last of some rows bound a legal trapezoid
 pub legal_between : (l r : Line) (p q : ℤ) → p <ℤ q → place l p <ℤ place r p → place l (q -ℤ pos 1) <ℤ place r (q -ℤ pos 1) → IsLegal (trapezoid p q l r)
-legal_between (Upright c) (Upright d) p q h a b = record { has_rows = h; bottom = omega (arith, ints, h, a, b); top = omega (arith, ints, h, a, b); not_flat = omega (arith, ints, h, a, b) }
-legal_between (Upright c) (Rising d) p q h a b = record { has_rows = h; bottom = omega (arith, ints, h, a, b); top = omega (arith, ints, h, a, b); not_flat = omega (arith, ints, h, a, b) }
-legal_between (Upright c) (Falling d) p q h a b = record { has_rows = h; bottom = omega (arith, ints, h, a, b); top = omega (arith, ints, h, a, b); not_flat = omega (arith, ints, h, a, b) }
-legal_between (Rising c) (Upright d) p q h a b = record { has_rows = h; bottom = omega (arith, ints, h, a, b); top = omega (arith, ints, h, a, b); not_flat = omega (arith, ints, h, a, b) }
-legal_between (Rising c) (Rising d) p q h a b = record { has_rows = h; bottom = omega (arith, ints, h, a, b); top = omega (arith, ints, h, a, b); not_flat = omega (arith, ints, h, a, b) }
-legal_between (Rising c) (Falling d) p q h a b = record { has_rows = h; bottom = omega (arith, ints, h, a, b); top = omega (arith, ints, h, a, b); not_flat = omega (arith, ints, h, a, b) }
-legal_between (Falling c) (Upright d) p q h a b = record { has_rows = h; bottom = omega (arith, ints, h, a, b); top = omega (arith, ints, h, a, b); not_flat = omega (arith, ints, h, a, b) }
-legal_between (Falling c) (Rising d) p q h a b = record { has_rows = h; bottom = omega (arith, ints, h, a, b); top = omega (arith, ints, h, a, b); not_flat = omega (arith, ints, h, a, b) }
-legal_between (Falling c) (Falling d) p q h a b = record { has_rows = h; bottom = omega (arith, ints, h, a, b); top = omega (arith, ints, h, a, b); not_flat = omega (arith, ints, h, a, b) }
+legal_between (Upright c) (Upright d) p q h a b =
+    record {
+      has_rows = h;
+      bottom = omega (arith, ints, h, a, b);
+      top = omega (arith, ints, h, a, b);
+      not_flat = omega
+          (arith, ints, h, a, b);
+    }
+legal_between (Upright c) (Rising d) p q h a b =
+    record {
+      has_rows = h;
+      bottom = omega (arith, ints, h, a, b);
+      top = omega (arith, ints, h, a, b);
+      not_flat = omega
+          (arith, ints, h, a, b);
+    }
+legal_between (Upright c) (Falling d) p q h a b =
+    record {
+      has_rows = h;
+      bottom = omega (arith, ints, h, a, b);
+      top = omega (arith, ints, h, a, b);
+      not_flat = omega
+          (arith, ints, h, a, b);
+    }
+legal_between (Rising c) (Upright d) p q h a b =
+    record {
+      has_rows = h;
+      bottom = omega (arith, ints, h, a, b);
+      top = omega (arith, ints, h, a, b);
+      not_flat = omega
+          (arith, ints, h, a, b);
+    }
+legal_between (Rising c) (Rising d) p q h a b =
+    record {
+      has_rows = h;
+      bottom = omega (arith, ints, h, a, b);
+      top = omega (arith, ints, h, a, b);
+      not_flat = omega
+          (arith, ints, h, a, b);
+    }
+legal_between (Rising c) (Falling d) p q h a b =
+    record {
+      has_rows = h;
+      bottom = omega (arith, ints, h, a, b);
+      top = omega (arith, ints, h, a, b);
+      not_flat = omega
+          (arith, ints, h, a, b);
+    }
+legal_between (Falling c) (Upright d) p q h a b =
+    record {
+      has_rows = h;
+      bottom = omega (arith, ints, h, a, b);
+      top = omega (arith, ints, h, a, b);
+      not_flat = omega
+          (arith, ints, h, a, b);
+    }
+legal_between (Falling c) (Rising d) p q h a b =
+    record {
+      has_rows = h;
+      bottom = omega (arith, ints, h, a, b);
+      top = omega (arith, ints, h, a, b);
+      not_flat = omega
+          (arith, ints, h, a, b);
+    }
+legal_between (Falling c) (Falling d) p q h a b =
+    record {
+      has_rows = h;
+      bottom = omega (arith, ints, h, a, b);
+      top = omega (arith, ints, h, a, b);
+      not_flat = omega
+          (arith, ints, h, a, b);
+    }
 
 -- a line between two heights stays between bounds of its ends
 pub x_low : (l : Line) (y0 y y1 low : ℤ) → y0 ≤ℤ y → y ≤ℤ y1 → low ≤ℤ x_on l y0 → low ≤ℤ x_on l y1 → low ≤ℤ x_on l y
@@ -153,7 +216,8 @@ module _ (z : Trapezoid) (cols : Columns) (legal : IsLegal z) (wide : cols.x0 <�
       rw (l, r) (omega (arith, ints, clamps, both, one, other, wide))
 
   pub piece_legal : IsLegal (piece_shape z cols (rows p q))
-  piece_legal = legal_between (left_in z cols p) (right_in z cols p) p q some (in_order p (omega (arith, ints)) some) (in_order (q -ℤ pos 1) (omega (arith, ints, some)) (omega (arith, ints)))
+  piece_legal = legal_between (left_in z cols p) (right_in z cols p) p q some (in_order p (omega (arith, ints)) some)
+      (in_order (q -ℤ pos 1) (omega (arith, ints, some)) (omega (arith, ints)))
 
   -- its tiles are the trapezoid's in the columns ..
   pub piece_in : (t : Tile) → IsInTrapezoid (piece_shape z cols (rows p q)) t → IsInColumns z cols t

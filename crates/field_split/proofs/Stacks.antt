@@ -81,15 +81,18 @@ module _ (window : RowRange) (z : Trapezoid) (zs : List Trapezoid) (legal : IsLe
   ends_free_above : (y : Trapezoid) (t : Tile) → Contains (z ∷ zs) y → IsBeside y t → count_in (z ∷ zs) t ≡ 0
   ends_free_above y t h b =
       elim (first_or_later z y zs h) [
-        | inl e ↦ (let c : IsBeside z t = subst (λ (w : Trapezoid). IsBeside w t) (sym e) b in counted_out t z zs (beside_not t c) ∙ none_below z.y1 zs t above c.below_top)
-        | inr later ↦ (let over = from_top y later in counted_out t z zs (λ i. omega (arith, ints, i.below_top, b.above_bottom, over)) ∙ rest.ends_free y t later b)
+        | inl e ↦ (let c : IsBeside z t = subst (λ (w : Trapezoid). IsBeside w t) (sym e) b in counted_out t z zs
+            (beside_not t c) ∙ none_below z.y1 zs t above c.below_top)
+        | inr later ↦ (let over = from_top y later in counted_out t z zs
+            (λ i. omega (arith, ints, i.below_top, b.above_bottom, over)) ∙ rest.ends_free y t later b)
       ]
 
   not_stacked_above : (x y : Trapezoid) → Contains (z ∷ zs) x → Contains (z ∷ zs) y → x.left ≡ y.left → x.right ≡ y.right → x.y1 ≢ y.y0
   not_stacked_above x y hx hy el er =
       elim (first_or_later z x zs hx) [
         | inl ex ↦ elim (first_or_later z y zs hy) [
-          | inl ey ↦ (λ e. (let low = ap (λ (w : Trapezoid). w.y0) ey in let high = ap (λ (w : Trapezoid). w.y1) ex in omega (arith, ints, e, low, high, legal.has_rows)))
+          | inl ey ↦ (λ e. (let low = ap (λ (w : Trapezoid). w.y0) ey in let high = ap (λ (w : Trapezoid). w.y1) ex in
+              omega (arith, ints, e, low, high, legal.has_rows)))
           | inr ly ↦ (λ e. All-contains (λ (w : Trapezoid). z.left ≡ w.left → z.right ≡ w.right → z.y1 ≢ w.y0) zs y differ ly
               (ap (λ (w : Trapezoid). w.left) ex ∙ el) (ap (λ (w : Trapezoid). w.right) ex ∙ er) (ap (λ (w : Trapezoid). w.y1) ex ∙ e))
         ]

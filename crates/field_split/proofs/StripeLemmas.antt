@@ -21,7 +21,8 @@ module _ (size k : ℤ) (sized : IsFieldSize size) where
   pub stripe_list_is : (shots : List Trapezoid) → All IsShot shots → IsStripeList size k shots (pieces_of size k shots)
   stripe_list_is shots h = record { lists = map (pieces_of_shot size k) shots; each = each_split shots h; is = mapped_end (pieces_of_shot size k) shots }
 
-  same_lists : (shots : List Trapezoid) (xs ys : List (List Trapezoid)) → All IsShot shots → AllZip (IsSplit size k) shots xs → AllZip (IsSplit size k) shots ys → xs ≡ ys
+  same_lists : (shots : List Trapezoid) (xs ys : List (List Trapezoid)) → All IsShot shots
+      → AllZip (IsSplit size k) shots xs → AllZip (IsSplit size k) shots ys → xs ≡ ys
   same_lists [] [] [] h p q = refl
   same_lists [] [] (y ∷ ys) h p q = absurd q
   same_lists [] (x ∷ xs) ys h p q = absurd p
@@ -37,19 +38,24 @@ module _ (size k : ℤ) (sized : IsFieldSize size) where
 
   -- ---- what holds of each piece
 
-  all_of : (P Q : Trapezoid → Type 0) → ((z : Trapezoid) → Q z → All P (pieces_of_shot size k z)) → (shots : List Trapezoid) → All Q shots → All P (pieces_of size k shots)
+  all_of : (P Q : Trapezoid → Type 0) → ((z : Trapezoid) → Q z → All P (pieces_of_shot size k z))
+      → (shots : List Trapezoid) → All Q shots → All P (pieces_of size k shots)
   all_of P Q each [] h = All-nil P
-  all_of P Q each (z ∷ shots) h = All-append P (pieces_of_shot size k z) (pieces_of size k shots) (each z (All-head Q z shots h)) (all_of P Q each shots (All-tail Q z shots h))
+  all_of P Q each (z ∷ shots) h = All-append P (pieces_of_shot size k z) (pieces_of size k shots)
+      (each z (All-head Q z shots h)) (all_of P Q each shots (All-tail Q z shots h))
 
-  all_of_list : (P : Trapezoid → Type 0) (shots pieces : List Trapezoid) → All IsShot shots → IsStripeList size k shots pieces → All P (pieces_of size k shots) → All P pieces
+  all_of_list : (P : Trapezoid → Type 0) (shots pieces : List Trapezoid) → All IsShot shots
+      → IsStripeList size k shots pieces → All P (pieces_of size k shots) → All P pieces
   all_of_list P shots pieces h list all = subst (All P) (one_stripe_list shots (pieces_of size k shots) pieces h (stripe_list_is shots h) list) all
 
   pub pieces_are_shots : (shots pieces : List Trapezoid) → All IsShot shots → IsStripeList size k shots pieces → All IsShot pieces
-  pieces_are_shots shots pieces h list = all_of_list IsShot shots pieces h list (all_of IsShot IsShot (λ z s. shot_pieces_shots size k sized z s.legal s) shots h)
+  pieces_are_shots shots pieces h list = all_of_list IsShot shots pieces h list
+      (all_of IsShot IsShot (λ z s. shot_pieces_shots size k sized z s.legal s) shots h)
 
   pub pieces_in_fields : (shots pieces : List Trapezoid) → All IsShot shots → IsStripeList size k shots pieces → All (LiesInOneField size k) pieces
   pieces_in_fields shots pieces h list =
-      all_of_list (LiesInOneField size k) shots pieces h list (all_of (LiesInOneField size k) IsShot (λ z s. shot_pieces_in_fields size k sized z s.legal) shots h)
+      all_of_list (LiesInOneField size k) shots pieces h list
+      (all_of (LiesInOneField size k) IsShot (λ z s. shot_pieces_in_fields size k sized z s.legal) shots h)
 
   abbrev Both : ℤ → ℤ → Trapezoid → Type 0
   Both height width z = IsShot z × FitsLimits height width z
@@ -57,7 +63,9 @@ module _ (size k : ℤ) (sized : IsFieldSize size) where
   both : (height width : ℤ) (shots : List Trapezoid) → All IsShot shots → All (FitsLimits height width) shots → All (Both height width) shots
   both height width shots h f = λ i d lt. (h i d lt, f i d lt)
 
-  pub pieces_fit : (height width : ℤ) (shots pieces : List Trapezoid) → All IsShot shots → All (FitsLimits height width) shots → IsStripeList size k shots pieces → All (FitsLimits height width) pieces
+  pub pieces_fit : (height width : ℤ) (shots pieces : List Trapezoid) → All IsShot shots
+      → All (FitsLimits height width) shots → IsStripeList size k shots pieces → All (FitsLimits height width) pieces
   pieces_fit height width shots pieces h f list =
       all_of_list (FitsLimits height width) shots pieces h list
-      (all_of (FitsLimits height width) (Both height width) (λ z s. shot_pieces_fit size k sized z s.0.legal height width s.1) shots (both height width shots h f))
+      (all_of (FitsLimits height width) (Both height width)
+      (λ z s. shot_pieces_fit size k sized z s.0.legal height width s.1) shots (both height width shots h f))

@@ -20,7 +20,8 @@ module _ (size k : ℤ) (sized : IsFieldSize size) (t : Tile) where
   some_size = omega (arith, ints, sized.least)
 
   -- a tile in none of the fields is in no piece
-  parts_none : (z : Trapezoid) (m : ℤ) (lists : List (List Trapezoid)) → ((i : ℤ) → m ≤ℤ i → IsInPart size i k z t → ⊥) → ArePartLists size m k z lists → count_in (end_to_end lists) t ≡ 0
+  parts_none : (z : Trapezoid) (m : ℤ) (lists : List (List Trapezoid)) → ((i : ℤ) → m ≤ℤ i → IsInPart size i k z t → ⊥)
+      → ArePartLists size m k z lists → count_in (end_to_end lists) t ≡ 0
   parts_none z m [] none p = omega arith
   parts_none z m (x ∷ lists) none p =
       let first = p.0.covers.never t (none m (omega (arith, ints))) in
@@ -28,13 +29,16 @@ module _ (size k : ℤ) (sized : IsFieldSize size) (t : Tile) where
       omega (arith, count_in-append x (end_to_end lists) t, first, rest)
 
   -- one in one of the fields is in one piece
-  parts_one : (z : Trapezoid) (m : ℤ) (lists : List (List Trapezoid)) → IsInTrapezoid z t → IsInStretch size k t.j → (m *ℤ size) ≤ℤ t.i → t.i <ℤ ((m +ℤ pos (length lists)) *ℤ size)
+  parts_one : (z : Trapezoid) (m : ℤ) (lists : List (List Trapezoid)) → IsInTrapezoid z t → IsInStretch size k t.j
+      → (m *ℤ size) ≤ℤ t.i → t.i <ℤ ((m +ℤ pos (length lists)) *ℤ size)
       → ArePartLists size m k z lists → count_in (end_to_end lists) t ≡ 1
   parts_one z m [] h r low high p = let up = multiples (m +ℤ pos 0) m size some_size (omega (arith, ints)) in absurd (omega (arith, ints, low, high, up))
   parts_one z m (x ∷ lists) h r low high p =
       by_lt_z t.i ((m +ℤ pos 1) *ℤ size)
       (λ here. (let first = p.0.covers.once t (record { inside = h; field = record { column = record { from = low; below = here }; row = r } }) in
-      let rest = parts_none z (m +ℤ pos 1) lists (λ i le inside. (let up = multiples (m +ℤ pos 1) i size some_size le in let from = inside.field.column.from in omega (arith, ints, up, from, here))) p.1 in
+      let rest = parts_none z (m +ℤ pos 1) lists
+      (λ i le inside. (let up = multiples (m +ℤ pos 1) i size some_size le in let from =
+      inside.field.column.from in omega (arith, ints, up, from, here))) p.1 in
       omega (arith, count_in-append x (end_to_end lists) t, first, rest)))
       (λ further. (let first = p.0.covers.never t (λ inside. (let below = inside.field.column.below in omega (arith, ints, below, further))) in
       let up = multiples (m +ℤ pos (length (x ∷ lists))) ((m +ℤ pos 1) +ℤ pos (length lists)) size some_size (omega (arith, ints)) in
@@ -47,7 +51,8 @@ module _ (size k : ℤ) (sized : IsFieldSize size) (t : Tile) where
   split_out : (z : Trapezoid) (pieces : List Trapezoid) → IsSplit size k z pieces → ((i : ℤ) → IsInPart size i k z t → ⊥) → count_in pieces t ≡ 0
   split_out z pieces p none = ap (λ (xs : List Trapezoid). count_in xs t) p.is ∙ parts_none z p.first p.lists (λ i le h. none i h) p.parts
 
-  counted_more : (z : Trapezoid) (shots pieces rest : List Trapezoid) (b : Bool) → trapezoid_has t z ≡ b → IsInStretch size k t.j → IsSplit size k z pieces → count_in rest t ≡ count_in shots t
+  counted_more : (z : Trapezoid) (shots pieces rest : List Trapezoid) (b : Bool) → trapezoid_has t z ≡ b
+      → IsInStretch size k t.j → IsSplit size k z pieces → count_in rest t ≡ count_in shots t
       → count_in (pieces ++ rest) t ≡ count_in (z ∷ shots) t
   counted_more z shots pieces rest true e r p h =
       let inside = has_in t z e in
@@ -56,7 +61,8 @@ module _ (size k : ℤ) (sized : IsFieldSize size) (t : Tile) where
       let out = none_of t z e in
       omega (arith, count_in-append pieces rest t, split_out z pieces p (λ i inside. out inside.inside), counted_out t z shots out, h)
 
-  lists_counted : (shots : List Trapezoid) (lists : List (List Trapezoid)) → IsInStretch size k t.j → AllZip (IsSplit size k) shots lists → count_in (end_to_end lists) t ≡ count_in shots t
+  lists_counted : (shots : List Trapezoid) (lists : List (List Trapezoid)) → IsInStretch size k t.j
+      → AllZip (IsSplit size k) shots lists → count_in (end_to_end lists) t ≡ count_in shots t
   lists_counted [] [] r p = refl
   lists_counted [] (x ∷ lists) r p = absurd p
   lists_counted (z ∷ shots) [] r p = absurd p
@@ -65,7 +71,8 @@ module _ (size k : ℤ) (sized : IsFieldSize size) (t : Tile) where
   pub stripe_counted : (shots pieces : List Trapezoid) → IsStripeList size k shots pieces → IsInStretch size k t.j → count_in pieces t ≡ count_in shots t
   stripe_counted shots pieces list r = ap (λ (xs : List Trapezoid). count_in xs t) list.is ∙ lists_counted shots list.lists r list.each
 
-  lists_none : (shots : List Trapezoid) (lists : List (List Trapezoid)) → (IsInStretch size k t.j → ⊥) → AllZip (IsSplit size k) shots lists → count_in (end_to_end lists) t ≡ 0
+  lists_none : (shots : List Trapezoid) (lists : List (List Trapezoid)) → (IsInStretch size k t.j → ⊥)
+      → AllZip (IsSplit size k) shots lists → count_in (end_to_end lists) t ≡ 0
   lists_none [] [] out p = omega arith
   lists_none [] (x ∷ lists) out p = absurd p
   lists_none (z ∷ shots) [] out p = absurd p
@@ -81,18 +88,30 @@ module _ (size : ℤ) (sized : IsFieldSize size) (t : Tile) where
   size_some : pos 0 <ℤ size
   size_some = omega (arith, ints, sized.least)
 
-  stripes_none : (shots : List Trapezoid) (k : ℤ) (lists : List (List Trapezoid)) → ((i : ℤ) → k ≤ℤ i → IsInStretch size i t.j → ⊥) → AreStripeLists size k shots lists → count_in (end_to_end lists) t ≡ 0
+  stripes_none : (shots : List Trapezoid) (k : ℤ) (lists : List (List Trapezoid))
+      → ((i : ℤ) → k ≤ℤ i → IsInStretch size i t.j → ⊥) → AreStripeLists size k shots lists
+      → count_in (end_to_end lists) t ≡ 0
   stripes_none shots k [] out p = omega arith
   stripes_none shots k (x ∷ lists) out p =
-      omega (arith, count_in-append x (end_to_end lists) t, stripe_none size k sized t shots x p.0 (out k (omega (arith, ints))), stripes_none shots (k +ℤ pos 1) lists (λ i h. out i (omega (arith, ints, h))) p.1)
+      omega (
+        arith,
+        count_in-append x (end_to_end lists) t,
+        stripe_none size k sized t shots x p.0
+            (out k (omega (arith, ints))),
+        stripes_none shots (k +ℤ pos 1) lists
+            (λ i h. out i (omega (arith, ints, h))) p.1,
+      )
 
-  stripes_one : (shots : List Trapezoid) (k : ℤ) (lists : List (List Trapezoid)) → (k *ℤ size) ≤ℤ t.j → t.j <ℤ ((k +ℤ pos (length lists)) *ℤ size) → AreStripeLists size k shots lists
+  stripes_one : (shots : List Trapezoid) (k : ℤ) (lists : List (List Trapezoid)) → (k *ℤ size) ≤ℤ t.j
+      → t.j <ℤ ((k +ℤ pos (length lists)) *ℤ size) → AreStripeLists size k shots lists
       → count_in (end_to_end lists) t ≡ count_in shots t
   stripes_one shots k [] low high p = let up = multiples (k +ℤ pos 0) k size size_some (omega (arith, ints)) in absurd (omega (arith, ints, low, high, up))
   stripes_one shots k (x ∷ lists) low high p =
       by_lt_z t.j ((k +ℤ pos 1) *ℤ size)
       (λ here. (let first = stripe_counted size k sized t shots x p.0 (record { from = low; below = here }) in
-      let rest = stripes_none shots (k +ℤ pos 1) lists (λ i le r. (let up = multiples (k +ℤ pos 1) i size size_some le in let from = r.from in omega (arith, ints, up, from, here))) p.1 in
+      let rest = stripes_none shots (k +ℤ pos 1) lists
+      (λ i le r. (let up = multiples (k +ℤ pos 1) i size size_some le in let from = r.from in omega
+      (arith, ints, up, from, here))) p.1 in
       omega (arith, count_in-append x (end_to_end lists) t, first, rest)))
       (λ further. (let first = stripe_none size k sized t shots x p.0 (λ r. (let below = r.below in omega (arith, ints, below, further))) in
       let up = multiples (k +ℤ pos (length (x ∷ lists))) ((k +ℤ pos 1) +ℤ pos (length lists)) size size_some (omega (arith, ints)) in
@@ -100,7 +119,9 @@ module _ (size : ℤ) (sized : IsFieldSize size) (t : Tile) where
       omega (arith, count_in-append x (end_to_end lists) t, first, rest)))
 
   -- a tile above all stripes is in no piece
-  stripes_past : (shots : List Trapezoid) (k : ℤ) (lists : List (List Trapezoid)) → ((k +ℤ pos (length lists)) *ℤ size) ≤ℤ t.j → AreStripeLists size k shots lists → count_in (end_to_end lists) t ≡ 0
+  stripes_past : (shots : List Trapezoid) (k : ℤ) (lists : List (List Trapezoid))
+      → ((k +ℤ pos (length lists)) *ℤ size) ≤ℤ t.j → AreStripeLists size k shots lists
+      → count_in (end_to_end lists) t ≡ 0
   stripes_past shots k [] high p = omega arith
   stripes_past shots k (x ∷ lists) high p =
       let up = multiples (k +ℤ pos 1) (k +ℤ pos (length (x ∷ lists))) size size_some (omega (arith, ints)) in
@@ -109,20 +130,24 @@ module _ (size : ℤ) (sized : IsFieldSize size) (t : Tile) where
       omega (arith, count_in-append x (end_to_end lists) t, first, stripes_past shots (k +ℤ pos 1) lists (omega (arith, ints, high, next)) p.1)
 
   -- a tile outside of all stripes is in no shot
-  none_outside : (first last : ℤ) (shots : List Trapezoid) → All (IsWithinStripes size first last) shots → (((first *ℤ size) ≤ℤ t.j) → (t.j <ℤ ((last +ℤ pos 1) *ℤ size)) → ⊥) → count_in shots t ≡ 0
+  none_outside : (first last : ℤ) (shots : List Trapezoid) → All (IsWithinStripes size first last) shots
+      → (((first *ℤ size) ≤ℤ t.j) → (t.j <ℤ ((last +ℤ pos 1) *ℤ size)) → ⊥) → count_in shots t ≡ 0
   none_outside first last [] h out = omega arith
   none_outside first last (z ∷ shots) h out =
       let one = All-head (IsWithinStripes size first last) z shots h in
       counted_out t z shots (λ i. out (omega (arith, ints, i.above_bottom, one.low)) (omega (arith, ints, i.below_top, one.high)))
       ∙ none_outside first last shots (All-tail (IsWithinStripes size first last) z shots h) out
 
-  pub all_counted : (first last : ℤ) (shots : List Trapezoid) (lists : List (List Trapezoid)) → All (IsWithinStripes size first last) shots → AreStripeLists size first shots lists
+  pub all_counted : (first last : ℤ) (shots : List Trapezoid) (lists : List (List Trapezoid))
+      → All (IsWithinStripes size first last) shots → AreStripeLists size first shots lists
       → (first +ℤ pos (length lists)) ≡ (last +ℤ pos 1) → count_in (end_to_end lists) t ≡ count_in shots t
   all_counted first last shots lists within p e =
       let top : ((first +ℤ pos (length lists)) *ℤ size) ≡ ((last +ℤ pos 1) *ℤ size) = ap (λ (m : ℤ). m *ℤ size) e in
       by_lt_z t.j (first *ℤ size)
       (λ below. (let none = none_outside first last shots within (λ a b. omega (arith, ints, a, below)) in
-      let pieces = stripes_none shots first lists (λ i le r. (let up = multiples first i size size_some le in let from = r.from in omega (arith, ints, up, from, below))) p in
+      let pieces = stripes_none shots first lists
+      (λ i le r. (let up = multiples first i size size_some le in let from = r.from in omega
+      (arith, ints, up, from, below))) p in
       omega (arith, none, pieces)))
       (λ from. by_lt_z t.j ((last +ℤ pos 1) *ℤ size)
       (λ below. stripes_one shots first lists from (omega (arith, ints, below, top)) p)

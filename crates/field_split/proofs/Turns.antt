@@ -76,11 +76,20 @@ module _ (range : Rows) (x j k : ℤ) (hj : IsRow range j) (hk : IsRow range k) 
   stays_right l o h = elim o.side [ inl s ↦ right_below l s.0 s.1 h | inr s ↦ right_from l s.0 s.1 h ]
 
   -- past the turn it has changed sides
-  pub turned : (l : Line) → j <ℤ turn l x range → turn l x range ≤ℤ k → ((place l j <ℤ twice x) × (twice x <ℤ place l k)) ⊎ ((twice x <ℤ place l j) × (place l k <ℤ twice x))
+  pub turned : (l : Line) → j <ℤ turn l x range → turn l x range ≤ℤ k
+      → ((place l j <ℤ twice x) × (twice x <ℤ place l k)) ⊎ ((twice x <ℤ place l j) × (place l k <ℤ twice x))
   unfolding turn
   turned (Upright c) a b = absurd (omega (arith, ints, clamps, a, hj.from, hj.below))
-  turned (Rising c) a b = inl (omega (arith, ints, clamps, a, b, hj.from, hj.below, hk.from, hk.below), omega (arith, ints, clamps, a, b, hj.from, hj.below, hk.from, hk.below))
-  turned (Falling c) a b = inr (omega (arith, ints, clamps, a, b, hj.from, hj.below, hk.from, hk.below), omega (arith, ints, clamps, a, b, hj.from, hj.below, hk.from, hk.below))
+  turned (Rising c) a b = inl (
+    omega (arith, ints, clamps, a, b, hj.from, hj.below, hk.from, hk.below),
+    omega
+        (arith, ints, clamps, a, b, hj.from, hj.below, hk.from, hk.below),
+  )
+  turned (Falling c) a b = inr (
+    omega (arith, ints, clamps, a, b, hj.from, hj.below, hk.from, hk.below),
+    omega
+        (arith, ints, clamps, a, b, hj.from, hj.below, hk.from, hk.below),
+  )
 
 -- ---- the rows in which a line lies left or right of an upright one
 

@@ -4,7 +4,8 @@
 -- right line right of the first. Up these rows its left side changes at most once, from its own line to the first of the
 -- two or back, where it meets it; so does its right side with the second. A line of the half grid meets an upright one at
 -- a whole Y. So there are at most three pieces, each of whole rows and between two lines.
-use Rattle.std.specs.Prelude.{ℕ, zero, suc, ℤ, pos, negsuc, ◌+ℤ◌, ◌-ℤ◌, ◌*ℤ◌, ◌≤ℤ◌, ◌<ℤ◌, ◌*◌, ◌^◌, neg_ℤ, if◌then◌else◌, int_lt, List, [], ◌++◌, Option, None, Some, flat_map}
+use Rattle.std.specs.Prelude.{ℕ, zero, suc, ℤ, pos, negsuc, ◌+ℤ◌, ◌-ℤ◌, ◌*ℤ◌, ◌≤ℤ◌, ◌<ℤ◌, ◌*◌, ◌^◌, neg_ℤ}
+use Rattle.std.specs.Prelude.{if◌then◌else◌, int_lt, List, [], ◌++◌, Option, None, Some, flat_map}
 use Rattle.std.specs.Int.{int_min, int_max, int_div_euclid}
 use Rattle.std.specs.Option.{option_to_list}
 use Rattle.half_grid.specs.Halves.{twice}

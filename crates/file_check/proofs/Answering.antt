@@ -1,6 +1,8 @@
 -- From the answer to shots to that to bytes, and from files to more files.
 use Rattle.std.proofs.lemmas.Int.{ints, by_lt_z}
-use Rattle.std.proofs.Common.{pos, ◌≡◌, ◌≢◌, ℕ, ◌+◌, ◌<◌, List, [], ◌∷◌, ◌++◌, length, length-append, Option, Some, None, Result, Ok, Err, IfOk, IsSomeAnd, slice_get, slice_index_or, refl, sym, ap, ◌∙◌, arith}
+use Rattle.std.proofs.Common.{pos, ◌≡◌, ◌≢◌, ℕ, ◌+◌, ◌<◌, List, [], ◌∷◌, ◌++◌, length, length-append, Option, Some}
+use Rattle.std.proofs.Common.{None, Result, Ok, Err, IfOk, IsSomeAnd, slice_get, slice_index_or, refl, sym, ap, ◌∙◌}
+use Rattle.std.proofs.Common.{arith}
 use Rattle.std.proofs.lemmas.Option.{slice_get_within, get_or_from_slice_get, slice_get-get_or}
 use Rattle.std.proofs.lemmas.List.{get_or_push, get_or_append_left}
 use mathlib.Core.Logic.{inl, inr}
@@ -13,7 +15,8 @@ use Rattle.shot_reader.specs.declared.refusing.ShotBad.{ShotBad}
 use Rattle.shot_reader.specs.declared.refusing.ShotBad.TheVariants.{Head, Record, Spelling, Illegal, End, NoMemory as Wanting}
 use Rattle.shot_writer.specs.declared.parts.Sums.{Sums}
 use Rattle.file_check.specs.Certificates.{IsCertified}
-use Rattle.file_check.specs.Files.{Holds, HasHeadOf, IsTextOf, AreSumsOf, IsExactText, IsExactFile, IsFaultOf, IsFileFault, OfOutput, AreExactFiles, IsFirstFileFault}
+use Rattle.file_check.specs.Files.{Holds, HasHeadOf, IsTextOf, AreSumsOf, IsExactText, IsExactFile, IsFaultOf}
+use Rattle.file_check.specs.Files.{IsFileFault, OfOutput, AreExactFiles, IsFirstFileFault}
 use Rattle.file_check.specs.Judgements.{data_of, IsShotsFault, IsBytesFault}
 use Rattle.file_check.specs.declared.faults.CheckFault.{CheckFault}
 use Rattle.file_check.specs.declared.faults.CheckFault.TheVariants as faults
@@ -25,20 +28,28 @@ both_ok (Ok x) P Q R f p q = f x p q
 both_ok (Err e) P Q R f p q = tt
 
 pub refused_bytes : (p : Planned) (k : ℕ) (output : Output) (bytes : List ℕ) (bad : ShotBad) (answer : CheckBad)
-    → (bad ≢ Wanting → answer ≡ answers.Refused k (faults.Bad bad)) → (bad ≡ Wanting → answer ≡ answers.NoMemory) → (bad ≢ Wanting → IsFirstFault bytes bad) → IsBytesFault p k output bytes answer
-refused_bytes p k output bytes (Head at) answer real wanting fault = let no : Head at ≢ Wanting = λ e. (let clash : ⊥ = cc in clash) in rw (real no) (refl, no, fault no)
-refused_bytes p k output bytes (Record at) answer real wanting fault = let no : Record at ≢ Wanting = λ e. (let clash : ⊥ = cc in clash) in rw (real no) (refl, no, fault no)
-refused_bytes p k output bytes (Spelling at) answer real wanting fault = let no : Spelling at ≢ Wanting = λ e. (let clash : ⊥ = cc in clash) in rw (real no) (refl, no, fault no)
-refused_bytes p k output bytes (Illegal at) answer real wanting fault = let no : Illegal at ≢ Wanting = λ e. (let clash : ⊥ = cc in clash) in rw (real no) (refl, no, fault no)
-refused_bytes p k output bytes (End at) answer real wanting fault = let no : End at ≢ Wanting = λ e. (let clash : ⊥ = cc in clash) in rw (real no) (refl, no, fault no)
+    → (bad ≢ Wanting → answer ≡ answers.Refused k (faults.Bad bad)) → (bad ≡ Wanting → answer ≡ answers.NoMemory)
+    → (bad ≢ Wanting → IsFirstFault bytes bad) → IsBytesFault p k output bytes answer
+refused_bytes p k output bytes (Head at) answer real wanting fault = let no : Head at ≢ Wanting = λ e.
+    (let clash : ⊥ = cc in clash) in rw (real no) (refl, no, fault no)
+refused_bytes p k output bytes (Record at) answer real wanting fault = let no : Record at ≢ Wanting = λ e.
+    (let clash : ⊥ = cc in clash) in rw (real no) (refl, no, fault no)
+refused_bytes p k output bytes (Spelling at) answer real wanting fault = let no : Spelling at ≢ Wanting = λ e.
+    (let clash : ⊥ = cc in clash) in rw (real no) (refl, no, fault no)
+refused_bytes p k output bytes (Illegal at) answer real wanting fault = let no : Illegal at ≢ Wanting = λ e.
+    (let clash : ⊥ = cc in clash) in rw (real no) (refl, no, fault no)
+refused_bytes p k output bytes (End at) answer real wanting fault = let no : End at ≢ Wanting = λ e.
+    (let clash : ⊥ = cc in clash) in rw (real no) (refl, no, fault no)
 refused_bytes p k output bytes Wanting answer real wanting fault = rw (wanting refl) tt
 
-module _ (p : Planned) (k : ℕ) (output : Output) (bytes : List ℕ) (file : ShotFile) (text : IsTextOf bytes (data_of file)) (head : HasHeadOf p.deck output (data_of file)) where
+module _ (p : Planned) (k : ℕ) (output : Output) (bytes : List ℕ) (file : ShotFile)
+    (text : IsTextOf bytes (data_of file)) (head : HasHeadOf p.deck output (data_of file)) where
   pub bytes_fault : (bad : CheckBad) → IsShotsFault p k file.shots bad → IsBytesFault p k output bytes bad
   bytes_fault (answers.Refused place faults.Long) h = h
   bytes_fault (answers.Refused place (faults.Bad bad)) h = absurd h
   bytes_fault (answers.Refused place faults.Head) h = absurd h
-  bytes_fault (answers.Refused place (faults.Verdict verdict)) h = (h.0, record { s = data_of file; text = text; head = head; not_exact = h.1; verdict_is = h.2 })
+  bytes_fault (answers.Refused place (faults.Verdict verdict)) h =
+      (h.0, record { s = data_of file; text = text; head = head; not_exact = h.1; verdict_is = h.2 })
   bytes_fault answers.ReadFault h = h
   bytes_fault answers.NoMemory h = tt
 
@@ -70,15 +81,19 @@ exact_before p k before now sums e h =
     output_weaker (slice_get p.deck.outputs k) (λ output. IsExactFile p k output now sums) (λ output. IsExactFile p k output before sums)
     (λ output file. (file.0, holds_before before now output.file file.0 e file.1, file.2)) h
 
-cause_before : (p : Planned) (k : ℕ) (output : Output) (before now : Content) (fault : CheckFault) → ChangesLeftOnly before now → IsFaultOf p k output now fault → IsFaultOf p k output before fault
+cause_before : (p : Planned) (k : ℕ) (output : Output) (before now : Content) (fault : CheckFault)
+    → ChangesLeftOnly before now → IsFaultOf p k output now fault → IsFaultOf p k output before fault
 cause_before p k output before now faults.Long e h = longer_before before now output.file e h
 cause_before p k output before now (faults.Bad bad) e h = (h.0, holds_before before now output.file h.0 e h.1, h.2, h.3)
 cause_before p k output before now faults.Head e h = (h.0, holds_before before now output.file h.0 e h.1, h.2)
 cause_before p k output before now (faults.Verdict verdict) e h = (h.0, holds_before before now output.file h.0 e h.1, h.2)
 
-file_before : (p : Planned) (k : ℕ) (output : Output) (before now : Content) (old new : Type 0) (bad : CheckBad) → ChangesLeftOnly before now → (old → new) → IsFileFault p k output now old bad → IsFileFault p k output before new bad
+file_before : (p : Planned) (k : ℕ) (output : Output) (before now : Content) (old new : Type 0) (bad : CheckBad)
+    → ChangesLeftOnly before now → (old → new) → IsFileFault p k output now old bad
+    → IsFileFault p k output before new bad
 file_before p k output before now old new (answers.Refused place fault) e f h = (h.0, cause_before p k output before now fault e h.1)
-file_before p k output before now old new answers.ReadFault e f h = elim h [ inl rose ↦ inl (f rose) | inr missing ↦ inr (missing_before before now output.file e missing) ]
+file_before p k output before now old new answers.ReadFault e f h =
+    elim h [ inl rose ↦ inl (f rose) | inr missing ↦ inr (missing_before before now output.file e missing) ]
 file_before p k output before now old new answers.NoMemory e f h = tt
 
 pub fault_before : (p : Planned) (k : ℕ) (before now : Content) (old new : Type 0) (bad : CheckBad) → ChangesLeftOnly before now → (old → new)
@@ -87,10 +102,12 @@ fault_before p k before now old new bad e f h =
     output_weaker (slice_get p.deck.outputs k) (λ output. IsFileFault p k output now old bad) (λ output. IsFileFault p k output before new bad)
     (λ output. file_before p k output before now old new bad e f) h
 
-pub files_before : (p : Planned) (n : ℕ) (before now : Content) (sums : List Sums) → ChangesLeftOnly before now → AreExactFiles p now n sums → AreExactFiles p before n sums
+pub files_before : (p : Planned) (n : ℕ) (before now : Content) (sums : List Sums) → ChangesLeftOnly before now
+    → AreExactFiles p now n sums → AreExactFiles p before n sums
 files_before p n before now sums e h = record { count = h.count; each = λ k sum at. exact_before p k before now sum e (h.each k sum at) }
 
-pub first_before : (p : Planned) (before now : Content) (old new : Type 0) (bad : CheckBad) → ChangesLeftOnly before now → (old → new) → IsFirstFileFault p now old bad → IsFirstFileFault p before new bad
+pub first_before : (p : Planned) (before now : Content) (old new : Type 0) (bad : CheckBad)
+    → ChangesLeftOnly before now → (old → new) → IsFirstFileFault p now old bad → IsFirstFileFault p before new bad
 first_before p before now old new bad e f h = record {
   place = h.place;
   sums = h.sums;
@@ -105,7 +122,9 @@ pub counted : (sums after : List Sums) (sum : Sums) (n : ℕ) → after ≡ sums
 counted sums after sum n pushed count = let lengths = length-append sums (sum ∷ []) in rw pushed (omega (arith, lengths, count))
 
 -- one file more
-pub one_file_more : (p : Planned) (c : Content) (n : ℕ) (sums after : List Sums) (sum : Sums) → AreExactFiles p c n sums → OfOutput p n (λ output. IsExactFile p n output c sum) → after ≡ sums ++ sum ∷ [] → AreExactFiles p c (n + 1) after
+pub one_file_more : (p : Planned) (c : Content) (n : ℕ) (sums after : List Sums) (sum : Sums)
+    → AreExactFiles p c n sums → OfOutput p n (λ output. IsExactFile p n output c sum) → after ≡ sums ++ sum ∷ []
+    → AreExactFiles p c (n + 1) after
 one_file_more p c n sums after sum h own pushed =
     let lengths = length-append sums (sum ∷ []) in
     let count = h.count in
@@ -116,15 +135,18 @@ one_file_more p c n sums after sum h own pushed =
   where
     last : (k : ℕ) (other : Sums) → slice_get (sums ++ sum ∷ []) k ≡ Some other → k ≡ n → OfOutput p k (λ output. IsExactFile p k output c other)
     last k other at e =
-        let is : sum ≡ other = sym (get_or_push sums sum other k (let count = h.count in omega (arith, count, e))) ∙ get_or_from_slice_get (sums ++ sum ∷ []) k other other at in
+        let is : sum ≡ other = sym (get_or_push sums sum other k (let count = h.count in omega (arith, count, e)))
+        ∙ get_or_from_slice_get (sums ++ sum ∷ []) k other other at in
         rw (e, ← is) own
 
     earlier : (k : ℕ) (other : Sums) → slice_get (sums ++ sum ∷ []) k ≡ Some other → k < length sums → OfOutput p k (λ output. IsExactFile p k output c other)
     earlier k other at lt =
-        let is : slice_index_or sums k other ≡ other = sym (get_or_append_left sums (sum ∷ []) other k lt) ∙ get_or_from_slice_get (sums ++ sum ∷ []) k other other at in
+        let is : slice_index_or sums k other ≡ other = sym (get_or_append_left sums (sum ∷ []) other k lt)
+        ∙ get_or_from_slice_get (sums ++ sum ∷ []) k other other at in
         h.each k other (slice_get-get_or sums k other lt ∙ ap Some is)
 
-    by_place : (k : ℕ) (other : Sums) → slice_get (sums ++ sum ∷ []) k ≡ Some other → k < length (sums ++ sum ∷ []) → OfOutput p k (λ output. IsExactFile p k output c other)
+    by_place : (k : ℕ) (other : Sums) → slice_get (sums ++ sum ∷ []) k ≡ Some other → k < length (sums ++ sum ∷ [])
+        → OfOutput p k (λ output. IsExactFile p k output c other)
     by_place k other at within =
         by_lt_z (pos k) (pos n)
         (λ lt. earlier k other at (let count = h.count in omega (arith, ints, lt, count)))

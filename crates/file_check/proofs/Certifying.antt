@@ -36,7 +36,8 @@ one_tile t u a b =
       ]
     ]
 
-pub one_fault : (area : Tile → Type 0) (shots : List Trapezoid) (t u : Tile) (m n x y : ℕ) → IsFirstFault area shots t m n → IsFirstFault area shots u x y → Miscovered t m n ≡ Miscovered u x y
+pub one_fault : (area : Tile → Type 0) (shots : List Trapezoid) (t u : Tile) (m n x y : ℕ)
+    → IsFirstFault area shots t m n → IsFirstFault area shots u x y → Miscovered t m n ≡ Miscovered u x y
 one_fault area shots t u m n x y a b =
     let e : t ≡ u = one_tile t u (a.first u b.miscovered) (b.first t a.miscovered) in
     let count : m ≡ x = a.count_is ∙ ap (count_in shots) e ∙ sym b.count_is in
@@ -49,7 +50,8 @@ not_covered area shots t m n a covers = a.miscovered (record { once = covers.onc
 pub not_all_fit : (limits : Limits) (shots : List Trapezoid) (k : ℕ) → IsFirstTooLarge shots limits k → All (Fits limits) shots → ⊥
 not_all_fit limits shots k first fit =
     let within = slice_get_within shots k first.shot first.at in
-    first.too_large (subst (Fits limits) (get_or_from_slice_get shots k first.shot first.shot first.at) (All-get_or (Fits limits) shots k first.shot within fit))
+    first.too_large (subst (Fits limits) (get_or_from_slice_get shots k first.shot first.shot first.at)
+    (All-get_or (Fits limits) shots k first.shot within fit))
 
 module _ (p : Planned) (k : ℕ) (shots : List Trapezoid) where
   abbrev Says : Verdict → Type 0

@@ -1,6 +1,7 @@
 -- What the file of an output is falls into classes, of which just one holds. So just one file is the first that isn't
 -- exact.
-use Rattle.std.proofs.Common.{pos, ◌≡◌, ◌≢◌, ◌⊎◌, inl, inr, ℕ, ◌<◌, List, length, Option, Some, None, IsSomeAnd, slice_get, get_or, refl, sym, ap, subst, ◌∙◌, arith}
+use Rattle.std.proofs.Common.{pos, ◌≡◌, ◌≢◌, ◌⊎◌, inl, inr, ℕ, ◌<◌, List, length, Option, Some, None, IsSomeAnd}
+use Rattle.std.proofs.Common.{slice_get, get_or, refl, sym, ap, subst, ◌∙◌, arith}
 use Rattle.std.proofs.lemmas.Int.{ints, by_lt_z}
 use Rattle.std.proofs.lemmas.Option.{none-some, same_Some, slice_get-get_or, slice_get_within}
 use Rattle.half_grid.specs.Trapezoids.{Trapezoid}
@@ -19,7 +20,8 @@ use Rattle.shot_checker.specs.declared.verdicts.Verdict.{Verdict}
 use Rattle.shot_checker.specs.declared.verdicts.Verdict.TheVariants.{Exact, Miscovered, TooLarge}
 use Rattle.file_check.specs.Certificates.{area_of}
 use Rattle.file_check.proofs.Certifying.{one_fault as one_miscover, not_covered, not_all_fit}
-use Rattle.file_check.specs.Files.{ShotData, IsTextOf, HasHeadOf, IsVerdictOn, HasOtherHead, Holds, IsExactFile, IsFaultOf, OfOutput, AreExactFiles, IsFileFault, IsFirstFileFault}
+use Rattle.file_check.specs.Files.{ShotData, IsTextOf, HasHeadOf, IsVerdictOn, HasOtherHead, Holds, IsExactFile}
+use Rattle.file_check.specs.Files.{IsFaultOf, OfOutput, AreExactFiles, IsFileFault, IsFirstFileFault}
 use Rattle.file_check.specs.declared.faults.CheckFault.{CheckFault}
 use Rattle.file_check.specs.declared.faults.CheckFault.TheVariants as faults
 use Rattle.file_check.specs.declared.faults.CheckBad.TheVariants as answers
@@ -209,8 +211,12 @@ module _ (p : Planned) (c : Content) where
       (λ le. by_lt_z (pos j) (pos i)
       (λ lt. absurd (not_before i j y h.before g (omega (arith, ints, lt))))
       (λ ge. (let same : i ≡ j = omega (arith, ints, le, ge) in
-      let output : h.output ≡ g.output = same_Some h.output g.output (sym h.at ∙ (ap (slice_get p.deck.outputs) same ∙ g.at)) in
-      (same, one_class p j g.output c x y (subst (λ (k : ℕ). IsClass p k g.output c x) same (subst (λ (o : Output). IsClass p i o c x) output h.class)) g.class))))
+      let output : h.output ≡ g.output = same_Some h.output g.output (sym h.at ∙ (ap (slice_get p.deck.outputs) same ∙ g.at)) in (
+        same,
+        one_class p j g.output c x y
+            (subst (λ (k : ℕ). IsClass p k g.output c x) same (subst (λ (o : Output). IsClass p i o c x) output h.class))
+            g.class,
+      ))))
 
   at_output : (k : ℕ) (output : Output) (holds : Output → Type 0) → slice_get p.deck.outputs k ≡ Some output → OfOutput p k holds → holds output
   at_output k output holds at h = subst (λ (o : Option Output). IsSomeAnd o holds) at h
@@ -228,7 +234,8 @@ module _ (p : Planned) (c : Content) where
   all_classes n sums h k output less at = let file = file_of_place n sums h k output less at in exact_class p k output c file.0 file.2
 
   -- the output of a place of which something holds
-  found : (k : ℕ) (o : Option Output) (holds : Output → Type 0) → slice_get p.deck.outputs k ≡ o → IsSomeAnd o holds → (output : Output) × (slice_get p.deck.outputs k ≡ Some output) × holds output
+  found : (k : ℕ) (o : Option Output) (holds : Output → Type 0) → slice_get p.deck.outputs k ≡ o → IsSomeAnd o holds
+      → (output : Output) × (slice_get p.deck.outputs k ≡ Some output) × holds output
   found k (Some output) holds at h = (output, at, h)
   found k None holds at h = absurd h
 
@@ -240,12 +247,15 @@ module _ (p : Planned) (c : Content) where
     pub at : slice_get p.deck.outputs place ≡ Some output
     pub fault_is : IsFaultOf p place output c fault
 
-  pub refused_file : (read_rose : Type 0) (place : ℕ) (fault : CheckFault) → IsFirstFileFault p c read_rose (answers.Refused place fault) → RefusedFile place fault
+  pub refused_file : (read_rose : Type 0) (place : ℕ) (fault : CheckFault)
+      → IsFirstFileFault p c read_rose (answers.Refused place fault) → RefusedFile place fault
   refused_file read_rose place fault h =
-      let f = found h.place (slice_get p.deck.outputs h.place) (λ output. IsFileFault p h.place output c read_rose (answers.Refused place fault)) refl h.fault in
+      let f = found h.place (slice_get p.deck.outputs h.place)
+      (λ output. IsFileFault p h.place output c read_rose (answers.Refused place fault)) refl h.fault in
       subst (λ (k : ℕ). RefusedFile k fault) (sym f.2.0) (record { sums = h.sums; before = h.before; output = f.0; at = f.1; fault_is = f.2.1 })
 
-  pub fault_first : (read_rose : Type 0) (place : ℕ) (fault : CheckFault) → IsFirstFileFault p c read_rose (answers.Refused place fault) → IsFirstAt p c place (class_of fault)
+  pub fault_first : (read_rose : Type 0) (place : ℕ) (fault : CheckFault)
+      → IsFirstFileFault p c read_rose (answers.Refused place fault) → IsFirstAt p c place (class_of fault)
   fault_first read_rose place fault h =
       let f = refused_file read_rose place fault h in
       let class = fault_class p place f.output c fault f.fault_is in
@@ -269,4 +279,11 @@ module _ (p : Planned) (c : Content) where
       ]
 
   pub missing_first : (m : MissingFile) → IsFirstAt p c m.place Missing
-  missing_first m = record { before = all_classes m.place m.sums m.before; output = m.output; at = m.at; class = m.missing; not_exact = λ e. let no : ⊥ = cc in no }
+  missing_first m = record {
+    before = all_classes m.place m.sums m.before;
+    output = m.output;
+    at = m.at;
+    class =
+        m.missing;
+    not_exact = λ e. let no : ⊥ = cc in no;
+  }

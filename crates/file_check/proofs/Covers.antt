@@ -16,11 +16,14 @@ use Rattle.file_check.specs.Fronts.{BottomsAscend, IsFrontAt}
 use Rattle.file_check.proofs.FaultLemmas.{AgreesBelow, IsPartOf, no_fault, a_fault, nothing_below, nothing_above, agrees_at_first, covers_all}
 
 -- before the first window all shots come later
-pub first_front : (shots sorted meeting later : List Trapezoid) (y : ℤ) → meeting ≡ [] → later ≡ sorted → ((t : Tile) → count_in sorted t ≡ count_in shots t) → BottomsAscend sorted → IsFrontAt shots y meeting later
-first_front shots sorted meeting later y none is counts ascend = record { ascend = rw is ascend; counts = λ t le. (let n = counts t in rw (none, is) (omega (arith, n))) }
+pub first_front : (shots sorted meeting later : List Trapezoid) (y : ℤ) → meeting ≡ [] → later ≡ sorted
+    → ((t : Tile) → count_in sorted t ≡ count_in shots t) → BottomsAscend sorted → IsFrontAt shots y meeting later
+first_front shots sorted meeting later y none is counts ascend =
+    record { ascend = rw is ascend; counts = λ t le. (let n = counts t in rw (none, is) (omega (arith, n))) }
 
 -- a band of a deck may be asked for
-pub is_band : (window : RowRange) (rows : ℤ) → neg_ℤ (pos 4294967296) ≤ℤ window.y0 → window.y0 ≤ℤ pos 4294967296 → window.y1 ≡ window.y0 +ℤ rows → pos 1024 ≤ℤ rows → rows ≤ℤ pos 16777216 → IsAskedBand window
+pub is_band : (window : RowRange) (rows : ℤ) → neg_ℤ (pos 4294967296) ≤ℤ window.y0 → window.y0 ≤ℤ pos 4294967296
+    → window.y1 ≡ window.y0 +ℤ rows → pos 1024 ≤ℤ rows → rows ≤ℤ pos 16777216 → IsAskedBand window
 is_band window rows low high height some few = record {
   is_band = record {
     low = record { low = omega (arith, ints, low); high = omega (arith, ints, high) };
@@ -38,7 +41,8 @@ fewer_rows (negsuc m) (negsuc n) lt some = absurd (omega (arith, ints, some))
 
 module _ (p : Planned) (k : ℕ) (shots : List Trapezoid) where
   -- the trapezoids of a band
-  pub part_of_band : (window : RowRange) (traps : List Trapezoid) → CoversExactly traps (IsInBand p.cells p.top p.deck k window) → IsPartOf (area_of p k) shots window traps
+  pub part_of_band : (window : RowRange) (traps : List Trapezoid)
+      → CoversExactly traps (IsInBand p.cells p.top p.deck k window) → IsPartOf (area_of p k) shots window traps
   part_of_band window traps covers t at = record {
     once = λ has. covers.once t (record { rows = record { from = at.from; below = at.below }; area = has });
     never = λ none. covers.never t (λ inside. none inside.area);
@@ -48,7 +52,8 @@ module _ (p : Planned) (k : ℕ) (shots : List Trapezoid) where
     inside_rows : (t : Tile) → area_of p k t → IsInRows rows t
     inside_rows t has = let at = inside t has in record { from = at.from; below = at.below }
 
-    module _ (window : RowRange) (bottom : ℤ) (is : window ≡ row_range (neg_ℤ (pos (2 ^ 44))) bottom) (under : bottom ≤ℤ rows.y0) (low : neg_ℤ (pos 2147483648) ≤ℤ rows.y0) (are : All IsShot shots) where
+    module _ (window : RowRange) (bottom : ℤ) (is : window ≡ row_range (neg_ℤ (pos (2 ^ 44))) bottom)
+        (under : bottom ≤ℤ rows.y0) (low : neg_ℤ (pos 2147483648) ≤ℤ rows.y0) (are : All IsShot shots) where
       first_agrees : AgreesBelow (area_of p k) shots window.y0
       first_agrees = rw is (agrees_at_first (area_of p k) shots rows inside_rows are low)
 
@@ -61,7 +66,9 @@ module _ (p : Planned) (k : ℕ) (shots : List Trapezoid) where
       pub first_none : CoversAlike shots [] window → AgreesBelow (area_of p k) shots window.y1
       first_none alike = no_fault (area_of p k) shots window.y0 window [] first_agrees refl first_part alike
 
-    module _ (window : RowRange) (bottom : ℤ) (is : window ≡ row_range bottom (pos (2 ^ 44))) (over : rows.y1 ≤ℤ bottom) (high : rows.y1 ≤ℤ pos 2147483648) (are : All IsShot shots) (below : AgreesBelow (area_of p k) shots bottom) where
+    module _ (window : RowRange) (bottom : ℤ) (is : window ≡ row_range bottom (pos (2 ^ 44)))
+        (over : rows.y1 ≤ℤ bottom) (high : rows.y1 ≤ℤ pos 2147483648) (are : All IsShot shots)
+        (below : AgreesBelow (area_of p k) shots bottom) where
       last_agrees : AgreesBelow (area_of p k) shots window.y0
       last_agrees = rw is below
 
@@ -76,10 +83,13 @@ module _ (p : Planned) (k : ℕ) (shots : List Trapezoid) where
           let all : AgreesBelow (area_of p k) shots window.y1 = no_fault (area_of p k) shots window.y0 window [] last_agrees refl last_part alike in
           covers_all (area_of p k) shots rows inside_rows are high (rw is at all)
 
-  pub band_fault : (window : RowRange) (traps : List Trapezoid) → AgreesBelow (area_of p k) shots window.y0 → CoversExactly traps (IsInBand p.cells p.top p.deck k window)
+  pub band_fault : (window : RowRange) (traps : List Trapezoid) → AgreesBelow (area_of p k) shots window.y0
+      → CoversExactly traps (IsInBand p.cells p.top p.deck k window)
       → (t : Tile) (count wanted : ℕ) → checked.IsFirstFault shots traps window t count wanted → IsFirstFault (area_of p k) shots t count wanted
-  band_fault window traps below covers t count wanted h = a_fault (area_of p k) shots window.y0 window traps below refl (part_of_band window traps covers) t count wanted h
+  band_fault window traps below covers t count wanted h = a_fault (area_of p k) shots window.y0 window traps below refl
+      (part_of_band window traps covers) t count wanted h
 
-  pub band_none : (window : RowRange) (traps : List Trapezoid) → AgreesBelow (area_of p k) shots window.y0 → CoversExactly traps (IsInBand p.cells p.top p.deck k window)
+  pub band_none : (window : RowRange) (traps : List Trapezoid) → AgreesBelow (area_of p k) shots window.y0
+      → CoversExactly traps (IsInBand p.cells p.top p.deck k window)
       → CoversAlike shots traps window → AgreesBelow (area_of p k) shots window.y1
   band_none window traps below covers alike = no_fault (area_of p k) shots window.y0 window traps below refl (part_of_band window traps covers) alike

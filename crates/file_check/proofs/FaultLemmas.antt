@@ -1,5 +1,6 @@
 -- Faults window by window, from below.
-use Rattle.std.proofs.Common.{Option, Some, None, IfNone, Result, Ok, Err, OnOk, ◌≡◌, ◌≢◌, ℕ, ℤ, pos, neg_ℤ, ◌^◌, ◌≤ℤ◌, ◌<ℤ◌, refl, sym, ◌∙◌, List, [], All, arith}
+use Rattle.std.proofs.Common.{Option, Some, None, IfNone, Result, Ok, Err, OnOk, ◌≡◌, ◌≢◌, ℕ, ℤ, pos, neg_ℤ, ◌^◌, ◌≤ℤ◌}
+use Rattle.std.proofs.Common.{◌<ℤ◌, refl, sym, ◌∙◌, List, [], All, arith}
 use Rattle.std.proofs.lemmas.Int.{ints, by_lt_z}
 use Rattle.std.proofs.lemmas.List.Elements.{All-weaker}
 use mathlib.Core.Logic.{inl}
@@ -44,7 +45,8 @@ module _ (area : Tile → Type 0) (shots : List Trapezoid) where
   abbrev pub IsPartOf : RowRange → List Trapezoid → Type 0
   IsPartOf window traps = (t : Tile) → IsInRows window t → IsWanted area t (count_in traps t)
 
-  pub no_fault : (y : ℤ) (window : RowRange) (traps : List Trapezoid) → AgreesBelow y → window.y0 ≡ y → IsPartOf window traps → CoversAlike shots traps window → AgreesBelow window.y1
+  pub no_fault : (y : ℤ) (window : RowRange) (traps : List Trapezoid) → AgreesBelow y → window.y0 ≡ y
+      → IsPartOf window traps → CoversAlike shots traps window → AgreesBelow window.y1
   no_fault y window traps below at part alike t lt =
       by_lt_z t.j window.y0
       (λ under. below t (rw (← at) under))

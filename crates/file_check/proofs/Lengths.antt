@@ -17,7 +17,16 @@ text_long : (unit l d : ℕ) (shots : List Trapezoid) → length shots ≤ lengt
 unfolding shot_text
 text_long unit l d shots =
     let r = flat_map (spelling_of l d) shots in
-    omega (arith, records_long l d shots, length-append (head unit) (r ++ end), length-append (head unit ++ r) end, length-append (head unit) r, length-append r end)
+    omega (
+      arith,
+      records_long l d shots,
+      length-append (head unit) (r ++ end),
+      length-append
+          (head unit ++ r) end,
+      length-append (head unit) r,
+      length-append r end,
+    )
 
-pub few_shots : (bytes : List ℕ) (unit : ℕ) (pair : Option Pair) (shots : List Trapezoid) → IsFileOf bytes unit pair shots → length bytes ≤ 268435456 → length shots ≤ 268435456
+pub few_shots : (bytes : List ℕ) (unit : ℕ) (pair : Option Pair) (shots : List Trapezoid)
+    → IsFileOf bytes unit pair shots → length bytes ≤ 268435456 → length shots ≤ 268435456
 few_shots bytes unit pair shots f short = omega (arith, text_long unit f.layer f.datatype shots, ap length f.text, short)

@@ -1,5 +1,6 @@
 -- Shots on their way through windows: how often a tile is in those that meet a window and in those that come later.
-use Rattle.std.proofs.Common.{◌≡◌, ℤ, ◌+◌, ◌≤ℤ◌, ◌<ℤ◌, Bool, true, false, refl, sym, subst, ◌∙◌, List, [], ◌∷◌, ◌++◌, All, length, arith, filter, int_lt, append_assoc}
+use Rattle.std.proofs.Common.{◌≡◌, ℤ, ◌+◌, ◌≤ℤ◌, ◌<ℤ◌, Bool, true, false, refl, sym, subst, ◌∙◌, List, [], ◌∷◌, ◌++◌}
+use Rattle.std.proofs.Common.{All, length, arith, filter, int_lt, append_assoc}
 use Rattle.std.proofs.lemmas.Int.{ints}
 use Rattle.std.proofs.lemmas.List.Sums.{sum_by-append}
 use Rattle.std.proofs.lemmas.List.Elements.{All-head, All-tail, All-nil}
@@ -54,7 +55,8 @@ pub record TakenSoFar (before now later left : List Trapezoid) : Type 0 where
   pub counts : (t : Tile) → count_in front t + count_in left t ≡ count_in later t
   pub ascend : BottomsAscend left
 
-pub one_taken : (before now after later left rest : List Trapezoid) (z : Trapezoid) → TakenSoFar before now later left → left ≡ z ∷ rest → after ≡ now ++ z ∷ [] → TakenSoFar before after later rest
+pub one_taken : (before now after later left rest : List Trapezoid) (z : Trapezoid) → TakenSoFar before now later left
+    → left ≡ z ∷ rest → after ≡ now ++ z ∷ [] → TakenSoFar before after later rest
 one_taken before now after later left rest z h is pushed =
     let up : BottomsAscend (z ∷ rest) = subst BottomsAscend is h.ascend in
     record {

@@ -29,7 +29,9 @@ Carries f = (P Q : Point → Type 0) (p : Point) → ((v : Point) → P v → Q 
 
 carry_then : (f g : Point → Point) → Carries f → Carries g → Carries (λ p. g (f p))
 unfolding Carries
-carry_then f g cf cg P Q p step amid = cg (λ w. (v : Point) × P v × (w ≡ f v)) Q (f p) (λ w im. subst (λ z. Q (g z)) (sym im.2) (step im.0 im.1)) (cf P (λ w. (v : Point) × P v × (w ≡ f v)) p (λ v pv. (v, pv, refl)) amid)
+carry_then f g cf cg P Q p step amid = cg (λ w. (v : Point) × P v × (w ≡ f v)) Q (f p)
+    (λ w im. subst (λ z. Q (g z)) (sym im.2) (step im.0 im.1))
+    (cf P (λ w. (v : Point) × P v × (w ≡ f v)) p (λ v pv. (v, pv, refl)) amid)
 
 carry_same : Carries (λ p. p)
 unfolding Carries
@@ -88,9 +90,11 @@ carry_turned (suc turns) = carry_then quarter_turn (turned turns) carry_quarter 
 
 carry_image : (orient : Orient) (at : Point) → Carries (image_of orient at)
 carry_image orient at = carry_then (enlarged orient.mag) (λ p. moved at (turned orient.turns (flipped orient.flip p))) (carry_enlarged orient.mag)
-    (carry_then (flipped orient.flip) (λ p. moved at (turned orient.turns p)) (carry_flipped orient.flip) (carry_then (turned orient.turns) (moved at) (carry_turned orient.turns) (carry_moved at)))
+    (carry_then (flipped orient.flip) (λ p. moved at (turned orient.turns p)) (carry_flipped orient.flip)
+    (carry_then (turned orient.turns) (moved at) (carry_turned orient.turns) (carry_moved at)))
 
-spanned_by : (f : Point → Point) (P Q : Point → Type 0) (q : Corners) → Carries f → ((v : Point) → P v → Q (f v)) → IsSpanned P q → IsSpanned Q (with_corners f q)
+spanned_by : (f : Point → Point) (P Q : Point → Type 0) (q : Corners) → Carries f → ((v : Point) → P v → Q (f v))
+    → IsSpanned P q → IsSpanned Q (with_corners f q)
 unfolding Carries
 spanned_by f P Q q c step s = record { a = c P Q q.a step s.a; b = c P Q q.b step s.b; c = c P Q q.c step s.c; d = c P Q q.d step s.d }
 
@@ -98,8 +102,10 @@ spanned_round : (flip : Bool) (P : Point → Type 0) (q : Corners) → IsSpanned
 spanned_round true P q s = record { a = s.a; b = s.d; c = s.c; d = s.b }
 spanned_round false P q s = s
 
-pub spanned_image : (orient : Orient) (at : Point) (P Q : Point → Type 0) (q : Corners) → ((v : Point) → P v → Q (image_of orient at v)) → IsSpanned P q → IsSpanned Q (quad_image orient at q)
-spanned_image orient at P Q q step s = spanned_round orient.flip Q (with_corners (image_of orient at) q) (spanned_by (image_of orient at) P Q q (carry_image orient at) step s)
+pub spanned_image : (orient : Orient) (at : Point) (P Q : Point → Type 0) (q : Corners)
+    → ((v : Point) → P v → Q (image_of orient at v)) → IsSpanned P q → IsSpanned Q (quad_image orient at q)
+spanned_image orient at P Q q step s = spanned_round orient.flip Q (with_corners (image_of orient at) q)
+    (spanned_by (image_of orient at) P Q q (carry_image orient at) step s)
 
 pub spanned_moved : (by : Point) (P Q : Point → Type 0) (q : Corners) → ((v : Point) → P v → Q (moved by v)) → IsSpanned P q → IsSpanned Q (moved_quad by q)
 spanned_moved by P Q q step s = spanned_by (moved by) P Q q (carry_moved by) step s

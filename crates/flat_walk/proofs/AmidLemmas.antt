@@ -1,5 +1,6 @@
 -- The corners of a trapezoid stand between points of an outline that winds round its tiles.
-use Rattle.std.proofs.Common.{◌≡◌, ◌≢◌, ◌⊎◌, inl, inr, ℕ, ℤ, zero, suc, pos, ◌+ℤ◌, ◌-ℤ◌, ◌≤ℤ◌, ◌<ℤ◌, List, [], ◌∷◌, Some, slice_get, refl, sym, ap, subst, ◌∙◌, arith}
+use Rattle.std.proofs.Common.{◌≡◌, ◌≢◌, ◌⊎◌, inl, inr, ℕ, ℤ, zero, suc, pos, ◌+ℤ◌, ◌-ℤ◌, ◌≤ℤ◌, ◌<ℤ◌, List, [], ◌∷◌}
+use Rattle.std.proofs.Common.{Some, slice_get, refl, sym, ap, subst, ◌∙◌, arith}
 use Rattle.std.specs.List.{AllByRecursion}
 use Rattle.std.proofs.lemmas.Int.{ints, by_lt_z}
 use Rattle.half_grid.specs.Halves.{twice}
@@ -49,7 +50,8 @@ high_or f x (p ∷ points) = by_lt_z (f p) x
     (λ le. inl (p, (0, refl), le))
 
 -- a point close to a tile round which the outline winds
-pub amid_by_tile : (points : List Point) (t : Tile) (p : Point) → IsLoop points → winding points t ≢ pos 0 → twice (p.x -ℤ pos 1) ≤ℤ number_in_row t → number_in_row t <ℤ twice (p.x +ℤ pos 1)
+pub amid_by_tile : (points : List Point) (t : Tile) (p : Point) → IsLoop points → winding points t ≢ pos 0
+    → twice (p.x -ℤ pos 1) ≤ℤ number_in_row t → number_in_row t <ℤ twice (p.x +ℤ pos 1)
     → (p.y -ℤ pos 1) ≤ℤ t.j → t.j <ℤ (p.y +ℤ pos 1) → IsAmid (IsIn points) p
 unfolding Low High
 amid_by_tile points t p loop wound low high under over = record {
@@ -69,16 +71,25 @@ close_down (Upright c) y = (omega (arith, ints), omega (arith, ints))
 close_down (Rising c) y = (omega (arith, ints), omega (arith, ints))
 close_down (Falling c) y = (omega (arith, ints), omega (arith, ints))
 
-module _ (points : List Point) (z : Trapezoid) (loop : IsLoop points) (legal : IsLegal z) (inside : (t : Tile) → IsInTrapezoid z t → winding points t ≢ pos 0) where
+module _ (points : List Point) (z : Trapezoid) (loop : IsLoop points) (legal : IsLegal z)
+    (inside : (t : Tile) → IsInTrapezoid z t → winding points t ≢ pos 0) where
   first_at : (j : ℤ) → z.y0 ≤ℤ j → j <ℤ z.y1 → IsInTrapezoid z (tile_with (place z.left j) j)
   first_at j a b = let l = legal_places z j legal a b in let e = tile_with_number (place z.left j) j in
       in_by_number z (tile_with (place z.left j) j) (record { above_bottom = a; below_top = b; from_left = rw e (omega (arith, ints)); below_right = rw e l })
 
   last_at : (j : ℤ) → z.y0 ≤ℤ j → j <ℤ z.y1 → IsInTrapezoid z (tile_with (place z.right j -ℤ pos 1) j)
   last_at j a b = let l = legal_places z j legal a b in let e = tile_with_number (place z.right j -ℤ pos 1) j in
-      in_by_number z (tile_with (place z.right j -ℤ pos 1) j) (record { above_bottom = a; below_top = b; from_left = rw e (omega (arith, ints, l)); below_right = rw e (omega (arith, ints)) })
+      in_by_number z (tile_with (place z.right j -ℤ pos 1) j)
+      (record {
+        above_bottom = a;
+        below_top = b;
+        from_left = rw e (omega (arith, ints, l));
+        below_right = rw e
+            (omega (arith, ints));
+      })
 
-  corner_by : (n j : ℤ) (p : Point) → IsInTrapezoid z (tile_with n j) → twice (p.x -ℤ pos 1) ≤ℤ n → n <ℤ twice (p.x +ℤ pos 1) → (p.y -ℤ pos 1) ≤ℤ j → j <ℤ (p.y +ℤ pos 1) → IsAmid (IsIn points) p
+  corner_by : (n j : ℤ) (p : Point) → IsInTrapezoid z (tile_with n j) → twice (p.x -ℤ pos 1) ≤ℤ n
+      → n <ℤ twice (p.x +ℤ pos 1) → (p.y -ℤ pos 1) ≤ℤ j → j <ℤ (p.y +ℤ pos 1) → IsAmid (IsIn points) p
   corner_by n j p h low high under over =
       let e = tile_with_number n j in
       amid_by_tile points (tile_with n j) p loop (inside (tile_with n j) h) (rw e low) (rw e high) under over
@@ -89,8 +100,14 @@ module _ (points : List Point) (z : Trapezoid) (loop : IsLoop points) (legal : I
       let ul = close_up z.left z.y0 in let dl = close_down z.left z.y1 in let ur = close_up z.right z.y0 in let dr = close_down z.right z.y1 in
       let ul0 = ul.0 in let ul1 = ul.1 in let dl0 = dl.0 in let dl1 = dl.1 in let ur0 = ur.0 in let ur1 = ur.1 in let dr0 = dr.0 in let dr1 = dr.1 in
       record {
-        a = corner_by (place z.left z.y0) z.y0 (corners_of z).a (first_at z.y0 (omega (arith, ints)) rows) (omega (arith, ints, ul0)) ul1 (omega (arith, ints)) (omega (arith, ints));
-        b = corner_by (place z.left (z.y1 -ℤ pos 1)) (z.y1 -ℤ pos 1) (corners_of z).b (first_at (z.y1 -ℤ pos 1) (omega (arith, ints, rows)) (omega (arith, ints))) (omega (arith, ints, dl0)) dl1 (omega (arith, ints)) (omega (arith, ints));
-        c = corner_by (place z.right (z.y1 -ℤ pos 1) -ℤ pos 1) (z.y1 -ℤ pos 1) (corners_of z).c (last_at (z.y1 -ℤ pos 1) (omega (arith, ints, rows)) (omega (arith, ints))) dr0 (omega (arith, ints, dr1)) (omega (arith, ints)) (omega (arith, ints));
-        d = corner_by (place z.right z.y0 -ℤ pos 1) z.y0 (corners_of z).d (last_at z.y0 (omega (arith, ints)) rows) ur0 (omega (arith, ints, ur1)) (omega (arith, ints)) (omega (arith, ints));
+        a = corner_by (place z.left z.y0) z.y0 (corners_of z).a (first_at z.y0 (omega (arith, ints)) rows)
+            (omega (arith, ints, ul0)) ul1 (omega (arith, ints)) (omega (arith, ints));
+        b = corner_by (place z.left (z.y1 -ℤ pos 1)) (z.y1 -ℤ pos 1) (corners_of z).b
+            (first_at (z.y1 -ℤ pos 1) (omega (arith, ints, rows)) (omega (arith, ints))) (omega (arith, ints, dl0)) dl1
+            (omega (arith, ints)) (omega (arith, ints));
+        c = corner_by (place z.right (z.y1 -ℤ pos 1) -ℤ pos 1) (z.y1 -ℤ pos 1) (corners_of z).c
+            (last_at (z.y1 -ℤ pos 1) (omega (arith, ints, rows)) (omega (arith, ints))) dr0 (omega (arith, ints, dr1))
+            (omega (arith, ints)) (omega (arith, ints));
+        d = corner_by (place z.right z.y0 -ℤ pos 1) z.y0 (corners_of z).d (last_at z.y0 (omega (arith, ints)) rows) ur0
+            (omega (arith, ints, ur1)) (omega (arith, ints)) (omega (arith, ints));
       }

@@ -1,5 +1,7 @@
 -- Lists of boxes, and the shapes and placements that are passed by.
-use Rattle.std.proofs.Common.{◌≡◌, ◌⊎◌, inl, inr, ℕ, ℤ, zero, suc, pos, ◌+◌, ◌-◌, ◌*◌, ◌^◌, ◌<◌, ◌≤◌, ◌≤ℤ◌, false, List, [], ◌∷◌, ◌++◌, Option, Some, None, IfSome, All, map, drop, length, slice_get, get_or, refl, sym, ap, subst, ◌∙◌, arith, length-append}
+use Rattle.std.proofs.Common.{◌≡◌, ◌⊎◌, inl, inr, ℕ, ℤ, zero, suc, pos, ◌+◌, ◌-◌, ◌*◌, ◌^◌, ◌<◌, ◌≤◌, ◌≤ℤ◌, false, List}
+use Rattle.std.proofs.Common.{[], ◌∷◌, ◌++◌, Option, Some, None, IfSome, All, map, drop, length, slice_get, get_or}
+use Rattle.std.proofs.Common.{refl, sym, ap, subst, ◌∙◌, arith, length-append}
 use Rattle.std.specs.List.{filter, flat_map, AllByRecursion}
 use Rattle.std.proofs.lemmas.Int.{ints, clamps}
 use Rattle.std.proofs.lemmas.List.{length-drop}
@@ -42,7 +44,9 @@ use Rattle.flat_walk.proofs.WayLemmas.{things_are_placed, placements_step, place
 -- ---- lists
 
 -- what holds of the elements and of one more holds of each
-pub slot_pushed : {X : Type 0} (xs : List X) (x y : X) (k : ℕ) (P : ℕ → X → Type 0) → slice_get (xs ++ x ∷ []) k ≡ Some y → P (length xs) x → ((k : ℕ) (y : X) → slice_get xs k ≡ Some y → P k y) → P k y
+pub slot_pushed : {X : Type 0} (xs : List X) (x y : X) (k : ℕ) (P : ℕ → X → Type 0)
+    → slice_get (xs ++ x ∷ []) k ≡ Some y → P (length xs) x → ((k : ℕ) (y : X) → slice_get xs k ≡ Some y → P k y)
+    → P k y
 slot_pushed [] x y zero P at here each = subst (P 0) (same_Some x y at) here
 slot_pushed [] x y (suc k) P at here each = absurd (none-some y at)
 slot_pushed (z ∷ xs) x y zero P at here each = each 0 y at
@@ -75,9 +79,11 @@ pub near_more : (boxes : List Frame) (new : Frame) → AreNear boxes → IsBoxUp
 near_more boxes new are near k box there = slot_pushed boxes new box k (λ i f. IsBoxUpTo (2 ^ 53) f) there near are
 
 pub spot_more : (cells : List Cell) (placements : List Placement) (boxes : List Frame) (new : Frame) → AreSpots cells placements boxes
-    → ((placement : Placement) (p : Point) → slice_get placements (length boxes) ≡ Some placement → IsSpotVertex cells placement p → IsInBox new p) → AreSpots cells placements (boxes ++ new ∷ [])
+    → ((placement : Placement) (p : Point) → slice_get placements (length boxes) ≡ Some placement
+    → IsSpotVertex cells placement p → IsInBox new p) → AreSpots cells placements (boxes ++ new ∷ [])
 spot_more cells placements boxes new are last k placement box p here there vertex =
-    slot_pushed boxes new box k (λ i f. slice_get placements i ≡ Some placement → IsInBox f p) there (λ at. last placement p at vertex) (λ i f at on. are i placement f p on at vertex) here
+    slot_pushed boxes new box k (λ i f. slice_get placements i ≡ Some placement → IsInBox f p) there
+    (λ at. last placement p at vertex) (λ i f at on. are i placement f p on at vertex) here
 
 -- ---- boxes round boxes
 
@@ -86,10 +92,22 @@ round_itself box = record { left = omega (arith, ints); bottom = omega (arith, i
 
 round_left : (a b box : Frame) → IsRound a box → IsRound (joined_box a b) box
 round_left a b box r = let l = r.left in let c = r.bottom in let d = r.right in let e = r.top in
-    record { left = omega (arith, ints, clamps, l); bottom = omega (arith, ints, clamps, c); right = omega (arith, ints, clamps, d); top = omega (arith, ints, clamps, e) }
+    record {
+      left = omega (arith, ints, clamps, l);
+      bottom = omega (arith, ints, clamps, c);
+      right = omega
+          (arith, ints, clamps, d);
+      top = omega (arith, ints, clamps, e);
+    }
 
 round_right : (a b : Frame) → IsRound (joined_box a b) b
-round_right a b = record { left = omega (arith, ints, clamps); bottom = omega (arith, ints, clamps); right = omega (arith, ints, clamps); top = omega (arith, ints, clamps) }
+round_right a b = record {
+  left = omega (arith, ints, clamps);
+  bottom = omega (arith, ints, clamps);
+  right = omega
+      (arith, ints, clamps);
+  top = omega (arith, ints, clamps);
+}
 
 lt_or : (k n : ℕ) → k < n + 1 → (k < n) ⊎ (k ≡ n)
 lt_or zero zero h = inr refl
@@ -98,7 +116,8 @@ lt_or (suc k) zero h = absurd (omega (arith, h))
 lt_or (suc k) (suc n) h = elim (lt_or k n (omega (arith, h))) [ inl l ↦ inl (omega (arith, l)) | inr e ↦ inr (ap suc e) ]
 
 -- one more box
-pub round_more : (boxes : List Frame) (from end : ℕ) (a b box : Frame) → IsRoundThose boxes from end a → slice_get boxes end ≡ Some b → box ≡ joined_box a b → IsRoundThose boxes from (end + 1) box
+pub round_more : (boxes : List Frame) (from end : ℕ) (a b box : Frame) → IsRoundThose boxes from end a
+    → slice_get boxes end ≡ Some b → box ≡ joined_box a b → IsRoundThose boxes from (end + 1) box
 round_more boxes from end a b box those there is k c after early at = subst (λ f. IsRound f c) (sym is) (elim (lt_or k end early) [
   | inl before ↦ round_left a b c (those k c after before at)
   | inr here ↦ subst (IsRound (joined_box a b)) (same_Some b c (sym there ∙ (ap (slice_get boxes) (sym here) ∙ at))) (round_right a b)
@@ -111,15 +130,30 @@ round_one boxes from end a is there k c after early at =
     subst (IsRound a) (same_Some a c (sym there ∙ (ap (slice_get boxes) e ∙ at))) (round_itself a)
 
 quad_round : (block box : Frame) (q : Corners) → IsRound block box → IsQuadIn box q → IsQuadIn block q
-quad_round block box q r inside = record { a = point_round q.a inside.a; b = point_round q.b inside.b; c = point_round q.c inside.c; d = point_round q.d inside.d }
+quad_round block box q r inside =
+    record {
+      a = point_round q.a inside.a;
+      b = point_round q.b inside.b;
+      c = point_round q.c inside.c;
+      d =
+          point_round q.d inside.d;
+    }
   where
     point_round : (p : Point) → IsInBox box p → IsInBox block p
-    point_round p h = record { left = omega (arith, ints, r.left, h.left); bottom = omega (arith, ints, r.bottom, h.bottom); right = omega (arith, ints, r.right, h.right); top = omega (arith, ints, r.top, h.top) }
+    point_round p h = record {
+      left = omega (arith, ints, r.left, h.left);
+      bottom = omega
+          (arith, ints, r.bottom, h.bottom);
+      right = omega (arith, ints, r.right, h.right);
+      top = omega
+          (arith, ints, r.top, h.top);
+    }
 
 -- where a box shows nothing, those that it is round don't
 pub block_hides : (w : RowRange) (orient : Orient) (at : Point) (boxes : List Frame) (from end : ℕ) (block : Frame) → IsRoundThose boxes from end block
     → ((q : Corners) → IsQuadIn block q → has_row_in w (quad_image orient at q) ≡ false) → ShowNothing w orient at boxes from end
-block_hides w orient at boxes from end block those hides = λ k box after early there q inside. hides q (quad_round block box q (those k box after early there) inside)
+block_hides w orient at boxes from end block those hides = λ k box after early there q inside. hides q
+    (quad_round block box q (those k box after early there) inside)
 
 -- nothing, and then some more
 pub nothing_yet : (w : RowRange) (orient : Orient) (at : Point) (boxes : List Frame) (from : ℕ) → ShowNothing w orient at boxes from from
@@ -130,7 +164,9 @@ le_or zero k = inr (omega arith)
 le_or (suc m) zero = inl (omega arith)
 le_or (suc m) (suc k) = elim (le_or m k) [ inl h ↦ inl (omega (arith, h)) | inr h ↦ inr (omega (arith, h)) ]
 
-pub nothing_more : (w : RowRange) (orient : Orient) (at : Point) (boxes : List Frame) (from next end : ℕ) → ShowNothing w orient at boxes from next → ShowNothing w orient at boxes next end → ShowNothing w orient at boxes from end
+pub nothing_more : (w : RowRange) (orient : Orient) (at : Point) (boxes : List Frame) (from next end : ℕ)
+    → ShowNothing w orient at boxes from next → ShowNothing w orient at boxes next end
+    → ShowNothing w orient at boxes from end
 nothing_more w orient at boxes from next end before more k box after early there q inside =
     elim (le_or next k) [ inl h ↦ before k box after h there q inside | inr h ↦ more k box h early there q inside ]
 
@@ -144,7 +180,9 @@ pub no_blocks : (boxes : List Frame) → AreBlocks boxes []
 no_blocks boxes = record { whole = omega arith; near = none_near; around = λ b block at. absurd (none-some block at) }
 
 -- one more block
-pub blocks_more : (boxes blocks : List Frame) (block : Frame) → AreBlocks boxes blocks → length blocks * 64 + 64 ≤ length boxes → IsRoundThose boxes (length blocks * 64) (length blocks * 64 + 64) block → IsBoxUpTo (2 ^ 53) block
+pub blocks_more : (boxes blocks : List Frame) (block : Frame) → AreBlocks boxes blocks
+    → length blocks * 64 + 64 ≤ length boxes → IsRoundThose boxes (length blocks * 64) (length blocks * 64 + 64) block
+    → IsBoxUpTo (2 ^ 53) block
     → AreBlocks boxes (blocks ++ block ∷ [])
 blocks_more boxes blocks block are inside those near = record {
   whole = let e = length-append blocks (block ∷ []) in omega (arith, e, inside);
@@ -160,19 +198,24 @@ grid_rest (suc count) [] all = all
 grid_rest (suc count) (s ∷ shapes) all = grid_rest count shapes (All-tail IsShapeOnGrid s shapes all)
 
 -- the first shapes are passed by, since nothing in their boxes shows
-pub record ArePassed (w : RowRange) (orient : Orient) (at : Point) (shapes rest : List Shape) (lists later : List (List Trapezoid)) (others : List Frame) (place : ℕ) : Type 0 where
+pub record ArePassed (w : RowRange) (orient : Orient) (at : Point) (shapes rest : List Shape)
+    (lists later : List (List Trapezoid)) (others : List Frame) (place : ℕ) : Type 0 where
   pub skips : (pair : Pair) → Skips w (map Some (placed_rest orient at pair shapes lists place)) (map Some (placed_rest orient at pair rest later 0))
   pub steps : steps_from rest 0 ≤ steps_from shapes place
   pub boxed : AreBoxed rest later others
 
 module _ (w : RowRange) (orient : Orient) (at : Point) where
-  first_passed : (pair : Pair) (s : Shape) (shapes : List Shape) (l : List Trapezoid) (lists : List (List Trapezoid)) (b : Frame) (place : ℕ) → HasBox s l b → ((q : Corners) → IsQuadIn b q → has_row_in w (quad_image orient at q) ≡ false)
+  first_passed : (pair : Pair) (s : Shape) (shapes : List Shape) (l : List Trapezoid) (lists : List (List Trapezoid))
+      (b : Frame) (place : ℕ) → HasBox s l b
+      → ((q : Corners) → IsQuadIn b q → has_row_in w (quad_image orient at q) ≡ false)
       → Skips w (map Some (placed_rest orient at pair (s ∷ shapes) (l ∷ lists) place)) (map Some (placed_rest orient at pair shapes lists 0))
   first_passed pair s shapes l lists b place has hides =
-      shape_passed w (map Some (placed_rest orient at pair (s ∷ shapes) (l ∷ lists) place)) orient at pair (s ∷ shapes) shapes s (l ∷ lists) lists l place refl refl
+      shape_passed w (map Some (placed_rest orient at pair (s ∷ shapes) (l ∷ lists) place)) orient at pair
+      (s ∷ shapes) shapes s (l ∷ lists) lists l place refl refl
       (box_shows_none w orient at pair s l place b hides has) (skip_same w _ _ refl)
 
-  shapes_passed : (count : ℕ) (shapes : List Shape) (lists : List (List Trapezoid)) (boxes : List Frame) (place : ℕ) → AreBoxed shapes lists boxes → suc count ≤ length boxes
+  shapes_passed : (count : ℕ) (shapes : List Shape) (lists : List (List Trapezoid)) (boxes : List Frame) (place : ℕ)
+      → AreBoxed shapes lists boxes → suc count ≤ length boxes
       → ((k : ℕ) (box : Frame) → k < suc count → slice_get boxes k ≡ Some box → (q : Corners) → IsQuadIn box q → has_row_in w (quad_image orient at q) ≡ false)
       → ArePassed w orient at shapes (drop (suc count) shapes) lists (drop (suc count) lists) (drop (suc count) boxes) place
   shapes_passed count shapes lists [] place boxed few hides = absurd (omega (arith, few))
@@ -192,8 +235,11 @@ module _ (w : RowRange) (orient : Orient) (at : Point) where
       }
 
   -- the next ones of a cell, by the boxes of all of its shapes
-  pub boxes_passed : (number next count : ℕ) (shapes rest : List Shape) (lists later : List (List Trapezoid)) (boxes : List Frame) (place : ℕ) → AreBoxed shapes lists (drop number boxes) → next ≡ number + count → 1 ≤ count → next ≤ length boxes
-      → ShowNothing w orient at boxes number next → rest ≡ drop count shapes → later ≡ drop count lists → ArePassed w orient at shapes rest lists later (drop next boxes) place
+  pub boxes_passed : (number next count : ℕ) (shapes rest : List Shape) (lists later : List (List Trapezoid))
+      (boxes : List Frame) (place : ℕ) → AreBoxed shapes lists (drop number boxes) → next ≡ number + count → 1 ≤ count
+      → next ≤ length boxes
+      → ShowNothing w orient at boxes number next → rest ≡ drop count shapes → later ≡ drop count lists
+      → ArePassed w orient at shapes rest lists later (drop next boxes) place
   boxes_passed number next count shapes rest lists later boxes place boxed is some inside none cut_shapes cut_lists =
       let c : ℕ = count - 1 in
       let e : suc c ≡ count = omega (arith, some) in
@@ -201,7 +247,9 @@ module _ (w : RowRange) (orient : Orient) (at : Point) where
       let passed = shapes_passed c shapes lists (drop number boxes) place boxed (omega (arith, e, is, inside, long))
       (λ k box early there. none (number + k) box (omega arith) (omega (arith, early, e, is)) (slot_drop number k (number + k) boxes box refl there)) in
       let all = subst (λ n. ArePassed w orient at shapes (drop n shapes) lists (drop n lists) (drop n (drop number boxes)) place) e passed in
-      rw (cut_shapes, cut_lists) (subst (λ b. ArePassed w orient at shapes (drop count shapes) lists (drop count lists) b place) (drop_on number count next boxes is) all)
+      rw (cut_shapes, cut_lists)
+      (subst (λ b. ArePassed w orient at shapes (drop count shapes) lists (drop count lists) b place)
+      (drop_on number count next boxes is) all)
 
 -- ---- placements
 
@@ -216,7 +264,8 @@ quad_in box q s = record { a = amid_in q.a s.a; b = amid_in q.b s.b; c = amid_in
       top = let h = amid.top.1.top in let g = amid.top.2 in omega (arith, ints, h, g);
     }
 
-shown_none : (w : RowRange) (orient : Orient) (at : Point) (box : Frame) (items : List (Option Corners)) → ((q : Corners) → IsQuadIn box q → has_row_in w (quad_image orient at q) ≡ false)
+shown_none : (w : RowRange) (orient : Orient) (at : Point) (box : Frame) (items : List (Option Corners))
+    → ((q : Corners) → IsQuadIn box q → has_row_in w (quad_image orient at q) ≡ false)
     → AllByRecursion (λ item. IfSome item (IsQuadIn box)) items → filter (shows_in w) (map (marked_image orient at) items) ≡ []
 shown_none w orient at box [] hides all = refl
 shown_none w orient at box (None ∷ items) hides all = shown_none w orient at box items hides all.1
@@ -227,34 +276,52 @@ slot_none [] k e = omega arith
 slot_none (x ∷ xs) zero e = absurd (none-some x (sym e))
 slot_none (x ∷ xs) (suc k) e = let h = slot_none xs k e in omega (arith, h)
 
-module _ (scene : Scene) (n : ℕ) (boxes : List Frame) (sc : IsScene scene) (reach : IsReachable (cells_of scene) scene.tree.now.top n) (spots : AreSpots (cells_of scene) (placements_at (cells_of scene) n) boxes) where
+module _ (scene : Scene) (n : ℕ) (boxes : List Frame) (sc : IsScene scene)
+    (reach : IsReachable (cells_of scene) scene.tree.now.top n)
+    (spots : AreSpots (cells_of scene) (placements_at (cells_of scene) n) boxes) where
   -- what a placement shows is in its box
-  spot_things : (k m : ℕ) (placement : Placement) (box : Frame) → slice_get (placements_at (cells_of scene) n) k ≡ Some placement → slice_get boxes k ≡ Some box → cell_number (cells_of scene) placement.target ≡ Some m
+  spot_things : (k m : ℕ) (placement : Placement) (box : Frame)
+      → slice_get (placements_at (cells_of scene) n) k ≡ Some placement → slice_get boxes k ≡ Some box
+      → cell_number (cells_of scene) placement.target ≡ Some m
       → AllByRecursion (λ item. IfSome item (IsQuadIn box)) (placed_things marked_image placement (marked_of scene m))
   spot_things k m placement box here there target =
       each_flat (λ item. IfSome item (IsQuadIn box)) (λ by. map (marked_image placement.orient (moved by placement.at)) (marked_of scene m)) placement.offsets
-      (λ j by at. each_map (λ item. IfSome item (IsSpanned (IsVertex (cells_of scene) m scene.pair))) (λ item. IfSome item (IsQuadIn box)) (marked_image placement.orient (moved by placement.at)) (marked_of scene m)
+      (λ j by at. each_map (λ item. IfSome item (IsSpanned (IsVertex (cells_of scene) m scene.pair)))
+      (λ item. IfSome item (IsQuadIn box)) (marked_image placement.orient (moved by placement.at))
+      (marked_of scene m)
       (item_in j by at)
       (recursion_from_All (λ item. IfSome item (IsSpanned (IsVertex (cells_of scene) m scene.pair))) (marked_of scene m)
-      (marked_spanned scene m sc (reach_more (cells_of scene) scene.tree.now.top n m reach (placement, record { number = k; placed = here; target = target })))))
+      (marked_spanned scene m sc
+      (reach_more (cells_of scene) scene.tree.now.top n m reach
+      (placement, record { number = k; placed = here; target = target })))))
     where
-      item_in : (j : ℕ) (by : Point) → slice_get placement.offsets j ≡ Some by → (item : Option Corners) → IfSome item (IsSpanned (IsVertex (cells_of scene) m scene.pair))
+      item_in : (j : ℕ) (by : Point) → slice_get placement.offsets j ≡ Some by → (item : Option Corners)
+          → IfSome item (IsSpanned (IsVertex (cells_of scene) m scene.pair))
           → IfSome (marked_image placement.orient (moved by placement.at) item) (IsQuadIn box)
       item_in j by at None h = tt
       item_in j by at (Some q) h =
-          quad_in box (quad_image placement.orient (moved by placement.at) q) (spanned_image placement.orient (moved by placement.at) (IsVertex (cells_of scene) m scene.pair) (IsInBox box) q
+          quad_in box (quad_image placement.orient (moved by placement.at) q)
+          (spanned_image placement.orient (moved by placement.at) (IsVertex (cells_of scene) m scene.pair)
+          (IsInBox box) q
           (λ v vertex. spots k placement box (image_of placement.orient (moved by placement.at) v) here there
           (record { target = m; targeted = target; place = j; by = by; offset = at; pair = scene.pair; v = v; vertex = vertex; is = refl })) h)
 
-  spot_hidden : (k : ℕ) (placement : Placement) (box : Frame) (orient : Orient) (at : Point) → slice_get (placements_at (cells_of scene) n) k ≡ Some placement → slice_get boxes k ≡ Some box
-      → ((q : Corners) → IsQuadIn box q → has_row_in scene.window (quad_image orient at q) ≡ false) → filter (shows_in scene.window) (map (marked_image orient at) (things_at scene placement)) ≡ []
+  spot_hidden : (k : ℕ) (placement : Placement) (box : Frame) (orient : Orient) (at : Point)
+      → slice_get (placements_at (cells_of scene) n) k ≡ Some placement → slice_get boxes k ≡ Some box
+      → ((q : Corners) → IsQuadIn box q → has_row_in scene.window (quad_image orient at q) ≡ false)
+      → filter (shows_in scene.window) (map (marked_image orient at) (things_at scene placement)) ≡ []
   spot_hidden k placement box orient at here there hides = by_target (cell_number (cells_of scene) placement.target) refl
     where
-      by_target : (o : Option ℕ) → cell_number (cells_of scene) placement.target ≡ o → filter (shows_in scene.window) (map (marked_image orient at) (things_at scene placement)) ≡ []
+      by_target : (o : Option ℕ) → cell_number (cells_of scene) placement.target ≡ o
+          → filter (shows_in scene.window) (map (marked_image orient at) (things_at scene placement)) ≡ []
       by_target None e = rw e (nothing_shown scene.window orient at placement [] tt)
-      by_target (Some m) e = rw (things_are_placed scene placement m e) (shown_none scene.window orient at box (placed_things marked_image placement (marked_of scene m)) hides (spot_things k m placement box here there e))
+      by_target (Some m) e = rw (things_are_placed scene placement m e)
+          (shown_none scene.window orient at box (placed_things marked_image placement (marked_of scene m)) hides
+          (spot_things k m placement box here there e))
 
-  one_placement : (orient : Orient) (at : Point) (k : ℕ) (o : Option Placement) → slice_get (placements_at (cells_of scene) n) k ≡ o → k < length boxes → ShowNothing scene.window orient at boxes k (k + 1)
+  one_placement : (orient : Orient) (at : Point) (k : ℕ) (o : Option Placement)
+      → slice_get (placements_at (cells_of scene) n) k ≡ o → k < length boxes
+      → ShowNothing scene.window orient at boxes k (k + 1)
       → Skips scene.window (placements_rest scene orient at n k) (placements_rest scene orient at n (k + 1))
   one_placement orient at k None e inside none =
       let past = slot_none (placements_at (cells_of scene) n) k e in
@@ -268,19 +335,25 @@ module _ (scene : Scene) (n : ℕ) (boxes : List Frame) (sc : IsScene scene) (re
 
   placements_over : (orient : Orient) (at : Point) (many from : ℕ) → from + many ≤ length boxes → ShowNothing scene.window orient at boxes from (from + many)
       → Skips scene.window (placements_rest scene orient at n from) (placements_rest scene orient at n (from + many))
-  placements_over orient at zero from inside none = let e : from ≡ from + zero = omega arith in skip_same scene.window _ _ (ap (placements_rest scene orient at n) e)
+  placements_over orient at zero from inside none = let e : from ≡ from + zero = omega arith in
+      skip_same scene.window _ _ (ap (placements_rest scene orient at n) e)
   placements_over orient at (suc many) from inside none =
       let e : (from + 1) + many ≡ from + suc many = omega arith in
-      skip_on scene.window _ _ _ (one_placement orient at from (slice_get (placements_at (cells_of scene) n) from) refl (omega (arith, inside)) (λ k box after early there. none k box after (omega (arith, early)) there))
+      skip_on scene.window _ _ _
+      (one_placement orient at from (slice_get (placements_at (cells_of scene) n) from) refl
+      (omega (arith, inside)) (λ k box after early there. none k box after (omega (arith, early)) there))
       (subst (λ k. Skips scene.window (placements_rest scene orient at n (from + 1)) (placements_rest scene orient at n k)) e
-      (placements_over orient at many (from + 1) (omega (arith, inside)) (λ k box after early there. none k box (omega (arith, after)) (omega (arith, early)) there)))
+      (placements_over orient at many (from + 1) (omega (arith, inside))
+      (λ k box after early there. none k box (omega (arith, after)) (omega (arith, early)) there)))
 
   -- placements are passed by, since nothing in their boxes shows
-  pub placements_passed : (orient : Orient) (at : Point) (from next : ℕ) → from ≤ next → (from < next → next ≤ length boxes) → ShowNothing scene.window orient at boxes from next
+  pub placements_passed : (orient : Orient) (at : Point) (from next : ℕ) → from ≤ next
+      → (from < next → next ≤ length boxes) → ShowNothing scene.window orient at boxes from next
       → Skips scene.window (placements_rest scene orient at n from) (placements_rest scene orient at n next)
   placements_passed orient at from next later inside none = by_many (next - from) (omega (arith, later))
     where
       by_many : (many : ℕ) → next ≡ from + many → Skips scene.window (placements_rest scene orient at n from) (placements_rest scene orient at n next)
       by_many zero e = skip_same scene.window _ _ (ap (placements_rest scene orient at n) (let f : from ≡ next = omega (arith, e) in f))
       by_many (suc many) e = subst (λ k. Skips scene.window (placements_rest scene orient at n from) (placements_rest scene orient at n k)) (sym e)
-          (placements_over orient at (suc many) from (let h = inside (omega (arith, e)) in omega (arith, h, e)) (subst (ShowNothing scene.window orient at boxes from) e none))
+          (placements_over orient at (suc many) from (let h = inside (omega (arith, e)) in omega (arith, h, e))
+          (subst (ShowNothing scene.window orient at boxes from) e none))

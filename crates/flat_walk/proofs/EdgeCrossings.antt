@@ -1,5 +1,6 @@
 -- What one edge adds to the winding at a tile, by the place of the edge's line.
-use Rattle.std.proofs.Common.{◌≡◌, ◌≢◌, ◌⊎◌, inl, inr, ℕ, Bool, true, false, ℤ, pos, ◌+ℤ◌, ◌-ℤ◌, neg_ℤ, ◌≤ℤ◌, ◌<ℤ◌, ◌&&◌, not, arith, refl, ap, sym, ◌∙◌, List, [], ◌∷◌, map, int_le, int_lt}
+use Rattle.std.proofs.Common.{◌≡◌, ◌≢◌, ◌⊎◌, inl, inr, ℕ, Bool, true, false, ℤ, pos, ◌+ℤ◌, ◌-ℤ◌, neg_ℤ, ◌≤ℤ◌, ◌<ℤ◌}
+use Rattle.std.proofs.Common.{◌&&◌, not, arith, refl, ap, sym, ◌∙◌, List, [], ◌∷◌, map, int_le, int_lt}
 use Rattle.std.proofs.lemmas.Int.{ints, by_lt_z}
 use Rattle.std.specs.List.{AllByRecursion}
 use Rattle.half_grid.specs.Lines.{Passes, line_of}
@@ -9,7 +10,8 @@ use Rattle.half_grid.specs.Winding.{is_right_of, rises_past, edges_of, crossing_
 use Rattle.half_grid.specs.declared.plane.Tile.{Tile}
 use Rattle.half_grid.specs.declared.plane.Point.{Point}
 use Rattle.half_grid.specs.declared.plane.Line.{Line}
-use Rattle.half_grid.proofs.ForCallers.{line_is, right_by_place, left_by_place, le_yes, le_no, winding_from, winding_along, crossing_up, crossing_down, crossing_none}
+use Rattle.half_grid.proofs.ForCallers.{line_is, right_by_place, left_by_place, le_yes, le_no, winding_from}
+use Rattle.half_grid.proofs.ForCallers.{winding_along, crossing_up, crossing_down, crossing_none}
 
 rises_low : (t : Tile) (a b : Point) → rises_past t a b ≡ true → a.y ≤ℤ t.j
 rises_low t a b h = grind (arith, ints)
@@ -32,7 +34,8 @@ level_tests false false h k = refl
 
 level : (t : Tile) (a b : Point) → rises_past t a b ≡ false → rises_past t b a ≡ false → pos (is_below t a) -ℤ pos (is_below t b) ≡ pos 0
 level t a b u d =
-    level_tests (int_le a.y t.j) (int_le b.y t.j) (sym (ap (λ x. int_le a.y t.j && x) (lt_not_le t.j b.y)) ∙ u) (sym (ap (λ x. int_le b.y t.j && x) (lt_not_le t.j a.y)) ∙ d)
+    level_tests (int_le a.y t.j) (int_le b.y t.j) (sym (ap (λ x. int_le a.y t.j && x) (lt_not_le t.j b.y)) ∙ u)
+    (sym (ap (λ x. int_le b.y t.j && x) (lt_not_le t.j a.y)) ∙ d)
 
 right_of : (t : Tile) (a b : Point) (l : Line) → Passes l a → Passes l b → a.y ≢ b.y → place l t.j ≤ℤ number_in_row t → is_right_of t (line_of a b) ≡ true
 right_of t a b l pa pb other right = ap (is_right_of t) (line_is a b l pa pb other) ∙ le_yes _ _ (right_by_place t l right)
@@ -40,7 +43,8 @@ right_of t a b l pa pb other right = ap (is_right_of t) (line_is a b l pa pb oth
 left_of : (t : Tile) (a b : Point) (l : Line) → Passes l a → Passes l b → a.y ≢ b.y → number_in_row t <ℤ place l t.j → is_right_of t (line_of a b) ≡ false
 left_of t a b l pa pb other left = ap (is_right_of t) (line_is a b l pa pb other) ∙ le_no _ _ (left_by_place t l left)
 
-right_by : (t : Tile) (a b : Point) (l : Line) (u d : Bool) → rises_past t a b ≡ u → rises_past t b a ≡ d → Passes l a → Passes l b → place l t.j ≤ℤ number_in_row t
+right_by : (t : Tile) (a b : Point) (l : Line) (u d : Bool) → rises_past t a b ≡ u → rises_past t b a ≡ d → Passes l a
+    → Passes l b → place l t.j ≤ℤ number_in_row t
     → crossing_of t a b ≡ pos (is_below t a) -ℤ pos (is_below t b)
 right_by t a b l true d eu ed pa pb right =
     let low = rises_low t a b eu in let high = rises_high t a b eu in
@@ -57,7 +61,8 @@ pub crossing_right : (t : Tile) (a b : Point) (l : Line) → Passes l a → Pass
     → crossing_of t a b ≡ pos (is_below t a) -ℤ pos (is_below t b)
 crossing_right t a b l pa pb right = right_by t a b l _ _ refl refl pa pb right
 
-left_by : (t : Tile) (a b : Point) (l : Line) (u d : Bool) → rises_past t a b ≡ u → rises_past t b a ≡ d → Passes l a → Passes l b → number_in_row t <ℤ place l t.j → crossing_of t a b ≡ pos 0
+left_by : (t : Tile) (a b : Point) (l : Line) (u d : Bool) → rises_past t a b ≡ u → rises_past t b a ≡ d → Passes l a
+    → Passes l b → number_in_row t <ℤ place l t.j → crossing_of t a b ≡ pos 0
 left_by t a b l true d eu ed pa pb left =
     let low = rises_low t a b eu in let high = rises_high t a b eu in
     crossing_up t a b eu ∙ ap (λ r. pos (count_one r)) (left_of t a b l pa pb (λ e. absurd (omega (arith, ints, low, high, e))) left)

@@ -20,13 +20,20 @@ use Rattle.flat_walk.proofs.ListLemmas.{somes, somes_are, each_filter}
 abbrev IsOnHalfGrid : Corners → Type 0
 IsOnHalfGrid q = HasGridEdges (ring_of q)
 
-rings_of : (P : Point → Type 0) (items : List (Option Corners)) → AllByRecursion (λ item. IfSome item (λ q. IsSpanned P q × IsRing q)) items → AllByRecursion IsOnHalfGrid (somes items)
+rings_of : (P : Point → Type 0) (items : List (Option Corners))
+    → AllByRecursion (λ item. IfSome item (λ q. IsSpanned P q × IsRing q)) items
+    → AllByRecursion IsOnHalfGrid (somes items)
 rings_of P [] all = tt
 rings_of P (None ∷ items) all = rings_of P items all.1
 rings_of P (Some q ∷ items) all = (All-from_recursion IsOnGrid (edges_of (ring_of q)) all.0.1.loop.grid, rings_of P items all.1)
 
-pub list_grid : (scene : Scene) → IsScene scene → All (λ q. HasGridEdges (ring_of q)) (pieces_in (cells_of scene) scene.tree.now.top scene.parts.now scene.pair scene.window)
+pub list_grid : (scene : Scene) → IsScene scene
+    → All (λ q. HasGridEdges (ring_of q))
+    (pieces_in (cells_of scene) scene.tree.now.top scene.parts.now scene.pair scene.window)
 unfolding pieces_in
-list_grid scene sc = All-from_recursion IsOnHalfGrid _ (each_filter IsOnHalfGrid (has_row_in scene.window) (placed_pieces (cells_of scene) scene.parts.now scene.pair scene.tree.now.top)
+list_grid scene sc = All-from_recursion IsOnHalfGrid _
+    (each_filter IsOnHalfGrid (has_row_in scene.window)
+    (placed_pieces (cells_of scene) scene.parts.now scene.pair scene.tree.now.top)
     (subst (AllByRecursion IsOnHalfGrid) (somes_are (cells_of scene) scene.parts.now scene.pair scene.tree.now.top)
-    (rings_of (IsVertex (cells_of scene) scene.tree.now.top scene.pair) (marked_of scene scene.tree.now.top) (all_shown scene sc scene.tree.now.top (top_reachable (cells_of scene) scene.tree.now.top)))))
+    (rings_of (IsVertex (cells_of scene) scene.tree.now.top scene.pair) (marked_of scene scene.tree.now.top)
+    (all_shown scene sc scene.tree.now.top (top_reachable (cells_of scene) scene.tree.now.top)))))

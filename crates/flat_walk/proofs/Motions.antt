@@ -1,5 +1,7 @@
 -- Maps of the plane that keep the half grid, and the winding of an outline's image.
-use Rattle.std.proofs.Common.{◌≡◌, ◌≢◌, ◌⊎◌, inl, inr, ℕ, zero, suc, Bool, true, false, ℤ, pos, negsuc, ◌+◌, ◌*◌, ◌≤◌, ◌<◌, ◌/◌, ◌%◌, ◌+ℤ◌, ◌-ℤ◌, ◌*ℤ◌, neg_ℤ, ◌≤ℤ◌, ◌<ℤ◌, ◌&&◌, not, mod-lt, map-id, arith, refl, ap, sym, subst, ◌∙◌, List, [], ◌∷◌, map, int_le, int_lt, cond}
+use Rattle.std.proofs.Common.{◌≡◌, ◌≢◌, ◌⊎◌, inl, inr, ℕ, zero, suc, Bool, true, false, ℤ, pos, negsuc, ◌+◌, ◌*◌, ◌≤◌}
+use Rattle.std.proofs.Common.{◌<◌, ◌/◌, ◌%◌, ◌+ℤ◌, ◌-ℤ◌, ◌*ℤ◌, neg_ℤ, ◌≤ℤ◌, ◌<ℤ◌, ◌&&◌, not, mod-lt, map-id, arith}
+use Rattle.std.proofs.Common.{refl, ap, sym, subst, ◌∙◌, List, [], ◌∷◌, map, int_le, int_lt, cond}
 use Rattle.std.proofs.lemmas.Int.{ints, by_lt_z}
 use Rattle.std.proofs.lemmas.Bool.Decides.{nat_tests}
 use Rattle.std.proofs.Math.IntN.{zero-*ℤ, suc_ℤ-*ℤ}
@@ -33,7 +35,8 @@ pub closed_map : (f : Point → Point) (points : List Point) → IsClosed points
 closed_map f [] h = absurd h
 closed_map f (a ∷ points) h = last_map f a points ∙ ap f h
 
-pub grid_map : (f : Point → Point) (points : List Point) → ((a b : Point) → IsOnGrid (a, b) → IsOnGrid (f a, f b)) → AllByRecursion IsOnGrid (edges_of points) → AllByRecursion IsOnGrid (edges_of (map f points))
+pub grid_map : (f : Point → Point) (points : List Point) → ((a b : Point) → IsOnGrid (a, b) → IsOnGrid (f a, f b))
+    → AllByRecursion IsOnGrid (edges_of points) → AllByRecursion IsOnGrid (edges_of (map f points))
 grid_map f [] each all = tt
 grid_map f (a ∷ []) each all = tt
 grid_map f (a ∷ b ∷ points) each all = (each a b all.0, grid_map f (b ∷ points) each all.1)
@@ -59,7 +62,8 @@ upward_edge f t u a b up (inr share) =
     (λ ge. crossing_right t (f a) (f b) (up.line l) (up.through l a pa) (up.through l b pb) (up.right l ge)
     ∙ rw (up.row a, up.row b) (sym (crossing_right u a b l pa pb ge)))
 
-upward_from : (f : Point → Point) (t u : Tile) (a : Point) (points : List Point) → IsUpward f t u → AllByRecursion IsOnGrid (edges_of (a ∷ points)) → winding_from t (f a) (map f points) ≡ winding_from u a points
+upward_from : (f : Point → Point) (t u : Tile) (a : Point) (points : List Point) → IsUpward f t u
+    → AllByRecursion IsOnGrid (edges_of (a ∷ points)) → winding_from t (f a) (map f points) ≡ winding_from u a points
 upward_from f t u a [] up grid = refl
 upward_from f t u a (b ∷ points) up grid = rw (upward_edge f t u a b up grid.0, upward_from f t u b points up grid.1) refl
 
@@ -89,12 +93,14 @@ move_through hx hy by (Upright c) p ex ey h = omega (arith, ints, ex, ey, h)
 move_through hx hy by (Rising c) p ex ey h = omega (arith, ints, ex, ey, h)
 move_through hx hy by (Falling c) p ex ey h = omega (arith, ints, ex, ey, h)
 
-move_right : (hx hy n j : ℤ) (by : Point) (l : Line) → by.x ≡ twice hx → by.y ≡ twice hy → place l (j -ℤ by.y) ≤ℤ (n -ℤ twice by.x) → place (move_line hx hy l) j ≤ℤ n
+move_right : (hx hy n j : ℤ) (by : Point) (l : Line) → by.x ≡ twice hx → by.y ≡ twice hy
+    → place l (j -ℤ by.y) ≤ℤ (n -ℤ twice by.x) → place (move_line hx hy l) j ≤ℤ n
 move_right hx hy n j by (Upright c) ex ey h = omega (arith, ints, ex, ey, h)
 move_right hx hy n j by (Rising c) ex ey h = omega (arith, ints, ex, ey, h)
 move_right hx hy n j by (Falling c) ex ey h = omega (arith, ints, ex, ey, h)
 
-move_left : (hx hy n j : ℤ) (by : Point) (l : Line) → by.x ≡ twice hx → by.y ≡ twice hy → (n -ℤ twice by.x) <ℤ place l (j -ℤ by.y) → n <ℤ place (move_line hx hy l) j
+move_left : (hx hy n j : ℤ) (by : Point) (l : Line) → by.x ≡ twice hx → by.y ≡ twice hy
+    → (n -ℤ twice by.x) <ℤ place l (j -ℤ by.y) → n <ℤ place (move_line hx hy l) j
 move_left hx hy n j by (Upright c) ex ey h = omega (arith, ints, ex, ey, h)
 move_left hx hy n j by (Rising c) ex ey h = omega (arith, ints, ex, ey, h)
 move_left hx hy n j by (Falling c) ex ey h = omega (arith, ints, ex, ey, h)
@@ -108,11 +114,14 @@ move_upward by t x y =
       flat = λ a b e. ap (λ z. z +ℤ by.y) e;
       line = move_line (half by.x) (half by.y);
       through = λ l p h. move_through (half by.x) (half by.y) by l p ex ey h;
-      right = λ l h. move_right (half by.x) (half by.y) (number_in_row t) t.j by l ex ey (rw (tile_with_number (number_in_row t -ℤ twice by.x) (t.j -ℤ by.y)) at h);
-      left = λ l h. move_left (half by.x) (half by.y) (number_in_row t) t.j by l ex ey (rw (tile_with_number (number_in_row t -ℤ twice by.x) (t.j -ℤ by.y)) at h);
+      right = λ l h. move_right (half by.x) (half by.y) (number_in_row t) t.j by l ex ey
+          (rw (tile_with_number (number_in_row t -ℤ twice by.x) (t.j -ℤ by.y)) at h);
+      left = λ l h. move_left (half by.x) (half by.y) (number_in_row t) t.j by l ex ey
+          (rw (tile_with_number (number_in_row t -ℤ twice by.x) (t.j -ℤ by.y)) at h);
     }
 
-pub move_winding : (by : Point) (t : Tile) (points : List Point) → is_even by.x ≡ true → is_even by.y ≡ true → IsLoop points → winding (map (moved by) points) t ≡ winding points (before_move by t)
+pub move_winding : (by : Point) (t : Tile) (points : List Point) → is_even by.x ≡ true → is_even by.y ≡ true
+    → IsLoop points → winding (map (moved by) points) t ≡ winding points (before_move by t)
 move_winding by t points x y loop = upward (moved by) t (before_move by t) points (move_upward by t x y) loop
 
 move_grid : (by a b : Point) → is_even by.x ≡ true → is_even by.y ≡ true → IsOnGrid (a, b) → IsOnGrid (moved by a, moved by b)
@@ -124,7 +133,12 @@ move_grid by a b x y (inr share) = inr (
 )
 
 pub move_loop : (by : Point) (points : List Point) → is_even by.x ≡ true → is_even by.y ≡ true → IsLoop points → IsLoop (map (moved by) points)
-move_loop by points x y loop = record { closed = closed_map (moved by) points loop.closed; grid = grid_map (moved by) points (λ a b g. move_grid by a b x y g) loop.grid }
+move_loop by points x y loop =
+    record {
+      closed = closed_map (moved by) points loop.closed;
+      grid = grid_map (moved by) points
+          (λ a b g. move_grid by a b x y g) loop.grid;
+    }
 
 -- ---- a flip of Y
 
@@ -167,19 +181,24 @@ flip_edge t a b (inr share) =
     let pb = share.2 in
     let named = tile_with_number (number_in_row t) (neg_ℤ t.j -ℤ pos 1) in
     by_lt_z (number_in_row (before_flip t)) (place l (before_flip t).j)
-    (λ lt. crossing_left t (mirrored a) (mirrored b) (flip_line l) (flip_through l a pa) (flip_through l b pb) (flip_left l (number_in_row t) t.j (rw named at lt)) ∙ ap neg_ℤ (sym (crossing_left (before_flip t) a b l pa pb lt)))
+    (λ lt. crossing_left t (mirrored a) (mirrored b) (flip_line l) (flip_through l a pa) (flip_through l b pb)
+    (flip_left l (number_in_row t) t.j (rw named at lt)) ∙ ap neg_ℤ
+    (sym (crossing_left (before_flip t) a b l pa pb lt)))
     (λ ge.
-    let image = crossing_right t (mirrored a) (mirrored b) (flip_line l) (flip_through l a pa) (flip_through l b pb) (flip_right l (number_in_row t) t.j (rw named at ge)) in
+    let image = crossing_right t (mirrored a) (mirrored b) (flip_line l) (flip_through l a pa) (flip_through l b pb)
+    (flip_right l (number_in_row t) t.j (rw named at ge)) in
     let here = crossing_right (before_flip t) a b l pa pb ge in
     omega (arith, ints, image, here, flip_below t a, flip_below t b))
 
-flip_from : (t : Tile) (a : Point) (points : List Point) → AllByRecursion IsOnGrid (edges_of (a ∷ points)) → winding_from t (mirrored a) (map mirrored points) ≡ neg_ℤ (winding_from (before_flip t) a points)
+flip_from : (t : Tile) (a : Point) (points : List Point) → AllByRecursion IsOnGrid (edges_of (a ∷ points))
+    → winding_from t (mirrored a) (map mirrored points) ≡ neg_ℤ (winding_from (before_flip t) a points)
 flip_from t a [] grid = refl
 flip_from t a (b ∷ points) grid = omega (arith, ints, flip_edge t a b grid.0, flip_from t b points grid.1)
 
 pub flip_winding : (t : Tile) (points : List Point) → IsLoop points → winding (map mirrored points) t ≡ neg_ℤ (winding points (before_flip t))
 flip_winding t [] loop = absurd loop.closed
-flip_winding t (a ∷ points) loop = winding_along t (mirrored a) (map mirrored points) ∙ flip_from t a points loop.grid ∙ ap neg_ℤ (sym (winding_along (before_flip t) a points))
+flip_winding t (a ∷ points) loop = winding_along t (mirrored a) (map mirrored points) ∙ flip_from t a points loop.grid
+    ∙ ap neg_ℤ (sym (winding_along (before_flip t) a points))
 
 flip_grid : (a b : Point) → IsOnGrid (a, b) → IsOnGrid (mirrored a, mirrored b)
 flip_grid a b (inl e) = inl (ap neg_ℤ e)
@@ -225,34 +244,78 @@ half_over true n e = omega (arith, ints, even_is n e)
 half_over false n e = omega (arith, ints, odd_is n e)
 
 turned_by : (b : Bool) (n j : ℤ) → is_even (half n +ℤ j) ≡ b → AreTurned n j (turned_number n j) (neg_ℤ (half n) -ℤ pos 1)
-turned_by true n j e = record { i = half n; column_low = half_under _ n refl; column_high = half_over _ n refl; row = refl; h = half (half n +ℤ j); parity = inl (even_is _ e, rw e refl) }
-turned_by false n j e = record { i = half n; column_low = half_under _ n refl; column_high = half_over _ n refl; row = refl; h = half (half n +ℤ j); parity = inr (odd_is _ e, rw e refl) }
+turned_by true n j e =
+    record {
+      i = half n;
+      column_low = half_under _ n refl;
+      column_high = half_over _ n refl;
+      row = refl;
+      h = half
+          (half n +ℤ j);
+      parity = inl (even_is _ e, rw e refl);
+    }
+turned_by false n j e =
+    record {
+      i = half n;
+      column_low = half_under _ n refl;
+      column_high = half_over _ n refl;
+      row = refl;
+      h = half
+          (half n +ℤ j);
+      parity = inr (odd_is _ e, rw e refl);
+    }
 
 turned_tile : (t : Tile) → AreTurned (number_in_row t) t.j (number_in_row (before_turn t)) (before_turn t).j
 turned_tile t = rw (tile_with_number (turned_number (number_in_row t) t.j) (neg_ℤ (half (number_in_row t)) -ℤ pos 1)) (turned_by _ (number_in_row t) t.j refl)
 
 module _ (n j m k : ℤ) (turned : AreTurned n j m k) where
   number_low : twice j ≤ℤ m
-  number_low = let a = turned.column_low in let b = turned.column_high in elim turned.parity [ inl p ↦ (let e = p.1 in omega (arith, ints, a, b, e)) | inr p ↦ (let e = p.1 in omega (arith, ints, a, b, e)) ]
+  number_low = let a = turned.column_low in let b = turned.column_high in
+      elim turned.parity [
+        | inl p ↦ (let e = p.1 in omega (arith, ints, a, b, e))
+        | inr p ↦
+            (let e = p.1 in omega (arith, ints, a, b, e))
+      ]
 
   number_high : m ≤ℤ (twice j +ℤ pos 1)
-  number_high = let a = turned.column_low in let b = turned.column_high in elim turned.parity [ inl p ↦ (let e = p.1 in omega (arith, ints, a, b, e)) | inr p ↦ (let e = p.1 in omega (arith, ints, a, b, e)) ]
+  number_high = let a = turned.column_low in let b = turned.column_high in
+      elim turned.parity [
+        | inl p ↦ (let e = p.1 in omega (arith, ints, a, b, e))
+        | inr p ↦
+            (let e = p.1 in omega (arith, ints, a, b, e))
+      ]
 
   rising_right : (c : ℤ) → place (Rising c) k ≤ℤ m → place (Falling c) j ≤ℤ n
   rising_right c h = let a = turned.column_low in let b = turned.column_high in let r = turned.row in
-      elim turned.parity [ inl p ↦ (let d = p.0 in let e = p.1 in omega (arith, ints, a, b, r, d, e, h)) | inr p ↦ (let d = p.0 in let e = p.1 in omega (arith, ints, a, b, r, d, e, h)) ]
+      elim turned.parity [
+        | inl p ↦ (let d = p.0 in let e = p.1 in omega (arith, ints, a, b, r, d, e, h))
+        | inr p ↦
+            (let d = p.0 in let e = p.1 in omega (arith, ints, a, b, r, d, e, h))
+      ]
 
   rising_left : (c : ℤ) → m <ℤ place (Rising c) k → n <ℤ place (Falling c) j
   rising_left c h = let a = turned.column_low in let b = turned.column_high in let r = turned.row in
-      elim turned.parity [ inl p ↦ (let d = p.0 in let e = p.1 in omega (arith, ints, a, b, r, d, e, h)) | inr p ↦ (let d = p.0 in let e = p.1 in omega (arith, ints, a, b, r, d, e, h)) ]
+      elim turned.parity [
+        | inl p ↦ (let d = p.0 in let e = p.1 in omega (arith, ints, a, b, r, d, e, h))
+        | inr p ↦
+            (let d = p.0 in let e = p.1 in omega (arith, ints, a, b, r, d, e, h))
+      ]
 
   falling_right : (c : ℤ) → place (Falling c) k ≤ℤ m → n <ℤ place (Rising (neg_ℤ c)) j
   falling_right c h = let a = turned.column_low in let b = turned.column_high in let r = turned.row in
-      elim turned.parity [ inl p ↦ (let d = p.0 in let e = p.1 in omega (arith, ints, a, b, r, d, e, h)) | inr p ↦ (let d = p.0 in let e = p.1 in omega (arith, ints, a, b, r, d, e, h)) ]
+      elim turned.parity [
+        | inl p ↦ (let d = p.0 in let e = p.1 in omega (arith, ints, a, b, r, d, e, h))
+        | inr p ↦
+            (let d = p.0 in let e = p.1 in omega (arith, ints, a, b, r, d, e, h))
+      ]
 
   falling_left : (c : ℤ) → m <ℤ place (Falling c) k → place (Rising (neg_ℤ c)) j ≤ℤ n
   falling_left c h = let a = turned.column_low in let b = turned.column_high in let r = turned.row in
-      elim turned.parity [ inl p ↦ (let d = p.0 in let e = p.1 in omega (arith, ints, a, b, r, d, e, h)) | inr p ↦ (let d = p.0 in let e = p.1 in omega (arith, ints, a, b, r, d, e, h)) ]
+      elim turned.parity [
+        | inl p ↦ (let d = p.0 in let e = p.1 in omega (arith, ints, a, b, r, d, e, h))
+        | inr p ↦
+            (let d = p.0 in let e = p.1 in omega (arith, ints, a, b, r, d, e, h))
+      ]
 
 -- the point stands left of the column and above the row, by the two tests
 abbrev corner : Bool → Bool → ℕ
@@ -285,7 +348,8 @@ when_apart false false h = refl
 abbrev corner_at : Tile → Point → ℕ
 corner_at t p = corner (int_le p.x t.j) (int_le p.y (before_turn t).j)
 
-turn_flat : (t : Tile) (a b : Point) → a.y ≡ b.y → crossing_of t (quarter_turn a) (quarter_turn b) ≡ crossing_of (before_turn t) a b +ℤ (pos (corner_at t a) -ℤ pos (corner_at t b))
+turn_flat : (t : Tile) (a b : Point) → a.y ≡ b.y → crossing_of t (quarter_turn a) (quarter_turn b) ≡ crossing_of
+    (before_turn t) a b +ℤ (pos (corner_at t a) -ℤ pos (corner_at t b))
 turn_flat t a b e =
     let flat = crossing_flat (before_turn t) a b e in
     let turned = turned_tile t in
@@ -309,7 +373,9 @@ turn_flat t a b e =
     let qb = when_apart (int_le b.x t.j) (int_le b.y (before_turn t).j) (λ _. lb) in
     omega (arith, ints, flat, image, qa, qb))
 
-turn_upright : (t : Tile) (a b : Point) (c : ℤ) → a.x ≡ c → b.x ≡ c → crossing_of t (quarter_turn a) (quarter_turn b) ≡ crossing_of (before_turn t) a b +ℤ (pos (corner_at t a) -ℤ pos (corner_at t b))
+turn_upright : (t : Tile) (a b : Point) (c : ℤ) → a.x ≡ c → b.x ≡ c
+    → crossing_of t (quarter_turn a) (quarter_turn b) ≡ crossing_of
+    (before_turn t) a b +ℤ (pos (corner_at t a) -ℤ pos (corner_at t b))
 turn_upright t a b c pa pb =
     let turned = turned_tile t in
     let high = number_high _ _ _ _ turned in
@@ -333,7 +399,9 @@ turn_upright t a b c pa pb =
     let qb = when_either (int_le b.x t.j) (int_le b.y (before_turn t).j) (λ e. absurd (let clash : ⊥ = cc in clash)) in
     omega (arith, ints, image, here, qa, qb))
 
-turn_rising : (t : Tile) (a b : Point) (c : ℤ) → Passes (Rising c) a → Passes (Rising c) b → crossing_of t (quarter_turn a) (quarter_turn b) ≡ crossing_of (before_turn t) a b +ℤ (pos (corner_at t a) -ℤ pos (corner_at t b))
+turn_rising : (t : Tile) (a b : Point) (c : ℤ) → Passes (Rising c) a → Passes (Rising c) b
+    → crossing_of t (quarter_turn a) (quarter_turn b) ≡ crossing_of
+    (before_turn t) a b +ℤ (pos (corner_at t a) -ℤ pos (corner_at t b))
 turn_rising t a b c pa pb =
     let turned = turned_tile t in
     let high = number_high _ _ _ _ turned in
@@ -344,17 +412,23 @@ turn_rising t a b c pa pb =
     (λ lt.
     let here = crossing_left (before_turn t) a b (Rising c) pa pb lt in
     let image = crossing_left t (quarter_turn a) (quarter_turn b) (Falling c) qpa qpb (rising_left _ _ _ _ turned c lt) in
-    let qa = when_below (int_le a.x t.j) (int_le a.y (before_turn t).j) (λ e. le_yes a.y (before_turn t).j (let h = le_true a.x t.j e in omega (arith, ints, lt, low, pa, h))) in
-    let qb = when_below (int_le b.x t.j) (int_le b.y (before_turn t).j) (λ e. le_yes b.y (before_turn t).j (let h = le_true b.x t.j e in omega (arith, ints, lt, low, pb, h))) in
+    let qa = when_below (int_le a.x t.j) (int_le a.y (before_turn t).j)
+    (λ e. le_yes a.y (before_turn t).j (let h = le_true a.x t.j e in omega (arith, ints, lt, low, pa, h))) in
+    let qb = when_below (int_le b.x t.j) (int_le b.y (before_turn t).j)
+    (λ e. le_yes b.y (before_turn t).j (let h = le_true b.x t.j e in omega (arith, ints, lt, low, pb, h))) in
     omega (arith, ints, image, here, qa, qb))
     (λ ge.
     let here = crossing_right (before_turn t) a b (Rising c) pa pb ge in
     let image = crossing_right t (quarter_turn a) (quarter_turn b) (Falling c) qpa qpb (rising_right _ _ _ _ turned c ge) in
-    let qa = when_left (int_le a.x t.j) (int_le a.y (before_turn t).j) (λ e. le_yes a.x t.j (let h = le_true a.y (before_turn t).j e in omega (arith, ints, ge, high, pa, h))) in
-    let qb = when_left (int_le b.x t.j) (int_le b.y (before_turn t).j) (λ e. le_yes b.x t.j (let h = le_true b.y (before_turn t).j e in omega (arith, ints, ge, high, pb, h))) in
+    let qa = when_left (int_le a.x t.j) (int_le a.y (before_turn t).j)
+    (λ e. le_yes a.x t.j (let h = le_true a.y (before_turn t).j e in omega (arith, ints, ge, high, pa, h))) in
+    let qb = when_left (int_le b.x t.j) (int_le b.y (before_turn t).j)
+    (λ e. le_yes b.x t.j (let h = le_true b.y (before_turn t).j e in omega (arith, ints, ge, high, pb, h))) in
     omega (arith, ints, image, here, qa, qb))
 
-turn_falling : (t : Tile) (a b : Point) (c : ℤ) → Passes (Falling c) a → Passes (Falling c) b → crossing_of t (quarter_turn a) (quarter_turn b) ≡ crossing_of (before_turn t) a b +ℤ (pos (corner_at t a) -ℤ pos (corner_at t b))
+turn_falling : (t : Tile) (a b : Point) (c : ℤ) → Passes (Falling c) a → Passes (Falling c) b
+    → crossing_of t (quarter_turn a) (quarter_turn b) ≡ crossing_of
+    (before_turn t) a b +ℤ (pos (corner_at t a) -ℤ pos (corner_at t b))
 turn_falling t a b c pa pb =
     let turned = turned_tile t in
     let high = number_high _ _ _ _ turned in
@@ -365,27 +439,35 @@ turn_falling t a b c pa pb =
     (λ lt.
     let here = crossing_left (before_turn t) a b (Falling c) pa pb lt in
     let image = crossing_right t (quarter_turn a) (quarter_turn b) (Rising (neg_ℤ c)) qpa qpb (falling_left _ _ _ _ turned c lt) in
-    let qa = when_apart (int_le a.x t.j) (int_le a.y (before_turn t).j) (λ e. le_no a.y (before_turn t).j (let h = le_true a.x t.j e in omega (arith, ints, lt, low, pa, h))) in
-    let qb = when_apart (int_le b.x t.j) (int_le b.y (before_turn t).j) (λ e. le_no b.y (before_turn t).j (let h = le_true b.x t.j e in omega (arith, ints, lt, low, pb, h))) in
+    let qa = when_apart (int_le a.x t.j) (int_le a.y (before_turn t).j)
+    (λ e. le_no a.y (before_turn t).j (let h = le_true a.x t.j e in omega (arith, ints, lt, low, pa, h))) in
+    let qb = when_apart (int_le b.x t.j) (int_le b.y (before_turn t).j)
+    (λ e. le_no b.y (before_turn t).j (let h = le_true b.x t.j e in omega (arith, ints, lt, low, pb, h))) in
     omega (arith, ints, image, here, qa, qb))
     (λ ge.
     let here = crossing_right (before_turn t) a b (Falling c) pa pb ge in
     let image = crossing_left t (quarter_turn a) (quarter_turn b) (Rising (neg_ℤ c)) qpa qpb (falling_right _ _ _ _ turned c ge) in
-    let qa = when_either (int_le a.x t.j) (int_le a.y (before_turn t).j) (λ e. le_yes a.y (before_turn t).j (let h = le_false a.x t.j e in omega (arith, ints, ge, high, pa, h))) in
-    let qb = when_either (int_le b.x t.j) (int_le b.y (before_turn t).j) (λ e. le_yes b.y (before_turn t).j (let h = le_false b.x t.j e in omega (arith, ints, ge, high, pb, h))) in
+    let qa = when_either (int_le a.x t.j) (int_le a.y (before_turn t).j)
+    (λ e. le_yes a.y (before_turn t).j (let h = le_false a.x t.j e in omega (arith, ints, ge, high, pa, h))) in
+    let qb = when_either (int_le b.x t.j) (int_le b.y (before_turn t).j)
+    (λ e. le_yes b.y (before_turn t).j (let h = le_false b.x t.j e in omega (arith, ints, ge, high, pb, h))) in
     omega (arith, ints, image, here, qa, qb))
 
-turn_line : (t : Tile) (a b : Point) (l : Line) → Passes l a → Passes l b → crossing_of t (quarter_turn a) (quarter_turn b) ≡ crossing_of (before_turn t) a b +ℤ (pos (corner_at t a) -ℤ pos (corner_at t b))
+turn_line : (t : Tile) (a b : Point) (l : Line) → Passes l a → Passes l b
+    → crossing_of t (quarter_turn a) (quarter_turn b) ≡ crossing_of
+    (before_turn t) a b +ℤ (pos (corner_at t a) -ℤ pos (corner_at t b))
 turn_line t a b (Upright c) pa pb = turn_upright t a b c pa pb
 turn_line t a b (Rising c) pa pb = turn_rising t a b c pa pb
 turn_line t a b (Falling c) pa pb = turn_falling t a b c pa pb
 
-turn_edge : (t : Tile) (a b : Point) → IsOnGrid (a, b) → crossing_of t (quarter_turn a) (quarter_turn b) ≡ crossing_of (before_turn t) a b +ℤ (pos (corner_at t a) -ℤ pos (corner_at t b))
+turn_edge : (t : Tile) (a b : Point) → IsOnGrid (a, b) → crossing_of t (quarter_turn a) (quarter_turn b) ≡ crossing_of
+    (before_turn t) a b +ℤ (pos (corner_at t a) -ℤ pos (corner_at t b))
 turn_edge t a b (inl e) = turn_flat t a b e
 turn_edge t a b (inr share) = turn_line t a b share.0 share.1 share.2
 
 turn_from : (t : Tile) (a : Point) (points : List Point) → AllByRecursion IsOnGrid (edges_of (a ∷ points))
-    → winding_from t (quarter_turn a) (map quarter_turn points) ≡ winding_from (before_turn t) a points +ℤ (pos (corner_at t a) -ℤ pos (corner_at t (last_of a points)))
+    → winding_from t (quarter_turn a) (map quarter_turn points) ≡ winding_from (before_turn t) a points
+    +ℤ (pos (corner_at t a) -ℤ pos (corner_at t (last_of a points)))
 turn_from t a [] grid = omega (arith, ints)
 turn_from t a (b ∷ points) grid = omega (arith, ints, turn_edge t a b grid.0, turn_from t b points grid.1)
 
@@ -393,7 +475,8 @@ pub turn_winding : (t : Tile) (points : List Point) → IsLoop points → windin
 turn_winding t [] loop = absurd loop.closed
 turn_winding t (a ∷ points) loop =
     let same = ap (corner_at t) loop.closed in
-    winding_along t (quarter_turn a) (map quarter_turn points) ∙ (turn_from t a points loop.grid ∙ omega (arith, ints, winding_along (before_turn t) a points, same))
+    winding_along t (quarter_turn a) (map quarter_turn points)
+    ∙ (turn_from t a points loop.grid ∙ omega (arith, ints, winding_along (before_turn t) a points, same))
 
 turn_on : (a b : Point) (l : Line) → Passes l a → Passes l b → IsOnGrid (quarter_turn a, quarter_turn b)
 turn_on a b (Upright c) pa pb = inl (pa ∙ sym pb)
@@ -563,7 +646,9 @@ abbrev side_in : ℕ → ℤ → ℤ → ℤ → ℤ → ℕ
 side_in m n j a b = cond (is_even (a +ℤ b)) (even_side m n j (half (a +ℤ b) -ℤ b)) (odd_side m n j (half (a +ℤ b) +ℤ pos 1))
 
 abbrev pub before_enlarged : ℕ → Tile → Tile
-before_enlarged m t = tile_with (twice (cell_column m (number_in_row t)) +ℤ pos (side_in m (number_in_row t) t.j (cell_column m (number_in_row t)) (part m t.j))) (part m t.j)
+before_enlarged m t = tile_with
+    (twice (cell_column m (number_in_row t)) +ℤ pos
+    (side_in m (number_in_row t) t.j (cell_column m (number_in_row t)) (part m t.j))) (part m t.j)
 
 in_cell : (m : ℕ) (n j : ℤ) → 1 ≤ m → IsInCell m n j (cell_column m n) (part m j)
 in_cell m n j some = record {
@@ -582,10 +667,13 @@ side_of : (x y : ℤ) (b : Bool) → int_le x y ≡ b → ((count_one b ≡ 1) �
 side_of x y true e = inl (refl, le_true x y e)
 side_of x y false e = inr (refl, le_false x y e)
 
-agrees_by : (e : Bool) (m : ℕ) (n j a b : ℤ) (l : Line) → is_even (a +ℤ b) ≡ e → IsInCell m n j a b → Agrees m n j a b (cond e (even_side m n j (half (a +ℤ b) -ℤ b)) (odd_side m n j (half (a +ℤ b) +ℤ pos 1))) l
-agrees_by true m n j a b l e cell = even_agrees m n j a b (half (a +ℤ b) -ℤ b) cell _ l (one_or_none (int_le (place (Rising (pos m *ℤ (half (a +ℤ b) -ℤ b))) j) n))
+agrees_by : (e : Bool) (m : ℕ) (n j a b : ℤ) (l : Line) → is_even (a +ℤ b) ≡ e → IsInCell m n j a b
+    → Agrees m n j a b (cond e (even_side m n j (half (a +ℤ b) -ℤ b)) (odd_side m n j (half (a +ℤ b) +ℤ pos 1))) l
+agrees_by true m n j a b l e cell = even_agrees m n j a b (half (a +ℤ b) -ℤ b) cell _ l
+    (one_or_none (int_le (place (Rising (pos m *ℤ (half (a +ℤ b) -ℤ b))) j) n))
     (record { diagonal = omega (arith, ints, even_is (a +ℤ b) e); side = side_of (place (Rising (pos m *ℤ (half (a +ℤ b) -ℤ b))) j) n _ refl })
-agrees_by false m n j a b l e cell = odd_agrees m n j a b (half (a +ℤ b) +ℤ pos 1) cell _ l (one_or_none (int_le (place (Falling (pos m *ℤ (half (a +ℤ b) +ℤ pos 1))) j) n))
+agrees_by false m n j a b l e cell = odd_agrees m n j a b (half (a +ℤ b) +ℤ pos 1) cell _ l
+    (one_or_none (int_le (place (Falling (pos m *ℤ (half (a +ℤ b) +ℤ pos 1))) j) n))
     (record { diagonal = omega (arith, ints, odd_is (a +ℤ b) e); side = side_of (place (Falling (pos m *ℤ (half (a +ℤ b) +ℤ pos 1))) j) n _ refl })
 
 agrees : (m : ℕ) (n j : ℤ) (l : Line) → 1 ≤ m → Agrees m n j (cell_column m n) (part m j) (side_in m n j (cell_column m n) (part m j)) l
@@ -599,7 +687,9 @@ enlarged_row m y j some = le_same (pos m *ℤ y) j y (part m j)
 enlarge_upward : (m : ℕ) (t : Tile) → 1 ≤ m → IsUpward (enlarged m) t (before_enlarged m t)
 unfolding Agrees
 enlarge_upward m t some =
-    let number = tile_with_number (twice (cell_column m (number_in_row t)) +ℤ pos (side_in m (number_in_row t) t.j (cell_column m (number_in_row t)) (part m t.j))) (part m t.j) in
+    let number = tile_with_number
+    (twice (cell_column m (number_in_row t)) +ℤ pos
+    (side_in m (number_in_row t) t.j (cell_column m (number_in_row t)) (part m t.j))) (part m t.j) in
     record {
       row = λ p. enlarged_row m p.y t.j some;
       flat = λ a b e. ap (λ z. pos m *ℤ z) e;
@@ -609,7 +699,8 @@ enlarge_upward m t some =
       left = λ l h. (agrees m (number_in_row t) t.j l some).1 (rw number at h);
     }
 
-pub enlarge_winding : (m : ℕ) (t : Tile) (points : List Point) → 1 ≤ m → IsLoop points → winding (map (enlarged m) points) t ≡ winding points (before_enlarged m t)
+pub enlarge_winding : (m : ℕ) (t : Tile) (points : List Point) → 1 ≤ m → IsLoop points
+    → winding (map (enlarged m) points) t ≡ winding points (before_enlarged m t)
 enlarge_winding m t points some loop = upward (enlarged m) t (before_enlarged m t) points (enlarge_upward m t some) loop
 
 enlarge_grid : (m : ℕ) (a b : Point) → IsOnGrid (a, b) → IsOnGrid (enlarged m a, enlarged m b)
@@ -641,13 +732,15 @@ flipped_loop : (flip : Bool) (points : List Point) → IsLoop points → IsLoop 
 flipped_loop true points loop = flip_loop points loop
 flipped_loop false points loop = subst IsLoop (sym (map-id points)) loop
 
-flipped_winding : (flip : Bool) (t : Tile) (points : List Point) → IsLoop points → winding (map (flipped flip) points) t ≡ signed flip (winding points (before_flipped flip t))
+flipped_winding : (flip : Bool) (t : Tile) (points : List Point) → IsLoop points
+    → winding (map (flipped flip) points) t ≡ signed flip (winding points (before_flipped flip t))
 flipped_winding true t points loop = flip_winding t points loop
 flipped_winding false t points loop = ap (λ ps. winding ps t) (map-id points)
 
 turned_loop : (turns : ℕ) (points : List Point) → IsLoop points → IsLoop (map (turned turns) points)
 turned_loop zero points loop = subst IsLoop (sym (map-id points)) loop
-turned_loop (suc turns) points loop = subst IsLoop (map_both (turned turns) quarter_turn points) (turned_loop turns (map quarter_turn points) (turn_loop points loop))
+turned_loop (suc turns) points loop = subst IsLoop (map_both (turned turns) quarter_turn points)
+    (turned_loop turns (map quarter_turn points) (turn_loop points loop))
 
 turned_winding : (turns : ℕ) (t : Tile) (points : List Point) → IsLoop points → winding (map (turned turns) points) t ≡ winding points (before_turned turns t)
 turned_winding zero t points loop = ap (λ ps. winding ps t) (map-id points)
@@ -664,10 +757,12 @@ image_is : (orient : Orient) (at : Point) (points : List Point)
 image_is orient at [] = refl
 image_is orient at (p ∷ points) = ap (λ ps. image_of orient at p ∷ ps) (image_is orient at points)
 
-pub image_loop : (orient : Orient) (at : Point) (points : List Point) → is_even at.x ≡ true → is_even at.y ≡ true → IsLoop points → IsLoop (image_of_points orient at points)
+pub image_loop : (orient : Orient) (at : Point) (points : List Point) → is_even at.x ≡ true → is_even at.y ≡ true
+    → IsLoop points → IsLoop (image_of_points orient at points)
 image_loop orient at points x y loop =
     subst IsLoop (image_is orient at points) (move_loop at (map (turned orient.turns) (map (flipped orient.flip) (map (enlarged orient.mag) points))) x y
-    (turned_loop orient.turns (map (flipped orient.flip) (map (enlarged orient.mag) points)) (flipped_loop orient.flip (map (enlarged orient.mag) points) (enlarge_loop orient.mag points loop))))
+    (turned_loop orient.turns (map (flipped orient.flip) (map (enlarged orient.mag) points))
+    (flipped_loop orient.flip (map (enlarged orient.mag) points) (enlarge_loop orient.mag points loop))))
 
 -- the winding of an outline's image is that of the outline at the tile before, turned round where the orientation flips
 pub image_winding : (orient : Orient) (at : Point) (t : Tile) (points : List Point) → 1 ≤ orient.mag → is_even at.x ≡ true → is_even at.y ≡ true → IsLoop points

@@ -36,19 +36,22 @@ neg_between : (bound : ℕ) (z : ℤ) → IsBetween bound z → IsBetween bound 
 neg_between bound z b = let l = b.low in let h = b.high in record { low = omega (arith, ints); high = omega (arith, ints) }
 
 quarter_within : (bound : ℕ) (p : Point) → IsWithin bound p → IsWithin bound (quarter_turn p)
-quarter_within bound p w = let n = neg_between bound p.y (record { low = w.y_low; high = w.y_high }) in record { x_low = n.low; x_high = n.high; y_low = w.x_low; y_high = w.x_high }
+quarter_within bound p w = let n = neg_between bound p.y (record { low = w.y_low; high = w.y_high }) in
+    record { x_low = n.low; x_high = n.high; y_low = w.x_low; y_high = w.x_high }
 
 turned_within : (turns bound : ℕ) (p : Point) → IsWithin bound p → IsWithin bound (turned turns p)
 turned_within zero bound p w = w
 turned_within (suc turns) bound p w = turned_within turns bound (quarter_turn p) (quarter_within bound p w)
 
 flipped_within : (flip : Bool) (bound : ℕ) (p : Point) → IsWithin bound p → IsWithin bound (flipped flip p)
-flipped_within true bound p w = let n = neg_between bound p.y (record { low = w.y_low; high = w.y_high }) in record { x_low = w.x_low; x_high = w.x_high; y_low = n.low; y_high = n.high }
+flipped_within true bound p w = let n = neg_between bound p.y (record { low = w.y_low; high = w.y_high }) in
+    record { x_low = w.x_low; x_high = w.x_high; y_low = n.low; y_high = n.high }
 flipped_within false bound p w = w
 
 pub oriented_within : (orient : Orient) (bound : ℕ) (p : Point) → orient.mag ≤ 16 → IsWithin bound p → IsWithin (16 * bound) (oriented orient p)
 oriented_within orient bound p small w =
-    turned_within orient.turns (16 * bound) (flipped orient.flip (enlarged orient.mag p)) (flipped_within orient.flip (16 * bound) (enlarged orient.mag p) (enlarged_within orient.mag bound p small w))
+    turned_within orient.turns (16 * bound) (flipped orient.flip (enlarged orient.mag p))
+    (flipped_within orient.flip (16 * bound) (enlarged orient.mag p) (enlarged_within orient.mag bound p small w))
 
 pub moved_within : (a b : ℕ) (at p : Point) → IsWithin a at → IsWithin b p → IsWithin (a + b) (moved at p)
 moved_within a b at p u v =

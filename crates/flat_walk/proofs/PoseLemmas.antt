@@ -1,5 +1,6 @@
 -- One image after another.
-use Rattle.std.proofs.Common.{◌≡◌, ℕ, ℤ, zero, suc, pos, negsuc, neg_ℤ, ◌+ℤ◌, ◌*ℤ◌, ◌+◌, ◌*◌, ◌%◌, ◌-◌, ◌<◌, Bool, true, false, not, List, [], ◌∷◌, map, refl, sym, ap, subst, ◌∙◌, arith}
+use Rattle.std.proofs.Common.{◌≡◌, ℕ, ℤ, zero, suc, pos, negsuc, neg_ℤ, ◌+ℤ◌, ◌*ℤ◌, ◌+◌, ◌*◌, ◌%◌, ◌-◌, ◌<◌, Bool, true}
+use Rattle.std.proofs.Common.{false, not, List, [], ◌∷◌, map, refl, sym, ap, subst, ◌∙◌, arith}
 use Rattle.std.proofs.Math.IntN.{zero-*ℤ, suc_ℤ-*ℤ}
 use Rattle.std.proofs.lemmas.Int.{ints}
 use Rattle.half_grid.specs.declared.plane.Point.{Point}
@@ -22,7 +23,8 @@ mul_sum (suc m) n z = let e : suc m + n ≡ suc (m + n) = omega arith in rw (e, 
 
 mul_mul : (m n : ℕ) (z : ℤ) → pos m *ℤ (pos n *ℤ z) ≡ pos (m * n) *ℤ z
 mul_mul zero n z = let e : zero * n ≡ zero = omega arith in rw (e, zero-*ℤ z, zero-*ℤ (pos n *ℤ z)) refl
-mul_mul (suc m) n z = let e : suc m * n ≡ m * n + n = omega arith in rw (e, suc_ℤ-*ℤ (pos m) (pos n *ℤ z), mul_sum (m * n) n z) (omega (arith, ints, mul_mul m n z))
+mul_mul (suc m) n z = let e : suc m * n ≡ m * n + n = omega arith in rw
+    (e, suc_ℤ-*ℤ (pos m) (pos n *ℤ z), mul_sum (m * n) n z) (omega (arith, ints, mul_mul m n z))
 
 -- ---- sums
 
@@ -113,7 +115,9 @@ turn_after false a b p ha hb = turned_twice a b p ha hb
 
 oriented_twice : (a b : Orient) (p : Point) → a.turns < 4 → b.turns < 4 → oriented a (oriented b p) ≡ oriented (composed a b) p
 oriented_twice a b p ha hb =
-    ap (λ q. turned a.turns (flipped a.flip q)) (turned_enlarged a.mag b.turns (flipped b.flip (enlarged b.mag p)) ∙ ap (turned b.turns) (flipped_enlarged a.mag b.flip (enlarged b.mag p) ∙ ap (flipped b.flip) (enlarged_twice a.mag b.mag p)))
+    ap (λ q. turned a.turns (flipped a.flip q))
+    (turned_enlarged a.mag b.turns (flipped b.flip (enlarged b.mag p)) ∙ ap (turned b.turns)
+    (flipped_enlarged a.mag b.flip (enlarged b.mag p) ∙ ap (flipped b.flip) (enlarged_twice a.mag b.mag p)))
     ∙ (turn_after a.flip a.turns b.turns (flipped b.flip (enlarged (a.mag * b.mag) p)) ha hb
     ∙ ap (turned (turns_after a.flip a.turns b.turns)) (flip_after a.flip b.flip (enlarged (a.mag * b.mag) p)))
 
@@ -128,13 +132,16 @@ image_twice a b at by p ha hb =
 same_corners : (f g : Point → Point) (q : Corners) → ((p : Point) → f p ≡ g p) → with_corners f q ≡ with_corners g q
 same_corners f g q same = λ i. corners (same q.a i) (same q.b i) (same q.c i) (same q.d i)
 
-round_twice : (f g : Bool) (h k : Point → Point) (q : Corners) → turned_round f (with_corners h (turned_round g (with_corners k q))) ≡ turned_round (flips_after f g) (with_corners (λ p. h (k p)) q)
+round_twice : (f g : Bool) (h k : Point → Point) (q : Corners)
+    → turned_round f (with_corners h (turned_round g (with_corners k q))) ≡ turned_round (flips_after f g)
+    (with_corners (λ p. h (k p)) q)
 round_twice true true h k q = refl
 round_twice true false h k q = refl
 round_twice false true h k q = refl
 round_twice false false h k q = refl
 
-pub quad_twice : (a b : Orient) (at by : Point) (q : Corners) → a.turns < 4 → b.turns < 4 → quad_image a at (quad_image b by q) ≡ quad_image (composed a b) (image_of a at by) q
+pub quad_twice : (a b : Orient) (at by : Point) (q : Corners) → a.turns < 4 → b.turns < 4
+    → quad_image a at (quad_image b by q) ≡ quad_image (composed a b) (image_of a at by) q
 quad_twice a b at by q ha hb =
     round_twice a.flip b.flip (image_of a at) (image_of b by) q
     ∙ ap (turned_round (flips_after a.flip b.flip)) (same_corners _ _ q (λ p. image_twice a b at by p ha hb))

@@ -1,5 +1,7 @@
 -- Lists with marks, and what is skipped of them.
-use Rattle.std.proofs.Common.{◌≡◌, ℕ, zero, suc, ◌+◌, ◌≤◌, Bool, true, false, not, List, [], ◌∷◌, ◌++◌, Option, Some, None, All, map, drop, length, slice_get, refl, sym, ap, subst, ◌∙◌, arith, append_assoc, append-nil}
+use Rattle.std.proofs.Common.{◌≡◌, ℕ, zero, suc, ◌+◌, ◌≤◌, Bool, true, false, not, List, [], ◌∷◌, ◌++◌, Option, Some}
+use Rattle.std.proofs.Common.{None, All, map, drop, length, slice_get, refl, sym, ap, subst, ◌∙◌, arith, append_assoc}
+use Rattle.std.proofs.Common.{append-nil}
 use Rattle.std.specs.List.{filter, flat_map, AllByRecursion}
 use Rattle.std.proofs.lemmas.List.{map-append}
 use Rattle.std.proofs.lemmas.List.Elements.{filter-append, All-head, All-tail, All-from_recursion}
@@ -61,11 +63,13 @@ pub skip_quads : (P : Option Corners → Type 0) (w : RowRange) (a b : List (Opt
 skip_quads P w a b s all = all_right P s.front b (subst (All P) s.is all)
 
 -- an answer after what was skipped, and beside what comes later
-pub gives_after : (w : RowRange) (a b : List (Option Corners)) (answer : Option Corners) (after : List (Option Corners)) → Skips w a b → Gives w b answer after → Gives w a answer after
+pub gives_after : (w : RowRange) (a b : List (Option Corners)) (answer : Option Corners)
+    (after : List (Option Corners)) → Skips w a b → Gives w b answer after → Gives w a answer after
 gives_after w a b None after s g = (skip_on w a b [] s g.0, g.1)
 gives_after w a b (Some q) after s g = (skip_on w a b (Some q ∷ after) s g.0, g.1)
 
-pub gives_more : (w : RowRange) (a : List (Option Corners)) (q : Corners) (after c : List (Option Corners)) → Gives w a (Some q) after → Gives w (a ++ c) (Some q) (after ++ c)
+pub gives_more : (w : RowRange) (a : List (Option Corners)) (q : Corners) (after c : List (Option Corners))
+    → Gives w a (Some q) after → Gives w (a ++ c) (Some q) (after ++ c)
 gives_more w a q after c g = (skip_left w a (Some q ∷ after) c g.0, g.1)
 
 -- ---- own pieces
@@ -84,49 +88,74 @@ drop_past [] (suc k) h = refl
 drop_past (x ∷ xs) zero h = absurd (omega arith)
 drop_past (x ∷ xs) (suc k) h = drop_past xs k (omega arith)
 
-pub placed_moved : (orient : Orient) (at by : Point) (pieces : List Trapezoid) → map (quad_image orient at) (map (λ piece. moved_quad by (corners_of piece)) pieces) ≡ placed_list orient (image_of orient at by) pieces
+pub placed_moved : (orient : Orient) (at by : Point) (pieces : List Trapezoid)
+    → map (quad_image orient at) (map (λ piece. moved_quad by (corners_of piece)) pieces) ≡ placed_list orient
+    (image_of orient at by) pieces
 placed_moved orient at by [] = refl
-placed_moved orient at by (piece ∷ pieces) = ap (λ q. q ∷ map (quad_image orient at) (map (λ piece. moved_quad by (corners_of piece)) pieces)) (quad_moved orient at by (corners_of piece))
+placed_moved orient at by (piece ∷ pieces) = ap
+    (λ q. q ∷ map (quad_image orient at) (map (λ piece. moved_quad by (corners_of piece)) pieces))
+    (quad_moved orient at by (corners_of piece))
     ∙ ap (λ l. quad_image orient (image_of orient at by) (corners_of piece) ∷ l) (placed_moved orient at by pieces)
 
-pub places_on : (orient : Orient) (at by : Point) (pair : Pair) (shape : Shape) (pieces : List Trapezoid) (place : ℕ) → is_on pair shape ≡ true → slice_get shape.offsets place ≡ Some by
-    → map (quad_image orient at) (places_rest pair shape pieces place) ≡ placed_list orient (image_of orient at by) pieces ++ map (quad_image orient at) (places_rest pair shape pieces (place + 1))
+pub places_on : (orient : Orient) (at by : Point) (pair : Pair) (shape : Shape) (pieces : List Trapezoid) (place : ℕ)
+    → is_on pair shape ≡ true → slice_get shape.offsets place ≡ Some by
+    → map (quad_image orient at) (places_rest pair shape pieces place) ≡ placed_list orient
+    (image_of orient at by) pieces ++ map (quad_image orient at) (places_rest pair shape pieces (place + 1))
 places_on orient at by pair shape pieces place on at_place =
     rw (on, drop_here shape.offsets place by at_place)
-    (map-append (quad_image orient at) (map (λ piece. moved_quad by (corners_of piece)) pieces) (flat_map (λ by. map (λ piece. moved_quad by (corners_of piece)) pieces) (drop (place + 1) shape.offsets))
-    ∙ ap (λ l. l ++ map (quad_image orient at) (flat_map (λ by. map (λ piece. moved_quad by (corners_of piece)) pieces) (drop (place + 1) shape.offsets))) (placed_moved orient at by pieces))
+    (map-append (quad_image orient at) (map (λ piece. moved_quad by (corners_of piece)) pieces)
+    (flat_map (λ by. map (λ piece. moved_quad by (corners_of piece)) pieces) (drop (place + 1) shape.offsets))
+    ∙ ap (λ l. l ++ map (quad_image orient at)
+    (flat_map (λ by. map (λ piece. moved_quad by (corners_of piece)) pieces) (drop (place + 1) shape.offsets)))
+    (placed_moved orient at by pieces))
 
 pub places_off : (pair : Pair) (shape : Shape) (pieces : List Trapezoid) (place : ℕ) → is_on pair shape ≡ false → places_rest pair shape pieces place ≡ []
 places_off pair shape pieces place off = rw off refl
 
-pub shapes_from_first : (pair : Pair) (shapes : List Shape) (lists : List (List Trapezoid)) → shapes_rest pair shapes lists 0 ≡ pieces_of_shapes pair shapes lists
+pub shapes_from_first : (pair : Pair) (shapes : List Shape) (lists : List (List Trapezoid))
+    → shapes_rest pair shapes lists 0 ≡ pieces_of_shapes pair shapes lists
 shapes_from_first pair [] lists = refl
 shapes_from_first pair (shape ∷ shapes) [] = refl
 shapes_from_first pair (shape ∷ shapes) (pieces ∷ lists) = refl
 
 -- ---- steps of the code
 
-pub hand_head : (orient : Orient) (at : Point) (pieces rest : List Trapezoid) (piece : Trapezoid) → pieces ≡ piece ∷ rest → All IsQuad (placed_list orient at pieces) → IsQuad (quad_image orient at (corners_of piece))
-hand_head orient at pieces rest piece is all = All-head IsQuad (quad_image orient at (corners_of piece)) (placed_list orient at rest) (subst (λ l. All IsQuad (placed_list orient at l)) is all)
+pub hand_head : (orient : Orient) (at : Point) (pieces rest : List Trapezoid) (piece : Trapezoid)
+    → pieces ≡ piece ∷ rest → All IsQuad (placed_list orient at pieces)
+    → IsQuad (quad_image orient at (corners_of piece))
+hand_head orient at pieces rest piece is all = All-head IsQuad (quad_image orient at (corners_of piece))
+    (placed_list orient at rest) (subst (λ l. All IsQuad (placed_list orient at l)) is all)
 
-pub hand_tail : (orient : Orient) (at : Point) (pieces rest : List Trapezoid) (piece : Trapezoid) → pieces ≡ piece ∷ rest → All IsQuad (placed_list orient at pieces) → All IsQuad (placed_list orient at rest)
-hand_tail orient at pieces rest piece is all = All-tail IsQuad (quad_image orient at (corners_of piece)) (placed_list orient at rest) (subst (λ l. All IsQuad (placed_list orient at l)) is all)
+pub hand_tail : (orient : Orient) (at : Point) (pieces rest : List Trapezoid) (piece : Trapezoid)
+    → pieces ≡ piece ∷ rest → All IsQuad (placed_list orient at pieces) → All IsQuad (placed_list orient at rest)
+hand_tail orient at pieces rest piece is all = All-tail IsQuad (quad_image orient at (corners_of piece))
+    (placed_list orient at rest) (subst (λ l. All IsQuad (placed_list orient at l)) is all)
 
-pub hand_skip : (w : RowRange) (before : List (Option Corners)) (orient : Orient) (at : Point) (pieces rest : List Trapezoid) (piece : Trapezoid) → pieces ≡ piece ∷ rest
-    → has_row_in w (quad_image orient at (corners_of piece)) ≡ false → Skips w before (map Some (placed_list orient at pieces)) → Skips w before (map Some (placed_list orient at rest))
+pub hand_skip : (w : RowRange) (before : List (Option Corners)) (orient : Orient) (at : Point)
+    (pieces rest : List Trapezoid) (piece : Trapezoid) → pieces ≡ piece ∷ rest
+    → has_row_in w (quad_image orient at (corners_of piece)) ≡ false
+    → Skips w before (map Some (placed_list orient at pieces))
+    → Skips w before (map Some (placed_list orient at rest))
 hand_skip w before orient at pieces rest piece is off s =
     skip_on w before (map Some (placed_list orient at pieces)) (map Some (placed_list orient at rest)) s
-    (subst (λ l. Skips w (map Some (placed_list orient at l)) (map Some (placed_list orient at rest))) (sym is) (skip_one w (Some (quad_image orient at (corners_of piece))) (map Some (placed_list orient at rest)) off))
+    (subst (λ l. Skips w (map Some (placed_list orient at l)) (map Some (placed_list orient at rest))) (sym is)
+    (skip_one w (Some (quad_image orient at (corners_of piece))) (map Some (placed_list orient at rest)) off))
 
-pub placed_rest_is : (orient : Orient) (at : Point) (pair : Pair) (shape : Shape) (shapes : List Shape) (pieces : List Trapezoid) (lists : List (List Trapezoid)) (place : ℕ)
-    → placed_rest orient at pair (shape ∷ shapes) (pieces ∷ lists) place ≡ map (quad_image orient at) (places_rest pair shape pieces place) ++ map (quad_image orient at) (pieces_of_shapes pair shapes lists)
-placed_rest_is orient at pair shape shapes pieces lists place = map-append (quad_image orient at) (places_rest pair shape pieces place) (pieces_of_shapes pair shapes lists)
+pub placed_rest_is : (orient : Orient) (at : Point) (pair : Pair) (shape : Shape) (shapes : List Shape)
+    (pieces : List Trapezoid) (lists : List (List Trapezoid)) (place : ℕ)
+    → placed_rest orient at pair (shape ∷ shapes) (pieces ∷ lists) place ≡ map (quad_image orient at)
+    (places_rest pair shape pieces place) ++ map (quad_image orient at) (pieces_of_shapes pair shapes lists)
+placed_rest_is orient at pair shape shapes pieces lists place = map-append (quad_image orient at)
+    (places_rest pair shape pieces place) (pieces_of_shapes pair shapes lists)
 
 -- a shape that has no more places
-pub cursor_skip : (orient : Orient) (at : Point) (pair : Pair) (shapes rest : List Shape) (shape : Shape) (lists later : List (List Trapezoid)) (pieces : List Trapezoid) (place : ℕ)
-    → shapes ≡ shape ∷ rest → lists ≡ pieces ∷ later → places_rest pair shape pieces place ≡ [] → placed_rest orient at pair shapes lists place ≡ placed_rest orient at pair rest later 0
+pub cursor_skip : (orient : Orient) (at : Point) (pair : Pair) (shapes rest : List Shape) (shape : Shape)
+    (lists later : List (List Trapezoid)) (pieces : List Trapezoid) (place : ℕ)
+    → shapes ≡ shape ∷ rest → lists ≡ pieces ∷ later → places_rest pair shape pieces place ≡ []
+    → placed_rest orient at pair shapes lists place ≡ placed_rest orient at pair rest later 0
 cursor_skip orient at pair shapes rest shape lists later pieces place is are none =
-    rw (is, are) (placed_rest_is orient at pair shape rest pieces later place ∙ (rw none (ap (map (quad_image orient at)) (sym (shapes_from_first pair rest later)))))
+    rw (is, are) (placed_rest_is orient at pair shape rest pieces later place
+    ∙ (rw none (ap (map (quad_image orient at)) (sym (shapes_from_first pair rest later)))))
 
 steps_first : (shapes : List Shape) → steps_from shapes 0 ≡ steps_of shapes
 steps_first [] = refl
@@ -146,22 +175,31 @@ not_false false h = sym h
 
 marked_first : (qs : List Corners) (rest : List (Option Corners)) → All IsMarkedQuad (map Some qs ++ rest) → AllByRecursion IsQuad qs
 marked_first [] rest all = tt
-marked_first (q ∷ qs) rest all = (All-head IsMarkedQuad (Some q) (map Some qs ++ rest) all, marked_first qs rest (All-tail IsMarkedQuad (Some q) (map Some qs ++ rest) all))
+marked_first (q ∷ qs) rest all = (
+  All-head IsMarkedQuad (Some q) (map Some qs ++ rest) all,
+  marked_first qs rest
+      (All-tail IsMarkedQuad (Some q) (map Some qs ++ rest) all),
+)
 
 -- of marked lists, what comes first are quadrilaterals
 pub marked_hand : (qs : List Corners) (rest : List (Option Corners)) → All IsMarkedQuad (map Some qs ++ rest) → All IsQuad qs
 marked_hand qs rest all = All-from_recursion IsQuad qs (marked_first qs rest all)
 
 -- the hand shows nothing more, and the cursor passes by some
-pub hand_passes : (w : RowRange) (before : List (Option Corners)) (hand cursor passed : List Corners) → Skips w before (map Some hand ++ map Some cursor) → Skips w (map Some hand) [] → Skips w (map Some cursor) (map Some passed)
+pub hand_passes : (w : RowRange) (before : List (Option Corners)) (hand cursor passed : List Corners)
+    → Skips w before (map Some hand ++ map Some cursor) → Skips w (map Some hand) []
+    → Skips w (map Some cursor) (map Some passed)
     → Skips w before (map Some passed)
 hand_passes w before hand cursor passed s over past =
     skip_on w before (map Some hand ++ map Some cursor) (map Some passed) s
     (skip_on w (map Some hand ++ map Some cursor) (map Some cursor) (map Some passed) (skip_over w (map Some hand) (map Some cursor) over) past)
 
-pub passed_changes : (w : RowRange) (before : List (Option Corners)) (passed hand' cursor' : List Corners) → Skips w before (map Some passed) → passed ≡ hand' ++ cursor' → Skips w before (map Some hand' ++ map Some cursor')
+pub passed_changes : (w : RowRange) (before : List (Option Corners)) (passed hand' cursor' : List Corners)
+    → Skips w before (map Some passed) → passed ≡ hand' ++ cursor' → Skips w before (map Some hand' ++ map Some cursor')
 passed_changes w before passed hand' cursor' s is =
-    skip_on w before (map Some passed) (map Some hand' ++ map Some cursor') s (skip_same w (map Some passed) (map Some hand' ++ map Some cursor') (ap (map Some) is ∙ marks_apart hand' cursor'))
+    skip_on w before (map Some passed) (map Some hand' ++ map Some cursor') s
+    (skip_same w (map Some passed) (map Some hand' ++ map Some cursor')
+    (ap (map Some) is ∙ marks_apart hand' cursor'))
 
 pub passed_ends : (w : RowRange) (before : List (Option Corners)) (passed : List Corners) → Skips w before (map Some passed) → passed ≡ [] → Skips w before []
 passed_ends w before passed s is = skip_on w before (map Some passed) [] s (skip_same w (map Some passed) [] (ap (map Some) is))

@@ -55,9 +55,16 @@ on_grid_back a b g = elim g [ inl e ↦ inl (sym e) | inr s ↦ inr (s.0, s.2, s
 round_loop : (q : Corners) → IsLoop (ring_of q) → IsLoop (ring_of (turned_round true q))
 round_loop q loop =
     let g = loop.grid in
-    record { closed = refl; grid = (on_grid_back q.d q.a g.1.1.1.0, (on_grid_back q.c q.d g.1.1.0, (on_grid_back q.b q.c g.1.0, (on_grid_back q.a q.b g.0, tt)))) }
+    record {
+      closed = refl;
+      grid = (
+        on_grid_back q.d q.a g.1.1.1.0,
+        (on_grid_back q.c q.d g.1.1.0, (on_grid_back q.b q.c g.1.0, (on_grid_back q.a q.b g.0, tt))),
+      );
+    }
 
-round_image : (flip : Bool) (q : Corners) (t : Tile) (w : ℤ) → IsLoop (ring_of q) → winding (ring_of q) t ≡ signed flip w → winding (ring_of (turned_round flip q)) t ≡ w
+round_image : (flip : Bool) (q : Corners) (t : Tile) (w : ℤ) → IsLoop (ring_of q)
+    → winding (ring_of q) t ≡ signed flip w → winding (ring_of (turned_round flip q)) t ≡ w
 round_image true q t w loop e = let r = round_winding q t loop in omega (arith, ints, r, e)
 round_image false q t w loop e = e
 
@@ -68,9 +75,12 @@ round_stays false q loop = loop
 -- the winding of an image is that of the quadrilateral at the tile before
 pub quad_winding : (orient : Orient) (at : Point) (q : Corners) (t : Tile) → 1 ≤ orient.mag → is_even at.x ≡ true → is_even at.y ≡ true → IsLoop (ring_of q)
     → winding (ring_of (quad_image orient at q)) t ≡ winding (ring_of q) (before_image orient at t)
-quad_winding orient at q t some x y loop = round_image orient.flip (with_corners (image_of orient at) q) t (winding (ring_of q) (before_image orient at t)) (image_loop orient at (ring_of q) x y loop) (image_winding orient at t (ring_of q) some x y loop)
+quad_winding orient at q t some x y loop = round_image orient.flip (with_corners (image_of orient at) q) t
+    (winding (ring_of q) (before_image orient at t)) (image_loop orient at (ring_of q) x y loop)
+    (image_winding orient at t (ring_of q) some x y loop)
 
-pub ring_image : (orient : Orient) (at : Point) (q : Corners) → 1 ≤ orient.mag → is_even at.x ≡ true → is_even at.y ≡ true → IsRing q → IsRing (quad_image orient at q)
+pub ring_image : (orient : Orient) (at : Point) (q : Corners) → 1 ≤ orient.mag → is_even at.x ≡ true
+    → is_even at.y ≡ true → IsRing q → IsRing (quad_image orient at q)
 ring_image orient at q some x y ring = record {
   loop = round_stays orient.flip (with_corners (image_of orient at) q) (image_loop orient at (ring_of q) x y ring.loop);
   once = λ t inside. (let e = quad_winding orient at q t some x y ring.loop in e ∙ ring.once (before_image orient at t) (λ none. inside (e ∙ none)));

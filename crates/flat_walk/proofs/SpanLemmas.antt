@@ -1,5 +1,7 @@
 -- Each corner of what a cell shows stands between vertices of the cell, and each quadrilateral winds once round its tiles.
-use Rattle.std.proofs.Common.{◌≡◌, ◌≢◌, ◌⊎◌, inl, inr, ℕ, ℤ, zero, suc, pos, ◌+◌, ◌<◌, ◌≤◌, ◌≤ℤ◌, Bool, true, false, cond, List, [], ◌∷◌, ◌++◌, Option, Some, None, All, Contains, IfSome, map, length, slice_get, get_or, nat_eq, ◌&&◌, refl, sym, ap, subst, ◌∙◌, arith}
+use Rattle.std.proofs.Common.{◌≡◌, ◌≢◌, ◌⊎◌, inl, inr, ℕ, ℤ, zero, suc, pos, ◌+◌, ◌<◌, ◌≤◌, ◌≤ℤ◌, Bool, true, false}
+use Rattle.std.proofs.Common.{cond, List, [], ◌∷◌, ◌++◌, Option, Some, None, All, Contains, IfSome, map, length}
+use Rattle.std.proofs.Common.{slice_get, get_or, nat_eq, ◌&&◌, refl, sym, ap, subst, ◌∙◌, arith}
 use Rattle.std.specs.List.{AllByRecursion, flat_map}
 use Rattle.std.proofs.lemmas.Int.{ints}
 use Rattle.std.proofs.lemmas.List.Elements.{recursion_from_All, All-from_recursion, All-head, All-tail}
@@ -40,7 +42,8 @@ use Rattle.flat_walk.specs.declared.scenes.Scene.{Scene}
 
 -- ---- the pieces of shapes
 
-pub each_map_at : {X Y : Type 0} (Q : Y → Type 0) (f : X → Y) (xs : List X) → ((k : ℕ) (x : X) → slice_get xs k ≡ Some x → Q (f x)) → AllByRecursion Q (map f xs)
+pub each_map_at : {X Y : Type 0} (Q : Y → Type 0) (f : X → Y) (xs : List X)
+    → ((k : ℕ) (x : X) → slice_get xs k ≡ Some x → Q (f x)) → AllByRecursion Q (map f xs)
 each_map_at Q f [] each = tt
 each_map_at Q f (x ∷ xs) each = (each 0 x refl, each_map_at Q f xs (λ k y at. each (suc k) y at))
 
@@ -54,7 +57,9 @@ count_some t (y ∷ pieces) zero z at has =
 count_some t (y ∷ pieces) (suc k) z at has = let e = count_by-cons (trapezoid_has t) y pieces in let r = count_some t pieces k z at has in omega (arith, e, r)
 
 -- an outline winds round the tiles of its pieces
-pub piece_wound : (points : List Point) (pieces : List Trapezoid) (k : ℕ) (z : Trapezoid) → CoversExactly pieces (IsInPolygon points) → slice_get pieces k ≡ Some z → (t : Tile) → IsInTrapezoid z t → winding points t ≢ pos 0
+pub piece_wound : (points : List Point) (pieces : List Trapezoid) (k : ℕ) (z : Trapezoid)
+    → CoversExactly pieces (IsInPolygon points) → slice_get pieces k ≡ Some z → (t : Tile) → IsInTrapezoid z t
+    → winding points t ≢ pos 0
 piece_wound points pieces k z covers at t inside none =
     let zero_count = covers.never t (λ wound. wound none) in
     let some = count_some t pieces k z at (in_has t z inside) in
@@ -65,11 +70,13 @@ on_by true Q xs all = all refl
 on_by false Q xs all = tt
 
 pub pieces_each : (Q : Corners → Type 0) (pair : Pair) (shapes : List Shape) (lists : List (List Trapezoid))
-    → ((k : ℕ) (shape : Shape) (pieces : List Trapezoid) → slice_get shapes k ≡ Some shape → slice_get lists k ≡ Some pieces → is_on pair shape ≡ true → AllByRecursion Q (pieces_of_shape shape pieces))
+    → ((k : ℕ) (shape : Shape) (pieces : List Trapezoid) → slice_get shapes k ≡ Some shape
+    → slice_get lists k ≡ Some pieces → is_on pair shape ≡ true → AllByRecursion Q (pieces_of_shape shape pieces))
     → AllByRecursion Q (pieces_of_shapes pair shapes lists)
 pieces_each Q pair [] lists each = tt
 pieces_each Q pair (shape ∷ shapes) [] each = tt
-pieces_each Q pair (shape ∷ shapes) (pieces ∷ lists) each = each_both Q (cond (is_on pair shape) (pieces_of_shape shape pieces) []) (pieces_of_shapes pair shapes lists)
+pieces_each Q pair (shape ∷ shapes) (pieces ∷ lists) each = each_both Q
+    (cond (is_on pair shape) (pieces_of_shape shape pieces) []) (pieces_of_shapes pair shapes lists)
     (on_by (is_on pair shape) Q (pieces_of_shape shape pieces) (λ on. each 0 shape pieces refl refl on))
     (pieces_each Q pair shapes lists (λ k s p at_s at_p on. each (suc k) s p at_s at_p on))
 
@@ -101,8 +108,11 @@ kept_at (lists ∷ table) zero all = All-head (All IsKept) lists table all
 kept_at (lists ∷ table) (suc n) all = kept_at table n (All-tail (All IsKept) lists table all)
 
 module _ (scene : Scene) (sc : IsScene scene) where
-  pub own_shown : (n : ℕ) → IsReachable (cells_of scene) scene.tree.now.top n → (k : ℕ) (shape : Shape) (pieces : List Trapezoid) → slice_get (shapes_at (cells_of scene) n) k ≡ Some shape
-      → slice_get (lists_at scene.parts.now n) k ≡ Some pieces → is_on scene.pair shape ≡ true → AllByRecursion (λ q. IsSpanned (IsVertex (cells_of scene) n scene.pair) q × IsRing q) (pieces_of_shape shape pieces)
+  pub own_shown : (n : ℕ) → IsReachable (cells_of scene) scene.tree.now.top n
+      → (k : ℕ) (shape : Shape) (pieces : List Trapezoid) → slice_get (shapes_at (cells_of scene) n) k ≡ Some shape
+      → slice_get (lists_at scene.parts.now n) k ≡ Some pieces → is_on scene.pair shape ≡ true
+      → AllByRecursion (λ q. IsSpanned (IsVertex (cells_of scene) n scene.pair) q × IsRing q)
+      (pieces_of_shape shape pieces)
   own_shown n reach k shape pieces at_shape at_pieces on =
       let grid = slot_all IsShapeOnGrid (shapes_at (cells_of scene) n) k shape (shapes_on_grid (cells_of scene) sc.grid.cells n) at_shape in
       let pair = pair_is scene.pair shape on in
@@ -112,7 +122,8 @@ module _ (scene : Scene) (sc : IsScene scene) where
       let kept = slot_all IsKept (lists_at scene.parts.now n) k pieces (kept_at scene.parts.now n sc.kept) at_pieces in
       let loop = shape_closed shape grid in
       let short = short_below (cells_of scene) scene.tree.now.top n sc.tree.shallow reach in
-      each_flat (λ q. IsSpanned (IsVertex (cells_of scene) n scene.pair) q × IsRing q) (λ by. map (λ piece. moved_quad by (corners_of piece)) pieces) shape.offsets
+      each_flat (λ q. IsSpanned (IsVertex (cells_of scene) n scene.pair) q × IsRing q)
+      (λ by. map (λ piece. moved_quad by (corners_of piece)) pieces) shape.offsets
       (λ j by at_by. (let move = slot_all IsMove shape.offsets j by grid.offsets.moves at_by in
       each_map_at (λ q. IsSpanned (IsVertex (cells_of scene) n scene.pair) q × IsRing q) (λ piece. moved_quad by (corners_of piece)) pieces
       (λ i z at_z. (let shot = slot_all IsShot pieces i z kept.shots at_z in (
@@ -129,15 +140,21 @@ module _ (scene : Scene) (sc : IsScene scene) where
         ring_moved by (corners_of z) move.even_x move.even_y (shot_ring z shot),
       )))))
 
-  here_shown : (n : ℕ) → IsReachable (cells_of scene) scene.tree.now.top n → AllByRecursion (IsShown scene n) (marked_own (cells_of scene) scene.parts.now scene.pair n)
+  here_shown : (n : ℕ) → IsReachable (cells_of scene) scene.tree.now.top n
+      → AllByRecursion (IsShown scene n) (marked_own (cells_of scene) scene.parts.now scene.pair n)
   here_shown n reach = (
     tt,
-    each_map (λ q. IsSpanned (IsVertex (cells_of scene) n scene.pair) q × IsRing q) (IsShown scene n) Some (own_pieces (cells_of scene) scene.parts.now scene.pair n) (λ q h. h)
-        (pieces_each (λ q. IsSpanned (IsVertex (cells_of scene) n scene.pair) q × IsRing q) scene.pair (shapes_at (cells_of scene) n) (lists_at scene.parts.now n) (own_shown n reach)),
+    each_map (λ q. IsSpanned (IsVertex (cells_of scene) n scene.pair) q × IsRing q) (IsShown scene n) Some
+        (own_pieces (cells_of scene) scene.parts.now scene.pair n) (λ q h. h)
+        (pieces_each (λ q. IsSpanned (IsVertex (cells_of scene) n scene.pair) q × IsRing q) scene.pair
+        (shapes_at (cells_of scene) n) (lists_at scene.parts.now n) (own_shown n reach)),
   )
 
-  step_shown : (n k m j : ℕ) (placement : Placement) (by : Point) (item : Option Corners) → IsReachable (cells_of scene) scene.tree.now.top n → slice_get (placements_at (cells_of scene) n) k ≡ Some placement
-      → cell_number (cells_of scene) placement.target ≡ Some m → slice_get placement.offsets j ≡ Some by → IsShown scene m item → IsShown scene n (marked_image placement.orient (moved by placement.at) item)
+  step_shown : (n k m j : ℕ) (placement : Placement) (by : Point) (item : Option Corners)
+      → IsReachable (cells_of scene) scene.tree.now.top n
+      → slice_get (placements_at (cells_of scene) n) k ≡ Some placement
+      → cell_number (cells_of scene) placement.target ≡ Some m → slice_get placement.offsets j ≡ Some by
+      → IsShown scene m item → IsShown scene n (marked_image placement.orient (moved by placement.at) item)
   step_shown n k m j placement by None reach placed target at_by shown = tt
   step_shown n k m j placement by (Some q) reach placed target at_by shown =
       let grid = slot_all IsPlacementOnGrid (placements_at (cells_of scene) n) k placement (on_grid (cells_of scene) sc.grid.cells n) placed in
@@ -146,7 +163,9 @@ module _ (scene : Scene) (sc : IsScene scene) where
       let even_x = even_sum placement.at.x by.x grid.at.even_x move.even_x in
       let even_y = even_sum placement.at.y by.y grid.at.even_y move.even_y in (
         spanned_image placement.orient (moved by placement.at) (IsVertex (cells_of scene) m scene.pair) (IsVertex (cells_of scene) n scene.pair) q
-            (λ v vertex. placed_vertex (cells_of scene) n scene.pair (image_of placement.orient (moved by placement.at) v) (length (placements_at (cells_of scene) n)) short (record {
+            (λ v vertex. placed_vertex (cells_of scene) n scene.pair
+            (image_of placement.orient (moved by placement.at) v) (length (placements_at (cells_of scene) n)) short
+            (record {
               number = k;
               early = slice_get_within (placements_at (cells_of scene) n) k placement placed;
               placement = placement;
@@ -165,9 +184,11 @@ module _ (scene : Scene) (sc : IsScene scene) where
 
   pub all_shown : (n : ℕ) → IsReachable (cells_of scene) scene.tree.now.top n → AllByRecursion (IsShown scene n) (marked_of scene n)
   unfolding marked
-  all_shown n reach = all_things (marked_own (cells_of scene) scene.parts.now scene.pair) marked_image (cells_of scene) scene.tree.now.top (IsShown scene) here_shown step_shown 64 n reach
+  all_shown n reach = all_things (marked_own (cells_of scene) scene.parts.now scene.pair) marked_image
+      (cells_of scene) scene.tree.now.top (IsShown scene) here_shown step_shown 64 n reach
 
-only_spanned : (P R : Corners → Type 0) (items : List (Option Corners)) → AllByRecursion (λ item. IfSome item (λ q. P q × R q)) items → AllByRecursion (λ item. IfSome item P) items
+only_spanned : (P R : Corners → Type 0) (items : List (Option Corners))
+    → AllByRecursion (λ item. IfSome item (λ q. P q × R q)) items → AllByRecursion (λ item. IfSome item P) items
 only_spanned P R [] all = tt
 only_spanned P R (None ∷ items) all = (tt, only_spanned P R items all.1)
 only_spanned P R (Some q ∷ items) all = (all.0.0, only_spanned P R items all.1)

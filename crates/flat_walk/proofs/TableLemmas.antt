@@ -1,5 +1,6 @@
 -- The table of pieces, before and after pieces are put.
-use Rattle.std.proofs.Common.{◌≡◌, ◌≢◌, ◌⊎◌, inl, inr, ℕ, zero, suc, ◌<◌, List, [], ◌∷◌, Some, map, length, get_or, set, slice_get, All, refl, ap, subst, ◌∙◌, arith}
+use Rattle.std.proofs.Common.{◌≡◌, ◌≢◌, ◌⊎◌, inl, inr, ℕ, zero, suc, ◌<◌, List, [], ◌∷◌, Some, map, length, get_or, set}
+use Rattle.std.proofs.Common.{slice_get, All, refl, ap, subst, ◌∙◌, arith}
 use Rattle.std.specs.List.{AllByRecursion}
 use Rattle.std.proofs.lemmas.Option.{none-some}
 use Rattle.std.proofs.lemmas.List.Elements.{recursion_from_All, All-from_recursion}
@@ -40,11 +41,13 @@ slot_apart (y ∷ xs) (suc n) zero x apart = refl
 slot_apart (y ∷ xs) (suc n) (suc m) x apart = slot_apart xs n m x (λ e. apart (ap suc e))
 
 -- the lists of a cell, after pieces were put
-pub lists_put : (table : List (List (List Trapezoid))) (n k : ℕ) (pieces : List Trapezoid) → n < length table → lists_at (with_pieces table n k pieces) n ≡ set (lists_at table n) k pieces
+pub lists_put : (table : List (List (List Trapezoid))) (n k : ℕ) (pieces : List Trapezoid) → n < length table
+    → lists_at (with_pieces table n k pieces) n ≡ set (lists_at table n) k pieces
 unfolding with_pieces
 lists_put table n k pieces inside = set_here table n (set (lists_at table n) k pieces) [] inside
 
-pub lists_apart : (table : List (List (List Trapezoid))) (n m k : ℕ) (pieces : List Trapezoid) → n ≢ m → lists_at (with_pieces table n k pieces) m ≡ lists_at table m
+pub lists_apart : (table : List (List (List Trapezoid))) (n m k : ℕ) (pieces : List Trapezoid) → n ≢ m
+    → lists_at (with_pieces table n k pieces) m ≡ lists_at table m
 unfolding with_pieces
 lists_apart table n m k pieces apart = set_apart table n m (set (lists_at table n) k pieces) [] apart
 
@@ -59,17 +62,20 @@ unfolding with_pieces
 put_length table n k pieces = set_length table n (set (lists_at table n) k pieces)
 
 -- a shape that has a list has one after any pieces were put
-pub shape_stays : (table : List (List (List Trapezoid))) (n k m j : ℕ) (pieces : List Trapezoid) → n < length table → HasShape table m j → HasShape (with_pieces table n k pieces) m j
+pub shape_stays : (table : List (List (List Trapezoid))) (n k m j : ℕ) (pieces : List Trapezoid) → n < length table
+    → HasShape table m j → HasShape (with_pieces table n k pieces) m j
 shape_stays table n k m j pieces inside has = record {
   cell = rw (put_length table n k pieces) has.cell;
   shape = elim (same_or_apart n m) [
-    | inl e ↦ subst (λ i. j < length (lists_at (with_pieces table n k pieces) i)) e (rw (lists_put table n k pieces inside, set_length (lists_at table n) k pieces, e) has.shape)
+    | inl e ↦ subst (λ i. j < length (lists_at (with_pieces table n k pieces) i)) e
+        (rw (lists_put table n k pieces inside, set_length (lists_at table n) k pieces, e) has.shape)
     | inr apart ↦ rw (lists_apart table n m k pieces apart) has.shape
   ];
 }
 
 -- a shape whose pieces are put is cut
-pub cut_here : (table : List (List (List Trapezoid))) (n k : ℕ) (shape : Shape) (pieces : List Trapezoid) → HasShape table n k → CoversExactly pieces (IsInPolygon shape.points)
+pub cut_here : (table : List (List (List Trapezoid))) (n k : ℕ) (shape : Shape) (pieces : List Trapezoid)
+    → HasShape table n k → CoversExactly pieces (IsInPolygon shape.points)
     → IsCut (with_pieces table n k pieces) n k shape
 cut_here table n k shape pieces has covers = record {
   pieces = pieces;
@@ -78,7 +84,8 @@ cut_here table n k shape pieces has covers = record {
 }
 
 -- a shape of another cell stays cut
-pub cut_elsewhere : (table : List (List (List Trapezoid))) (n k m j : ℕ) (shape : Shape) (pieces : List Trapezoid) → n ≢ m → IsCut table m j shape → IsCut (with_pieces table n k pieces) m j shape
+pub cut_elsewhere : (table : List (List (List Trapezoid))) (n k m j : ℕ) (shape : Shape) (pieces : List Trapezoid)
+    → n ≢ m → IsCut table m j shape → IsCut (with_pieces table n k pieces) m j shape
 cut_elsewhere table n k m j shape pieces apart cut = record {
   pieces = cut.pieces;
   kept = ap (λ lists. slice_get lists j) (lists_apart table n m k pieces apart) ∙ cut.kept;
@@ -86,7 +93,8 @@ cut_elsewhere table n k m j shape pieces apart cut = record {
 }
 
 -- another shape of the same cell stays cut
-pub cut_beside : (table : List (List (List Trapezoid))) (n k j : ℕ) (shape : Shape) (pieces : List Trapezoid) → n < length table → k ≢ j → IsCut table n j shape → IsCut (with_pieces table n k pieces) n j shape
+pub cut_beside : (table : List (List (List Trapezoid))) (n k j : ℕ) (shape : Shape) (pieces : List Trapezoid)
+    → n < length table → k ≢ j → IsCut table n j shape → IsCut (with_pieces table n k pieces) n j shape
 cut_beside table n k j shape pieces inside apart cut = record {
   pieces = cut.pieces;
   kept = ap (λ lists. slice_get lists j) (lists_put table n k pieces inside) ∙ (slot_apart (lists_at table n) k j pieces apart ∙ cut.kept);
@@ -102,7 +110,8 @@ none_of (z ∷ xs) (suc k) x y at = let rest = none_of xs k x y at in omega arit
 pub shape_at_first : (cells : List Cell) (n k : ℕ) (shape : Shape) → slice_get (shapes_at cells n) k ≡ Some shape → HasShape (no_pieces cells) n k
 shape_at_first [] n k shape at = absurd (none-some shape at)
 shape_at_first (cell ∷ cells) zero k shape at = record { cell = omega arith; shape = none_of cell.shapes k shape [] at }
-shape_at_first (cell ∷ cells) (suc n) k shape at = let rest = shape_at_first cells n k shape at in record { cell = let i = rest.cell in omega (arith, i); shape = rest.shape }
+shape_at_first (cell ∷ cells) (suc n) k shape at = let rest = shape_at_first cells n k shape at in
+    record { cell = let i = rest.cell in omega (arith, i); shape = rest.shape }
 
 -- ---- the table as it lies in memory
 
@@ -136,10 +145,15 @@ none_all : (P : List Trapezoid → Type 0) → All P []
 none_all P = λ k d inside. absurd (omega arith)
 
 -- what is kept stays so
-pub kept_put : (table : List (List (List Trapezoid))) (n k : ℕ) (pieces : List Trapezoid) → AreKept table → IsKept pieces → AreKept (with_pieces table n k pieces)
+pub kept_put : (table : List (List (List Trapezoid))) (n k : ℕ) (pieces : List Trapezoid) → AreKept table
+    → IsKept pieces → AreKept (with_pieces table n k pieces)
 unfolding with_pieces
-kept_put table n k pieces all kept = All-from_recursion (All IsKept) _ (all_set (All IsKept) table n (set (lists_at table n) k pieces) (recursion_from_All (All IsKept) table all)
-    (All-from_recursion IsKept _ (all_set IsKept (lists_at table n) k pieces (recursion_from_All IsKept (lists_at table n) (all_get (All IsKept) table n [] (none_all IsKept) (recursion_from_All (All IsKept) table all))) kept)))
+kept_put table n k pieces all kept = All-from_recursion (All IsKept) _
+    (all_set (All IsKept) table n (set (lists_at table n) k pieces) (recursion_from_All (All IsKept) table all)
+    (All-from_recursion IsKept _
+    (all_set IsKept (lists_at table n) k pieces
+    (recursion_from_All IsKept (lists_at table n)
+    (all_get (All IsKept) table n [] (none_all IsKept) (recursion_from_All (All IsKept) table all))) kept)))
 
 nothing_kept : IsKept []
 nothing_kept = record { shots = λ k d inside. absurd (omega arith); few = omega arith }

@@ -1,5 +1,7 @@
 -- A layout of three cells, one of which is a triangle, and the piece that covers it.
-use Rattle.std.proofs.Common.{◌≡◌, ◌≢◌, ◌<◌, ◌≤◌, ◌*◌, ◌/◌, ◌%◌, ◌+ℤ◌, ◌*ℤ◌, ℕ, zero, suc, pos, Bool, true, false, List, [], ◌∷◌, All, Some, None, map, length, slice_get, get_or, refl, sym, ap, subst, ◌∙◌, arith}
+use Rattle.std.proofs.Common.{◌≡◌, ◌≢◌, ◌<◌, ◌≤◌, ◌*◌, ◌/◌, ◌%◌, ◌+ℤ◌, ◌*ℤ◌, ℕ, zero, suc, pos, Bool, true, false, List}
+use Rattle.std.proofs.Common.{[], ◌∷◌, All, Some, None, map, length, slice_get, get_or, refl, sym, ap, subst, ◌∙◌}
+use Rattle.std.proofs.Common.{arith}
 use Rattle.std.specs.List.{AllByRecursion}
 use Rattle.std.proofs.lemmas.Int.{ints}
 use Rattle.std.proofs.lemmas.Option.{none-some, same_Some}
@@ -49,7 +51,9 @@ ring_covered z shot = record {
 
 -- ---- three cells
 
-one_triangle : (cells : List Cell) (shape other : Shape) (n k : ℕ) → map (λ cell. cell.shapes) cells ≡ (shape ∷ []) ∷ [] ∷ [] ∷ [] → slice_get (shapes_at cells n) k ≡ Some other → (n ≡ 0) × (k ≡ 0) × (other ≡ shape)
+one_triangle : (cells : List Cell) (shape other : Shape) (n k : ℕ)
+    → map (λ cell. cell.shapes) cells ≡ (shape ∷ []) ∷ [] ∷ [] ∷ [] → slice_get (shapes_at cells n) k ≡ Some other
+    → (n ≡ 0) × (k ≡ 0) × (other ≡ shape)
 one_triangle [] shape other n k e there = absurd (let clash : ⊥ = cc in clash)
 one_triangle (c ∷ cells) shape other zero k e there = let p = first c.shapes k (ap (λ l. get_or l 0 []) e) there in (refl, p.0, p.1)
   where
@@ -74,12 +78,16 @@ one_triangle (c ∷ cells) shape other (suc n) k e there = absurd (later cells n
     later (b ∷ a ∷ z ∷ cells) (suc (suc n)) e at = let clash : ⊥ = cc in clash
 
 -- the piece that was put last covers the only shape
-pub all_cut : (cells : List Cell) (top : ℕ) (shape : Shape) (table : List (List (List Trapezoid))) (piece : Trapezoid) → IsShot piece → map (λ cell. cell.shapes) cells ≡ (shape ∷ []) ∷ [] ∷ [] ∷ [] → shape.points ≡ ring_of (corners_of piece)
+pub all_cut : (cells : List Cell) (top : ℕ) (shape : Shape) (table : List (List (List Trapezoid))) (piece : Trapezoid)
+    → IsShot piece → map (λ cell. cell.shapes) cells ≡ (shape ∷ []) ∷ [] ∷ [] ∷ []
+    → shape.points ≡ ring_of (corners_of piece)
     → HasShape table 0 0 → (pair : Pair) → AreCut cells top (with_pieces table 0 0 (piece ∷ [])) pair
 all_cut cells top shape table piece shot only points has pair = λ n k other reach there on.
     let e = one_triangle cells shape other n k only there in
     let covers = subst (λ ps. CoversExactly (piece ∷ []) (IsInPolygon ps)) (sym (ap (λ s. s.points) e.2 ∙ points)) (ring_covered piece shot) in
-    subst (λ i. IsCut (with_pieces table 0 0 (piece ∷ [])) i k other) (sym e.0) (subst (λ j. IsCut (with_pieces table 0 0 (piece ∷ [])) 0 j other) (sym e.1) (cut_here table 0 0 other (piece ∷ []) has covers))
+    subst (λ i. IsCut (with_pieces table 0 0 (piece ∷ [])) i k other) (sym e.0)
+    (subst (λ j. IsCut (with_pieces table 0 0 (piece ∷ [])) 0 j other) (sym e.1)
+    (cut_here table 0 0 other (piece ∷ []) has covers))
 
 first_there : (cells : List Cell) (shape : Shape) → map (λ cell. cell.shapes) cells ≡ (shape ∷ []) ∷ [] ∷ [] ∷ [] → slice_get (shapes_at cells 0) 0 ≡ Some shape
 first_there [] shape e = absurd (let clash : ⊥ = cc in clash)
@@ -102,7 +110,8 @@ three_cells {a} {b} {c} {cells} {counts} e ga gb gc na nb nc =
     let cb : c.name ≢ b.name = λ h. clash_of 66 67 (omega arith) (sym nc ∙ h ∙ nb) in
     let ca : c.name ≢ a.name = λ h. clash_of 65 67 (omega arith) (sym nc ∙ h ∙ na) in
     let ba : b.name ≢ a.name = λ h. clash_of 65 66 (omega arith) (sym nb ∙ h ∙ na) in
-    let grid : All IsCellOnGrid (c ∷ b ∷ a ∷ []) = All-cons IsCellOnGrid c (b ∷ a ∷ []) gc (All-cons IsCellOnGrid b (a ∷ []) gb (All-cons IsCellOnGrid a [] ga (All-nil IsCellOnGrid))) in
+    let grid : All IsCellOnGrid (c ∷ b ∷ a ∷ []) = All-cons IsCellOnGrid c (b ∷ a ∷ []) gc
+    (All-cons IsCellOnGrid b (a ∷ []) gb (All-cons IsCellOnGrid a [] ga (All-nil IsCellOnGrid))) in
     let names : AreDistinct (c.name ∷ b.name ∷ a.name ∷ []) = (
       All-cons (λ other. c.name ≢ other) b.name (a.name ∷ []) cb (All-cons (λ other. c.name ≢ other) a.name [] ca (All-nil (λ other. c.name ≢ other))),
       (All-cons (λ other. b.name ≢ other) a.name [] ba (All-nil (λ other. b.name ≢ other)), (All-nil (λ other. a.name ≢ other), tt)),
@@ -127,14 +136,18 @@ right_up a b ha hb =
       near = record { x_low = omega (arith, ints, x); x_high = omega (arith, ints, x); y_low = omega (arith, ints, y); y_high = omega (arith, ints, y) };
     }
 
-pub grid_moves : (nu nv : ℕ) → 1 ≤ nu → nu ≤ 1000 → 1 ≤ nv → nv ≤ 1000 → AreOffsets (grid_places nu nv (record { x = pos 20; y = pos 0 }) (record { x = pos 0; y = pos 40 }))
+pub grid_moves : (nu nv : ℕ) → 1 ≤ nu → nu ≤ 1000 → 1 ≤ nv → nv ≤ 1000
+    → AreOffsets (grid_places nu nv (record { x = pos 20; y = pos 0 }) (record { x = pos 0; y = pos 40 }))
 grid_moves nu nv some few some_rows few_rows = record {
-  nonempty = λ none. (let n = ap length none in let long = grid_length nu nv in let many : 1 * 1 ≤ nu * nv = mul-le-mul some some_rows in omega (arith, n, long, many));
+  nonempty = λ none. (let n = ap length none in let long = grid_length nu nv in let many : 1 * 1 ≤ nu * nv =
+      mul-le-mul some some_rows in omega (arith, n, long, many));
   moves = λ k d inside.
       (let long = grid_length nu nv in
       let here : k < nu * nv = omega (arith, long, inside) in
       subst IsMove (sym (get_or-map-range_with_len (nth_place nu right up) 0 (nu * nv) k k d here (omega arith)))
-      (right_up (k % nu) (k / nu) (let m = mod-lt k {m = nu} (omega arith) in omega (arith, m)) (let m = (div-lt_iff_lt-mul {k = nu} {x = k} {y = nv} (omega arith)).1 (omega (arith, here)) in omega (arith, m))));
+      (right_up (k % nu) (k / nu) (let m = mod-lt k {m = nu} (omega arith) in omega (arith, m))
+      (let m = (div-lt_iff_lt-mul {k = nu} {x = k} {y = nv} (omega arith)).1 (omega (arith, here)) in omega
+      (arith, m))));
 }
   where
     right : Point
@@ -152,8 +165,10 @@ right_up_grid nu nv some few some_rows few_rows = record {
   few_columns = omega arith;
   some_rows = some_rows;
   few_rows = omega arith;
-  reach = λ a b ha hb. (let m = right_up a b (omega arith) (omega arith) in let n = m.near in let xl = n.x_low in let xh = n.x_high in let yl = n.y_low in let yh = n.y_high in record {
-    x = record { low = omega (arith, ints, xl); high = omega (arith, ints, xh) };
-    y = record { low = omega (arith, ints, yl); high = omega (arith, ints, yh) };
-  });
+  reach = λ a b ha hb.
+      (let m = right_up a b (omega arith) (omega arith) in let n = m.near in let xl = n.x_low in let xh = n.x_high in
+      let yl = n.y_low in let yh = n.y_high in record {
+        x = record { low = omega (arith, ints, xl); high = omega (arith, ints, xh) };
+        y = record { low = omega (arith, ints, yl); high = omega (arith, ints, yh) };
+      });
 }

@@ -1,5 +1,7 @@
 -- The cells on the way, and what they still place.
-use Rattle.std.proofs.Common.{◌≡◌, ℕ, ℤ, pos, neg_ℤ, ◌+◌, ◌*◌, ◌^◌, ◌<◌, ◌≤◌, ◌≤ℤ◌, true, false, List, [], ◌∷◌, ◌++◌, Option, Some, None, All, IfSome, MatchOption, is_some, ltb, map, drop, length, get_or, slice_get, refl, sym, ap, subst, ◌∙◌, arith, append_assoc, length-append}
+use Rattle.std.proofs.Common.{◌≡◌, ℕ, ℤ, pos, neg_ℤ, ◌+◌, ◌*◌, ◌^◌, ◌<◌, ◌≤◌, ◌≤ℤ◌, true, false, List, [], ◌∷◌, ◌++◌}
+use Rattle.std.proofs.Common.{Option, Some, None, All, IfSome, MatchOption, is_some, ltb, map, drop, length, get_or}
+use Rattle.std.proofs.Common.{slice_get, refl, sym, ap, subst, ◌∙◌, arith, append_assoc, length-append}
 use Rattle.std.specs.List.{flat_map, AllByRecursion}
 use Rattle.std.proofs.lemmas.Int.{ints}
 use Rattle.std.proofs.lemmas.List.{map-append, length-map}
@@ -21,7 +23,9 @@ use Rattle.cell_tree.specs.Chains.{Link, IsChain, IsReachable, chain_end, chain_
 use Rattle.cell_tree.specs.Flattening.{IsVertex, placed_things}
 use Rattle.cell_tree.proofs.ForCallers.{chain_joined, end_joined, factor_joined, reachable_within, near_below}
 use Rattle.flat_walk.specs.Rests.{Skips, marked_image}
-use Rattle.flat_walk.specs.Ways.{low_corner, high_corner, IsScene, cells_of, marked_of, run_rest, things_at, placements_rest, level_rest, IsBetweenRows, HasRowsBetween, AreRowsBetween, IsRun, IsLevel, IsSpot, IsSamePlace, IsInner}
+use Rattle.flat_walk.specs.Ways.{low_corner, high_corner, IsScene, cells_of, marked_of, run_rest, things_at}
+use Rattle.flat_walk.specs.Ways.{placements_rest, level_rest, IsBetweenRows, HasRowsBetween, AreRowsBetween, IsRun}
+use Rattle.flat_walk.specs.Ways.{IsLevel, IsSpot, IsSamePlace, IsInner}
 use Rattle.flat_walk.specs.declared.scenes.Scene.{Scene}
 use Rattle.flat_walk.specs.declared.levels.Run.{Run}
 use Rattle.flat_walk.specs.declared.levels.Level.{Level}
@@ -43,21 +47,28 @@ level_near scene level sc is = let d = level_shallow scene level sc is in within
 -- ---- a placed cell
 
 placed_chain : (cells : List Cell) (top n m number : ℕ) (links : List Link) (placement : Placement) → IsChain cells top links → chain_end top links ≡ n
-    → slice_get (placements_at cells n) number ≡ Some placement → cell_number cells placement.target ≡ Some m → IsChain cells top (links ++ record { placement = placement; cell = m } ∷ [])
+    → slice_get (placements_at cells n) number ≡ Some placement → cell_number cells placement.target ≡ Some m
+    → IsChain cells top (links ++ record { placement = placement; cell = m } ∷ [])
 placed_chain cells top n m number links placement chain end placed target =
-    chain_joined cells top links (record { placement = placement; cell = m } ∷ []) chain (subst (λ k. IsChain cells k (record { placement = placement; cell = m } ∷ [])) (sym end) (record { number = number; placed = placed; target = target }, tt))
+    chain_joined cells top links (record { placement = placement; cell = m } ∷ []) chain
+    (subst (λ k. IsChain cells k (record { placement = placement; cell = m } ∷ [])) (sym end)
+    (record { number = number; placed = placed; target = target }, tt))
 
-pub placed_mild : (scene : Scene) (level : Level) (m number : ℕ) (placement : Placement) → IsScene scene → IsLevel scene level → slice_get (placements_at (cells_of scene) level.cell) number ≡ Some placement
+pub placed_mild : (scene : Scene) (level : Level) (m number : ℕ) (placement : Placement) → IsScene scene
+    → IsLevel scene level → slice_get (placements_at (cells_of scene) level.cell) number ≡ Some placement
     → cell_number (cells_of scene) placement.target ≡ Some m → level.orient.mag * placement.orient.mag ≤ 16
 placed_mild scene level m number placement sc is placed target =
-    let h = sc.tree.mild (is.links ++ record { placement = placement; cell = m } ∷ []) (placed_chain (cells_of scene) scene.tree.now.top level.cell m number is.links placement is.chain is.end placed target) in
+    let h = sc.tree.mild (is.links ++ record { placement = placement; cell = m } ∷ [])
+    (placed_chain (cells_of scene) scene.tree.now.top level.cell m number is.links placement is.chain is.end
+    placed target) in
     let e = factor_joined is.links (record { placement = placement; cell = m } ∷ []) in
     let f = is.factor in
     let one : placement.orient.mag * 1 ≡ placement.orient.mag = omega arith in
     let g : chain_factor is.links * (placement.orient.mag * 1) ≡ level.orient.mag * placement.orient.mag = rw (f, one) refl in
     omega (arith, h, e, g)
 
-pub placed_reached : (scene : Scene) (level : Level) (m number : ℕ) (placement : Placement) → IsLevel scene level → slice_get (placements_at (cells_of scene) level.cell) number ≡ Some placement
+pub placed_reached : (scene : Scene) (level : Level) (m number : ℕ) (placement : Placement) → IsLevel scene level
+    → slice_get (placements_at (cells_of scene) level.cell) number ≡ Some placement
     → cell_number (cells_of scene) placement.target ≡ Some m → IsReachable (cells_of scene) scene.tree.now.top m
 placed_reached scene level m number placement is placed target = record {
   links = is.links ++ record { placement = placement; cell = m } ∷ [];
@@ -65,16 +76,20 @@ placed_reached scene level m number placement is placed target = record {
   end = end_joined scene.tree.now.top is.links (record { placement = placement; cell = m } ∷ []);
 }
 
-spot_within : (level : Level) (placement : Placement) (spot : Point) → IsOrient level.orient → IsWithin (level.depth * 2 ^ 47) level.at → IsMove placement.at → IsSpot level.orient level.at placement spot
+spot_within : (level : Level) (placement : Placement) (spot : Point) → IsOrient level.orient
+    → IsWithin (level.depth * 2 ^ 47) level.at → IsMove placement.at → IsSpot level.orient level.at placement spot
     → IsWithin ((level.depth + 1) * 2 ^ 47) spot
 spot_within level placement spot orient near move is =
     let inner = moved_within (2 ^ 41) (2 ^ 41) is.by placement.at is.near move.near in
     let h = image_within level.orient (level.depth * 2 ^ 47) (2 ^ 41 + 2 ^ 41) level.at (moved is.by placement.at) orient.factor near inner in
-    subst (IsWithin ((level.depth + 1) * 2 ^ 47)) (sym is.is) (within_more (level.depth * 2 ^ 47 + 16 * (2 ^ 41 + 2 ^ 41)) ((level.depth + 1) * 2 ^ 47) _ (omega arith) h)
+    subst (IsWithin ((level.depth + 1) * 2 ^ 47)) (sym is.is)
+    (within_more (level.depth * 2 ^ 47 + 16 * (2 ^ 41 + 2 ^ 41)) ((level.depth + 1) * 2 ^ 47) _ (omega arith) h)
 
 -- the cell of a run, at one of its places, is a cell on the way
-pub inner_is : (scene : Scene) (level inner : Level) (run : Run) (spot : Point) → IsLevel scene level → IsRun scene level.cell level.orient run → IsSpot level.orient level.at run.placement.now spot
-    → inner.cell ≡ run.target → inner.orient ≡ run.orient → inner.at ≡ spot → inner.depth ≡ level.depth + 1 → inner.run ≡ None → inner.next ≡ 0 → IsInner scene level inner
+pub inner_is : (scene : Scene) (level inner : Level) (run : Run) (spot : Point) → IsLevel scene level
+    → IsRun scene level.cell level.orient run → IsSpot level.orient level.at run.placement.now spot
+    → inner.cell ≡ run.target → inner.orient ≡ run.orient → inner.at ≡ spot → inner.depth ≡ level.depth + 1
+    → inner.run ≡ None → inner.next ≡ 0 → IsInner scene level inner
 inner_is scene level inner run spot is r s cell orient at depth none next = record {
   level = record {
     links = is.links ++ record { placement = run.placement.now; cell = run.target } ∷ [];
@@ -103,25 +118,35 @@ amid_box P box p least amid =
     let t = (least.around amid.top.0 amid.top.1).top in let ty = amid.top.2 in
     record { left = omega (arith, ints); bottom = omega (arith, ints); right = omega (arith, ints); top = omega (arith, ints) }
 
-rows_by : (P : Point → Type 0) (box : Frame) (orient : Orient) (low high : ℤ) (items : List (Option Corners)) → IsLeastBox P box → ((p : Point) → IsInBox box p → IsBetweenRows orient low high p)
+rows_by : (P : Point → Type 0) (box : Frame) (orient : Orient) (low high : ℤ) (items : List (Option Corners))
+    → IsLeastBox P box → ((p : Point) → IsInBox box p → IsBetweenRows orient low high p)
     → AllByRecursion (λ item. IfSome item (IsSpanned P)) items → AllByRecursion (λ item. IfSome item (HasRowsBetween orient low high)) items
 rows_by P box orient low high [] least each all = tt
 rows_by P box orient low high (None ∷ items) least each all = (tt, rows_by P box orient low high items least each all.1)
 rows_by P box orient low high (Some q ∷ items) least each all =
     let s = all.0 in (
-      record { a = each q.a (amid_box P box q.a least s.a); b = each q.b (amid_box P box q.b least s.b); c = each q.c (amid_box P box q.c least s.c); d = each q.d (amid_box P box q.d least s.d) },
+      record {
+        a = each q.a (amid_box P box q.a least s.a);
+        b = each q.b (amid_box P box q.b least s.b);
+        c = each q.c
+            (amid_box P box q.c least s.c);
+        d = each q.d (amid_box P box q.d least s.d);
+      },
       rows_by P box orient low high items least each all.1,
     )
 
 -- the rows of the hull have those of all that the cell shows
 pub hull_rows : (scene : Scene) (m : ℕ) (box : Frame) (orient : Orient) (low high : ℤ) → IsScene scene → IsReachable (cells_of scene) scene.tree.now.top m
-    → IsLeastBox (IsVertex (cells_of scene) m scene.pair) box → ((p : Point) → IsInBox box p → IsBetweenRows orient low high p) → AreRowsBetween orient low high (marked_of scene m)
+    → IsLeastBox (IsVertex (cells_of scene) m scene.pair) box
+    → ((p : Point) → IsInBox box p → IsBetweenRows orient low high p)
+    → AreRowsBetween orient low high (marked_of scene m)
 hull_rows scene m box orient low high sc reach least each =
     All-from_recursion _ _ (rows_by (IsVertex (cells_of scene) m scene.pair) box orient low high (marked_of scene m) least each
     (recursion_from_All (λ item. IfSome item (IsSpanned (IsVertex (cells_of scene) m scene.pair))) (marked_of scene m) (marked_spanned scene m sc reach)))
 
 -- the hull is not too far away
-pub box_within : (scene : Scene) (m : ℕ) (box : Frame) → IsScene scene → IsReachable (cells_of scene) scene.tree.now.top m → IsLeastBox (IsVertex (cells_of scene) m scene.pair) box
+pub box_within : (scene : Scene) (m : ℕ) (box : Frame) → IsScene scene
+    → IsReachable (cells_of scene) scene.tree.now.top m → IsLeastBox (IsVertex (cells_of scene) m scene.pair) box
     → IsWithin (2 ^ 53) (low_corner box) × IsWithin (2 ^ 53) (high_corner box)
 box_within scene m box sc reach least =
     let near = near_below (cells_of scene) sc.grid.cells scene.tree.now.top m sc.tree.shallow sc.tree.mild reach scene.pair in
@@ -129,27 +154,46 @@ box_within scene m box sc reach least =
     let r = near least.right.0 least.right.1 in let re = least.right.2 in
     let b = near least.bottom.0 least.bottom.1 in let be = least.bottom.2 in
     let t = near least.top.0 least.top.1 in let te = least.top.2 in (
-      record { x_low = subst (λ z. neg_ℤ (pos (2 ^ 53)) ≤ℤ z) le l.x_low; x_high = subst (λ z. z ≤ℤ pos (2 ^ 53)) le l.x_high; y_low = subst (λ z. neg_ℤ (pos (2 ^ 53)) ≤ℤ z) be b.y_low; y_high = subst (λ z. z ≤ℤ pos (2 ^ 53)) be b.y_high },
-      record { x_low = subst (λ z. neg_ℤ (pos (2 ^ 53)) ≤ℤ z) re r.x_low; x_high = subst (λ z. z ≤ℤ pos (2 ^ 53)) re r.x_high; y_low = subst (λ z. neg_ℤ (pos (2 ^ 53)) ≤ℤ z) te t.y_low; y_high = subst (λ z. z ≤ℤ pos (2 ^ 53)) te t.y_high },
+      record {
+        x_low = subst (λ z. neg_ℤ (pos (2 ^ 53)) ≤ℤ z) le l.x_low;
+        x_high = subst
+            (λ z. z ≤ℤ pos (2 ^ 53)) le l.x_high;
+        y_low = subst (λ z. neg_ℤ (pos (2 ^ 53)) ≤ℤ z) be b.y_low;
+        y_high =
+            subst (λ z. z ≤ℤ pos (2 ^ 53)) be b.y_high;
+      },
+      record {
+        x_low = subst (λ z. neg_ℤ (pos (2 ^ 53)) ≤ℤ z) re r.x_low;
+        x_high = subst
+            (λ z. z ≤ℤ pos (2 ^ 53)) re r.x_high;
+        y_low = subst (λ z. neg_ℤ (pos (2 ^ 53)) ≤ℤ z) te t.y_low;
+        y_high =
+            subst (λ z. z ≤ℤ pos (2 ^ 53)) te t.y_high;
+      },
     )
 
-marks_by : (P : Point → Type 0) (items : List (Option Corners)) → ((p : Point) → P p → ⊥) → AllByRecursion (λ item. IfSome item (IsSpanned P)) items → AreMarks items
+marks_by : (P : Point → Type 0) (items : List (Option Corners)) → ((p : Point) → P p → ⊥)
+    → AllByRecursion (λ item. IfSome item (IsSpanned P)) items → AreMarks items
 marks_by P [] none all = tt
 marks_by P (None ∷ items) none all = (refl, marks_by P items none all.1)
 marks_by P (Some q ∷ items) none all = absurd (none all.0.a.left.0 all.0.a.left.1)
 
 -- a cell without vertices on the pair shows nothing on it
-pub no_hull : (scene : Scene) (m : ℕ) → IsScene scene → IsReachable (cells_of scene) scene.tree.now.top m → ((p : Point) → IsVertex (cells_of scene) m scene.pair p → ⊥) → AreMarks (marked_of scene m)
+pub no_hull : (scene : Scene) (m : ℕ) → IsScene scene → IsReachable (cells_of scene) scene.tree.now.top m
+    → ((p : Point) → IsVertex (cells_of scene) m scene.pair p → ⊥) → AreMarks (marked_of scene m)
 no_hull scene m sc reach none =
     marks_by (IsVertex (cells_of scene) m scene.pair) (marked_of scene m) none
     (recursion_from_All (λ item. IfSome item (IsSpanned (IsVertex (cells_of scene) m scene.pair))) (marked_of scene m) (marked_spanned scene m sc reach))
 
 -- ---- rests
 
-pub things_are_placed : (scene : Scene) (placement : Placement) (m : ℕ) → cell_number (cells_of scene) placement.target ≡ Some m → things_at scene placement ≡ placed_things marked_image placement (marked_of scene m)
+pub things_are_placed : (scene : Scene) (placement : Placement) (m : ℕ)
+    → cell_number (cells_of scene) placement.target ≡ Some m
+    → things_at scene placement ≡ placed_things marked_image placement (marked_of scene m)
 things_are_placed scene placement m target = rw target refl
 
-pub placements_step : (scene : Scene) (orient : Orient) (at : Point) (cell next : ℕ) (placement : Placement) → slice_get (placements_at (cells_of scene) cell) next ≡ Some placement
+pub placements_step : (scene : Scene) (orient : Orient) (at : Point) (cell next : ℕ) (placement : Placement)
+    → slice_get (placements_at (cells_of scene) cell) next ≡ Some placement
     → placements_rest scene orient at cell next ≡ map (marked_image orient at) (things_at scene placement) ++ placements_rest scene orient at cell (next + 1)
 placements_step scene orient at cell next placement here =
     ap (λ l. map (marked_image orient at) (flat_map (things_at scene) l)) (drop_here (placements_at (cells_of scene) cell) next placement here)
@@ -158,47 +202,71 @@ placements_step scene orient at cell next placement here =
 pub ltb_no : (n m : ℕ) → false ≡ ltb n m → m ≤ n
 ltb_no n m h = grind (arith, nat_tests)
 
-pub placements_end : (scene : Scene) (orient : Orient) (at : Point) (cell next : ℕ) → length (placements_at (cells_of scene) cell) ≤ next → placements_rest scene orient at cell next ≡ []
-placements_end scene orient at cell next past = ap (λ l. map (marked_image orient at) (flat_map (things_at scene) l)) (drop_past (placements_at (cells_of scene) cell) next past)
+pub placements_end : (scene : Scene) (orient : Orient) (at : Point) (cell next : ℕ)
+    → length (placements_at (cells_of scene) cell) ≤ next → placements_rest scene orient at cell next ≡ []
+placements_end scene orient at cell next past = ap (λ l. map (marked_image orient at) (flat_map (things_at scene) l))
+    (drop_past (placements_at (cells_of scene) cell) next past)
 
-same_rest : (scene : Scene) (a b : Level) → IsSamePlace a b → a.next ≡ b.next → placements_rest scene a.orient a.at a.cell a.next ≡ placements_rest scene b.orient b.at b.cell b.next
+same_rest : (scene : Scene) (a b : Level) → IsSamePlace a b → a.next ≡ b.next
+    → placements_rest scene a.orient a.at a.cell a.next ≡ placements_rest scene b.orient b.at b.cell b.next
 same_rest scene a b same next = rw (same.orient, same.at, same.cell, next) refl
 
-level_is : (scene : Scene) (a b : Level) → IsSamePlace a b → b.next ≡ a.next → level_rest scene b ≡ run_rest scene a.orient a.at b.run ++ placements_rest scene a.orient a.at a.cell a.next
+level_is : (scene : Scene) (a b : Level) → IsSamePlace a b → b.next ≡ a.next
+    → level_rest scene b ≡ run_rest scene a.orient a.at b.run ++ placements_rest scene a.orient a.at a.cell a.next
 level_is scene a b same next = rw (same.orient, same.at, same.cell, next) refl
 
 -- a level found a cell at a place
-pub level_found : (scene : Scene) (before : List (Option Corners)) (a b : Level) (found : Option Level) → Skips scene.window before (level_rest scene a) → IsSamePlace a b → b.next ≡ a.next
-    → MatchOption found (Skips scene.window (run_rest scene a.orient a.at a.run) []) (λ inner. Skips scene.window (run_rest scene a.orient a.at a.run) (map (marked_image inner.orient inner.at) (marked_of scene inner.cell) ++ run_rest scene a.orient a.at b.run))
-    → is_some found ≡ true → MatchOption found (Skips scene.window before []) (λ inner. Skips scene.window before (map (marked_image inner.orient inner.at) (marked_of scene inner.cell) ++ level_rest scene b))
+pub level_found : (scene : Scene) (before : List (Option Corners)) (a b : Level) (found : Option Level)
+    → Skips scene.window before (level_rest scene a) → IsSamePlace a b → b.next ≡ a.next
+    → MatchOption found (Skips scene.window (run_rest scene a.orient a.at a.run) [])
+    (λ inner. Skips scene.window (run_rest scene a.orient a.at a.run)
+    (map (marked_image inner.orient inner.at) (marked_of scene inner.cell) ++ run_rest scene a.orient a.at b.run))
+    → is_some found ≡ true → MatchOption found (Skips scene.window before [])
+    (λ inner. Skips scene.window before
+    (map (marked_image inner.orient inner.at) (marked_of scene inner.cell) ++ level_rest scene b))
 level_found scene before a b None s same next g some = absurd (let clash : ⊥ = cc in clash)
 level_found scene before a b (Some inner) s same next g some =
     let shown = map (marked_image inner.orient inner.at) (marked_of scene inner.cell) in
     let later = placements_rest scene a.orient a.at a.cell a.next in
     skip_on scene.window before (level_rest scene a) (shown ++ level_rest scene b) s
-    (subst (λ l. Skips scene.window (level_rest scene a) l) (append_assoc shown (run_rest scene a.orient a.at b.run) later ∙ ap (λ l. shown ++ l) (sym (level_is scene a b same next)))
+    (subst (λ l. Skips scene.window (level_rest scene a) l)
+    (append_assoc shown (run_rest scene a.orient a.at b.run) later ∙ ap (λ l. shown ++ l)
+    (sym (level_is scene a b same next)))
     (skip_left scene.window (run_rest scene a.orient a.at a.run) (shown ++ run_rest scene a.orient a.at b.run) later g))
 
 -- it found none
-pub level_none : (scene : Scene) (before : List (Option Corners)) (a b : Level) (found : Option Level) → Skips scene.window before (level_rest scene a) → IsSamePlace a b → b.next ≡ a.next
-    → MatchOption found (Skips scene.window (run_rest scene a.orient a.at a.run) []) (λ inner. Skips scene.window (run_rest scene a.orient a.at a.run) (map (marked_image inner.orient inner.at) (marked_of scene inner.cell) ++ run_rest scene a.orient a.at b.run))
+pub level_none : (scene : Scene) (before : List (Option Corners)) (a b : Level) (found : Option Level)
+    → Skips scene.window before (level_rest scene a) → IsSamePlace a b → b.next ≡ a.next
+    → MatchOption found (Skips scene.window (run_rest scene a.orient a.at a.run) [])
+    (λ inner. Skips scene.window (run_rest scene a.orient a.at a.run)
+    (map (marked_image inner.orient inner.at) (marked_of scene inner.cell) ++ run_rest scene a.orient a.at b.run))
     → is_some found ≡ false → Skips scene.window before (placements_rest scene b.orient b.at b.cell b.next)
 level_none scene before a b None s same next g some =
     subst (Skips scene.window before) (sym (rw (same.orient, same.at, same.cell, next) refl))
-    (skip_on scene.window before (level_rest scene a) (placements_rest scene a.orient a.at a.cell a.next) s (skip_over scene.window (run_rest scene a.orient a.at a.run) (placements_rest scene a.orient a.at a.cell a.next) g))
+    (skip_on scene.window before (level_rest scene a) (placements_rest scene a.orient a.at a.cell a.next) s
+    (skip_over scene.window (run_rest scene a.orient a.at a.run)
+    (placements_rest scene a.orient a.at a.cell a.next) g))
 level_none scene before a b (Some inner) s same next g some = absurd (let clash : ⊥ = cc in clash)
 
 -- the next placement
-pub level_onward : (scene : Scene) (before : List (Option Corners)) (orient : Orient) (at : Point) (cell next : ℕ) (placement : Placement) (run : Option Run) → Skips scene.window before (placements_rest scene orient at cell next)
-    → slice_get (placements_at (cells_of scene) cell) next ≡ Some placement → Skips scene.window (map (marked_image orient at) (things_at scene placement)) (run_rest scene orient at run)
+pub level_onward : (scene : Scene) (before : List (Option Corners)) (orient : Orient) (at : Point) (cell next : ℕ)
+    (placement : Placement) (run : Option Run) → Skips scene.window before (placements_rest scene orient at cell next)
+    → slice_get (placements_at (cells_of scene) cell) next ≡ Some placement
+    → Skips scene.window (map (marked_image orient at) (things_at scene placement)) (run_rest scene orient at run)
     → Skips scene.window before (run_rest scene orient at run ++ placements_rest scene orient at cell (next + 1))
 level_onward scene before orient at cell next placement run s here g =
     skip_on scene.window before (placements_rest scene orient at cell next) (run_rest scene orient at run ++ placements_rest scene orient at cell (next + 1)) s
-    (skip_on scene.window (placements_rest scene orient at cell next) (map (marked_image orient at) (things_at scene placement) ++ placements_rest scene orient at cell (next + 1)) (run_rest scene orient at run ++ placements_rest scene orient at cell (next + 1))
-    (skip_same scene.window (placements_rest scene orient at cell next) (map (marked_image orient at) (things_at scene placement) ++ placements_rest scene orient at cell (next + 1)) (placements_step scene orient at cell next placement here))
-    (skip_left scene.window (map (marked_image orient at) (things_at scene placement)) (run_rest scene orient at run) (placements_rest scene orient at cell (next + 1)) g))
+    (skip_on scene.window (placements_rest scene orient at cell next)
+    (map (marked_image orient at) (things_at scene placement) ++ placements_rest scene orient at cell (next + 1))
+    (run_rest scene orient at run ++ placements_rest scene orient at cell (next + 1))
+    (skip_same scene.window (placements_rest scene orient at cell next)
+    (map (marked_image orient at) (things_at scene placement) ++ placements_rest scene orient at cell (next + 1))
+    (placements_step scene orient at cell next placement here))
+    (skip_left scene.window (map (marked_image orient at) (things_at scene placement)) (run_rest scene orient at run)
+    (placements_rest scene orient at cell (next + 1)) g))
 
-pub level_ends : (scene : Scene) (before : List (Option Corners)) (orient : Orient) (at : Point) (cell next : ℕ) → Skips scene.window before (placements_rest scene orient at cell next)
+pub level_ends : (scene : Scene) (before : List (Option Corners)) (orient : Orient) (at : Point) (cell next : ℕ)
+    → Skips scene.window before (placements_rest scene orient at cell next)
     → length (placements_at (cells_of scene) cell) ≤ next → Skips scene.window before []
 level_ends scene before orient at cell next s none = subst (Skips scene.window before) (placements_end scene orient at cell next none) s
 

@@ -29,7 +29,8 @@ pub record AreBlocks (boxes blocks : List Frame) : Type 0 where
 -- where their cell is placed so, nothing in the boxes from one number on and below another has a row in the window
 abbrev pub ShowNothing : RowRange → Orient → Point → List Frame → ℕ → ℕ → Type 0
 ShowNothing window orient at boxes from end =
-    (k : ℕ) (box : Frame) → from ≤ k → k < end → slice_get boxes k ≡ Some box → (q : Corners) → IsQuadIn box q → has_row_in window (quad_image orient at q) ≡ false
+    (k : ℕ) (box : Frame) → from ≤ k → k < end → slice_get boxes k ≡ Some box → (q : Corners) → IsQuadIn box q
+    → has_row_in window (quad_image orient at q) ≡ false
 
 -- the boxes, or none
 abbrev pub boxes_in : Option (Bor (List Frame)) → List Frame

@@ -44,7 +44,8 @@ boxes_at table n = get_or table n []
 -- the boxes are round what the first placements show, of whatever pair
 abbrev pub AreSpots : List Cell → List Placement → List Frame → Type 0
 AreSpots cells placements boxes =
-    (k : ℕ) (placement : Placement) (box : Frame) (p : Point) → slice_get placements k ≡ Some placement → slice_get boxes k ≡ Some box → IsSpotVertex cells placement p → IsInBox box p
+    (k : ℕ) (placement : Placement) (box : Frame) (p : Point) → slice_get placements k ≡ Some placement
+    → slice_get boxes k ≡ Some box → IsSpotVertex cells placement p → IsInBox box p
 
 -- the boxes of the shapes and placements of each cell
 pub record Boxed : Type 0 where

@@ -48,11 +48,13 @@ placed_list orient at pieces = map (λ piece. quad_image orient at (corners_of p
 
 -- those of a shape from the offset of this number on
 abbrev pub places_rest : Pair → Shape → List Trapezoid → ℕ → List Corners
-places_rest pair shape pieces place = if is_on pair shape then flat_map (λ by. map (λ piece. moved_quad by (corners_of piece)) pieces) (drop place shape.offsets) else []
+places_rest pair shape pieces place = if is_on pair shape then flat_map
+    (λ by. map (λ piece. moved_quad by (corners_of piece)) pieces) (drop place shape.offsets) else []
 
 -- where the shape is placed so, none of them has a row in the window
 abbrev pub ShowsNothing : RowRange → Orient → Point → Pair → Shape → List Trapezoid → ℕ → Type 0
-ShowsNothing window orient at pair shape pieces place = filter (shows_in window) (map Some (map (quad_image orient at) (places_rest pair shape pieces place))) ≡ []
+ShowsNothing window orient at pair shape pieces place = filter (shows_in window)
+    (map Some (map (quad_image orient at) (places_rest pair shape pieces place))) ≡ []
 
 -- those of shapes, of the first from the offset of this number on
 abbrev pub shapes_rest : Pair → List Shape → List (List Trapezoid) → ℕ → List Corners

@@ -31,7 +31,8 @@ some_is : {X : Type 0} (xs ys : List X) → map Some xs ≡ map Some ys → xs �
 some_is [] [] e = refl
 some_is [] (y ∷ ys) e = absurd (let clash : ⊥ = cc in clash)
 some_is (x ∷ xs) [] e = absurd (let clash : ⊥ = cc in clash)
-some_is (x ∷ xs) (y ∷ ys) e = ap (λ z. z ∷ xs) (head_is (Some x) (Some y) (map Some xs) (map Some ys) x y refl refl e) ∙ ap (λ l. y ∷ l) (some_is xs ys (tail_is (Some x) (Some y) (map Some xs) (map Some ys) e))
+some_is (x ∷ xs) (y ∷ ys) e = ap (λ z. z ∷ xs) (head_is (Some x) (Some y) (map Some xs) (map Some ys) x y refl refl e)
+    ∙ ap (λ l. y ∷ l) (some_is xs ys (tail_is (Some x) (Some y) (map Some xs) (map Some ys) e))
   where
     head_is : {X : Type 0} (a b : Option X) (us bs : List (Option X)) (x y : X) → a ≡ Some x → b ≡ Some y → a ∷ us ≡ b ∷ bs → x ≡ y
     head_is a b us bs x y p q e = cc
@@ -39,14 +40,18 @@ some_is (x ∷ xs) (y ∷ ys) e = ap (λ z. z ∷ xs) (head_is (Some x) (Some y)
     tail_is : {X : Type 0} (a b : Option X) (us bs : List (Option X)) → a ∷ us ≡ b ∷ bs → us ≡ bs
     tail_is a b us bs e = cc
 
-pub Walk-one_list : (scene : Scene) (own : Own) (levels : List Level) (room : ℕ) (xs ys : List Corners) → StandsForWalk scene own levels room xs → StandsForWalk scene own levels room ys → xs ≡ ys
+pub Walk-one_list : (scene : Scene) (own : Own) (levels : List Level) (room : ℕ) (xs ys : List Corners)
+    → StandsForWalk scene own levels room xs → StandsForWalk scene own levels room ys → xs ≡ ys
 Walk-one_list scene own levels room xs ys p q = some_is xs ys (sym p.shows ∙ q.shows)
 
-walk_long : (scene : Scene) (own : Own) (levels : List Level) (room : ℕ) (xs : List Corners) → StandsForWalk scene own levels room xs → length xs ≡ walk_size scene own levels
+walk_long : (scene : Scene) (own : Own) (levels : List Level) (room : ℕ) (xs : List Corners)
+    → StandsForWalk scene own levels room xs → length xs ≡ walk_size scene own levels
 walk_long scene own levels room xs p = sym (ap length p.shows ∙ length-map xs Some)
 
-pub Walk-no_longer : (scene : Scene) (own : Own) (levels : List Level) (room : ℕ) (xs : List Corners) → StandsForWalk scene own levels room xs → length xs ≤ walk_size scene own levels
+pub Walk-no_longer : (scene : Scene) (own : Own) (levels : List Level) (room : ℕ) (xs : List Corners)
+    → StandsForWalk scene own levels room xs → length xs ≤ walk_size scene own levels
 Walk-no_longer scene own levels room xs p = let e = walk_long scene own levels room xs p in omega (arith, e)
 
-pub Walk-bounded : (scene : Scene) (own : Own) (levels : List Level) (room : ℕ) (xs : List Corners) → StandsForWalk scene own levels room xs → walk_size scene own levels ≤ 2 ^ 105
+pub Walk-bounded : (scene : Scene) (own : Own) (levels : List Level) (room : ℕ) (xs : List Corners)
+    → StandsForWalk scene own levels room xs → walk_size scene own levels ≤ 2 ^ 105
 Walk-bounded scene own levels room xs p = let e = walk_long scene own levels room xs p in let f = p.few in omega (arith, e, f)

@@ -27,7 +27,8 @@ module _ (height width : ℤ) (limits : AreLimits height width) where
 
   pub same_tiles : (t : Tile) (z : Trapezoid) → IsShot z → count_in (cut_list height width z) t ≡ count_in (z ∷ []) t
   same_tiles t = of_heights height width limits (same t)
-      (λ z s h. (let piece = same_in_piece t z (record { shot = s; low = h }) in let all = count_in-append (cut_by_width width z) [] t in omega (arith, piece, all)))
+      (λ z s h. (let piece = same_in_piece t z (record { shot = s; low = h }) in let all = count_in-append
+      (cut_by_width width z) [] t in omega (arith, piece, all)))
       (λ z pieces s h rest. (let low = lowest_is_low height width limits z s h in
       let piece = same_in_piece t (lowest_rows height z) low in
       let all = count_in-append (cut_by_width width (lowest_rows height z)) (flat_map (cut_by_width width) pieces) t in
@@ -39,17 +40,25 @@ module _ (height width : ℤ) (limits : AreLimits height width) where
   left_fits : (z : Trapezoid) → IsLow height z → width <ℤ box_width z → IsFitting height width (leftmost_part width z)
   left_fits z s h =
       let c = cut_is height width limits z s h in
-      record { shot = left_is_shot height width limits z s h; fits = record { not_too_high = s.low; not_too_wide = (let n = c.narrow in omega (arith, ints, clamps)) } }
+      record {
+        shot = left_is_shot height width limits z s h;
+        fits =
+            record { not_too_high = s.low; not_too_wide = (let n = c.narrow in omega (arith, ints, clamps)) };
+      }
 
   pub piece_fits : (z : Trapezoid) → IsLow height z → All (IsFitting height width) (cut_by_width width z)
   piece_fits = of_widths height width limits (λ z parts. All (IsFitting height width) parts)
-      (λ z s h. All-cons (IsFitting height width) z [] (record { shot = s.shot; fits = record { not_too_high = s.low; not_too_wide = h } }) (All-nil (IsFitting height width)))
+      (λ z s h. All-cons (IsFitting height width) z []
+      (record { shot = s.shot; fits = record { not_too_high = s.low; not_too_wide = h } })
+      (All-nil (IsFitting height width)))
       (λ z parts s h rest. All-cons (IsFitting height width) (leftmost_part width z) parts (left_fits z s h) rest)
 
   pub all_fit : (z : Trapezoid) → IsShot z → All (IsFitting height width) (cut_list height width z)
   all_fit = of_heights height width limits (λ z pieces. All (IsFitting height width) (flat_map (cut_by_width width) pieces))
       (λ z s h. All-append (IsFitting height width) (cut_by_width width z) [] (piece_fits z (record { shot = s; low = h })) (All-nil (IsFitting height width)))
-      (λ z pieces s h rest. All-append (IsFitting height width) (cut_by_width width (lowest_rows height z)) (flat_map (cut_by_width width) pieces) (piece_fits (lowest_rows height z) (lowest_is_low height width limits z s h)) rest)
+      (λ z pieces s h rest. All-append (IsFitting height width) (cut_by_width width (lowest_rows height z))
+      (flat_map (cut_by_width width) pieces)
+      (piece_fits (lowest_rows height z) (lowest_is_low height width limits z s h)) rest)
 
   pub are_shots : (z : Trapezoid) → IsShot z → All IsShot (cut_list height width z)
   are_shots z s = All-weaker (IsFitting height width) IsShot (λ y f. f.shot) (cut_list height width z) (all_fit z s)
@@ -66,9 +75,11 @@ module _ (height width : ℤ) (limits : AreLimits height width) where
       let later = same_tiles_of_list t traps (All-tail IsShot z traps s) in
       omega (arith, first, later, count_in-append (cut_list height width z) (shots_of height width traps) t, count_in-append (z ∷ []) traps t)
 
-  all_of_list : (P : Trapezoid → Type 0) → ((z : Trapezoid) → IsShot z → All P (cut_list height width z)) → (traps : List Trapezoid) → All IsShot traps → All P (shots_of height width traps)
+  all_of_list : (P : Trapezoid → Type 0) → ((z : Trapezoid) → IsShot z → All P (cut_list height width z))
+      → (traps : List Trapezoid) → All IsShot traps → All P (shots_of height width traps)
   all_of_list P h [] s = All-nil P
-  all_of_list P h (z ∷ traps) s = All-append P (cut_list height width z) (shots_of height width traps) (h z (All-head IsShot z traps s)) (all_of_list P h traps (All-tail IsShot z traps s))
+  all_of_list P h (z ∷ traps) s = All-append P (cut_list height width z) (shots_of height width traps)
+      (h z (All-head IsShot z traps s)) (all_of_list P h traps (All-tail IsShot z traps s))
 
   pub list_of_shots : (traps : List Trapezoid) → All IsShot traps → All IsShot (shots_of height width traps)
   list_of_shots = all_of_list IsShot are_shots

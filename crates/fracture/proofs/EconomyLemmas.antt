@@ -81,7 +81,12 @@ module _ (height width : ℤ) (limits : AreLimits height width) where
     begin = λ w at e. elim (first_or_later z w [] at) [ inl is ↦ inl (sym is) | inr is ↦ absurd (none_in_empty w is) ];
     wide = λ y w at by e.
         elim (first_or_later z y [] at) [
-          | inl is ↦ elim (first_or_later z w [] by) [ inl same ↦ absurd (no_width z s.shot (ap (λ v. v.right) is ∙ e ∙ sym (ap (λ v. v.left) same))) | inr same ↦ absurd (none_in_empty w same) ]
+          | inl is ↦ elim (first_or_later z w [] by) [
+            | inl same ↦ absurd
+                (no_width z s.shot (ap (λ v. v.right) is ∙ e ∙ sym (ap (λ v. v.left) same)))
+            | inr same ↦ absurd
+                (none_in_empty w same)
+          ]
           | inr is ↦ absurd (none_in_empty y is)
         ];
   }
@@ -111,19 +116,28 @@ module _ (height width : ℤ) (limits : AreLimits height width) where
         let rows : z.y0 ≤ℤ z.y1 = omega (arith, ints, s.shot.legal.has_rows) in
         let right = x_steps z.right z.y0 z.y1 rows in
         let some : pos 0 <ℤ height_of z = omega (arith, ints, s.shot.legal.has_rows) in
-        let least : int_min (x_on z.left z.y0) (x_on z.left z.y1) <ℤ cut_at width z = (let a = c.bottom_left in let b = c.top_left in omega (arith, ints, clamps)) in
+        let least : int_min (x_on z.left z.y0) (x_on z.left z.y1) <ℤ cut_at width z =
+        (let a = c.bottom_left in let b = c.top_left in omega (arith, ints, clamps)) in
         let beyond : width <ℤ (int_max (x_on z.right z.y0) (x_on z.right z.y1) -ℤ cut_at width z) = rw min_same at more in
         let next : cut_at width (part_beyond width z) ≡ int_min (cut_at width z +ℤ width) (int_min (x_on z.right z.y0) (x_on z.right z.y1)) =
         ap (λ m. int_min (m +ℤ width) (int_min (x_on z.right z.y0) (x_on z.right z.y1))) (min_same (cut_at width z)) in
-        let joint = joint_wide (int_min (x_on z.left z.y0) (x_on z.left z.y1)) (x_on z.right z.y0) (x_on z.right z.y1) (height_of z) height width (cut_at width z) (cut_at width (part_beyond width z)) some s.low limits.wide right.0 right.1 least refl beyond next in
+        let joint = joint_wide (int_min (x_on z.left z.y0) (x_on z.left z.y1)) (x_on z.right z.y0) (x_on z.right z.y1)
+        (height_of z) height width (cut_at width z)
+        (cut_at width (part_beyond width z)) some s.low limits.wide right.0 right.1 least refl beyond next in
         subst (λ v. AreTooWide (leftmost_part width z) v) (sym e) (rw (max_same (cut_at width (part_beyond width z))) joint)
 
     more_parts : (parts : List Trapezoid) → ArePartsOf (part_beyond width z) parts → ArePartsOf z (leftmost_part width z ∷ parts)
     more_parts parts q =
-        let part : (y : Trapezoid) → Contains parts y → IsPart (part_beyond width z) y = λ y at. All-contains (IsPart (part_beyond width z)) parts y q.each at in
+        let part : (y : Trapezoid) → Contains parts y → IsPart (part_beyond width z) y = λ y at. All-contains
+        (IsPart (part_beyond width z)) parts y q.each at in
         record {
           each = All-cons (IsPart z) (leftmost_part width z) parts first_is (All-weaker (IsPart (part_beyond width z)) (IsPart z) later_is parts q.each);
-          begin = λ w at e. elim (first_or_later (leftmost_part width z) w parts at) [ inl is ↦ inr (over, sym is) | inr is ↦ absurd (later_left w (part w is) e) ];
+          begin = λ w at e. elim
+              (first_or_later (leftmost_part width z) w parts at) [
+                | inl is ↦ inr (over, sym is)
+                | inr is ↦ absurd
+                    (later_left w (part w is) e)
+              ];
           wide = λ y w at by e.
               elim (first_or_later (leftmost_part width z) y parts at) [
                 | inl is ↦ elim (first_or_later (leftmost_part width z) w parts by) [
@@ -160,7 +174,15 @@ module _ (height width : ℤ) (limits : AreLimits height width) where
 
   one_piece : (z : Trapezoid) → IsShot z → height_of z ≤ℤ height → ArePiecesOf z (z ∷ [])
   one_piece z s h = record {
-    each = All-cons (IsPiece z) z [] (record { low = record { shot = s; low = h }; above = omega (arith, ints); below = omega (arith, ints); left = refl; right = refl }) (All-nil (IsPiece z));
+    each = All-cons (IsPiece z) z []
+        (record {
+          low = record { shot = s; low = h };
+          above = omega (arith, ints);
+          below = omega (arith, ints);
+          left =
+              refl;
+          right = refl;
+        }) (All-nil (IsPiece z));
     named = λ p q at by e.
         elim (first_or_later z p [] at) [
           | inl is ↦ elim (first_or_later z q [] by) [ inl same ↦ sym is ∙ same | inr same ↦ absurd (none_in_empty q same) ]
@@ -169,7 +191,8 @@ module _ (height width : ℤ) (limits : AreLimits height width) where
     tall = λ p q at by e.
         elim (first_or_later z p [] at) [
           | inl is ↦ elim (first_or_later z q [] by) [
-            | inl same ↦ (let top = ap (λ v. v.y1) is in let bottom = ap (λ v. v.y0) same in let rows = s.legal.has_rows in absurd (omega (arith, ints, top, bottom, e, rows)))
+            | inl same ↦ (let top = ap (λ v. v.y1) is in let bottom = ap (λ v. v.y0) same in let rows =
+                s.legal.has_rows in absurd (omega (arith, ints, top, bottom, e, rows)))
             | inr same ↦ absurd (none_in_empty q same)
           ]
           | inr is ↦ absurd (none_in_empty p is)
@@ -188,7 +211,8 @@ module _ (height width : ℤ) (limits : AreLimits height width) where
     more_pieces : (pieces : List Trapezoid) → ArePiecesOf (rows_above height z) pieces → ArePiecesOf z (lowest_rows height z ∷ pieces)
     more_pieces pieces r =
         let some = limits.some_rows in
-        let piece : (p : Trapezoid) → Contains pieces p → IsPiece (rows_above height z) p = λ p at. All-contains (IsPiece (rows_above height z)) pieces p r.each at in
+        let piece : (p : Trapezoid) → Contains pieces p → IsPiece (rows_above height z) p = λ p at. All-contains
+        (IsPiece (rows_above height z)) pieces p r.each at in
         record {
           each = All-cons (IsPiece z) (lowest_rows height z) pieces lowest_is (All-weaker (IsPiece (rows_above height z)) (IsPiece z) higher_is pieces r.each);
           named = λ p q at by e.
@@ -206,10 +230,13 @@ module _ (height width : ℤ) (limits : AreLimits height width) where
               elim (first_or_later (lowest_rows height z) p pieces at) [
                 | inl is ↦ elim (first_or_later (lowest_rows height z) q pieces by) [
                   | inl same ↦ (let bottom = ap (λ v. v.y0) same in let top = ap (λ v. v.y1) is in absurd (omega (arith, ints, bottom, top, e, some)))
-                  | inr same ↦ (let bottom = ap (λ v. v.y0) is in let top = ap (λ v. v.y1) is in let rows = (piece q same).low.shot.legal.has_rows in omega (arith, ints, bottom, top, e, rows))
+                  | inr same ↦ (let bottom = ap (λ v. v.y0) is in let top = ap (λ v. v.y1) is in let rows =
+                      (piece q same).low.shot.legal.has_rows in omega (arith, ints, bottom, top, e, rows))
                 ]
                 | inr is ↦ elim (first_or_later (lowest_rows height z) q pieces by) [
-                  | inl same ↦ (let bottom = ap (λ v. v.y0) same in let above = (piece p is).above in let rows = (piece p is).low.shot.legal.has_rows in absurd (omega (arith, ints, bottom, above, e, some, rows)))
+                  | inl same ↦ (let bottom = ap (λ v. v.y0) same in let above = (piece p is).above in let rows =
+                      (piece p is).low.shot.legal.has_rows in absurd
+                      (omega (arith, ints, bottom, above, e, some, rows)))
                   | inr same ↦ r.tall p q is same e
                 ]
               ];

@@ -32,7 +32,14 @@ first_in z l j s e a b =
     let number = tile_with_number (place l j) j in
     let same : place l j ≡ place z.left j = ap (λ m. place m j) e in
     let legal = legal_places z j s.legal a b in
-    in_by_number z (first_tile l j) (record { above_bottom = a; below_top = b; from_left = omega (arith, ints, number, same); below_right = omega (arith, ints, number, same, legal) })
+    in_by_number z (first_tile l j)
+    (record {
+      above_bottom = a;
+      below_top = b;
+      from_left = omega (arith, ints, number, same);
+      below_right = omega
+          (arith, ints, number, same, legal);
+    })
 
 module _ (height width : ℤ) (limits : AreLimits height width) where
   -- a shot of a trapezoid, with its rows and sides in it
@@ -85,8 +92,16 @@ module _ (height width : ℤ) (limits : AreLimits height width) where
         above = omega (arith, ints, bottom, low);
         below = omega (arith, ints, top, high);
         rows = part.shot.legal.has_rows;
-        left = elim side.left [ inl e ↦ inl (e ∙ piece.left) | inr on ↦ inr (λ t a b n. inner t (on t (omega (arith, ints, a, bottom)) (omega (arith, ints, b, top)) n)) ];
-        right = elim side.right [ inl e ↦ inl (e ∙ piece.right) | inr on ↦ inr (λ t a b n. inner t (on t (omega (arith, ints, a, bottom)) (omega (arith, ints, b, top)) n)) ];
+        left = elim side.left [
+          | inl e ↦ inl (e ∙ piece.left)
+          | inr on ↦ inr
+              (λ t a b n. inner t (on t (omega (arith, ints, a, bottom)) (omega (arith, ints, b, top)) n))
+        ];
+        right = elim side.right [
+          | inl e ↦ inl (e ∙ piece.right)
+          | inr on ↦ inr
+              (λ t a b n. inner t (on t (omega (arith, ints, a, bottom)) (omega (arith, ints, b, top)) n))
+        ];
       }
 
   module _ (window : RowRange) (traps : List Trapezoid) (joined : IsJoined window traps) (shots : All IsShot traps) where
@@ -123,14 +138,16 @@ module _ (height width : ℤ) (limits : AreLimits height width) where
           | inr on ↦ one x z t ax az (on t low high (number ∙ sym at)) iz
         ]
 
-    upright : (y w : Trapezoid) → Contains (shots_of height width traps) y → Contains (shots_of height width traps) w → y.y0 ≡ w.y0 → y.right ≡ w.left → width <ℤ box_width (side_by_side y w)
+    upright : (y w : Trapezoid) → Contains (shots_of height width traps) y → Contains (shots_of height width traps) w
+        → y.y0 ≡ w.y0 → y.right ≡ w.left → width <ℤ box_width (side_by_side y w)
     upright y w at by bottoms e =
         let a = of_some (cut_list height width) traps y at in
         let b = of_some (cut_list height width) traps w by in
         let p = shot_in a.0 y (shot a.0 a.1) a.2 in
         let q = shot_in b.0 w (shot b.0 b.1) b.2 in
         let same = same_beside a.0 b.0 y w a.1 b.1 p q bottoms e in
-        let here : IsShotOf height width limits a.0 w = shot_of height width limits a.0 w (shot a.0 a.1) (subst (λ v. Contains (cut_list height width v) w) (sym same) b.2) in
+        let here : IsShotOf height width limits a.0 w = shot_of height width limits a.0 w (shot a.0 a.1)
+        (subst (λ v. Contains (cut_list height width v) w) (sym same) b.2) in
         side_by_side_wide height width limits a.0 y w (shot a.0 a.1) p.of here bottoms e
 
     -- ---- one above the other
@@ -150,7 +167,8 @@ module _ (height width : ℤ) (limits : AreLimits height width) where
                 (covered t (counted t x traps ax (on t (omega (arith, ints)) rows next))))
           ]
 
-      side_right : (x y s : Trapezoid) → Contains traps x → IsShotIn x y → StandsAlone area s → y.right ≡ s.right → s.y0 ≤ℤ y.y0 → y.y1 ≤ℤ s.y1 → y.right ≡ x.right
+      side_right : (x y s : Trapezoid) → Contains traps x → IsShotIn x y → StandsAlone area s → y.right ≡ s.right
+          → s.y0 ≤ℤ y.y0 → y.y1 ≤ℤ s.y1 → y.right ≡ x.right
       side_right x y s ax p alone e low high =
           let j = y.y0 in
           let t = tile_with (place y.right j) j in
@@ -158,7 +176,13 @@ module _ (height width : ℤ) (limits : AreLimits height width) where
           let rows = p.rows in
           elim p.right [
             | inl side ↦ side
-            | inr on ↦ absurd (alone t (record { above_bottom = low; below_top = omega (arith, ints, high, rows); beside = inr (number ∙ ap (λ l. place l j) e) })
+            | inr on ↦ absurd (alone t
+                (record {
+                  above_bottom = low;
+                  below_top = omega (arith, ints, high, rows);
+                  beside = inr
+                      (number ∙ ap (λ l. place l j) e);
+                })
                 (covered t (counted t x traps ax (on t (omega (arith, ints)) rows number))))
           ]
 
@@ -167,7 +191,8 @@ module _ (height width : ℤ) (limits : AreLimits height width) where
       share_row x z j ax az e a b c d = one x z (first_tile x.left j) ax az (first_in x x.left j (shot x ax) refl a b) (first_in z x.left j (shot z az) e c d)
 
       -- stacked shots that stand alone are of one trapezoid
-      same_stacked : (x z y w : Trapezoid) → Contains traps x → Contains traps z → IsShotIn x y → IsShotIn z w → x.left ≡ z.left → x.right ≡ z.right → y.y1 ≡ w.y0 → x ≡ z
+      same_stacked : (x z y w : Trapezoid) → Contains traps x → Contains traps z → IsShotIn x y → IsShotIn z w
+          → x.left ≡ z.left → x.right ≡ z.right → y.y1 ≡ w.y0 → x ≡ z
       same_stacked x z y w ax az p q left right e =
           let pr = p.rows in
           let qr = q.rows in
@@ -181,7 +206,8 @@ module _ (height width : ℤ) (limits : AreLimits height width) where
           (λ more. share_row x z (y.y1 -ℤ pos 1) ax az left (omega (arith, ints)) (omega (arith, ints)) (omega (arith, ints)) (omega (arith, ints)))
           (λ bottom. (let meet : x.y1 ≡ z.y0 = omega (arith, ints) in absurd (joined.not_stacked x z ax az left right meet))))
 
-      level : (y w : Trapezoid) → Contains (shots_of height width traps) y → Contains (shots_of height width traps) w → y.left ≡ w.left → y.right ≡ w.right → y.y1 ≡ w.y0
+      level : (y w : Trapezoid) → Contains (shots_of height width traps) y → Contains (shots_of height width traps) w
+          → y.left ≡ w.left → y.right ≡ w.right → y.y1 ≡ w.y0
           → StandsAlone area (stacked y w) → height <ℤ height_of (stacked y w)
       level y w at by left right e alone =
           let a = of_some (cut_list height width) traps y at in
@@ -195,7 +221,8 @@ module _ (height width : ℤ) (limits : AreLimits height width) where
           let zl = side_left b.0 w (stacked y w) b.1 q alone (sym left) (omega (arith, ints)) (omega (arith, ints)) in
           let zr = side_right b.0 w (stacked y w) b.1 q alone (sym right) (omega (arith, ints)) (omega (arith, ints)) in
           let same = same_stacked a.0 b.0 y w a.1 b.1 p q (sym xl ∙ left ∙ zl) (sym xr ∙ right ∙ zr) e in
-          let here : IsShotOf height width limits a.0 w = shot_of height width limits a.0 w (shot a.0 a.1) (subst (λ v. Contains (cut_list height width v) w) (sym same) b.2) in
+          let here : IsShotOf height width limits a.0 w = shot_of height width limits a.0 w (shot a.0 a.1)
+          (subst (λ v. Contains (cut_list height width v) w) (sym same) b.2) in
           stacked_tall height width limits a.0 y w (shot a.0 a.1) p.of here e
 
       -- whatever the bands are

@@ -44,7 +44,9 @@ module _ (fits : Trapezoid → Bool) (part rest : Trapezoid → Trapezoid) where
 
     -- By cases: what holds of a list of one that fits, and of one more part before a list of which it holds, holds of the parts.
     module _ (Q : Trapezoid → List Trapezoid → Type 0) where
-      by_cuts : (one : (z : Trapezoid) → P z → fits z ≡ true → Q z (z ∷ [])) → (more : (z : Trapezoid) (parts : List Trapezoid) → P z → fits z ≡ false → Q (rest z) parts → Q z (part z ∷ parts))
+      by_cuts : (one : (z : Trapezoid) → P z → fits z ≡ true → Q z (z ∷ []))
+          → (more : (z : Trapezoid) (parts : List Trapezoid) → P z → fits z ≡ false → Q (rest z) parts
+          → Q z (part z ∷ parts))
           → (n : ℕ) (z : Trapezoid) → P z → size z ≤ n → (b : Bool) → fits z ≡ b → Q z (cut_off fits part rest n z)
       by_cuts one more n z p k true h = subst (Q z) (sym (whole n z h)) (one z p h)
       by_cuts one more zero z p k false h = let yes = fits_at_none z p k _ h in absurd cc
@@ -52,6 +54,8 @@ module _ (fits : Trapezoid → Bool) (part rest : Trapezoid → Trapezoid) where
           let less : size (rest z) ≤ n = omega (arith, s.falls z p h, k) in
           subst (Q z) (sym (parted n z h)) (more z _ p h (by_cuts one more n (rest z) (s.keeps z p h) less _ refl))
 
-      pub of_parts : (one : (z : Trapezoid) → P z → fits z ≡ true → Q z (z ∷ [])) → (more : (z : Trapezoid) (parts : List Trapezoid) → P z → fits z ≡ false → Q (rest z) parts → Q z (part z ∷ parts))
+      pub of_parts : (one : (z : Trapezoid) → P z → fits z ≡ true → Q z (z ∷ []))
+          → (more : (z : Trapezoid) (parts : List Trapezoid) → P z → fits z ≡ false → Q (rest z) parts
+          → Q z (part z ∷ parts))
           → (n : ℕ) (z : Trapezoid) → P z → size z ≤ n → Q z (cut_off fits part rest n z)
       of_parts one more n z p k = by_cuts one more n z p k _ refl

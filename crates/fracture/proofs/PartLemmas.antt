@@ -107,7 +107,11 @@ module _ (height width : ℤ) (limits : AreLimits height width) where
   pub cut_reach : (z : Trapezoid) → IsLow height z → width <ℤ box_width z → IsWithinReach (cut_at width z)
   cut_reach z s h =
       let c = cut_is z s h in
-      record { low = omega (arith, ints, c.bottom_left, s.shot.reach.bottom_left.low); high = omega (arith, ints, c.bottom_right, s.shot.reach.bottom_right.high) }
+      record {
+        low = omega (arith, ints, c.bottom_left, s.shot.reach.bottom_left.low);
+        high = omega
+            (arith, ints, c.bottom_right, s.shot.reach.bottom_right.high);
+      }
 
   pub left_is_shot : (z : Trapezoid) → IsLow height z → width <ℤ box_width z → IsShot (leftmost_part width z)
   left_is_shot z s h =
@@ -120,7 +124,15 @@ module _ (height width : ℤ) (limits : AreLimits height width) where
           top = omega (arith, ints, c.top_left);
           not_flat = omega (arith, ints, c.bottom_left, c.top_left);
         };
-        reach = record { y0 = s.shot.reach.y0; y1 = s.shot.reach.y1; bottom_left = s.shot.reach.bottom_left; bottom_right = at; top_left = s.shot.reach.top_left; top_right = at };
+        reach = record {
+          y0 = s.shot.reach.y0;
+          y1 = s.shot.reach.y1;
+          bottom_left =
+              s.shot.reach.bottom_left;
+          bottom_right = at;
+          top_left = s.shot.reach.top_left;
+          top_right = at;
+        };
       }
 
   pub beyond_is_low : (z : Trapezoid) → IsLow height z → width <ℤ box_width z → IsLow height (part_beyond width z)
@@ -135,7 +147,15 @@ module _ (height width : ℤ) (limits : AreLimits height width) where
             top = omega (arith, ints, c.top_right);
             not_flat = c.not_flat;
           };
-          reach = record { y0 = s.shot.reach.y0; y1 = s.shot.reach.y1; bottom_left = at; bottom_right = s.shot.reach.bottom_right; top_left = at; top_right = s.shot.reach.top_right };
+          reach = record {
+            y0 = s.shot.reach.y0;
+            y1 = s.shot.reach.y1;
+            bottom_left = at;
+            bottom_right =
+                s.shot.reach.bottom_right;
+            top_left = at;
+            top_right = s.shot.reach.top_right;
+          };
         };
         low = s.low;
       }

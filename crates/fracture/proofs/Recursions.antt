@@ -55,7 +55,8 @@ module _ (height width : ℤ) (limits : AreLimits height width) where
   pub heights_shrink : Shrinks (is_low height) (lowest_rows height) (rows_above height) IsShot rows_of
   heights_shrink = record {
     keeps = λ z s h. above_is_shot height width limits z s (le_false _ _ h);
-    falls = λ z s h. (let over = le_false (height_of z) height h in count_falls (height_of (rows_above height z)) (height_of z) (omega (arith, ints, over, limits.some_rows)) (omega (arith, ints, limits.some_rows)));
+    falls = λ z s h. (let over = le_false (height_of z) height h in count_falls (height_of (rows_above height z))
+        (height_of z) (omega (arith, ints, over, limits.some_rows)) (omega (arith, ints, limits.some_rows)));
   }
 
   narrower : (z : Trapezoid) → IsLow height z → width <ℤ box_width z → box_width (part_beyond width z) <ℤ box_width z
@@ -64,33 +65,38 @@ module _ (height width : ℤ) (limits : AreLimits height width) where
   pub widths_shrink : Shrinks (is_narrow width) (leftmost_part width) (part_beyond width) (IsLow height) width_of
   widths_shrink = record {
     keeps = λ z s h. beyond_is_low height width limits z s (le_false _ _ h);
-    falls = λ z s h. (let over = le_false (box_width z) width h in count_falls _ _ (omega (arith, ints, over, limits.some_rows, limits.wide)) (narrower z s over));
+    falls = λ z s h. (let over = le_false (box_width z) width h in count_falls _ _
+        (omega (arith, ints, over, limits.some_rows, limits.wide)) (narrower z s over));
   }
 
   -- one step of each
   pub low_is_one : (z : Trapezoid) → height_of z ≤ℤ height → cut_by_height height z ≡ z ∷ []
   low_is_one z h = whole _ _ _ enough_cuts z (le_yes _ _ h)
 
-  pub lowest_first : (z : Trapezoid) → IsShot z → height <ℤ height_of z → cut_by_height height z ≡ lowest_rows height z ∷ cut_by_height height (rows_above height z)
+  pub lowest_first : (z : Trapezoid) → IsShot z → height <ℤ height_of z
+      → cut_by_height height z ≡ lowest_rows height z ∷ cut_by_height height (rows_above height z)
   lowest_first z s h = first_part _ _ _ IsShot rows_of heights_shrink enough_cuts z s (rows_enough z s) (le_no _ _ h)
 
   pub narrow_is_one : (z : Trapezoid) → box_width z ≤ℤ width → cut_by_width width z ≡ z ∷ []
   narrow_is_one z h = whole _ _ _ enough_cuts z (le_yes _ _ h)
 
-  pub leftmost_first : (z : Trapezoid) → IsLow height z → width <ℤ box_width z → cut_by_width width z ≡ leftmost_part width z ∷ cut_by_width width (part_beyond width z)
+  pub leftmost_first : (z : Trapezoid) → IsLow height z → width <ℤ box_width z
+      → cut_by_width width z ≡ leftmost_part width z ∷ cut_by_width width (part_beyond width z)
   leftmost_first z s h = first_part _ _ _ (IsLow height) width_of widths_shrink enough_cuts z s (width_enough z s.shot) (le_no _ _ h)
 
   -- what holds of the parts by cases, for each of the two
   module _ (Q : Trapezoid → List Trapezoid → Type 0) where
     pub of_heights : (one : (z : Trapezoid) → IsShot z → height_of z ≤ℤ height → Q z (z ∷ []))
-        → (more : (z : Trapezoid) (parts : List Trapezoid) → IsShot z → height <ℤ height_of z → Q (rows_above height z) parts → Q z (lowest_rows height z ∷ parts))
+        → (more : (z : Trapezoid) (parts : List Trapezoid) → IsShot z → height <ℤ height_of z
+        → Q (rows_above height z) parts → Q z (lowest_rows height z ∷ parts))
         → (z : Trapezoid) → IsShot z → Q z (cut_by_height height z)
     of_heights one more z s =
         of_parts (is_low height) (lowest_rows height) (rows_above height) IsShot rows_of heights_shrink Q
         (λ z s h. one z s (le_true _ _ h)) (λ z parts s h q. more z parts s (le_false _ _ h) q) enough_cuts z s (rows_enough z s)
 
     pub of_widths : (one : (z : Trapezoid) → IsLow height z → box_width z ≤ℤ width → Q z (z ∷ []))
-        → (more : (z : Trapezoid) (parts : List Trapezoid) → IsLow height z → width <ℤ box_width z → Q (part_beyond width z) parts → Q z (leftmost_part width z ∷ parts))
+        → (more : (z : Trapezoid) (parts : List Trapezoid) → IsLow height z → width <ℤ box_width z
+        → Q (part_beyond width z) parts → Q z (leftmost_part width z ∷ parts))
         → (z : Trapezoid) → IsLow height z → Q z (cut_by_width width z)
     of_widths one more z s =
         of_parts (is_narrow width) (leftmost_part width) (part_beyond width) (IsLow height) width_of widths_shrink Q

@@ -64,7 +64,8 @@ module _ (height width : ℤ) (limits : AreLimits height width) where
   pub sides : (z : Trapezoid) → IsLow height z → All (HasSides z) (cut_by_width width z)
   sides = of_widths height width limits (λ z parts. All (HasSides z) parts)
       (λ z s h. All-cons (HasSides z) z [] (record { left = inl refl; right = inl refl }) (All-nil (HasSides z)))
-      (λ z parts s h rest. All-cons (HasSides z) (leftmost_part width z) parts (first_sides z s h) (All-weaker (HasSides (part_beyond width z)) (HasSides z) (later_sides z s h) parts rest))
+      (λ z parts s h rest. All-cons (HasSides z) (leftmost_part width z) parts (first_sides z s h)
+      (All-weaker (HasSides (part_beyond width z)) (HasSides z) (later_sides z s h) parts rest))
 
   pub sides_of : (z y : Trapezoid) → IsLow height z → Contains (cut_by_width width z) y → HasSides z y
   sides_of z y s at = All-contains (HasSides z) (cut_by_width width z) y (sides z s) at

@@ -1,5 +1,6 @@
 -- One call on what is in hand: the first shot, and those that are left.
-use Rattle.std.proofs.Common.{subst, ◌-ℤ◌, ◌≡◌, ℕ, ◌+◌, ◌*◌, ◌≤◌, arith, mul-suc, mul-le-mul_left, ℤ, ◌≤ℤ◌, ◌<ℤ◌, List, [], ◌∷◌, ◌++◌, Option, Some, None, refl, ap, ◌∙◌, sym}
+use Rattle.std.proofs.Common.{subst, ◌-ℤ◌, ◌≡◌, ℕ, ◌+◌, ◌*◌, ◌≤◌, arith, mul-suc, mul-le-mul_left, ℤ, ◌≤ℤ◌, ◌<ℤ◌, List}
+use Rattle.std.proofs.Common.{[], ◌∷◌, ◌++◌, Option, Some, None, refl, ap, ◌∙◌, sym}
 use Rattle.std.proofs.lemmas.Int.{by_lt_z}
 use Rattle.half_grid.specs.Trapezoids.{Trapezoid, trapezoid, IsShot, box_width}
 use Rattle.half_grid.specs.declared.shot.Limits.{Limits}
@@ -20,7 +21,8 @@ abbrev two_parts : Trapezoid → Trapezoid → Cut
 two_parts part rest = record { part = part; rest = Some rest }
 
 module _ (height width : ℤ) (limits : AreLimits height width) where
-  pub piece_step : (z : Trapezoid) (cut : Cut) → IsLow height z → (box_width z ≤ℤ width → cut ≡ one_part z) → (width <ℤ box_width z → cut ≡ two_parts (leftmost_part width z) (part_beyond width z))
+  pub piece_step : (z : Trapezoid) (cut : Cut) → IsLow height z → (box_width z ≤ℤ width → cut ≡ one_part z)
+      → (width <ℤ box_width z → cut ≡ two_parts (leftmost_part width z) (part_beyond width z))
       → cut_by_width width z ≡ cut.part ∷ shots_of_piece width cut.rest
   piece_step z cut s whole parted =
       by_lt_z width (box_width z)
@@ -30,10 +32,13 @@ module _ (height width : ℤ) (limits : AreLimits height width) where
   low_list : (z : Trapezoid) → height_of z ≤ℤ height → cut_list height width z ≡ cut_by_width width z ++ []
   low_list z h = rw (low_is_one height width limits z h) refl
 
-  high_list : (z : Trapezoid) → IsShot z → height <ℤ height_of z → cut_list height width z ≡ cut_by_width width (lowest_rows height z) ++ cut_list height width (rows_above height z)
+  high_list : (z : Trapezoid) → IsShot z → height <ℤ height_of z
+      → cut_list height width z ≡ cut_by_width width (lowest_rows height z) ++ cut_list height width
+      (rows_above height z)
   high_list z s h = rw (lowest_first height width limits z s h) refl
 
-  pub trap_step : (z : Trapezoid) (cut : Cut) → IsShot z → (height_of z ≤ℤ height → cut ≡ one_part z) → (height <ℤ height_of z → cut ≡ two_parts (lowest_rows height z) (rows_above height z))
+  pub trap_step : (z : Trapezoid) (cut : Cut) → IsShot z → (height_of z ≤ℤ height → cut ≡ one_part z)
+      → (height <ℤ height_of z → cut ≡ two_parts (lowest_rows height z) (rows_above height z))
       → cut_list height width z ≡ cut_by_width width cut.part ++ shots_of_rows height width cut.rest
   trap_step z cut s whole parted =
       by_lt_z height (height_of z)
@@ -53,7 +58,8 @@ room hand before after h k =
     omega (arith, products, mul-suc most_shots after, h)
 
 -- what is kept is as high as the rest of the cut
-pub kept_low : (height : ℤ) (kept : Option Rest) (rest : Option Trapezoid) → trap_of kept ≡ rest → ForSome rest (λ z. height_of z ≤ℤ height) → ForSome kept (λ z. (z.y1 -ℤ z.y0) ≤ℤ height)
+pub kept_low : (height : ℤ) (kept : Option Rest) (rest : Option Trapezoid) → trap_of kept ≡ rest
+    → ForSome rest (λ z. height_of z ≤ℤ height) → ForSome kept (λ z. (z.y1 -ℤ z.y0) ≤ℤ height)
 kept_low height None rest e low z is = absurd cc
 kept_low height (Some part) rest e low z is =
     let same : part ≡ z = cc in

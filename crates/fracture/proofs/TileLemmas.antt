@@ -46,7 +46,8 @@ pub count_in-append : (xs ys : List Trapezoid) (t : Tile) → count_in (xs ++ ys
 count_in-append xs ys t = sum_by-append _ xs ys
 
 -- one part more
-pub counted_more : (z a b : Trapezoid) (parts : List Trapezoid) (t : Tile) → IsSplit z a b t → count_in parts t ≡ count_in (b ∷ []) t → count_in (a ∷ parts) t ≡ count_in (z ∷ []) t
+pub counted_more : (z a b : Trapezoid) (parts : List Trapezoid) (t : Tile) → IsSplit z a b t
+    → count_in parts t ≡ count_in (b ∷ []) t → count_in (a ∷ parts) t ≡ count_in (z ∷ []) t
 counted_more z a b parts t s h =
     let more = count_by-cons (trapezoid_has t) a parts in
     omega (arith, more, h, one_counted b t, one_counted z t, split_ones z a b t s)
@@ -54,8 +55,20 @@ counted_more z a b parts t s h =
 -- by height
 pub rows_split : (z : Trapezoid) (y : ℤ) (t : Tile) → z.y0 <ℤ y → y <ℤ z.y1 → IsSplit z (below z y) (from_row z y) t
 rows_split z y t a b = record {
-  first = λ h. record { above_bottom = h.above_bottom; below_top = omega (arith, ints, b, h.below_top); right_of_left = h.right_of_left; left_of_right = h.left_of_right };
-  second = λ h. record { above_bottom = omega (arith, ints, a, h.above_bottom); below_top = h.below_top; right_of_left = h.right_of_left; left_of_right = h.left_of_right };
+  first = λ h. record {
+    above_bottom = h.above_bottom;
+    below_top = omega (arith, ints, b, h.below_top);
+    right_of_left =
+        h.right_of_left;
+    left_of_right = h.left_of_right;
+  };
+  second = λ h. record {
+    above_bottom = omega (arith, ints, a, h.above_bottom);
+    below_top =
+        h.below_top;
+    right_of_left = h.right_of_left;
+    left_of_right = h.left_of_right;
+  };
   either = λ h.
       by_lt_z t.j y (λ low. inl (record { above_bottom = h.above_bottom; below_top = low; right_of_left = h.right_of_left; left_of_right = h.left_of_right }))
       (λ high. inr (record { above_bottom = high; below_top = h.below_top; right_of_left = h.right_of_left; left_of_right = h.left_of_right }));
@@ -79,12 +92,25 @@ module _ (height width : ℤ) (limits : AreLimits height width) (z : Trapezoid) 
   pub left_in : (t : Tile) → IsInTrapezoid (leftmost_part width z) t → IsInTrapezoid z t
   left_in t h =
       let n = number_between (leftmost_part width z) t h in
-      in_by_number z t (record { above_bottom = n.above_bottom; below_top = n.below_top; from_left = n.from_left; below_right = omega (arith, ints, n.below_right, cut_left_of_right t.j n.above_bottom n.below_top) })
+      in_by_number z t (record {
+        above_bottom = n.above_bottom;
+        below_top = n.below_top;
+        from_left =
+            n.from_left;
+        below_right = omega
+            (arith, ints, n.below_right, cut_left_of_right t.j n.above_bottom n.below_top);
+      })
 
   pub beyond_in : (t : Tile) → IsInTrapezoid (part_beyond width z) t → IsInTrapezoid z t
   beyond_in t h =
       let n = number_between (part_beyond width z) t h in
-      in_by_number z t (record { above_bottom = n.above_bottom; below_top = n.below_top; from_left = omega (arith, ints, n.from_left, cut_right_of_left t.j n.above_bottom n.below_top); below_right = n.below_right })
+      in_by_number z t (record {
+        above_bottom = n.above_bottom;
+        below_top = n.below_top;
+        from_left = omega
+            (arith, ints, n.from_left, cut_right_of_left t.j n.above_bottom n.below_top);
+        below_right = n.below_right;
+      })
 
   pub width_split : (t : Tile) → IsSplit z (leftmost_part width z) (part_beyond width z) t
   width_split t = record {
@@ -92,7 +118,22 @@ module _ (height width : ℤ) (limits : AreLimits height width) (z : Trapezoid) 
     second = beyond_in t;
     either = λ h. (let n = number_between z t h in
         by_lt_z (number_in_row t) (cut_at width z +ℤ cut_at width z)
-        (λ low. inl (in_by_number (leftmost_part width z) t (record { above_bottom = n.above_bottom; below_top = n.below_top; from_left = n.from_left; below_right = low })))
-        (λ high. inr (in_by_number (part_beyond width z) t (record { above_bottom = n.above_bottom; below_top = n.below_top; from_left = high; below_right = n.below_right }))));
-    apart = λ h k. (let n = number_between (leftmost_part width z) t h in let m = number_between (part_beyond width z) t k in omega (arith, ints, n.below_right, m.from_left));
+        (λ low. inl (in_by_number (leftmost_part width z) t
+        (record {
+          above_bottom = n.above_bottom;
+          below_top = n.below_top;
+          from_left = n.from_left;
+          below_right =
+              low;
+        })))
+        (λ high. inr (in_by_number (part_beyond width z) t
+        (record {
+          above_bottom = n.above_bottom;
+          below_top = n.below_top;
+          from_left = high;
+          below_right =
+              n.below_right;
+        }))));
+    apart = λ h k. (let n = number_between (leftmost_part width z) t h in let m = number_between
+        (part_beyond width z) t k in omega (arith, ints, n.below_right, m.from_left));
   }

@@ -1,6 +1,7 @@
 -- Proofs of the laws of the stream of shots: it stands for one list, which is no longer than its size, and its size is
 -- bounded. Lemmas alone stand here, no definition.
-use Rattle.std.proofs.Common.{◌≡◌, ℕ, zero, suc, ◌+◌, ◌*◌, ◌≤◌, Bool, true, false, cond, ℤ, List, [], ◌∷◌, length, Option, Some, None, ap, arith, length-append, mul-suc, mul-le-mul_left}
+use Rattle.std.proofs.Common.{◌≡◌, ℕ, zero, suc, ◌+◌, ◌*◌, ◌≤◌, Bool, true, false, cond, ℤ, List, [], ◌∷◌, length}
+use Rattle.std.proofs.Common.{Option, Some, None, ap, arith, length-append, mul-suc, mul-le-mul_left}
 use Rattle.std.specs.List.{flat_map}
 use Rattle.half_grid.specs.Trapezoids.{Trapezoid}
 use Rattle.fracture.specs.declared.cuts.InHand.{InHand}
@@ -18,7 +19,8 @@ length-cut_off fits part rest zero z = omega arith
 length-cut_off fits part rest (suc n) z = one_more (fits z) z (part z) (cut_off fits part rest n (rest z)) (suc n) (length-cut_off fits part rest n (rest z))
 
 -- lists of at most so many items, one after the other
-length-flat_map : (f : Trapezoid → List Trapezoid) (most : ℕ) → ((z : Trapezoid) → length (f z) ≤ most) → (zs : List Trapezoid) → length (flat_map f zs) ≤ most * length zs
+length-flat_map : (f : Trapezoid → List Trapezoid) (most : ℕ) → ((z : Trapezoid) → length (f z) ≤ most)
+    → (zs : List Trapezoid) → length (flat_map f zs) ≤ most * length zs
 length-flat_map f most h [] = omega arith
 length-flat_map f most h (z ∷ zs) = omega (arith, length-append (f z) (flat_map f zs), h z, length-flat_map f most h zs, mul-suc most (length zs))
 
@@ -42,7 +44,14 @@ length-rows height width (Some z) = length-cut_list height width z
 
 length-in_hand : (hand : InHand) → length (shots_in_hand hand) ≤ suc enough_cuts + most_shots
 length-in_hand hand =
-    omega (arith, length-append (shots_of_piece hand.limits.width (trap_of hand.piece)) (shots_of_rows hand.limits.height hand.limits.width (trap_of hand.above)), length-piece hand.limits.width (trap_of hand.piece), length-rows hand.limits.height hand.limits.width (trap_of hand.above))
+    omega (
+      arith,
+      length-append (shots_of_piece hand.limits.width (trap_of hand.piece))
+          (shots_of_rows hand.limits.height hand.limits.width (trap_of hand.above)),
+      length-piece hand.limits.width
+          (trap_of hand.piece),
+      length-rows hand.limits.height hand.limits.width (trap_of hand.above),
+    )
 
 module _ {S : Type 0} {source_for : S → List Trapezoid → Type 0} where
   pub Cuts-one_list : ((s : S) (xs ys : List Trapezoid) → source_for s xs → source_for s ys → xs ≡ ys)
@@ -57,10 +66,18 @@ module _ {S : Type 0} {source_for : S → List Trapezoid → Type 0} where
       let height = hand.limits.height in
       let width = hand.limits.width in
       let products : most_shots * length p.traps ≤ most_shots * count s = mul-le-mul_left most_shots (few s p.traps p.given) in
-      omega (arith, ap length p.is, length-append (shots_in_hand hand) (shots_of height width p.traps), length-flat_map (cut_list height width) most_shots (length-cut_list height width) p.traps, products)
+      omega (
+        arith,
+        ap length p.is,
+        length-append (shots_in_hand hand) (shots_of height width p.traps),
+        length-flat_map
+            (cut_list height width) most_shots (length-cut_list height width) p.traps,
+        products,
+      )
 
   pub Cuts-bounded : {count : S → ℕ} {many : ℕ} → ((s : S) (xs : List Trapezoid) → source_for s xs → count s ≤ many)
-      → (s : S) (hand : InHand) (xs : List Trapezoid) → StandsForCuts source_for s hand xs → length (shots_in_hand hand) + most_shots * count s ≤ (suc enough_cuts + most_shots) + most_shots * many
+      → (s : S) (hand : InHand) (xs : List Trapezoid) → StandsForCuts source_for s hand xs
+      → length (shots_in_hand hand) + most_shots * count s ≤ (suc enough_cuts + most_shots) + most_shots * many
   Cuts-bounded {count = count} {many = many} few s hand xs p =
       let products : most_shots * count s ≤ most_shots * many = mul-le-mul_left most_shots (few s p.traps p.given) in
       omega (arith, length-in_hand hand, products)

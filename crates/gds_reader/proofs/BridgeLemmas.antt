@@ -31,15 +31,141 @@ element_at bytes past orient kind = record {
 
 pub element_is : (bytes : List ℕ) (past : List Record) (e : Element) → IsElementOf bytes past e → e ≡ element_at bytes past e.orient (element_kind past)
 element_is bytes past e f =
-    ap (λ (x : Option Kind). let p : Element = record { kind = x; pair = e.pair; target = e.target; path_type = e.path_type; width = e.width; begin = e.begin; end = e.end; orient = e.orient; columns = e.columns; rows = e.rows } in p) f.kind
-    ∙ ap (λ (x : Pair). let p : Element = record { kind = element_kind past; pair = x; target = e.target; path_type = e.path_type; width = e.width; begin = e.begin; end = e.end; orient = e.orient; columns = e.columns; rows = e.rows } in p) f.pair
-    ∙ ap (λ (x : Option Record). let p : Element = record { kind = element_kind past; pair = pair_of bytes past; target = x; path_type = e.path_type; width = e.width; begin = e.begin; end = e.end; orient = e.orient; columns = e.columns; rows = e.rows } in p) f.target
-    ∙ ap (λ (x : ℕ). let p : Element = record { kind = element_kind past; pair = pair_of bytes past; target = own_record Sname past; path_type = x; width = e.width; begin = e.begin; end = e.end; orient = e.orient; columns = e.columns; rows = e.rows } in p) f.path_type
-    ∙ ap (λ (x : ℤ). let p : Element = record { kind = element_kind past; pair = pair_of bytes past; target = own_record Sname past; path_type = number2_in bytes (own_record PathType past); width = x; begin = e.begin; end = e.end; orient = e.orient; columns = e.columns; rows = e.rows } in p) f.width
-    ∙ ap (λ (x : ℤ). let p : Element = record { kind = element_kind past; pair = pair_of bytes past; target = own_record Sname past; path_type = number2_in bytes (own_record PathType past); width = signed4_in bytes (own_record Width past); begin = x; end = e.end; orient = e.orient; columns = e.columns; rows = e.rows } in p) f.begin
-    ∙ ap (λ (x : ℤ). let p : Element = record { kind = element_kind past; pair = pair_of bytes past; target = own_record Sname past; path_type = number2_in bytes (own_record PathType past); width = signed4_in bytes (own_record Width past); begin = signed4_in bytes (own_record BgnExtn past); end = x; orient = e.orient; columns = e.columns; rows = e.rows } in p) f.end
-    ∙ ap (λ (x : ℕ). let p : Element = record { kind = element_kind past; pair = pair_of bytes past; target = own_record Sname past; path_type = number2_in bytes (own_record PathType past); width = signed4_in bytes (own_record Width past); begin = signed4_in bytes (own_record BgnExtn past); end = signed4_in bytes (own_record EndExtn past); orient = e.orient; columns = x; rows = e.rows } in p) f.columns
-    ∙ ap (λ (x : ℕ). let p : Element = record { kind = element_kind past; pair = pair_of bytes past; target = own_record Sname past; path_type = number2_in bytes (own_record PathType past); width = signed4_in bytes (own_record Width past); begin = signed4_in bytes (own_record BgnExtn past); end = signed4_in bytes (own_record EndExtn past); orient = e.orient; columns = columns_in bytes (own_record ColRow past); rows = x } in p) f.rows
+    ap (λ (x : Option Kind). let p : Element =
+    record {
+      kind = x;
+      pair = e.pair;
+      target = e.target;
+      path_type = e.path_type;
+      width = e.width;
+      begin =
+          e.begin;
+      end = e.end;
+      orient = e.orient;
+      columns = e.columns;
+      rows = e.rows;
+    } in p) f.kind
+    ∙ ap (λ (x : Pair). let p : Element =
+    record {
+      kind = element_kind past;
+      pair = x;
+      target = e.target;
+      path_type = e.path_type;
+      width =
+          e.width;
+      begin = e.begin;
+      end = e.end;
+      orient = e.orient;
+      columns = e.columns;
+      rows = e.rows;
+    } in p) f.pair
+    ∙ ap (λ (x : Option Record). let p : Element =
+    record {
+      kind = element_kind past;
+      pair = pair_of bytes past;
+      target = x;
+      path_type = e.path_type;
+      width =
+          e.width;
+      begin = e.begin;
+      end = e.end;
+      orient = e.orient;
+      columns = e.columns;
+      rows = e.rows;
+    } in p) f.target
+    ∙ ap (λ (x : ℕ). let p : Element =
+    record {
+      kind = element_kind past;
+      pair = pair_of bytes past;
+      target = own_record Sname past;
+      path_type =
+          x;
+      width = e.width;
+      begin = e.begin;
+      end = e.end;
+      orient = e.orient;
+      columns = e.columns;
+      rows = e.rows;
+    } in p)
+    f.path_type
+    ∙ ap (λ (x : ℤ). let p : Element =
+    record {
+      kind = element_kind past;
+      pair = pair_of bytes past;
+      target = own_record Sname past;
+      path_type =
+          number2_in bytes (own_record PathType past);
+      width = x;
+      begin = e.begin;
+      end = e.end;
+      orient =
+          e.orient;
+      columns = e.columns;
+      rows = e.rows;
+    } in p) f.width
+    ∙ ap (λ (x : ℤ). let p : Element =
+    record {
+      kind = element_kind past;
+      pair = pair_of bytes past;
+      target = own_record Sname past;
+      path_type =
+          number2_in bytes (own_record PathType past);
+      width = signed4_in bytes (own_record Width past);
+      begin = x;
+      end =
+          e.end;
+      orient = e.orient;
+      columns = e.columns;
+      rows = e.rows;
+    } in p) f.begin
+    ∙ ap (λ (x : ℤ). let p : Element =
+    record {
+      kind = element_kind past;
+      pair = pair_of bytes past;
+      target = own_record Sname past;
+      path_type =
+          number2_in bytes (own_record PathType past);
+      width = signed4_in bytes (own_record Width past);
+      begin =
+          signed4_in bytes (own_record BgnExtn past);
+      end = x;
+      orient = e.orient;
+      columns = e.columns;
+      rows = e.rows;
+    } in
+    p) f.end
+    ∙ ap (λ (x : ℕ). let p : Element =
+    record {
+      kind = element_kind past;
+      pair = pair_of bytes past;
+      target = own_record Sname past;
+      path_type =
+          number2_in bytes (own_record PathType past);
+      width = signed4_in bytes (own_record Width past);
+      begin =
+          signed4_in bytes (own_record BgnExtn past);
+      end = signed4_in bytes (own_record EndExtn past);
+      orient =
+          e.orient;
+      columns = x;
+      rows = e.rows;
+    } in p) f.columns
+    ∙ ap (λ (x : ℕ). let p : Element =
+    record {
+      kind = element_kind past;
+      pair = pair_of bytes past;
+      target = own_record Sname past;
+      path_type =
+          number2_in bytes (own_record PathType past);
+      width = signed4_in bytes (own_record Width past);
+      begin =
+          signed4_in bytes (own_record BgnExtn past);
+      end = signed4_in bytes (own_record EndExtn past);
+      orient =
+          e.orient;
+      columns = columns_in bytes (own_record ColRow past);
+      rows = x;
+    } in p) f.rows
 
 -- ---- by the kind of the element
 
@@ -48,7 +174,12 @@ shapes_case : (bytes : List ℕ) (past : List Record) (orient : Orient) (points 
 shapes_case bytes past orient points None true = refl
 shapes_case bytes past orient points None false = refl
 shapes_case bytes past orient points (Some k) true =
-    elim k as (λ k. shapes_by (cond (is_drawn (Some k)) (Some true) None) (element_at bytes past orient (Some k)) points ≡ shapes_as (Some k) bytes past points) [ Header ↦ refl | _ ↦ refl ]
+    elim k as (λ k. shapes_by (cond (is_drawn (Some k)) (Some true) None)
+    (element_at bytes past orient (Some k)) points ≡ shapes_as (Some k) bytes past points) [
+      | Header ↦ refl
+      | _ ↦
+          refl
+    ]
 shapes_case bytes past orient points (Some k) false =
     elim k as (λ k. shapes_by (cond (is_drawn (Some k)) (Some false) None) (element_at bytes past orient (Some k)) points ≡ []) [ Header ↦ refl | _ ↦ refl ]
 
@@ -76,13 +207,15 @@ keeps_to : (bytes : List ℕ) (wanted : List Pair) (past : List Record) (orient 
     → KeepsBy (cond (is_drawn k) (Some w) None) (element_at bytes past orient k) points rule → KeepsXy bytes wanted past points k rule
 keeps_to bytes wanted past orient points rule None w e h = tt
 keeps_to bytes wanted past orient points rule (Some k) true e h =
-    elim k as (λ k. KeepsBy (cond (is_drawn (Some k)) (Some true) None) (element_at bytes past orient (Some k)) points rule → KeepsXy bytes wanted past points (Some k) rule) [
+    elim k as (λ k. KeepsBy (cond (is_drawn (Some k)) (Some true) None)
+    (element_at bytes past orient (Some k)) points rule → KeepsXy bytes wanted past points (Some k) rule) [
       | Boundary ↦ λ h yes. h
       | Path ↦ λ h yes. h
       | _ ↦ λ h. h
     ] h
 keeps_to bytes wanted past orient points rule (Some k) false e h =
-    elim k as (λ k. KeepsBy (cond (is_drawn (Some k)) (Some false) None) (element_at bytes past orient (Some k)) points rule → KeepsXy bytes wanted past points (Some k) rule) [
+    elim k as (λ k. KeepsBy (cond (is_drawn (Some k)) (Some false) None)
+    (element_at bytes past orient (Some k)) points rule → KeepsXy bytes wanted past points (Some k) rule) [
       | Boundary ↦ λ h yes. absurd (cc)
       | Path ↦ λ h yes. absurd (cc)
       | _ ↦ λ h. h
@@ -93,13 +226,15 @@ keeps_from : (bytes : List ℕ) (wanted : List Pair) (past : List Record) (orien
     → KeepsXy bytes wanted past points k rule → KeepsBy (cond (is_drawn k) (Some w) None) (element_at bytes past orient k) points rule
 keeps_from bytes wanted past orient points rule None w e h = tt
 keeps_from bytes wanted past orient points rule (Some k) true e h =
-    elim k as (λ k. KeepsXy bytes wanted past points (Some k) rule → KeepsBy (cond (is_drawn (Some k)) (Some true) None) (element_at bytes past orient (Some k)) points rule) [
+    elim k as (λ k. KeepsXy bytes wanted past points (Some k) rule
+    → KeepsBy (cond (is_drawn (Some k)) (Some true) None) (element_at bytes past orient (Some k)) points rule) [
       | Boundary ↦ λ h. h e
       | Path ↦ λ h. h e
       | _ ↦ λ h. h
     ] h
 keeps_from bytes wanted past orient points rule (Some k) false e h =
-    elim k as (λ k. KeepsXy bytes wanted past points (Some k) rule → KeepsBy (cond (is_drawn (Some k)) (Some false) None) (element_at bytes past orient (Some k)) points rule) [
+    elim k as (λ k. KeepsXy bytes wanted past points (Some k) rule
+    → KeepsBy (cond (is_drawn (Some k)) (Some false) None) (element_at bytes past orient (Some k)) points rule) [
       | Boundary ↦ λ h. tt
       | Path ↦ λ h. tt
       | _ ↦ λ h. h
@@ -134,8 +269,11 @@ pub keeps_of_xy : (bytes : List ℕ) (wanted : List Pair) (past : List Record) (
 keeps_of_xy bytes wanted past r e drawn rule kind f d h =
     let points = points_in bytes r in
     let at_element = subst (λ (x : Element). KeepsBy drawn x points rule) (element_is bytes past e f) h in
-    let at_drawn = subst (λ d. KeepsBy d (element_at bytes past e.orient (element_kind past)) points rule) (d ∙ drawn_at_xy bytes wanted past r kind) at_element in
-    subst (λ k. KeepsAs k bytes wanted past r rule) (sym kind) (keeps_to bytes wanted past e.orient points rule (element_kind past) (is_wanted bytes wanted past) refl at_drawn)
+    let at_drawn = subst (λ d. KeepsBy d (element_at bytes past e.orient (element_kind past)) points rule)
+    (d ∙ drawn_at_xy bytes wanted past r kind) at_element in
+    subst (λ k. KeepsAs k bytes wanted past r rule) (sym kind)
+    (keeps_to bytes wanted past e.orient points rule (element_kind past)
+    (is_wanted bytes wanted past) refl at_drawn)
 
 pub keeps_by_xy : (bytes : List ℕ) (wanted : List Pair) (past : List Record) (r : Record) (e : Element) (drawn : Option Bool) (rule : ℕ) → r.kind ≡ Xy
     → IsElementOf bytes past e → drawn ≡ wanted_at bytes wanted past r → Keeps bytes wanted past r rule → KeepsBy drawn e (points_in bytes r) rule
@@ -143,7 +281,8 @@ keeps_by_xy bytes wanted past r e drawn rule kind f d h =
     let points = points_in bytes r in
     let at_xy = subst (λ k. KeepsAs k bytes wanted past r rule) kind h in
     let at_drawn = keeps_from bytes wanted past e.orient points rule (element_kind past) (is_wanted bytes wanted past) refl at_xy in
-    let at_element = subst (λ d. KeepsBy d (element_at bytes past e.orient (element_kind past)) points rule) (sym (d ∙ drawn_at_xy bytes wanted past r kind)) at_drawn in
+    let at_element = subst (λ d. KeepsBy d (element_at bytes past e.orient (element_kind past)) points rule)
+    (sym (d ∙ drawn_at_xy bytes wanted past r kind)) at_drawn in
     subst (λ (x : Element). KeepsBy drawn x points rule) (sym (element_is bytes past e f)) at_element
 
 pub lowest_of_xy : (bytes : List ℕ) (wanted : List Pair) (past : List Record) (r : Record) (e : Element) (drawn : Option Bool) (rule : ℕ) → r.kind ≡ Xy

@@ -1,5 +1,6 @@
 -- The names of the cells of allowed records differ.
-use Rattle.std.proofs.Common.{◌≡◌, ℕ, suc, ◌+◌, ◌≤◌, Bool, true, false, cond, List, [], ◌∷◌, ◌++◌, map, length, Option, Some, None, refl, sym, ap, subst, ◌∙◌, ◌⊎◌, inl, inr, arith}
+use Rattle.std.proofs.Common.{◌≡◌, ℕ, suc, ◌+◌, ◌≤◌, Bool, true, false, cond, List, [], ◌∷◌, ◌++◌, map, length, Option}
+use Rattle.std.proofs.Common.{Some, None, refl, sym, ap, subst, ◌∙◌, ◌⊎◌, inl, inr, arith}
 use Rattle.std.specs.Prelude.{◌≢◌, All}
 use Rattle.std.specs.List.{AllByRecursion}
 use Rattle.std.proofs.lemmas.List.{append-nil, map-append}
@@ -111,7 +112,8 @@ with_end bytes wanted past r None end opened d =
     cells_end bytes wanted past r None end opened ∙ append-nil (cell_names (cells_of bytes wanted past)) in
     record {
       named = subst (AllByRecursion (λ name. HasName bytes name (r ∷ past))) (sym names)
-          (all_names_map (λ name. HasName bytes name past) (λ name. HasName bytes name (r ∷ past)) (cell_names (cells_of bytes wanted past)) (λ name. has_more bytes name r past) d.named);
+          (all_names_map (λ name. HasName bytes name past) (λ name. HasName bytes name (r ∷ past))
+          (cell_names (cells_of bytes wanted past)) (λ name. has_more bytes name r past) d.named);
       open_new = λ s e. absurd (let none = no_open r past end in cc);
       open_named = λ s e. absurd (let none = no_open r past end in cc);
       distinct = subst AreDistinct (sym names) d.distinct;

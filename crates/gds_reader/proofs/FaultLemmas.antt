@@ -16,7 +16,10 @@ use Rattle.gds_reader.specs.declared.refusing.GdsBad.TheVariants as faults
 use Rattle.gds_reader.specs.Grammar.{IsStreamOrder, IsBeginning}
 use Rattle.gds_reader.specs.Meaning.{layout_of}
 use Rattle.gds_reader.specs.Values.{KeepsRules, IsLowest, IsLowestBroken, Keeps}
-use Rattle.gds_reader.specs.Reading.{kinds_of, unit_in, IsSameName, IsNamed, IsAllowed, AreAllowed, IsLayoutOf, IsReadUpTo, framing_fault, IsFramingFault, IsOrderFault, IsNext, IsValueFault, IsUnitFault, IsNameFault, IsTailFault, IsFault, OneLayout, OneFault, NoLayoutWithFault}
+use Rattle.gds_reader.specs.Reading.{kinds_of, unit_in, IsSameName, IsNamed, IsAllowed, AreAllowed, IsLayoutOf}
+use Rattle.gds_reader.specs.Reading.{IsReadUpTo, framing_fault, IsFramingFault, IsOrderFault, IsNext, IsValueFault}
+use Rattle.gds_reader.specs.Reading.{IsUnitFault, IsNameFault, IsTailFault, IsFault, OneLayout, OneFault}
+use Rattle.gds_reader.specs.Reading.{NoLayoutWithFault}
 use Rattle.gds_reader.proofs.TableLemmas.{named_among, one_earlier}
 use Rattle.gds_reader.proofs.RunLemmas.{GoesOn, compare_runs, allowed_on, begins_on, none_ends_at, none_ends_front, not_closed, last_ends}
 
@@ -40,7 +43,9 @@ only_tail bytes unit wanted past at r bad good (inr (inl f)) =
 only_tail bytes unit wanted past at r bad good (inr (inr (inl f))) =
     absurd (f.broken.broken (same_record bytes at (KeepsRules bytes wanted past) r f.r good.stands f.next.stands good.allowed.rules f.rule))
 only_tail bytes unit wanted past at r bad good (inr (inr (inr (inl f)))) =
-    absurd (f.disagrees (same_record bytes at (λ (x : Record). x.kind ≡ Units → Agrees (unit_in bytes x) unit) r f.r good.stands f.next.stands good.allowed.unit_agrees f.kind))
+    absurd (f.disagrees (same_record bytes at
+    (λ (x : Record). x.kind ≡ Units → Agrees (unit_in bytes x) unit) r f.r good.stands f.next.stands
+    good.allowed.unit_agrees f.kind))
 only_tail bytes unit wanted past at r bad good (inr (inr (inr (inr (inl f))))) =
     absurd (same_record bytes at (λ (x : Record). x.kind ≡ StrName → ¬ IsNamed bytes past x) r f.r good.stands f.next.stands good.allowed.new_name f.kind
     (subst (λ xs. IsNamed bytes xs f.r) (sym f.among) (named_among bytes f.before f.earlier f.after f.r f.same)))
@@ -53,7 +58,8 @@ no_fault_on bytes unit wanted past at more up bad read on fault =
     let good : IsGood bytes unit wanted past at on.r = record {
       stands = on.stands;
       order = begins_on past on.r (reverse more) on.rest on.all read.order;
-      allowed = allowed_on bytes unit wanted past on.r (reverse more) on.rest on.all (subst (AreAllowed bytes unit wanted) (sym (reverse-reverse more)) read.allowed);
+      allowed = allowed_on bytes unit wanted past on.r (reverse more) on.rest on.all
+          (subst (AreAllowed bytes unit wanted) (sym (reverse-reverse more)) read.allowed);
     } in
     let tail = only_tail bytes unit wanted past at on.r bad good fault in
     let more_ends : on.r.kind ≢ EndLib = none_ends_at (reverse past) on.r on.rest (subst NoneEnds on.all read.goes_on) in
@@ -138,9 +144,11 @@ same_late bytes unit wanted past at one other allowed (inl f) (inr (inl g)) = ab
 same_late bytes unit wanted past at one other allowed (inl f) (inr (inr g)) = absurd (units_or_end bytes at f.r g.r f.next.stands g.next.stands f.kind g.kind)
 same_late bytes unit wanted past at one other allowed (inr (inl f)) (inl g) = absurd (units_or_name bytes at g.r f.r g.next.stands f.next.stands g.kind f.kind)
 same_late bytes unit wanted past at one other allowed (inr (inl f)) (inr (inl g)) = same_name_fault bytes unit wanted past at one other allowed f g
-same_late bytes unit wanted past at one other allowed (inr (inl f)) (inr (inr g)) = absurd (name_or_end bytes at f.r g.r f.next.stands g.next.stands f.kind g.kind)
+same_late bytes unit wanted past at one other allowed (inr (inl f)) (inr (inr g)) = absurd
+    (name_or_end bytes at f.r g.r f.next.stands g.next.stands f.kind g.kind)
 same_late bytes unit wanted past at one other allowed (inr (inr f)) (inl g) = absurd (units_or_end bytes at g.r f.r g.next.stands f.next.stands g.kind f.kind)
-same_late bytes unit wanted past at one other allowed (inr (inr f)) (inr (inl g)) = absurd (name_or_end bytes at g.r f.r g.next.stands f.next.stands g.kind f.kind)
+same_late bytes unit wanted past at one other allowed (inr (inr f)) (inr (inl g)) = absurd
+    (name_or_end bytes at g.r f.r g.next.stands f.next.stands g.kind f.kind)
 same_late bytes unit wanted past at one other allowed (inr (inr f)) (inr (inr g)) = same_tail_fault bytes unit wanted past at one other f g
 
 broken_or_kept : (bytes : List ℕ) (unit : ℕ) (wanted : List Pair) (past : List Record) (at : ℕ) (one other : GdsBad)
@@ -151,8 +159,10 @@ broken_or_kept bytes unit wanted past at one other f g =
     f.broken.broken (same_record bytes at (KeepsRules bytes wanted past) k.0 f.r k.1.stands f.next.stands k.2 f.rule)
 
 same_value : (bytes : List ℕ) (unit : ℕ) (wanted : List Pair) (past : List Record) (at : ℕ) (one other : GdsBad) → AreAllowed bytes unit wanted past
-    → IsValueFault bytes wanted past at one ⊎ IsUnitFault bytes unit wanted past at one ⊎ IsNameFault bytes wanted past at one ⊎ IsTailFault bytes unit wanted past at one
-    → IsValueFault bytes wanted past at other ⊎ IsUnitFault bytes unit wanted past at other ⊎ IsNameFault bytes wanted past at other ⊎ IsTailFault bytes unit wanted past at other
+    → IsValueFault bytes wanted past at one ⊎ IsUnitFault bytes unit wanted past at one
+    ⊎ IsNameFault bytes wanted past at one ⊎ IsTailFault bytes unit wanted past at one
+    → IsValueFault bytes wanted past at other ⊎ IsUnitFault bytes unit wanted past at other
+    ⊎ IsNameFault bytes wanted past at other ⊎ IsTailFault bytes unit wanted past at other
     → one ≡ other
 same_value bytes unit wanted past at one other allowed (inl f) (inl g) =
     let broken : IsLowestBroken bytes wanted past g.r f.rule =
@@ -167,8 +177,12 @@ order_or_next bytes past at bad f k =
     f.order (same_record bytes at (λ x. IsBeginning (kinds_of (reverse (x ∷ past)))) k.0 f.r k.1.stands f.stands k.1.order)
 
 same_order : (bytes : List ℕ) (unit : ℕ) (wanted : List Pair) (past : List Record) (at : ℕ) (one other : GdsBad) → AreAllowed bytes unit wanted past
-    → IsOrderFault bytes past at one ⊎ IsValueFault bytes wanted past at one ⊎ IsUnitFault bytes unit wanted past at one ⊎ IsNameFault bytes wanted past at one ⊎ IsTailFault bytes unit wanted past at one
-    → IsOrderFault bytes past at other ⊎ IsValueFault bytes wanted past at other ⊎ IsUnitFault bytes unit wanted past at other ⊎ IsNameFault bytes wanted past at other ⊎ IsTailFault bytes unit wanted past at other
+    → IsOrderFault bytes past at one ⊎ IsValueFault bytes wanted past at one
+    ⊎ IsUnitFault bytes unit wanted past at one ⊎ IsNameFault bytes wanted past at one
+    ⊎ IsTailFault bytes unit wanted past at one
+    → IsOrderFault bytes past at other ⊎ IsValueFault bytes wanted past at other
+    ⊎ IsUnitFault bytes unit wanted past at other ⊎ IsNameFault bytes wanted past at other
+    ⊎ IsTailFault bytes unit wanted past at other
     → one ≡ other
 same_order bytes unit wanted past at one other allowed (inl f) (inl g) = f.bad_is ∙ sym g.bad_is
 same_order bytes unit wanted past at one other allowed (inl f) (inr g) = absurd (order_or_next bytes past at one f (next_of bytes unit wanted past at other g))

@@ -1,5 +1,6 @@
 -- The bytes of a name without the NULs at their end.
-use Rattle.std.proofs.Common.{◌≡◌, ℕ, zero, suc, ◌-◌, ◌<◌, ◌≤◌, cond, nat_eq, true, false, List, [], ◌∷◌, ◌++◌, length, take, get_or, refl, sym, ap, subst, ◌∙◌, arith}
+use Rattle.std.proofs.Common.{◌≡◌, ℕ, zero, suc, ◌-◌, ◌<◌, ◌≤◌, cond, nat_eq, true, false, List, [], ◌∷◌, ◌++◌, length}
+use Rattle.std.proofs.Common.{take, get_or, refl, sym, ap, subst, ◌∙◌, arith}
 use Rattle.std.specs.Prelude.{◌≢◌}
 use Rattle.std.proofs.lemmas.Bool.{eqb-true}
 use Rattle.gds_reader.specs.Values.{before_nuls, without_nuls}
@@ -32,7 +33,9 @@ pub nul_dropped : (end : ℕ) (xs : List ℕ) → 0 < end → end ≤ length xs 
 nul_dropped zero xs some within nul = absurd (omega arith)
 nul_dropped (suc n) xs some within nul =
     let less : suc n - 1 ≡ n = omega arith in
-    rw less (sym (ap without_nuls (take_last n xs (omega arith) ∙ ap (λ x. take n xs ++ x ∷ []) (subst (λ k. get_or xs k 0 ≡ 0) less nul)) ∙ nul_last (take n xs)))
+    rw less (sym (ap without_nuls
+    (take_last n xs (omega arith) ∙ ap (λ x. take n xs ++ x ∷ []) (subst (λ k. get_or xs k 0 ≡ 0) less nul))
+    ∙ nul_last (take n xs)))
 
 -- nothing is dropped behind a byte that isn't a NUL
 pub nothing_dropped : (end : ℕ) (xs : List ℕ) → 0 < end → end ≤ length xs → get_or xs (end - 1) 0 ≢ 0 → take end xs ≡ without_nuls (take end xs)

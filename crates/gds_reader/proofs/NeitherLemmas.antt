@@ -1,6 +1,7 @@
 -- Bytes that hold no layout have a first fault. Whether a path can be drawn isn't computed here, so what is shown is that
 -- no bytes are neither.
-use Rattle.std.proofs.Common.{◌≡◌, ◌≢◌, ℕ, zero, suc, ◌+◌, ◌-◌, ◌%◌, ◌<◌, ◌≤◌, true, false, List, [], ◌∷◌, ◌++◌, reverse, length, Option, Some, None, refl, sym, subst, inl, inr, arith}
+use Rattle.std.proofs.Common.{◌≡◌, ◌≢◌, ℕ, zero, suc, ◌+◌, ◌-◌, ◌%◌, ◌<◌, ◌≤◌, true, false, List, [], ◌∷◌, ◌++◌}
+use Rattle.std.proofs.Common.{reverse, length, Option, Some, None, refl, sym, subst, inl, inr, arith}
 use Rattle.std.specs.Prelude.{slice_index, IsSome}
 use Rattle.std.proofs.lemmas.Bool.{cases_lt}
 use Rattle.std.proofs.lemmas.List.{reverse-reverse}
@@ -12,7 +13,8 @@ use Rattle.gds_record.specs.Heads.{head_of}
 use Rattle.gds_record.specs.Reals.{Agrees}
 use Rattle.gds_record.specs.Runs.{IsRun, NoneEnds, IsClosed, IsRecordsOf}
 use Rattle.gds_record.specs.declared.kinds.Kind.{Kind}
-use Rattle.gds_record.specs.declared.kinds.Kind.TheVariants.{Format, StrName, Sname, Strans, Mag, Angle, ColRow, PathType, Xy, Sref, Aref, Boundary, Path, Units, EndLib}
+use Rattle.gds_record.specs.declared.kinds.Kind.TheVariants.{Format, StrName, Sname, Strans, Mag, Angle, ColRow}
+use Rattle.gds_record.specs.declared.kinds.Kind.TheVariants.{PathType, Xy, Sref, Aref, Boundary, Path, Units, EndLib}
 use Rattle.gds_record.specs.declared.records.Framing.{Framing}
 use Rattle.gds_record.specs.declared.records.Framing.TheVariants as framing
 use Rattle.gds_record.specs.declared.records.Record.{Record}
@@ -25,7 +27,8 @@ use Rattle.gds_reader.specs.Meaning.{layout_of}
 use Rattle.gds_reader.specs.Names.{place_of}
 use Rattle.gds_reader.specs.Past.{same_kind, element_kind}
 use Rattle.gds_reader.specs.Readers.{place_behind, next_after}
-use Rattle.gds_reader.specs.Reading.{kinds_of, unit_in, IsAllowed, AreAllowed, IsReadUpTo, IsNext, IsNamed, IsFault, framing_fault, HoldNoLayout, HaveNoFault, OthersHaveFault}
+use Rattle.gds_reader.specs.Reading.{kinds_of, unit_in, IsAllowed, AreAllowed, IsReadUpTo, IsNext, IsNamed, IsFault}
+use Rattle.gds_reader.specs.Reading.{framing_fault, HoldNoLayout, HaveNoFault, OthersHaveFault}
 use Rattle.gds_reader.specs.Values.{KeepsXy, KeepsAs, Keeps, KeepsRules, IsLowest, IsLowestBroken, name_in, points_in}
 use Rattle.gds_reader.proofs.KindLemmas.{same_kind_is, same_kind_refl}
 use Rattle.gds_reader.proofs.PlaceLemmas.{LeadsTo, leads_first, leads_begin, leads_end}

@@ -2,12 +2,18 @@
 use Rattle.std.proofs.Common.{◌≡◌, Bool, true, false, cond, List, [], ◌∷◌, ◌++◌, Option, Some, None, refl, sym, ap, subst, ◌∙◌, append_assoc}
 use Rattle.std.proofs.lemmas.List.{append-nil}
 use Rattle.gds_record.specs.declared.kinds.Kind.{Kind}
-use Rattle.gds_record.specs.declared.kinds.Kind.TheVariants.{Header, BgnLib, LibName, Units, EndLib, StrName, EndStr, Layer, DataType, Width, Xy, Sname, ColRow, TextType, Presentation, String, Strans, Mag, Angle, RefLibs, Fonts, PathType, Generations, AttrTable, ElFlags, NodeType, PropValue, BoxType, Plex, BgnExtn, EndExtn, StrClass, Format, LibDirSize, SrfName, LibSecur}
+use Rattle.gds_record.specs.declared.kinds.Kind.TheVariants.{Header, BgnLib, LibName, Units, EndLib, StrName, EndStr}
+use Rattle.gds_record.specs.declared.kinds.Kind.TheVariants.{Layer, DataType, Width, Xy, Sname, ColRow, TextType}
+use Rattle.gds_record.specs.declared.kinds.Kind.TheVariants.{Presentation, String, Strans, Mag, Angle, RefLibs, Fonts}
+use Rattle.gds_record.specs.declared.kinds.Kind.TheVariants.{PathType, Generations, AttrTable, ElFlags, NodeType}
+use Rattle.gds_record.specs.declared.kinds.Kind.TheVariants.{PropValue, BoxType, Plex, BgnExtn, EndExtn, StrClass}
+use Rattle.gds_record.specs.declared.kinds.Kind.TheVariants.{Format, LibDirSize, SrfName, LibSecur}
 use Rattle.gds_reader.specs.declared.order.Form.{Form}
 use Rattle.gds_reader.specs.declared.order.Form.TheVariants as forms
 use Rattle.gds_reader.specs.declared.order.Place.{Place}
 use Rattle.gds_reader.specs.declared.order.Place.TheVariants as places
-use Rattle.gds_reader.specs.Grammar.{Rule, Never, One, Repeated, Follows, in_order, at_most_one, one_of, element_end, with_flags, element, structure, IsStreamOrder, IsBeginning}
+use Rattle.gds_reader.specs.Grammar.{Rule, Never, One, Repeated, Follows, in_order, at_most_one, one_of, element_end}
+use Rattle.gds_reader.specs.Grammar.{with_flags, element, structure, IsStreamOrder, IsBeginning}
 use Rattle.gds_reader.specs.Steps.{next_place}
 use Rattle.gds_reader.proofs.GrammarLemmas.{behind, behind_from, behind_to, has_some, some_list}
 
@@ -141,7 +147,12 @@ steps places.Header kind = elim kind as (λ k. behind k (rest_of places.Header) 
 steps places.BgnLib kind = elim kind as (λ k. behind k (rest_of places.BgnLib) ≡ rest_after (next_place places.BgnLib k)) [ Header ↦ refl | _ ↦ refl ]
 steps places.LibName kind = elim kind as (λ k. behind k (rest_of places.LibName) ≡ rest_after (next_place places.LibName k)) [ Header ↦ refl | _ ↦ refl ]
 steps places.Units kind = elim kind as (λ k. behind k (rest_of places.Units) ≡ rest_after (next_place places.Units k)) [ Header ↦ refl | _ ↦ refl ]
-steps places.Structures kind = elim kind as (λ k. behind k (rest_of places.Structures) ≡ rest_after (next_place places.Structures k)) [ Header ↦ refl | _ ↦ refl ]
+steps places.Structures kind = elim kind as
+    (λ k. behind k (rest_of places.Structures) ≡ rest_after (next_place places.Structures k)) [
+      | Header ↦ refl
+      | _ ↦
+          refl
+    ]
 steps places.StrName kind = elim kind as (λ k. behind k (rest_of places.StrName) ≡ rest_after (next_place places.StrName k)) [ Header ↦ refl | _ ↦ refl ]
 steps places.StrClass kind = elim kind as (λ k. behind k (rest_of places.StrClass) ≡ rest_after (next_place places.StrClass k)) [ Header ↦ refl | _ ↦ refl ]
 steps places.Elements kind = elim kind as (λ k. behind k (rest_of places.Elements) ≡ rest_after (next_place places.Elements k)) [ Header ↦ refl | _ ↦ refl ]
@@ -152,56 +163,163 @@ steps places.BgnExtn kind = elim kind as (λ k. behind k (rest_of places.BgnExtn
 steps places.EndExtn kind = elim kind as (λ k. behind k (rest_of places.EndExtn) ≡ rest_after (next_place places.EndExtn k)) [ Header ↦ refl | _ ↦ refl ]
 steps places.Text kind = elim kind as (λ k. behind k (rest_of places.Text) ≡ rest_after (next_place places.Text k)) [ Header ↦ refl | _ ↦ refl ]
 steps places.Xy kind = elim kind as (λ k. behind k (rest_of places.Xy) ≡ rest_after (next_place places.Xy k)) [ Header ↦ refl | _ ↦ refl ]
-steps places.Properties kind = elim kind as (λ k. behind k (rest_of places.Properties) ≡ rest_after (next_place places.Properties k)) [ Header ↦ refl | _ ↦ refl ]
+steps places.Properties kind = elim kind as
+    (λ k. behind k (rest_of places.Properties) ≡ rest_after (next_place places.Properties k)) [
+      | Header ↦ refl
+      | _ ↦
+          refl
+    ]
 steps places.PropValue kind = elim kind as (λ k. behind k (rest_of places.PropValue) ≡ rest_after (next_place places.PropValue k)) [ Header ↦ refl | _ ↦ refl ]
-steps (places.Begun forms.Boundary) kind = elim kind as (λ k. behind k (rest_of (places.Begun forms.Boundary)) ≡ rest_after (next_place (places.Begun forms.Boundary) k)) [ Header ↦ refl | _ ↦ refl ]
-steps (places.Begun forms.Path) kind = elim kind as (λ k. behind k (rest_of (places.Begun forms.Path)) ≡ rest_after (next_place (places.Begun forms.Path) k)) [ Header ↦ refl | _ ↦ refl ]
-steps (places.Begun forms.Sref) kind = elim kind as (λ k. behind k (rest_of (places.Begun forms.Sref)) ≡ rest_after (next_place (places.Begun forms.Sref) k)) [ Header ↦ refl | _ ↦ refl ]
-steps (places.Begun forms.Aref) kind = elim kind as (λ k. behind k (rest_of (places.Begun forms.Aref)) ≡ rest_after (next_place (places.Begun forms.Aref) k)) [ Header ↦ refl | _ ↦ refl ]
-steps (places.Begun forms.Node) kind = elim kind as (λ k. behind k (rest_of (places.Begun forms.Node)) ≡ rest_after (next_place (places.Begun forms.Node) k)) [ Header ↦ refl | _ ↦ refl ]
-steps (places.Begun forms.Box) kind = elim kind as (λ k. behind k (rest_of (places.Begun forms.Box)) ≡ rest_after (next_place (places.Begun forms.Box) k)) [ Header ↦ refl | _ ↦ refl ]
-steps (places.Flagged forms.Boundary) kind = elim kind as (λ k. behind k (rest_of (places.Flagged forms.Boundary)) ≡ rest_after (next_place (places.Flagged forms.Boundary) k)) [ Header ↦ refl | _ ↦ refl ]
-steps (places.Flagged forms.Path) kind = elim kind as (λ k. behind k (rest_of (places.Flagged forms.Path)) ≡ rest_after (next_place (places.Flagged forms.Path) k)) [ Header ↦ refl | _ ↦ refl ]
-steps (places.Flagged forms.Sref) kind = elim kind as (λ k. behind k (rest_of (places.Flagged forms.Sref)) ≡ rest_after (next_place (places.Flagged forms.Sref) k)) [ Header ↦ refl | _ ↦ refl ]
-steps (places.Flagged forms.Aref) kind = elim kind as (λ k. behind k (rest_of (places.Flagged forms.Aref)) ≡ rest_after (next_place (places.Flagged forms.Aref) k)) [ Header ↦ refl | _ ↦ refl ]
-steps (places.Flagged forms.Node) kind = elim kind as (λ k. behind k (rest_of (places.Flagged forms.Node)) ≡ rest_after (next_place (places.Flagged forms.Node) k)) [ Header ↦ refl | _ ↦ refl ]
-steps (places.Flagged forms.Box) kind = elim kind as (λ k. behind k (rest_of (places.Flagged forms.Box)) ≡ rest_after (next_place (places.Flagged forms.Box) k)) [ Header ↦ refl | _ ↦ refl ]
-steps (places.Plexed forms.Boundary) kind = elim kind as (λ k. behind k (rest_of (places.Plexed forms.Boundary)) ≡ rest_after (next_place (places.Plexed forms.Boundary) k)) [ Header ↦ refl | _ ↦ refl ]
-steps (places.Plexed forms.Path) kind = elim kind as (λ k. behind k (rest_of (places.Plexed forms.Path)) ≡ rest_after (next_place (places.Plexed forms.Path) k)) [ Header ↦ refl | _ ↦ refl ]
-steps (places.Plexed forms.Sref) kind = elim kind as (λ k. behind k (rest_of (places.Plexed forms.Sref)) ≡ rest_after (next_place (places.Plexed forms.Sref) k)) [ Header ↦ refl | _ ↦ refl ]
-steps (places.Plexed forms.Aref) kind = elim kind as (λ k. behind k (rest_of (places.Plexed forms.Aref)) ≡ rest_after (next_place (places.Plexed forms.Aref) k)) [ Header ↦ refl | _ ↦ refl ]
-steps (places.Plexed forms.Node) kind = elim kind as (λ k. behind k (rest_of (places.Plexed forms.Node)) ≡ rest_after (next_place (places.Plexed forms.Node) k)) [ Header ↦ refl | _ ↦ refl ]
-steps (places.Plexed forms.Box) kind = elim kind as (λ k. behind k (rest_of (places.Plexed forms.Box)) ≡ rest_after (next_place (places.Plexed forms.Box) k)) [ Header ↦ refl | _ ↦ refl ]
-steps (places.Layered forms.Boundary) kind = elim kind as (λ k. behind k (rest_of (places.Layered forms.Boundary)) ≡ rest_after (next_place (places.Layered forms.Boundary) k)) [ Header ↦ refl | _ ↦ refl ]
-steps (places.Layered forms.Path) kind = elim kind as (λ k. behind k (rest_of (places.Layered forms.Path)) ≡ rest_after (next_place (places.Layered forms.Path) k)) [ Header ↦ refl | _ ↦ refl ]
-steps (places.Layered forms.Sref) kind = elim kind as (λ k. behind k (rest_of (places.Layered forms.Sref)) ≡ rest_after (next_place (places.Layered forms.Sref) k)) [ Header ↦ refl | _ ↦ refl ]
-steps (places.Layered forms.Aref) kind = elim kind as (λ k. behind k (rest_of (places.Layered forms.Aref)) ≡ rest_after (next_place (places.Layered forms.Aref) k)) [ Header ↦ refl | _ ↦ refl ]
-steps (places.Layered forms.Node) kind = elim kind as (λ k. behind k (rest_of (places.Layered forms.Node)) ≡ rest_after (next_place (places.Layered forms.Node) k)) [ Header ↦ refl | _ ↦ refl ]
-steps (places.Layered forms.Box) kind = elim kind as (λ k. behind k (rest_of (places.Layered forms.Box)) ≡ rest_after (next_place (places.Layered forms.Box) k)) [ Header ↦ refl | _ ↦ refl ]
-steps (places.Named forms.Boundary) kind = elim kind as (λ k. behind k (rest_of (places.Named forms.Boundary)) ≡ rest_after (next_place (places.Named forms.Boundary) k)) [ Header ↦ refl | _ ↦ refl ]
-steps (places.Named forms.Path) kind = elim kind as (λ k. behind k (rest_of (places.Named forms.Path)) ≡ rest_after (next_place (places.Named forms.Path) k)) [ Header ↦ refl | _ ↦ refl ]
-steps (places.Named forms.Sref) kind = elim kind as (λ k. behind k (rest_of (places.Named forms.Sref)) ≡ rest_after (next_place (places.Named forms.Sref) k)) [ Header ↦ refl | _ ↦ refl ]
-steps (places.Named forms.Aref) kind = elim kind as (λ k. behind k (rest_of (places.Named forms.Aref)) ≡ rest_after (next_place (places.Named forms.Aref) k)) [ Header ↦ refl | _ ↦ refl ]
-steps (places.Named forms.Node) kind = elim kind as (λ k. behind k (rest_of (places.Named forms.Node)) ≡ rest_after (next_place (places.Named forms.Node) k)) [ Header ↦ refl | _ ↦ refl ]
-steps (places.Named forms.Box) kind = elim kind as (λ k. behind k (rest_of (places.Named forms.Box)) ≡ rest_after (next_place (places.Named forms.Box) k)) [ Header ↦ refl | _ ↦ refl ]
-steps (places.Transformed forms.Boundary) kind = elim kind as (λ k. behind k (rest_of (places.Transformed forms.Boundary)) ≡ rest_after (next_place (places.Transformed forms.Boundary) k)) [ Header ↦ refl | _ ↦ refl ]
-steps (places.Transformed forms.Path) kind = elim kind as (λ k. behind k (rest_of (places.Transformed forms.Path)) ≡ rest_after (next_place (places.Transformed forms.Path) k)) [ Header ↦ refl | _ ↦ refl ]
-steps (places.Transformed forms.Sref) kind = elim kind as (λ k. behind k (rest_of (places.Transformed forms.Sref)) ≡ rest_after (next_place (places.Transformed forms.Sref) k)) [ Header ↦ refl | _ ↦ refl ]
-steps (places.Transformed forms.Aref) kind = elim kind as (λ k. behind k (rest_of (places.Transformed forms.Aref)) ≡ rest_after (next_place (places.Transformed forms.Aref) k)) [ Header ↦ refl | _ ↦ refl ]
-steps (places.Transformed forms.Node) kind = elim kind as (λ k. behind k (rest_of (places.Transformed forms.Node)) ≡ rest_after (next_place (places.Transformed forms.Node) k)) [ Header ↦ refl | _ ↦ refl ]
-steps (places.Transformed forms.Box) kind = elim kind as (λ k. behind k (rest_of (places.Transformed forms.Box)) ≡ rest_after (next_place (places.Transformed forms.Box) k)) [ Header ↦ refl | _ ↦ refl ]
-steps (places.Magnified forms.Boundary) kind = elim kind as (λ k. behind k (rest_of (places.Magnified forms.Boundary)) ≡ rest_after (next_place (places.Magnified forms.Boundary) k)) [ Header ↦ refl | _ ↦ refl ]
-steps (places.Magnified forms.Path) kind = elim kind as (λ k. behind k (rest_of (places.Magnified forms.Path)) ≡ rest_after (next_place (places.Magnified forms.Path) k)) [ Header ↦ refl | _ ↦ refl ]
-steps (places.Magnified forms.Sref) kind = elim kind as (λ k. behind k (rest_of (places.Magnified forms.Sref)) ≡ rest_after (next_place (places.Magnified forms.Sref) k)) [ Header ↦ refl | _ ↦ refl ]
-steps (places.Magnified forms.Aref) kind = elim kind as (λ k. behind k (rest_of (places.Magnified forms.Aref)) ≡ rest_after (next_place (places.Magnified forms.Aref) k)) [ Header ↦ refl | _ ↦ refl ]
-steps (places.Magnified forms.Node) kind = elim kind as (λ k. behind k (rest_of (places.Magnified forms.Node)) ≡ rest_after (next_place (places.Magnified forms.Node) k)) [ Header ↦ refl | _ ↦ refl ]
-steps (places.Magnified forms.Box) kind = elim kind as (λ k. behind k (rest_of (places.Magnified forms.Box)) ≡ rest_after (next_place (places.Magnified forms.Box) k)) [ Header ↦ refl | _ ↦ refl ]
-steps (places.Angled forms.Boundary) kind = elim kind as (λ k. behind k (rest_of (places.Angled forms.Boundary)) ≡ rest_after (next_place (places.Angled forms.Boundary) k)) [ Header ↦ refl | _ ↦ refl ]
-steps (places.Angled forms.Path) kind = elim kind as (λ k. behind k (rest_of (places.Angled forms.Path)) ≡ rest_after (next_place (places.Angled forms.Path) k)) [ Header ↦ refl | _ ↦ refl ]
-steps (places.Angled forms.Sref) kind = elim kind as (λ k. behind k (rest_of (places.Angled forms.Sref)) ≡ rest_after (next_place (places.Angled forms.Sref) k)) [ Header ↦ refl | _ ↦ refl ]
-steps (places.Angled forms.Aref) kind = elim kind as (λ k. behind k (rest_of (places.Angled forms.Aref)) ≡ rest_after (next_place (places.Angled forms.Aref) k)) [ Header ↦ refl | _ ↦ refl ]
-steps (places.Angled forms.Node) kind = elim kind as (λ k. behind k (rest_of (places.Angled forms.Node)) ≡ rest_after (next_place (places.Angled forms.Node) k)) [ Header ↦ refl | _ ↦ refl ]
-steps (places.Angled forms.Box) kind = elim kind as (λ k. behind k (rest_of (places.Angled forms.Box)) ≡ rest_after (next_place (places.Angled forms.Box) k)) [ Header ↦ refl | _ ↦ refl ]
+steps (places.Begun forms.Boundary) kind = elim kind as
+    (λ k. behind k (rest_of (places.Begun forms.Boundary)) ≡ rest_after (next_place (places.Begun forms.Boundary) k))
+    [ Header ↦ refl | _ ↦ refl ]
+steps (places.Begun forms.Path) kind = elim kind as
+    (λ k. behind k (rest_of (places.Begun forms.Path)) ≡ rest_after (next_place (places.Begun forms.Path) k))
+    [ Header ↦ refl | _ ↦ refl ]
+steps (places.Begun forms.Sref) kind = elim kind as
+    (λ k. behind k (rest_of (places.Begun forms.Sref)) ≡ rest_after (next_place (places.Begun forms.Sref) k))
+    [ Header ↦ refl | _ ↦ refl ]
+steps (places.Begun forms.Aref) kind = elim kind as
+    (λ k. behind k (rest_of (places.Begun forms.Aref)) ≡ rest_after (next_place (places.Begun forms.Aref) k))
+    [ Header ↦ refl | _ ↦ refl ]
+steps (places.Begun forms.Node) kind = elim kind as
+    (λ k. behind k (rest_of (places.Begun forms.Node)) ≡ rest_after (next_place (places.Begun forms.Node) k))
+    [ Header ↦ refl | _ ↦ refl ]
+steps (places.Begun forms.Box) kind = elim kind as
+    (λ k. behind k (rest_of (places.Begun forms.Box)) ≡ rest_after (next_place (places.Begun forms.Box) k)) [
+      | Header ↦
+          refl
+      | _ ↦ refl
+    ]
+steps (places.Flagged forms.Boundary) kind = elim kind as
+    (λ k. behind k (rest_of (places.Flagged forms.Boundary)) ≡ rest_after
+    (next_place (places.Flagged forms.Boundary) k)) [ Header ↦ refl | _ ↦ refl ]
+steps (places.Flagged forms.Path) kind = elim kind as
+    (λ k. behind k (rest_of (places.Flagged forms.Path)) ≡ rest_after (next_place (places.Flagged forms.Path) k))
+    [ Header ↦ refl | _ ↦ refl ]
+steps (places.Flagged forms.Sref) kind = elim kind as
+    (λ k. behind k (rest_of (places.Flagged forms.Sref)) ≡ rest_after (next_place (places.Flagged forms.Sref) k))
+    [ Header ↦ refl | _ ↦ refl ]
+steps (places.Flagged forms.Aref) kind = elim kind as
+    (λ k. behind k (rest_of (places.Flagged forms.Aref)) ≡ rest_after (next_place (places.Flagged forms.Aref) k))
+    [ Header ↦ refl | _ ↦ refl ]
+steps (places.Flagged forms.Node) kind = elim kind as
+    (λ k. behind k (rest_of (places.Flagged forms.Node)) ≡ rest_after (next_place (places.Flagged forms.Node) k))
+    [ Header ↦ refl | _ ↦ refl ]
+steps (places.Flagged forms.Box) kind = elim kind as
+    (λ k. behind k (rest_of (places.Flagged forms.Box)) ≡ rest_after (next_place (places.Flagged forms.Box) k))
+    [ Header ↦ refl | _ ↦ refl ]
+steps (places.Plexed forms.Boundary) kind = elim kind as
+    (λ k. behind k (rest_of (places.Plexed forms.Boundary)) ≡ rest_after (next_place (places.Plexed forms.Boundary) k))
+    [ Header ↦ refl | _ ↦ refl ]
+steps (places.Plexed forms.Path) kind = elim kind as
+    (λ k. behind k (rest_of (places.Plexed forms.Path)) ≡ rest_after (next_place (places.Plexed forms.Path) k))
+    [ Header ↦ refl | _ ↦ refl ]
+steps (places.Plexed forms.Sref) kind = elim kind as
+    (λ k. behind k (rest_of (places.Plexed forms.Sref)) ≡ rest_after (next_place (places.Plexed forms.Sref) k))
+    [ Header ↦ refl | _ ↦ refl ]
+steps (places.Plexed forms.Aref) kind = elim kind as
+    (λ k. behind k (rest_of (places.Plexed forms.Aref)) ≡ rest_after (next_place (places.Plexed forms.Aref) k))
+    [ Header ↦ refl | _ ↦ refl ]
+steps (places.Plexed forms.Node) kind = elim kind as
+    (λ k. behind k (rest_of (places.Plexed forms.Node)) ≡ rest_after (next_place (places.Plexed forms.Node) k))
+    [ Header ↦ refl | _ ↦ refl ]
+steps (places.Plexed forms.Box) kind = elim kind as
+    (λ k. behind k (rest_of (places.Plexed forms.Box)) ≡ rest_after (next_place (places.Plexed forms.Box) k))
+    [ Header ↦ refl | _ ↦ refl ]
+steps (places.Layered forms.Boundary) kind = elim kind as
+    (λ k. behind k (rest_of (places.Layered forms.Boundary)) ≡ rest_after
+    (next_place (places.Layered forms.Boundary) k)) [ Header ↦ refl | _ ↦ refl ]
+steps (places.Layered forms.Path) kind = elim kind as
+    (λ k. behind k (rest_of (places.Layered forms.Path)) ≡ rest_after (next_place (places.Layered forms.Path) k))
+    [ Header ↦ refl | _ ↦ refl ]
+steps (places.Layered forms.Sref) kind = elim kind as
+    (λ k. behind k (rest_of (places.Layered forms.Sref)) ≡ rest_after (next_place (places.Layered forms.Sref) k))
+    [ Header ↦ refl | _ ↦ refl ]
+steps (places.Layered forms.Aref) kind = elim kind as
+    (λ k. behind k (rest_of (places.Layered forms.Aref)) ≡ rest_after (next_place (places.Layered forms.Aref) k))
+    [ Header ↦ refl | _ ↦ refl ]
+steps (places.Layered forms.Node) kind = elim kind as
+    (λ k. behind k (rest_of (places.Layered forms.Node)) ≡ rest_after (next_place (places.Layered forms.Node) k))
+    [ Header ↦ refl | _ ↦ refl ]
+steps (places.Layered forms.Box) kind = elim kind as
+    (λ k. behind k (rest_of (places.Layered forms.Box)) ≡ rest_after (next_place (places.Layered forms.Box) k))
+    [ Header ↦ refl | _ ↦ refl ]
+steps (places.Named forms.Boundary) kind = elim kind as
+    (λ k. behind k (rest_of (places.Named forms.Boundary)) ≡ rest_after (next_place (places.Named forms.Boundary) k))
+    [ Header ↦ refl | _ ↦ refl ]
+steps (places.Named forms.Path) kind = elim kind as
+    (λ k. behind k (rest_of (places.Named forms.Path)) ≡ rest_after (next_place (places.Named forms.Path) k))
+    [ Header ↦ refl | _ ↦ refl ]
+steps (places.Named forms.Sref) kind = elim kind as
+    (λ k. behind k (rest_of (places.Named forms.Sref)) ≡ rest_after (next_place (places.Named forms.Sref) k))
+    [ Header ↦ refl | _ ↦ refl ]
+steps (places.Named forms.Aref) kind = elim kind as
+    (λ k. behind k (rest_of (places.Named forms.Aref)) ≡ rest_after (next_place (places.Named forms.Aref) k))
+    [ Header ↦ refl | _ ↦ refl ]
+steps (places.Named forms.Node) kind = elim kind as
+    (λ k. behind k (rest_of (places.Named forms.Node)) ≡ rest_after (next_place (places.Named forms.Node) k))
+    [ Header ↦ refl | _ ↦ refl ]
+steps (places.Named forms.Box) kind = elim kind as
+    (λ k. behind k (rest_of (places.Named forms.Box)) ≡ rest_after (next_place (places.Named forms.Box) k)) [
+      | Header ↦
+          refl
+      | _ ↦ refl
+    ]
+steps (places.Transformed forms.Boundary) kind = elim kind as
+    (λ k. behind k (rest_of (places.Transformed forms.Boundary)) ≡ rest_after
+    (next_place (places.Transformed forms.Boundary) k)) [ Header ↦ refl | _ ↦ refl ]
+steps (places.Transformed forms.Path) kind = elim kind as
+    (λ k. behind k (rest_of (places.Transformed forms.Path)) ≡ rest_after
+    (next_place (places.Transformed forms.Path) k)) [ Header ↦ refl | _ ↦ refl ]
+steps (places.Transformed forms.Sref) kind = elim kind as
+    (λ k. behind k (rest_of (places.Transformed forms.Sref)) ≡ rest_after
+    (next_place (places.Transformed forms.Sref) k)) [ Header ↦ refl | _ ↦ refl ]
+steps (places.Transformed forms.Aref) kind = elim kind as
+    (λ k. behind k (rest_of (places.Transformed forms.Aref)) ≡ rest_after
+    (next_place (places.Transformed forms.Aref) k)) [ Header ↦ refl | _ ↦ refl ]
+steps (places.Transformed forms.Node) kind = elim kind as
+    (λ k. behind k (rest_of (places.Transformed forms.Node)) ≡ rest_after
+    (next_place (places.Transformed forms.Node) k)) [ Header ↦ refl | _ ↦ refl ]
+steps (places.Transformed forms.Box) kind = elim kind as
+    (λ k. behind k (rest_of (places.Transformed forms.Box)) ≡ rest_after (next_place (places.Transformed forms.Box) k))
+    [ Header ↦ refl | _ ↦ refl ]
+steps (places.Magnified forms.Boundary) kind = elim kind as
+    (λ k. behind k (rest_of (places.Magnified forms.Boundary)) ≡ rest_after
+    (next_place (places.Magnified forms.Boundary) k)) [ Header ↦ refl | _ ↦ refl ]
+steps (places.Magnified forms.Path) kind = elim kind as
+    (λ k. behind k (rest_of (places.Magnified forms.Path)) ≡ rest_after (next_place (places.Magnified forms.Path) k))
+    [ Header ↦ refl | _ ↦ refl ]
+steps (places.Magnified forms.Sref) kind = elim kind as
+    (λ k. behind k (rest_of (places.Magnified forms.Sref)) ≡ rest_after (next_place (places.Magnified forms.Sref) k))
+    [ Header ↦ refl | _ ↦ refl ]
+steps (places.Magnified forms.Aref) kind = elim kind as
+    (λ k. behind k (rest_of (places.Magnified forms.Aref)) ≡ rest_after (next_place (places.Magnified forms.Aref) k))
+    [ Header ↦ refl | _ ↦ refl ]
+steps (places.Magnified forms.Node) kind = elim kind as
+    (λ k. behind k (rest_of (places.Magnified forms.Node)) ≡ rest_after (next_place (places.Magnified forms.Node) k))
+    [ Header ↦ refl | _ ↦ refl ]
+steps (places.Magnified forms.Box) kind = elim kind as
+    (λ k. behind k (rest_of (places.Magnified forms.Box)) ≡ rest_after (next_place (places.Magnified forms.Box) k))
+    [ Header ↦ refl | _ ↦ refl ]
+steps (places.Angled forms.Boundary) kind = elim kind as
+    (λ k. behind k (rest_of (places.Angled forms.Boundary)) ≡ rest_after (next_place (places.Angled forms.Boundary) k))
+    [ Header ↦ refl | _ ↦ refl ]
+steps (places.Angled forms.Path) kind = elim kind as
+    (λ k. behind k (rest_of (places.Angled forms.Path)) ≡ rest_after (next_place (places.Angled forms.Path) k))
+    [ Header ↦ refl | _ ↦ refl ]
+steps (places.Angled forms.Sref) kind = elim kind as
+    (λ k. behind k (rest_of (places.Angled forms.Sref)) ≡ rest_after (next_place (places.Angled forms.Sref) k))
+    [ Header ↦ refl | _ ↦ refl ]
+steps (places.Angled forms.Aref) kind = elim kind as
+    (λ k. behind k (rest_of (places.Angled forms.Aref)) ≡ rest_after (next_place (places.Angled forms.Aref) k))
+    [ Header ↦ refl | _ ↦ refl ]
+steps (places.Angled forms.Node) kind = elim kind as
+    (λ k. behind k (rest_of (places.Angled forms.Node)) ≡ rest_after (next_place (places.Angled forms.Node) k))
+    [ Header ↦ refl | _ ↦ refl ]
+steps (places.Angled forms.Box) kind = elim kind as
+    (λ k. behind k (rest_of (places.Angled forms.Box)) ≡ rest_after (next_place (places.Angled forms.Box) k))
+    [ Header ↦ refl | _ ↦ refl ]
 
 pub reached : (place : Place) (kind : Kind) → is_reached place ≡ true → reached_after (next_place place kind) ≡ true
 reached places.Header kind e = elim kind as (λ k. reached_after (next_place places.Header k) ≡ true) [ Header ↦ refl | _ ↦ refl ]
@@ -221,25 +339,29 @@ reached places.Text kind e = elim kind as (λ k. reached_after (next_place place
 reached places.Xy kind e = elim kind as (λ k. reached_after (next_place places.Xy k) ≡ true) [ Header ↦ refl | _ ↦ refl ]
 reached places.Properties kind e = elim kind as (λ k. reached_after (next_place places.Properties k) ≡ true) [ Header ↦ refl | _ ↦ refl ]
 reached places.PropValue kind e = elim kind as (λ k. reached_after (next_place places.PropValue k) ≡ true) [ Header ↦ refl | _ ↦ refl ]
-reached (places.Begun forms.Boundary) kind e = elim kind as (λ k. reached_after (next_place (places.Begun forms.Boundary) k) ≡ true) [ Header ↦ refl | _ ↦ refl ]
+reached (places.Begun forms.Boundary) kind e = elim kind as
+    (λ k. reached_after (next_place (places.Begun forms.Boundary) k) ≡ true) [ Header ↦ refl | _ ↦ refl ]
 reached (places.Begun forms.Path) kind e = elim kind as (λ k. reached_after (next_place (places.Begun forms.Path) k) ≡ true) [ Header ↦ refl | _ ↦ refl ]
 reached (places.Begun forms.Sref) kind e = elim kind as (λ k. reached_after (next_place (places.Begun forms.Sref) k) ≡ true) [ Header ↦ refl | _ ↦ refl ]
 reached (places.Begun forms.Aref) kind e = elim kind as (λ k. reached_after (next_place (places.Begun forms.Aref) k) ≡ true) [ Header ↦ refl | _ ↦ refl ]
 reached (places.Begun forms.Node) kind e = elim kind as (λ k. reached_after (next_place (places.Begun forms.Node) k) ≡ true) [ Header ↦ refl | _ ↦ refl ]
 reached (places.Begun forms.Box) kind e = elim kind as (λ k. reached_after (next_place (places.Begun forms.Box) k) ≡ true) [ Header ↦ refl | _ ↦ refl ]
-reached (places.Flagged forms.Boundary) kind e = elim kind as (λ k. reached_after (next_place (places.Flagged forms.Boundary) k) ≡ true) [ Header ↦ refl | _ ↦ refl ]
+reached (places.Flagged forms.Boundary) kind e = elim kind as
+    (λ k. reached_after (next_place (places.Flagged forms.Boundary) k) ≡ true) [ Header ↦ refl | _ ↦ refl ]
 reached (places.Flagged forms.Path) kind e = elim kind as (λ k. reached_after (next_place (places.Flagged forms.Path) k) ≡ true) [ Header ↦ refl | _ ↦ refl ]
 reached (places.Flagged forms.Sref) kind e = elim kind as (λ k. reached_after (next_place (places.Flagged forms.Sref) k) ≡ true) [ Header ↦ refl | _ ↦ refl ]
 reached (places.Flagged forms.Aref) kind e = elim kind as (λ k. reached_after (next_place (places.Flagged forms.Aref) k) ≡ true) [ Header ↦ refl | _ ↦ refl ]
 reached (places.Flagged forms.Node) kind e = elim kind as (λ k. reached_after (next_place (places.Flagged forms.Node) k) ≡ true) [ Header ↦ refl | _ ↦ refl ]
 reached (places.Flagged forms.Box) kind e = elim kind as (λ k. reached_after (next_place (places.Flagged forms.Box) k) ≡ true) [ Header ↦ refl | _ ↦ refl ]
-reached (places.Plexed forms.Boundary) kind e = elim kind as (λ k. reached_after (next_place (places.Plexed forms.Boundary) k) ≡ true) [ Header ↦ refl | _ ↦ refl ]
+reached (places.Plexed forms.Boundary) kind e = elim kind as
+    (λ k. reached_after (next_place (places.Plexed forms.Boundary) k) ≡ true) [ Header ↦ refl | _ ↦ refl ]
 reached (places.Plexed forms.Path) kind e = elim kind as (λ k. reached_after (next_place (places.Plexed forms.Path) k) ≡ true) [ Header ↦ refl | _ ↦ refl ]
 reached (places.Plexed forms.Sref) kind e = elim kind as (λ k. reached_after (next_place (places.Plexed forms.Sref) k) ≡ true) [ Header ↦ refl | _ ↦ refl ]
 reached (places.Plexed forms.Aref) kind e = elim kind as (λ k. reached_after (next_place (places.Plexed forms.Aref) k) ≡ true) [ Header ↦ refl | _ ↦ refl ]
 reached (places.Plexed forms.Node) kind e = elim kind as (λ k. reached_after (next_place (places.Plexed forms.Node) k) ≡ true) [ Header ↦ refl | _ ↦ refl ]
 reached (places.Plexed forms.Box) kind e = elim kind as (λ k. reached_after (next_place (places.Plexed forms.Box) k) ≡ true) [ Header ↦ refl | _ ↦ refl ]
-reached (places.Layered forms.Boundary) kind e = elim kind as (λ k. reached_after (next_place (places.Layered forms.Boundary) k) ≡ true) [ Header ↦ refl | _ ↦ refl ]
+reached (places.Layered forms.Boundary) kind e = elim kind as
+    (λ k. reached_after (next_place (places.Layered forms.Boundary) k) ≡ true) [ Header ↦ refl | _ ↦ refl ]
 reached (places.Layered forms.Path) kind e = elim kind as (λ k. reached_after (next_place (places.Layered forms.Path) k) ≡ true) [ Header ↦ refl | _ ↦ refl ]
 reached (places.Layered forms.Sref) kind e = absurd (cc)
 reached (places.Layered forms.Aref) kind e = absurd (cc)
@@ -253,14 +375,18 @@ reached (places.Named forms.Node) kind e = absurd (cc)
 reached (places.Named forms.Box) kind e = absurd (cc)
 reached (places.Transformed forms.Boundary) kind e = absurd (cc)
 reached (places.Transformed forms.Path) kind e = absurd (cc)
-reached (places.Transformed forms.Sref) kind e = elim kind as (λ k. reached_after (next_place (places.Transformed forms.Sref) k) ≡ true) [ Header ↦ refl | _ ↦ refl ]
-reached (places.Transformed forms.Aref) kind e = elim kind as (λ k. reached_after (next_place (places.Transformed forms.Aref) k) ≡ true) [ Header ↦ refl | _ ↦ refl ]
+reached (places.Transformed forms.Sref) kind e = elim kind as
+    (λ k. reached_after (next_place (places.Transformed forms.Sref) k) ≡ true) [ Header ↦ refl | _ ↦ refl ]
+reached (places.Transformed forms.Aref) kind e = elim kind as
+    (λ k. reached_after (next_place (places.Transformed forms.Aref) k) ≡ true) [ Header ↦ refl | _ ↦ refl ]
 reached (places.Transformed forms.Node) kind e = absurd (cc)
 reached (places.Transformed forms.Box) kind e = absurd (cc)
 reached (places.Magnified forms.Boundary) kind e = absurd (cc)
 reached (places.Magnified forms.Path) kind e = absurd (cc)
-reached (places.Magnified forms.Sref) kind e = elim kind as (λ k. reached_after (next_place (places.Magnified forms.Sref) k) ≡ true) [ Header ↦ refl | _ ↦ refl ]
-reached (places.Magnified forms.Aref) kind e = elim kind as (λ k. reached_after (next_place (places.Magnified forms.Aref) k) ≡ true) [ Header ↦ refl | _ ↦ refl ]
+reached (places.Magnified forms.Sref) kind e = elim kind as
+    (λ k. reached_after (next_place (places.Magnified forms.Sref) k) ≡ true) [ Header ↦ refl | _ ↦ refl ]
+reached (places.Magnified forms.Aref) kind e = elim kind as
+    (λ k. reached_after (next_place (places.Magnified forms.Aref) k) ≡ true) [ Header ↦ refl | _ ↦ refl ]
 reached (places.Magnified forms.Node) kind e = absurd (cc)
 reached (places.Magnified forms.Box) kind e = absurd (cc)
 reached (places.Angled forms.Boundary) kind e = absurd (cc)
@@ -359,9 +485,13 @@ leads_next kinds place next kind leads e =
     record {
       reached = ap reached_after (sym e) ∙ reached place kind leads.reached;
       onward = λ rest f.
-          subst (λ rule. Follows rule rest) rule (behind_from kind (rest_of place) rest (leads.onward (kind ∷ rest) (subst IsStreamOrder (sym (kinds_last kinds kind rest)) f)));
+          subst (λ rule. Follows rule rest) rule
+          (behind_from kind (rest_of place) rest
+          (leads.onward (kind ∷ rest) (subst IsStreamOrder (sym (kinds_last kinds kind rest)) f)));
       backward = λ rest f.
-          subst IsStreamOrder (kinds_last kinds kind rest) (leads.backward (kind ∷ rest) (behind_to kind (rest_of place) rest (subst (λ rule. Follows rule rest) (sym rule) f)));
+          subst IsStreamOrder (kinds_last kinds kind rest)
+          (leads.backward (kind ∷ rest)
+          (behind_to kind (rest_of place) rest (subst (λ rule. Follows rule rest) (sym rule) f)));
     }
 
 -- kinds that lead to a place begin a file

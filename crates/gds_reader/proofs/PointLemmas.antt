@@ -14,4 +14,5 @@ range_more a (suc n) =
 pub points_more : (bytes : List ℕ) (at n : ℕ) → points_from bytes at (n + 1) ≡ points_from bytes at n ++ point_at bytes (at + 8 * n) ∷ []
 points_more bytes at n =
     let e : n + 1 ≡ suc n = omega arith in
-    rw e (ap (map (λ k. point_at bytes (at + 8 * k))) (range_more 0 n) ∙ map-append (λ k. point_at bytes (at + 8 * k)) (range_with_len 0 n) ((0 + n) ∷ []) ∙ (let z : 0 + n ≡ n = omega arith in rw z refl))
+    rw e (ap (map (λ k. point_at bytes (at + 8 * k))) (range_more 0 n) ∙ map-append (λ k. point_at bytes (at + 8 * k))
+    (range_with_len 0 n) ((0 + n) ∷ []) ∙ (let z : 0 + n ≡ n = omega arith in rw z refl))

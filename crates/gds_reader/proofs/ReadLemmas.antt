@@ -1,5 +1,6 @@
 -- From what the reader keeps to what bytes hold.
-use Rattle.std.proofs.Common.{◌≡◌, ℕ, ◌*◌, ◌^◌, ◌<◌, ◌≤◌, List, [], ◌∷◌, ◌++◌, map, reverse, length, Option, Some, None, Result, Ok, Err, refl, sym, ap, subst, ◌∙◌, ◌⊎◌, inl, inr, arith}
+use Rattle.std.proofs.Common.{◌≡◌, ℕ, ◌*◌, ◌^◌, ◌<◌, ◌≤◌, List, [], ◌∷◌, ◌++◌, map, reverse, length, Option, Some, None}
+use Rattle.std.proofs.Common.{Result, Ok, Err, refl, sym, ap, subst, ◌∙◌, ◌⊎◌, inl, inr, arith}
 use Rattle.std.specs.Prelude.{◌≢◌, IsSome, IfOk, IfErr, All, slice_index}
 use Rattle.std.proofs.lemmas.List.{reverse-reverse}
 use Rattle.layout_model.specs.declared.pair.Pair.{Pair}
@@ -209,7 +210,8 @@ ended_layout bytes unit wanted sorted at reader layout s same blank cells counts
         closed = subst IsClosed (sym more) (closed_push (reverse s.past) s.r s.end);
         blank = λ k behind within. blank k (subst (λ n. n ≤ k) s.next_is behind) within;
       };
-      order = leads_end (kinds_of (reverse (s.r ∷ s.past))) (subst (LeadsTo (kinds_of (reverse (s.r ∷ s.past)))) place (leads (s.r ∷ s.past) reader.place is.place));
+      order = leads_end (kinds_of (reverse (s.r ∷ s.past)))
+          (subst (LeadsTo (kinds_of (reverse (s.r ∷ s.past)))) place (leads (s.r ∷ s.past) reader.place is.place));
       allowed = subst (AreAllowed bytes unit wanted) (sym turned) (s.allowed wanted same);
       layout_is =
           ap (λ cs. let l : Layout = record { cells = cs; counts = layout.counts } in l) (cells ∙ is.cells)

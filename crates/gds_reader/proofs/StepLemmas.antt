@@ -69,7 +69,8 @@ pub step_is : (count : ℕ) (from to step : Point) → IsStepping count from to 
 step_is count from to step s =
     let x : step.x ≡ quotient (to.x -ℤ from.x) count = quotient_is (to.x -ℤ from.x) step.x count s.some s.step_is.x in
     let y : step.y ≡ quotient (to.y -ℤ from.y) count = quotient_is (to.y -ℤ from.y) step.y count s.some s.step_is.y in
-    ap (λ (v : ℤ). let p : Point = record { x = v; y = step.y } in p) x ∙ ap (λ (v : ℤ). let p : Point = record { x = quotient (to.x -ℤ from.x) count; y = v } in p) y
+    ap (λ (v : ℤ). let p : Point = record { x = v; y = step.y } in p) x ∙ ap
+    (λ (v : ℤ). let p : Point = record { x = quotient (to.x -ℤ from.x) count; y = v } in p) y
 
 pub stepping : (count : ℕ) (from to step : Point) → 1 ≤ count → IsPartOf count (to.x -ℤ from.x) step.x → IsPartOf count (to.y -ℤ from.y) step.y
     → IsStepping count from to step

@@ -94,7 +94,9 @@ one_earlier bytes unit wanted r d e (x ∷ b1) a1 [] a2 allowed is one other =
     absurd (
     let rest : b1 ++ d ∷ a1 ≡ a2 = cc in
     let head : x ≡ e = cc in
-    head_new bytes unit wanted r e d b1 a1 a2 (subst (λ xs. IsAllowed bytes unit wanted xs e) rest (subst (IsAllowed bytes unit wanted (b1 ++ d ∷ a1)) head allowed.0)) (sym rest) other one)
+    head_new bytes unit wanted r e d b1 a1 a2
+    (subst (λ xs. IsAllowed bytes unit wanted xs e) rest
+    (subst (IsAllowed bytes unit wanted (b1 ++ d ∷ a1)) head allowed.0)) (sym rest) other one)
 one_earlier bytes unit wanted r d e (x ∷ b1) a1 (y ∷ b2) a2 allowed is one other =
     let rest : b1 ++ d ∷ a1 ≡ b2 ++ e ∷ a2 = cc in
     one_earlier bytes unit wanted r d e b1 a1 b2 a2 allowed.1 rest one other

@@ -12,7 +12,8 @@ use Rattle.gds_record.specs.declared.kinds.Kind.TheVariants.{Boundary, Path, Sre
 use Rattle.gds_record.specs.declared.records.Record.{Record}
 use Rattle.gds_reader.specs.declared.elements.Element.{Element}
 use Rattle.gds_reader.specs.Past.{element_kind, own_record}
-use Rattle.gds_reader.specs.Values.{name_in, number2_in, signed4_in, pair_of, columns_in, rows_in, extension, IsReference, KeepsSref, KeepsAref, KeepsBoundary, KeepsPath}
+use Rattle.gds_reader.specs.Values.{name_in, number2_in, signed4_in, pair_of, columns_in, rows_in, extension}
+use Rattle.gds_reader.specs.Values.{IsReference, KeepsSref, KeepsAref, KeepsBoundary, KeepsPath}
 use Rattle.gds_reader.specs.Meaning.{orient_of, origin, boundary_shape, path_shapes_of, first_of, array_places, is_drawn}
 
 -- the record's content lies within the bytes and has a length of its kind

@@ -5,7 +5,13 @@
 use Rattle.std.specs.Prelude.{◌≡◌, List, [], ◌∷◌, ◌++◌, ◌⊎◌}
 use Rattle.std.specs.List.{AllByRecursion}
 use Rattle.gds_record.specs.declared.kinds.Kind.{Kind}
-use Rattle.gds_record.specs.declared.kinds.Kind.TheVariants.{Header, BgnLib, LibName, Units, EndLib, BgnStr, StrName, EndStr, Boundary, Path, Sref, Aref, Text, Layer, DataType, Width, Xy, EndEl, Sname, ColRow, Node, TextType, Presentation, String, Strans, Mag, Angle, RefLibs, Fonts, PathType, Generations, AttrTable, ElFlags, NodeType, PropAttr, PropValue, Box, BoxType, Plex, BgnExtn, EndExtn, StrClass, Format, LibDirSize, SrfName, LibSecur}
+use Rattle.gds_record.specs.declared.kinds.Kind.TheVariants.{Header, BgnLib, LibName, Units, EndLib, BgnStr, StrName}
+use Rattle.gds_record.specs.declared.kinds.Kind.TheVariants.{EndStr, Boundary, Path, Sref, Aref, Text, Layer, DataType}
+use Rattle.gds_record.specs.declared.kinds.Kind.TheVariants.{Width, Xy, EndEl, Sname, ColRow, Node, TextType}
+use Rattle.gds_record.specs.declared.kinds.Kind.TheVariants.{Presentation, String, Strans, Mag, Angle, RefLibs, Fonts}
+use Rattle.gds_record.specs.declared.kinds.Kind.TheVariants.{PathType, Generations, AttrTable, ElFlags, NodeType}
+use Rattle.gds_record.specs.declared.kinds.Kind.TheVariants.{PropAttr, PropValue, Box, BoxType, Plex, BgnExtn, EndExtn}
+use Rattle.gds_record.specs.declared.kinds.Kind.TheVariants.{StrClass, Format, LibDirSize, SrfName, LibSecur}
 
 -- ---- what a rule of a grammar is, and which lists of kinds follow it
 

@@ -15,10 +15,13 @@ use Rattle.layout_model.specs.declared.cells.Counts.{Counts}
 use Rattle.layout_model.specs.declared.cells.Layout.{Layout}
 use Rattle.layout_model.specs.declared.pair.Pair.{Pair}
 use Rattle.gds_record.specs.declared.kinds.Kind.{Kind}
-use Rattle.gds_record.specs.declared.kinds.Kind.TheVariants.{StrName, EndStr, Boundary, Path, Sref, Aref, Text, Xy, Sname, Node, Strans, Mag, Angle, PropAttr, Box, BgnExtn, EndExtn}
+use Rattle.gds_record.specs.declared.kinds.Kind.TheVariants.{StrName, EndStr, Boundary, Path, Sref, Aref, Text, Xy}
+use Rattle.gds_record.specs.declared.kinds.Kind.TheVariants.{Sname, Node, Strans, Mag, Angle, PropAttr, Box, BgnExtn}
+use Rattle.gds_record.specs.declared.kinds.Kind.TheVariants.{EndExtn}
 use Rattle.gds_record.specs.declared.records.Record.{Record}
 use Rattle.gds_reader.specs.Past.{has_kind, element_kind, own_record, structure_record, given, given_in_structure, count_in}
-use Rattle.gds_reader.specs.Values.{pair_of, is_wanted, name_in, points_in, half_width_of, is_absolute, extension_of, number2_in, factor_in, turns_in, columns_of, rows_of}
+use Rattle.gds_reader.specs.Values.{pair_of, is_wanted, name_in, points_in, half_width_of, is_absolute, extension_of}
+use Rattle.gds_reader.specs.Values.{number2_in, factor_in, turns_in, columns_of, rows_of}
 
 abbrev pub origin : Point
 origin = record { x = pos 0; y = pos 0 }

@@ -1,6 +1,8 @@
 -- What the records of a file say (GDSII Stream Format Manual 6.0, record description), and the rules that their values
 -- must keep. Lengths are half units: a coordinate of the file counts two of them.
-use Rattle.std.specs.Prelude.{◌≡◌, ◌≢◌, ◌⊎◌, ◌<◌, ◌≤◌, ◌+◌, ◌-◌, ◌*◌, ◌/◌, ◌^◌, ◌==◌, ℕ, ℤ, pos, ◌-ℤ◌, ◌*ℤ◌, unsigned_abs, int_lt, bit_and, Bool, if◌then◌else◌, List, [], ◌∷◌, Option, Some, None, length, map, slice_range, IsTrue}
+use Rattle.std.specs.Prelude.{◌≡◌, ◌≢◌, ◌⊎◌, ◌<◌, ◌≤◌, ◌+◌, ◌-◌, ◌*◌, ◌/◌, ◌^◌, ◌==◌, ℕ, ℤ, pos, ◌-ℤ◌, ◌*ℤ◌}
+use Rattle.std.specs.Prelude.{unsigned_abs, int_lt, bit_and, Bool, if◌then◌else◌, List, [], ◌∷◌, Option, Some, None}
+use Rattle.std.specs.Prelude.{length, map, slice_range, IsTrue}
 use Rattle.std.specs.List.{range_with_len, list_any}
 use Rattle.half_grid.specs.Halves.{twice}
 use Rattle.half_grid.specs.Outlines.{IsClosed, HasGridEdges}
@@ -13,7 +15,9 @@ use Rattle.layout_model.specs.declared.pair.Pair.{Pair}
 use Rattle.gds_record.specs.Numbers.{number_at, signed_at}
 use Rattle.gds_record.specs.Reals.{sign_of, exponent_of, fraction_of, IsWholeReal}
 use Rattle.gds_record.specs.declared.kinds.Kind.{Kind}
-use Rattle.gds_record.specs.declared.kinds.Kind.TheVariants.{StrName, Boundary, Path, Sref, Aref, Layer, DataType, Width, Xy, Sname, ColRow, Strans, Mag, Angle, PathType, BgnExtn, EndExtn, Format}
+use Rattle.gds_record.specs.declared.kinds.Kind.TheVariants.{StrName, Boundary, Path, Sref, Aref, Layer, DataType}
+use Rattle.gds_record.specs.declared.kinds.Kind.TheVariants.{Width, Xy, Sname, ColRow, Strans, Mag, Angle, PathType}
+use Rattle.gds_record.specs.declared.kinds.Kind.TheVariants.{BgnExtn, EndExtn, Format}
 use Rattle.gds_record.specs.declared.records.Record.{Record}
 use Rattle.gds_reader.specs.Past.{element_kind, own_record}
 

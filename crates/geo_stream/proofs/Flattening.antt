@@ -15,12 +15,27 @@ module _ {S J A : Type 0} (R : S → List J → Type 0) (Q : J → List A → Ty
   pub taken : (s : S) (hand new : Option J) (first : A) → ((xs : List A) → InHandStandsFor Q hand xs → TakesFirst (InHandStandsFor Q) xs (Some first) new)
       → (items : List A) → StandsForFlattened R Q s hand items → (others : List A) × (items ≡ first ∷ others) × StandsForFlattened R Q s new others
   taken s hand new first gave items p =
-      let t = gave p.front p.first in
-      (t.0 ++ end_to_end p.lists, p.is ∙ ap (λ front. front ++ end_to_end p.lists) t.1, record { front = t.0; streams = p.streams; lists = p.lists; is = refl; first = t.2; given = p.given; each = p.each })
+      let t = gave p.front p.first in (
+        t.0 ++ end_to_end p.lists,
+        p.is ∙ ap
+            (λ front. front ++ end_to_end p.lists) t.1,
+        record {
+          front = t.0;
+          streams = p.streams;
+          lists = p.lists;
+          is =
+              refl;
+          first = t.2;
+          given = p.given;
+          each = p.each;
+        },
+      )
 
-  begun : (s : S) (stream : J) (streams : List J) (lists : List (List A)) → R s streams → AllZip Q (stream ∷ streams) lists → StandsForFlattened R Q s (Some stream) (end_to_end lists)
+  begun : (s : S) (stream : J) (streams : List J) (lists : List (List A)) → R s streams
+      → AllZip Q (stream ∷ streams) lists → StandsForFlattened R Q s (Some stream) (end_to_end lists)
   begun s stream streams [] given each = absurd each
-  begun s stream streams (list ∷ lists) given each = record { front = list; streams = streams; lists = lists; is = refl; first = each.0; given = given; each = each.1 }
+  begun s stream streams (list ∷ lists) given each =
+      record { front = list; streams = streams; lists = lists; is = refl; first = each.0; given = given; each = each.1 }
 
   -- the stream in hand had no item, and the source gave another
   pub turned : (s t : S) (hand new : Option J) (stream : J) → ((xs : List A) → InHandStandsFor Q hand xs → TakesFirst (InHandStandsFor Q) xs None new)
@@ -44,10 +59,23 @@ module _ {S J A : Type 0} (R : S → List J → Type 0) (Q : J → List A → Ty
   ended s t hand new stopped gave items p =
       let none = stopped p.front p.first in
       let more = gave p.streams p.given in
-      let each = subst (λ streams. AllZip Q streams p.lists) more.0 p.each in
-      (p.is ∙ ap (λ front. front ++ end_to_end p.lists) none.0 ∙ nothing p.lists each, record { front = []; streams = []; lists = []; is = refl; first = none.1; given = more.1; each = tt })
+      let each = subst (λ streams. AllZip Q streams p.lists) more.0 p.each in (
+        p.is ∙ ap (λ front. front ++ end_to_end p.lists) none.0
+            ∙ nothing p.lists each,
+        record {
+          front = [];
+          streams = [];
+          lists = [];
+          is = refl;
+          first = none.1;
+          given =
+              more.1;
+          each = tt;
+        },
+      )
 
-  below_head : {size : J → ℕ} {most : ℕ} → ((stream : J) (xs : List A) → Q stream xs → size stream ≤ most) → (stream : J) (streams : List J) (lists : List (List A)) → AllZip Q (stream ∷ streams) lists → size stream ≤ most
+  below_head : {size : J → ℕ} {most : ℕ} → ((stream : J) (xs : List A) → Q stream xs → size stream ≤ most)
+      → (stream : J) (streams : List J) (lists : List (List A)) → AllZip Q (stream ∷ streams) lists → size stream ≤ most
   below_head below stream streams [] each = absurd each
   below_head below stream streams (list ∷ lists) each = below stream list each.0
 

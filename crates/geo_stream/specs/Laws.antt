@@ -1,4 +1,5 @@
--- Proofs of the laws of the streams: each stands for one list, which is no longer than its size, and its size is bounded. Lemmas alone stand here, no definition.
+-- Proofs of the laws of the streams: each is one list, which is no longer than its size, and its size is bounded.
+-- Here are lemmas alone, no definition.
 pub mod Flattened
 pub mod FromSlice
 pub mod Joined

@@ -1,5 +1,6 @@
 -- A mapped stream stands for the answers of its function at the items of its source, in order.
--- What the function answers is known by its promise alone. So these facts are kept: the function may be called on each item to come, and its promise allows one answer for each.
+-- What the function answers is known by its promise alone. So these facts are kept: the function may be called on each
+-- item to come, and its promise allows one answer for each.
 use Rattle.std.specs.Prelude.{◌≡◌, List}
 use Rattle.std.specs.List.{AllZip}
 

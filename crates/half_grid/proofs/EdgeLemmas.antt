@@ -36,7 +36,8 @@ is_of_other B B h = absurd (h refl)
 two_counts : (p : EdgeParts → Bool) (e f : EdgeParts) → count_by p (e ∷ f ∷ []) ≡ count_one (p e) + count_one (p f)
 two_counts p e f = let later = count_by-cons p f [] in count_by-cons p e (f ∷ []) ∙ (rw later (omega arith))
 
-pub pair_winding : (o : Operand) (z : Trapezoid) (t : Tile) → edges_winding o (edges_of_trapezoid o z) t ≡ pos (count_one (is_beyond t z.left z.y0 z.y1)) -ℤ pos (count_one (is_beyond t z.right z.y0 z.y1))
+pub pair_winding : (o : Operand) (z : Trapezoid) (t : Tile) → edges_winding o (edges_of_trapezoid o z) t ≡ pos
+    (count_one (is_beyond t z.left z.y0 z.y1)) -ℤ pos (count_one (is_beyond t z.right z.y0 z.y1))
 unfolding edges_winding
 pair_winding o z t =
     let up = two_counts (winds_up o t) (left_edge z o) (right_edge z o) in
@@ -52,7 +53,9 @@ none_outside o z t legal h = pair_winding o z t ∙ (rw (outside_same z t legal 
 -- whether a trapezoid has a tile, as a test and as a fact
 pub has_in : (t : Tile) (z : Trapezoid) → trapezoid_has t z ≡ true → IsInTrapezoid z t
 has_in t z h =
-    let p = and_both (int_le z.y0 t.j && int_lt t.j z.y1) (int_le (first_strip z.left) (strip_along z.left t) && int_lt (strip_along z.right t) (first_strip z.right)) h in
+    let p = and_both (int_le z.y0 t.j && int_lt t.j z.y1)
+    (int_le (first_strip z.left) (strip_along z.left t) && int_lt (strip_along z.right t)
+    (first_strip z.right)) h in
     let q = and_both (int_le z.y0 t.j) (int_lt t.j z.y1) p.0 in
     let s = and_both (int_le (first_strip z.left) (strip_along z.left t)) (int_lt (strip_along z.right t) (first_strip z.right)) p.1 in
     record { above_bottom = int_le_true _ _ q.0; below_top = int_lt_true _ _ q.1; right_of_left = int_le_true _ _ s.0; left_of_right = int_lt_true _ _ s.1 }
@@ -60,7 +63,8 @@ has_in t z h =
 pub in_has : (t : Tile) (z : Trapezoid) → IsInTrapezoid z t → trapezoid_has t z ≡ true
 in_has t z h = rw (int_le_yes _ _ h.above_bottom, int_lt_yes _ _ h.below_top, int_le_yes _ _ h.right_of_left, int_lt_yes _ _ h.left_of_right) refl
 
-pair_count_by : (b : Bool) (o : Operand) (z : Trapezoid) (t : Tile) → trapezoid_has t z ≡ b → IsLegal z → edges_winding o (edges_of_trapezoid o z) t ≡ pos (count_one b)
+pair_count_by : (b : Bool) (o : Operand) (z : Trapezoid) (t : Tile) → trapezoid_has t z ≡ b → IsLegal z
+    → edges_winding o (edges_of_trapezoid o z) t ≡ pos (count_one b)
 pair_count_by true o z t e legal = one_inside o z t legal (has_in t z e)
 pair_count_by false o z t e legal = none_outside o z t legal (λ h. (let yes = in_has t z h in cc))
 
@@ -68,7 +72,8 @@ no_edges : (o : Operand) (t : Tile) → edges_winding o [] t ≡ pos 0
 unfolding edges_winding
 no_edges o t = refl
 
-pub winding_is_count : (o : Operand) (traps : List Trapezoid) (t : Tile) → All IsLegal traps → edges_winding o (flat_map (edges_of_trapezoid o) traps) t ≡ pos (count_in traps t)
+pub winding_is_count : (o : Operand) (traps : List Trapezoid) (t : Tile) → All IsLegal traps
+    → edges_winding o (flat_map (edges_of_trapezoid o) traps) t ≡ pos (count_in traps t)
 winding_is_count o [] t legal = no_edges o t
 winding_is_count o (z ∷ traps) t legal =
     let first = pair_count_by _ o z t refl (All-head IsLegal z traps legal) in

@@ -11,7 +11,8 @@ pub use Rattle.half_grid.proofs.MeetingLemmas.{places_differ, order_changes, num
 -- What is within reach.
 pub use Rattle.half_grid.proofs.ReachLemmas.{strip_within, tile_of_shot_within}
 -- The winding of a point list, edge by edge, and the line through two points of one.
-pub use Rattle.half_grid.proofs.WindingLemmas.{winding-cons, winding_from, winding_along, crossing_up, crossing_down, crossing_none, crossing_small, count_by-cons}
+pub use Rattle.half_grid.proofs.WindingLemmas.{winding-cons, winding_from, winding_along, crossing_up, crossing_down}
+pub use Rattle.half_grid.proofs.WindingLemmas.{crossing_none, crossing_small, count_by-cons}
 pub use Rattle.half_grid.proofs.RingLemmas.{line_is, ring_winding, ring_inside, ring_outside, quad_of_shot}
 -- The winding of edges, and the tiles of a trapezoid as a test.
 pub use Rattle.half_grid.proofs.EdgeLemmas.{windings_add, one_inside, none_outside, winding_is_count, operands_apart, has_in, in_has}

@@ -1,7 +1,8 @@
 -- A joined list is named by its tiles.
 use Rattle.std.proofs.Common.{◌≡◌, ℕ, zero, suc, ◌≤◌, Bool, true, false, ℤ, pos, ◌+ℤ◌, ◌-ℤ◌, ◌≤ℤ◌, ◌<ℤ◌, arith, refl, ap, subst, eqb, ◌∙◌, sym, List, [], ◌∷◌}
 use Rattle.std.proofs.lemmas.Int.{ints, by_lt_z}
-use Rattle.std.proofs.lemmas.List.Elements.{All-contains, Contains-push_cases, Contains-append_cases, Contains-append_right, Contains-append_left, Contains-push}
+use Rattle.std.proofs.lemmas.List.Elements.{All-contains, Contains-push_cases, Contains-append_cases}
+use Rattle.std.proofs.lemmas.List.Elements.{Contains-append_right, Contains-append_left, Contains-push}
 use Rattle.std.proofs.lemmas.Bool.Decides.{nat_tests}
 use Rattle.std.specs.List.{Contains}
 use mathlib.Core.Logic.{◌⊎◌, inl, inr}
@@ -49,7 +50,10 @@ counted_later t x xs = omega (arith, count_by-cons (trapezoid_has t) x xs)
 counted : (t : Tile) (z : Trapezoid) (xs : List Trapezoid) → Contains xs z → trapezoid_has t z ≡ true → 1 ≤ count_in xs t
 counted t z [] h e = absurd (none_in_empty z h)
 counted t z (x ∷ xs) h e =
-    elim (first_or_later x z xs h) [ inl s ↦ (let here = counted_first t x xs (rw s e) in omega (arith, here)) | inr s ↦ (let later = counted t z xs s e in let more = counted_later t x xs in omega (arith, later, more)) ]
+    elim (first_or_later x z xs h) [
+      | inl s ↦ (let here = counted_first t x xs (rw s e) in omega (arith, here))
+      | inr s ↦ (let later = counted t z xs s e in let more = counted_later t x xs in omega (arith, later, more))
+    ]
 
 abbrev Found : Tile → List Trapezoid → Type 0
 Found t xs = (z : Trapezoid) × Contains xs z × (trapezoid_has t z ≡ true)
@@ -57,7 +61,8 @@ Found t xs = (z : Trapezoid) × Contains xs z × (trapezoid_has t z ≡ true)
 found_later : (t : Tile) (x : Trapezoid) (xs : List Trapezoid) → Found t xs → Found t (x ∷ xs)
 found_later t x xs h = (h.0, among_rest x h.0 xs h.1, h.2)
 
-found_by : (t : Tile) (x : Trapezoid) (xs : List Trapezoid) (b : Bool) → trapezoid_has t x ≡ b → 1 ≤ count_in (x ∷ xs) t → (1 ≤ count_in xs t → Found t xs) → Found t (x ∷ xs)
+found_by : (t : Tile) (x : Trapezoid) (xs : List Trapezoid) (b : Bool) → trapezoid_has t x ≡ b
+    → 1 ≤ count_in (x ∷ xs) t → (1 ≤ count_in xs t → Found t xs) → Found t (x ∷ xs)
 found_by t x xs true e h later = (x, is_first x xs, e)
 found_by t x xs false e h later =
     let n = counted_not t x xs e in
@@ -68,16 +73,22 @@ found : (t : Tile) (xs : List Trapezoid) → 1 ≤ count_in xs t → Found t xs
 found t [] h = absurd (omega (arith, h))
 found t (x ∷ xs) h = found_by t x xs _ refl h (found t xs)
 
-twice_counted : (t : Tile) (x z : Trapezoid) (xs : List Trapezoid) {P : Type 0} → count_in (x ∷ xs) t ≤ 1 → trapezoid_has t x ≡ true → Contains xs z → trapezoid_has t z ≡ true → P
+twice_counted : (t : Tile) (x z : Trapezoid) (xs : List Trapezoid) {P : Type 0} → count_in (x ∷ xs) t ≤ 1
+    → trapezoid_has t x ≡ true → Contains xs z → trapezoid_has t z ≡ true → P
 twice_counted t x z xs {P} n ex hz ez = let here = counted_first t x xs ex in let later = counted t z xs hz ez in absurd (omega (arith, n, here, later))
 
 -- a tile that is counted at most once is in at most one member
-one_only : (t : Tile) (xs : List Trapezoid) (y z : Trapezoid) → count_in xs t ≤ 1 → Contains xs y → Contains xs z → trapezoid_has t y ≡ true → trapezoid_has t z ≡ true → y ≡ z
+one_only : (t : Tile) (xs : List Trapezoid) (y z : Trapezoid) → count_in xs t ≤ 1 → Contains xs y → Contains xs z
+    → trapezoid_has t y ≡ true → trapezoid_has t z ≡ true → y ≡ z
 one_only t [] y z n hy hz ey ez = absurd (none_in_empty y hy)
 one_only t (x ∷ xs) y z n hy hz ey ez =
     elim (first_or_later x y xs hy) [
       | inl sy ↦ elim (first_or_later x z xs hz) [ inl sz ↦ sym sy ∙ sz | inr sz ↦ twice_counted t x z xs n (rw sy ey) sz ez ]
-      | inr sy ↦ elim (first_or_later x z xs hz) [ inl sz ↦ twice_counted t x y xs n (rw sz ez) sy ey | inr sz ↦ one_only t xs y z (let more = counted_later t x xs in omega (arith, n, more)) sy sz ey ez ]
+      | inr sy ↦ elim (first_or_later x z xs hz) [
+        | inl sz ↦ twice_counted t x y xs n (rw sz ez) sy ey
+        | inr sz ↦
+            one_only t xs y z (let more = counted_later t x xs in omega (arith, n, more)) sy sz ey ez
+      ]
     ]
 
 -- ---- tiles of a row, by number
@@ -104,7 +115,8 @@ abbrev SameTiles : List Trapezoid → List Trapezoid → Type 0
 SameTiles xs ys = (t : Tile) → count_in xs t ≡ count_in ys t
 
 -- a tile beside a member of one list is in no member of the other
-clash : (window : RowRange) (xs ys : List Trapezoid) (z w : Trapezoid) (t : Tile) → IsJoined window xs → SameTiles xs ys → Contains xs z → IsBeside z t → Contains ys w → IsInTrapezoid w t → ⊥
+clash : (window : RowRange) (xs ys : List Trapezoid) (z w : Trapezoid) (t : Tile) → IsJoined window xs
+    → SameTiles xs ys → Contains xs z → IsBeside z t → Contains ys w → IsInTrapezoid w t → ⊥
 clash window xs ys z w t joined same hz beside hw h =
     let free = joined.ends_free z t hz beside in
     let here = counted t w ys hw (in_has t w h) in
@@ -144,16 +156,22 @@ module _ (window : RowRange) (xs ys : List Trapezoid) (first : IsJoined window x
       → place z.left j <ℤ place z.right j → place w.left j ≤ℤ place z.left j → place z.left j <ℤ place w.right j → place w.left j ≡ place z.left j
   same_left z w j hz hw a b c d zz l r =
       by_lt_z (place w.left j) (place z.left j)
-      (λ lt. absurd (clash window xs ys z w (tile_with (place z.left j -ℤ pos 1) j) first same hz (beside_left z (place z.left j -ℤ pos 1) j a b (omega (arith, ints))) hw (in_at w (place z.left j -ℤ pos 1) j c d (omega (arith, ints, lt)) (omega (arith, ints, r)))))
+      (λ lt. absurd (clash window xs ys z w (tile_with (place z.left j -ℤ pos 1) j) first same hz
+      (beside_left z (place z.left j -ℤ pos 1) j a b (omega (arith, ints))) hw
+      (in_at w (place z.left j -ℤ pos 1) j c d (omega (arith, ints, lt)) (omega (arith, ints, r)))))
       (λ le. omega (arith, ints, l, le))
 
   same_right : (z w : Trapezoid) (j : ℤ) → Contains xs z → Contains ys w → z.y0 ≤ℤ j → j <ℤ z.y1 → w.y0 ≤ℤ j → j <ℤ w.y1
       → place z.left j <ℤ place z.right j → place w.left j ≤ℤ place z.left j → place z.left j <ℤ place w.right j → place w.right j ≡ place z.right j
   same_right z w j hz hw a b c d zz l r =
       by_lt_z (place w.right j) (place z.right j)
-      (λ lt. absurd (clash window ys xs w z (tile_with (place w.right j) j) second (λ t. sym (same t)) hw (beside_right w (place w.right j) j c d refl) hz (in_at z (place w.right j) j a b (omega (arith, ints, r)) lt)))
+      (λ lt. absurd (clash window ys xs w z (tile_with (place w.right j) j) second (λ t. sym (same t)) hw
+      (beside_right w (place w.right j) j c d refl) hz
+      (in_at z (place w.right j) j a b (omega (arith, ints, r)) lt)))
       (λ ge. by_lt_z (place z.right j) (place w.right j)
-      (λ lt. absurd (clash window xs ys z w (tile_with (place z.right j) j) first same hz (beside_right z (place z.right j) j a b refl) hw (in_at w (place z.right j) j c d (omega (arith, ints, zz, l)) lt)))
+      (λ lt. absurd (clash window xs ys z w (tile_with (place z.right j) j) first same hz
+      (beside_right z (place z.right j) j a b refl) hw
+      (in_at w (place z.right j) j c d (omega (arith, ints, zz, l)) lt)))
       (λ le. omega (arith, ints, ge, le)))
 
   row_of : (z : Trapezoid) (j : ℤ) → Contains xs z → z.y0 ≤ℤ j → j <ℤ z.y1 → Meets ys z j j
@@ -190,14 +208,16 @@ module _ (window : RowRange) (xs ys : List Trapezoid) (first : IsJoined window x
   tall z zero hz b = moved ys z z.y0 z.y0 (z.y0 +ℤ pos 0) (omega (arith, ints)) (row_of z z.y0 hz (omega (arith, ints)) (omega (arith, ints, b)))
   tall z (suc k) hz b =
       moved ys z z.y0 ((z.y0 +ℤ pos k) +ℤ pos 1) (z.y0 +ℤ pos (suc k)) (omega (arith, ints))
-      (taller_by z (z.y0 +ℤ pos k) (omega (arith, ints)) (tall z k hz (omega (arith, ints, b))) (row_of z ((z.y0 +ℤ pos k) +ℤ pos 1) hz (omega (arith, ints)) (omega (arith, ints, b))))
+      (taller_by z (z.y0 +ℤ pos k) (omega (arith, ints)) (tall z k hz (omega (arith, ints, b)))
+      (row_of z ((z.y0 +ℤ pos k) +ℤ pos 1) hz (omega (arith, ints)) (omega (arith, ints, b))))
 
   -- a member lies between the same lines within a member of the other list
   whole : (z : Trapezoid) → Contains xs z → Meets ys z z.y0 (z.y1 -ℤ pos 1)
   whole z hz =
       let rows = (legal_first z hz).has_rows in
       let k = natural_is ((z.y1 -ℤ pos 1) -ℤ z.y0) (omega (arith, ints, rows)) in
-      moved ys z z.y0 (z.y0 +ℤ pos (natural ((z.y1 -ℤ pos 1) -ℤ z.y0))) (z.y1 -ℤ pos 1) (omega (arith, ints, k)) (tall z (natural ((z.y1 -ℤ pos 1) -ℤ z.y0)) hz (omega (arith, ints, k)))
+      moved ys z z.y0 (z.y0 +ℤ pos (natural ((z.y1 -ℤ pos 1) -ℤ z.y0))) (z.y1 -ℤ pos 1) (omega (arith, ints, k))
+      (tall z (natural ((z.y1 -ℤ pos 1) -ℤ z.y0)) hz (omega (arith, ints, k)))
 
 same_trapezoid : (y z : Trapezoid) → y.y0 ≡ z.y0 → y.y1 ≡ z.y1 → y.left ≡ z.left → y.right ≡ z.right → y ≡ z
 same_trapezoid y z e0 e1 el er =
@@ -207,7 +227,8 @@ same_trapezoid y z e0 e1 el er =
     ∙ ap (λ (x : Line). trapezoid z.y0 z.y1 z.left x) er
 
 -- a member of one list is a member of the other
-same_member : (window : RowRange) (xs ys : List Trapezoid) → IsJoined window xs → IsJoined window ys → SameTiles xs ys → (z : Trapezoid) → Contains xs z → Contains ys z
+same_member : (window : RowRange) (xs ys : List Trapezoid) → IsJoined window xs → IsJoined window ys → SameTiles xs ys
+    → (z : Trapezoid) → Contains xs z → Contains ys z
 same_member window xs ys first second same z hz =
     let m = whole window xs ys first second same z hz in
     let n = whole window ys xs second first (λ t. sym (same t)) m.w m.member in
@@ -238,7 +259,8 @@ same_first x y xs ys ox oy hx hy =
       ]
     ]
 
-later_member : (x y : Trapezoid) (xs ys : List Trapezoid) → x ≡ y → StandInOrder (x ∷ xs) → ((z : Trapezoid) → Contains (x ∷ xs) z → Contains (y ∷ ys) z) → (z : Trapezoid) → Contains xs z → Contains ys z
+later_member : (x y : Trapezoid) (xs ys : List Trapezoid) → x ≡ y → StandInOrder (x ∷ xs)
+    → ((z : Trapezoid) → Contains (x ∷ xs) z → Contains (y ∷ ys) z) → (z : Trapezoid) → Contains xs z → Contains ys z
 later_member x y xs ys e ox f z hz =
     let before = All-contains (StandsBefore x) xs z ox.0 hz in
     elim (first_or_later y z ys (f z (among_rest x z xs hz))) [
@@ -246,7 +268,8 @@ later_member x y xs ys e ox f z hz =
       | inr later ↦ later
     ]
 
-same_list : (xs ys : List Trapezoid) → StandInOrder xs → StandInOrder ys → ((z : Trapezoid) → Contains xs z → Contains ys z) → ((z : Trapezoid) → Contains ys z → Contains xs z) → xs ≡ ys
+same_list : (xs ys : List Trapezoid) → StandInOrder xs → StandInOrder ys
+    → ((z : Trapezoid) → Contains xs z → Contains ys z) → ((z : Trapezoid) → Contains ys z → Contains xs z) → xs ≡ ys
 same_list [] [] ox oy f g = refl
 same_list [] (y ∷ ys) ox oy f g = absurd (none_in_empty y (g y (is_first y ys)))
 same_list (x ∷ xs) [] ox oy f g = absurd (none_in_empty x (f x (is_first x xs)))
@@ -256,11 +279,13 @@ same_list (x ∷ xs) (y ∷ ys) ox oy f g =
     ap (λ (u : Trapezoid). u ∷ xs) e ∙ ap (λ (us : List Trapezoid). y ∷ us) later
 
 -- A window and a set of tiles have at most one joined list.
-pub one_joined_list : (window : RowRange) (xs ys : List Trapezoid) → IsJoined window xs → IsJoined window ys → ((t : Tile) → count_in xs t ≡ count_in ys t) → xs ≡ ys
+pub one_joined_list : (window : RowRange) (xs ys : List Trapezoid) → IsJoined window xs → IsJoined window ys
+    → ((t : Tile) → count_in xs t ≡ count_in ys t) → xs ≡ ys
 one_joined_list window xs ys first second same =
     same_list xs ys first.in_order second.in_order (same_member window xs ys first second same) (same_member window ys xs second first (λ t. sym (same t)))
 
-same_tiles_by : (area : Tile → Type 0) (xs ys : List Trapezoid) → CoversExactly xs area → CoversExactly ys area → (t : Tile) (p q : Bool) → eqb (count_in xs t) 1 ≡ p → eqb (count_in ys t) 1 ≡ q → count_in xs t ≡ count_in ys t
+same_tiles_by : (area : Tile → Type 0) (xs ys : List Trapezoid) → CoversExactly xs area → CoversExactly ys area
+    → (t : Tile) (p q : Bool) → eqb (count_in xs t) 1 ≡ p → eqb (count_in ys t) 1 ≡ q → count_in xs t ≡ count_in ys t
 same_tiles_by area xs ys first second t true true ep eq = grind (arith, nat_tests)
 same_tiles_by area xs ys first second t true false ep eq =
     let out : area t → ⊥ = λ h. (let n = second.once t h in grind (arith, nat_tests)) in

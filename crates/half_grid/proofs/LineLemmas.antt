@@ -27,11 +27,13 @@ int_eq_other x y h = grind (arith, ints)
 pub bits_differ : (w : Width) (x y : ℤ) → (of_z w x ≡ of_z w y → ⊥) → int_eq x y ≡ false
 bits_differ w x y h = int_eq_other x y (λ e. h (ap (of_z w) e))
 
-pub line_of_rising : (a b : Point) (n : ℤ) → int_eq a.y b.y ≡ false → int_eq a.x b.x ≡ false → share_rising a b ≡ true → n ≡ half (a.x -ℤ a.y) → Some (Rising n) ≡ line_of a b
+pub line_of_rising : (a b : Point) (n : ℤ) → int_eq a.y b.y ≡ false → int_eq a.x b.x ≡ false → share_rising a b ≡ true
+    → n ≡ half (a.x -ℤ a.y) → Some (Rising n) ≡ line_of a b
 unfolding line_of
 line_of_rising a b n ey ex er e = rw (ey, ex, er) (ap (λ m. Some (Rising m)) e)
 
-pub line_of_falling : (a b : Point) (n : ℤ) → int_eq a.y b.y ≡ false → int_eq a.x b.x ≡ false → share_rising a b ≡ false → share_falling a b ≡ true → n ≡ half (a.x +ℤ a.y) → Some (Falling n) ≡ line_of a b
+pub line_of_falling : (a b : Point) (n : ℤ) → int_eq a.y b.y ≡ false → int_eq a.x b.x ≡ false
+    → share_rising a b ≡ false → share_falling a b ≡ true → n ≡ half (a.x +ℤ a.y) → Some (Falling n) ≡ line_of a b
 unfolding line_of
 line_of_falling a b n ey ex er ef e = rw (ey, ex, er, ef) (ap (λ m. Some (Falling m)) e)
 
@@ -78,7 +80,8 @@ falling_shared a b c ha hb =
     and_here _ _ (even_twice _ c ea) (int_eq_same _ _ eb)
 
 through_by : (ty tx tr tf : Bool) (a b : Point) → int_eq a.y b.y ≡ ty → int_eq a.x b.x ≡ tx → share_rising a b ≡ tr → share_falling a b ≡ tf
-    → IfSome (if ty then None else if tx then Some (Upright a.x) else if tr then Some (Rising (half (a.x -ℤ a.y))) else if tf then Some (Falling (half (a.x +ℤ a.y))) else None)
+    → IfSome (if ty then None else if tx then Some (Upright a.x) else if tr then Some
+    (Rising (half (a.x -ℤ a.y))) else if tf then Some (Falling (half (a.x +ℤ a.y))) else None)
     (λ line. Passes line a × Passes line b × (a.y ≢ b.y))
 through_by true tx tr tf a b ey ex er ef = tt
 through_by false true tr tf a b ey ex er ef = (refl, sym (int_eq_true _ _ ex), int_eq_false _ _ ey)
@@ -94,13 +97,15 @@ line_of_through a b = through_by _ _ _ _ a b refl refl refl refl
 no_clash : {P : Type 0} (b : Bool) → b ≡ false → b ≡ true → P
 no_clash b h k = absurd (let no : ⊥ = cc in no)
 
-no_line : (a b : Point) → int_eq a.x b.x ≡ false → share_rising a b ≡ false → share_falling a b ≡ false → (line : Line) → Passes line a → Passes line b → a.y ≡ b.y
+no_line : (a b : Point) → int_eq a.x b.x ≡ false → share_rising a b ≡ false → share_falling a b ≡ false → (line : Line)
+    → Passes line a → Passes line b → a.y ≡ b.y
 no_line a b ex er ef (Upright c) pa pb = absurd (int_eq_false _ _ ex (pa ∙ sym pb))
 no_line a b ex er ef (Rising c) pa pb = no_clash _ er (rising_shared a b c pa pb)
 no_line a b ex er ef (Falling c) pa pb = no_clash _ ef (falling_shared a b c pa pb)
 
 none_by : (ty tx tr tf : Bool) (a b : Point) → int_eq a.y b.y ≡ ty → int_eq a.x b.x ≡ tx → share_rising a b ≡ tr → share_falling a b ≡ tf
-    → IfNone (if ty then None else if tx then Some (Upright a.x) else if tr then Some (Rising (half (a.x -ℤ a.y))) else if tf then Some (Falling (half (a.x +ℤ a.y))) else None)
+    → IfNone (if ty then None else if tx then Some (Upright a.x) else if tr then Some
+    (Rising (half (a.x -ℤ a.y))) else if tf then Some (Falling (half (a.x +ℤ a.y))) else None)
     ((line : Line) → Passes line a → Passes line b → a.y ≡ b.y)
 none_by true tx tr tf a b ey ex er ef = λ line pa pb. int_eq_true _ _ ey
 none_by false true tr tf a b ey ex er ef = tt

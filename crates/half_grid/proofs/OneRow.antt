@@ -43,7 +43,8 @@ bottom_close (Upright c) j = (omega (arith, ints), omega (arith, ints))
 bottom_close (Rising c) j = (omega (arith, ints), omega (arith, ints))
 bottom_close (Falling c) j = (omega (arith, ints), omega (arith, ints))
 
-pub top_close : (l : Line) (j : ℤ) → ((place l j -ℤ pos 1) ≤ℤ (x_on l (j +ℤ pos 1) +ℤ x_on l (j +ℤ pos 1))) × ((x_on l (j +ℤ pos 1) +ℤ x_on l (j +ℤ pos 1)) ≤ℤ (place l j +ℤ pos 1))
+pub top_close : (l : Line) (j : ℤ) → ((place l j -ℤ pos 1) ≤ℤ (x_on l (j +ℤ pos 1) +ℤ x_on l (j +ℤ pos 1)))
+    × ((x_on l (j +ℤ pos 1) +ℤ x_on l (j +ℤ pos 1)) ≤ℤ (place l j +ℤ pos 1))
 top_close (Upright c) j = (omega (arith, ints), omega (arith, ints))
 top_close (Rising c) j = (omega (arith, ints), omega (arith, ints))
 top_close (Falling c) j = (omega (arith, ints), omega (arith, ints))
@@ -54,12 +55,19 @@ bottom_within l j h = let c = bottom_close l j in record { low = omega (arith, i
 top_within : (l : Line) (j : ℤ) → IsWithinReach (place l j) → IsWithinReach (x_on l (j +ℤ pos 1))
 top_within l j h = let c = top_close l j in record { low = omega (arith, ints, c.0, h.low); high = omega (arith, ints, c.1, h.high) }
 
-pub row_shot : (l r : Line) (j : ℤ) → IsWithinReach j → IsWithinReach (j +ℤ pos 1) → IsWithinReach (place l j) → IsWithinReach (place r j) → place l j <ℤ place r j → IsShot (trapezoid j (j +ℤ pos 1) l r)
+pub row_shot : (l r : Line) (j : ℤ) → IsWithinReach j → IsWithinReach (j +ℤ pos 1) → IsWithinReach (place l j)
+    → IsWithinReach (place r j) → place l j <ℤ place r j → IsShot (trapezoid j (j +ℤ pos 1) l r)
 row_shot l r j low high left right order =
     let bottom = bottom_order l r j order in
     let top = top_order l r j order in
     let below : IsSide l r j = record { left_end = bottom_within l j left; right_end = bottom_within r j right; not_negative = omega (arith, ints, bottom) } in
-    let above : IsSide l r (j +ℤ pos 1) = record { left_end = top_within l j left; right_end = top_within r j right; not_negative = omega (arith, ints, top) } in
+    let above : IsSide l r (j +ℤ pos 1) =
+    record {
+      left_end = top_within l j left;
+      right_end = top_within r j right;
+      not_negative = omega
+          (arith, ints, top);
+    } in
     shot_of_sides j (j +ℤ pos 1) l r low high (omega (arith, ints)) below above (omega (arith, ints, order))
 
 same_le : (x y u v : ℤ) → (x ≤ℤ y → u ≤ℤ v) → (u ≤ℤ v → x ≤ℤ y) → int_le x y ≡ int_le u v
@@ -72,13 +80,18 @@ one_row : (x j : ℤ) → (int_le j x && int_lt x (j +ℤ pos 1)) ≡ int_eq x j
 one_row x j = grind (arith, ints)
 
 has_by : (b : Bool) (t : Tile) (l r : Line) (j : ℤ) → int_eq t.j j ≡ b
-    → (b && (int_le (first_strip l) (strip_along l t) && int_lt (strip_along r t) (first_strip r))) ≡ (b && (int_le (place l j) (number_in_row t) && int_lt (number_in_row t) (place r j)))
+    → (b && (int_le (first_strip l) (strip_along l t) && int_lt (strip_along r t) (first_strip r)))
+    ≡ (b && (int_le (place l j) (number_in_row t) && int_lt (number_in_row t) (place r j)))
 has_by false t l r j e = refl
 has_by true t l r j e =
     let same : t.j ≡ j = int_eq_true t.j j e in
     rw (← same)
-    (ap (λ x. x && int_lt (strip_along r t) (first_strip r)) (same_le (first_strip l) (strip_along l t) (place l t.j) (number_in_row t) (place_at_most t l) (right_by_place t l))
-    ∙ ap (λ x. int_le (place l t.j) (number_in_row t) && x) (same_lt (strip_along r t) (first_strip r) (number_in_row t) (place r t.j) (number_below t r) (left_by_place t r)))
+    (ap (λ x. x && int_lt (strip_along r t) (first_strip r))
+    (same_le (first_strip l) (strip_along l t) (place l t.j) (number_in_row t) (place_at_most t l)
+    (right_by_place t l))
+    ∙ ap (λ x. int_le (place l t.j) (number_in_row t) && x)
+    (same_lt (strip_along r t) (first_strip r) (number_in_row t) (place r t.j) (number_below t r)
+    (left_by_place t r)))
 
 -- the tiles of a row's trapezoid
 pub row_has : (t : Tile) (l r : Line) (j : ℤ) → trapezoid_has t (trapezoid j (j +ℤ pos 1) l r) ≡ in_row j (place l j) (place r j) t

@@ -1,6 +1,7 @@
 -- Where the winding of a closed outline is 0: left of all its points, right of all its points, and in each row that
 -- isn't between its lowest and its highest Y.
-use Rattle.std.proofs.Common.{◌≡◌, ◌≢◌, inl, inr, ℕ, Bool, true, false, ℤ, pos, ◌-ℤ◌, ◌≤ℤ◌, ◌<ℤ◌, ◌&&◌, arith, refl, ap, ◌∙◌, sym, List, [], ◌∷◌, Option, Some, None, IfSome, IfNone, int_le, int_lt, not}
+use Rattle.std.proofs.Common.{◌≡◌, ◌≢◌, inl, inr, ℕ, Bool, true, false, ℤ, pos, ◌-ℤ◌, ◌≤ℤ◌, ◌<ℤ◌, ◌&&◌, arith, refl, ap}
+use Rattle.std.proofs.Common.{◌∙◌, sym, List, [], ◌∷◌, Option, Some, None, IfSome, IfNone, int_le, int_lt, not}
 use Rattle.std.proofs.lemmas.Int.{ints}
 use Rattle.std.specs.List.{AllByRecursion}
 use Rattle.half_grid.specs.Halves.{twice}
@@ -31,18 +32,21 @@ rises_high t a b h = grind (arith, ints)
 
 -- ---- an edge that spans the row, with both ends left of an upright line X, at a tile right of X
 
-line_left : (line : Line) (t : Tile) (a b : Point) (x : ℤ) → Passes line a → Passes line b → a.y ≤ℤ t.j → t.j <ℤ b.y → a.x ≤ℤ x → b.x ≤ℤ x → twice x ≤ℤ number_in_row t → place line t.j ≤ℤ number_in_row t
+line_left : (line : Line) (t : Tile) (a b : Point) (x : ℤ) → Passes line a → Passes line b → a.y ≤ℤ t.j → t.j <ℤ b.y
+    → a.x ≤ℤ x → b.x ≤ℤ x → twice x ≤ℤ number_in_row t → place line t.j ≤ℤ number_in_row t
 line_left (Upright c) t a b x pa pb low high ax bx n = omega (arith, ints, pa)
 line_left (Rising c) t a b x pa pb low high ax bx n = omega (arith, ints, pa, pb)
 line_left (Falling c) t a b x pa pb low high ax bx n = omega (arith, ints, pa, pb)
 
-line_right : (line : Line) (t : Tile) (a b : Point) (x : ℤ) → Passes line a → Passes line b → a.y ≤ℤ t.j → t.j <ℤ b.y → x ≤ℤ a.x → x ≤ℤ b.x → number_in_row t <ℤ twice x → number_in_row t <ℤ place line t.j
+line_right : (line : Line) (t : Tile) (a b : Point) (x : ℤ) → Passes line a → Passes line b → a.y ≤ℤ t.j → t.j <ℤ b.y
+    → x ≤ℤ a.x → x ≤ℤ b.x → number_in_row t <ℤ twice x → number_in_row t <ℤ place line t.j
 line_right (Upright c) t a b x pa pb low high ax bx n = omega (arith, ints, pa)
 line_right (Rising c) t a b x pa pb low high ax bx n = omega (arith, ints, pa, pb)
 line_right (Falling c) t a b x pa pb low high ax bx n = omega (arith, ints, pa, pb)
 
 -- whether a tile is right of an edge's line, by what holds of each line through both ends
-any_right : (t : Tile) (a b : Point) (o : Option Line) → IfSome o (λ l. Passes l a × Passes l b × (a.y ≢ b.y)) → IfNone o ((l : Line) → Passes l a → Passes l b → a.y ≡ b.y)
+any_right : (t : Tile) (a b : Point) (o : Option Line) → IfSome o (λ l. Passes l a × Passes l b × (a.y ≢ b.y))
+    → IfNone o ((l : Line) → Passes l a → Passes l b → a.y ≡ b.y)
     → IsOnGrid (a, b) → a.y ≢ b.y → ((l : Line) → Passes l a → Passes l b → place l t.j ≤ℤ number_in_row t) → is_right_of t o ≡ true
 any_right t a b (Some l) some none grid other each = le_yes _ _ (right_by_place t l (each l some.0 some.1))
 any_right t a b None some none (inl same) other each = absurd (other same)
@@ -69,19 +73,23 @@ level_tests false false h k = refl
 -- no row between them: both are below it, or both above
 level : (t : Tile) (a b : Point) → rises_past t a b ≡ false → rises_past t b a ≡ false → pos (is_below t a) -ℤ pos (is_below t b) ≡ pos 0
 level t a b u d =
-    level_tests (int_le a.y t.j) (int_le b.y t.j) (sym (ap (λ x. int_le a.y t.j && x) (lt_not_le t.j b.y)) ∙ u) (sym (ap (λ x. int_le b.y t.j && x) (lt_not_le t.j a.y)) ∙ d)
+    level_tests (int_le a.y t.j) (int_le b.y t.j) (sym (ap (λ x. int_le a.y t.j && x) (lt_not_le t.j b.y)) ∙ u)
+    (sym (ap (λ x. int_le b.y t.j && x) (lt_not_le t.j a.y)) ∙ d)
 
 -- what an edge adds that has the tile on its right
-crossing_rising : (t : Tile) (a b : Point) → rises_past t a b ≡ true → is_right_of t (line_of a b) ≡ true → crossing_of t a b ≡ pos (is_below t a) -ℤ pos (is_below t b)
+crossing_rising : (t : Tile) (a b : Point) → rises_past t a b ≡ true → is_right_of t (line_of a b) ≡ true
+    → crossing_of t a b ≡ pos (is_below t a) -ℤ pos (is_below t b)
 crossing_rising t a b u right =
     crossing_up t a b u ∙ ap (λ r. pos (count_one r)) right
     ∙ sym (rw (le_yes a.y t.j (rises_low t a b u), le_no b.y t.j (rises_high t a b u)) refl)
 
-crossing_falling : (t : Tile) (a b : Point) → rises_past t b a ≡ true → is_right_of t (line_of a b) ≡ true → crossing_of t a b ≡ pos (is_below t a) -ℤ pos (is_below t b)
+crossing_falling : (t : Tile) (a b : Point) → rises_past t b a ≡ true → is_right_of t (line_of a b) ≡ true
+    → crossing_of t a b ≡ pos (is_below t a) -ℤ pos (is_below t b)
 crossing_falling t a b d right =
     crossing_down t a b d ∙ rw right (sym (rw (le_yes b.y t.j (rises_low t b a d), le_no a.y t.j (rises_high t b a d)) refl))
 
-right_by_spans : (t : Tile) (a b : Point) (x : ℤ) (u d : Bool) → rises_past t a b ≡ u → rises_past t b a ≡ d → IsOnGrid (a, b) → a.x ≤ℤ x → b.x ≤ℤ x → twice x ≤ℤ number_in_row t
+right_by_spans : (t : Tile) (a b : Point) (x : ℤ) (u d : Bool) → rises_past t a b ≡ u → rises_past t b a ≡ d
+    → IsOnGrid (a, b) → a.x ≤ℤ x → b.x ≤ℤ x → twice x ≤ℤ number_in_row t
     → crossing_of t a b ≡ pos (is_below t a) -ℤ pos (is_below t b)
 right_by_spans t a b x true d eu ed grid ax bx n =
     let low = rises_low t a b eu in
@@ -106,7 +114,8 @@ left_by_spans : (t : Tile) (a b : Point) (x : ℤ) (u d : Bool) → rises_past t
 left_by_spans t a b x true d eu ed ax bx n =
     let low = rises_low t a b eu in
     let high = rises_high t a b eu in
-    crossing_up t a b eu ∙ ap (λ r. pos (count_one r)) (any_left t a b (line_of a b) (line_of_through a b) (λ l pa pb. line_right l t a b x pa pb low high ax bx n))
+    crossing_up t a b eu ∙ ap (λ r. pos (count_one r))
+    (any_left t a b (line_of a b) (line_of_through a b) (λ l pa pb. line_right l t a b x pa pb low high ax bx n))
 left_by_spans t a b x false true eu ed ax bx n =
     let low = rises_low t b a ed in
     let high = rises_high t b a ed in
@@ -125,7 +134,8 @@ over_edge t a b ha hb = crossing_none t a b (grind (arith, ints)) (grind (arith,
 
 -- ---- the same along a whole list
 
-pub right_of_all : (t : Tile) (x : ℤ) (a : Point) (points : List Point) → AllByRecursion (λ p. p.x ≤ℤ x) (a ∷ points) → AllByRecursion IsOnGrid (edges_of (a ∷ points)) → twice x ≤ℤ number_in_row t
+pub right_of_all : (t : Tile) (x : ℤ) (a : Point) (points : List Point) → AllByRecursion (λ p. p.x ≤ℤ x) (a ∷ points)
+    → AllByRecursion IsOnGrid (edges_of (a ∷ points)) → twice x ≤ℤ number_in_row t
     → winding_from t a points ≡ pos (is_below t a) -ℤ pos (is_below t (last_of a points))
 right_of_all t x a [] all grid n = omega (arith, ints)
 right_of_all t x a (b ∷ points) all grid n =
@@ -133,7 +143,8 @@ right_of_all t x a (b ∷ points) all grid n =
     let rest = right_of_all t x b points all.1 grid.1 n in
     omega (arith, ints, first, rest)
 
-pub left_of_all : (t : Tile) (x : ℤ) (a : Point) (points : List Point) → AllByRecursion (λ p. x ≤ℤ p.x) (a ∷ points) → number_in_row t <ℤ twice x → winding_from t a points ≡ pos 0
+pub left_of_all : (t : Tile) (x : ℤ) (a : Point) (points : List Point) → AllByRecursion (λ p. x ≤ℤ p.x) (a ∷ points)
+    → number_in_row t <ℤ twice x → winding_from t a points ≡ pos 0
 left_of_all t x a [] all n = refl
 left_of_all t x a (b ∷ points) all n = rw (left_of_edge t a b x all.0 all.1.0 n, left_of_all t x b points all.1 n) refl
 
@@ -153,14 +164,16 @@ over_all t y a (b ∷ points) all n =
 
 -- ---- a closed outline has winding 0 at a tile right of all its points, left of them, below them or above them
 
-pub closed_right : (points : List Point) (t : Tile) (x : ℤ) → IsClosed points → AllByRecursion (λ p. p.x ≤ℤ x) points → AllByRecursion IsOnGrid (edges_of points) → twice x ≤ℤ number_in_row t → winding points t ≡ pos 0
+pub closed_right : (points : List Point) (t : Tile) (x : ℤ) → IsClosed points → AllByRecursion (λ p. p.x ≤ℤ x) points
+    → AllByRecursion IsOnGrid (edges_of points) → twice x ≤ℤ number_in_row t → winding points t ≡ pos 0
 closed_right [] t x closed all grid n = absurd closed
 closed_right (a ∷ points) t x closed all grid n =
     let sum = right_of_all t x a points all grid n in
     let same : is_below t (last_of a points) ≡ is_below t a = ap (is_below t) closed in
     winding_along t a points ∙ omega (arith, ints, sum, same)
 
-pub closed_left : (points : List Point) (t : Tile) (x : ℤ) → IsClosed points → AllByRecursion (λ p. x ≤ℤ p.x) points → number_in_row t <ℤ twice x → winding points t ≡ pos 0
+pub closed_left : (points : List Point) (t : Tile) (x : ℤ) → IsClosed points → AllByRecursion (λ p. x ≤ℤ p.x) points
+    → number_in_row t <ℤ twice x → winding points t ≡ pos 0
 closed_left [] t x closed all n = absurd closed
 closed_left (a ∷ points) t x closed all n = winding_along t a points ∙ left_of_all t x a points all n
 

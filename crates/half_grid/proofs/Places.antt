@@ -47,7 +47,8 @@ same_parts t u ei ej es =
     ∙ ap (λ (x : ℤ). let r : Tile = record { i = u.i; j = x; side = t.side } in r) ej
     ∙ ap (λ (x : Side). let r : Tile = record { i = u.i; j = u.j; side = x } in r) es
 
-numbers_by_strips : (t u : Tile) → t.i ≡ u.i → t.j ≡ u.j → (strips_of t).p ≡ (strips_of u).p → (strips_of t).q ≡ (strips_of u).q → number_in_row t ≡ number_in_row u
+numbers_by_strips : (t u : Tile) → t.i ≡ u.i → t.j ≡ u.j → (strips_of t).p ≡ (strips_of u).p
+    → (strips_of t).q ≡ (strips_of u).q → number_in_row t ≡ number_in_row u
 numbers_by_strips t u ei ej ep eq =
     omega (arith, ints, ei, ej, ep, eq, i_low t, i_high t, i_low u, i_high u, p_low t, p_high t, p_low u, p_high u, q_low t, q_high t, q_low u, q_high u)
 

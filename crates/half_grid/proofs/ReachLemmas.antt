@@ -17,12 +17,14 @@ strip_within (Rising c) y hy hx = record { low = omega (arith, ints); high = ome
 strip_within (Falling c) y hy hx = record { low = omega (arith, ints); high = omega (arith, ints) }
 
 -- between two Y at which a line is within reach, it is within reach
-left_reach : (line : Line) (y0 y1 : ℤ) (t : Tile) → IsWithinReach (x_on line y0) → IsWithinReach (x_on line y1) → y0 ≤ℤ t.j → t.j <ℤ y1 → IsRightOf t line → neg_ℤ (pos (2 ^ 44)) ≤ℤ t.i
+left_reach : (line : Line) (y0 y1 : ℤ) (t : Tile) → IsWithinReach (x_on line y0) → IsWithinReach (x_on line y1)
+    → y0 ≤ℤ t.j → t.j <ℤ y1 → IsRightOf t line → neg_ℤ (pos (2 ^ 44)) ≤ℤ t.i
 left_reach (Upright c) y0 y1 t h0 h1 a b r = omega (arith, ints)
 left_reach (Rising c) y0 y1 t h0 h1 a b r = let p = place_at_most t (Rising c) r in omega (arith, ints, i_high t, h0.low)
 left_reach (Falling c) y0 y1 t h0 h1 a b r = let p = place_at_most t (Falling c) r in omega (arith, ints, i_high t, h1.low)
 
-right_reach : (line : Line) (y0 y1 : ℤ) (t : Tile) → IsWithinReach (x_on line y0) → IsWithinReach (x_on line y1) → y0 ≤ℤ t.j → t.j <ℤ y1 → IsLeftOf t line → t.i ≤ℤ pos (2 ^ 44)
+right_reach : (line : Line) (y0 y1 : ℤ) (t : Tile) → IsWithinReach (x_on line y0) → IsWithinReach (x_on line y1)
+    → y0 ≤ℤ t.j → t.j <ℤ y1 → IsLeftOf t line → t.i ≤ℤ pos (2 ^ 44)
 right_reach (Upright c) y0 y1 t h0 h1 a b r = omega (arith, ints)
 right_reach (Rising c) y0 y1 t h0 h1 a b r = let p = number_below t (Rising c) r in omega (arith, ints, i_low t, h1.high)
 right_reach (Falling c) y0 y1 t h0 h1 a b r = let p = number_below t (Falling c) r in omega (arith, ints, i_low t, h0.high)

@@ -1,5 +1,6 @@
 -- The winding of a trapezoid's corners, and of its two edges, at each tile.
-use Rattle.std.proofs.Common.{◌≡◌, ◌≢◌, Bool, true, false, ◌&&◌, ℤ, pos, ◌-ℤ◌, ◌≤ℤ◌, ◌<ℤ◌, neg_ℤ, arith, refl, ap, ◌∙◌, Option, Some, None, IfSome, IfNone, [], ◌∷◌}
+use Rattle.std.proofs.Common.{◌≡◌, ◌≢◌, Bool, true, false, ◌&&◌, ℤ, pos, ◌-ℤ◌, ◌≤ℤ◌, ◌<ℤ◌, neg_ℤ, arith, refl, ap, ◌∙◌}
+use Rattle.std.proofs.Common.{Option, Some, None, IfSome, IfNone, [], ◌∷◌}
 use Rattle.std.proofs.lemmas.Int.{ints}
 use Rattle.std.specs.Prelude.{int_le, int_lt}
 use Rattle.half_grid.specs.Lines.{Passes, IsRightOf, line_of, strip_along, first_strip, x_on}
@@ -78,14 +79,17 @@ side_up : (t : Tile) (line : Line) (y0 y1 : ℤ) → y0 <ℤ y1 → crossing_of 
 side_up t line y0 y1 h = rw (line_up line y0 y1 h, no_rows t y0 y1 h) (omega (arith, ints))
 
 -- the side from the upper end of a line down
-side_down : (t : Tile) (line : Line) (y0 y1 : ℤ) → y0 <ℤ y1 → crossing_of t (point_on line y1) (point_on line y0) ≡ neg_ℤ (pos (count_one (is_beyond t line y0 y1)))
+side_down : (t : Tile) (line : Line) (y0 y1 : ℤ) → y0 <ℤ y1
+    → crossing_of t (point_on line y1) (point_on line y0) ≡ neg_ℤ (pos (count_one (is_beyond t line y0 y1)))
 side_down t line y0 y1 h = rw (line_down line y0 y1 h, no_rows t y0 y1 h) (omega (arith, ints))
 
 flat_side : (t : Tile) (a b : Point) → a.y ≡ b.y → crossing_of t a b ≡ pos 0
 flat_side t a b e = crossing_none t a b (rw (← e) (no_row t a.y)) (rw (← e) (no_row t a.y))
 
 -- the winding of the corners: one where the tile is beyond the left line, less one where it is beyond the right line
-pub ring_winding : (z : Trapezoid) (t : Tile) → z.y0 <ℤ z.y1 → winding (ring_of (corners_of z)) t ≡ pos (count_one (is_beyond t z.left z.y0 z.y1)) -ℤ pos (count_one (is_beyond t z.right z.y0 z.y1))
+pub ring_winding : (z : Trapezoid) (t : Tile) → z.y0 <ℤ z.y1
+    → winding (ring_of (corners_of z)) t ≡ pos (count_one (is_beyond t z.left z.y0 z.y1)) -ℤ pos
+    (count_one (is_beyond t z.right z.y0 z.y1))
 ring_winding z t h =
     omega (
       arith,
@@ -118,7 +122,8 @@ same_by true true false true z t ep eq el er legal apart =
     absurd (omega (arith, ints, reached, short))
 
 -- a tile outside a legal trapezoid is beyond both its lines or beyond neither
-pub outside_same : (z : Trapezoid) (t : Tile) → IsLegal z → (IsInTrapezoid z t → ⊥) → count_one (is_beyond t z.left z.y0 z.y1) ≡ count_one (is_beyond t z.right z.y0 z.y1)
+pub outside_same : (z : Trapezoid) (t : Tile) → IsLegal z → (IsInTrapezoid z t → ⊥)
+    → count_one (is_beyond t z.left z.y0 z.y1) ≡ count_one (is_beyond t z.right z.y0 z.y1)
 outside_same z t legal apart = same_by _ _ _ _ z t refl refl refl refl legal apart
 
 pub inside_left : (z : Trapezoid) (t : Tile) → IsInTrapezoid z t → is_beyond t z.left z.y0 z.y1 ≡ true
@@ -158,5 +163,6 @@ quad_of_shot z h = record {
 
 pub corners_at : (z : Trapezoid) (bottom top bottom_left top_left top_right bottom_right : ℤ) → bottom ≡ z.y0 → top ≡ z.y1
     → bottom_left ≡ x_on z.left z.y0 → top_left ≡ x_on z.left z.y1 → top_right ≡ x_on z.right z.y1 → bottom_right ≡ x_on z.right z.y0
-    → corners (record { x = bottom_left; y = bottom }) (record { x = top_left; y = top }) (record { x = top_right; y = top }) (record { x = bottom_right; y = bottom }) ≡ corners_of z
+    → corners (record { x = bottom_left; y = bottom }) (record { x = top_left; y = top })
+    (record { x = top_right; y = top }) (record { x = bottom_right; y = bottom }) ≡ corners_of z
 corners_at z bottom top bottom_left top_left top_right bottom_right e0 e1 e2 e3 e4 e5 = rw (e0, e1, e2, e3, e4, e5) refl

@@ -11,7 +11,9 @@ bottom_side y0 y1 left right h = record { left_end = h.reach.bottom_left; right_
 pub top_side : (y0 y1 : ℤ) (left right : Line) → IsShot (trapezoid y0 y1 left right) → IsSide left right y1
 top_side y0 y1 left right h = record { left_end = h.reach.top_left; right_end = h.reach.top_right; not_negative = h.legal.top }
 
-pub shot_of_sides : (y0 y1 : ℤ) (left right : Line) → IsWithinReach y0 → IsWithinReach y1 → y0 <ℤ y1 → IsSide left right y0 → IsSide left right y1 → pos 0 <ℤ (side_length left right y0 +ℤ side_length left right y1) → IsShot (trapezoid y0 y1 left right)
+pub shot_of_sides : (y0 y1 : ℤ) (left right : Line) → IsWithinReach y0 → IsWithinReach y1 → y0 <ℤ y1
+    → IsSide left right y0 → IsSide left right y1 → pos 0 <ℤ (side_length left right y0 +ℤ side_length left right y1)
+    → IsShot (trapezoid y0 y1 left right)
 shot_of_sides y0 y1 left right r0 r1 rows bottom top area = record {
   legal = record { has_rows = rows; bottom = bottom.not_negative; top = top.not_negative; not_flat = area };
   reach = record { y0 = r0; y1 = r1; bottom_left = bottom.left_end; bottom_right = bottom.right_end; top_left = top.left_end; top_right = top.right_end };

@@ -1,5 +1,7 @@
 -- A list of a trapezoid's tiles, row by row, and its length.
-use Rattle.std.proofs.Common.{◌≡◌, ℕ, suc, zero, ◌+◌, Bool, true, false, ◌&&◌, ℤ, pos, negsuc, ◌+ℤ◌, ◌-ℤ◌, ◌*ℤ◌, ◌≤ℤ◌, ◌<ℤ◌, arith, refl, ap, ◌∙◌, sym, List, [], ◌∷◌, ◌++◌, count_by, length, length-append, if◌then◌else◌}
+use Rattle.std.proofs.Common.{◌≡◌, ℕ, suc, zero, ◌+◌, Bool, true, false, ◌&&◌, ℤ, pos, negsuc, ◌+ℤ◌, ◌-ℤ◌, ◌*ℤ◌, ◌≤ℤ◌}
+use Rattle.std.proofs.Common.{◌<ℤ◌, arith, refl, ap, ◌∙◌, sym, List, [], ◌∷◌, ◌++◌, count_by, length, length-append}
+use Rattle.std.proofs.Common.{if◌then◌else◌}
 use Rattle.std.proofs.lemmas.Int.{ints}
 use Rattle.std.proofs.lemmas.List.Sums.{sum_by-append}
 use Rattle.std.proofs.Math.IntN.{zero-*ℤ, suc_ℤ-*ℤ}
@@ -78,7 +80,9 @@ other_side Right = Left
 abbrev next_tile : Tile → Tile
 next_tile t = record { i = next_column t.i t.side; j = t.j; side = other_side t.side }
 
-next_by_side : (i j : ℤ) (side : Side) → number_in_row (next_tile (record { i = i; j = j; side = side })) ≡ number_in_row (record { i = i; j = j; side = side }) +ℤ pos 1
+next_by_side : (i j : ℤ) (side : Side)
+    → number_in_row (next_tile (record { i = i; j = j; side = side })) ≡ number_in_row
+    (record { i = i; j = j; side = side }) +ℤ pos 1
 next_by_side i j Left = omega (arith, ints)
 next_by_side i j Right = omega (arith, ints)
 
@@ -124,12 +128,14 @@ never_within true n a = rw (within_none n a) refl
 never_within false n a = refl
 
 -- how often a tile stands among them
-row_count : (t : Tile) (c : ℕ) (u : Tile) → count_by (is_tile t) (tiles_from c u) ≡ count_one (int_eq t.j u.j && is_within (number_in_row t) (number_in_row u) c)
+row_count : (t : Tile) (c : ℕ) (u : Tile) → count_by (is_tile t) (tiles_from c u) ≡ count_one
+    (int_eq t.j u.j && is_within (number_in_row t) (number_in_row u) c)
 row_count t zero u = never_within (int_eq t.j u.j) (number_in_row t) (number_in_row u)
 row_count t (suc c) u =
     let later = row_count t c (next_tile u) in
     let moved = rw (next_number u) at later in
-    count_by-cons (is_tile t) u (tiles_from c (next_tile u)) ∙ (rw (is_tile_by_number t u, moved) (row_step (int_eq t.j u.j) (number_in_row t) (number_in_row u) c))
+    count_by-cons (is_tile t) u (tiles_from c (next_tile u))
+    ∙ (rw (is_tile_by_number t u, moved) (row_step (int_eq t.j u.j) (number_in_row t) (number_in_row u) c))
 
 -- a number that isn't negative, as a natural
 abbrev pub natural : ℤ → ℕ
@@ -168,21 +174,27 @@ last_row : (n a b : ℤ) (c : ℕ) (p q : Bool) → a +ℤ pos c ≡ b → p ≡
 last_row n a b c p q e ep eq = rw (ep, eq, e) (omega arith)
 
 rows_step_by : (e : Bool) (t : Tile) (l r : Line) (y0 : ℤ) (k : ℕ) → InOrder l r y0 (suc k) → int_eq t.j (y0 +ℤ pos k) ≡ e
-    → count_one (e && is_within (number_in_row t) (place l (y0 +ℤ pos k)) (between l r (y0 +ℤ pos k))) + count_one (is_between t l r y0 k) ≡ count_one (is_between t l r y0 (suc k))
+    → count_one (e && is_within (number_in_row t) (place l (y0 +ℤ pos k)) (between l r (y0 +ℤ pos k))) + count_one
+    (is_between t l r y0 k) ≡ count_one (is_between t l r y0 (suc k))
 rows_step_by true t l r y0 k order e =
     let row : t.j ≡ y0 +ℤ pos k = int_eq_true _ _ e in
     let o : place l t.j ≤ℤ place r t.j = order t.j (omega (arith, ints, row)) (omega (arith, ints, row)) in
     let width : pos (between l r t.j) ≡ place r t.j -ℤ place l t.j = natural_is (place r t.j -ℤ place l t.j) (omega (arith, ints, o)) in
     let right : place l t.j +ℤ pos (between l r t.j) ≡ place r t.j = omega (arith, ints, width) in
     let below : (int_le y0 t.j && int_lt t.j t.j) ≡ false = rw (int_lt_no t.j t.j (omega (arith, ints))) (and_false (int_le y0 t.j)) in
-    let inside : is_within t.j y0 (suc k) ≡ true = rw (int_le_yes y0 t.j (omega (arith, ints, row)), int_lt_yes t.j (y0 +ℤ pos (suc k)) (omega (arith, ints, row))) refl in
+    let inside : is_within t.j y0 (suc k) ≡ true = rw (
+      int_le_yes y0 t.j (omega (arith, ints, row)),
+      int_lt_yes t.j (y0 +ℤ pos (suc k))
+          (omega (arith, ints, row)),
+    ) refl in
     rw (← row) (last_row (number_in_row t) (place l t.j) (place r t.j) (between l r t.j) _ _ right below inside)
 rows_step_by false t l r y0 k order e =
     let same : is_within t.j y0 k ≡ is_within t.j y0 (suc k) = row_apart t.j y0 k (int_eq_false _ _ e) in
     rw same (omega arith)
 
 rows_step : (t : Tile) (l r : Line) (y0 : ℤ) (k : ℕ) → InOrder l r y0 (suc k)
-    → count_one (int_eq t.j (y0 +ℤ pos k) && is_within (number_in_row t) (place l (y0 +ℤ pos k)) (between l r (y0 +ℤ pos k))) + count_one (is_between t l r y0 k) ≡ count_one (is_between t l r y0 (suc k))
+    → count_one (int_eq t.j (y0 +ℤ pos k) && is_within (number_in_row t) (place l (y0 +ℤ pos k))
+    (between l r (y0 +ℤ pos k))) + count_one (is_between t l r y0 k) ≡ count_one (is_between t l r y0 (suc k))
 rows_step t l r y0 k order = rows_step_by _ t l r y0 k order refl
 
 no_rows : (t : Tile) (l r : Line) (y0 : ℤ) → 0 ≡ count_one (is_between t l r y0 0)
@@ -234,7 +246,8 @@ gap_after l r y0 (suc k) =
     let e : y0 +ℤ pos (suc k) ≡ (y0 +ℤ pos k) +ℤ pos 1 = omega (arith, ints) in
     rw e (omega (arith, ints, lean_is l (y0 +ℤ pos k), lean_is r (y0 +ℤ pos k), gap_after l r y0 k))
 
-row_length : (l r : Line) (y0 : ℤ) (k : ℕ) → InOrder l r y0 (suc k) → pos (between l r (y0 +ℤ pos k)) ≡ gap l r (y0 +ℤ pos k) +ℤ gap l r ((y0 +ℤ pos k) +ℤ pos 1)
+row_length : (l r : Line) (y0 : ℤ) (k : ℕ) → InOrder l r y0 (suc k)
+    → pos (between l r (y0 +ℤ pos k)) ≡ gap l r (y0 +ℤ pos k) +ℤ gap l r ((y0 +ℤ pos k) +ℤ pos 1)
 row_length l r y0 k order =
     let o = order (y0 +ℤ pos k) (omega (arith, ints)) (omega (arith, ints)) in
     omega (arith, ints, natural_is (place r (y0 +ℤ pos k) -ℤ place l (y0 +ℤ pos k)) (omega (arith, ints, o)))
@@ -264,7 +277,14 @@ rows_length l r y0 (suc k) order =
 -- ---- a legal trapezoid
 
 inside_yes : (z : Trapezoid) (t : Tile) (k : ℕ) → z.y0 +ℤ pos k ≡ z.y1 → IsInTrapezoid z t → is_between t z.left z.right z.y0 k ≡ true
-inside_yes z t k e h = rw (e, int_le_yes _ _ h.above_bottom, int_lt_yes _ _ h.below_top, int_le_yes _ _ (place_at_most t z.left h.right_of_left), int_lt_yes _ _ (number_below t z.right h.left_of_right)) refl
+inside_yes z t k e h = rw (
+  e,
+  int_le_yes _ _ h.above_bottom,
+  int_lt_yes _ _ h.below_top,
+  int_le_yes _ _
+      (place_at_most t z.left h.right_of_left),
+  int_lt_yes _ _ (number_below t z.right h.left_of_right),
+) refl
 
 inside_back : (z : Trapezoid) (t : Tile) (k : ℕ) → z.y0 +ℤ pos k ≡ z.y1 → is_between t z.left z.right z.y0 k ≡ true → IsInTrapezoid z t
 inside_back z t k e h =
@@ -282,7 +302,8 @@ inside_back z t k e h =
 legal_in_order : (z : Trapezoid) (k : ℕ) → IsLegal z → z.y0 +ℤ pos k ≡ z.y1 → InOrder z.left z.right z.y0 k
 legal_in_order z k legal e = λ j a b. (let below = legal_places z j legal a (omega (arith, ints, b, e)) in omega (arith, ints, below))
 
-size_by : (z : Trapezoid) (n k : ℕ) → IsLegal z → z.y1 -ℤ z.y0 ≡ pos k → z.y0 +ℤ pos k ≡ z.y1 → pos n ≡ (z.y1 -ℤ z.y0) *ℤ (bottom_of z +ℤ top_of z) → IsNumberOfTiles z n
+size_by : (z : Trapezoid) (n k : ℕ) → IsLegal z → z.y1 -ℤ z.y0 ≡ pos k → z.y0 +ℤ pos k ≡ z.y1
+    → pos n ≡ (z.y1 -ℤ z.y0) *ℤ (bottom_of z +ℤ top_of z) → IsNumberOfTiles z n
 size_by z n k legal height top e =
     let order = legal_in_order z k legal top in
     let long = rw top at (rows_length z.left z.right z.y0 k order) in

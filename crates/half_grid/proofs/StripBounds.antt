@@ -11,25 +11,33 @@ use Rattle.half_grid.specs.declared.plane.Side.TheVariants.{Left, Right}
 use Rattle.half_grid.specs.declared.plane.Tile.{Tile}
 use Rattle.half_grid.proofs.Halves.{half_low, half_high, half_even, half_odd}
 
-sum_low : (b : Bool) (i j : ℤ) (side : Side) → is_even (i +ℤ j) ≡ b → 4 * up (sum_strip i j side) + down (number_at i side) + 2 * down j ≤ 4 * down (sum_strip i j side) + up (number_at i side) + 2 * up j + 1
+sum_low : (b : Bool) (i j : ℤ) (side : Side) → is_even (i +ℤ j) ≡ b
+    → 4 * up (sum_strip i j side) + down (number_at i side) + 2 * down j ≤ 4 * down (sum_strip i j side) + up
+    (number_at i side) + 2 * up j + 1
 sum_low true i j Left e = rw e (omega (arith, ints, half_even (i +ℤ j) e))
 sum_low false i j Left e = rw e (omega (arith, ints, half_low ((i +ℤ j) -ℤ pos 1)))
 sum_low true i j Right e = rw e (omega (arith, ints, half_even (i +ℤ j) e))
 sum_low false i j Right e = rw e (omega (arith, ints, half_low ((i +ℤ j) +ℤ pos 1)))
 
-sum_high : (b : Bool) (i j : ℤ) (side : Side) → is_even (i +ℤ j) ≡ b → up (number_at i side) + 2 * up j + 4 * down (sum_strip i j side) ≤ down (number_at i side) + 2 * down j + 4 * up (sum_strip i j side) + 2
+sum_high : (b : Bool) (i j : ℤ) (side : Side) → is_even (i +ℤ j) ≡ b
+    → up (number_at i side) + 2 * up j + 4 * down (sum_strip i j side) ≤ down (number_at i side) + 2 * down j + 4 * up
+    (sum_strip i j side) + 2
 sum_high true i j Left e = rw e (omega (arith, ints, half_even (i +ℤ j) e))
 sum_high false i j Left e = rw e (omega (arith, ints, half_odd (i +ℤ j) e, half_high ((i +ℤ j) -ℤ pos 1)))
 sum_high true i j Right e = rw e (omega (arith, ints, half_even (i +ℤ j) e))
 sum_high false i j Right e = rw e (omega (arith, ints, half_odd (i +ℤ j) e, half_high ((i +ℤ j) +ℤ pos 1)))
 
-difference_low : (b : Bool) (i j : ℤ) (side : Side) → is_even (i +ℤ j) ≡ b → 4 * up (difference_strip i j side) + down (number_at i side) + 2 * up j + 1 ≤ 4 * down (difference_strip i j side) + up (number_at i side) + 2 * down j
+difference_low : (b : Bool) (i j : ℤ) (side : Side) → is_even (i +ℤ j) ≡ b
+    → 4 * up (difference_strip i j side) + down (number_at i side) + 2 * up j + 1 ≤ 4 * down
+    (difference_strip i j side) + up (number_at i side) + 2 * down j
 difference_low true i j Left e = rw e (omega (arith, ints, half_low (i -ℤ j)))
 difference_low false i j Left e = rw e (omega (arith, ints, half_low ((i -ℤ j) -ℤ pos 1)))
 difference_low true i j Right e = rw e (omega (arith, ints, half_low (i -ℤ j)))
 difference_low false i j Right e = rw e (omega (arith, ints, half_low ((i -ℤ j) -ℤ pos 1)))
 
-difference_high : (b : Bool) (i j : ℤ) (side : Side) → is_even (i +ℤ j) ≡ b → up (number_at i side) + 2 * down j + 4 * down (difference_strip i j side) ≤ down (number_at i side) + 2 * up j + 4 * up (difference_strip i j side) + 4
+difference_high : (b : Bool) (i j : ℤ) (side : Side) → is_even (i +ℤ j) ≡ b
+    → up (number_at i side) + 2 * down j + 4 * down (difference_strip i j side) ≤ down (number_at i side) + 2 * up j
+    + 4 * up (difference_strip i j side) + 4
 difference_high true i j Left e = rw e (omega (arith, ints, half_even (i +ℤ j) e, half_high (i -ℤ j)))
 difference_high false i j Left e = rw e (omega (arith, ints, half_odd (i +ℤ j) e, half_high ((i -ℤ j) -ℤ pos 1)))
 difference_high true i j Right e = rw e (omega (arith, ints, half_even (i +ℤ j) e, half_high (i -ℤ j)))

@@ -44,7 +44,8 @@ split_sum a b c d e f h k = omega (arith, ints)
 -- The winding of a list is what its first edge adds and the winding of the rest.
 pub winding-cons : (t : Tile) (a b : Point) (points : List Point) → winding (a ∷ b ∷ points) t ≡ crossing_of t a b +ℤ winding (b ∷ points) t
 unfolding winding
-winding-cons t a b points = split_sum _ _ _ _ _ _ (count_by-cons (counts_up t) (a, b) (edges_of (b ∷ points))) (count_by-cons (counts_down t) (a, b) (edges_of (b ∷ points)))
+winding-cons t a b points = split_sum _ _ _ _ _ _ (count_by-cons (counts_up t) (a, b) (edges_of (b ∷ points)))
+    (count_by-cons (counts_down t) (a, b) (edges_of (b ∷ points)))
 
 -- The winding of a list is that along its points, from the first on.
 pub winding_along : (t : Tile) (a : Point) (points : List Point) → winding (a ∷ points) t ≡ winding_from t a points

@@ -20,7 +20,8 @@ NoneOutside = (o : Operand) (z : Trapezoid) (t : Tile) → IsLegal z → (IsInTr
 
 -- The edges of a list of trapezoids have at each tile the number of trapezoids that have it,
 abbrev pub WindingIsCount : Type 0
-WindingIsCount = (o : Operand) (traps : List Trapezoid) (t : Tile) → All IsLegal traps → edges_winding o (flat_map (edges_of_trapezoid o) traps) t ≡ pos (count_in traps t)
+WindingIsCount = (o : Operand) (traps : List Trapezoid) (t : Tile) → All IsLegal traps
+    → edges_winding o (flat_map (edges_of_trapezoid o) traps) t ≡ pos (count_in traps t)
 
 -- and count nothing for the other operand.
 abbrev pub OperandsApart : Type 0

@@ -160,7 +160,8 @@ module _ (laws : OasisLaws) (c : Content) (layout deck : List ℕ) where
       let same = one_content c deck 65536 h.bytes g.bytes h.holds g.holds in
       one_deck g.bytes layout deck d e (subst (λ bs. IsDeck bs layout deck d) same h.is_deck) g.is_deck
 
-  both_good : (d e : Deck) (x y : LayoutClass) → HoldsDeck c layout deck d × IsLayoutClass c layout d x → HoldsDeck c layout deck e × IsLayoutClass c layout e y → GoodDeck d x ≡ GoodDeck e y
+  both_good : (d e : Deck) (x y : LayoutClass) → HoldsDeck c layout deck d × IsLayoutClass c layout d x
+      → HoldsDeck c layout deck e × IsLayoutClass c layout e y → GoodDeck d x ≡ GoodDeck e y
   both_good d e x y h g =
       let same : d ≡ e = deck_deck d e h.0 g.0 in
       let class : x ≡ y = one_layout_class laws c layout e x y (subst (λ (f : Deck). IsLayoutClass c layout f x) same h.1) g.1 in

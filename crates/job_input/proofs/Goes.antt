@@ -53,4 +53,6 @@ pub given_for : (c m : Content) (layout deck : List ℕ) (d : Deck) (x : Found) 
     → HoldsLayout m layout d x.format x.tree.layout × IsTreeFor d x.tree × IsLayoutOnGrid x.tree.layout
     → HoldsInput c layout deck (record { deck = d; format = x.format; tree = x.tree }) × IsLayoutOnGrid x.tree.layout
 given_for c m layout deck d x holds left a =
-    given_here c layout deck d x holds (subst (λ (y : Content). HoldsLayout y layout d x.format x.tree.layout × IsTreeFor d x.tree × IsLayoutOnGrid x.tree.layout) left a)
+    given_here c layout deck d x holds
+    (subst (λ (y : Content). HoldsLayout y layout d x.format x.tree.layout × IsTreeFor d x.tree
+    × IsLayoutOnGrid x.tree.layout) left a)

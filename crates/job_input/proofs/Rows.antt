@@ -21,7 +21,8 @@ use Rattle.job_input.specs.declared.reading.Input.{Input}
 use Rattle.job_input.specs.declared.refusing.InputBad.TheVariants as answers
 use Rattle.job_input.specs.declared.refusing.DeckFault.TheVariants as deck_faults
 use Rattle.job_input.specs.declared.refusing.LayoutFault.TheVariants as layout_faults
-use Rattle.job_input.proofs.Causes.{LayoutClass, NoLayout, LongLayout, GdsFault, OasFault, GoodLayout, Class, NoDeck, LongDeck, BadDeck, GoodDeck, IsClass, OasisLaws, one_class, same_root}
+use Rattle.job_input.proofs.Causes.{LayoutClass, NoLayout, LongLayout, GdsFault, OasFault, GoodLayout, Class, NoDeck}
+use Rattle.job_input.proofs.Causes.{LongDeck, BadDeck, GoodDeck, IsClass, OasisLaws, one_class, same_root}
 
 -- ---- the tree
 
@@ -72,17 +73,35 @@ module _ (laws : OasisLaws) (c : Content) (read_rose : Type 0) (layout deck : Li
   Settled r = ((y : Class) × IsClass c layout deck y × Due y r) ⊎ Aside read_rose r
 
   settled : (r : Answer) → IsInputAnswer c read_rose layout deck r → Settled r
-  settled (Ok input) (h, grid) = inl (GoodDeck input.deck (GoodLayout input.format input.tree.layout), (h.holds_deck, h.holds_layout), (grid, inl (input.tree, refl, h.is_tree, refl)))
+  settled (Ok input) (h, grid) = inl (
+    GoodDeck input.deck (GoodLayout input.format input.tree.layout),
+    (h.holds_deck, h.holds_layout),
+    (grid, inl (input.tree, refl, h.is_tree, refl)),
+  )
   settled (Err (answers.Deck deck_faults.Long)) a = inl (LongDeck, a, refl)
   settled (Err (answers.Deck (deck_faults.Bad bad))) a = inl (BadDeck bad, a, refl)
   settled (Err (answers.Layout layout_faults.Long top)) a =
       inl (GoodDeck a.deck_is LongLayout, (a.holds_deck, a.long), ap (λ (t : List ℕ). Err (answers.Layout layout_faults.Long t)) a.top_is)
   settled (Err (answers.Layout (layout_faults.Gds bad) top)) a =
-      inl (GoodDeck a.deck_is (GdsFault bad), (a.holds_deck, (a.bytes, a.holds, a.fault)), ap (λ (t : List ℕ). Err (answers.Layout (layout_faults.Gds bad) t)) a.top_is)
+      inl (
+        GoodDeck a.deck_is (GdsFault bad),
+        (a.holds_deck, (a.bytes, a.holds, a.fault)),
+        ap
+            (λ (t : List ℕ). Err (answers.Layout (layout_faults.Gds bad) t)) a.top_is,
+      )
   settled (Err (answers.Layout (layout_faults.Oas bad) top)) a =
-      inl (GoodDeck a.deck_is (OasFault bad), (a.holds_deck, (a.bytes, a.holds, a.fault)), ap (λ (t : List ℕ). Err (answers.Layout (layout_faults.Oas bad) t)) a.top_is)
+      inl (
+        GoodDeck a.deck_is (OasFault bad),
+        (a.holds_deck, (a.bytes, a.holds, a.fault)),
+        ap
+            (λ (t : List ℕ). Err (answers.Layout (layout_faults.Oas bad) t)) a.top_is,
+      )
   settled (Err (answers.Layout (layout_faults.Tree bad) top)) (a, grid) =
-      inl (GoodDeck a.deck_is (GoodLayout a.format_is a.layout_is), (a.holds_deck, a.holds_layout), (grid, inr (bad, a.fault, ap (λ (t : List ℕ). Err (answers.Layout (layout_faults.Tree bad) t)) a.top_is)))
+      inl (
+        GoodDeck a.deck_is (GoodLayout a.format_is a.layout_is),
+        (a.holds_deck, a.holds_layout),
+        (grid, inr (bad, a.fault, ap (λ (t : List ℕ). Err (answers.Layout (layout_faults.Tree bad) t)) a.top_is)),
+      )
   settled (Err answers.ReadFault) (inl rose) = inr (inr (refl, rose))
   settled (Err answers.ReadFault) (inr (inl missing)) = inl (NoDeck, missing, refl)
   settled (Err answers.ReadFault) (inr (inr a)) = inl (GoodDeck a.deck_is NoLayout, (a.holds_deck, a.missing), refl)
@@ -113,22 +132,30 @@ module _ (laws : OasisLaws) (c : Content) (read_rose : Type 0) (layout deck : Li
     pub layout_long : (top : List ℕ) → ComesExactlyWhere read_rose r (Err (answers.Layout layout_faults.Long top)) (IsLongLayout c layout deck top)
     layout_long top = record {
       only = λ e. told (Err (answers.Layout layout_faults.Long top)) e;
-      whenever = λ h. named (λ t. Err (answers.Layout layout_faults.Long t)) h.deck_is.top top h.top_is (due (GoodDeck h.deck_is LongLayout) (h.holds_deck, h.long));
+      whenever = λ h. named (λ t. Err (answers.Layout layout_faults.Long t)) h.deck_is.top top h.top_is
+          (due (GoodDeck h.deck_is LongLayout) (h.holds_deck, h.long));
     }
 
-    pub layout_gds : (bad : GdsBad) (top : List ℕ) → ComesExactlyWhere read_rose r (Err (answers.Layout (layout_faults.Gds bad) top)) (HoldsGdsFault c layout deck bad top)
+    pub layout_gds : (bad : GdsBad) (top : List ℕ)
+        → ComesExactlyWhere read_rose r (Err (answers.Layout (layout_faults.Gds bad) top))
+        (HoldsGdsFault c layout deck bad top)
     layout_gds bad top = record {
       only = λ e. told (Err (answers.Layout (layout_faults.Gds bad) top)) e;
-      whenever = λ h. named (λ t. Err (answers.Layout (layout_faults.Gds bad) t)) h.deck_is.top top h.top_is (due (GoodDeck h.deck_is (GdsFault bad)) (h.holds_deck, (h.bytes, h.holds, h.fault)));
+      whenever = λ h. named (λ t. Err (answers.Layout (layout_faults.Gds bad) t)) h.deck_is.top top h.top_is
+          (due (GoodDeck h.deck_is (GdsFault bad)) (h.holds_deck, (h.bytes, h.holds, h.fault)));
     }
 
-    pub layout_oas : (bad : OasBad) (top : List ℕ) → ComesExactlyWhere read_rose r (Err (answers.Layout (layout_faults.Oas bad) top)) (HoldsOasFault c layout deck bad top)
+    pub layout_oas : (bad : OasBad) (top : List ℕ)
+        → ComesExactlyWhere read_rose r (Err (answers.Layout (layout_faults.Oas bad) top))
+        (HoldsOasFault c layout deck bad top)
     layout_oas bad top = record {
       only = λ e. told (Err (answers.Layout (layout_faults.Oas bad) top)) e;
-      whenever = λ h. named (λ t. Err (answers.Layout (layout_faults.Oas bad) t)) h.deck_is.top top h.top_is (due (GoodDeck h.deck_is (OasFault bad)) (h.holds_deck, (h.bytes, h.holds, h.fault)));
+      whenever = λ h. named (λ t. Err (answers.Layout (layout_faults.Oas bad) t)) h.deck_is.top top h.top_is
+          (due (GoodDeck h.deck_is (OasFault bad)) (h.holds_deck, (h.bytes, h.holds, h.fault)));
     }
 
-    of_kind : (d : Deck) (f : Format) (l : Layout) (bad : TreeBad) (top : List ℕ) → top ≡ d.top → IsTreeFaultFor d l bad → DueTree d f l r ⊎ Aside read_rose r → IsOfKind bad top r ⊎ Aside read_rose r
+    of_kind : (d : Deck) (f : Format) (l : Layout) (bad : TreeBad) (top : List ℕ) → top ≡ d.top
+        → IsTreeFaultFor d l bad → DueTree d f l r ⊎ Aside read_rose r → IsOfKind bad top r ⊎ Aside read_rose r
     of_kind d f l bad top same fault (inl (grid, inl (t, of, tree, e))) =
         absurd (no_tree_fault d t bad (subst IsLayoutOnGrid (sym of) grid) tree (subst (λ (m : Layout). IsTreeFaultFor d m bad) (sym of) fault))
     of_kind d f l bad top same fault (inl (grid, inr (other, there, e))) = inl (record {
@@ -141,10 +168,12 @@ module _ (laws : OasisLaws) (c : Content) (read_rose : Type 0) (layout deck : Li
     pub layout_tree : (bad : TreeBad) (top : List ℕ) → ComesByKind read_rose r bad top (HoldsTreeFault c layout deck bad top)
     layout_tree bad top = record {
       only = λ e. (told (Err (answers.Layout (layout_faults.Tree bad) top)) e).0;
-      whenever = λ h. of_kind h.deck_is h.format_is h.layout_is bad top h.top_is h.fault (due (GoodDeck h.deck_is (GoodLayout h.format_is h.layout_is)) (h.holds_deck, h.holds_layout));
+      whenever = λ h. of_kind h.deck_is h.format_is h.layout_is bad top h.top_is h.fault
+          (due (GoodDeck h.deck_is (GoodLayout h.format_is h.layout_is)) (h.holds_deck, h.holds_layout));
     }
 
-    given_by : (input : Input) → HoldsInput c layout deck input → DueTree input.deck input.format input.tree.layout r ⊎ Aside read_rose r → (r ≡ Ok input) ⊎ Aside read_rose r
+    given_by : (input : Input) → HoldsInput c layout deck input → DueTree input.deck input.format input.tree.layout r
+        ⊎ Aside read_rose r → (r ≡ Ok input) ⊎ Aside read_rose r
     given_by input h (inl (grid, inl (t, of, tree, e))) =
         inl (e ∙ ap (λ (u : Rooted). Ok (record { deck = input.deck; format = input.format; tree = u })) (same_root input.deck t input.tree of tree h.is_tree))
     given_by input h (inl (grid, inr (bad, fault, e))) = absurd (no_tree_fault input.deck input.tree bad grid h.is_tree fault)

@@ -28,7 +28,8 @@ oas_told d bytes bad answer (inr (some, e)) oasis fault =
     subst (λ (a : LayoutBad). IsLayoutTold d bytes Oasis (Err a)) (sym e)
     (record { is_format = oasis; fault = fault (λ (same : bad ≡ OasWanting). some (subst IsWantingOas (sym same) tt)) })
 
-tree_fault : (d : Deck) (l : Layout) (bad : TreeBad) (n : Option ℕ) → cell_number l.cells d.top ≡ n → bad ≢ Wanting → (cell_number l.cells d.top ≡ None → bad ≡ NoTop)
+tree_fault : (d : Deck) (l : Layout) (bad : TreeBad) (n : Option ℕ) → cell_number l.cells d.top ≡ n → bad ≢ Wanting
+    → (cell_number l.cells d.top ≡ None → bad ≡ NoTop)
     → ((m : ℕ) → cell_number l.cells d.top ≡ Some m → IsFirstFault l.cells m bad) → IsTreeFaultFor d l bad
 tree_fault d l bad None e some none fault = let same = none e in inl (same, e)
 tree_fault d l bad (Some m) e some none fault = inr (m, e, some, fault m e)
@@ -39,4 +40,5 @@ pub root_told : (d : Deck) (l : Layout) (bad : TreeBad) (answer : LayoutBad)
     → (cell_number l.cells d.top ≡ None → bad ≡ NoTop) → ((m : ℕ) → cell_number l.cells d.top ≡ Some m → IsFirstFault l.cells m bad)
     → IsRootTold d l (Err answer)
 root_told d l bad answer (inl (wanting, e)) none fault = subst (λ (a : LayoutBad). IsRootTold d l (Err a)) (sym e) tt
-root_told d l bad answer (inr (some, e)) none fault = subst (λ (a : LayoutBad). IsRootTold d l (Err a)) (sym e) (tree_fault d l bad (cell_number l.cells d.top) refl some none fault)
+root_told d l bad answer (inr (some, e)) none fault = subst (λ (a : LayoutBad). IsRootTold d l (Err a)) (sym e)
+    (tree_fault d l bad (cell_number l.cells d.top) refl some none fault)

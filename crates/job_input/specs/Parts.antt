@@ -8,7 +8,8 @@ use Rattle.cell_tree.specs.Trees.{Rooted}
 use Rattle.deck_text.specs.Decks.{IsDeck, IsFirstFault}
 use Rattle.deck_text.specs.declared.deck.Deck.{Deck}
 use Rattle.job_input.specs.Accepted.{Holds, HoldsDeck, IsLayoutFor, HoldsLayout, IsTreeFor, HoldsInput}
-use Rattle.job_input.specs.Refused.{HoldsDeckFault, IsLongLayout, IsGdsFaultFor, HoldsGdsFault, IsOasFaultFor, HoldsOasFault, IsTreeFaultFor, HoldsTreeFault, IsWanting}
+use Rattle.job_input.specs.Refused.{HoldsDeckFault, IsLongLayout, IsGdsFaultFor, HoldsGdsFault, IsOasFaultFor}
+use Rattle.job_input.specs.Refused.{HoldsOasFault, IsTreeFaultFor, HoldsTreeFault, IsWanting}
 use Rattle.job_input.specs.Clauses.{Answer, IsWantingOas}
 use Rattle.job_input.specs.declared.formats.Format.{Format}
 use Rattle.job_input.specs.declared.layouts.Found.{Found}

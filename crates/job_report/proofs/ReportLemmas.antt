@@ -25,8 +25,17 @@ first f rest = simp append_assoc
 
 -- the first line and seven lines of numbers, in pieces and in lines
 lines_of : (f a b c d e g h : List ℕ)
-    → codes "format " ++ (f ++ (codes "\ncells " ++ (a ++ (codes "\nkept " ++ (b ++ (codes "\nother " ++ (c ++ (codes "\ntexts " ++ (d ++ (codes "\nnodes " ++ (e ++ (codes "\nboxes " ++ (g ++ (codes "\nproperties " ++ (h ++ (codes "\n" ++ []))))))))))))))))
-    ≡ codes "format " ++ f ++ codes "\n" ++ (codes "cells" ++ codes " " ++ a ++ codes "\n") ++ (codes "kept" ++ codes " " ++ b ++ codes "\n") ++ (codes "other" ++ codes " " ++ c ++ codes "\n") ++ (codes "texts" ++ codes " " ++ d ++ codes "\n") ++ (codes "nodes" ++ codes " " ++ e ++ codes "\n") ++ (codes "boxes" ++ codes " " ++ g ++ codes "\n") ++ (codes "properties" ++ codes " " ++ h ++ codes "\n")
+    → codes "format " ++ (f
+    ++ (codes "\ncells "
+    ++ (a ++ (codes "\nkept "
+    ++ (b ++ (codes "\nother "
+    ++ (c ++ (codes "\ntexts "
+    ++ (d ++ (codes "\nnodes "
+    ++ (e ++ (codes "\nboxes " ++ (g ++ (codes "\nproperties " ++ (h ++ (codes "\n" ++ []))))))))))))))))
+    ≡ codes "format " ++ f ++ codes "\n" ++ (codes "cells" ++ codes " " ++ a ++ codes "\n")
+    ++ (codes "kept" ++ codes " " ++ b ++ codes "\n") ++ (codes "other" ++ codes " " ++ c ++ codes "\n")
+    ++ (codes "texts" ++ codes " " ++ d ++ codes "\n") ++ (codes "nodes" ++ codes " " ++ e ++ codes "\n")
+    ++ (codes "boxes" ++ codes " " ++ g ++ codes "\n") ++ (codes "properties" ++ codes " " ++ h ++ codes "\n")
 lines_of f a b c d e g h =
     let s0 = codes "format " ++ f ++ codes "\n" in
     let s1 = s0 ++ line (codes "cells") a in
@@ -42,21 +51,33 @@ lines_of f a b c d e g h =
     let r3 = put (codes "other") c r4 in
     let r2 = put (codes "kept") b r3 in
     let r1 = put (codes "cells") a r2 in
-    sym (sym (append-nil (s6 ++ line (codes "properties") h)) ∙ step s6 (codes "properties") h [] ∙ step s5 (codes "boxes") g r7 ∙ step s4 (codes "nodes") e r6 ∙ step s3 (codes "texts") d r5 ∙ step s2 (codes "other") c r4 ∙ step s1 (codes "kept") b r3 ∙ step s0 (codes "cells") a r2 ∙ first f r1)
+    sym (sym (append-nil (s6 ++ line (codes "properties") h)) ∙ step s6 (codes "properties") h [] ∙ step s5
+    (codes "boxes") g r7 ∙ step s4 (codes "nodes") e r6 ∙ step s3 (codes "texts") d r5 ∙ step s2
+    (codes "other") c r4 ∙ step s1 (codes "kept") b r3 ∙ step s0 (codes "cells") a r2 ∙ first f r1)
 
 abbrev pub layout_spelled : List ℕ → ℕ → ℕ → ℕ → ℕ → ℕ → ℕ → ℕ → List ℕ
 layout_spelled f a b c d e g h =
-    codes "format " ++ (f ++ (codes "\ncells " ++ (decimal a ++ (codes "\nkept " ++ (decimal b ++ (codes "\nother " ++ (decimal c ++ (codes "\ntexts " ++ (decimal d ++ (codes "\nnodes " ++ (decimal e ++ (codes "\nboxes " ++ (decimal g ++ (codes "\nproperties " ++ (decimal h ++ (codes "\n" ++ []))))))))))))))))
+    codes "format " ++ (f
+    ++ (codes "\ncells "
+    ++ (decimal a ++ (codes "\nkept "
+    ++ (decimal b ++ (codes "\nother "
+    ++ (decimal c ++ (codes "\ntexts "
+    ++ (decimal d ++ (codes "\nnodes "
+    ++ (decimal e ++ (codes "\nboxes "
+    ++ (decimal g ++ (codes "\nproperties " ++ (decimal h ++ (codes "\n" ++ []))))))))))))))))
 
 pub layout_is : (format : Format) (cells : ℕ) (counts : Counts) (f : List ℕ) (kept other texts nodes boxes properties : ℕ) → f ≡ format_name format
     → kept ≡ counts.kept → other ≡ counts.other → texts ≡ counts.texts → nodes ≡ counts.nodes → boxes ≡ counts.boxes → properties ≡ counts.properties
     → layout_spelled f cells kept other texts nodes boxes properties ≡ layout_lines format cells counts
 unfolding layout_lines
 layout_is format cells counts f kept other texts nodes boxes properties ef e₁ e₂ e₃ e₄ e₅ e₆ =
-    rw (ef, e₁, e₂, e₃, e₄, e₅, e₆) (lines_of (format_name format) (decimal cells) (decimal counts.kept) (decimal counts.other) (decimal counts.texts) (decimal counts.nodes) (decimal counts.boxes) (decimal counts.properties))
+    rw (ef, e₁, e₂, e₃, e₄, e₅, e₆)
+    (lines_of (format_name format) (decimal cells) (decimal counts.kept) (decimal counts.other)
+    (decimal counts.texts) (decimal counts.nodes) (decimal counts.boxes) (decimal counts.properties))
 
 -- the report, behind what a buffer had
-pub report_is : (format : Format) (cells : ℕ) (counts : Counts) (word : List ℕ) (outputs : List Output) (sums : List Sums) (none head : List ℕ) → none ≡ [] → head ≡ layout_lines format cells counts
+pub report_is : (format : Format) (cells : ℕ) (counts : Counts) (word : List ℕ) (outputs : List Output)
+    (sums : List Sums) (none head : List ℕ) → none ≡ [] → head ≡ layout_lines format cells counts
     → (none ++ head) ++ flat_map (output_line word) (zip outputs sums) ≡ report format cells counts word outputs sums
 unfolding report
 report_is format cells counts word outputs sums none head e h = rw (e, h) refl

@@ -1,5 +1,6 @@
 -- Two words and three, as texts, and the first of some.
-use Rattle.std.proofs.Common.{◌≡◌, ◌≢◌, ◌↔◌, ◌++◌, IsTrue, Option, Some, None, Bor, subst, ℕ, List, [], ◌∷◌, length, get_or, refl, arith, sym, ap, ◌∙◌, false, nat_eq}
+use Rattle.std.proofs.Common.{◌≡◌, ◌≢◌, ◌↔◌, ◌++◌, IsTrue, Option, Some, None, Bor, subst, ℕ, List, [], ◌∷◌, length}
+use Rattle.std.proofs.Common.{get_or, refl, arith, sym, ap, ◌∙◌, false, nat_eq}
 use Rattle.std.proofs.lemmas.List.{append_cancel_left}
 use Rattle.std.specs.Option.{MatchOption}
 use Rattle.std.specs.Cmp.Lexicographic.{pointwise, bytes_decides}
@@ -20,7 +21,8 @@ three_texts (a ∷ b ∷ c ∷ []) x y z n ex ey ez =
     rw (px, py, pz) refl
 three_texts (a ∷ b ∷ c ∷ d ∷ rest) x y z n ex ey ez = absurd (omega (arith, n))
 
-pub four_texts : (words : List (String Global)) (v x y z : String Global) → length words ≡ 4 → v ≡ get_or words 0 v → x ≡ get_or words 1 x → y ≡ get_or words 2 y → z ≡ get_or words 3 z
+pub four_texts : (words : List (String Global)) (v x y z : String Global) → length words ≡ 4 → v ≡ get_or words 0 v
+    → x ≡ get_or words 1 x → y ≡ get_or words 2 y → z ≡ get_or words 3 z
     → texts words ≡ string_bytes v ∷ string_bytes x ∷ string_bytes y ∷ string_bytes z ∷ []
 four_texts [] v x y z n ev ex ey ez = absurd (omega (arith, n))
 four_texts (a ∷ []) v x y z n ev ex ey ez = absurd (omega (arith, n))
@@ -44,7 +46,8 @@ two_texts (a ∷ b ∷ []) x y n ex ey =
     rw (px, py) refl
 two_texts (a ∷ b ∷ c ∷ rest) x y n ex ey = absurd (omega (arith, n))
 
-pub first_text : (words : List (String Global)) (x : String Global) (w : List ℕ) (rest : List (List ℕ)) → x ≡ get_or words 0 x → texts words ≡ w ∷ rest → string_bytes x ≡ w
+pub first_text : (words : List (String Global)) (x : String Global) (w : List ℕ) (rest : List (List ℕ))
+    → x ≡ get_or words 0 x → texts words ≡ w ∷ rest → string_bytes x ≡ w
 first_text [] x w rest is e = let no : ⊥ = cc in absurd no
 first_text (a ∷ more) x w rest is e = ap (λ (y : String Global). string_bytes y) is ∙ ap (λ (t : List (List ℕ)). get_or t 0 []) e
 

@@ -5,7 +5,9 @@
 -- grid steps apart, and one more LEAF, flipped and turned by 90 degrees. So a short file has a large layout.
 use Rattle.std.specs.Prelude.{ℕ, pos, ◌+◌, ◌-◌, ◌*◌, ◌/◌, ◌%◌, neg_ℤ, List, [], ◌∷◌, ◌++◌, codes, zero, suc, ℤ}
 use Rattle.byteorder.specs.Endian.{big_bytes}
-use Rattle.gds_record.specs.declared.kinds.Kind.TheVariants.{Header, BgnLib, LibName, Units, EndLib, BgnStr, StrName, EndStr, Boundary, Path, Sref, Aref, Layer, DataType, Width, Xy, EndEl, Sname, ColRow, Strans, Angle, PathType}
+use Rattle.gds_record.specs.declared.kinds.Kind.TheVariants.{Header, BgnLib, LibName, Units, EndLib, BgnStr, StrName}
+use Rattle.gds_record.specs.declared.kinds.Kind.TheVariants.{EndStr, Boundary, Path, Sref, Aref, Layer, DataType, Width}
+use Rattle.gds_record.specs.declared.kinds.Kind.TheVariants.{Xy, EndEl, Sname, ColRow, Strans, Angle, PathType}
 use Rattle.layout_gen.specs.Streams.{record_of, points_bytes, wide_bytes, no_dates}
 
 -- the side of shape m, in grid steps

@@ -19,7 +19,8 @@ abbrev length_along : Direction → Stretch → ℤ
 length_along d s = (distance_along d s.from s.to +ℤ s.before) +ℤ s.after
 
 tiles_along : (s : Stretch) (d : Direction) → direction_of s.from s.to ≡ d → pos 0 <ℤ s.half → pos 0 <ℤ length_along d s → HasTiles (rectangle_along d s)
-tiles_along s Still e half long = let x = still_x s.from s.to e in record { columns = omega (arith, ints, half, long, x); rows = omega (arith, ints, half, long) }
+tiles_along s Still e half long = let x = still_x s.from s.to e in
+    record { columns = omega (arith, ints, half, long, x); rows = omega (arith, ints, half, long) }
 tiles_along s East e half long = record { columns = omega (arith, ints, half, long); rows = omega (arith, ints, half, long) }
 tiles_along s West e half long = record { columns = omega (arith, ints, half, long); rows = omega (arith, ints, half, long) }
 tiles_along s North e half long = record { columns = omega (arith, ints, half, long); rows = omega (arith, ints, half, long) }

@@ -1,5 +1,6 @@
 -- A walk along a path's points, as far as no move was diagonal or none went back, and the points that equal the first.
-use Rattle.std.proofs.Common.{◌≡◌, ◌<◌, ◌≤◌, ℕ, ◌+◌, zero, suc, below_more, true, false, List, [], ◌∷◌, length, get_or, drop, take, Some, None, slice_get, refl, ap, ◌∙◌, sym, subst, arith, inl, inr}
+use Rattle.std.proofs.Common.{◌≡◌, ◌<◌, ◌≤◌, ℕ, ◌+◌, zero, suc, below_more, true, false, List, [], ◌∷◌, length, get_or}
+use Rattle.std.proofs.Common.{drop, take, Some, None, slice_get, refl, ap, ◌∙◌, sym, subst, arith, inl, inr}
 use Rattle.std.proofs.lemmas.Bool.{cases_lt, both_ways}
 use Rattle.std.proofs.lemmas.List.Sums.{fold_more}
 use Rattle.std.specs.Prelude.{IsSomeAnd}
@@ -7,7 +8,9 @@ use Rattle.half_grid.specs.Winding.{edges_of}
 use Rattle.half_grid.specs.declared.plane.Point.{Point}
 use Rattle.layout_model.specs.declared.directions.Direction.{Direction}
 use Rattle.layout_model.specs.declared.directions.Direction.TheVariants.{Still}
-use Rattle.layout_model.specs.Paths.{direction_of, are_opposite, later, last_direction, moves, is_diagonal, IsDiagonalAt, HasNoDiagonal, IsFirstDiagonal, IsTurnBackAt, HasNoTurnBack, IsFirstTurnBack, HasNoLength, same_point}
+use Rattle.layout_model.specs.Paths.{direction_of, are_opposite, later, last_direction, moves, is_diagonal}
+use Rattle.layout_model.specs.Paths.{IsDiagonalAt, HasNoDiagonal, IsFirstDiagonal, IsTurnBackAt, HasNoTurnBack}
+use Rattle.layout_model.specs.Paths.{IsFirstTurnBack, HasNoLength, same_point}
 use Rattle.layout_model.proofs.DirectionLemmas.{same_is, same_self}
 use Rattle.layout_model.proofs.Cuts.{cut_at, get_at, get_past, HasNone, none_more}
 
@@ -24,7 +27,8 @@ pub record Straight (points : List Point) (at : Point) (rest : List Point) (numb
   pub edges : drop number (edges_of points) ≡ edges_of (at ∷ rest)
   pub none : HasNone (IsDiagonalAt points) number
 
-pub straight_more : (points : List Point) (a b : Point) (rest : List Point) (k : ℕ) → Straight points a (b ∷ rest) k → is_diagonal (a, b) ≡ false → Straight points b rest (k + 1)
+pub straight_more : (points : List Point) (a b : Point) (rest : List Point) (k : ℕ) → Straight points a (b ∷ rest) k
+    → is_diagonal (a, b) ≡ false → Straight points b rest (k + 1)
 straight_more points a b rest k p off =
     let at = get_at (edges_of points) k (a, b) (edges_of (b ∷ rest)) p.edges in
     record {
@@ -32,7 +36,8 @@ straight_more points a b rest k p off =
       none = none_more (IsDiagonalAt points) k p.none (rw at (λ on. absurd (let bad : ⊥ = cc in bad)));
     }
 
-pub straight_diagonal : (points : List Point) (a b : Point) (rest : List Point) (k : ℕ) → Straight points a (b ∷ rest) k → is_diagonal (a, b) ≡ true → IsFirstDiagonal points k
+pub straight_diagonal : (points : List Point) (a b : Point) (rest : List Point) (k : ℕ)
+    → Straight points a (b ∷ rest) k → is_diagonal (a, b) ≡ true → IsFirstDiagonal points k
 straight_diagonal points a b rest k p on =
     let at = get_at (edges_of points) k (a, b) (edges_of (b ∷ rest)) p.edges in
     record { here = rw at on; before = p.none }
@@ -91,13 +96,16 @@ get_either (x ∷ xs) (suc k) d e h = get_either xs k d e (omega (arith, h))
 abbrev pub AreSame : Point → List Point → ℕ → Type 0
 AreSame a rest number = (k : ℕ) → k < number → (other : Point) → get_or rest k other ≡ a
 
-pub same_more : (a : Point) (rest : List Point) (k : ℕ) (d : Point) → AreSame a rest k → k < length rest → same_point (get_or rest k d) a ≡ true → AreSame a rest (k + 1)
-same_more a rest k d all h s = below_more (λ j. (other : Point) → get_or rest j other ≡ a) k all (λ other. get_either rest k other d h ∙ same_is (get_or rest k d) a s)
+pub same_more : (a : Point) (rest : List Point) (k : ℕ) (d : Point) → AreSame a rest k → k < length rest
+    → same_point (get_or rest k d) a ≡ true → AreSame a rest (k + 1)
+same_more a rest k d all h s = below_more (λ j. (other : Point) → get_or rest j other ≡ a) k all
+    (λ other. get_either rest k other d h ∙ same_is (get_or rest k d) a s)
 
 pub same_all : (points : List Point) (a : Point) (rest : List Point) (k : ℕ) → points ≡ a ∷ rest → AreSame a rest k → length rest ≤ k → HasNoLength points
 same_all points a rest k e all h = subst HasNoLength (sym e) (λ j d low. all j (omega (arith, low, h)) d)
 
-pub same_not : (points : List Point) (a : Point) (rest : List Point) (k : ℕ) (d : Point) → points ≡ a ∷ rest → k < length rest → same_point (get_or rest k d) a ≡ false → HasNoLength points → ⊥
+pub same_not : (points : List Point) (a : Point) (rest : List Point) (k : ℕ) (d : Point) → points ≡ a ∷ rest
+    → k < length rest → same_point (get_or rest k d) a ≡ false → HasNoLength points → ⊥
 same_not points a rest k d e h s all =
     let equal : get_or rest k d ≡ a = (subst HasNoLength e all) k d h in
     let other = subst (λ q. same_point q a ≡ false) equal s in

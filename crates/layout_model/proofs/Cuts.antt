@@ -1,5 +1,6 @@
 -- Where a list is cut: what stands there, what comes after it, and what a walk along the list has passed.
-use Rattle.std.proofs.Common.{◌≡◌, ◌<◌, ◌≤◌, ℕ, ◌+◌, List, [], ◌∷◌, length, get_or, drop, arith, below_more, suc, zero, refl, inl, inr, Some, None, slice_get, ap, ◌∙◌}
+use Rattle.std.proofs.Common.{◌≡◌, ◌<◌, ◌≤◌, ℕ, ◌+◌, List, [], ◌∷◌, length, get_or, drop, arith, below_more, suc, zero}
+use Rattle.std.proofs.Common.{refl, inl, inr, Some, None, slice_get, ap, ◌∙◌}
 use Rattle.std.proofs.lemmas.Bool.{cases_lt}
 use Rattle.std.proofs.lemmas.Option.{slice_get-get_or}
 use Rattle.layout_model.specs.Paths.{IsFirst}

@@ -39,7 +39,8 @@ abbrev pub drawn : Pair → List Point → Bool → Stretch → Shape
 drawn pair offsets fixed s = rectangle_shape pair offsets fixed (rectangle_of s)
 
 -- what the walk has drawn, with what it will draw of the points that are left, is all; and its numbers are near 0
-pub record Drawn (pair : Pair) (offsets : List Point) (fixed : Bool) (b : Brush) (whole : List Stretch) (shapes : List Shape) (w : Walk) (rest : List Point) : Type 0 where
+pub record Drawn (pair : Pair) (offsets : List Point) (fixed : Bool) (b : Brush) (whole : List Stretch)
+    (shapes : List Shape) (w : Walk) (rest : List Point) : Type 0 where
   pub split : shapes ++ map (drawn pair offsets fixed) (walk_list b w rest) ≡ map (drawn pair offsets fixed) whole
   pub near : IsNearWalk w
   pub rest_near : All IsNearPoint rest
@@ -52,7 +53,8 @@ drawn_start pair offsets fixed b a rest hb near = record {
   rest_near = All-tail IsNearPoint a rest near;
 }
 
-pub drawn_turn : (pair : Pair) (offsets : List Point) (fixed : Bool) (b : Brush) (whole : List Stretch) (shapes : List Shape) (w : Walk) (p : Point) (rest : List Point)
+pub drawn_turn : (pair : Pair) (offsets : List Point) (fixed : Bool) (b : Brush) (whole : List Stretch)
+    (shapes : List Shape) (w : Walk) (p : Point) (rest : List Point)
     → IsNearBrush b → Drawn pair offsets fixed b whole shapes w (p ∷ rest) → turns_at w p ≡ true
     → Drawn pair offsets fixed b whole (shapes ++ drawn pair offsets fixed (stretch_of b b.half w) ∷ []) (walk_round b w p) rest
 drawn_turn pair offsets fixed b whole shapes w p rest hb d t = record {
@@ -63,7 +65,8 @@ drawn_turn pair offsets fixed b whole shapes w p rest hb d t = record {
   rest_near = All-tail IsNearPoint p rest d.rest_near;
 }
 
-pub drawn_on : (pair : Pair) (offsets : List Point) (fixed : Bool) (b : Brush) (whole : List Stretch) (shapes : List Shape) (w : Walk) (p : Point) (rest : List Point)
+pub drawn_on : (pair : Pair) (offsets : List Point) (fixed : Bool) (b : Brush) (whole : List Stretch)
+    (shapes : List Shape) (w : Walk) (p : Point) (rest : List Point)
     → Drawn pair offsets fixed b whole shapes w (p ∷ rest) → turns_at w p ≡ false → Drawn pair offsets fixed b whole shapes (walk_on w p) rest
 drawn_on pair offsets fixed b whole shapes w p rest d t = record {
   split = ap (λ (xs : List Stretch). shapes ++ map (drawn pair offsets fixed) xs) (sym (walk_straight b w p rest t)) ∙ d.split;
@@ -71,16 +74,21 @@ drawn_on pair offsets fixed b whole shapes w p rest d t = record {
   rest_near = All-tail IsNearPoint p rest d.rest_near;
 }
 
-pub drawn_as : (pair : Pair) (offsets : List Point) (fixed : Bool) (b : Brush) (whole : List Stretch) (shapes more : List Shape) (w v : Walk) (rest : List Point) → v ≡ w → more ≡ shapes
+pub drawn_as : (pair : Pair) (offsets : List Point) (fixed : Bool) (b : Brush) (whole : List Stretch)
+    (shapes more : List Shape) (w v : Walk) (rest : List Point) → v ≡ w → more ≡ shapes
     → Drawn pair offsets fixed b whole shapes w rest → Drawn pair offsets fixed b whole more v rest
 drawn_as pair offsets fixed b whole shapes more w v rest e h d = rw (e, h) d
 
-pub drawn_begin : (pair : Pair) (offsets : List Point) (fixed : Bool) (b : Brush) (points : List Point) (a : Point) (rest : List Point) (shapes : List Shape) (w : Walk)
-    → points ≡ a ∷ rest → shapes ≡ [] → w ≡ walk_from b a → IsNearBrush b → All IsNearPoint points → Drawn pair offsets fixed b (walk_list b w rest) shapes w rest
-drawn_begin pair offsets fixed b points a rest shapes w e es ew hb near = rw (ew, es) (drawn_start pair offsets fixed b a rest hb (subst (All IsNearPoint) e near))
+pub drawn_begin : (pair : Pair) (offsets : List Point) (fixed : Bool) (b : Brush) (points : List Point) (a : Point)
+    (rest : List Point) (shapes : List Shape) (w : Walk)
+    → points ≡ a ∷ rest → shapes ≡ [] → w ≡ walk_from b a → IsNearBrush b → All IsNearPoint points
+    → Drawn pair offsets fixed b (walk_list b w rest) shapes w rest
+drawn_begin pair offsets fixed b points a rest shapes w e es ew hb near = rw (ew, es)
+    (drawn_start pair offsets fixed b a rest hb (subst (All IsNearPoint) e near))
 
 -- the shapes of segments are those of their rectangles
-shapes_by : (pair : Pair) (offsets : List Point) (fixed : Bool) (s : List Stretch) → map (drawn pair offsets fixed) s ≡ map (rectangle_shape pair offsets fixed) (map rectangle_of s)
+shapes_by : (pair : Pair) (offsets : List Point) (fixed : Bool) (s : List Stretch)
+    → map (drawn pair offsets fixed) s ≡ map (rectangle_shape pair offsets fixed) (map rectangle_of s)
 shapes_by pair offsets fixed [] = refl
 shapes_by pair offsets fixed (x ∷ s) = ap (λ (xs : List Shape). drawn pair offsets fixed x ∷ xs) (shapes_by pair offsets fixed s)
 
@@ -90,7 +98,8 @@ drawn_whole : (pair : Pair) (offsets : List Point) (fixed : Bool) (b : Brush) (a
 drawn_whole pair offsets fixed b a rest shapes w long d =
     d.split ∙ ap (map (drawn pair offsets fixed)) (whole_walk b rest a long) ∙ shapes_by pair offsets fixed (stretches (a ∷ rest) b.half b.begin b.end)
 
-pub drawn_end : (pair : Pair) (offsets : List Point) (fixed : Bool) (b : Brush) (points : List Point) (a : Point) (rest : List Point) (shapes : List Shape) (w : Walk)
+pub drawn_end : (pair : Pair) (offsets : List Point) (fixed : Bool) (b : Brush) (points : List Point) (a : Point)
+    (rest : List Point) (shapes : List Shape) (w : Walk)
     → points ≡ a ∷ rest → (HasNoLength points → ⊥) → Drawn pair offsets fixed b (walk_list b (walk_from b a) rest) shapes w []
     → shapes ++ drawn pair offsets fixed (stretch_of b b.end w) ∷ [] ≡ map (rectangle_shape pair offsets fixed) (rectangles points b.half b.begin b.end)
 drawn_end pair offsets fixed b points a rest shapes w e long d =

@@ -1,5 +1,6 @@
 -- The first and the last segment, as a walk finds them.
-use Rattle.std.proofs.Common.{◌≡◌, ◌-◌, true, false, List, [], ◌∷◌, ◌++◌, length, Option, Some, unwrap_or, slice_get, refl, ap, ◌∙◌, sym, arith, append_assoc, length-append}
+use Rattle.std.proofs.Common.{◌≡◌, ◌-◌, true, false, List, [], ◌∷◌, ◌++◌, length, Option, Some, unwrap_or, slice_get}
+use Rattle.std.proofs.Common.{refl, ap, ◌∙◌, sym, arith, append_assoc, length-append}
 use Rattle.half_grid.specs.declared.plane.Point.{Point}
 use Rattle.layout_model.specs.declared.stretches.Stretch.{Stretch}
 use Rattle.layout_model.specs.declared.stretches.Brush.{Brush}
@@ -13,11 +14,13 @@ pub record Ended (brush : Brush) (whole : List Stretch) (walk : Walk) (first : O
   pub split : done ++ walk_list brush walk rest ≡ whole
   pub start : slice_get done 0 ≡ first
 
-first_of_more : (done : List Stretch) (first : Option Stretch) (s : Stretch) (more : List Stretch) → slice_get done 0 ≡ first → slice_get (done ++ s ∷ more) 0 ≡ Some (unwrap_or first s)
+first_of_more : (done : List Stretch) (first : Option Stretch) (s : Stretch) (more : List Stretch)
+    → slice_get done 0 ≡ first → slice_get (done ++ s ∷ more) 0 ≡ Some (unwrap_or first s)
 first_of_more [] first s more e = rw (← e) refl
 first_of_more (d ∷ done) first s more e = rw (← e) refl
 
-pub ended_turn : (b : Brush) (whole : List Stretch) (w : Walk) (first : Option Stretch) (p : Point) (rest : List Point) → Ended b whole w first (p ∷ rest) → turns_at w p ≡ true
+pub ended_turn : (b : Brush) (whole : List Stretch) (w : Walk) (first : Option Stretch) (p : Point) (rest : List Point)
+    → Ended b whole w first (p ∷ rest) → turns_at w p ≡ true
     → Ended b whole (walk_round b w p) (Some (unwrap_or first (stretch_of b b.half w))) rest
 ended_turn b whole w first p rest e t = record {
   done = e.done ++ stretch_of b b.half w ∷ [];
@@ -27,7 +30,8 @@ ended_turn b whole w first p rest e t = record {
   start = first_of_more e.done first (stretch_of b b.half w) [] e.start;
 }
 
-pub ended_on : (b : Brush) (whole : List Stretch) (w : Walk) (first : Option Stretch) (p : Point) (rest : List Point) → Ended b whole w first (p ∷ rest) → turns_at w p ≡ false
+pub ended_on : (b : Brush) (whole : List Stretch) (w : Walk) (first : Option Stretch) (p : Point) (rest : List Point)
+    → Ended b whole w first (p ∷ rest) → turns_at w p ≡ false
     → Ended b whole (walk_on w p) first rest
 ended_on b whole w first p rest e t = record {
   done = e.done;
@@ -35,7 +39,8 @@ ended_on b whole w first p rest e t = record {
   start = e.start;
 }
 
-pub ended_first : (b : Brush) (whole : List Stretch) (w : Walk) (first : Option Stretch) → Ended b whole w first [] → slice_get whole 0 ≡ Some (unwrap_or first (stretch_of b b.end w))
+pub ended_first : (b : Brush) (whole : List Stretch) (w : Walk) (first : Option Stretch) → Ended b whole w first []
+    → slice_get whole 0 ≡ Some (unwrap_or first (stretch_of b b.end w))
 ended_first b whole w first e = rw (← e.split) (first_of_more e.done first (stretch_of b b.end w) [] e.start)
 
 last_of_more : (done : List Stretch) (s : Stretch) → slice_get (done ++ s ∷ []) (length done) ≡ Some s
@@ -45,8 +50,10 @@ last_of_more (d ∷ done) s = last_of_more done s
 last_number : (done : List Stretch) (s : Stretch) → length (done ++ s ∷ []) - 1 ≡ length done
 last_number done s = omega (arith, length-append done (s ∷ []))
 
-pub ended_last : (b : Brush) (whole : List Stretch) (w : Walk) (first : Option Stretch) → Ended b whole w first [] → slice_get whole (length whole - 1) ≡ Some (stretch_of b b.end w)
+pub ended_last : (b : Brush) (whole : List Stretch) (w : Walk) (first : Option Stretch) → Ended b whole w first []
+    → slice_get whole (length whole - 1) ≡ Some (stretch_of b b.end w)
 ended_last b whole w first e = rw (← e.split, last_number e.done (stretch_of b b.end w)) (last_of_more e.done (stretch_of b b.end w))
 
-pub ended_as : (b : Brush) (whole : List Stretch) (w v : Walk) (f g : Option Stretch) (rest : List Point) → v ≡ w → g ≡ f → Ended b whole w f rest → Ended b whole v g rest
+pub ended_as : (b : Brush) (whole : List Stretch) (w v : Walk) (f g : Option Stretch) (rest : List Point) → v ≡ w
+    → g ≡ f → Ended b whole w f rest → Ended b whole v g rest
 ended_as b whole w v f g rest e h d = rw (e, h) d

@@ -1,5 +1,7 @@
 -- The least box of a grid's places and of a list of points.
-use Rattle.std.proofs.Common.{◌≡◌, ◌<◌, ◌≤◌, ◌+◌, ◌*◌, ◌/◌, ◌%◌, ℕ, ℤ, pos, negsuc, ◌+ℤ◌, ◌*ℤ◌, ◌≤ℤ◌, ◌<ℤ◌, List, [], ◌∷◌, All, Any, ◌∙◌, sym, subst, refl, ◌++◌, ◌⊎◌, inl, inr, int_lt, cond, true, false, arith}
+use Rattle.std.proofs.Common.{◌≡◌, ◌<◌, ◌≤◌, ◌+◌, ◌*◌, ◌/◌, ◌%◌, ℕ, ℤ, pos, negsuc, ◌+ℤ◌, ◌*ℤ◌, ◌≤ℤ◌, ◌<ℤ◌, List, []}
+use Rattle.std.proofs.Common.{◌∷◌, All, Any, ◌∙◌, sym, subst, refl, ◌++◌, ◌⊎◌, inl, inr, int_lt, cond, true, false}
+use Rattle.std.proofs.Common.{arith}
 use Rattle.std.proofs.Math.IntN.{pos-*ℤ-pos, pos-*ℤ-negsuc}
 use Rattle.std.proofs.Math.Nat.{mul-le-mul, mod-lt, div-lt_iff_lt-mul}
 use Rattle.std.proofs.lemmas.Int.{ints, clamps}
@@ -72,7 +74,8 @@ pub any_before : {X : Type 0} (P : X → Type 0) (xs : List X) (y : X) → Any P
 any_before P xs y (k, x, inside, at, p) = (k, x, grind (arith, common_steps), grind (arith, common_steps), p)
 
 -- a side on which some point lies, or the new one
-side_kept : (along : Point → ℤ) (xs : List Point) (p : Point) (old new : ℤ) → Any (λ q. along q ≡ old) xs → (new ≡ old) ⊎ (new ≡ along p) → Any (λ q. along q ≡ new) (xs ++ p ∷ [])
+side_kept : (along : Point → ℤ) (xs : List Point) (p : Point) (old new : ℤ) → Any (λ q. along q ≡ old) xs → (new ≡ old)
+    ⊎ (new ≡ along p) → Any (λ q. along q ≡ new) (xs ++ p ∷ [])
 side_kept along xs p old new some (inl e) = any_before (λ q. along q ≡ new) xs p (rw e some)
 side_kept along xs p old new some (inr e) = Any-push (λ q. along q ≡ new) xs p (sym e)
 

@@ -1,5 +1,6 @@
 -- Pairs in ascending order, and the search for one.
-use Rattle.std.proofs.Common.{inl, inr, ◌≡◌, ℕ, ◌+◌, ◌<◌, ◌≤◌, true, false, nat_eq, ◌&&◌, List, length, Result, Ok, Err, nat_cmp, is_lt, Less, Equal, Greater, get_or, sym, arith}
+use Rattle.std.proofs.Common.{inl, inr, ◌≡◌, ℕ, ◌+◌, ◌<◌, ◌≤◌, true, false, nat_eq, ◌&&◌, List, length, Result, Ok, Err}
+use Rattle.std.proofs.Common.{nat_cmp, is_lt, Less, Equal, Greater, get_or, sym, arith}
 use Rattle.std.specs.Ordering.{ordering_then, ordering_index}
 use Rattle.std.specs.Cmp.{nat_cmp_is}
 use Rattle.std.specs.declared.cmp.Ordering.{Ordering}

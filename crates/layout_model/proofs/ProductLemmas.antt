@@ -26,7 +26,8 @@ pub product_fits : (a : ℕ) (u : ℤ) → a < 2 ^ 32 → FitsSigned w64 u → F
 product_fits a u h f = fits_signed_from_abs w128 (pos a *ℤ u) (omega (arith, abs_of_product a u h f))
 
 -- what the code computes
-pub product_bits : (a : ℕ) (u : ℤ) → a < 2 ^ 32 → FitsSigned w64 u → to_z w128 (of_z w128 (to_z w128 a *ℤ to_z w128 (of_z w128 (to_z w64 (of_z w64 u))))) ≡ pos a *ℤ u
+pub product_bits : (a : ℕ) (u : ℤ) → a < 2 ^ 32 → FitsSigned w64 u
+    → to_z w128 (of_z w128 (to_z w128 a *ℤ to_z w128 (of_z w128 (to_z w64 (of_z w64 u))))) ≡ pos a *ℤ u
 product_bits a u h f =
     let wider : FitsSigned w128 u = fits_signed_from_abs w128 u (omega (arith, abs_of_fitting u f)) in
     rw (to_z-of_z w64 u f, to_z-of_z w128 u wider, to_z_pos w128 a (omega arith)) (to_z-of_z w128 (pos a *ℤ u) (product_fits a u h f))

@@ -51,7 +51,8 @@ west_level : (a b : Point) → direction_of a b ≡ West → IsAlongAxis (a, b) 
 west_level a b h (inl e) = let less = west_less a b h in absurd (omega (arith, ints, less, e))
 west_level a b h (inr e) = e
 
-axis_on : (a b c : Point) (d : Direction) → d ≢ Still → direction_of a b ≡ d → direction_of b c ≡ d → IsAlongAxis (a, b) → IsAlongAxis (b, c) → IsAlongAxis (a, c)
+axis_on : (a b c : Point) (d : Direction) → d ≢ Still → direction_of a b ≡ d → direction_of b c ≡ d
+    → IsAlongAxis (a, b) → IsAlongAxis (b, c) → IsAlongAxis (a, c)
 axis_on a b c Still n h k e f = absurd (n refl)
 axis_on a b c East n h k e f = inr (east_level a b h e ∙ east_level b c k f)
 axis_on a b c West n h k e f = inr (west_level a b h e ∙ west_level b c k f)
@@ -80,7 +81,8 @@ repeats_along a (p ∷ points) all =
     let rest = repeats_along p points (All-tail IsAlongAxis (a, p) (edges_of (p ∷ points)) all) in
     elim (cases_Bool (same_point a p)) [
       | inl s ↦ rw (s, same_is a p s) rest
-      | inr s ↦ rw s (All-cons IsAlongAxis (a, p) (edges_of (p ∷ without_repeats_after p points)) (All-head IsAlongAxis (a, p) (edges_of (p ∷ points)) all) rest)
+      | inr s ↦ rw s (All-cons IsAlongAxis (a, p) (edges_of (p ∷ without_repeats_after p points))
+          (All-head IsAlongAxis (a, p) (edges_of (p ∷ points)) all) rest)
     ]
 
 -- a property of edges that two edges of one direction hand on to the edge past both
@@ -88,7 +90,8 @@ abbrev HandsOn : (Point × Point → Type 0) → Type 0
 HandsOn P = (a b c : Point) → direction_of a b ≡ direction_of b c → P (a, b) → P (b, c) → P (a, c)
 
 module _ (P : Point × Point → Type 0) (on : HandsOn P) where
-  corners_keep : (from previous last : Point) (points : List Point) → direction_of from last ≡ direction_of previous last → P (from, last) → All P (edges_of (last ∷ points))
+  corners_keep : (from previous last : Point) (points : List Point)
+      → direction_of from last ≡ direction_of previous last → P (from, last) → All P (edges_of (last ∷ points))
       → All P (edges_of (from ∷ corners_after previous (last ∷ points)))
   corners_keep from previous last [] e p all = All-cons P (from, last) [] p (All-nil P)
   corners_keep from previous last (q ∷ points) e p all =

@@ -16,15 +16,18 @@ pub record Passed (points : List Point) (at : Point) (rest : List Point) (number
 one_more : (P : ℕ → Type 0) (n : ℕ) → ((k : ℕ) → k < n → P k) → P n → (k : ℕ) → k < n + 1 → P k
 one_more P n = below_more P n
 
-pub passed_more : (points : List Point) (a b : Point) (rest : List Point) (k : ℕ) → Passed points a (b ∷ rest) k → IsOnGrid (a, b) → Passed points b rest (k + 1)
+pub passed_more : (points : List Point) (a b : Point) (rest : List Point) (k : ℕ) → Passed points a (b ∷ rest) k
+    → IsOnGrid (a, b) → Passed points b rest (k + 1)
 passed_more points a b rest k p on =
     let c = cut_at (edges_of points) k (a, b) (edges_of (b ∷ rest)) p.edges in
     record {
       edges = let e : k + 1 ≡ suc k = omega arith in rw e c.rest;
-      on_grid = λ j d low high. one_more (λ i. IsOnGrid (get_or (edges_of points) i d)) k (λ i h. p.on_grid i d (omega arith) h) (subst IsOnGrid (sym (c.item d)) on) j high;
+      on_grid = λ j d low high. one_more (λ i. IsOnGrid (get_or (edges_of points) i d)) k
+          (λ i h. p.on_grid i d (omega arith) h) (subst IsOnGrid (sym (c.item d)) on) j high;
     }
 
-pub passed_slant : (points : List Point) (a b : Point) (rest : List Point) (k : ℕ) → Passed points a (b ∷ rest) k → (IsOnGrid (a, b) → ⊥) → IsFirstSlant points k
+pub passed_slant : (points : List Point) (a b : Point) (rest : List Point) (k : ℕ) → Passed points a (b ∷ rest) k
+    → (IsOnGrid (a, b) → ⊥) → IsFirstSlant points k
 passed_slant points a b rest k p off =
     let c = cut_at (edges_of points) k (a, b) (edges_of (b ∷ rest)) p.edges in
     record {

@@ -23,7 +23,8 @@ walk_list brush walk (point ∷ points) =
 pub walk_straight : (b : Brush) (w : Walk) (p : Point) (ps : List Point) → turns_at w p ≡ false → walk_list b w (p ∷ ps) ≡ walk_list b (walk_on w p) ps
 walk_straight b w p ps h = rw h refl
 
-pub walk_turn : (b : Brush) (w : Walk) (p : Point) (ps : List Point) → turns_at w p ≡ true → walk_list b w (p ∷ ps) ≡ stretch_of b b.half w ∷ walk_list b (walk_round b w p) ps
+pub walk_turn : (b : Brush) (w : Walk) (p : Point) (ps : List Point) → turns_at w p ≡ true
+    → walk_list b w (p ∷ ps) ≡ stretch_of b b.half w ∷ walk_list b (walk_round b w p) ps
 walk_turn b w p ps h = rw h refl
 
 abbrev walk : Point → Point → Direction → ℤ → Walk
@@ -38,11 +39,14 @@ some_corner a b (q ∷ rest) =
       | inr e ↦ (b, corners_after b (q ∷ rest), rw e refl)
     ]
 
-extended_by : (half before end : ℤ) (s : Point × Point) (a c : Point) (cs : List Point) → extended half before end (s ∷ edges_of (a ∷ c ∷ cs)) ≡ stretch half before half s ∷ extended half half end (edges_of (a ∷ c ∷ cs))
+extended_by : (half before end : ℤ) (s : Point × Point) (a c : Point) (cs : List Point)
+    → extended half before end (s ∷ edges_of (a ∷ c ∷ cs)) ≡ stretch half before half s ∷ extended half half end
+    (edges_of (a ∷ c ∷ cs))
 extended_by half before end s a c cs = refl
 
 extended_corner : (half before end : ℤ) (s : Point × Point) (a b : Point) (rest : List Point)
-    → extended half before end (s ∷ edges_of (a ∷ corners_after a (b ∷ rest))) ≡ stretch half before half s ∷ extended half half end (edges_of (a ∷ corners_after a (b ∷ rest)))
+    → extended half before end (s ∷ edges_of (a ∷ corners_after a (b ∷ rest))) ≡ stretch half before half s
+    ∷ extended half half end (edges_of (a ∷ corners_after a (b ∷ rest)))
 extended_corner half before end s a b rest =
     let some = some_corner a b rest in
     rw (some.2) (extended_by half before end s a some.0 some.1)
@@ -52,21 +56,27 @@ abbrev by_corners : Brush → Point → Point → ℤ → List Point → List St
 by_corners b from previous before points = extended b.half before b.end (edges_of (from ∷ corners_after previous points))
 
 corners_same : (b : Brush) (from previous last : Point) (before : ℤ) (ps : List Point)
-    → by_corners b from previous before (last ∷ without_repeats_after last (last ∷ ps)) ≡ by_corners b from previous before (last ∷ without_repeats_after last ps)
+    → by_corners b from previous before (last ∷ without_repeats_after last (last ∷ ps))
+    ≡ by_corners b from previous before (last ∷ without_repeats_after last ps)
 corners_same b from previous last before ps = rw (same_self last) refl
 
-corners_straight : (b : Brush) (from previous last p : Point) (before : ℤ) (ps : List Point) → same_point last p ≡ false → are_one (direction_of previous last) (direction_of last p) ≡ true
+corners_straight : (b : Brush) (from previous last p : Point) (before : ℤ) (ps : List Point)
+    → same_point last p ≡ false → are_one (direction_of previous last) (direction_of last p) ≡ true
     → by_corners b from previous before (last ∷ without_repeats_after last (p ∷ ps)) ≡ by_corners b from last before (p ∷ without_repeats_after p ps)
 corners_straight b from previous last p before ps s t = rw (s, t) refl
 
-corners_turn : (b : Brush) (from previous last p : Point) (before : ℤ) (ps : List Point) → same_point last p ≡ false → are_one (direction_of previous last) (direction_of last p) ≡ false
-    → by_corners b from previous before (last ∷ without_repeats_after last (p ∷ ps)) ≡ stretch b.half before b.half (from, last) ∷ by_corners b last last b.half (p ∷ without_repeats_after p ps)
+corners_turn : (b : Brush) (from previous last p : Point) (before : ℤ) (ps : List Point) → same_point last p ≡ false
+    → are_one (direction_of previous last) (direction_of last p) ≡ false
+    → by_corners b from previous before (last ∷ without_repeats_after last (p ∷ ps)) ≡ stretch b.half before b.half
+    (from, last) ∷ by_corners b last last b.half (p ∷ without_repeats_after p ps)
 corners_turn b from previous last p before ps s t = rw (s, t) (extended_corner b.half before b.end (from, last) last p (without_repeats_after p ps))
 
-walk_same : (b : Brush) (from last : Point) (heading : Direction) (before : ℤ) (ps : List Point) → walk_list b (walk from last heading before) (last ∷ ps) ≡ walk_list b (walk from last heading before) ps
+walk_same : (b : Brush) (from last : Point) (heading : Direction) (before : ℤ) (ps : List Point)
+    → walk_list b (walk from last heading before) (last ∷ ps) ≡ walk_list b (walk from last heading before) ps
 walk_same b from last heading before ps =
     let still = still_self last in
-    walk_straight b (walk from last heading before) last ps (ap (is_turn heading) still ∙ turn_still heading) ∙ ap (λ d. walk_list b (walk from last (later heading d) before) ps) still
+    walk_straight b (walk from last heading before) last ps (ap (is_turn heading) still ∙ turn_still heading) ∙ ap
+    (λ d. walk_list b (walk from last (later heading d) before) ps) still
 
 from_corner : (b : Brush) (ps : List Point) (from previous last : Point) (heading : Direction) (before : ℤ)
     → heading ≡ direction_of previous last → is_direction heading ≡ true
@@ -75,8 +85,11 @@ from_corner b [] from previous last heading before eh dh = refl
 from_corner b (p ∷ ps) from previous last heading before eh dh =
     elim (cases_Bool (same_point last p)) [
       | inl s ↦
-          subst (λ (q : Point). walk_list b (walk from last heading before) (q ∷ ps) ≡ by_corners b from previous before (last ∷ without_repeats_after last (q ∷ ps))) (same_is last p s)
-          (walk_same b from last heading before ps ∙ from_corner b ps from previous last heading before eh dh ∙ sym (corners_same b from previous last before ps))
+          subst (λ (q : Point). walk_list b (walk from last heading before)
+          (q ∷ ps) ≡ by_corners b from previous before (last ∷ without_repeats_after last (q ∷ ps)))
+          (same_is last p s)
+          (walk_same b from last heading before ps ∙ from_corner b ps from previous last heading before eh dh ∙ sym
+          (corners_same b from previous last before ps))
       | inr s ↦ (let moves = other_direction last p s in elim (cases_Bool (are_one heading (direction_of last p))) [
         | inl t ↦
             walk_straight b (walk from last heading before) p ps (turn_by heading (direction_of last p) true dh moves t)
@@ -85,7 +98,8 @@ from_corner b (p ∷ ps) from previous last heading before eh dh =
             ∙ sym (corners_straight b from previous last p before ps s (subst (λ d. are_one d (direction_of last p) ≡ true) eh t))
         | inr t ↦
             walk_turn b (walk from last heading before) p ps (turn_by heading (direction_of last p) false dh moves t)
-            ∙ ap (λ (rest : List Stretch). stretch b.half before b.half (from, last) ∷ rest) (from_corner b ps last last p (direction_of last p) b.half refl moves)
+            ∙ ap (λ (rest : List Stretch). stretch b.half before b.half (from, last) ∷ rest)
+            (from_corner b ps last last p (direction_of last p) b.half refl moves)
             ∙ sym (corners_turn b from previous last p before ps s (subst (λ d. are_one d (direction_of last p) ≡ false) eh t))
       ])
     ]
@@ -96,16 +110,19 @@ start_same b a ps = walk_same b a a Still b.begin ps
 stretches_same : (b : Brush) (a : Point) (ps : List Point) → stretches (a ∷ a ∷ ps) b.half b.begin b.end ≡ stretches (a ∷ ps) b.half b.begin b.end
 stretches_same b a ps = rw (same_self a) refl
 
-stretches_other : (b : Brush) (a p : Point) (ps : List Point) → same_point a p ≡ false → stretches (a ∷ p ∷ ps) b.half b.begin b.end ≡ by_corners b a a b.begin (p ∷ without_repeats_after p ps)
+stretches_other : (b : Brush) (a p : Point) (ps : List Point) → same_point a p ≡ false
+    → stretches (a ∷ p ∷ ps) b.half b.begin b.end ≡ by_corners b a a b.begin (p ∷ without_repeats_after p ps)
 stretches_other b a p ps s = rw s refl
 
 -- the walk from a path's first point goes along its segments
-pub whole_walk : (b : Brush) (ps : List Point) (a : Point) → (HasNoLength (a ∷ ps) → ⊥) → walk_list b (walk_from b a) ps ≡ stretches (a ∷ ps) b.half b.begin b.end
+pub whole_walk : (b : Brush) (ps : List Point) (a : Point) → (HasNoLength (a ∷ ps) → ⊥)
+    → walk_list b (walk_from b a) ps ≡ stretches (a ∷ ps) b.half b.begin b.end
 whole_walk b [] a long = absurd (long (All-nil (λ p. p ≡ a)))
 whole_walk b (p ∷ ps) a long =
     elim (cases_Bool (same_point a p)) [
       | inl s ↦
-          subst (λ (q : Point). (HasNoLength (a ∷ q ∷ ps) → ⊥) → walk_list b (walk_from b a) (q ∷ ps) ≡ stretches (a ∷ q ∷ ps) b.half b.begin b.end) (same_is a p s)
+          subst (λ (q : Point). (HasNoLength (a ∷ q ∷ ps) → ⊥) → walk_list b (walk_from b a) (q ∷ ps) ≡ stretches
+          (a ∷ q ∷ ps) b.half b.begin b.end) (same_is a p s)
           (λ far. start_same b a ps ∙ whole_walk b ps a (λ all. far (All-cons (λ p. p ≡ a) a ps refl all)) ∙ sym (stretches_same b a ps))
           long
       | inr s ↦

@@ -7,7 +7,9 @@
 --
 -- GDSII Stream Format Manual 6.0, PATHTYPE, BGNEXTN and ENDEXTN: square ends are those of type 0 (no longer), 2 (longer
 -- by half the width) and 4 (as given). The PATH records of SEMI P39 have the same three.
-use Rattle.std.specs.Prelude.{◌≡◌, ℕ, ℤ, pos, ◌+ℤ◌, ◌-ℤ◌, ◌≤ℤ◌, ◌<◌, ◌-◌, ◌⊎◌, Bool, true, false, not, ◌&&◌, if◌then◌else◌, int_lt, List, [], ◌∷◌, length, map, fold, take, All, IsTrue, IsSomeAnd, slice_get}
+use Rattle.std.specs.Prelude.{◌≡◌, ℕ, ℤ, pos, ◌+ℤ◌, ◌-ℤ◌, ◌≤ℤ◌, ◌<◌, ◌-◌, ◌⊎◌, Bool, true, false, not, ◌&&◌}
+use Rattle.std.specs.Prelude.{if◌then◌else◌, int_lt, List, [], ◌∷◌, length, map, fold, take, All, IsTrue, IsSomeAnd}
+use Rattle.std.specs.Prelude.{slice_get}
 use Rattle.std.specs.Ordering.{int_eq}
 use Rattle.half_grid.specs.Quads.{corners, ring_of}
 use Rattle.half_grid.specs.Winding.{edges_of}

@@ -5,7 +5,10 @@ use Rattle.oas_record.specs.Taken.{polygon_points_in, path_points_in, repetition
 use Rattle.oas_record.specs.declared.records.OasRecord.{OasRecord}
 use Rattle.oas_record.specs.declared.taking.Lists.{Lists}
 use Rattle.oas_fields.specs.Steps.{AreWritten, AreKept, value_or, height_by, coordinate_moved, place_moved}
-use Rattle.oas_fields.specs.Values.{AreFields, or_else, begins_cell, last_written, layer_of, datatype_of, width_of, height_of, height_written, polygon_points_of, half_width_of, length_of, start_of, end_of, path_points_of, kind_of, cell_of, repetition_of, or_false, is_relative, coordinate, place_of, placement_of, geometry_of, text_of}
+use Rattle.oas_fields.specs.Values.{AreFields, or_else, begins_cell, last_written, layer_of, datatype_of, width_of}
+use Rattle.oas_fields.specs.Values.{height_of, height_written, polygon_points_of, half_width_of, length_of, start_of}
+use Rattle.oas_fields.specs.Values.{end_of, path_points_of, kind_of, cell_of, repetition_of, or_false, is_relative}
+use Rattle.oas_fields.specs.Values.{coordinate, place_of, placement_of, geometry_of, text_of}
 use Rattle.oas_fields.specs.Writes.{writes_of, repetition_by, repetition_written}
 use Rattle.oas_fields.specs.declared.fields.Fields.{Fields}
 use Rattle.oas_fields.specs.declared.places.Place.{Place}
@@ -33,19 +36,23 @@ height_on : (r : OasRecord) (past : List OasRecord) → begins_cell r ≡ false 
 unfolding height_of
 height_on r past e = written_on height_written r past e
 
-polygon_points_on : (r : OasRecord) (past : List OasRecord) → begins_cell r ≡ false → polygon_points_of (r ∷ past) ≡ or_else (polygon_points_in r) (polygon_points_of past)
+polygon_points_on : (r : OasRecord) (past : List OasRecord) → begins_cell r ≡ false
+    → polygon_points_of (r ∷ past) ≡ or_else (polygon_points_in r) (polygon_points_of past)
 unfolding polygon_points_of
 polygon_points_on r past e = written_on (λ _ r. polygon_points_in r) r past e
 
-half_width_on : (r : OasRecord) (past : List OasRecord) → begins_cell r ≡ false → half_width_of (r ∷ past) ≡ or_else (writes_of r).half_width (half_width_of past)
+half_width_on : (r : OasRecord) (past : List OasRecord) → begins_cell r ≡ false
+    → half_width_of (r ∷ past) ≡ or_else (writes_of r).half_width (half_width_of past)
 unfolding half_width_of
 half_width_on r past e = written_on (λ _ r. (writes_of r).half_width) r past e
 
-start_on : (r : OasRecord) (past : List OasRecord) → begins_cell r ≡ false → start_of (r ∷ past) ≡ or_else (length_of (half_width_of (r ∷ past)) (writes_of r).start) (start_of past)
+start_on : (r : OasRecord) (past : List OasRecord) → begins_cell r ≡ false
+    → start_of (r ∷ past) ≡ or_else (length_of (half_width_of (r ∷ past)) (writes_of r).start) (start_of past)
 unfolding start_of
 start_on r past e = written_on (λ before r. length_of (half_width_of (r ∷ before)) (writes_of r).start) r past e
 
-end_on : (r : OasRecord) (past : List OasRecord) → begins_cell r ≡ false → end_of (r ∷ past) ≡ or_else (length_of (half_width_of (r ∷ past)) (writes_of r).end) (end_of past)
+end_on : (r : OasRecord) (past : List OasRecord) → begins_cell r ≡ false
+    → end_of (r ∷ past) ≡ or_else (length_of (half_width_of (r ∷ past)) (writes_of r).end) (end_of past)
 unfolding end_of
 end_on r past e = written_on (λ before r. length_of (half_width_of (r ∷ before)) (writes_of r).end) r past e
 
@@ -101,7 +108,8 @@ written_anew : {A : Type 0} (written : List OasRecord → OasRecord → Option A
     → begins_cell r ≡ true → last_written written (r ∷ past) ≡ None
 written_anew written r past e = rw e refl
 
-coordinate_anew : (written : OasRecord → Option ℤ) (r : OasRecord) (past : List OasRecord) → begins_cell r ≡ true → coordinate written (r ∷ past) ≡ coordinate written []
+coordinate_anew : (written : OasRecord → Option ℤ) (r : OasRecord) (past : List OasRecord) → begins_cell r ≡ true
+    → coordinate written (r ∷ past) ≡ coordinate written []
 unfolding coordinate
 coordinate_anew written r past e = rw e refl
 

@@ -27,7 +27,11 @@ passed text z before after fits e = e ∙ ap (λ v. before ++ text v) (to_z-of_z
 -- a record's fields after its id and its info byte, and what follows them
 abbrev pub opened : ShotFields → List ℕ → List ℕ
 opened f after =
-    unsigned_text f.layer ++ (unsigned_text f.datatype ++ (unsigned_text f.width ++ (unsigned_text f.height ++ (delta_text f.left_delta ++ (delta_text f.right_delta ++ (signed_text f.x ++ (signed_text f.y ++ after)))))))
+    unsigned_text f.layer
+    ++ (unsigned_text f.datatype
+    ++ (unsigned_text f.width
+    ++ (unsigned_text f.height
+    ++ (delta_text f.left_delta ++ (delta_text f.right_delta ++ (signed_text f.x ++ (signed_text f.y ++ after)))))))
 
 pub text_opens : (f : ShotFields) (after : List ℕ) → text_of f ++ after ≡ id_for f.left_delta f.right_delta ∷ 123 ∷ opened f after
 unfolding text_of
@@ -56,17 +60,22 @@ fields layer datatype width height left right x y = record {
   y = y;
 }
 
-same_by : (a b c d : ℕ) (e f g h : ℤ) (i j k l : ℕ) (m n o p : ℤ) → a ≡ i → b ≡ j → c ≡ k → d ≡ l → e ≡ m → f ≡ n → g ≡ o → h ≡ p → fields a b c d e f g h ≡ fields i j k l m n o p
+same_by : (a b c d : ℕ) (e f g h : ℤ) (i j k l : ℕ) (m n o p : ℤ) → a ≡ i → b ≡ j → c ≡ k → d ≡ l → e ≡ m → f ≡ n
+    → g ≡ o → h ≡ p → fields a b c d e f g h ≡ fields i j k l m n o p
 same_by a b c d e f g h i j k l m n o p q r s t u v w x = rw (q, r, s, t, u, v, w, x) refl
 
-pub same_fields : (f g : ShotFields) → f.layer ≡ g.layer → f.datatype ≡ g.datatype → f.width ≡ g.width → f.height ≡ g.height → f.left_delta ≡ g.left_delta → f.right_delta ≡ g.right_delta → f.x ≡ g.x → f.y ≡ g.y → f ≡ g
+pub same_fields : (f g : ShotFields) → f.layer ≡ g.layer → f.datatype ≡ g.datatype → f.width ≡ g.width
+    → f.height ≡ g.height → f.left_delta ≡ g.left_delta → f.right_delta ≡ g.right_delta → f.x ≡ g.x → f.y ≡ g.y → f ≡ g
 unfolding fields
-same_fields f g a b c d e h i j = same_by f.layer f.datatype f.width f.height f.left_delta f.right_delta f.x f.y g.layer g.datatype g.width g.height g.left_delta g.right_delta g.x g.y a b c d e h i j
+same_fields f g a b c d e h i j =
+    same_by f.layer f.datatype f.width f.height f.left_delta f.right_delta f.x f.y g.layer g.datatype g.width g.height
+    g.left_delta g.right_delta g.x g.y a b c d e h i j
 
 -- one text has one list of fields
 pub one_record : (f g : ShotFields) (x y : List ℕ) → AreNarrow f → AreNarrow g → text_of f ++ x ≡ text_of g ++ y → (f ≡ g) × (x ≡ y)
 one_record f g x y h k equal =
-    let whole : id_for f.left_delta f.right_delta ∷ 123 ∷ opened f x ≡ id_for g.left_delta g.right_delta ∷ 123 ∷ opened g y = sym (text_opens f x) ∙ (equal ∙ text_opens g y) in
+    let whole : id_for f.left_delta f.right_delta ∷ 123 ∷ opened f x ≡ id_for g.left_delta g.right_delta ∷ 123
+    ∷ opened g y = sym (text_opens f x) ∙ (equal ∙ text_opens g y) in
     let id : id_for f.left_delta f.right_delta ≡ id_for g.left_delta g.right_delta = cc in
     let rest : opened f x ≡ opened g y = cc in
     let tests = id_tests f.left_delta f.right_delta g.left_delta g.right_delta id in

@@ -1,5 +1,6 @@
 -- What two texts that begin with fields have in common: the fields, and what follows them.
-use Rattle.std.proofs.Common.{◌≡◌, ℕ, ◌^◌, ◌<◌, ℤ, pos, Bool, true, false, cond, unsigned_abs, List, [], ◌∷◌, ◌++◌, refl, arith, ap, sym, ◌∙◌, append_assoc, codes, replicate}
+use Rattle.std.proofs.Common.{◌≡◌, ℕ, ◌^◌, ◌<◌, ℤ, pos, Bool, true, false, cond, unsigned_abs, List, [], ◌∷◌, ◌++◌}
+use Rattle.std.proofs.Common.{refl, arith, ap, sym, ◌∙◌, append_assoc, codes, replicate}
 use Rattle.std.specs.Ordering.{int_eq}
 use Rattle.std.proofs.lemmas.List.{append_cancel_left}
 use Rattle.std.proofs.lemmas.Bool.Decides.{Decides-int_eq}
@@ -24,7 +25,8 @@ signed_peel n m x y h g e =
     let both : (signed_text n ≡ signed_text m) × (x ≡ y) = none_begins (signed_text n) (signed_text m) x y first.whole second.whole e in
     (sym first.value ∙ (ap (λ t. signed_value (value_of t)) both.0 ∙ second.value), both.1)
 
-delta_peel_by : (p q : Bool) (n m : ℤ) (x y : List ℕ) → p ≡ q → (p ≡ true → n ≡ pos 0) → (q ≡ true → m ≡ pos 0) → unsigned_abs n < 2 ^ 62 → unsigned_abs m < 2 ^ 62
+delta_peel_by : (p q : Bool) (n m : ℤ) (x y : List ℕ) → p ≡ q → (p ≡ true → n ≡ pos 0) → (q ≡ true → m ≡ pos 0)
+    → unsigned_abs n < 2 ^ 62 → unsigned_abs m < 2 ^ 62
     → cond p [] (signed_text n) ++ x ≡ cond q [] (signed_text m) ++ y → (n ≡ m) × (x ≡ y)
 delta_peel_by true true n m x y s a b h g e = (a refl ∙ sym (b refl), e)
 delta_peel_by true false n m x y s a b h g e = absurd (cc)
@@ -59,7 +61,8 @@ id_by false false true false e = absurd (omega arith)
 id_by false false false true e = absurd (omega arith)
 id_by false false false false e = (refl, refl)
 
-pub id_tests : (a b c d : ℤ) → id_of (int_eq a (pos 0)) (int_eq b (pos 0)) ≡ id_of (int_eq c (pos 0)) (int_eq d (pos 0)) → (int_eq a (pos 0) ≡ int_eq c (pos 0)) × (int_eq b (pos 0) ≡ int_eq d (pos 0))
+pub id_tests : (a b c d : ℤ) → id_of (int_eq a (pos 0)) (int_eq b (pos 0)) ≡ id_of (int_eq c (pos 0))
+    (int_eq d (pos 0)) → (int_eq a (pos 0) ≡ int_eq c (pos 0)) × (int_eq b (pos 0) ≡ int_eq d (pos 0))
 id_tests a b c d e = id_by (int_eq a (pos 0)) (int_eq b (pos 0)) (int_eq c (pos 0)) (int_eq d (pos 0)) e
 
 not_end_by : (p q : Bool) → id_of p q ≡ 2 → ⊥
@@ -85,7 +88,10 @@ head_is unit x = simp append_assoc
 
 pub head_peel : (u v : ℕ) (x y : List ℕ) → u < 2 ^ 63 → v < 2 ^ 63 → head u ++ x ≡ head v ++ y → (u ≡ v) × (x ≡ y)
 head_peel u v x y h g e =
-    let whole : before_unit ++ (unsigned_text u ++ (after_unit ++ x)) ≡ before_unit ++ (unsigned_text v ++ (after_unit ++ y)) = sym (head_is u x) ∙ (e ∙ head_is v y) in
-    let rest : unsigned_text u ++ (after_unit ++ x) ≡ unsigned_text v ++ (after_unit ++ y) = append_cancel_left before_unit (unsigned_text u ++ (after_unit ++ x)) (unsigned_text v ++ (after_unit ++ y)) whole in
+    let whole : before_unit ++ (unsigned_text u ++ (after_unit ++ x)) ≡ before_unit
+    ++ (unsigned_text v ++ (after_unit ++ y)) = sym (head_is u x) ∙ (e ∙ head_is v y) in
+    let rest : unsigned_text u ++ (after_unit ++ x) ≡ unsigned_text v ++ (after_unit ++ y) =
+    append_cancel_left before_unit (unsigned_text u ++ (after_unit ++ x))
+    (unsigned_text v ++ (after_unit ++ y)) whole in
     let both : (u ≡ v) × (after_unit ++ x ≡ after_unit ++ y) = unsigned_peel u v (after_unit ++ x) (after_unit ++ y) h g rest in
     (both.0, append_cancel_left after_unit x y both.1)

@@ -1,6 +1,7 @@
 -- What stands at a place is one value with one end, or it fails for one cause. The lemmas on readers are stated once, over
 -- what stands there and what fails.
-use Rattle.std.proofs.Common.{◌≡◌, ◌≢◌, ℕ, ◌+◌, ◌<◌, ◌↔◌, ◌⊎◌, List, length, slice_index, ◌/◌, ◌%◌, Option, Some, None, Result, Ok, Err, inl, inr, refl, ap, sym, ◌∙◌, subst, arith, ℤ, take, drop, ◌-◌}
+use Rattle.std.proofs.Common.{◌≡◌, ◌≢◌, ℕ, ◌+◌, ◌<◌, ◌↔◌, ◌⊎◌, List, length, slice_index, ◌/◌, ◌%◌, Option, Some, None}
+use Rattle.std.proofs.Common.{Result, Ok, Err, inl, inr, refl, ap, sym, ◌∙◌, subst, arith, ℤ, take, drop, ◌-◌}
 use Rattle.oas_lex.specs.declared.LexBad.{LexBad}
 use Rattle.oas_lex.specs.declared.LexBad.TheVariants.{Short, Wide, RealKind}
 use Rattle.oas_lex.specs.Numbers.{HasUnsigned, HasSigned, EndsFirst, IsWide, value_of}
@@ -20,16 +21,20 @@ pub record IsReader {V E : Type 0} (Has : V → Type 0) (Fails : E → Type 0) :
 
 -- ---- what a result says
 
-pub found_ok : {V E : Type 0} {Has : V → Type 0} {Fails : E → Type 0} → IsReader Has Fails → (r : Result V E) (v : V) → r ≡ Ok v → Has v → (w : V) → (r ≡ Ok w) ↔ Has w
+pub found_ok : {V E : Type 0} {Has : V → Type 0} {Fails : E → Type 0} → IsReader Has Fails → (r : Result V E) (v : V)
+    → r ≡ Ok v → Has v → (w : V) → (r ≡ Ok w) ↔ Has w
 found_ok {Has = Has} s r v is h w = (λ e. let same : v ≡ w = cc in subst Has same h, λ k. is ∙ ap Ok (s.one v w h k))
 
-pub fault_ok : {V E : Type 0} {Has : V → Type 0} {Fails : E → Type 0} → IsReader Has Fails → (r : Result V E) (v : V) → r ≡ Ok v → Has v → (e : E) → (r ≡ Err e) ↔ Fails e
+pub fault_ok : {V E : Type 0} {Has : V → Type 0} {Fails : E → Type 0} → IsReader Has Fails → (r : Result V E) (v : V)
+    → r ≡ Ok v → Has v → (e : E) → (r ≡ Err e) ↔ Fails e
 fault_ok s r v is h e = (λ q. absurd (cc), λ f. absurd (s.apart v e h f))
 
-pub found_err : {V E : Type 0} {Has : V → Type 0} {Fails : E → Type 0} → IsReader Has Fails → (r : Result V E) (e : E) → r ≡ Err e → Fails e → (w : V) → (r ≡ Ok w) ↔ Has w
+pub found_err : {V E : Type 0} {Has : V → Type 0} {Fails : E → Type 0} → IsReader Has Fails → (r : Result V E) (e : E)
+    → r ≡ Err e → Fails e → (w : V) → (r ≡ Ok w) ↔ Has w
 found_err s r e is f w = (λ q. absurd (cc), λ h. absurd (s.apart w e h f))
 
-pub fault_err : {V E : Type 0} {Has : V → Type 0} {Fails : E → Type 0} → IsReader Has Fails → (r : Result V E) (e : E) → r ≡ Err e → Fails e → (g : E) → (r ≡ Err g) ↔ Fails g
+pub fault_err : {V E : Type 0} {Has : V → Type 0} {Fails : E → Type 0} → IsReader Has Fails → (r : Result V E) (e : E)
+    → r ≡ Err e → Fails e → (g : E) → (r ≡ Err g) ↔ Fails g
 fault_err {Fails = Fails} s r e is f g = (λ q. let same : e ≡ g = cc in subst Fails same f, λ k. is ∙ ap Err (s.cause e g f k))
 
 -- what a result says that says something stronger
@@ -132,7 +137,9 @@ bytes_reader bytes at count = record {
 
 pub text_reader : (bytes : List ℕ) (at : ℕ) → IsReader (λ (v : ℕ × ℕ). HasText bytes at v.0 v.1) (TextFails bytes at)
 text_reader bytes at =
-    let both = after (λ size first. HasUnsigned bytes at size first) (NumberFails bytes at) (λ size first (v : ℕ × ℕ). (first ≡ v.0) × HasBytes bytes first size v.1) (λ size first e. BytesFail bytes first size e) (number_reader bytes at)
+    let both = after (λ size first. HasUnsigned bytes at size first) (NumberFails bytes at)
+    (λ size first (v : ℕ × ℕ). (first ≡ v.0) × HasBytes bytes first size v.1)
+    (λ size first e. BytesFail bytes first size e) (number_reader bytes at)
     (λ size first. record {
       one = λ v w h k. pair_is v w (sym h.0 ∙ k.0) ((bytes_reader bytes first size).one v.1 w.1 h.1 k.1);
       apart = λ v e h f. (bytes_reader bytes first size).apart v.1 e h.1 f;
@@ -190,11 +197,13 @@ rest_reader bytes code mid =
       cause = λ e f x y. second.cause e f x.1 y.1;
     }
 
-rest_of : (bytes : List ℕ) (at : ℕ) (v : Point × ℕ) → HasDeltaG bytes at v.0 v.1 → (code : ℕ) × (mid : ℕ) × HasUnsigned bytes at code mid × RestOf bytes code mid v
+rest_of : (bytes : List ℕ) (at : ℕ) (v : Point × ℕ) → HasDeltaG bytes at v.0 v.1 → (code : ℕ) × (mid : ℕ)
+    × HasUnsigned bytes at code mid × RestOf bytes code mid v
 rest_of bytes at v (inl h) = (h.0, v.1, h.1.spells, inl (h.1.even, refl, h.1.value))
 rest_of bytes at v (inr h) = (h.0, h.1, h.3.spells, inr (h.3.odd, (h.2, h.3.spells_y, h.3.value)))
 
-rest_fails : (bytes : List ℕ) (at : ℕ) (e : LexBad) → DeltaGFails bytes at e → NumberFails bytes at e ⊎ ((code : ℕ) × (mid : ℕ) × HasUnsigned bytes at code mid × RestFails bytes code mid e)
+rest_fails : (bytes : List ℕ) (at : ℕ) (e : LexBad) → DeltaGFails bytes at e → NumberFails bytes at e
+    ⊎ ((code : ℕ) × (mid : ℕ) × HasUnsigned bytes at code mid × RestFails bytes code mid e)
 rest_fails bytes at e (inl f) = inl f
 rest_fails bytes at e (inr f) = inr (f.0, f.1, f.2.spells, (f.2.odd, f.2.fails))
 
@@ -225,9 +234,13 @@ bits bytes at count = record {
   cause = (bytes_reader bytes at count).cause;
 }
 
-two_numbers : (bytes : List ℕ) (at : ℕ) → IsReader (λ (v : (ℕ × ℕ) × ℕ). HasParts (Some TwoNumbers) bytes at v.0.0 v.0.1 v.1) (PartsFail (Some TwoNumbers) bytes at)
+two_numbers : (bytes : List ℕ) (at : ℕ)
+    → IsReader (λ (v : (ℕ × ℕ) × ℕ). HasParts (Some TwoNumbers) bytes at v.0.0 v.0.1 v.1)
+    (PartsFail (Some TwoNumbers) bytes at)
 two_numbers bytes at =
-    let both = after (HasUnsigned bytes at) (NumberFails bytes at) (λ a mid (v : (ℕ × ℕ) × ℕ). (a ≡ v.0.0) × HasUnsigned bytes mid v.0.1 v.1) (λ a mid e. NumberFails bytes mid e) (number_reader bytes at)
+    let both = after (HasUnsigned bytes at) (NumberFails bytes at)
+    (λ a mid (v : (ℕ × ℕ) × ℕ). (a ≡ v.0.0) × HasUnsigned bytes mid v.0.1 v.1)
+    (λ a mid e. NumberFails bytes mid e) (number_reader bytes at)
     (λ a mid. record {
       one = λ v w h k.
           let same = (number_reader bytes mid).one (v.0.1, v.1) (w.0.1, w.1) h.1 k.1 in
@@ -241,7 +254,8 @@ two_numbers bytes at =
       cause = both.cause;
     }
 
-parts_reader : (form : Option RealForm) (bytes : List ℕ) (at : ℕ) → IsReader (λ (v : (ℕ × ℕ) × ℕ). HasParts form bytes at v.0.0 v.0.1 v.1) (PartsFail form bytes at)
+parts_reader : (form : Option RealForm) (bytes : List ℕ) (at : ℕ)
+    → IsReader (λ (v : (ℕ × ℕ) × ℕ). HasParts form bytes at v.0.0 v.0.1 v.1) (PartsFail form bytes at)
 parts_reader (Some OneNumber) bytes at = one_number bytes at
 parts_reader (Some TwoNumbers) bytes at = two_numbers bytes at
 parts_reader (Some FourBytes) bytes at = bits bytes at 4

@@ -1,5 +1,6 @@
 -- What the groups read so far make, and what follows once a number ends, the bytes end or it is too wide.
-use Rattle.std.proofs.Common.{◌≡◌, ◌≢◌, ℕ, zero, suc, ◌+◌, ◌-◌, ◌*◌, ◌%◌, ◌^◌, ◌<◌, ◌≤◌, List, [], ◌∷◌, ◌++◌, length, take, drop, get_or, min, refl, arith, inl, inr, ap, sym, ◌∙◌, add-one, length-drop, ℤ}
+use Rattle.std.proofs.Common.{◌≡◌, ◌≢◌, ℕ, zero, suc, ◌+◌, ◌-◌, ◌*◌, ◌%◌, ◌^◌, ◌<◌, ◌≤◌, List, [], ◌∷◌, ◌++◌, length}
+use Rattle.std.proofs.Common.{take, drop, get_or, min, refl, arith, inl, inr, ap, sym, ◌∙◌, add-one, length-drop, ℤ}
 use Rattle.std.proofs.lemmas.List.{length-take-le, take_more}
 use Rattle.std.proofs.Math.Nat.{mul-le-mul_left}
 use Rattle.std.proofs.Math.Seq.{take-length}
@@ -90,7 +91,8 @@ sum_more rest k v w s h other =
     }
 
 -- a group that isn't zero is too much where the weight is full
-pub sum_wide : (rest : List ℕ) (k v w : ℕ) → Summed rest k v w → k < length rest → w ≡ 2 ^ 63 → get_or rest k 0 % 128 ≢ 0 → 2 ^ 63 ≤ value_of (take (k + 1) rest)
+pub sum_wide : (rest : List ℕ) (k v w : ℕ) → Summed rest k v w → k < length rest → w ≡ 2 ^ 63
+    → get_or rest k 0 % 128 ≢ 0 → 2 ^ 63 ≤ value_of (take (k + 1) rest)
 sum_wide rest k v w s h full some =
     let product : weight_of k * 1 ≤ weight_of k * (get_or rest k 0 % 128) = mul-le-mul_left (weight_of k) (omega arith) in
     omega (arith, value_more rest k h, s.weight, product)
@@ -105,15 +107,18 @@ ends_not_wide bytes at e w = omega (arith, e.narrow, w.1.wide, value_take-le (dr
 
 pub has_not_wide : (bytes : List ℕ) (at n next : ℕ) → HasUnsigned bytes at n next → IsWide bytes at → ⊥
 has_not_wide bytes at n next h w =
-    let reach : value_of (take (suc w.0) (drop at bytes)) ≤ value_of (take (next - at) (drop at bytes)) = whole_reaches (drop at bytes) (next - at) w.0 h.spells.whole w.1.goes_on in
+    let reach : value_of (take (suc w.0) (drop at bytes)) ≤ value_of (take (next - at) (drop at bytes)) = whole_reaches
+    (drop at bytes) (next - at) w.0 h.spells.whole w.1.goes_on in
     let wide : 2 ^ 63 ≤ value_of (take (suc w.0) (drop at bytes)) = rw add-one at w.1.wide in
     omega (arith, h.spells.value, h.narrow)
 
 pub has_one : (bytes : List ℕ) (at n next m last : ℕ) → HasUnsigned bytes at n next → HasUnsigned bytes at m last → (n ≡ m) × (next ≡ last)
 has_one bytes at n next m last h g =
     let size : length (drop at bytes) ≡ length bytes - at = length-drop at bytes in
-    let same : next - at ≡ last - at = one_whole (drop at bytes) (next - at) (last - at) (omega (arith, h.within)) (omega (arith, g.within)) h.spells.whole g.spells.whole in
-    let value : value_of (take (next - at) (drop at bytes)) ≡ value_of (take (last - at) (drop at bytes)) = ap (λ k. value_of (take k (drop at bytes))) same in (
+    let same : next - at ≡ last - at = one_whole (drop at bytes) (next - at) (last - at) (omega (arith, h.within))
+    (omega (arith, g.within)) h.spells.whole g.spells.whole in
+    let value : value_of (take (next - at) (drop at bytes)) ≡ value_of (take (last - at) (drop at bytes)) = ap
+    (λ k. value_of (take k (drop at bytes))) same in (
       sym h.spells.value ∙ (value ∙ g.spells.value),
       omega (arith, whole_some (drop at bytes) (next - at) h.spells.whole, whole_some (drop at bytes) (last - at) g.spells.whole),
     )
@@ -123,17 +128,21 @@ has_one bytes at n next m last h g =
 pub rest_is : (bytes : List ℕ) (at : ℕ) → take (length bytes - at) (drop at bytes) ≡ drop at bytes
 rest_is bytes at = ap (λ n. take n (drop at bytes)) (sym (length-drop at bytes)) ∙ take-length (drop at bytes)
 
-pub is_wide : (bytes : List ℕ) (at k v w : ℕ) → Summed (drop at bytes) k v w → GoesOn (take k (drop at bytes)) → k < length (drop at bytes) → w ≡ 2 ^ 63 → get_or (drop at bytes) k 0 % 128 ≢ 0 → IsWide bytes at
+pub is_wide : (bytes : List ℕ) (at k v w : ℕ) → Summed (drop at bytes) k v w → GoesOn (take k (drop at bytes))
+    → k < length (drop at bytes) → w ≡ 2 ^ 63 → get_or (drop at bytes) k 0 % 128 ≢ 0 → IsWide bytes at
 is_wide bytes at k v w s g h full some =
     (k, record { within = omega (arith, length-drop at bytes); goes_on = g; wide = sum_wide (drop at bytes) k v w s h full some })
 
-pub ends_first : (bytes : List ℕ) (at k v w : ℕ) → Summed (drop at bytes) k v w → GoesOn (take k (drop at bytes)) → length (drop at bytes) ≤ k → k ≤ length (drop at bytes) → EndsFirst bytes at
+pub ends_first : (bytes : List ℕ) (at k v w : ℕ) → Summed (drop at bytes) k v w → GoesOn (take k (drop at bytes))
+    → length (drop at bytes) ≤ k → k ≤ length (drop at bytes) → EndsFirst bytes at
 ends_first bytes at k v w s g low high =
     let whole : take k (drop at bytes) ≡ drop at bytes = ap (λ n. take n (drop at bytes)) (omega arith) ∙ take-length (drop at bytes) in
     let value : value_of (take k (drop at bytes)) ≡ value_of (drop at bytes) = ap value_of whole in
     record { goes_on = rw whole at g; narrow = omega (arith, s.value, s.weight, s.below) }
 
-pub has_unsigned : (bytes : List ℕ) (at k v w : ℕ) → Summed (drop at bytes) (k + 1) v w → GoesOn (take k (drop at bytes)) → k < length (drop at bytes) → get_or (drop at bytes) k 0 < 128 → HasUnsigned bytes at v (at + k + 1)
+pub has_unsigned : (bytes : List ℕ) (at k v w : ℕ) → Summed (drop at bytes) (k + 1) v w
+    → GoesOn (take k (drop at bytes)) → k < length (drop at bytes) → get_or (drop at bytes) k 0 < 128
+    → HasUnsigned bytes at v (at + k + 1)
 has_unsigned bytes at k v w s g h last =
     let count : at + k + 1 - at ≡ k + 1 = omega arith in
     record {
@@ -144,15 +153,18 @@ has_unsigned bytes at k v w s g h last =
 
 -- the same, for a group by its name
 
-pub wide_by : (bytes : List ℕ) (at k v w g : ℕ) → Summed (drop at bytes) k v w → GoesOn (take k (drop at bytes)) → k < length (drop at bytes) → g ≡ get_or (drop at bytes) k 0 % 128 → w ≡ 2 ^ 63 → g ≢ 0 → IsWide bytes at
+pub wide_by : (bytes : List ℕ) (at k v w g : ℕ) → Summed (drop at bytes) k v w → GoesOn (take k (drop at bytes))
+    → k < length (drop at bytes) → g ≡ get_or (drop at bytes) k 0 % 128 → w ≡ 2 ^ 63 → g ≢ 0 → IsWide bytes at
 wide_by bytes at k v w g s on h group full some = is_wide bytes at k v w s on h full (λ none. some (group ∙ none))
 
 pub full_by : (rest : List ℕ) (k v w g : ℕ) → Summed rest k v w → k < length rest → g ≡ get_or rest k 0 % 128 → w ≡ 2 ^ 63 → g ≡ 0 → Summed rest (k + 1) v w
 full_by rest k v w g s h group full none = sum_full rest k v w s h full (sym group ∙ none)
 
-pub more_by : (rest : List ℕ) (k v w g : ℕ) → Summed rest k v w → k < length rest → g ≡ get_or rest k 0 % 128 → w ≢ 2 ^ 63 → Summed rest (k + 1) (v + g * w) (w * 128)
+pub more_by : (rest : List ℕ) (k v w g : ℕ) → Summed rest k v w → k < length rest → g ≡ get_or rest k 0 % 128
+    → w ≢ 2 ^ 63 → Summed rest (k + 1) (v + g * w) (w * 128)
 more_by rest k v w g s h group other = rw group (sum_more rest k v w s h other)
 
 -- a signed number stands where the unsigned number of the same bytes does
-pub unsigned_of_signed : (bytes : List ℕ) (at : ℕ) (z : ℤ) (next : ℕ) → HasSigned bytes at z next → HasUnsigned bytes at (value_of (take (next - at) (drop at bytes))) next
+pub unsigned_of_signed : (bytes : List ℕ) (at : ℕ) (z : ℤ) (next : ℕ) → HasSigned bytes at z next
+    → HasUnsigned bytes at (value_of (take (next - at) (drop at bytes))) next
 unsigned_of_signed bytes at z next h = record { within = h.within; spells = record { whole = h.spells.whole; value = refl }; narrow = h.narrow }

@@ -16,14 +16,18 @@ near_difference : (a b : ℤ) → IsWithinReach a → IsWithinReach b → unsign
 near_difference a b h g = near_by (a -ℤ b) (omega (arith, ints, h.low, h.high, g.low, g.high)) (omega (arith, ints, h.low, h.high, g.low, g.high))
 
 near_least : (a b : ℤ) → IsWithinReach a → IsWithinReach b → unsigned_abs (int_min a b) ≤ 2 ^ 46
-near_least a b h g = near_by (int_min a b) (omega (arith, ints, clamps, h.low, h.high, g.low, g.high)) (omega (arith, ints, clamps, h.low, h.high, g.low, g.high))
+near_least a b h g = near_by (int_min a b) (omega (arith, ints, clamps, h.low, h.high, g.low, g.high))
+    (omega (arith, ints, clamps, h.low, h.high, g.low, g.high))
 
 near_box : (a b c d : ℤ) → IsWithinReach a → IsWithinReach b → IsWithinReach c → IsWithinReach d → unsigned_abs (int_max c d -ℤ int_min a b) ≤ 2 ^ 46
 near_box a b c d h g i j =
-    near_by (int_max c d -ℤ int_min a b) (omega (arith, ints, clamps, h.low, h.high, g.low, g.high, i.low, i.high, j.low, j.high)) (omega (arith, ints, clamps, h.low, h.high, g.low, g.high, i.low, i.high, j.low, j.high))
+    near_by (int_max c d -ℤ int_min a b)
+    (omega (arith, ints, clamps, h.low, h.high, g.low, g.high, i.low, i.high, j.low, j.high))
+    (omega (arith, ints, clamps, h.low, h.high, g.low, g.high, i.low, i.high, j.low, j.high))
 
 pub width_near : (z : Trapezoid) → IsShot z → unsigned_abs (box_width z) ≤ 2 ^ 46
-width_near z h = near_box (x_on z.left z.y0) (x_on z.left z.y1) (x_on z.right z.y0) (x_on z.right z.y1) h.reach.bottom_left h.reach.top_left h.reach.bottom_right h.reach.top_right
+width_near z h = near_box (x_on z.left z.y0) (x_on z.left z.y1) (x_on z.right z.y0)
+    (x_on z.right z.y1) h.reach.bottom_left h.reach.top_left h.reach.bottom_right h.reach.top_right
 
 pub rows_near : (z : Trapezoid) → IsShot z → unsigned_abs (z.y1 -ℤ z.y0) ≤ 2 ^ 46
 rows_near z h = near_difference z.y1 z.y0 h.reach.y1 h.reach.y0

@@ -30,7 +30,8 @@ pub shot_names : (y z : Trapezoid) → IsShot y → IsShot z
     → unsigned_abs (box_width y) ≡ unsigned_abs (box_width z) → unsigned_abs (y.y1 -ℤ y.y0) ≡ unsigned_abs (z.y1 -ℤ z.y0)
     → left_delta y ≡ left_delta z → right_delta y ≡ right_delta z → least_x y ≡ least_x z → y.y0 ≡ z.y0 → y ≡ z
 shot_names y z h g width height left right x bottom =
-    let rows : y.y1 -ℤ y.y0 ≡ z.y1 -ℤ z.y0 = size_names (y.y1 -ℤ y.y0) (z.y1 -ℤ z.y0) (omega (arith, ints, h.legal.has_rows)) (omega (arith, ints, g.legal.has_rows)) height in
+    let rows : y.y1 -ℤ y.y0 ≡ z.y1 -ℤ z.y0 = size_names (y.y1 -ℤ y.y0) (z.y1 -ℤ z.y0)
+    (omega (arith, ints, h.legal.has_rows)) (omega (arith, ints, g.legal.has_rows)) height in
     let top : y.y1 ≡ z.y1 = omega (arith, ints) in
     let lefts : (x_on y.left y.y0 ≡ x_on z.left z.y0) × (x_on y.left y.y1 ≡ x_on z.left z.y1) =
     least_names (x_on y.left y.y0) (x_on y.left y.y1) (x_on z.left z.y0) (x_on z.left z.y1) x left in
@@ -40,6 +41,8 @@ shot_names y z h g width height left right x bottom =
     let most : int_max (x_on y.right y.y0) (x_on y.right y.y1) ≡ int_max (x_on z.right z.y0) (x_on z.right z.y1) = add_back _ _ _ _ wide x in
     let rights : (x_on y.right y.y0 ≡ x_on z.right z.y0) × (x_on y.right y.y1 ≡ x_on z.right z.y1) =
     greatest_names (x_on y.right y.y0) (x_on y.right y.y1) (x_on z.right z.y0) (x_on z.right z.y1) most right in
-    let left_line : y.left ≡ z.left = line_names y.left z.left y.y0 y.y1 h.legal.has_rows (lefts.0 ∙ ap (x_on z.left) (sym bottom)) (lefts.1 ∙ ap (x_on z.left) (sym top)) in
-    let right_line : y.right ≡ z.right = line_names y.right z.right y.y0 y.y1 h.legal.has_rows (rights.0 ∙ ap (x_on z.right) (sym bottom)) (rights.1 ∙ ap (x_on z.right) (sym top)) in
+    let left_line : y.left ≡ z.left = line_names y.left z.left y.y0 y.y1 h.legal.has_rows
+    (lefts.0 ∙ ap (x_on z.left) (sym bottom)) (lefts.1 ∙ ap (x_on z.left) (sym top)) in
+    let right_line : y.right ≡ z.right = line_names y.right z.right y.y0 y.y1 h.legal.has_rows
+    (rights.0 ∙ ap (x_on z.right) (sym bottom)) (rights.1 ∙ ap (x_on z.right) (sym top)) in
     same_trapezoid y.y0 z.y0 y.y1 z.y1 y.left z.left y.right z.right bottom top left_line right_line

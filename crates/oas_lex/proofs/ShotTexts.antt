@@ -13,12 +13,16 @@ use Rattle.oas_lex.proofs.Peels.{not_end, head_peel}
 pub record_names : (l d m e : ℕ) (y z : Trapezoid) (after rest : List ℕ) → IsNarrowPair l d → IsNarrowPair m e → IsShot y → IsShot z
     → spelling_of l d y ++ after ≡ spelling_of m e z ++ rest → (l ≡ m) × (d ≡ e) × (y ≡ z) × (after ≡ rest)
 record_names l d m e y z after rest p q h g equal =
-    let whole : text_of (fields_of l d y) ++ after ≡ text_of (fields_of m e z) ++ rest = ap (λ (t : List ℕ). t ++ after) (sym (spelling_is l d y)) ∙ (equal ∙ ap (λ (t : List ℕ). t ++ rest) (spelling_is m e z)) in
+    let whole : text_of (fields_of l d y) ++ after ≡ text_of (fields_of m e z) ++ rest = ap
+    (λ (t : List ℕ). t ++ after) (sym (spelling_is l d y))
+    ∙ (equal ∙ ap (λ (t : List ℕ). t ++ rest) (spelling_is m e z)) in
     let same = one_record (fields_of l d y) (fields_of m e z) after rest (shot_narrow l d y p h) (shot_narrow m e z q g) whole in
     let part = same.0 in (
       ap (λ (f : ShotFields). f.layer) part,
       ap (λ (f : ShotFields). f.datatype) part,
-      shot_names y z h g (ap (λ (f : ShotFields). f.width) part) (ap (λ (f : ShotFields). f.height) part) (ap (λ (f : ShotFields). f.left_delta) part) (ap (λ (f : ShotFields). f.right_delta) part) (ap (λ (f : ShotFields). f.x) part) (ap (λ (f : ShotFields). f.y) part),
+      shot_names y z h g (ap (λ (f : ShotFields). f.width) part) (ap (λ (f : ShotFields). f.height) part)
+          (ap (λ (f : ShotFields). f.left_delta) part) (ap (λ (f : ShotFields). f.right_delta) part)
+          (ap (λ (f : ShotFields). f.x) part) (ap (λ (f : ShotFields). f.y) part),
       same.1,
     )
 
@@ -33,7 +37,9 @@ one_more l d z zs = append_assoc (spelling_of l d z) (flat_map (spelling_of l d)
 none_ends : (l d : ℕ) (z : Trapezoid) (zs : List Trapezoid) → end ≡ body l d (z ∷ zs) → ⊥
 none_ends l d z zs e =
     let f = fields_of l d z in
-    let whole : end ≡ id_for f.left_delta f.right_delta ∷ 123 ∷ opened f (body l d zs) = e ∙ (one_more l d z zs ∙ (ap (λ (t : List ℕ). t ++ body l d zs) (spelling_is l d z) ∙ text_opens f (body l d zs))) in
+    let whole : end ≡ id_for f.left_delta f.right_delta ∷ 123 ∷ opened f (body l d zs) =
+    e ∙ (one_more l d z zs ∙ (ap (λ (t : List ℕ). t ++ body l d zs) (spelling_is l d z) ∙ text_opens f
+    (body l d zs))) in
     let id : id_for f.left_delta f.right_delta ≡ 2 = cc in
     not_end f.left_delta f.right_delta id
 

@@ -1,5 +1,6 @@
 -- The laws of the spellings of integers.
-use Rattle.std.proofs.Common.{◌≡◌, ℕ, zero, suc, ◌+◌, ◌-◌, ◌/◌, ◌^◌, ◌<◌, ◌≤◌, ℤ, unsigned_abs, List, [], ◌∷◌, ◌++◌, length, take, drop, refl, arith, inl, inr, ap, sym, ◌∙◌, length-append}
+use Rattle.std.proofs.Common.{◌≡◌, ℕ, zero, suc, ◌+◌, ◌-◌, ◌/◌, ◌^◌, ◌<◌, ◌≤◌, ℤ, unsigned_abs, List, [], ◌∷◌, ◌++◌}
+use Rattle.std.proofs.Common.{length, take, drop, refl, arith, inl, inr, ap, sym, ◌∙◌, length-append}
 use Rattle.std.proofs.lemmas.Bool.{cases_lt}
 use Rattle.std.proofs.Math.Seq.{take-append_seam}
 use Rattle.std.proofs.lemmas.List.Prefix.{front_rest}
@@ -37,14 +38,16 @@ between before text after =
 room : (before text after : List ℕ) → length before + length text ≤ length (before ++ (text ++ after))
 room before text after = omega (arith, length-append before (text ++ after), length-append text after)
 
-pub unsigned_back : (n : ℕ) (before after : List ℕ) → n < 2 ^ 63 → HasUnsigned (before ++ (unsigned_text n ++ after)) (length before) n (length before + length (unsigned_text n))
+pub unsigned_back : (n : ℕ) (before after : List ℕ) → n < 2 ^ 63 → HasUnsigned (before ++ (unsigned_text n ++ after))
+    (length before) n (length before + length (unsigned_text n))
 unsigned_back n before after h = record {
   within = room before (unsigned_text n) after;
   spells = rw (between before (unsigned_text n) after) (unsigned_spells n h);
   narrow = h;
 }
 
-pub signed_back : (z : ℤ) (before after : List ℕ) → unsigned_abs z < 2 ^ 62 → HasSigned (before ++ (signed_text z ++ after)) (length before) z (length before + length (signed_text z))
+pub signed_back : (z : ℤ) (before after : List ℕ) → unsigned_abs z < 2 ^ 62
+    → HasSigned (before ++ (signed_text z ++ after)) (length before) z (length before + length (signed_text z))
 signed_back z before after h =
     let below : signed_code z < 2 ^ 63 = code_below z h in
     let spells : IsUnsigned (signed_text z) (signed_code z) = unsigned_spells (signed_code z) below in
@@ -54,8 +57,11 @@ signed_back z before after h =
       narrow = rw (between before (signed_text z) after) (rw spells.value below);
     }
 
-pub one_signed : (bytes : List ℕ) (at : ℕ) (y : ℤ) (next : ℕ) (z : ℤ) (last : ℕ) → HasSigned bytes at y next → HasSigned bytes at z last → (y ≡ z) × (next ≡ last)
+pub one_signed : (bytes : List ℕ) (at : ℕ) (y : ℤ) (next : ℕ) (z : ℤ) (last : ℕ) → HasSigned bytes at y next
+    → HasSigned bytes at z last → (y ≡ z) × (next ≡ last)
 one_signed bytes at y next z last h g =
     let both : (value_of (take (next - at) (drop at bytes)) ≡ value_of (take (last - at) (drop at bytes))) × (next ≡ last) =
-    has_one bytes at (value_of (take (next - at) (drop at bytes))) next (value_of (take (last - at) (drop at bytes))) last (unsigned_of_signed bytes at y next h) (unsigned_of_signed bytes at z last g) in
+    has_one bytes at (value_of (take (next - at) (drop at bytes))) next
+    (value_of (take (last - at) (drop at bytes))) last (unsigned_of_signed bytes at y next h)
+    (unsigned_of_signed bytes at z last g) in
     (sym h.spells.value ∙ (ap signed_value both.0 ∙ g.spells.value), both.1)

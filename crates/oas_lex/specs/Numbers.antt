@@ -3,7 +3,8 @@
 -- An unsigned number is spelled in groups of 7 bits, lowest first, one group a byte. The byte's top bit is set on
 -- all bytes but the last. Groups of zeros may stand at the end. In the spelling of a signed number bit 0 is the sign
 -- and the bits above it are the magnitude. A number of more than 63 bits as spelled, sign bit included, is too wide.
-use Rattle.std.specs.Prelude.{ℕ, ◌+◌, ◌*◌, ◌/◌, ◌%◌, ◌^◌, ◌<◌, ◌≤◌, ◌≡◌, ◌==◌, ◌⊎◌, ℤ, pos, neg_ℤ, List, [], ◌∷◌, length, take, drop, slice_range, if◌then◌else◌}
+use Rattle.std.specs.Prelude.{ℕ, ◌+◌, ◌*◌, ◌/◌, ◌%◌, ◌^◌, ◌<◌, ◌≤◌, ◌≡◌, ◌==◌, ◌⊎◌, ℤ, pos, neg_ℤ, List, [], ◌∷◌}
+use Rattle.std.specs.Prelude.{length, take, drop, slice_range, if◌then◌else◌}
 
 -- the top bit is set on each byte, so the number goes on after them
 abbrev pub GoesOn : List ℕ → Type 0

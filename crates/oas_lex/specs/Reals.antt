@@ -3,7 +3,8 @@
 -- A byte gives the kind. 0 and 1 are a whole number, 2 and 3 one over a whole number, 4 and 5 a ratio of two, each number
 -- unsigned and the real negative where the kind is odd. 6 and 7 are the four bytes of an IEEE single and the eight of an
 -- IEEE double, the lowest first.
-use Rattle.std.specs.Prelude.{ℕ, zero, suc, ◌+◌, ◌-◌, ◌*◌, ◌/◌, ◌%◌, ◌^◌, ◌<◌, ◌≤◌, ◌≡◌, ◌≢◌, ◌⊎◌, ℤ, pos, neg_ℤ, unsigned_abs, Option, Some, None, List, length, drop, slice_index, nat_lt, if◌then◌else◌}
+use Rattle.std.specs.Prelude.{ℕ, zero, suc, ◌+◌, ◌-◌, ◌*◌, ◌/◌, ◌%◌, ◌^◌, ◌<◌, ◌≤◌, ◌≡◌, ◌≢◌, ◌⊎◌, ℤ, pos, neg_ℤ}
+use Rattle.std.specs.Prelude.{unsigned_abs, Option, Some, None, List, length, drop, slice_index, nat_lt, if◌then◌else◌}
 use Rattle.byteorder.specs.Endian.{little_number}
 use Rattle.oas_lex.specs.declared.LexBad.{LexBad}
 use Rattle.oas_lex.specs.declared.LexBad.TheVariants.{RealKind}

@@ -1,5 +1,7 @@
 -- The cells of a whole file, by the cells that are kept.
-use Rattle.std.proofs.Common.{◌≡◌, ◌≢◌, ◌⊎◌, ℕ, nat_eq, Bool, true, false, if◌then◌else◌, ◌&&◌, List, [], ◌∷◌, ◌++◌, Option, Some, None, Result, Ok, Err, map, reverse, All, inl, inr, refl, sym, ap, subst, ◌∙◌, append-nil, arith}
+use Rattle.std.proofs.Common.{◌≡◌, ◌≢◌, ◌⊎◌, ℕ, nat_eq, Bool, true, false, if◌then◌else◌, ◌&&◌, List, [], ◌∷◌, ◌++◌}
+use Rattle.std.proofs.Common.{Option, Some, None, Result, Ok, Err, map, reverse, All, inl, inr, refl, sym, ap, subst}
+use Rattle.std.proofs.Common.{◌∙◌, append-nil, arith}
 use Rattle.std.specs.Prelude.{IfOk, OnOk, is_some}
 use Rattle.std.proofs.lemmas.List.{map-append, reverse-append, reverse-reverse}
 use Rattle.std.proofs.lemmas.List.Elements.{All-nil, All-cons, All-head, All-tail, All-push, All-same}
@@ -20,7 +22,8 @@ use Rattle.oas_reader.specs.Behind.{AreCellsBehind}
 use Rattle.oas_reader.specs.Finished.{cell_by, cells_by, cell_item, cell_items, AreTwins}
 use Rattle.oas_reader.specs.Items.{Item, records_in, NoneEnds, is_end, given}
 use Rattle.oas_reader.specs.Meaning.{Placing, name_or, named, is_wanted, given_in_cell, shapes_at, placings_at, open_cell, cells_called, ends_cell, cells_at}
-use Rattle.oas_reader.specs.Names.{some_if, is_none, same_name, have_one_name, cell_called, target_called, cell_name, name_called, is_unknown, first_unknown, first_named, with_second, first_twins}
+use Rattle.oas_reader.specs.Names.{some_if, is_none, same_name, have_one_name, cell_called, target_called, cell_name}
+use Rattle.oas_reader.specs.Names.{name_called, is_unknown, first_unknown, first_named, with_second, first_twins}
 use Rattle.oas_reader.specs.Naming.{cell_record}
 use Rattle.oas_reader.specs.Reading.{item, IsFaultOf}
 use Rattle.oas_reader.specs.Readers.{WholeCell, whole_cell, begun_by, begun_of, whole_by, whole_of}
@@ -125,9 +128,11 @@ end_whole wanted past last ends =
     let shapes = given_in_cell (shapes_at wanted) (last.r ∷ records) in
     let placings = given_in_cell placings_at (last.r ∷ records) in
     let goes_on = end_begins last.r ends in
-    ap (λ b. (if b then all_whole wanted past else whole_of wanted past) ++ whole_by (begun_by last (cell_called last.r) (begun_of past)) shapes placings) goes_on
+    ap (λ b. (if b then all_whole wanted past else whole_of wanted past) ++ whole_by
+    (begun_by last (cell_called last.r) (begun_of past)) shapes placings) goes_on
     ∙ ap (λ called. whole_of wanted past ++ whole_by (begun_by last called (begun_of past)) shapes placings) (end_called last.r ends)
-    ∙ ap (λ xs. whole_of wanted past ++ whole_by (begun_of past) xs placings) (end_given (shapes_at wanted) records last.r goes_on (end_shapes wanted records last.r ends))
+    ∙ ap (λ xs. whole_of wanted past ++ whole_by (begun_of past) xs placings)
+    (end_given (shapes_at wanted) records last.r goes_on (end_shapes wanted records last.r ends))
     ∙ ap (λ xs. whole_of wanted past ++ whole_by (begun_of past) (given_in_cell (shapes_at wanted) records) xs)
     (end_given placings_at records last.r goes_on (end_placings records last.r ends))
 
@@ -165,7 +170,9 @@ last_item before w = ap reverse (map-append item_whole before (w ∷ [])) ∙ re
 items_step : (x : Item) (called : Option Called) (begun : Option Begun) (before : List WholeCell) (cells : List Item)
     → (drawn : List Shape) (placed : List Placing) (shapes : List Shape) (placings : List Placing)
     → ((s : List Shape) (p : List Placing) → reverse (map item_whole (before ++ whole_by begun s p)) ≡ cells)
-    → reverse (map item_whole ((if is_some called then before ++ whole_by begun drawn placed else before) ++ whole_by (begun_by x called begun) shapes placings))
+    → reverse (map item_whole
+    ((if is_some called then before ++ whole_by begun drawn placed else before) ++ whole_by
+    (begun_by x called begun) shapes placings))
     ≡ cell_before x called cells
 items_step x None begun before cells drawn placed shapes placings same = same shapes placings
 items_step x (Some called) begun before cells drawn placed shapes placings same =
@@ -176,12 +183,15 @@ items_only : (wanted : List Pair) (past : List Item) (shapes : List Shape) (plac
     → reverse (map item_whole (whole_of wanted past ++ whole_by (begun_of past) shapes placings)) ≡ only_cells past
 items_only wanted [] shapes placings = refl
 items_only wanted (x ∷ past) shapes placings =
-    ap (λ b. reverse (map item_whole ((if b then all_whole wanted past else whole_of wanted past) ++ whole_by (begun_by x (cell_called x.r) (begun_of past)) shapes placings)))
+    ap (λ b. reverse (map item_whole
+    ((if b then all_whole wanted past else whole_of wanted past) ++ whole_by
+    (begun_by x (cell_called x.r) (begun_of past)) shapes placings)))
     (begins_called x.r)
     ∙ items_step x (cell_called x.r) (begun_of past) (whole_of wanted past) (only_cells past) (given_in_cell (shapes_at wanted) (records_in past))
     (given_in_cell placings_at (records_in past)) shapes placings (items_only wanted past)
 
-only_behind : (wanted : List Pair) (past : List Item) (drafts : List Draft) → map whole_cell drafts ≡ all_whole wanted past → cell_items drafts ≡ only_cells past
+only_behind : (wanted : List Pair) (past : List Item) (drafts : List Draft)
+    → map whole_cell drafts ≡ all_whole wanted past → cell_items drafts ≡ only_cells past
 only_behind wanted past drafts are =
     ap reverse (items_whole drafts ∙ ap (map item_whole) are)
     ∙ items_only wanted past (given_in_cell (shapes_at wanted) (records_in past)) (given_in_cell placings_at (records_in past))
@@ -253,8 +263,10 @@ apart_from : (bytes : List ℕ) (all : List OasRecord) (name : List ℕ) (drafts
 apart_from bytes all name [] none known = All-nil (λ other. name ≢ other)
 apart_from bytes all name (draft ∷ drafts) none known =
     let r = cell_record draft.called in
-    let named = both_none (first_named bytes all (Some name) (map cell_item drafts)) (some_if (have_one_name (Some name) (cell_name bytes all (cell_called r))) draft.at) none in
-    let both = both_none (first_unknown bytes all (map cell_item drafts)) (some_if (is_unknown bytes all (or_else (cell_called r) (target_called r))) draft.at) known in
+    let named = both_none (first_named bytes all (Some name) (map cell_item drafts))
+    (some_if (have_one_name (Some name) (cell_name bytes all (cell_called r))) draft.at) none in
+    let both = both_none (first_unknown bytes all (map cell_item drafts))
+    (some_if (is_unknown bytes all (or_else (cell_called r) (target_called r))) draft.at) known in
     let apart = sym (ap (λ o. some_if (have_one_name (Some name) o) draft.at) (name_there bytes all draft both.1)) ∙ named.1 in
     All-cons (λ other. name ≢ other) (name_of_draft bytes all draft) (map (name_of_draft bytes all) drafts)
     (differ name (name_of_draft bytes all draft) draft.at apart) (apart_from bytes all name drafts named.0 both.0)

@@ -2,7 +2,9 @@
 use Rattle.std.proofs.Common.{◌≡◌, ℕ, ◌+◌, Bool, true, false, if◌then◌else◌, Option, Some, None, List, [], ◌∷◌, refl, sym, subst, ◌⊎◌, inl, inr, arith}
 use Rattle.oas_lex.specs.Strings.{HasText}
 use Rattle.oas_record.specs.Records.{HasRecord, HasBody, HasInfo, HasRow, row_at, id_of, info_of, fields_of, switch_of, called_or, span_or, real_or, place_of}
-use Rattle.oas_record.specs.Rows.{Field, IsNumber, IsReal, IsCalled, IsSpan as Spanned, Part, Row, NoInfo, Below, HasForm, HasName, HasWhere, HasFields, Text as AText, OneReal, Switch, Tables, Number as ANumber, NameBy, Always, Bit, Zero, when, placed, is_set, is_written}
+use Rattle.oas_record.specs.Rows.{Field, IsNumber, IsReal, IsCalled, IsSpan as Spanned, Part, Row, NoInfo, Below}
+use Rattle.oas_record.specs.Rows.{HasForm, HasName, HasWhere, HasFields, Text as AText, OneReal, Switch, Tables}
+use Rattle.oas_record.specs.Rows.{Number as ANumber, NameBy, Always, Bit, Zero, when, placed, is_set, is_written}
 use Rattle.oas_record.specs.declared.fields.Called.{Called}
 use Rattle.oas_record.specs.declared.fields.Called.TheVariants.{Number, Text}
 use Rattle.oas_record.specs.declared.records.OasRecord.{OasRecord}
@@ -56,7 +58,8 @@ text_first parts tables bytes at info span fields next h =
     (body_fields (text_row parts) tables bytes at info (Spanned span ∷ fields) next h) in
     field_span (switch_of tables) bytes at span first.mid first.stands
 
-called_name : (is_number : Bool) (bytes : List ℕ) (at first last next : ℕ) → HasName is_number bytes at (IsCalled (Text first last)) next → IsSpan bytes (first, last)
+called_name : (is_number : Bool) (bytes : List ℕ) (at first last next : ℕ)
+    → HasName is_number bytes at (IsCalled (Text first last)) next → IsSpan bytes (first, last)
 called_name true bytes at first last next h = absurd (let e = h.2 in cc)
 called_name false bytes at first last next h =
     let e : IsCalled (Text first last) ≡ IsCalled (Text h.0 next) = h.2 in
@@ -86,13 +89,15 @@ pub body_within : (bytes : List ℕ) (at : ℕ) (tables : Bool) (r : OasRecord) 
     → IsBodyWithin bytes (body_of r)
 body_within bytes at tables records.Pad next h = tt
 body_within bytes at tables (records.Start version real offset_flag offsets) next h =
-    text_first (when Always OneReal ∷ when Always Switch ∷ when Zero Tables ∷ []) tables bytes (at + 1) 0 version (IsReal real ∷ IsNumber offset_flag ∷ span_or offsets ∷ []) next
+    text_first (when Always OneReal ∷ when Always Switch ∷ when Zero Tables ∷ []) tables bytes (at + 1) 0 version
+    (IsReal real ∷ IsNumber offset_flag ∷ span_or offsets ∷ []) next
     (row_of bytes at tables (records.Start version real offset_flag offsets) next h)
 body_within bytes at tables (records.End offsets padding scheme validation) next h = tt
 body_within bytes at tables (records.CellName name) next h =
     text_first [] tables bytes (at + 1) 0 name [] next (row_of bytes at tables (records.CellName name) next h)
 body_within bytes at tables (records.NumberedCellName name number) next h =
-    text_first (when Always ANumber ∷ []) tables bytes (at + 1) 0 name (IsNumber number ∷ []) next (row_of bytes at tables (records.NumberedCellName name number) next h)
+    text_first (when Always ANumber ∷ []) tables bytes (at + 1) 0 name (IsNumber number ∷ []) next
+    (row_of bytes at tables (records.NumberedCellName name number) next h)
 body_within bytes at tables (records.TextString text) next h = tt
 body_within bytes at tables (records.NumberedTextString text number) next h = tt
 body_within bytes at tables (records.PropName name) next h = tt
@@ -111,7 +116,8 @@ body_within bytes at tables (records.Placement info cell x y repetition) next h 
   omega arith,
 )
 body_within bytes at tables (records.TurnedPlacement info cell magnification angle x y repetition) next h = (
-  called_first (when (Bit 2) OneReal ∷ when (Bit 1) OneReal ∷ placed) bytes (at + 1) info cell (real_or magnification ∷ real_or angle ∷ place_of x y repetition) next
+  called_first (when (Bit 2) OneReal ∷ when (Bit 1) OneReal ∷ placed) bytes (at + 1) info cell
+      (real_or magnification ∷ real_or angle ∷ place_of x y repetition) next
       (row_of bytes at tables (records.TurnedPlacement info cell magnification angle x y repetition) next h),
   tt,
 )

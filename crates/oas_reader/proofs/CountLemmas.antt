@@ -59,8 +59,10 @@ properties_in past = count_in (λ _ r. is_property r) past
 pub counted : (wanted : List Pair) (past : List OasRecord) (r : OasRecord) → KeepsToOthers (is_wanted wanted (r ∷ past)) r
     → with_record (wanting_of wanted past r) (body_of r) (counts_of wanted past) ≡ counts_of wanted (r ∷ past)
 counted wanted past records.Pad h = none_more (kept_in wanted past) (other_in wanted past) (texts_in past) (properties_in past)
-counted wanted past (records.Start version real offset_flag offsets) h = none_more (kept_in wanted past) (other_in wanted past) (texts_in past) (properties_in past)
-counted wanted past (records.End offsets padding scheme validation) h = none_more (kept_in wanted past) (other_in wanted past) (texts_in past) (properties_in past)
+counted wanted past (records.Start version real offset_flag offsets) h = none_more (kept_in wanted past)
+    (other_in wanted past) (texts_in past) (properties_in past)
+counted wanted past (records.End offsets padding scheme validation) h = none_more (kept_in wanted past)
+    (other_in wanted past) (texts_in past) (properties_in past)
 counted wanted past (records.CellName name) h = none_more (kept_in wanted past) (other_in wanted past) (texts_in past) (properties_in past)
 counted wanted past (records.NumberedCellName name number) h = none_more (kept_in wanted past) (other_in wanted past) (texts_in past) (properties_in past)
 counted wanted past (records.TextString text) h = none_more (kept_in wanted past) (other_in wanted past) (texts_in past) (properties_in past)
@@ -70,28 +72,60 @@ counted wanted past (records.NumberedPropName name number) h = none_more (kept_i
 counted wanted past (records.PropString text) h = none_more (kept_in wanted past) (other_in wanted past) (texts_in past) (properties_in past)
 counted wanted past (records.NumberedPropString text number) h = none_more (kept_in wanted past) (other_in wanted past) (texts_in past) (properties_in past)
 counted wanted past (records.LayerName name layers datatypes) h = none_more (kept_in wanted past) (other_in wanted past) (texts_in past) (properties_in past)
-counted wanted past (records.TextLayerName name layers datatypes) h = none_more (kept_in wanted past) (other_in wanted past) (texts_in past) (properties_in past)
+counted wanted past (records.TextLayerName name layers datatypes) h = none_more (kept_in wanted past)
+    (other_in wanted past) (texts_in past) (properties_in past)
 counted wanted past (records.NumberedCell number) h = none_more (kept_in wanted past) (other_in wanted past) (texts_in past) (properties_in past)
 counted wanted past (records.Cell name) h = none_more (kept_in wanted past) (other_in wanted past) (texts_in past) (properties_in past)
 counted wanted past records.XyAbsolute h = none_more (kept_in wanted past) (other_in wanted past) (texts_in past) (properties_in past)
 counted wanted past records.XyRelative h = none_more (kept_in wanted past) (other_in wanted past) (texts_in past) (properties_in past)
 counted wanted past (records.Placement info cell x y repetition) h = none_more (kept_in wanted past) (other_in wanted past) (texts_in past) (properties_in past)
-counted wanted past (records.TurnedPlacement info cell magnification angle x y repetition) h = none_more (kept_in wanted past) (other_in wanted past) (texts_in past) (properties_in past)
-counted wanted past (records.Text info text textlayer texttype x y repetition) h = text_more (kept_in wanted past) (other_in wanted past) (texts_in past) (properties_in past)
-counted wanted past (records.Rectangle info layer datatype width height x y repetition) h = shape_more (kept_in wanted past) (other_in wanted past) (texts_in past) (properties_in past) (body_of (records.Rectangle info layer datatype width height x y repetition)) (is_wanted wanted ((records.Rectangle info layer datatype width height x y repetition) ∷ past))
-counted wanted past (records.Polygon info layer datatype points x y repetition) h = shape_more (kept_in wanted past) (other_in wanted past) (texts_in past) (properties_in past) (body_of (records.Polygon info layer datatype points x y repetition)) (is_wanted wanted ((records.Polygon info layer datatype points x y repetition) ∷ past))
-counted wanted past (records.Path info layer datatype half_width extension start end points x y repetition) h = shape_more (kept_in wanted past) (other_in wanted past) (texts_in past) (properties_in past) (body_of (records.Path info layer datatype half_width extension start end points x y repetition)) (is_wanted wanted ((records.Path info layer datatype half_width extension start end points x y repetition) ∷ past))
-counted wanted past (records.Trapezoid info layer datatype width height delta_a delta_b x y repetition) h = shape_more (kept_in wanted past) (other_in wanted past) (texts_in past) (properties_in past) (body_of (records.Trapezoid info layer datatype width height delta_a delta_b x y repetition)) (is_wanted wanted ((records.Trapezoid info layer datatype width height delta_a delta_b x y repetition) ∷ past))
-counted wanted past (records.TrapezoidA info layer datatype width height delta_a x y repetition) h = shape_more (kept_in wanted past) (other_in wanted past) (texts_in past) (properties_in past) (body_of (records.TrapezoidA info layer datatype width height delta_a x y repetition)) (is_wanted wanted ((records.TrapezoidA info layer datatype width height delta_a x y repetition) ∷ past))
-counted wanted past (records.TrapezoidB info layer datatype width height delta_b x y repetition) h = shape_more (kept_in wanted past) (other_in wanted past) (texts_in past) (properties_in past) (body_of (records.TrapezoidB info layer datatype width height delta_b x y repetition)) (is_wanted wanted ((records.TrapezoidB info layer datatype width height delta_b x y repetition) ∷ past))
-counted wanted past (records.Ctrapezoid info layer datatype kind width height x y repetition) h = shape_more (kept_in wanted past) (other_in wanted past) (texts_in past) (properties_in past) (body_of (records.Ctrapezoid info layer datatype kind width height x y repetition)) (is_wanted wanted ((records.Ctrapezoid info layer datatype kind width height x y repetition) ∷ past))
-counted wanted past (records.Circle info layer datatype radius x y repetition) h = undrawn_more (kept_in wanted past) (other_in wanted past) (texts_in past) (properties_in past) (body_of (records.Circle info layer datatype radius x y repetition)) (is_wanted wanted ((records.Circle info layer datatype radius x y repetition) ∷ past)) h
-counted wanted past (records.Property info name count values) h = property_more (kept_in wanted past) (other_in wanted past) (texts_in past) (properties_in past)
+counted wanted past (records.TurnedPlacement info cell magnification angle x y repetition) h = none_more
+    (kept_in wanted past) (other_in wanted past) (texts_in past) (properties_in past)
+counted wanted past (records.Text info text textlayer texttype x y repetition) h = text_more (kept_in wanted past)
+    (other_in wanted past) (texts_in past) (properties_in past)
+counted wanted past (records.Rectangle info layer datatype width height x y repetition) h = shape_more
+    (kept_in wanted past) (other_in wanted past) (texts_in past) (properties_in past)
+    (body_of (records.Rectangle info layer datatype width height x y repetition))
+    (is_wanted wanted ((records.Rectangle info layer datatype width height x y repetition) ∷ past))
+counted wanted past (records.Polygon info layer datatype points x y repetition) h = shape_more (kept_in wanted past)
+    (other_in wanted past) (texts_in past) (properties_in past)
+    (body_of (records.Polygon info layer datatype points x y repetition))
+    (is_wanted wanted ((records.Polygon info layer datatype points x y repetition) ∷ past))
+counted wanted past (records.Path info layer datatype half_width extension start end points x y repetition) h =
+    shape_more (kept_in wanted past) (other_in wanted past) (texts_in past) (properties_in past)
+    (body_of (records.Path info layer datatype half_width extension start end points x y repetition))
+    (is_wanted wanted ((records.Path info layer datatype half_width extension start end points x y repetition) ∷ past))
+counted wanted past (records.Trapezoid info layer datatype width height delta_a delta_b x y repetition) h = shape_more
+    (kept_in wanted past) (other_in wanted past) (texts_in past) (properties_in past)
+    (body_of (records.Trapezoid info layer datatype width height delta_a delta_b x y repetition))
+    (is_wanted wanted ((records.Trapezoid info layer datatype width height delta_a delta_b x y repetition) ∷ past))
+counted wanted past (records.TrapezoidA info layer datatype width height delta_a x y repetition) h = shape_more
+    (kept_in wanted past) (other_in wanted past) (texts_in past) (properties_in past)
+    (body_of (records.TrapezoidA info layer datatype width height delta_a x y repetition))
+    (is_wanted wanted ((records.TrapezoidA info layer datatype width height delta_a x y repetition) ∷ past))
+counted wanted past (records.TrapezoidB info layer datatype width height delta_b x y repetition) h = shape_more
+    (kept_in wanted past) (other_in wanted past) (texts_in past) (properties_in past)
+    (body_of (records.TrapezoidB info layer datatype width height delta_b x y repetition))
+    (is_wanted wanted ((records.TrapezoidB info layer datatype width height delta_b x y repetition) ∷ past))
+counted wanted past (records.Ctrapezoid info layer datatype kind width height x y repetition) h = shape_more
+    (kept_in wanted past) (other_in wanted past) (texts_in past) (properties_in past)
+    (body_of (records.Ctrapezoid info layer datatype kind width height x y repetition))
+    (is_wanted wanted ((records.Ctrapezoid info layer datatype kind width height x y repetition) ∷ past))
+counted wanted past (records.Circle info layer datatype radius x y repetition) h = undrawn_more (kept_in wanted past)
+    (other_in wanted past) (texts_in past) (properties_in past)
+    (body_of (records.Circle info layer datatype radius x y repetition))
+    (is_wanted wanted ((records.Circle info layer datatype radius x y repetition) ∷ past)) h
+counted wanted past (records.Property info name count values) h = property_more (kept_in wanted past)
+    (other_in wanted past) (texts_in past) (properties_in past)
 counted wanted past records.LastProperty h = property_more (kept_in wanted past) (other_in wanted past) (texts_in past) (properties_in past)
 counted wanted past (records.XName attribute text) h = none_more (kept_in wanted past) (other_in wanted past) (texts_in past) (properties_in past)
-counted wanted past (records.NumberedXName attribute text number) h = none_more (kept_in wanted past) (other_in wanted past) (texts_in past) (properties_in past)
+counted wanted past (records.NumberedXName attribute text number) h = none_more (kept_in wanted past)
+    (other_in wanted past) (texts_in past) (properties_in past)
 counted wanted past (records.XElement attribute text) h = none_more (kept_in wanted past) (other_in wanted past) (texts_in past) (properties_in past)
-counted wanted past (records.XGeometry info attribute layer datatype text x y repetition) h = undrawn_more (kept_in wanted past) (other_in wanted past) (texts_in past) (properties_in past) (body_of (records.XGeometry info attribute layer datatype text x y repetition)) (is_wanted wanted ((records.XGeometry info attribute layer datatype text x y repetition) ∷ past)) h
+counted wanted past (records.XGeometry info attribute layer datatype text x y repetition) h = undrawn_more
+    (kept_in wanted past) (other_in wanted past) (texts_in past) (properties_in past)
+    (body_of (records.XGeometry info attribute layer datatype text x y repetition))
+    (is_wanted wanted ((records.XGeometry info attribute layer datatype text x y repetition) ∷ past)) h
 
 -- ---- as many as the records at most
 

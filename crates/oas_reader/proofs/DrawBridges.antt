@@ -66,9 +66,12 @@ figure_is (records.Text info text textlayer texttype x y repetition) all = refl
 figure_is (records.Rectangle info layer datatype width height x y repetition) all = refl
 figure_is (records.Polygon info layer datatype points x y repetition) all = refl
 figure_is (records.Path info layer datatype half_width extension start end points x y repetition) all = refl
-figure_is (records.Trapezoid info layer datatype width height delta_a delta_b x y repetition) all = ap Some (trapezoid_is info (box_width all) (box_height all) delta_a delta_b)
-figure_is (records.TrapezoidA info layer datatype width height delta_a x y repetition) all = ap Some (trapezoid_is info (box_width all) (box_height all) delta_a (pos 0))
-figure_is (records.TrapezoidB info layer datatype width height delta_b x y repetition) all = ap Some (trapezoid_is info (box_width all) (box_height all) (pos 0) delta_b)
+figure_is (records.Trapezoid info layer datatype width height delta_a delta_b x y repetition) all = ap Some
+    (trapezoid_is info (box_width all) (box_height all) delta_a delta_b)
+figure_is (records.TrapezoidA info layer datatype width height delta_a x y repetition) all = ap Some
+    (trapezoid_is info (box_width all) (box_height all) delta_a (pos 0))
+figure_is (records.TrapezoidB info layer datatype width height delta_b x y repetition) all = ap Some
+    (trapezoid_is info (box_width all) (box_height all) (pos 0) delta_b)
 figure_is (records.Ctrapezoid info layer datatype kind width height x y repetition) all = refl
 figure_is (records.Circle info layer datatype radius x y repetition) all = refl
 figure_is (records.Property info name count values) all = refl
@@ -105,11 +108,14 @@ shapes_are (records.Rectangle info layer datatype width height x y repetition) a
 shapes_are (records.Polygon info layer datatype points x y repetition) all rep = refl
 shapes_are (records.Path info layer datatype half_width extension start end points x y repetition) all rep = refl
 shapes_are (records.Trapezoid info layer datatype width height delta_a delta_b x y repetition) all rep =
-    ap (λ figure. figure_shapes figure (pair_of all) (at_of all) (offsets_in rep)) (figure_is (records.Trapezoid info layer datatype width height delta_a delta_b x y repetition) all)
+    ap (λ figure. figure_shapes figure (pair_of all) (at_of all) (offsets_in rep))
+    (figure_is (records.Trapezoid info layer datatype width height delta_a delta_b x y repetition) all)
 shapes_are (records.TrapezoidA info layer datatype width height delta_a x y repetition) all rep =
-    ap (λ figure. figure_shapes figure (pair_of all) (at_of all) (offsets_in rep)) (figure_is (records.TrapezoidA info layer datatype width height delta_a x y repetition) all)
+    ap (λ figure. figure_shapes figure (pair_of all) (at_of all) (offsets_in rep))
+    (figure_is (records.TrapezoidA info layer datatype width height delta_a x y repetition) all)
 shapes_are (records.TrapezoidB info layer datatype width height delta_b x y repetition) all rep =
-    ap (λ figure. figure_shapes figure (pair_of all) (at_of all) (offsets_in rep)) (figure_is (records.TrapezoidB info layer datatype width height delta_b x y repetition) all)
+    ap (λ figure. figure_shapes figure (pair_of all) (at_of all) (offsets_in rep))
+    (figure_is (records.TrapezoidB info layer datatype width height delta_b x y repetition) all)
 shapes_are (records.Ctrapezoid info layer datatype kind width height x y repetition) all rep = refl
 shapes_are (records.Circle info layer datatype radius x y repetition) all rep = refl
 shapes_are (records.Property info name count values) all rep = refl
@@ -145,9 +151,15 @@ keeps_to (records.Text info text textlayer texttype x y repetition) all rep rule
 keeps_to (records.Rectangle info layer datatype width height x y repetition) all rep rule k = k
 keeps_to (records.Polygon info layer datatype points x y repetition) all rep rule k = k
 keeps_to (records.Path info layer datatype half_width extension start end points x y repetition) all rep rule k = k
-keeps_to (records.Trapezoid info layer datatype width height delta_a delta_b x y repetition) all rep rule k = subst (λ f. FigureKeeps f (at_of all) rep rule) (figure_is (records.Trapezoid info layer datatype width height delta_a delta_b x y repetition) all) k
-keeps_to (records.TrapezoidA info layer datatype width height delta_a x y repetition) all rep rule k = subst (λ f. FigureKeeps f (at_of all) rep rule) (figure_is (records.TrapezoidA info layer datatype width height delta_a x y repetition) all) k
-keeps_to (records.TrapezoidB info layer datatype width height delta_b x y repetition) all rep rule k = subst (λ f. FigureKeeps f (at_of all) rep rule) (figure_is (records.TrapezoidB info layer datatype width height delta_b x y repetition) all) k
+keeps_to (records.Trapezoid info layer datatype width height delta_a delta_b x y repetition) all rep rule k = subst
+    (λ f. FigureKeeps f (at_of all) rep rule)
+    (figure_is (records.Trapezoid info layer datatype width height delta_a delta_b x y repetition) all) k
+keeps_to (records.TrapezoidA info layer datatype width height delta_a x y repetition) all rep rule k = subst
+    (λ f. FigureKeeps f (at_of all) rep rule)
+    (figure_is (records.TrapezoidA info layer datatype width height delta_a x y repetition) all) k
+keeps_to (records.TrapezoidB info layer datatype width height delta_b x y repetition) all rep rule k = subst
+    (λ f. FigureKeeps f (at_of all) rep rule)
+    (figure_is (records.TrapezoidB info layer datatype width height delta_b x y repetition) all) k
 keeps_to (records.Ctrapezoid info layer datatype kind width height x y repetition) all rep rule k = k
 keeps_to (records.Circle info layer datatype radius x y repetition) all rep rule k = k
 keeps_to (records.Property info name count values) all rep rule k = k
@@ -182,9 +194,15 @@ keeps_from (records.Text info text textlayer texttype x y repetition) all rep ru
 keeps_from (records.Rectangle info layer datatype width height x y repetition) all rep rule k = k
 keeps_from (records.Polygon info layer datatype points x y repetition) all rep rule k = k
 keeps_from (records.Path info layer datatype half_width extension start end points x y repetition) all rep rule k = k
-keeps_from (records.Trapezoid info layer datatype width height delta_a delta_b x y repetition) all rep rule k = subst (λ f. FigureKeeps f (at_of all) rep rule) (sym (figure_is (records.Trapezoid info layer datatype width height delta_a delta_b x y repetition) all)) k
-keeps_from (records.TrapezoidA info layer datatype width height delta_a x y repetition) all rep rule k = subst (λ f. FigureKeeps f (at_of all) rep rule) (sym (figure_is (records.TrapezoidA info layer datatype width height delta_a x y repetition) all)) k
-keeps_from (records.TrapezoidB info layer datatype width height delta_b x y repetition) all rep rule k = subst (λ f. FigureKeeps f (at_of all) rep rule) (sym (figure_is (records.TrapezoidB info layer datatype width height delta_b x y repetition) all)) k
+keeps_from (records.Trapezoid info layer datatype width height delta_a delta_b x y repetition) all rep rule k = subst
+    (λ f. FigureKeeps f (at_of all) rep rule)
+    (sym (figure_is (records.Trapezoid info layer datatype width height delta_a delta_b x y repetition) all)) k
+keeps_from (records.TrapezoidA info layer datatype width height delta_a x y repetition) all rep rule k = subst
+    (λ f. FigureKeeps f (at_of all) rep rule)
+    (sym (figure_is (records.TrapezoidA info layer datatype width height delta_a x y repetition) all)) k
+keeps_from (records.TrapezoidB info layer datatype width height delta_b x y repetition) all rep rule k = subst
+    (λ f. FigureKeeps f (at_of all) rep rule)
+    (sym (figure_is (records.TrapezoidB info layer datatype width height delta_b x y repetition) all)) k
 keeps_from (records.Ctrapezoid info layer datatype kind width height x y repetition) all rep rule k = k
 keeps_from (records.Circle info layer datatype radius x y repetition) all rep rule k = k
 keeps_from (records.Property info name count values) all rep rule k = k

@@ -7,7 +7,10 @@ use Rattle.oas_record.specs.declared.repetition.Rep.{Rep}
 use Rattle.oas_fields.specs.Values.{AreFields, or_else, kind_of}
 use Rattle.oas_fields.specs.declared.fields.Fields.{Fields}
 use Rattle.oas_fields.specs.declared.variables.Variable.{Variable}
-use Rattle.oas_fields.specs.declared.variables.Variable.TheVariants.{Layer, Datatype, GeometryW, GeometryH, PolygonPoints, PathHalfWidth, PathStart, PathEnd, PathPoints, CtrapezoidType, PlacementCell, Repetition}
+use Rattle.oas_fields.specs.declared.variables.Variable.TheVariants.{Layer, Datatype, GeometryW, GeometryH}
+use Rattle.oas_fields.specs.declared.variables.Variable.TheVariants.{PolygonPoints, PathHalfWidth, PathStart, PathEnd}
+use Rattle.oas_fields.specs.declared.variables.Variable.TheVariants.{PathPoints, CtrapezoidType, PlacementCell}
+use Rattle.oas_fields.specs.declared.variables.Variable.TheVariants.{Repetition}
 use Rattle.oas_reader.specs.Bodies.{body_of}
 use Rattle.oas_reader.specs.Kept.{is_defined_in, first_in, form_needs, has_a_pair, pair_needs, repetition_needs, undefined_in}
 use Rattle.oas_reader.specs.Undefined.{is_there, is_defined, repeated, needs_of, first_undefined, undefined_of}
@@ -101,7 +104,9 @@ pub undefined_is : (past : List OasRecord) (r : OasRecord) (fields : Fields) →
     → undefined_in (body_of r) (is_there (repetition_in r)) fields ≡ undefined_of past r
 undefined_is past r fields a =
     joined (r ∷ past) fields a (pair_needs (has_a_pair (body_of r))) (form_needs (body_of r) fields.kind) (repetition_needs (is_there (repetition_in r)))
-    ∙ ap (λ kind. first_undefined (r ∷ past) (pair_needs (has_a_pair (body_of r)) ++ (form_needs (body_of r) kind ++ repetition_needs (is_there (repetition_in r))))) a.kind
+    ∙ ap (λ kind. first_undefined (r ∷ past)
+    (pair_needs (has_a_pair (body_of r))
+    ++ (form_needs (body_of r) kind ++ repetition_needs (is_there (repetition_in r))))) a.kind
     ∙ sym (ap (λ needs. first_undefined (r ∷ past) needs) (needs_are past r))
 
 -- ---- pairs and shapes

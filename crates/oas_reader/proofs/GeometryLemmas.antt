@@ -33,7 +33,8 @@ placed_within bytes p q old new e h grid placings shapes begun whole before =
       placings =
           subst (All (λ placing. IsCalledWithin bytes placing.target)) (sym placings)
           (All-append (λ placing. IsCalledWithin bytes placing.target) old.placings.items (p ∷ []) before.placings
-          (All-cons (λ placing. IsCalledWithin bytes placing.target) p [] (target_within bytes p q e h) (All-nil (λ placing. IsCalledWithin bytes placing.target))));
+          (All-cons (λ placing. IsCalledWithin bytes placing.target) p [] (target_within bytes p q e h)
+          (All-nil (λ placing. IsCalledWithin bytes placing.target))));
       whole = subst (λ w. All (IsDraftWithin bytes) w.items) (sym whole) before.whole;
       shapes_grid = subst (All IsShapeOnGrid) (sym shapes) before.shapes_grid;
       placings_grid =

@@ -15,7 +15,9 @@ use Rattle.oas_reader.specs.Names.{conflict_of, first_unknown, first_twins}
 use Rattle.oas_reader.specs.Undefined.{undefined_of}
 use Rattle.oas_reader.specs.Rules.{KeepsRules, Keeps}
 use Rattle.oas_reader.specs.Meaning.{layout_of}
-use Rattle.oas_reader.specs.Reading.{IsAllowed, AreAllowed, IsWhole, IsLexicalFault, IsUndefinedFault, IsDefined, IsValueFault, IsNameFault, IsUnitFault, IsTailFault, IsRefused, IsRecordFault, IsFaultWithin, IsFaultOf, OneLayout, OneFault, NoLayoutWithFault}
+use Rattle.oas_reader.specs.Reading.{IsAllowed, AreAllowed, IsWhole, IsLexicalFault, IsUndefinedFault, IsDefined}
+use Rattle.oas_reader.specs.Reading.{IsValueFault, IsNameFault, IsUnitFault, IsTailFault, IsRefused, IsRecordFault}
+use Rattle.oas_reader.specs.Reading.{IsFaultWithin, IsFaultOf, OneLayout, OneFault, NoLayoutWithFault}
 
 -- ---- two runs of records
 
@@ -297,7 +299,8 @@ same_within bytes unit wanted one other law apart cause f g =
       | inr (inl on) ↦
           absurd (no_fault bytes unit wanted f.past f.at one law apart (good_in bytes unit wanted f.past f.at g.past g.at on g.read.run g.read.allowed) f.fault)
       | inr (inr on) ↦
-          absurd (no_fault bytes unit wanted g.past g.at other law apart (good_in bytes unit wanted g.past g.at f.past f.at on f.read.run f.read.allowed) g.fault)
+          absurd (no_fault bytes unit wanted g.past g.at other law apart
+          (good_in bytes unit wanted g.past g.at f.past f.at on f.read.run f.read.allowed) g.fault)
     ]
 
 pub one_fault : OneRecord → RecordOrFault → OneCause → OneFault

@@ -1,5 +1,6 @@
 -- The tables of names behind one more record, and the numbers that no record gives.
-use Rattle.std.proofs.Common.{◌≡◌, ℕ, ◌+◌, Bool, true, false, cond, ◌&&◌, nat_eq, Option, Some, None, Result, Ok, Err, List, [], ◌∷◌, ◌++◌, refl, sym, ap, subst, ◌∙◌, arith}
+use Rattle.std.proofs.Common.{◌≡◌, ℕ, ◌+◌, Bool, true, false, cond, ◌&&◌, nat_eq, Option, Some, None, Result, Ok, Err}
+use Rattle.std.proofs.Common.{List, [], ◌∷◌, ◌++◌, refl, sym, ap, subst, ◌∙◌, arith}
 use Rattle.std.specs.Prelude.{OnOk, is_some}
 use Rattle.std.specs.Cmp.Lexicographic.{same_text}
 use Rattle.std.specs.Map.{lookup}
@@ -14,8 +15,12 @@ use Rattle.oas_reader.specs.declared.naming.Given.{Given}
 use Rattle.oas_reader.specs.declared.naming.Names.{Names}
 use Rattle.oas_reader.specs.declared.naming.Cells.{Cells}
 use Rattle.oas_reader.specs.Items.{Item, records_in, count_in, text_in}
-use Rattle.oas_reader.specs.Names.{Claim, NoClaim, OfNumber, OfName, same_name, do_conflict, some_if, claim_of, number_given, has_number, is_unnumbered, cell_called, target_called, cell_name, first_conflict, name_given, name_of_number, is_none, is_unknown, first_unknown, have_one_name, first_named}
-use Rattle.oas_reader.specs.Naming.{text_by, given_in, place_by, conflict_with, cell_in, first_marked, passes, first_mention, Mentions, AreNamesOf, place_in, AreCellsOf}
+use Rattle.oas_reader.specs.Names.{Claim, NoClaim, OfNumber, OfName, same_name, do_conflict, some_if, claim_of}
+use Rattle.oas_reader.specs.Names.{number_given, has_number, is_unnumbered, cell_called, target_called, cell_name}
+use Rattle.oas_reader.specs.Names.{first_conflict, name_given, name_of_number, is_none, is_unknown, first_unknown}
+use Rattle.oas_reader.specs.Names.{have_one_name, first_named}
+use Rattle.oas_reader.specs.Naming.{text_by, given_in, place_by, conflict_with, cell_in, first_marked, passes}
+use Rattle.oas_reader.specs.Naming.{first_mention, Mentions, AreNamesOf, place_in, AreCellsOf}
 use Rattle.oas_reader.specs.Reading.{item}
 
 -- ---- numbers that no record gives
@@ -166,7 +171,8 @@ marked_more : (test : ℕ → Bool) (entries : List (ℕ × ℕ)) (number at : �
     → first_marked test (entries ++ (number, at) ∷ []) ≡ or_else (first_marked test entries) (some_if (test number) at)
 marked_more test [] number at = elim (test number) as (λ b. cond b (Some at) None ≡ some_if b at) [ true ↦ refl | false ↦ refl ]
 marked_more test (e ∷ entries) number at =
-    elim (test e.0) as (λ b. cond b (Some e.1) (first_marked test (entries ++ (number, at) ∷ [])) ≡ or_else (cond b (Some e.1) (first_marked test entries)) (some_if (test number) at)) [
+    elim (test e.0) as (λ b. cond b (Some e.1) (first_marked test (entries ++ (number, at) ∷ [])) ≡ or_else
+    (cond b (Some e.1) (first_marked test entries)) (some_if (test number) at)) [
       | true ↦ refl
       | false ↦ marked_more test entries number at
     ]

@@ -5,7 +5,8 @@ use Rattle.std.proofs.Math.Nat.{mul-div_cancel, mul_assoc, pow-succ', mul-lt-mul
 use Rattle.std.proofs.Math.Pow.{pow-lt}
 use Rattle.std.proofs.lemmas.Bool.{cases_lt}
 use Rattle.std.proofs.lemmas.Nat.{pow-add, pow_pos, div-mul-add}
-use Rattle.oas_lex.specs.Reals.{RealForm, OneNumber, TwoNumbers, FourBytes, EightBytes, form_of, sign_of, with_sign, top_of, bottom_of, IsQuotient, IsPower, IsIeee, IsMagnitude, IsWholeReal}
+use Rattle.oas_lex.specs.Reals.{RealForm, OneNumber, TwoNumbers, FourBytes, EightBytes, form_of, sign_of, with_sign}
+use Rattle.oas_lex.specs.Reals.{top_of, bottom_of, IsQuotient, IsPower, IsIeee, IsMagnitude, IsWholeReal}
 use Rattle.oas_lex.specs.declared.reals.Real.{Real}
 use Rattle.oas_reader.specs.Reals.{ieee_floor, floor_by, floor_of, IsFactor, IsQuarterAngle}
 use Rattle.layout_model.proofs.ForCallers.{IsOneReal}

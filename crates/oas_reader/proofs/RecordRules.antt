@@ -28,7 +28,9 @@ use Rattle.oas_reader.specs.Kept.{fields_at, has_a_pair, KeepsVersionBy, KeepsSc
 use Rattle.oas_reader.specs.Meaning.{repetition_by, repetition_at, is_wanted, has_pair, shapes_drawn, placings_at, figure_of, at_of, brush_of}
 use Rattle.oas_reader.specs.Names.{cell_called}
 use Rattle.oas_reader.specs.Reading.{AreAllowed}
-use Rattle.oas_reader.specs.Rules.{ArePositionsNear, KeepsOffsets, KeepsName, KeepsMagnification, KeepsAngle, KeepsToOthers, KeepsVersion, KeepsScheme, FigureKeeps, PolygonKeeps, PathKeeps, KeepsDrawn, Keeps}
+use Rattle.oas_reader.specs.Rules.{ArePositionsNear, KeepsOffsets, KeepsName, KeepsMagnification, KeepsAngle}
+use Rattle.oas_reader.specs.Rules.{KeepsToOthers, KeepsVersion, KeepsScheme, FigureKeeps, PolygonKeeps, PathKeeps}
+use Rattle.oas_reader.specs.Rules.{KeepsDrawn, Keeps}
 use Rattle.oas_reader.specs.Taking.{KeepsOwnName, wanting_of}
 use Rattle.oas_reader.specs.Undefined.{is_there, is_defined, first_undefined, undefined_of}
 use Rattle.oas_reader.specs.declared.bodies.Body.TheVariants as bodies
@@ -225,7 +227,8 @@ written_allowed (Some (reps.Moves dim moves)) last h = h
 written_allowed (Some (reps.MovesOnGrid dim grid moves)) last h = h
 
 -- and the one in force where it is, and the last one was
-force_allowed : (written last : Option Rep) → HasDimensionsIn written → HasDimensionsIn last → HasDimensionsIn (repetition_by written (or_else (the_written written) last))
+force_allowed : (written last : Option Rep) → HasDimensionsIn written → HasDimensionsIn last
+    → HasDimensionsIn (repetition_by written (or_else (the_written written) last))
 force_allowed None last h before = tt
 force_allowed (Some reps.Same) last h before = before
 force_allowed (Some (reps.Grid x_dim y_dim x_space y_space)) last h before = h
@@ -301,7 +304,8 @@ pub record IsLookedAt (bytes : List ℕ) (past : List OasRecord) (r : OasRecord)
 
 keeps_all : (bytes : List ℕ) (wanted : List Pair) (past : List OasRecord) (r : OasRecord) (rule : ℕ) → (rule ≡ 1 → ArePositionsNear (r ∷ past))
     → (rule ≡ 1 → KeepsOffsets past r) → (rule ≡ 2 → KeepsName bytes r) → (rule ≡ 4 → KeepsMagnification r) → (rule ≡ 5 → KeepsAngle r)
-    → (rule ≡ 7 → KeepsToOthers (is_wanted wanted (r ∷ past)) r) → (rule ≡ 9 → KeepsVersion bytes r) → (rule ≡ 10 → KeepsScheme r) → (rule ≡ 11 → HasDimensionsIn (repetition_in r))
+    → (rule ≡ 7 → KeepsToOthers (is_wanted wanted (r ∷ past)) r) → (rule ≡ 9 → KeepsVersion bytes r)
+    → (rule ≡ 10 → KeepsScheme r) → (rule ≡ 11 → HasDimensionsIn (repetition_in r))
     → (IsTrue (is_wanted wanted (r ∷ past)) → KeepsDrawn r (r ∷ past) (repetition_at past r) rule) → Keeps bytes wanted past r rule
 keeps_all bytes wanted past r rule positions offsets name magnification angle other version scheme dimension drawn = record {
   positions = positions;
@@ -330,31 +334,43 @@ pub keeps_geometry : (bytes : List ℕ) (wanted : List Pair) (past : List OasRec
 keeps_geometry bytes wanted past records.Pad dims rule l s g =
     keeps_all bytes wanted past records.Pad rule l.positions (λ e. tt) (λ e. tt) (λ e. tt) (λ e. tt) (λ e. tt) (λ e. tt) (λ e. tt) (λ e. tt) (λ e. tt)
 keeps_geometry bytes wanted past (records.Start version unit offset_flag tables) dims rule l s g =
-    keeps_all bytes wanted past (records.Start version unit offset_flag tables) rule l.positions (λ e. tt) (λ e. tt) (λ e. tt) (λ e. tt) (λ e. tt) (λ e. l.version) (λ e. tt) (λ e. tt) (λ e. tt)
+    keeps_all bytes wanted past (records.Start version unit offset_flag tables) rule l.positions (λ e. tt) (λ e. tt)
+    (λ e. tt) (λ e. tt) (λ e. tt) (λ e. l.version) (λ e. tt) (λ e. tt) (λ e. tt)
 keeps_geometry bytes wanted past (records.End tables padding scheme validation) dims rule l s g =
-    keeps_all bytes wanted past (records.End tables padding scheme validation) rule l.positions (λ e. tt) (λ e. tt) (λ e. tt) (λ e. tt) (λ e. tt) (λ e. tt) (λ e. l.scheme) (λ e. tt) (λ e. tt)
+    keeps_all bytes wanted past (records.End tables padding scheme validation) rule l.positions (λ e. tt) (λ e. tt)
+    (λ e. tt) (λ e. tt) (λ e. tt) (λ e. tt) (λ e. l.scheme) (λ e. tt) (λ e. tt)
 keeps_geometry bytes wanted past (records.CellName name) dims rule l s g =
     keeps_all bytes wanted past (records.CellName name) rule l.positions (λ e. tt) l.own (λ e. tt) (λ e. tt) (λ e. tt) (λ e. tt) (λ e. tt) (λ e. tt) (λ e. tt)
 keeps_geometry bytes wanted past (records.NumberedCellName name number) dims rule l s g =
-    keeps_all bytes wanted past (records.NumberedCellName name number) rule l.positions (λ e. tt) l.own (λ e. tt) (λ e. tt) (λ e. tt) (λ e. tt) (λ e. tt) (λ e. tt) (λ e. tt)
+    keeps_all bytes wanted past (records.NumberedCellName name number) rule l.positions (λ e. tt) l.own (λ e. tt)
+    (λ e. tt) (λ e. tt) (λ e. tt) (λ e. tt) (λ e. tt) (λ e. tt)
 keeps_geometry bytes wanted past (records.TextString text) dims rule l s g =
-    keeps_all bytes wanted past (records.TextString text) rule l.positions (λ e. tt) (λ e. tt) (λ e. tt) (λ e. tt) (λ e. tt) (λ e. tt) (λ e. tt) (λ e. tt) (λ e. tt)
+    keeps_all bytes wanted past (records.TextString text) rule l.positions (λ e. tt) (λ e. tt) (λ e. tt) (λ e. tt)
+    (λ e. tt) (λ e. tt) (λ e. tt) (λ e. tt) (λ e. tt)
 keeps_geometry bytes wanted past (records.NumberedTextString text number) dims rule l s g =
-    keeps_all bytes wanted past (records.NumberedTextString text number) rule l.positions (λ e. tt) (λ e. tt) (λ e. tt) (λ e. tt) (λ e. tt) (λ e. tt) (λ e. tt) (λ e. tt) (λ e. tt)
+    keeps_all bytes wanted past (records.NumberedTextString text number) rule l.positions (λ e. tt) (λ e. tt) (λ e. tt)
+    (λ e. tt) (λ e. tt) (λ e. tt) (λ e. tt) (λ e. tt) (λ e. tt)
 keeps_geometry bytes wanted past (records.PropName name) dims rule l s g =
-    keeps_all bytes wanted past (records.PropName name) rule l.positions (λ e. tt) (λ e. tt) (λ e. tt) (λ e. tt) (λ e. tt) (λ e. tt) (λ e. tt) (λ e. tt) (λ e. tt)
+    keeps_all bytes wanted past (records.PropName name) rule l.positions (λ e. tt) (λ e. tt) (λ e. tt) (λ e. tt)
+    (λ e. tt) (λ e. tt) (λ e. tt) (λ e. tt) (λ e. tt)
 keeps_geometry bytes wanted past (records.NumberedPropName name number) dims rule l s g =
-    keeps_all bytes wanted past (records.NumberedPropName name number) rule l.positions (λ e. tt) (λ e. tt) (λ e. tt) (λ e. tt) (λ e. tt) (λ e. tt) (λ e. tt) (λ e. tt) (λ e. tt)
+    keeps_all bytes wanted past (records.NumberedPropName name number) rule l.positions (λ e. tt) (λ e. tt) (λ e. tt)
+    (λ e. tt) (λ e. tt) (λ e. tt) (λ e. tt) (λ e. tt) (λ e. tt)
 keeps_geometry bytes wanted past (records.PropString text) dims rule l s g =
-    keeps_all bytes wanted past (records.PropString text) rule l.positions (λ e. tt) (λ e. tt) (λ e. tt) (λ e. tt) (λ e. tt) (λ e. tt) (λ e. tt) (λ e. tt) (λ e. tt)
+    keeps_all bytes wanted past (records.PropString text) rule l.positions (λ e. tt) (λ e. tt) (λ e. tt) (λ e. tt)
+    (λ e. tt) (λ e. tt) (λ e. tt) (λ e. tt) (λ e. tt)
 keeps_geometry bytes wanted past (records.NumberedPropString text number) dims rule l s g =
-    keeps_all bytes wanted past (records.NumberedPropString text number) rule l.positions (λ e. tt) (λ e. tt) (λ e. tt) (λ e. tt) (λ e. tt) (λ e. tt) (λ e. tt) (λ e. tt) (λ e. tt)
+    keeps_all bytes wanted past (records.NumberedPropString text number) rule l.positions (λ e. tt) (λ e. tt) (λ e. tt)
+    (λ e. tt) (λ e. tt) (λ e. tt) (λ e. tt) (λ e. tt) (λ e. tt)
 keeps_geometry bytes wanted past (records.LayerName name layers datatypes) dims rule l s g =
-    keeps_all bytes wanted past (records.LayerName name layers datatypes) rule l.positions (λ e. tt) (λ e. tt) (λ e. tt) (λ e. tt) (λ e. tt) (λ e. tt) (λ e. tt) (λ e. tt) (λ e. tt)
+    keeps_all bytes wanted past (records.LayerName name layers datatypes) rule l.positions (λ e. tt) (λ e. tt)
+    (λ e. tt) (λ e. tt) (λ e. tt) (λ e. tt) (λ e. tt) (λ e. tt) (λ e. tt)
 keeps_geometry bytes wanted past (records.TextLayerName name layers datatypes) dims rule l s g =
-    keeps_all bytes wanted past (records.TextLayerName name layers datatypes) rule l.positions (λ e. tt) (λ e. tt) (λ e. tt) (λ e. tt) (λ e. tt) (λ e. tt) (λ e. tt) (λ e. tt) (λ e. tt)
+    keeps_all bytes wanted past (records.TextLayerName name layers datatypes) rule l.positions (λ e. tt) (λ e. tt)
+    (λ e. tt) (λ e. tt) (λ e. tt) (λ e. tt) (λ e. tt) (λ e. tt) (λ e. tt)
 keeps_geometry bytes wanted past (records.NumberedCell number) dims rule l s g =
-    keeps_all bytes wanted past (records.NumberedCell number) rule l.positions (λ e. tt) (λ e. tt) (λ e. tt) (λ e. tt) (λ e. tt) (λ e. tt) (λ e. tt) (λ e. tt) (λ e. tt)
+    keeps_all bytes wanted past (records.NumberedCell number) rule l.positions (λ e. tt) (λ e. tt) (λ e. tt) (λ e. tt)
+    (λ e. tt) (λ e. tt) (λ e. tt) (λ e. tt) (λ e. tt)
 keeps_geometry bytes wanted past (records.Cell name) dims rule l s g =
     keeps_all bytes wanted past (records.Cell name) rule l.positions (λ e. tt) l.own (λ e. tt) (λ e. tt) (λ e. tt) (λ e. tt) (λ e. tt) (λ e. tt) (λ e. tt)
 keeps_geometry bytes wanted past records.XyAbsolute dims rule l s g =
@@ -362,39 +378,129 @@ keeps_geometry bytes wanted past records.XyAbsolute dims rule l s g =
 keeps_geometry bytes wanted past records.XyRelative dims rule l s g =
     keeps_all bytes wanted past records.XyRelative rule l.positions (λ e. tt) (λ e. tt) (λ e. tt) (λ e. tt) (λ e. tt) (λ e. tt) (λ e. tt) (λ e. tt) (λ e. tt)
 keeps_geometry bytes wanted past (records.Placement info cell x y repetition) dims rule l s g =
-    keeps_all bytes wanted past (records.Placement info cell x y repetition) rule l.positions g.near g.name (λ e. tt) (λ e. tt) (λ e. tt) (λ e. tt) (λ e. tt) (λ e. written_kept past (records.Placement info cell x y repetition) refl (g.dimension e)) (λ e. tt)
+    keeps_all bytes wanted past (records.Placement info cell x y repetition) rule l.positions g.near g.name (λ e. tt)
+    (λ e. tt) (λ e. tt) (λ e. tt) (λ e. tt)
+    (λ e. written_kept past (records.Placement info cell x y repetition) refl (g.dimension e)) (λ e. tt)
 keeps_geometry bytes wanted past (records.TurnedPlacement info cell magnification angle x y repetition) dims rule l s g =
-    keeps_all bytes wanted past (records.TurnedPlacement info cell magnification angle x y repetition) rule l.positions g.near g.name g.magnification g.angle (λ e. tt) (λ e. tt) (λ e. tt) (λ e. written_kept past (records.TurnedPlacement info cell magnification angle x y repetition) refl (g.dimension e)) (λ e. tt)
+    keeps_all bytes wanted past
+    (records.TurnedPlacement info cell magnification angle x y repetition) rule l.positions g.near g.name
+    g.magnification g.angle (λ e. tt) (λ e. tt) (λ e. tt)
+    (λ e. written_kept past (records.TurnedPlacement info cell magnification angle x y repetition) refl
+    (g.dimension e)) (λ e. tt)
 keeps_geometry bytes wanted past (records.Text info text textlayer texttype x y repetition) dims rule l s g =
-    keeps_all bytes wanted past (records.Text info text textlayer texttype x y repetition) rule l.positions (λ e. tt) (λ e. tt) (λ e. tt) (λ e. tt) (λ e. tt) (λ e. tt) (λ e. tt) (λ e. l.dimensions.0 (g.dimension (λ e. absurd (cc)) e)) (λ e. tt)
+    keeps_all bytes wanted past (records.Text info text textlayer texttype x y repetition) rule l.positions (λ e. tt)
+    (λ e. tt) (λ e. tt) (λ e. tt) (λ e. tt) (λ e. tt) (λ e. tt)
+    (λ e. l.dimensions.0 (g.dimension (λ e. absurd (cc)) e)) (λ e. tt)
 keeps_geometry bytes wanted past (records.Rectangle info layer datatype width height x y repetition) dims rule l s g =
-    keeps_all bytes wanted past (records.Rectangle info layer datatype width height x y repetition) rule l.positions (λ e. tt) (λ e. tt) (λ e. tt) (λ e. tt) (λ e. tt) (λ e. tt) (λ e. tt) (λ e. either (is_wanted wanted ((records.Rectangle info layer datatype width height x y repetition) ∷ past)) (λ on. written_kept past (records.Rectangle info layer datatype width height x y repetition) refl (figure_dimension _ _ _ rule (g.drawn (ap Some on)) e)) (λ off. l.dimensions.0 (g.dimension off e))) (λ on. keeps_to (records.Rectangle info layer datatype width height x y repetition) ((records.Rectangle info layer datatype width height x y repetition) ∷ past) (repetition_at past (records.Rectangle info layer datatype width height x y repetition)) rule (g.drawn (ap Some on)))
+    keeps_all bytes wanted past (records.Rectangle info layer datatype width height x y repetition) rule l.positions
+    (λ e. tt) (λ e. tt) (λ e. tt) (λ e. tt) (λ e. tt) (λ e. tt) (λ e. tt)
+    (λ e. either (is_wanted wanted ((records.Rectangle info layer datatype width height x y repetition) ∷ past))
+    (λ on. written_kept past (records.Rectangle info layer datatype width height x y repetition) refl
+    (figure_dimension _ _ _ rule (g.drawn (ap Some on)) e)) (λ off. l.dimensions.0 (g.dimension off e)))
+    (λ on. keeps_to (records.Rectangle info layer datatype width height x y repetition)
+    ((records.Rectangle info layer datatype width height x y repetition) ∷ past)
+    (repetition_at past (records.Rectangle info layer datatype width height x y repetition)) rule
+    (g.drawn (ap Some on)))
 keeps_geometry bytes wanted past (records.Polygon info layer datatype points x y repetition) dims rule l s g =
-    keeps_all bytes wanted past (records.Polygon info layer datatype points x y repetition) rule l.positions (λ e. tt) (λ e. tt) (λ e. tt) (λ e. tt) (λ e. tt) (λ e. tt) (λ e. tt) (λ e. either (is_wanted wanted ((records.Polygon info layer datatype points x y repetition) ∷ past)) (λ on. written_kept past (records.Polygon info layer datatype points x y repetition) refl (polygon_dimension _ _ _ rule (third ((records.Polygon info layer datatype points x y repetition) ∷ past) Layer Datatype PolygonPoints _ l.defined) (g.drawn (ap Some on)) e)) (λ off. l.dimensions.0 (g.dimension off e))) (λ on. keeps_to (records.Polygon info layer datatype points x y repetition) ((records.Polygon info layer datatype points x y repetition) ∷ past) (repetition_at past (records.Polygon info layer datatype points x y repetition)) rule (g.drawn (ap Some on)))
+    keeps_all bytes wanted past (records.Polygon info layer datatype points x y repetition) rule l.positions (λ e. tt)
+    (λ e. tt) (λ e. tt) (λ e. tt) (λ e. tt) (λ e. tt) (λ e. tt)
+    (λ e. either (is_wanted wanted ((records.Polygon info layer datatype points x y repetition) ∷ past))
+    (λ on. written_kept past (records.Polygon info layer datatype points x y repetition) refl
+    (polygon_dimension _ _ _ rule
+    (third ((records.Polygon info layer datatype points x y repetition) ∷ past) Layer Datatype PolygonPoints _
+    l.defined) (g.drawn (ap Some on)) e)) (λ off. l.dimensions.0 (g.dimension off e)))
+    (λ on. keeps_to (records.Polygon info layer datatype points x y repetition)
+    ((records.Polygon info layer datatype points x y repetition) ∷ past)
+    (repetition_at past (records.Polygon info layer datatype points x y repetition)) rule (g.drawn (ap Some on)))
 keeps_geometry bytes wanted past (records.Path info layer datatype half_width extension start end points x y repetition) dims rule l s g =
-    keeps_all bytes wanted past (records.Path info layer datatype half_width extension start end points x y repetition) rule l.positions (λ e. tt) (λ e. tt) (λ e. tt) (λ e. tt) (λ e. tt) (λ e. tt) (λ e. tt) (λ e. either (is_wanted wanted ((records.Path info layer datatype half_width extension start end points x y repetition) ∷ past)) (λ on. written_kept past (records.Path info layer datatype half_width extension start end points x y repetition) refl (path_dimension _ _ _ _ rule (sixth ((records.Path info layer datatype half_width extension start end points x y repetition) ∷ past) Layer Datatype PathHalfWidth PathStart PathEnd PathPoints _ l.defined) (g.drawn (ap Some on)) e)) (λ off. l.dimensions.0 (g.dimension off e))) (λ on. keeps_to (records.Path info layer datatype half_width extension start end points x y repetition) ((records.Path info layer datatype half_width extension start end points x y repetition) ∷ past) (repetition_at past (records.Path info layer datatype half_width extension start end points x y repetition)) rule (g.drawn (ap Some on)))
+    keeps_all bytes wanted past
+    (records.Path info layer datatype half_width extension start end points x y repetition) rule l.positions
+    (λ e. tt) (λ e. tt) (λ e. tt) (λ e. tt) (λ e. tt) (λ e. tt) (λ e. tt)
+    (λ e. either (is_wanted wanted
+    ((records.Path info layer datatype half_width extension start end points x y repetition) ∷ past))
+    (λ on. written_kept past
+    (records.Path info layer datatype half_width extension start end points x y repetition) refl
+    (path_dimension _ _ _ _ rule
+    (sixth ((records.Path info layer datatype half_width extension start end points x y repetition) ∷ past) Layer
+    Datatype PathHalfWidth PathStart PathEnd PathPoints _ l.defined) (g.drawn (ap Some on)) e))
+    (λ off. l.dimensions.0 (g.dimension off e)))
+    (λ on. keeps_to (records.Path info layer datatype half_width extension start end points x y repetition)
+    ((records.Path info layer datatype half_width extension start end points x y repetition) ∷ past)
+    (repetition_at past (records.Path info layer datatype half_width extension start end points x y repetition))
+    rule (g.drawn (ap Some on)))
 keeps_geometry bytes wanted past (records.Trapezoid info layer datatype width height delta_a delta_b x y repetition) dims rule l s g =
-    keeps_all bytes wanted past (records.Trapezoid info layer datatype width height delta_a delta_b x y repetition) rule l.positions (λ e. tt) (λ e. tt) (λ e. tt) (λ e. tt) (λ e. tt) (λ e. tt) (λ e. tt) (λ e. either (is_wanted wanted ((records.Trapezoid info layer datatype width height delta_a delta_b x y repetition) ∷ past)) (λ on. written_kept past (records.Trapezoid info layer datatype width height delta_a delta_b x y repetition) refl (figure_dimension _ _ _ rule (g.drawn (ap Some on)) e)) (λ off. l.dimensions.0 (g.dimension off e))) (λ on. keeps_to (records.Trapezoid info layer datatype width height delta_a delta_b x y repetition) ((records.Trapezoid info layer datatype width height delta_a delta_b x y repetition) ∷ past) (repetition_at past (records.Trapezoid info layer datatype width height delta_a delta_b x y repetition)) rule (g.drawn (ap Some on)))
+    keeps_all bytes wanted past
+    (records.Trapezoid info layer datatype width height delta_a delta_b x y repetition) rule l.positions (λ e. tt)
+    (λ e. tt) (λ e. tt) (λ e. tt) (λ e. tt) (λ e. tt) (λ e. tt)
+    (λ e. either (is_wanted wanted
+    ((records.Trapezoid info layer datatype width height delta_a delta_b x y repetition) ∷ past))
+    (λ on. written_kept past
+    (records.Trapezoid info layer datatype width height delta_a delta_b x y repetition) refl
+    (figure_dimension _ _ _ rule (g.drawn (ap Some on)) e)) (λ off. l.dimensions.0 (g.dimension off e)))
+    (λ on. keeps_to (records.Trapezoid info layer datatype width height delta_a delta_b x y repetition)
+    ((records.Trapezoid info layer datatype width height delta_a delta_b x y repetition) ∷ past)
+    (repetition_at past (records.Trapezoid info layer datatype width height delta_a delta_b x y repetition)) rule
+    (g.drawn (ap Some on)))
 keeps_geometry bytes wanted past (records.TrapezoidA info layer datatype width height delta_a x y repetition) dims rule l s g =
-    keeps_all bytes wanted past (records.TrapezoidA info layer datatype width height delta_a x y repetition) rule l.positions (λ e. tt) (λ e. tt) (λ e. tt) (λ e. tt) (λ e. tt) (λ e. tt) (λ e. tt) (λ e. either (is_wanted wanted ((records.TrapezoidA info layer datatype width height delta_a x y repetition) ∷ past)) (λ on. written_kept past (records.TrapezoidA info layer datatype width height delta_a x y repetition) refl (figure_dimension _ _ _ rule (g.drawn (ap Some on)) e)) (λ off. l.dimensions.0 (g.dimension off e))) (λ on. keeps_to (records.TrapezoidA info layer datatype width height delta_a x y repetition) ((records.TrapezoidA info layer datatype width height delta_a x y repetition) ∷ past) (repetition_at past (records.TrapezoidA info layer datatype width height delta_a x y repetition)) rule (g.drawn (ap Some on)))
+    keeps_all bytes wanted past
+    (records.TrapezoidA info layer datatype width height delta_a x y repetition) rule l.positions (λ e. tt)
+    (λ e. tt) (λ e. tt) (λ e. tt) (λ e. tt) (λ e. tt) (λ e. tt)
+    (λ e. either (is_wanted wanted
+    ((records.TrapezoidA info layer datatype width height delta_a x y repetition) ∷ past))
+    (λ on. written_kept past (records.TrapezoidA info layer datatype width height delta_a x y repetition) refl
+    (figure_dimension _ _ _ rule (g.drawn (ap Some on)) e)) (λ off. l.dimensions.0 (g.dimension off e)))
+    (λ on. keeps_to (records.TrapezoidA info layer datatype width height delta_a x y repetition)
+    ((records.TrapezoidA info layer datatype width height delta_a x y repetition) ∷ past)
+    (repetition_at past (records.TrapezoidA info layer datatype width height delta_a x y repetition)) rule
+    (g.drawn (ap Some on)))
 keeps_geometry bytes wanted past (records.TrapezoidB info layer datatype width height delta_b x y repetition) dims rule l s g =
-    keeps_all bytes wanted past (records.TrapezoidB info layer datatype width height delta_b x y repetition) rule l.positions (λ e. tt) (λ e. tt) (λ e. tt) (λ e. tt) (λ e. tt) (λ e. tt) (λ e. tt) (λ e. either (is_wanted wanted ((records.TrapezoidB info layer datatype width height delta_b x y repetition) ∷ past)) (λ on. written_kept past (records.TrapezoidB info layer datatype width height delta_b x y repetition) refl (figure_dimension _ _ _ rule (g.drawn (ap Some on)) e)) (λ off. l.dimensions.0 (g.dimension off e))) (λ on. keeps_to (records.TrapezoidB info layer datatype width height delta_b x y repetition) ((records.TrapezoidB info layer datatype width height delta_b x y repetition) ∷ past) (repetition_at past (records.TrapezoidB info layer datatype width height delta_b x y repetition)) rule (g.drawn (ap Some on)))
+    keeps_all bytes wanted past
+    (records.TrapezoidB info layer datatype width height delta_b x y repetition) rule l.positions (λ e. tt)
+    (λ e. tt) (λ e. tt) (λ e. tt) (λ e. tt) (λ e. tt) (λ e. tt)
+    (λ e. either (is_wanted wanted
+    ((records.TrapezoidB info layer datatype width height delta_b x y repetition) ∷ past))
+    (λ on. written_kept past (records.TrapezoidB info layer datatype width height delta_b x y repetition) refl
+    (figure_dimension _ _ _ rule (g.drawn (ap Some on)) e)) (λ off. l.dimensions.0 (g.dimension off e)))
+    (λ on. keeps_to (records.TrapezoidB info layer datatype width height delta_b x y repetition)
+    ((records.TrapezoidB info layer datatype width height delta_b x y repetition) ∷ past)
+    (repetition_at past (records.TrapezoidB info layer datatype width height delta_b x y repetition)) rule
+    (g.drawn (ap Some on)))
 keeps_geometry bytes wanted past (records.Ctrapezoid info layer datatype kind width height x y repetition) dims rule l s g =
-    keeps_all bytes wanted past (records.Ctrapezoid info layer datatype kind width height x y repetition) rule l.positions (λ e. tt) (λ e. tt) (λ e. tt) (λ e. tt) (λ e. tt) (λ e. tt) (λ e. tt) (λ e. either (is_wanted wanted ((records.Ctrapezoid info layer datatype kind width height x y repetition) ∷ past)) (λ on. written_kept past (records.Ctrapezoid info layer datatype kind width height x y repetition) refl (figure_dimension _ _ _ rule (g.drawn (ap Some on)) e)) (λ off. l.dimensions.0 (g.dimension off e))) (λ on. keeps_to (records.Ctrapezoid info layer datatype kind width height x y repetition) ((records.Ctrapezoid info layer datatype kind width height x y repetition) ∷ past) (repetition_at past (records.Ctrapezoid info layer datatype kind width height x y repetition)) rule (g.drawn (ap Some on)))
+    keeps_all bytes wanted past
+    (records.Ctrapezoid info layer datatype kind width height x y repetition) rule l.positions (λ e. tt) (λ e. tt)
+    (λ e. tt) (λ e. tt) (λ e. tt) (λ e. tt) (λ e. tt)
+    (λ e. either (is_wanted wanted
+    ((records.Ctrapezoid info layer datatype kind width height x y repetition) ∷ past))
+    (λ on. written_kept past (records.Ctrapezoid info layer datatype kind width height x y repetition) refl
+    (figure_dimension _ _ _ rule (g.drawn (ap Some on)) e)) (λ off. l.dimensions.0 (g.dimension off e)))
+    (λ on. keeps_to (records.Ctrapezoid info layer datatype kind width height x y repetition)
+    ((records.Ctrapezoid info layer datatype kind width height x y repetition) ∷ past)
+    (repetition_at past (records.Ctrapezoid info layer datatype kind width height x y repetition)) rule
+    (g.drawn (ap Some on)))
 keeps_geometry bytes wanted past (records.Circle info layer datatype radius x y repetition) dims rule l s g =
-    keeps_all bytes wanted past (records.Circle info layer datatype radius x y repetition) rule l.positions (λ e. tt) (λ e. tt) (λ e. tt) (λ e. tt) (λ e on. g.drawn (ap Some on) e) (λ e. tt) (λ e. tt) (λ e. either (is_wanted wanted ((records.Circle info layer datatype radius x y repetition) ∷ past)) (λ on. absurd ((s e).drawn (ap Some on) refl)) (λ off. l.dimensions.0 (g.dimension off e))) (λ e. tt)
+    keeps_all bytes wanted past (records.Circle info layer datatype radius x y repetition) rule l.positions (λ e. tt)
+    (λ e. tt) (λ e. tt) (λ e. tt) (λ e on. g.drawn (ap Some on) e) (λ e. tt) (λ e. tt)
+    (λ e. either (is_wanted wanted ((records.Circle info layer datatype radius x y repetition) ∷ past))
+    (λ on. absurd ((s e).drawn (ap Some on) refl)) (λ off. l.dimensions.0 (g.dimension off e))) (λ e. tt)
 keeps_geometry bytes wanted past (records.Property info name count values) dims rule l s g =
-    keeps_all bytes wanted past (records.Property info name count values) rule l.positions (λ e. tt) (λ e. tt) (λ e. tt) (λ e. tt) (λ e. tt) (λ e. tt) (λ e. tt) (λ e. tt) (λ e. tt)
+    keeps_all bytes wanted past (records.Property info name count values) rule l.positions (λ e. tt) (λ e. tt)
+    (λ e. tt) (λ e. tt) (λ e. tt) (λ e. tt) (λ e. tt) (λ e. tt) (λ e. tt)
 keeps_geometry bytes wanted past records.LastProperty dims rule l s g =
     keeps_all bytes wanted past records.LastProperty rule l.positions (λ e. tt) (λ e. tt) (λ e. tt) (λ e. tt) (λ e. tt) (λ e. tt) (λ e. tt) (λ e. tt) (λ e. tt)
 keeps_geometry bytes wanted past (records.XName attribute text) dims rule l s g =
-    keeps_all bytes wanted past (records.XName attribute text) rule l.positions (λ e. tt) (λ e. tt) (λ e. tt) (λ e. tt) (λ e. tt) (λ e. tt) (λ e. tt) (λ e. tt) (λ e. tt)
+    keeps_all bytes wanted past (records.XName attribute text) rule l.positions (λ e. tt) (λ e. tt) (λ e. tt) (λ e. tt)
+    (λ e. tt) (λ e. tt) (λ e. tt) (λ e. tt) (λ e. tt)
 keeps_geometry bytes wanted past (records.NumberedXName attribute text number) dims rule l s g =
-    keeps_all bytes wanted past (records.NumberedXName attribute text number) rule l.positions (λ e. tt) (λ e. tt) (λ e. tt) (λ e. tt) (λ e. tt) (λ e. tt) (λ e. tt) (λ e. tt) (λ e. tt)
+    keeps_all bytes wanted past (records.NumberedXName attribute text number) rule l.positions (λ e. tt) (λ e. tt)
+    (λ e. tt) (λ e. tt) (λ e. tt) (λ e. tt) (λ e. tt) (λ e. tt) (λ e. tt)
 keeps_geometry bytes wanted past (records.XElement attribute text) dims rule l s g =
-    keeps_all bytes wanted past (records.XElement attribute text) rule l.positions (λ e. tt) (λ e. tt) (λ e. tt) (λ e. tt) (λ e. tt) (λ e. tt) (λ e. tt) (λ e. tt) (λ e. tt)
+    keeps_all bytes wanted past (records.XElement attribute text) rule l.positions (λ e. tt) (λ e. tt) (λ e. tt)
+    (λ e. tt) (λ e. tt) (λ e. tt) (λ e. tt) (λ e. tt) (λ e. tt)
 keeps_geometry bytes wanted past (records.XGeometry info attribute layer datatype text x y repetition) dims rule l s g =
-    keeps_all bytes wanted past (records.XGeometry info attribute layer datatype text x y repetition) rule l.positions (λ e. tt) (λ e. tt) (λ e. tt) (λ e. tt) (λ e on. g.drawn (ap Some on) e) (λ e. tt) (λ e. tt) (λ e. either (is_wanted wanted ((records.XGeometry info attribute layer datatype text x y repetition) ∷ past)) (λ on. absurd ((s e).drawn (ap Some on) refl)) (λ off. l.dimensions.0 (g.dimension off e))) (λ e. tt)
+    keeps_all bytes wanted past (records.XGeometry info attribute layer datatype text x y repetition) rule l.positions
+    (λ e. tt) (λ e. tt) (λ e. tt) (λ e. tt) (λ e on. g.drawn (ap Some on) e) (λ e. tt) (λ e. tt)
+    (λ e. either (is_wanted wanted ((records.XGeometry info attribute layer datatype text x y repetition) ∷ past))
+    (λ on. absurd ((s e).drawn (ap Some on) refl)) (λ off. l.dimensions.0 (g.dimension off e))) (λ e. tt)
 
 some_is : (b : Bool) → Some b ≡ Some true → IsTrue b
 some_is true e = refl
@@ -405,39 +511,150 @@ pub geometry_keeps : (bytes : List ℕ) (wanted : List Pair) (past : List OasRec
     → (IsTrue dims ↔ HasDimensionsIn (repetition_in r)) → HasDimensionsIn (repetition_of past) → Keeps bytes wanted past r rule
     → KeepsGeometry bytes (body_of r) dims (wanting_of wanted past r) (fields_at (r ∷ past)) (repetition_at past r) rule
 geometry_keeps bytes wanted past records.Pad dims rule d before k = record { drawn = λ on. absurd (cc); dimension = λ off e. d.1 (k.dimension e) }
-geometry_keeps bytes wanted past (records.Start version unit offset_flag tables) dims rule d before k = record { drawn = λ on. absurd (cc); dimension = λ off e. d.1 (k.dimension e) }
-geometry_keeps bytes wanted past (records.End tables padding scheme validation) dims rule d before k = record { drawn = λ on. absurd (cc); dimension = λ off e. d.1 (k.dimension e) }
+geometry_keeps bytes wanted past (records.Start version unit offset_flag tables) dims rule d before k =
+    record { drawn = λ on. absurd (cc); dimension = λ off e. d.1 (k.dimension e) }
+geometry_keeps bytes wanted past (records.End tables padding scheme validation) dims rule d before k =
+    record { drawn = λ on. absurd (cc); dimension = λ off e. d.1 (k.dimension e) }
 geometry_keeps bytes wanted past (records.CellName name) dims rule d before k = record { drawn = λ on. absurd (cc); dimension = λ off e. d.1 (k.dimension e) }
-geometry_keeps bytes wanted past (records.NumberedCellName name number) dims rule d before k = record { drawn = λ on. absurd (cc); dimension = λ off e. d.1 (k.dimension e) }
+geometry_keeps bytes wanted past (records.NumberedCellName name number) dims rule d before k =
+    record { drawn = λ on. absurd (cc); dimension = λ off e. d.1 (k.dimension e) }
 geometry_keeps bytes wanted past (records.TextString text) dims rule d before k = record { drawn = λ on. absurd (cc); dimension = λ off e. d.1 (k.dimension e) }
-geometry_keeps bytes wanted past (records.NumberedTextString text number) dims rule d before k = record { drawn = λ on. absurd (cc); dimension = λ off e. d.1 (k.dimension e) }
+geometry_keeps bytes wanted past (records.NumberedTextString text number) dims rule d before k =
+    record { drawn = λ on. absurd (cc); dimension = λ off e. d.1 (k.dimension e) }
 geometry_keeps bytes wanted past (records.PropName name) dims rule d before k = record { drawn = λ on. absurd (cc); dimension = λ off e. d.1 (k.dimension e) }
-geometry_keeps bytes wanted past (records.NumberedPropName name number) dims rule d before k = record { drawn = λ on. absurd (cc); dimension = λ off e. d.1 (k.dimension e) }
+geometry_keeps bytes wanted past (records.NumberedPropName name number) dims rule d before k =
+    record { drawn = λ on. absurd (cc); dimension = λ off e. d.1 (k.dimension e) }
 geometry_keeps bytes wanted past (records.PropString text) dims rule d before k = record { drawn = λ on. absurd (cc); dimension = λ off e. d.1 (k.dimension e) }
-geometry_keeps bytes wanted past (records.NumberedPropString text number) dims rule d before k = record { drawn = λ on. absurd (cc); dimension = λ off e. d.1 (k.dimension e) }
-geometry_keeps bytes wanted past (records.LayerName name layers datatypes) dims rule d before k = record { drawn = λ on. absurd (cc); dimension = λ off e. d.1 (k.dimension e) }
-geometry_keeps bytes wanted past (records.TextLayerName name layers datatypes) dims rule d before k = record { drawn = λ on. absurd (cc); dimension = λ off e. d.1 (k.dimension e) }
-geometry_keeps bytes wanted past (records.NumberedCell number) dims rule d before k = record { drawn = λ on. absurd (cc); dimension = λ off e. d.1 (k.dimension e) }
+geometry_keeps bytes wanted past (records.NumberedPropString text number) dims rule d before k =
+    record { drawn = λ on. absurd (cc); dimension = λ off e. d.1 (k.dimension e) }
+geometry_keeps bytes wanted past (records.LayerName name layers datatypes) dims rule d before k =
+    record { drawn = λ on. absurd (cc); dimension = λ off e. d.1 (k.dimension e) }
+geometry_keeps bytes wanted past (records.TextLayerName name layers datatypes) dims rule d before k =
+    record { drawn = λ on. absurd (cc); dimension = λ off e. d.1 (k.dimension e) }
+geometry_keeps bytes wanted past (records.NumberedCell number) dims rule d before k =
+    record { drawn = λ on. absurd (cc); dimension = λ off e. d.1 (k.dimension e) }
 geometry_keeps bytes wanted past (records.Cell name) dims rule d before k = record { drawn = λ on. absurd (cc); dimension = λ off e. d.1 (k.dimension e) }
 geometry_keeps bytes wanted past records.XyAbsolute dims rule d before k = record { drawn = λ on. absurd (cc); dimension = λ off e. d.1 (k.dimension e) }
 geometry_keeps bytes wanted past records.XyRelative dims rule d before k = record { drawn = λ on. absurd (cc); dimension = λ off e. d.1 (k.dimension e) }
-geometry_keeps bytes wanted past (records.Placement info cell x y repetition) dims rule d before k = record { near = k.offsets; name = k.name; magnification = (λ e. tt); angle = (λ e. tt); dimension = λ e. force_kept past (records.Placement info cell x y repetition) refl before (k.dimension e) }
-geometry_keeps bytes wanted past (records.TurnedPlacement info cell magnification angle x y repetition) dims rule d before k = record { near = k.offsets; name = k.name; magnification = k.magnification; angle = k.angle; dimension = λ e. force_kept past (records.TurnedPlacement info cell magnification angle x y repetition) refl before (k.dimension e) }
-geometry_keeps bytes wanted past (records.Text info text textlayer texttype x y repetition) dims rule d before k = record { drawn = λ on. absurd (cc); dimension = λ off e. d.1 (k.dimension e) }
-geometry_keeps bytes wanted past (records.Rectangle info layer datatype width height x y repetition) dims rule d before k = record { drawn = λ on. keeps_from (records.Rectangle info layer datatype width height x y repetition) ((records.Rectangle info layer datatype width height x y repetition) ∷ past) (repetition_at past (records.Rectangle info layer datatype width height x y repetition)) rule (k.drawn (some_is (is_wanted wanted ((records.Rectangle info layer datatype width height x y repetition) ∷ past)) on)); dimension = λ off e. d.1 (k.dimension e) }
-geometry_keeps bytes wanted past (records.Polygon info layer datatype points x y repetition) dims rule d before k = record { drawn = λ on. keeps_from (records.Polygon info layer datatype points x y repetition) ((records.Polygon info layer datatype points x y repetition) ∷ past) (repetition_at past (records.Polygon info layer datatype points x y repetition)) rule (k.drawn (some_is (is_wanted wanted ((records.Polygon info layer datatype points x y repetition) ∷ past)) on)); dimension = λ off e. d.1 (k.dimension e) }
-geometry_keeps bytes wanted past (records.Path info layer datatype half_width extension start end points x y repetition) dims rule d before k = record { drawn = λ on. keeps_from (records.Path info layer datatype half_width extension start end points x y repetition) ((records.Path info layer datatype half_width extension start end points x y repetition) ∷ past) (repetition_at past (records.Path info layer datatype half_width extension start end points x y repetition)) rule (k.drawn (some_is (is_wanted wanted ((records.Path info layer datatype half_width extension start end points x y repetition) ∷ past)) on)); dimension = λ off e. d.1 (k.dimension e) }
-geometry_keeps bytes wanted past (records.Trapezoid info layer datatype width height delta_a delta_b x y repetition) dims rule d before k = record { drawn = λ on. keeps_from (records.Trapezoid info layer datatype width height delta_a delta_b x y repetition) ((records.Trapezoid info layer datatype width height delta_a delta_b x y repetition) ∷ past) (repetition_at past (records.Trapezoid info layer datatype width height delta_a delta_b x y repetition)) rule (k.drawn (some_is (is_wanted wanted ((records.Trapezoid info layer datatype width height delta_a delta_b x y repetition) ∷ past)) on)); dimension = λ off e. d.1 (k.dimension e) }
-geometry_keeps bytes wanted past (records.TrapezoidA info layer datatype width height delta_a x y repetition) dims rule d before k = record { drawn = λ on. keeps_from (records.TrapezoidA info layer datatype width height delta_a x y repetition) ((records.TrapezoidA info layer datatype width height delta_a x y repetition) ∷ past) (repetition_at past (records.TrapezoidA info layer datatype width height delta_a x y repetition)) rule (k.drawn (some_is (is_wanted wanted ((records.TrapezoidA info layer datatype width height delta_a x y repetition) ∷ past)) on)); dimension = λ off e. d.1 (k.dimension e) }
-geometry_keeps bytes wanted past (records.TrapezoidB info layer datatype width height delta_b x y repetition) dims rule d before k = record { drawn = λ on. keeps_from (records.TrapezoidB info layer datatype width height delta_b x y repetition) ((records.TrapezoidB info layer datatype width height delta_b x y repetition) ∷ past) (repetition_at past (records.TrapezoidB info layer datatype width height delta_b x y repetition)) rule (k.drawn (some_is (is_wanted wanted ((records.TrapezoidB info layer datatype width height delta_b x y repetition) ∷ past)) on)); dimension = λ off e. d.1 (k.dimension e) }
-geometry_keeps bytes wanted past (records.Ctrapezoid info layer datatype kind width height x y repetition) dims rule d before k = record { drawn = λ on. keeps_from (records.Ctrapezoid info layer datatype kind width height x y repetition) ((records.Ctrapezoid info layer datatype kind width height x y repetition) ∷ past) (repetition_at past (records.Ctrapezoid info layer datatype kind width height x y repetition)) rule (k.drawn (some_is (is_wanted wanted ((records.Ctrapezoid info layer datatype kind width height x y repetition) ∷ past)) on)); dimension = λ off e. d.1 (k.dimension e) }
-geometry_keeps bytes wanted past (records.Circle info layer datatype radius x y repetition) dims rule d before k = record { drawn = λ on seven. k.other seven (some_is (is_wanted wanted ((records.Circle info layer datatype radius x y repetition) ∷ past)) on); dimension = λ off e. d.1 (k.dimension e) }
-geometry_keeps bytes wanted past (records.Property info name count values) dims rule d before k = record { drawn = λ on. absurd (cc); dimension = λ off e. d.1 (k.dimension e) }
+geometry_keeps bytes wanted past (records.Placement info cell x y repetition) dims rule d before k =
+    record {
+      near = k.offsets;
+      name = k.name;
+      magnification = (λ e. tt);
+      angle = (λ e. tt);
+      dimension = λ e.
+          force_kept past (records.Placement info cell x y repetition) refl before (k.dimension e);
+    }
+geometry_keeps bytes wanted past
+    (records.TurnedPlacement info cell magnification angle x y repetition) dims rule d before k =
+    record {
+      near = k.offsets;
+      name = k.name;
+      magnification = k.magnification;
+      angle = k.angle;
+      dimension = λ e.
+          force_kept past (records.TurnedPlacement info cell magnification angle x y repetition) refl before (k.dimension e);
+    }
+geometry_keeps bytes wanted past (records.Text info text textlayer texttype x y repetition) dims rule d before k =
+    record { drawn = λ on. absurd (cc); dimension = λ off e. d.1 (k.dimension e) }
+geometry_keeps bytes wanted past
+    (records.Rectangle info layer datatype width height x y repetition) dims rule d before k =
+    record {
+      drawn = λ on. keeps_from (records.Rectangle info layer datatype width height x y repetition)
+          ((records.Rectangle info layer datatype width height x y repetition) ∷ past)
+          (repetition_at past (records.Rectangle info layer datatype width height x y repetition)) rule
+          (k.drawn (some_is (is_wanted wanted ((records.Rectangle info layer datatype width height x y repetition) ∷ past))
+          on));
+      dimension = λ off e. d.1 (k.dimension e);
+    }
+geometry_keeps bytes wanted past (records.Polygon info layer datatype points x y repetition) dims rule d before k =
+    record {
+      drawn = λ on. keeps_from (records.Polygon info layer datatype points x y repetition)
+          ((records.Polygon info layer datatype points x y repetition) ∷ past)
+          (repetition_at past (records.Polygon info layer datatype points x y repetition)) rule
+          (k.drawn (some_is (is_wanted wanted ((records.Polygon info layer datatype points x y repetition) ∷ past)) on));
+      dimension = λ off e. d.1 (k.dimension e);
+    }
+geometry_keeps bytes wanted past
+    (records.Path info layer datatype half_width extension start end points x y repetition) dims rule d before k =
+    record {
+      drawn = λ on. keeps_from
+          (records.Path info layer datatype half_width extension start end points x y repetition)
+          ((records.Path info layer datatype half_width extension start end points x y repetition) ∷ past)
+          (repetition_at past (records.Path info layer datatype half_width extension start end points x y repetition)) rule
+          (k.drawn (some_is (is_wanted wanted
+          ((records.Path info layer datatype half_width extension start end points x y repetition) ∷ past)) on));
+      dimension =
+          λ off e. d.1 (k.dimension e);
+    }
+geometry_keeps bytes wanted past
+    (records.Trapezoid info layer datatype width height delta_a delta_b x y repetition) dims rule d before k =
+    record {
+      drawn = λ on. keeps_from
+          (records.Trapezoid info layer datatype width height delta_a delta_b x y repetition)
+          ((records.Trapezoid info layer datatype width height delta_a delta_b x y repetition) ∷ past)
+          (repetition_at past (records.Trapezoid info layer datatype width height delta_a delta_b x y repetition)) rule
+          (k.drawn (some_is (is_wanted wanted
+          ((records.Trapezoid info layer datatype width height delta_a delta_b x y repetition) ∷ past)) on));
+      dimension =
+          λ off e. d.1 (k.dimension e);
+    }
+geometry_keeps bytes wanted past
+    (records.TrapezoidA info layer datatype width height delta_a x y repetition) dims rule d before k =
+    record {
+      drawn = λ on. keeps_from (records.TrapezoidA info layer datatype width height delta_a x y repetition)
+          ((records.TrapezoidA info layer datatype width height delta_a x y repetition) ∷ past)
+          (repetition_at past (records.TrapezoidA info layer datatype width height delta_a x y repetition)) rule
+          (k.drawn (some_is (is_wanted wanted
+          ((records.TrapezoidA info layer datatype width height delta_a x y repetition) ∷ past)) on));
+      dimension = λ off e.
+          d.1 (k.dimension e);
+    }
+geometry_keeps bytes wanted past
+    (records.TrapezoidB info layer datatype width height delta_b x y repetition) dims rule d before k =
+    record {
+      drawn = λ on. keeps_from (records.TrapezoidB info layer datatype width height delta_b x y repetition)
+          ((records.TrapezoidB info layer datatype width height delta_b x y repetition) ∷ past)
+          (repetition_at past (records.TrapezoidB info layer datatype width height delta_b x y repetition)) rule
+          (k.drawn (some_is (is_wanted wanted
+          ((records.TrapezoidB info layer datatype width height delta_b x y repetition) ∷ past)) on));
+      dimension = λ off e.
+          d.1 (k.dimension e);
+    }
+geometry_keeps bytes wanted past
+    (records.Ctrapezoid info layer datatype kind width height x y repetition) dims rule d before k =
+    record {
+      drawn = λ on. keeps_from (records.Ctrapezoid info layer datatype kind width height x y repetition)
+          ((records.Ctrapezoid info layer datatype kind width height x y repetition) ∷ past)
+          (repetition_at past (records.Ctrapezoid info layer datatype kind width height x y repetition)) rule
+          (k.drawn (some_is (is_wanted wanted
+          ((records.Ctrapezoid info layer datatype kind width height x y repetition) ∷ past)) on));
+      dimension = λ off e. d.1
+          (k.dimension e);
+    }
+geometry_keeps bytes wanted past (records.Circle info layer datatype radius x y repetition) dims rule d before k =
+    record {
+      drawn = λ on seven. k.other seven
+          (some_is (is_wanted wanted ((records.Circle info layer datatype radius x y repetition) ∷ past)) on);
+      dimension =
+          λ off e. d.1 (k.dimension e);
+    }
+geometry_keeps bytes wanted past (records.Property info name count values) dims rule d before k =
+    record { drawn = λ on. absurd (cc); dimension = λ off e. d.1 (k.dimension e) }
 geometry_keeps bytes wanted past records.LastProperty dims rule d before k = record { drawn = λ on. absurd (cc); dimension = λ off e. d.1 (k.dimension e) }
-geometry_keeps bytes wanted past (records.XName attribute text) dims rule d before k = record { drawn = λ on. absurd (cc); dimension = λ off e. d.1 (k.dimension e) }
-geometry_keeps bytes wanted past (records.NumberedXName attribute text number) dims rule d before k = record { drawn = λ on. absurd (cc); dimension = λ off e. d.1 (k.dimension e) }
-geometry_keeps bytes wanted past (records.XElement attribute text) dims rule d before k = record { drawn = λ on. absurd (cc); dimension = λ off e. d.1 (k.dimension e) }
-geometry_keeps bytes wanted past (records.XGeometry info attribute layer datatype text x y repetition) dims rule d before k = record { drawn = λ on seven. k.other seven (some_is (is_wanted wanted ((records.XGeometry info attribute layer datatype text x y repetition) ∷ past)) on); dimension = λ off e. d.1 (k.dimension e) }
+geometry_keeps bytes wanted past (records.XName attribute text) dims rule d before k =
+    record { drawn = λ on. absurd (cc); dimension = λ off e. d.1 (k.dimension e) }
+geometry_keeps bytes wanted past (records.NumberedXName attribute text number) dims rule d before k =
+    record { drawn = λ on. absurd (cc); dimension = λ off e. d.1 (k.dimension e) }
+geometry_keeps bytes wanted past (records.XElement attribute text) dims rule d before k =
+    record { drawn = λ on. absurd (cc); dimension = λ off e. d.1 (k.dimension e) }
+geometry_keeps bytes wanted past
+    (records.XGeometry info attribute layer datatype text x y repetition) dims rule d before k =
+    record {
+      drawn = λ on seven. k.other seven
+          (some_is (is_wanted wanted ((records.XGeometry info attribute layer datatype text x y repetition) ∷ past)) on);
+      dimension = λ off e. d.1 (k.dimension e);
+    }
 
 -- one that breaks a rule of its geometry has no name of its own to look at
 pub own_kept : (bytes : List ℕ) (wanted : List Pair) (past : List OasRecord) (r : OasRecord) (dims : Bool) (rule : ℕ)
@@ -447,7 +664,8 @@ own_kept bytes wanted past records.Pad dims rule d wrong = tt
 own_kept bytes wanted past (records.Start version unit offset_flag tables) dims rule d wrong = tt
 own_kept bytes wanted past (records.End tables padding scheme validation) dims rule d wrong = tt
 own_kept bytes wanted past (records.CellName name) dims rule d wrong = absurd (wrong (record { drawn = λ on. absurd (cc); dimension = λ off e. d.1 tt }))
-own_kept bytes wanted past (records.NumberedCellName name number) dims rule d wrong = absurd (wrong (record { drawn = λ on. absurd (cc); dimension = λ off e. d.1 tt }))
+own_kept bytes wanted past (records.NumberedCellName name number) dims rule d wrong = absurd
+    (wrong (record { drawn = λ on. absurd (cc); dimension = λ off e. d.1 tt }))
 own_kept bytes wanted past (records.TextString text) dims rule d wrong = tt
 own_kept bytes wanted past (records.NumberedTextString text number) dims rule d wrong = tt
 own_kept bytes wanted past (records.PropName name) dims rule d wrong = tt
@@ -526,13 +744,22 @@ drawn_below records.XyRelative all rep rule less = tt
 drawn_below (records.Placement info cell x y repetition) all rep rule less = tt
 drawn_below (records.TurnedPlacement info cell magnification angle x y repetition) all rep rule less = tt
 drawn_below (records.Text info text textlayer texttype x y repetition) all rep rule less = tt
-drawn_below (records.Rectangle info layer datatype width height x y repetition) all rep rule less = figure_below (figure_of (records.Rectangle info layer datatype width height x y repetition) all) (at_of all) rep rule less
+drawn_below (records.Rectangle info layer datatype width height x y repetition) all rep rule less = figure_below
+    (figure_of (records.Rectangle info layer datatype width height x y repetition) all) (at_of all) rep rule less
 drawn_below (records.Polygon info layer datatype points x y repetition) all rep rule less = polygon_below (polygon_points_of all) (at_of all) rep rule less
-drawn_below (records.Path info layer datatype half_width extension start end points x y repetition) all rep rule less = path_below (path_points_of all) (at_of all) (brush_of all) rep rule less
-drawn_below (records.Trapezoid info layer datatype width height delta_a delta_b x y repetition) all rep rule less = figure_below (figure_of (records.Trapezoid info layer datatype width height delta_a delta_b x y repetition) all) (at_of all) rep rule less
-drawn_below (records.TrapezoidA info layer datatype width height delta_a x y repetition) all rep rule less = figure_below (figure_of (records.TrapezoidA info layer datatype width height delta_a x y repetition) all) (at_of all) rep rule less
-drawn_below (records.TrapezoidB info layer datatype width height delta_b x y repetition) all rep rule less = figure_below (figure_of (records.TrapezoidB info layer datatype width height delta_b x y repetition) all) (at_of all) rep rule less
-drawn_below (records.Ctrapezoid info layer datatype kind width height x y repetition) all rep rule less = figure_below (figure_of (records.Ctrapezoid info layer datatype kind width height x y repetition) all) (at_of all) rep rule less
+drawn_below (records.Path info layer datatype half_width extension start end points x y repetition) all rep rule less =
+    path_below (path_points_of all) (at_of all) (brush_of all) rep rule less
+drawn_below (records.Trapezoid info layer datatype width height delta_a delta_b x y repetition) all rep rule less =
+    figure_below (figure_of (records.Trapezoid info layer datatype width height delta_a delta_b x y repetition) all)
+    (at_of all) rep rule less
+drawn_below (records.TrapezoidA info layer datatype width height delta_a x y repetition) all rep rule less =
+    figure_below (figure_of (records.TrapezoidA info layer datatype width height delta_a x y repetition) all)
+    (at_of all) rep rule less
+drawn_below (records.TrapezoidB info layer datatype width height delta_b x y repetition) all rep rule less =
+    figure_below (figure_of (records.TrapezoidB info layer datatype width height delta_b x y repetition) all)
+    (at_of all) rep rule less
+drawn_below (records.Ctrapezoid info layer datatype kind width height x y repetition) all rep rule less = figure_below
+    (figure_of (records.Ctrapezoid info layer datatype kind width height x y repetition) all) (at_of all) rep rule less
 drawn_below (records.Circle info layer datatype radius x y repetition) all rep rule less = tt
 drawn_below (records.Property info name count values) all rep rule less = tt
 drawn_below records.LastProperty all rep rule less = tt
@@ -557,7 +784,8 @@ version_lowest bytes wanted past records.Pad wrong near = absurd (wrong tt)
 version_lowest bytes wanted past (records.Start version unit offset_flag tables) wrong near = record {
   broken = λ k. wrong (k.version refl);
   lower = λ other less.
-      keeps_all bytes wanted past (records.Start version unit offset_flag tables) other (λ e. near) (λ e. tt) (λ e. tt) (λ e. tt) (λ e. tt) (λ e. tt) (λ e. absurd (omega arith)) (λ e. tt) (λ e. tt) (λ e. tt);
+      keeps_all bytes wanted past (records.Start version unit offset_flag tables) other (λ e. near) (λ e. tt) (λ e. tt)
+      (λ e. tt) (λ e. tt) (λ e. tt) (λ e. absurd (omega arith)) (λ e. tt) (λ e. tt) (λ e. tt);
 }
 version_lowest bytes wanted past (records.End tables padding scheme validation) wrong near = absurd (wrong tt)
 version_lowest bytes wanted past (records.CellName name) wrong near = absurd (wrong tt)
@@ -599,7 +827,8 @@ scheme_lowest bytes wanted past (records.Start version unit offset_flag tables) 
 scheme_lowest bytes wanted past (records.End tables padding scheme validation) wrong near = record {
   broken = λ k. wrong (k.scheme refl);
   lower = λ other less.
-      keeps_all bytes wanted past (records.End tables padding scheme validation) other (λ e. near) (λ e. tt) (λ e. tt) (λ e. tt) (λ e. tt) (λ e. tt) (λ e. tt) (λ e. absurd (omega arith)) (λ e. tt) (λ e. tt);
+      keeps_all bytes wanted past (records.End tables padding scheme validation) other (λ e. near) (λ e. tt) (λ e. tt)
+      (λ e. tt) (λ e. tt) (λ e. tt) (λ e. tt) (λ e. absurd (omega arith)) (λ e. tt) (λ e. tt);
 }
 scheme_lowest bytes wanted past (records.CellName name) wrong near = absurd (wrong tt)
 scheme_lowest bytes wanted past (records.NumberedCellName name number) wrong near = absurd (wrong tt)

@@ -28,7 +28,9 @@ use Rattle.oas_reader.specs.declared.cells.Drafts.{Drafts}
 use Rattle.oas_reader.specs.declared.refusing.OasBad.{OasBad}
 use Rattle.oas_reader.proofs.DrawBridges.{fields_are, shapes_are}
 use Rattle.oas_reader.proofs.FieldBridges.{undefined_is}
-use Rattle.oas_reader.proofs.RecordRules.{has_pair_is, calls_none, placings_are, shapes_wanted, repetition_is, IsLookedAt, keeps_geometry, geometry_keeps, own_kept, positions_lowest, version_lowest, scheme_lowest}
+use Rattle.oas_reader.proofs.RecordRules.{has_pair_is, calls_none, placings_are, shapes_wanted, repetition_is}
+use Rattle.oas_reader.proofs.RecordRules.{IsLookedAt, keeps_geometry, geometry_keeps, own_kept, positions_lowest}
+use Rattle.oas_reader.proofs.RecordRules.{version_lowest, scheme_lowest}
 
 -- ---- the program's words and the definitions'
 

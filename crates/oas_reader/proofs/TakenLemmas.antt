@@ -9,7 +9,8 @@ use Rattle.oas_record.specs.Records.{id_of}
 use Rattle.oas_record.specs.Taken.{repetition_in}
 use Rattle.oas_record.specs.declared.plain.PlainRectangle.{PlainRectangle}
 use Rattle.oas_record.specs.declared.records.OasRecord.{OasRecord}
-use Rattle.oas_fields.specs.Values.{AreFields, ArePlacesWithin, IsPlaceWithin, begins_cell, place_of, coordinate, cell_of, placement_of, geometry_of, text_of, repetition_of}
+use Rattle.oas_fields.specs.Values.{AreFields, ArePlacesWithin, IsPlaceWithin, begins_cell, place_of, coordinate}
+use Rattle.oas_fields.specs.Values.{cell_of, placement_of, geometry_of, text_of, repetition_of}
 use Rattle.oas_fields.specs.declared.fields.Fields.{Fields}
 use Rattle.oas_fields.specs.declared.places.Place.{Place as APlace}
 use Rattle.oas_shapes.specs.Repetitions.{HasDimensionsIn}

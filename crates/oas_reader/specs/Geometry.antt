@@ -52,5 +52,7 @@ abbrev pub IsBadLook : List ℕ → Outline → Fields → ℕ → OasBad → Ty
 IsBadLook bytes outline fields at bad =
     ((variable : Variable) × (undefined_in outline.body outline.repeats fields ≡ Some variable) × (bad ≡ faults.Undefined at variable))
     ⊎ ((undefined_in outline.body outline.repeats fields ≡ None) × (ArePlacesWithin (2 ^ 40) fields → ⊥) × (bad ≡ faults.Value at 1))
-    ⊎ ((undefined_in outline.body outline.repeats fields ≡ None) × ArePlacesWithin (2 ^ 40) fields × (KeepsVersionBy bytes outline.body → ⊥) × (bad ≡ faults.Value at 9))
-    ⊎ ((undefined_in outline.body outline.repeats fields ≡ None) × ArePlacesWithin (2 ^ 40) fields × (KeepsSchemeBy outline.body → ⊥) × (bad ≡ faults.Value at 10))
+    ⊎ ((undefined_in outline.body outline.repeats fields ≡ None) × ArePlacesWithin (2 ^ 40) fields
+    × (KeepsVersionBy bytes outline.body → ⊥) × (bad ≡ faults.Value at 9))
+    ⊎ ((undefined_in outline.body outline.repeats fields ≡ None) × ArePlacesWithin (2 ^ 40) fields
+    × (KeepsSchemeBy outline.body → ⊥) × (bad ≡ faults.Value at 10))

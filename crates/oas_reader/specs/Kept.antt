@@ -1,10 +1,15 @@
 -- What a record needs, by what the program keeps of it.
 use Rattle.std.specs.Prelude.{◌≡◌, ◌≤◌, ℕ, Bool, true, false, if◌then◌else◌, List, [], ◌∷◌, Option, Some, None}
 use Rattle.oas_record.specs.declared.records.OasRecord.{OasRecord}
-use Rattle.oas_fields.specs.Values.{or_else, is_relative, layer_of, datatype_of, width_of, height_of, polygon_points_of, half_width_of, start_of, end_of, path_points_of, kind_of, cell_of, repetition_of, placement_of, geometry_of, text_of}
+use Rattle.oas_fields.specs.Values.{or_else, is_relative, layer_of, datatype_of, width_of, height_of, polygon_points_of}
+use Rattle.oas_fields.specs.Values.{half_width_of, start_of, end_of, path_points_of, kind_of, cell_of, repetition_of}
+use Rattle.oas_fields.specs.Values.{placement_of, geometry_of, text_of}
 use Rattle.oas_fields.specs.declared.fields.Fields.{Fields}
 use Rattle.oas_fields.specs.declared.variables.Variable.{Variable}
-use Rattle.oas_fields.specs.declared.variables.Variable.TheVariants.{Layer, Datatype, GeometryW, GeometryH, PolygonPoints, PathHalfWidth, PathStart, PathEnd, PathPoints, CtrapezoidType, PlacementCell, Repetition}
+use Rattle.oas_fields.specs.declared.variables.Variable.TheVariants.{Layer, Datatype, GeometryW, GeometryH}
+use Rattle.oas_fields.specs.declared.variables.Variable.TheVariants.{PolygonPoints, PathHalfWidth, PathStart, PathEnd}
+use Rattle.oas_fields.specs.declared.variables.Variable.TheVariants.{PathPoints, CtrapezoidType, PlacementCell}
+use Rattle.oas_fields.specs.declared.variables.Variable.TheVariants.{Repetition}
 use Rattle.oas_reader.specs.Items.{text_in}
 use Rattle.oas_reader.specs.Rules.{version}
 use Rattle.oas_reader.specs.Undefined.{is_there, dimensions}

@@ -26,7 +26,9 @@ use Rattle.oas_shapes.specs.Repetitions.{offsets_in}
 use Rattle.oas_shapes.specs.declared.figures.Brush.{Brush}
 use Rattle.oas_shapes.specs.declared.figures.Figure.{Figure}
 use Rattle.oas_shapes.specs.declared.figures.Figure.TheVariants as figures
-use Rattle.oas_fields.specs.Values.{layer_of, datatype_of, width_of, height_of, polygon_points_of, half_width_of, start_of, end_of, path_points_of, kind_of, cell_of, repetition_of, geometry_of, placement_of, or_else, or_zero, begins_cell}
+use Rattle.oas_fields.specs.Values.{layer_of, datatype_of, width_of, height_of, polygon_points_of, half_width_of}
+use Rattle.oas_fields.specs.Values.{start_of, end_of, path_points_of, kind_of, cell_of, repetition_of, geometry_of}
+use Rattle.oas_fields.specs.Values.{placement_of, or_else, or_zero, begins_cell}
 use Rattle.oas_fields.specs.declared.places.Place.{Place}
 use Rattle.oas_reader.specs.Items.{given, count_in, is_end}
 use Rattle.oas_reader.specs.Names.{cell_called, name_called}

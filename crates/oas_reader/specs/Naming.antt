@@ -14,7 +14,9 @@ use Rattle.oas_reader.specs.declared.naming.Cells.{Cells}
 use Rattle.oas_reader.specs.declared.refusing.OasBad.{OasBad}
 use Rattle.oas_reader.specs.declared.refusing.OasBad.TheVariants as faults
 use Rattle.oas_reader.specs.Items.{Item, records_in, text_in, count_in}
-use Rattle.oas_reader.specs.Names.{same_name, same_bool, some_if, is_unnumbered, cell_called, target_called, OfNumber, OfName, NoClaim, claim_of, number_given, first_conflict, conflict_of, name_of_number, first_named}
+use Rattle.oas_reader.specs.Names.{same_name, same_bool, some_if, is_unnumbered, cell_called, target_called, OfNumber}
+use Rattle.oas_reader.specs.Names.{OfName, NoClaim, claim_of, number_given, first_conflict, conflict_of, name_of_number}
+use Rattle.oas_reader.specs.Names.{first_named}
 
 -- ---- strings
 

@@ -56,7 +56,8 @@ whole_by (Some begun) shapes placings = record { begun = begun; shapes = shapes;
 abbrev pub whole_of : List Pair → List Item → List WholeCell
 whole_of wanted [] = []
 whole_of wanted (item ∷ past) =
-    if begins_cell item.r then whole_of wanted past ++ whole_by (begun_of past) (given_in_cell (shapes_at wanted) (records_in past)) (given_in_cell placings_at (records_in past))
+    if begins_cell item.r then whole_of wanted past ++ whole_by (begun_of past)
+    (given_in_cell (shapes_at wanted) (records_in past)) (given_in_cell placings_at (records_in past))
     else whole_of wanted past
 
 abbrev pub whole_cell : Draft → WholeCell

@@ -1,5 +1,6 @@
 -- Where what stands among bytes ends: within them, and not before it begins.
-use Rattle.std.proofs.Common.{ℕ, zero, suc, ◌+◌, ◌-◌, ◌/◌, ◌<◌, ◌≤◌, ℤ, Bool, true, false, List, [], ◌∷◌, length, slice_index, drop, Option, Some, None, inl, inr, arith}
+use Rattle.std.proofs.Common.{ℕ, zero, suc, ◌+◌, ◌-◌, ◌/◌, ◌<◌, ◌≤◌, ℤ, Bool, true, false, List, [], ◌∷◌, length}
+use Rattle.std.proofs.Common.{slice_index, drop, Option, Some, None, inl, inr, arith}
 use Rattle.half_grid.specs.declared.plane.Point.{Point}
 use Rattle.oas_lex.specs.Deltas.{HasDeltaG}
 use Rattle.oas_lex.specs.Numbers.{HasUnsigned, HasSigned}
@@ -12,8 +13,12 @@ use Rattle.oas_record.specs.Records as RecordRows
 use Rattle.oas_record.specs.Records.{info_of, fields_of, switch_of, HasBody, HasRecord}
 use Rattle.oas_record.specs.Repetitions as RepRows
 use Rattle.oas_record.specs.Repetitions.{RepRow, row_at, rep_rows, dims_of, numbers_of, deltas_of, HasRep}
-use Rattle.oas_record.specs.Rows.{Form, Number, Signed, Text, OneReal, NameBy, Range, PolygonPoints, PathPoints, Repetition, TrapezoidType, Extension, Switch, Count, Tables, FourBytes, Values, Field, HasName, HasForm, HasWhere, HasFields, is_set, is_written, switches_after, Part, Row, Info, NoInfo, Below, Square}
-use Rattle.oas_record.specs.Values.{bounds, HasBounds, HasInterval, ValueForm, OneReal as RealValue, OneUnsigned, OneSigned, OneString, value_form, EndsValueOf, EndsValues}
+use Rattle.oas_record.specs.Rows.{Form, Number, Signed, Text, OneReal, NameBy, Range, PolygonPoints, PathPoints}
+use Rattle.oas_record.specs.Rows.{Repetition, TrapezoidType, Extension, Switch, Count, Tables, FourBytes, Values, Field}
+use Rattle.oas_record.specs.Rows.{HasName, HasForm, HasWhere, HasFields, is_set, is_written, switches_after, Part, Row}
+use Rattle.oas_record.specs.Rows.{Info, NoInfo, Below, Square}
+use Rattle.oas_record.specs.Values.{bounds, HasBounds, HasInterval, ValueForm, OneReal as RealValue, OneUnsigned}
+use Rattle.oas_record.specs.Values.{OneSigned, OneString, value_form, EndsValueOf, EndsValues}
 use Rattle.oas_record.specs.declared.delta_form.DeltaForm.{DeltaForm}
 use Rattle.oas_record.specs.declared.delta_form.DeltaForm.TheVariants.{AlongX, AlongY, TwoDelta, ThreeDelta, GDelta}
 use Rattle.oas_record.specs.declared.fields.Deltas.{Deltas}
@@ -72,15 +77,27 @@ deltas_on : (form : DeltaForm) (bytes : List ℕ) (at : ℕ) (ps : List Point) (
 deltas_on form bytes at [] next h = omega (arith, h)
 deltas_on form bytes at (p ∷ ps) next h = omega (arith, delta_on form bytes at p h.0 h.1, deltas_on (turned form) bytes h.0 ps next h.2)
 
-points_of_on : (form : Option DeltaForm) (is_polygon : Bool) (kind : ℕ) (bytes : List ℕ) (at : ℕ) (ps : List Point) (next : ℕ) → HasPointsOf form is_polygon kind bytes at ps next → at ≤ next
-points_of_on (Some form) is_polygon kind bytes at ps next h = omega (arith, number_on bytes at (length ps) h.0 h.1.count, deltas_on form bytes h.0 ps next h.1.deltas)
+points_of_on : (form : Option DeltaForm) (is_polygon : Bool) (kind : ℕ) (bytes : List ℕ) (at : ℕ) (ps : List Point)
+    (next : ℕ) → HasPointsOf form is_polygon kind bytes at ps next → at ≤ next
+points_of_on (Some form) is_polygon kind bytes at ps next h = omega
+    (arith, number_on bytes at (length ps) h.0 h.1.count, deltas_on form bytes h.0 ps next h.1.deltas)
 points_of_on None is_polygon kind bytes at ps next h = absurd h
 
 points_on : (is_polygon : Bool) (bytes : List ℕ) (at : ℕ) (d : Deltas) (next : ℕ) → HasPoints is_polygon bytes at d next → at ≤ next
-points_on is_polygon bytes at d next h = omega (arith, points_of_on (delta_form (slice_index bytes at)) is_polygon (slice_index bytes at) bytes (at + 1) d.items next h.rest)
+points_on is_polygon bytes at d next h = omega (
+  arith,
+  points_of_on (delta_form (slice_index bytes at)) is_polygon (slice_index bytes at) bytes
+      (at + 1) d.items next h.rest,
+)
 
 row_on : (r : Option RepRow) (bytes : List ℕ) (at : ℕ) (d n : List ℕ) (p : List Point) (next : ℕ) → RepRows.HasRow r bytes at d n p next → at ≤ next
-row_on (Some r) bytes at d n p next h = omega (arith, numbers_on bytes at h.0 h.1 h.3.stands_dims, numbers_on bytes h.1 n h.2 h.3.stands_numbers, deltas_on GDelta bytes h.2 p next h.3.stands_deltas)
+row_on (Some r) bytes at d n p next h = omega (
+  arith,
+  numbers_on bytes at h.0 h.1 h.3.stands_dims,
+  numbers_on bytes h.1 n h.2 h.3.stands_numbers,
+  deltas_on
+      GDelta bytes h.2 p next h.3.stands_deltas,
+)
 row_on None bytes at d n p next h = absurd h
 
 rep_on : (bytes : List ℕ) (at : ℕ) (r : Rep) (next : ℕ) → HasRep bytes at r next → at ≤ next
@@ -102,7 +119,8 @@ value_of_on None bytes at next h = absurd h
 
 values_on : (count : ℕ) (bytes : List ℕ) (at next : ℕ) → EndsValues count bytes at next → at ≤ next
 values_on zero bytes at next h = omega (arith, h)
-values_on (suc count) bytes at next h = omega (arith, value_of_on (value_form (slice_index bytes at)) bytes at h.0 h.1.value, values_on count bytes h.0 next h.2)
+values_on (suc count) bytes at next h = omega
+    (arith, value_of_on (value_form (slice_index bytes at)) bytes at h.0 h.1.value, values_on count bytes h.0 next h.2)
 
 name_on : (is_number : Bool) (bytes : List ℕ) (at : ℕ) (f : Field) (next : ℕ) → HasName is_number bytes at f next → at ≤ next
 name_on true bytes at f next h = number_on bytes at h.0 next h.1
@@ -137,15 +155,21 @@ fields_on (p ∷ ps) s bytes at [] next h = absurd h
 fields_on (p ∷ ps) s bytes at (f ∷ fs) next h =
     omega (arith, where_on (is_written p.guard s) p.form s bytes at f h.0 h.1, fields_on ps (switches_after p.form f s) bytes h.0 fs next h.2)
 
-body_on : (info : Info) (row : Row) (tables : Bool) (bytes : List ℕ) (at i : ℕ) (fs : List Field) (next : ℕ) → HasBody info row tables bytes at i fs next → at ≤ next
+body_on : (info : Info) (row : Row) (tables : Bool) (bytes : List ℕ) (at i : ℕ) (fs : List Field) (next : ℕ)
+    → HasBody info row tables bytes at i fs next → at ≤ next
 body_on NoInfo row tables bytes at i fs next h = fields_on row.parts (switch_of tables) bytes at fs next h.1
 body_on (Below n) row tables bytes at i fs next h = omega (arith, fields_on row.parts i bytes (at + 1) fs next h.fields_stand)
 body_on Square row tables bytes at i fs next h = omega (arith, fields_on row.parts i bytes (at + 1) fs next h.fields_stand)
 
-of_row_on : (r : Option Row) (tables : Bool) (bytes : List ℕ) (at i : ℕ) (fs : List Field) (next : ℕ) → RecordRows.HasRow r tables bytes at i fs next → at ≤ next
+of_row_on : (r : Option Row) (tables : Bool) (bytes : List ℕ) (at i : ℕ) (fs : List Field) (next : ℕ)
+    → RecordRows.HasRow r tables bytes at i fs next → at ≤ next
 of_row_on (Some r) tables bytes at i fs next h = body_on r.info r tables bytes at i fs next h
 of_row_on None tables bytes at i fs next h = absurd h
 
 -- a record ends behind its id
 pub record_on : (bytes : List ℕ) (at : ℕ) (tables : Bool) (r : OasRecord) (next : ℕ) → HasRecord bytes at tables r next → at < next
-record_on bytes at tables r next h = omega (arith, of_row_on (RecordRows.row_at (slice_index bytes at)) tables bytes (at + 1) (info_of r) (fields_of r) next h.row)
+record_on bytes at tables r next h = omega (
+  arith,
+  of_row_on (RecordRows.row_at (slice_index bytes at)) tables bytes (at + 1) (info_of r)
+      (fields_of r) next h.row,
+)

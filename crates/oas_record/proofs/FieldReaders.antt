@@ -8,7 +8,11 @@ use Rattle.oas_record.specs.Faults.{NoNumber, NoBytes, NoText, NoReal, bad_of}
 use Rattle.oas_record.specs.Lists.{HasPoints, NoPoints, NoNumbers}
 use Rattle.oas_record.specs.Repetitions.{HasRep, NoRep}
 use Rattle.oas_record.specs.Values.{HasInterval, NoInterval, HasTables, EndsValues, NoValues}
-use Rattle.oas_record.specs.Rows.{Form, Number, Signed, Text, OneReal, NameBy, Range, PolygonPoints, PathPoints, Repetition, TrapezoidType, Extension, Switch, Count, Tables, FourBytes, Values, Field, IsNumber, IsSigned, IsSpan, IsReal, IsCalled, IsInterval, IsPoints, IsRep, HasName, NoName, HasExtension, ExtensionFails, HasForm, NoForm, is_set, HasWhere, NoWhere, Part, HasFields, NoFields, is_written, switches_after}
+use Rattle.oas_record.specs.Rows.{Form, Number, Signed, Text, OneReal, NameBy, Range, PolygonPoints, PathPoints}
+use Rattle.oas_record.specs.Rows.{Repetition, TrapezoidType, Extension, Switch, Count, Tables, FourBytes, Values, Field}
+use Rattle.oas_record.specs.Rows.{IsNumber, IsSigned, IsSpan, IsReal, IsCalled, IsInterval, IsPoints, IsRep, HasName}
+use Rattle.oas_record.specs.Rows.{NoName, HasExtension, ExtensionFails, HasForm, NoForm, is_set, HasWhere, NoWhere}
+use Rattle.oas_record.specs.Rows.{Part, HasFields, NoFields, is_written, switches_after}
 use Rattle.oas_record.specs.declared.faults.RecordBad.{RecordBad}
 use Rattle.oas_record.specs.declared.faults.RecordBad.TheVariants as faults
 use Rattle.oas_record.specs.declared.fields.Called.TheVariants as called
@@ -16,7 +20,8 @@ use Rattle.oas_record.proofs.Readers.{weaker, first_rest, numbers1, signed1, tex
 use Rattle.oas_record.proofs.RepReaders.{rep, interval, tables, values}
 
 -- a string, by both its ends
-spanned : (bytes : List ℕ) (at : ℕ) (field : ℕ → ℕ → Field) → IsReader (λ (v : Field × ℕ). (first : ℕ) × HasText bytes at first v.1 × (v.0 ≡ field first v.1)) (NoText bytes at)
+spanned : (bytes : List ℕ) (at : ℕ) (field : ℕ → ℕ → Field)
+    → IsReader (λ (v : Field × ℕ). (first : ℕ) × HasText bytes at first v.1 × (v.0 ≡ field first v.1)) (NoText bytes at)
 spanned bytes at field = record {
   one = λ v w h k.
       let same = (text1 bytes at).one (h.0, v.1) (k.0, w.1) h.1 k.1 in
@@ -39,16 +44,22 @@ name : (is_number : Bool) (bytes : List ℕ) (at : ℕ) → IsReader (λ (v : Fi
 name true bytes at = made (HasUnsigned bytes at) (NoNumber bytes at) (λ n. IsCalled (called.Number n)) (numbers1 bytes at)
 name false bytes at = spanned bytes at (λ first next. IsCalled (called.Text first next))
 
-trapezoid_type : (bytes : List ℕ) (at : ℕ) → IsReader (λ (v : Field × ℕ). (n : ℕ) × HasUnsigned bytes at n v.1 × (n < 26) × (v.0 ≡ IsNumber n)) (λ e. NoNumber bytes at e ⊎ ((n : ℕ) × (next : ℕ) × HasUnsigned bytes at n next × ((26 ≤ n) × (e ≡ faults.Shape))))
+trapezoid_type : (bytes : List ℕ) (at : ℕ)
+    → IsReader (λ (v : Field × ℕ). (n : ℕ) × HasUnsigned bytes at n v.1 × (n < 26) × (v.0 ≡ IsNumber n))
+    (λ e. NoNumber bytes at e ⊎ ((n : ℕ) × (next : ℕ) × HasUnsigned bytes at n next × ((26 ≤ n) × (e ≡ faults.Shape))))
 trapezoid_type bytes at =
-    let whole = after (HasUnsigned bytes at) (NoNumber bytes at) (λ n mid (v : Field × ℕ). (n < 26) × (v.0 ≡ IsNumber n) × (v.1 ≡ mid)) (λ n mid e. (26 ≤ n) × (e ≡ faults.Shape)) (numbers1 bytes at) (λ n mid. record {
+    let whole = after (HasUnsigned bytes at) (NoNumber bytes at)
+    (λ n mid (v : Field × ℕ). (n < 26) × (v.0 ≡ IsNumber n) × (v.1 ≡ mid))
+    (λ n mid e. (26 ≤ n) × (e ≡ faults.Shape)) (numbers1 bytes at) (λ n mid. record {
       one = λ v w h k. pair_is v w (h.1 ∙ sym k.1) (h.2 ∙ sym k.2);
       apart = λ v e h f. omega (arith, h.0, f.0);
       cause = λ e d x y. x.1 ∙ sym y.1;
     }) in
     weaker _ _ _ _ whole (λ v h. (h.0, v.1, h.1, (h.2, h.3, refl))) (λ e f. f)
 
-extension : (bytes : List ℕ) (at : ℕ) → IsReader (λ (v : Field × ℕ). (n : ℕ) × HasExtension bytes at n v.1 × (v.0 ≡ IsNumber n)) (λ e. NoBytes bytes at 1 e ⊎ ExtensionFails bytes at e)
+extension : (bytes : List ℕ) (at : ℕ)
+    → IsReader (λ (v : Field × ℕ). (n : ℕ) × HasExtension bytes at n v.1 × (v.0 ≡ IsNumber n))
+    (λ e. NoBytes bytes at 1 e ⊎ ExtensionFails bytes at e)
 extension bytes at = record {
   one = λ v w h k. pair_is v w (h.2 ∙ (ap IsNumber (h.1.byte ∙ sym k.1.byte) ∙ sym k.2)) (h.1.ends ∙ sym k.1.ends);
   apart = λ v e h f. elim f [
@@ -98,7 +109,8 @@ no_fields s bytes at ([], next) h = pair_is _ _ refl (sym h)
 no_fields s bytes at (f ∷ fs, next) h = absurd h
 
 fields_parts : (p : Part) (ps : List Part) (s : ℕ) (bytes : List ℕ) (at : ℕ) (v : List Field × ℕ) → HasFields (p ∷ ps) s bytes at v.0 v.1
-    → (f : Field) × (m : ℕ) × HasWhere (is_written p.guard s) p.form s bytes at f m × ((rest : List Field) × (v.0 ≡ f ∷ rest) × HasFields ps (switches_after p.form f s) bytes m rest v.1)
+    → (f : Field) × (m : ℕ) × HasWhere (is_written p.guard s) p.form s bytes at f m
+    × ((rest : List Field) × (v.0 ≡ f ∷ rest) × HasFields ps (switches_after p.form f s) bytes m rest v.1)
 fields_parts p ps s bytes at ([], next) h = absurd h
 fields_parts p ps s bytes at (f ∷ fs, next) h = (f, h.0, h.1, (fs, refl, h.2))
 

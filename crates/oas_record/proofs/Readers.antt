@@ -1,6 +1,7 @@
 -- What stands at a place is one value with one end, or it fails for one cause: numbers, deltas, point lists,
 -- repetitions, intervals and values.
-use Rattle.std.proofs.Common.{◌≡◌, ◌⊎◌, ℕ, zero, suc, ◌+◌, ◌<◌, ℤ, pos, Bool, IsTrue, Option, Some, None, List, [], ◌∷◌, length, slice_index, inl, inr, refl, sym, ap, subst, ◌∙◌, arith}
+use Rattle.std.proofs.Common.{◌≡◌, ◌⊎◌, ℕ, zero, suc, ◌+◌, ◌<◌, ℤ, pos, Bool, IsTrue, Option, Some, None, List, [], ◌∷◌}
+use Rattle.std.proofs.Common.{length, slice_index, inl, inr, refl, sym, ap, subst, ◌∙◌, arith}
 use Rattle.half_grid.specs.declared.plane.Point.{Point}
 use Rattle.oas_lex.specs.Deltas.{move}
 use Rattle.oas_lex.specs.Numbers.{HasUnsigned, HasSigned}
@@ -8,9 +9,11 @@ use Rattle.oas_lex.specs.Reals.{HasReal}
 use Rattle.oas_lex.specs.Strings.{HasBytes, HasText}
 use Rattle.oas_lex.specs.declared.LexBad.{LexBad}
 use Rattle.oas_lex.specs.declared.reals.Real.{Real}
-use Rattle.oas_lex.proofs.ForCallers.{IsReader, pair_is, after, made, number_reader, signed_reader, bytes_reader, text_reader, delta2_reader, delta3_reader, delta_g_reader, real_reader}
+use Rattle.oas_lex.proofs.ForCallers.{IsReader, pair_is, after, made, number_reader, signed_reader, bytes_reader}
+use Rattle.oas_lex.proofs.ForCallers.{text_reader, delta2_reader, delta3_reader, delta_g_reader, real_reader}
 use Rattle.oas_record.specs.Faults.{bad_of, NoNumber, NoBytes, NoText, NoReal}
-use Rattle.oas_record.specs.Lists.{HasNumbers, NoNumbers, HasDelta, NoDelta, HasDeltas, NoDeltas, turned, delta_form, allows_count, HasPointsOf, HasPoints, CountedFails, NoPointsOf, NoPoints}
+use Rattle.oas_record.specs.Lists.{HasNumbers, NoNumbers, HasDelta, NoDelta, HasDeltas, NoDeltas, turned, delta_form}
+use Rattle.oas_record.specs.Lists.{allows_count, HasPointsOf, HasPoints, CountedFails, NoPointsOf, NoPoints}
 use Rattle.oas_record.specs.declared.delta_form.DeltaForm.{DeltaForm}
 use Rattle.oas_record.specs.declared.delta_form.DeltaForm.TheVariants.{AlongX, AlongY, TwoDelta, ThreeDelta, GDelta}
 use Rattle.oas_record.specs.declared.faults.RecordBad.{RecordBad}
@@ -51,7 +54,8 @@ chain H F K G r s = record {
 -- the first of a list, and the rest
 pub first_rest : {A E : Type 0} (H : A → ℕ → Type 0) (F : E → Type 0) (L : A → ℕ → List A → ℕ → Type 0) (G : A → ℕ → E → Type 0)
     → IsReader (λ (v : A × ℕ). H v.0 v.1) F → ((a : A) (m : ℕ) → IsReader (λ (v : List A × ℕ). L a m v.0 v.1) (G a m))
-    → IsReader (λ (v : List A × ℕ). (a : A) × (m : ℕ) × H a m × ((rest : List A) × (v.0 ≡ a ∷ rest) × L a m rest v.1)) (λ (e : E). F e ⊎ ((a : A) × (m : ℕ) × H a m × G a m e))
+    → IsReader (λ (v : List A × ℕ). (a : A) × (m : ℕ) × H a m × ((rest : List A) × (v.0 ≡ a ∷ rest) × L a m rest v.1))
+    (λ (e : E). F e ⊎ ((a : A) × (m : ℕ) × H a m × G a m e))
 first_rest {A = A} H F L G r s = after H F (λ a m (v : List A × ℕ). (rest : List A) × (v.0 ≡ a ∷ rest) × L a m rest v.1) G r (λ a m. record {
   one = λ v w h k.
       let same = (s a m).one (h.0, v.1) (k.0, w.1) h.2 k.2 in
@@ -61,7 +65,8 @@ first_rest {A = A} H F L G r s = after H F (λ a m (v : List A × ℕ). (rest : 
 })
 
 -- the fault of a record in place of a lexical one
-pub widened : {V : Type 0} (H : V → Type 0) (F : LexBad → Type 0) → IsReader H F → IsReader H (λ (bad : RecordBad). (cause : LexBad) × (bad ≡ bad_of cause) × F cause)
+pub widened : {V : Type 0} (H : V → Type 0) (F : LexBad → Type 0) → IsReader H F
+    → IsReader H (λ (bad : RecordBad). (cause : LexBad) × (bad ≡ bad_of cause) × F cause)
 widened H F r = record {
   one = r.one;
   apart = λ v e h f. r.apart v f.0 h f.2;
@@ -138,7 +143,8 @@ numbers zero bytes at = record {
   cause = λ e d x y. absurd x;
 }
 numbers (suc count) bytes at = weaker _ _ _ _
-    (first_rest (HasUnsigned bytes at) (NoNumber bytes at) (λ a m ns n. Numbers count bytes m ns n) (λ a m e. NoNumbers count bytes m e) (numbers1 bytes at) (λ a m. numbers count bytes m))
+    (first_rest (HasUnsigned bytes at) (NoNumber bytes at) (λ a m ns n. Numbers count bytes m ns n)
+    (λ a m e. NoNumbers count bytes m e) (numbers1 bytes at) (λ a m. numbers count bytes m))
     (numbers_parts count bytes at) (λ e f. f)
 
 abbrev pub Moves : DeltaForm → ℕ → List ℕ → ℕ → List Point → ℕ → Type 0
@@ -153,23 +159,29 @@ no_moves : (form : DeltaForm) (bytes : List ℕ) (at : ℕ) (v : List Point × �
 no_moves form bytes at ([], next) h = pair_is _ _ refl (sym h.1)
 no_moves form bytes at (p ∷ ps, next) h = absurd (omega (arith, h.0))
 
-pub deltas : (form : DeltaForm) (count : ℕ) (bytes : List ℕ) (at : ℕ) → IsReader (λ (v : List Point × ℕ). Moves form count bytes at v.0 v.1) (NoDeltas form count bytes at)
+pub deltas : (form : DeltaForm) (count : ℕ) (bytes : List ℕ) (at : ℕ)
+    → IsReader (λ (v : List Point × ℕ). Moves form count bytes at v.0 v.1) (NoDeltas form count bytes at)
 deltas form zero bytes at = record {
   one = λ v w h k. no_moves form bytes at v h ∙ sym (no_moves form bytes at w k);
   apart = λ v e h f. f;
   cause = λ e d x y. absurd x;
 }
 deltas form (suc count) bytes at = weaker _ _ _ _
-    (first_rest (HasDelta form bytes at) (NoDelta form bytes at) (λ p m ps n. Moves (turned form) count bytes m ps n) (λ p m e. NoDeltas (turned form) count bytes m e) (delta1 form bytes at) (λ p m. deltas (turned form) count bytes m))
+    (first_rest (HasDelta form bytes at) (NoDelta form bytes at) (λ p m ps n. Moves (turned form) count bytes m ps n)
+    (λ p m e. NoDeltas (turned form) count bytes m e) (delta1 form bytes at)
+    (λ p m. deltas (turned form) count bytes m))
     (moves_parts form count bytes at) (λ e f. f)
 
 -- ---- point lists
 
 counted_one : (form : DeltaForm) (is_polygon : Bool) (kind : ℕ) (bytes : List ℕ) (at : ℕ)
-    → IsReader (λ (v : List Point × ℕ). (count : ℕ) × (mid : ℕ) × HasUnsigned bytes at count mid × (IsTrue (allows_count is_polygon kind count) × Moves form count bytes mid v.0 v.1))
+    → IsReader (λ (v : List Point × ℕ). (count : ℕ) × (mid : ℕ) × HasUnsigned bytes at count mid
+    × (IsTrue (allows_count is_polygon kind count) × Moves form count bytes mid v.0 v.1))
     (λ e. NoNumber bytes at e ⊎ ((count : ℕ) × (mid : ℕ) × HasUnsigned bytes at count mid × CountedFails form is_polygon kind bytes mid count e))
 counted_one form is_polygon kind bytes at =
-    after (HasUnsigned bytes at) (NoNumber bytes at) (λ count mid (v : List Point × ℕ). IsTrue (allows_count is_polygon kind count) × Moves form count bytes mid v.0 v.1) (λ count mid e. CountedFails form is_polygon kind bytes mid count e)
+    after (HasUnsigned bytes at) (NoNumber bytes at)
+    (λ count mid (v : List Point × ℕ). IsTrue (allows_count is_polygon kind count)
+    × Moves form count bytes mid v.0 v.1) (λ count mid e. CountedFails form is_polygon kind bytes mid count e)
     (numbers1 bytes at) (λ count mid. record {
       one = λ v w h k. (deltas form count bytes mid).one v w h.1 k.1;
       apart = λ v e h f. elim f [
@@ -201,7 +213,9 @@ pub points : (is_polygon : Bool) (bytes : List ℕ) (at : ℕ) → IsReader (λ 
 points is_polygon bytes at =
     let kind = slice_index bytes at in
     let rest = points_of (delta_form kind) is_polygon kind bytes (at + 1) in
-    let whole = kinded bytes at (λ (v : Deltas × ℕ). (v.0.kind ≡ kind) × HasPointsOf (delta_form kind) is_polygon kind bytes (at + 1) v.0.items v.1) (NoPointsOf (delta_form kind) is_polygon kind bytes (at + 1)) (record {
+    let whole = kinded bytes at
+    (λ (v : Deltas × ℕ). (v.0.kind ≡ kind) × HasPointsOf (delta_form kind) is_polygon kind bytes
+    (at + 1) v.0.items v.1) (NoPointsOf (delta_form kind) is_polygon kind bytes (at + 1)) (record {
       one = λ v w h k.
           let same = rest.one (v.0.items, v.1) (w.0.items, w.1) h.1 k.1 in
           pair_is v w (same_points v.0 w.0 (h.0 ∙ sym k.0) (ap (λ p. p.0) same)) (ap (λ p. p.1) same);
@@ -211,5 +225,6 @@ points is_polygon bytes at =
     record {
       one = λ v w h k. whole.one v w (h.within, (h.kind, h.rest)) (k.within, (k.kind, k.rest));
       apart = λ v e h f. whole.apart v e (h.within, (h.kind, h.rest)) (elim f [ inl short ↦ inl short | inr bad ↦ inr (bad.within, bad.fails) ]);
-      cause = λ e d x y. whole.cause e d (elim x [ inl short ↦ inl short | inr bad ↦ inr (bad.within, bad.fails) ]) (elim y [ inl short ↦ inl short | inr bad ↦ inr (bad.within, bad.fails) ]);
+      cause = λ e d x y. whole.cause e d (elim x [ inl short ↦ inl short | inr bad ↦ inr (bad.within, bad.fails) ])
+          (elim y [ inl short ↦ inl short | inr bad ↦ inr (bad.within, bad.fails) ]);
     }

@@ -1,5 +1,6 @@
 -- One record stands at a place, with one end, or it fails for one cause.
-use Rattle.std.proofs.Common.{◌≡◌, ◌⊎◌, ℕ, ◌+◌, Bool, false, IsTrue, Option, Some, None, List, slice_index, nat_lt, if◌then◌else◌, Result, Ok, Err, inl, inr, sym, ap, subst, ◌∙◌, ◌++◌, take, length}
+use Rattle.std.proofs.Common.{◌≡◌, ◌⊎◌, ℕ, ◌+◌, Bool, false, IsTrue, Option, Some, None, List, slice_index, nat_lt}
+use Rattle.std.proofs.Common.{if◌then◌else◌, Result, Ok, Err, inl, inr, sym, ap, subst, ◌∙◌, ◌++◌, take, length}
 use Rattle.std.proofs.Math.Seq.{take-append_seam}
 use Rattle.std.proofs.lemmas.List.{append_cancel_left}
 use Rattle.std.specs.Result.{IfOk, IfErr}
@@ -18,8 +19,13 @@ use Rattle.oas_record.proofs.SameRecords.{same_record}
 abbrev Body : Type 0
 Body = (ℕ × List Field) × ℕ
 
-after_info : (row : Row) (bytes : List ℕ) (at : ℕ) → IsReader (λ (v : Body). (v.0.0 ≡ slice_index bytes at) × (IsTrue (allows row.info (slice_index bytes at)) × HasFields row.parts (slice_index bytes at) bytes (at + 1) v.0.1 v.1))
-    (λ e. ((allows row.info (slice_index bytes at) ≡ false) × (e ≡ faults.Shape)) ⊎ (IsTrue (allows row.info (slice_index bytes at)) × NoFields row.parts (slice_index bytes at) bytes (at + 1) e))
+after_info : (row : Row) (bytes : List ℕ) (at : ℕ)
+    → IsReader (λ (v : Body). (v.0.0 ≡ slice_index bytes at)
+    × (IsTrue (allows row.info (slice_index bytes at)) × HasFields row.parts (slice_index bytes at) bytes
+    (at + 1) v.0.1 v.1))
+    (λ e. ((allows row.info (slice_index bytes at) ≡ false) × (e ≡ faults.Shape))
+    ⊎ (IsTrue (allows row.info (slice_index bytes at)) × NoFields row.parts (slice_index bytes at) bytes
+    (at + 1) e))
 after_info row bytes at =
     let rest = fields row.parts (slice_index bytes at) bytes (at + 1) in
     record {
@@ -45,13 +51,25 @@ after_info row bytes at =
     allowed_not : (b : Bool) → IsTrue b → b ≡ false → ⊥
     allowed_not b t f = cc
 
-with_info : (row : Row) (bytes : List ℕ) (at : ℕ) → IsReader (λ (v : Body). HasInfo row bytes at v.0.0 v.0.1 v.1) (λ e. NoBytes bytes at 1 e ⊎ InfoFails row bytes at e)
+with_info : (row : Row) (bytes : List ℕ) (at : ℕ) → IsReader (λ (v : Body). HasInfo row bytes at v.0.0 v.0.1 v.1)
+    (λ e. NoBytes bytes at 1 e ⊎ InfoFails row bytes at e)
 with_info row bytes at =
     weaker _ _ _ _ (kinded bytes at _ _ (after_info row bytes at))
-    (λ v h. (h.within, (h.byte, (subst (λ i. IsTrue (allows row.info i)) h.byte h.allowed, subst (λ i. HasFields row.parts i bytes (at + 1) v.0.1 v.1) h.byte h.fields_stand))))
+    (λ v h. (
+      h.within,
+      (
+        h.byte,
+        (
+          subst (λ i. IsTrue (allows row.info i)) h.byte h.allowed,
+          subst
+              (λ i. HasFields row.parts i bytes (at + 1) v.0.1 v.1) h.byte h.fields_stand,
+        ),
+      ),
+    ))
     (λ e f. elim f [ inl short ↦ inl short | inr bad ↦ inr (bad.within, bad.fails) ])
 
-body : (info : Info) (row : Row) (tables : Bool) (bytes : List ℕ) (at : ℕ) → IsReader (λ (v : Body). HasBody info row tables bytes at v.0.0 v.0.1 v.1) (NoBody info row tables bytes at)
+body : (info : Info) (row : Row) (tables : Bool) (bytes : List ℕ) (at : ℕ)
+    → IsReader (λ (v : Body). HasBody info row tables bytes at v.0.0 v.0.1 v.1) (NoBody info row tables bytes at)
 body NoInfo row tables bytes at =
     let rest = fields row.parts (switch_of tables) bytes at in
     record {
@@ -64,7 +82,8 @@ body NoInfo row tables bytes at =
 body (Below n) row tables bytes at = with_info row bytes at
 body Square row tables bytes at = with_info row bytes at
 
-row : (r : Option Row) (id : ℕ) (tables : Bool) (bytes : List ℕ) (at : ℕ) → IsReader (λ (v : Body). HasRow r tables bytes at v.0.0 v.0.1 v.1) (NoRow r id tables bytes at)
+row : (r : Option Row) (id : ℕ) (tables : Bool) (bytes : List ℕ) (at : ℕ)
+    → IsReader (λ (v : Body). HasRow r tables bytes at v.0.0 v.0.1 v.1) (NoRow r id tables bytes at)
 row (Some r) id tables bytes at = body r.info r tables bytes at
 row None id tables bytes at = nothing (if nat_lt id 35 then faults.Packed else faults.Kind)
 
@@ -72,7 +91,9 @@ pub one_record : (bytes : List ℕ) (at : ℕ) (tables : Bool) → IsReader (λ 
 one_record bytes at tables =
     let id = slice_index bytes at in
     let rest = row (row_at id) id tables bytes (at + 1) in
-    let whole = kinded bytes at (λ (v : OasRecord × ℕ). (id_of v.0 ≡ id) × HasRow (row_at id) tables bytes (at + 1) (info_of v.0) (fields_of v.0) v.1) (NoRow (row_at id) id tables bytes (at + 1)) (record {
+    let whole = kinded bytes at
+    (λ (v : OasRecord × ℕ). (id_of v.0 ≡ id) × HasRow (row_at id) tables bytes (at + 1) (info_of v.0)
+    (fields_of v.0) v.1) (NoRow (row_at id) id tables bytes (at + 1)) (record {
       one = λ v w h k.
           let same = rest.one ((info_of v.0, fields_of v.0), v.1) ((info_of w.0, fields_of w.0), w.1) h.1 k.1 in
           pair_is v w (same_record v.0 w.0 (h.0 ∙ sym k.0) (ap (λ (p : Body). p.0.0) same) (ap (λ (p : Body). p.0.1) same)) (ap (λ (p : Body). p.1) same);
@@ -83,13 +104,15 @@ one_record bytes at tables =
 
 -- ---- what a result says, unless memory was wanting
 
-pub read_back : {V : Type 0} (W : RecordBad) (H : V → Type 0) (F : RecordBad → Type 0) → IsReader H F → (r : Result V RecordBad) → IfOk r H → IfErr r (λ e. (e ≡ W) ⊎ F e)
+pub read_back : {V : Type 0} (W : RecordBad) (H : V → Type 0) (F : RecordBad → Type 0) → IsReader H F
+    → (r : Result V RecordBad) → IfOk r H → IfErr r (λ e. (e ≡ W) ⊎ F e)
     → (v : V) → H v → (r ≡ Ok v) ⊎ (r ≡ Err W)
 read_back W H F s (Ok w) p q v h = inl (ap Ok (s.one w v p h))
 read_back W H F s (Err e) p (inl wanting) v h = inr (ap Err wanting)
 read_back W H F s (Err e) p (inr f) v h = absurd (s.apart v e h f)
 
-pub refused_back : {V : Type 0} (W : RecordBad) (H : V → Type 0) (F : RecordBad → Type 0) → IsReader H F → (r : Result V RecordBad) → IfOk r H → IfErr r (λ e. (e ≡ W) ⊎ F e)
+pub refused_back : {V : Type 0} (W : RecordBad) (H : V → Type 0) (F : RecordBad → Type 0) → IsReader H F
+    → (r : Result V RecordBad) → IfOk r H → IfErr r (λ e. (e ≡ W) ⊎ F e)
     → (e : RecordBad) → F e → (r ≡ Err e) ⊎ (r ≡ Err W)
 refused_back W H F s (Ok w) p q e f = absurd (s.apart w e p f)
 refused_back W H F s (Err d) p (inl wanting) e f = inr (ap Err wanting)

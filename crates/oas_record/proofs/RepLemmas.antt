@@ -18,11 +18,14 @@ pub dims : (d s e t : ℕ) → d ≡ s + 2 → e ≡ t + 2 → d ∷ e ∷ [] �
 dims d s e t h k = rw (h, k) refl
 
 -- what follows one dimension fails
-pub fails_after : (r : RepRow) (bytes : List ℕ) (at s a : ℕ) (bad : RecordBad) → 1 ≡ r.dims → HasUnsigned bytes at s a → AfterDims r (s ∷ []) bytes a bad → RowFails (Some r) bytes at bad
+pub fails_after : (r : RepRow) (bytes : List ℕ) (at s a : ℕ) (bad : RecordBad) → 1 ≡ r.dims → HasUnsigned bytes at s a
+    → AfterDims r (s ∷ []) bytes a bad → RowFails (Some r) bytes at bad
 fails_after r bytes at s a bad size h f = inr (s ∷ [], a, (size, one bytes at s a h), f)
 
 -- what follows two dimensions fails
-pub fails_after_two : (r : RepRow) (bytes : List ℕ) (at s mid t a : ℕ) (bad : RecordBad) → 2 ≡ r.dims → HasUnsigned bytes at s mid → HasUnsigned bytes mid t a → AfterDims r (s ∷ t ∷ []) bytes a bad → RowFails (Some r) bytes at bad
+pub fails_after_two : (r : RepRow) (bytes : List ℕ) (at s mid t a : ℕ) (bad : RecordBad) → 2 ≡ r.dims
+    → HasUnsigned bytes at s mid → HasUnsigned bytes mid t a → AfterDims r (s ∷ t ∷ []) bytes a bad
+    → RowFails (Some r) bytes at bad
 fails_after_two r bytes at s mid t a bad size h k f = inr (s ∷ t ∷ [], a, (size, two bytes at s mid t a h k), f)
 
 -- one fewer than a dimension is one more than what is stored of it

@@ -1,5 +1,6 @@
 -- One repetition, interval or property value stands at a place, with one end, or it fails for one cause.
-use Rattle.std.proofs.Common.{◌≡◌, ℕ, zero, suc, ◌+◌, pos, Option, Some, None, List, map, drop, slice_index, get_or, inl, inr, refl, sym, ap, ◌∙◌, nat_eq, if◌then◌else◌}
+use Rattle.std.proofs.Common.{◌≡◌, ℕ, zero, suc, ◌+◌, pos, Option, Some, None, List, map, drop, slice_index, get_or}
+use Rattle.std.proofs.Common.{inl, inr, refl, sym, ap, ◌∙◌, nat_eq, if◌then◌else◌}
 use Rattle.half_grid.specs.declared.plane.Point.{Point}
 use Rattle.oas_lex.specs.Numbers.{HasUnsigned, HasSigned}
 use Rattle.oas_lex.specs.Reals.{HasReal}
@@ -8,7 +9,9 @@ use Rattle.oas_lex.proofs.ForCallers.{IsReader, pair_is, after}
 use Rattle.oas_record.specs.Faults.{NoNumber, NoText, NoReal}
 use Rattle.oas_record.specs.Lists.{NoNumbers, NoDeltas}
 use Rattle.oas_record.specs.Repetitions.{RepRow, amount, rep_rows, row_at, kind_of, dims_of, numbers_of, deltas_of, HasRow, HasRep, AfterDims, RowFails, NoRep}
-use Rattle.oas_record.specs.Values.{bounds, HasBounds, HasInterval, NoBounds, NoInterval, HasTables, value_form, ValueForm, OneReal, OneUnsigned, OneSigned, OneString, EndsValueOf, EndsValue, EndsValues, NoValueOf, NoValue, NoValues}
+use Rattle.oas_record.specs.Values.{bounds, HasBounds, HasInterval, NoBounds, NoInterval, HasTables, value_form}
+use Rattle.oas_record.specs.Values.{ValueForm, OneReal, OneUnsigned, OneSigned, OneString, EndsValueOf, EndsValue}
+use Rattle.oas_record.specs.Values.{EndsValues, NoValueOf, NoValue, NoValues}
 use Rattle.oas_record.specs.declared.delta_form.DeltaForm.TheVariants.{GDelta}
 use Rattle.oas_record.specs.declared.faults.RecordBad.{RecordBad}
 use Rattle.oas_record.specs.declared.faults.RecordBad.TheVariants as faults
@@ -47,7 +50,17 @@ row_of (Some r) bytes at = weaker _ _ _ _
     (λ stored a. after (λ ns b. Numbers (amount r.numbers stored) bytes a ns b) (NoNumbers (amount r.numbers stored) bytes a)
     (λ ns b (v : Lists × ℕ). AfterNumbers r bytes stored ns b v) (λ ns b e. NoDeltas GDelta (amount r.deltas stored) bytes b e)
     (numbers (amount r.numbers stored) bytes a) (λ ns b. after_numbers r bytes stored ns b)))
-    (λ v h. (h.0, h.1, (h.3.dim_count, h.3.stands_dims), (v.0.0.1, h.2, (h.3.number_count, h.3.stands_numbers), (h.3.dims_are, refl, (h.3.delta_count, h.3.stands_deltas)))))
+    (λ v h. (
+      h.0,
+      h.1,
+      (h.3.dim_count, h.3.stands_dims),
+      (
+        v.0.0.1,
+        h.2,
+        (h.3.number_count, h.3.stands_numbers),
+        (h.3.dims_are, refl, (h.3.delta_count, h.3.stands_deltas)),
+      ),
+    ))
     (λ e f. f)
 row_of None bytes at = nothing faults.Shape
 
@@ -97,7 +110,9 @@ pub rep : (bytes : List ℕ) (at : ℕ) → IsReader (λ (v : Rep × ℕ). HasRe
 rep bytes at =
     let kind = slice_index bytes at in
     let rest = row_of (row_at rep_rows kind) bytes (at + 1) in
-    let whole = kinded bytes at (λ (v : Rep × ℕ). (kind_of v.0 ≡ kind) × HasRow (row_at rep_rows kind) bytes (at + 1) (dims_of v.0) (numbers_of v.0) (deltas_of v.0) v.1) (RowFails (row_at rep_rows kind) bytes (at + 1)) (record {
+    let whole = kinded bytes at
+    (λ (v : Rep × ℕ). (kind_of v.0 ≡ kind) × HasRow (row_at rep_rows kind) bytes (at + 1) (dims_of v.0)
+    (numbers_of v.0) (deltas_of v.0) v.1) (RowFails (row_at rep_rows kind) bytes (at + 1)) (record {
       one = λ v w h k.
           let same = rest.one (((dims_of v.0, numbers_of v.0), deltas_of v.0), v.1) (((dims_of w.0, numbers_of w.0), deltas_of w.0), w.1) h.1 k.1 in
           pair_is v w (same_rep v.0 w.0 (h.0 ∙ sym k.0) (ap (λ p. p.0.0.0) same) (ap (λ p. p.0.0.1) same) (ap (λ p. p.0.1) same)) (ap (λ p. p.1) same);
@@ -107,7 +122,8 @@ rep bytes at =
     record {
       one = λ v w h k. whole.one v w (h.within, (h.kind, h.parts)) (k.within, (k.kind, k.parts));
       apart = λ v e h f. whole.apart v e (h.within, (h.kind, h.parts)) (elim f [ inl short ↦ inl short | inr bad ↦ inr (bad.within, bad.fails) ]);
-      cause = λ e d x y. whole.cause e d (elim x [ inl short ↦ inl short | inr bad ↦ inr (bad.within, bad.fails) ]) (elim y [ inl short ↦ inl short | inr bad ↦ inr (bad.within, bad.fails) ]);
+      cause = λ e d x y. whole.cause e d (elim x [ inl short ↦ inl short | inr bad ↦ inr (bad.within, bad.fails) ])
+          (elim y [ inl short ↦ inl short | inr bad ↦ inr (bad.within, bad.fails) ]);
     }
 
 -- ---- intervals
@@ -134,7 +150,9 @@ pub interval : (bytes : List ℕ) (at : ℕ) → IsReader (λ (v : Interval × �
 interval bytes at =
     let kind = slice_index bytes at in
     let rest = bounds_of (bounds kind) bytes (at + 1) in
-    let whole = kinded bytes at (λ (v : Interval × ℕ). (v.0.kind ≡ kind) × HasBounds (bounds kind) bytes (at + 1) v.0.a v.0.b v.1) (NoBounds (bounds kind) bytes (at + 1)) (record {
+    let whole = kinded bytes at
+    (λ (v : Interval × ℕ). (v.0.kind ≡ kind) × HasBounds (bounds kind) bytes (at + 1) v.0.a v.0.b v.1)
+    (NoBounds (bounds kind) bytes (at + 1)) (record {
       one = λ v w h k.
           let same = rest.one ((v.0.a, v.0.b), v.1) ((w.0.a, w.0.b), w.1) h.1 k.1 in
           pair_is v w (same_interval v.0 w.0 (h.0 ∙ sym k.0) (ap (λ p. p.0.0) same) (ap (λ p. p.0.1) same)) (ap (λ p. p.1) same);
@@ -144,7 +162,8 @@ interval bytes at =
     record {
       one = λ v w h k. whole.one v w (h.within, (h.kind, h.numbers)) (k.within, (k.kind, k.numbers));
       apart = λ v e h f. whole.apart v e (h.within, (h.kind, h.numbers)) (elim f [ inl short ↦ inl short | inr bad ↦ inr (bad.within, bad.fails) ]);
-      cause = λ e d x y. whole.cause e d (elim x [ inl short ↦ inl short | inr bad ↦ inr (bad.within, bad.fails) ]) (elim y [ inl short ↦ inl short | inr bad ↦ inr (bad.within, bad.fails) ]);
+      cause = λ e d x y. whole.cause e d (elim x [ inl short ↦ inl short | inr bad ↦ inr (bad.within, bad.fails) ])
+          (elim y [ inl short ↦ inl short | inr bad ↦ inr (bad.within, bad.fails) ]);
     }
 
 -- ---- ends
@@ -158,7 +177,9 @@ ends {A = A} H F r = record {
 }
 
 pub tables : (bytes : List ℕ) (at : ℕ) → IsReader (λ (next : ℕ). HasTables bytes at next) (NoNumbers 12 bytes at)
-tables bytes at = weaker _ _ _ _ (ends (λ ns next. Numbers 12 bytes at ns next) (NoNumbers 12 bytes at) (numbers 12 bytes at)) (λ next h. (h.0, (h.1, h.2))) (λ e f. f)
+tables bytes at = weaker _ _ _ _
+    (ends (λ ns next. Numbers 12 bytes at ns next) (NoNumbers 12 bytes at) (numbers 12 bytes at))
+    (λ next h. (h.0, (h.1, h.2))) (λ e f. f)
 
 value_of : (form : Option ValueForm) (bytes : List ℕ) (at : ℕ) → IsReader (λ (next : ℕ). EndsValueOf form bytes at next) (NoValueOf form bytes at)
 value_of (Some OneReal) bytes at = ends (HasReal bytes at) (NoReal bytes at) (real1 bytes at)
@@ -170,7 +191,8 @@ value_of None bytes at = nothing faults.Kind
 value : (bytes : List ℕ) (at : ℕ) → IsReader (λ (next : ℕ). EndsValue bytes at next) (NoValue bytes at)
 value bytes at =
     let kind = slice_index bytes at in
-    weaker _ _ _ _ (kinded bytes at (λ (next : ℕ). EndsValueOf (value_form kind) bytes at next) (NoValueOf (value_form kind) bytes at) (value_of (value_form kind) bytes at))
+    weaker _ _ _ _ (kinded bytes at (λ (next : ℕ). EndsValueOf (value_form kind) bytes at next)
+    (NoValueOf (value_form kind) bytes at) (value_of (value_form kind) bytes at))
     (λ next h. (h.within, h.value)) (λ e f. elim f [ inl short ↦ inl short | inr bad ↦ inr (bad.within, bad.fails) ])
 
 pub values : (count : ℕ) (bytes : List ℕ) (at : ℕ) → IsReader (λ (next : ℕ). EndsValues count bytes at next) (NoValues count bytes at)
@@ -179,5 +201,6 @@ values zero bytes at = record {
   apart = λ v e h f. f;
   cause = λ e d x y. absurd x;
 }
-values (suc count) bytes at = chain (λ mid. EndsValue bytes at mid) (NoValue bytes at) (λ mid next. EndsValues count bytes mid next) (λ mid e. NoValues count bytes mid e)
+values (suc count) bytes at = chain (λ mid. EndsValue bytes at mid) (NoValue bytes at)
+    (λ mid next. EndsValues count bytes mid next) (λ mid e. NoValues count bytes mid e)
     (value bytes at) (λ mid. values count bytes mid)

@@ -112,22 +112,38 @@ record_from id info fs =
     else if nat_eq id 15 then records.XyAbsolute
     else if nat_eq id 16 then records.XyRelative
     else if nat_eq id 17 then records.Placement info (called_of (nth fs 0)) (signed_of (nth fs 1)) (signed_of (nth fs 2)) (rep_of (nth fs 3))
-    else if nat_eq id 18 then records.TurnedPlacement info (called_of (nth fs 0)) (real_of (nth fs 1)) (real_of (nth fs 2)) (signed_of (nth fs 3)) (signed_of (nth fs 4)) (rep_of (nth fs 5))
-    else if nat_eq id 19 then records.Text info (called_of (nth fs 0)) (number_of (nth fs 1)) (number_of (nth fs 2)) (signed_of (nth fs 3)) (signed_of (nth fs 4)) (rep_of (nth fs 5))
-    else if nat_eq id 20 then records.Rectangle info (number_of (nth fs 0)) (number_of (nth fs 1)) (number_of (nth fs 2)) (number_of (nth fs 3)) (signed_of (nth fs 4)) (signed_of (nth fs 5)) (rep_of (nth fs 6))
-    else if nat_eq id 21 then records.Polygon info (number_of (nth fs 0)) (number_of (nth fs 1)) (points_of (nth fs 2)) (signed_of (nth fs 3)) (signed_of (nth fs 4)) (rep_of (nth fs 5))
-    else if nat_eq id 22 then records.Path info (number_of (nth fs 0)) (number_of (nth fs 1)) (number_of (nth fs 2)) (number_of (nth fs 3)) (signed_of (nth fs 4)) (signed_of (nth fs 5)) (points_of (nth fs 6)) (signed_of (nth fs 7)) (signed_of (nth fs 8)) (rep_of (nth fs 9))
-    else if nat_eq id 23 then records.Trapezoid info (number_of (nth fs 0)) (number_of (nth fs 1)) (number_of (nth fs 2)) (number_of (nth fs 3)) (signed_in (nth fs 4)) (signed_in (nth fs 5)) (signed_of (nth fs 6)) (signed_of (nth fs 7)) (rep_of (nth fs 8))
-    else if nat_eq id 24 then records.TrapezoidA info (number_of (nth fs 0)) (number_of (nth fs 1)) (number_of (nth fs 2)) (number_of (nth fs 3)) (signed_in (nth fs 4)) (signed_of (nth fs 5)) (signed_of (nth fs 6)) (rep_of (nth fs 7))
-    else if nat_eq id 25 then records.TrapezoidB info (number_of (nth fs 0)) (number_of (nth fs 1)) (number_of (nth fs 2)) (number_of (nth fs 3)) (signed_in (nth fs 4)) (signed_of (nth fs 5)) (signed_of (nth fs 6)) (rep_of (nth fs 7))
-    else if nat_eq id 26 then records.Ctrapezoid info (number_of (nth fs 0)) (number_of (nth fs 1)) (number_of (nth fs 2)) (number_of (nth fs 3)) (number_of (nth fs 4)) (signed_of (nth fs 5)) (signed_of (nth fs 6)) (rep_of (nth fs 7))
-    else if nat_eq id 27 then records.Circle info (number_of (nth fs 0)) (number_of (nth fs 1)) (number_of (nth fs 2)) (signed_of (nth fs 3)) (signed_of (nth fs 4)) (rep_of (nth fs 5))
+    else if nat_eq id 18 then records.TurnedPlacement info (called_of (nth fs 0)) (real_of (nth fs 1))
+    (real_of (nth fs 2)) (signed_of (nth fs 3)) (signed_of (nth fs 4)) (rep_of (nth fs 5))
+    else if nat_eq id 19 then records.Text info (called_of (nth fs 0)) (number_of (nth fs 1)) (number_of (nth fs 2))
+    (signed_of (nth fs 3)) (signed_of (nth fs 4)) (rep_of (nth fs 5))
+    else if nat_eq id 20 then records.Rectangle info (number_of (nth fs 0)) (number_of (nth fs 1))
+    (number_of (nth fs 2)) (number_of (nth fs 3)) (signed_of (nth fs 4)) (signed_of (nth fs 5)) (rep_of (nth fs 6))
+    else if nat_eq id 21 then records.Polygon info (number_of (nth fs 0)) (number_of (nth fs 1)) (points_of (nth fs 2))
+    (signed_of (nth fs 3)) (signed_of (nth fs 4)) (rep_of (nth fs 5))
+    else if nat_eq id 22 then records.Path info (number_of (nth fs 0)) (number_of (nth fs 1)) (number_of (nth fs 2))
+    (number_of (nth fs 3)) (signed_of (nth fs 4)) (signed_of (nth fs 5)) (points_of (nth fs 6))
+    (signed_of (nth fs 7)) (signed_of (nth fs 8)) (rep_of (nth fs 9))
+    else if nat_eq id 23 then records.Trapezoid info (number_of (nth fs 0)) (number_of (nth fs 1))
+    (number_of (nth fs 2)) (number_of (nth fs 3)) (signed_in (nth fs 4)) (signed_in (nth fs 5))
+    (signed_of (nth fs 6)) (signed_of (nth fs 7)) (rep_of (nth fs 8))
+    else if nat_eq id 24 then records.TrapezoidA info (number_of (nth fs 0)) (number_of (nth fs 1))
+    (number_of (nth fs 2)) (number_of (nth fs 3)) (signed_in (nth fs 4)) (signed_of (nth fs 5))
+    (signed_of (nth fs 6)) (rep_of (nth fs 7))
+    else if nat_eq id 25 then records.TrapezoidB info (number_of (nth fs 0)) (number_of (nth fs 1))
+    (number_of (nth fs 2)) (number_of (nth fs 3)) (signed_in (nth fs 4)) (signed_of (nth fs 5))
+    (signed_of (nth fs 6)) (rep_of (nth fs 7))
+    else if nat_eq id 26 then records.Ctrapezoid info (number_of (nth fs 0)) (number_of (nth fs 1))
+    (number_of (nth fs 2)) (number_of (nth fs 3)) (number_of (nth fs 4)) (signed_of (nth fs 5))
+    (signed_of (nth fs 6)) (rep_of (nth fs 7))
+    else if nat_eq id 27 then records.Circle info (number_of (nth fs 0)) (number_of (nth fs 1)) (number_of (nth fs 2))
+    (signed_of (nth fs 3)) (signed_of (nth fs 4)) (rep_of (nth fs 5))
     else if nat_eq id 28 then records.Property info (called_of (nth fs 0)) (number_of (nth fs 1)) (span_of (nth fs 2))
     else if nat_eq id 29 then records.LastProperty
     else if nat_eq id 30 then records.XName (number_in (nth fs 0)) (span_in (nth fs 1))
     else if nat_eq id 31 then records.NumberedXName (number_in (nth fs 0)) (span_in (nth fs 1)) (number_in (nth fs 2))
     else if nat_eq id 32 then records.XElement (number_in (nth fs 0)) (span_in (nth fs 1))
-    else if nat_eq id 33 then records.XGeometry info (number_in (nth fs 0)) (number_of (nth fs 1)) (number_of (nth fs 2)) (span_in (nth fs 3)) (signed_of (nth fs 4)) (signed_of (nth fs 5)) (rep_of (nth fs 6))
+    else if nat_eq id 33 then records.XGeometry info (number_in (nth fs 0)) (number_of (nth fs 1))
+    (number_of (nth fs 2)) (span_in (nth fs 3)) (signed_of (nth fs 4)) (signed_of (nth fs 5)) (rep_of (nth fs 6))
     else records.Pad
 
 back : (r : OasRecord) → record_from (id_of r) (info_of r) (fields_of r) ≡ r
@@ -150,22 +166,82 @@ back (records.Cell name) = refl
 back records.XyAbsolute = refl
 back records.XyRelative = refl
 back (records.Placement info cell x y repetition) = rw (called_back cell, signed_back x, signed_back y, rep_back repetition) refl
-back (records.TurnedPlacement info cell magnification angle x y repetition) = rw (called_back cell, real_back magnification, real_back angle, signed_back x, signed_back y, rep_back repetition) refl
-back (records.Text info text textlayer texttype x y repetition) = rw (called_back text, number_back textlayer, number_back texttype, signed_back x, signed_back y, rep_back repetition) refl
-back (records.Rectangle info layer datatype width height x y repetition) = rw (number_back layer, number_back datatype, number_back width, number_back height, signed_back x, signed_back y, rep_back repetition) refl
-back (records.Polygon info layer datatype points x y repetition) = rw (number_back layer, number_back datatype, points_back points, signed_back x, signed_back y, rep_back repetition) refl
-back (records.Path info layer datatype half_width extension start end points x y repetition) = rw (number_back layer, number_back datatype, number_back half_width, number_back extension, signed_back start, signed_back end, points_back points, signed_back x, signed_back y, rep_back repetition) refl
-back (records.Trapezoid info layer datatype width height delta_a delta_b x y repetition) = rw (number_back layer, number_back datatype, number_back width, number_back height, signed_back x, signed_back y, rep_back repetition) refl
-back (records.TrapezoidA info layer datatype width height delta_a x y repetition) = rw (number_back layer, number_back datatype, number_back width, number_back height, signed_back x, signed_back y, rep_back repetition) refl
-back (records.TrapezoidB info layer datatype width height delta_b x y repetition) = rw (number_back layer, number_back datatype, number_back width, number_back height, signed_back x, signed_back y, rep_back repetition) refl
-back (records.Ctrapezoid info layer datatype kind width height x y repetition) = rw (number_back layer, number_back datatype, number_back kind, number_back width, number_back height, signed_back x, signed_back y, rep_back repetition) refl
-back (records.Circle info layer datatype radius x y repetition) = rw (number_back layer, number_back datatype, number_back radius, signed_back x, signed_back y, rep_back repetition) refl
+back (records.TurnedPlacement info cell magnification angle x y repetition) = rw
+    (called_back cell, real_back magnification, real_back angle, signed_back x, signed_back y, rep_back repetition) refl
+back (records.Text info text textlayer texttype x y repetition) = rw
+    (called_back text, number_back textlayer, number_back texttype, signed_back x, signed_back y, rep_back repetition)
+    refl
+back (records.Rectangle info layer datatype width height x y repetition) = rw (
+  number_back layer,
+  number_back datatype,
+  number_back width,
+  number_back height,
+  signed_back x,
+  signed_back y,
+  rep_back repetition,
+) refl
+back (records.Polygon info layer datatype points x y repetition) = rw
+    (number_back layer, number_back datatype, points_back points, signed_back x, signed_back y, rep_back repetition)
+    refl
+back (records.Path info layer datatype half_width extension start end points x y repetition) = rw (
+  number_back layer,
+  number_back datatype,
+  number_back half_width,
+  number_back extension,
+  signed_back start,
+  signed_back end,
+  points_back points,
+  signed_back x,
+  signed_back y,
+  rep_back repetition,
+) refl
+back (records.Trapezoid info layer datatype width height delta_a delta_b x y repetition) = rw (
+  number_back layer,
+  number_back datatype,
+  number_back width,
+  number_back height,
+  signed_back x,
+  signed_back y,
+  rep_back repetition,
+) refl
+back (records.TrapezoidA info layer datatype width height delta_a x y repetition) = rw (
+  number_back layer,
+  number_back datatype,
+  number_back width,
+  number_back height,
+  signed_back x,
+  signed_back y,
+  rep_back repetition,
+) refl
+back (records.TrapezoidB info layer datatype width height delta_b x y repetition) = rw (
+  number_back layer,
+  number_back datatype,
+  number_back width,
+  number_back height,
+  signed_back x,
+  signed_back y,
+  rep_back repetition,
+) refl
+back (records.Ctrapezoid info layer datatype kind width height x y repetition) = rw (
+  number_back layer,
+  number_back datatype,
+  number_back kind,
+  number_back width,
+  number_back height,
+  signed_back x,
+  signed_back y,
+  rep_back repetition,
+) refl
+back (records.Circle info layer datatype radius x y repetition) = rw
+    (number_back layer, number_back datatype, number_back radius, signed_back x, signed_back y, rep_back repetition)
+    refl
 back (records.Property info name count values) = rw (called_back name, number_back count, span_back values) refl
 back records.LastProperty = refl
 back (records.XName attribute text) = refl
 back (records.NumberedXName attribute text number) = refl
 back (records.XElement attribute text) = refl
-back (records.XGeometry info attribute layer datatype text x y repetition) = rw (number_back layer, number_back datatype, signed_back x, signed_back y, rep_back repetition) refl
+back (records.XGeometry info attribute layer datatype text x y repetition) = rw
+    (number_back layer, number_back datatype, signed_back x, signed_back y, rep_back repetition) refl
 
 pub same_record : (r s : OasRecord) → id_of r ≡ id_of s → info_of r ≡ info_of s → fields_of r ≡ fields_of s → r ≡ s
 same_record r s id info fields =

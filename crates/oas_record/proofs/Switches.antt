@@ -4,13 +4,15 @@ use Rattle.oas_record.specs.Records.{number_or}
 use Rattle.oas_record.specs.Rows.{Field, Signed, Repetition, HasWhere, NoWhere, HasFields, NoFields, place, is_set, with_extension}
 use Rattle.oas_record.specs.declared.faults.RecordBad.{RecordBad}
 
-signed_moved : (b c : Bool) (s t : ℕ) (bytes : List ℕ) (at : ℕ) (f : Field) (next : ℕ) → b ≡ c → HasWhere b Signed s bytes at f next → HasWhere c Signed t bytes at f next
+signed_moved : (b c : Bool) (s t : ℕ) (bytes : List ℕ) (at : ℕ) (f : Field) (next : ℕ) → b ≡ c
+    → HasWhere b Signed s bytes at f next → HasWhere c Signed t bytes at f next
 signed_moved true true s t bytes at f next e h = h
 signed_moved false false s t bytes at f next e h = h
 signed_moved true false s t bytes at f next e h = absurd (cc)
 signed_moved false true s t bytes at f next e h = absurd (cc)
 
-rep_moved : (b c : Bool) (s t : ℕ) (bytes : List ℕ) (at : ℕ) (f : Field) (next : ℕ) → b ≡ c → HasWhere b Repetition s bytes at f next → HasWhere c Repetition t bytes at f next
+rep_moved : (b c : Bool) (s t : ℕ) (bytes : List ℕ) (at : ℕ) (f : Field) (next : ℕ) → b ≡ c
+    → HasWhere b Repetition s bytes at f next → HasWhere c Repetition t bytes at f next
 rep_moved true true s t bytes at f next e h = h
 rep_moved false false s t bytes at f next e h = h
 rep_moved true false s t bytes at f next e h = absurd (cc)
@@ -22,7 +24,8 @@ no_signed_moved false false s t bytes at bad e h = h
 no_signed_moved true false s t bytes at bad e h = absurd (cc)
 no_signed_moved false true s t bytes at bad e h = absurd (cc)
 
-no_rep_moved : (b c : Bool) (s t : ℕ) (bytes : List ℕ) (at : ℕ) (bad : RecordBad) → b ≡ c → NoWhere b Repetition s bytes at bad → NoWhere c Repetition t bytes at bad
+no_rep_moved : (b c : Bool) (s t : ℕ) (bytes : List ℕ) (at : ℕ) (bad : RecordBad) → b ≡ c
+    → NoWhere b Repetition s bytes at bad → NoWhere c Repetition t bytes at bad
 no_rep_moved true true s t bytes at bad e h = h
 no_rep_moved false false s t bytes at bad e h = h
 no_rep_moved true false s t bytes at bad e h = absurd (cc)
@@ -53,7 +56,8 @@ place_moved (Some b) info bytes at x y r next h = (
 pub no_place_moved : (e : Option ℕ) (info : ℕ) (bytes : List ℕ) (at : ℕ) (bad : RecordBad) → NoFields place info bytes at bad
     → NoFields place (with_extension (number_or e) info) bytes at bad
 no_place_moved None info bytes at bad h = h
-no_place_moved (Some b) info bytes at bad (inl h) = inl (no_signed_moved (is_set 4 info) (is_set 4 (info + 256 * b)) info (info + 256 * b) bytes at bad (set4 info b) h)
+no_place_moved (Some b) info bytes at bad (inl h) = inl
+    (no_signed_moved (is_set 4 info) (is_set 4 (info + 256 * b)) info (info + 256 * b) bytes at bad (set4 info b) h)
 no_place_moved (Some b) info bytes at bad (inr h) = inr (
   h.0,
   h.1,

@@ -3,7 +3,8 @@
 -- A point list is a byte for its kind, the count of its stored deltas and the deltas. Kind 0 has 1-deltas, signed numbers
 -- along x and y by turns, x first; kind 1 the same, y first; kind 2 has 2-deltas, kind 3 3-deltas, kinds 4 and 5
 -- g-deltas. A polygon of kind 0 or 1 has an even count of at least 2, any other list a count of at least 1.
-use Rattle.std.specs.Prelude.{ℕ, zero, suc, ◌+◌, ◌%◌, ◌<◌, ◌≡◌, ◌⊎◌, ℤ, pos, Bool, false, IsTrue, ◌&&◌, nat_eq, nat_lt, if◌then◌else◌, Option, Some, None, List, [], ◌∷◌, length, slice_index}
+use Rattle.std.specs.Prelude.{ℕ, zero, suc, ◌+◌, ◌%◌, ◌<◌, ◌≡◌, ◌⊎◌, ℤ, pos, Bool, false, IsTrue, ◌&&◌, nat_eq, nat_lt}
+use Rattle.std.specs.Prelude.{if◌then◌else◌, Option, Some, None, List, [], ◌∷◌, length, slice_index}
 use Rattle.half_grid.specs.declared.plane.Point.{Point}
 use Rattle.oas_lex.specs.Deltas.{move, HasDelta2, HasDelta3, HasDeltaG}
 use Rattle.oas_lex.specs.Numbers.{HasUnsigned, HasSigned}

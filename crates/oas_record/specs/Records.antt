@@ -1,9 +1,11 @@
 -- A record at an offset of an OASIS file (SEMI P39 1.0, section 7, records): a byte for its id, an info byte where its row
 -- has one, and the fields of its row.
-use Rattle.std.specs.Prelude.{ℕ, ◌+◌, ◌<◌, ◌≡◌, ◌⊎◌, ℤ, Bool, false, IsTrue, nat_lt, if◌then◌else◌, Option, Some, None, List, [], ◌∷◌, length, map, slice_index, get_or}
+use Rattle.std.specs.Prelude.{ℕ, ◌+◌, ◌<◌, ◌≡◌, ◌⊎◌, ℤ, Bool, false, IsTrue, nat_lt, if◌then◌else◌, Option, Some, None}
+use Rattle.std.specs.Prelude.{List, [], ◌∷◌, length, map, slice_index, get_or}
 use Rattle.oas_lex.specs.declared.reals.Real.{Real}
 use Rattle.oas_record.specs.Faults.{NoBytes}
-use Rattle.oas_record.specs.Rows.{Field, Absent, IsNumber, IsSigned, IsSpan, IsReal, IsCalled, IsInterval, IsPoints, IsRep, Info, NoInfo, Below, Square, allows, Row, rows, HasFields, NoFields}
+use Rattle.oas_record.specs.Rows.{Field, Absent, IsNumber, IsSigned, IsSpan, IsReal, IsCalled, IsInterval, IsPoints}
+use Rattle.oas_record.specs.Rows.{IsRep, Info, NoInfo, Below, Square, allows, Row, rows, HasFields, NoFields}
 use Rattle.oas_record.specs.declared.faults.RecordBad.{RecordBad}
 use Rattle.oas_record.specs.declared.faults.RecordBad.TheVariants as faults
 use Rattle.oas_record.specs.declared.fields.Called.{Called}
@@ -136,22 +138,34 @@ fields_of (records.Cell name) = IsSpan name ∷ []
 fields_of records.XyAbsolute = []
 fields_of records.XyRelative = []
 fields_of (records.Placement info cell x y repetition) = called_or cell ∷ place_of x y repetition
-fields_of (records.TurnedPlacement info cell magnification angle x y repetition) = called_or cell ∷ real_or magnification ∷ real_or angle ∷ place_of x y repetition
+fields_of (records.TurnedPlacement info cell magnification angle x y repetition) =
+    called_or cell ∷ real_or magnification ∷ real_or angle ∷ place_of x y repetition
 fields_of (records.Text info text textlayer texttype x y repetition) = called_or text ∷ number_or textlayer ∷ number_or texttype ∷ place_of x y repetition
-fields_of (records.Rectangle info layer datatype width height x y repetition) = number_or layer ∷ number_or datatype ∷ number_or width ∷ number_or height ∷ place_of x y repetition
+fields_of (records.Rectangle info layer datatype width height x y repetition) = number_or layer ∷ number_or datatype
+    ∷ number_or width ∷ number_or height ∷ place_of x y repetition
 fields_of (records.Polygon info layer datatype points x y repetition) = number_or layer ∷ number_or datatype ∷ points_or points ∷ place_of x y repetition
-fields_of (records.Path info layer datatype half_width extension start end points x y repetition) = number_or layer ∷ number_or datatype ∷ number_or half_width ∷ number_or extension ∷ signed_or start ∷ signed_or end ∷ points_or points ∷ place_of x y repetition
-fields_of (records.Trapezoid info layer datatype width height delta_a delta_b x y repetition) = number_or layer ∷ number_or datatype ∷ number_or width ∷ number_or height ∷ IsSigned delta_a ∷ IsSigned delta_b ∷ place_of x y repetition
-fields_of (records.TrapezoidA info layer datatype width height delta_a x y repetition) = number_or layer ∷ number_or datatype ∷ number_or width ∷ number_or height ∷ IsSigned delta_a ∷ place_of x y repetition
-fields_of (records.TrapezoidB info layer datatype width height delta_b x y repetition) = number_or layer ∷ number_or datatype ∷ number_or width ∷ number_or height ∷ IsSigned delta_b ∷ place_of x y repetition
-fields_of (records.Ctrapezoid info layer datatype kind width height x y repetition) = number_or layer ∷ number_or datatype ∷ number_or kind ∷ number_or width ∷ number_or height ∷ place_of x y repetition
+fields_of (records.Path info layer datatype half_width extension start end points x y repetition) =
+    number_or layer ∷ number_or datatype ∷ number_or half_width ∷ number_or extension ∷ signed_or start ∷ signed_or end
+    ∷ points_or points ∷ place_of x y repetition
+fields_of (records.Trapezoid info layer datatype width height delta_a delta_b x y repetition) =
+    number_or layer ∷ number_or datatype ∷ number_or width ∷ number_or height ∷ IsSigned delta_a ∷ IsSigned delta_b
+    ∷ place_of x y repetition
+fields_of (records.TrapezoidA info layer datatype width height delta_a x y repetition) =
+    number_or layer ∷ number_or datatype ∷ number_or width ∷ number_or height ∷ IsSigned delta_a
+    ∷ place_of x y repetition
+fields_of (records.TrapezoidB info layer datatype width height delta_b x y repetition) =
+    number_or layer ∷ number_or datatype ∷ number_or width ∷ number_or height ∷ IsSigned delta_b
+    ∷ place_of x y repetition
+fields_of (records.Ctrapezoid info layer datatype kind width height x y repetition) =
+    number_or layer ∷ number_or datatype ∷ number_or kind ∷ number_or width ∷ number_or height ∷ place_of x y repetition
 fields_of (records.Circle info layer datatype radius x y repetition) = number_or layer ∷ number_or datatype ∷ number_or radius ∷ place_of x y repetition
 fields_of (records.Property info name count values) = called_or name ∷ number_or count ∷ span_or values ∷ []
 fields_of records.LastProperty = []
 fields_of (records.XName attribute text) = IsNumber attribute ∷ IsSpan text ∷ []
 fields_of (records.NumberedXName attribute text number) = IsNumber attribute ∷ IsSpan text ∷ IsNumber number ∷ []
 fields_of (records.XElement attribute text) = IsNumber attribute ∷ IsSpan text ∷ []
-fields_of (records.XGeometry info attribute layer datatype text x y repetition) = IsNumber attribute ∷ number_or layer ∷ number_or datatype ∷ IsSpan text ∷ place_of x y repetition
+fields_of (records.XGeometry info attribute layer datatype text x y repetition) = IsNumber attribute ∷ number_or layer
+    ∷ number_or datatype ∷ IsSpan text ∷ place_of x y repetition
 
 -- ---- where it stands
 

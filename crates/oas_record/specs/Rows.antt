@@ -6,7 +6,8 @@
 -- offsets. The offset flag of START and the scheme of END take its place; the extension byte of PATH stands above the info
 -- byte, from bit 8 on; the count of PROPERTY takes the place of the four highest bits of the info byte, which are the
 -- count where they aren't all set.
-use Rattle.std.specs.Prelude.{ℕ, ◌+◌, ◌*◌, ◌/◌, ◌%◌, ◌^◌, ◌<◌, ◌≤◌, ◌≡◌, ◌⊎◌, ℤ, Bool, true, false, not, ◌&&◌, nat_eq, nat_lt, List, [], ◌∷◌, ◌++◌, length, slice_index}
+use Rattle.std.specs.Prelude.{ℕ, ◌+◌, ◌*◌, ◌/◌, ◌%◌, ◌^◌, ◌<◌, ◌≤◌, ◌≡◌, ◌⊎◌, ℤ, Bool, true, false, not, ◌&&◌, nat_eq}
+use Rattle.std.specs.Prelude.{nat_lt, List, [], ◌∷◌, ◌++◌, length, slice_index}
 use Rattle.oas_lex.specs.Numbers.{HasUnsigned, HasSigned}
 use Rattle.oas_lex.specs.Reals.{HasReal}
 use Rattle.oas_lex.specs.Strings.{HasBytes, HasText}

@@ -1,5 +1,6 @@
 -- Where no edge is the first that isn't on the grid, all edges are on it.
-use Rattle.std.proofs.Common.{◌≡◌, ◌+◌, ◌*◌, ◌<◌, ◌≤◌, ℕ, zero, suc, Bool, true, false, ℤ, pos, negsuc, ◌&&◌, List, length, get_or, refl, sym, subst, ◌∙◌, inl, inr, arith}
+use Rattle.std.proofs.Common.{◌≡◌, ◌+◌, ◌*◌, ◌<◌, ◌≤◌, ℕ, zero, suc, Bool, true, false, ℤ, pos, negsuc, ◌&&◌, List}
+use Rattle.std.proofs.Common.{length, get_or, refl, sym, subst, ◌∙◌, inl, inr, arith}
 use Rattle.std.specs.Prelude.{◌+ℤ◌, ◌-ℤ◌}
 use Rattle.std.specs.List.{AllWithin}
 use Rattle.std.specs.Ordering.{int_eq}

@@ -1,5 +1,7 @@
 -- Texts that are put at the end of a line, one after another.
-use Rattle.std.proofs.Common.{◌≡◌, ℕ, zero, suc, ◌+◌, ◌-◌, ◌<◌, ◌≤◌, List, [], ◌∷◌, ◌++◌, length, take, map, drop, codes, Bool, true, false, IsTrue, nat_le, if◌then◌else◌, slice_set, get_or, refl, sym, ap, ◌∙◌, append_assoc, arith}
+use Rattle.std.proofs.Common.{◌≡◌, ℕ, zero, suc, ◌+◌, ◌-◌, ◌<◌, ◌≤◌, List, [], ◌∷◌, ◌++◌, length, take, map, drop}
+use Rattle.std.proofs.Common.{codes, Bool, true, false, IsTrue, nat_le, if◌then◌else◌, slice_set, get_or, refl, sym, ap}
+use Rattle.std.proofs.Common.{◌∙◌, append_assoc, arith}
 use Rattle.std.proofs.lemmas.Bool.Decides.{nat_tests}
 use Rattle.std.proofs.lemmas.List.{map-append, take_all, take-append-le, take_more, take_more_set, length-append, length-drop, length-take-le, append-nil}
 use Rattle.progress_line.specs.Text.{shown, put, short_name}
@@ -23,7 +25,8 @@ unfolding put
 put_nothing line short = sym (ap (take 79) (append-nil line) ∙ take_all 79 line short)
 
 -- a character that is stored at the end of a line is put
-pub put_more : (bytes : List ℕ) (used b stored : ℕ) → stored ≡ shown b → length bytes ≡ 79 → used < 79 → take (used + 1) (slice_set bytes used stored) ≡ put (take used bytes) (b ∷ [])
+pub put_more : (bytes : List ℕ) (used b stored : ℕ) → stored ≡ shown b → length bytes ≡ 79 → used < 79
+    → take (used + 1) (slice_set bytes used stored) ≡ put (take used bytes) (b ∷ [])
 unfolding put
 put_more bytes used b stored is size room =
     take_more_set bytes used stored (omega arith)
@@ -43,7 +46,8 @@ pub used_length : (bytes line : List ℕ) (used : ℕ) → take used bytes ≡ l
 used_length bytes line used is size within = ap length (sym is) ∙ length-take-le used bytes (omega arith)
 
 -- one more character of a text is put
-pub put_next : (line now later text : List ℕ) (i : ℕ) → now ≡ put line (take i text) → i < length text → later ≡ put now (get_or text i 0 ∷ []) → later ≡ put line (take (i + 1) text)
+pub put_next : (line now later text : List ℕ) (i : ℕ) → now ≡ put line (take i text) → i < length text
+    → later ≡ put now (get_or text i 0 ∷ []) → later ≡ put line (take (i + 1) text)
 put_next line now later text i e within f =
     f ∙ ap (λ l. put l (get_or text i 0 ∷ [])) e ∙ put_twice line (take i text) (get_or text i 0 ∷ []) ∙ ap (put line) (sym (take_more text i 0 within))
 

@@ -1,5 +1,7 @@
 -- Weights from row to row, by events.
-use Rattle.std.proofs.Common.{ℕ, ℤ, pos, suc, ◌≡◌, ◌+◌, ◌<◌, ◌≤◌, ◌+ℤ◌, ◌-ℤ◌, ◌≤ℤ◌, ◌<ℤ◌, ◌⊎◌, inl, inr, Bool, true, false, ◌&&◌, not, List, [], ◌∷◌, ◌++◌, length, slice_index_or, arith, add-one, refl, ap, sym, ◌∙◌, int_cmp, is_lt}
+use Rattle.std.proofs.Common.{ℕ, ℤ, pos, suc, ◌≡◌, ◌+◌, ◌<◌, ◌≤◌, ◌+ℤ◌, ◌-ℤ◌, ◌≤ℤ◌, ◌<ℤ◌, ◌⊎◌, inl, inr, Bool, true}
+use Rattle.std.proofs.Common.{false, ◌&&◌, not, List, [], ◌∷◌, ◌++◌, length, slice_index_or, arith, add-one, refl, ap}
+use Rattle.std.proofs.Common.{sym, ◌∙◌, int_cmp, is_lt}
 use Rattle.std.specs.Prelude.{IsPermutation}
 use Rattle.std.specs.Ordering.{int_eq, ordering_then}
 use Rattle.std.proofs.lemmas.Int.{ints, by_lt_z}

@@ -1,5 +1,6 @@
 -- The runs read off a row list are those of its row.
-use Rattle.std.proofs.Common.{ℕ, ℤ, pos, zero, suc, ◌<◌, length, slice_index_or, ◌≡◌, ◌≤ℤ◌, ◌<ℤ◌, ◌⊎◌, inl, inr, Bool, true, false, List, [], ◌∷◌, All, arith, refl, ap, sym, subst, ◌∙◌}
+use Rattle.std.proofs.Common.{ℕ, ℤ, pos, zero, suc, ◌<◌, length, slice_index_or, ◌≡◌, ◌≤ℤ◌, ◌<ℤ◌, ◌⊎◌, inl, inr, Bool}
+use Rattle.std.proofs.Common.{true, false, List, [], ◌∷◌, All, arith, refl, ap, sym, subst, ◌∙◌}
 use Rattle.std.specs.Prelude.{Any}
 use Rattle.std.proofs.lemmas.Int.{ints, by_lt_z}
 use Rattle.std.proofs.lemmas.List.Elements.{All-nil, All-cons, All-head, All-tail, All-weaker}

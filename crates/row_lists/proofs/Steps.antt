@@ -1,6 +1,7 @@
 -- The weight of a line, edge by edge: it is the step of the winding from one tile to the next, and is the same in two
 -- rows that the same edges span.
-use Rattle.std.proofs.Common.{ℕ, ℤ, pos, ◌≡◌, ◌+◌, ◌+ℤ◌, ◌-ℤ◌, ◌≤ℤ◌, ◌<ℤ◌, ◌⊎◌, inl, inr, Bool, true, false, ◌&&◌, not, List, [], ◌∷◌, int_le, arith, refl, ap, sym, ◌∙◌}
+use Rattle.std.proofs.Common.{ℕ, ℤ, pos, ◌≡◌, ◌+◌, ◌+ℤ◌, ◌-ℤ◌, ◌≤ℤ◌, ◌<ℤ◌, ◌⊎◌, inl, inr, Bool, true, false, ◌&&◌, not}
+use Rattle.std.proofs.Common.{List, [], ◌∷◌, int_le, arith, refl, ap, sym, ◌∙◌}
 use Rattle.std.specs.Ordering.{int_eq}
 use Rattle.std.proofs.lemmas.Int.{ints, by_lt_z}
 use Rattle.std.proofs.lemmas.List.Elements.{All-head, All-tail}
@@ -11,7 +12,8 @@ use Rattle.half_grid.specs.Winding.{count_one}
 use Rattle.half_grid.specs.declared.plane.Tile.{Tile}
 use Rattle.half_grid.specs.declared.plane.Line.{Line}
 use Rattle.half_grid.specs.declared.border.Operand.{Operand}
-use Rattle.half_grid.proofs.ForCallers.{count_by-cons, right_by_place, left_by_place, le_yes, le_no, int_eq_same, int_eq_other, int_eq_true, int_eq_false, one_line}
+use Rattle.half_grid.proofs.ForCallers.{count_by-cons, right_by_place, left_by_place, le_yes, le_no, int_eq_same}
+use Rattle.half_grid.proofs.ForCallers.{int_eq_other, int_eq_true, int_eq_false, one_line}
 use Rattle.scan_line.proofs.ForCallers.{part, winding_nil, winding_cons}
 use Rattle.row_lists.specs.Weights.{stands_up, stands_down, weight, IsOutside, NoEnds, NoneSpans}
 

@@ -35,10 +35,12 @@ both_or false q h = refl
 apart_rows : (low high j : ℤ) → int_lt low high ≡ false → int_le low j ≡ true → int_lt j high ≡ true → ⊥
 apart_rows low high j h p q = absurd (grind (arith, ints))
 
-spans_nothing : (window : RowRange) (e : EdgeParts) (j : ℤ) → window.y0 ≤ℤ j → j <ℤ window.y1 → int_lt (int_max e.y0 window.y0) (int_min e.y1 window.y1) ≡ false → spans e j ≡ false
+spans_nothing : (window : RowRange) (e : EdgeParts) (j : ℤ) → window.y0 ≤ℤ j → j <ℤ window.y1
+    → int_lt (int_max e.y0 window.y0) (int_min e.y1 window.y1) ≡ false → spans e j ≡ false
 spans_nothing window e j a b h = sym (spans_same window e j a b) ∙ both_or _ _ (apart_rows (int_max e.y0 window.y0) (int_min e.y1 window.y1) j h)
 
-module _ (window : RowRange) (j : ℤ) (low : window.y0 ≤ℤ j) (high : j <ℤ window.y1) (p : EdgeParts → Bool) (same : (e : EdgeParts) → p (clip window e) ≡ p e) (none : (e : EdgeParts) → spans e j ≡ false → p e ≡ false) where
+module _ (window : RowRange) (j : ℤ) (low : window.y0 ≤ℤ j) (high : j <ℤ window.y1) (p : EdgeParts → Bool)
+    (same : (e : EdgeParts) → p (clip window e) ≡ p e) (none : (e : EdgeParts) → spans e j ≡ false → p e ≡ false) where
   one : (e : EdgeParts) (edges : List EdgeParts) (b : Bool) → int_lt (int_max e.y0 window.y0) (int_min e.y1 window.y1) ≡ b
       → count_by p (cons_option (cond b (Some (clip window e)) None) edges) ≡ count_one (p e) + count_by p edges
   one e edges true h = let is = same e in count_by-cons p (clip window e) edges ∙ (rw is refl)
@@ -68,7 +70,8 @@ goes o j e = is_of o e.operand && (e.up && spans e j)
 abbrev returns : Operand → ℤ → EdgeParts → Bool
 returns o j e = is_of o e.operand && (not e.up && spans e j)
 
-pub winds_in_window : (o : Operand) (window : RowRange) (edges : List EdgeParts) (t : Tile) → window.y0 ≤ℤ t.j → t.j <ℤ window.y1 → edges_winding o (parts_in window edges) t ≡ edges_winding o edges t
+pub winds_in_window : (o : Operand) (window : RowRange) (edges : List EdgeParts) (t : Tile) → window.y0 ≤ℤ t.j
+    → t.j <ℤ window.y1 → edges_winding o (parts_in window edges) t ≡ edges_winding o edges t
 unfolding edges_winding
 winds_in_window o window edges t a b =
     let up = count_clipped window t.j a b (winds_up o t)
@@ -81,6 +84,10 @@ winds_in_window o window edges t a b =
 
 pub stays_balanced : (window : RowRange) (edges : List EdgeParts) → IsBalanced edges window → IsBalanced (parts_in window edges) window
 stays_balanced window edges h = λ o j a b.
-    (let up = count_clipped window j a b (goes o j) (λ e. ap (λ (s : Bool). is_of o e.operand && (e.up && s)) (spans_same window e j a b)) (λ e k. (rw k (no_span (is_of o e.operand) e.up))) edges in
-    let down = count_clipped window j a b (returns o j) (λ e. ap (λ (s : Bool). is_of o e.operand && (not e.up && s)) (spans_same window e j a b)) (λ e k. (rw k (no_span (is_of o e.operand) (not e.up)))) edges in
+    (let up = count_clipped window j a b (goes o j)
+    (λ e. ap (λ (s : Bool). is_of o e.operand && (e.up && s)) (spans_same window e j a b))
+    (λ e k. (rw k (no_span (is_of o e.operand) e.up))) edges in
+    let down = count_clipped window j a b (returns o j)
+    (λ e. ap (λ (s : Bool). is_of o e.operand && (not e.up && s)) (spans_same window e j a b))
+    (λ e k. (rw k (no_span (is_of o e.operand) (not e.up)))) edges in
     up ∙ (h o j a b ∙ sym down))

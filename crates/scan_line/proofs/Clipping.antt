@@ -22,7 +22,8 @@ some_by : (r : Option EdgeParts) (e : EdgeParts) → SomeIff r (IsEdge e) e → 
 some_by None e h is = absurd (h is)
 some_by (Some x) e h is = ap Some h.1
 
-part_is_edge : (window : RowRange) (e : EdgeParts) (rows : Slab) → IsEdge e → rows.y0 ≡ int_max e.y0 window.y0 → rows.y1 ≡ int_min e.y1 window.y1 → rows.y0 <ℤ rows.y1 → IsEdge (edge_parts rows.y0 rows.y1 e.line e.up e.operand)
+part_is_edge : (window : RowRange) (e : EdgeParts) (rows : Slab) → IsEdge e → rows.y0 ≡ int_max e.y0 window.y0
+    → rows.y1 ≡ int_min e.y1 window.y1 → rows.y0 <ℤ rows.y1 → IsEdge (edge_parts rows.y0 rows.y1 e.line e.up e.operand)
 part_is_edge window e rows is bottom top lt =
     let low : e.y0 ≤ℤ rows.y0 = omega (arith, ints, clamps, bottom) in
     let high : rows.y1 ≤ℤ e.y1 = omega (arith, ints, clamps, top) in
@@ -36,22 +37,37 @@ part_is_edge window e rows is bottom top lt =
       upper_end = x_within e rows.y1 is high_end high;
     }
 
-pub part_some : (window : RowRange) (e : EdgeParts) (rows : Slab) (r : Option EdgeParts) → IsEdge e → rows.y0 ≡ int_max e.y0 window.y0 → rows.y1 ≡ int_min e.y1 window.y1 → rows.y0 <ℤ rows.y1
+pub part_some : (window : RowRange) (e : EdgeParts) (rows : Slab) (r : Option EdgeParts) → IsEdge e
+    → rows.y0 ≡ int_max e.y0 window.y0 → rows.y1 ≡ int_min e.y1 window.y1 → rows.y0 <ℤ rows.y1
     → SomeIff r (IsEdge (edge_parts rows.y0 rows.y1 e.line e.up e.operand)) (edge_parts rows.y0 rows.y1 e.line e.up e.operand) → r ≡ part_in window e
 part_some window e rows r is bottom top lt h =
     let some = some_by r (edge_parts rows.y0 rows.y1 e.line e.up e.operand) h (part_is_edge window e rows is bottom top lt) in
-    let test : int_lt (int_max e.y0 window.y0) (int_min e.y1 window.y1) ≡ true = subst (λ (x : ℤ). int_lt x (int_min e.y1 window.y1) ≡ true) bottom (subst (λ (y : ℤ). int_lt rows.y0 y ≡ true) top (lt_yes rows.y0 rows.y1 lt)) in
+    let test : int_lt (int_max e.y0 window.y0) (int_min e.y1 window.y1) ≡ true = subst
+    (λ (x : ℤ). int_lt x (int_min e.y1 window.y1) ≡ true) bottom
+    (subst (λ (y : ℤ). int_lt rows.y0 y ≡ true) top (lt_yes rows.y0 rows.y1 lt)) in
     rw test (some ∙ ap Some (rw (bottom, top) refl))
 
 -- ---- the stream
 
 module _ {S : Type 0} (stands_for : S → List EdgeParts → Type 0) (window : RowRange) where
   -- the part of one comes first
-  pub clipped_takes : (before after : S) (e part : EdgeParts) → ((items : List EdgeParts) → stands_for before items → TakesFirst stands_for items (Some e) after) → Some part ≡ part_in window e
+  pub clipped_takes : (before after : S) (e part : EdgeParts)
+      → ((items : List EdgeParts) → stands_for before items → TakesFirst stands_for items (Some e) after)
+      → Some part ≡ part_in window e
       → (items : List EdgeParts) → StandsForClipped stands_for window before items → TakesFirst (StandsForClipped stands_for window) items (Some part) after
   clipped_takes before after e part first some items p =
-      let taken = first p.edges p.source in
-      (parts_in window taken.0, p.each ∙ (ap (λ (l : List EdgeParts). parts_in window l) taken.1 ∙ ap (λ (o : Option EdgeParts). cons_option o (parts_in window taken.0)) (sym some)), record { edges = taken.0; source = taken.2; each = refl })
+      let taken = first p.edges p.source in (
+        parts_in window taken.0,
+        p.each
+            ∙ (ap (λ (l : List EdgeParts). parts_in window l) taken.1 ∙ ap
+            (λ (o : Option EdgeParts). cons_option o (parts_in window taken.0)) (sym some)),
+        record {
+          edges =
+              taken.0;
+          source = taken.2;
+          each = refl;
+        },
+      )
 
   pub clipped_ends : (before after : S) → ((items : List EdgeParts) → stands_for before items → TakesFirst stands_for items None after)
       → (items : List EdgeParts) → StandsForClipped stands_for window before items → TakesFirst (StandsForClipped stands_for window) items None after

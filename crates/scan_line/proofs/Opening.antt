@@ -12,21 +12,28 @@ apart : true ≡ false → ⊥
 apart h = let none : ⊥ = cc in none
 
 -- nothing turns: none is open and none begins
-pub stays_closed : (runs done : List Run) (inside taken : Bool) (run : Option Run) (line : Line) (w : Windings) → taken ≡ false → inside ≡ false → IsOpen runs inside done run → IsOpen runs taken (done ++ ends_at line run taken) (open_after line w run taken)
+pub stays_closed : (runs done : List Run) (inside taken : Bool) (run : Option Run) (line : Line) (w : Windings)
+    → taken ≡ false → inside ≡ false → IsOpen runs inside done run → IsOpen runs taken (done ++ ends_at line run taken)
+    (open_after line w run taken)
 stays_closed runs done inside true run line w off shut i = absurd (apart off)
 stays_closed runs done true false run line w off shut i = absurd (apart shut)
-stays_closed runs done false false None line w off shut i = record { whole = subst (λ (l : List Run). runs ≡ l ++ []) (sym (append-nil done)) i.whole; is = refl }
+stays_closed runs done false false None line w off shut i =
+    record { whole = subst (λ (l : List Run). runs ≡ l ++ []) (sym (append-nil done)) i.whole; is = refl }
 stays_closed runs done false false (Some run) line w off shut i = absurd (apart (sym i.is))
 
 -- or the open one goes on
-pub stays_open : (runs done : List Run) (inside taken : Bool) (run : Option Run) (line : Line) (w : Windings) → taken ≡ true → inside ≡ true → IsOpen runs inside done run → IsOpen runs taken (done ++ ends_at line run taken) (open_after line w run taken)
+pub stays_open : (runs done : List Run) (inside taken : Bool) (run : Option Run) (line : Line) (w : Windings)
+    → taken ≡ true → inside ≡ true → IsOpen runs inside done run → IsOpen runs taken (done ++ ends_at line run taken)
+    (open_after line w run taken)
 stays_open runs done inside false run line w on in_run i = absurd (apart (sym on))
 stays_open runs done false true run line w on in_run i = absurd (apart (sym in_run))
 stays_open runs done true true None line w on in_run i = absurd (apart i.is)
-stays_open runs done true true (Some run) line w on in_run i = record { whole = subst (λ (l : List Run). runs ≡ l ++ run ∷ []) (sym (append-nil done)) i.whole; is = refl }
+stays_open runs done true true (Some run) line w on in_run i =
+    record { whole = subst (λ (l : List Run). runs ≡ l ++ run ∷ []) (sym (append-nil done)) i.whole; is = refl }
 
 -- one begins
-pub begins : (runs now done : List Run) (inside taken : Bool) (run : Option Run) (line : Line) (w : Windings) → taken ≡ true → inside ≡ false → now ≡ runs ++ run_between line line w ∷ [] → IsOpen runs inside done run
+pub begins : (runs now done : List Run) (inside taken : Bool) (run : Option Run) (line : Line) (w : Windings)
+    → taken ≡ true → inside ≡ false → now ≡ runs ++ run_between line line w ∷ [] → IsOpen runs inside done run
     → IsOpen now taken (done ++ ends_at line run taken) (open_after line w run taken)
 begins runs now done inside false run line w same other is i = absurd (apart (sym same))
 begins runs now done true true run line w same other is i = absurd (apart other)
@@ -37,14 +44,17 @@ begins runs now done false true None line w same other is i =
 
 -- the open one ends
 pub ends : (runs now done : List Run) (inside taken : Bool) (run : Option Run) (line : Line) (w : Windings) → taken ≡ false → inside ≡ true
-    → ((all : List Run) (last : Run) → runs ≡ all ++ last ∷ [] → now ≡ all ++ ended_at line last ∷ []) → IsOpen runs inside done run → IsOpen now taken (done ++ ends_at line run taken) (open_after line w run taken)
+    → ((all : List Run) (last : Run) → runs ≡ all ++ last ∷ [] → now ≡ all ++ ended_at line last ∷ [])
+    → IsOpen runs inside done run → IsOpen now taken (done ++ ends_at line run taken) (open_after line w run taken)
 ends runs now done inside true run line w same other is i = absurd (apart same)
 ends runs now done false false run line w same other is i = absurd (apart (sym other))
 ends runs now done true false None line w same other is i = absurd (apart i.is)
-ends runs now done true false (Some run) line w same other is i = record { whole = is done run i.whole ∙ sym (append-nil (done ++ ended_at line run ∷ [])); is = refl }
+ends runs now done true false (Some run) line w same other is i =
+    record { whole = is done run i.whole ∙ sym (append-nil (done ++ ended_at line run ∷ [])); is = refl }
 
 -- the last run of a list, ended in its place
-pub ends_in_place : (runs : List Run) (now : Run) (line : Line) (n : ℕ) → n ≡ length runs → now ≡ get_or runs (n - 1) now → (done : List Run) (run : Run) → runs ≡ done ++ run ∷ []
+pub ends_in_place : (runs : List Run) (now : Run) (line : Line) (n : ℕ) → n ≡ length runs
+    → now ≡ get_or runs (n - 1) now → (done : List Run) (run : Run) → runs ≡ done ++ run ∷ []
     → set runs (n - 1) (ended_at line now) ≡ done ++ ended_at line run ∷ []
 ends_in_place runs now line n len at done run is =
     let one : length runs ≡ length done + 1 = ap length is ∙ length-append done (run ∷ []) in

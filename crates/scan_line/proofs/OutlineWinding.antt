@@ -1,5 +1,6 @@
 -- The windings of the edges of a point list, and their balance.
-use Rattle.std.proofs.Common.{ℕ, ℤ, pos, ◌≡◌, ◌≢◌, ◌+◌, ◌+ℤ◌, ◌-ℤ◌, ◌<ℤ◌, Bool, true, false, ◌&&◌, not, List, [], ◌∷◌, Option, Some, None, count_by, arith, refl, inl, inr, ap, sym, ◌∙◌}
+use Rattle.std.proofs.Common.{ℕ, ℤ, pos, ◌≡◌, ◌≢◌, ◌+◌, ◌+ℤ◌, ◌-ℤ◌, ◌<ℤ◌, Bool, true, false, ◌&&◌, not, List, [], ◌∷◌}
+use Rattle.std.proofs.Common.{Option, Some, None, count_by, arith, refl, inl, inr, ap, sym, ◌∙◌}
 use Rattle.std.specs.Prelude.{int_le, int_lt}
 use Rattle.std.specs.List.{cons_option}
 use Rattle.std.proofs.lemmas.Int.{ints, by_lt_z}
@@ -34,7 +35,8 @@ not_down t a b h = grind (arith, ints)
 not_up : (t : Tile) (a b : Point) → int_lt a.y b.y ≡ false → rises_past t a b ≡ false
 not_up t a b h = grind (arith, ints)
 
-part_up : (o : Operand) (t : Tile) (a b : Point) (line : Line) (up : Bool) → int_lt a.y b.y ≡ up → line_of a b ≡ Some line → part o t (edge_from o a b line) ≡ crossing_of t a b
+part_up : (o : Operand) (t : Tile) (a b : Point) (line : Line) (up : Bool) → int_lt a.y b.y ≡ up
+    → line_of a b ≡ Some line → part o t (edge_from o a b line) ≡ crossing_of t a b
 part_up o t a b line true h e =
     let own = of_itself o in
     let down = not_down t a b h in
@@ -53,9 +55,11 @@ crossing_no_line t a b e = rw e (none (rises_past t a b) (rises_past t b a))
     none false true = refl
     none false false = refl
 
-winds_one : (o : Operand) (t : Tile) (a b : Point) (line : Option Line) (edges : List EdgeParts) → line_of a b ≡ line → edges_winding o (cons_option (edge_on o a b line) edges) t ≡ crossing_of t a b +ℤ edges_winding o edges t
+winds_one : (o : Operand) (t : Tile) (a b : Point) (line : Option Line) (edges : List EdgeParts) → line_of a b ≡ line
+    → edges_winding o (cons_option (edge_on o a b line) edges) t ≡ crossing_of t a b +ℤ edges_winding o edges t
 winds_one o t a b None edges e = let zero = crossing_no_line t a b e in omega (arith, ints, zero)
-winds_one o t a b (Some line) edges e = winding_cons o (edge_from o a b line) edges t ∙ ap (λ (n : ℤ). n +ℤ edges_winding o edges t) (part_up o t a b line _ refl e)
+winds_one o t a b (Some line) edges e = winding_cons o (edge_from o a b line) edges t ∙ ap
+    (λ (n : ℤ). n +ℤ edges_winding o edges t) (part_up o t a b line _ refl e)
 
 nothing_winds : (points : List Point) (t : Tile) → edges_of points ≡ [] → winding points t ≡ pos 0
 unfolding winding
@@ -77,7 +81,8 @@ operand_of : (up : Bool) (p : Operand) (a b : Point) (line : Line) → int_lt a.
 operand_of true p a b line h = rw h refl
 operand_of false p a b line h = rw h refl
 
-winds_other_one : (o p : Operand) (t : Tile) (a b : Point) (line : Option Line) (edges : List EdgeParts) → o ≢ p → edges_winding o (cons_option (edge_on p a b line) edges) t ≡ edges_winding o edges t
+winds_other_one : (o p : Operand) (t : Tile) (a b : Point) (line : Option Line) (edges : List EdgeParts) → o ≢ p
+    → edges_winding o (cons_option (edge_on p a b line) edges) t ≡ edges_winding o edges t
 winds_other_one o p t a b None edges h = refl
 winds_other_one o p t a b (Some line) edges h =
     let zero = part_other o p t (edge_from p a b line) (operand_of _ p a b line refl) h in
@@ -143,14 +148,17 @@ level_of a c (inl same) e = same
 level_of a c (inr share) e =
     by_lt_z a.y c.y
     (λ lt. absurd (clash (line_is a c share.0 share.1 share.2 (differ_of a.y c.y lt))))
-    (λ le. by_lt_z c.y a.y (λ lt. absurd (clash (line_is a c share.0 share.1 share.2 (λ k. differ_of c.y a.y lt (sym k))))) (λ other. omega (arith, ints, le, other)))
+    (λ le. by_lt_z c.y a.y
+    (λ lt. absurd (clash (line_is a c share.0 share.1 share.2 (λ k. differ_of c.y a.y lt (sym k)))))
+    (λ other. omega (arith, ints, le, other)))
   where
     clash : line_of a c ≡ Some share.0 → ⊥
     clash k = let none : ⊥ = cc in none
 
 step_over : (o p : Operand) (j : ℤ) (a c : Point) (line : Option Line) (edges : List EdgeParts) (last : ℕ) → line_of a c ≡ line → IsOnGrid (a, c)
     → count_by (goes_up o j) edges + weight (is_of o p) j c ≡ count_by (goes_down o j) edges + last
-    → count_by (goes_up o j) (cons_option (edge_on p a c line) edges) + weight (is_of o p) j a ≡ count_by (goes_down o j) (cons_option (edge_on p a c line) edges) + last
+    → count_by (goes_up o j) (cons_option (edge_on p a c line) edges) + weight (is_of o p) j a ≡ count_by
+    (goes_down o j) (cons_option (edge_on p a c line) edges) + last
 step_over o p j a c None edges last e on h =
     let level = level_of a c on e in
     let same = ap (λ (y : ℤ). count_one (is_of o p && int_lt j y)) level in
@@ -162,11 +170,13 @@ step_over o p j a c (Some line) edges last e on h =
     omega (arith, h, one, up, down)
 
 along_row : (o p : Operand) (j : ℤ) (a : Point) (points : List Point) → HasGridEdges (a ∷ points)
-    → count_by (goes_up o j) (edges_along p (a ∷ points)) + weight (is_of o p) j a ≡ count_by (goes_down o j) (edges_along p (a ∷ points)) + weight (is_of o p) j (last_of a points)
+    → count_by (goes_up o j) (edges_along p (a ∷ points)) + weight (is_of o p) j a ≡ count_by (goes_down o j)
+    (edges_along p (a ∷ points)) + weight (is_of o p) j (last_of a points)
 along_row o p j a [] grid = refl
 along_row o p j a (c ∷ points) grid =
     let later = along_row o p j c points (All-tail IsOnGrid (a, c) (edges_of (c ∷ points)) grid) in
-    step_over o p j a c (line_of a c) (edges_along p (c ∷ points)) (weight (is_of o p) j (last_of c points)) refl (All-head IsOnGrid (a, c) (edges_of (c ∷ points)) grid) later
+    step_over o p j a c (line_of a c) (edges_along p (c ∷ points)) (weight (is_of o p) j (last_of c points)) refl
+    (All-head IsOnGrid (a, c) (edges_of (c ∷ points)) grid) later
 
 pub outline_is_balanced : (o p : Operand) (points : List Point) (j : ℤ) → IsClosed points → HasGridEdges points → IsBalancedAt (edges_along p points) o j
 outline_is_balanced o p [] j closed grid = absurd closed

@@ -13,12 +13,15 @@ along_cons o point [] = refl
 along_cons o point (b ∷ rest) = refl
 
 -- a step past a point that begins no edge
-pub along_none : (o : Operand) (points : List Point) (point : Point) (rest : List Point) → points ≡ point ∷ rest → None ≡ first_edge o point rest → edges_along o rest ≡ edges_along o points
+pub along_none : (o : Operand) (points : List Point) (point : Point) (rest : List Point) → points ≡ point ∷ rest
+    → None ≡ first_edge o point rest → edges_along o rest ≡ edges_along o points
 along_none o points point rest same none =
-    sym (ap (λ (l : List Point). edges_along o l) same ∙ (along_cons o point rest ∙ ap (λ (e : Option EdgeParts). cons_option e (edges_along o rest)) (sym none)))
+    sym (ap (λ (l : List Point). edges_along o l) same
+    ∙ (along_cons o point rest ∙ ap (λ (e : Option EdgeParts). cons_option e (edges_along o rest)) (sym none)))
 
 -- a step past one that begins an edge
-pub along_some : (o : Operand) (points : List Point) (point : Point) (rest : List Point) (e : EdgeParts) → points ≡ point ∷ rest → Some e ≡ first_edge o point rest → edges_along o points ≡ e ∷ edges_along o rest
+pub along_some : (o : Operand) (points : List Point) (point : Point) (rest : List Point) (e : EdgeParts)
+    → points ≡ point ∷ rest → Some e ≡ first_edge o point rest → edges_along o points ≡ e ∷ edges_along o rest
 along_some o points point rest e same some =
     ap (λ (l : List Point). edges_along o l) same ∙ (along_cons o point rest ∙ ap (λ (x : Option EdgeParts). cons_option x (edges_along o rest)) (sym some))
 
@@ -31,4 +34,8 @@ pub near_step : (points : List Point) (point : Point) (rest : List Point) → Ar
 near_step points point rest h same =
     let near : AreNear (point ∷ rest) = subst AreNear same h in
     let few = near.few in
-    record { first = All-head IsPointWithinReach point rest near.reach; later = record { reach = All-tail IsPointWithinReach point rest near.reach; few = omega (arith, few) } }
+    record {
+      first = All-head IsPointWithinReach point rest near.reach;
+      later =
+          record { reach = All-tail IsPointWithinReach point rest near.reach; few = omega (arith, few) };
+    }

@@ -40,4 +40,10 @@ row_within e j h s =
     let low : e.y0 ≤ℤ (j +ℤ pos 1) = omega (arith, ints) in
     let high : (j +ℤ pos 1) ≤ℤ e.y1 = omega (arith, ints) in
     let up : j ≤ℤ e.y1 = omega (arith, ints) in
-    record { bottom = x_within e j h from up; top = x_within e (j +ℤ pos 1) h low high; row = y_within e j h from up; next_row = y_within e (j +ℤ pos 1) h low high }
+    record {
+      bottom = x_within e j h from up;
+      top = x_within e (j +ℤ pos 1) h low high;
+      row =
+          y_within e j h from up;
+      next_row = y_within e (j +ℤ pos 1) h low high;
+    }

@@ -1,10 +1,12 @@
 -- The runs of a row, from its edges from left to right.
-use Rattle.std.proofs.Common.{ℤ, pos, ◌≡◌, ◌+ℤ◌, ◌≤ℤ◌, ◌<ℤ◌, ◌⊎◌, Bool, true, false, IsTrue, List, [], ◌∷◌, ◌++◌, All, Option, Some, None, arith, refl, inl, inr, ap, subst, sym}
+use Rattle.std.proofs.Common.{ℤ, pos, ◌≡◌, ◌+ℤ◌, ◌≤ℤ◌, ◌<ℤ◌, ◌⊎◌, Bool, true, false, IsTrue, List, [], ◌∷◌, ◌++◌, All}
+use Rattle.std.proofs.Common.{Option, Some, None, arith, refl, inl, inr, ap, subst, sym}
 use Rattle.std.specs.Prelude.{◌↔◌, Any, IfSome}
 use Rattle.std.specs.List.{Contains}
 use Rattle.std.proofs.lemmas.Int.{ints, by_lt_z}
 use Rattle.std.proofs.lemmas.List.{append-nil}
-use Rattle.std.proofs.lemmas.List.Elements.{All-head, All-tail, All-cons, All-nil, All-push, All-weaker, All-contains, Contains-append_left, Contains-push, Contains-push_cases}
+use Rattle.std.proofs.lemmas.List.Elements.{All-head, All-tail, All-cons, All-nil, All-push, All-weaker, All-contains}
+use Rattle.std.proofs.lemmas.List.Elements.{Contains-append_left, Contains-push, Contains-push_cases}
 use Rattle.half_grid.specs.Edges.{EdgeParts, edges_winding}
 use Rattle.half_grid.specs.Rows.{number_in_row, place}
 use Rattle.half_grid.specs.declared.plane.Tile.{Tile}
@@ -43,7 +45,8 @@ pub record OpenRun (edges : List EdgeParts) (j : ℤ) (left : List EdgeParts) (r
 
 -- What is known of a row after some of its edges: `left` are the others, and the runs are right at the tiles that
 -- none of them has on its right.
-pub record SoFar (post : ℤ → ℤ → Bool → Type 0) (edges : List EdgeParts) (j : ℤ) (left : List EdgeParts) (w : Windings) (begun : Option Run) (runs : List Run) : Type 0 where
+pub record SoFar (post : ℤ → ℤ → Bool → Type 0) (edges : List EdgeParts) (j : ℤ) (left : List EdgeParts) (w : Windings)
+    (begun : Option Run) (runs : List Run) : Type 0 where
   pub ordered : AreInOrder j left
   pub winding : (t : Tile) → t.j ≡ j → ReachesFirst t left → (o : Operand) → edges_winding o edges t ≡ winding_of o w +ℤ edges_winding o left t
   pub taken : (t : Tile) → t.j ≡ j → StandRight j (number_in_row t) left → IsTaken post edges t ↔ (Any (RunHas t) runs ⊎ IsInOpen t begun)
@@ -55,7 +58,8 @@ pub record SoFar (post : ℤ → ℤ → Bool → Type 0) (edges : List EdgePart
 none_has : (t : Tile) → Any (RunHas t) [] → ⊥
 none_has t h = absurd (omega (arith, h.2))
 
-left_of_all : (post : ℤ → ℤ → Bool → Type 0) (edges : List EdgeParts) (t : Tile) → (Takes post (pos 0) (pos 0) → ⊥) → All (λ e. number_in_row t <ℤ place e.line t.j) edges → IsTaken post edges t → ⊥
+left_of_all : (post : ℤ → ℤ → Bool → Type 0) (edges : List EdgeParts) (t : Tile) → (Takes post (pos 0) (pos 0) → ⊥)
+    → All (λ e. number_in_row t <ℤ place e.line t.j) edges → IsTaken post edges t → ⊥
 left_of_all post edges t leaves h taken =
     let a = winding_left A edges t h in
     let b = winding_left B edges t h in
@@ -65,7 +69,8 @@ at_row : (t : Tile) (j : ℤ) (edges : List EdgeParts) → t.j ≡ j → StandRi
 at_row t j edges e h = rw e h
 
 -- before the first edge
-pub so_far_none : (pre : ℤ → ℤ → Type 0) (post : ℤ → ℤ → Bool → Type 0) (edges : List EdgeParts) (j : ℤ) (w : Windings) → IsRule pre post → AreInOrder j edges → w.a ≡ pos 0 → w.b ≡ pos 0 → SoFar post edges j edges w None []
+pub so_far_none : (pre : ℤ → ℤ → Type 0) (post : ℤ → ℤ → Bool → Type 0) (edges : List EdgeParts) (j : ℤ) (w : Windings)
+    → IsRule pre post → AreInOrder j edges → w.a ≡ pos 0 → w.b ≡ pos 0 → SoFar post edges j edges w None []
 so_far_none pre post edges j w rule ordered a b = record {
   ordered = ordered;
   winding = λ t e h. zero_first w edges t a b;
@@ -76,7 +81,8 @@ so_far_none pre post edges j w rule ordered a b = record {
   opened = tt;
 }
   where
-    zero_first : (w : Windings) (edges : List EdgeParts) (t : Tile) → w.a ≡ pos 0 → w.b ≡ pos 0 → (o : Operand) → edges_winding o edges t ≡ winding_of o w +ℤ edges_winding o edges t
+    zero_first : (w : Windings) (edges : List EdgeParts) (t : Tile) → w.a ≡ pos 0 → w.b ≡ pos 0 → (o : Operand)
+        → edges_winding o edges t ≡ winding_of o w +ℤ edges_winding o edges t
     zero_first w edges t a b A = omega (arith, ints, a)
     zero_first w edges t a b B = omega (arith, ints, b)
 
@@ -138,7 +144,8 @@ reaches t e (f ∷ rest) h r =
     omega (arith, ints, first, r)
 
 -- the winding right of one more edge
-winding_past : (post : ℤ → ℤ → Bool → Type 0) (edges : List EdgeParts) (j : ℤ) (e : EdgeParts) (rest : List EdgeParts) (w now : Windings) (begun : Option Run) (runs : List Run)
+winding_past : (post : ℤ → ℤ → Bool → Type 0) (edges : List EdgeParts) (j : ℤ) (e : EdgeParts) (rest : List EdgeParts)
+    (w now : Windings) (begun : Option Run) (runs : List Run)
     → SoFar post edges j (e ∷ rest) w begun runs → now.a ≡ w.a +ℤ adds A e → now.b ≡ w.b +ℤ adds B e
     → (t : Tile) → t.j ≡ j → place e.line t.j ≤ℤ number_in_row t → (o : Operand) → edges_winding o edges t ≡ winding_of o now +ℤ edges_winding o rest t
 winding_past post edges j e rest w now begun runs i a b t same h o =
@@ -159,20 +166,32 @@ right_of_both j n e (f ∷ rest) on h =
     let same = same_place f.line e.line j on in
     All-cons (λ g. n <ℤ place g.line j) e (f ∷ rest) (omega (arith, ints, first, same)) h
 
-tails : (j : ℤ) (e : EdgeParts) (rest : List EdgeParts) (runs : List Run) → All (λ r. StandRight j (place r.right j) (e ∷ rest)) runs → All (λ r. StandRight j (place r.right j) rest) runs
+tails : (j : ℤ) (e : EdgeParts) (rest : List EdgeParts) (runs : List Run)
+    → All (λ r. StandRight j (place r.right j) (e ∷ rest)) runs → All (λ r. StandRight j (place r.right j) rest) runs
 tails j e rest runs h =
-    All-weaker (λ r. StandRight j (place r.right j) (e ∷ rest)) (λ r. StandRight j (place r.right j) rest) (λ r k. All-tail (λ f. place r.right j <ℤ place f.line j) e rest k) runs h
+    All-weaker (λ r. StandRight j (place r.right j) (e ∷ rest)) (λ r. StandRight j (place r.right j) rest)
+    (λ r k. All-tail (λ f. place r.right j <ℤ place f.line j) e rest k) runs h
 
-opened_tail : (edges : List EdgeParts) (j : ℤ) (e : EdgeParts) (rest : List EdgeParts) (runs : List Run) (begun : Option Run) → IfSome begun (OpenRun edges j (e ∷ rest) runs) → IfSome begun (OpenRun edges j rest runs)
+opened_tail : (edges : List EdgeParts) (j : ℤ) (e : EdgeParts) (rest : List EdgeParts) (runs : List Run)
+    (begun : Option Run) → IfSome begun (OpenRun edges j (e ∷ rest) runs) → IfSome begun (OpenRun edges j rest runs)
 opened_tail edges j e rest runs None h = tt
-opened_tail edges j e rest runs (Some run) h = record { before = All-tail (λ f. place run.left j <ℤ place f.line j) e rest h.before; after = h.after; held = h.held }
+opened_tail edges j e rest runs (Some run) h =
+    record {
+      before = All-tail (λ f. place run.left j <ℤ place f.line j) e rest h.before;
+      after = h.after;
+      held =
+          h.held;
+    }
 
 -- One edge more, and the next one lies on its line.
-pub so_far_same_line : (post : ℤ → ℤ → Bool → Type 0) (edges : List EdgeParts) (j : ℤ) (e : EdgeParts) (rest : List EdgeParts) (w now : Windings) (begun : Option Run) (runs : List Run)
-    → SoFar post edges j (e ∷ rest) w begun runs → now.a ≡ w.a +ℤ adds A e → now.b ≡ w.b +ℤ adds B e → BeginsOn e.line rest → SoFar post edges j rest now begun runs
+pub so_far_same_line : (post : ℤ → ℤ → Bool → Type 0) (edges : List EdgeParts) (j : ℤ) (e : EdgeParts)
+    (rest : List EdgeParts) (w now : Windings) (begun : Option Run) (runs : List Run)
+    → SoFar post edges j (e ∷ rest) w begun runs → now.a ≡ w.a +ℤ adds A e → now.b ≡ w.b +ℤ adds B e
+    → BeginsOn e.line rest → SoFar post edges j rest now begun runs
 so_far_same_line post edges j e rest w now begun runs i a b on = record {
   ordered = order_tail j e rest i.ordered;
-  winding = λ t same h o. winding_past post edges j e rest w now begun runs i a b t same (reaches t e rest (subst (λ (y : ℤ). AreInOrder y (e ∷ rest)) (sym same) i.ordered) h) o;
+  winding = λ t same h o. winding_past post edges j e rest w now begun runs i a b t same
+      (reaches t e rest (subst (λ (y : ℤ). AreInOrder y (e ∷ rest)) (sym same) i.ordered) h) o;
   taken = λ t same h. i.taken t same (right_of_both j (number_in_row t) e rest on h);
   apart = i.apart;
   below = tails j e rest runs i.below;
@@ -180,11 +199,17 @@ so_far_same_line post edges j e rest w now begun runs i a b on = record {
   opened = opened_tail edges j e rest runs begun i.opened;
 }
 
-apart_push : (j : ℤ) (runs : List Run) (run : Run) → StandApart j runs → All (λ r. place r.right j <ℤ place run.left j) runs → place run.left j <ℤ place run.right j → StandApart j (runs ++ run ∷ [])
+apart_push : (j : ℤ) (runs : List Run) (run : Run) → StandApart j runs
+    → All (λ r. place r.right j <ℤ place run.left j) runs → place run.left j <ℤ place run.right j
+    → StandApart j (runs ++ run ∷ [])
 apart_push j [] run h below legal = (legal, All-nil (λ next. place run.right j <ℤ place next.left j), tt)
 apart_push j (r ∷ runs) run h below legal =
-    let P : Run → Type 0 = λ s. place s.right j <ℤ place run.left j in
-    (h.0, All-push (λ next. place r.right j <ℤ place next.left j) runs run h.1 (All-head P r runs below), apart_push j runs run h.2 (All-tail P r runs below) legal)
+    let P : Run → Type 0 = λ s. place s.right j <ℤ place run.left j in (
+      h.0,
+      All-push (λ next. place r.right j <ℤ place next.left j) runs run h.1
+          (All-head P r runs below),
+      apart_push j runs run h.2 (All-tail P r runs below) legal,
+    )
 
 -- One edge more, and it is the last of its line.
 module _ (post : ℤ → ℤ → Bool → Type 0) (edges : List EdgeParts) (j : ℤ) (e : EdgeParts) (rest : List EdgeParts) (w now : Windings) (runs : List Run)
@@ -195,7 +220,8 @@ module _ (post : ℤ → ℤ → Bool → Type 0) (edges : List EdgeParts) (j : 
   edge_at : (t : Tile) → t.j ≡ j → place e.line t.j ≡ place e.line j
   edge_at t same = ap (λ (y : ℤ). place e.line y) same
 
-  here : (begun : Option Run) → Before begun → (t : Tile) → t.j ≡ j → StandRight j (number_in_row t) rest → place e.line j ≤ℤ number_in_row t → (o : Operand) → edges_winding o edges t ≡ winding_of o now
+  here : (begun : Option Run) → Before begun → (t : Tile) → t.j ≡ j → StandRight j (number_in_row t) rest
+      → place e.line j ≤ℤ number_in_row t → (o : Operand) → edges_winding o edges t ≡ winding_of o now
   here begun i t same h le o =
       let at = edge_at t same in
       let le_here : place e.line t.j ≤ℤ number_in_row t = omega (arith, ints, at, le) in
@@ -203,29 +229,36 @@ module _ (post : ℤ → ℤ → Bool → Type 0) (edges : List EdgeParts) (j : 
       let zero = winding_left o rest t (at_row t j rest same h) in
       omega (arith, ints, past, zero)
 
-  takes_here : (begun : Option Run) → Before begun → (t : Tile) → t.j ≡ j → StandRight j (number_in_row t) rest → place e.line j ≤ℤ number_in_row t → IsTaken post edges t → Takes post now.a now.b
+  takes_here : (begun : Option Run) → Before begun → (t : Tile) → t.j ≡ j → StandRight j (number_in_row t) rest
+      → place e.line j ≤ℤ number_in_row t → IsTaken post edges t → Takes post now.a now.b
   takes_here begun i t same h le taken =
       let x = here begun i t same h le A in
       let y = here begun i t same h le B in
       rw (x, y) at taken
 
-  taken_here : (begun : Option Run) → Before begun → (t : Tile) → t.j ≡ j → StandRight j (number_in_row t) rest → place e.line j ≤ℤ number_in_row t → Takes post now.a now.b → IsTaken post edges t
+  taken_here : (begun : Option Run) → Before begun → (t : Tile) → t.j ≡ j → StandRight j (number_in_row t) rest
+      → place e.line j ≤ℤ number_in_row t → Takes post now.a now.b → IsTaken post edges t
   taken_here begun i t same h le takes =
       let x = here begun i t same h le A in
       let y = here begun i t same h le B in
       rw (x, y) takes
 
-  taken_left : (begun : Option Run) → Before begun → (t : Tile) → t.j ≡ j → StandRight j (number_in_row t) rest → number_in_row t <ℤ place e.line j → IsTaken post edges t ↔ (Any (RunHas t) runs ⊎ IsInOpen t begun)
+  taken_left : (begun : Option Run) → Before begun → (t : Tile) → t.j ≡ j → StandRight j (number_in_row t) rest
+      → number_in_row t <ℤ place e.line j → IsTaken post edges t ↔ (Any (RunHas t) runs ⊎ IsInOpen t begun)
   taken_left begun i t same h lt = i.taken t same (All-cons (λ f. number_in_row t <ℤ place f.line j) e rest lt h)
 
   ends_before : (begun : Option Run) → Before begun → All (λ r. place r.right j <ℤ place e.line j) runs
-  ends_before begun i = All-weaker (λ r. StandRight j (place r.right j) (e ∷ rest)) (λ r. place r.right j <ℤ place e.line j) (λ r k. All-head (λ f. place r.right j <ℤ place f.line j) e rest k) runs i.below
+  ends_before begun i = All-weaker (λ r. StandRight j (place r.right j) (e ∷ rest))
+      (λ r. place r.right j <ℤ place e.line j)
+      (λ r k. All-head (λ f. place r.right j <ℤ place f.line j) e rest k) runs i.below
 
   none_here : (begun : Option Run) → Before begun → (t : Tile) → t.j ≡ j → place e.line j ≤ℤ number_in_row t → Any (RunHas t) runs → ⊥
   none_here begun i t same le = none_reaches t j runs (place e.line j) same (ends_before begun i) le
 
-  winding_next : (begun : Option Run) → Before begun → (t : Tile) → t.j ≡ j → ReachesFirst t rest → (o : Operand) → edges_winding o edges t ≡ winding_of o now +ℤ edges_winding o rest t
-  winding_next begun i t same h o = winding_past post edges j e rest w now begun runs i a b t same (reaches t e rest (subst (λ (y : ℤ). AreInOrder y (e ∷ rest)) (sym same) i.ordered) h) o
+  winding_next : (begun : Option Run) → Before begun → (t : Tile) → t.j ≡ j → ReachesFirst t rest → (o : Operand)
+      → edges_winding o edges t ≡ winding_of o now +ℤ edges_winding o rest t
+  winding_next begun i t same h o = winding_past post edges j e rest w now begun runs i a b t same
+      (reaches t e rest (subst (λ (y : ℤ). AreInOrder y (e ∷ rest)) (sym same) i.ordered) h) o
 
   rest_right : (begun : Option Run) → Before begun → StandRight j (place e.line j) rest
   rest_right begun i = stand_right_of j e rest i.ordered last
@@ -270,7 +303,8 @@ module _ (post : ℤ → ℤ → Bool → Type 0) (edges : List EdgeParts) (j : 
       in_runs t (inl k) = k
       in_runs t (inr k) = absurd k
 
-      not_open : (t : Tile) → t.j ≡ j → number_in_row t <ℤ place e.line j → Any (RunHas t) runs ⊎ IsInOpen t (Some (run_between e.line e.line now)) → Any (RunHas t) runs
+      not_open : (t : Tile) → t.j ≡ j → number_in_row t <ℤ place e.line j → Any (RunHas t) runs
+          ⊎ IsInOpen t (Some (run_between e.line e.line now)) → Any (RunHas t) runs
       not_open t same lt (inl k) = k
       not_open t same lt (inr k) = let at = edge_at t same in absurd (omega (arith, ints, at, lt, k))
 
@@ -312,7 +346,8 @@ module _ (post : ℤ → ℤ → Bool → Type 0) (edges : List EdgeParts) (j : 
     opened = tt;
   }
     where
-      now_in : (t : Tile) → t.j ≡ j → number_in_row t <ℤ place e.line j → Any (RunHas t) runs ⊎ IsInOpen t (Some run) → Any (RunHas t) (runs ++ ended_at e.line run ∷ [])
+      now_in : (t : Tile) → t.j ≡ j → number_in_row t <ℤ place e.line j → Any (RunHas t) runs ⊎ IsInOpen t (Some run)
+          → Any (RunHas t) (runs ++ ended_at e.line run ∷ [])
       now_in t same lt (inl k) = any_left (RunHas t) runs (ended_at e.line run ∷ []) k
       now_in t same lt (inr k) =
           let at = edge_at t same in
@@ -340,19 +375,27 @@ module _ (post : ℤ → ℤ → Bool → Type 0) (edges : List EdgeParts) (j : 
   no_more : (begun : Option Run) → SoFar post edges j rest now begun runs → SoFar post edges j rest now begun (runs ++ [])
   no_more begun i = subst (SoFar post edges j rest now begun) (sym (append-nil runs)) i
 
-  pub so_far_last : (begun : Option Run) (answer : Bool) → IsTrue answer ↔ Takes post now.a now.b → Before begun → SoFar post edges j rest now (open_after e.line now begun answer) (runs ++ ends_at e.line begun answer)
+  pub so_far_last : (begun : Option Run) (answer : Bool) → IsTrue answer ↔ Takes post now.a now.b → Before begun
+      → SoFar post edges j rest now (open_after e.line now begun answer) (runs ++ ends_at e.line begun answer)
   so_far_last None true says i = no_more (Some (run_between e.line e.line now)) (begins i (says.0 refl))
   so_far_last None false says i = no_more None (stays_out i (λ t. (let wrong = says.1 t in absurd (let none : ⊥ = cc in none))))
   so_far_last (Some run) true says i = no_more (Some run) (goes_on run i (says.0 refl))
   so_far_last (Some run) false says i = ends run i (λ t. (let wrong = says.1 t in absurd (let none : ⊥ = cc in none)))
 
 -- Past all edges, with no run open.
-pub runs_of_row : (post : ℤ → ℤ → Bool → Type 0) (edges left : List EdgeParts) (j : ℤ) (w : Windings) (begun : Option Run) (runs : List Run) → SoFar post edges j left w begun runs → left ≡ [] → begun ≡ None → AreRuns post edges j runs
+pub runs_of_row : (post : ℤ → ℤ → Bool → Type 0) (edges left : List EdgeParts) (j : ℤ) (w : Windings)
+    (begun : Option Run) (runs : List Run) → SoFar post edges j left w begun runs → left ≡ [] → begun ≡ None
+    → AreRuns post edges j runs
 runs_of_row post edges (e ∷ left) j w begun runs i h k = absurd (let none : ⊥ = cc in none)
 runs_of_row post edges [] j w (Some run) runs i h k = absurd (let none : ⊥ = cc in none)
 runs_of_row post edges [] j w None runs i h k = record {
   apart = i.apart;
-  taken = λ t same. (λ taken. in_runs t ((i.taken t same (All-nil (λ e. number_in_row t <ℤ place e.line j))).0 taken), λ any. (i.taken t same (All-nil (λ e. number_in_row t <ℤ place e.line j))).1 (inl any));
+  taken = λ t same. (
+    λ taken. in_runs t
+        ((i.taken t same (All-nil (λ e. number_in_row t <ℤ place e.line j))).0 taken),
+    λ any.
+        (i.taken t same (All-nil (λ e. number_in_row t <ℤ place e.line j))).1 (inl any),
+  );
   windings = i.held;
 }
   where

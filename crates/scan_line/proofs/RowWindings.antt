@@ -1,5 +1,6 @@
 -- The winding of the edges of a row at its tiles, edge by edge.
-use Rattle.std.proofs.Common.{ℕ, ℤ, pos, neg_ℤ, ◌≡◌, ◌+◌, ◌+ℤ◌, ◌-ℤ◌, ◌≤ℤ◌, ◌<ℤ◌, Bool, true, false, ◌&&◌, not, cond, List, [], ◌∷◌, All, count_by, arith, refl, ◌∙◌}
+use Rattle.std.proofs.Common.{ℕ, ℤ, pos, neg_ℤ, ◌≡◌, ◌+◌, ◌+ℤ◌, ◌-ℤ◌, ◌≤ℤ◌, ◌<ℤ◌, Bool, true, false, ◌&&◌, not, cond}
+use Rattle.std.proofs.Common.{List, [], ◌∷◌, All, count_by, arith, refl, ◌∙◌}
 use Rattle.std.proofs.lemmas.Int.{ints}
 use Rattle.std.proofs.lemmas.List.Elements.{All-head, All-tail}
 use Rattle.half_grid.specs.Edges.{EdgeParts, spans, has_on_right, is_of, winds_up, winds_down, edges_winding}
@@ -81,7 +82,9 @@ one_adds true true = refl
 one_adds true false = refl
 one_adds false up = refl
 
-pub total_is : (o : Operand) (edges : List EdgeParts) → total o edges ≡ pos (count_by (λ e. is_of o e.operand && e.up) edges) -ℤ pos (count_by (λ e. is_of o e.operand && not e.up) edges)
+pub total_is : (o : Operand) (edges : List EdgeParts)
+    → total o edges ≡ pos (count_by (λ e. is_of o e.operand && e.up) edges) -ℤ pos
+    (count_by (λ e. is_of o e.operand && not e.up) edges)
 total_is o [] = refl
 total_is o (e ∷ edges) =
     let one = one_adds (is_of o e.operand) e.up in

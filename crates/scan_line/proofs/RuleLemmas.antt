@@ -5,7 +5,8 @@ use Rattle.std.specs.Prelude.{◌↔◌}
 use Rattle.scan_line.specs.Rules.{IsTheAnswer, IsRule, IsWinding, Takes}
 
 -- the rule takes two windings exactly where the answer is true
-pub answer_says : (pre : ℤ → ℤ → Type 0) (post : ℤ → ℤ → Bool → Type 0) (a b : ℤ) (answer : Bool) → (due : Bool) × IsTheAnswer pre post a b due → post a b answer → IsTrue answer ↔ Takes post a b
+pub answer_says : (pre : ℤ → ℤ → Type 0) (post : ℤ → ℤ → Bool → Type 0) (a b : ℤ) (answer : Bool) → (due : Bool)
+    × IsTheAnswer pre post a b due → post a b answer → IsTrue answer ↔ Takes post a b
 answer_says pre post a b answer due h = (λ t. subst (post a b) t h, λ t. due.1.only answer h ∙ sym (due.1.only true t))
 
 -- and leaves a tile that no edge winds round

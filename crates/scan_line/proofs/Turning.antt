@@ -15,23 +15,34 @@ pub has_later : {X : Type 0} (x : X) (xs : List X) (y : X) → Contains xs y →
 has_later x xs y h = Contains-append_right (x ∷ []) xs y h
 
 -- the turn of an edge and the next one
-pub turn_of_two : (e f : EdgeParts) (rest : List EdgeParts) (limit cut y : ℤ) → (cut ≡ limit) ⊎ (cut ≡ e.y1) → (y ≡ cut) ⊎ ((e.line ≢ f.line) × MeetAt e.line f.line y)
+pub turn_of_two : (e f : EdgeParts) (rest : List EdgeParts) (limit cut y : ℤ) → (cut ≡ limit) ⊎ (cut ≡ e.y1)
+    → (y ≡ cut) ⊎ ((e.line ≢ f.line) × MeetAt e.line f.line y)
     → Contains rest f → IsTurn (e ∷ rest) limit y
 turn_of_two e f rest limit cut y (inl h) (inl k) has = inl (k ∙ h)
 turn_of_two e f rest limit cut y (inr h) (inl k) has = inr (inl (record { e = e; has = has_first e rest; end = sym (k ∙ h) }))
-turn_of_two e f rest limit cut y c (inr k) has = inr (inr (record { e = e; f = f; has_e = has_first e rest; has_f = has_later e rest f has; differ = k.0; meet = k.1 }))
+turn_of_two e f rest limit cut y c (inr k) has = inr
+    (inr (record { e = e; f = f; has_e = has_first e rest; has_f = has_later e rest f has; differ = k.0; meet = k.1 }))
 
 -- a turn of some of the edges is one of all
 pub turn_of_all : (edges some : List EdgeParts) (limit y : ℤ) → All (Contains edges) some → IsTurn some limit y → IsTurn edges limit y
 turn_of_all edges some limit y a (inl h) = inl h
 turn_of_all edges some limit y a (inr (inl h)) = inr (inl (record { e = h.e; has = All-contains (Contains edges) some h.e a h.has; end = h.end }))
 turn_of_all edges some limit y a (inr (inr h)) =
-    inr (inr (record { e = h.e; f = h.f; has_e = All-contains (Contains edges) some h.e a h.has_e; has_f = All-contains (Contains edges) some h.f a h.has_f; differ = h.differ; meet = h.meet }))
+    inr (inr (record {
+      e = h.e;
+      f = h.f;
+      has_e = All-contains (Contains edges) some h.e a h.has_e;
+      has_f = All-contains
+          (Contains edges) some h.f a h.has_f;
+      differ = h.differ;
+      meet = h.meet;
+    }))
 
 pub turn_again : (edges : List EdgeParts) (limit cut y : ℤ) → IsTurn edges limit cut → IsTurn edges cut y → IsTurn edges limit y
 turn_again edges limit cut y (inl h) (inl k) = inl (k ∙ h)
 turn_again edges limit cut y (inr (inl h)) (inl k) = inr (inl (record { e = h.e; has = h.has; end = h.end ∙ sym k }))
-turn_again edges limit cut y (inr (inr h)) (inl k) = inr (inr (record { e = h.e; f = h.f; has_e = h.has_e; has_f = h.has_f; differ = h.differ; meet = rw k h.meet }))
+turn_again edges limit cut y (inr (inr h)) (inl k) = inr
+    (inr (record { e = h.e; f = h.f; has_e = h.has_e; has_f = h.has_f; differ = h.differ; meet = rw k h.meet }))
 turn_again edges limit cut y t (inr k) = inr k
 
 passes_lower : (low high top : ℤ) (e : EdgeParts) (rest : List EdgeParts) → high ≤ℤ top → PassesNext low top e rest → PassesNext low high e rest
@@ -39,7 +50,8 @@ passes_lower low high top e [] h p = tt
 passes_lower low high top e (f ∷ rest) h p = λ y a b m. p y a (omega (arith, ints, h, b)) m
 
 -- what is quiet up to some Y, one edge further
-pub quiet_further : (low high top : ℤ) (e : EdgeParts) (rest : List EdgeParts) → high ≤ℤ top → top ≤ℤ e.y1 → PassesNext low top e rest → AreQuiet low high rest → AreQuiet low high (e ∷ rest)
+pub quiet_further : (low high top : ℤ) (e : EdgeParts) (rest : List EdgeParts) → high ≤ℤ top → top ≤ℤ e.y1
+    → PassesNext low top e rest → AreQuiet low high rest → AreQuiet low high (e ∷ rest)
 quiet_further low high top e rest h end p q = (omega (arith, ints, h, end), passes_lower low high top e rest h p, q)
 
 -- what is known of rows below the turns of the edges before `left`
@@ -76,7 +88,8 @@ below_more edges left e rest slab rows now i same low end passes turn =
       among = All-tail (Contains edges) e rest among;
       above = All-tail (λ f. slab.y0 <ℤ f.y1) e rest above;
       quiet = λ high h q.
-          i.quiet high (omega (arith, ints, h, now_top)) (subst (AreQuiet slab.y0 high) (sym same) (quiet_further slab.y0 high now.y1 e rest h end passes_here q));
+          i.quiet high (omega (arith, ints, h, now_top))
+          (subst (AreQuiet slab.y0 high) (sym same) (quiet_further slab.y0 high now.y1 e rest h end passes_here q));
     }
 
 pub quiet_all : (edges left : List EdgeParts) (slab rows : Slab) → AreBelow edges left slab rows → length left ≡ 0 → AreQuiet slab.y0 rows.y1 edges

@@ -8,7 +8,8 @@ use Rattle.scan_line.specs.ClippedEdges.{parts_in}
 use Rattle.scan_line.specs.Runs.{IsBalanced}
 
 abbrev pub WindsInWindow : Type 0
-WindsInWindow = (o : Operand) (window : RowRange) (edges : List EdgeParts) (t : Tile) → window.y0 ≤ℤ t.j → t.j <ℤ window.y1 → edges_winding o (parts_in window edges) t ≡ edges_winding o edges t
+WindsInWindow = (o : Operand) (window : RowRange) (edges : List EdgeParts) (t : Tile) → window.y0 ≤ℤ t.j
+    → t.j <ℤ window.y1 → edges_winding o (parts_in window edges) t ≡ edges_winding o edges t
 
 abbrev pub StaysBalanced : Type 0
 StaysBalanced = (window : RowRange) (edges : List EdgeParts) → IsBalanced edges window → IsBalanced (parts_in window edges) window

@@ -18,7 +18,8 @@ some_same y z e = cc
 
 -- shots that fit, and one more
 pub fit_one_more : (limits : Limits) (shots : List Trapezoid) (k : ℕ) (shot : Trapezoid) → slice_get shots k ≡ Some shot → Fits limits shot
-    → ((i : ℕ) (z : Trapezoid) → i < k → slice_get shots i ≡ Some z → Fits limits z) → (i : ℕ) (z : Trapezoid) → i < k + 1 → slice_get shots i ≡ Some z → Fits limits z
+    → ((i : ℕ) (z : Trapezoid) → i < k → slice_get shots i ≡ Some z → Fits limits z) → (i : ℕ) (z : Trapezoid)
+    → i < k + 1 → slice_get shots i ≡ Some z → Fits limits z
 fit_one_more limits shots k shot at fits before i z lt is =
     by_order i k
     (λ below. before i z below is)
@@ -26,5 +27,6 @@ fit_one_more limits shots k shot at fits before i z lt is =
     (λ e. (let same : Some shot ≡ Some z = sym at ∙ ap (slice_get shots) (sym e) ∙ is in subst (Fits limits) (some_same shot z same) fits))
 
 -- so all fit
-pub all_fit : (limits : Limits) (shots : List Trapezoid) (n : ℕ) → length shots ≤ n → ((i : ℕ) (z : Trapezoid) → i < n → slice_get shots i ≡ Some z → Fits limits z) → All (Fits limits) shots
+pub all_fit : (limits : Limits) (shots : List Trapezoid) (n : ℕ) → length shots ≤ n
+    → ((i : ℕ) (z : Trapezoid) → i < n → slice_get shots i ≡ Some z → Fits limits z) → All (Fits limits) shots
 all_fit limits shots n most before k d lt = before k (get_or shots k d) (omega (arith, lt, most)) (slice_get-get_or shots k d lt)

@@ -63,7 +63,8 @@ step_same cells top others other_top frame A B same (Mirror a m) layers t = same
 
 -- ---- all steps
 
-module _ (cells : List Cell) (top : ℕ) (others : List Cell) (other_top : ℕ) (d e : Deck) (steps : d.steps ≡ e.steps) (frame : d.frame ≡ e.frame) (layers : HaveSameLayers d cells top others other_top) where
+module _ (cells : List Cell) (top : ℕ) (others : List Cell) (other_top : ℕ) (d e : Deck) (steps : d.steps ≡ e.steps)
+    (frame : d.frame ≡ e.frame) (layers : HaveSameLayers d cells top others other_top) where
   named_same : (A B : ℕ → Tile → Type 0) → ((n : ℕ) (t : Tile) → A n t ↔ B n t) → (n : ℕ) (t : Tile) (step : Option Step) → slice_get d.steps n ≡ step
       → IsSomeAnd step (λ s. IsInStep cells top d.frame A s t) ↔ IsSomeAnd step (λ s. IsInStep others other_top e.frame B s t)
   named_same A B same n t None is = (λ x. x, λ x. x)

@@ -44,7 +44,8 @@ module _ (rows : ℤ) (some : pos 0 <ℤ rows) (area : Tile → Type 0) where
   more_bands k n = ap (λ (m : ℤ). m *ℤ rows) (omega (arith, ints))
 
   -- the tiles of the area in the rows of the bands, each once
-  pub bands_cover : (k : ℤ) (lists : List (List Trapezoid)) → AreBandLists rows area k lists → CoversExactly (end_to_end lists) (IsInPart area (rows_of k (length lists)))
+  pub bands_cover : (k : ℤ) (lists : List (List Trapezoid)) → AreBandLists rows area k lists
+      → CoversExactly (end_to_end lists) (IsInPart area (rows_of k (length lists)))
   bands_cover k [] b = record {
     once = λ t h. absurd (omega (arith, ints, no_bands k, h.rows.from, h.rows.below));
     never = λ t out. refl;
@@ -53,7 +54,8 @@ module _ (rows : ℤ) (some : pos 0 <ℤ rows) (area : Tile → Type 0) where
       let here = b.0.joined.covers in
       let later = bands_cover (k +ℤ pos 1) lists b.1 in
       let up : (k *ℤ rows) ≤ℤ ((k +ℤ pos 1) *ℤ rows) = multiples k (k +ℤ pos 1) rows some (omega (arith, ints)) in
-      let top : ((k +ℤ pos 1) *ℤ rows) ≤ℤ (((k +ℤ pos 1) +ℤ pos (length lists)) *ℤ rows) = multiples (k +ℤ pos 1) ((k +ℤ pos 1) +ℤ pos (length lists)) rows some (omega (arith, ints)) in
+      let top : ((k +ℤ pos 1) *ℤ rows) ≤ℤ (((k +ℤ pos 1) +ℤ pos (length lists)) *ℤ rows) = multiples (k +ℤ pos 1)
+      ((k +ℤ pos 1) +ℤ pos (length lists)) rows some (omega (arith, ints)) in
       let split = more_bands k (length lists) in
       record {
         once = λ t h.
@@ -65,8 +67,23 @@ module _ (rows : ℤ) (some : pos 0 <ℤ rows) (area : Tile → Type 0) where
             let second = later.once t (record { rows = record { from = high; below = omega (arith, ints, split, h.rows.below) }; inside = h.inside }) in
             omega (arith, first, second, count_in-append traps (end_to_end lists) t)));
         never = λ t out.
-            let first = here.never t (λ q. out (record { rows = record { from = q.rows.from; below = omega (arith, ints, q.rows.below, top, split) }; inside = q.inside })) in
-            let second = later.never t (λ q. out (record { rows = record { from = omega (arith, ints, q.rows.from, up); below = omega (arith, ints, q.rows.below, split) }; inside = q.inside })) in
+            let first = here.never t
+            (λ q. out (record {
+              rows =
+                  record { from = q.rows.from; below = omega (arith, ints, q.rows.below, top, split) };
+              inside =
+                  q.inside;
+            })) in
+            let second = later.never t
+            (λ q. out (record {
+              rows =
+                  record {
+                    from = omega (arith, ints, q.rows.from, up);
+                    below = omega
+                        (arith, ints, q.rows.below, split);
+                  };
+              inside = q.inside;
+            })) in
             omega (arith, first, second, count_in-append traps (end_to_end lists) t);
       }
 
@@ -76,14 +93,19 @@ module _ (rows : ℤ) (some : pos 0 <ℤ rows) (area : Tile → Type 0) where
 
   module _ (height width : ℤ) (limits : AreLimits height width) where
     -- the shots of bands lie from the lowest row of the first one on
-    bands_above : (k : ℤ) (lists : List (List Trapezoid)) → AreBandLists rows area k lists → All (BeginsAt (k *ℤ rows)) (shots_of height width (end_to_end lists))
+    bands_above : (k : ℤ) (lists : List (List Trapezoid)) → AreBandLists rows area k lists
+        → All (BeginsAt (k *ℤ rows)) (shots_of height width (end_to_end lists))
     bands_above k [] b = All-nil (BeginsAt (k *ℤ rows))
     bands_above k (traps ∷ lists) b =
         let up : (k *ℤ rows) ≤ℤ ((k +ℤ pos 1) *ℤ rows) = multiples k (k +ℤ pos 1) rows some (omega (arith, ints)) in
         let first : All (BeginsAt (k *ℤ rows)) (shots_of height width traps) =
-        All-weaker (StandsIn (band rows k)) (BeginsAt (k *ℤ rows)) (λ z h. record { rows = h.1; low = h.0 }) (shots_of height width traps) (shots_in_window height width limits (band rows k) traps b.0.joined.joined b.0.shots) in
+        All-weaker (StandsIn (band rows k)) (BeginsAt (k *ℤ rows)) (λ z h. record { rows = h.1; low = h.0 })
+        (shots_of height width traps)
+        (shots_in_window height width limits (band rows k) traps b.0.joined.joined b.0.shots) in
         let later : All (BeginsAt (k *ℤ rows)) (shots_of height width (end_to_end lists)) =
-        All-weaker (BeginsAt ((k +ℤ pos 1) *ℤ rows)) (BeginsAt (k *ℤ rows)) (λ z h. (let low = h.low in record { rows = h.rows; low = omega (arith, ints, low, up) })) (shots_of height width (end_to_end lists)) (bands_above (k +ℤ pos 1) lists b.1) in
+        All-weaker (BeginsAt ((k +ℤ pos 1) *ℤ rows)) (BeginsAt (k *ℤ rows))
+        (λ z h. (let low = h.low in record { rows = h.rows; low = omega (arith, ints, low, up) }))
+        (shots_of height width (end_to_end lists)) (bands_above (k +ℤ pos 1) lists b.1) in
         subst (All (BeginsAt (k *ℤ rows))) (sym (flat_map-append (cut_list height width) traps (end_to_end lists)))
         (All-append (BeginsAt (k *ℤ rows)) (shots_of height width traps) (shots_of height width (end_to_end lists)) first later)
 
@@ -96,7 +118,8 @@ module _ (rows : ℤ) (some : pos 0 <ℤ rows) (area : Tile → Type 0) where
         needless_weaker rows height width area (λ t. (area t → ⊥) → ⊥) (shots_of height width traps) (λ t out inside. inside out)
         (joined_needless height width limits (band rows k) traps b.joined.joined b.shots (λ t. (area t → ⊥) → ⊥) (band_inside k traps b) rows)
 
-    pub bands_needless : (k : ℤ) (lists : List (List Trapezoid)) → AreBandLists rows area k lists → HasNoNeedlessCut rows height width area (shots_of height width (end_to_end lists))
+    pub bands_needless : (k : ℤ) (lists : List (List Trapezoid)) → AreBandLists rows area k lists
+        → HasNoNeedlessCut rows height width area (shots_of height width (end_to_end lists))
     bands_needless k [] b = record {
       upright = λ y z at. absurd (none_in at);
       level = λ y z at. absurd (none_in at);
@@ -106,21 +129,30 @@ module _ (rows : ℤ) (some : pos 0 <ℤ rows) (area : Tile → Type 0) where
         none_in {y} at = All-contains (λ _. ⊥) [] y (All-nil (λ _. ⊥)) at
     bands_needless k (traps ∷ lists) b =
         let first : All (EndsBy ((k +ℤ pos 1) *ℤ rows)) (shots_of height width traps) =
-        All-weaker (StandsIn (band rows k)) (EndsBy ((k +ℤ pos 1) *ℤ rows)) (λ z h. record { rows = h.1; high = h.2 }) (shots_of height width traps) (shots_in_window height width limits (band rows k) traps b.0.joined.joined b.0.shots) in
+        All-weaker (StandsIn (band rows k)) (EndsBy ((k +ℤ pos 1) *ℤ rows)) (λ z h. record { rows = h.1; high = h.2 })
+        (shots_of height width traps)
+        (shots_in_window height width limits (band rows k) traps b.0.joined.joined b.0.shots) in
         subst (HasNoNeedlessCut rows height width area) (sym (flat_map-append (cut_list height width) traps (end_to_end lists)))
-        (needless_append rows height width area (k +ℤ pos 1) (shots_of height width traps) (shots_of height width (end_to_end lists)) some first (bands_above (k +ℤ pos 1) lists b.1) (band_needless k traps b.0) (bands_needless (k +ℤ pos 1) lists b.1))
+        (needless_append rows height width area (k +ℤ pos 1) (shots_of height width traps)
+        (shots_of height width (end_to_end lists)) some first (bands_above (k +ℤ pos 1) lists b.1)
+        (band_needless k traps b.0) (bands_needless (k +ℤ pos 1) lists b.1))
 
 -- ---- shot lists
 
 module _ (rules : Rules) (some : pos 0 <ℤ rules.rows) (limits : AreLimits rules.height rules.width) (area : Tile → Type 0) where
   pub below_shots : (k : ℤ) (shots : List Trapezoid) → IsShotListBelow rules area k shots → All IsShot shots
-  below_shots k shots s = subst (All IsShot) (sym s.cut) (list_of_shots rules.height rules.width limits (end_to_end s.lists) (bands_shots rules.rows some area s.first s.lists s.joined))
+  below_shots k shots s = subst (All IsShot) (sym s.cut)
+      (list_of_shots rules.height rules.width limits (end_to_end s.lists)
+      (bands_shots rules.rows some area s.first s.lists s.joined))
 
   pub below_fit : (k : ℤ) (shots : List Trapezoid) → IsShotListBelow rules area k shots → All (FitsLimits rules.height rules.width) shots
-  below_fit k shots s = subst (All (FitsLimits rules.height rules.width)) (sym s.cut) (list_fits rules.height rules.width limits (end_to_end s.lists) (bands_shots rules.rows some area s.first s.lists s.joined))
+  below_fit k shots s = subst (All (FitsLimits rules.height rules.width)) (sym s.cut)
+      (list_fits rules.height rules.width limits (end_to_end s.lists)
+      (bands_shots rules.rows some area s.first s.lists s.joined))
 
   pub below_needless : (k : ℤ) (shots : List Trapezoid) → IsShotListBelow rules area k shots → HasNoNeedlessCut rules.rows rules.height rules.width area shots
-  below_needless k shots s = subst (HasNoNeedlessCut rules.rows rules.height rules.width area) (sym s.cut) (bands_needless rules.rows some area rules.height rules.width limits s.first s.lists s.joined)
+  below_needless k shots s = subst (HasNoNeedlessCut rules.rows rules.height rules.width area) (sym s.cut)
+      (bands_needless rules.rows some area rules.height rules.width limits s.first s.lists s.joined)
 
   -- the tiles of the area below band k
   abbrev pub IsBelow : ℤ → Tile → Type 0
@@ -129,10 +161,16 @@ module _ (rules : Rules) (some : pos 0 <ℤ rules.rows) (limits : AreLimits rule
   pub below_covers : (k : ℤ) (shots : List Trapezoid) → IsShotListBelow rules area k shots → CoversExactly shots (IsBelow k)
   below_covers k shots s =
       let cover = bands_cover rules.rows some area s.first s.lists s.joined in
-      let same : (t : Tile) → count_in shots t ≡ count_in (end_to_end s.lists) t = λ t. ap (λ zs. count_in zs t) s.cut ∙ same_tiles_of_list rules.height rules.width limits t (end_to_end s.lists) (bands_shots rules.rows some area s.first s.lists s.joined) in
+      let same : (t : Tile) → count_in shots t ≡ count_in (end_to_end s.lists) t = λ t. ap (λ zs. count_in zs t) s.cut
+      ∙ same_tiles_of_list rules.height rules.width limits t (end_to_end s.lists)
+      (bands_shots rules.rows some area s.first s.lists s.joined) in
       let top : (s.first +ℤ pos (length s.lists)) *ℤ rules.rows ≡ k *ℤ rules.rows = ap (λ (m : ℤ). m *ℤ rules.rows) s.up_to in
       record {
-        once = λ t h. same t ∙ cover.once t (record { rows = record { from = s.none_below t h.1; below = subst (λ (y : ℤ). t.j <ℤ y) (sym top) h.0 }; inside = h.1 });
+        once = λ t h. same t ∙ cover.once t
+            (record {
+              rows = record { from = s.none_below t h.1; below = subst (λ (y : ℤ). t.j <ℤ y) (sym top) h.0 };
+              inside = h.1;
+            });
         never = λ t out. same t ∙ cover.never t (λ q. out (subst (λ (y : ℤ). t.j <ℤ y) top q.rows.below, q.inside));
       }
 

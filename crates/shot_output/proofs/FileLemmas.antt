@@ -1,5 +1,7 @@
 -- What the calls of a writer leave in an output's file.
-use Rattle.std.proofs.Common.{Result, Ok, Err, OnOk, OnErr, IfOk, ℕ, ◌+◌, ◌*◌, ◌≤◌, pos, ◌<ℤ◌, ◌≡◌, Bool, IsTrue, List, [], ◌++◌, length, take, get_or, slice_get, Some, arith, refl, sym, ap, subst, ◌∙◌, inl, inr}
+use Rattle.std.proofs.Common.{Result, Ok, Err, OnOk, OnErr, IfOk, ℕ, ◌+◌, ◌*◌, ◌≤◌, pos, ◌<ℤ◌, ◌≡◌, Bool, IsTrue, List}
+use Rattle.std.proofs.Common.{[], ◌++◌, length, take, get_or, slice_get, Some, arith, refl, sym, ap, subst, ◌∙◌, inl}
+use Rattle.std.proofs.Common.{inr}
 use Rattle.std.proofs.lemmas.Int.{ints}
 use Rattle.std.proofs.lemmas.List.{append-nil, length-append}
 use Rattle.std.proofs.lemmas.Option.{get_or_from_slice_get}
@@ -28,8 +30,10 @@ err_then (Ok x) a f = tt
 err_then (Err bad) a f = f a
 
 -- the output at a place of a list, as it is read
-pub is_output : (outputs others : List Output) (k : ℕ) (output found : Output) → found ≡ get_or others k found → others ≡ outputs → slice_get outputs k ≡ Some output → found ≡ output
-is_output outputs others k output found is same there = is ∙ ap (λ (l : List Output). get_or l k found) same ∙ get_or_from_slice_get outputs k output found there
+pub is_output : (outputs others : List Output) (k : ℕ) (output found : Output) → found ≡ get_or others k found
+    → others ≡ outputs → slice_get outputs k ≡ Some output → found ≡ output
+is_output outputs others k output found is same there = is ∙ ap (λ (l : List Output). get_or l k found) same
+    ∙ get_or_from_slice_get outputs k output found there
 
 -- what is written to the file alone, as a part of the file's bytes
 made : (c now : Content) (name bytes : List ℕ) (n : ℕ) → n ≤ length bytes → now ≡ with_file c name (take n bytes) → IsPartMade c name bytes now
@@ -41,7 +45,8 @@ module _ (p : Planned) (k : ℕ) (c₀ : Content) (output : Output) (unit : ℕ)
   front_is shots = ap (λ (n : ℕ). head n ++ records_of pair shots) unit_is ∙ ap (λ (q : Pair). head (2 * p.deck.unit) ++ records_of q shots) pair_is
 
   text_is : (shots : List Trapezoid) → shot_text unit pair.layer pair.datatype shots ≡ text_of p.deck output shots
-  text_is shots = ap (λ (n : ℕ). shot_text n pair.layer pair.datatype shots) unit_is ∙ ap (λ (q : Pair). shot_text (2 * p.deck.unit) q.layer q.datatype shots) pair_is
+  text_is shots = ap (λ (n : ℕ). shot_text n pair.layer pair.datatype shots) unit_is ∙ ap
+      (λ (q : Pair). shot_text (2 * p.deck.unit) q.layer q.datatype shots) pair_is
 
   -- no shot was put
   front_none : (rows : RowRange) → pos 0 <ℤ p.deck.band → HasRows p k rows → IsFrontOf p k []
@@ -76,14 +81,17 @@ module _ (p : Planned) (k : ℕ) (c₀ : Content) (output : Output) (unit : ℕ)
         xs ++ ys,
         (put.shots, inr (put.front, front_is put.shots)),
         made c₀ now output.file (xs ++ ys) (length xs + part.0) (omega (arith, part.1, length-append xs ys))
-            (part.2 ∙ ap (λ (x : Content). with_written x (take part.0 ys)) started ∙ file_more c₀ output.file xs (take part.0 ys) ∙ ap (with_file c₀ output.file) (sym (take-append-add xs ys part.0))),
+            (part.2 ∙ ap (λ (x : Content). with_written x (take part.0 ys)) started ∙ file_more c₀ output.file xs
+            (take part.0 ys) ∙ ap (with_file c₀ output.file) (sym (take-append-add xs ys part.0))),
       )
 
   -- the records of all shots were put
-  put_whole : (s c : Content) (shots : List Trapezoid) → s ≡ with_file c₀ output.file (head unit) → c ≡ with_written s (records_of pair shots) → c ≡ with_file c₀ output.file (head unit ++ records_of pair shots)
+  put_whole : (s c : Content) (shots : List Trapezoid) → s ≡ with_file c₀ output.file (head unit)
+      → c ≡ with_written s (records_of pair shots) → c ≡ with_file c₀ output.file (head unit ++ records_of pair shots)
   put_whole s c shots started put = put_text c₀ s c output.file unit pair [] shots (started_text c₀ s output.file unit pair started) put
 
-  pub finish_cut : (s c now : Content) (tells : Bool) (sums : Sums) → IsTrue tells → s ≡ with_file c₀ output.file (head unit) → IsPut p k pair tells s c sums → IsPartWritten c end now
+  pub finish_cut : (s c now : Content) (tells : Bool) (sums : Sums) → IsTrue tells
+      → s ≡ with_file c₀ output.file (head unit) → IsPut p k pair tells s c sums → IsPartWritten c end now
       → (bytes : List ℕ) × IsBeginning p k output bytes × IsPartMade c₀ output.file bytes now
   finish_cut s c now tells sums told started put part =
       let f = finish_part c₀ c now output.file unit pair put.shots (put_whole s c put.shots started (put.content told)) part in (
@@ -92,7 +100,10 @@ module _ (p : Planned) (k : ℕ) (c₀ : Content) (output : Output) (unit : ℕ)
         made c₀ now output.file (shot_text unit pair.layer pair.datatype put.shots) f.0 f.1 f.2,
       )
 
-  pub finished : (s c now : Content) (tells : Bool) (sums : Sums) → IsTrue tells → s ≡ with_file c₀ output.file (head unit) → (put : IsPut p k pair tells s c sums) → now ≡ with_written c end
+  pub finished : (s c now : Content) (tells : Bool) (sums : Sums) → IsTrue tells
+      → s ≡ with_file c₀ output.file (head unit) → (put : IsPut p k pair tells s c sums) → now ≡ with_written c end
       → now ≡ with_file c₀ output.file (text_of p.deck output put.shots)
   finished s c now tells sums told started put end_is =
-      finished_text c₀ c now output.file unit pair put.shots (put_whole s c put.shots started (put.content told)) end_is ∙ ap (with_file c₀ output.file) (text_is put.shots)
+      finished_text c₀ c now output.file unit pair put.shots
+      (put_whole s c put.shots started (put.content told)) end_is ∙ ap (with_file c₀ output.file)
+      (text_is put.shots)

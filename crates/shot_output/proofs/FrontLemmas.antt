@@ -1,5 +1,6 @@
 -- An area has one shot list, and the shots of its first bands are the first of it.
-use Rattle.std.proofs.Common.{ℕ, zero, suc, ◌+◌, ◌≤◌, ℤ, pos, ◌+ℤ◌, ◌-ℤ◌, ◌*ℤ◌, ◌≤ℤ◌, ◌<ℤ◌, ◌≡◌, List, [], ◌∷◌, ◌++◌, length, arith, refl, sym, ap, subst, append_assoc, ◌∙◌}
+use Rattle.std.proofs.Common.{ℕ, zero, suc, ◌+◌, ◌≤◌, ℤ, pos, ◌+ℤ◌, ◌-ℤ◌, ◌*ℤ◌, ◌≤ℤ◌, ◌<ℤ◌, ◌≡◌, List, [], ◌∷◌, ◌++◌}
+use Rattle.std.proofs.Common.{length, arith, refl, sym, ap, subst, append_assoc, ◌∙◌}
 use Rattle.std.proofs.lemmas.Int.{ints, by_lt_z}
 use Rattle.std.proofs.lemmas.List.{append-nil}
 use Rattle.std.proofs.lemmas.List.Elements.{All-nil, All-contains}
@@ -65,7 +66,8 @@ module _ (rows : ℤ) (some : pos 0 <ℤ rows) (area : Tile → Type 0) where
       one_joined_list (band rows k) xs ys p.joined.joined q.joined.joined (same_tiles (IsInPart area (band rows k)) xs ys p.joined.covers q.joined.covers)
 
   -- empty bands below
-  pad : (n : ℕ) (k : ℤ) (lists : List (List Trapezoid)) → ((t : Tile) → area t → (k *ℤ rows) ≤ℤ t.j) → AreBandLists rows area k lists → AreBandLists rows area (k -ℤ pos n) (padded n lists)
+  pad : (n : ℕ) (k : ℤ) (lists : List (List Trapezoid)) → ((t : Tile) → area t → (k *ℤ rows) ≤ℤ t.j)
+      → AreBandLists rows area k lists → AreBandLists rows area (k -ℤ pos n) (padded n lists)
   pad zero k lists none b = subst (λ (m : ℤ). AreBandLists rows area m lists) (omega (arith, ints)) b
   pad (suc n) k lists none b =
       let up : (((k -ℤ pos (suc n)) +ℤ pos 1) *ℤ rows) ≤ℤ (k *ℤ rows) = multiples ((k -ℤ pos (suc n)) +ℤ pos 1) k rows some (omega (arith, ints)) in (
@@ -92,7 +94,8 @@ module _ (rows : ℤ) (some : pos 0 <ℤ rows) (area : Tile → Type 0) where
   all_empty k (x ∷ lists) none b =
       let up : (k *ℤ rows) ≤ℤ ((k +ℤ pos 1) *ℤ rows) = multiples k (k +ℤ pos 1) rows some (omega (arith, ints)) in
       let first : x ≡ [] = one_band k x [] b.0 (empty_band k (λ t h r. (let below = none t h in let from = r.from in omega (arith, ints, below, from)))) in
-      ap (λ (z : List Trapezoid). z ++ end_to_end lists) first ∙ all_empty (k +ℤ pos 1) lists (λ t h. (let below = none t h in omega (arith, ints, below, up))) b.1
+      ap (λ (z : List Trapezoid). z ++ end_to_end lists) first ∙ all_empty (k +ℤ pos 1) lists
+      (λ t h. (let below = none t h in omega (arith, ints, below, up))) b.1
 
 -- ---- shot lists
 
@@ -177,7 +180,8 @@ module _ (rows : ℤ) (a b : Tile → Type 0) (there : (t : Tile) → a t → b 
   same_bands k [] p = tt
   same_bands k (x ∷ lists) p = (same_band k x p.0, same_bands (k +ℤ pos 1) lists p.1)
 
-pub same_list : (rules : Rules) (a b : Tile → Type 0) (there : (t : Tile) → a t → b t) (back : (t : Tile) → b t → a t) (shots : List Trapezoid) → IsShotList rules a shots → IsShotList rules b shots
+pub same_list : (rules : Rules) (a b : Tile → Type 0) (there : (t : Tile) → a t → b t) (back : (t : Tile) → b t → a t)
+    (shots : List Trapezoid) → IsShotList rules a shots → IsShotList rules b shots
 same_list rules a b there back shots s = record {
   k = s.k;
   below = record {

@@ -48,9 +48,12 @@ one_shot_list p q k m xs ys h band limits same s z =
     let rules : rules_of p.deck ≡ rules_of q.deck = ap (λ (b : ℤ). record { rows = b; height = p.deck.limits.height; width = p.deck.limits.width }) band
     ∙ ap (λ (l : Limits). record { rows = q.deck.band; height = l.height; width = l.width }) limits in
     one_list (rules_of p.deck) h.some_rows (area_of p k) xs ys s
-    (same_list (rules_of p.deck) (area_of q m) (area_of p k) (λ t. (same t).1) (λ t. (same t).0) ys (subst (λ (r : Rules). IsShotList r (area_of q m) ys) (sym rules) z))
+    (same_list (rules_of p.deck) (area_of q m) (area_of p k) (λ t. (same t).1) (λ t. (same t).0) ys
+    (subst (λ (r : Rules). IsShotList r (area_of q m) ys) (sym rules) z))
 
-longer_text : (unit layer datatype : ℕ) (xs zs : List Trapezoid) → shot_text unit layer datatype (xs ++ zs) ≡ (head unit ++ flat_map (spelling_of layer datatype) xs) ++ (flat_map (spelling_of layer datatype) zs ++ end)
+longer_text : (unit layer datatype : ℕ) (xs zs : List Trapezoid)
+    → shot_text unit layer datatype (xs ++ zs) ≡ (head unit ++ flat_map (spelling_of layer datatype) xs)
+    ++ (flat_map (spelling_of layer datatype) zs ++ end)
 unfolding shot_text
 longer_text unit layer datatype xs zs =
     let f = spelling_of layer datatype in
@@ -59,13 +62,18 @@ longer_text unit layer datatype xs zs =
     ∙ append_assoc (head unit ++ flat_map f xs) (flat_map f zs) end
 
 begins : (p : Planned) (k : ℕ) (output : Output) (bytes : List ℕ) (xs shots : List Trapezoid) → HasRules p.deck → IsListOf p k shots
-    → (IsListOf p k xs × (bytes ≡ text_of p.deck output xs)) ⊎ (IsFrontOf p k xs × (bytes ≡ front_of p.deck output xs)) → (rest : List ℕ) × (text_of p.deck output shots ≡ bytes ++ rest)
+    → (IsListOf p k xs × (bytes ≡ text_of p.deck output xs)) ⊎ (IsFrontOf p k xs × (bytes ≡ front_of p.deck output xs))
+    → (rest : List ℕ) × (text_of p.deck output shots ≡ bytes ++ rest)
 begins p k output bytes xs shots h s (inl whole) =
     ([], ap (text_of p.deck output) (one_list (rules_of p.deck) h.some_rows (area_of p k) shots xs s whole.0) ∙ sym whole.1 ∙ sym (append-nil bytes))
 begins p k output bytes xs shots h s (inr front) =
     let more = front_first (rules_of p.deck) h.some_rows (area_of p k) front.0.0 xs shots front.0.1 s in
-    let rest = flat_map (spelling_of output.pair.layer output.pair.datatype) more.0 ++ end in
-    (rest, ap (text_of p.deck output) more.1 ∙ longer_text (2 * p.deck.unit) output.pair.layer output.pair.datatype xs more.0 ∙ ap (λ (l : List ℕ). l ++ rest) (sym front.1))
+    let rest = flat_map (spelling_of output.pair.layer output.pair.datatype) more.0 ++ end in (
+      rest,
+      ap (text_of p.deck output) more.1 ∙ longer_text
+          (2 * p.deck.unit) output.pair.layer output.pair.datatype xs more.0 ∙ ap (λ (l : List ℕ). l ++ rest)
+          (sym front.1),
+    )
 
 pub beginning_is_prefix : BeginningIsPrefix
 beginning_is_prefix p k output bytes shots h b s = begins p k output bytes b.0 shots h s b.1

@@ -1,5 +1,6 @@
 -- One output after another is written.
-use Rattle.std.proofs.Common.{ℕ, zero, suc, ◌≤◌, ◌<◌, ◌≡◌, ◌≢◌, ◌⊎◌, Bool, true, false, IsTrue, List, [], ◌∷◌, ◌++◌, length, take, map, nat_lt, slice_get, Some, arith, refl, sym, ap, subst, ◌∙◌, inl, inr}
+use Rattle.std.proofs.Common.{ℕ, zero, suc, ◌≤◌, ◌<◌, ◌≡◌, ◌≢◌, ◌⊎◌, Bool, true, false, IsTrue, List, [], ◌∷◌, ◌++◌}
+use Rattle.std.proofs.Common.{length, take, map, nat_lt, slice_get, Some, arith, refl, sym, ap, subst, ◌∙◌, inl, inr}
 use Rattle.std.proofs.lemmas.List.{length-append, take_all}
 use Rattle.std.proofs.lemmas.List.Elements.{All-head, All-tail}
 use Rattle.std.proofs.lemmas.Bool.Decides.{nat_tests}
@@ -36,7 +37,8 @@ there_is (x ∷ xs) (suc i) less = there_is xs i (omega (arith, less))
 abbrev file_of : Output → List ℕ
 file_of output = output.file
 
-differs_from : (file : List ℕ) (outputs : List Output) (j : ℕ) (b : Output) → All (λ other. file ≢ other) (map file_of outputs) → slice_get outputs j ≡ Some b → file ≢ b.file
+differs_from : (file : List ℕ) (outputs : List Output) (j : ℕ) (b : Output)
+    → All (λ other. file ≢ other) (map file_of outputs) → slice_get outputs j ≡ Some b → file ≢ b.file
 differs_from file [] j b all e = absurd cc
 differs_from file (o ∷ outputs) zero b all e =
     let first = All-head (λ other. file ≢ other) o.file (map file_of outputs) all in
@@ -44,7 +46,8 @@ differs_from file (o ∷ outputs) zero b all e =
     subst (λ (x : Output). file ≢ x.file) same first
 differs_from file (o ∷ outputs) (suc j) b all e = differs_from file outputs j b (All-tail (λ other. file ≢ other) o.file (map file_of outputs) all) e
 
-pub files_differ : (outputs : List Output) → AreDistinct (map file_of outputs) → (i j : ℕ) (a b : Output) → i < j → slice_get outputs i ≡ Some a → slice_get outputs j ≡ Some b → a.file ≢ b.file
+pub files_differ : (outputs : List Output) → AreDistinct (map file_of outputs) → (i j : ℕ) (a b : Output) → i < j
+    → slice_get outputs i ≡ Some a → slice_get outputs j ≡ Some b → a.file ≢ b.file
 files_differ [] d i j a b less e f = absurd cc
 files_differ (o ∷ outputs) d i zero a b less e f = absurd (omega (arith, less))
 files_differ (o ∷ outputs) d zero (suc j) a b less e f =
@@ -67,9 +70,11 @@ rest_file : (c₀ c now : Content) (file bytes : List ℕ) → IsRest c₀ c →
 rest_file c₀ c now file bytes rest e = subst (IsRest c₀) (sym e) (ap (λ (x : Content). with_file x file bytes) rest)
 
 rest_part : (c₀ c now : Content) (file bytes : List ℕ) → IsRest c₀ c → IsPartMade c file bytes now → IsRest c₀ now
-rest_part c₀ c now file bytes rest (inl same) = same ∙ ap (λ (x : Content). with_current x now.current) rest ∙ ap (λ (x : Content). record c₀ { made = x.made; current = now.current }) (sym same)
+rest_part c₀ c now file bytes rest (inl same) = same ∙ ap (λ (x : Content). with_current x now.current) rest ∙ ap
+    (λ (x : Content). record c₀ { made = x.made; current = now.current }) (sym same)
 rest_part c₀ c now file bytes rest (inr part) =
-    part.2 ∙ ap (λ (x : Content). with_current (with_file x file (take part.0 bytes)) now.current) rest ∙ ap (λ (x : Content). record c₀ { made = x.made; current = now.current }) (sym part.2)
+    part.2 ∙ ap (λ (x : Content). with_current (with_file x file (take part.0 bytes)) now.current) rest ∙ ap
+    (λ (x : Content). record c₀ { made = x.made; current = now.current }) (sym part.2)
 
 -- a file that is made whole is made in part
 as_part : (c now : Content) (file bytes : List ℕ) → now ≡ with_file c file bytes → IsPartMade c file bytes now
@@ -87,12 +92,14 @@ module _ (p : Planned) (distinct : AreDistinct (map file_of p.deck.outputs)) (te
   fewer_files n m name le none i other less e = none i other (omega (arith, less, le)) e
 
   -- what is whole stays so while a later output is written
-  still_whole : (i n : ℕ) (output : Output) (c now : Content) (sums : Sums) (bytes : List ℕ) → i < n → slice_get p.deck.outputs n ≡ Some output → (IsTrue tells → IsPartMade c output.file bytes now)
+  still_whole : (i n : ℕ) (output : Output) (c now : Content) (sums : Sums) (bytes : List ℕ) → i < n
+      → slice_get p.deck.outputs n ≡ Some output → (IsTrue tells → IsPartMade c output.file bytes now)
       → IsWhole p i tells c sums → IsWhole p i tells now sums
   still_whole i n output c now sums bytes less there part w = record {
     shots = w.shots;
     list = w.list;
-    holds = λ other e told. other_kept c now output.file bytes other.file (part told) (λ same. files_differ p.deck.outputs distinct i n other output less e there (sym same)) ∙ w.holds other e told;
+    holds = λ other e told. other_kept c now output.file bytes other.file (part told)
+        (λ same. files_differ p.deck.outputs distinct i n other output less e there (sym same)) ∙ w.holds other e told;
     summed = w.summed;
   }
 
@@ -104,7 +111,8 @@ module _ (p : Planned) (distinct : AreDistinct (map file_of p.deck.outputs)) (te
   }
 
   module _ (n : ℕ) (c : Content) (sums : List Sums) (written : AreWritten p n tells c₀ c sums) where
-    pub written_next : (now : Content) (of : Sums) → n < length p.deck.outputs → IsWritten p n tells c now of → AreWritten p (suc n) tells c₀ now (sums ++ of ∷ [])
+    pub written_next : (now : Content) (of : Sums) → n < length p.deck.outputs → IsWritten p n tells c now of
+        → AreWritten p (suc n) tells c₀ now (sums ++ of ∷ [])
     written_next now of less w =
         let at = there_is p.deck.outputs n less in
         let text = text_of p.deck at.0 w.shots in
@@ -138,7 +146,8 @@ module _ (p : Planned) (distinct : AreDistinct (map file_of p.deck.outputs)) (te
               subst (λ (m : ℕ). IsWhole p m tells now of) (sym last) (record {
                 shots = w.shots;
                 list = w.list;
-                holds = λ output there told. ap (λ (x : Content). get x.made output.file) (w.content output there told) ∙ get-insert_same c.made output.file (text_of p.deck output w.shots);
+                holds = λ output there told. ap (λ (x : Content). get x.made output.file) (w.content output there told)
+                    ∙ get-insert_same c.made output.file (text_of p.deck output w.shots);
                 summed = w.summed;
               }),
             )
@@ -154,7 +163,8 @@ module _ (p : Planned) (distinct : AreDistinct (map file_of p.deck.outputs)) (te
           part = λ told inside output there. part_of told output there;
           rest = λ told. record {
             others = λ name none. (let part = (cut told at.0 at.1) in
-                other_kept c now at.0.file part.0 name part.2 (none n at.0 (omega arith) at.1) ∙ (written.rest told).others name (fewer_files n (suc n) name (omega arith) none));
+                other_kept c now at.0.file part.0 name part.2 (none n at.0 (omega arith) at.1)
+                ∙ (written.rest told).others name (fewer_files n (suc n) name (omega arith) none));
             rest = (let part = (cut told at.0 at.1) in rest_part c₀ c now at.0.file part.0 (written.rest told).rest part.2);
           };
         }
@@ -166,15 +176,20 @@ module _ (p : Planned) (distinct : AreDistinct (map file_of p.deck.outputs)) (te
           holds = λ other e told.
               let at = there_is p.deck.outputs n less in
               let part = cut told at.0 at.1 in
-              other_kept c now at.0.file part.0 other.file part.2 (λ same. files_differ p.deck.outputs distinct i n other at.0 before e at.1 (sym same)) ∙ w.holds other e told;
+              other_kept c now at.0.file part.0 other.file part.2
+              (λ same. files_differ p.deck.outputs distinct i n other at.0 before e at.1 (sym same))
+              ∙ w.holds other e told;
           summed = w.summed;
         }
 
         same_file : IsTrue tells → (output : Output) → slice_get p.deck.outputs n ≡ Some output → get c.made output.file ≡ get c₀.made output.file
         same_file told output there = (written.rest told).others output.file (no_file n output there)
 
-        holds_part : (told : IsTrue tells) (output : Output) → slice_get p.deck.outputs n ≡ Some output → (bytes : List ℕ) → IsBeginning p n output bytes → IsPartMade c output.file bytes now
-            → (get now.made output.file ≡ get c₀.made output.file) ⊎ ((b : List ℕ) × (m : ℕ) × IsBeginning p n output b × (m ≤ length b) × (get now.made output.file ≡ Some (take m b)))
+        holds_part : (told : IsTrue tells) (output : Output) → slice_get p.deck.outputs n ≡ Some output
+            → (bytes : List ℕ) → IsBeginning p n output bytes → IsPartMade c output.file bytes now
+            → (get now.made output.file ≡ get c₀.made output.file)
+            ⊎ ((b : List ℕ) × (m : ℕ) × IsBeginning p n output b × (m ≤ length b)
+            × (get now.made output.file ≡ Some (take m b)))
         holds_part told output there bytes begins (inl same) = inl (ap (λ (x : Content). get x.made output.file) same ∙ same_file told output there)
         holds_part told output there bytes begins (inr (m, few, e)) =
             inr (bytes, m, begins, few, ap (λ (x : Content). get x.made output.file) e ∙ get-insert_same c.made output.file (take m bytes))
@@ -189,5 +204,9 @@ module _ (p : Planned) (distinct : AreDistinct (map file_of p.deck.outputs)) (te
       inside = inside;
       whole = λ i before. (let had = written.each i before in (had.0, had.2));
       part = λ told more output there. inl ((written.rest told).others output.file (no_file n output there));
-      rest = λ told. record { others = λ name none. (written.rest told).others name (fewer_files n (suc n) name (omega arith) none); rest = (written.rest told).rest };
+      rest = λ told. record {
+        others = λ name none. (written.rest told).others name
+            (fewer_files n (suc n) name (omega arith) none);
+        rest = (written.rest told).rest;
+      };
     }

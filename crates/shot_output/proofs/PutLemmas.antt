@@ -1,5 +1,6 @@
 -- One band after another is put to the writer.
-use Rattle.std.proofs.Common.{ℕ, ◌+◌, ◌≤◌, ℤ, pos, neg_ℤ, ◌+ℤ◌, ◌*ℤ◌, ◌≤ℤ◌, ◌<ℤ◌, ◌≡◌, ◌⊎◌, Bool, true, false, List, [], ◌∷◌, ◌++◌, length, take, arith, refl, sym, ap, subst, ◌∙◌, inl, inr}
+use Rattle.std.proofs.Common.{ℕ, ◌+◌, ◌≤◌, ℤ, pos, neg_ℤ, ◌+ℤ◌, ◌*ℤ◌, ◌≤ℤ◌, ◌<ℤ◌, ◌≡◌, ◌⊎◌, Bool, true, false, List, []}
+use Rattle.std.proofs.Common.{◌∷◌, ◌++◌, length, take, arith, refl, sym, ap, subst, ◌∙◌, inl, inr}
 use Rattle.std.specs.Prelude.{eqb}
 use Rattle.std.proofs.lemmas.Bool.Decides.{nat_tests}
 use Rattle.std.proofs.lemmas.Int.{ints}
@@ -58,10 +59,16 @@ module _ (p : Planned) (k : ℕ) where
     };
   }
 
-  lists_push : (m : ℤ) (lists : List (List Trapezoid)) (traps : List Trapezoid) → AreBandLists p.deck.band (area_of p k) m lists → IsBandList p.deck.band (area_of p k) (m +ℤ pos (length lists)) traps
+  lists_push : (m : ℤ) (lists : List (List Trapezoid)) (traps : List Trapezoid)
+      → AreBandLists p.deck.band (area_of p k) m lists
+      → IsBandList p.deck.band (area_of p k) (m +ℤ pos (length lists)) traps
       → AreBandLists p.deck.band (area_of p k) m (lists ++ traps ∷ [])
   lists_push m [] traps b c = (subst (λ (n : ℤ). IsBandList p.deck.band (area_of p k) n traps) (omega (arith, ints)) c, tt)
-  lists_push m (x ∷ lists) traps b c = (b.0, lists_push (m +ℤ pos 1) lists traps b.1 (subst (λ (n : ℤ). IsBandList p.deck.band (area_of p k) n traps) (omega (arith, ints)) c))
+  lists_push m (x ∷ lists) traps b c = (
+    b.0,
+    lists_push (m +ℤ pos 1) lists traps b.1
+        (subst (λ (n : ℤ). IsBandList p.deck.band (area_of p k) n traps) (omega (arith, ints)) c),
+  )
 
   list_push : (m : ℤ) (shots traps : List Trapezoid) → IsShotListBelow (rules_of p.deck) (area_of p k) m shots → IsBandOf p k (band p.deck.band m) traps
       → IsShotListBelow (rules_of p.deck) (area_of p k) (m +ℤ pos 1) (shots ++ band_shots p traps)
@@ -74,7 +81,9 @@ module _ (p : Planned) (k : ℕ) where
         up_to = (let long = length-append s.lists (traps ∷ []) in omega (arith, ints, up_to, long));
         none_below = s.none_below;
         cut = ap (λ (l : List Trapezoid). l ++ band_shots p traps) s.cut
-            ∙ sym (ap (shots_of p.deck.limits.height p.deck.limits.width) (ends_append s.lists (traps ∷ []) ∙ ap (λ (l : List Trapezoid). end_to_end s.lists ++ l) (append-nil traps))
+            ∙ sym (ap (shots_of p.deck.limits.height p.deck.limits.width)
+            (ends_append s.lists (traps ∷ []) ∙ ap (λ (l : List Trapezoid). end_to_end s.lists ++ l)
+            (append-nil traps))
             ∙ flat_map-append (cut_list p.deck.limits.height p.deck.limits.width) (end_to_end s.lists) traps);
       }
 
@@ -100,11 +109,13 @@ module _ (p : Planned) (k : ℕ) where
       let top : window.y1 ≡ (m +ℤ pos 1) *ℤ p.deck.band = ap (λ (w : RowRange). w.y1) at in
       ap (λ (y : ℤ). row_range y (y +ℤ p.deck.band)) top ∙ ap (row_range ((m +ℤ pos 1) *ℤ p.deck.band)) (sym (next_bottom (m +ℤ pos 1) p.deck.band))
 
-  of_window : (m : ℤ) (window : RowRange) (traps : List Trapezoid) → window ≡ band p.deck.band m → IsBandOf p k window traps → IsBandOf p k (band p.deck.band m) traps
+  of_window : (m : ℤ) (window : RowRange) (traps : List Trapezoid) → window ≡ band p.deck.band m
+      → IsBandOf p k window traps → IsBandOf p k (band p.deck.band m) traps
   of_window m window traps at b = subst (λ (w : RowRange). IsBandOf p k w traps) at b
 
   module _ (window : RowRange) (pair : Pair) (tells : Bool) (c₀ c : Content) (sums : Sums) (put : IsPutBelow p k window pair tells c₀ c sums) where
-    pub put_next : (now : Content) (new : Sums) → IsBandPut p k window pair tells c now sums new → IsPutBelow p k (row_range window.y1 (window.y1 +ℤ p.deck.band)) pair tells c₀ now new
+    pub put_next : (now : Content) (new : Sums) → IsBandPut p k window pair tells c now sums new
+        → IsPutBelow p k (row_range window.y1 (window.y1 +ℤ p.deck.band)) pair tells c₀ now new
     put_next now new b = record {
       m = put.m +ℤ pos 1;
       at = next_is put.m window put.at;
@@ -130,7 +141,13 @@ module _ (p : Planned) (k : ℕ) where
     put_part now (inl same) = record {
       shots = put.shots;
       front = (put.m, put.list);
-      content = λ told. (length (records_of pair put.shots), omega arith, same ∙ put.content told ∙ ap (with_written c₀) (sym (take_all (length (records_of pair put.shots)) (records_of pair put.shots) (omega arith))));
+      content = λ told. (
+        length (records_of pair put.shots),
+        omega arith,
+        same ∙ put.content told ∙ ap
+            (with_written c₀) (sym
+            (take_all (length (records_of pair put.shots)) (records_of pair put.shots) (omega arith))),
+      );
     }
     put_part now (inr b) =
         let xs = records_of pair put.shots in
@@ -163,7 +180,8 @@ module _ (p : Planned) (k : ℕ) where
         }
 
   -- before the first band
-  pub put_none : (window rows : RowRange) (m : ℤ) (pair : Pair) (tells : Bool) (c : Content) (sums : Sums) → window ≡ band p.deck.band m → window.y0 ≤ℤ rows.y0 → HasRows p k rows → sums ≡ no_sums
+  pub put_none : (window rows : RowRange) (m : ℤ) (pair : Pair) (tells : Bool) (c : Content) (sums : Sums)
+      → window ≡ band p.deck.band m → window.y0 ≤ℤ rows.y0 → HasRows p k rows → sums ≡ no_sums
       → IsPutBelow p k window pair tells c c sums
   put_none window rows m pair tells c sums at low outside none =
       let bottom : window.y0 ≡ m *ℤ p.deck.band = ap (λ (w : RowRange). w.y0) at in
@@ -189,7 +207,8 @@ pub band_height : (deck : Deck) (m : ℤ) (window : RowRange) → window ≡ ban
 band_height deck m window at =
     ap (λ (w : RowRange). w.y1) at ∙ next_bottom m deck.band ∙ sym (ap (λ (w : RowRange). w.y0 +ℤ deck.band) at)
 
-pub band_within : (deck : Deck) (m : ℤ) (window : RowRange) → pos 0 <ℤ deck.band → deck.band ≤ℤ pos 16777216 → neg_ℤ (pos 4294967296) ≤ℤ window.y0 → window.y0 ≤ℤ pos 4294967296 → window ≡ band deck.band m → IsAskedBand window
+pub band_within : (deck : Deck) (m : ℤ) (window : RowRange) → pos 0 <ℤ deck.band → deck.band ≤ℤ pos 16777216
+    → neg_ℤ (pos 4294967296) ≤ℤ window.y0 → window.y0 ≤ℤ pos 4294967296 → window ≡ band deck.band m → IsAskedBand window
 band_within deck m window some few low high at =
     let top = band_height deck m window at in
     record {

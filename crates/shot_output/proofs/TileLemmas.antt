@@ -1,5 +1,7 @@
 -- The triangles of shots that don't overlap are as many as the tiles that they cover, and never too many to be summed up.
-use Rattle.std.proofs.Common.{ℕ, suc, ◌+◌, ◌^◌, ◌≤◌, ◌<◌, ℤ, pos, negsuc, neg_ℤ, ◌+ℤ◌, ◌-ℤ◌, ◌*ℤ◌, ◌≤ℤ◌, ◌≡◌, Bool, true, false, cond, ◌&&◌, List, [], ◌∷◌, ◌++◌, length, unsigned_abs, count_by, arith, refl, sym, ap, ◌∙◌}
+use Rattle.std.proofs.Common.{ℕ, suc, ◌+◌, ◌^◌, ◌≤◌, ◌<◌, ℤ, pos, negsuc, neg_ℤ, ◌+ℤ◌, ◌-ℤ◌, ◌*ℤ◌, ◌≤ℤ◌, ◌≡◌, Bool}
+use Rattle.std.proofs.Common.{true, false, cond, ◌&&◌, List, [], ◌∷◌, ◌++◌, length, unsigned_abs, count_by, arith, refl}
+use Rattle.std.proofs.Common.{sym, ap, ◌∙◌}
 use Rattle.std.proofs.lemmas.Int.{ints}
 use Rattle.std.proofs.lemmas.List.{length-append}
 use Rattle.std.proofs.lemmas.List.Elements.{All-head, All-tail}
@@ -25,7 +27,9 @@ product (pos m) (negsuc n) p q = absurd (omega (arith, ints, q))
 product (negsuc m) b p q = absurd (omega (arith, ints, p))
 
 tiles_of_one : (z : Trapezoid) → IsLegal z → IsNumberOfTiles z (triangles_in z)
-tiles_of_one z legal = size_is z (triangles_in z) legal (product (z.y1 -ℤ z.y0) (bottom_of z +ℤ top_of z) (omega (arith, ints, legal.has_rows)) (omega (arith, ints, legal.not_flat)))
+tiles_of_one z legal = size_is z (triangles_in z) legal
+    (product (z.y1 -ℤ z.y0) (bottom_of z +ℤ top_of z) (omega (arith, ints, legal.has_rows))
+    (omega (arith, ints, legal.not_flat)))
 
 counted_by : (z : Trapezoid) (n : ℕ) (p : IsNumberOfTiles z n) (t : Tile) (b : Bool) → trapezoid_has t z ≡ b → count_by (is_tile t) p.tiles ≡ count_one b
 counted_by z n p t true e = p.once t (has_in t z e)
@@ -43,7 +47,13 @@ tiles_of (z ∷ zs) shots =
     let rest = tiles_of zs (All-tail IsShot z zs shots) in (
       one.tiles ++ rest.0,
       record {
-        each = λ t. sum_by-append _ one.tiles rest.0 ∙ omega (arith, counted_by z (triangles_in z) one t (trapezoid_has t z) refl, rest.1.each t, count_by-cons (trapezoid_has t) z zs);
+        each = λ t. sum_by-append _ one.tiles rest.0 ∙ omega (
+          arith,
+          counted_by z (triangles_in z) one t (trapezoid_has t z) refl,
+          rest.1.each t,
+          count_by-cons
+              (trapezoid_has t) z zs,
+        );
         count = omega (arith, length-append one.tiles rest.0, one.count, rest.1.count, sum_by-cons triangles_in z zs);
       },
     )
@@ -79,7 +89,9 @@ same_tile t u e =
     let i = int_eq_true t.i u.i p.0 in
     let j = int_eq_true t.j u.j q.0 in
     let side = same_side t.side u.side q.1 in
-    ap (λ (x : ℤ). record { i = x; j = t.j; side = t.side }) i ∙ (ap (λ (x : ℤ). record { i = u.i; j = x; side = t.side }) j ∙ ap (λ (x : Side). record { i = u.i; j = u.j; side = x }) side)
+    ap (λ (x : ℤ). record { i = x; j = t.j; side = t.side }) i
+    ∙ (ap (λ (x : ℤ). record { i = u.i; j = x; side = t.side }) j ∙ ap
+    (λ (x : Side). record { i = u.i; j = u.j; side = x }) side)
 
 -- the tiles but for the first one that is the given one
 abbrev without : Tile → List Tile → List Tile
@@ -99,7 +111,8 @@ fewer : (t x : Tile) (ys : List Tile) → 1 ≤ count_by (is_tile x) ys → coun
 fewer t x [] one = absurd (omega (arith, one))
 fewer t x (y ∷ ys) one = fewer_by t x y ys (is_tile x y) refl one (λ c. fewer t x ys)
 
-shorter_by : (x y : Tile) (ys : List Tile) (b : Bool) → is_tile x y ≡ b → 1 ≤ count_by (is_tile x) (y ∷ ys) → (1 ≤ count_by (is_tile x) ys → length ys ≡ suc (length (without x ys)))
+shorter_by : (x y : Tile) (ys : List Tile) (b : Bool) → is_tile x y ≡ b → 1 ≤ count_by (is_tile x) (y ∷ ys)
+    → (1 ≤ count_by (is_tile x) ys → length ys ≡ suc (length (without x ys)))
     → suc (length ys) ≡ suc (length (cond b ys (y ∷ without x ys)))
 shorter_by x y ys true e one rest = refl
 shorter_by x y ys false e one rest = ap suc (rest (omega (arith, one, count_by-cons (is_tile x) y ys, ap count_one e)))
@@ -160,6 +173,7 @@ few_triangles zs shots apart =
     let less : length t.0 ≤ length all.tiles = no_longer t.0 all.tiles (λ u. by u (trapezoid_has u whole) refl) in
     omega (arith, less, t.1.count, all.count)
   where
-    by : (u : Tile) (b : Bool) → trapezoid_has u whole ≡ b → count_by (is_tile u) (tiles_of zs shots).0 ≤ count_by (is_tile u) (tiles_of_one whole whole_legal).tiles
+    by : (u : Tile) (b : Bool) → trapezoid_has u whole ≡ b → count_by (is_tile u) (tiles_of zs shots).0 ≤ count_by
+        (is_tile u) (tiles_of_one whole whole_legal).tiles
     by u true e = omega (arith, (tiles_of zs shots).1.each u, apart u, (tiles_of_one whole whole_legal).once u (has_in u whole e))
     by u false e = omega (arith, (tiles_of zs shots).1.each u, none_outside u zs shots (λ h. (let yes = in_has u whole h in absurd cc)))

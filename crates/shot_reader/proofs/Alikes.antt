@@ -22,7 +22,9 @@ unit_three : (v : ℕ) → 16384 ≤ v → v < 2097152 → unsigned_text v ≡ (
 unfolding unsigned_text
 unit_three v h g =
     groups_next 8 v (omega arith)
-    ∙ ap (λ (t : List ℕ). (v % 128 + 128) ∷ t) (groups_next 7 (v / 128) (omega arith) ∙ ap (λ (t : List ℕ). (v / 128 % 128 + 128) ∷ t) (groups_last 7 (v / 128 / 128) (omega arith)))
+    ∙ ap (λ (t : List ℕ). (v % 128 + 128) ∷ t)
+    (groups_next 7 (v / 128) (omega arith) ∙ ap (λ (t : List ℕ). (v / 128 % 128 + 128) ∷ t)
+    (groups_last 7 (v / 128 / 128) (omega arith)))
 
 head_opens : (v : ℕ) → head v ≡ before_unit ++ (unsigned_text v ++ after_unit)
 head_opens v = sym (append-nil (head v)) ∙ (head_is v [] ∙ ap (λ (t : List ℕ). before_unit ++ (unsigned_text v ++ t)) (append-nil after_unit))
@@ -41,7 +43,14 @@ pub record Digits (v : ℕ) : Type 0 where
 digits_one : (v : ℕ) → v < 128 → Digits v
 digits_one v h =
     let first : get_or (head v) 19 0 ≡ v = head_at v 0 ∙ ap (λ (t : List ℕ). get_or (t ++ after_unit) 0 0) (unit_one v h) in
-    record { one = λ g. first; more = λ g. absurd (omega arith); two = λ g i. absurd (omega arith); middle = λ g. absurd (omega arith); three = λ g. absurd (omega arith) }
+    record {
+      one = λ g. first;
+      more = λ g. absurd (omega arith);
+      two = λ g i. absurd (omega arith);
+      middle = λ g.
+          absurd (omega arith);
+      three = λ g. absurd (omega arith);
+    }
 
 digits_two : (v : ℕ) → 128 ≤ v → v < 16384 → Digits v
 digits_two v h k =
@@ -69,7 +78,9 @@ head_long v = omega (arith, ap length (head_opens v), length-append before_unit 
 front_same : (u v i : ℕ) → i < 19 → get_or (head u) i 0 ≡ get_or (head v) i 0
 front_same u v i h =
     ap (λ (t : List ℕ). get_or t i 0) (head_opens u)
-    ∙ (get_or_append_left before_unit (unsigned_text u ++ after_unit) 0 i h ∙ (sym (get_or_append_left before_unit (unsigned_text v ++ after_unit) 0 i h) ∙ sym (ap (λ (t : List ℕ). get_or t i 0) (head_opens v))))
+    ∙ (get_or_append_left before_unit (unsigned_text u ++ after_unit) 0 i h
+    ∙ (sym (get_or_append_left before_unit (unsigned_text v ++ after_unit) 0 i h) ∙ sym
+    (ap (λ (t : List ℕ). get_or t i 0) (head_opens v))))
 
 -- ---- a head that is as near as another
 
@@ -77,7 +88,8 @@ same_at : (bytes : List ℕ) (u i k : ℕ) → i ≡ k → get_or bytes k 0 ≡ 
 same_at bytes u i k e h = subst (λ (n : ℕ). get_or bytes n 0 ≡ get_or (head u) n 0) (sym e) h
 
 -- as far as the unit's third byte, a head is as near as another where the bytes are its own
-pub near_by : (bytes : List ℕ) (u v n : ℕ) → n ≤ 21 → (19 < n → get_or bytes 19 0 ≡ get_or (head u) 19 0) → (20 < n → get_or bytes 20 0 ≡ get_or (head u) 20 0) → BeginAlike bytes (head v) n → BeginAlike bytes (head u) n
+pub near_by : (bytes : List ℕ) (u v n : ℕ) → n ≤ 21 → (19 < n → get_or bytes 19 0 ≡ get_or (head u) 19 0)
+    → (20 < n → get_or bytes 20 0 ≡ get_or (head u) 20 0) → BeginAlike bytes (head v) n → BeginAlike bytes (head u) n
 near_by bytes u v n few one two a = record {
   within = a.within;
   fits = omega (arith, head_long u);
@@ -101,13 +113,16 @@ alike_of bytes n b =
     record {
       within = b.within;
       fits = omega (arith, ap length b.text, length-append (take n bytes) b.rest);
-      same = λ i below. sym (ap (λ (t : List ℕ). get_or t i 0) b.text ∙ (get_or_append_left (take n bytes) b.rest 0 i (omega arith) ∙ get_or-take n bytes i 0 below));
+      same = λ i below. sym
+          (ap (λ (t : List ℕ). get_or t i 0) b.text
+          ∙ (get_or_append_left (take n bytes) b.rest 0 i (omega arith) ∙ get_or-take n bytes i 0 below));
     }
 
 alike_take : (bytes text : List ℕ) (n : ℕ) → BeginAlike bytes text n → take n text ≡ take n bytes
 alike_take bytes text n a =
     ext_get_or 0 (take n text) (take n bytes) (length-take-le n text a.fits ∙ sym (length-take-le n bytes a.within))
-    (λ i below. let low : i < n = omega (arith, length-take-le n text a.fits) in get_or-take n text i 0 low ∙ (sym (a.same i low) ∙ sym (get_or-take n bytes i 0 low)))
+    (λ i below. let low : i < n = omega (arith, length-take-le n text a.fits) in get_or-take n text i 0 low
+    ∙ (sym (a.same i low) ∙ sym (get_or-take n bytes i 0 low)))
 
 pub begins_by : (bytes : List ℕ) (u n : ℕ) → IsUnit u → BeginAlike bytes (head u) n → BeginsHead bytes n
 begins_by bytes u n h a = record {

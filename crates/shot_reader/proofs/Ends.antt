@@ -1,5 +1,6 @@
 -- A record is whole exactly where enough numbers end after its id and its info byte.
-use Rattle.std.proofs.Common.{◌≡◌, ℕ, zero, suc, ◌+◌, ◌-◌, ◌<◌, ◌≤◌, cond, nat_lt, nat_le, List, [], ◌∷◌, ◌++◌, length, get_or, take, drop, refl, arith, ap, sym, subst, ◌∙◌, inl, inr, append_assoc}
+use Rattle.std.proofs.Common.{◌≡◌, ℕ, zero, suc, ◌+◌, ◌-◌, ◌<◌, ◌≤◌, cond, nat_lt, nat_le, List, [], ◌∷◌, ◌++◌, length}
+use Rattle.std.proofs.Common.{get_or, take, drop, refl, arith, ap, sym, subst, ◌∙◌, inl, inr, append_assoc}
 use Rattle.std.specs.Prelude.{All, IsTrue, Some as Just}
 use Rattle.oas_lex.proofs.ForCallers.{rest_is}
 use Rattle.std.specs.List.{concat, count_by}
@@ -99,7 +100,14 @@ number_ends xs n = omega (arith, ap ends n.2, ends_append n.0 (n.1 ∷ []), ends
 numbers_end : (numbers : List (List ℕ)) (rest : List ℕ) → All IsNumber numbers → length numbers ≤ ends (concat numbers ++ rest)
 numbers_end [] rest h = omega arith
 numbers_end (n ∷ numbers) rest h =
-    omega (arith, number_ends n (h 0 n (omega arith)), ends_append n (concat numbers ++ rest), ap ends (append_assoc n (concat numbers) rest), numbers_end numbers rest (λ k d below. h (suc k) d (omega arith)))
+    omega (
+      arith,
+      number_ends n (h 0 n (omega arith)),
+      ends_append n (concat numbers ++ rest),
+      ap ends
+          (append_assoc n (concat numbers) rest),
+      numbers_end numbers rest (λ k d below. h (suc k) d (omega arith)),
+    )
 
 pub whole_by : (id count : ℕ) (xs : List ℕ) → HasNumbers id count → count ≤ ends xs → IsWhole (id ∷ 123 ∷ xs)
 whole_by id count xs has h =
@@ -156,7 +164,8 @@ shown_by id count body h g = record { size = omega arith; info = refl; count = c
 pub whole_shown : (rest : List ℕ) → IsWhole rest → Shown rest
 whole_shown rest w = let b : Begun rest = whole_begun rest w in subst (λ (t : List ℕ). Shown t) (sym b.text) (shown_by b.id b.count b.body b.has b.enough)
 
-pub whole_if : (rest : List ℕ) (count : ℕ) → 2 ≤ length rest → get_or rest 1 0 ≡ 123 → HasNumbers (get_or rest 0 0) count → count ≤ ends (drop 2 rest) → IsWhole rest
+pub whole_if : (rest : List ℕ) (count : ℕ) → 2 ≤ length rest → get_or rest 1 0 ≡ 123
+    → HasNumbers (get_or rest 0 0) count → count ≤ ends (drop 2 rest) → IsWhole rest
 whole_if [] count h info has enough = absurd (omega arith)
 whole_if (a ∷ []) count h info has enough = absurd (omega arith)
 whole_if (a ∷ b ∷ xs) count h info has enough = subst (λ (n : ℕ). IsWhole (a ∷ n ∷ xs)) (sym info) (whole_by a count xs has enough)

@@ -1,5 +1,6 @@
 -- Bytes have one first fault at most, and a shot file has none.
-use Rattle.std.proofs.Common.{◌≡◌, ◌≢◌, ◌⊎◌, ℕ, suc, ◌≤◌, Option, Some, None, List, [], ◌∷◌, ◌++◌, length, take, drop, get_or, append_assoc, refl, arith, ap, sym, subst, ◌∙◌, inl, inr}
+use Rattle.std.proofs.Common.{◌≡◌, ◌≢◌, ◌⊎◌, ℕ, suc, ◌≤◌, Option, Some, None, List, [], ◌∷◌, ◌++◌, length, take, drop}
+use Rattle.std.proofs.Common.{get_or, append_assoc, refl, arith, ap, sym, subst, ◌∙◌, inl, inr}
 use Rattle.std.proofs.lemmas.List.{take-append-drop, length-drop, length-append}
 use Rattle.std.proofs.Math.Seq.{take-append_seam, drop-append_seam}
 use Rattle.std.specs.Prelude.{All, flat_map, Result, Err}
@@ -27,7 +28,8 @@ spelled_whole first rest f s = text_whole f rest s.after s.narrow s.text
 whole_apart : (rest : List ℕ) → IsWhole rest → BeginsEnd rest → ⊥
 whole_apart rest w e = whole_not_end rest e.0 w e.1
 
-pub record_one : (first : Option Pair) (rest : List ℕ) (at : ℕ) (bad other : ShotBad) → IsRecordFault first rest at bad → IsRecordFault first rest at other → bad ≡ other
+pub record_one : (first : Option Pair) (rest : List ℕ) (at : ℕ) (bad other : ShotBad) → IsRecordFault first rest at bad
+    → IsRecordFault first rest at other → bad ≡ other
 record_one first rest at bad other (inl a) (inl b) = a.0 ∙ sym b.0
 record_one first rest at bad other (inl a) (inr (inl b)) = absurd (b.1 a.1)
 record_one first rest at bad other (inl a) (inr (inr (inl b))) = absurd (whole_apart rest b.1 a.1)
@@ -52,7 +54,8 @@ abbrev pub Stops : ℕ → ℕ → List ℕ → Type 0
 Stops l d rest = (z : Trapezoid) (after : List ℕ) → IsShot z → rest ≡ spelling_of l d z ++ after → ⊥
 
 -- a shot's record is spelled, and by its fields alone
-shot_spelled : (first : Option Pair) (l d : ℕ) (z : Trapezoid) (rest after : List ℕ) → IsNarrowPair l d → IsShot z → Agrees first l d → rest ≡ spelling_of l d z ++ after → IsSpelled first rest (fields_of l d z)
+shot_spelled : (first : Option Pair) (l d : ℕ) (z : Trapezoid) (rest after : List ℕ) → IsNarrowPair l d → IsShot z
+    → Agrees first l d → rest ≡ spelling_of l d z ++ after → IsSpelled first rest (fields_of l d z)
 shot_spelled first l d z rest after p h g e = record {
   narrow = shot_narrow l d z p h;
   agrees = g;
@@ -60,22 +63,28 @@ shot_spelled first l d z rest after p h g e = record {
   text = e ∙ ap (λ (t : List ℕ). t ++ after) (spelling_is l d z);
 }
 
-spelled_shape : (first : Option Pair) (l d : ℕ) (z : Trapezoid) (rest : List ℕ) (f : ShotFields) → IsSpelled first rest (fields_of l d z) → IsSpelled first rest f → HasShape f z
+spelled_shape : (first : Option Pair) (l d : ℕ) (z : Trapezoid) (rest : List ℕ) (f : ShotFields)
+    → IsSpelled first rest (fields_of l d z) → IsSpelled first rest f → HasShape f z
 spelled_shape first l d z rest f s t =
     let same = one_record (fields_of l d z) f s.after t.after s.narrow t.narrow (sym s.text ∙ t.text) in
     subst (λ (g : ShotFields). HasShape g z) same.0 refl
 
-fault_stops : (first : Option Pair) (l d : ℕ) (rest : List ℕ) (at : ℕ) (bad : ShotBad) → IsNarrowPair l d → Agrees first l d → IsRecordFault first rest at bad → Stops l d rest
-fault_stops first l d rest at bad p g (inl a) = λ z after h e. whole_apart rest (spelled_whole first rest (fields_of l d z) (shot_spelled first l d z rest after p h g e)) a.1
-fault_stops first l d rest at bad p g (inr (inl a)) = λ z after h e. a.2 (spelled_whole first rest (fields_of l d z) (shot_spelled first l d z rest after p h g e))
+fault_stops : (first : Option Pair) (l d : ℕ) (rest : List ℕ) (at : ℕ) (bad : ShotBad) → IsNarrowPair l d
+    → Agrees first l d → IsRecordFault first rest at bad → Stops l d rest
+fault_stops first l d rest at bad p g (inl a) = λ z after h e. whole_apart rest
+    (spelled_whole first rest (fields_of l d z) (shot_spelled first l d z rest after p h g e)) a.1
+fault_stops first l d rest at bad p g (inr (inl a)) = λ z after h e. a.2
+    (spelled_whole first rest (fields_of l d z) (shot_spelled first l d z rest after p h g e))
 fault_stops first l d rest at bad p g (inr (inr (inl a))) = λ z after h e. a.2 (fields_of l d z) (shot_spelled first l d z rest after p h g e)
-fault_stops first l d rest at bad p g (inr (inr (inr a))) = λ z after h e. a.1.2 z h (spelled_shape first l d z rest a.1.0 (shot_spelled first l d z rest after p h g e) a.1.1)
+fault_stops first l d rest at bad p g (inr (inr (inr a))) = λ z after h e. a.1.2 z h
+    (spelled_shape first l d z rest a.1.0 (shot_spelled first l d z rest after p h g e) a.1.1)
 
 end_stops : (l d : ℕ) (rest : List ℕ) → IsNarrowPair l d → rest ≡ end → Stops l d rest
 end_stops l d rest p e z after h f =
     whole_not_end rest _ (spelled_whole None rest (fields_of l d z) (shot_spelled None l d z rest after p h tt f)) e
 
-more : (l d : ℕ) (z : Trapezoid) (zs : List Trapezoid) (x : List ℕ) → flat_map (spelling_of l d) (z ∷ zs) ++ x ≡ spelling_of l d z ++ (flat_map (spelling_of l d) zs ++ x)
+more : (l d : ℕ) (z : Trapezoid) (zs : List Trapezoid) (x : List ℕ)
+    → flat_map (spelling_of l d) (z ∷ zs) ++ x ≡ spelling_of l d z ++ (flat_map (spelling_of l d) zs ++ x)
 more l d z zs x = append_assoc (spelling_of l d z) (flat_map (spelling_of l d) zs) x
 
 tail : (z : Trapezoid) (zs : List Trapezoid) → All IsShot (z ∷ zs) → All IsShot zs
@@ -87,7 +96,8 @@ meet l d [] [] x y p h g s t e = (refl, e)
 meet l d [] (z ∷ zs) x y p h g s t e = absurd (s z (flat_map (spelling_of l d) zs ++ y) (g 0 z (omega arith)) (e ∙ more l d z zs y))
 meet l d (z ∷ ys) [] x y p h g s t e = absurd (t z (flat_map (spelling_of l d) ys ++ x) (h 0 z (omega arith)) (sym e ∙ more l d z ys x))
 meet l d (v ∷ ys) (z ∷ zs) x y p h g s t e =
-    let one = record_names l d l d v z (flat_map (spelling_of l d) ys ++ x) (flat_map (spelling_of l d) zs ++ y) p p (h 0 v (omega arith)) (g 0 z (omega arith)) (sym (more l d v ys x) ∙ (e ∙ more l d z zs y)) in
+    let one = record_names l d l d v z (flat_map (spelling_of l d) ys ++ x) (flat_map (spelling_of l d) zs ++ y) p p
+    (h 0 v (omega arith)) (g 0 z (omega arith)) (sym (more l d v ys x) ∙ (e ∙ more l d z zs y)) in
     let rest = meet l d ys zs x y p (tail v ys h) (tail z zs g) s t one.3 in
     (ap (λ (w : Trapezoid). w ∷ ys) one.2 ∙ ap (λ (ws : List Trapezoid). z ∷ ws) rest.0, rest.1)
 
@@ -110,17 +120,23 @@ record Same (l d m e : ℕ) (ys zs : List Trapezoid) (x y : List ℕ) : Type 0 w
   layer : ys ≢ [] → l ≡ m
   datatype : ys ≢ [] → d ≡ e
 
-meet_pairs : (l d m e : ℕ) (first other : Option Pair) (ys zs : List Trapezoid) (x y : List ℕ) → IsNarrowPair l d → IsNarrowPair m e → All IsShot ys → All IsShot zs
+meet_pairs : (l d m e : ℕ) (first other : Option Pair) (ys zs : List Trapezoid) (x y : List ℕ) → IsNarrowPair l d
+    → IsNarrowPair m e → All IsShot ys → All IsShot zs
     → IsPairOf first ys → IsPairOf other zs → Agrees first l d → Agrees other m e → IsStop first x → IsStop other y
     → flat_map (spelling_of l d) ys ++ x ≡ flat_map (spelling_of m e) zs ++ y → Same l d m e ys zs x y
-meet_pairs l d m e first other [] [] x y p q h g i j a b s t w = record { shots = refl; rest = w; layer = λ n. absurd (n refl); datatype = λ n. absurd (n refl) }
-meet_pairs l d m e None other [] (z ∷ zs) x y p q h g i j a b s t w = absurd (s m e q tt z (flat_map (spelling_of m e) zs ++ y) (g 0 z (omega arith)) (w ∙ more m e z zs y))
+meet_pairs l d m e first other [] [] x y p q h g i j a b s t w =
+    record { shots = refl; rest = w; layer = λ n. absurd (n refl); datatype = λ n. absurd (n refl) }
+meet_pairs l d m e None other [] (z ∷ zs) x y p q h g i j a b s t w = absurd
+    (s m e q tt z (flat_map (spelling_of m e) zs ++ y) (g 0 z (omega arith)) (w ∙ more m e z zs y))
 meet_pairs l d m e (Some r) other [] (z ∷ zs) x y p q h g i j a b s t w = absurd (i.0 refl)
-meet_pairs l d m e first None (z ∷ ys) [] x y p q h g i j a b s t w = absurd (t l d p tt z (flat_map (spelling_of l d) ys ++ x) (h 0 z (omega arith)) (sym w ∙ more l d z ys x))
+meet_pairs l d m e first None (z ∷ ys) [] x y p q h g i j a b s t w = absurd
+    (t l d p tt z (flat_map (spelling_of l d) ys ++ x) (h 0 z (omega arith)) (sym w ∙ more l d z ys x))
 meet_pairs l d m e first (Some r) (z ∷ ys) [] x y p q h g i j a b s t w = absurd (j.0 refl)
 meet_pairs l d m e first other (v ∷ ys) (z ∷ zs) x y p q h g i j a b s t w =
-    let one = record_names l d m e v z (flat_map (spelling_of l d) ys ++ x) (flat_map (spelling_of m e) zs ++ y) p q (h 0 v (omega arith)) (g 0 z (omega arith)) (sym (more l d v ys x) ∙ (w ∙ more m e z zs y)) in
-    let rest = meet l d ys zs x y p (tail v ys h) (tail z zs g) (s l d p a) (t l d p (agrees_too other l d m e one.0 one.1 b)) (one.3 ∙ same_records l d m e zs y one.0 one.1) in
+    let one = record_names l d m e v z (flat_map (spelling_of l d) ys ++ x) (flat_map (spelling_of m e) zs ++ y) p q
+    (h 0 v (omega arith)) (g 0 z (omega arith)) (sym (more l d v ys x) ∙ (w ∙ more m e z zs y)) in
+    let rest = meet l d ys zs x y p (tail v ys h) (tail z zs g) (s l d p a)
+    (t l d p (agrees_too other l d m e one.0 one.1 b)) (one.3 ∙ same_records l d m e zs y one.0 one.1) in
     record {
       shots = ap (λ (c : Trapezoid). c ∷ ys) one.2 ∙ ap (λ (ws : List Trapezoid). z ∷ ws) rest.0;
       rest = rest.1;
@@ -138,26 +154,35 @@ same_pair : (p q : Pair) → p.layer ≡ q.layer → p.datatype ≡ q.datatype �
 unfolding pair
 same_pair p q a b = pair_by p.layer p.datatype q.layer q.datatype a b
 
-pair_one : (l d m e : ℕ) (first other : Option Pair) (ys zs : List Trapezoid) (x y : List ℕ) → IsPairOf first ys → IsPairOf other zs → Agrees first l d → Agrees other m e → Same l d m e ys zs x y → first ≡ other
+pair_one : (l d m e : ℕ) (first other : Option Pair) (ys zs : List Trapezoid) (x y : List ℕ) → IsPairOf first ys
+    → IsPairOf other zs → Agrees first l d → Agrees other m e → Same l d m e ys zs x y → first ≡ other
 pair_one l d m e None None ys zs x y i j a b s = refl
 pair_one l d m e None (Some q) ys zs x y i j a b s = absurd (j.0 (sym s.shots ∙ i))
 pair_one l d m e (Some p) None ys zs x y i j a b s = absurd (i.0 (s.shots ∙ j))
 pair_one l d m e (Some p) (Some q) ys zs x y i j a b s = ap Some (same_pair p q (a.0 ∙ (s.layer i.0 ∙ sym b.0)) (a.1 ∙ (s.datatype i.0 ∙ sym b.1)))
 
-pub up_whole : (bytes : List ℕ) (at : ℕ) (first : Option Pair) (u : IsReadUpTo bytes at first) → bytes ≡ head u.unit ++ (flat_map (spelling_of u.layer u.datatype) u.shots ++ drop at bytes)
+pub up_whole : (bytes : List ℕ) (at : ℕ) (first : Option Pair) (u : IsReadUpTo bytes at first)
+    → bytes ≡ head u.unit ++ (flat_map (spelling_of u.layer u.datatype) u.shots ++ drop at bytes)
 up_whole bytes at first u =
-    sym (take-append-drop at bytes) ∙ (ap (λ (t : List ℕ). t ++ drop at bytes) u.text ∙ append_assoc (head u.unit) (flat_map (spelling_of u.layer u.datatype) u.shots) (drop at bytes))
+    sym (take-append-drop at bytes) ∙ (ap (λ (t : List ℕ). t ++ drop at bytes) u.text ∙ append_assoc (head u.unit)
+    (flat_map (spelling_of u.layer u.datatype) u.shots) (drop at bytes))
 
 up_rest : (bytes : List ℕ) (at to : ℕ) (first other : Option Pair) (u : IsReadUpTo bytes at first) (v : IsReadUpTo bytes to other)
-    → (u.unit ≡ v.unit) × (flat_map (spelling_of u.layer u.datatype) u.shots ++ drop at bytes ≡ flat_map (spelling_of v.layer v.datatype) v.shots ++ drop to bytes)
+    → (u.unit ≡ v.unit) × (flat_map (spelling_of u.layer u.datatype) u.shots ++ drop at bytes ≡ flat_map
+    (spelling_of v.layer v.datatype) v.shots ++ drop to bytes)
 up_rest bytes at to first other u v =
-    head_peel u.unit v.unit (flat_map (spelling_of u.layer u.datatype) u.shots ++ drop at bytes) (flat_map (spelling_of v.layer v.datatype) v.shots ++ drop to bytes) (unit_small u.unit u.unit_fits) (unit_small v.unit v.unit_fits)
+    head_peel u.unit v.unit (flat_map (spelling_of u.layer u.datatype) u.shots ++ drop at bytes)
+    (flat_map (spelling_of v.layer v.datatype) v.shots ++ drop to bytes) (unit_small u.unit u.unit_fits)
+    (unit_small v.unit v.unit_fits)
     (sym (up_whole bytes at first u) ∙ up_whole bytes to other v)
 
-up_same : (bytes : List ℕ) (at to : ℕ) (first other : Option Pair) (u : IsReadUpTo bytes at first) (v : IsReadUpTo bytes to other) → IsStop first (drop at bytes) → IsStop other (drop to bytes)
+up_same : (bytes : List ℕ) (at to : ℕ) (first other : Option Pair) (u : IsReadUpTo bytes at first)
+    (v : IsReadUpTo bytes to other) → IsStop first (drop at bytes) → IsStop other (drop to bytes)
     → Same u.layer u.datatype v.layer v.datatype u.shots v.shots (drop at bytes) (drop to bytes)
 up_same bytes at to first other u v s t =
-    meet_pairs u.layer u.datatype v.layer v.datatype first other u.shots v.shots (drop at bytes) (drop to bytes) u.narrow v.narrow u.legal v.legal u.pair_fits v.pair_fits u.agrees v.agrees s t (up_rest bytes at to first other u v).1
+    meet_pairs u.layer u.datatype v.layer v.datatype first other u.shots v.shots (drop at bytes)
+    (drop to bytes) u.narrow v.narrow u.legal v.legal u.pair_fits v.pair_fits u.agrees v.agrees s t
+    (up_rest bytes at to first other u v).1
 
 fault_ends : (first : Option Pair) (rest : List ℕ) (at : ℕ) (bad : ShotBad) → IsRecordFault first rest at bad → IsStop first rest
 fault_ends first rest at bad f l d p g = fault_stops first l d rest at bad p g f
@@ -175,7 +200,9 @@ one_fault bytes bad other (inl a) (inr b) = absurd (a.2.no_head b.2.unit _ b.2.u
 one_fault bytes bad other (inr a) (inl b) = absurd (b.2.no_head a.2.unit _ a.2.unit_fits (up_whole bytes a.0 a.1 a.2))
 one_fault bytes bad other (inr a) (inr b) =
     let same = up_same bytes a.0 b.0 a.1 b.1 a.2 b.2 (fault_ends a.1 (drop a.0 bytes) a.0 bad a.3) (fault_ends b.1 (drop b.0 bytes) b.0 other b.3) in
-    let pairs : b.1 ≡ a.1 = sym (pair_one a.2.layer a.2.datatype b.2.layer b.2.datatype a.1 b.1 a.2.shots b.2.shots (drop a.0 bytes) (drop b.0 bytes) a.2.pair_fits b.2.pair_fits a.2.agrees b.2.agrees same) in
+    let pairs : b.1 ≡ a.1 = sym
+    (pair_one a.2.layer a.2.datatype b.2.layer b.2.datatype a.1 b.1 a.2.shots b.2.shots (drop a.0 bytes)
+    (drop b.0 bytes) a.2.pair_fits b.2.pair_fits a.2.agrees b.2.agrees same) in
     let place : b.0 ≡ a.0 = at_one bytes a.0 b.0 a.2.within b.2.within same.rest in
     let moved = subst (λ (n : ℕ). IsRecordFault b.1 (drop n bytes) n other) place b.3 in
     let own = subst (λ (p : Option Pair). IsRecordFault p (drop a.0 bytes) a.0 other) pairs moved in
@@ -195,7 +222,8 @@ no_fault bytes at first bad u e (inr b) =
     end_right b.1 (drop b.0 bytes) b.0 bad (sym same.rest ∙ e) b.3
 
 -- two readings up to END are of one unit, one pair and the same shots
-pub one_read : (bytes : List ℕ) (at to : ℕ) (first other : Option Pair) (u : IsReadUpTo bytes at first) (v : IsReadUpTo bytes to other) → drop at bytes ≡ end → drop to bytes ≡ end
+pub one_read : (bytes : List ℕ) (at to : ℕ) (first other : Option Pair) (u : IsReadUpTo bytes at first)
+    (v : IsReadUpTo bytes to other) → drop at bytes ≡ end → drop to bytes ≡ end
     → (u.unit ≡ v.unit) × (first ≡ other) × (u.shots ≡ v.shots)
 one_read bytes at to first other u v e f =
     let same = up_same bytes at to first other u v (λ l d p g. end_stops l d (drop at bytes) p e) (λ l d p g. end_stops l d (drop to bytes) p f) in (
@@ -250,38 +278,56 @@ text_rest : (bytes : List ℕ) (unit l d : ℕ) (shots : List Trapezoid) → byt
 text_rest bytes unit l d shots e = ap (drop (length (front_of unit l d shots))) (e ∙ text_front unit l d shots) ∙ drop-append_seam (front_of unit l d shots) end
 
 -- the text of shots has no fault
-pub text_right : (bytes : List ℕ) (unit l d : ℕ) (shots : List Trapezoid) (bad : ShotBad) → IsUnit unit → IsNarrowPair l d → All IsShot shots → bytes ≡ shot_text unit l d shots → IsFirstFault bytes bad → ⊥
+pub text_right : (bytes : List ℕ) (unit l d : ℕ) (shots : List Trapezoid) (bad : ShotBad) → IsUnit unit
+    → IsNarrowPair l d → All IsShot shots → bytes ≡ shot_text unit l d shots → IsFirstFault bytes bad → ⊥
 text_right bytes unit l d shots bad h p all e =
     no_fault bytes (length (front_of unit l d shots)) (pair_for l d shots) bad (text_up bytes unit l d shots h p all e) (text_rest bytes unit l d shots e)
 
-agrees_by : (first : Option Pair) (ys : List Trapezoid) (l d m e : ℕ) → IsPairOf first ys → Agrees first l d → (ys ≢ [] → l ≡ m) → (ys ≢ [] → d ≡ e) → Agrees first m e
+agrees_by : (first : Option Pair) (ys : List Trapezoid) (l d m e : ℕ) → IsPairOf first ys → Agrees first l d
+    → (ys ≢ [] → l ≡ m) → (ys ≢ [] → d ≡ e) → Agrees first m e
 agrees_by None ys l d m e h g p q = tt
 agrees_by (Some r) ys l d m e h g p q = (g.0 ∙ p h.0, g.1 ∙ q h.0)
 
 -- what was read up to END is what the text says
-pub text_read : (bytes : List ℕ) (at : ℕ) (first : Option Pair) (u : IsReadUpTo bytes at first) (unit l d : ℕ) (shots : List Trapezoid) → drop at bytes ≡ end → IsUnit unit → IsNarrowPair l d → All IsShot shots → bytes ≡ shot_text unit l d shots
+pub text_read : (bytes : List ℕ) (at : ℕ) (first : Option Pair) (u : IsReadUpTo bytes at first) (unit l d : ℕ)
+    (shots : List Trapezoid) → drop at bytes ≡ end → IsUnit unit → IsNarrowPair l d → All IsShot shots
+    → bytes ≡ shot_text unit l d shots
     → (u.unit ≡ unit) × (u.shots ≡ shots) × Agrees first l d
 unfolding text_up
 text_read bytes at first u unit l d shots last h p all e =
     let v = text_up bytes unit l d shots h p all e in
-    let same = up_same bytes at (length (front_of unit l d shots)) first (pair_for l d shots) u v (λ m k q g. end_stops m k (drop at bytes) q last) (λ m k q g. end_stops m k (drop (length (front_of unit l d shots)) bytes) q (text_rest bytes unit l d shots e)) in
-    ((up_rest bytes at (length (front_of unit l d shots)) first (pair_for l d shots) u v).0, same.shots, agrees_by first u.shots u.layer u.datatype l d u.pair_fits u.agrees same.layer same.datatype)
+    let same = up_same bytes at (length (front_of unit l d shots)) first (pair_for l d shots) u v
+    (λ m k q g. end_stops m k (drop at bytes) q last)
+    (λ m k q g. end_stops m k (drop (length (front_of unit l d shots)) bytes) q
+    (text_rest bytes unit l d shots e)) in (
+      (up_rest bytes at (length (front_of unit l d shots)) first (pair_for l d shots) u v).0,
+      same.shots,
+      agrees_by
+          first u.shots u.layer u.datatype l d u.pair_fits u.agrees same.layer same.datatype,
+    )
 
 -- ---- what was told
 
-pub read_fault : (bytes : List ℕ) (from at unit : ℕ) (pair : Option Pair) (shots : List Trapezoid) (bad : ShotBad) → IsUnit unit → at ≤ length bytes → bytes ≡ head unit ++ drop from bytes → IsPairOf pair shots → All IsShot shots
+pub read_fault : (bytes : List ℕ) (from at unit : ℕ) (pair : Option Pair) (shots : List Trapezoid) (bad : ShotBad)
+    → IsUnit unit → at ≤ length bytes → bytes ≡ head unit ++ drop from bytes → IsPairOf pair shots → All IsShot shots
     → drop from bytes ≡ records_with pair shots ++ drop at bytes → IsRecordFault pair (drop at bytes) at bad → IsFirstFault bytes bad
 read_fault bytes from at unit pair shots bad u within e h all f fault = inr (at, pair, up_to bytes from at unit pair shots u within e h all f, fault)
 
 pub cut_fault : (first : Option Pair) (rest : List ℕ) (at : ℕ) → rest ≡ [] → IsRecordFault first rest at (faults.Record at)
 cut_fault first rest at e =
-    inr (inl (refl, (λ b. let w : [] ≡ 2 ∷ b.0 = sym e ∙ b.1 in absurd (cc)), (λ b. let w : [] ≡ b.id ∷ 123 ∷ concat b.numbers ++ b.after = sym e ∙ b.text in absurd (cc))))
+    inr (inl (
+      refl,
+      (λ b. let w : [] ≡ 2 ∷ b.0 = sym e ∙ b.1 in absurd (cc)),
+      (λ b. let w : [] ≡ b.id ∷ 123 ∷ concat b.numbers ++ b.after = sym e ∙ b.text in absurd (cc)),
+    ))
 
 pub end_fault : (first : Option Pair) (rest : List ℕ) (at : ℕ) → get_or rest 0 0 ≡ 2 → rest ≢ end → IsRecordFault first rest at (faults.End at)
 end_fault first [] at e n = absurd (omega arith)
 end_fault first (x ∷ rest) at e n = inl (refl, (rest, ap (λ (b : ℕ). b ∷ rest) e), n)
 
-pub told : {T : Type 0} (bytes : List ℕ) (own : ShotBad) (result : Result T ShotBad) → result ≡ Err own → IsFirstFault bytes own → (bad : ShotBad) → IsFirstFault bytes bad → (result ≡ Err bad) ⊎ (result ≡ Err faults.NoMemory)
+pub told : {T : Type 0} (bytes : List ℕ) (own : ShotBad) (result : Result T ShotBad) → result ≡ Err own
+    → IsFirstFault bytes own → (bad : ShotBad) → IsFirstFault bytes bad → (result ≡ Err bad)
+    ⊎ (result ≡ Err faults.NoMemory)
 told {T} bytes own result e f bad w =
     let wrong : ShotBad → Result T ShotBad = λ b. Err b in
     inl (e ∙ ap wrong (one_fault bytes own bad f w))

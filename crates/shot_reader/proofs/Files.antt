@@ -27,7 +27,8 @@ pub record IsReadWhole (bytes : List ℕ) (unit : ℕ) (pair : Option Pair) (sho
   pub shots_are : up.shots ≡ shots
   pub rest : drop at bytes ≡ end
 
-whole_of : (bytes : List ℕ) (unit l d : ℕ) (pair : Option Pair) (shots : List Trapezoid) → IsUnit unit → All IsShot shots → IsNarrowPair l d → IsPairOf pair shots → Agrees pair l d
+whole_of : (bytes : List ℕ) (unit l d : ℕ) (pair : Option Pair) (shots : List Trapezoid) → IsUnit unit
+    → All IsShot shots → IsNarrowPair l d → IsPairOf pair shots → Agrees pair l d
     → bytes ≡ shot_text unit l d shots → IsReadWhole bytes unit pair shots
 whole_of bytes unit l d pair shots u all p fits agrees e =
     let text : bytes ≡ before unit l d shots ++ end = e ∙ before_end unit l d shots in
@@ -66,12 +67,14 @@ file_whole bytes unit (Some p) shots f =
     (f.text ∙ rw (← f.agrees.0, ← f.agrees.1) refl)
 
 -- a shot file of this unit, this pair and these shots has no fault
-pub file_right : (bytes : List ℕ) (unit : ℕ) (pair : Option Pair) (shots : List Trapezoid) (bad : ShotBad) → IsFileOf bytes unit pair shots → IsFirstFault bytes bad → ⊥
+pub file_right : (bytes : List ℕ) (unit : ℕ) (pair : Option Pair) (shots : List Trapezoid) (bad : ShotBad)
+    → IsFileOf bytes unit pair shots → IsFirstFault bytes bad → ⊥
 file_right bytes unit pair shots bad f fault =
     let w = file_whole bytes unit pair shots f in no_fault bytes w.at pair bad w.up w.rest fault
 
 -- bytes are one shot file at most
-pub one_file : (bytes : List ℕ) (u v : ℕ) (p q : Option Pair) (ys zs : List Trapezoid) → IsFileOf bytes u p ys → IsFileOf bytes v q zs → (u ≡ v) × (p ≡ q) × (ys ≡ zs)
+pub one_file : (bytes : List ℕ) (u v : ℕ) (p q : Option Pair) (ys zs : List Trapezoid) → IsFileOf bytes u p ys
+    → IsFileOf bytes v q zs → (u ≡ v) × (p ≡ q) × (ys ≡ zs)
 one_file bytes u v p q ys zs f g =
     let a = file_whole bytes u p ys f in
     let b = file_whole bytes v q zs g in

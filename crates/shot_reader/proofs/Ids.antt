@@ -14,23 +14,31 @@ byte_is bytes rest at x e = ap (λ (n : ℕ). get_or bytes n 0) (plus_none at) �
 differ : false ≡ true → ⊥
 differ e = absurd (cc)
 
-left_by : (p q : Bool) (z : ℤ) → (p ≡ true → z ≡ pos 0) → (z ≡ pos 0 → p ≡ true) → IsTrue (nat_eq (cond p (cond q 20 25) (cond q 24 23)) 23 || nat_eq (cond p (cond q 20 25) (cond q 24 23)) 24) ↔ (z ≢ pos 0)
+left_by : (p q : Bool) (z : ℤ) → (p ≡ true → z ≡ pos 0) → (z ≡ pos 0 → p ≡ true)
+    → IsTrue (nat_eq (cond p (cond q 20 25) (cond q 24 23)) 23 || nat_eq (cond p (cond q 20 25) (cond q 24 23)) 24)
+    ↔ (z ≢ pos 0)
 left_by true true z h g = (λ e. absurd (cc), λ n. absurd (n (h refl)))
 left_by true false z h g = (λ e. absurd (cc), λ n. absurd (n (h refl)))
 left_by false true z h g = (λ e n. absurd (differ (g n)), λ n. refl)
 left_by false false z h g = (λ e n. absurd (differ (g n)), λ n. refl)
 
-right_by : (p q : Bool) (z : ℤ) → (q ≡ true → z ≡ pos 0) → (z ≡ pos 0 → q ≡ true) → IsTrue (nat_eq (cond p (cond q 20 25) (cond q 24 23)) 23 || nat_eq (cond p (cond q 20 25) (cond q 24 23)) 25) ↔ (z ≢ pos 0)
+right_by : (p q : Bool) (z : ℤ) → (q ≡ true → z ≡ pos 0) → (z ≡ pos 0 → q ≡ true)
+    → IsTrue (nat_eq (cond p (cond q 20 25) (cond q 24 23)) 23 || nat_eq (cond p (cond q 20 25) (cond q 24 23)) 25)
+    ↔ (z ≢ pos 0)
 right_by true true z h g = (λ e. absurd (cc), λ n. absurd (n (h refl)))
 right_by true false z h g = (λ e n. absurd (differ (g n)), λ n. refl)
 right_by false true z h g = (λ e. absurd (cc), λ n. absurd (n (h refl)))
 right_by false false z h g = (λ e n. absurd (differ (g n)), λ n. refl)
 
 pub left_there : (left right : ℤ) (id : ℕ) (b : Bool) → id ≡ id_for left right → b ≡ (nat_eq id 23 || nat_eq id 24) → IsTrue b ↔ (left ≢ pos 0)
-left_there left right id b e f = rw (f, e) (left_by (int_eq left (pos 0)) (int_eq right (pos 0)) left (Decides-int_eq left (pos 0)).0 (Decides-int_eq left (pos 0)).1)
+left_there left right id b e f = rw (f, e)
+    (left_by (int_eq left (pos 0)) (int_eq right (pos 0)) left (Decides-int_eq left (pos 0)).0
+    (Decides-int_eq left (pos 0)).1)
 
 pub right_there : (left right : ℤ) (id : ℕ) (b : Bool) → id ≡ id_for left right → b ≡ (nat_eq id 23 || nat_eq id 25) → IsTrue b ↔ (right ≢ pos 0)
-right_there left right id b e f = rw (f, e) (right_by (int_eq left (pos 0)) (int_eq right (pos 0)) right (Decides-int_eq right (pos 0)).0 (Decides-int_eq right (pos 0)).1)
+right_there left right id b e f = rw (f, e)
+    (right_by (int_eq left (pos 0)) (int_eq right (pos 0)) right (Decides-int_eq right (pos 0)).0
+    (Decides-int_eq right (pos 0)).1)
 
 pub first_byte : (bytes : List ℕ) (at : ℕ) → get_or (drop at bytes) 0 0 ≡ get_or bytes at 0
 first_byte bytes at = get_or-drop at bytes 0 0 ∙ ap (λ (n : ℕ). get_or bytes n 0) (sym (plus_none at))

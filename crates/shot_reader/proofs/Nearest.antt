@@ -69,14 +69,16 @@ near_one bytes a v n e h z k =
 own_low : (a u : ℕ) → IsUnit u → 128 ≤ u → a ≡ u % 128 + 128 → a ≡ get_or (head u) 19 0
 own_low a u h k e = e ∙ sym ((digits u h).more k)
 
-pub near_low : (bytes : List ℕ) (a b v n : ℕ) → a ≡ get_or bytes 19 0 → b ≡ get_or bytes 20 0 → a < 256 → IsUnit a → IsUnit v → 128 ≤ a → b ≡ 0 → BeginAlike bytes (head v) n → BeginAlike bytes (head a) n
+pub near_low : (bytes : List ℕ) (a b v n : ℕ) → a ≡ get_or bytes 19 0 → b ≡ get_or bytes 20 0 → a < 256 → IsUnit a
+    → IsUnit v → 128 ≤ a → b ≡ 0 → BeginAlike bytes (head v) n → BeginAlike bytes (head a) n
 near_low bytes a b v n e f low i h z none k =
     elim (cases_lt 20 n) [
       | inl g ↦ absurd (few_second v b h (low_is v a h (e ∙ k.same 19 (omega arith)) z).0 (f ∙ k.same 20 g) none)
       | inr g ↦ near_by bytes a v n (omega arith) (λ l. sym e ∙ own_low a a i z (omega arith)) (λ l. absurd (omega arith)) k
     ]
 
-pub near_two : (bytes : List ℕ) (a b u v n : ℕ) → a ≡ get_or bytes 19 0 → b ≡ get_or bytes 20 0 → a < 256 → IsUnit u → IsUnit v → 128 ≤ a → b ≢ 0 → b < 128 → u ≡ a % 128 + b * 128
+pub near_two : (bytes : List ℕ) (a b u v n : ℕ) → a ≡ get_or bytes 19 0 → b ≡ get_or bytes 20 0 → a < 256 → IsUnit u
+    → IsUnit v → 128 ≤ a → b ≢ 0 → b < 128 → u ≡ a % 128 + b * 128
     → BeginAlike bytes (head v) n → BeginAlike bytes (head u) n
 near_two bytes a b u v n e f low i h z some few is k =
     elim (cases_lt 20 n) [
@@ -91,20 +93,25 @@ own_middle : (b u : ℕ) → IsUnit u → 16384 ≤ u → b ≡ u / 128 % 128 + 
 own_middle b u h k e = e ∙ sym ((digits u h).middle k)
 
 -- a head of three groups whose two lowest are those of the bytes
-near_three : (bytes : List ℕ) (a b d u v n : ℕ) → a ≡ get_or bytes 19 0 → b ≡ get_or bytes 20 0 → a < 256 → b < 256 → IsUnit u → 128 ≤ a → 128 ≤ b → 1 ≤ d → u ≡ a % 128 + b % 128 * 128 + d * 16384
+near_three : (bytes : List ℕ) (a b d u v n : ℕ) → a ≡ get_or bytes 19 0 → b ≡ get_or bytes 20 0 → a < 256 → b < 256
+    → IsUnit u → 128 ≤ a → 128 ≤ b → 1 ≤ d → u ≡ a % 128 + b % 128 * 128 + d * 16384
     → n ≤ 21 → BeginAlike bytes (head v) n → BeginAlike bytes (head u) n
 near_three bytes a b d u v n e f low next i z y some is few k =
     near_by bytes u v n few (λ l. sym e ∙ own_low a u i (omega arith) (omega arith)) (λ l. sym f ∙ own_middle b u i (omega arith) (omega arith)) k
 
 -- the third byte is the highest group
-high_is : (bytes : List ℕ) (a b d v n : ℕ) → a ≡ get_or bytes 19 0 → b ≡ get_or bytes 20 0 → d ≡ get_or bytes 21 0 → IsUnit v → 128 ≤ a → 128 ≤ b → BeginAlike bytes (head v) n → 21 < n → (16384 ≤ v) × (v ≡ a % 128 + b % 128 * 128 + d * 16384)
+high_is : (bytes : List ℕ) (a b d v n : ℕ) → a ≡ get_or bytes 19 0 → b ≡ get_or bytes 20 0 → d ≡ get_or bytes 21 0
+    → IsUnit v → 128 ≤ a → 128 ≤ b → BeginAlike bytes (head v) n → 21 < n → (16384 ≤ v)
+    × (v ≡ a % 128 + b % 128 * 128 + d * 16384)
 high_is bytes a b d v n e f g h z y k long =
     let first = low_is v a h (e ∙ k.same 19 (omega arith)) z in
     let second = middle_is v b h first.0 (f ∙ k.same 20 (omega arith)) y in
     let third : d ≡ v / 128 / 128 = g ∙ (k.same 21 long ∙ (digits v h).three second.0) in
     (second.0, omega (arith, first.1, second.1))
 
-pub near_short : (bytes : List ℕ) (a b d u v n : ℕ) → a ≡ get_or bytes 19 0 → b ≡ get_or bytes 20 0 → d ≡ get_or bytes 21 0 → a < 256 → b < 256 → IsUnit u → IsUnit v → 128 ≤ a → 128 ≤ b → u ≡ a % 128 + b % 128 * 128 + 16384
+pub near_short : (bytes : List ℕ) (a b d u v n : ℕ) → a ≡ get_or bytes 19 0 → b ≡ get_or bytes 20 0
+    → d ≡ get_or bytes 21 0 → a < 256 → b < 256 → IsUnit u → IsUnit v → 128 ≤ a → 128 ≤ b
+    → u ≡ a % 128 + b % 128 * 128 + 16384
     → (d ≡ 0) ⊎ (2000000 < a % 128 + b % 128 * 128 + d * 16384) → BeginAlike bytes (head v) n → BeginAlike bytes (head u) n
 near_short bytes a b d u v n e f g low next i h z y is out k =
     elim (cases_lt 21 n) [
@@ -114,7 +121,9 @@ near_short bytes a b d u v n e f g low next i h z y is out k =
       | inr few ↦ near_three bytes a b 1 u v n e f low next i z y (omega arith) (omega arith) (omega arith) k
     ]
 
-pub near_whole : (bytes : List ℕ) (a b d u v n : ℕ) → a ≡ get_or bytes 19 0 → b ≡ get_or bytes 20 0 → d ≡ get_or bytes 21 0 → a < 256 → b < 256 → IsUnit u → IsUnit v → 128 ≤ a → 128 ≤ b → d ≢ 0 → u ≡ a % 128 + b % 128 * 128 + d * 16384
+pub near_whole : (bytes : List ℕ) (a b d u v n : ℕ) → a ≡ get_or bytes 19 0 → b ≡ get_or bytes 20 0
+    → d ≡ get_or bytes 21 0 → a < 256 → b < 256 → IsUnit u → IsUnit v → 128 ≤ a → 128 ≤ b → d ≢ 0
+    → u ≡ a % 128 + b % 128 * 128 + d * 16384
     → BeginAlike bytes (head v) n → BeginAlike bytes (head u) n
 near_whole bytes a b d u v n e f g low next i h z y some is k =
     elim (cases_lt 21 n) [

@@ -1,5 +1,6 @@
 -- Bytes that are no shot file have a first fault.
-use Rattle.std.proofs.Common.{◌≡◌, ℕ, zero, suc, ◌+◌, ◌-◌, ◌<◌, ◌≤◌, length, take, drop, Option, Some, None, List, [], ◌∷◌, ◌++◌, append_assoc, refl, arith, ap, sym, ◌∙◌, inl, inr, length-append}
+use Rattle.std.proofs.Common.{◌≡◌, ℕ, zero, suc, ◌+◌, ◌-◌, ◌<◌, ◌≤◌, length, take, drop, Option, Some, None, List, []}
+use Rattle.std.proofs.Common.{◌∷◌, ◌++◌, append_assoc, refl, arith, ap, sym, ◌∙◌, inl, inr, length-append}
 use Rattle.std.proofs.lemmas.List.{flat_map_more, append-nil, length-take-le, take-append-drop}
 use Rattle.std.proofs.lemmas.Bool.{cases_lt}
 use Rattle.std.proofs.Math.Seq.{take-append_seam}
@@ -66,10 +67,12 @@ record Further (bytes : List ℕ) (at : ℕ) : Type 0 where
 front_after : ℕ → ℕ → ℕ → List Trapezoid → List ℕ
 front_after unit l d shots = head unit ++ flat_map (spelling_of l d) shots
 
-spelled_as : (first : Option Pair) (rest : List ℕ) (f : ShotFields) (z : Trapezoid) (s : IsSpelled first rest f) → HasShape f z → rest ≡ spelling_of f.layer f.datatype z ++ s.after
+spelled_as : (first : Option Pair) (rest : List ℕ) (f : ShotFields) (z : Trapezoid) (s : IsSpelled first rest f)
+    → HasShape f z → rest ≡ spelling_of f.layer f.datatype z ++ s.after
 spelled_as first rest f z s shape = s.text ∙ ap (λ (t : List ℕ). t ++ s.after) (ap text_of shape ∙ sym (spelling_is f.layer f.datatype z))
 
-text_more : (bytes : List ℕ) (at : ℕ) (first : Option Pair) (u : IsReadUpTo bytes at first) (f : ShotFields) (z : Trapezoid) (s : IsSpelled first (drop at bytes) f) → HasShape f z
+text_more : (bytes : List ℕ) (at : ℕ) (first : Option Pair) (u : IsReadUpTo bytes at first) (f : ShotFields)
+    (z : Trapezoid) (s : IsSpelled first (drop at bytes) f) → HasShape f z
     → bytes ≡ front_after u.unit f.layer f.datatype (u.shots ++ z ∷ []) ++ s.after
 unfolding front_after
 text_more bytes at first u f z s shape =
@@ -82,18 +85,21 @@ text_more bytes at first u f z s shape =
     ∙ (sym (append_assoc (head u.unit ++ flat_map own u.shots) (own z) s.after)
     ∙ ap (λ (t : List ℕ). t ++ s.after) (flat_map_more own (head u.unit) u.shots z))))
 
-front_length : (bytes : List ℕ) (at : ℕ) (first : Option Pair) (u : IsReadUpTo bytes at first) (f : ShotFields) (z : Trapezoid) (s : IsSpelled first (drop at bytes) f)
+front_length : (bytes : List ℕ) (at : ℕ) (first : Option Pair) (u : IsReadUpTo bytes at first) (f : ShotFields)
+    (z : Trapezoid) (s : IsSpelled first (drop at bytes) f)
     → length (front_after u.unit f.layer f.datatype (u.shots ++ z ∷ [])) ≡ at + length (spelling_of f.layer f.datatype z)
 unfolding front_after
 front_length bytes at first u f z s =
     let own = spelling_of f.layer f.datatype in
     let front : take at bytes ≡ head u.unit ++ flat_map own u.shots =
     u.text ∙ ap (λ (t : List ℕ). head u.unit ++ t) (same_front first u.layer u.datatype f.layer f.datatype u.shots u.pair_fits u.agrees s.agrees) in
-    let whole : length ((head u.unit ++ flat_map own u.shots) ++ own z) ≡ length (head u.unit ++ flat_map own (u.shots ++ z ∷ [])) = ap length (flat_map_more own (head u.unit) u.shots z) in
+    let whole : length ((head u.unit ++ flat_map own u.shots) ++ own z) ≡ length
+    (head u.unit ++ flat_map own (u.shots ++ z ∷ [])) = ap length (flat_map_more own (head u.unit) u.shots z) in
     let size : length (head u.unit ++ flat_map own u.shots) ≡ at = ap length (sym front) ∙ length-take-le at bytes u.within in
     omega (arith, whole, size, length-append (head u.unit ++ flat_map own u.shots) (own z))
 
-further : (bytes : List ℕ) (at : ℕ) (first : Option Pair) (u : IsReadUpTo bytes at first) (f : ShotFields) (z : Trapezoid) → IsSpelled first (drop at bytes) f → IsShot z → HasShape f z → Further bytes at
+further : (bytes : List ℕ) (at : ℕ) (first : Option Pair) (u : IsReadUpTo bytes at first) (f : ShotFields)
+    (z : Trapezoid) → IsSpelled first (drop at bytes) f → IsShot z → HasShape f z → Further bytes at
 unfolding front_after
 further bytes at first u f z s h shape =
     let front = front_after u.unit f.layer f.datatype (u.shots ++ z ∷ []) in
@@ -129,7 +135,9 @@ file_here bytes at first u e = record {
   layer = u.layer;
   datatype = u.datatype;
   agrees = u.agrees;
-  text = up_whole bytes at first u ∙ (ap (λ (t : List ℕ). head u.unit ++ (flat_map (spelling_of u.layer u.datatype) u.shots ++ t)) e ∙ sym (text_parts u.unit u.layer u.datatype u.shots));
+  text = up_whole bytes at first u
+      ∙ (ap (λ (t : List ℕ). head u.unit ++ (flat_map (spelling_of u.layer u.datatype) u.shots ++ t)) e ∙ sym
+      (text_parts u.unit u.layer u.datatype u.shots));
 }
 
 -- END, and each fault of a record, aside: a record follows
@@ -149,7 +157,8 @@ one_more bytes at first u no_file right last =
           )))),
     )))
 
-go_on : (fuel : ℕ) (bytes : List ℕ) (at : ℕ) (first : Option Pair) → IsReadUpTo bytes at first → length bytes - at ≤ fuel → IsNoFile bytes → HasNoFault bytes → ⊥
+go_on : (fuel : ℕ) (bytes : List ℕ) (at : ℕ) (first : Option Pair) → IsReadUpTo bytes at first
+    → length bytes - at ≤ fuel → IsNoFile bytes → HasNoFault bytes → ⊥
 go_on zero bytes at first u few no_file right = one_more bytes at first u no_file right (λ m. omega (arith, m.more, m.up.within, few))
 go_on (suc fuel) bytes at first u few no_file right =
     one_more bytes at first u no_file right (λ m. go_on fuel bytes m.to m.pair m.up (omega (arith, m.more, few)) no_file right)

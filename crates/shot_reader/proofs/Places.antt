@@ -24,19 +24,24 @@ after_text at bytes text after h e =
     ap (λ (n : ℕ). drop (n + length text) bytes) (sym (take_size at bytes h))
     ∙ (ap (λ (l : List ℕ). drop (length (take at bytes) + length text) l) (split_at at bytes text after e) ∙ after_by (take at bytes) text after)
 
-pub unsigned_there : (at n : ℕ) (bytes after : List ℕ) → at ≤ length bytes → n < 2 ^ 63 → drop at bytes ≡ unsigned_text n ++ after → HasUnsigned bytes at n (at + length (unsigned_text n))
+pub unsigned_there : (at n : ℕ) (bytes after : List ℕ) → at ≤ length bytes → n < 2 ^ 63
+    → drop at bytes ≡ unsigned_text n ++ after → HasUnsigned bytes at n (at + length (unsigned_text n))
 unsigned_there at n bytes after h narrow e =
     subst (λ (p : ℕ). HasUnsigned bytes p n (p + length (unsigned_text n))) (take_size at bytes h)
-    (subst (λ (l : List ℕ). HasUnsigned l (length (take at bytes)) n (length (take at bytes) + length (unsigned_text n))) (sym (split_at at bytes (unsigned_text n) after e)) (unsigned_back n (take at bytes) after narrow))
+    (subst (λ (l : List ℕ). HasUnsigned l (length (take at bytes)) n
+    (length (take at bytes) + length (unsigned_text n))) (sym (split_at at bytes (unsigned_text n) after e))
+    (unsigned_back n (take at bytes) after narrow))
 
 -- the offset and what follows, for a number that was read
-pub read_next : {A : Type 0} (z w : A) (at next : ℕ) (bytes text after : List ℕ) → at ≤ length bytes → drop at bytes ≡ text ++ after → w ≡ z → next ≡ at + length text → (w ≡ z) × (drop next bytes ≡ after)
+pub read_next : {A : Type 0} (z w : A) (at next : ℕ) (bytes text after : List ℕ) → at ≤ length bytes
+    → drop at bytes ≡ text ++ after → w ≡ z → next ≡ at + length text → (w ≡ z) × (drop next bytes ≡ after)
 read_next z w at next bytes text after h e is n = (is, ap (λ (k : ℕ). drop k bytes) n ∙ after_text at bytes text after h e)
 
 -- a text that begins what stands at `at`, by the test of a slice
 pub stands_by : (rest text : List ℕ) (r : Bool) → r ≡ pointwise nat_eq text (take (length text) rest) → r ≡ true → rest ≡ text ++ drop (length text) rest
 stands_by rest text r e told =
-    sym (take-append-drop (length text) rest) ∙ ap (λ (l : List ℕ). l ++ drop (length text) rest) (sym (same_text text (take (length text) rest) (sym told ∙ e)))
+    sym (take-append-drop (length text) rest) ∙ ap (λ (l : List ℕ). l ++ drop (length text) rest)
+    (sym (same_text text (take (length text) rest) (sym told ∙ e)))
 
 pub begins_by : (rest text after : List ℕ) (r : Bool) → r ≡ pointwise nat_eq text (take (length text) rest) → rest ≡ text ++ after → r ≡ true
 begins_by rest text after true e w = refl
@@ -47,7 +52,8 @@ same_by xs ys true e w = refl
 same_by xs ys false e w = absurd (other_text xs ys e w)
 
 -- the unit of a head
-pub unit_there : (unit at : ℕ) (bytes after : List ℕ) → at ≡ min 19 (length bytes) → bytes ≡ head unit ++ after → drop at bytes ≡ unsigned_text unit ++ (after_unit ++ after)
+pub unit_there : (unit at : ℕ) (bytes after : List ℕ) → at ≡ min 19 (length bytes) → bytes ≡ head unit ++ after
+    → drop at bytes ≡ unsigned_text unit ++ (after_unit ++ after)
 unit_there unit at bytes after h e =
     let whole : bytes ≡ before_unit ++ (unsigned_text unit ++ (after_unit ++ after)) = e ∙ head_is unit after in
     let place : at ≡ 19 = omega (arith, h, ap length whole, length-append before_unit (unsigned_text unit ++ (after_unit ++ after))) in

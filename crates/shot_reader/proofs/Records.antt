@@ -13,7 +13,13 @@ pub not_begun : (bytes : List ℕ) (at : ℕ) → get_or bytes at 0 ≢ 2 → Be
 not_begun bytes at h b = h (byte_is bytes b.0 at 2 b.1)
 
 -- the fields that are spelled here are of another pair
-pub other_pair : (first : Option Pair) (rest after : List ℕ) (at : ℕ) (f : ShotFields) → AreNarrow f → rest ≡ text_of f ++ after → ((g : ShotFields) (x : List ℕ) → AreNarrow g → rest ≡ text_of g ++ x → f ≡ g)
+pub other_pair : (first : Option Pair) (rest after : List ℕ) (at : ℕ) (f : ShotFields) → AreNarrow f
+    → rest ≡ text_of f ++ after → ((g : ShotFields) (x : List ℕ) → AreNarrow g → rest ≡ text_of g ++ x → f ≡ g)
     → (Agrees first f.layer f.datatype → ⊥) → IsRecordFault first rest at (faults.Spelling at)
 other_pair first rest after at f h e one other =
-    inr (inr (inl (refl, text_whole f rest after h e, λ g s. other (subst (λ (k : ShotFields). Agrees first k.layer k.datatype) (sym (one g s.after s.narrow s.text)) s.agrees))))
+    inr (inr (inl (
+      refl,
+      text_whole f rest after h e,
+      λ g s. other
+          (subst (λ (k : ShotFields). Agrees first k.layer k.datatype) (sym (one g s.after s.narrow s.text)) s.agrees),
+    )))

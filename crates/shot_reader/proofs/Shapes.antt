@@ -13,11 +13,16 @@ use Rattle.shot_reader.specs.declared.corners.Corners.{Corners}
 use Rattle.shot_reader.specs.Fields.{HasShape, AreCorners, IsCornered}
 
 -- the trapezoid between the lines through the corners of a shot is the shot
-pub same_trap : (c : Corners) (z : Trapezoid) (l m : Line) → IsShot z → IsCornered c z → Passes l c.bottom_left → Passes l c.top_left → Passes m c.bottom_right → Passes m c.top_right
+pub same_trap : (c : Corners) (z : Trapezoid) (l m : Line) → IsShot z → IsCornered c z → Passes l c.bottom_left
+    → Passes l c.top_left → Passes m c.bottom_right → Passes m c.top_right
     → trapezoid c.bottom_left.y c.top_left.y l m ≡ z
 same_trap c z l m shot k p q r s =
-    let left : l ≡ z.left = line_names l z.left z.y0 z.y1 shot.legal.has_rows (sym (ap (x_on l) k.bottom_left_y) ∙ (sym p ∙ k.bottom_left)) (sym (ap (x_on l) k.top_left_y) ∙ (sym q ∙ k.top_left)) in
-    let right : m ≡ z.right = line_names m z.right z.y0 z.y1 shot.legal.has_rows (sym (ap (x_on m) k.bottom_right_y) ∙ (sym r ∙ k.bottom_right)) (sym (ap (x_on m) k.top_right_y) ∙ (sym s ∙ k.top_right)) in
+    let left : l ≡ z.left = line_names l z.left z.y0 z.y1 shot.legal.has_rows
+    (sym (ap (x_on l) k.bottom_left_y) ∙ (sym p ∙ k.bottom_left))
+    (sym (ap (x_on l) k.top_left_y) ∙ (sym q ∙ k.top_left)) in
+    let right : m ≡ z.right = line_names m z.right z.y0 z.y1 shot.legal.has_rows
+    (sym (ap (x_on m) k.bottom_right_y) ∙ (sym r ∙ k.bottom_right))
+    (sym (ap (x_on m) k.top_right_y) ∙ (sym s ∙ k.top_right)) in
     same_trapezoid c.bottom_left.y z.y0 c.top_left.y z.y1 l z.left m z.right k.bottom_left_y k.top_left_y left right
 
 -- a size that isn't negative
@@ -44,9 +49,13 @@ cornered f c z shot h k =
     let own_x : f.x ≡ least_x z = ap (λ (g : ShotFields). g.x) h in
     let own_y : f.y ≡ z.y0 = ap (λ (g : ShotFields). g.y) h in
     let rows : pos f.height ≡ z.y1 -ℤ z.y0 = size_back f.height (z.y1 -ℤ z.y0) (omega (arith, ints, shot.legal.has_rows)) own_height in
-    let wide : pos f.width ≡ box_width z = size_back f.width (box_width z) (width_some (x_on z.left z.y0) (x_on z.left z.y1) (x_on z.right z.y0) (x_on z.right z.y1) shot.legal.bottom) own_width in
+    let wide : pos f.width ≡ box_width z = size_back f.width (box_width z)
+    (width_some (x_on z.left z.y0) (x_on z.left z.y1) (x_on z.right z.y0)
+    (x_on z.right z.y1) shot.legal.bottom) own_width in
     let top : f.y +ℤ pos f.height ≡ z.y1 = ap (λ (y : ℤ). y +ℤ pos f.height) own_y ∙ sum_back z.y1 z.y0 (pos f.height) rows in
-    let most : f.x +ℤ pos f.width ≡ int_max (x_on z.right z.y0) (x_on z.right z.y1) = ap (λ (x : ℤ). x +ℤ pos f.width) own_x ∙ sum_back (int_max (x_on z.right z.y0) (x_on z.right z.y1)) (least_x z) (pos f.width) wide in
+    let most : f.x +ℤ pos f.width ≡ int_max (x_on z.right z.y0) (x_on z.right z.y1) = ap
+    (λ (x : ℤ). x +ℤ pos f.width) own_x ∙ sum_back (int_max (x_on z.right z.y0) (x_on z.right z.y1))
+    (least_x z) (pos f.width) wide in
     let lefts = least_names c.bottom_left.x c.top_left.x (x_on z.left z.y0) (x_on z.left z.y1) (k.least ∙ own_x) (k.left ∙ own_left) in
     let rights = greatest_names c.bottom_right.x c.top_right.x (x_on z.right z.y0) (x_on z.right z.y1) (k.greatest ∙ most) (k.right ∙ own_right) in
     record {
@@ -67,8 +76,15 @@ ap2 f {a} {b} {c} {d} p q = ap (λ (x : ℤ). f x c) p ∙ ap (f b) q
 pub shaped : (f : ShotFields) (c : Corners) (z : Trapezoid) → IsCornered c z → AreCorners f c → HasShape f z
 shaped f c z h k =
     same_fields f (fields_of f.layer f.datatype z) refl refl
-    (size_fore f.width (box_width z) (diff_back (int_max (x_on z.right z.y0) (x_on z.right z.y1)) (least_x z) (pos f.width) (ap2 int_max (sym h.bottom_right) (sym h.top_right) ∙ (k.greatest ∙ ap (λ (x : ℤ). x +ℤ pos f.width) (sym k.least ∙ ap2 int_min h.bottom_left h.top_left)))))
-    (size_fore f.height (z.y1 -ℤ z.y0) (diff_back z.y1 z.y0 (pos f.height) (sym h.top_left_y ∙ (k.top_left_y ∙ ap (λ (y : ℤ). y +ℤ pos f.height) (sym k.bottom_left_y ∙ h.bottom_left_y)))))
+    (size_fore f.width (box_width z)
+    (diff_back (int_max (x_on z.right z.y0) (x_on z.right z.y1)) (least_x z) (pos f.width)
+    (ap2 int_max (sym h.bottom_right)
+    (sym h.top_right) ∙ (k.greatest ∙ ap (λ (x : ℤ). x +ℤ pos f.width)
+    (sym k.least ∙ ap2 int_min h.bottom_left h.top_left)))))
+    (size_fore f.height (z.y1 -ℤ z.y0)
+    (diff_back z.y1 z.y0 (pos f.height)
+    (sym h.top_left_y ∙ (k.top_left_y ∙ ap (λ (y : ℤ). y +ℤ pos f.height)
+    (sym k.bottom_left_y ∙ h.bottom_left_y)))))
     (sym k.left ∙ ap2 (λ (a b : ℤ). a -ℤ b) h.top_left h.bottom_left)
     (sym k.right ∙ ap2 (λ (a b : ℤ). a -ℤ b) h.top_right h.bottom_right)
     (sym k.least ∙ ap2 int_min h.bottom_left h.top_left)

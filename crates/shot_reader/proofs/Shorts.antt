@@ -1,5 +1,6 @@
 -- A number that ends with no group of zeros is in its one shortest spelling.
-use Rattle.std.proofs.Common.{◌≡◌, ◌≢◌, ◌⊎◌, ℕ, zero, suc, ◌+◌, ◌-◌, ◌*◌, ◌/◌, ◌%◌, ◌^◌, ◌<◌, ◌≤◌, List, [], ◌∷◌, ◌++◌, length, take, drop, get_or, arith, inl, inr, ap, sym, subst, ◌∙◌}
+use Rattle.std.proofs.Common.{◌≡◌, ◌≢◌, ◌⊎◌, ℕ, zero, suc, ◌+◌, ◌-◌, ◌*◌, ◌/◌, ◌%◌, ◌^◌, ◌<◌, ◌≤◌, List, [], ◌∷◌, ◌++◌}
+use Rattle.std.proofs.Common.{length, take, drop, get_or, arith, inl, inr, ap, sym, subst, ◌∙◌}
 use Rattle.std.proofs.lemmas.Bool.{cases_lt, cases_eq}
 use Rattle.std.proofs.lemmas.List.{drop-drop, length-drop, length-append, take-append-drop, get_or-drop, get_or-take, get_or_append_left, drop_more}
 use Rattle.oas_lex.specs.Spelling.{groups, unsigned_text, signed_text}
@@ -43,7 +44,8 @@ none_whole : (ys : List ℕ) → IsWhole ys → length ys ≡ 0 → ⊥
 none_whole [] w h = w
 none_whole (y ∷ ys) w h = absurd (omega (arith, h))
 
-pub spelled_groups : (more : ℕ) (xs : List ℕ) (n : ℕ) → AreBytes xs → IsWhole xs → value_of xs ≡ n → n < below more → EndsSome xs ⊎ (length xs ≡ 1) → xs ≡ groups more n
+pub spelled_groups : (more : ℕ) (xs : List ℕ) (n : ℕ) → AreBytes xs → IsWhole xs → value_of xs ≡ n → n < below more
+    → EndsSome xs ⊎ (length xs ≡ 1) → xs ≡ groups more n
 spelled_groups more [] n b w v l e = absurd w
 spelled_groups more (x ∷ rest) n b (inl a) v l e =
     let none : value_of rest ≡ 0 = ap value_of a.1 in
@@ -59,7 +61,8 @@ spelled_groups (suc more) (x ∷ rest) n b (inr a) v l (inl e) =
     let some = some_value rest a.1 (ends_rest x rest e) in
     let small : x < 256 = b 0 in
     let first : x ≡ n % 128 + 128 = omega (arith, whole, a.0, small) in
-    let others : rest ≡ groups more (n / 128) = spelled_groups more rest (n / 128) (λ i. b (suc i)) a.1 (omega (arith, whole)) (omega (arith, l)) (inl (ends_rest x rest e)) in
+    let others : rest ≡ groups more (n / 128) = spelled_groups more rest (n / 128) (λ i. b (suc i)) a.1
+    (omega (arith, whole)) (omega (arith, l)) (inl (ends_rest x rest e)) in
     ap (λ (y : ℕ). y ∷ rest) first ∙ (ap (λ (t : List ℕ). (n % 128 + 128) ∷ t) others ∙ sym (groups_next more n (omega (arith, whole, some))))
 
 some_groups : (more n : ℕ) → 1 ≤ length (groups more n)
@@ -107,24 +110,40 @@ has_after bytes at n next h = omega (arith, whole_some (drop at bytes) (next - a
 
 size_is : (bytes : List ℕ) (at n next : ℕ) → HasUnsigned bytes at n next → length (take (next - at) (drop at bytes)) ≡ next - at
 size_is bytes at n next h =
-    omega (arith, has_after bytes at n next h, h.within, length-drop at bytes, ap length (take-append-drop (next - at) (drop at bytes)), length-append (take (next - at) (drop at bytes)) (drop (next - at) (drop at bytes)), length-drop (next - at) (drop at bytes))
+    omega (
+      arith,
+      has_after bytes at n next h,
+      h.within,
+      length-drop at bytes,
+      ap length
+          (take-append-drop (next - at) (drop at bytes)),
+      length-append (take (next - at) (drop at bytes))
+          (drop (next - at) (drop at bytes)),
+      length-drop (next - at) (drop at bytes),
+    )
 
-ends_by : (bytes : List ℕ) (at n next : ℕ) → HasUnsigned bytes at n next → IsShort bytes at next → EndsSome (take (next - at) (drop at bytes)) ⊎ (length (take (next - at) (drop at bytes)) ≡ 1)
+ends_by : (bytes : List ℕ) (at n next : ℕ) → HasUnsigned bytes at n next → IsShort bytes at next
+    → EndsSome (take (next - at) (drop at bytes)) ⊎ (length (take (next - at) (drop at bytes)) ≡ 1)
 ends_by bytes at n next h (inl one) = inr (omega (arith, size_is bytes at n next h, one))
 ends_by bytes at n next h (inr some) =
     let size = size_is bytes at n next h in
     let after = has_after bytes at n next h in
     inl (λ k g w.
     let place : at + k ≡ next - 1 = omega (arith, size, after, g) in
-    some (ap (λ (i : ℕ). get_or bytes i 0) (sym place) ∙ (sym (get_or-drop at bytes k 0) ∙ (sym (get_or-take (next - at) (drop at bytes) k 0 (omega (arith, size, g))) ∙ w))))
+    some (ap (λ (i : ℕ). get_or bytes i 0)
+    (sym place) ∙ (sym (get_or-drop at bytes k 0)
+    ∙ (sym (get_or-take (next - at) (drop at bytes) k 0 (omega (arith, size, g))) ∙ w))))
 
 -- the number is spelled there
-pub short_spelled : (bytes : List ℕ) (at n next : ℕ) → AreBytes bytes → HasUnsigned bytes at n next → IsShort bytes at next → drop at bytes ≡ unsigned_text n ++ drop next bytes
+pub short_spelled : (bytes : List ℕ) (at n next : ℕ) → AreBytes bytes → HasUnsigned bytes at n next
+    → IsShort bytes at next → drop at bytes ≡ unsigned_text n ++ drop next bytes
 unfolding unsigned_text
 short_spelled bytes at n next b h s =
     let after = has_after bytes at n next h in
     let text : take (next - at) (drop at bytes) ≡ groups 9 n =
-    spelled_groups 9 (take (next - at) (drop at bytes)) n (bytes_take (next - at) (drop at bytes) (bytes_drop at bytes b)) h.spells.whole h.spells.value (omega (arith, h.narrow)) (ends_by bytes at n next h s) in
+    spelled_groups 9 (take (next - at) (drop at bytes)) n
+    (bytes_take (next - at) (drop at bytes) (bytes_drop at bytes b)) h.spells.whole h.spells.value
+    (omega (arith, h.narrow)) (ends_by bytes at n next h s) in
     let place : at + (next - at) ≡ next = omega (arith, after) in
     sym (take-append-drop (next - at) (drop at bytes))
     ∙ (ap (λ (t : List ℕ). t ++ drop (next - at) (drop at bytes)) text
@@ -142,7 +161,9 @@ spelled_short bytes after at n h e =
           let place : at + length (groups 9 n) - 1 ≡ at + (length (groups 9 n) - 1) = omega (arith, some) in
           inr (λ w. groups_end 9 n (omega (arith, large)) (omega (arith, h)) (length (groups 9 n) - 1) (omega (arith, some))
           (sym (get_or_append_left (groups 9 n) after 0 (length (groups 9 n) - 1) (omega (arith, some)))
-          ∙ (ap (λ (t : List ℕ). get_or t (length (groups 9 n) - 1) 0) (sym e) ∙ (get_or-drop at bytes (length (groups 9 n) - 1) 0 ∙ (ap (λ (i : ℕ). get_or bytes i 0) (sym place) ∙ w)))))
+          ∙ (ap (λ (t : List ℕ). get_or t (length (groups 9 n) - 1) 0)
+          (sym e) ∙ (get_or-drop at bytes (length (groups 9 n) - 1) 0
+          ∙ (ap (λ (i : ℕ). get_or bytes i 0) (sym place) ∙ w)))))
     ]
 
 pub short_by : (bytes : List ℕ) (at m next : ℕ) → m ≡ next → IsShort bytes at m → IsShort bytes at next
@@ -156,14 +177,17 @@ plus_two : (at : ℕ) → at + 1 + 1 ≡ at + 2
 plus_two at = omega arith
 
 -- the id and the info byte, and what follows them
-pub opens_by : (bytes : List ℕ) (at start id info : ℕ) → get_or bytes at 0 ≡ id → start ≡ at + 2 → get_or bytes (at + 1) 0 ≡ info → start ≤ length bytes → drop at bytes ≡ id ∷ info ∷ drop start bytes
+pub opens_by : (bytes : List ℕ) (at start id info : ℕ) → get_or bytes at 0 ≡ id → start ≡ at + 2
+    → get_or bytes (at + 1) 0 ≡ info → start ≤ length bytes → drop at bytes ≡ id ∷ info ∷ drop start bytes
 opens_by bytes at start id info e s i h =
     drop_more bytes at 0 (omega (arith, s, h))
     ∙ (ap (λ (x : ℕ). x ∷ drop (at + 1) bytes) e
     ∙ ap (λ (t : List ℕ). id ∷ t) (drop_more bytes (at + 1) 0 (omega (arith, s, h))
     ∙ (ap (λ (x : ℕ). x ∷ drop (at + 1 + 1) bytes) i ∙ ap (λ (n : ℕ). info ∷ drop n bytes) (plus_two at ∙ sym s))))
 
-pub spelled_record : (f : ShotFields) (bytes : List ℕ) (at start a b w h l r x y : ℕ) → get_or bytes at 0 ≡ id_for f.left_delta f.right_delta → start ≡ at + 2 → get_or bytes (at + 1) 0 ≡ 123 → start ≤ length bytes
+pub spelled_record : (f : ShotFields) (bytes : List ℕ) (at start a b w h l r x y : ℕ)
+    → get_or bytes at 0 ≡ id_for f.left_delta f.right_delta → start ≡ at + 2 → get_or bytes (at + 1) 0 ≡ 123
+    → start ≤ length bytes
     → drop start bytes ≡ unsigned_text f.layer ++ drop a bytes → drop a bytes ≡ unsigned_text f.datatype ++ drop b bytes
     → drop b bytes ≡ unsigned_text f.width ++ drop w bytes → drop w bytes ≡ unsigned_text f.height ++ drop h bytes
     → drop h bytes ≡ delta_text f.left_delta ++ drop l bytes → drop l bytes ≡ delta_text f.right_delta ++ drop r bytes

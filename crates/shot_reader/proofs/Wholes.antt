@@ -24,20 +24,35 @@ count_by_tests true false = inr (inr (inr (refl, refl)))
 count_by_tests false true = inr (inr (inl (refl, refl)))
 count_by_tests false false = inr (inl (refl, refl))
 
-opened_ends : (f : ShotFields) (after : List ℕ) → AreNarrow f → 6 + cond (int_eq f.left_delta (pos 0)) 0 1 + cond (int_eq f.right_delta (pos 0)) 0 1 ≤ ends (opened f after)
+opened_ends : (f : ShotFields) (after : List ℕ) → AreNarrow f → 6 + cond (int_eq f.left_delta (pos 0)) 0 1 + cond
+    (int_eq f.right_delta (pos 0)) 0 1 ≤ ends (opened f after)
 opened_ends f after h =
     let y = signed_ends f.y after h.y in
     let x = signed_ends f.x (signed_text f.y ++ after) h.x in
     let r = delta_ends (int_eq f.right_delta (pos 0)) f.right_delta (signed_text f.x ++ (signed_text f.y ++ after)) h.right in
     let l = delta_ends (int_eq f.left_delta (pos 0)) f.left_delta (delta_text f.right_delta ++ (signed_text f.x ++ (signed_text f.y ++ after))) h.left in
     let d = unsigned_ends f.height (delta_text f.left_delta ++ (delta_text f.right_delta ++ (signed_text f.x ++ (signed_text f.y ++ after)))) h.height in
-    let c = unsigned_ends f.width (unsigned_text f.height ++ (delta_text f.left_delta ++ (delta_text f.right_delta ++ (signed_text f.x ++ (signed_text f.y ++ after))))) h.width in
-    let b = unsigned_ends f.datatype (unsigned_text f.width ++ (unsigned_text f.height ++ (delta_text f.left_delta ++ (delta_text f.right_delta ++ (signed_text f.x ++ (signed_text f.y ++ after)))))) h.datatype in
-    let a = unsigned_ends f.layer (unsigned_text f.datatype ++ (unsigned_text f.width ++ (unsigned_text f.height ++ (delta_text f.left_delta ++ (delta_text f.right_delta ++ (signed_text f.x ++ (signed_text f.y ++ after))))))) h.layer in
+    let c = unsigned_ends f.width
+    (unsigned_text f.height
+    ++ (delta_text f.left_delta
+    ++ (delta_text f.right_delta ++ (signed_text f.x ++ (signed_text f.y ++ after))))) h.width in
+    let b = unsigned_ends f.datatype
+    (unsigned_text f.width
+    ++ (unsigned_text f.height
+    ++ (delta_text f.left_delta
+    ++ (delta_text f.right_delta ++ (signed_text f.x ++ (signed_text f.y ++ after)))))) h.datatype in
+    let a = unsigned_ends f.layer
+    (unsigned_text f.datatype
+    ++ (unsigned_text f.width
+    ++ (unsigned_text f.height
+    ++ (delta_text f.left_delta
+    ++ (delta_text f.right_delta ++ (signed_text f.x ++ (signed_text f.y ++ after))))))) h.layer in
     omega arith
 
 pub text_whole : (f : ShotFields) (rest after : List ℕ) → AreNarrow f → rest ≡ text_of f ++ after → IsWhole rest
 text_whole f rest after h e =
     let own : IsWhole (id_for f.left_delta f.right_delta ∷ 123 ∷ opened f after) =
-    whole_by (id_for f.left_delta f.right_delta) (6 + cond (int_eq f.left_delta (pos 0)) 0 1 + cond (int_eq f.right_delta (pos 0)) 0 1) (opened f after) (count_by_tests (int_eq f.left_delta (pos 0)) (int_eq f.right_delta (pos 0))) (opened_ends f after h) in
+    whole_by (id_for f.left_delta f.right_delta)
+    (6 + cond (int_eq f.left_delta (pos 0)) 0 1 + cond (int_eq f.right_delta (pos 0)) 0 1) (opened f after)
+    (count_by_tests (int_eq f.left_delta (pos 0)) (int_eq f.right_delta (pos 0))) (opened_ends f after h) in
     rw (e, text_opens f after) own

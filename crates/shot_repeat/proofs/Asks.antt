@@ -25,12 +25,14 @@ abbrev pub NoneBegins : List ℕ → Type 0
 NoneBegins rest = (r : PackRecord) (after : List ℕ) → IsNarrow r → rest ≡ record_text r ++ after → ⊥
 
 -- what is spelled before a place where none is begins with any records that are spelled
-prefix : (rs ss : List PackRecord) (a b : List ℕ) → All IsNarrow rs → All IsNarrow ss → NoneBegins a → flat_map record_text rs ++ a ≡ flat_map record_text ss ++ b → (ts : List PackRecord) × (rs ≡ ss ++ ts)
+prefix : (rs ss : List PackRecord) (a b : List ℕ) → All IsNarrow rs → All IsNarrow ss → NoneBegins a
+    → flat_map record_text rs ++ a ≡ flat_map record_text ss ++ b → (ts : List PackRecord) × (rs ≡ ss ++ ts)
 prefix [] [] a b h k none e = ([], refl)
 prefix [] (s ∷ ss) a b h k none e = absurd (none s (flat_map record_text ss ++ b) (k 0 s (omega arith)) (e ∙ more s ss b))
 prefix (r ∷ rs) [] a b h k none e = (r ∷ rs, refl)
 prefix (r ∷ rs) (s ∷ ss) a b h k none e =
-    let both = one_record r s (flat_map record_text rs ++ a) (flat_map record_text ss ++ b) (h 0 r (omega arith)) (k 0 s (omega arith)) (sym (more r rs a) ∙ (e ∙ more s ss b)) in
+    let both = one_record r s (flat_map record_text rs ++ a) (flat_map record_text ss ++ b) (h 0 r (omega arith))
+    (k 0 s (omega arith)) (sym (more r rs a) ∙ (e ∙ more s ss b)) in
     let rest = prefix rs ss a b (narrow_rest r rs h) (narrow_rest s ss k) none both.1 in
     (rest.0, ap (λ (t : PackRecord). t ∷ rs) both.0 ∙ ap (λ (t : List PackRecord). s ∷ t) rest.1)
 
@@ -41,7 +43,8 @@ few_front rs ss ts e h = record {
 }
 
 -- the records up to a place where none is spelled are few, and so are any that begin there
-pub few_by : (rest after : List ℕ) (rs : List PackRecord) → All IsNarrow rs → rest ≡ flat_map record_text rs ++ after → AreFew rs → NoneBegins after → AskForFew rest
+pub few_by : (rest after : List ℕ) (rs : List PackRecord) → All IsNarrow rs → rest ≡ flat_map record_text rs ++ after
+    → AreFew rs → NoneBegins after → AskForFew rest
 few_by rest after rs narrow e few none ss b =
     let front = prefix rs ss after b.after narrow b.narrow none (sym e ∙ b.text) in
     few_front rs ss front.0 front.1 few
@@ -71,7 +74,9 @@ one_more rs r h all = All-append IsNarrow rs (r ∷ []) all (All-cons IsNarrow r
 few_more : (rs : List PackRecord) (r : PackRecord) → HasFew r → All HasFew rs → All HasFew (rs ++ r ∷ [])
 few_more rs r h all = All-append HasFew rs (r ∷ []) all (All-cons HasFew r [] h (λ k d below. absurd (omega arith)))
 
-text_on : (rest before after : List ℕ) (rs : List PackRecord) (r : PackRecord) → rest ≡ flat_map record_text rs ++ before → before ≡ record_text r ++ after → rest ≡ flat_map record_text (rs ++ r ∷ []) ++ after
+text_on : (rest before after : List ℕ) (rs : List PackRecord) (r : PackRecord)
+    → rest ≡ flat_map record_text rs ++ before → before ≡ record_text r ++ after
+    → rest ≡ flat_map record_text (rs ++ r ∷ []) ++ after
 text_on rest before after rs r e f =
     e ∙ (ap (λ (t : List ℕ). flat_map record_text rs ++ t) f
     ∙ (ap (λ (t : List ℕ). flat_map record_text rs ++ (t ++ after)) (sym (append-nil (record_text r)))
@@ -81,7 +86,9 @@ text_on rest before after rs r e f =
 count_on : (rs : List PackRecord) (r : PackRecord) → count_given (rs ++ r ∷ []) ≡ count_given rs + count_of r.repetition
 count_on rs r = omega (arith, sum_by-append (λ (s : PackRecord). count_of s.repetition) rs (r ∷ []))
 
-pub one_asked : (bytes : List ℕ) (at next after total count : ℕ) (r : PackRecord) → Asked bytes at next total → IsNarrow r → drop next bytes ≡ record_text r ++ drop after bytes → after ≤ length bytes → count ≡ count_of r.repetition
+pub one_asked : (bytes : List ℕ) (at next after total count : ℕ) (r : PackRecord) → Asked bytes at next total
+    → IsNarrow r → drop next bytes ≡ record_text r ++ drop after bytes → after ≤ length bytes
+    → count ≡ count_of r.repetition
     → count ≤ most_of_record → total + count ≤ most_of_file → Asked bytes at after (total + count)
 one_asked bytes at next after total count r a narrow e within c own all = record {
   within = within;
@@ -96,10 +103,17 @@ last_few : (rs : List PackRecord) (s : PackRecord) → All HasFew (rs ++ s ∷ [
 last_few rs s h = all_rest HasFew rs (s ∷ []) h 0 s (omega arith)
 
 -- a record too much
-pub too_many_asked : (bytes after : List ℕ) (at next total : ℕ) (r : PackRecord) → Asked bytes at next total → IsNarrow r → drop next bytes ≡ record_text r ++ after
+pub too_many_asked : (bytes after : List ℕ) (at next total : ℕ) (r : PackRecord) → Asked bytes at next total
+    → IsNarrow r → drop next bytes ≡ record_text r ++ after
     → AskForFew (drop at bytes) → (count_of r.repetition ≤ most_of_record) × (total + count_of r.repetition ≤ most_of_file)
 too_many_asked bytes after at next total r a narrow e few =
-    let all = few (a.records ++ r ∷ []) (record { narrow = one_more a.records r narrow a.narrow; after = after; text = text_on (drop at bytes) (drop next bytes) after a.records r a.text e }) in
+    let all = few (a.records ++ r ∷ [])
+    (record {
+      narrow = one_more a.records r narrow a.narrow;
+      after = after;
+      text = text_on (drop at bytes)
+          (drop next bytes) after a.records r a.text e;
+    }) in
     (last_few a.records r all.each, omega (arith, all.all, count_on a.records r, a.total_is))
 
 pub none_in_nothing : (rest : List ℕ) → rest ≡ [] → NoneBegins rest
@@ -109,7 +123,12 @@ pub none_in_end : (rest : List ℕ) → rest ≡ end → NoneBegins rest
 none_in_end rest e r after narrow f = record_not_end r _ after (sym e ∙ f)
 
 -- a file that was read to its end asks for few enough
-pub seen_few : (bytes : List ℕ) (unit : ℕ) (p q : Progress) (records : List PackRecord) (shots : List Trapezoid) → HasRead bytes unit [] p [] → HasRead bytes unit records q shots → drop q.at bytes ≡ end → AskForFew (drop p.at bytes)
+pub seen_few : (bytes : List ℕ) (unit : ℕ) (p q : Progress) (records : List PackRecord) (shots : List Trapezoid)
+    → HasRead bytes unit [] p [] → HasRead bytes unit records q shots → drop q.at bytes ≡ end
+    → AskForFew (drop p.at bytes)
 seen_few bytes unit p q records shots a h e =
-    let text : drop p.at bytes ≡ flat_map record_text records ++ drop q.at bytes = append_cancel_left (head unit) (drop p.at bytes) (flat_map record_text records ++ drop q.at bytes) (sym a.text ∙ h.text) in
-    few_by (drop p.at bytes) (drop q.at bytes) records (right_narrow [] records h.right) text (record { each = right_few [] records h.right; all = omega (arith, h.few, h.kept.count) }) (none_in_end (drop q.at bytes) e)
+    let text : drop p.at bytes ≡ flat_map record_text records ++ drop q.at bytes = append_cancel_left (head unit)
+    (drop p.at bytes) (flat_map record_text records ++ drop q.at bytes) (sym a.text ∙ h.text) in
+    few_by (drop p.at bytes) (drop q.at bytes) records (right_narrow [] records h.right) text
+    (record { each = right_few [] records h.right; all = omega (arith, h.few, h.kept.count) })
+    (none_in_end (drop q.at bytes) e)

@@ -1,5 +1,7 @@
 -- Runs of shots that follow one another by one step.
-use Rattle.std.proofs.Common.{◌≡◌, ℕ, zero, suc, ℤ, pos, ◌+◌, ◌-◌, ◌≤◌, ◌+ℤ◌, ◌-ℤ◌, ◌*ℤ◌, Bool, true, false, cond, ◌&&◌, nat_eq, nat_le, List, [], ◌∷◌, map, length, take, Option, Some, None, refl, arith, ap, sym, subst, ◌∙◌}
+use Rattle.std.proofs.Common.{◌≡◌, ℕ, zero, suc, ℤ, pos, ◌+◌, ◌-◌, ◌≤◌, ◌+ℤ◌, ◌-ℤ◌, ◌*ℤ◌, Bool, true, false, cond, ◌&&◌}
+use Rattle.std.proofs.Common.{nat_eq, nat_le, List, [], ◌∷◌, map, length, take, Option, Some, None, refl, arith, ap}
+use Rattle.std.proofs.Common.{sym, subst, ◌∙◌}
 use Rattle.std.specs.Ordering.{int_eq}
 use Rattle.std.proofs.lemmas.Int.{ints}
 use Rattle.std.proofs.lemmas.Bool.Decides.{Decides-eqb, Decides-int_eq, nat_tests}
@@ -53,7 +55,8 @@ stop_by true k e = absurd (cc)
 stop_by false k e = refl
 
 -- those that follow are the first, moved by more and more steps
-follow : (l d : ℕ) (step : Point) (base a : ShotFields) (rest : List ShotFields) (k n : ℕ) → AreOf l d (a ∷ rest) → a ≡ moved base step k → n ≤ followers step a rest → take n rest ≡ moved_from base step (suc k) n
+follow : (l d : ℕ) (step : Point) (base a : ShotFields) (rest : List ShotFields) (k n : ℕ) → AreOf l d (a ∷ rest)
+    → a ≡ moved base step k → n ≤ followers step a rest → take n rest ≡ moved_from base step (suc k) n
 follow l d step base a rest k zero h e g = refl
 follow l d step base a [] k (suc n) h e g = absurd (omega arith)
 follow l d step base a (b ∷ rest) k (suc n) h e g = by_test (is_step step a b) refl (λ next more. follow l d step base b rest (suc k) n h.2 next more)
@@ -61,7 +64,8 @@ follow l d step base a (b ∷ rest) k (suc n) h e g = by_test (is_step step a b)
     by_test : (p : Bool) → p ≡ is_step step a b → (b ≡ moved base step (suc k) → n ≤ followers step b rest → take n rest ≡ moved_from base step (suc (suc k)) n)
         → b ∷ take n rest ≡ moved base step (suc k) ∷ moved_from base step (suc (suc k)) n
     by_test true t others =
-        let next : b ≡ moved base step (suc k) = step_moves step a b (sym t) (h.0 ∙ sym h.2.0) (h.1 ∙ sym h.2.1) ∙ (ap (λ (f : ShotFields). moved f step 1) e ∙ moved_next base step k) in
+        let next : b ≡ moved base step (suc k) = step_moves step a b (sym t) (h.0 ∙ sym h.2.0)
+        (h.1 ∙ sym h.2.1) ∙ (ap (λ (f : ShotFields). moved f step 1) e ∙ moved_next base step k) in
         let more : n ≤ followers step b rest = omega (arith, g, follow_by (is_step step a b) (followers step b rest) (sym t)) in
         ap (λ (f : ShotFields). f ∷ take n rest) next ∙ ap (λ (t : List ShotFields). moved base step (suc k) ∷ t) (others next more)
     by_test false t others = absurd (omega (arith, g, stop_by (is_step step a b) (followers step b rest) (sym t)))
@@ -85,7 +89,8 @@ run_within (a ∷ []) = omega arith
 run_within (a ∷ b ∷ rest) = omega (arith, few_follow (step_between a b) a (b ∷ rest))
 
 -- the run from the first shot on
-run_is : (l d : ℕ) (a b : ShotFields) (rest : List ShotFields) (n : ℕ) → AreOf l d (a ∷ b ∷ rest) → suc n ≤ run_length (a ∷ b ∷ rest) → take (suc n) (a ∷ b ∷ rest) ≡ moved_from a (step_between a b) 0 (suc n)
+run_is : (l d : ℕ) (a b : ShotFields) (rest : List ShotFields) (n : ℕ) → AreOf l d (a ∷ b ∷ rest)
+    → suc n ≤ run_length (a ∷ b ∷ rest) → take (suc n) (a ∷ b ∷ rest) ≡ moved_from a (step_between a b) 0 (suc n)
 run_is l d a b rest n h g =
     let step = step_between a b in
     ap (λ (f : ShotFields). f ∷ take n (b ∷ rest)) (moved_none a step)
@@ -106,7 +111,9 @@ one_given f rest = record {
   given = ap (λ (g : ShotFields). g ∷ []) (sym (moved_none f (record { x = pos 0; y = pos 0 })));
 }
 
-more_given : (l d : ℕ) (a b : ShotFields) (rest : List ShotFields) (m : ℕ) → AreOf l d (a ∷ b ∷ rest) → m + 2 ≡ run_length (a ∷ b ∷ rest) → Stands a (b ∷ rest) (Some (record { more = m; x = b.x -ℤ a.x; y = b.y -ℤ a.y }))
+more_given : (l d : ℕ) (a b : ShotFields) (rest : List ShotFields) (m : ℕ) → AreOf l d (a ∷ b ∷ rest)
+    → m + 2 ≡ run_length (a ∷ b ∷ rest)
+    → Stands a (b ∷ rest) (Some (record { more = m; x = b.x -ℤ a.x; y = b.y -ℤ a.y }))
 more_given l d a b rest m h e = record {
   few = omega (arith, e, run_few (a ∷ b ∷ rest));
   within = omega (arith, e, run_within (a ∷ b ∷ rest));
@@ -120,7 +127,9 @@ pub stands : (l d : ℕ) (f : ShotFields) (rest : List ShotFields) → AreOf l d
 stands l d a [] h = one_given a []
 stands l d a (b ∷ rest) h = by_test (nat_le 3 (run_length (a ∷ b ∷ rest))) refl
   where
-    by_test : (p : Bool) → p ≡ nat_le 3 (run_length (a ∷ b ∷ rest)) → Stands a (b ∷ rest) (cond p (Some (record { more = run_length (a ∷ b ∷ rest) - 2; x = b.x -ℤ a.x; y = b.y -ℤ a.y })) None)
+    by_test : (p : Bool) → p ≡ nat_le 3 (run_length (a ∷ b ∷ rest))
+        → Stands a (b ∷ rest)
+        (cond p (Some (record { more = run_length (a ∷ b ∷ rest) - 2; x = b.x -ℤ a.x; y = b.y -ℤ a.y })) None)
     by_test true t = more_given l d a b rest (run_length (a ∷ b ∷ rest) - 2) h (three (run_length (a ∷ b ∷ rest)) (sym t))
       where
         three : (n : ℕ) → nat_le 3 n ≡ true → n - 2 + 2 ≡ n
@@ -140,20 +149,30 @@ moves_step : (step : Point) (a b : ShotFields) → b ≡ moved a step 1 → is_s
 moves_step step a b e =
     and_back (has_shape_of a b) (int_eq (b.x -ℤ a.x) step.x && int_eq (b.y -ℤ a.y) step.y)
     (and_back (nat_eq a.width b.width && nat_eq a.height b.height) (int_eq a.left_delta b.left_delta && int_eq a.right_delta b.right_delta)
-    (and_back (nat_eq a.width b.width) (nat_eq a.height b.height) ((Decides-eqb a.width b.width).1 (sym (ap (λ (f : ShotFields). f.width) e))) ((Decides-eqb a.height b.height).1 (sym (ap (λ (f : ShotFields). f.height) e))))
-    (and_back (int_eq a.left_delta b.left_delta) (int_eq a.right_delta b.right_delta) ((Decides-int_eq a.left_delta b.left_delta).1 (sym (ap (λ (f : ShotFields). f.left_delta) e))) ((Decides-int_eq a.right_delta b.right_delta).1 (sym (ap (λ (f : ShotFields). f.right_delta) e)))))
+    (and_back (nat_eq a.width b.width) (nat_eq a.height b.height)
+    ((Decides-eqb a.width b.width).1 (sym (ap (λ (f : ShotFields). f.width) e)))
+    ((Decides-eqb a.height b.height).1 (sym (ap (λ (f : ShotFields). f.height) e))))
+    (and_back (int_eq a.left_delta b.left_delta) (int_eq a.right_delta b.right_delta)
+    ((Decides-int_eq a.left_delta b.left_delta).1 (sym (ap (λ (f : ShotFields). f.left_delta) e)))
+    ((Decides-int_eq a.right_delta b.right_delta).1 (sym (ap (λ (f : ShotFields). f.right_delta) e)))))
     (and_back (int_eq (b.x -ℤ a.x) step.x) (int_eq (b.y -ℤ a.y) step.y)
     ((Decides-int_eq (b.x -ℤ a.x) step.x).1 (step_back a.x b.x step.x (ap (λ (f : ShotFields). f.x) e)))
     ((Decides-int_eq (b.y -ℤ a.y) step.y).1 (step_back a.y b.y step.y (ap (λ (f : ShotFields). f.y) e))))
 
-back : (step : Point) (base a : ShotFields) (rest : List ShotFields) (k n : ℕ) → a ≡ moved base step k → n ≤ length rest → take n rest ≡ moved_from base step (suc k) n → n ≤ followers step a rest
+back : (step : Point) (base a : ShotFields) (rest : List ShotFields) (k n : ℕ) → a ≡ moved base step k
+    → n ≤ length rest → take n rest ≡ moved_from base step (suc k) n → n ≤ followers step a rest
 back step base a rest k zero e h g = omega arith
 back step base a [] k (suc n) e h g = absurd (omega arith)
 back step base a (b ∷ rest) k (suc n) e h g =
     let first : b ≡ moved base step (suc k) = cc in
     let others : take n rest ≡ moved_from base step (suc (suc k)) n = cc in
     let next : b ≡ moved a step 1 = first ∙ (sym (moved_next base step k) ∙ ap (λ (f : ShotFields). moved f step 1) (sym e)) in
-    omega (arith, follow_by (is_step step a b) (followers step b rest) (moves_step step a b next), back step base b rest (suc k) n first (omega (arith, h)) others)
+    omega (
+      arith,
+      follow_by (is_step step a b) (followers step b rest)
+          (moves_step step a b next),
+      back step base b rest (suc k) n first (omega (arith, h)) others,
+    )
 
 longest_by : (a b first : ShotFields) (rest : List ShotFields) (step : Point) (n : ℕ) → suc (suc n) ≤ most_of_record → suc (suc n) ≤ length (a ∷ b ∷ rest)
     → take (suc (suc n)) (a ∷ b ∷ rest) ≡ moved_from first step 0 (suc (suc n)) → suc (suc n) ≤ run_length (a ∷ b ∷ rest)
@@ -162,8 +181,12 @@ longest_by a b first rest step n few within e =
     let two : b ≡ moved first step 1 = cc in
     let others : take (suc n) (b ∷ rest) ≡ moved_from first step 1 (suc n) = cc in
     let next : b ≡ moved a step 1 = two ∙ (sym (moved_next first step 0) ∙ ap (λ (f : ShotFields). moved f step 1) (sym one)) in
-    let same : step_between a b ≡ step = same_point (step_between a b) step (step_back a.x b.x step.x (ap (λ (f : ShotFields). f.x) next)) (step_back a.y b.y step.y (ap (λ (f : ShotFields). f.y) next)) in
-    let many : suc n ≤ followers (step_between a b) a (b ∷ rest) = subst (λ (s : Point). suc n ≤ followers s a (b ∷ rest)) (sym same) (back step first a (b ∷ rest) 0 (suc n) one (omega (arith, within)) others) in
+    let same : step_between a b ≡ step = same_point (step_between a b) step
+    (step_back a.x b.x step.x (ap (λ (f : ShotFields). f.x) next))
+    (step_back a.y b.y step.y (ap (λ (f : ShotFields). f.y) next)) in
+    let many : suc n ≤ followers (step_between a b) a (b ∷ rest) = subst
+    (λ (s : Point). suc n ≤ followers s a (b ∷ rest)) (sym same)
+    (back step first a (b ∷ rest) 0 (suc n) one (omega (arith, within)) others) in
     omega (arith, few, many)
 
 pub longest : (fs : List ShotFields) (count : ℕ) → IsRun fs count → count ≤ run_length fs
@@ -179,13 +202,22 @@ nothing = record { layer = 0; datatype = 0; width = 0; height = 0; left_delta = 
 no_point : Point
 no_point = record { x = pos 0; y = pos 0 }
 
-run_by : (l d : ℕ) (a b : ShotFields) (rest : List ShotFields) (n : ℕ) → AreOf l d (a ∷ b ∷ rest) → n ≡ run_length (a ∷ b ∷ rest) → take n (a ∷ b ∷ rest) ≡ moved_from a (step_between a b) 0 n
+run_by : (l d : ℕ) (a b : ShotFields) (rest : List ShotFields) (n : ℕ) → AreOf l d (a ∷ b ∷ rest)
+    → n ≡ run_length (a ∷ b ∷ rest) → take n (a ∷ b ∷ rest) ≡ moved_from a (step_between a b) 0 n
 run_by l d a b rest zero h e = absurd (omega (arith, e))
 run_by l d a b rest (suc n) h e = run_is l d a b rest n h (omega (arith, e))
 
 pub run : (l d : ℕ) (fs : List ShotFields) → AreOf l d fs → IsRun fs (run_length fs)
 run l d [] h = record { few = omega arith; first = nothing; step = no_point; within = omega arith; are = refl }
-run l d (a ∷ []) h = record { few = omega arith; first = a; step = no_point; within = omega arith; are = ap (λ (f : ShotFields). f ∷ []) (moved_none a no_point) }
+run l d (a ∷ []) h =
+    record {
+      few = omega arith;
+      first = a;
+      step = no_point;
+      within = omega arith;
+      are = ap (λ (f : ShotFields). f ∷ [])
+          (moved_none a no_point);
+    }
 run l d (a ∷ b ∷ rest) h = record {
   few = run_few (a ∷ b ∷ rest);
   first = a;

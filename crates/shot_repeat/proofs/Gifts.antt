@@ -1,5 +1,6 @@
 -- The shots that records give.
-use Rattle.std.proofs.Common.{◌≡◌, ℕ, zero, suc, ℤ, pos, ◌≤◌, ◌+ℤ◌, ◌*ℤ◌, List, [], ◌∷◌, ◌++◌, map, length, Option, Some, None, All, refl, arith, ap, sym, ◌∙◌, append_assoc}
+use Rattle.std.proofs.Common.{◌≡◌, ℕ, zero, suc, ℤ, pos, ◌≤◌, ◌+ℤ◌, ◌*ℤ◌, List, [], ◌∷◌, ◌++◌, map, length, Option}
+use Rattle.std.proofs.Common.{Some, None, All, refl, arith, ap, sym, ◌∙◌, append_assoc}
 use Rattle.std.proofs.lemmas.List.{append-nil}
 use Rattle.std.proofs.lemmas.List.Elements.{All-cons}
 use Rattle.std.proofs.lemmas.Int.{ints}
@@ -24,7 +25,8 @@ pub moved_none : (f : ShotFields) (step : Point) → f ≡ moved f step 0
 moved_none f step = same_fields f (moved f step 0) refl refl refl refl refl refl (no_step f.x step.x) (no_step f.y step.y)
 
 pub moved_next : (f : ShotFields) (step : Point) (k : ℕ) → moved (moved f step k) step 1 ≡ moved f step (suc k)
-moved_next f step k = same_fields (moved (moved f step k) step 1) (moved f step (suc k)) refl refl refl refl refl refl (next_step k f.x step.x) (next_step k f.y step.y)
+moved_next f step k = same_fields (moved (moved f step k) step 1) (moved f step (suc k)) refl refl refl refl refl refl
+    (next_step k f.x step.x) (next_step k f.y step.y)
 
 pub length_moved : (f : ShotFields) (step : Point) (k count : ℕ) → length (moved_from f step k count) ≡ count
 length_moved f step k zero = refl
@@ -43,11 +45,14 @@ some_given (Some p) = omega arith
 pub all_more : (before rs : List PackRecord) (r : PackRecord) → all_given before (rs ++ r ∷ []) ≡ all_given before rs ++ given (before ++ rs) r
 all_more before [] r = append-nil (given before r) ∙ ap (λ (b : List PackRecord). given b r) (sym (append-nil before))
 all_more before (s ∷ rs) r =
-    ap (λ (t : List ShotFields). given before s ++ t) (all_more (before ++ s ∷ []) rs r ∙ ap (λ (b : List PackRecord). all_given (before ++ s ∷ []) rs ++ given b r) (append_assoc before (s ∷ []) rs))
+    ap (λ (t : List ShotFields). given before s ++ t)
+    (all_more (before ++ s ∷ []) rs r ∙ ap (λ (b : List PackRecord). all_given (before ++ s ∷ []) rs ++ given b r)
+    (append_assoc before (s ∷ []) rs))
     ∙ sym (append_assoc (given before s) (all_given (before ++ s ∷ []) rs) (given (before ++ s ∷ rs) r))
 
 -- the first of what a record gives
-pub first_given : (f : ShotFields) (step : Point) (k count : ℕ) (l d : ℕ) (zs : List Trapezoid) → 1 ≤ count → map (fields_of l d) zs ≡ moved_from f step k count → (l ≡ f.layer) × (d ≡ f.datatype)
+pub first_given : (f : ShotFields) (step : Point) (k count : ℕ) (l d : ℕ) (zs : List Trapezoid) → 1 ≤ count
+    → map (fields_of l d) zs ≡ moved_from f step k count → (l ≡ f.layer) × (d ≡ f.datatype)
 first_given f step k zero l d zs h e = absurd (omega arith)
 first_given f step k (suc count) l d [] h e = absurd (cc)
 first_given f step k (suc count) l d (z ∷ zs) h e =

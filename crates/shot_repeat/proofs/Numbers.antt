@@ -1,5 +1,6 @@
 -- Where numbers end, however they are spelled.
-use Rattle.std.proofs.Common.{◌≡◌, ℕ, suc, ◌+◌, ◌-◌, ◌<◌, ◌≤◌, List, [], ◌∷◌, ◌++◌, length, drop, get_or, All, refl, arith, ap, sym, subst, ◌∙◌, inl, inr, append_assoc}
+use Rattle.std.proofs.Common.{◌≡◌, ℕ, suc, ◌+◌, ◌-◌, ◌<◌, ◌≤◌, List, [], ◌∷◌, ◌++◌, length, drop, get_or, All, refl}
+use Rattle.std.proofs.Common.{arith, ap, sym, subst, ◌∙◌, inl, inr, append_assoc}
 use Rattle.std.specs.List.{concat}
 use Rattle.std.proofs.lemmas.List.{drop_more, length-drop}
 use Rattle.std.proofs.lemmas.List.Elements.{All-append, All-cons}
@@ -27,24 +28,31 @@ pub record GoneOn (bytes : List ℕ) (at next : ℕ) : Type 0 where
   pub on : All (λ b. 128 ≤ b) front
   pub text : drop at bytes ≡ front ++ drop next bytes
 
-pub gone_more : (bytes : List ℕ) (at next byte : ℕ) → GoneOn bytes at next → next < length bytes → byte ≡ get_or bytes next 0 → 128 ≤ byte → GoneOn bytes at (next + 1)
+pub gone_more : (bytes : List ℕ) (at next byte : ℕ) → GoneOn bytes at next → next < length bytes
+    → byte ≡ get_or bytes next 0 → 128 ≤ byte → GoneOn bytes at (next + 1)
 gone_more bytes at next byte g h e on = record {
   within = omega (arith, h);
   front = g.front ++ byte ∷ [];
   on = All-append (λ (b : ℕ). 128 ≤ b) g.front (byte ∷ []) g.on (All-cons (λ (b : ℕ). 128 ≤ b) byte [] on (λ k d below. absurd (omega arith)));
-  text = g.text ∙ (ap (λ (t : List ℕ). g.front ++ t) (drop_more bytes next 0 h ∙ ap (λ (b : ℕ). b ∷ drop (next + 1) bytes) (sym e)) ∙ sym (append_assoc g.front (byte ∷ []) (drop (next + 1) bytes)));
+  text = g.text ∙ (ap (λ (t : List ℕ). g.front ++ t)
+      (drop_more bytes next 0 h ∙ ap (λ (b : ℕ). b ∷ drop (next + 1) bytes) (sym e)) ∙ sym
+      (append_assoc g.front (byte ∷ []) (drop (next + 1) bytes)));
 }
 
-pub gone_last : (bytes : List ℕ) (at next byte : ℕ) → GoneOn bytes at next → next < length bytes → byte ≡ get_or bytes next 0 → byte < 128 → NumberAt bytes at (next + 1)
+pub gone_last : (bytes : List ℕ) (at next byte : ℕ) → GoneOn bytes at next → next < length bytes
+    → byte ≡ get_or bytes next 0 → byte < 128 → NumberAt bytes at (next + 1)
 gone_last bytes at next byte g h e last = record {
   within = omega (arith, h);
   number = g.front ++ byte ∷ [];
   is = (g.front, byte, refl, g.on, last);
-  text = g.text ∙ (ap (λ (t : List ℕ). g.front ++ t) (drop_more bytes next 0 h ∙ ap (λ (b : ℕ). b ∷ drop (next + 1) bytes) (sym e)) ∙ sym (append_assoc g.front (byte ∷ []) (drop (next + 1) bytes)));
+  text = g.text ∙ (ap (λ (t : List ℕ). g.front ++ t)
+      (drop_more bytes next 0 h ∙ ap (λ (b : ℕ). b ∷ drop (next + 1) bytes) (sym e)) ∙ sym
+      (append_assoc g.front (byte ∷ []) (drop (next + 1) bytes)));
 }
 
 -- another number that stands there has the same end
-pub same_end : (bytes : List ℕ) (at next : ℕ) (number after : List ℕ) → NumberAt bytes at next → IsNumber number → drop at bytes ≡ number ++ after → drop next bytes ≡ after
+pub same_end : (bytes : List ℕ) (at next : ℕ) (number after : List ℕ) → NumberAt bytes at next → IsNumber number
+    → drop at bytes ≡ number ++ after → drop next bytes ≡ after
 same_end bytes at next number after n h e = (one_number n.number number (drop next bytes) after n.is h (sym n.text ∙ e)).1
 
 not_on : (xs front after : List ℕ) (last : ℕ) → All (λ b. 128 ≤ b) xs → last < 128 → xs ≡ front ++ (last ∷ after) → ⊥
@@ -60,7 +68,8 @@ nothing_left bytes next h = none (drop next bytes) (omega (arith, length-drop ne
     none (x ∷ xs) e = absurd (omega arith)
 
 -- where all bytes go on, no number stands
-pub no_number : (bytes : List ℕ) (at next : ℕ) (number after : List ℕ) → GoneOn bytes at next → length bytes ≤ next → IsNumber number → drop at bytes ≡ number ++ after → ⊥
+pub no_number : (bytes : List ℕ) (at next : ℕ) (number after : List ℕ) → GoneOn bytes at next → length bytes ≤ next
+    → IsNumber number → drop at bytes ≡ number ++ after → ⊥
 no_number bytes at next number after g h n e =
     let rest : drop next bytes ≡ [] = nothing_left bytes next h in
     let whole : g.front ++ [] ≡ n.0 ++ (n.1 ∷ after) =
@@ -98,7 +107,8 @@ pub record FirstLeft (rest : List ℕ) (count : ℕ) (after : List ℕ) : Type 0
   pub text : rest ≡ number ++ others
   pub left : Left others count after
 
-left_by : (rest : List ℕ) (count : ℕ) (after : List ℕ) (ns : List (List ℕ)) → length ns ≡ suc count → All IsNumber ns → rest ≡ concat ns ++ after → FirstLeft rest count after
+left_by : (rest : List ℕ) (count : ℕ) (after : List ℕ) (ns : List (List ℕ)) → length ns ≡ suc count → All IsNumber ns
+    → rest ≡ concat ns ++ after → FirstLeft rest count after
 left_by rest count after [] m h e = absurd (omega arith)
 left_by rest count after (n ∷ ns) m h e = record {
   number = n;
@@ -112,7 +122,8 @@ pub first_left : (rest : List ℕ) (count : ℕ) (after : List ℕ) → Left res
 first_left rest count after l = left_by rest count after l.numbers l.many l.are l.text
 
 -- after one more number there is one less
-pub left_less : (bytes : List ℕ) (next end count done : ℕ) (after : List ℕ) → done < count → NumberAt bytes next end → Left (drop next bytes) (count - done) after → Left (drop end bytes) (count - (done + 1)) after
+pub left_less : (bytes : List ℕ) (next end count done : ℕ) (after : List ℕ) → done < count → NumberAt bytes next end
+    → Left (drop next bytes) (count - done) after → Left (drop end bytes) (count - (done + 1)) after
 left_less bytes next end count done after h n l =
     let m : count - done ≡ suc (count - (done + 1)) = omega (arith, h) in
     let f = first_left (drop next bytes) (count - (done + 1)) after (rw m at l) in

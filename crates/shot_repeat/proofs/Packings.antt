@@ -1,5 +1,7 @@
 -- The packed text of shots stands for them.
-use Rattle.std.proofs.Common.{◌≡◌, ℕ, zero, suc, ℤ, pos, ◌-◌, ◌<◌, ◌≤◌, ◌^◌, ◌-ℤ◌, unsigned_abs, Bool, true, false, cond, nat_eq, nat_le, List, [], ◌∷◌, ◌++◌, map, take, drop, Option, Some, None, unwrap_or, is_some, All, refl, arith, ap, sym, subst, ◌∙◌}
+use Rattle.std.proofs.Common.{◌≡◌, ℕ, zero, suc, ℤ, pos, ◌-◌, ◌<◌, ◌≤◌, ◌^◌, ◌-ℤ◌, unsigned_abs, Bool, true, false}
+use Rattle.std.proofs.Common.{cond, nat_eq, nat_le, List, [], ◌∷◌, ◌++◌, map, take, drop, Option, Some, None, unwrap_or}
+use Rattle.std.proofs.Common.{is_some, All, refl, arith, ap, sym, subst, ◌∙◌}
 use Rattle.std.specs.Ordering.{int_eq}
 use Rattle.std.proofs.lemmas.Int.{ints}
 use Rattle.std.proofs.lemmas.Bool.Decides.{Decides-eqb, Decides-int_eq}
@@ -69,7 +71,8 @@ first_values f o = record {
   y = place_first f.y;
 }
 
-next_values : (before : List PackRecord) (e f : ShotFields) (o : Option Repetition) → HasValues before e → e.layer ≡ f.layer → e.datatype ≡ f.datatype → HasValues (before ++ packed_record (Some e) f o ∷ []) f
+next_values : (before : List PackRecord) (e f : ShotFields) (o : Option Repetition) → HasValues before e
+    → e.layer ≡ f.layer → e.datatype ≡ f.datatype → HasValues (before ++ packed_record (Some e) f o ∷ []) f
 next_values before e f o h l d =
     let r = packed_record (Some e) f o in
     record {
@@ -77,28 +80,36 @@ next_values before e f o h l d =
       datatype = last_more (λ (s : PackRecord). s.datatype) before r ∙ (h.datatype ∙ ap Some d);
       width = last_more (λ (s : PackRecord). s.width) before r ∙ changed_is e.width f.width (last_written (λ (s : PackRecord). s.width) before) h.width;
       height = last_more (λ (s : PackRecord). s.height) before r ∙ changed_is e.height f.height (last_written (λ (s : PackRecord). s.height) before) h.height;
-      x = ap (λ (p : Option ℤ). unwrap_or p (pos 0)) (last_more (λ (s : PackRecord). s.x) before r) ∙ place_is e.x f.x (last_written (λ (s : PackRecord). s.x) before) h.x;
-      y = ap (λ (p : Option ℤ). unwrap_or p (pos 0)) (last_more (λ (s : PackRecord). s.y) before r) ∙ place_is e.y f.y (last_written (λ (s : PackRecord). s.y) before) h.y;
+      x = ap (λ (p : Option ℤ). unwrap_or p (pos 0)) (last_more (λ (s : PackRecord). s.x) before r) ∙ place_is e.x f.x
+          (last_written (λ (s : PackRecord). s.x) before) h.x;
+      y = ap (λ (p : Option ℤ). unwrap_or p (pos 0)) (last_more (λ (s : PackRecord). s.y) before r) ∙ place_is e.y f.y
+          (last_written (λ (s : PackRecord). s.y) before) h.y;
     }
 
 abbrev IsOf : ℕ → ℕ → Option ShotFields → Type 0
 IsOf l d None = Unit {0}
 IsOf l d (Some e) = (e.layer ≡ l) × (e.datatype ≡ d)
 
-values_more : (before : List PackRecord) (last : Option ShotFields) (f : ShotFields) (o : Option Repetition) (l d : ℕ) → Matches before last → IsOf l d last → f.layer ≡ l → f.datatype ≡ d → HasValues (before ++ packed_record last f o ∷ []) f
+values_more : (before : List PackRecord) (last : Option ShotFields) (f : ShotFields) (o : Option Repetition) (l d : ℕ)
+    → Matches before last → IsOf l d last → f.layer ≡ l → f.datatype ≡ d
+    → HasValues (before ++ packed_record last f o ∷ []) f
 values_more before None f o l d h p e g = subst (λ (b : List PackRecord). HasValues (b ++ packed_record None f o ∷ []) f) (sym h) (first_values f o)
 values_more before (Some last) f o l d h p e g = next_values before last f o h (p.0 ∙ sym e) (p.1 ∙ sym g)
 
 some_is : (o : Option ℕ) (v : ℕ) → o ≡ Some v → unwrap_or o 0 ≡ v
 some_is o v e = ap (λ (p : Option ℕ). unwrap_or p 0) e
 
-record_deltas : (last : Option ShotFields) (f : ShotFields) (o : Option Repetition) → ((packed_record last f o).left_delta ≡ f.left_delta) × ((packed_record last f o).right_delta ≡ f.right_delta) × ((packed_record last f o).repetition ≡ o)
+record_deltas : (last : Option ShotFields) (f : ShotFields) (o : Option Repetition)
+    → ((packed_record last f o).left_delta ≡ f.left_delta) × ((packed_record last f o).right_delta ≡ f.right_delta)
+    × ((packed_record last f o).repetition ≡ o)
 record_deltas None f o = (refl, refl, refl)
 record_deltas (Some e) f o = (refl, refl, refl)
 
-values_fields : (before : List PackRecord) (r : PackRecord) (f : ShotFields) → HasValues (before ++ r ∷ []) f → r.left_delta ≡ f.left_delta → r.right_delta ≡ f.right_delta → fields_in before r ≡ f
+values_fields : (before : List PackRecord) (r : PackRecord) (f : ShotFields) → HasValues (before ++ r ∷ []) f
+    → r.left_delta ≡ f.left_delta → r.right_delta ≡ f.right_delta → fields_in before r ≡ f
 values_fields before r f h l m =
-    same_fields (fields_in before r) f (some_is _ f.layer h.layer) (some_is _ f.datatype h.datatype) (some_is _ f.width h.width) (some_is _ f.height h.height) l m h.x h.y
+    same_fields (fields_in before r) f (some_is _ f.layer h.layer) (some_is _ f.datatype h.datatype)
+    (some_is _ f.width h.width) (some_is _ f.height h.height) l m h.x h.y
 
 is_there : (o : Option ℕ) (v : ℕ) → o ≡ Some v → is_some o ≡ true
 is_there None v e = absurd (cc)
@@ -114,9 +125,11 @@ values_defined before r f h = record {
 
 -- ---- the shots
 
-given_is : (before : List PackRecord) (r : PackRecord) (f : ShotFields) (o : Option Repetition) (gs : List ShotFields) → fields_in before r ≡ f → r.repetition ≡ o → moved_from f (step_of o) 0 (count_of o) ≡ gs → given before r ≡ gs
+given_is : (before : List PackRecord) (r : PackRecord) (f : ShotFields) (o : Option Repetition) (gs : List ShotFields)
+    → fields_in before r ≡ f → r.repetition ≡ o → moved_from f (step_of o) 0 (count_of o) ≡ gs → given before r ≡ gs
 given_is before r f o gs e g h =
-    ap (λ (p : Option Repetition). moved_from (fields_in before r) (step_of p) 0 (count_of p)) g ∙ (ap (λ (k : ShotFields). moved_from k (step_of o) 0 (count_of o)) e ∙ h)
+    ap (λ (p : Option Repetition). moved_from (fields_in before r) (step_of p) 0 (count_of p)) g
+    ∙ (ap (λ (k : ShotFields). moved_from k (step_of o) 0 (count_of o)) e ∙ h)
 
 taken : {X : Type 0} (x : X) (xs : List X) (n : ℕ) → 1 ≤ n → take n (x ∷ xs) ++ drop (n - 1) xs ≡ x ∷ xs
 taken x xs zero h = absurd (omega arith)
@@ -129,7 +142,8 @@ record Says (before : List PackRecord) (records : List PackRecord) (fs : List Sh
   defined : AreDefined before records
   shots : all_given before records ≡ fs
 
-says : (l d : ℕ) (before : List PackRecord) (last : Option ShotFields) (skip : ℕ) (fs : List ShotFields) → Matches before last → IsOf l d last → AreOf l d fs → Says before (records_of last skip fs) (drop skip fs)
+says : (l d : ℕ) (before : List PackRecord) (last : Option ShotFields) (skip : ℕ) (fs : List ShotFields)
+    → Matches before last → IsOf l d last → AreOf l d fs → Says before (records_of last skip fs) (drop skip fs)
 says l d before last zero [] h p g = record { defined = tt; shots = refl }
 says l d before last (suc skip) [] h p g = record { defined = tt; shots = refl }
 says l d before last (suc skip) (f ∷ fs) h p g = says l d before last skip fs h p g.2
@@ -186,7 +200,8 @@ narrow_place old now h = by_test (int_eq old now)
     by_test true = tt
     by_test false = omega (arith, h)
 
-narrow_record : (last : Option ShotFields) (f : ShotFields) (o : Option Repetition) → AreNear f → f.layer < 2 ^ 63 → f.datatype < 2 ^ 63 → IsNarrowRepetition o → IsNarrow (packed_record last f o)
+narrow_record : (last : Option ShotFields) (f : ShotFields) (o : Option Repetition) → AreNear f → f.layer < 2 ^ 63
+    → f.datatype < 2 ^ 63 → IsNarrowRepetition o → IsNarrow (packed_record last f o)
 narrow_record None f o h l d r = record {
   layer = l;
   datatype = d;
@@ -210,7 +225,8 @@ narrow_record (Some e) f o h l d r = record {
   repetition = r;
 }
 
-narrow_records : (l d : ℕ) (last : Option ShotFields) (skip : ℕ) (fs : List ShotFields) → l < 2 ^ 63 → d < 2 ^ 63 → AllNear fs → AreOf l d fs → All IsNarrow (records_of last skip fs)
+narrow_records : (l d : ℕ) (last : Option ShotFields) (skip : ℕ) (fs : List ShotFields) → l < 2 ^ 63 → d < 2 ^ 63
+    → AllNear fs → AreOf l d fs → All IsNarrow (records_of last skip fs)
 narrow_records l d last zero [] p q h g = λ k x below. absurd (omega arith)
 narrow_records l d last (suc skip) [] p q h g = λ k x below. absurd (omega arith)
 narrow_records l d last (suc skip) (f ∷ fs) p q h g = narrow_records l d last skip fs p q h.1 g.2

@@ -26,17 +26,20 @@ none_put f step count before = record {
   left = ap (moved_from f step 0) (omega arith);
 }
 
-one_less : (f : ShotFields) (step : Point) (done count : ℕ) → done < count → moved_from f step done (count - done) ≡ moved f step done ∷ moved_from f step (suc done) (count - suc done)
+one_less : (f : ShotFields) (step : Point) (done count : ℕ) → done < count
+    → moved_from f step done (count - done) ≡ moved f step done ∷ moved_from f step (suc done) (count - suc done)
 one_less f step done count h = ap (moved_from f step done) (less done count h)
   where
     less : (done count : ℕ) → done < count → count - done ≡ suc (count - suc done)
     less done count h = omega (arith, h)
 
-shape_is : (f next : ShotFields) (step : Point) (done : ℕ) (z : Trapezoid) → next ≡ moved f step done → HasShape next z → fields_of f.layer f.datatype z ≡ moved f step done
+shape_is : (f next : ShotFields) (step : Point) (done : ℕ) (z : Trapezoid) → next ≡ moved f step done → HasShape next z
+    → fields_of f.layer f.datatype z ≡ moved f step done
 shape_is f next step done z e s =
     let same : HasShape (moved f step done) z = subst (λ (g : ShotFields). HasShape g z) e s in sym same
 
-pub one_put : (f next : ShotFields) (step : Point) (done count : ℕ) (before now later : List Trapezoid) (z : Trapezoid) → done < count → PutSoFar f step done count before now
+pub one_put : (f next : ShotFields) (step : Point) (done count : ℕ) (before now later : List Trapezoid) (z : Trapezoid)
+    → done < count → PutSoFar f step done count before now
     → next ≡ moved f step done → IsShot z → HasShape next z → later ≡ now ++ z ∷ [] → PutSoFar f step (suc done) count before later
 one_put f next step done count before now later z h p e shot s l =
     let own = fields_of f.layer f.datatype in
@@ -51,18 +54,29 @@ one_put f next step done count before now later z h p e shot s l =
           ∙ (ap (λ (t : List ShotFields). map own p.given ++ t) (sym (one_less f step done count h)) ∙ p.left)));
     }
 
-pub all_put : (f : ShotFields) (step : Point) (done count : ℕ) (before now : List Trapezoid) → count ≤ done → PutSoFar f step done count before now → (given : List Trapezoid) × (now ≡ before ++ given) × IsGivenBy f step count given
+pub all_put : (f : ShotFields) (step : Point) (done count : ℕ) (before now : List Trapezoid) → count ≤ done
+    → PutSoFar f step done count before now → (given : List Trapezoid) × (now ≡ before ++ given)
+    × IsGivenBy f step count given
 all_put f step done count before now h p =
     let none : count - done ≡ 0 = omega (arith, h) in
-    let own = fields_of f.layer f.datatype in
-    (p.given, p.put, record { legal = p.legal; are = sym (append-nil (map own p.given)) ∙ (ap (λ (n : ℕ). map own p.given ++ moved_from f step done n) (sym none) ∙ p.left) })
+    let own = fields_of f.layer f.datatype in (
+      p.given,
+      p.put,
+      record {
+        legal = p.legal;
+        are = sym (append-nil (map own p.given))
+            ∙ (ap (λ (n : ℕ). map own p.given ++ moved_from f step done n) (sym none) ∙ p.left);
+      },
+    )
 
-cons_shape : (own : Trapezoid → ShotFields) (zs : List Trapezoid) (g : ShotFields) (gs : List ShotFields) → map own zs ≡ g ∷ gs → All IsShot zs → (z : Trapezoid) × (own z ≡ g) × IsShot z
+cons_shape : (own : Trapezoid → ShotFields) (zs : List Trapezoid) (g : ShotFields) (gs : List ShotFields)
+    → map own zs ≡ g ∷ gs → All IsShot zs → (z : Trapezoid) × (own z ≡ g) × IsShot z
 cons_shape own [] g gs e h = absurd (cc)
 cons_shape own (z ∷ zs) g gs e h = (z, cc, h 0 z (omega arith))
 
 -- where the next one is no shot, the record gives no list of shots
-pub none_given : (f next : ShotFields) (step : Point) (done count : ℕ) (before now : List Trapezoid) → done < count → PutSoFar f step done count before now → next ≡ moved f step done
+pub none_given : (f next : ShotFields) (step : Point) (done count : ℕ) (before now : List Trapezoid) → done < count
+    → PutSoFar f step done count before now → next ≡ moved f step done
     → ((z : Trapezoid) → IsShot z → HasShape next z → ⊥) → (given : List Trapezoid) → IsGivenBy f step count given → ⊥
 none_given f next step done count before now h p e none given g =
     let own = fields_of f.layer f.datatype in

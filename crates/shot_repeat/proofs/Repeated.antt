@@ -1,5 +1,6 @@
 -- A repetition, and a whole record, by the numbers that stand there.
-use Rattle.std.proofs.Common.{◌≡◌, ℕ, ◌+◌, ◌%◌, ◌<◌, ◌≤◌, Bool, true, false, is_some, List, [], ◌∷◌, ◌++◌, length, drop, get_or, Option, Some, None, IfSome, All, refl, arith, ap, sym, subst, ◌∙◌, append_assoc}
+use Rattle.std.proofs.Common.{◌≡◌, ℕ, ◌+◌, ◌%◌, ◌<◌, ◌≤◌, Bool, true, false, is_some, List, [], ◌∷◌, ◌++◌, length, drop}
+use Rattle.std.proofs.Common.{get_or, Option, Some, None, IfSome, All, refl, arith, ap, sym, subst, ◌∙◌, append_assoc}
 use Rattle.std.specs.List.{concat}
 use Rattle.std.proofs.lemmas.List.{append-nil, drop-drop, drop_more, length-drop}
 use Rattle.std.proofs.lemmas.List.Elements.{All-cons}
@@ -18,18 +19,23 @@ none_there k d h = absurd (omega arith)
 abbrev pub delta_of : {rep : List ℕ} → IsRepetition rep → List ℕ → List ℕ
 delta_of i after = i.first ∷ (i.x ++ (i.y ++ after))
 
-rest_of : (bytes : List ℕ) (at : ℕ) (rep after : List ℕ) (i : IsRepetition rep) → drop at bytes ≡ rep ++ after → drop at bytes ≡ 9 ∷ (i.dimension ++ delta_of i after)
+rest_of : (bytes : List ℕ) (at : ℕ) (rep after : List ℕ) (i : IsRepetition rep) → drop at bytes ≡ rep ++ after
+    → drop at bytes ≡ 9 ∷ (i.dimension ++ delta_of i after)
 rest_of bytes at rep after i e = e ∙ (ap (λ (t : List ℕ). t ++ after) i.text ∙ simp append_assoc)
 
-pub dimension_left : (bytes : List ℕ) (at : ℕ) (rep after : List ℕ) (i : IsRepetition rep) → drop at bytes ≡ rep ++ after → Left (drop (at + 1) bytes) 1 (delta_of i after)
+pub dimension_left : (bytes : List ℕ) (at : ℕ) (rep after : List ℕ) (i : IsRepetition rep)
+    → drop at bytes ≡ rep ++ after → Left (drop (at + 1) bytes) 1 (delta_of i after)
 dimension_left bytes at rep after i e = record {
   numbers = i.dimension ∷ [];
   many = refl;
   are = All-cons IsNumber i.dimension [] i.dimension_ends none_there;
-  text = sym (drop-drop 1 at bytes) ∙ (ap (drop 1) (rest_of bytes at rep after i e) ∙ ap (λ (t : List ℕ). t ++ delta_of i after) (sym (append-nil i.dimension)));
+  text = sym (drop-drop 1 at bytes)
+      ∙ (ap (drop 1) (rest_of bytes at rep after i e) ∙ ap (λ (t : List ℕ). t ++ delta_of i after)
+      (sym (append-nil i.dimension)));
 }
 
-pub delta_left : (bytes : List ℕ) (delta : ℕ) (rep after : List ℕ) (i : IsRepetition rep) → drop delta bytes ≡ delta_of i after → Left (drop delta bytes) 2 after
+pub delta_left : (bytes : List ℕ) (delta : ℕ) (rep after : List ℕ) (i : IsRepetition rep)
+    → drop delta bytes ≡ delta_of i after → Left (drop delta bytes) 2 after
 delta_left bytes delta rep after i e = record {
   numbers = (i.first ∷ i.x) ∷ i.y ∷ [];
   many = refl;
@@ -91,7 +97,8 @@ pub record Repeated (bytes : List ℕ) (at : ℕ) : Type 0 where
   pub is : IsRepetition repetition
   pub text : drop at bytes ≡ repetition ++ after
 
-repeated_by : (bytes : List ℕ) (at delta next : ℕ) (dimension x y : List ℕ) → at < length bytes → get_or bytes at 0 ≡ 9 → IsNumber dimension → IsNumber x → IsNumber y
+repeated_by : (bytes : List ℕ) (at delta next : ℕ) (dimension x y : List ℕ) → at < length bytes → get_or bytes at 0 ≡ 9
+    → IsNumber dimension → IsNumber x → IsNumber y
     → drop (at + 1) bytes ≡ dimension ++ drop delta bytes → drop delta bytes ≡ x ++ (y ++ drop next bytes) → get_or bytes delta 0 % 2 ≡ 1 → Repeated bytes at
 repeated_by bytes at delta next dimension [] y h nine d s t e f odd = absurd (no_number s)
 repeated_by bytes at delta next dimension (b ∷ x) y h nine d s t e f odd = record {
@@ -113,11 +120,13 @@ repeated_by bytes at delta next dimension (b ∷ x) y h nine d s t e f odd = rec
       ∙ (ap (λ (l : List ℕ). 9 ∷ l) (e ∙ ap (λ (l : List ℕ). dimension ++ l) f) ∙ simp append_assoc));
 }
 
-pub repeated : (bytes : List ℕ) (at delta next : ℕ) → at < length bytes → get_or bytes at 0 ≡ 9 → NumbersAt bytes (at + 1) 1 delta → NumbersAt bytes delta 2 next → get_or bytes delta 0 % 2 ≡ 1 → Repeated bytes at
+pub repeated : (bytes : List ℕ) (at delta next : ℕ) → at < length bytes → get_or bytes at 0 ≡ 9
+    → NumbersAt bytes (at + 1) 1 delta → NumbersAt bytes delta 2 next → get_or bytes delta 0 % 2 ≡ 1 → Repeated bytes at
 repeated bytes at delta next h nine d s odd =
     let one = one_of d.numbers d.many d.are in
     let two = two_of s.numbers s.many s.are in
-    repeated_by bytes at delta next one.number two.number two.other h nine one.is two.is two.other_is (d.text ∙ one.text (drop delta bytes)) (s.text ∙ two.text (drop next bytes)) odd
+    repeated_by bytes at delta next one.number two.number two.other h nine one.is two.is two.other_is
+    (d.text ∙ one.text (drop delta bytes)) (s.text ∙ two.text (drop next bytes)) odd
 
 -- ---- a whole record
 
@@ -135,10 +144,12 @@ numbers_are bytes at w =
     subst (λ (n : ℕ). HasNumbers n (get_or bytes (at + 1) 0) (length w.numbers)) (sym (whole_id bytes at w))
     (subst (λ (n : ℕ). HasNumbers w.id n (length w.numbers)) (sym (whole_info bytes at w)) w.count)
 
-pub whole_has : (bytes : List ℕ) (at id info : ℕ) (w : IsWhole (drop at bytes)) → id ≡ get_or bytes at 0 → info ≡ get_or bytes (at + 1) 0 → HasNumbers id info (length w.numbers)
+pub whole_has : (bytes : List ℕ) (at id info : ℕ) (w : IsWhole (drop at bytes)) → id ≡ get_or bytes at 0
+    → info ≡ get_or bytes (at + 1) 0 → HasNumbers id info (length w.numbers)
 whole_has bytes at id info w e f = rw (e, f) (numbers_are bytes at w)
 
-pub whole_left : (bytes : List ℕ) (at count : ℕ) (w : IsWhole (drop at bytes)) → length w.numbers ≡ count → Left (drop (at + 2) bytes) count (w.repetition ++ w.after)
+pub whole_left : (bytes : List ℕ) (at count : ℕ) (w : IsWhole (drop at bytes)) → length w.numbers ≡ count
+    → Left (drop (at + 2) bytes) count (w.repetition ++ w.after)
 whole_left bytes at count w m = record {
   numbers = w.numbers;
   many = m;
@@ -150,16 +161,20 @@ repeats_by : (b : Bool) (rep : List ℕ) → b ≡ true → IsRepetitionIf b rep
 repeats_by true rep e h = h
 repeats_by false rep e h = absurd (cc)
 
-pub whole_repeats : (bytes : List ℕ) (at info : ℕ) (w : IsWhole (drop at bytes)) → info ≡ get_or bytes (at + 1) 0 → has info 4 ≡ true → IsRepetition w.repetition
+pub whole_repeats : (bytes : List ℕ) (at info : ℕ) (w : IsWhole (drop at bytes)) → info ≡ get_or bytes (at + 1) 0
+    → has info 4 ≡ true → IsRepetition w.repetition
 whole_repeats bytes at info w e h = repeats_by (has w.info 4) w.repetition (ap (λ (n : ℕ). has n 4) (sym (e ∙ whole_info bytes at w)) ∙ h) w.repeats
 
 two_more : (bytes : List ℕ) (at : ℕ) → at + 2 ≤ length bytes → drop at bytes ≡ get_or bytes at 0 ∷ get_or bytes (at + 1) 0 ∷ drop (at + 2) bytes
 two_more bytes at h =
     drop_more bytes at 0 (omega (arith, h))
-    ∙ ap (λ (t : List ℕ). get_or bytes at 0 ∷ t) (drop_more bytes (at + 1) 0 (omega (arith, h)) ∙ ap (λ (n : ℕ). get_or bytes (at + 1) 0 ∷ drop n bytes) (omega arith))
+    ∙ ap (λ (t : List ℕ). get_or bytes at 0 ∷ t)
+    (drop_more bytes (at + 1) 0 (omega (arith, h)) ∙ ap (λ (n : ℕ). get_or bytes (at + 1) 0 ∷ drop n bytes)
+    (omega arith))
 
 -- a record that is shown by its bytes
-pub whole_by : (bytes : List ℕ) (at id info count next : ℕ) (rep after : List ℕ) → at + 2 ≤ length bytes → id ≡ get_or bytes at 0 → info ≡ get_or bytes (at + 1) 0 → info < 128 → HasNumbers id info count
+pub whole_by : (bytes : List ℕ) (at id info count next : ℕ) (rep after : List ℕ) → at + 2 ≤ length bytes
+    → id ≡ get_or bytes at 0 → info ≡ get_or bytes (at + 1) 0 → info < 128 → HasNumbers id info count
     → NumbersAt bytes (at + 2) count next → IsRepetitionIf (has info 4) rep → drop next bytes ≡ rep ++ after → IsWhole (drop at bytes)
 whole_by bytes at id info count next rep after room e f low h n r text = record {
   id = id;

@@ -20,7 +20,11 @@ use Rattle.shot_repeat.proofs.Wholes.{text_whole, whole_not_end}
 
 pub right_more : (before rs : List PackRecord) (r : PackRecord) → AreRight before rs → IsRight (before ++ rs) r → AreRight before (rs ++ r ∷ [])
 right_more before [] r h g = (subst (λ (b : List PackRecord). IsRight b r) (append-nil before) g, tt)
-right_more before (s ∷ rs) r h g = (h.0, right_more (before ++ s ∷ []) rs r h.1 (subst (λ (b : List PackRecord). IsRight b r) (sym (append_assoc before (s ∷ []) rs)) g))
+right_more before (s ∷ rs) r h g = (
+  h.0,
+  right_more (before ++ s ∷ []) rs r h.1
+      (subst (λ (b : List PackRecord). IsRight b r) (sym (append_assoc before (s ∷ []) rs)) g),
+)
 
 pub right_narrow : (before rs : List PackRecord) → AreRight before rs → All IsNarrow rs
 right_narrow before [] h = λ k d below. absurd (omega arith)
@@ -66,7 +70,8 @@ pub end_stops : (before : List PackRecord) (rest : List ℕ) → rest ≡ end �
 end_stops before rest e r after h f = whole_not_end rest (text_whole r rest after h.narrow f) (_, e)
 
 -- two lists of records that are right, after which no record that is right begins, are one
-pub meet : (before ys zs ends other : List PackRecord) (x y : List ℕ) → AreRight before ys → AreRight before zs → before ++ ys ≡ ends → before ++ zs ≡ other → Stops ends x → Stops other y
+pub meet : (before ys zs ends other : List PackRecord) (x y : List ℕ) → AreRight before ys → AreRight before zs
+    → before ++ ys ≡ ends → before ++ zs ≡ other → Stops ends x → Stops other y
     → flat_map record_text ys ++ x ≡ flat_map record_text zs ++ y → (ys ≡ zs) × (x ≡ y)
 meet before [] [] ends other x y h g p q s t e = (refl, e)
 meet before [] (z ∷ zs) ends other x y h g p q s t e =
@@ -82,14 +87,19 @@ meet before (v ∷ ys) (z ∷ zs) ends other x y h g p q s t e =
 
 -- ---- the file
 
-pub up_whole : (bytes : List ℕ) (at : ℕ) (records : List PackRecord) (u : IsReadUpTo bytes at records) → bytes ≡ head u.unit ++ (flat_map record_text records ++ drop at bytes)
+pub up_whole : (bytes : List ℕ) (at : ℕ) (records : List PackRecord) (u : IsReadUpTo bytes at records)
+    → bytes ≡ head u.unit ++ (flat_map record_text records ++ drop at bytes)
 up_whole bytes at records u =
-    sym (take-append-drop at bytes) ∙ (ap (λ (t : List ℕ). t ++ drop at bytes) u.text ∙ append_assoc (head u.unit) (flat_map record_text records) (drop at bytes))
+    sym (take-append-drop at bytes) ∙ (ap (λ (t : List ℕ). t ++ drop at bytes) u.text ∙ append_assoc (head u.unit)
+    (flat_map record_text records) (drop at bytes))
 
-pub up_same : (bytes : List ℕ) (at to : ℕ) (rs ss : List PackRecord) (u : IsReadUpTo bytes at rs) (v : IsReadUpTo bytes to ss) → Stops rs (drop at bytes) → Stops ss (drop to bytes)
+pub up_same : (bytes : List ℕ) (at to : ℕ) (rs ss : List PackRecord) (u : IsReadUpTo bytes at rs)
+    (v : IsReadUpTo bytes to ss) → Stops rs (drop at bytes) → Stops ss (drop to bytes)
     → (u.unit ≡ v.unit) × (rs ≡ ss) × (drop at bytes ≡ drop to bytes)
 up_same bytes at to rs ss u v s t =
-    let whole = head_peel u.unit v.unit (flat_map record_text rs ++ drop at bytes) (flat_map record_text ss ++ drop to bytes) (unit_small u.unit u.unit_fits) (unit_small v.unit v.unit_fits) (sym (up_whole bytes at rs u) ∙ up_whole bytes to ss v) in
+    let whole = head_peel u.unit v.unit (flat_map record_text rs ++ drop at bytes)
+    (flat_map record_text ss ++ drop to bytes) (unit_small u.unit u.unit_fits) (unit_small v.unit v.unit_fits)
+    (sym (up_whole bytes at rs u) ∙ up_whole bytes to ss v) in
     let both = meet [] rs ss rs ss (drop at bytes) (drop to bytes) u.right v.right refl refl s t whole.1 in
     (whole.0, both.0, both.1)
 
@@ -98,7 +108,8 @@ at_one bytes at to h g e = omega (arith, length-drop at bytes, length-drop to by
 
 -- ---- one fault
 
-value_one : (before : List PackRecord) (r : PackRecord) (at : ℕ) (bad other : PackBad) → IsValueFault before r at bad → IsValueFault before r at other → bad ≡ other
+value_one : (before : List PackRecord) (r : PackRecord) (at : ℕ) (bad other : PackBad) → IsValueFault before r at bad
+    → IsValueFault before r at other → bad ≡ other
 value_one before r at bad other (inl a) (inl b) = a.0 ∙ sym b.0
 value_one before r at bad other (inl a) (inr b) = absurd (a.1 b.0)
 value_one before r at bad other (inr a) (inl b) = absurd (b.1 a.0)
@@ -110,7 +121,8 @@ value_one before r at bad other (inr (d, inr (p, inl a))) (inr (f, inr (q, inr b
 value_one before r at bad other (inr (d, inr (p, inr a))) (inr (f, inr (q, inl b))) = absurd (b.1 a.0)
 value_one before r at bad other (inr (d, inr (p, inr a))) (inr (f, inr (q, inr b))) = a.1 ∙ sym b.1
 
-record_one : (before : List PackRecord) (rest : List ℕ) (at : ℕ) (bad other : PackBad) → IsRecordFault before rest at bad → IsRecordFault before rest at other → bad ≡ other
+record_one : (before : List PackRecord) (rest : List ℕ) (at : ℕ) (bad other : PackBad)
+    → IsRecordFault before rest at bad → IsRecordFault before rest at other → bad ≡ other
 record_one before rest at bad other (inl a) (inl b) = a.0 ∙ sym b.0
 record_one before rest at bad other (inl a) (inr (inl b)) = absurd (b.1 a.1)
 record_one before rest at bad other (inl a) (inr (inr (inl b))) = absurd (whole_not_end rest b.1 a.1)
@@ -149,7 +161,8 @@ end_right before rest at bad e (inr (inr (inl a))) = whole_not_end rest a.1 (_, 
 end_right before rest at bad e (inr (inr (inr a))) = whole_not_end rest (spelled_whole rest a.0 a.1) (_, e)
 
 -- bytes that were read up to END have no fault
-pub no_fault : (bytes : List ℕ) (at : ℕ) (records : List PackRecord) (bad : PackBad) → IsReadUpTo bytes at records → drop at bytes ≡ end → IsFirstFault bytes bad → ⊥
+pub no_fault : (bytes : List ℕ) (at : ℕ) (records : List PackRecord) (bad : PackBad) → IsReadUpTo bytes at records
+    → drop at bytes ≡ end → IsFirstFault bytes bad → ⊥
 no_fault bytes at records bad u e (inl b) = b.2.no_head u.unit _ u.unit_fits (up_whole bytes at records u)
 no_fault bytes at records bad u e (inr b) =
     let same = up_same bytes at b.0 records b.1 u b.2 (end_stops records (drop at bytes) e) (fault_stops b.1 (drop b.0 bytes) b.0 bad b.3) in

@@ -1,5 +1,7 @@
 -- The text of a record: its id, its info byte, its fields in order.
-use Rattle.std.proofs.Common.{◌≡◌, ℕ, ℤ, ◌+◌, ◌*◌, ◌/◌, ◌%◌, ◌<◌, ◌≤◌, Bool, true, false, nat_eq, is_some, List, [], ◌∷◌, ◌++◌, length, drop, get_or, refl, arith, ap, sym, ◌∙◌, append_assoc, length-append, FitsSigned, w64}
+use Rattle.std.proofs.Common.{◌≡◌, ℕ, ℤ, ◌+◌, ◌*◌, ◌/◌, ◌%◌, ◌<◌, ◌≤◌, Bool, true, false, nat_eq, is_some, List, []}
+use Rattle.std.proofs.Common.{◌∷◌, ◌++◌, length, drop, get_or, refl, arith, ap, sym, ◌∙◌, append_assoc, length-append}
+use Rattle.std.proofs.Common.{FitsSigned, w64}
 use Rattle.std.proofs.lemmas.Int.{to_z-of_z}
 use mir.Val.{to_z, of_z}
 use Rattle.std.proofs.lemmas.List.{drop-drop, length-drop, get_or-drop}
@@ -24,7 +26,12 @@ body_spelled r s0 s1 s2 s3 s4 s5 s6 s7 s8 s9 s10 e0 e1 e2 e3 e4 e5 e6 e7 e8 e9 e
 -- a record's fields after its id and its info byte, and what follows them
 abbrev pub opened : PackRecord → List ℕ → List ℕ
 opened r after =
-    number_text r.layer ++ (number_text r.datatype ++ (number_text r.width ++ (number_text r.height ++ (delta_text r.left_delta ++ (delta_text r.right_delta ++ (place_text r.x ++ (place_text r.y ++ (repetition_text r.repetition ++ after))))))))
+    number_text r.layer ++ (number_text r.datatype
+    ++ (number_text r.width
+    ++ (number_text r.height
+    ++ (delta_text r.left_delta
+    ++ (delta_text r.right_delta
+    ++ (place_text r.x ++ (place_text r.y ++ (repetition_text r.repetition ++ after))))))))
 
 pub record_parts : (r : PackRecord) → record_text r ≡ body_text r ++ repetition_text r.repetition
 unfolding record_text
@@ -68,7 +75,8 @@ digit_is false = refl
 sum_of : ℕ → ℕ → ℕ → ℕ → ℕ → ℕ → ℕ → ℕ
 sum_of a b c d e f g = 64 * a + 32 * b + (16 * c + 8 * d) + 4 * e + (2 * f + g)
 
-info_sum : (a b c d e f g : Bool) → bit 64 a + bit 32 b + (bit 16 c + bit 8 d) + bit 4 e + (bit 2 f + bit 1 g) ≡ sum_of (digit a) (digit b) (digit c) (digit d) (digit e) (digit f) (digit g)
+info_sum : (a b c d e f g : Bool) → bit 64 a + bit 32 b + (bit 16 c + bit 8 d) + bit 4 e + (bit 2 f + bit 1 g) ≡ sum_of
+    (digit a) (digit b) (digit c) (digit d) (digit e) (digit f) (digit g)
 unfolding sum_of
 info_sum a b c d e f g = omega (arith, weighed 64 a, weighed 32 b, weighed 16 c, weighed 8 d, weighed 4 e, weighed 2 f, weighed 1 g)
 
@@ -160,7 +168,9 @@ pub two_there : (bytes rest : List ℕ) (at x y : ℕ) → drop at bytes ≡ x �
 two_there bytes rest at x y e = omega (arith, ap length e, length-drop at bytes)
 
 -- a record stands where its parts do, one after another
-pub spelled_record : (q : PackRecord) (bytes : List ℕ) (at start a b w h l r x y last : ℕ) → get_or bytes at 0 ≡ id_for q.left_delta q.right_delta → get_or bytes (at + 1) 0 ≡ info_of q → start ≡ at + 2 → start ≤ length bytes
+pub spelled_record : (q : PackRecord) (bytes : List ℕ) (at start a b w h l r x y last : ℕ)
+    → get_or bytes at 0 ≡ id_for q.left_delta q.right_delta → get_or bytes (at + 1) 0 ≡ info_of q → start ≡ at + 2
+    → start ≤ length bytes
     → drop start bytes ≡ number_text q.layer ++ drop a bytes → drop a bytes ≡ number_text q.datatype ++ drop b bytes
     → drop b bytes ≡ number_text q.width ++ drop w bytes → drop w bytes ≡ number_text q.height ++ drop h bytes
     → drop h bytes ≡ delta_text q.left_delta ++ drop l bytes → drop l bytes ≡ delta_text q.right_delta ++ drop r bytes

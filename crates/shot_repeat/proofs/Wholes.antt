@@ -1,5 +1,7 @@
 -- The text of a record is a whole one, and a whole one doesn't begin as END does.
-use Rattle.std.proofs.Common.{◌≡◌, ℕ, ℤ, pos, negsuc, ◌+◌, ◌<◌, ◌≤◌, ◌^◌, ◌%◌, Bool, true, false, cond, unsigned_abs, is_some, List, [], ◌∷◌, ◌++◌, length, Option, Some, None, All, refl, arith, ap, sym, ◌∙◌, inl, inr, append_assoc, length-append}
+use Rattle.std.proofs.Common.{◌≡◌, ℕ, ℤ, pos, negsuc, ◌+◌, ◌<◌, ◌≤◌, ◌^◌, ◌%◌, Bool, true, false, cond, unsigned_abs}
+use Rattle.std.proofs.Common.{is_some, List, [], ◌∷◌, ◌++◌, length, Option, Some, None, All, refl, arith, ap, sym, ◌∙◌}
+use Rattle.std.proofs.Common.{inl, inr, append_assoc, length-append}
 use Rattle.std.specs.List.{concat}
 use Rattle.std.specs.Ordering.{int_eq}
 use Rattle.std.proofs.lemmas.List.{append-nil}
@@ -9,7 +11,8 @@ use Rattle.oas_lex.specs.Spelling.{unsigned_text, signed_text}
 use Rattle.oas_lex.specs.ShotText.{id_for, delta_text}
 use Rattle.oas_lex.proofs.ForCallers.{unsigned_spells, signed_spells}
 use Rattle.shot_reader.specs.Refusals.{IsNumber, BeginsEnd}
-use Rattle.shot_repeat.specs.Records.{IsNarrowNumber, IsNarrowPlace, IsNarrowRepetition, IsNarrow, info_of, number_text, place_text, step_code, steps_text, repetition_text, record_text}
+use Rattle.shot_repeat.specs.Records.{IsNarrowNumber, IsNarrowPlace, IsNarrowRepetition, IsNarrow, info_of, number_text}
+use Rattle.shot_repeat.specs.Records.{place_text, step_code, steps_text, repetition_text, record_text}
 use Rattle.shot_repeat.specs.Refusals.{has, one_or_none, written_of, HasNumbers, IsRepetition, IsRepetitionIf, IsWhole}
 use Rattle.shot_repeat.specs.declared.record.PackRecord.{PackRecord}
 use Rattle.shot_repeat.specs.declared.record.Repetition.{Repetition}
@@ -62,15 +65,33 @@ record Part (text : List ℕ) (numbers : List (List ℕ)) (count : ℕ) : Type 0
 
 number_part : (o : Option ℕ) → IsNarrowNumber o → Part (number_text o) (number_list o) (one_or_none (is_some o))
 number_part None h = record { joined = λ after rest. refl; many = refl; ends = none_there }
-number_part (Some n) h = record { joined = λ after rest. append_assoc (unsigned_text n) (concat rest) after; many = refl; ends = one_there (unsigned_text n) (unsigned_number n h) }
+number_part (Some n) h =
+    record {
+      joined = λ after rest. append_assoc (unsigned_text n) (concat rest) after;
+      many = refl;
+      ends = one_there
+          (unsigned_text n) (unsigned_number n h);
+    }
 
 place_part : (o : Option ℤ) → IsNarrowPlace o → Part (place_text o) (place_list o) (one_or_none (is_some o))
 place_part None h = record { joined = λ after rest. refl; many = refl; ends = none_there }
-place_part (Some n) h = record { joined = λ after rest. append_assoc (signed_text n) (concat rest) after; many = refl; ends = one_there (signed_text n) (signed_number n h) }
+place_part (Some n) h =
+    record {
+      joined = λ after rest. append_assoc (signed_text n) (concat rest) after;
+      many = refl;
+      ends = one_there
+          (signed_text n) (signed_number n h);
+    }
 
 delta_part : (p : Bool) (z : ℤ) → unsigned_abs z < 2 ^ 62 → Part (cond p [] (signed_text z)) (delta_list p z) (cond p 0 1)
 delta_part true z h = record { joined = λ after rest. refl; many = refl; ends = none_there }
-delta_part false z h = record { joined = λ after rest. append_assoc (signed_text z) (concat rest) after; many = refl; ends = one_there (signed_text z) (signed_number z h) }
+delta_part false z h =
+    record {
+      joined = λ after rest. append_assoc (signed_text z) (concat rest) after;
+      many = refl;
+      ends = one_there
+          (signed_text z) (signed_number z h);
+    }
 
 join : {text other : List ℕ} {numbers rest : List (List ℕ)} {n m : ℕ} → Part text numbers n → Part other rest m → Part (text ++ other) (numbers ++ rest) (n + m)
 join {text} {other} {numbers} {rest} {n} {m} a b = record {
@@ -123,19 +144,25 @@ repeats_by p o h = record {
 
 repeats_if : (o : Option Repetition) → IsNarrowRepetition o → IsRepetitionIf (is_some o) (repetition_text o)
 repeats_if None h = refl
-repeats_if (Some p) h = repeats_by p (odd_first (unsigned_text (step_code p.x)) (step_code p.x) (unsigned_spells (step_code p.x) (code_narrow p.x h.1)) (odd_code p.x)) h
+repeats_if (Some p) h = repeats_by p
+    (odd_first (unsigned_text (step_code p.x)) (step_code p.x) (unsigned_spells (step_code p.x) (code_narrow p.x h.1))
+    (odd_code p.x)) h
 
 -- ---- the record
 
 -- the fields of a record, up to its repetition
 abbrev fields_text : PackRecord → List ℕ
 fields_text r =
-    number_text r.layer ++ (number_text r.datatype ++ (number_text r.width ++ (number_text r.height ++ (delta_text r.left_delta ++ (delta_text r.right_delta ++ (place_text r.x ++ place_text r.y))))))
+    number_text r.layer ++ (number_text r.datatype
+    ++ (number_text r.width
+    ++ (number_text r.height
+    ++ (delta_text r.left_delta ++ (delta_text r.right_delta ++ (place_text r.x ++ place_text r.y))))))
 
 fields_open : (r : PackRecord) (after : List ℕ) → fields_text r ++ (repetition_text r.repetition ++ after) ≡ opened r after
 fields_open r after = simp append_assoc
 
-sum_by_parts : (a b c d e f g h i j k l m n : ℕ) → i ≡ a → j ≡ b → k ≡ c → l ≡ d → m ≡ g → n ≡ h → a + (b + (c + (d + (e + (f + (g + h)))))) ≡ i + j + k + l + m + n + e + f
+sum_by_parts : (a b c d e f g h i j k l m n : ℕ) → i ≡ a → j ≡ b → k ≡ c → l ≡ d → m ≡ g → n ≡ h
+    → a + (b + (c + (d + (e + (f + (g + h)))))) ≡ i + j + k + l + m + n + e + f
 sum_by_parts a b c d e f g h i j k l m n p q r s t u = omega arith
 
 pub text_whole : (r : PackRecord) (rest after : List ℕ) → IsNarrow r → rest ≡ record_text r ++ after → IsWhole rest
@@ -146,14 +173,23 @@ text_whole r rest after h e =
     let part =
     join (number_part r.layer h.layer) (join (number_part r.datatype h.datatype) (join (number_part r.width h.width) (join (number_part r.height h.height)
     (join (delta_part p r.left_delta h.left) (join (delta_part q r.right_delta h.right) (join (place_part r.x h.x) (place_part r.y h.y))))))) in
-    let numbers = number_list r.layer ++ (number_list r.datatype ++ (number_list r.width ++ (number_list r.height ++ (delta_list p r.left_delta ++ (delta_list q r.right_delta ++ (place_list r.x ++ place_list r.y)))))) in
+    let numbers = number_list r.layer
+    ++ (number_list r.datatype
+    ++ (number_list r.width
+    ++ (number_list r.height
+    ++ (delta_list p r.left_delta ++ (delta_list q r.right_delta ++ (place_list r.x ++ place_list r.y)))))) in
     let count : length numbers ≡ count_by p q (written_of (info_of r)) =
     part.many
-    ∙ sum_by_parts (one_or_none (is_some r.layer)) (one_or_none (is_some r.datatype)) (one_or_none (is_some r.width)) (one_or_none (is_some r.height)) (cond p 0 1) (cond q 0 1) (one_or_none (is_some r.x)) (one_or_none (is_some r.y))
-    (one_or_none (has (info_of r) 1)) (one_or_none (has (info_of r) 2)) (one_or_none (has (info_of r) 64)) (one_or_none (has (info_of r) 32)) (one_or_none (has (info_of r) 16)) (one_or_none (has (info_of r) 8))
-    (ap one_or_none says.layer) (ap one_or_none says.datatype) (ap one_or_none says.width) (ap one_or_none says.height) (ap one_or_none says.x) (ap one_or_none says.y) in
+    ∙ sum_by_parts (one_or_none (is_some r.layer)) (one_or_none (is_some r.datatype)) (one_or_none (is_some r.width))
+    (one_or_none (is_some r.height)) (cond p 0 1) (cond q 0 1) (one_or_none (is_some r.x))
+    (one_or_none (is_some r.y))
+    (one_or_none (has (info_of r) 1)) (one_or_none (has (info_of r) 2)) (one_or_none (has (info_of r) 64))
+    (one_or_none (has (info_of r) 32)) (one_or_none (has (info_of r) 16)) (one_or_none (has (info_of r) 8))
+    (ap one_or_none says.layer) (ap one_or_none says.datatype) (ap one_or_none says.width) (ap one_or_none says.height)
+    (ap one_or_none says.x) (ap one_or_none says.y) in
     let text : concat numbers ++ (repetition_text r.repetition ++ after) ≡ opened r after =
-    ap (λ (t : List (List ℕ)). concat t ++ (repetition_text r.repetition ++ after)) (sym (append-nil numbers)) ∙ (part.joined (repetition_text r.repetition ++ after) [] ∙ fields_open r after) in
+    ap (λ (t : List (List ℕ)). concat t ++ (repetition_text r.repetition ++ after)) (sym (append-nil numbers))
+    ∙ (part.joined (repetition_text r.repetition ++ after) [] ∙ fields_open r after) in
     record {
       id = id_for r.left_delta r.right_delta;
       info = info_of r;

@@ -3,7 +3,8 @@
 -- A run of three or more is one record with a repetition; else the first shot alone is one. The layer and the datatype
 -- are written in the first record only. Width, height, x and y are written exactly where they differ from the record
 -- before; in the first record width and height are written, and x and y where they aren't 0.
-use Rattle.std.specs.Prelude.{ℕ, zero, suc, ◌≡◌, ◌+◌, ◌-◌, ◌≤◌, ℤ, pos, ◌-ℤ◌, Bool, ◌&&◌, nat_eq, nat_le, min, List, [], ◌∷◌, ◌++◌, map, length, take, flat_map, Option, Some, None, if◌then◌else◌}
+use Rattle.std.specs.Prelude.{ℕ, zero, suc, ◌≡◌, ◌+◌, ◌-◌, ◌≤◌, ℤ, pos, ◌-ℤ◌, Bool, ◌&&◌, nat_eq, nat_le, min, List, []}
+use Rattle.std.specs.Prelude.{◌∷◌, ◌++◌, map, length, take, flat_map, Option, Some, None, if◌then◌else◌}
 use Rattle.std.specs.Ordering.{int_eq}
 use Rattle.half_grid.specs.Trapezoids.{Trapezoid}
 use Rattle.half_grid.specs.declared.plane.Point.{Point}

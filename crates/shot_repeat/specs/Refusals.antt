@@ -7,7 +7,8 @@
 -- isn't in its shortest form or is wide, the bit for the west is set where x is 0, or the id isn't that of the deltas. A
 -- field has no value. The pair isn't the first record's. There are too many shots. A shot's fields are those of no shot.
 -- A record whose first byte is 2 is END, and is right exactly where it is END of a shot file and the file's end.
-use Rattle.std.specs.Prelude.{ℕ, ◌≡◌, ◌≢◌, ◌⊎◌, ◌+◌, ◌/◌, ◌%◌, ◌<◌, ◌≤◌, Bool, true, false, nat_eq, List, [], ◌∷◌, ◌++◌, map, length, take, drop, flat_map, sum_by, Option, Some, None, All, if◌then◌else◌}
+use Rattle.std.specs.Prelude.{ℕ, ◌≡◌, ◌≢◌, ◌⊎◌, ◌+◌, ◌/◌, ◌%◌, ◌<◌, ◌≤◌, Bool, true, false, nat_eq, List, [], ◌∷◌, ◌++◌}
+use Rattle.std.specs.Prelude.{map, length, take, drop, flat_map, sum_by, Option, Some, None, All, if◌then◌else◌}
 use Rattle.std.specs.List.{concat}
 use Rattle.half_grid.specs.Trapezoids.{Trapezoid, IsShot}
 use Rattle.layout_model.specs.declared.pair.Pair.{Pair}

@@ -1,5 +1,6 @@
 -- How far the pouring of a list has come, and what a step or a refusal makes of it.
-use Rattle.std.proofs.Common.{◌≡◌, ℕ, ℤ, pos, ◌*ℤ◌, ◌<ℤ◌, ◌+◌, ◌<◌, ◌≤◌, List, [], ◌∷◌, ◌++◌, length, take, unsigned_abs, sym, ap, subst, ◌∙◌, arith, append_assoc, ◌-ℤ◌, ◌+ℤ◌}
+use Rattle.std.proofs.Common.{◌≡◌, ℕ, ℤ, pos, ◌*ℤ◌, ◌<ℤ◌, ◌+◌, ◌<◌, ◌≤◌, List, [], ◌∷◌, ◌++◌, length, take}
+use Rattle.std.proofs.Common.{unsigned_abs, sym, ap, subst, ◌∙◌, arith, append_assoc, ◌-ℤ◌, ◌+ℤ◌}
 use Rattle.std.proofs.lemmas.Int.{ints}
 use Rattle.std.proofs.lemmas.List.{append-nil, length-append, take-append-le, flat_map_more}
 use Rattle.std.proofs.lemmas.List.Sums.{sum_by_push}
@@ -16,7 +17,9 @@ use Rattle.shot_writer.specs.declared.parts.Sums.{Sums}
 use Rattle.shot_writer.specs.Writing.{records_of, triangles_in, AreSumsAfter, IsWrittenButFor}
 
 -- some items were taken, their records were written but for those that are held, and the stream stands for the rest
-pub record Poured {S : Type 0} (stands_for : S → List Trapezoid → Type 0) (tells : Type 0) (pair : Pair) (before : Sums) (old : Content) (items : List Trapezoid) (now : Content) (sums : Sums) (held : List ℕ) (stream : S) : Type 0 where
+pub record Poured {S : Type 0} (stands_for : S → List Trapezoid → Type 0) (tells : Type 0) (pair : Pair)
+    (before : Sums) (old : Content) (items : List Trapezoid) (now : Content) (sums : Sums) (held : List ℕ)
+    (stream : S) : Type 0 where
   pub taken : List Trapezoid
   pub rest : List Trapezoid
   pub split : items ≡ taken ++ rest
@@ -42,7 +45,8 @@ pub with_written-twice : (c : Content) (a b : List ℕ) → with_written (with_w
 with_written-twice c a b = ap (λ files. record c { made = files }) (appended-appended c.made c.current a b)
 
 -- one more was taken and put
-pub one_more : {S : Type 0} {stands_for : S → List Trapezoid → Type 0} {tells : Type 0} {pair : Pair} {before : Sums} {old : Content} {items : List Trapezoid} {now : Content} {sums : Sums} {held : List ℕ} {stream : S}
+pub one_more : {S : Type 0} {stands_for : S → List Trapezoid → Type 0} {tells : Type 0} {pair : Pair} {before : Sums}
+    {old : Content} {items : List Trapezoid} {now : Content} {sums : Sums} {held : List ℕ} {stream : S}
     → (p : Poured stands_for tells pair before old items now sums held stream)
     → (z : Trapezoid) (others : List Trapezoid) (after : S) → p.rest ≡ z ∷ others → stands_for after others
     → (later : Content) (more : List ℕ) → (tells → IsWrittenButFor now (held ++ spelling_of pair.layer pair.datatype z) more later)
@@ -73,13 +77,16 @@ part_of w h r n le =
     sym (ap (take (length w + n)) (append_assoc w h r) ∙ take-append-add w (h ++ r) n ∙ ap (λ l. w ++ l) (take-append-le n h r le))
 
 -- a refusal of what is held leaves a prefix of all records
-pub refused_part : {S : Type 0} {stands_for : S → List Trapezoid → Type 0} {tells : Type 0} {pair : Pair} {before : Sums} {old : Content} {items : List Trapezoid} {now : Content} {sums : Sums} {held : List ℕ} {stream : S}
+pub refused_part : {S : Type 0} {stands_for : S → List Trapezoid
+    → Type 0} {tells : Type 0} {pair : Pair} {before : Sums} {old : Content} {items : List Trapezoid} {now : Content}
+    {sums : Sums} {held : List ℕ} {stream : S}
     → (p : Poured stands_for tells pair before old items now sums held stream)
     → (later : Content) → tells → IsPartWritten now held later → IsPartWritten old (records_of pair items) later
 refused_part {S} {stands_for} {tells} {pair} {before} {old} {items} {now} {sums} {held} p later told part =
     let w = p.written told in
     let whole : records_of pair items ≡ (w.written ++ held) ++ records_of pair p.rest =
-    ap (records_of pair) p.split ∙ flat_map-append (spelling_of pair.layer pair.datatype) p.taken p.rest ∙ ap (λ l. l ++ records_of pair p.rest) (sym w.whole) in (
+    ap (records_of pair) p.split ∙ flat_map-append (spelling_of pair.layer pair.datatype) p.taken p.rest ∙ ap
+    (λ l. l ++ records_of pair p.rest) (sym w.whole) in (
       length w.written + part.0,
       omega (arith, ap length whole, length-append (w.written ++ held) (records_of pair p.rest), length-append w.written held, part.1),
       part.2 ∙ ap (λ c. with_written c (take part.0 held)) w.content ∙ with_written-twice old w.written (take part.0 held)
@@ -87,7 +94,8 @@ refused_part {S} {stands_for} {tells} {pair} {before} {old} {items} {now} {sums}
     )
 
 -- where none is left, and what is held is written, all is written
-pub all_poured : {S : Type 0} {stands_for : S → List Trapezoid → Type 0} {tells : Type 0} {pair : Pair} {before : Sums} {old : Content} {items : List Trapezoid} {now : Content} {sums : Sums} {held : List ℕ} {stream : S}
+pub all_poured : {S : Type 0} {stands_for : S → List Trapezoid → Type 0} {tells : Type 0} {pair : Pair} {before : Sums}
+    {old : Content} {items : List Trapezoid} {now : Content} {sums : Sums} {held : List ℕ} {stream : S}
     → (p : Poured stands_for tells pair before old items now sums held stream)
     → p.rest ≡ [] → (later : Content) → tells → later ≡ with_written now held → later ≡ with_written old (records_of pair items)
 all_poured {S} {stands_for} {tells} {pair} {before} {old} {items} {now} {sums} {held} p none later told e =

@@ -1,5 +1,6 @@
 -- In each row as many edges of a ring go up as go down.
-use Rattle.std.proofs.Common.{◌≡◌, inl, inr, ◌⊎◌, ℕ, ◌+◌, Bool, true, false, not, ◌&&◌, ℤ, pos, ◌+ℤ◌, ◌-ℤ◌, ◌≤ℤ◌, arith, refl, ap, ◌∙◌, All, List, [], ◌∷◌, ◌++◌, Option, Some, None, count_by, flat_map}
+use Rattle.std.proofs.Common.{◌≡◌, inl, inr, ◌⊎◌, ℕ, ◌+◌, Bool, true, false, not, ◌&&◌, ℤ, pos, ◌+ℤ◌, ◌-ℤ◌, ◌≤ℤ◌, arith}
+use Rattle.std.proofs.Common.{refl, ap, ◌∙◌, All, List, [], ◌∷◌, ◌++◌, Option, Some, None, count_by, flat_map}
 use Rattle.std.proofs.lemmas.Int.{ints, by_lt_z}
 use Rattle.std.proofs.lemmas.List.Elements.{All-head, All-tail}
 use Rattle.std.proofs.lemmas.List.Sums.{sum_by-append}
@@ -53,7 +54,8 @@ rows_between x y j h =
     (λ lt. rw (le_yes x j ge, lt_yes j y lt, le_no y j lt) (omega (arith, ints)))
     (λ over. rw (le_yes x j ge, lt_no j y over, le_yes y j over) (omega (arith, ints))))
 
-along : (o p : Operand) (j : ℤ) (a b : Point) (found : Option Line) (up : Bool) → is_of o p ≡ true → int_lt a.y b.y ≡ up → (a.y ≡ b.y) ⊎ ((line : Line) × (found ≡ Some line))
+along : (o p : Operand) (j : ℤ) (a b : Point) (found : Option Line) (up : Bool) → is_of o p ≡ true
+    → int_lt a.y b.y ≡ up → (a.y ≡ b.y) ⊎ ((line : Line) × (found ≡ Some line))
     → surplus o j (option_to_list (edge_along p a b found)) ≡ pos (below j a) -ℤ pos (below j b)
 along o p j a b None up own k (inl same) = let e : below j a ≡ below j b = ap (λ y. count_one (int_le y j)) same in omega (arith, ints, e)
 along o p j a b None up own k (inr (line, e)) = absurd (let bad : ⊥ = cc in bad)
@@ -73,19 +75,23 @@ found_line a b (inr (line, pa, pb)) =
     (λ gt. inr (line, line_is a b line pa pb (λ e. absurd (omega (arith, ints, gt, e)))))
     (λ le. inl (omega (arith, ints, ge, le))))
 
-points_surplus : (o p : Operand) (j : ℤ) (a : Point) (points : List Point) → is_of o p ≡ true → HasGridEdges (a ∷ points) → surplus o j (edges_of_points p (a ∷ points)) ≡ pos (below j a) -ℤ pos (below j (last_of a points))
+points_surplus : (o p : Operand) (j : ℤ) (a : Point) (points : List Point) → is_of o p ≡ true
+    → HasGridEdges (a ∷ points) → surplus o j (edges_of_points p (a ∷ points)) ≡ pos (below j a) -ℤ pos
+    (below j (last_of a points))
 points_surplus o p j a [] own grid = omega (arith, ints)
 points_surplus o p j a (b ∷ points) own grid =
     let first = along o p j a b (line_of a b) _ own refl (found_line a b (All-head IsOnGrid (a, b) (edges_of (b ∷ points)) grid)) in
     let later = points_surplus o p j b points own (All-tail IsOnGrid (a, b) (edges_of (b ∷ points)) grid) in
     surplus-append o j (edge_of_pair p (a, b)) (edges_of_points p (b ∷ points)) ∙ (rw (first, later) (omega (arith, ints)))
 
-closed_surplus : (o p : Operand) (j : ℤ) (a : Point) (points : List Point) → is_of o p ≡ true → HasGridEdges (a ∷ points) → last_of a points ≡ a → surplus o j (edges_of_points p (a ∷ points)) ≡ pos 0
+closed_surplus : (o p : Operand) (j : ℤ) (a : Point) (points : List Point) → is_of o p ≡ true
+    → HasGridEdges (a ∷ points) → last_of a points ≡ a → surplus o j (edges_of_points p (a ∷ points)) ≡ pos 0
 closed_surplus o p j a points own grid closed =
     let e : below j (last_of a points) ≡ below j a = ap (below j) closed in
     points_surplus o p j a points own grid ∙ (rw e (omega (arith, ints)))
 
-other_along : (o p : Operand) (j : ℤ) (a b : Point) (found : Option Line) (up : Bool) → is_of o p ≡ false → int_lt a.y b.y ≡ up → surplus o j (option_to_list (edge_along p a b found)) ≡ pos 0
+other_along : (o p : Operand) (j : ℤ) (a b : Point) (found : Option Line) (up : Bool) → is_of o p ≡ false
+    → int_lt a.y b.y ≡ up → surplus o j (option_to_list (edge_along p a b found)) ≡ pos 0
 other_along o p j a b None up other k = omega (arith, ints)
 other_along o p j a b (Some line) true other k = rw k (one_edge o j (edge_parts a.y b.y line true p) ∙ (rw other (omega (arith, ints))))
 other_along o p j a b (Some line) false other k = rw k (one_edge o j (edge_parts b.y a.y line false p) ∙ (rw other (omega (arith, ints))))
@@ -98,13 +104,16 @@ other_points o p j (a ∷ b ∷ points) other =
     let later = other_points o p j (b ∷ points) other in
     surplus-append o j (edge_of_pair p (a, b)) (edges_of_points p (b ∷ points)) ∙ (rw (first, later) (omega (arith, ints)))
 
-ring_surplus : (o : Operand) (own : Bool) (j dx dy : ℤ) (z : Trapezoid) → is_of o A ≡ own → IsRectangle dx dy → IsLegal z → surplus o j (edges_of_grown dx dy z) ≡ pos 0
+ring_surplus : (o : Operand) (own : Bool) (j dx dy : ℤ) (z : Trapezoid) → is_of o A ≡ own → IsRectangle dx dy
+    → IsLegal z → surplus o j (edges_of_grown dx dy z) ≡ pos 0
 ring_surplus o true j dx dy z e r legal =
     closed_surplus o A j (lower_left dx dy z)
-    (left_bend dx dy z.y0 z.y1 z.left ∷ upper_left dx dy z ∷ upper_right dx dy z ∷ right_bend dx dy z.y0 z.y1 z.right ∷ lower_right dx dy z ∷ lower_left dx dy z ∷ []) e (ring_on_grid dx dy z r legal) refl
+    (left_bend dx dy z.y0 z.y1 z.left ∷ upper_left dx dy z ∷ upper_right dx dy z ∷ right_bend dx dy z.y0 z.y1 z.right
+    ∷ lower_right dx dy z ∷ lower_left dx dy z ∷ []) e (ring_on_grid dx dy z r legal) refl
 ring_surplus o false j dx dy z e r legal = other_points o A j (grown_ring dx dy z) e
 
-list_surplus : (o : Operand) (j dx dy : ℤ) (traps : List Trapezoid) → IsRectangle dx dy → All IsLegal traps → surplus o j (flat_map (edges_of_grown dx dy) traps) ≡ pos 0
+list_surplus : (o : Operand) (j dx dy : ℤ) (traps : List Trapezoid) → IsRectangle dx dy → All IsLegal traps
+    → surplus o j (flat_map (edges_of_grown dx dy) traps) ≡ pos 0
 list_surplus o j dx dy [] r legal = omega (arith, ints)
 list_surplus o j dx dy (z ∷ traps) r legal =
     let first = ring_surplus o _ j dx dy z refl r (All-head IsLegal z traps legal) in
@@ -115,5 +124,6 @@ same_count : (a b : ℕ) → pos a -ℤ pos b ≡ pos 0 → a ≡ b
 same_count a b h = omega (arith, ints)
 
 pub grown_are_balanced : (dx dy : ℤ) (traps : List Trapezoid) (o : Operand) (row : ℤ) → IsRectangle dx dy → All IsLegal traps
-    → count_by (λ e. is_of o e.operand && (e.up && spans e row)) (flat_map (edges_of_grown dx dy) traps) ≡ count_by (λ e. is_of o e.operand && (not e.up && spans e row)) (flat_map (edges_of_grown dx dy) traps)
+    → count_by (λ e. is_of o e.operand && (e.up && spans e row)) (flat_map (edges_of_grown dx dy) traps) ≡ count_by
+    (λ e. is_of o e.operand && (not e.up && spans e row)) (flat_map (edges_of_grown dx dy) traps)
 grown_are_balanced dx dy traps o row r legal = same_count _ _ (list_surplus o row dx dy traps r legal)

@@ -69,7 +69,8 @@ record Between4 (a b c d e f g h : ℤ) : Type 0 where
 above4 : (a b c d u : ℤ) → a ≤ℤ u → b ≤ℤ u → c ≤ℤ u → d ≤ℤ u → greatest (greatest a b) (greatest c d) ≤ℤ u
 above4 a b c d u ha hb hc hd = greatest_high _ _ u (greatest_high a b u ha hb) (greatest_high c d u hc hd)
 
-low4 : (a b c d : ℤ) → (a ≤ℤ greatest (greatest a b) (greatest c d)) × (b ≤ℤ greatest (greatest a b) (greatest c d)) × (c ≤ℤ greatest (greatest a b) (greatest c d)) × (d ≤ℤ greatest (greatest a b) (greatest c d))
+low4 : (a b c d : ℤ) → (a ≤ℤ greatest (greatest a b) (greatest c d)) × (b ≤ℤ greatest (greatest a b) (greatest c d))
+    × (c ≤ℤ greatest (greatest a b) (greatest c d)) × (d ≤ℤ greatest (greatest a b) (greatest c d))
 low4 a b c d =
     let x = greatest_low a b in
     let y = greatest_low c d in
@@ -95,9 +96,12 @@ a_row b f =
       from_c = low.2;
       from_d = low.3;
       to_e = above4 a0 a1 a2 a3 b.j1 f.rows (omega (arith, ints, f.p_ij)) (omega (arith, ints, f.i_jq)) (omega (arith, ints, f.p_jq));
-      to_f = above4 a0 a1 a2 a3 ((twice b.p1 +ℤ pos 1) -ℤ b.i0) (omega (arith, ints, f.ij_p)) (omega (arith, ints, f.sums, f.columns)) (omega (arith, ints, f.i_pq)) (omega (arith, ints, f.sums, f.i_pq));
-      to_g = above4 a0 a1 a2 a3 (b.i1 -ℤ twice b.q0) (omega (arith, ints, f.jq_i)) (omega (arith, ints, f.pq_i)) (omega (arith, ints, f.columns, f.differences)) (omega (arith, ints, f.pq_i, f.differences));
-      to_h = above4 a0 a1 a2 a3 (b.p1 -ℤ b.q0) (omega (arith, ints, f.jq_p)) (omega (arith, ints, f.sums, f.pq_i)) (omega (arith, ints, f.differences, f.i_pq)) (omega (arith, ints, f.sums, f.differences));
+      to_f = above4 a0 a1 a2 a3 ((twice b.p1 +ℤ pos 1) -ℤ b.i0) (omega (arith, ints, f.ij_p))
+          (omega (arith, ints, f.sums, f.columns)) (omega (arith, ints, f.i_pq)) (omega (arith, ints, f.sums, f.i_pq));
+      to_g = above4 a0 a1 a2 a3 (b.i1 -ℤ twice b.q0) (omega (arith, ints, f.jq_i)) (omega (arith, ints, f.pq_i))
+          (omega (arith, ints, f.columns, f.differences)) (omega (arith, ints, f.pq_i, f.differences));
+      to_h = above4 a0 a1 a2 a3 (b.p1 -ℤ b.q0) (omega (arith, ints, f.jq_p)) (omega (arith, ints, f.sums, f.pq_i))
+          (omega (arith, ints, f.differences, f.i_pq)) (omega (arith, ints, f.sums, f.differences));
     }
 
 -- its number in that row
@@ -121,9 +125,12 @@ a_number b f r =
       from_i = low.0;
       from_p = low.1;
       from_q = low.2;
-      to_i = above4 a0 a1 a2 a2 (twice b.i1 +ℤ pos 1) (omega (arith, ints, f.columns)) (omega (arith, ints, r.from_b)) (omega (arith, ints, r.to_g)) (omega (arith, ints, r.to_g));
-      to_p = above4 a0 a1 a2 a2 (twice (twice b.p1) -ℤ twice r.k +ℤ pos 2) (omega (arith, ints, r.to_f)) (omega (arith, ints, f.sums)) (omega (arith, ints, r.to_h)) (omega (arith, ints, r.to_h));
-      to_q = above4 a0 a1 a2 a2 (twice (twice b.q1) +ℤ twice r.k +ℤ pos 4) (omega (arith, ints, r.from_c)) (omega (arith, ints, r.from_d)) (omega (arith, ints, f.differences)) (omega (arith, ints, f.differences));
+      to_i = above4 a0 a1 a2 a2 (twice b.i1 +ℤ pos 1) (omega (arith, ints, f.columns)) (omega (arith, ints, r.from_b))
+          (omega (arith, ints, r.to_g)) (omega (arith, ints, r.to_g));
+      to_p = above4 a0 a1 a2 a2 (twice (twice b.p1) -ℤ twice r.k +ℤ pos 2) (omega (arith, ints, r.to_f))
+          (omega (arith, ints, f.sums)) (omega (arith, ints, r.to_h)) (omega (arith, ints, r.to_h));
+      to_q = above4 a0 a1 a2 a2 (twice (twice b.q1) +ℤ twice r.k +ℤ pos 4) (omega (arith, ints, r.from_c))
+          (omega (arith, ints, r.from_d)) (omega (arith, ints, f.differences)) (omega (arith, ints, f.differences));
     }
 
 -- a tile with these numbers is in the box

@@ -37,7 +37,8 @@ and_false true = refl
 and_false false = refl
 
 -- an edge of two points adds what the two points add to the winding
-pair_adds : (o : Operand) (a b : Point) (t : Tile) (found : Option Line) (up : Bool) → line_of a b ≡ found → int_lt a.y b.y ≡ up → edges_winding o (option_to_list (edge_along o a b found)) t ≡ crossing_of t a b
+pair_adds : (o : Operand) (a b : Point) (t : Tile) (found : Option Line) (up : Bool) → line_of a b ≡ found
+    → int_lt a.y b.y ≡ up → edges_winding o (option_to_list (edge_along o a b found)) t ≡ crossing_of t a b
 pair_adds o a b t None up e k = no_edges o t ∙ sym (rw (e, and_false (rises_past t a b), and_false (rises_past t b a)) refl)
 pair_adds o a b t (Some line) true e k =
     let rows = no_rows t a.y b.y (lt_is a.y b.y k) in
@@ -54,7 +55,8 @@ edges_have_winding o (a ∷ b ∷ points) t =
     windings_add o (edge_of_pair o (a, b)) (edges_of_points o (b ∷ points)) t
     ∙ (rw (pair_adds o a b t _ _ refl refl, edges_have_winding o (b ∷ points) t) (sym (winding-cons t a b points)))
 
-pair_adds_none : (o p : Operand) (a b : Point) (t : Tile) (found : Option Line) (up : Bool) → is_of o p ≡ false → int_lt a.y b.y ≡ up → edges_winding o (option_to_list (edge_along p a b found)) t ≡ pos 0
+pair_adds_none : (o p : Operand) (a b : Point) (t : Tile) (found : Option Line) (up : Bool) → is_of o p ≡ false
+    → int_lt a.y b.y ≡ up → edges_winding o (option_to_list (edge_along p a b found)) t ≡ pos 0
 pair_adds_none o p a b t None up other k = no_edges o t
 pair_adds_none o p a b t (Some line) true other k = rw k (one_edge o (edge_parts a.y b.y line true p) t ∙ (rw other (omega (arith, ints))))
 pair_adds_none o p a b t (Some line) false other k = rw k (one_edge o (edge_parts b.y a.y line false p) t ∙ (rw other (omega (arith, ints))))

@@ -11,7 +11,8 @@ use Rattle.half_grid.specs.declared.plane.Tile.{Tile}
 use Rattle.half_grid.specs.declared.plane.Line.{Line}
 use Rattle.half_grid.specs.declared.plane.Line.TheVariants.{Upright, Rising, Falling}
 use Rattle.half_grid.proofs.ForCallers.{i_low, i_high, p_low, p_high, q_low, q_high, number_between}
-use Rattle.square_size.proofs.Extremes.{Extremes, first_of, last_of, number_first, row_first, number_last, row_last, first_in, last_in, bottom_in, top_in, place_and_row, place_less_row}
+use Rattle.square_size.proofs.Extremes.{Extremes, first_of, last_of, number_first, row_first, number_last, row_last}
+use Rattle.square_size.proofs.Extremes.{first_in, last_in, bottom_in, top_in, place_and_row, place_less_row}
 
 -- two lines, one below and one above a Y
 pub record Chain : Type 0 where
@@ -52,7 +53,8 @@ pub record IsFromLow (dx s i p q : ℤ) (t : Tile) : Type 0 where
   pub sums : p ≤ℤ ((strips_of t).p +ℤ s)
   pub differences : q ≤ℤ ((strips_of t).q +ℤ s)
 
-pub low_lower : (l : Line) (dx dy s y0 y1 i p q : ℤ) (t : Tile) → LowEnds l y0 y1 (least_row y0 y1 l) i p q → s +ℤ s ≡ dx +ℤ dy → pos 0 ≤ℤ dx → pos 0 ≤ℤ dy → y0 <ℤ y1
+pub low_lower : (l : Line) (dx dy s y0 y1 i p q : ℤ) (t : Tile) → LowEnds l y0 y1 (least_row y0 y1 l) i p q
+    → s +ℤ s ≡ dx +ℤ dy → pos 0 ≤ℤ dx → pos 0 ≤ℤ dy → y0 <ℤ y1
     → (y0 -ℤ dy) ≤ℤ t.j → t.j <ℤ (y1 +ℤ dy) → t.j <ℤ (left_chain dx dy s y0 y1 l).bend → IsRightOf t (left_chain dx dy s y0 y1 l).lower → IsFromLow dx s i p q t
 low_lower (Upright c) dx dy s y0 y1 i p q t e even wx wy rows a b below h = record {
   columns = omega (arith, ints, e.i_low, h);
@@ -70,7 +72,8 @@ low_lower (Falling c) dx dy s y0 y1 i p q t e even wx wy rows a b below h = reco
   differences = omega (arith, ints, e.q_low, even, below, h, p_low t, q_high t, wy);
 }
 
-pub low_upper : (l : Line) (dx dy s y0 y1 i p q : ℤ) (t : Tile) → LowEnds l y0 y1 (least_row y0 y1 l) i p q → s +ℤ s ≡ dx +ℤ dy → pos 0 ≤ℤ dx → pos 0 ≤ℤ dy → y0 <ℤ y1
+pub low_upper : (l : Line) (dx dy s y0 y1 i p q : ℤ) (t : Tile) → LowEnds l y0 y1 (least_row y0 y1 l) i p q
+    → s +ℤ s ≡ dx +ℤ dy → pos 0 ≤ℤ dx → pos 0 ≤ℤ dy → y0 <ℤ y1
     → (y0 -ℤ dy) ≤ℤ t.j → t.j <ℤ (y1 +ℤ dy) → (left_chain dx dy s y0 y1 l).bend ≤ℤ t.j → IsRightOf t (left_chain dx dy s y0 y1 l).upper → IsFromLow dx s i p q t
 low_upper (Upright c) dx dy s y0 y1 i p q t e even wx wy rows a b above h = record {
   columns = omega (arith, ints, e.i_low, h);
@@ -88,12 +91,14 @@ low_upper (Falling c) dx dy s y0 y1 i p q t e even wx wy rows a b above h = reco
   differences = omega (arith, ints, e.q_low, even, b, h, i_low t, q_high t);
 }
 
-pub right_lower : (l : Line) (dx dy s y0 y1 i p q : ℤ) (t : Tile) → LowEnds l y0 y1 (least_row y0 y1 l) i p q → IsFromLow dx s i p q t → IsRightOf t (left_chain dx dy s y0 y1 l).lower
+pub right_lower : (l : Line) (dx dy s y0 y1 i p q : ℤ) (t : Tile) → LowEnds l y0 y1 (least_row y0 y1 l) i p q
+    → IsFromLow dx s i p q t → IsRightOf t (left_chain dx dy s y0 y1 l).lower
 right_lower (Upright c) dx dy s y0 y1 i p q t e h = omega (arith, ints, e.i_high, h.columns)
 right_lower (Rising c) dx dy s y0 y1 i p q t e h = omega (arith, ints, e.i_high, h.columns)
 right_lower (Falling c) dx dy s y0 y1 i p q t e h = omega (arith, ints, e.p_high, h.sums)
 
-pub right_upper : (l : Line) (dx dy s y0 y1 i p q : ℤ) (t : Tile) → LowEnds l y0 y1 (least_row y0 y1 l) i p q → IsFromLow dx s i p q t → IsRightOf t (left_chain dx dy s y0 y1 l).upper
+pub right_upper : (l : Line) (dx dy s y0 y1 i p q : ℤ) (t : Tile) → LowEnds l y0 y1 (least_row y0 y1 l) i p q
+    → IsFromLow dx s i p q t → IsRightOf t (left_chain dx dy s y0 y1 l).upper
 right_upper (Upright c) dx dy s y0 y1 i p q t e h = omega (arith, ints, e.i_high, h.columns)
 right_upper (Rising c) dx dy s y0 y1 i p q t e h = omega (arith, ints, e.q_high, h.differences)
 right_upper (Falling c) dx dy s y0 y1 i p q t e h = omega (arith, ints, e.i_high, h.columns)
@@ -120,7 +125,8 @@ pub record IsToHigh (dx s i p q : ℤ) (t : Tile) : Type 0 where
   pub sums : ((strips_of t).p -ℤ s) ≤ℤ p
   pub differences : ((strips_of t).q -ℤ s) ≤ℤ q
 
-pub high_lower : (l : Line) (dx dy s y0 y1 i p q : ℤ) (t : Tile) → HighEnds l y0 y1 (greatest_row y0 y1 l) i p q → s +ℤ s ≡ dx +ℤ dy → pos 0 ≤ℤ dx → pos 0 ≤ℤ dy → y0 <ℤ y1
+pub high_lower : (l : Line) (dx dy s y0 y1 i p q : ℤ) (t : Tile) → HighEnds l y0 y1 (greatest_row y0 y1 l) i p q
+    → s +ℤ s ≡ dx +ℤ dy → pos 0 ≤ℤ dx → pos 0 ≤ℤ dy → y0 <ℤ y1
     → (y0 -ℤ dy) ≤ℤ t.j → t.j <ℤ (y1 +ℤ dy) → t.j <ℤ (right_chain dx dy s y0 y1 l).bend → IsLeftOf t (right_chain dx dy s y0 y1 l).lower → IsToHigh dx s i p q t
 high_lower (Upright c) dx dy s y0 y1 i p q t e even wx wy rows a b below h = record {
   columns = omega (arith, ints, e.i_high, h);
@@ -138,7 +144,8 @@ high_lower (Falling c) dx dy s y0 y1 i p q t e even wx wy rows a b below h = rec
   differences = omega (arith, ints, e.q_high, even, a, h, i_high t, q_low t);
 }
 
-pub high_upper : (l : Line) (dx dy s y0 y1 i p q : ℤ) (t : Tile) → HighEnds l y0 y1 (greatest_row y0 y1 l) i p q → s +ℤ s ≡ dx +ℤ dy → pos 0 ≤ℤ dx → pos 0 ≤ℤ dy → y0 <ℤ y1
+pub high_upper : (l : Line) (dx dy s y0 y1 i p q : ℤ) (t : Tile) → HighEnds l y0 y1 (greatest_row y0 y1 l) i p q
+    → s +ℤ s ≡ dx +ℤ dy → pos 0 ≤ℤ dx → pos 0 ≤ℤ dy → y0 <ℤ y1
     → (y0 -ℤ dy) ≤ℤ t.j → t.j <ℤ (y1 +ℤ dy) → (right_chain dx dy s y0 y1 l).bend ≤ℤ t.j → IsLeftOf t (right_chain dx dy s y0 y1 l).upper → IsToHigh dx s i p q t
 high_upper (Upright c) dx dy s y0 y1 i p q t e even wx wy rows a b above h = record {
   columns = omega (arith, ints, e.i_high, h);
@@ -156,12 +163,14 @@ high_upper (Falling c) dx dy s y0 y1 i p q t e even wx wy rows a b above h = rec
   differences = omega (arith, ints, e.q_high, even, above, h, p_high t, q_low t, wy);
 }
 
-pub left_lower : (l : Line) (dx dy s y0 y1 i p q : ℤ) (t : Tile) → HighEnds l y0 y1 (greatest_row y0 y1 l) i p q → IsToHigh dx s i p q t → IsLeftOf t (right_chain dx dy s y0 y1 l).lower
+pub left_lower : (l : Line) (dx dy s y0 y1 i p q : ℤ) (t : Tile) → HighEnds l y0 y1 (greatest_row y0 y1 l) i p q
+    → IsToHigh dx s i p q t → IsLeftOf t (right_chain dx dy s y0 y1 l).lower
 left_lower (Upright c) dx dy s y0 y1 i p q t e h = omega (arith, ints, e.i_low, h.columns)
 left_lower (Rising c) dx dy s y0 y1 i p q t e h = omega (arith, ints, e.q_low, h.differences)
 left_lower (Falling c) dx dy s y0 y1 i p q t e h = omega (arith, ints, e.i_low, h.columns)
 
-pub left_upper : (l : Line) (dx dy s y0 y1 i p q : ℤ) (t : Tile) → HighEnds l y0 y1 (greatest_row y0 y1 l) i p q → IsToHigh dx s i p q t → IsLeftOf t (right_chain dx dy s y0 y1 l).upper
+pub left_upper : (l : Line) (dx dy s y0 y1 i p q : ℤ) (t : Tile) → HighEnds l y0 y1 (greatest_row y0 y1 l) i p q
+    → IsToHigh dx s i p q t → IsLeftOf t (right_chain dx dy s y0 y1 l).upper
 left_upper (Upright c) dx dy s y0 y1 i p q t e h = omega (arith, ints, e.i_low, h.columns)
 left_upper (Rising c) dx dy s y0 y1 i p q t e h = omega (arith, ints, e.i_low, h.columns)
 left_upper (Falling c) dx dy s y0 y1 i p q t e h = omega (arith, ints, e.p_low, h.sums)
@@ -208,10 +217,18 @@ module _ (z : Trapezoid) (legal : IsLegal z) (e : Extremes z) where
         p_low = omega (arith, ints, e.sums.low tp (first_in z legal z.y0 bottom.0 bottom.1), number_first z z.y0, row_first z z.y0, p_low tp);
         p_high = omega (arith, ints, place_and_row z.left z.y0 e.sums.least.j bp.above_bottom, bp.from_left, p_high e.sums.least);
         q_low = omega (arith, ints, e.differences.low tq (first_in z legal top high.0 high.1), number_first z top, row_first z top, q_low tq);
-        q_high = omega (arith, ints, place_less_row z.left e.differences.least.j top (omega (arith, ints, bq.below_top)), bq.from_left, q_high e.differences.least);
+        q_high = omega (
+          arith,
+          ints,
+          place_less_row z.left e.differences.least.j top
+              (omega (arith, ints, bq.below_top)),
+          bq.from_left,
+          q_high e.differences.least,
+        );
       }
 
-  pub high_ends : HighEnds z.right z.y0 z.y1 (greatest_row z.y0 z.y1 z.right) (e.columns.greatest).i (strips_of e.sums.greatest).p (strips_of e.differences.greatest).q
+  pub high_ends : HighEnds z.right z.y0 z.y1 (greatest_row z.y0 z.y1 z.right) (e.columns.greatest).i
+      (strips_of e.sums.greatest).p (strips_of e.differences.greatest).q
   high_ends =
       let k = greatest_row z.y0 z.y1 z.right in
       let k_in = greatest_row_in z.right z.y0 z.y1 legal.has_rows in
@@ -225,7 +242,14 @@ module _ (z : Trapezoid) (legal : IsLegal z) (e : Extremes z) where
       let bottom = bottom_in z legal in
       let high = top_in z legal in
       record {
-        i_low = omega (arith, ints, greatest_row_is z.right z.y0 z.y1 e.columns.greatest.j bi.above_bottom bi.below_top, bi.below_right, i_low e.columns.greatest);
+        i_low = omega (
+          arith,
+          ints,
+          greatest_row_is z.right z.y0 z.y1 e.columns.greatest.j bi.above_bottom
+              bi.below_top,
+          bi.below_right,
+          i_low e.columns.greatest,
+        );
         i_high = omega (arith, ints, e.columns.high ti (last_in z legal k k_in.0 k_in.1), number_last z k, i_high ti);
         p_low = omega (arith, ints, place_and_row z.right e.sums.greatest.j top (omega (arith, ints, bp.below_top)), bp.below_right, p_low e.sums.greatest);
         p_high = omega (arith, ints, e.sums.high tp (last_in z legal top high.0 high.1), number_last z top, row_last z top, p_high tp);

@@ -82,7 +82,14 @@ record RowOfGreatest (l : Line) (y0 y1 : ℤ) : Type 0 where
 
 row_of_greatest : (l : Line) (y0 y1 : ℤ) → y0 <ℤ y1 → RowOfGreatest l y0 y1
 row_of_greatest (Upright c) y0 y1 h = record { k = y0; from = omega (arith, ints); to = h; greatest = λ j a b. omega (arith, ints) }
-row_of_greatest (Rising c) y0 y1 h = record { k = y1 -ℤ pos 1; from = omega (arith, ints, h); to = omega (arith, ints); greatest = λ j a b. omega (arith, ints, b) }
+row_of_greatest (Rising c) y0 y1 h =
+    record {
+      k = y1 -ℤ pos 1;
+      from = omega (arith, ints, h);
+      to = omega (arith, ints);
+      greatest = λ j a b. omega
+          (arith, ints, b);
+    }
 row_of_greatest (Falling c) y0 y1 h = record { k = y0; from = omega (arith, ints); to = h; greatest = λ j a b. omega (arith, ints, a) }
 
 module _ (z : Trapezoid) (legal : IsLegal z) where
@@ -91,14 +98,28 @@ module _ (z : Trapezoid) (legal : IsLegal z) where
   first_in k a b =
       let n = tile_with_number (place z.left k) k in
       let w = legal_places z k legal a b in
-      in_by_number z (tile_with (place z.left k) k) (record { above_bottom = a; below_top = b; from_left = omega (arith, ints, n); below_right = omega (arith, ints, n, w) })
+      in_by_number z (tile_with (place z.left k) k)
+      (record {
+        above_bottom = a;
+        below_top = b;
+        from_left = omega (arith, ints, n);
+        below_right = omega
+            (arith, ints, n, w);
+      })
 
   pub last_in : (k : ℤ) → z.y0 ≤ℤ k → k <ℤ z.y1 → IsInTrapezoid z (last_of z k)
   unfolding last_of
   last_in k a b =
       let n = tile_with_number (place z.right k -ℤ pos 1) k in
       let w = legal_places z k legal a b in
-      in_by_number z (tile_with (place z.right k -ℤ pos 1) k) (record { above_bottom = a; below_top = b; from_left = omega (arith, ints, n, w); below_right = omega (arith, ints, n) })
+      in_by_number z (tile_with (place z.right k -ℤ pos 1) k)
+      (record {
+        above_bottom = a;
+        below_top = b;
+        from_left = omega (arith, ints, n, w);
+        below_right = omega
+            (arith, ints, n);
+      })
 
   pub bottom_in : (z.y0 ≤ℤ z.y0) × (z.y0 <ℤ z.y1)
   bottom_in = (omega (arith, ints), legal.has_rows)
@@ -204,12 +225,14 @@ module _ (z : Trapezoid) (legal : IsLegal z) where
   }
 
 -- a tile that is in each range is in the trapezoid, since each side is along strips of one kind
-right_of_left : (l : Line) (t i p q : Tile) → IsRightOf i l → IsRightOf p l → IsRightOf q l → i.i ≤ℤ t.i → (strips_of p).p ≤ℤ (strips_of t).p → (strips_of q).q ≤ℤ (strips_of t).q → IsRightOf t l
+right_of_left : (l : Line) (t i p q : Tile) → IsRightOf i l → IsRightOf p l → IsRightOf q l → i.i ≤ℤ t.i
+    → (strips_of p).p ≤ℤ (strips_of t).p → (strips_of q).q ≤ℤ (strips_of t).q → IsRightOf t l
 right_of_left (Upright c) t i p q hi hp hq li lp lq = omega (arith, ints, hi, li)
 right_of_left (Rising c) t i p q hi hp hq li lp lq = omega (arith, ints, hq, lq)
 right_of_left (Falling c) t i p q hi hp hq li lp lq = omega (arith, ints, hp, lp)
 
-left_of_right : (l : Line) (t i p q : Tile) → IsLeftOf i l → IsLeftOf p l → IsLeftOf q l → t.i ≤ℤ i.i → (strips_of t).p ≤ℤ (strips_of p).p → (strips_of t).q ≤ℤ (strips_of q).q → IsLeftOf t l
+left_of_right : (l : Line) (t i p q : Tile) → IsLeftOf i l → IsLeftOf p l → IsLeftOf q l → t.i ≤ℤ i.i
+    → (strips_of t).p ≤ℤ (strips_of p).p → (strips_of t).q ≤ℤ (strips_of q).q → IsLeftOf t l
 left_of_right (Upright c) t i p q hi hp hq li lp lq = omega (arith, ints, hi, li)
 left_of_right (Rising c) t i p q hi hp hq li lp lq = omega (arith, ints, hq, lq)
 left_of_right (Falling c) t i p q hi hp hq li lp lq = omega (arith, ints, hp, lp)
@@ -222,6 +245,9 @@ pub whole : (z : Trapezoid) (e : Extremes z) (t : Tile) → column_of e.columns.
 whole z e t i0 i1 j0 j1 p0 p1 q0 q1 = record {
   above_bottom = omega (arith, ints, j0, e.rows.least_in.above_bottom);
   below_top = omega (arith, ints, j1, e.rows.greatest_in.below_top);
-  right_of_left = right_of_left z.left t e.columns.least e.sums.least e.differences.least e.columns.least_in.right_of_left e.sums.least_in.right_of_left e.differences.least_in.right_of_left i0 p0 q0;
-  left_of_right = left_of_right z.right t e.columns.greatest e.sums.greatest e.differences.greatest e.columns.greatest_in.left_of_right e.sums.greatest_in.left_of_right e.differences.greatest_in.left_of_right i1 p1 q1;
+  right_of_left = right_of_left z.left t e.columns.least e.sums.least e.differences.least
+      e.columns.least_in.right_of_left e.sums.least_in.right_of_left e.differences.least_in.right_of_left i0 p0 q0;
+  left_of_right = left_of_right z.right t e.columns.greatest e.sums.greatest e.differences.greatest
+      e.columns.greatest_in.left_of_right e.sums.greatest_in.left_of_right e.differences.greatest_in.left_of_right i1
+      p1 q1;
 }

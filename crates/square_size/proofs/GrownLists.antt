@@ -50,7 +50,8 @@ module _ (dx dy : ℤ) (r : IsRectangle dx dy) where
   in_later : (z : Trapezoid) (traps : List Trapezoid) (u : Tile) → IsInSome traps u → IsInSome (z ∷ traps) u
   in_later z traps u h = omega (arith, count_by-cons (trapezoid_has u) z traps, h)
 
-  in_one : {P : Type 0} (z : Trapezoid) (traps : List Trapezoid) (u : Tile) (has : Bool) → trapezoid_has u z ≡ has → IsInSome (z ∷ traps) u → (IsInTrapezoid z u → P) → (IsInSome traps u → P) → P
+  in_one : {P : Type 0} (z : Trapezoid) (traps : List Trapezoid) (u : Tile) (has : Bool) → trapezoid_has u z ≡ has
+      → IsInSome (z ∷ traps) u → (IsInTrapezoid z u → P) → (IsInSome traps u → P) → P
   in_one {P} z traps u true e h here later = here (has_in u z e)
   in_one {P} z traps u false e h here later =
       let none = ap count_one e in

@@ -58,7 +58,8 @@ p_jq t = omega (arith, ints, p_low t, q_high t)
 jq_p : (t : Tile) → (t.j +ℤ (strips_of t).q) ≤ℤ (strips_of t).p
 jq_p t = omega (arith, ints, p_high t, q_low t)
 
-meets : (strip : Tile → ℤ) (d : ℤ) (z : Trapezoid) (t : Tile) → pos 0 ≤ℤ d → (s : Span strip z) → IsNearRange strip d z t → Meets (strip s.least) (strip s.greatest) d (strip t)
+meets : (strip : Tile → ℤ) (d : ℤ) (z : Trapezoid) (t : Tile) → pos 0 ≤ℤ d → (s : Span strip z)
+    → IsNearRange strip d z t → Meets (strip s.least) (strip s.greatest) d (strip t)
 meets strip d z t wide s h = record {
   some = s.low s.greatest s.greatest_in;
   wide = wide;
@@ -77,7 +78,8 @@ differ d own n a b = record { above = a; below = b }
 
 module _ (dx dy s : ℤ) (z : Trapezoid) (e : Extremes z) (t : Tile) (even : s +ℤ s ≡ dx +ℤ dy) (wx : pos 0 ≤ℤ dx) (wy : pos 0 ≤ℤ dy)
     (mi : Meets (column_of e.columns.least) (column_of e.columns.greatest) dx t.i) (mj : Meets (row_of e.rows.least) (row_of e.rows.greatest) dy t.j)
-    (mp : Meets (sum_of e.sums.least) (sum_of e.sums.greatest) s (strips_of t).p) (mq : Meets (difference_of e.differences.least) (difference_of e.differences.greatest) s (strips_of t).q) where
+    (mp : Meets (sum_of e.sums.least) (sum_of e.sums.greatest) s (strips_of t).p)
+    (mq : Meets (difference_of e.differences.least) (difference_of e.differences.greatest) s (strips_of t).q) where
   abbrev common : Box
   common = record {
     i0 = from_both (column_of e.columns.least) dx t.i;
@@ -96,17 +98,202 @@ module _ (dx dy s : ℤ) (z : Trapezoid) (e : Extremes z) (t : Tile) (even : s +
     rows = some_common _ _ _ _ mj;
     sums = some_common _ _ _ _ mp;
     differences = some_common _ _ _ _ mq;
-    ij_p = mix.ij_p (ij_p t) even wx wy mi mj mp (omega (arith, ints, ij_p e.columns.greatest, e.rows.low e.columns.greatest e.columns.greatest_in, e.sums.high e.columns.greatest e.columns.greatest_in)) (omega (arith, ints, ij_p e.rows.greatest, e.columns.low e.rows.greatest e.rows.greatest_in, e.sums.high e.rows.greatest e.rows.greatest_in)) (omega (arith, ints, ij_p e.sums.least, e.columns.low e.sums.least e.sums.least_in, e.rows.low e.sums.least e.sums.least_in));
-    p_ij = mix.p_ij (p_ij t) even wx wy mp mi mj (omega (arith, ints, p_ij e.sums.greatest, e.columns.high e.sums.greatest e.sums.greatest_in, e.rows.high e.sums.greatest e.sums.greatest_in)) (omega (arith, ints, p_ij e.columns.least, e.sums.low e.columns.least e.columns.least_in, e.rows.high e.columns.least e.columns.least_in)) (omega (arith, ints, p_ij e.rows.least, e.sums.low e.rows.least e.rows.least_in, e.columns.high e.rows.least e.rows.least_in));
-    i_jq = mix.i_jq (i_jq t) even wx wy mi mj mq (omega (arith, ints, i_jq e.columns.greatest, e.rows.high e.columns.greatest e.columns.greatest_in, e.differences.high e.columns.greatest e.columns.greatest_in)) (omega (arith, ints, i_jq e.rows.least, e.columns.low e.rows.least e.rows.least_in, e.differences.high e.rows.least e.rows.least_in)) (omega (arith, ints, i_jq e.differences.least, e.columns.low e.differences.least e.differences.least_in, e.rows.high e.differences.least e.differences.least_in));
-    jq_i = mix.jq_i (jq_i t) even wx wy mj mq mi (omega (arith, ints, jq_i e.rows.greatest, e.differences.low e.rows.greatest e.rows.greatest_in, e.columns.high e.rows.greatest e.rows.greatest_in)) (omega (arith, ints, jq_i e.differences.greatest, e.rows.low e.differences.greatest e.differences.greatest_in, e.columns.high e.differences.greatest e.differences.greatest_in)) (omega (arith, ints, jq_i e.columns.least, e.rows.low e.columns.least e.columns.least_in, e.differences.low e.columns.least e.columns.least_in));
-    pq_i = mix.pq_i (pq_i t) even wx wy mp mq mi (omega (arith, ints, pq_i e.sums.greatest, e.differences.low e.sums.greatest e.sums.greatest_in, e.columns.high e.sums.greatest e.sums.greatest_in)) (omega (arith, ints, pq_i e.differences.greatest, e.sums.low e.differences.greatest e.differences.greatest_in, e.columns.high e.differences.greatest e.differences.greatest_in)) (omega (arith, ints, pq_i e.columns.least, e.sums.low e.columns.least e.columns.least_in, e.differences.low e.columns.least e.columns.least_in));
-    i_pq = mix.i_pq (i_pq t) even wx wy mi mp mq (omega (arith, ints, i_pq e.columns.greatest, e.sums.high e.columns.greatest e.columns.greatest_in, e.differences.high e.columns.greatest e.columns.greatest_in)) (omega (arith, ints, i_pq e.sums.least, e.columns.low e.sums.least e.sums.least_in, e.differences.high e.sums.least e.sums.least_in)) (omega (arith, ints, i_pq e.differences.least, e.columns.low e.differences.least e.differences.least_in, e.sums.high e.differences.least e.differences.least_in));
-    p_jq = mix.p_jq (p_jq t) even wx wy mp mj mq (omega (arith, ints, p_jq e.sums.greatest, e.rows.high e.sums.greatest e.sums.greatest_in, e.differences.high e.sums.greatest e.sums.greatest_in)) (omega (arith, ints, p_jq e.rows.least, e.sums.low e.rows.least e.rows.least_in, e.differences.high e.rows.least e.rows.least_in)) (omega (arith, ints, p_jq e.differences.least, e.sums.low e.differences.least e.differences.least_in, e.rows.high e.differences.least e.differences.least_in));
-    jq_p = mix.jq_p (jq_p t) even wx wy mj mq mp (omega (arith, ints, jq_p e.rows.greatest, e.differences.low e.rows.greatest e.rows.greatest_in, e.sums.high e.rows.greatest e.rows.greatest_in)) (omega (arith, ints, jq_p e.differences.greatest, e.rows.low e.differences.greatest e.differences.greatest_in, e.sums.high e.differences.greatest e.differences.greatest_in)) (omega (arith, ints, jq_p e.sums.least, e.rows.low e.sums.least e.sums.least_in, e.differences.low e.sums.least e.sums.least_in));
+    ij_p = mix.ij_p (ij_p t) even wx wy mi mj mp
+        (omega (
+          arith,
+          ints,
+          ij_p e.columns.greatest,
+          e.rows.low e.columns.greatest e.columns.greatest_in,
+          e.sums.high
+              e.columns.greatest e.columns.greatest_in,
+        ))
+        (omega (
+          arith,
+          ints,
+          ij_p e.rows.greatest,
+          e.columns.low e.rows.greatest e.rows.greatest_in,
+          e.sums.high
+              e.rows.greatest e.rows.greatest_in,
+        ))
+        (omega (
+          arith,
+          ints,
+          ij_p e.sums.least,
+          e.columns.low e.sums.least e.sums.least_in,
+          e.rows.low e.sums.least
+              e.sums.least_in,
+        ));
+    p_ij = mix.p_ij (p_ij t) even wx wy mp mi mj
+        (omega (
+          arith,
+          ints,
+          p_ij e.sums.greatest,
+          e.columns.high e.sums.greatest e.sums.greatest_in,
+          e.rows.high
+              e.sums.greatest e.sums.greatest_in,
+        ))
+        (omega (
+          arith,
+          ints,
+          p_ij e.columns.least,
+          e.sums.low e.columns.least e.columns.least_in,
+          e.rows.high
+              e.columns.least e.columns.least_in,
+        ))
+        (omega (
+          arith,
+          ints,
+          p_ij e.rows.least,
+          e.sums.low e.rows.least e.rows.least_in,
+          e.columns.high e.rows.least
+              e.rows.least_in,
+        ));
+    i_jq = mix.i_jq (i_jq t) even wx wy mi mj mq
+        (omega (
+          arith,
+          ints,
+          i_jq e.columns.greatest,
+          e.rows.high e.columns.greatest e.columns.greatest_in,
+          e.differences.high e.columns.greatest e.columns.greatest_in,
+        ))
+        (omega (
+          arith,
+          ints,
+          i_jq e.rows.least,
+          e.columns.low e.rows.least e.rows.least_in,
+          e.differences.high
+              e.rows.least e.rows.least_in,
+        ))
+        (omega (
+          arith,
+          ints,
+          i_jq e.differences.least,
+          e.columns.low e.differences.least e.differences.least_in,
+          e.rows.high e.differences.least e.differences.least_in,
+        ));
+    jq_i = mix.jq_i (jq_i t) even wx wy mj mq mi
+        (omega (
+          arith,
+          ints,
+          jq_i e.rows.greatest,
+          e.differences.low e.rows.greatest e.rows.greatest_in,
+          e.columns.high
+              e.rows.greatest e.rows.greatest_in,
+        ))
+        (omega (
+          arith,
+          ints,
+          jq_i e.differences.greatest,
+          e.rows.low e.differences.greatest e.differences.greatest_in,
+          e.columns.high e.differences.greatest e.differences.greatest_in,
+        ))
+        (omega (
+          arith,
+          ints,
+          jq_i e.columns.least,
+          e.rows.low e.columns.least e.columns.least_in,
+          e.differences.low
+              e.columns.least e.columns.least_in,
+        ));
+    pq_i = mix.pq_i (pq_i t) even wx wy mp mq mi
+        (omega (
+          arith,
+          ints,
+          pq_i e.sums.greatest,
+          e.differences.low e.sums.greatest e.sums.greatest_in,
+          e.columns.high
+              e.sums.greatest e.sums.greatest_in,
+        ))
+        (omega (
+          arith,
+          ints,
+          pq_i e.differences.greatest,
+          e.sums.low e.differences.greatest e.differences.greatest_in,
+          e.columns.high e.differences.greatest e.differences.greatest_in,
+        ))
+        (omega (
+          arith,
+          ints,
+          pq_i e.columns.least,
+          e.sums.low e.columns.least e.columns.least_in,
+          e.differences.low
+              e.columns.least e.columns.least_in,
+        ));
+    i_pq = mix.i_pq (i_pq t) even wx wy mi mp mq
+        (omega (
+          arith,
+          ints,
+          i_pq e.columns.greatest,
+          e.sums.high e.columns.greatest e.columns.greatest_in,
+          e.differences.high e.columns.greatest e.columns.greatest_in,
+        ))
+        (omega (
+          arith,
+          ints,
+          i_pq e.sums.least,
+          e.columns.low e.sums.least e.sums.least_in,
+          e.differences.high
+              e.sums.least e.sums.least_in,
+        ))
+        (omega (
+          arith,
+          ints,
+          i_pq e.differences.least,
+          e.columns.low e.differences.least e.differences.least_in,
+          e.sums.high e.differences.least e.differences.least_in,
+        ));
+    p_jq = mix.p_jq (p_jq t) even wx wy mp mj mq
+        (omega (
+          arith,
+          ints,
+          p_jq e.sums.greatest,
+          e.rows.high e.sums.greatest e.sums.greatest_in,
+          e.differences.high
+              e.sums.greatest e.sums.greatest_in,
+        ))
+        (omega (
+          arith,
+          ints,
+          p_jq e.rows.least,
+          e.sums.low e.rows.least e.rows.least_in,
+          e.differences.high
+              e.rows.least e.rows.least_in,
+        ))
+        (omega (
+          arith,
+          ints,
+          p_jq e.differences.least,
+          e.sums.low e.differences.least e.differences.least_in,
+          e.rows.high e.differences.least e.differences.least_in,
+        ));
+    jq_p = mix.jq_p (jq_p t) even wx wy mj mq mp
+        (omega (
+          arith,
+          ints,
+          jq_p e.rows.greatest,
+          e.differences.low e.rows.greatest e.rows.greatest_in,
+          e.sums.high
+              e.rows.greatest e.rows.greatest_in,
+        ))
+        (omega (
+          arith,
+          ints,
+          jq_p e.differences.greatest,
+          e.rows.low e.differences.greatest e.differences.greatest_in,
+          e.sums.high e.differences.greatest e.differences.greatest_in,
+        ))
+        (omega (
+          arith,
+          ints,
+          jq_p e.sums.least,
+          e.rows.low e.sums.least e.sums.least_in,
+          e.differences.low e.sums.least
+              e.sums.least_in,
+        ));
   }
 
-  near_tile : (u : Tile) × IsInTrapezoid z u × DifferAtMost dx t.i u.i × DifferAtMost dy t.j u.j × DifferAtMost s (strips_of t).p (strips_of u).p × DifferAtMost s (strips_of t).q (strips_of u).q
+  near_tile : (u : Tile) × IsInTrapezoid z u × DifferAtMost dx t.i u.i × DifferAtMost dy t.j u.j
+      × DifferAtMost s (strips_of t).p (strips_of u).p × DifferAtMost s (strips_of t).q (strips_of u).q
   near_tile =
       let found = tile_of_box common full in
       let u = found.0 in
@@ -128,12 +315,14 @@ pub record MeetsAll (dx dy s : ℤ) (z : Trapezoid) (e : Extremes z) (t : Tile) 
   pub sums : Meets (sum_of e.sums.least) (sum_of e.sums.greatest) s (strips_of t).p
   pub differences : Meets (difference_of e.differences.least) (difference_of e.differences.greatest) s (strips_of t).q
 
-pub near_where_meets : (dx dy : ℤ) (z : Trapezoid) (e : Extremes z) (t : Tile) → IsRectangle dx dy → MeetsAll dx dy (half (dx +ℤ dy)) z e t → IsGrown dx dy (IsInTrapezoid z) t
+pub near_where_meets : (dx dy : ℤ) (z : Trapezoid) (e : Extremes z) (t : Tile) → IsRectangle dx dy
+    → MeetsAll dx dy (half (dx +ℤ dy)) z e t → IsGrown dx dy (IsInTrapezoid z) t
 near_where_meets dx dy z e t r m =
     let found = near_tile dx dy (half (dx +ℤ dy)) z e t (half_twice (dx +ℤ dy) r.even) r.columns r.rows m.columns m.rows m.sums m.differences in
     (found.0, found.1, record { columns = found.2; rows = found.3; sums = found.4; differences = found.5 })
 
-meets_where_each : (dx dy : ℤ) (z : Trapezoid) (e : Extremes z) (t : Tile) → IsRectangle dx dy → IsNearInEachStrip dx dy z t → MeetsAll dx dy (half (dx +ℤ dy)) z e t
+meets_where_each : (dx dy : ℤ) (z : Trapezoid) (e : Extremes z) (t : Tile) → IsRectangle dx dy
+    → IsNearInEachStrip dx dy z t → MeetsAll dx dy (half (dx +ℤ dy)) z e t
 meets_where_each dx dy z e t r n =
     let even = half_twice (dx +ℤ dy) r.even in
     let ws : pos 0 ≤ℤ half (dx +ℤ dy) = omega (arith, ints, even, r.columns, r.rows) in
@@ -144,7 +333,8 @@ meets_where_each dx dy z e t r n =
       differences = meets difference_of (half (dx +ℤ dy)) z t ws e.differences n.differences;
     }
 
-pub meets_where_near : (dx dy : ℤ) (z : Trapezoid) (e : Extremes z) (t : Tile) → IsRectangle dx dy → IsGrown dx dy (IsInTrapezoid z) t → MeetsAll dx dy (half (dx +ℤ dy)) z e t
+pub meets_where_near : (dx dy : ℤ) (z : Trapezoid) (e : Extremes z) (t : Tile) → IsRectangle dx dy
+    → IsGrown dx dy (IsInTrapezoid z) t → MeetsAll dx dy (half (dx +ℤ dy)) z e t
 meets_where_near dx dy z e t r h = meets_where_each dx dy z e t r (near_in_each dx dy z t h)
 
 near_to_some : (dx dy : ℤ) (z : Trapezoid) (t : Tile) → IsRectangle dx dy → IsLegal z → IsNearInEachStrip dx dy z t → IsGrown dx dy (IsInTrapezoid z) t

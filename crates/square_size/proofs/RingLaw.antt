@@ -17,22 +17,86 @@ use Rattle.square_size.specs.Ranges.{IsRectangle}
 use Rattle.square_size.specs.Rings.{grown_ring, lower_left, upper_left, lower_right, upper_right, left_bend, right_bend}
 use Rattle.square_size.proofs.Extremes.{Extremes, extremes, first_of, first_in, number_first, row_first}
 use Rattle.square_size.proofs.NearLaw.{half_twice, near_where_meets, meets_where_near}
-use Rattle.square_size.proofs.Ends.{Chain, left_chain, right_chain, IsFromLow, IsToHigh, low_ends, high_ends, low_lower, low_upper, right_lower, right_upper, high_lower, high_upper, left_lower, left_upper}
-use Rattle.square_size.proofs.Sides.{IsAlong, IsRightOfChain, IsLeftOfChain, chain_count, chain_up, chain_down, level, count_right, count_left, count_under, count_over, by_side}
+use Rattle.square_size.proofs.Ends.{Chain, left_chain, right_chain, IsFromLow, IsToHigh, low_ends, high_ends, low_lower}
+use Rattle.square_size.proofs.Ends.{low_upper, right_lower, right_upper, high_lower, high_upper, left_lower, left_upper}
+use Rattle.square_size.proofs.Sides.{IsAlong, IsRightOfChain, IsLeftOfChain, chain_count, chain_up, chain_down, level}
+use Rattle.square_size.proofs.Sides.{count_right, count_left, count_under, count_over, by_side}
 
 -- ---- the points of the ring along its lines
 
 left_along : (l : Line) (dx dy s y0 y1 : ℤ) → s +ℤ s ≡ dx +ℤ dy → pos 0 ≤ℤ dy → y0 <ℤ y1
-    → IsAlong (left_chain dx dy s y0 y1 l) (record { x = x_on l y0 -ℤ dx; y = y0 -ℤ dy }) (left_bend dx dy y0 y1 l) (record { x = x_on l y1 -ℤ dx; y = y1 +ℤ dy })
-left_along (Upright c) dx dy s y0 y1 even wy rows = record { foot_on = refl; bend_on = refl; bend_upper = refl; head_on = refl; bend_at = refl; low = omega (arith, ints, wy, rows); high = omega (arith, ints) }
-left_along (Rising c) dx dy s y0 y1 even wy rows = record { foot_on = refl; bend_on = refl; bend_upper = omega (arith, ints, even); head_on = omega (arith, ints, even); bend_at = refl; low = omega (arith, ints, wy); high = omega (arith, ints, rows) }
-left_along (Falling c) dx dy s y0 y1 even wy rows = record { foot_on = omega (arith, ints, even); bend_on = omega (arith, ints, even); bend_upper = refl; head_on = refl; bend_at = refl; low = omega (arith, ints, rows); high = omega (arith, ints, wy) }
+    → IsAlong (left_chain dx dy s y0 y1 l) (record { x = x_on l y0 -ℤ dx; y = y0 -ℤ dy }) (left_bend dx dy y0 y1 l)
+    (record { x = x_on l y1 -ℤ dx; y = y1 +ℤ dy })
+left_along (Upright c) dx dy s y0 y1 even wy rows =
+    record {
+      foot_on = refl;
+      bend_on = refl;
+      bend_upper = refl;
+      head_on = refl;
+      bend_at = refl;
+      low = omega
+          (arith, ints, wy, rows);
+      high = omega (arith, ints);
+    }
+left_along (Rising c) dx dy s y0 y1 even wy rows =
+    record {
+      foot_on = refl;
+      bend_on = refl;
+      bend_upper = omega (arith, ints, even);
+      head_on = omega
+          (arith, ints, even);
+      bend_at = refl;
+      low = omega (arith, ints, wy);
+      high = omega (arith, ints, rows);
+    }
+left_along (Falling c) dx dy s y0 y1 even wy rows =
+    record {
+      foot_on = omega (arith, ints, even);
+      bend_on = omega (arith, ints, even);
+      bend_upper = refl;
+      head_on =
+          refl;
+      bend_at = refl;
+      low = omega (arith, ints, rows);
+      high = omega (arith, ints, wy);
+    }
 
 right_along : (l : Line) (dx dy s y0 y1 : ℤ) → s +ℤ s ≡ dx +ℤ dy → pos 0 ≤ℤ dy → y0 <ℤ y1
-    → IsAlong (right_chain dx dy s y0 y1 l) (record { x = x_on l y0 +ℤ dx; y = y0 -ℤ dy }) (right_bend dx dy y0 y1 l) (record { x = x_on l y1 +ℤ dx; y = y1 +ℤ dy })
-right_along (Upright c) dx dy s y0 y1 even wy rows = record { foot_on = refl; bend_on = refl; bend_upper = refl; head_on = refl; bend_at = refl; low = omega (arith, ints, wy, rows); high = omega (arith, ints) }
-right_along (Rising c) dx dy s y0 y1 even wy rows = record { foot_on = omega (arith, ints, even); bend_on = omega (arith, ints, even); bend_upper = refl; head_on = refl; bend_at = refl; low = omega (arith, ints, rows); high = omega (arith, ints, wy) }
-right_along (Falling c) dx dy s y0 y1 even wy rows = record { foot_on = refl; bend_on = refl; bend_upper = omega (arith, ints, even); head_on = omega (arith, ints, even); bend_at = refl; low = omega (arith, ints, wy); high = omega (arith, ints, rows) }
+    → IsAlong (right_chain dx dy s y0 y1 l) (record { x = x_on l y0 +ℤ dx; y = y0 -ℤ dy }) (right_bend dx dy y0 y1 l)
+    (record { x = x_on l y1 +ℤ dx; y = y1 +ℤ dy })
+right_along (Upright c) dx dy s y0 y1 even wy rows =
+    record {
+      foot_on = refl;
+      bend_on = refl;
+      bend_upper = refl;
+      head_on = refl;
+      bend_at = refl;
+      low = omega
+          (arith, ints, wy, rows);
+      high = omega (arith, ints);
+    }
+right_along (Rising c) dx dy s y0 y1 even wy rows =
+    record {
+      foot_on = omega (arith, ints, even);
+      bend_on = omega (arith, ints, even);
+      bend_upper = refl;
+      head_on =
+          refl;
+      bend_at = refl;
+      low = omega (arith, ints, rows);
+      high = omega (arith, ints, wy);
+    }
+right_along (Falling c) dx dy s y0 y1 even wy rows =
+    record {
+      foot_on = refl;
+      bend_on = refl;
+      bend_upper = omega (arith, ints, even);
+      head_on = omega
+          (arith, ints, even);
+      bend_at = refl;
+      low = omega (arith, ints, wy);
+      high = omega (arith, ints, rows);
+    }
 
 module _ (dx dy : ℤ) (z : Trapezoid) (r : IsRectangle dx dy) (legal : IsLegal z) where
   abbrev s : ℤ
@@ -65,7 +129,9 @@ module _ (dx dy : ℤ) (z : Trapezoid) (r : IsRectangle dx dy) (legal : IsLegal 
       omega (
         arith,
         ints,
-        winding_along t (lower_left dx dy z) (left_bend dx dy z.y0 z.y1 z.left ∷ upper_left dx dy z ∷ upper_right dx dy z ∷ right_bend dx dy z.y0 z.y1 z.right ∷ lower_right dx dy z ∷ lower_left dx dy z ∷ []),
+        winding_along t (lower_left dx dy z)
+            (left_bend dx dy z.y0 z.y1 z.left ∷ upper_left dx dy z ∷ upper_right dx dy z
+            ∷ right_bend dx dy z.y0 z.y1 z.right ∷ lower_right dx dy z ∷ lower_left dx dy z ∷ []),
         chain_up t left (lower_left dx dy z) (left_bend dx dy z.y0 z.y1 z.left) (upper_left dx dy z) left_is,
         chain_down t right (lower_right dx dy z) (right_bend dx dy z.y0 z.y1 z.right) (upper_right dx dy z) right_is,
         level t (upper_left dx dy z) (upper_right dx dy z) refl,
@@ -136,9 +202,22 @@ module _ (dx dy : ℤ) (z : Trapezoid) (r : IsRectangle dx dy) (legal : IsLegal 
       let ws : pos 0 ≤ℤ s = omega (arith, ints, even, r.columns, r.rows) in
       near_where_meets dx dy z e t r (record {
         columns = record { some = e.columns.low e.columns.greatest e.columns.greatest_in; wide = r.columns; from = low.columns; to = high.columns };
-        rows = record { some = e.rows.low e.rows.greatest e.rows.greatest_in; wide = r.rows; from = omega (arith, ints, bottom, row_first z z.y0, w.low); to = omega (arith, ints, top, row_first z (z.y1 -ℤ pos 1), w.high) };
+        rows = record {
+          some = e.rows.low e.rows.greatest e.rows.greatest_in;
+          wide = r.rows;
+          from = omega
+              (arith, ints, bottom, row_first z z.y0, w.low);
+          to = omega
+              (arith, ints, top, row_first z (z.y1 -ℤ pos 1), w.high);
+        };
         sums = record { some = e.sums.low e.sums.greatest e.sums.greatest_in; wide = ws; from = low.sums; to = high.sums };
-        differences = record { some = e.differences.low e.differences.greatest e.differences.greatest_in; wide = ws; from = low.differences; to = high.differences };
+        differences = record {
+          some = e.differences.low e.differences.greatest e.differences.greatest_in;
+          wide =
+              ws;
+          from = low.differences;
+          to = high.differences;
+        };
       })
 
   -- ---- each row of the ring has a near tile: that with the number of a first tile of the trapezoid's nearest row
@@ -156,15 +235,30 @@ module _ (dx dy : ℤ) (z : Trapezoid) (r : IsRectangle dx dy) (legal : IsLegal 
       (λ lt. record { k = z.y0; from = omega (arith, ints); to = legal.has_rows; above = omega (arith, ints, lt, r.rows); below = omega (arith, ints, a) })
       (λ ge. by_lt_z j z.y1
       (λ lt. record { k = j; from = ge; to = lt; above = omega (arith, ints, r.rows); below = omega (arith, ints, r.rows) })
-      (λ over. record { k = z.y1 -ℤ pos 1; from = omega (arith, ints, legal.has_rows); to = omega (arith, ints); above = omega (arith, ints, b); below = omega (arith, ints, over, r.rows) }))
+      (λ over. record {
+        k = z.y1 -ℤ pos 1;
+        from = omega (arith, ints, legal.has_rows);
+        to = omega
+            (arith, ints);
+        above = omega (arith, ints, b);
+        below = omega (arith, ints, over, r.rows);
+      }))
 
   -- tiles with one number in two rows that are near
   one_number : (t u : Tile) → number_in_row t ≡ number_in_row u → (t.j -ℤ u.j) ≤ℤ dy → (u.j -ℤ t.j) ≤ℤ dy → IsNear dx dy t u
   one_number t u n a b = record {
     columns = record { above = omega (arith, ints, n, r.columns, i_low t, i_high u); below = omega (arith, ints, n, r.columns, i_high t, i_low u) };
     rows = record { above = a; below = b };
-    sums = record { above = omega (arith, ints, n, even, r.columns, a, p_low t, p_high u); below = omega (arith, ints, n, even, r.columns, b, p_high t, p_low u) };
-    differences = record { above = omega (arith, ints, n, even, r.columns, b, q_low t, q_high u); below = omega (arith, ints, n, even, r.columns, a, q_high t, q_low u) };
+    sums = record {
+      above = omega (arith, ints, n, even, r.columns, a, p_low t, p_high u);
+      below = omega
+          (arith, ints, n, even, r.columns, b, p_high t, p_low u);
+    };
+    differences = record {
+      above = omega (arith, ints, n, even, r.columns, b, q_low t, q_high u);
+      below = omega
+          (arith, ints, n, even, r.columns, a, q_high t, q_low u);
+    };
   }
 
   near_in_row : (j : ℤ) → y0 ≤ℤ j → j <ℤ y1 → (v : Tile) × (v.j ≡ j) × IsWithin v
@@ -172,7 +266,8 @@ module _ (dx dy : ℤ) (z : Trapezoid) (r : IsRectangle dx dy) (legal : IsLegal 
       let n = nearest_row j a b in
       let v = tile_with (place z.left n.k) j in
       let f = first_of z n.k in
-      let same : number_in_row (tile_with (place z.left n.k) j) ≡ number_in_row (first_of z n.k) = omega (arith, ints, tile_with_number (place z.left n.k) j, number_first z n.k) in
+      let same : number_in_row (tile_with (place z.left n.k) j) ≡ number_in_row (first_of z n.k) = omega
+      (arith, ints, tile_with_number (place z.left n.k) j, number_first z n.k) in
       let row = row_first z n.k in
       (v, refl, within v (f, first_in z legal n.k n.from n.to, one_number v f same (omega (arith, ints, row, n.above)) (omega (arith, ints, row, n.below))))
 

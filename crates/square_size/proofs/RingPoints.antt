@@ -30,7 +30,16 @@ ring_on_grid dx dy z r legal =
     let h = right_is dx dy z r legal in
     All-from_recursion IsOnGrid (edges_of (grown_ring dx dy z)) (
       on_line left.lower _ _ l.foot_on l.bend_on,
-      (on_line left.upper _ _ l.bend_upper l.head_on, (inl refl, (on_line right.upper _ _ h.head_on h.bend_upper, (on_line right.lower _ _ h.bend_on h.foot_on, (inl refl, tt))))),
+      (
+        on_line left.upper _ _ l.bend_upper l.head_on,
+        (
+          inl refl,
+          (
+            on_line right.upper _ _ h.head_on h.bend_upper,
+            (on_line right.lower _ _ h.bend_on h.foot_on, (inl refl, tt)),
+          ),
+        ),
+      ),
     )
 
 module _ (dx dy : ℤ) (z : Trapezoid) (r : IsRectangle dx dy) (shot : IsShot z) (h : HasRingWithinReach dx dy z) where

@@ -29,7 +29,8 @@ side_up t a b line pa pb h =
     (λ ge. rw (beyond_nothing t line a.y b.y ge) (crossing_none t a b (no_rows t b.y a.y ge) (no_rows t a.y b.y h)))
 
 -- a side from its upper end down
-side_down : (t : Tile) (a b : Point) (line : Line) → Passes line a → Passes line b → a.y ≤ℤ b.y → crossing_of t b a ≡ neg_ℤ (pos (count_one (is_beyond t line a.y b.y)))
+side_down : (t : Tile) (a b : Point) (line : Line) → Passes line a → Passes line b → a.y ≤ℤ b.y
+    → crossing_of t b a ≡ neg_ℤ (pos (count_one (is_beyond t line a.y b.y)))
 side_down t a b line pa pb h =
     by_lt_z a.y b.y
     (λ lt. rw (line_is b a line pb pa (λ e. absurd (omega (arith, ints, lt, e))), no_rows t a.y b.y h) (omega (arith, ints)))
@@ -49,13 +50,15 @@ pub record IsAlong (c : Chain) (foot bend head : Point) : Type 0 where
   pub low : foot.y ≤ℤ bend.y
   pub high : bend.y ≤ℤ head.y
 
-pub chain_up : (t : Tile) (c : Chain) (foot bend head : Point) → IsAlong c foot bend head → crossing_of t foot bend +ℤ crossing_of t bend head ≡ pos (chain_count t foot.y c head.y)
+pub chain_up : (t : Tile) (c : Chain) (foot bend head : Point) → IsAlong c foot bend head
+    → crossing_of t foot bend +ℤ crossing_of t bend head ≡ pos (chain_count t foot.y c head.y)
 chain_up t c foot bend head h =
     let lower = side_up t foot bend c.lower h.foot_on h.bend_on h.low in
     let upper = side_up t bend head c.upper h.bend_upper h.head_on h.high in
     rw (lower, upper, h.bend_at) (omega (arith, ints))
 
-pub chain_down : (t : Tile) (c : Chain) (foot bend head : Point) → IsAlong c foot bend head → crossing_of t head bend +ℤ crossing_of t bend foot ≡ neg_ℤ (pos (chain_count t foot.y c head.y))
+pub chain_down : (t : Tile) (c : Chain) (foot bend head : Point) → IsAlong c foot bend head
+    → crossing_of t head bend +ℤ crossing_of t bend foot ≡ neg_ℤ (pos (chain_count t foot.y c head.y))
 chain_down t c foot bend head h =
     let lower = side_down t foot bend c.lower h.foot_on h.bend_on h.low in
     let upper = side_down t bend head c.upper h.bend_upper h.head_on h.high in

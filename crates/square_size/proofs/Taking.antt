@@ -5,7 +5,8 @@ use Rattle.half_grid.specs.Trapezoids.{Trapezoid}
 use Rattle.square_size.specs.Edges.{edges_of_grown, listed}
 
 -- where nothing is left in hand, what comes is the ring of the first trapezoid, and then those of the others
-pub turned : (dx dy : ℤ) (in_hand next : List EdgeParts) (traps others : List Trapezoid) (z : Trapezoid) → in_hand ≡ [] → traps ≡ z ∷ others → next ≡ edges_of_grown dx dy z
+pub turned : (dx dy : ℤ) (in_hand next : List EdgeParts) (traps others : List Trapezoid) (z : Trapezoid) → in_hand ≡ []
+    → traps ≡ z ∷ others → next ≡ edges_of_grown dx dy z
     → in_hand ++ flat_map (edges_of_grown dx dy) traps ≡ next ++ flat_map (edges_of_grown dx dy) others
 turned dx dy in_hand next traps others z none first is =
     ap (λ (es : List EdgeParts). es ++ flat_map (edges_of_grown dx dy) traps) none

@@ -1,5 +1,6 @@
 -- Mirror images by numbers and places: the tile with the number n goes to 4m - 1 - n, and a place k to 4m - k.
-use Rattle.std.proofs.Common.{SomeIff, IsSome, Option, Some, None, ◌≡◌, Bool, true, false, ℤ, pos, ◌+ℤ◌, ◌-ℤ◌, ◌↔◌, List, [], ◌∷◌, map, arith, refl, ap, ◌∙◌, sym}
+use Rattle.std.proofs.Common.{SomeIff, IsSome, Option, Some, None, ◌≡◌, Bool, true, false, ℤ, pos, ◌+ℤ◌, ◌-ℤ◌, ◌↔◌}
+use Rattle.std.proofs.Common.{List, [], ◌∷◌, map, arith, refl, ap, ◌∙◌, sym}
 use Rattle.std.proofs.lemmas.Int.{ints}
 use Rattle.half_grid.specs.Halves.{twice}
 use Rattle.half_grid.specs.Lines.{x_on}
@@ -107,7 +108,11 @@ image_is_legal m z h =
 pub mirror_within : (m : ℤ) (z : Trapezoid) → IsShot z → HasImageWithinReach m z → IsWithinReach m
 mirror_within m z h image =
     let l = image_x m z.left z.y0 in
-    record { low = omega (arith, ints, l, h.reach.bottom_left.low, image.bottom_right.low); high = omega (arith, ints, l, h.reach.bottom_left.high, image.bottom_right.high) }
+    record {
+      low = omega (arith, ints, l, h.reach.bottom_left.low, image.bottom_right.low);
+      high = omega
+          (arith, ints, l, h.reach.bottom_left.high, image.bottom_right.high);
+    }
 
 pub image_is_shot : (m : ℤ) (z : Trapezoid) → IsShot z → HasImageWithinReach m z → IsShot (mirrored_trapezoid m z)
 image_is_shot m z h image = record { legal = image_is_legal m z h.legal; reach = image }

@@ -15,7 +15,8 @@ pub use Rattle.trap_join.proofs.Growth.{taller_shot, joined_more}
 pub use Rattle.trap_join.proofs.XOrder.{goes_on_left, goes_on_right, goes_on_by}
 pub use Rattle.trap_join.proofs.Merging.{in_none, bottom_here}
 -- Members of lists, and parts of lists that stand in order.
-pub use Rattle.trap_join.proofs.Members.{is_first, among_rest, all_members, Found, found, counted, one_only, none_counted, some_member, any_by, mapped, origin, passed, passing}
+pub use Rattle.trap_join.proofs.Members.{is_first, among_rest, all_members, Found, found, counted, one_only}
+pub use Rattle.trap_join.proofs.Members.{none_counted, some_member, any_by, mapped, origin, passed, passing}
 pub use Rattle.trap_join.proofs.Orders.{order_append, order_first, order_second, order_between}
 -- What a join has given, and what it covers, at an equal rule, at equal edges and at an equal window.
 pub use Rattle.trap_join.proofs.Advances.{moved_rule, stays_joined, moved_cover}

@@ -50,12 +50,14 @@ module _ (area : Tile → Type 0) (window : RowRange) where
       ]
 
   -- a run of a row in which a maximal trapezoid has one of the run's tiles lies between the trapezoid's lines
-  pub run_left : (z : Trapezoid) (l r : Line) (t : Tile) → IsMaximal area window z → IsInTrapezoid z t → IsRunAt area l r t.j → place l t.j ≤ℤ number_in_row t → number_in_row t <ℤ place r t.j → z.left ≡ l
+  pub run_left : (z : Trapezoid) (l r : Line) (t : Tile) → IsMaximal area window z → IsInTrapezoid z t
+      → IsRunAt area l r t.j → place l t.j ≤ℤ number_in_row t → number_in_row t <ℤ place r t.j → z.left ≡ l
   run_left z l r t m h run a b =
       let n = number_between z t h in
       same_left z.left z.right l r t.j (number_in_row t) (m.runs t.j n.above_bottom n.below_top) run n.from_left n.below_right a b
 
-  pub run_right : (z : Trapezoid) (l r : Line) (t : Tile) → IsMaximal area window z → IsInTrapezoid z t → IsRunAt area l r t.j → place l t.j ≤ℤ number_in_row t → number_in_row t <ℤ place r t.j → z.right ≡ r
+  pub run_right : (z : Trapezoid) (l r : Line) (t : Tile) → IsMaximal area window z → IsInTrapezoid z t
+      → IsRunAt area l r t.j → place l t.j ≤ℤ number_in_row t → number_in_row t <ℤ place r t.j → z.right ≡ r
   run_right z l r t m h run a b =
       let n = number_between z t h in
       same_right z.left z.right l r t.j (number_in_row t) (m.runs t.j n.above_bottom n.below_top) run n.from_left n.below_right a b
@@ -63,20 +65,29 @@ module _ (area : Tile → Type 0) (window : RowRange) where
   moved_run : (l r k s : Line) (j : ℤ) → l ≡ k → r ≡ s → IsRunAt area l r j → IsRunAt area k s j
   moved_run l r k s j el er run = subst (λ (x : Line). IsRunAt area k x j) er (subst (λ (x : Line). IsRunAt area x r j) el run)
 
-  not_higher : (y z : Trapezoid) (j : ℤ) → IsMaximal area window y → IsMaximal area window z → y.left ≡ z.left → y.right ≡ z.right → z.y0 ≤ℤ j → j <ℤ y.y1 → y.y1 <ℤ z.y1 → ⊥
+  not_higher : (y z : Trapezoid) (j : ℤ) → IsMaximal area window y → IsMaximal area window z → y.left ≡ z.left
+      → y.right ≡ z.right → z.y0 ≤ℤ j → j <ℤ y.y1 → y.y1 <ℤ z.y1 → ⊥
   not_higher y z j my mz el er a b c =
-      my.top (let w = mz.in_window.high in omega (arith, ints, c, w)) (moved_run z.left z.right y.left y.right y.y1 (sym el) (sym er) (mz.runs y.y1 (omega (arith, ints, a, b)) c))
+      my.top (let w = mz.in_window.high in omega (arith, ints, c, w))
+      (moved_run z.left z.right y.left y.right y.y1 (sym el) (sym er) (mz.runs y.y1 (omega (arith, ints, a, b)) c))
 
-  not_lower : (y z : Trapezoid) (j : ℤ) → IsMaximal area window y → IsMaximal area window z → y.left ≡ z.left → y.right ≡ z.right → z.y0 ≤ℤ j → j <ℤ y.y1 → y.y0 <ℤ z.y0 → ⊥
+  not_lower : (y z : Trapezoid) (j : ℤ) → IsMaximal area window y → IsMaximal area window z → y.left ≡ z.left
+      → y.right ≡ z.right → z.y0 ≤ℤ j → j <ℤ y.y1 → y.y0 <ℤ z.y0 → ⊥
   not_lower y z j my mz el er a b c =
-      mz.bottom (let w = my.in_window.low in omega (arith, ints, c, w)) (moved_run y.left y.right z.left z.right (z.y0 -ℤ pos 1) el er (my.runs (z.y0 -ℤ pos 1) (omega (arith, ints, c)) (omega (arith, ints, a, b))))
+      mz.bottom (let w = my.in_window.low in omega (arith, ints, c, w))
+      (moved_run y.left y.right z.left z.right (z.y0 -ℤ pos 1) el er
+      (my.runs (z.y0 -ℤ pos 1) (omega (arith, ints, c)) (omega (arith, ints, a, b))))
 
   -- two maximal trapezoids with the same lines and a row in common are one
   pub same_rows : (y z : Trapezoid) (j : ℤ) → IsMaximal area window y → IsMaximal area window z → y.left ≡ z.left → y.right ≡ z.right
       → y.y0 ≤ℤ j → j <ℤ y.y1 → z.y0 ≤ℤ j → j <ℤ z.y1 → y ≡ z
   same_rows y z j my mz el er ya yb za zb =
-      let bottoms : y.y0 ≡ z.y0 = by_lt_z y.y0 z.y0 (λ lt. absurd (not_lower y z j my mz el er za yb lt)) (λ ge. by_lt_z z.y0 y.y0 (λ lt. absurd (not_lower z y j mz my (sym el) (sym er) ya zb lt)) (λ le. omega (arith, ints, ge, le))) in
-      let tops : y.y1 ≡ z.y1 = by_lt_z y.y1 z.y1 (λ lt. absurd (not_higher y z j my mz el er za yb lt)) (λ ge. by_lt_z z.y1 y.y1 (λ lt. absurd (not_higher z y j mz my (sym el) (sym er) ya zb lt)) (λ le. omega (arith, ints, ge, le))) in
+      let bottoms : y.y0 ≡ z.y0 = by_lt_z y.y0 z.y0 (λ lt. absurd (not_lower y z j my mz el er za yb lt))
+      (λ ge. by_lt_z z.y0 y.y0 (λ lt. absurd (not_lower z y j mz my (sym el) (sym er) ya zb lt))
+      (λ le. omega (arith, ints, ge, le))) in
+      let tops : y.y1 ≡ z.y1 = by_lt_z y.y1 z.y1 (λ lt. absurd (not_higher y z j my mz el er za yb lt))
+      (λ ge. by_lt_z z.y1 y.y1 (λ lt. absurd (not_higher z y j mz my (sym el) (sym er) ya zb lt))
+      (λ le. omega (arith, ints, ge, le))) in
       same_trapezoid y.y0 z.y0 y.y1 z.y1 y.left z.left y.right z.right bottoms tops el er
 
   -- two maximal trapezoids that share a tile are one
@@ -84,7 +95,8 @@ module _ (area : Tile → Type 0) (window : RowRange) where
   same_maximal y z t my mz hy hz =
       let n = number_between z t hz in
       let run = mz.runs t.j n.above_bottom n.below_top in
-      same_rows y z t.j my mz (run_left y z.left z.right t my hy run n.from_left n.below_right) (run_right y z.left z.right t my hy run n.from_left n.below_right)
+      same_rows y z t.j my mz (run_left y z.left z.right t my hy run n.from_left n.below_right)
+      (run_right y z.left z.right t my hy run n.from_left n.below_right)
       hy.above_bottom hy.below_top hz.above_bottom hz.below_top
 
   -- ---- maximal trapezoids that cover the area are joined
@@ -92,7 +104,8 @@ module _ (area : Tile → Type 0) (window : RowRange) where
   abbrev FindsAll : List Trapezoid → Type 0
   FindsAll traps = (t : Tile) → area t → Found t traps
 
-  at_most_once : (traps : List Trapezoid) (t : Tile) → StandInOrder traps → ((z : Trapezoid) → Contains traps z → IsMaximal area window z) → count_in traps t ≤ 1
+  at_most_once : (traps : List Trapezoid) (t : Tile) → StandInOrder traps
+      → ((z : Trapezoid) → Contains traps z → IsMaximal area window z) → count_in traps t ≤ 1
   at_most_once [] t order each = omega arith
   at_most_once (x ∷ xs) t order each =
       once_more t x xs (at_most_once xs t order.1 (λ z h. each z (among_rest x z xs h)))
@@ -114,7 +127,9 @@ module _ (area : Tile → Type 0) (window : RowRange) where
         let mz = one z hz in
         let rows = mz.legal.has_rows in
         let high = mz.in_window.high in
-        my.top (omega (arith, ints, e, rows, high)) (moved_run z.left z.right y.left y.right y.y1 (sym el) (sym er) (mz.runs y.y1 (omega (arith, ints, e)) (omega (arith, ints, e, rows))))
+        my.top (omega (arith, ints, e, rows, high))
+        (moved_run z.left z.right y.left y.right y.y1 (sym el) (sym er)
+        (mz.runs y.y1 (omega (arith, ints, e)) (omega (arith, ints, e, rows))))
 
     pub maximal_joined : FindsAll traps → IsJoined window traps
     maximal_joined all = record {
@@ -133,7 +148,8 @@ module _ (area : Tile → Type 0) (window : RowRange) where
     }
 
   -- a list of maximal trapezoids that covers the area has them all
-  pub all_found : (traps : List Trapezoid) → ((z : Trapezoid) → Contains traps z → IsMaximal area window z) → FindsAll traps → (z : Trapezoid) → IsMaximal area window z → Contains traps z
+  pub all_found : (traps : List Trapezoid) → ((z : Trapezoid) → Contains traps z → IsMaximal area window z)
+      → FindsAll traps → (z : Trapezoid) → IsMaximal area window z → Contains traps z
   all_found traps each all z m =
       let rows = m.legal.has_rows in
       let run = m.runs z.y0 (omega (arith, ints)) rows in
@@ -149,7 +165,9 @@ module _ (area : Tile → Type 0) (window : RowRange) where
 pub covered : (area : Tile → Type 0) (traps : List Trapezoid) → CoversExactly traps area → (t : Tile) → area t → Found t traps
 covered area traps covers t a = let n = covers.once t a in found t traps (omega (arith, n))
 
-module _ (area : Tile → Type 0) (window : RowRange) (traps : List Trapezoid) (decided : (t : Tile) → area t ⊎ (area t → ⊥)) (covers : CoversExactly traps area) (joined : IsJoined window traps) where
+module _ (area : Tile → Type 0) (window : RowRange) (traps : List Trapezoid)
+    (decided : (t : Tile) → area t ⊎ (area t → ⊥)) (covers : CoversExactly traps area)
+    (joined : IsJoined window traps) where
   in_area : (z : Trapezoid) (t : Tile) → Contains traps z → IsInTrapezoid z t → area t
   in_area z t h i =
       elim (decided t) [ inl a ↦ a | inr out ↦ absurd (let n = covers.never t out in let some = counted t z traps h (in_has t z i) in omega (arith, n, some)) ]
@@ -209,7 +227,8 @@ module _ (area : Tile → Type 0) (window : RowRange) (traps : List Trapezoid) (
       let m = holder z.left z.right z.y1 run in
       let rows = (All-contains IsLegal traps z joined.legal h).has_rows in
       by_lt_z m.w.y0 z.y1
-      (λ lt. (let e = same_member m.w z (z.y1 -ℤ pos 1) m.member h m.left (omega (arith, ints, lt)) (let t = m.to in omega (arith, ints, t)) (omega (arith, ints, rows)) (omega (arith, ints)) in
+      (λ lt. (let e = same_member m.w z (z.y1 -ℤ pos 1) m.member h m.left (omega (arith, ints, lt))
+      (let t = m.to in omega (arith, ints, t)) (omega (arith, ints, rows)) (omega (arith, ints)) in
       let top : m.w.y1 ≡ z.y1 = ap (λ (u : Trapezoid). u.y1) e in
       let t = m.to in omega (arith, ints, top, t)))
       (λ ge. joined.not_stacked z m.w h m.member (sym m.left) (sym m.right) (let f = m.from in omega (arith, ints, ge, f)))

@@ -1,5 +1,6 @@
 -- A merge of a front with the runs of the row above, step by step.
-use Rattle.std.proofs.Common.{◌≡◌, ℕ, zero, suc, length, drop, ℤ, pos, ◌-ℤ◌, ◌<ℤ◌, Bool, true, false, cond, not, ◌&&◌, arith, refl, ap, ◌∙◌, sym, subst, List, [], ◌∷◌, ◌++◌, map, filter, append_assoc}
+use Rattle.std.proofs.Common.{◌≡◌, ℕ, zero, suc, length, drop, ℤ, pos, ◌-ℤ◌, ◌<ℤ◌, Bool, true, false, cond, not, ◌&&◌}
+use Rattle.std.proofs.Common.{arith, refl, ap, ◌∙◌, sym, subst, List, [], ◌∷◌, ◌++◌, map, filter, append_assoc}
 use Rattle.std.proofs.lemmas.Int.{ints}
 use Rattle.std.proofs.lemmas.Bool.{false_from_ne_true}
 use Rattle.std.proofs.lemmas.List.Elements.{All-contains}
@@ -11,7 +12,8 @@ use Rattle.scan_line.specs.Runs.{StandApart}
 use Rattle.scan_line.specs.declared.runs.Run.{Run}
 use Rattle.trap_join.specs.declared.front.Growing.{Growing}
 use Rattle.trap_join.specs.declared.front.Meeting.TheVariants.{Ends, Begins}
-use Rattle.trap_join.specs.Fronts.{goes_on, all_go_on, bottom_of, grown_into, ended_at, ends_below, ended, FrontStandsApart, IsRunFrom, IsGrowingFrom, IsMeeting}
+use Rattle.trap_join.specs.Fronts.{goes_on, all_go_on, bottom_of, grown_into, ended_at, ends_below, ended}
+use Rattle.trap_join.specs.Fronts.{FrontStandsApart, IsRunFrom, IsGrowingFrom, IsMeeting}
 use Rattle.trap_join.proofs.Members.{among_rest, is_first, first_or_later}
 use Rattle.trap_join.proofs.XOrder.{goes_on_left, goes_on_right, both_true}
 
@@ -20,20 +22,41 @@ use Rattle.trap_join.proofs.XOrder.{goes_on_left, goes_on_right, both_true}
 pub run_has_tile : (j : ℤ) (runs : List Run) (n : Run) → StandApart j runs → Contains runs n → place n.left j <ℤ place n.right j
 run_has_tile j [] n apart h = absurd (omega (arith, h.1))
 run_has_tile j (m ∷ runs) n apart h =
-    elim (first_or_later m n runs h) [ inl e ↦ subst (λ (u : Run). place u.left j <ℤ place u.right j) e apart.0 | inr later ↦ run_has_tile j runs n apart.2 later ]
+    elim (first_or_later m n runs h) [
+      | inl e ↦ subst (λ (u : Run). place u.left j <ℤ place u.right j) e apart.0
+      | inr later ↦ run_has_tile j runs n apart.2 later
+    ]
 
 pub run_from_first : (y : ℤ) (n : Run) (runs : List Run) (m : Run) → StandApart y (n ∷ runs) → Contains (n ∷ runs) m → IsRunFrom y n m
-run_from_first y n runs m apart h =
-    (run_has_tile y (n ∷ runs) m apart h, elim (first_or_later n m runs h) [ inl e ↦ inl (sym e) | inr later ↦ inr (All-contains (λ (u : Run). place n.right y <ℤ place u.left y) runs m apart.1 later) ])
+run_from_first y n runs m apart h = (
+  run_has_tile y (n ∷ runs) m apart h,
+  elim
+      (first_or_later n m runs h) [
+        | inl e ↦ inl (sym e)
+        | inr later ↦ inr
+            (All-contains (λ (u : Run). place n.right y <ℤ place u.left y) runs m apart.1 later)
+      ],
+)
 
 pub growing_has_tile : (j : ℤ) (front : List Growing) (o : Growing) → FrontStandsApart j front → Contains front o → place o.left j <ℤ place o.right j
 growing_has_tile j [] o apart h = absurd (omega (arith, h.1))
 growing_has_tile j (p ∷ front) o apart h =
-    elim (first_or_later p o front h) [ inl e ↦ subst (λ (u : Growing). place u.left j <ℤ place u.right j) e apart.0 | inr later ↦ growing_has_tile j front o apart.2 later ]
+    elim (first_or_later p o front h) [
+      | inl e ↦ subst (λ (u : Growing). place u.left j <ℤ place u.right j) e apart.0
+      | inr later ↦ growing_has_tile j front o apart.2 later
+    ]
 
-pub growing_from_first : (y : ℤ) (o : Growing) (front : List Growing) (p : Growing) → FrontStandsApart (y -ℤ pos 1) (o ∷ front) → Contains (o ∷ front) p → IsGrowingFrom y o p
-growing_from_first y o front p apart h =
-    (growing_has_tile (y -ℤ pos 1) (o ∷ front) p apart h, elim (first_or_later o p front h) [ inl e ↦ inl (sym e) | inr later ↦ inr (All-contains (λ (u : Growing). place o.right (y -ℤ pos 1) <ℤ place u.left (y -ℤ pos 1)) front p apart.1 later) ])
+pub growing_from_first : (y : ℤ) (o : Growing) (front : List Growing) (p : Growing)
+    → FrontStandsApart (y -ℤ pos 1) (o ∷ front) → Contains (o ∷ front) p → IsGrowingFrom y o p
+growing_from_first y o front p apart h = (
+  growing_has_tile (y -ℤ pos 1) (o ∷ front) p apart h,
+  elim
+      (first_or_later o p front h) [
+        | inl e ↦ inl (sym e)
+        | inr later ↦ inr
+            (All-contains (λ (u : Growing). place o.right (y -ℤ pos 1) <ℤ place u.left (y -ℤ pos 1)) front p apart.1 later)
+      ],
+)
 
 -- ---- what goes on in none
 
@@ -49,24 +72,30 @@ bottom_here (p ∷ front) y n f = rw (f p (is_first p front)) (bottom_here front
 skipped : (o : Growing) (front : List Growing) (y : ℤ) (n : Run) → goes_on o n ≡ false → grown_into (o ∷ front) y n ≡ grown_into front y n
 skipped o front y n e = rw e refl
 
-all_skipped : (o : Growing) (front : List Growing) (y : ℤ) (runs : List Run) → ((m : Run) → Contains runs m → goes_on o m ≡ false) → map (grown_into (o ∷ front) y) runs ≡ map (grown_into front y) runs
+all_skipped : (o : Growing) (front : List Growing) (y : ℤ) (runs : List Run)
+    → ((m : Run) → Contains runs m → goes_on o m ≡ false)
+    → map (grown_into (o ∷ front) y) runs ≡ map (grown_into front y) runs
 all_skipped o front y [] f = refl
 all_skipped o front y (n ∷ runs) f =
     let here = skipped o front y n (f n (is_first n runs)) in
     let later = all_skipped o front y runs (λ m h. f m (among_rest n m runs h)) in
     ap (λ (u : Growing). u ∷ map (grown_into (o ∷ front) y) runs) here ∙ ap (λ (us : List Growing). grown_into front y n ∷ us) later
 
-pub ended_here : (o : Growing) (front : List Growing) (y : ℤ) (runs : List Run) → list_any (goes_on o) runs ≡ false → ended runs y (o ∷ front) ≡ ended_at y o ∷ ended runs y front
+pub ended_here : (o : Growing) (front : List Growing) (y : ℤ) (runs : List Run) → list_any (goes_on o) runs ≡ false
+    → ended runs y (o ∷ front) ≡ ended_at y o ∷ ended runs y front
 ended_here o front y runs e = rw e refl
 
-pub not_ended : (o : Growing) (front : List Growing) (y : ℤ) (runs : List Run) → list_any (goes_on o) runs ≡ true → ended runs y (o ∷ front) ≡ ended runs y front
+pub not_ended : (o : Growing) (front : List Growing) (y : ℤ) (runs : List Run) → list_any (goes_on o) runs ≡ true
+    → ended runs y (o ∷ front) ≡ ended runs y front
 not_ended o front y runs e = rw e refl
 
 kept_by : (b c : Bool) (o : Growing) (us vs : List Growing) → b ≡ c → us ≡ vs → cond (not b) (o ∷ us) us ≡ cond (not c) (o ∷ vs) vs
 kept_by b c o us vs e f = rw (e, f) refl
 
 -- a run in which none goes on ends none
-without_run : (front : List Growing) (n : Run) (runs : List Run) → ((p : Growing) → Contains front p → goes_on p n ≡ false) → filter (ends_below (n ∷ runs)) front ≡ filter (ends_below runs) front
+without_run : (front : List Growing) (n : Run) (runs : List Run)
+    → ((p : Growing) → Contains front p → goes_on p n ≡ false)
+    → filter (ends_below (n ∷ runs)) front ≡ filter (ends_below runs) front
 without_run [] n runs f = refl
 without_run (o ∷ front) n runs f =
     let here : list_any (goes_on o) (n ∷ runs) ≡ list_any (goes_on o) runs = rw (f o (is_first o front)) refl in
@@ -82,7 +111,8 @@ all_end y front = ap (map (ended_at y)) (no_runs front)
 
 -- ---- the steps
 
-module _ (y : ℤ) (o : Growing) (front : List Growing) (n : Run) (runs : List Run) (fronts_apart : FrontStandsApart (y -ℤ pos 1) (o ∷ front)) (runs_apart : StandApart y (n ∷ runs)) where
+module _ (y : ℤ) (o : Growing) (front : List Growing) (n : Run) (runs : List Run)
+    (fronts_apart : FrontStandsApart (y -ℤ pos 1) (o ∷ front)) (runs_apart : StandApart y (n ∷ runs)) where
   pub ends_fresh : IsMeeting y o n Ends → map (grown_into (o ∷ front) y) (n ∷ runs) ≡ map (grown_into front y) (n ∷ runs)
   ends_fresh ends = all_skipped o front y (n ∷ runs) (λ m h. ends m (run_from_first y n runs m runs_apart h))
 
@@ -107,7 +137,8 @@ module _ (y : ℤ) (o : Growing) (front : List Growing) (n : Run) (runs : List R
 
     later_growing : (p : Growing) → Contains front p → goes_on p n ≡ false
     later_growing p h = false_from_ne_true _ (λ g.
-        (let e : place o.left (y -ℤ pos 1) ≡ place p.left (y -ℤ pos 1) = ap (λ (l : Line). place l (y -ℤ pos 1)) (goes_on_left o n goes ∙ sym (goes_on_left p n g)) in
+        (let e : place o.left (y -ℤ pos 1) ≡ place p.left (y -ℤ pos 1) = ap (λ (l : Line). place l (y -ℤ pos 1))
+        (goes_on_left o n goes ∙ sym (goes_on_left p n g)) in
         let a = fronts_apart.0 in
         let b = All-contains (λ (u : Growing). place o.right (y -ℤ pos 1) <ℤ place u.left (y -ℤ pos 1)) front p fronts_apart.1 h in
         omega (arith, ints, e, a, b)))
@@ -142,7 +173,8 @@ front_rest j (suc k) [] h = h
 front_rest j (suc k) (o ∷ front) h = front_rest j k front h.2
 
 -- the same, of two lists that begin so
-module _ (y : ℤ) (o : Growing) (n : Run) (fs os : List Growing) (rs ns : List Run) (ef : fs ≡ o ∷ os) (er : rs ≡ n ∷ ns) (fronts_apart : FrontStandsApart (y -ℤ pos 1) fs) (runs_apart : StandApart y rs) where
+module _ (y : ℤ) (o : Growing) (n : Run) (fs os : List Growing) (rs ns : List Run) (ef : fs ≡ o ∷ os)
+    (er : rs ≡ n ∷ ns) (fronts_apart : FrontStandsApart (y -ℤ pos 1) fs) (runs_apart : StandApart y rs) where
   front_apart : FrontStandsApart (y -ℤ pos 1) (o ∷ os)
   front_apart = subst (FrontStandsApart (y -ℤ pos 1)) ef fronts_apart
 
@@ -203,10 +235,12 @@ lengths_differ [] (n ∷ runs) h = refl
 lengths_differ (o ∷ front) [] h = refl
 lengths_differ (o ∷ front) (n ∷ runs) h = rw (← lengths_differ front runs (λ e. h (ap suc e))) (sym (and_false (goes_on o n)))
 
-pub both_go : (o : Growing) (n : Run) (front : List Growing) (runs : List Run) → all_go_on (o ∷ front) (n ∷ runs) ≡ true → (goes_on o n ≡ true) × (all_go_on front runs ≡ true)
+pub both_go : (o : Growing) (n : Run) (front : List Growing) (runs : List Run)
+    → all_go_on (o ∷ front) (n ∷ runs) ≡ true → (goes_on o n ≡ true) × (all_go_on front runs ≡ true)
 both_go o n front runs h = both_true (goes_on o n) (all_go_on front runs) h
 
-pub all_fresh : (y : ℤ) (front : List Growing) (runs : List Run) → FrontStandsApart (y -ℤ pos 1) front → StandApart y runs → all_go_on front runs ≡ true → map (grown_into front y) runs ≡ front
+pub all_fresh : (y : ℤ) (front : List Growing) (runs : List Run) → FrontStandsApart (y -ℤ pos 1) front
+    → StandApart y runs → all_go_on front runs ≡ true → map (grown_into front y) runs ≡ front
 all_fresh y [] [] fa ra h = refl
 all_fresh y [] (n ∷ runs) fa ra h = absurd (let clash : ⊥ = cc in clash)
 all_fresh y (o ∷ front) [] fa ra h = absurd (let clash : ⊥ = cc in clash)
@@ -214,7 +248,8 @@ all_fresh y (o ∷ front) (n ∷ runs) fa ra h =
     let go = both_go o n front runs h in
     goes_fresh y o front n runs fa ra go.0 ∙ ap (λ (us : List Growing). o ∷ us) (all_fresh y front runs fa.2 ra.2 go.1)
 
-pub all_waiting : (y : ℤ) (front : List Growing) (runs : List Run) → FrontStandsApart (y -ℤ pos 1) front → StandApart y runs → all_go_on front runs ≡ true → ended runs y front ≡ []
+pub all_waiting : (y : ℤ) (front : List Growing) (runs : List Run) → FrontStandsApart (y -ℤ pos 1) front
+    → StandApart y runs → all_go_on front runs ≡ true → ended runs y front ≡ []
 all_waiting y [] [] fa ra h = refl
 all_waiting y [] (n ∷ runs) fa ra h = refl
 all_waiting y (o ∷ front) [] fa ra h = absurd (let clash : ⊥ = cc in clash)

@@ -21,14 +21,16 @@ module _ {area : Tile → Type 0} where
   -- no run begins within another
   left_within : (l r k s : Line) (j n : ℤ) → IsRunAt area l r j → IsRunAt area k s j → n <ℤ place r j → place k j ≤ℤ n → place l j <ℤ place k j → ⊥
   left_within l r k s j n first second a b c =
-      not_left_at k s j (place k j -ℤ pos 1) second (omega (arith, ints)) (inside_at l r j (place k j -ℤ pos 1) first (omega (arith, ints, c)) (omega (arith, ints, a, b)))
+      not_left_at k s j (place k j -ℤ pos 1) second (omega (arith, ints))
+      (inside_at l r j (place k j -ℤ pos 1) first (omega (arith, ints, c)) (omega (arith, ints, a, b)))
 
   -- no run ends within another
   right_within : (l r k s : Line) (j n : ℤ) → IsRunAt area l r j → IsRunAt area k s j → place l j ≤ℤ n → n <ℤ place s j → place s j <ℤ place r j → ⊥
   right_within l r k s j n first second a b c =
       not_right_at k s j (place s j) second refl (inside_at l r j (place s j) first (omega (arith, ints, a, b)) c)
 
-  pub same_left : (l r k s : Line) (j n : ℤ) → IsRunAt area l r j → IsRunAt area k s j → place l j ≤ℤ n → n <ℤ place r j → place k j ≤ℤ n → n <ℤ place s j → l ≡ k
+  pub same_left : (l r k s : Line) (j n : ℤ) → IsRunAt area l r j → IsRunAt area k s j → place l j ≤ℤ n
+      → n <ℤ place r j → place k j ≤ℤ n → n <ℤ place s j → l ≡ k
   same_left l r k s j n first second a b c d =
       one_line l k j
       (by_lt_z (place l j) (place k j)
@@ -37,7 +39,8 @@ module _ {area : Tile → Type 0} where
       (λ lt. absurd (left_within k s l r j n second first d a lt))
       (λ le. omega (arith, ints, ge, le))))
 
-  pub same_right : (l r k s : Line) (j n : ℤ) → IsRunAt area l r j → IsRunAt area k s j → place l j ≤ℤ n → n <ℤ place r j → place k j ≤ℤ n → n <ℤ place s j → r ≡ s
+  pub same_right : (l r k s : Line) (j n : ℤ) → IsRunAt area l r j → IsRunAt area k s j → place l j ≤ℤ n
+      → n <ℤ place r j → place k j ≤ℤ n → n <ℤ place s j → r ≡ s
   same_right l r k s j n first second a b c d =
       one_line r s j
       (by_lt_z (place r j) (place s j)

@@ -19,7 +19,8 @@ use Rattle.trap_join.proofs.Merging.{run_has_tile}
 use Rattle.trap_join.proofs.Rows.{inside_at, same_left, same_right}
 
 -- a run of one area is a run of another that has the same tiles in the row
-pub run_in : (first second : Tile → Type 0) (l r : Line) (j : ℤ) → ((t : Tile) → t.j ≡ j → first t → second t) → ((t : Tile) → t.j ≡ j → second t → first t) → IsRunAt first l r j → IsRunAt second l r j
+pub run_in : (first second : Tile → Type 0) (l r : Line) (j : ℤ) → ((t : Tile) → t.j ≡ j → first t → second t)
+    → ((t : Tile) → t.j ≡ j → second t → first t) → IsRunAt first l r j → IsRunAt second l r j
 run_in first second l r j f g run = record {
   has_tile = run.has_tile;
   inside = λ t e a b. f t e (run.inside t e a b);
@@ -28,16 +29,19 @@ run_in first second l r j f g run = record {
 }
 
 -- one of two runs of a row ends before the other begins, or they are one
-pub which_first : (j : ℤ) (runs : List Run) (m n : Run) → StandApart j runs → Contains runs m → Contains runs n → (m ≡ n) ⊎ ((place m.right j <ℤ place n.left j) ⊎ (place n.right j <ℤ place m.left j))
+pub which_first : (j : ℤ) (runs : List Run) (m n : Run) → StandApart j runs → Contains runs m → Contains runs n
+    → (m ≡ n) ⊎ ((place m.right j <ℤ place n.left j) ⊎ (place n.right j <ℤ place m.left j))
 which_first j [] m n apart hm hn = none_in_empty m hm
 which_first j (x ∷ runs) m n apart hm hn =
     elim (first_or_later x m runs hm) [
       | inl em ↦ elim (first_or_later x n runs hn) [
         | inl en ↦ inl (sym em ∙ en)
-        | inr ln ↦ inr (inl (subst (λ (u : Run). place u.right j <ℤ place n.left j) em (All-contains (λ (u : Run). place x.right j <ℤ place u.left j) runs n apart.1 ln)))
+        | inr ln ↦ inr (inl (subst (λ (u : Run). place u.right j <ℤ place n.left j) em
+            (All-contains (λ (u : Run). place x.right j <ℤ place u.left j) runs n apart.1 ln)))
       ]
       | inr lm ↦ elim (first_or_later x n runs hn) [
-        | inl en ↦ inr (inr (subst (λ (u : Run). place u.right j <ℤ place m.left j) en (All-contains (λ (u : Run). place x.right j <ℤ place u.left j) runs m apart.1 lm)))
+        | inl en ↦ inr (inr (subst (λ (u : Run). place u.right j <ℤ place m.left j) en
+            (All-contains (λ (u : Run). place x.right j <ℤ place u.left j) runs m apart.1 lm)))
         | inr ln ↦ which_first j runs m n apart.2 lm ln
       ]
     ]
@@ -51,12 +55,15 @@ pub record Has (j x : ℤ) (runs : List Run) : Type 0 where
 
 module _ (post : ℤ → ℤ → Bool → Type 0) (edges : List EdgeParts) where
   -- a tile that is taken in some rows is taken in others that have its row
-  pub other_rows : (first second : RowRange) (t : Tile) (j : ℤ) → t.j ≡ j → second.y0 ≤ℤ j → j <ℤ second.y1 → IsTakenIn post edges first t → IsTakenIn post edges second t
+  pub other_rows : (first second : RowRange) (t : Tile) (j : ℤ) → t.j ≡ j → second.y0 ≤ℤ j → j <ℤ second.y1
+      → IsTakenIn post edges first t → IsTakenIn post edges second t
   other_rows first second t j e a b h = record { from = rw e a; below = rw e b; taken = h.taken }
 
-  pub run_in_rows : (first second : RowRange) (l r : Line) (j : ℤ) → first.y0 ≤ℤ j → j <ℤ first.y1 → second.y0 ≤ℤ j → j <ℤ second.y1 → IsRunAt (IsTakenIn post edges first) l r j → IsRunAt (IsTakenIn post edges second) l r j
+  pub run_in_rows : (first second : RowRange) (l r : Line) (j : ℤ) → first.y0 ≤ℤ j → j <ℤ first.y1 → second.y0 ≤ℤ j
+      → j <ℤ second.y1 → IsRunAt (IsTakenIn post edges first) l r j → IsRunAt (IsTakenIn post edges second) l r j
   run_in_rows first second l r j a b c d run =
-      run_in (IsTakenIn post edges first) (IsTakenIn post edges second) l r j (λ t e h. other_rows first second t j e c d h) (λ t e h. other_rows second first t j e a b h) run
+      run_in (IsTakenIn post edges first) (IsTakenIn post edges second) l r j
+      (λ t e h. other_rows first second t j e c d h) (λ t e h. other_rows second first t j e a b h) run
 
   module _ (j : ℤ) (runs : List Run) (are : AreRuns post edges j runs) where
     taken_by : (t : Tile) (n : Run) → t.j ≡ j → Contains runs n → place n.left j ≤ℤ number_in_row t → number_in_row t <ℤ place n.right j → IsTaken post edges t
@@ -65,7 +72,14 @@ module _ (post : ℤ → ℤ → Bool → Type 0) (edges : List EdgeParts) where
     pub has_taken : (t : Tile) → t.j ≡ j → IsTaken post edges t → Has j (number_in_row t) runs
     has_taken t e h =
         let s = some_member (RunHas t) runs ((are.taken t e).0 h) in
-        record { m = s.0; member = s.1; from = subst (λ (x : ℤ). place s.0.left x ≤ℤ number_in_row t) e s.2.from_left; to = subst (λ (x : ℤ). number_in_row t <ℤ place s.0.right x) e s.2.below_right }
+        record {
+          m = s.0;
+          member = s.1;
+          from = subst
+              (λ (x : ℤ). place s.0.left x ≤ℤ number_in_row t) e s.2.from_left;
+          to = subst
+              (λ (x : ℤ). number_in_row t <ℤ place s.0.right x) e s.2.below_right;
+        }
 
     not_between : (n : Run) (x : ℤ) → Contains runs n → Has j x runs → ((x +ℤ pos 1) ≡ place n.left j) ⊎ (x ≡ place n.right j) → ⊥
     not_between n x h has side =
@@ -90,7 +104,8 @@ module _ (post : ℤ → ℤ → Bool → Type 0) (edges : List EdgeParts) where
     }
 
     -- a run of the area is a run of the scan
-    pub found_run : (rows : RowRange) (l r : Line) → rows.y0 ≤ℤ j → j <ℤ rows.y1 → IsRunAt (IsTakenIn post edges rows) l r j → (n : Run) × Contains runs n × (n.left ≡ l) × (n.right ≡ r)
+    pub found_run : (rows : RowRange) (l r : Line) → rows.y0 ≤ℤ j → j <ℤ rows.y1
+        → IsRunAt (IsTakenIn post edges rows) l r j → (n : Run) × Contains runs n × (n.left ≡ l) × (n.right ≡ r)
     found_run rows l r low high run =
         let x = place l j in
         let inside = inside_at l r j x run (omega (arith, ints)) run.has_tile in

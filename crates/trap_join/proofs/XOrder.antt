@@ -72,7 +72,8 @@ wide (Falling c) (Falling d) y a b = omega (arith, ints, a, b)
 run_from : (y : ℤ) (n m : Run) → place n.left y <ℤ place n.right y → IsRunFrom y n m → (m ≡ n) ⊎ (x_on n.right y ≤ℤ x_on m.left y)
 run_from y n m wide_n h = elim h.1 [ inl e ↦ inl e | inr lt ↦ inr (x_order_above n.right m.left y lt) ]
 
-module _ (y : ℤ) (o : Growing) (n : Run) (differ : goes_on o n ≡ false) (has : place n.left y <ℤ place n.right y) (had : place o.left (y -ℤ pos 1) <ℤ place o.right (y -ℤ pos 1)) where
+module _ (y : ℤ) (o : Growing) (n : Run) (differ : goes_on o n ≡ false) (has : place n.left y <ℤ place n.right y)
+    (had : place o.left (y -ℤ pos 1) <ℤ place o.right (y -ℤ pos 1)) where
   clash_by : (b : Bool) → b ≡ false → b ≡ true → ⊥
   clash_by b e f = let clash : ⊥ = cc in clash
 

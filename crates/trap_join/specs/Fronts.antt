@@ -56,7 +56,8 @@ ended runs y front = map (ended_at y) (filter (ends_below runs) front)
 -- each has a tile in the row, and stands left of all that follow
 abbrev pub FrontStandsApart : ℤ → List Growing → Type 0
 FrontStandsApart j [] = Unit {0}
-FrontStandsApart j (growing ∷ front) = (place growing.left j <ℤ place growing.right j) × All (λ next. place growing.right j <ℤ place next.left j) front × FrontStandsApart j front
+FrontStandsApart j (growing ∷ front) = (place growing.left j <ℤ place growing.right j)
+    × All (λ next. place growing.right j <ℤ place next.left j) front × FrontStandsApart j front
 
 -- the run or one right of it, in the row above the stop
 abbrev pub IsRunFrom : ℤ → Run → Run → Type 0
@@ -64,7 +65,8 @@ IsRunFrom y run next = (place next.left y <ℤ place next.right y) × ((next ≡
 
 -- the growing one or one right of it, in the row below the stop
 abbrev pub IsGrowingFrom : ℤ → Growing → Growing → Type 0
-IsGrowingFrom y growing next = (place next.left (y -ℤ pos 1) <ℤ place next.right (y -ℤ pos 1)) × ((next ≡ growing) ⊎ (place growing.right (y -ℤ pos 1) <ℤ place next.left (y -ℤ pos 1)))
+IsGrowingFrom y growing next = (place next.left (y -ℤ pos 1) <ℤ place next.right (y -ℤ pos 1))
+    × ((next ≡ growing) ⊎ (place growing.right (y -ℤ pos 1) <ℤ place next.left (y -ℤ pos 1)))
 
 -- what comes of the leftmost growing one and the leftmost run: it goes on in no run from this one on, or none from this
 -- one on goes on in the run, or it goes on in the run

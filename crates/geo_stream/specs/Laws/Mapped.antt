@@ -4,7 +4,8 @@ use Rattle.std.specs.List.{AllZip}
 use Rattle.geo_stream.specs.Mapped.{IsTheAnswer, StandsForMapped}
 
 -- one answer each, so one list of answers
-same_answers : {A U : Type 0} (pre : A → Type 0) (post : A → U → Type 0) (items : List A) (xs ys : List U) → AllZip (IsTheAnswer pre post) items xs → AllZip (IsTheAnswer pre post) items ys → xs ≡ ys
+same_answers : {A U : Type 0} (pre : A → Type 0) (post : A → U → Type 0) (items : List A) (xs ys : List U)
+    → AllZip (IsTheAnswer pre post) items xs → AllZip (IsTheAnswer pre post) items ys → xs ≡ ys
 same_answers pre post [] [] [] p q = refl
 same_answers pre post [] [] (y ∷ ys) p q = absurd q
 same_answers pre post [] (x ∷ xs) ys p q = absurd p

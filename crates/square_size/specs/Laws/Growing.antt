@@ -1,5 +1,6 @@
 -- The laws of the stream of the edges of grown trapezoids.
-use Rattle.std.proofs.Common.{◌≡◌, ℕ, ◌+◌, ◌*◌, ◌≤◌, ℤ, List, [], ◌∷◌, ◌++◌, length, flat_map, refl, ap, sym, ◌∙◌, arith, length-append, append-nil, Option, Some, None}
+use Rattle.std.proofs.Common.{◌≡◌, ℕ, ◌+◌, ◌*◌, ◌≤◌, ℤ, List, [], ◌∷◌, ◌++◌, length, flat_map, refl, ap, sym, ◌∙◌}
+use Rattle.std.proofs.Common.{arith, length-append, append-nil, Option, Some, None}
 use Rattle.std.specs.Option.{option_to_list}
 use Rattle.half_grid.specs.Edges.{EdgeParts}
 use Rattle.half_grid.specs.Lines.{line_of}
@@ -50,8 +51,10 @@ four_at_most dx dy z =
     omega (
       arith,
       ap length (ring_listed dx dy z),
-      four_listed (edge_between A (lower_left dx dy z) (left_bend dx dy z.y0 z.y1 z.left)) (edge_between A (left_bend dx dy z.y0 z.y1 z.left) (upper_left dx dy z))
-          (edge_between A (upper_right dx dy z) (right_bend dx dy z.y0 z.y1 z.right)) (edge_between A (right_bend dx dy z.y0 z.y1 z.right) (lower_right dx dy z)),
+      four_listed (edge_between A (lower_left dx dy z) (left_bend dx dy z.y0 z.y1 z.left))
+          (edge_between A (left_bend dx dy z.y0 z.y1 z.left) (upper_left dx dy z))
+          (edge_between A (upper_right dx dy z) (right_bend dx dy z.y0 z.y1 z.right))
+          (edge_between A (right_bend dx dy z.y0 z.y1 z.right) (lower_right dx dy z)),
     )
 
 rings_length : (dx dy : ℤ) (traps : List Trapezoid) → length (flat_map (edges_of_grown dx dy) traps) ≤ 4 * length traps

@@ -13,7 +13,9 @@ shot-requires c =
     let g : FitsSigned w64 c.min-top.result = search rules in
     let low = rw (c.y0.ensures.value, c.y0-2.ensures.value) at (simp to_z-of_z at c.max-bottom.ensures.value) in
     let high = rw (c.y1.ensures.value, c.y1-2.ensures.value) at (simp to_z-of_z at c.min-top.ensures.value) in
-    simp to_z-of_z (cut_shot_at c.args.rows c.args.trap.now _ _ _ _ c.requires.some (cut_meets c.args.rows c.args.trap.now c.requires.some c.y0.ensures.shot c.requires.meets) c.y0.ensures.shot low high c.left.ensures.value c.right.ensures.value)
+    simp to_z-of_z (cut_shot_at c.args.rows c.args.trap.now _ _ _ _ c.requires.some
+    (cut_meets c.args.rows c.args.trap.now c.requires.some c.y0.ensures.shot c.requires.meets) c.y0.ensures.shot
+    low high c.left.ensures.value c.right.ensures.value)
 
 pub returns : goal.returns
 returns c =

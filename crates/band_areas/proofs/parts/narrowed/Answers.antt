@@ -21,7 +21,8 @@ part_in-requires-clause-rows c =
     let inside = i.within.from in
     let some = c.requires.band.has_rows in
     let low = c.middle-row.ensures.low in
-    upper_band c.loop-band.part.rows c.upper.result c.middle-row.result.y c.upper.ensures i.sound.rows (omega (arith, ints, inside, some, low)) c.middle-row.ensures.high
+    upper_band c.loop-band.part.rows c.upper.result c.middle-row.result.y c.upper.ensures i.sound.rows
+    (omega (arith, ints, inside, some, low)) c.middle-row.ensures.high
 
 pub part_in-requires-clause-within : goal.part_in-requires-clause-within
 part_in-requires-clause-within c =
@@ -56,7 +57,8 @@ part_in-requires-in-loop-band-clause-rows c =
     let some = c.requires.band.has_rows in
     let low = c.middle-row.ensures.low in
     let high = c.middle-row.ensures.high in
-    lower_band c.loop-band.part.rows c.lower.result c.middle-row.result.y c.lower.ensures i.sound.rows (omega (arith, ints, inside, some, low)) (omega (arith, ints, high))
+    lower_band c.loop-band.part.rows c.lower.result c.middle-row.result.y c.lower.ensures i.sound.rows
+    (omega (arith, ints, inside, some, low)) (omega (arith, ints, high))
 
 pub part_in-requires-in-loop-band-clause-within : goal.part_in-requires-in-loop-band-clause-within
 part_in-requires-in-loop-band-clause-within c =
@@ -66,7 +68,9 @@ part_in-requires-in-loop-band-clause-within c =
 pub returns-in_err-part-clause-kept : goal.returns-in_err-part-clause-kept
 returns-in_err-part-clause-kept c = λ p k h g.
     let i = c.loop-band.invariant in
-    subst (AreParts p k) (sym c.in_ok-push.ensures.items) (All-push (IsPart p k) c.loop-band.parts.items _ (i.kept p k h g) (c.in_ok-rest.ensures.part p k (i.part p k h)))
+    subst (AreParts p k) (sym c.in_ok-push.ensures.items)
+    (All-push (IsPart p k) c.loop-band.parts.items _ (i.kept p k h g)
+    (c.in_ok-rest.ensures.part p k (i.part p k h)))
 
 pub loop-band-smaller : goal.loop-band-smaller
 loop-band-smaller c =
@@ -81,9 +85,12 @@ loop-band-preserved c =
     let i = c.loop-band.invariant in
     record {
       sound = c.in_ok-part.ensures.sound;
-      within = still_within c.loop-band.part.rows c.in_ok-part.part.rows c.args.band c.middle-row.result.y (c.in_ok-part.ensures.rows ∙ c.lower.ensures) i.within c.middle-row.ensures.low;
+      within = still_within c.loop-band.part.rows c.in_ok-part.part.rows c.args.band c.middle-row.result.y
+          (c.in_ok-part.ensures.rows ∙ c.lower.ensures) i.within c.middle-row.ensures.low;
       part = λ p k h. c.in_ok-part.ensures.part p k (i.part p k h);
-      kept = λ p k h g. subst (AreParts p k) (sym c.in_ok-push.ensures.items) (All-push (IsPart p k) c.loop-band.parts.items _ (i.kept p k h g) (c.in_ok-rest.ensures.part p k (i.part p k h)));
+      kept = λ p k h g. subst (AreParts p k) (sym c.in_ok-push.ensures.items)
+          (All-push (IsPart p k) c.loop-band.parts.items _ (i.kept p k h g)
+          (c.in_ok-rest.ensures.part p k (i.part p k h)));
     }
 
 pub from_bottom-requires-clause-sound : goal.from_bottom-requires-clause-sound

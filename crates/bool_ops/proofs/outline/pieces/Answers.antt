@@ -18,7 +18,8 @@ pub returns : goal.returns
 returns c =
     let edges : c.in_ok-edges.edges.items ≡ edges_along A c.args.shape.now.points =
     c.in_ok-edges.ensures (edges_along A c.as_slice-points.result.now) c.new.ensures ∙ ap (edges_along A) c.as_slice-points.ensures in
-    let rows : AreRowsOf c.args.shape.now.points c.window_of.result = subst (λ points. AreRowsOf points c.window_of.result) c.as_slice-points.ensures c.window_of.ensures in
+    let rows : AreRowsOf c.args.shape.now.points c.window_of.result = subst
+    (λ points. AreRowsOf points c.window_of.result) c.as_slice-points.ensures c.window_of.ensures in
     IfOk-weaker c.unite.result _ (λ traps. ArePieces c.args.shape.now.points traps.items)
     (λ traps. pieces_are c.args.shape.now.points c.in_ok-edges.edges.items c.window_of.result edges c.requires.closed rows traps.items)
     c.unite.ensures

@@ -15,7 +15,9 @@ returns-then-count-gt-MOST c =
     record {
       among = (i, here);
       many = crowded (shape_count cells n) c.count_of-count.result c.count_of-count.ensures c.if-count-gt-MOST.true;
-      lowest = λ m places. (let known = known_before (IsCount cells) 0 order table i m c.loop-cell.invariant.1 (c.requires.order.upward i n places.1.number m here (places_at cells n places.0 m places.1)) in
+      lowest = λ m places.
+          (let known = known_before (IsCount cells) 0 order table i m c.loop-cell.invariant.1
+          (c.requires.order.upward i n places.1.number m here (places_at cells n places.0 m places.1)) in
           subst (λ k. k ≤ 2 ^ 40) known.0 known.1);
       number = c.count_of-count.ensures;
     }
@@ -32,5 +34,6 @@ loop-cell-preserved c =
 pub returns : goal.returns
 returns c =
     let cells = c.args.linked.now.cells in
-    let all = known_all (IsCount cells) 0 c.args.order.now c.loop-cell.counts.items (λ j n before at. c.loop-cell.invariant.1 j n (omega (arith, c.loop-cell-test.false)) at) in
+    let all = known_all (IsCount cells) 0 c.args.order.now c.loop-cell.counts.items
+    (λ j n before at. c.loop-cell.invariant.1 j n (omega (arith, c.loop-cell-test.false)) at) in
     λ n among. (let h = all n among in subst (λ k. k ≤ 2 ^ 40) h.0 h.1)

@@ -14,15 +14,26 @@ loop-k-preserved c =
     let e = c.better-best.ensures ∙ ap (better c.loop-k.best) c.through.ensures in
     subst (SoFar cells c.args.only_fixed c.args.farthest.now n (k + 1)) (sym e)
     (far_more cells c.args.only_fixed c.args.farthest.now n k c.loop-k.best placement target c.loop-k.invariant
-    (subst (λ l. slice_get l k ≡ Some placement) c.placements-placements.ensures (slot_read c.placements-placements.result.now k placement (omega (arith, ap length c.placements-placements.ensures, ap length c.targets-target-items.ensures.value, length-map (placements_at c.args.linked.now.cells c.args.cell) (λ p. cell_number c.args.linked.now.cells p.target))) c.index-placements-k.is))
-    (subst (λ l. slice_get l k ≡ Some target) c.targets-target-items.ensures.value (slice_get-get_or c.targets-target-items.result.now k None c.loop-k-test.true)))
+    (subst (λ l. slice_get l k ≡ Some placement) c.placements-placements.ensures
+    (slot_read c.placements-placements.result.now k placement
+    (omega (
+      arith,
+      ap length c.placements-placements.ensures,
+      ap length c.targets-target-items.ensures.value,
+      length-map (placements_at c.args.linked.now.cells c.args.cell)
+          (λ p. cell_number c.args.linked.now.cells p.target),
+    )) c.index-placements-k.is))
+    (subst (λ l. slice_get l k ≡ Some target) c.targets-target-items.ensures.value
+    (slice_get-get_or c.targets-target-items.result.now k None c.loop-k-test.true)))
 
 pub returns-clause-of : goal.returns-clause-of
 returns-clause-of c =
     let so = c.loop-k.invariant in
     record {
       here = so.1;
-      above = λ far leads. so.2 far leads (let within = slice_get_within (targets_at c.args.linked.now.cells c.args.cell) leads.number (Some leads.target) leads.places in
+      above = λ far leads. so.2 far leads
+          (let within = slice_get_within (targets_at c.args.linked.now.cells c.args.cell) leads.number
+          (Some leads.target) leads.places in
           omega (arith, c.loop-k-test.false, ap length c.targets-target-items.ensures.value));
       from = so.3;
     }

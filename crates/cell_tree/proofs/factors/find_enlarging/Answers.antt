@@ -25,4 +25,6 @@ returns-in-Some-clause-some c =
     )
 
 pub returns-clause-none : goal.returns-clause-none
-returns-clause-none c = λ k far leads. c.loop-k.invariant k far (let within = slice_get_within c.args.targets.now k leads.target leads.targeted in omega (arith, c.loop-k-test.false)) leads
+returns-clause-none c = λ k far leads. c.loop-k.invariant k far
+    (let within = slice_get_within c.args.targets.now k leads.target leads.targeted in omega
+    (arith, c.loop-k-test.false)) leads

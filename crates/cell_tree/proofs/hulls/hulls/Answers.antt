@@ -10,9 +10,21 @@ loop-cell-preserved c =
     let cells = c.args.linked.now.cells in let order = c.args.order.now in let i = c.loop-cell.cell-index in let table = c.loop-cell.hulls.items in
     let n = get_or order i 0 in
     let here : slice_get order i ≡ Some n = slice_get-get_or order i 0 c.loop-cell-test.true in
-    let inside : n < length (map (λ list. list.items) table) = omega (arith, length-map table (λ list. list.items), c.loop-cell.invariant.0, c.requires.order.within i 0 c.loop-cell-test.true) in
-    let known = known_more (AreCellHulls cells) [] order (map (λ list. list.items) table) i n c.in_ok-own.own.items here inside c.loop-cell.invariant.1 c.in_ok-own.ensures in
-    (length-set table n c.in_ok-own.own ∙ c.loop-cell.invariant.0, subst (λ t. Known (AreCellHulls cells) [] order t (i + 1)) (sym (map-set (λ list. list.items) table n c.in_ok-own.own)) known)
+    let inside : n < length (map (λ list. list.items) table) = omega (
+      arith,
+      length-map table
+          (λ list. list.items),
+      c.loop-cell.invariant.0,
+      c.requires.order.within i 0 c.loop-cell-test.true,
+    ) in
+    let known = known_more (AreCellHulls cells) [] order
+    (map (λ list. list.items) table) i n c.in_ok-own.own.items here inside c.loop-cell.invariant.1
+    c.in_ok-own.ensures in (
+      length-set table n c.in_ok-own.own ∙ c.loop-cell.invariant.0,
+      subst
+          (λ t. Known (AreCellHulls cells) [] order t (i + 1))
+          (sym (map-set (λ list. list.items) table n c.in_ok-own.own)) known,
+    )
 
 pub returns-clause-hulls : goal.returns-clause-hulls
 returns-clause-hulls c = known_all (AreCellHulls c.args.linked.now.cells) [] c.args.order.now (map (λ list. list.items) c.loop-cell.hulls.items)
@@ -21,4 +33,5 @@ returns-clause-hulls c = known_all (AreCellHulls c.args.linked.now.cells) [] c.a
 pub hulls_of-requires-clause-small : goal.hulls_of-requires-clause-small
 hulls_of-requires-clause-small c = λ k m at.
     (let order = c.args.order.now in let i = c.loop-cell.cell-index in
-    let before = c.requires.order.upward i (get_or order i 0) k m (slice_get-get_or order i 0 c.loop-cell-test.true) at in c.requires.near m (before.0, before.2))
+    let before = c.requires.order.upward i (get_or order i 0) k m
+    (slice_get-get_or order i 0 c.loop-cell-test.true) at in c.requires.near m (before.0, before.2))

@@ -7,4 +7,6 @@ use Rattle.cell_tree.proofs.hulls.hulls_of.Given as goal
 
 abbrev pub invariant-loop-k : goal.invariant-loop-k
 invariant-loop-k l = AreInOrder l.own.items
-    × ((pair : Pair) → IsHull (λ p. OwnVertex (shapes_at l.linked.cells l.cell) (length (shapes_at l.linked.cells l.cell)) pair p ⊎ PlacedVertex l.linked.cells l.cell l.k pair p) (hull_in l.own.items pair))
+    × ((pair : Pair) → IsHull
+    (λ p. OwnVertex (shapes_at l.linked.cells l.cell) (length (shapes_at l.linked.cells l.cell)) pair p
+    ⊎ PlacedVertex l.linked.cells l.cell l.k pair p) (hull_in l.own.items pair))

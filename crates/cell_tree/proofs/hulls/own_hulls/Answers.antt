@@ -13,9 +13,14 @@ loop-shape-init c =
 pub loop-shape-preserved : goal.loop-shape-preserved
 loop-shape-preserved c =
     own_more c.args.shapes.now c.loop-shape.shape-index c.shape-item.result c.shape_hull.result c.loop-shape.hulls.items c.widen.new.hulls.items
-    (slot_read c.args.shapes.now c.loop-shape.shape-index c.shape-item.result c.loop-shape-test.true c.shape-item.is) c.shape_hull.ensures c.in_ok-widen.ensures c.loop-shape.invariant
+    (slot_read c.args.shapes.now c.loop-shape.shape-index c.shape-item.result c.loop-shape-test.true c.shape-item.is)
+    c.shape_hull.ensures c.in_ok-widen.ensures c.loop-shape.invariant
 
 pub returns : goal.returns
 returns c =
-    let e : c.loop-shape.shape-index ≡ length c.args.shapes.now = omega (arith, c.loop-shape-test.false) in
-    (c.loop-shape.invariant.0, λ pair. subst (λ k. IsHull (OwnVertex c.args.shapes.now k pair) (hull_in c.loop-shape.hulls.items pair)) e (c.loop-shape.invariant.1 pair))
+    let e : c.loop-shape.shape-index ≡ length c.args.shapes.now = omega (arith, c.loop-shape-test.false) in (
+      c.loop-shape.invariant.0,
+      λ pair. subst
+          (λ k. IsHull (OwnVertex c.args.shapes.now k pair) (hull_in c.loop-shape.hulls.items pair)) e
+          (c.loop-shape.invariant.1 pair),
+    )

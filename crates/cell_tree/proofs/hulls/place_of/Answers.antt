@@ -15,8 +15,15 @@ returns-then-eq-clause-ok c =
     let hulls = c.args.hulls.now in let k = c.rank-place.result in let pair = c.args.pair in
     let inside : k < length hulls = omega (arith, c.rank-place.ensures.within, c.if-place-hulls.false) in
     let is : same_pair (get_or hulls k zero).pair pair ≡ true = sym c.eq.ensures ∙ c.if-eq.true in
-    let at : (d : PairHull) → same_pair (get_or hulls k d).pair pair ≡ true = λ d. ap (λ h. same_pair h.pair pair) (get_or_default hulls k d zero inside) ∙ is in
-    let stands : IsPlace hulls pair k = record { within = c.rank-place.ensures.within; below = c.rank-place.ensures.below; above = c.rank-place.ensures.above } in (
+    let at : (d : PairHull) → same_pair (get_or hulls k d).pair pair ≡ true = λ d. ap (λ h. same_pair h.pair pair)
+    (get_or_default hulls k d zero inside) ∙ is in
+    let stands : IsPlace hulls pair k =
+    record {
+      within = c.rank-place.ensures.within;
+      below = c.rank-place.ensures.below;
+      above =
+          c.rank-place.ensures.above;
+    } in (
       inside,
       λ by. widened_at hulls pair by k (record { pair = pair; hull = by }) inside stands (at (record { pair = pair; hull = by })),
       λ here. hull_at hulls pair k here inside stands (at here),
@@ -25,7 +32,13 @@ returns-then-eq-clause-ok c =
 pub returns-then-place-hulls-clause-err : goal.returns-then-place-hulls-clause-err
 returns-then-place-hulls-clause-err c =
     let hulls = c.args.hulls.now in let k = c.rank-place.result in let pair = c.args.pair in
-    let stands : IsPlace hulls pair k = record { within = c.rank-place.ensures.within; below = c.rank-place.ensures.below; above = c.rank-place.ensures.above } in
+    let stands : IsPlace hulls pair k =
+    record {
+      within = c.rank-place.ensures.within;
+      below = c.rank-place.ensures.below;
+      above =
+          c.rank-place.ensures.above;
+    } in
     let missing : IsMissing hulls pair k = λ here at. absurd (let less = slice_get_within hulls k here at in omega (arith, less, c.if-place-hulls.true)) in
     (c.rank-place.ensures.within, no_hull hulls pair k c.requires stands missing, λ by. widened_between hulls pair by k stands missing)
 
@@ -33,7 +46,13 @@ pub returns-clause-err : goal.returns-clause-err
 unfolding zero
 returns-clause-err c =
     let hulls = c.args.hulls.now in let k = c.rank-place.result in let pair = c.args.pair in
-    let stands : IsPlace hulls pair k = record { within = c.rank-place.ensures.within; below = c.rank-place.ensures.below; above = c.rank-place.ensures.above } in
+    let stands : IsPlace hulls pair k =
+    record {
+      within = c.rank-place.ensures.within;
+      below = c.rank-place.ensures.below;
+      above =
+          c.rank-place.ensures.above;
+    } in
     let other : same_pair (get_or hulls k zero).pair pair ≡ false = sym c.eq.ensures ∙ c.if-eq.false in
     let missing : IsMissing hulls pair k = λ here at. ap (λ h. same_pair h.pair pair) (sym (get_or_from_slice_get hulls k here zero at)) ∙ other in
     (c.rank-place.ensures.within, no_hull hulls pair k c.requires stands missing, λ by. widened_between hulls pair by k stands missing)

@@ -12,4 +12,5 @@ summed-requires-clause-a c =
 pub returns : goal.returns
 returns c =
     let least : IsLeastBoxOf c.args.shape.now.points c.box_of.result = subst (λ l. IsLeastBoxOf l c.box_of.result) c.as_slice.ensures c.box_of.ensures in
-    shape_least c.args.shape.now c.box_of.result c.hull.result c.summed.result (least_of c.args.shape.now.points c.box_of.result least) c.hull.ensures c.summed.ensures
+    shape_least c.args.shape.now c.box_of.result c.hull.result c.summed.result
+    (least_of c.args.shape.now.points c.box_of.result least) c.hull.ensures c.summed.ensures

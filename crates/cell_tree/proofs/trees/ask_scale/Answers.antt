@@ -10,18 +10,22 @@ returns-in_default-clause-ok c =
     let cells = c.args.linked.now.cells in let top = c.args.found.now.top in let farthest = c.in_ok-farthest.farthest.items in
     let inside : top < length farthest = subst (λ l. top < l) (sym c.in_ok-farthest.ensures.long) c.requires.top in
     mild cells top None (subst (IsFarthest cells false top) c.in_default.is
-    (farthest_top cells false top c.args.found.now.order.items c.as_slice.result.now farthest c.index.result.now c.as_slice.ensures.value c.requires.order c.in_ok-farthest.ensures.farthest inside c.index.ensures)) tt
+    (farthest_top cells false top c.args.found.now.order.items c.as_slice.result.now farthest c.index.result.now
+    c.as_slice.ensures.value c.requires.order c.in_ok-farthest.ensures.farthest inside c.index.ensures)) tt
 
 pub returns-then-far-le16-clause-ok : goal.returns-then-far-le16-clause-ok
 returns-then-far-le16-clause-ok c =
     let cells = c.args.linked.now.cells in let top = c.args.found.now.top in let farthest = c.in_ok-farthest.farthest.items in
     let inside : top < length farthest = subst (λ l. top < l) (sym c.in_ok-farthest.ensures.long) c.requires.top in
     mild cells top (Some c.in-Some.far) (subst (IsFarthest cells false top) c.in-Some.is
-    (farthest_top cells false top c.args.found.now.order.items c.as_slice.result.now farthest c.index.result.now c.as_slice.ensures.value c.requires.order c.in_ok-farthest.ensures.farthest inside c.index.ensures)) c.if-far-le16.true
+    (farthest_top cells false top c.args.found.now.order.items c.as_slice.result.now farthest c.index.result.now
+    c.as_slice.ensures.value c.requires.order c.in_ok-farthest.ensures.farthest inside c.index.ensures))
+    c.if-far-le16.true
 
 pub scaled_chain-requires-clause-farthest : goal.scaled_chain-requires-clause-farthest
 scaled_chain-requires-clause-farthest c =
-    farthest_below c.args.linked.now.cells false c.args.found.now.top c.args.found.now.order.items c.as_slice.result.now c.in_ok-farthest.farthest.items c.as_slice-2.result.now
+    farthest_below c.args.linked.now.cells false c.args.found.now.top c.args.found.now.order.items
+    c.as_slice.result.now c.in_ok-farthest.farthest.items c.as_slice-2.result.now
     c.as_slice.ensures.value c.as_slice-2.ensures.value c.requires.order c.in_ok-farthest.ensures.farthest
 
 pub names_of-requires : goal.names_of-requires
@@ -45,6 +49,7 @@ returns-clause-err c =
         factor = (omega (arith, ints, d.small)) ∙ ap pos d.factor_is;
         above = subst (λ f. 16 < f) d.factor_is d.above;
         before = d.before;
-        named = names_shown c.args.linked.now.cells c.cells.result.now _ c.as_slice-3.result.now c.in_ok-names.names c.cells.ensures (c.as_slice-3.ensures.value ∙ d.numbers_are) c.in_ok-names.ensures;
+        named = names_shown c.args.linked.now.cells c.cells.result.now _ c.as_slice-3.result.now c.in_ok-names.names
+            c.cells.ensures (c.as_slice-3.ensures.value ∙ d.numbers_are) c.in_ok-names.ensures;
       },
     )

@@ -14,20 +14,26 @@ hulls-requires-clause-short c =
 pub hulls-requires-clause-near : goal.hulls-requires-clause-near
 hulls-requires-clause-near c =
     let cells = c.args.linked.cells in let top = c.args.found.now.top in let order = c.args.found.now.order.items in
-    order_near cells top order c.as_slice.result.now c.requires.grid.cells c.as_slice.ensures.value c.in_ok-ask_cycle.ensures.order c.in_ok-ask_depth.ensures.ok c.in_ok-ask_scale.ensures.ok
+    order_near cells top order c.as_slice.result.now c.requires.grid.cells c.as_slice.ensures.value
+    c.in_ok-ask_cycle.ensures.order c.in_ok-ask_depth.ensures.ok c.in_ok-ask_scale.ensures.ok
 
 pub returns-in-Some-clause-err : goal.returns-in-Some-clause-err
 returns-in-Some-clause-err c =
     let cells = c.args.linked.cells in let top = c.args.found.now.top in let order = c.args.found.now.order.items in
     let inside : top < length c.in_ok-hulls.hulls.items = subst (λ l. top < l) (sym c.in_ok-hulls.ensures.long) c.requires.top in
-    let are = top_hulls (λ list. list.items) cells top order c.as_slice.result.now c.in_ok-hulls.hulls.items c.index.result.now c.as_slice.ensures.value c.in_ok-ask_cycle.ensures.order c.in_ok-hulls.ensures.hulls inside c.index.ensures in (
+    let are = top_hulls (λ list. list.items) cells top order c.as_slice.result.now c.in_ok-hulls.hulls.items
+    c.index.result.now c.as_slice.ensures.value c.in_ok-ask_cycle.ensures.order c.in_ok-hulls.ensures.hulls
+    inside c.index.ensures in (
       c.in_ok-ask_names.ensures.ok,
       c.in_ok-ask_cycle.ensures.ok,
       c.in_ok-ask_depth.ensures.ok,
       c.in_ok-ask_scale.ensures.ok,
       c.in_ok-ask_fixed.ensures.ok,
-      extent_same cells top c.in-Some.value _ (near_below cells c.requires.grid.cells top top c.in_ok-ask_depth.ensures.ok c.in_ok-ask_scale.ensures.ok (top_reachable cells top))
-          (extent_is cells top c.index.result.now.items c.in-Some.value are (sym (ap extent_in c.as_slice-2.ensures.value) ∙ sym c.extent_of.ensures ∙ c.in-Some.is))
+      extent_same cells top c.in-Some.value _
+          (near_below cells c.requires.grid.cells top top c.in_ok-ask_depth.ensures.ok c.in_ok-ask_scale.ensures.ok
+          (top_reachable cells top))
+          (extent_is cells top c.index.result.now.items c.in-Some.value are
+          (sym (ap extent_in c.as_slice-2.ensures.value) ∙ sym c.extent_of.ensures ∙ c.in-Some.is))
           (λ small. let low = small.low in let high = small.high in omega (arith, ints)),
     )
 
@@ -35,7 +41,9 @@ pub ask_count-requires-clause-near : goal.ask_count-requires-clause-near
 ask_count-requires-clause-near c =
     let cells = c.args.linked.cells in let top = c.args.found.now.top in let order = c.args.found.now.order.items in
     let inside : top < length c.in_ok-hulls.hulls.items = subst (λ l. top < l) (sym c.in_ok-hulls.ensures.long) c.requires.top in
-    let are = top_hulls (λ list. list.items) cells top order c.as_slice.result.now c.in_ok-hulls.hulls.items c.index.result.now c.as_slice.ensures.value c.in_ok-ask_cycle.ensures.order c.in_ok-hulls.ensures.hulls inside c.index.ensures in
+    let are = top_hulls (λ list. list.items) cells top order c.as_slice.result.now c.in_ok-hulls.hulls.items
+    c.index.result.now c.as_slice.ensures.value c.in_ok-ask_cycle.ensures.order c.in_ok-hulls.ensures.hulls
+    inside c.index.ensures in
     let near = near_of cells top c.index.result.now.items are (sym (ap extent_in c.as_slice-2.ensures.value) ∙ sym c.extent_of.ensures ∙ c.in_default.is) in
     near
 
@@ -43,7 +51,9 @@ pub invariant_of-result : goal.invariant_of-result
 invariant_of-result c =
     let cells = c.args.linked.cells in let top = c.args.found.now.top in let order = c.args.found.now.order.items in
     let inside : top < length c.in_ok-hulls.hulls.items = subst (λ l. top < l) (sym c.in_ok-hulls.ensures.long) c.requires.top in
-    let are = top_hulls (λ list. list.items) cells top order c.as_slice.result.now c.in_ok-hulls.hulls.items c.index.result.now c.as_slice.ensures.value c.in_ok-ask_cycle.ensures.order c.in_ok-hulls.ensures.hulls inside c.index.ensures in
+    let are = top_hulls (λ list. list.items) cells top order c.as_slice.result.now c.in_ok-hulls.hulls.items
+    c.index.result.now c.as_slice.ensures.value c.in_ok-ask_cycle.ensures.order c.in_ok-hulls.ensures.hulls
+    inside c.index.ensures in
     let near = near_of cells top c.index.result.now.items are (sym (ap extent_in c.as_slice-2.ensures.value) ∙ sym c.extent_of.ensures ∙ c.in_default.is) in (
       c.requires.grid,
       c.requires.top,
@@ -57,14 +67,18 @@ invariant_of-result c =
         counted = c.in_ok-ask_count.ensures.ok;
       },
       c.in_ok-hulls.ensures.long,
-      hulls_below cells top order c.as_slice.result.now (map (λ list. list.items) c.in_ok-hulls.hulls.items) c.as_slice.ensures.value c.in_ok-ask_cycle.ensures.order c.in_ok-hulls.ensures.hulls,
+      hulls_below cells top order c.as_slice.result.now
+          (map (λ list. list.items) c.in_ok-hulls.hulls.items) c.as_slice.ensures.value c.in_ok-ask_cycle.ensures.order
+          c.in_ok-hulls.ensures.hulls,
     )
 
 pub returns-clause-tree : goal.returns-clause-tree
 returns-clause-tree c =
     let cells = c.args.linked.cells in let top = c.args.found.now.top in let order = c.args.found.now.order.items in
     let inside : top < length c.in_ok-hulls.hulls.items = subst (λ l. top < l) (sym c.in_ok-hulls.ensures.long) c.requires.top in
-    let are = top_hulls (λ list. list.items) cells top order c.as_slice.result.now c.in_ok-hulls.hulls.items c.index.result.now c.as_slice.ensures.value c.in_ok-ask_cycle.ensures.order c.in_ok-hulls.ensures.hulls inside c.index.ensures in
+    let are = top_hulls (λ list. list.items) cells top order c.as_slice.result.now c.in_ok-hulls.hulls.items
+    c.index.result.now c.as_slice.ensures.value c.in_ok-ask_cycle.ensures.order c.in_ok-hulls.ensures.hulls
+    inside c.index.ensures in
     let near = near_of cells top c.index.result.now.items are (sym (ap extent_in c.as_slice-2.ensures.value) ∙ sym c.extent_of.ensures ∙ c.in_default.is) in
     record {
       known = c.in_ok-ask_names.ensures.ok;

@@ -8,4 +8,5 @@ pub loop-edge-preserved : goal.loop-edge-preserved
 loop-edge-preserved c = All-more IsEdge _ _ c.edge-item.result (omega arith) c.loop-edge.invariant (subst IsEdge c.edge-item.is c.y0-promised.ensures.edge)
 
 pub returns : goal.returns
-returns c = let whole : take c.loop-edge.edge-index c.args.edges.now ≡ c.args.edges.now = take_all _ _ (omega arith) in subst (All IsEdge) whole c.loop-edge.invariant
+returns c = let whole : take c.loop-edge.edge-index c.args.edges.now ≡ c.args.edges.now = take_all _ _ (omega arith) in
+    subst (All IsEdge) whole c.loop-edge.invariant

@@ -15,8 +15,12 @@ loop-join-init g c = record {
 
 pub next-requires-clause-going : goal.next-requires-clause-going
 next-requires-clause-going g c = λ _.
-    let given = c.loop-join.invariant.given in
-    (given.0, moved_rule (λ rule a b r. g.F.Fn.post rule (a, (b, tt)) r) c.args.scan.rule c.loop-join.join.rule _ _ _ _ _ (sym c.loop-join.invariant.rule) given.1.0)
+    let given = c.loop-join.invariant.given in (
+      given.0,
+      moved_rule
+          (λ rule a b r. g.F.Fn.post rule (a, (b, tt)) r) c.args.scan.rule c.loop-join.join.rule _ _ _ _ _
+          (sym c.loop-join.invariant.rule) given.1.0,
+    )
 
 pub loop-join-preserved : goal.loop-join-preserved
 loop-join-preserved g c =
@@ -24,7 +28,8 @@ loop-join-preserved g c =
     let given = c.loop-join.invariant.given in
     let before = moved_rule post c.args.scan.rule c.loop-join.join.rule _ _ _ _ _ (sym c.loop-join.invariant.rule) given.1.0 in
     let after = rw c.in-Some.is at (c.in_ok-trap.ensures.gives given.0 before) in
-    let back = moved_rule post c.loop-join.join.rule c.args.scan.rule c.next.new.self.edges c.next.new.self.window c.next.new.self.y _ _ c.loop-join.invariant.rule after in
+    let back = moved_rule post c.loop-join.join.rule c.args.scan.rule c.next.new.self.edges c.next.new.self.window
+    c.next.new.self.y _ _ c.loop-join.invariant.rule after in
     record {
       given = (given.0 ++ c.in-Some.trap ∷ [], (back, c.in_ok-sort_in.ensures given.0 _ _ given.1.1));
       rule = c.in_ok-trap.ensures.rule ∙ c.loop-join.invariant.rule;
@@ -40,9 +45,12 @@ returns g c =
     record {
       traps = given.0;
       all = record {
-        joined = subst (λ (window : RowRange). IsJoined window given.0) c.loop-join.invariant.window (rw c.in_default.is at (c.in_ok-trap.ensures.joined given.0 before));
-        covers = moved_cover post c.loop-join.join.rule c.args.scan.rule c.loop-join.join.edges c.args.scan.edges c.loop-join.join.window c.args.scan.window given.0
-            c.loop-join.invariant.rule c.loop-join.invariant.edges c.loop-join.invariant.window (rw c.in_default.is at (c.in_ok-trap.ensures.covers given.0 before));
+        joined = subst (λ (window : RowRange). IsJoined window given.0) c.loop-join.invariant.window
+            (rw c.in_default.is at (c.in_ok-trap.ensures.joined given.0 before));
+        covers = moved_cover post c.loop-join.join.rule c.args.scan.rule c.loop-join.join.edges c.args.scan.edges
+            c.loop-join.join.window c.args.scan.window given.0
+            c.loop-join.invariant.rule c.loop-join.invariant.edges c.loop-join.invariant.window
+            (rw c.in_default.is at (c.in_ok-trap.ensures.covers given.0 before));
       };
       sorted = given.1.1;
     }

@@ -7,7 +7,10 @@ use Rattle.column_sweep.proofs.columns.sort_out.Given as goal
 -- the join has given some trapezoids, which were put behind those before
 abbrev pub invariant-loop-join : goal.invariant-loop-join
 invariant-loop-join g l = record {
-  given : (traps : List Trapezoid) × (HasGiven (λ a b r. g.F.Fn.post l.fn.scan.rule (a, (b, tt)) r) l.join traps × AreSortedBehind l.column.from.x l.column.to.x traps l.initial.sewn.finals.items l.initial.sewn.seams.items l.sewn.finals.items l.sewn.seams.items);
+  given : (traps : List Trapezoid)
+      × (HasGiven (λ a b r. g.F.Fn.post l.fn.scan.rule (a, (b, tt)) r) l.join traps
+      × AreSortedBehind l.column.from.x l.column.to.x traps l.initial.sewn.finals.items l.initial.sewn.seams.items
+      l.sewn.finals.items l.sewn.seams.items);
   rule : l.join.rule ≡ l.fn.scan.rule;
   edges : l.join.edges ≡ l.fn.scan.edges;
   window : l.join.window ≡ l.fn.scan.window;

@@ -21,7 +21,10 @@ loop-cut-init g c =
     let known : All IsEdge c.args.edges.items = All-permutation IsEdge _ _ (IsPermutation-sym _ _ c.sort_for_cuts.ensures.permutation) waiting in
     record {
       left = rw (begin.from, begin.edges, c.as_slice-later.ensures.value) (first_left c.args.edges.items _ c.sort_for_cuts.ensures.permutation waiting);
-      swept = rw (begin.from, begin.finals, begin.seams) (swept_none (IsTakenIn (post c.args.rule.now) c.args.edges.items c.args.window) c.args.window (negsuc (2 ^ 44)) (none_before (pre c.args.rule.now) (post c.args.rule.now) c.requires.rule c.args.window c.args.edges.items known));
+      swept = rw (begin.from, begin.finals, begin.seams)
+          (swept_none (IsTakenIn (post c.args.rule.now) c.args.edges.items c.args.window) c.args.window
+          (negsuc (2 ^ 44)) (none_before (pre c.args.rule.now)
+          (post c.args.rule.now) c.requires.rule c.args.window c.args.edges.items known));
       rises = subst (λ (xs : List EdgeParts). All (λ d. RisesPast d.x xs) c.args.cuts.now) (sym c.as_slice-later.ensures.value) c.sort_for_cuts.ensures.rises;
       low = rw begin.from (omega (arith, ints));
       high = rw begin.from (omega (arith, ints));
@@ -37,12 +40,14 @@ loop-cut-preserved g c =
     let within = c.is_next.ensures.within c.if-not-is_next.false in
     let low = i.low in
     let high = within.high in
-    let left = subst (λ (xs : List EdgeParts). AreLeft c.loop-cut.progress.from.x c.args.edges.items xs) (taken_apart c.loop-cut.progress.edges.items _ _ _ c.split_before.ensures.whole) i.left in
+    let left = subst (λ (xs : List EdgeParts). AreLeft c.loop-cut.progress.from.x c.args.edges.items xs)
+    (taken_apart c.loop-cut.progress.edges.items _ _ _ c.split_before.ensures.whole) i.left in
     let next = c.in_ok-progress.ensures in
     record {
       left = rw next.from (next.left c.args.edges.items c.split_before.result.1.now c.split_before.ensures.right lt left);
       swept = rw next.from (next.swept c.args.edges.items c.split_before.result.1.now (negsuc (2 ^ 44)) c.split_before.ensures.right i.low lt left i.swept);
-      rises = All-weaker (λ d. RisesPast d.x c.loop-cut.later.now) (λ d. RisesPast d.x c.split_before.result.1.now) (λ d. c.split_before.ensures.rises d.x) c.args.cuts.now i.rises;
+      rises = All-weaker (λ d. RisesPast d.x c.loop-cut.later.now) (λ d. RisesPast d.x c.split_before.result.1.now)
+          (λ d. c.split_before.ensures.rises d.x) c.args.cuts.now i.rises;
       low = rw next.from (omega (arith, ints, low, lt));
       high = rw next.from (omega (arith, ints, high));
     }
@@ -54,9 +59,12 @@ pub returns-clause-sewn : goal.returns-clause-sewn
 returns-clause-sewn g c =
     let post : g.row.F.Denot → ℤ → ℤ → Bool → Type 0 = λ rule a b r. g.F.Fn.post rule (a, (b, tt)) r in
     let i = c.loop-cut.invariant in
-    let known : All IsEdge c.args.edges.items = All-permutation IsEdge _ _ (IsPermutation-sym _ _ c.sort_for_cuts.ensures.permutation) (rw c.as_slice.ensures.value at c.know_edges.ensures) in
+    let known : All IsEdge c.args.edges.items = All-permutation IsEdge _ _
+    (IsPermutation-sym _ _ c.sort_for_cuts.ensures.permutation)
+    (rw c.as_slice.ensures.value at c.know_edges.ensures) in
     IfOk-weaker c.finish.result _ (λ sewn. AreSewn c.args.window sewn.finals.items sewn.seams.items)
-    (λ sewn. all_sewn (IsTakenIn (post c.args.rule.now) c.args.edges.items c.args.window) c.args.window (negsuc (2 ^ 44)) (pos (2 ^ 44 + 1)) sewn.finals.items sewn.seams.items)
+    (λ sewn. all_sewn (IsTakenIn (post c.args.rule.now) c.args.edges.items c.args.window) c.args.window
+    (negsuc (2 ^ 44)) (pos (2 ^ 44 + 1)) sewn.finals.items sewn.seams.items)
     (c.finish.ensures c.args.edges.items (negsuc (2 ^ 44)) i.low i.high known c.requires.balanced i.left i.swept)
 
 pub returns-clause-covers : goal.returns-clause-covers
@@ -64,8 +72,11 @@ returns-clause-covers g c =
     let pre : g.row.F.Denot → ℤ → ℤ → Type 0 = λ rule a b. g.F.Fn.pre rule (a, (b, tt)) in
     let post : g.row.F.Denot → ℤ → ℤ → Bool → Type 0 = λ rule a b r. g.F.Fn.post rule (a, (b, tt)) r in
     let i = c.loop-cut.invariant in
-    let known : All IsEdge c.args.edges.items = All-permutation IsEdge _ _ (IsPermutation-sym _ _ c.sort_for_cuts.ensures.permutation) (rw c.as_slice.ensures.value at c.know_edges.ensures) in
+    let known : All IsEdge c.args.edges.items = All-permutation IsEdge _ _
+    (IsPermutation-sym _ _ c.sort_for_cuts.ensures.permutation)
+    (rw c.as_slice.ensures.value at c.know_edges.ensures) in
     IfOk-weaker c.finish.result _ (λ sewn. CoverTogether (IsTakenIn (post c.args.rule.now) c.args.edges.items c.args.window) sewn.finals.items sewn.seams.items)
-    (λ sewn. all_covered (IsTakenIn (post c.args.rule.now) c.args.edges.items c.args.window) c.args.window (negsuc (2 ^ 44)) (pos (2 ^ 44 + 1)) sewn.finals.items sewn.seams.items
+    (λ sewn. all_covered (IsTakenIn (post c.args.rule.now) c.args.edges.items c.args.window) c.args.window
+    (negsuc (2 ^ 44)) (pos (2 ^ 44 + 1)) sewn.finals.items sewn.seams.items
     (none_behind (pre c.args.rule.now) (post c.args.rule.now) c.requires.rule c.args.window c.args.edges.items known c.requires.balanced))
     (c.finish.ensures c.args.edges.items (negsuc (2 ^ 44)) i.low i.high known c.requires.balanced i.left i.swept)

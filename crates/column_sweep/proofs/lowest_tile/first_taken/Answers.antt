@@ -14,7 +14,9 @@ returns-in-Some-first-clause-found g c =
     let slab = c.in-Some.ensures in
     let test = c.in-Some-first.ensures.item.0 in
     let some : 0 < length c.runs.result.now = grind (arith, nat_tests, test) in
-    lowest_in_slab post c.args.scan.now.rule c.loop-slab.scan.rule c.args.scan.now.edges c.loop-slab.scan.edges c.args.scan.now.window c.loop-slab.scan.window i.rule i.edges i.window
-    c.loop-slab.scan.y c.in-Some.slab.y0 c.in-Some.slab.y1 slab.from slab.slab.has_rows slab.within c.next.new.self.runs c.runs.result.now slab.runs c.runs.ensures
+    lowest_in_slab post c.args.scan.now.rule c.loop-slab.scan.rule c.args.scan.now.edges c.loop-slab.scan.edges
+    c.args.scan.now.window c.loop-slab.scan.window i.rule i.edges i.window
+    c.loop-slab.scan.y c.in-Some.slab.y0 c.in-Some.slab.y1 slab.from slab.slab.has_rows slab.within
+    c.next.new.self.runs c.runs.result.now slab.runs c.runs.ensures
     c.in-Some-first.run'.now some c.in-Some-first.ensures.item.1 i.none
     _ c.first_tile.ensures.row c.first_tile.ensures.number (to_z-of_z w128 c.in-Some-first.run'.now.a fits_a) (to_z-of_z w128 c.in-Some-first.run'.now.b fits_b)

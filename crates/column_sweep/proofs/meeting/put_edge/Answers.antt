@@ -11,5 +11,6 @@ returns-then-do_meet c =
     let whole : c.args.edges.now.items ≡ c.pop.new.self.items ++ c.in-Some.last ∷ [] = search rules in
     on_ok_weaker c.put_rests.result
     (λ is. subst (λ (edges : List EdgeParts). AddUpAlike edges (c.args.edges.now.items ++ c.args.edge ∷ [])) (sym is)
-    (alike_behind c.args.edges.now.items c.pop.new.self.items (rests c.in-Some.last c.args.edge) c.in-Some.last c.args.edge whole (c.do_meet.ensures c.if-do_meet.true)))
+    (alike_behind c.args.edges.now.items c.pop.new.self.items
+    (rests c.in-Some.last c.args.edge) c.in-Some.last c.args.edge whole (c.do_meet.ensures c.if-do_meet.true)))
     c.put_rests.ensures

@@ -19,13 +19,15 @@ pub returns-in-Rising-clause-left : goal.returns-in-Rising-clause-left
 returns-in-Rising-clause-left c =
     let line : c.args.edge.now.line ≡ Rising c.in-Rising.field-0 = sym c.line-2.ensures.value ∙ c.in-Rising.is in
     let at = c.passing-level.ensures.rising c.in-Rising.field-0 (c.line.ensures.value ∙ line) in
-    subst (λ (p : Option EdgeParts). All (LiesLeft c.args.cut.x) (option_to_list p)) (sym c.part_below.ensures) (rising_left c.args.cut.x c.in-Rising.field-0 c.passing-level.result.y c.args.edge.now line at)
+    subst (λ (p : Option EdgeParts). All (LiesLeft c.args.cut.x) (option_to_list p)) (sym c.part_below.ensures)
+    (rising_left c.args.cut.x c.in-Rising.field-0 c.passing-level.result.y c.args.edge.now line at)
 
 pub returns-in-Rising-clause-right : goal.returns-in-Rising-clause-right
 returns-in-Rising-clause-right c =
     let line : c.args.edge.now.line ≡ Rising c.in-Rising.field-0 = sym c.line-2.ensures.value ∙ c.in-Rising.is in
     let at = c.passing-level.ensures.rising c.in-Rising.field-0 (c.line.ensures.value ∙ line) in
-    subst (λ (p : Option EdgeParts). All (LiesRight c.args.cut.x) (option_to_list p)) (sym c.part_above.ensures) (rising_right c.args.cut.x c.in-Rising.field-0 c.passing-level.result.y c.args.edge.now line at)
+    subst (λ (p : Option EdgeParts). All (LiesRight c.args.cut.x) (option_to_list p)) (sym c.part_above.ensures)
+    (rising_right c.args.cut.x c.in-Rising.field-0 c.passing-level.result.y c.args.edge.now line at)
 
 pub returns-in-Falling-clause-add : goal.returns-in-Falling-clause-add
 returns-in-Falling-clause-add c =
@@ -36,10 +38,14 @@ pub returns-in-Falling-clause-left : goal.returns-in-Falling-clause-left
 returns-in-Falling-clause-left c =
     let line : c.args.edge.now.line ≡ Falling c.in-Falling.field-0 = sym c.line-2.ensures.value ∙ c.in-Falling.is in
     let at = c.passing-level.ensures.falling c.in-Falling.field-0 (c.line.ensures.value ∙ line) in
-    subst (λ (p : Option EdgeParts). All (LiesLeft c.args.cut.x) (option_to_list p)) (sym c.part_above-in-Falling.ensures) (falling_left c.args.cut.x c.in-Falling.field-0 c.passing-level.result.y c.args.edge.now line at)
+    subst (λ (p : Option EdgeParts). All (LiesLeft c.args.cut.x) (option_to_list p))
+    (sym c.part_above-in-Falling.ensures)
+    (falling_left c.args.cut.x c.in-Falling.field-0 c.passing-level.result.y c.args.edge.now line at)
 
 pub returns-in-Falling-clause-right : goal.returns-in-Falling-clause-right
 returns-in-Falling-clause-right c =
     let line : c.args.edge.now.line ≡ Falling c.in-Falling.field-0 = sym c.line-2.ensures.value ∙ c.in-Falling.is in
     let at = c.passing-level.ensures.falling c.in-Falling.field-0 (c.line.ensures.value ∙ line) in
-    subst (λ (p : Option EdgeParts). All (LiesRight c.args.cut.x) (option_to_list p)) (sym c.part_below-in-Falling.ensures) (falling_right c.args.cut.x c.in-Falling.field-0 c.passing-level.result.y c.args.edge.now line at)
+    subst (λ (p : Option EdgeParts). All (LiesRight c.args.cut.x) (option_to_list p))
+    (sym c.part_below-in-Falling.ensures)
+    (falling_right c.args.cut.x c.in-Falling.field-0 c.passing-level.result.y c.args.edge.now line at)

@@ -8,4 +8,5 @@ returns c =
     let bottom : FitsSigned w64 c.args.rows.y0 = search rules in
     let top : FitsSigned w64 c.args.rows.y1 = search rules in
     let made = simp to_z-of_z at c.new.ensures in
-    part_is c.args.edge.now c.args.rows.y0 c.args.rows.y1 c.new.result c.line.ensures.edge c.requires.bottom c.requires.top (rw (c.line.ensures.value, c.is_up.ensures.value, c.operand.ensures.value) at made)
+    part_is c.args.edge.now c.args.rows.y0 c.args.rows.y1 c.new.result c.line.ensures.edge c.requires.bottom
+    c.requires.top (rw (c.line.ensures.value, c.is_up.ensures.value, c.operand.ensures.value) at made)

@@ -8,18 +8,24 @@ use Rattle.column_sweep.proofs.seams.closed.Goals as goal
 
 pub plain_counted-requires-clause-balanced : goal.plain_counted-requires-clause-balanced
 plain_counted-requires-clause-balanced c = λ o j low high.
-    subst (λ (xs : List EdgeParts). IsBalancedAt xs o j) (sym (c.in_ok-edges.ensures ∙ ap (flat_map (edges_of_trapezoid A)) c.as_slice.ensures.value)) (seams_balanced o A c.args.sewn.seams.items j)
+    subst (λ (xs : List EdgeParts). IsBalancedAt xs o j)
+    (sym (c.in_ok-edges.ensures ∙ ap (flat_map (edges_of_trapezoid A)) c.as_slice.ensures.value))
+    (seams_balanced o A c.args.sewn.seams.items j)
 
 pub returns-clause-sewn : goal.returns-clause-sewn
 returns-clause-sewn c =
     let swept = rw (c.in_ok-edges.ensures, c.as_slice.ensures.value) at c.in_ok-last.ensures in
     rw (c.in_ok-extend_from_slice.ensures.items, c.as_slice-2.ensures.value)
     (sewn_again c.args.window c.args.sewn.finals.items c.args.sewn.seams.items _ _ c.requires (joined_sewn c.args.window _ swept.joined) _
-    (taken_has c.args.window c.args.sewn.seams.items c.requires.pieces _ (λ x y r h. h) (λ x y. refl)) (has_taken c.args.window c.args.sewn.seams.items c.requires.pieces _ (λ x y r h. h) (λ x y. refl)) (joined_covers _ _ swept.covers))
+    (taken_has c.args.window c.args.sewn.seams.items c.requires.pieces _ (λ x y r h. h) (λ x y. refl))
+    (has_taken c.args.window c.args.sewn.seams.items c.requires.pieces _ (λ x y r h. h) (λ x y. refl))
+    (joined_covers _ _ swept.covers))
 
 pub returns-clause-same : goal.returns-clause-same
 returns-clause-same c =
     let swept = rw (c.in_ok-edges.ensures, c.as_slice.ensures.value) at c.in_ok-last.ensures in
     rw (c.in_ok-extend_from_slice.ensures.items, c.as_slice-2.ensures.value)
     (same_again c.args.window c.args.sewn.finals.items c.args.sewn.seams.items _ _ c.requires (joined_sewn c.args.window _ swept.joined) _
-    (taken_has c.args.window c.args.sewn.seams.items c.requires.pieces _ (λ x y r h. h) (λ x y. refl)) (has_taken c.args.window c.args.sewn.seams.items c.requires.pieces _ (λ x y r h. h) (λ x y. refl)) (joined_covers _ _ swept.covers))
+    (taken_has c.args.window c.args.sewn.seams.items c.requires.pieces _ (λ x y r h. h) (λ x y. refl))
+    (has_taken c.args.window c.args.sewn.seams.items c.requires.pieces _ (λ x y r h. h) (λ x y. refl))
+    (joined_covers _ _ swept.covers))

@@ -8,7 +8,8 @@ loop-rise-preserved c = λ sum h.
     let more : c.in-Some-Some.fall.now.y ≤ℤ c.in-Some-Some.rise.now.y = search rules in
     let less : c.in-Some-Some.rise.now.y ≤ℤ c.in-Some-Some.fall.now.y = search rules in
     let same : c.in-Some-Some.rise.now.y ≡ c.in-Some-Some.fall.now.y = omega (arith, ints, more, less) in
-    steps_cancel sum c.loop-rise.up.items c.loop-rise.down.items c.in-Some-Some.later_rises.now c.in-Some-Some.later_falls.now c.in-Some-Some.rise.now c.in-Some-Some.fall.now same
+    steps_cancel sum c.loop-rise.up.items c.loop-rise.down.items c.in-Some-Some.later_rises.now
+    c.in-Some-Some.later_falls.now c.in-Some-Some.rise.now c.in-Some-Some.fall.now same
     (rw (c.in-Some-Some.ensures.cases.0, c.in-Some-Some.ensures'.cases.0) at (c.loop-rise.invariant sum h))
 
 pub loop-rise-preserved-in_ok-push : goal.loop-rise-preserved-in_ok-push

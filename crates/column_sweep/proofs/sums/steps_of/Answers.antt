@@ -12,7 +12,9 @@ pub loop-edge-preserved : goal.loop-edge-preserved
 loop-edge-preserved c =
     let added = c.in_ok-add_step.ensures (sum_so_far c.args.operand c.args.edges.now c.loop-edge.left.now) c.loop-edge.invariant in
     steps_go_on c.args.operand c.args.edges.now c.in-Some.edge.now c.in-Some.rest.now _ _
-    (subst (λ (left : List EdgeParts). AreSteps (λ j. sum_so_far c.args.operand c.args.edges.now left j +ℤ row_sum c.args.operand j (c.in-Some.edge.now ∷ [])) c.add_step.new.steps.rises.items c.add_step.new.steps.falls.items) c.in-Some.ensures.cases.0 added)
+    (subst (λ (left : List EdgeParts). AreSteps
+    (λ j. sum_so_far c.args.operand c.args.edges.now left j +ℤ row_sum c.args.operand j (c.in-Some.edge.now ∷ []))
+    c.add_step.new.steps.rises.items c.add_step.new.steps.falls.items) c.in-Some.ensures.cases.0 added)
 
 pub returns : goal.returns
 returns c = steps_all c.args.operand c.args.edges.now c.loop-edge.left.now _ _ c.in_default.ensures.cases c.loop-edge.invariant

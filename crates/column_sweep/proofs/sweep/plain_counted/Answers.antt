@@ -13,7 +13,8 @@ pub begin-requires-clause-rule : goal.begin-requires-clause-rule
 begin-requires-clause-rule g c =
     let pre : g.row.F.Denot → ℤ → ℤ → Type 0 = λ rule a b. g.F.Fn.pre rule (a, (b, tt)) in
     let post : g.row.F.Denot → ℤ → ℤ → Bool → Type 0 = λ rule a b r. g.F.Fn.post rule (a, (b, tt)) r in
-    let own : IsRule (pre c.new-asked.result.0.now) (post c.new-asked.result.0.now) = subst (λ rule. IsRule (pre rule.0.now) (post rule.0.now)) (sym c.new-asked.ensures) c.requires.rule in
+    let own : IsRule (pre c.new-asked.result.0.now) (post c.new-asked.result.0.now) = subst
+    (λ rule. IsRule (pre rule.0.now) (post rule.0.now)) (sym c.new-asked.ensures) c.requires.rule in
     lent_is_rule _ _ _ _ own (λ a b h k. (own, (h, k))) (λ a b r h. h) (λ a b r h. h)
 
 pub joined-requires-clause-rule : goal.joined-requires-clause-rule
@@ -21,14 +22,18 @@ joined-requires-clause-rule g c =
     let pre : g.row.F.Denot → ℤ → ℤ → Type 0 = λ rule a b. g.F.Fn.pre rule (a, (b, tt)) in
     let post : g.row.F.Denot → ℤ → ℤ → Bool → Type 0 = λ rule a b r. g.F.Fn.post rule (a, (b, tt)) r in
     let own : IsRule (pre c.in_ok-scan.scan.rule.0.now) (post c.in_ok-scan.scan.rule.0.now) =
-    subst (λ rule. IsRule (pre rule.0.now) (post rule.0.now)) (sym c.in_ok-scan.ensures.rule) (subst (λ rule. IsRule (pre rule.0.now) (post rule.0.now)) (sym c.new-asked.ensures) c.requires.rule) in
+    subst (λ rule. IsRule (pre rule.0.now) (post rule.0.now)) (sym c.in_ok-scan.ensures.rule)
+    (subst (λ rule. IsRule (pre rule.0.now) (post rule.0.now)) (sym c.new-asked.ensures) c.requires.rule) in
     lent_is_rule _ _ _ _ own (λ a b h k. (own, (h, k))) (λ a b r h. h) (λ a b r h. h)
 
 pub returns : goal.returns
 returns g c =
     let post : g.row.F.Denot → ℤ → ℤ → Bool → Type 0 = λ rule a b r. g.F.Fn.post rule (a, (b, tt)) r in
-    let kept : c.in_ok-scan.scan.rule.0.now ≡ c.args.rule.now = ap (λ rule. rule.0.now) c.in_ok-scan.ensures.rule ∙ ap (λ rule. rule.0.now) c.new-asked.ensures in
+    let kept : c.in_ok-scan.scan.rule.0.now ≡ c.args.rule.now = ap (λ rule. rule.0.now) c.in_ok-scan.ensures.rule ∙ ap
+    (λ rule. rule.0.now) c.new-asked.ensures in
     IfOk-weaker c.joined.result _ (λ swept. IsSwept (post c.args.rule.now) c.args.edges.items c.args.window swept.traps.items)
-    (λ whole swept. swept_of_given post c.args.rule.now c.in_ok-scan.scan.rule.0.now c.in_ok-scan.scan.edges c.args.edges.items c.args.window c.in_ok-scan.scan.window kept c.in_ok-scan.ensures.edges c.in_ok-scan.ensures.window whole.traps.items
+    (λ whole swept. swept_of_given post c.args.rule.now c.in_ok-scan.scan.rule.0.now c.in_ok-scan.scan.edges
+    c.args.edges.items c.args.window c.in_ok-scan.scan.window kept c.in_ok-scan.ensures.edges
+    c.in_ok-scan.ensures.window whole.traps.items
     (lent_swept (post c.in_ok-scan.scan.rule.0.now) _ (λ a b r h. h) (λ a b r h. h) c.in_ok-scan.scan.edges c.in_ok-scan.scan.window whole.traps.items swept))
     c.joined.ensures

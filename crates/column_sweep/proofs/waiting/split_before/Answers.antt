@@ -27,7 +27,9 @@ returns-then-cut-least_x-clause-right c =
     let le : c.args.cut.x ≤ℤ c.least_x.result.x = search rules in
     let at : c.args.cut.x ≤ℤ (least_x c.in-Some.edge.now).x = rw c.least_x.ensures at le in
     let up = rw c.in-Some.ensures.cases.0 at (c.loop-edge.invariant.rises c.args.cut.x c.requires) in
-    subst (All (LiesRight c.args.cut.x)) (sym c.in-Some.ensures.cases.0 ∙ (c.loop-edge.invariant.left ∙ sym c.split_at.ensures.back)) (right_of_first c.args.cut.x _ _ at up)
+    subst (All (LiesRight c.args.cut.x))
+    (sym c.in-Some.ensures.cases.0 ∙ (c.loop-edge.invariant.left ∙ sym c.split_at.ensures.back))
+    (right_of_first c.args.cut.x _ _ at up)
 
 pub returns-clause-whole : goal.returns-clause-whole
 returns-clause-whole c = whole_again _ _ _ _ c.split_at-2.ensures.front c.split_at-2.ensures.back

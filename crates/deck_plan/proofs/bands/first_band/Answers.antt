@@ -13,8 +13,12 @@ unreachable-requires c =
     let high = c.rows_below.ensures.high in
     let value = c.y0.ensures.value in
     let near = c.requires.near in
-    let fd : FitsSigned w64 (c.y0.result -ℤ c.rows_below.result) = near_fits _ (omega (arith, ints, low, high, value, near.low)) (omega (arith, ints, low, high, value, near.high, near.window)) in
-    let fe : FitsSigned w64 ((c.y0.result -ℤ c.rows_below.result) +ℤ c.args.deck.now.band) = near_fits _ (omega (arith, ints, low, high, value, near.low, c.requires.some)) (omega (arith, ints, low, high, value, near.high, near.window, c.requires.few)) in
+    let fd : FitsSigned w64 (c.y0.result -ℤ c.rows_below.result) = near_fits _
+    (omega (arith, ints, low, high, value, near.low))
+    (omega (arith, ints, low, high, value, near.high, near.window)) in
+    let fe : FitsSigned w64 ((c.y0.result -ℤ c.rows_below.result) +ℤ c.args.deck.now.band) = near_fits _
+    (omega (arith, ints, low, high, value, near.low, c.requires.some))
+    (omega (arith, ints, low, high, value, near.high, near.window, c.requires.few)) in
     let none = simp to_z-of_z at c.in-None.ensures in
     none (omega (arith, ints, c.requires.some))
 
@@ -27,8 +31,12 @@ returns-clause-band c =
     let high = c.rows_below.ensures.high in
     let value = c.y0.ensures.value in
     let near = c.requires.near in
-    let fd : FitsSigned w64 (c.y0.result -ℤ c.rows_below.result) = near_fits _ (omega (arith, ints, low, high, value, near.low)) (omega (arith, ints, low, high, value, near.high, near.window)) in
-    let fe : FitsSigned w64 ((c.y0.result -ℤ c.rows_below.result) +ℤ c.args.deck.now.band) = near_fits _ (omega (arith, ints, low, high, value, near.low, c.requires.some)) (omega (arith, ints, low, high, value, near.high, near.window, c.requires.few)) in
+    let fd : FitsSigned w64 (c.y0.result -ℤ c.rows_below.result) = near_fits _
+    (omega (arith, ints, low, high, value, near.low))
+    (omega (arith, ints, low, high, value, near.high, near.window)) in
+    let fe : FitsSigned w64 ((c.y0.result -ℤ c.rows_below.result) +ℤ c.args.deck.now.band) = near_fits _
+    (omega (arith, ints, low, high, value, near.low, c.requires.some))
+    (omega (arith, ints, low, high, value, near.high, near.window, c.requires.few)) in
     let some = simp to_z-of_z at c.in-Some.ensures in
     first_is c.args.deck.now.band c.args.rows.y0 c.y0.result c.rows_below.result c.in-Some.band c.requires.some value c.rows_below.ensures.value some.1
 
@@ -41,8 +49,12 @@ returns-clause-below c =
     let high = c.rows_below.ensures.high in
     let value = c.y0.ensures.value in
     let near = c.requires.near in
-    let fd : FitsSigned w64 (c.y0.result -ℤ c.rows_below.result) = near_fits _ (omega (arith, ints, low, high, value, near.low)) (omega (arith, ints, low, high, value, near.high, near.window)) in
-    let fe : FitsSigned w64 ((c.y0.result -ℤ c.rows_below.result) +ℤ c.args.deck.now.band) = near_fits _ (omega (arith, ints, low, high, value, near.low, c.requires.some)) (omega (arith, ints, low, high, value, near.high, near.window, c.requires.few)) in
+    let fd : FitsSigned w64 (c.y0.result -ℤ c.rows_below.result) = near_fits _
+    (omega (arith, ints, low, high, value, near.low))
+    (omega (arith, ints, low, high, value, near.high, near.window)) in
+    let fe : FitsSigned w64 ((c.y0.result -ℤ c.rows_below.result) +ℤ c.args.deck.now.band) = near_fits _
+    (omega (arith, ints, low, high, value, near.low, c.requires.some))
+    (omega (arith, ints, low, high, value, near.high, near.window, c.requires.few)) in
     let some = simp to_z-of_z at c.in-Some.ensures in
     let bottom = ap (λ (w : RowRange). w.y0) some.1 in
     omega (arith, ints, bottom, low, value)
@@ -56,8 +68,12 @@ returns-clause-low c =
     let high = c.rows_below.ensures.high in
     let value = c.y0.ensures.value in
     let near = c.requires.near in
-    let fd : FitsSigned w64 (c.y0.result -ℤ c.rows_below.result) = near_fits _ (omega (arith, ints, low, high, value, near.low)) (omega (arith, ints, low, high, value, near.high, near.window)) in
-    let fe : FitsSigned w64 ((c.y0.result -ℤ c.rows_below.result) +ℤ c.args.deck.now.band) = near_fits _ (omega (arith, ints, low, high, value, near.low, c.requires.some)) (omega (arith, ints, low, high, value, near.high, near.window, c.requires.few)) in
+    let fd : FitsSigned w64 (c.y0.result -ℤ c.rows_below.result) = near_fits _
+    (omega (arith, ints, low, high, value, near.low))
+    (omega (arith, ints, low, high, value, near.high, near.window)) in
+    let fe : FitsSigned w64 ((c.y0.result -ℤ c.rows_below.result) +ℤ c.args.deck.now.band) = near_fits _
+    (omega (arith, ints, low, high, value, near.low, c.requires.some))
+    (omega (arith, ints, low, high, value, near.high, near.window, c.requires.few)) in
     let some = simp to_z-of_z at c.in-Some.ensures in
     let bottom = ap (λ (w : RowRange). w.y0) some.1 in
     omega (arith, ints, bottom, high, value, near.low)
@@ -71,8 +87,12 @@ returns-clause-height c =
     let high = c.rows_below.ensures.high in
     let value = c.y0.ensures.value in
     let near = c.requires.near in
-    let fd : FitsSigned w64 (c.y0.result -ℤ c.rows_below.result) = near_fits _ (omega (arith, ints, low, high, value, near.low)) (omega (arith, ints, low, high, value, near.high, near.window)) in
-    let fe : FitsSigned w64 ((c.y0.result -ℤ c.rows_below.result) +ℤ c.args.deck.now.band) = near_fits _ (omega (arith, ints, low, high, value, near.low, c.requires.some)) (omega (arith, ints, low, high, value, near.high, near.window, c.requires.few)) in
+    let fd : FitsSigned w64 (c.y0.result -ℤ c.rows_below.result) = near_fits _
+    (omega (arith, ints, low, high, value, near.low))
+    (omega (arith, ints, low, high, value, near.high, near.window)) in
+    let fe : FitsSigned w64 ((c.y0.result -ℤ c.rows_below.result) +ℤ c.args.deck.now.band) = near_fits _
+    (omega (arith, ints, low, high, value, near.low, c.requires.some))
+    (omega (arith, ints, low, high, value, near.high, near.window, c.requires.few)) in
     let some = simp to_z-of_z at c.in-Some.ensures in
     let bottom = ap (λ (w : RowRange). w.y0) some.1 in
     let top = ap (λ (w : RowRange). w.y1) some.1 in

@@ -9,12 +9,14 @@ use Rattle.deck_plan.proofs.cutting.cut_cell.Goals as goal
 
 pub cut_shape-requires-clause-grid : goal.cut_shape-requires-clause-grid
 cut_shape-requires-clause-grid c =
-    let here = subst (λ (shapes : List Shape). slice_get shapes c.loop-number.number ≡ Some c.shape_at.result.now) c.shapes_of-shapes.ensures c.shape_at.ensures in
+    let here = subst (λ (shapes : List Shape). slice_get shapes c.loop-number.number ≡ Some c.shape_at.result.now)
+    c.shapes_of-shapes.ensures c.shape_at.ensures in
     shape_on_grid c.args.cells.now c.requires.grid c.args.cell c.loop-number.number c.shape_at.result.now here
 
 pub cut_shape-requires-clause-place : goal.cut_shape-requires-clause-place
 cut_shape-requires-clause-place c =
-    let here = subst (λ (shapes : List Shape). slice_get shapes c.loop-number.number ≡ Some c.shape_at.result.now) c.shapes_of-shapes.ensures c.shape_at.ensures in
+    let here = subst (λ (shapes : List Shape). slice_get shapes c.loop-number.number ≡ Some c.shape_at.result.now)
+    c.shapes_of-shapes.ensures c.shape_at.ensures in
     c.loop-number.invariant.shapes c.args.cell c.loop-number.number c.requires.cell
     (slice_get_within (shapes_at c.args.cells.now c.args.cell) c.loop-number.number c.shape_at.result.now here)
 

@@ -21,7 +21,8 @@ returns-in-Some-clause-near c =
     let tree = c.args.tree.now in
     let hull = subst (λ n. IsHull (IsVertex tree.layout.cells n c.args.pair) (Some c.in-Some.hull)) c.top.ensures.value c.in-Some.ensures in
     let is_tree = subst (λ (cells : List Cell). IsTree cells tree.top) c.cells-cells.ensures.value c.cells-cells.ensures.tree in
-    subst (λ rows. IfSome rows (IsRowsUpTo (2 ^ 30))) (sym c.frame_rows.ensures) (hull_near tree.layout.cells tree.top c.args.pair c.in-Some.hull is_tree.near hull)
+    subst (λ rows. IfSome rows (IsRowsUpTo (2 ^ 30))) (sym c.frame_rows.ensures)
+    (hull_near tree.layout.cells tree.top c.args.pair c.in-Some.hull is_tree.near hull)
 
 pub returns-in-None-clause-outside : goal.returns-in-None-clause-outside
 returns-in-None-clause-outside c = λ t inside.

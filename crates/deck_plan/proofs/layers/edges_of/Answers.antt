@@ -6,8 +6,12 @@ use Rattle.deck_plan.proofs.layers.edges_of.Goals as goal
 pub loop-quad-preserved : goal.loop-quad-preserved
 loop-quad-preserved g c = λ list given.
     let before = c.loop-quad.invariant list given in
-    let first = c.in-Some.ensures.first before.0 before.1 in
-    (first.0, first.2, ring_put c.in-Some.quad before.0 first.0 c.loop-quad.edges.items c.put_ring.new.edges.items (flat_map edges_of_quad list) before.2 first.1 c.in_ok-put_ring.ensures)
+    let first = c.in-Some.ensures.first before.0 before.1 in (
+      first.0,
+      first.2,
+      ring_put c.in-Some.quad before.0 first.0 c.loop-quad.edges.items c.put_ring.new.edges.items
+          (flat_map edges_of_quad list) before.2 first.1 c.in_ok-put_ring.ensures,
+    )
 
 pub returns : goal.returns
 returns g c = λ list given.

@@ -16,5 +16,7 @@ returns c =
     let tree = c.args.tree.now in
     let quads = pieces_in tree.layout.cells tree.top c.args.parts.now c.args.pair c.args.window in
     IfOk-weaker c.unite.result _ (λ traps. HasArea c.args.window (IsInLayer tree.layout.cells tree.top c.args.pair) traps.items)
-    (λ traps joined. layer_has tree.layout.cells tree.top c.args.pair c.args.window quads c.in-Ok.ensures.quads c.in-Ok.ensures.area c.in_ok-edges.edges.items (c.in_ok-edges.ensures quads c.in-Ok.ensures.list) traps.items joined)
+    (λ traps joined. layer_has tree.layout.cells tree.top c.args.pair c.args.window quads c.in-Ok.ensures.quads
+    c.in-Ok.ensures.area c.in_ok-edges.edges.items
+    (c.in_ok-edges.ensures quads c.in-Ok.ensures.list) traps.items joined)
     c.unite.ensures

@@ -18,6 +18,7 @@ loop-number-preserved c =
     record {
       within = omega (arith, c.loop-number.invariant.within);
       images = put_more c.args.axis.m traps n trap c.mirrored.result c.args.images.now.items c.loop-number.images.items c.push.new.self.items here
-          (subst (λ k. c.loop-number.images.items ≡ c.args.images.now.items ++ reverse (map (mirrored_trapezoid c.args.axis.m) (drop k traps))) up c.loop-number.invariant.images)
+          (subst (λ k. c.loop-number.images.items ≡ c.args.images.now.items ++ reverse
+          (map (mirrored_trapezoid c.args.axis.m) (drop k traps))) up c.loop-number.invariant.images)
           c.in_ok-push.ensures.items image;
     }

@@ -13,7 +13,9 @@ list-b-requires c = (pair_sound c.requires.sound.0 (length c.args.areas.now) c.i
 inside : (c : goal.After-name_of-name) → c.name_of-name.result < length c.args.areas.now
 inside c =
     subst (λ k. k < length c.args.areas.now) (sym c.name_of-name.ensures)
-    (name_sound (length c.args.areas.now) c.in-Some.pair c.in-Some-kept.operand (pair_sound c.requires.sound.0 (length c.args.areas.now) c.in-Some.pair c.args.step.now c.in-Some.ensures c.requires.sound.1))
+    (name_sound (length c.args.areas.now) c.in-Some.pair c.in-Some-kept.operand
+    (pair_sound c.requires.sound.0
+    (length c.args.areas.now) c.in-Some.pair c.args.step.now c.in-Some.ensures c.requires.sound.1))
 
 pub ends_at-requires : goal.ends_at-requires
 ends_at-requires c = omega (arith, inside c, c.requires.few)
@@ -29,6 +31,8 @@ returns-then-ends_at-clause-area c = λ cells top frame.
     let lists = map (λ list. list.items) c.args.areas.now in
     let pair = c.in-Some.pair in
     let operand = c.in-Some-kept.operand in
-    let kept = kept_of c.args.window pair.op operand c.list-a.result.now (list_at lists pair.a) c.list-b.result.now (list_at lists pair.b) c.list-a.ensures c.list-b.ensures (c.in-Some-kept.ensures.inside, c.in-Some-kept.ensures.tiles) in
+    let kept = kept_of c.args.window pair.op operand c.list-a.result.now (list_at lists pair.a) c.list-b.result.now
+    (list_at lists pair.b) c.list-a.ensures c.list-b.ensures
+    (c.in-Some-kept.ensures.inside, c.in-Some-kept.ensures.tiles) in
     subst (λ name. HasArea c.args.window (λ t. IsInStep cells top frame (IsListed lists) c.args.step.now t) (list_at lists name)) (sym c.name_of-name.ensures)
     (moved_area lists c.requires.joined pair operand c.args.window c.args.step.now c.in-Some.ensures kept cells top frame)

@@ -21,10 +21,12 @@ edges_are c =
     simp to_z-of_z at (c.in_ok-edges.ensures _ (c.new-2.ensures.list c.args.traps.now c.new.ensures.list))
 
 pub unite-requires : goal.unite-requires
-unite-requires c = grown_balanced c.args.dx c.args.dy c.requires.sizing.rectangle c.args.traps.now c.requires.legal c.in_ok-edges.edges.items (edges_are c) c.args.window
+unite-requires c = grown_balanced c.args.dx c.args.dy c.requires.sizing.rectangle c.args.traps.now c.requires.legal
+    c.in_ok-edges.edges.items (edges_are c) c.args.window
 
 pub returns : goal.returns
 returns c =
     IfOk-weaker c.unite.result _ (λ grown. HasArea c.args.window (IsGrown c.args.dx c.args.dy (IsInSome c.args.traps.now)) grown.items)
-    (λ grown joined. grown_has c.args.dx c.args.dy c.requires.sizing.rectangle c.args.traps.now c.requires.legal c.in_ok-edges.edges.items (edges_are c.before) c.args.window grown.items joined)
+    (λ grown joined. grown_has c.args.dx c.args.dy c.requires.sizing.rectangle c.args.traps.now c.requires.legal
+    c.in_ok-edges.edges.items (edges_are c.before) c.args.window grown.items joined)
     c.unite.ensures

@@ -19,7 +19,9 @@ use Rattle.deck_plan.proofs.Sizes.{shrunk_has, rings_balanced, outside_near, emp
 use Rattle.deck_plan.proofs.sizing.shrunk_area.Goals as goal
 
 pub returns-in_default : goal.returns-in_default
-returns-in_default c = empty_shrunk c.args.dx c.args.dy c.requires.sizing.rectangle c.args.traps.now c.new.result.items c.args.window (no_items c.args.traps.now c.in_default.ensures.cases) c.new.ensures.items
+returns-in_default c =
+    empty_shrunk c.args.dx c.args.dy c.requires.sizing.rectangle c.args.traps.now c.new.result.items c.args.window
+    (no_items c.args.traps.now c.in_default.ensures.cases) c.new.ensures.items
 
 pub hull_from-requires-clause-first : goal.hull_from-requires-clause-first
 hull_from-requires-clause-first c =
@@ -43,15 +45,18 @@ put_rings-requires-clause-near c =
     let is = simp to_z-of_z at c.wider.ensures in
     let tiles = subst (λ (frame : Frame). (t : Tile) → IsInTrapezoid c.frame_trap.result t ↔ IsInFrame frame t) is c.frame_trap.ensures.tiles in
     subst (All (HasCornersUpTo (2 ^ 43))) (sym c.as_slice.ensures.value)
-    (outside_near c.args.dx c.args.dy c.hull_from.result c.requires.sizing c.hull_from.ensures.full c.frame_trap.result tiles c.args.traps.now c.widened.result c.in_ok-outside.outside.items c.in_ok-outside.ensures)
+    (outside_near c.args.dx c.args.dy c.hull_from.result c.requires.sizing c.hull_from.ensures.full c.frame_trap.result
+    tiles c.args.traps.now c.widened.result c.in_ok-outside.outside.items c.in_ok-outside.ensures)
 
 pub left_over-requires : goal.left_over-requires
 left_over-requires c =
     let dx : FitsSigned w64 c.args.dx = c.ranges.dx in
     let dy : FitsSigned w64 c.args.dy = c.ranges.dy in
     let put = simp to_z-of_z at c.in_ok-put_rings.ensures in
-    let edges = subst (λ (list : List Trapezoid). c.put_rings.new.edges.items ≡ c.in_ok-edges.edges.items ++ flat_map (edges_of_grown c.args.dx c.args.dy) list) c.as_slice.ensures.value put in
-    rings_balanced c.args.dx c.args.dy c.requires.sizing.rectangle c.args.traps.now c.in_ok-outside.outside.items c.in_ok-outside.ensures.joined.legal c.args.window c.in_ok-edges.edges.items c.put_rings.new.edges.items
+    let edges = subst (λ (list : List Trapezoid). c.put_rings.new.edges.items ≡ c.in_ok-edges.edges.items ++ flat_map
+    (edges_of_grown c.args.dx c.args.dy) list) c.as_slice.ensures.value put in
+    rings_balanced c.args.dx c.args.dy c.requires.sizing.rectangle c.args.traps.now c.in_ok-outside.outside.items
+    c.in_ok-outside.ensures.joined.legal c.args.window c.in_ok-edges.edges.items c.put_rings.new.edges.items
     c.in_ok-edges.ensures.a c.in_ok-edges.ensures.b edges (c.in_ok-edges.ensures.balanced c.args.window)
 
 pub returns : goal.returns
@@ -61,11 +66,18 @@ returns c =
     let is = simp to_z-of_z at c.wider.ensures in
     let rows = simp to_z-of_z at c.widened.ensures in
     let tiles = subst (λ (frame : Frame). (t : Tile) → IsInTrapezoid c.frame_trap.result t ↔ IsInFrame frame t) is c.frame_trap.ensures.tiles in
-    let around = near_in_wider c.args.dx c.args.dy c.hull_from.result c.args.traps.now (subst (All (IsAround c.hull_from.result)) (sym c.in-Some.ensures.cases.0) c.hull_from.ensures.around) in
-    let outside = subst (λ (w : RowRange). IsJoinedOf w (IsInResult Sub (c.frame_trap.result ∷ []) c.args.traps.now w) c.in_ok-outside.outside.items) rows c.in_ok-outside.ensures in
+    let around = near_in_wider c.args.dx c.args.dy c.hull_from.result c.args.traps.now
+    (subst (All (IsAround c.hull_from.result)) (sym c.in-Some.ensures.cases.0) c.hull_from.ensures.around) in
+    let outside = subst (λ (w : RowRange). IsJoinedOf w
+    (IsInResult Sub (c.frame_trap.result ∷ []) c.args.traps.now w) c.in_ok-outside.outside.items) rows
+    c.in_ok-outside.ensures in
     let put = simp to_z-of_z at c.in_ok-put_rings.ensures in
-    let edges = subst (λ (list : List Trapezoid). c.put_rings.new.edges.items ≡ c.in_ok-edges.edges.items ++ flat_map (edges_of_grown c.args.dx c.args.dy) list) c.as_slice.ensures.value put in
+    let edges = subst (λ (list : List Trapezoid). c.put_rings.new.edges.items ≡ c.in_ok-edges.edges.items ++ flat_map
+    (edges_of_grown c.args.dx c.args.dy) list) c.as_slice.ensures.value put in
     IfOk-weaker c.left_over.result _ (λ shrunk. HasArea c.args.window (IsShrunk c.args.dx c.args.dy (IsInSome c.args.traps.now)) shrunk.items)
-    (λ shrunk joined. shrunk_has c.args.dx c.args.dy c.requires.sizing.rectangle c.args.traps.now c.in_ok-outside.outside.items c.in_ok-outside.ensures.joined.legal c.args.window c.in_ok-edges.edges.items c.put_rings.new.edges.items
-    c.in_ok-edges.ensures.a c.in_ok-edges.ensures.b edges (wider c.args.dx c.args.dy c.hull_from.result) c.frame_trap.result tiles around outside shrunk.items joined)
+    (λ shrunk joined. shrunk_has c.args.dx c.args.dy c.requires.sizing.rectangle c.args.traps.now
+    c.in_ok-outside.outside.items c.in_ok-outside.ensures.joined.legal c.args.window c.in_ok-edges.edges.items
+    c.put_rings.new.edges.items
+    c.in_ok-edges.ensures.a c.in_ok-edges.ensures.b edges
+    (wider c.args.dx c.args.dy c.hull_from.result) c.frame_trap.result tiles around outside shrunk.items joined)
     c.left_over.ensures

@@ -12,7 +12,8 @@ returns-in-Some c =
     let a = c.args.a.now in
     let b = c.args.b.now in
     let list = list_of c.in-Some.operand a b in
-    let copied : c.extend_from_slice.new.self.items ≡ list = c.in_ok-extend_from_slice.ensures.items ∙ (ap (λ start. start ++ c.list_of.result.now) c.new-copy.ensures.items ∙ c.list_of.ensures) in
+    let copied : c.extend_from_slice.new.self.items ≡ list = c.in_ok-extend_from_slice.ensures.items
+    ∙ (ap (λ start. start ++ c.list_of.result.now) c.new-copy.ensures.items ∙ c.list_of.ensures) in
     subst (HasArea c.args.window (λ t. OfBoth c.args.op (IsInSome a t) (IsInSome b t))) (sym copied)
     (kept_has c.args.window (λ t. OfBoth c.args.op (IsInSome a t) (IsInSome b t)) list
     (one_of_joined c.in-Some.operand a b c.requires.first c.requires.second) c.in-Some.ensures.inside c.in-Some.ensures.tiles)

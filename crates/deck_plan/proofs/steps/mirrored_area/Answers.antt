@@ -23,7 +23,8 @@ returns-then-lie_in c =
     let m : FitsSigned w64 c.args.m = c.ranges.m in
     let images = simp to_z-of_z at c.images_in_order.ensures in
     IfOk-weaker c.images_in_order.result _ (λ mirrored. HasArea c.args.window (λ t. IsInSome c.args.traps.now (mirrored_tile c.args.m t)) mirrored.items)
-    (λ mirrored are. images_have c.args.m c.requires.joined.0 c.args.window c.args.traps.now mirrored.items c.requires.joined.1 (c.lie_in.ensures c.if-lie_in.true) are)
+    (λ mirrored are. images_have c.args.m c.requires.joined.0 c.args.window c.args.traps.now mirrored.items
+    c.requires.joined.1 (c.lie_in.ensures c.if-lie_in.true) are)
     images
 
 pub returns : goal.returns

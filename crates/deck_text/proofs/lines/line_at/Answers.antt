@@ -7,4 +7,6 @@ returns-then-end-bytes-clause-line c = line_last c.args.bytes.now c.args.at c.li
 
 pub returns-clause-line : goal.returns-clause-line
 returns-clause-line c =
-    line_first c.args.bytes.now c.without_return.result.now c.args.at c.line_end-end.result c.line_end-end.ensures.forward (omega arith) (c.line_end-end.ensures.stops (omega arith)) c.line_end-end.ensures.line c.without_return.ensures
+    line_first c.args.bytes.now c.without_return.result.now c.args.at c.line_end-end.result
+    c.line_end-end.ensures.forward (omega arith)
+    (c.line_end-end.ensures.stops (omega arith)) c.line_end-end.ensures.line c.without_return.ensures

@@ -28,7 +28,10 @@ pub returns-in-Err-clause-refused : goal.returns-in-Err-clause-refused
 returns-in-Err-clause-refused c = λ other.
     inl (
       c.loop-at.lines,
-      refused_next c.args.names.layout.now c.args.names.deck.now (lines_of c.args.bytes.now) c.loop-at.lines (said_views c.loop-at.saids.items) c.line_at-next.result.0.now (lines_of (drop c.line_at-next.result.1 c.args.bytes.now)) (Refused c.in-Err.column) _ c.loop-at.invariant.read
+      refused_next c.args.names.layout.now c.args.names.deck.now (lines_of c.args.bytes.now) c.loop-at.lines
+          (said_views c.loop-at.saids.items) c.line_at-next.result.0.now
+          (lines_of (drop c.line_at-next.result.1 c.args.bytes.now))
+          (Refused c.in-Err.column) _ c.loop-at.invariant.read
           (c.loop-at.invariant.rest ∙ c.line_at-next.ensures.line) c.in-Err.ensures refl,
     )
 
@@ -39,7 +42,10 @@ loop-at-preserved-in-Ok-None c =
       within = c.line_at-next.ensures.within;
       counted = omega (arith, c.line_at-next.ensures.forward);
       rest = lines_left (lines_of c.args.bytes.now) c.loop-at.lines c.line_at-next.result.0.now (lines_of (drop c.line_at-next.result.1 c.args.bytes.now)) next;
-      read = passes_next c.args.names.layout.now c.args.names.deck.now (lines_of c.args.bytes.now) c.loop-at.lines (said_views c.loop-at.saids.items) c.line_at-next.result.0.now (lines_of (drop c.line_at-next.result.1 c.args.bytes.now)) c.loop-at.invariant.read next (rw c.in-Ok-None.field-0-is at c.in-Ok-None.ensures);
+      read = passes_next c.args.names.layout.now c.args.names.deck.now (lines_of c.args.bytes.now) c.loop-at.lines
+          (said_views c.loop-at.saids.items) c.line_at-next.result.0.now
+          (lines_of (drop c.line_at-next.result.1 c.args.bytes.now)) c.loop-at.invariant.read next
+          (rw c.in-Ok-None.field-0-is at c.in-Ok-None.ensures);
       index = c.loop-at.invariant.index;
     }
 
@@ -50,7 +56,10 @@ returns-in_err-said-in-Ok-Some-clause-refused c =
     rw (p.1, p.2) (λ other.
     inl (
       c.loop-at.lines,
-      refused_next c.args.names.layout.now c.args.names.deck.now (lines_of c.args.bytes.now) c.loop-at.lines (said_views c.loop-at.saids.items) c.line_at-next.result.0.now (lines_of (drop c.line_at-next.result.1 c.args.bytes.now)) (Says (statement_view c.in-Ok-Some.says)) _ c.loop-at.invariant.read
+      refused_next c.args.names.layout.now c.args.names.deck.now (lines_of c.args.bytes.now) c.loop-at.lines
+          (said_views c.loop-at.saids.items) c.line_at-next.result.0.now
+          (lines_of (drop c.line_at-next.result.1 c.args.bytes.now))
+          (Says (statement_view c.in-Ok-Some.says)) _ c.loop-at.invariant.read
           (c.loop-at.invariant.rest ∙ c.line_at-next.ensures.line) says (rw c.as_slice.ensures.value at (c.in_err-said-in-Ok-Some.ensures.refused other)),
     ))
 
@@ -62,10 +71,16 @@ loop-at-preserved c =
       within = c.line_at-next.ensures.within;
       counted = omega (arith, c.line_at-next.ensures.forward);
       rest = lines_left (lines_of c.args.bytes.now) c.loop-at.lines c.line_at-next.result.0.now (lines_of (drop c.line_at-next.result.1 c.args.bytes.now)) next;
-      read = rw (pushed c.loop-at.saids.items c.push.new.self.items c.in_ok-said-in-Ok-Some.said (said (c.loop-at.lines + 1) (statement_view c.in-Ok-Some.says)) c.in-Ok-push.ensures.items c.in_ok-said-in-Ok-Some.ensures.said)
-          (says_next c.args.names.layout.now c.args.names.deck.now (lines_of c.args.bytes.now) c.loop-at.lines (said_views c.loop-at.saids.items) c.line_at-next.result.0.now (lines_of (drop c.line_at-next.result.1 c.args.bytes.now)) (statement_view c.in-Ok-Some.says) c.loop-at.invariant.read next says
+      read = rw (pushed c.loop-at.saids.items c.push.new.self.items c.in_ok-said-in-Ok-Some.said
+          (said (c.loop-at.lines + 1) (statement_view c.in-Ok-Some.says)) c.in-Ok-push.ensures.items
+          c.in_ok-said-in-Ok-Some.ensures.said)
+          (says_next c.args.names.layout.now c.args.names.deck.now (lines_of c.args.bytes.now) c.loop-at.lines
+          (said_views c.loop-at.saids.items) c.line_at-next.result.0.now
+          (lines_of (drop c.line_at-next.result.1 c.args.bytes.now))
+          (statement_view c.in-Ok-Some.says) c.loop-at.invariant.read next says
           (rw c.as_slice.ensures.value at c.in_ok-said-in-Ok-Some.ensures.ok));
-      index = rw (pushed c.loop-at.saids.items c.push.new.self.items c.in_ok-said-in-Ok-Some.said (said_view c.in_ok-said-in-Ok-Some.said) c.in-Ok-push.ensures.items refl)
+      index = rw (pushed c.loop-at.saids.items c.push.new.self.items c.in_ok-said-in-Ok-Some.said
+          (said_view c.in_ok-said-in-Ok-Some.said) c.in-Ok-push.ensures.items refl)
           (c.in-Ok.ensures (said_views c.loop-at.saids.items) c.loop-at.invariant.index);
     }
 
@@ -73,11 +88,14 @@ loop-at-preserved c =
 
 pub returns-then-not-has_output-clause-refused : goal.returns-then-not-has_output-clause-refused
 returns-then-not-has_output-clause-refused c = λ other.
-    let all = ends c.args.names.layout.now c.args.names.deck.now (lines_of c.args.bytes.now) c.loop-at.lines (said_views c.loop-at.saids.items) c.loop-at.invariant.read (c.loop-at.invariant.rest ∙ none_left c.args.bytes.now c.loop-at.at c.loop-at-test.false) in
+    let all = ends c.args.names.layout.now c.args.names.deck.now (lines_of c.args.bytes.now) c.loop-at.lines
+    (said_views c.loop-at.saids.items) c.loop-at.invariant.read
+    (c.loop-at.invariant.rest ∙ none_left c.args.bytes.now c.loop-at.at c.loop-at-test.false) in
     inr (no_output c.args.names.layout.now c.args.names.deck.now (lines_of c.args.bytes.now) c.loop-at.lines (said_views c.loop-at.saids.items) all
     (rw c.as_slice-2.ensures.value at (sym c.has_output.ensures ∙ c.if-not-has_output.true)))
 
-all : (c : goal.Else-not-has_output) → IsReadAll c.args.names.layout.now c.args.names.deck.now (lines_of c.args.bytes.now) c.loop-at.lines (said_views c.loop-at.saids.items)
+all : (c : goal.Else-not-has_output) → IsReadAll c.args.names.layout.now c.args.names.deck.now
+    (lines_of c.args.bytes.now) c.loop-at.lines (said_views c.loop-at.saids.items)
 all c =
     ends c.args.names.layout.now c.args.names.deck.now (lines_of c.args.bytes.now) c.loop-at.lines (said_views c.loop-at.saids.items) c.loop-at.invariant.read
     (c.loop-at.invariant.rest ∙ none_left c.args.bytes.now c.loop-at.at c.loop-at-test.false)

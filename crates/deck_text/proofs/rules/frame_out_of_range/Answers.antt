@@ -14,7 +14,8 @@ returns-then-is_outside-3 c =
     let second = simp to_z-of_z at c.is_outside-2.ensures in
     let next : FitsSigned w64 (c.args.frame.now.x0 +ℤ pos 1) = reach_next f.x0 (sym first ∙ c.if-is_outside.false) in
     let third = simp to_z-of_z at c.is_outside-3.ensures in
-    simp to_z-of_z (third_outside f.x0 f.y0 f.x1 f.y1 (sym first ∙ c.if-is_outside.false) (sym second ∙ c.if-is_outside-2.false) (sym third ∙ c.if-is_outside-3.true))
+    simp to_z-of_z (third_outside f.x0 f.y0 f.x1 f.y1 (sym first ∙ c.if-is_outside.false)
+    (sym second ∙ c.if-is_outside-2.false) (sym third ∙ c.if-is_outside-3.true))
 
 pub returns : goal.returns
 returns c =

@@ -7,4 +7,6 @@ pub returns-in-Define : goal.returns-in-Define
 returns-in-Define c = rw c.in-Define.is (c.line_of.ensures (said_views c.args.before.now) c.requires)
 
 pub returns-in-Write : goal.returns-in-Write
-returns-in-Write c = rw c.in-Write.is (sym (repeats_none (said_views c.args.before.now) c.in-Write.field-0.name.now c.in-Write.field-0.file.now c.in-Write.field-0.layer c.in-Write.field-0.datatype))
+returns-in-Write c = rw c.in-Write.is
+    (sym (repeats_none (said_views c.args.before.now) c.in-Write.field-0.name.now c.in-Write.field-0.file.now
+    c.in-Write.field-0.layer c.in-Write.field-0.datatype))

@@ -12,7 +12,8 @@ returns-then-is_ascii_graphic-clause-some c =
     let start = c.after_blanks-start.result in
     sym c.after_blanks-start.ensures.same
     ∙ run_at line start c.run_end-end.result c.run_end-end.ensures.forward c.run_end-end.ensures.within
-    (from_first (λ (k : ℕ). is_ascii_graphic (get_or line k 0) ≡ true) start c.run_end-end.result (sym c.is_ascii_graphic.ensures.value ∙ c.if-is_ascii_graphic.true) c.run_end-end.ensures.run)
+    (from_first (λ (k : ℕ). is_ascii_graphic (get_or line k 0) ≡ true) start c.run_end-end.result
+    (sym c.is_ascii_graphic.ensures.value ∙ c.if-is_ascii_graphic.true) c.run_end-end.ensures.run)
     c.run_end-end.ensures.stops
 
 pub returns-clause-some : goal.returns-clause-some

@@ -9,7 +9,9 @@ loop-low-preserved-then-is_less c =
     record {
       order = omega (arith, inside);
       inside = l.invariant.inside;
-      before = λ k d below. less_up_to c.args.counts.now c.requires c.args.sought.now.column (l.low + (l.high - l.low) / 2) k d (c.is_less.ensures.less c.if-is_less.true d) (omega (arith, inside, l.invariant.inside)) below;
+      before = λ k d below. less_up_to c.args.counts.now c.requires c.args.sought.now.column
+          (l.low + (l.high - l.low) / 2) k d (c.is_less.ensures.less c.if-is_less.true d)
+          (omega (arith, inside, l.invariant.inside)) below;
       after = l.invariant.after;
     }
 
@@ -21,5 +23,6 @@ loop-low-preserved c =
       order = middle_low l.low l.high;
       inside = omega (arith, inside, l.invariant.inside);
       before = l.invariant.before;
-      after = λ k d from under. not_less_from c.args.counts.now c.requires c.args.sought.now.column (l.low + (l.high - l.low) / 2) k d (c.is_less.ensures.not_less c.if-is_less.false d) under from;
+      after = λ k d from under. not_less_from c.args.counts.now c.requires c.args.sought.now.column
+          (l.low + (l.high - l.low) / 2) k d (c.is_less.ensures.not_less c.if-is_less.false d) under from;
     }

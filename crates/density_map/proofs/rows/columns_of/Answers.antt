@@ -10,13 +10,18 @@ returns-clause-columns c =
     let fg : FitsSigned w64 c.greatest_x.result = search rules in
     let fq : FitsSigned w64 c.column_at.result = search rules in
     let fr : FitsSigned w64 c.column_at-2.result = search rules in
-    let fh : FitsSigned w64 (c.greatest_x.result -ℤ pos 1) = fits_near (c.greatest_x.result -ℤ pos 1) (omega (arith, ints, c.greatest_x.ensures.reach.low)) (omega (arith, ints, c.greatest_x.ensures.reach.high)) in
-    let fn : FitsSigned w64 (c.column_at-2.result +ℤ pos 1) = fits_near (c.column_at-2.result +ℤ pos 1) (omega (arith, ints, c.column_at-2.ensures.near.low)) (omega (arith, ints, c.column_at-2.ensures.near.high)) in
+    let fh : FitsSigned w64 (c.greatest_x.result -ℤ pos 1) = fits_near (c.greatest_x.result -ℤ pos 1)
+    (omega (arith, ints, c.greatest_x.ensures.reach.low))
+    (omega (arith, ints, c.greatest_x.ensures.reach.high)) in
+    let fn : FitsSigned w64 (c.column_at-2.result +ℤ pos 1) = fits_near (c.column_at-2.result +ℤ pos 1)
+    (omega (arith, ints, c.column_at-2.ensures.near.low))
+    (omega (arith, ints, c.column_at-2.ensures.near.high)) in
     let a = simp to_z-of_z at c.column_at.ensures.from in
     let b = simp to_z-of_z at c.column_at.ensures.below in
     let d = simp to_z-of_z at c.column_at-2.ensures.from in
     let e = simp to_z-of_z at c.column_at-2.ensures.below in
-    simp to_z-of_z (columns_are c.args.strip.now.size c.args.trap.now c.least_x.result c.greatest_x.result c.column_at.result c.column_at-2.result c.least_x.ensures.value c.greatest_x.ensures.value a b d e)
+    simp to_z-of_z (columns_are c.args.strip.now.size c.args.trap.now c.least_x.result c.greatest_x.result
+    c.column_at.result c.column_at-2.result c.least_x.ensures.value c.greatest_x.ensures.value a b d e)
 
 pub returns-clause-low : goal.returns-clause-low
 returns-clause-low c =
@@ -29,7 +34,11 @@ pub returns-clause-high : goal.returns-clause-high
 returns-clause-high c =
     let fg : FitsSigned w64 c.greatest_x.result = search rules in
     let fr : FitsSigned w64 c.column_at-2.result = search rules in
-    let fh : FitsSigned w64 (c.greatest_x.result -ℤ pos 1) = fits_near (c.greatest_x.result -ℤ pos 1) (omega (arith, ints, c.greatest_x.ensures.reach.low)) (omega (arith, ints, c.greatest_x.ensures.reach.high)) in
-    let fn : FitsSigned w64 (c.column_at-2.result +ℤ pos 1) = fits_near (c.column_at-2.result +ℤ pos 1) (omega (arith, ints, c.column_at-2.ensures.near.low)) (omega (arith, ints, c.column_at-2.ensures.near.high)) in
+    let fh : FitsSigned w64 (c.greatest_x.result -ℤ pos 1) = fits_near (c.greatest_x.result -ℤ pos 1)
+    (omega (arith, ints, c.greatest_x.ensures.reach.low))
+    (omega (arith, ints, c.greatest_x.ensures.reach.high)) in
+    let fn : FitsSigned w64 (c.column_at-2.result +ℤ pos 1) = fits_near (c.column_at-2.result +ℤ pos 1)
+    (omega (arith, ints, c.column_at-2.ensures.near.low))
+    (omega (arith, ints, c.column_at-2.ensures.near.high)) in
     let d = simp to_z-of_z at c.column_at-2.ensures.from in
     simp to_z-of_z (high_side c.args.strip.now.size c.column_at-2.result c.greatest_x.result c.greatest_x.ensures.reach.high d)

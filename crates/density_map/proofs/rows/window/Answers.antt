@@ -13,11 +13,21 @@ returns-clause-value c =
     let fc : FitsSigned w64 c.args.columns.now.first = search rules in
     let fs : FitsSigned w64 c.args.strip.now.size = search rules in
     let fr : FitsSigned w64 c.args.strip.now.row = search rules in
-    let fx : FitsSigned w64 (c.args.columns.now.first *ℤ c.args.strip.now.size) = fits_near x (omega (arith, ints, c.requires.left.low)) (omega (arith, ints, c.requires.left.high)) in
-    let fy : FitsSigned w64 (c.args.strip.now.row *ℤ c.args.strip.now.size) = fits_near y (omega (arith, ints, c.requires.reach.low)) (omega (arith, ints, c.requires.reach.high, next_y, c.requires.size.low)) in
-    let gx : FitsSigned w64 ((c.args.columns.now.first *ℤ c.args.strip.now.size) +ℤ c.args.strip.now.size) = fits_near (x +ℤ size) (omega (arith, ints, c.requires.right.low, next_x)) (omega (arith, ints, c.requires.right.high, next_x)) in
-    let gy : FitsSigned w64 ((c.args.strip.now.row *ℤ c.args.strip.now.size) +ℤ c.args.strip.now.size) = fits_near (y +ℤ size) (omega (arith, ints, c.requires.reach.low, c.requires.size.low)) (omega (arith, ints, c.requires.reach.high, next_y)) in
-    simp to_z-of_z (window_is c.args.strip.now.size c.args.columns.now.first c.args.strip.now.row (c.args.columns.now.first *ℤ c.args.strip.now.size) (c.args.strip.now.row *ℤ c.args.strip.now.size) ((c.args.columns.now.first *ℤ c.args.strip.now.size) +ℤ c.args.strip.now.size) ((c.args.strip.now.row *ℤ c.args.strip.now.size) +ℤ c.args.strip.now.size) refl refl refl refl)
+    let fx : FitsSigned w64 (c.args.columns.now.first *ℤ c.args.strip.now.size) = fits_near x
+    (omega (arith, ints, c.requires.left.low)) (omega (arith, ints, c.requires.left.high)) in
+    let fy : FitsSigned w64 (c.args.strip.now.row *ℤ c.args.strip.now.size) = fits_near y
+    (omega (arith, ints, c.requires.reach.low))
+    (omega (arith, ints, c.requires.reach.high, next_y, c.requires.size.low)) in
+    let gx : FitsSigned w64 ((c.args.columns.now.first *ℤ c.args.strip.now.size) +ℤ c.args.strip.now.size) = fits_near
+    (x +ℤ size) (omega (arith, ints, c.requires.right.low, next_x))
+    (omega (arith, ints, c.requires.right.high, next_x)) in
+    let gy : FitsSigned w64 ((c.args.strip.now.row *ℤ c.args.strip.now.size) +ℤ c.args.strip.now.size) = fits_near
+    (y +ℤ size) (omega (arith, ints, c.requires.reach.low, c.requires.size.low))
+    (omega (arith, ints, c.requires.reach.high, next_y)) in
+    simp to_z-of_z (window_is c.args.strip.now.size c.args.columns.now.first c.args.strip.now.row
+    (c.args.columns.now.first *ℤ c.args.strip.now.size) (c.args.strip.now.row *ℤ c.args.strip.now.size)
+    ((c.args.columns.now.first *ℤ c.args.strip.now.size) +ℤ c.args.strip.now.size)
+    ((c.args.strip.now.row *ℤ c.args.strip.now.size) +ℤ c.args.strip.now.size) refl refl refl refl)
 
 pub returns-clause-near : goal.returns-clause-near
 returns-clause-near c =
@@ -29,8 +39,16 @@ returns-clause-near c =
     let fc : FitsSigned w64 c.args.columns.now.first = search rules in
     let fs : FitsSigned w64 c.args.strip.now.size = search rules in
     let fr : FitsSigned w64 c.args.strip.now.row = search rules in
-    let fx : FitsSigned w64 (c.args.columns.now.first *ℤ c.args.strip.now.size) = fits_near x (omega (arith, ints, c.requires.left.low)) (omega (arith, ints, c.requires.left.high)) in
-    let fy : FitsSigned w64 (c.args.strip.now.row *ℤ c.args.strip.now.size) = fits_near y (omega (arith, ints, c.requires.reach.low)) (omega (arith, ints, c.requires.reach.high, next_y, c.requires.size.low)) in
-    let gx : FitsSigned w64 ((c.args.columns.now.first *ℤ c.args.strip.now.size) +ℤ c.args.strip.now.size) = fits_near (x +ℤ size) (omega (arith, ints, c.requires.right.low, next_x)) (omega (arith, ints, c.requires.right.high, next_x)) in
-    let gy : FitsSigned w64 ((c.args.strip.now.row *ℤ c.args.strip.now.size) +ℤ c.args.strip.now.size) = fits_near (y +ℤ size) (omega (arith, ints, c.requires.reach.low, c.requires.size.low)) (omega (arith, ints, c.requires.reach.high, next_y)) in
-    simp to_z-of_z (window_near c.args.strip.now.size c.args.columns.now.first c.args.strip.now.row c.requires.size c.requires.reach c.requires.left c.requires.right)
+    let fx : FitsSigned w64 (c.args.columns.now.first *ℤ c.args.strip.now.size) = fits_near x
+    (omega (arith, ints, c.requires.left.low)) (omega (arith, ints, c.requires.left.high)) in
+    let fy : FitsSigned w64 (c.args.strip.now.row *ℤ c.args.strip.now.size) = fits_near y
+    (omega (arith, ints, c.requires.reach.low))
+    (omega (arith, ints, c.requires.reach.high, next_y, c.requires.size.low)) in
+    let gx : FitsSigned w64 ((c.args.columns.now.first *ℤ c.args.strip.now.size) +ℤ c.args.strip.now.size) = fits_near
+    (x +ℤ size) (omega (arith, ints, c.requires.right.low, next_x))
+    (omega (arith, ints, c.requires.right.high, next_x)) in
+    let gy : FitsSigned w64 ((c.args.strip.now.row *ℤ c.args.strip.now.size) +ℤ c.args.strip.now.size) = fits_near
+    (y +ℤ size) (omega (arith, ints, c.requires.reach.low, c.requires.size.low))
+    (omega (arith, ints, c.requires.reach.high, next_y)) in
+    simp to_z-of_z (window_near c.args.strip.now.size c.args.columns.now.first c.args.strip.now.row c.requires.size
+    c.requires.reach c.requires.left c.requires.right)

@@ -11,4 +11,5 @@ pub add-requires-2 : goal.add-requires-2
 add-requires-2 g c =
     let first = ap (λ (z : Trapezoid). z.y1) c.trap.ensures in
     let second = ap (λ (z : Trapezoid). z.y0) c.trap-2.ensures in
-    second_apart c.new-map.result c.add.new.map (pos 64) (pos 0) c.trap.result c.trap-2.result c.new-map.ensures c.add.ensures (omega (arith, ints, first, second))
+    second_apart c.new-map.result c.add.new.map (pos 64)
+    (pos 0) c.trap.result c.trap-2.result c.new-map.ensures c.add.ensures (omega (arith, ints, first, second))

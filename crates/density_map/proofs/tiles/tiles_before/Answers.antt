@@ -62,7 +62,8 @@ returns-in-Upright-clause-value c =
     let fx : FitsSigned w64 c.args.x = search rules in
     let f0 : FitsSigned w64 c.y0.result = search rules in
     let bottom = simp to_z-of_z at c.beyond-bottom.ensures.value in
-    upright_is c.args.line c.in-Upright.field-0 c.args.x c.args.rows.y0 c.y0.result (natural (c.args.rows.y1 -ℤ c.args.rows.y0)) c.height_of.result c.beyond-bottom.result c.from.result
+    upright_is c.args.line c.in-Upright.field-0 c.args.x c.args.rows.y0 c.y0.result
+    (natural (c.args.rows.y1 -ℤ c.args.rows.y0)) c.height_of.result c.beyond-bottom.result c.from.result
     c.in-Upright.is c.height_of.ensures bottom c.from.ensures
 
 pub returns-in-Upright-clause-small : goal.returns-in-Upright-clause-small

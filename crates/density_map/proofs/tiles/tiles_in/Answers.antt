@@ -20,8 +20,13 @@ tiles_of_rows-requires-clause-rows c =
     let f0 : FitsSigned w64 c.args.frame.now.x0 = search rules in
     let f1 : FitsSigned w64 c.args.frame.now.x1 = search rules in
     let test = simp to_z-of_z at c.if-frame.false in
-    subst (λ (r : RowRange). AreRowsOf c.args.trap.now c.args.frame.now r) (sym c.in-Some.ensures.rows.1) (shared_rows_are c.args.trap.now c.args.frame.now (omega (arith, ints, test)) c.in-Some.ensures.rows.0)
+    subst (λ (r : RowRange). AreRowsOf c.args.trap.now c.args.frame.now r) (sym c.in-Some.ensures.rows.1)
+    (shared_rows_are c.args.trap.now c.args.frame.now (omega (arith, ints, test)) c.in-Some.ensures.rows.0)
 
 pub returns : goal.returns
 returns c =
-    record { value = c.tiles_of_rows.ensures ∙ ap (λ (r : RowRange). count_in_rows c.args.frame.now r c.args.trap.now) c.in-Some.ensures.rows.1 ∙ count_shared c.args.trap.now c.args.frame.now c.in-Some.ensures.rows.0 }
+    record {
+      value = c.tiles_of_rows.ensures ∙ ap
+          (λ (r : RowRange). count_in_rows c.args.frame.now r c.args.trap.now) c.in-Some.ensures.rows.1
+          ∙ count_shared c.args.trap.now c.args.frame.now c.in-Some.ensures.rows.0;
+    }

@@ -4,16 +4,24 @@ use Rattle.density_map.proofs.ClipLemmas.{left_within, right_within, rows_counte
 use Rattle.density_map.proofs.tiles.tiles_of_rows.Goals as goal
 
 pub tiles_before-requires-clause-line : goal.tiles_before-requires-clause-line
-tiles_before-requires-clause-line c = right_within c.right-right.result c.args.trap.now c.args.frame.now c.args.rows c.right-right.ensures.value c.requires.rows c.right-right.ensures.shot
+tiles_before-requires-clause-line c =
+    right_within c.right-right.result c.args.trap.now c.args.frame.now c.args.rows c.right-right.ensures.value
+    c.requires.rows c.right-right.ensures.shot
 
 pub tiles_before-requires-2-clause-line : goal.tiles_before-requires-2-clause-line
-tiles_before-requires-2-clause-line c = left_within c.left-left.result c.args.trap.now c.args.frame.now c.args.rows c.left-left.ensures.value c.requires.rows c.left-left.ensures.shot
+tiles_before-requires-2-clause-line c =
+    left_within c.left-left.result c.args.trap.now c.args.frame.now c.args.rows c.left-left.ensures.value
+    c.requires.rows c.left-left.ensures.shot
 
 pub tiles_before-requires-3-clause-line : goal.tiles_before-requires-3-clause-line
-tiles_before-requires-3-clause-line c = left_within c.left-left.result c.args.trap.now c.args.frame.now c.args.rows c.left-left.ensures.value c.requires.rows c.left-left.ensures.shot
+tiles_before-requires-3-clause-line c =
+    left_within c.left-left.result c.args.trap.now c.args.frame.now c.args.rows c.left-left.ensures.value
+    c.requires.rows c.left-left.ensures.shot
 
 pub tiles_before-requires-4-clause-line : goal.tiles_before-requires-4-clause-line
-tiles_before-requires-4-clause-line c = right_within c.right-right.result c.args.trap.now c.args.frame.now c.args.rows c.right-right.ensures.value c.requires.rows c.right-right.ensures.shot
+tiles_before-requires-4-clause-line c =
+    right_within c.right-right.result c.args.trap.now c.args.frame.now c.args.rows c.right-right.ensures.value
+    c.requires.rows c.right-right.ensures.shot
 
 pub overflow_sub-result : goal.overflow_sub-result
 overflow_sub-result c =

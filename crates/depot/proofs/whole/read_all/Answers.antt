@@ -18,7 +18,8 @@ returns-in_err-start_read-clause-fault g c = λ is.
 pub returns-in_err-read_rest-clause-fault : goal.returns-in_err-read_rest-clause-fault
 returns-in_err-read_rest-clause-fault g c = λ is.
     let p = err_from_is_err_and c.from_residual-in_err-read_rest.result c.from_residual-in_err-read_rest.ensures.1 in
-    inl (Rose-later _ _ _ c.start_read.ensures.counts.counted.read_faults (c.in_err-read_rest.ensures.fault (ap (λ bad. Err bad) (sym p.2 ∙ one_error _ _ _ p.1 is))))
+    inl (Rose-later _ _ _ c.start_read.ensures.counts.counted.read_faults
+    (c.in_err-read_rest.ensures.fault (ap (λ bad. Err bad) (sym p.2 ∙ one_error _ _ _ p.1 is))))
 
 pub returns-clause-ok : goal.returns-clause-ok
 returns-clause-ok g c = λ told.
@@ -52,5 +53,6 @@ returns-in_err-read_rest-clause-too_long g c = λ is told.
 pub returns-in_err-read_rest-clause-no_memory : goal.returns-in_err-read_rest-clause-no_memory
 returns-in_err-read_rest-clause-no_memory g c = λ is.
     let p = err_from_is_err_and c.from_residual-in_err-read_rest.result c.from_residual-in_err-read_rest.ensures.1 in
-    want_or_nothing (g.D.Depot.counts c.args.depot.now) (g.D.Depot.counts c.start_read.new.self) (g.D.Depot.counts c.read_rest.new.depot) c.in_ok-start_read.ensures.counts.uncounted
+    want_or_nothing (g.D.Depot.counts c.args.depot.now) (g.D.Depot.counts c.start_read.new.self)
+    (g.D.Depot.counts c.read_rest.new.depot) c.in_ok-start_read.ensures.counts.uncounted
     (c.in_err-read_rest.ensures.no_memory (ap (λ bad. Err bad) (sym p.2 ∙ one_error _ _ _ p.1 is)))

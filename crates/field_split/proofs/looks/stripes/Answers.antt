@@ -29,7 +29,9 @@ loop-shot-preserved c =
     simp to_z-of_z (record {
       low = lower c.args.shots.now (to_z w64 c.loop-shot.low-bits) c.min-low.result c.shot-item.result was.low member c.y0.ensures.shot lesser;
       high = higher c.args.shots.now (to_z w64 c.loop-shot.high-bits) c.max-high.result c.shot-item.result was.high member c.y0.ensures.shot greater;
-      between = wider c.args.shots.now c.loop-shot.shot-index (to_z w64 c.loop-shot.low-bits) (to_z w64 c.loop-shot.high-bits) c.min-low.result c.max-high.result c.shot-item.result at lesser greater was.between;
+      between = wider c.args.shots.now c.loop-shot.shot-index (to_z w64 c.loop-shot.low-bits)
+          (to_z w64 c.loop-shot.high-bits) c.min-low.result c.max-high.result c.shot-item.result at lesser greater
+          was.between;
     })
 
 pub overflow_sub-high : goal.overflow_sub-high
@@ -42,5 +44,8 @@ returns-clause-some c =
     let was = c.loop-shot.invariant in
     let high : FitsSigned w64 (to_z w64 c.loop-shot.high-bits -ℤ pos 1) = high_fits c.args.shots.now (to_z w64 c.loop-shot.high-bits) was.high in
     let top = simp to_z-of_z at c.stripe_of-2.ensures in
-    let all = of_all (IsBetween (to_z w64 c.loop-shot.low-bits) (to_z w64 c.loop-shot.high-bits)) c.args.shots.now c.loop-shot.shot-index c.loop-shot-test.false was.between in
-    simp to_z-of_z (stripes_are c.args.fields.now (to_z w64 c.loop-shot.low-bits) (to_z w64 c.loop-shot.high-bits) c.stripe_of.result c.stripe_of-2.result c.args.shots.now was.low was.high all c.stripe_of.ensures top)
+    let all = of_all (IsBetween (to_z w64 c.loop-shot.low-bits) (to_z w64 c.loop-shot.high-bits)) c.args.shots.now
+    c.loop-shot.shot-index c.loop-shot-test.false was.between in
+    simp to_z-of_z (stripes_are c.args.fields.now (to_z w64 c.loop-shot.low-bits)
+    (to_z w64 c.loop-shot.high-bits) c.stripe_of.result c.stripe_of-2.result c.args.shots.now was.low was.high all
+    c.stripe_of.ensures top)

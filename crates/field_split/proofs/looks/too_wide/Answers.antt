@@ -7,7 +7,12 @@ use Rattle.field_split.proofs.looks.too_wide.Goals as goal
 pub loop-k-preserved : goal.loop-k-preserved
 loop-k-preserved c =
     let at = slice_get_read c.args.shots.now _ c.loop-k.k c.index-shots-k.result refl c.loop-k-test.true c.index-shots-k.is in
-    one_more IsFieldShot c.args.shots.now c.loop-k.k c.index-shots-k.result at (record { shot = c.can_be_split.ensures.shot; reach = c.can_be_split.ensures.reach.0 c.if-not-can_be_split.false }) c.loop-k.invariant
+    one_more IsFieldShot c.args.shots.now c.loop-k.k c.index-shots-k.result at
+    (record {
+      shot = c.can_be_split.ensures.shot;
+      reach =
+          c.can_be_split.ensures.reach.0 c.if-not-can_be_split.false;
+    }) c.loop-k.invariant
 
 pub returns-clause-none : goal.returns-clause-none
 returns-clause-none c = of_all IsFieldShot c.args.shots.now c.loop-k.k c.loop-k-test.false c.loop-k.invariant

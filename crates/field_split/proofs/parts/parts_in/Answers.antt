@@ -18,7 +18,9 @@ piece-requires-clause-shot c =
     let second = simp to_z-of_z at c.turn-second.ensures.value in
     let low = simp to_z-of_z at c.min-y0.ensures.value in
     let high = simp to_z-of_z at c.max-y1.ensures.value in
-    simp to_z-of_z (lower_shot (shape_of c.args.part.now) c.args.columns c.rows_in-rows.result _ _ _ _ c.args.part.now.shot c.requires c.rows_in-rows.ensures.value first second low high)
+    simp to_z-of_z (lower_shot
+    (shape_of c.args.part.now) c.args.columns c.rows_in-rows.result _ _ _ _ c.args.part.now.shot c.requires
+    c.rows_in-rows.ensures.value first second low high)
 
 pub piece-requires-2-clause-shot : goal.piece-requires-2-clause-shot
 piece-requires-2-clause-shot c =
@@ -34,7 +36,9 @@ piece-requires-2-clause-shot c =
     let second = simp to_z-of_z at c.turn-second.ensures.value in
     let low = simp to_z-of_z at c.min-y0.ensures.value in
     let high = simp to_z-of_z at c.max-y1.ensures.value in
-    simp to_z-of_z (middle_shot (shape_of c.args.part.now) c.args.columns c.rows_in-rows.result _ _ _ _ c.args.part.now.shot c.requires c.rows_in-rows.ensures.value first second low high)
+    simp to_z-of_z (middle_shot
+    (shape_of c.args.part.now) c.args.columns c.rows_in-rows.result _ _ _ _ c.args.part.now.shot c.requires
+    c.rows_in-rows.ensures.value first second low high)
 
 pub piece-requires-3-clause-shot : goal.piece-requires-3-clause-shot
 piece-requires-3-clause-shot c =
@@ -50,7 +54,9 @@ piece-requires-3-clause-shot c =
     let second = simp to_z-of_z at c.turn-second.ensures.value in
     let low = simp to_z-of_z at c.min-y0.ensures.value in
     let high = simp to_z-of_z at c.max-y1.ensures.value in
-    simp to_z-of_z (upper_shot (shape_of c.args.part.now) c.args.columns c.rows_in-rows.result _ _ _ _ c.args.part.now.shot c.requires c.rows_in-rows.ensures.value first second low high)
+    simp to_z-of_z (upper_shot
+    (shape_of c.args.part.now) c.args.columns c.rows_in-rows.result _ _ _ _ c.args.part.now.shot c.requires
+    c.rows_in-rows.ensures.value first second low high)
 
 pub returns-clause-lower : goal.returns-clause-lower
 returns-clause-lower c =
@@ -67,7 +73,8 @@ returns-clause-lower c =
     let low = simp to_z-of_z at c.min-y0.ensures.value in
     let high = simp to_z-of_z at c.max-y1.ensures.value in
     let one = simp to_z-of_z at c.piece.ensures in
-    lower_is (shape_of c.args.part.now) c.args.columns c.rows_in-rows.result _ _ _ _ c.args.part.now.shot c.requires c.rows_in-rows.ensures.value first second low high one
+    lower_is (shape_of c.args.part.now) c.args.columns c.rows_in-rows.result _ _ _ _ c.args.part.now.shot c.requires
+    c.rows_in-rows.ensures.value first second low high one
 
 pub returns-clause-middle : goal.returns-clause-middle
 returns-clause-middle c =
@@ -84,7 +91,8 @@ returns-clause-middle c =
     let low = simp to_z-of_z at c.min-y0.ensures.value in
     let high = simp to_z-of_z at c.max-y1.ensures.value in
     let one = simp to_z-of_z at c.piece-2.ensures in
-    middle_is (shape_of c.args.part.now) c.args.columns c.rows_in-rows.result _ _ _ _ c.args.part.now.shot c.requires c.rows_in-rows.ensures.value first second low high one
+    middle_is (shape_of c.args.part.now) c.args.columns c.rows_in-rows.result _ _ _ _ c.args.part.now.shot c.requires
+    c.rows_in-rows.ensures.value first second low high one
 
 pub returns-clause-upper : goal.returns-clause-upper
 returns-clause-upper c =
@@ -101,4 +109,5 @@ returns-clause-upper c =
     let low = simp to_z-of_z at c.min-y0.ensures.value in
     let high = simp to_z-of_z at c.max-y1.ensures.value in
     let one = simp to_z-of_z at c.piece-3.ensures in
-    upper_is (shape_of c.args.part.now) c.args.columns c.rows_in-rows.result _ _ _ _ c.args.part.now.shot c.requires c.rows_in-rows.ensures.value first second low high one
+    upper_is (shape_of c.args.part.now) c.args.columns c.rows_in-rows.result _ _ _ _ c.args.part.now.shot c.requires
+    c.rows_in-rows.ensures.value first second low high one

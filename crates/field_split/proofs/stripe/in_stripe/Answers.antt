@@ -14,7 +14,8 @@ invariant_of-result c =
     let a = simp to_z-of_z at c.max-y0.ensures.value in
     let b = simp to_z-of_z at c.min-y1.ensures.value in
     let some : c.max-y0.result <ℤ c.min-y1.result = omega (arith, ints, c.if-y1-y0.false) in
-    let taken = rows_taken c.args.stripe.size c.args.stripe.number c.args.shot.now _ _ _ _ _ _ _ c.rows-rows.ensures c.y0.ensures.value c.y1.ensures.value c.left.ensures.value c.right.ensures.value a b in
+    let taken = rows_taken c.args.stripe.size c.args.stripe.number c.args.shot.now _ _ _ _ _ _ _ c.rows-rows.ensures
+    c.y0.ensures.value c.y1.ensures.value c.left.ensures.value c.right.ensures.value a b in
     record { shot = simp to_z-of_z (taken.1 c.y0.ensures.shot some) }
 
 pub returns-clause-some : goal.returns-clause-some
@@ -27,5 +28,6 @@ returns-clause-some c =
     let high : FitsSigned w64 c.min-y1.result = search rules in
     let a = simp to_z-of_z at c.max-y0.ensures.value in
     let b = simp to_z-of_z at c.min-y1.ensures.value in
-    let taken = rows_taken c.args.stripe.size c.args.stripe.number c.args.shot.now _ _ _ _ _ _ _ c.rows-rows.ensures c.y0.ensures.value c.y1.ensures.value c.left.ensures.value c.right.ensures.value a b in
+    let taken = rows_taken c.args.stripe.size c.args.stripe.number c.args.shot.now _ _ _ _ _ _ _ c.rows-rows.ensures
+    c.y0.ensures.value c.y1.ensures.value c.left.ensures.value c.right.ensures.value a b in
     simp to_z-of_z taken.0

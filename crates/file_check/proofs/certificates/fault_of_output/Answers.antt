@@ -13,14 +13,18 @@ use Rattle.file_check.proofs.certificates.fault_of_output.Goals as goal
 
 pub returns-in-Some-clause-fault : goal.returns-in-Some-clause-fault
 returns-in-Some-clause-fault c =
-    let at = first_front c.args.shots.now c.in_ok-sorted.sorted.items _ _ c.rows_below.result.y0 c.new.ensures.items c.as_slice.ensures.value c.in_ok-sorted.ensures.counts c.in_ok-sorted.ensures.ascend in
+    let at = first_front c.args.shots.now c.in_ok-sorted.sorted.items _ _ c.rows_below.result.y0 c.new.ensures.items
+    c.as_slice.ensures.value c.in_ok-sorted.ensures.counts c.in_ok-sorted.ensures.ascend in
     let fault = rw c.in-Some.is at (c.in_ok-fault.ensures.fault c.args.shots.now at) in
-    first_fault c.args.plan.now c.args.output c.args.shots.now c.rows-rows.result c.rows-rows.ensures.outside c.rows_below.result c.first_band-band.result.y0 c.rows_below.ensures c.first_band-band.ensures.below c.rows-rows.ensures.low c.requires.shots
+    first_fault c.args.plan.now c.args.output c.args.shots.now c.rows-rows.result c.rows-rows.ensures.outside
+    c.rows_below.result c.first_band-band.result.y0 c.rows_below.ensures c.first_band-band.ensures.below
+    c.rows-rows.ensures.low c.requires.shots
     c.in-Some.fault.tile c.in-Some.fault.count c.in-Some.fault.wanted fault
 
 pub loop-deck-init : goal.loop-deck-init
 loop-deck-init c =
-    let at = first_front c.args.shots.now c.in_ok-sorted.sorted.items _ _ c.rows_below.result.y0 c.new.ensures.items c.as_slice.ensures.value c.in_ok-sorted.ensures.counts c.in_ok-sorted.ensures.ascend in
+    let at = first_front c.args.shots.now c.in_ok-sorted.sorted.items _ _ c.rows_below.result.y0 c.new.ensures.items
+    c.as_slice.ensures.value c.in_ok-sorted.ensures.counts c.in_ok-sorted.ensures.ascend in
     let alike = rw c.in_default.is at (c.in_ok-fault.ensures.none c.args.shots.now at) in
     let top : c.rows_below.result.y1 ≡ c.first_band-band.result.y0 = ap (λ (w : RowRange). w.y1) c.rows_below.ensures in
     let below = c.first_band-band.ensures.below in
@@ -28,9 +32,12 @@ loop-deck-init c =
     let window : c.rows-rows.result.y0 ≤ℤ c.rows-rows.result.y1 = search rules in
     record {
       areas = c.new-areas.ensures;
-      front = subst (λ y. IsFrontAt c.args.shots.now y c.fault_in.new.front.meeting.items c.fault_in.new.front.later.now) top (c.in_ok-fault.ensures.front c.args.shots.now at);
+      front = subst (λ y. IsFrontAt c.args.shots.now y c.fault_in.new.front.meeting.items
+          c.fault_in.new.front.later.now) top (c.in_ok-fault.ensures.front c.args.shots.now at);
       agrees = subst (AgreesBelow (area_of c.args.plan.now c.args.output) c.args.shots.now) top
-          (first_none c.args.plan.now c.args.output c.args.shots.now c.rows-rows.result c.rows-rows.ensures.outside c.rows_below.result c.first_band-band.result.y0 c.rows_below.ensures c.first_band-band.ensures.below c.rows-rows.ensures.low c.requires.shots alike);
+          (first_none c.args.plan.now c.args.output c.args.shots.now c.rows-rows.result c.rows-rows.ensures.outside
+          c.rows_below.result c.first_band-band.result.y0 c.rows_below.ensures c.first_band-band.ensures.below
+          c.rows-rows.ensures.low c.requires.shots alike);
       low = c.first_band-band.ensures.low;
       high = omega (arith, ints, below, order, window);
       height = c.first_band-band.ensures.height;
@@ -68,7 +75,8 @@ loop-deck-smaller c =
     let low = c.y0.ensures.value in
     let high = c.y1.ensures.value in
     let test : c.y0.result <ℤ c.y1.result = search rules in
-    fewer_rows (c.rows-rows.result.y1 -ℤ c.next_band-band.result.y0) (c.rows-rows.result.y1 -ℤ c.loop-deck.band.y0) (omega (arith, ints, next, height, same, some)) (omega (arith, ints, low, high, test))
+    fewer_rows (c.rows-rows.result.y1 -ℤ c.next_band-band.result.y0) (c.rows-rows.result.y1 -ℤ c.loop-deck.band.y0)
+    (omega (arith, ints, next, height, same, some)) (omega (arith, ints, low, high, test))
 
 pub loop-deck-preserved : goal.loop-deck-preserved
 loop-deck-preserved c =
@@ -88,9 +96,12 @@ loop-deck-preserved c =
     let alike = rw (c.in_default-2.is, c.as_slice-in-loop-deck.ensures.value) at (c.in_ok-fault-2.ensures.none c.args.shots.now i.front) in
     record {
       areas = c.area.ensures.areas;
-      front = subst (λ y. IsFrontAt c.args.shots.now y c.fault_in-in-loop-deck.new.front.meeting.items c.fault_in-in-loop-deck.new.front.later.now) (sym next) (c.in_ok-fault-2.ensures.front c.args.shots.now i.front);
+      front = subst (λ y. IsFrontAt c.args.shots.now y c.fault_in-in-loop-deck.new.front.meeting.items
+          c.fault_in-in-loop-deck.new.front.later.now) (sym next)
+          (c.in_ok-fault-2.ensures.front c.args.shots.now i.front);
       agrees = subst (AgreesBelow (area_of c.args.plan.now c.args.output) c.args.shots.now) (sym next)
-          (band_none c.args.plan.now c.args.output c.args.shots.now c.loop-deck.band c.in_ok-traps.traps.items i.agrees c.in_ok-traps.ensures.joined.covers alike);
+          (band_none c.args.plan.now c.args.output c.args.shots.now c.loop-deck.band c.in_ok-traps.traps.items i.agrees
+          c.in_ok-traps.ensures.joined.covers alike);
       low = omega (arith, ints, next, height, same, some, low_is);
       high = omega (arith, ints, next, height, same, few, low, high, test, order);
       height = next_top ∙ (rw next refl);
@@ -105,8 +116,14 @@ returns-clause-fault c =
     let over : c.rows-rows.result.y1 ≤ℤ c.loop-deck.band.y0 = omega (arith, ints, low, high, test) in
     let bottom : c.rows_from.result.y0 ≡ c.loop-deck.band.y0 = ap (λ (w : RowRange). w.y0) c.rows_from.ensures in
     let at = subst (λ y. IsFrontAt c.args.shots.now y c.loop-deck.front.meeting.items c.loop-deck.front.later.now) (sym bottom) i.front in
-    IfOk-weaker c.fault_in-2.result _ (λ answer. IfSome answer (λ fault. IsFirstFault (area_of c.args.plan.now c.args.output) c.args.shots.now fault.tile fault.count fault.wanted))
-    (λ answer h. IfSome_then answer h (λ fault. last_fault c.args.plan.now c.args.output c.args.shots.now c.rows-rows.result c.rows-rows.ensures.outside c.rows_from.result c.loop-deck.band.y0 c.rows_from.ensures over c.rows-rows.ensures.high c.requires.shots i.agrees fault.tile fault.count fault.wanted))
+    IfOk-weaker c.fault_in-2.result _
+    (λ answer. IfSome answer
+    (λ fault. IsFirstFault
+    (area_of c.args.plan.now c.args.output) c.args.shots.now fault.tile fault.count fault.wanted))
+    (λ answer h. IfSome_then answer h
+    (λ fault. last_fault c.args.plan.now c.args.output c.args.shots.now c.rows-rows.result
+    c.rows-rows.ensures.outside c.rows_from.result c.loop-deck.band.y0 c.rows_from.ensures over
+    c.rows-rows.ensures.high c.requires.shots i.agrees fault.tile fault.count fault.wanted))
     (c.fault_in-2.ensures.fault c.args.shots.now at)
 
 pub returns-clause-none : goal.returns-clause-none
@@ -119,5 +136,8 @@ returns-clause-none c =
     let bottom : c.rows_from.result.y0 ≡ c.loop-deck.band.y0 = ap (λ (w : RowRange). w.y0) c.rows_from.ensures in
     let at = subst (λ y. IsFrontAt c.args.shots.now y c.loop-deck.front.meeting.items c.loop-deck.front.later.now) (sym bottom) i.front in
     IfOk-weaker c.fault_in-2.result _ (λ answer. IfNone answer (CoversExactly c.args.shots.now (area_of c.args.plan.now c.args.output)))
-    (λ answer. none_weaker answer (last_none c.args.plan.now c.args.output c.args.shots.now c.rows-rows.result c.rows-rows.ensures.outside c.rows_from.result c.loop-deck.band.y0 c.rows_from.ensures over c.rows-rows.ensures.high c.requires.shots i.agrees))
+    (λ answer. none_weaker answer
+    (last_none c.args.plan.now c.args.output c.args.shots.now c.rows-rows.result c.rows-rows.ensures.outside
+    c.rows_from.result c.loop-deck.band.y0 c.rows_from.ensures over c.rows-rows.ensures.high c.requires.shots
+    i.agrees))
     (c.fault_in-2.ensures.none c.args.shots.now at)

@@ -12,7 +12,8 @@ returns-in-Err-clause-refused g c = λ told.
       place = c.loop-place.place;
       sums = c.loop-place.all.items;
       before = i.exact told;
-      fault = fault_before c.args.plan.now c.loop-place.place (g.D.Depot.content c.args.depot.now) (g.D.Depot.content c.loop-place.depot) _ _ c.in-Err.bad (i.others told)
+      fault = fault_before c.args.plan.now c.loop-place.place (g.D.Depot.content c.args.depot.now)
+          (g.D.Depot.content c.loop-place.depot) _ _ c.in-Err.bad (i.others told)
           (subst (λ (n : ℕ). Rose n now) same) (c.in-Err.ensures.refused told);
     }
 
@@ -21,9 +22,11 @@ loop-place-preserved g c =
     let i = c.loop-place.invariant in
     record {
       exact = λ told. one_file_more c.args.plan.now (g.D.Depot.content c.args.depot.now) c.loop-place.place c.loop-place.all.items _ c.in-Ok.sums (i.exact told)
-          (exact_before c.args.plan.now c.loop-place.place (g.D.Depot.content c.args.depot.now) (g.D.Depot.content c.loop-place.depot) c.in-Ok.sums (i.others told) (c.in-Ok.ensures.ok told))
+          (exact_before c.args.plan.now c.loop-place.place (g.D.Depot.content c.args.depot.now)
+          (g.D.Depot.content c.loop-place.depot) c.in-Ok.sums (i.others told) (c.in-Ok.ensures.ok told))
           c.in-Ok-push.ensures.items;
       count = counted c.loop-place.all.items _ c.in-Ok.sums c.loop-place.place c.in-Ok-push.ensures.items i.count;
-      others = λ told. left_again (g.D.Depot.content c.args.depot.now) (g.D.Depot.content c.loop-place.depot) (g.D.Depot.content c.check_file.new.depot) (i.others told) (c.in-Ok.ensures.others told);
+      others = λ told. left_again (g.D.Depot.content c.args.depot.now) (g.D.Depot.content c.loop-place.depot)
+          (g.D.Depot.content c.check_file.new.depot) (i.others told) (c.in-Ok.ensures.others told);
       uncounted = c.in-Ok.ensures.uncounted ∙ i.uncounted;
     }

@@ -8,11 +8,19 @@ use Rattle.file_check.proofs.judging.judge_text.Goals as goal
 
 pub returns-in-Err-clause-refused : goal.returns-in-Err-clause-refused
 returns-in-Err-clause-refused c =
-    refused_bytes c.args.plan.now c.args.place c.args.output.now c.args.bytes.now c.in-Err.bad _ c.refused_shots.ensures.real c.refused_shots.ensures.wanting c.in-Err.ensures.first_fault
+    refused_bytes c.args.plan.now c.args.place c.args.output.now c.args.bytes.now c.in-Err.bad _
+    c.refused_shots.ensures.real c.refused_shots.ensures.wanting c.in-Err.ensures.first_fault
 
 pub returns-then-not-has_head-clause-refused : goal.returns-then-not-has_head-clause-refused
-returns-then-not-has_head-clause-refused c =
-    (refl, record { s = data_of c.in-Ok.file; text = c.in-Ok.ensures.found; other = λ h. (let no = c.if-not-has_head.ensures.1 h in let clash : ⊥ = cc in clash) })
+returns-then-not-has_head-clause-refused c = (
+  refl,
+  record {
+    s = data_of c.in-Ok.file;
+    text = c.in-Ok.ensures.found;
+    other = λ h.
+        (let no = c.if-not-has_head.ensures.1 h in let clash : ⊥ = cc in clash);
+  },
+)
 
 pub judge_shots-requires-clause-few : goal.judge_shots-requires-clause-few
 judge_shots-requires-clause-few c = rw c.as_slice.ensures (few_shots c.args.bytes.now _ _ _ c.in-Ok.ensures.found c.requires.short)

@@ -19,8 +19,11 @@ loop-next-preserved c =
     record {
       later = let h = l.invariant.later in omega (arith, h);
       inside = let h = c.loop-next-test.true in omega (arith, h);
-      around = round_more c.args.boxes.now c.args.start l.next l.around c.box_at.result c.joined-around.result l.invariant.around c.box_at.ensures c.joined-around.ensures;
-      near = subst (IsBoxUpTo (2 ^ 53)) (sym c.joined-around.ensures) (near_both (2 ^ 53) l.around c.box_at.result l.invariant.near (c.requires.near l.next c.box_at.result c.box_at.ensures));
+      around = round_more c.args.boxes.now c.args.start l.next l.around c.box_at.result c.joined-around.result
+          l.invariant.around c.box_at.ensures c.joined-around.ensures;
+      near = subst (IsBoxUpTo (2 ^ 53)) (sym c.joined-around.ensures)
+          (near_both (2 ^ 53) l.around c.box_at.result l.invariant.near
+          (c.requires.near l.next c.box_at.result c.box_at.ensures));
     }
 
 pub returns-clause-around : goal.returns-clause-around

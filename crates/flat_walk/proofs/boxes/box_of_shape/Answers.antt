@@ -10,7 +10,9 @@ pub returns-in-Some : goal.returns-in-Some
 returns-in-Some c =
     let same = sym c.as_slice.ensures.value ∙ c.in-Some.ensures.cases.0 in
     subst (λ l. HasBox c.args.shape.now l c.summed.result) (sym same)
-    (shape_boxed c.args.shape.now (c.in-Some.first.now ∷ c.in-Some.others.now) c.box_of_pieces.result c.hull.result c.summed.result c.box_of_pieces.ensures.around c.hull.ensures.around
+    (shape_boxed c.args.shape.now
+    (c.in-Some.first.now ∷ c.in-Some.others.now) c.box_of_pieces.result c.hull.result c.summed.result
+    c.box_of_pieces.ensures.around c.hull.ensures.around
     c.box_of_pieces.ensures.near (places_near c.args.shape.now.offsets c.hull.result c.requires.offsets c.hull.ensures) c.summed.ensures)
 
 pub returns-in-None : goal.returns-in-None

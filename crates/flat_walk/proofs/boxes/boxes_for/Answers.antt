@@ -14,7 +14,9 @@ loop-boxes-preserved c =
     let here = subst (λ k. slice_get c.args.shapes.now k ≡ Some c.shape_at.result.now) k c.shape_at.ensures in
     let there = subst (λ k. slice_get c.args.lists.now k ≡ Some c.pieces_at.result.now) k c.pieces_at.ensures in
     subst (AreBoxed c.args.shapes.now c.args.lists.now) (sym c.in_ok-push.ensures.items)
-    (boxed_more c.args.shapes.now c.args.lists.now c.loop-boxes.boxes.items c.shape_at.result.now c.pieces_at.result.now c.box_of_shape-around.result c.loop-boxes.invariant here there c.box_of_shape-around.ensures)
+    (boxed_more c.args.shapes.now c.args.lists.now c.loop-boxes.boxes.items c.shape_at.result.now
+    c.pieces_at.result.now c.box_of_shape-around.result c.loop-boxes.invariant here there
+    c.box_of_shape-around.ensures)
 
 pub box_of_shape-around-requires : goal.box_of_shape-around-requires
 box_of_shape-around-requires c = slot_all IsShapeOnGrid c.args.shapes.now c.len-number.result c.shape_at.result.now c.requires c.shape_at.ensures

@@ -8,7 +8,9 @@ use Rattle.flat_walk.proofs.BoxLemmas.{cells_more, boxed_none, boxed_all_near}
 use Rattle.flat_walk.proofs.boxes.shape_boxes.Goals as goal
 
 pub loop-alloc-init : goal.loop-alloc-init
-loop-alloc-init c = λ n. subst (λ l. AreBoxed (shapes_at c.args.cells.now n) (lists_at c.args.parts.now n) (boxes_at l n)) (sym c.in_ok-lists.ensures.items) (boxed_none (shapes_at c.args.cells.now n) (lists_at c.args.parts.now n))
+loop-alloc-init c = λ n. subst
+    (λ l. AreBoxed (shapes_at c.args.cells.now n) (lists_at c.args.parts.now n) (boxes_at l n))
+    (sym c.in_ok-lists.ensures.items) (boxed_none (shapes_at c.args.cells.now n) (lists_at c.args.parts.now n))
 
 pub boxes_for-requires : goal.boxes_for-requires
 boxes_for-requires c = subst (All IsShapeOnGrid) (sym c.shapes_of.ensures) (shapes_on_grid c.args.cells.now c.requires c.len-cell.result)
@@ -23,7 +25,10 @@ loop-alloc-preserved c =
     let new = c.in_ok-boxes.boxes in
     let n = c.len-cell.result in
     let here : AreBoxed (shapes_at cells n) (lists_at table n) new.items =
-    subst (λ l. AreBoxed (shapes_at cells n) l new.items) c.lists.ensures (subst (λ s. AreBoxed s c.lists.result.now new.items) c.shapes_of.ensures c.in_ok-boxes.ensures) in
+    subst (λ l. AreBoxed (shapes_at cells n) l new.items) c.lists.ensures
+    (subst (λ s. AreBoxed s c.lists.result.now new.items) c.shapes_of.ensures c.in_ok-boxes.ensures) in
     let long : n ≡ length c.loop-alloc.lists.items = omega (arith, c.len-cell.ensures, c.loop-alloc.lists.ok) in
-    let more = cells_more cells table c.loop-alloc.lists.items new.items c.loop-alloc.invariant (subst (λ k. AreBoxed (shapes_at cells k) (lists_at table k) new.items) long here) in
-    λ k. subst (λ l. AreBoxed (shapes_at cells k) (lists_at table k) (boxes_at l k)) (sym (c.in_ok-push.ensures.items ∙ ap (λ b. c.loop-alloc.lists.items ++ b ∷ []) c.in_ok-list.ensures)) (more k)
+    let more = cells_more cells table c.loop-alloc.lists.items new.items c.loop-alloc.invariant
+    (subst (λ k. AreBoxed (shapes_at cells k) (lists_at table k) new.items) long here) in
+    λ k. subst (λ l. AreBoxed (shapes_at cells k) (lists_at table k) (boxes_at l k))
+    (sym (c.in_ok-push.ensures.items ∙ ap (λ b. c.loop-alloc.lists.items ++ b ∷ []) c.in_ok-list.ensures)) (more k)

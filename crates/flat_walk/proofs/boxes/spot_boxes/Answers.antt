@@ -17,5 +17,8 @@ loop-alloc-preserved c =
     let before = c.loop-alloc.lists.items in
     let new = c.in_ok-boxes.boxes in
     let long : c.len-cell.result ≡ length before = omega (arith, c.len-cell.ensures, c.loop-alloc.lists.ok) in
-    let more = spots_more cells top before new.items c.loop-alloc.invariant (subst (λ k. IsReachable cells top k → AreSpots cells (placements_at cells k) new.items) long c.in_ok-boxes.ensures.around) in
-    λ n reach. subst (λ l. AreSpots cells (placements_at cells n) (boxes_at l n)) (sym (c.in_ok-push.ensures.items ∙ ap (λ b. before ++ b ∷ []) c.in_ok-list.ensures)) (more n reach)
+    let more = spots_more cells top before new.items c.loop-alloc.invariant
+    (subst (λ k. IsReachable cells top k → AreSpots cells (placements_at cells k) new.items) long
+    c.in_ok-boxes.ensures.around) in
+    λ n reach. subst (λ l. AreSpots cells (placements_at cells n) (boxes_at l n))
+    (sym (c.in_ok-push.ensures.items ∙ ap (λ b. before ++ b ∷ []) c.in_ok-list.ensures)) (more n reach)

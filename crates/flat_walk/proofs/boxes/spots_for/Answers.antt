@@ -25,6 +25,9 @@ loop-boxes-preserved c =
     let items = sym c.in_ok-push.ensures.items in
     record {
       near = subst AreNear items (near_more before c.spot-around.result c.loop-boxes.invariant.near s.near);
-      around = λ reach. subst (AreSpots cells (placements_at cells c.args.cell)) items (spot_more cells (placements_at cells c.args.cell) before c.spot-around.result (c.loop-boxes.invariant.around reach)
-          (λ placement p here vertex. s.around placement p reach (subst (λ k. slice_get (placements_at cells c.args.cell) k ≡ Some placement) (sym long) here) vertex));
+      around = λ reach. subst (AreSpots cells (placements_at cells c.args.cell)) items
+          (spot_more cells (placements_at cells c.args.cell) before c.spot-around.result
+          (c.loop-boxes.invariant.around reach)
+          (λ placement p here vertex. s.around placement p reach
+          (subst (λ k. slice_get (placements_at cells c.args.cell) k ≡ Some placement) (sym long) here) vertex));
     }

@@ -14,5 +14,8 @@ returns-then-is_plain-clause-between c = λ p inside.
     c.low_corner-low.ensures c.high_corner-high.ensures c.requires.orient.turns inside
 
 pub returns-clause-between : goal.returns-clause-between
-returns-clause-between c = λ p inside. box_between_by c.args.orient c.args.hull p c.oriented.result c.oriented-2.result c.low_corner-low.result c.high_corner-high.result c.rows_between-2.result.low c.rows_between-2.result.high
-    c.rows_between-2.ensures.low c.rows_between-2.ensures.high c.oriented.ensures.value c.oriented-2.ensures.value c.low_corner-low.ensures c.high_corner-high.ensures c.requires.orient.turns inside
+returns-clause-between c = λ p inside.
+    box_between_by c.args.orient c.args.hull p c.oriented.result c.oriented-2.result c.low_corner-low.result
+    c.high_corner-high.result c.rows_between-2.result.low c.rows_between-2.result.high
+    c.rows_between-2.ensures.low c.rows_between-2.ensures.high c.oriented.ensures.value c.oriented-2.ensures.value
+    c.low_corner-low.ensures c.high_corner-high.ensures c.requires.orient.turns inside

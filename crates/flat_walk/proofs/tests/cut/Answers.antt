@@ -15,4 +15,5 @@ returns g c = λ pair.
     let has = subst (λ t. HasShape t 0 0) (sym made) (has_first c.args.tree.now.layout.cells c.requires.0 c.requires.1) in
     let points = c.requires.2 ∙ ap (λ z. ring_of (corners_of z)) (sym c.piece-whole.ensures) in
     subst (λ t. AreCut c.args.tree.now.layout.cells c.args.tree.now.top t pair) (sym c.put.ensures)
-    (all_cut c.args.tree.now.layout.cells c.args.tree.now.top c.requires.0 c.expect-parts.result c.piece-whole.result c.y0-bottom.ensures.shot c.requires.1 points has pair)
+    (all_cut c.args.tree.now.layout.cells c.args.tree.now.top c.requires.0 c.expect-parts.result c.piece-whole.result
+    c.y0-bottom.ensures.shot c.requires.1 points has pair)

@@ -22,4 +22,5 @@ returns g c = λ pair.
     let has = subst (λ t. HasShape t 0 0) (sym c.put.ensures) (has_still c.expect-parts.result (c.expect-square.result ∷ []) had) in
     let points = c.requires.2 ∙ ap (λ z. ring_of (corners_of z)) (sym c.piece-whole.ensures) in
     subst (λ t. AreCut c.args.tree.now.layout.cells c.args.tree.now.top t pair) (sym c.put-2.ensures)
-    (all_cut c.args.tree.now.layout.cells c.args.tree.now.top c.requires.0 c.put.new.parts c.piece-whole.result c.y0-bottom.ensures.shot c.requires.1 points has pair)
+    (all_cut c.args.tree.now.layout.cells c.args.tree.now.top c.requires.0 c.put.new.parts c.piece-whole.result
+    c.y0-bottom.ensures.shot c.requires.1 points has pair)

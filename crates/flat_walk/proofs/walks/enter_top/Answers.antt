@@ -16,9 +16,15 @@ returns c =
     let o = c.of-level.ensures in
     let items = c.push_reserved.ensures.items ∙ ap (λ l. l ++ c.of-level.result ∷ []) c.requires.levels in
     let most = subst (λ n. 64 ≤ n) (sym c.push_reserved.ensures.capacity) c.requires.room in
-    subst (λ l. StandsForWalk scene c.own_of-own.result l (vec_capacity c.push_reserved.new.self) (pieces_in (cells_of scene) scene.tree.now.top scene.parts.now scene.pair scene.window)) (sym items)
-    (walk_begins scene c.of-level.result c.own_of-own.result (vec_capacity c.push_reserved.new.self) c.requires.scene c.own_of-own.ensures.own (o.cell ∙ c.top.ensures.value) o.orient o.at o.depth o.run o.next c.own_of-own.ensures.list most)
+    subst (λ l. StandsForWalk scene c.own_of-own.result l (vec_capacity c.push_reserved.new.self)
+    (pieces_in (cells_of scene) scene.tree.now.top scene.parts.now scene.pair scene.window)) (sym items)
+    (walk_begins scene c.of-level.result c.own_of-own.result
+    (vec_capacity c.push_reserved.new.self) c.requires.scene c.own_of-own.ensures.own
+    (o.cell ∙ c.top.ensures.value) o.orient o.at o.depth o.run o.next c.own_of-own.ensures.list most)
 
 pub returns-then-not-top_meets : goal.returns-then-not-top_meets
 returns-then-not-top_meets c =
-    walk_none c.args.scene.now c.of.result c.args.levels.now.items (vec_capacity c.args.levels.now) c.requires.scene c.of.ensures.own (c.of.ensures.list c.args.scene.now.pair) c.requires.levels c.requires.room (c.top_meets.ensures c.if-not-top_meets.true)
+    walk_none c.args.scene.now c.of.result c.args.levels.now.items
+    (vec_capacity c.args.levels.now) c.requires.scene c.of.ensures.own
+    (c.of.ensures.list c.args.scene.now.pair) c.requires.levels c.requires.room
+    (c.top_meets.ensures c.if-not-top_meets.true)

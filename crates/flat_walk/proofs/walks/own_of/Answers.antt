@@ -9,10 +9,12 @@ use Rattle.flat_walk.proofs.WayLemmas.{level_within, level_near}
 use Rattle.flat_walk.proofs.walks.own_of.Goals as goal
 
 pub shapes_of-shapes-requires : goal.shapes_of-shapes-requires
-shapes_of-shapes-requires c = subst (λ n. n < length (cells_of c.args.scene.now)) (sym c.cell.ensures) (level_within c.args.scene.now c.args.level.now c.requires.scene c.requires.level)
+shapes_of-shapes-requires c = subst (λ n. n < length (cells_of c.args.scene.now)) (sym c.cell.ensures)
+    (level_within c.args.scene.now c.args.level.now c.requires.scene c.requires.level)
 
 pub of-requires-clause-near : goal.of-requires-clause-near
 of-requires-clause-near c = subst (IsWithin (2 ^ 54)) (sym c.at.ensures) (level_near c.args.scene.now c.args.level.now c.requires.scene c.requires.level)
 
 pub of-requires-clause-grid : goal.of-requires-clause-grid
-of-requires-clause-grid c = subst (All IsShapeOnGrid) (sym c.shapes_of-shapes.ensures) (shapes_on_grid (cells_of c.args.scene.now) c.requires.scene.grid.cells c.cell.result)
+of-requires-clause-grid c = subst (All IsShapeOnGrid) (sym c.shapes_of-shapes.ensures)
+    (shapes_on_grid (cells_of c.args.scene.now) c.requires.scene.grid.cells c.cell.result)

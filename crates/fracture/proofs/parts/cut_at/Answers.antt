@@ -15,6 +15,7 @@ returns c =
     let limit : FitsSigned w64 c.args.limits.now.width = search rules in
     let at : FitsSigned w64 c.min.result = search rules in
     let right : FitsSigned w64 c.least_right.result = search rules in
-    let sum : FitsSigned w64 (c.least_x.result +ℤ c.args.limits.now.width) = rw c.least_x.ensures.value (wide_fits _ _ c.requires.limits c.args.piece.now c.requires.shot c.requires.wide) in
+    let sum : FitsSigned w64 (c.least_x.result +ℤ c.args.limits.now.width) = rw c.least_x.ensures.value
+    (wide_fits _ _ c.requires.limits c.args.piece.now c.requires.shot c.requires.wide) in
     let is = simp to_z-of_z at c.min.ensures.value in
     simp to_z-of_z (rw (is, c.least_x.ensures.value, c.least_right.ensures) refl)

@@ -12,4 +12,5 @@ returns-in-Some-clause-some c =
 pub returns-in-Some-clause-value : goal.returns-in-Some-clause-value
 returns-in-Some-clause-value c =
     let fits : FitsSigned w64 c.in-Some.degrees = search rules in
-    turns_value c.args.bits c.in-Some.degrees c.turns_in.result ((c.real_whole.ensures c.in-Some.degrees).0 c.in-Some.is) (simp to_z-of_z at c.turns_in.ensures.some)
+    turns_value c.args.bits c.in-Some.degrees c.turns_in.result
+    ((c.real_whole.ensures c.in-Some.degrees).0 c.in-Some.is) (simp to_z-of_z at c.turns_in.ensures.some)

@@ -13,6 +13,10 @@ loop-end-preserved c = record {
 pub returns : goal.returns
 returns c =
     elim c.loop-end-test.branch [
-      | then-loop-end-test+else-bytes-end-eq0 w ↦ nothing_dropped c.loop-end.end c.args.bytes.now (omega arith) (omega arith) (λ e. absurd (omega arith)) ∙ c.loop-end.invariant.same
-      | else-loop-end-test w ↦ (let none : c.loop-end.end ≡ 0 = omega arith in subst (λ n. take n c.args.bytes.now ≡ without_nuls (take n c.args.bytes.now)) (sym none) refl) ∙ c.loop-end.invariant.same
+      | then-loop-end-test+else-bytes-end-eq0 w ↦ nothing_dropped c.loop-end.end c.args.bytes.now (omega arith)
+          (omega arith) (λ e. absurd (omega arith)) ∙ c.loop-end.invariant.same
+      | else-loop-end-test w ↦
+          (let none : c.loop-end.end ≡ 0 = omega arith in subst
+          (λ n. take n c.args.bytes.now ≡ without_nuls (take n c.args.bytes.now)) (sym none) refl)
+          ∙ c.loop-end.invariant.same
     ]

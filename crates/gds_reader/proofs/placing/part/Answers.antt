@@ -16,7 +16,8 @@ returns-in-Some-clause-part c =
     let fits : FitsSigned w64 c.args.way = search rules in
     let value = simp to_z-of_z at c.unsigned_abs.ensures.value in
     let sign = simp to_z-of_z at c.with_sign.ensures in
-    let even : IsEvenPart c.args.count (unsigned_abs c.args.way) c.in-Some.size = subst (λ n. IsEvenPart c.args.count n c.in-Some.size) value c.in-Some.ensures.part in
+    let even : IsEvenPart c.args.count (unsigned_abs c.args.way) c.in-Some.size = subst
+    (λ n. IsEvenPart c.args.count n c.in-Some.size) value c.in-Some.ensures.part in
     let step = part_is c.args.way c.args.count c.in-Some.size (int_lt c.args.way (pos 0)) even (below_zero c.args.way) (not_below_zero c.args.way) in
     let result : FitsSigned w64 c.with_sign.result = search rules in
     simp to_z-of_z (subst (IsPartOf c.args.count c.args.way) (sym sign) step)

@@ -33,7 +33,8 @@ returns c =
     let q = c.in_ok-magnitude.magnitude in
     let product = (c.whole_quotient.ensures.exact q).0 c.in_ok-magnitude.was in
     let whole : IsWholeReal c.args.bits (pos q) =
-    some_quotient c.args.bits 0 real.result.fraction real.result.exponent q (positive c.args.bits c.ranges.bits.fits (λ one. absurd (let yes = real.ensures.sign.1 one in cc)))
+    some_quotient c.args.bits 0 real.result.fraction real.result.exponent q
+    (positive c.args.bits c.ranges.bits.fits (λ one. absurd (let yes = real.ensures.sign.1 one in cc)))
     real.ensures.fraction real.ensures.exponent (omega arith) (omega arith) product in
     let value : to_z w64 q ≡ pos q =
     signed_magnitude q real.result.fraction c.args.bits c.in_ok-magnitude.ensures.bounded real.ensures.fraction in

@@ -39,7 +39,9 @@ returns-then-not-is_allowed-clause-found c = fault_no_record c.args.bytes.now c.
 pub returns-then-not-is_allowed-clause-fault : goal.returns-then-not-is_allowed-clause-fault
 returns-then-not-is_allowed-clause-fault c = only_fault c.args.bytes.now c.args.at faults.Size (c.in-Some.kind, bad_content c)
 
-stands : (c : goal.Else-not-is_allowed) → IsRecordAt c.args.bytes.now c.args.at (record { kind = c.in-Some.kind; first = c.args.at + 4; next = c.args.at + c.from-length.result })
+stands : (c : goal.Else-not-is_allowed)
+    → IsRecordAt c.args.bytes.now c.args.at
+    (record { kind = c.in-Some.kind; first = c.args.at + 4; next = c.args.at + c.from-length.result })
 stands c =
     let bytes = c.args.bytes.now in
     let stated : c.from-length.result ≡ length_at bytes c.args.at = c.from-length.ensures ∙ c.unsigned2.ensures in

@@ -10,7 +10,13 @@ pub returns-in_default : goal.returns-in_default
 returns-in_default c = sym (winding_empty c.args.tile c.args.points.now c.in_default.ensures.cases)
 
 pub loop-point-init : goal.loop-point-init
-loop-point-init c = (rw c.in-Some.ensures.cases.0 (omega (arith, ints, winding_along c.args.tile c.in-Some.first.now c.in-Some.rest.now)), omega (arith, ints), omega (arith, ints))
+loop-point-init c = (
+  rw c.in-Some.ensures.cases.0
+      (omega (arith, ints, winding_along c.args.tile c.in-Some.first.now c.in-Some.rest.now)),
+  omega (arith, ints),
+  omega
+      (arith, ints),
+)
 
 pub overflow_add-winding : goal.overflow_add-winding
 overflow_add-winding c =
@@ -24,7 +30,15 @@ loop-point-preserved c =
     let point : Point = get_or c.in-Some.rest.now c.loop-point.point-index (record { x = pos 0; y = pos 0 }) in
     let small = crossing_small c.args.tile c.loop-point.previous point in
     let fits : FitsSigned w128 c.crossing-winding.result = search rules in
-    let sum_fits : FitsSigned w128 (to_z w128 c.loop-point.winding-bits +ℤ c.crossing-winding.result) = omega (arith, ints, c.crossing-winding.ensures, small.0, small.1, c.loop-point.invariant.1, c.loop-point.invariant.2) in
+    let sum_fits : FitsSigned w128 (to_z w128 c.loop-point.winding-bits +ℤ c.crossing-winding.result) = omega (
+      arith,
+      ints,
+      c.crossing-winding.ensures,
+      small.0,
+      small.1,
+      c.loop-point.invariant.1,
+      c.loop-point.invariant.2,
+    ) in
     let inside : c.loop-point.point-index < length c.in-Some.rest.now = c.loop-point-test.true in
     rw (to_z-of_z w128 c.crossing-winding.result fits, to_z-of_z w128 _ sum_fits, c.crossing-winding.ensures, add-one) (
       winding_step c.args.tile c.loop-point.previous point _ _ _ _ (drop-cons c.in-Some.rest.now c.loop-point.point-index _ inside) c.loop-point.invariant.0,

@@ -16,4 +16,11 @@ returns c =
     let half_is = simp to_z-of_z at c.half_of-2.ensures in
     let test = simp to_z-of_z at c.is_even_number.ensures in
     let odd : is_even (c.args.column -ℤ c.args.row) ≡ false = sym test ∙ c.if-is_even_number.false in
-    omega (arith, ints, half_odd (c.args.column -ℤ c.args.row) odd, half_low ((c.args.column +ℤ c.args.row) +ℤ pos 1), half_high ((c.args.column +ℤ c.args.row) +ℤ pos 1))
+    omega (
+      arith,
+      ints,
+      half_odd (c.args.column -ℤ c.args.row) odd,
+      half_low
+          ((c.args.column +ℤ c.args.row) +ℤ pos 1),
+      half_high ((c.args.column +ℤ c.args.row) +ℤ pos 1),
+    )

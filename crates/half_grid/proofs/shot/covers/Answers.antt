@@ -15,10 +15,26 @@ pub is_right_of-requires : goal.is_right_of-requires
 is_right_of-requires c =
     let fits : FitsSigned w64 c.args.tile.i = search rules in
     let column : IsWithinReach c.args.tile.i = simp to_z-of_z at (c.if-not-is_within_reach.ensures.0 refl) in
-    record { column = column; row = record { low = omega (arith, ints, c.y0.ensures.shot.reach.y0.low); high = omega (arith, ints, c.y0.ensures.shot.reach.y1.high) } }
+    record {
+      column = column;
+      row =
+          record {
+            low = omega (arith, ints, c.y0.ensures.shot.reach.y0.low);
+            high = omega
+                (arith, ints, c.y0.ensures.shot.reach.y1.high);
+          };
+    }
 
 pub is_right_of-requires-2 : goal.is_right_of-requires-2
 is_right_of-requires-2 c =
     let fits : FitsSigned w64 c.args.tile.i = search rules in
     let column : IsWithinReach c.args.tile.i = simp to_z-of_z at (c.if-not-is_within_reach.ensures.0 refl) in
-    record { column = column; row = record { low = omega (arith, ints, c.y0.ensures.shot.reach.y0.low); high = omega (arith, ints, c.y0.ensures.shot.reach.y1.high) } }
+    record {
+      column = column;
+      row =
+          record {
+            low = omega (arith, ints, c.y0.ensures.shot.reach.y0.low);
+            high = omega
+                (arith, ints, c.y0.ensures.shot.reach.y1.high);
+          };
+    }

@@ -6,5 +6,7 @@ use Rattle.half_grid.proofs.shot.x_within.Goals as goal
 pub returns-then-not-is_within_reach : goal.returns-then-not-is_within_reach
 returns-then-not-is_within_reach c = λ within.
     let fits : FitsSigned w64 c.first_strip.result = search rules in
-    let no : false ≡ true = c.if-not-is_within_reach.ensures.1 (rw (to_z-of_z w64 c.first_strip.result fits, c.first_strip.ensures) (strip_within c.args.line c.args.y c.requires within)) in
+    let no : false ≡ true = c.if-not-is_within_reach.ensures.1
+    (rw (to_z-of_z w64 c.first_strip.result fits, c.first_strip.ensures)
+    (strip_within c.args.line c.args.y c.requires within)) in
     let contradiction : ⊥ = cc in contradiction

@@ -8,12 +8,19 @@ use Rattle.job_input.proofs.reading.read_both.Goals as goal
 pub returns-in-Err-clause-answer : goal.returns-in-Err-clause-answer
 returns-in-Err-clause-answer g c = λ tells.
     let told =
-    refused_for (g.D.Depot.content c.args.depot.now) (g.D.Depot.content c.take_deck.new.depot) (g.D.Depot.counts c.args.depot.now) (g.D.Depot.counts c.take_deck.new.depot) (g.D.Depot.counts c.take_layout.new.depot)
-    c.args.layout.now c.args.deck.now c.in_ok-deck.deck c.in-Err.bad (c.in_ok-deck.ensures.answer tells) (c.in_ok-deck.ensures.whole tells) c.in_ok-deck.ensures.counts (c.in-Err.ensures.answer tells) in
-    subst (λ (bad : InputBad). IsInputAnswer (g.D.Depot.content c.args.depot.now) (Rose (g.D.Depot.counts c.args.depot.now).read_faults (g.D.Depot.counts c.take_layout.new.depot).read_faults) c.args.layout.now c.args.deck.now (Err bad))
+    refused_for (g.D.Depot.content c.args.depot.now) (g.D.Depot.content c.take_deck.new.depot)
+    (g.D.Depot.counts c.args.depot.now) (g.D.Depot.counts c.take_deck.new.depot)
+    (g.D.Depot.counts c.take_layout.new.depot)
+    c.args.layout.now c.args.deck.now c.in_ok-deck.deck c.in-Err.bad (c.in_ok-deck.ensures.answer tells)
+    (c.in_ok-deck.ensures.whole tells) c.in_ok-deck.ensures.counts (c.in-Err.ensures.answer tells) in
+    subst (λ (bad : InputBad). IsInputAnswer (g.D.Depot.content c.args.depot.now)
+    (Rose (g.D.Depot.counts c.args.depot.now).read_faults (g.D.Depot.counts c.take_layout.new.depot).read_faults)
+    c.args.layout.now c.args.deck.now (Err bad))
     (sym c.layout_refused.ensures) told
 
 pub returns-in-Ok-clause-answer : goal.returns-in-Ok-clause-answer
 returns-in-Ok-clause-answer g c = λ tells.
-    given_for (g.D.Depot.content c.args.depot.now) (g.D.Depot.content c.take_deck.new.depot) c.args.layout.now c.args.deck.now c.in_ok-deck.deck c.in-Ok.found (c.in_ok-deck.ensures.answer tells)
+    given_for (g.D.Depot.content c.args.depot.now)
+    (g.D.Depot.content c.take_deck.new.depot) c.args.layout.now c.args.deck.now c.in_ok-deck.deck c.in-Ok.found
+    (c.in_ok-deck.ensures.answer tells)
     (c.in_ok-deck.ensures.whole tells) (c.in-Ok.ensures.answer tells)

@@ -18,8 +18,13 @@ returns-in_err-put_pieces-clause-refused g c =
     let x = c.index-outputs-k.result in
     let none : Sums = record { shots = 0; triangles = 0 } in
     let y = get_or ss l.k none in
-    refused c.from_residual.result _ (λ told. part_of_more_texts (at c.put_pieces.new.depot) (output_line c.args.word.now) c.args.buffer.now (zip os ss) l.k (x, y) (zip_more os ss l.k x y none c.loop-k-test.true l.invariant.same c.index-outputs-k.is refl) (l.invariant.said told)
-    (subst (λ (t : List ℕ). IsPartSaid (at l.depot) (l.buffer ++ t) (at c.put_pieces.new.depot)) c.output_pieces.ensures (c.in_err-put_pieces.ensures.refused told)))
+    refused c.from_residual.result _
+    (λ told. part_of_more_texts (at c.put_pieces.new.depot) (output_line c.args.word.now) c.args.buffer.now
+    (zip os ss) l.k (x, y)
+    (zip_more os ss l.k x y none c.loop-k-test.true l.invariant.same c.index-outputs-k.is refl)
+    (l.invariant.said told)
+    (subst (λ (t : List ℕ). IsPartSaid (at l.depot) (l.buffer ++ t) (at c.put_pieces.new.depot))
+    c.output_pieces.ensures (c.in_err-put_pieces.ensures.refused told)))
 
 pub loop-k-preserved : goal.loop-k-preserved
 loop-k-preserved g c =
@@ -32,8 +37,12 @@ loop-k-preserved g c =
     let y = get_or ss l.k none in
     let more = zip_more os ss l.k x y none c.loop-k-test.true l.invariant.same c.index-outputs-k.is refl in
     record {
-      said = λ told. subst (λ (t : List ℕ). IsSaidButFor (at c.args.depot.now) t c.put_pieces.new.buffer (at c.put_pieces.new.depot)) (texts_more (output_line c.args.word.now) c.args.buffer.now (zip os ss) l.k (x, y) more)
-          (said_then (output_line c.args.word.now (x, y)) (l.invariant.said told) (subst (λ (t : List ℕ). IsSaidButFor (at l.depot) (l.buffer ++ t) c.put_pieces.new.buffer (at c.put_pieces.new.depot)) c.output_pieces.ensures (c.in_ok-put_pieces.ensures.ok told)));
+      said = λ told. subst
+          (λ (t : List ℕ). IsSaidButFor (at c.args.depot.now) t c.put_pieces.new.buffer (at c.put_pieces.new.depot))
+          (texts_more (output_line c.args.word.now) c.args.buffer.now (zip os ss) l.k (x, y) more)
+          (said_then (output_line c.args.word.now (x, y)) (l.invariant.said told)
+          (subst (λ (t : List ℕ). IsSaidButFor (at l.depot) (l.buffer ++ t) c.put_pieces.new.buffer
+          (at c.put_pieces.new.depot)) c.output_pieces.ensures (c.in_ok-put_pieces.ensures.ok told)));
       same = l.invariant.same;
       uncounted = c.in_ok-put_pieces.ensures.counts.uncounted ∙ l.invariant.uncounted;
       counted = search rules;
@@ -41,5 +50,7 @@ loop-k-preserved g c =
 
 pub returns-clause-ok : goal.returns-clause-ok
 returns-clause-ok g c = λ told.
-    subst (λ (xs : List (Output × Sums)). IsSaidButFor (g.D.Depot.content c.args.depot.now) (c.args.buffer.now ++ flat_map (output_line c.args.word.now) xs) c.loop-k.buffer (g.D.Depot.content c.loop-k.depot))
+    subst (λ (xs : List (Output × Sums)). IsSaidButFor (g.D.Depot.content c.args.depot.now)
+    (c.args.buffer.now ++ flat_map (output_line c.args.word.now) xs) c.loop-k.buffer
+    (g.D.Depot.content c.loop-k.depot))
     (zip_all c.args.outputs.now c.args.sums.now c.loop-k.k (omega arith)) (c.loop-k.invariant.said told)

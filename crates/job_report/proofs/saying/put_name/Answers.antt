@@ -7,7 +7,9 @@ use Rattle.job_report.proofs.saying.put_name.Goals as goal
 pub returns-in_err-put_piece-clause-refused : goal.returns-in_err-put_piece-clause-refused
 returns-in_err-put_piece-clause-refused g c =
     let at = g.D.Depot.content in
-    refused c.from_residual.result _ (λ told. subst (λ (t : List ℕ). IsPartSaid (at c.args.depot.now) t (at c.put_piece.new.depot)) (append_assoc c.args.buffer.now (32 ∷ []) c.args.name.now)
+    refused c.from_residual.result _
+    (λ told. subst (λ (t : List ℕ). IsPartSaid (at c.args.depot.now) t (at c.put_piece.new.depot))
+    (append_assoc c.args.buffer.now (32 ∷ []) c.args.name.now)
     (part_of_longer (at c.args.depot.now) (at c.put_piece.new.depot) (c.args.buffer.now ++ 32 ∷ []) c.args.name.now (c.in_err-put_piece.ensures.refused told)))
 
 pub returns-clause-refused : goal.returns-clause-refused

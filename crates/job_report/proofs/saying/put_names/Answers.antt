@@ -11,7 +11,10 @@ returns-in_err-put_name-clause-refused g c =
     let xs = c.args.names.now in
     let x = c.name-item.result in
     let more = take_more xs l.name-index x c.loop-name-test.true ∙ ap (λ y. take l.name-index xs ++ y ∷ []) (sym c.name-item.is) in
-    refused c.from_residual.result _ (λ told. part_of_more_texts (at c.put_name.new.depot) (λ name. 32 ∷ name) c.args.buffer.now xs l.name-index x more (l.invariant.said told) (c.in_err-put_name.ensures.refused told))
+    refused c.from_residual.result _
+    (λ told. part_of_more_texts (at c.put_name.new.depot)
+    (λ name. 32 ∷ name) c.args.buffer.now xs l.name-index x more (l.invariant.said told)
+    (c.in_err-put_name.ensures.refused told))
 
 pub loop-name-preserved : goal.loop-name-preserved
 loop-name-preserved g c =
@@ -21,7 +24,9 @@ loop-name-preserved g c =
     let x = c.name-item.result in
     let more = take_more xs l.name-index x c.loop-name-test.true ∙ ap (λ y. take l.name-index xs ++ y ∷ []) (sym c.name-item.is) in
     record {
-      said = λ told. subst (λ (t : List ℕ). IsSaidButFor (at c.args.depot.now) t c.put_name.new.buffer (at c.put_name.new.depot)) (texts_more (λ name. 32 ∷ name) c.args.buffer.now xs l.name-index x more)
+      said = λ told. subst
+          (λ (t : List ℕ). IsSaidButFor (at c.args.depot.now) t c.put_name.new.buffer (at c.put_name.new.depot))
+          (texts_more (λ name. 32 ∷ name) c.args.buffer.now xs l.name-index x more)
           (said_then (32 ∷ x) (l.invariant.said told) (c.in_ok-put_name.ensures.ok told));
       uncounted = c.in_ok-put_name.ensures.counts.uncounted ∙ l.invariant.uncounted;
       counted = search rules;

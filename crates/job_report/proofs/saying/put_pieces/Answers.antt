@@ -11,4 +11,6 @@ returns-in_err-put_one-clause-refused g c =
     let xs = c.args.pieces.now in
     let x = c.piece-item.result in
     let more = take_more xs l.piece-index x c.loop-piece-test.true ∙ ap (λ y. take l.piece-index xs ++ y ∷ []) (sym c.piece-item.is) in
-    refused c.from_residual.result _ (λ told. part_of_more_texts (at c.put_one.new.depot) text_of c.args.buffer.now xs l.piece-index x more (l.invariant.said told) (c.in_err-put_one.ensures.refused told))
+    refused c.from_residual.result _
+    (λ told. part_of_more_texts (at c.put_one.new.depot) text_of c.args.buffer.now xs l.piece-index x more
+    (l.invariant.said told) (c.in_err-put_one.ensures.refused told))

@@ -7,7 +7,8 @@ use Rattle.job_words.proofs.commands.two_after.Goals as goal
 pub returns-clause-some : goal.returns-clause-some
 returns-clause-some c =
     let command = same_text c.as_str.result.now _ (sym (not-false _ (sym c.if-ne.ensures))) in
-    three_texts c.args.words.now c.index-words-0.result c.index-words-1.result c.index-words-2.result c.if-words-ne3.false c.index-words-0.is c.index-words-1.is c.index-words-2.is
+    three_texts c.args.words.now c.index-words-0.result c.index-words-1.result c.index-words-2.result
+    c.if-words-ne3.false c.index-words-0.is c.index-words-1.is c.index-words-2.is
     ∙ rw (← c.as_str.ensures.value, ← c.as_str-2.ensures.value, ← c.as_str-3.ensures.value, command) refl
 
 pub returns-then-ne-clause-none : goal.returns-then-ne-clause-none

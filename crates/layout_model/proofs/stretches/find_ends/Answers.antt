@@ -14,11 +14,14 @@ loop-point-preserved c =
     let whole : List Stretch = walk_list c.args.brush (walk_from c.args.brush c.args.start) c.args.rest.now in
     let point : Point = get_or c.args.rest.now c.loop-point.point-index (record { x = pos 0; y = pos 0 }) in
     let left = drop (c.loop-point.point-index + 1) c.args.rest.now in
-    let here : drop c.loop-point.point-index c.args.rest.now ≡ point ∷ left = drop_more c.args.rest.now c.loop-point.point-index (record { x = pos 0; y = pos 0 }) c.loop-point-test.true in
+    let here : drop c.loop-point.point-index c.args.rest.now ≡ point ∷ left =
+    drop_more c.args.rest.now c.loop-point.point-index
+    (record { x = pos 0; y = pos 0 }) c.loop-point-test.true in
     let before = subst (λ rest. Ended c.args.brush whole c.loop-point.walk c.loop-point.first rest) here c.loop-point.invariant in
     elim c.if-turns_at.branch [
       | then-turns_at w ↦
-          ended_as c.args.brush whole _ _ _ _ left (w.walk-is ∙ w.round-walk.ensures) (w.first-is ∙ ap Some (w.unwrap_or.ensures ∙ ap (unwrap_or c.loop-point.first) w.joint.ensures))
+          ended_as c.args.brush whole _ _ _ _ left (w.walk-is ∙ w.round-walk.ensures)
+          (w.first-is ∙ ap Some (w.unwrap_or.ensures ∙ ap (unwrap_or c.loop-point.first) w.joint.ensures))
           (ended_turn c.args.brush whole c.loop-point.walk c.loop-point.first point left before (sym c.turns_at.ensures ∙ w.if-turns_at.true))
       | else-turns_at w ↦
           ended_as c.args.brush whole _ _ _ _ left (w.walk-is ∙ w.on-walk.ensures) w.first-is

@@ -7,10 +7,14 @@ use Rattle.mdp_cli.proofs.ending.exit_code.Goals as goal
 pub returns-in-Some-clause-end : goal.returns-in-Some-clause-end
 returns-in-Some-clause-end g c =
     subst
-    (λ o. IfSome o (λ w. IsEnd g.D.Depot.tells (run_of (g.D.Depot.content c.args.depot.now) (g.D.Depot.content c.run.new.depot) (g.D.Depot.counts c.args.depot.now) (g.D.Depot.counts c.run.new.depot)) (texts w.items) c.number.result))
+    (λ o. IfSome o (λ w. IsEnd g.D.Depot.tells
+    (run_of (g.D.Depot.content c.args.depot.now) (g.D.Depot.content c.run.new.depot)
+    (g.D.Depot.counts c.args.depot.now) (g.D.Depot.counts c.run.new.depot)) (texts w.items) c.number.result))
     (sym c.in-Some.is)
     (subst
-    (λ ws. IsEnd g.D.Depot.tells (run_of (g.D.Depot.content c.args.depot.now) (g.D.Depot.content c.run.new.depot) (g.D.Depot.counts c.args.depot.now) (g.D.Depot.counts c.run.new.depot)) (texts ws) c.number.result)
+    (λ ws. IsEnd g.D.Depot.tells
+    (run_of (g.D.Depot.content c.args.depot.now) (g.D.Depot.content c.run.new.depot)
+    (g.D.Depot.counts c.args.depot.now) (g.D.Depot.counts c.run.new.depot)) (texts ws) c.number.result)
     c.deref.ensures.value
     (record {
       answer = c.run.result;

@@ -20,10 +20,14 @@ fails c = inr (
 )
 
 pub returns-in_err-y-clause-found : goal.returns-in_err-y-clause-found
-returns-in_err-y-clause-found c = λ p next. found_err (delta_g_reader c.args.bytes.now c.args.at) c.from_residual-in_err-y.result c.in_err-y.field-0.0 (refused _ _ c.from_residual-in_err-y.ensures.0 c.from_residual-in_err-y.ensures.1) (fails c) (p, next)
+returns-in_err-y-clause-found c = λ p next. found_err
+    (delta_g_reader c.args.bytes.now c.args.at) c.from_residual-in_err-y.result c.in_err-y.field-0.0
+    (refused _ _ c.from_residual-in_err-y.ensures.0 c.from_residual-in_err-y.ensures.1) (fails c) (p, next)
 
 pub returns-in_err-y-clause-fault : goal.returns-in_err-y-clause-fault
-returns-in_err-y-clause-fault c = fault_err (delta_g_reader c.args.bytes.now c.args.at) c.from_residual-in_err-y.result c.in_err-y.field-0.0 (refused _ _ c.from_residual-in_err-y.ensures.0 c.from_residual-in_err-y.ensures.1) (fails c)
+returns-in_err-y-clause-fault c = fault_err
+    (delta_g_reader c.args.bytes.now c.args.at) c.from_residual-in_err-y.result c.in_err-y.field-0.0
+    (refused _ _ c.from_residual-in_err-y.ensures.0 c.from_residual-in_err-y.ensures.1) (fails c)
 
 has : (c : goal.After-sideways-x) → HasDeltaG c.args.bytes.now c.args.at (move c.sideways-x.result c.in_ok-y.y) c.in_ok-y.end
 has c = inr (
@@ -42,7 +46,9 @@ pub returns-clause-found : goal.returns-clause-found
 returns-clause-found c =
     let fx : FitsSigned w64 c.sideways-x.result = search rules in
     let fy : FitsSigned w64 c.in_ok-y.y = search rules in
-    λ p next. simp to_z-of_z (found_ok (delta_g_reader c.args.bytes.now c.args.at) _ (move c.sideways-x.result c.in_ok-y.y, c.in_ok-y.end) refl (has c) (p, next))
+    λ p next. simp to_z-of_z
+    (found_ok (delta_g_reader c.args.bytes.now c.args.at) _
+    (move c.sideways-x.result c.in_ok-y.y, c.in_ok-y.end) refl (has c) (p, next))
 
 pub returns-clause-fault : goal.returns-clause-fault
 returns-clause-fault c =

@@ -26,5 +26,7 @@ returns c = λ q small.
     let high = rw whole at c.if-exponent-bias-2.false in
     let shift = c.args.fraction - (c.args.bits / 2 ^ c.args.fraction - c.args.bias) in
     let power : (1 * 2 ^ shift) % 2 ^ 64 ≡ 2 ^ shift = one_shl shift 64 (omega (arith, c.requires.fraction.1)) in
-    let same = ieee_is c.args.fraction c.args.bias c.args.bits q (2 ^ c.args.fraction + c.args.bits % 2 ^ c.args.fraction) ((1 * 2 ^ shift) % 2 ^ 64) c.requires.fraction.0 small c.if-bits-eq0.false low high refl power in
+    let same = ieee_is c.args.fraction c.args.bias c.args.bits q
+    (2 ^ c.args.fraction + c.args.bits % 2 ^ c.args.fraction)
+    ((1 * 2 ^ shift) % 2 ^ 64) c.requires.fraction.0 small c.if-bits-eq0.false low high refl power in
     (λ e. same.0 ((quotient q).0 e), λ p. (quotient q).1 (same.1 p))

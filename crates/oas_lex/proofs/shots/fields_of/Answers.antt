@@ -17,5 +17,6 @@ returns-clause-value c =
 
 pub returns-clause-narrow : goal.returns-clause-narrow
 returns-clause-narrow c =
-    let narrow = shot_narrow c.args.layer c.args.datatype c.args.trap.now (record { layer_bits = c.requires.layer; datatype_bits = c.requires.datatype }) c.y0.ensures.shot in
+    let narrow = shot_narrow c.args.layer c.args.datatype c.args.trap.now
+    (record { layer_bits = c.requires.layer; datatype_bits = c.requires.datatype }) c.y0.ensures.shot in
     subst AreNarrow (sym (returns-clause-value c)) narrow

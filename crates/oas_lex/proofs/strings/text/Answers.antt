@@ -16,7 +16,11 @@ fails : (c : goal.After-from_residual-in_err-next) → TextFails c.args.bytes.no
 fails c = inr (c.in_ok-size.size, c.in_ok-size.first, c.in_ok-size.ensures.ok, (c.in_err-next.ensures.fault c.in_err-next.field-0.0).0 refl)
 
 pub returns-in_err-next-clause-found : goal.returns-in_err-next-clause-found
-returns-in_err-next-clause-found c = λ first next. found_err (text_reader c.args.bytes.now c.args.at) c.from_residual-in_err-next.result c.in_err-next.field-0.0 (refused _ _ c.from_residual-in_err-next.ensures.0 c.from_residual-in_err-next.ensures.1) (fails c) (first, next)
+returns-in_err-next-clause-found c = λ first next. found_err
+    (text_reader c.args.bytes.now c.args.at) c.from_residual-in_err-next.result c.in_err-next.field-0.0
+    (refused _ _ c.from_residual-in_err-next.ensures.0 c.from_residual-in_err-next.ensures.1) (fails c) (first, next)
 
 pub returns-in_err-next-clause-fault : goal.returns-in_err-next-clause-fault
-returns-in_err-next-clause-fault c = fault_err (text_reader c.args.bytes.now c.args.at) c.from_residual-in_err-next.result c.in_err-next.field-0.0 (refused _ _ c.from_residual-in_err-next.ensures.0 c.from_residual-in_err-next.ensures.1) (fails c)
+returns-in_err-next-clause-fault c = fault_err
+    (text_reader c.args.bytes.now c.args.at) c.from_residual-in_err-next.result c.in_err-next.field-0.0
+    (refused _ _ c.from_residual-in_err-next.ensures.0 c.from_residual-in_err-next.ensures.1) (fails c)

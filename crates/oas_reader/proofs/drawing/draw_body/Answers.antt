@@ -1,7 +1,8 @@
 use Rattle.std.proofs.Common.{◌∙◌, sym, subst}
 use Rattle.std.proofs.lemmas.Result.{on_ok_weaker}
 use Rattle.oas_shapes.specs.Short.{IsShortIn}
-use Rattle.oas_reader.proofs.FigureLemmas.{figure_added, figure_keeps_by, figure_lowest_by, polygon_few, polygon_keeps_by, polygon_lowest, path_few, path_keeps_by, path_lowest}
+use Rattle.oas_reader.proofs.FigureLemmas.{figure_added, figure_keeps_by, figure_lowest_by, polygon_few}
+use Rattle.oas_reader.proofs.FigureLemmas.{polygon_keeps_by, polygon_lowest, path_few, path_keeps_by, path_lowest}
 use Rattle.oas_reader.proofs.drawing.draw_body.Goals as goal
 
 pub returns-in-Some-clause-shapes : goal.returns-in-Some-clause-shapes

@@ -17,7 +17,8 @@ loop-draft-preserved c =
           let gone = c.in-Some.ensures.steps.1 in
           let short = ap length steps in
           omega arith,
-      λ past are. cells_more c.args.bytes.now (records_in past) at.yielded x c.in_ok-cell.cell at.cells c.push.new.self (at.invariant.2 past are) (c.in_ok-cell.ensures.ok past are) c.in-Ok.ensures.ok,
+      λ past are. cells_more c.args.bytes.now (records_in past) at.yielded x c.in_ok-cell.cell at.cells c.push.new.self
+          (at.invariant.2 past are) (c.in_ok-cell.ensures.ok past are) c.in-Ok.ensures.ok,
       grid_more IsDraftOnGrid IsCellOnGrid at.yielded x c.in_ok-cell.cell at.cells c.push.new.self at.invariant.3 c.in_ok-cell.ensures.grid c.in-Ok.ensures.ok,
     )
 

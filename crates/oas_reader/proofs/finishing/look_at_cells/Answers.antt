@@ -18,7 +18,8 @@ loop-draft-preserved c = λ past are.
     let draft = c.draft-item.result in
     let inv = c.loop-draft.invariant past are in
     let taken : take (c.loop-draft.draft-index + 1) c.args.drafts.now ≡ before ++ draft ∷ [] = search (rules, take_more) in
-    let e : cell_items (take (c.loop-draft.draft-index + 1) c.args.drafts.now) ≡ cell_item draft ∷ cell_items before = ap cell_items taken ∙ items_more before draft in
+    let e : cell_items (take (c.loop-draft.draft-index + 1) c.args.drafts.now) ≡ cell_item draft ∷ cell_items before =
+    ap cell_items taken ∙ items_more before draft in
     let called = ap (cell_name bytes all) (called_back draft.called) ∙ c.in_ok-name.ensures.ok past are in (
       subst (λ xs. AreCellsOf bytes all xs c.enter.new.self) (sym e)
           (c.in-Ok.ensures.cells bytes all (cell_items before) (cell_record draft.called) inv.0 called),

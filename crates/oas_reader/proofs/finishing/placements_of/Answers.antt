@@ -17,8 +17,12 @@ loop-placing-preserved c =
           let gone = c.in-Some.ensures.steps.1 in
           let short = ap length steps in
           omega arith,
-      λ past are. named_more c.args.bytes.now (records_in past) at.yielded x c.in_ok-target.target at.placements c.push.new.self (at.invariant.2 past are) (c.in_ok-target.ensures.ok past are) c.in-Ok.ensures.ok,
-      grid_more IsPlacingOnGrid IsPlacementOnGrid at.yielded x (record { target = c.in_ok-target.target; orient = x.orient; at = x.at; offsets = x.offsets }) at.placements c.push.new.self at.invariant.3 (placed_on_grid x c.in_ok-target.target) c.in-Ok.ensures.ok,
+      λ past are. named_more c.args.bytes.now
+          (records_in past) at.yielded x c.in_ok-target.target at.placements c.push.new.self (at.invariant.2 past are)
+          (c.in_ok-target.ensures.ok past are) c.in-Ok.ensures.ok,
+      grid_more IsPlacingOnGrid IsPlacementOnGrid at.yielded x
+          (record { target = c.in_ok-target.target; orient = x.orient; at = x.at; offsets = x.offsets }) at.placements
+          c.push.new.self at.invariant.3 (placed_on_grid x c.in_ok-target.target) c.in-Ok.ensures.ok,
     )
 
 pub returns-clause-ok : goal.returns-clause-ok

@@ -3,7 +3,8 @@ use Rattle.oas_record.specs.Plain.{rectangle_of}
 use Rattle.layout_model.specs.Pairs.{AreSamePairs}
 use Rattle.oas_reader.proofs.BodyLemmas.{body_within}
 use Rattle.oas_reader.proofs.RecordRules.{dimensions_behind}
-use Rattle.oas_reader.proofs.ReadLemmas.{stands_first, have_records, counted_few, counts_small, lexical_first, refused_first, stands_on, ends, goes_on, ended_ok, ended_bad}
+use Rattle.oas_reader.proofs.ReadLemmas.{stands_first, have_records, counted_few, counts_small, lexical_first}
+use Rattle.oas_reader.proofs.ReadLemmas.{refused_first, stands_on, ends, goes_on, ended_ok, ended_bad}
 use Rattle.oas_reader.proofs.reading.read_records.Goals as goal
 
 pub records-init : goal.records-init
@@ -69,7 +70,8 @@ take-requires-clause-few c =
 
 pub returns-in-Err-take-clause-first_fault : goal.returns-in-Err-take-clause-first_fault
 returns-in-Err-take-clause-first_fault c = λ wanted same more.
-    refused_first c.args.bytes.now c.args.unit wanted c.args.sorted.now c.records.at c.records.reader c.in-Ok-record_at.found.0 c.in-Ok-record_at.found.1 c.in-Err-take.bad
+    refused_first c.args.bytes.now c.args.unit wanted c.args.sorted.now c.records.at c.records.reader
+    c.in-Ok-record_at.found.0 c.in-Ok-record_at.found.1 c.in-Err-take.bad
     c.records.invariant same c.in-Ok-record_at.ensures.ok
     (c.in-Err-take.ensures.refused wanted c.records.invariant.past same (c.records.invariant.reader_is wanted same)
     (dimensions_behind c.args.bytes.now c.args.unit wanted c.records.invariant.past c.records.at (c.records.invariant.allowed wanted same)) more)
@@ -95,7 +97,8 @@ returns-then-is_last-clause-found c = λ wanted same.
     let last = dimensions_behind c.args.bytes.now c.args.unit wanted c.records.invariant.past c.records.at (c.records.invariant.allowed wanted same) in
     let end = ends c.in-Ok-record_at.found.0 c.id_of-is_last.result c.id_of-is_last.ensures c.if-is_last.true in
     let now = c.in-Ok-take.ensures.reader wanted c.records.invariant.past same reader last in
-    ended_ok c.args.bytes.now c.args.unit wanted c.args.sorted.now c.records.at c.records.reader c.take.new.self c.in-Ok-record_at.found.0 c.in-Ok-record_at.found.1
+    ended_ok c.args.bytes.now c.args.unit wanted c.args.sorted.now c.records.at c.records.reader c.take.new.self
+    c.in-Ok-record_at.found.0 c.in-Ok-record_at.found.1
     c.finish.result c.records.invariant same c.in-Ok-record_at.ensures.ok end
     (record {
       order = c.in-Ok-take.ensures.order wanted c.records.invariant.past same reader;
@@ -108,7 +111,8 @@ pub returns-then-is_last-clause-grid : goal.returns-then-is_last-clause-grid
 returns-then-is_last-clause-grid c =
     let same : AreSamePairs c.args.sorted.now c.args.sorted.now = λ pair. refl in
     let reader = c.records.invariant.reader_is c.args.sorted.now same in
-    let last = dimensions_behind c.args.bytes.now c.args.unit c.args.sorted.now c.records.invariant.past c.records.at (c.records.invariant.allowed c.args.sorted.now same) in
+    let last = dimensions_behind c.args.bytes.now c.args.unit c.args.sorted.now c.records.invariant.past c.records.at
+    (c.records.invariant.allowed c.args.sorted.now same) in
     let end = ends c.in-Ok-record_at.found.0 c.id_of-is_last.result c.id_of-is_last.ensures c.if-is_last.true in
     let now = c.in-Ok-take.ensures.reader c.args.sorted.now c.records.invariant.past same reader last in
     c.finish.ensures.grid c.args.sorted.now c.records.invariant.past _ now end c.records.invariant.goes_on
@@ -119,7 +123,8 @@ returns-then-is_last-clause-first_fault c = λ wanted same.
     let last = dimensions_behind c.args.bytes.now c.args.unit wanted c.records.invariant.past c.records.at (c.records.invariant.allowed wanted same) in
     let end = ends c.in-Ok-record_at.found.0 c.id_of-is_last.result c.id_of-is_last.ensures c.if-is_last.true in
     let now = c.in-Ok-take.ensures.reader wanted c.records.invariant.past same reader last in
-    ended_bad c.args.bytes.now c.args.unit wanted c.args.sorted.now c.records.at c.records.reader c.take.new.self c.in-Ok-record_at.found.0 c.in-Ok-record_at.found.1
+    ended_bad c.args.bytes.now c.args.unit wanted c.args.sorted.now c.records.at c.records.reader c.take.new.self
+    c.in-Ok-record_at.found.0 c.in-Ok-record_at.found.1
     c.finish.result c.records.invariant same c.in-Ok-record_at.ensures.ok end
     (record {
       order = c.in-Ok-take.ensures.order wanted c.records.invariant.past same reader;

@@ -6,4 +6,5 @@ pub returns-clause-ok : goal.returns-clause-ok
 returns-clause-ok c = (c.in_ok-real.ensures.found c.in_ok-real.field-0.0 c.in_ok-real.field-0.1).0 refl
 
 pub returns-clause-within : goal.returns-clause-within
-returns-clause-within c = real_within c.args.bytes.now c.args.at c.in_ok-real.field-0.0 c.in_ok-real.field-0.1 ((c.in_ok-real.ensures.found c.in_ok-real.field-0.0 c.in_ok-real.field-0.1).0 refl)
+returns-clause-within c = real_within c.args.bytes.now c.args.at c.in_ok-real.field-0.0 c.in_ok-real.field-0.1
+    ((c.in_ok-real.ensures.found c.in_ok-real.field-0.0 c.in_ok-real.field-0.1).0 refl)

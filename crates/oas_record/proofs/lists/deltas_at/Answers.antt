@@ -7,13 +7,15 @@ pub returns-in_err-delta-clause-bad : goal.returns-in_err-delta-clause-bad
 returns-in_err-delta-clause-bad c =
     let small : length c.loop-index.items < c.args.count = omega (arith, c.loop-index.invariant.size, c.loop-index-test.true) in
     let fails : NoDeltas c.args.form c.args.count c.args.bytes.now c.args.at c.in_err-delta.field-0.0 =
-    deltas_fail c.args.form c.args.bytes.now c.args.at c.loop-index.items c.loop-index.next c.args.count c.in_err-delta.field-0.0 c.loop-index.invariant.stands small
+    deltas_fail c.args.form c.args.bytes.now c.args.at c.loop-index.items c.loop-index.next c.args.count
+    c.in_err-delta.field-0.0 c.loop-index.invariant.stands small
     (subst (λ f. NoDelta f c.args.bytes.now c.loop-index.next c.in_err-delta.field-0.0) c.loop-index.invariant.form c.in_err-delta.ensures.bad) in
     search rules
 
 pub loop-index-preserved : goal.loop-index-preserved
 loop-index-preserved c =
-    let more = deltas_push c.args.form c.args.bytes.now c.args.at c.loop-index.items c.loop-index.next c.in_ok-delta.delta c.in_ok-delta.end c.loop-index.invariant.stands
+    let more = deltas_push c.args.form c.args.bytes.now c.args.at c.loop-index.items c.loop-index.next
+    c.in_ok-delta.delta c.in_ok-delta.end c.loop-index.invariant.stands
     (subst (λ f. HasDelta f c.args.bytes.now c.loop-index.next c.in_ok-delta.delta c.in_ok-delta.end) c.loop-index.invariant.form c.in_ok-delta.ensures.ok) in
     let form = turns_push c.loop-index.items c.in_ok-delta.delta c.args.form in
     let pushed = c.in_ok-push.ensures.ok in

@@ -14,15 +14,34 @@ returns-clause-ok c =
         within = c.in_ok-info.ensures.there;
         byte = c.in_ok-info.ensures.ok;
         allowed = c.in_ok-info.ensures.allowed;
-        fields_stand = (joined (when (Bit 7) (NameBy 6) ∷ []) placed c.in_ok-info.info c.in_ok-info.info c.args.bytes.now (c.args.at + 1) (called_or c.in_ok-cell.cell ∷ []) (place_of c.in_ok-x.x c.in_ok-x.y c.in_ok-x.repetition) c.in_ok-cell.second c.in_ok-x.next refl (c.in_ok-cell.second, c.in_ok-cell.ensures.ok, refl) c.in_ok-x.ensures.ok);
+        fields_stand = (joined
+            (when (Bit 7) (NameBy 6) ∷ []) placed c.in_ok-info.info c.in_ok-info.info c.args.bytes.now (c.args.at + 1)
+            (called_or c.in_ok-cell.cell ∷ [])
+            (place_of c.in_ok-x.x c.in_ok-x.y c.in_ok-x.repetition) c.in_ok-cell.second c.in_ok-x.next refl
+            (c.in_ok-cell.second, c.in_ok-cell.ensures.ok, refl) c.in_ok-x.ensures.ok);
       };
     }
 
 pub returns-in_err-info-clause-bad : goal.returns-in_err-info-clause-bad
-returns-in_err-info-clause-bad c = handed_on _ _ _ c.from_residual.ensures.0 c.from_residual.ensures.1 (inr (info_refused (record { info = Below 256; parts = parts_at 17 }) c.args.bytes.now c.args.at c.in_err-info.field-0.0 c.in_err-info.ensures.bad))
+returns-in_err-info-clause-bad c = handed_on _ _ _ c.from_residual.ensures.0 c.from_residual.ensures.1
+    (inr (info_refused (record { info = Below 256; parts = parts_at 17 }) c.args.bytes.now c.args.at
+    c.in_err-info.field-0.0 c.in_err-info.ensures.bad))
 
 pub returns-in_err-cell-clause-bad : goal.returns-in_err-cell-clause-bad
-returns-in_err-cell-clause-bad c = handed_on _ _ _ c.from_residual-in_err-cell.ensures.0 c.from_residual-in_err-cell.ensures.1 (inr (fields_refused (record { info = Below 256; parts = parts_at 17 }) c.args.bytes.now c.args.at c.in_ok-info.info c.in_err-cell.field-0.0 c.in_ok-info.ensures.there c.in_ok-info.ensures.ok c.in_ok-info.ensures.allowed (fails_first (when (Bit 7) (NameBy 6) ∷ []) placed c.in_ok-info.info c.args.bytes.now (c.args.at + 1) c.in_err-cell.field-0.0 (inl (c.in_err-cell.ensures.bad)))))
+returns-in_err-cell-clause-bad c =
+    handed_on _ _ _ c.from_residual-in_err-cell.ensures.0 c.from_residual-in_err-cell.ensures.1
+    (inr (fields_refused
+    (record { info = Below 256; parts = parts_at 17 }) c.args.bytes.now c.args.at c.in_ok-info.info
+    c.in_err-cell.field-0.0 c.in_ok-info.ensures.there c.in_ok-info.ensures.ok c.in_ok-info.ensures.allowed
+    (fails_first (when (Bit 7) (NameBy 6) ∷ []) placed c.in_ok-info.info c.args.bytes.now
+    (c.args.at + 1) c.in_err-cell.field-0.0 (inl (c.in_err-cell.ensures.bad)))))
 
 pub returns-in_err-x-clause-bad : goal.returns-in_err-x-clause-bad
-returns-in_err-x-clause-bad c = handed_on _ _ _ c.from_residual-in_err-x.ensures.0 c.from_residual-in_err-x.ensures.1 (wanting_or c.in_err-x.ensures.bad (λ f. (fields_refused (record { info = Below 256; parts = parts_at 17 }) c.args.bytes.now c.args.at c.in_ok-info.info c.in_err-x.field-0.0 c.in_ok-info.ensures.there c.in_ok-info.ensures.ok c.in_ok-info.ensures.allowed (fails_then (when (Bit 7) (NameBy 6) ∷ []) placed c.in_ok-info.info c.in_ok-info.info c.args.bytes.now (c.args.at + 1) (called_or c.in_ok-cell.cell ∷ []) c.in_ok-cell.second c.in_err-x.field-0.0 refl (c.in_ok-cell.second, c.in_ok-cell.ensures.ok, refl) (f)))))
+returns-in_err-x-clause-bad c = handed_on _ _ _ c.from_residual-in_err-x.ensures.0 c.from_residual-in_err-x.ensures.1
+    (wanting_or c.in_err-x.ensures.bad
+    (λ f. (fields_refused
+    (record { info = Below 256; parts = parts_at 17 }) c.args.bytes.now c.args.at c.in_ok-info.info
+    c.in_err-x.field-0.0 c.in_ok-info.ensures.there c.in_ok-info.ensures.ok c.in_ok-info.ensures.allowed
+    (fails_then (when (Bit 7) (NameBy 6) ∷ []) placed c.in_ok-info.info c.in_ok-info.info c.args.bytes.now
+    (c.args.at + 1) (called_or c.in_ok-cell.cell ∷ []) c.in_ok-cell.second c.in_err-x.field-0.0 refl
+    (c.in_ok-cell.second, c.in_ok-cell.ensures.ok, refl) (f)))))

@@ -14,21 +14,87 @@ returns-clause-ok c =
         within = c.in_ok-info.ensures.there;
         byte = c.in_ok-info.ensures.ok;
         allowed = c.in_ok-info.ensures.allowed;
-        fields_stand = (joined (when (Bit 6) (NameBy 5) ∷ []) ((when (Bit 0) Number ∷ []) ++ ((when (Bit 1) Number ∷ []) ++ place)) c.in_ok-info.info c.in_ok-info.info c.args.bytes.now (c.args.at + 1) (called_or c.in_ok-text.text ∷ []) ((number_or c.in_ok-textlayer.textlayer ∷ []) ++ ((number_or c.in_ok-texttype.texttype ∷ []) ++ (place_of c.in_ok-x.x c.in_ok-x.y c.in_ok-x.repetition))) c.in_ok-text.second c.in_ok-x.next refl (c.in_ok-text.second, c.in_ok-text.ensures.ok, refl) (joined (when (Bit 0) Number ∷ []) ((when (Bit 1) Number ∷ []) ++ place) c.in_ok-info.info c.in_ok-info.info c.args.bytes.now c.in_ok-text.second (number_or c.in_ok-textlayer.textlayer ∷ []) ((number_or c.in_ok-texttype.texttype ∷ []) ++ (place_of c.in_ok-x.x c.in_ok-x.y c.in_ok-x.repetition)) c.in_ok-textlayer.third c.in_ok-x.next refl (c.in_ok-textlayer.third, c.in_ok-textlayer.ensures.ok, refl) (joined (when (Bit 1) Number ∷ []) place c.in_ok-info.info c.in_ok-info.info c.args.bytes.now c.in_ok-textlayer.third (number_or c.in_ok-texttype.texttype ∷ []) (place_of c.in_ok-x.x c.in_ok-x.y c.in_ok-x.repetition) c.in_ok-texttype.fourth c.in_ok-x.next refl (c.in_ok-texttype.fourth, c.in_ok-texttype.ensures.ok, refl) c.in_ok-x.ensures.ok)));
+        fields_stand = (joined (when (Bit 6) (NameBy 5) ∷ [])
+            ((when (Bit 0) Number ∷ []) ++ ((when (Bit 1) Number ∷ []) ++ place)) c.in_ok-info.info c.in_ok-info.info
+            c.args.bytes.now (c.args.at + 1) (called_or c.in_ok-text.text ∷ [])
+            ((number_or c.in_ok-textlayer.textlayer ∷ [])
+            ++ ((number_or c.in_ok-texttype.texttype ∷ []) ++ (place_of c.in_ok-x.x c.in_ok-x.y c.in_ok-x.repetition)))
+            c.in_ok-text.second c.in_ok-x.next refl (c.in_ok-text.second, c.in_ok-text.ensures.ok, refl)
+            (joined (when (Bit 0) Number ∷ [])
+            ((when (Bit 1) Number ∷ []) ++ place) c.in_ok-info.info c.in_ok-info.info c.args.bytes.now
+            c.in_ok-text.second (number_or c.in_ok-textlayer.textlayer ∷ [])
+            ((number_or c.in_ok-texttype.texttype ∷ []) ++ (place_of c.in_ok-x.x c.in_ok-x.y c.in_ok-x.repetition))
+            c.in_ok-textlayer.third c.in_ok-x.next refl (c.in_ok-textlayer.third, c.in_ok-textlayer.ensures.ok, refl)
+            (joined (when (Bit 1) Number ∷ []) place c.in_ok-info.info c.in_ok-info.info c.args.bytes.now
+            c.in_ok-textlayer.third (number_or c.in_ok-texttype.texttype ∷ [])
+            (place_of c.in_ok-x.x c.in_ok-x.y c.in_ok-x.repetition) c.in_ok-texttype.fourth c.in_ok-x.next refl
+            (c.in_ok-texttype.fourth, c.in_ok-texttype.ensures.ok, refl) c.in_ok-x.ensures.ok)));
       };
     }
 
 pub returns-in_err-info-clause-bad : goal.returns-in_err-info-clause-bad
-returns-in_err-info-clause-bad c = handed_on _ _ _ c.from_residual.ensures.0 c.from_residual.ensures.1 (inr (info_refused (record { info = Below 128; parts = parts_at 19 }) c.args.bytes.now c.args.at c.in_err-info.field-0.0 c.in_err-info.ensures.bad))
+returns-in_err-info-clause-bad c = handed_on _ _ _ c.from_residual.ensures.0 c.from_residual.ensures.1
+    (inr (info_refused (record { info = Below 128; parts = parts_at 19 }) c.args.bytes.now c.args.at
+    c.in_err-info.field-0.0 c.in_err-info.ensures.bad))
 
 pub returns-in_err-text-clause-bad : goal.returns-in_err-text-clause-bad
-returns-in_err-text-clause-bad c = handed_on _ _ _ c.from_residual-in_err-text.ensures.0 c.from_residual-in_err-text.ensures.1 (inr (fields_refused (record { info = Below 128; parts = parts_at 19 }) c.args.bytes.now c.args.at c.in_ok-info.info c.in_err-text.field-0.0 c.in_ok-info.ensures.there c.in_ok-info.ensures.ok c.in_ok-info.ensures.allowed (fails_first (when (Bit 6) (NameBy 5) ∷ []) ((when (Bit 0) Number ∷ []) ++ ((when (Bit 1) Number ∷ []) ++ place)) c.in_ok-info.info c.args.bytes.now (c.args.at + 1) c.in_err-text.field-0.0 (inl (c.in_err-text.ensures.bad)))))
+returns-in_err-text-clause-bad c =
+    handed_on _ _ _ c.from_residual-in_err-text.ensures.0 c.from_residual-in_err-text.ensures.1
+    (inr (fields_refused
+    (record { info = Below 128; parts = parts_at 19 }) c.args.bytes.now c.args.at c.in_ok-info.info
+    c.in_err-text.field-0.0 c.in_ok-info.ensures.there c.in_ok-info.ensures.ok c.in_ok-info.ensures.allowed
+    (fails_first (when (Bit 6) (NameBy 5) ∷ [])
+    ((when (Bit 0) Number ∷ []) ++ ((when (Bit 1) Number ∷ []) ++ place)) c.in_ok-info.info c.args.bytes.now
+    (c.args.at + 1) c.in_err-text.field-0.0 (inl (c.in_err-text.ensures.bad)))))
 
 pub returns-in_err-textlayer-clause-bad : goal.returns-in_err-textlayer-clause-bad
-returns-in_err-textlayer-clause-bad c = handed_on _ _ _ c.from_residual-in_err-textlayer.ensures.0 c.from_residual-in_err-textlayer.ensures.1 (inr (fields_refused (record { info = Below 128; parts = parts_at 19 }) c.args.bytes.now c.args.at c.in_ok-info.info c.in_err-textlayer.field-0.0 c.in_ok-info.ensures.there c.in_ok-info.ensures.ok c.in_ok-info.ensures.allowed (fails_then (when (Bit 6) (NameBy 5) ∷ []) ((when (Bit 0) Number ∷ []) ++ ((when (Bit 1) Number ∷ []) ++ place)) c.in_ok-info.info c.in_ok-info.info c.args.bytes.now (c.args.at + 1) (called_or c.in_ok-text.text ∷ []) c.in_ok-text.second c.in_err-textlayer.field-0.0 refl (c.in_ok-text.second, c.in_ok-text.ensures.ok, refl) (fails_first (when (Bit 0) Number ∷ []) ((when (Bit 1) Number ∷ []) ++ place) c.in_ok-info.info c.args.bytes.now c.in_ok-text.second c.in_err-textlayer.field-0.0 (inl (c.in_err-textlayer.ensures.bad))))))
+returns-in_err-textlayer-clause-bad c =
+    handed_on _ _ _ c.from_residual-in_err-textlayer.ensures.0 c.from_residual-in_err-textlayer.ensures.1
+    (inr (fields_refused
+    (record { info = Below 128; parts = parts_at 19 }) c.args.bytes.now c.args.at c.in_ok-info.info
+    c.in_err-textlayer.field-0.0 c.in_ok-info.ensures.there c.in_ok-info.ensures.ok c.in_ok-info.ensures.allowed
+    (fails_then (when (Bit 6) (NameBy 5) ∷ [])
+    ((when (Bit 0) Number ∷ []) ++ ((when (Bit 1) Number ∷ []) ++ place)) c.in_ok-info.info c.in_ok-info.info
+    c.args.bytes.now (c.args.at + 1)
+    (called_or c.in_ok-text.text ∷ []) c.in_ok-text.second c.in_err-textlayer.field-0.0 refl
+    (c.in_ok-text.second, c.in_ok-text.ensures.ok, refl)
+    (fails_first (when (Bit 0) Number ∷ [])
+    ((when (Bit 1) Number ∷ []) ++ place) c.in_ok-info.info c.args.bytes.now c.in_ok-text.second
+    c.in_err-textlayer.field-0.0 (inl (c.in_err-textlayer.ensures.bad))))))
 
 pub returns-in_err-texttype-clause-bad : goal.returns-in_err-texttype-clause-bad
-returns-in_err-texttype-clause-bad c = handed_on _ _ _ c.from_residual-in_err-texttype.ensures.0 c.from_residual-in_err-texttype.ensures.1 (inr (fields_refused (record { info = Below 128; parts = parts_at 19 }) c.args.bytes.now c.args.at c.in_ok-info.info c.in_err-texttype.field-0.0 c.in_ok-info.ensures.there c.in_ok-info.ensures.ok c.in_ok-info.ensures.allowed (fails_then (when (Bit 6) (NameBy 5) ∷ []) ((when (Bit 0) Number ∷ []) ++ ((when (Bit 1) Number ∷ []) ++ place)) c.in_ok-info.info c.in_ok-info.info c.args.bytes.now (c.args.at + 1) (called_or c.in_ok-text.text ∷ []) c.in_ok-text.second c.in_err-texttype.field-0.0 refl (c.in_ok-text.second, c.in_ok-text.ensures.ok, refl) (fails_then (when (Bit 0) Number ∷ []) ((when (Bit 1) Number ∷ []) ++ place) c.in_ok-info.info c.in_ok-info.info c.args.bytes.now c.in_ok-text.second (number_or c.in_ok-textlayer.textlayer ∷ []) c.in_ok-textlayer.third c.in_err-texttype.field-0.0 refl (c.in_ok-textlayer.third, c.in_ok-textlayer.ensures.ok, refl) (fails_first (when (Bit 1) Number ∷ []) place c.in_ok-info.info c.args.bytes.now c.in_ok-textlayer.third c.in_err-texttype.field-0.0 (inl (c.in_err-texttype.ensures.bad)))))))
+returns-in_err-texttype-clause-bad c =
+    handed_on _ _ _ c.from_residual-in_err-texttype.ensures.0 c.from_residual-in_err-texttype.ensures.1
+    (inr (fields_refused
+    (record { info = Below 128; parts = parts_at 19 }) c.args.bytes.now c.args.at c.in_ok-info.info
+    c.in_err-texttype.field-0.0 c.in_ok-info.ensures.there c.in_ok-info.ensures.ok c.in_ok-info.ensures.allowed
+    (fails_then (when (Bit 6) (NameBy 5) ∷ [])
+    ((when (Bit 0) Number ∷ []) ++ ((when (Bit 1) Number ∷ []) ++ place)) c.in_ok-info.info c.in_ok-info.info
+    c.args.bytes.now (c.args.at + 1)
+    (called_or c.in_ok-text.text ∷ []) c.in_ok-text.second c.in_err-texttype.field-0.0 refl
+    (c.in_ok-text.second, c.in_ok-text.ensures.ok, refl)
+    (fails_then (when (Bit 0) Number ∷ [])
+    ((when (Bit 1) Number ∷ []) ++ place) c.in_ok-info.info c.in_ok-info.info c.args.bytes.now c.in_ok-text.second
+    (number_or c.in_ok-textlayer.textlayer ∷ []) c.in_ok-textlayer.third c.in_err-texttype.field-0.0 refl
+    (c.in_ok-textlayer.third, c.in_ok-textlayer.ensures.ok, refl)
+    (fails_first (when (Bit 1) Number ∷ []) place c.in_ok-info.info c.args.bytes.now c.in_ok-textlayer.third
+    c.in_err-texttype.field-0.0 (inl (c.in_err-texttype.ensures.bad)))))))
 
 pub returns-in_err-x-clause-bad : goal.returns-in_err-x-clause-bad
-returns-in_err-x-clause-bad c = handed_on _ _ _ c.from_residual-in_err-x.ensures.0 c.from_residual-in_err-x.ensures.1 (wanting_or c.in_err-x.ensures.bad (λ f. (fields_refused (record { info = Below 128; parts = parts_at 19 }) c.args.bytes.now c.args.at c.in_ok-info.info c.in_err-x.field-0.0 c.in_ok-info.ensures.there c.in_ok-info.ensures.ok c.in_ok-info.ensures.allowed (fails_then (when (Bit 6) (NameBy 5) ∷ []) ((when (Bit 0) Number ∷ []) ++ ((when (Bit 1) Number ∷ []) ++ place)) c.in_ok-info.info c.in_ok-info.info c.args.bytes.now (c.args.at + 1) (called_or c.in_ok-text.text ∷ []) c.in_ok-text.second c.in_err-x.field-0.0 refl (c.in_ok-text.second, c.in_ok-text.ensures.ok, refl) (fails_then (when (Bit 0) Number ∷ []) ((when (Bit 1) Number ∷ []) ++ place) c.in_ok-info.info c.in_ok-info.info c.args.bytes.now c.in_ok-text.second (number_or c.in_ok-textlayer.textlayer ∷ []) c.in_ok-textlayer.third c.in_err-x.field-0.0 refl (c.in_ok-textlayer.third, c.in_ok-textlayer.ensures.ok, refl) (fails_then (when (Bit 1) Number ∷ []) place c.in_ok-info.info c.in_ok-info.info c.args.bytes.now c.in_ok-textlayer.third (number_or c.in_ok-texttype.texttype ∷ []) c.in_ok-texttype.fourth c.in_err-x.field-0.0 refl (c.in_ok-texttype.fourth, c.in_ok-texttype.ensures.ok, refl) (f)))))))
+returns-in_err-x-clause-bad c = handed_on _ _ _ c.from_residual-in_err-x.ensures.0 c.from_residual-in_err-x.ensures.1
+    (wanting_or c.in_err-x.ensures.bad
+    (λ f. (fields_refused
+    (record { info = Below 128; parts = parts_at 19 }) c.args.bytes.now c.args.at c.in_ok-info.info
+    c.in_err-x.field-0.0 c.in_ok-info.ensures.there c.in_ok-info.ensures.ok c.in_ok-info.ensures.allowed
+    (fails_then (when (Bit 6) (NameBy 5) ∷ [])
+    ((when (Bit 0) Number ∷ []) ++ ((when (Bit 1) Number ∷ []) ++ place)) c.in_ok-info.info c.in_ok-info.info
+    c.args.bytes.now (c.args.at + 1) (called_or c.in_ok-text.text ∷ []) c.in_ok-text.second c.in_err-x.field-0.0 refl
+    (c.in_ok-text.second, c.in_ok-text.ensures.ok, refl)
+    (fails_then (when (Bit 0) Number ∷ [])
+    ((when (Bit 1) Number ∷ []) ++ place) c.in_ok-info.info c.in_ok-info.info c.args.bytes.now c.in_ok-text.second
+    (number_or c.in_ok-textlayer.textlayer ∷ []) c.in_ok-textlayer.third c.in_err-x.field-0.0 refl
+    (c.in_ok-textlayer.third, c.in_ok-textlayer.ensures.ok, refl)
+    (fails_then (when (Bit 1) Number ∷ []) place c.in_ok-info.info c.in_ok-info.info c.args.bytes.now
+    c.in_ok-textlayer.third
+    (number_or c.in_ok-texttype.texttype ∷ []) c.in_ok-texttype.fourth c.in_err-x.field-0.0 refl
+    (c.in_ok-texttype.fourth, c.in_ok-texttype.ensures.ok, refl) (f)))))))

@@ -14,18 +14,60 @@ returns-clause-ok c =
         within = c.in_ok-info.ensures.there;
         byte = c.in_ok-info.ensures.ok;
         allowed = c.in_ok-info.ensures.allowed;
-        fields_stand = (joined (when (Bit 2) (NameBy 1) ∷ []) ((when Fifteen Count ∷ []) ++ (when (Clear 3) Values ∷ [])) c.in_ok-info.info c.in_ok-info.info c.args.bytes.now (c.args.at + 1) (called_or c.in_ok-name.name ∷ []) ((number_or c.in_ok-count.count ∷ []) ++ (span_or c.in_ok-values.values ∷ [])) c.in_ok-name.second c.in_ok-values.next refl (c.in_ok-name.second, c.in_ok-name.ensures.ok, refl) (joined (when Fifteen Count ∷ []) (when (Clear 3) Values ∷ []) c.in_ok-info.info (with_count (number_or c.in_ok-count.count) c.in_ok-info.info) c.args.bytes.now c.in_ok-name.second (number_or c.in_ok-count.count ∷ []) (span_or c.in_ok-values.values ∷ []) c.in_ok-count.third c.in_ok-values.next refl (c.in_ok-count.third, c.in_ok-count.ensures.ok, refl) (c.in_ok-values.next, c.in_ok-values.ensures.ok, refl)));
+        fields_stand = (joined (when (Bit 2) (NameBy 1) ∷ [])
+            ((when Fifteen Count ∷ []) ++ (when (Clear 3) Values ∷ [])) c.in_ok-info.info c.in_ok-info.info
+            c.args.bytes.now (c.args.at + 1) (called_or c.in_ok-name.name ∷ [])
+            ((number_or c.in_ok-count.count ∷ []) ++ (span_or c.in_ok-values.values ∷ [])) c.in_ok-name.second
+            c.in_ok-values.next refl (c.in_ok-name.second, c.in_ok-name.ensures.ok, refl)
+            (joined (when Fifteen Count ∷ []) (when (Clear 3) Values ∷ []) c.in_ok-info.info
+            (with_count (number_or c.in_ok-count.count) c.in_ok-info.info) c.args.bytes.now c.in_ok-name.second
+            (number_or c.in_ok-count.count ∷ [])
+            (span_or c.in_ok-values.values ∷ []) c.in_ok-count.third c.in_ok-values.next refl
+            (c.in_ok-count.third, c.in_ok-count.ensures.ok, refl)
+            (c.in_ok-values.next, c.in_ok-values.ensures.ok, refl)));
       };
     }
 
 pub returns-in_err-info-clause-bad : goal.returns-in_err-info-clause-bad
-returns-in_err-info-clause-bad c = handed_on _ _ _ c.from_residual.ensures.0 c.from_residual.ensures.1 (inr (info_refused (record { info = Below 256; parts = parts_at 28 }) c.args.bytes.now c.args.at c.in_err-info.field-0.0 c.in_err-info.ensures.bad))
+returns-in_err-info-clause-bad c = handed_on _ _ _ c.from_residual.ensures.0 c.from_residual.ensures.1
+    (inr (info_refused (record { info = Below 256; parts = parts_at 28 }) c.args.bytes.now c.args.at
+    c.in_err-info.field-0.0 c.in_err-info.ensures.bad))
 
 pub returns-in_err-name-clause-bad : goal.returns-in_err-name-clause-bad
-returns-in_err-name-clause-bad c = handed_on _ _ _ c.from_residual-in_err-name.ensures.0 c.from_residual-in_err-name.ensures.1 (inr (fields_refused (record { info = Below 256; parts = parts_at 28 }) c.args.bytes.now c.args.at c.in_ok-info.info c.in_err-name.field-0.0 c.in_ok-info.ensures.there c.in_ok-info.ensures.ok c.in_ok-info.ensures.allowed (fails_first (when (Bit 2) (NameBy 1) ∷ []) ((when Fifteen Count ∷ []) ++ (when (Clear 3) Values ∷ [])) c.in_ok-info.info c.args.bytes.now (c.args.at + 1) c.in_err-name.field-0.0 (inl (c.in_err-name.ensures.bad)))))
+returns-in_err-name-clause-bad c =
+    handed_on _ _ _ c.from_residual-in_err-name.ensures.0 c.from_residual-in_err-name.ensures.1
+    (inr (fields_refused
+    (record { info = Below 256; parts = parts_at 28 }) c.args.bytes.now c.args.at c.in_ok-info.info
+    c.in_err-name.field-0.0 c.in_ok-info.ensures.there c.in_ok-info.ensures.ok c.in_ok-info.ensures.allowed
+    (fails_first (when (Bit 2) (NameBy 1) ∷ [])
+    ((when Fifteen Count ∷ []) ++ (when (Clear 3) Values ∷ [])) c.in_ok-info.info c.args.bytes.now
+    (c.args.at + 1) c.in_err-name.field-0.0 (inl (c.in_err-name.ensures.bad)))))
 
 pub returns-in_err-count-clause-bad : goal.returns-in_err-count-clause-bad
-returns-in_err-count-clause-bad c = handed_on _ _ _ c.from_residual-in_err-count.ensures.0 c.from_residual-in_err-count.ensures.1 (inr (fields_refused (record { info = Below 256; parts = parts_at 28 }) c.args.bytes.now c.args.at c.in_ok-info.info c.in_err-count.field-0.0 c.in_ok-info.ensures.there c.in_ok-info.ensures.ok c.in_ok-info.ensures.allowed (fails_then (when (Bit 2) (NameBy 1) ∷ []) ((when Fifteen Count ∷ []) ++ (when (Clear 3) Values ∷ [])) c.in_ok-info.info c.in_ok-info.info c.args.bytes.now (c.args.at + 1) (called_or c.in_ok-name.name ∷ []) c.in_ok-name.second c.in_err-count.field-0.0 refl (c.in_ok-name.second, c.in_ok-name.ensures.ok, refl) (fails_first (when Fifteen Count ∷ []) (when (Clear 3) Values ∷ []) c.in_ok-info.info c.args.bytes.now c.in_ok-name.second c.in_err-count.field-0.0 (inl (c.in_err-count.ensures.bad))))))
+returns-in_err-count-clause-bad c =
+    handed_on _ _ _ c.from_residual-in_err-count.ensures.0 c.from_residual-in_err-count.ensures.1
+    (inr (fields_refused
+    (record { info = Below 256; parts = parts_at 28 }) c.args.bytes.now c.args.at c.in_ok-info.info
+    c.in_err-count.field-0.0 c.in_ok-info.ensures.there c.in_ok-info.ensures.ok c.in_ok-info.ensures.allowed
+    (fails_then (when (Bit 2) (NameBy 1) ∷ [])
+    ((when Fifteen Count ∷ []) ++ (when (Clear 3) Values ∷ [])) c.in_ok-info.info c.in_ok-info.info c.args.bytes.now
+    (c.args.at + 1) (called_or c.in_ok-name.name ∷ []) c.in_ok-name.second c.in_err-count.field-0.0 refl
+    (c.in_ok-name.second, c.in_ok-name.ensures.ok, refl)
+    (fails_first (when Fifteen Count ∷ [])
+    (when (Clear 3) Values ∷ []) c.in_ok-info.info c.args.bytes.now c.in_ok-name.second c.in_err-count.field-0.0
+    (inl (c.in_err-count.ensures.bad))))))
 
 pub returns-in_err-values-clause-bad : goal.returns-in_err-values-clause-bad
-returns-in_err-values-clause-bad c = handed_on _ _ _ c.from_residual-in_err-values.ensures.0 c.from_residual-in_err-values.ensures.1 (inr (fields_refused (record { info = Below 256; parts = parts_at 28 }) c.args.bytes.now c.args.at c.in_ok-info.info c.in_err-values.field-0.0 c.in_ok-info.ensures.there c.in_ok-info.ensures.ok c.in_ok-info.ensures.allowed (fails_then (when (Bit 2) (NameBy 1) ∷ []) ((when Fifteen Count ∷ []) ++ (when (Clear 3) Values ∷ [])) c.in_ok-info.info c.in_ok-info.info c.args.bytes.now (c.args.at + 1) (called_or c.in_ok-name.name ∷ []) c.in_ok-name.second c.in_err-values.field-0.0 refl (c.in_ok-name.second, c.in_ok-name.ensures.ok, refl) (fails_then (when Fifteen Count ∷ []) (when (Clear 3) Values ∷ []) c.in_ok-info.info (with_count (number_or c.in_ok-count.count) c.in_ok-info.info) c.args.bytes.now c.in_ok-name.second (number_or c.in_ok-count.count ∷ []) c.in_ok-count.third c.in_err-values.field-0.0 refl (c.in_ok-count.third, c.in_ok-count.ensures.ok, refl) (inl (c.in_err-values.ensures.bad))))))
+returns-in_err-values-clause-bad c =
+    handed_on _ _ _ c.from_residual-in_err-values.ensures.0 c.from_residual-in_err-values.ensures.1
+    (inr (fields_refused
+    (record { info = Below 256; parts = parts_at 28 }) c.args.bytes.now c.args.at c.in_ok-info.info
+    c.in_err-values.field-0.0 c.in_ok-info.ensures.there c.in_ok-info.ensures.ok c.in_ok-info.ensures.allowed
+    (fails_then (when (Bit 2) (NameBy 1) ∷ [])
+    ((when Fifteen Count ∷ []) ++ (when (Clear 3) Values ∷ [])) c.in_ok-info.info c.in_ok-info.info c.args.bytes.now
+    (c.args.at + 1) (called_or c.in_ok-name.name ∷ []) c.in_ok-name.second c.in_err-values.field-0.0 refl
+    (c.in_ok-name.second, c.in_ok-name.ensures.ok, refl)
+    (fails_then (when Fifteen Count ∷ []) (when (Clear 3) Values ∷ []) c.in_ok-info.info
+    (with_count (number_or c.in_ok-count.count) c.in_ok-info.info) c.args.bytes.now c.in_ok-name.second
+    (number_or c.in_ok-count.count ∷ []) c.in_ok-count.third c.in_err-values.field-0.0 refl
+    (c.in_ok-count.third, c.in_ok-count.ensures.ok, refl) (inl (c.in_err-values.ensures.bad))))))

@@ -23,5 +23,7 @@ returns-clause-ok c = (
 pub returns-in_err-u-clause-bad : goal.returns-in_err-u-clause-bad
 returns-in_err-u-clause-bad c =
     let fails : RowFails (row_at rep_rows 9) c.args.bytes.now c.args.at c.in_err-u.field-0.0 =
-    fails_after (record { dims = 1; numbers = Just 0; deltas = Just 1 }) c.args.bytes.now c.args.at c.in_ok-stored.stored c.in_ok-stored.first c.in_err-u.field-0.0 refl c.in_ok-stored.ensures.ok (inr ([], c.in_ok-stored.first, (refl, refl), inl c.in_err-u.ensures.bad)) in
+    fails_after (record { dims = 1; numbers = Just 0; deltas = Just 1 }) c.args.bytes.now c.args.at
+    c.in_ok-stored.stored c.in_ok-stored.first c.in_err-u.field-0.0 refl c.in_ok-stored.ensures.ok
+    (inr ([], c.in_ok-stored.first, (refl, refl), inl c.in_err-u.ensures.bad)) in
     handed_on _ _ _ c.from_residual-in_err-u.ensures.0 c.from_residual-in_err-u.ensures.1 fails

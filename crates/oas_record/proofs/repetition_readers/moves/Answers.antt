@@ -26,5 +26,15 @@ returns-clause-ok c = (
 pub returns-in_err-moves-clause-bad : goal.returns-in_err-moves-clause-bad
 returns-in_err-moves-clause-bad c =
     let fails : (c.in_err-moves.field-0.0 ≡ Wanting) ⊎ RowFails (row_at rep_rows 10) c.args.bytes.now c.args.at c.in_err-moves.field-0.0 =
-    wanting_or c.in_err-moves.ensures.bad (λ f. fails_after (record { dims = 1; numbers = Just 0; deltas = AndFewer 0 }) c.args.bytes.now c.args.at c.in_ok-stored.stored c.in_ok-stored.first c.in_err-moves.field-0.0 refl c.in_ok-stored.ensures.ok (inr ([], c.in_ok-stored.first, (refl, refl), subst (λ n. NoDeltas GDelta n c.args.bytes.now c.in_ok-stored.first c.in_err-moves.field-0.0) (fewer c.in_ok-stored.stored) f))) in
+    wanting_or c.in_err-moves.ensures.bad
+    (λ f. fails_after (record { dims = 1; numbers = Just 0; deltas = AndFewer 0 }) c.args.bytes.now c.args.at
+    c.in_ok-stored.stored c.in_ok-stored.first c.in_err-moves.field-0.0 refl c.in_ok-stored.ensures.ok
+    (inr (
+      [],
+      c.in_ok-stored.first,
+      (refl, refl),
+      subst
+          (λ n. NoDeltas GDelta n c.args.bytes.now c.in_ok-stored.first c.in_err-moves.field-0.0)
+          (fewer c.in_ok-stored.stored) f,
+    ))) in
     handed_on _ _ _ c.from_residual-in_err-moves.ensures.0 c.from_residual-in_err-moves.ensures.1 fails

@@ -23,5 +23,7 @@ returns-clause-ok c = (
 pub returns-in_err-space-clause-bad : goal.returns-in_err-space-clause-bad
 returns-in_err-space-clause-bad c =
     let fails : RowFails (row_at rep_rows 2) c.args.bytes.now c.args.at c.in_err-space.field-0.0 =
-    fails_after (record { dims = 1; numbers = Just 1; deltas = Just 0 }) c.args.bytes.now c.args.at c.in_ok-stored.stored c.in_ok-stored.first c.in_err-space.field-0.0 refl c.in_ok-stored.ensures.ok (inl (inl c.in_err-space.ensures.bad)) in
+    fails_after (record { dims = 1; numbers = Just 1; deltas = Just 0 }) c.args.bytes.now c.args.at
+    c.in_ok-stored.stored c.in_ok-stored.first c.in_err-space.field-0.0 refl c.in_ok-stored.ensures.ok
+    (inl (inl c.in_err-space.ensures.bad)) in
     handed_on _ _ _ c.from_residual-in_err-space.ensures.0 c.from_residual-in_err-space.ensures.1 fails

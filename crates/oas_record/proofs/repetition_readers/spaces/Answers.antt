@@ -25,5 +25,9 @@ returns-clause-ok c = (
 pub returns-in_err-spaces-clause-bad : goal.returns-in_err-spaces-clause-bad
 returns-in_err-spaces-clause-bad c =
     let fails : (c.in_err-spaces.field-0.0 ≡ Wanting) ⊎ RowFails (row_at rep_rows 4) c.args.bytes.now c.args.at c.in_err-spaces.field-0.0 =
-    wanting_or c.in_err-spaces.ensures.bad (λ f. fails_after (record { dims = 1; numbers = AndFewer 0; deltas = Just 0 }) c.args.bytes.now c.args.at c.in_ok-stored.stored c.in_ok-stored.first c.in_err-spaces.field-0.0 refl c.in_ok-stored.ensures.ok (inl (subst (λ n. NoNumbers n c.args.bytes.now c.in_ok-stored.first c.in_err-spaces.field-0.0) (fewer c.in_ok-stored.stored) f))) in
+    wanting_or c.in_err-spaces.ensures.bad
+    (λ f. fails_after (record { dims = 1; numbers = AndFewer 0; deltas = Just 0 }) c.args.bytes.now c.args.at
+    c.in_ok-stored.stored c.in_ok-stored.first c.in_err-spaces.field-0.0 refl c.in_ok-stored.ensures.ok
+    (inl (subst (λ n. NoNumbers n c.args.bytes.now c.in_ok-stored.first c.in_err-spaces.field-0.0)
+    (fewer c.in_ok-stored.stored) f))) in
     handed_on _ _ _ c.from_residual-in_err-spaces.ensures.0 c.from_residual-in_err-spaces.ensures.1 fails

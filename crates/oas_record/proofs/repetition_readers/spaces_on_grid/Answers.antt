@@ -25,11 +25,19 @@ returns-clause-ok c = (
 pub returns-in_err-grid-clause-bad : goal.returns-in_err-grid-clause-bad
 returns-in_err-grid-clause-bad c =
     let fails : RowFails (row_at rep_rows 5) c.args.bytes.now c.args.at c.in_err-grid.field-0.0 =
-    fails_after (record { dims = 1; numbers = AndFewer 1; deltas = Just 0 }) c.args.bytes.now c.args.at c.in_ok-stored.stored c.in_ok-stored.grid_at c.in_err-grid.field-0.0 refl c.in_ok-stored.ensures.ok (inl (subst (λ n. NoNumbers n c.args.bytes.now c.in_ok-stored.grid_at c.in_err-grid.field-0.0) (one_and_fewer c.in_ok-stored.stored) (inl c.in_err-grid.ensures.bad))) in
+    fails_after (record { dims = 1; numbers = AndFewer 1; deltas = Just 0 }) c.args.bytes.now c.args.at
+    c.in_ok-stored.stored c.in_ok-stored.grid_at c.in_err-grid.field-0.0 refl c.in_ok-stored.ensures.ok
+    (inl (subst (λ n. NoNumbers n c.args.bytes.now c.in_ok-stored.grid_at c.in_err-grid.field-0.0)
+    (one_and_fewer c.in_ok-stored.stored) (inl c.in_err-grid.ensures.bad))) in
     handed_on _ _ _ c.from_residual-in_err-grid.ensures.0 c.from_residual-in_err-grid.ensures.1 (inr fails)
 
 pub returns-in_err-spaces-clause-bad : goal.returns-in_err-spaces-clause-bad
 returns-in_err-spaces-clause-bad c =
     let fails : (c.in_err-spaces.field-0.0 ≡ Wanting) ⊎ RowFails (row_at rep_rows 5) c.args.bytes.now c.args.at c.in_err-spaces.field-0.0 =
-    wanting_or c.in_err-spaces.ensures.bad (λ f. fails_after (record { dims = 1; numbers = AndFewer 1; deltas = Just 0 }) c.args.bytes.now c.args.at c.in_ok-stored.stored c.in_ok-stored.grid_at c.in_err-spaces.field-0.0 refl c.in_ok-stored.ensures.ok (inl (subst (λ n. NoNumbers n c.args.bytes.now c.in_ok-stored.grid_at c.in_err-spaces.field-0.0) (one_and_fewer c.in_ok-stored.stored) (inr (c.in_ok-grid.grid, c.in_ok-grid.first, c.in_ok-grid.ensures.ok, f))))) in
+    wanting_or c.in_err-spaces.ensures.bad
+    (λ f. fails_after (record { dims = 1; numbers = AndFewer 1; deltas = Just 0 }) c.args.bytes.now c.args.at
+    c.in_ok-stored.stored c.in_ok-stored.grid_at c.in_err-spaces.field-0.0 refl c.in_ok-stored.ensures.ok
+    (inl (subst (λ n. NoNumbers n c.args.bytes.now c.in_ok-stored.grid_at c.in_err-spaces.field-0.0)
+    (one_and_fewer c.in_ok-stored.stored)
+    (inr (c.in_ok-grid.grid, c.in_ok-grid.first, c.in_ok-grid.ensures.ok, f))))) in
     handed_on _ _ _ c.from_residual-in_err-spaces.ensures.0 c.from_residual-in_err-spaces.ensures.1 fails

@@ -9,4 +9,11 @@ returns-in_err-y-clause-bad c = handed_on _ _ _ c.from_residual-in_err-y.ensures
 
 pub returns-in_err-repetition-clause-bad : goal.returns-in_err-repetition-clause-bad
 returns-in_err-repetition-clause-bad c = handed_on _ _ _ c.from_residual-in_err-repetition.ensures.0 c.from_residual-in_err-repetition.ensures.1
-    (wanting_or c.in_err-repetition.ensures.bad (λ f. inr (signed_or c.in_ok-x.x, c.in_ok-x.second, c.in_ok-x.ensures.ok, inr (signed_or c.in_ok-y.y, c.in_ok-y.third, c.in_ok-y.ensures.ok, inl f))))
+    (wanting_or c.in_err-repetition.ensures.bad
+    (λ f. inr (
+      signed_or c.in_ok-x.x,
+      c.in_ok-x.second,
+      c.in_ok-x.ensures.ok,
+      inr
+          (signed_or c.in_ok-y.y, c.in_ok-y.third, c.in_ok-y.ensures.ok, inl f),
+    )))

@@ -14,18 +14,53 @@ returns-clause-ok c =
         within = c.in_ok-info.ensures.there;
         byte = c.in_ok-info.ensures.ok;
         allowed = c.in_ok-info.ensures.allowed;
-        fields_stand = (joined pair ((when (Bit 5) Number ∷ []) ++ place) c.in_ok-info.info c.in_ok-info.info c.args.bytes.now (c.args.at + 1) (number_or c.in_ok-layer.layer ∷ number_or c.in_ok-layer.datatype ∷ []) ((number_or c.in_ok-radius.radius ∷ []) ++ (place_of c.in_ok-x.x c.in_ok-x.y c.in_ok-x.repetition)) c.in_ok-layer.second c.in_ok-x.next refl c.in_ok-layer.ensures.ok (joined (when (Bit 5) Number ∷ []) place c.in_ok-info.info c.in_ok-info.info c.args.bytes.now c.in_ok-layer.second (number_or c.in_ok-radius.radius ∷ []) (place_of c.in_ok-x.x c.in_ok-x.y c.in_ok-x.repetition) c.in_ok-radius.third c.in_ok-x.next refl (c.in_ok-radius.third, c.in_ok-radius.ensures.ok, refl) c.in_ok-x.ensures.ok));
+        fields_stand = (joined pair
+            ((when (Bit 5) Number ∷ []) ++ place) c.in_ok-info.info c.in_ok-info.info c.args.bytes.now (c.args.at + 1)
+            (number_or c.in_ok-layer.layer ∷ number_or c.in_ok-layer.datatype ∷ [])
+            ((number_or c.in_ok-radius.radius ∷ []) ++ (place_of c.in_ok-x.x c.in_ok-x.y c.in_ok-x.repetition))
+            c.in_ok-layer.second c.in_ok-x.next refl c.in_ok-layer.ensures.ok
+            (joined (when (Bit 5) Number ∷ []) place c.in_ok-info.info c.in_ok-info.info c.args.bytes.now
+            c.in_ok-layer.second (number_or c.in_ok-radius.radius ∷ [])
+            (place_of c.in_ok-x.x c.in_ok-x.y c.in_ok-x.repetition) c.in_ok-radius.third c.in_ok-x.next refl
+            (c.in_ok-radius.third, c.in_ok-radius.ensures.ok, refl) c.in_ok-x.ensures.ok));
       };
     }
 
 pub returns-in_err-info-clause-bad : goal.returns-in_err-info-clause-bad
-returns-in_err-info-clause-bad c = handed_on _ _ _ c.from_residual.ensures.0 c.from_residual.ensures.1 (inr (info_refused (record { info = Below 64; parts = parts_at 27 }) c.args.bytes.now c.args.at c.in_err-info.field-0.0 c.in_err-info.ensures.bad))
+returns-in_err-info-clause-bad c = handed_on _ _ _ c.from_residual.ensures.0 c.from_residual.ensures.1
+    (inr (info_refused (record { info = Below 64; parts = parts_at 27 }) c.args.bytes.now c.args.at
+    c.in_err-info.field-0.0 c.in_err-info.ensures.bad))
 
 pub returns-in_err-layer-clause-bad : goal.returns-in_err-layer-clause-bad
-returns-in_err-layer-clause-bad c = handed_on _ _ _ c.from_residual-in_err-layer.ensures.0 c.from_residual-in_err-layer.ensures.1 (inr (fields_refused (record { info = Below 64; parts = parts_at 27 }) c.args.bytes.now c.args.at c.in_ok-info.info c.in_err-layer.field-0.0 c.in_ok-info.ensures.there c.in_ok-info.ensures.ok c.in_ok-info.ensures.allowed (fails_first pair ((when (Bit 5) Number ∷ []) ++ place) c.in_ok-info.info c.args.bytes.now (c.args.at + 1) c.in_err-layer.field-0.0 (c.in_err-layer.ensures.bad))))
+returns-in_err-layer-clause-bad c =
+    handed_on _ _ _ c.from_residual-in_err-layer.ensures.0 c.from_residual-in_err-layer.ensures.1
+    (inr (fields_refused
+    (record { info = Below 64; parts = parts_at 27 }) c.args.bytes.now c.args.at c.in_ok-info.info
+    c.in_err-layer.field-0.0 c.in_ok-info.ensures.there c.in_ok-info.ensures.ok c.in_ok-info.ensures.allowed
+    (fails_first pair ((when (Bit 5) Number ∷ []) ++ place) c.in_ok-info.info c.args.bytes.now
+    (c.args.at + 1) c.in_err-layer.field-0.0 (c.in_err-layer.ensures.bad))))
 
 pub returns-in_err-radius-clause-bad : goal.returns-in_err-radius-clause-bad
-returns-in_err-radius-clause-bad c = handed_on _ _ _ c.from_residual-in_err-radius.ensures.0 c.from_residual-in_err-radius.ensures.1 (inr (fields_refused (record { info = Below 64; parts = parts_at 27 }) c.args.bytes.now c.args.at c.in_ok-info.info c.in_err-radius.field-0.0 c.in_ok-info.ensures.there c.in_ok-info.ensures.ok c.in_ok-info.ensures.allowed (fails_then pair ((when (Bit 5) Number ∷ []) ++ place) c.in_ok-info.info c.in_ok-info.info c.args.bytes.now (c.args.at + 1) (number_or c.in_ok-layer.layer ∷ number_or c.in_ok-layer.datatype ∷ []) c.in_ok-layer.second c.in_err-radius.field-0.0 refl c.in_ok-layer.ensures.ok (fails_first (when (Bit 5) Number ∷ []) place c.in_ok-info.info c.args.bytes.now c.in_ok-layer.second c.in_err-radius.field-0.0 (inl (c.in_err-radius.ensures.bad))))))
+returns-in_err-radius-clause-bad c =
+    handed_on _ _ _ c.from_residual-in_err-radius.ensures.0 c.from_residual-in_err-radius.ensures.1
+    (inr (fields_refused
+    (record { info = Below 64; parts = parts_at 27 }) c.args.bytes.now c.args.at c.in_ok-info.info
+    c.in_err-radius.field-0.0 c.in_ok-info.ensures.there c.in_ok-info.ensures.ok c.in_ok-info.ensures.allowed
+    (fails_then pair ((when (Bit 5) Number ∷ []) ++ place) c.in_ok-info.info c.in_ok-info.info c.args.bytes.now
+    (c.args.at + 1) (number_or c.in_ok-layer.layer ∷ number_or c.in_ok-layer.datatype ∷ []) c.in_ok-layer.second
+    c.in_err-radius.field-0.0 refl c.in_ok-layer.ensures.ok
+    (fails_first (when (Bit 5) Number ∷ []) place c.in_ok-info.info c.args.bytes.now c.in_ok-layer.second
+    c.in_err-radius.field-0.0 (inl (c.in_err-radius.ensures.bad))))))
 
 pub returns-in_err-x-clause-bad : goal.returns-in_err-x-clause-bad
-returns-in_err-x-clause-bad c = handed_on _ _ _ c.from_residual-in_err-x.ensures.0 c.from_residual-in_err-x.ensures.1 (wanting_or c.in_err-x.ensures.bad (λ f. (fields_refused (record { info = Below 64; parts = parts_at 27 }) c.args.bytes.now c.args.at c.in_ok-info.info c.in_err-x.field-0.0 c.in_ok-info.ensures.there c.in_ok-info.ensures.ok c.in_ok-info.ensures.allowed (fails_then pair ((when (Bit 5) Number ∷ []) ++ place) c.in_ok-info.info c.in_ok-info.info c.args.bytes.now (c.args.at + 1) (number_or c.in_ok-layer.layer ∷ number_or c.in_ok-layer.datatype ∷ []) c.in_ok-layer.second c.in_err-x.field-0.0 refl c.in_ok-layer.ensures.ok (fails_then (when (Bit 5) Number ∷ []) place c.in_ok-info.info c.in_ok-info.info c.args.bytes.now c.in_ok-layer.second (number_or c.in_ok-radius.radius ∷ []) c.in_ok-radius.third c.in_err-x.field-0.0 refl (c.in_ok-radius.third, c.in_ok-radius.ensures.ok, refl) (f))))))
+returns-in_err-x-clause-bad c = handed_on _ _ _ c.from_residual-in_err-x.ensures.0 c.from_residual-in_err-x.ensures.1
+    (wanting_or c.in_err-x.ensures.bad
+    (λ f. (fields_refused
+    (record { info = Below 64; parts = parts_at 27 }) c.args.bytes.now c.args.at c.in_ok-info.info c.in_err-x.field-0.0
+    c.in_ok-info.ensures.there c.in_ok-info.ensures.ok c.in_ok-info.ensures.allowed
+    (fails_then pair ((when (Bit 5) Number ∷ []) ++ place) c.in_ok-info.info c.in_ok-info.info c.args.bytes.now
+    (c.args.at + 1) (number_or c.in_ok-layer.layer ∷ number_or c.in_ok-layer.datatype ∷ []) c.in_ok-layer.second
+    c.in_err-x.field-0.0 refl c.in_ok-layer.ensures.ok
+    (fails_then (when (Bit 5) Number ∷ []) place c.in_ok-info.info c.in_ok-info.info c.args.bytes.now
+    c.in_ok-layer.second (number_or c.in_ok-radius.radius ∷ []) c.in_ok-radius.third c.in_err-x.field-0.0 refl
+    (c.in_ok-radius.third, c.in_ok-radius.ensures.ok, refl) (f))))))

@@ -14,18 +14,54 @@ returns-clause-ok c =
         within = c.in_ok-info.ensures.there;
         byte = c.in_ok-info.ensures.ok;
         allowed = c.in_ok-info.ensures.allowed;
-        fields_stand = (joined pair ((when (Bit 5) PolygonPoints ∷ []) ++ place) c.in_ok-info.info c.in_ok-info.info c.args.bytes.now (c.args.at + 1) (number_or c.in_ok-layer.layer ∷ number_or c.in_ok-layer.datatype ∷ []) ((points_or c.in_ok-points.points ∷ []) ++ (place_of c.in_ok-x.x c.in_ok-x.y c.in_ok-x.repetition)) c.in_ok-layer.second c.in_ok-x.next refl c.in_ok-layer.ensures.ok (joined (when (Bit 5) PolygonPoints ∷ []) place c.in_ok-info.info c.in_ok-info.info c.args.bytes.now c.in_ok-layer.second (points_or c.in_ok-points.points ∷ []) (place_of c.in_ok-x.x c.in_ok-x.y c.in_ok-x.repetition) c.in_ok-points.third c.in_ok-x.next refl (c.in_ok-points.third, c.in_ok-points.ensures.ok, refl) c.in_ok-x.ensures.ok));
+        fields_stand = (joined pair
+            ((when (Bit 5) PolygonPoints ∷ []) ++ place) c.in_ok-info.info c.in_ok-info.info c.args.bytes.now
+            (c.args.at + 1) (number_or c.in_ok-layer.layer ∷ number_or c.in_ok-layer.datatype ∷ [])
+            ((points_or c.in_ok-points.points ∷ []) ++ (place_of c.in_ok-x.x c.in_ok-x.y c.in_ok-x.repetition))
+            c.in_ok-layer.second c.in_ok-x.next refl c.in_ok-layer.ensures.ok
+            (joined (when (Bit 5) PolygonPoints ∷ []) place c.in_ok-info.info c.in_ok-info.info c.args.bytes.now
+            c.in_ok-layer.second (points_or c.in_ok-points.points ∷ [])
+            (place_of c.in_ok-x.x c.in_ok-x.y c.in_ok-x.repetition) c.in_ok-points.third c.in_ok-x.next refl
+            (c.in_ok-points.third, c.in_ok-points.ensures.ok, refl) c.in_ok-x.ensures.ok));
       };
     }
 
 pub returns-in_err-info-clause-bad : goal.returns-in_err-info-clause-bad
-returns-in_err-info-clause-bad c = handed_on _ _ _ c.from_residual.ensures.0 c.from_residual.ensures.1 (inr (info_refused (record { info = Below 64; parts = parts_at 21 }) c.args.bytes.now c.args.at c.in_err-info.field-0.0 c.in_err-info.ensures.bad))
+returns-in_err-info-clause-bad c = handed_on _ _ _ c.from_residual.ensures.0 c.from_residual.ensures.1
+    (inr (info_refused (record { info = Below 64; parts = parts_at 21 }) c.args.bytes.now c.args.at
+    c.in_err-info.field-0.0 c.in_err-info.ensures.bad))
 
 pub returns-in_err-layer-clause-bad : goal.returns-in_err-layer-clause-bad
-returns-in_err-layer-clause-bad c = handed_on _ _ _ c.from_residual-in_err-layer.ensures.0 c.from_residual-in_err-layer.ensures.1 (inr (fields_refused (record { info = Below 64; parts = parts_at 21 }) c.args.bytes.now c.args.at c.in_ok-info.info c.in_err-layer.field-0.0 c.in_ok-info.ensures.there c.in_ok-info.ensures.ok c.in_ok-info.ensures.allowed (fails_first pair ((when (Bit 5) PolygonPoints ∷ []) ++ place) c.in_ok-info.info c.args.bytes.now (c.args.at + 1) c.in_err-layer.field-0.0 (c.in_err-layer.ensures.bad))))
+returns-in_err-layer-clause-bad c =
+    handed_on _ _ _ c.from_residual-in_err-layer.ensures.0 c.from_residual-in_err-layer.ensures.1
+    (inr (fields_refused
+    (record { info = Below 64; parts = parts_at 21 }) c.args.bytes.now c.args.at c.in_ok-info.info
+    c.in_err-layer.field-0.0 c.in_ok-info.ensures.there c.in_ok-info.ensures.ok c.in_ok-info.ensures.allowed
+    (fails_first pair ((when (Bit 5) PolygonPoints ∷ []) ++ place) c.in_ok-info.info c.args.bytes.now
+    (c.args.at + 1) c.in_err-layer.field-0.0 (c.in_err-layer.ensures.bad))))
 
 pub returns-in_err-points-clause-bad : goal.returns-in_err-points-clause-bad
-returns-in_err-points-clause-bad c = handed_on _ _ _ c.from_residual-in_err-points.ensures.0 c.from_residual-in_err-points.ensures.1 (wanting_or c.in_err-points.ensures.bad (λ f. (fields_refused (record { info = Below 64; parts = parts_at 21 }) c.args.bytes.now c.args.at c.in_ok-info.info c.in_err-points.field-0.0 c.in_ok-info.ensures.there c.in_ok-info.ensures.ok c.in_ok-info.ensures.allowed (fails_then pair ((when (Bit 5) PolygonPoints ∷ []) ++ place) c.in_ok-info.info c.in_ok-info.info c.args.bytes.now (c.args.at + 1) (number_or c.in_ok-layer.layer ∷ number_or c.in_ok-layer.datatype ∷ []) c.in_ok-layer.second c.in_err-points.field-0.0 refl c.in_ok-layer.ensures.ok (fails_first (when (Bit 5) PolygonPoints ∷ []) place c.in_ok-info.info c.args.bytes.now c.in_ok-layer.second c.in_err-points.field-0.0 (inl (f)))))))
+returns-in_err-points-clause-bad c =
+    handed_on _ _ _ c.from_residual-in_err-points.ensures.0 c.from_residual-in_err-points.ensures.1
+    (wanting_or c.in_err-points.ensures.bad
+    (λ f. (fields_refused
+    (record { info = Below 64; parts = parts_at 21 }) c.args.bytes.now c.args.at c.in_ok-info.info
+    c.in_err-points.field-0.0 c.in_ok-info.ensures.there c.in_ok-info.ensures.ok c.in_ok-info.ensures.allowed
+    (fails_then pair ((when (Bit 5) PolygonPoints ∷ []) ++ place) c.in_ok-info.info c.in_ok-info.info c.args.bytes.now
+    (c.args.at + 1) (number_or c.in_ok-layer.layer ∷ number_or c.in_ok-layer.datatype ∷ []) c.in_ok-layer.second
+    c.in_err-points.field-0.0 refl c.in_ok-layer.ensures.ok
+    (fails_first (when (Bit 5) PolygonPoints ∷ []) place c.in_ok-info.info c.args.bytes.now c.in_ok-layer.second
+    c.in_err-points.field-0.0 (inl (f)))))))
 
 pub returns-in_err-x-clause-bad : goal.returns-in_err-x-clause-bad
-returns-in_err-x-clause-bad c = handed_on _ _ _ c.from_residual-in_err-x.ensures.0 c.from_residual-in_err-x.ensures.1 (wanting_or c.in_err-x.ensures.bad (λ f. (fields_refused (record { info = Below 64; parts = parts_at 21 }) c.args.bytes.now c.args.at c.in_ok-info.info c.in_err-x.field-0.0 c.in_ok-info.ensures.there c.in_ok-info.ensures.ok c.in_ok-info.ensures.allowed (fails_then pair ((when (Bit 5) PolygonPoints ∷ []) ++ place) c.in_ok-info.info c.in_ok-info.info c.args.bytes.now (c.args.at + 1) (number_or c.in_ok-layer.layer ∷ number_or c.in_ok-layer.datatype ∷ []) c.in_ok-layer.second c.in_err-x.field-0.0 refl c.in_ok-layer.ensures.ok (fails_then (when (Bit 5) PolygonPoints ∷ []) place c.in_ok-info.info c.in_ok-info.info c.args.bytes.now c.in_ok-layer.second (points_or c.in_ok-points.points ∷ []) c.in_ok-points.third c.in_err-x.field-0.0 refl (c.in_ok-points.third, c.in_ok-points.ensures.ok, refl) (f))))))
+returns-in_err-x-clause-bad c = handed_on _ _ _ c.from_residual-in_err-x.ensures.0 c.from_residual-in_err-x.ensures.1
+    (wanting_or c.in_err-x.ensures.bad
+    (λ f. (fields_refused
+    (record { info = Below 64; parts = parts_at 21 }) c.args.bytes.now c.args.at c.in_ok-info.info c.in_err-x.field-0.0
+    c.in_ok-info.ensures.there c.in_ok-info.ensures.ok c.in_ok-info.ensures.allowed
+    (fails_then pair ((when (Bit 5) PolygonPoints ∷ []) ++ place) c.in_ok-info.info c.in_ok-info.info c.args.bytes.now
+    (c.args.at + 1) (number_or c.in_ok-layer.layer ∷ number_or c.in_ok-layer.datatype ∷ []) c.in_ok-layer.second
+    c.in_err-x.field-0.0 refl c.in_ok-layer.ensures.ok
+    (fails_then (when (Bit 5) PolygonPoints ∷ []) place c.in_ok-info.info c.in_ok-info.info c.args.bytes.now
+    c.in_ok-layer.second (points_or c.in_ok-points.points ∷ []) c.in_ok-points.third c.in_err-x.field-0.0 refl
+    (c.in_ok-points.third, c.in_ok-points.ensures.ok, refl) (f))))))

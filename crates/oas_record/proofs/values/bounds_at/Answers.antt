@@ -13,7 +13,8 @@ returns-in_ok-b-in-4-clause-ok c =
     rw (bounds_two c.args.kind (omega (arith, c.in-4))) (
       c.in_ok-a-in-4.a ∷ c.in_ok-b-in-4.b ∷ [],
       refl,
-      two c.args.bytes.now c.args.at c.in_ok-a-in-4.a c.in_ok-a-in-4.mid c.in_ok-b-in-4.b c.in_ok-b-in-4.next c.in_ok-a-in-4.ensures.ok c.in_ok-b-in-4.ensures.ok,
+      two c.args.bytes.now c.args.at c.in_ok-a-in-4.a c.in_ok-a-in-4.mid c.in_ok-b-in-4.b c.in_ok-b-in-4.next
+          c.in_ok-a-in-4.ensures.ok c.in_ok-b-in-4.ensures.ok,
       refl,
       refl,
     )

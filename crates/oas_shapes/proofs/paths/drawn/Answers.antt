@@ -12,7 +12,8 @@ returns-in-Ok-clause-grid c =
     let begin : FitsSigned w64 c.args.brush.begin = search rules in
     let end : FitsSigned w64 c.args.brush.end = search rules in
     path_grid c.args.pair c.args.brush c.args.points.now c.args.offsets.now c.in-Ok.shapes.items c.requires.offsets
-    (path_items c.args.pair c.args.brush c.args.points.now c.args.offsets.now c.in-Ok.shapes.items (simp to_z-of_z at c.in-Ok.ensures.none) (simp to_z-of_z at c.in-Ok.ensures.shapes))
+    (path_items c.args.pair c.args.brush c.args.points.now c.args.offsets.now c.in-Ok.shapes.items
+    (simp to_z-of_z at c.in-Ok.ensures.none) (simp to_z-of_z at c.in-Ok.ensures.shapes))
     c.in-Ok.ensures.outlines
 
 pub returns-in-Ok-clause-kept : goal.returns-in-Ok-clause-kept

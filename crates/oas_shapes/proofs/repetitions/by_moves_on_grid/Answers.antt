@@ -10,4 +10,6 @@ use Rattle.oas_shapes.proofs.repetitions.by_moves_on_grid.Goals as goal
 pub listed-requires : goal.listed-requires
 listed-requires c = λ yes.
     subst AreOffsets (sym (c.as_slice.ensures ∙ c.in-Ok.ensures.places))
-    (are_offsets (places_along origin (map (enlarged c.args.grid) c.args.moves.now)) (some_places origin (map (enlarged c.args.grid) c.args.moves.now)) (subst AreNear c.in-Ok.ensures.places c.in-Ok.ensures.near))
+    (are_offsets (places_along origin (map (enlarged c.args.grid) c.args.moves.now))
+    (some_places origin (map (enlarged c.args.grid) c.args.moves.now))
+    (subst AreNear c.in-Ok.ensures.places c.in-Ok.ensures.near))

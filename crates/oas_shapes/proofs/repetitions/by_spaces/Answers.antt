@@ -11,4 +11,7 @@ use Rattle.oas_shapes.proofs.repetitions.by_spaces.Goals as goal
 pub listed-requires : goal.listed-requires
 listed-requires c = λ yes.
     subst AreOffsets (sym (c.as_slice.ensures ∙ c.in-Ok.ensures.places))
-    (are_offsets (places_along origin (map (λ space. enlarged c.args.grid (towards c.args.is_upright space)) c.args.spaces.now)) (some_places origin (map (λ space. enlarged c.args.grid (towards c.args.is_upright space)) c.args.spaces.now)) (subst AreNear c.in-Ok.ensures.places c.in-Ok.ensures.near))
+    (are_offsets (places_along origin
+    (map (λ space. enlarged c.args.grid (towards c.args.is_upright space)) c.args.spaces.now))
+    (some_places origin (map (λ space. enlarged c.args.grid (towards c.args.is_upright space)) c.args.spaces.now))
+    (subst AreNear c.in-Ok.ensures.places c.in-Ok.ensures.near))

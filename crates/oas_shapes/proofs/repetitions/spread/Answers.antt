@@ -30,7 +30,8 @@ returns-in-ColumnSpaces-clause-ok c =
 pub returns-in-ColumnSpaces-clause-far : goal.returns-in-ColumnSpaces-clause-far
 returns-in-ColumnSpaces-clause-far c =
     let places : List ℕ → List Point = λ xs. places_along origin (map north xs) in
-    arm_far c.args.repetition.now (places c.as_slice-in-ColumnSpaces.result.now) _ (ap places c.as_slice-in-ColumnSpaces.ensures ∙ sym (ap steps_of c.in-ColumnSpaces.is))
+    arm_far c.args.repetition.now (places c.as_slice-in-ColumnSpaces.result.now) _
+    (ap places c.as_slice-in-ColumnSpaces.ensures ∙ sym (ap steps_of c.in-ColumnSpaces.is))
     c.by_own_spaces-in-ColumnSpaces.ensures.far
 
 pub returns-in-RowOnGrid-clause-ok : goal.returns-in-RowOnGrid-clause-ok
@@ -42,7 +43,8 @@ returns-in-RowOnGrid-clause-ok c =
 pub returns-in-RowOnGrid-clause-far : goal.returns-in-RowOnGrid-clause-far
 returns-in-RowOnGrid-clause-far c =
     let places : List ℕ → List Point = λ xs. places_along origin (map (λ space. enlarged c.in-RowOnGrid.grid (east space)) xs) in
-    arm_far c.args.repetition.now (places c.as_slice-in-RowOnGrid.result.now) _ (ap places c.as_slice-in-RowOnGrid.ensures ∙ sym (ap steps_of c.in-RowOnGrid.is))
+    arm_far c.args.repetition.now (places c.as_slice-in-RowOnGrid.result.now) _
+    (ap places c.as_slice-in-RowOnGrid.ensures ∙ sym (ap steps_of c.in-RowOnGrid.is))
     c.by_spaces.ensures.far
 
 pub returns-in-ColumnOnGrid-clause-ok : goal.returns-in-ColumnOnGrid-clause-ok
@@ -54,7 +56,8 @@ returns-in-ColumnOnGrid-clause-ok c =
 pub returns-in-ColumnOnGrid-clause-far : goal.returns-in-ColumnOnGrid-clause-far
 returns-in-ColumnOnGrid-clause-far c =
     let places : List ℕ → List Point = λ xs. places_along origin (map (λ space. enlarged c.in-ColumnOnGrid.grid (north space)) xs) in
-    arm_far c.args.repetition.now (places c.as_slice-in-ColumnOnGrid.result.now) _ (ap places c.as_slice-in-ColumnOnGrid.ensures ∙ sym (ap steps_of c.in-ColumnOnGrid.is))
+    arm_far c.args.repetition.now (places c.as_slice-in-ColumnOnGrid.result.now) _
+    (ap places c.as_slice-in-ColumnOnGrid.ensures ∙ sym (ap steps_of c.in-ColumnOnGrid.is))
     c.by_spaces-in-ColumnOnGrid.ensures.far
 
 pub returns-in-Moves-clause-ok : goal.returns-in-Moves-clause-ok
@@ -78,7 +81,8 @@ returns-in-MovesOnGrid-clause-ok c =
 pub returns-in-MovesOnGrid-clause-far : goal.returns-in-MovesOnGrid-clause-far
 returns-in-MovesOnGrid-clause-far c =
     let places : List Point → List Point = λ xs. places_along origin (map (enlarged c.in-MovesOnGrid.grid) xs) in
-    arm_far c.args.repetition.now (places c.as_slice-in-MovesOnGrid.result.now) _ (ap places c.as_slice-in-MovesOnGrid.ensures ∙ sym (ap steps_of c.in-MovesOnGrid.is))
+    arm_far c.args.repetition.now (places c.as_slice-in-MovesOnGrid.result.now) _
+    (ap places c.as_slice-in-MovesOnGrid.ensures ∙ sym (ap steps_of c.in-MovesOnGrid.is))
     c.by_moves_on_grid.ensures.far
 
 pub returns-in-Same-clause-ok : goal.returns-in-Same-clause-ok

@@ -55,19 +55,22 @@ pub returns-clause-near : goal.returns-clause-near
 returns-clause-near c =
     let items = c.args.changes.now in
     let whole = places_along c.args.start (added_up origin items) in
-    let t = subst (λ xs. IsTrail whole c.loop-change.trail (added_up c.loop-change.way xs)) (drop_all c.loop-change.change-index items (omega arith)) c.loop-change.invariant in
+    let t = subst (λ xs. IsTrail whole c.loop-change.trail (added_up c.loop-change.way xs))
+    (drop_all c.loop-change.change-index items (omega arith)) c.loop-change.invariant in
     finished_near whole c.finish.result (c.finish.ensures.near whole t) (c.finish.ensures.places whole t)
 
 pub returns-clause-few : goal.returns-clause-few
 returns-clause-few c = λ few.
     let items = c.args.changes.now in
     let whole = places_along c.args.start (added_up origin items) in
-    let t = subst (λ xs. IsTrail whole c.loop-change.trail (added_up c.loop-change.way xs)) (drop_all c.loop-change.change-index items (omega arith)) c.loop-change.invariant in
+    let t = subst (λ xs. IsTrail whole c.loop-change.trail (added_up c.loop-change.way xs))
+    (drop_all c.loop-change.change-index items (omega arith)) c.loop-change.invariant in
     no_refusal _ c.finish.result (c.finish.ensures.few whole t (few_changes c.args.start origin items few))
 
 pub returns-clause-room : goal.returns-clause-room
 returns-clause-room c =
     let items = c.args.changes.now in
     let whole = places_along c.args.start (added_up origin items) in
-    let t = subst (λ xs. IsTrail whole c.loop-change.trail (added_up c.loop-change.way xs)) (drop_all c.loop-change.change-index items (omega arith)) c.loop-change.invariant in
+    let t = subst (λ xs. IsTrail whole c.loop-change.trail (added_up c.loop-change.way xs))
+    (drop_all c.loop-change.change-index items (omega arith)) c.loop-change.invariant in
     c.finish.ensures.room whole t

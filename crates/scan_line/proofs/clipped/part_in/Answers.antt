@@ -10,4 +10,5 @@ returns c =
     let top : FitsSigned w64 c.rows_in-rows.result.y1 = search rules in
     let lt : c.rows_in-rows.result.y0 <ℤ c.rows_in-rows.result.y1 = search rules in
     let made = simp to_z-of_z at c.new.ensures in
-    part_some _ _ c.rows_in-rows.result _ c.line.ensures.edge rows.bottom rows.top lt (rw (c.line.ensures.value, c.is_up.ensures.value, c.operand.ensures.value) at made)
+    part_some _ _ c.rows_in-rows.result _ c.line.ensures.edge rows.bottom rows.top lt
+    (rw (c.line.ensures.value, c.is_up.ensures.value, c.operand.ensures.value) at made)

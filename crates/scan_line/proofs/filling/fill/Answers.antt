@@ -5,7 +5,9 @@ use Rattle.scan_line.proofs.filling.fill.Goals as goal
 
 pub loop-edge-init : goal.loop-edge-init
 loop-edge-init g c = record {
-  filling = filling_none _ _ _ _ _ _ c.requires.rule c.requires.balanced (search rules) (rw c.clear.ensures.capacity c.requires.room) c.none-windings.ensures.a c.none-windings.ensures.b c.clear.ensures.items;
+  filling = filling_none _ _ _ _ _ _ c.requires.rule c.requires.balanced (search rules)
+      (rw c.clear.ensures.capacity c.requires.room) c.none-windings.ensures.a c.none-windings.ensures.b
+      c.clear.ensures.items;
   room = c.clear.ensures.capacity;
 }
 
@@ -25,10 +27,13 @@ pub loop-edge-preserved-then-not-goes_on : goal.loop-edge-preserved-then-not-goe
 loop-edge-preserved-then-not-goes_on g c =
     let own : c.line.result ≡ c.in-Some.edge.now.line = c.line.ensures.value in
     let here : c.line-then-not-goes_on.result ≡ c.in-Some.edge.now.line = c.line-then-not-goes_on.ensures.value in
-    let off : BeginsOn c.in-Some.edge.now.line c.in-Some.rest.now → ⊥ = λ on. not_both _ c.if-not-goes_on.true (c.goes_on.ensures.1 (on_line _ _ _ (sym own) on)) in
+    let off : BeginsOn c.in-Some.edge.now.line c.in-Some.rest.now
+    → ⊥ = λ on. not_both _ c.if-not-goes_on.true (c.goes_on.ensures.1 (on_line _ _ _ (sym own) on)) in
     let turns = rw here at c.turn.ensures.items in
     record {
-      filling = filling_last _ _ _ _ _ _ _ _ _ _ _ _ _ _ c.turn.ensures.room c.requires.rule c.loop-edge.invariant.filling c.in-Some.ensures.cases.0 c.past-windings.ensures.a c.past-windings.ensures.b off c.takes-taken.ensures turns;
+      filling = filling_last _ _ _ _ _ _ _ _ _ _ _ _ _ _ c.turn.ensures.room c.requires.rule
+          c.loop-edge.invariant.filling c.in-Some.ensures.cases.0 c.past-windings.ensures.a c.past-windings.ensures.b
+          off c.takes-taken.ensures turns;
       room = c.turn.ensures.room ∙ c.loop-edge.invariant.room;
     }
 
@@ -37,7 +42,8 @@ loop-edge-preserved g c =
     let own : c.line.result ≡ c.in-Some.edge.now.line = c.line.ensures.value in
     let on : BeginsOn c.in-Some.edge.now.line c.in-Some.rest.now = on_line _ _ _ own (c.goes_on.ensures.0 c.if-not-goes_on.false) in
     record {
-      filling = filling_same_line _ _ _ _ _ _ _ _ _ _ c.loop-edge.invariant.filling c.in-Some.ensures.cases.0 c.past-windings.ensures.a c.past-windings.ensures.b on;
+      filling = filling_same_line _ _ _ _ _ _ _ _ _ _ c.loop-edge.invariant.filling c.in-Some.ensures.cases.0
+          c.past-windings.ensures.a c.past-windings.ensures.b on;
       room = c.loop-edge.invariant.room;
     }
 

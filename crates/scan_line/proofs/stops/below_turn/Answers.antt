@@ -8,4 +8,6 @@ returns-in-Some-clause-top c =
     let item = c.in-Some.ensures.item in
     let fits : FitsSigned w64 c.y1.result = search rules in
     let cut = simp to_z-of_z at c.up_to-whole.ensures.top in
-    turn_of_two c.args.edge.now c.in-Some.next.now c.args.rest.now c.args.slab.y1 c.up_to-whole.result.y1 c.below_meeting.result.y1 (rw (← c.y1.ensures.value) cut) c.below_meeting.ensures.top (0, item.3.0, sym (item.3.1 _))
+    turn_of_two c.args.edge.now c.in-Some.next.now c.args.rest.now c.args.slab.y1 c.up_to-whole.result.y1
+    c.below_meeting.result.y1 (rw (← c.y1.ensures.value) cut) c.below_meeting.ensures.top
+    (0, item.3.0, sym (item.3.1 _))

@@ -9,7 +9,8 @@ use Rattle.scan_line.proofs.tests.add_pair.Goals as goal
 one_more : (p : EdgeParts → Bool) (edges : List EdgeParts) (e : EdgeParts) → count_by p (edges ++ e ∷ []) ≡ count_by p edges + cond (p e) 1 0
 one_more p edges e = let all = sum_by-append (λ (x : EdgeParts). cond (p x) 1 0) edges (e ∷ []) in omega (arith, all)
 
-pair : (own up row : Bool) → cond {A = ℕ} (own && (up && row)) 1 0 + cond (own && (not up && row)) 1 0 ≡ cond (own && (not up && row)) 1 0 + cond (own && (not (not up) && row)) 1 0
+pair : (own up row : Bool) → cond {A = ℕ} (own && (up && row)) 1 0 + cond (own && (not up && row)) 1 0 ≡ cond
+    (own && (not up && row)) 1 0 + cond (own && (not (not up) && row)) 1 0
 pair true true true = refl
 pair true true false = refl
 pair true false true = refl
@@ -17,7 +18,8 @@ pair true false false = refl
 pair false up row = refl
 
 -- an edge up and an edge down over the same rows
-both : (edges one two : List EdgeParts) (e f : EdgeParts) → one ≡ edges ++ e ∷ [] → two ≡ one ++ f ∷ [] → e.y0 ≡ f.y0 → e.y1 ≡ f.y1 → e.operand ≡ f.operand → f.up ≡ not e.up
+both : (edges one two : List EdgeParts) (e f : EdgeParts) → one ≡ edges ++ e ∷ [] → two ≡ one ++ f ∷ [] → e.y0 ≡ f.y0
+    → e.y1 ≡ f.y1 → e.operand ≡ f.operand → f.up ≡ not e.up
     → ((window : RowRange) → IsBalanced edges window) → (window : RowRange) → IsBalanced two window
 both edges one two e f e1 e2 y0 y1 own turned h window o j a b =
     let before = h window o j a b in
@@ -27,7 +29,8 @@ both edges one two e f e1 e2 y0 y1 own turned h window o j a b =
     let u2 = ap (count_by ups) e2 ∙ one_more ups one f in
     let d1 = ap (count_by downs) e1 ∙ one_more downs edges e in
     let d2 = ap (count_by downs) e2 ∙ one_more downs one f in
-    let same : cond {A = ℕ} (ups e) 1 0 + cond (ups f) 1 0 ≡ cond (downs e) 1 0 + cond (downs f) 1 0 = rw (y0, y1, own, turned) (pair (is_of o f.operand) e.up (int_le f.y0 j && int_lt j f.y1)) in
+    let same : cond {A = ℕ} (ups e) 1 0 + cond (ups f) 1 0 ≡ cond (downs e) 1 0 + cond (downs f) 1 0 = rw
+    (y0, y1, own, turned) (pair (is_of o f.operand) e.up (int_le f.y0 j && int_lt j f.y1)) in
     omega (arith, before, u1, u2, d1, d2, same)
 
 pub returns : goal.returns

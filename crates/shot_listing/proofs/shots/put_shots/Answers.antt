@@ -11,7 +11,9 @@ pub returns-in_err-put_line-clause-refused : goal.returns-in_err-put_line-clause
 returns-in_err-put_line-clause-refused g c =
     let at = g.D.Depot.content in
     let l = c.loop-shot in
-    refused c.from_residual.result _ (λ told. part_of_texts (at c.put_line.new.depot) shot_line c.args.buffer.now c.args.shots.now l.shot-index (l.invariant.said told) (c.in_err-put_line.ensures.refused told))
+    refused c.from_residual.result _
+    (λ told. part_of_texts (at c.put_line.new.depot) shot_line c.args.buffer.now c.args.shots.now l.shot-index
+    (l.invariant.said told) (c.in_err-put_line.ensures.refused told))
 
 pub loop-shot-preserved : goal.loop-shot-preserved
 loop-shot-preserved g c =
@@ -25,7 +27,9 @@ loop-shot-preserved g c =
           ∙ ap (λ n. triangles_of (take l.shot-index xs) + n) (c.triangles_in-triangles.ensures.value ∙ ap triangles_in c.shot-item.is)
           ∙ sym (sum_by_more triangles_in xs l.shot-index z c.loop-shot-test.true);
       few = search rules;
-      said = λ told. subst (λ (t : List ℕ). IsSaidButFor (at c.args.depot.now) t c.put_line.new.buffer (at c.put_line.new.depot)) (texts_more shot_line c.args.buffer.now xs l.shot-index z more)
+      said = λ told. subst
+          (λ (t : List ℕ). IsSaidButFor (at c.args.depot.now) t c.put_line.new.buffer (at c.put_line.new.depot))
+          (texts_more shot_line c.args.buffer.now xs l.shot-index z more)
           (said_then (shot_line z) (l.invariant.said told) (c.in_ok-put_line.ensures.ok told));
       uncounted = c.in_ok-put_line.ensures.counts.uncounted ∙ l.invariant.uncounted;
       counted = search rules;

@@ -10,7 +10,8 @@ invariant-loop-shot g l = record {
   triangles : l.triangles ≡ triangles_of (take l.shot-index l.shots);
   few : l.triangles ≤ l.shot-index * 2 ^ 91;
   said : IsTrue g.D.Depot.tells
-      → IsSaidButFor (g.D.Depot.content l.initial.depot) (l.initial.buffer ++ flat_map shot_line (take l.shot-index l.shots)) l.buffer (g.D.Depot.content l.depot);
+      → IsSaidButFor (g.D.Depot.content l.initial.depot)
+      (l.initial.buffer ++ flat_map shot_line (take l.shot-index l.shots)) l.buffer (g.D.Depot.content l.depot);
   uncounted : g.D.Depot.counts l.depot ≡ g.D.Depot.counts l.initial.depot;
   counted : NeverFall (g.D.Depot.counts l.initial.depot) (g.D.Depot.counts l.depot);
 }

@@ -7,7 +7,8 @@ use Rattle.shot_output.proofs.bands.put_bands.Given as goal
 
 abbrev pub invariant-loop-deck : goal.invariant-loop-deck
 invariant-loop-deck g l = record {
-  put : IsPutBelow l.fn.plan l.fn.output l.band (pair_of l.fn.writer) g.D.Depot.tells (g.D.Depot.content l.fn.depot) (g.D.Depot.content l.depot) (sums_of l.writer);
+  put : IsPutBelow l.fn.plan l.fn.output l.band (pair_of l.fn.writer) g.D.Depot.tells (g.D.Depot.content l.fn.depot)
+      (g.D.Depot.content l.depot) (sums_of l.writer);
   areas : AreAreasOf l.plan l.output l.areas;
   pair : pair_of l.writer ≡ pair_of l.fn.writer;
   kept : refusal_of l.writer ≡ None;

@@ -8,7 +8,9 @@ pub returns-then-not-are_near-clause-all : goal.returns-then-not-are_near-clause
 returns-then-not-are_near-clause-all c = λ z shot h. c.if-not-are_near.ensures.1 (near_fields c.args.fields.now z shot h)
 
 pub returns-clause-some : goal.returns-clause-some
-returns-clause-some c = some_by c.trap_with.result (λ z. IsShot z × IsCornered c.corners_of.result z) (λ z. IsShot z × HasShape c.args.fields.now z) (λ z p. (p.0, shaped c.args.fields.now c.corners_of.result z p.1 c.corners_of.ensures)) c.trap_with.ensures.some
+returns-clause-some c = some_by c.trap_with.result (λ z. IsShot z × IsCornered c.corners_of.result z)
+    (λ z. IsShot z × HasShape c.args.fields.now z)
+    (λ z p. (p.0, shaped c.args.fields.now c.corners_of.result z p.1 c.corners_of.ensures)) c.trap_with.ensures.some
 
 pub returns-clause-all : goal.returns-clause-all
 returns-clause-all c = λ z shot h. c.trap_with.ensures.all z shot (cornered c.args.fields.now c.corners_of.result z shot h c.corners_of.ensures)

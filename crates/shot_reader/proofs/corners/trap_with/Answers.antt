@@ -12,5 +12,7 @@ returns-clause-all c = λ z shot k.
     let left = c.in_ok-left.ensures.through in
     let right = c.in_ok-right.ensures.through in
     let own : IsShot (trapezoid c.args.corners.now.bottom_left.y c.args.corners.now.top_left.y c.in_ok-left.left c.in_ok-right.right) =
-    subst (λ (t : Trapezoid). IsShot t) (sym (same_trap c.args.corners.now z c.in_ok-left.left c.in_ok-right.right shot k left.0 left.1 right.0 right.1)) shot in
+    subst (λ (t : Trapezoid). IsShot t)
+    (sym (same_trap c.args.corners.now z c.in_ok-left.left c.in_ok-right.right shot k left.0 left.1 right.0
+    right.1)) shot in
     search rules

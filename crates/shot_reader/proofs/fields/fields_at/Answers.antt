@@ -24,8 +24,12 @@ returns-clause-spelled c = λ inside.
     let id : c.byte_at-id.result ≡ id_for c.delta_at-left_delta.result.0 c.delta_at-right_delta.result.0 = sym same ∙ rw (left, right) at c.id_for.ensures in
     let y = c.signed_at-y.ensures.spelled within in
     let x = c.signed_at-x.ensures.spelled (omega (arith, within, y.0)) in
-    let r = c.delta_at-right_delta.ensures.spelled (omega (arith, within, y.0, x.0)) (right_there c.delta_at-left_delta.result.0 c.delta_at-right_delta.result.0 c.byte_at-id.result c.has_right.result id c.has_right.ensures) in
-    let l = c.delta_at-left_delta.ensures.spelled (omega (arith, within, y.0, x.0, r.0)) (left_there c.delta_at-left_delta.result.0 c.delta_at-right_delta.result.0 c.byte_at-id.result c.has_left.result id c.has_left.ensures) in
+    let r = c.delta_at-right_delta.ensures.spelled (omega (arith, within, y.0, x.0))
+    (right_there c.delta_at-left_delta.result.0 c.delta_at-right_delta.result.0 c.byte_at-id.result
+    c.has_right.result id c.has_right.ensures) in
+    let l = c.delta_at-left_delta.ensures.spelled (omega (arith, within, y.0, x.0, r.0))
+    (left_there c.delta_at-left_delta.result.0 c.delta_at-right_delta.result.0 c.byte_at-id.result
+    c.has_left.result id c.has_left.ensures) in
     let h = c.unsigned_at-height.ensures.spelled (omega (arith, within, y.0, x.0, r.0, l.0)) in
     let w = c.unsigned_at-width.ensures.spelled (omega (arith, within, y.0, x.0, r.0, l.0, h.0)) in
     let b = c.unsigned_at-datatype.ensures.spelled (omega (arith, within, y.0, x.0, r.0, l.0, h.0, w.0)) in
@@ -35,7 +39,9 @@ returns-clause-spelled c = λ inside.
     let info : c.byte_after-info.result ≡ 123 = (Decides-eqb c.byte_after-info.result 123).0 opened.0 in (
       omega (arith, ends.1, y.0, x.0, r.0, l.0, h.0, w.0, b.0, a.0, opened.1),
       rw (left, right, to_z-of_z w64 c.signed_at-x.result.0 fx, to_z-of_z w64 c.signed_at-y.result.0 fy)
-          (spelled_record _ c.args.bytes.now c.args.at _ _ _ _ _ _ _ _ _ (sym c.byte_at-id.ensures ∙ id) opened.1 (sym c.byte_after-info.ensures ∙ info) start a.1 b.1 w.1 h.1 l.1 r.1 x.1 (y.1 ∙ ap (λ n. signed_text c.signed_at-y.result.0 ++ drop n c.args.bytes.now) (sym ends.1))),
+          (spelled_record _ c.args.bytes.now c.args.at _ _ _ _ _ _ _ _ _ (sym c.byte_at-id.ensures ∙ id) opened.1
+          (sym c.byte_after-info.ensures ∙ info) start a.1 b.1 w.1 h.1 l.1 r.1 x.1
+          (y.1 ∙ ap (λ n. signed_text c.signed_at-y.result.0 ++ drop n c.args.bytes.now) (sym ends.1))),
     )
 
 pub returns-clause-read : goal.returns-clause-read
@@ -50,8 +56,12 @@ returns-clause-read c = λ f after narrow e.
     let b = c.unsigned_at-datatype.ensures.read f.datatype _ narrow.datatype a.2 a.1 in
     let w = c.unsigned_at-width.ensures.read f.width _ narrow.width b.2 b.1 in
     let h = c.unsigned_at-height.ensures.read f.height _ narrow.height w.2 w.1 in
-    let lefts = c.delta_at-left_delta.ensures.read f.left_delta _ narrow.left (left_there f.left_delta f.right_delta c.byte_at-id.result c.has_left.result id c.has_left.ensures) h.2 h.1 in
-    let rights = c.delta_at-right_delta.ensures.read f.right_delta _ narrow.right (right_there f.left_delta f.right_delta c.byte_at-id.result c.has_right.result id c.has_right.ensures) lefts.2 lefts.1 in
+    let lefts = c.delta_at-left_delta.ensures.read f.left_delta _ narrow.left
+    (left_there f.left_delta f.right_delta c.byte_at-id.result c.has_left.result id c.has_left.ensures) h.2 h.1
+    in
+    let rights = c.delta_at-right_delta.ensures.read f.right_delta _ narrow.right
+    (right_there f.left_delta f.right_delta c.byte_at-id.result c.has_right.result id c.has_right.ensures)
+    lefts.2 lefts.1 in
     let xs = c.signed_at-x.ensures.read f.x _ narrow.x rights.2 rights.1 in
     let ys = c.signed_at-y.ensures.read f.y after narrow.y xs.2 xs.1 in
     let fl : FitsSigned w64 c.delta_at-left_delta.result.0 = search rules in
@@ -61,8 +71,11 @@ returns-clause-read c = λ f after narrow e.
     let left = to_z-of_z w64 c.delta_at-left_delta.result.0 fl in
     let right = to_z-of_z w64 c.delta_at-right_delta.result.0 fr in
     let same : c.id_for.result ≡ c.byte_at-id.result =
-    sym (id ∙ (ap (λ (z : ℤ). id_for z f.right_delta) (sym lefts.0) ∙ (ap (id_for c.delta_at-left_delta.result.0) (sym rights.0) ∙ sym (rw (left, right) at c.id_for.ensures)))) in
+    sym (id ∙ (ap (λ (z : ℤ). id_for z f.right_delta)
+    (sym lefts.0) ∙ (ap (id_for c.delta_at-left_delta.result.0) (sym rights.0) ∙ sym
+    (rw (left, right) at c.id_for.ensures)))) in
     let last = c.end_where-next.ensures.all ((Decides-eqb c.id_for.result c.byte_at-id.result).1 same) in (
-      same_fields _ f a.0 b.0 w.0 h.0 (left ∙ lefts.0) (right ∙ rights.0) (to_z-of_z w64 c.signed_at-x.result.0 fx ∙ xs.0) (to_z-of_z w64 c.signed_at-y.result.0 fy ∙ ys.0),
+      same_fields _ f a.0 b.0 w.0 h.0 (left ∙ lefts.0) (right ∙ rights.0)
+          (to_z-of_z w64 c.signed_at-x.result.0 fx ∙ xs.0) (to_z-of_z w64 c.signed_at-y.result.0 fy ∙ ys.0),
       omega (arith, ys.2, last),
     )

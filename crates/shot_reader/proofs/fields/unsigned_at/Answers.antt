@@ -11,7 +11,8 @@ is_short-requires-clause-some c = has_after c.args.bytes.now c.args.at c.in-Ok.v
 pub returns-then-is_short-clause-spelled : goal.returns-then-is_short-clause-spelled
 returns-then-is_short-clause-spelled c = λ within. (
   has_after c.args.bytes.now c.args.at c.in-Ok.value c.in-Ok.next c.in-Ok.ensures.ok,
-  short_spelled c.args.bytes.now c.args.at c.in-Ok.value c.in-Ok.next (λ i. omega (arith, c.type_inv.bytes i)) c.in-Ok.ensures.ok (c.is_short.ensures.0 c.if-is_short.true),
+  short_spelled c.args.bytes.now c.args.at c.in-Ok.value c.in-Ok.next
+      (λ i. omega (arith, c.type_inv.bytes i)) c.in-Ok.ensures.ok (c.is_short.ensures.0 c.if-is_short.true),
 )
 
 pub returns-then-is_short-clause-read : goal.returns-then-is_short-clause-read

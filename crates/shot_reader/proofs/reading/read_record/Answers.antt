@@ -14,4 +14,5 @@ pub returns-in-Some-clause-found : goal.returns-in-Some-clause-found
 returns-in-Some-clause-found c =
     let spelled = c.fields_at-next.ensures.spelled (omega (arith, c.if-bytes-next.false)) in
     let f = c.fields_at-next.result.0 in
-    spelled.1 ∙ ap (λ t. t ++ drop c.fields_at-next.result.1 c.args.bytes.now) (ap text_of c.in-Some.ensures.some.1 ∙ sym (spelling_is f.layer f.datatype c.in-Some.shot))
+    spelled.1 ∙ ap (λ t. t ++ drop c.fields_at-next.result.1 c.args.bytes.now)
+    (ap text_of c.in-Some.ensures.some.1 ∙ sym (spelling_is f.layer f.datatype c.in-Some.shot))

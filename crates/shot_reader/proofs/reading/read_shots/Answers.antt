@@ -39,7 +39,9 @@ returns-in_default-clause-every_fault c = told c.args.bytes.now _ _ refl (no_hea
 
 record_fault : (c : goal.After-drop-shots-inside) → IsFirstFault c.args.bytes.now c.in_err-record.field-0.0
 record_fault c =
-    read_fault c.args.bytes.now c.in-Some.first c.loop-at.at c.in-Some.unit c.loop-at.pair c.loop-at.shots _ c.in-Some.ensures.found.0 c.loop-at.invariant.within c.in-Some.ensures.found.2 c.loop-at.invariant.pair c.loop-at.invariant.legal c.loop-at.invariant.found
+    read_fault c.args.bytes.now c.in-Some.first c.loop-at.at c.in-Some.unit c.loop-at.pair c.loop-at.shots _
+    c.in-Some.ensures.found.0 c.loop-at.invariant.within c.in-Some.ensures.found.2 c.loop-at.invariant.pair
+    c.loop-at.invariant.legal c.loop-at.invariant.found
     c.in_err-record.ensures.refused
 
 pub returns-in_err-record-clause-refused : goal.returns-in_err-record-clause-refused
@@ -63,7 +65,10 @@ loop-at-preserved c =
       within = c.in_ok-record.ensures.next.1;
       pair = (λ w. not_nil c.loop-at.shots z (sym pushed ∙ w), c.in_ok-record.ensures.pair.0);
       legal = subst (λ (zs : List Trapezoid). All IsShot zs) (sym pushed) (all_more c.loop-at.shots z c.loop-at.invariant.legal c.in_ok-record.ensures.shot);
-      found = found_next c.loop-at.pair m e c.loop-at.shots z (drop c.in-Some.first c.args.bytes.now) (drop c.loop-at.at c.args.bytes.now) (drop c.in_ok-record.record.next c.args.bytes.now) c.loop-at.invariant.pair c.in_ok-record.ensures.pair.1 c.loop-at.invariant.found c.in_ok-record.ensures.found
+      found = found_next c.loop-at.pair m e c.loop-at.shots z (drop c.in-Some.first c.args.bytes.now)
+          (drop c.loop-at.at c.args.bytes.now)
+          (drop c.in_ok-record.record.next c.args.bytes.now) c.loop-at.invariant.pair c.in_ok-record.ensures.pair.1
+          c.loop-at.invariant.found c.in_ok-record.ensures.found
           ∙ ap (λ (zs : List Trapezoid). flat_map (spelling_of m e) zs ++ drop c.in_ok-record.record.next c.args.bytes.now) (sym pushed);
     }
 
@@ -71,8 +76,11 @@ loop-at-preserved c =
 
 cut : (c : goal.After-drop-shots-inside-then-at-bytes) → IsFirstFault c.args.bytes.now (faults.Record c.loop-at.at)
 cut c =
-    read_fault c.args.bytes.now c.in-Some.first c.loop-at.at c.in-Some.unit c.loop-at.pair c.loop-at.shots _ c.in-Some.ensures.found.0 c.loop-at.invariant.within c.in-Some.ensures.found.2 c.loop-at.invariant.pair c.loop-at.invariant.legal c.loop-at.invariant.found
-    (cut_fault c.loop-at.pair (drop c.loop-at.at c.args.bytes.now) c.loop-at.at (ap (λ (n : ℕ). drop n c.args.bytes.now) c.if-at-bytes.true ∙ drop-length c.args.bytes.now))
+    read_fault c.args.bytes.now c.in-Some.first c.loop-at.at c.in-Some.unit c.loop-at.pair c.loop-at.shots _
+    c.in-Some.ensures.found.0 c.loop-at.invariant.within c.in-Some.ensures.found.2 c.loop-at.invariant.pair
+    c.loop-at.invariant.legal c.loop-at.invariant.found
+    (cut_fault c.loop-at.pair (drop c.loop-at.at c.args.bytes.now) c.loop-at.at
+    (ap (λ (n : ℕ). drop n c.args.bytes.now) c.if-at-bytes.true ∙ drop-length c.args.bytes.now))
 
 pub returns-then-at-bytes-clause-refused : goal.returns-then-at-bytes-clause-refused
 returns-then-at-bytes-clause-refused c = λ unit l d shots h p all e. absurd (text_right c.args.bytes.now unit l d shots _ h p all e (cut c))
@@ -91,7 +99,9 @@ last c =
       | then-loop-at-test+else-bytes-at-ne-END w ↦ omega (arith, first_byte c.args.bytes.now c.loop-at.at, w.if-bytes-at-ne-END.false)
       | else-loop-at-test w ↦ absurd (omega (arith, w.loop-at-test.false, c.if-at-bytes.false, c.loop-at.invariant.within))
     ] in
-    read_fault c.args.bytes.now c.in-Some.first c.loop-at.at c.in-Some.unit c.loop-at.pair c.loop-at.shots _ c.in-Some.ensures.found.0 c.loop-at.invariant.within c.in-Some.ensures.found.2 c.loop-at.invariant.pair c.loop-at.invariant.legal c.loop-at.invariant.found
+    read_fault c.args.bytes.now c.in-Some.first c.loop-at.at c.in-Some.unit c.loop-at.pair c.loop-at.shots _
+    c.in-Some.ensures.found.0 c.loop-at.invariant.within c.in-Some.ensures.found.2 c.loop-at.invariant.pair
+    c.loop-at.invariant.legal c.loop-at.invariant.found
     (end_fault c.loop-at.pair (drop c.loop-at.at c.args.bytes.now) c.loop-at.at two (λ e. let w = c.ends_at.ensures.1 e in absurd (cc)))
 
 pub returns-then-not-ends_at-clause-refused : goal.returns-then-not-ends_at-clause-refused
@@ -106,16 +116,24 @@ returns-then-not-ends_at-clause-every_fault c = told c.args.bytes.now _ _ refl (
 -- ---- a shot file
 
 pub returns-clause-found : goal.returns-clause-found
-returns-clause-found c = file_of c.args.bytes.now (drop c.in-Some.first c.args.bytes.now) (drop c.loop-at.at c.args.bytes.now) c.in-Some.unit c.loop-at.pair c.loop-at.shots c.in-Some.ensures.found.0 c.in-Some.ensures.found.2 c.loop-at.invariant.legal c.loop-at.invariant.pair c.loop-at.invariant.found (c.ends_at.ensures.0 c.if-not-ends_at.false)
+returns-clause-found c = file_of c.args.bytes.now (drop c.in-Some.first c.args.bytes.now)
+    (drop c.loop-at.at c.args.bytes.now) c.in-Some.unit c.loop-at.pair c.loop-at.shots c.in-Some.ensures.found.0
+    c.in-Some.ensures.found.2 c.loop-at.invariant.legal c.loop-at.invariant.pair c.loop-at.invariant.found
+    (c.ends_at.ensures.0 c.if-not-ends_at.false)
 
 pub returns-clause-read : goal.returns-clause-read
 returns-clause-read c = λ unit l d shots h p all e.
-    let same = text_read c.args.bytes.now c.loop-at.at c.loop-at.pair (up_to c.args.bytes.now c.in-Some.first c.loop-at.at c.in-Some.unit c.loop-at.pair c.loop-at.shots c.in-Some.ensures.found.0 c.loop-at.invariant.within c.in-Some.ensures.found.2 c.loop-at.invariant.pair c.loop-at.invariant.legal c.loop-at.invariant.found)
+    let same = text_read c.args.bytes.now c.loop-at.at c.loop-at.pair
+    (up_to c.args.bytes.now c.in-Some.first c.loop-at.at c.in-Some.unit c.loop-at.pair c.loop-at.shots
+    c.in-Some.ensures.found.0 c.loop-at.invariant.within c.in-Some.ensures.found.2 c.loop-at.invariant.pair
+    c.loop-at.invariant.legal c.loop-at.invariant.found)
     unit l d shots (c.ends_at.ensures.0 c.if-not-ends_at.false) h p all e in
     (same.0, same.1, same.2)
 
 pub returns-clause-every_fault : goal.returns-clause-every_fault
 returns-clause-every_fault c = λ bad w.
     absurd (no_fault c.args.bytes.now c.loop-at.at c.loop-at.pair bad
-    (up_to c.args.bytes.now c.in-Some.first c.loop-at.at c.in-Some.unit c.loop-at.pair c.loop-at.shots c.in-Some.ensures.found.0 c.loop-at.invariant.within c.in-Some.ensures.found.2 c.loop-at.invariant.pair c.loop-at.invariant.legal c.loop-at.invariant.found)
+    (up_to c.args.bytes.now c.in-Some.first c.loop-at.at c.in-Some.unit c.loop-at.pair c.loop-at.shots
+    c.in-Some.ensures.found.0 c.loop-at.invariant.within c.in-Some.ensures.found.2 c.loop-at.invariant.pair
+    c.loop-at.invariant.legal c.loop-at.invariant.found)
     (c.ends_at.ensures.0 c.if-not-ends_at.false) w)

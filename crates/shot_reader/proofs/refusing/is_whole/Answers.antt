@@ -10,7 +10,9 @@ returns-in-Some-clause-yes c = λ yes.
 pub returns-in-Some-clause-all : goal.returns-in-Some-clause-all
 returns-in-Some-clause-all c = λ w.
     let s : Shown c.args.rest.now = whole_shown c.args.rest.now w in
-    le_true c.in-Some.count s.count c.ends_in.result _ (some_one c.in-Some.count s.count (c.in-Some.ensures.all s.count s.has)) (ends_is c.args.rest.now c.ends_in.result c.ends_in.ensures) s.enough
+    le_true c.in-Some.count s.count c.ends_in.result _
+    (some_one c.in-Some.count s.count (c.in-Some.ensures.all s.count s.has))
+    (ends_is c.args.rest.now c.ends_in.result c.ends_in.ensures) s.enough
 
 pub returns-in-None-clause-all : goal.returns-in-None-clause-all
 returns-in-None-clause-all c = λ w.

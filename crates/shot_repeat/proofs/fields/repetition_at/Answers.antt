@@ -19,11 +19,14 @@ pub returns-clause-spelled : goal.returns-clause-spelled
 returns-clause-spelled c = λ inside.
     let steps = c.steps_at-next.ensures.spelled inside in (
       omega (arith, steps.0),
-      drop_more c.args.bytes.now c.args.at 0 (omega (arith, c.if-bytes-at.false)) ∙ (ap (λ (x : ℕ). x ∷ drop (c.args.at + 1) c.args.bytes.now) c.if-bytes-at-ne-KIND.false ∙ ap (λ t. 9 ∷ t) steps.1),
+      drop_more c.args.bytes.now c.args.at 0 (omega (arith, c.if-bytes-at.false))
+          ∙ (ap (λ (x : ℕ). x ∷ drop (c.args.at + 1) c.args.bytes.now) c.if-bytes-at-ne-KIND.false ∙ ap
+          (λ t. 9 ∷ t) steps.1),
     )
 
 pub returns-clause-read : goal.returns-clause-read
 returns-clause-read c = λ field after narrow there h e.
     let some = some_repetition field (drop c.args.at c.args.bytes.now) after narrow (sym c.if-not-is_there.false ∙ there) e in
-    let own = c.steps_at-next.ensures.read some.0 after some.1 (omega (arith, c.if-bytes-at.false)) (sym (drop-drop 1 c.args.at c.args.bytes.now) ∙ ap (drop 1) some.3) in
+    let own = c.steps_at-next.ensures.read some.0 after some.1 (omega (arith, c.if-bytes-at.false))
+    (sym (drop-drop 1 c.args.at c.args.bytes.now) ∙ ap (drop 1) some.3) in
     (ap Some own.0 ∙ sym some.2, own.1, own.2)

@@ -22,7 +22,8 @@ returns-clause-spelled c = λ inside.
     let first = c.unsigned_at-more.ensures.spelled (omega (arith, within, third.0, second.0)) in (
       omega (arith, ends.1, third.0, second.0, first.0),
       rw (x, y)
-          (spelled_steps _ c.args.bytes.now c.args.at _ _ _ first.1 (second.1 ∙ ap (λ n. unsigned_text n ++ drop c.unsigned_at-code.result.1 c.args.bytes.now) code)
+          (spelled_steps _ c.args.bytes.now c.args.at _ _ _ first.1
+          (second.1 ∙ ap (λ n. unsigned_text n ++ drop c.unsigned_at-code.result.1 c.args.bytes.now) code)
           (third.1 ∙ ap (λ n. signed_text c.signed_at-y.result.0 ++ drop n c.args.bytes.now) (sym ends.1))),
     )
 

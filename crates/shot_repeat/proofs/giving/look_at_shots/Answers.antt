@@ -20,7 +20,8 @@ loop-done-init c = record {
 pub returns-in_default-clause-refused : goal.returns-in_default-clause-refused
 returns-in_default-clause-refused c = (
   refl,
-  none_given c.args.fields.now c.loop-done.next c.args.step c.loop-done.done c.args.count [] c.loop-done.invariant.seen c.loop-done-test.true c.loop-done.invariant.put c.loop-done.invariant.next
+  none_given c.args.fields.now c.loop-done.next c.args.step c.loop-done.done c.args.count [] c.loop-done.invariant.seen
+      c.loop-done-test.true c.loop-done.invariant.put c.loop-done.invariant.next
       (λ z h s. let some = c.in_default.ensures.all z h s in absurd (cc)),
 )
 
@@ -33,15 +34,20 @@ loop-done-preserved c =
     let z = c.in-Some.shot in
     record {
       few = omega (arith, c.loop-done-test.true);
-      next = c.stepped-next.ensures ∙ (ap (λ (g : ShotFields). moved g step 1) c.loop-done.invariant.next ∙ (moved_next f step done ∙ ap (moved f step) (next_is done)));
+      next = c.stepped-next.ensures
+          ∙ (ap (λ (g : ShotFields). moved g step 1) c.loop-done.invariant.next
+          ∙ (moved_next f step done ∙ ap (moved f step) (next_is done)));
       seen = seen ++ z ∷ [];
       put = subst (λ (n : ℕ). PutSoFar f step n c.args.count [] (seen ++ z ∷ [])) (next_is done)
-          (one_put f c.loop-done.next step done c.args.count [] seen (seen ++ z ∷ []) z c.loop-done-test.true c.loop-done.invariant.put c.loop-done.invariant.next c.in-Some.ensures.some.0 c.in-Some.ensures.some.1 refl);
+          (one_put f c.loop-done.next step done c.args.count [] seen
+          (seen ++ z ∷ []) z c.loop-done-test.true c.loop-done.invariant.put c.loop-done.invariant.next
+          c.in-Some.ensures.some.0 c.in-Some.ensures.some.1 refl);
     }
 
 pub returns-clause-ok : goal.returns-clause-ok
 returns-clause-ok c =
-    let all = all_put c.args.fields.now c.args.step c.loop-done.done c.args.count [] c.loop-done.invariant.seen (omega (arith, c.loop-done-test.false)) c.loop-done.invariant.put in (all.0, all.2)
+    let all = all_put c.args.fields.now c.args.step c.loop-done.done c.args.count [] c.loop-done.invariant.seen
+    (omega (arith, c.loop-done-test.false)) c.loop-done.invariant.put in (all.0, all.2)
 
 pub stepped-next-requires-clause-x : goal.stepped-next-requires-clause-x
 stepped-next-requires-clause-x c = (near_fields c.loop-done.next c.in-Some.shot c.in-Some.ensures.some.0 c.in-Some.ensures.some.1).x

@@ -18,7 +18,8 @@ loop-done-init c = record {
 pub returns-in_default-clause-refused : goal.returns-in_default-clause-refused
 returns-in_default-clause-refused c = inr (
   refl,
-  none_given c.args.fields.now c.loop-done.next c.args.step c.loop-done.done c.args.count c.args.shots.now c.loop-done.shots c.loop-done-test.true c.loop-done.invariant.put c.loop-done.invariant.next
+  none_given c.args.fields.now c.loop-done.next c.args.step c.loop-done.done c.args.count c.args.shots.now
+      c.loop-done.shots c.loop-done-test.true c.loop-done.invariant.put c.loop-done.invariant.next
       (λ z h s. let some = c.in_default.ensures.all z h s in absurd (cc)),
 )
 
@@ -29,7 +30,11 @@ loop-done-preserved c =
     let done = c.loop-done.done in
     record {
       few = omega (arith, c.loop-done-test.true);
-      next = c.stepped-next.ensures ∙ (ap (λ (g : ShotFields). moved g step 1) c.loop-done.invariant.next ∙ (moved_next f step done ∙ ap (moved f step) (next_is done)));
+      next = c.stepped-next.ensures
+          ∙ (ap (λ (g : ShotFields). moved g step 1) c.loop-done.invariant.next
+          ∙ (moved_next f step done ∙ ap (moved f step) (next_is done)));
       put = subst (λ (n : ℕ). PutSoFar f step n c.args.count c.args.shots.now c.push.new.self) (next_is done)
-          (one_put f c.loop-done.next step done c.args.count c.args.shots.now c.loop-done.shots c.push.new.self c.in-Some.shot c.loop-done-test.true c.loop-done.invariant.put c.loop-done.invariant.next c.in-Some.ensures.some.0 c.in-Some.ensures.some.1 c.in-Ok.ensures.ok);
+          (one_put f c.loop-done.next step done c.args.count c.args.shots.now c.loop-done.shots c.push.new.self
+          c.in-Some.shot c.loop-done-test.true c.loop-done.invariant.put c.loop-done.invariant.next
+          c.in-Some.ensures.some.0 c.in-Some.ensures.some.1 c.in-Ok.ensures.ok);
     }

@@ -19,7 +19,9 @@ returns-then-count-gt-MOST_OF_RECORD c = (
   λ no. absurd (cc),
   λ few.
       let spelled = c.record_at-after.ensures.spelled (omega (arith, c.if-bytes-after.false)) in
-      let most = too_many_asked c.args.bytes.now (drop c.record_at-after.result.1 c.args.bytes.now) c.args.at c.loop-next.next c.loop-next.total c.record_at-after.result.0 c.loop-next.invariant c.record_at-after.ensures.narrow spelled.1 few in
+      let most = too_many_asked c.args.bytes.now
+      (drop c.record_at-after.result.1 c.args.bytes.now) c.args.at c.loop-next.next c.loop-next.total
+      c.record_at-after.result.0 c.loop-next.invariant c.record_at-after.ensures.narrow spelled.1 few in
       absurd (omega (arith, most.0, c.count_of-count.ensures, c.if-count-gt-MOST_OF_RECORD.true)),
 )
 
@@ -28,7 +30,9 @@ returns-then-total-count-gt-MOST_OF_FILE c = (
   λ no. absurd (cc),
   λ few.
       let spelled = c.record_at-after.ensures.spelled (omega (arith, c.if-bytes-after.false)) in
-      let most = too_many_asked c.args.bytes.now (drop c.record_at-after.result.1 c.args.bytes.now) c.args.at c.loop-next.next c.loop-next.total c.record_at-after.result.0 c.loop-next.invariant c.record_at-after.ensures.narrow spelled.1 few in
+      let most = too_many_asked c.args.bytes.now
+      (drop c.record_at-after.result.1 c.args.bytes.now) c.args.at c.loop-next.next c.loop-next.total
+      c.record_at-after.result.0 c.loop-next.invariant c.record_at-after.ensures.narrow spelled.1 few in
       absurd (omega (arith, most.1, c.count_of-count.ensures, c.if-total-count-gt-MOST_OF_FILE.true)),
 )
 
@@ -36,7 +40,9 @@ pub loop-next-preserved : goal.loop-next-preserved
 loop-next-preserved c =
     let inside : c.record_at-after.result.1 ≤ length c.args.bytes.now = omega (arith, c.if-bytes-after.false) in
     let spelled = c.record_at-after.ensures.spelled inside in
-    one_asked c.args.bytes.now c.args.at c.loop-next.next c.record_at-after.result.1 c.loop-next.total c.count_of-count.result c.record_at-after.result.0 c.loop-next.invariant c.record_at-after.ensures.narrow spelled.1 inside
+    one_asked c.args.bytes.now c.args.at c.loop-next.next c.record_at-after.result.1 c.loop-next.total
+    c.count_of-count.result c.record_at-after.result.0 c.loop-next.invariant c.record_at-after.ensures.narrow
+    spelled.1 inside
     c.count_of-count.ensures (omega (arith, c.if-count-gt-MOST_OF_RECORD.false)) (omega (arith, c.if-total-count-gt-MOST_OF_FILE.false))
 
 pub returns : goal.returns

@@ -15,7 +15,9 @@ returns-in_err-put_shots-clause-refused c = λ unit records h.
     let kept = kept_by records c.args.progress.now (length c.args.shots.now) (length c.as_slice.result.now) h.kept (sym (ap length c.as_slice.ensures)) in
     let n = c.in_ok-next.next in
     let is = c.in_ok-next.ensures.ok in
-    rw (p.1, p.2) (illegal_by records (drop c.args.progress.now.at c.args.bytes.now) (drop n.progress.at c.args.bytes.now) n.record n.fields c.step_of-step.result c.count_of-count.result c.args.progress.now.at c.in_err-put_shots.field-0.0
+    rw (p.1, p.2) (illegal_by records (drop c.args.progress.now.at c.args.bytes.now)
+    (drop n.progress.at c.args.bytes.now) n.record n.fields c.step_of-step.result c.count_of-count.result
+    c.args.progress.now.at c.in_err-put_shots.field-0.0
     is.narrow is.text (is.judged records kept) c.step_of-step.ensures c.count_of-count.ensures c.in_err-put_shots.ensures.refused)
 
 pub returns-clause-next : goal.returns-clause-next
@@ -28,7 +30,9 @@ returns-clause-ok c = λ unit records h.
     let is = c.in_ok-next.ensures.ok in
     let put = c.in_ok-put_shots.ensures.ok in (
       n.record,
-      read_more c.args.bytes.now unit records c.args.progress.now n.progress c.args.shots.now c.put_shots.new.shots put.0 n.record n.fields n.progress.modal n.progress.at
+      read_more c.args.bytes.now unit records c.args.progress.now n.progress c.args.shots.now c.put_shots.new.shots
+          put.0 n.record n.fields n.progress.modal n.progress.at
           h is.narrow is.text is.within is.modal (is.judged records kept) put.1
-          (given_as n.fields n.record c.step_of-step.result c.count_of-count.result put.0 c.step_of-step.ensures c.count_of-count.ensures put.2) refl is.first refl,
+          (given_as n.fields n.record c.step_of-step.result c.count_of-count.result put.0 c.step_of-step.ensures
+          c.count_of-count.ensures put.2) refl is.first refl,
     )

@@ -67,7 +67,9 @@ take_file-requires-clause-start c = record {
 }
 
 pub returns-in_err-check_number-clause-refused : goal.returns-in_err-check_number-clause-refused
-returns-in_err-check_number-clause-refused c = λ unit pair shots f. absurd (file_right c.args.bytes.now unit pair shots c.in_err-check_number.field-0.0 f c.in_err-check_number.ensures.refused)
+returns-in_err-check_number-clause-refused c = λ unit pair shots f. absurd
+    (file_right c.args.bytes.now unit pair shots c.in_err-check_number.field-0.0 f
+    c.in_err-check_number.ensures.refused)
 
 pub returns-in_err-check_number-clause-first_fault : goal.returns-in_err-check_number-clause-first_fault
 returns-in_err-check_number-clause-first_fault c =
@@ -75,13 +77,17 @@ returns-in_err-check_number-clause-first_fault c =
 
 pub returns-in_err-check_number-clause-every_fault : goal.returns-in_err-check_number-clause-every_fault
 returns-in_err-check_number-clause-every_fault c =
-    let p = err_from_is_err_and c.from_residual.result c.from_residual.ensures.1 in told_by c.args.bytes.now c.in_err-check_number.field-0.0 _ (rw (p.1, p.2) refl) (inr c.in_err-check_number.ensures.refused)
+    let p = err_from_is_err_and c.from_residual.result c.from_residual.ensures.1 in
+    told_by c.args.bytes.now c.in_err-check_number.field-0.0 _ (rw (p.1, p.2) refl)
+    (inr c.in_err-check_number.ensures.refused)
 
 -- ---- the records
 
 pub returns-clause-read : goal.returns-clause-read
 returns-clause-read c = λ unit pair shots f.
-    ok_by c.take_file.result _ _ (λ file found. one_file c.args.bytes.now file.unit unit file.pair pair file.shots shots found.stands f.stands) c.take_file.ensures.found
+    ok_by c.take_file.result _ _
+    (λ file found. one_file c.args.bytes.now file.unit unit file.pair pair file.shots shots found.stands f.stands)
+    c.take_file.ensures.found
 
 pub returns-clause-refused : goal.returns-clause-refused
 returns-clause-refused c = λ unit pair shots f.
@@ -92,4 +98,6 @@ returns-clause-first_fault c = err_by c.take_file.result _ _ (λ bad h other. no
 
 pub returns-clause-every_fault : goal.returns-clause-every_fault
 returns-clause-every_fault c =
-    told_of _ c.args.bytes.now c.take_file.result (λ file found bad w. file_right c.args.bytes.now file.unit file.pair file.shots bad found w) c.take_file.ensures.found c.take_file.ensures.refused
+    told_of _ c.args.bytes.now c.take_file.result
+    (λ file found bad w. file_right c.args.bytes.now file.unit file.pair file.shots bad found w)
+    c.take_file.ensures.found c.take_file.ensures.refused

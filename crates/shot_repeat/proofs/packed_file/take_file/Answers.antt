@@ -14,13 +14,16 @@ pub returns-in_err-progress-clause-refused : goal.returns-in_err-progress-clause
 returns-in_err-progress-clause-refused c =
     let p = err_from_is_err_and c.from_residual.result c.from_residual.ensures.1 in
     let h = c.loop-progress.invariant in
-    rw (p.1, p.2) (other_by (c.in_err-progress.ensures.refused c.args.unit h.0 h.1) (λ f. read_fault c.args.bytes.now c.args.unit h.0 c.loop-progress.progress c.loop-progress.shots c.in_err-progress.field-0.0 c.requires.start.unit_fits h.1 f))
+    rw (p.1, p.2) (other_by (c.in_err-progress.ensures.refused c.args.unit h.0 h.1)
+    (λ f. read_fault c.args.bytes.now c.args.unit h.0 c.loop-progress.progress c.loop-progress.shots
+    c.in_err-progress.field-0.0 c.requires.start.unit_fits h.1 f))
 
 pub returns-in_err-ends_right-clause-refused : goal.returns-in_err-ends_right-clause-refused
 returns-in_err-ends_right-clause-refused c =
     let p = err_from_is_err_and c.from_residual-in_err-ends_right.result c.from_residual-in_err-ends_right.ensures.1 in
     let h = c.loop-progress.invariant in
-    rw (p.1, p.2) (inr (read_fault c.args.bytes.now c.args.unit h.0 c.loop-progress.progress c.loop-progress.shots c.in_err-ends_right.field-0.0 c.requires.start.unit_fits h.1 (c.in_err-ends_right.ensures.refused h.0)))
+    rw (p.1, p.2) (inr (read_fault c.args.bytes.now c.args.unit h.0 c.loop-progress.progress c.loop-progress.shots
+    c.in_err-ends_right.field-0.0 c.requires.start.unit_fits h.1 (c.in_err-ends_right.ensures.refused h.0)))
 
 pub returns-clause-found : goal.returns-clause-found
 returns-clause-found c =

@@ -9,14 +9,19 @@ pub returns-in_err-make_file-clause-refused : goal.returns-in_err-make_file-clau
 returns-in_err-make_file-clause-refused g c =
     let text : c.bytes.result.now ≡ head c.args.head.unit = let a = c.bytes.ensures.value in let b = c.head_text.ensures in let f = c.from.ensures in cc in
     refused c.from_residual.result _ (λ told.
-    made_head (g.D.Depot.content c.args.depot.now) (g.D.Depot.content c.make_file.new.depot) c.args.name.now c.args.head.unit c.args.head.pair.layer c.args.head.pair.datatype c.args.shots.now
-    (subst (λ (t : List ℕ). IsPartMade (g.D.Depot.content c.args.depot.now) c.args.name.now t (g.D.Depot.content c.make_file.new.depot)) text (c.in_err-make_file.ensures.refused told)))
+    made_head (g.D.Depot.content c.args.depot.now)
+    (g.D.Depot.content c.make_file.new.depot) c.args.name.now c.args.head.unit c.args.head.pair.layer
+    c.args.head.pair.datatype c.args.shots.now
+    (subst (λ (t : List ℕ). IsPartMade (g.D.Depot.content c.args.depot.now) c.args.name.now t
+    (g.D.Depot.content c.make_file.new.depot)) text (c.in_err-make_file.ensures.refused told)))
 
 pub returns-in_err-records-clause-refused : goal.returns-in_err-records-clause-refused
 returns-in_err-records-clause-refused g c =
     let text : c.bytes.result.now ≡ head c.args.head.unit = let a = c.bytes.ensures.value in let b = c.head_text.ensures in let f = c.from.ensures in cc in
     refused c.from_residual-in_err-records.result _ (λ told.
-    made_records (g.D.Depot.content c.args.depot.now) (g.D.Depot.content c.make_file.new.depot) (g.D.Depot.content c.put_records.new.depot) c.args.name.now c.args.head.unit c.args.head.pair.layer c.args.head.pair.datatype c.args.shots.now
+    made_records (g.D.Depot.content c.args.depot.now) (g.D.Depot.content c.make_file.new.depot)
+    (g.D.Depot.content c.put_records.new.depot) c.args.name.now c.args.head.unit c.args.head.pair.layer
+    c.args.head.pair.datatype c.args.shots.now
     (c.in_ok-make_file.ensures.ok told ∙ ap (with_file (g.D.Depot.content c.args.depot.now) c.args.name.now) text) (c.in_err-records.ensures.refused told))
 
 pub returns-in_err-write_whole-clause-refused : goal.returns-in_err-write_whole-clause-refused
@@ -24,13 +29,21 @@ returns-in_err-write_whole-clause-refused g c =
     let text : c.bytes.result.now ≡ head c.args.head.unit = let a = c.bytes.ensures.value in let b = c.head_text.ensures in let f = c.from.ensures in cc in
     refused c.from_residual-in_err-write_whole.result _ (λ told.
     let made = c.in_ok-make_file.ensures.ok told ∙ ap (with_file (g.D.Depot.content c.args.depot.now) c.args.name.now) text in
-    made_end (g.D.Depot.content c.args.depot.now) (g.D.Depot.content c.put_records.new.depot) (g.D.Depot.content c.write_whole.new.depot) c.args.name.now c.args.head.unit c.args.head.pair.layer c.args.head.pair.datatype c.args.shots.now
-    (records_made (g.D.Depot.content c.args.depot.now) (g.D.Depot.content c.make_file.new.depot) (g.D.Depot.content c.put_records.new.depot) c.args.name.now c.args.head.unit c.args.head.pair.layer c.args.head.pair.datatype c.args.shots.now made (c.in_ok-records.ensures.ok told))
-    (subst (λ (t : List ℕ). IsPartWritten (g.D.Depot.content c.put_records.new.depot) t (g.D.Depot.content c.write_whole.new.depot)) c.end_text.ensures (c.in_err-write_whole.ensures.refused told)))
+    made_end (g.D.Depot.content c.args.depot.now) (g.D.Depot.content c.put_records.new.depot)
+    (g.D.Depot.content c.write_whole.new.depot) c.args.name.now c.args.head.unit c.args.head.pair.layer
+    c.args.head.pair.datatype c.args.shots.now
+    (records_made (g.D.Depot.content c.args.depot.now) (g.D.Depot.content c.make_file.new.depot)
+    (g.D.Depot.content c.put_records.new.depot) c.args.name.now c.args.head.unit c.args.head.pair.layer
+    c.args.head.pair.datatype c.args.shots.now made (c.in_ok-records.ensures.ok told))
+    (subst (λ (t : List ℕ). IsPartWritten (g.D.Depot.content c.put_records.new.depot) t
+    (g.D.Depot.content c.write_whole.new.depot)) c.end_text.ensures (c.in_err-write_whole.ensures.refused told)))
 
 pub returns-clause-ok : goal.returns-clause-ok
 returns-clause-ok g c = λ told.
     let text : c.bytes.result.now ≡ head c.args.head.unit = let a = c.bytes.ensures.value in let b = c.head_text.ensures in let f = c.from.ensures in cc in
-    file_written (g.D.Depot.content c.args.depot.now) (g.D.Depot.content c.make_file.new.depot) (g.D.Depot.content c.put_records.new.depot) (g.D.Depot.content c.write_whole.new.depot) c.args.name.now c.args.head.unit c.args.head.pair.layer c.args.head.pair.datatype c.args.shots.now
+    file_written (g.D.Depot.content c.args.depot.now) (g.D.Depot.content c.make_file.new.depot)
+    (g.D.Depot.content c.put_records.new.depot)
+    (g.D.Depot.content c.write_whole.new.depot) c.args.name.now c.args.head.unit c.args.head.pair.layer
+    c.args.head.pair.datatype c.args.shots.now
     (c.in_ok-make_file.ensures.ok told ∙ ap (with_file (g.D.Depot.content c.args.depot.now) c.args.name.now) text) (c.in_ok-records.ensures.ok told)
     (c.in_ok-write_whole.ensures.ok told ∙ ap (with_written (g.D.Depot.content c.put_records.new.depot)) c.end_text.ensures)

@@ -10,7 +10,8 @@ returns-then-at-bytes-clause-refused c = λ records.
 
 pub returns-then-not-ends_at-clause-refused : goal.returns-then-not-ends_at-clause-refused
 returns-then-not-ends_at-clause-refused c = λ records.
-    let two : get_or (drop c.args.at c.args.bytes.now) 0 0 ≡ 2 = first_byte c.args.bytes.now c.args.at ∙ c.requires.stops (omega (arith, c.requires.within, c.if-at-bytes.false)) in
+    let two : get_or (drop c.args.at c.args.bytes.now) 0 0 ≡ 2 = first_byte c.args.bytes.now c.args.at
+    ∙ c.requires.stops (omega (arith, c.requires.within, c.if-at-bytes.false)) in
     end_fault records (drop c.args.at c.args.bytes.now) c.args.at two (λ e. let w = c.ends_at.ensures.1 e in absurd (cc))
 
 pub returns-clause-ok : goal.returns-clause-ok

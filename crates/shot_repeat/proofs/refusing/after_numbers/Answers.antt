@@ -12,7 +12,8 @@ pub loop-done-preserved : goal.loop-done-preserved
 loop-done-preserved c = record {
   few = omega (arith, c.loop-done-test.true);
   read = numbers_more c.args.bytes.now c.args.at c.loop-done.done c.loop-done.next c.in-Some.end c.loop-done.invariant.read c.in-Some.ensures.some;
-  left = λ after l. left_less c.args.bytes.now c.loop-done.next c.in-Some.end c.args.count c.loop-done.done after c.loop-done-test.true c.in-Some.ensures.some (c.loop-done.invariant.left after l);
+  left = λ after l. left_less c.args.bytes.now c.loop-done.next c.in-Some.end c.args.count c.loop-done.done after
+      c.loop-done-test.true c.in-Some.ensures.some (c.loop-done.invariant.left after l);
 }
 
 pub returns-clause-after : goal.returns-clause-after

@@ -22,7 +22,9 @@ returns-then-bytes-delta-ne1-clause-all c = λ rep after i e.
 pub returns-clause-yes : goal.returns-clause-yes
 returns-clause-yes c = λ yes.
     let some = found (λ next. NumbersAt c.args.bytes.now c.in-Some.delta 2 next) c.after_numbers-2.result (cc) c.after_numbers-2.ensures.some in
-    let r = repeated c.args.bytes.now c.args.at c.in-Some.delta some.value (omega (arith, c.if-bytes-at.false)) (omega (arith, c.if-bytes-at-ne9.false)) c.in-Some.ensures.some some.has (omega (arith, c.if-bytes-delta-ne1.false)) in
+    let r = repeated c.args.bytes.now c.args.at c.in-Some.delta some.value (omega (arith, c.if-bytes-at.false))
+    (omega (arith, c.if-bytes-at-ne9.false)) c.in-Some.ensures.some some.has
+    (omega (arith, c.if-bytes-delta-ne1.false)) in
     (r.repetition, r.after, r.is, r.text)
 
 pub returns-clause-all : goal.returns-clause-all

@@ -10,6 +10,8 @@ returns-clause-value c =
     let first_y : FitsSigned w64 c.args.first.now.y = search rules in
     let second_x : FitsSigned w64 c.args.second.now.x = search rules in
     let second_y : FitsSigned w64 c.args.second.now.y = search rules in
-    let x : FitsSigned w64 (c.args.second.now.x -ℤ c.args.first.now.x) = fits_difference c.args.second.now.x c.args.first.now.x c.requires.second.x c.requires.first.x in
-    let y : FitsSigned w64 (c.args.second.now.y -ℤ c.args.first.now.y) = fits_difference c.args.second.now.y c.args.first.now.y c.requires.second.y c.requires.first.y in
+    let x : FitsSigned w64 (c.args.second.now.x -ℤ c.args.first.now.x) =
+    fits_difference c.args.second.now.x c.args.first.now.x c.requires.second.x c.requires.first.x in
+    let y : FitsSigned w64 (c.args.second.now.y -ℤ c.args.first.now.y) =
+    fits_difference c.args.second.now.y c.args.first.now.y c.requires.second.y c.requires.first.y in
     same_point _ _ (simp to_z-of_z refl) (simp to_z-of_z refl)

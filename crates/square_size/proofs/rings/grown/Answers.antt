@@ -18,11 +18,15 @@ returns-clause-ring c =
 
 pub returns-clause-inside : goal.returns-clause-inside
 returns-clause-inside c = λ t near.
-    ap (λ (ps : List Point). winding ps t) (returns-clause-ring c) ∙ ring_inside c.args.dx c.args.dy c.args.trap.now c.requires.sizing.rectangle c.ring.ensures.shot.legal t near
+    ap (λ (ps : List Point). winding ps t)
+    (returns-clause-ring c) ∙ ring_inside c.args.dx c.args.dy c.args.trap.now c.requires.sizing.rectangle
+    c.ring.ensures.shot.legal t near
 
 pub returns-clause-outside : goal.returns-clause-outside
 returns-clause-outside c = λ t out.
-    ap (λ (ps : List Point). winding ps t) (returns-clause-ring c) ∙ ring_outside c.args.dx c.args.dy c.args.trap.now c.requires.sizing.rectangle c.ring.ensures.shot.legal t out
+    ap (λ (ps : List Point). winding ps t)
+    (returns-clause-ring c) ∙ ring_outside c.args.dx c.args.dy c.args.trap.now c.requires.sizing.rectangle
+    c.ring.ensures.shot.legal t out
 
 pub returns-clause-inline : goal.returns-clause-inline
 returns-clause-inline c =
@@ -35,4 +39,6 @@ returns-clause-grid c =
 
 pub returns-clause-reach : goal.returns-clause-reach
 returns-clause-reach c =
-    subst (λ (ps : List Point). All IsPointWithinReach ps) (sym (returns-clause-ring c)) (ring_within_reach c.args.dx c.args.dy c.args.trap.now c.requires.sizing.rectangle c.ring.ensures.shot c.requires.reach)
+    subst (λ (ps : List Point). All IsPointWithinReach ps) (sym (returns-clause-ring c))
+    (ring_within_reach c.args.dx c.args.dy c.args.trap.now c.requires.sizing.rectangle c.ring.ensures.shot
+    c.requires.reach)

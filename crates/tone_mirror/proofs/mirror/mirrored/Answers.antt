@@ -50,4 +50,5 @@ returns-clause-image c =
 
 pub returns-clause-tiles : goal.returns-clause-tiles
 returns-clause-tiles c = λ t.
-    subst (λ (z : Trapezoid). IsInTrapezoid z t ↔ IsInTrapezoid c.args.trap.now (mirrored_tile c.args.m t)) (sym (returns-clause-image c)) (image_has_tile c.args.m c.args.trap.now t)
+    subst (λ (z : Trapezoid). IsInTrapezoid z t ↔ IsInTrapezoid c.args.trap.now (mirrored_tile c.args.m t))
+    (sym (returns-clause-image c)) (image_has_tile c.args.m c.args.trap.now t)

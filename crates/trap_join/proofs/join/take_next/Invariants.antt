@@ -9,7 +9,9 @@ invariant-loop-trap g l = record {
   rule : l.scan.rule ≡ l.initial.scan.rule;
   edges : l.scan.edges ≡ l.initial.scan.edges;
   window : l.scan.window ≡ l.initial.scan.window;
-  joined : (given : List Trapezoid) → IsFrontOf (λ a b r. g.F.Fn.post l.initial.scan.rule (a, (b, tt)) r) l.initial.scan l.initial.front given → IsFrontOf (λ a b r. g.F.Fn.post l.initial.scan.rule (a, (b, tt)) r) l.scan l.front given;
+  joined : (given : List Trapezoid)
+      → IsFrontOf (λ a b r. g.F.Fn.post l.initial.scan.rule (a, (b, tt)) r) l.initial.scan l.initial.front given
+      → IsFrontOf (λ a b r. g.F.Fn.post l.initial.scan.rule (a, (b, tt)) r) l.scan l.front given;
   top : TopIsKnown l.front l.scan.y;
   fewer : left_in l.scan l.front ≤ left_in l.initial.scan l.initial.front;
 }

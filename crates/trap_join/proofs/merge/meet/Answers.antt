@@ -11,7 +11,8 @@ returns-then-end-start c =
     let differ : goes_on c.args.growing.now c.args.run.now ≡ false = sym c.goes_on.ensures ∙ c.if-goes_on.false in
     let end = simp to_z-of_z at c.x_at-end.ensures in
     let start = simp to_z-of_z at c.x_at-start.ensures in
-    let had = legal_places (ended_at c.args.y c.args.growing.now) (c.args.y -ℤ pos 1) c.requires.growing.legal (let r = c.requires.growing.legal.has_rows in omega (arith, ints, r)) (omega (arith, ints)) in
+    let had = legal_places (ended_at c.args.y c.args.growing.now) (c.args.y -ℤ pos 1) c.requires.growing.legal
+    (let r = c.requires.growing.legal.has_rows in omega (arith, ints, r)) (omega (arith, ints)) in
     ends_left c.args.y c.args.growing.now c.args.run.now differ c.requires.has_tile had (omega (arith, ints))
 
 pub returns-then-start-end : goal.returns-then-start-end
@@ -20,7 +21,8 @@ returns-then-start-end c =
     let differ : goes_on c.args.growing.now c.args.run.now ≡ false = sym c.goes_on.ensures ∙ c.if-goes_on.false in
     let end = simp to_z-of_z at c.x_at-end.ensures in
     let start = simp to_z-of_z at c.x_at-start.ensures in
-    let had = legal_places (ended_at c.args.y c.args.growing.now) (c.args.y -ℤ pos 1) c.requires.growing.legal (let r = c.requires.growing.legal.has_rows in omega (arith, ints, r)) (omega (arith, ints)) in
+    let had = legal_places (ended_at c.args.y c.args.growing.now) (c.args.y -ℤ pos 1) c.requires.growing.legal
+    (let r = c.requires.growing.legal.has_rows in omega (arith, ints, r)) (omega (arith, ints)) in
     begins_left c.args.y c.args.growing.now c.args.run.now differ c.requires.has_tile had (omega (arith, ints))
 
 pub returns-then-x_at-end : goal.returns-then-x_at-end
@@ -29,7 +31,8 @@ returns-then-x_at-end c =
     let differ : goes_on c.args.growing.now c.args.run.now ≡ false = sym c.goes_on.ensures ∙ c.if-goes_on.false in
     let end = simp to_z-of_z at c.x_at-end.ensures in
     let right = simp to_z-of_z at c.x_at.ensures in
-    let had = legal_places (ended_at c.args.y c.args.growing.now) (c.args.y -ℤ pos 1) c.requires.growing.legal (let r = c.requires.growing.legal.has_rows in omega (arith, ints, r)) (omega (arith, ints)) in
+    let had = legal_places (ended_at c.args.y c.args.growing.now) (c.args.y -ℤ pos 1) c.requires.growing.legal
+    (let r = c.requires.growing.legal.has_rows in omega (arith, ints, r)) (omega (arith, ints)) in
     ends_in_point c.args.y c.args.growing.now c.args.run.now differ c.requires.has_tile had (omega (arith, ints))
 
 pub returns : goal.returns
@@ -39,5 +42,7 @@ returns c =
     let end = simp to_z-of_z at c.x_at-end.ensures in
     let start = simp to_z-of_z at c.x_at-start.ensures in
     let right = simp to_z-of_z at c.x_at.ensures in
-    let had = legal_places (ended_at c.args.y c.args.growing.now) (c.args.y -ℤ pos 1) c.requires.growing.legal (let r = c.requires.growing.legal.has_rows in omega (arith, ints, r)) (omega (arith, ints)) in
-    begins_at c.args.y c.args.growing.now c.args.run.now differ c.requires.has_tile had (omega (arith, ints)) (λ e. c.if-x_at-end.false (let p : c.x_at.result ≡ c.x_at-end.result = omega (arith, ints) in ap (of_z w64) p))
+    let had = legal_places (ended_at c.args.y c.args.growing.now) (c.args.y -ℤ pos 1) c.requires.growing.legal
+    (let r = c.requires.growing.legal.has_rows in omega (arith, ints, r)) (omega (arith, ints)) in
+    begins_at c.args.y c.args.growing.now c.args.run.now differ c.requires.has_tile had (omega (arith, ints))
+    (λ e. c.if-x_at-end.false (let p : c.x_at.result ≡ c.x_at-end.result = omega (arith, ints) in ap (of_z w64) p))

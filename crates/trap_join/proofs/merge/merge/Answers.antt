@@ -1,4 +1,5 @@
-use Rattle.std.proofs.Common.{◌≡◌, ◌-◌, ◌<◌, length, take, drop, pos, ◌-ℤ◌, [], arith, refl, ap, sym, ◌∙◌, w64, FitsSigned, to_z, of_z, add-one, drop-cons, map, Result, Ok, Err, OnOk}
+use Rattle.std.proofs.Common.{◌≡◌, ◌-◌, ◌<◌, length, take, drop, pos, ◌-ℤ◌, [], arith, refl, ap, sym, ◌∙◌, w64}
+use Rattle.std.proofs.Common.{FitsSigned, to_z, of_z, add-one, drop-cons, map, Result, Ok, Err, OnOk}
 use Rattle.std.proofs.lemmas.Int.{to_z-of_z}
 use Rattle.std.proofs.lemmas.List.{take_all, drop_all, length-drop}
 use Rattle.std.proofs.lemmas.List.Elements.{All-get_or, All-take, All-drop, Contains-get_or}
@@ -7,7 +8,9 @@ use Rattle.half_grid.specs.Trapezoids.{IsShot}
 use Rattle.scan_line.specs.Runs.{StandApart}
 use Rattle.trap_join.specs.declared.front.Growing.{Growing}
 use Rattle.trap_join.specs.Fronts.{FrontStandsApart, ended_at, ended}
-use Rattle.trap_join.proofs.Merging.{run_has_tile, apart_rest, front_rest, ends_fresh_at, ends_waiting_at, begins_fresh_at, begins_waiting_at, goes_fresh_at, goes_waiting_at, none_put, one_put, all_put, no_more}
+use Rattle.trap_join.proofs.Merging.{run_has_tile, apart_rest, front_rest, ends_fresh_at, ends_waiting_at}
+use Rattle.trap_join.proofs.Merging.{begins_fresh_at, begins_waiting_at, goes_fresh_at, goes_waiting_at, none_put}
+use Rattle.trap_join.proofs.Merging.{one_put, all_put, no_more}
 use Rattle.trap_join.proofs.merge.merge.Goals as goal
 use Rattle.trap_join.proofs.merge.merge.Goals.{then-loop-i-test+else-k-runs, else-loop-i-test}
 
@@ -40,7 +43,10 @@ loop-i-preserved-in-Ends c =
       front = omega arith;
       runs = omega arith;
       fresh = rw add-one (none_put c.loop-i.fresh.items _ _ _ (ends_fresh_at y _ _ fs _ rs _ ef er fa ra c.in-Ends.ensures) c.loop-i.invariant.fresh);
-      waiting = rw add-one (one_put c.loop-i.waiting.items c.push_back.new.self.items _ _ _ c.ended_at.result _ c.in_ok-push_back-in-Ends.ensures.items c.ended_at.ensures (ends_waiting_at y _ _ fs _ rs _ ef er fa ra c.in-Ends.ensures) c.loop-i.invariant.waiting);
+      waiting = rw add-one
+          (one_put c.loop-i.waiting.items c.push_back.new.self.items _ _ _ c.ended_at.result _
+          c.in_ok-push_back-in-Ends.ensures.items c.ended_at.ensures
+          (ends_waiting_at y _ _ fs _ rs _ ef er fa ra c.in-Ends.ensures) c.loop-i.invariant.waiting);
     }
 
 pub loop-i-preserved-in-Begins : goal.loop-i-preserved-in-Begins
@@ -59,8 +65,12 @@ loop-i-preserved-in-Begins c =
     record {
       front = omega arith;
       runs = omega arith;
-      fresh = rw add-one (one_put c.loop-i.fresh.items c.push.new.self.items _ _ _ c.begun_at.result _ c.in_ok-push-in-Begins.ensures.items c.begun_at.ensures (begins_fresh_at y _ _ fs _ rs _ ef er fa ra c.in-Begins.ensures) c.loop-i.invariant.fresh);
-      waiting = rw add-one (none_put c.loop-i.waiting.items _ _ _ (begins_waiting_at y _ _ fs _ rs _ ef er fa ra c.in-Begins.ensures) c.loop-i.invariant.waiting);
+      fresh = rw add-one (one_put c.loop-i.fresh.items c.push.new.self.items _ _ _ c.begun_at.result _
+          c.in_ok-push-in-Begins.ensures.items c.begun_at.ensures
+          (begins_fresh_at y _ _ fs _ rs _ ef er fa ra c.in-Begins.ensures) c.loop-i.invariant.fresh);
+      waiting = rw add-one
+          (none_put c.loop-i.waiting.items _ _ _
+          (begins_waiting_at y _ _ fs _ rs _ ef er fa ra c.in-Begins.ensures) c.loop-i.invariant.waiting);
     }
 
 pub loop-i-preserved : goal.loop-i-preserved
@@ -79,14 +89,19 @@ loop-i-preserved c =
     record {
       front = omega arith;
       runs = omega arith;
-      fresh = rw (add-one, add-one) (one_put c.loop-i.fresh.items c.push-in-GoesOn.new.self.items _ _ _ _ _ c.in_ok-push-in-GoesOn.ensures.items refl (goes_fresh_at y _ _ fs _ rs _ ef er fa ra c.in-GoesOn.ensures) c.loop-i.invariant.fresh);
-      waiting = rw (add-one, add-one) (none_put c.loop-i.waiting.items _ _ _ (goes_waiting_at y _ _ fs _ rs _ ef er fa ra c.in-GoesOn.ensures) c.loop-i.invariant.waiting);
+      fresh = rw (add-one, add-one)
+          (one_put c.loop-i.fresh.items c.push-in-GoesOn.new.self.items _ _ _ _ _ c.in_ok-push-in-GoesOn.ensures.items
+          refl (goes_fresh_at y _ _ fs _ rs _ ef er fa ra c.in-GoesOn.ensures) c.loop-i.invariant.fresh);
+      waiting = rw (add-one, add-one)
+          (none_put c.loop-i.waiting.items _ _ _
+          (goes_waiting_at y _ _ fs _ rs _ ef er fa ra c.in-GoesOn.ensures) c.loop-i.invariant.waiting);
     }
 
 pub end_all-requires : goal.end_all-requires
 end_all-requires c =
     let y : FitsSigned w64 c.args.y = c.ranges.y in
-    simp to_z-of_z (All-take (λ (u : Growing). IsShot (ended_at c.args.y u)) _ _ (All-drop (λ (u : Growing). IsShot (ended_at c.args.y u)) c.loop-i.i c.args.front.now c.requires.shots))
+    simp to_z-of_z (All-take (λ (u : Growing). IsShot (ended_at c.args.y u)) _ _
+    (All-drop (λ (u : Growing). IsShot (ended_at c.args.y u)) c.loop-i.i c.args.front.now c.requires.shots))
 
 always : {T E P : Type 0} (r : Result T E) → P → OnOk r P
 always (Ok x) h = h
@@ -106,6 +121,7 @@ returns-clause-waiting c =
     let fs = drop c.loop-i.i c.args.front.now in
     let rs = drop c.loop-i.k c.args.runs.now in
     let whole = take_all (length c.args.front.now - c.loop-i.i) fs (omega (arith, length-drop c.loop-i.i c.args.front.now)) in
-    let left : ended rs y fs ≡ map (ended_at y) (take (length c.args.front.now - c.loop-i.i) fs) = no_more y fs rs (ended_by c) ∙ ap (map (ended_at y)) (sym whole) in
+    let left : ended rs y fs ≡ map (ended_at y) (take (length c.args.front.now - c.loop-i.i) fs) = no_more y fs rs
+    (ended_by c) ∙ ap (map (ended_at y)) (sym whole) in
     let result = all_put c.loop-i.waiting.items c.end_all.new.waiting.items (ended rs y fs) _ _ c.in_ok-end_all.ensures left c.loop-i.invariant.waiting in
     always c.begin_all.result (simp to_z-of_z at result)

@@ -18,7 +18,9 @@ count_none : (p : EdgeParts → Bool) (e : EdgeParts) → p e ≡ false → cond
 count_none p e h = rw h refl
 
 -- an edge up and an edge down over the same rows
-both : (edges one two : List EdgeParts) (z : Trapezoid) (o : Operand) → one ≡ edges ++ left_edge z o ∷ [] → two ≡ one ++ right_edge z o ∷ [] → ((window : RowRange) → IsBalanced edges window) → (window : RowRange) → IsBalanced two window
+both : (edges one two : List EdgeParts) (z : Trapezoid) (o : Operand) → one ≡ edges ++ left_edge z o ∷ []
+    → two ≡ one ++ right_edge z o ∷ [] → ((window : RowRange) → IsBalanced edges window) → (window : RowRange)
+    → IsBalanced two window
 both edges one two z operand e1 e2 h window o j a b =
     let before = h window o j a b in
     let ups : EdgeParts → Bool = λ (e : EdgeParts). is_of o e.operand && (e.up && spans e j) in

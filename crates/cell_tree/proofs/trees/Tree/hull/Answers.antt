@@ -24,7 +24,8 @@ returns c =
     let within : c.args.cell < length c.self.inside.hulls.items = omega arith in
     let are = hulls_read (λ list. list.items) now.layout.cells now.top c.args.cell c.self.inside.hulls.items c.index.result.now within c.index.ensures
     (subst (λ r. AreHullsBelow r.layout.cells r.top (map (λ list. list.items) c.self.inside.hulls.items)) c.self.view_is c.self.invariant.4) c.requires in
-    subst (IsHull (IsVertex now.layout.cells c.args.cell c.args.pair)) (sym (c.hull_on.ensures ∙ ap (λ l. hull_in l c.args.pair) c.as_slice.ensures.value)) (are.1 c.args.pair)
+    subst (IsHull (IsVertex now.layout.cells c.args.cell c.args.pair))
+    (sym (c.hull_on.ensures ∙ ap (λ l. hull_in l c.args.pair) c.as_slice.ensures.value)) (are.1 c.args.pair)
 
 pub hull_on-requires : goal.hull_on-requires
 hull_on-requires c =

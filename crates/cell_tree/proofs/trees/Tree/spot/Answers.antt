@@ -20,7 +20,8 @@ placed_box-requires c =
     let grid = subst (λ r. IsLayoutOnGrid r.layout) c.self.view_is c.self.invariant.0 in
     let same = c.placements.ensures ∙ ap (λ r. placements_at r.layout.cells c.args.cell) c.self.view_is in
     let slot = subst (λ l. slice_get l k ≡ Some c.index-placements-placement.result) same
-    (slice_get_read c.placements.result.now _ k c.index-placements-placement.result refl (subst (λ l. k < length l) (sym same) c.requires.placement) c.index-placements-placement.is) in
+    (slice_get_read c.placements.result.now _ k c.index-placements-placement.result refl
+    (subst (λ l. k < length l) (sym same) c.requires.placement) c.index-placements-placement.is) in
     All-slot (placements_at cells c.args.cell) IsPlacementOnGrid (on_grid cells grid.cells c.args.cell) k c.index-placements-placement.result slot
 
 pub returns-in-Some-whole_hull-clause-around : goal.returns-in-Some-whole_hull-clause-around
@@ -34,7 +35,8 @@ returns-in-Some-whole_hull-clause-around c = λ placed p reach here s.
     let tree = subst (λ r. IsTree r.layout.cells r.top) c.self.view_is c.self.invariant.2 in
     let same = c.placements.ensures ∙ ap (λ r. placements_at r.layout.cells n) c.self.view_is in
     let slot = subst (λ l. slice_get l k ≡ Some c.index-placements-placement.result) same
-    (slice_get_read c.placements.result.now _ k c.index-placements-placement.result refl (subst (λ l. k < length l) (sym same) c.requires.placement) c.index-placements-placement.is) in
+    (slice_get_read c.placements.result.now _ k c.index-placements-placement.result refl
+    (subst (λ l. k < length l) (sym same) c.requires.placement) c.index-placements-placement.is) in
     let one : c.index-placements-placement.result ≡ placed = same_Some c.index-placements-placement.result placed (sym slot ∙ here) in
     let shown = c.targets.ensures.value ∙ ap (λ r. targets_at r.layout.cells n) c.self.view_is in
     let target = target_value cells n k m c.targets.result.now placed shown c.in-Some.is here in
@@ -45,7 +47,8 @@ returns-in-Some-whole_hull-clause-around c = λ placed p reach here s.
     let are = hulls_read (λ list. list.items) cells now.top m c.self.inside.hulls.items c.index.result.now within c.index.ensures
     (subst (λ r. AreHullsBelow r.layout.cells r.top (map (λ list. list.items) c.self.inside.hulls.items)) c.self.view_is c.self.invariant.4)
     (spot_reached cells now.top n k placed grid.cells tree reach here m target) in
-    let whole : whole_from None c.index.result.now.items ≡ Some c.in-Some-whole_hull.hull = sym (ap (whole_from None) c.as_slice.ensures.value) ∙ (sym c.whole_hull.ensures ∙ c.in-Some-whole_hull.is) in
+    let whole : whole_from None c.index.result.now.items ≡ Some c.in-Some-whole_hull.hull = sym
+    (ap (whole_from None) c.as_slice.ensures.value) ∙ (sym c.whole_hull.ensures ∙ c.in-Some-whole_hull.is) in
     let e = ap (λ (q : Placement). image_of q.orient (moved s.by q.at) s.v) one ∙ s.is in
     subst (IsInBox c.placed_box.result) e (c.placed_box.ensures.around s.place s.by s.v
     (subst (λ (q : Placement). slice_get q.offsets s.place ≡ Some s.by) (sym one) s.offset)

@@ -7,7 +7,8 @@ use Rattle.cell_tree.proofs.trees.Tree.target.Goals as goal
 pub unreachable-requires : goal.unreachable-requires
 unreachable-requires c =
     let now = c.args.self.now in
-    target_known now.layout.cells now.top c.args.cell c.args.placement c.targets.result.now (subst (λ r. IsTree r.layout.cells r.top) c.self.view_is c.self.invariant.2) c.requires.cell
+    target_known now.layout.cells now.top c.args.cell c.args.placement c.targets.result.now
+    (subst (λ r. IsTree r.layout.cells r.top) c.self.view_is c.self.invariant.2) c.requires.cell
     (c.targets.ensures.value ∙ ap (λ r. targets_at r.layout.cells c.args.cell) c.self.view_is) c.requires.placement c.in-None.is
 
 pub returns-clause-value : goal.returns-clause-value

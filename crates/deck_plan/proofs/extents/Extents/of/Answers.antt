@@ -5,7 +5,12 @@ use Rattle.deck_plan.proofs.ExtentLemmas.{extents_begin, extents_more, near_any}
 use Rattle.deck_plan.proofs.extents.Extents.of.Goals as goal
 
 pub loop-number-init : goal.loop-number-init
-loop-number-init c = record { extents = extents_begin c.args.tree.now.layout.cells c.args.tree.now.top c.args.deck.now c.requires.sound c.requires.frame; few = omega arith }
+loop-number-init c =
+    record {
+      extents = extents_begin c.args.tree.now.layout.cells c.args.tree.now.top c.args.deck.now c.requires.sound
+          c.requires.frame;
+      few = omega arith;
+    }
 
 pub of_step-requires-clause-sound : goal.of_step-requires-clause-sound
 of_step-requires-clause-sound c =
@@ -24,7 +29,8 @@ loop-number-preserved c =
     let step = c.step_at-step.result in
     let here = subst (λ steps. slice_get steps n ≡ Some step) c.as_slice-steps.ensures c.step_at-step.ensures in
     record {
-      extents = extents_more c.args.tree.now.layout.cells c.args.tree.now.top c.args.deck.now c.requires.sound c.requires.frame n c.loop-number.extents.by_name step c.of_step.result
+      extents = extents_more c.args.tree.now.layout.cells c.args.tree.now.top c.args.deck.now c.requires.sound
+          c.requires.frame n c.loop-number.extents.by_name step c.of_step.result
           c.loop-number.invariant.extents (omega (arith, c.loop-number-test.true, c.requires.count, c.requires.few)) here c.of_step.ensures;
       few = omega (arith, c.loop-number-test.true);
     }

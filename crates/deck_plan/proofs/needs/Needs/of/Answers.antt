@@ -43,7 +43,9 @@ loop-number-preserved c =
     let h = here c.before in
     record {
       halos = subst (AreHalos deck c.args.name n) (sym (c.pass.ensures ∙ ap (passed needs n) c.operands_of.ensures.list))
-          (halos_pass deck c.args.name n needs (subst (λ m. AreHalos deck c.args.name m needs) down c.loop-number.invariant.halos) (omega (arith, c.requires.name, c.requires.few)) step h (c.requires.sound n step h)
+          (halos_pass deck c.args.name n needs
+          (subst (λ m. AreHalos deck c.args.name m needs) down c.loop-number.invariant.halos)
+          (omega (arith, c.requires.name, c.requires.few)) step h (c.requires.sound n step h)
           (omega (arith, c.loop-number.invariant.few, c.requires.name, c.requires.few)));
       few = omega (arith, c.loop-number.invariant.few);
     }

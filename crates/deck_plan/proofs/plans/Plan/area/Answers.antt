@@ -20,7 +20,8 @@ returns-clause-shots c =
     let named = c.named-named.result in
     let needs = c.of-needs.result.by_name in
     IfOk-weaker c.next_list.result _ (λ traps. All IsShot traps.items)
-    (λ traps ready. ready_shots plan.cells plan.top plan.deck c.args.band needs s.steps c.layers_are_near.ensures s.frame named traps.items (omega (arith, c.named-named.ensures.inside, s.few_steps))
+    (λ traps ready. ready_shots plan.cells plan.top plan.deck c.args.band needs s.steps c.layers_are_near.ensures
+    s.frame named traps.items (omega (arith, c.named-named.ensures.inside, s.few_steps))
     (subst (λ n. IsReady plan.cells plan.top plan.deck c.args.band needs n traps.items) (last_number c) ready))
     c.next_list.ensures.ready
 
@@ -32,5 +33,6 @@ returns-clause-joined c =
     let halos = subst (λ (d : Deck). AreHalos d named 0 needs) c.deck.ensures.value c.of-needs.ensures in
     IfOk-weaker c.next_list.result _ (λ traps. IsJoinedOf c.args.band (IsInBand plan.cells plan.top plan.deck c.args.output c.args.band) traps.items)
     (λ traps ready. output_area plan.cells plan.top plan.deck c.args.band needs named c.args.output traps.items c.named-named.ensures.named
-    (own_area plan.cells plan.top plan.deck c.args.band needs named traps.items halos (subst (λ n. IsReady plan.cells plan.top plan.deck c.args.band needs n traps.items) (last_number c) ready)))
+    (own_area plan.cells plan.top plan.deck c.args.band needs named traps.items halos
+    (subst (λ n. IsReady plan.cells plan.top plan.deck c.args.band needs n traps.items) (last_number c) ready)))
     c.next_list.ensures.ready

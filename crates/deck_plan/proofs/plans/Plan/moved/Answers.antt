@@ -19,7 +19,8 @@ window-window-requires-clause-halo c =
 
 pub kept_operand-requires-clause-sound : goal.kept_operand-requires-clause-sound
 kept_operand-requires-clause-sound c =
-    let here = subst (λ (steps : List Step). slice_get steps (length c.args.areas.now) ≡ Some c.step_at-step.result) (c.as_slice.ensures ∙ ap (λ (d : Deck). d.steps) c.deck-deck.ensures.value) c.step_at-step.ensures in
+    let here = subst (λ (steps : List Step). slice_get steps (length c.args.areas.now) ≡ Some c.step_at-step.result)
+    (c.as_slice.ensures ∙ ap (λ (d : Deck). d.steps) c.deck-deck.ensures.value) c.step_at-step.ensures in
     (c.args.self.now.deck.frame, c.deck-deck.ensures.sound.2.steps (length c.args.areas.now) c.step_at-step.result here)
 
 pub kept_operand-requires-clause-few : goal.kept_operand-requires-clause-few
@@ -37,12 +38,18 @@ returns-in-Some-clause-ready c =
     let s = c.deck-deck.ensures.sound.2 in
     let n = length c.args.areas.now in
     let lists = map (λ list. list.items) c.args.areas.now in
-    let here = subst (λ (steps : List Step). slice_get steps (length c.args.areas.now) ≡ Some c.step_at-step.result) (c.as_slice.ensures ∙ ap (λ (d : Deck). d.steps) c.deck-deck.ensures.value) c.step_at-step.ensures in
+    let here = subst (λ (steps : List Step). slice_get steps (length c.args.areas.now) ≡ Some c.step_at-step.result)
+    (c.as_slice.ensures ∙ ap (λ (d : Deck). d.steps) c.deck-deck.ensures.value) c.step_at-step.ensures in
     let need = c.in-Some._need in
     let there = filled c.args.needs.now.by_name n need c.in-Some.is in
     let is = window_of c.args.band need _ c.window-window.result c.in-Some.is c.window-window.ensures in
     some_weaker c.kept_operand.result _ (λ name. IsReady plan.cells plan.top plan.deck c.args.band c.args.needs.now.by_name n (list_at lists name))
     (λ name h. ready_some plan.cells plan.top plan.deck c.args.band c.args.needs.now.by_name n need (list_at lists name) there
-    (next_area plan.cells plan.top plan.deck c.args.band c.args.needs.now.by_name s.steps c.requires.named.0 c.requires.named.3 lists n (λ m early. c.requires.held m (omega (arith, early, map_same (λ list. list.items) c.args.areas.now))) c.step_at-step.result need (list_at lists name) here there
-    (subst (λ (w : RowRange). HasArea w (λ t. IsInStep plan.cells plan.top plan.deck.frame (IsListed lists) c.step_at-step.result t) (list_at lists name)) is (h plan.cells plan.top plan.deck.frame))))
+    (next_area plan.cells plan.top plan.deck c.args.band c.args.needs.now.by_name s.steps c.requires.named.0
+    c.requires.named.3 lists n
+    (λ m early. c.requires.held m (omega (arith, early, map_same (λ list. list.items) c.args.areas.now)))
+    c.step_at-step.result need (list_at lists name) here there
+    (subst (λ (w : RowRange). HasArea w
+    (λ t. IsInStep plan.cells plan.top plan.deck.frame (IsListed lists) c.step_at-step.result t)
+    (list_at lists name)) is (h plan.cells plan.top plan.deck.frame))))
     c.kept_operand.ensures.area

@@ -8,7 +8,8 @@ same c = sym (c.as_slice.ensures ∙ ap (λ d. d.outputs) c.deck.ensures.value)
 
 pub returns-clause-named : goal.returns-clause-named
 returns-clause-named c =
-    subst (λ (outputs : List Output). IsSomeAnd (slice_get c.args.self.now.deck.outputs c.args.output) (λ output. output.name ≡ (get_or outputs c.args.output c.index-as_slice-output.result).name)) (same c)
+    subst (λ (outputs : List Output). IsSomeAnd (slice_get c.args.self.now.deck.outputs c.args.output)
+    (λ output. output.name ≡ (get_or outputs c.args.output c.index-as_slice-output.result).name)) (same c)
     (named_is c.args.self.now.deck.outputs c.args.output c.index-as_slice-output.result c.requires)
 
 pub returns-clause-inside : goal.returns-clause-inside

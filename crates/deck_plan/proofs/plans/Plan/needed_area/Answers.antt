@@ -27,7 +27,8 @@ step_area-requires-clause-legal c = λ a.
     let plan = c.args.self.now in
     let lists = map (λ list. list.items) c.args.areas.now in
     let long = map_same (λ list. list.items) c.args.areas.now in
-    (lists_near plan.cells plan.top plan.deck c.args.band c.args.needs.now.by_name s.steps c.layers_are_near.ensures s.frame (length c.args.areas.now) lists (omega (arith, long, n.1, n.2, s.few_steps)) c.requires.held a).0
+    (lists_near plan.cells plan.top plan.deck c.args.band c.args.needs.now.by_name s.steps c.layers_are_near.ensures
+    s.frame (length c.args.areas.now) lists (omega (arith, long, n.1, n.2, s.few_steps)) c.requires.held a).0
 
 pub step_area-requires-clause-joined : goal.step_area-requires-clause-joined
 step_area-requires-clause-joined c = λ a.
@@ -42,14 +43,17 @@ step_area-requires-clause-near c = λ a.
     let plan = c.args.self.now in
     let lists = map (λ list. list.items) c.args.areas.now in
     let long = map_same (λ list. list.items) c.args.areas.now in
-    (lists_near plan.cells plan.top plan.deck c.args.band c.args.needs.now.by_name s.steps c.layers_are_near.ensures s.frame (length c.args.areas.now) lists (omega (arith, long, n.1, n.2, s.few_steps)) c.requires.held a).1
+    (lists_near plan.cells plan.top plan.deck c.args.band c.args.needs.now.by_name s.steps c.layers_are_near.ensures
+    s.frame (length c.args.areas.now) lists (omega (arith, long, n.1, n.2, s.few_steps)) c.requires.held a).1
 
 pub step_area-requires-clause-low : goal.step_area-requires-clause-low
 step_area-requires-clause-low c =
     let s = c.deck-deck.ensures.sound.2 in
     let n = c.requires.named in
     let need = c.in-Some._need in
-    let halo = halo_bounds c.args.self.now.deck n.0 c.args.needs.now.by_name (omega (arith, n.2, s.few_steps)) n.3 (length c.args.areas.now) need (filled c.args.needs.now.by_name (length c.args.areas.now) need c.in-Some.is) in
+    let halo = halo_bounds c.args.self.now.deck n.0 c.args.needs.now.by_name (omega (arith, n.2, s.few_steps)) n.3
+    (length c.args.areas.now) need
+    (filled c.args.needs.now.by_name (length c.args.areas.now) need c.in-Some.is) in
     let is = window_of c.args.band need _ c.window-window.result c.in-Some.is c.window-window.ensures in
     subst (λ (w : RowRange). IsUpTo (2 ^ 50) w.y0) (sym is) (window_near c.args.band need.halo c.requires.band halo.0 halo.1).0
 
@@ -58,7 +62,9 @@ step_area-requires-clause-high c =
     let s = c.deck-deck.ensures.sound.2 in
     let n = c.requires.named in
     let need = c.in-Some._need in
-    let halo = halo_bounds c.args.self.now.deck n.0 c.args.needs.now.by_name (omega (arith, n.2, s.few_steps)) n.3 (length c.args.areas.now) need (filled c.args.needs.now.by_name (length c.args.areas.now) need c.in-Some.is) in
+    let halo = halo_bounds c.args.self.now.deck n.0 c.args.needs.now.by_name (omega (arith, n.2, s.few_steps)) n.3
+    (length c.args.areas.now) need
+    (filled c.args.needs.now.by_name (length c.args.areas.now) need c.in-Some.is) in
     let is = window_of c.args.band need _ c.window-window.result c.in-Some.is c.window-window.ensures in
     subst (λ (w : RowRange). IsUpTo (2 ^ 50) w.y1) (sym is) (window_near c.args.band need.halo c.requires.band halo.0 halo.1).1
 
@@ -71,12 +77,17 @@ returns-in-Some c =
     let need = c.in-Some._need in
     let there = filled c.args.needs.now.by_name n need c.in-Some.is in
     let is = window_of c.args.band need _ c.window-window.result c.in-Some.is c.window-window.ensures in
-    let here = subst (λ (steps : List Step). slice_get steps n ≡ Some c.step_at-step.result) (c.as_slice.ensures ∙ ap (λ (d : Deck). d.steps) c.deck-deck.ensures.value) c.step_at-step.ensures in
+    let here = subst (λ (steps : List Step). slice_get steps n ≡ Some c.step_at-step.result)
+    (c.as_slice.ensures ∙ ap (λ (d : Deck). d.steps) c.deck-deck.ensures.value) c.step_at-step.ensures in
     IfOk-weaker c.step_area.result _ (λ traps. IsReady plan.cells plan.top plan.deck c.args.band c.args.needs.now.by_name n traps.items)
     (λ traps h. ready_some plan.cells plan.top plan.deck c.args.band c.args.needs.now.by_name n need traps.items there
-    (next_area plan.cells plan.top plan.deck c.args.band c.args.needs.now.by_name s.steps c.requires.named.0 c.requires.named.3 lists n (λ m early. c.requires.held m (omega (arith, early, map_same (λ list. list.items) c.args.areas.now))) c.step_at-step.result need traps.items here there
+    (next_area plan.cells plan.top plan.deck c.args.band c.args.needs.now.by_name s.steps c.requires.named.0
+    c.requires.named.3 lists n
+    (λ m early. c.requires.held m (omega (arith, early, map_same (λ list. list.items) c.args.areas.now)))
+    c.step_at-step.result need traps.items here there
     (subst (λ (w : RowRange). HasArea w (λ t. IsInStep plan.cells plan.top plan.deck.frame (IsListed lists) c.step_at-step.result t) traps.items) is h)))
     c.step_area.ensures
 
 pub returns-in-None : goal.returns-in-None
-returns-in-None c = ready_none c.args.self.now.cells c.args.self.now.top c.args.self.now.deck c.args.band c.args.needs.now.by_name (length c.args.areas.now) c.new.result.items c.in-None.is c.new.ensures.items
+returns-in-None c = ready_none c.args.self.now.cells c.args.self.now.top c.args.self.now.deck c.args.band
+    c.args.needs.now.by_name (length c.args.areas.now) c.new.result.items c.in-None.is c.new.ensures.items

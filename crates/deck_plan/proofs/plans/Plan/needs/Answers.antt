@@ -23,5 +23,6 @@ returns c =
     let halos = subst (λ (d : Deck). AreHalos d c.named-named.result 0 c.of.result.by_name) c.deck.ensures.value c.of.ensures in
     let windows = windows_needed deck s.2.steps c.named-named.result c.args.band c.requires.band.has_rows c.of.result.by_name halos in
     some_and_weaker (slice_get deck.outputs c.args.output) _ (λ output. IsNeeded deck output.name c.args.band c.args.name c.window.result)
-    (λ output same. subst (λ n. IsNeeded deck n c.args.band c.args.name c.window.result) (sym same) (λ n. window_for c.args.band (get_or c.of.result.by_name n None), windows, sym c.window.ensures))
+    (λ output same. subst (λ n. IsNeeded deck n c.args.band c.args.name c.window.result) (sym same)
+    (λ n. window_for c.args.band (get_or c.of.result.by_name n None), windows, sym c.window.ensures))
     c.named-named.ensures.named

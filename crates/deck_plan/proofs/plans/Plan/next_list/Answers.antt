@@ -15,7 +15,8 @@ returns-in-Some-clause-ready c =
     let plan = c.args.self.now in
     let needs = c.args.needs.now.by_name in
     let name = c.in-Some.name in
-    let ready = subst (λ xs. IsReady plan.cells plan.top plan.deck c.args.band needs (length xs) (list_at (map (λ list. list.items) xs) name)) c.as_slice.ensures.value c.in-Some.ensures.ready in
+    let ready = subst (λ xs. IsReady plan.cells plan.top plan.deck c.args.band needs (length xs)
+    (list_at (map (λ list. list.items) xs) name)) c.as_slice.ensures.value c.in-Some.ensures.ready in
     subst (IsReady plan.cells plan.top plan.deck c.args.band needs (length c.args.areas.now.items)) (sym c.take_list.ensures.list) ready
 
 pub returns-in-Some-clause-held : goal.returns-in-Some-clause-held
@@ -26,9 +27,12 @@ returns-in-Some-clause-held c =
     let old = c.args.areas.now.items in
     let lists = map (λ list. list.items) old in
     let inside : name < length old = subst (λ xs. name < length xs) c.as_slice.ensures.value c.in-Some.ensures.inside in
-    let last : ends_at (get_or needs name None) (length old) ≡ true = subst (λ xs. ends_at (get_or needs name None) (length xs) ≡ true) c.as_slice.ensures.value c.in-Some.ensures.last in
+    let last : ends_at (get_or needs name None) (length old) ≡ true = subst
+    (λ xs. ends_at (get_or needs name None) (length xs) ≡ true) c.as_slice.ensures.value c.in-Some.ensures.last
+    in
     subst (AreHeld plan.cells plan.top plan.deck c.args.band needs (length old + 1)) (sym c.take_list.ensures.left)
-    (held_moved plan.cells plan.top plan.deck c.args.band needs (length old) name lists (omega (arith, inside, map_same (λ list. list.items) old)) last c.requires.held)
+    (held_moved plan.cells plan.top plan.deck c.args.band needs (length old) name lists
+    (omega (arith, inside, map_same (λ list. list.items) old)) last c.requires.held)
 
 pub returns-in-None-clause-held : goal.returns-in-None-clause-held
 returns-in-None-clause-held c =

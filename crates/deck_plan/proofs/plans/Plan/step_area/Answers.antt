@@ -57,7 +57,9 @@ pub returns-in-Layer : goal.returns-in-Layer
 returns-in-Layer c =
     let plan = c.args.self.now in
     let lists = map (λ list. list.items) c.args.areas.now in
-    IfOk-weaker c.layer_area.result _ (λ traps. HasArea c.args.window (λ t. IsInStep plan.cells plan.top plan.deck.frame (IsListed lists) c.args.step.now t) traps.items)
+    IfOk-weaker c.layer_area.result _
+    (λ traps. HasArea c.args.window
+    (λ t. IsInStep plan.cells plan.top plan.deck.frame (IsListed lists) c.args.step.now t) traps.items)
     (λ traps h. of_step c.args.window lists plan.cells plan.top plan.deck.frame c.args.step.now (Layer c.in-Layer.pair) traps.items c.in-Layer.is
     (subst (λ (p : Planned). HasArea c.args.window (λ t. IsInLayer p.cells p.top c.in-Layer.pair t) traps.items) c.self.view_is h))
     c.layer_area.ensures
@@ -66,7 +68,9 @@ pub returns-in-Or : goal.returns-in-Or
 returns-in-Or c =
     let plan = c.args.self.now in
     let lists = map (λ list. list.items) c.args.areas.now in
-    IfOk-weaker c.combined_area.result _ (λ traps. HasArea c.args.window (λ t. IsInStep plan.cells plan.top plan.deck.frame (IsListed lists) c.args.step.now t) traps.items)
+    IfOk-weaker c.combined_area.result _
+    (λ traps. HasArea c.args.window
+    (λ t. IsInStep plan.cells plan.top plan.deck.frame (IsListed lists) c.args.step.now t) traps.items)
     (λ traps h. of_step c.args.window lists plan.cells plan.top plan.deck.frame c.args.step.now (Or c.in-Or.a c.in-Or.b) traps.items c.in-Or.is
     (of_two c.args.window lists ops.Or c.in-Or.a c.in-Or.b c.list.result.now c.list-in-Or.result.now traps.items c.list.ensures c.list-in-Or.ensures h))
     c.combined_area.ensures
@@ -75,27 +79,36 @@ pub returns-in-And : goal.returns-in-And
 returns-in-And c =
     let plan = c.args.self.now in
     let lists = map (λ list. list.items) c.args.areas.now in
-    IfOk-weaker c.combined_area-in-And.result _ (λ traps. HasArea c.args.window (λ t. IsInStep plan.cells plan.top plan.deck.frame (IsListed lists) c.args.step.now t) traps.items)
+    IfOk-weaker c.combined_area-in-And.result _
+    (λ traps. HasArea c.args.window
+    (λ t. IsInStep plan.cells plan.top plan.deck.frame (IsListed lists) c.args.step.now t) traps.items)
     (λ traps h. of_step c.args.window lists plan.cells plan.top plan.deck.frame c.args.step.now (And c.in-And.a c.in-And.b) traps.items c.in-And.is
-    (of_two c.args.window lists ops.And c.in-And.a c.in-And.b c.list-in-And.result.now c.list-in-And-2.result.now traps.items c.list-in-And.ensures c.list-in-And-2.ensures h))
+    (of_two c.args.window lists ops.And c.in-And.a c.in-And.b c.list-in-And.result.now c.list-in-And-2.result.now
+    traps.items c.list-in-And.ensures c.list-in-And-2.ensures h))
     c.combined_area-in-And.ensures
 
 pub returns-in-Sub : goal.returns-in-Sub
 returns-in-Sub c =
     let plan = c.args.self.now in
     let lists = map (λ list. list.items) c.args.areas.now in
-    IfOk-weaker c.combined_area-in-Sub.result _ (λ traps. HasArea c.args.window (λ t. IsInStep plan.cells plan.top plan.deck.frame (IsListed lists) c.args.step.now t) traps.items)
+    IfOk-weaker c.combined_area-in-Sub.result _
+    (λ traps. HasArea c.args.window
+    (λ t. IsInStep plan.cells plan.top plan.deck.frame (IsListed lists) c.args.step.now t) traps.items)
     (λ traps h. of_step c.args.window lists plan.cells plan.top plan.deck.frame c.args.step.now (Sub c.in-Sub.a c.in-Sub.b) traps.items c.in-Sub.is
-    (of_two c.args.window lists ops.Sub c.in-Sub.a c.in-Sub.b c.list-in-Sub.result.now c.list-in-Sub-2.result.now traps.items c.list-in-Sub.ensures c.list-in-Sub-2.ensures h))
+    (of_two c.args.window lists ops.Sub c.in-Sub.a c.in-Sub.b c.list-in-Sub.result.now c.list-in-Sub-2.result.now
+    traps.items c.list-in-Sub.ensures c.list-in-Sub-2.ensures h))
     c.combined_area-in-Sub.ensures
 
 pub returns-in-Xor : goal.returns-in-Xor
 returns-in-Xor c =
     let plan = c.args.self.now in
     let lists = map (λ list. list.items) c.args.areas.now in
-    IfOk-weaker c.combined_area-in-Xor.result _ (λ traps. HasArea c.args.window (λ t. IsInStep plan.cells plan.top plan.deck.frame (IsListed lists) c.args.step.now t) traps.items)
+    IfOk-weaker c.combined_area-in-Xor.result _
+    (λ traps. HasArea c.args.window
+    (λ t. IsInStep plan.cells plan.top plan.deck.frame (IsListed lists) c.args.step.now t) traps.items)
     (λ traps h. of_step c.args.window lists plan.cells plan.top plan.deck.frame c.args.step.now (Xor c.in-Xor.a c.in-Xor.b) traps.items c.in-Xor.is
-    (of_two c.args.window lists ops.Xor c.in-Xor.a c.in-Xor.b c.list-in-Xor.result.now c.list-in-Xor-2.result.now traps.items c.list-in-Xor.ensures c.list-in-Xor-2.ensures h))
+    (of_two c.args.window lists ops.Xor c.in-Xor.a c.in-Xor.b c.list-in-Xor.result.now c.list-in-Xor-2.result.now
+    traps.items c.list-in-Xor.ensures c.list-in-Xor-2.ensures h))
     c.combined_area-in-Xor.ensures
 
 pub returns-in-Grow : goal.returns-in-Grow
@@ -110,9 +123,14 @@ returns-in-Grow c =
     let dx : FitsSigned w64 c.in-Grow.dx = search rules in
     let dy : FitsSigned w64 c.in-Grow.dy = search rules in
     let made = simp to_z-of_z at c.grown_area.ensures in
-    IfOk-weaker c.grown_area.result _ (λ traps. HasArea c.args.window (λ t. IsInStep plan.cells plan.top plan.deck.frame (IsListed lists) c.args.step.now t) traps.items)
-    (λ traps h. of_step c.args.window lists plan.cells plan.top plan.deck.frame c.args.step.now (Grow c.in-Grow.a c.in-Grow.dx c.in-Grow.dy) traps.items c.in-Grow.is
-    (of_one c.args.window lists (λ list. IsGrown c.in-Grow.dx c.in-Grow.dy (IsInSome list)) c.in-Grow.a c.list-in-Grow.result.now traps.items c.list-in-Grow.ensures h))
+    IfOk-weaker c.grown_area.result _
+    (λ traps. HasArea c.args.window
+    (λ t. IsInStep plan.cells plan.top plan.deck.frame (IsListed lists) c.args.step.now t) traps.items)
+    (λ traps h. of_step c.args.window lists plan.cells plan.top plan.deck.frame c.args.step.now
+    (Grow c.in-Grow.a c.in-Grow.dx c.in-Grow.dy) traps.items c.in-Grow.is
+    (of_one c.args.window lists
+    (λ list. IsGrown c.in-Grow.dx c.in-Grow.dy (IsInSome list)) c.in-Grow.a c.list-in-Grow.result.now traps.items
+    c.list-in-Grow.ensures h))
     made
 
 pub returns-in-Shrink : goal.returns-in-Shrink
@@ -127,9 +145,14 @@ returns-in-Shrink c =
     let dx : FitsSigned w64 c.in-Shrink.dx = search rules in
     let dy : FitsSigned w64 c.in-Shrink.dy = search rules in
     let made = simp to_z-of_z at c.shrunk_area.ensures in
-    IfOk-weaker c.shrunk_area.result _ (λ traps. HasArea c.args.window (λ t. IsInStep plan.cells plan.top plan.deck.frame (IsListed lists) c.args.step.now t) traps.items)
-    (λ traps h. of_step c.args.window lists plan.cells plan.top plan.deck.frame c.args.step.now (Shrink c.in-Shrink.a c.in-Shrink.dx c.in-Shrink.dy) traps.items c.in-Shrink.is
-    (of_one c.args.window lists (λ list. IsShrunk c.in-Shrink.dx c.in-Shrink.dy (IsInSome list)) c.in-Shrink.a c.list-in-Shrink.result.now traps.items c.list-in-Shrink.ensures h))
+    IfOk-weaker c.shrunk_area.result _
+    (λ traps. HasArea c.args.window
+    (λ t. IsInStep plan.cells plan.top plan.deck.frame (IsListed lists) c.args.step.now t) traps.items)
+    (λ traps h. of_step c.args.window lists plan.cells plan.top plan.deck.frame c.args.step.now
+    (Shrink c.in-Shrink.a c.in-Shrink.dx c.in-Shrink.dy) traps.items c.in-Shrink.is
+    (of_one c.args.window lists
+    (λ list. IsShrunk c.in-Shrink.dx c.in-Shrink.dy (IsInSome list)) c.in-Shrink.a c.list-in-Shrink.result.now
+    traps.items c.list-in-Shrink.ensures h))
     made
 
 pub returns-in-Some : goal.returns-in-Some
@@ -137,9 +160,15 @@ returns-in-Some c =
     let plan = c.args.self.now in
     let lists = map (λ list. list.items) c.args.areas.now in
     let frame = ap (λ (d : Deck). d.frame) c.deck.ensures.value in
-    IfOk-weaker c.inverted_area.result _ (λ traps. HasArea c.args.window (λ t. IsInStep plan.cells plan.top plan.deck.frame (IsListed lists) c.args.step.now t) traps.items)
+    IfOk-weaker c.inverted_area.result _
+    (λ traps. HasArea c.args.window
+    (λ t. IsInStep plan.cells plan.top plan.deck.frame (IsListed lists) c.args.step.now t) traps.items)
     (λ traps h. of_step c.args.window lists plan.cells plan.top plan.deck.frame c.args.step.now (Invert c.in-Invert.a) traps.items c.in-Invert.is
-    (of_frame c.args.window lists plan.cells plan.top plan.deck.frame c.in-Some.frame c.in-Invert.a traps.items (sym frame ∙ c.in-Some.is) (of_one c.args.window lists (λ list t. IsInFrame c.in-Some.frame t × (IsInSome list t → ⊥)) c.in-Invert.a c.list-in-Some.result.now traps.items c.list-in-Some.ensures h)))
+    (of_frame c.args.window lists plan.cells plan.top plan.deck.frame c.in-Some.frame c.in-Invert.a traps.items
+    (sym frame ∙ c.in-Some.is)
+    (of_one c.args.window lists
+    (λ list t. IsInFrame c.in-Some.frame t × (IsInSome list t → ⊥)) c.in-Invert.a c.list-in-Some.result.now
+    traps.items c.list-in-Some.ensures h)))
     c.inverted_area.ensures
 
 pub returns-in-Mirror : goal.returns-in-Mirror
@@ -151,7 +180,11 @@ returns-in-Mirror c =
     let high = at.high in
     let m : FitsSigned w64 c.in-Mirror.m = search rules in
     let made = simp to_z-of_z at c.mirrored_area.ensures in
-    IfOk-weaker c.mirrored_area.result _ (λ traps. HasArea c.args.window (λ t. IsInStep plan.cells plan.top plan.deck.frame (IsListed lists) c.args.step.now t) traps.items)
+    IfOk-weaker c.mirrored_area.result _
+    (λ traps. HasArea c.args.window
+    (λ t. IsInStep plan.cells plan.top plan.deck.frame (IsListed lists) c.args.step.now t) traps.items)
     (λ traps h. of_step c.args.window lists plan.cells plan.top plan.deck.frame c.args.step.now (Mirror c.in-Mirror.a c.in-Mirror.m) traps.items c.in-Mirror.is
-    (of_one c.args.window lists (λ list t. IsInSome list (mirrored_tile c.in-Mirror.m t)) c.in-Mirror.a c.list-in-Mirror.result.now traps.items c.list-in-Mirror.ensures h))
+    (of_one c.args.window lists
+    (λ list t. IsInSome list (mirrored_tile c.in-Mirror.m t)) c.in-Mirror.a c.list-in-Mirror.result.now traps.items
+    c.list-in-Mirror.ensures h))
     made

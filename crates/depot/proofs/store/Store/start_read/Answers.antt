@@ -20,4 +20,6 @@ pub returns-clause-after : goal.returns-clause-after
 returns-clause-after c =
     let fs = c.self.inside.held.items in
     let is = found fs c.args.name.now _ (rw c.deref.ensures.value at c.place-self-inside.ensures) in
-    rw (← c.self.view_is) (ap (λ l. with_left (store_content c.self.inside) l) (left_of-start fs c.place-self-inside.result ∙ ap (λ o. unwrap_or o []) (sym is)))
+    rw (← c.self.view_is)
+    (ap (λ l. with_left (store_content c.self.inside) l)
+    (left_of-start fs c.place-self-inside.result ∙ ap (λ o. unwrap_or o []) (sym is)))

@@ -16,7 +16,9 @@ returns-clause-ok c =
     let new = c.append.new.files.items in
     rw (← c.self.view_is)
     (on_ok_weaker c.append.result
-    (λ ok. both_changed (store_content c.self.inside) _ _ _ _ (ok ∙ appended_current old _ c.in-Some.at c.args.piece.now c.in-Some.is) (current_kept old new _ c.in-Some.at c.in-Some.is c.append.ensures.place))
+    (λ ok. both_changed (store_content c.self.inside) _ _ _ _
+    (ok ∙ appended_current old _ c.in-Some.at c.args.piece.now c.in-Some.is)
+    (current_kept old new _ c.in-Some.at c.in-Some.is c.append.ensures.place))
     c.append.ensures.ok)
 
 pub returns-clause-refused : goal.returns-clause-refused

@@ -12,7 +12,8 @@ overflow_add-result c =
     let low = c.args.self.low in
     let high = c.args.self.high in
     let sized = c.args.stripe.sized in
-    let next : FitsSigned w64 (c.args.self.x +ℤ c.args.stripe.size) = fits_by _ (omega (arith, ints, low, sized.least)) (omega (arith, ints, high, sized.most)) in
+    let next : FitsSigned w64 (c.args.self.x +ℤ c.args.stripe.size) = fits_by _ (omega (arith, ints, low, sized.least))
+    (omega (arith, ints, high, sized.most)) in
     simp to_z-of_z next
 
 pub invariant_of-result : goal.invariant_of-result
@@ -22,9 +23,15 @@ invariant_of-result c =
     let low = c.args.self.low in
     let high = c.args.self.high in
     let sized = c.args.stripe.sized in
-    let next : FitsSigned w64 (c.args.self.x +ℤ c.args.stripe.size) = fits_by _ (omega (arith, ints, low, sized.least)) (omega (arith, ints, high, sized.most)) in
+    let next : FitsSigned w64 (c.args.self.x +ℤ c.args.stripe.size) = fits_by _ (omega (arith, ints, low, sized.least))
+    (omega (arith, ints, high, sized.most)) in
     let few = c.args.self.few in
-    record { few = omega (arith, few); low = simp to_z-of_z (omega (arith, ints, low, sized.least)); high = simp to_z-of_z (omega (arith, ints, high, sized.most, c.requires)) }
+    record {
+      few = omega (arith, few);
+      low = simp to_z-of_z (omega (arith, ints, low, sized.least));
+      high =
+          simp to_z-of_z (omega (arith, ints, high, sized.most, c.requires));
+    }
 
 pub returns-clause-pieces : goal.returns-clause-pieces
 returns-clause-pieces c =
@@ -33,5 +40,6 @@ returns-clause-pieces c =
     let low = c.args.self.low in
     let high = c.args.self.high in
     let sized = c.args.stripe.sized in
-    let next : FitsSigned w64 (c.args.self.x +ℤ c.args.stripe.size) = fits_by _ (omega (arith, ints, low, sized.least)) (omega (arith, ints, high, sized.most)) in
+    let next : FitsSigned w64 (c.args.self.x +ℤ c.args.stripe.size) = fits_by _ (omega (arith, ints, low, sized.least))
+    (omega (arith, ints, high, sized.most)) in
     simp to_z-of_z (across_next c.args.stripe.size (shape_of c.args.self.part) c.args.self.fields c.args.self.x c.requires)

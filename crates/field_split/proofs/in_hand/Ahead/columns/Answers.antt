@@ -10,7 +10,8 @@ overflow_add-result c =
     let low = c.args.self.low in
     let high = c.args.self.high in
     let sized = c.args.stripe.sized in
-    let next : FitsSigned w64 (c.args.self.x +ℤ c.args.stripe.size) = fits_by _ (omega (arith, ints, low, sized.least)) (omega (arith, ints, high, sized.most)) in
+    let next : FitsSigned w64 (c.args.self.x +ℤ c.args.stripe.size) = fits_by _ (omega (arith, ints, low, sized.least))
+    (omega (arith, ints, high, sized.most)) in
     simp to_z-of_z next
 
 pub returns-clause-value : goal.returns-clause-value
@@ -20,7 +21,8 @@ returns-clause-value c =
     let low = c.args.self.low in
     let high = c.args.self.high in
     let sized = c.args.stripe.sized in
-    let next : FitsSigned w64 (c.args.self.x +ℤ c.args.stripe.size) = fits_by _ (omega (arith, ints, low, sized.least)) (omega (arith, ints, high, sized.most)) in
+    let next : FitsSigned w64 (c.args.self.x +ℤ c.args.stripe.size) = fits_by _ (omega (arith, ints, low, sized.least))
+    (omega (arith, ints, high, sized.most)) in
     simp to_z-of_z refl
 
 pub returns-clause-near : goal.returns-clause-near
@@ -30,7 +32,8 @@ returns-clause-near c =
     let low = c.args.self.low in
     let high = c.args.self.high in
     let sized = c.args.stripe.sized in
-    let next : FitsSigned w64 (c.args.self.x +ℤ c.args.stripe.size) = fits_by _ (omega (arith, ints, low, sized.least)) (omega (arith, ints, high, sized.most)) in
+    let next : FitsSigned w64 (c.args.self.x +ℤ c.args.stripe.size) = fits_by _ (omega (arith, ints, low, sized.least))
+    (omega (arith, ints, high, sized.most)) in
     simp to_z-of_z (record {
       some = omega (arith, ints, sized.least);
       first = record { low = omega (arith, ints, low); high = omega (arith, ints, high) };

@@ -12,7 +12,9 @@ overflow_sub-result c =
     let sized = c.args.stripe.sized in
     let order = fields_order c.args.stripe.size sized (shape_of c.args.part) c.args.part.shot in
     let few = fields_few c.args.stripe.size sized (shape_of c.args.part) c.args.part.shot c.requires in
-    let gap : FitsSigned w64 (c.last_field.result -ℤ c.first_field.result) = rw (c.last_field.ensures, c.first_field.ensures) (fits_by _ (omega (arith, ints, order)) (omega (arith, ints, few))) in
+    let gap : FitsSigned w64 (c.last_field.result -ℤ c.first_field.result) = rw
+    (c.last_field.ensures, c.first_field.ensures)
+    (fits_by _ (omega (arith, ints, order)) (omega (arith, ints, few))) in
     simp to_z-of_z gap
 
 pub returns-clause-value : goal.returns-clause-value
@@ -22,7 +24,9 @@ returns-clause-value c =
     let sized = c.args.stripe.sized in
     let order = fields_order c.args.stripe.size sized (shape_of c.args.part) c.args.part.shot in
     let few = fields_few c.args.stripe.size sized (shape_of c.args.part) c.args.part.shot c.requires in
-    let gap : FitsSigned w64 (c.last_field.result -ℤ c.first_field.result) = rw (c.last_field.ensures, c.first_field.ensures) (fits_by _ (omega (arith, ints, order)) (omega (arith, ints, few))) in
+    let gap : FitsSigned w64 (c.last_field.result -ℤ c.first_field.result) = rw
+    (c.last_field.ensures, c.first_field.ensures)
+    (fits_by _ (omega (arith, ints, order)) (omega (arith, ints, few))) in
     simp to_z-of_z (rw (c.last_field.ensures, c.first_field.ensures) refl)
 
 pub returns-clause-low : goal.returns-clause-low
@@ -32,7 +36,9 @@ returns-clause-low c =
     let sized = c.args.stripe.sized in
     let order = fields_order c.args.stripe.size sized (shape_of c.args.part) c.args.part.shot in
     let few = fields_few c.args.stripe.size sized (shape_of c.args.part) c.args.part.shot c.requires in
-    let gap : FitsSigned w64 (c.last_field.result -ℤ c.first_field.result) = rw (c.last_field.ensures, c.first_field.ensures) (fits_by _ (omega (arith, ints, order)) (omega (arith, ints, few))) in
+    let gap : FitsSigned w64 (c.last_field.result -ℤ c.first_field.result) = rw
+    (c.last_field.ensures, c.first_field.ensures)
+    (fits_by _ (omega (arith, ints, order)) (omega (arith, ints, few))) in
     simp to_z-of_z (rw (c.last_field.ensures, c.first_field.ensures) (omega (arith, ints, order)))
 
 pub returns-clause-high : goal.returns-clause-high
@@ -42,5 +48,7 @@ returns-clause-high c =
     let sized = c.args.stripe.sized in
     let order = fields_order c.args.stripe.size sized (shape_of c.args.part) c.args.part.shot in
     let few = fields_few c.args.stripe.size sized (shape_of c.args.part) c.args.part.shot c.requires in
-    let gap : FitsSigned w64 (c.last_field.result -ℤ c.first_field.result) = rw (c.last_field.ensures, c.first_field.ensures) (fits_by _ (omega (arith, ints, order)) (omega (arith, ints, few))) in
+    let gap : FitsSigned w64 (c.last_field.result -ℤ c.first_field.result) = rw
+    (c.last_field.ensures, c.first_field.ensures)
+    (fits_by _ (omega (arith, ints, order)) (omega (arith, ints, few))) in
     simp to_z-of_z (rw (c.last_field.ensures, c.first_field.ensures) few)

@@ -12,7 +12,8 @@ overflow_mul-result c =
     let sized = c.args.stripe.sized in
     let low = start_low c.args.stripe.size sized (shape_of c.args.part) c.args.part.shot in
     let high = start_high c.args.stripe.size sized (shape_of c.args.part) c.args.part.shot in
-    let start : FitsSigned w64 (c.first_field.result *ℤ c.args.stripe.size) = rw c.first_field.ensures (fits_by _ (omega (arith, ints, low)) (omega (arith, ints, high))) in
+    let start : FitsSigned w64 (c.first_field.result *ℤ c.args.stripe.size) = rw c.first_field.ensures
+    (fits_by _ (omega (arith, ints, low)) (omega (arith, ints, high))) in
     simp to_z-of_z start
 
 pub returns-clause-value : goal.returns-clause-value
@@ -22,7 +23,8 @@ returns-clause-value c =
     let sized = c.args.stripe.sized in
     let low = start_low c.args.stripe.size sized (shape_of c.args.part) c.args.part.shot in
     let high = start_high c.args.stripe.size sized (shape_of c.args.part) c.args.part.shot in
-    let start : FitsSigned w64 (c.first_field.result *ℤ c.args.stripe.size) = rw c.first_field.ensures (fits_by _ (omega (arith, ints, low)) (omega (arith, ints, high))) in
+    let start : FitsSigned w64 (c.first_field.result *ℤ c.args.stripe.size) = rw c.first_field.ensures
+    (fits_by _ (omega (arith, ints, low)) (omega (arith, ints, high))) in
     simp to_z-of_z (rw c.first_field.ensures refl)
 
 pub returns-clause-low : goal.returns-clause-low
@@ -32,7 +34,8 @@ returns-clause-low c =
     let sized = c.args.stripe.sized in
     let low = start_low c.args.stripe.size sized (shape_of c.args.part) c.args.part.shot in
     let high = start_high c.args.stripe.size sized (shape_of c.args.part) c.args.part.shot in
-    let start : FitsSigned w64 (c.first_field.result *ℤ c.args.stripe.size) = rw c.first_field.ensures (fits_by _ (omega (arith, ints, low)) (omega (arith, ints, high))) in
+    let start : FitsSigned w64 (c.first_field.result *ℤ c.args.stripe.size) = rw c.first_field.ensures
+    (fits_by _ (omega (arith, ints, low)) (omega (arith, ints, high))) in
     simp to_z-of_z (rw c.first_field.ensures low)
 
 pub returns-clause-high : goal.returns-clause-high
@@ -42,5 +45,6 @@ returns-clause-high c =
     let sized = c.args.stripe.sized in
     let low = start_low c.args.stripe.size sized (shape_of c.args.part) c.args.part.shot in
     let high = start_high c.args.stripe.size sized (shape_of c.args.part) c.args.part.shot in
-    let start : FitsSigned w64 (c.first_field.result *ℤ c.args.stripe.size) = rw c.first_field.ensures (fits_by _ (omega (arith, ints, low)) (omega (arith, ints, high))) in
+    let start : FitsSigned w64 (c.first_field.result *ℤ c.args.stripe.size) = rw c.first_field.ensures
+    (fits_by _ (omega (arith, ints, low)) (omega (arith, ints, high))) in
     simp to_z-of_z (rw c.first_field.ensures high)

@@ -39,8 +39,10 @@ loop-piece-preserved g c =
             shots = first.0;
             given = first.2;
             within = All-tail IsFieldShot c.in-Some-next.shot first.0 (subst (All IsFieldShot) first.1 p.within);
-            few = All-tail (HasFewPieces stripe.size stripe.number) c.in-Some-next.shot first.0 (subst (All (HasFewPieces stripe.size stripe.number)) first.1 p.few);
-            is = p.is ∙ turned stripe.size stripe.number c.loop-piece.self.in_hand c.of-self.result p.shots first.0 c.in-Some-next.shot c.in_default.ensures.0 first.1 c.of-self.ensures;
+            few = All-tail (HasFewPieces stripe.size stripe.number) c.in-Some-next.shot first.0
+                (subst (All (HasFewPieces stripe.size stripe.number)) first.1 p.few);
+            is = p.is ∙ turned stripe.size stripe.number c.loop-piece.self.in_hand c.of-self.result p.shots first.0
+                c.in-Some-next.shot c.in_default.ensures.0 first.1 c.of-self.ensures;
           };
       size = room _ _ _ _ _ few c.in-Some-next.ensures.size c.loop-piece.invariant.size;
     }

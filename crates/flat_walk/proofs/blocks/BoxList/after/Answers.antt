@@ -8,13 +8,17 @@ use Rattle.flat_walk.proofs.blocks.BoxList.after.Goals as goal
 pub may_show-requires-clause-near : goal.may_show-requires-clause-near
 may_show-requires-clause-near c =
     c.self.invariant.1.near (c.args.number / 64) c.in-Some.block.now
-    (looked_up c.deref.result.now c.self.inside.blocks.items (c.args.number / 64) c.in-Some.block.now c.deref.ensures.value c.in-Some.ensures.lookup.3.0 c.in-Some.ensures.lookup.1)
+    (looked_up c.deref.result.now c.self.inside.blocks.items
+    (c.args.number / 64) c.in-Some.block.now c.deref.ensures.value c.in-Some.ensures.lookup.3.0
+    c.in-Some.ensures.lookup.1)
 
 pub returns-then-not-may_show-clause-none : goal.returns-then-not-may_show-clause-none
 returns-then-not-may_show-clause-none c =
     let n = c.args.number in
     let e : (n / 64) * 64 ≡ n = omega (arith, c.if-number-eq0.true) in
-    let at = looked_up c.deref.result.now c.self.inside.blocks.items (n / 64) c.in-Some.block.now c.deref.ensures.value c.in-Some.ensures.lookup.3.0 c.in-Some.ensures.lookup.1 in
+    let at = looked_up c.deref.result.now c.self.inside.blocks.items
+    (n / 64) c.in-Some.block.now c.deref.ensures.value c.in-Some.ensures.lookup.3.0 c.in-Some.ensures.lookup.1
+    in
     let boxes = c.self.inside.boxes.items in
     let those = subst (λ k. IsRoundThose boxes k (k + 64) c.in-Some.block.now) e (c.self.invariant.1.around (n / 64) c.in-Some.block.now at) in
     subst (λ l. ShowNothing c.args.window c.args.orient c.args.at l n (n + 64)) c.self.view_is
@@ -23,11 +27,15 @@ returns-then-not-may_show-clause-none c =
 pub may_show-requires-2-clause-near : goal.may_show-requires-2-clause-near
 may_show-requires-2-clause-near c =
     let n = c.args.number in
-    c.self.invariant.0 n c.index.result.now (slice_get_read c.self.inside.boxes.items _ n c.index.result.now refl (subst (λ l. n < length l) (sym c.self.view_is) c.requires.number) c.index.ensures)
+    c.self.invariant.0 n c.index.result.now
+    (slice_get_read c.self.inside.boxes.items _ n c.index.result.now refl
+    (subst (λ l. n < length l) (sym c.self.view_is) c.requires.number) c.index.ensures)
 
 pub returns-clause-none : goal.returns-clause-none
 returns-clause-none c =
     let n = c.args.number in
-    let at = slice_get_read c.self.inside.boxes.items _ n c.index.result.now refl (subst (λ l. n < length l) (sym c.self.view_is) c.requires.number) c.index.ensures in
+    let at = slice_get_read c.self.inside.boxes.items _ n c.index.result.now refl
+    (subst (λ l. n < length l) (sym c.self.view_is) c.requires.number) c.index.ensures in
     subst (λ l. ShowNothing c.args.window c.args.orient c.args.at l n (n + 1)) c.self.view_is
-    (nothing_there c.args.window c.args.orient c.args.at c.self.inside.boxes.items n (n + 1) c.index.result.now refl at (c.may_show-2.ensures c.if-may_show.false))
+    (nothing_there c.args.window c.args.orient c.args.at c.self.inside.boxes.items n (n + 1) c.index.result.now refl at
+    (c.may_show-2.ensures c.if-may_show.false))

@@ -3,7 +3,12 @@ use Rattle.flat_walk.proofs.BlockLemmas.{nothing_yet, nothing_more}
 use Rattle.flat_walk.proofs.blocks.BoxList.next.Goals as goal
 
 pub loop-next-init : goal.loop-next-init
-loop-next-init c = record { later = omega arith; inside = λ less. absurd (omega (arith, less)); none = nothing_yet c.args.window c.args.orient c.args.at c.args.self.now c.args.from }
+loop-next-init c = record {
+  later = omega arith;
+  inside = λ less. absurd (omega (arith, less));
+  none =
+      nothing_yet c.args.window c.args.orient c.args.at c.args.self.now c.args.from;
+}
 
 pub loop-next-preserved : goal.loop-next-preserved
 loop-next-preserved c =

@@ -11,4 +11,10 @@ returns-in-Some-next-clause-inner c =
     let o = c.of.ensures in
     let n = c.in-Some-next.ensures in
     inner_is c.args.scene.now c.args.self.now c.of.result c.next.new.self c.in-Some-next.spot c.requires.level n.run
-    (record { by = n.spot.by; near = n.spot.near; is = n.spot.is ∙ ap (λ p. image_of c.args.self.now.orient c.args.self.now.at (moved n.spot.by p.at)) (sym n.placement) }) o.cell o.orient o.at o.depth o.run o.next
+    (record {
+      by = n.spot.by;
+      near = n.spot.near;
+      is = n.spot.is ∙ ap
+          (λ p. image_of c.args.self.now.orient c.args.self.now.at (moved n.spot.by p.at)) (sym n.placement);
+    }) o.cell
+    o.orient o.at o.depth o.run o.next

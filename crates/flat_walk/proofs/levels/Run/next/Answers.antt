@@ -26,7 +26,8 @@ returns-then-meet-clause-gives c =
     let before = run_rest c.args.scene.now c.args.outer c.args.at (Some c.args.self.now) in
     let later = spots_rest c.args.outer c.args.at s.placement.now (marked_of c.args.scene.now s.target) (s.place + 1) in
     subst (λ t. Skips w before (map (marked_image c.args.self.now.orient c.spot-spot.result) (marked_of c.args.scene.now t) ++ later)) i.target
-    (spots_gives w before c.args.outer c.args.at s.placement.now (marked_of c.args.scene.now s.target) s.place c.nth-by.result c.args.self.now.orient c.spot-spot.result
+    (spots_gives w before c.args.outer c.args.at s.placement.now
+    (marked_of c.args.scene.now s.target) s.place c.nth-by.result c.args.self.now.orient c.spot-spot.result
     i.skips c.requires.outer i.run.grid.orient c.nth-by.ensures (sym i.orient ∙ i.run.orient) c.spot-spot.ensures)
 
 pub returns-then-meet-clause-spot : goal.returns-then-meet-clause-spot
@@ -47,9 +48,11 @@ loop-self-preserved c =
     let before = run_rest c.args.scene.now c.args.outer c.args.at (Some c.args.self.now) in
     let things = marked_of c.args.scene.now s.target in
     let spot : Point = c.spot-spot.result in
-    let off = meet_off w s.rows.low s.rows.high c.raised.result.low c.raised.result.high spot.y c.meet.result c.raised.ensures.low c.raised.ensures.high c.meet.ensures c.if-meet.false in
+    let off = meet_off w s.rows.low s.rows.high c.raised.result.low c.raised.result.high spot.y c.meet.result
+    c.raised.ensures.low c.raised.ensures.high c.meet.ensures c.if-meet.false in
     let one = spots_skip w before c.args.outer c.args.at s.placement.now things s.place s.orient spot
-    (spots_gives w before c.args.outer c.args.at s.placement.now things s.place c.nth-by.result s.orient spot i.skips c.requires.outer i.run.grid.orient c.nth-by.ensures i.run.orient c.spot-spot.ensures)
+    (spots_gives w before c.args.outer c.args.at s.placement.now things s.place c.nth-by.result s.orient spot i.skips
+    c.requires.outer i.run.grid.orient c.nth-by.ensures i.run.orient c.spot-spot.ensures)
     (hidden_at w s.orient spot s.rows.low s.rows.high things i.run.between off) in
     record {
       run = record {
@@ -62,7 +65,9 @@ loop-self-preserved c =
         between = i.run.between;
         near = i.run.near;
       };
-      skips = spots_to w before c.args.outer c.args.at s.placement.now things s.orient s.rows.low s.rows.high s.place c.onward-self.result c.requires.outer i.run.grid.orient i.run.orient c.onward-self.ensures.later c.onward-self.ensures.inside i.run.between c.onward-self.ensures.none one;
+      skips = spots_to w before c.args.outer c.args.at s.placement.now things s.orient s.rows.low s.rows.high s.place
+          c.onward-self.result c.requires.outer i.run.grid.orient i.run.orient c.onward-self.ensures.later
+          c.onward-self.ensures.inside i.run.between c.onward-self.ensures.none one;
       target = i.target;
       orient = i.orient;
       placement = i.placement;

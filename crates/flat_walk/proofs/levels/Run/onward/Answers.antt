@@ -8,7 +8,9 @@ pub places_in-wanted-requires-clause-rows : goal.places_in-wanted-requires-claus
 places_in-wanted-requires-clause-rows c = let r = c.requires.rows in record { low_near = r.x_low; low_far = r.x_high; high_near = r.y_low; high_far = r.y_high }
 
 pub returns-in-Some-clause-inside : goal.returns-in-Some-clause-inside
-returns-in-Some-clause-inside c = let h = slice_get_within c.args.self.now.placement.now.offsets c.in-Some.place c.in-Some.ensures.place c.in-Some.ensures.here in omega (arith, h)
+returns-in-Some-clause-inside c = let h =
+    slice_get_within c.args.self.now.placement.now.offsets c.in-Some.place c.in-Some.ensures.place
+    c.in-Some.ensures.here in omega (arith, h)
 
 pub returns-in-Some-clause-none : goal.returns-in-Some-clause-none
 returns-in-Some-clause-none c = λ k by after before here.

@@ -13,8 +13,12 @@ returns-clause-list c =
     let o = c.args.self.now.orient in
     let on : is_on c.args.pair c.args.shape.now ≡ true = not_false _ (sym c.ne.ensures ∙ c.if-ne.false) in
     places_on o c.args.self.now.at c.nth-by.result c.args.pair c.args.shape.now c.args.list.now c.args.self.now.place on c.nth-by.ensures
-    ∙ (ap (λ l. placed_list o (image_of o c.args.self.now.at c.nth-by.result) l ++ map (quad_image o c.args.self.now.at) (places_rest c.args.pair c.args.shape.now c.args.list.now (c.args.self.now.place + 1))) (sym c.as_slice.ensures.value)
-    ∙ ap (λ at. placed_list o at c.as_slice.result.now ++ map (quad_image o c.args.self.now.at) (places_rest c.args.pair c.args.shape.now c.args.list.now (c.args.self.now.place + 1))) (sym c.image.ensures))
+    ∙ (ap (λ l. placed_list o (image_of o c.args.self.now.at c.nth-by.result) l ++ map
+    (quad_image o c.args.self.now.at)
+    (places_rest c.args.pair c.args.shape.now c.args.list.now (c.args.self.now.place + 1)))
+    (sym c.as_slice.ensures.value)
+    ∙ ap (λ at. placed_list o at c.as_slice.result.now ++ map (quad_image o c.args.self.now.at)
+    (places_rest c.args.pair c.args.shape.now c.args.list.now (c.args.self.now.place + 1))) (sym c.image.ensures))
 
 pub returns-clause-hand : goal.returns-clause-hand
 returns-clause-hand c =

@@ -8,7 +8,8 @@ use Rattle.flat_walk.proofs.BoxLemmas.{boxed_after}
 use Rattle.flat_walk.proofs.owned.Cursor.next.Goals as goal
 
 pub here-requires-clause-grid : goal.here-requires-clause-grid
-here-requires-clause-grid c = All-head IsShapeOnGrid c.in-Some.shape.now c.in-Some.shapes.now (subst (All IsShapeOnGrid) c.in-Some.ensures.cases.0 c.loop-shape.invariant.cursor.grid)
+here-requires-clause-grid c = All-head IsShapeOnGrid c.in-Some.shape.now c.in-Some.shapes.now
+    (subst (All IsShapeOnGrid) c.in-Some.ensures.cases.0 c.loop-shape.invariant.cursor.grid)
 
 pub overflow_add-self : goal.overflow_add-self
 overflow_add-self c = let h = c.in-Some-here.ensures.inside in let f = c.in-Some-here.ensures.few in omega (arith, h, f)
@@ -25,10 +26,12 @@ loop-shape-preserved c =
         orient = i.cursor.orient;
         near = i.cursor.near;
         grid = All-tail IsShapeOnGrid c.in-Some.shape.now c.in-Some.shapes.now (subst (All IsShapeOnGrid) same i.cursor.grid);
-        boxed = boxed_after s.shapes.now c.in-Some.shapes.now s.lists.now c.in-Some-split_first.lists.now _ _ c.in-Some.shape.now c.in-Some-split_first.list.now same are
+        boxed = boxed_after s.shapes.now c.in-Some.shapes.now s.lists.now c.in-Some-split_first.lists.now _ _
+            c.in-Some.shape.now c.in-Some-split_first.list.now same are
             (sym (drop_on s.number 1 (s.number + 1) (boxes_in s.boxes) refl)) i.cursor.boxed;
         few = let e = ap length same in let f = i.cursor.few in omega (arith, e, f);
       };
-      list = i.list ∙ cursor_skip s.orient s.at c.args.pair s.shapes.now c.in-Some.shapes.now c.in-Some.shape.now s.lists.now c.in-Some-split_first.lists.now c.in-Some-split_first.list.now s.place same are none;
+      list = i.list ∙ cursor_skip s.orient s.at c.args.pair s.shapes.now c.in-Some.shapes.now c.in-Some.shape.now
+          s.lists.now c.in-Some-split_first.lists.now c.in-Some-split_first.list.now s.place same are none;
       steps = let h = steps_skip s.shapes.now c.in-Some.shapes.now c.in-Some.shape.now s.place same in omega (arith, h, i.steps);
     }

@@ -19,7 +19,9 @@ returns-clause-cursor c =
     let is : n.result ≡ s.number + count = omega (arith, n.ensures.later) in
     let some : 1 ≤ count = omega (arith, n.ensures.later, c.if-next-self.false) in
     let inside = n.ensures.inside (omega (arith, some)) in
-    let passed = boxes_passed c.args.window s.orient s.at s.number n.result count s.shapes.now c.rest-self.result.now s.lists.now c.rest-self-2.result.now boxes s.place c.requires.boxed is some inside n.ensures.none c.rest-self.ensures c.rest-self-2.ensures in
+    let passed = boxes_passed c.args.window s.orient s.at s.number n.result count s.shapes.now c.rest-self.result.now
+    s.lists.now c.rest-self-2.result.now boxes s.place c.requires.boxed is some inside n.ensures.none
+    c.rest-self.ensures c.rest-self-2.ensures in
     let most = boxed_long s.shapes.now s.lists.now (drop s.number boxes) c.requires.boxed in
     let long = length-drop s.number boxes in
     let short = ap length c.rest-self.ensures ∙ length-drop count s.shapes.now in
@@ -38,7 +40,8 @@ returns-clause-skips c = λ pair.
     let count = n.result - s.number in
     let is : n.result ≡ s.number + count = omega (arith, n.ensures.later) in
     let some : 1 ≤ count = omega (arith, n.ensures.later, c.if-next-self.false) in
-    (boxes_passed c.args.window s.orient s.at s.number n.result count s.shapes.now c.rest-self.result.now s.lists.now c.rest-self-2.result.now (boxes_in s.boxes) s.place c.requires.boxed is some
+    (boxes_passed c.args.window s.orient s.at s.number n.result count s.shapes.now c.rest-self.result.now s.lists.now
+    c.rest-self-2.result.now (boxes_in s.boxes) s.place c.requires.boxed is some
     (n.ensures.inside (omega (arith, some))) n.ensures.none c.rest-self.ensures c.rest-self-2.ensures).skips pair
 
 pub returns-clause-steps : goal.returns-clause-steps
@@ -48,8 +51,10 @@ returns-clause-steps c =
     let count = n.result - s.number in
     let is : n.result ≡ s.number + count = omega (arith, n.ensures.later) in
     let some : 1 ≤ count = omega (arith, n.ensures.later, c.if-next-self.false) in
-    (boxes_passed c.args.window s.orient s.at s.number n.result count s.shapes.now c.rest-self.result.now s.lists.now c.rest-self-2.result.now (boxes_in s.boxes) s.place c.requires.boxed is some
+    (boxes_passed c.args.window s.orient s.at s.number n.result count s.shapes.now c.rest-self.result.now s.lists.now
+    c.rest-self-2.result.now (boxes_in s.boxes) s.place c.requires.boxed is some
     (n.ensures.inside (omega (arith, some))) n.ensures.none c.rest-self.ensures c.rest-self-2.ensures).steps
 
 pub returns-clause-shorter : goal.returns-clause-shorter
-returns-clause-shorter c = let e = ap length c.rest-self.ensures in let f = length-drop (c.next_in-next.result - c.args.self.now.number) c.args.self.now.shapes.now in omega (arith, e, f)
+returns-clause-shorter c = let e = ap length c.rest-self.ensures in let f = length-drop
+    (c.next_in-next.result - c.args.self.now.number) c.args.self.now.shapes.now in omega (arith, e, f)

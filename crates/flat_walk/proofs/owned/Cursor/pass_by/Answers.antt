@@ -23,12 +23,14 @@ loop-shape-preserved c =
         orient = p.cursor.orient;
         near = p.cursor.near;
         grid = All-tail IsShapeOnGrid c.in-Some.shape.now c.in-Some.shapes.now (subst (All IsShapeOnGrid) same p.cursor.grid);
-        boxed = boxed_after s.shapes.now c.in-Some.shapes.now s.lists.now c.in-Some-split_first.lists.now _ _ c.in-Some.shape.now c.in-Some-split_first._list.now same are
+        boxed = boxed_after s.shapes.now c.in-Some.shapes.now s.lists.now c.in-Some-split_first.lists.now _ _
+            c.in-Some.shape.now c.in-Some-split_first._list.now same are
             (sym (drop_on s.number 1 (s.number + 1) (boxes_in s.boxes) refl)) p.cursor.boxed;
         few = let e = ap length same in let f = p.cursor.few in omega (arith, e, f);
       };
       skips = skip_on c.args.window _ _ _ i.skips (skip_on c.args.window _ _ _ (p.skips c.args.pair) (skip_same c.args.window _ _ (ap (map Some)
-          (cursor_skip s.orient s.at c.args.pair s.shapes.now c.in-Some.shapes.now c.in-Some.shape.now s.lists.now c.in-Some-split_first.lists.now c.in-Some-split_first._list.now s.place same are
+          (cursor_skip s.orient s.at c.args.pair s.shapes.now c.in-Some.shapes.now c.in-Some.shape.now s.lists.now
+          c.in-Some-split_first.lists.now c.in-Some-split_first._list.now s.place same are
           (c.has_more.ensures c.if-has_more.false c.in-Some-split_first._list.now)))));
       steps = let h = steps_skip s.shapes.now c.in-Some.shapes.now c.in-Some.shape.now s.place same in omega (arith, h, p.steps, i.steps);
     }

@@ -7,7 +7,8 @@ pub returns-clause-shots : goal.returns-clause-shots
 returns-clause-shots c =
     let hand = c.args.self.now in
     let cut = c.cut_by_width-cut in
-    piece_step hand.limits.height hand.limits.width hand.within c.args.piece cut.result (record { shot = cut.ensures.shot; low = c.requires }) cut.ensures.whole cut.ensures.cut
+    piece_step hand.limits.height hand.limits.width hand.within c.args.piece cut.result
+    (record { shot = cut.ensures.shot; low = c.requires }) cut.ensures.whole cut.ensures.cut
     ∙ ap (λ rest. cut.result.part ∷ shots_of_piece hand.limits.width rest) (sym c.of_some-self.ensures)
 
 pub invariant_of-self-clause-low : goal.invariant_of-self-clause-low

@@ -11,7 +11,17 @@ returns-then-bottom-top-le0 c = λ shot.
     let last : FitsSigned w64 c.args.y1 = c.ranges.y1 in
     let bottom = simp to_z-of_z at c.in-Some.ensures.1 in
     let top = simp to_z-of_z at c.in-Some-side_length.ensures.1 in
-    omega (arith, ints, shot.legal.not_flat, shot.legal.bottom, shot.legal.top, shot.reach.bottom_left, shot.reach.bottom_right, shot.reach.top_left, shot.reach.top_right)
+    omega (
+      arith,
+      ints,
+      shot.legal.not_flat,
+      shot.legal.bottom,
+      shot.legal.top,
+      shot.reach.bottom_left,
+      shot.reach.bottom_right,
+      shot.reach.top_left,
+      shot.reach.top_right,
+    )
 
 -- what the four numbers are, where each test was passed
 shot : (c : goal.Else-bottom-top-le0) → IsShot (trapezoid c.args.y0 c.args.y1 c.args.left c.args.right)

@@ -8,4 +8,5 @@ returns c =
     let s = c.args.self in
     let r = c.ruler.result in
     let count : r.nu * r.nv ≡ s.nu * s.nv = rw (c.ruler.ensures.nu, c.ruler.ensures.nv) refl in
-    listed c.args.interval s.nu s.nv s.u s.v (mark r) c.args.from c.first_in.result c.ruler.ensures.same (subst (λ n. Finds c.args.interval (mark r) c.args.from n c.first_in.result) count c.first_in.ensures)
+    listed c.args.interval s.nu s.nv s.u s.v (mark r) c.args.from c.first_in.result c.ruler.ensures.same
+    (subst (λ n. Finds c.args.interval (mark r) c.args.from n c.first_in.result) count c.first_in.ensures)

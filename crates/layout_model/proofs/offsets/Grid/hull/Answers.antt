@@ -25,8 +25,12 @@ returns c =
     } in
     record {
       around = grid_all (IsInBox c.box_between.result) nu nv u v each;
-      left = grid_any (λ p. p.x ≡ c.box_between.result.x0) nu nv u v c.left_step.result c.left_step-2.result c.left_step.ensures.inside c.left_step-2.ensures.inside (sym left);
-      bottom = grid_any (λ p. p.y ≡ c.box_between.result.y0) nu nv u v c.bottom_step.result c.bottom_step-2.result c.bottom_step.ensures.inside c.bottom_step-2.ensures.inside (sym bottom);
-      right = grid_any (λ p. p.x ≡ c.box_between.result.x1) nu nv u v c.right_step.result c.right_step-2.result c.right_step.ensures.inside c.right_step-2.ensures.inside (sym right);
-      top = grid_any (λ p. p.y ≡ c.box_between.result.y1) nu nv u v c.top_step.result c.top_step-2.result c.top_step.ensures.inside c.top_step-2.ensures.inside (sym top);
+      left = grid_any (λ p. p.x ≡ c.box_between.result.x0) nu nv u v c.left_step.result c.left_step-2.result
+          c.left_step.ensures.inside c.left_step-2.ensures.inside (sym left);
+      bottom = grid_any (λ p. p.y ≡ c.box_between.result.y0) nu nv u v c.bottom_step.result c.bottom_step-2.result
+          c.bottom_step.ensures.inside c.bottom_step-2.ensures.inside (sym bottom);
+      right = grid_any (λ p. p.x ≡ c.box_between.result.x1) nu nv u v c.right_step.result c.right_step-2.result
+          c.right_step.ensures.inside c.right_step-2.ensures.inside (sym right);
+      top = grid_any (λ p. p.y ≡ c.box_between.result.y1) nu nv u v c.top_step.result c.top_step-2.result
+          c.top_step.ensures.inside c.top_step-2.ensures.inside (sym top);
     }

@@ -15,7 +15,13 @@ returns-clause-ruler c =
     let s = c.args.self in
     let u = c.step_on in
     let v = c.step_on-2 in
-    rw (c.from.ensures, c.from-2.ensures, to_z-of_z w64 u.result (near_fits u.result u.ensures.near), to_z-of_z w64 v.result (near_fits v.result v.ensures.near)) (record {
+    rw (
+      c.from.ensures,
+      c.from-2.ensures,
+      to_z-of_z w64 u.result
+          (near_fits u.result u.ensures.near),
+      to_z-of_z w64 v.result (near_fits v.result v.ensures.near),
+    ) (record {
       some_columns = c.requires.some_columns;
       few_columns = c.requires.few_columns;
       some_rows = c.requires.some_rows;

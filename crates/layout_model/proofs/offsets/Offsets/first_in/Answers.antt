@@ -21,9 +21,14 @@ returns-in-Regular c =
     let grid = c.in-Regular.grid.value in
     let list : list_of (Regular c.in-Regular.grid) ≡ c.args.self.now = ap list_of (sym c.in-Regular.is) ∙ c.self.view_is in
     let places = grid_places grid.nu grid.nv grid.u grid.v in
-    let here : MatchOption c.first_in.result (HasNoneIn c.args.interval places c.args.from (grid.nu * grid.nv)) (IsFirstIn c.args.interval places c.args.from) = subst
-    (λ g. MatchOption c.first_in.result (HasNoneIn c.args.interval (grid_places g.nu g.nv g.u g.v) c.args.from (g.nu * g.nv)) (IsFirstIn c.args.interval (grid_places g.nu g.nv g.u g.v) c.args.from))
+    let here : MatchOption c.first_in.result (HasNoneIn c.args.interval places c.args.from (grid.nu * grid.nv))
+    (IsFirstIn c.args.interval places c.args.from) = subst
+    (λ g. MatchOption c.first_in.result
+    (HasNoneIn c.args.interval (grid_places g.nu g.nv g.u g.v) c.args.from (g.nu * g.nv))
+    (IsFirstIn c.args.interval (grid_places g.nu g.nv g.u g.v) c.args.from))
     c.deref-in-Regular.ensures c.first_in.ensures in
-    let counted : MatchOption c.first_in.result (HasNoneIn c.args.interval places c.args.from (length places)) (IsFirstIn c.args.interval places c.args.from) = subst
-    (λ n. MatchOption c.first_in.result (HasNoneIn c.args.interval places c.args.from n) (IsFirstIn c.args.interval places c.args.from)) (sym (grid_count grid.nu grid.nv grid.u grid.v)) here in
+    let counted : MatchOption c.first_in.result (HasNoneIn c.args.interval places c.args.from (length places))
+    (IsFirstIn c.args.interval places c.args.from) = subst
+    (λ n. MatchOption c.first_in.result (HasNoneIn c.args.interval places c.args.from n)
+    (IsFirstIn c.args.interval places c.args.from)) (sym (grid_count grid.nu grid.nv grid.u grid.v)) here in
     subst (λ xs. MatchOption c.first_in.result (HasNoneIn c.args.interval xs c.args.from (length xs)) (IsFirstIn c.args.interval xs c.args.from)) list counted

@@ -6,7 +6,9 @@ first_in-requires-clause-stride c = rows_stride c.args.self c.rows.result c.requ
 
 pub returns-in-Some-2 : goal.returns-in-Some-2
 returns-in-Some-2 c =
-    alike_there c.args.interval c.args.self c.rows.result c.args.from c.in-Some.found c.requires.ruler.some_columns c.requires.alike c.rows.ensures.start c.rows.ensures.step (λ e. c.if-found-row.false e) c.in-Some.ensures
+    alike_there c.args.interval c.args.self c.rows.result c.args.from c.in-Some.found c.requires.ruler.some_columns
+    c.requires.alike c.rows.ensures.start c.rows.ensures.step (λ e. c.if-found-row.false e) c.in-Some.ensures
 
 pub returns-in-None : goal.returns-in-None
-returns-in-None c = alike_none c.args.interval c.args.self c.rows.result c.args.from c.requires.ruler.some_columns c.requires.alike c.rows.ensures.start c.rows.ensures.step c.in-None.ensures
+returns-in-None c = alike_none c.args.interval c.args.self c.rows.result c.args.from c.requires.ruler.some_columns
+    c.requires.alike c.rows.ensures.start c.rows.ensures.step c.in-None.ensures

@@ -7,7 +7,8 @@ pub first_in-requires-clause-stride : goal.first_in-requires-clause-stride
 first_in-requires-clause-stride c = row_stride c.args.self c.row.result c.args.row c.requires.ruler c.requires.inside c.row.ensures.start c.row.ensures.step
 
 pub returns-in-Some : goal.returns-in-Some
-returns-in-Some c = row_found c.args.interval c.args.self c.row.result c.args.row c.args.column c.in-Some.column c.row.ensures.start c.row.ensures.step c.in-Some.ensures
+returns-in-Some c = row_found c.args.interval c.args.self c.row.result c.args.row c.args.column c.in-Some.column
+    c.row.ensures.start c.row.ensures.step c.in-Some.ensures
 
 pub returns-in-None : goal.returns-in-None
 returns-in-None c =

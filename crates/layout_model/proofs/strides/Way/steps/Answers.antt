@@ -8,4 +8,5 @@ returns c = λ n.
     let length : FitsSigned w64 c.args.self.length = search rules in
     let pace : FitsSigned w64 c.args.self.pace = search rules in
     let far = c.if-self-le0.false in
-    rw (to_z-of_z w64 c.args.self.length length, to_z-of_z w64 c.args.self.pace pace) (steps_by c.args.self.length c.args.self.pace n (omega (arith, ints, far)) c.requires.pace)
+    rw (to_z-of_z w64 c.args.self.length length, to_z-of_z w64 c.args.self.pace pace)
+    (steps_by c.args.self.length c.args.self.pace n (omega (arith, ints, far)) c.requires.pace)

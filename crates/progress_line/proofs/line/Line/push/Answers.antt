@@ -10,7 +10,8 @@ returns-then-self-lt-COLUMNS c =
 
 pub returns-else-self-lt-COLUMNS : goal.returns-else-self-lt-COLUMNS
 returns-else-self-lt-COLUMNS c =
-    put_full _ _ (used_length c.self.inside.bytes _ c.self.inside.used c.self.view_is c.self.told c.self.invariant ∙ full c.if-self-lt-COLUMNS.false c.self.invariant)
+    put_full _ _ (used_length c.self.inside.bytes _ c.self.inside.used c.self.view_is c.self.told c.self.invariant
+    ∙ full c.if-self-lt-COLUMNS.false c.self.invariant)
   where
     full : {n : ℕ} → 79 ≤ n → n ≤ 79 → n ≡ 79
     full a b = omega arith

@@ -19,5 +19,13 @@ loop-point-preserved c =
 pub returns-in-Some-first_edge-clause-first : goal.returns-in-Some-first_edge-clause-first
 returns-in-Some-first_edge-clause-first c = λ items p.
     (let i = c.loop-point.invariant in
-    let same = c.in-Some.ensures.cases.0 in
-    (edges_along c.loop-point.self.operand c.in-Some.rest.now, p.is ∙ (sym i.edges ∙ along_some _ _ _ _ _ same c.in-Some-first_edge.ensures), record { near = (near_step _ _ _ i.near same).later; is = refl }))
+    let same = c.in-Some.ensures.cases.0 in (
+      edges_along c.loop-point.self.operand c.in-Some.rest.now,
+      p.is
+          ∙ (sym i.edges ∙ along_some _ _ _ _ _ same c.in-Some-first_edge.ensures),
+      record {
+        near =
+            (near_step _ _ _ i.near same).later;
+        is = refl;
+      },
+    ))

@@ -10,7 +10,9 @@ pub returns-clause-list : goal.returns-clause-list
 returns-clause-list g c = λ traps stands.
     let dx : FitsSigned w64 c.args.dx = c.ranges.dx in
     let dy : FitsSigned w64 c.args.dy = c.ranges.dy in
-    let within = subst (λ (zs : List Trapezoid). All (HasRingWithinReach c.args.dx c.args.dy) zs) (g.met.S.Stream.one_list c.args.source c.requires.traps.0 traps c.requires.traps.1 stands) c.requires.traps.2 in
+    let within = subst (λ (zs : List Trapezoid). All (HasRingWithinReach c.args.dx c.args.dy) zs)
+    (g.met.S.Stream.one_list c.args.source c.requires.traps.0 traps c.requires.traps.1 stands)
+    c.requires.traps.2 in
     simp to_z-of_z (record {
       traps = traps;
       given = stands;

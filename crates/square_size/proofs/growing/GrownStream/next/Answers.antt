@@ -13,7 +13,15 @@ returns-in-Some-clause-first g c = λ items before.
     let rest = flat_map (edges_of_grown c.loop-edge.self.by.dx c.loop-edge.self.by.dy) p.traps in (
       c.take_first.new.self ++ rest,
       p.is ∙ ap (λ (es : List EdgeParts). es ++ rest) c.in-Some.ensures.first,
-      record { traps = p.traps; given = p.given; sizing = p.sizing; within = p.within; few = omega (arith, ap length c.in-Some.ensures.first, p.few); is = refl },
+      record {
+        traps = p.traps;
+        given = p.given;
+        sizing = p.sizing;
+        within = p.within;
+        few = omega
+            (arith, ap length c.in-Some.ensures.first, p.few);
+        is = refl;
+      },
     )
 
 pub next-requires : goal.next-requires
@@ -44,7 +52,8 @@ loop-edge-preserved g c =
             sizing = p.sizing;
             within = All-tail (HasRingWithinReach by.dx by.dy) c.in-Some-next.trap first.0 (subst (All (HasRingWithinReach by.dx by.dy)) first.1 p.within);
             few = omega (arith, few, length_is);
-            is = p.is ∙ turned by.dx by.dy c.loop-edge.self.in_hand c.of-self.result p.traps first.0 c.in-Some-next.trap c.in_default.ensures.none first.1 c.of-self.ensures;
+            is = p.is ∙ turned by.dx by.dy c.loop-edge.self.in_hand c.of-self.result p.traps first.0
+                c.in-Some-next.trap c.in_default.ensures.none first.1 c.of-self.ensures;
           };
       size = omega (arith, c.loop-edge.invariant.size, c.in-Some-next.ensures.size, few, length_is);
     }
@@ -56,5 +65,14 @@ returns-in-None-clause-first g c = λ items before.
     let last = c.in-None.ensures.first p.traps p.given in
     let empty = sym c.in_default.ensures.first ∙ c.in_default.ensures.none in (
       p.is ∙ ended by.dx by.dy c.loop-edge.self.in_hand p.traps c.in_default.ensures.none last.0,
-      record { traps = []; given = last.1; sizing = p.sizing; within = subst (All (HasRingWithinReach by.dx by.dy)) last.0 p.within; few = omega (arith, ap length empty); is = sym (append-nil c.take_first.new.self ∙ empty) },
+      record {
+        traps = [];
+        given = last.1;
+        sizing = p.sizing;
+        within = subst
+            (All (HasRingWithinReach by.dx by.dy)) last.0 p.within;
+        few = omega (arith, ap length empty);
+        is = sym
+            (append-nil c.take_first.new.self ∙ empty);
+      },
     )

@@ -6,26 +6,42 @@ use Rattle.square_size.proofs.pieces.Pieces.of.Goals as goal
 
 pub edge_between-requires : goal.edge_between-requires
 edge_between-requires c = record {
-  first = rw c.lower_left.ensures.point (lower_left_within c.args.by.dx c.args.by.dy c.args.trap.now c.requires.sizing.rectangle c.left_bend-left.ensures.shot c.requires.reach);
-  second = rw c.left_bend-left.ensures.point (left_bend_within c.args.by.dx c.args.by.dy c.args.trap.now c.requires.sizing.rectangle c.left_bend-left.ensures.shot c.requires.reach);
+  first = rw c.lower_left.ensures.point
+      (lower_left_within c.args.by.dx c.args.by.dy c.args.trap.now c.requires.sizing.rectangle
+      c.left_bend-left.ensures.shot c.requires.reach);
+  second = rw c.left_bend-left.ensures.point
+      (left_bend_within c.args.by.dx c.args.by.dy c.args.trap.now c.requires.sizing.rectangle
+      c.left_bend-left.ensures.shot c.requires.reach);
 }
 
 pub edge_between-requires-2 : goal.edge_between-requires-2
 edge_between-requires-2 c = record {
-  first = rw c.left_bend-left.ensures.point (left_bend_within c.args.by.dx c.args.by.dy c.args.trap.now c.requires.sizing.rectangle c.left_bend-left.ensures.shot c.requires.reach);
-  second = rw c.upper_left.ensures (upper_left_within c.args.by.dx c.args.by.dy c.args.trap.now c.requires.sizing.rectangle c.left_bend-left.ensures.shot c.requires.reach);
+  first = rw c.left_bend-left.ensures.point
+      (left_bend_within c.args.by.dx c.args.by.dy c.args.trap.now c.requires.sizing.rectangle
+      c.left_bend-left.ensures.shot c.requires.reach);
+  second = rw c.upper_left.ensures
+      (upper_left_within c.args.by.dx c.args.by.dy c.args.trap.now c.requires.sizing.rectangle
+      c.left_bend-left.ensures.shot c.requires.reach);
 }
 
 pub edge_between-requires-3 : goal.edge_between-requires-3
 edge_between-requires-3 c = record {
-  first = rw c.upper_right.ensures (upper_right_within c.args.by.dx c.args.by.dy c.args.trap.now c.requires.sizing.rectangle c.left_bend-left.ensures.shot c.requires.reach);
-  second = rw c.right_bend-right.ensures (right_bend_within c.args.by.dx c.args.by.dy c.args.trap.now c.requires.sizing.rectangle c.left_bend-left.ensures.shot c.requires.reach);
+  first = rw c.upper_right.ensures
+      (upper_right_within c.args.by.dx c.args.by.dy c.args.trap.now c.requires.sizing.rectangle
+      c.left_bend-left.ensures.shot c.requires.reach);
+  second = rw c.right_bend-right.ensures
+      (right_bend_within c.args.by.dx c.args.by.dy c.args.trap.now c.requires.sizing.rectangle
+      c.left_bend-left.ensures.shot c.requires.reach);
 }
 
 pub edge_between-requires-4 : goal.edge_between-requires-4
 edge_between-requires-4 c = record {
-  first = rw c.right_bend-right.ensures (right_bend_within c.args.by.dx c.args.by.dy c.args.trap.now c.requires.sizing.rectangle c.left_bend-left.ensures.shot c.requires.reach);
-  second = rw c.lower_right.ensures (lower_right_within c.args.by.dx c.args.by.dy c.args.trap.now c.requires.sizing.rectangle c.left_bend-left.ensures.shot c.requires.reach);
+  first = rw c.right_bend-right.ensures
+      (right_bend_within c.args.by.dx c.args.by.dy c.args.trap.now c.requires.sizing.rectangle
+      c.left_bend-left.ensures.shot c.requires.reach);
+  second = rw c.lower_right.ensures
+      (lower_right_within c.args.by.dx c.args.by.dy c.args.trap.now c.requires.sizing.rectangle
+      c.left_bend-left.ensures.shot c.requires.reach);
 }
 
 pub returns : goal.returns

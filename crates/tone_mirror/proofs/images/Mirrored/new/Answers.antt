@@ -12,5 +12,6 @@ returns-clause-some_list g c =
 pub returns-clause-list : goal.returns-clause-list
 returns-clause-list g c = λ traps stands.
     let m : FitsSigned w64 c.args.m = c.ranges.m in
-    let within = subst (λ (zs : List Trapezoid). All (HasImageWithinReach c.args.m) zs) (g.met.S.Stream.one_list c.args.source c.requires.0 traps c.requires.1 stands) c.requires.2 in
+    let within = subst (λ (zs : List Trapezoid). All (HasImageWithinReach c.args.m) zs)
+    (g.met.S.Stream.one_list c.args.source c.requires.0 traps c.requires.1 stands) c.requires.2 in
     simp to_z-of_z (record { traps = traps; given = stands; within = within; is = refl })

@@ -11,7 +11,9 @@ pub returns-then-all_go_on-clause-growing : goal.returns-then-all_go_on-clause-g
 returns-then-all_go_on-clause-growing c = sym (all_fresh c.args.y c.args.self.now.growing.items c.args.runs.now c.requires.front c.requires.runs (all_go c))
 
 pub returns-then-all_go_on-clause-waiting : goal.returns-then-all_go_on-clause-waiting
-returns-then-all_go_on-clause-waiting c = rw (all_waiting c.args.y c.args.self.now.growing.items c.args.runs.now c.requires.front c.requires.runs (all_go c)) (sym (append-nil _))
+returns-then-all_go_on-clause-waiting c = rw
+    (all_waiting c.args.y c.args.self.now.growing.items c.args.runs.now c.requires.front c.requires.runs (all_go c))
+    (sym (append-nil _))
 
 pub merge-requires-clause-shots : goal.merge-requires-clause-shots
 merge-requires-clause-shots c =
