@@ -1,5 +1,6 @@
 -- What becomes of the runs that enter a point: the one of the row below, and the one of the row above.
-use Rattle.std.proofs.Common.{ℕ, ℤ, pos, zero, suc, ◌<◌, slice_index_or, ◌≡◌, ◌≢◌, ◌≤ℤ◌, ◌<ℤ◌, Bool, true, false, List, [], ◌∷◌, ◌++◌, Option, Some, None, All, arith, refl, ap, sym, subst, ◌∙◌, inl, inr, ◌⊎◌}
+use Rattle.std.proofs.Common.{ℕ, ℤ, zero, suc, ◌<◌, slice_index_or, ◌≡◌, ◌≢◌, ◌<ℤ◌, Bool, List, [], ◌∷◌, ◌++◌, Option}
+use Rattle.std.proofs.Common.{Some, arith, ap, sym, subst, ◌∙◌, inl, inr}
 use Rattle.std.specs.List.{Contains}
 use Rattle.std.proofs.lemmas.Int.{ints}
 use Rattle.std.proofs.lemmas.List.Elements.{All-nil, All-cons, All-append, All-weaker, Contains-append_cases}
@@ -8,16 +9,15 @@ use Rattle.half_grid.specs.Trapezoids.{Trapezoid}
 use Rattle.half_grid.specs.declared.plane.Line.{Line}
 use Rattle.scan_line.specs.declared.runs.Run.{Run}
 use Rattle.trap_join.specs.declared.front.Growing.{Growing}
-use Rattle.trap_join.specs.Fronts.{goes_on, grown_into, ended_at}
+use Rattle.trap_join.specs.Fronts.{grown_into, ended_at}
 use Rattle.active_lines.specs.declared.item.ActiveLine.{ActiveLine}
 use Rattle.active_lines.specs.declared.item.Windings.{Windings}
 use Rattle.plane_sweep.specs.Settled.{IsSettled, IsNew}
 use Rattle.plane_sweep.specs.Points.{GrowLeft, RunLeft, IsApartFrom}
 use Rattle.plane_sweep.proofs.Settling.{one_begins}
-use Rattle.plane_sweep.proofs.PointSteps.{IsAlone, alone_new, other_right, enters_apart, entering_goes_on, entering_ends}
+use Rattle.plane_sweep.specs.States.{IsAlone, Stands, IsFresh, StandsApart}
+use Rattle.plane_sweep.proofs.PointSteps.{alone_new, other_right, enters_apart, entering_goes_on, entering_ends}
 use Rattle.plane_sweep.proofs.NewLines.{run_to}
-use Rattle.plane_sweep.proofs.Quiet.{Stands, IsPending}
-use Rattle.plane_sweep.proofs.PointPassed.{StandsApart, IsFresh}
 
 -- what is settled of what stands left of the point
 pub record Core (y x : ℤ) (closed : List Growing) (runs : List Run) (fresh : List Growing) (given : List Trapezoid) : Type 0 where
@@ -40,7 +40,8 @@ only_one g p h = by h.0 h.1 h.2
     by zero lt e = e
     by (suc k) lt e = absurd (omega (arith, lt))
 
-module _ (takes : Windings → Bool) (y x : ℤ) (rest : List ActiveLine) (closed : List Growing) (runs : List Run) (fresh : List Growing) (given : List Trapezoid) (g : Growing) (o : ActiveLine) where
+module _ (takes : Windings → Bool) (y x : ℤ) (rest : List ActiveLine) (closed : List Growing) (runs : List Run)
+    (fresh : List Growing) (given : List Trapezoid) (g : Growing) (o : ActiveLine) where
   module _ (s : Stands takes y x rest closed runs fresh given (Some g) (Some o)) where
     left_too : x_on o.line y <ℤ x
     left_too = subst (λ (k : Line). x_on k y <ℤ x) s.at s.pends.left
@@ -69,7 +70,8 @@ module _ (takes : Windings → Bool) (y x : ℤ) (rest : List ActiveLine) (close
           | inr m ↦ (let same = only_one g p m in other_right p (run_to o e) (λ k. other (ap (λ (c : Growing). c.right) same ∙ k)))
         ]
 
-    pub enters_other : (e : Line) → g.right ≢ e → Core y x (closed ++ g ∷ []) (runs ++ run_to o e ∷ []) (fresh ++ grown_into [] y (run_to o e) ∷ []) (given ++ ended_at y g ∷ [])
+    pub enters_other : (e : Line) → g.right ≢ e → Core y x (closed ++ g ∷ []) (runs ++ run_to o e ∷ [])
+        (fresh ++ grown_into [] y (run_to o e) ∷ []) (given ++ ended_at y g ∷ [])
     enters_other e other = record {
       settled = one_begins y (closed ++ g ∷ []) runs fresh (given ++ ended_at y g ∷ []) (run_to o e) enters_over.settled (new_other e other);
       grow = one_grow y x closed g s.grow s.pends.left;

@@ -1,5 +1,5 @@
 -- The left lines of open trapezoids and of runs are lines of the list.
-use Rattle.std.proofs.Common.{ℤ, if◌then◌else◌, ◌≡◌, Bool, true, false, List, [], ◌∷◌, ◌++◌, Option, Some, None, IfSome, All, refl, sym, subst}
+use Rattle.std.proofs.Common.{if◌then◌else◌, ◌≡◌, Bool, true, false, List, [], ◌∷◌, Option, Some, None, IfSome, All, refl, subst}
 use Rattle.std.proofs.lemmas.List.Elements.{All-nil, All-cons, All-head, All-tail}
 use Rattle.half_grid.specs.declared.plane.Line.{Line}
 use Rattle.scan_line.specs.declared.runs.Run.{Run}
@@ -33,17 +33,21 @@ module _ (P : Line → Type 0) where
       still o l lines e = rw e refl
   ends_by takes false o l lines e here on after =
       subst (All (λ r. P r.left)) (one o l lines e)
-      (All-cons (λ r. P r.left) (let r : Run = record { left = o.line; right = l.line; a = o.windings.a; b = o.windings.b } in r) (ended_runs takes None lines) here after)
+      (All-cons (λ r. P r.left)
+      (let r : Run = record { left = o.line; right = l.line; a = o.windings.a; b = o.windings.b } in r)
+      (ended_runs takes None lines) here after)
     where
       one : (o l : ActiveLine) (lines : List ActiveLine) → takes l.windings ≡ false
-          → (let r : Run = record { left = o.line; right = l.line; a = o.windings.a; b = o.windings.b } in r) ∷ ended_runs takes None lines ≡ ended_runs takes (Some o) (l ∷ lines)
+          → (let r : Run = record { left = o.line; right = l.line; a = o.windings.a; b = o.windings.b } in r)
+          ∷ ended_runs takes None lines ≡ ended_runs takes (Some o) (l ∷ lines)
       one o l lines e = rw e refl
 
   pub run_lefts : (takes : Windings → Bool) (lines : List ActiveLine) (begun : Option ActiveLine) → IfSome begun (λ o. P o.line) → All (λ l. P l.line) lines
       → All (λ r. P r.left) (ended_runs takes begun lines)
   run_lefts takes [] begun h all = All-nil (λ r. P r.left)
   run_lefts takes (l ∷ lines) None h all =
-      run_lefts takes lines (if takes l.windings then Some l else None) (chosen (takes l.windings) l (All-head (λ m. P m.line) l lines all)) (All-tail (λ m. P m.line) l lines all)
+      run_lefts takes lines (if takes l.windings then Some l else None)
+      (chosen (takes l.windings) l (All-head (λ m. P m.line) l lines all)) (All-tail (λ m. P m.line) l lines all)
   run_lefts takes (l ∷ lines) (Some o) h all =
       let rest = All-tail (λ m. P m.line) l lines all in
       ends_by takes _ o l lines refl h (run_lefts takes lines (Some o) h rest) (run_lefts takes lines None tt rest)
@@ -52,6 +56,7 @@ module _ (P : Line → Type 0) where
       → IfSome (open_after takes begun lines) (λ o. P o.line)
   open_left takes [] begun h all = h
   open_left takes (l ∷ lines) None h all =
-      open_left takes lines (if takes l.windings then Some l else None) (chosen (takes l.windings) l (All-head (λ m. P m.line) l lines all)) (All-tail (λ m. P m.line) l lines all)
+      open_left takes lines (if takes l.windings then Some l else None)
+      (chosen (takes l.windings) l (All-head (λ m. P m.line) l lines all)) (All-tail (λ m. P m.line) l lines all)
   open_left takes (l ∷ lines) (Some o) h all =
       open_left takes lines (if takes l.windings then Some o else None) (chosen (takes l.windings) o h) (All-tail (λ m. P m.line) l lines all)

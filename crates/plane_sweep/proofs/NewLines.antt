@@ -1,6 +1,5 @@
 -- The runs that end at the lines through a point, above the stop: the one that enters the point, and those that begin in it.
-use Rattle.std.proofs.Common.{ℤ, pos, ◌≡◌, ◌-ℤ◌, ◌≤ℤ◌, ◌<ℤ◌, Bool, true, false, List, [], ◌∷◌, ◌++◌, Option, Some, None, IfSome, All, arith, refl, ap, sym, subst, ◌∙◌}
-use Rattle.std.specs.Option.{option_to_list}
+use Rattle.std.proofs.Common.{ℤ, ◌≡◌, ◌<ℤ◌, Bool, true, false, List, [], ◌∷◌, Option, Some, None, IfSome, All, refl, ap, subst}
 use Rattle.std.proofs.lemmas.List.Elements.{All-nil, All-cons, All-head, All-tail}
 use Rattle.half_grid.specs.Lines.{x_on}
 use Rattle.half_grid.specs.Rows.{place}
@@ -34,7 +33,8 @@ module _ (takes : Windings → Bool) (y x : ℤ) where
       let rest = later (Some l) (record { at = All-head (λ m. x_on m.line y ≡ x) l lines at; left = ascend.0 }) in rw e rest
   begin_by false l lines e at ascend later = let rest = later None tt in rw e rest
 
-  ended_one : (o l : ActiveLine) (lines : List ActiveLine) → takes l.windings ≡ false → run_to o l.line ∷ ended_runs takes None lines ≡ ended_runs takes (Some o) (l ∷ lines)
+  ended_one : (o l : ActiveLine) (lines : List ActiveLine) → takes l.windings ≡ false
+      → run_to o l.line ∷ ended_runs takes None lines ≡ ended_runs takes (Some o) (l ∷ lines)
   ended_one o l lines e = rw e refl
 
   ended_not : (o l : ActiveLine) (lines : List ActiveLine) → takes l.windings ≡ true → ended_runs takes (Some o) lines ≡ ended_runs takes (Some o) (l ∷ lines)
@@ -49,10 +49,16 @@ module _ (takes : Windings → Bool) (y x : ℤ) where
   on_by false o l lines e at begun later =
       subst (All (BeginsIn y x)) (ended_one o l lines e)
       (All-cons (BeginsIn y x) (run_to o l.line) (ended_runs takes None lines)
-      (record { left = begun.at; right = All-head (λ m. x_on m.line y ≡ x) l lines at; has_tile = All-head (λ m. place o.line y <ℤ place m.line y) l lines begun.left })
+      (record {
+        left = begun.at;
+        right = All-head (λ m. x_on m.line y ≡ x) l lines at;
+        has_tile = All-head
+            (λ m. place o.line y <ℤ place m.line y) l lines begun.left;
+      })
       (later None tt))
 
-  pub begin_in : (lines : List ActiveLine) (from : Option ActiveLine) → HasBegun from lines → PassAt y x lines → AscendIn y lines → All (BeginsIn y x) (ended_runs takes from lines)
+  pub begin_in : (lines : List ActiveLine) (from : Option ActiveLine) → HasBegun from lines → PassAt y x lines
+      → AscendIn y lines → All (BeginsIn y x) (ended_runs takes from lines)
   begin_in [] from begun at ascend = All-nil (BeginsIn y x)
   begin_in (l ∷ lines) None begun at ascend =
       begin_by _ l lines refl at ascend (λ from h. begin_in lines from h (All-tail (λ m. x_on m.line y ≡ x) l lines at) ascend.1)
@@ -90,5 +96,14 @@ module _ (takes : Windings → Bool) (y x : ℤ) where
       none_some k h = absurd (let clash : ⊥ = cc in clash)
 
   pub entered : (o : ActiveLine) (lines : List ActiveLine) → PassAt y x lines → AscendIn y lines → Entered o (ended_runs takes (Some o) lines)
-  entered o [] at ascend = record { entering = None; inner = []; is = λ line same. absurd (let clash : ⊥ = cc in clash); none = λ same. refl; at = tt; begins = All-nil (BeginsIn y x) }
+  entered o [] at ascend =
+      record {
+        entering = None;
+        inner = [];
+        is = λ line same. absurd (let clash : ⊥ = cc in clash);
+        none = λ same.
+            refl;
+        at = tt;
+        begins = All-nil (BeginsIn y x);
+      }
   entered o (l ∷ lines) at ascend = entered_by _ o l lines refl at ascend (entered o lines (All-tail (λ m. x_on m.line y ≡ x) l lines at) ascend.1)

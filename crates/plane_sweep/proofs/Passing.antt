@@ -1,5 +1,5 @@
 -- Runs that pass a point: none of the lines through it ends them.
-use Rattle.std.proofs.Common.{ℤ, pos, ◌+ℤ◌, ◌≡◌, ◌≤ℤ◌, ◌<ℤ◌, Bool, true, false, List, [], ◌∷◌, ◌++◌, Option, Some, None, All, arith, refl, ap, sym, subst, ◌∙◌}
+use Rattle.std.proofs.Common.{ℤ, pos, ◌+ℤ◌, ◌≡◌, ◌≤ℤ◌, ◌<ℤ◌, Bool, true, false, List, ◌++◌, Some, arith, sym, subst, ◌∙◌}
 use Rattle.std.proofs.lemmas.Int.{ints}
 use Rattle.std.proofs.lemmas.List.Elements.{All-weaker}
 use Rattle.half_grid.specs.Lines.{x_on}
@@ -11,9 +11,9 @@ use Rattle.active_lines.specs.declared.item.ActiveLine.{ActiveLine}
 use Rattle.active_lines.specs.declared.item.Windings.{Windings}
 use Rattle.row_lists.specs.RowRuns.{end_of, last_windings}
 use Rattle.row_lists.specs.Halfway.{PassAtOrRight}
-use Rattle.plane_sweep.proofs.OldLines.{ends_among, EndsAmong, ends_in_rest, end_beyond}
-use Rattle.plane_sweep.proofs.Quiet.{Stands, IsPending}
-use Rattle.plane_sweep.proofs.PointPassed.{IsOver}
+use Rattle.plane_sweep.specs.States.{EndsAmong, Stands, GoesOver}
+use Rattle.plane_sweep.specs.StopRuns.{ends_among}
+use Rattle.plane_sweep.proofs.OldLines.{ends_in_rest, end_beyond}
 
 module _ (takes : Windings → Bool) (y x : ℤ) (old rest : List ActiveLine) (none : ends_among takes old ≡ false) where
   beyond : (right from : Line) → right ≡ end_of takes from (old ++ rest) → EndsAmong takes rest right
@@ -36,8 +36,9 @@ module _ (takes : Windings → Bool) (y x : ℤ) (old rest : List ActiveLine) (n
       }
 
   -- the run below passes, whatever the one above does
-  pub below_passes : (line : Line) (w : Windings) → IsOver takes y x (old ++ rest) line → PassAtOrRight y (x +ℤ pos 1) rest → takes w ≡ true → takes (last_windings w (old ++ rest)) ≡ false
-      → IsOver takes y (x +ℤ pos 1) rest line
+  pub below_passes : (line : Line) (w : Windings) → GoesOver takes y x (old ++ rest) line
+      → PassAtOrRight y (x +ℤ pos 1) rest → takes w ≡ true → takes (last_windings w (old ++ rest)) ≡ false
+      → GoesOver takes y (x +ℤ pos 1) rest line
   below_passes line w h right inside shut = record {
     reaches = subst (λ (k : Line). (x +ℤ pos 1) ≤ℤ x_on k y) (sym h.ends.is)
         (end_beyond takes (λ (k : Line). (x +ℤ pos 1) ≤ℤ x_on k y) h.ends.from w old rest right inside none shut);

@@ -1,5 +1,5 @@
 -- Over a point, once what enters it is settled: what ends in it and what begins in it, and what leaves it.
-use Rattle.std.proofs.Common.{ℤ, pos, ◌+ℤ◌, ◌-ℤ◌, ◌≡◌, ◌≢◌, ◌≤ℤ◌, ◌<ℤ◌, Bool, true, false, List, [], ◌∷◌, ◌++◌, Option, Some, None, IfSome, map, All, arith, refl, ap, sym, subst, ◌∙◌}
+use Rattle.std.proofs.Common.{ℤ, pos, ◌+ℤ◌, ◌≡◌, ◌≢◌, ◌<ℤ◌, Bool, List, [], ◌∷◌, ◌++◌, Some, None, map, All, arith, ap}
 use Rattle.std.proofs.lemmas.Int.{ints}
 use Rattle.std.proofs.lemmas.List.Elements.{All-nil, All-cons, All-append, All-weaker}
 use Rattle.half_grid.specs.Lines.{x_on}
@@ -10,38 +10,13 @@ use Rattle.trap_join.specs.declared.front.Growing.{Growing}
 use Rattle.trap_join.specs.Fronts.{grown_into, ended_at}
 use Rattle.active_lines.specs.declared.item.ActiveLine.{ActiveLine}
 use Rattle.active_lines.specs.declared.item.Windings.{Windings}
-use Rattle.row_lists.specs.RowRuns.{end_of}
 use Rattle.plane_sweep.specs.Settled.{IsSettled}
 use Rattle.plane_sweep.specs.Points.{GrowLeft, RunLeft, EndsIn, BeginsIn, Leaves}
-use Rattle.plane_sweep.specs.States.{IsOpenAt}
-use Rattle.plane_sweep.proofs.PointSteps.{IsAlone}
+use Rattle.plane_sweep.specs.States.{IsAlone, EndsAmong, Stands, IsFresh, GoesOver, StandsApart}
 use Rattle.plane_sweep.proofs.PointStates.{in_point, leaves_point}
-use Rattle.plane_sweep.proofs.OldLines.{EndsAmong}
-use Rattle.plane_sweep.proofs.Quiet.{Stands, IsPending}
 
--- the run above began a trapezoid at the stop, and none that grew up to the stop from its left line reaches x
-pub record IsFresh (y x : ℤ) (closed : List Growing) (runs : List Run) (g : Growing) : Type 0 where
-  pub since : g.y0 ≡ y
-  pub left : x_on g.left y <ℤ x
-  pub new : All (λ c. c.left ≡ g.left → x_on c.right y <ℤ x) closed
-  pub run_elsewhere : All (λ r. r.left ≢ g.left) runs
-
--- the run below ends among these lines
-pub record IsOver (takes : Windings → Bool) (y x : ℤ) (rest : List ActiveLine) (line : Line) : Type 0 where
-  pub reaches : x ≤ℤ x_on line y
-  pub ends : EndsAmong takes rest line
-
--- what stands left of x where the runs below and above differ; the one below was given as ended
-pub record StandsApart (takes : Windings → Bool) (y x : ℤ) (rest : List ActiveLine) (closed : List Growing) (runs : List Run) (fresh : List Growing) (given : List Trapezoid)
-    (p : Option Growing) (o : Option ActiveLine) (right : Option Line) : Type 0 where
-  pub settled : IsSettled y closed runs fresh given
-  pub at : IsOpenAt p o
-  pub grow : All (λ g. x_on g.left y <ℤ x) closed
-  pub run : All (λ r. x_on r.left y <ℤ x) runs
-  pub begun : IfSome p (IsFresh y x closed runs)
-  pub over : IfSome right (IsOver takes y x rest)
-
-module _ (takes : Windings → Bool) (y x : ℤ) (rest : List ActiveLine) (closed inner : List Growing) (runs begun : List Run) (fresh : List Growing) (given : List Trapezoid)
+module _ (takes : Windings → Bool) (y x : ℤ) (rest : List ActiveLine) (closed inner : List Growing)
+    (runs begun : List Run) (fresh : List Growing) (given : List Trapezoid)
     (grow : GrowLeft y x closed) (run : RunLeft y x runs) (settled : IsSettled y closed runs fresh given)
     (ends : All (EndsIn y x) inner) (begins : All (BeginsIn y x) begun) where
   abbrev fresh_here : List Growing
@@ -91,7 +66,8 @@ module _ (takes : Windings → Bool) (y x : ℤ) (rest : List ActiveLine) (close
       (λ c q e. (let same = ap (λ (k : Line). x_on k y) e in absurd (omega (arith, ints, q, at, same)))) closed grow)
       (All-weaker (EndsIn y x) (λ c. c.left ≡ g.left → x_on c.right y <ℤ (x +ℤ pos 1)) (λ c h e. (let r = h.right in omega (arith, ints, r))) inner ends)
 
-  begun_fresh : (g : Growing) → g.y0 ≡ y → x_on g.left y ≡ x → All (λ r. r.left ≢ g.left) (runs ++ begun) → IsFresh y (x +ℤ pos 1) (closed ++ inner) (runs ++ begun) g
+  begun_fresh : (g : Growing) → g.y0 ≡ y → x_on g.left y ≡ x → All (λ r. r.left ≢ g.left) (runs ++ begun)
+      → IsFresh y (x +ℤ pos 1) (closed ++ inner) (runs ++ begun) g
   begun_fresh g since at other = record { since = since; left = omega (arith, ints, at); new = fresh_in g at; run_elsewhere = other }
 
   pub begins_apart : (g : Growing) (o : ActiveLine) → g.left ≡ o.line → g.y0 ≡ y → x_on g.left y ≡ x → All (λ r. r.left ≢ g.left) (runs ++ begun)
@@ -114,7 +90,7 @@ module _ (takes : Windings → Bool) (y x : ℤ) (rest : List ActiveLine) (close
     left_settled : IsSettled y (closed ++ (inner ++ c ∷ [])) (runs ++ begun) fresh_here given_left
     left_settled = leaves_point y x closed inner runs begun fresh given grow run ends begins settled c leaves
 
-    left_over : IsOver takes y (x +ℤ pos 1) rest c.right
+    left_over : GoesOver takes y (x +ℤ pos 1) rest c.right
     left_over = (let r = leaves.right in record { reaches = omega (arith, ints, r); ends = among })
 
     left_grow : GrowLeft y (x +ℤ pos 1) (closed ++ (inner ++ c ∷ []))
@@ -129,7 +105,8 @@ module _ (takes : Windings → Bool) (y x : ℤ) (rest : List ActiveLine) (close
     leaves_alone = record { settled = left_settled; at = tt; grow = left_grow; run = all_run; begun = tt; over = left_over }
 
     -- and another one begins above
-    pub leaves_apart : (g : Growing) (o : ActiveLine) → g.left ≡ o.line → g.y0 ≡ y → x_on g.left y ≡ x → c.left ≢ g.left → All (λ r. r.left ≢ g.left) (runs ++ begun)
+    pub leaves_apart : (g : Growing) (o : ActiveLine) → g.left ≡ o.line → g.y0 ≡ y → x_on g.left y ≡ x
+        → c.left ≢ g.left → All (λ r. r.left ≢ g.left) (runs ++ begun)
         → StandsApart takes y (x +ℤ pos 1) rest (closed ++ (inner ++ c ∷ [])) (runs ++ begun) fresh_here given_left (Some g) (Some o) (Some c.right)
     leaves_apart g o same since at differ other = record {
       settled = left_settled;
@@ -140,11 +117,13 @@ module _ (takes : Windings → Bool) (y x : ℤ) (rest : List ActiveLine) (close
       over = left_over;
     }
       where
-        all_new : (g : Growing) → x_on g.left y ≡ x → c.left ≢ g.left → All (λ d. d.left ≡ g.left → x_on d.right y <ℤ (x +ℤ pos 1)) (closed ++ (inner ++ c ∷ []))
+        all_new : (g : Growing) → x_on g.left y ≡ x → c.left ≢ g.left
+            → All (λ d. d.left ≡ g.left → x_on d.right y <ℤ (x +ℤ pos 1)) (closed ++ (inner ++ c ∷ []))
         all_new g at differ =
             All-append (λ d. d.left ≡ g.left → x_on d.right y <ℤ (x +ℤ pos 1)) closed (inner ++ c ∷ [])
             (All-weaker (λ d. x_on d.left y <ℤ x) (λ d. d.left ≡ g.left → x_on d.right y <ℤ (x +ℤ pos 1))
             (λ d q e. (let same = ap (λ (k : Line). x_on k y) e in absurd (omega (arith, ints, q, at, same)))) closed grow)
             (All-append (λ d. d.left ≡ g.left → x_on d.right y <ℤ (x +ℤ pos 1)) inner (c ∷ [])
             (All-weaker (EndsIn y x) (λ d. d.left ≡ g.left → x_on d.right y <ℤ (x +ℤ pos 1)) (λ d h e. (let r = h.right in omega (arith, ints, r))) inner ends)
-            (All-cons (λ d. d.left ≡ g.left → x_on d.right y <ℤ (x +ℤ pos 1)) c [] (λ e. absurd (differ e)) (All-nil (λ d. d.left ≡ g.left → x_on d.right y <ℤ (x +ℤ pos 1)))))
+            (All-cons (λ d. d.left ≡ g.left → x_on d.right y <ℤ (x +ℤ pos 1)) c [] (λ e. absurd (differ e))
+            (All-nil (λ d. d.left ≡ g.left → x_on d.right y <ℤ (x +ℤ pos 1)))))

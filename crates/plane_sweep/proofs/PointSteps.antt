@@ -1,8 +1,8 @@
 -- What is settled at a point: the run that enters it, what ends and begins in it, and the run that leaves it.
-use Rattle.std.proofs.Common.{ℤ, pos, ◌≡◌, ◌≢◌, ◌-ℤ◌, ◌≤ℤ◌, ◌<ℤ◌, Bool, true, false, List, [], ◌∷◌, ◌++◌, map, All, append_assoc, append-nil, arith, refl, ap, sym, subst, ◌∙◌, ◌⊎◌, inl, inr}
-use Rattle.std.specs.List.{Contains}
+use Rattle.std.proofs.Common.{ℤ, pos, ◌≡◌, ◌≢◌, ◌-ℤ◌, ◌<ℤ◌, Bool, true, false, List, [], ◌∷◌, ◌++◌, map, All}
+use Rattle.std.proofs.Common.{append_assoc, append-nil, arith, refl, ap, sym, subst, ◌∙◌, inl, inr}
 use Rattle.std.proofs.lemmas.Int.{ints}
-use Rattle.std.proofs.lemmas.List.Elements.{All-nil, All-cons, All-head, All-tail, All-append, All-contains, All-weaker, Contains-append_cases}
+use Rattle.std.proofs.lemmas.List.Elements.{All-head, All-tail, All-contains, Contains-append_cases}
 use Rattle.half_grid.specs.Lines.{x_on}
 use Rattle.half_grid.specs.Rows.{place}
 use Rattle.half_grid.specs.Trapezoids.{Trapezoid}
@@ -14,6 +14,7 @@ use Rattle.trap_join.specs.Fronts.{goes_on, grown_into, ended_at}
 use Rattle.trap_join.proofs.ForCallers.{goes_on_left, goes_on_right, goes_on_by}
 use Rattle.plane_sweep.specs.Settled.{IsSettled, IsNew, IsOver}
 use Rattle.plane_sweep.specs.Points.{GrowLeft, RunLeft, EndsIn, BeginsIn, Leaves, IsApartFrom}
+use Rattle.plane_sweep.specs.States.{IsAlone}
 use Rattle.plane_sweep.proofs.Settling.{one_ends, one_begins, one_goes_on}
 
 -- ---- what doesn't go on
@@ -95,12 +96,14 @@ all_end_in y x (g ∷ inner) front runs fresh done left h s =
     let one = one_ends y front runs fresh done g s (over_left y x runs g left first.left) in
     let rest = all_end_in y x inner (front ++ g ∷ []) runs fresh (done ++ ended_at y g ∷ []) left (All-tail (EndsIn y x) g inner h) one in
     subst (λ (us : List Growing). IsSettled y us runs fresh (done ++ map (ended_at y) (g ∷ inner))) (append_assoc front (g ∷ []) inner)
-    (subst (λ (zs : List Trapezoid). IsSettled y ((front ++ g ∷ []) ++ inner) runs fresh zs) (append_assoc done (ended_at y g ∷ []) (map (ended_at y) inner)) rest)
+    (subst (λ (zs : List Trapezoid). IsSettled y ((front ++ g ∷ []) ++ inner) runs fresh zs)
+    (append_assoc done (ended_at y g ∷ []) (map (ended_at y) inner)) rest)
 
 new_inner : (y x : ℤ) (inner : List Growing) (r : Run) → All (EndsIn y x) inner → BeginsIn y x r → IsNew inner r
 new_inner y x inner r h b g member = in_point y x g r (All-contains (EndsIn y x) inner g h member) b
 
-pub all_begin_in : (y x : ℤ) (begun : List Run) (front inner : List Growing) (runs : List Run) (fresh : List Growing) (done : List Trapezoid) → GrowLeft y x front
+pub all_begin_in : (y x : ℤ) (begun : List Run) (front inner : List Growing) (runs : List Run) (fresh : List Growing)
+    (done : List Trapezoid) → GrowLeft y x front
     → All (EndsIn y x) inner → All (BeginsIn y x) begun → IsSettled y (front ++ inner) runs fresh done
     → IsSettled y (front ++ inner) (runs ++ begun) (fresh ++ map (grown_into [] y) begun) done
 all_begin_in y x [] front inner runs fresh done left ends h s =
@@ -112,7 +115,8 @@ all_begin_in y x (r ∷ begun) front inner runs fresh done left ends h s =
     let one = one_begins y (front ++ inner) runs fresh done r s new in
     let rest = all_begin_in y x begun front inner (runs ++ r ∷ []) (fresh ++ grown_into [] y r ∷ []) done left ends (All-tail (BeginsIn y x) r begun h) one in
     subst (λ (rs : List Run). IsSettled y (front ++ inner) rs (fresh ++ map (grown_into [] y) (r ∷ begun)) done) (append_assoc runs (r ∷ []) begun)
-    (subst (λ (us : List Growing). IsSettled y (front ++ inner) ((runs ++ r ∷ []) ++ begun) us done) (append_assoc fresh (grown_into [] y r ∷ []) (map (grown_into [] y) begun)) rest)
+    (subst (λ (us : List Growing). IsSettled y (front ++ inner) ((runs ++ r ∷ []) ++ begun) us done)
+    (append_assoc fresh (grown_into [] y r ∷ []) (map (grown_into [] y) begun)) rest)
 
 -- ---- what grows up to the point's right ends where it doesn't go on in the run that leaves
 
@@ -123,17 +127,13 @@ over_begun y x begun g h leaves r member =
     let far = leaves.right in
     other_right g r (elsewhere g.right r.right y (λ e. absurd (omega (arith, ints, at, far, e))))
 
-pub leaving_ends : (y x : ℤ) (front : List Growing) (runs begun : List Run) (fresh : List Growing) (done : List Trapezoid) (g : Growing) → RunLeft y x runs → All (BeginsIn y x) begun
+pub leaving_ends : (y x : ℤ) (front : List Growing) (runs begun : List Run) (fresh : List Growing)
+    (done : List Trapezoid) (g : Growing) → RunLeft y x runs → All (BeginsIn y x) begun
     → Leaves y x g → IsSettled y front (runs ++ begun) fresh done → IsSettled y (front ++ g ∷ []) (runs ++ begun) fresh (done ++ ended_at y g ∷ [])
 leaving_ends y x front runs begun fresh done g left h leaves s =
     one_ends y front (runs ++ begun) fresh done g s (over_both runs begun g (over_left y x runs g left leaves.left) (over_begun y x begun g h leaves))
 
 -- ---- the run that enters
-
--- no growing one and no run has this left line
-pub record IsAlone (front : List Growing) (runs : List Run) (line : Line) : Type 0 where
-  pub grow_elsewhere : All (λ g. g.left ≢ line) front
-  pub run_elsewhere : All (λ r. r.left ≢ line) runs
 
 alone_over : (front : List Growing) (runs : List Run) (g : Growing) → IsAlone front runs g.left → IsOver runs g
 alone_over front runs g h r member =
@@ -143,12 +143,14 @@ alone_over front runs g h r member =
 pub alone_new : (front : List Growing) (runs : List Run) (r : Run) → IsAlone front runs r.left → IsNew front r
 alone_new front runs r h g member = other_left g r (All-contains (λ p. p.left ≢ r.left) front g h.grow_elsewhere member)
 
-pub entering_goes_on : (y : ℤ) (front : List Growing) (runs : List Run) (fresh : List Growing) (done : List Trapezoid) (g : Growing) (r : Run) → IsSettled y front runs fresh done
+pub entering_goes_on : (y : ℤ) (front : List Growing) (runs : List Run) (fresh : List Growing) (done : List Trapezoid)
+    (g : Growing) (r : Run) → IsSettled y front runs fresh done
     → IsAlone front runs g.left → g.left ≡ r.left → g.right ≡ r.right → IsSettled y (front ++ g ∷ []) (runs ++ r ∷ []) (fresh ++ g ∷ []) done
 entering_goes_on y front runs fresh done g r s alone l m =
     one_goes_on y front runs fresh done g r s (goes_on_by g r l m) (alone_over front runs g alone)
     (alone_new front runs r (subst (IsAlone front runs) l alone))
 
-pub entering_ends : (y : ℤ) (front : List Growing) (runs : List Run) (fresh : List Growing) (done : List Trapezoid) (g : Growing) → IsSettled y front runs fresh done
+pub entering_ends : (y : ℤ) (front : List Growing) (runs : List Run) (fresh : List Growing) (done : List Trapezoid)
+    (g : Growing) → IsSettled y front runs fresh done
     → IsAlone front runs g.left → IsSettled y (front ++ g ∷ []) runs fresh (done ++ ended_at y g ∷ [])
 entering_ends y front runs fresh done g s alone = one_ends y front runs fresh done g s (alone_over front runs g alone)

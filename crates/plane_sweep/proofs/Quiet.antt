@@ -1,8 +1,9 @@
 -- Over lines that stay as they are at a stop each growing trapezoid goes on in the run that it has.
-use Rattle.std.proofs.Common.{ℤ, pos, ◌+ℤ◌, ◌≡◌, ◌≢◌, ◌≤ℤ◌, ◌<ℤ◌, Bool, true, false, List, [], ◌∷◌, ◌++◌, Option, Some, None, All, append-nil, append_assoc, arith, refl, ap, sym, subst, ◌∙◌}
+use Rattle.std.proofs.Common.{ℤ, pos, ◌+ℤ◌, ◌≡◌, ◌≢◌, ◌≤ℤ◌, ◌<ℤ◌, Bool, true, false, List, [], ◌∷◌, ◌++◌, Option, Some}
+use Rattle.std.proofs.Common.{None, All, append-nil, append_assoc, arith, refl, ap, sym, subst, ◌∙◌}
 use Rattle.std.specs.Option.{option_to_list}
 use Rattle.std.proofs.lemmas.Int.{ints}
-use Rattle.std.proofs.lemmas.List.Elements.{All-nil, All-cons, All-head, All-tail, All-append, All-weaker}
+use Rattle.std.proofs.lemmas.List.Elements.{All-nil, All-cons, All-head, All-append, All-weaker}
 use Rattle.half_grid.specs.Lines.{x_on}
 use Rattle.half_grid.specs.Trapezoids.{Trapezoid}
 use Rattle.half_grid.specs.declared.plane.Line.{Line}
@@ -12,17 +13,16 @@ use Rattle.active_lines.specs.declared.item.ActiveLine.{ActiveLine}
 use Rattle.active_lines.specs.declared.item.Opened.{Opened}
 use Rattle.active_lines.specs.declared.item.Windings.{Windings}
 use Rattle.row_lists.specs.RowRuns.{end_of}
-use Rattle.plane_sweep.specs.StopRuns.{growing_of, growing_by, AreOpened, IsOpenUpTo, ended_runs, open_after}
-use Rattle.plane_sweep.specs.Settled.{IsSettled}
-use Rattle.plane_sweep.specs.States.{IsOpenAt}
-use Rattle.plane_sweep.proofs.PointSteps.{IsAlone, entering_goes_on}
+use Rattle.plane_sweep.specs.StopRuns.{growing_of, growing_by, AreOpened, ended_runs, open_after}
+use Rattle.plane_sweep.specs.States.{Stands}
+use Rattle.plane_sweep.proofs.PointSteps.{entering_goes_on}
 
 -- at the stop each line passes left of all that follow
 abbrev pub AscendStrictly : ℤ → List ActiveLine → Type 0
 AscendStrictly y [] = Unit {0}
 AscendStrictly y (l ∷ lines) = All (λ m. x_on l.line y <ℤ x_on m.line y) lines × AscendStrictly y lines
 
-abbrev inside_of : Option ActiveLine → Bool
+abbrev pub inside_of : Option ActiveLine → Bool
 inside_of None = false
 inside_of (Some o) = true
 
@@ -31,28 +31,9 @@ abbrev pub StartsFrom : ℤ → ℤ → List ActiveLine → Type 0
 StartsFrom y x [] = Unit {0}
 StartsFrom y x (l ∷ lines) = x ≤ℤ x_on l.line y
 
--- a growing trapezoid that isn't settled yet: its right line is where its run ends among the lines to come
-pub record IsPending (takes : Windings → Bool) (y x : ℤ) (rest : List ActiveLine) (closed : List Growing) (runs : List Run) (g : Growing) : Type 0 where
-  pub alone : IsAlone closed runs g.left
-  pub left : x_on g.left y <ℤ x
-  pub from : Line
-  pub right : g.right ≡ end_of takes from rest
-
-abbrev pub MayPend : (Windings → Bool) → ℤ → ℤ → List ActiveLine → List Growing → List Run → Option Growing → Type 0
-MayPend takes y x rest closed runs None = Unit {0}
-MayPend takes y x rest closed runs (Some g) = IsPending takes y x rest closed runs g
-
--- what stands left of x
-pub record Stands (takes : Windings → Bool) (y x : ℤ) (rest : List ActiveLine) (closed : List Growing) (runs : List Run) (fresh : List Growing) (given : List Trapezoid)
-    (p : Option Growing) (o : Option ActiveLine) : Type 0 where
-  pub settled : IsSettled y closed runs fresh given
-  pub at : IsOpenAt p o
-  pub grow : All (λ g. x_on g.left y <ℤ x) closed
-  pub run : All (λ r. x_on r.left y <ℤ x) runs
-  pub pends : MayPend takes y x rest closed runs p
-
 -- what stands after the lines
-pub record Passed (takes : Windings → Bool) (y : ℤ) (mid rest : List ActiveLine) (closed : List Growing) (runs : List Run) (fresh : List Growing) (given : List Trapezoid)
+pub record Passed (takes : Windings → Bool) (y : ℤ) (mid rest : List ActiveLine) (closed : List Growing)
+    (runs : List Run) (fresh : List Growing) (given : List Trapezoid)
     (p : Option Growing) (o : Option ActiveLine) : Type 0 where
   pub x : ℤ
   pub closed_after : List Growing
@@ -65,11 +46,13 @@ pub record Passed (takes : Windings → Bool) (y : ℤ) (mid rest : List ActiveL
 module _ (takes : Windings → Bool) (y : ℤ) (given : List Trapezoid) where
   elsewhere_grow : (x : ℤ) (line : Line) (closed : List Growing) → All (λ g. x_on g.left y <ℤ x) closed → x ≤ℤ x_on line y → All (λ g. g.left ≢ line) closed
   elsewhere_grow x line closed h le =
-      All-weaker (λ g. x_on g.left y <ℤ x) (λ g. g.left ≢ line) (λ g lt e. (let same = ap (λ (k : Line). x_on k y) e in absurd (omega (arith, ints, lt, le, same)))) closed h
+      All-weaker (λ g. x_on g.left y <ℤ x) (λ g. g.left ≢ line)
+      (λ g lt e. (let same = ap (λ (k : Line). x_on k y) e in absurd (omega (arith, ints, lt, le, same)))) closed h
 
   elsewhere_run : (x : ℤ) (line : Line) (runs : List Run) → All (λ r. x_on r.left y <ℤ x) runs → x ≤ℤ x_on line y → All (λ r. r.left ≢ line) runs
   elsewhere_run x line runs h le =
-      All-weaker (λ r. x_on r.left y <ℤ x) (λ r. r.left ≢ line) (λ r lt e. (let same = ap (λ (k : Line). x_on k y) e in absurd (omega (arith, ints, lt, le, same)))) runs h
+      All-weaker (λ r. x_on r.left y <ℤ x) (λ r. r.left ≢ line)
+      (λ r lt e. (let same = ap (λ (k : Line). x_on k y) e in absurd (omega (arith, ints, lt, le, same)))) runs h
 
   -- the number right of a line that the next ones start from
   next_x : Line → ℤ
@@ -105,7 +88,8 @@ module _ (takes : Windings → Bool) (y : ℤ) (given : List Trapezoid) where
 
   -- ---- a line at which nothing begins or ends
 
-  skip : (l : ActiveLine) (mid rest : List ActiveLine) (closed : List Growing) (runs : List Run) (fresh : List Growing) (p : Option Growing) (o o' : Option ActiveLine) → l.opened ≡ None
+  skip : (l : ActiveLine) (mid rest : List ActiveLine) (closed : List Growing) (runs : List Run) (fresh : List Growing)
+      (p : Option Growing) (o o' : Option ActiveLine) → l.opened ≡ None
       → ended_runs takes o (l ∷ mid) ≡ ended_runs takes o' mid → open_after takes o (l ∷ mid) ≡ open_after takes o' mid
       → Passed takes y mid rest closed runs fresh given p o' → Passed takes y (l ∷ mid) rest closed runs fresh given p o
   skip l mid rest closed runs fresh p o o' e same after q = record {
@@ -113,8 +97,10 @@ module _ (takes : Windings → Bool) (y : ℤ) (given : List Trapezoid) where
     closed_after = q.closed_after;
     fresh_after = q.fresh_after;
     p_after = q.p_after;
-    stands = subst (λ (rs : List Run). Stands takes y q.x rest q.closed_after (runs ++ rs) q.fresh_after given q.p_after (open_after takes o (l ∷ mid))) (sym same)
-        (subst (λ (k : Option ActiveLine). Stands takes y q.x rest q.closed_after (runs ++ ended_runs takes o' mid) q.fresh_after given q.p_after k) (sym after) q.stands);
+    stands = subst (λ (rs : List Run). Stands takes y q.x rest q.closed_after
+        (runs ++ rs) q.fresh_after given q.p_after (open_after takes o (l ∷ mid))) (sym same)
+        (subst (λ (k : Option ActiveLine). Stands takes y q.x rest q.closed_after
+        (runs ++ ended_runs takes o' mid) q.fresh_after given q.p_after k) (sym after) q.stands);
     gone = ap (λ (us : List Growing). (closed ++ option_to_list p) ++ us) (shut_line l mid e) ∙ q.gone;
     before = ap (λ (us : List Growing). (fresh ++ option_to_list p) ++ us) (shut_line l mid e) ∙ q.before;
   }
@@ -141,8 +127,10 @@ module _ (takes : Windings → Bool) (y : ℤ) (given : List Trapezoid) where
   }
 
   -- a run goes on
-  stays_open : (l : ActiveLine) (x : ℤ) (lines : List ActiveLine) (closed : List Growing) (runs : List Run) (fresh : List Growing) (g : Growing) (o : ActiveLine) → takes l.windings ≡ true
-      → x ≤ℤ x_on l.line y → Stands takes y x (l ∷ lines) closed runs fresh given (Some g) (Some o) → Stands takes y (next_x l.line) lines closed runs fresh given (Some g) (Some o)
+  stays_open : (l : ActiveLine) (x : ℤ) (lines : List ActiveLine) (closed : List Growing) (runs : List Run)
+      (fresh : List Growing) (g : Growing) (o : ActiveLine) → takes l.windings ≡ true
+      → x ≤ℤ x_on l.line y → Stands takes y x (l ∷ lines) closed runs fresh given (Some g) (Some o)
+      → Stands takes y (next_x l.line) lines closed runs fresh given (Some g) (Some o)
   stays_open l x lines closed runs fresh g o e le s =
       let more = further l x le in
       let lt = s.pends.left in
@@ -163,8 +151,10 @@ module _ (takes : Windings → Bool) (y : ℤ) (given : List Trapezoid) where
       passes k = rw e refl
 
   -- a run begins
-  begins : (l : ActiveLine) (x : ℤ) (lines : List ActiveLine) (closed : List Growing) (runs : List Run) (fresh : List Growing) (g : Growing) → g.left ≡ l.line → g.right ≡ end_of takes l.line lines
-      → x ≤ℤ x_on l.line y → Stands takes y x (l ∷ lines) closed runs fresh given None None → Stands takes y (next_x l.line) lines closed runs fresh given (Some g) (Some l)
+  begins : (l : ActiveLine) (x : ℤ) (lines : List ActiveLine) (closed : List Growing) (runs : List Run)
+      (fresh : List Growing) (g : Growing) → g.left ≡ l.line → g.right ≡ end_of takes l.line lines
+      → x ≤ℤ x_on l.line y → Stands takes y x (l ∷ lines) closed runs fresh given None None
+      → Stands takes y (next_x l.line) lines closed runs fresh given (Some g) (Some l)
   begins l x lines closed runs fresh g left right le s =
       let more = further l x le in
       let here : x ≤ℤ x_on g.left y = subst (λ (k : Line). x ≤ℤ x_on k y) (sym left) le in
@@ -181,15 +171,19 @@ module _ (takes : Windings → Bool) (y : ℤ) (given : List Trapezoid) where
         };
       }
 
-  begin_passed : (l : ActiveLine) (mid rest : List ActiveLine) (closed : List Growing) (runs : List Run) (fresh : List Growing) (g : Growing) → takes l.windings ≡ true
-      → growing_of (l ∷ mid) ≡ g ∷ growing_of mid → Passed takes y mid rest closed runs fresh given (Some g) (Some l) → Passed takes y (l ∷ mid) rest closed runs fresh given None None
+  begin_passed : (l : ActiveLine) (mid rest : List ActiveLine) (closed : List Growing) (runs : List Run)
+      (fresh : List Growing) (g : Growing) → takes l.windings ≡ true
+      → growing_of (l ∷ mid) ≡ g ∷ growing_of mid → Passed takes y mid rest closed runs fresh given (Some g) (Some l)
+      → Passed takes y (l ∷ mid) rest closed runs fresh given None None
   begin_passed l mid rest closed runs fresh g e is q = record {
     x = q.x;
     closed_after = q.closed_after;
     fresh_after = q.fresh_after;
     p_after = q.p_after;
-    stands = subst (λ (rs : List Run). Stands takes y q.x rest q.closed_after (runs ++ rs) q.fresh_after given q.p_after (open_after takes None (l ∷ mid))) (same_runs e)
-        (subst (λ (k : Option ActiveLine). Stands takes y q.x rest q.closed_after (runs ++ ended_runs takes (Some l) mid) q.fresh_after given q.p_after k) (same_open e) q.stands);
+    stands = subst (λ (rs : List Run). Stands takes y q.x rest q.closed_after
+        (runs ++ rs) q.fresh_after given q.p_after (open_after takes None (l ∷ mid))) (same_runs e)
+        (subst (λ (k : Option ActiveLine). Stands takes y q.x rest q.closed_after
+        (runs ++ ended_runs takes (Some l) mid) q.fresh_after given q.p_after k) (same_open e) q.stands);
     gone = moved closed ∙ q.gone;
     before = moved fresh ∙ q.before;
   }
@@ -206,9 +200,12 @@ module _ (takes : Windings → Bool) (y : ℤ) (given : List Trapezoid) where
           ∙ (ap (λ (vs : List Growing). us ++ vs) is ∙ sym (append_assoc us (g ∷ []) (growing_of mid)))
 
   -- a run ends: the trapezoid goes on in it
-  ends : (l : ActiveLine) (x : ℤ) (lines : List ActiveLine) (closed : List Growing) (runs : List Run) (fresh : List Growing) (g : Growing) (o : ActiveLine) → takes l.windings ≡ false
+  ends : (l : ActiveLine) (x : ℤ) (lines : List ActiveLine) (closed : List Growing) (runs : List Run)
+      (fresh : List Growing) (g : Growing) (o : ActiveLine) → takes l.windings ≡ false
       → x ≤ℤ x_on l.line y → Stands takes y x (l ∷ lines) closed runs fresh given (Some g) (Some o)
-      → Stands takes y (next_x l.line) lines (closed ++ g ∷ []) (runs ++ (record { left = o.line; right = l.line; a = o.windings.a; b = o.windings.b }) ∷ []) (fresh ++ g ∷ []) given None None
+      → Stands takes y (next_x l.line) lines (closed ++ g ∷ [])
+      (runs ++ (record { left = o.line; right = l.line; a = o.windings.a; b = o.windings.b }) ∷ [])
+      (fresh ++ g ∷ []) given None None
   ends l x lines closed runs fresh g o e le s =
       let r : Run = record { left = o.line; right = l.line; a = o.windings.a; b = o.windings.b } in
       let more = further l x le in
@@ -220,23 +217,30 @@ module _ (takes : Windings → Bool) (y : ℤ) (given : List Trapezoid) where
         grow = All-append (λ p. x_on p.left y <ℤ next_x l.line) closed (g ∷ []) (further_grow x (next_x l.line) closed more s.grow)
             (All-cons (λ p. x_on p.left y <ℤ next_x l.line) g [] here (All-nil (λ p. x_on p.left y <ℤ next_x l.line)));
         run = All-append (λ p. x_on p.left y <ℤ next_x l.line) runs (r ∷ []) (further_run x (next_x l.line) runs more s.run)
-            (All-cons (λ p. x_on p.left y <ℤ next_x l.line) r [] (subst (λ (k : Line). x_on k y <ℤ next_x l.line) s.at here) (All-nil (λ p. x_on p.left y <ℤ next_x l.line)));
+            (All-cons (λ p. x_on p.left y <ℤ next_x l.line) r []
+            (subst (λ (k : Line). x_on k y <ℤ next_x l.line) s.at here)
+            (All-nil (λ p. x_on p.left y <ℤ next_x l.line)));
         pends = tt;
       }
     where
       stops : (k : Line) → end_of takes k (l ∷ lines) ≡ l.line
       stops k = rw e refl
 
-  end_passed : (l : ActiveLine) (mid rest : List ActiveLine) (closed : List Growing) (runs : List Run) (fresh : List Growing) (g : Growing) (o : ActiveLine) → takes l.windings ≡ false → l.opened ≡ None
-      → Passed takes y mid rest (closed ++ g ∷ []) (runs ++ (record { left = o.line; right = l.line; a = o.windings.a; b = o.windings.b }) ∷ []) (fresh ++ g ∷ []) given None None
+  end_passed : (l : ActiveLine) (mid rest : List ActiveLine) (closed : List Growing) (runs : List Run)
+      (fresh : List Growing) (g : Growing) (o : ActiveLine) → takes l.windings ≡ false → l.opened ≡ None
+      → Passed takes y mid rest (closed ++ g ∷ [])
+      (runs ++ (record { left = o.line; right = l.line; a = o.windings.a; b = o.windings.b }) ∷ [])
+      (fresh ++ g ∷ []) given None None
       → Passed takes y (l ∷ mid) rest closed runs fresh given (Some g) (Some o)
   end_passed l mid rest closed runs fresh g o e shut q = record {
     x = q.x;
     closed_after = q.closed_after;
     fresh_after = q.fresh_after;
     p_after = q.p_after;
-    stands = subst (λ (rs : List Run). Stands takes y q.x rest q.closed_after rs q.fresh_after given q.p_after (open_after takes (Some o) (l ∷ mid))) (same_runs e)
-        (subst (λ (k : Option ActiveLine). Stands takes y q.x rest q.closed_after ((runs ++ r ∷ []) ++ ended_runs takes None mid) q.fresh_after given q.p_after k) (same_open e) q.stands);
+    stands = subst (λ (rs : List Run). Stands takes y q.x rest q.closed_after rs q.fresh_after given q.p_after
+        (open_after takes (Some o) (l ∷ mid))) (same_runs e)
+        (subst (λ (k : Option ActiveLine). Stands takes y q.x rest q.closed_after
+        ((runs ++ r ∷ []) ++ ended_runs takes None mid) q.fresh_after given q.p_after k) (same_open e) q.stands);
     gone = moved closed ∙ q.gone;
     before = moved fresh ∙ q.before;
   }
@@ -244,7 +248,9 @@ module _ (takes : Windings → Bool) (y : ℤ) (given : List Trapezoid) where
       r : Run
       r = record { left = o.line; right = l.line; a = o.windings.a; b = o.windings.b }
 
-      same_runs : takes l.windings ≡ false → (runs ++ (record { left = o.line; right = l.line; a = o.windings.a; b = o.windings.b }) ∷ []) ++ ended_runs takes None mid ≡ runs ++ ended_runs takes (Some o) (l ∷ mid)
+      same_runs : takes l.windings ≡ false
+          → (runs ++ (record { left = o.line; right = l.line; a = o.windings.a; b = o.windings.b }) ∷ [])
+          ++ ended_runs takes None mid ≡ runs ++ ended_runs takes (Some o) (l ∷ mid)
       same_runs e = rw e (append_assoc runs ((record { left = o.line; right = l.line; a = o.windings.a; b = o.windings.b }) ∷ []) (ended_runs takes None mid))
 
       same_open : takes l.windings ≡ false → open_after takes None mid ≡ open_after takes (Some o) (l ∷ mid)
@@ -258,7 +264,8 @@ module _ (takes : Windings → Bool) (y : ℤ) (given : List Trapezoid) where
   -- ---- all lines
 
   none_by : (b : Bool) (l : ActiveLine) (mid rest : List ActiveLine) → takes l.windings ≡ b → All (λ m. x_on l.line y <ℤ x_on m.line y) mid
-      → ((x : ℤ) (closed : List Growing) (runs : List Run) (fresh : List Growing) (p : Option Growing) (o : Option ActiveLine) → Stands takes y x (mid ++ rest) closed runs fresh given p o
+      → ((x : ℤ) (closed : List Growing) (runs : List Run) (fresh : List Growing) (p : Option Growing)
+      (o : Option ActiveLine) → Stands takes y x (mid ++ rest) closed runs fresh given p o
       → AreOpened takes (inside_of o) (mid ++ rest) → StartsFrom y x mid → Passed takes y mid rest closed runs fresh given p o)
       → (x : ℤ) (closed : List Growing) (runs : List Run) (fresh : List Growing) → Stands takes y x (l ∷ (mid ++ rest)) closed runs fresh given None None
       → AreOpened takes false (l ∷ (mid ++ rest)) → x ≤ℤ x_on l.line y → Passed takes y (l ∷ mid) rest closed runs fresh given None None
@@ -275,9 +282,11 @@ module _ (takes : Windings → Bool) (y : ℤ) (given : List Trapezoid) where
       skip l mid rest closed runs fresh None None None k.0 (rw e refl) (rw e refl) q
 
   some_by : (b : Bool) (l : ActiveLine) (mid rest : List ActiveLine) → takes l.windings ≡ b → All (λ m. x_on l.line y <ℤ x_on m.line y) mid
-      → ((x : ℤ) (closed : List Growing) (runs : List Run) (fresh : List Growing) (p : Option Growing) (o : Option ActiveLine) → Stands takes y x (mid ++ rest) closed runs fresh given p o
+      → ((x : ℤ) (closed : List Growing) (runs : List Run) (fresh : List Growing) (p : Option Growing)
+      (o : Option ActiveLine) → Stands takes y x (mid ++ rest) closed runs fresh given p o
       → AreOpened takes (inside_of o) (mid ++ rest) → StartsFrom y x mid → Passed takes y mid rest closed runs fresh given p o)
-      → (x : ℤ) (closed : List Growing) (runs : List Run) (fresh : List Growing) (g : Growing) (o : ActiveLine) → Stands takes y x (l ∷ (mid ++ rest)) closed runs fresh given (Some g) (Some o)
+      → (x : ℤ) (closed : List Growing) (runs : List Run) (fresh : List Growing) (g : Growing) (o : ActiveLine)
+      → Stands takes y x (l ∷ (mid ++ rest)) closed runs fresh given (Some g) (Some o)
       → AreOpened takes true (l ∷ (mid ++ rest)) → x ≤ℤ x_on l.line y → Passed takes y (l ∷ mid) rest closed runs fresh given (Some g) (Some o)
   some_by true l mid rest e ascend later x closed runs fresh g o s opened le =
       let k = rw e at opened in
@@ -297,8 +306,12 @@ module _ (takes : Windings → Bool) (y : ℤ) (given : List Trapezoid) where
       → Passed takes y mid rest closed runs fresh given p o
   quiet [] rest x closed runs fresh p o ascend s opened starts = none_passed x rest closed runs fresh p o s
   quiet (l ∷ mid) rest x closed runs fresh None None ascend s opened starts =
-      none_by _ l mid rest refl ascend.0 (λ x' c r f p o s' opened' starts'. quiet mid rest x' c r f p o ascend.1 s' opened' starts') x closed runs fresh s opened starts
+      none_by _ l mid rest refl ascend.0
+      (λ x' c r f p o s' opened' starts'. quiet mid rest x' c r f p o ascend.1 s' opened' starts') x closed runs
+      fresh s opened starts
   quiet (l ∷ mid) rest x closed runs fresh None (Some o) ascend s opened starts = absurd s.at
   quiet (l ∷ mid) rest x closed runs fresh (Some g) None ascend s opened starts = absurd s.at
   quiet (l ∷ mid) rest x closed runs fresh (Some g) (Some o) ascend s opened starts =
-      some_by _ l mid rest refl ascend.0 (λ x' c r f p k s' opened' starts'. quiet mid rest x' c r f p k ascend.1 s' opened' starts') x closed runs fresh g o s opened starts
+      some_by _ l mid rest refl ascend.0
+      (λ x' c r f p k s' opened' starts'. quiet mid rest x' c r f p k ascend.1 s' opened' starts') x closed runs
+      fresh g o s opened starts

@@ -1,8 +1,8 @@
 -- Growing trapezoids and runs are settled one after another.
-use Rattle.std.proofs.Common.{ℤ, ◌≡◌, Bool, true, false, not, cond, List, [], ◌∷◌, ◌++◌, map, filter, append-nil, refl, ap, sym, subst, ◌∙◌}
-use Rattle.std.specs.List.{Contains, list_any}
+use Rattle.std.proofs.Common.{ℤ, ◌≡◌, Bool, true, false, not, cond, List, [], ◌∷◌, ◌++◌, map, filter, append-nil, refl, ap, sym, ◌∙◌}
+use Rattle.std.specs.List.{list_any}
 use Rattle.std.proofs.lemmas.List.{map_push, map-append}
-use Rattle.std.proofs.lemmas.List.Elements.{filter-append, Contains-append_left}
+use Rattle.std.proofs.lemmas.List.Elements.{filter-append}
 use Rattle.half_grid.specs.Trapezoids.{Trapezoid}
 use Rattle.scan_line.specs.declared.runs.Run.{Run}
 use Rattle.trap_join.specs.declared.front.Growing.{Growing}
@@ -34,7 +34,8 @@ bottom_last (p ∷ front) y r g e new =
 grown_by : (front others : List Growing) (y : ℤ) (r : Run) → bottom_of front y r ≡ bottom_of others y r → grown_into front y r ≡ grown_into others y r
 grown_by front others y r h = ap (λ (b : ℤ). let g : Growing = record { y0 = b; left = r.left; right = r.right } in g) h
 
-all_grown : (front : List Growing) (y : ℤ) (g : Growing) (runs : List Run) → IsOver runs g → map (grown_into (front ++ g ∷ []) y) runs ≡ map (grown_into front y) runs
+all_grown : (front : List Growing) (y : ℤ) (g : Growing) (runs : List Run) → IsOver runs g
+    → map (grown_into (front ++ g ∷ []) y) runs ≡ map (grown_into front y) runs
 all_grown front y g [] over = refl
 all_grown front y g (r ∷ runs) over =
     let here = grown_by (front ++ g ∷ []) front y r (bottom_same front y r g (over r (is_first r runs))) in
@@ -75,7 +76,8 @@ any_same : (p : Run → Bool) (r : Run) (runs : List Run) → p r ≡ false → 
 any_same p r [] e = rw e refl
 any_same p r (s ∷ runs) e = any_by _ p r s runs refl (any_same p r runs e)
 
-any_last_by : (b : Bool) (p : Run → Bool) (r s : Run) (runs : List Run) → p s ≡ b → list_any p (runs ++ r ∷ []) ≡ true → list_any p (s ∷ (runs ++ r ∷ [])) ≡ true
+any_last_by : (b : Bool) (p : Run → Bool) (r s : Run) (runs : List Run) → p s ≡ b → list_any p (runs ++ r ∷ []) ≡ true
+    → list_any p (s ∷ (runs ++ r ∷ [])) ≡ true
 any_last_by true p r s runs e h = rw e refl
 any_last_by false p r s runs e h = rw e h
 
@@ -104,13 +106,15 @@ one_begins y front runs fresh done r s new = record {
 
 -- ---- one that goes on in a run
 
-same_growing : (g : Growing) (r : Run) (b : ℤ) → g.left ≡ r.left → g.right ≡ r.right → b ≡ g.y0 → g ≡ (let h : Growing = record { y0 = b; left = r.left; right = r.right } in h)
+same_growing : (g : Growing) (r : Run) (b : ℤ) → g.left ≡ r.left → g.right ≡ r.right → b ≡ g.y0
+    → g ≡ (let h : Growing = record { y0 = b; left = r.left; right = r.right } in h)
 same_growing g r b p q e =
     ap (λ (x : ℤ). let h : Growing = record { y0 = x; left = g.left; right = g.right } in h) (sym e)
     ∙ (ap (λ (x : _). let h : Growing = record { y0 = b; left = x; right = g.right } in h) p
     ∙ ap (λ (x : _). let h : Growing = record { y0 = b; left = r.left; right = x } in h) q)
 
-ended_none : (y : ℤ) (front : List Growing) (runs : List Run) (g : Growing) → list_any (goes_on g) runs ≡ true → ended runs y (front ++ g ∷ []) ≡ ended runs y front
+ended_none : (y : ℤ) (front : List Growing) (runs : List Run) (g : Growing) → list_any (goes_on g) runs ≡ true
+    → ended runs y (front ++ g ∷ []) ≡ ended runs y front
 ended_none y front runs g e =
     ended_last y front runs g ∙ (ap (λ (b : Bool). ended runs y front ++ cond (not b) (ended_at y g ∷ []) []) e ∙ append-nil (ended runs y front))
 

@@ -1,5 +1,5 @@
 -- The runs read off a sweep's list are those of the slab up to the next stop, and what is settled at a stop is joined there.
-use Rattle.std.proofs.Common.{ℤ, pos, ◌≡◌, ◌+ℤ◌, ◌-ℤ◌, ◌≤ℤ◌, ◌<ℤ◌, ◌⊎◌, inl, inr, Bool, true, false, ◌&&◌, List, [], ◌∷◌, ◌++◌, map, All, arith, refl, ap, sym, subst, ◌∙◌, int_le, int_lt}
+use Rattle.std.proofs.Common.{ℤ, pos, ◌≡◌, ◌+ℤ◌, ◌-ℤ◌, ◌≤ℤ◌, ◌<ℤ◌, inl, inr, Bool, true, false, List, [], ◌∷◌, ◌++◌, map, All, arith, refl, ap, sym, subst}
 use Rattle.std.proofs.lemmas.Int.{ints, by_lt_z}
 use Rattle.std.proofs.lemmas.List.Elements.{All-nil, All-cons, All-head, All-tail, All-weaker, All-contains}
 use Rattle.half_grid.specs.Edges.{EdgeParts, IsEdge, spans}
@@ -15,14 +15,14 @@ use Rattle.scan_line.specs.Runs.{AreRuns, AreRunsOfSlab, StandApart}
 use Rattle.scan_line.specs.declared.runs.Run.{Run}
 use Rattle.scan_line.proofs.ForCallers.{x_within, y_within}
 use Rattle.trap_join.specs.declared.front.Growing.{Growing}
-use Rattle.trap_join.specs.Fronts.{ended_at, ended, grown_into}
+use Rattle.trap_join.specs.Fronts.{ended_at, ended}
 use Rattle.trap_join.specs.Joins.{IsJoinedSoFar}
 use Rattle.trap_join.proofs.ForCallers.{joined_more}
 use Rattle.active_lines.specs.declared.item.ActiveLine.{ActiveLine}
 use Rattle.active_lines.specs.declared.item.Windings.{Windings}
 use Rattle.row_lists.specs.Weights.{IsOutside, NoEnds}
 use Rattle.row_lists.specs.RowLists.{IsRowList, NoMeetings, no_windings}
-use Rattle.row_lists.specs.RowRuns.{end_of, run_from, runs_of, last_windings, IsTestIn}
+use Rattle.row_lists.specs.RowRuns.{run_from, runs_of, last_windings, IsTestIn}
 use Rattle.row_lists.proofs.ForCallers.{stays_until_stop, runs_for_rule}
 use Rattle.plane_sweep.specs.Settled.{IsSettled}
 use Rattle.plane_sweep.proofs.OldLines.{some_end}
@@ -51,17 +51,18 @@ record FitsSlab (y top : ℤ) (line : Line) : Type 0 where
   bottom : IsWithinReach y
   top_reach : IsWithinReach top
 
-from_by : (e : EdgeParts) (y : ℤ) → spans e y ≡ true → e.y0 ≤ℤ y
+pub from_by : (e : EdgeParts) (y : ℤ) → spans e y ≡ true → e.y0 ≤ℤ y
 from_by e y h = grind (arith, ints)
 
-below_by : (e : EdgeParts) (y : ℤ) → spans e y ≡ true → y <ℤ e.y1
+pub below_by : (e : EdgeParts) (y : ℤ) → spans e y ≡ true → y <ℤ e.y1
 below_by e y h = grind (arith, ints)
 
 up_to_top : (y top end : ℤ) → y <ℤ end → IsOutside y (top -ℤ pos 1) end → top ≤ℤ end
 up_to_top y top end below (inl a) = absurd (omega (arith, ints, below, a))
 up_to_top y top end below (inr b) = omega (arith, ints, b)
 
-line_fits : (edges : List EdgeParts) (y top : ℤ) (l : ActiveLine) → y <ℤ top → All IsEdge edges → NoEnds edges y (top -ℤ pos 1) → StandsThere edges y (place l.line y) → FitsSlab y top l.line
+line_fits : (edges : List EdgeParts) (y top : ℤ) (l : ActiveLine) → y <ℤ top → All IsEdge edges
+    → NoEnds edges y (top -ℤ pos 1) → StandsThere edges y (place l.line y) → FitsSlab y top l.line
 line_fits edges y top l rows known none h =
     let is : IsEdge h.edge = All-contains IsEdge edges h.edge known h.has in
     let outside = All-contains (λ e. IsOutside y (top -ℤ pos 1) e.y0 × IsOutside y (top -ℤ pos 1) e.y1) edges h.edge none h.has in
@@ -80,13 +81,15 @@ line_fits edges y top l rows known none h =
 -- ---- the lines of runs
 
 module _ (P : Line → Type 0) (takes : Windings → Bool) where
-  begun : (l : ActiveLine) (lines : List ActiveLine) → takes l.windings ≡ true → run_from takes l lines ∷ runs_of takes true lines ≡ runs_of takes false (l ∷ lines)
+  begun : (l : ActiveLine) (lines : List ActiveLine) → takes l.windings ≡ true
+      → run_from takes l lines ∷ runs_of takes true lines ≡ runs_of takes false (l ∷ lines)
   begun l lines e = rw e refl
 
   not_begun : (l : ActiveLine) (lines : List ActiveLine) → takes l.windings ≡ false → runs_of takes false lines ≡ runs_of takes false (l ∷ lines)
   not_begun l lines e = rw e refl
 
-  lines_by : (b : Bool) (l : ActiveLine) (lines : List ActiveLine) → takes l.windings ≡ b → All (λ m. P m.line) (l ∷ lines) → takes (last_windings l.windings lines) ≡ false
+  lines_by : (b : Bool) (l : ActiveLine) (lines : List ActiveLine) → takes l.windings ≡ b
+      → All (λ m. P m.line) (l ∷ lines) → takes (last_windings l.windings lines) ≡ false
       → All (λ r. P r.left × P r.right) (runs_of takes true lines) → All (λ r. P r.left × P r.right) (runs_of takes false lines)
       → All (λ r. P r.left × P r.right) (runs_of takes false (l ∷ lines))
   lines_by true l lines e all shut inside outside =
@@ -105,7 +108,7 @@ module _ (P : Line → Type 0) (takes : Windings → Bool) where
 
 -- ---- runs are shots
 
-bottom_order : (l r : Line) (j : ℤ) → place l j <ℤ place r j → x_on l j ≤ℤ x_on r j
+pub bottom_order : (l r : Line) (j : ℤ) → place l j <ℤ place r j → x_on l j ≤ℤ x_on r j
 bottom_order (Upright c) (Upright d) j h = omega (arith, ints)
 bottom_order (Upright c) (Rising d) j h = omega (arith, ints)
 bottom_order (Upright c) (Falling d) j h = omega (arith, ints)
@@ -116,7 +119,7 @@ bottom_order (Falling c) (Upright d) j h = omega (arith, ints)
 bottom_order (Falling c) (Rising d) j h = omega (arith, ints)
 bottom_order (Falling c) (Falling d) j h = omega (arith, ints)
 
-top_order : (l r : Line) (y : ℤ) → place l (y -ℤ pos 1) <ℤ place r (y -ℤ pos 1) → x_on l y ≤ℤ x_on r y
+pub top_order : (l r : Line) (y : ℤ) → place l (y -ℤ pos 1) <ℤ place r (y -ℤ pos 1) → x_on l y ≤ℤ x_on r y
 top_order (Upright c) (Upright d) y h = omega (arith, ints)
 top_order (Upright c) (Rising d) y h = omega (arith, ints)
 top_order (Upright c) (Falling d) y h = omega (arith, ints)
@@ -134,12 +137,19 @@ not_flat l r low high rows lt bottom top =
     (λ flat. (let same = line_names l r low high rows (omega (arith, ints, flat, bottom, top)) (omega (arith, ints, flat, bottom, top)) in
     let at = ap (λ (x : Line). place x low) same in absurd (omega (arith, ints, lt, at))))
 
-shot_of : (y top : ℤ) (l r : Line) → y <ℤ top → FitsSlab y top l → FitsSlab y top r → place l y <ℤ place r y → place l (top -ℤ pos 1) <ℤ place r (top -ℤ pos 1) → IsShot (trapezoid y top l r)
+shot_of : (y top : ℤ) (l r : Line) → y <ℤ top → FitsSlab y top l → FitsSlab y top r → place l y <ℤ place r y
+    → place l (top -ℤ pos 1) <ℤ place r (top -ℤ pos 1) → IsShot (trapezoid y top l r)
 shot_of y top l r rows left right first last =
     let bottom = bottom_order l r y first in
     let over = top_order l r top last in
     record {
-      legal = record { has_rows = rows; bottom = omega (arith, ints, bottom); top = omega (arith, ints, over); not_flat = not_flat l r y top rows first bottom over };
+      legal = record {
+        has_rows = rows;
+        bottom = omega (arith, ints, bottom);
+        top = omega
+            (arith, ints, over);
+        not_flat = not_flat l r y top rows first bottom over;
+      };
       reach = record { y0 = left.bottom; y1 = left.top_reach; bottom_left = left.low; bottom_right = right.low; top_left = left.high; top_right = right.high };
     }
 
@@ -149,8 +159,10 @@ legal_in_row j (run ∷ runs) h = All-cons (λ r. place r.left j <ℤ place r.ri
 
 -- ---- the slab
 
-module _ (post : ℤ → ℤ → Bool → Type 0) (edges : List EdgeParts) (y top : ℤ) (takes : Windings → Bool) (lines : List ActiveLine) (known : All IsEdge edges) (list : IsRowList edges y lines)
-    (rows : y <ℤ top) (none : NoEnds edges y (top -ℤ pos 1)) (apart : NoMeetings lines y (top -ℤ pos 1)) (test : (j : ℤ) → y ≤ℤ j → j <ℤ top → IsTestIn post edges j takes)
+module _ (post : ℤ → ℤ → Bool → Type 0) (edges : List EdgeParts) (y top : ℤ) (takes : Windings → Bool)
+    (lines : List ActiveLine) (known : All IsEdge edges) (list : IsRowList edges y lines)
+    (rows : y <ℤ top) (none : NoEnds edges y (top -ℤ pos 1)) (apart : NoMeetings lines y (top -ℤ pos 1))
+    (test : (j : ℤ) → y ≤ℤ j → j <ℤ top → IsTestIn post edges j takes)
     (nothing : takes no_windings ≡ false) (shut : takes (last_windings no_windings lines) ≡ false) where
   each_row : (j : ℤ) → y ≤ℤ j → j <ℤ top → AreRuns post edges j (runs_of takes false lines)
   each_row j from below =
@@ -159,7 +171,8 @@ module _ (post : ℤ → ℤ → Bool → Type 0) (edges : List EdgeParts) (y to
       runs_for_rule post edges j takes lines here (test j from below) nothing shut
 
   fit : All (λ l. FitsSlab y top l.line) lines
-  fit = All-weaker (λ l. StandsThere edges y (place l.line y)) (λ l. FitsSlab y top l.line) (λ l h. line_fits edges y top l rows known none h) lines (row_list_edges edges y lines list)
+  fit = All-weaker (λ l. StandsThere edges y (place l.line y)) (λ l. FitsSlab y top l.line)
+      (λ l h. line_fits edges y top l rows known none h) lines (row_list_edges edges y lines list)
 
   pub slab_runs : AreRunsOfSlab post edges (row_range y top) (runs_of takes false lines)
   slab_runs =
@@ -173,7 +186,8 @@ module _ (post : ℤ → ℤ → Bool → Type 0) (edges : List EdgeParts) (y to
 
 -- ---- what is settled at a stop, with the slab above it
 
-pub stop_joined : (post : ℤ → ℤ → Bool → Type 0) (edges : List EdgeParts) (window : RowRange) (y top : ℤ) (given done : List Trapezoid) (front fresh : List Growing) (runs : List Run)
+pub stop_joined : (post : ℤ → ℤ → Bool → Type 0) (edges : List EdgeParts) (window : RowRange) (y top : ℤ)
+    (given done : List Trapezoid) (front fresh : List Growing) (runs : List Run)
     → IsJoinedSoFar post edges window y given (map (ended_at y) front) → IsSettled y front runs fresh done → y <ℤ top → top ≤ℤ window.y1
     → AreRunsOfSlab post edges (row_range y top) runs → IsJoinedSoFar post edges window top (given ++ done) (map (ended_at top) fresh)
 stop_joined post edges window y top given done front fresh runs so_far settled up within are =

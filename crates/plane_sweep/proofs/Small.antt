@@ -1,5 +1,5 @@
 -- Windings and weights are at most the number of edges.
-use Rattle.std.proofs.Common.{ℤ, pos, neg_ℤ, ◌-ℤ◌, ◌≤ℤ◌, List, length, arith}
+use Rattle.std.proofs.Common.{ℤ, pos, neg_ℤ, ◌≤ℤ◌, List, length, arith}
 use Rattle.std.proofs.lemmas.Int.{ints}
 use Rattle.std.proofs.lemmas.List.Sums.{count_by-le-length}
 use Rattle.half_grid.specs.Edges.{EdgeParts, edges_winding, winds_up, winds_down}

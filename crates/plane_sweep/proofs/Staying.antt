@@ -9,7 +9,8 @@ use Rattle.scan_line.specs.declared.runs.Run.{Run}
 use Rattle.trap_join.specs.declared.front.Growing.{Growing}
 use Rattle.plane_sweep.specs.StopRuns.{SameLines}
 use Rattle.plane_sweep.specs.Settled.{IsSettled}
-use Rattle.plane_sweep.proofs.PointSteps.{IsAlone, entering_goes_on}
+use Rattle.plane_sweep.specs.States.{IsAlone}
+use Rattle.plane_sweep.proofs.PointSteps.{entering_goes_on}
 
 -- each has a left line of its own: none of the front, none of a run, none of the others
 abbrev pub StandAlone : List Growing → List Run → List Growing → Type 0

@@ -1,5 +1,5 @@
 -- Each line of a row list has an edge on it that spans the row.
-use Rattle.std.proofs.Common.{ℕ, ℤ, pos, suc, ◌≡◌, ◌≢◌, ◌<◌, ◌+ℤ◌, ◌-ℤ◌, ◌≤ℤ◌, ◌<ℤ◌, ◌⊎◌, inl, inr, Bool, true, false, ◌&&◌, not, List, [], ◌∷◌, All, length, slice_index_or, arith, refl, ap, sym, subst, ◌∙◌}
+use Rattle.std.proofs.Common.{ℤ, pos, suc, ◌≡◌, ◌≢◌, ◌-ℤ◌, ◌<ℤ◌, Bool, true, false, ◌&&◌, not, List, [], ◌∷◌, All, slice_index_or, arith, refl, sym, ◌∙◌}
 use Rattle.std.specs.List.{Contains}
 use Rattle.std.specs.Ordering.{int_eq}
 use Rattle.std.proofs.lemmas.Int.{ints, by_lt_z}
@@ -54,7 +54,8 @@ weighted_edge o (e ∷ edges) j n some = there_by _ o e edges j n refl some (λ 
 
 -- ---- the lines of a row list
 
-changes_by : (edges : List EdgeParts) (j n : ℤ) (l w : Windings) → l ≢ w → ((o : Operand) → winding_of o l -ℤ winding_of o w ≡ weight o edges j n) → StandsThere edges j n
+changes_by : (edges : List EdgeParts) (j n : ℤ) (l w : Windings) → l ≢ w
+    → ((o : Operand) → winding_of o l -ℤ winding_of o w ≡ weight o edges j n) → StandsThere edges j n
 changes_by edges j n l w differ h =
     by_lt_z l.a w.a
     (λ lt. weighted_edge A edges j n (λ e. (let k = h A ∙ e in absurd (omega (arith, ints, lt, k)))))
@@ -69,13 +70,16 @@ changes_by edges j n l w differ h =
 abbrev Weighted : List EdgeParts → ℤ → Windings → List ActiveLine → ActiveLine → Type 0
 Weighted edges j w lines m = (o : Operand) → change_at o j (place m.line j) w lines ≡ weight o edges j (place m.line j)
 
-here_change : (o : Operand) (j : ℤ) (w : Windings) (l : ActiveLine) (lines : List ActiveLine) → change_at o j (place l.line j) w (l ∷ lines) ≡ winding_of o l.windings -ℤ winding_of o w
+here_change : (o : Operand) (j : ℤ) (w : Windings) (l : ActiveLine) (lines : List ActiveLine)
+    → change_at o j (place l.line j) w (l ∷ lines) ≡ winding_of o l.windings -ℤ winding_of o w
 here_change o j w l lines = let same = int_eq_same (place l.line j) (place l.line j) refl in rw same refl
 
-later_change : (o : Operand) (j n : ℤ) (w : Windings) (l : ActiveLine) (lines : List ActiveLine) → place l.line j <ℤ n → change_at o j n w (l ∷ lines) ≡ change_at o j n l.windings lines
+later_change : (o : Operand) (j n : ℤ) (w : Windings) (l : ActiveLine) (lines : List ActiveLine) → place l.line j <ℤ n
+    → change_at o j n w (l ∷ lines) ≡ change_at o j n l.windings lines
 later_change o j n w l lines lt = let other = int_eq_other (place l.line j) n (λ e. absurd (omega (arith, ints, lt, e))) in rw other refl
 
-pub line_edges : (edges : List EdgeParts) (j : ℤ) (lines : List ActiveLine) (w : Windings) → AscendIn j lines → ChangeAtEach w lines → All (Weighted edges j w lines) lines
+pub line_edges : (edges : List EdgeParts) (j : ℤ) (lines : List ActiveLine) (w : Windings) → AscendIn j lines
+    → ChangeAtEach w lines → All (Weighted edges j w lines) lines
     → All (λ l. StandsThere edges j (place l.line j)) lines
 line_edges edges j [] w ascend change h = All-nil (λ l. StandsThere edges j (place l.line j))
 line_edges edges j (l ∷ lines) w ascend change h =
@@ -87,7 +91,8 @@ line_edges edges j (l ∷ lines) w ascend change h =
     (λ k d lt o. sym (later_change o j (place (slice_index_or lines k d).line j) w l lines (ascend.0 k d lt)) ∙ rest k d lt o))
 
 -- an edge spans the row on each of its lines
-pub row_list_edges : (edges : List EdgeParts) (j : ℤ) (lines : List ActiveLine) → IsRowList edges j lines → All (λ l. StandsThere edges j (place l.line j)) lines
+pub row_list_edges : (edges : List EdgeParts) (j : ℤ) (lines : List ActiveLine) → IsRowList edges j lines
+    → All (λ l. StandsThere edges j (place l.line j)) lines
 row_list_edges edges j lines list =
     line_edges edges j lines no_windings list.ascend list.change (λ k d lt o. list.weights o (place (slice_index_or lines k d).line j))
 

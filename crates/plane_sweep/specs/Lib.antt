@@ -1,6 +1,13 @@
--- ---- what is kept inside
-pub mod StopRuns
+-- ---- what is promised, in reading order
 pub mod Settled
+pub mod Stops
+pub mod RowSweeps
+-- ---- what is kept inside
+pub mod Bundles
+pub mod NextStops
+pub mod StopRuns
 pub mod Points
 pub mod States
 pub mod Sweeps
+pub mod RuleTests
+pub mod Crossings

@@ -1,8 +1,7 @@
 -- What passes a stop at a point, and left of it.
-use Rattle.std.specs.Prelude.{ℤ, pos, ◌-ℤ◌, ◌≤ℤ◌, ◌<ℤ◌, ◌≡◌, ◌≢◌, List, All}
+use Rattle.std.specs.Prelude.{ℤ, pos, ◌-ℤ◌, ◌<ℤ◌, ◌≡◌, ◌≢◌, List, All}
 use Rattle.half_grid.specs.Lines.{x_on}
 use Rattle.half_grid.specs.Rows.{place}
-use Rattle.half_grid.specs.declared.plane.Line.{Line}
 use Rattle.scan_line.specs.declared.runs.Run.{Run}
 use Rattle.trap_join.specs.declared.front.Growing.{Growing}
 

@@ -2,7 +2,7 @@
 --
 -- Going over a stop from left to right settles growing trapezoids and runs one after another: a growing one ends, or a run
 -- begins one, or it goes on in a run.
-use Rattle.std.specs.Prelude.{ℤ, ◌≡◌, Bool, true, false, List, [], ◌∷◌, ◌++◌, map}
+use Rattle.std.specs.Prelude.{ℤ, ◌≡◌, true, false, List, [], ◌∷◌, ◌++◌, map}
 use Rattle.std.specs.List.{Contains}
 use Rattle.half_grid.specs.Trapezoids.{Trapezoid}
 use Rattle.scan_line.specs.declared.runs.Run.{Run}

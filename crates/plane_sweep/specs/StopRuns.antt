@@ -1,5 +1,5 @@
 -- The open trapezoids of a list of lines, and its runs.
-use Rattle.std.specs.Prelude.{ℤ, ◌≡◌, Bool, true, false, if◌then◌else◌, List, [], ◌∷◌, ◌++◌, Option, Some, None}
+use Rattle.std.specs.Prelude.{ℤ, ◌≡◌, Bool, true, false, if◌then◌else◌, List, [], ◌∷◌, Option, Some, None}
 use Rattle.half_grid.specs.declared.plane.Line.{Line}
 use Rattle.scan_line.specs.declared.runs.Run.{Run}
 use Rattle.trap_join.specs.declared.front.Growing.{Growing}
@@ -73,3 +73,55 @@ open_after takes (Some o) (l ∷ lines) = open_after takes (if takes l.windings 
 abbrev pub runs_from : (Windings → Bool) → Option ActiveLine → List ActiveLine → List Run
 runs_from takes None lines = runs_of takes false lines
 runs_from takes (Some o) lines = run_from takes o lines ∷ runs_of takes true lines
+
+-- the runs that begin at one of the lines and have ended at another; before the lines the windings are taken, or aren't
+abbrev pub inner_runs : (Windings → Bool) → Bool → List ActiveLine → List Run
+inner_runs takes inside [] = []
+inner_runs takes true (l ∷ lines) = inner_runs takes (takes l.windings) lines
+inner_runs takes false (l ∷ lines) = ended_runs takes None (l ∷ lines)
+
+-- whether a run that is open before the lines ends at one of them
+abbrev pub ends_among : (Windings → Bool) → List ActiveLine → Bool
+ends_among takes [] = false
+ends_among takes (l ∷ lines) = if takes l.windings then ends_among takes lines else true
+
+-- the line at which it ends, if one of them ends it
+abbrev pub end_among : (Windings → Bool) → List ActiveLine → Option Line
+end_among takes [] = None
+end_among takes (l ∷ lines) = if takes l.windings then end_among takes lines else Some l.line
+
+-- what is open at the line, or else what is open before it
+abbrev pub leaving_at : ActiveLine → Option Opened → Option Growing → Option Growing
+leaving_at l None found = found
+leaving_at l (Some o) found = Some (let g : Growing = record { y0 = o.since; left = l.line; right = o.right } in g)
+
+-- the trapezoid that is open after the lines, if it begins at one of them; `found` is the one before them
+abbrev pub leaving_of : (Windings → Bool) → Option Growing → List ActiveLine → Option Growing
+leaving_of takes found [] = found
+leaving_of takes found (l ∷ lines) = leaving_of takes (if takes l.windings then leaving_at l l.opened found else None) lines
+
+-- the line at which the run begins that is open after the lines, if it is one of them; `found` is the one before them
+abbrev pub begins_at : (Windings → Bool) → Bool → Option ActiveLine → List ActiveLine → Option ActiveLine
+begins_at takes inside found [] = found
+begins_at takes inside found (l ∷ lines) =
+    begins_at takes (takes l.windings) (if takes l.windings then (if inside then found else Some l) else None) lines
+
+-- what is open at a line where a run begins, before these lines: `kept`, or else a trapezoid that begins at y, whose right line
+-- isn't known yet where the run doesn't end among the lines
+abbrev pub opened_at : ℤ → Option Opened → Line → Opened
+opened_at y None line = record { right = line; since = y }
+opened_at y (Some o) line = o
+
+abbrev pub opened_among : (Windings → Bool) → ℤ → Option Opened → Line → List ActiveLine → Opened
+opened_among takes y kept line lines =
+    if ends_among takes lines then (let o : Opened = record { right = end_of takes line lines; since = y } in o) else opened_at y kept line
+
+abbrev pub with_opened : Option Opened → ActiveLine → ActiveLine
+with_opened o l = record { line = l.line; windings = l.windings; opened = o }
+
+-- the new lines through a point, each with what is open there; before them the windings are taken, or aren't
+abbrev pub opened_new : (Windings → Bool) → Bool → ℤ → Option Opened → List ActiveLine → List ActiveLine
+opened_new takes inside y kept [] = []
+opened_new takes true y kept (l ∷ lines) = with_opened None l ∷ opened_new takes (takes l.windings) y kept lines
+opened_new takes false y kept (l ∷ lines) =
+    with_opened (if takes l.windings then Some (opened_among takes y kept l.line lines) else None) l ∷ opened_new takes (takes l.windings) y kept lines

@@ -1,5 +1,5 @@
 -- A sweep after a stop: the list of its lines is that of each row up to the next stop, and what was given is what ended.
-use Rattle.std.specs.Prelude.{ℤ, pos, ◌-ℤ◌, ◌≤ℤ◌, ◌<ℤ◌, ◌≡◌, Bool, true, false, List, [], ◌++◌, map, All, IsPermutation}
+use Rattle.std.specs.Prelude.{ℤ, pos, ◌-ℤ◌, ◌≤ℤ◌, ◌<ℤ◌, Bool, false, List, map, All}
 use Rattle.half_grid.specs.Edges.{EdgeParts, IsEdge}
 use Rattle.half_grid.specs.Trapezoids.{Trapezoid}
 use Rattle.half_grid.specs.Windows.{RowRange}
@@ -10,16 +10,14 @@ use Rattle.active_lines.specs.declared.item.Windings.{Windings}
 use Rattle.row_lists.specs.declared.event.Event.{Event}
 use Rattle.row_lists.specs.Weights.{NoEnds}
 use Rattle.row_lists.specs.RowLists.{IsRowList, NoMeetings}
-use Rattle.row_lists.specs.Events.{events_of, EventsAscend}
+use Rattle.plane_sweep.specs.Stops.{EventsLeft}
 use Rattle.plane_sweep.specs.StopRuns.{growing_of, AreOpened}
 
--- events are left that begin or end above the stop; those before them don't
-pub record EventsLeft (edges : List EdgeParts) (y : ℤ) (left : List Event) : Type 0 where
-  pub passed : List Event
-  pub whole : IsPermutation (events_of edges) (passed ++ left)
-  pub ascend : EventsAscend left
-  pub below : All (λ e. e.y ≤ℤ y) passed
-  pub above : All (λ e. y <ℤ e.y) left
+-- up to each Y above it, as long as no stop is passed, this is joined
+abbrev pub JoinsAbove : (ℤ → ℤ → Bool → Type 0) → List EdgeParts → RowRange → ℤ → List ActiveLine → List Trapezoid → Type 0
+JoinsAbove post edges window y lines given =
+    (top : ℤ) → y <ℤ top → top ≤ℤ window.y1 → NoEnds edges y (top -ℤ pos 1) → NoMeetings lines y (top -ℤ pos 1)
+    → IsJoinedSoFar post edges window top given (map (ended_at top) (growing_of lines))
 
 -- the sweep stands above the stop at y; `given` with what waits is what ended at it or below
 pub record StandsAbove (post : ℤ → ℤ → Bool → Type 0) (takes : Windings → Bool) (edges : List EdgeParts) (window : RowRange) (y : ℤ)
@@ -28,6 +26,4 @@ pub record StandsAbove (post : ℤ → ℤ → Bool → Type 0) (takes : Winding
   pub list : IsRowList edges y lines
   pub opened : AreOpened takes false lines
   pub events : EventsLeft edges y left
-  -- up to each Y above it, as long as no stop is passed
-  pub joined : (top : ℤ) → y <ℤ top → top ≤ℤ window.y1 → NoEnds edges y (top -ℤ pos 1) → NoMeetings lines y (top -ℤ pos 1)
-      → IsJoinedSoFar post edges window top given (map (ended_at top) (growing_of lines))
+  pub joined : JoinsAbove post edges window y lines given

@@ -11,6 +11,8 @@ pub use Rattle.trap_join.proofs.MaximalLemmas.{maximal_joined, maximal_cover, al
 pub use Rattle.trap_join.proofs.Slabs.{scan_run, found_run}
 -- Two shots between the same lines, one upon the other, and what is joined so far, one slab further.
 pub use Rattle.trap_join.proofs.Growth.{taller_shot, joined_more}
+-- Before the first slab, what grows as shots, and all that grows ended after the last slab.
+pub use Rattle.trap_join.proofs.Growth.{joined_none, front_shots, joined_end}
 -- Trapezoids that go on in a run, and runs in which none goes on.
 pub use Rattle.trap_join.proofs.XOrder.{goes_on_left, goes_on_right, goes_on_by}
 pub use Rattle.trap_join.proofs.Merging.{in_none, bottom_here}
@@ -20,3 +22,5 @@ pub use Rattle.trap_join.proofs.Members.{none_counted, some_member, any_by, mapp
 pub use Rattle.trap_join.proofs.Orders.{order_append, order_first, order_second, order_between}
 -- What a join has given, and what it covers, at an equal rule, at equal edges and at an equal window.
 pub use Rattle.trap_join.proofs.Advances.{moved_rule, stays_joined, moved_cover}
+-- The first of those that wait is given, and what was given where nothing waits or grows.
+pub use Rattle.trap_join.proofs.Advances.{waits_as, taken_some, taken_maximal, taken_after, ends_joined, ends_maximal, ends_covers}

@@ -1,0 +1,13 @@
+use Rattle.std.proofs.Common.{◌≡◌, ◌++◌, Bool, length}
+use Rattle.active_lines.specs.declared.item.Windings.{Windings}
+use Rattle.plane_sweep.specs.StopRuns.{opened_new}
+use Rattle.plane_sweep.specs.RuleTests.{IsTest}
+use Rattle.plane_sweep.proofs.runs.open_new.Given as goal
+
+abbrev pub invariant-loop-line : goal.invariant-loop-line
+invariant-loop-line g l =
+    (test : Windings → Bool) → IsTest (λ a b r. g.F.Fn.post l.rule (a, (b, tt)) r) test
+    → l.opened.items ++ opened_new test l.inside l.level.y l.kept l.left ≡ opened_new test l.fn.inside l.level.y l.kept l.lines
+
+abbrev pub decreases-loop-line : goal.decreases-loop-line
+decreases-loop-line g l = length l.left
