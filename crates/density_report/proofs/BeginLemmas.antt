@@ -1,5 +1,6 @@
 -- What begins the text of tables is a prefix of it.
-use Rattle.std.proofs.Common.{ℕ, zero, suc, ◌≤◌, ◌<◌, ◌≡◌, ◌⊎◌, inl, inr, ℤ, List, [], ◌∷◌, ◌++◌, length, take, drop, flat_map, slice_get, Some, arith, refl, sym, ap, ◌∙◌, append_assoc}
+use Rattle.std.proofs.Common.{ℕ, zero, suc, ◌≤◌, ◌<◌, ◌≡◌, ◌⊎◌, inl, inr, ℤ, List, [], ◌∷◌, ◌++◌, length, take, drop}
+use Rattle.std.proofs.Common.{flat_map, slice_get, Some, arith, refl, sym, ap, ◌∙◌, append_assoc}
 use Rattle.std.proofs.lemmas.List.{append-nil}
 use Rattle.std.proofs.lemmas.Grind.{flat_map-append}
 use Rattle.std.proofs.lemmas.Option.{same_Some, slice_get_within}
@@ -61,20 +62,24 @@ same_tables p size n m xs ys few are all =
 text_cut : (size : ℤ) (outputs : List Output) (tables : List Table) (n : ℕ) → length outputs ≡ length tables
     → tables_text size outputs tables ≡ tables_text size (take n outputs) (take n tables) ++ tables_text size (drop n outputs) (drop n tables)
 text_cut size outputs tables n e =
-    ap (flat_map (table_text size)) (zip_cut outputs tables n e) ∙ flat_map-append (table_text size) (zip (take n outputs) (take n tables)) (zip (drop n outputs) (drop n tables))
+    ap (flat_map (table_text size)) (zip_cut outputs tables n e) ∙ flat_map-append (table_text size)
+    (zip (take n outputs) (take n tables)) (zip (drop n outputs) (drop n tables))
 
 four : (s a b c d : List ℕ) → ((s ++ (a ++ b)) ++ c) ++ d ≡ (s ++ a) ++ ((b ++ c) ++ d)
 four s a b c d = simp append_assoc
 
 -- the first lines of a table begin it
 front_begins : (size : ℤ) (output : Output) (table : Table) (first more : List Entry) → table.entries ≡ first ++ more
-    → table_text size (output, table) ≡ front_text size output.file first ++ ((flat_map entry_line more ++ most_line table.most) ++ triangles_line table.triangles)
+    → table_text size (output, table) ≡ front_text size output.file first
+    ++ ((flat_map entry_line more ++ most_line table.most) ++ triangles_line table.triangles)
 unfolding table_text front_text
 front_begins size output table first more e =
-    ap (λ (l : List ℕ). ((size_line output.file size ++ l) ++ most_line table.most) ++ triangles_line table.triangles) (ap (flat_map entry_line) e ∙ flat_map-append entry_line first more)
+    ap (λ (l : List ℕ). ((size_line output.file size ++ l) ++ most_line table.most) ++ triangles_line table.triangles)
+    (ap (flat_map entry_line) e ∙ flat_map-append entry_line first more)
     ∙ four (size_line output.file size) (flat_map entry_line first) (flat_map entry_line more) (most_line table.most) (triangles_line table.triangles)
 
-rest_begins : (size : ℤ) (outputs : List Output) (tables : List Table) (n : ℕ) (output : Output) (table : Table) → slice_get outputs n ≡ Some output → slice_get tables n ≡ Some table
+rest_begins : (size : ℤ) (outputs : List Output) (tables : List Table) (n : ℕ) (output : Output) (table : Table)
+    → slice_get outputs n ≡ Some output → slice_get tables n ≡ Some table
     → tables_text size (drop n outputs) (drop n tables) ≡ table_text size (output, table) ++ tables_text size (drop (suc n) outputs) (drop (suc n) tables)
 rest_begins size outputs tables n output table here there =
     ap (λ (l : List Output). tables_text size l (drop n tables)) (drop_at outputs n output here)
@@ -89,7 +94,9 @@ beginning_is_prefix p size bytes tables h b all = by b.front
     by (inl none) =
         let first = same_tables p size b.n (length p.deck.outputs) b.tables tables b.inside b.are all in
         let start = tables_text size (take b.n p.deck.outputs) (take b.n tables) in
-        let is : bytes ≡ start = b.text ∙ ap (λ (l : List ℕ). tables_text size (take b.n p.deck.outputs) b.tables ++ l) none ∙ append-nil (tables_text size (take b.n p.deck.outputs) b.tables)
+        let is : bytes ≡ start = b.text ∙ ap
+        (λ (l : List ℕ). tables_text size (take b.n p.deck.outputs) b.tables ++ l) none ∙ append-nil
+        (tables_text size (take b.n p.deck.outputs) b.tables)
         ∙ ap (λ (l : List Table). tables_text size (take b.n p.deck.outputs) l) first in
         let rest = tables_text size (drop b.n p.deck.outputs) (drop b.n tables) in
         (rest, text_cut size p.deck.outputs tables b.n (sym all.count) ∙ ap (λ (l : List ℕ). l ++ rest) (sym is))
@@ -101,7 +108,9 @@ beginning_is_prefix p size bytes tables h b all = by b.front
         let begun = entries_begin (area_of p b.n) size f.row f.entries own.0.entries h f.are own.2.entries in
         let after = tables_text size (drop (suc b.n) p.deck.outputs) (drop (suc b.n) tables) in
         let end = (flat_map entry_line begun.0 ++ most_line own.0.most) ++ triangles_line own.0.triangles in
-        let table : table_text size (f.output, own.0) ≡ b.rest ++ end = front_begins size f.output own.0 f.entries begun.0 begun.1 ∙ ap (λ (l : List ℕ). l ++ end) (sym f.text) in
+        let table : table_text size (f.output, own.0) ≡ b.rest ++ end =
+        front_begins size f.output own.0 f.entries begun.0 begun.1 ∙ ap (λ (l : List ℕ). l ++ end)
+        (sym f.text) in
         let rest : tables_text size (drop b.n p.deck.outputs) (drop b.n tables) ≡ b.rest ++ (end ++ after) =
         rest_begins size p.deck.outputs tables b.n f.output own.0 f.here own.1 ∙ ap (λ (l : List ℕ). l ++ after) table ∙ append_assoc b.rest end after in (
           end ++ after,

@@ -14,10 +14,12 @@ use Rattle.density_report.proofs.NumberLemmas.{one_number}
 use Rattle.density_report.proofs.EntryLemmas.{none_later}
 use Rattle.density_report.proofs.TableLemmas.{total}
 
-listed_by : (i j : ℤ) (m : ℕ) (e : Entry) (es : List Entry) (b c : Bool) → int_eq e.row j ≡ b → int_eq e.column i ≡ c → All (IsBefore e) es → e.tiles ≤ m → listed i j es ≤ m
+listed_by : (i j : ℤ) (m : ℕ) (e : Entry) (es : List Entry) (b c : Bool) → int_eq e.row j ≡ b → int_eq e.column i ≡ c
+    → All (IsBefore e) es → e.tiles ≤ m → listed i j es ≤ m
     → tiles_for i j e + listed i j es ≤ m
 listed_by i j m e es true true p q before here rest =
-    let none = subst (λ (k : ℤ). listed i k es ≡ 0) (int_eq_true e.row j p) (subst (λ (k : ℤ). listed k e.row es ≡ 0) (int_eq_true e.column i q) (none_later e es before)) in
+    let none = subst (λ (k : ℤ). listed i k es ≡ 0) (int_eq_true e.row j p)
+    (subst (λ (k : ℤ). listed k e.row es ≡ 0) (int_eq_true e.column i q) (none_later e es before)) in
     let own : tiles_for i j e ≡ e.tiles = rw (p, q) refl in
     omega (arith, none, own, here)
 listed_by i j m e es true false p q before here rest = let own : tiles_for i j e ≡ 0 = rw (p, q) refl in omega (arith, own, rest)
@@ -43,7 +45,9 @@ pub add_up : (area : Tile → Type 0) (size : ℤ) (table : Table) → IsWindowS
 add_up area size table h is = one_number area (sum_of table.entries) table.triangles (total area size table.entries h is.entries) is.triangles
 
 -- the law of the most
-pub most_of_all : (area : Tile → Type 0) (size i j : ℤ) (n : ℕ) (table : Table) (greatest : Entry) → IsDensityTable area size table → IsFirstGreatest table.entries greatest → IsWindowCount area size i j n → n ≤ greatest.tiles
+pub most_of_all : (area : Tile → Type 0) (size i j : ℤ) (n : ℕ) (table : Table) (greatest : Entry)
+    → IsDensityTable area size table → IsFirstGreatest table.entries greatest → IsWindowCount area size i j n
+    → n ≤ greatest.tiles
 most_of_all area size i j n table greatest is first count =
     let same = one_number (IsInWindow area size i j) n (listed i j table.entries) count (is.entries.counts i j) in
     let few = listed_bound i j greatest.tiles table.entries is.entries.ascending (none_more table.entries greatest first) in

@@ -133,7 +133,8 @@ below_next row es counts below =
 before_all : (e : Entry) (row : ℤ) (ys : List Entry) → e.row <ℤ row → All (λ (y : Entry). y.row ≡ row) ys → All (IsBefore e) ys
 before_all e row ys less same k d inside = let here = same k d inside in inl (omega (arith, ints, less, here))
 
-pub ascending_both : (row : ℤ) (xs ys : List Entry) → AreAscending xs → AreAscending ys → AreBelow row xs → All (λ (y : Entry). y.row ≡ row) ys → AreAscending (xs ++ ys)
+pub ascending_both : (row : ℤ) (xs ys : List Entry) → AreAscending xs → AreAscending ys → AreBelow row xs
+    → All (λ (y : Entry). y.row ≡ row) ys → AreAscending (xs ++ ys)
 ascending_both row [] ys p q below same = q
 ascending_both row (x ∷ xs) ys p q below same = (
   All-append (IsBefore x) xs ys p.0 (before_all x row ys (All-head (λ (e : Entry). e.row <ℤ row) x xs below) same),

@@ -8,5 +8,7 @@ pub mod BeginLemmas
 pub mod StripLemmas
 pub mod TextLemmas
 pub mod RowSteps
+pub mod MapLemmas
+pub mod AreaLemmas
 pub mod TableSteps
 pub mod ForCallers

@@ -1,5 +1,6 @@
 -- The number of an area's tiles: parts add up, an area has one number, and within reach it is small.
-use Rattle.std.proofs.Common.{ℕ, zero, suc, ◌+◌, ◌^◌, ◌≤◌, ◌<◌, ◌≡◌, ◌⊎◌, inl, inr, pos, neg_ℤ, Bool, true, false, cond, List, [], ◌∷◌, ◌++◌, length, count_by, arith, refl, sym, ap, ◌∙◌}
+use Rattle.std.proofs.Common.{ℕ, zero, suc, ◌+◌, ◌^◌, ◌≤◌, ◌<◌, ◌≡◌, ◌⊎◌, inl, inr, pos, neg_ℤ, Bool, true, false, cond}
+use Rattle.std.proofs.Common.{List, [], ◌∷◌, ◌++◌, length, count_by, arith, refl, sym, ap, ◌∙◌}
 use Rattle.std.proofs.lemmas.Int.{ints}
 use Rattle.std.proofs.lemmas.List.{length-append}
 use Rattle.std.proofs.lemmas.List.Sums.{sum_by-append}
@@ -17,7 +18,8 @@ use Rattle.density_map.proofs.ForCallers.{same_tile}
 
 -- ---- areas of the same tiles, none, and two that share none
 
-pub number_same : (area other : Tile → Type 0) (n : ℕ) → ((t : Tile) → area t → other t) → ((t : Tile) → other t → area t) → IsNumberIn area n → IsNumberIn other n
+pub number_same : (area other : Tile → Type 0) (n : ℕ) → ((t : Tile) → area t → other t)
+    → ((t : Tile) → other t → area t) → IsNumberIn area n → IsNumberIn other n
 number_same area other n to from p = record {
   tiles = p.tiles;
   once = λ t h. p.once t (from t h);
@@ -67,7 +69,8 @@ fewer : (t x : Tile) (ys : List Tile) → 1 ≤ count_by (is_tile x) ys → coun
 fewer t x [] one = absurd (omega (arith, one))
 fewer t x (y ∷ ys) one = fewer_by t x y ys (is_tile x y) refl one (λ c. fewer t x ys)
 
-shorter_by : (x y : Tile) (ys : List Tile) (b : Bool) → is_tile x y ≡ b → 1 ≤ count_by (is_tile x) (y ∷ ys) → (1 ≤ count_by (is_tile x) ys → length ys ≡ suc (length (without x ys)))
+shorter_by : (x y : Tile) (ys : List Tile) (b : Bool) → is_tile x y ≡ b → 1 ≤ count_by (is_tile x) (y ∷ ys)
+    → (1 ≤ count_by (is_tile x) ys → length ys ≡ suc (length (without x ys)))
     → suc (length ys) ≡ suc (length (cond b ys (y ∷ without x ys)))
 shorter_by x y ys true e one rest = refl
 shorter_by x y ys false e one rest = ap suc (rest (omega (arith, one, count_by-cons (is_tile x) y ys, ap count_one e)))

@@ -1,5 +1,6 @@
 -- An area has one table, and the entries of its lowest rows of windows begin it.
-use Rattle.std.proofs.Common.{ℕ, ◌≤◌, ◌<◌, ◌≡◌, ◌⊎◌, inl, inr, ℤ, ◌≤ℤ◌, ◌<ℤ◌, get_or, drop, length, List, [], ◌∷◌, ◌++◌, Option, None, Some, arith, refl, sym, ap, subst, ◌∙◌}
+use Rattle.std.proofs.Common.{ℕ, ◌≤◌, ◌<◌, ◌≡◌, ◌⊎◌, inl, inr, ℤ, ◌≤ℤ◌, ◌<ℤ◌, get_or, drop, length, List, [], ◌∷◌, ◌++◌}
+use Rattle.std.proofs.Common.{Option, None, Some, arith, refl, sym, ap, subst, ◌∙◌}
 use Rattle.std.proofs.lemmas.Int.{ints, by_lt_z}
 use Rattle.std.proofs.lemmas.List.{append-nil, length-append}
 use Rattle.std.proofs.lemmas.List.Elements.{All-cons, All-head, All-tail, All-weaker}
@@ -26,14 +27,17 @@ not_empty : (p : List Entry) (a : Entry) (r : List Entry) → [] ≡ p ++ a ∷ 
 not_empty [] a r e = cc
 not_empty (x ∷ p) a r e = cc
 
-All-later : (a : Entry) (q : List Entry) (b : Entry) (s : List Entry) → All (λ (x : Entry). x.tiles ≤ a.tiles) (q ++ b ∷ s) → All (λ (x : Entry). x.tiles ≤ a.tiles) (b ∷ s)
+All-later : (a : Entry) (q : List Entry) (b : Entry) (s : List Entry)
+    → All (λ (x : Entry). x.tiles ≤ a.tiles) (q ++ b ∷ s) → All (λ (x : Entry). x.tiles ≤ a.tiles) (b ∷ s)
 All-later a [] b s h = h
 All-later a (x ∷ q) b s h = All-later a q b s (All-tail (λ (y : Entry). y.tiles ≤ a.tiles) x (q ++ b ∷ s) h)
 
 same_table : (one other : Table) → one.entries ≡ other.entries → one.most ≡ other.most → one.triangles ≡ other.triangles → one ≡ other
 same_table one other p q r =
     ap (λ (x : List Entry). let t : Table = record { entries = x; most = one.most; triangles = one.triangles } in t) p
-    ∙ (ap (λ (x : Option Entry). let t : Table = record { entries = other.entries; most = x; triangles = one.triangles } in t) q ∙ ap (λ (x : ℕ). let t : Table = record { entries = other.entries; most = other.most; triangles = x } in t) r)
+    ∙ (ap (λ (x : Option Entry). let t : Table =
+    record { entries = other.entries; most = x; triangles = one.triangles } in t) q ∙ ap
+    (λ (x : ℕ). let t : Table = record { entries = other.entries; most = other.most; triangles = x } in t) r)
 
 -- ---- entries in order
 
@@ -68,7 +72,8 @@ listed_first e es ascending =
 same_entry : (a b : Entry) → a.row ≡ b.row → a.column ≡ b.column → a.tiles ≡ b.tiles → a ≡ b
 same_entry a b p q r =
     ap (λ (x : ℤ). let e : Entry = record { column = x; row = a.row; tiles = a.tiles } in e) q
-    ∙ (ap (λ (x : ℤ). let e : Entry = record { column = b.column; row = x; tiles = a.tiles } in e) p ∙ ap (λ (x : ℕ). let e : Entry = record { column = b.column; row = b.row; tiles = x } in e) r)
+    ∙ (ap (λ (x : ℤ). let e : Entry = record { column = b.column; row = x; tiles = a.tiles } in e) p ∙ ap
+    (λ (x : ℕ). let e : Entry = record { column = b.column; row = b.row; tiles = x } in e) r)
 
 -- ---- entries that begin others
 
@@ -81,7 +86,8 @@ pub record Agree (low : ℤ → Type 0) (xs ys : List Entry) : Type 0 where
 abbrev HaveTiles : List Entry → Type 0
 HaveTiles es = All (λ (e : Entry). 0 < e.tiles) es
 
-is_low_by : (low : ℤ → Type 0) (x : Entry) (xs : List Entry) → AreAscending (x ∷ xs) → 0 < x.tiles → low x.row ⊎ (listed x.column x.row (x ∷ xs) ≡ 0) → low x.row
+is_low_by : (low : ℤ → Type 0) (x : Entry) (xs : List Entry) → AreAscending (x ∷ xs) → 0 < x.tiles → low x.row
+    ⊎ (listed x.column x.row (x ∷ xs) ≡ 0) → low x.row
 is_low_by low x xs ascending tiles (inl h) = h
 is_low_by low x xs ascending tiles (inr none) = absurd (let own = listed_first x xs ascending in omega (arith, none, own, tiles))
 
@@ -105,7 +111,8 @@ not_after : (a b : Entry) → IsBefore a b → a.row ≤ℤ b.row
 not_after a b (inl less) = omega (arith, ints, less)
 not_after a b (inr (e, less)) = omega (arith, ints, e)
 
-pub begins : (low : ℤ → Type 0) (xs ys : List Entry) → AreAscending xs → AreAscending ys → HaveTiles xs → HaveTiles ys → Agree low xs ys → (rest : List Entry) × (ys ≡ xs ++ rest)
+pub begins : (low : ℤ → Type 0) (xs ys : List Entry) → AreAscending xs → AreAscending ys → HaveTiles xs → HaveTiles ys
+    → Agree low xs ys → (rest : List Entry) × (ys ≡ xs ++ rest)
 begins low [] ys p q tiles other agree = (ys, refl)
 begins low (x ∷ xs) [] p q tiles other agree =
     absurd (
@@ -140,11 +147,15 @@ begins low (x ∷ xs) (y ∷ ys) p q tiles other agree =
 -- ---- an area's entries
 
 -- those of the rows of windows below one begin those of the area
-pub entries_begin : (area : Tile → Type 0) (size row : ℤ) (xs ys : List Entry) → IsWindowSize size → AreEntries (IsBelow area size row) size xs → AreEntries area size ys → (rest : List Entry) × (ys ≡ xs ++ rest)
+pub entries_begin : (area : Tile → Type 0) (size row : ℤ) (xs ys : List Entry) → IsWindowSize size
+    → AreEntries (IsBelow area size row) size xs → AreEntries area size ys → (rest : List Entry) × (ys ≡ xs ++ rest)
 entries_begin area size row xs ys h p q =
     begins (λ j. j <ℤ row) xs ys p.ascending q.ascending p.above_zero q.above_zero (record {
-      same = λ i j less. one_number (IsInWindow area size i j) (listed i j xs) (listed i j ys) (low_count area size row i j (listed i j xs) h less (p.counts i j)) (q.counts i j);
-      each = λ i j. by_lt_z j row (λ less. inl less) (λ more. inr (one_number (IsInWindow (IsBelow area size row) size i j) (listed i j xs) 0 (p.counts i j) (high_count area size row i j h more)));
+      same = λ i j less. one_number (IsInWindow area size i j) (listed i j xs) (listed i j ys)
+          (low_count area size row i j (listed i j xs) h less (p.counts i j)) (q.counts i j);
+      each = λ i j. by_lt_z j row (λ less. inl less)
+          (λ more. inr (one_number (IsInWindow (IsBelow area size row) size i j) (listed i j xs) 0 (p.counts i j)
+          (high_count area size row i j h more)));
       down = λ i j up low. omega (arith, ints, up, low);
     })
 
@@ -156,8 +167,10 @@ empty (x ∷ l) e = absurd (omega (arith, e))
 pub one_list : (area : Tile → Type 0) (size : ℤ) (xs ys : List Entry) → AreEntries area size xs → AreEntries area size ys → xs ≡ ys
 one_list area size xs ys p q =
     let agree = λ (i : ℤ). λ (j : ℤ). one_number (IsInWindow area size i j) (listed i j xs) (listed i j ys) (p.counts i j) (q.counts i j) in
-    let one = begins (λ j. Unit {0}) xs ys p.ascending q.ascending p.above_zero q.above_zero (record { same = λ i j h. agree i j; each = λ i j. inl tt; down = λ i j up h. tt }) in
-    let other = begins (λ j. Unit {0}) ys xs q.ascending p.ascending q.above_zero p.above_zero (record { same = λ i j h. sym (agree i j); each = λ i j. inl tt; down = λ i j up h. tt }) in
+    let one = begins (λ j. Unit {0}) xs ys p.ascending q.ascending p.above_zero q.above_zero
+    (record { same = λ i j h. agree i j; each = λ i j. inl tt; down = λ i j up h. tt }) in
+    let other = begins (λ j. Unit {0}) ys xs q.ascending p.ascending q.above_zero p.above_zero
+    (record { same = λ i j h. sym (agree i j); each = λ i j. inl tt; down = λ i j up h. tt }) in
     let length_one = ap (λ (l : List Entry). length l) one.1 in
     let length_other = ap (λ (l : List Entry). length l) other.1 in
     let sum_one = length-append xs one.0 in
@@ -167,7 +180,8 @@ one_list area size xs ys p q =
 
 -- ---- the first that has the most
 
-same_first : (a b : Entry) (p q r s : List Entry) → p ++ a ∷ r ≡ q ++ b ∷ s → All (λ (e : Entry). e.tiles < a.tiles) p → All (λ (e : Entry). e.tiles ≤ a.tiles) r
+same_first : (a b : Entry) (p q r s : List Entry) → p ++ a ∷ r ≡ q ++ b ∷ s → All (λ (e : Entry). e.tiles < a.tiles) p
+    → All (λ (e : Entry). e.tiles ≤ a.tiles) r
     → All (λ (e : Entry). e.tiles < b.tiles) q → All (λ (e : Entry). e.tiles ≤ b.tiles) s → a ≡ b
 same_first a b [] [] r s e pa ra qb sb = head_of a b r s e
 same_first a b [] (y ∷ q) r s e pa ra qb sb =
@@ -189,13 +203,15 @@ same_first a b (x ∷ p) [] r s e pa ra qb sb =
     omega (arith, few, less, same)
     )
 same_first a b (x ∷ p) (y ∷ q) r s e pa ra qb sb =
-    same_first a b p q r s (tail_of x y (p ++ a ∷ r) (q ++ b ∷ s) e) (All-tail (λ (z : Entry). z.tiles < a.tiles) x p pa) ra (All-tail (λ (z : Entry). z.tiles < b.tiles) y q qb) sb
+    same_first a b p q r s (tail_of x y (p ++ a ∷ r) (q ++ b ∷ s) e)
+    (All-tail (λ (z : Entry). z.tiles < a.tiles) x p pa) ra (All-tail (λ (z : Entry). z.tiles < b.tiles) y q qb) sb
 
 same_most : (entries : List Entry) (one other : Option Entry) → IsMost entries one → IsMost entries other → one ≡ other
 same_most entries None None p q = refl
 same_most entries None (Some b) p q = absurd (not_empty q.before b q.after (sym p ∙ q.here))
 same_most entries (Some a) None p q = absurd (not_empty p.before a p.after (sym q ∙ p.here))
-same_most entries (Some a) (Some b) p q = ap Some (same_first a b p.before q.before p.after q.after (sym p.here ∙ q.here) p.less p.no_greater q.less q.no_greater)
+same_most entries (Some a) (Some b) p q = ap Some
+    (same_first a b p.before q.before p.after q.after (sym p.here ∙ q.here) p.less p.no_greater q.less q.no_greater)
 
 -- an area has one table
 pub one_table : (area : Tile → Type 0) (size : ℤ) (one other : Table) → IsDensityTable area size one → IsDensityTable area size other → one ≡ other

@@ -1,9 +1,10 @@
 -- What is put for an output, row of windows after row of windows.
-use Rattle.std.proofs.Common.{ℕ, ◌+◌, ◌^◌, ◌≤◌, ◌<◌, ◌≡◌, ℤ, pos, ◌+ℤ◌, ◌*ℤ◌, ◌≤ℤ◌, ◌<ℤ◌, Bool, true, false, List, [], ◌∷◌, ◌++◌, flat_map, take, IsTrue, arith, refl, sym, ap, subst, ◌∙◌, append_assoc}
+use Rattle.std.proofs.Common.{ℕ, ◌+◌, ◌^◌, ◌≤◌, ◌<◌, ◌≡◌, ℤ, pos, ◌+ℤ◌, ◌*ℤ◌, ◌≤ℤ◌, ◌<ℤ◌, Bool, true, false, List, []}
+use Rattle.std.proofs.Common.{◌∷◌, ◌++◌, flat_map, take, IsTrue, arith, refl, sym, ap, subst, ◌∙◌, append_assoc}
 use Rattle.std.proofs.lemmas.Int.{ints}
 use Rattle.std.proofs.lemmas.List.{append-nil}
 use Rattle.std.proofs.lemmas.Grind.{flat_map-append}
-use Rattle.std.proofs.lemmas.List.Elements.{All-nil, All-head, All-tail}
+use Rattle.std.proofs.lemmas.List.Elements.{All-nil, All-head, All-tail, All-weaker}
 use Rattle.std.proofs.lemmas.List.Folds.{flat_map-map}
 use Rattle.std.proofs.lemmas.List.Sums.{sum_by-append, sum_by-take-le}
 use Rattle.std.specs.List.{All}
@@ -29,15 +30,18 @@ use Rattle.density_report.specs.declared.entries.Totals.{Totals}
 use Rattle.density_report.specs.Tables.{AreEntries}
 use Rattle.density_report.specs.Texts.{entry_line}
 use Rattle.density_report.specs.Saying.{area_of, IsBelow}
-use Rattle.density_report.specs.Rows.{rows_of, entry_of, entries_of, counted_line, triangles_of, sum_of, AreTotals, AreRowCounts, AreRowsPut, AreRowsCut}
+use Rattle.density_report.specs.declared.strips.Batch.{Batch}
+use Rattle.density_report.specs.Rows.{rows_of, entry_of, entries_of, counted_line, triangles_of, sum_of, AreTotals}
+use Rattle.density_report.specs.Rows.{AreRowCounts, AreRowsPut, AreRowsCut, AreTrapsOf, HasNone}
 use Rattle.density_report.proofs.NumberLemmas.{either_way, number_few}
 use Rattle.density_report.proofs.EntryLemmas.{AreBelow, below_next, sum_here}
-use Rattle.density_report.proofs.TableLemmas.{no_entries, next_entries, all_entries, next_within, total}
+use Rattle.density_report.proofs.TableLemmas.{no_entries, next_entries, all_entries, next_within, passed_entries, passed_below, total}
 use Rattle.density_report.proofs.TextLemmas.{part_said}
 
 -- ---- the counts of one row of windows
 
-pub traps_apart : (p : Planned) (k : ℕ) (band : RowRange) (traps : List Trapezoid) → IsJoinedOf band (IsInBand p.cells p.top p.deck k band) traps → AreApart traps
+pub traps_apart : (p : Planned) (k : ℕ) (band : RowRange) (traps : List Trapezoid)
+    → IsJoinedOf band (IsInBand p.cells p.top p.deck k band) traps → AreApart traps
 traps_apart p k band traps joined t =
     either_way (IsInBand p.cells p.top p.deck k band t) (count_in traps t) 1
     (λ h. (let one = joined.covers.once t h in omega (arith, one)))
@@ -51,7 +55,8 @@ first_apart traps n h t =
     omega (arith, less, one)
 
 -- a tile that is in some shot is within reach
-within_by : (t : Tile) (z : Trapezoid) (b : Bool) → trapezoid_has t z ≡ b → IsShot z → (count_one (trapezoid_has t z) ≡ 0 → IsTileWithinReach t) → IsTileWithinReach t
+within_by : (t : Tile) (z : Trapezoid) (b : Bool) → trapezoid_has t z ≡ b → IsShot z
+    → (count_one (trapezoid_has t z) ≡ 0 → IsTileWithinReach t) → IsTileWithinReach t
 within_by t z true e shot rest = tile_of_shot_within z t shot (has_in t z e)
 within_by t z false e shot rest = rest (ap count_one e)
 
@@ -61,17 +66,19 @@ some_within t (z ∷ traps) shots some =
     within_by t z (trapezoid_has t z) refl (All-head IsShot z traps shots)
     (λ none. some_within t traps (All-tail IsShot z traps shots) (let one = count_by-cons (trapezoid_has t) z traps in omega (arith, one, none, some)))
 
-pub row_counts : (p : Planned) (k : ℕ) (size row : ℤ) (traps : List Trapezoid) (m : RowMap) → IsJoinedOf (rows_of size row) (IsInBand p.cells p.top p.deck k (rows_of size row)) traps → All IsShot traps
-    → m.size ≡ size → m.row ≡ row → IsMapOf m traps → AreRowCounts (area_of p k) size row m.counts
-row_counts p k size row traps m joined shots e f mapped = record {
+-- the counts of one row of windows of some, by trapezoids that have the area in all of them
+pub row_counts : (p : Planned) (k : ℕ) (batch : Batch) (size row : ℤ) (traps : List Trapezoid) (m : RowMap) → AreTrapsOf p k batch traps
+    → ((t : Tile) → (row *ℤ size) ≤ℤ t.j → t.j <ℤ ((row +ℤ pos 1) *ℤ size) → IsInRows (rows_of batch) t) → m.size ≡ size → m.row ≡ row → IsMapOf m traps
+    → AreRowCounts (area_of p k) size row m.counts
+row_counts p k batch size row traps m of inside e f mapped = record {
   each = λ i. subst (λ (n : ℕ). IsWindowCount (area_of p k) size i row n) (same size row e f i)
-      (sum_is_count (area_of p k) size i row traps (traps_apart p k (rows_of size row) traps joined)
-      (λ t inside. (
-        λ a. joined.covers.once t (record { rows = record { from = inside.above_bottom; below = inside.below_top }; area = a }),
-        λ out. joined.covers.never t (λ h. out h.area),
+      (sum_is_count (area_of p k) size i row traps (traps_apart p k (rows_of batch) traps of.joined)
+      (λ t within. (
+        λ a. of.joined.covers.once t (record { rows = inside t within.above_bottom within.below_top; area = a }),
+        λ out. of.joined.covers.never t (λ h. out h.area),
       )));
-  within = λ t a low high. some_within t traps shots
-      (let one = joined.covers.once t (record { rows = record { from = low; below = high }; area = a }) in omega (arith, one));
+  within = λ t a low high. some_within t traps of.shots
+      (let one = of.joined.covers.once t (record { rows = inside t low high; area = a }) in omega (arith, one));
 }
   where
     same : (size row : ℤ) → m.size ≡ size → m.row ≡ row → (i : ℤ) → window_sum size i row traps ≡ count_at i m.counts
@@ -80,7 +87,8 @@ row_counts p k size row traps m joined shots e f mapped = record {
 -- ---- rows of windows, one after another
 
 -- the entries of the rows of windows below this one were put, and the totals are theirs
-pub record AreRowsSoFar (p : Planned) (k : ℕ) (size row : ℤ) (tells : Bool) (before : Content) (held : List ℕ) (totals : Totals) (left : List ℕ) (now : Content) : Type 0 where
+pub record AreRowsSoFar (p : Planned) (k : ℕ) (size row : ℤ) (tells : Bool) (before : Content) (held : List ℕ)
+    (totals : Totals) (left : List ℕ) (now : Content) : Type 0 where
   pub entries : List Entry
   pub below : AreBelow row entries
   pub are : AreEntries (IsBelow (area_of p k) size row) size entries
@@ -113,7 +121,9 @@ more_lines : (held : List ℕ) (entries : List Entry) (row : ℤ) (counts : List
     → (held ++ flat_map entry_line entries) ++ flat_map (counted_line row) counts ≡ held ++ flat_map entry_line (entries ++ entries_of row counts)
 more_lines held entries row counts =
     append_assoc held (flat_map entry_line entries) (flat_map (counted_line row) counts)
-    ∙ ap (λ (l : List ℕ). held ++ l) (ap (λ (l : List ℕ). flat_map entry_line entries ++ l) (sym (row_lines row counts)) ∙ sym (flat_map-append entry_line entries (entries_of row counts)))
+    ∙ ap (λ (l : List ℕ). held ++ l)
+    (ap (λ (l : List ℕ). flat_map entry_line entries ++ l) (sym (row_lines row counts)) ∙ sym
+    (flat_map-append entry_line entries (entries_of row counts)))
 
 module _ (p : Planned) (k : ℕ) (size row : ℤ) (tells : Bool) (before : Content) (held : List ℕ) (totals : Totals) (left : List ℕ) (now : Content)
     (s : AreRowsSoFar p k size row tells before held totals left now) where
@@ -128,7 +138,8 @@ module _ (p : Planned) (k : ℕ) (size row : ℤ) (tells : Bool) (before : Conte
     -- the sum stays small
     pub few : totals.triangles + triangles_of counts < 2 ^ 127
     few =
-        let small = number_few (IsBelow (area_of p k) size (row +ℤ pos 1)) (sum_of (s.entries ++ entries_of row counts)) (next_within (area_of p k) size row counts s.within more)
+        let small = number_few (IsBelow (area_of p k) size (row +ℤ pos 1))
+        (sum_of (s.entries ++ entries_of row counts)) (next_within (area_of p k) size row counts s.within more)
         (total (IsBelow (area_of p k) size (row +ℤ pos 1)) size (s.entries ++ entries_of row counts) h next) in
         let both = sum_by-append (λ (e : Entry). e.tiles) s.entries (entries_of row counts) in
         let here = sum_here row counts in
@@ -159,8 +170,20 @@ module _ (p : Planned) (k : ℕ) (size row : ℤ) (tells : Bool) (before : Conte
               (said_then (flat_map (counted_line row) counts) (s.content told) (put told));
         })
 
+  -- where the area has nothing in the rows of windows from this one up to another
+  pub rows_passed : (up : ℤ) → IsWindowSize size → row ≤ℤ up → HasNone (area_of p k) size row up → AreRowsSoFar p k size up tells before held totals left now
+  rows_passed up h more none = record {
+    entries = s.entries;
+    below = All-weaker (λ (e : Entry). e.row <ℤ row) (λ (e : Entry). e.row <ℤ up) (λ e less. omega (arith, ints, less, more)) s.entries s.below;
+    are = passed_entries (area_of p k) size row up s.entries h more none s.are;
+    within = λ t b. s.within t (passed_below (area_of p k) size row up none t b);
+    totals_of = s.totals_of;
+    content = s.content;
+  }
+
   -- where no row is left
-  pub rows_put : (rows : RowRange) → ((t : Tile) → area_of p k t → IsInRows rows t) → rows.y1 ≤ℤ (row *ℤ size) → AreRowsPut p k size tells before held totals left now
+  pub rows_put : (rows : RowRange) → ((t : Tile) → area_of p k t → IsInRows rows t) → rows.y1 ≤ℤ (row *ℤ size)
+      → AreRowsPut p k size tells before held totals left now
   rows_put rows outside last = record {
     entries = s.entries;
     are = all_entries (area_of p k) size row s.entries (λ t a. (let under = (outside t a).below in omega (arith, ints, under, last))) s.are;

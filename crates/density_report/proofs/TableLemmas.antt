@@ -1,5 +1,6 @@
 -- The entries of an area: row of windows after row of windows, and that they add up.
-use Rattle.std.proofs.Common.{ℕ, ◌+◌, ◌≤◌, ◌<◌, ◌≡◌, ◌⊎◌, inl, inr, ℤ, pos, ◌+ℤ◌, ◌*ℤ◌, ◌≤ℤ◌, ◌<ℤ◌, Bool, true, false, List, [], ◌∷◌, ◌++◌, slice_index_or, arith, refl, sym, subst}
+use Rattle.std.proofs.Common.{ℕ, ◌+◌, ◌≤◌, ◌<◌, ◌≡◌, ◌⊎◌, inl, inr, ℤ, pos, ◌+ℤ◌, ◌*ℤ◌, ◌≤ℤ◌, ◌<ℤ◌, Bool, true, false}
+use Rattle.std.proofs.Common.{List, [], ◌∷◌, ◌++◌, slice_index_or, arith, refl, sym, subst}
 use Rattle.std.proofs.lemmas.Int.{ints, by_lt_z}
 use Rattle.std.proofs.lemmas.List.Elements.{All-nil, All-head, All-tail, All-append}
 use Rattle.std.proofs.lemmas.List.Sums.{sum_by-cons, count_by-le-length}
@@ -17,9 +18,10 @@ use Rattle.density_map.proofs.ForCallers.{next_side, multiples, floor_of}
 use Rattle.density_report.specs.declared.entries.Entry.{Entry}
 use Rattle.density_report.specs.Tables.{IsBefore, AreAscending, AreEntries, tiles_for, listed}
 use Rattle.density_report.specs.Saying.{IsBelow}
-use Rattle.density_report.specs.Rows.{entries_of, sum_of, AreRowCounts}
+use Rattle.density_report.specs.Rows.{entries_of, sum_of, AreRowCounts, HasNone}
 use Rattle.density_report.proofs.NumberLemmas.{number_same, number_none, number_sum}
-use Rattle.density_report.proofs.EntryLemmas.{listed_both, listed_own, AreBelow, listed_above, listed_here, listed_else, ascending_here, above_zero_here, row_here, ascending_both}
+use Rattle.density_report.proofs.EntryLemmas.{listed_both, listed_own, AreBelow, listed_above, listed_here, listed_else}
+use Rattle.density_report.proofs.EntryLemmas.{ascending_here, above_zero_here, row_here, ascending_both}
 
 pub some_size : (size : ℤ) → IsWindowSize size → pos 0 <ℤ size
 some_size size h = let low = h.low in omega (arith, ints, low)
@@ -39,7 +41,9 @@ no_entries area size row above = record {
 }
 
 -- where no tile is in a row above, they are those of the area
-pub all_entries : (area : Tile → Type 0) (size row : ℤ) (entries : List Entry) → ((t : Tile) → area t → t.j <ℤ (row *ℤ size)) → AreEntries (IsBelow area size row) size entries → AreEntries area size entries
+pub all_entries : (area : Tile → Type 0) (size row : ℤ) (entries : List Entry)
+    → ((t : Tile) → area t → t.j <ℤ (row *ℤ size)) → AreEntries (IsBelow area size row) size entries
+    → AreEntries area size entries
 all_entries area size row entries below are = record {
   ascending = are.ascending;
   above_zero = are.above_zero;
@@ -50,7 +54,8 @@ all_entries area size row entries below are = record {
 }
 
 -- the windows of a row below
-low_window : (area : Tile → Type 0) (size row i j : ℤ) (n : ℕ) → IsWindowSize size → j <ℤ row → IsWindowCount (IsBelow area size row) size i j n → IsWindowCount (IsBelow area size (row +ℤ pos 1)) size i j n
+low_window : (area : Tile → Type 0) (size row i j : ℤ) (n : ℕ) → IsWindowSize size → j <ℤ row
+    → IsWindowCount (IsBelow area size row) size i j n → IsWindowCount (IsBelow area size (row +ℤ pos 1)) size i j n
 low_window area size row i j n h less p =
     let up = multiples (j +ℤ pos 1) row size (some_size size h) (omega (arith, ints, less)) in
     let next = next_side row size in
@@ -78,8 +83,10 @@ high_window area size row i j h more =
     omega (arith, ints, a, b, up)
     ))
 
-pub next_entries : (area : Tile → Type 0) (size row : ℤ) (entries : List Entry) (counts : List Counted) → IsWindowSize size → AreCounts counts → AreBelow row entries
-    → AreEntries (IsBelow area size row) size entries → AreRowCounts area size row counts → AreEntries (IsBelow area size (row +ℤ pos 1)) size (entries ++ entries_of row counts)
+pub next_entries : (area : Tile → Type 0) (size row : ℤ) (entries : List Entry) (counts : List Counted)
+    → IsWindowSize size → AreCounts counts → AreBelow row entries
+    → AreEntries (IsBelow area size row) size entries → AreRowCounts area size row counts
+    → AreEntries (IsBelow area size (row +ℤ pos 1)) size (entries ++ entries_of row counts)
 next_entries area size row entries counts h ascending below are more = record {
   ascending = ascending_both row entries (entries_of row counts) are.ascending (ascending_here row counts ascending) below (row_here row counts);
   above_zero = All-append (λ (e : Entry). 0 < e.tiles) entries (entries_of row counts) are.above_zero (above_zero_here row counts ascending);
@@ -88,7 +95,8 @@ next_entries area size row entries counts h ascending below are more = record {
       let both = listed_both i j entries (entries_of row counts) in
       let else = listed_else i j row counts (λ e. omega (arith, ints, e, less)) in
       let same : listed i j entries ≡ listed i j (entries ++ entries_of row counts) = omega (arith, both, else) in
-      subst (λ (n : ℕ). IsWindowCount (IsBelow area size (row +ℤ pos 1)) size i j n) same (low_window area size row i j (listed i j entries) h less (are.counts i j))
+      subst (λ (n : ℕ). IsWindowCount (IsBelow area size (row +ℤ pos 1)) size i j n) same
+      (low_window area size row i j (listed i j entries) h less (are.counts i j))
       ))
       (λ from. by_lt_z row j
       (λ less. (
@@ -110,7 +118,8 @@ next_entries area size row entries counts h ascending below are more = record {
 }
 
 -- below a row of windows the counts are those of the whole area, and from there on there are none
-pub low_count : (area : Tile → Type 0) (size row i j : ℤ) (n : ℕ) → IsWindowSize size → j <ℤ row → IsWindowCount (IsBelow area size row) size i j n → IsWindowCount area size i j n
+pub low_count : (area : Tile → Type 0) (size row i j : ℤ) (n : ℕ) → IsWindowSize size → j <ℤ row
+    → IsWindowCount (IsBelow area size row) size i j n → IsWindowCount area size i j n
 low_count area size row i j n h less p =
     let up = multiples (j +ℤ pos 1) row size (some_size size h) (omega (arith, ints, less)) in
     number_same (IsInWindow (IsBelow area size row) size i j) (IsInWindow area size i j) n
@@ -128,12 +137,34 @@ high_count area size row i j h more =
     ))
 
 -- the tiles of the area below the next row are within reach where those below this one are
-pub next_within : (area : Tile → Type 0) (size row : ℤ) (counts : List Counted) → ((t : Tile) → IsBelow area size row t → IsTileWithinReach t) → AreRowCounts area size row counts
+pub next_within : (area : Tile → Type 0) (size row : ℤ) (counts : List Counted)
+    → ((t : Tile) → IsBelow area size row t → IsTileWithinReach t) → AreRowCounts area size row counts
     → (t : Tile) → IsBelow area size (row +ℤ pos 1) t → IsTileWithinReach t
 next_within area size row counts within more t b =
     by_lt_z t.j (row *ℤ size)
     (λ less. within t (record { below = less; taken = b.taken }))
     (λ from. more.within t b.taken from b.below)
+
+-- where the area has nothing in some rows of windows, what is below them is what is below the next one
+pub passed_below : (area : Tile → Type 0) (size row up : ℤ) → HasNone area size row up → (t : Tile) → IsBelow area size up t → IsBelow area size row t
+passed_below area size row up none t b =
+    by_lt_z t.j (row *ℤ size)
+    (λ less. record { below = less; taken = b.taken })
+    (λ from. absurd (none t b.taken from b.below))
+
+pub passed_entries : (area : Tile → Type 0) (size row up : ℤ) (entries : List Entry) → IsWindowSize size → row ≤ℤ up
+    → HasNone area size row up → AreEntries (IsBelow area size row) size entries
+    → AreEntries (IsBelow area size up) size entries
+passed_entries area size row up entries h more none are =
+    let rise = multiples row up size (some_size size h) more in
+    record {
+      ascending = are.ascending;
+      above_zero = are.above_zero;
+      counts = λ i j. number_same (IsInWindow (IsBelow area size row) size i j) (IsInWindow (IsBelow area size up) size i j) (listed i j entries)
+          (λ t w. record { inside = w.inside; taken = record { below = (let b = w.taken.below in omega (arith, ints, b, rise)); taken = w.taken.taken } })
+          (λ t w. record { inside = w.inside; taken = passed_below area size row up none t w.taken })
+          (are.counts i j);
+    }
 
 -- ---- their sum
 
@@ -143,7 +174,8 @@ IsInOne size [] t = ⊥
 IsInOne size (e ∷ es) t = IsInFrame (window size e.column e.row) t ⊎ IsInOne size es t
 
 -- two windows share no tile
-windows_apart : (size : ℤ) (a b : Entry) (t : Tile) → pos 0 <ℤ size → IsBefore a b → IsInFrame (window size a.column a.row) t → IsInFrame (window size b.column b.row) t → ⊥
+windows_apart : (size : ℤ) (a b : Entry) (t : Tile) → pos 0 <ℤ size → IsBefore a b
+    → IsInFrame (window size a.column a.row) t → IsInFrame (window size b.column b.row) t → ⊥
 windows_apart size a b t some (inl less) p q =
     let up = multiples (a.row +ℤ pos 1) b.row size some (omega (arith, ints, less)) in
     let high = p.below_top in
@@ -155,7 +187,8 @@ windows_apart size a b t some (inr (same, less)) p q =
     let low = q.from_left in
     omega (arith, ints, up, high, low)
 
-apart_of_all : (size : ℤ) (a : Entry) (es : List Entry) (t : Tile) → pos 0 <ℤ size → All (IsBefore a) es → IsInFrame (window size a.column a.row) t → IsInOne size es t → ⊥
+apart_of_all : (size : ℤ) (a : Entry) (es : List Entry) (t : Tile) → pos 0 <ℤ size → All (IsBefore a) es
+    → IsInFrame (window size a.column a.row) t → IsInOne size es t → ⊥
 apart_of_all size a [] t some before p q = q
 apart_of_all size a (e ∷ es) t some before p (inl q) = windows_apart size a e t some (All-head (IsBefore a) e es before) p q
 apart_of_all size a (e ∷ es) t some before p (inr q) = apart_of_all size a es t some (All-tail (IsBefore a) e es before) p q
@@ -168,14 +201,17 @@ pub record IsInOneOf (area : Tile → Type 0) (size : ℤ) (es : List Entry) (t 
 abbrev HaveCounts : (Tile → Type 0) → ℤ → List Entry → Type 0
 HaveCounts area size es = All (λ (e : Entry). IsWindowCount area size e.column e.row e.tiles) es
 
-numbers : (area : Tile → Type 0) (size : ℤ) (es : List Entry) → pos 0 <ℤ size → AreAscending es → HaveCounts area size es → IsNumberIn (IsInOneOf area size es) (sum_of es)
+numbers : (area : Tile → Type 0) (size : ℤ) (es : List Entry) → pos 0 <ℤ size → AreAscending es
+    → HaveCounts area size es → IsNumberIn (IsInOneOf area size es) (sum_of es)
 numbers area size [] some ascending have = number_none (IsInOneOf area size []) (λ t h. h.inside)
 numbers area size (e ∷ es) some ascending have =
     let here = All-head (λ (x : Entry). IsWindowCount area size x.column x.row x.tiles) e es have in
     let rest = numbers area size es some ascending.1 (All-tail (λ (x : Entry). IsWindowCount area size x.column x.row x.tiles) e es have) in
-    let both = number_sum (IsInWindow area size e.column e.row) (IsInOneOf area size es) e.tiles (sum_of es) (λ t p q. apart_of_all size e es t some ascending.0 p.inside q.inside) here rest in
+    let both = number_sum (IsInWindow area size e.column e.row) (IsInOneOf area size es) e.tiles (sum_of es)
+    (λ t p q. apart_of_all size e es t some ascending.0 p.inside q.inside) here rest in
     subst (λ (n : ℕ). IsNumberIn (IsInOneOf area size (e ∷ es)) n) (sym (sum_by-cons (λ (x : Entry). x.tiles) e es))
-    (number_same (λ t. IsInWindow area size e.column e.row t ⊎ IsInOneOf area size es t) (IsInOneOf area size (e ∷ es)) (e.tiles + sum_of es) (λ t h. to t h) (λ t h. from t h.taken h.inside) both)
+    (number_same (λ t. IsInWindow area size e.column e.row t ⊎ IsInOneOf area size es t) (IsInOneOf area size (e ∷ es))
+    (e.tiles + sum_of es) (λ t h. to t h) (λ t h. from t h.taken h.inside) both)
   where
     to : (t : Tile) → IsInWindow area size e.column e.row t ⊎ IsInOneOf area size es t → IsInOneOf area size (e ∷ es) t
     to t (inl p) = record { taken = p.taken; inside = inl p.inside }
@@ -189,7 +225,8 @@ numbers area size (e ∷ es) some ascending have =
 is_this_one : (size i j : ℤ) (e : Entry) (es : List Entry) (t : Tile) (b c : Bool) → int_eq e.row j ≡ b → int_eq e.column i ≡ c → IsInFrame (window size i j) t
     → (tiles_for i j e ≡ 0 → IsInOne size es t) → IsInOne size (e ∷ es) t
 is_this_one size i j e es t true true p q inside rest =
-    inl (subst (λ (k : ℤ). IsInFrame (window size k e.row) t) (sym (int_eq_true e.column i q)) (subst (λ (k : ℤ). IsInFrame (window size i k) t) (sym (int_eq_true e.row j p)) inside))
+    inl (subst (λ (k : ℤ). IsInFrame (window size k e.row) t) (sym (int_eq_true e.column i q))
+    (subst (λ (k : ℤ). IsInFrame (window size i k) t) (sym (int_eq_true e.row j p)) inside))
 is_this_one size i j e es t true false p q inside rest = inr (rest (rw (p, q) refl))
 is_this_one size i j e es t false c p q inside rest = inr (rest (rw p refl))
 
@@ -219,5 +256,6 @@ each_in_one area size es t h are taken =
 -- the counts of an area's entries add up to the number of its tiles
 pub total : (area : Tile → Type 0) (size : ℤ) (es : List Entry) → IsWindowSize size → AreEntries area size es → IsNumberIn area (sum_of es)
 total area size es h are =
-    number_same (IsInOneOf area size es) area (sum_of es) (λ t p. p.taken) (λ t taken. record { taken = taken; inside = each_in_one area size es t h are taken })
+    number_same (IsInOneOf area size es) area (sum_of es) (λ t p. p.taken)
+    (λ t taken. record { taken = taken; inside = each_in_one area size es t h are taken })
     (numbers area size es (some_size size h) are.ascending (have_counts area size es are))

@@ -1,5 +1,7 @@
 -- What is put for the tables of outputs, one after another.
-use Rattle.std.proofs.Common.{ℕ, zero, suc, ◌≤◌, ◌<◌, ◌≡◌, inl, inr, ℤ, ◌*ℤ◌, ◌≤ℤ◌, Bool, true, false, List, [], ◌∷◌, ◌++◌, length, take, flat_map, get_or, nat_lt, slice_get, Some, IsTrue, arith, refl, sym, ap, subst, ◌∙◌, append_assoc}
+use Rattle.std.proofs.Common.{ℕ, zero, suc, ◌≤◌, ◌<◌, ◌≡◌, inl, inr, ℤ, ◌*ℤ◌, ◌≤ℤ◌, Bool, true, false, List, [], ◌∷◌}
+use Rattle.std.proofs.Common.{◌++◌, length, take, flat_map, get_or, nat_lt, slice_get, Some, IsTrue, arith, refl, sym}
+use Rattle.std.proofs.Common.{ap, subst, ◌∙◌, append_assoc}
 use Rattle.std.proofs.lemmas.Int.{ints}
 use Rattle.std.proofs.lemmas.Bool.Decides.{nat_tests}
 use Rattle.std.proofs.lemmas.List.{append-nil, length-append, take_all}
@@ -32,11 +34,14 @@ four h a b c d = simp append_assoc
 
 -- the lines of a table after what was held
 lines_are : (size : ℤ) (output : Output) (table : Table) (held : List ℕ)
-    → ((held ++ size_line output.file size) ++ flat_map entry_line table.entries) ++ (most_line table.most ++ triangles_line table.triangles) ≡ held ++ table_text size (output, table)
+    → ((held ++ size_line output.file size) ++ flat_map entry_line table.entries)
+    ++ (most_line table.most ++ triangles_line table.triangles) ≡ held ++ table_text size (output, table)
 unfolding table_text front_text
-lines_are size output table held = four held (size_line output.file size) (flat_map entry_line table.entries) (most_line table.most) (triangles_line table.triangles)
+lines_are size output table held = four held (size_line output.file size) (flat_map entry_line table.entries)
+    (most_line table.most) (triangles_line table.triangles)
 
-front_is : (size : ℤ) (file : List ℕ) (entries : List Entry) (held : List ℕ) → (held ++ size_line file size) ++ flat_map entry_line entries ≡ held ++ front_text size file entries
+front_is : (size : ℤ) (file : List ℕ) (entries : List Entry) (held : List ℕ)
+    → (held ++ size_line file size) ++ flat_map entry_line entries ≡ held ++ front_text size file entries
 unfolding front_text
 front_is size file entries held = append_assoc held (size_line file size) (flat_map entry_line entries)
 
@@ -45,7 +50,8 @@ unfolding front_text
 first_is size file held = ap (λ (l : List ℕ). held ++ l) (sym (append-nil (size_line file size)))
 
 -- the first line was cut short; no tile lies below some row of windows
-pub line_cut : (p : Planned) (k : ℕ) (size row : ℤ) (c₀ now : Content) (held : List ℕ) (output : Output) (rows : RowRange) → slice_get p.deck.outputs k ≡ Some output
+pub line_cut : (p : Planned) (k : ℕ) (size row : ℤ) (c₀ now : Content) (held : List ℕ) (output : Output)
+    (rows : RowRange) → slice_get p.deck.outputs k ≡ Some output
     → HasRows p k rows → (row *ℤ size) ≤ℤ rows.y0 → IsPartSaid c₀ (held ++ size_line output.file size) now → IsTableCut p k size c₀ held now
 line_cut p k size row c₀ now held output rows here outside low part = (
   front_text size output.file [],
@@ -71,7 +77,8 @@ rows_cut p k size c₀ c₁ now held b₁ output here first cut = (
 )
 
 -- it is the table of the area
-is_table : (p : Planned) (k : ℕ) (size : ℤ) (entries : List Entry) (totals : Totals) → IsWindowSize size → AreEntries (area_of p k) size entries → AreTotals entries totals
+is_table : (p : Planned) (k : ℕ) (size : ℤ) (entries : List Entry) (totals : Totals) → IsWindowSize size
+    → AreEntries (area_of p k) size entries → AreTotals entries totals
     → IsDensityTable (area_of p k) size (table_of entries totals)
 is_table p k size entries totals h are of = record {
   entries = are;
@@ -80,13 +87,16 @@ is_table p k size entries totals h are of = record {
 }
 
 module _ (p : Planned) (k : ℕ) (size : ℤ) (tells : Bool) (c₀ c₁ c₂ : Content) (held b₁ b₂ : List ℕ) (output : Output) (totals : Totals)
-    (here : slice_get p.deck.outputs k ≡ Some output) (h : IsWindowSize size) (first : IsTrue tells → IsSaidButFor c₀ (held ++ size_line output.file size) b₁ c₁)
+    (here : slice_get p.deck.outputs k ≡ Some output) (h : IsWindowSize size)
+    (first : IsTrue tells → IsSaidButFor c₀ (held ++ size_line output.file size) b₁ c₁)
     (put : AreRowsPut p k size tells c₁ b₁ totals b₂ c₂) where
   so_far : IsTrue tells → IsSaidButFor c₀ ((held ++ size_line output.file size) ++ flat_map entry_line put.entries) b₂ c₂
   so_far told = said_then (flat_map entry_line put.entries) (first told) (put.content told)
 
   -- the last lines were cut short
-  pub totals_cut : (now : Content) → IsTrue tells → IsPartSaid c₂ (b₂ ++ (most_line totals.most ++ triangles_line totals.triangles)) now → IsTableCut p k size c₀ held now
+  pub totals_cut : (now : Content) → IsTrue tells
+      → IsPartSaid c₂ (b₂ ++ (most_line totals.most ++ triangles_line totals.triangles)) now
+      → IsTableCut p k size c₀ held now
   totals_cut now told part = (
     table_text size (output, table_of put.entries totals),
     inr (output, table_of put.entries totals, here, is_table p k size put.entries totals h put.are put.totals_of, refl),
@@ -143,13 +153,15 @@ module _ (p : Planned) (size : ℤ) where
   pub no_tables : AreTables p size 0 []
   no_tables = record { each = λ k less. absurd (omega (arith, less)); count = refl }
 
-  next_tables : (n : ℕ) (tables : List Table) (table : Table) → AreTables p size n tables → IsDensityTable (area_of p n) size table → AreTables p size (suc n) (tables ++ table ∷ [])
+  next_tables : (n : ℕ) (tables : List Table) (table : Table) → AreTables p size n tables
+      → IsDensityTable (area_of p n) size table → AreTables p size (suc n) (tables ++ table ∷ [])
   next_tables n tables table are is = record {
     each = λ k less. by k less (nat_lt k n) refl;
     count = (let both = length-append tables (table ∷ []) in omega (arith, both, are.count));
   }
     where
-      by : (k : ℕ) → k < suc n → (b : Bool) → nat_lt k n ≡ b → (found : Table) × (slice_get (tables ++ table ∷ []) k ≡ Some found) × IsDensityTable (area_of p k) size found
+      by : (k : ℕ) → k < suc n → (b : Bool) → nat_lt k n ≡ b → (found : Table)
+          × (slice_get (tables ++ table ∷ []) k ≡ Some found) × IsDensityTable (area_of p k) size found
       by k less true e =
           let found = are.each k (grind (arith, nat_tests)) in
           (found.0, get_push tables table found.0 k found.1, found.2)
@@ -161,12 +173,14 @@ module _ (p : Planned) (size : ℤ) where
           )
 
   more_text : (n : ℕ) (tables : List Table) (table : Table) (output : Output) → slice_get p.deck.outputs n ≡ Some output → length tables ≡ n
-      → tables_text size (take n p.deck.outputs) tables ++ table_text size (output, table) ≡ tables_text size (take (suc n) p.deck.outputs) (tables ++ table ∷ [])
+      → tables_text size (take n p.deck.outputs) tables ++ table_text size (output, table) ≡ tables_text size
+      (take (suc n) p.deck.outputs) (tables ++ table ∷ [])
   more_text n tables table output here count =
       let inside = slice_get_within p.deck.outputs n output here in
       let same = length_first p.deck.outputs n (omega (arith, inside)) in
       let pairs : zip (take (suc n) p.deck.outputs) (tables ++ table ∷ []) ≡ zip (take n p.deck.outputs) tables ++ (output, table) ∷ [] =
-      ap (λ (l : List Output). zip l (tables ++ table ∷ [])) (take_next p.deck.outputs n output here) ∙ zip_push (take n p.deck.outputs) tables output table (omega (arith, same, count)) in
+      ap (λ (l : List Output). zip l (tables ++ table ∷ [])) (take_next p.deck.outputs n output here) ∙ zip_push
+      (take n p.deck.outputs) tables output table (omega (arith, same, count)) in
       ap (λ (l : List ℕ). flat_map (table_text size) (zip (take n p.deck.outputs) tables) ++ l) (sym (append-nil (table_text size (output, table))))
       ∙ sym (flat_map-append (table_text size) (zip (take n p.deck.outputs) tables) ((output, table) ∷ [])) ∙ ap (flat_map (table_text size)) (sym pairs)
 
@@ -182,7 +196,8 @@ module _ (p : Planned) (size : ℤ) where
       };
     }
 
-    pub one_put : (n : ℕ) (now later : Content) (held left : List ℕ) → AreTablesPut p n size tells before held now → IsTablePut p n size tells now held left later
+    pub one_put : (n : ℕ) (now later : Content) (held left : List ℕ) → AreTablesPut p n size tells before held now
+        → IsTablePut p n size tells now held left later
         → AreTablesPut p (suc n) size tells before left later
     one_put n now later held left all one = record {
       tables = all.tables ++ one.table ∷ [];
@@ -191,7 +206,8 @@ module _ (p : Planned) (size : ℤ) where
           (said_then (table_text size (one.output, one.table)) (all.content told) (one.content told));
     }
 
-    pub one_cut : (n : ℕ) (now later : Content) (held : List ℕ) → n < length p.deck.outputs → AreTablesPut p n size tells before held now → IsTrue tells → IsTableCut p n size now held later
+    pub one_cut : (n : ℕ) (now later : Content) (held : List ℕ) → n < length p.deck.outputs
+        → AreTablesPut p n size tells before held now → IsTrue tells → IsTableCut p n size now held later
         → IsCutShort p size before later
     one_cut n now later held less all told (bytes, inl front, part) = (
       tables_text size (take n p.deck.outputs) all.tables ++ bytes,
@@ -214,7 +230,8 @@ module _ (p : Planned) (size : ℤ) where
     )
 
     -- what was held at the end is said, or a prefix of it
-    pub last_cut : (n : ℕ) (now later : Content) (held : List ℕ) → n ≤ length p.deck.outputs → AreTablesPut p n size tells before held now → IsTrue tells → IsPartSaid now held later
+    pub last_cut : (n : ℕ) (now later : Content) (held : List ℕ) → n ≤ length p.deck.outputs
+        → AreTablesPut p n size tells before held now → IsTrue tells → IsPartSaid now held later
         → IsCutShort p size before later
     last_cut n now later held inside all told part = (
       tables_text size (take n p.deck.outputs) all.tables,
@@ -230,7 +247,8 @@ module _ (p : Planned) (size : ℤ) where
       part_held later (all.content told) part,
     )
 
-    pub all_said : (n : ℕ) (now later : Content) (held : List ℕ) → length p.deck.outputs ≡ n → AreTablesPut p n size tells before held now → (IsTrue tells → later ≡ with_said now held)
+    pub all_said : (n : ℕ) (now later : Content) (held : List ℕ) → length p.deck.outputs ≡ n
+        → AreTablesPut p n size tells before held now → (IsTrue tells → later ≡ with_said now held)
         → IsSaid p size tells before later
     all_said n now later held same all last = record {
       tables = all.tables;

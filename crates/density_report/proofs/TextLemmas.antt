@@ -7,7 +7,9 @@ use Rattle.depot.specs.Printing.{IsSaidButFor}
 use Rattle.depot.proofs.ForCallers.{part_held, part_of_longer, said_then}
 
 -- a number that was put is the one that was meant
-pub field : (before after : List ℕ) (number : ℤ) (byte : ℕ) → FitsSigned w64 number → after ≡ before ++ (signed_decimal (to_z w64 (of_z w64 number)) ++ byte ∷ []) → after ≡ before ++ (signed_decimal number ++ byte ∷ [])
+pub field : (before after : List ℕ) (number : ℤ) (byte : ℕ) → FitsSigned w64 number
+    → after ≡ before ++ (signed_decimal (to_z w64 (of_z w64 number)) ++ byte ∷ [])
+    → after ≡ before ++ (signed_decimal number ++ byte ∷ [])
 field before after number byte fits e = e ∙ ap (λ (z : ℤ). before ++ (signed_decimal z ++ byte ∷ [])) (to_z-of_z fits)
 
 -- three numbers make a line
@@ -16,7 +18,8 @@ pub three_fields : (b₀ b₁ b₂ b₃ b₄ n₁ n₂ n₃ : List ℕ) → b₁
 three_fields b₀ b₁ b₂ b₃ b₄ n₁ n₂ n₃ e₁ e₂ e₃ e₄ = rw (e₄, e₃, e₂, e₁) (simp append_assoc)
 
 -- what was held has been said in part, or all of it, and the rest is held
-pub said_on : {old now later : Content} {bytes held rest : List ℕ} → IsSaidButFor old bytes held now → IsSaidButFor now held rest later → IsSaidButFor old bytes rest later
+pub said_on : {old now later : Content} {bytes held rest : List ℕ} → IsSaidButFor old bytes held now
+    → IsSaidButFor now held rest later → IsSaidButFor old bytes rest later
 said_on {old} {now} {later} {bytes} {held} {rest} p q =
     subst (λ (l : List ℕ). IsSaidButFor old l rest later) (append-nil bytes)
     (said_then [] p (subst (λ (l : List ℕ). IsSaidButFor now l rest later) (sym (append-nil held)) q))

@@ -1,26 +1,29 @@
 -- A row of windows of an output's area, and what is put to a buffer for it, row after row.
-use Rattle.std.specs.Prelude.{ℕ, ℤ, pos, neg_ℤ, ◌≡◌, ◌⊎◌, ◌+ℤ◌, ◌*ℤ◌, ◌≤ℤ◌, ◌<ℤ◌, Bool, IsTrue, List, ◌++◌, map, flat_map, sum_by, slice_get, take, Some}
+use Rattle.std.specs.Prelude.{ℕ, ℤ, pos, neg_ℤ, ◌≡◌, ◌⊎◌, ◌+◌, ◌^◌, ◌<◌, ◌≤◌, ◌+ℤ◌, ◌-ℤ◌, ◌*ℤ◌, ◌≤ℤ◌, ◌<ℤ◌, Bool}
+use Rattle.std.specs.Prelude.{IsTrue, List, ◌++◌, length, map, flat_map, sum_by, slice_get, slice_index_or, take, Some}
+use Rattle.std.specs.Int.{int_gap}
+use Rattle.std.specs.List.{All}
 use Rattle.half_grid.specs.Reach.{IsTileWithinReach}
+use Rattle.half_grid.specs.Trapezoids.{Trapezoid, IsShot}
 use Rattle.half_grid.specs.Windows.{RowRange, row_range}
 use Rattle.half_grid.specs.declared.plane.Tile.{Tile}
 use Rattle.depot.specs.Content.{Content, IsPartSaid}
 use Rattle.density_map.specs.declared.counts.Counted.{Counted}
 use Rattle.density_map.specs.Counts.{count_at}
-use Rattle.density_map.specs.Windows.{IsWindowCount}
-use Rattle.bool_ops.specs.Operations.{IsInRows}
+use Rattle.density_map.specs.Rows.{RowMap, IsMapOf}
+use Rattle.density_map.specs.Windows.{IsWindowSize, IsWindowCount}
+use Rattle.bool_ops.specs.Operations.{IsInRows, IsJoinedOf}
 use Rattle.deck_text.specs.declared.deck.Output.{Output}
+use Rattle.deck_plan.specs.Areas.{IsInBand}
 use Rattle.deck_plan.specs.Plans.{Planned}
 use Rattle.depot.specs.Printing.{IsSaidButFor}
 use Rattle.density_report.specs.declared.entries.Entry.{Entry}
 use Rattle.density_report.specs.declared.entries.Totals.{Totals}
-use Rattle.density_report.specs.declared.strips.Strip.{Strip}
+use Rattle.density_report.specs.declared.strips.Batch.{Batch}
+use Rattle.density_report.specs.declared.strips.Portion.{Portion}
 use Rattle.density_report.specs.Tables.{Table, AreEntries, IsMost, IsDensityTable}
 use Rattle.density_report.specs.Texts.{entry_line, table_text, tables_text}
 use Rattle.density_report.specs.Saying.{area_of, IsBelow, IsFront, AreTables}
-
--- the rows of a row of windows
-abbrev pub rows_of : ℤ → ℤ → RowRange
-rows_of size row = row_range (row *ℤ size) ((row +ℤ pos 1) *ℤ size)
 
 -- a count of a row of windows, as an entry, and all of them
 abbrev pub entry_of : ℤ → Counted → Entry
@@ -96,11 +99,101 @@ pub record AreTablesPut (p : Planned) (n : ℕ) (size : ℤ) (tells : Bool) (bef
   pub are : AreTables p size n tables
   pub content : IsTrue tells → IsSaidButFor before (tables_text size (take n p.deck.outputs) tables) held now
 
--- ---- near rows
+-- ---- rows of windows, as numbers
 
--- the first row of a row of windows lies within 2^32 of 0, and its number does too
-pub record IsNearStrip (strip : Strip) : Type 0 where
-  pub low : neg_ℤ (pos 4294967296) ≤ℤ (strip.row *ℤ strip.size)
-  pub high : (strip.row *ℤ strip.size) ≤ℤ pos 4294967296
-  pub least : neg_ℤ (pos 4294967296) ≤ℤ strip.row
-  pub most : strip.row ≤ℤ pos 4294967296
+-- their rows
+abbrev pub rows_of : Batch → RowRange
+rows_of batch = row_range (batch.row *ℤ batch.mesh.size) (batch.end *ℤ batch.mesh.size)
+
+-- rows within 2^33 of 0
+pub record AreNearRows (rows : RowRange) : Type 0 where
+  pub low : neg_ℤ (pos 8589934592) ≤ℤ rows.y0
+  pub high : rows.y1 ≤ℤ pos 8589934592
+  pub window : rows.y0 ≤ℤ rows.y1
+
+-- the rows of windows from this one up to below the end are those that have some of the rows
+pub record HoldRows (size : ℤ) (rows : RowRange) (row end : ℤ) : Type 0 where
+  pub from : (row *ℤ size) ≤ℤ rows.y0
+  pub not_before : rows.y0 <ℤ ((row +ℤ pos 1) *ℤ size)
+  pub up_to : rows.y1 ≤ℤ (end *ℤ size)
+  pub not_after : ((end -ℤ pos 1) *ℤ size) <ℤ rows.y1
+  pub low : neg_ℤ (pos (2 ^ 46)) ≤ℤ row
+  pub end_low : neg_ℤ (pos (2 ^ 46)) ≤ℤ end
+  pub high : end ≤ℤ pos (2 ^ 46)
+
+-- the windows have a size that windows may have, and their rows lie within 2^32 of 0, as do the numbers of their rows
+pub record IsBatch (batch : Batch) : Type 0 where
+  pub size : IsWindowSize batch.mesh.size
+  pub low : neg_ℤ (pos 4294967296) ≤ℤ (batch.row *ℤ batch.mesh.size)
+  pub order : (batch.row *ℤ batch.mesh.size) ≤ℤ (batch.end *ℤ batch.mesh.size)
+  pub high : (batch.end *ℤ batch.mesh.size) ≤ℤ pos 4294967296
+  pub least : neg_ℤ (pos 4294967296) ≤ℤ batch.row
+  pub ascending : batch.row ≤ℤ batch.end
+  pub most : batch.end ≤ℤ pos 4294967296
+
+-- there are some, with as few rows as an area may be asked for
+pub record AreFewRows (batch : Batch) : Type 0 where
+  pub some : (batch.row *ℤ batch.mesh.size) <ℤ (batch.end *ℤ batch.mesh.size)
+  pub few : (batch.end *ℤ batch.mesh.size) ≤ℤ ((batch.row *ℤ batch.mesh.size) +ℤ pos 16777216)
+
+-- a number of rows that is that of a row of windows at least
+pub record IsPortion (size : ℤ) (portion : Portion) : Type 0 where
+  pub low : size ≤ℤ portion.rows
+  pub high : portion.rows ≤ℤ pos 16777216
+  pub some : pos 0 <ℤ size
+
+-- the first of some rows of windows
+pub record IsPart (left part : Batch) : Type 0 where
+  pub mesh : part.mesh ≡ left.mesh
+  pub row : part.row ≡ left.row
+  pub some : part.row <ℤ part.end
+  pub up_to : part.end ≤ℤ left.end
+  pub batch : IsBatch part
+  pub few : AreFewRows part
+
+-- ---- the area and the counts of some rows of windows
+
+-- the joined list of the output's area in their rows
+pub record AreTrapsOf (p : Planned) (k : ℕ) (batch : Batch) (traps : List Trapezoid) : Type 0 where
+  pub joined : IsJoinedOf (rows_of batch) (IsInBand p.cells p.top p.deck k (rows_of batch)) traps
+  pub shots : All IsShot traps
+
+-- the counts of trapezoids in a row of windows
+pub record IsMapAt (size row : ℤ) (traps : List Trapezoid) (m : RowMap) : Type 0 where
+  pub size_is : m.size ≡ size
+  pub row_is : m.row ≡ row
+  pub counted : IsMapOf m traps
+
+-- the maps are those of the rows of windows below the end, the last of these first
+abbrev pub AreMapsOf : ℤ → ℤ → List Trapezoid → List RowMap → Type 0
+AreMapsOf size end traps maps = (at : ℕ) (d : RowMap) → at < length maps → IsMapAt size (end -ℤ pos (at + 1)) traps (slice_index_or maps at d)
+
+-- the rows of windows before these places lie above the trapezoid, and those from their end on lie below it
+pub record ArePlacesOf (batch : Batch) (z : Trapezoid) (from end : ℕ) : Type 0 where
+  pub inside : end ≤ int_gap batch.row batch.end
+  pub above : z.y1 ≤ℤ ((batch.end -ℤ pos from) *ℤ batch.mesh.size)
+  pub below : ((batch.end -ℤ pos end) *ℤ batch.mesh.size) ≤ℤ z.y0
+
+-- the counts of an area in the rows of windows from this one on, that of the first one last
+pub record AreCountsFrom (area : Tile → Type 0) (size row : ℤ) (maps : List RowMap) : Type 0 where
+  pub each : (at : ℕ) (d : RowMap) → at < length maps
+      → AreRowCounts area size ((row +ℤ pos (length maps)) -ℤ pos (at + 1)) (slice_index_or maps at d).counts
+
+-- no tile of the area lies in the rows of windows from the first up to below the second
+abbrev pub HasNone : (Tile → Type 0) → ℤ → ℤ → ℤ → Type 0
+HasNone area size row up = (t : Tile) → area t → (row *ℤ size) ≤ℤ t.j → t.j <ℤ (up *ℤ size) → ⊥
+
+-- of the rows of windows that are left the first ones were passed by, in which the area has nothing
+pub record IsPassed (area : Tile → Type 0) (old new : Batch) : Type 0 where
+  pub mesh : new.mesh ≡ old.mesh
+  pub end : new.end ≡ old.end
+  pub forward : old.row ≤ℤ new.row
+  pub batch : IsBatch new
+  pub none : HasNone area old.mesh.size old.row new.row
+
+-- the same, and the counts of some of those that are left were put; either of the two was done to some
+pub record IsFilled (area : Tile → Type 0) (old new : Batch) (maps : List RowMap) : Type 0 where
+  pub passed : IsPassed area old new
+  pub counts : AreCountsFrom area old.mesh.size new.row maps
+  pub inside : (new.row +ℤ pos (length maps)) ≤ℤ new.end
+  pub some : old.row ≡ new.row → 0 < length maps

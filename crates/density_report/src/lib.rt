@@ -4,9 +4,11 @@
 //! All numbers are half units.
 #![tactic(auto)]
 
+mod areas;
 mod entries;
 mod laws;
 mod lines;
+mod maps;
 mod saying;
 mod strips;
 mod tables;

@@ -1,16 +1,17 @@
-//! Rows of windows, and the counts of an output's area in one.
-ghost use Rattle.std.specs.Prelude.{◌≡◌, ◌<◌, pos, ◌+ℤ◌, ◌*ℤ◌, ◌≤ℤ◌, IfOk, OnOk, length, []};
+//! Rows of windows, as numbers.
+ghost use Rattle.std.specs.Prelude.{◌≡◌, pos, neg_ℤ, ◌^◌, ◌+ℤ◌, ◌-ℤ◌, ◌*ℤ◌, ◌≤ℤ◌, ◌<ℤ◌};
+ghost use Rattle.std.specs.Int.{int_gap};
+ghost use Rattle.density_map.specs.Frames.{IsNear};
 ghost use Rattle.density_map.specs.Windows.{IsWindowSize};
-ghost use Rattle.density_map.specs.Rows.{AreApart, IsMapOf};
-ghost use Rattle.deck_plan.specs.Bands.{AreRowsNear};
-ghost use Rattle.density_report.specs.Saying.{area_of};
-ghost use Rattle.density_report.specs.Rows.{rows_of, AreRowCounts, IsNearStrip};
+ghost use Rattle.density_report.specs.Rows.{rows_of, AreNearRows, HoldRows, IsBatch, IsPart, IsPortion};
 
-use deck_plan::Plan;
-use density_map::MapRow;
-use geo_stream::NoMemory;
-use half_grid::{Trap, Window};
-use std::alloc::Global;
+use half_grid::Window;
+
+/// How many rows of the half grid an area is asked for at once, at most.
+const MOST_ROWS: i64 = 16_777_216;
+
+/// How many rows of windows with counts are held at once, at most.
+const MOST_MAPS: i64 = 64;
 
 /// The windows of one size.
 #[derive(Clone, Copy)]
@@ -25,73 +26,158 @@ pub(crate) struct Strip {
     pub(crate) row: i64,
 }
 
-/// The row of windows that has the first of these rows, or would have it where there is none.
-pub(crate) fn first_strip(mesh: &Mesh, rows: Window) -> Strip
+/// The rows of windows from `row` up to below `end`.
+#[derive(Clone, Copy)]
+pub(crate) struct Batch {
+    pub(crate) mesh: Mesh,
+    pub(crate) row: i64,
+    pub(crate) end: i64,
+}
+
+/// A number of rows of the half grid.
+#[derive(Clone, Copy)]
+pub(crate) struct Portion {
+    pub(crate) rows: i64,
+}
+
+/// The row of windows that has the row `y` of the half grid.
+pub(crate) fn row_of(mesh: &Mesh, y: i64) -> i64
     requires size { IsWindowSize mesh.now.size }
-    requires near { AreRowsNear rows }
-    ensures size { result.size ≡ mesh.now.size }
-    ensures from { (result.row *ℤ result.size) ≤ℤ rows.y0 }
-    ensures near { IsNearStrip result }
+    requires y { IsNear y }
+    ensures from { (result *ℤ mesh.now.size) ≤ℤ y }
+    ensures below { y <ℤ ((result +ℤ pos 1) *ℤ mesh.now.size) }
+    ensures near { IsNear result }
 {
-    Strip {
-        size: mesh.size,
-        row: rows.y0().div_euclid(mesh.size),
+    y.div_euclid(mesh.size)
+}
+
+/// The rows of windows that have these rows of the half grid, and no other.
+pub(crate) fn batch_of(mesh: &Mesh, rows: Window) -> Batch
+    requires size { IsWindowSize mesh.now.size }
+    requires near { AreNearRows rows }
+    ensures mesh { result.mesh ≡ mesh.now }
+    ensures rows { HoldRows mesh.now.size rows result.row result.end }
+{
+    Batch {
+        mesh: *mesh,
+        row: row_of(mesh, rows.y0()),
+        end: row_of(mesh, rows.y1() - 1) + 1,
     }
 }
 
-/// The row of windows above one.
-pub(crate) fn next_strip(strip: &Strip) -> Strip
-    requires { IsNearStrip strip.now }
-    ensures size { result.size ≡ strip.now.size }
-    ensures row { result.row ≡ strip.now.row +ℤ pos 1 }
+/// The rows of these windows.
+pub(crate) fn rows_of(batch: &Batch) -> Window
+    requires { IsBatch batch.now }
+    ensures { result ≡ rows_of batch.now }
 {
-    Strip {
-        size: strip.size,
-        row: strip.row + 1,
-    }
-}
-
-/// Its rows.
-pub(crate) fn rows_of(strip: &Strip) -> Window
-    requires size { IsWindowSize strip.now.size }
-    requires near { IsNearStrip strip.now }
-    ensures { result ≡ rows_of strip.now.size strip.now.row }
-{
-    let bottom = strip.row * strip.size;
-    match Window::new(bottom, bottom + strip.size) {
+    let bottom = batch.row * batch.mesh.size;
+    match Window::new(bottom, batch.end * batch.mesh.size) {
         Some(rows) => rows,
         None => unreachable!(),
     }
 }
 
-// Adds the trapezoids of a list that shares no tile.
-fn add_all(map: &mut MapRow, traps: &[Trap]) -> Result<(), NoMemory>
-    requires empty { map.old.counts ≡ [] }
-    requires apart { AreApart traps.now }
-    ensures size { map.new.size ≡ map.old.size }
-    ensures row { map.new.row ≡ map.old.row }
-    ensures ok { OnOk result (IsMapOf map.new traps.now) }
+/// How many rows of windows there are.
+pub(crate) fn number_of(batch: &Batch) -> usize
+    requires low { neg_ℤ (pos (2 ^ 46)) ≤ℤ batch.now.row }
+    requires high { batch.now.end ≤ℤ pos (2 ^ 46) }
+    ensures { result ≡ int_gap batch.now.row batch.now.end }
 {
-    for trap in traps {
-        map.add(trap)?;
+    if batch.end <= batch.row {
+        return 0;
     }
-    Ok(())
+    (batch.end - batch.row) as usize
 }
 
-/// The counts of an output's area in a row of windows. Want of memory is the only refusal.
-pub(crate) fn map_of(
-    alloc: Global,
-    plan: &Plan,
-    output: usize,
-    strip: &Strip,
-) -> Result<MapRow, NoMemory>
-    requires output { output < length plan.now.deck.outputs }
-    requires size { IsWindowSize strip.now.size }
-    requires near { IsNearStrip strip.now }
-    ensures { IfOk result (λ map. AreRowCounts (area_of plan.now output) strip.now.size strip.now.row map.counts) }
+/// The rows of windows after the first.
+pub(crate) fn after_first(batch: &Batch) -> Batch
+    requires batch { IsBatch batch.now }
+    requires some { batch.now.row <ℤ batch.now.end }
+    ensures mesh { result.mesh ≡ batch.now.mesh }
+    ensures row { result.row ≡ batch.now.row +ℤ pos 1 }
+    ensures end { result.end ≡ batch.now.end }
 {
-    let traps = plan.area(alloc, output, rows_of(strip))?;
-    let mut map = MapRow::new(alloc, strip.size, strip.row);
-    add_all(&mut map, traps.as_slice())?;
-    Ok(map)
+    Batch {
+        mesh: batch.mesh,
+        row: batch.row + 1,
+        end: batch.end,
+    }
+}
+
+/// The rows of windows from this one on.
+pub(crate) fn from_strip(batch: &Batch, strip: &Strip) -> Batch
+    ensures mesh { result.mesh ≡ batch.now.mesh }
+    ensures row { result.row ≡ strip.now.row }
+    ensures end { result.end ≡ batch.now.end }
+{
+    Batch {
+        mesh: batch.mesh,
+        row: strip.row,
+        end: batch.end,
+    }
+}
+
+/// The rows of windows after those of a part of them.
+pub(crate) fn above(batch: &Batch, part: &Batch) -> Batch
+    ensures mesh { result.mesh ≡ batch.now.mesh }
+    ensures row { result.row ≡ part.now.end }
+    ensures end { result.end ≡ batch.now.end }
+{
+    Batch {
+        mesh: batch.mesh,
+        row: part.end,
+        end: batch.end,
+    }
+}
+
+/// The rows of windows but for the last.
+pub(crate) fn without_last(batch: &Batch) -> Batch
+    requires batch { IsBatch batch.now }
+    requires some { batch.now.row <ℤ batch.now.end }
+    ensures mesh { result.mesh ≡ batch.now.mesh }
+    ensures row { result.row ≡ batch.now.row }
+    ensures end { result.end ≡ batch.now.end -ℤ pos 1 }
+{
+    Batch {
+        mesh: batch.mesh,
+        row: batch.row,
+        end: batch.end - 1,
+    }
+}
+
+/// As many rows as the windows that are held at once have.
+pub(crate) fn first_portion(mesh: &Mesh) -> Portion
+    requires { IsWindowSize mesh.now.size }
+    ensures { IsPortion mesh.now.size result }
+{
+    Portion {
+        rows: (MOST_MAPS * mesh.size).min(MOST_ROWS),
+    }
+}
+
+/// Twice as many, but no more than an area is asked for at once.
+pub(crate) fn doubled(portion: &Portion) -> Portion
+    requires low { pos 0 ≤ℤ portion.now.rows }
+    requires high { portion.now.rows ≤ℤ pos 16777216 }
+    ensures no_fewer { portion.now.rows ≤ℤ result.rows }
+    ensures high { result.rows ≤ℤ pos 16777216 }
+{
+    Portion {
+        rows: (2 * portion.rows).min(MOST_ROWS),
+    }
+}
+
+/// The first of some rows of windows: no more than have so many rows together, and at least one.
+pub(crate) fn lower(left: &Batch, portion: &Portion) -> Batch
+    requires left { IsBatch left.now }
+    requires some { left.now.row <ℤ left.now.end }
+    requires portion { IsPortion left.now.mesh.size portion.now }
+    ensures { IsPart left.now result }
+{
+    let top = left.row * left.mesh.size + portion.rows;
+    Batch {
+        mesh: left.mesh,
+        row: left.row,
+        end: row_of(&left.mesh, top).min(left.end),
+    }
 }

@@ -6,9 +6,11 @@ ghost use Rattle.deck_plan.specs.Bands.{AreRowsNear};
 ghost use Rattle.density_report.specs.Saying.{IsSaid, IsCutShort};
 ghost use Rattle.density_report.specs.Rows.{HasRows, AreRowsPut, AreRowsCut, IsTablePut, IsTableCut};
 
+use crate::areas::fill;
 use crate::entries::{Totals, count_row};
+use crate::maps::take_first;
 use crate::saying::{say_row, say_size, say_totals};
-use crate::strips::{Mesh, first_strip, map_of, next_strip, rows_of};
+use crate::strips::{Mesh, Strip, after_first, batch_of};
 use deck_plan::Plan;
 use depot::{Buffer, Depot, DepotBad, flush};
 use half_grid::Window;
@@ -39,16 +41,24 @@ fn say_rows<D: Depot>(
         most: None,
         triangles: 0,
     };
-    let mut strip = first_strip(mesh, rows);
-    while rows_of(&strip).y0() < rows.y1() {
-        let map = match map_of(alloc, plan, output, &strip) {
-            Ok(map) => map,
-            Err(_wanting) => return Err(DepotBad::NoMemory),
+    let mut left = batch_of(mesh, rows);
+    let mut maps = Vec::new(alloc);
+    while left.row < left.end {
+        let Some(map) = take_first(&mut maps) else {
+            left = match fill(alloc, plan, output, &left, &mut maps) {
+                Ok(left) => left,
+                Err(_wanting) => return Err(DepotBad::NoMemory),
+            };
+            continue;
+        };
+        let strip = Strip {
+            size: mesh.size,
+            row: left.row,
         };
         let counts = map.counts();
         count_row(&mut totals, &strip, counts);
         say_row(depot, buffer, &strip, counts)?;
-        strip = next_strip(&strip);
+        left = after_first(&left);
     }
     Ok(totals)
 }
@@ -103,9 +113,12 @@ fn say_tables<D: Depot>(
 /// of what begins their text was printed; memory may have run out for an area or a row of windows, which no depot
 /// counts.
 ///
-/// For each row of windows from the first that has some of the output's rows to the last, the area is computed once, in
-/// the rows of these windows. It takes the time of these areas, and a time linear in their trapezoids and in the
-/// windows that each of them meets. The memory is that of one row of windows and its area.
+/// From the first row of windows that has some of the output's rows to the last, the area is computed for 64 rows of
+/// windows at once, or for as many as have 16,777,216 rows together. Where the output has nothing in them, it is computed
+/// for twice as many, and so on, up to the first row of windows in which it has something. It takes the time of these
+/// areas, for each trapezoid a search among the counts of each row of windows that it meets, and the same time for each
+/// window that it meets. The memory is that of the area and the counts of 64 rows of windows, or of the area up to the end
+/// of a gap and of as much after it as the gap is high.
 pub fn say_densities<D: Depot>(
     alloc: Global,
     depot: &mut D,

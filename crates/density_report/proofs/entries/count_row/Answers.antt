@@ -22,7 +22,9 @@ loop-counted-preserved c =
     let more = sum_by_more (λ (y : Counted). y.tiles) xs l.counted-index none c.loop-counted-test.true in
     let sum = l.invariant.sum in
     record {
-      totals_of = λ entries before. totals_next entries c.args.strip.now.row xs l.counted-index x none c.entry_of.result l.totals c.greater-totals.result (l.totals.triangles + x.tiles)
+      totals_of = λ entries before.
+          totals_next entries c.args.strip.now.row xs l.counted-index x none c.entry_of.result l.totals
+          c.greater-totals.result (l.totals.triangles + x.tiles)
           c.loop-counted-test.true refl c.entry_of.ensures (l.invariant.totals_of entries before) (λ most. c.greater-totals.ensures _ most) refl;
       sum = omega (arith, sum, more);
     }

@@ -17,7 +17,9 @@ returns-in_err-say_entry-clause-refused g c =
     let x = get_or xs l.counted-index none in
     let line = counted_line c.args.strip.now.row in
     let more = take_more xs l.counted-index none c.loop-counted-test.true in
-    refused c.from_residual.result _ (λ told. part_of_more_texts (at c.say_entry.new.depot) line c.args.buffer.now xs l.counted-index x more (l.invariant.said told)
+    refused c.from_residual.result _
+    (λ told. part_of_more_texts (at c.say_entry.new.depot) line c.args.buffer.now xs l.counted-index x more
+    (l.invariant.said told)
     (part_of_longer (at l.depot) (at c.say_entry.new.depot) l.buffer (line x) (c.in_err-say_entry.ensures.refused told)))
 
 pub loop-counted-preserved : goal.loop-counted-preserved
@@ -31,9 +33,12 @@ loop-counted-preserved g c =
     let more = take_more xs l.counted-index none c.loop-counted-test.true in
     let line = ap entry_line c.entry_of.ensures in
     record {
-      said = λ told. subst (λ (t : List ℕ). IsSaidButFor (at c.args.depot.now) t c.say_entry.new.buffer (at c.say_entry.new.depot)) (texts_more (counted_line row) c.args.buffer.now xs l.counted-index x more)
+      said = λ told. subst
+          (λ (t : List ℕ). IsSaidButFor (at c.args.depot.now) t c.say_entry.new.buffer (at c.say_entry.new.depot))
+          (texts_more (counted_line row) c.args.buffer.now xs l.counted-index x more)
           (said_then (counted_line row x) (l.invariant.said told)
-          (subst (λ (t : List ℕ). IsSaidButFor (at l.depot) (l.buffer ++ t) c.say_entry.new.buffer (at c.say_entry.new.depot)) line (c.in_ok-say_entry.ensures.ok told)));
+          (subst (λ (t : List ℕ). IsSaidButFor (at l.depot) (l.buffer ++ t) c.say_entry.new.buffer
+          (at c.say_entry.new.depot)) line (c.in_ok-say_entry.ensures.ok told)));
       uncounted = c.in_ok-say_entry.ensures.counts.uncounted ∙ l.invariant.uncounted;
       counted = search rules;
     }

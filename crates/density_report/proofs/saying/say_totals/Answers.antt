@@ -10,6 +10,9 @@ pub returns-in_err-make_room-2-clause-refused : goal.returns-in_err-make_room-2-
 returns-in_err-make_room-2-clause-refused g c =
     let at = g.D.Depot.content in
     let totals = c.args.totals.now in
-    refused c.from_residual-in_err-make_room-2.result _ (λ told. part_of_two (at c.args.depot.now) (at c.make_room-2.new.depot) c.args.buffer.now (most_line totals.most) (triangles_line totals.triangles)
+    refused c.from_residual-in_err-make_room-2.result _
+    (λ told. part_of_two (at c.args.depot.now) (at c.make_room-2.new.depot) c.args.buffer.now
+    (most_line totals.most) (triangles_line totals.triangles)
     (part_held (at c.make_room-2.new.depot) (hold_more (most_line totals.most) (c.in_ok-make_room.ensures.ok told))
-    (subst (λ (l : List ℕ). IsPartSaid (at c.make_room.new.depot) l (at c.make_room-2.new.depot)) c.put_most.ensures (c.in_err-make_room-2.ensures.refused told))))
+    (subst (λ (l : List ℕ). IsPartSaid (at c.make_room.new.depot) l (at c.make_room-2.new.depot)) c.put_most.ensures
+    (c.in_err-make_room-2.ensures.refused told))))

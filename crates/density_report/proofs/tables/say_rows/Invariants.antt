@@ -1,16 +1,21 @@
-use Rattle.std.proofs.Common.{◌≡◌, ◌*ℤ◌}
-use Rattle.std.specs.Int.{int_gap}
-use Rattle.density_report.specs.Rows.{IsNearStrip}
+use Rattle.std.proofs.Common.{◌≡◌, pos, ◌+ℤ◌, ◌*ℤ◌, ◌≤ℤ◌, length}
+use Rattle.density_report.specs.Saying.{area_of}
+use Rattle.density_report.specs.Rows.{AreCountsFrom, IsBatch}
+use Rattle.density_report.proofs.StripLemmas.{steps_left}
 use Rattle.density_report.proofs.RowSteps.{AreRowsSoFar}
 use Rattle.density_report.proofs.tables.say_rows.Given as goal
 
-abbrev pub invariant-loop-alloc : goal.invariant-loop-alloc
-invariant-loop-alloc g l = record {
-  rows : AreRowsSoFar l.fn.plan l.fn.output l.fn.mesh.size l.strip.row g.D.Depot.tells (g.D.Depot.content l.fn.depot) l.fn.buffer l.totals l.buffer (g.D.Depot.content l.depot);
-  near : IsNearStrip l.strip;
-  size : l.strip.size ≡ l.fn.mesh.size;
+abbrev pub invariant-loop-left : goal.invariant-loop-left
+invariant-loop-left g l = record {
+  rows : AreRowsSoFar l.fn.plan l.fn.output l.fn.mesh.size l.left.row g.D.Depot.tells
+      (g.D.Depot.content l.fn.depot) l.fn.buffer l.totals l.buffer (g.D.Depot.content l.depot);
+  counts : AreCountsFrom (area_of l.fn.plan l.fn.output) l.fn.mesh.size l.left.row l.maps.items;
+  batch : IsBatch l.left;
+  mesh : l.left.mesh ≡ l.fn.mesh;
+  inside : (l.left.row +ℤ pos (length l.maps.items)) ≤ℤ l.left.end;
+  last : l.fn.rows.y1 ≤ℤ (l.left.end *ℤ l.fn.mesh.size);
   uncounted : g.D.Depot.counts l.depot ≡ g.D.Depot.counts l.fn.depot;
 }
 
-abbrev pub decreases-loop-alloc : goal.decreases-loop-alloc
-decreases-loop-alloc g l = int_gap (l.strip.row *ℤ l.strip.size) l.rows.y1
+abbrev pub decreases-loop-left : goal.decreases-loop-left
+decreases-loop-left g l = steps_left l.left (length l.maps.items)
