@@ -8,6 +8,7 @@ ghost use Rattle.oas_record.specs.Plain.{rectangle_of};
 use crate::extension::Extension;
 use crate::written::Written;
 use oas_record::{Called, Deltas, PlainRectangle, Rep};
+use oas_shapes::Repetition;
 
 #[inline(always)]
 pub(crate) fn number_or(written: Option<u64>, before: Option<u64>) -> Option<u64>
@@ -97,13 +98,23 @@ pub(crate) fn keep_points(kept: &mut Option<Deltas>, written: Option<Deltas>)
     }
 }
 
+// A written repetition as one that records may use again.
+fn used_again(written: Option<Rep>) -> Option<Repetition>
+    ensures { result ≡ written }
+{
+    match written {
+        Some(repetition) => Some(Repetition::new(repetition)),
+        None => None,
+    }
+}
+
 /// Keeps a repetition where one is written; kind 0 is the last one again.
-pub(crate) fn keep_repetition(kept: &mut Option<Rep>, written: Option<Rep>)
+pub(crate) fn keep_repetition(kept: &mut Option<Repetition>, written: Option<Rep>)
     ensures { kept.new ≡ or_else (repetition_by written) kept.old }
 {
     match &written {
         Some(Rep::Same) => {}
-        Some(_) => *kept = written,
+        Some(_) => *kept = used_again(written),
         None => {}
     }
 }

@@ -12,7 +12,8 @@ use crate::choices::{
 };
 use crate::places::{Place, Step, moved};
 use crate::written::Written;
-use oas_record::{Called, Deltas, Lists, OasRecord, PlainRectangle, Rep};
+use oas_record::{Called, Deltas, Lists, OasRecord, PlainRectangle};
+use oas_shapes::Repetition;
 
 /// The values that the fields of the last record have, written or not: of each modal variable the value that was written
 /// last in the same cell, None where none was, and the positions. Lengths are in grid steps.
@@ -43,7 +44,7 @@ pub struct Fields {
     /// The placed cell.
     pub cell: Option<Called>,
     /// The repetition.
-    pub repetition: Option<Rep>,
+    pub repetition: Option<Repetition>,
     /// The position of placements.
     pub placement: Place,
     /// The position of geometry.

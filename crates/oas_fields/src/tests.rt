@@ -35,6 +35,13 @@ fn take(rt: &impl Abort, fields: &mut Fields, current: OasRecord) {
     fields.take(current);
 }
 
+fn has_a_row(fields: &Fields) -> bool {
+    match &fields.repetition {
+        Some(repetition) => matches!(repetition.written(), Rep::Row { dim: 2, .. }),
+        None => false,
+    }
+}
+
 // A square on layer 3.
 fn square(width: Option<u64>, x: Option<i64>, repetition: Option<Rep>) -> OasRecord {
     OasRecord::Rectangle {
@@ -61,7 +68,7 @@ fn values_last_to_the_end_of_a_cell(rt: HostRuntime) {
     assert_eq!(rt; fields.datatype, None);
     assert_eq!(rt; fields.height, Some(7));
     assert_eq!(rt; fields.geometry.x, 11);
-    assert!(rt; matches!(&fields.repetition, Some(Rep::Row { dim: 2, .. })));
+    assert!(rt; has_a_row(&fields));
     take(&rt, &mut fields, OasRecord::NumberedCell { number: 1 });
     assert_eq!(rt; fields.layer, None);
     assert_eq!(rt; fields.geometry.x, 0);
@@ -90,5 +97,5 @@ fn takes_a_plain_rectangle(rt: HostRuntime) {
     assert_eq!(rt; fields.width, Some(8));
     assert_eq!(rt; fields.height, Some(8));
     assert_eq!(rt; fields.geometry, Place { x: 11, y: 0 });
-    assert!(rt; matches!(&fields.repetition, Some(Rep::Row { dim: 2, .. })));
+    assert!(rt; has_a_row(&fields));
 }

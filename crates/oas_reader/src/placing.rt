@@ -21,8 +21,8 @@ use half_grid::Point;
 use layout_model::{Offsets, Orient, factor_in, turns_in};
 use oas_fields::{Fields, Place};
 use oas_lex::{Real, real_whole};
-use oas_record::{Called, Rep};
-use oas_shapes::{Undrawn, offsets_of};
+use oas_record::Called;
+use oas_shapes::{Repetition, Undrawn, offsets_of};
 use std::alloc::Global;
 
 /// The rules of magnifications, of angles and of dimensions.
@@ -158,7 +158,7 @@ fn doubled(point: Point) -> Point
 
 /// The repetition of a record, if it has one.
 #[inline(always)]
-pub(crate) fn repetition_in(fields: &Fields, repeats: bool) -> Option<&Rep>
+pub(crate) fn repetition_in(fields: &Fields, repeats: bool) -> Option<&Repetition>
     ensures { option_copied result ≡ repetition_kept repeats fields.now.repetition }
 {
     if repeats {
@@ -168,7 +168,7 @@ pub(crate) fn repetition_in(fields: &Fields, repeats: bool) -> Option<&Rep>
 }
 
 // The offsets of a placement.
-fn offsets_in(alloc: Global, repetition: Option<&Rep>) -> Result<Offsets, Undrawn>
+fn offsets_in(alloc: Global, repetition: Option<&Repetition>) -> Result<Offsets, Undrawn>
     ensures offsets { IfOk result (λ offsets. offsets ≡ the_offsets_in (option_copied repetition.entry)) }
     ensures grid { IfOk result AreOffsets }
     ensures kept { IfOk result (λ _. (rule : ℕ) → KeepsOffsetsIn (option_copied repetition.entry) rule) }

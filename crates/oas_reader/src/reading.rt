@@ -151,8 +151,25 @@ fn tables_after(tables: bool, body: Body) -> bool
     }
 }
 
-// Takes the record into the fields.
-fn take_fields(bytes: &[u8], fields: &mut Fields, current: OasRecord)
+// Whether the record is repeated as the last one before it that was.
+fn repeats_again(current: &OasRecord) -> bool {
+    matches!(written_repetition(current), Some(Rep::Same))
+}
+
+// Makes the places of the last repetition where it is used again, so that all records after share them.
+fn make_places(alloc: Global, fields: &mut Fields, again: bool)
+    ensures { fields.new ≡ fields.old }
+{
+    if !again {
+        return;
+    }
+    if let Some(repetition) = &mut fields.repetition {
+        repetition.make_places(alloc);
+    }
+}
+
+// Takes the record into the fields. The places of a repetition that is used again are made, once.
+fn take_fields(alloc: Global, bytes: &[u8], fields: &mut Fields, current: OasRecord)
     requires near { ArePlacesWithin (2 ^ 100) fields.old }
     requires some { HaveRecords fields.old }
     requires cell { AreCalledWithin bytes.now fields.old.cell }
@@ -160,7 +177,9 @@ fn take_fields(bytes: &[u8], fields: &mut Fields, current: OasRecord)
     ensures fields { (past : AList ARecord) → AreFields past fields.old → AreFields (current ∷ past) fields.new }
     ensures cell { AreCalledWithin bytes.now fields.new.cell }
 {
+    let again = repeats_again(&current);
     fields.take(current);
+    make_places(alloc, fields, again);
 }
 
 // Takes a rectangle into the fields.
@@ -286,7 +305,7 @@ impl<'a> Reader<'a> {
             return Err(OasBad::Order(at));
         };
         let outline = outline_of(&current);
-        take_fields(bytes, &mut self.fields, current);
+        take_fields(alloc, bytes, &mut self.fields, current);
         match self.take_body(alloc, bytes, sorted, outline, at) {
             Ok(()) => {}
             Err(bad) => return Err(bad),

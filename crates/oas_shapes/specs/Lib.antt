@@ -6,6 +6,7 @@ pub mod Repetitions
 pub mod Outlines
 pub mod Rules
 pub mod Short
+pub mod Sharing
 -- ---- what is kept inside
 pub mod Ways
 pub mod Sketches

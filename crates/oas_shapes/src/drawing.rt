@@ -14,11 +14,12 @@ use crate::figures::{Brush, Figure};
 use crate::lists::{path_points, polygon_outline};
 use crate::paths::add_path;
 use crate::repetitions::{alone, offsets_in};
+use crate::sharing::Repetition;
 use crate::trails::Unplaced;
 use geo_stream::List;
 use half_grid::Point;
 use layout_model::{Offsets, Pair, Shape, ShapeBad};
-use oas_record::{Deltas, Rep};
+use oas_record::Deltas;
 use std::alloc::Global;
 
 /// Why a record can't be drawn or placed.
@@ -95,7 +96,7 @@ fn repeated(
     alloc: Global,
     pair: Pair,
     outline: &[Point],
-    repetition: Option<&Rep>,
+    repetition: Option<&Repetition>,
 ) -> Result<Shape, Undrawn>
     requires closed { IsClosed outline.now }
     requires near { AreNear outline.now }
@@ -121,7 +122,7 @@ fn add(
     alloc: Global,
     pair: Pair,
     outline: &[Point],
-    repetition: Option<&Rep>,
+    repetition: Option<&Repetition>,
     shapes: &mut List<Shape>,
 ) -> Result<(), Undrawn>
     requires closed { IsClosed outline.now }
@@ -148,7 +149,7 @@ fn add_outline(
     alloc: Global,
     pair: Pair,
     outline: Outline,
-    repetition: Option<&Rep>,
+    repetition: Option<&Repetition>,
     shapes: &mut List<Shape>,
 ) -> Result<(), Undrawn>
     requires near { AreNear (points_of outline) }
@@ -173,7 +174,7 @@ pub fn draw_figure(
     pair: Pair,
     at: Point,
     figure: Figure,
-    repetition: Option<&Rep>,
+    repetition: Option<&Repetition>,
     shapes: &mut List<Shape>,
 ) -> Result<(), Undrawn>
     requires at { IsWithin (2 ^ 40) at }
@@ -200,7 +201,7 @@ pub fn draw_polygon(
     pair: Pair,
     at: Point,
     points: &Deltas,
-    repetition: Option<&Rep>,
+    repetition: Option<&Repetition>,
     shapes: &mut List<Shape>,
 ) -> Result<(), Undrawn>
     requires at { IsWithin (2 ^ 40) at }
@@ -227,7 +228,7 @@ pub fn draw_path(
     at: Point,
     brush: Brush,
     points: &Deltas,
-    repetition: Option<&Rep>,
+    repetition: Option<&Repetition>,
     shapes: &mut List<Shape>,
 ) -> Result<(), Undrawn>
     requires at { IsWithin (2 ^ 40) at }

@@ -9,6 +9,7 @@ mod lattices;
 mod lists;
 mod paths;
 mod repetitions;
+mod sharing;
 mod tables;
 #[cfg(test)]
 mod tests;
@@ -18,4 +19,5 @@ mod wide;
 pub use drawing::{Undrawn, draw_figure, draw_path, draw_polygon};
 pub use figures::{Brush, Figure};
 pub use repetitions::{dimensions_are_allowed, offsets_of};
+pub use sharing::Repetition;
 pub use tables::{uses_height, uses_width};

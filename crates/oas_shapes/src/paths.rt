@@ -13,11 +13,11 @@ ghost use Rattle.oas_shapes.specs.declared.drawing.Undrawn.TheVariants.{Rule, No
 use crate::drawing::Undrawn;
 use crate::figures::Brush;
 use crate::repetitions::{alone, offsets_in};
+use crate::sharing::Repetition;
 use crate::trails::Unplaced;
 use geo_stream::{List, NoMemory};
 use half_grid::Point;
 use layout_model::{Offsets, Pair, PathBad, Shape, path_shapes};
-use oas_record::Rep;
 use std::alloc::Global;
 
 // At most so far from 0, in grid steps.
@@ -154,7 +154,7 @@ fn repeated(
     pair: Pair,
     points: &[Point],
     brush: Halves,
-    repetition: Option<&Rep>,
+    repetition: Option<&Repetition>,
 ) -> Result<Vec<Shape>, Undrawn>
     requires points { AreNear points.now }
     requires brush { AreHalves brush }
@@ -189,7 +189,7 @@ pub(crate) fn add_path(
     pair: Pair,
     points: &[Point],
     brush: Halves,
-    repetition: Option<&Rep>,
+    repetition: Option<&Repetition>,
     shapes: &mut List<Shape>,
 ) -> Result<(), Undrawn>
     requires points { AreNear points.now }

@@ -15,6 +15,7 @@ ghost use Rattle.oas_shapes.specs.declared.trails.Unplaced.TheVariants.{Far, Man
 
 use crate::drawing::Undrawn;
 use crate::lattices::Lattice;
+use crate::sharing::Repetition;
 use crate::trails::{Unplaced, along, along_grid, along_spaces, towards};
 use crate::wide::{ORIGIN, Wide, widened};
 use half_grid::Point;
@@ -185,8 +186,8 @@ fn by_step(alloc: Global, dim: u64, step: Wide, is_allowed: bool) -> Result<Offs
     steps.offsets(alloc, is_allowed)
 }
 
-// The offsets of a repetition in half units.
-fn spread(alloc: Global, repetition: &Rep, is_allowed: bool) -> Result<Offsets, Unplaced>
+/// The offsets of a repetition in half units.
+pub(crate) fn spread(alloc: Global, repetition: &Rep, is_allowed: bool) -> Result<Offsets, Unplaced>
     requires { IsTrue is_allowed → HasDimensions repetition.now }
     ensures ok { IfOk result (λ offsets. (offsets ≡ the_offsets_of repetition.now) × AreOffsets offsets × HasDimensions repetition.now) }
     ensures far { result ≡ Err Far → ¬ AreNear (the_offsets_of repetition.now) }
@@ -255,7 +256,10 @@ fn spread(alloc: Global, repetition: &Rep, is_allowed: bool) -> Result<Offsets, 
 
 /// The offsets of a record with this repetition, or none, in half units.
 #[inline(always)]
-pub(crate) fn offsets_in(alloc: Global, repetition: Option<&Rep>) -> Result<Offsets, Unplaced>
+pub(crate) fn offsets_in(
+    alloc: Global,
+    repetition: Option<&Repetition>,
+) -> Result<Offsets, Unplaced>
     ensures offsets { IfOk result (λ offsets. offsets ≡ all_offsets (option_copied repetition.entry)) }
     ensures grid { IfOk result AreOffsets }
     ensures allowed { IfOk result (λ _. HasDimensionsIn (option_copied repetition.entry)) }
@@ -265,21 +269,21 @@ pub(crate) fn offsets_in(alloc: Global, repetition: Option<&Rep>) -> Result<Offs
     ensures few { IsShortIn (option_copied repetition.entry) → result ≡ Err Wanting → ⊥ }
 {
     match repetition {
-        Some(repetition) => spread(alloc, repetition, dimensions_are_allowed(repetition)),
+        Some(repetition) => repetition.offsets(alloc),
         None => alone(alloc),
     }
 }
 
 /// The offsets of a repetition in half units: those of a placement, say. One that is regular is kept as a grid. Whatever
 /// rule one of at most twelve places or a regular one breaks is told, also where memory is wanting.
-pub fn offsets_of(alloc: Global, repetition: &Rep) -> Result<Offsets, Undrawn>
+pub fn offsets_of(alloc: Global, repetition: &Repetition) -> Result<Offsets, Undrawn>
     ensures offsets { IfOk result (λ offsets. offsets ≡ the_offsets_of repetition.now) }
     ensures grid { IfOk result AreOffsets }
     ensures kept { IfOk result (λ _. (rule : ℕ) → KeepsRepetition repetition.now rule) }
     ensures broken { (rule : ℕ) → result ≡ Err (Rule rule) → IsLowest (KeepsRepetition repetition.now) rule }
     ensures memory { IsShort repetition.now → result ≡ Err undrawns.NoMemory → (rule : ℕ) → KeepsRepetition repetition.now rule }
 {
-    match spread(alloc, repetition, dimensions_are_allowed(repetition)) {
+    match repetition.offsets(alloc) {
         Ok(offsets) => Ok(offsets),
         Err(Unplaced::Far) => Err(Undrawn::Rule(1)),
         Err(Unplaced::Many) => Err(Undrawn::Rule(11)),

@@ -1,7 +1,7 @@
 //! Outlines, places and offsets by hand, and the rules.
 use crate::{
-    Brush, Figure, Undrawn, dimensions_are_allowed, draw_figure, draw_path, draw_polygon,
-    offsets_of,
+    Brush, Figure, Repetition, Undrawn, dimensions_are_allowed, draw_figure, draw_path,
+    draw_polygon, offsets_of,
 };
 use geo_stream::{List, NoMemory};
 use half_grid::Point;
@@ -321,11 +321,17 @@ fn are_offsets(offsets: &Offsets, wanted: &[(i64, i64)]) -> bool {
 }
 
 fn is_repeated(alloc: Global, kind: u8, wanted: &[(i64, i64)]) -> bool {
-    let Ok(repetition) = repetition(alloc, kind) else {
+    let Ok(written) = repetition(alloc, kind) else {
         return false;
     };
+    let is_allowed = dimensions_are_allowed(&written);
+    let mut repetition = Repetition::new(written);
+    let Ok(first) = offsets_of(alloc, &repetition) else {
+        return false;
+    };
+    repetition.make_places(alloc);
     match offsets_of(alloc, &repetition) {
-        Ok(offsets) => are_offsets(&offsets, wanted) && dimensions_are_allowed(&repetition),
+        Ok(again) => is_allowed && are_offsets(&first, wanted) && are_offsets(&again, wanted),
         Err(_) => false,
     }
 }
@@ -352,7 +358,7 @@ fn rule_of(drawn: Result<(), Undrawn>) -> u8 {
     }
 }
 
-fn rule_of_figure(alloc: Global, figure: Figure, repetition: Option<&Rep>) -> u8 {
+fn rule_of_figure(alloc: Global, figure: Figure, repetition: Option<&Repetition>) -> u8 {
     let mut shapes = List::new(alloc);
     rule_of(draw_figure(alloc, PAIR, ORIGIN, figure, repetition, &mut shapes))
 }
@@ -364,14 +370,9 @@ fn figures_by_their_lowest_rule(rt: HostRuntime) {
         width: side,
         height: side,
     };
-    let far = Rep::Row {
-        dim: 3,
-        space: 1 << 40,
-    };
-    let many = Rep::Row {
-        dim: 16_777_217,
-        space: 0,
-    };
+    let row = |dim: u64, space: u64| Repetition::new(Rep::Row { dim, space });
+    let far = row(3, 1 << 40);
+    let many = row(16_777_217, 0);
     let slanted = Figure::Horizontal {
         width: 10,
         height: 4,
