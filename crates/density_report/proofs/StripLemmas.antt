@@ -128,7 +128,7 @@ near_top left portion b p =
     let most = p.high in
     record { low = omega (arith, ints, low, least, some_rows); high = omega (arith, ints, order, high, most) }
 
--- the first of them, with so many rows at most
+-- the first of them, with no more rows than the portion has
 pub part_of : (left : Batch) (portion : Portion) (end : ℤ) → IsBatch left → left.row <ℤ left.end → IsPortion left.mesh.size portion
     → (end *ℤ left.mesh.size) ≤ℤ ((left.row *ℤ left.mesh.size) +ℤ portion.rows)
     → ((left.row *ℤ left.mesh.size) +ℤ portion.rows) <ℤ ((end +ℤ pos 1) *ℤ left.mesh.size)

@@ -167,7 +167,7 @@ pub(crate) fn doubled(portion: &Portion) -> Portion
     }
 }
 
-/// The first of some rows of windows: no more than have so many rows together, and at least one.
+/// The first of some rows of windows: at least one, and together with no more rows than the portion has.
 pub(crate) fn lower(left: &Batch, portion: &Portion) -> Batch
     requires left { IsBatch left.now }
     requires some { left.now.row <ℤ left.now.end }
