@@ -409,13 +409,22 @@ fn two(rt: &impl Abort, alloc: Global, first: Placement, second: Placement) -> L
     both
 }
 
+// The shape at these places.
+fn repeated(mut shape: Shape, offsets: Offsets) -> Shape
+    requires shape { IsShapeOnGrid shape }
+    requires offsets { AreOffsets offsets }
+    ensures { IsShapeOnGrid result }
+{
+    shape.offsets = offsets;
+    shape
+}
+
 // C is a square at 2^24 places, A and B place it 2^15 times each, and T has these shapes and places A and B.
 fn diamond(rt: &impl Abort, alloc: Global, shapes: List<Shape>) -> Layout
     requires { All IsShapeOnGrid shapes }
     ensures { IsLayoutOnGrid result }
 {
-    let mut many = square(rt, alloc, false);
-    many.offsets = copies(rt, alloc, 16777216);
+    let many = repeated(square(rt, alloc, false), copies(rt, alloc, 16777216));
     let name_c = name(rt, alloc, b"C");
     let squares = cell(name_c, only(rt, alloc, many), List::new(alloc));
     let layout = with_cell(rt, no_cells(alloc), squares);
