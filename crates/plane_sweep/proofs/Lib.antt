@@ -42,3 +42,8 @@ pub mod StopsAbove
 pub mod RunsQuiet
 pub mod RuleAsTest
 pub mod NextStop
+pub mod AlikeHalfway
+pub mod RunsFurther
+pub mod CrossPoint
+pub mod WayWith
+pub mod StopWith

@@ -1,10 +1,8 @@
 -- On the way over a stop: lines that are passed one by one, and points that are come to.
-use Rattle.std.proofs.Common.{ℕ, ℤ, pos, ◌≡◌, ◌+ℤ◌, ◌-ℤ◌, ◌≤ℤ◌, ◌<ℤ◌, ◌⊎◌, inl, inr, List, [], ◌∷◌, ◌++◌, Option, Some}
+use Rattle.std.proofs.Common.{ℤ, pos, ◌≡◌, ◌+ℤ◌, ◌-ℤ◌, ◌≤ℤ◌, ◌<ℤ◌, inl, inr, List, [], ◌∷◌, ◌++◌, Option, Some}
 use Rattle.std.proofs.Common.{None, drop, All, append_assoc, arith, refl, ap, sym, subst, ◌∙◌}
-use Rattle.std.specs.List.{Contains}
-use Rattle.std.proofs.lemmas.Int.{ints, by_lt_z}
-use Rattle.std.proofs.lemmas.List.Elements.{All-nil, All-cons, All-head, All-tail, All-append, All-weaker, All-contains, Contains-append_cases}
-use Rattle.half_grid.specs.Edges.{EdgeParts, IsEdge}
+use Rattle.std.proofs.lemmas.Int.{ints}
+use Rattle.std.proofs.lemmas.List.Elements.{All-nil, All-cons, All-head, All-append, All-weaker}
 use Rattle.half_grid.specs.Lines.{x_on}
 use Rattle.half_grid.specs.Reach.{IsWithinReach}
 use Rattle.half_grid.specs.Rows.{place}
@@ -12,18 +10,16 @@ use Rattle.half_grid.specs.declared.plane.Point.{Point}
 use Rattle.active_lines.specs.declared.item.ActiveLine.{ActiveLine}
 use Rattle.active_lines.specs.declared.item.Windings.{Windings}
 use Rattle.active_lines.specs.ActiveLists.{ActiveList, first_of, last_of}
-use Rattle.active_lines.specs.Leaning.{MeetAbove}
-use Rattle.active_lines.specs.Neighbours.{SomeMeeting, IsFirstMeeting}
+use Rattle.active_lines.specs.Neighbours.{IsFirstMeeting}
 use Rattle.active_lines.specs.Points.{AscendAt}
 use Rattle.active_lines.proofs.ForCallers.{leans_where_it_meets}
 use Rattle.row_lists.specs.declared.event.Event.{Event}
 use Rattle.row_lists.specs.RowLists.{AscendIn}
 use Rattle.row_lists.specs.RowRuns.{last_windings}
-use Rattle.row_lists.specs.Halfway.{PassLeft, PassAtOrRight}
 use Rattle.plane_sweep.specs.declared.point.Sides.{Sides}
-use Rattle.plane_sweep.specs.Stops.{IsAt, IsLeft, IsAlone, AreWithin, BeginsBeside, MeetFrom, EventsFrom, MeetingsFrom}
-use Rattle.plane_sweep.specs.Stops.{IsUpTo, PassFrom, PassBefore, IsPassedUpTo, IsWithin, IsBeforeEnd, IsAtEnd}
-use Rattle.plane_sweep.specs.Stops.{HasEnded, GoesOn, PassesLinesOn, PassesAlone}
+use Rattle.plane_sweep.specs.Stops.{IsLeft, AreWithin, BeginsBeside, MeetFrom, EventsFrom, MeetingsFrom}
+use Rattle.plane_sweep.specs.Stops.{IsUpTo, PassFrom, PassBefore, IsPassedUpTo, IsBeforeEnd, IsAtEnd}
+use Rattle.plane_sweep.specs.Stops.{PassesLinesOn, PassesAlone}
 use Rattle.plane_sweep.proofs.BundleLemmas.{rest_all}
 use Rattle.plane_sweep.proofs.StopLemmas.{meet_rest, first_rest}
 
@@ -82,7 +78,7 @@ ends_at y end lines left l h ascend first at =
 
 -- ---- a line that is passed alone
 
-beyond_by : (y : ℤ) (end : Option Point) (l : ActiveLine) (events : List Event) → IsBeforeEnd y end l
+pub beyond_by : (y : ℤ) (end : Option Point) (l : ActiveLine) (events : List Event) → IsBeforeEnd y end l
     → EventsFrom y end events → All (IsLeft y (x_on l.line y +ℤ pos 1)) events
 beyond_by y None l events before h = h (x_on l.line y +ℤ pos 1)
 beyond_by y (Some p) l events before h = All-weaker (IsLeft y p.x) (IsLeft y (x_on l.line y +ℤ pos 1)) (λ e k. nearer e k) events h.1
@@ -99,18 +95,18 @@ no_meeting y x l m rest ascend h before same =
     let from = h.0 (record { closing = leans; here = sym same }) in
     absurd (omega (arith, ints, from, before))
 
-beside_by : (y : ℤ) (end : Option Point) (l : ActiveLine) (rest : List ActiveLine) → AscendIn (y -ℤ pos 1) (l ∷ rest)
+pub beside_by : (y : ℤ) (end : Option Point) (l : ActiveLine) (rest : List ActiveLine) → AscendIn (y -ℤ pos 1) (l ∷ rest)
     → IsBeforeEnd y end l → MeetingsFrom y end (l ∷ rest) → BeginsBeside y (x_on l.line y) rest
 beside_by y end l [] ascend before h = tt
 beside_by y None l (m ∷ rest) ascend before h = λ same. no_meeting y (x_on l.line y +ℤ pos 1) l m rest ascend
     (h (x_on l.line y +ℤ pos 1)) (omega (arith, ints)) same
 beside_by y (Some p) l (m ∷ rest) ascend before h = λ same. no_meeting y p.x l m rest ascend h.1 before same
 
-up_to : (y : ℤ) (end : Option Point) (l : ActiveLine) → IsBeforeEnd y end l → IsUpTo end (x_on l.line y +ℤ pos 1)
+pub up_to : (y : ℤ) (end : Option Point) (l : ActiveLine) → IsBeforeEnd y end l → IsUpTo end (x_on l.line y +ℤ pos 1)
 up_to y None l h = tt
 up_to y (Some p) l h = omega (arith, ints, h)
 
-meetings_rest : (y : ℤ) (end : Option Point) (xs ys : List ActiveLine) → MeetingsFrom y end (xs ++ ys) → MeetingsFrom y end ys
+pub meetings_rest : (y : ℤ) (end : Option Point) (xs ys : List ActiveLine) → MeetingsFrom y end (xs ++ ys) → MeetingsFrom y end ys
 meetings_rest y None xs ys h = λ x. meet_rest y x xs ys (h x)
 meetings_rest y (Some p) xs ys h = (h.0, meet_rest y p.x xs ys h.1)
 

@@ -1,5 +1,6 @@
 -- ---- what is promised, in reading order
 pub mod Settled
+pub mod StopSettles
 pub mod Stops
 pub mod RowSweeps
 -- ---- what is kept inside
@@ -11,3 +12,4 @@ pub mod States
 pub mod Sweeps
 pub mod RuleTests
 pub mod Crossings
+pub mod WayRuns

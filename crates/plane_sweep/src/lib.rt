@@ -1,9 +1,10 @@
-//! Parts of a plane sweep, which isn't whole yet: the lines of a sweep over a stop, and what becomes of the runs there.
+//! Parts of a plane sweep, which isn't whole yet: the lines of a sweep over a stop, with the runs there.
 //!
 //! The sweep stops where an edge begins or ends, and where two active lines meet, and looks only at what changes there.
 //! `stop` takes the list of its lines over all points of a stop, from the row list of the row below to that of the row above,
-//! with events one by one from a source. `entry` takes the runs, with their open trapezoids, over one point. That both are
-//! one sweep, which gives each trapezoid as soon as it ends, is left; the lemmas in `proofs/` are there for it.
+//! with events one by one from a source, and the runs with their open trapezoids: what ends at the stop waits to be given, and
+//! the rest is open at the lines above. `entry` takes the runs over one point. What goes from stop to stop is left; the lemmas
+//! in `proofs/` are there for it.
 #![tactic(auto)]
 
 mod bundle;

@@ -1,7 +1,11 @@
 //! Small figures, with events and lines by hand, and the laws, called.
 
+ghost use Rattle.std.specs.Prelude.{◌≡◌, pos, not};
+ghost use Rattle.std.specs.Ordering.{int_eq};
+
 use crate::{EventSource, RowSweep, SortedEvents, settle_laws};
 use half_grid::{Edge, Line, Operand, Trap};
+use scan_line::Rule;
 use std::test::Fail;
 
 #[test]
@@ -38,8 +42,13 @@ fn rows_of_two_bars(rt: HostRuntime) -> Result<(), Fail> {
         Edge::left_of(&low, Operand::A),
         Edge::right_of(&low, Operand::A),
     ];
+    let rule = Rule::new(
+        |a: i128, _b: i128| -> bool
+            ensures { result ≡ not (int_eq a (pos 0)) }
+        { a != 0 },
+    );
     let mut sweep = RowSweep::begin(rt.alloc(), &edges)?;
-    assert_eq!(rt; sweep.next()?, Some(0));
+    assert_eq!(rt; sweep.next(&rule)?, Some(0));
     let mut lines = sweep.into_lines();
     lines.rewind();
     for due in [(Line::Falling(4), 1i64), (Line::Rising(6), 0)] {

@@ -4,7 +4,7 @@ use Rattle.active_lines.specs.declared.item.Windings.{Windings}
 use Rattle.row_lists.specs.RowRuns.{last_windings}
 use Rattle.plane_sweep.specs.Bundles.{HasChangesOf}
 use Rattle.plane_sweep.specs.Stops.{IsAt}
-use Rattle.plane_sweep.proofs.FillLemmas.{passes_at}
+use Rattle.plane_sweep.proofs.FillLemmas.{passes_at, last_is}
 use Rattle.plane_sweep.proofs.StopLemmas.{after_within, over_point, near_lines}
 use Rattle.plane_sweep.proofs.point.cross.Goals as goal
 
@@ -33,3 +33,13 @@ returns-clause-near g c =
     (passes_at [] p.y p.x c.in_ok-bundle-2.bundle c.args.left.above c.fill.new.lines.items c.in_ok-above.above
     c.in_ok-above.ensures)
     c.requires.point.x c.requires.point.y
+
+pub returns-clause-through : goal.returns-clause-through
+returns-clause-through g c =
+    passes_at [] c.args.point.y c.args.point.x c.in_ok-bundle-2.bundle c.args.left.above c.fill.new.lines.items c.in_ok-above.above c.in_ok-above.ensures
+
+pub returns-clause-sides : goal.returns-clause-sides
+returns-clause-sides g c = (
+  sym (ap (last_windings c.args.left.below) (sym c.as_slice-2.ensures.value) ∙ sym c.right_of-below.ensures),
+  sym (last_is [] c.args.point.y c.args.point.x c.in_ok-bundle-2.bundle c.args.left.above c.fill.new.lines.items c.in_ok-above.above c.in_ok-above.ensures),
+)

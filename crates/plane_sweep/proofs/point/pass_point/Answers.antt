@@ -1,15 +1,42 @@
-use Rattle.std.proofs.Common.{List, ◌++◌, pos, ◌+ℤ◌, refl, ap, sym, subst, ◌∙◌}
+use Rattle.std.proofs.Common.{ℤ, List, ◌++◌, pos, ◌+ℤ◌, Bool, FitsSigned, w64, rules, refl, subst}
+use Rattle.std.proofs.lemmas.Int.{to_z-of_z}
 use Rattle.active_lines.specs.declared.item.ActiveLine.{ActiveLine}
-use Rattle.plane_sweep.proofs.StopLemmas.{same_at}
+use Rattle.row_lists.specs.RowLists.{AreAlike}
+use Rattle.plane_sweep.proofs.AlikeHalfway.{alike_at}
+use Rattle.plane_sweep.proofs.CrossPoint.{crossed_point, same_runs}
+use Rattle.plane_sweep.proofs.StopLemmas.{ascend_rest, same_at}
 use Rattle.plane_sweep.proofs.point.pass_point.Goals as goal
 
 pub returns-clause-at : goal.returns-clause-at
 returns-clause-at g c = λ edges is.
     let p = c.args.point in
-    let before =
-    c.in_ok-put_all.ensures.before
-    ∙ (ap (λ (ls : List ActiveLine). ls ++ c.as_slice.result.now) c.in_ok-right.ensures.before
-    ∙ ap (λ (ls : List ActiveLine). c.args.front.now.lines.before ++ ls) c.as_slice.ensures.value) in
-    same_at edges p.y (p.x +ℤ pos 1) c.in_ok-right.right.below c.in_ok-right.right.above _ _ c.put_all.new.lines.before
-    c.put_all.new.lines.after _ (c.in_ok-right.ensures.at edges is) before
-    c.in_ok-put_all.ensures.after
+    let front = c.args.front.now in
+    let new = c.cross.new.front.above.items in
+    let alike = subst (λ (ls : List ActiveLine). AreAlike (ls ++ new) c.cross_runs.new.front.lines.before) c.in_ok-sides.ensures.before
+    c.in_ok-runs.ensures.alike in
+    let over = alike_at edges p.y (p.x +ℤ pos 1) c.in_ok-sides.sides.below c.in_ok-sides.sides.above (front.lines.before ++ new)
+    c.cross_runs.new.front.lines.before c.cross.new.front.lines.after _ alike (c.in_ok-sides.ensures.at edges is) in
+    same_at edges p.y (p.x +ℤ pos 1) c.in_ok-sides.sides.below c.in_ok-sides.sides.above _ _ c.cross_runs.new.front.lines.before
+    c.cross_runs.new.front.lines.after _ over refl c.in_ok-runs.ensures.after
+
+pub returns-clause-runs : goal.returns-clause-runs
+returns-clause-runs g c = λ takes edges events lines test may at s.
+    let p = c.args.point in
+    let short : FitsSigned w64 p.y = search rules in
+    let passes = simp to_z-of_z at c.in_ok-runs.ensures.runs in
+    let left = c.args.left in
+    let old = c.args.front.now in
+    let front = c.cross.new.front in
+    let front1 = c.cross_runs.new.front in
+    let right = c.in_ok-sides.sides in
+    let post : ℤ → ℤ → Bool → Type 0 = λ a b r. g.F.Fn.post c.args.rule.now (a, (b, tt)) r in
+    let here = same_at edges p.y p.x left.sides.below left.sides.above old.lines.before old.lines.after front.lines.before old.lines.after events at
+    c.in_ok-sides.ensures.before refl in
+    let so_far = same_runs takes p.y p.x lines old.lines.before front.lines.before old.lines.after old.lines.after old.ended.items front.ended.items
+    left.sides.below left.sides.below left.runs c.in_ok-sides.ensures.before refl c.in_ok-sides.ensures.ended refl s in
+    let ascend = ascend_rest p.y old.lines.before front.above.items ((c.in_ok-sides.ensures.at c.requires.is_at.0 c.requires.is_at.1).halfway.ascend_before) in
+    same_runs takes p.y (p.x +ℤ pos 1) lines front1.lines.before front1.lines.before front.lines.after front1.lines.after front1.ended.items
+    front1.ended.items right.below right.below c.in_ok-runs.runs refl c.in_ok-runs.ensures.after refl refl
+    (crossed_point takes post edges p.y p.x left.sides.below left.sides.above right.below right.above events lines old.lines.after front front1 left.runs
+    c.in_ok-runs.runs test may here so_far c.in_ok-sides.ensures.passes c.in_ok-sides.ensures.through ascend
+    c.in_ok-sides.ensures.sides.0 c.in_ok-sides.ensures.sides.1 passes)

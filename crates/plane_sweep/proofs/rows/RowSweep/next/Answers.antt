@@ -1,4 +1,4 @@
-use Rattle.std.proofs.Common.{List, FitsSigned, w64, rules, ap, sym, subst}
+use Rattle.std.proofs.Common.{FitsSigned, w64, rules, sym, subst}
 use Rattle.std.proofs.lemmas.Int.{to_z-of_z}
 use Rattle.active_lines.specs.ActiveLists.{ActiveList, items}
 use Rattle.row_lists.specs.RowLists.{IsRowList}
@@ -8,7 +8,7 @@ use Rattle.plane_sweep.proofs.StopsAbove.{stays_above, goes_up, is_below, is_wit
 use Rattle.plane_sweep.proofs.rows.RowSweep.next.Goals as goal
 
 pub returns-in_default-clause-end : goal.returns-in_default-clause-end
-returns-in_default-clause-end c = λ edges y above k up.
+returns-in_default-clause-end g c = λ edges y above k up.
     let inside = c.self.inside in
     subst (λ (s : RowSweepState). IsRowList edges k s.lines) c.self.view_is
     (stays_above edges y (items inside.front.lines) inside.events
@@ -16,25 +16,26 @@ returns-in_default-clause-end c = λ edges y above k up.
     up)
 
 pub pass_stop-requires-clause-y : goal.pass_stop-requires-clause-y
-pass_stop-requires-clause-y c =
+pass_stop-requires-clause-y g c =
     let inside = c.self.inside in
-    let edges = c.requires.0 in
-    let y = c.requires.1 in
-    is_within edges y (items inside.front.lines) inside.events (subst (IsAbove edges y) (sym c.self.view_is) c.requires.2) c.in-Some.stop c.in-Some.ensures.stop
+    let edges = c.requires.above.0 in
+    let y = c.requires.above.1 in
+    is_within edges y (items inside.front.lines) inside.events (subst (IsAbove edges y) (sym c.self.view_is) c.requires.above.2) c.in-Some.stop
+    c.in-Some.ensures.stop
 
 pub pass_stop-requires-clause-below : goal.pass_stop-requires-clause-below
-pass_stop-requires-clause-below c =
+pass_stop-requires-clause-below g c =
     let inside = c.self.inside in
-    let edges = c.requires.0 in
-    let y = c.requires.1 in (
+    let edges = c.requires.above.0 in
+    let y = c.requires.above.1 in (
       edges,
       subst (λ (list : ActiveList). IsBelowStop edges c.in-Some.stop.level.y (items list) inside.events) (sym c.in-Some.ensures.same)
           (is_below edges y (items inside.front.lines) inside.events
-          (subst (IsAbove edges y) (sym c.self.view_is) c.requires.2) c.in-Some.stop c.in-Some.ensures.stop),
+          (subst (IsAbove edges y) (sym c.self.view_is) c.requires.above.2) c.in-Some.stop c.in-Some.ensures.stop),
     )
 
 pub returns-clause-up : goal.returns-clause-up
-returns-clause-up c = λ edges y above.
+returns-clause-up g c = λ edges y above.
     let fits : FitsSigned w64 c.in-Some.stop.level.y = search rules in
     let inside = c.self.inside in
     let here = subst (IsAbove edges y) (sym c.self.view_is) above in
