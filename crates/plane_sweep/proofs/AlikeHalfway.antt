@@ -1,16 +1,14 @@
 -- A list halfway over a stop, whatever is open at its lines.
-use Rattle.std.proofs.Common.{ℤ, ◌≡◌, ◌-ℤ◌, ◌<ℤ◌, if◌then◌else◌, List, [], ◌∷◌, ◌++◌, Option, Some, None, IfNone, All, refl, ap, sym, subst, ◌∙◌}
+use Rattle.std.proofs.Common.{ℤ, ◌≡◌, ◌-ℤ◌, ◌<ℤ◌, if◌then◌else◌, List, [], ◌∷◌, ◌++◌, Option, None, All, refl, ap, sym, subst, ◌∙◌}
 use Rattle.std.specs.Ordering.{int_eq}
-use Rattle.std.specs.Option.{option_to_list}
 use Rattle.std.proofs.lemmas.List.Elements.{All-nil, All-cons, All-head, All-tail}
 use Rattle.half_grid.specs.Edges.{EdgeParts}
 use Rattle.half_grid.specs.Lines.{x_on}
-use Rattle.half_grid.specs.Reach.{IsWithinReach}
 use Rattle.half_grid.specs.Rows.{place}
 use Rattle.half_grid.specs.declared.border.Operand.{Operand}
 use Rattle.half_grid.specs.declared.plane.Line.{Line}
 use Rattle.half_grid.specs.declared.plane.Point.{Point}
-use Rattle.active_lines.specs.ActiveLists.{ActiveList, first_of}
+use Rattle.active_lines.specs.ActiveLists.{ActiveList}
 use Rattle.active_lines.specs.Leaning.{IsNearLine}
 use Rattle.active_lines.specs.Points.{AscendAt}
 use Rattle.active_lines.specs.declared.item.ActiveLine.{ActiveLine}
@@ -20,8 +18,7 @@ use Rattle.row_lists.specs.Halfway.{IsHalfway}
 use Rattle.row_lists.specs.declared.event.Event.{Event}
 use Rattle.plane_sweep.specs.declared.point.Sides.{Sides}
 use Rattle.plane_sweep.specs.Stops.{IsAt, AreNear, MeetingsFrom, GoesOn, PassesLinesOn, IsPassedUpTo, HasEnded}
-use Rattle.plane_sweep.proofs.AlikeRuns.{alike_last, alike_self, alike_append, alike_trans}
-use Rattle.plane_sweep.proofs.StopLemmas.{near_line}
+use Rattle.plane_sweep.proofs.AlikeRuns.{alike_last, alike_append, alike_trans}
 
 -- what holds of all lines of one list holds of all of the other
 pub alike_all : (P : Line → Type 0) (ls ms : List ActiveLine) → AreAlike ls ms → All (λ l. P l.line) ls → All (λ l. P l.line) ms
@@ -72,28 +69,20 @@ alike_halfway edges y x below above before before1 after alike h = record {
 
 -- ---- one line
 
-pub taken_first : (lines rest : List ActiveLine) (l : ActiveLine) (r : Option ActiveLine) → first_of lines ≡ Some l → lines ≡ option_to_list r ++ rest
-    → IfNone r (lines ≡ []) → lines ≡ l ∷ rest
-taken_first [] rest l r first e none = absurd (let clash : ⊥ = cc in clash)
-taken_first (m ∷ lines) rest l None first e none = absurd (let clash : ⊥ = cc in clash)
-taken_first (m ∷ lines) rest l (Some r) first e none = (let a : m ≡ l = cc in let b : lines ≡ rest = cc in cc)
+pub only_one : (l : ActiveLine) (ms : List ActiveLine) → AreAlike (l ∷ []) ms → (m : ActiveLine) × (ms ≡ m ∷ []) × (l.line ≡ m.line)
+only_one l [] h = absurd h
+only_one l (m ∷ []) h = (m, refl, h.0)
+only_one l (m ∷ n ∷ ms) h = absurd h.2
 
 -- the line that was noted, with what is open there
-pub alike_noted : (l : ActiveLine) (w : Windings) (before before0 noted after : List ActiveLine) → before0 ≡ before
-    → noted ≡ (record { line = l.line; windings = w; opened = None }) ∷ [] → AreAlike (before0 ++ noted) after
-    → AreAlike (before ++ (record { line = l.line; windings = w; opened = l.opened }) ∷ []) after
-alike_noted l w before before0 noted after e f h =
+pub alike_noted : (l : ActiveLine) (w : Windings) (before before1 opened : List ActiveLine) → AreAlike before before1
+    → AreAlike ((record { line = l.line; windings = w; opened = None }) ∷ []) opened
+    → AreAlike (before ++ (record { line = l.line; windings = w; opened = l.opened }) ∷ []) (before1 ++ opened)
+alike_noted l w before before1 opened h k =
     let m : ActiveLine = record { line = l.line; windings = w; opened = None } in
-    let k : ActiveLine = record { line = l.line; windings = w; opened = l.opened } in
-    let one : AreAlike (k ∷ []) (m ∷ []) = (refl, refl, tt) in
-    alike_trans (before ++ k ∷ []) (before ++ m ∷ []) after (alike_append before (k ∷ []) before (m ∷ []) (alike_self before) one)
-    (subst (λ (ls : List ActiveLine). AreAlike (ls ++ m ∷ []) after) e (subst (λ (ls : List ActiveLine). AreAlike (before0 ++ ls) after) f h))
-
-pub near_noted : (y : ℤ) (l : ActiveLine) (w : Windings) → IsWithinReach (x_on l.line y) → IsWithinReach y
-    → AreNear ((record { line = l.line; windings = w; opened = None }) ∷ [])
-near_noted y l w h k =
-    let m : ActiveLine = record { line = l.line; windings = w; opened = None } in
-    All-cons (λ (n : ActiveLine). IsNearLine n.line) m [] (near_line l.line y (x_on l.line y) refl h k) (All-nil (λ (n : ActiveLine). IsNearLine n.line))
+    let n : ActiveLine = record { line = l.line; windings = w; opened = l.opened } in
+    let one : AreAlike (n ∷ []) (m ∷ []) = (refl, refl, tt) in
+    alike_append before (n ∷ []) before1 opened h (alike_trans (n ∷ []) (m ∷ []) opened one k)
 
 -- ---- on the way
 

@@ -115,14 +115,15 @@ pub crossed_point : (takes : Windings → Bool) (post : ℤ → ℤ → Bool →
     → PassesLines y x after front.below.items front.lines.after → PassAt y x front.above.items → AscendIn y front.above.items
     → beneath ≡ last_windings below front.below.items → beyond ≡ last_windings above front.above.items
     → PassesOver post y above beyond runs front front1 runs1
-    → RunsSoFar takes y (x +ℤ pos 1) lines front1.lines.before front.lines.after front1.ended.items beneath runs1
+    → RunsSoFar takes y (x +ℤ pos 1) lines (front1.lines.before ++ front1.opened.items) front.lines.after front1.ended.items beneath runs1
 crossed_point takes post edges y x below above beneath beyond events lines after front front1 runs runs1 test may at s passes new_at new_ascend beneath_is
     beyond_is over =
-    subst (λ (w : Windings). RunsSoFar takes y (x +ℤ pos 1) lines front1.lines.before front.lines.after front1.ended.items w runs1) (sym beneath_is)
+    let list = front1.lines.before ++ front1.opened.items in
+    subst (λ (w : Windings). RunsSoFar takes y (x +ℤ pos 1) lines list front.lines.after front1.ended.items w runs1) (sym beneath_is)
     (crossed takes y x lines front.lines.before after front.below.items front.lines.after front.ended.items below above runs may s passes.split
     front.above.items at.halfway.ascend_after at.halfway.last passes.at
     (right edges y x below above front.lines.before after events at front.below.items front.lines.after passes) new_at new_ascend
-    beyond front1.lines.before front1.ended.items runs1 beyond_is (λ gone crossing last are. over takes x below gone test crossing last are))
+    beyond list front1.ended.items runs1 beyond_is (λ gone crossing last are. over takes x below gone front.lines.after test crossing last are))
 
 -- ---- over a line
 
@@ -159,26 +160,21 @@ module _ (edges : List EdgeParts) (y x : ℤ) (below above : Windings) (before r
 
 -- as the code notes it
 pub crossed_noted : (takes : Windings → Bool) (post : ℤ → ℤ → Bool → Type 0) (edges : List EdgeParts) (y x : ℤ) (below above w : Windings)
-    (events : List Event) (lines : List ActiveLine) (l : ActiveLine) (front front1 : Front) (runs runs1 : Runs) → IsTest post takes → MayPass takes y lines
-    → IsAt edges y x below above front.lines.before (l ∷ front1.lines.after) events → IsAlone y l.line front1.lines.after events
-    → RunsSoFar takes y x lines front.lines.before (l ∷ front1.lines.after) front.ended.items below runs → front.below.items ≡ l ∷ []
-    → front.above.items ≡ (record { line = l.line; windings = w; opened = None }) ∷ [] → front1.lines.after ≡ front.lines.after
-    → PassesOver post y above w runs front front1 runs1
-    → RunsSoFar takes y (x_on l.line y +ℤ pos 1) lines front1.lines.before front1.lines.after front1.ended.items l.windings runs1
-crossed_noted takes post edges y x below above w events lines l front front1 runs runs1 test may at alone s under over after passes =
+    (events : List Event) (lines rest : List ActiveLine) (l : ActiveLine) (front front1 : Front) (runs runs1 : Runs) → IsTest post takes
+    → MayPass takes y lines → IsAt edges y x below above front.lines.before (l ∷ rest) events → IsAlone y l.line rest events
+    → RunsSoFar takes y x lines front.lines.before (l ∷ rest) front.ended.items below runs → front.below.items ≡ l ∷ []
+    → front.above.items ≡ (record { line = l.line; windings = w; opened = None }) ∷ [] → PassesOver post y above w runs front front1 runs1
+    → RunsSoFar takes y (x_on l.line y +ℤ pos 1) lines (front1.lines.before ++ front1.opened.items) rest front1.ended.items l.windings runs1
+crossed_noted takes post edges y x below above w events lines rest l front front1 runs runs1 test may at alone s under over passes =
     let m : ActiveLine = record { line = l.line; windings = w; opened = None } in
     let before = front.lines.before in
-    let rest = front1.lines.after in
+    let list = front1.lines.before ++ front1.opened.items in
     let z = x_on l.line y in
-    crossed_line edges y x below above before rest l events at alone takes w lines front1.lines.before m front.ended.items front1.ended.items runs runs1
+    crossed_line edges y x below above before rest l events at alone takes w lines list m front.ended.items front1.ended.items runs runs1
     may s refl refl (λ gone crossing last are.
-    subst (λ (ls : List ActiveLine). RunsAre takes y (z +ℤ pos 1) (gone ++ ls) front1.lines.before rest front1.ended.items (last_windings below ls) runs1) under
-    (subst (λ (ls : List ActiveLine). RunsAre takes y (z +ℤ pos 1) (gone ++ front.below.items) front1.lines.before ls front1.ended.items
-    (last_windings below front.below.items) runs1) (sym after)
-    (passes takes z below gone test
-    (subst (λ (ls : List ActiveLine). IsCrossing takes y z below above gone before ls front.above.items front.lines.after) (sym under)
-    (subst (λ (ls : List ActiveLine). IsCrossing takes y z below above gone before (l ∷ []) ls front.lines.after) (sym over)
-    (subst (λ (ls : List ActiveLine). IsCrossing takes y z below above gone before (l ∷ []) (m ∷ []) ls) after crossing)))
+    subst (λ (ls : List ActiveLine). RunsAre takes y (z +ℤ pos 1) (gone ++ ls) list rest front1.ended.items (last_windings below ls) runs1) under
+    (passes takes z below gone rest test
+    (subst (λ (ls : List ActiveLine). IsCrossing takes y z below above gone before ls front.above.items rest) (sym under)
+    (subst (λ (ls : List ActiveLine). IsCrossing takes y z below above gone before (l ∷ []) ls rest) (sym over) crossing))
     (last ∙ ap (last_windings above) (sym over))
-    (subst (λ (ls : List ActiveLine). RunsAre takes y z gone before (ls ++ front.lines.after) front.ended.items below runs) (sym under)
-    (subst (λ (ls : List ActiveLine). RunsAre takes y z gone before (l ∷ ls) front.ended.items below runs) after are)))))
+    (subst (λ (ls : List ActiveLine). RunsAre takes y z gone before (ls ++ rest) front.ended.items below runs) (sym under) are)))

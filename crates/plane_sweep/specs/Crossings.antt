@@ -106,10 +106,9 @@ abbrev pub EndsOpen : ℤ → List ActiveLine → List ActiveLine → Line → L
 EndsOpen y before before1 right given given1 found = (All IsShut before → ⊥) → HasEndedOpen y before before1 right given given1 found
 
 -- so it enters, whatever the test is
-abbrev pub EntersAlike : ℤ → Bool → Option Line → Option Line → List ActiveLine → List ActiveLine → List ActiveLine → List Trapezoid → List Trapezoid
-    → Entered → Type 0
-EntersAlike y inside from to before before1 rest given given1 entered =
-    (takes : Windings → Bool) (x : ℤ) (below above : Windings) (gone old new : List ActiveLine) → IsCrossing takes y x below above gone before old new rest
+abbrev pub EntersAlike : ℤ → Bool → Option Line → Option Line → List ActiveLine → List ActiveLine → List Trapezoid → List Trapezoid → Entered → Type 0
+EntersAlike y inside from to before before1 given given1 entered =
+    (takes : Windings → Bool) (x : ℤ) (below above : Windings) (gone old new rest : List ActiveLine) → IsCrossing takes y x below above gone before old new rest
     → RunsAre takes y x gone before (old ++ rest) given below Alike → inside ≡ takes above → from ≡ end_among takes old → to ≡ end_among takes new
     → EnteredAre takes y x gone before1 old new rest given1 below inside entered
 
@@ -118,17 +117,16 @@ abbrev pub beyond_of : Option Line → Option Line → Option Line
 beyond_of right (Some e) = None
 beyond_of right None = right
 
-abbrev pub EntersApart : ℤ → Bool → Option Line → Option Line → Option Line → List ActiveLine → List ActiveLine → List ActiveLine → Entered → Type 0
-EntersApart y inside right from to before before1 rest entered =
-    (takes : Windings → Bool) (x : ℤ) (below above : Windings) (gone old new : List ActiveLine) (given : List Trapezoid)
+abbrev pub EntersApart : ℤ → Bool → Option Line → Option Line → Option Line → List ActiveLine → List ActiveLine → Entered → Type 0
+EntersApart y inside right from to before before1 entered =
+    (takes : Windings → Bool) (x : ℤ) (below above : Windings) (gone old new rest : List ActiveLine) (given : List Trapezoid)
     → IsCrossing takes y x below above gone before old new rest
     → RunsAre takes y x gone before (old ++ rest) given below (Apart right) → inside ≡ takes above → from ≡ end_among takes old → to ≡ end_among takes new
     → EnteredAre takes y x gone before1 old new rest given below inside entered
 
-abbrev pub Enters : ℤ → Bool → Runs → Option Line → Option Line → List ActiveLine → List ActiveLine → List ActiveLine → List Trapezoid → List Trapezoid
-    → Entered → Type 0
-Enters y inside runs from to before before1 rest given given1 entered =
-    (takes : Windings → Bool) (x : ℤ) (below above : Windings) (gone old new : List ActiveLine) → IsCrossing takes y x below above gone before old new rest
+abbrev pub Enters : ℤ → Bool → Runs → Option Line → Option Line → List ActiveLine → List ActiveLine → List Trapezoid → List Trapezoid → Entered → Type 0
+Enters y inside runs from to before before1 given given1 entered =
+    (takes : Windings → Bool) (x : ℤ) (below above : Windings) (gone old new rest : List ActiveLine) → IsCrossing takes y x below above gone before old new rest
     → RunsAre takes y x gone before (old ++ rest) given below runs → inside ≡ takes above → from ≡ end_among takes old → to ≡ end_among takes new
     → EnteredAre takes y x gone before1 old new rest given1 below inside entered
 
@@ -148,12 +146,11 @@ runs_after Together leaving goes_on taken = Alike
 runs_after (Separate right) leaving true taken = Alike
 runs_after (Separate right) leaving false taken = settled_runs taken (after_of right leaving)
 
--- the point is passed, whatever the test is that the rule is
+-- the point is passed, whatever the test is that the rule is, and whatever lines are right of it
 abbrev pub PassesRuns : (ℤ → ℤ → Bool → Type 0) → ℤ → Windings → Windings → Runs → List ActiveLine → List ActiveLine → List ActiveLine → List ActiveLine
-    → List ActiveLine → List ActiveLine
-    → List Trapezoid → List Trapezoid → Runs → Type 0
-PassesRuns post y above beyond runs old new opened before before1 rest given given1 runs1 =
-    (takes : Windings → Bool) (x : ℤ) (below : Windings) (gone : List ActiveLine) → IsTest post takes
+    → List ActiveLine → List Trapezoid → List Trapezoid → Runs → Type 0
+PassesRuns post y above beyond runs old new opened before before1 given given1 runs1 =
+    (takes : Windings → Bool) (x : ℤ) (below : Windings) (gone rest : List ActiveLine) → IsTest post takes
     → IsCrossing takes y x below above gone before old new rest
     → beyond ≡ last_windings above new → RunsAre takes y x gone before (old ++ rest) given below runs
     → RunsAre takes y (x +ℤ pos 1) (gone ++ old) (before1 ++ opened) rest given1 (last_windings below old) runs1

@@ -37,15 +37,16 @@ pub record RunsSoFar (takes : Windings → Bool) (y x : ℤ) (lines before after
   pub below_is : last_windings no_windings gone ≡ below
   pub are : RunsAre takes y x gone before after ended below runs
 
--- the noted lines give way to those above, with the runs there, whatever the test is that the rule is
+-- the noted lines give way to those above, with the runs there, whatever the test is that the rule is, and whatever lines
+-- are right of them
 abbrev pub PassesOver : (ℤ → ℤ → Bool → Type 0) → ℤ → Windings → Windings → Runs → Front → Front → Runs → Type 0
 PassesOver post y above beyond runs front front1 runs1 =
-    (takes : Windings → Bool) (x : ℤ) (below : Windings) (gone : List ActiveLine) → IsTest post takes
-    → IsCrossing takes y x below above gone front.lines.before front.below.items front.above.items front.lines.after
+    (takes : Windings → Bool) (x : ℤ) (below : Windings) (gone rest : List ActiveLine) → IsTest post takes
+    → IsCrossing takes y x below above gone front.lines.before front.below.items front.above.items rest
     → beyond ≡ last_windings above front.above.items
-    → RunsAre takes y x gone front.lines.before (front.below.items ++ front.lines.after) front.ended.items below runs
-    → RunsAre takes y (x +ℤ pos 1) (gone ++ front.below.items) front1.lines.before front.lines.after front1.ended.items (last_windings below front.below.items)
-    runs1
+    → RunsAre takes y x gone front.lines.before (front.below.items ++ rest) front.ended.items below runs
+    → RunsAre takes y (x +ℤ pos 1) (gone ++ front.below.items) (front1.lines.before ++ front1.opened.items) rest front1.ended.items
+    (last_windings below front.below.items) runs1
 
 -- the point is passed with its runs
 abbrev pub CrossesRuns : (ℤ → ℤ → Bool → Type 0) → ℤ → ℤ → Gap → ActiveList → List Trapezoid → ActiveList → List Trapezoid → Gap → Type 0

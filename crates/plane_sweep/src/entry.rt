@@ -133,7 +133,7 @@ fn enter_alike(
     below: Option<Line>,
     above: Option<Line>,
 ) -> Result<Entered, NoMemory>
-    ensures enters { IfOk result (λ entered. EntersAlike level.y inside below above lines.old.before lines.new.before lines.old.after waiting.old.items waiting.new.items entered) }
+    ensures enters { IfOk result (λ entered. EntersAlike level.y inside below above lines.old.before lines.new.before waiting.old.items waiting.new.items entered) }
     ensures alike { OnOk result (AreAlike lines.old.before lines.new.before) }
     ensures after { OnOk result (lines.new.after ≡ lines.old.after) }
 {
@@ -175,7 +175,7 @@ fn enter_apart(
     below: Option<Line>,
     above: Option<Line>,
 ) -> Entered
-    ensures enters { EntersApart level.y inside apart below above lines.old.before lines.new.before lines.old.after result }
+    ensures enters { EntersApart level.y inside apart below above lines.old.before lines.new.before result }
     ensures alike { AreAlike lines.old.before lines.new.before }
     ensures after { lines.new.after ≡ lines.old.after }
 {
@@ -252,7 +252,7 @@ fn enter(
     below: Option<Line>,
     above: Option<Line>,
 ) -> Result<Entered, NoMemory>
-    ensures enters { IfOk result (λ entered. Enters level.y inside runs below above lines.old.before lines.new.before lines.old.after waiting.old.items waiting.new.items entered) }
+    ensures enters { IfOk result (λ entered. Enters level.y inside runs below above lines.old.before lines.new.before waiting.old.items waiting.new.items entered) }
     ensures alike { OnOk result (AreAlike lines.old.before lines.new.before) }
     ensures after { OnOk result (lines.new.after ≡ lines.old.after) }
 {
@@ -294,7 +294,7 @@ pub(crate) fn pass_runs<F: Fn(i128, i128) -> bool>(
     opened: &mut Vec<ActiveLine>,
 ) -> Result<Runs, NoMemory>
     requires { IsRule (F.pre rule.now) (F.post rule.now) }
-    ensures runs { IfOk result (λ passed. PassesRuns (F.post rule.now) level.y above beyond runs old.now new.now opened.new.items lines.old.before lines.new.before lines.old.after waiting.old.items waiting.new.items passed) }
+    ensures runs { IfOk result (λ passed. PassesRuns (F.post rule.now) level.y above beyond runs old.now new.now opened.new.items lines.old.before lines.new.before waiting.old.items waiting.new.items passed) }
     ensures before { OnOk result (AreAlike lines.old.before lines.new.before) }
     ensures opened { (test : Windings → Bool) → IsTest (F.post rule.now) test → OnOk result (AreAlike new.now opened.new.items) }
     ensures after { OnOk result (lines.new.after ≡ lines.old.after) }

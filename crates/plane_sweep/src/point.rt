@@ -1,9 +1,10 @@
 //! A point of a stop: the lines through it give way to those of the row above.
-ghost use Rattle.std.specs.Prelude.{pos, ◌≡◌, ◌↔◌, ◌+ℤ◌, ◌++◌, ◌∷◌, [], Some, None, IfOk, OnOk, IsTrue, List};
+ghost use Rattle.std.specs.Prelude.{pos, ◌≡◌, ◌↔◌, ◌+ℤ◌, ◌++◌, ◌∷◌, [], Some, None, IfOk, OnOk, IsTrue, List, drop};
 ghost use Rattle.half_grid.specs.Lines.{x_on};
 ghost use Rattle.half_grid.specs.Edges.{EdgeParts};
 ghost use Rattle.half_grid.specs.Reach.{IsWithinReach, IsPointWithinReach};
-ghost use Rattle.active_lines.specs.ActiveLists.{items, first_of};
+ghost use Rattle.active_lines.specs.ActiveLists.{items, first_of, BeginsOn};
+ghost use Rattle.active_lines.specs.declared.item.ActiveLine.{ActiveLine as AnActiveLine};
 ghost use Rattle.row_lists.specs.RowLists.{AreAlike};
 ghost use Rattle.row_lists.specs.RowRuns.{last_windings};
 ghost use Rattle.row_lists.specs.Halfway.{PassAt};
@@ -151,7 +152,7 @@ fn put_all(alloc: Global, lines: &mut ActiveLines, put: &[ActiveLine]) -> Result
     Ok(())
 }
 
-// What becomes of the runs at the noted lines: those above are put, each with what is open there. Right of them the row above
+// What becomes of the runs at the noted lines: those above are noted each with what is open there. Right of them the row above
 // has the windings `beyond`. The answer is what the rows have right of them.
 fn cross_runs<F: Fn(i128, i128) -> bool>(
     rule: &Rule<F>,
@@ -160,9 +161,9 @@ fn cross_runs<F: Fn(i128, i128) -> bool>(
     left: Gap,
     beyond: Windings,
 ) -> Result<Runs, NoMemory>
-    requires rule { IsRule (F.pre rule.now) (F.post rule.now) }
-    requires near { AreNear front.old.above.items }
-    ensures alike { OnOk result (AreAlike (front.old.lines.before ++ front.old.above.items) front.new.lines.before) }
+    requires { IsRule (F.pre rule.now) (F.post rule.now) }
+    ensures alike { OnOk result (AreAlike front.old.lines.before front.new.lines.before) }
+    ensures opened { OnOk result (AreAlike front.old.above.items front.new.opened.items) }
     ensures after { OnOk result (front.new.lines.after ≡ front.old.lines.after) }
     ensures runs { IfOk result (PassesOver (F.post rule.now) level.y left.sides.above beyond left.runs front.old front.new) }
     ensures waiting { OnOk result (front.new.waiting.items ≡ front.old.waiting.items) }
@@ -179,7 +180,6 @@ fn cross_runs<F: Fn(i128, i128) -> bool>(
         front.above.as_slice(),
         &mut front.opened,
     )?;
-    put_all(front.alloc, &mut front.lines, front.opened.as_slice())?;
     Ok(runs)
 }
 
@@ -203,17 +203,15 @@ pub(crate) fn pass_point<F: Fn(i128, i128) -> bool, E: EventSource>(
 {
     let sides = cross(front, events, point, left.sides)?;
     let runs = cross_runs(rule, front, Level { y: point.y }, left, sides.above)?;
+    put_all(front.alloc, &mut front.lines, front.opened.as_slice())?;
     Ok(Gap { sides, runs })
 }
 
-// Takes the line after the place out, and notes it as the only one through its point, in the row below and, with other
-// windings, in the row above.
-fn take_line(front: &mut Front, line: ActiveLine, above: Windings) -> Result<(), NoMemory>
-    requires { first_of front.old.lines.after ≡ Some line }
+// Notes the line as the only one through its point, in the row below and, with other windings, in the row above.
+fn note_line(front: &mut Front, line: ActiveLine, above: Windings) -> Result<(), NoMemory>
     ensures below { OnOk result (front.new.below.items ≡ line ∷ []) }
     ensures above { OnOk result (front.new.above.items ≡ (record { line = line.line; windings = above; opened = None }) ∷ []) }
-    ensures before { OnOk result (front.new.lines.before ≡ front.old.lines.before) }
-    ensures after { OnOk result (front.old.lines.after ≡ line ∷ front.new.lines.after) }
+    ensures lines { OnOk result (front.new.lines ≡ front.old.lines) }
     ensures ended { OnOk result (front.new.ended.items ≡ front.old.ended.items) }
     ensures waiting { OnOk result (front.new.waiting.items ≡ front.old.waiting.items) }
 {
@@ -221,8 +219,16 @@ fn take_line(front: &mut Front, line: ActiveLine, above: Windings) -> Result<(),
     front.below.push(line)?;
     front.above.clear();
     front.above.push(shut(line.line, above))?;
-    let _taken = front.lines.take();
     Ok(())
+}
+
+// Passes the line after the place, which changes to the only one of these.
+fn pass_one(lines: &mut ActiveLines, one: &[ActiveLine])
+    requires { (l : AnActiveLine) × (one.now ≡ l ∷ []) × BeginsOn l.line lines.old.after }
+    ensures before { lines.new.before ≡ lines.old.before ++ one.now }
+    ensures after { lines.new.after ≡ drop 1 lines.old.after }
+{
+    lines.pass(one[0]);
 }
 
 /// Goes over the line after the place, which alone passes through its point, without events. What ends there is put after
@@ -236,8 +242,6 @@ pub(crate) fn pass_line<F: Fn(i128, i128) -> bool>(
 ) -> Result<Gap, NoMemory>
     requires rule { IsRule (F.pre rule.now) (F.post rule.now) }
     requires first { first_of front.old.lines.after ≡ Some line }
-    requires y { IsWithinReach level.y }
-    requires x { IsWithinReach (x_on line.line level.y) }
     ensures at { IfOk result (λ right. PassesAlone level.y left.sides line front.old.lines front.new.lines right.sides) }
     ensures after { OnOk result (front.old.lines.after ≡ line ∷ front.new.lines.after) }
     ensures runs { IfOk result (PassesRun (F.post rule.now) level.y left line front.old.lines front.old.ended.items front.new.lines front.new.ended.items) }
@@ -247,8 +251,9 @@ pub(crate) fn pass_line<F: Fn(i128, i128) -> bool>(
         left.sides.above,
         difference(line.windings, left.sides.below)?,
     )?;
-    take_line(front, line, above)?;
+    note_line(front, line, above)?;
     let runs = cross_runs(rule, front, level, left, above)?;
+    pass_one(&mut front.lines, front.opened.as_slice());
     Ok(Gap {
         sides: Sides {
             below: line.windings,

@@ -7,8 +7,7 @@ use Rattle.plane_sweep.proofs.entry.enter_apart.Goals as goal
 pub returns-then-not-inside-clause-enters : goal.returns-then-not-inside-clause-enters
 returns-then-not-inside-clause-enters c =
     let out : c.args.inside ≡ false = search rules in
-    rw c.beyond_of-beyond.ensures (apart_outside c.args.level.y c.args.inside c.args.apart c.args.below c.args.above c.args.lines.now.before
-    c.args.lines.now.after out)
+    rw c.beyond_of-beyond.ensures (apart_outside c.args.level.y c.args.inside c.args.apart c.args.below c.args.above c.args.lines.now.before out)
 
 pub returns-then-not-inside-clause-alike : goal.returns-then-not-inside-clause-alike
 returns-then-not-inside-clause-alike c = alike_self c.args.lines.now.before
@@ -16,8 +15,7 @@ returns-then-not-inside-clause-alike c = alike_self c.args.lines.now.before
 pub returns-in_default-clause-enters : goal.returns-in_default-clause-enters
 returns-in_default-clause-enters c =
     let is : c.args.inside ≡ true = search rules in
-    rw c.beyond_of-beyond.ensures (apart_over c.args.level.y c.args.inside c.args.apart c.args.below c.args.above c.args.lines.now.before
-    c.args.lines.now.after is c.in_default.is)
+    rw c.beyond_of-beyond.ensures (apart_over c.args.level.y c.args.inside c.args.apart c.args.below c.args.above c.args.lines.now.before is c.in_default.is)
 
 pub returns-in_default-clause-alike : goal.returns-in_default-clause-alike
 returns-in_default-clause-alike c = alike_self c.args.lines.now.before
@@ -28,7 +26,6 @@ returns-clause-enters c =
     let is : c.args.inside ≡ true = search rules in
     let again = simp to_z-of_z at c.reopen-was.ensures.some in
     rw c.beyond_of-beyond.ensures (apart_ended c.args.level.y c.args.inside c.args.apart c.args.below c.args.above c.args.lines.now.before
-    c.args.lines.now.after
     c.reopen-was.new.self.before c.in-Some.right c.reopen-was.result is c.in-Some.is again c.reopen-was.ensures.none)
 
 pub returns-clause-alike : goal.returns-clause-alike

@@ -17,11 +17,6 @@ is_before_end-requires-clause-x g c =
     first_passed_within c.args.level.y c.args.end c.args.front.now.lines.after c.loop-level.front.lines.after
     c.in-Some.line c.loop-level.invariant.passed c.requires.within (sym c.in-Some.ensures)
 
-pub pass_line-requires-clause-x : goal.pass_line-requires-clause-x
-pass_line-requires-clause-x g c =
-    first_passed_within c.args.level.y c.args.end c.args.front.now.lines.after c.loop-level.front.lines.after
-    c.in-Some.line c.loop-level.invariant.passed c.requires.within (sym c.in-Some.ensures)
-
 pub loop-level-preserved : goal.loop-level-preserved
 loop-level-preserved g c =
     let l = c.in-Some.line in
