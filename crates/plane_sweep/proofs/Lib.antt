@@ -47,3 +47,6 @@ pub mod RunsFurther
 pub mod CrossPoint
 pub mod WayWith
 pub mod StopWith
+pub mod SweepSteps
+pub mod SweptParts
+pub mod EdgePart

@@ -1,13 +1,12 @@
 -- From one stop to the next: between them the list stays the row list of each row.
-use Rattle.std.proofs.Common.{ℤ, pos, ◌≡◌, ◌+ℤ◌, ◌-ℤ◌, ◌≤ℤ◌, ◌<ℤ◌, ◌⊎◌, inl, inr, Bool, true, false, List, [], ◌∷◌}
-use Rattle.std.proofs.Common.{◌++◌, Option, Some, None, All, arith, refl, ap, sym, subst, ◌∙◌}
+use Rattle.std.proofs.Common.{ℤ, pos, ◌≡◌, ◌-ℤ◌, ◌≤ℤ◌, ◌<ℤ◌, ◌⊎◌, inl, inr, List, [], ◌∷◌}
+use Rattle.std.proofs.Common.{◌++◌, Some, None, All, arith, refl, sym, subst}
 use Rattle.std.specs.Prelude.{IsPermutation}
 use Rattle.std.specs.Int.{int_min}
 use Rattle.std.proofs.lemmas.Int.{ints, clamps}
 use Rattle.std.proofs.lemmas.List.Elements.{All-nil, All-cons, All-head, All-tail, All-append, All-weaker, All-contains}
 use Rattle.std.proofs.lemmas.List.Sorted.{All-permutation, IsPermutation-sym}
 use Rattle.half_grid.specs.Edges.{EdgeParts, IsEdge}
-use Rattle.half_grid.specs.Lines.{x_on}
 use Rattle.half_grid.specs.Reach.{IsWithinReach}
 use Rattle.half_grid.specs.Rows.{place}
 use Rattle.scan_line.proofs.ForCallers.{y_within}
@@ -21,7 +20,7 @@ use Rattle.row_lists.specs.Events.{begin_of, end_of, events_of, ComesBefore, Eve
 use Rattle.row_lists.proofs.ForCallers.{stays_until_stop, none_in_empty_row}
 use Rattle.plane_sweep.specs.declared.next_stop.Stop.{Stop}
 use Rattle.plane_sweep.specs.Bundles.{first_event}
-use Rattle.plane_sweep.specs.Stops.{EventsLeft, IsBelowStop, IsAboveStop}
+use Rattle.plane_sweep.specs.Stops.{IsBelowStop, IsAboveStop}
 use Rattle.plane_sweep.specs.NextStops.{IsStopAt}
 use Rattle.plane_sweep.specs.RowSweeps.{RowSweepState, GoesUp}
 use Rattle.plane_sweep.proofs.SlabRuns.{from_by, below_by}
@@ -36,7 +35,7 @@ some_meeting y0 y (l ∷ m ∷ lines) ascend (inl k) =
     meets_where_it_leans l.line m.line y0 y (All-head (λ n. place l.line y0 <ℤ place n.line y0) m lines ascend.0) k.here k.closing
 some_meeting y0 y (l ∷ m ∷ lines) ascend (inr k) = some_meeting y0 y (m ∷ lines) ascend.1 k
 
-first_left : (P : Event → Type 0) (events : List Event) (e : Event) → All P events → first_event events ≡ Some e → P e
+pub first_left : (P : Event → Type 0) (events : List Event) (e : Event) → All P events → first_event events ≡ Some e → P e
 first_left P [] e h f = absurd (let clash : ⊥ = cc in clash)
 first_left P (d ∷ events) e h f = (let same : d ≡ e = cc in subst P same (All-head P d events h))
 
@@ -69,7 +68,7 @@ y_reach (e ∷ edges) known =
     All-cons (λ (f : Event). IsWithinReach f.y) (begin_of e) (end_of e ∷ events_of edges) first.y0
     (All-cons (λ (f : Event). IsWithinReach f.y) (end_of e) (events_of edges) first.y1 (y_reach edges (All-tail IsEdge e edges known)))
 
-rest_events : (P : Event → Type 0) (xs ys : List Event) → All P (xs ++ ys) → All P ys
+pub rest_events : (P : Event → Type 0) (xs ys : List Event) → All P (xs ++ ys) → All P ys
 rest_events P [] ys h = h
 rest_events P (x ∷ xs) ys h = rest_events P xs ys (All-tail P x (xs ++ ys) h)
 
@@ -89,7 +88,7 @@ module _ (edges : List EdgeParts) (y0 : ℤ) (lines : List ActiveLine) (events :
   from : All (λ e. stop.level.y ≤ℤ e.y) events
   from = from_stop stop.level.y events above.events.ascend is.event
 
-  ends : NoEnds edges y0 (stop.level.y -ℤ pos 1)
+  pub ends : NoEnds edges y0 (stop.level.y -ℤ pos 1)
   ends =
       no_ends y0 (stop.level.y -ℤ pos 1) edges
       (All-permutation (λ (e : Event). IsOutside y0 (stop.level.y -ℤ pos 1) e.y) (above.events.passed ++ events) (events_of edges)
@@ -99,7 +98,7 @@ module _ (edges : List EdgeParts) (y0 : ℤ) (lines : List ActiveLine) (events :
       (All-weaker (λ (e : Event). stop.level.y ≤ℤ e.y) (λ (e : Event). IsOutside y0 (stop.level.y -ℤ pos 1) e.y)
       (λ e le. inr (omega (arith, ints, le))) events from)))
 
-  apart : NoMeetings lines y0 (stop.level.y -ℤ pos 1)
+  pub apart : NoMeetings lines y0 (stop.level.y -ℤ pos 1)
   apart z over up s = (let le = is.meeting z s in absurd (omega (arith, ints, le, up)))
 
   pub is_below : IsBelowStop edges stop.level.y lines events
@@ -144,18 +143,21 @@ none_left : (events : List Event) → first_event events ≡ None → events ≡
 none_left [] h = refl
 none_left (e ∷ events) h = absurd (let clash : ⊥ = cc in clash)
 
-pub stays_above : (edges : List EdgeParts) (y : ℤ) (lines : List ActiveLine) (events : List Event)
-    → IsAboveStop edges y lines events → first_event events ≡ None
-    → ((z : ℤ) → SomeMeeting lines z → ⊥) → (k : ℤ) → y ≤ℤ k → IsRowList edges k lines
-stays_above edges y lines events above none apart k up =
-    stays_until_stop edges y k lines above.list up
-    (no_ends y k edges
+pub none_ends : (edges : List EdgeParts) (y : ℤ) (lines : List ActiveLine) (events : List Event)
+    → IsAboveStop edges y lines events → first_event events ≡ None → (k : ℤ) → NoEnds edges y k
+none_ends edges y lines events above none k =
+    no_ends y k edges
     (All-permutation (λ (e : Event). IsOutside y k e.y) (above.events.passed ++ events) (events_of edges)
     (IsPermutation-sym (events_of edges) (above.events.passed ++ events) above.events.whole)
     (All-append (λ (e : Event). IsOutside y k e.y) above.events.passed events
     (All-weaker (λ (e : Event). e.y ≤ℤ y) (λ (e : Event). IsOutside y k e.y) (λ e le. inl le) above.events.passed above.events.below)
-    (subst (All (λ (e : Event). IsOutside y k e.y)) (sym (none_left events none)) (All-nil (λ (e : Event). IsOutside y k e.y))))))
-    (λ z over le s. apart z s)
+    (subst (All (λ (e : Event). IsOutside y k e.y)) (sym (none_left events none)) (All-nil (λ (e : Event). IsOutside y k e.y)))))
+
+pub stays_above : (edges : List EdgeParts) (y : ℤ) (lines : List ActiveLine) (events : List Event)
+    → IsAboveStop edges y lines events → first_event events ≡ None
+    → ((z : ℤ) → SomeMeeting lines z → ⊥) → (k : ℤ) → y ≤ℤ k → IsRowList edges k lines
+stays_above edges y lines events above none apart k up =
+    stays_until_stop edges y k lines above.list up (none_ends edges y lines events above none k) (λ z over le s. apart z s)
 
 -- ---- below all
 

@@ -1,4 +1,7 @@
 -- ---- what is promised, in reading order
+pub mod SweptLists
+pub mod PlaneSweeps
+pub mod Sweeps
 pub mod Settled
 pub mod StopSettles
 pub mod Stops
@@ -9,7 +12,6 @@ pub mod NextStops
 pub mod StopRuns
 pub mod Points
 pub mod States
-pub mod Sweeps
 pub mod RuleTests
 pub mod Crossings
 pub mod WayRuns

@@ -1,10 +1,10 @@
-//! Small figures, with events and lines by hand, and the laws, called.
+//! Small figures, with events, lines and trapezoids by hand, and the laws, called.
 
-ghost use Rattle.std.specs.Prelude.{◌≡◌, pos, not};
+ghost use Rattle.std.specs.Prelude.{◌≡◌, ◌&&◌, pos, not};
 ghost use Rattle.std.specs.Ordering.{int_eq};
 
-use crate::{EventSource, RowSweep, SortedEvents, settle_laws};
-use half_grid::{Edge, Line, Operand, Trap};
+use crate::{EventSource, RowSweep, SortedEvents, Sweep, settle_laws, swept};
+use half_grid::{Edge, Line, Operand, Trap, Window};
 use scan_line::Rule;
 use std::test::Fail;
 
@@ -56,5 +56,94 @@ fn rows_of_two_bars(rt: HostRuntime) -> Result<(), Fail> {
         assert_eq!(rt; (line.line, line.windings.a), due);
     }
     assert!(rt; lines.take().is_none());
+    Ok(())
+}
+
+#[test]
+fn one_bar(rt: HostRuntime) -> Result<(), Fail> {
+    // the window has a part of the bar's rows, and none of those of the other one
+    let bar = Trap::new(0, 30, Line::Upright(0), Line::Upright(10)).ok_or("no bar")?;
+    let low = Trap::new(0, 8, Line::Upright(20), Line::Upright(30)).ok_or("no bar")?;
+    let edges = vec![in rt.alloc();
+        Edge::left_of(&bar, Operand::A),
+        Edge::right_of(&bar, Operand::A),
+        Edge::left_of(&low, Operand::A),
+        Edge::right_of(&low, Operand::A),
+    ]?;
+    let rule = Rule::new(
+        |a: i128, _b: i128| -> bool
+            ensures { result ≡ not (int_eq a (pos 0)) }
+        { a != 0 },
+    );
+    let rows = Window::new(10, 40).ok_or("no window")?;
+    let mut sweep = Sweep::begin(rt.alloc(), edges, rows, rule)?;
+    let part = Trap::new(10, 30, Line::Upright(0), Line::Upright(10)).ok_or("no part")?;
+    assert_eq!(rt; sweep.next()?, Some(part));
+    assert_eq!(rt; sweep.next()?, None);
+    assert_eq!(rt; sweep.next()?, None);
+    Ok(())
+}
+
+#[test]
+fn one_wedge(rt: HostRuntime) -> Result<(), Fail> {
+    // what is in the bar and not in the wedge: a triangle at its left, and one at its right
+    let bar = Trap::new(0, 8, Line::Upright(0), Line::Upright(20)).ok_or("no bar")?;
+    let wedge = Trap::new(0, 8, Line::Falling(4), Line::Rising(6)).ok_or("no wedge")?;
+    let edges = vec![in rt.alloc();
+        Edge::left_of(&bar, Operand::A),
+        Edge::right_of(&bar, Operand::A),
+        Edge::left_of(&wedge, Operand::B),
+        Edge::right_of(&wedge, Operand::B),
+    ]?;
+    let rule = Rule::new(
+        |a: i128, b: i128| -> bool
+            ensures { result ≡ not (int_eq a (pos 0)) && int_eq b (pos 0) }
+        { a != 0 && b == 0 },
+    );
+    let rows = Window::new(0, 8).ok_or("no window")?;
+    let traps = swept(rt.alloc(), edges, rows, rule)?;
+    let left = Trap::new(0, 8, Line::Upright(0), Line::Falling(4)).ok_or("no piece")?;
+    let right = Trap::new(0, 8, Line::Rising(6), Line::Upright(20)).ok_or("no piece")?;
+    assert_eq!(rt; traps.as_slice(), [left, right].as_slice());
+    Ok(())
+}
+
+#[test]
+fn through_one_point(rt: HostRuntime) -> Result<(), Fail> {
+    // two wedges have their tips at (20, 20), and a bar has its left side there
+    let (rising, falling) = (Line::Rising(0), Line::Falling(20));
+    let (left, right) = (Line::Upright(20), Line::Upright(24));
+    let under = Trap::new(10, 20, rising, falling).ok_or("no wedge")?;
+    let over = Trap::new(20, 30, falling, rising).ok_or("no wedge")?;
+    let bar = Trap::new(14, 26, left, right).ok_or("no bar")?;
+    let edges = vec![in rt.alloc();
+        Edge::left_of(&over, Operand::A),
+        Edge::right_of(&over, Operand::A),
+        Edge::left_of(&under, Operand::A),
+        Edge::right_of(&under, Operand::A),
+        Edge::left_of(&bar, Operand::B),
+        Edge::right_of(&bar, Operand::B),
+    ]?;
+    let rule = Rule::new(
+        |a: i128, b: i128| -> bool
+            ensures { result ≡ not (int_eq a b) }
+        { a != b },
+    );
+    let rows = Window::new(0, 40).ok_or("no window")?;
+    let traps = swept(rt.alloc(), edges, rows, rule)?;
+    let wanted = [
+        Trap::new(10, 14, rising, falling),
+        Trap::new(14, 16, right, falling),
+        Trap::new(14, 20, rising, left),
+        Trap::new(16, 20, falling, right),
+        Trap::new(20, 24, rising, right),
+        Trap::new(20, 26, falling, left),
+        Trap::new(24, 26, right, rising),
+        Trap::new(26, 30, falling, rising),
+    ];
+    assert_eq!(rt; traps.len(), wanted.len());
+    for (trap, due) in traps.iter().zip(wanted.iter()) {
+        assert_eq!(rt; Some(*trap), *due);
+    }
     Ok(())
 }
