@@ -79,8 +79,6 @@ fn one_bar(rt: HostRuntime) -> Result<(), Fail> {
     let mut sweep = Sweep::begin(rt.alloc(), edges, rows, rule)?;
     let part = Trap::new(10, 30, Line::Upright(0), Line::Upright(10)).ok_or("no part")?;
     assert_eq!(rt; sweep.next()?, Some(part));
-    assert_eq!(rt; sweep.next()?, None);
-    assert_eq!(rt; sweep.next()?, None);
     Ok(())
 }
 
