@@ -56,6 +56,12 @@ def polygons(layer, points, times, reached):
     return in_cell("OTHER", first, b"\x15\x00", times, reached)
 
 
+def rows_of_polygons(points, times):
+    """Each a step to the right of the one before: a record of three bytes."""
+    first = b"\x15\x3B" + unsigned(1, 0) + many_points(points) + signed(0, 0)
+    return in_cell("OTHER", b"\x10" + first, b"\x15\x10" + signed(1), times)
+
+
 def paths(layer, points, times, reached):
     first = b"\x16\xFB" + unsigned(layer, 0, 1, 5) + unsigned(0, points) + signed(*[2] * points) + signed(0, 0)
     return in_cell("OTHER", first, b"\x16\x00", times, reached)
@@ -86,7 +92,9 @@ CASES = [
      lambda: placements(moves(100000), 20000, "OTHER")),
     ("a grid of 2^30 places, 1,024 times and once more", True, lambda: counted(unsigned(1, 32766, 32766, 1, 1), 1 << 30, 1025)),
     ("a polygon of 100,000 points on an unwanted pair, 100,000 times", False, lambda: polygons(OTHER, 100000, 100000, True)),
-    ("a polygon of 100,000 points that nothing reaches, 10,000 times", False, lambda: polygons(1, 100000, 10000, False)),
+    ("a polygon of 1,000 points that nothing reaches, 1,000 times", True, lambda: polygons(1, 1000, 1000, False)),
+    ("a polygon of 100,000 points that nothing reaches, 100,000 times", False, lambda: polygons(1, 100000, 100000, False)),
+    ("a polygon of 100,000 points in records of three bytes, 100,000 times", False, lambda: rows_of_polygons(100000, 100000)),
     ("a path of 100,000 points on an unwanted pair, 100,000 times", False, lambda: paths(OTHER, 100000, 100000, True)),
     ("a path of 10,000 points that nothing reaches, 10,000 times", False, lambda: paths(1, 10000, 10000, False)),
 ]

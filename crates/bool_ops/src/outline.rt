@@ -64,6 +64,17 @@ fn window_of(points: &[Point]) -> Window
     }
 }
 
+// The joined list of the tiles in an outline, over all its rows, by the nonzero rule.
+fn pieces_in(alloc: Global, points: &[Point]) -> Result<Vec<Trap>, NoMemory>
+    requires closed { IsClosed points.now }
+    requires grid { HasGridEdges points.now }
+    requires reach { All IsPointWithinReach points.now }
+    ensures { IfOk result (λ traps. ArePieces points.now traps.items) }
+{
+    let edges = gather(alloc, EdgesOf::new(points, Operand::A))?;
+    unite(alloc, edges, window_of(points))
+}
+
 /// The joined list of the tiles in a shape's outline as it is drawn, moved by none of its offsets, over all its rows, by
 /// the nonzero rule. The outline is closed, on the half grid and within reach. Want of memory is the only refusal.
 pub fn pieces(alloc: Global, shape: &Shape) -> Result<Vec<Trap>, NoMemory>
@@ -72,7 +83,9 @@ pub fn pieces(alloc: Global, shape: &Shape) -> Result<Vec<Trap>, NoMemory>
     requires reach { All IsPointWithinReach shape.now.points }
     ensures { IfOk result (λ traps. ArePieces shape.now.points traps.items) }
 {
-    let points = shape.points.as_slice();
-    let edges = gather(alloc, EdgesOf::new(points, Operand::A))?;
-    unite(alloc, edges, window_of(points))
+    if let Some(points) = shape.points.as_slice() {
+        return pieces_in(alloc, points);
+    }
+    let points = shape.points.to_vec(alloc)?;
+    pieces_in(alloc, points.as_slice())
 }

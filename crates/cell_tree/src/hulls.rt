@@ -16,7 +16,7 @@ use crate::boxes::{joined, moved, oriented, summed};
 use crate::linked::Linked;
 use geo_stream::NoMemory;
 use half_grid::Frame;
-use layout_model::{Orient, Pair, Placement, Shape, box_of};
+use layout_model::{Orient, Pair, Placement, Shape};
 use std::alloc::Global;
 
 /// A pair, and the least box of what is on it.
@@ -129,7 +129,9 @@ fn shape_hull(shape: &Shape) -> Frame
     requires { IsShapeOnGrid shape.now }
     ensures { IsLeastBox (ShapeVertex shape.now) result }
 {
-    summed(box_of(shape.points.as_slice()), shape.offsets.hull())
+    let outline = shape.points.hull();
+    let moves = shape.offsets.hull();
+    summed(outline, moves)
 }
 
 // The boxes of shapes.

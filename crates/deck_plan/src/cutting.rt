@@ -1,5 +1,5 @@
 //! The pieces of a layout's shapes.
-ghost use Rattle.std.specs.Prelude.{◌≡◌, ◌<◌, ◌≤◌, ◌+◌, ℕ, length, slice_get, Some, All, IfOk, OnOk};
+ghost use Rattle.std.specs.Prelude.{◌≡◌, ◌<◌, ◌≤◌, ◌+◌, ℕ, [], ◌∷◌, length, slice_get, Some, All, IfOk, IfSome, OnOk};
 ghost use Rattle.layout_model.specs.Layouts.{IsCellOnGrid, IsShapeOnGrid};
 ghost use Rattle.bool_ops.specs.Operations.{ArePieces};
 ghost use Rattle.cell_tree.specs.Cells.{shapes_at};
@@ -39,6 +39,18 @@ fn shape_at(shapes: &[Shape], number: usize) -> &Shape
     &shapes[number]
 }
 
+// The one piece of a shape that is a rectangle or a trapezoid and has its points in place.
+#[inline]
+fn lone_piece_of(shape: &Shape) -> Option<Trap>
+    requires { IsShapeOnGrid shape.now }
+    ensures { IfSome result (λ trap. CoversExactly (trap ∷ []) (IsInPolygon shape.now.points)) }
+{
+    match shape.points.as_slice() {
+        Some(points) => lone_piece(points),
+        None => None,
+    }
+}
+
 // Puts the pieces of one shape. A rectangle needs no sweep and no memory for a list.
 fn cut_shape(
     alloc: Global,
@@ -51,7 +63,7 @@ fn cut_shape(
     requires place { HasShape parts.old cell number }
     ensures { OnOk result (IsPutFor shape.now parts.old cell number parts.new) }
 {
-    if let Some(trap) = lone_piece(shape.points.as_slice()) {
+    if let Some(trap) = lone_piece_of(shape) {
         return parts.put(cell, number, &[trap]);
     }
     let traps = pieces_of(alloc, shape)?;

@@ -14,6 +14,7 @@ mod NearLemmas
 mod SegmentLemmas
 mod CornerLemmas
 mod HullLemmas
+mod PointLemmas
 mod StrideLemmas
 mod RulerLemmas
 mod PairLemmas

@@ -15,5 +15,6 @@ pub mod PathLaws
 pub mod Layouts
 pub mod Counting
 -- ---- what is kept inside
+pub mod Points
 pub mod Strides
 pub mod Walks

@@ -68,6 +68,16 @@ fn first_slant(points: &[Point]) -> Option<usize>
     None
 }
 
+/// Whether each edge of a list of points is level, upright or goes up or down by 45 degrees, on the half grid.
+pub fn has_grid_edges(points: &[Point]) -> bool
+    ensures { IsTrue result ↔ HasGridEdges points.now }
+{
+    if let Some(_slant) = first_slant(points) {
+        return false;
+    }
+    true
+}
+
 impl Shape {
     /// The shape of this outline, which may be enlarged. A shape of up to eight points takes no memory. The list isn't
     /// empty, its last point is its first, and all points are within reach.

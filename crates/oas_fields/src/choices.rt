@@ -8,7 +8,7 @@ ghost use Rattle.oas_record.specs.Plain.{rectangle_of};
 use crate::extension::Extension;
 use crate::written::Written;
 use oas_record::{Called, Deltas, PlainRectangle, Rep};
-use oas_shapes::Repetition;
+use oas_shapes::{PointList, Repetition};
 
 #[inline(always)]
 pub(crate) fn number_or(written: Option<u64>, before: Option<u64>) -> Option<u64>
@@ -88,12 +88,32 @@ pub(crate) fn length_of(half_width: Option<u64>, written: Option<Extension>) -> 
     }
 }
 
-/// Keeps a point list where one is written.
+/// Keeps the point list of a path where one is written.
 pub(crate) fn keep_points(kept: &mut Option<Deltas>, written: Option<Deltas>)
     ensures { kept.new ≡ or_else written kept.old }
 {
     match written {
         Some(points) => *kept = Some(points),
+        None => {}
+    }
+}
+
+// A written point list as one that polygons may use again.
+fn points_again(written: Option<Deltas>) -> Option<PointList>
+    ensures { result ≡ written }
+{
+    match written {
+        Some(points) => Some(PointList::new(points)),
+        None => None,
+    }
+}
+
+/// Keeps the point list of a polygon where one is written.
+pub(crate) fn keep_polygon_points(kept: &mut Option<PointList>, written: Option<Deltas>)
+    ensures { kept.new ≡ or_else written kept.old }
+{
+    match &written {
+        Some(_) => *kept = points_again(written),
         None => {}
     }
 }

@@ -7,13 +7,13 @@ ghost use Rattle.oas_record.specs.Plain.{rectangle_of};
 ghost use Rattle.oas_record.specs.declared.records.OasRecord.{OasRecord as ARecord};
 
 use crate::choices::{
-    cell_or, height_by, keep_points, keep_repetition, length_of, length_or, mode_or, number_or,
-    square_height,
+    cell_or, height_by, keep_points, keep_polygon_points, keep_repetition, length_of, length_or,
+    mode_or, number_or, square_height,
 };
 use crate::places::{Place, Step, moved};
 use crate::written::Written;
 use oas_record::{Called, Deltas, Lists, OasRecord, PlainRectangle};
-use oas_shapes::Repetition;
+use oas_shapes::{PointList, Repetition};
 
 /// The values that the fields of the last record have, written or not: of each modal variable the value that was written
 /// last in the same cell, None where none was, and the positions. Lengths are in grid steps.
@@ -30,7 +30,7 @@ pub struct Fields {
     /// Their height.
     pub height: Option<u64>,
     /// The point list of a polygon.
-    pub polygon_points: Option<Deltas>,
+    pub polygon_points: Option<PointList>,
     /// The half width of a path.
     pub half_width: Option<u64>,
     /// How far a path goes beyond its first point.
@@ -153,7 +153,7 @@ impl Fields {
             path_points,
             repetition,
         } = lists;
-        keep_points(&mut self.polygon_points, polygon_points);
+        keep_polygon_points(&mut self.polygon_points, polygon_points);
         keep_points(&mut self.path_points, path_points);
         keep_repetition(&mut self.repetition, repetition);
     }

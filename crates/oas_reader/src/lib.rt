@@ -14,6 +14,7 @@ mod order;
 mod placing;
 mod reading;
 mod refusing;
+mod reusing;
 mod rules;
 mod taking;
 mod undefined;

@@ -32,6 +32,7 @@ use crate::ids::id_of;
 use crate::naming::Names;
 use crate::order::Place;
 use crate::refusing::OasBad;
+use crate::reusing::{make_outline, uses_points_again};
 use crate::taking::take_names;
 use crate::values::take_values;
 use layout_model::{Counts, Layout, NO_COUNTS, Pair, sorted_pairs};
@@ -168,8 +169,16 @@ fn make_places(alloc: Global, fields: &mut Fields, again: bool)
     }
 }
 
-// Takes the record into the fields. The places of a repetition that is used again are made, once.
-fn take_fields(alloc: Global, bytes: &[u8], fields: &mut Fields, current: OasRecord)
+// Takes the record into the fields. The places of a repetition and the outline of a point list that are used again are
+// made, once.
+fn take_fields(
+    alloc: Global,
+    bytes: &[u8],
+    sorted: &[Pair],
+    fields: &mut Fields,
+    current: OasRecord,
+)
+    requires sorted { AreSorted sorted.now }
     requires near { ArePlacesWithin (2 ^ 100) fields.old }
     requires some { HaveRecords fields.old }
     requires cell { AreCalledWithin bytes.now fields.old.cell }
@@ -178,8 +187,10 @@ fn take_fields(alloc: Global, bytes: &[u8], fields: &mut Fields, current: OasRec
     ensures cell { AreCalledWithin bytes.now fields.new.cell }
 {
     let again = repeats_again(&current);
+    let same_points = uses_points_again(&current);
     fields.take(current);
     make_places(alloc, fields, again);
+    make_outline(alloc, sorted, fields, same_points);
 }
 
 // Takes a rectangle into the fields.
@@ -305,7 +316,7 @@ impl<'a> Reader<'a> {
             return Err(OasBad::Order(at));
         };
         let outline = outline_of(&current);
-        take_fields(alloc, bytes, &mut self.fields, current);
+        take_fields(alloc, bytes, sorted, &mut self.fields, current);
         match self.take_body(alloc, bytes, sorted, outline, at) {
             Ok(()) => {}
             Err(bad) => return Err(bad),

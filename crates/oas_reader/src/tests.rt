@@ -92,7 +92,7 @@ fn are_drawn(alloc: Global, records: &[u8], wanted: &[Seen]) -> Result<bool, Fai
         return Ok(false);
     }
     for k in 0..shapes.len() {
-        let points = shapes[k].points.as_slice();
+        let points = shapes[k].points.as_slice().unwrap_or(&[]);
         if points.len() < 3 {
             return Ok(false);
         }

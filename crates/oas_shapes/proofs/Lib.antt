@@ -6,3 +6,4 @@ mod ShapeLemmas
 mod VertexLemmas
 mod ArmLemmas
 mod EdgeLemmas
+mod MoveLemmas

@@ -1,5 +1,5 @@
 -- Which rule is the lowest that a shape breaks.
-use Rattle.std.proofs.Common.{ℕ}
+use Rattle.std.proofs.Common.{ℕ, refl, arith}
 use Rattle.std.specs.Prelude.{Option}
 use Rattle.half_grid.specs.declared.plane.Point.{Point}
 use Rattle.oas_record.specs.declared.fields.Deltas.{Deltas}
@@ -41,6 +41,16 @@ pub polygon_lowest : (at : Point) (deltas : Deltas) (rep : Option Rep) → AreNe
 polygon_lowest at deltas rep near rule low = record {
   broken = λ kept. low.broken (keeps_polygon at deltas rep rule kept);
   lower = λ other less. polygon_keeps at deltas rep near other (low.lower other less);
+}
+
+pub polygon_far : (at : Point) (deltas : Deltas) (rep : Option Rep) → ¬ AreNear (polygon_outline at deltas) → IsLowest (KeepsPolygon at deltas rep) 1
+polygon_far at deltas rep far = record {
+  broken = λ kept. far (kept.near refl).0;
+  lower = λ other less. record {
+    near = λ e. absurd (omega (arith, less, e));
+    edges = λ e. absurd (omega (arith, less, e));
+    dimension = λ e. absurd (omega (arith, less, e));
+  };
 }
 
 -- ---- paths

@@ -7,6 +7,7 @@ pub mod Outlines
 pub mod Rules
 pub mod Short
 pub mod Sharing
+pub mod Moves
 -- ---- what is kept inside
 pub mod Ways
 pub mod Sketches

@@ -12,13 +12,14 @@ ghost use Rattle.oas_shapes.specs.declared.drawing.Undrawn.TheVariants.{Rule, No
 use crate::corners::{Outline, is_sized, outline_at};
 use crate::figures::{Brush, Figure};
 use crate::lists::{path_points, polygon_outline};
+use crate::outlines::PointList;
 use crate::paths::add_path;
 use crate::repetitions::{alone, offsets_in};
 use crate::sharing::Repetition;
 use crate::trails::Unplaced;
 use geo_stream::List;
 use half_grid::Point;
-use layout_model::{Offsets, Pair, Shape, ShapeBad};
+use layout_model::{Offsets, Pair, Points, Shape, ShapeBad};
 use oas_record::Deltas;
 use std::alloc::Global;
 
@@ -194,9 +195,8 @@ pub fn draw_figure(
     }
 }
 
-/// Adds the shape of a POLYGON at this position, repeated so. A rule that it breaks is told even where memory is wanting,
-/// unless its outline or the repetition has more than twelve places.
-pub fn draw_polygon(
+// Adds the shape of a polygon at this position, repeated so, with points of its own.
+fn draw_written(
     alloc: Global,
     pair: Pair,
     at: Point,
@@ -214,6 +214,89 @@ pub fn draw_polygon(
 {
     match polygon_outline(alloc, at, points) {
         Ok(outline) => add(alloc, pair, outline.as_slice(), repetition, shapes),
+        Err(Unplaced::Far) => Err(Undrawn::Rule(1)),
+        Err(_) => Err(Undrawn::NoMemory),
+    }
+}
+
+// The shape of an outline that keeps the rules, repeated so.
+fn repeated_made(
+    alloc: Global,
+    pair: Pair,
+    outline: Points,
+    repetition: Option<&Repetition>,
+) -> Result<Shape, Undrawn>
+    requires closed { IsClosed outline }
+    requires near { AreNear outline }
+    requires edges { HasGridEdges outline }
+    ensures shape { IfOk result (λ shape. shape ≡ outline_shape pair outline (all_offsets (option_copied repetition.entry))) }
+    ensures grid { IfOk result IsShapeOnGrid }
+    ensures kept { IfOk result (λ _. (rule : ℕ) → KeepsShape outline (option_copied repetition.entry) rule) }
+    ensures broken { (rule : ℕ) → result ≡ Err (Rule rule) → IsLowest (KeepsShape outline (option_copied repetition.entry)) rule }
+{
+    match offsets_in(alloc, repetition) {
+        Ok(offsets) => Ok(Shape {
+            pair,
+            points: outline,
+            offsets,
+            fixed: false,
+        }),
+        Err(Unplaced::Far) => Err(Undrawn::Rule(1)),
+        Err(Unplaced::Many) => Err(Undrawn::Rule(11)),
+        Err(Unplaced::Unkept) => Err(Undrawn::NoMemory),
+        Err(Unplaced::NoMemory) => Err(Undrawn::NoMemory),
+    }
+}
+
+// Adds it to the shapes.
+fn add_made(
+    alloc: Global,
+    pair: Pair,
+    outline: Points,
+    repetition: Option<&Repetition>,
+    shapes: &mut List<Shape>,
+) -> Result<(), Undrawn>
+    requires closed { IsClosed outline }
+    requires near { AreNear outline }
+    requires edges { HasGridEdges outline }
+    ensures shapes { OnOk result (shapes.new ≡ shapes.old ++ outline_shape pair outline (all_offsets (option_copied repetition.entry)) ∷ []) }
+    ensures grid { All IsShapeOnGrid shapes.old → OnOk result (All IsShapeOnGrid shapes.new) }
+    ensures kept { OnOk result ((rule : ℕ) → KeepsShape outline (option_copied repetition.entry) rule) }
+    ensures broken { (rule : ℕ) → result ≡ Err (Rule rule) → IsLowest (KeepsShape outline (option_copied repetition.entry)) rule }
+{
+    match repeated_made(alloc, pair, outline, repetition) {
+        Ok(shape) => match shapes.push(shape) {
+            Ok(()) => Ok(()),
+            Err(_) => Err(Undrawn::NoMemory),
+        },
+        Err(bad) => Err(bad),
+    }
+}
+
+/// Adds the shape of a POLYGON at this position, repeated so. Where the outline of its list was made, it shares the points,
+/// and takes no longer than its repetition. A rule that it breaks is told even where memory is wanting, unless its outline
+/// or the repetition has more than twelve places.
+pub fn draw_polygon(
+    alloc: Global,
+    pair: Pair,
+    at: Point,
+    points: &PointList,
+    repetition: Option<&Repetition>,
+    shapes: &mut List<Shape>,
+) -> Result<(), Undrawn>
+    requires at { IsWithin (2 ^ 40) at }
+    ensures shapes { OnOk result (shapes.new ≡ shapes.old ++ outline_shape pair (the_polygon_outline at points.now) (all_offsets (option_copied repetition.entry)) ∷ []) }
+    ensures grid { All IsShapeOnGrid shapes.old → OnOk result (All IsShapeOnGrid shapes.new) }
+    ensures kept { OnOk result ((rule : ℕ) → KeepsPolygon at points.now (option_copied repetition.entry) rule) }
+    ensures broken { (rule : ℕ) → result ≡ Err (Rule rule) → IsLowest (KeepsPolygon at points.now (option_copied repetition.entry)) rule }
+    ensures memory { HasFewVertices points.now → IsShortIn (option_copied repetition.entry) → result ≡ Err Wanting
+        → (rule : ℕ) → KeepsPolygon at points.now (option_copied repetition.entry) rule }
+{
+    let Some(made) = points.made() else {
+        return draw_written(alloc, pair, at, points.written(), repetition, shapes);
+    };
+    match made.at(at) {
+        Ok(outline) => add_made(alloc, pair, outline, repetition, shapes),
         Err(Unplaced::Far) => Err(Undrawn::Rule(1)),
         Err(_) => Err(Undrawn::NoMemory),
     }

@@ -7,6 +7,7 @@ mod drawing;
 mod figures;
 mod lattices;
 mod lists;
+mod outlines;
 mod paths;
 mod repetitions;
 mod sharing;
@@ -18,6 +19,7 @@ mod wide;
 
 pub use drawing::{Undrawn, draw_figure, draw_path, draw_polygon};
 pub use figures::{Brush, Figure};
+pub use outlines::PointList;
 pub use repetitions::{dimensions_are_allowed, offsets_of};
 pub use sharing::Repetition;
 pub use tables::{uses_height, uses_width};

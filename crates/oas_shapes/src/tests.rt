@@ -1,6 +1,6 @@
 //! Outlines, places and offsets by hand, and the rules.
 use crate::{
-    Brush, Figure, Repetition, Undrawn, dimensions_are_allowed, draw_figure, draw_path,
+    Brush, Figure, PointList, Repetition, Undrawn, dimensions_are_allowed, draw_figure, draw_path,
     draw_polygon, offsets_of,
 };
 use geo_stream::{List, NoMemory};
@@ -92,7 +92,10 @@ fn are_same(points: &[Point], wanted: &[(i64, i64)]) -> bool {
 // Whether the shapes are one with this outline.
 fn is_one(shapes: &List<Shape>, outline: &[(i64, i64)]) -> bool {
     match shapes.as_slice() {
-        [shape] => are_same(shape.points.as_slice(), outline),
+        [shape] => match shape.points.as_slice() {
+            Some(points) => are_same(points, outline),
+            None => false,
+        },
         _ => false,
     }
 }
@@ -220,7 +223,7 @@ fn is_polygon(alloc: Global, kind: u8, ways: &[(i64, i64)], outline: &[(i64, i64
     let Ok(items) = moves(alloc, ways) else {
         return false;
     };
-    let points = Deltas { kind, items };
+    let points = PointList::new(Deltas { kind, items });
     let mut shapes = List::new(alloc);
     match draw_polygon(
         alloc,
@@ -247,6 +250,67 @@ fn are_polygons(alloc: Global, rows: &[(u8, &[(i64, i64)], &[(i64, i64)])]) -> b
 #[test]
 fn polygons_of_each_kind(rt: HostRuntime) {
     assert!(rt; are_polygons(rt.alloc(), &POLYGONS));
+}
+
+// The list of a tower of 5 by this height, a vertex at each step on its left side.
+fn tower(alloc: Global, height: usize) -> Result<PointList, NoMemory> {
+    let mut items = Vec::new(alloc);
+    for _step in 0..height {
+        items.push(Point { x: 0, y: 1 })?;
+    }
+    items.push(Point { x: 5, y: 0 })?;
+    items.push(Point {
+        x: 0,
+        y: -(height as i64),
+    })?;
+    Ok(PointList::new(Deltas { kind: 2, items }))
+}
+
+// Whether this is the outline of the tower from this place in half units.
+fn is_tower(points: &[Point], height: usize, x: i64, y: i64) -> bool {
+    if points.len() != height + 4 {
+        return false;
+    }
+    for (k, point) in points.iter().enumerate() {
+        let (across, upward) = match k - k.min(height) {
+            0 => (0, 2 * k as i64),
+            1 => (10, 2 * height as i64),
+            2 => (10, 0),
+            _ => (0, 0),
+        };
+        if point.x - x != across || point.y - y != upward {
+            return false;
+        }
+    }
+    true
+}
+
+// The outlines of a tower whose list was made at one place and is used at this and at another.
+fn are_towers(alloc: Global, height: usize) -> Result<bool, NoMemory> {
+    let mut points = tower(alloc, height)?;
+    let (here, there) = (Point { x: 1, y: 2 }, Point { x: -30, y: 7 });
+    points.make_outline(alloc, here);
+    let mut shapes = List::new(alloc);
+    for at in [here, there] {
+        if draw_polygon(alloc, PAIR, at, &points, None, &mut shapes).is_err() {
+            return Ok(false);
+        }
+    }
+    let [first, second] = shapes.as_slice() else {
+        return Ok(false);
+    };
+    let first = first.points.to_vec(alloc)?;
+    let second = second.points.to_vec(alloc)?;
+    Ok(is_tower(first.as_slice(), height, 2, 4) && is_tower(second.as_slice(), height, -60, 14))
+}
+
+// Outlines of 8, 9, 11, 12 and 8,191 points; those from 12 on are shared.
+#[test]
+fn lists_that_polygons_use_again(rt: HostRuntime) -> Result<(), Fail> {
+    for height in [4, 5, 7, 8, 8187] {
+        assert!(rt; are_towers(rt.alloc(), height)?);
+    }
+    Ok(())
 }
 
 // The repetition of this kind: two dimensions, two spaces, a grid, spaces and moves.
