@@ -13,7 +13,7 @@ use Rattle.trap_join.specs.Joins.{IsTakenIn}
 use Rattle.column_sweep.specs.Operands.{WindsByCount}
 use Rattle.column_sweep.specs.Sweeps.{IsSwept}
 use Rattle.bool_ops.specs.declared.operations.Op.{Op}
-use Rattle.bool_ops.specs.Operations.{has_tile, takes, IsInResult, IsLeftIn, IsWoundIn, IsJoinedOf}
+use Rattle.bool_ops.specs.Operations.{has_tile, takes, is_wound, IsInResult, IsLeftIn, IsWoundBy, IsWoundIn, IsJoinedOf}
 
 -- a list has an item that passes a test exactly where the number of these isn't 0
 any_by_count : {X : Type 0} (p : X → Bool) (xs : List X) → not (int_eq (pos (count_by p xs)) (pos 0)) ≡ list_any p xs
@@ -23,30 +23,40 @@ any_by_count p (x ∷ xs) = rw (count_by-cons p x xs) (grind (arith, any_by_coun
 pub has_by_winding : (traps : List Trapezoid) (t : Tile) (w : ℤ) → w ≡ pos (count_in traps t) → not (int_eq w (pos 0)) ≡ has_tile traps t
 has_by_winding traps t w e = rw e (any_by_count (trapezoid_has t) traps)
 
--- what a sweep by the operation gives is the joined list of its result
-pub swept_result : (op : Op) (a b : List Trapezoid) (window : RowRange) (post : ℤ → ℤ → Bool → Type 0)
+-- what a sweep by the operation gives, by windings
+pub swept_wound : (op : Op) (window : RowRange) (post : ℤ → ℤ → Bool → Type 0)
     → ((x y : ℤ) (r : Bool) → post x y r → r ≡ takes op (not (int_eq x (pos 0))) (not (int_eq y (pos 0))))
     → ((x y : ℤ) → post x y (takes op (not (int_eq x (pos 0))) (not (int_eq y (pos 0)))))
-    → (edges : List EdgeParts) → WindsByCount A edges a window → WindsByCount B edges b window
-    → (traps : List Trapezoid) → IsSwept post edges window traps → IsJoinedOf window (IsInResult op a b window) traps
-swept_result op a b window post only allowed edges first second traps swept =
-    let answer : (t : Tile) → window.y0 ≤ℤ t.j → t.j <ℤ window.y1
-    → takes op (not (int_eq (edges_winding A edges t) (pos 0)))
-    (not (int_eq (edges_winding B edges t) (pos 0))) ≡ takes op (has_tile a t) (has_tile b t) = λ t low high.
-    rw (has_by_winding a t (edges_winding A edges t) (first t low high), has_by_winding b t (edges_winding B edges t) (second t low high)) refl in
-    let to : (t : Tile) → IsTakenIn post edges window t → IsInResult op a b window t = λ t h. record {
+    → (edges : List EdgeParts) (traps : List Trapezoid) → IsSwept post edges window traps → IsJoinedOf window (IsWoundBy op edges window) traps
+swept_wound op window post only allowed edges traps swept =
+    let to : (t : Tile) → IsTakenIn post edges window t → IsWoundBy op edges window t = λ t h. record {
       rows = record { from = h.from; below = h.below };
-      taken = sym (only _ _ true h.taken ∙ answer t h.from h.below);
+      taken = sym (only _ _ true h.taken);
     } in
-    let back : (t : Tile) → IsInResult op a b window t → IsTakenIn post edges window t = λ t h. record {
+    let back : (t : Tile) → IsWoundBy op edges window t → IsTakenIn post edges window t = λ t h. record {
       from = h.rows.from;
       below = h.rows.below;
       taken = subst (λ r. post (edges_winding A edges t) (edges_winding B edges t) r)
-          (answer t h.rows.from h.rows.below ∙ h.taken) (allowed (edges_winding A edges t) (edges_winding B edges t));
+          h.taken (allowed (edges_winding A edges t) (edges_winding B edges t));
     } in
     record {
       joined = swept.joined;
       covers = record { once = λ t h. swept.covers.once t (back t h); never = λ t h. swept.covers.never t (λ taken. h (to t taken)) };
+    }
+
+-- of edges that wind by the counts of two lists it is the joined list of the operation's result
+pub wound_result : (op : Op) (a b : List Trapezoid) (window : RowRange) (edges : List EdgeParts)
+    → WindsByCount A edges a window → WindsByCount B edges b window
+    → (traps : List Trapezoid) → IsJoinedOf window (IsWoundBy op edges window) traps → IsJoinedOf window (IsInResult op a b window) traps
+wound_result op a b window edges first second traps joined =
+    let same : (t : Tile) → window.y0 ≤ℤ t.j → t.j <ℤ window.y1 → takes op (is_wound A edges t) (is_wound B edges t) ≡ takes op (has_tile a t) (has_tile b t) =
+    λ t low high. rw (has_by_winding a t (edges_winding A edges t) (first t low high), has_by_winding b t (edges_winding B edges t) (second t low high)) refl in
+    record {
+      joined = joined.joined;
+      covers = record {
+        once = λ t h. joined.covers.once t (record { rows = h.rows; taken = same t h.rows.from h.rows.below ∙ h.taken });
+        never = λ t h. joined.covers.never t (λ wound. h (record { rows = wound.rows; taken = sym (same t wound.rows.from wound.rows.below) ∙ wound.taken }));
+      };
     }
 
 -- a number that isn't 0, by the test

@@ -3,7 +3,9 @@
 -- Or has the tiles of A or B, And those of both, Sub those of A that aren't in B, Xor those of just one of them.
 use Rattle.std.specs.Prelude.{All, Any, ◌≡◌, pos, ◌≢◌, ◌≤ℤ◌, ◌<ℤ◌, ◌&&◌, ◌||◌, not, Bool, IsTrue, List}
 use Rattle.std.specs.List.{list_any}
+use Rattle.std.specs.Ordering.{int_eq}
 use Rattle.half_grid.specs.Edges.{EdgeParts, edges_winding}
+use Rattle.half_grid.specs.declared.border.Operand.{Operand}
 use Rattle.half_grid.specs.declared.border.Operand.TheVariants.{A, B}
 use Rattle.half_grid.specs.JoinedLists.{IsJoined}
 use Rattle.half_grid.specs.Trapezoids.{Trapezoid, CoversExactly, trapezoid_has}
@@ -33,6 +35,15 @@ pub record IsInRows (window : RowRange) (t : Tile) : Type 0 where
 pub record IsInResult (op : Op) (a b : List Trapezoid) (window : RowRange) (t : Tile) : Type 0 where
   pub rows : IsInRows window t
   pub taken : IsTrue (takes op (has_tile a t) (has_tile b t))
+
+-- whether the winding of the operand isn't 0
+abbrev pub is_wound : Operand → List EdgeParts → Tile → Bool
+is_wound o edges t = not (int_eq (edges_winding o edges t) (pos 0))
+
+-- the tile is in the window's rows, and the operation takes it, by which operands' windings there aren't 0
+pub record IsWoundBy (op : Op) (edges : List EdgeParts) (window : RowRange) (t : Tile) : Type 0 where
+  pub rows : IsInRows window t
+  pub taken : IsTrue (takes op (is_wound A edges t) (is_wound B edges t))
 
 -- the tile is in the window's rows, and the winding of operand A there isn't 0
 pub record IsWoundIn (edges : List EdgeParts) (window : RowRange) (t : Tile) : Type 0 where

@@ -11,6 +11,6 @@ mod tests;
 mod unions;
 
 pub use lone::lone_piece;
-pub use operations::{Op, combine};
+pub use operations::{Op, combine, combine_edges};
 pub use outline::pieces;
 pub use unions::{left_over, unite};

@@ -1,10 +1,11 @@
-ghost use Rattle.std.specs.Prelude.{IfOk, ◌≡◌, ◌≢◌, ℤ, pos, not};
+ghost use Rattle.std.specs.Prelude.{IfOk, ◌≡◌, pos, not};
 ghost use Rattle.std.specs.Ordering.{int_eq};
-ghost use Rattle.bool_ops.specs.Operations.{IsJoinedOf, IsInResult, takes};
+ghost use Rattle.bool_ops.specs.Operations.{IsJoinedOf, IsInResult, IsWoundBy, takes};
+ghost use Rattle.scan_line.specs.Runs.{IsBalanced};
 
 use column_sweep::{operand_edges, swept};
 use geo_stream::NoMemory;
-use half_grid::{Trap, Window};
+use half_grid::{Edge, Trap, Window};
 use scan_line::Rule;
 use std::alloc::Global;
 
@@ -47,6 +48,21 @@ pub fn combine(
     ensures { IfOk result (λ traps. IsJoinedOf window (IsInResult op a.now b.now window) traps.items) }
 {
     let edges = operand_edges(alloc, a, b, window)?;
+    combine_edges(alloc, op, edges, window)
+}
+
+/// The joined list of the window's tiles that the operation takes: by whether the winding of operand A isn't 0 at a tile,
+/// and whether that of operand B isn't. Want of memory is the only refusal. In each row of the window each operand has as
+/// many edges that go up as edges that go down.
+pub fn combine_edges(
+    alloc: Global,
+    op: Op,
+    edges: Vec<Edge>,
+    window: Window,
+) -> Result<Vec<Trap>, NoMemory>
+    requires { IsBalanced edges.items window }
+    ensures { IfOk result (λ traps. IsJoinedOf window (IsWoundBy op edges.items window) traps.items) }
+{
     let asked = move |first: i128, second: i128| -> bool
         ensures { result ≡ takes op (not (int_eq first (pos 0))) (not (int_eq second (pos 0))) }
     { op.takes(first != 0, second != 0) };
