@@ -1,3 +1,5 @@
 mod TakingLemmas
 mod RowsLemmas
 mod LoneLemmas
+mod AscentLemmas
+mod ClimbLemmas

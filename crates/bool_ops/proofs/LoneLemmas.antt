@@ -16,13 +16,13 @@ use Rattle.bool_ops.specs.Lone.{HasSides, IsSlabOf, IsBetween}
 use Rattle.bool_ops.specs.declared.lone.Sides.{Sides}
 use Rattle.bool_ops.specs.declared.lone.Slab.{Slab}
 
-no_row : (t : Tile) (y : ℤ) → (int_le y t.j && int_lt t.j y) ≡ false
+pub no_row : (t : Tile) (y : ℤ) → (int_le y t.j && int_lt t.j y) ≡ false
 no_row t y = grind (arith, ints)
 
 no_rows : (t : Tile) (y0 y1 : ℤ) → y0 <ℤ y1 → (int_le y1 t.j && int_lt t.j y0) ≡ false
 no_rows t y0 y1 h = grind (arith, ints)
 
-level : (t : Tile) (a b : Point) → a.y ≡ b.y → crossing_of t a b ≡ pos 0
+pub level : (t : Tile) (a b : Point) → a.y ≡ b.y → crossing_of t a b ≡ pos 0
 level t a b e = crossing_none t a b (rw (← e) (no_row t a.y)) (rw (← e) (no_row t a.y))
 
 -- ---- the sides
@@ -44,11 +44,11 @@ module _ (a b c d e : Point) (closed : IsClosed (a ∷ b ∷ c ∷ d ∷ e ∷ [
 abbrev pub is_beyond : Tile → Line → ℤ → ℤ → Bool
 is_beyond t line y0 y1 = (int_le y0 t.j && int_lt t.j y1) && int_le (first_strip line) (strip_along line t)
 
-side_up : (t : Tile) (a b : Point) (line : Line) → line_of a b ≡ Some line → a.y <ℤ b.y
+pub side_up : (t : Tile) (a b : Point) (line : Line) → line_of a b ≡ Some line → a.y <ℤ b.y
     → crossing_of t a b ≡ pos (count_one (is_beyond t line a.y b.y))
 side_up t a b line e h = rw (e, no_rows t a.y b.y h) (omega (arith, ints))
 
-side_down : (t : Tile) (a b : Point) (line : Line) → line_of a b ≡ Some line → b.y <ℤ a.y
+pub side_down : (t : Tile) (a b : Point) (line : Line) → line_of a b ≡ Some line → b.y <ℤ a.y
     → crossing_of t a b ≡ neg_ℤ (pos (count_one (is_beyond t line b.y a.y)))
 side_down t a b line e h = rw (e, no_rows t b.y a.y h) (omega (arith, ints))
 
@@ -96,18 +96,18 @@ ring_turned : (slab : Slab) (t : Tile) → slab.y0 <ℤ slab.y1
     → winding (ring_of (corners_of (trapezoid slab.y0 slab.y1 slab.second slab.first))) t ≡ neg_ℤ (between t slab)
 ring_turned slab t rows = let w = ring_winding (trapezoid slab.y0 slab.y1 slab.second slab.first) t rows in omega (arith, ints, w)
 
-ring_between : (slab : Slab) (z : Trapezoid) (t : Tile) → slab.y0 <ℤ slab.y1
+pub ring_between : (slab : Slab) (z : Trapezoid) (t : Tile) → slab.y0 <ℤ slab.y1
     → (z ≡ trapezoid slab.y0 slab.y1 slab.first slab.second) ⊎ (z ≡ trapezoid slab.y0 slab.y1 slab.second slab.first)
     → IsUpTo (winding (ring_of (corners_of z)) t) (between t slab)
 ring_between slab z t rows (inl e) = inl (ap (λ (y : Trapezoid). winding (ring_of (corners_of y)) t) e ∙ ring_straight slab t rows)
 ring_between slab z t rows (inr e) = inr (ap (λ (y : Trapezoid). winding (ring_of (corners_of y)) t) e ∙ ring_turned slab t rows)
 
-slab_rows : (slab : Slab) (z : Trapezoid) → IsShot z
+pub slab_rows : (slab : Slab) (z : Trapezoid) → IsShot z
     → (z ≡ trapezoid slab.y0 slab.y1 slab.first slab.second) ⊎ (z ≡ trapezoid slab.y0 slab.y1 slab.second slab.first) → slab.y0 <ℤ slab.y1
 slab_rows slab z shot (inl e) = let h = shot.legal.has_rows in omega (arith, ints, h, ap (λ (y : Trapezoid). y.y0) e, ap (λ (y : Trapezoid). y.y1) e)
 slab_rows slab z shot (inr e) = let h = shot.legal.has_rows in omega (arith, ints, h, ap (λ (y : Trapezoid). y.y0) e, ap (λ (y : Trapezoid). y.y1) e)
 
-both_up_to : (w r n : ℤ) → IsUpTo w n → IsUpTo r n → IsUpTo w r
+pub both_up_to : (w r n : ℤ) → IsUpTo w n → IsUpTo r n → IsUpTo w r
 both_up_to w r n (inl e) (inl f) = inl (e ∙ sym f)
 both_up_to w r n (inl e) (inr f) = inr (omega (arith, ints, e, f))
 both_up_to w r n (inr e) (inl f) = inr (omega (arith, ints, e, f))

@@ -2,3 +2,4 @@
 pub mod Operations
 -- ---- what is kept inside
 pub mod Lone
+pub mod Monotone

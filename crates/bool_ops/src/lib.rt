@@ -3,6 +3,8 @@
 //! Numbers are half units.
 #![tactic(auto)]
 
+mod ascents;
+mod climbs;
 mod lone;
 mod operations;
 mod outline;
@@ -10,6 +12,7 @@ mod outline;
 mod tests;
 mod unions;
 
+pub use climbs::monotone_pieces;
 pub use lone::lone_piece;
 pub use operations::{Op, combine, combine_edges};
 pub use outline::pieces;

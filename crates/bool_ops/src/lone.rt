@@ -23,11 +23,11 @@ struct Sides {
 
 // The rows from `y0` up to below `y1`, and two lines.
 #[derive(Clone, Copy)]
-struct Slab {
-    y0: i64,
-    y1: i64,
-    first: Line,
-    second: Line,
+pub(crate) struct Slab {
+    pub(crate) y0: i64,
+    pub(crate) y1: i64,
+    pub(crate) first: Line,
+    pub(crate) second: Line,
 }
 
 // Whether both points have one Y.
@@ -91,7 +91,7 @@ fn slab_of(sides: Sides) -> Option<Slab>
 }
 
 // The trapezoid between the lines, whichever is the left one. None where they cross.
-fn trap_in(slab: Slab) -> Option<Trap>
+pub(crate) fn trap_in(slab: Slab) -> Option<Trap>
     ensures { IfSome result (IsBetween slab) }
 {
     if let Some(trap) = Trap::new(slab.y0, slab.y1, slab.first, slab.second) {

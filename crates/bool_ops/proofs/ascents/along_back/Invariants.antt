@@ -1,0 +1,14 @@
+use Rattle.std.proofs.Common.{◌≤◌, ◌-◌}
+use Rattle.bool_ops.specs.Monotone.{twice_round, IsAlong}
+use Rattle.bool_ops.proofs.ascents.along_back.Given as goal
+
+-- the points so far are on the line
+abbrev pub invariant-loop-at : goal.invariant-loop-at
+invariant-loop-at l = record {
+  after : l.fn.to ≤ l.at;
+  before : l.at ≤ l.fn.from;
+  along : IsAlong (twice_round l.fn.points) l.fn.line l.fn.from l.at;
+}
+
+abbrev pub decreases-loop-at : goal.decreases-loop-at
+decreases-loop-at l = l.at - l.fn.to
