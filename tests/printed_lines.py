@@ -13,7 +13,7 @@ import sys
 from pathlib import Path
 
 TOP = Path(__file__).resolve().parent.parent
-SPECS = ["crates/job_report/specs", "crates/mdp_job/specs"]
+SPECS = ["crates/job_report/specs"]
 # where the lines begin, and words that are said as one name whatever they are
 ROOT = "line_of"
 AS_ONE_WORD = {"variable_name": "VARIABLE"}

@@ -1,2 +1,3 @@
 mod Zips
 mod ReportLemmas
+mod Spellings

@@ -2,3 +2,6 @@
 pub mod Pieces
 pub mod Lines
 pub mod Report
+pub mod ShotLines
+pub mod Endings
+pub mod Codes

@@ -3,7 +3,7 @@ ghost use Rattle.std.specs.Prelude.{◌≡◌, ◌++◌, codes, decimal};
 ghost use Rattle.job_report.specs.Pieces.{spelled};
 ghost use Rattle.job_report.specs.Lines.{variable_name, cause_name, oas_line, oas_fault, oas_word, oas_number};
 
-use crate::pieces::{Line, Piece};
+use crate::pieces::{Line, Piece, whole};
 use oas_fields::Variable;
 use oas_reader::OasBad;
 use oas_record::RecordBad;
@@ -78,19 +78,6 @@ fn number_at<'a>(what: &'a [u8], at: usize, between: &'a [u8], number: usize) ->
         Piece::Text(between),
         Piece::Count(number as u128),
         Piece::Text(b"\n"),
-    ]
-}
-
-// The line of one piece.
-fn whole(text: &[u8]) -> Line<'_>
-    ensures { spelled result ≡ text.now }
-{
-    [
-        Piece::Text(text),
-        Piece::Text(b""),
-        Piece::Text(b""),
-        Piece::Text(b""),
-        Piece::Text(b""),
     ]
 }
 

@@ -1,12 +1,12 @@
 -- How the program ends.
 use Rattle.std.specs.Prelude.{◌≡◌, ◌↔◌, ℕ, List, Bool, IsTrue}
 use Rattle.job_words.specs.Words.{IsNoCommand}
-use Rattle.mdp_job.specs.Codes.{code_of}
+use Rattle.job_report.specs.Codes.{code_of}
 use Rattle.mdp_job.specs.Runs.{Run}
 use Rattle.mdp_job.specs.Headline.{Certifies}
 use Rattle.mdp_job.specs.Clauses.{Coverage, Acceptance, Refusals, Remains, Speech, FaultsTold}
-use Rattle.mdp_job.specs.declared.status.Status.{Status}
-use Rattle.mdp_job.specs.declared.status.Status.TheVariants as answers
+use Rattle.job_report.specs.declared.status.Status.{Status}
+use Rattle.job_report.specs.declared.status.Status.TheVariants as answers
 
 -- The program's number is that of an answer to its words, for which the promises of the command hold.
 pub record IsEnd (tells : Bool) (r : Run) (words : List (List ℕ)) (number : ℕ) : Type 0 where

@@ -1,7 +1,7 @@
 //! The number with which the program ends.
 ghost use Rattle.std.specs.Prelude.{◌≡◌, IsNone, IfSome};
 ghost use Rattle.job_words.specs.Texts.{texts};
-ghost use Rattle.mdp_job.specs.Codes.{code_of};
+ghost use Rattle.job_report.specs.Codes.{code_of};
 ghost use Rattle.mdp_job.specs.Runs.{run_of};
 ghost use Rattle.mdp_cli.specs.Ends.{IsEnd};
 

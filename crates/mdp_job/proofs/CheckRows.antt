@@ -20,10 +20,10 @@ use Rattle.mdp_job.specs.Faults.{fault_of}
 use Rattle.mdp_job.specs.Headline.{AreExact}
 use Rattle.mdp_job.specs.Certificates.{IsRefusedAt, HasNoFile, exact_report}
 use Rattle.mdp_job.specs.Checking.{AreAllExact, IsHalfReported, IsAllReported, IsChecked, IsCheckAnswer, HasOutputs}
-use Rattle.mdp_job.specs.declared.faults.CheckFault.{CheckFault}
-use Rattle.mdp_job.specs.declared.faults.CheckFault.TheVariants as all
-use Rattle.mdp_job.specs.declared.status.Status.{Status}
-use Rattle.mdp_job.specs.declared.status.Status.TheVariants as answers
+use Rattle.job_report.specs.declared.faults.CheckFault.{CheckFault}
+use Rattle.job_report.specs.declared.faults.CheckFault.TheVariants as all
+use Rattle.job_report.specs.declared.status.Status.{Status}
+use Rattle.job_report.specs.declared.status.Status.TheVariants as answers
 use Rattle.mdp_job.proofs.Rows.{KeepsInput, done_given, write_given, no_given, read_cause, input_due}
 use Rattle.mdp_job.proofs.Made.{answer_later}
 use Rattle.mdp_job.proofs.Exactness.{before_exact, all_exact, classes_before, classes_all}

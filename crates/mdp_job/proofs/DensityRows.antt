@@ -8,8 +8,8 @@ use Rattle.job_input.specs.Refused.{IsWanting}
 use Rattle.job_input.specs.declared.reading.Input.{Input}
 use Rattle.mdp_job.specs.Runs.{Run, run_of, ReadRose, WriteRose}
 use Rattle.mdp_job.specs.Densities.{AreTablesSaid, AreTablesCutShort, AreCounted, IsCounted, IsDensityAnswer}
-use Rattle.mdp_job.specs.declared.status.Status.{Status}
-use Rattle.mdp_job.specs.declared.status.Status.TheVariants as answers
+use Rattle.job_report.specs.declared.status.Status.{Status}
+use Rattle.job_report.specs.declared.status.Status.TheVariants as answers
 use Rattle.mdp_job.proofs.Rows.{KeepsInput, done_given, write_given, read_cause, input_due}
 use Rattle.mdp_job.proofs.Made.{answer_later}
 

@@ -10,12 +10,12 @@ use Rattle.job_input.specs.declared.reading.Input.{Input}
 use Rattle.mdp_job.specs.Runs.{run_of}
 use Rattle.deck_text.specs.declared.deck.Output.{Output}
 use Rattle.job_words.specs.Lines.{file_word}
-use Rattle.mdp_job.specs.Lines.{line_of, name_of, file_of}
+use Rattle.job_report.specs.Endings.{line_of, name_of, file_of}
 use Rattle.mdp_job.specs.Parts.{CountsFor}
 use Rattle.mdp_job.specs.Table.{IsAnswerTo, NamesFile}
 use Rattle.mdp_job.specs.Clauses.{IsFileOf}
-use Rattle.mdp_job.specs.declared.status.Status.{Status}
-use Rattle.mdp_job.specs.declared.status.Status.TheVariants as answers
+use Rattle.job_report.specs.declared.status.Status.{Status}
+use Rattle.job_report.specs.declared.status.Status.TheVariants as answers
 use Rattle.mdp_job.proofs.FileRows.{memory_done, write_done}
 use Rattle.mdp_job.proofs.Table.{file_named}
 use Rattle.mdp_job.proofs.Written.{rules}

@@ -12,8 +12,8 @@ use Rattle.field_split.proofs.ForCallers.{fewer, next_start}
 use Rattle.mdp_job.specs.ShotFiles.{ShotData, HoldsShots}
 use Rattle.mdp_job.specs.Splitting.{CanBeSplit, HoldsFields, HoldsWide, HoldsManyStripes, AreManyStripes, IsFieldsFault}
 use Rattle.mdp_job.specs.Table.{splitting_command}
-use Rattle.mdp_job.specs.declared.faults.CheckFault.{CheckFault}
-use Rattle.mdp_job.specs.declared.faults.CheckFault.TheVariants as faults
+use Rattle.job_report.specs.declared.faults.CheckFault.{CheckFault}
+use Rattle.job_report.specs.declared.faults.CheckFault.TheVariants as faults
 use Rattle.mdp_job.proofs.FileRows.{IsOneThing}
 use Rattle.mdp_job.proofs.OneThing.{shots_there, shots_short, bad_there, bad_short, shots_right, same_bad, same_shots}
 

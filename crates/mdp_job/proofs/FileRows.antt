@@ -4,9 +4,9 @@ use Rattle.depot.specs.Content.{Content, IsNotThere, ChangesLeftOnly, with_left}
 use Rattle.file_check.specs.Files.{ShotData}
 use Rattle.mdp_job.specs.Runs.{Run, ReadRose, WriteRose, RefusedRose, ComesExactlyWhere, IsEndedSo}
 use Rattle.mdp_job.specs.FileAnswers.{FileCommand, IsFileAnswer}
-use Rattle.mdp_job.specs.declared.faults.CheckFault.{CheckFault}
-use Rattle.mdp_job.specs.declared.status.Status.{Status}
-use Rattle.mdp_job.specs.declared.status.Status.TheVariants as answers
+use Rattle.job_report.specs.declared.faults.CheckFault.{CheckFault}
+use Rattle.job_report.specs.declared.status.Status.{Status}
+use Rattle.job_report.specs.declared.status.Status.TheVariants as answers
 
 -- a name holds one thing at most
 pub record IsOneThing (command : FileCommand) : Type 0 where

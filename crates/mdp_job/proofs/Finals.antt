@@ -23,8 +23,8 @@ use Rattle.mdp_job.specs.Parts.{IsDone, IsMade, IsFractured}
 use Rattle.mdp_job.specs.Table.{listing_command, packing_command, unpacking_command, splitting_command}
 use Rattle.mdp_job.specs.Clauses.{Spares, Generates, Packs, Unpacks, Splits, Tabulates, Coverage, Reports, Lists, FaultsTold}
 use Rattle.mdp_job.specs.Parts.{CountsFor}
-use Rattle.mdp_job.specs.declared.status.Status.{Status}
-use Rattle.mdp_job.specs.declared.status.Status.TheVariants as answers
+use Rattle.job_report.specs.declared.status.Status.{Status}
+use Rattle.job_report.specs.declared.status.Status.TheVariants as answers
 use Rattle.mdp_job.proofs.Rows.{done_given}
 use Rattle.mdp_job.proofs.CheckRows.{done_exactly, certified}
 use Rattle.mdp_job.proofs.DensityRows.{density_done}

@@ -18,14 +18,14 @@ use Rattle.mdp_job.specs.Splitting.{IsPartSplit}
 use Rattle.mdp_job.specs.Densities.{AreTablesCutShort, IsCounted, IsDensityAnswer}
 use Rattle.mdp_job.specs.Filing.{IsHalfFiled}
 use Rattle.mdp_job.specs.Generating.{generated_line, IsGeneratedSo}
-use Rattle.mdp_job.specs.Lines.{line_of, name_of}
+use Rattle.job_report.specs.Endings.{line_of, name_of}
 use Rattle.mdp_job.specs.Parts.{IsUnsaid, IsMade, IsFractured, IsAnswer}
 use Rattle.mdp_job.specs.Checking.{IsChecked, IsCheckAnswer}
 use Rattle.mdp_job.specs.FileAnswers.{FileCommand, IsFileAnswer}
 use Rattle.mdp_job.specs.Table.{listing_command, packing_command, unpacking_command, splitting_command, IsAnswerOf, IsAnswerTo}
 use Rattle.mdp_job.specs.Clauses.{IsRefusal, IsQuietCommand, IsLeftBy, Remains}
-use Rattle.mdp_job.specs.declared.status.Status.{Status}
-use Rattle.mdp_job.specs.declared.status.Status.TheVariants as answers
+use Rattle.job_report.specs.declared.status.Status.{Status}
+use Rattle.job_report.specs.declared.status.Status.TheVariants as answers
 use Rattle.mdp_job.proofs.Rows.{left_or_made, refusal_left}
 use Rattle.mdp_job.proofs.FileRows.{left_or_half, memory_done, memory_write}
 use Rattle.mdp_job.proofs.Table.{answer_for}

@@ -1,4 +1,3 @@
-pub mod Spellings
 pub mod Contents
 pub mod Written
 pub mod Made

@@ -20,7 +20,7 @@ use Rattle.mdp_job.specs.Certificates.{exact_report}
 use Rattle.mdp_job.specs.Parts.{fault_status, IsSaidSo, IsInputTold, IsAllWritten, IsMade, IsOutcomeBy, IsAnswerBy, IsFractured, IsAnswer, IsOfInput}
 use Rattle.mdp_job.specs.Parts.{refuses_output, CountsFor}
 use Rattle.mdp_job.specs.Checking.{checked_status, AreAllExact, IsChecked}
-use Rattle.mdp_job.specs.declared.status.Status.{Status}
+use Rattle.job_report.specs.declared.status.Status.{Status}
 
 -- a text that was cut short
 pub said_fault : (b a : Content) (wr rr : Type 0) (text : List ℕ) (bad : DepotBad) (s : Status) → s ≡ fault_status bad

@@ -12,8 +12,8 @@ use Rattle.shot_repeat.specs.declared.refusing.PackBad.{PackBad}
 use Rattle.shot_repeat.proofs.ForCallers.{file_right as packed_file_right, one_fault as one_pack_fault}
 use Rattle.mdp_job.specs.ShotFiles.{ShotData, HoldsShots, HoldsFault, HoldsPacked, HoldsPackFault, IsShotsFault, IsPackedFault}
 use Rattle.mdp_job.specs.Table.{listing_command, packing_command, unpacking_command}
-use Rattle.mdp_job.specs.declared.faults.CheckFault.{CheckFault}
-use Rattle.mdp_job.specs.declared.faults.CheckFault.TheVariants as faults
+use Rattle.job_report.specs.declared.faults.CheckFault.{CheckFault}
+use Rattle.job_report.specs.declared.faults.CheckFault.TheVariants as faults
 use Rattle.mdp_job.proofs.Contents.{one_content, there, too_long}
 use Rattle.mdp_job.proofs.FileRows.{IsOneThing}
 

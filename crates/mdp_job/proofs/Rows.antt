@@ -18,10 +18,10 @@ use Rattle.job_input.specs.declared.refusing.LayoutFault.{LayoutFault}
 use Rattle.job_input.specs.declared.refusing.LayoutFault.TheVariants as layout_faults
 use Rattle.mdp_job.specs.Runs.{Run, ReadRose, WriteRose, RefusedRose, ComesExactlyWhere}
 use Rattle.mdp_job.specs.Clauses.{IsOfKind, IsTreeFault}
-use Rattle.mdp_job.specs.declared.faults.CheckFault.{CheckFault}
+use Rattle.job_report.specs.declared.faults.CheckFault.{CheckFault}
 use Rattle.mdp_job.specs.Parts.{status_of, top_of, IsInputTold, IsMade, IsOutcomeBy, IsAnswerBy, IsFractured, IsAnswer}
-use Rattle.mdp_job.specs.declared.status.Status.{Status}
-use Rattle.mdp_job.specs.declared.status.Status.TheVariants as answers
+use Rattle.job_report.specs.declared.status.Status.{Status}
+use Rattle.job_report.specs.declared.status.Status.TheVariants as answers
 
 -- ---- answers differ
 

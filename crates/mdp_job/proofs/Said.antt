@@ -19,14 +19,14 @@ use Rattle.mdp_job.specs.Splitting.{HoldsFields, IsHalfSplit, split_text}
 use Rattle.mdp_job.specs.Densities.{IsCounted, IsDensityAnswer, AreTablesCutShort}
 use Rattle.mdp_job.specs.Filing.{IsHalfFiled}
 use Rattle.mdp_job.specs.Generating.{generated_line}
-use Rattle.mdp_job.specs.Lines.{line_of, name_of}
+use Rattle.job_report.specs.Endings.{line_of, name_of}
 use Rattle.mdp_job.specs.Parts.{IsUnsaid, IsMade, IsFractured, IsAnswer, CountsFor}
 use Rattle.mdp_job.specs.Checking.{IsHalfReported, IsChecked, IsCheckAnswer}
 use Rattle.mdp_job.specs.FileAnswers.{FileCommand, IsFileAnswer}
 use Rattle.mdp_job.specs.Table.{listing_command, packing_command, unpacking_command, splitting_command, IsAnswerOf, IsAnswerTo}
 use Rattle.mdp_job.specs.Clauses.{IsTextBy, MayBreakOff, MaySay, IsWriteTold, SaysLine, Speech}
-use Rattle.mdp_job.specs.declared.status.Status.{Status}
-use Rattle.mdp_job.specs.declared.status.Status.TheVariants as answers
+use Rattle.job_report.specs.declared.status.Status.{Status}
+use Rattle.job_report.specs.declared.status.Status.TheVariants as answers
 use Rattle.mdp_job.proofs.Rows.{left_or_made}
 use Rattle.mdp_job.proofs.Exactness.{all_exact, all_summed as exact_summed}
 use Rattle.mdp_job.proofs.FileRows.{left_or_half}

@@ -18,10 +18,10 @@ use Rattle.mdp_job.specs.Splitting.{CanBeSplit, head_of, lines_of_stripes, split
 use Rattle.mdp_job.specs.FieldAnswers.{IsSpan, IsSpanFault, IsSplitSo, IsSplitFile}
 use Rattle.mdp_job.specs.FileAnswers.{IsFileAnswer, IsRefusedFile, IsOfRefusedFile}
 use Rattle.mdp_job.specs.Table.{splitting_command}
-use Rattle.mdp_job.specs.declared.faults.CheckFault.{CheckFault}
-use Rattle.mdp_job.specs.declared.faults.CheckFault.TheVariants as faults
-use Rattle.mdp_job.specs.declared.status.Status.{Status}
-use Rattle.mdp_job.specs.declared.status.Status.TheVariants as answers
+use Rattle.job_report.specs.declared.faults.CheckFault.{CheckFault}
+use Rattle.job_report.specs.declared.faults.CheckFault.TheVariants as faults
+use Rattle.job_report.specs.declared.status.Status.{Status}
+use Rattle.job_report.specs.declared.status.Status.TheVariants as answers
 use Rattle.mdp_job.proofs.Contents.{left_only}
 use Rattle.mdp_job.proofs.OneThing.{shots_there}
 use Rattle.mdp_job.proofs.Taken.{made_answers}

@@ -16,14 +16,14 @@ use Rattle.mdp_job.specs.Checking.{IsChecked, HasOutputs}
 use Rattle.mdp_job.specs.FileAnswers.{FileCommand, IsFileAnswer}
 use Rattle.mdp_job.specs.Densities.{IsCounted}
 use Rattle.mdp_job.specs.Table.{listing_command, packing_command, unpacking_command, splitting_command, IsAnswerOf, IsAnswerTo, NamesFile}
-use Rattle.mdp_job.specs.Lines.{name_of, file_of, file_at, file_or}
+use Rattle.job_report.specs.Endings.{name_of, file_of, file_at, file_or}
 use Rattle.mdp_job.specs.Certificates.{IsFileAt}
 use Rattle.mdp_job.specs.Clauses.{IsInputOf, IsAccepted, IsUnreadableBy, IsUnreadable, IsUnreadableAtOnceBy, ReadFaults, WriteFaults, DeckLong}
 use Rattle.mdp_job.specs.Clauses.{DeckBroken, LayoutLong, GdsBroken, OasBroken, TreeBroken, FileRefused, ReadsShots, ReadsFile, ShotsLong, ShotsBad}
 use Rattle.mdp_job.specs.Clauses.{PackedBad, SplitWide, SplitStripes, Acceptance, Refusals, IsTopOf, IsFileOf, Belongs}
-use Rattle.mdp_job.specs.declared.faults.CheckFault.TheVariants as faults
-use Rattle.mdp_job.specs.declared.status.Status.{Status}
-use Rattle.mdp_job.specs.declared.status.Status.TheVariants as answers
+use Rattle.job_report.specs.declared.faults.CheckFault.TheVariants as faults
+use Rattle.job_report.specs.declared.status.Status.{Status}
+use Rattle.job_report.specs.declared.status.Status.TheVariants as answers
 use Rattle.mdp_job.proofs.Made.{fracture_later}
 use Rattle.mdp_job.proofs.CheckRows as checks
 use Rattle.mdp_job.proofs.FileRows as files

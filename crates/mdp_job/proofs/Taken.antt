@@ -20,9 +20,9 @@ use Rattle.shot_repeat.specs.declared.refusing.PackBad.TheVariants as packs
 use Rattle.mdp_job.specs.Runs.{run_of, IsEndedSo}
 use Rattle.mdp_job.specs.ShotFiles.{ShotData, IsShotsFault, IsPackedFault}
 use Rattle.mdp_job.specs.FileAnswers.{FileCommand, IsFileAnswer, IsRefusedFile, refused_shots, refused_packed}
-use Rattle.mdp_job.specs.declared.faults.CheckFault.TheVariants as faults
-use Rattle.mdp_job.specs.declared.status.Status.{Status}
-use Rattle.mdp_job.specs.declared.status.Status.TheVariants as answers
+use Rattle.job_report.specs.declared.faults.CheckFault.TheVariants as faults
+use Rattle.job_report.specs.declared.status.Status.{Status}
+use Rattle.job_report.specs.declared.status.Status.TheVariants as answers
 use Rattle.mdp_job.proofs.Contents.{left_only, there}
 
 -- ---- taken

@@ -11,11 +11,11 @@ use Rattle.file_check.specs.declared.faults.CheckBad.TheVariants as bads
 use Rattle.mdp_job.specs.Runs.{Run, ReadRose, WriteRose, RefusedRose}
 use Rattle.mdp_job.specs.Denoted.{plan_of}
 use Rattle.mdp_job.specs.Faults.{fault_of}
-use Rattle.mdp_job.specs.declared.faults.CheckFault.{CheckFault}
+use Rattle.job_report.specs.declared.faults.CheckFault.{CheckFault}
 use Rattle.mdp_job.specs.Certificates.{IsFileAt, exact_report}
 use Rattle.mdp_job.specs.Parts.{IsAnswerBy}
-use Rattle.mdp_job.specs.declared.status.Status.{Status}
-use Rattle.mdp_job.specs.declared.status.Status.TheVariants as answers
+use Rattle.job_report.specs.declared.status.Status.{Status}
+use Rattle.job_report.specs.declared.status.Status.TheVariants as answers
 
 -- the answer to files that aren't all exact
 abbrev pub checked_status : CheckBad → Status

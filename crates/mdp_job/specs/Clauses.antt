@@ -36,12 +36,12 @@ use Rattle.mdp_job.specs.Densities.{IsDensityBeginning, AreTablesSaid}
 use Rattle.mdp_job.specs.Filing.{IsFiled}
 use Rattle.mdp_job.specs.Generating.{generated_line}
 use Rattle.mdp_job.specs.Parts.{IsOf}
-use Rattle.mdp_job.specs.Lines.{line_of}
+use Rattle.job_report.specs.Endings.{line_of}
 use Rattle.mdp_job.specs.Faults.{fault_of}
-use Rattle.mdp_job.specs.declared.faults.CheckFault.{CheckFault}
-use Rattle.mdp_job.specs.declared.faults.CheckFault.TheVariants as check_faults
-use Rattle.mdp_job.specs.declared.status.Status.{Status}
-use Rattle.mdp_job.specs.declared.status.Status.TheVariants as answers
+use Rattle.job_report.specs.declared.faults.CheckFault.{CheckFault}
+use Rattle.job_report.specs.declared.faults.CheckFault.TheVariants as check_faults
+use Rattle.job_report.specs.declared.status.Status.{Status}
+use Rattle.job_report.specs.declared.status.Status.TheVariants as answers
 
 -- ---- what is accepted
 

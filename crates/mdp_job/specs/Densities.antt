@@ -9,8 +9,8 @@ use Rattle.job_input.specs.declared.reading.Input.{Input}
 use Rattle.mdp_job.specs.Runs.{Run, WriteRose}
 use Rattle.mdp_job.specs.Denoted.{plan_of}
 use Rattle.mdp_job.specs.Parts.{IsAnswerBy}
-use Rattle.mdp_job.specs.declared.status.Status.{Status}
-use Rattle.mdp_job.specs.declared.status.Status.TheVariants as answers
+use Rattle.job_report.specs.declared.status.Status.{Status}
+use Rattle.job_report.specs.declared.status.Status.TheVariants as answers
 
 -- the text is that of the table of each output's area, in the order of the deck
 pub record IsDensityText (size : ℤ) (input : Input) (text : List ℕ) : Type 0 where

@@ -1,8 +1,8 @@
 -- The fault of an output's file, among those of all shot files.
 use Rattle.file_check.specs.declared.faults.CheckFault.{CheckFault as OutputFault}
 use Rattle.file_check.specs.declared.faults.CheckFault.TheVariants as of_output
-use Rattle.mdp_job.specs.declared.faults.CheckFault.{CheckFault}
-use Rattle.mdp_job.specs.declared.faults.CheckFault.TheVariants as faults
+use Rattle.job_report.specs.declared.faults.CheckFault.{CheckFault}
+use Rattle.job_report.specs.declared.faults.CheckFault.TheVariants as faults
 
 abbrev pub fault_of : OutputFault → CheckFault
 fault_of of_output.Long = faults.Long

@@ -7,10 +7,10 @@ use Rattle.field_split.specs.Looks.{IsFieldShot, IsFirstTooWide, AreStripesOf}
 use Rattle.mdp_job.specs.Runs.{IsEndedSo}
 use Rattle.mdp_job.specs.ShotFiles.{ShotData}
 use Rattle.mdp_job.specs.Splitting.{CanBeSplit, AreManyStripes, IsSplit, IsHalfSplit}
-use Rattle.mdp_job.specs.declared.faults.CheckFault.{CheckFault}
-use Rattle.mdp_job.specs.declared.faults.CheckFault.TheVariants.{Long, Bad, Head, Verdict, Pack, Wide, Stripes}
-use Rattle.mdp_job.specs.declared.status.Status.{Status}
-use Rattle.mdp_job.specs.declared.status.Status.TheVariants as answers
+use Rattle.job_report.specs.declared.faults.CheckFault.{CheckFault}
+use Rattle.job_report.specs.declared.faults.CheckFault.TheVariants.{Long, Bad, Head, Verdict, Pack, Wide, Stripes}
+use Rattle.job_report.specs.declared.status.Status.{Status}
+use Rattle.job_report.specs.declared.status.Status.TheVariants as answers
 
 -- the least and the greatest stripe that a shot meets, which aren't too many; none where there are no shots
 abbrev pub IsSpan : ℤ → List Trapezoid → Option (ℤ × ℤ) → Type 0

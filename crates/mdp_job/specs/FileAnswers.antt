@@ -9,11 +9,11 @@ use Rattle.shot_repeat.specs.Packed.{IsPackedFile}
 use Rattle.shot_repeat.specs.declared.refusing.PackBad.{PackBad}
 use Rattle.shot_repeat.specs.declared.refusing.PackBad.TheVariants as packs
 use Rattle.file_check.specs.Files.{ShotData}
-use Rattle.mdp_job.specs.declared.faults.CheckFault.{CheckFault}
-use Rattle.mdp_job.specs.declared.faults.CheckFault.TheVariants as faults
+use Rattle.job_report.specs.declared.faults.CheckFault.{CheckFault}
+use Rattle.job_report.specs.declared.faults.CheckFault.TheVariants as faults
 use Rattle.mdp_job.specs.Runs.{Run, ReadRose, WriteRose, RefusedRose, IsEndedSo}
-use Rattle.mdp_job.specs.declared.status.Status.{Status}
-use Rattle.mdp_job.specs.declared.status.Status.TheVariants as answers
+use Rattle.job_report.specs.declared.status.Status.{Status}
+use Rattle.job_report.specs.declared.status.Status.TheVariants as answers
 
 -- `holds` says what the name holds, `faulty` why it is refused, and `done` and `half` what is made of what it holds, from
 -- the content after the file was read: all, or a part.

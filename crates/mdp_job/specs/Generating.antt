@@ -4,7 +4,7 @@ use Rattle.depot.specs.Content.{Content}
 use Rattle.layout_gen.specs.Generated.{generated}
 use Rattle.mdp_job.specs.Filing.{IsFiled, IsHalfFiled}
 use Rattle.mdp_job.specs.Runs.{IsEndedSo}
-use Rattle.mdp_job.specs.declared.status.Status.{Status}
+use Rattle.job_report.specs.declared.status.Status.{Status}
 
 -- `generated 1266 bytes`
 abbrev pub size_line : ℕ → List ℕ

@@ -11,8 +11,8 @@ use Rattle.job_input.specs.declared.reading.Input.{Input}
 use Rattle.job_words.specs.Words.{IsFracture, IsCheck}
 use Rattle.mdp_job.specs.Runs.{Run, ReadRose, WriteRose}
 use Rattle.mdp_job.specs.Denoted.{area_of, ChangesOnly}
-use Rattle.mdp_job.specs.declared.status.Status.{Status}
-use Rattle.mdp_job.specs.declared.status.Status.TheVariants as answers
+use Rattle.job_report.specs.declared.status.Status.{Status}
+use Rattle.job_report.specs.declared.status.Status.TheVariants as answers
 
 -- The bytes are the one text of a list of legal shots within the deck's limits. Each tile, of all there are, is in exactly
 -- one of them where it is in the area that the deck denotes of the layout, and in none otherwise.

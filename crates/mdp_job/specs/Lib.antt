@@ -10,9 +10,7 @@ pub mod SplitLaws
 pub mod Densities
 pub mod Generating
 pub mod Filing
-pub mod Lines
 pub mod Faults
-pub mod Codes
 -- ---- what is kept inside: how the parts of a command fit together
 pub mod Runs
 pub mod Parts

@@ -24,10 +24,10 @@ use Rattle.job_input.specs.declared.refusing.LayoutFault.TheVariants as layout_f
 use Rattle.mdp_job.specs.Runs.{Run, ReadRose, WriteRose, RefusedRose, IsEndedSo}
 use Rattle.mdp_job.specs.Denoted.{plan_of}
 use Rattle.mdp_job.specs.Outputs.{report_on}
-use Rattle.mdp_job.specs.declared.status.Status.{Status}
-use Rattle.mdp_job.specs.declared.status.Status.TheVariants as answers
-use Rattle.mdp_job.specs.declared.faults.CheckFault.{CheckFault}
-use Rattle.mdp_job.specs.declared.faults.CheckFault.TheVariants as check_faults
+use Rattle.job_report.specs.declared.status.Status.{Status}
+use Rattle.job_report.specs.declared.status.Status.TheVariants as answers
+use Rattle.job_report.specs.declared.faults.CheckFault.{CheckFault}
+use Rattle.job_report.specs.declared.faults.CheckFault.TheVariants as check_faults
 use Rattle.job_words.specs.Words.{Command, Fracture, Check, Shots, Pack, Unpack, Split, Density, Generate}
 use Rattle.shot_checker.specs.declared.verdicts.Verdict.TheVariants.{Exact}
 use Rattle.shot_reader.specs.declared.refusing.ShotBad.TheVariants.{NoMemory as Wanting}

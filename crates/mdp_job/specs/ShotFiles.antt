@@ -12,8 +12,8 @@ use Rattle.shot_repeat.specs.Packing.{packed_text, packed_records}
 use Rattle.shot_repeat.specs.Refusals.{IsFirstFault as IsFirstPackFault}
 use Rattle.shot_repeat.specs.declared.refusing.PackBad.{PackBad}
 pub use Rattle.file_check.specs.Files.{ShotData}
-use Rattle.mdp_job.specs.declared.faults.CheckFault.{CheckFault}
-use Rattle.mdp_job.specs.declared.faults.CheckFault.TheVariants.{Long, Bad, Head, Verdict, Pack, Wide, Stripes}
+use Rattle.job_report.specs.declared.faults.CheckFault.{CheckFault}
+use Rattle.job_report.specs.declared.faults.CheckFault.TheVariants.{Long, Bad, Head, Verdict, Pack, Wide, Stripes}
 
 -- ---- what a name holds
 

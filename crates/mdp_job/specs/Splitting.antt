@@ -11,8 +11,8 @@ use Rattle.field_split.specs.Looks.{IsFieldShot, IsFirstTooWide, AreStripesOf}
 use Rattle.field_output.specs.Stripes.{AreAllStripeLists, AreStripesPartWritten, with_stripe_files, sums_of, sums_from}
 use Rattle.field_output.specs.declared.sums.StripeSums.{StripeSums}
 use Rattle.mdp_job.specs.ShotFiles.{ShotData, HoldsShots, HoldsFault, pair_or}
-use Rattle.mdp_job.specs.declared.faults.CheckFault.{CheckFault}
-use Rattle.mdp_job.specs.declared.faults.CheckFault.TheVariants.{Long, Bad, Head as OtherHead, Verdict, Pack, Wide, Stripes}
+use Rattle.job_report.specs.declared.faults.CheckFault.{CheckFault}
+use Rattle.job_report.specs.declared.faults.CheckFault.TheVariants.{Long, Bad, Head as OtherHead, Verdict, Pack, Wide, Stripes}
 
 -- ---- which files can be split
 

@@ -12,8 +12,8 @@ use Rattle.mdp_job.specs.FileAnswers.{FileCommand, IsFileAnswer}
 use Rattle.mdp_job.specs.Generating.{IsGeneratedSo}
 use Rattle.mdp_job.specs.Parts.{IsAnswer}
 use Rattle.mdp_job.specs.Checking.{IsCheckAnswer, HasOutputs}
-use Rattle.mdp_job.specs.declared.status.Status.{Status}
-use Rattle.mdp_job.specs.declared.status.Status.TheVariants as answers
+use Rattle.job_report.specs.declared.status.Status.{Status}
+use Rattle.job_report.specs.declared.status.Status.TheVariants as answers
 
 -- `shots` says the listing of the shot file
 abbrev pub listing_command : FileCommand

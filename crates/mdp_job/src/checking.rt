@@ -6,15 +6,14 @@ ghost use Rattle.mdp_job.specs.Runs.{run_of};
 ghost use Rattle.mdp_job.specs.Checking.{checked_status, IsChecked, IsCheckAnswer, HasOutputs};
 ghost use Rattle.mdp_job.specs.Parts.{IsOfInput, refuses_output, CountsFor};
 
-use crate::ending::Ending;
 use crate::faults::fault_of;
 use crate::reading::refused_input;
 use crate::reporting::say_report_on;
-use crate::status::Status;
 use deck_plan::Plan;
 use depot::Depot;
 use file_check::{CheckBad, check_files};
 use job_input::{Input, read_input};
+use job_report::{Ending, Status};
 use std::alloc::Global;
 
 // The answer to files that aren't all exact.

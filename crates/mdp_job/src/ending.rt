@@ -1,39 +1,11 @@
-//! How a command ended, with what its line may need.
-ghost use Rattle.std.specs.Prelude.{◌≡◌, None, IsTrue};
+//! What a command answers where it ends by writing or printing.
+ghost use Rattle.std.specs.Prelude.{◌≡◌, IsTrue};
 ghost use Rattle.depot.specs.Counts.{NeverFall, Rose};
 ghost use Rattle.job_report.specs.Pieces.{spelled};
 ghost use Rattle.mdp_job.specs.Parts.{fault_status, IsSaidSo, IsOfWriting, CountsFor};
 
-use crate::status::Status;
-use deck_text::Output;
 use depot::{Depot, DepotBad};
-use geo_stream::List;
-use job_report::{Piece, say_pieces};
-use layout_model::Name;
-
-/// How a command ended, the name of the deck's top cell where the layout is refused, and the deck's outputs where their
-/// files were checked.
-#[derive(Drop)]
-pub(crate) struct Ending {
-    pub status: Status,
-    pub top: Option<Name>,
-    pub outputs: Option<List<Output>>,
-}
-
-impl Ending {
-    /// An ending whose line needs nothing else.
-    pub(crate) fn plain(status: Status) -> Ending
-        ensures status { result.status ≡ status }
-        ensures top { result.top ≡ None }
-        ensures outputs { result.outputs ≡ None }
-    {
-        Ending {
-            status,
-            top: None,
-            outputs: None,
-        }
-    }
-}
+use job_report::{Piece, Status, say_pieces};
 
 /// The answer to a refused write.
 pub(crate) fn fault_status(bad: DepotBad) -> Status

@@ -7,10 +7,9 @@ ghost use Rattle.mdp_job.specs.ShotFiles.{HoldsShots, HoldsPacked, IsShotsFault,
 ghost use Rattle.mdp_job.specs.FileAnswers.{IsRefusedFile, IsOfRefusedFile, IsPlainData, IsPackedData, shot_data, refused_shots, refused_packed};
 ghost use Rattle.mdp_job.specs.Parts.{refuses_shots, refuses_packed, CountsFor};
 
-use crate::faults::CheckFault;
 use crate::reading::refused_status;
-use crate::status::Status;
 use depot::{Depot, read_all};
+use job_report::{CheckFault, Status};
 use shot_listing::MOST_SHOTS;
 use shot_reader::{ShotBad, ShotFile, read_shots};
 use shot_repeat::{PackBad, read_packed};

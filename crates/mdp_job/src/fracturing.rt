@@ -6,13 +6,13 @@ ghost use Rattle.mdp_job.specs.Runs.{run_of};
 ghost use Rattle.mdp_job.specs.Outputs.{report_on};
 ghost use Rattle.mdp_job.specs.Parts.{status_of, top_of, IsSaidSo, IsMade, IsAnswer, IsOfInput, IsOfWriting, refuses_none, CountsFor};
 
-use crate::ending::{Ending, fault_status};
+use crate::ending::fault_status;
 use crate::reading::refused_input;
 use crate::reporting::say_report_on;
-use crate::status::Status;
 use deck_plan::Plan;
 use depot::Depot;
 use job_input::{Input, read_input};
+use job_report::{Ending, Status};
 use shot_output::write_outputs;
 use std::alloc::Global;
 

@@ -5,9 +5,8 @@ ghost use Rattle.mdp_job.specs.Generating.{IsGeneratedSo, size_line};
 ghost use Rattle.mdp_job.specs.Parts.{IsSaidSo, IsOfWriting, CountsFor};
 
 use crate::ending::{fault_status, say_text};
-use crate::status::Status;
 use depot::Depot;
-use job_report::Piece;
+use job_report::{Piece, Status};
 use layout_gen::generate;
 
 // Says how many bytes the file has.

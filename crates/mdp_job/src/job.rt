@@ -12,16 +12,14 @@ ghost use Rattle.mdp_job.specs.Table.{IsAnswerTo, NamesFile};
 ghost use Rattle.mdp_job.specs.Parts.{CountsFor};
 
 use crate::checking::check;
-use crate::ending::Ending;
 use crate::fracturing::fracture;
 use crate::generating::generate_layout;
-use crate::lines::say_line;
 use crate::listing::list_shots;
 use crate::mapping::density;
 use crate::packing::{pack, unpack};
 use crate::splitting::split;
-use crate::status::Status;
 use depot::{Depot, SureDepot};
+use job_report::{Ending, Status, say_line};
 use job_words::{
     check_names, density_words, file_word, fracture_names, generate_words, pack_names, shots_name,
     split_words, unpack_names,

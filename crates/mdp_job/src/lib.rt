@@ -10,7 +10,6 @@ mod fracturing;
 mod generating;
 mod job;
 mod laws;
-mod lines;
 mod listing;
 mod mapping;
 mod packing;
@@ -18,13 +17,11 @@ mod plain_files;
 mod reading;
 mod reporting;
 mod splitting;
-mod status;
 mod stripe_lines;
 #[cfg(test)]
 mod tests;
 
-pub use faults::CheckFault;
 pub use job::{run, run_surely};
 pub use job_input::{DeckFault, LayoutFault};
+pub use job_report::{CheckFault, Status};
 pub use laws::split_laws;
-pub use status::Status;

@@ -10,8 +10,8 @@ ghost use Rattle.mdp_job.specs.Parts.{IsSaidSo, IsOfFile, IsOfWriting, refuses_s
 
 use crate::ending::fault_status;
 use crate::files::read_shot_file;
-use crate::status::Status;
 use depot::Depot;
+use job_report::Status;
 use shot_listing::say_listing;
 use shot_reader::ShotFile;
 use std::alloc::Global;

@@ -6,13 +6,13 @@ ghost use Rattle.mdp_job.specs.Runs.{run_of};
 ghost use Rattle.mdp_job.specs.Densities.{AreCounted, IsDensityAnswer};
 ghost use Rattle.mdp_job.specs.Parts.{IsOfInput, IsOfWriting, refuses_none, CountsFor};
 
-use crate::ending::{Ending, fault_status};
+use crate::ending::fault_status;
 use crate::reading::refused_input;
-use crate::status::Status;
 use deck_plan::Plan;
 use density_report::say_densities;
 use depot::Depot;
 use job_input::{Input, read_input};
+use job_report::{Ending, Status};
 use std::alloc::Global;
 
 // Says the windows of the outputs of an accepted input.

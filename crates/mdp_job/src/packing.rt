@@ -12,9 +12,8 @@ ghost use Rattle.mdp_job.specs.Parts.{IsSaidSo, IsOfFile, IsOfWriting, refuses_s
 use crate::ending::{fault_status, say_text};
 use crate::files::{read_packed_file, read_shot_file};
 use crate::plain_files::write_shots;
-use crate::status::Status;
 use depot::Depot;
-use job_report::Piece;
+use job_report::{Piece, Status};
 use layout_model::Pair;
 use shot_reader::ShotFile;
 use shot_repeat::pack_shots;

@@ -3,10 +3,9 @@
 ghost use Rattle.std.specs.Prelude.{◌≡◌, None};
 ghost use Rattle.mdp_job.specs.Parts.{refused_status, status_of, top_of};
 
-use crate::ending::Ending;
-use crate::status::Status;
 use depot::Refused;
 use job_input::InputBad;
+use job_report::{Ending, Status};
 
 /// The answer to a file that wasn't read, where `long` is that to a file past its limit.
 pub(crate) fn refused_status(refused: Refused, long: Status) -> Status

@@ -5,10 +5,9 @@ ghost use Rattle.mdp_job.specs.Outputs.{report_of};
 ghost use Rattle.mdp_job.specs.Parts.{IsSaidSo, IsOfWriting, CountsFor};
 
 use crate::ending::fault_status;
-use crate::status::Status;
 use depot::Depot;
 use job_input::Input;
-use job_report::say_report;
+use job_report::{Status, say_report};
 use shot_writer::Sums;
 
 /// Says the report on an accepted input whose outputs have these sums, with this word before each of them.

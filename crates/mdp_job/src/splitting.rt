@@ -12,15 +12,14 @@ ghost use Rattle.mdp_job.specs.Table.{splitting_command};
 ghost use Rattle.mdp_job.specs.Parts.{IsOfFile, IsOfWriting, refuses_fields, CountsFor};
 
 use crate::ending::fault_status;
-use crate::faults::CheckFault;
 use crate::files::read_shot_file;
 use crate::packing::pair_or;
-use crate::status::Status;
 use crate::stripe_lines::say_stripes;
 use depot::Depot;
 use field_output::write_stripes;
 use field_split::{Fields, stripes, too_wide};
 use half_grid::Trap;
+use job_report::{CheckFault, Status};
 use shot_reader::ShotFile;
 use shot_writer::{Head, Sums};
 use std::alloc::Global;

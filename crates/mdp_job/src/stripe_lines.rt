@@ -10,10 +10,9 @@ ghost use Rattle.mdp_job.specs.Splitting.{stripe_line, sums_text, lines_of_strip
 ghost use Rattle.mdp_job.specs.Parts.{IsSaidSo, IsOfWriting, CountsFor};
 
 use crate::ending::fault_status;
-use crate::status::Status;
 use depot::{Buffer, Depot, DepotBad, flush};
 use field_output::StripeSums;
-use job_report::{Piece, put_pieces};
+use job_report::{Piece, Status, put_pieces};
 use shot_writer::Sums;
 
 // The line of a stripe, as pieces.

@@ -8,7 +8,7 @@ use Rattle.mdp_job.specs.Runs.{run_of}
 use Rattle.mdp_job.specs.Outputs.{report_of}
 use Rattle.mdp_job.specs.Parts.{IsSaidSo, IsOfInput, refuses_output, CountsFor}
 use Rattle.mdp_job.specs.Checking.{AreAllExact, IsChecked}
-use Rattle.mdp_job.specs.declared.status.Status.{Status}
+use Rattle.job_report.specs.declared.status.Status.{Status}
 use Rattle.mdp_job.proofs.Made.{said_checked, refused_checked, checked_kind, checked_counts}
 use Rattle.mdp_job.proofs.checking.check_all.Goals as goal
 

@@ -2,7 +2,7 @@ use Rattle.std.proofs.Common.{subst, sym, ap, arith, length}
 use Rattle.mdp_job.specs.Runs.{run_of}
 use Rattle.mdp_job.specs.ShotFiles.{IsPackedFault}
 use Rattle.mdp_job.specs.FileAnswers.{IsRefusedFile}
-use Rattle.mdp_job.specs.declared.status.Status.{Status}
+use Rattle.job_report.specs.declared.status.Status.{Status}
 use Rattle.mdp_job.proofs.Taken.{packed_refused}
 use Rattle.mdp_job.proofs.files.read_packed_file.Goals as goal
 

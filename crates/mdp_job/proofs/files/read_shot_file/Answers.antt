@@ -2,7 +2,7 @@ use Rattle.std.proofs.Common.{subst, sym, ap, arith, length}
 use Rattle.mdp_job.specs.Runs.{run_of}
 use Rattle.mdp_job.specs.ShotFiles.{IsShotsFault}
 use Rattle.mdp_job.specs.FileAnswers.{IsRefusedFile}
-use Rattle.mdp_job.specs.declared.status.Status.{Status}
+use Rattle.job_report.specs.declared.status.Status.{Status}
 use Rattle.mdp_job.proofs.Taken.{shots_refused}
 use Rattle.mdp_job.proofs.files.read_shot_file.Goals as goal
 

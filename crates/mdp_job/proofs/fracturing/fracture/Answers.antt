@@ -3,7 +3,7 @@ use Rattle.depot.specs.Counts.{Rose}
 use Rattle.mdp_job.specs.Runs.{run_of}
 use Rattle.mdp_job.specs.Parts.{IsInputTold, IsFractured, IsAnswer}
 use Rattle.mdp_job.proofs.Made.{given_answers, fractured_from, fault_told}
-use Rattle.mdp_job.specs.declared.status.Status.{Status}
+use Rattle.job_report.specs.declared.status.Status.{Status}
 use Rattle.mdp_job.proofs.fracturing.fracture.Goals as goal
 
 pub returns-in-Ok-clause-answer : goal.returns-in-Ok-clause-answer

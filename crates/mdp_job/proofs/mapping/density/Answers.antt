@@ -5,7 +5,7 @@ use Rattle.mdp_job.specs.Parts.{IsInputTold}
 use Rattle.mdp_job.specs.Densities.{IsCounted, IsDensityAnswer}
 use Rattle.mdp_job.proofs.Made.{given_answers, fault_told}
 use Rattle.mdp_job.proofs.DensityRows.{counted_from}
-use Rattle.mdp_job.specs.declared.status.Status.{Status}
+use Rattle.job_report.specs.declared.status.Status.{Status}
 use Rattle.mdp_job.proofs.mapping.density.Goals as goal
 
 pub returns-in-Ok-clause-answer : goal.returns-in-Ok-clause-answer

@@ -5,7 +5,7 @@ use Rattle.mdp_job.specs.FileAnswers.{shot_data}
 use Rattle.mdp_job.specs.FieldAnswers.{IsSplitSo}
 use Rattle.mdp_job.specs.Parts.{CountsFor}
 use Rattle.mdp_job.specs.Splitting.{head_of}
-use Rattle.mdp_job.specs.declared.status.Status.{Status}
+use Rattle.job_report.specs.declared.status.Status.{Status}
 use Rattle.mdp_job.proofs.Taken.{fewer_shots}
 use Rattle.mdp_job.proofs.Splits.{stripes_ended, stripes_cut, cut_counts}
 use Rattle.mdp_job.proofs.splitting.split_shots.Goals as goal

@@ -2,9 +2,9 @@ use Rattle.std.proofs.Common.{◌≡◌, ◌++◌}
 use Rattle.std.specs.Prelude.{codes, decimal}
 use Rattle.std.specs.Fmt.{signed_decimal}
 use Rattle.job_report.specs.Pieces.{text_of}
-use Rattle.mdp_job.specs.Lines.{side_text, tile_line}
-use Rattle.mdp_job.proofs.Spellings.{eleven_spell}
-use Rattle.mdp_job.proofs.lines.tile_line.Goals as goal
+use Rattle.job_report.specs.ShotLines.{side_text, tile_line}
+use Rattle.job_report.proofs.Spellings.{eleven_spell}
+use Rattle.job_report.proofs.shot_lines.tile_line.Goals as goal
 
 pub returns : goal.returns
 returns c =

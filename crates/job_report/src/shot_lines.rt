@@ -1,68 +1,16 @@
-//! The line that is printed where a command wasn't done.
-
-ghost use Rattle.std.specs.Prelude.{◌≡◌, ◌⊎◌, List, ℕ, IsTrue, decimal};
-ghost use Rattle.depot.specs.Content.{with_said, IsPartSaid};
-ghost use Rattle.depot.specs.Counts.{NeverFall, Rose};
+//! The line of a refused shot file.
+ghost use Rattle.std.specs.Prelude.{◌≡◌, decimal};
 ghost use Rattle.std.specs.Fmt.{signed_decimal};
 ghost use Rattle.job_report.specs.Pieces.{spelled, text_of};
-ghost use Rattle.mdp_job.specs.Lines.{deck_fault_line, layout_fault_line, fault_line, shot_line_of, pack_line_of, side_text, tile_line};
-ghost use Rattle.mdp_job.specs.Lines.{too_large_line, wide_line, stripes_line, verdict_line, text_line, check_line, file_of, name_of, line_of};
+ghost use Rattle.job_report.specs.ShotLines.{fault_line, shot_line_of, pack_line_of, side_text, tile_line};
+ghost use Rattle.job_report.specs.ShotLines.{too_large_line, wide_line, stripes_line, verdict_line, text_line, check_line};
 
-use crate::ending::Ending;
 use crate::faults::CheckFault;
-use crate::status::Status;
-use depot::Depot;
+use crate::pieces::{Line, LongLine, Piece, long, whole};
 use half_grid::{Side, Tile};
-use job_input::{DeckFault, LayoutFault};
-use job_report::{Line, Piece, deck_line, gds_line, oas_line, say_pieces, tree_line};
 use shot_checker::Verdict;
 use shot_reader::ShotBad;
 use shot_repeat::PackBad;
-
-/// A line of up to eleven pieces.
-type LongLine<'a> = [Piece<'a>; 11];
-
-// A line with empty pieces at its end.
-fn long(line: Line<'_>) -> LongLine<'_>
-    ensures { spelled result ≡ spelled line.entry }
-{
-    let [a, b, c, d, e] = line;
-    let none = Piece::Text(b"");
-    [a, b, c, d, e, none, none, none, none, none, none]
-}
-
-// A line of one piece.
-fn whole(text: &[u8]) -> Line<'_>
-    ensures { spelled result ≡ text.now }
-{
-    [
-        Piece::Text(text),
-        Piece::Text(b""),
-        Piece::Text(b""),
-        Piece::Text(b""),
-        Piece::Text(b""),
-    ]
-}
-
-fn deck_fault_line(fault: &DeckFault) -> Line<'_>
-    ensures { spelled result ≡ deck_fault_line fault.now }
-{
-    match fault {
-        DeckFault::Long => whole(b"deck refused: longer than 65536 bytes\n"),
-        DeckFault::Bad(bad) => deck_line(bad),
-    }
-}
-
-fn layout_fault_line<'a>(top: &'a [u8], fault: &'a LayoutFault) -> Line<'a>
-    ensures { spelled result ≡ layout_fault_line top.now fault.now }
-{
-    match fault {
-        LayoutFault::Long => whole(b"layout refused: longer than 268435456 bytes\n"),
-        LayoutFault::Gds(bad) => gds_line(bad),
-        LayoutFault::Oas(bad) => oas_line(bad),
-        LayoutFault::Tree(bad) => tree_line(top, bad),
-    }
-}
 
 // The line of a shot file with a fault of this name at an offset.
 fn fault_line<'a>(file: &'a str, fault: &'a str, at: usize) -> Line<'a>
@@ -229,8 +177,8 @@ fn text_line<'a>(file: &'a str, text: &'a [u8]) -> LongLine<'a>
     ])
 }
 
-// The line of a refused shot file.
-fn check_line<'a>(file: &'a str, fault: &CheckFault) -> LongLine<'a>
+/// The line of a refused shot file.
+pub(crate) fn check_line<'a>(file: &'a str, fault: &CheckFault) -> LongLine<'a>
     ensures { spelled result ≡ check_line file.now fault.now }
 {
     match fault {
@@ -241,71 +189,5 @@ fn check_line<'a>(file: &'a str, fault: &CheckFault) -> LongLine<'a>
         CheckFault::Pack(bad) => long(pack_line(file, bad)),
         CheckFault::Wide(shot) => long(wide_line(file, *shot)),
         CheckFault::Stripes(stripes) => long(stripes_line(file, *stripes)),
-    }
-}
-
-// The file that an ending is about: that of the refused output, and else the file of this name.
-fn file_of<'a>(word: &'a str, ending: &'a Ending) -> &'a str
-    ensures { result.now ≡ file_of word.now ending.now.outputs ending.now.status }
-{
-    let Status::No(place, _) = &ending.status else {
-        return word;
-    };
-    let Some(outputs) = &ending.outputs else {
-        return word;
-    };
-    match outputs.as_slice().get(*place) {
-        Some(output) => output.file.as_str(),
-        None => word,
-    }
-}
-
-// The name of the top cell, and no bytes where it isn't told.
-fn name_of(ending: &Ending) -> &[u8]
-    ensures { result.now ≡ name_of ending.now.top }
-{
-    match &ending.top {
-        Some(top) => top.bytes(),
-        None => b"",
-    }
-}
-
-// The line of an ending.
-fn line_of<'a>(file: &'a str, ending: &'a Ending) -> LongLine<'a>
-    ensures { spelled result ≡ line_of file.now (name_of ending.now.top) ending.now.status }
-{
-    match &ending.status {
-        Status::Done => long(whole(b"")),
-        Status::Words => long(whole(b"words refused\n")),
-        Status::Deck(fault) => long(deck_fault_line(fault)),
-        Status::Layout(fault) => long(layout_fault_line(name_of(ending), fault)),
-        Status::ReadFault => long(whole(b"read fault\n")),
-        Status::WriteFault => long(whole(b"write fault\n")),
-        Status::NoMemory => long(whole(b"want of memory\n")),
-        Status::No(_, fault) => check_line(file, fault),
-    }
-}
-
-/// Prints the line of an ending other than Done, where the word after the command is this one. A failure to print it changes
-/// nothing.
-pub(crate) fn say_line<D: Depot>(depot: &mut D, word: &str, ending: &Ending)
-    ensures done { ending.now.status ≡ Status.Done → depot.new ≡ depot.old }
-    ensures said { IsTrue D.tells → IsPartSaid (D.content depot.old)
-        (line_of (file_of word.now ending.now.outputs ending.now.status) (name_of ending.now.top) ending.now.status)
-        (D.content depot.new) }
-    ensures whole { IsTrue D.tells → ((D.content depot.new ≡ with_said (D.content depot.old)
-        (line_of (file_of word.now ending.now.outputs ending.now.status) (name_of ending.now.top) ending.now.status))
-        × (D.counts depot.new ≡ D.counts depot.old))
-        ⊎ Rose (D.counts depot.old).write_faults (D.counts depot.new).write_faults
-        ⊎ Rose (D.counts depot.old).refused (D.counts depot.new).refused }
-    ensures reads { (D.counts depot.new).read_faults ≡ (D.counts depot.old).read_faults }
-    ensures counted { NeverFall (D.counts depot.old) (D.counts depot.new) }
-{
-    if let Status::Done = &ending.status {
-        return;
-    }
-    match say_pieces(depot, &line_of(file_of(word, ending), ending)) {
-        Ok(()) => {}
-        Err(_unsaid) => {}
     }
 }

@@ -1,8 +1,8 @@
 use Rattle.std.proofs.Common.{◌≡◌, ◌++◌}
 use Rattle.std.specs.Prelude.{codes, decimal}
-use Rattle.mdp_job.specs.Lines.{stripes_line}
-use Rattle.mdp_job.proofs.Spellings.{five_spell}
-use Rattle.mdp_job.proofs.lines.stripes_line.Goals as goal
+use Rattle.job_report.specs.ShotLines.{stripes_line}
+use Rattle.job_report.proofs.Spellings.{five_spell}
+use Rattle.job_report.proofs.shot_lines.stripes_line.Goals as goal
 
 pub returns : goal.returns
 returns c =

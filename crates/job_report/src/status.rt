@@ -24,7 +24,7 @@ pub enum Status {
 
 impl Status {
     ghost use Rattle.std.specs.Prelude.{◌≡◌};
-    ghost use Rattle.mdp_job.specs.Codes.{code_of};
+    ghost use Rattle.job_report.specs.Codes.{code_of};
 
     /// The number with which the program ends.
     pub fn code(&self) -> u8
