@@ -5,7 +5,8 @@ use Rattle.oas_reader.proofs.BodyLemmas.{cell_more}
 use Rattle.oas_reader.proofs.reading.take_fields.Goals as goal
 
 pub returns-clause-fields : goal.returns-clause-fields
-returns-clause-fields c = λ past before. subst (AreFields (c.args.current ∷ past)) (sym (c.make_outline.ensures ∙ c.make_places.ensures)) (c.take.ensures.fields past before)
+returns-clause-fields c = λ past before.
+    subst (AreFields (c.args.current ∷ past)) (sym (c.make_outline.ensures ∙ c.make_places.ensures)) (c.take.ensures.fields past before)
 
 pub returns-clause-cell : goal.returns-clause-cell
 returns-clause-cell c =
