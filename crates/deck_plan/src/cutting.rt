@@ -1,5 +1,5 @@
 //! The pieces of a layout's shapes.
-ghost use Rattle.std.specs.Prelude.{◌≡◌, ◌<◌, ◌≤◌, ◌+◌, ℕ, [], ◌∷◌, length, slice_get, Some, All, IfOk, IfSome, OnOk};
+ghost use Rattle.std.specs.Prelude.{◌≡◌, ◌<◌, ◌≤◌, ◌+◌, ℕ, [], ◌∷◌, length, slice_get, Some, All, IsTrue, IfOk, IfSome, OnOk};
 ghost use Rattle.layout_model.specs.Layouts.{IsCellOnGrid, IsShapeOnGrid};
 ghost use Rattle.bool_ops.specs.Operations.{ArePieces};
 ghost use Rattle.cell_tree.specs.Cells.{shapes_at};
@@ -8,7 +8,7 @@ ghost use Rattle.half_grid.specs.Trapezoids.{CoversExactly};
 ghost use Rattle.half_grid.specs.Winding.{IsInPolygon};
 ghost use Rattle.deck_plan.specs.Plans.{AreAllCut, AreCutUpTo, HaveShapes, IsPutFor};
 
-use bool_ops::{lone_piece, pieces};
+use bool_ops::{lone_piece, monotone_pieces, pieces};
 use cell_tree::Tree;
 use flat_walk::Parts;
 use geo_stream::NoMemory;
@@ -51,10 +51,24 @@ fn lone_piece_of(shape: &Shape) -> Option<Trap>
     }
 }
 
-// Puts the pieces of one shape. A rectangle needs no sweep and no memory for a list.
+// The pieces of a shape that has its points in place and goes up once and down once, in place of what the list held. False
+// where they aren't known.
+fn known_pieces(shape: &Shape, traps: &mut Vec<Trap>) -> Result<bool, NoMemory>
+    requires { IsShapeOnGrid shape.now }
+    ensures { IfOk result (λ known. IsTrue known → CoversExactly traps.new.items (IsInPolygon shape.now.points)) }
+{
+    match shape.points.as_slice() {
+        Some(points) => monotone_pieces(points, traps),
+        None => Ok(false),
+    }
+}
+
+// Puts the pieces of one shape, and uses the list `traps` on the way, which may hold anything. A rectangle needs neither a
+// sweep nor a list, and most other outlines no sweep.
 fn cut_shape(
     alloc: Global,
     parts: &mut Parts,
+    traps: &mut Vec<Trap>,
     cell: usize,
     number: usize,
     shape: &Shape,
@@ -66,12 +80,21 @@ fn cut_shape(
     if let Some(trap) = lone_piece_of(shape) {
         return parts.put(cell, number, &[trap]);
     }
-    let traps = pieces_of(alloc, shape)?;
-    parts.put(cell, number, traps.as_slice())
+    if known_pieces(shape, traps)? {
+        return parts.put(cell, number, traps.as_slice());
+    }
+    let swept = pieces_of(alloc, shape)?;
+    parts.put(cell, number, swept.as_slice())
 }
 
 // The pieces of the shapes of a cell.
-fn cut_cell(alloc: Global, parts: &mut Parts, cells: &[Cell], cell: usize) -> Result<(), NoMemory>
+fn cut_cell(
+    alloc: Global,
+    parts: &mut Parts,
+    traps: &mut Vec<Trap>,
+    cells: &[Cell],
+    cell: usize,
+) -> Result<(), NoMemory>
     requires grid { All IsCellOnGrid cells.now }
     requires cell { cell < length cells.now }
     requires shapes { HaveShapes cells.now parts.old }
@@ -82,7 +105,14 @@ fn cut_cell(alloc: Global, parts: &mut Parts, cells: &[Cell], cell: usize) -> Re
     let shapes = shapes_of(cells, cell);
     let mut number = 0;
     while number < shapes.len() {
-        cut_shape(alloc, parts, cell, number, shape_at(shapes, number))?;
+        cut_shape(
+            alloc,
+            parts,
+            traps,
+            cell,
+            number,
+            shape_at(shapes, number),
+        )?;
         number += 1;
     }
     Ok(())
@@ -94,9 +124,10 @@ pub fn cut_parts(alloc: Global, tree: &Tree) -> Result<Parts, NoMemory>
 {
     let cells = tree.cells();
     let mut parts = Parts::new(alloc, tree)?;
+    let mut traps = Vec::new(alloc);
     let mut cell = 0;
     while cell < cells.len() {
-        cut_cell(alloc, &mut parts, cells, cell)?;
+        cut_cell(alloc, &mut parts, &mut traps, cells, cell)?;
         cell += 1;
     }
     Ok(parts)
