@@ -1,8 +1,13 @@
-// Two triangles that cross under each operation, two squares, and a figure eight, by their trapezoids.
+// Two triangles that cross under each operation, two squares, and a figure eight, by their trapezoids; and outlines whose
+// pieces are known by one look, against a sweep.
+ghost use Rattle.std.specs.Prelude.{All};
+ghost use Rattle.half_grid.specs.Outlines.{IsClosed};
+ghost use Rattle.half_grid.specs.Reach.{IsPointWithinReach};
 
-use crate::{Op, combine, lone_piece, pieces};
+use crate::{Op, combine, lone_piece, monotone_pieces, pieces};
 use half_grid::{Line, Point, Trap, Window, size_of};
 use layout_model::{Offsets, Pair, Shape};
+use std::alloc::Global;
 use std::process::Abort;
 use std::test::Fail;
 
@@ -125,5 +130,108 @@ fn one_trapezoid(rt: HostRuntime) -> Result<(), Fail> {
     let narrowing = lone_piece(&COUNTERCLOCKWISE).ok_or("no trapezoid")?;
     assert_eq!(rt; numbers(&narrowing), [0, 10, 0, 30, 10, 20]);
     assert!(rt; lone_piece(&EIGHT).is_none());
+    Ok(())
+}
+
+// Counterclockwise.
+const OCTAGON: [Point; 9] = [
+    Point { x: 12, y: 16 },
+    Point { x: 4, y: 16 },
+    Point { x: 0, y: 12 },
+    Point { x: 0, y: 4 },
+    Point { x: 4, y: 0 },
+    Point { x: 12, y: 0 },
+    Point { x: 16, y: 4 },
+    Point { x: 16, y: 12 },
+    Point { x: 12, y: 16 },
+];
+
+// A T, clockwise, with a point twice, one in the middle of a side, and a run that turns back at the lowest Y.
+const STEPPED: [Point; 12] = [
+    Point { x: 6, y: 4 },
+    Point { x: 6, y: 4 },
+    Point { x: 6, y: 8 },
+    Point { x: 0, y: 8 },
+    Point { x: 0, y: 12 },
+    Point { x: 14, y: 12 },
+    Point { x: 14, y: 8 },
+    Point { x: 10, y: 8 },
+    Point { x: 10, y: 0 },
+    Point { x: 2, y: 0 },
+    Point { x: 6, y: 0 },
+    Point { x: 6, y: 4 },
+];
+
+// Both ways meet at a corner, and go on in the other order.
+const CROSSED: [Point; 7] = [
+    Point { x: 0, y: 0 },
+    Point { x: 8, y: 8 },
+    Point { x: 8, y: 16 },
+    Point { x: 0, y: 16 },
+    Point { x: 8, y: 8 },
+    Point { x: 16, y: 0 },
+    Point { x: 0, y: 0 },
+];
+
+// It goes up and back along a line at its top.
+const SPIKED: [Point; 8] = [
+    Point { x: 0, y: 0 },
+    Point { x: 0, y: 8 },
+    Point { x: 4, y: 8 },
+    Point { x: 4, y: 12 },
+    Point { x: 4, y: 8 },
+    Point { x: 8, y: 8 },
+    Point { x: 8, y: 0 },
+    Point { x: 0, y: 0 },
+];
+
+// It goes up twice.
+const CUP: [Point; 9] = [
+    Point { x: 0, y: 0 },
+    Point { x: 0, y: 12 },
+    Point { x: 4, y: 12 },
+    Point { x: 4, y: 4 },
+    Point { x: 8, y: 4 },
+    Point { x: 8, y: 12 },
+    Point { x: 12, y: 12 },
+    Point { x: 12, y: 0 },
+    Point { x: 0, y: 0 },
+];
+
+// How many pieces a look at the points gives, where it knows them: none elsewhere. They have the tiles of those that a sweep
+// gives.
+fn known(rt: &impl Abort, alloc: Global, points: &[Point]) -> Result<usize, Fail>
+    requires closed { IsClosed points.now }
+    requires reach { All IsPointWithinReach points.now }
+{
+    let pair = Pair {
+        layer: 1,
+        datatype: 0,
+    };
+    let place = Offsets::list(alloc, &[Point { x: 0, y: 0 }])?;
+    let Ok(shape) = Shape::new(alloc, pair, points, place) else {
+        return Err("no shape".into());
+    };
+    let swept = pieces(alloc, &shape)?;
+    let mut traps = Vec::new(alloc);
+    if !monotone_pieces(points, &mut traps)? {
+        assert!(rt; traps.is_empty());
+        return Ok(0);
+    }
+    let rows = Window::new(0, 20).ok_or("no window")?;
+    let other = combine(alloc, Op::Xor, traps.as_slice(), swept.as_slice(), rows)?;
+    assert!(rt; other.is_empty());
+    assert_eq!(rt; triangles(traps.as_slice()), triangles(swept.as_slice()));
+    Ok(traps.len())
+}
+
+#[test]
+fn up_once_and_down_once(rt: HostRuntime) -> Result<(), Fail> {
+    assert_eq!(rt; known(&rt, rt.alloc(), &OCTAGON)?, 3);
+    assert_eq!(rt; known(&rt, rt.alloc(), &STEPPED)?, 2);
+    assert_eq!(rt; known(&rt, rt.alloc(), &CROSSED)?, 2);
+    assert_eq!(rt; known(&rt, rt.alloc(), &SPIKED)?, 0);
+    assert_eq!(rt; known(&rt, rt.alloc(), &CUP)?, 0);
+    assert_eq!(rt; known(&rt, rt.alloc(), &EIGHT)?, 0);
     Ok(())
 }

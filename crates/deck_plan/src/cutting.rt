@@ -105,14 +105,7 @@ fn cut_cell(
     let shapes = shapes_of(cells, cell);
     let mut number = 0;
     while number < shapes.len() {
-        cut_shape(
-            alloc,
-            parts,
-            traps,
-            cell,
-            number,
-            shape_at(shapes, number),
-        )?;
+        cut_shape(alloc, parts, traps, cell, number, shape_at(shapes, number))?;
         number += 1;
     }
     Ok(())
