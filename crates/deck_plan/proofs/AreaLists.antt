@@ -93,41 +93,73 @@ none_has traps t out = by_test (has_tile traps t) refl (λ h. absurd (out (has_s
 pub some_decided : (traps : List Trapezoid) (t : Tile) → Decided (IsInSome traps t)
 some_decided traps t = by_test (has_tile traps t) refl (λ h. inl (has_some traps t h)) (λ h. inr (has_none traps t h))
 
-taken_of : (op : Op) (a b : List Trapezoid) (t : Tile) (p q : Bool) → has_tile a t ≡ p → has_tile b t ≡ q
-    → takes op p q ≡ true → OfBoth op (IsInSome a t) (IsInSome b t)
-taken_of Or a b t true q e f h = inl (has_some a t e)
-taken_of Or a b t false true e f h = inr (has_some b t f)
-taken_of Or a b t false false e f h = absurd (grind arith)
-taken_of And a b t true true e f h = (has_some a t e, has_some b t f)
-taken_of And a b t true false e f h = absurd (grind arith)
-taken_of And a b t false q e f h = absurd (grind arith)
-taken_of Sub a b t true false e f h = (has_some a t e, has_none b t f)
-taken_of Sub a b t true true e f h = absurd (grind arith)
-taken_of Sub a b t false q e f h = absurd (grind arith)
-taken_of Xor a b t true false e f h = inl (has_some a t e, has_none b t f)
-taken_of Xor a b t true true e f h = absurd (grind arith)
-taken_of Xor a b t false true e f h = inr (has_none a t e, has_some b t f)
-taken_of Xor a b t false false e f h = absurd (grind arith)
+-- what a test tells
+abbrev pub Tells : Bool → Type 0 → Type 0
+Tells true P = P
+Tells false P = P → ⊥
 
-of_taken : (op : Op) (a b : List Trapezoid) (t : Tile) → OfBoth op (IsInSome a t) (IsInSome b t) → takes op (has_tile a t) (has_tile b t) ≡ true
-of_taken Or a b t (inl h) = rw (some_has a t h) refl
-of_taken Or a b t (inr h) = rw (some_has b t h) (grind arith)
-of_taken And a b t (h, k) = rw (some_has a t h, some_has b t k) refl
-of_taken Sub a b t (h, k) = rw (some_has a t h, none_has b t k) refl
-of_taken Xor a b t (inl (h, k)) = rw (some_has a t h, none_has b t k) refl
-of_taken Xor a b t (inr (h, k)) = rw (none_has a t h, some_has b t k) refl
+pub tells_by : (P : Type 0) (b : Bool) → (b ≡ true → P) → (b ≡ false → P → ⊥) → Tells b P
+tells_by P true f g = f refl
+tells_by P false f g = g refl
+
+tells_some : (traps : List Trapezoid) (t : Tile) → Tells (has_tile traps t) (IsInSome traps t)
+tells_some traps t = tells_by (IsInSome traps t) (has_tile traps t) (has_some traps t) (has_none traps t)
+
+-- what an operation takes by two tests
+pub taken_of : (op : Op) (P Q : Type 0) (p q : Bool) → Tells p P → Tells q Q → takes op p q ≡ true → OfBoth op P Q
+taken_of Or P Q true q e f h = inl e
+taken_of Or P Q false true e f h = inr f
+taken_of Or P Q false false e f h = absurd (false_true h)
+taken_of And P Q true true e f h = (e, f)
+taken_of And P Q true false e f h = absurd (false_true h)
+taken_of And P Q false q e f h = absurd (false_true h)
+taken_of Sub P Q true false e f h = (e, f)
+taken_of Sub P Q true true e f h = absurd (false_true h)
+taken_of Sub P Q false q e f h = absurd (false_true h)
+taken_of Xor P Q true false e f h = inl (e, f)
+taken_of Xor P Q true true e f h = absurd (false_true h)
+taken_of Xor P Q false true e f h = inr (e, f)
+taken_of Xor P Q false false e f h = absurd (false_true h)
+
+pub of_taken : (op : Op) (P Q : Type 0) (p q : Bool) → Tells p P → Tells q Q → OfBoth op P Q → takes op p q ≡ true
+of_taken Or P Q true q e f h = refl
+of_taken Or P Q false true e f h = refl
+of_taken Or P Q false false e f (inl h) = absurd (e h)
+of_taken Or P Q false false e f (inr h) = absurd (f h)
+of_taken And P Q true true e f h = refl
+of_taken And P Q true false e f h = absurd (f h.1)
+of_taken And P Q false q e f h = absurd (e h.0)
+of_taken Sub P Q true false e f h = refl
+of_taken Sub P Q true true e f h = absurd (h.1 f)
+of_taken Sub P Q false q e f h = absurd (e h.0)
+of_taken Xor P Q true false e f h = refl
+of_taken Xor P Q true true e f (inl h) = absurd (h.1 f)
+of_taken Xor P Q true true e f (inr h) = absurd (h.0 e)
+of_taken Xor P Q false true e f h = refl
+of_taken Xor P Q false false e f (inl h) = absurd (e h.0)
+of_taken Xor P Q false false e f (inr h) = absurd (f h.1)
+
+-- what holds in the window's rows where a test says so
+pub tested : (window : RowRange) (t : Tile) (P : Type 0) (b : Bool) → (IsInRows window t → b ≡ true → P)
+    → (P → IsInRows window t) → (P → b ≡ true) → Decided P
+tested window t P b make rows says = elim (rows_decided window t) [
+  | inl inside ↦ by_test b refl (λ h. inl (make inside h)) (λ h. inr (λ p. false_true (sym h ∙ says p)))
+  | inr out ↦ inr (λ p. out (rows p))
+]
 
 result_decided : (op : Op) (a b : List Trapezoid) (window : RowRange) (t : Tile) → Decided (IsInResult op a b window t)
-result_decided op a b window t = elim (rows_decided window t) [
-  | inl rows ↦ by_test (takes op (has_tile a t) (has_tile b t)) refl (λ h. inl (record { rows = rows; taken = h }))
-      (λ h. inr (λ r. false_true (sym h ∙ r.taken)))
-  | inr out ↦ inr (λ r. out r.rows)
-]
+result_decided op a b window t = tested window t (IsInResult op a b window t) (takes op (has_tile a t) (has_tile b t))
+    (λ rows h. record { rows = rows; taken = h })
+    (λ r. r.rows)
+    (λ r. r.taken)
 
 -- what is combined of two lists has the tiles that the operation takes
 pub combined_has : (op : Op) (a b : List Trapezoid) (window : RowRange) (traps : List Trapezoid) → IsJoinedOf window (IsInResult op a b window) traps
     → HasArea window (λ t. OfBoth op (IsInSome a t) (IsInSome b t)) traps
 combined_has op a b window traps joined =
     joined_has window (IsInResult op a b window) (λ t. OfBoth op (IsInSome a t) (IsInSome b t)) traps joined (result_decided op a b window)
-    (λ t r. (r.rows, taken_of op a b t (has_tile a t) (has_tile b t) refl refl r.taken))
-    (λ t rows h. record { rows = rows; taken = of_taken op a b t h })
+    (λ t r. (r.rows, taken_of op (IsInSome a t) (IsInSome b t) (has_tile a t) (has_tile b t) (tells_some a t) (tells_some b t) r.taken))
+    (λ t rows h. record {
+      rows = rows;
+      taken = of_taken op (IsInSome a t) (IsInSome b t) (has_tile a t) (has_tile b t) (tells_some a t) (tells_some b t) h;
+    })

@@ -1,8 +1,9 @@
 -- The halos of an output, definition by definition from the last one down.
 use Rattle.std.proofs.Common.{◌≡◌, ◌⊎◌, inl, inr, ℕ, zero, suc, ◌+◌, ◌*◌, ◌<◌, ◌≤◌, ℤ, pos, ◌+ℤ◌, ◌≤ℤ◌, List, [], ◌∷◌}
-use Rattle.std.proofs.Common.{◌++◌, Option, Some, None, length, set, get_or, slice_get, replicate, Contains, IfSome}
+use Rattle.std.proofs.Common.{true, false, ◌++◌, Option, Some, None, length, set, get_or, slice_get, replicate, Contains, IfSome}
 use Rattle.std.proofs.Common.{refl, sym, ap, subst, ◌∙◌, arith}
 use Rattle.std.proofs.lemmas.Int.{ints, by_lt_z, clamps}
+use Rattle.std.proofs.lemmas.Bool.{false≢true}
 use Rattle.std.proofs.lemmas.Option.{none-some, same_Some, slice_get_within, slice_get-get_or, get_or_from_slice_get}
 use Rattle.std.specs.Int.{int_max}
 use Rattle.std.specs.Option.{option_to_list}
@@ -12,7 +13,7 @@ use Rattle.deck_text.specs.Sound.{IsSoundStep}
 use Rattle.deck_plan.specs.declared.needs.Taken.{Taken}
 use Rattle.deck_plan.specs.declared.needs.Need.{Need}
 use Rattle.deck_plan.specs.Needs.{IsChain, chain_end, Takes, operands_of}
-use Rattle.deck_plan.specs.Halos.{halo_sum, HasChain, NeedIs, AreHalos, IsSoundOperand, raised, raised_at, raised_all, passed, passed_by}
+use Rattle.deck_plan.specs.Halos.{halo_sum, HasChain, IsLone, NeedIs, AreHalos, IsSoundOperand, raised, raised_at, raised_all, passed, passed_by}
 use Rattle.deck_plan.proofs.Slots.{set_cases, set_here, set_length, all_alike, alike_length, one_slot}
 use Rattle.deck_plan.proofs.StepLemmas.{sound_operand}
 
@@ -42,21 +43,34 @@ longer deck name n halo operand h takes = record {
 
 -- ---- one step
 
+-- what was one operand alone has the same taker
+abbrev IsLoneAs : Need → Need → Type 0
+IsLoneAs need other = other.shared ≡ false → (need.shared ≡ false) × (other.last ≡ need.last)
+
+lone_along : (need mid other : Need) → IsLoneAs need mid → IsLoneAs mid other → IsLoneAs need other
+lone_along need mid other h k e = let l = k e in let m = h l.0 in (m.0, l.1 ∙ m.1)
+
+lone_still : (need other : Need) (n : ℕ) → IsLone need n → IsLoneAs need other → IsLone other n
+lone_still need other n h k e = let l = k e in l.1 ∙ h l.0
+
 module _ (deck : Deck) (name user : ℕ) (asked : Need) (before : List (Option Need)) where
   -- while the operands of the definition `user` are taken
   record Raising (needs : List (Option Need)) : Type 0 where
     long : length needs ≡ 256
     kept : (n : ℕ) → user ≤ n → slice_get needs n ≡ slice_get before n
-    grown : (n : ℕ) (need : Need) → NeedIs before n need → (other : Need) × NeedIs needs n other × (need.halo ≤ℤ other.halo) × (need.last ≤ other.last)
+    grown : (n : ℕ) (need : Need) → NeedIs before n need
+        → (other : Need) × NeedIs needs n other × (need.halo ≤ℤ other.halo) × (need.last ≤ other.last) × IsLoneAs need other
     none : (n : ℕ) (need : Need) → NeedIs needs n need → n ≤ name
     reached : (n : ℕ) (need : Need) → NeedIs needs n need → HasChain deck name n need.halo
     low : (n : ℕ) (need : Need) → NeedIs needs n need → pos 0 ≤ℤ need.halo
     high : (n : ℕ) (need : Need) → NeedIs needs n need → (need.halo +ℤ pos (65536 * n)) ≤ℤ pos (65536 * name)
     later : (n : ℕ) (need : Need) → NeedIs needs n need → user ≤ need.last
+    latest : (n : ℕ) (need : Need) → NeedIs needs n need → need.last ≤ name
 
   -- the operand has what it needs
   abbrev IsGiven : List (Option Need) → Taken → Type 0
-  IsGiven needs operand = (other : Need) × NeedIs needs operand.name other × ((asked.halo +ℤ operand.halo) ≤ℤ other.halo) × (user ≤ other.last)
+  IsGiven needs operand = (other : Need) × NeedIs needs operand.name other × ((asked.halo +ℤ operand.halo) ≤ℤ other.halo)
+      × (user ≤ other.last) × IsLone other user
 
   abbrev AreGiven : List (Option Need) → List Taken → Type 0
   AreGiven needs [] = Unit {0}
@@ -88,7 +102,9 @@ module _ (deck : Deck) (name user : ℕ) (asked : Need) (before : List (Option N
         last : user ≤ need.last
         chain : HasChain deck name operand.name need.halo
         limit : (need.halo +ℤ pos (65536 * operand.name)) ≤ℤ pos (65536 * name)
-        old : (other : Need) → NeedIs needs operand.name other → (other.halo ≤ℤ need.halo) × (other.last ≤ need.last)
+        lone : IsLone need user
+        latest : need.last ≤ name
+        old : (other : Need) → NeedIs needs operand.name other → (other.halo ≤ℤ need.halo) × (other.last ≤ need.last) × IsLoneAs other need
 
       limit_new : ((asked.halo +ℤ operand.halo) +ℤ pos (65536 * operand.name)) ≤ℤ pos (65536 * name)
       limit_new = omega (arith, ints, asked_high, s.high, s.earlier)
@@ -99,6 +115,8 @@ module _ (deck : Deck) (name user : ℕ) (asked : Need) (before : List (Option N
         last = omega arith;
         chain = longer deck name user asked.halo operand used takes;
         limit = limit_new;
+        lone = λ e. refl;
+        latest = own;
         old = λ other here. absurd (none-some other (sym e ∙ get_or_from_slice_get needs operand.name (Some other) None here));
       }
       put_new (Some need) e =
@@ -114,11 +132,14 @@ module _ (deck : Deck) (name user : ℕ) (asked : Need) (before : List (Option N
                 (arith, ints, clamps, ge) in subst (HasChain deck name operand.name) e
                 (r.reached operand.name need here)));
             limit = (let old = r.high operand.name need here in let new = limit_new in omega (arith, ints, clamps, old, new));
+            lone = λ e. absurd (false≢true (sym e));
+            latest = r.latest operand.name need here;
             old = λ other there.
                 (let same = same_Some need other (one_slot needs operand.name (Some need) (Some other) here there) in (
                   omega (arith, ints, clamps, ap (λ (x : Need). x.halo) same),
                   omega
                       (arith, ap (λ (x : Need). x.last) same),
+                  λ e. absurd (false≢true (sym e)),
                 ));
           }
 
@@ -138,12 +159,14 @@ module _ (deck : Deck) (name user : ℕ) (asked : Need) (before : List (Option N
           | inr h ↦ others n other (sym h.1 ∙ is)
         ]
 
-        put_grown : (n : ℕ) (old : Need) → NeedIs before n old → (other : Need) × NeedIs (Put need) n other × (old.halo ≤ℤ other.halo) × (old.last ≤ other.last)
+        put_grown : (n : ℕ) (old : Need) → NeedIs before n old
+            → (other : Need) × NeedIs (Put need) n other × (old.halo ≤ℤ other.halo) × (old.last ≤ other.last) × IsLoneAs old other
         put_grown n old there =
             let g = r.grown n old there in
             elim (at n) [
-              | inl h ↦ (let o = p.old g.0 (subst (λ m. NeedIs needs m g.0) h.0 g.1) in (need, h.1, omega (arith, ints, g.2, o.0), omega (arith, g.3, o.1)))
-              | inr h ↦ (g.0, h.1 ∙ g.1, g.2, g.3)
+              | inl h ↦ (let o = p.old g.0 (subst (λ m. NeedIs needs m g.0) h.0 g.1) in
+                  (need, h.1, omega (arith, ints, g.2, o.0), omega (arith, g.3, o.1), lone_along old g.0 need g.4 o.2))
+              | inr h ↦ (g.0, h.1 ∙ g.1, g.2, g.3, g.4)
             ]
 
         put_raising : Raising (Put need)
@@ -156,16 +179,18 @@ module _ (deck : Deck) (name user : ℕ) (asked : Need) (before : List (Option N
           low = each (λ n other. pos 0 ≤ℤ other.halo) (omega (arith, ints, p.halo, asked_low, s.low)) r.low;
           high = each (λ n other. (other.halo +ℤ pos (65536 * n)) ≤ℤ pos (65536 * name)) p.limit r.high;
           later = each (λ n other. user ≤ other.last) p.last r.later;
+          latest = each (λ n other. other.last ≤ name) p.latest r.latest;
         }
 
         put_given : IsGiven (Put need) operand
-        put_given = (need, set_here needs operand.name (Some need) within, p.halo, p.last)
+        put_given = (need, set_here needs operand.name (Some need) within, p.halo, p.last, p.lone)
 
         -- what was given stays given
         still_given : (other : Taken) → IsGiven needs other → IsGiven (Put need) other
         still_given other g = elim (at other.name) [
-          | inl h ↦ (let o = p.old g.0 (subst (λ m. NeedIs needs m g.0) h.0 g.1) in (need, h.1, omega (arith, ints, g.2, o.0), omega (arith, g.3, o.1)))
-          | inr h ↦ (g.0, h.1 ∙ g.1, g.2, g.3)
+          | inl h ↦ (let o = p.old g.0 (subst (λ m. NeedIs needs m g.0) h.0 g.1) in
+              (need, h.1, omega (arith, ints, g.2, o.0), omega (arith, g.3, o.1), lone_still g.0 need user g.4 o.2))
+          | inr h ↦ (g.0, h.1 ∙ g.1, g.2, g.3, g.4)
         ]
 
     AllSound : List Taken → Type 0
@@ -218,6 +243,7 @@ module _ (deck : Deck) (name k : ℕ) (needs : List (Option Need)) (h : AreHalos
     low = h.low;
     high = h.high;
     later = λ n need there. (let l = h.later n need there in omega (arith, l));
+    latest = h.latest;
   }
 
   module _ (asked : Need) (there : NeedIs needs k asked) where
@@ -228,12 +254,13 @@ module _ (deck : Deck) (name k : ℕ) (needs : List (Option Need)) (h : AreHalos
     begun = record {
       long = h.long;
       kept = λ n from. refl;
-      grown = λ n need is. (need, is, omega (arith, ints), omega arith);
+      grown = λ n need is. (need, is, omega (arith, ints), omega arith, λ e. (e, refl));
       none = h.none;
       reached = h.reached;
       low = h.low;
       high = h.high;
       later = λ n need is. (let l = h.later n need is in omega (arith, l));
+      latest = h.latest;
     }
 
     below : k < 256
@@ -250,23 +277,23 @@ module _ (deck : Deck) (name k : ℕ) (needs : List (Option Need)) (h : AreHalos
 
     of_step : (need : Need) (operand : Taken) → NeedIs needs k need → Takes deck k operand
         → (other : Need) × NeedIs (raised_all needs asked.halo k (operands_of step)) operand.name other
-        × ((need.halo +ℤ operand.halo) ≤ℤ other.halo) × (k ≤ other.last)
+        × ((need.halo +ℤ operand.halo) ≤ℤ other.halo) × (k ≤ other.last) × IsLone other k
     of_step need operand is takes =
         let g = given_one deck name k asked needs (raised_all needs asked.halo k (operands_of step))
         (operands_of step) operand after.given (taken_of operand takes) in
         let same = ap (λ (x : Need). x.halo) (one_slot_need need is) in
-        (g.0, g.1, omega (arith, ints, g.2, same), g.3)
+        (g.0, g.1, omega (arith, ints, g.2, same), g.3, g.4)
       where
         one_slot_need : (need : Need) → NeedIs needs k need → need ≡ asked
         one_slot_need need is = same_Some need asked (one_slot needs k (Some need) (Some asked) is there)
 
     of_later : (n : ℕ) (need : Need) (operand : Taken) → suc k ≤ n → NeedIs needs n need → Takes deck n operand
         → (other : Need) × NeedIs (raised_all needs asked.halo k (operands_of step)) operand.name other
-        × ((need.halo +ℤ operand.halo) ≤ℤ other.halo) × (n ≤ other.last)
+        × ((need.halo +ℤ operand.halo) ≤ℤ other.halo) × (n ≤ other.last) × IsLone other n
     of_later n need operand above is takes =
         let o = h.operands n need operand above is takes in
         let g = after.raising.grown operand.name o.0 o.1 in
-        (g.0, g.1, omega (arith, ints, o.2, g.2), omega (arith, o.3, g.3))
+        (g.0, g.1, omega (arith, ints, o.2, g.2), omega (arith, o.3, g.3), lone_still o.0 g.0 n o.4 g.4)
 
     needed : AreHalos deck name k (raised_all needs asked.halo k (operands_of step))
     needed = record {
@@ -275,13 +302,14 @@ module _ (deck : Deck) (name k : ℕ) (needs : List (Option Need)) (h : AreHalos
       none = after.raising.none;
       operands = λ n need operand from is takes. elim (at_or_above k n from) [
         | inl same ↦ (let g = of_step need operand (subst (λ m. NeedIs needs m need) same (before_is n need from is))
-            (subst (λ m. Takes deck m operand) same takes) in (g.0, g.1, g.2, omega (arith, g.3, same)))
+            (subst (λ m. Takes deck m operand) same takes) in (g.0, g.1, g.2, omega (arith, g.3, same), λ e. g.4 e ∙ sym same))
         | inr above ↦ of_later n need operand above (before_is n need from is) takes
       ];
       reached = after.raising.reached;
       low = after.raising.low;
       high = after.raising.high;
       later = λ n need is. (let l = after.raising.later n need is in omega (arith, l));
+      latest = after.raising.latest;
     }
 
   by_need : (found : Option Need) → get_or needs k None ≡ found → k < 256 → AreHalos deck name k (passed_by found needs k (operands_of step))
@@ -295,7 +323,7 @@ module _ (deck : Deck) (name k : ℕ) (needs : List (Option Need)) (h : AreHalos
 
 module _ (deck : Deck) (name : ℕ) (few : name < 256) where
   abbrev Own : Need
-  Own = record { halo = pos 0; last = name }
+  Own = record { halo = pos 0; last = name; shared = false }
 
   abbrev Alone : List (Option Need)
   Alone = set (replicate 256 None) name (Some Own)
@@ -322,6 +350,7 @@ module _ (deck : Deck) (name : ℕ) (few : name < 256) where
     low = alone (λ n need. pos 0 ≤ℤ need.halo) (omega (arith, ints));
     high = alone (λ n need. (need.halo +ℤ pos (65536 * n)) ≤ℤ pos (65536 * name)) (omega (arith, ints));
     later = alone (λ n need. name + 1 ≤ need.last + 1) (omega arith);
+    latest = alone (λ n need. need.last ≤ name) (omega arith);
   }
 
 -- ---- the operands as the code has them

@@ -19,4 +19,5 @@ pub mod Arms
 pub mod KeptLemmas
 pub mod ImageLemmas
 pub mod MoveLemmas
+pub mod OwnLayerLemmas
 pub mod ReadyLemmas

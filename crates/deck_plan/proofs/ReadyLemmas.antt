@@ -27,6 +27,7 @@ use Rattle.std.proofs.lemmas.Option.{none-some, same_Some, get_or_from_slice_get
 use Rattle.deck_plan.specs.Halos.{NeedIs, AreHalos, window_for}
 use Rattle.deck_plan.specs.Lists.{HasArea, IsJoinedSomewhere, IsListed, list_at}
 use Rattle.deck_plan.specs.Bounds.{IsTileUpTo, HasCornersUpTo}
+use Rattle.deck_plan.specs.OwnLayers.{own_layers, IsLeftOut}
 use Rattle.deck_plan.specs.Ready.{IsReady, IsPast, IsHeld, AreHeld, ends_at, let_go}
 use Rattle.deck_plan.proofs.AreaLists.{covers_exactly}
 use Rattle.deck_plan.proofs.Corners.{corners_of_all}
@@ -127,26 +128,25 @@ module _ (cells : List Cell) (top : ℕ) (deck : Deck) (band : RowRange) (needs 
   module _ (sound : (k : ℕ) (step : Step) → slice_get deck.steps k ≡ Some step → IsSoundStep deck.frame k step) where
     module _ (name : ℕ) (halos : AreHalos deck name 0 needs) (lists : List (List Trapezoid)) (n : ℕ) (held : (m : ℕ) → m < n → Held n m (list_at lists m)) where
       -- what a definition from n on takes is there yet
-      still : (m : ℕ) (need : Need) → m < n → NeedIs needs m need → n ≤ need.last
+      still : (m : ℕ) (need : Need) → m < n → NeedIs needs m need → n ≤ need.last → (IsLeftOut deck needs m → ⊥)
           → HasArea (widened need.halo band) (IsInArea cells top deck m) (list_at lists m)
-      still m need early is later = elim
-          (held m early) [
-            | inl r ↦ r.needed need is
-            | inr gone ↦
-                (let past = gone.1 need is in absurd (omega (arith, past, later)))
-          ]
+      still m need early is later taken = elim (held m early) [
+        | inl r ↦ r.needed need is
+        | inr gone ↦ elim gone.1 [ inl past ↦ (let p = past need is in absurd (omega (arith, p, later))) | inr out ↦ absurd (taken out) ]
+      ]
 
       -- the area of the next definition, by its step
       pub next_area : (step : Step) (need : Need) (traps : List Trapezoid) → slice_get deck.steps n ≡ Some step → NeedIs needs n need
+          → own_layers deck.steps needs n ≡ None
           → HasArea (widened need.halo band) (λ t. IsInStep cells top deck.frame (IsListed lists) step t) traps
           → HasArea (widened need.halo band) (IsInArea cells top deck n) traps
-      next_area step need traps here is h =
+      next_area step need traps here is by_lists h =
           step_area cells top deck sound lists n step (widened need.halo band) traps here
           (λ operand among u rows.
           let takes : Takes deck n operand = record { step = step; here = here; among = among } in
           let o = halos.operands n need operand (omega arith) is takes in
           let early = (sound_operand deck.frame n step operand (sound n step here) among).earlier in
-          let has = still operand.name o.0 early o.1 o.3 in
+          let has = still operand.name o.0 early o.1 o.3 (λ out. out n need operand is takes refl by_lists) in
           let more = o.2 in (
             λ listed. (has.inside u listed).1,
             λ area. has.all u
@@ -233,17 +233,20 @@ module _ (cells : List Cell) (top : ℕ) (deck : Deck) (band : RowRange) (needs 
 
   -- a list that is held stays so when the next definition is done
   held_on : (from n : ℕ) (traps : List Trapezoid) → Held from n traps → Held (from + 1) n traps
-  held_on from n traps h = elim h [ inl r ↦ inl r | inr gone ↦ inr (gone.0, λ need is. (let past = gone.1 need is in omega (arith, past))) ]
+  held_on from n traps h = elim h [
+    | inl r ↦ inl r
+    | inr gone ↦ inr (gone.0, elim gone.1 [ inl past ↦ inl (λ need is. (let p = past need is in omega (arith, p))) | inr out ↦ inr out ])
+  ]
 
   pub all_held_on : (from : ℕ) (lists : List (List Trapezoid)) → All_held from lists → All_held (from + 1) lists
   all_held_on from lists held m inside = held_on from m (list_at lists m) (held m inside)
 
   held_put : (lists : List (List Trapezoid)) (traps : List Trapezoid) → All_held (length lists + 1) lists
-      → Ready (length lists) traps → All_held (length lists + 1) (lists ++ traps ∷ [])
+      → Held (length lists + 1) (length lists) traps → All_held (length lists + 1) (lists ++ traps ∷ [])
   held_put lists traps before new m inside = elim (at_last m (length lists) (omega (arith, inside, length-append lists (traps ∷ [])))) [
     | inl early ↦ subst (λ list. Held (length lists + 1) m list) (sym (put_before lists traps m early)) (before m early)
-    | inr last ↦ inl (subst (λ k. Ready k (list_at (lists ++ traps ∷ []) k)) (sym last)
-        (subst (λ list. Ready (length lists) list) (sym (put_last lists traps)) new))
+    | inr last ↦ subst (λ k. Held (length lists + 1) k (list_at (lists ++ traps ∷ []) k)) (sym last)
+        (subst (λ list. Held (length lists + 1) (length lists) list) (sym (put_last lists traps)) new)
   ]
 
   -- the definition `user` is done, and it was the last that takes this one
@@ -259,7 +262,7 @@ module _ (cells : List Cell) (top : ℕ) (deck : Deck) (band : RowRange) (needs 
   held_one user n lists inside past held m early_set =
       let early : m < length lists = subst (λ k. m < k) (set_length lists n []) early_set in
       elim (get_cases lists n [] [] m inside) [
-        | inl here ↦ inr (here.1, subst (IsPast needs (user + 1)) (sym here.0) past)
+        | inl here ↦ inr (here.1, inl (subst (IsPast needs (user + 1)) (sym here.0) past))
         | inr other ↦ subst (λ traps. Held (user + 1) m traps) (sym other.1) (held m early)
       ]
 
@@ -284,7 +287,7 @@ module _ (cells : List Cell) (top : ℕ) (deck : Deck) (band : RowRange) (needs 
 
   -- what is held once the next definition is done, which has these operands
   pub held_next : (lists : List (List Trapezoid)) (traps : List Trapezoid) (first second : Option Taken)
-      → All_held (length lists + 1) lists → Ready (length lists) traps
+      → All_held (length lists + 1) lists → Held (length lists + 1) (length lists) traps
       → IfSome first (λ operand. operand.name < length lists + 1) → IfSome second (λ operand. operand.name < length lists + 1)
       → All_held (length lists + 1) (let_go needs (length lists) second (let_go needs (length lists) first (lists ++ traps ∷ [])))
   held_next lists traps first second held ready one two =
@@ -298,7 +301,7 @@ module _ (cells : List Cell) (top : ℕ) (deck : Deck) (band : RowRange) (needs 
 
   -- the same of what is kept of each list
   pub held_step : {V : Type 0} (f : V → List Trapezoid) (vs : List V) (v : V) (first second : Option Taken)
-      (after : List V) → All_held (length vs + 1) (map f vs) → Ready (length vs) (f v)
+      (after : List V) → All_held (length vs + 1) (map f vs) → Held (length vs + 1) (length vs) (f v)
       → IfSome first (λ operand. operand.name < length vs + 1) → IfSome second (λ operand. operand.name < length vs + 1)
       → map f after ≡ let_go needs (length vs) second (let_go needs (length vs) first (map f (vs ++ v ∷ [])))
       → (length after ≡ length vs + 1) × All_held (length after) (map f after)
@@ -307,7 +310,7 @@ module _ (cells : List Cell) (top : ℕ) (deck : Deck) (band : RowRange) (needs 
       let e : length lists ≡ length vs = map_same f vs in
       let put = lists ++ f v ∷ [] in
       let more = ap (λ n. n + 1) (sym e) in
-      let base = held_next lists (f v) first second (subst (λ n. All_held (n + 1) lists) (sym e) held) (subst (λ n. Ready n (f v)) (sym e) ready)
+      let base = held_next lists (f v) first second (subst (λ n. All_held (n + 1) lists) (sym e) held) (subst (λ n. Held (n + 1) n (f v)) (sym e) ready)
       (inside_still first (length vs + 1) (length lists + 1) more one) (inside_still second (length vs + 1) (length lists + 1) more two) in
       let moved = subst (λ n. All_held (n + 1) (let_go needs n second (let_go needs n first put))) e base in
       let all = is ∙ ap (λ xs. let_go needs (length vs) second (let_go needs (length vs) first xs)) (map_put f vs v) in

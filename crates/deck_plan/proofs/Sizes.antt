@@ -151,12 +151,13 @@ some_of zero f = absurd (f refl)
 some_of (suc n) f = omega arith
 
 -- two lists of edges in balance are in balance together
-both_balanced : (es fs : List EdgeParts) (o : Operand) (j : ℤ) → IsBalancedAt es o j → IsBalancedAt fs o j → IsBalancedAt (es ++ fs) o j
+pub both_balanced : (es fs : List EdgeParts) (o : Operand) (j : ℤ) → IsBalancedAt es o j → IsBalancedAt fs o j → IsBalancedAt (es ++ fs) o j
 both_balanced es fs o j h k = sum_by-append _ es fs ∙ (rw (h, k) (sym (sum_by-append _ es fs)))
 
--- the edges of a list as operand B, and those of the rings round another list
-module _ (dx dy : ℤ) (r : IsRectangle dx dy) (traps outside : List Trapezoid) (legal : All IsLegal outside) (window : RowRange) (own edges : List EdgeParts)
-    (first : WindsByCount A own [] window) (second : WindsByCount B own traps window) (is : edges ≡ own ++ flat_map (edges_of_grown dx dy) outside) where
+-- the edges of a trapezoid as operand B, and those of the rings round a list
+module _ (dx dy : ℤ) (r : IsRectangle dx dy) (z : Trapezoid) (outside : List Trapezoid) (legal : All IsLegal outside) (window : RowRange)
+    (own edges : List EdgeParts) (first : WindsByCount A own [] window) (second : WindsByCount B own (z ∷ []) window)
+    (is : edges ≡ own ++ flat_map (edges_of_grown dx dy) outside) where
   abbrev rings : List EdgeParts
   rings = flat_map (edges_of_grown dx dy) outside
 
@@ -169,8 +170,8 @@ module _ (dx dy : ℤ) (r : IsRectangle dx dy) (traps outside : List Trapezoid) 
       let none = first t rows.from rows.below in
       omega (arith, ints, sum, none)
 
-  round_traps : (t : Tile) → IsInRows window t → edges_winding B edges t ≡ pos (count_in traps t)
-  round_traps t rows =
+  round_whole : (t : Tile) → IsInRows window t → edges_winding B edges t ≡ pos (count_in (z ∷ []) t)
+  round_whole t rows =
       let sum = ap (λ (es : List EdgeParts). edges_winding B es t) is ∙ windings_add B own rings t in
       let count = second t rows.from rows.below in
       let none = grown_not_for_other dx dy outside t in
@@ -188,7 +189,7 @@ module _ (dx dy : ℤ) (r : IsRectangle dx dy) (traps outside : List Trapezoid) 
     | inr out ↦ inr (λ h. out h.rows)
   ]
 
-  module _ (frame : Frame) (z : Trapezoid) (tiles : (t : Tile) → IsInTrapezoid z t ↔ IsInFrame frame t)
+  module _ (traps : List Trapezoid) (frame : Frame) (tiles : (t : Tile) → IsInTrapezoid z t ↔ IsInFrame frame t)
       (around : (t : Tile) → IsInSome traps t → (u : Tile) → IsNear dx dy t u → IsInFrame frame u)
       (outside_is : IsJoinedOf (widened dy window) (IsInResult Sub (z ∷ []) traps (widened dy window)) outside) where
     outside_has : HasArea (widened dy window) (λ t. IsInSome (z ∷ []) t × (IsInSome traps t → ⊥)) outside
@@ -206,11 +207,25 @@ module _ (dx dy : ℤ) (r : IsRectangle dx dy) (traps outside : List Trapezoid) 
     not_round : (t : Tile) → IsInRows window t → IsShrunk dx dy (IsInSome traps) t → edges_winding A edges t ≡ pos 0
     not_round t rows all = round_rings t rows ∙ others_do_not_wind dx dy r outside t legal (λ g. (outside_has.inside g.0 g.1).1.1 (all g.0 g.2))
 
+    -- what no ring winds round isn't outside
     some_by : (t : Tile) → IsLeftIn edges window t → IsInSome traps t
-    some_by t h = some_of (count_in traps t) (λ e. h.wound (round_traps t h.rows ∙ ap pos e))
+    some_by t h =
+        let near = near_itself dx dy r t in
+        let inner = some_of (count_in (z ∷ []) t) (λ e. h.wound (round_whole t h.rows ∙ ap pos e)) in
+        elim (some_decided traps t) [
+          | inl some ↦ some
+          | inr none ↦ (let there = outside_has.all t (near_rows dx dy window t t h.rows near) (inner, none) in
+              let round = grown_wind dx dy r outside t legal (t, there, near) in
+              let same = round_rings t h.rows in
+              let free = h.free in
+              absurd (omega (arith, ints, round, same, free)))
+        ]
 
     wound_by_some : (t : Tile) → IsInRows window t → IsInSome traps t → edges_winding B edges t ≢ pos 0
-    wound_by_some t rows some e = (let same = round_traps t rows in omega (arith, ints, same, some, e))
+    wound_by_some t rows some e =
+        let same = round_whole t rows in
+        let inner = one_in z t ((tiles t).1 (around t some t (near_itself dx dy r t))) in
+        omega (arith, ints, same, inner, e)
 
     pub shrunk_has : (shrunk : List Trapezoid) → IsJoinedOf window (IsLeftIn edges window) shrunk → HasArea window (IsShrunk dx dy (IsInSome traps)) shrunk
     shrunk_has shrunk joined =

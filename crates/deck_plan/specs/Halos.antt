@@ -1,6 +1,6 @@
 -- How many rows beyond a band an output needs of each definition: the greatest sum of the halos along a chain of operands
 -- that leads to it.
-use Rattle.std.specs.Prelude.{◌≡◌, ◌≤◌, ◌<◌, ◌+◌, ◌*◌, ◌≤ℤ◌, ◌+ℤ◌, ℕ, ℤ, pos, List, [], ◌∷◌, Option, Some, None, slice_get, slice_set, get_or, length}
+use Rattle.std.specs.Prelude.{◌≡◌, ◌≤◌, ◌<◌, ◌+◌, ◌*◌, ◌≤ℤ◌, ◌+ℤ◌, ℕ, ℤ, pos, List, [], ◌∷◌, Option, Some, None, slice_get, slice_set, get_or, length, true, false}
 use Rattle.std.specs.Int.{int_max}
 use Rattle.deck_text.specs.declared.deck.Deck.{Deck}
 use Rattle.deck_plan.specs.declared.needs.Taken.{Taken}
@@ -19,6 +19,10 @@ pub record HasChain (deck : Deck) (name n : ℕ) (halo : ℤ) : Type 0 where
   pub end : chain_end name chain ≡ n
   pub sum : halo_sum chain ≡ halo
 
+-- where it is one operand alone, definition n takes it
+abbrev pub IsLone : Need → ℕ → Type 0
+IsLone need n = need.shared ≡ false → need.last ≡ n
+
 abbrev pub NeedIs : List (Option Need) → ℕ → Need → Type 0
 NeedIs needs n need = slice_get needs n ≡ Some (Some need)
 
@@ -28,11 +32,12 @@ pub record AreHalos (deck : Deck) (name from : ℕ) (needs : List (Option Need))
   pub own : (need : Need) × NeedIs needs name need × (need.halo ≡ pos 0)
   pub none : (n : ℕ) (need : Need) → NeedIs needs n need → n ≤ name
   pub operands : (n : ℕ) (need : Need) (operand : Taken) → from ≤ n → NeedIs needs n need → Takes deck n operand
-      → (other : Need) × NeedIs needs operand.name other × ((need.halo +ℤ operand.halo) ≤ℤ other.halo) × (n ≤ other.last)
+      → (other : Need) × NeedIs needs operand.name other × ((need.halo +ℤ operand.halo) ≤ℤ other.halo) × (n ≤ other.last) × IsLone other n
   pub reached : (n : ℕ) (need : Need) → NeedIs needs n need → HasChain deck name n need.halo
   pub low : (n : ℕ) (need : Need) → NeedIs needs n need → pos 0 ≤ℤ need.halo
   pub high : (n : ℕ) (need : Need) → NeedIs needs n need → (need.halo +ℤ pos (65536 * n)) ≤ℤ pos (65536 * name)
   pub later : (n : ℕ) (need : Need) → NeedIs needs n need → from ≤ need.last + 1
+  pub latest : (n : ℕ) (need : Need) → NeedIs needs n need → need.last ≤ name
 
 -- ---- what a step adds
 
@@ -44,8 +49,8 @@ pub record IsSoundOperand (n : ℕ) (operand : Taken) : Type 0 where
 
 -- the need of an operand that is asked so many rows beyond the band by the definition `user`
 abbrev pub raised : Option Need → ℤ → ℕ → Need
-raised None halo user = record { halo = halo; last = user }
-raised (Some need) halo user = record { halo = int_max need.halo halo; last = need.last }
+raised None halo user = record { halo = halo; last = user; shared = false }
+raised (Some need) halo user = record { halo = int_max need.halo halo; last = need.last; shared = true }
 
 abbrev pub raised_at : List (Option Need) → ℕ → ℤ → ℕ → List (Option Need)
 raised_at needs name halo user = slice_set needs name (Some (raised (get_or needs name None) halo user))

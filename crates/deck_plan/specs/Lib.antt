@@ -10,5 +10,7 @@ pub mod Bounds
 pub mod Rings
 pub mod Halos
 pub mod Extents
+pub mod OwnLayers
+pub mod LayerSets
 pub mod Ready
 pub mod Moves

@@ -10,6 +10,7 @@ use Rattle.deck_plan.specs.Areas.{IsInArea}
 use Rattle.deck_plan.specs.Halos.{NeedIs}
 use Rattle.deck_plan.specs.Lists.{HasArea, list_at}
 use Rattle.deck_plan.specs.Needs.{widened}
+use Rattle.deck_plan.specs.OwnLayers.{IsLeftOut}
 
 -- a list that has what is needed of a definition, or nothing where nothing is needed
 pub record IsReady (cells : List Cell) (top : ℕ) (deck : Deck) (band : RowRange) (needs : List (Option Need)) (n : ℕ) (traps : List Trapezoid) : Type 0 where
@@ -20,9 +21,13 @@ pub record IsReady (cells : List Cell) (top : ℕ) (deck : Deck) (band : RowRang
 abbrev pub IsPast : List (Option Need) → ℕ → ℕ → Type 0
 IsPast needs from n = (need : Need) → NeedIs needs n need → need.last < from
 
--- what stands for a definition when those before `from` are done: its list, or nothing once none takes it any more
+-- no list of definition n is taken: not any more, or none is at all
+abbrev pub IsGone : Deck → List (Option Need) → ℕ → ℕ → Type 0
+IsGone deck needs from n = IsPast needs from n ⊎ IsLeftOut deck needs n
+
+-- what stands for a definition when those before `from` are done: its list, or nothing where no list of it is taken
 abbrev pub IsHeld : List Cell → ℕ → Deck → RowRange → List (Option Need) → ℕ → ℕ → List Trapezoid → Type 0
-IsHeld cells top deck band needs from n traps = IsReady cells top deck band needs n traps ⊎ ((traps ≡ []) × IsPast needs from n)
+IsHeld cells top deck band needs from n traps = IsReady cells top deck band needs n traps ⊎ ((traps ≡ []) × IsGone deck needs from n)
 
 -- what stands for the definitions so far
 abbrev pub AreHeld : List Cell → ℕ → Deck → RowRange → List (Option Need) → ℕ → List (List Trapezoid) → Type 0

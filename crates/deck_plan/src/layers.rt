@@ -1,8 +1,8 @@
-//! The area of a layer.
+//! The area of a layer, and of a set operation on two layers.
 ghost use Rattle.std.specs.Prelude.{◌≡◌, ◌++◌, All, List, IfOk, OnOk};
 ghost use Rattle.std.specs.List.{flat_map};
 ghost use Rattle.half_grid.specs.Quads.{IsQuad, Corners, ring_of};
-ghost use Rattle.half_grid.specs.declared.border.Operand.TheVariants.{A};
+ghost use Rattle.half_grid.specs.declared.border.Operand.TheVariants.{A, B};
 ghost use Rattle.scan_line.specs.OutlineEdges.{edges_along};
 ghost use Rattle.cell_tree.specs.Flattening.{IsInLayer};
 ghost use Rattle.column_sweep.specs.RowSums.{AddUpAlike};
@@ -10,9 +10,11 @@ ghost use Rattle.flat_walk.specs.Boxes.{AreAllBoxed};
 ghost use Rattle.flat_walk.specs.Tables.{AreCut};
 ghost use Rattle.flat_walk.specs.Walks.{pieces_in};
 ghost use Rattle.deck_plan.specs.Lists.{HasArea};
+ghost use Rattle.deck_plan.specs.LayerSets.{OfLayers};
 ghost use Rattle.deck_plan.specs.Rings.{edges_of_quad};
 
-use bool_ops::unite;
+use crate::own_layers::Layers;
+use bool_ops::{combine_edges, unite};
 use cell_tree::Tree;
 use column_sweep::put_edge;
 use flat_walk::{Boxes, Parts, Walk};
@@ -23,27 +25,30 @@ use scan_line::EdgesOf;
 use std::alloc::Global;
 
 // Puts the edges of the quadrilateral at the end, less what a side has in common with the last one.
-fn put_ring(edges: &mut Vec<Edge>, quad: &Quad) -> Result<(), NoMemory>
-    ensures { OnOk result (AddUpAlike edges.new.items (edges.old.items ++ edges_of_quad quad.now)) }
+fn put_ring(edges: &mut Vec<Edge>, quad: &Quad, operand: Operand) -> Result<(), NoMemory>
+    ensures { OnOk result (AddUpAlike edges.new.items (edges.old.items ++ edges_of_quad operand quad.now)) }
 {
     let ring = [quad.a(), quad.b(), quad.c(), quad.d(), quad.a()];
-    let mut sides = EdgesOf::new(&ring, Operand::A);
+    let mut sides = EdgesOf::new(&ring, operand);
     while let Some(edge) = sides.next() {
         put_edge(edges, edge)?;
     }
     Ok(())
 }
 
-// The edges of all quadrilaterals of a stream, less what sides that meet one after the other have in common.
-fn edges_of<S: Stream<Item = Quad>>(alloc: Global, quads: &mut S) -> Result<Vec<Edge>, NoMemory>
+// Puts the edges of all quadrilaterals of a stream at the end, less what sides that meet one after the other have in common.
+fn put_rings<S: Stream<Item = Quad>>(
+    edges: &mut Vec<Edge>,
+    quads: &mut S,
+    operand: Operand,
+) -> Result<(), NoMemory>
     requires { (list : List Corners) × S.stands_for quads.old list }
-    ensures { (list : List Corners) → S.stands_for quads.old list → IfOk result (λ edges. AddUpAlike edges.items (flat_map edges_of_quad list)) }
+    ensures { (list : List Corners) → S.stands_for quads.old list → OnOk result (AddUpAlike edges.new.items (edges.old.items ++ flat_map (edges_of_quad operand) list)) }
 {
-    let mut edges = Vec::new(alloc);
     while let Some(quad) = quads.next() {
-        put_ring(&mut edges, &quad)?;
+        put_ring(edges, &quad, operand)?;
     }
-    Ok(edges)
+    Ok(())
 }
 
 /// The joined list, in the window, of the area of a layer.
@@ -63,6 +68,35 @@ pub(crate) fn layer_area<'t>(
         Ok(walk) => walk,
         Err(NoMemory) => return Err(NoMemory),
     };
-    let edges = edges_of(alloc, &mut walk)?;
+    let mut edges = Vec::new(alloc);
+    put_rings(&mut edges, &mut walk, Operand::A)?;
     unite(alloc, edges, window)
+}
+
+/// The joined list, in the window, of the tiles that an operation takes of two layers: by one sweep over the edges of both.
+pub(crate) fn layers_area<'t>(
+    alloc: Global,
+    tree: &'t Tree,
+    parts: &'t Parts,
+    boxes: &'t Boxes,
+    layers: Layers,
+    window: Window,
+) -> Result<Vec<Trap>, NoMemory>
+    requires first { AreCut tree.now.layout.cells tree.now.top parts.now layers.a }
+    requires second { AreCut tree.now.layout.cells tree.now.top parts.now layers.b }
+    requires boxed { AreAllBoxed tree.now.layout.cells tree.now.top parts.now boxes.now }
+    ensures { IfOk result (λ traps. HasArea window (OfLayers tree.now.layout.cells tree.now.top layers) traps.items) }
+{
+    let mut first = match Walk::begin_boxed(alloc, tree, parts, boxes, layers.a, window) {
+        Ok(walk) => walk,
+        Err(NoMemory) => return Err(NoMemory),
+    };
+    let mut second = match Walk::begin_boxed(alloc, tree, parts, boxes, layers.b, window) {
+        Ok(walk) => walk,
+        Err(NoMemory) => return Err(NoMemory),
+    };
+    let mut edges = Vec::new(alloc);
+    put_rings(&mut edges, &mut first, Operand::A)?;
+    put_rings(&mut edges, &mut second, Operand::B)?;
+    combine_edges(alloc, layers.op, edges, window)
 }

@@ -13,6 +13,7 @@ mod lists;
 mod mirroring;
 mod moving;
 mod needs;
+mod own_layers;
 mod plans;
 mod sizing;
 mod steps;

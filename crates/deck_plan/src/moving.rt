@@ -1,11 +1,12 @@
 //! Set operations whose list is that of an operand.
-ghost use Rattle.std.specs.Prelude.{◌≡◌, ◌<◌, ◌≤◌, ℕ, true, length, map, get_or, List, Option, None, IfSome};
+ghost use Rattle.std.specs.Prelude.{◌≡◌, ◌<◌, ◌≤◌, ℕ, true, length, map, get_or, List, Option, Some, None, IfSome};
 ghost use Rattle.half_grid.specs.declared.extent.Frame.{Frame};
 ghost use Rattle.layout_model.specs.declared.cells.Cell.{Cell};
 ghost use Rattle.deck_text.specs.Sound.{IsSoundStep};
 ghost use Rattle.deck_plan.specs.Areas.{IsInStep};
 ghost use Rattle.deck_plan.specs.Lists.{HasArea, IsJoinedSomewhere, IsListed, list_at};
 ghost use Rattle.deck_plan.specs.Moves.{name_of, step_of};
+ghost use Rattle.deck_plan.specs.OwnLayers.{pair_of};
 ghost use Rattle.deck_plan.specs.Ready.{ends_at};
 
 use crate::kept::kept;
@@ -23,9 +24,10 @@ pub(crate) struct Pair {
     pub(crate) b: usize,
 }
 
-// The set operation that a step is.
-fn pair_of(step: &Step) -> Option<Pair>
-    ensures { IfSome result (λ pair. step.now ≡ step_of pair) }
+/// The set operation that a step is.
+pub(crate) fn pair_of(step: &Step) -> Option<Pair>
+    ensures step { IfSome result (λ pair. step.now ≡ step_of pair) }
+    ensures value { result ≡ pair_of (Some step.now) }
 {
     let (op, a, b) = match step {
         Step::Or(a, b) => (Op::Or, *a, *b),

@@ -8,6 +8,7 @@ ghost use Rattle.deck_text.specs.declared.deck.Deck.{Deck as ADeck};
 ghost use Rattle.deck_plan.specs.Needs.{operands_of};
 ghost use Rattle.deck_plan.specs.declared.needs.Need.{Need as ANeed};
 ghost use Rattle.deck_plan.specs.Ready.{ends_at};
+ghost use Rattle.deck_plan.specs.OwnLayers.{is_only};
 ghost use Rattle.deck_plan.specs.Halos.{AreHalos, IsSoundOperand, NeedIs, passed, raised, raised_at, window_for};
 
 use crate::windows::{no_rows, widened};
@@ -35,6 +36,8 @@ pub(crate) struct Need {
     pub(crate) halo: i64,
     /// The last definition that takes this one, or the output's own.
     pub(crate) last: usize,
+    /// Whether it is more than one operand.
+    pub(crate) shared: bool,
 }
 
 /// What an output needs of each definition, by number; nothing of those that it doesn't use.
@@ -100,8 +103,13 @@ fn raised(need: Option<Need>, halo: i64, user: usize) -> Need
         Some(need) => Need {
             halo: need.halo.max(halo),
             last: need.last,
+            shared: true,
         },
-        None => Need { halo, last: user },
+        None => Need {
+            halo,
+            last: user,
+            shared: false,
+        },
     }
 }
 
@@ -160,6 +168,7 @@ impl Needs {
         needs.by_name[name] = Some(Need {
             halo: 0,
             last: name,
+            shared: false,
         });
         let mut number = name + 1;
         while 0 < number {
@@ -177,6 +186,17 @@ impl Needs {
     {
         match self.by_name[name] {
             Some(need) => need.last == user,
+            None => false,
+        }
+    }
+
+    /// Whether the definition `user` alone takes this one, and once.
+    pub(crate) fn is_only(&self, name: usize, user: usize) -> bool
+        requires { name < 256 }
+        ensures { result ≡ is_only (get_or self.now.by_name name None) user }
+    {
+        match self.by_name[name] {
+            Some(need) => need.last == user && !need.shared,
             None => false,
         }
     }

@@ -1,5 +1,5 @@
 //! Plans, and the areas of their outputs.
-ghost use Rattle.std.specs.Prelude.{◌≡◌, ◌<◌, ◌≤◌, ◌+◌, ◌^◌, ◌≤ℤ◌, map, neg_ℤ, pos, ℕ, true, length, get_or, slice_get, Some, None, All, IfOk, IfSome, OnOk, IsSomeAnd, List};
+ghost use Rattle.std.specs.Prelude.{◌≡◌, ◌<◌, ◌≤◌, ◌+◌, ◌^◌, ◌≤ℤ◌, map, neg_ℤ, pos, ℕ, true, length, get_or, slice_get, Some, None, All, IfOk, IfSome, IsTrue, OnOk, IsSomeAnd, List};
 ghost use Rattle.half_grid.specs.Trapezoids.{IsLegal, IsShot};
 ghost use Rattle.half_grid.specs.declared.plane.Tile.{Tile};
 ghost use Rattle.deck_text.specs.Sound.{IsSound, IsSoundStep};
@@ -12,15 +12,17 @@ ghost use Rattle.deck_plan.specs.Needs.{IsBand, IsAskedBand, IsNeeded};
 ghost use Rattle.layout_model.specs.declared.pair.Pair.{Pair as APair};
 ghost use Rattle.cell_tree.specs.Flattening.{IsInLayer};
 ghost use Rattle.deck_plan.specs.Halos.{AreHalos};
-ghost use Rattle.deck_plan.specs.Ready.{AreHeld, IsReady, ends_at};
+ghost use Rattle.deck_plan.specs.Ready.{AreHeld, IsHeld, IsReady, ends_at};
+ghost use Rattle.deck_plan.specs.OwnLayers.{own_layers, IsLeftOut};
 ghost use Rattle.deck_plan.specs.Plans.{planned, IsRead};
 
 use crate::cutting::cut_parts;
 use crate::extents::Extents;
-use crate::layers::layer_area;
+use crate::layers::{layer_area, layers_area};
 use crate::lists::{let_go, list, take_list};
 use crate::moving::kept_operand;
 use crate::needs::{Needs, operands_of, step_at};
+use crate::own_layers::{Layers, own_layers};
 use crate::sizing::{grown_area, shrunk_area};
 use crate::steps::{combined_area, inverted_area, mirrored_area};
 use crate::windows::no_rows;
@@ -202,6 +204,53 @@ impl<'t> Plan<'t> {
         let _cells = self.tree.cells();
     }
 
+    // The layers of a definition that sweeps over these itself.
+    fn own_layers(&self, needs: &Needs, number: usize) -> Option<Layers>
+        requires { number < length self.now.deck.steps }
+        ensures { result ≡ own_layers self.now.deck.steps needs.now.by_name number }
+    {
+        own_layers(needs, self.deck().steps.as_slice(), number)
+    }
+
+    // Whether no list of a definition is taken, since the one that takes it sweeps over its layers itself.
+    fn is_left_out(&self, needs: &Needs, number: usize) -> bool
+        requires { (name : ℕ) × (number ≤ name) × (name < length self.now.deck.steps) × AreHalos self.now.deck name 0 needs.now.by_name }
+        ensures { IsTrue result → IsLeftOut self.now.deck needs.now.by_name number }
+    {
+        let Some(need) = needs.by_name[number] else {
+            return false;
+        };
+        if need.shared {
+            return false;
+        }
+        self.own_layers(needs, need.last).is_some()
+    }
+
+    // The area of a definition that sweeps over its layers itself, in the rows that are needed of it, or an empty list where
+    // none are.
+    fn layers_area(
+        &self,
+        alloc: Global,
+        needs: &Needs,
+        layers: Layers,
+        number: usize,
+        band: Window,
+    ) -> Result<Vec<Trap>, NoMemory>
+        requires band { IsBand band }
+        requires named { (name : ℕ) × (number ≤ name) × (name < length self.now.deck.steps) × AreHalos self.now.deck name 0 needs.now.by_name }
+        requires layers { own_layers self.now.deck.steps needs.now.by_name number ≡ Some layers }
+        ensures { IfOk result (λ traps. IsReady self.now.cells self.now.top self.now.deck band needs.now.by_name number traps.items) }
+    {
+        let _deck = self.deck();
+        match needs.by_name[number] {
+            Some(_need) => {
+                let window = needs.window(number, band);
+                layers_area(alloc, self.tree, &self.parts, &self.boxes, layers, window)
+            }
+            None => Ok(Vec::new(alloc)),
+        }
+    }
+
     // The area of the next definition in the rows that are needed of it, or an empty list where none are.
     fn needed_area(
         &self,
@@ -212,6 +261,7 @@ impl<'t> Plan<'t> {
     ) -> Result<Vec<Trap>, NoMemory>
         requires band { IsBand band }
         requires named { (name : ℕ) × (length areas.now ≤ name) × (name < length self.now.deck.steps) × AreHalos self.now.deck name 0 needs.now.by_name }
+        requires lists { own_layers self.now.deck.steps needs.now.by_name (length areas.now) ≡ None }
         requires held { AreHeld self.now.cells self.now.top self.now.deck band needs.now.by_name (length areas.now) (map (λ list. list.items) areas.now) }
         ensures { IfOk result (λ traps. IsReady self.now.cells self.now.top self.now.deck band needs.now.by_name (length areas.now) traps.items) }
     {
@@ -231,6 +281,7 @@ impl<'t> Plan<'t> {
     fn moved(&self, needs: &Needs, areas: &[Vec<Trap>], band: Window) -> Option<usize>
         requires band { IsBand band }
         requires named { (name : ℕ) × (length areas.now ≤ name) × (name < length self.now.deck.steps) × AreHalos self.now.deck name 0 needs.now.by_name }
+        requires lists { own_layers self.now.deck.steps needs.now.by_name (length areas.now) ≡ None }
         requires held { AreHeld self.now.cells self.now.top self.now.deck band needs.now.by_name (length areas.now) (map (λ list. list.items) areas.now) }
         ensures inside { IfSome result (λ name. name < length areas.now) }
         ensures last { IfSome result (λ name. ends_at (get_or needs.now.by_name name None) (length areas.now) ≡ true) }
@@ -247,7 +298,8 @@ impl<'t> Plan<'t> {
         }
     }
 
-    // The list of the next definition. Where it is that of an operand which no later definition takes, it is moved.
+    // The list of the next definition. Where it takes two layers that no other does, it sweeps over these; where it is that of
+    // an operand which no later definition takes, it is moved.
     fn next_list(
         &self,
         alloc: Global,
@@ -262,13 +314,37 @@ impl<'t> Plan<'t> {
         ensures ready { IfOk result (λ traps. IsReady self.now.cells self.now.top self.now.deck band needs.now.by_name (length areas.old.items) traps.items) }
         ensures held { AreHeld self.now.cells self.now.top self.now.deck band needs.now.by_name (length areas.old.items + 1) (map (λ list. list.items) areas.new.items) }
     {
+        if let Some(layers) = self.own_layers(needs, areas.len()) {
+            return self.layers_area(alloc, needs, layers, areas.len(), band);
+        }
         match self.moved(needs, areas.as_slice(), band) {
             Some(name) => Ok(take_list(alloc, areas, name)),
             None => self.needed_area(alloc, needs, areas.as_slice(), band),
         }
     }
 
-    // Puts the list of the next definition, and lets go of the lists that no later one takes.
+    // What stands for the next definition: its list, or an empty one where no list of it is taken.
+    fn next_entry(
+        &self,
+        alloc: Global,
+        needs: &Needs,
+        areas: &mut Vec<Vec<Trap>>,
+        band: Window,
+    ) -> Result<Vec<Trap>, NoMemory>
+        requires band { IsBand band }
+        requires named { (name : ℕ) × (length areas.old.items < name) × (name < length self.now.deck.steps) × AreHalos self.now.deck name 0 needs.now.by_name }
+        requires held { AreHeld self.now.cells self.now.top self.now.deck band needs.now.by_name (length areas.old.items) (map (λ list. list.items) areas.old.items) }
+        ensures same { length areas.new.items ≡ length areas.old.items }
+        ensures entry { IfOk result (λ traps. IsHeld self.now.cells self.now.top self.now.deck band needs.now.by_name (length areas.old.items + 1) (length areas.old.items) traps.items) }
+        ensures held { AreHeld self.now.cells self.now.top self.now.deck band needs.now.by_name (length areas.old.items + 1) (map (λ list. list.items) areas.new.items) }
+    {
+        if self.is_left_out(needs, areas.len()) {
+            return Ok(Vec::new(alloc));
+        }
+        self.next_list(alloc, needs, areas, band)
+    }
+
+    // Puts what stands for the next definition, and lets go of the lists that no later one takes.
     fn put_next(
         &self,
         alloc: Global,
@@ -283,7 +359,7 @@ impl<'t> Plan<'t> {
         ensures held { OnOk result (AreHeld self.now.cells self.now.top self.now.deck band needs.now.by_name (length areas.new.items) (map (λ list. list.items) areas.new.items)) }
     {
         let number = areas.len();
-        let list = self.next_list(alloc, needs, areas, band)?;
+        let list = self.next_entry(alloc, needs, areas, band)?;
         areas.push(list)?;
         let step = step_at(self.deck().steps.as_slice(), number);
         let_go(alloc, areas, needs, operands_of(&step), number);

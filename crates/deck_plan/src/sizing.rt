@@ -129,9 +129,9 @@ fn wider(hull: &Frame, dx: i64, dy: i64) -> Frame
 /// The joined list, in the window, of the tiles all of whose near ones are in the trapezoids, by a rectangle of half
 /// sides `dx` and `dy`.
 ///
-/// What isn't in the trapezoids grows, and its edges are swept with theirs at once: what is left are tiles of theirs that
-/// nothing of it winds round. It is asked within their hull, widened by the half sides, where all tiles are that are near
-/// to one of theirs.
+/// Their hull, widened by the half sides, has all tiles that are near to one of theirs. What isn't in them of that grows, and
+/// its edges are swept with those of the widened hull: what is left are the tiles of the latter that nothing of it winds
+/// round, and all of these are theirs.
 pub(crate) fn shrunk_area(
     alloc: Global,
     traps: &[Trap],
@@ -151,7 +151,7 @@ pub(crate) fn shrunk_area(
     };
     let around = [frame_trap(&wider(&hull_from(first, rest), dx, dy))];
     let outside = combine(alloc, Op::Sub, &around, traps, widened(window, dy))?;
-    let mut edges = operand_edges(alloc, &[], traps, window)?;
+    let mut edges = operand_edges(alloc, &[], &around, window)?;
     put_rings(alloc, &mut edges, outside.as_slice(), dx, dy)?;
     left_over(alloc, edges, window)
 }

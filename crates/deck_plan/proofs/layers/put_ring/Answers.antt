@@ -10,6 +10,6 @@ loop-edge-preserved c =
       first.0,
       first.2,
       one_put c.loop-edge.edges.items c.put_edge.new.edges.items before.0 first.0
-          (c.args.edges.now.items ++ edges_of_quad c.args.quad.now) c.in-Some.edge c.in_ok-put_edge.ensures first.1
+          (c.args.edges.now.items ++ edges_of_quad c.args.operand c.args.quad.now) c.in-Some.edge c.in_ok-put_edge.ensures first.1
           before.2,
     )

@@ -55,7 +55,7 @@ left_over-requires c =
     let put = simp to_z-of_z at c.in_ok-put_rings.ensures in
     let edges = subst (λ (list : List Trapezoid). c.put_rings.new.edges.items ≡ c.in_ok-edges.edges.items ++ flat_map
     (edges_of_grown c.args.dx c.args.dy) list) c.as_slice.ensures.value put in
-    rings_balanced c.args.dx c.args.dy c.requires.sizing.rectangle c.args.traps.now c.in_ok-outside.outside.items
+    rings_balanced c.args.dx c.args.dy c.requires.sizing.rectangle c.frame_trap.result c.in_ok-outside.outside.items
     c.in_ok-outside.ensures.joined.legal c.args.window c.in_ok-edges.edges.items c.put_rings.new.edges.items
     c.in_ok-edges.ensures.a c.in_ok-edges.ensures.b edges (c.in_ok-edges.ensures.balanced c.args.window)
 
@@ -75,9 +75,9 @@ returns c =
     let edges = subst (λ (list : List Trapezoid). c.put_rings.new.edges.items ≡ c.in_ok-edges.edges.items ++ flat_map
     (edges_of_grown c.args.dx c.args.dy) list) c.as_slice.ensures.value put in
     IfOk-weaker c.left_over.result _ (λ shrunk. HasArea c.args.window (IsShrunk c.args.dx c.args.dy (IsInSome c.args.traps.now)) shrunk.items)
-    (λ shrunk joined. shrunk_has c.args.dx c.args.dy c.requires.sizing.rectangle c.args.traps.now
+    (λ shrunk joined. shrunk_has c.args.dx c.args.dy c.requires.sizing.rectangle c.frame_trap.result
     c.in_ok-outside.outside.items c.in_ok-outside.ensures.joined.legal c.args.window c.in_ok-edges.edges.items
     c.put_rings.new.edges.items
-    c.in_ok-edges.ensures.a c.in_ok-edges.ensures.b edges
-    (wider c.args.dx c.args.dy c.hull_from.result) c.frame_trap.result tiles around outside shrunk.items joined)
+    c.in_ok-edges.ensures.a c.in_ok-edges.ensures.b edges c.args.traps.now
+    (wider c.args.dx c.args.dy c.hull_from.result) tiles around outside shrunk.items joined)
     c.left_over.ensures

@@ -84,7 +84,7 @@ returns-in-Some c =
     (next_area plan.cells plan.top plan.deck c.args.band c.args.needs.now.by_name s.steps c.requires.named.0
     c.requires.named.3 lists n
     (λ m early. c.requires.held m (omega (arith, early, map_same (λ list. list.items) c.args.areas.now)))
-    c.step_at-step.result need traps.items here there
+    c.step_at-step.result need traps.items here there c.requires.lists
     (subst (λ (w : RowRange). HasArea w (λ t. IsInStep plan.cells plan.top plan.deck.frame (IsListed lists) c.step_at-step.result t) traps.items) is h)))
     c.step_area.ensures
 
