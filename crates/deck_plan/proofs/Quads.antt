@@ -43,7 +43,8 @@ abbrev Winds : Operand → List Corners → Tile → Type 0
 Winds o quads t = (Has (In t) quads × (pos 1 ≤ℤ winds o quads t)) ⊎ ((Has (In t) quads → ⊥) × (winds o quads t ≡ pos 0))
 
 one_more : (o : Operand) (q : Corners) (quads : List Corners) (t : Tile) → winds o (q ∷ quads) t ≡ winding (ring_of q) t +ℤ winds o quads t
-one_more o q quads t = windings_add o (edges_of_quad o q) (flat_map (edges_of_quad o) quads) t ∙ ap (λ w. w +ℤ winds o quads t) (winds_as_outline o (ring_of q) t)
+one_more o q quads t = windings_add o (edges_of_quad o q) (flat_map (edges_of_quad o) quads) t
+    ∙ ap (λ w. w +ℤ winds o quads t) (winds_as_outline o (ring_of q) t)
 
 quads_wind : (o : Operand) (quads : List Corners) (t : Tile) → All IsQuad quads → Winds o quads t
 quads_wind o [] t all = inr (λ h. h, winding_nil o t)

@@ -1,6 +1,7 @@
 -- How many rows beyond a band an output needs of each definition: the greatest sum of the halos along a chain of operands
 -- that leads to it.
-use Rattle.std.specs.Prelude.{◌≡◌, ◌≤◌, ◌<◌, ◌+◌, ◌*◌, ◌≤ℤ◌, ◌+ℤ◌, ℕ, ℤ, pos, List, [], ◌∷◌, Option, Some, None, slice_get, slice_set, get_or, length, true, false}
+use Rattle.std.specs.Prelude.{◌≡◌, ◌≤◌, ◌<◌, ◌+◌, ◌*◌, ◌≤ℤ◌, ◌+ℤ◌, ℕ, ℤ, pos, List, [], ◌∷◌, Option, Some, None, slice_get, slice_set, get_or, length}
+use Rattle.std.specs.Prelude.{true, false}
 use Rattle.std.specs.Int.{int_max}
 use Rattle.deck_text.specs.declared.deck.Deck.{Deck}
 use Rattle.deck_plan.specs.declared.needs.Taken.{Taken}

@@ -14,7 +14,8 @@ combine_edges-requires c =
     let tree = c.args.tree.now in
     let one = pieces_in tree.layout.cells tree.top c.args.parts.now c.args.layers.a c.args.window in
     let other = pieces_in tree.layout.cells tree.top c.args.parts.now c.args.layers.b c.args.window in
-    let put = put_first A one c.new-edges.result.items c.put_rings.new.edges.items c.new-edges.ensures.items (c.in_ok-put_rings.ensures one c.in-Ok.ensures.list) in
+    let put = put_first A one c.new-edges.result.items c.put_rings.new.edges.items c.new-edges.ensures.items
+    (c.in_ok-put_rings.ensures one c.in-Ok.ensures.list) in
     let both = c.in_ok-put_rings-2.ensures other c.in-Ok-begin_boxed.ensures.list in
     layers_balanced tree.layout.cells tree.top c.args.window c.args.layers one other c.put_rings.new.edges.items c.put_rings-2.new.edges.items put both
     c.in-Ok.ensures.grid c.in-Ok-begin_boxed.ensures.grid
@@ -24,7 +25,8 @@ returns c =
     let tree = c.args.tree.now in
     let one = pieces_in tree.layout.cells tree.top c.args.parts.now c.args.layers.a c.args.window in
     let other = pieces_in tree.layout.cells tree.top c.args.parts.now c.args.layers.b c.args.window in
-    let put = put_first A one c.new-edges.result.items c.put_rings.new.edges.items c.new-edges.ensures.items (c.in_ok-put_rings.ensures one c.in-Ok.ensures.list) in
+    let put = put_first A one c.new-edges.result.items c.put_rings.new.edges.items c.new-edges.ensures.items
+    (c.in_ok-put_rings.ensures one c.in-Ok.ensures.list) in
     let both = c.in_ok-put_rings-2.ensures other c.in-Ok-begin_boxed.ensures.list in
     IfOk-weaker c.combine_edges.result _ (λ traps. HasArea c.args.window (OfLayers tree.layout.cells tree.top c.args.layers) traps.items)
     (λ traps. layers_have tree.layout.cells tree.top c.args.window c.args.layers one other c.put_rings.new.edges.items c.put_rings-2.new.edges.items put both
