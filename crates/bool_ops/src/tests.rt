@@ -1,10 +1,12 @@
-// Two triangles that cross under each operation, two squares, and a figure eight, by their trapezoids; and outlines whose
-// pieces are known by one look, against a sweep.
+// Two triangles that cross under each operation, two squares, what is left of lists without others, and a figure eight, by
+// their trapezoids; and outlines whose pieces are known by one look, against a sweep.
 ghost use Rattle.std.specs.Prelude.{All};
 ghost use Rattle.half_grid.specs.Outlines.{IsClosed};
 ghost use Rattle.half_grid.specs.Reach.{IsPointWithinReach};
 
-use crate::{Op, combine, lone_piece, monotone_pieces, pieces};
+use crate::{Op, combine, left_over, lone_piece, monotone_pieces, pieces};
+use column_sweep::operand_edges;
+use geo_stream::NoMemory;
 use half_grid::{Line, Point, Trap, Window, size_of};
 use layout_model::{Offsets, Pair, Shape};
 use std::alloc::Global;
@@ -71,6 +73,51 @@ fn two_squares(rt: HostRuntime) -> Result<(), Fail> {
     assert_eq!(rt; traps.len(), wanted.len());
     for (trap, numbers_of) in traps.iter().zip(wanted.iter()) {
         assert_eq!(rt; numbers(trap), *numbers_of);
+    }
+    Ok(())
+}
+
+// Whether these are the trapezoids.
+fn are(traps: &[Trap], wanted: &[[i64; 6]]) -> bool {
+    traps.len() == wanted.len()
+        && traps
+            .iter()
+            .zip(wanted)
+            .all(|(trap, numbers_of)| numbers(trap) == *numbers_of)
+}
+
+// What is left of the second list without the first.
+fn rest(alloc: Global, a: &[Trap], b: &[Trap], window: Window) -> Result<Vec<Trap>, NoMemory> {
+    let edges = operand_edges(alloc, a, b, window)?;
+    left_over(alloc, edges, window)
+}
+
+#[test]
+fn what_is_left(rt: HostRuntime) -> Result<(), Fail> {
+    let low = trap(&rt, 0, 20, Line::Upright(0), Line::Upright(20));
+    let high = trap(&rt, 10, 30, Line::Upright(10), Line::Upright(30));
+    let half = trap(&rt, 0, 20, Line::Rising(0), Line::Upright(20));
+    let rows = Window::new(0, 30).ok_or("no window")?;
+    let table: [(&[Trap], &[Trap], &[[i64; 6]]); 6] = [
+        (
+            &[high],
+            &[low],
+            &[[0, 10, 0, 20, 0, 20], [10, 20, 0, 10, 0, 10]],
+        ),
+        (&[], &[low], &[[0, 20, 0, 20, 0, 20]]),
+        (&[low], &[low], &[]),
+        (&[low], &[], &[]),
+        // a tile that two trapezoids have counts once
+        (&[half], &[low, low], &[[0, 20, 0, 0, 0, 20]]),
+        (
+            &[high, high],
+            &[low, high],
+            &[[0, 10, 0, 20, 0, 20], [10, 20, 0, 10, 0, 10]],
+        ),
+    ];
+    for (a, b, wanted) in table {
+        let left = rest(rt.alloc(), a, b, rows)?;
+        assert!(rt; are(left.as_slice(), wanted));
     }
     Ok(())
 }

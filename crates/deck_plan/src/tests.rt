@@ -1,6 +1,6 @@
-// The areas of a triangle and of what a deck makes of it, worked out by hand, and the rows that they need.
+// The areas of a triangle and of what a deck makes of it and of two layers, worked out by hand.
 ghost use Rattle.std.specs.Prelude.{◌≡◌, [], ◌∷◌};
-ghost use Rattle.layout_model.specs.Layouts.{IsShapeOnGrid, IsLayoutOnGrid};
+ghost use Rattle.layout_model.specs.Layouts.{AreOffsets, IsShapeOnGrid, IsLayoutOnGrid};
 
 use crate::Plan;
 use cell_tree::{Tree, resolve};
@@ -21,16 +21,29 @@ const TRIANGLE: [Point; 4] = [
 
 const PLACES: [Point; 1] = [Point { x: 0, y: 0 }];
 
+const SQUARE: [Point; 5] = [
+    Point { x: 0, y: 0 },
+    Point { x: 16, y: 0 },
+    Point { x: 16, y: 16 },
+    Point { x: 0, y: 16 },
+    Point { x: 0, y: 0 },
+];
+
+// Of two layers each square overlaps the other one, and both of the other layer.
+const SECOND_PLACES: [Point; 2] = [Point { x: 0, y: 0 }, Point { x: 8, y: 8 }];
+
+const THIRD_PLACES: [Point; 2] = [Point { x: 12, y: 4 }, Point { x: 16, y: 8 }];
+
 const DECK: &[u8] = b"unit 1000\ntop TOP\nframe -2 -2 24 4\n\
 layer A 1 0\nlayer N 9 0\nmirror B A 11\nxor Unused A N\n\
-or O A B\nand C A B\nsub D B A\nxor X A B\ngrow E C 1\nshrink S A 2\ninvert I A\ngrow G A 4\nshrink K G 4\nmirror Y X 0\nsub M A N\n\
-write N n 1 0\nwrite O o 1 0\nwrite C c 1 0\nwrite D d 1 0\nwrite X x 1 0\nwrite E e 1 0\nwrite S s 1 0\nwrite I i 1 0\nwrite K k 1 0\nwrite Y y 1 0\nwrite M m 1 0\n";
+or O A B\nand C A B\nsub D B A\nxor X A B\ngrow E C 1\nshrink S A 2\ninvert I A\ngrow G A 4\nshrink K G 4\nmirror Y X 0\nsub M A N\nlayer P 2 0\nlayer Q 3 0\nsub R P Q\n\
+write N n 1 0\nwrite O o 1 0\nwrite C c 1 0\nwrite D d 1 0\nwrite X x 1 0\nwrite E e 1 0\nwrite S s 1 0\nwrite I i 1 0\nwrite K k 1 0\nwrite Y y 1 0\nwrite M m 1 0\nwrite R r 1 0\n";
 
 // The same but for an operand of a definition that no output uses.
 const OTHER: &[u8] = b"unit 1000\ntop TOP\nframe -2 -2 24 4\n\
 layer A 1 0\nlayer N 9 0\nmirror B A 11\nxor Unused A B\n\
-or O A B\nand C A B\nsub D B A\nxor X A B\ngrow E C 1\nshrink S A 2\ninvert I A\ngrow G A 4\nshrink K G 4\nmirror Y X 0\nsub M A N\n\
-write N n 1 0\nwrite O o 1 0\nwrite C c 1 0\nwrite D d 1 0\nwrite X x 1 0\nwrite E e 1 0\nwrite S s 1 0\nwrite I i 1 0\nwrite K k 1 0\nwrite Y y 1 0\nwrite M m 1 0\n";
+or O A B\nand C A B\nsub D B A\nxor X A B\ngrow E C 1\nshrink S A 2\ninvert I A\ngrow G A 4\nshrink K G 4\nmirror Y X 0\nsub M A N\nlayer P 2 0\nlayer Q 3 0\nsub R P Q\n\
+write N n 1 0\nwrite O o 1 0\nwrite C c 1 0\nwrite D d 1 0\nwrite X x 1 0\nwrite E e 1 0\nwrite S s 1 0\nwrite I i 1 0\nwrite K k 1 0\nwrite Y y 1 0\nwrite M m 1 0\nwrite R r 1 0\n";
 
 // The places of outputs and definitions in the decks.
 const N_OUT: usize = 0;
@@ -55,10 +68,12 @@ const Y_OUT: usize = 9;
 
 const M_OUT: usize = 10;
 
+const R_OUT: usize = 11;
+
 /// The output, a band, and the trapezoids: lower and upper Y, two X below, two above.
 type Row = (usize, i64, i64, &'static [[i64; 6]]);
 
-const ROWS: [Row; 16] = [
+const ROWS: [Row; 17] = [
     (N_OUT, -1024, 1024, &[]),
     (
         O_OUT,
@@ -122,6 +137,18 @@ const ROWS: [Row; 16] = [
     ),
     // the list of the layer, as it is
     (M_OUT, 0, 1024, &[[0, 22, 0, 22, 22, 22]]),
+    // where two squares of one layer lie over one of the other, nothing is left of them
+    (
+        R_OUT,
+        0,
+        1024,
+        &[
+            [0, 4, 0, 16, 0, 16],
+            [4, 16, 0, 12, 0, 12],
+            [16, 20, 8, 12, 8, 12],
+            [20, 24, 8, 16, 8, 16],
+        ],
+    ),
 ];
 
 fn only<T: Drop>(rt: &impl Abort, alloc: Global, item: T) -> List<T>
@@ -129,6 +156,15 @@ fn only<T: Drop>(rt: &impl Abort, alloc: Global, item: T) -> List<T>
 {
     let mut list = List::new(alloc);
     assert!(rt; list.push(item).is_ok(), "memory");
+    list
+}
+
+fn three<T: Drop>(rt: &impl Abort, alloc: Global, first: T, second: T, third: T) -> List<T>
+    ensures { result ≡ first ∷ second ∷ third ∷ [] }
+{
+    let mut list = only(rt, alloc, first);
+    assert!(rt; list.push(second).is_ok(), "memory");
+    assert!(rt; list.push(third).is_ok(), "memory");
     list
 }
 
@@ -143,17 +179,32 @@ fn triangle(rt: &impl Abort, alloc: Global) -> Shape
     Shape::new(alloc, pair, &TRIANGLE, places).expect(rt, "a shape")
 }
 
+fn squares(rt: &impl Abort, alloc: Global, layer: u64, places: &[Point]) -> Shape
+    requires { AreOffsets places.now }
+    ensures { IsShapeOnGrid result }
+{
+    let pair = Pair { layer, datatype: 0 };
+    let places = Offsets::list(alloc, places).expect(rt, "memory");
+    Shape::new(alloc, pair, &SQUARE, places).expect(rt, "a shape")
+}
+
 fn layout(rt: &impl Abort, alloc: Global) -> Layout
     ensures { IsLayoutOnGrid result }
 {
-    let shapes = only(rt, alloc, triangle(rt, alloc));
+    let shapes = three(
+        rt,
+        alloc,
+        triangle(rt, alloc),
+        squares(rt, alloc, 2, &SECOND_PLACES),
+        squares(rt, alloc, 3, &THIRD_PLACES),
+    );
     let cell = Cell {
         name: Name::new(alloc, b"TOP").expect(rt, "a name"),
         shapes,
         placements: List::new(alloc),
     };
     let counts = Counts {
-        kept: 1,
+        kept: 3,
         other: 0,
         texts: 0,
         nodes: 0,
