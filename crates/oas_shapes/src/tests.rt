@@ -254,7 +254,7 @@ fn polygons_of_each_kind(rt: HostRuntime) {
 
 // The list of a tower of 5 by this height, a vertex at each step on its left side.
 fn tower(alloc: Global, height: usize) -> Result<PointList, NoMemory> {
-    let mut items = Vec::new(alloc);
+    let mut items = List::new(alloc);
     for _step in 0..height {
         items.push(Point { x: 0, y: 1 })?;
     }
