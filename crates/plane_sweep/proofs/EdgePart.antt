@@ -1,10 +1,14 @@
 -- The part of an edge in a window.
-use Rattle.std.proofs.Common.{ℤ, ◌≡◌, ◌≤ℤ◌, ◌<ℤ◌, true, List, [], ◌∷◌, ◌++◌, Option, Some, None, append_assoc, append-nil, refl, sym, ap, subst, ◌∙◌, arith}
+use Rattle.std.proofs.Common.{ℕ, suc, ◌≤◌, Bool, false, cond, length, All, ℤ, ◌≡◌, ◌≤ℤ◌, ◌<ℤ◌, true, List}
+use Rattle.std.proofs.Common.{[], ◌∷◌, ◌++◌, Option, Some, None, append_assoc, append-nil, refl, sym, ap, subst, ◌∙◌, arith}
 use Rattle.std.specs.Prelude.{SomeIff, int_lt}
 use Rattle.std.specs.Int.{int_min, int_max}
 use Rattle.std.specs.List.{cons_option}
 use Rattle.std.specs.Option.{option_to_list}
 use Rattle.std.proofs.lemmas.Int.{ints, clamps}
+use Rattle.std.proofs.lemmas.List.Elements.{All-nil, All-cons, All-head, All-tail}
+use Rattle.row_lists.specs.declared.event.Event.{Event}
+use Rattle.row_lists.specs.Events.{begin_of, end_of, events_of}
 use Rattle.half_grid.specs.Edges.{EdgeParts, IsEdge, edge_parts}
 use Rattle.half_grid.specs.Windows.{RowRange}
 use Rattle.scan_line.specs.ClippedEdges.{part_in, parts_in}
@@ -43,16 +47,50 @@ part_some window e rows r is bottom top lt h =
     (subst (λ (y : ℤ). int_lt rows.y0 y ≡ true) top (lt_yes rows.y0 rows.y1 lt)) in
     rw test (some ∙ ap Some (rw (bottom, top) refl))
 
--- ---- edge by edge
+-- ---- the parts of edges are edges, and no more than those
 
-put_one : (parts rest : List EdgeParts) (o : Option EdgeParts) → (parts ++ option_to_list o) ++ rest ≡ parts ++ cons_option o rest
-put_one parts rest None = ap (λ (es : List EdgeParts). es ++ rest) (append-nil parts)
-put_one parts rest (Some e) = append_assoc parts (e ∷ []) rest
+lt_is : (x y : ℤ) → int_lt x y ≡ true → x <ℤ y
+lt_is x y h = grind (arith, ints)
 
-pub one_further : (window : RowRange) (parts more left rest edges : List EdgeParts) (e : EdgeParts) → left ≡ e ∷ rest
-    → parts ++ parts_in window left ≡ parts_in window edges → more ≡ parts ++ option_to_list (part_in window e)
-    → more ++ parts_in window rest ≡ parts_in window edges
-one_further window parts more left rest edges e first before put =
-    ap (λ (es : List EdgeParts). es ++ parts_in window rest) put
-    ∙ (put_one parts (parts_in window rest) (part_in window e)
-    ∙ (ap (λ (es : List EdgeParts). parts ++ parts_in window es) (sym first) ∙ before))
+abbrev clip : RowRange → EdgeParts → EdgeParts
+clip window e = edge_parts (int_max e.y0 window.y0) (int_min e.y1 window.y1) e.line e.up e.operand
+
+abbrev rows_of : RowRange → EdgeParts → Slab
+rows_of window e = record { y0 = int_max e.y0 window.y0; y1 = int_min e.y1 window.y1 }
+
+known_by : (window : RowRange) (e : EdgeParts) (rest : List EdgeParts) (b : Bool) → int_lt (int_max e.y0 window.y0) (int_min e.y1 window.y1) ≡ b → IsEdge e
+    → All IsEdge rest → All IsEdge (cons_option (cond b (Some (clip window e)) None) rest)
+known_by window e rest true t is h = All-cons IsEdge (clip window e) rest (part_is_edge window e (rows_of window e) is refl refl (lt_is _ _ t)) h
+known_by window e rest false t is h = h
+
+pub parts_known : (window : RowRange) (edges : List EdgeParts) → All IsEdge edges → All IsEdge (parts_in window edges)
+parts_known window [] h = All-nil IsEdge
+parts_known window (e ∷ edges) h =
+    known_by window e (parts_in window edges) _ refl (All-head IsEdge e edges h) (parts_known window edges (All-tail IsEdge e edges h))
+
+short_by : (e : EdgeParts) (rest : List EdgeParts) (n : ℕ) (b : Bool) → length rest ≤ n → length (cons_option (cond b (Some e) None) rest) ≤ suc n
+short_by e rest n true h = omega (arith, h)
+short_by e rest n false h = omega (arith, h)
+
+pub parts_short : (window : RowRange) (edges : List EdgeParts) → length (parts_in window edges) ≤ length edges
+parts_short window [] = omega arith
+parts_short window (e ∷ edges) = short_by (clip window e) (parts_in window edges) (length edges) _ (parts_short window edges)
+
+-- ---- events, edge by edge
+
+put_events : (events : List Event) (rest : List EdgeParts) (o : Option EdgeParts)
+    → (events ++ events_of (option_to_list o)) ++ events_of rest ≡ events ++ events_of (cons_option o rest)
+put_events events rest None = ap (λ (es : List Event). es ++ events_of rest) (append-nil events)
+put_events events rest (Some e) = append_assoc events (begin_of e ∷ end_of e ∷ []) (events_of rest)
+
+pub events_further : (window : RowRange) (events more : List Event) (left rest edges : List EdgeParts) (e : EdgeParts) → left ≡ e ∷ rest
+    → events ++ events_of (parts_in window left) ≡ events_of (parts_in window edges) → more ≡ events ++ events_of (option_to_list (part_in window e))
+    → more ++ events_of (parts_in window rest) ≡ events_of (parts_in window edges)
+events_further window events more left rest edges e first before put =
+    ap (λ (es : List Event). es ++ events_of (parts_in window rest)) put
+    ∙ (put_events events (parts_in window rest) (part_in window e)
+    ∙ (ap (λ (es : List EdgeParts). events ++ events_of (parts_in window es)) (sym first) ∙ before))
+
+pub events_more : (edges : List EdgeParts) (e : EdgeParts) → events_of (edges ++ e ∷ []) ≡ (events_of edges ++ begin_of e ∷ []) ++ end_of e ∷ []
+events_more [] e = refl
+events_more (f ∷ edges) e = ap (λ (events : List Event). begin_of f ∷ end_of f ∷ events) (events_more edges e)

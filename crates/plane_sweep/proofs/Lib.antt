@@ -50,3 +50,4 @@ pub mod StopWith
 pub mod SweepSteps
 pub mod SweptParts
 pub mod EdgePart
+pub mod PackedLemmas

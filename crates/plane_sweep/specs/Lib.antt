@@ -7,6 +7,8 @@ pub mod StopSettles
 pub mod Stops
 pub mod RowSweeps
 -- ---- what is kept inside
+pub mod PackedEvents
+pub mod PackedSpots
 pub mod Bundles
 pub mod NextStops
 pub mod StopRuns

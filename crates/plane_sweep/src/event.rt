@@ -1,14 +1,18 @@
 //! The events of a sweep, one by one.
-ghost use Rattle.std.specs.Prelude.{◌≡◌, OnOk, IfOk, IsTrue, false, List, All, IsPermutation, drop};
+ghost use Rattle.std.specs.Prelude.{◌≡◌, OnOk, IfOk, IsTrue, false, List, All, IsPermutation, drop, length, ◌++◌, ◌∷◌, [], ◌≤◌, ◌^◌};
 ghost use Rattle.half_grid.specs.Edges.{IsEdge};
 ghost use Rattle.row_lists.specs.declared.event.Event.{Event as AnEvent};
-ghost use Rattle.row_lists.specs.Events.{events_of, EventsAscend};
+ghost use Rattle.row_lists.specs.Events.{begin_of, end_of, events_of, EventsAscend};
+ghost use Rattle.std.specs.Option.{option_to_list};
+ghost use Rattle.scan_line.specs.ClippedEdges.{part_in, parts_in};
 ghost use Rattle.plane_sweep.specs.Bundles.{PassesEvents, first_event};
 
 use crate::bundle::{Bundle, change_of};
+use crate::packed::Packed;
+use crate::parts::part_in;
 use geo_stream::NoMemory;
-use half_grid::{Edge, Point};
-use row_lists::{Event, sorted_events};
+use half_grid::{Edge, Point, Window};
+use row_lists::Event;
 use std::alloc::Global;
 use std::marker::Model;
 
@@ -29,7 +33,7 @@ pub trait EventSource {
 /// Events that were sorted before. Contracts see those still to come.
 #[derive(Drop)]
 pub struct SortedEvents {
-    events: Vec<Event>,
+    events: Vec<Packed>,
     at: usize,
 }
 
@@ -51,14 +55,89 @@ pub(crate) fn know_edges(edges: &[Edge])
     }
 }
 
+/// What the parts of the edges in the window are.
+pub(crate) fn know_parts(edges: &[Edge], window: Window)
+    ensures known { All IsEdge (parts_in window edges.now) }
+    ensures short { length (parts_in window edges.now) ≤ 2 ^ 64 }
+{
+    know_edges(edges);
+    let _count = edges.len();
+}
+
+// Puts the two events of the edge after the others.
+fn push_events(events: &mut Vec<Packed>, edge: &Edge) -> Result<(), NoMemory>
+    ensures { OnOk result (events.new.items ≡ (events.old.items ++ begin_of edge.now ∷ []) ++ end_of edge.now ∷ []) }
+{
+    events.push(Packed::begin_of(edge))?;
+    events.push(Packed::end_of(edge))?;
+    Ok(())
+}
+
+// Puts those of the edge's part in the window after the others, where it has one.
+fn push_part(events: &mut Vec<Packed>, edge: &Edge, window: Window) -> Result<(), NoMemory>
+    ensures { OnOk result (events.new.items ≡ events.old.items ++ events_of (option_to_list (part_in window edge.now))) }
+{
+    if let Some(part) = part_in(edge, window) {
+        push_events(events, &part)?;
+    }
+    Ok(())
+}
+
+// The events of all edges, edge by edge.
+fn all_events(alloc: Global, edges: &[Edge]) -> Result<Vec<Packed>, NoMemory>
+    ensures { IfOk result (λ events. events.items ≡ events_of edges.now) }
+{
+    let mut events = Vec::with_capacity(alloc, 2 * edges.len())?;
+    for edge in edges {
+        push_events(&mut events, edge)?;
+    }
+    Ok(events)
+}
+
+// The events of all parts of edges in the window, edge by edge.
+fn events_in(alloc: Global, edges: &[Edge], window: Window) -> Result<Vec<Packed>, NoMemory>
+    ensures { IfOk result (λ events. events.items ≡ events_of (parts_in window edges.now)) }
+{
+    let mut events = Vec::with_capacity(alloc, 2 * edges.len())?;
+    let mut left = edges;
+    while let Some((edge, rest)) = left.split_first() {
+        push_part(&mut events, edge, window)?;
+        left = rest;
+    }
+    Ok(events)
+}
+
+// The events in the order of a sweep.
+fn in_order(events: Vec<Packed>) -> SortedEvents
+    ensures permutation { IsPermutation events.items result }
+    ensures ascend { EventsAscend result }
+{
+    let mut events = events;
+    events.sort_unstable_by_key(|event| event.spot());
+    SortedEvents { events, at: 0 }
+}
+
 impl SortedEvents {
     /// The events of the edges.
     pub fn of_edges(alloc: Global, edges: &[Edge]) -> Result<SortedEvents, NoMemory>
         ensures permutation { IfOk result (λ events. IsPermutation (events_of edges.now) events) }
         ensures ascend { IfOk result (λ events. EventsAscend events) }
     {
-        let events = sorted_events(alloc, edges)?;
-        Ok(SortedEvents { events, at: 0 })
+        let events = all_events(alloc, edges)?;
+        Ok(in_order(events))
+    }
+
+    /// The events of the edges' parts in the rows of the window.
+    pub(crate) fn of_parts(
+        alloc: Global,
+        edges: &[Edge],
+        window: Window,
+    ) -> Result<SortedEvents, NoMemory>
+        ensures permutation { IfOk result (λ events. IsPermutation (events_of (parts_in window edges.now)) events) }
+        ensures ascend { IfOk result (λ events. EventsAscend events) }
+    {
+        let events = events_in(alloc, edges, window)?;
+        Ok(in_order(events))
     }
 }
 
@@ -69,7 +148,8 @@ impl EventSource for SortedEvents {
         if self.events.len() <= self.at {
             return None;
         }
-        Some(self.events[self.at])
+        let event = &self.events[self.at];
+        Some(event.event())
     }
 
     fn step(&mut self) -> Result<(), NoMemory> {

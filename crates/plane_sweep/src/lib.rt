@@ -11,6 +11,7 @@ mod entry;
 mod event;
 mod laws;
 mod next_stop;
+mod packed;
 mod parts;
 mod point;
 mod progress;

@@ -12,7 +12,7 @@ ghost use Rattle.trap_join.specs.Joins.{IsTakenIn, IsJoinedSoFar};
 ghost use Rattle.trap_join.specs.Maximal.{IsMaximal, AreMaximal};
 ghost use Rattle.plane_sweep.specs.PlaneSweeps.{IsBelowAll, HasComeTo, left_in};
 
-use crate::event::{SortedEvents, know_edges};
+use crate::event::{SortedEvents, know_parts};
 use crate::next_stop::next_stop;
 use crate::point::Front;
 use crate::runs::Level;
@@ -49,17 +49,18 @@ fn after(level: Level) -> Level
 }
 
 impl Progress {
-    /// Below the window, where there are no lines. The parts are those of edges in the rows of the window.
+    /// Below the window, where there are no lines. Edges count by their parts in the rows of the window.
     pub(crate) fn begin(
         alloc: Global,
-        parts: Vec<Edge>,
+        edges: Vec<Edge>,
         window: Window,
     ) -> Result<Progress, NoMemory>
-        ensures below { IfOk result (IsBelowAll parts.items window) }
+        ensures below { IfOk result (IsBelowAll (parts_in window edges.items) window) }
         ensures window { IfOk result (λ progress. progress.window ≡ window) }
     {
-        know_edges(parts.as_slice());
-        let events = SortedEvents::of_edges(alloc, parts.as_slice())?;
+        know_parts(edges.as_slice(), window);
+        let events = SortedEvents::of_parts(alloc, edges.as_slice(), window)?;
+        drop(edges);
         Ok(Progress {
             window,
             events,

@@ -11,7 +11,6 @@ ghost use Rattle.trap_join.specs.Maximal.{IsMaximal, AreMaximal};
 ghost use Rattle.plane_sweep.specs.PlaneSweeps.{HasGiven, left_to_give};
 ghost use Rattle.plane_sweep.specs.SweptLists.{IsSwept};
 
-use crate::parts::parts_of;
 use crate::progress::Progress;
 use geo_stream::NoMemory;
 use half_grid::{Edge, Trap, Window};
@@ -53,9 +52,7 @@ impl<F: Fn(i128, i128) -> bool> Sweep<F> {
         ensures window { IfOk result (λ sweep. sweep.window ≡ window) }
         ensures going { IfOk result (λ sweep. sweep.failed ≡ false) }
     {
-        let parts = parts_of(alloc, edges.as_slice(), window)?;
-        drop(edges);
-        let progress = Progress::begin(alloc, parts, window)?;
+        let progress = Progress::begin(alloc, edges, window)?;
         Ok(Sweep {
             rule,
             progress,

@@ -1,7 +1,0 @@
-use Rattle.plane_sweep.proofs.EdgePart.{one_further}
-use Rattle.plane_sweep.proofs.parts.parts_of.Goals as goal
-
-pub loop-edge-preserved : goal.loop-edge-preserved
-loop-edge-preserved c =
-    one_further c.args.window c.loop-edge.parts.items c.push_part.new.parts.items c.loop-edge.left.now c.in-Some.rest.now c.args.edges.now
-    c.in-Some.edge.now c.in-Some.ensures.cases.0 c.loop-edge.invariant c.in_ok-push_part.ensures
