@@ -187,7 +187,8 @@ ascent_is ring i end a low next within e f p q up along so top =
     ascent_by ring i end a (along_join ring a.line i (i + 1) end first along) so (omega (arith, ints, higher, along.up)) top
 
 pub ascent_back_is : (ring : List Point) (i j end : ℕ) (a : Ascent) (low next : Point) → j + 1 ≡ i → i < length ring → low ≡ point_of ring i
-    → next ≡ point_of ring j → Passes a.line low → Passes a.line next → low.y <ℤ next.y → IsAlong ring a.line j end → IsLevel ring end a.at → a.top ≡ (point_of ring end).y
+    → next ≡ point_of ring j → Passes a.line low → Passes a.line next → low.y <ℤ next.y → IsAlong ring a.line j end → IsLevel ring end a.at
+    → a.top ≡ (point_of ring end).y
     → IsAscent ring i a
 ascent_back_is ring i j end a low next same within e f p q up along so top =
     let higher : (point_of ring i).y <ℤ (point_of ring j).y

@@ -253,7 +253,7 @@ fn polygons_of_each_kind(rt: HostRuntime) {
 }
 
 // The list of a tower of 5 by this height, a vertex at each step on its left side.
-fn tower(alloc: Global, height: usize) -> Result<PointList, NoMemory> {
+fn tower(alloc: Global, height: u16) -> Result<PointList, NoMemory> {
     let mut items = List::new(alloc);
     for _step in 0..height {
         items.push(Point { x: 0, y: 1 })?;
@@ -261,32 +261,36 @@ fn tower(alloc: Global, height: usize) -> Result<PointList, NoMemory> {
     items.push(Point { x: 5, y: 0 })?;
     items.push(Point {
         x: 0,
-        y: -(height as i64),
+        y: -i64::from(height),
     })?;
     Ok(PointList::new(Deltas { kind: 2, items }))
 }
 
-// Whether this is the outline of the tower from this place in half units.
-fn is_tower(points: &[Point], height: usize, x: i64, y: i64) -> bool {
-    if points.len() != height + 4 {
-        return false;
+// The outline of the tower from this place in half units.
+fn outline_of(alloc: Global, height: u16, x: i64, y: i64) -> Result<Vec<Point>, NoMemory> {
+    let mut points = Vec::new(alloc);
+    let mut at = y;
+    points.push(Point { x, y })?;
+    for _step in 0..height {
+        at = at.wrapping_add(2);
+        points.push(Point { x, y: at })?;
     }
-    for (k, point) in points.iter().enumerate() {
-        let (across, upward) = match k - k.min(height) {
-            0 => (0, 2 * k as i64),
-            1 => (10, 2 * height as i64),
-            2 => (10, 0),
-            _ => (0, 0),
-        };
-        if point.x - x != across || point.y - y != upward {
-            return false;
-        }
-    }
-    true
+    let right = x.wrapping_add(10);
+    points.push(Point { x: right, y: at })?;
+    points.push(Point { x: right, y })?;
+    points.push(Point { x, y })?;
+    Ok(points)
+}
+
+// Whether the shape is the tower from this place in half units.
+fn is_tower(alloc: Global, shape: &Shape, height: u16, x: i64, y: i64) -> Result<bool, NoMemory> {
+    let points = shape.points.to_vec(alloc)?;
+    let wanted = outline_of(alloc, height, x, y)?;
+    Ok(points.as_slice() == wanted.as_slice())
 }
 
 // The outlines of a tower whose list was made at one place and is used at this and at another.
-fn are_towers(alloc: Global, height: usize) -> Result<bool, NoMemory> {
+fn are_towers(alloc: Global, height: u16) -> Result<bool, NoMemory> {
     let mut points = tower(alloc, height)?;
     let (here, there) = (Point { x: 1, y: 2 }, Point { x: -30, y: 7 });
     points.make_outline(alloc, here);
@@ -299,9 +303,7 @@ fn are_towers(alloc: Global, height: usize) -> Result<bool, NoMemory> {
     let [first, second] = shapes.as_slice() else {
         return Ok(false);
     };
-    let first = first.points.to_vec(alloc)?;
-    let second = second.points.to_vec(alloc)?;
-    Ok(is_tower(first.as_slice(), height, 2, 4) && is_tower(second.as_slice(), height, -60, 14))
+    Ok(is_tower(alloc, first, height, 2, 4)? && is_tower(alloc, second, height, -60, 14)?)
 }
 
 // Outlines of 8, 9, 11, 12 and 8,191 points; those from 12 on are shared.
