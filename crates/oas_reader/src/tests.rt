@@ -131,7 +131,7 @@ fn takes_modal_values(rt: HostRuntime) -> Result<(), Fail> {
             &[sight(0, 0, 20, 20, 1), sight(40, 0, 60, 20, 1)]
         )?
     );
-    // Three columns and two rows, and the same again by kind 0 behind a text that writes another.
+    // Three columns and two rows, and the same again by kind 0 after a text that writes another.
     let grid = b"\x14\x7F\x01\x00\x0A\x0A\x00\x00\x01\x01\x00\x14\x1E\
         \x13\x44\x00\x02\x00\x05\x14\x04\x00"
         .as_slice();
@@ -142,6 +142,12 @@ fn takes_modal_values(rt: HostRuntime) -> Result<(), Fail> {
             &[sight(0, 0, 20, 20, 6), sight(0, 0, 20, 20, 2)]
         )?
     );
+    Ok(())
+}
+
+// The height of a square is its width; places are relative or absolute as the record before them says.
+#[test]
+fn takes_heights_and_relative_places(rt: HostRuntime) -> Result<(), Fail> {
     // A square of width 4; then the height is 4.
     let square = b"\x14\xDB\x01\x00\x04\x00\x00\x14\x40\x06".as_slice();
     assert!(rt;
@@ -191,7 +197,7 @@ fn extends_paths(rt: HostRuntime) -> Result<(), Fail> {
 
 #[test]
 fn reads_placements(rt: HostRuntime) -> Result<(), Fail> {
-    // TOP places A, by a number that a CELLNAME behind gives: flipped, turned by 270 degrees, twice as large, twice.
+    // TOP places A, by a number that a CELLNAME after it gives: flipped, turned by 270 degrees, twice as large, twice.
     let records = b"\x12\xFF\x00\x00\x02\x00\x8E\x02\x02\x04\x02\x00\x0A\
         \x11\x10\x08\x0D\x00\x14\x7B\x02\x00\x0A\x0A\x00\x00\x03\x01A"
         .as_slice();
@@ -225,7 +231,7 @@ fn reads_placements(rt: HostRuntime) -> Result<(), Fail> {
     Ok(())
 }
 
-// With a property, a pad and names behind the cell, and the table offsets in END.
+// With a property, a pad and names after the cell, and the table offsets in END.
 #[test]
 fn reads_tables_at_the_end(rt: HostRuntime) -> Result<(), Fail> {
     let mut bytes = Vec::from_slice(rt.alloc(), b"%SEMI-OASIS\r\n\x01\x031.0\x00\xE8\x07\x01")?;
@@ -254,7 +260,7 @@ fn refuses_records(rt: HostRuntime) -> Result<(), Fail> {
             b"\x0E\x01A\x01\x031.0\x00\xE8\x07\x00\0\0\0\0\0\0\0\0\0\0\0\0".as_slice(),
             OasBad::Order(42),
         ),
-        // A shape behind a record of names.
+        // A shape after a record of names.
         (b"\x03\x01A\x0F".as_slice(), OasBad::Order(42)),
         // No layer; none in the next cell; a type without its height; a repetition, half widths and a cell.
         (
@@ -310,6 +316,14 @@ fn refuses_values(rt: HostRuntime) -> Result<(), Fail> {
             OasBad::Value(39, 4),
         ),
         (b"\x12\x82\x01A\x00\x2D".as_slice(), OasBad::Value(39, 5)),
+    ];
+    assert!(rt; are_refused(rt.alloc(), &cases)?);
+    Ok(())
+}
+
+#[test]
+fn refuses_kinds_of_shapes_and_repetitions(rt: HostRuntime) -> Result<(), Fail> {
+    let cases = [
         // By (2, 1) and then by (0, 4).
         (
             b"\x15\x3B\x01\x00\x04\x02\x09\x02\x42\x00\x00".as_slice(),
