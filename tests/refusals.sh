@@ -59,7 +59,7 @@ begins() {
     [ -e "$1" ] && cmp -s "$1" <(head -c "$(stat -c %s "$1")" "right/$1")
 }
 
-# outputs_are_sound HOW: some outputs are whole, one may be cut, those behind it are as before
+# outputs_are_sound HOW: some outputs are whole, one may be cut, those after it are as before
 outputs_are_sound() {
     local name place=no
     for name in "${outputs[@]}"; do

@@ -21,7 +21,7 @@ fn told<'a>(rt: &HostRuntime, path: &str, bytes: &'a mut [u8; 4096]) -> Option<&
     str::from_utf8(bytes.get(..count)?).ok()
 }
 
-// The hundredths of a second in the system of a line of /proc/self/stat (proc(5)): the thirteenth word behind the
+// The hundredths of a second in the system of a line of /proc/self/stat (proc(5)): the thirteenth word after the
 // program's name, which stands in brackets.
 fn hundredths_in(text: &str) -> Option<u64> {
     let (_, words) = text.rsplit_once(')')?;

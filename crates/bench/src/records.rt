@@ -13,7 +13,7 @@ const WHOLE: [u8; 6] = [0x14, 0x7B, 0x01, 0x00, 0x0A, 0x0A];
 const HEAD: &[u8] =
     b"%SEMI-OASIS\r\n\x01\x031.0\x00\xE8\x07\x00\0\0\0\0\0\0\0\0\0\0\0\0\x0E\x03TOP";
 
-// END up to its padding of 252 bytes, behind which comes the scheme 0.
+// END up to its padding of 252 bytes, after which comes the scheme 0.
 const END: &[u8] = b"\x02\xFC\x01";
 
 // A number from 0 to 2^20 - 1, as a signed number in three groups of seven bits.

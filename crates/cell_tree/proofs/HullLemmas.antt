@@ -137,7 +137,7 @@ before_other a b e = elim (pairs a b) [
   | inr other ↦ other
 ]
 
--- the pair of an entry comes before, is the pair, or comes behind
+-- the pair of an entry comes before, is the pair, or comes after
 abbrev Stand : PairHull → Pair → Type 0
 Stand here pair = (is_before here.pair pair ≡ true)
     ⊎ ((is_before here.pair pair ≡ false) × (same_pair here.pair pair ≡ true))
@@ -157,7 +157,7 @@ stand here pair = elim (order here.pair pair) [
   ]
 ]
 
--- neither before nor the pair itself: behind
+-- neither before nor the pair itself: after
 pub behind_of : (here : PairHull) (pair : Pair) → is_before here.pair pair ≡ false → same_pair here.pair pair ≡ false → is_before pair here.pair ≡ true
 behind_of here pair isnt other = elim (stand here pair) [
   | inl b ↦ absurd (true≢false (sym b ∙ isnt))
@@ -292,7 +292,7 @@ pub record IsPlace (hulls : List PairHull) (pair : Pair) (k : ℕ) : Type 0 wher
   pub below : (j : ℕ) (here : PairHull) → j < k → slice_get hulls j ≡ Some here → is_before here.pair pair ≡ true
   pub above : (j : ℕ) (here : PairHull) → k ≤ j → slice_get hulls j ≡ Some here → is_before here.pair pair ≡ false
 
--- the place behind the first entry
+-- the place after the first entry
 next_place : (first : PairHull) (hulls : List PairHull) (pair : Pair) (k : ℕ) → IsPlace (first ∷ hulls) pair (suc k) → IsPlace hulls pair k
 next_place first hulls pair k is = let w = is.within in record {
   within = omega arith;

@@ -291,7 +291,7 @@ module _ (post : ℤ → ℤ → Bool → Type 0) (window : RowRange) (from : �
       (last_winds_in (rows_below window before) window from edges rest from_x edges_known balanced
       (omega (arith, ints, start)) (rows_end before known) left) known first
 
--- ---- before the first column, and behind the last
+-- ---- before the first column, and after the last
 
 pub looked_none : (post : ℤ → ℤ → Bool → Type 0) (edges : List EdgeParts) (window : RowRange) (x : ℤ)
     (rest : List EdgeParts) → ((t : Tile) → t.i <ℤ x → IsTakenIn post edges window t → ⊥)

@@ -78,7 +78,7 @@ module _ (pre : ℤ → ℤ → Type 0) (post : ℤ → ℤ → Bool → Type 0)
       column_swept (IsTakenIn post edges window) (IsTakenIn post own window) window low from x low_from from_x column_of own_to_area area_to_own
       finals seams part.traps insides crossings before part.joined part.covers part.sorted
 
-  -- the same where those of the column were put behind those before
+  -- the same where those of the column were put after those before
   pub further_behind : (low : ℤ) → low ≤ℤ from → from <ℤ x → (finals seams all_finals all_seams : List Trapezoid)
       → AreSweptTo (IsTakenIn post edges window) window low from finals seams
       → AreSweptBehind (IsSwept post own window) from x finals seams all_finals all_seams
@@ -127,7 +127,7 @@ module _ (edges rest later own beyond : List EdgeParts) (from x : ℤ) (from_x :
 pub part_balanced : (x : ℤ) (rest own beyond : List EdgeParts) (window : RowRange) → AreParts x rest own beyond → IsBalanced own window
 part_balanced x rest own beyond window parts = λ o j a b. balanced_by_sum o j own (parts.even o j)
 
--- ---- before the first cut, and behind the last
+-- ---- before the first cut, and after the last
 
 pub edge_right : (e : EdgeParts) → IsEdge e → LiesRight (negsuc (2 ^ 44)) e
 edge_right e h = right_of_least (negsuc (2 ^ 44)) e (let a = h.lower_end.low in let b = h.upper_end.low in omega (arith, ints, clamps, a, b))

@@ -252,7 +252,7 @@ sorted_crossing from x traps insides crossings w h = record {
   counts = λ t. (let before = h.counts t in let a = count_append crossings (w ∷ []) t in let b = count_append traps (w ∷ []) t in omega (arith, before, a, b));
 }
 
--- ---- and put behind those of other columns
+-- ---- and put after those of other columns
 
 push_behind : (all front back : List Trapezoid) (w : Trapezoid) → all ≡ front ++ back → all ++ w ∷ [] ≡ front ++ (back ++ w ∷ [])
 push_behind all front back w h = ap (λ (xs : List Trapezoid). xs ++ w ∷ []) h ∙ append_assoc front back (w ∷ [])

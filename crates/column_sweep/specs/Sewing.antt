@@ -54,7 +54,7 @@ pub record AreSweptIn (area : Tile → Type 0) (window : RowRange) (from x : ℤ
   pub covers : CoversExactly traps area
   pub sorted : AreSorted from x traps insides crossings
 
--- the trapezoids of a column, told apart and put behind others
+-- the trapezoids of a column, told apart and put after others
 pub record AreSortedBehind (from x : ℤ) (traps finals seams all_finals all_seams : List Trapezoid) : Type 0 where
   pub insides : List Trapezoid
   pub crossings : List Trapezoid
@@ -62,7 +62,7 @@ pub record AreSortedBehind (from x : ℤ) (traps finals seams all_finals all_sea
   pub seams_are : all_seams ≡ seams ++ crossings
   pub sorted : AreSorted from x traps insides crossings
 
--- all trapezoids of a column, whatever makes a list all of them, told apart and put behind others
+-- all trapezoids of a column, whatever makes a list all of them, told apart and put after others
 pub record AreSweptBehind (AreAll : List Trapezoid → Type 0) (from x : ℤ) (finals seams all_finals all_seams : List Trapezoid) : Type 0 where
   pub traps : List Trapezoid
   pub all : AreAll traps

@@ -103,7 +103,7 @@ fn sort_in(sewn: &mut Sewn, trap: &Trap, column: Column) -> Result<(), NoMemory>
     Ok(())
 }
 
-// Puts all trapezoids of a scan that gave no slab yet behind those of the columns before: those strictly inside the column,
+// Puts all trapezoids of a scan that gave no slab yet after those of the columns before: those strictly inside the column,
 // and those that touch a side.
 fn sort_out<F: Fn(i128, i128) -> bool + Drop>(
     alloc: Global,
@@ -123,7 +123,7 @@ fn sort_out<F: Fn(i128, i128) -> bool + Drop>(
     Ok(())
 }
 
-// The trapezoids of one column, from edges that wind round no tile outside of it, behind those of the columns before.
+// The trapezoids of one column, from edges that wind round no tile outside of it, after those of the columns before.
 fn sweep_part<F: Fn(i128, i128) -> bool + Drop>(
     alloc: Global,
     sewn: &mut Sewn,

@@ -118,7 +118,7 @@ fn halves_of(edge: &Edge, cut: Cut) -> Halves
     }
 }
 
-// Puts the parts of the edges left of the cut, and those right of it, behind those of others.
+// Puts the parts of the edges left of the cut, and those right of it, after those of others.
 fn split(parts: &mut Parts, edges: &[Edge], cut: Cut) -> Result<(), NoMemory>
     requires { IsWithinReach cut.x }
     ensures { (before : List EdgeParts) → AreSplit cut.x before parts.old.own.items parts.old.beyond.items → OnOk result (AreSplit cut.x (before ++ edges.now) parts.new.own.items parts.new.beyond.items) }

@@ -107,7 +107,7 @@ fn are_opposite(e: &Edge, f: &Edge) -> bool
     is_of(e.operand(), f.operand())
 }
 
-// The edges behind the first two, where these add up to nothing, as the two sides of a trapezoid do.
+// The edges after the first two, where these add up to nothing, as the two sides of a trapezoid do.
 fn behind_opposites(edges: &[Edge]) -> Option<&[Edge]>
     ensures sums { IfSome result (λ rest. (o : Operand) (j : ℤ) → row_sum o j rest.now ≡ row_sum o j edges.now) }
     ensures fewer { IfSome result (λ rest. length rest.now < length edges.now) }

@@ -1,4 +1,4 @@
--- The index of statements, and one more statement behind them.
+-- The index of statements, and one more statement after them.
 use Rattle.std.proofs.Common.{◌≡◌, ℕ, ◌+◌, Bool, true, false, not, cond, ◌||◌, if◌then◌else◌, List, [], ◌∷◌, ◌++◌}
 use Rattle.std.proofs.Common.{Option, None, Some, refl, sym, ap, ◌∙◌, arith}
 use Rattle.std.specs.Prelude.{ℤ, find, is_some, option_map, Result, Ok, Err, OnOk}
@@ -190,7 +190,7 @@ put_setting saids m index setting e is = record {
       (count_before is_output (saids ++ m ∷ [])) is.outputs (uncounted is_output saids m (rw e refl));
 }
 
--- what is found behind a definition of a name that wasn't there
+-- what is found after a definition of a name that wasn't there
 found_with : (saids : List Said) (m : Said) (name other : List ℕ) (operation : Operation) (k : ℕ)
     → m.says ≡ Defines name operation → k ≡ count_before is_definition saids
     → defined_from 0 saids name ≡ None → defined_from 0 (saids ++ m ∷ []) other ≡ cond (bytes_eq name other)

@@ -31,7 +31,7 @@ band_range (Sets (FrameIs x0 y0 x1 y1)) n h e = absurd cc
 band_range (Defines name operation) n h e = absurd cc
 band_range (Writes a file layer datatype) n h e = absurd cc
 
--- two numbers in range, one behind the other
+-- two numbers in range, one after the other
 pub two_inside : (a b : Bound) (rest : List Bound) → first_outside (a ∷ b ∷ rest) ≡ None → IsInside a × IsInside b × (first_outside rest ≡ None)
 two_inside a b rest h =
     let first = inside_split a (b ∷ rest) (is_outside a) refl h in

@@ -16,7 +16,7 @@ use Rattle.deck_text.proofs.RuleLemmas.{by_order}
 use Rattle.deck_text.specs.declared.refusal.DeckBad.{DeckBad}
 use Rattle.deck_text.specs.declared.refusal.DeckBad.TheVariants as faults
 
--- ---- the line behind the first n
+-- ---- the line after the first n
 
 pub line_there : (ls : List (List ℕ)) (n : ℕ) (line : List ℕ) (more : List (List ℕ)) → drop n ls ≡ line ∷ more → slice_get ls n ≡ Some line
 line_there [] zero line more e = absurd cc

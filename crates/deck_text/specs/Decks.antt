@@ -47,7 +47,7 @@ refusal layout deck before n Passed = None
 refusal layout deck before n (Refused column) = Some (faults.Line n column)
 refusal layout deck before n (Says s) = broken_rule layout deck before n s
 
--- why the line behind the first i lines is refused
+-- why the line after the first i lines is refused
 abbrev pub refusal_after : (layout deck : List ℕ) → List (List ℕ) → ℕ → List ℕ → Option DeckBad
 refusal_after layout deck lines i line = refusal layout deck (saids_from 1 (take i lines)) (i + 1) (reading line)
 
@@ -56,7 +56,7 @@ abbrev pub AreAccepted : (layout deck : List ℕ) → List (List ℕ) → ℕ �
 AreAccepted layout deck lines n =
     (i : ℕ) (line : List ℕ) → i < n → slice_get lines i ≡ Some line → refusal_after layout deck lines i line ≡ None
 
--- the line behind the first n lines is the first that is refused, and bad says why
+-- the line after the first n lines is the first that is refused, and bad says why
 pub record IsRefusedAt (layout deck : List ℕ) (lines : List (List ℕ)) (n : ℕ) (bad : DeckBad) : Type 0 where
   pub line : List ℕ
   pub there : slice_get lines n ≡ Some line

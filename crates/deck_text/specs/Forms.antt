@@ -61,7 +61,7 @@ meaning_of commands.Invert (name, (a, end)) = Defines name (Inverts a)
 meaning_of commands.Mirror (name, (a, (m, end))) = Defines name (Mirrors a m)
 meaning_of commands.Write (a, (file, (layer, (datatype, end)))) = Writes a file layer datatype
 
--- the words behind the settings
+-- the words after the settings
 abbrev pub area_commands : List Command
 area_commands =
     commands.Layer ∷ commands.Or ∷ commands.And ∷ commands.Sub ∷ commands.Xor ∷ commands.Grow ∷ commands.Shrink
@@ -77,7 +77,7 @@ command_among among token = find (λ command. bytes_eq token (word_of command)) 
 unfoldable pub command_of : List ℕ → Option Command
 command_of token = command_among all_commands token
 
--- what the pieces behind the word say, or the column of the first thing that doesn't fit
+-- what the pieces after the word say, or the column of the first thing that doesn't fit
 unfoldable pub statement_of : Command → ℕ → List Piece → Result Statement ℕ
 statement_of command past ps = fields (kinds_of command) past ps >>= λ values. Ok (meaning_of command values)
 

@@ -76,7 +76,7 @@ Err column >>= f = Err column
 
 -- ---- matching: the values, or the column of the first piece that doesn't fit, or `past` where a piece is missing
 
--- one piece, with those behind it
+-- one piece, with those after it
 abbrev pub fitting : {A : Type 0} → ℕ → List Piece → Option A → Result (A × List Piece) ℕ
 fitting column behind (Some value) = Ok (value, behind)
 fitting column behind None = Err column
@@ -97,7 +97,7 @@ taken Cell past ps = taken_as cell_value past ps
 taken Number past ps = taken_as number_value past ps
 taken Sides past ps = taken_as number_value past ps >>= λ d. second_side d.0 past d.1
 
--- nothing stands behind the last
+-- nothing stands after the last
 unfoldable pub ended : ℕ → List Piece → Result (Unit {0}) ℕ
 ended past [] = Ok tt
 ended past (p ∷ ps) = Err p.column

@@ -44,7 +44,7 @@ pub record AreLimits (l : Limits) : Type 0 where
   pub width_low : (l.height +ℤ l.height) ≤ℤ l.width
   pub width_high : l.width ≤ℤ pos 33554432
 
--- a step behind k others
+-- a step after k others
 abbrev pub IsSoundStep : Option Frame → ℕ → Step → Type 0
 IsSoundStep frame k (steps.Layer p) = IsNarrow p
 IsSoundStep frame k (steps.Or a b) = (a < k) × (b < k)

@@ -30,7 +30,7 @@ fn is_word(token: &[u8], word: &[u8]) -> bool
     token == word
 }
 
-// The command behind the settings of which the token is the word.
+// The command after the settings of which the token is the word.
 fn area_command_of(token: &[u8]) -> Option<Command>
     ensures { result ≡ command_among area_commands token.now }
 {

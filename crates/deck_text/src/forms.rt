@@ -190,7 +190,7 @@ fn write_line(line: &[u8], at: usize) -> Result<Statement<'_>, usize>
     }))
 }
 
-// What the line of a command says behind its word.
+// What the line of a command says after its word.
 fn statement(command: Command, line: &[u8], at: usize) -> Result<Statement<'_>, usize>
     requires { at ≤ length line.now }
     ensures { Reads statement_view result (statement_of command (past line.now) (pieces_at line.now at)) }

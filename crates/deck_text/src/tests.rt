@@ -43,7 +43,7 @@ fn read(alloc: Global, bytes: &[u8]) -> Option<Result<Deck, DeckBad>> {
     Some(read_deck(alloc, bytes, "G.gds", "K"))
 }
 
-// Each line stands behind `unit 1000`, `top TOP` and `layer A 1 0`.
+// Each line stands after `unit 1000`, `top TOP` and `layer A 1 0`.
 const FOURTH: [(&[u8], Told<'static>); 38] = [
     (b"or C A", Told::Line(4, 7)),
     (b"or C A B", Told::Unknown(4, "B")),

@@ -50,7 +50,7 @@ place-set [] name i f at same = absurd at
 place-set (g ∷ fs) name zero f at same = same
 place-set (g ∷ fs) name (suc i) f at same = (at.0, place-set fs name i f at.1 same)
 
--- a file whose name is new goes behind the others
+-- a file whose name is new goes after the others
 pub files_of-push : (fs : List File) (name : List ℕ) (f : File) → HasNone fs name → string_bytes f.name ≡ name
     → files_of (fs ++ f ∷ []) ≡ insert (files_of fs) name f.bytes.items
 files_of-push [] name f none same = ap (λ k. insert empty k f.bytes.items) same
@@ -62,7 +62,7 @@ pub place-push : (fs : List File) (name : List ℕ) (f : File) → HasNone fs na
 place-push [] name f none same = same
 place-push (g ∷ fs) name f none same = (none.0, place-push fs name f none.1 same)
 
--- what stands behind the bytes of a file was appended
+-- what stands after the bytes of a file was appended
 pub appended-place : (fs : List File) (name : List ℕ) (i : ℕ) (piece : List ℕ) → IsPlace fs name i
     → insert (files_of fs) name (bytes_at fs i ++ piece) ≡ appended (files_of fs) (Some name) piece
 appended-place fs name i [] at = ap (λ l. insert (files_of fs) name l) (append-nil (bytes_at fs i)) ∙ insert_same
@@ -109,7 +109,7 @@ files_of-set_same fs name i x f at is same bytes =
     ∙ ap (insert (files_of fs) name) (bytes ∙ bytes_read fs i x (place_within fs name i at) is)
     ∙ insert_same (files_of fs) name (bytes_at fs i) (get-place fs name i at)
 
--- a file is written again with more bytes behind those that it had
+-- a file is written again with more bytes after those that it had
 pub files_of-set_more : (fs : List File) (name : List ℕ) (i : ℕ) (x f : File) (piece : List ℕ) → IsPlace fs name i
     → x ≡ get_or fs i x → string_bytes f.name ≡ name → f.bytes.items ≡ x.bytes.items ++ piece
     → files_of (set fs i f) ≡ appended (files_of fs) (Some name) piece

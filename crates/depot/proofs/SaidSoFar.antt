@@ -10,7 +10,7 @@ use Rattle.depot.specs.Printing.{IsSaidButFor}
 with_said-twice : (c : Content) (a b : List ℕ) → with_said (with_said c a) b ≡ with_said c (a ++ b)
 with_said-twice c a b = ap (λ said. record c { said = said }) (append_assoc c.said a b)
 
--- one more piece is put behind what is held
+-- one more piece is put after what is held
 pub hold_more : {old now : Content} {bytes held : List ℕ} (more : List ℕ) → IsSaidButFor old bytes held now
     → IsSaidButFor old (bytes ++ more) (held ++ more) now
 hold_more {old} {now} {bytes} {held} more p = record {
@@ -25,7 +25,7 @@ pub say_held : {old now : Content} {bytes held : List ℕ} (later : Content) →
 say_held {old} {now} {bytes} {held} later p e =
     e ∙ ap (λ c. with_said c held) p.content ∙ with_said-twice old p.said held ∙ ap (with_said old) p.whole
 
--- one more piece is put behind what is held, of which some is said before
+-- one more piece is put after what is held, of which some is said before
 pub said_then : {old now later : Content} {bytes held rest : List ℕ} (more : List ℕ) → IsSaidButFor old bytes held now
     → IsSaidButFor now (held ++ more) rest later → IsSaidButFor old (bytes ++ more) rest later
 said_then {old} {now} {later} {bytes} {held} {rest} more p q = record {
@@ -52,14 +52,14 @@ part_of_longer old later bytes more part = (
   part.2 ∙ ap (with_said old) (sym (take-append-le part.0 bytes more part.1)),
 )
 
--- the texts of a list behind others, cut in two
+-- the texts of a list after others, cut in two
 texts_cut : {X : Type 0} (f : X → List ℕ) (bytes : List ℕ) (xs : List X) (i : ℕ)
     → (bytes ++ flat_map f (take i xs)) ++ flat_map f (drop i xs) ≡ bytes ++ flat_map f xs
 texts_cut f bytes xs i =
     append_assoc bytes (flat_map f (take i xs)) (flat_map f (drop i xs))
     ∙ ap (λ l. bytes ++ l) (sym (flat_map-append f (take i xs) (drop i xs)) ∙ ap (flat_map f) (take-append-drop i xs))
 
--- one more text behind those of the first items
+-- one more text after those of the first items
 pub texts_more : {X : Type 0} (f : X → List ℕ) (bytes : List ℕ) (xs : List X) (i : ℕ) (x : X)
     → take (i + 1) xs ≡ take i xs ++ x ∷ [] → (bytes ++ flat_map f (take i xs)) ++ f x ≡ bytes ++ flat_map f
     (take (i + 1) xs)

@@ -94,7 +94,7 @@ begun c name = with_file c name []
 abbrev pub IsNotBegun : Content → List ℕ → Content → Type 0
 IsNotBegun before name now = (now ≡ with_current before None) ⊎ (now ≡ with_current (begun before name) None)
 
--- the files after bytes were put behind those of the current name
+-- the files once bytes were put after those of the current name
 abbrev pub appended : Files → Option (List ℕ) → List ℕ → Files
 appended files current [] = files
 appended files None (b ∷ bytes) = files

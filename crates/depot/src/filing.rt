@@ -33,7 +33,7 @@ pub(crate) fn bytes_of(files: &[File], at: usize) -> &[u8]
     files[at].bytes.as_slice()
 }
 
-// The bytes of a file behind the first so many.
+// The bytes of a file after the first so many.
 pub(crate) fn rest(files: &[File], at: usize, given: usize) -> &[u8]
     requires at { at < length files.now }
     requires given { given ≤ length (bytes_at files.now at) }
@@ -45,7 +45,7 @@ pub(crate) fn rest(files: &[File], at: usize, given: usize) -> &[u8]
     &bytes[given..len]
 }
 
-// Puts a file behind the others, where none has its name.
+// Puts a file after the others, where none has its name.
 fn push(alloc: Global, files: &mut Vec<File>, name: &str, bytes: Vec<u8>) -> Result<usize, NoMemory>
     requires { HasNone files.old.items name.now }
     ensures ok { OnOk result (files_of files.new.items
@@ -90,7 +90,7 @@ pub(crate) fn put(
     }
 }
 
-// Puts bytes behind those of a file.
+// Puts bytes after those of a file.
 pub(crate) fn append(files: &mut Vec<File>, at: usize, piece: &[u8]) -> Result<(), NoMemory>
     requires { IsPlace files.old.items (name_at files.old.items at) at }
     ensures ok { OnOk result (files_of files.new.items

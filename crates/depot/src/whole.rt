@@ -88,7 +88,7 @@ pub fn read_all<D: Depot>(
     Ok(bytes)
 }
 
-// Puts what is left of the started file behind the bytes, a chunk at a time.
+// Puts what is left of the started file after the bytes, a chunk at a time.
 fn read_rest<D: Depot>(
     depot: &mut D,
     chunk: &mut [u8],

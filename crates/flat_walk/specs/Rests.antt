@@ -34,7 +34,7 @@ shows_in window (Some q) = has_row_in window q
 abbrev pub IsMarkedQuad : Option Corners → Type 0
 IsMarkedQuad item = IfSome item IsQuad
 
--- the first list is the second, behind items that don't show in the window
+-- the first list is the second, after items that don't show in the window
 pub record Skips (window : RowRange) (before after : List (Option Corners)) : Type 0 where
   pub front : List (Option Corners)
   pub is : before ≡ front ++ after
@@ -64,7 +64,7 @@ shapes_rest pair shapes lists place = []
 abbrev pub placed_rest : Orient → Point → Pair → List Shape → List (List Trapezoid) → ℕ → List Corners
 placed_rest orient at pair shapes lists place = map (quad_image orient at) (shapes_rest pair shapes lists place)
 
--- the answer is the first item that shows in the window, or None where there is none, and what is behind it is still to come
+-- the answer is the first item that shows in the window, or None where there is none, and what is after it is still to come
 abbrev pub Gives : RowRange → List (Option Corners) → Option Corners → List (Option Corners) → Type 0
 Gives window before answer after =
     MatchOption answer (Skips window before [] × (after ≡ [])) (λ q. Skips window before (Some q ∷ after) × (has_row_in window q ≡ true))

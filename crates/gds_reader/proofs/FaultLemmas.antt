@@ -34,7 +34,7 @@ pub record IsGood (bytes : List ℕ) (unit : ℕ) (wanted : List Pair) (past : L
 same_record : (bytes : List ℕ) (at : ℕ) (P : Record → Type 0) (r s : Record) → IsRecordAt bytes at r → IsRecordAt bytes at s → P r → P s
 same_record bytes at P r s p q holds = subst P (record_unique bytes at r s p q) holds
 
--- what is wrong behind a good record can only be the tail
+-- what is wrong after a good record can only be the tail
 only_tail : (bytes : List ℕ) (unit : ℕ) (wanted : List Pair) (past : List Record) (at : ℕ) (r : Record) (bad : GdsBad)
     → IsGood bytes unit wanted past at r → IsFault bytes unit wanted past at bad → IsTailFault bytes unit wanted past at bad
 only_tail bytes unit wanted past at r bad good (inl f) = absurd (record_or_fault bytes at r f.0 good.stands f.1)

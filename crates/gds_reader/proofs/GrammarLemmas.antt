@@ -30,7 +30,7 @@ may_end (Then first second) = may_end first && may_end second
 may_end (Either first second) = may_end first || may_end second
 may_end (Repeated rule) = true
 
--- what follows behind a record of this kind
+-- what follows after a record of this kind
 abbrev pub behind : Kind → Rule → Rule
 behind kind Never = Never
 behind kind Nothing = Never

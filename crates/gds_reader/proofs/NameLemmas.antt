@@ -37,7 +37,7 @@ nul_dropped (suc n) xs some within nul =
     (take_last n xs (omega arith) ∙ ap (λ x. take n xs ++ x ∷ []) (subst (λ k. get_or xs k 0 ≡ 0) less nul))
     ∙ nul_last (take n xs)))
 
--- nothing is dropped behind a byte that isn't a NUL
+-- nothing is dropped after a byte that isn't a NUL
 pub nothing_dropped : (end : ℕ) (xs : List ℕ) → 0 < end → end ≤ length xs → get_or xs (end - 1) 0 ≢ 0 → take end xs ≡ without_nuls (take end xs)
 nothing_dropped zero xs some within kept = absurd (omega arith)
 nothing_dropped (suc n) xs some within kept =

@@ -54,7 +54,7 @@ typed_on forms.Node = One NodeType ∷ xy_on
 typed_on forms.Box = One BoxType ∷ xy_on
 typed_on _ = Never ∷ []
 
--- behind the transformation
+-- after the transformation
 abbrev pub placed_on : Form → List Rule
 placed_on forms.Sref = xy_on
 placed_on forms.Aref = One ColRow ∷ xy_on
@@ -468,7 +468,7 @@ some_at (places.Angled forms.Box) e = absurd (cc)
 kinds_last : (kinds : List Kind) (kind : Kind) (rest : List Kind) → kinds ++ (kind ∷ rest) ≡ (kinds ++ kind ∷ []) ++ rest
 kinds_last kinds kind rest = sym (append_assoc kinds (kind ∷ []) rest)
 
--- behind these kinds, what may follow is what may follow at the place
+-- after these kinds, what may follow is what may follow at the place
 pub record LeadsTo (kinds : List Kind) (place : Place) : Type 0 where
   pub reached : is_reached place ≡ true
   pub onward : (rest : List Kind) → IsStreamOrder (kinds ++ rest) → Follows (rest_of place) rest

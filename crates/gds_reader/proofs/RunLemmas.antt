@@ -21,7 +21,7 @@ kinds_more rs r = map-append (λ (x : Record). x.kind) rs (r ∷ [])
 pub kinds_reverse : (r : Record) (past : List Record) → kinds_of (reverse (r ∷ past)) ≡ kinds_of (reverse past) ++ r.kind ∷ []
 kinds_reverse r past = ap kinds_of (reverse_more r past) ∙ kinds_more (reverse past) r
 
--- one run goes on with this record behind the other
+-- one run goes on with this record after the other
 pub record GoesOn (bytes : List ℕ) (rs : List Record) (to : ℕ) (ss : List Record) (up : ℕ) : Type 0 where
   pub r : Record
   pub rest : List Record
@@ -70,7 +70,7 @@ reverse_middle : (rs : List Record) (r : Record) (ts : List Record) → reverse 
 reverse_middle rs r ts =
     reverse-append rs (r ∷ ts) ∙ ap (λ xs. xs ++ reverse rs) (reverse_more r ts) ∙ append_assoc (reverse ts) (r ∷ []) (reverse rs)
 
--- the record behind the past of a longer reading is allowed there
+-- the record after the past of a longer reading is allowed there
 pub allowed_on : (bytes : List ℕ) (unit : ℕ) (wanted : List Pair) (past : List Record) (r : Record) (ss rest : List Record)
     → ss ≡ reverse past ++ r ∷ rest → AreAllowed bytes unit wanted (reverse ss) → IsAllowed bytes unit wanted past r
 allowed_on bytes unit wanted past r ss rest e all =

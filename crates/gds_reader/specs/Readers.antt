@@ -30,7 +30,7 @@ abbrev pub next_after : Option Place → Record → Option Place
 next_after None r = None
 next_after (Some place) r = next_place place r.kind
 
--- the place behind these records
+-- the place after these records
 abbrev pub place_behind : List Record → Option Place
 place_behind [] = Some Header
 place_behind (r ∷ past) = next_after (place_behind past) r

@@ -22,7 +22,7 @@ use Rattle.gds_reader.specs.Meaning.{layout_of}
 abbrev pub kinds_of : List Record → List Kind
 kinds_of records = map (λ r. r.kind) records
 
--- ---- one record, behind its past
+-- ---- one record, after its past
 
 -- the database unit in metres, the second real of UNITS
 abbrev pub unit_in : List ℕ → Record → ℕ
@@ -37,7 +37,7 @@ abbrev pub IsNamed : List ℕ → List Record → Record → Type 0
 IsNamed bytes [] r = ⊥
 IsNamed bytes (earlier ∷ past) r = IsSameName bytes r earlier ⊎ IsNamed bytes past r
 
--- the record is allowed behind its past, its order aside
+-- the record is allowed after its past, its order aside
 pub record IsAllowed (bytes : List ℕ) (unit : ℕ) (wanted : List Pair) (past : List Record) (r : Record) : Type 0 where
   pub rules : KeepsRules bytes wanted past r
   pub unit_agrees : r.kind ≡ Units → Agrees (unit_in bytes r) unit
@@ -77,7 +77,7 @@ framing_fault framing.Size at = faults.Size at
 abbrev pub IsFramingFault : List ℕ → ℕ → GdsBad → Type 0
 IsFramingFault bytes at bad = (fault : Framing) × IsFaultAt bytes at fault × (bad ≡ framing_fault fault at)
 
--- the record at the offset isn't allowed behind those before it
+-- the record at the offset isn't allowed after those before it
 pub record IsOrderFault (bytes : List ℕ) (past : List Record) (at : ℕ) (bad : GdsBad) : Type 0 where
   pub r : Record
   pub stands : IsRecordAt bytes at r
@@ -119,7 +119,7 @@ pub record IsNameFault (bytes : List ℕ) (wanted : List Pair) (past : List Reco
   pub same : IsSameName bytes r earlier
   pub bad_is : bad ≡ faults.Twice (earlier.first - 4) at
 
--- the library ends, and a byte behind it isn't 0; it is the first such byte
+-- the library ends, and a byte after it isn't 0; it is the first such byte
 pub record IsTailFault (bytes : List ℕ) (unit : ℕ) (wanted : List Pair) (past : List Record) (at : ℕ) (bad : GdsBad) : Type 0 where
   pub r : Record
   pub next : IsNext bytes past at r

@@ -51,7 +51,7 @@ classed_place kind = begun_place kind
 
 -- ---- in an element
 
--- behind ELFLAGS and PLEX
+-- after ELFLAGS and PLEX
 abbrev pub body_place : Form → Kind → Option Place
 body_place forms.Boundary Layer = Some (places.Layered forms.Boundary)
 body_place forms.Path Layer = Some (places.Layered forms.Path)
@@ -76,7 +76,7 @@ typed_place forms.Node NodeType = Some places.Xy
 typed_place forms.Box BoxType = Some places.Xy
 typed_place _ _ = None
 
--- behind the transformation of a reference
+-- after the transformation of a reference
 abbrev pub placed_place : Form → Kind → Option Place
 placed_place forms.Sref Xy = Some places.Properties
 placed_place forms.Aref ColRow = Some places.Xy

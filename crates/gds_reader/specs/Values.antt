@@ -192,7 +192,7 @@ KeepsXy bytes wanted past points (Some Path) rule = IsWanted bytes wanted past
     → KeepsPath (half_width_of bytes past) (extension_of BgnExtn bytes past) (extension_of EndExtn bytes past) points rule
 KeepsXy bytes wanted past points _ rule = Unit {0}
 
--- a record of this kind, behind its past, keeps the rule
+-- a record of this kind, after its past, keeps the rule
 abbrev pub KeepsAs : Kind → List ℕ → List Pair → List Record → Record → ℕ → Type 0
 KeepsAs Format bytes wanted past r rule = rule ≡ 1 → number_at 2 bytes r.first ≡ 0
 KeepsAs StrName bytes wanted past r rule = rule ≡ 2 → IsName (name_in bytes r)

@@ -506,7 +506,7 @@ const ARRAYS: [Entry; 12] = [
     (Part::Needed, ENDEL),
 ];
 
-// A text's own records stand in any order, its properties behind them.
+// A text's own records stand in any order, its properties after them.
 const TEXTS: [Entry; 16] = [
     (Part::Needed, TEXT),
     (Part::Free, ELFLAGS),
@@ -574,7 +574,7 @@ fn may_come_early(entries: &[Entry], first: usize, second: usize) -> bool {
 }
 
 // The first of the exchanges with this later place that isn't refused where the order breaks: in the place of the earlier
-// record, or behind it.
+// record, or after it.
 fn wrong_exchange_with(
     alloc: Global,
     entries: &[Entry],
@@ -639,7 +639,7 @@ fn takes_exchanges_with(alloc: Global, second: usize) -> Result<bool, Fail> {
     Ok(true)
 }
 
-// Each two of a text's own records exchanged, and each of them with what begins the text or stands behind it.
+// Each two of a text's own records exchanged, and each of them with what begins the text or stands after it.
 #[test]
 fn takes_texts_in_any_order(rt: HostRuntime) -> Result<(), Fail> {
     for second in 2..BEHIND_TEXT {
@@ -750,7 +750,7 @@ fn judges_libraries_and_long_names(rt: HostRuntime) -> Result<(), Fail> {
         refusal_of_library(rt.alloc(), format)?,
         Some(GdsBad::Value(40, 1))
     );
-    // zeros behind ENDLIB, then a one among them
+    // zeros after ENDLIB, then a one among them
     let mut bytes = file_of(rt.alloc(), &[])?;
     bytes.extend_from_slice(&[0; 7])?;
     assert_eq!(rt; refusal_of(rt.alloc(), &bytes, 1000), None);
@@ -759,7 +759,7 @@ fn judges_libraries_and_long_names(rt: HostRuntime) -> Result<(), Fail> {
         refusal_of(rt.alloc(), &bytes, 1000),
         Some(GdsBad::Tail(111))
     );
-    // names of 1,024 bytes, without NULs behind and with, and of 1,025
+    // names of 1,024 bytes, without NULs after and with, and of 1,025
     let exact = b"\x04\x04\x06\x06".as_slice();
     let padded = b"\x04\x06\x06\x06".as_slice();
     let nuls = b"\x00\x00".as_slice();

@@ -49,7 +49,7 @@ pub none_ends-push : (rs : List Record) (r : Record) → NoneEnds rs → r.kind 
 none_ends-push [] r none more = (more, tt)
 none_ends-push (s ∷ rs) r none more = (none.0, none_ends-push rs r none.1 more)
 
--- a last record behind records that don't end the library
+-- a last record after records that don't end the library
 pub ends_only_last-push : (rs : List Record) (r : Record) → NoneEnds rs → EndsOnlyLast (rs ++ r ∷ [])
 ends_only_last-push [] r none = tt
 ends_only_last-push (s ∷ []) r none = (none.0, tt)

@@ -1,4 +1,4 @@
--- The cause of each refusal. The deck is asked first; what is refused of the layout is refused behind an accepted deck.
+-- The cause of each refusal. The deck is asked first; what is refused of the layout is refused after an accepted deck.
 use Rattle.std.specs.Prelude.{◌≡◌, ◌≢◌, ◌⊎◌, ℕ, List, Some, None}
 use Rattle.depot.specs.Content.{Content, IsNotThere, IsLongerThan}
 use Rattle.layout_model.specs.declared.cells.Layout.{Layout}
@@ -25,7 +25,7 @@ pub record HoldsDeckFault (c : Content) (layout deck : List ℕ) (bad : DeckBad)
   pub holds : Holds c deck 65536 bytes
   pub fault : IsFirstDeckFault bytes layout deck bad
 
--- ---- the layout, behind an accepted deck, with the name of the deck's top cell
+-- ---- the layout, after an accepted deck, with the name of the deck's top cell
 
 -- the layout has more than 268,435,456 bytes
 pub record IsLongLayout (c : Content) (layout deck : List ℕ) (top : List ℕ) : Type 0 where

@@ -75,7 +75,7 @@ layout_is format cells counts f kept other texts nodes boxes properties ef e₁ 
     (lines_of (format_name format) (decimal cells) (decimal counts.kept) (decimal counts.other)
     (decimal counts.texts) (decimal counts.nodes) (decimal counts.boxes) (decimal counts.properties))
 
--- the report, behind what a buffer had
+-- the report, after what a buffer had
 pub report_is : (format : Format) (cells : ℕ) (counts : Counts) (word : List ℕ) (outputs : List Output)
     (sums : List Sums) (none head : List ℕ) → none ≡ [] → head ≡ layout_lines format cells counts
     → (none ++ head) ++ flat_map (output_line word) (zip outputs sums) ≡ report format cells counts word outputs sums

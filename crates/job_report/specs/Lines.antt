@@ -82,7 +82,7 @@ oas_fault what at = codes "layout refused: oasis " ++ what ++ codes " at " ++ de
 abbrev pub oas_word : List ℕ → ℕ → List ℕ → List ℕ
 oas_word what at word = what ++ decimal at ++ codes " " ++ word ++ codes "\n"
 
--- a fault of an OASIS file at an offset, with a second number behind a text
+-- a fault of an OASIS file at an offset, with a second number after a text
 abbrev pub oas_number : List ℕ → ℕ → List ℕ → ℕ → List ℕ
 oas_number what at between number = what ++ decimal at ++ between ++ decimal number ++ codes "\n"
 

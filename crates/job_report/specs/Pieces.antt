@@ -17,7 +17,7 @@ byte_digits b = hex_digit (b / 16) ∷ hex_digit (b % 16) ∷ []
 unfoldable pub hex_text : ℕ → List ℕ
 hex_text bits = flat_map byte_digits (to_be_bytes w64 bits)
 
--- names, each behind a space
+-- names, each after a space
 abbrev pub names_text : List (List ℕ) → List ℕ
 names_text names = flat_map (λ name. 32 ∷ name) names
 

@@ -27,7 +27,7 @@ layout_lines format cells counts =
     ++ count_line (codes "texts") counts.texts ++ count_line (codes "nodes") counts.nodes
     ++ count_line (codes "boxes") counts.boxes ++ count_line (codes "properties") counts.properties
 
--- the line of an output, behind the word that says what was done: `output out.oas shots 1 triangles 800`
+-- the line of an output, after the word that says what was done: `output out.oas shots 1 triangles 800`
 unfoldable pub output_line : List ℕ → Output × Sums → List ℕ
 output_line word (output, sums) =
     word ++ codes " " ++ output.file ++ codes " shots " ++ decimal sums.shots ++ codes " triangles " ++ decimal sums.triangles ++ codes "\n"

@@ -68,7 +68,7 @@ fn word_at<'a>(what: &'a [u8], at: usize, word: &'a [u8]) -> Line<'a>
     ]
 }
 
-// The line of a fault of this name at an offset, with a second number behind a text.
+// The line of a fault of this name at an offset, with a second number after a text.
 fn number_at<'a>(what: &'a [u8], at: usize, between: &'a [u8], number: usize) -> Line<'a>
     ensures { spelled result ≡ oas_number what.now at between.now number }
 {

@@ -10,7 +10,7 @@ use crate::pieces::Piece;
 use depot::{Buffer, Depot, DepotBad, flush, put_piece};
 use layout_model::Name;
 
-// Puts a name behind a space.
+// Puts a name after a space.
 fn put_name<D: Depot>(depot: &mut D, buffer: &mut Buffer, name: &Name) -> Result<(), DepotBad>
     ensures ok { OnOk result (IsTrue D.tells → IsSaidButFor
         (D.content depot.old) (buffer.old ++ (32 ∷ name.now)) buffer.new (D.content depot.new)) }
@@ -22,7 +22,7 @@ fn put_name<D: Depot>(depot: &mut D, buffer: &mut Buffer, name: &Name) -> Result
     put_piece(depot, buffer, name.bytes())
 }
 
-// Puts names, each behind a space.
+// Puts names, each after a space.
 fn put_names<D: Depot>(depot: &mut D, buffer: &mut Buffer, names: &[Name]) -> Result<(), DepotBad>
     ensures ok { OnOk result (IsTrue D.tells → IsSaidButFor
         (D.content depot.old) (buffer.old ++ names_text names.now) buffer.new (D.content depot.new)) }

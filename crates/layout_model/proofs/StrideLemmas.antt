@@ -76,7 +76,7 @@ none_both interval f from mid end p q = λ k after before between. by_order k (c
     by_order k (inl h) after before between = p k after h between
     by_order k (inr h) after before between = q k h before between
 
--- what is found behind a part that has none is found behind the part before it
+-- what is found past a part that has none is found past the part before it
 pub found_behind : (interval : Interval) (f : ℕ → ℤ) (from mid end : ℕ) (found : Option ℕ) → from ≤ mid
     → HasNoneBetween interval f from mid → Finds interval f mid end found → Finds interval f from end found
 found_behind interval f from mid end None early p q = none_both interval f from mid end p q
@@ -84,7 +84,7 @@ found_behind interval f from mid end (Some k) early p q =
     let a = q.after in
     record { after = omega arith; before = q.before; inside = q.inside; none = none_both interval f from mid k p q.none }
 
--- a find stays one where there are more behind it
+-- a find stays one where there are more after it
 pub found_sooner : (interval : Interval) (f : ℕ → ℤ) (from end more k : ℕ) → end ≤ more
     → IsFirstBetween interval f from end k → IsFirstBetween interval f from more k
 found_sooner interval f from end more k h q = let b = q.before in record { after = q.after; before = omega arith; inside = q.inside; none = q.none }

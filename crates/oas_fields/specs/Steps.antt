@@ -31,7 +31,7 @@ place_moved is_relative written before = record {
   y = coordinate_moved is_relative written.y before.y;
 }
 
--- the fields behind a record that writes this, lists aside
+-- the fields after a record that writes this, lists aside
 pub record AreWritten (written : Written) (old new : Fields) : Type 0 where
   pub mode : new.is_relative ≡ value_or written.is_relative old.is_relative
   pub layer : new.layer ≡ or_else written.layer old.layer

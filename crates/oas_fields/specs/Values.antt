@@ -101,7 +101,7 @@ abbrev pub or_zero : Option ℤ → ℤ
 or_zero None = pos 0
 or_zero (Some z) = z
 
--- what a record writes of a coordinate where positions are absolute behind these records, and where they are relative
+-- what a record writes of a coordinate where positions are absolute after these records, and where they are relative
 abbrev pub absolute : Bool → Option ℤ → Option ℤ
 absolute true z = None
 absolute false z = z
@@ -147,7 +147,7 @@ text_of past = place_of (λ r. (writes_of r).text) past
 
 -- ---- what the program keeps
 
--- the fields have their values behind these records
+-- the fields have their values after these records
 pub record AreFields (past : List OasRecord) (fields : Fields) : Type 0 where
   pub mode : fields.is_relative ≡ is_relative past
   pub layer : fields.layer ≡ layer_of past

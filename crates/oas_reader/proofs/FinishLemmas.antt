@@ -58,7 +58,7 @@ twins_kept bytes all (x ∷ more) past twins e =
     ap (λ o. or_else o (with_second x.at (first_named bytes all (cell_name bytes all (cell_called x.r)) (more ++ past))))
     (twins_kept bytes all more past twins e)
 
--- a cell that has the name of an earlier one, and those behind it
+-- a cell that has the name of an earlier one, and those after it
 pub twin_found : (bytes : List ℕ) (all : List OasRecord) (drafts : List Draft) (i : ℕ) (draft : Draft) (name : List ℕ) (bad : OasBad)
     → first_twins bytes all (cell_items (take i drafts)) ≡ None → name_called bytes all draft.called ≡ Some name
     → take (i + 1) drafts ≡ take i drafts ++ draft ∷ [] → IsTwin bytes all (cell_items (take i drafts)) name draft.at bad

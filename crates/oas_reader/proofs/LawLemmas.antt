@@ -32,7 +32,7 @@ abbrev Extends : List Item → ℕ → List Item → ℕ → Type 0
 Extends past at [] up = ⊥
 Extends past at (item ∷ more) up = Same past at more item.at ⊎ Extends past at more item.at
 
--- what stands behind a run that goes on stands in the longer one
+-- what stands after a run that goes on stands in the longer one
 further : (bytes : List ℕ) (x : Item) (past : List Item) (at : ℕ) (more : List Item) (up : ℕ) → OneRecord
     → HasRecord bytes x.at (tables_at_end (records_in past)) x.r at → IsRun bytes more up → Extends past x.at more up
     → Same (x ∷ past) at more up ⊎ Extends (x ∷ past) at more up
@@ -80,7 +80,7 @@ ends_not b ends stays = absurd (let e : true ≡ false = sym ends ∙ stays in c
 
 -- ---- a record that is read is no fault
 
--- a record stands at the offset and is allowed behind its past
+-- a record stands at the offset and is allowed after its past
 record IsGood (bytes : List ℕ) (unit : ℕ) (wanted : List Pair) (past : List Item) (at : ℕ) : Type 0 where
   r : OasRecord
   next : ℕ
@@ -265,7 +265,7 @@ not_within bytes unit wanted last past next bad law apart p f =
       | inr (inr on) ↦ ends_not (is_end last.r) p.ends (none_before (last ∷ past) next f.past f.at on f.read.goes_on).0
     ]
 
--- ---- names behind END
+-- ---- names after END
 
 same_behind : (bytes : List ℕ) (all : List Item) (one other : OasBad) → IsFaultOf bytes all one → IsFaultOf bytes all other → one ≡ other
 same_behind bytes all one other (inl f) (inl g) =

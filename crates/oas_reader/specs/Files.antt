@@ -36,7 +36,7 @@ BreaksFile bytes unit (bodies.Start version real offset_flag) at next bad =
 BreaksFile bytes unit (bodies.End scheme) at next bad = (IsTail bytes at next → ⊥) × (bad ≡ faults.Tail at)
 BreaksFile bytes unit _ at next bad = ⊥
 
--- END holds the table offsets behind a START that says so
+-- END holds the table offsets after a START that says so
 abbrev pub tables_by : Body → Bool → Bool
 tables_by (bodies.Start version real offset_flag) tables = if nat_eq offset_flag 1 then true else tables
 tables_by _ tables = tables
@@ -49,7 +49,7 @@ lexical_fault bad at = faults.Lexical at bad
 
 -- ---- one record
 
--- the fields stand behind some records
+-- the fields stand after some records
 pub record HaveRecords (fields : Fields) : Type 0 where
   pub past : List OasRecord
   pub values : AreFields past fields
@@ -84,7 +84,7 @@ pub record IsStanding (bytes : List ℕ) (unit : ℕ) (sorted : List Pair) (at :
   pub allowed : (wanted : List Pair) → AreSamePairs wanted sorted → AreAllowed bytes unit wanted past at
   pub reader_is : (wanted : List Pair) → AreSamePairs wanted sorted → IsReaderOf bytes wanted past reader
 
--- ---- behind END
+-- ---- after END
 
 -- the names are known and distinct, and this is the layout
 pub record IsLayoutBehind (bytes : List ℕ) (wanted : List Pair) (all : List Item) (layout : Layout) : Type 0 where

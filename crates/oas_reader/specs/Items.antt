@@ -26,7 +26,7 @@ tables_at_end (r ∷ past) = if is_flagged r then true else tables_at_end past
 abbrev pub magic : List ℕ
 magic = 0x25 ∷ 0x53 ∷ 0x45 ∷ 0x4D ∷ 0x49 ∷ 0x2D ∷ 0x4F ∷ 0x41 ∷ 0x53 ∷ 0x49 ∷ 0x53 ∷ 0x0D ∷ 0x0A ∷ []
 
--- behind them these records stand end to end up to an offset
+-- after them these records stand end to end up to an offset
 abbrev pub IsRun : List ℕ → List Item → ℕ → Type 0
 IsRun bytes [] at = at ≡ 13
 IsRun bytes (item ∷ past) at =

@@ -36,7 +36,7 @@ abbrev pub first_in : Fields → List Variable → Option Variable
 first_in fields [] = None
 first_in fields (variable ∷ variables) = if is_defined_in fields variable then first_in fields variables else Some variable
 
--- what a body needs behind its pair
+-- what a body needs after its pair
 abbrev pub form_needs : Body → Option ℕ → List Variable
 form_needs bodies.Rectangle kind = GeometryW ∷ GeometryH ∷ []
 form_needs (bodies.Trapezoid is_upright a b) kind = GeometryW ∷ GeometryH ∷ []
@@ -84,7 +84,7 @@ abbrev pub HasVersion : ℕ → Body → Type 0
 HasVersion size (bodies.Start span unit offset_flag) = (span.0 ≤ span.1) × (span.1 ≤ size)
 HasVersion size _ = Unit {0}
 
--- ---- the fields behind some records
+-- ---- the fields after some records
 
 abbrev pub fields_at : List OasRecord → Fields
 fields_at past = record {

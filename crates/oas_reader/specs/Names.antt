@@ -78,7 +78,7 @@ first_conflict bytes claim [] = None
 first_conflict bytes claim (item ∷ past) =
     or_else (first_conflict bytes claim past) (some_if (do_conflict (claim_of bytes (records_in past) item.r) claim) item.at)
 
--- that of a record behind these
+-- that of a record after these
 abbrev pub conflict_of : List ℕ → List Item → OasRecord → Option ℕ
 conflict_of bytes past r = first_conflict bytes (claim_of bytes (records_in past) r) past
 
@@ -98,7 +98,7 @@ abbrev pub name_called : List ℕ → List OasRecord → Called → Option (List
 name_called bytes all (Number number) = name_of_number bytes all number
 name_called bytes all (Text first next) = Some (slice_range bytes first next)
 
--- ---- behind END
+-- ---- after END
 
 abbrev pub is_none : {A : Type 0} → Option A → Bool
 is_none None = true

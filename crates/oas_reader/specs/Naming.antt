@@ -116,7 +116,7 @@ pub record Calls (bytes : List ℕ) (past : List OasRecord) (r : OasRecord) (cal
 abbrev pub Mentions : List ℕ → List OasRecord → OasRecord → ℕ → Type 0
 Mentions bytes past r number = Calls bytes past r (Some (Number number))
 
--- ---- cells behind END
+-- ---- cells after END
 
 abbrev pub place_in : Cells → List ℕ → Option ℕ
 place_in cells name = get_by (λ key. same_name name key.now) cells.places

@@ -28,7 +28,7 @@ is_in_cell (id ∷ past) =
     else if ends_cell id then false
     else is_in_cell past
 
--- a record of this id may stand behind these: START first and only first, and what needs a cell in one
+-- a record of this id may stand after these: START first and only first, and what needs a cell in one
 abbrev pub may_follow : List ℕ → ℕ → Bool
 may_follow [] id = nat_eq id 1
 may_follow (last ∷ past) id = not (nat_eq id 1) && (not (needs_cell id) || is_in_cell (last ∷ past))

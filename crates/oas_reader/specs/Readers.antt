@@ -95,14 +95,14 @@ pub record AreDraftsWithin (bytes : List ℕ) (drafts : Drafts) : Type 0 where
   pub placings_grid : All IsPlacingOnGrid drafts.placings.items
   pub whole_grid : All IsDraftOnGrid drafts.whole.items
 
--- the cells behind these records
+-- the cells after these records
 pub record AreDraftsOf (wanted : List Pair) (past : List Item) (drafts : Drafts) : Type 0 where
   pub begun : drafts.begun ≡ begun_of past
   pub shapes : drafts.shapes ≡ given_in_cell (shapes_at wanted) (records_in past)
   pub placings : placings_of drafts.placings.items ≡ given_in_cell placings_at (records_in past)
   pub whole : map whole_cell drafts.whole.items ≡ whole_of wanted past
 
--- the reader behind these records
+-- the reader after these records
 pub record IsReaderOf (bytes : List ℕ) (wanted : List Pair) (past : List Item) (reader : Reader) : Type 0 where
   pub place : IsPlace (ids_of (records_in past)) reader.place
   pub tables : reader.tables ≡ tables_at_end (records_in past)

@@ -22,7 +22,7 @@ use Rattle.oas_reader.specs.Meaning.{layout_of}
 abbrev pub item : ℕ → OasRecord → Item
 item at r = record { at = at; r = r }
 
--- ---- one record, behind its past
+-- ---- one record, after its past
 
 -- the unit of START is so many grid steps per micrometre
 abbrev pub HasUnit : ℕ → OasRecord → Type 0
@@ -34,7 +34,7 @@ pub record IsTail (bytes : List ℕ) (at next : ℕ) : Type 0 where
   pub size : next ≡ at + 256
   pub last : next ≡ length bytes
 
--- the record at `at`, which ends before `next`, is allowed behind its past, its order aside
+-- the record at `at`, which ends before `next`, is allowed after its past, its order aside
 pub record IsAllowed (bytes : List ℕ) (unit : ℕ) (wanted : List Pair) (past : List Item) (at : ℕ) (r : OasRecord) (next : ℕ) : Type 0 where
   pub defined : undefined_of (records_in past) r ≡ None
   pub rules : KeepsRules bytes wanted (records_in past) r
@@ -49,7 +49,7 @@ AreAllowed bytes unit wanted (last ∷ past) next =
     (is_in_order (records_in past) last.r ≡ true) × IsAllowed bytes unit wanted past last.at last.r next
     × AreAllowed bytes unit wanted past last.at
 
--- the records before this offset stand behind the magic bytes and are allowed, and none is END
+-- the records before this offset stand after the magic bytes and are allowed, and none is END
 pub record IsReadUpTo (bytes : List ℕ) (unit : ℕ) (wanted : List Pair) (past : List Item) (at : ℕ) : Type 0 where
   pub begins : take 13 bytes ≡ magic
   pub run : IsRun bytes past at
@@ -163,7 +163,7 @@ IsFaultOf bytes all bad =
     ⊎ ((first : ℕ) × (second : ℕ) × (first_unknown bytes (records_in all) all ≡ None)
     × (first_twins bytes (records_in all) all ≡ Some (first, second)) × (bad ≡ faults.Names first second))
 
--- all records are read, and a name behind END isn't allowed
+-- all records are read, and a name after END isn't allowed
 pub record IsFaultBehind (bytes : List ℕ) (unit : ℕ) (wanted : List Pair) (bad : OasBad) : Type 0 where
   pub last : Item
   pub past : List Item

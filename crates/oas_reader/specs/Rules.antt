@@ -2,7 +2,7 @@
 --
 -- 1 every position is within 2^40 grid steps of 0, and so are, on wanted pairs, sizes and vertices, and offsets of those
 -- shapes and of placements; 2 a cell's name has 1 to 1,024 bytes from 20 to 7E hex; 3 a cell's number is given by a
--- CELLNAME record, which is looked at behind END; 4 a magnification is 1 to 16; 5 an angle is a multiple of 90 degrees
+-- CELLNAME record, which is looked at after END; 4 a magnification is 1 to 16; 5 an angle is a multiple of 90 degrees
 -- from -360 to 360; 6 shapes on wanted pairs have only edges at multiples of 45 degrees; 7 CIRCLE and XGEOMETRY aren't on
 -- wanted pairs; 8 a path on a wanted pair can be drawn; 9 START's version is 1.0 and its offset flag 0 or 1; 10 the
 -- validation scheme is 0, 1 or 2; 11 a dimension of a repetition is at most 16,777,216.
@@ -106,7 +106,7 @@ KeepsDrawn r all rep rule = FigureKeeps (figure_of r all) (at_of all) rep rule
 
 -- ---- all of them
 
--- a record, behind its past, keeps the rule
+-- a record, after its past, keeps the rule
 pub record Keeps (bytes : List ℕ) (wanted : List Pair) (past : List OasRecord) (r : OasRecord) (rule : ℕ) : Type 0 where
   pub positions : rule ≡ 1 → ArePositionsNear (r ∷ past)
   pub offsets : rule ≡ 1 → KeepsOffsets past r

@@ -38,7 +38,7 @@ IsBodyWithin bytes (bodies.Cell called) = IsCalledWithin bytes called
 IsBodyWithin bytes (bodies.Placement called flips turning) = AreCalledWithin bytes called × IsTurning turning
 IsBodyWithin bytes _ = Unit {0}
 
--- the record's outline and the fields behind it; the dimensions of the last repetition before it are allowed
+-- the record's outline and the fields after it; the dimensions of the last repetition before it are allowed
 pub record IsTaken (wanted sorted : List Pair) (past : List OasRecord) (r : OasRecord) (outline : Outline) (fields : Fields) : Type 0 where
   pub same : AreSamePairs wanted sorted
   pub looked_at : IsOutlineOf r outline

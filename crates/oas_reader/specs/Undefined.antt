@@ -16,7 +16,7 @@ abbrev pub is_there : {A : Type 0} → Option A → Bool
 is_there None = false
 is_there (Some a) = true
 
--- the variable has a value behind these records
+-- the variable has a value after these records
 abbrev pub is_defined : List OasRecord → Variable → Bool
 is_defined past Layer = is_there (layer_of past)
 is_defined past Datatype = is_there (datatype_of past)
@@ -48,7 +48,7 @@ dimensions (Some kind) = needed_if (uses_width kind) GeometryW ++ needed_if (use
 abbrev pub pair_and : List Variable → List Variable
 pair_and variables = Layer ∷ Datatype ∷ variables
 
--- the variables whose values a record needs, behind its past, in the order of its row
+-- the variables whose values a record needs, after its past, in the order of its row
 abbrev pub needs_of : List OasRecord → OasRecord → List Variable
 needs_of past (records.Placement info cell x y repetition) = PlacementCell ∷ repeated repetition
 needs_of past (records.TurnedPlacement info cell magnification angle x y repetition) = PlacementCell ∷ repeated repetition
@@ -73,7 +73,7 @@ needs_of past (records.Circle info layer datatype radius x y repetition) = pair_
 needs_of past (records.XGeometry info attribute layer datatype text x y repetition) = pair_and (repeated repetition)
 needs_of past _ = []
 
--- the first of these that has no value behind these records
+-- the first of these that has no value after these records
 abbrev pub first_undefined : List OasRecord → List Variable → Option Variable
 first_undefined all [] = None
 first_undefined all (variable ∷ variables) = if is_defined all variable then first_undefined all variables else Some variable

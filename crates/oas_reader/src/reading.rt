@@ -142,7 +142,7 @@ fn look_at_file(bytes: &[u8], unit: u32, body: Body, at: usize, next: usize) -> 
     }
 }
 
-// Whether END holds the table offsets, behind one more record.
+// Whether END holds the table offsets, after one more record.
 fn tables_after(tables: bool, body: Body) -> bool
     ensures { result ≡ tables_by body tables }
 {

@@ -359,7 +359,7 @@ fn refuses_kinds_of_shapes_and_repetitions(rt: HostRuntime) -> Result<(), Fail> 
 fn refuses_names(rt: HostRuntime) -> Result<(), Fail> {
     let cases = [
         // One number twice; one that is written and one that isn't; one name twice, also by its number, which comes
-        // behind END and behind a number that nothing gives.
+        // after END and after a number that nothing gives.
         (
             b"\x04\x01A\x05\x04\x01B\x05".as_slice(),
             OasBad::Names(39, 43),

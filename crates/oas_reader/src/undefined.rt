@@ -89,7 +89,7 @@ fn undefined_cell(fields: &Fields) -> Option<Variable>
     None
 }
 
-// The first variable without a value of those that the body needs behind its pair.
+// The first variable without a value of those that the body needs after its pair.
 #[inline(always)]
 fn undefined_form(body: Body, fields: &Fields) -> Option<Variable>
     ensures { result ≡ first_in fields.now (form_needs body fields.now.kind) }

@@ -166,7 +166,7 @@ of_row_on : (r : Option Row) (tables : Bool) (bytes : List ℕ) (at i : ℕ) (fs
 of_row_on (Some r) tables bytes at i fs next h = body_on r.info r tables bytes at i fs next h
 of_row_on None tables bytes at i fs next h = absurd h
 
--- a record ends behind its id
+-- a record ends after its id
 pub record_on : (bytes : List ℕ) (at : ℕ) (tables : Bool) (r : OasRecord) (next : ℕ) → HasRecord bytes at tables r next → at < next
 record_on bytes at tables r next h = omega (
   arith,

@@ -8,7 +8,7 @@ use Rattle.oas_record.specs.declared.records.OasRecord.TheVariants as records
 abbrev pub rectangle_of : PlainRectangle → OasRecord
 rectangle_of p = records.Rectangle p.info p.layer p.datatype p.width p.height p.x p.y None
 
--- the id of a RECTANGLE stands at `at`, and behind it an info byte in which the bit of the repetition, 2, is clear
+-- the id of a RECTANGLE stands at `at`, and after it an info byte in which the bit of the repetition, 2, is clear
 pub record BeginsPlainly (bytes : List ℕ) (at : ℕ) : Type 0 where
   pub within : at + 1 < length bytes
   pub id : slice_index bytes at ≡ 20

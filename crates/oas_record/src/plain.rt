@@ -35,7 +35,7 @@ pub struct PlainRectangle {
     pub y: Option<i64>,
 }
 
-// Whether the id of a RECTANGLE stands at `at`, and behind it an info byte whose bit of the repetition is clear.
+// Whether the id of a RECTANGLE stands at `at`, and after it an info byte whose bit of the repetition is clear.
 #[inline(always)]
 fn begins_plainly(bytes: &[u8], at: usize) -> bool
     requires { at ≤ length bytes.now }

@@ -6,7 +6,7 @@ use Rattle.std.proofs.lemmas.Bool.Decides.{nat_tests}
 use Rattle.std.proofs.lemmas.List.{map-append, take_all, take-append-le, take_more, take_more_set, length-append, length-drop, length-take-le, append-nil}
 use Rattle.progress_line.specs.Text.{shown, put, short_name}
 
--- what is cut off can't be seen of what is put behind it
+-- what is cut off can't be seen of what is put after it
 take_again : (n : ℕ) (a b : List ℕ) → take n (take n a ++ b) ≡ take n (a ++ b)
 take_again zero a b = refl
 take_again (suc n) [] b = refl

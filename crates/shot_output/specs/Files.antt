@@ -94,7 +94,7 @@ IsPartOf p k before now =
     ⊎ ((bytes : List ℕ) × (n : ℕ) × IsBeginning p k output bytes × (n ≤ length bytes) × (get now.made output.file ≡ Some (take n bytes)))
 
 -- The writing of the outputs was cut short at some output: those before it are whole, its file is as before or holds a
--- prefix of its text, and behind it nothing has changed.
+-- prefix of its text, and after it nothing has changed.
 pub record AreCutShort (p : Planned) (tells : Bool) (before now : Content) : Type 0 where
   pub k : ℕ
   pub inside : k ≤ length p.deck.outputs

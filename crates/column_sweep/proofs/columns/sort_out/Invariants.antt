@@ -4,7 +4,7 @@ use Rattle.trap_join.specs.Joins.{HasGiven, left_to_give}
 use Rattle.column_sweep.specs.Sewing.{AreSortedBehind}
 use Rattle.column_sweep.proofs.columns.sort_out.Given as goal
 
--- the join has given some trapezoids, which were put behind those before
+-- the join has given some trapezoids, which were put after those before
 abbrev pub invariant-loop-join : goal.invariant-loop-join
 invariant-loop-join g l = record {
   given : (traps : List Trapezoid)

@@ -20,7 +20,7 @@ early c operand among =
     (s.steps c.len-number.result c.step_at-step.result at) among).earlier in
     omega (arith, o, c.len-number.ensures, c.next_entry.ensures.same)
 
--- the list behind the others
+-- the list after the others
 put_long : (c : goal.After-operands_of) → length c.push.new.self.items ≡ length c.next_entry.new.areas.items + 1
 put_long c = ap length c.in_ok-push.ensures.items ∙ length-append c.next_entry.new.areas.items (c.in_ok-list.list ∷ [])
 
