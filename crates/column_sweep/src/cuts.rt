@@ -3,7 +3,7 @@ ghost use Rattle.std.specs.Prelude.{◌<◌, length, IfOk};
 
 use crate::waiting::least_x;
 use geo_stream::NoMemory;
-use half_grid::{Edge, x_at};
+use half_grid::{Edge, Line, x_at};
 use std::alloc::Global;
 
 /// An upright line between two columns, by its X.
@@ -157,6 +157,30 @@ pub(crate) fn plain_budget(alloc: Global, edges: &[Edge]) -> Result<Option<u64>,
         return Ok(None);
     }
     Ok(Some((edges.len() as u64).saturating_mul(48)))
+}
+
+// How many of the cuts are left of the X, or on it.
+fn cuts_up_to(cuts: &[Cut], x: i64) -> usize {
+    cuts.partition_point(|cut| cut.x <= x)
+}
+
+// How many of the cuts an edge that leans crosses.
+fn crossed_by(edge: &Edge, cuts: &[Cut]) -> u64 {
+    let left = least_x(edge).x;
+    let right = left.saturating_add_unsigned(height_of(edge));
+    cuts_up_to(cuts, right).abs_diff(cuts_up_to(cuts, left)) as u64
+}
+
+/// Whether edges that lean cross the cuts more than twice for each edge there is. A part costs as much as an edge, so a sweep
+/// in columns would take long then: that of 3,000 long wires at 45 degrees goes over a million parts.
+pub(crate) fn are_often_crossed(edges: &[Edge], cuts: &[Cut]) -> bool {
+    let mut crossings = 0u64;
+    for edge in edges {
+        if !matches!(edge.line(), Line::Upright(_)) {
+            crossings = crossings.wrapping_add(crossed_by(edge, cuts));
+        }
+    }
+    (edges.len() as u64).saturating_mul(2) < crossings
 }
 
 // The least X of some of the edges, sorted.

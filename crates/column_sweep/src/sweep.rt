@@ -6,7 +6,7 @@ ghost use Rattle.column_sweep.specs.Tries.{IsTried};
 
 use crate::columns::swept_columns;
 use crate::counted::Swept;
-use crate::cuts::{Cut, chosen_cuts, plain_budget};
+use crate::cuts::{Cut, are_often_crossed, chosen_cuts, plain_budget};
 use crate::seams::joined_seams;
 use geo_stream::NoMemory;
 use half_grid::{Edge, Trap, Window};
@@ -162,19 +162,24 @@ pub(crate) fn swept_at<F: Fn(i128, i128) -> bool + Drop>(
     Ok(whole)
 }
 
-// In columns, between cuts that are chosen by the edges.
-fn swept_in_columns<F: Fn(i128, i128) -> bool + Drop>(
+// In columns, between cuts that are chosen by the edges. Where edges that lean cross these often, by a sweep that looks only
+// where something happens.
+fn swept_by_need<F: Fn(i128, i128) -> bool + Drop>(
     alloc: Global,
     edges: Vec<Edge>,
     window: Window,
-    rule: &Rule<F>,
+    rule: Rule<F>,
 ) -> Result<Swept, NoMemory>
-    requires rule { IsRule (F.pre rule.now) (F.post rule.now) }
+    requires rule { IsRule (F.pre rule) (F.post rule) }
     requires balanced { IsBalanced edges.items window }
-    ensures { IfOk result (λ swept. IsSwept (F.post rule.now) edges.items window swept.traps.items) }
+    ensures { IfOk result (λ swept. IsSwept (F.post rule) edges.items window swept.traps.items) }
 {
     let cuts = chosen_cuts(alloc, edges.as_slice())?;
-    swept_at(alloc, edges, window, rule, cuts.as_slice())
+    if are_often_crossed(edges.as_slice(), cuts.as_slice()) {
+        let traps = plane_sweep::swept(alloc, edges, window, rule)?;
+        return Ok(Swept { traps, walked: 0 });
+    }
+    swept_at(alloc, edges, window, &rule, cuts.as_slice())
 }
 
 /// The joined list of the window's tiles that the rule takes. It is refused only where memory runs out. In each row of the
@@ -207,7 +212,7 @@ pub fn swept_counted<F: Fn(i128, i128) -> bool + Drop>(
     match tried_plain(alloc, edges, window, &rule)? {
         Tried::Whole(swept) => Ok(swept),
         Tried::GivenUp(rest, before) => {
-            let mut again = swept_in_columns(alloc, rest, window, &rule)?;
+            let mut again = swept_by_need(alloc, rest, window, rule)?;
             again.walked = again.walked.saturating_add(before);
             Ok(again)
         }
