@@ -1,6 +1,6 @@
 -- What is said through a buffer, as one more piece is put, said or refused.
 use Rattle.std.proofs.Common.{◌≡◌, ℕ, ◌+◌, List, [], ◌∷◌, ◌++◌, length, take, drop, flat_map, sym, ap, subst, ◌∙◌, arith, append_assoc}
-use Rattle.std.proofs.lemmas.List.{length-append, take-append-le, take-append-drop, flat_map_more}
+use Rattle.std.proofs.lemmas.List.{append-nil, length-append, take-append-le, take-append-drop, flat_map_more}
 use Rattle.std.proofs.lemmas.Grind.{flat_map-append}
 use Rattle.std.proofs.Math.Seq.{take-append-add}
 use Rattle.depot.specs.Content.{Content, with_said, IsPartSaid}
@@ -73,6 +73,15 @@ flushed_part old now later held more e part = (
   part.2 ∙ ap (λ c. with_said c (take part.0 more)) e ∙ with_said-twice old held (take part.0 more)
       ∙ ap (with_said old) (sym (take-append-add held more part.0)),
 )
+
+-- what was held and the next piece are said, and nothing is held
+pub flushed_whole : (old now later : Content) (held more rest : List ℕ) → rest ≡ [] → now ≡ with_said old held → later ≡ with_said now more
+    → IsSaidButFor old (held ++ more) rest later
+flushed_whole old now later held more rest none e f = record {
+  said = held ++ more;
+  content = f ∙ ap (λ c. with_said c more) e ∙ with_said-twice old held more;
+  whole = ap (λ r. (held ++ more) ++ r) none ∙ append-nil (held ++ more);
+}
 
 -- a refusal of what was held, as far as the first items, leaves a prefix of the texts of all
 pub part_of_texts : {X : Type 0} {old now : Content} {held : List ℕ} (later : Content) (f : X → List ℕ)

@@ -3,6 +3,7 @@ pub mod Content
 pub mod Counts
 pub mod Counting
 pub mod Printing
+pub mod Doing
 pub mod Refusals
 pub mod StoreView
 pub mod Filing

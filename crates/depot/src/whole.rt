@@ -1,8 +1,9 @@
 // Whole files over a depot that takes and gives bytes in pieces.
 ghost use Rattle.std.specs.Prelude.{◌≡◌, ◌⊎◌, ◌<◌, ◌≤◌, [], Some, IsTrue, IsSome, IfOk, OnOk, OnErr, IsErr, IsErrOf, ◌++◌, length, vec_len};
-ghost use Rattle.depot.specs.Content.{held_as, IsNotThere, IsLongerThan, with_left, ChangesLeftOnly, with_file, with_written, IsPartWritten, with_said, IsPartSaid, IsPartMade};
+ghost use Rattle.depot.specs.Content.{held_as, IsNotThere, IsLongerThan, with_left, ChangesLeftOnly};
 ghost use Rattle.depot.specs.Counts.{Rose, NeverFall};
 ghost use Rattle.depot.specs.Counting.{CountsWrites};
+ghost use Rattle.depot.specs.Doing.{Makes, Says, Writes};
 
 use crate::outside::{Depot, DepotBad};
 use std::alloc::{AllocError, Global};
@@ -128,10 +129,7 @@ fn read_rest<D: Depot>(
 /// Appends a whole piece to the started file, or a prefix of it where refused.
 pub fn write_whole<D: Depot>(depot: &mut D, bytes: &[u8]) -> Result<(), DepotBad>
     requires { IsTrue D.tells → IsSome (D.content depot.old).current }
-    ensures ok { OnOk result (IsTrue D.tells
-        → D.content depot.new ≡ with_written (D.content depot.old) bytes.now) }
-    ensures refused { OnErr result (IsTrue D.tells
-        → IsPartWritten (D.content depot.old) bytes.now (D.content depot.new)) }
+    ensures content { Writes D.tells (D.content depot.old) (D.content depot.new) bytes.now result }
     ensures counts { CountsWrites (D.counts depot.old) (D.counts depot.new) result }
 {
     let mut done = 0;
@@ -143,10 +141,7 @@ pub fn write_whole<D: Depot>(depot: &mut D, bytes: &[u8]) -> Result<(), DepotBad
 
 /// Prints a whole piece on standard output, or a prefix of it where refused.
 pub fn say_whole<D: Depot>(depot: &mut D, bytes: &[u8]) -> Result<(), DepotBad>
-    ensures ok { OnOk result (IsTrue D.tells
-        → D.content depot.new ≡ with_said (D.content depot.old) bytes.now) }
-    ensures refused { OnErr result (IsTrue D.tells
-        → IsPartSaid (D.content depot.old) bytes.now (D.content depot.new)) }
+    ensures content { Says D.tells (D.content depot.old) (D.content depot.new) bytes.now result }
     ensures counts { CountsWrites (D.counts depot.old) (D.counts depot.new) result }
 {
     let mut done = 0;
@@ -159,10 +154,7 @@ pub fn say_whole<D: Depot>(depot: &mut D, bytes: &[u8]) -> Result<(), DepotBad>
 /// Makes a file of these bytes: starts it, then writes the whole piece. After a refusal the name is as
 /// before, or holds a prefix of the bytes, and all other names are as before in either case.
 pub fn make_file<D: Depot>(depot: &mut D, name: &str, bytes: &[u8]) -> Result<(), DepotBad>
-    ensures ok { OnOk result (IsTrue D.tells
-        → D.content depot.new ≡ with_file (D.content depot.old) name.now bytes.now) }
-    ensures refused { OnErr result (IsTrue D.tells
-        → IsPartMade (D.content depot.old) name.now bytes.now (D.content depot.new)) }
+    ensures content { Makes D.tells (D.content depot.old) (D.content depot.new) name.now bytes.now result }
     ensures counts { CountsWrites (D.counts depot.old) (D.counts depot.new) result }
 {
     depot.start_write(name)?;

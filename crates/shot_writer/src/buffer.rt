@@ -1,8 +1,8 @@
 //! What a buffer has, written.
-ghost use Rattle.std.specs.Prelude.{◌≡◌, ◌+◌, ◌≤◌, IsTrue, IsSome, OnOk, OnErr, [], ◌++◌, length};
-ghost use Rattle.depot.specs.Content.{with_written, IsPartWritten};
+ghost use Rattle.std.specs.Prelude.{◌≡◌, ◌+◌, ◌≤◌, IsTrue, IsSome, OnOk, [], ◌++◌, length};
 ghost use Rattle.depot.specs.Counting.{CountsWrites};
-ghost use Rattle.shot_writer.specs.Writing.{IsWrittenButFor};
+ghost use Rattle.depot.specs.Doing.{Writes};
+ghost use Rattle.shot_writer.specs.Holding.{Holds};
 
 use depot::{BUFFER_SIZE, Buffer, Depot, DepotBad, write_whole};
 use oas_lex::ROOM;
@@ -11,10 +11,7 @@ use oas_lex::ROOM;
 pub fn flush<D: Depot>(depot: &mut D, buffer: &mut Buffer) -> Result<(), DepotBad>
     requires { IsTrue D.tells → IsSome (D.content depot.old).current }
     ensures empty { OnOk result (buffer.new ≡ []) }
-    ensures ok { OnOk result (IsTrue D.tells
-        → D.content depot.new ≡ with_written (D.content depot.old) buffer.old) }
-    ensures refused { OnErr result (IsTrue D.tells
-        → IsPartWritten (D.content depot.old) buffer.old (D.content depot.new)) }
+    ensures content { Writes D.tells (D.content depot.old) (D.content depot.new) buffer.old result }
     ensures counts { CountsWrites (D.counts depot.old) (D.counts depot.new) result }
 {
     write_whole(depot, buffer.bytes())?;
@@ -26,10 +23,7 @@ pub fn flush<D: Depot>(depot: &mut D, buffer: &mut Buffer) -> Result<(), DepotBa
 fn make_room<D: Depot>(depot: &mut D, buffer: &mut Buffer) -> Result<(), DepotBad>
     requires { IsTrue D.tells → IsSome (D.content depot.old).current }
     ensures room { OnOk result (length buffer.new + ROOM ≤ BUFFER_SIZE) }
-    ensures ok { OnOk result (IsTrue D.tells
-        → IsWrittenButFor (D.content depot.old) buffer.old buffer.new (D.content depot.new)) }
-    ensures refused { OnErr result (IsTrue D.tells
-        → IsPartWritten (D.content depot.old) buffer.old (D.content depot.new)) }
+    ensures content { Holds D.tells (D.content depot.old) (D.content depot.new) buffer.old buffer.old buffer.new result }
     ensures counts { CountsWrites (D.counts depot.old) (D.counts depot.new) result }
 {
     if ROOM <= buffer.room() {
@@ -42,10 +36,8 @@ fn make_room<D: Depot>(depot: &mut D, buffer: &mut Buffer) -> Result<(), DepotBa
 pub fn put_bytes<D: Depot>(depot: &mut D, buffer: &mut Buffer, bytes: &[u8]) -> Result<(), DepotBad>
     requires current { IsTrue D.tells → IsSome (D.content depot.old).current }
     requires short { length bytes.now ≤ ROOM }
-    ensures ok { OnOk result (IsTrue D.tells → IsWrittenButFor
-        (D.content depot.old) (buffer.old ++ bytes.now) buffer.new (D.content depot.new)) }
-    ensures refused { OnErr result (IsTrue D.tells
-        → IsPartWritten (D.content depot.old) buffer.old (D.content depot.new)) }
+    ensures content { Holds D.tells (D.content depot.old) (D.content depot.new)
+        buffer.old (buffer.old ++ bytes.now) buffer.new result }
     ensures counts { CountsWrites (D.counts depot.old) (D.counts depot.new) result }
 {
     make_room(depot, buffer)?;

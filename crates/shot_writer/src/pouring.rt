@@ -1,7 +1,7 @@
 //! The shots of a stream, poured into a depot.
-ghost use Rattle.std.specs.Prelude.{◌≡◌, ◌+◌, ◌^◌, ◌<◌, ◌≤◌, List, [], IsTrue, IsSome, IfOk, OnOk, OnErr, length};
-ghost use Rattle.depot.specs.Content.{with_written, IsPartWritten};
+ghost use Rattle.std.specs.Prelude.{◌≡◌, ◌+◌, ◌^◌, ◌<◌, ◌≤◌, List, [], IsTrue, IsSome, IfOk, OnOk, length};
 ghost use Rattle.depot.specs.Counting.{CountsWrites};
+ghost use Rattle.depot.specs.Doing.{Writes};
 ghost use Rattle.geo_stream.specs.Stream.{HasList};
 ghost use Rattle.half_grid.specs.Trapezoids.{Trapezoid};
 ghost use Rattle.shot_writer.specs.Writing.{triangles_of, records_of, StandsForSuffix, AreSumsAfter};
@@ -27,16 +27,12 @@ pub(crate) fn pour<D: Depot, S: Stream<Item = Trap>>(
     requires fewer { before.shots ≤ before.triangles }
     requires room { (items : List Trapezoid) → S.stands_for shots.old items
         → before.triangles + triangles_of items < 2 ^ 127 }
-    ensures ok { (items : List Trapezoid) → S.stands_for shots.old items
-        → OnOk result (IsTrue D.tells
-        → D.content depot.new ≡ with_written (D.content depot.old) (records_of pair items)) }
+    ensures content { (items : List Trapezoid) → S.stands_for shots.old items
+        → Writes D.tells (D.content depot.old) (D.content depot.new) (records_of pair items) result }
     ensures sums { (items : List Trapezoid) → S.stands_for shots.old items
         → IfOk result (λ sums. AreSumsAfter before items sums) }
     ensures fewer { IfOk result (λ sums. sums.shots ≤ sums.triangles) }
     ensures taken { OnOk result (S.stands_for shots.new []) }
-    ensures refused { (items : List Trapezoid) → S.stands_for shots.old items
-        → OnErr result (IsTrue D.tells
-        → IsPartWritten (D.content depot.old) (records_of pair items) (D.content depot.new)) }
     ensures left { (items : List Trapezoid) → S.stands_for shots.old items
         → StandsForSuffix S.stands_for items shots.new }
     ensures current { IsTrue D.tells

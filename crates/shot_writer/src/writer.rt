@@ -1,7 +1,7 @@
 ghost use Rattle.std.specs.Prelude.{◌≡◌, ◌+◌, ◌^◌, ◌<◌, ◌≤◌, List, [], None, Some, Err, IsTrue, IsSome, IfOk, OnOk, OnErr, length};
 ghost use Rattle.std.specs.Result.{result_err};
-ghost use Rattle.depot.specs.Content.{with_file, with_written, IsPartWritten, IsPartMade};
 ghost use Rattle.depot.specs.Counting.{CountsWrites};
+ghost use Rattle.depot.specs.Doing.{Makes, Writes};
 ghost use Rattle.shot_writer.specs.Counting.{CountsUnlessKept};
 ghost use Rattle.depot.specs.declared.outside.DepotBad.{DepotBad as Bad};
 ghost use Rattle.geo_stream.specs.Stream.{HasList};
@@ -38,13 +38,10 @@ impl ShotWriter {
         requires unit { IsUnit head.unit }
         requires layer { head.pair.layer < 2 ^ 63 }
         requires datatype { head.pair.datatype < 2 ^ 63 }
-        ensures ok { OnOk result (IsTrue D.tells
-            → D.content depot.new ≡ with_file (D.content depot.old) name.now (head_of head.unit)) }
+        ensures content { Makes D.tells (D.content depot.old) (D.content depot.new) name.now (head_of head.unit) result }
         ensures pair { IfOk result (λ writer. pair_of writer ≡ head.pair) }
         ensures sums { IfOk result (λ writer. sums_of writer ≡ no_sums) }
         ensures kept { IfOk result (λ writer. refusal_of writer ≡ None) }
-        ensures refused { OnErr result (IsTrue D.tells
-            → IsPartMade (D.content depot.old) name.now (head_of head.unit) (D.content depot.new)) }
         ensures counts { CountsWrites (D.counts depot.old) (D.counts depot.new) result }
     {
         make_file(depot, name, head_text(u64::from(head.unit)).bytes())?;
@@ -69,15 +66,11 @@ impl ShotWriter {
         requires list { HasList S.stands_for shots.old }
         requires room { (items : List Trapezoid) → S.stands_for shots.old items
             → (sums_of self.old).triangles + triangles_of items < 2 ^ 127 }
-        ensures ok { (items : List Trapezoid) → S.stands_for shots.old items
-            → OnOk result (IsTrue D.tells → D.content depot.new
-            ≡ with_written (D.content depot.old) (records_of (pair_of self.old) items)) }
+        ensures content { (items : List Trapezoid) → S.stands_for shots.old items
+            → Writes D.tells (D.content depot.old) (D.content depot.new) (records_of (pair_of self.old) items) result }
         ensures sums { (items : List Trapezoid) → S.stands_for shots.old items
             → OnOk result (AreSumsAfter (sums_of self.old) items (sums_of self.new)) }
         ensures taken { OnOk result (S.stands_for shots.new []) }
-        ensures refused { (items : List Trapezoid) → S.stands_for shots.old items
-            → OnErr result (IsTrue D.tells → IsPartWritten
-            (D.content depot.old) (records_of (pair_of self.old) items) (D.content depot.new)) }
         ensures same_sums { OnErr result (sums_of self.new ≡ sums_of self.old) }
         ensures left { (items : List Trapezoid) → S.stands_for shots.old items
             → StandsForSuffix S.stands_for items shots.new }
@@ -114,11 +107,8 @@ impl ShotWriter {
     /// Appends END, and answers the sums of all shots that were put.
     pub fn finish<D: Depot>(self, depot: &mut D) -> Result<Sums, DepotBad>
         requires { IsTrue D.tells → IsSome (D.content depot.old).current }
-        ensures ok { OnOk result (IsTrue D.tells
-            → D.content depot.new ≡ with_written (D.content depot.old) end) }
+        ensures content { Writes D.tells (D.content depot.old) (D.content depot.new) end result }
         ensures sums { IfOk result (λ sums. sums ≡ sums_of self) }
-        ensures refused { OnErr result (IsTrue D.tells
-            → IsPartWritten (D.content depot.old) end (D.content depot.new)) }
         ensures kept { (bad : Bad) → refusal_of self ≡ Some bad
             → (result ≡ Err bad) × (depot.new ≡ depot.old) }
         ensures current { IsTrue D.tells
