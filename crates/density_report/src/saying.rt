@@ -1,8 +1,7 @@
 //! The lines of a table, printed through a buffer.
-ghost use Rattle.std.specs.Prelude.{◌+◌, ◌≤◌, IsTrue, OnOk, OnErr, ◌++◌, length, flat_map};
-ghost use Rattle.depot.specs.Content.{IsPartSaid};
+ghost use Rattle.std.specs.Prelude.{◌+◌, ◌≤◌, OnOk, ◌++◌, length, flat_map};
 ghost use Rattle.depot.specs.Counting.{CountsWrites};
-ghost use Rattle.depot.specs.Printing.{IsSaidButFor};
+ghost use Rattle.depot.specs.Doing.{Adds, Puts};
 ghost use Rattle.density_report.specs.Texts.{entry_line, last_lines, size_line};
 ghost use Rattle.density_report.specs.Rows.{counted_line};
 
@@ -15,10 +14,7 @@ use depot::{BUFFER_SIZE, Buffer, Depot, DepotBad, flush, put_piece};
 // Has room for one more line in the buffer, which is said first where it has none.
 fn make_room<D: Depot>(depot: &mut D, buffer: &mut Buffer) -> Result<(), DepotBad>
     ensures room { OnOk result (length buffer.new + ROOM ≤ BUFFER_SIZE) }
-    ensures ok { OnOk result (IsTrue D.tells
-        → IsSaidButFor (D.content depot.old) buffer.old buffer.new (D.content depot.new)) }
-    ensures refused { OnErr result (IsTrue D.tells
-        → IsPartSaid (D.content depot.old) buffer.old (D.content depot.new)) }
+    ensures content { Puts D.tells (D.content depot.old) (D.content depot.new) buffer.old buffer.new result }
     ensures counts { CountsWrites (D.counts depot.old) (D.counts depot.new) result }
 {
     if ROOM <= buffer.room() {
@@ -29,10 +25,8 @@ fn make_room<D: Depot>(depot: &mut D, buffer: &mut Buffer) -> Result<(), DepotBa
 
 // Puts the line of a window.
 fn say_entry<D: Depot>(depot: &mut D, buffer: &mut Buffer, entry: &Entry) -> Result<(), DepotBad>
-    ensures ok { OnOk result (IsTrue D.tells → IsSaidButFor
-        (D.content depot.old) (buffer.old ++ entry_line entry.now) buffer.new (D.content depot.new)) }
-    ensures refused { OnErr result (IsTrue D.tells
-        → IsPartSaid (D.content depot.old) buffer.old (D.content depot.new)) }
+    ensures content { Adds D.tells (D.content depot.old) (D.content depot.new)
+        buffer.old (buffer.old ++ entry_line entry.now) buffer.new result }
     ensures counts { CountsWrites (D.counts depot.old) (D.counts depot.new) result }
 {
     make_room(depot, buffer)?;
@@ -47,10 +41,8 @@ pub(crate) fn say_row<D: Depot>(
     strip: &Strip,
     counts: &[Counted],
 ) -> Result<(), DepotBad>
-    ensures ok { OnOk result (IsTrue D.tells → IsSaidButFor (D.content depot.old)
-        (buffer.old ++ flat_map (counted_line strip.now.row) counts.now) buffer.new (D.content depot.new)) }
-    ensures refused { OnErr result (IsTrue D.tells → IsPartSaid
-        (D.content depot.old) (buffer.old ++ flat_map (counted_line strip.now.row) counts.now) (D.content depot.new)) }
+    ensures content { Puts D.tells (D.content depot.old) (D.content depot.new)
+        (buffer.old ++ flat_map (counted_line strip.now.row) counts.now) buffer.new result }
     ensures counts { CountsWrites (D.counts depot.old) (D.counts depot.new) result }
 {
     for counted in counts {
@@ -66,10 +58,8 @@ pub(crate) fn say_size<D: Depot>(
     file: &str,
     mesh: &Mesh,
 ) -> Result<(), DepotBad>
-    ensures ok { OnOk result (IsTrue D.tells → IsSaidButFor (D.content depot.old)
-        (buffer.old ++ size_line file.now mesh.now.size) buffer.new (D.content depot.new)) }
-    ensures refused { OnErr result (IsTrue D.tells → IsPartSaid
-        (D.content depot.old) (buffer.old ++ size_line file.now mesh.now.size) (D.content depot.new)) }
+    ensures content { Puts D.tells (D.content depot.old) (D.content depot.new)
+        (buffer.old ++ size_line file.now mesh.now.size) buffer.new result }
     ensures counts { CountsWrites (D.counts depot.old) (D.counts depot.new) result }
 {
     put_piece(depot, buffer, b"density ")?;
@@ -85,10 +75,8 @@ pub(crate) fn say_totals<D: Depot>(
     buffer: &mut Buffer,
     totals: &Totals,
 ) -> Result<(), DepotBad>
-    ensures ok { OnOk result (IsTrue D.tells → IsSaidButFor (D.content depot.old)
-        (buffer.old ++ last_lines totals.now.most totals.now.triangles) buffer.new (D.content depot.new)) }
-    ensures refused { OnErr result (IsTrue D.tells → IsPartSaid (D.content depot.old)
-        (buffer.old ++ last_lines totals.now.most totals.now.triangles) (D.content depot.new)) }
+    ensures content { Puts D.tells (D.content depot.old) (D.content depot.new)
+        (buffer.old ++ last_lines totals.now.most totals.now.triangles) buffer.new result }
     ensures counts { CountsWrites (D.counts depot.old) (D.counts depot.new) result }
 {
     make_room(depot, buffer)?;

@@ -19,6 +19,11 @@ pub record Puts {T : Type 0} (tells : Bool) (before now : Content) (bytes held :
   pub ok : OnOk result (IsTrue tells → IsSaidButFor before bytes held now)
   pub refused : OnErr result (IsTrue tells → IsPartSaid before bytes now)
 
+-- the same, where what was held before alone may be printed in part: a piece that is refused isn't begun
+pub record Adds {T : Type 0} (tells : Bool) (before now : Content) (had bytes held : List ℕ) (result : Result T DepotBad) : Type 0 where
+  pub ok : OnOk result (IsTrue tells → IsSaidButFor before bytes held now)
+  pub refused : OnErr result (IsTrue tells → IsPartSaid before had now)
+
 -- the name is made with the bytes; where it is refused it is as before, or has a prefix of them
 pub record Makes {T : Type 0} (tells : Bool) (before now : Content) (name bytes : List ℕ) (result : Result T DepotBad) : Type 0 where
   pub ok : OnOk result (IsTrue tells → now ≡ with_file before name bytes)

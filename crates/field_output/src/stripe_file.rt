@@ -1,9 +1,9 @@
 //! The file of one stripe.
 ghost use Rattle.std.specs.Prelude.{◌≡◌, ◌<◌, ◌≤◌, ◌^◌, ℤ, All, List, length};
-ghost use Rattle.std.specs.Prelude.{IsTrue, IfOk, OnOk, OnErr};
+ghost use Rattle.std.specs.Prelude.{IfOk};
 ghost use Rattle.std.specs.List.{AllZip};
-ghost use Rattle.depot.specs.Content.{with_file, IsPartMade};
 ghost use Rattle.depot.specs.Counting.{CountsWrites};
+ghost use Rattle.depot.specs.Doing.{Makes};
 ghost use Rattle.field_output.specs.Meeting.{HasNumber};
 ghost use Rattle.field_output.specs.Stripes.{stripe_text, sums_of};
 ghost use Rattle.field_split.specs.Cutting.{pieces_of};
@@ -33,14 +33,10 @@ fn write_list<D: Depot, S: Stream<Item = Trap>>(
     requires layer { head.pair.layer < 2 ^ 63 }
     requires datatype { head.pair.datatype < 2 ^ 63 }
     requires list { (items : List Trapezoid) × S.stands_for shots.old items × (triangles_of items < 2 ^ 127) }
-    ensures ok { (items : List Trapezoid) → S.stands_for shots.old items
-        → OnOk result (IsTrue D.tells → D.content depot.new
-        ≡ with_file (D.content depot.old) name.now (stripe_text head items)) }
+    ensures content { (items : List Trapezoid) → S.stands_for shots.old items
+        → Makes D.tells (D.content depot.old) (D.content depot.new) name.now (stripe_text head items) result }
     ensures sums { (items : List Trapezoid) → S.stands_for shots.old items
         → IfOk result (λ sums. sums ≡ sums_of items) }
-    ensures refused { (items : List Trapezoid) → S.stands_for shots.old items
-        → OnErr result (IsTrue D.tells → IsPartMade
-        (D.content depot.old) name.now (stripe_text head items) (D.content depot.new)) }
     ensures counts { CountsWrites (D.counts depot.old) (D.counts depot.new) result }
 {
     let mut writer = ShotWriter::start(depot, name, head)?;
@@ -67,14 +63,11 @@ pub(crate) fn write_stripe<D: Depot>(
     requires stripe { (y : ℤ) × IsWithinReach y × IsInStretch fields.now stripe y }
     requires chosen { (chosen : List Trapezoid) × AllZip (HasNumber shots.now) numbers.now chosen
         × All IsFieldShot chosen × (length chosen ≤ 33554432) }
-    ensures ok { (chosen : List Trapezoid) → AllZip (HasNumber shots.now) numbers.now chosen
-        → OnOk result (IsTrue D.tells → D.content depot.new
-        ≡ with_file (D.content depot.old) name.now (stripe_text head (pieces_of fields.now stripe chosen))) }
+    ensures content { (chosen : List Trapezoid) → AllZip (HasNumber shots.now) numbers.now chosen
+        → Makes D.tells (D.content depot.old) (D.content depot.new)
+        name.now (stripe_text head (pieces_of fields.now stripe chosen)) result }
     ensures sums { (chosen : List Trapezoid) → AllZip (HasNumber shots.now) numbers.now chosen
         → IfOk result (λ sums. sums ≡ sums_of (pieces_of fields.now stripe chosen)) }
-    ensures refused { (chosen : List Trapezoid) → AllZip (HasNumber shots.now) numbers.now chosen
-        → OnErr result (IsTrue D.tells → IsPartMade
-        (D.content depot.old) name.now (stripe_text head (pieces_of fields.now stripe chosen)) (D.content depot.new)) }
     ensures counts { CountsWrites (D.counts depot.old) (D.counts depot.new) result }
 {
     let mut pieces = Pieces::new(Chosen::new(shots, numbers), *fields, stripe);

@@ -1,9 +1,9 @@
 //! The files of all stripes that a list of shots meets.
 ghost use Rattle.std.specs.Prelude.{◌≡◌, ◌⊎◌, ◌+◌, ◌<◌, ◌≤◌, ◌^◌, ◌<ℤ◌, ◌-ℤ◌, ◌+ℤ◌, pos};
 ghost use Rattle.std.specs.Prelude.{All, IsTrue, IfOk, OnOk, OnErr, IsErrOf, length};
-ghost use Rattle.depot.specs.Content.{with_file, IsPartMade};
 ghost use Rattle.depot.specs.Counts.{NeverFall, Rose};
 ghost use Rattle.depot.specs.Counting.{CountsWrites};
+ghost use Rattle.depot.specs.Doing.{Makes};
 ghost use Rattle.field_output.specs.Lists.{AreBegun, IsRoom, list_at, lists_from};
 ghost use Rattle.field_output.specs.Meeting.{IsPlaced, HaveRows};
 ghost use Rattle.field_output.specs.Stripes.{AreStripesWritten, AreStripesPartWritten, AreStripeSums};
@@ -85,14 +85,10 @@ fn write_next<D: Depot>(
     requires room { IsRoom base.now span.size span.first span.count shots.now place room.old }
     ensures room { OnOk result
         (IsRoom base.now span.size span.first span.count shots.now (place + 1) room.new) }
-    ensures ok { OnOk result (IsTrue D.tells → D.content depot.new ≡ with_file (D.content depot.old)
+    ensures content { Makes D.tells (D.content depot.old) (D.content depot.new)
         (stripe_name base.now (span.first +ℤ pos place))
-        (stripe_text head (list_at span.size shots.now span.first place))) }
+        (stripe_text head (list_at span.size shots.now span.first place)) result }
     ensures sums { IfOk result (λ sums. sums ≡ sums_of (list_at span.size shots.now span.first place)) }
-    ensures refused { OnErr result (IsTrue D.tells → IsPartMade (D.content depot.old)
-        (stripe_name base.now (span.first +ℤ pos place))
-        (stripe_text head (list_at span.size shots.now span.first place))
-        (D.content depot.new)) }
     ensures counts { CountsWrites (D.counts depot.old) (D.counts depot.new) result }
 {
     let number = span.number_of(place);

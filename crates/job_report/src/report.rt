@@ -1,9 +1,8 @@
 //! The report of a command that was done.
-ghost use Rattle.std.specs.Prelude.{◌≡◌, IsTrue, OnOk, OnErr, ◌++◌, length, flat_map};
+ghost use Rattle.std.specs.Prelude.{◌≡◌, ◌++◌, length, flat_map};
 ghost use Rattle.std.specs.List.{zip};
-ghost use Rattle.depot.specs.Content.{with_said, IsPartSaid};
 ghost use Rattle.depot.specs.Counting.{CountsWrites};
-ghost use Rattle.depot.specs.Printing.{IsSaidButFor};
+ghost use Rattle.depot.specs.Doing.{Puts, Says};
 ghost use Rattle.job_report.specs.Pieces.{spelled};
 ghost use Rattle.job_report.specs.Report.{format_name, layout_lines, output_line, report};
 
@@ -76,10 +75,8 @@ fn put_outputs<D: Depot>(
     sums: &[Sums],
 ) -> Result<(), DepotBad>
     requires { length outputs.now ≡ length sums.now }
-    ensures ok { OnOk result (IsTrue D.tells → IsSaidButFor (D.content depot.old)
-        (buffer.old ++ flat_map (output_line word.now) (zip outputs.now sums.now)) buffer.new (D.content depot.new)) }
-    ensures refused { OnErr result (IsTrue D.tells → IsPartSaid (D.content depot.old)
-        (buffer.old ++ flat_map (output_line word.now) (zip outputs.now sums.now)) (D.content depot.new)) }
+    ensures content { Puts D.tells (D.content depot.old) (D.content depot.new)
+        (buffer.old ++ flat_map (output_line word.now) (zip outputs.now sums.now)) buffer.new result }
     ensures counts { CountsWrites (D.counts depot.old) (D.counts depot.new) result }
 {
     for k in 0..outputs.len() {
@@ -100,10 +97,8 @@ pub fn say_report<D: Depot>(
     sums: &[Sums],
 ) -> Result<(), DepotBad>
     requires { length outputs.now ≡ length sums.now }
-    ensures ok { OnOk result (IsTrue D.tells → D.content depot.new ≡ with_said (D.content depot.old)
-        (report format cells counts.now word.now outputs.now sums.now)) }
-    ensures refused { OnErr result (IsTrue D.tells → IsPartSaid (D.content depot.old)
-        (report format cells counts.now word.now outputs.now sums.now) (D.content depot.new)) }
+    ensures content { Says D.tells (D.content depot.old) (D.content depot.new)
+        (report format cells counts.now word.now outputs.now sums.now) result }
     ensures counts { CountsWrites (D.counts depot.old) (D.counts depot.new) result }
 {
     let mut buffer = Buffer::new();

@@ -1,8 +1,7 @@
 //! Pieces that are printed one after another.
-ghost use Rattle.std.specs.Prelude.{◌≡◌, IsTrue, OnOk, OnErr, ◌∷◌, ◌++◌};
-ghost use Rattle.depot.specs.Content.{with_said, IsPartSaid};
+ghost use Rattle.std.specs.Prelude.{◌∷◌, ◌++◌};
 ghost use Rattle.depot.specs.Counting.{CountsWrites};
-ghost use Rattle.depot.specs.Printing.{IsSaidButFor};
+ghost use Rattle.depot.specs.Doing.{Puts, Says};
 ghost use Rattle.job_report.specs.Pieces.{names_text, text_of, spelled};
 
 use crate::hexadecimal::digits_of;
@@ -12,10 +11,8 @@ use layout_model::Name;
 
 // Puts a name after a space.
 fn put_name<D: Depot>(depot: &mut D, buffer: &mut Buffer, name: &Name) -> Result<(), DepotBad>
-    ensures ok { OnOk result (IsTrue D.tells → IsSaidButFor
-        (D.content depot.old) (buffer.old ++ (32 ∷ name.now)) buffer.new (D.content depot.new)) }
-    ensures refused { OnErr result (IsTrue D.tells → IsPartSaid
-        (D.content depot.old) (buffer.old ++ (32 ∷ name.now)) (D.content depot.new)) }
+    ensures content { Puts D.tells (D.content depot.old) (D.content depot.new)
+        (buffer.old ++ (32 ∷ name.now)) buffer.new result }
     ensures counts { CountsWrites (D.counts depot.old) (D.counts depot.new) result }
 {
     put_piece(depot, buffer, b" ")?;
@@ -24,10 +21,8 @@ fn put_name<D: Depot>(depot: &mut D, buffer: &mut Buffer, name: &Name) -> Result
 
 // Puts names, each after a space.
 fn put_names<D: Depot>(depot: &mut D, buffer: &mut Buffer, names: &[Name]) -> Result<(), DepotBad>
-    ensures ok { OnOk result (IsTrue D.tells → IsSaidButFor
-        (D.content depot.old) (buffer.old ++ names_text names.now) buffer.new (D.content depot.new)) }
-    ensures refused { OnErr result (IsTrue D.tells → IsPartSaid
-        (D.content depot.old) (buffer.old ++ names_text names.now) (D.content depot.new)) }
+    ensures content { Puts D.tells (D.content depot.old) (D.content depot.new)
+        (buffer.old ++ names_text names.now) buffer.new result }
     ensures counts { CountsWrites (D.counts depot.old) (D.counts depot.new) result }
 {
     for name in names {
@@ -38,10 +33,8 @@ fn put_names<D: Depot>(depot: &mut D, buffer: &mut Buffer, names: &[Name]) -> Re
 
 // Puts what a piece says.
 fn put_one<D: Depot>(depot: &mut D, buffer: &mut Buffer, piece: &Piece) -> Result<(), DepotBad>
-    ensures ok { OnOk result (IsTrue D.tells → IsSaidButFor
-        (D.content depot.old) (buffer.old ++ text_of piece.now) buffer.new (D.content depot.new)) }
-    ensures refused { OnErr result (IsTrue D.tells → IsPartSaid
-        (D.content depot.old) (buffer.old ++ text_of piece.now) (D.content depot.new)) }
+    ensures content { Puts D.tells (D.content depot.old) (D.content depot.new)
+        (buffer.old ++ text_of piece.now) buffer.new result }
     ensures counts { CountsWrites (D.counts depot.old) (D.counts depot.new) result }
 {
     let mut digits = itoa::Buffer::new();
@@ -60,10 +53,8 @@ pub fn put_pieces<D: Depot>(
     buffer: &mut Buffer,
     pieces: &[Piece],
 ) -> Result<(), DepotBad>
-    ensures ok { OnOk result (IsTrue D.tells → IsSaidButFor
-        (D.content depot.old) (buffer.old ++ spelled pieces.now) buffer.new (D.content depot.new)) }
-    ensures refused { OnErr result (IsTrue D.tells → IsPartSaid
-        (D.content depot.old) (buffer.old ++ spelled pieces.now) (D.content depot.new)) }
+    ensures content { Puts D.tells (D.content depot.old) (D.content depot.new)
+        (buffer.old ++ spelled pieces.now) buffer.new result }
     ensures counts { CountsWrites (D.counts depot.old) (D.counts depot.new) result }
 {
     for piece in pieces {
@@ -74,10 +65,7 @@ pub fn put_pieces<D: Depot>(
 
 /// Prints the pieces one after another. After a refusal a prefix of the whole was printed.
 pub fn say_pieces<D: Depot>(depot: &mut D, pieces: &[Piece]) -> Result<(), DepotBad>
-    ensures ok { OnOk result (IsTrue D.tells → D.content depot.new
-        ≡ with_said (D.content depot.old) (spelled pieces.now)) }
-    ensures refused { OnErr result (IsTrue D.tells → IsPartSaid
-        (D.content depot.old) (spelled pieces.now) (D.content depot.new)) }
+    ensures content { Says D.tells (D.content depot.old) (D.content depot.new) (spelled pieces.now) result }
     ensures counts { CountsWrites (D.counts depot.old) (D.counts depot.new) result }
 {
     let mut buffer = Buffer::new();

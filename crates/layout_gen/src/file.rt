@@ -1,7 +1,7 @@
 //! The whole file.
-ghost use Rattle.std.specs.Prelude.{◌≡◌, ◌+◌, ◌≤◌, ◌++◌, length, IsTrue, OnOk, OnErr, IfOk};
-ghost use Rattle.depot.specs.Content.{with_file, IsPartMade};
+ghost use Rattle.std.specs.Prelude.{◌≡◌, ◌+◌, ◌≤◌, ◌++◌, length, IfOk};
 ghost use Rattle.depot.specs.Counting.{CountsWrites};
+ghost use Rattle.depot.specs.Doing.{Makes};
 ghost use Rattle.layout_gen.specs.Generated.{library_bytes, generated};
 
 use crate::cells::{put_leaf, put_top};
@@ -46,12 +46,9 @@ fn file_of(n: u16) -> Buffer
 pub fn generate<D: Depot>(depot: &mut D, n: u16, name: &str) -> Result<u64, DepotBad>
     requires least { 1 ≤ n }
     requires most { n ≤ 1000 }
-    ensures ok { OnOk result (IsTrue D.tells
-        → D.content depot.new ≡ with_file (D.content depot.old) name.now (generated n)) }
+    ensures content { Makes D.tells (D.content depot.old) (D.content depot.new) name.now (generated n) result }
     ensures size { IfOk result (λ size. size ≡ length (generated n)) }
     ensures bytes { IfOk result (λ size. size ≡ 1266) }
-    ensures refused { OnErr result (IsTrue D.tells
-        → IsPartMade (D.content depot.old) name.now (generated n) (D.content depot.new)) }
     ensures counts { CountsWrites (D.counts depot.old) (D.counts depot.new) result }
 {
     let file = file_of(n);

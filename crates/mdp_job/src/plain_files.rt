@@ -1,8 +1,8 @@
 //! A plain shot file, written whole.
 
-ghost use Rattle.std.specs.Prelude.{◌≡◌, ◌<◌, ◌≤◌, ◌^◌, All, IsTrue, OnOk, OnErr, length};
-ghost use Rattle.depot.specs.Content.{with_file, IsPartMade};
+ghost use Rattle.std.specs.Prelude.{◌<◌, ◌≤◌, ◌^◌, All, length};
 ghost use Rattle.depot.specs.Counting.{CountsWrites};
+ghost use Rattle.depot.specs.Doing.{Makes};
 ghost use Rattle.half_grid.specs.Trapezoids.{IsShot};
 ghost use Rattle.oas_lex.specs.ShotText.{IsUnit, shot_text};
 
@@ -23,10 +23,8 @@ pub(crate) fn write_shots<D: Depot>(
     requires datatype { head.pair.datatype < 2 ^ 63 }
     requires legal { All IsShot shots.now }
     requires few { length shots.now ≤ 33554432 }
-    ensures ok { OnOk result (IsTrue D.tells → D.content depot.new
-        ≡ with_file (D.content depot.old) name.now (shot_text head.unit head.pair.layer head.pair.datatype shots.now)) }
-    ensures refused { OnErr result (IsTrue D.tells → IsPartMade
-        (D.content depot.old) name.now (shot_text head.unit head.pair.layer head.pair.datatype shots.now) (D.content depot.new)) }
+    ensures content { Makes D.tells (D.content depot.old) (D.content depot.new)
+        name.now (shot_text head.unit head.pair.layer head.pair.datatype shots.now) result }
     ensures counts { CountsWrites (D.counts depot.old) (D.counts depot.new) result }
 {
     let mut writer = ShotWriter::start(depot, name, head)?;

@@ -1,10 +1,9 @@
 //! The lines of stripes' files.
 
-ghost use Rattle.std.specs.Prelude.{◌≡◌, ◌++◌, IsTrue, OnOk, OnErr, flat_map};
-ghost use Rattle.depot.specs.Content.{with_said, IsPartSaid};
+ghost use Rattle.std.specs.Prelude.{◌≡◌, ◌++◌, IsTrue, flat_map};
 ghost use Rattle.depot.specs.Counts.{NeverFall, Rose};
 ghost use Rattle.depot.specs.Counting.{CountsWrites};
-ghost use Rattle.depot.specs.Printing.{IsSaidButFor};
+ghost use Rattle.depot.specs.Doing.{Puts, Says};
 ghost use Rattle.job_report.specs.Pieces.{spelled};
 ghost use Rattle.mdp_job.specs.Splitting.{stripe_line, sums_text, lines_of_stripes};
 ghost use Rattle.mdp_job.specs.Parts.{IsSaidSo, IsOfWriting, CountsFor};
@@ -50,10 +49,8 @@ fn put_stripes<D: Depot>(
     buffer: &mut Buffer,
     each: &[StripeSums],
 ) -> Result<(), DepotBad>
-    ensures ok { OnOk result (IsTrue D.tells → IsSaidButFor (D.content depot.old)
-        (buffer.old ++ flat_map stripe_line each.now) buffer.new (D.content depot.new)) }
-    ensures refused { OnErr result (IsTrue D.tells → IsPartSaid (D.content depot.old)
-        (buffer.old ++ flat_map stripe_line each.now) (D.content depot.new)) }
+    ensures content { Puts D.tells (D.content depot.old) (D.content depot.new)
+        (buffer.old ++ flat_map stripe_line each.now) buffer.new result }
     ensures counts { CountsWrites (D.counts depot.old) (D.counts depot.new) result }
 {
     for stripe in each {
@@ -64,10 +61,8 @@ fn put_stripes<D: Depot>(
 
 // Says the lines of stripes, and that of all.
 fn say_lines<D: Depot>(depot: &mut D, each: &[StripeSums], all: &Sums) -> Result<(), DepotBad>
-    ensures ok { OnOk result (IsTrue D.tells → D.content depot.new
-        ≡ with_said (D.content depot.old) (lines_of_stripes each.now all.now)) }
-    ensures refused { OnErr result (IsTrue D.tells → IsPartSaid
-        (D.content depot.old) (lines_of_stripes each.now all.now) (D.content depot.new)) }
+    ensures content { Says D.tells (D.content depot.old) (D.content depot.new)
+        (lines_of_stripes each.now all.now) result }
     ensures counts { CountsWrites (D.counts depot.old) (D.counts depot.new) result }
 {
     let mut buffer = Buffer::new();

@@ -1,7 +1,7 @@
 //! Whole texts, printed on a depot.
-ghost use Rattle.std.specs.Prelude.{◌≡◌, ◌+◌, ◌≤◌, IsTrue, OnOk, OnErr, ◌++◌, length};
-ghost use Rattle.depot.specs.Content.{with_said, IsPartSaid};
+ghost use Rattle.std.specs.Prelude.{◌+◌, ◌≤◌, ◌++◌, length};
 ghost use Rattle.depot.specs.Counting.{CountsWrites};
+ghost use Rattle.depot.specs.Doing.{Says};
 ghost use Rattle.shot_listing.specs.Listing.{listing, sums_line};
 
 use crate::lines::{put_layer, put_sums, put_unit};
@@ -21,10 +21,8 @@ fn say_last<D: Depot>(
     shots: usize,
     triangles: u128,
 ) -> Result<(), DepotBad>
-    ensures ok { OnOk result (IsTrue D.tells → D.content depot.new
-        ≡ with_said (D.content depot.old) (buffer.old ++ sums_line shots triangles)) }
-    ensures refused { OnErr result (IsTrue D.tells → IsPartSaid
-        (D.content depot.old) (buffer.old ++ sums_line shots triangles) (D.content depot.new)) }
+    ensures content { Says D.tells (D.content depot.old) (D.content depot.new)
+        (buffer.old ++ sums_line shots triangles) result }
     ensures counts { CountsWrites (D.counts depot.old) (D.counts depot.new) result }
 {
     make_room(depot, buffer)?;
@@ -41,10 +39,7 @@ pub fn say_listing<D: Depot>(
     shots: &[Trap],
 ) -> Result<(), DepotBad>
     requires few { length shots.now ≤ MOST_SHOTS }
-    ensures ok { OnOk result (IsTrue D.tells → D.content depot.new
-        ≡ with_said (D.content depot.old) (listing unit pair shots.now)) }
-    ensures refused { OnErr result (IsTrue D.tells → IsPartSaid
-        (D.content depot.old) (listing unit pair shots.now) (D.content depot.new)) }
+    ensures content { Says D.tells (D.content depot.old) (D.content depot.new) (listing unit pair shots.now) result }
     ensures counts { CountsWrites (D.counts depot.old) (D.counts depot.new) result }
 {
     let mut buffer = Buffer::new();

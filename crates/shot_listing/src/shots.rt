@@ -1,8 +1,7 @@
 //! The shots of a listing, one after another.
-ghost use Rattle.std.specs.Prelude.{◌≡◌, ◌+◌, ◌^◌, ◌<◌, ◌≤◌, IsTrue, IfOk, OnOk, OnErr, ◌++◌, length, flat_map};
-ghost use Rattle.depot.specs.Content.{IsPartSaid};
+ghost use Rattle.std.specs.Prelude.{◌≡◌, ◌+◌, ◌^◌, ◌<◌, ◌≤◌, IfOk, ◌++◌, length, flat_map};
 ghost use Rattle.depot.specs.Counting.{CountsWrites};
-ghost use Rattle.depot.specs.Printing.{IsSaidButFor};
+ghost use Rattle.depot.specs.Doing.{Adds, Puts};
 ghost use Rattle.shot_writer.specs.Writing.{triangles_of};
 ghost use Rattle.shot_listing.specs.Listing.{shot_line};
 
@@ -15,10 +14,8 @@ use shot_writer::triangles_in;
 
 // Puts the line of a shot into the buffer, which is said first where it has no room.
 fn put_line<D: Depot>(depot: &mut D, buffer: &mut Buffer, shot: &Trap) -> Result<(), DepotBad>
-    ensures ok { OnOk result (IsTrue D.tells → IsSaidButFor
-        (D.content depot.old) (buffer.old ++ shot_line shot.now) buffer.new (D.content depot.new)) }
-    ensures refused { OnErr result (IsTrue D.tells
-        → IsPartSaid (D.content depot.old) buffer.old (D.content depot.new)) }
+    ensures content { Adds D.tells (D.content depot.old) (D.content depot.new)
+        buffer.old (buffer.old ++ shot_line shot.now) buffer.new result }
     ensures counts { CountsWrites (D.counts depot.old) (D.counts depot.new) result }
 {
     make_room(depot, buffer)?;
@@ -34,10 +31,8 @@ pub(crate) fn put_shots<D: Depot>(
 ) -> Result<u128, DepotBad>
     requires few { length shots.now ≤ MOST_SHOTS }
     ensures triangles { IfOk result (λ triangles. triangles ≡ triangles_of shots.now) }
-    ensures ok { OnOk result (IsTrue D.tells → IsSaidButFor (D.content depot.old)
-        (buffer.old ++ flat_map shot_line shots.now) buffer.new (D.content depot.new)) }
-    ensures refused { OnErr result (IsTrue D.tells → IsPartSaid
-        (D.content depot.old) (buffer.old ++ flat_map shot_line shots.now) (D.content depot.new)) }
+    ensures content { Puts D.tells (D.content depot.old) (D.content depot.new)
+        (buffer.old ++ flat_map shot_line shots.now) buffer.new result }
     ensures counts { CountsWrites (D.counts depot.old) (D.counts depot.new) result }
 {
     let mut triangles = 0;

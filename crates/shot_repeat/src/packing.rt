@@ -1,12 +1,12 @@
 //! Shots, written as a packed shot file.
-ghost use Rattle.std.specs.Prelude.{◌≡◌, ◌+◌, ◌<◌, ◌≤◌, ◌^◌, ◌++◌, None, map, length, flat_map, IsTrue, IsSome, IfOk, OnOk, OnErr, IfSome};
-ghost use Rattle.depot.specs.Content.{with_file, with_written, IsPartWritten, IsPartMade};
+ghost use Rattle.std.specs.Prelude.{◌≡◌, ◌+◌, ◌<◌, ◌≤◌, ◌^◌, ◌++◌, None, map, length, flat_map, IsTrue, IsSome, IfOk, IfSome};
 ghost use Rattle.depot.specs.Counting.{CountsWrites};
+ghost use Rattle.depot.specs.Doing.{Makes, Writes};
 ghost use Rattle.oas_lex.specs.ShotText.{IsUnit, fields_of};
 ghost use Rattle.shot_reader.specs.Near.{AreNear};
 ghost use Rattle.shot_repeat.specs.Packing.{changed, changed_place, packed_record, packed_records, packed_text};
 ghost use Rattle.shot_repeat.specs.Records.{IsNarrow, IsNarrowRepetition, record_text};
-ghost use Rattle.shot_writer.specs.Writing.{IsWrittenButFor};
+ghost use Rattle.shot_writer.specs.Holding.{Holds};
 
 use crate::modal::count_of;
 use crate::record::{PackRecord, Repetition, spell_body, spell_repetition};
@@ -92,10 +92,8 @@ fn put_record<D: Depot>(
 ) -> Result<(), DepotBad>
     requires current { IsTrue D.tells → IsSome (D.content depot.old).current }
     requires narrow { IsNarrow written.now }
-    ensures ok { OnOk result (IsTrue D.tells → IsWrittenButFor
-        (D.content depot.old) (buffer.old ++ record_text written.now) buffer.new (D.content depot.new)) }
-    ensures refused { OnErr result (IsTrue D.tells
-        → IsPartWritten (D.content depot.old) (buffer.old ++ record_text written.now) (D.content depot.new)) }
+    ensures content { Holds D.tells (D.content depot.old) (D.content depot.new)
+        (buffer.old ++ record_text written.now) (buffer.old ++ record_text written.now) buffer.new result }
     ensures counts { CountsWrites (D.counts depot.old) (D.counts depot.new) result }
 {
     put_bytes(depot, buffer, spell_body(written).bytes())?;
@@ -107,11 +105,9 @@ fn put_records<D: Depot>(depot: &mut D, pair: Pair, shots: &[Trap]) -> Result<u6
     requires current { IsTrue D.tells → IsSome (D.content depot.old).current }
     requires layer { pair.layer < 2 ^ 63 }
     requires datatype { pair.datatype < 2 ^ 63 }
-    ensures ok { OnOk result (IsTrue D.tells → D.content depot.new
-        ≡ with_written (D.content depot.old) (flat_map record_text (packed_records pair.layer pair.datatype shots.now))) }
+    ensures content { Writes D.tells (D.content depot.old) (D.content depot.new)
+        (flat_map record_text (packed_records pair.layer pair.datatype shots.now)) result }
     ensures count { IfOk result (λ count. count ≡ length (packed_records pair.layer pair.datatype shots.now)) }
-    ensures refused { OnErr result (IsTrue D.tells → IsPartWritten
-        (D.content depot.old) (flat_map record_text (packed_records pair.layer pair.datatype shots.now)) (D.content depot.new)) }
     ensures counts { CountsWrites (D.counts depot.old) (D.counts depot.new) result }
 {
     let mut buffer = Buffer::new();
@@ -142,11 +138,9 @@ pub fn pack_shots<D: Depot>(
     requires unit { IsUnit head.unit }
     requires layer { head.pair.layer < 2 ^ 63 }
     requires datatype { head.pair.datatype < 2 ^ 63 }
-    ensures ok { OnOk result (IsTrue D.tells → D.content depot.new
-        ≡ with_file (D.content depot.old) name.now (packed_text head.unit head.pair.layer head.pair.datatype shots.now)) }
+    ensures content { Makes D.tells (D.content depot.old) (D.content depot.new)
+        name.now (packed_text head.unit head.pair.layer head.pair.datatype shots.now) result }
     ensures count { IfOk result (λ count. count ≡ length (packed_records head.pair.layer head.pair.datatype shots.now)) }
-    ensures refused { OnErr result (IsTrue D.tells → IsPartMade
-        (D.content depot.old) name.now (packed_text head.unit head.pair.layer head.pair.datatype shots.now) (D.content depot.new)) }
     ensures counts { CountsWrites (D.counts depot.old) (D.counts depot.new) result }
 {
     make_file(depot, name, head_text(u64::from(head.unit)).bytes())?;

@@ -105,7 +105,7 @@ returns-in_err-say_row-clause-refused g c =
     (g.D.Depot.content c.say_row.new.depot) told
     (subst (λ (r : ℤ). IsPartSaid (g.D.Depot.content l.depot)
     (l.buffer ++ flat_map (counted_line r) c.counts-counts.result.now) (g.D.Depot.content c.say_row.new.depot))
-    (to_z-of_z w64 l.left.row fits) (c.in_err-say_row.ensures.refused told)))
+    (to_z-of_z w64 l.left.row fits) (c.in_err-say_row.ensures.content.refused told)))
 
 pub loop-left-smaller : goal.loop-left-smaller
 loop-left-smaller g c =
@@ -150,7 +150,7 @@ loop-left-preserved g c =
           (λ told. subst (λ (r : ℤ). IsSaidButFor (g.D.Depot.content l.depot)
           (l.buffer ++ flat_map (counted_line r) c.counts-counts.result.now)
           c.say_row.new.buffer (g.D.Depot.content c.say_row.new.depot))
-          (to_z-of_z w64 l.left.row fl) (c.in_ok-say_row.ensures.ok told));
+          (to_z-of_z w64 l.left.row fl) (c.in_ok-say_row.ensures.content.ok told));
       counts = subst (λ (r : ℤ). AreCountsFrom
           (area_of c.args.plan.now c.args.output) c.args.mesh.now.size r c.take_first.new.maps.items)
           (sym c.after_first-left.ensures.row)

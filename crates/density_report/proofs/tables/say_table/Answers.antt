@@ -22,7 +22,7 @@ returns-in_err-say_size-clause-refused g c =
     (λ told. line_cut c.args.plan.now c.args.output size row.0 (at c.args.depot.now)
     (at c.say_size.new.depot) c.args.buffer.now x c.rows-rows.result here c.rows-rows.ensures.outside row.1
     (subst (λ (f : List ℕ). IsPartSaid (at c.args.depot.now) (c.args.buffer.now ++ size_line f size)
-    (at c.say_size.new.depot)) c.as_str.ensures (c.in_err-say_size.ensures.refused told)))
+    (at c.say_size.new.depot)) c.as_str.ensures (c.in_err-say_size.ensures.content.refused told)))
 
 pub returns-in_err-totals-clause-refused : goal.returns-in_err-totals-clause-refused
 returns-in_err-totals-clause-refused g c =
@@ -36,7 +36,7 @@ returns-in_err-totals-clause-refused g c =
     (at c.say_rows.new.depot) c.args.buffer.now c.say_size.new.buffer x here
     (subst (λ (f : List ℕ). IsSaidButFor (at c.args.depot.now)
     (c.args.buffer.now ++ size_line f size) c.say_size.new.buffer (at c.say_size.new.depot)) c.as_str.ensures
-    (c.in_ok-say_size.ensures.ok told))
+    (c.in_ok-say_size.ensures.content.ok told))
     (c.in_err-totals.ensures.refused told))
 
 pub returns-clause-ok : goal.returns-clause-ok
@@ -53,8 +53,8 @@ returns-clause-ok g c =
     here c.requires.size
     (λ told. subst (λ (f : List ℕ). IsSaidButFor (at c.args.depot.now)
     (c.args.buffer.now ++ size_line f size) c.say_size.new.buffer (at c.say_size.new.depot)) c.as_str.ensures
-    (c.in_ok-say_size.ensures.ok told))
-    c.in_ok-totals.ensures.ok c.say_totals.new.buffer (at c.say_totals.new.depot) last) c.say_totals.ensures.ok
+    (c.in_ok-say_size.ensures.content.ok told))
+    c.in_ok-totals.ensures.ok c.say_totals.new.buffer (at c.say_totals.new.depot) last) c.say_totals.ensures.content.ok
 
 pub returns-clause-refused : goal.returns-clause-refused
 returns-clause-refused g c =
@@ -70,5 +70,5 @@ returns-clause-refused g c =
     here c.requires.size
     (λ told. subst (λ (f : List ℕ). IsSaidButFor (at c.args.depot.now)
     (c.args.buffer.now ++ size_line f size) c.say_size.new.buffer (at c.say_size.new.depot)) c.as_str.ensures
-    (c.in_ok-say_size.ensures.ok told))
-    c.in_ok-totals.ensures.ok (at c.say_totals.new.depot) told (part told)) c.say_totals.ensures.refused
+    (c.in_ok-say_size.ensures.content.ok told))
+    c.in_ok-totals.ensures.ok (at c.say_totals.new.depot) told (part told)) c.say_totals.ensures.content.refused

@@ -47,7 +47,7 @@ returns-clause-ok g c =
     let all : length c.args.plan.now.deck.outputs ≡ l.output = omega (arith, test, ap (λ (x : List Output). length x) same) in
     on_ok_weaker c.flush.result
     (λ last. all_said c.args.plan.now c.args.mesh.now.size g.D.Depot.tells (at c.args.depot.now) l.output
-    (at l.depot) (at c.flush.new.depot) l.buffer all l.invariant.put last) c.flush.ensures.ok
+    (at l.depot) (at c.flush.new.depot) l.buffer all l.invariant.put last) c.flush.ensures.content.ok
 
 pub returns-clause-refused : goal.returns-clause-refused
 returns-clause-refused g c =
@@ -58,4 +58,4 @@ returns-clause-refused g c =
     let all : l.output ≤ length c.args.plan.now.deck.outputs = omega (arith, test, ap (λ (x : List Output). length x) same) in
     on_err_weaker c.flush.result
     (λ part told. last_cut c.args.plan.now c.args.mesh.now.size g.D.Depot.tells (at c.args.depot.now) l.output
-    (at l.depot) (at c.flush.new.depot) l.buffer all l.invariant.put told (part told)) c.flush.ensures.refused
+    (at l.depot) (at c.flush.new.depot) l.buffer all l.invariant.put told (part told)) c.flush.ensures.content.refused

@@ -1,7 +1,7 @@
-use Rattle.std.proofs.Common.{◌≡◌, ◌<◌, ◌≤◌, ◌^◌, ℕ, List, OnOk, OnErr, IfOk, IsTrue, ap, subst, refl, arith, FitsSigned, w64}
+use Rattle.std.proofs.Common.{◌≡◌, ◌<◌, ◌≤◌, ◌^◌, ℕ, List, IfOk, ap, subst, refl, arith, FitsSigned, w64}
 use Rattle.std.proofs.lemmas.Int.{to_z-of_z}
 use Rattle.half_grid.specs.Trapezoids.{Trapezoid}
-use Rattle.depot.specs.Content.{with_file, IsPartMade}
+use Rattle.depot.specs.Doing.{Makes}
 use Rattle.shot_writer.specs.Writing.{triangles_of}
 use Rattle.field_output.specs.Stripes.{stripe_text, sums_of}
 use Rattle.field_output.specs.StreamLaws.{Chosen-one_list}
@@ -24,17 +24,18 @@ write_list-requires-clause-list g c =
           (triangles_few size c.args.stripe c.requires.sized own.0 own.2 own.3),
     )
 
-pub returns-clause-ok : goal.returns-clause-ok
-returns-clause-ok g c = λ chosen zip.
+pub returns-clause-content : goal.returns-clause-content
+returns-clause-content g c = λ chosen zip.
     let stripe : FitsSigned w64 c.args.stripe = c.ranges.stripe in
     let own = c.requires.chosen in
     let list = c.new-pieces.ensures.list chosen (c.new.ensures chosen zip) in
     let split = simp to_z-of_z at list.1 in
     let same = Chosen-one_list c.args.shots.now c.args.numbers.now own.0 chosen own.1 zip in
     let at = g.D.Depot.content in
-    subst (λ (l : List Trapezoid). OnOk c.write_list.result (IsTrue g.D.Depot.tells → at c.write_list.new.depot ≡ with_file
-    (at c.args.depot.now) c.args.name.now (stripe_text c.args.head l)))
-    (is_list c.args.fields.now c.args.stripe chosen own.0 list.0 c.requires.sized same own.2 split) (c.write_list.ensures.ok list.0 list.2)
+    subst (λ (l : List Trapezoid). Makes g.D.Depot.tells (at c.args.depot.now) (at c.write_list.new.depot) c.args.name.now
+    (stripe_text c.args.head l) c.write_list.result)
+    (is_list c.args.fields.now c.args.stripe chosen own.0 list.0 c.requires.sized same own.2 split)
+    (c.write_list.ensures.content list.0 list.2)
 
 pub returns-clause-sums : goal.returns-clause-sums
 returns-clause-sums g c = λ chosen zip.
@@ -45,15 +46,3 @@ returns-clause-sums g c = λ chosen zip.
     let same = Chosen-one_list c.args.shots.now c.args.numbers.now own.0 chosen own.1 zip in
     subst (λ (l : List Trapezoid). IfOk c.write_list.result (λ sums. sums ≡ sums_of l))
     (is_list c.args.fields.now c.args.stripe chosen own.0 list.0 c.requires.sized same own.2 split) (c.write_list.ensures.sums list.0 list.2)
-
-pub returns-clause-refused : goal.returns-clause-refused
-returns-clause-refused g c = λ chosen zip.
-    let stripe : FitsSigned w64 c.args.stripe = c.ranges.stripe in
-    let own = c.requires.chosen in
-    let list = c.new-pieces.ensures.list chosen (c.new.ensures chosen zip) in
-    let split = simp to_z-of_z at list.1 in
-    let same = Chosen-one_list c.args.shots.now c.args.numbers.now own.0 chosen own.1 zip in
-    let at = g.D.Depot.content in
-    subst (λ (l : List Trapezoid). OnErr c.write_list.result (IsTrue g.D.Depot.tells → IsPartMade (at c.args.depot.now) c.args.name.now
-    (stripe_text c.args.head l) (at c.write_list.new.depot)))
-    (is_list c.args.fields.now c.args.stripe chosen own.0 list.0 c.requires.sized same own.2 split) (c.write_list.ensures.refused list.0 list.2)

@@ -26,7 +26,7 @@ returns-in_err-sums-clause-refused g c = refused c.from_residual.result _ (λ to
       within = c.loop-place-test.true;
       files = subst (λ (x : Content). IsPartMade x (stripe_name c.args.base.now (span.first +ℤ pos c.loop-place.place)) (stripe_text c.args.head
           (list_at span.size c.args.shots.now span.first c.loop-place.place)) (at c.write_next.new.depot))
-          (c.loop-place.invariant.content told) (c.in_err-sums.ensures.refused told);
+          (c.loop-place.invariant.content told) (c.in_err-sums.ensures.content.refused told);
     })
 
 pub added-all-requires-clause-shots : goal.added-all-requires-clause-shots
@@ -51,7 +51,7 @@ loop-place-preserved g c =
     record {
       room = c.in_ok-sums.ensures.room;
       content = λ told. content_more span.size c.args.shots.now span.first c.loop-place.place (at c.args.depot.now) (at c.loop-place.depot)
-          (at c.write_next.new.depot) c.args.base.now c.args.head (i.content told) (c.in_ok-sums.ensures.ok told);
+          (at c.write_next.new.depot) c.args.base.now c.args.head (i.content told) (c.in_ok-sums.ensures.content.ok told);
       all = sums_step span.size c.args.shots.now span.first c.loop-place.place c.loop-place.all c.in_ok-sums.sums c.added-all.result i.all
           c.in_ok-sums.ensures.sums c.added-all.ensures.shots c.added-all.ensures.triangles;
       uncounted = c.in_ok-sums.ensures.counts.uncounted ∙ i.uncounted;

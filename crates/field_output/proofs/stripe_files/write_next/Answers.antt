@@ -40,20 +40,23 @@ write_stripe-requires-clause-chosen g c =
       omega (arith, filter_few test shots, c.requires.few),
     )
 
-pub returns-in_err-sums-clause-refused : goal.returns-in_err-sums-clause-refused
-returns-in_err-sums-clause-refused g c = refused c.from_residual.result _ (λ told.
-    let span = c.args.span in
-    let shots = c.args.shots.now in
-    let number : FitsSigned w64 c.number_of-number.result = search rules in
-    let chosen = filter (meets span.size span.first c.args.place) shots in
-    let zip = zipped shots span.size span.first c.args.place c.numbers.result.now _ c.numbers.ensures c.turn.ensures.chosen in
-    let name = simp to_z-of_z at c.spell_name.ensures.name in
-    let part = simp to_z-of_z at (c.in_err-sums.ensures.refused chosen zip told) in
-    let pieces = pieces_as span.size c.args.fields.now span.first c.number_of-number.result span.count c.args.place shots span.positive
-    (legal shots c.requires.shots) c.requires.placed c.requires.size c.number_of-number.ensures in
-    part_as (g.D.Depot.content c.args.depot.now) (g.D.Depot.content c.write_stripe.new.depot) c.as_str.result.now c.args.base.now
-    (span.first +ℤ pos c.args.place) c.args.head _ _ (c.as_str.ensures.value ∙ name ∙ ap
-    (stripe_name c.args.base.now) c.number_of-number.ensures) pieces part)
+pub returns-in_err-sums-clause-content : goal.returns-in_err-sums-clause-content
+returns-in_err-sums-clause-content g c = record {
+  ok = search rules;
+  refused = refused c.from_residual.result _ (λ told.
+      let span = c.args.span in
+      let shots = c.args.shots.now in
+      let number : FitsSigned w64 c.number_of-number.result = search rules in
+      let chosen = filter (meets span.size span.first c.args.place) shots in
+      let zip = zipped shots span.size span.first c.args.place c.numbers.result.now _ c.numbers.ensures c.turn.ensures.chosen in
+      let name = simp to_z-of_z at c.spell_name.ensures.name in
+      let part = simp to_z-of_z at ((c.in_err-sums.ensures.content chosen zip).refused told) in
+      let pieces = pieces_as span.size c.args.fields.now span.first c.number_of-number.result span.count c.args.place shots span.positive
+      (legal shots c.requires.shots) c.requires.placed c.requires.size c.number_of-number.ensures in
+      part_as (g.D.Depot.content c.args.depot.now) (g.D.Depot.content c.write_stripe.new.depot) c.as_str.result.now c.args.base.now
+      (span.first +ℤ pos c.args.place) c.args.head _ _ (c.as_str.ensures.value ∙ name ∙ ap
+      (stripe_name c.args.base.now) c.number_of-number.ensures) pieces part);
+}
 
 pub push_reserved-requires : goal.push_reserved-requires
 push_reserved-requires g c =
@@ -83,19 +86,22 @@ returns-clause-sums g c =
     (legal shots c.requires.shots) c.requires.placed c.requires.size c.number_of-number.ensures in
     is ∙ ap sums_of pieces
 
-pub returns-clause-ok : goal.returns-clause-ok
-returns-clause-ok g c = λ told.
-    let span = c.args.span in
-    let shots = c.args.shots.now in
-    let number : FitsSigned w64 c.number_of-number.result = search rules in
-    let chosen = filter (meets span.size span.first c.args.place) shots in
-    let zip = zipped shots span.size span.first c.args.place c.numbers.result.now _ c.numbers.ensures c.turn.ensures.chosen in
-    let name = simp to_z-of_z at c.spell_name.ensures.name in
-    let is = simp to_z-of_z at (c.in_ok-sums.ensures.ok chosen zip told) in
-    let pieces = pieces_as span.size c.args.fields.now span.first c.number_of-number.result span.count c.args.place shots span.positive
-    (legal shots c.requires.shots) c.requires.placed c.requires.size c.number_of-number.ensures in
-    file_as (g.D.Depot.content c.args.depot.now) (g.D.Depot.content c.write_stripe.new.depot) c.as_str.result.now c.args.base.now
-    (span.first +ℤ pos c.args.place) c.args.head _ _ (c.as_str.ensures.value ∙ name ∙ ap (stripe_name c.args.base.now) c.number_of-number.ensures) pieces is
+pub returns-clause-content : goal.returns-clause-content
+returns-clause-content g c = record {
+  ok = λ told.
+      let span = c.args.span in
+      let shots = c.args.shots.now in
+      let number : FitsSigned w64 c.number_of-number.result = search rules in
+      let chosen = filter (meets span.size span.first c.args.place) shots in
+      let zip = zipped shots span.size span.first c.args.place c.numbers.result.now _ c.numbers.ensures c.turn.ensures.chosen in
+      let name = simp to_z-of_z at c.spell_name.ensures.name in
+      let is = simp to_z-of_z at ((c.in_ok-sums.ensures.content chosen zip).ok told) in
+      let pieces = pieces_as span.size c.args.fields.now span.first c.number_of-number.result span.count c.args.place shots span.positive
+      (legal shots c.requires.shots) c.requires.placed c.requires.size c.number_of-number.ensures in
+      file_as (g.D.Depot.content c.args.depot.now) (g.D.Depot.content c.write_stripe.new.depot) c.as_str.result.now c.args.base.now
+      (span.first +ℤ pos c.args.place) c.args.head _ _ (c.as_str.ensures.value ∙ name ∙ ap (stripe_name c.args.base.now) c.number_of-number.ensures) pieces is;
+  refused = search rules;
+}
 
 pub returns-clause-room : goal.returns-clause-room
 returns-clause-room g c =

@@ -14,4 +14,4 @@ returns-in-Err-clause-said g c = λ told.
     said_fault (at c.args.depot.now) (at c.say_report.new.depot) _ _
     (report_of c.args.word.now c.args.input.now c.args.sums.now) c.in-Err.bad c.fault_status.result c.fault_status.ensures
     (subst (λ (t : List ℕ). IsPartSaid (at c.args.depot.now) t (at c.say_report.new.depot)) text
-    (c.in-Err.ensures.refused told)) (λ e. c.in-Err.ensures.counts.failed (ap Err e)) (λ e. c.in-Err.ensures.counts.no_memory (ap Err e))
+    (c.in-Err.ensures.content.refused told)) (λ e. c.in-Err.ensures.counts.failed (ap Err e)) (λ e. c.in-Err.ensures.counts.no_memory (ap Err e))

@@ -8,18 +8,21 @@ use Rattle.field_output.specs.declared.sums.StripeSums.{StripeSums}
 use Rattle.mdp_job.specs.Splitting.{stripe_line}
 use Rattle.mdp_job.proofs.stripe_lines.put_stripes.Goals as goal
 
-pub returns-in_err-put_pieces-clause-refused : goal.returns-in_err-put_pieces-clause-refused
-returns-in_err-put_pieces-clause-refused g c =
+pub returns-in_err-put_pieces-clause-content : goal.returns-in_err-put_pieces-clause-content
+returns-in_err-put_pieces-clause-content g c =
     let at = g.D.Depot.content in
     let l = c.loop-stripe in
     let xs = c.args.each.now in
     let none : StripeSums = record { number = pos 0; sums = record { shots = 0; triangles = 0 } } in
     let x = get_or xs l.stripe-index none in
     let more = take_more xs l.stripe-index none c.loop-stripe-test.true in
-    refused c.from_residual.result _
-    (λ told. part_of_more_texts (at c.put_pieces.new.depot) stripe_line c.args.buffer.now xs l.stripe-index x more (l.invariant.said told)
-    (subst (λ (t : List ℕ). IsPartSaid (at l.depot) (l.buffer ++ t) (at c.put_pieces.new.depot)) c.stripe_pieces.ensures
-    (c.in_err-put_pieces.ensures.refused told)))
+    record {
+      ok = search rules;
+      refused = refused c.from_residual.result _
+          (λ told. part_of_more_texts (at c.put_pieces.new.depot) stripe_line c.args.buffer.now xs l.stripe-index x more (l.invariant.said told)
+          (subst (λ (t : List ℕ). IsPartSaid (at l.depot) (l.buffer ++ t) (at c.put_pieces.new.depot)) c.stripe_pieces.ensures
+          (c.in_err-put_pieces.ensures.content.refused told)));
+    }
 
 pub loop-stripe-preserved : goal.loop-stripe-preserved
 loop-stripe-preserved g c =
@@ -34,7 +37,7 @@ loop-stripe-preserved g c =
           (at c.put_pieces.new.depot)) (texts_more stripe_line c.args.buffer.now xs l.stripe-index x more)
           (said_then (stripe_line x) (l.invariant.said told)
           (subst (λ (t : List ℕ). IsSaidButFor (at l.depot) (l.buffer ++ t) c.put_pieces.new.buffer
-          (at c.put_pieces.new.depot)) c.stripe_pieces.ensures (c.in_ok-put_pieces.ensures.ok told)));
+          (at c.put_pieces.new.depot)) c.stripe_pieces.ensures (c.in_ok-put_pieces.ensures.content.ok told)));
       uncounted = c.in_ok-put_pieces.ensures.counts.uncounted ∙ l.invariant.uncounted;
       counted = search rules;
     }

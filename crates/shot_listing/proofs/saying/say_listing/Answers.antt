@@ -1,4 +1,4 @@
-use Rattle.std.proofs.Common.{Option, refl, ◌≡◌, ◌++◌, List, [], ℕ, subst, flat_map, length, ap, ◌∙◌}
+use Rattle.std.proofs.Common.{Option, refl, ◌≡◌, ◌++◌, List, [], ℕ, subst, flat_map, length, ap, ◌∙◌, rules}
 use Rattle.std.proofs.lemmas.Result.{on_ok_weaker, on_err_weaker}
 use Rattle.half_grid.specs.Trapezoids.{Trapezoid}
 use Rattle.layout_model.specs.declared.pair.Pair.{Pair}
@@ -21,42 +21,38 @@ whole_is unit pair shots head triangles e f =
     ap (λ b. (b ++ flat_map shot_line shots) ++ sums_line (length shots) triangles) e
     ∙ ap (λ n. ((unit_line unit ++ layer_line pair) ++ flat_map shot_line shots) ++ sums_line (length shots) n) f
 
-pub returns-in_err-triangles-clause-refused : goal.returns-in_err-triangles-clause-refused
-returns-in_err-triangles-clause-refused g c =
+pub returns-in_err-triangles-clause-content : goal.returns-in_err-triangles-clause-content
+returns-in_err-triangles-clause-content g c =
     let at = g.D.Depot.content in
     let xs = c.args.shots.now in
     let n = triangles_of xs in
     let head = head_is c.new-buffer.result c.put_unit.new.buffer c.put_layer.new.buffer (unit_line c.args.unit)
     (layer_line c.args.pair) c.new-buffer.ensures c.put_unit.ensures.value c.put_layer.ensures in
     let whole = whole_is c.args.unit c.args.pair xs c.put_layer.new.buffer n head refl in
-    refused c.from_residual.result _
-    (λ told. subst (λ (l : List ℕ). IsPartSaid (at c.args.depot.now) l (at c.put_shots.new.depot)) whole
-    (part_of_longer (at c.args.depot.now) (at c.put_shots.new.depot)
-    (c.put_layer.new.buffer ++ flat_map shot_line xs) (sums_line (length xs) n)
-    (c.in_err-triangles.ensures.refused told)))
+    record {
+      ok = search rules;
+      refused = refused c.from_residual.result _
+          (λ told. subst (λ (l : List ℕ). IsPartSaid (at c.args.depot.now) l (at c.put_shots.new.depot)) whole
+          (part_of_longer (at c.args.depot.now) (at c.put_shots.new.depot)
+          (c.put_layer.new.buffer ++ flat_map shot_line xs) (sums_line (length xs) n)
+          (c.in_err-triangles.ensures.content.refused told)));
+    }
 
-pub returns-clause-ok : goal.returns-clause-ok
-returns-clause-ok g c =
+pub returns-clause-content : goal.returns-clause-content
+returns-clause-content g c =
     let at = g.D.Depot.content in
     let xs = c.args.shots.now in
     let n = c.in_ok-triangles.triangles in
     let head = head_is c.new-buffer.result c.put_unit.new.buffer c.put_layer.new.buffer (unit_line c.args.unit)
     (layer_line c.args.pair) c.new-buffer.ensures c.put_unit.ensures.value c.put_layer.ensures in
     let whole = whole_is c.args.unit c.args.pair xs c.put_layer.new.buffer n head c.in_ok-triangles.ensures.triangles in
-    on_ok_weaker c.say_last.result
-    (λ all told. say_held (at c.say_last.new.depot)
-    (hold_more (sums_line (length xs) n) (c.in_ok-triangles.ensures.ok told)) (all told) ∙ ap
-    (with_said (at c.args.depot.now)) whole) c.say_last.ensures.ok
-
-pub returns-clause-refused : goal.returns-clause-refused
-returns-clause-refused g c =
-    let at = g.D.Depot.content in
-    let xs = c.args.shots.now in
-    let n = c.in_ok-triangles.triangles in
-    let head = head_is c.new-buffer.result c.put_unit.new.buffer c.put_layer.new.buffer (unit_line c.args.unit)
-    (layer_line c.args.pair) c.new-buffer.ensures c.put_unit.ensures.value c.put_layer.ensures in
-    let whole = whole_is c.args.unit c.args.pair xs c.put_layer.new.buffer n head c.in_ok-triangles.ensures.triangles in
-    on_err_weaker c.say_last.result
-    (λ part told. subst (λ (l : List ℕ). IsPartSaid (at c.args.depot.now) l (at c.say_last.new.depot)) whole
-    (part_held (at c.say_last.new.depot) (hold_more (sums_line (length xs) n) (c.in_ok-triangles.ensures.ok told))
-    (part told))) c.say_last.ensures.refused
+    record {
+      ok = on_ok_weaker c.say_last.result
+          (λ all told. say_held (at c.say_last.new.depot)
+          (hold_more (sums_line (length xs) n) (c.in_ok-triangles.ensures.content.ok told)) (all told) ∙ ap
+          (with_said (at c.args.depot.now)) whole) c.say_last.ensures.content.ok;
+      refused = on_err_weaker c.say_last.result
+          (λ part told. subst (λ (l : List ℕ). IsPartSaid (at c.args.depot.now) l (at c.say_last.new.depot)) whole
+          (part_held (at c.say_last.new.depot) (hold_more (sums_line (length xs) n) (c.in_ok-triangles.ensures.content.ok told))
+          (part told))) c.say_last.ensures.content.refused;
+    }

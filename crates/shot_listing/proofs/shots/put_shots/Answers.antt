@@ -7,13 +7,16 @@ use Rattle.depot.specs.Printing.{IsSaidButFor}
 use Rattle.depot.proofs.ForCallers.{refused, part_of_texts, said_then, texts_more}
 use Rattle.shot_listing.proofs.shots.put_shots.Goals as goal
 
-pub returns-in_err-put_line-clause-refused : goal.returns-in_err-put_line-clause-refused
-returns-in_err-put_line-clause-refused g c =
+pub returns-in_err-put_line-clause-content : goal.returns-in_err-put_line-clause-content
+returns-in_err-put_line-clause-content g c =
     let at = g.D.Depot.content in
     let l = c.loop-shot in
-    refused c.from_residual.result _
-    (λ told. part_of_texts (at c.put_line.new.depot) shot_line c.args.buffer.now c.args.shots.now l.shot-index
-    (l.invariant.said told) (c.in_err-put_line.ensures.refused told))
+    record {
+      ok = search rules;
+      refused = refused c.from_residual.result _
+          (λ told. part_of_texts (at c.put_line.new.depot) shot_line c.args.buffer.now c.args.shots.now l.shot-index
+          (l.invariant.said told) (c.in_err-put_line.ensures.content.refused told));
+    }
 
 pub loop-shot-preserved : goal.loop-shot-preserved
 loop-shot-preserved g c =
@@ -30,7 +33,7 @@ loop-shot-preserved g c =
       said = λ told. subst
           (λ (t : List ℕ). IsSaidButFor (at c.args.depot.now) t c.put_line.new.buffer (at c.put_line.new.depot))
           (texts_more shot_line c.args.buffer.now xs l.shot-index z more)
-          (said_then (shot_line z) (l.invariant.said told) (c.in_ok-put_line.ensures.ok told));
+          (said_then (shot_line z) (l.invariant.said told) (c.in_ok-put_line.ensures.content.ok told));
       uncounted = c.in_ok-put_line.ensures.counts.uncounted ∙ l.invariant.uncounted;
       counted = search rules;
     }

@@ -24,7 +24,7 @@ returns-in_err-writer-clause-refused g c = refused c.from_residual.result _ (λ 
     (2 * c.deck-deck.result.now.unit) output.pair unit refl
     (g.D.Depot.content c.start.new.depot) c.rows-rows.result (omega (arith, ints, some)) c.rows-rows.ensures.outside
     (subst (λ (n : List ℕ). IsPartMade (g.D.Depot.content c.args.depot.now) n (head (2 * c.deck-deck.result.now.unit))
-    (g.D.Depot.content c.start.new.depot)) name (c.in_err-writer.ensures.refused told)))
+    (g.D.Depot.content c.start.new.depot)) name (c.in_err-writer.ensures.content.refused told)))
 
 pub returns-in_err-put_bands-clause-refused : goal.returns-in_err-put_bands-clause-refused
 returns-in_err-put_bands-clause-refused g c = refused c.from_residual-in_err-put_bands.result _ (λ told output there.
@@ -35,7 +35,7 @@ returns-in_err-put_bands-clause-refused g c = refused c.from_residual-in_err-put
     let unit : 2 * c.deck-deck.result.now.unit ≡ 2 * c.args.plan.now.deck.unit = ap (λ (d : Deck). 2 * d.unit) c.deck-deck.ensures.value in
     let name : c.as_str.result.now ≡ output.file = c.as_str.ensures ∙ ap (λ (o : Output). o.file) read in
     let pair : pair_of c.in_ok-writer.writer ≡ output.pair = c.in_ok-writer.ensures.pair ∙ ap (λ (o : Output). o.pair) read in
-    let started = c.in_ok-writer.ensures.ok told ∙ ap
+    let started = c.in_ok-writer.ensures.content.ok told ∙ ap
     (λ (n : List ℕ). with_file (g.D.Depot.content c.args.depot.now) n (head (2 * c.deck-deck.result.now.unit)))
     name in
     put_cut c.args.plan.now c.args.output (g.D.Depot.content c.args.depot.now) output (2 * c.deck-deck.result.now.unit)
@@ -45,7 +45,7 @@ returns-in_err-put_bands-clause-refused g c = refused c.from_residual-in_err-put
 pub returns-clause-ok : goal.returns-clause-ok
 returns-clause-ok g c =
     let put = c.in_ok-put_bands.ensures.ok in
-    ok_both c.finish.result c.finish.ensures.ok c.finish.ensures.sums (λ sums ended same. record {
+    ok_both c.finish.result c.finish.ensures.content.ok c.finish.ensures.sums (λ sums ended same. record {
       shots = put.shots;
       list = put.list;
       content = λ output there told.
@@ -56,7 +56,7 @@ returns-clause-ok g c =
           let unit : 2 * c.deck-deck.result.now.unit ≡ 2 * c.args.plan.now.deck.unit = ap (λ (d : Deck). 2 * d.unit) c.deck-deck.ensures.value in
           let name : c.as_str.result.now ≡ output.file = c.as_str.ensures ∙ ap (λ (o : Output). o.file) read in
           let pair : pair_of c.in_ok-writer.writer ≡ output.pair = c.in_ok-writer.ensures.pair ∙ ap (λ (o : Output). o.pair) read in
-          let started = c.in_ok-writer.ensures.ok told ∙ ap
+          let started = c.in_ok-writer.ensures.content.ok told ∙ ap
           (λ (n : List ℕ). with_file (g.D.Depot.content c.args.depot.now) n
           (head (2 * c.deck-deck.result.now.unit))) name in
           finished c.args.plan.now c.args.output (g.D.Depot.content c.args.depot.now) output
@@ -68,7 +68,7 @@ returns-clause-ok g c =
     })
 
 pub returns-clause-refused : goal.returns-clause-refused
-returns-clause-refused g c = err_then c.finish.result c.finish.ensures.refused (λ part told output there.
+returns-clause-refused g c = err_then c.finish.result c.finish.ensures.content.refused (λ part told output there.
     let read : c.index-as_slice-output.result ≡ output =
     is_output c.args.plan.now.deck.outputs c.as_slice.result.now c.args.output output
     c.index-as_slice-output.result c.index-as_slice-output.is
@@ -76,7 +76,7 @@ returns-clause-refused g c = err_then c.finish.result c.finish.ensures.refused (
     let unit : 2 * c.deck-deck.result.now.unit ≡ 2 * c.args.plan.now.deck.unit = ap (λ (d : Deck). 2 * d.unit) c.deck-deck.ensures.value in
     let name : c.as_str.result.now ≡ output.file = c.as_str.ensures ∙ ap (λ (o : Output). o.file) read in
     let pair : pair_of c.in_ok-writer.writer ≡ output.pair = c.in_ok-writer.ensures.pair ∙ ap (λ (o : Output). o.pair) read in
-    let started = c.in_ok-writer.ensures.ok told ∙ ap
+    let started = c.in_ok-writer.ensures.content.ok told ∙ ap
     (λ (n : List ℕ). with_file (g.D.Depot.content c.args.depot.now) n (head (2 * c.deck-deck.result.now.unit)))
     name in
     finish_cut c.args.plan.now c.args.output (g.D.Depot.content c.args.depot.now) output
