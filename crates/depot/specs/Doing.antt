@@ -19,7 +19,7 @@ pub record Puts {T : Type 0} (tells : Bool) (before now : Content) (bytes held :
   pub ok : OnOk result (IsTrue tells → IsSaidButFor before bytes held now)
   pub refused : OnErr result (IsTrue tells → IsPartSaid before bytes now)
 
--- the same, where what was held before alone may be printed in part: a piece that is refused isn't begun
+-- the bytes are printed but for those that are held back, or a prefix of what was held before where it is refused
 pub record Adds {T : Type 0} (tells : Bool) (before now : Content) (had bytes held : List ℕ) (result : Result T DepotBad) : Type 0 where
   pub ok : OnOk result (IsTrue tells → IsSaidButFor before bytes held now)
   pub refused : OnErr result (IsTrue tells → IsPartSaid before had now)
