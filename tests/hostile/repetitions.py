@@ -56,6 +56,14 @@ def polygons(layer, points, times, reached):
     return in_cell("OTHER", first, b"\x15\x00", times, reached)
 
 
+def shown_polygons(points, times):
+    """Of a cell that TOP places: below the stairs is the first shot of those from Y 0 on, and each stair above the square is one."""
+    words, status, _ = polygons(1, points, times, True)
+    stairs = points // 4 - 1
+    area = (stairs + 3) * (points - stairs + 10) + sum(stairs + 2 - stair for stair in range(10, stairs))
+    return words, status, f"output out.oas shots {stairs - 8} triangles {8 * area}"
+
+
 def rows_of_polygons(points, times):
     """Each a step to the right of the one before: a record of three bytes."""
     first = b"\x15\x3B" + unsigned(1, 0) + many_points(points) + signed(0, 0)
@@ -95,6 +103,8 @@ CASES = [
     ("a polygon of 1,000 points that nothing reaches, 1,000 times", True, lambda: polygons(1, 1000, 1000, False)),
     ("a polygon of 100,000 points that nothing reaches, 100,000 times", False, lambda: polygons(1, 100000, 100000, False)),
     ("a polygon of 100,000 points in records of three bytes, 100,000 times", False, lambda: rows_of_polygons(100000, 100000)),
+    ("a polygon of 1,000 points, 1,000 times", True, lambda: shown_polygons(1000, 1000)),
+    ("a polygon of 100,000 points, 100,000 times", False, lambda: shown_polygons(100000, 100000)),
     ("a path of 100,000 points on an unwanted pair, 100,000 times", False, lambda: paths(OTHER, 100000, 100000, True)),
     ("a path of 10,000 points that nothing reaches, 10,000 times", False, lambda: paths(1, 10000, 10000, False)),
 ]

@@ -75,7 +75,7 @@ fn count_all<S: Stream<Item = Quad>>(quads: &mut S) -> u64
 
 // How many pieces the window has.
 fn count_in(alloc: Global, tree: &Tree, parts: &Parts, window: Window) -> Option<u64>
-    requires { AreAllCut tree.now.layout.cells parts.now }
+    requires { AreAllCut tree.now.layout.cells tree.now.top parts.now }
 {
     let mut walk = match Walk::begin(alloc, tree, parts, METAL, window) {
         Ok(walk) => walk,
@@ -86,7 +86,7 @@ fn count_in(alloc: Global, tree: &Tree, parts: &Parts, window: Window) -> Option
 
 // How many pieces the windows have.
 fn count_over(alloc: Global, tree: &Tree, parts: &Parts, windows: Windows) -> Option<u64>
-    requires { AreAllCut tree.now.layout.cells parts.now }
+    requires { AreAllCut tree.now.layout.cells tree.now.top parts.now }
 {
     let mut count = 0u64;
     let mut bottom = windows.bottom;
@@ -107,7 +107,7 @@ fn time(
     parts: &Parts,
     windows: Windows,
 ) -> io::Result<()>
-    requires { AreAllCut tree.now.layout.cells parts.now }
+    requires { AreAllCut tree.now.layout.cells tree.now.top parts.now }
 {
     let start = Instant::now(rt)?;
     let Some(count) = count_over(rt.alloc(), tree, parts, windows) else {

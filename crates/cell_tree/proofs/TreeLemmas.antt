@@ -5,9 +5,12 @@ use Rattle.std.proofs.Common.{true≢false, Result, Ok, Err, IfErr, OnOk, IsOk, 
 use Rattle.std.proofs.Common.{slice_get, refl, sym, ap, subst, ◌∙◌, inl, inr, arith}
 use Rattle.std.proofs.lemmas.Option.{none-some, same_Some, slice_get_within, slice_get-get_or, get_or_from_slice_get}
 use Rattle.std.proofs.lemmas.List.{length-map, get_or_read, get_or-map}
+use Rattle.std.proofs.lemmas.List.Elements.{All-head}
+use Rattle.half_grid.specs.Outlines.{IsClosed}
+use Rattle.layout_model.specs.Images.{moved}
 use Rattle.layout_model.specs.declared.cells.Placement.{Placement}
 use Rattle.layout_model.specs.declared.cells.Cell.{Cell}
-use Rattle.cell_tree.specs.Cells.{PlacesCell, PlacesAt, PlacesUnknown, HasFixed, placements_at, targets_at, name_at, cell_number}
+use Rattle.cell_tree.specs.Cells.{PlacesCell, PlacesAt, PlacesUnknown, HasFixed, shapes_at, placements_at, targets_at, name_at, cell_number}
 use Rattle.cell_tree.specs.Chains.{Link, IsChain, chain_cells, chain_factor, IsReachable, IsCycle, IsShort}
 use Rattle.cell_tree.specs.Orders.{IsAmong, IsBefore, IsOrder}
 use Rattle.cell_tree.specs.Searches.{IsFound}
@@ -22,7 +25,8 @@ use Rattle.std.proofs.lemmas.Int.{ints}
 use Rattle.std.proofs.Math.Nat.{mul-le-mul_right}
 use Rattle.half_grid.specs.declared.plane.Point.{Point}
 use Rattle.half_grid.specs.declared.extent.Frame.{Frame}
-use Rattle.layout_model.specs.Layouts.{IsWithin, IsCellOnGrid, IsPlacementOnGrid}
+use Rattle.layout_model.specs.Layouts.{IsWithin, IsCellOnGrid, IsPlacementOnGrid, IsShapeOnGrid}
+use Rattle.layout_model.specs.declared.shapes.Shape.{Shape}
 use Rattle.layout_model.specs.declared.pair.Pair.{Pair}
 use Rattle.cell_tree.specs.Flattening.{IsVertex, shape_count}
 use Rattle.cell_tree.specs.Boxes.{IsHull, IsUpTo, IsBoxUpTo}
@@ -32,14 +36,14 @@ use Rattle.cell_tree.specs.Heights.{IsHeight, AreHeights, AreHeightsBelow}
 use Rattle.cell_tree.specs.declared.factors.Far.{Far}
 use Rattle.cell_tree.proofs.NameLemmas.{targets_below}
 use Rattle.layout_model.specs.Pairs.{same_pair}
-use Rattle.cell_tree.specs.HullTables.{hull_in, AreCellHulls, AreHulls, AreHullsBelow, HasNearVertices, whole_from, extent_in}
-use Rattle.cell_tree.proofs.ReachLemmas.{near_below}
+use Rattle.cell_tree.specs.HullTables.{OwnVertex, hull_in, AreCellHulls, AreHulls, AreHullsBelow, HasNearVertices, whole_from, extent_in}
+use Rattle.cell_tree.proofs.ReachLemmas.{near_below, shapes_on_grid}
 use Rattle.cell_tree.specs.declared.hulls.PairHull.{PairHull}
 use Rattle.cell_tree.proofs.SlotLemmas.{map_slot, slot_map, All-slot, All-from_slots}
 use Rattle.cell_tree.proofs.ChainLemmas.{places_at, name_read, along, reach_more, top_reachable, reachable_within, placed_within, end_within}
 use Rattle.cell_tree.proofs.SearchLemmas.{apart}
 use Rattle.cell_tree.proofs.FactorLemmas.{on_grid}
-use Rattle.cell_tree.proofs.FlatLemmas.{count_is, short_below}
+use Rattle.cell_tree.proofs.FlatLemmas.{count_is, short_below, own_vertex}
 use Rattle.cell_tree.proofs.BoxLemmas.{least_up_to}
 use Rattle.cell_tree.proofs.HullLemmas.{pair_true, entry_hull, whole_hull}
 
@@ -438,6 +442,52 @@ pub top_hulls : {A : Type 0} (view : A → List PairHull) (cells : List Cell) (t
     → top < length hulls → list ≡ get_or hulls top list → AreCellHulls cells top (view list)
 top_hulls view cells top order shown hulls list e in_order are inside is =
     hulls_read view cells top top hulls list inside is (hulls_below cells top order shown (map view hulls) e in_order are) (top_reachable cells top)
+
+-- ---- cells that show nothing
+
+first_vertex : (shapes rest : List Shape) (shape : Shape) → shapes ≡ shape ∷ rest → IsShapeOnGrid shape
+    → (p : Point) × OwnVertex shapes (length shapes) shape.pair p
+first_vertex shapes rest shape e grid = by shape.points refl shape.offsets refl
+  where
+    by : (points : List Point) → shape.points ≡ points → (offsets : List Point) → shape.offsets ≡ offsets
+        → (p : Point) × OwnVertex shapes (length shapes) shape.pair p
+    by [] none offsets are = absurd (subst IsClosed none grid.closed)
+    by (v ∷ points) is [] none = absurd (grid.offsets.nonempty none)
+    by (v ∷ points) is (b ∷ offsets) are = (
+      moved b v,
+      record {
+        number = 0;
+        early = subst (λ (l : List Shape). 0 < length l) (sym e) (omega arith);
+        shape = shape;
+        here = ap (λ (l : List Shape). slice_get l 0) e;
+        on_pair = refl;
+        vertex =
+            record {
+              place = 0;
+              by = b;
+              offset = ap (λ (l : List Point). slice_get l 0) are;
+              corner = 0;
+              v = v;
+              point = ap (λ (l : List Point). slice_get l 0) is;
+              is = refl;
+            };
+      },
+    )
+
+-- a reachable cell that has no box has no shapes
+pub bare : (cells : List Cell) (top n : ℕ) (hulls : List PairHull) → All IsCellOnGrid cells → IsShallow cells top
+    → IsReachable cells top n → AreCellHulls cells n hulls → hulls ≡ [] → shapes_at cells n ≡ []
+bare cells top n hulls grid shallow reach are none = by (shapes_at cells n) refl
+  where
+    no_vertex : (pair : Pair) (p : Point) → IsVertex cells n pair p → ⊥
+    no_vertex pair p vertex = subst (λ (l : List PairHull). IsHull (IsVertex cells n pair) (hull_in l pair)) none (are.1 pair) p vertex
+
+    by : (shapes : List Shape) → shapes_at cells n ≡ shapes → shapes_at cells n ≡ []
+    by [] e = e
+    by (shape ∷ rest) e =
+        let on = All-head IsShapeOnGrid shape rest (subst (All IsShapeOnGrid) e (shapes_on_grid cells grid n)) in
+        let v = first_vertex (shapes_at cells n) rest shape e on in
+        absurd (no_vertex shape.pair v.0 (own_vertex cells n shape.pair v.0 (length (shapes_at cells n)) (short_below cells top n shallow reach) v.1))
 
 -- ---- the first fault
 

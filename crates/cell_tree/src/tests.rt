@@ -507,3 +507,14 @@ fn hulls_of_turned_cells(rt: HostRuntime) {
     ask_hull(&rt, alloc, orient(true, 0, 1), frame(140, 20, 160, 40));
     ask_hull(&rt, alloc, orient(true, 1, 2), frame(100, 120, 140, 160));
 }
+
+#[test]
+fn cells_that_nothing_reaches(rt: HostRuntime) {
+    let alloc = rt.alloc();
+    let layout = of_square(&rt, alloc, 1, false);
+    let tree = resolve(alloc, layout, &name(&rt, alloc, b"A")).expect(&rt, "a tree");
+    assert!(rt; tree.cells().len() == 3, "three cells");
+    assert!(rt; !tree.is_bare(0), "A shows what B has");
+    assert!(rt; !tree.is_bare(1), "B has a square");
+    assert!(rt; tree.is_bare(2), "nothing places C");
+}

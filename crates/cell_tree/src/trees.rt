@@ -1,5 +1,5 @@
 //! The tree of a layout's cells.
-ghost use Rattle.std.specs.Prelude.{◌≡◌, ◌≢◌, ◌<◌, ◌^◌, ◌↔◌, ◌⊎◌, ℕ, length, slice_get, Some, None, Ok, Err, IfOk, IfErr, OnOk, IsOk, IsErrAnd};
+ghost use Rattle.std.specs.Prelude.{◌≡◌, ◌≢◌, ◌<◌, ◌^◌, ◌↔◌, ◌⊎◌, ℕ, [], length, slice_get, Some, None, Ok, Err, IfOk, IfErr, IsTrue, OnOk, IsOk, IsErrAnd};
 ghost use Rattle.layout_model.specs.Layouts.{IsLayoutOnGrid};
 ghost use Rattle.cell_tree.specs.Cells.{cell_number};
 ghost use Rattle.cell_tree.specs.Orders.{IsOrder};
@@ -50,7 +50,7 @@ impl Model for Tree {
 }
 
 impl Tree {
-    ghost use Rattle.cell_tree.specs.Cells.{placements_at};
+    ghost use Rattle.cell_tree.specs.Cells.{placements_at, shapes_at};
     ghost use Rattle.cell_tree.specs.Chains.{IsReachable};
     ghost use Rattle.cell_tree.specs.Flattening.{IsVertex};
     ghost use Rattle.cell_tree.specs.Boxes.{IsHull, IsBoxUpTo};
@@ -103,6 +103,15 @@ impl Tree {
         ensures { IsHull (IsVertex self.now.layout.cells cell pair) result }
     {
         hull_on(self.hulls[cell].as_slice(), pair)
+    }
+
+    /// Whether a cell has nothing to show. Where it says so, a reachable cell has no shapes of its own; of what no
+    /// placement reaches from the top cell it always says so.
+    pub fn is_bare(&self, cell: usize) -> bool
+        requires { cell < length self.now.layout.cells }
+        ensures { IsTrue result → IsReachable self.now.layout.cells self.now.top cell → shapes_at self.now.layout.cells cell ≡ [] }
+    {
+        self.hulls[cell].is_empty()
     }
 
     /// A box round all that a placement shows, of whatever pair, as the cell that has it counts, within 2^53 of 0. It is

@@ -13,6 +13,7 @@ use Rattle.layout_model.specs.Layouts.{IsCellOnGrid, IsShapeOnGrid}
 use Rattle.layout_model.specs.declared.shapes.Shape.{Shape}
 use Rattle.layout_model.specs.declared.cells.Cell.{Cell}
 use Rattle.cell_tree.specs.Cells.{shapes_at}
+use Rattle.cell_tree.specs.Chains.{IsReachable}
 use Rattle.cell_tree.proofs.ForCallers.{shapes_on_grid}
 use Rattle.flat_walk.specs.Tables.{HasShape, IsCut, with_pieces}
 use Rattle.flat_walk.proofs.ForCallers.{shape_stays, cut_here, cut_elsewhere, cut_beside}
@@ -114,23 +115,35 @@ module _ (cells : List Cell) (table : List (List (List Trapezoid))) (cell number
       (subst (λ m. IsCut (with_pieces table cell number pieces) cell m shape) (sym f)
       (cut_here table cell number shape pieces place covers)))
 
-  pub cut_more : AreCutUpTo cells table cell number → AreCutUpTo cells (with_pieces table cell number pieces) cell (number + 1)
-  cut_more cut = λ n k other early there. elim early [
-    | inl before ↦ cut_old n k other (λ both. (let e = both.0 in omega (arith, before, e))) (cut n k other (inl before) there)
+  pub cut_more : (top : ℕ) → AreCutUpTo cells top table cell number → AreCutUpTo cells top (with_pieces table cell number pieces) cell (number + 1)
+  cut_more top cut = λ n k other reach early there. elim early [
+    | inl before ↦ cut_old n k other (λ both. (let e = both.0 in omega (arith, before, e))) (cut n k other reach (inl before) there)
     | inr own ↦ elim (apart_or_same k number) [
       | inl e ↦ cut_new n k other own.0 e there
-      | inr d ↦ cut_old n k other (λ both. d both.1) (cut n k other (inr (own.0, before_or_at k number own.1 d)) there)
+      | inr d ↦ cut_old n k other (λ both. d both.1) (cut n k other reach (inr (own.0, before_or_at k number own.1 d)) there)
     ]
   ]
 
 -- the cell is cut
-pub cell_cut : (cells : List Cell) (table : List (List (List Trapezoid))) (cell number : ℕ)
-    → length (shapes_at cells cell) ≤ number → AreCutUpTo cells table cell number → AreCutUpTo cells table (cell + 1) 0
-cell_cut cells table cell number all cut = λ n k shape early there. elim early [
+pub cell_cut : (cells : List Cell) (top : ℕ) (table : List (List (List Trapezoid))) (cell number : ℕ)
+    → length (shapes_at cells cell) ≤ number → AreCutUpTo cells top table cell number → AreCutUpTo cells top table (cell + 1) 0
+cell_cut cells top table cell number all cut = λ n k shape reach early there. elim early [
   | inl before ↦ elim (apart_or_same n cell) [
-    | inl e ↦ (let inside = slice_get_within (shapes_at cells n) k shape there in cut n k shape
+    | inl e ↦ (let inside = slice_get_within (shapes_at cells n) k shape there in cut n k shape reach
         (inr (e, omega (arith, inside, all, ap (λ m. length (shapes_at cells m)) e))) there)
-    | inr d ↦ cut n k shape (inl (before_or_at n cell before d)) there
+    | inr d ↦ cut n k shape reach (inl (before_or_at n cell before d)) there
+  ]
+  | inr own ↦ absurd (omega (arith, own.1))
+]
+
+-- nothing is to be cut in the cell
+pub cell_bare : (cells : List Cell) (top : ℕ) (table : List (List (List Trapezoid))) (cell : ℕ)
+    → (IsReachable cells top cell → shapes_at cells cell ≡ []) → AreCutUpTo cells top table cell 0 → AreCutUpTo cells top table (cell + 1) 0
+cell_bare cells top table cell none cut = λ n k shape reach early there. elim early [
+  | inl before ↦ elim (apart_or_same n cell) [
+    | inl e ↦ absurd (none-some shape (sym (ap (λ (l : List Shape). slice_get l k)
+        (ap (λ m. shapes_at cells m) e ∙ none (subst (IsReachable cells top) e reach))) ∙ there))
+    | inr d ↦ cut n k shape reach (inl (before_or_at n cell before d)) there
   ]
   | inr own ↦ absurd (omega (arith, own.1))
 ]
@@ -141,6 +154,6 @@ cell_of (cell ∷ cells) zero k shape there = omega arith
 cell_of (cell ∷ cells) (suc n) k shape there = let h = cell_of cells n k shape there in omega (arith, h)
 
 -- all cells are cut
-pub all_cut : (cells : List Cell) (table : List (List (List Trapezoid))) (cell : ℕ) → length cells ≤ cell
-    → AreCutUpTo cells table cell 0 → AreAllCut cells table
-all_cut cells table cell all cut = λ n k shape there. cut n k shape (inl (omega (arith, all, cell_of cells n k shape there))) there
+pub all_cut : (cells : List Cell) (top : ℕ) (table : List (List (List Trapezoid))) (cell : ℕ) → length cells ≤ cell
+    → AreCutUpTo cells top table cell 0 → AreAllCut cells top table
+all_cut cells top table cell all cut = λ n k shape reach there. cut n k shape reach (inl (omega (arith, all, cell_of cells n k shape there))) there

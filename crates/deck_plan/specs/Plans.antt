@@ -4,6 +4,7 @@ use Rattle.half_grid.specs.Trapezoids.{Trapezoid, CoversExactly}
 use Rattle.half_grid.specs.Winding.{IsInPolygon}
 use Rattle.layout_model.specs.declared.shapes.Shape.{Shape}
 use Rattle.cell_tree.specs.Cells.{shapes_at}
+use Rattle.cell_tree.specs.Chains.{IsReachable}
 use Rattle.flat_walk.specs.Tables.{IsCut, HasShape, with_pieces}
 use Rattle.layout_model.specs.declared.cells.Cell.{Cell}
 use Rattle.deck_text.specs.Decks.{IsDeck}
@@ -25,13 +26,13 @@ pub record IsRead (deck : Deck) : Type 0 where
   pub deck_name : List ℕ
   pub is : IsDeck bytes layout_name deck_name deck
 
--- each shape of each cell has pieces that cover it
-abbrev pub AreAllCut : List Cell → List (List (List Trapezoid)) → Type 0
-AreAllCut cells table = (n k : ℕ) (shape : Shape) → slice_get (shapes_at cells n) k ≡ Some shape → IsCut table n k shape
+-- each shape of each reachable cell has pieces that cover it
+abbrev pub AreAllCut : List Cell → ℕ → List (List (List Trapezoid)) → Type 0
+AreAllCut cells top table = (n k : ℕ) (shape : Shape) → IsReachable cells top n → slice_get (shapes_at cells n) k ≡ Some shape → IsCut table n k shape
 
--- each shape of the cells before this one, and the first so many of this one
-abbrev pub AreCutUpTo : List Cell → List (List (List Trapezoid)) → ℕ → ℕ → Type 0
-AreCutUpTo cells table cell count = (n k : ℕ) (shape : Shape) → (n < cell) ⊎ ((n ≡ cell) × (k < count))
+-- each shape of the reachable cells before this one, and the first so many of this one
+abbrev pub AreCutUpTo : List Cell → ℕ → List (List (List Trapezoid)) → ℕ → ℕ → Type 0
+AreCutUpTo cells top table cell count = (n k : ℕ) (shape : Shape) → IsReachable cells top n → (n < cell) ⊎ ((n ≡ cell) × (k < count))
     → slice_get (shapes_at cells n) k ≡ Some shape → IsCut table n k shape
 
 -- a list that covers the shape's own tiles exactly is put in the place of shape k of cell n

@@ -13,7 +13,7 @@ use cell_tree::Tree;
 use flat_walk::Parts;
 use geo_stream::NoMemory;
 use half_grid::Trap;
-use layout_model::{Cell, Shape};
+use layout_model::Shape;
 use std::alloc::Global;
 
 // The pieces of one shape.
@@ -25,11 +25,11 @@ fn pieces_of(alloc: Global, shape: &Shape) -> Result<Vec<Trap>, NoMemory>
 }
 
 // The shapes of a cell.
-fn shapes_of(cells: &[Cell], cell: usize) -> &[Shape]
-    requires { cell < length cells.now }
-    ensures { result.now ≡ shapes_at cells.now cell }
+fn shapes_of(tree: &Tree, cell: usize) -> &[Shape]
+    requires { cell < length tree.now.layout.cells }
+    ensures { result.now ≡ shapes_at tree.now.layout.cells cell }
 {
-    cells[cell].shapes.as_slice()
+    tree.cells()[cell].shapes.as_slice()
 }
 
 fn shape_at(shapes: &[Shape], number: usize) -> &Shape
@@ -87,22 +87,25 @@ fn cut_shape(
     parts.put(cell, number, swept.as_slice())
 }
 
-// The pieces of the shapes of a cell.
+// The pieces of the shapes of a cell, or none where it has nothing to show.
 fn cut_cell(
     alloc: Global,
     parts: &mut Parts,
     traps: &mut Vec<Trap>,
-    cells: &[Cell],
+    tree: &Tree,
     cell: usize,
 ) -> Result<(), NoMemory>
-    requires grid { All IsCellOnGrid cells.now }
-    requires cell { cell < length cells.now }
-    requires shapes { HaveShapes cells.now parts.old }
-    requires before { AreCutUpTo cells.now parts.old cell 0 }
-    ensures shapes { OnOk result (HaveShapes cells.now parts.new) }
-    ensures cut { OnOk result (AreCutUpTo cells.now parts.new (cell + 1) 0) }
+    requires grid { All IsCellOnGrid tree.now.layout.cells }
+    requires cell { cell < length tree.now.layout.cells }
+    requires shapes { HaveShapes tree.now.layout.cells parts.old }
+    requires before { AreCutUpTo tree.now.layout.cells tree.now.top parts.old cell 0 }
+    ensures shapes { OnOk result (HaveShapes tree.now.layout.cells parts.new) }
+    ensures cut { OnOk result (AreCutUpTo tree.now.layout.cells tree.now.top parts.new (cell + 1) 0) }
 {
-    let shapes = shapes_of(cells, cell);
+    if tree.is_bare(cell) {
+        return Ok(());
+    }
+    let shapes = shapes_of(tree, cell);
     let mut number = 0;
     while number < shapes.len() {
         cut_shape(alloc, parts, traps, cell, number, shape_at(shapes, number))?;
@@ -111,16 +114,17 @@ fn cut_cell(
     Ok(())
 }
 
-/// The pieces of each shape of the tree's cells. Want of memory is the only refusal.
+/// The pieces of each shape of the cells that are reached from the top cell. Of the other cells nothing is cut. Want of
+/// memory is the only refusal.
 pub fn cut_parts(alloc: Global, tree: &Tree) -> Result<Parts, NoMemory>
-    ensures { IfOk result (λ parts. AreAllCut tree.now.layout.cells parts) }
+    ensures { IfOk result (λ parts. AreAllCut tree.now.layout.cells tree.now.top parts) }
 {
     let cells = tree.cells();
     let mut parts = Parts::new(alloc, tree)?;
     let mut traps = Vec::new(alloc);
     let mut cell = 0;
     while cell < cells.len() {
-        cut_cell(alloc, &mut parts, &mut traps, cells, cell)?;
+        cut_cell(alloc, &mut parts, &mut traps, tree, cell)?;
         cell += 1;
     }
     Ok(parts)

@@ -53,7 +53,7 @@ impl<'t> Model for Plan<'t> {
 
     ghost view = { λ plan. planned plan.deck.now plan.tree.now };
 
-    ghost invariant = { λ plan. IsRead plan.deck.now × AreAllCut plan.tree.now.layout.cells plan.parts × AreAllBoxed plan.tree.now.layout.cells plan.tree.now.top plan.parts plan.boxes };
+    ghost invariant = { λ plan. IsRead plan.deck.now × AreAllCut plan.tree.now.layout.cells plan.tree.now.top plan.parts × AreAllBoxed plan.tree.now.layout.cells plan.tree.now.top plan.parts plan.boxes };
 }
 
 impl<'t> Plan<'t> {

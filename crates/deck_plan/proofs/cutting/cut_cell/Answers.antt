@@ -4,25 +4,25 @@ use Rattle.half_grid.specs.Trapezoids.{Trapezoid}
 use Rattle.layout_model.specs.declared.shapes.Shape.{Shape}
 use Rattle.cell_tree.specs.Cells.{shapes_at}
 use Rattle.deck_plan.specs.Plans.{AreCutUpTo, HaveShapes}
-use Rattle.deck_plan.proofs.PieceLemmas.{shape_on_grid, shapes_put, cut_more, cell_cut}
+use Rattle.deck_plan.proofs.PieceLemmas.{shape_on_grid, shapes_put, cut_more, cell_cut, cell_bare}
 use Rattle.deck_plan.proofs.cutting.cut_cell.Goals as goal
 
 pub cut_shape-requires-clause-grid : goal.cut_shape-requires-clause-grid
 cut_shape-requires-clause-grid c =
     let here = subst (λ (shapes : List Shape). slice_get shapes c.loop-number.number ≡ Some c.shape_at.result.now)
     c.shapes_of-shapes.ensures c.shape_at.ensures in
-    shape_on_grid c.args.cells.now c.requires.grid c.args.cell c.loop-number.number c.shape_at.result.now here
+    shape_on_grid c.args.tree.now.layout.cells c.requires.grid c.args.cell c.loop-number.number c.shape_at.result.now here
 
 pub cut_shape-requires-clause-place : goal.cut_shape-requires-clause-place
 cut_shape-requires-clause-place c =
     let here = subst (λ (shapes : List Shape). slice_get shapes c.loop-number.number ≡ Some c.shape_at.result.now)
     c.shapes_of-shapes.ensures c.shape_at.ensures in
     c.loop-number.invariant.shapes c.args.cell c.loop-number.number c.requires.cell
-    (slice_get_within (shapes_at c.args.cells.now c.args.cell) c.loop-number.number c.shape_at.result.now here)
+    (slice_get_within (shapes_at c.args.tree.now.layout.cells c.args.cell) c.loop-number.number c.shape_at.result.now here)
 
 pub loop-number-preserved : goal.loop-number-preserved
 loop-number-preserved c =
-    let cells = c.args.cells.now in
+    let cells = c.args.tree.now.layout.cells in
     let n = c.loop-number.number in
     let shape : Shape = c.shape_at.result.now in
     let here = subst (λ (shapes : List Shape). slice_get shapes n ≡ Some shape) c.shapes_of-shapes.ensures c.shape_at.ensures in
@@ -30,13 +30,18 @@ loop-number-preserved c =
     record {
       shapes = subst (HaveShapes cells) (sym put.is)
           (shapes_put cells c.loop-number.parts c.args.cell n shape put.pieces c.requires.cell here c.loop-number.invariant.shapes put.covers);
-      cut = subst (λ (table : List (List (List Trapezoid))). AreCutUpTo cells table c.args.cell (n + 1)) (sym put.is)
+      cut = subst (λ (table : List (List (List Trapezoid))). AreCutUpTo cells c.args.tree.now.top table c.args.cell (n + 1)) (sym put.is)
           (cut_more cells c.loop-number.parts c.args.cell n shape put.pieces c.requires.cell here c.loop-number.invariant.shapes put.covers
-          c.loop-number.invariant.cut);
+          c.args.tree.now.top c.loop-number.invariant.cut);
       few = omega (arith, c.loop-number-test.true);
     }
 
 pub returns-clause-cut : goal.returns-clause-cut
 returns-clause-cut c =
     let all = ap (λ (shapes : List Shape). length shapes) c.shapes_of-shapes.ensures in
-    cell_cut c.args.cells.now c.loop-number.parts c.args.cell c.loop-number.number (omega (arith, all, c.loop-number-test.false)) c.loop-number.invariant.cut
+    cell_cut c.args.tree.now.layout.cells c.args.tree.now.top c.loop-number.parts c.args.cell c.loop-number.number
+    (omega (arith, all, c.loop-number-test.false)) c.loop-number.invariant.cut
+
+pub returns-then-is_bare-clause-cut : goal.returns-then-is_bare-clause-cut
+returns-then-is_bare-clause-cut c =
+    cell_bare c.args.tree.now.layout.cells c.args.tree.now.top c.args.parts.now c.args.cell (c.is_bare.ensures c.if-is_bare.true) c.requires.before

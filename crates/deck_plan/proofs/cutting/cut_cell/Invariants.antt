@@ -5,8 +5,8 @@ use Rattle.deck_plan.proofs.cutting.cut_cell.Given as goal
 -- the first shapes are cut
 abbrev pub invariant-loop-number : goal.invariant-loop-number
 invariant-loop-number l = record {
-  shapes : HaveShapes l.fn.cells l.parts;
-  cut : AreCutUpTo l.fn.cells l.parts l.fn.cell l.number;
+  shapes : HaveShapes l.fn.tree.layout.cells l.parts;
+  cut : AreCutUpTo l.fn.tree.layout.cells l.fn.tree.top l.parts l.fn.cell l.number;
   few : l.number ≤ length l.shapes;
 }
 

@@ -5,10 +5,10 @@ use Rattle.deck_plan.proofs.cutting.cut_parts.Given as goal
 -- the shapes of the first cells are cut
 abbrev pub invariant-loop-cell : goal.invariant-loop-cell
 invariant-loop-cell l = record {
-  shapes : HaveShapes l.cells l.parts;
-  cut : AreCutUpTo l.cells l.parts l.cell 0;
-  few : l.cell ≤ length l.cells;
+  shapes : HaveShapes l.fn.tree.layout.cells l.parts;
+  cut : AreCutUpTo l.fn.tree.layout.cells l.fn.tree.top l.parts l.cell 0;
+  few : l.cell ≤ length l.fn.tree.layout.cells;
 }
 
 abbrev pub decreases-loop-cell : goal.decreases-loop-cell
-decreases-loop-cell l = length l.cells - l.cell
+decreases-loop-cell l = length l.fn.tree.layout.cells - l.cell

@@ -1,4 +1,4 @@
-use Rattle.std.proofs.Common.{◌≡◌, ◌∙◌, ◌<◌, ◌^◌, List, Some, None, length, map, slice_get, refl, sym, ap, subst, arith}
+use Rattle.std.proofs.Common.{◌≡◌, ◌∙◌, ◌<◌, ◌^◌, Some, None, length, map, slice_get, refl, sym, ap, subst, arith}
 use Rattle.std.proofs.lemmas.Option.{same_Some, slice_get_read}
 use Rattle.layout_model.specs.Hulls.{IsInBox}
 use Rattle.layout_model.specs.Images.{image_of, moved}
