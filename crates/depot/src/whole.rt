@@ -1,5 +1,5 @@
 // Whole files over a depot that takes and gives bytes in pieces.
-ghost use Rattle.std.specs.Prelude.{◌≡◌, ◌⊎◌, ◌<◌, ◌≤◌, [], Some, IsTrue, IsSome, IfOk, OnOk, OnErr, IsErr, IsErrOf, ◌++◌, length, vec_len};
+ghost use Rattle.std.specs.Prelude.{◌≡◌, ◌⊎◌, ◌<◌, ◌≤◌, [], Some, IsTrue, IsSome, IfOk, OnOk, IsErr, IsErrOf, ◌++◌, length, vec_len};
 ghost use Rattle.depot.specs.Content.{held_as, IsNotThere, IsLongerThan, with_left, ChangesLeftOnly};
 ghost use Rattle.depot.specs.Counts.{Rose, NeverFall};
 ghost use Rattle.depot.specs.Counting.{CountsWrites};
