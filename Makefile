@@ -34,7 +34,7 @@ help:
 	@echo 'make hostile         gives it layouts that are made to be hard'
 	@echo 'make fuzz            gives it broken files'
 	@echo 'make slurm           runs strips on the batch system Slurm, where it is installed'
-	@echo 'make agree           sweeps random cases in columns and at once, and compares'
+	@echo 'make agree           sweeps 10,000 random cases in three ways, and compares'
 	@echo 'make bench           measures whole runs beside peers, and single layers; SIZE=large for the large layouts'
 	@echo 'make figures         measures all, and puts the tables into docs/: an hour'
 	@echo 'make pictures        draws the pictures of docs/'
@@ -145,10 +145,10 @@ endif
 figures: $(BENCH) $(PROGRAM)
 	tools/figures $(PROGRAM) $(BENCH) build/bench
 
-# A thousand random cases, swept in columns and at once, which must give the same trapezoids.
+# Ten thousand random cases, swept as the program does it, slab by slab and by the plane sweep: all must give the same trapezoids.
 agree: $(BENCH)
-	$(BENCH) agree 1000 | tee build/agree.txt
-	grep -q 'both ways' build/agree.txt
+	$(BENCH) agree 10000 | tee build/agree.txt
+	grep -q 'each way' build/agree.txt
 
 # The program, its man page and its documents.
 install: $(PROGRAM)

@@ -10,7 +10,7 @@ mod shapes;
 mod uniting;
 mod walking;
 
-use agreeing::{Agreement, sweep_both_ways};
+use agreeing::{Agreement, sweep_each_way};
 use reading::{time_gds, time_oasis};
 use std::alloc::Global;
 use std::process::ExitCode;
@@ -31,7 +31,7 @@ enum Task {
     Oasis(u32),
     /// Walks over a flat cell of this many squares a side, an array of this many cells a side, and nested arrays.
     Walk(u16),
-    /// So many random cases, in columns and at once.
+    /// So many random cases, swept in each way.
     Agree(u32),
 }
 
@@ -71,9 +71,9 @@ fn asked(words: &[String]) -> Option<Task> {
 }
 
 fn compare(rt: &HostRuntime, alloc: Global, count: u32) -> io::Result<()> {
-    match sweep_both_ways(alloc, count) {
+    match sweep_each_way(alloc, count) {
         Agreement::All(traps) => println!(rt;
-            "agree: {count} cases, {traps} maximal trapezoids both ways"
+            "agree: {count} cases, {traps} maximal trapezoids each way"
         ),
         Agreement::NotIn(number) => println!(rt; "agree: case {number} differs"),
         Agreement::Unknown => println!(rt; "agree: want of memory"),
