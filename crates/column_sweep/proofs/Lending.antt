@@ -13,7 +13,7 @@ use Rattle.column_sweep.specs.Sweeps.{IsSwept}
 use Rattle.column_sweep.specs.Tries.{IsTried}
 use Rattle.column_sweep.specs.declared.sweep.Tried.{Tried}
 use Rattle.column_sweep.specs.declared.sweep.Tried.TheVariants.{Whole, GivenUp}
-use Rattle.column_sweep.specs.declared.lowest_tile.LowestTile.{LowestTile}
+use Rattle.plane_sweep.specs.declared.lowest_tile.LowestTile.{LowestTile}
 
 no_winding : IsWinding (pos 0)
 no_winding = record { low = omega (arith, ints); high = omega (arith, ints) }

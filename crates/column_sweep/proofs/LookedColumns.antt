@@ -16,12 +16,12 @@ use Rattle.half_grid.proofs.ForCallers.{windings_add, i_low, i_high}
 use Rattle.scan_line.specs.Rules.{IsRule}
 use Rattle.scan_line.specs.Runs.{IsBalanced}
 use Rattle.trap_join.specs.Joins.{IsTakenIn}
-use Rattle.column_sweep.specs.Lowest.{ComesNoLater, IsLowest, TakesNone}
+use Rattle.plane_sweep.specs.Lowest.{ComesNoLater, IsLowest, TakesNone}
 use Rattle.column_sweep.specs.Looking.{rows_below, begins_below, first_of, AddUpIn, AreLeftIn, IsLowestLeftOf, IsFoundLeftOf, IsLookedTo, IsFirstTaken}
 use Rattle.column_sweep.specs.RowSums.{any_line, sum_among}
 use Rattle.column_sweep.specs.Parts.{LiesLeft, LiesRight, AreParts}
 use Rattle.column_sweep.specs.Sewing.{AreLeft}
-use Rattle.column_sweep.specs.declared.lowest_tile.LowestTile.{LowestTile}
+use Rattle.plane_sweep.specs.declared.lowest_tile.LowestTile.{LowestTile}
 use Rattle.column_sweep.proofs.Adding.{winding_is_sum, has_right, sum_cons, sum_one, sum_append, balanced_by_sum, sum_by_balance}
 use Rattle.column_sweep.proofs.Closing.{left_of_right, right_of_left}
 use Rattle.column_sweep.proofs.LowestTiles.{none_of_given, lowest_of_given}

@@ -20,8 +20,8 @@ use Rattle.scan_line.specs.declared.runs.Run.{Run}
 use Rattle.scan_line.proofs.ForCallers.{taken_permuted, winding_permuted}
 use Rattle.trap_join.specs.Joins.{IsTakenIn}
 use Rattle.trap_join.proofs.ForCallers.{some_member}
-use Rattle.column_sweep.specs.Lowest.{ComesNoLater, IsLowest, TakesNone}
-use Rattle.column_sweep.specs.declared.lowest_tile.LowestTile.{LowestTile}
+use Rattle.plane_sweep.specs.Lowest.{ComesNoLater, IsLowest, TakesNone}
+use Rattle.plane_sweep.specs.declared.lowest_tile.LowestTile.{LowestTile}
 
 -- ---- what lies between two Y at which it is within reach
 

@@ -1,7 +1,6 @@
 -- ---- what is promised, in reading order
 pub mod Sweeps
 pub mod ColumnLaws
-pub mod Lowest
 pub mod Operands
 pub mod RowSums
 -- ---- what is kept inside

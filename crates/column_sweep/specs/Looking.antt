@@ -9,9 +9,9 @@ use Rattle.half_grid.specs.declared.border.Operand.TheVariants.{A, B}
 use Rattle.half_grid.specs.declared.plane.Line.{Line}
 use Rattle.half_grid.specs.declared.plane.Tile.{Tile}
 use Rattle.trap_join.specs.Joins.{IsTakenIn}
-use Rattle.column_sweep.specs.Lowest.{ComesNoLater, IsLowest, TakesNone}
+use Rattle.plane_sweep.specs.Lowest.{ComesNoLater, IsLowest, TakesNone}
 use Rattle.column_sweep.specs.RowSums.{sum_among, row_sum}
-use Rattle.column_sweep.specs.declared.lowest_tile.LowestTile.{LowestTile}
+use Rattle.plane_sweep.specs.declared.lowest_tile.LowestTile.{LowestTile}
 
 -- the rows of the window below the tile that was found, and all of them where none was
 abbrev pub rows_below : RowRange → Option LowestTile → RowRange

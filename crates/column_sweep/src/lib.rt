@@ -23,7 +23,7 @@ mod waiting;
 pub use counted::Swept;
 pub use laws::column_laws;
 pub use looking::lowest;
-pub use lowest_tile::LowestTile;
 pub use meeting::put_edge;
 pub use operands::operand_edges;
+pub use plane_sweep::LowestTile;
 pub use sweep::{plain, swept, swept_counted};

@@ -4,18 +4,19 @@ ghost use Rattle.half_grid.specs.Edges.{EdgeParts, IsEdge};
 ghost use Rattle.half_grid.specs.Reach.{IsWithinReach};
 ghost use Rattle.scan_line.specs.Rules.{IsRule};
 ghost use Rattle.scan_line.specs.Runs.{IsBalanced};
-ghost use Rattle.column_sweep.specs.Lowest.{IsLowest, TakesNone};
+ghost use Rattle.plane_sweep.specs.Lowest.{IsLowest, TakesNone};
 ghost use Rattle.column_sweep.specs.Looking.{rows_below, begins_below, first_of, AddUpIn, IsLookedTo, IsFoundLeftOf, IsFirstTaken};
 ghost use Rattle.column_sweep.specs.Parts.{LiesRight};
 
 use crate::columns::{before_all, is_next, know_edges};
-use crate::cuts::{Cut, chosen_cuts};
+use crate::cuts::{Cut, are_often_crossed, chosen_cuts};
 use crate::dealing::sort_for_cuts;
-use crate::lowest_tile::{LowestTile, lowest_within};
+use crate::lowest_tile::lowest_within;
 use crate::parting::parted;
 use crate::waiting::split_before;
 use geo_stream::NoMemory;
 use half_grid::{Edge, Window};
+use plane_sweep::LowestTile;
 use scan_line::Rule;
 use std::alloc::Global;
 
@@ -198,7 +199,7 @@ pub(crate) fn lowest_at<F: Fn(i128, i128) -> bool + Drop>(
 /// many edges that go up as edges that go down.
 ///
 /// Each column is swept from below, and only below the lowest tile that another one has. So above the first column's
-/// tile nothing is looked at any more.
+/// tile nothing is looked at any more. Where edges that lean cross the cuts often, `plane_sweep` looks for it.
 pub fn lowest<F: Fn(i128, i128) -> bool + Drop>(
     alloc: Global,
     edges: Vec<Edge>,
@@ -211,5 +212,8 @@ pub fn lowest<F: Fn(i128, i128) -> bool + Drop>(
     ensures none { IfOk result (λ answer. IfNone answer (TakesNone (F.post rule) edges.items window)) }
 {
     let cuts = chosen_cuts(alloc, edges.as_slice())?;
+    if are_often_crossed(edges.as_slice(), cuts.as_slice()) {
+        return plane_sweep::lowest(alloc, edges, window, rule);
+    }
     lowest_at(alloc, edges, window, &rule, cuts.as_slice())
 }

@@ -3,24 +3,14 @@ ghost use Rattle.half_grid.specs.Rows.{number_in_row, place};
 ghost use Rattle.half_grid.specs.Trapezoids.{IsShot, trapezoid};
 ghost use Rattle.scan_line.specs.Rules.{IsRule, IsWinding, Takes};
 ghost use Rattle.scan_line.specs.Runs.{IsBalanced};
-ghost use Rattle.column_sweep.specs.Lowest.{IsLowest, TakesNone};
+ghost use Rattle.plane_sweep.specs.Lowest.{IsLowest, TakesNone};
 ghost use Rattle.column_sweep.specs.Looking.{IsFirstTaken};
 
 use geo_stream::NoMemory;
 use half_grid::{Edge, Tile, Window, place_of, tile_at};
+use plane_sweep::LowestTile;
 use scan_line::{Rule, Run, Scan, Slab};
 use std::alloc::Global;
-
-/// A tile and its windings.
-#[derive(Clone, Copy, Debug, PartialEq, Eq)]
-pub struct LowestTile {
-    /// The tile.
-    pub tile: Tile,
-    /// The winding of operand A there.
-    pub a: i128,
-    /// The winding of operand B there.
-    pub b: i128,
-}
 
 // The leftmost tile of a run in the lowest row of its slab.
 fn first_tile(slab: Slab, run: &Run) -> Tile

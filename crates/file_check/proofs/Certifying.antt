@@ -9,7 +9,7 @@ use Rattle.half_grid.specs.Trapezoids.{Trapezoid, CoversExactly, count_in}
 use Rattle.half_grid.specs.declared.plane.Tile.{Tile}
 use Rattle.half_grid.specs.declared.shot.Limits.{Limits}
 use Rattle.half_grid.proofs.ForCallers.{same_number}
-use Rattle.column_sweep.specs.Lowest.{ComesNoLater}
+use Rattle.plane_sweep.specs.Lowest.{ComesNoLater}
 use Rattle.shot_checker.specs.Verdicts.{Fits, IsFirstTooLarge}
 use Rattle.shot_checker.specs.declared.verdicts.Verdict.{Verdict}
 use Rattle.shot_checker.specs.declared.verdicts.Verdict.TheVariants.{Exact, Miscovered, TooLarge}

@@ -7,7 +7,7 @@
 use Rattle.std.specs.Prelude.{ℕ, ◌≡◌, List, All}
 use Rattle.half_grid.specs.Trapezoids.{Trapezoid, CoversExactly, count_in}
 use Rattle.half_grid.specs.declared.plane.Tile.{Tile}
-use Rattle.column_sweep.specs.Lowest.{ComesNoLater}
+use Rattle.plane_sweep.specs.Lowest.{ComesNoLater}
 use Rattle.shot_checker.specs.Verdicts.{Fits}
 use Rattle.deck_plan.specs.Areas.{IsInOutput}
 use Rattle.deck_plan.specs.Plans.{Planned}

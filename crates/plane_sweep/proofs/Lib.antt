@@ -51,3 +51,5 @@ pub mod SweepSteps
 pub mod SweptParts
 pub mod EdgePart
 pub mod PackedLemmas
+pub mod LowestLemmas
+pub mod LowestSoFar

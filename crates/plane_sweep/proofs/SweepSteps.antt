@@ -86,7 +86,7 @@ no_lines edges j lines none list = none_like lines (one_row_list edges j lines [
 no_room : (y z : ℤ) → IsOutside y ((y +ℤ pos 1) -ℤ pos 1) z
 no_room y z = by_lt_z y z (λ lt. inr (omega (arith, ints, lt))) (λ le. inl le)
 
-ends_nowhere : (y : ℤ) (edges : List EdgeParts) → NoEnds edges y ((y +ℤ pos 1) -ℤ pos 1)
+pub ends_nowhere : (y : ℤ) (edges : List EdgeParts) → NoEnds edges y ((y +ℤ pos 1) -ℤ pos 1)
 ends_nowhere y [] = All-nil (λ e. IsOutside y ((y +ℤ pos 1) -ℤ pos 1) e.y0 × IsOutside y ((y +ℤ pos 1) -ℤ pos 1) e.y1)
 ends_nowhere y (e ∷ edges) =
     All-cons (λ f. IsOutside y ((y +ℤ pos 1) -ℤ pos 1) f.y0 × IsOutside y ((y +ℤ pos 1) -ℤ pos 1) f.y1) e edges (no_room y e.y0, no_room y e.y1)

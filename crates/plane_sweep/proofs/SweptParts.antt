@@ -98,7 +98,7 @@ module _ (post : ℤ → ℤ → Bool → Type 0) (edges : List EdgeParts) (wind
   abbrev Parts : Tile → Type 0
   Parts = IsTakenIn post (parts_in window edges) window
 
-  whole : (t : Tile) → Parts t → Whole t
+  pub whole : (t : Tile) → Parts t → Whole t
   whole t h = record {
     from = h.from;
     below = h.below;
@@ -107,7 +107,7 @@ module _ (post : ℤ → ℤ → Bool → Type 0) (edges : List EdgeParts) (wind
         (subst (λ (b : ℤ). post (edges_winding A (parts_in window edges) t) b true) (winds_in_window B window edges t h.from h.below) h.taken);
   }
 
-  parts : (t : Tile) → Whole t → Parts t
+  pub parts : (t : Tile) → Whole t → Parts t
   parts t h = record {
     from = h.from;
     below = h.below;

@@ -1,5 +1,6 @@
 -- ---- what is promised, in reading order
 pub mod SweptLists
+pub mod Lowest
 pub mod PlaneSweeps
 pub mod Sweeps
 pub mod Settled

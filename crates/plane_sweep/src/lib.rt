@@ -10,6 +10,7 @@ mod bundle;
 mod entry;
 mod event;
 mod laws;
+mod lowest_tile;
 mod next_stop;
 mod packed;
 mod parts;
@@ -24,5 +25,6 @@ mod tests;
 
 pub use event::{EventSource, SortedEvents};
 pub use laws::settle_laws;
+pub use lowest_tile::{LowestTile, lowest};
 pub use rows::RowSweep;
 pub use sweep::{Sweep, swept};

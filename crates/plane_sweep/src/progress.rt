@@ -50,17 +50,12 @@ fn after(level: Level) -> Level
 
 impl Progress {
     /// Below the window, where there are no lines. Edges count by their parts in the rows of the window.
-    pub(crate) fn begin(
-        alloc: Global,
-        edges: Vec<Edge>,
-        window: Window,
-    ) -> Result<Progress, NoMemory>
-        ensures below { IfOk result (IsBelowAll (parts_in window edges.items) window) }
+    pub(crate) fn begin(alloc: Global, edges: &[Edge], window: Window) -> Result<Progress, NoMemory>
+        ensures below { IfOk result (IsBelowAll (parts_in window edges.now) window) }
         ensures window { IfOk result (λ progress. progress.window ≡ window) }
     {
-        know_parts(edges.as_slice(), window);
-        let events = SortedEvents::of_parts(alloc, edges.as_slice(), window)?;
-        drop(edges);
+        know_parts(edges, window);
+        let events = SortedEvents::of_parts(alloc, edges, window)?;
         Ok(Progress {
             window,
             events,
@@ -69,8 +64,11 @@ impl Progress {
         })
     }
 
-    // Goes over the next stop. False where none is left.
-    fn advance<F: Fn(i128, i128) -> bool>(&mut self, rule: &Rule<F>) -> Result<bool, NoMemory>
+    /// Goes over the next stop. False where none is left.
+    pub(crate) fn advance<F: Fn(i128, i128) -> bool>(
+        &mut self,
+        rule: &Rule<F>,
+    ) -> Result<bool, NoMemory>
         requires rule { IsRule (F.pre rule.now) (F.post rule.now) }
         requires given { (edges : List EdgeParts) × (given : List Trapezoid) × HasComeTo (F.post rule.now) edges self.old given }
         ensures given { (edges : List EdgeParts) (given : List Trapezoid) → HasComeTo (F.post rule.now) edges self.old given → OnOk result (HasComeTo (F.post rule.now) edges self.new given) }

@@ -52,7 +52,7 @@ impl<F: Fn(i128, i128) -> bool> Sweep<F> {
         ensures window { IfOk result (λ sweep. sweep.window ≡ window) }
         ensures going { IfOk result (λ sweep. sweep.failed ≡ false) }
     {
-        let progress = Progress::begin(alloc, edges, window)?;
+        let progress = Progress::begin(alloc, edges.as_slice(), window)?;
         Ok(Sweep {
             rule,
             progress,

@@ -3,8 +3,8 @@
 ghost use Rattle.std.specs.Prelude.{◌≡◌, ◌&&◌, pos, not};
 ghost use Rattle.std.specs.Ordering.{int_eq};
 
-use crate::{EventSource, RowSweep, SortedEvents, Sweep, settle_laws, swept};
-use half_grid::{Edge, Line, Operand, Trap, Window};
+use crate::{EventSource, LowestTile, RowSweep, SortedEvents, Sweep, lowest, settle_laws, swept};
+use half_grid::{Edge, Line, Operand, Side, Tile, Trap, Window};
 use scan_line::Rule;
 use std::test::Fail;
 
@@ -143,5 +143,34 @@ fn through_one_point(rt: HostRuntime) -> Result<(), Fail> {
     for (trap, due) in traps.iter().zip(wanted.iter()) {
         assert_eq!(rt; Some(*trap), *due);
     }
+    Ok(())
+}
+
+#[test]
+fn lowest_of_two_bars(rt: HostRuntime) -> Result<(), Fail> {
+    // the lower bar is open when the sweep ends, and the other one ended before
+    let high = Trap::new(4, 8, Line::Upright(0), Line::Upright(10)).ok_or("no bar")?;
+    let low = Trap::new(2, 12, Line::Falling(12), Line::Upright(30)).ok_or("no bar")?;
+    let edges = vec![in rt.alloc();
+        Edge::left_of(&high, Operand::A),
+        Edge::right_of(&high, Operand::A),
+        Edge::left_of(&low, Operand::B),
+        Edge::right_of(&low, Operand::B),
+    ]?;
+    let rule = Rule::new(
+        |a: i128, b: i128| -> bool
+            ensures { result ≡ not (int_eq a b) }
+        { a != b },
+    );
+    let rows = Window::new(0, 40).ok_or("no window")?;
+    let tile = Tile {
+        i: 21,
+        j: 2,
+        side: Side::Right,
+    };
+    assert_eq!(rt;
+        lowest(rt.alloc(), edges, rows, rule)?,
+        Some(LowestTile { tile, a: 0, b: 1 })
+    );
     Ok(())
 }

@@ -2,7 +2,7 @@
 use Rattle.std.specs.Prelude.{ℤ, pos, ◌≤ℤ◌, ◌<ℤ◌, ◌≡◌, ◌^◌, List}
 use Rattle.half_grid.specs.Trapezoids.{Trapezoid, count_in}
 use Rattle.half_grid.specs.Windows.{RowRange}
-use Rattle.column_sweep.specs.declared.lowest_tile.LowestTile.{LowestTile}
+use Rattle.plane_sweep.specs.declared.lowest_tile.LowestTile.{LowestTile}
 use Rattle.shot_checker.specs.Verdicts.{IsLowestMiscovered}
 
 -- a list has fewer than 2^64 items

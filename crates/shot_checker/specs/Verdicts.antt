@@ -8,7 +8,7 @@ use Rattle.half_grid.specs.Trapezoids.{Trapezoid, FitsLimits, count_in}
 use Rattle.half_grid.specs.Windows.{RowRange}
 use Rattle.half_grid.specs.declared.plane.Tile.{Tile}
 use Rattle.half_grid.specs.declared.shot.Limits.{Limits}
-use Rattle.column_sweep.specs.Lowest.{ComesNoLater}
+use Rattle.plane_sweep.specs.Lowest.{ComesNoLater}
 
 abbrev pub Fits : Limits → Trapezoid → Type 0
 Fits limits z = FitsLimits limits.height limits.width z

@@ -1,7 +1,7 @@
 use Rattle.std.proofs.Common.{ℤ, Bool}
 use Rattle.std.specs.Prelude.{IfSome, IfNone}
 use Rattle.std.proofs.lemmas.Result.{IfOk-weaker}
-use Rattle.column_sweep.specs.Lowest.{IsLowest, TakesNone}
+use Rattle.plane_sweep.specs.Lowest.{IsLowest, TakesNone}
 use Rattle.column_sweep.proofs.LookedColumns.{first_some, first_none}
 use Rattle.column_sweep.proofs.looking.lowest.Goals as goal
 
