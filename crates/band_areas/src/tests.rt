@@ -10,7 +10,7 @@ use deck_plan::Plan;
 use deck_text::{Deck, read_deck};
 use geo_stream::List;
 use half_grid::{Point, Trap, Window};
-use layout_model::{Cell, Counts, Layout, Name, Offsets, Pair, Shape};
+use layout_model::{Cell, Counts, KeptShape, Layout, Name, Offsets, Pair};
 use std::alloc::Global;
 use std::process::Abort;
 
@@ -39,11 +39,11 @@ fn only<T: Drop>(rt: &impl Abort, alloc: Global, item: T) -> List<T>
     list
 }
 
-fn triangle(rt: &impl Abort, alloc: Global) -> Shape
+fn triangle(rt: &impl Abort, alloc: Global) -> KeptShape
     ensures { IsShapeOnGrid result }
 {
     let places = Offsets::list(alloc, &PLACES).expect(rt, "memory");
-    Shape::new(alloc, METAL, &TRIANGLE, places).expect(rt, "a shape")
+    KeptShape::new(alloc, METAL, &TRIANGLE, places).expect(rt, "a shape")
 }
 
 fn layout(rt: &impl Abort, alloc: Global) -> Layout

@@ -8,7 +8,7 @@ ghost use Rattle.bool_ops.specs.Operations.{AreRowsOf, ArePieces};
 use crate::unions::unite;
 use geo_stream::{NoMemory, gather};
 use half_grid::{Operand, Point, Trap, Window};
-use layout_model::Shape;
+use layout_model::KeptShape;
 use scan_line::EdgesOf;
 use std::alloc::Global;
 
@@ -77,15 +77,16 @@ fn pieces_in(alloc: Global, points: &[Point]) -> Result<Vec<Trap>, NoMemory>
 
 /// The joined list of the tiles in a shape's outline as it is drawn, moved by none of its offsets, over all its rows, by
 /// the nonzero rule. The outline is closed, on the half grid and within reach. Want of memory is the only refusal.
-pub fn pieces(alloc: Global, shape: &Shape) -> Result<Vec<Trap>, NoMemory>
+pub fn pieces(alloc: Global, shape: &KeptShape) -> Result<Vec<Trap>, NoMemory>
     requires closed { IsClosed shape.now.points }
     requires grid { HasGridEdges shape.now.points }
     requires reach { All IsPointWithinReach shape.now.points }
     ensures { IfOk result (λ traps. ArePieces shape.now.points traps.items) }
 {
-    if let Some(points) = shape.points.as_slice() {
+    let outline = shape.outline();
+    if let Some(points) = outline.as_slice() {
         return pieces_in(alloc, points);
     }
-    let points = shape.points.to_vec(alloc)?;
+    let points = outline.to_vec(alloc)?;
     pieces_in(alloc, points.as_slice())
 }

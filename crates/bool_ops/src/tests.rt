@@ -8,7 +8,7 @@ use crate::{Op, combine, left_over, lone_piece, monotone_pieces, pieces};
 use column_sweep::operand_edges;
 use geo_stream::NoMemory;
 use half_grid::{Line, Point, Trap, Window, size_of};
-use layout_model::{Offsets, Pair, Shape};
+use layout_model::{KeptShape, Offsets, Pair};
 use std::alloc::Global;
 use std::process::Abort;
 use std::test::Fail;
@@ -137,7 +137,7 @@ fn a_figure_eight(rt: HostRuntime) -> Result<(), Fail> {
         datatype: 0,
     };
     let place = Offsets::list(rt.alloc(), &[Point { x: 0, y: 0 }])?;
-    let Ok(shape) = Shape::new(rt.alloc(), pair, &EIGHT, place) else {
+    let Ok(shape) = KeptShape::new(rt.alloc(), pair, &EIGHT, place) else {
         return Err("no shape".into());
     };
     let traps = pieces(rt.alloc(), &shape)?;
@@ -256,7 +256,7 @@ fn known(rt: &impl Abort, alloc: Global, points: &[Point]) -> Result<usize, Fail
         datatype: 0,
     };
     let place = Offsets::list(alloc, &[Point { x: 0, y: 0 }])?;
-    let Ok(shape) = Shape::new(alloc, pair, points, place) else {
+    let Ok(shape) = KeptShape::new(alloc, pair, points, place) else {
         return Err("no shape".into());
     };
     let swept = pieces(alloc, &shape)?;

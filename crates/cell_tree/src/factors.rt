@@ -11,7 +11,7 @@ ghost use Rattle.cell_tree.specs.declared.factors.Far.{Far as AFar};
 
 use crate::linked::Linked;
 use geo_stream::NoMemory;
-use layout_model::{Placement, Shape};
+use layout_model::{KeptShape, Placement};
 use std::alloc::Global;
 
 // A factor from here on is too great, and of greater ones no more is known.
@@ -35,11 +35,11 @@ pub(crate) struct Scaled {
 }
 
 // Whether one of the shapes may not be enlarged.
-fn has_fixed(shapes: &[Shape]) -> bool
+fn has_fixed(shapes: &[KeptShape]) -> bool
     ensures { IsTrue result ↔ HasFixedShape shapes.now }
 {
     for shape in shapes {
-        if shape.fixed {
+        if shape.is_fixed() {
             return true;
         }
     }

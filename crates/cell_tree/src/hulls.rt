@@ -16,7 +16,7 @@ use crate::boxes::{joined, moved, oriented, summed};
 use crate::linked::Linked;
 use geo_stream::NoMemory;
 use half_grid::Frame;
-use layout_model::{Orient, Pair, Placement, Shape};
+use layout_model::{KeptShape, Orient, Pair, Placement};
 use std::alloc::Global;
 
 /// A pair, and the least box of what is on it.
@@ -125,23 +125,23 @@ fn widen(hulls: &mut Vec<PairHull>, pair: Pair, by: Frame) -> Result<(), NoMemor
 }
 
 // The box of a shape at all its offsets.
-fn shape_hull(shape: &Shape) -> Frame
+fn shape_hull(shape: &KeptShape) -> Frame
     requires { IsShapeOnGrid shape.now }
     ensures { IsLeastBox (ShapeVertex shape.now) result }
 {
-    let outline = shape.points.hull();
-    let moves = shape.offsets.hull();
+    let outline = shape.hull();
+    let moves = shape.spread();
     summed(outline, moves)
 }
 
 // The boxes of shapes.
-fn own_hulls(alloc: Global, shapes: &[Shape]) -> Result<Vec<PairHull>, NoMemory>
+fn own_hulls(alloc: Global, shapes: &[KeptShape]) -> Result<Vec<PairHull>, NoMemory>
     requires { All IsShapeOnGrid shapes.now }
     ensures { IfOk result (λ hulls. AreOwnHulls shapes.now hulls.items) }
 {
     let mut hulls = Vec::new(alloc);
     for shape in shapes {
-        widen(&mut hulls, shape.pair, shape_hull(shape))?;
+        widen(&mut hulls, shape.pair(), shape_hull(shape))?;
     }
     Ok(hulls)
 }

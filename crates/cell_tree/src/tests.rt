@@ -7,7 +7,9 @@ use crate::linked::number_of;
 use crate::{Tree, TreeBad, resolve};
 use geo_stream::List;
 use half_grid::{Frame, Point};
-use layout_model::{Cell, Counts, Layout, Name, Offsets, Orient, Pair, Placement, Shape};
+use layout_model::{
+    Cell, Counts, KeptShape, Layout, Name, Offsets, Orient, Pair, Placement, Shape,
+};
 use std::alloc::Global;
 use std::process::Abort;
 
@@ -56,13 +58,13 @@ const RING: [Point; 5] = [
 const PLACES: [Point; 1] = [Point { x: 0, y: 0 }];
 
 // A square of 10 grid steps, which may be fixed.
-fn square(rt: &impl Abort, alloc: Global, fixed: bool) -> Shape
+fn square(rt: &impl Abort, alloc: Global, fixed: bool) -> KeptShape
     ensures { IsShapeOnGrid result }
 {
     let places = Offsets::list(alloc, &PLACES).expect(rt, "memory");
     let mut shape = Shape::new(alloc, METAL, &RING, places).expect(rt, "a shape");
     shape.fixed = fixed;
-    shape
+    KeptShape::of(alloc, shape).expect(rt, "memory")
 }
 
 // The cell of this name, placed once at (40, 0), enlarged so many times.
@@ -86,7 +88,7 @@ fn more(rt: &impl Abort, mut cells: List<Cell>, cell: Cell) -> List<Cell>
     cells
 }
 
-fn cell(name: Name, shapes: List<Shape>, placements: List<Placement>) -> Cell
+fn cell(name: Name, shapes: List<KeptShape>, placements: List<Placement>) -> Cell
     requires shapes { All IsShapeOnGrid shapes }
     requires placements { All IsPlacementOnGrid placements }
     ensures grid { IsCellOnGrid result }
@@ -104,7 +106,7 @@ fn layout(
     rt: &impl Abort,
     alloc: Global,
     mag: u8,
-    shapes: List<Shape>,
+    shapes: List<KeptShape>,
     placements: List<Placement>,
 ) -> Layout
     requires some { 1 ≤ mag }
@@ -409,22 +411,20 @@ fn two(rt: &impl Abort, alloc: Global, first: Placement, second: Placement) -> L
     both
 }
 
-// The shape at these places.
-fn repeated(mut shape: Shape, offsets: Offsets) -> Shape
-    requires shape { IsShapeOnGrid shape }
-    requires offsets { AreOffsets offsets }
+// A square of 10 grid steps at these places.
+fn repeated(rt: &impl Abort, alloc: Global, offsets: Offsets) -> KeptShape
+    requires { AreOffsets offsets }
     ensures { IsShapeOnGrid result }
 {
-    shape.offsets = offsets;
-    shape
+    KeptShape::new(alloc, METAL, &RING, offsets).expect(rt, "a shape")
 }
 
 // C is a square at 2^24 places, A and B place it 2^15 times each, and T has these shapes and places A and B.
-fn diamond(rt: &impl Abort, alloc: Global, shapes: List<Shape>) -> Layout
+fn diamond(rt: &impl Abort, alloc: Global, shapes: List<KeptShape>) -> Layout
     requires { All IsShapeOnGrid shapes }
     ensures { IsLayoutOnGrid result }
 {
-    let many = repeated(square(rt, alloc, false), copies(rt, alloc, 16777216));
+    let many = repeated(rt, alloc, copies(rt, alloc, 16777216));
     let name_c = name(rt, alloc, b"C");
     let squares = cell(name_c, only(rt, alloc, many), List::new(alloc));
     let layout = with_cell(rt, no_cells(alloc), squares);

@@ -13,11 +13,11 @@ use cell_tree::Tree;
 use flat_walk::Parts;
 use geo_stream::NoMemory;
 use half_grid::Trap;
-use layout_model::Shape;
+use layout_model::KeptShape;
 use std::alloc::Global;
 
 // The pieces of one shape.
-fn pieces_of(alloc: Global, shape: &Shape) -> Result<Vec<Trap>, NoMemory>
+fn pieces_of(alloc: Global, shape: &KeptShape) -> Result<Vec<Trap>, NoMemory>
     requires { IsShapeOnGrid shape.now }
     ensures { IfOk result (λ traps. CoversExactly traps.items (IsInPolygon shape.now.points)) }
 {
@@ -25,14 +25,14 @@ fn pieces_of(alloc: Global, shape: &Shape) -> Result<Vec<Trap>, NoMemory>
 }
 
 // The shapes of a cell.
-fn shapes_of(tree: &Tree, cell: usize) -> &[Shape]
+fn shapes_of(tree: &Tree, cell: usize) -> &[KeptShape]
     requires { cell < length tree.now.layout.cells }
     ensures { result.now ≡ shapes_at tree.now.layout.cells cell }
 {
     tree.cells()[cell].shapes.as_slice()
 }
 
-fn shape_at(shapes: &[Shape], number: usize) -> &Shape
+fn shape_at(shapes: &[KeptShape], number: usize) -> &KeptShape
     requires { number < length shapes.now }
     ensures { slice_get shapes.now number ≡ Some result.now }
 {
@@ -41,11 +41,11 @@ fn shape_at(shapes: &[Shape], number: usize) -> &Shape
 
 // The one piece of a shape that is a rectangle or a trapezoid and has its points in place.
 #[inline]
-fn lone_piece_of(shape: &Shape) -> Option<Trap>
+fn lone_piece_of(shape: &KeptShape) -> Option<Trap>
     requires { IsShapeOnGrid shape.now }
     ensures { IfSome result (λ trap. CoversExactly (trap ∷ []) (IsInPolygon shape.now.points)) }
 {
-    match shape.points.as_slice() {
+    match shape.outline().as_slice() {
         Some(points) => lone_piece(points),
         None => None,
     }
@@ -53,11 +53,11 @@ fn lone_piece_of(shape: &Shape) -> Option<Trap>
 
 // The pieces of a shape that has its points in place and goes up once and down once, in place of what the list held. False
 // where they aren't known.
-fn known_pieces(shape: &Shape, traps: &mut Vec<Trap>) -> Result<bool, NoMemory>
+fn known_pieces(shape: &KeptShape, traps: &mut Vec<Trap>) -> Result<bool, NoMemory>
     requires { IsShapeOnGrid shape.now }
     ensures { IfOk result (λ known. IsTrue known → CoversExactly traps.new.items (IsInPolygon shape.now.points)) }
 {
-    match shape.points.as_slice() {
+    match shape.outline().as_slice() {
         Some(points) => monotone_pieces(points, traps),
         None => Ok(false),
     }
@@ -71,7 +71,7 @@ fn cut_shape(
     traps: &mut Vec<Trap>,
     cell: usize,
     number: usize,
-    shape: &Shape,
+    shape: &KeptShape,
 ) -> Result<(), NoMemory>
     requires grid { IsShapeOnGrid shape.now }
     requires place { HasShape parts.old cell number }

@@ -7,7 +7,7 @@ use cell_tree::{Tree, resolve};
 use deck_text::{Deck, read_deck};
 use geo_stream::List;
 use half_grid::{Point, Trap, Window};
-use layout_model::{Cell, Counts, Layout, Name, Offsets, Pair, Shape};
+use layout_model::{Cell, Counts, KeptShape, Layout, Name, Offsets, Pair};
 use std::alloc::Global;
 use std::process::Abort;
 
@@ -168,7 +168,7 @@ fn three<T: Drop>(rt: &impl Abort, alloc: Global, first: T, second: T, third: T)
     list
 }
 
-fn triangle(rt: &impl Abort, alloc: Global) -> Shape
+fn triangle(rt: &impl Abort, alloc: Global) -> KeptShape
     ensures { IsShapeOnGrid result }
 {
     let pair = Pair {
@@ -176,16 +176,16 @@ fn triangle(rt: &impl Abort, alloc: Global) -> Shape
         datatype: 0,
     };
     let places = Offsets::list(alloc, &PLACES).expect(rt, "memory");
-    Shape::new(alloc, pair, &TRIANGLE, places).expect(rt, "a shape")
+    KeptShape::new(alloc, pair, &TRIANGLE, places).expect(rt, "a shape")
 }
 
-fn squares(rt: &impl Abort, alloc: Global, layer: u64, places: &[Point]) -> Shape
+fn squares(rt: &impl Abort, alloc: Global, layer: u64, places: &[Point]) -> KeptShape
     requires { AreOffsets places.now }
     ensures { IsShapeOnGrid result }
 {
     let pair = Pair { layer, datatype: 0 };
     let places = Offsets::list(alloc, places).expect(rt, "memory");
-    Shape::new(alloc, pair, &SQUARE, places).expect(rt, "a shape")
+    KeptShape::new(alloc, pair, &SQUARE, places).expect(rt, "a shape")
 }
 
 fn layout(rt: &impl Abort, alloc: Global) -> Layout

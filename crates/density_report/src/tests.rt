@@ -13,7 +13,7 @@ use deck_text::read_deck;
 use depot::{DepotBad, MemDepot};
 use geo_stream::List;
 use half_grid::Point;
-use layout_model::{Cell, Counts, Layout, Name, Offsets, Pair, Shape};
+use layout_model::{Cell, Counts, KeptShape, Layout, Name, Offsets, Pair};
 use std::alloc::Global;
 use std::process::Abort;
 
@@ -72,7 +72,7 @@ fn only<T: Drop>(rt: &impl Abort, alloc: Global, item: T) -> List<T>
     list
 }
 
-fn shape(rt: &impl Abort, alloc: Global, points: &[Point], places: &[Point]) -> Shape
+fn shape(rt: &impl Abort, alloc: Global, points: &[Point], places: &[Point]) -> KeptShape
     requires closed { IsClosed points.now }
     requires reach { All IsPointWithinReach points.now }
     requires near { All (IsWithin (2 ^ 42)) points.now }
@@ -80,10 +80,10 @@ fn shape(rt: &impl Abort, alloc: Global, points: &[Point], places: &[Point]) -> 
     ensures { IsShapeOnGrid result }
 {
     let places = Offsets::list(alloc, places).expect(rt, "memory");
-    Shape::new(alloc, METAL, points, places).expect(rt, "a shape")
+    KeptShape::new(alloc, METAL, points, places).expect(rt, "a shape")
 }
 
-fn layout(rt: &impl Abort, alloc: Global, shape: Shape) -> Layout
+fn layout(rt: &impl Abort, alloc: Global, shape: KeptShape) -> Layout
     requires { IsShapeOnGrid shape }
     ensures { IsLayoutOnGrid result }
 {
@@ -111,7 +111,7 @@ fn say(
     alloc: Global,
     depot: &mut MemDepot,
     deck: &[u8],
-    shape: Shape,
+    shape: KeptShape,
     size: i64,
 ) -> Result<(), DepotBad>
     requires deck { length deck.now ≤ 65536 }

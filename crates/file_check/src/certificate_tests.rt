@@ -8,7 +8,7 @@ use deck_plan::Plan;
 use deck_text::read_deck;
 use geo_stream::List;
 use half_grid::{Line, Point, Side, Tile, Trap};
-use layout_model::{Cell, Counts, Layout, Name, Offsets, Pair, Shape};
+use layout_model::{Cell, Counts, KeptShape, Layout, Name, Offsets, Pair};
 use shot_checker::Verdict;
 use std::alloc::Global;
 use std::process::Abort;
@@ -34,7 +34,7 @@ fn only<T: Drop>(rt: &impl Abort, alloc: Global, item: T) -> List<T>
     list
 }
 
-fn triangle(rt: &impl Abort, alloc: Global) -> Shape
+fn triangle(rt: &impl Abort, alloc: Global) -> KeptShape
     ensures { IsShapeOnGrid result }
 {
     let pair = Pair {
@@ -42,7 +42,7 @@ fn triangle(rt: &impl Abort, alloc: Global) -> Shape
         datatype: 0,
     };
     let places = Offsets::list(alloc, &PLACES).expect(rt, "memory");
-    Shape::new(alloc, pair, &TRIANGLE, places).expect(rt, "a shape")
+    KeptShape::new(alloc, pair, &TRIANGLE, places).expect(rt, "a shape")
 }
 
 fn layout(rt: &impl Abort, alloc: Global) -> Layout

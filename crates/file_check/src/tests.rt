@@ -9,7 +9,7 @@ use deck_text::read_deck;
 use depot::MemDepot;
 use geo_stream::List;
 use half_grid::{Point, Side, Tile};
-use layout_model::{Cell, Counts, Layout, Name, Offsets, Pair, Shape};
+use layout_model::{Cell, Counts, KeptShape, Layout, Name, Offsets, Pair};
 use shot_checker::Verdict;
 use shot_reader::ShotBad;
 use shot_writer::Sums;
@@ -41,7 +41,7 @@ fn only<T: Drop>(rt: &impl Abort, alloc: Global, item: T) -> List<T>
     list
 }
 
-fn square(rt: &impl Abort, alloc: Global) -> Shape
+fn square(rt: &impl Abort, alloc: Global) -> KeptShape
     ensures { IsShapeOnGrid result }
 {
     let pair = Pair {
@@ -49,7 +49,7 @@ fn square(rt: &impl Abort, alloc: Global) -> Shape
         datatype: 0,
     };
     let places = Offsets::list(alloc, &PLACES).expect(rt, "memory");
-    Shape::new(alloc, pair, &SQUARE, places).expect(rt, "a shape")
+    KeptShape::new(alloc, pair, &SQUARE, places).expect(rt, "a shape")
 }
 
 fn layout(rt: &impl Abort, alloc: Global) -> Layout

@@ -16,7 +16,7 @@ use crate::tables::{Parts, Pieces};
 use cell_tree::Tree;
 use geo_stream::NoMemory;
 use half_grid::{Frame, Point, Quad, Trap};
-use layout_model::{Cell, Shape};
+use layout_model::{Cell, KeptShape};
 use std::alloc::Global;
 use std::marker::Model;
 
@@ -99,17 +99,17 @@ pub(crate) fn box_of_pieces(first: &Trap, others: &[Trap]) -> Frame
 }
 
 // The box of a shape's pieces at all its places.
-fn box_of_shape(shape: &Shape, pieces: &Pieces) -> Frame
+fn box_of_shape(shape: &KeptShape, pieces: &Pieces) -> Frame
     requires { IsShapeOnGrid shape.now }
     ensures { HasBox shape.now pieces.now result }
 {
     match pieces.as_slice().split_first() {
-        Some((first, others)) => summed(box_of_pieces(first, others), shape.offsets.hull()),
+        Some((first, others)) => summed(box_of_pieces(first, others), shape.spread()),
         None => box_of(Point { x: 0, y: 0 }),
     }
 }
 
-fn shape_at(shapes: &[Shape], number: usize) -> &Shape
+fn shape_at(shapes: &[KeptShape], number: usize) -> &KeptShape
     requires { number < length shapes.now }
     ensures { slice_get shapes.now number ≡ Some result.now }
 {
@@ -124,7 +124,7 @@ fn pieces_at(lists: &[Pieces], number: usize) -> &Pieces
 }
 
 // The boxes of a cell's shapes.
-fn boxes_for(alloc: Global, shapes: &[Shape], lists: &[Pieces]) -> Result<Vec<Frame>, NoMemory>
+fn boxes_for(alloc: Global, shapes: &[KeptShape], lists: &[Pieces]) -> Result<Vec<Frame>, NoMemory>
     requires { All IsShapeOnGrid shapes.now }
     ensures { IfOk result (λ boxes. AreBoxed shapes.now lists.now boxes.items) }
 {
@@ -138,7 +138,7 @@ fn boxes_for(alloc: Global, shapes: &[Shape], lists: &[Pieces]) -> Result<Vec<Fr
 }
 
 // The shapes of a cell.
-fn shapes_of(cells: &[Cell], cell: usize) -> &[Shape]
+fn shapes_of(cells: &[Cell], cell: usize) -> &[KeptShape]
     requires { cell < length cells.now }
     ensures { result.now ≡ shapes_at cells.now cell }
 {

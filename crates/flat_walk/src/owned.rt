@@ -20,7 +20,7 @@ use crate::rows::{Rows, has_row};
 use crate::tables::Pieces;
 use crate::turning::image;
 use half_grid::{Point, Quad, Trap, Window};
-use layout_model::{Orient, Pair, Shape};
+use layout_model::{KeptShape, Orient, Pair};
 
 // The places of a shape that has no more of them are gone through one by one.
 const FEW: u64 = 4;
@@ -39,7 +39,7 @@ pub(crate) struct Hand<'t> {
 // placed. Of the first shape those offsets are left whose number is at least `place`.
 #[derive(Clone, Copy)]
 pub(crate) struct Cursor<'t> {
-    shapes: &'t [Shape],
+    shapes: &'t [KeptShape],
     lists: &'t [Pieces],
     boxes: Option<&'t BoxList>,
     // The number of the first shape in the cell.
@@ -95,7 +95,7 @@ impl<'t> Hand<'t> {
 
 impl<'t> Cursor<'t> {
     // The pieces of the first shape at the current offset, where it is on the pair and has that offset.
-    fn here(&self, shape: &Shape, list: &'t Pieces, pair: Pair) -> Option<Hand<'t>>
+    fn here(&self, shape: &KeptShape, list: &'t Pieces, pair: Pair) -> Option<Hand<'t>>
         requires orient { IsOrient self.now.orient }
         requires near { IsWithin (2 ^ 54) self.now.at }
         requires grid { IsShapeOnGrid shape.now }
@@ -106,13 +106,13 @@ impl<'t> Cursor<'t> {
         ensures inside { OnSome result (self.now.place < length shape.now.offsets) }
         ensures few { OnSome result (length shape.now.offsets < 2 ^ 64) }
     {
-        if shape.pair != pair {
+        if shape.pair() != pair {
             return None;
         }
-        if self.place >= shape.offsets.count() {
+        if self.place >= shape.count() {
             return None;
         }
-        let by = shape.offsets.nth(self.place);
+        let by = shape.nth(self.place);
         Some(Hand {
             pieces: list.as_slice(),
             orient: self.orient,
@@ -146,13 +146,13 @@ impl<'t> Cursor<'t> {
     }
 
     // Whether the first shape is on the pair and has a place left.
-    fn has_more(&self, shape: &Shape, pair: Pair) -> bool
+    fn has_more(&self, shape: &KeptShape, pair: Pair) -> bool
         ensures { result ≡ false → (pieces : List Trapezoid) → places_rest pair shape.now pieces self.now.place ≡ [] }
     {
-        if shape.pair != pair {
+        if shape.pair() != pair {
             return false;
         }
-        if shape.offsets.count() <= self.place {
+        if shape.count() <= self.place {
             return false;
         }
         true
@@ -206,7 +206,7 @@ impl<'t> Cursor<'t> {
 impl<'t> Cursor<'t> {
     // The number of the first shape's next place, from the current one on, at which its pieces may have rows in the window,
     // or how many places there are.
-    fn onward(&self, shape: &Shape, rows: Rows, window: Window) -> u64
+    fn onward(&self, shape: &KeptShape, rows: Rows, window: Window) -> u64
         requires orient { IsOrient self.now.orient }
         requires near { IsWithin (2 ^ 54) self.now.at }
         requires grid { IsShapeOnGrid shape.now }
@@ -216,16 +216,16 @@ impl<'t> Cursor<'t> {
         ensures inside { result ≤ length shape.now.offsets }
         ensures none { HasNoPlaceBefore window self.now.orient self.now.at rows shape.now.offsets self.now.place result }
     {
-        let count = shape.offsets.count();
+        let count = shape.count();
         let wanted = places_in(self.orient, self.at, ORIGIN, rows, window);
-        match shape.offsets.first_in(wanted, self.place) {
+        match shape.first_in(wanted, self.place) {
             Some(place) => place,
             None => count,
         }
     }
 
     // The first shape and the rows of its pieces as they are placed, where it has many places and is not past them.
-    fn long_run(&self) -> Option<(&'t Shape, Rows)>
+    fn long_run(&self) -> Option<(&'t KeptShape, Rows)>
         requires { IsCursor self.now }
         ensures { IfSome result (λ first. IsLongRun self.now first.0.now first.1) }
     {
@@ -238,7 +238,7 @@ impl<'t> Cursor<'t> {
         let Some((first, others)) = list.as_slice().split_first() else {
             return None;
         };
-        let count = shape.offsets.count();
+        let count = shape.count();
         if count <= FEW {
             return None;
         }
@@ -276,7 +276,7 @@ fn rest<T>(items: &[T], count: usize) -> &[T]
 impl<'t> Own<'t> {
     /// All that a cell's own shapes show, where it is placed so.
     pub(crate) fn of(
-        shapes: &'t [Shape],
+        shapes: &'t [KeptShape],
         lists: &'t [Pieces],
         boxes: Option<&'t BoxList>,
         orient: Orient,

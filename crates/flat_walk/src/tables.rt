@@ -5,7 +5,7 @@ ghost use Rattle.flat_walk.specs.Tables.{no_pieces, with_pieces, HasShape, IsKep
 use cell_tree::Tree;
 use geo_stream::NoMemory;
 use half_grid::Trap;
-use layout_model::{Cell, Shape};
+use layout_model::{Cell, KeptShape};
 use std::alloc::Global;
 use std::marker::Model;
 
@@ -90,7 +90,7 @@ fn are_kept(traps: &[Trap])
 }
 
 // No pieces yet, for so many shapes.
-fn nothing_for(alloc: Global, shapes: &[Shape]) -> Result<Vec<Pieces>, NoMemory>
+fn nothing_for(alloc: Global, shapes: &[KeptShape]) -> Result<Vec<Pieces>, NoMemory>
     ensures { IfOk result (λ lists. lists.items ≡ map (λ shape. []) shapes.now) }
 {
     let mut lists = Vec::with_capacity(alloc, shapes.len())?;

@@ -14,7 +14,7 @@ use crate::{Parts, Walk};
 use cell_tree::{Tree, resolve};
 use geo_stream::{List, gather};
 use half_grid::{Line, Point, Quad, Trap, Window};
-use layout_model::{Cell, Counts, Layout, Name, Offsets, Orient, Pair, Placement, Shape};
+use layout_model::{Cell, Counts, KeptShape, Layout, Name, Offsets, Orient, Pair, Placement};
 use std::alloc::Global;
 use std::process::Abort;
 
@@ -85,12 +85,12 @@ fn more(rt: &impl Abort, mut cells: List<Cell>, cell: Cell) -> List<Cell>
     cells
 }
 
-fn triangle(rt: &impl Abort, alloc: Global, offsets: Offsets) -> Shape
+fn triangle(rt: &impl Abort, alloc: Global, offsets: Offsets) -> KeptShape
     requires { AreOffsets offsets }
     ensures grid { IsShapeOnGrid result }
     ensures points { result.points ≡ ring_of (corners_of (trapezoid (pos 0) (pos 8) (Rising (pos 0)) (Upright (pos 8)))) }
 {
-    Shape::new(alloc, METAL, &RING, offsets).expect(rt, "a shape")
+    KeptShape::new(alloc, METAL, &RING, offsets).expect(rt, "a shape")
 }
 
 // An array of places.
@@ -125,7 +125,7 @@ fn placed(
     }
 }
 
-fn cell(name: Name, shapes: List<Shape>, placements: List<Placement>) -> Cell
+fn cell(name: Name, shapes: List<KeptShape>, placements: List<Placement>) -> Cell
     requires shapes { All IsShapeOnGrid shapes }
     requires placements { All IsPlacementOnGrid placements }
     ensures grid { IsCellOnGrid result }
@@ -143,7 +143,7 @@ fn cell(name: Name, shapes: List<Shape>, placements: List<Placement>) -> Cell
 fn layout(
     rt: &impl Abort,
     alloc: Global,
-    shape: Shape,
+    shape: KeptShape,
     inner: Placement,
     outer: Placement,
 ) -> Layout
@@ -176,7 +176,13 @@ fn layout(
     Layout { cells, counts }
 }
 
-fn tree(rt: &impl Abort, alloc: Global, shape: Shape, inner: Placement, outer: Placement) -> Tree
+fn tree(
+    rt: &impl Abort,
+    alloc: Global,
+    shape: KeptShape,
+    inner: Placement,
+    outer: Placement,
+) -> Tree
     requires grid { IsShapeOnGrid shape }
     requires points { shape.points ≡ ring_of (corners_of (trapezoid (pos 0) (pos 8) (Rising (pos 0)) (Upright (pos 8)))) }
     requires inner { IsPlacementOnGrid inner }

@@ -23,7 +23,7 @@ use crate::tables::Parts;
 use cell_tree::Tree;
 use geo_stream::{NoMemory, Stream};
 use half_grid::{Point, Quad, Window};
-use layout_model::{Orient, Pair, Shape};
+use layout_model::{KeptShape, Orient, Pair};
 use std::alloc::Global;
 
 /// The placed pieces of a window, one by one.
@@ -60,7 +60,7 @@ fn top_meets(scene: &Scene) -> bool
 }
 
 // The shapes of a cell.
-fn shapes_of<'t>(scene: &Scene<'t>, cell: usize) -> &'t [Shape]
+fn shapes_of<'t>(scene: &Scene<'t>, cell: usize) -> &'t [KeptShape]
     requires { cell < length (cells_of scene.now) }
     ensures { result.now ≡ shapes_at (cells_of scene.now) cell }
 {

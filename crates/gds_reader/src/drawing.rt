@@ -16,7 +16,7 @@ use crate::refusing::GdsBad;
 use gds_record::Kind;
 use geo_stream::{List, NoMemory};
 use half_grid::Point;
-use layout_model::{Offsets, Pair, PathBad, Shape, ShapeBad, path_shapes};
+use layout_model::{KeptShape, Offsets, Pair, PathBad, ShapeBad, path_shapes};
 use std::alloc::Global;
 
 /// Where an element is without a placement.
@@ -56,7 +56,11 @@ fn is_closed(points: &[Point]) -> bool
 }
 
 // The shape of a boundary.
-fn shape_of_boundary(alloc: Global, element: &Element, points: &[Point]) -> Result<Shape, Undrawn>
+fn shape_of_boundary(
+    alloc: Global,
+    element: &Element,
+    points: &[Point],
+) -> Result<KeptShape, Undrawn>
     requires count { length points.now ≤ 8191 }
     requires points { All IsFilePoint points.now }
     ensures shape { IfOk result (λ shape. shape ≡ boundary_shape element.now.pair points.now) }
@@ -72,7 +76,7 @@ fn shape_of_boundary(alloc: Global, element: &Element, points: &[Point]) -> Resu
         return Err(Undrawn::Rule(11));
     }
     let offsets = Offsets::list(alloc, &[ORIGIN])?;
-    match Shape::new(alloc, element.pair, points, offsets) {
+    match KeptShape::new(alloc, element.pair, points, offsets) {
         Ok(shape) => Ok(shape),
         Err(ShapeBad::Slant(_)) => Err(Undrawn::Rule(12)),
         Err(ShapeBad::NoMemory) => Err(Undrawn::NoMemory),
@@ -139,7 +143,7 @@ fn shapes_of_path(
     points: &[Point],
     brush: Brush,
     fixed: bool,
-) -> Result<Vec<Shape>, Undrawn>
+) -> Result<Vec<KeptShape>, Undrawn>
     requires points { All IsFilePoint points.now }
     requires brush { IsNearBrush brush }
     ensures shapes { IfOk result (λ shapes. shapes.items ≡ path_shapes_of pair fixed brush.half brush.begin brush.end points.now) }
@@ -167,7 +171,7 @@ pub(crate) fn bad_at(undrawn: Undrawn, at: usize) -> GdsBad
     }
 }
 
-fn push_all(list: &mut List<Shape>, shapes: Vec<Shape>) -> Result<(), NoMemory>
+fn push_all(list: &mut List<KeptShape>, shapes: Vec<KeptShape>) -> Result<(), NoMemory>
     ensures { OnOk result (list.new ≡ list.old ++ shapes.items) }
 {
     for shape in shapes {
@@ -181,7 +185,7 @@ fn draw_boundary(
     element: &Element,
     points: &[Point],
     at: usize,
-    shapes: &mut List<Shape>,
+    shapes: &mut List<KeptShape>,
 ) -> Result<(), GdsBad>
     requires count { length points.now ≤ 8191 }
     requires points { All IsFilePoint points.now }
@@ -205,7 +209,7 @@ fn draw_path(
     element: &Element,
     points: &[Point],
     at: usize,
-    shapes: &mut List<Shape>,
+    shapes: &mut List<KeptShape>,
 ) -> Result<(), GdsBad>
     requires points { All IsFilePoint points.now }
     ensures shapes { OnOk result (shapes.new ≡ shapes.old ++ path_kept element.now points.now) }
@@ -231,7 +235,7 @@ pub(crate) fn draw(
     element: &Element,
     points: &[Point],
     at: usize,
-    shapes: &mut List<Shape>,
+    shapes: &mut List<KeptShape>,
 ) -> Result<(), GdsBad>
     requires count { length points.now ≤ 8191 }
     requires points { All IsFilePoint points.now }

@@ -32,7 +32,7 @@ use gds_record::{Framing, Kind, Record, int8, record_at, unit_agrees};
 use geo_stream::{List, NoMemory};
 use half_grid::Point;
 use layout_model::{
-    Cell, Counts, Layout, NO_COUNTS, Name, Pair, Placement, Shape, is_among, sorted_pairs,
+    Cell, Counts, KeptShape, Layout, NO_COUNTS, Name, Pair, Placement, is_among, sorted_pairs,
 };
 use std::alloc::Global;
 use std::mem::replace;
@@ -42,7 +42,7 @@ use std::mem::replace;
 pub(crate) struct Structure {
     /// Its STRNAME.
     pub(crate) named: Option<Record>,
-    pub(crate) shapes: List<Shape>,
+    pub(crate) shapes: List<KeptShape>,
     pub(crate) placements: List<Placement>,
 }
 

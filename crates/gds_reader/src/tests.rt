@@ -186,8 +186,8 @@ fn reads_shapes(rt: HostRuntime) -> Result<(), Fail> {
         Point { x: 20, y: 0 },
         Point { x: 0, y: 0 },
     ];
-    assert!(rt; shapes[0].points.as_slice() == Some(ring.as_slice()));
-    assert!(rt; !shapes[0].fixed && shapes[0].pair == WANTED[1]);
+    assert!(rt; shapes[0].outline().as_slice() == Some(ring.as_slice()));
+    assert!(rt; !shapes[0].is_fixed() && shapes[0].pair() == WANTED[1]);
     Ok(())
 }
 
@@ -210,11 +210,12 @@ fn reads_a_path(rt: HostRuntime) -> Result<(), Fail> {
     assert_eq!(rt; cells.len(), 1);
     let shapes = cells[0].shapes.as_slice();
     assert_eq!(rt; shapes.len(), 1);
-    let points = shapes[0].points.as_slice().unwrap_or(&[]);
+    let outline = shapes[0].outline();
+    let points = outline.as_slice().unwrap_or(&[]);
     assert_eq!(rt; points.len(), 5);
     assert_eq!(rt; points[0], Point { x: -20, y: -20 });
     assert_eq!(rt; points[2], Point { x: 220, y: 20 });
-    assert!(rt; shapes[0].fixed);
+    assert!(rt; shapes[0].is_fixed());
     Ok(())
 }
 
@@ -670,8 +671,8 @@ fn path_of(
     let layout = layout_of(alloc, &records)?;
     if let [cell] = layout.cells.as_slice() {
         if let [shape] = cell.shapes.as_slice() {
-            if let Some([first, _, third, _, _]) = shape.points.as_slice() {
-                return Ok(Some((*first, *third, shape.fixed)));
+            if let Some([first, _, third, _, _]) = shape.outline().as_slice() {
+                return Ok(Some((*first, *third, shape.is_fixed())));
             }
         }
     }

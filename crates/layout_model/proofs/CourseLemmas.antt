@@ -1,6 +1,6 @@
 -- A walk along a path's points, as far as no move was diagonal or none went back, and the points that equal the first.
 use Rattle.std.proofs.Common.{◌≡◌, ◌<◌, ◌≤◌, ℕ, ◌+◌, zero, suc, below_more, true, false, List, [], ◌∷◌, length, get_or}
-use Rattle.std.proofs.Common.{drop, take, Some, None, slice_get, refl, ap, ◌∙◌, sym, subst, arith, inl, inr}
+use Rattle.std.proofs.Common.{drop, take, None, slice_get, refl, ap, ◌∙◌, sym, subst, arith, inl, inr}
 use Rattle.std.proofs.lemmas.Bool.{cases_lt, both_ways}
 use Rattle.std.proofs.lemmas.List.Sums.{fold_more}
 use Rattle.std.specs.Prelude.{IsSomeAnd}

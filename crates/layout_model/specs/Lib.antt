@@ -13,8 +13,10 @@ pub mod Paths
 pub mod PathBounds
 pub mod PathLaws
 pub mod Layouts
+pub mod Places
 pub mod Counting
 -- ---- what is kept inside
 pub mod Points
+pub mod Kept
 pub mod Strides
 pub mod Walks

@@ -1,8 +1,9 @@
-ghost use Rattle.std.specs.Prelude.{◌≢◌, [], ℕ, ◌≤◌, ◌≤ℤ◌, ◌≡◌, ◌<◌, ◌*◌, pos, ◌*ℤ◌, Some, length, slice_get, IfOk, IsOk, MatchOption};
+ghost use Rattle.std.specs.Prelude.{◌≢◌, [], ◌∷◌, ℕ, ◌≤◌, ◌≤ℤ◌, ◌≡◌, ◌<◌, ◌*◌, pos, ◌*ℤ◌, Some, length, slice_get, IsTrue, IfOk, IsOk, MatchOption};
 ghost use Rattle.half_grid.specs.Reach.{IsWithinReach};
 ghost use Rattle.layout_model.specs.Grids.{IsGrid, grid_place, grid_places, nth_place};
 ghost use Rattle.layout_model.specs.Hulls.{IsLeastBoxOf};
 ghost use Rattle.layout_model.specs.Intervals.{along, HasNoneIn, IsFirstIn};
+ghost use Rattle.layout_model.specs.Places.{origin};
 ghost use Rattle.layout_model.specs.Strides.{mark, IsNearby, IsRuler};
 
 use crate::boxes::{box_between, box_of};
@@ -25,6 +26,17 @@ struct Grid {
     nv: u32,
     u: Point,
     v: Point,
+}
+
+// Whether a place is 0.
+#[inline(always)]
+fn is_origin(place: &Point) -> bool
+    ensures { IsTrue result → place.now ≡ origin }
+{
+    if place.x != 0 {
+        return false;
+    }
+    place.y == 0
 }
 
 // Places one by one, and their least box where there is one of them at least.
@@ -129,8 +141,8 @@ impl Grid {
     }
 }
 
-// The first of these places in an interval from number `from` on.
-fn first_of(places: &[Point], interval: Interval, from: u64) -> Option<u64>
+/// The first of these places in an interval from number `from` on.
+pub(crate) fn first_of(places: &[Point], interval: Interval, from: u64) -> Option<u64>
     ensures { MatchOption result (HasNoneIn interval places.now from (length places.now)) (IsFirstIn interval places.now from) }
 {
     let mut k = from;
@@ -265,6 +277,17 @@ impl Offsets {
             Places::One(place) => box_between(*place, *place, *place, *place),
             Places::Listed(listed) => listed.hull,
             Places::Regular(grid) => grid.hull(),
+        }
+    }
+
+    // Whether there is one place, and it is 0. False where that isn't seen at once.
+    #[inline(always)]
+    pub(crate) fn is_origin(&self) -> bool
+        ensures { IsTrue result → self.now ≡ origin ∷ [] }
+    {
+        match &self.places {
+            Places::One(place) => is_origin(place),
+            _ => false,
         }
     }
 

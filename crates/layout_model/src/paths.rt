@@ -6,10 +6,10 @@ ghost use Rattle.layout_model.specs.PathLaws.{SegmentsGoSomewhere, SegmentsAreAl
 ghost use Rattle.layout_model.specs.declared.paths.PathBad.TheVariants.{NoLength, Diagonal, TurnBack, EmptyEnd, NoMemory as Wanting};
 
 use crate::courses::{first_diagonal, first_turn_back, has_no_length};
+use crate::kept::KeptShape;
 use crate::offsets::Offsets;
 use crate::pair::Pair;
 use crate::rectangles::stretch_shape;
-use crate::shapes::Shape;
 use crate::stretches::{Brush, Walk, has_empty_end};
 use geo_stream::NoMemory;
 use half_grid::Point;
@@ -38,7 +38,7 @@ fn draw(
     brush: Brush,
     offsets: &Offsets,
     fixed: bool,
-) -> Result<Vec<Shape>, NoMemory>
+) -> Result<Vec<KeptShape>, NoMemory>
     requires long { HasLength points.now }
     requires points { All IsNearPoint points.now }
     requires brush { IsNearBrush brush }
@@ -108,7 +108,7 @@ pub fn path_shapes(
     end: i64,
     offsets: &Offsets,
     fixed: bool,
-) -> Result<Vec<Shape>, PathBad>
+) -> Result<Vec<KeptShape>, PathBad>
     requires points { All (IsWithin (2 ^ 41)) points.now }
     requires half_low { pos 0 ≤ℤ half }
     requires half { IsNear half }

@@ -5,10 +5,9 @@ ghost use Rattle.layout_model.specs.Paths.{direction_of, rectangle_along, rectan
 ghost use Rattle.layout_model.specs.PathBounds.{IsNear, IsNearStretch};
 
 use crate::directions::{Direction, direction_to};
+use crate::kept::KeptShape;
 use crate::offsets::Offsets;
 use crate::pair::Pair;
-use crate::points::Points;
-use crate::shapes::Shape;
 use crate::stretches::Stretch;
 use geo_stream::NoMemory;
 use half_grid::Point;
@@ -121,16 +120,10 @@ pub(crate) fn stretch_shape(
     s: Stretch,
     offsets: &Offsets,
     fixed: bool,
-) -> Result<Shape, NoMemory>
+) -> Result<KeptShape, NoMemory>
     requires { IsNearStretch s }
     ensures { IfOk result (λ shape. shape ≡ rectangle_shape pair offsets.now fixed (rectangle_of s)) }
 {
-    let points = Points::new(alloc, &ring(outline_of(s)))?;
     let offsets = offsets.copy(alloc)?;
-    Ok(Shape {
-        pair,
-        points,
-        offsets,
-        fixed,
-    })
+    KeptShape::with(alloc, pair, &ring(outline_of(s)), offsets, fixed)
 }

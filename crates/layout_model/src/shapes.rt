@@ -49,9 +49,9 @@ fn is_on_grid(a: Point, b: Point) -> bool
     a.y == b.y || line_through(a, b).is_some()
 }
 
-// The number of the first edge that isn't on the grid.
+/// The number of the first edge that isn't on the grid.
 #[inline(always)]
-fn first_slant(points: &[Point]) -> Option<usize>
+pub(crate) fn first_slant(points: &[Point]) -> Option<usize>
     ensures some { IfSome result (IsFirstSlant points.now) }
     ensures none { IfNone result (HasGridEdges points.now) }
 {

@@ -1,12 +1,14 @@
 //! Each call at its happy path, and the refusals.
 ghost use Rattle.std.specs.Prelude.{◌≡◌, ◌^◌, pos, ◌≤ℤ◌, [], ◌∷◌, All};
+ghost use Rattle.half_grid.specs.Outlines.{IsClosed};
+ghost use Rattle.half_grid.specs.Reach.{IsPointWithinReach};
 ghost use Rattle.layout_model.specs.Layouts.{IsWithin, IsShapeOnGrid, IsPlacementOnGrid, IsLayoutOnGrid};
 ghost use Rattle.layout_model.specs.Names.{IsName};
 ghost use Rattle.layout_model.specs.PathBounds.{IsNear};
 
 use crate::{
-    Axis, Cell, Counts, Interval, Layout, Name, NameBad, Offsets, Orient, Pair, PathBad, Placement,
-    Points, Shape, ShapeBad, SharedPoints, image, pair_law, path_laws, path_shapes,
+    Axis, Cell, Counts, Interval, KeptShape, Layout, Name, NameBad, Offsets, Orient, Pair, PathBad,
+    Placement, Points, Shape, ShapeBad, SharedPoints, image, pair_law, path_laws, path_shapes,
 };
 use geo_stream::List;
 use half_grid::{Point, Side, Tile, winding_at};
@@ -181,13 +183,14 @@ fn shapes_have_grid_edges(rt: HostRuntime) {
     assert!(rt; matches!(refused, Err(ShapeBad::Slant(2))));
 }
 
-// A layout may have millions of shapes. One takes 200 bytes: 16 for its pair, 152 for its points, 24 for its offsets
-// and 8 for its mark.
+// A layout may have millions of shapes, most of them rectangles, which are kept in 64 bytes. A shape of another form, or at
+// other places, takes 200 bytes beside: 16 for its pair, 152 for its points, 24 for its offsets and 8 for its mark.
 #[test]
 fn a_shape_is_lean(rt: HostRuntime) {
     assert_eq!(rt; size_of::<Points>(), 152);
     assert_eq!(rt; size_of::<Offsets>(), 24);
     assert_eq!(rt; size_of::<Shape>(), 200);
+    assert_eq!(rt; size_of::<KeptShape>(), 64);
 }
 
 fn name(rt: &impl Abort, alloc: Global, bytes: &[u8]) -> Name
@@ -212,14 +215,65 @@ const RING: [Point; 5] = [
     Point { x: 0, y: 0 },
 ];
 
+// The same square the other way round from another corner, and a square that stands on a corner.
+const UPRIGHT: [Point; 5] = [
+    Point { x: 20, y: 20 },
+    Point { x: 20, y: 0 },
+    Point { x: 0, y: 0 },
+    Point { x: 0, y: 20 },
+    Point { x: 20, y: 20 },
+];
+
+const TILTED: [Point; 5] = [
+    Point { x: 10, y: 0 },
+    Point { x: 20, y: 10 },
+    Point { x: 10, y: 20 },
+    Point { x: 0, y: 10 },
+    Point { x: 10, y: 0 },
+];
+
+// Whether a shape with these points, whose box is that of the squares, says all that it was made of, at this place.
+fn is_kept(rt: &impl Abort, alloc: Global, points: &[Point], place: Point) -> bool
+    requires closed { IsClosed points.now }
+    requires reach { All IsPointWithinReach points.now }
+{
+    let places = Offsets::list(alloc, &[place]).expect(rt, "a place");
+    let kept = KeptShape::new(alloc, PAIR, points, places).expect(rt, "a shape");
+    let outline = kept.outline();
+    let copy = outline.to_vec(alloc).expect(rt, "memory");
+    if outline.as_slice() != Some(points) || copy.as_slice() != points || kept.pair() != PAIR {
+        return false;
+    }
+    if kept.is_fixed() || kept.count() != 1 || kept.nth(0) != place {
+        return false;
+    }
+    let beside = Interval {
+        axis: Axis::X,
+        low: 30,
+        high: 40,
+    };
+    kept.spread().x0 == place.x && kept.spread().y1 == place.y && kept.first_in(beside, 0).is_none()
+}
+
+#[test]
+fn shapes_are_kept_in_place_or_boxed(rt: HostRuntime) {
+    let alloc = rt.alloc();
+    assert!(rt; is_kept(&rt, alloc, &RING, point(0, 0)));
+    assert!(rt; is_kept(&rt, alloc, &UPRIGHT, point(0, 0)));
+    assert!(rt; is_kept(&rt, alloc, &RING, point(2, -4)));
+    assert!(rt; is_kept(&rt, alloc, &TILTED, point(0, 0)));
+    let hull = square(&rt, alloc).hull();
+    assert!(rt; hull.x0 == 0 && hull.y0 == 0 && hull.x1 == 20 && hull.y1 == 20);
+}
+
 const PLACES: [Point; 2] = [Point { x: 0, y: 0 }, Point { x: 40, y: -2 }];
 
 // A square of 10 grid steps, at two places.
-fn square(rt: &impl Abort, alloc: Global) -> Shape
+fn square(rt: &impl Abort, alloc: Global) -> KeptShape
     ensures { IsShapeOnGrid result }
 {
     let places = Offsets::list(alloc, &PLACES).expect(rt, "memory");
-    Shape::new(alloc, PAIR, &RING, places).expect(rt, "a shape")
+    KeptShape::new(alloc, PAIR, &RING, places).expect(rt, "a shape")
 }
 
 // PART, mirrored and turned once.
@@ -285,7 +339,7 @@ fn draw(
     half: i64,
     begin: i64,
     end: i64,
-) -> Result<Vec<Shape>, PathBad>
+) -> Result<Vec<KeptShape>, PathBad>
     requires points { All (IsWithin (2 ^ 41)) points.now }
     requires half_low { pos 0 ≤ℤ half }
     requires half { IsNear half }
@@ -297,15 +351,15 @@ fn draw(
 }
 
 // Whether this is one shape of the path, the rectangle from the first corner to the second.
-fn is_box(shapes: &[Shape], k: usize, low: Point, high: Point) -> bool {
+fn is_box(shapes: &[KeptShape], k: usize, low: Point, high: Point) -> bool {
     let ring = [low, point(low.x, high.y), high, point(high.x, low.y), low];
     match shapes.get(k) {
         None => false,
         Some(shape) => {
-            let placed = shape.offsets.count() == 1 && shape.offsets.nth(0) == point(2, 4);
-            shape.points.as_slice() == Some(ring.as_slice())
-                && shape.pair == PAIR
-                && shape.fixed
+            let placed = shape.count() == 1 && shape.nth(0) == point(2, 4);
+            shape.outline().as_slice() == Some(ring.as_slice())
+                && shape.pair() == PAIR
+                && shape.is_fixed()
                 && placed
         }
     }
@@ -447,12 +501,11 @@ fn the_windings_of_a_corner(rt: HostRuntime) {
         (tile(180, 100), 0, 0),
     ];
     if let [first, second] = shapes.as_slice() {
+        let first = first.outline();
+        let second = second.outline();
         for (at, one, two) in wanted {
-            assert_eq!(rt; winding_at(first.points.as_slice().unwrap_or(&[]), at), one);
-            assert_eq!(rt;
-                winding_at(second.points.as_slice().unwrap_or(&[]), at),
-                two
-            );
+            assert_eq!(rt; winding_at(first.as_slice().unwrap_or(&[]), at), one);
+            assert_eq!(rt; winding_at(second.as_slice().unwrap_or(&[]), at), two);
         }
     } else {
         assert!(rt; false, "two shapes");

@@ -6,7 +6,7 @@ ghost use Rattle.oas_reader.specs.Readers.{AreDraftsOf, AreDraftsWithin};
 
 use crate::placing::Placing;
 use geo_stream::{List, NoMemory};
-use layout_model::Shape;
+use layout_model::KeptShape;
 use oas_record::Called;
 use std::alloc::Global;
 use std::mem::replace;
@@ -16,7 +16,7 @@ use std::mem::replace;
 pub(crate) struct Draft {
     pub(crate) at: usize,
     pub(crate) called: Called,
-    pub(crate) shapes: List<Shape>,
+    pub(crate) shapes: List<KeptShape>,
     pub(crate) placings: Vec<Placing>,
 }
 
@@ -31,7 +31,7 @@ struct Begun {
 #[derive(Drop)]
 pub(crate) struct Drafts {
     begun: Option<Begun>,
-    pub(crate) shapes: List<Shape>,
+    pub(crate) shapes: List<KeptShape>,
     placings: Vec<Placing>,
     whole: Vec<Draft>,
 }

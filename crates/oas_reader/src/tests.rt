@@ -92,14 +92,15 @@ fn are_drawn(alloc: Global, records: &[u8], wanted: &[Seen]) -> Result<bool, Fai
         return Ok(false);
     }
     for k in 0..shapes.len() {
-        let points = shapes[k].points.as_slice().unwrap_or(&[]);
+        let outline = shapes[k].outline();
+        let points = outline.as_slice().unwrap_or(&[]);
         if points.len() < 3 {
             return Ok(false);
         }
         let shape = Seen {
             first: points[0],
             third: points[2],
-            copies: shapes[k].offsets.count(),
+            copies: shapes[k].count(),
         };
         if shape != wanted[k] {
             return Ok(false);

@@ -1,5 +1,5 @@
 //! The shapes of a record on a wanted pair.
-ghost use Rattle.std.specs.Prelude.{◌≡◌, ◌⊎◌, ◌++◌, ◌^◌, ℕ, [], ◌∷◌, All, OnOk, IfOk, Err, option_copied};
+ghost use Rattle.std.specs.Prelude.{◌≡◌, ◌⊎◌, ◌++◌, ◌^◌, ℕ, [], ◌∷◌, All, OnOk, IfOk, IfErr, Err, option_copied};
 ghost use Rattle.half_grid.specs.Outlines.{IsClosed, HasGridEdges};
 ghost use Rattle.layout_model.specs.Layouts.{IsShapeOnGrid, AreOffsets, IsWithin};
 ghost use Rattle.oas_shapes.specs.Sketches.{points_of};
@@ -19,7 +19,7 @@ use crate::sharing::Repetition;
 use crate::trails::Unplaced;
 use geo_stream::List;
 use half_grid::Point;
-use layout_model::{Offsets, Pair, Points, Shape, ShapeBad};
+use layout_model::{KeptShape, Offsets, Pair, Points, Shape, ShapeBad};
 use oas_record::Deltas;
 use std::alloc::Global;
 
@@ -41,7 +41,7 @@ fn shape_of(
     pair: Pair,
     outline: &[Point],
     offsets: Offsets,
-) -> Result<Shape, Undrawn>
+) -> Result<KeptShape, Undrawn>
     requires closed { IsClosed outline.now }
     requires near { AreNear outline.now }
     requires offsets { AreOffsets offsets }
@@ -51,7 +51,7 @@ fn shape_of(
     ensures slant { (rule : ℕ) → result ≡ Err (Rule rule) → (rule ≡ 6) × ¬ HasGridEdges outline.now }
     ensures memory { result ≡ Err Wanting → HasGridEdges outline.now }
 {
-    match Shape::new(alloc, pair, outline, offsets) {
+    match KeptShape::new(alloc, pair, outline, offsets) {
         Ok(shape) => Ok(shape),
         Err(ShapeBad::Slant(_)) => Err(Undrawn::Rule(6)),
         Err(ShapeBad::NoMemory) => Err(Undrawn::NoMemory),
@@ -98,7 +98,7 @@ fn repeated(
     pair: Pair,
     outline: &[Point],
     repetition: Option<&Repetition>,
-) -> Result<Shape, Undrawn>
+) -> Result<KeptShape, Undrawn>
     requires closed { IsClosed outline.now }
     requires near { AreNear outline.now }
     ensures shape { IfOk result (λ shape. shape ≡ outline_shape pair outline.now (all_offsets (option_copied repetition.entry))) }
@@ -124,7 +124,7 @@ fn add(
     pair: Pair,
     outline: &[Point],
     repetition: Option<&Repetition>,
-    shapes: &mut List<Shape>,
+    shapes: &mut List<KeptShape>,
 ) -> Result<(), Undrawn>
     requires closed { IsClosed outline.now }
     requires near { AreNear outline.now }
@@ -151,7 +151,7 @@ fn add_outline(
     pair: Pair,
     outline: Outline,
     repetition: Option<&Repetition>,
-    shapes: &mut List<Shape>,
+    shapes: &mut List<KeptShape>,
 ) -> Result<(), Undrawn>
     requires near { AreNear (points_of outline) }
     ensures shapes { OnOk result (shapes.new ≡ shapes.old ++ outline_shape pair (points_of outline) (all_offsets (option_copied repetition.entry)) ∷ []) }
@@ -176,7 +176,7 @@ pub fn draw_figure(
     at: Point,
     figure: Figure,
     repetition: Option<&Repetition>,
-    shapes: &mut List<Shape>,
+    shapes: &mut List<KeptShape>,
 ) -> Result<(), Undrawn>
     requires at { IsWithin (2 ^ 40) at }
     ensures shapes { OnOk result (shapes.new ≡ shapes.old ++ outline_shape pair (figure_outline at figure) (all_offsets (option_copied repetition.entry)) ∷ []) }
@@ -202,7 +202,7 @@ fn draw_written(
     at: Point,
     points: &Deltas,
     repetition: Option<&Repetition>,
-    shapes: &mut List<Shape>,
+    shapes: &mut List<KeptShape>,
 ) -> Result<(), Undrawn>
     requires at { IsWithin (2 ^ 40) at }
     ensures shapes { OnOk result (shapes.new ≡ shapes.old ++ outline_shape pair (the_polygon_outline at points.now) (all_offsets (option_copied repetition.entry)) ∷ []) }
@@ -219,13 +219,35 @@ fn draw_written(
     }
 }
 
+// The shape of an outline that keeps the rules, at these offsets.
+fn made_shape(
+    alloc: Global,
+    pair: Pair,
+    outline: Points,
+    offsets: Offsets,
+) -> Result<KeptShape, Undrawn>
+    ensures shape { IfOk result (λ shape. shape ≡ outline_shape pair outline offsets) }
+    ensures memory { IfErr result (λ bad. bad ≡ Wanting) }
+{
+    let shape = Shape {
+        pair,
+        points: outline,
+        offsets,
+        fixed: false,
+    };
+    match KeptShape::of(alloc, shape) {
+        Ok(kept) => Ok(kept),
+        Err(_) => Err(Undrawn::NoMemory),
+    }
+}
+
 // The shape of an outline that keeps the rules, repeated so.
 fn repeated_made(
     alloc: Global,
     pair: Pair,
     outline: Points,
     repetition: Option<&Repetition>,
-) -> Result<Shape, Undrawn>
+) -> Result<KeptShape, Undrawn>
     requires closed { IsClosed outline }
     requires near { AreNear outline }
     requires edges { HasGridEdges outline }
@@ -235,12 +257,7 @@ fn repeated_made(
     ensures broken { (rule : ℕ) → result ≡ Err (Rule rule) → IsLowest (KeepsShape outline (option_copied repetition.entry)) rule }
 {
     match offsets_in(alloc, repetition) {
-        Ok(offsets) => Ok(Shape {
-            pair,
-            points: outline,
-            offsets,
-            fixed: false,
-        }),
+        Ok(offsets) => made_shape(alloc, pair, outline, offsets),
         Err(Unplaced::Far) => Err(Undrawn::Rule(1)),
         Err(Unplaced::Many) => Err(Undrawn::Rule(11)),
         Err(Unplaced::Unkept) => Err(Undrawn::NoMemory),
@@ -254,7 +271,7 @@ fn add_made(
     pair: Pair,
     outline: Points,
     repetition: Option<&Repetition>,
-    shapes: &mut List<Shape>,
+    shapes: &mut List<KeptShape>,
 ) -> Result<(), Undrawn>
     requires closed { IsClosed outline }
     requires near { AreNear outline }
@@ -282,7 +299,7 @@ pub fn draw_polygon(
     at: Point,
     points: &PointList,
     repetition: Option<&Repetition>,
-    shapes: &mut List<Shape>,
+    shapes: &mut List<KeptShape>,
 ) -> Result<(), Undrawn>
     requires at { IsWithin (2 ^ 40) at }
     ensures shapes { OnOk result (shapes.new ≡ shapes.old ++ outline_shape pair (the_polygon_outline at points.now) (all_offsets (option_copied repetition.entry)) ∷ []) }
@@ -312,7 +329,7 @@ pub fn draw_path(
     brush: Brush,
     points: &Deltas,
     repetition: Option<&Repetition>,
-    shapes: &mut List<Shape>,
+    shapes: &mut List<KeptShape>,
 ) -> Result<(), Undrawn>
     requires at { IsWithin (2 ^ 40) at }
     ensures shapes { OnOk result (shapes.new ≡ shapes.old ++ path_shapes_of pair at brush points.now (all_offsets (option_copied repetition.entry))) }

@@ -17,7 +17,7 @@ use crate::sharing::Repetition;
 use crate::trails::Unplaced;
 use geo_stream::{List, NoMemory};
 use half_grid::Point;
-use layout_model::{Offsets, Pair, PathBad, Shape, path_shapes};
+use layout_model::{KeptShape, Offsets, Pair, PathBad, path_shapes};
 use std::alloc::Global;
 
 // At most so far from 0, in grid steps.
@@ -97,7 +97,7 @@ fn drawn(
     points: &[Point],
     brush: Halves,
     offsets: &Offsets,
-) -> Result<Vec<Shape>, Undrawn>
+) -> Result<Vec<KeptShape>, Undrawn>
     requires points { AreNear points.now }
     requires brush { AreHalves brush }
     requires offsets { AreOffsets offsets.now }
@@ -155,7 +155,7 @@ fn repeated(
     points: &[Point],
     brush: Halves,
     repetition: Option<&Repetition>,
-) -> Result<Vec<Shape>, Undrawn>
+) -> Result<Vec<KeptShape>, Undrawn>
     requires points { AreNear points.now }
     requires brush { AreHalves brush }
     ensures shapes { IfOk result (λ shapes. shapes.items ≡ drawn_by pair brush points.now (all_offsets (option_copied repetition.entry))) }
@@ -174,7 +174,7 @@ fn repeated(
     }
 }
 
-fn push_all(list: &mut List<Shape>, shapes: Vec<Shape>) -> Result<(), NoMemory>
+fn push_all(list: &mut List<KeptShape>, shapes: Vec<KeptShape>) -> Result<(), NoMemory>
     ensures { OnOk result (list.new ≡ list.old ++ shapes.items) }
 {
     for shape in shapes {
@@ -190,7 +190,7 @@ pub(crate) fn add_path(
     points: &[Point],
     brush: Halves,
     repetition: Option<&Repetition>,
-    shapes: &mut List<Shape>,
+    shapes: &mut List<KeptShape>,
 ) -> Result<(), Undrawn>
     requires points { AreNear points.now }
     requires brush { AreHalves brush }

@@ -5,7 +5,7 @@ use crate::{
 };
 use geo_stream::{List, NoMemory};
 use half_grid::Point;
-use layout_model::{Offsets, Pair, Shape};
+use layout_model::{KeptShape, Offsets, Pair};
 use oas_record::{Deltas, Rep};
 use std::alloc::Global;
 use std::test::Fail;
@@ -90,9 +90,9 @@ fn are_same(points: &[Point], wanted: &[(i64, i64)]) -> bool {
 }
 
 // Whether the shapes are one with this outline.
-fn is_one(shapes: &List<Shape>, outline: &[(i64, i64)]) -> bool {
+fn is_one(shapes: &List<KeptShape>, outline: &[(i64, i64)]) -> bool {
     match shapes.as_slice() {
-        [shape] => match shape.points.as_slice() {
+        [shape] => match shape.outline().as_slice() {
             Some(points) => are_same(points, outline),
             None => false,
         },
@@ -283,8 +283,14 @@ fn outline_of(alloc: Global, height: u16, x: i64, y: i64) -> Result<Vec<Point>, 
 }
 
 // Whether the shape is the tower from this place in half units.
-fn is_tower(alloc: Global, shape: &Shape, height: u16, x: i64, y: i64) -> Result<bool, NoMemory> {
-    let points = shape.points.to_vec(alloc)?;
+fn is_tower(
+    alloc: Global,
+    shape: &KeptShape,
+    height: u16,
+    x: i64,
+    y: i64,
+) -> Result<bool, NoMemory> {
+    let points = shape.outline().to_vec(alloc)?;
     let wanted = outline_of(alloc, height, x, y)?;
     Ok(points.as_slice() == wanted.as_slice())
 }

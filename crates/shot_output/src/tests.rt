@@ -9,7 +9,7 @@ use deck_text::read_deck;
 use depot::MemDepot;
 use geo_stream::List;
 use half_grid::Point;
-use layout_model::{Cell, Counts, Layout, Name, Offsets, Pair, Shape};
+use layout_model::{Cell, Counts, KeptShape, Layout, Name, Offsets, Pair};
 use shot_writer::Sums;
 use std::alloc::Global;
 use std::process::Abort;
@@ -40,11 +40,11 @@ fn only<T: Drop>(rt: &impl Abort, alloc: Global, item: T) -> List<T>
     list
 }
 
-fn triangle(rt: &impl Abort, alloc: Global) -> Shape
+fn triangle(rt: &impl Abort, alloc: Global) -> KeptShape
     ensures { IsShapeOnGrid result }
 {
     let places = Offsets::list(alloc, &PLACES).expect(rt, "memory");
-    Shape::new(alloc, METAL, &TRIANGLE, places).expect(rt, "a shape")
+    KeptShape::new(alloc, METAL, &TRIANGLE, places).expect(rt, "a shape")
 }
 
 fn layout(rt: &impl Abort, alloc: Global) -> Layout

@@ -1,6 +1,7 @@
 use Rattle.std.proofs.Common.{◌≡◌, length, subst, sym, arith}
 use Rattle.cell_tree.specs.Boxes.{IsHull}
-use Rattle.cell_tree.specs.HullTables.{AreInOrder, OwnVertex, hull_in}
+use Rattle.layout_model.specs.declared.pair.Pair.{Pair}
+use Rattle.cell_tree.specs.HullTables.{AreInOrder, OwnVertex, hull_in, widened_list}
 use Rattle.cell_tree.proofs.SlotLemmas.{slot_read}
 use Rattle.cell_tree.proofs.OwnLemmas.{own_more}
 use Rattle.cell_tree.proofs.hulls.own_hulls.Goals as goal
@@ -14,7 +15,9 @@ pub loop-shape-preserved : goal.loop-shape-preserved
 loop-shape-preserved c =
     own_more c.args.shapes.now c.loop-shape.shape-index c.shape-item.result c.shape_hull.result c.loop-shape.hulls.items c.widen.new.hulls.items
     (slot_read c.args.shapes.now c.loop-shape.shape-index c.shape-item.result c.loop-shape-test.true c.shape-item.is)
-    c.shape_hull.ensures c.in_ok-widen.ensures c.loop-shape.invariant
+    c.shape_hull.ensures
+    (subst (λ (pair : Pair). c.widen.new.hulls.items ≡ widened_list c.loop-shape.hulls.items pair c.shape_hull.result) c.pair.ensures c.in_ok-widen.ensures)
+    c.loop-shape.invariant
 
 pub returns : goal.returns
 returns c =

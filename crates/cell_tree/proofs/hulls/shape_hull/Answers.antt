@@ -8,5 +8,5 @@ summed-requires-clause-a c =
 
 pub returns : goal.returns
 returns c =
-    shape_least c.args.shape.now c.hull-outline.result c.hull-moves.result c.summed.result
-    (least_of c.args.shape.now.points c.hull-outline.result c.hull-outline.ensures) c.hull-moves.ensures c.summed.ensures
+    shape_least c.args.shape.now c.hull-outline.result c.spread-moves.result c.summed.result
+    (least_of c.args.shape.now.points c.hull-outline.result c.hull-outline.ensures) c.spread-moves.ensures c.summed.ensures

@@ -4,16 +4,16 @@ use Rattle.flat_walk.proofs.BoxLemmas.{shape_boxed, bare_boxed, places_near, ori
 use Rattle.flat_walk.proofs.boxes.box_of_shape.Goals as goal
 
 pub summed-requires-clause-b : goal.summed-requires-clause-b
-summed-requires-clause-b c = places_near c.args.shape.now.offsets c.hull.result c.requires.offsets c.hull.ensures
+summed-requires-clause-b c = places_near c.args.shape.now.offsets c.spread.result c.requires.offsets c.spread.ensures
 
 pub returns-in-Some : goal.returns-in-Some
 returns-in-Some c =
     let same = sym c.as_slice.ensures.value ∙ c.in-Some.ensures.cases.0 in
     subst (λ l. HasBox c.args.shape.now l c.summed.result) (sym same)
     (shape_boxed c.args.shape.now
-    (c.in-Some.first.now ∷ c.in-Some.others.now) c.box_of_pieces.result c.hull.result c.summed.result
-    c.box_of_pieces.ensures.around c.hull.ensures.around
-    c.box_of_pieces.ensures.near (places_near c.args.shape.now.offsets c.hull.result c.requires.offsets c.hull.ensures) c.summed.ensures)
+    (c.in-Some.first.now ∷ c.in-Some.others.now) c.box_of_pieces.result c.spread.result c.summed.result
+    c.box_of_pieces.ensures.around c.spread.ensures.around
+    c.box_of_pieces.ensures.near (places_near c.args.shape.now.offsets c.spread.result c.requires.offsets c.spread.ensures) c.summed.ensures)
 
 pub returns-in-None : goal.returns-in-None
 returns-in-None c =

@@ -1,4 +1,5 @@
-use Rattle.std.proofs.Common.{◌≡◌, ◌∙◌, sym, true, false, not, Bool, refl, arith}
+use Rattle.std.proofs.Common.{◌≡◌, ◌∙◌, sym, subst, true, false, not, ◌&&◌, nat_eq, Bool, refl, arith}
+use Rattle.layout_model.specs.declared.pair.Pair.{Pair}
 use Rattle.flat_walk.specs.Walks.{is_on}
 use Rattle.flat_walk.proofs.BoxLemmas.{places_past}
 use Rattle.flat_walk.proofs.RestLemmas.{places_off}
@@ -10,7 +11,9 @@ not_true false h = refl
 
 pub returns-then-ne : goal.returns-then-ne
 returns-then-ne c = λ no pieces.
-    let off : is_on c.args.pair c.args.shape.now ≡ false = not_true _ (sym c.ne.ensures ∙ c.if-ne.true) in
+    let off : is_on c.args.pair c.args.shape.now ≡ false =
+    subst (λ (p : Pair). (nat_eq p.layer c.args.pair.layer && nat_eq p.datatype c.args.pair.datatype) ≡ false) c.pair.ensures
+    (not_true _ (sym c.ne.ensures ∙ c.if-ne.true)) in
     places_off c.args.pair c.args.shape.now pieces c.args.self.now.place off
 
 pub returns-then-count-self : goal.returns-then-count-self

@@ -1,6 +1,7 @@
-use Rattle.std.proofs.Common.{◌∙◌, sym, ap, subst, arith, ◌+◌, ◌^◌, true, ◌≡◌, map, ◌++◌}
+use Rattle.std.proofs.Common.{◌∙◌, sym, ap, subst, arith, ◌+◌, ◌^◌, true, ◌≡◌, map, ◌++◌, ◌&&◌, nat_eq}
 use Rattle.layout_model.specs.Layouts.{IsMove, IsWithin}
 use Rattle.layout_model.specs.Images.{image_of}
+use Rattle.layout_model.specs.declared.pair.Pair.{Pair}
 use Rattle.flat_walk.specs.Quads.{quad_image}
 use Rattle.flat_walk.specs.Walks.{is_on}
 use Rattle.flat_walk.specs.Rests.{placed_list, places_rest}
@@ -11,7 +12,9 @@ use Rattle.flat_walk.proofs.owned.Cursor.here.Goals as goal
 pub returns-clause-list : goal.returns-clause-list
 returns-clause-list c =
     let o = c.args.self.now.orient in
-    let on : is_on c.args.pair c.args.shape.now ≡ true = not_false _ (sym c.ne.ensures ∙ c.if-ne.false) in
+    let on : is_on c.args.pair c.args.shape.now ≡ true =
+    subst (λ (p : Pair). (nat_eq p.layer c.args.pair.layer && nat_eq p.datatype c.args.pair.datatype) ≡ true) c.pair.ensures
+    (not_false _ (sym c.ne.ensures ∙ c.if-ne.false)) in
     places_on o c.args.self.now.at c.nth-by.result c.args.pair c.args.shape.now c.args.list.now c.args.self.now.place on c.nth-by.ensures
     ∙ (ap (λ l. placed_list o (image_of o c.args.self.now.at c.nth-by.result) l ++ map
     (quad_image o c.args.self.now.at)

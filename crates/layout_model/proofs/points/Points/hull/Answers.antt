@@ -1,5 +1,4 @@
-use Rattle.std.proofs.Common.{sym, ap, subst, ◌≡◌, ◌∙◌, List}
-use Rattle.half_grid.specs.declared.plane.Point.{Point}
+use Rattle.std.proofs.Common.{sym, ap, subst, ◌≡◌, ◌∙◌}
 use Rattle.layout_model.specs.Hulls.{IsLeastBoxOf}
 use Rattle.layout_model.specs.Points.{points_of, AreSound}
 use Rattle.layout_model.specs.declared.points.Held.TheVariants.{Shared}

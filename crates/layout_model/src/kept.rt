@@ -1,0 +1,348 @@
+//! Shapes as a cell keeps them.
+ghost use Rattle.std.specs.Prelude.{◌≡◌, ◌≢◌, ◌<◌, ◌≤◌, ◌↔◌, ℕ, [], All, length, slice_get, false, Some, IfOk, IfSome, IsSome, IsTrue, MatchOption, Err};
+ghost use Rattle.half_grid.specs.Outlines.{IsClosed, HasGridEdges};
+ghost use Rattle.half_grid.specs.Reach.{IsPointWithinReach};
+ghost use Rattle.layout_model.specs.Hulls.{IsLeastBoxOf};
+ghost use Rattle.layout_model.specs.Intervals.{HasNoneIn, IsFirstIn};
+ghost use Rattle.layout_model.specs.Kept.{corner, ring_between, rectangle_kept, shape_with, points_in};
+ghost use Rattle.layout_model.specs.Slants.{IsFirstSlant};
+ghost use Rattle.layout_model.specs.declared.shapes.ShapeBad.TheVariants.{Slant};
+
+use crate::boxes::box_of;
+use crate::intervals::Interval;
+use crate::offsets::{Offsets, first_of};
+use crate::pair::Pair;
+use crate::points::Points;
+use crate::shapes::{Shape, ShapeBad, first_slant};
+use geo_stream::NoMemory;
+use half_grid::{Frame, Point};
+use std::alloc::Global;
+use std::marker::Model;
+
+const ORIGIN: Point = Point { x: 0, y: 0 };
+
+// A rectangle by two opposite corners. Its outline goes from the first one upright or level, and on to the opposite one.
+#[derive(Clone, Copy, Debug)]
+struct Corners {
+    first: Point,
+    opposite: Point,
+    is_upright: bool,
+}
+
+// A rectangle at the place 0.
+#[derive(Clone, Copy, Debug)]
+struct Plain {
+    first: Point,
+    opposite: Point,
+    pair: Pair,
+    is_upright: bool,
+    is_fixed: bool,
+}
+
+// Most shapes are rectangles at the place 0. What is seldom is boxed, so that a kept shape stays small.
+#[derive(Debug, Drop)]
+enum Form {
+    Rectangle(Plain),
+    Drawn(Box<Shape>),
+}
+
+/// A shape as a cell keeps it, in 64 bytes. A rectangle that is once at the place 0, as most shapes are, takes no more
+/// memory than that, and each other shape is boxed. Contracts see the shape.
+#[derive(Debug, Drop)]
+pub struct KeptShape {
+    form: Form,
+}
+
+impl Model for KeptShape {
+    ghost use Rattle.layout_model.specs.declared.shapes.Shape.{Shape as AShape};
+    ghost use Rattle.layout_model.specs.Kept.{kept_shape};
+
+    ghost Value = { AShape };
+
+    ghost view = { λ kept. kept_shape kept.form };
+}
+
+/// The outline of a kept shape.
+#[derive(Clone, Copy)]
+pub enum Outline<'t> {
+    /// That of a rectangle.
+    Ring([Point; 5]),
+    /// One that is kept point by point.
+    Kept(&'t Points),
+}
+
+impl<'t> Outline<'t> {
+    /// The points in order, where they are in place: those of up to eight points always are. None where they are shared.
+    #[inline(always)]
+    pub fn as_slice(&self) -> Option<&[Point]>
+        ensures own { IfSome result (λ points. points.now ≡ points_in self.now) }
+        ensures few { length (points_in self.now) ≤ 8 → IsSome result }
+    {
+        match self {
+            Outline::Ring(ring) => Some(ring.as_slice()),
+            Outline::Kept(points) => points.as_slice(),
+        }
+    }
+
+    /// A copy of the points in order.
+    pub fn to_vec(&self, alloc: Global) -> Result<Vec<Point>, NoMemory>
+        ensures { IfOk result (λ points. points.items ≡ points_in self.now) }
+    {
+        match self {
+            Outline::Ring(ring) => Ok(Vec::from_slice(alloc, ring)?),
+            Outline::Kept(points) => points.to_vec(alloc),
+        }
+    }
+}
+
+impl Plain {
+    // The outline.
+    #[inline(always)]
+    fn ring(&self) -> [Point; 5]
+        ensures { result ≡ ring_between self.now.first self.now.opposite self.now.is_upright }
+    {
+        let first = self.first;
+        let opposite = self.opposite;
+        let above = Point {
+            x: first.x,
+            y: opposite.y,
+        };
+        let beside = Point {
+            x: opposite.x,
+            y: first.y,
+        };
+        if self.is_upright {
+            return [first, above, opposite, beside, first];
+        }
+        [first, beside, opposite, above, first]
+    }
+}
+
+#[inline(always)]
+fn is_same(p: &Point, q: &Point) -> bool
+    ensures { IsTrue result → p.now ≡ q.now }
+{
+    if p.x != q.x {
+        return false;
+    }
+    p.y == q.y
+}
+
+// Whether a point is above or below the first of two, or at it, and as high as the second.
+#[inline(always)]
+fn is_corner(p: &Point, along: &Point, beside: &Point) -> bool
+    ensures { IsTrue result → p.now ≡ corner along.now beside.now }
+{
+    if p.x != along.x {
+        return false;
+    }
+    p.y == beside.y
+}
+
+// The rectangle that has this outline, if one has it.
+#[inline(always)]
+fn corners_of(points: &[Point]) -> Option<Corners>
+    ensures { IfSome result (λ corners. ring_between corners.first corners.opposite corners.is_upright ≡ points.now) }
+{
+    let [a, b, c, d, e] = points else {
+        return None;
+    };
+    if !is_same(e, a) {
+        return None;
+    }
+    if is_corner(b, a, c) {
+        if is_corner(d, c, a) {
+            return Some(Corners {
+                first: *a,
+                opposite: *c,
+                is_upright: true,
+            });
+        }
+    }
+    if is_corner(b, c, a) {
+        if is_corner(d, a, c) {
+            return Some(Corners {
+                first: *a,
+                opposite: *c,
+                is_upright: false,
+            });
+        }
+    }
+    None
+}
+
+// The rectangle of these points at these offsets, where it is one and is at the place 0 alone.
+#[inline(always)]
+fn plain_of(pair: Pair, points: &[Point], offsets: &Offsets, is_fixed: bool) -> Option<Plain>
+    ensures { IfSome result (λ plain. rectangle_kept plain ≡ shape_with pair points.now offsets.now is_fixed) }
+{
+    if !offsets.is_origin() {
+        return None;
+    }
+    match corners_of(points) {
+        Some(
+            Corners {
+                first,
+                opposite,
+                is_upright,
+            },
+        ) => Some(Plain {
+            first,
+            opposite,
+            pair,
+            is_upright,
+            is_fixed,
+        }),
+        None => None,
+    }
+}
+
+impl KeptShape {
+    /// Keeps a shape in a box, whatever its form.
+    pub fn of(alloc: Global, shape: Shape) -> Result<KeptShape, NoMemory>
+        ensures { IfOk result (λ kept. kept ≡ shape) }
+    {
+        let form = Form::Drawn(Box::new(alloc, shape)?);
+        Ok(KeptShape { form })
+    }
+
+    // The shape of these points, at these offsets.
+    #[inline(always)]
+    pub(crate) fn with(
+        alloc: Global,
+        pair: Pair,
+        points: &[Point],
+        offsets: Offsets,
+        fixed: bool,
+    ) -> Result<KeptShape, NoMemory>
+        ensures { IfOk result (λ kept. kept ≡ shape_with pair points.now offsets fixed) }
+    {
+        if let Some(plain) = plain_of(pair, points, &offsets, fixed) {
+            let form = Form::Rectangle(plain);
+            return Ok(KeptShape { form });
+        }
+        let points = Points::new(alloc, points)?;
+        KeptShape::of(
+            alloc,
+            Shape {
+                pair,
+                points,
+                offsets,
+                fixed,
+            },
+        )
+    }
+
+    /// The shape of this outline, which may be enlarged. A rectangle at the place 0 is kept in place. The list isn't empty,
+    /// its last point is its first, and all points are within reach.
+    #[inline(always)]
+    pub fn new(
+        alloc: Global,
+        pair: Pair,
+        points: &[Point],
+        offsets: Offsets,
+    ) -> Result<KeptShape, ShapeBad>
+        requires closed { IsClosed points.now }
+        requires reach { All IsPointWithinReach points.now }
+        ensures pair { IfOk result (λ shape. shape.pair ≡ pair) }
+        ensures points { IfOk result (λ shape. shape.points ≡ points.now) }
+        ensures offsets { IfOk result (λ shape. shape.offsets ≡ offsets) }
+        ensures free { IfOk result (λ shape. shape.fixed ≡ false) }
+        ensures grid { IfOk result (λ _. HasGridEdges points.now) }
+        ensures slant { (k : ℕ) → (result ≡ Err (Slant k)) ↔ IsFirstSlant points.now k }
+    {
+        if let Some(k) = first_slant(points) {
+            return Err(ShapeBad::Slant(k));
+        }
+        let kept = KeptShape::with(alloc, pair, points, offsets, false)?;
+        Ok(kept)
+    }
+
+    /// Its layer and datatype.
+    #[inline(always)]
+    pub fn pair(&self) -> Pair
+        ensures { result ≡ self.now.pair }
+    {
+        match &self.form {
+            Form::Rectangle(plain) => plain.pair,
+            Form::Drawn(shape) => shape.pair,
+        }
+    }
+
+    /// Whether it may not be enlarged.
+    pub fn is_fixed(&self) -> bool
+        ensures { result ≡ self.now.fixed }
+    {
+        match &self.form {
+            Form::Rectangle(plain) => plain.is_fixed,
+            Form::Drawn(shape) => shape.fixed,
+        }
+    }
+
+    /// Its outline; the last point is the first.
+    #[inline(always)]
+    pub fn outline(&self) -> Outline<'_>
+        ensures { points_in result ≡ self.now.points }
+    {
+        match &self.form {
+            Form::Rectangle(plain) => Outline::Ring(plain.ring()),
+            Form::Drawn(shape) => Outline::Kept(&shape.points),
+        }
+    }
+
+    /// The least box of its outline, which isn't empty.
+    pub fn hull(&self) -> Frame
+        requires { self.now.points ≢ [] }
+        ensures { IsLeastBoxOf self.now.points result }
+    {
+        match &self.form {
+            Form::Rectangle(plain) => box_of(&plain.ring()),
+            Form::Drawn(shape) => shape.points.hull(),
+        }
+    }
+
+    /// How many places there are at which it is.
+    #[inline(always)]
+    pub fn count(&self) -> u64
+        ensures { result ≡ length self.now.offsets }
+    {
+        match &self.form {
+            Form::Rectangle(_) => 1,
+            Form::Drawn(shape) => shape.offsets.count(),
+        }
+    }
+
+    /// Place `k`, counted from 0.
+    #[inline(always)]
+    pub fn nth(&self, k: u64) -> Point
+        requires { k < length self.now.offsets }
+        ensures { slice_get self.now.offsets k ≡ Some result }
+    {
+        match &self.form {
+            Form::Rectangle(_) => ORIGIN,
+            Form::Drawn(shape) => shape.offsets.nth(k),
+        }
+    }
+
+    /// The least box of its places, of which there is one at least.
+    pub fn spread(&self) -> Frame
+        requires { self.now.offsets ≢ [] }
+        ensures { IsLeastBoxOf self.now.offsets result }
+    {
+        match &self.form {
+            Form::Rectangle(_) => box_of(&[ORIGIN]),
+            Form::Drawn(shape) => shape.offsets.hull(),
+        }
+    }
+
+    /// The number of the first place in an interval of an axis, from number `from` on, if there is one, as `Offsets::first_in`
+    /// finds it.
+    pub fn first_in(&self, interval: Interval, from: u64) -> Option<u64>
+        ensures { MatchOption result (HasNoneIn interval self.now.offsets from (length self.now.offsets)) (IsFirstIn interval self.now.offsets from) }
+    {
+        match &self.form {
+            Form::Rectangle(_) => first_of(&[ORIGIN], interval, from),
+            Form::Drawn(shape) => shape.offsets.first_in(interval, from),
+        }
+    }
+}
