@@ -58,13 +58,27 @@ const RING: [Point; 5] = [
 const PLACES: [Point; 1] = [Point { x: 0, y: 0 }];
 
 // A square of 10 grid steps, which may be fixed.
-fn square(rt: &impl Abort, alloc: Global, fixed: bool) -> KeptShape
+fn drawn(rt: &impl Abort, alloc: Global, fixed: bool) -> Shape
     ensures { IsShapeOnGrid result }
 {
     let places = Offsets::list(alloc, &PLACES).expect(rt, "memory");
     let mut shape = Shape::new(alloc, METAL, &RING, places).expect(rt, "a shape");
     shape.fixed = fixed;
+    shape
+}
+
+fn kept(rt: &impl Abort, alloc: Global, shape: Shape) -> KeptShape
+    ensures { result ≡ shape }
+{
     KeptShape::of(alloc, shape).expect(rt, "memory")
+}
+
+// The same, as a cell keeps it.
+fn square(rt: &impl Abort, alloc: Global, fixed: bool) -> KeptShape
+    ensures { IsShapeOnGrid result }
+{
+    let shape = drawn(rt, alloc, fixed);
+    kept(rt, alloc, shape)
 }
 
 // The cell of this name, placed once at (40, 0), enlarged so many times.
@@ -416,7 +430,8 @@ fn repeated(rt: &impl Abort, alloc: Global, offsets: Offsets) -> KeptShape
     requires { AreOffsets offsets }
     ensures { IsShapeOnGrid result }
 {
-    KeptShape::new(alloc, METAL, &RING, offsets).expect(rt, "a shape")
+    let shape = Shape::new(alloc, METAL, &RING, offsets).expect(rt, "a shape");
+    kept(rt, alloc, shape)
 }
 
 // C is a square at 2^24 places, A and B place it 2^15 times each, and T has these shapes and places A and B.
