@@ -105,8 +105,8 @@ impl Tree {
         hull_on(self.hulls[cell].as_slice(), pair)
     }
 
-    /// Whether a cell has nothing to show. Where it says so, a reachable cell has no shapes of its own; of what no
-    /// placement reaches from the top cell it always says so.
+    /// Whether a cell has nothing to show. Where it says so, a reachable cell has no shapes of its own. That it says so of a
+    /// cell that nothing reaches is tested and not promised, since it steers the cost alone.
     pub fn is_bare(&self, cell: usize) -> bool
         requires { cell < length self.now.layout.cells }
         ensures { IsTrue result → IsReachable self.now.layout.cells self.now.top cell → shapes_at self.now.layout.cells cell ≡ [] }

@@ -209,6 +209,12 @@ fn reads_each_form(rt: HostRuntime) -> Result<(), Fail> {
         y1: 1073741824,
     };
     assert_eq!(rt; deck.frame, Some(frame));
+    Ok(())
+}
+
+#[test]
+fn reads_each_step(rt: HostRuntime) -> Result<(), Fail> {
+    let deck = read(rt.alloc(), ALL).ok_or("long")?.ok().ok_or("refused")?;
     let wide = Pair {
         layer: 4294967295,
         datatype: 0,

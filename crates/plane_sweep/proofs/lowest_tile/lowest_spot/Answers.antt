@@ -14,8 +14,8 @@ returns-then-not-branch g c = λ edges come.
     let waiting = p.front.waiting.items in
     let here = rw c.in_default.is at (c.look_at-look.ensures.none edges (c.loop-spot.invariant.come edges come)) in
     let whole = c.in_ok-advance.ensures.whole edges [] here c.if-not-branch.true in
-    let found = subst (λ (zs : List Trapezoid). IsFirstOfAll zs c.lowest_waiting.result) (c.in_ok-advance.ensures.same c.if-not-branch.true ∙ sym (append-nil waiting))
-    c.lowest_waiting.ensures.lowest in
+    let same = c.in_ok-advance.ensures.same c.if-not-branch.true ∙ sym (append-nil waiting) in
+    let found = subst (λ (zs : List Trapezoid). IsFirstOfAll zs c.lowest_waiting.result) same c.lowest_waiting.ensures.lowest in
     subst (λ (w : RowRange). IsSpotIn (IsTakenIn post edges w) c.lowest_waiting.result) (c.look_at-look.ensures.window ∙ c.loop-spot.invariant.window)
     (spot_of_all post edges p.window p.window.y1 waiting [] (omega (arith, ints)) whole refl c.lowest_waiting.result found)
 
