@@ -7,6 +7,8 @@ use Rattle.layout_model.specs.declared.cells.Placement.{Placement}
 use Rattle.layout_model.specs.declared.cells.Cell.{Cell}
 use Rattle.cell_tree.specs.Cells.{PlacesCell, cell_number}
 use Rattle.cell_tree.specs.Orders.{IsAmong}
+use Rattle.cell_tree.specs.declared.crowds.Counted.{Counted}
+use Rattle.cell_tree.specs.declared.crowds.Counted.TheVariants.{Each, Crowded}
 use Rattle.cell_tree.specs.Flattening.{shape_count}
 
 -- at most 2^128 - 1
@@ -30,3 +32,13 @@ pub record IsCrowd (cells : List Cell) (order : List ℕ) (n count : ℕ) : Type
   pub many : 2 ^ 40 < shape_count cells n
   pub lowest : (m : ℕ) → PlacesCell cells n m → shape_count cells m ≤ 2 ^ 40
   pub number : count ≡ saturated (shape_count cells n)
+
+-- the cell's number of flattened shapes, by the table, and it is at most 2^40
+pub record HasCount (cells : List Cell) (counts : List ℕ) (n : ℕ) : Type 0 where
+  pub number : slice_index counts n ≡ shape_count cells n
+  pub few : shape_count cells n ≤ 2 ^ 40
+
+-- a table of the numbers of the cells of the order, or the first of these that has too many
+abbrev pub AreCounted : List Cell → List ℕ → Counted → Type 0
+AreCounted cells order (Each counts) = (length counts.items ≡ length cells) × ((n : ℕ) → IsAmong order n → HasCount cells counts.items n)
+AreCounted cells order (Crowded crowd) = IsCrowd cells order crowd.cell crowd.count

@@ -1,10 +1,10 @@
 //! How many flattened shapes there are.
-ghost use Rattle.std.specs.Prelude.{◌≡◌, ◌<◌, ◌≤◌, ◌^◌, ℕ, length, slice_index, IfOk, IfSome, MatchOption};
+ghost use Rattle.std.specs.Prelude.{◌≡◌, ◌<◌, ◌≤◌, ◌^◌, ℕ, length, slice_index, IfOk, IfSome};
 ghost use Rattle.cell_tree.specs.Cells.{PlacesAt};
 ghost use Rattle.cell_tree.specs.Chains.{IsShort};
 ghost use Rattle.cell_tree.specs.Orders.{IsUpward, IsAmong};
 ghost use Rattle.cell_tree.specs.Flattening.{shape_count};
-ghost use Rattle.cell_tree.specs.Counting.{saturated, own_count, copies_of, IsCrowd};
+ghost use Rattle.cell_tree.specs.Counting.{saturated, own_count, copies_of, AreCounted};
 
 use crate::linked::Linked;
 use geo_stream::NoMemory;
@@ -59,25 +59,31 @@ fn count_of(linked: &Linked, cell: usize, counts: &[u64]) -> u128
     count
 }
 
-/// The first of the cells of the order that has more than 2^40 flattened shapes.
-pub(crate) fn find_crowd(
+/// The numbers of flattened shapes of some cells, or the first of these that has more than 2^40.
+#[derive(Drop)]
+pub(crate) enum Counted {
+    /// By the number of the cell.
+    Each(Vec<u64>),
+    Crowded(Crowd),
+}
+
+/// Counts the flattened shapes of the cells of the order.
+pub(crate) fn count_shapes(
     alloc: Global,
     linked: &Linked,
     order: &[usize],
-) -> Result<Option<Crowd>, NoMemory>
+) -> Result<Counted, NoMemory>
     requires order { IsUpward linked.now.cells order.now }
     requires short { (n : ℕ) → IsAmong order.now n → IsShort linked.now.cells 64 n }
-    ensures { IfOk result (λ found. MatchOption found
-        ((n : ℕ) → IsAmong order.now n → shape_count linked.now.cells n ≤ 2 ^ 40)
-        (λ crowd. IsCrowd linked.now.cells order.now crowd.cell crowd.count)) }
+    ensures { IfOk result (AreCounted linked.now.cells order.now) }
 {
     let mut counts = vec![in alloc; 0; linked.cells().len()]?;
     for cell in order {
         let count = count_of(linked, *cell, counts.as_slice());
         if count > MOST {
-            return Ok(Some(Crowd { cell: *cell, count }));
+            return Ok(Counted::Crowded(Crowd { cell: *cell, count }));
         }
         counts[*cell] = count as u64;
     }
-    Ok(None)
+    Ok(Counted::Each(counts))
 }

@@ -4,13 +4,14 @@ ghost use Rattle.layout_model.specs.Layouts.{IsLayoutOnGrid};
 ghost use Rattle.cell_tree.specs.Cells.{cell_number};
 ghost use Rattle.cell_tree.specs.Orders.{IsOrder};
 ghost use Rattle.cell_tree.specs.Searches.{IsFound};
+ghost use Rattle.cell_tree.specs.Flattening.{shape_count};
 ghost use Rattle.cell_tree.specs.HullTables.{extent_in};
 ghost use Rattle.cell_tree.specs.Trees.{IsKnown, IsAcyclic, IsShallow, IsMild, KeepsFixed, IsCounted, IsNear, IsTree};
 ghost use Rattle.cell_tree.specs.Faults.{IsFirstFault, order_of};
 ghost use Rattle.cell_tree.specs.declared.faults.TreeBad.{TreeBad as ABad};
 ghost use Rattle.cell_tree.specs.declared.faults.TreeBad.TheVariants.{NoTop, NoMemory as Wanting};
 
-use crate::crowds::find_crowd;
+use crate::crowds::{Counted, count_shapes};
 use crate::extents::first_beyond;
 use crate::factors::{farthest, scaled_chain};
 use crate::faults::{TreeBad, copy_of, name_of, names_of};
@@ -32,6 +33,7 @@ pub struct Tree {
     linked: Linked,
     top: usize,
     hulls: Vec<Vec<PairHull>>,
+    shapes: u64,
 }
 
 impl Model for Tree {
@@ -39,6 +41,7 @@ impl Model for Tree {
     ghost use Rattle.layout_model.specs.Layouts.{IsLayoutOnGrid};
     ghost use Rattle.cell_tree.specs.Trees.{Rooted, IsTree};
     ghost use Rattle.cell_tree.specs.HullTables.{AreHullsBelow};
+    ghost use Rattle.cell_tree.specs.Flattening.{shape_count};
 
     ghost Value = { Rooted };
 
@@ -46,13 +49,14 @@ impl Model for Tree {
 
     ghost invariant = { λ tree. IsLayoutOnGrid tree.linked × (tree.top < length tree.linked.cells)
         × IsTree tree.linked.cells tree.top × (length tree.hulls.items ≡ length tree.linked.cells)
-        × AreHullsBelow tree.linked.cells tree.top (map (λ list. list.items) tree.hulls.items) };
+        × AreHullsBelow tree.linked.cells tree.top (map (λ list. list.items) tree.hulls.items)
+        × (tree.shapes ≡ shape_count tree.linked.cells tree.top) };
 }
 
 impl Tree {
     ghost use Rattle.cell_tree.specs.Cells.{placements_at, shapes_at};
     ghost use Rattle.cell_tree.specs.Chains.{IsReachable};
-    ghost use Rattle.cell_tree.specs.Flattening.{IsVertex};
+    ghost use Rattle.cell_tree.specs.Flattening.{IsVertex, shape_count};
     ghost use Rattle.cell_tree.specs.Boxes.{IsHull, IsBoxUpTo};
     ghost use Rattle.cell_tree.specs.Spots.{IsSpotVertex};
     ghost use Rattle.half_grid.specs.declared.plane.Point.{Point as APoint};
@@ -73,6 +77,13 @@ impl Tree {
         ensures { result ≡ self.now.layout.counts }
     {
         self.linked.layout().counts
+    }
+
+    /// The number of flattened shapes of the top cell, 2^40 at most.
+    pub fn shape_count(&self) -> u64
+        ensures { result ≡ shape_count self.now.layout.cells self.now.top }
+    {
+        self.shapes
     }
 
     /// The number of the top cell.
@@ -235,8 +246,9 @@ fn extent_of(hulls: &[PairHull]) -> Option<i64>
     first_beyond(hull)
 }
 
-// Whether there are at most 2^40 flattened shapes.
-fn ask_count(alloc: Global, linked: &Linked, found: &Found) -> Result<(), TreeBad>
+// The number of flattened shapes of the top cell, where each cell has at most 2^40.
+fn ask_count(alloc: Global, linked: &Linked, found: &Found) -> Result<u64, TreeBad>
+    requires top { found.now.top < length linked.now.cells }
     requires order { IsOrder linked.now.cells found.now.top found.now.order.items }
     requires known { IsKnown linked.now.cells found.now.top }
     requires acyclic { IsAcyclic linked.now.cells found.now.top }
@@ -245,13 +257,16 @@ fn ask_count(alloc: Global, linked: &Linked, found: &Found) -> Result<(), TreeBa
     requires fixed { KeepsFixed linked.now.cells found.now.top }
     requires near { IsNear linked.now.cells found.now.top }
     ensures ok { OnOk result (IsCounted linked.now.cells found.now.top) }
+    ensures count { IfOk result (λ count. count ≡ shape_count linked.now.cells found.now.top) }
     ensures err { IfErr result (IsFirstFault linked.now.cells found.now.top) }
 {
-    if let Some(crowd) = find_crowd(alloc, linked, found.order.as_slice())? {
-        let name = name_of(alloc, linked.cells(), crowd.cell)?;
-        return Err(TreeBad::Count(name, crowd.count));
+    match count_shapes(alloc, linked, found.order.as_slice())? {
+        Counted::Each(counts) => Ok(counts[found.top]),
+        Counted::Crowded(crowd) => {
+            let name = name_of(alloc, linked.cells(), crowd.cell)?;
+            Err(TreeBad::Count(name, crowd.count))
+        }
     }
-    Ok(())
 }
 
 // The tree below the top cell, by what the search found.
@@ -273,11 +288,12 @@ fn tree_of(alloc: Global, linked: Linked, found: &Found) -> Result<Tree, TreeBad
     if let Some(value) = extent_of(hulls[found.top].as_slice()) {
         return Err(TreeBad::Extent(value));
     }
-    ask_count(alloc, &linked, found)?;
+    let shapes = ask_count(alloc, &linked, found)?;
     Ok(Tree {
         linked,
         top: found.top,
         hulls,
+        shapes,
     })
 }
 

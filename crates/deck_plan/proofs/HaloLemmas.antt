@@ -1,10 +1,10 @@
 -- The halos of an output, definition by definition from the last one down.
 use Rattle.std.proofs.Common.{◌≡◌, ◌⊎◌, inl, inr, ℕ, zero, suc, ◌+◌, ◌*◌, ◌<◌, ◌≤◌, ℤ, pos, ◌+ℤ◌, ◌≤ℤ◌, List, [], ◌∷◌}
-use Rattle.std.proofs.Common.{true, false, ◌++◌, Option, Some, None, length, set, get_or, slice_get, replicate, Contains, IfSome}
+use Rattle.std.proofs.Common.{false, ◌++◌, Option, Some, None, length, set, get_or, slice_get, replicate, Contains, IfSome}
 use Rattle.std.proofs.Common.{refl, sym, ap, subst, ◌∙◌, arith}
 use Rattle.std.proofs.lemmas.Int.{ints, by_lt_z, clamps}
 use Rattle.std.proofs.lemmas.Bool.{false≢true}
-use Rattle.std.proofs.lemmas.Option.{none-some, same_Some, slice_get_within, slice_get-get_or, get_or_from_slice_get}
+use Rattle.std.proofs.lemmas.Option.{none-some, same_Some, slice_get-get_or, get_or_from_slice_get}
 use Rattle.std.specs.Int.{int_max}
 use Rattle.std.specs.Option.{option_to_list}
 use Rattle.deck_text.specs.declared.deck.Deck.{Deck}
@@ -13,7 +13,7 @@ use Rattle.deck_text.specs.Sound.{IsSoundStep}
 use Rattle.deck_plan.specs.declared.needs.Taken.{Taken}
 use Rattle.deck_plan.specs.declared.needs.Need.{Need}
 use Rattle.deck_plan.specs.Needs.{IsChain, chain_end, Takes, operands_of}
-use Rattle.deck_plan.specs.Halos.{halo_sum, HasChain, IsLone, NeedIs, AreHalos, IsSoundOperand, raised, raised_at, raised_all, passed, passed_by}
+use Rattle.deck_plan.specs.Halos.{halo_sum, HasChain, IsLone, NeedIs, AreHalos, IsSoundOperand, raised, raised_all, passed, passed_by}
 use Rattle.deck_plan.proofs.Slots.{set_cases, set_here, set_length, all_alike, alike_length, one_slot}
 use Rattle.deck_plan.proofs.StepLemmas.{sound_operand}
 

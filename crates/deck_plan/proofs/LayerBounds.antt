@@ -1,11 +1,11 @@
 -- Where the tiles of a layer are, by its vertices.
-use Rattle.std.proofs.Common.{◌≡◌, ℕ, zero, suc, ◌+◌, ◌^◌, ℤ, pos, neg_ℤ, ◌≤ℤ◌, ◌<ℤ◌, List, [], ◌∷◌, Option, Some, None}
-use Rattle.std.proofs.Common.{All, Any, Contains, Bool, true, false, int_le, if◌then◌else◌, IfSome, refl, sym, ap}
-use Rattle.std.proofs.Common.{subst, ◌∙◌, arith}
+use Rattle.std.proofs.Common.{ℕ, ◌^◌, ℤ, pos, neg_ℤ, ◌≤ℤ◌, ◌<ℤ◌, List, [], ◌∷◌, Some, None}
+use Rattle.std.proofs.Common.{All, Contains, Bool, true, false, int_le, if◌then◌else◌, IfSome, refl}
+use Rattle.std.proofs.Common.{arith}
 use Rattle.std.proofs.lemmas.Int.{ints, by_lt_z}
 use Rattle.std.proofs.lemmas.List.Elements.{All-contains, recursion_from_All}
 use Rattle.half_grid.specs.Outlines.{IsClosed, HasGridEdges, IsOnGrid}
-use Rattle.half_grid.specs.Winding.{IsInPolygon, winding, edges_of}
+use Rattle.half_grid.specs.Winding.{IsInPolygon, edges_of}
 use Rattle.half_grid.specs.Windows.{RowRange, row_range}
 use Rattle.half_grid.specs.declared.plane.Point.{Point}
 use Rattle.half_grid.specs.declared.plane.Tile.{Tile}
@@ -16,7 +16,7 @@ use Rattle.layout_model.specs.Layouts.{IsWithin}
 use Rattle.layout_model.specs.declared.pair.Pair.{Pair}
 use Rattle.layout_model.specs.declared.cells.Cell.{Cell}
 use Rattle.cell_tree.specs.Flattening.{Flat, flattened, IsInLayer, IsVertex}
-use Rattle.cell_tree.specs.Boxes.{IsHull, IsLeastBox}
+use Rattle.cell_tree.specs.Boxes.{IsHull}
 use Rattle.cell_tree.specs.Trees.{IsNear}
 use Rattle.bool_ops.specs.Operations.{IsInRows}
 use Rattle.deck_plan.specs.Bounds.{IsTileUpTo}

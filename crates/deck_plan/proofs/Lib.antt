@@ -21,3 +21,6 @@ pub mod ImageLemmas
 pub mod MoveLemmas
 pub mod OwnLayerLemmas
 pub mod ReadyLemmas
+pub mod KnownAreas
+pub mod StackLemmas
+pub mod ListsExist

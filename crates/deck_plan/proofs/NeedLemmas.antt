@@ -1,17 +1,17 @@
 -- The needed windows are the band widened by the halos: they are enough, and the least that are.
-use Rattle.std.proofs.Common.{◌≡◌, ◌⊎◌, inl, inr, ℕ, zero, suc, ◌+◌, ◌*◌, ◌<◌, ◌≤◌, ℤ, pos, ◌+ℤ◌, ◌-ℤ◌, ◌≤ℤ◌, ◌<ℤ◌}
-use Rattle.std.proofs.Common.{List, [], ◌∷◌, ◌++◌, Option, Some, None, length, get_or, slice_get, Contains, refl, sym}
-use Rattle.std.proofs.Common.{ap, subst, ◌∙◌, arith}
+use Rattle.std.proofs.Common.{◌≡◌, ℕ, ℤ, pos, ◌+ℤ◌, ◌-ℤ◌, ◌≤ℤ◌, ◌<ℤ◌}
+use Rattle.std.proofs.Common.{List, [], ◌∷◌, ◌++◌, Option, Some, None, get_or, slice_get, refl, sym}
+use Rattle.std.proofs.Common.{ap, subst, arith}
 use Rattle.std.proofs.lemmas.Int.{ints}
-use Rattle.std.proofs.lemmas.Option.{slice_get_within, slice_get-get_or, get_or_from_slice_get}
-use Rattle.half_grid.specs.Windows.{RowRange, row_range}
+use Rattle.std.proofs.lemmas.Option.{get_or_from_slice_get}
+use Rattle.half_grid.specs.Windows.{RowRange}
 use Rattle.deck_text.specs.declared.deck.Deck.{Deck}
 use Rattle.deck_text.specs.declared.deck.Step.{Step}
 use Rattle.deck_text.specs.Sound.{IsSoundStep}
 use Rattle.deck_plan.specs.declared.needs.Taken.{Taken}
 use Rattle.deck_plan.specs.declared.needs.Need.{Need}
-use Rattle.deck_plan.specs.Needs.{IsChain, chain_end, Takes, IsUsed, IsBand, IsInside, widened, AreEnough, AreNeeded}
-use Rattle.deck_plan.specs.Halos.{halo_sum, HasChain, NeedIs, AreHalos, IsSoundOperand, window_for}
+use Rattle.deck_plan.specs.Needs.{IsChain, chain_end, Takes, IsUsed, IsInside, widened, AreEnough, AreNeeded}
+use Rattle.deck_plan.specs.Halos.{halo_sum, HasChain, NeedIs, AreHalos, window_for}
 use Rattle.deck_plan.proofs.Slots.{filled}
 use Rattle.deck_plan.proofs.HaloLemmas.{chain_put, end_put}
 use Rattle.deck_plan.proofs.StepLemmas.{sound_operand}

@@ -1,27 +1,27 @@
 -- The flattened shapes of a layout on the grid are closed outlines on the half grid.
-use Rattle.std.proofs.Common.{◌≡◌, ◌⊎◌, inl, inr, ℕ, zero, suc, ◌+◌, ◌<◌, ℤ, pos, negsuc, Bool, false, ◌+ℤ◌, List, []}
-use Rattle.std.proofs.Common.{◌∷◌, ◌++◌, Option, Some, None, All, Any, Contains, map, length, get_or, slice_get, true}
-use Rattle.std.proofs.Common.{refl, sym, ap, subst, ◌∙◌, arith}
+use Rattle.std.proofs.Common.{◌≡◌, inl, inr, ℕ, zero, suc, ℤ, pos, negsuc, Bool, false, ◌+ℤ◌, List, []}
+use Rattle.std.proofs.Common.{Option, Some, None, All, map, slice_get, true}
+use Rattle.std.proofs.Common.{refl, subst, arith}
 use Rattle.std.proofs.lemmas.Int.{ints}
 use Rattle.std.proofs.lemmas.Bool.Decides.{nat_tests}
-use Rattle.std.proofs.lemmas.List.Elements.{All-contains, recursion_from_All, All-from_recursion}
+use Rattle.std.proofs.lemmas.List.Elements.{recursion_from_All, All-from_recursion}
 use Rattle.std.proofs.lemmas.Option.{slice_get_within, get_or_from_slice_get}
 use Rattle.std.specs.List.{flat_map}
 use Rattle.std.specs.Option.{option_map_or}
 use Rattle.half_grid.specs.Halves.{is_even, half, twice}
-use Rattle.half_grid.specs.Outlines.{IsClosed, HasGridEdges, IsOnGrid}
+use Rattle.half_grid.specs.Outlines.{IsOnGrid}
 use Rattle.half_grid.specs.Winding.{edges_of}
 use Rattle.half_grid.specs.declared.plane.Point.{Point}
 use Rattle.trap_join.proofs.ForCallers.{all_members}
 use Rattle.square_size.proofs.ForCallers.{half_twice}
-use Rattle.layout_model.specs.Images.{moved, image_of_points}
-use Rattle.layout_model.specs.Layouts.{IsMove, AreOffsets, IsShapeOnGrid, IsPlacementOnGrid, IsCellOnGrid, IsLayoutOnGrid}
+use Rattle.layout_model.specs.Images.{moved}
+use Rattle.layout_model.specs.Layouts.{IsMove, IsShapeOnGrid, IsPlacementOnGrid, IsCellOnGrid}
 use Rattle.layout_model.specs.declared.shapes.Shape.{Shape}
 use Rattle.layout_model.specs.declared.cells.Placement.{Placement}
 use Rattle.layout_model.specs.declared.cells.Cell.{Cell}
 use Rattle.cell_tree.specs.Cells.{shapes_at, placements_at, cell_number}
 use Rattle.cell_tree.specs.Flattening.{Flat, flats_of_shape, own_flats, flat_image, placed_things, things_within, flattened}
-use Rattle.cell_tree.proofs.ForCallers.{Has, any_has, has_any, has_split, has_flat, has_map, has_slot, shapes_on_grid, on_grid}
+use Rattle.cell_tree.proofs.ForCallers.{Has, any_has, has_split, has_flat, has_map, has_slot, shapes_on_grid, on_grid}
 use Rattle.flat_walk.proofs.ForCallers.{IsLoop, move_loop, image_loop}
 use Rattle.deck_plan.proofs.LayerBounds.{IsOutline}
 

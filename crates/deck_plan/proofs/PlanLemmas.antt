@@ -1,5 +1,5 @@
 -- What a plan's deck gives for its outputs.
-use Rattle.std.proofs.Common.{◌≡◌, ℕ, ◌<◌, ◌≤◌, ◌^◌, ℤ, pos, ◌≤ℤ◌, List, Option, Some, None, All, IsSomeAnd, length, slice_get, get_or, refl, sym, subst, arith}
+use Rattle.std.proofs.Common.{◌≡◌, ℕ, ◌<◌, ◌^◌, pos, ◌≤ℤ◌, List, Option, Some, None, All, IsSomeAnd, length, slice_get, get_or, refl, sym, subst, arith}
 use Rattle.std.proofs.lemmas.Int.{ints}
 use Rattle.std.proofs.lemmas.Option.{slice_get-get_or}
 use Rattle.deck_text.specs.Sound.{IsSoundOutput}

@@ -1,7 +1,7 @@
 -- What stands at a place of a list.
 use Rattle.std.proofs.Common.{◌≡◌, ◌⊎◌, inl, inr, ℕ, zero, suc, ◌<◌, List, [], ◌∷◌, Option, Some, None, length, set}
-use Rattle.std.proofs.Common.{get_or, slice_get, replicate, map, refl, sym, ap, ◌∙◌, arith}
-use Rattle.std.proofs.lemmas.Option.{none-some, same_Some, slice_get_within, slice_get-get_or, get_or_from_slice_get}
+use Rattle.std.proofs.Common.{get_or, slice_get, replicate, refl, sym, ap, ◌∙◌, arith}
+use Rattle.std.proofs.lemmas.Option.{none-some, same_Some}
 
 -- after one place was set
 pub set_cases : {A : Type 0} (xs : List A) (i : ℕ) (y : A) (j : ℕ) → i < length xs

@@ -1,17 +1,16 @@
 -- The area of a step depends on the areas of its operands alone, in the rows that it takes of them; and the area of a
 -- definition is that of its step.
-use Rattle.std.proofs.Common.{◌≡◌, ◌⊎◌, inl, inr, ℕ, zero, suc, ◌+◌, ◌*◌, ◌^◌, ◌<◌, ◌≤◌, ℤ, pos, neg_ℤ, ◌+ℤ◌, ◌-ℤ◌}
-use Rattle.std.proofs.Common.{◌≤ℤ◌, ◌<ℤ◌, List, [], ◌∷◌, length, slice_get, Option, Some, None, IsSomeAnd, Contains}
-use Rattle.std.proofs.Common.{IfSome, IsSome, refl, sym, ap, subst, ◌∙◌, arith}
+use Rattle.std.proofs.Common.{◌≡◌, ◌⊎◌, inl, inr, ℕ, zero, suc, ◌^◌, ◌<◌, ℤ, pos, ◌+ℤ◌}
+use Rattle.std.proofs.Common.{List, [], ◌∷◌, length, slice_get, Option, Some, None, IsSomeAnd, Contains}
+use Rattle.std.proofs.Common.{IfSome, refl, sym, subst, arith}
 use Rattle.std.proofs.lemmas.Int.{ints}
 use Rattle.std.proofs.lemmas.Option.{slice_get_within}
-use Rattle.half_grid.specs.Nearness.{IsNear, IsGrown, IsShrunk}
+use Rattle.half_grid.specs.Nearness.{IsNear}
 use Rattle.half_grid.specs.Trapezoids.{Trapezoid}
 use Rattle.half_grid.specs.Windows.{RowRange, row_range}
 use Rattle.half_grid.specs.declared.plane.Tile.{Tile}
 use Rattle.half_grid.specs.declared.extent.Frame.{Frame}
 use Rattle.square_size.specs.Ranges.{IsRectangle}
-use Rattle.square_size.specs.EdgeLaws.{IsInSome}
 use Rattle.tone_mirror.specs.Frames.{IsInFrame}
 use Rattle.tone_mirror.specs.Mirrors.{mirrored_tile}
 use Rattle.layout_model.specs.declared.pair.Pair.{Pair}
@@ -21,12 +20,12 @@ use Rattle.bool_ops.specs.Operations.{IsInRows}
 use Rattle.deck_text.specs.declared.deck.Step.{Step}
 use Rattle.deck_text.specs.declared.deck.Step.TheVariants.{Layer, Or, And, Sub, Xor, Grow, Shrink, Invert, Mirror}
 use Rattle.deck_text.specs.declared.deck.Deck.{Deck}
-use Rattle.deck_text.specs.Sound.{IsSound, IsSoundStep, AreSides, IsFrame, IsNear as IsNearLine}
+use Rattle.deck_text.specs.Sound.{IsSoundStep, AreSides, IsFrame, IsNear as IsNearLine}
 use Rattle.deck_plan.specs.Areas.{IsInStep, area_over, IsInArea}
 use Rattle.deck_plan.specs.declared.needs.Taken.{Taken}
 use Rattle.deck_plan.specs.Needs.{taken, operands_of, widened}
 use Rattle.deck_plan.specs.Halos.{IsSoundOperand}
-use Rattle.deck_plan.specs.Lists.{HasArea, list_at, IsListed}
+use Rattle.deck_plan.specs.Lists.{HasArea, IsListed}
 use Rattle.deck_plan.specs.Bounds.{IsTileUpTo, bound_of}
 use Rattle.deck_plan.proofs.AreaLists.{same_area}
 use Rattle.deck_plan.proofs.Sizes.{near_rows, near_itself}

@@ -8,7 +8,7 @@
 --   mirror: the tiles whose mirror image is in the area.
 -- An operand is a definition that stands earlier, so what is said here of steps upon steps, at most as many as the deck
 -- has definitions, is said of all. The area of an output is that of the definition that it names.
-use Rattle.std.specs.Prelude.{◌⊎◌, ℕ, zero, suc, List, length, slice_get, Option, Some, IsSomeAnd}
+use Rattle.std.specs.Prelude.{◌⊎◌, ℕ, zero, suc, List, length, slice_get, Option, IsSomeAnd}
 use Rattle.half_grid.specs.Nearness.{IsGrown, IsShrunk}
 use Rattle.half_grid.specs.Windows.{RowRange}
 use Rattle.half_grid.specs.declared.plane.Tile.{Tile}

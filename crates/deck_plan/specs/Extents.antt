@@ -1,6 +1,6 @@
 -- Rows outside of which areas are empty, area by area: none where the area is empty.
-use Rattle.std.specs.Prelude.{◌≡◌, ◌<◌, ◌≤◌, length, slice_get, ◌≤ℤ◌, ◌+ℤ◌, ◌-ℤ◌, ◌+◌, ◌*◌, ◌^◌, ℕ, ℤ, pos, List}
-use Rattle.std.specs.Prelude.{Option, Some, None, get_or, MatchOption, IfSome, int_le, if◌then◌else◌}
+use Rattle.std.specs.Prelude.{◌≡◌, ◌<◌, ◌≤◌, length, slice_get, ◌+◌, ◌*◌, ◌^◌, ℕ, ℤ, List}
+use Rattle.std.specs.Prelude.{Option, Some, None, get_or, IfSome, int_le, if◌then◌else◌}
 use Rattle.std.specs.Int.{int_min, int_max}
 use Rattle.half_grid.specs.Windows.{RowRange, row_range}
 use Rattle.half_grid.specs.declared.plane.Tile.{Tile}

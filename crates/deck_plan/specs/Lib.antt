@@ -14,3 +14,4 @@ pub mod OwnLayers
 pub mod LayerSets
 pub mod Ready
 pub mod Moves
+pub mod Stacks

@@ -1,15 +1,18 @@
 -- What a plan is seen as: a deck, and the cells of a layout with the number of its top cell.
-use Rattle.std.specs.Prelude.{◌≡◌, ◌<◌, ◌⊎◌, ℕ, List, Some, slice_get, length}
-use Rattle.half_grid.specs.Trapezoids.{Trapezoid, CoversExactly}
+use Rattle.std.specs.Prelude.{◌≡◌, ◌<◌, ◌⊎◌, ℕ, List, All, Some, slice_get, length}
+use Rattle.half_grid.specs.Trapezoids.{Trapezoid, CoversExactly, IsShot}
+use Rattle.half_grid.specs.Windows.{RowRange}
 use Rattle.half_grid.specs.Winding.{IsInPolygon}
 use Rattle.layout_model.specs.declared.shapes.Shape.{Shape}
 use Rattle.cell_tree.specs.Cells.{shapes_at}
 use Rattle.cell_tree.specs.Chains.{IsReachable}
 use Rattle.flat_walk.specs.Tables.{IsCut, HasShape, with_pieces}
 use Rattle.layout_model.specs.declared.cells.Cell.{Cell}
+use Rattle.bool_ops.specs.Operations.{IsJoinedOf}
 use Rattle.deck_text.specs.Decks.{IsDeck}
 use Rattle.deck_text.specs.declared.deck.Deck.{Deck}
 use Rattle.cell_tree.specs.Trees.{Rooted}
+use Rattle.deck_plan.specs.Areas.{IsInBand}
 
 pub record Planned : Type 0 where
   pub deck : Deck
@@ -18,6 +21,11 @@ pub record Planned : Type 0 where
 
 abbrev pub planned : Deck → Rooted → Planned
 planned deck tree = record { deck = deck; cells = tree.layout.cells; top = tree.top }
+
+-- the joined list, of shots, of what output k of a plan has in the rows of a band
+pub record IsBandOf (p : Planned) (k : ℕ) (band : RowRange) (traps : List Trapezoid) : Type 0 where
+  pub shots : All IsShot traps
+  pub joined : IsJoinedOf band (IsInBand p.cells p.top p.deck k band) traps
 
 -- the deck is that of some bytes, where the command gives some names of layout and deck
 pub record IsRead (deck : Deck) : Type 0 where

@@ -1,6 +1,7 @@
 //! Plans, and the areas of their outputs.
 ghost use Rattle.std.specs.Prelude.{◌≡◌, ◌<◌, ◌≤◌, ◌+◌, ◌^◌, ◌≤ℤ◌, map, neg_ℤ, pos, ℕ, true, length, get_or, slice_get, Some, None, All, IfOk, IfSome, IsTrue, OnOk, IsSomeAnd, List};
-ghost use Rattle.half_grid.specs.Trapezoids.{IsLegal, IsShot};
+ghost use Rattle.half_grid.specs.Trapezoids.{IsLegal, IsShot, Trapezoid};
+ghost use Rattle.half_grid.specs.Windows.{RowRange};
 ghost use Rattle.half_grid.specs.declared.plane.Tile.{Tile};
 ghost use Rattle.deck_text.specs.Sound.{IsSound, IsSoundStep};
 ghost use Rattle.cell_tree.specs.Boxes.{IsUpTo};
@@ -14,7 +15,7 @@ ghost use Rattle.cell_tree.specs.Flattening.{IsInLayer};
 ghost use Rattle.deck_plan.specs.Halos.{AreHalos};
 ghost use Rattle.deck_plan.specs.Ready.{AreHeld, IsHeld, IsReady, ends_at};
 ghost use Rattle.deck_plan.specs.OwnLayers.{own_layers, IsLeftOut};
-ghost use Rattle.deck_plan.specs.Plans.{planned, IsRead};
+ghost use Rattle.deck_plan.specs.Plans.{planned, IsRead, IsBandOf};
 
 use crate::cutting::cut_parts;
 use crate::extents::Extents;
@@ -81,6 +82,18 @@ impl<'t> Plan<'t> {
         ensures sound { (layout_name deck_name : List ℕ) × IsSound layout_name deck_name self.now.deck }
     {
         self.deck
+    }
+
+    /// About how many trapezoids the layout has: its flattened shapes, or the pieces of the shapes of its cells where these
+    /// are more. It is for speed alone: nothing is promised of it.
+    pub fn weight(&self) -> u64 {
+        self.tree.shape_count().max(self.parts.count())
+    }
+
+    /// How many pieces the shapes of the layout's cells have, each once, wherever their cells are placed. It is for speed
+    /// alone: nothing is promised of it.
+    pub fn piece_count(&self) -> u64 {
+        self.parts.count()
     }
 
     // The definition that an output names.
@@ -202,6 +215,17 @@ impl<'t> Plan<'t> {
         ensures { (pair : APair) (t : Tile) → IsInLayer self.now.cells self.now.top pair t → IsTileUpTo (2 ^ 30) t }
     {
         let _cells = self.tree.cells();
+    }
+
+    /// The output's area has a joined list in each band within reach, whether memory suffices for the list or not. It costs
+    /// nothing.
+    pub fn has_lists(&self, output: usize)
+        requires { output < length self.now.deck.outputs }
+        ensures { (band : RowRange) → IsBand band → (traps : List Trapezoid) × IsBandOf self.now output band traps }
+    {
+        self.layers_are_near();
+        let _deck = self.deck();
+        let _named = self.named(output);
     }
 
     // The layers of a definition that sweeps over these itself.

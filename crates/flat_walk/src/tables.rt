@@ -15,6 +15,7 @@ use std::marker::Model;
 pub struct Parts {
     alloc: Global,
     cells: Vec<Vec<Pieces>>,
+    count: u64,
 }
 
 impl Model for Parts {
@@ -117,7 +118,11 @@ impl Parts {
         ensures { IfOk result (λ parts. parts ≡ no_pieces tree.now.layout.cells) }
     {
         let cells = nothing_yet(alloc, tree.cells())?;
-        Ok(Parts { alloc, cells })
+        Ok(Parts {
+            alloc,
+            cells,
+            count: 0,
+        })
     }
 
     /// Keeps the pieces of a shape, in place of those that were put earlier. Both numbers are in range of the tree.
@@ -130,7 +135,13 @@ impl Parts {
         let pieces = Pieces::of(self.alloc, traps)?;
         let lists = &mut self.cells[cell];
         lists[shape] = pieces;
+        self.count = self.count.saturating_add(traps.len() as u64);
         Ok(())
+    }
+
+    /// How many pieces were put, with those that others replaced. It is for speed alone: nothing is promised of it.
+    pub fn count(&self) -> u64 {
+        self.count
     }
 
     // The pieces of the shapes of a cell.

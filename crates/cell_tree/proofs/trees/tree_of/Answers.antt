@@ -64,12 +64,13 @@ invariant_of-result c =
         mild = c.in_ok-ask_scale.ensures.ok;
         fixed = c.in_ok-ask_fixed.ensures.ok;
         near = near;
-        counted = c.in_ok-ask_count.ensures.ok;
+        counted = c.in_ok-shapes.ensures.ok;
       },
       c.in_ok-hulls.ensures.long,
       hulls_below cells top order c.as_slice.result.now
           (map (λ list. list.items) c.in_ok-hulls.hulls.items) c.as_slice.ensures.value c.in_ok-ask_cycle.ensures.order
           c.in_ok-hulls.ensures.hulls,
+      c.in_ok-shapes.ensures.count,
     )
 
 pub returns-clause-tree : goal.returns-clause-tree
@@ -87,5 +88,5 @@ returns-clause-tree c =
       mild = c.in_ok-ask_scale.ensures.ok;
       fixed = c.in_ok-ask_fixed.ensures.ok;
       near = near;
-      counted = c.in_ok-ask_count.ensures.ok;
+      counted = c.in_ok-shapes.ensures.ok;
     }

@@ -1,5 +1,5 @@
 use Rattle.std.proofs.Common.{w64, FitsSigned, rules, arith}
-use Rattle.std.proofs.lemmas.Int.{ints, clamps, to_z-of_z}
+use Rattle.std.proofs.lemmas.Int.{ints, to_z-of_z}
 use Rattle.deck_plan.proofs.extents.joined_rows.Goals as goal
 
 pub unreachable-requires : goal.unreachable-requires

@@ -1,10 +1,9 @@
-use Rattle.std.proofs.Common.{◌≡◌, ◌^◌, ap, sym, subst, List, Some, None, IfSome, Option}
-use Rattle.half_grid.specs.Windows.{RowRange}
+use Rattle.std.proofs.Common.{◌^◌, sym, subst, List, Some, None, IfSome}
 use Rattle.layout_model.specs.declared.cells.Cell.{Cell}
 use Rattle.cell_tree.specs.Boxes.{IsHull}
 use Rattle.cell_tree.specs.Flattening.{IsVertex}
 use Rattle.cell_tree.specs.Trees.{IsTree}
-use Rattle.deck_plan.specs.Extents.{IsInRowsOf, IsRowsUpTo, frame_rows}
+use Rattle.deck_plan.specs.Extents.{IsInRowsOf, IsRowsUpTo}
 use Rattle.deck_plan.proofs.LayerBounds.{hull_rows, hull_none, hull_near}
 use Rattle.deck_plan.proofs.Outlines.{outlines}
 use Rattle.deck_plan.proofs.extents.layer_rows.Goals as goal

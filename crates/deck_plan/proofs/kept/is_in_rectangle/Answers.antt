@@ -1,4 +1,4 @@
-use Rattle.std.proofs.Common.{refl, sym, subst, arith}
+use Rattle.std.proofs.Common.{sym, arith}
 use Rattle.deck_plan.proofs.KeptLemmas.{all_in_rectangle}
 use Rattle.deck_plan.proofs.kept.is_in_rectangle.Goals as goal
 

@@ -1,11 +1,8 @@
 use Rattle.std.proofs.lemmas.Result.{IfOk-weaker}
-use Rattle.std.proofs.Common.{◌++◌, flat_map}
-use Rattle.half_grid.specs.declared.border.Operand.TheVariants.{A, B}
-use Rattle.column_sweep.specs.RowSums.{AddUpAlike}
+use Rattle.half_grid.specs.declared.border.Operand.TheVariants.{A}
 use Rattle.flat_walk.specs.Walks.{pieces_in}
 use Rattle.deck_plan.specs.LayerSets.{OfLayers}
 use Rattle.deck_plan.specs.Lists.{HasArea}
-use Rattle.deck_plan.specs.Rings.{edges_of_quad}
 use Rattle.deck_plan.proofs.Quads.{put_first, layers_balanced, layers_have}
 use Rattle.deck_plan.proofs.layers.layers_area.Goals as goal
 

@@ -1,4 +1,4 @@
-use Rattle.std.proofs.Common.{◌≡◌, ◌∙◌, ap, w64, FitsSigned, rules}
+use Rattle.std.proofs.Common.{◌∙◌, ap, w64, FitsSigned, rules}
 use Rattle.std.proofs.lemmas.Int.{to_z-of_z}
 use Rattle.std.specs.Int.{int_min, int_max}
 use Rattle.deck_plan.proofs.sizing.box_with.Goals as goal

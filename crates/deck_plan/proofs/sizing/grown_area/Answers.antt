@@ -1,4 +1,4 @@
-use Rattle.std.proofs.Common.{◌≡◌, ◌∙◌, refl, ap, w64, FitsSigned, rules, flat_map}
+use Rattle.std.proofs.Common.{◌≡◌, w64, FitsSigned, flat_map}
 use Rattle.std.proofs.lemmas.Int.{to_z-of_z}
 use Rattle.std.proofs.lemmas.Result.{IfOk-weaker}
 use Rattle.half_grid.specs.Nearness.{IsGrown}

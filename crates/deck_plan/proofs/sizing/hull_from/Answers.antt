@@ -1,8 +1,7 @@
 use Rattle.std.proofs.Common.{◌≡◌, ◌∙◌, ap, ◌+◌, ◌∷◌, [], ◌++◌, ◌^◌, All, take, sym, subst, refl, arith}
 use Rattle.std.proofs.lemmas.List.{take_more, take_all}
 use Rattle.std.proofs.lemmas.List.Elements.{All-push, All-weaker, All-same}
-use Rattle.half_grid.specs.Trapezoids.{Trapezoid}
-use Rattle.deck_plan.specs.Bounds.{IsAround, IsFullBox, HasCornersUpTo}
+use Rattle.deck_plan.specs.Bounds.{IsAround, HasCornersUpTo}
 use Rattle.deck_plan.proofs.Boxes.{box_around, box_full, with_around, still_around, with_full, only_one, IsBoxOf, IsBoxWith}
 use Rattle.deck_plan.proofs.sizing.hull_from.Goals as goal
 

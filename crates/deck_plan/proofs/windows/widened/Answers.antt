@@ -1,6 +1,5 @@
-use Rattle.std.proofs.Common.{◌≡◌, ◌∙◌, refl, ap, ℤ, ◌-ℤ◌, ◌+ℤ◌, w64, FitsSigned, rules, arith}
+use Rattle.std.proofs.Common.{◌∙◌, refl, ◌-ℤ◌, ◌+ℤ◌, w64, FitsSigned, rules, arith}
 use Rattle.std.proofs.lemmas.Int.{ints, to_z-of_z}
-use Rattle.half_grid.specs.Windows.{IsWindow, row_range}
 use Rattle.deck_plan.proofs.windows.widened.Goals as goal
 
 pub unreachable-requires : goal.unreachable-requires

@@ -1,5 +1,4 @@
-use Rattle.std.proofs.Common.{◌≡◌, ℕ, ◌<◌, ◌+◌, subst, List, Some, slice_get, arith}
-use Rattle.deck_text.specs.declared.deck.Step.{Step}
+use Rattle.std.proofs.Common.{◌≡◌, subst, Some, slice_get, arith}
 use Rattle.deck_plan.specs.Extents.{AreExtents}
 use Rattle.deck_plan.proofs.ExtentLemmas.{extents_begin, extents_more, near_any}
 use Rattle.deck_plan.proofs.extents.Extents.of.Goals as goal

@@ -1,7 +1,5 @@
-use Rattle.std.proofs.Common.{◌≡◌, ◌∙◌, ℕ, ◌<◌, ◌+◌, ◌-◌, suc, pos, ◌*◌, refl, sym, ap, subst, arith, slice_get, Some}
+use Rattle.std.proofs.Common.{◌≡◌, ◌∙◌, ◌-◌, suc, sym, ap, subst, arith, slice_get, Some}
 use Rattle.std.proofs.lemmas.Int.{ints}
-use Rattle.deck_text.specs.declared.deck.Step.{Step}
-use Rattle.deck_text.specs.Sound.{IsSoundStep}
 use Rattle.deck_plan.specs.Needs.{operands_of}
 use Rattle.deck_plan.specs.Halos.{AreHalos, IsSoundOperand, passed}
 use Rattle.deck_plan.proofs.HaloLemmas.{halos_begin, halos_pass, sound_first, sound_second}

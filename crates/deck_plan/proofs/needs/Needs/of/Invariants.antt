@@ -1,4 +1,4 @@
-use Rattle.std.proofs.Common.{◌≤◌, ◌+◌, ℕ}
+use Rattle.std.proofs.Common.{◌≤◌, ◌+◌}
 use Rattle.deck_plan.specs.Halos.{AreHalos}
 use Rattle.deck_plan.proofs.needs.Needs.of.Given as goal
 

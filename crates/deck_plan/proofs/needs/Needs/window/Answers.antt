@@ -1,4 +1,4 @@
-use Rattle.std.proofs.Common.{◌≡◌, ◌∙◌, ap, sym, w64, FitsSigned, rules, arith}
+use Rattle.std.proofs.Common.{w64, FitsSigned, rules, arith}
 use Rattle.std.proofs.lemmas.Int.{ints, to_z-of_z}
 use Rattle.deck_plan.proofs.Slots.{filled}
 use Rattle.deck_plan.proofs.needs.Needs.window.Goals as goal

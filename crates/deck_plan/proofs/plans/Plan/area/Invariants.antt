@@ -1,4 +1,4 @@
-use Rattle.std.proofs.Common.{ℕ, ◌≤◌, ◌-◌, map, length}
+use Rattle.std.proofs.Common.{◌≤◌, ◌-◌, map, length}
 use Rattle.deck_plan.specs.Ready.{AreHeld}
 use Rattle.deck_plan.proofs.plans.Plan.area.Given as goal
 

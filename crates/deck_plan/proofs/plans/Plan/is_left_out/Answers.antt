@@ -1,4 +1,4 @@
-use Rattle.std.proofs.Common.{◌≡◌, ◌∙◌, sym}
+use Rattle.std.proofs.Common.{◌∙◌, sym}
 use Rattle.std.proofs.lemmas.Bool.{false≢true}
 use Rattle.deck_plan.proofs.OwnLayerLemmas.{left_out}
 use Rattle.deck_plan.proofs.Slots.{filled}

@@ -1,4 +1,4 @@
-use Rattle.std.proofs.Common.{◌≡◌, ◌^◌, sym, subst, List}
+use Rattle.std.proofs.Common.{◌^◌, subst, List}
 use Rattle.half_grid.specs.declared.plane.Tile.{Tile}
 use Rattle.layout_model.specs.declared.pair.Pair.{Pair}
 use Rattle.layout_model.specs.declared.cells.Cell.{Cell}

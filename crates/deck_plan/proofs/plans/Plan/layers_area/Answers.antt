@@ -1,4 +1,4 @@
-use Rattle.std.proofs.Common.{length, subst, arith}
+use Rattle.std.proofs.Common.{subst, arith}
 use Rattle.std.proofs.lemmas.Result.{IfOk-weaker}
 use Rattle.half_grid.specs.Windows.{RowRange}
 use Rattle.deck_plan.specs.Areas.{IsInArea}

@@ -1,4 +1,4 @@
-use Rattle.std.proofs.Common.{◌≡◌, ◌∙◌, ℕ, ◌<◌, ap, sym, subst, List, length, IsSomeAnd, slice_get, get_or}
+use Rattle.std.proofs.Common.{◌≡◌, ◌∙◌, ◌<◌, ap, sym, subst, List, length, IsSomeAnd, slice_get, get_or}
 use Rattle.deck_text.specs.declared.deck.Output.{Output}
 use Rattle.deck_plan.proofs.PlanLemmas.{named_is, named_inside}
 use Rattle.deck_plan.proofs.plans.Plan.named.Goals as goal

@@ -1,13 +1,11 @@
-use Rattle.std.proofs.Common.{◌≡◌, ◌∙◌, ℕ, ◌<◌, ◌≤◌, ◌^◌, map, length, get_or, slice_get, ap, sym, subst, List, Some, None, arith}
+use Rattle.std.proofs.Common.{◌≡◌, ◌∙◌, ◌^◌, map, length, slice_get, ap, sym, subst, List, Some, arith}
 use Rattle.std.proofs.lemmas.Result.{IfOk-weaker}
-use Rattle.half_grid.specs.Trapezoids.{Trapezoid}
 use Rattle.half_grid.specs.Windows.{RowRange}
 use Rattle.cell_tree.specs.Boxes.{IsUpTo}
 use Rattle.deck_text.specs.declared.deck.Deck.{Deck}
 use Rattle.deck_text.specs.declared.deck.Step.{Step}
 use Rattle.deck_plan.specs.Areas.{IsInStep}
 use Rattle.deck_plan.specs.Lists.{HasArea, IsListed}
-use Rattle.deck_plan.specs.Needs.{widened}
 use Rattle.deck_plan.specs.Ready.{IsReady}
 use Rattle.deck_plan.proofs.Slots.{filled}
 use Rattle.deck_plan.proofs.PlanLemmas.{halo_bounds}

@@ -1,7 +1,5 @@
-use Rattle.std.proofs.Common.{◌≡◌, ◌∙◌, ℕ, ◌<◌, ◌≤◌, ap, sym, subst, List, length, slice_get, get_or, None, Some, Option, arith}
+use Rattle.std.proofs.Common.{◌<◌, sym, subst, length, slice_get, get_or, None, arith}
 use Rattle.deck_text.specs.declared.deck.Deck.{Deck}
-use Rattle.deck_text.specs.declared.deck.Step.{Step}
-use Rattle.deck_text.specs.Sound.{IsSoundStep}
 use Rattle.deck_plan.specs.Needs.{IsNeeded}
 use Rattle.deck_plan.specs.Halos.{AreHalos, window_for}
 use Rattle.deck_plan.proofs.NeedLemmas.{windows_needed}

@@ -5,7 +5,7 @@ use Rattle.cell_tree.specs.Flattening.{shape_count}
 use Rattle.cell_tree.proofs.ChainLemmas.{places_at}
 use Rattle.cell_tree.proofs.TableLemmas.{known_more, known_all, known_before}
 use Rattle.cell_tree.proofs.CountLemmas.{IsCount, exact, crowded}
-use Rattle.cell_tree.proofs.crowds.find_crowd.Goals as goal
+use Rattle.cell_tree.proofs.crowds.count_shapes.Goals as goal
 
 pub returns-then-count-gt-MOST : goal.returns-then-count-gt-MOST
 returns-then-count-gt-MOST c =
@@ -36,4 +36,4 @@ returns c =
     let cells = c.args.linked.now.cells in
     let all = known_all (IsCount cells) 0 c.args.order.now c.loop-cell.counts.items
     (λ j n before at. c.loop-cell.invariant.1 j n (omega (arith, c.loop-cell-test.false)) at) in
-    λ n among. (let h = all n among in subst (λ k. k ≤ 2 ^ 40) h.0 h.1)
+    (c.loop-cell.invariant.0, λ n among. (let h = all n among in record { number = h.0; few = subst (λ k. k ≤ 2 ^ 40) h.0 h.1 }))
