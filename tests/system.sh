@@ -81,6 +81,14 @@ is_expected() {
     cmp square.oas expected.oas
 }
 
+# A layout of some hundred thousand shapes, a band of which is swept in several strips of rows, with wires through all of
+# them. `check` sweeps the band in one piece.
+is_exact_in_strips() {
+    "$program" generate 200 large.gds >/dev/null || return 1
+    printf 'unit 1000\ntop TOP\nlayer A 1 0\nlayer B 2 0\nxor C A B\nwrite A a.oas 1 0\nwrite C c.oas 2 0\n' >large.deck
+    "$program" fracture large.gds large.deck >/dev/null && "$program" check large.gds large.deck | tail -n 2
+}
+
 check 'small layouts give what was worked out for them' bash tests/rows.sh "$program"
 check 'each cut file is refused where it is cut' tests/cuts.py "$program"
 check 'random layouts give what a plain program gives' tests/plain.py "$program" 20
@@ -106,6 +114,7 @@ check 'a missing layout ends with status 4' ends_with 4 missing.gds square.deck
 check 'the example ends with status 0' ends_with 0 square.gds square.deck
 check 'the example gives the expected bytes' is_expected
 check 'the block ends with status 0' ends_with_files block.gds block.deck
+check 'bands of several strips are exact' is_exact_in_strips
 check 'the example is listed' is_listed
 check 'the example is reported' is_reported
 head -c 300 square.oas >cut.oas

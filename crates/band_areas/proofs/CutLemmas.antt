@@ -1,5 +1,5 @@
 -- A joined list that is cut to some rows is the joined list there.
-use Rattle.std.proofs.Common.{◌≡◌, ℕ, ◌+◌, ◌≤◌, ℤ, pos, ◌+ℤ◌, ◌-ℤ◌, ◌≤ℤ◌, ◌<ℤ◌, Bool, true, false, ◌&&◌, cond, int_le}
+use Rattle.std.proofs.Common.{◌≡◌, ℕ, ◌+◌, ◌≤◌, ℤ, pos, ◌+ℤ◌, ◌-ℤ◌, ◌≤ℤ◌, ◌<ℤ◌, Bool, true, false, ◌&&◌, int_le}
 use Rattle.std.proofs.Common.{int_lt, arith, refl, sym, ap, subst, ◌∙◌, List, [], ◌∷◌, ◌++◌, map, filter}
 use Rattle.std.proofs.lemmas.Int.{ints, clamps, by_lt_z}
 use Rattle.std.proofs.lemmas.List.Elements.{All-append, All-weaker, All-contains, All-head, All-tail}
@@ -19,7 +19,7 @@ use Rattle.half_grid.specs.Windows.{RowRange}
 use Rattle.half_grid.specs.declared.plane.Line.{Line}
 use Rattle.half_grid.specs.declared.plane.Tile.{Tile}
 use Rattle.half_grid.proofs.ForCallers.{has_in, in_has, count_by-cons, tile_with, legal_places}
-use Rattle.trap_join.proofs.ForCallers.{is_first, among_rest, all_members, counted, in_at, origin, passing, order_append}
+use Rattle.trap_join.proofs.ForCallers.{all_members, counted, in_at, origin, passing, order_append}
 use Rattle.bool_ops.specs.Operations.{IsInRows}
 use Rattle.fracture.proofs.ForCallers.{below_shot, from_row_shot}
 use Rattle.band_areas.specs.Cuts.{cut_to, ends_in, reaches_top, top_place, PlacesAscend, IsCutTo}

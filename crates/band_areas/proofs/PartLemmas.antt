@@ -1,5 +1,5 @@
 -- The part of an output's area in some rows, from a part in more rows.
-use Rattle.std.proofs.Common.{◌≡◌, ℕ, ℤ, ◌≤ℤ◌, ◌<ℤ◌, arith, ◌∙◌, List, All}
+use Rattle.std.proofs.Common.{◌≡◌, ℕ, arith, ◌∙◌, List}
 use Rattle.std.proofs.lemmas.Int.{ints, by_lt_z}
 use Rattle.half_grid.specs.Trapezoids.{Trapezoid, CoversExactly, count_in}
 use Rattle.half_grid.specs.Windows.{RowRange}

@@ -1,9 +1,8 @@
 -- Windows in windows, and the rows of a group of bands.
-use Rattle.std.proofs.Common.{◌≡◌, ◌<◌, ◌⊎◌, inl, inr, ℤ, pos, negsuc, ◌+ℤ◌, ◌-ℤ◌, ◌≤ℤ◌, ◌<ℤ◌, arith, ap, subst, sym, ◌∙◌, refl, List, [], ◌∷◌, ◌++◌, All}
+use Rattle.std.proofs.Common.{◌≡◌, ◌<◌, ◌⊎◌, inl, inr, ℤ, pos, negsuc, ◌+ℤ◌, ◌-ℤ◌, ◌≤ℤ◌, ◌<ℤ◌, arith, ap, subst, sym, ◌∙◌, List, [], ◌∷◌, ◌++◌, All}
 use Rattle.std.proofs.lemmas.Int.{ints}
 use Rattle.std.proofs.lemmas.List.Elements.{All-contains, Contains-append_left, Contains-append_right}
 use Rattle.std.specs.Int.{int_gap}
-use Rattle.half_grid.specs.Reach.{IsWithinReach}
 use Rattle.half_grid.specs.Windows.{RowRange, row_range}
 use Rattle.trap_join.proofs.ForCallers.{is_first, all_members}
 use Rattle.deck_plan.specs.Bands.{AreRowsNear}

@@ -1,14 +1,16 @@
 //! The areas of an output in its bands.
-ghost use Rattle.std.specs.Prelude.{◌≡◌, ◌<◌, ◌≤ℤ◌, pos, All, IfOk, length};
+ghost use Rattle.std.specs.Prelude.{◌≡◌, ◌<◌, ◌≤ℤ◌, ◌<ℤ◌, ℕ, pos, All, IfOk, length};
 ghost use Rattle.half_grid.specs.Trapezoids.{IsShot};
 ghost use Rattle.bool_ops.specs.Operations.{IsJoinedOf};
 ghost use Rattle.deck_plan.specs.Areas.{IsInBand};
 ghost use Rattle.deck_plan.specs.Bands.{AreRowsNear};
 ghost use Rattle.deck_plan.specs.Needs.{IsAskedBand};
+ghost use Rattle.deck_plan.specs.Plans.{Planned};
 ghost use Rattle.band_areas.specs.Parts.{IsPart, IsWithin, AreAreasOf};
 
-use crate::groups::{Rise, group_of};
+use crate::groups::{Rise, Row, group_of};
 use crate::parts::{Part, narrowed, taken};
+use crate::rises::{aim_of, first_rise, least_rise, next_rise, strip_top};
 use deck_plan::Plan;
 use geo_stream::NoMemory;
 use half_grid::{Trap, Window};
@@ -50,6 +52,8 @@ fn halo_of(plan: &Plan, output: usize) -> Rise
 pub struct BandAreas {
     halo: Rise,
     rows: Window,
+    aim: u64,
+    rise: Rise,
     parts: Vec<Part>,
 }
 
@@ -59,11 +63,41 @@ impl BandAreas {
         requires { output < length plan.now.deck.outputs }
         ensures { AreAreasOf plan.now output result }
     {
+        let halo = halo_of(plan, output);
+        let rows = plan.rows(output);
+        let aim = aim_of(plan.piece_count());
         BandAreas {
-            halo: halo_of(plan, output),
-            rows: plan.rows(output),
+            halo,
+            rows,
+            aim,
+            rise: first_rise(plan.weight(), aim, rows),
             parts: Vec::new(alloc),
         }
+    }
+
+    /// The rows of the next strip of a band, from this row on.
+    pub(crate) fn strip(&self, band: Window, next: Row) -> Window
+        requires band { IsAskedBand band }
+        requires next { next.y <ℤ band.y1 }
+        ensures from { result.y0 ≡ next.y }
+        ensures some { result.y0 <ℤ result.y1 }
+        ensures to { result.y1 ≤ℤ band.y1 }
+    {
+        let rise = Rise {
+            rows: self.rise.rows.max(least_rise(self.halo).rows),
+        };
+        let top = strip_top(band, next, rise, self.rows);
+        match Window::new(next.y, top.y) {
+            Some(rows) => rows,
+            None => unreachable!(),
+        }
+    }
+
+    /// Takes note of how many trapezoids a strip had, and of how many reached it from below.
+    pub(crate) fn adapt(&mut self, traps: usize, carried: usize)
+        ensures { (p : Planned) (k : ℕ) → AreAreasOf p k self.old → AreAreasOf p k self.new }
+    {
+        self.rise = next_rise(self.rise, self.aim, traps, carried);
     }
 
     // The area in the rows of a group of bands, of which this is the lowest.

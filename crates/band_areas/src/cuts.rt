@@ -12,7 +12,7 @@ use half_grid::{Line, Trap, Window, place_of};
 use std::alloc::Global;
 
 // The trapezoid of these four parts, which is known to be a shot.
-fn shot(y0: i64, y1: i64, left: Line, right: Line) -> Trap
+pub(crate) fn shot(y0: i64, y1: i64, left: Line, right: Line) -> Trap
     requires { IsShot (trapezoid y0 y1 left right) }
     ensures { result ≡ trapezoid y0 y1 left right }
 {
@@ -81,7 +81,7 @@ fn top_row(trap: &Trap) -> Row
 }
 
 // The place of a trapezoid's left line in the row below its top.
-fn top_place(trap: &Trap) -> i64
+pub(crate) fn top_place(trap: &Trap) -> i64
     ensures { result ≡ top_place trap.now }
 {
     let row = top_row(trap);

@@ -9,7 +9,11 @@ mod areas;
 mod cuts;
 mod groups;
 mod parts;
+mod rises;
+mod stacks;
+mod strips;
 #[cfg(test)]
 mod tests;
 
 pub use areas::BandAreas;
+pub use strips::Strips;

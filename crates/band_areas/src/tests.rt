@@ -4,7 +4,7 @@ ghost use Rattle.std.specs.Prelude.{◌≡◌, ◌<◌, [], ◌∷◌, length};
 ghost use Rattle.band_areas.specs.Parts.{AreAreasOf};
 ghost use Rattle.layout_model.specs.Layouts.{IsShapeOnGrid, IsLayoutOnGrid};
 
-use crate::BandAreas;
+use crate::{BandAreas, Strips};
 use cell_tree::{Tree, resolve};
 use deck_plan::Plan;
 use deck_text::{Deck, read_deck};
@@ -113,6 +113,36 @@ fn are(traps: &[Trap], wanted: &[[i64; 6]]) -> bool {
                     trap.top_right(),
                 ]
         })
+}
+
+// A band of few trapezoids is one strip: nothing ends at its bottom, and then its whole list is given.
+#[test]
+fn one_strip(rt: HostRuntime) {
+    let alloc = rt.alloc();
+    let deck = read_deck(alloc, DECK, "layout", "deck").expect(&rt, "a deck");
+    let tree = tree_for(&rt, alloc, &deck);
+    let plan = Plan::new(alloc, &deck, &tree).expect(&rt, "memory");
+    assert!(rt; !plan.deck().outputs.as_slice().is_empty());
+    let mut areas = BandAreas::new(alloc, &plan, 0);
+    let band = band_from(&rt, 1024);
+    assert!(rt; band.y0() == 1024 && band.y1() == 2048);
+    let mut strips = Strips::new(alloc, band);
+    let ended = strips
+        .next(alloc, &mut areas, &plan, 0)
+        .expect(&rt, "memory");
+    assert!(rt; ended.expect(&rt, "a strip").is_empty());
+    let list = strips
+        .next(alloc, &mut areas, &plan, 0)
+        .expect(&rt, "memory");
+    let wanted = [
+        [1024, 1536, -1536, 3536, -1536, 3536],
+        [1536, 2048, -1536, 3536, -1024, 3536],
+    ];
+    assert!(rt; are(list.expect(&rt, "the list").as_slice(), &wanted));
+    let none = strips
+        .next(alloc, &mut areas, &plan, 0)
+        .expect(&rt, "memory");
+    assert!(rt; none.is_none());
 }
 
 #[test]

@@ -1,6 +1,5 @@
 -- What the writing of the outputs leaves, in the words of the program's call.
-use Rattle.std.proofs.Common.{◌≡◌, ◌⊎◌, inl, inr, ℕ, suc, ◌≤◌, Bool, List, [], length, take, slice_get, Option, Some, refl, sym, ap, subst, ◌∙◌, arith}
-use Rattle.std.proofs.lemmas.List.{take-append-le}
+use Rattle.std.proofs.Common.{◌≡◌, ◌⊎◌, inl, inr, ℕ, suc, Bool, List, [], length, take, slice_get, Option, Some, refl, sym, ap, subst, ◌∙◌, arith}
 use Rattle.std.proofs.lemmas.Option.{slice_get_within}
 use Rattle.std.specs.Prelude.{IsTrue, IsSomeAnd}
 use Rattle.std.specs.FinMap.{get}
@@ -18,8 +17,8 @@ use Rattle.deck_plan.specs.Areas.{IsInArea}
 use Rattle.shot_output.specs.ShotLists.{IsShotList}
 use Rattle.shot_output.specs.TileCounts.{IsNumberOfTilesIn}
 use Rattle.shot_output.specs.Laws.{HasRules}
-use Rattle.shot_output.proofs.ForCallers.{has_rules, shots_are_legal, shots_fit, shots_cover, shots_are_few, triangles_are_tiles, beginning_is_prefix}
-use Rattle.shot_output.specs.Files.{rules_of, text_of, IsBeginning, IsWhole, OnlyFilesOf, IsPartOf, AreCutShort}
+use Rattle.shot_output.proofs.ForCallers.{has_rules, shots_are_legal, shots_fit, shots_cover, shots_are_few, triangles_are_tiles}
+use Rattle.shot_output.specs.Files.{rules_of, text_of, IsTextOf, IsWhole, OnlyFilesOf, IsPartOf, AreCutShort}
 use Rattle.job_input.specs.declared.reading.Input.{Input}
 use Rattle.mdp_job.specs.Denoted.{plan_of, area_of, ChangesOnly}
 use Rattle.mdp_job.specs.Headline.{AreCovered}
@@ -127,35 +126,29 @@ covered_then tells input b m a sums x told rules w e = record {
 
 -- ---- outputs that were cut short
 
-begun : (input : Input) (now : Content) (k : ℕ) (output : Output) (text : List ℕ) (n : ℕ) → HasRules input.deck
-    → slice_get input.deck.outputs k ≡ Some output → IsBeginning (plan_of input) k output text → n ≤ length text
-    → get now.made output.file ≡ Some (take n text) → IsBegun now.made input k output
-begun input now k output text n rules e beginning some is = record {
+begun : (input : Input) (now : Content) (k : ℕ) (output : Output) (text : List ℕ) (n : ℕ)
+    → slice_get input.deck.outputs k ≡ Some output → IsTextOf (plan_of input) k output text
+    → get now.made output.file ≡ Some (take n text) → IsBegun now.made input output
+begun input now k output text n e of is = record {
   bytes = take n text;
   made = is;
-  text = text;
-  beginning = beginning;
+  shots = of.0;
+  list = subst (λ (o : Option Output). IsShotList (rules_of input.deck) (area_at input o) of.0) e of.1;
   n = n;
-  some = some;
-  is = refl;
-  allowed = λ shots list.
-      let back = subst (λ (o : Option Output). IsShotList (rules_of input.deck) (area_at input o) shots) (sym e) list in
-      let rest = beginning_is_prefix (plan_of input) k output text shots rules beginning back in
-      sym (ap (take n) rest.1 ∙ take-append-le n text rest.0 some);
+  is = ap (take n) of.2;
 }
 
-part_begun : (input : Input) (b m : Content) (k : ℕ) (output : Output) → HasRules input.deck
-    → slice_get input.deck.outputs k ≡ Some output → IsPartOf (plan_of input) k (with_left b []) m
-    → (get m.made output.file ≡ get b.made output.file) ⊎ IsBegun m.made input k output
-part_begun input b m k output rules e p =
+part_begun : (input : Input) (b m : Content) (k : ℕ) (output : Output) → slice_get input.deck.outputs k ≡ Some output
+    → IsPartOf (plan_of input) k (with_left b []) m → (get m.made output.file ≡ get b.made output.file) ⊎ IsBegun m.made input output
+part_begun input b m k output e p =
     elim (p output e) [
       | inl same ↦ inl same
-      | inr (text, n, beginning, some, is) ↦ inr (begun input m k output text n rules e beginning some is)
+      | inr (text, n, of, some, is) ↦ inr (begun input m k output text n e of is)
     ]
 
-part_then : (input : Input) (b : Content) (k : ℕ) (output : Output) (f g : Files) → f ≡ g
-    → (get g output.file ≡ get b.made output.file) ⊎ IsBegun g input k output → (get f output.file ≡ get b.made output.file) ⊎ IsBegun f input k output
-part_then input b k output f g e p = subst (λ (x : Files). (get x output.file ≡ get b.made output.file) ⊎ IsBegun x input k output) (sym e) p
+part_then : (input : Input) (b : Content) (output : Output) (f g : Files) → f ≡ g
+    → (get g output.file ≡ get b.made output.file) ⊎ IsBegun g input output → (get f output.file ≡ get b.made output.file) ⊎ IsBegun f input output
+part_then input b output f g e p = subst (λ (x : Files). (get x output.file ≡ get b.made output.file) ⊎ IsBegun x input output) (sym e) p
 
 pub cut_spoiled : (tells : Bool) (input : Input) (b m a : Content) (x : List ℕ) → IsTrue tells → HasRules input.deck
     → AreCutShort (plan_of input) tells (with_left b []) m → a ≡ with_said m x → AreSpoiled b a input
@@ -169,8 +162,8 @@ cut_spoiled tells input b m a x told rules w e =
           subst (λ (f : Files). IsCovered f input output × IsEconomic f input output) (sym files)
           (whole_covered tells input m k output each.0 told rules there each.1, whole_economic tells input m k output each.0 told rules there each.1);
       part = λ output there.
-          part_then input b w.k output a.made m.made files
-          (part_begun input b m w.k output rules there (w.part told (slice_get_within input.deck.outputs w.k output there)));
+          part_then input b output a.made m.made files
+          (part_begun input b m w.k output there (w.part told (slice_get_within input.deck.outputs w.k output there)));
       others = only_files b m a input (suc w.k) x (w.rest told) e;
     }
 

@@ -439,7 +439,7 @@ Keeps r words = (command : Command) → AreWordsOf words command → IsQuietComm
 -- be read has changed, or:
 --
 -- - of `fracture` there is a place before which all outputs are whole, at which the file is as before, empty or a prefix of
---   the texts that Done would allow, and after which nothing has changed;
+--   the text that Done would allow, and after which nothing has changed;
 -- - of `pack` and `unpack` OUT is as before or a prefix of its text;
 -- - of `split` the files of the stripes below some stripe are whole, its own is as before or a prefix of its text, and those of
 --   the stripes above it are as before; or all are whole.

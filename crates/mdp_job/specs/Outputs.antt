@@ -9,10 +9,10 @@ use Rattle.shot_writer.specs.declared.parts.Sums.{Sums}
 use Rattle.deck_text.specs.declared.deck.Output.{Output}
 use Rattle.shot_output.specs.ShotLists.{IsShotList}
 use Rattle.shot_output.specs.TileCounts.{IsNumberOfTilesIn}
-use Rattle.shot_output.specs.Files.{rules_of, text_of, IsBeginning}
+use Rattle.shot_output.specs.Files.{rules_of, text_of}
 use Rattle.job_input.specs.declared.reading.Input.{Input}
 use Rattle.job_report.specs.Report.{report}
-use Rattle.mdp_job.specs.Denoted.{plan_of, area_of, ChangesOnly}
+use Rattle.mdp_job.specs.Denoted.{area_of, ChangesOnly}
 use Rattle.mdp_job.specs.Headline.{IsShotFile}
 
 -- the file of the output is a shot file of its area
@@ -65,18 +65,14 @@ pub record IsReported (before now : Content) (input : Input) : Type 0 where
 
 -- ---- outputs that were cut short
 
--- The file holds no bytes, or a prefix of the text that Done would allow: of the whole text of the shot list, or of its head
--- and the records of the shots of its first bands.
-pub record IsBegun (files : Files) (input : Input) (k : ℕ) (output : Output) : Type 0 where
+-- The file holds a prefix of the text that Done would allow, that of the shot list. The prefix may have no bytes.
+pub record IsBegun (files : Files) (input : Input) (output : Output) : Type 0 where
   pub bytes : List ℕ
   pub made : get files output.file ≡ Some bytes
-  pub text : List ℕ
-  pub beginning : IsBeginning (plan_of input) k output text
+  pub shots : List Trapezoid
+  pub list : IsShotList (rules_of input.deck) (area_of input output) shots
   pub n : ℕ
-  pub some : n ≤ length text
-  pub is : bytes ≡ take n text
-  pub allowed : (shots : List Trapezoid) → IsShotList (rules_of input.deck) (area_of input output) shots
-      → bytes ≡ take n (text_of input.deck output shots)
+  pub is : bytes ≡ take n (text_of input.deck output shots)
 
 -- The outputs before a place are texts that Done would allow, the file of the output there is as before or begun, and
 -- after it nothing has changed.
@@ -86,5 +82,5 @@ pub record AreSpoiled (before now : Content) (input : Input) : Type 0 where
   pub whole : (k : ℕ) (output : Output) → k < place → slice_get input.deck.outputs k ≡ Some output
       → IsCovered now.made input output × IsEconomic now.made input output
   pub part : (output : Output) → slice_get input.deck.outputs place ≡ Some output
-      → (get now.made output.file ≡ get before.made output.file) ⊎ IsBegun now.made input place output
+      → (get now.made output.file ≡ get before.made output.file) ⊎ IsBegun now.made input output
   pub others : ChangesOnly before now input.deck (suc place)

@@ -1,4 +1,4 @@
--- An area has one shot list, and the shots of its first bands are the first of it.
+-- An area has one shot list.
 use Rattle.std.proofs.Common.{ℕ, zero, suc, ◌+◌, ◌≤◌, ℤ, pos, ◌+ℤ◌, ◌-ℤ◌, ◌*ℤ◌, ◌≤ℤ◌, ◌<ℤ◌, ◌≡◌, List, [], ◌∷◌, ◌++◌}
 use Rattle.std.proofs.Common.{length, arith, refl, sym, ap, subst, append_assoc, ◌∙◌}
 use Rattle.std.proofs.lemmas.Int.{ints, by_lt_z}
@@ -154,12 +154,6 @@ module _ (rules : Rules) (some : pos 0 <ℤ rules.rows) (area : Tile → Type 0)
       by_lt_z p.k q.k
       (λ less. sym (no_more p.k xs ys p.none_above (more_bands p.k q.k xs ys p.below q.below (omega (arith, ints, less)))))
       (λ more. no_more q.k ys xs q.none_above (more_bands q.k p.k ys xs q.below p.below more))
-
-  pub front_first : (k : ℤ) (xs ys : List Trapezoid) → IsShotListBelow rules area k xs → IsShotList rules area ys → (zs : List Trapezoid) × (ys ≡ xs ++ zs)
-  front_first k xs ys p q =
-      by_lt_z k q.k
-      (λ less. (let m = more_bands k q.k xs ys p q.below (omega (arith, ints, less)) in (shots_of rules.height rules.width (end_to_end m.rest), m.more)))
-      (λ more. ([], sym (no_more q.k ys xs q.none_above (more_bands q.k k ys xs q.below p more)) ∙ sym (append-nil xs)))
 
 -- ---- areas that agree
 

@@ -1,7 +1,8 @@
--- How many rows are left.
-use Rattle.std.proofs.Common.{◌<◌, ◌-◌, suc, refl, ◌+◌, ◌≤◌, ℤ, pos, negsuc, ◌+ℤ◌, ◌≤ℤ◌, ◌<ℤ◌, ◌≡◌, arith, ap}
+-- How many rows are left, and how many of a band lie below a row.
+use Rattle.std.proofs.Common.{◌<◌, refl, ℤ, pos, negsuc, ◌+ℤ◌, ◌≤ℤ◌, ◌<ℤ◌, ◌≡◌, arith}
 use Rattle.std.proofs.lemmas.Int.{ints, by_lt_z}
-use Rattle.std.specs.Int.{int_gap}
+use Rattle.std.proofs.Math.Nat.{mod-lt}
+use Rattle.std.specs.Int.{int_gap, int_rem_euclid}
 
 -- the gap between two numbers
 pub gap_is : (a b : ℤ) → a ≤ℤ b → a +ℤ pos (int_gap a b) ≡ b
@@ -23,3 +24,8 @@ gap_falls a b c less some =
     by_lt_z c b
     (λ below. (let now = gap_is c b (omega (arith, ints, below)) in omega (arith, ints, before, now, less)))
     (λ above. (let now = no_gap c b above in omega (arith, ints, before, now, some)))
+
+pub rem_high : (y rows : ℤ) → pos 0 <ℤ rows → int_rem_euclid y rows <ℤ rows
+rem_high (pos a) (pos n) some = let less = mod-lt a (let any : 0 < n = omega (arith, ints, some) in any) in omega (arith, ints, less)
+rem_high (negsuc a) (pos n) some = omega (arith, ints, some)
+rem_high y (negsuc n) some = absurd (omega (arith, ints, some))

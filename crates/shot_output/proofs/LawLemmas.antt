@@ -1,22 +1,17 @@
 -- What holds of the shot list of each output.
-use Rattle.std.proofs.Common.{ℕ, ◌*◌, ℤ, ◌≡◌, ◌⊎◌, List, [], ◌++◌, flat_map, ap, ◌∙◌, sym, subst, append_assoc, inl, inr, arith}
+use Rattle.std.proofs.Common.{ℕ, ℤ, ◌≡◌, List, ap, ◌∙◌, sym, subst, arith}
 use Rattle.std.proofs.lemmas.Int.{ints}
-use Rattle.std.proofs.lemmas.List.{append-nil}
-use Rattle.std.proofs.lemmas.Grind.{flat_map-append}
-use Rattle.half_grid.specs.Trapezoids.{Trapezoid}
 use Rattle.half_grid.specs.declared.shot.Limits.{Limits}
-use Rattle.oas_lex.specs.ShotText.{head, end, spelling_of, shot_text}
 use Rattle.deck_text.specs.Decks.{IsDeck}
 use Rattle.deck_text.specs.Sound.{IsSound}
-use Rattle.deck_text.specs.declared.deck.Output.{Output}
 use Rattle.deck_text.specs.declared.deck.Deck.{Deck}
-use Rattle.deck_plan.specs.Plans.{Planned, IsRead}
+use Rattle.deck_plan.specs.Plans.{IsRead}
 use Rattle.shot_output.specs.ShotLists.{Rules, IsShotList}
-use Rattle.shot_output.specs.Files.{rules_of, area_of, text_of, front_of, IsListOf, IsFrontOf}
-use Rattle.shot_output.specs.Laws.{HasRules, ShotsAreLegal, ShotsFit, ShotsCover, ShotsAreFew, TrianglesAreTiles, OneShotList, BeginningIsPrefix}
+use Rattle.shot_output.specs.Files.{rules_of, area_of}
+use Rattle.shot_output.specs.Laws.{HasRules, ShotsAreLegal, ShotsFit, ShotsCover, ShotsAreFew, TrianglesAreTiles, OneShotList}
 use Rattle.shot_output.proofs.CoverLemmas.{below_shots, below_fit, below_needless, list_covers}
 use Rattle.shot_output.proofs.TileLemmas.{area_count}
-use Rattle.shot_output.proofs.FrontLemmas.{one_list, front_first, same_list}
+use Rattle.shot_output.proofs.FrontLemmas.{one_list, same_list}
 
 pub is_read : {bytes layout_name deck_name : List ℕ} {deck : Deck} → IsDeck bytes layout_name deck_name deck → IsRead deck
 is_read {bytes} {layout_name} {deck_name} {deck} d = record { bytes = bytes; layout_name = layout_name; deck_name = deck_name; is = d }
@@ -50,30 +45,3 @@ one_shot_list p q k m xs ys h band limits same s z =
     one_list (rules_of p.deck) h.some_rows (area_of p k) xs ys s
     (same_list (rules_of p.deck) (area_of q m) (area_of p k) (λ t. (same t).1) (λ t. (same t).0) ys
     (subst (λ (r : Rules). IsShotList r (area_of q m) ys) (sym rules) z))
-
-longer_text : (unit layer datatype : ℕ) (xs zs : List Trapezoid)
-    → shot_text unit layer datatype (xs ++ zs) ≡ (head unit ++ flat_map (spelling_of layer datatype) xs)
-    ++ (flat_map (spelling_of layer datatype) zs ++ end)
-unfolding shot_text
-longer_text unit layer datatype xs zs =
-    let f = spelling_of layer datatype in
-    ap (λ (l : List ℕ). (head unit ++ l) ++ end) (flat_map-append f xs zs)
-    ∙ ap (λ (l : List ℕ). l ++ end) (sym (append_assoc (head unit) (flat_map f xs) (flat_map f zs)))
-    ∙ append_assoc (head unit ++ flat_map f xs) (flat_map f zs) end
-
-begins : (p : Planned) (k : ℕ) (output : Output) (bytes : List ℕ) (xs shots : List Trapezoid) → HasRules p.deck → IsListOf p k shots
-    → (IsListOf p k xs × (bytes ≡ text_of p.deck output xs)) ⊎ (IsFrontOf p k xs × (bytes ≡ front_of p.deck output xs))
-    → (rest : List ℕ) × (text_of p.deck output shots ≡ bytes ++ rest)
-begins p k output bytes xs shots h s (inl whole) =
-    ([], ap (text_of p.deck output) (one_list (rules_of p.deck) h.some_rows (area_of p k) shots xs s whole.0) ∙ sym whole.1 ∙ sym (append-nil bytes))
-begins p k output bytes xs shots h s (inr front) =
-    let more = front_first (rules_of p.deck) h.some_rows (area_of p k) front.0.0 xs shots front.0.1 s in
-    let rest = flat_map (spelling_of output.pair.layer output.pair.datatype) more.0 ++ end in (
-      rest,
-      ap (text_of p.deck output) more.1 ∙ longer_text
-          (2 * p.deck.unit) output.pair.layer output.pair.datatype xs more.0 ∙ ap (λ (l : List ℕ). l ++ rest)
-          (sym front.1),
-    )
-
-pub beginning_is_prefix : BeginningIsPrefix
-beginning_is_prefix p k output bytes shots h b s = begins p k output bytes b.0 shots h s b.1

@@ -3,6 +3,7 @@ pub mod CoverLemmas
 pub mod TileLemmas
 pub mod FrontLemmas
 pub mod PutLemmas
+pub mod BandLemmas
 pub mod FileLemmas
 pub mod OutputLemmas
 pub mod LawLemmas

@@ -12,7 +12,7 @@ use Rattle.deck_text.specs.Sound.{AreDistinct}
 use Rattle.deck_text.specs.declared.deck.Output.{Output}
 use Rattle.deck_plan.specs.Plans.{Planned}
 use Rattle.shot_writer.specs.declared.parts.Sums.{Sums}
-use Rattle.shot_output.specs.Files.{text_of, IsWritten, IsBeginning, IsCutShort, IsWhole, IsNoFileOf, AreWritten, IsPartOf, AreCutShort}
+use Rattle.shot_output.specs.Files.{text_of, IsWritten, IsTextOf, IsCutShort, IsWhole, IsNoFileOf, AreWritten, IsPartOf, AreCutShort}
 
 -- ---- places in lists
 
@@ -186,13 +186,13 @@ module _ (p : Planned) (distinct : AreDistinct (map file_of p.deck.outputs)) (te
         same_file told output there = (written.rest told).others output.file (no_file n output there)
 
         holds_part : (told : IsTrue tells) (output : Output) → slice_get p.deck.outputs n ≡ Some output
-            → (bytes : List ℕ) → IsBeginning p n output bytes → IsPartMade c output.file bytes now
+            → (text : List ℕ) → IsTextOf p n output text → IsPartMade c output.file text now
             → (get now.made output.file ≡ get c₀.made output.file)
-            ⊎ ((b : List ℕ) × (m : ℕ) × IsBeginning p n output b × (m ≤ length b)
+            ⊎ ((b : List ℕ) × (m : ℕ) × IsTextOf p n output b × (m ≤ length b)
             × (get now.made output.file ≡ Some (take m b)))
-        holds_part told output there bytes begins (inl same) = inl (ap (λ (x : Content). get x.made output.file) same ∙ same_file told output there)
-        holds_part told output there bytes begins (inr (m, few, e)) =
-            inr (bytes, m, begins, few, ap (λ (x : Content). get x.made output.file) e ∙ get-insert_same c.made output.file (take m bytes))
+        holds_part told output there text of (inl same) = inl (ap (λ (x : Content). get x.made output.file) same ∙ same_file told output there)
+        holds_part told output there text of (inr (m, few, e)) =
+            inr (text, m, of, few, ap (λ (x : Content). get x.made output.file) e ∙ get-insert_same c.made output.file (take m text))
 
         part_of : IsTrue tells → IsPartOf p n c₀ now
         part_of told output there = let part = cut told output there in holds_part told output there part.0 part.1 part.2

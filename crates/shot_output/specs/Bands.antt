@@ -1,30 +1,22 @@
 -- What is put to the writer of an output: the shots of one band after another, from the first band on.
-use Rattle.std.specs.Prelude.{ℕ, ℤ, pos, neg_ℤ, ◌≡◌, ◌+◌, ◌^◌, ◌<◌, ◌≤ℤ◌, Bool, IsTrue, List}
-use Rattle.std.specs.List.{All}
-use Rattle.half_grid.specs.Trapezoids.{Trapezoid, IsShot}
+use Rattle.std.specs.Prelude.{ℕ, ℤ, ◌≡◌, ◌+◌, ◌^◌, ◌<◌, Bool, IsTrue, List}
+use Rattle.half_grid.specs.Trapezoids.{Trapezoid}
 use Rattle.half_grid.specs.Windows.{RowRange}
 use Rattle.depot.specs.Content.{Content, with_written, IsPartWritten}
 use Rattle.half_grid.specs.declared.plane.Tile.{Tile}
-use Rattle.bool_ops.specs.Operations.{IsJoinedOf, IsInRows}
-use Rattle.deck_text.specs.declared.deck.Deck.{Deck}
-use Rattle.deck_plan.specs.Areas.{IsInBand}
-use Rattle.deck_plan.specs.Plans.{Planned}
+use Rattle.bool_ops.specs.Operations.{IsInRows}
+use Rattle.deck_plan.specs.Plans.{Planned, IsBandOf}
 use Rattle.fracture.specs.Cutting.{shots_of}
 use Rattle.layout_model.specs.declared.pair.Pair.{Pair}
 use Rattle.shot_writer.specs.Writing.{AreSumsAfter, no_sums, records_of, triangles_of}
 use Rattle.shot_writer.specs.declared.parts.Sums.{Sums}
 use Rattle.deck_plan.specs.Bands.{band}
 use Rattle.shot_output.specs.ShotLists.{IsShotListBelow}
-use Rattle.shot_output.specs.Files.{rules_of, area_of, IsListOf, IsFrontOf}
+use Rattle.shot_output.specs.Files.{rules_of, area_of, IsListOf}
 
 -- no tile of the output's area lies outside the rows
 abbrev pub HasRows : Planned → ℕ → RowRange → Type 0
 HasRows p k rows = (t : Tile) → area_of p k t → IsInRows rows t
-
--- the joined list of the output's area in a window
-pub record IsBandOf (p : Planned) (k : ℕ) (window : RowRange) (traps : List Trapezoid) : Type 0 where
-  pub shots : All IsShot traps
-  pub joined : IsJoinedOf window (IsInBand p.cells p.top p.deck k window) traps
 
 abbrev pub band_shots : Planned → List Trapezoid → List Trapezoid
 band_shots p traps = shots_of p.deck.limits.height p.deck.limits.width traps
@@ -62,8 +54,8 @@ pub record IsPut (p : Planned) (k : ℕ) (pair : Pair) (tells : Bool) (before no
   pub content : IsTrue tells → now ≡ with_written before (records_of pair shots)
   pub summed : AreSumsAfter no_sums shots sums
 
--- a prefix of the records of the first shots was
+-- a prefix of the records of all shots was
 pub record IsPutPart (p : Planned) (k : ℕ) (pair : Pair) (tells : Bool) (before now : Content) : Type 0 where
   pub shots : List Trapezoid
-  pub front : IsFrontOf p k shots
+  pub list : IsListOf p k shots
   pub content : IsTrue tells → IsPartWritten before (records_of pair shots) now

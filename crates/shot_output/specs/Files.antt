@@ -2,19 +2,19 @@
 --
 -- Each output has a file of its own, which holds the one text of the shot list of the output's area: in half units, so
 -- twice the deck's unit, with the output's layer and datatype.
-use Rattle.std.specs.Prelude.{ℕ, ℤ, suc, ◌≡◌, ◌≢◌, ◌⊎◌, ◌*◌, ◌<◌, ◌≤◌, Bool, IsTrue, List, ◌++◌, length, take, flat_map, slice_get, Some}
+use Rattle.std.specs.Prelude.{ℕ, suc, ◌≡◌, ◌≢◌, ◌⊎◌, ◌*◌, ◌<◌, ◌≤◌, Bool, IsTrue, List, length, take, slice_get, Some}
 use Rattle.std.specs.FinMap.{get}
 use Rattle.half_grid.specs.Trapezoids.{Trapezoid}
 use Rattle.half_grid.specs.declared.plane.Tile.{Tile}
 use Rattle.depot.specs.Content.{Content, with_file, IsPartMade}
-use Rattle.oas_lex.specs.ShotText.{head, spelling_of, shot_text}
+use Rattle.oas_lex.specs.ShotText.{shot_text}
 use Rattle.deck_text.specs.declared.deck.Output.{Output}
 use Rattle.deck_text.specs.declared.deck.Deck.{Deck}
 use Rattle.deck_plan.specs.Areas.{IsInOutput}
 use Rattle.deck_plan.specs.Plans.{Planned}
 use Rattle.shot_writer.specs.Writing.{AreSumsAfter, no_sums}
 use Rattle.shot_writer.specs.declared.parts.Sums.{Sums}
-use Rattle.shot_output.specs.ShotLists.{Rules, IsShotListBelow, IsShotList}
+use Rattle.shot_output.specs.ShotLists.{Rules, IsShotList}
 
 -- the deck's rows per band and limits of a shot
 abbrev pub rules_of : Deck → Rules
@@ -28,17 +28,13 @@ area_of p k t = IsInOutput p.cells p.top p.deck k t
 abbrev pub IsListOf : Planned → ℕ → List Trapezoid → Type 0
 IsListOf p k shots = IsShotList (rules_of p.deck) (area_of p k) shots
 
--- the first shots of output k: those of the bands below some band
-abbrev pub IsFrontOf : Planned → ℕ → List Trapezoid → Type 0
-IsFrontOf p k shots = (m : ℤ) × IsShotListBelow (rules_of p.deck) (area_of p k) m shots
-
 -- the one text of these shots for an output
 abbrev pub text_of : Deck → Output → List Trapezoid → List ℕ
 text_of deck output shots = shot_text (2 * deck.unit) output.pair.layer output.pair.datatype shots
 
--- the head of such a text, and the records of its first shots
-abbrev pub front_of : Deck → Output → List Trapezoid → List ℕ
-front_of deck output shots = head (2 * deck.unit) ++ flat_map (spelling_of output.pair.layer output.pair.datatype) shots
+-- the whole text of output k: that of its shot list
+abbrev pub IsTextOf : Planned → ℕ → Output → List ℕ → Type 0
+IsTextOf p k output text = (shots : List Trapezoid) × IsListOf p k shots × (text ≡ text_of p.deck output shots)
 
 -- ---- one output
 
@@ -51,16 +47,11 @@ pub record IsWritten (p : Planned) (k : ℕ) (tells : Bool) (before now : Conten
       → now ≡ with_file before output.file (text_of p.deck output shots)
   pub summed : AreSumsAfter no_sums shots sums
 
--- The bytes begin the text of output k: they are the whole text, or its head and the records of its first shots.
-abbrev pub IsBeginning : Planned → ℕ → Output → List ℕ → Type 0
-IsBeginning p k output bytes =
-    (shots : List Trapezoid) × ((IsListOf p k shots × (bytes ≡ text_of p.deck output shots)) ⊎ (IsFrontOf p k shots × (bytes ≡ front_of p.deck output shots)))
-
 -- The writing of output k was cut short: its file is as before, or holds a prefix of its text. Nothing else has changed but
 -- the name that writes go to.
 abbrev pub IsCutShort : Planned → ℕ → Content → Content → Type 0
 IsCutShort p k before now =
-    (output : Output) → slice_get p.deck.outputs k ≡ Some output → (bytes : List ℕ) × IsBeginning p k output bytes × IsPartMade before output.file bytes now
+    (output : Output) → slice_get p.deck.outputs k ≡ Some output → (text : List ℕ) × IsTextOf p k output text × IsPartMade before output.file text now
 
 -- ---- all outputs
 
@@ -91,7 +82,7 @@ pub record AreWritten (p : Planned) (n : ℕ) (tells : Bool) (before now : Conte
 abbrev pub IsPartOf : Planned → ℕ → Content → Content → Type 0
 IsPartOf p k before now =
     (output : Output) → slice_get p.deck.outputs k ≡ Some output → (get now.made output.file ≡ get before.made output.file)
-    ⊎ ((bytes : List ℕ) × (n : ℕ) × IsBeginning p k output bytes × (n ≤ length bytes) × (get now.made output.file ≡ Some (take n bytes)))
+    ⊎ ((text : List ℕ) × (n : ℕ) × IsTextOf p k output text × (n ≤ length text) × (get now.made output.file ≡ Some (take n text)))
 
 -- The writing of the outputs was cut short at some output: those before it are whole, its file is as before or holds a
 -- prefix of its text, and after it nothing has changed.

@@ -1,5 +1,5 @@
 -- What holds of the shot list of each output, for every height of bands.
-use Rattle.std.specs.Prelude.{ℤ, pos, ◌<ℤ◌, ◌≡◌, ◌↔◌, ℕ, List, ◌++◌, Some, slice_get}
+use Rattle.std.specs.Prelude.{ℤ, pos, ◌<ℤ◌, ◌≡◌, ◌↔◌, ℕ, List, Some, slice_get}
 use Rattle.std.specs.List.{All}
 use Rattle.half_grid.specs.Trapezoids.{Trapezoid, IsShot, FitsLimits, CoversExactly, count_in}
 use Rattle.half_grid.specs.declared.plane.Tile.{Tile}
@@ -13,7 +13,7 @@ use Rattle.deck_text.specs.declared.deck.Output.{Output}
 use Rattle.deck_text.specs.declared.deck.Deck.{Deck}
 use Rattle.deck_plan.specs.Plans.{Planned}
 use Rattle.shot_writer.specs.Writing.{triangles_of}
-use Rattle.shot_output.specs.Files.{area_of, IsListOf, IsBeginning, text_of}
+use Rattle.shot_output.specs.Files.{area_of, IsListOf, text_of}
 use Rattle.shot_output.specs.TileCounts.{IsNumberOfTilesIn}
 
 -- bands have rows, and the limits are those of shots
@@ -48,11 +48,6 @@ TrianglesAreTiles = (p : Planned) (k : ℕ) (shots : List Trapezoid) → HasRule
 abbrev pub OneShotList : Type 0
 OneShotList = (p q : Planned) (k m : ℕ) (xs ys : List Trapezoid) → HasRules p.deck → p.deck.band ≡ q.deck.band → p.deck.limits ≡ q.deck.limits
     → ((t : Tile) → area_of p k t ↔ area_of q m t) → IsListOf p k xs → IsListOf q m ys → xs ≡ ys
-
--- What begins the text of an output is a prefix of the text of its shot list.
-abbrev pub BeginningIsPrefix : Type 0
-BeginningIsPrefix = (p : Planned) (k : ℕ) (output : Output) (bytes : List ℕ) (shots : List Trapezoid) → HasRules p.deck
-    → IsBeginning p k output bytes → IsListOf p k shots → (rest : List ℕ) × (text_of p.deck output shots ≡ bytes ++ rest)
 
 -- two trees of cells have the same areas on the layers of the deck
 abbrev pub HaveSameLayers : Deck → List Cell → ℕ → List Cell → ℕ → Type 0

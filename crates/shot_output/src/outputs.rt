@@ -24,6 +24,7 @@ pub fn write_output<D: Depot>(
         → IsCutShort plan.now output (D.content depot.old) (D.content depot.new)) }
     ensures counts { CountsWritesInMemory (D.counts depot.old) (D.counts depot.new) result }
 {
+    plan.has_lists(output);
     let deck = plan.deck();
     let rows = plan.rows(output);
     let written = &deck.outputs.as_slice()[output];

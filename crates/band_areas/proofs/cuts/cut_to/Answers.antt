@@ -1,4 +1,4 @@
-use Rattle.std.proofs.Common.{rules, refl, ap, ◌∙◌, FitsSigned, w64}
+use Rattle.std.proofs.Common.{rules, refl, ◌∙◌, FitsSigned, w64}
 use Rattle.std.proofs.lemmas.Int.{to_z-of_z}
 use Rattle.band_areas.proofs.CutLemmas.{cut_shot_at, cut_meets}
 use Rattle.band_areas.proofs.cuts.cut_to.Goals as goal

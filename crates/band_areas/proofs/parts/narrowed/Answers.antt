@@ -1,8 +1,8 @@
-use Rattle.std.proofs.Common.{rules, ◌≡◌, ◌≤ℤ◌, ◌<ℤ◌, ◌∙◌, ap, sym, subst, arith}
+use Rattle.std.proofs.Common.{rules, ◌≡◌, ◌∙◌, ap, sym, subst, arith}
 use Rattle.std.proofs.lemmas.Int.{ints}
 use Rattle.std.proofs.lemmas.List.Elements.{All-push}
 use Rattle.half_grid.specs.Windows.{RowRange}
-use Rattle.band_areas.specs.Parts.{IsPart, AreParts, IsWithin}
+use Rattle.band_areas.specs.Parts.{IsPart, AreParts}
 use Rattle.band_areas.proofs.RowLemmas.{upper_band, lower_band, upper_within, lower_within, still_within, gap_falls}
 use Rattle.band_areas.proofs.parts.narrowed.Goals as goal
 

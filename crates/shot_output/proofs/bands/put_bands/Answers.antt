@@ -1,4 +1,4 @@
-use Rattle.std.proofs.Common.{◌≡◌, ◌+ℤ◌, arith, ap, sym, subst, ◌∙◌, refl, ◌⊎◌}
+use Rattle.std.proofs.Common.{◌≡◌, ◌+ℤ◌, arith, ap, sym, subst, ◌∙◌, refl}
 use Rattle.std.proofs.lemmas.Int.{ints}
 use Rattle.depot.proofs.ForCallers.{refused}
 use Rattle.half_grid.specs.Windows.{RowRange, row_range}
@@ -47,11 +47,11 @@ pub returns-in_err-put_band-clause-refused : goal.returns-in_err-put_band-clause
 returns-in_err-put_band-clause-refused g c =
     let i = c.loop-deck.invariant in
     refused c.from_residual.result _
-    (put_part c.args.plan.now c.args.output c.loop-deck.band (pair_of c.args.writer.now) g.D.Depot.tells
-    (g.D.Depot.content c.args.depot.now) (g.D.Depot.content c.loop-deck.depot) (sums_of c.loop-deck.writer) i.put
+    (put_part c.args.plan.now c.args.output c.requires.rules c.requires.few c.args.rows c.requires.narrow c.requires.outside
+    c.has_lists.ensures c.loop-deck.band (pair_of c.args.writer.now) g.D.Depot.tells
+    (g.D.Depot.content c.args.depot.now) (g.D.Depot.content c.loop-deck.depot) (sums_of c.loop-deck.writer) i.put i.low
     (g.D.Depot.content c.put_band.new.depot)
-    (subst (λ (pair : Pair). (g.D.Depot.content c.put_band.new.depot ≡ g.D.Depot.content c.loop-deck.depot)
-    ⊎ IsBandPart c.args.plan.now c.args.output c.loop-deck.band pair g.D.Depot.tells
+    (subst (λ (pair : Pair). IsBandPart c.args.plan.now c.args.output c.loop-deck.band pair g.D.Depot.tells
     (g.D.Depot.content c.loop-deck.depot) (g.D.Depot.content c.put_band.new.depot)) i.pair
     c.in_err-put_band.ensures.refused))
 

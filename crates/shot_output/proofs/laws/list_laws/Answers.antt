@@ -1,5 +1,5 @@
 use Rattle.shot_output.proofs.AreaLemmas.{same_layers_same_files, bands_cover_the_same}
-use Rattle.shot_output.proofs.LawLemmas.{shots_are_legal, shots_fit, shots_cover, shots_are_few, triangles_are_tiles, one_shot_list, beginning_is_prefix}
+use Rattle.shot_output.proofs.LawLemmas.{shots_are_legal, shots_fit, shots_cover, shots_are_few, triangles_are_tiles, one_shot_list}
 use Rattle.shot_output.proofs.laws.list_laws.Goals as goal
 
 pub returns-clause-legal : goal.returns-clause-legal
@@ -19,9 +19,6 @@ returns-clause-triangles c = triangles_are_tiles
 
 pub returns-clause-one : goal.returns-clause-one
 returns-clause-one c = one_shot_list
-
-pub returns-clause-begins : goal.returns-clause-begins
-returns-clause-begins c = beginning_is_prefix
 
 pub returns-clause-layers : goal.returns-clause-layers
 returns-clause-layers c = same_layers_same_files

@@ -1,5 +1,4 @@
-use Rattle.std.proofs.lemmas.Int.{ints}
-use Rattle.std.proofs.Common.{arith, refl, ◌≡◌, ◌*◌, ℕ, List, ap, subst, sym, ◌∙◌}
+use Rattle.std.proofs.Common.{rules, refl, ◌≡◌, ◌*◌, ◌≤ℤ◌, ℕ, List, ap, subst, sym, ◌∙◌}
 use Rattle.deck_text.specs.declared.deck.Output.{Output}
 use Rattle.deck_text.specs.declared.deck.Deck.{Deck}
 use Rattle.depot.proofs.ForCallers.{refused}
@@ -8,6 +7,9 @@ use Rattle.oas_lex.specs.ShotText.{head}
 use Rattle.shot_writer.specs.WriterView.{pair_of, sums_of}
 use Rattle.shot_writer.specs.declared.parts.Sums.{Sums}
 use Rattle.shot_writer.specs.Writing.{AreSumsAfter, no_sums}
+use Rattle.deck_plan.specs.Bands.{AreRowsNear}
+use Rattle.shot_output.proofs.LawLemmas.{has_rules}
+use Rattle.shot_output.proofs.PutLemmas.{list_exists}
 use Rattle.shot_output.proofs.FileLemmas.{is_output, start_cut, put_cut, finish_cut, finished, ok_both, err_then}
 use Rattle.shot_output.proofs.outputs.write_output.Goals as goal
 
@@ -19,10 +21,14 @@ returns-in_err-writer-clause-refused g c = refused c.from_residual.result _ (λ 
     (c.as_slice.ensures ∙ ap (λ (d : Deck). d.outputs) c.deck-deck.ensures.value) there in
     let unit : 2 * c.deck-deck.result.now.unit ≡ 2 * c.args.plan.now.deck.unit = ap (λ (d : Deck). 2 * d.unit) c.deck-deck.ensures.value in
     let name : c.as_str.result.now ≡ output.file = c.as_str.ensures ∙ ap (λ (o : Output). o.file) read in
-    let some = c.deck-deck.ensures.sound.2.band_low in
+    let sound = c.deck-deck.ensures.sound in
+    let window : c.rows-rows.result.y0 ≤ℤ c.rows-rows.result.y1 = search rules in
+    let near : AreRowsNear c.rows-rows.result =
+    record { low = c.rows-rows.ensures.low; high = c.rows-rows.ensures.high; window = window } in
     start_cut c.args.plan.now c.args.output (g.D.Depot.content c.args.depot.now) output
-    (2 * c.deck-deck.result.now.unit) output.pair unit refl
-    (g.D.Depot.content c.start.new.depot) c.rows-rows.result (omega (arith, ints, some)) c.rows-rows.ensures.outside
+    (2 * c.deck-deck.result.now.unit) output.pair unit refl (g.D.Depot.content c.start.new.depot)
+    (list_exists c.args.plan.now c.args.output (has_rules sound.0 sound.1 c.args.plan.now.deck sound.2) sound.2.band_high
+    c.rows-rows.result near c.rows-rows.ensures.outside c.has_lists.ensures)
     (subst (λ (n : List ℕ). IsPartMade (g.D.Depot.content c.args.depot.now) n (head (2 * c.deck-deck.result.now.unit))
     (g.D.Depot.content c.start.new.depot)) name (c.in_err-writer.ensures.content.refused told)))
 
