@@ -86,7 +86,14 @@ is_expected() {
 is_exact_in_strips() {
     "$program" generate 200 large.gds >/dev/null || return 1
     printf 'unit 1000\ntop TOP\nlayer A 1 0\nlayer B 2 0\nxor C A B\nwrite A a.oas 1 0\nwrite C c.oas 2 0\n' >large.deck
-    "$program" fracture large.gds large.deck >/dev/null && "$program" check large.gds large.deck | tail -n 2
+    "$program" fracture large.gds large.deck >/dev/null && "$program" check large.gds large.deck >/dev/null
+}
+
+# 1.4 million shots in one band, and 160 MB of address space: what is in memory is a strip of the band.
+takes_little_memory() {
+    "$program" generate 300 larger.gds >/dev/null || return 1
+    printf 'unit 1000\ntop TOP\nlayer A 1 0\nwrite A larger.oas 1 0\n' >larger.deck
+    (ulimit -v 163840 && exec "$program" fracture larger.gds larger.deck) >/dev/null
 }
 
 check 'small layouts give what was worked out for them' bash tests/rows.sh "$program"
@@ -115,6 +122,7 @@ check 'the example ends with status 0' ends_with 0 square.gds square.deck
 check 'the example gives the expected bytes' is_expected
 check 'the block ends with status 0' ends_with_files block.gds block.deck
 check 'bands of several strips are exact' is_exact_in_strips
+check 'a large band takes the memory of a strip' takes_little_memory
 check 'the example is listed' is_listed
 check 'the example is reported' is_reported
 head -c 300 square.oas >cut.oas
