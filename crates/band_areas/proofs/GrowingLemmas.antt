@@ -86,7 +86,10 @@ module _ (growing : List Trapezoid) (above : Trapezoid) (v : ℤ) (at : ℕ) (g 
 
   elsewhere : (k : ℕ) (d : Trapezoid) → k < length growing → goes_on (slice_index_or growing k d) above ≡ true → k ≡ at
   elsewhere k d inside e = elim (either_way k at) [
-    | inl less ↦ absurd (let low = lt_is _ v (point.0 k d (omega arith) less) in let same = place_is (slice_index_or growing k d) e in omega (arith, ints, low, same))
+    | inl less ↦ absurd
+        (let low = lt_is _ v (point.0 k d (omega arith) less) in
+        let same = place_is (slice_index_or growing k d) e in
+        omega (arith, ints, low, same))
     | inr (inl same) ↦ same
     | inr (inr more) ↦ absurd
         (let right = (right_at growing g at k d more inside).right in
@@ -187,7 +190,8 @@ pub going_none : (growing : List Trapezoid) (above : Trapezoid) (done : List Tra
 going_none [] above done none = refl
 going_none (z ∷ zs) above done none =
     let here = All-head (λ x. goes_on x above ≡ false) z zs none in
-    let same : list_any (goes_on z) (done ++ above ∷ []) ≡ list_any (goes_on z) done = any_push z above done ∙ (rw here (or_same (list_any (goes_on z) done))) in
+    let same : list_any (goes_on z) (done ++ above ∷ []) ≡ list_any (goes_on z) done =
+    any_push z above done ∙ (rw here (or_same (list_any (goes_on z) done))) in
     ap (λ b. b ∷ going_on zs done) (sym same)
     ∙ ap (λ bs. list_any (goes_on z) (done ++ above ∷ []) ∷ bs) (going_none zs above done (All-tail (λ x. goes_on x above ≡ false) z zs none))
 
@@ -201,7 +205,8 @@ going_at (z ∷ zs) above done zero d g inside e =
     ap (λ b. b ∷ going_on zs done) (sym here) ∙ ap (λ bs. list_any (goes_on z) (done ++ above ∷ []) ∷ bs) (going_none zs above done none)
 going_at (z ∷ zs) above done (suc at) d g inside e =
     let first = not_first _ z (slice_index_or zs at d) above refl (g.0 at d (omega (arith, inside))) e in
-    let same : list_any (goes_on z) (done ++ above ∷ []) ≡ list_any (goes_on z) done = any_push z above done ∙ (rw first (or_same (list_any (goes_on z) done))) in
+    let same : list_any (goes_on z) (done ++ above ∷ []) ≡ list_any (goes_on z) done =
+    any_push z above done ∙ (rw first (or_same (list_any (goes_on z) done))) in
     ap (λ b. b ∷ set (going_on zs done) at true) (sym same)
     ∙ ap (λ bs. list_any (goes_on z) (done ++ above ∷ []) ∷ bs) (going_at zs above done at d g.1 (omega (arith, inside)) e)
 

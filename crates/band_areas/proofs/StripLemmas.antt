@@ -197,7 +197,8 @@ module _ (p : Planned) (k : ℕ) (strips next : Strips) (given : List Trapezoid)
         band = subst IsAskedBand (sym band) has.band;
         low = omega (arith, ints, row, low, has_low);
         high = omega (arith, ints, row, high, has_high);
-        list = subst (λ (w : RowRange). IsBandOf p k w (list_of next (given ++ strips.waiting.items))) rows (subst (IsBandOf p k (rows_of strips)) list has.list);
+        list = subst (λ (w : RowRange). IsBandOf p k w (list_of next (given ++ strips.waiting.items))) rows
+            (subst (IsBandOf p k (rows_of strips)) list has.list);
         below = λ inner.
             let first = has.below (omega (arith, ints, inner, row, high)) in
             subst (λ (zs : List Trapezoid). All (λ (z : Trapezoid). z.y1 <ℤ next.next.y) zs) (sym waits_not)

@@ -18,7 +18,8 @@ module _ (p : Planned) (k : ℕ) where
   shots_push : (xs ys : List Trapezoid) → band_shots p (xs ++ ys) ≡ band_shots p xs ++ band_shots p ys
   shots_push xs ys = flat_map-append (cut_list p.deck.limits.height p.deck.limits.width) xs ys
 
-  texts_push : (pair : Pair) (xs ys : List Trapezoid) → records_of pair (band_shots p (xs ++ ys)) ≡ records_of pair (band_shots p xs) ++ records_of pair (band_shots p ys)
+  texts_push : (pair : Pair) (xs ys : List Trapezoid)
+      → records_of pair (band_shots p (xs ++ ys)) ≡ records_of pair (band_shots p xs) ++ records_of pair (band_shots p ys)
   texts_push pair xs ys = ap (records_of pair) (shots_push xs ys) ∙ records_push p k pair (band_shots p xs) (band_shots p ys)
 
   pub content_more : (pair : Pair) (c₀ c now : Content) (given more : List Trapezoid) → c ≡ with_written c₀ (records_of pair (band_shots p given))

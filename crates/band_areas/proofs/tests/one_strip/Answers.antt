@@ -18,4 +18,5 @@ next-requires-3-clause-begun g c =
     let given = [] ++ given_by c.expect-ended.result in
     let then = subst (λ r. IfOk r (λ next. HasGiven plan 0 c.next.new.self ([] ++ given_by next))) c.expect-ended.ensures first in
     let second = c.next-2.ensures.given given then in
-    (given ++ given_by c.expect-list.result, subst (λ r. IfOk r (λ next. HasGiven plan 0 c.next-2.new.self (given ++ given_by next))) c.expect-list.ensures second)
+    let all = subst (λ r. IfOk r (λ next. HasGiven plan 0 c.next-2.new.self (given ++ given_by next))) c.expect-list.ensures second in
+    (given ++ given_by c.expect-list.result, all)

@@ -46,4 +46,5 @@ returns-in-Each-clause-count c =
     let order = c.args.found.now.order.items in let cells = c.args.linked.now.cells in let shown = c.as_slice.result.now in let top = c.args.found.now.top in
     let all : AreCounted cells shown (Each c.in-Each.counts) = subst (AreCounted cells shown) c.in-Each.is c.in_ok-counts.ensures in
     let inside : top < length c.in-Each.counts.items = subst (λ l. top < l) (sym all.0) c.requires.top in
-    c.index.ensures ∙ get_or_default_zero c.in-Each.counts.items top c.index.result.now inside ∙ (all.1 top (shown_among order shown top c.as_slice.ensures.value (c.requires.order.all top (top_reachable cells top)))).number
+    let own = all.1 top (shown_among order shown top c.as_slice.ensures.value (c.requires.order.all top (top_reachable cells top))) in
+    c.index.ensures ∙ get_or_default_zero c.in-Each.counts.items top c.index.result.now inside ∙ own.number

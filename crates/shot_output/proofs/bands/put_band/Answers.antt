@@ -102,7 +102,8 @@ loop-strips-preserved g c =
           ∙ ap (λ (pair : Pair). with_written (g.D.Depot.content c.loop-strips.depot) (records_of pair (band_shots p c.as_slice.result.now))) i.pair
           ∙ ap (λ (list : List Trapezoid). with_written (g.D.Depot.content c.loop-strips.depot) (records_of (pair_of c.args.writer.now) list)) shots);
       summed = sums_more p k (sums_of c.args.writer.now) (sums_of c.loop-strips.writer) (sums_of c.put_traps.new.writer) i.given more i.summed
-          (subst (λ (list : List Trapezoid). AreSumsAfter (sums_of c.loop-strips.writer) list (sums_of c.put_traps.new.writer)) shots c.in_ok-put_traps.ensures.sums);
+          (subst (λ (list : List Trapezoid). AreSumsAfter (sums_of c.loop-strips.writer) list (sums_of c.put_traps.new.writer)) shots
+          c.in_ok-put_traps.ensures.sums);
       areas = c.in_ok-traps.ensures.areas;
       pair = c.put_traps.ensures.pair ∙ i.pair;
       kept = c.in_ok-put_traps.ensures.kept;

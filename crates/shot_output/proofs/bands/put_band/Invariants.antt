@@ -14,7 +14,8 @@ invariant-loop-strips g l = record {
   given : List Trapezoid;
   has : HasGiven l.plan l.output l.strips given;
   band : l.strips.band ≡ l.fn.band;
-  content : IsTrue g.D.Depot.tells → g.D.Depot.content l.depot ≡ with_written (g.D.Depot.content l.fn.depot) (records_of (pair_of l.fn.writer) (band_shots l.plan given));
+  content : IsTrue g.D.Depot.tells → g.D.Depot.content l.depot
+      ≡ with_written (g.D.Depot.content l.fn.depot) (records_of (pair_of l.fn.writer) (band_shots l.plan given));
   summed : AreSumsAfter (sums_of l.fn.writer) (band_shots l.plan given) (sums_of l.writer);
   areas : AreAreasOf l.plan l.output l.areas;
   pair : pair_of l.writer ≡ pair_of l.fn.writer;
