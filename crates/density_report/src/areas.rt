@@ -4,11 +4,11 @@ ghost use Rattle.std.specs.List.{All};
 ghost use Rattle.half_grid.specs.JoinedLists.{IsInWindow};
 ghost use Rattle.density_map.specs.Windows.{IsWindowSize};
 ghost use Rattle.density_report.specs.Saying.{area_of};
-ghost use Rattle.density_report.specs.Rows.{rows_of, AreFewRows, AreTrapsOf, IsBatch, IsFilled, IsPassed};
+ghost use Rattle.density_report.specs.Rows.{rows_of, AreFewRows, AreTrapsOf, IsBatch, IsFilled, IsPassed, IsPortion};
 
 use crate::maps::put_maps;
 use crate::strips::{
-    Batch, Mesh, Strip, above, doubled, first_portion, from_strip, lower, row_of, rows_of,
+    Batch, Mesh, Portion, Strip, above, doubled, from_strip, lower, row_of, rows_of,
 };
 use deck_plan::Plan;
 use density_map::MapRow;
@@ -68,13 +68,20 @@ fn first_of(batch: &Batch, traps: &[Trap]) -> Strip
 // Passes by rows of windows in which the output has nothing: those that are left are from the first one in which it has
 // something, where there is any. Each time it asks for twice as many rows, so a gap takes a number of areas that grows as
 // its logarithm does, until an area is of as many rows as one is asked for at once.
-fn skip(alloc: Global, plan: &Plan, output: usize, left: &Batch) -> Result<Batch, NoMemory>
+fn skip(
+    alloc: Global,
+    plan: &Plan,
+    output: usize,
+    left: &Batch,
+    portion: Portion,
+) -> Result<Batch, NoMemory>
     requires output { output < length plan.now.deck.outputs }
     requires left { IsBatch left.now }
+    requires portion { IsPortion left.now.mesh.size portion }
     ensures { IfOk result (λ new. IsPassed (area_of plan.now output) left.now new) }
 {
     let mut rest = *left;
-    let mut portion = first_portion(&left.mesh);
+    let mut portion = portion;
     while rest.row < rest.end {
         portion = doubled(&portion);
         let batch = lower(&rest, &portion);
@@ -88,25 +95,28 @@ fn skip(alloc: Global, plan: &Plan, output: usize, left: &Batch) -> Result<Batch
     Ok(rest)
 }
 
-/// Puts the counts of the first of the rows of windows that are left, 64 at most, and answers these rows of windows. Where
-/// the output has nothing in them it puts none, and answers those from the next one on in which it has something.
+/// Puts the counts of the first of the rows of windows that are left, as many as the portion has, and answers these rows of
+/// windows. Where the output has nothing in them it puts none, and answers those from the next one on in which it has
+/// something.
 pub(crate) fn fill(
     alloc: Global,
     plan: &Plan,
     output: usize,
     left: &Batch,
+    portion: Portion,
     maps: &mut Vec<MapRow>,
 ) -> Result<Batch, NoMemory>
     requires output { output < length plan.now.deck.outputs }
     requires left { IsBatch left.now }
+    requires portion { IsPortion left.now.mesh.size portion }
     requires some { left.now.row <ℤ left.now.end }
     requires empty { maps.old.items ≡ [] }
     ensures { IfOk result (λ new. IsFilled (area_of plan.now output) left.now new maps.new.items) }
 {
-    let batch = lower(left, &first_portion(&left.mesh));
+    let batch = lower(left, &portion);
     let traps = area_in(alloc, plan, output, &batch)?;
     if traps.is_empty() {
-        return skip(alloc, plan, output, &above(left, &batch));
+        return skip(alloc, plan, output, &above(left, &batch), portion);
     }
     put_maps(alloc, &batch, traps.as_slice(), maps)?;
     Ok(*left)

@@ -10,6 +10,9 @@ use half_grid::Window;
 /// How many rows of the half grid an area is asked for at once, at most.
 const MOST_ROWS: i64 = 16_777_216;
 
+/// About how many trapezoids an area should have, where a row of windows has no more.
+const MANY: u64 = 65_536;
+
 /// How many rows of windows with counts are held at once, at most.
 const MOST_MAPS: i64 = 64;
 
@@ -145,13 +148,16 @@ pub(crate) fn without_last(batch: &Batch) -> Batch
     }
 }
 
-/// As many rows as the windows that are held at once have.
-pub(crate) fn first_portion(mesh: &Mesh) -> Portion
+/// As many rows as the windows that are held at once have, or fewer where so many would have many trapezoids, by about how
+/// many the layout has and by the output's rows; but those of one row of windows at least.
+pub(crate) fn first_portion(mesh: &Mesh, weight: u64, output: Window) -> Portion
     requires { IsWindowSize mesh.now.size }
     ensures { IsPortion mesh.now.size result }
 {
+    let parts = (weight / MANY).clamp(1, 16_777_216) as i64;
+    let few = output.y1().saturating_sub(output.y0()) / parts;
     Portion {
-        rows: (MOST_MAPS * mesh.size).min(MOST_ROWS),
+        rows: few.min(MOST_MAPS * mesh.size).clamp(mesh.size, MOST_ROWS),
     }
 }
 

@@ -10,7 +10,7 @@ use crate::areas::fill;
 use crate::entries::{Totals, count_row};
 use crate::maps::take_first;
 use crate::saying::{say_row, say_size, say_totals};
-use crate::strips::{Mesh, Strip, after_first, batch_of};
+use crate::strips::{Mesh, Strip, after_first, batch_of, first_portion};
 use deck_plan::Plan;
 use depot::{Buffer, Depot, DepotBad, flush};
 use half_grid::Window;
@@ -41,11 +41,12 @@ fn say_rows<D: Depot>(
         most: None,
         triangles: 0,
     };
+    let portion = first_portion(mesh, plan.weight(), rows);
     let mut left = batch_of(mesh, rows);
     let mut maps = Vec::new(alloc);
     while left.row < left.end {
         let Some(map) = take_first(&mut maps) else {
-            left = match fill(alloc, plan, output, &left, &mut maps) {
+            left = match fill(alloc, plan, output, &left, portion, &mut maps) {
                 Ok(left) => left,
                 Err(_wanting) => return Err(DepotBad::NoMemory),
             };
@@ -114,7 +115,7 @@ fn say_tables<D: Depot>(
 /// counts.
 ///
 /// From the first row of windows that has some of the output's rows to the last, the area is computed for 64 rows of
-/// windows at once, or for as many as have 16,777,216 rows together. Where the output has nothing in them, it is computed
+/// windows at once, or for as many as have 16,777,216 rows together, and for fewer where these have many trapezoids. Where the output has nothing in them, it is computed
 /// for twice as many, and so on, up to the first row of windows in which it has something. It takes the time of these
 /// areas, for each trapezoid a search among the counts of each row of windows that it meets, and the same time for each
 /// window that it meets. The memory is that of the area and the counts of 64 rows of windows, or of the area up to the end

@@ -14,7 +14,7 @@ use Rattle.density_report.proofs.areas.skip.Goals as goal
 pub loop-rest-init : goal.loop-rest-init
 loop-rest-init c = record {
   passed = none_yet (area_of c.args.plan.now c.args.output) c.args.left.now c.requires.left;
-  portion = c.first_portion-portion.ensures;
+  portion = c.requires.portion;
 }
 
 pub lower-batch-requires-clause-left : goal.lower-batch-requires-clause-left
