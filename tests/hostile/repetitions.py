@@ -75,6 +75,22 @@ def paths(layer, points, times, reached):
     return in_cell("OTHER", first, b"\x16\x00", times, reached)
 
 
+def paths_of_two_widths(points, times):
+    """Each record has another width than the one before, and uses the point list again."""
+    first = b"\x16\xFB" + unsigned(1, 0, 1, 5) + unsigned(0, points) + signed(*[2] * points) + signed(0, 0)
+    return in_cell("OTHER", first, b"\x16\x40\x02\x16\x40\x01", times // 2)
+
+
+def shown_paths(points, times):
+    """Of the top cell: each two rows of the stairs are one shot, but the first two, since a band ends at Y 0, and so is the last row."""
+    first = b"\x16\xFB" + unsigned(1, 0, 1, 5) + unsigned(0, points) + signed(*[2] * points) + signed(0, 0)
+    oas(oas_cell("TOP", first), b"\x16\x00" * times)
+    deck()
+    stairs = points // 2
+    area = 2 * 3 + (stairs - 1) * 2 * 4 + 2
+    return ["fracture", "layout", "deck"], 0, f"output out.oas shots {stairs + 2} triangles {8 * area}"
+
+
 def counted(repetition, count, times):
     """Shapes on the deck's layer, more than a layout may have: refused by their number."""
     oas(oas_cell("TOP", rectangle(0, 0, 10, 10, repetition=repetition)), b"\x14\x04\x00" * (times - 1))
@@ -107,4 +123,8 @@ CASES = [
     ("a polygon of 100,000 points, 100,000 times", False, lambda: shown_polygons(100000, 100000)),
     ("a path of 100,000 points on an unwanted pair, 100,000 times", False, lambda: paths(OTHER, 100000, 100000, True)),
     ("a path of 10,000 points that nothing reaches, 10,000 times", False, lambda: paths(1, 10000, 10000, False)),
+    ("a path of 100,000 points that nothing reaches, 100,000 times", False, lambda: paths(1, 100000, 100000, False)),
+    ("a path of 10,000 points with a width that changes, 20,000 times", False, lambda: paths_of_two_widths(10000, 20000)),
+    ("a path of 200 points, 200 times", True, lambda: shown_paths(200, 200)),
+    ("a path of 1,000 points, 1,000 times", False, lambda: shown_paths(1000, 1000)),
 ]

@@ -10,7 +10,7 @@ use deck_plan::Plan;
 use deck_text::{Deck, read_deck};
 use geo_stream::List;
 use half_grid::{Point, Trap, Window};
-use layout_model::{Cell, Counts, KeptShape, Layout, Name, Offsets, Pair};
+use layout_model::{Cell, Counts, KeptShape, Layout, Name, Offsets, Pair, Shapes};
 use std::alloc::Global;
 use std::process::Abort;
 
@@ -46,10 +46,18 @@ fn triangle(rt: &impl Abort, alloc: Global) -> KeptShape
     KeptShape::new(alloc, METAL, &TRIANGLE, places).expect(rt, "a shape")
 }
 
+fn only_shape(rt: &impl Abort, alloc: Global, shape: KeptShape) -> Shapes
+    ensures { result ≡ shape ∷ [] }
+{
+    let mut shapes = Shapes::new(alloc);
+    assert!(rt; shapes.push(shape).is_ok(), "memory");
+    shapes
+}
+
 fn layout(rt: &impl Abort, alloc: Global) -> Layout
     ensures { IsLayoutOnGrid result }
 {
-    let shapes = only(rt, alloc, triangle(rt, alloc));
+    let shapes = only_shape(rt, alloc, triangle(rt, alloc));
     let cell = Cell {
         name: Name::new(alloc, b"TOP").expect(rt, "a name"),
         shapes,

@@ -3,12 +3,13 @@ ghost use Rattle.std.specs.Int.{int_min, int_max};
 ghost use Rattle.half_grid.specs.Outlines.{IsClosed, HasGridEdges};
 ghost use Rattle.half_grid.specs.Reach.{IsPointWithinReach};
 ghost use Rattle.half_grid.specs.Windows.{row_range};
+ghost use Rattle.layout_model.specs.ShapeLists.{shape_in};
 ghost use Rattle.bool_ops.specs.Operations.{AreRowsOf, ArePieces};
 
 use crate::unions::unite;
 use geo_stream::{NoMemory, gather};
 use half_grid::{Operand, Point, Trap, Window};
-use layout_model::KeptShape;
+use layout_model::ShapeRef;
 use scan_line::EdgesOf;
 use std::alloc::Global;
 
@@ -77,11 +78,11 @@ fn pieces_in(alloc: Global, points: &[Point]) -> Result<Vec<Trap>, NoMemory>
 
 /// The joined list of the tiles in a shape's outline as it is drawn, moved by none of its offsets, over all its rows, by
 /// the nonzero rule. The outline is closed, on the half grid and within reach. Want of memory is the only refusal.
-pub fn pieces(alloc: Global, shape: &KeptShape) -> Result<Vec<Trap>, NoMemory>
-    requires closed { IsClosed shape.now.points }
-    requires grid { HasGridEdges shape.now.points }
-    requires reach { All IsPointWithinReach shape.now.points }
-    ensures { IfOk result (λ traps. ArePieces shape.now.points traps.items) }
+pub fn pieces(alloc: Global, shape: ShapeRef<'_>) -> Result<Vec<Trap>, NoMemory>
+    requires closed { IsClosed (shape_in shape).points }
+    requires grid { HasGridEdges (shape_in shape).points }
+    requires reach { All IsPointWithinReach (shape_in shape).points }
+    ensures { IfOk result (λ traps. ArePieces (shape_in shape.entry).points traps.items) }
 {
     let outline = shape.outline();
     if let Some(points) = outline.as_slice() {

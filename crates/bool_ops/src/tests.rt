@@ -140,7 +140,7 @@ fn a_figure_eight(rt: HostRuntime) -> Result<(), Fail> {
     let Ok(shape) = KeptShape::new(rt.alloc(), pair, &EIGHT, place) else {
         return Err("no shape".into());
     };
-    let traps = pieces(rt.alloc(), &shape)?;
+    let traps = pieces(rt.alloc(), shape.by_ref())?;
     let wanted = [
         [0, 10, 0, 0, 0, 10],
         [0, 10, 20, 20, 10, 20],
@@ -259,7 +259,7 @@ fn known(rt: &impl Abort, alloc: Global, points: &[Point]) -> Result<usize, Fail
     let Ok(shape) = KeptShape::new(alloc, pair, points, place) else {
         return Err("no shape".into());
     };
-    let swept = pieces(alloc, &shape)?;
+    let swept = pieces(alloc, shape.by_ref())?;
     let mut traps = Vec::new(alloc);
     if !monotone_pieces(points, &mut traps)? {
         assert!(rt; traps.is_empty());

@@ -4,8 +4,9 @@ use Rattle.std.proofs.Common.{get_or, slice_get, refl, sym, ap, ◌∙◌, arith
 use Rattle.std.specs.List.{sum_by}
 use Rattle.std.specs.Option.{option_map_or}
 use Rattle.std.proofs.lemmas.List.{take_more, take_all, length-map}
-use Rattle.std.proofs.lemmas.Option.{slice_get-get_or, get_or_from_slice_get}
+use Rattle.std.proofs.lemmas.Option.{slice_get-get_or, get_or_from_slice_get, slice_get_within}
 use Rattle.std.proofs.lemmas.List.Sums.{sum_by_push}
+use Rattle.layout_model.specs.declared.shapes.Shape.{Shape}
 use Rattle.layout_model.specs.declared.cells.Placement.{Placement}
 use Rattle.layout_model.specs.declared.cells.Cell.{Cell}
 use Rattle.cell_tree.specs.Cells.{PlacesAt, shapes_at, placements_at, targets_at, cell_number}
@@ -27,6 +28,17 @@ copies_is cells counts placement target is known = by target is known
         ≡ length placement.offsets * option_map_or (shape_count cells) (cell_number cells placement.target) 0
     by None e known = ap (λ o. length placement.offsets * option_map_or (shape_count cells) o 0) e
     by (Some m) e known = ap (λ n. length placement.offsets * n) (known m refl) ∙ ap (λ o. length placement.offsets * option_map_or (shape_count cells) o 0) e
+
+-- one more shape
+pub shape_counted : (shapes : List Shape) (k count : ℕ) (shape : Shape) → slice_get shapes k ≡ Some shape
+    → count ≡ saturated (own_count (take k shapes))
+    → saturated (count + length shape.offsets) ≡ saturated (own_count (take (k + 1) shapes))
+shape_counted shapes k count shape here so =
+    let e = take_more shapes k shape (slice_get_within shapes k shape here) in
+    let is = get_or_from_slice_get shapes k shape shape here in
+    let s = ap (λ l. sum_by (λ (s : Shape). length s.offsets) l) (e ∙ ap (λ p. take k shapes ++ p ∷ []) is)
+    ∙ sum_by_push (λ (s : Shape). length s.offsets) (take k shapes) shape in
+    omega arith
 
 -- one more placement
 pub count_more : (cells : List Cell) (n k own : ℕ) (count copies : ℕ) (placement : Placement)

@@ -36,7 +36,8 @@ use Rattle.cell_tree.specs.Heights.{IsHeight, AreHeights, AreHeightsBelow}
 use Rattle.cell_tree.specs.declared.factors.Far.{Far}
 use Rattle.cell_tree.proofs.NameLemmas.{targets_below}
 use Rattle.layout_model.specs.Pairs.{same_pair}
-use Rattle.cell_tree.specs.HullTables.{OwnVertex, hull_in, AreCellHulls, AreHulls, AreHullsBelow, HasNearVertices, whole_from, extent_in}
+use Rattle.cell_tree.specs.HullTables.{OwnVertex, hull_in, AreCellHulls, AreHulls, AreHullsBelow, AreOnlyAmong, AreOnlyBelow}
+use Rattle.cell_tree.specs.HullTables.{HasNearVertices, whole_from, extent_in}
 use Rattle.cell_tree.proofs.ReachLemmas.{near_below, shapes_on_grid}
 use Rattle.cell_tree.specs.declared.hulls.PairHull.{PairHull}
 use Rattle.cell_tree.proofs.SlotLemmas.{map_slot, slot_map, All-slot, All-from_slots}
@@ -429,6 +430,23 @@ order_near cells top order shown grid e in_order shallow mild n among = let a = 
 pub hulls_below : (cells : List Cell) (top : ℕ) (order shown : List ℕ) (hulls : List (List PairHull)) → shown ≡ order
     → IsOrder cells top order → AreHulls cells shown hulls → AreHullsBelow cells top hulls
 hulls_below cells top order shown hulls e in_order are n reach = are n (shown_among order shown n e (in_order.all n reach))
+
+pub only_below : (cells : List Cell) (top : ℕ) (order shown : List ℕ) (hulls : List (List PairHull)) → shown ≡ order
+    → IsOrder cells top order → AreOnlyAmong shown hulls → AreOnlyBelow cells top hulls
+only_below cells top order shown hulls e in_order are n = elim (are n) [
+  | inl none ↦ inl none
+  | inr among ↦ (let a = among_shown order shown n e among in inr (in_order.reachable a.0 n a.1))
+]
+
+-- a cell that has boxes is reachable
+pub only_read : {A : Type 0} (view : A → List PairHull) (cells : List Cell) (top n : ℕ) (hulls : List A) (list : A)
+    → n < length hulls → list ≡ get_or hulls n list → AreOnlyBelow cells top (map view hulls) → 0 < length (view list)
+    → IsReachable cells top n
+only_read view cells top n hulls list inside is are some = elim (are n) [
+  | inl none ↦ (let empty : view list ≡ [] = ap view is ∙ sym (get_or-map view hulls n list [] inside) ∙ none in
+      absurd (omega (arith, ap length empty)))
+  | inr reach ↦ reach
+]
 
 -- the list that an index gives
 pub hulls_read : {A : Type 0} (view : A → List PairHull) (cells : List Cell) (top n : ℕ) (hulls : List A) (list : A)

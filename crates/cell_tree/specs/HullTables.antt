@@ -1,5 +1,5 @@
 -- The least boxes of a cell, pair by pair, by its own vertices and those of the cells that it places.
-use Rattle.std.specs.Prelude.{◌≡◌, ◌<◌, ◌^◌, ℕ, ℤ, nat_lt, Bool, true, false, List, [], ◌∷◌, Option, Some, None, length, slice_get, get_or, if◌then◌else◌}
+use Rattle.std.specs.Prelude.{◌≡◌, ◌⊎◌, ◌<◌, ◌^◌, ℕ, ℤ, nat_lt, Bool, true, false, List, [], ◌∷◌, Option, Some, None, length, slice_get, get_or, if◌then◌else◌}
 use Rattle.std.specs.Option.{option_and_then}
 use Rattle.half_grid.specs.declared.plane.Point.{Point}
 use Rattle.half_grid.specs.declared.extent.Frame.{Frame}
@@ -117,6 +117,14 @@ AreHulls cells order hulls = (n : ℕ) → IsAmong order n → AreCellHulls cell
 -- of each reachable cell
 abbrev pub AreHullsBelow : List Cell → ℕ → List (List PairHull) → Type 0
 AreHullsBelow cells top hulls = (n : ℕ) → IsReachable cells top n → AreCellHulls cells n (get_or hulls n [])
+
+-- only cells of the order have boxes
+abbrev pub AreOnlyAmong : List ℕ → List (List PairHull) → Type 0
+AreOnlyAmong order hulls = (n : ℕ) → (get_or hulls n [] ≡ []) ⊎ IsAmong order n
+
+-- only reachable cells have boxes
+abbrev pub AreOnlyBelow : List Cell → ℕ → List (List PairHull) → Type 0
+AreOnlyBelow cells top hulls = (n : ℕ) → (get_or hulls n [] ≡ []) ⊎ IsReachable cells top n
 
 -- the boxes of a placed cell, if there is one
 abbrev pub hulls_at : List (List PairHull) → Option ℕ → List PairHull

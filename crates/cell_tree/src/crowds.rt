@@ -8,7 +8,7 @@ ghost use Rattle.cell_tree.specs.Counting.{saturated, own_count, copies_of, AreC
 
 use crate::linked::Linked;
 use geo_stream::NoMemory;
-use layout_model::{KeptShape, Placement};
+use layout_model::{Placement, Shapes};
 use std::alloc::Global;
 
 // The most flattened shapes that a cell may have.
@@ -22,12 +22,12 @@ pub(crate) struct Crowd {
 }
 
 // How often the shapes stand.
-fn own_count(shapes: &[KeptShape]) -> u128
+fn own_count(shapes: &Shapes) -> u128
     ensures { result ≡ saturated (own_count shapes.now) }
 {
     let mut count = 0u128;
-    for shape in shapes {
-        count = count.saturating_add(u128::from(shape.count()));
+    for number in 0..shapes.len() {
+        count = count.saturating_add(u128::from(shapes.get(number).count()));
     }
     count
 }

@@ -11,7 +11,7 @@ ghost use Rattle.cell_tree.specs.declared.factors.Far.{Far as AFar};
 
 use crate::linked::Linked;
 use geo_stream::NoMemory;
-use layout_model::{KeptShape, Placement};
+use layout_model::{Placement, Shapes};
 use std::alloc::Global;
 
 // A factor from here on is too great, and of greater ones no more is known.
@@ -35,11 +35,11 @@ pub(crate) struct Scaled {
 }
 
 // Whether one of the shapes may not be enlarged.
-fn has_fixed(shapes: &[KeptShape]) -> bool
+fn has_fixed(shapes: &Shapes) -> bool
     ensures { IsTrue result ↔ HasFixedShape shapes.now }
 {
-    for shape in shapes {
-        if shape.is_fixed() {
+    for number in 0..shapes.len() {
+        if shapes.get(number).is_fixed() {
             return true;
         }
     }

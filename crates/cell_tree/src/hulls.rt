@@ -2,13 +2,14 @@
 ghost use Rattle.std.specs.Prelude.{◌≡◌, ◌<◌, ◌^◌, ◌≤◌, ℕ, true, false, length, map, slice_get, get_or, slice_set, insert, [], Some, None, All, IfOk, IfErr, OnOk, IfSome};
 ghost use Rattle.std.specs.Option.{option_map};
 ghost use Rattle.layout_model.specs.Images.{IsOrient};
+ghost use Rattle.layout_model.specs.ShapeLists.{shape_in};
 ghost use Rattle.layout_model.specs.Layouts.{IsLayoutOnGrid, IsShapeOnGrid, IsPlacementOnGrid};
 ghost use Rattle.layout_model.specs.declared.pair.Pair.{Pair as APair};
 ghost use Rattle.cell_tree.specs.Boxes.{IsLeastBox, IsBoxUpTo, joined_box};
 ghost use Rattle.cell_tree.specs.Cells.{PlacesAt};
 ghost use Rattle.cell_tree.specs.Chains.{IsShort};
 ghost use Rattle.cell_tree.specs.Orders.{IsUpward, IsAmong};
-ghost use Rattle.cell_tree.specs.HullTables.{ShapeVertex, IsMoveOf, is_before, hull_in, AreInOrder, wider, widest, widened_list, whole_from, placed_hull, hulls_at, AreOwnHulls, AreCellHulls, AreHulls, HasNearVertices};
+ghost use Rattle.cell_tree.specs.HullTables.{ShapeVertex, IsMoveOf, is_before, hull_in, AreInOrder, wider, widest, widened_list, whole_from, placed_hull, hulls_at, AreOwnHulls, AreCellHulls, AreHulls, AreOnlyAmong, HasNearVertices};
 ghost use Rattle.cell_tree.specs.declared.hulls.PairHull.{PairHull as APairHull};
 ghost use Rattle.half_grid.specs.declared.extent.Frame.{Frame as AFrame};
 
@@ -16,7 +17,7 @@ use crate::boxes::{joined, moved, oriented, summed};
 use crate::linked::Linked;
 use geo_stream::NoMemory;
 use half_grid::Frame;
-use layout_model::{KeptShape, Orient, Pair, Placement};
+use layout_model::{Orient, Pair, Placement, ShapeRef, Shapes};
 use std::alloc::Global;
 
 /// A pair, and the least box of what is on it.
@@ -125,9 +126,9 @@ fn widen(hulls: &mut Vec<PairHull>, pair: Pair, by: Frame) -> Result<(), NoMemor
 }
 
 // The box of a shape at all its offsets.
-fn shape_hull(shape: &KeptShape) -> Frame
-    requires { IsShapeOnGrid shape.now }
-    ensures { IsLeastBox (ShapeVertex shape.now) result }
+fn shape_hull(shape: ShapeRef<'_>) -> Frame
+    requires { IsShapeOnGrid (shape_in shape) }
+    ensures { IsLeastBox (ShapeVertex (shape_in shape.entry)) result }
 {
     let outline = shape.hull();
     let moves = shape.spread();
@@ -135,12 +136,13 @@ fn shape_hull(shape: &KeptShape) -> Frame
 }
 
 // The boxes of shapes.
-fn own_hulls(alloc: Global, shapes: &[KeptShape]) -> Result<Vec<PairHull>, NoMemory>
+fn own_hulls(alloc: Global, shapes: &Shapes) -> Result<Vec<PairHull>, NoMemory>
     requires { All IsShapeOnGrid shapes.now }
     ensures { IfOk result (λ hulls. AreOwnHulls shapes.now hulls.items) }
 {
     let mut hulls = Vec::new(alloc);
-    for shape in shapes {
+    for number in 0..shapes.len() {
+        let shape = shapes.get(number);
         widen(&mut hulls, shape.pair(), shape_hull(shape))?;
     }
     Ok(hulls)
@@ -219,7 +221,8 @@ fn hulls_of(
 
 // So many empty lists.
 fn empty_lists(alloc: Global, count: usize) -> Result<Vec<Vec<PairHull>>, NoMemory>
-    ensures { IfOk result (λ lists. length lists.items ≡ count) }
+    ensures long { IfOk result (λ lists. length lists.items ≡ count) }
+    ensures empty { IfOk result (λ lists. (n : ℕ) → get_or (map (λ list. list.items) lists.items) n [] ≡ []) }
 {
     let mut lists = Vec::with_capacity(alloc, count)?;
     for _n in 0..count {
@@ -240,6 +243,7 @@ pub(crate) fn hulls(
     requires near { (n : ℕ) → IsAmong order.now n → HasNearVertices linked.now.cells n }
     ensures long { IfOk result (λ hulls. length hulls.items ≡ length linked.now.cells) }
     ensures hulls { IfOk result (λ hulls. AreHulls linked.now.cells order.now (map (λ list. list.items) hulls.items)) }
+    ensures only { IfOk result (λ hulls. AreOnlyAmong order.now (map (λ list. list.items) hulls.items)) }
 {
     let mut hulls = empty_lists(alloc, linked.cells().len())?;
     for cell in order {

@@ -8,7 +8,7 @@ ghost use Rattle.cell_tree.specs.Linking.{pointed, places_among};
 use geo_stream::NoMemory;
 use indexmap::IndexSet;
 use keyed_hash::KeyedState;
-use layout_model::{Cell, KeptShape, Layout, Name, Placement};
+use layout_model::{Cell, Layout, Name, Placement, Shapes};
 use std::alloc::Global;
 use std::marker::Model;
 
@@ -125,11 +125,11 @@ impl Linked {
     }
 
     /// The shapes of a cell.
-    pub(crate) fn shapes(&self, cell: usize) -> &[KeptShape]
+    pub(crate) fn shapes(&self, cell: usize) -> &Shapes
         requires { cell < length self.now.cells }
         ensures { result.now ≡ shapes_at self.now.cells cell }
     {
-        self.cells()[cell].shapes.as_slice()
+        &self.cells()[cell].shapes
     }
 
     /// The placements of a cell.

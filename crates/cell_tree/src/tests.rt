@@ -8,7 +8,7 @@ use crate::{Tree, TreeBad, resolve};
 use geo_stream::List;
 use half_grid::{Frame, Point};
 use layout_model::{
-    Cell, Counts, KeptShape, Layout, Name, Offsets, Orient, Pair, Placement, Shape,
+    Cell, Counts, KeptShape, Layout, Name, Offsets, Orient, Pair, Placement, Shape, Shapes,
 };
 use std::alloc::Global;
 use std::process::Abort;
@@ -45,6 +45,14 @@ fn only<T: Drop>(rt: &impl Abort, alloc: Global, item: T) -> List<T>
     let mut list = List::new(alloc);
     assert!(rt; list.push(item).is_ok(), "memory");
     list
+}
+
+fn only_shape(rt: &impl Abort, alloc: Global, shape: KeptShape) -> Shapes
+    ensures { result ≡ shape ∷ [] }
+{
+    let mut shapes = Shapes::new(alloc);
+    assert!(rt; shapes.push(shape).is_ok(), "memory");
+    shapes
 }
 
 const RING: [Point; 5] = [
@@ -102,7 +110,7 @@ fn more(rt: &impl Abort, mut cells: List<Cell>, cell: Cell) -> List<Cell>
     cells
 }
 
-fn cell(name: Name, shapes: List<KeptShape>, placements: List<Placement>) -> Cell
+fn cell(name: Name, shapes: Shapes, placements: List<Placement>) -> Cell
     requires shapes { All IsShapeOnGrid shapes }
     requires placements { All IsPlacementOnGrid placements }
     ensures grid { IsCellOnGrid result }
@@ -120,7 +128,7 @@ fn layout(
     rt: &impl Abort,
     alloc: Global,
     mag: u8,
-    shapes: List<KeptShape>,
+    shapes: Shapes,
     placements: List<Placement>,
 ) -> Layout
     requires some { 1 ≤ mag }
@@ -133,8 +141,8 @@ fn layout(
     let name_b = name(rt, alloc, b"B");
     let name_c = name(rt, alloc, b"C");
     let only_placed = only(rt, alloc, placed(rt, alloc, b"B", mag));
-    let only_square = only(rt, alloc, square(rt, alloc, false));
-    let a = cell(name_a, List::new(alloc), only_placed);
+    let only_square = only_shape(rt, alloc, square(rt, alloc, false));
+    let a = cell(name_a, Shapes::new(alloc), only_placed);
     let b = cell(name_b, shapes, placements);
     let c = cell(name_c, only_square, List::new(alloc));
     let first = only(rt, alloc, a);
@@ -157,7 +165,7 @@ fn of_square(rt: &impl Abort, alloc: Global, mag: u8, fixed: bool) -> Layout
     requires few { mag ≤ 16 }
     ensures { IsLayoutOnGrid result }
 {
-    let shapes = only(rt, alloc, square(rt, alloc, fixed));
+    let shapes = only_shape(rt, alloc, square(rt, alloc, fixed));
     layout(rt, alloc, mag, shapes, List::new(alloc))
 }
 
@@ -170,7 +178,7 @@ fn of_placement(rt: &impl Abort, alloc: Global, mag: u8, target: &[u8], inner: u
     ensures { IsLayoutOnGrid result }
 {
     let placements = only(rt, alloc, placed(rt, alloc, target, inner));
-    layout(rt, alloc, mag, List::new(alloc), placements)
+    layout(rt, alloc, mag, Shapes::new(alloc), placements)
 }
 
 #[test]
@@ -248,7 +256,7 @@ fn with_square(rt: &impl Abort, alloc: Global, layout: Layout, byte: u8) -> Layo
     requires { IsLayoutOnGrid layout }
     ensures { IsLayoutOnGrid result }
 {
-    let shapes = only(rt, alloc, square(rt, alloc, false));
+    let shapes = only_shape(rt, alloc, square(rt, alloc, false));
     let new_name = name(rt, alloc, &[byte]);
     with_cell(rt, layout, cell(new_name, shapes, List::new(alloc)))
 }
@@ -267,7 +275,7 @@ fn with_placing(
 {
     let placements = only(rt, alloc, placement);
     let new_name = name(rt, alloc, &[byte]);
-    with_cell(rt, layout, cell(new_name, List::new(alloc), placements))
+    with_cell(rt, layout, cell(new_name, Shapes::new(alloc), placements))
 }
 
 // So many cells, named by the bytes from 21 hex on, each of which places the one before it.
@@ -435,13 +443,13 @@ fn repeated(rt: &impl Abort, alloc: Global, offsets: Offsets) -> KeptShape
 }
 
 // C is a square at 2^24 places, A and B place it 2^15 times each, and T has these shapes and places A and B.
-fn diamond(rt: &impl Abort, alloc: Global, shapes: List<KeptShape>) -> Layout
+fn diamond(rt: &impl Abort, alloc: Global, shapes: Shapes) -> Layout
     requires { All IsShapeOnGrid shapes }
     ensures { IsLayoutOnGrid result }
 {
     let many = repeated(rt, alloc, copies(rt, alloc, 16777216));
     let name_c = name(rt, alloc, b"C");
-    let squares = cell(name_c, only(rt, alloc, many), List::new(alloc));
+    let squares = cell(name_c, only_shape(rt, alloc, many), List::new(alloc));
     let layout = with_cell(rt, no_cells(alloc), squares);
     let layout = with_many(rt, alloc, layout, b'A');
     let layout = with_many(rt, alloc, layout, b'B');
@@ -467,9 +475,9 @@ fn is_count(answer: Result<Tree, TreeBad>, byte: u8, count: u128) -> bool {
 fn shared_cells_count_through_both(rt: HostRuntime) {
     let alloc = rt.alloc();
     let top = name(&rt, alloc, b"T");
-    let tree = resolve(alloc, diamond(&rt, alloc, List::new(alloc)), &top);
+    let tree = resolve(alloc, diamond(&rt, alloc, Shapes::new(alloc)), &top);
     assert!(rt; tree.is_ok());
-    let shapes = only(&rt, alloc, square(&rt, alloc, false));
+    let shapes = only_shape(&rt, alloc, square(&rt, alloc, false));
     let refused = resolve(alloc, diamond(&rt, alloc, shapes), &top);
     assert!(rt; is_count(refused, b'T', 1099511627777));
 }

@@ -1,5 +1,5 @@
 //! The tree of a layout's cells.
-ghost use Rattle.std.specs.Prelude.{◌≡◌, ◌≢◌, ◌<◌, ◌^◌, ◌↔◌, ◌⊎◌, ℕ, [], length, slice_get, Some, None, Ok, Err, IfOk, IfErr, IsTrue, OnOk, IsOk, IsErrAnd};
+ghost use Rattle.std.specs.Prelude.{◌≡◌, ◌≢◌, ◌<◌, ◌^◌, ◌↔◌, ◌⊎◌, ℕ, [], length, slice_get, Some, None, Ok, Err, IfOk, IfErr, IsTrue, IsFalse, OnOk, IsOk, IsErrAnd};
 ghost use Rattle.layout_model.specs.Layouts.{IsLayoutOnGrid};
 ghost use Rattle.cell_tree.specs.Cells.{cell_number};
 ghost use Rattle.cell_tree.specs.Orders.{IsOrder};
@@ -40,7 +40,7 @@ impl Model for Tree {
     ghost use Rattle.std.specs.Prelude.{◌≡◌, ◌<◌, map, length};
     ghost use Rattle.layout_model.specs.Layouts.{IsLayoutOnGrid};
     ghost use Rattle.cell_tree.specs.Trees.{Rooted, IsTree};
-    ghost use Rattle.cell_tree.specs.HullTables.{AreHullsBelow};
+    ghost use Rattle.cell_tree.specs.HullTables.{AreHullsBelow, AreOnlyBelow};
     ghost use Rattle.cell_tree.specs.Flattening.{shape_count};
 
     ghost Value = { Rooted };
@@ -50,6 +50,7 @@ impl Model for Tree {
     ghost invariant = { λ tree. IsLayoutOnGrid tree.linked × (tree.top < length tree.linked.cells)
         × IsTree tree.linked.cells tree.top × (length tree.hulls.items ≡ length tree.linked.cells)
         × AreHullsBelow tree.linked.cells tree.top (map (λ list. list.items) tree.hulls.items)
+        × AreOnlyBelow tree.linked.cells tree.top (map (λ list. list.items) tree.hulls.items)
         × (tree.shapes ≡ shape_count tree.linked.cells tree.top) };
 }
 
@@ -116,11 +117,12 @@ impl Tree {
         hull_on(self.hulls[cell].as_slice(), pair)
     }
 
-    /// Whether a cell has nothing to show. Where it says so, a reachable cell has no shapes of its own. That it says so of a
-    /// cell that nothing reaches is tested and not promised, since it steers the cost alone.
+    /// Whether a cell has nothing to show. Where it says so, a reachable cell has no shapes of its own, and it says so of
+    /// each cell that nothing reaches.
     pub fn is_bare(&self, cell: usize) -> bool
         requires { cell < length self.now.layout.cells }
-        ensures { IsTrue result → IsReachable self.now.layout.cells self.now.top cell → shapes_at self.now.layout.cells cell ≡ [] }
+        ensures reached { IsFalse result → IsReachable self.now.layout.cells self.now.top cell }
+        ensures bare { IsTrue result → IsReachable self.now.layout.cells self.now.top cell → shapes_at self.now.layout.cells cell ≡ [] }
     {
         self.hulls[cell].is_empty()
     }

@@ -1,5 +1,5 @@
 -- The pieces of shapes, shape by shape.
-use Rattle.std.proofs.Common.{◌≡◌, ◌⊎◌, inl, inr, ℕ, zero, suc, ◌+◌, ◌<◌, ◌≤◌, ◌≤ℤ◌, List, [], ◌∷◌, Some, All, Any}
+use Rattle.std.proofs.Common.{◌≡◌, ◌⊎◌, inl, inr, ℕ, zero, suc, ◌+◌, ◌<◌, ◌≤◌, ◌≤ℤ◌, List, [], ◌∷◌, Some, All, Any, map}
 use Rattle.std.proofs.Common.{length, slice_get, get_or, refl, sym, ap, subst, ◌∙◌, arith}
 use Rattle.std.proofs.lemmas.Int.{ints, clamps, by_lt_z}
 use Rattle.std.proofs.lemmas.Option.{slice_get_within, get_or_from_slice_get, same_Some, none-some}
@@ -15,7 +15,7 @@ use Rattle.layout_model.specs.declared.cells.Cell.{Cell}
 use Rattle.cell_tree.specs.Cells.{shapes_at}
 use Rattle.cell_tree.specs.Chains.{IsReachable}
 use Rattle.cell_tree.proofs.ForCallers.{shapes_on_grid}
-use Rattle.flat_walk.specs.Tables.{HasShape, IsCut, with_pieces}
+use Rattle.flat_walk.specs.Tables.{HasShape, HaveNoPieces, IsCut, lists_at, with_pieces}
 use Rattle.flat_walk.proofs.ForCallers.{shape_stays, cut_here, cut_elsewhere, cut_beside}
 use Rattle.bool_ops.specs.Operations.{AreRowsOf, ArePieces}
 use Rattle.deck_plan.specs.Plans.{AreAllCut, AreCutUpTo, HaveShapes}
@@ -77,6 +77,25 @@ shape_on_grid cells all n k shape here =
     subst IsShapeOnGrid (get_or_from_slice_get (shapes_at cells n) k shape shape here)
     (shapes_on_grid cells all n k shape (slice_get_within (shapes_at cells n) k shape here))
 
+none_long : (shapes : List Shape) (lists : List (List Trapezoid)) → lists ≡ map (λ shape. []) shapes → length lists ≡ length shapes
+none_long shapes lists e = ap length e ∙ by shapes
+  where
+    by : (shapes : List Shape) → length (map {B = List Trapezoid} (λ shape. []) shapes) ≡ length shapes
+    by [] = refl
+    by (shape ∷ shapes) = ap suc (by shapes)
+
+cell_within : (cells : List Cell) (n k : ℕ) → k < length (shapes_at cells n) → n < length cells
+cell_within [] n k inside = absurd (omega (arith, inside))
+cell_within (cell ∷ cells) zero k inside = omega arith
+cell_within (cell ∷ cells) (suc n) k inside = let h = cell_within cells n k inside in omega (arith, h)
+
+-- each shape of a reachable cell has a place at first
+pub places_at_first : (cells : List Cell) (top : ℕ) (table : List (List (List Trapezoid))) → HaveNoPieces cells top table → HaveShapes cells top table
+places_at_first cells top table none = λ n k reach inside. record {
+  cell = (let long = none.long in let h = cell_within cells n k inside in omega arith);
+  shape = (let long = none_long (shapes_at cells n) (lists_at table n) (none.lists n reach) in omega arith);
+}
+
 apart_or_same : (a b : ℕ) → (a ≡ b) ⊎ (a ≡ b → ⊥)
 apart_or_same zero zero = inl refl
 apart_or_same zero (suc b) = inr (λ e. omega (arith, e))
@@ -90,14 +109,14 @@ before_or_at (suc k) zero early apart = absurd (omega (arith, early))
 before_or_at (suc k) (suc n) early apart = let h = before_or_at k n (omega (arith, early)) (λ e. apart (ap suc e)) in omega (arith, h)
 
 module _ (cells : List Cell) (table : List (List (List Trapezoid))) (cell number : ℕ) (shape : Shape)
-    (pieces : List Trapezoid) (inside : cell < length cells)
-    (here : slice_get (shapes_at cells cell) number ≡ Some shape) (shapes : HaveShapes cells table)
+    (pieces : List Trapezoid) (top : ℕ) (reached : IsReachable cells top cell)
+    (here : slice_get (shapes_at cells cell) number ≡ Some shape) (shapes : HaveShapes cells top table)
     (covers : CoversExactly pieces (IsInPolygon shape.points)) where
   pub place : HasShape table cell number
-  place = shapes cell number inside (slice_get_within (shapes_at cells cell) number shape here)
+  place = shapes cell number reached (slice_get_within (shapes_at cells cell) number shape here)
 
-  pub shapes_put : HaveShapes cells (with_pieces table cell number pieces)
-  shapes_put = λ n k in_cells in_shapes. shape_stays table cell number n k pieces place.cell (shapes n k in_cells in_shapes)
+  pub shapes_put : HaveShapes cells top (with_pieces table cell number pieces)
+  shapes_put = λ n k reach in_shapes. shape_stays table cell number n k pieces place.cell (shapes n k reach in_shapes)
 
   cut_old : (n k : ℕ) (other : Shape) → ((n ≡ cell) × (k ≡ number) → ⊥) → IsCut table n k other → IsCut (with_pieces table cell number pieces) n k other
   cut_old n k other apart cut = elim (apart_or_same cell n) [
@@ -115,8 +134,8 @@ module _ (cells : List Cell) (table : List (List (List Trapezoid))) (cell number
       (subst (λ m. IsCut (with_pieces table cell number pieces) cell m shape) (sym f)
       (cut_here table cell number shape pieces place covers)))
 
-  pub cut_more : (top : ℕ) → AreCutUpTo cells top table cell number → AreCutUpTo cells top (with_pieces table cell number pieces) cell (number + 1)
-  cut_more top cut = λ n k other reach early there. elim early [
+  pub cut_more : AreCutUpTo cells top table cell number → AreCutUpTo cells top (with_pieces table cell number pieces) cell (number + 1)
+  cut_more cut = λ n k other reach early there. elim early [
     | inl before ↦ cut_old n k other (λ both. (let e = both.0 in omega (arith, before, e))) (cut n k other reach (inl before) there)
     | inr own ↦ elim (apart_or_same k number) [
       | inl e ↦ cut_new n k other own.0 e there

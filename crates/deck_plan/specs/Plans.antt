@@ -49,6 +49,6 @@ pub record IsPutFor (shape : Shape) (before : List (List (List Trapezoid))) (n k
   pub covers : CoversExactly pieces (IsInPolygon shape.points)
   pub is : after ≡ with_pieces before n k pieces
 
--- each shape has a place in the table
-abbrev pub HaveShapes : List Cell → List (List (List Trapezoid)) → Type 0
-HaveShapes cells table = (n k : ℕ) → n < length cells → k < length (shapes_at cells n) → HasShape table n k
+-- each shape of each reachable cell has a place in the table
+abbrev pub HaveShapes : List Cell → ℕ → List (List (List Trapezoid)) → Type 0
+HaveShapes cells top table = (n k : ℕ) → IsReachable cells top n → k < length (shapes_at cells n) → HasShape table n k

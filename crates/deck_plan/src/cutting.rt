@@ -1,6 +1,7 @@
 //! The pieces of a layout's shapes.
-ghost use Rattle.std.specs.Prelude.{◌≡◌, ◌<◌, ◌≤◌, ◌+◌, ℕ, [], ◌∷◌, length, slice_get, Some, All, IsTrue, IfOk, IfSome, OnOk};
+ghost use Rattle.std.specs.Prelude.{◌≡◌, ◌<◌, ◌≤◌, ◌+◌, ℕ, [], ◌∷◌, length, All, IsTrue, IfOk, IfSome, OnOk};
 ghost use Rattle.layout_model.specs.Layouts.{IsCellOnGrid, IsShapeOnGrid};
+ghost use Rattle.layout_model.specs.ShapeLists.{shape_in};
 ghost use Rattle.bool_ops.specs.Operations.{ArePieces};
 ghost use Rattle.cell_tree.specs.Cells.{shapes_at};
 ghost use Rattle.flat_walk.specs.Tables.{HasShape, IsCut, with_pieces};
@@ -13,37 +14,30 @@ use cell_tree::Tree;
 use flat_walk::Parts;
 use geo_stream::NoMemory;
 use half_grid::Trap;
-use layout_model::KeptShape;
+use layout_model::{ShapeRef, Shapes};
 use std::alloc::Global;
 
 // The pieces of one shape.
-fn pieces_of(alloc: Global, shape: &KeptShape) -> Result<Vec<Trap>, NoMemory>
-    requires { IsShapeOnGrid shape.now }
-    ensures { IfOk result (λ traps. CoversExactly traps.items (IsInPolygon shape.now.points)) }
+fn pieces_of(alloc: Global, shape: ShapeRef<'_>) -> Result<Vec<Trap>, NoMemory>
+    requires { IsShapeOnGrid (shape_in shape) }
+    ensures { IfOk result (λ traps. CoversExactly traps.items (IsInPolygon (shape_in shape.entry).points)) }
 {
     pieces(alloc, shape)
 }
 
 // The shapes of a cell.
-fn shapes_of(tree: &Tree, cell: usize) -> &[KeptShape]
+fn shapes_of(tree: &Tree, cell: usize) -> &Shapes
     requires { cell < length tree.now.layout.cells }
     ensures { result.now ≡ shapes_at tree.now.layout.cells cell }
 {
-    tree.cells()[cell].shapes.as_slice()
-}
-
-fn shape_at(shapes: &[KeptShape], number: usize) -> &KeptShape
-    requires { number < length shapes.now }
-    ensures { slice_get shapes.now number ≡ Some result.now }
-{
-    &shapes[number]
+    &tree.cells()[cell].shapes
 }
 
 // The one piece of a shape that is a rectangle or a trapezoid and has its points in place.
 #[inline]
-fn lone_piece_of(shape: &KeptShape) -> Option<Trap>
-    requires { IsShapeOnGrid shape.now }
-    ensures { IfSome result (λ trap. CoversExactly (trap ∷ []) (IsInPolygon shape.now.points)) }
+fn lone_piece_of(shape: ShapeRef<'_>) -> Option<Trap>
+    requires { IsShapeOnGrid (shape_in shape) }
+    ensures { IfSome result (λ trap. CoversExactly (trap ∷ []) (IsInPolygon (shape_in shape.entry).points)) }
 {
     match shape.outline().as_slice() {
         Some(points) => lone_piece(points),
@@ -53,9 +47,9 @@ fn lone_piece_of(shape: &KeptShape) -> Option<Trap>
 
 // The pieces of a shape that has its points in place and goes up once and down once, in place of what the list held. False
 // where they aren't known.
-fn known_pieces(shape: &KeptShape, traps: &mut Vec<Trap>) -> Result<bool, NoMemory>
-    requires { IsShapeOnGrid shape.now }
-    ensures { IfOk result (λ known. IsTrue known → CoversExactly traps.new.items (IsInPolygon shape.now.points)) }
+fn known_pieces(shape: ShapeRef<'_>, traps: &mut Vec<Trap>) -> Result<bool, NoMemory>
+    requires { IsShapeOnGrid (shape_in shape) }
+    ensures { IfOk result (λ known. IsTrue known → CoversExactly traps.new.items (IsInPolygon (shape_in shape.entry).points)) }
 {
     match shape.outline().as_slice() {
         Some(points) => monotone_pieces(points, traps),
@@ -71,11 +65,11 @@ fn cut_shape(
     traps: &mut Vec<Trap>,
     cell: usize,
     number: usize,
-    shape: &KeptShape,
+    shape: ShapeRef<'_>,
 ) -> Result<(), NoMemory>
-    requires grid { IsShapeOnGrid shape.now }
+    requires grid { IsShapeOnGrid (shape_in shape) }
     requires place { HasShape parts.old cell number }
-    ensures { OnOk result (IsPutFor shape.now parts.old cell number parts.new) }
+    ensures { OnOk result (IsPutFor (shape_in shape.entry) parts.old cell number parts.new) }
 {
     if let Some(trap) = lone_piece_of(shape) {
         return parts.put(cell, number, &[trap]);
@@ -97,9 +91,9 @@ fn cut_cell(
 ) -> Result<(), NoMemory>
     requires grid { All IsCellOnGrid tree.now.layout.cells }
     requires cell { cell < length tree.now.layout.cells }
-    requires shapes { HaveShapes tree.now.layout.cells parts.old }
+    requires shapes { HaveShapes tree.now.layout.cells tree.now.top parts.old }
     requires before { AreCutUpTo tree.now.layout.cells tree.now.top parts.old cell 0 }
-    ensures shapes { OnOk result (HaveShapes tree.now.layout.cells parts.new) }
+    ensures shapes { OnOk result (HaveShapes tree.now.layout.cells tree.now.top parts.new) }
     ensures cut { OnOk result (AreCutUpTo tree.now.layout.cells tree.now.top parts.new (cell + 1) 0) }
 {
     if tree.is_bare(cell) {
@@ -108,7 +102,7 @@ fn cut_cell(
     let shapes = shapes_of(tree, cell);
     let mut number = 0;
     while number < shapes.len() {
-        cut_shape(alloc, parts, traps, cell, number, shape_at(shapes, number))?;
+        cut_shape(alloc, parts, traps, cell, number, shapes.get(number))?;
         number += 1;
     }
     Ok(())

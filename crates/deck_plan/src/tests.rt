@@ -7,7 +7,7 @@ use cell_tree::{Tree, resolve};
 use deck_text::{Deck, read_deck};
 use geo_stream::List;
 use half_grid::{Point, Trap, Window};
-use layout_model::{Cell, Counts, KeptShape, Layout, Name, Offsets, Pair};
+use layout_model::{Cell, Counts, KeptShape, Layout, Name, Offsets, Pair, Shapes};
 use std::alloc::Global;
 use std::process::Abort;
 
@@ -159,13 +159,20 @@ fn only<T: Drop>(rt: &impl Abort, alloc: Global, item: T) -> List<T>
     list
 }
 
-fn three<T: Drop>(rt: &impl Abort, alloc: Global, first: T, second: T, third: T) -> List<T>
+fn three_shapes(
+    rt: &impl Abort,
+    alloc: Global,
+    first: KeptShape,
+    second: KeptShape,
+    third: KeptShape,
+) -> Shapes
     ensures { result ≡ first ∷ second ∷ third ∷ [] }
 {
-    let mut list = only(rt, alloc, first);
-    assert!(rt; list.push(second).is_ok(), "memory");
-    assert!(rt; list.push(third).is_ok(), "memory");
-    list
+    let mut shapes = Shapes::new(alloc);
+    assert!(rt; shapes.push(first).is_ok(), "memory");
+    assert!(rt; shapes.push(second).is_ok(), "memory");
+    assert!(rt; shapes.push(third).is_ok(), "memory");
+    shapes
 }
 
 fn triangle(rt: &impl Abort, alloc: Global) -> KeptShape
@@ -191,7 +198,7 @@ fn squares(rt: &impl Abort, alloc: Global, layer: u64, places: &[Point]) -> Kept
 fn layout(rt: &impl Abort, alloc: Global) -> Layout
     ensures { IsLayoutOnGrid result }
 {
-    let shapes = three(
+    let shapes = three_shapes(
         rt,
         alloc,
         triangle(rt, alloc),

@@ -13,7 +13,7 @@ use deck_text::read_deck;
 use depot::{DepotBad, MemDepot};
 use geo_stream::List;
 use half_grid::Point;
-use layout_model::{Cell, Counts, KeptShape, Layout, Name, Offsets, Pair};
+use layout_model::{Cell, Counts, KeptShape, Layout, Name, Offsets, Pair, Shapes};
 use std::alloc::Global;
 use std::process::Abort;
 
@@ -83,13 +83,21 @@ fn shape(rt: &impl Abort, alloc: Global, points: &[Point], places: &[Point]) -> 
     KeptShape::new(alloc, METAL, points, places).expect(rt, "a shape")
 }
 
+fn only_shape(rt: &impl Abort, alloc: Global, shape: KeptShape) -> Shapes
+    ensures { result ≡ shape ∷ [] }
+{
+    let mut shapes = Shapes::new(alloc);
+    assert!(rt; shapes.push(shape).is_ok(), "memory");
+    shapes
+}
+
 fn layout(rt: &impl Abort, alloc: Global, shape: KeptShape) -> Layout
     requires { IsShapeOnGrid shape }
     ensures { IsLayoutOnGrid result }
 {
     let cell = Cell {
         name: Name::new(alloc, b"TOP").expect(rt, "a name"),
-        shapes: only(rt, alloc, shape),
+        shapes: only_shape(rt, alloc, shape),
         placements: List::new(alloc),
     };
     let counts = Counts {

@@ -9,7 +9,7 @@ use deck_text::read_deck;
 use depot::MemDepot;
 use geo_stream::List;
 use half_grid::{Point, Side, Tile};
-use layout_model::{Cell, Counts, KeptShape, Layout, Name, Offsets, Pair};
+use layout_model::{Cell, Counts, KeptShape, Layout, Name, Offsets, Pair, Shapes};
 use shot_checker::Verdict;
 use shot_reader::ShotBad;
 use shot_writer::Sums;
@@ -52,10 +52,18 @@ fn square(rt: &impl Abort, alloc: Global) -> KeptShape
     KeptShape::new(alloc, pair, &SQUARE, places).expect(rt, "a shape")
 }
 
+fn only_shape(rt: &impl Abort, alloc: Global, shape: KeptShape) -> Shapes
+    ensures { result ≡ shape ∷ [] }
+{
+    let mut shapes = Shapes::new(alloc);
+    assert!(rt; shapes.push(shape).is_ok(), "memory");
+    shapes
+}
+
 fn layout(rt: &impl Abort, alloc: Global) -> Layout
     ensures { IsLayoutOnGrid result }
 {
-    let shapes = only(rt, alloc, square(rt, alloc));
+    let shapes = only_shape(rt, alloc, square(rt, alloc));
     let cell = Cell {
         name: Name::new(alloc, b"TOP").expect(rt, "a name"),
         shapes,

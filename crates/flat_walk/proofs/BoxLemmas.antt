@@ -277,13 +277,6 @@ boxed_none [] lists = tt
 boxed_none (s ∷ shapes) [] = tt
 boxed_none (s ∷ shapes) (l ∷ lists) = tt
 
-pub boxed_after : (shapes rest : List Shape) (lists later : List (List Trapezoid)) (boxes others : List Frame)
-    (shape : Shape) (pieces : List Trapezoid) → shapes ≡ shape ∷ rest → lists ≡ pieces ∷ later → others ≡ drop 1 boxes
-    → AreBoxed shapes lists boxes → AreBoxed rest later others
-boxed_after shapes rest lists later [] others shape pieces is are past boxed = subst (AreBoxed rest later) (sym past) (boxed_none rest later)
-boxed_after shapes rest lists later (b ∷ boxes) others shape pieces is are past boxed =
-    subst (AreBoxed rest later) (sym past) (subst (λ l. AreBoxed (shape ∷ rest) l (b ∷ boxes)) are (subst (λ s. AreBoxed s lists (b ∷ boxes)) is boxed)).1
-
 get_pushed : {X : Type 0} (xs : List X) (x none : X) (n : ℕ) (P : ℕ → X → Type 0) → P (length xs) x
     → ((k : ℕ) → P k (get_or xs k none)) → P n (get_or (xs ++ x ∷ []) n none)
 get_pushed [] x none zero P h each = h
@@ -317,19 +310,13 @@ none_boxed cells top table =
           (placements_at cells n);
     }
 
--- the boxes of shapes are near, and no more than the shapes
+-- the boxes of shapes are near
 pub boxed_all_near : (shapes : List Shape) (lists : List (List Trapezoid)) (boxes : List Frame) → AreBoxed shapes lists boxes → AreNear boxes
 boxed_all_near shapes lists [] boxed k box there = absurd (none-some box there)
 boxed_all_near [] lists (b ∷ boxes) boxed k box there = absurd boxed
 boxed_all_near (s ∷ shapes) [] (b ∷ boxes) boxed k box there = absurd boxed
 boxed_all_near (s ∷ shapes) (l ∷ lists) (b ∷ boxes) boxed zero box there = subst (IsBoxUpTo (2 ^ 53)) (same_Some b box there) boxed.0.near
 boxed_all_near (s ∷ shapes) (l ∷ lists) (b ∷ boxes) boxed (suc k) box there = boxed_all_near shapes lists boxes boxed.1 k box there
-
-pub boxed_long : (shapes : List Shape) (lists : List (List Trapezoid)) (boxes : List Frame) → AreBoxed shapes lists boxes → length boxes ≤ length shapes
-boxed_long shapes lists [] boxed = omega arith
-boxed_long [] lists (b ∷ boxes) boxed = absurd boxed
-boxed_long (s ∷ shapes) [] (b ∷ boxes) boxed = absurd boxed
-boxed_long (s ∷ shapes) (l ∷ lists) (b ∷ boxes) boxed = let h = boxed_long shapes lists boxes boxed.1 in omega (arith, h)
 
 -- ---- what is passed by
 

@@ -13,6 +13,7 @@ pub mod PoseLemmas
 pub mod ReadLemmas
 pub mod BoxLemmas
 pub mod BlockLemmas
+pub mod CursorLemmas
 pub mod RestLemmas
 pub mod RingImages
 pub mod ShowLemmas

@@ -15,7 +15,7 @@ use Rattle.layout_model.specs.declared.pair.Pair.{Pair}
 use Rattle.layout_model.specs.declared.orient.Orient.{Orient}
 use Rattle.layout_model.specs.declared.shapes.Shape.{Shape}
 use Rattle.flat_walk.specs.Quads.{quad_image, moved_quad, has_row_in}
-use Rattle.flat_walk.specs.Walks.{is_on, pieces_of_shape, pieces_of_shapes}
+use Rattle.flat_walk.specs.Walks.{is_on, pieces_of_shapes}
 use Rattle.flat_walk.specs.Rests.{shows_in, IsMarkedQuad, Skips, Gives, placed_list, places_rest, shapes_rest, placed_rest}
 use Rattle.flat_walk.specs.Hands.{steps_of, steps_from}
 use Rattle.flat_walk.proofs.PoseLemmas.{quad_moved}
@@ -157,7 +157,7 @@ cursor_skip orient at pair shapes rest shape lists later pieces place is are non
     rw (is, are) (placed_rest_is orient at pair shape rest pieces later place
     ∙ (rw none (ap (map (quad_image orient at)) (sym (shapes_from_first pair rest later)))))
 
-steps_first : (shapes : List Shape) → steps_from shapes 0 ≡ steps_of shapes
+pub steps_first : (shapes : List Shape) → steps_from shapes 0 ≡ steps_of shapes
 steps_first [] = refl
 steps_first (shape ∷ shapes) = refl
 

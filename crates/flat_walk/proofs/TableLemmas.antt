@@ -1,6 +1,6 @@
 -- The table of pieces, before and after pieces are put.
-use Rattle.std.proofs.Common.{◌≡◌, ◌≢◌, ◌⊎◌, inl, inr, ℕ, zero, suc, ◌<◌, List, [], ◌∷◌, Some, map, length, get_or, set}
-use Rattle.std.proofs.Common.{slice_get, All, refl, ap, subst, ◌∙◌, arith}
+use Rattle.std.proofs.Common.{◌≡◌, ◌≢◌, ◌⊎◌, inl, inr, ℕ, zero, suc, ◌<◌, ◌≤◌, List, [], ◌∷◌, Some, map, length, get_or, set}
+use Rattle.std.proofs.Common.{slice_get, All, refl, ap, sym, subst, ◌∙◌, arith, ◌+◌, ◌++◌, take}
 use Rattle.std.specs.List.{AllByRecursion}
 use Rattle.std.proofs.lemmas.Option.{none-some}
 use Rattle.std.proofs.lemmas.List.Elements.{recursion_from_All, All-from_recursion}
@@ -9,7 +9,9 @@ use Rattle.half_grid.specs.Winding.{IsInPolygon}
 use Rattle.layout_model.specs.declared.shapes.Shape.{Shape}
 use Rattle.layout_model.specs.declared.cells.Cell.{Cell}
 use Rattle.cell_tree.specs.Cells.{shapes_at}
-use Rattle.flat_walk.specs.Tables.{lists_at, no_pieces, with_pieces, HasShape, IsKept, AreKept, IsCut}
+use Rattle.cell_tree.specs.Chains.{IsReachable}
+use Rattle.flat_walk.specs.Tables.{lists_at, HaveNoPieces, with_pieces, HasShape, IsKept, AreKept, IsCut}
+use Rattle.flat_walk.proofs.AllThings.{each_both}
 
 set_length : {X : Type 0} (xs : List X) (n : ℕ) (x : X) → length (set xs n x) ≡ length xs
 set_length [] n x = refl
@@ -106,12 +108,71 @@ none_of [] k x y at = absurd (none-some x at)
 none_of (z ∷ xs) zero x y at = omega arith
 none_of (z ∷ xs) (suc k) x y at = let rest = none_of xs k x y at in omega arith
 
--- each shape of the cells has a list at first
-pub shape_at_first : (cells : List Cell) (n k : ℕ) (shape : Shape) → slice_get (shapes_at cells n) k ≡ Some shape → HasShape (no_pieces cells) n k
-shape_at_first [] n k shape at = absurd (none-some shape at)
-shape_at_first (cell ∷ cells) zero k shape at = record { cell = omega arith; shape = none_of cell.shapes k shape [] at }
-shape_at_first (cell ∷ cells) (suc n) k shape at = let rest = shape_at_first cells n k shape at in
-    record { cell = let i = rest.cell in omega (arith, i); shape = rest.shape }
+within : (cells : List Cell) (n k : ℕ) (shape : Shape) → slice_get (shapes_at cells n) k ≡ Some shape → n < length cells
+within [] n k shape at = absurd (none-some shape at)
+within (cell ∷ cells) zero k shape at = omega arith
+within (cell ∷ cells) (suc n) k shape at = let rest = within cells n k shape at in omega (arith, rest)
+
+-- each shape of a reachable cell has a list at first
+pub shape_at_first : (cells : List Cell) (top : ℕ) (table : List (List (List Trapezoid))) (n k : ℕ) (shape : Shape)
+    → HaveNoPieces cells top table → IsReachable cells top n → slice_get (shapes_at cells n) k ≡ Some shape → HasShape table n k
+shape_at_first cells top table n k shape none reach at = record {
+  cell = let long = none.long in let inside = within cells n k shape at in omega (arith, long, inside);
+  shape = subst (λ lists. k < length lists) (sym (none.lists n reach)) (none_of (shapes_at cells n) k shape [] at);
+}
+
+-- ---- lists that are made one by one
+
+-- one shape more has no pieces
+pub none_more : (shapes : List Shape) (n : ℕ) → n < length shapes
+    → ◌++◌ {A = List Trapezoid} (map (λ shape. []) (take n shapes)) ([] ∷ []) ≡ map (λ shape. []) (take (n + 1) shapes)
+none_more [] n inside = absurd (omega arith)
+none_more (shape ∷ shapes) zero inside = refl
+none_more (shape ∷ shapes) (suc n) inside =
+    let e : suc n + 1 ≡ suc (n + 1) = omega arith in rw e (ap (λ lists. [] ∷ lists) (none_more shapes n (omega arith)))
+
+each_pushed : {X : Type 0} (xs : List X) (x d : X) (n : ℕ) (P : ℕ → X → Type 0) → P (length xs) x
+    → ((k : ℕ) → k < length xs → P k (get_or xs k d)) → n < length (xs ++ x ∷ []) → P n (get_or (xs ++ x ∷ []) n d)
+each_pushed [] x d zero P here each inside = here
+each_pushed [] x d (suc n) P here each inside = absurd (omega arith)
+each_pushed (y ∷ xs) x d zero P here each inside = each 0 (omega arith)
+each_pushed (y ∷ xs) x d (suc n) P here each inside =
+    each_pushed xs x d n (λ k. P (suc k)) here (λ k before. each (suc k) (omega arith)) (omega arith)
+
+-- one cell more has no pieces
+pub cell_more : (cells : List Cell) (top : ℕ) (table : List (List (List Trapezoid))) (new : List (List Trapezoid))
+    → ((n : ℕ) → n < length table → IsReachable cells top n → lists_at table n ≡ map (λ shape. []) (shapes_at cells n))
+    → (IsReachable cells top (length table) → new ≡ map (λ shape. []) (shapes_at cells (length table)))
+    → (n : ℕ) → n < length (table ++ new ∷ []) → IsReachable cells top n → lists_at (table ++ new ∷ []) n ≡ map (λ shape. []) (shapes_at cells n)
+cell_more cells top table new each here n inside =
+    each_pushed table new [] n (λ k lists. IsReachable cells top k → lists ≡ map (λ shape. []) (shapes_at cells k)) here each inside
+
+past_none : (table : List (List (List Trapezoid))) (n : ℕ) → length table ≤ n → lists_at table n ≡ []
+past_none [] n past = refl
+past_none (lists ∷ table) zero past = absurd (omega arith)
+past_none (lists ∷ table) (suc n) past = past_none table n (omega arith)
+
+past_cells : (cells : List Cell) (n : ℕ) → length cells ≤ n → shapes_at cells n ≡ []
+past_cells [] n past = refl
+past_cells (cell ∷ cells) zero past = absurd (omega arith)
+past_cells (cell ∷ cells) (suc n) past = past_cells cells n (omega arith)
+
+-- all cells have no pieces
+pub all_none : (cells : List Cell) (top : ℕ) (table : List (List (List Trapezoid))) → length table ≡ length cells
+    → ((n : ℕ) → n < length table → IsReachable cells top n → lists_at table n ≡ map (λ shape. []) (shapes_at cells n))
+    → HaveNoPieces cells top table
+all_none cells top table long each = record {
+  long = long;
+  lists = λ n reach. elim (inside_or_past n (length table)) [
+    | inl inside ↦ each n inside reach
+    | inr past ↦ past_none table n past ∙ sym (ap (map (λ shape. [])) (past_cells cells n (omega (arith, past, long))))
+  ];
+}
+  where
+    inside_or_past : (n m : ℕ) → (n < m) ⊎ (m ≤ n)
+    inside_or_past n zero = inr (omega arith)
+    inside_or_past zero (suc m) = inl (omega arith)
+    inside_or_past (suc n) (suc m) = elim (inside_or_past n m) [ inl h ↦ inl (omega (arith, h)) | inr h ↦ inr (omega (arith, h)) ]
 
 -- ---- the table as it lies in memory
 
@@ -162,9 +223,13 @@ none_kept : (shapes : List Shape) → AllByRecursion IsKept (map (λ shape. []) 
 none_kept [] = tt
 none_kept (shape ∷ shapes) = (nothing_kept, none_kept shapes)
 
-none_kept_in : (cells : List Cell) → AllByRecursion (All IsKept) (no_pieces cells)
-none_kept_in [] = tt
-none_kept_in (cell ∷ cells) = (All-from_recursion IsKept _ (none_kept cell.shapes), none_kept_in cells)
+pub none_all_kept : (shapes : List Shape) → All IsKept (map (λ shape. []) shapes)
+none_all_kept shapes = All-from_recursion IsKept _ (none_kept shapes)
 
-pub no_pieces_kept : (cells : List Cell) → AreKept (no_pieces cells)
-no_pieces_kept cells = All-from_recursion (All IsKept) _ (none_kept_in cells)
+-- one list more is kept
+pub kept_more : (table : List (List (List Trapezoid))) (new : List (List Trapezoid)) → AreKept table → All IsKept new → AreKept (table ++ new ∷ [])
+kept_more table new all kept = All-from_recursion (All IsKept) _
+    (each_both (All IsKept) table (new ∷ []) (recursion_from_All (All IsKept) table all) (kept, tt))
+
+pub nothing_yet_kept : AreKept []
+nothing_yet_kept = λ k d inside. absurd (omega arith)

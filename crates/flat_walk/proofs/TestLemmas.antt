@@ -1,17 +1,15 @@
 -- A layout of three cells, one of which is a triangle, and the piece that covers it.
 use Rattle.std.proofs.Common.{◌≡◌, ◌≢◌, ◌<◌, ◌≤◌, ◌*◌, ◌/◌, ◌%◌, ◌+ℤ◌, ◌*ℤ◌, ℕ, zero, suc, pos, Bool, true, false, List}
-use Rattle.std.proofs.Common.{[], ◌∷◌, All, Some, None, map, length, slice_get, get_or, refl, sym, ap, subst, ◌∙◌}
+use Rattle.std.proofs.Common.{[], ◌∷◌, All, Some, map, length, slice_get, get_or, refl, sym, ap, subst, ◌∙◌}
 use Rattle.std.proofs.Common.{arith}
-use Rattle.std.specs.List.{AllByRecursion}
 use Rattle.std.proofs.lemmas.Int.{ints}
 use Rattle.std.proofs.lemmas.Option.{none-some, same_Some}
-use Rattle.std.proofs.lemmas.List.Elements.{All-cons, All-nil, All-from_recursion}
+use Rattle.std.proofs.lemmas.List.Elements.{All-cons, All-nil}
 use Rattle.half_grid.specs.Quads.{ring_of, corners_of}
-use Rattle.half_grid.specs.Trapezoids.{Trapezoid, IsShot, IsInTrapezoid, CoversExactly, count_in, trapezoid_has, trapezoid}
-use Rattle.half_grid.specs.Winding.{winding, IsInPolygon, count_one}
+use Rattle.half_grid.specs.Trapezoids.{Trapezoid, IsShot, CoversExactly, count_in, trapezoid_has}
+use Rattle.half_grid.specs.Winding.{IsInPolygon, count_one}
 use Rattle.half_grid.specs.declared.plane.Tile.{Tile}
 use Rattle.half_grid.specs.declared.plane.Point.{Point}
-use Rattle.half_grid.specs.declared.plane.Line.TheVariants.{Upright, Rising}
 use Rattle.half_grid.proofs.ForCallers.{ring_inside, ring_outside, has_in, in_has, count_by-cons}
 use Rattle.std.proofs.Math.IntN.{pos-*ℤ-pos}
 use Rattle.std.proofs.Math.Nat.{mod-lt, div-lt_iff_lt-mul, mul-le-mul}
@@ -23,10 +21,11 @@ use Rattle.layout_model.specs.declared.pair.Pair.{Pair}
 use Rattle.layout_model.specs.declared.shapes.Shape.{Shape}
 use Rattle.layout_model.specs.declared.cells.Cell.{Cell}
 use Rattle.layout_model.specs.declared.cells.Counts.{Counts}
-use Rattle.layout_model.specs.declared.cells.Layout.{Layout}
-use Rattle.cell_tree.specs.Cells.{shapes_at}
+use Rattle.layout_model.specs.declared.cells.Placement.{Placement}
+use Rattle.cell_tree.specs.Cells.{shapes_at, placements_at, cell_number}
 use Rattle.cell_tree.specs.Chains.{IsReachable}
-use Rattle.flat_walk.specs.Tables.{HasShape, IsCut, AreCut, no_pieces, with_pieces, lists_at}
+use Rattle.cell_tree.proofs.ForCallers.{reach_more}
+use Rattle.flat_walk.specs.Tables.{HasShape, IsCut, AreCut, HaveNoPieces, with_pieces}
 use Rattle.flat_walk.proofs.TableLemmas.{cut_here, shape_stays, shape_at_first}
 
 -- ---- a piece covers its ring
@@ -89,12 +88,23 @@ all_cut cells top shape table piece shot only points has pair = λ n k other rea
     (subst (λ j. IsCut (with_pieces table 0 0 (piece ∷ [])) 0 j other) (sym e.1)
     (cut_here table 0 0 other (piece ∷ []) has covers))
 
+slot_first : {X : Type 0} (xs : List X) → 0 < length xs → (x : X) × (slice_get xs 0 ≡ Some x)
+slot_first [] some = absurd (omega arith)
+slot_first (x ∷ xs) some = (x, refl)
+
+-- the cell that the first placement of a reachable cell places
+pub placed_below : (cells : List Cell) (top n m : ℕ) → IsReachable cells top n → 0 < length (placements_at cells n)
+    → ((placed : Placement) → slice_get (placements_at cells n) 0 ≡ Some placed → cell_number cells placed.target ≡ Some m) → IsReachable cells top m
+placed_below cells top n m reach some each = let first = slot_first (placements_at cells n) some in
+    reach_more cells top n m reach (first.0, record { number = 0; placed = first.1; target = each first.0 first.1 })
+
 first_there : (cells : List Cell) (shape : Shape) → map (λ cell. cell.shapes) cells ≡ (shape ∷ []) ∷ [] ∷ [] ∷ [] → slice_get (shapes_at cells 0) 0 ≡ Some shape
 first_there [] shape e = absurd (let clash : ⊥ = cc in clash)
 first_there (c ∷ cells) shape e = ap (λ l. slice_get (get_or l 0 []) 0) e
 
-pub has_first : (cells : List Cell) (shape : Shape) → map (λ cell. cell.shapes) cells ≡ (shape ∷ []) ∷ [] ∷ [] ∷ [] → HasShape (no_pieces cells) 0 0
-has_first cells shape e = shape_at_first cells 0 0 shape (first_there cells shape e)
+pub has_first : (cells : List Cell) (top : ℕ) (table : List (List (List Trapezoid))) (shape : Shape)
+    → map (λ cell. cell.shapes) cells ≡ (shape ∷ []) ∷ [] ∷ [] ∷ [] → HaveNoPieces cells top table → IsReachable cells top 0 → HasShape table 0 0
+has_first cells top table shape e none reach = shape_at_first cells top table 0 0 shape none reach (first_there cells shape e)
 
 pub has_still : (table : List (List (List Trapezoid))) (pieces : List Trapezoid) → HasShape table 0 0 → HasShape (with_pieces table 0 0 pieces) 0 0
 has_still table pieces has = shape_stays table 0 0 0 0 pieces has.cell has

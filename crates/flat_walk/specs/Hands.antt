@@ -26,15 +26,30 @@ pub record IsHand (hand : Hand) : Type 0 where
   pub orient : IsOrient hand.orient
   pub near : IsWithin (2 ^ 60) hand.at
 
+abbrev pub shapes_left : Cursor → List Shape
+shapes_left cursor = drop cursor.number cursor.shapes.now
+
 abbrev pub cursor_list : Pair → Cursor → List Corners
-cursor_list pair cursor = placed_rest cursor.orient cursor.at pair cursor.shapes.now cursor.lists.now cursor.place
+cursor_list pair cursor = placed_rest cursor.orient cursor.at pair (shapes_left cursor) cursor.lists.now cursor.place
 
 pub record IsCursor (cursor : Cursor) : Type 0 where
   pub orient : IsOrient cursor.orient
   pub near : IsWithin (2 ^ 54) cursor.at
   pub grid : All IsShapeOnGrid cursor.shapes.now
-  pub boxed : AreBoxed cursor.shapes.now cursor.lists.now (drop cursor.number (boxes_in cursor.boxes))
-  pub few : cursor.number + length cursor.shapes.now < 2 ^ 64
+  pub boxed : AreBoxed (shapes_left cursor) cursor.lists.now (drop cursor.number (boxes_in cursor.boxes))
+
+-- the first shape that is left, and there is a number after its own
+pub record IsFirst (cursor : Cursor) (shape : Shape) : Type 0 where
+  pub is : shapes_left cursor ≡ shape ∷ drop (cursor.number + 1) cursor.shapes.now
+  pub few : cursor.number + 1 < 2 ^ 64
+
+-- from the first shape on to the next
+pub record IsNext (before after : Cursor) : Type 0 where
+  pub shapes : shapes_left after ≡ drop (before.number + 1) before.shapes.now
+  pub lists : after.lists.now ≡ drop 1 before.lists.now
+  pub place : after.place ≡ 0
+  pub orient : after.orient ≡ before.orient
+  pub at : after.at ≡ before.at
 
 -- how many shapes and offsets there are
 abbrev pub steps_of : List Shape → ℕ
@@ -47,7 +62,7 @@ steps_from [] place = 0
 steps_from (shape ∷ shapes) place = (length (drop place shape.offsets) + 1) + steps_of shapes
 
 abbrev pub steps_left : Cursor → ℕ
-steps_left cursor = steps_from cursor.shapes.now cursor.place
+steps_left cursor = steps_from (shapes_left cursor) cursor.place
 
 abbrev pub own_rest : Pair → Own → List (Option Corners)
 own_rest pair own = map Some (hand_list own.hand) ++ map Some (cursor_list pair own.cursor)
@@ -58,11 +73,9 @@ pub record IsOwn (own : Own) : Type 0 where
 
 -- the first shape has a place of the cursor's number, and its pieces are in a box whose rows, as they are placed, are these
 pub record IsLongRun (cursor : Cursor) (shape : Shape) (rows : Rows) : Type 0 where
-  pub rest : List Shape
   pub pieces : List Trapezoid
   pub later : List (List Trapezoid)
   pub box : Frame
-  pub shapes : cursor.shapes.now ≡ shape ∷ rest
   pub lists : cursor.lists.now ≡ pieces ∷ later
   pub around : All (λ piece. IsQuadIn box (corners_of piece)) pieces
   pub between : (p : Point) → IsInBox box p → IsBetweenRows cursor.orient rows.low rows.high p

@@ -1,5 +1,6 @@
 -- The pieces of a layout's shapes: trapezoids that cover a shape's tiles, each once. They are kept by the number of the
--- cell and the number of the shape in it. A shape for which none were put has none.
+-- cell and the number of the shape in it. A shape for which none were put has none. A cell that isn't reachable may have no
+-- lists.
 use Rattle.std.specs.Prelude.{◌≡◌, ◌<◌, ◌^◌, ℕ, List, [], Some, map, length, get_or, set, slice_get, All}
 use Rattle.half_grid.specs.Trapezoids.{Trapezoid, IsShot, CoversExactly}
 use Rattle.half_grid.specs.Winding.{IsInPolygon}
@@ -13,9 +14,10 @@ use Rattle.cell_tree.specs.Chains.{IsReachable}
 abbrev pub lists_at : List (List (List Trapezoid)) → ℕ → List (List Trapezoid)
 lists_at table n = get_or table n []
 
--- no pieces yet, for the shapes of these cells
-abbrev pub no_pieces : List Cell → List (List (List Trapezoid))
-no_pieces cells = map (λ cell. map (λ shape. []) cell.shapes) cells
+-- no pieces yet, for the shapes of the cells that are reachable from this one
+pub record HaveNoPieces (cells : List Cell) (top : ℕ) (table : List (List (List Trapezoid))) : Type 0 where
+  pub long : length table ≡ length cells
+  pub lists : (n : ℕ) → IsReachable cells top n → lists_at table n ≡ map (λ shape. []) (shapes_at cells n)
 
 -- the table with these pieces of shape k of cell n, in place of earlier ones
 unfoldable pub with_pieces : List (List (List Trapezoid)) → ℕ → ℕ → List Trapezoid → List (List (List Trapezoid))

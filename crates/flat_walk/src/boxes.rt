@@ -3,7 +3,8 @@ ghost use Rattle.std.specs.Prelude.{◌≡◌, ◌^◌, ◌<◌, ◌∷◌, ℕ,
 ghost use Rattle.half_grid.specs.Quads.{corners_of};
 ghost use Rattle.half_grid.specs.Reach.{IsPointWithinReach};
 ghost use Rattle.layout_model.specs.Hulls.{IsInBox};
-ghost use Rattle.layout_model.specs.Layouts.{IsShapeOnGrid, IsCellOnGrid};
+ghost use Rattle.layout_model.specs.Layouts.{IsShapeOnGrid};
+ghost use Rattle.layout_model.specs.ShapeLists.{shape_in};
 ghost use Rattle.cell_tree.specs.Boxes.{joined_box, summed_box, IsBoxUpTo};
 ghost use Rattle.cell_tree.specs.Cells.{shapes_at, placements_at};
 ghost use Rattle.cell_tree.specs.Chains.{IsReachable};
@@ -12,11 +13,11 @@ ghost use Rattle.flat_walk.specs.Boxes.{IsQuadIn, HasBox, AreBoxed, AreNear, Are
 ghost use Rattle.flat_walk.specs.Tables.{lists_at};
 
 use crate::blocks::BoxList;
-use crate::tables::{Parts, Pieces};
+use crate::tables::{Parts, Pieces, shapes_of};
 use cell_tree::Tree;
 use geo_stream::NoMemory;
 use half_grid::{Frame, Point, Quad, Trap};
-use layout_model::{Cell, KeptShape};
+use layout_model::{Cell, ShapeRef, Shapes};
 use std::alloc::Global;
 use std::marker::Model;
 
@@ -99,21 +100,14 @@ pub(crate) fn box_of_pieces(first: &Trap, others: &[Trap]) -> Frame
 }
 
 // The box of a shape's pieces at all its places.
-fn box_of_shape(shape: &KeptShape, pieces: &Pieces) -> Frame
-    requires { IsShapeOnGrid shape.now }
-    ensures { HasBox shape.now pieces.now result }
+fn box_of_shape(shape: ShapeRef, pieces: &Pieces) -> Frame
+    requires { IsShapeOnGrid (shape_in shape) }
+    ensures { HasBox (shape_in shape.entry) pieces.now result }
 {
     match pieces.as_slice().split_first() {
         Some((first, others)) => summed(box_of_pieces(first, others), shape.spread()),
         None => box_of(Point { x: 0, y: 0 }),
     }
-}
-
-fn shape_at(shapes: &[KeptShape], number: usize) -> &KeptShape
-    requires { number < length shapes.now }
-    ensures { slice_get shapes.now number ≡ Some result.now }
-{
-    &shapes[number]
 }
 
 fn pieces_at(lists: &[Pieces], number: usize) -> &Pieces
@@ -124,36 +118,39 @@ fn pieces_at(lists: &[Pieces], number: usize) -> &Pieces
 }
 
 // The boxes of a cell's shapes.
-fn boxes_for(alloc: Global, shapes: &[KeptShape], lists: &[Pieces]) -> Result<Vec<Frame>, NoMemory>
+fn boxes_for(alloc: Global, shapes: &Shapes, lists: &[Pieces]) -> Result<Vec<Frame>, NoMemory>
     requires { All IsShapeOnGrid shapes.now }
     ensures { IfOk result (λ boxes. AreBoxed shapes.now lists.now boxes.items) }
 {
     let mut boxes = Vec::with_capacity(alloc, shapes.len())?;
     while boxes.len() < shapes.len() && boxes.len() < lists.len() {
         let number = boxes.len();
-        let around = box_of_shape(shape_at(shapes, number), pieces_at(lists, number));
+        let around = box_of_shape(shapes.get(number), pieces_at(lists, number));
         boxes.push(around)?;
     }
     Ok(boxes)
 }
 
-// The shapes of a cell.
-fn shapes_of(cells: &[Cell], cell: usize) -> &[KeptShape]
-    requires { cell < length cells.now }
-    ensures { result.now ≡ shapes_at cells.now cell }
+// The boxes of a cell's shapes, and none for one that is bare.
+fn own_boxes(alloc: Global, tree: &Tree, parts: &Parts, cell: usize) -> Result<Vec<Frame>, NoMemory>
+    requires { cell < length tree.now.layout.cells }
+    ensures { IfOk result (λ boxes. AreBoxed (shapes_at tree.now.layout.cells cell) (lists_at parts.now cell) boxes.items) }
 {
-    cells[cell].shapes.as_slice()
+    if tree.is_bare(cell) {
+        return Ok(Vec::new(alloc));
+    }
+    boxes_for(alloc, shapes_of(tree.cells(), cell), parts.lists(cell))
 }
 
-// The boxes of the shapes of the first cells.
-fn shape_boxes(alloc: Global, cells: &[Cell], parts: &Parts) -> Result<Vec<BoxList>, NoMemory>
-    requires { All IsCellOnGrid cells.now }
-    ensures { IfOk result (λ lists. (n : ℕ) → AreBoxed (shapes_at cells.now n) (lists_at parts.now n) (boxes_at lists.items n)) }
+// The boxes of the shapes of the tree's cells.
+fn shape_boxes(alloc: Global, tree: &Tree, parts: &Parts) -> Result<Vec<BoxList>, NoMemory>
+    ensures { IfOk result (λ lists. (n : ℕ) → AreBoxed (shapes_at tree.now.layout.cells n) (lists_at parts.now n) (boxes_at lists.items n)) }
 {
-    let mut lists = Vec::with_capacity(alloc, cells.len())?;
-    while lists.len() < cells.len() {
+    let count = tree.cells().len();
+    let mut lists = Vec::with_capacity(alloc, count)?;
+    while lists.len() < count {
         let cell = lists.len();
-        let boxes = boxes_for(alloc, shapes_of(cells, cell), parts.lists(cell))?;
+        let boxes = own_boxes(alloc, tree, parts, cell)?;
         let list = BoxList::of(alloc, boxes)?;
         lists.push(list)?;
     }
@@ -236,7 +233,7 @@ impl Boxes {
     pub fn of(alloc: Global, tree: &Tree, parts: &Parts) -> Result<Boxes, NoMemory>
         ensures { IfOk result (λ boxes. AreAllBoxed tree.now.layout.cells tree.now.top parts.now boxes) }
     {
-        let shapes = shape_boxes(alloc, tree.cells(), parts)?;
+        let shapes = shape_boxes(alloc, tree, parts)?;
         let spots = spot_boxes(alloc, tree)?;
         Ok(Boxes { shapes, spots })
     }

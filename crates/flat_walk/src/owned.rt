@@ -4,13 +4,14 @@ ghost use Rattle.half_grid.specs.Quads.{IsQuad, corners_of};
 ghost use Rattle.layout_model.specs.Images.{IsOrient};
 ghost use Rattle.layout_model.specs.declared.pair.Pair.{Pair as APair};
 ghost use Rattle.layout_model.specs.Layouts.{IsShapeOnGrid, IsWithin};
+ghost use Rattle.layout_model.specs.ShapeLists.{shape_in};
 ghost use Rattle.flat_walk.specs.Quads.{quad_image};
 ghost use Rattle.flat_walk.specs.Rests.{IsMarkedQuad, Skips, Gives, places_rest, placed_rest};
 ghost use Rattle.half_grid.specs.Trapezoids.{Trapezoid};
 ghost use Rattle.flat_walk.specs.Blocks.{boxes_in};
 ghost use Rattle.flat_walk.specs.Boxes.{AreBoxed};
 ghost use Rattle.flat_walk.specs.Rises.{HasNoPlaceBefore};
-ghost use Rattle.flat_walk.specs.Hands.{hand_list, IsHand, cursor_list, IsCursor, steps_left, own_rest, IsOwn, IsLongRun};
+ghost use Rattle.flat_walk.specs.Hands.{hand_list, IsHand, shapes_left, cursor_list, IsCursor, IsFirst, IsNext, steps_left, own_rest, IsOwn, IsLongRun};
 
 use crate::blocks::{BoxList, next_in};
 use crate::boxes::box_of_pieces;
@@ -20,7 +21,7 @@ use crate::rows::{Rows, has_row};
 use crate::tables::Pieces;
 use crate::turning::image;
 use half_grid::{Point, Quad, Trap, Window};
-use layout_model::{KeptShape, Orient, Pair};
+use layout_model::{Orient, Pair, ShapeRef, Shapes};
 
 // The places of a shape that has no more of them are gone through one by one.
 const FEW: u64 = 4;
@@ -39,10 +40,12 @@ pub(crate) struct Hand<'t> {
 // placed. Of the first shape those offsets are left whose number is at least `place`.
 #[derive(Clone, Copy)]
 pub(crate) struct Cursor<'t> {
-    shapes: &'t [KeptShape],
+    // All of the cell's shapes.
+    shapes: &'t Shapes,
+    // The pieces of those that are left.
     lists: &'t [Pieces],
     boxes: Option<&'t BoxList>,
-    // The number of the first shape in the cell.
+    // The number of the first shape that is left.
     number: usize,
     place: u64,
     orient: Orient,
@@ -75,6 +78,20 @@ fn placed(piece: &Trap, orient: Orient, at: Point) -> Quad
 }
 
 impl<'t> Hand<'t> {
+    // No pieces, of a cell that is placed so.
+    fn empty(orient: Orient, at: Point) -> Hand<'t>
+        requires orient { IsOrient orient }
+        requires near { IsWithin (2 ^ 54) at }
+        ensures hand { IsHand result }
+        ensures list { hand_list result ≡ [] }
+    {
+        Hand {
+            pieces: &[],
+            orient,
+            at,
+        }
+    }
+
     // The next piece that has a row in the window.
     fn next(&mut self, window: Window) -> Option<Quad>
         requires hand { IsHand self.old }
@@ -95,16 +112,15 @@ impl<'t> Hand<'t> {
 
 impl<'t> Cursor<'t> {
     // The pieces of the first shape at the current offset, where it is on the pair and has that offset.
-    fn here(&self, shape: &KeptShape, list: &'t Pieces, pair: Pair) -> Option<Hand<'t>>
+    fn here(&self, shape: ShapeRef<'t>, list: &'t Pieces, pair: Pair) -> Option<Hand<'t>>
         requires orient { IsOrient self.now.orient }
         requires near { IsWithin (2 ^ 54) self.now.at }
-        requires grid { IsShapeOnGrid shape.now }
+        requires grid { IsShapeOnGrid (shape_in shape) }
         ensures hand { IfSome result IsHand }
-        ensures list { MatchOption result (places_rest pair shape.now list.now self.now.place ≡ [])
-            (λ hand. map (quad_image self.now.orient self.now.at) (places_rest pair shape.now list.now self.now.place)
-            ≡ hand_list hand ++ map (quad_image self.now.orient self.now.at) (places_rest pair shape.now list.now (self.now.place + 1))) }
-        ensures inside { OnSome result (self.now.place < length shape.now.offsets) }
-        ensures few { OnSome result (length shape.now.offsets < 2 ^ 64) }
+        ensures list { MatchOption result (places_rest pair (shape_in shape.entry) list.now self.now.place ≡ [])
+            (λ hand. map (quad_image self.now.orient self.now.at) (places_rest pair (shape_in shape.entry) list.now self.now.place)
+            ≡ hand_list hand ++ map (quad_image self.now.orient self.now.at) (places_rest pair (shape_in shape.entry) list.now (self.now.place + 1))) }
+        ensures inside { OnSome result (self.now.place < length (shape_in shape.entry).offsets) }
     {
         if shape.pair() != pair {
             return None;
@@ -120,34 +136,63 @@ impl<'t> Cursor<'t> {
         })
     }
 
-    // The pieces at the next offset of a shape on the pair.
-    fn next(&mut self, pair: Pair) -> Option<Hand<'t>>
-        requires { IsCursor self.old }
+    // Goes on to the next shape.
+    fn skip(&mut self)
+        requires cursor { IsCursor self.old }
+        requires few { self.old.number + 1 < 2 ^ 64 }
         ensures cursor { IsCursor self.new }
-        ensures hand { IfSome result IsHand }
-        ensures list { MatchOption result ((cursor_list pair self.old ≡ []) × (cursor_list pair self.new ≡ []))
-            (λ hand. cursor_list pair self.old ≡ hand_list hand ++ cursor_list pair self.new) }
-        ensures steps { OnSome result (steps_left self.new < steps_left self.old) }
+        ensures next { IsNext self.old self.new }
     {
-        while let Some((shape, shapes)) = self.shapes.split_first() {
-            let Some((list, lists)) = self.lists.split_first() else {
-                return None;
-            };
-            if let Some(hand) = self.here(shape, list, pair) {
-                self.place += 1;
-                return Some(hand);
-            }
-            self.shapes = shapes;
-            self.lists = lists;
-            self.number += 1;
-            self.place = 0;
+        self.lists = rest(self.lists, 1);
+        self.number += 1;
+        self.place = 0;
+    }
+
+    // Goes on to the next place of the first shape, or to the next shape.
+    fn advance(&mut self, shape: ShapeRef<'t>)
+        requires cursor { IsCursor self.old }
+        requires first { IsFirst self.old (shape_in shape) }
+        requires inside { self.old.place < length (shape_in shape).offsets }
+        ensures cursor { IsCursor self.new }
+        ensures list { (pair : APair) → cursor_list pair self.new
+            ≡ placed_rest self.old.orient self.old.at pair (shapes_left self.old) self.old.lists.now (self.old.place + 1) }
+        ensures steps { steps_left self.new < steps_left self.old }
+    {
+        let count = shape.count();
+        let next = self.place + 1;
+        if next < count {
+            self.place = next;
+            return;
         }
-        None
+        self.skip();
+    }
+
+    // The pieces of the first shape at the current offset, after which those at the next are left. Where it has none there on
+    // the pair, none, and the next shape is then the first.
+    fn step(&mut self, shape: ShapeRef<'t>, pair: Pair) -> Hand<'t>
+        requires cursor { IsCursor self.old }
+        requires first { IsFirst self.old (shape_in shape) }
+        ensures cursor { IsCursor self.new }
+        ensures hand { IsHand result }
+        ensures list { cursor_list pair self.old ≡ hand_list result ++ cursor_list pair self.new }
+        ensures steps { steps_left self.new < steps_left self.old }
+    {
+        let none = Hand::empty(self.orient, self.at);
+        let Some((list, _lists)) = self.lists.split_first() else {
+            self.skip();
+            return none;
+        };
+        let Some(hand) = self.here(shape, list, pair) else {
+            self.skip();
+            return none;
+        };
+        self.advance(shape);
+        hand
     }
 
     // Whether the first shape is on the pair and has a place left.
-    fn has_more(&self, shape: &KeptShape, pair: Pair) -> bool
-        ensures { result ≡ false → (pieces : List Trapezoid) → places_rest pair shape.now pieces self.now.place ≡ [] }
+    fn has_more(&self, shape: ShapeRef<'t>, pair: Pair) -> bool
+        ensures { result ≡ false → (pieces : List Trapezoid) → places_rest pair (shape_in shape.entry) pieces self.now.place ≡ [] }
     {
         if shape.pair() != pair {
             return false;
@@ -158,47 +203,55 @@ impl<'t> Cursor<'t> {
         true
     }
 
+    // The first shape that is left, if there is one.
+    fn first(&self) -> Option<ShapeRef<'t>>
+        ensures { MatchOption result (shapes_left self.now ≡ []) (λ shape. IsFirst self.now (shape_in shape)) }
+    {
+        if self.number < self.shapes.len() {
+            return Some(self.shapes.get(self.number));
+        }
+        None
+    }
+
     // Passes by the shapes, from the first one on, that have boxes beside the window.
     fn pass_boxes(&mut self, window: Window)
         requires { IsCursor self.old }
         ensures cursor { IsCursor self.new }
         ensures skips { (pair : APair) → Skips window (map Some (cursor_list pair self.old)) (map Some (cursor_list pair self.new)) }
         ensures steps { steps_left self.new ≤ steps_left self.old }
-        ensures shorter { length self.new.shapes.now ≤ length self.old.shapes.now }
+        ensures shorter { length (shapes_left self.new) ≤ length (shapes_left self.old) }
     {
         let next = next_in(self.boxes, self.number, self.orient, self.at, window);
         if next == self.number {
             return;
         }
         let count = next - self.number;
-        self.shapes = rest(self.shapes, count);
         self.lists = rest(self.lists, count);
         self.number = next;
         self.place = 0;
     }
 
-    // Passes by the shapes, from the first one on, that have nothing more in the window.
-    fn pass_by(&mut self, pair: Pair, window: Window)
+    // Passes by the shapes, from the first one on, that have nothing more in the window. The first that is then left, if
+    // there is one.
+    fn pass_by(&mut self, pair: Pair, window: Window) -> Option<ShapeRef<'t>>
         requires { IsCursor self.old }
         ensures cursor { IsCursor self.new }
         ensures skips { Skips window (map Some (cursor_list pair self.old)) (map Some (cursor_list pair self.new)) }
         ensures steps { steps_left self.new ≤ steps_left self.old }
+        ensures first { MatchOption result (cursor_list pair self.new ≡ []) (λ shape. IsFirst self.new (shape_in shape)) }
     {
         loop {
             self.pass_boxes(window);
-            let Some((shape, shapes)) = self.shapes.split_first() else {
-                return;
+            if self.lists.is_empty() {
+                return None;
+            }
+            let Some(shape) = self.first() else {
+                return None;
             };
             if self.has_more(shape, pair) {
-                return;
+                return Some(shape);
             }
-            let Some((_list, lists)) = self.lists.split_first() else {
-                return;
-            };
-            self.shapes = shapes;
-            self.lists = lists;
-            self.number += 1;
-            self.place = 0;
+            self.skip();
         }
     }
 }
@@ -206,15 +259,15 @@ impl<'t> Cursor<'t> {
 impl<'t> Cursor<'t> {
     // The number of the first shape's next place, from the current one on, at which its pieces may have rows in the window,
     // or how many places there are.
-    fn onward(&self, shape: &KeptShape, rows: Rows, window: Window) -> u64
+    fn onward(&self, shape: ShapeRef<'t>, rows: Rows, window: Window) -> u64
         requires orient { IsOrient self.now.orient }
         requires near { IsWithin (2 ^ 54) self.now.at }
-        requires grid { IsShapeOnGrid shape.now }
+        requires grid { IsShapeOnGrid (shape_in shape) }
         requires rows { IsWithin (2 ^ 58) (record { x = rows.low; y = rows.high }) }
-        requires inside { self.now.place < length shape.now.offsets }
+        requires inside { self.now.place < length (shape_in shape).offsets }
         ensures later { self.now.place ≤ result }
-        ensures inside { result ≤ length shape.now.offsets }
-        ensures none { HasNoPlaceBefore window self.now.orient self.now.at rows shape.now.offsets self.now.place result }
+        ensures inside { result ≤ length (shape_in shape.entry).offsets }
+        ensures none { HasNoPlaceBefore window self.now.orient self.now.at rows (shape_in shape.entry).offsets self.now.place result }
     {
         let count = shape.count();
         let wanted = places_in(self.orient, self.at, ORIGIN, rows, window);
@@ -224,20 +277,12 @@ impl<'t> Cursor<'t> {
         }
     }
 
-    // The first shape and the rows of its pieces as they are placed, where it has many places and is not past them.
-    fn long_run(&self) -> Option<(&'t KeptShape, Rows)>
-        requires { IsCursor self.now }
-        ensures { IfSome result (λ first. IsLongRun self.now first.0.now first.1) }
+    // The rows of the first shape's pieces as they are placed, where it has many places and is not past them.
+    fn long_run(&self, shape: ShapeRef<'t>) -> Option<Rows>
+        requires cursor { IsCursor self.now }
+        requires first { IsFirst self.now (shape_in shape) }
+        ensures { IfSome result (IsLongRun self.now (shape_in shape.entry)) }
     {
-        let Some((shape, _shapes)) = self.shapes.split_first() else {
-            return None;
-        };
-        let Some((list, _lists)) = self.lists.split_first() else {
-            return None;
-        };
-        let Some((first, others)) = list.as_slice().split_first() else {
-            return None;
-        };
         let count = shape.count();
         if count <= FEW {
             return None;
@@ -245,17 +290,25 @@ impl<'t> Cursor<'t> {
         if count <= self.place {
             return None;
         }
-        Some((shape, rows_of(self.orient, box_of_pieces(first, others))))
+        let Some((list, _lists)) = self.lists.split_first() else {
+            return None;
+        };
+        let Some((first, others)) = list.as_slice().split_first() else {
+            return None;
+        };
+        Some(rows_of(self.orient, box_of_pieces(first, others)))
     }
 
     // Passes by the places of the first shape, from the current one on, at which it has nothing in the window.
-    fn pass_places(&mut self, window: Window)
-        requires { IsCursor self.old }
+    fn pass_places(&mut self, shape: ShapeRef<'t>, window: Window)
+        requires cursor { IsCursor self.old }
+        requires first { IsFirst self.old (shape_in shape) }
         ensures cursor { IsCursor self.new }
+        ensures first { IsFirst self.new (shape_in shape.entry) }
         ensures skips { (pair : APair) → Skips window (map Some (cursor_list pair self.old)) (map Some (cursor_list pair self.new)) }
         ensures steps { steps_left self.new ≤ steps_left self.old }
     {
-        let Some((shape, rows)) = self.long_run() else {
+        let Some(rows) = self.long_run(shape) else {
             return;
         };
         self.place = self.onward(shape, rows, window);
@@ -276,7 +329,7 @@ fn rest<T>(items: &[T], count: usize) -> &[T]
 impl<'t> Own<'t> {
     /// All that a cell's own shapes show, where it is placed so.
     pub(crate) fn of(
-        shapes: &'t [KeptShape],
+        shapes: &'t Shapes,
         lists: &'t [Pieces],
         boxes: Option<&'t BoxList>,
         orient: Orient,
@@ -290,11 +343,7 @@ impl<'t> Own<'t> {
         ensures list { (pair : APair) → own_rest pair result ≡ map Some (placed_rest orient at pair shapes.now lists.now 0) }
     {
         Own {
-            hand: Hand {
-                pieces: &[],
-                orient,
-                at,
-            },
+            hand: Hand::empty(orient, at),
             cursor: Cursor {
                 shapes,
                 lists,
@@ -305,6 +354,17 @@ impl<'t> Own<'t> {
                 at,
             },
         }
+    }
+
+    /// Nothing, of a cell that is placed so.
+    pub(crate) fn nothing(shapes: &'t Shapes, orient: Orient, at: Point) -> Own<'t>
+        requires orient { IsOrient orient }
+        requires near { IsWithin (2 ^ 54) at }
+        requires grid { All IsShapeOnGrid shapes.now }
+        ensures own { IsOwn result }
+        ensures list { (pair : APair) → own_rest pair result ≡ [] }
+    {
+        Own::of(shapes, &[], None, orient, at)
     }
 
     /// The next piece that has a row in the window.
@@ -318,12 +378,11 @@ impl<'t> Own<'t> {
             if let Some(quad) = self.hand.next(window) {
                 return Some(quad);
             }
-            self.cursor.pass_by(pair, window);
-            self.cursor.pass_places(window);
-            match self.cursor.next(pair) {
-                Some(hand) => self.hand = hand,
-                None => return None,
-            }
+            let Some(shape) = self.cursor.pass_by(pair, window) else {
+                return None;
+            };
+            self.cursor.pass_places(shape, window);
+            self.hand = self.cursor.step(shape, pair);
         }
     }
 }

@@ -1,11 +1,13 @@
 //! The pieces of each shape.
-ghost use Rattle.std.specs.Prelude.{◌≡◌, ◌<◌, IfOk, OnOk, OnErr, map, [], length};
-ghost use Rattle.flat_walk.specs.Tables.{no_pieces, with_pieces, HasShape, IsKept, AreKept, lists_at};
+ghost use Rattle.std.specs.Prelude.{◌≡◌, ◌<◌, All, IfOk, OnOk, OnErr, map, [], length};
+ghost use Rattle.cell_tree.specs.Cells.{shapes_at};
+ghost use Rattle.cell_tree.specs.Chains.{IsReachable};
+ghost use Rattle.flat_walk.specs.Tables.{HaveNoPieces, with_pieces, HasShape, IsKept, AreKept, lists_at};
 
 use cell_tree::Tree;
 use geo_stream::NoMemory;
 use half_grid::Trap;
-use layout_model::{Cell, KeptShape};
+use layout_model::{Cell, Shapes};
 use std::alloc::Global;
 use std::marker::Model;
 
@@ -90,34 +92,60 @@ fn are_kept(traps: &[Trap])
     }
 }
 
-// No pieces yet, for so many shapes.
-fn nothing_for(alloc: Global, shapes: &[KeptShape]) -> Result<Vec<Pieces>, NoMemory>
+// No pieces yet, for these shapes.
+fn nothing_for(alloc: Global, shapes: &Shapes) -> Result<Vec<Pieces>, NoMemory>
     ensures { IfOk result (λ lists. lists.items ≡ map (λ shape. []) shapes.now) }
 {
-    let mut lists = Vec::with_capacity(alloc, shapes.len())?;
-    for _shape in shapes {
+    let count = shapes.len();
+    let mut lists = Vec::with_capacity(alloc, count)?;
+    for _number in 0..count {
         lists.push(Pieces::of(alloc, &[])?)?;
     }
     Ok(lists)
 }
 
-// No pieces yet, for the shapes of these cells.
-fn nothing_yet(alloc: Global, cells: &[Cell]) -> Result<Vec<Vec<Pieces>>, NoMemory>
-    ensures { IfOk result (λ table. map (λ lists. lists.items) table.items ≡ no_pieces cells.now) }
+/// The shapes of a cell.
+pub(crate) fn shapes_of(cells: &[Cell], cell: usize) -> &Shapes
+    requires { cell < length cells.now }
+    ensures { result.now ≡ shapes_at cells.now cell }
 {
-    let mut table = Vec::with_capacity(alloc, cells.len())?;
-    for cell in cells {
-        table.push(nothing_for(alloc, cell.shapes.as_slice())?)?;
+    &cells[cell].shapes
+}
+
+// No pieces yet, for the shapes of a cell, and no lists for one that is bare.
+fn nothing_at(alloc: Global, tree: &Tree, cell: usize) -> Result<Vec<Pieces>, NoMemory>
+    requires { cell < length tree.now.layout.cells }
+    ensures lists { IfOk result (λ lists. IsReachable tree.now.layout.cells tree.now.top cell
+        → lists.items ≡ map (λ shape. []) (shapes_at tree.now.layout.cells cell)) }
+    ensures kept { IfOk result (λ lists. All IsKept lists.items) }
+{
+    if tree.is_bare(cell) {
+        return Ok(Vec::new(alloc));
+    }
+    nothing_for(alloc, shapes_of(tree.cells(), cell))
+}
+
+// No pieces yet, for the shapes of the tree's cells.
+fn nothing_yet(alloc: Global, tree: &Tree) -> Result<Vec<Vec<Pieces>>, NoMemory>
+    ensures none { IfOk result (λ table. HaveNoPieces tree.now.layout.cells tree.now.top (map (λ lists. lists.items) table.items)) }
+    ensures kept { IfOk result (λ table. AreKept (map (λ lists. lists.items) table.items)) }
+{
+    let count = tree.cells().len();
+    let mut table = Vec::with_capacity(alloc, count)?;
+    while table.len() < count {
+        let cell = table.len();
+        let lists = nothing_at(alloc, tree, cell)?;
+        table.push(lists)?;
     }
     Ok(table)
 }
 
 impl Parts {
-    /// No pieces yet, for the shapes of the tree's cells.
+    /// No pieces yet, for the shapes of the tree's cells. Cells that are bare cost nothing for their shapes.
     pub fn new(alloc: Global, tree: &Tree) -> Result<Parts, NoMemory>
-        ensures { IfOk result (λ parts. parts ≡ no_pieces tree.now.layout.cells) }
+        ensures { IfOk result (HaveNoPieces tree.now.layout.cells tree.now.top) }
     {
-        let cells = nothing_yet(alloc, tree.cells())?;
+        let cells = nothing_yet(alloc, tree)?;
         Ok(Parts {
             alloc,
             cells,
@@ -125,8 +153,8 @@ impl Parts {
         })
     }
 
-    /// Keeps the pieces of a shape, in place of those that were put earlier. Both numbers are in range of the tree.
-    /// Refused, the table is as before.
+    /// Keeps the pieces of a shape, in place of those that were put earlier. The shape is one of a cell that isn't bare, by
+    /// its number. Refused, the table is as before.
     pub fn put(&mut self, cell: usize, shape: usize, traps: &[Trap]) -> Result<(), NoMemory>
         requires { HasShape self.old cell shape }
         ensures ok { OnOk result (self.new ≡ with_pieces self.old cell shape traps.now) }

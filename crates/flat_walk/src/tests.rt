@@ -8,13 +8,16 @@ ghost use Rattle.layout_model.specs.Images.{IsOrient};
 ghost use Rattle.layout_model.specs.Layouts.{IsMove, AreOffsets, IsShapeOnGrid, IsPlacementOnGrid, IsCellOnGrid, IsLayoutOnGrid};
 ghost use Rattle.layout_model.specs.declared.pair.Pair.{Pair as APair};
 ghost use Rattle.layout_model.specs.declared.shapes.Shape.{Shape as AShape};
+ghost use Rattle.cell_tree.specs.Chains.{IsReachable};
 ghost use Rattle.flat_walk.specs.Tables.{AreCut, HasShape, with_pieces};
 
 use crate::{Parts, Walk};
 use cell_tree::{Tree, resolve};
 use geo_stream::{List, gather};
 use half_grid::{Line, Point, Quad, Trap, Window};
-use layout_model::{Cell, Counts, KeptShape, Layout, Name, Offsets, Orient, Pair, Placement};
+use layout_model::{
+    Cell, Counts, KeptShape, Layout, Name, Offsets, Orient, Pair, Placement, Shapes,
+};
 use std::alloc::Global;
 use std::process::Abort;
 
@@ -78,6 +81,14 @@ fn only<T: Drop>(rt: &impl Abort, alloc: Global, item: T) -> List<T>
     list
 }
 
+fn only_shape(rt: &impl Abort, alloc: Global, shape: KeptShape) -> Shapes
+    ensures { result ≡ shape ∷ [] }
+{
+    let mut shapes = Shapes::new(alloc);
+    assert!(rt; shapes.push(shape).is_ok(), "memory");
+    shapes
+}
+
 fn more(rt: &impl Abort, mut cells: List<Cell>, cell: Cell) -> List<Cell>
     ensures { result ≡ cells ++ cell ∷ [] }
 {
@@ -125,7 +136,7 @@ fn placed(
     }
 }
 
-fn cell(name: Name, shapes: List<KeptShape>, placements: List<Placement>) -> Cell
+fn cell(name: Name, shapes: Shapes, placements: List<Placement>) -> Cell
     requires shapes { All IsShapeOnGrid shapes }
     requires placements { All IsPlacementOnGrid placements }
     ensures grid { IsCellOnGrid result }
@@ -156,12 +167,12 @@ fn layout(
     let name_a = name(rt, alloc, b"A");
     let name_b = name(rt, alloc, b"B");
     let name_c = name(rt, alloc, b"C");
-    let only_shape = only(rt, alloc, shape);
+    let shapes = only_shape(rt, alloc, shape);
     let only_inner = only(rt, alloc, inner);
     let only_outer = only(rt, alloc, outer);
-    let c = cell(name_c, only_shape, List::new(alloc));
-    let b = cell(name_b, List::new(alloc), only_inner);
-    let a = cell(name_a, List::new(alloc), only_outer);
+    let c = cell(name_c, shapes, List::new(alloc));
+    let b = cell(name_b, Shapes::new(alloc), only_inner);
+    let a = cell(name_a, Shapes::new(alloc), only_outer);
     let first = only(rt, alloc, c);
     let two = more(rt, first, b);
     let cells = more(rt, two, a);
@@ -209,13 +220,36 @@ fn put(rt: &impl Abort, parts: &mut Parts, piece: &Trap)
     assert!(rt; parts.put(0, 0, &[*piece]).is_ok(), "memory");
 }
 
+// The cell that the first placement of a cell places.
+fn below(rt: &impl Abort, tree: &Tree, cell: usize) -> usize
+    requires { IsReachable tree.now.layout.cells tree.now.top cell }
+    ensures { IsReachable tree.now.layout.cells tree.now.top result }
+{
+    let cells = tree.cells();
+    assert!(rt; cell < cells.len());
+    let count = cells[cell].placements.as_slice().len();
+    assert!(rt; 0 < count);
+    tree.target(cell, 0)
+}
+
+// No pieces yet, for the triangle.
+fn uncut(rt: &impl Abort, alloc: Global, tree: &Tree) -> Parts
+    requires { (shape : AShape) × (map (λ cell. cell.shapes) tree.now.layout.cells ≡ (shape ∷ []) ∷ [] ∷ [] ∷ [])
+        × (shape.points ≡ ring_of (corners_of (trapezoid (pos 0) (pos 8) (Rising (pos 0)) (Upright (pos 8))))) }
+    ensures { HasShape result 0 0 }
+{
+    let lowest = below(rt, tree, below(rt, tree, tree.top()));
+    assert_eq!(rt; lowest, 0);
+    Parts::new(alloc, tree).expect(rt, "memory")
+}
+
 // The piece of the triangle.
 fn cut(rt: &impl Abort, alloc: Global, tree: &Tree) -> Parts
     requires { (shape : AShape) × (map (λ cell. cell.shapes) tree.now.layout.cells ≡ (shape ∷ []) ∷ [] ∷ [] ∷ [])
         × (shape.points ≡ ring_of (corners_of (trapezoid (pos 0) (pos 8) (Rising (pos 0)) (Upright (pos 8))))) }
     ensures { (pair : APair) → AreCut tree.now.layout.cells tree.now.top result pair }
 {
-    let mut parts = Parts::new(alloc, tree).expect(rt, "memory");
+    let mut parts = uncut(rt, alloc, tree);
     let whole = piece(rt);
     let _bottom = whole.y0();
     put(rt, &mut parts, &whole);
@@ -376,7 +410,7 @@ fn cut_again(rt: &impl Abort, alloc: Global, tree: &Tree) -> Parts
         × (shape.points ≡ ring_of (corners_of (trapezoid (pos 0) (pos 8) (Rising (pos 0)) (Upright (pos 8))))) }
     ensures { (pair : APair) → AreCut tree.now.layout.cells tree.now.top result pair }
 {
-    let mut parts = Parts::new(alloc, tree).expect(rt, "memory");
+    let mut parts = uncut(rt, alloc, tree);
     let square = Trap::new(0, 8, Line::Upright(0), Line::Upright(8)).expect(rt, "a trapezoid");
     put(rt, &mut parts, &square);
     let whole = piece(rt);

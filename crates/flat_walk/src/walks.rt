@@ -23,7 +23,7 @@ use crate::tables::Parts;
 use cell_tree::Tree;
 use geo_stream::{NoMemory, Stream};
 use half_grid::{Point, Quad, Window};
-use layout_model::{KeptShape, Orient, Pair};
+use layout_model::{Orient, Pair, Shapes};
 use std::alloc::Global;
 
 /// The placed pieces of a window, one by one.
@@ -60,12 +60,12 @@ fn top_meets(scene: &Scene) -> bool
 }
 
 // The shapes of a cell.
-fn shapes_of<'t>(scene: &Scene<'t>, cell: usize) -> &'t [KeptShape]
+fn shapes_of<'t>(scene: &Scene<'t>, cell: usize) -> &'t Shapes
     requires { cell < length (cells_of scene.now) }
     ensures { result.now ≡ shapes_at (cells_of scene.now) cell }
 {
     let cells = scene.tree.cells();
-    cells[cell].shapes.as_slice()
+    &cells[cell].shapes
 }
 
 // All that the own shapes of a cell on the way show.
@@ -114,7 +114,7 @@ fn enter_top<'t>(levels: &mut Vec<Level<'t>>, scene: &Scene<'t>) -> Own<'t>
         (pieces_in (cells_of scene.now) scene.now.tree.now.top scene.now.parts.now scene.now.pair scene.now.window) }
 {
     if !top_meets(scene) {
-        return Own::of(&[], &[], None, UPRIGHT, ORIGIN);
+        return Own::nothing(shapes_of(scene, scene.tree.top()), UPRIGHT, ORIGIN);
     }
     let level = Level::of(scene.tree.top(), UPRIGHT, ORIGIN, 0);
     let own = own_of(scene, &level);

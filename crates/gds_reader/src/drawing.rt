@@ -14,9 +14,9 @@ ghost use Rattle.gds_reader.specs.Values.{KeepsBoundary, KeepsPath, IsLowest, ex
 use crate::elements::Element;
 use crate::refusing::GdsBad;
 use gds_record::Kind;
-use geo_stream::{List, NoMemory};
+use geo_stream::NoMemory;
 use half_grid::Point;
-use layout_model::{KeptShape, Offsets, Pair, PathBad, ShapeBad, path_shapes};
+use layout_model::{KeptShape, Offsets, Pair, PathBad, ShapeBad, Shapes, path_shapes};
 use std::alloc::Global;
 
 /// Where an element is without a placement.
@@ -171,7 +171,7 @@ pub(crate) fn bad_at(undrawn: Undrawn, at: usize) -> GdsBad
     }
 }
 
-fn push_all(list: &mut List<KeptShape>, shapes: Vec<KeptShape>) -> Result<(), NoMemory>
+fn push_all(list: &mut Shapes, shapes: Vec<KeptShape>) -> Result<(), NoMemory>
     ensures { OnOk result (list.new ≡ list.old ++ shapes.items) }
 {
     for shape in shapes {
@@ -185,7 +185,7 @@ fn draw_boundary(
     element: &Element,
     points: &[Point],
     at: usize,
-    shapes: &mut List<KeptShape>,
+    shapes: &mut Shapes,
 ) -> Result<(), GdsBad>
     requires count { length points.now ≤ 8191 }
     requires points { All IsFilePoint points.now }
@@ -209,7 +209,7 @@ fn draw_path(
     element: &Element,
     points: &[Point],
     at: usize,
-    shapes: &mut List<KeptShape>,
+    shapes: &mut Shapes,
 ) -> Result<(), GdsBad>
     requires points { All IsFilePoint points.now }
     ensures shapes { OnOk result (shapes.new ≡ shapes.old ++ path_kept element.now points.now) }
@@ -235,7 +235,7 @@ pub(crate) fn draw(
     element: &Element,
     points: &[Point],
     at: usize,
-    shapes: &mut List<KeptShape>,
+    shapes: &mut Shapes,
 ) -> Result<(), GdsBad>
     requires count { length points.now ≤ 8191 }
     requires points { All IsFilePoint points.now }

@@ -32,7 +32,7 @@ use gds_record::{Framing, Kind, Record, int8, record_at, unit_agrees};
 use geo_stream::{List, NoMemory};
 use half_grid::Point;
 use layout_model::{
-    Cell, Counts, KeptShape, Layout, NO_COUNTS, Name, Pair, Placement, is_among, sorted_pairs,
+    Cell, Counts, Layout, NO_COUNTS, Name, Pair, Placement, Shapes, is_among, sorted_pairs,
 };
 use std::alloc::Global;
 use std::mem::replace;
@@ -42,7 +42,7 @@ use std::mem::replace;
 pub(crate) struct Structure {
     /// Its STRNAME.
     pub(crate) named: Option<Record>,
-    pub(crate) shapes: List<KeptShape>,
+    pub(crate) shapes: Shapes,
     pub(crate) placements: List<Placement>,
 }
 
@@ -208,7 +208,7 @@ fn close(
     ensures grid { All IsCellOnGrid cells.old → All IsShapeOnGrid structure.old.shapes → All IsPlacementOnGrid structure.old.placements
         → OnOk result (All IsCellOnGrid cells.new) }
 {
-    let shapes = replace(&mut structure.shapes, List::new(alloc));
+    let shapes = replace(&mut structure.shapes, Shapes::new(alloc));
     let placements = replace(&mut structure.placements, List::new(alloc));
     let Some(named) = structure.named else {
         return Ok(());
@@ -278,7 +278,7 @@ impl<'a> Reader<'a> {
             names: Names::new(alloc, file),
             structure: Structure {
                 named: None,
-                shapes: List::new(alloc),
+                shapes: Shapes::new(alloc),
                 placements: List::new(alloc),
             },
             cells: List::new(alloc),

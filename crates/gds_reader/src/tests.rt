@@ -177,7 +177,7 @@ fn reads_shapes(rt: HostRuntime) -> Result<(), Fail> {
     let cells = layout.cells.as_slice();
     assert_eq!(rt; cells.len(), 1);
     assert_eq!(rt; cells[0].name.bytes(), b"TOP".as_slice());
-    let shapes = cells[0].shapes.as_slice();
+    let shapes = &cells[0].shapes;
     assert_eq!(rt; shapes.len(), 1);
     let ring = [
         Point { x: 0, y: 0 },
@@ -186,8 +186,9 @@ fn reads_shapes(rt: HostRuntime) -> Result<(), Fail> {
         Point { x: 20, y: 0 },
         Point { x: 0, y: 0 },
     ];
-    assert!(rt; shapes[0].outline().as_slice() == Some(ring.as_slice()));
-    assert!(rt; !shapes[0].is_fixed() && shapes[0].pair() == WANTED[1]);
+    let shape = shapes.get(0);
+    assert!(rt; shape.outline().as_slice() == Some(ring.as_slice()));
+    assert!(rt; !shape.is_fixed() && shape.pair() == WANTED[1]);
     Ok(())
 }
 
@@ -208,14 +209,15 @@ fn reads_a_path(rt: HostRuntime) -> Result<(), Fail> {
     let layout = layout_of(rt.alloc(), &records)?;
     let cells = layout.cells.as_slice();
     assert_eq!(rt; cells.len(), 1);
-    let shapes = cells[0].shapes.as_slice();
+    let shapes = &cells[0].shapes;
     assert_eq!(rt; shapes.len(), 1);
-    let outline = shapes[0].outline();
+    let shape = shapes.get(0);
+    let outline = shape.outline();
     let points = outline.as_slice().unwrap_or(&[]);
     assert_eq!(rt; points.len(), 5);
     assert_eq!(rt; points[0], Point { x: -20, y: -20 });
     assert_eq!(rt; points[2], Point { x: 220, y: 20 });
-    assert!(rt; shapes[0].is_fixed());
+    assert!(rt; shape.is_fixed());
     Ok(())
 }
 
@@ -670,7 +672,8 @@ fn path_of(
     ];
     let layout = layout_of(alloc, &records)?;
     if let [cell] = layout.cells.as_slice() {
-        if let [shape] = cell.shapes.as_slice() {
+        if cell.shapes.len() == 1 {
+            let shape = cell.shapes.get(0);
             if let Some([first, _, third, _, _]) = shape.outline().as_slice() {
                 return Ok(Some((*first, *third, shape.is_fixed())));
             }

@@ -67,7 +67,7 @@ fn the_square_is_read(rt: HostRuntime) -> Result<(), Fail> {
     assert_eq!(rt; input.tree.top(), 0);
     let cells = input.tree.cells();
     assert_eq!(rt; cells.len(), 1);
-    assert_eq!(rt; cells[0].shapes.as_slice().len(), 1);
+    assert_eq!(rt; cells[0].shapes.len(), 1);
     Ok(())
 }
 

@@ -18,4 +18,6 @@ mod PointLemmas
 mod StrideLemmas
 mod RulerLemmas
 mod PairLemmas
+pub mod MovedPaths
 mod TurnLemmas
+mod ShapeListLemmas

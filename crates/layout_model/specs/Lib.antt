@@ -18,5 +18,6 @@ pub mod Counting
 -- ---- what is kept inside
 pub mod Points
 pub mod Kept
+pub mod ShapeLists
 pub mod Strides
 pub mod Walks

@@ -1,7 +1,7 @@
-use crate::kept::KeptShape;
 use crate::names::Name;
 use crate::offsets::Offsets;
 use crate::orient::Orient;
+use crate::shape_lists::Shapes;
 use geo_stream::List;
 use half_grid::Point;
 
@@ -25,7 +25,7 @@ pub struct Cell {
     /// Its name.
     pub name: Name,
     /// Its own shapes.
-    pub shapes: List<KeptShape>,
+    pub shapes: Shapes,
     /// The cells that it places.
     pub placements: List<Placement>,
 }

@@ -17,7 +17,9 @@ mod paths;
 mod points;
 mod products;
 mod rectangles;
+mod shape_lists;
 mod shapes;
+mod shared_rectangles;
 mod stretches;
 mod strides;
 #[cfg(test)]
@@ -35,6 +37,8 @@ pub use orient::{Orient, image};
 pub use pair::{Pair, pair_law};
 pub use paths::{PathBad, path_laws, path_shapes};
 pub use points::{Points, SharedPoints};
+pub use shape_lists::{ShapeRef, Shapes};
 pub use shapes::{Shape, ShapeBad, has_grid_edges};
+pub use shared_rectangles::SharedRectangles;
 pub use turns::{factor_in, turns_in};
 pub use wanted::{is_among, sorted_pairs};

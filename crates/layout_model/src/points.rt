@@ -75,7 +75,8 @@ fn sum(at: i64, by: i64) -> i64
     at + by
 }
 
-fn moved(p: &Point, by: Point) -> Point
+/// A point moved.
+pub(crate) fn moved(p: &Point, by: Point) -> Point
     requires { IsPointWithinReach (point_after by p.now) }
     ensures { result ≡ point_after by p.now }
 {

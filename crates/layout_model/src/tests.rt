@@ -8,7 +8,8 @@ ghost use Rattle.layout_model.specs.PathBounds.{IsNear};
 
 use crate::{
     Axis, Cell, Counts, Interval, KeptShape, Layout, Name, NameBad, Offsets, Orient, Pair, PathBad,
-    Placement, Points, Shape, ShapeBad, SharedPoints, image, pair_law, path_laws, path_shapes,
+    Placement, Points, Shape, ShapeBad, Shapes, SharedPoints, SharedRectangles, image, pair_law,
+    path_laws, path_shapes,
 };
 use geo_stream::List;
 use half_grid::{Point, Side, Tile, winding_at};
@@ -199,6 +200,14 @@ fn name(rt: &impl Abort, alloc: Global, bytes: &[u8]) -> Name
     Name::new(alloc, bytes).expect(rt, "a name")
 }
 
+fn shape_alone(rt: &impl Abort, alloc: Global, shape: KeptShape) -> Shapes
+    ensures { result ≡ shape ∷ [] }
+{
+    let mut shapes = Shapes::new(alloc);
+    assert!(rt; shapes.push(shape).is_ok(), "memory");
+    shapes
+}
+
 fn only<T: Drop>(rt: &impl Abort, alloc: Global, item: T) -> List<T>
     ensures { result ≡ item ∷ [] }
 {
@@ -266,6 +275,96 @@ fn shapes_are_kept_in_place_or_boxed(rt: HostRuntime) {
     assert!(rt; hull.x0 == 0 && hull.y0 == 0 && hull.x1 == 20 && hull.y1 == 20);
 }
 
+// A shape on the pair, at one place.
+fn once(rt: &impl Abort, alloc: Global, points: &[Point], pair: Pair, place: Point) -> KeptShape
+    requires closed { IsClosed points.now }
+    requires reach { All IsPointWithinReach points.now }
+    ensures { result.points ≡ points.now }
+{
+    let places = Offsets::list(alloc, &[place]).expect(rt, "a place");
+    KeptShape::new(alloc, pair, points, places).expect(rt, "a shape")
+}
+
+// Two squares, shared: UPRIGHT by two corners, RING boxed.
+fn two_squares(rt: &impl Abort, alloc: Global) -> SharedRectangles
+    ensures { All (λ ring. All (IsWithin 100) ring) result }
+{
+    let first = once(rt, alloc, &UPRIGHT, PAIR, point(0, 0));
+    let second = once(rt, alloc, &RING, PAIR, point(6, 8));
+    let shared = SharedRectangles::of(alloc, &[first, second]).expect(rt, "memory");
+    shared.expect(rt, "rectangles")
+}
+
+const OTHER: Pair = Pair {
+    layer: 8,
+    datatype: 3,
+};
+
+// Whether shape `k` has this outline and pair and is at this one place.
+fn is_shape(shapes: &Shapes, k: usize, points: &[Point], pair: Pair, place: Point) -> bool {
+    if k >= shapes.len() {
+        return false;
+    }
+    let shape = shapes.get(k);
+    if shape.outline().as_slice() != Some(points) || shape.count() != 1 {
+        return false;
+    }
+    shape.pair() == pair && shape.nth(0) == place && shape.is_fixed() == (pair == OTHER)
+}
+
+// Puts the two squares last, moved so, on the other pair, at (2, 4), not to be enlarged.
+fn push_squares(rt: &impl Abort, alloc: Global, shapes: &mut Shapes, by: Point)
+    requires { IsWithin (2 ^ 41) by }
+{
+    let place = Offsets::list(alloc, &[point(2, 4)]).expect(rt, "a place");
+    let squares = two_squares(rt, alloc);
+    let pushed = shapes.push_moved(&squares, by, OTHER, place, true);
+    assert!(rt; pushed.is_ok(), "memory");
+}
+
+// Two own shapes, a run of two, an own shape, and another run of two.
+#[test]
+fn shapes_by_number(rt: HostRuntime) {
+    let alloc = rt.alloc();
+    let mut shapes = Shapes::new(alloc);
+    let first = once(&rt, alloc, &RING, PAIR, point(0, 0));
+    assert!(rt; shapes.push(first).is_ok(), "memory");
+    let second = once(&rt, alloc, &TILTED, PAIR, point(10, 0));
+    assert!(rt; shapes.push(second).is_ok(), "memory");
+    push_squares(&rt, alloc, &mut shapes, point(100, -40));
+    let third = once(&rt, alloc, &UPRIGHT, PAIR, point(0, 0));
+    assert!(rt; shapes.push(third).is_ok(), "memory");
+    push_squares(&rt, alloc, &mut shapes, point(0, 0));
+    assert_eq!(rt; shapes.len(), 7);
+    let moved_upright = [
+        point(120, -20),
+        point(120, -40),
+        point(100, -40),
+        point(100, -20),
+        point(120, -20),
+    ];
+    let moved_ring = [
+        point(100, -40),
+        point(120, -40),
+        point(120, -20),
+        point(100, -20),
+        point(100, -40),
+    ];
+    assert!(rt; is_shape(&shapes, 0, &RING, PAIR, point(0, 0)));
+    assert!(rt; is_shape(&shapes, 1, &TILTED, PAIR, point(10, 0)));
+    assert!(rt; is_shape(&shapes, 2, &moved_upright, OTHER, point(2, 4)));
+    assert!(rt; is_shape(&shapes, 3, &moved_ring, OTHER, point(2, 4)));
+    assert!(rt; is_shape(&shapes, 4, &UPRIGHT, PAIR, point(0, 0)));
+    assert!(rt; is_shape(&shapes, 5, &UPRIGHT, OTHER, point(2, 4)));
+    assert!(rt; is_shape(&shapes, 6, &RING, OTHER, point(2, 4)));
+    let tilted = [
+        once(&rt, alloc, &RING, PAIR, point(0, 0)),
+        once(&rt, alloc, &TILTED, PAIR, point(0, 0)),
+    ];
+    let refused = SharedRectangles::of(alloc, &tilted).expect(&rt, "memory");
+    assert!(rt; refused.is_none());
+}
+
 const PLACES: [Point; 2] = [Point { x: 0, y: 0 }, Point { x: 40, y: -2 }];
 
 // A square of 10 grid steps, at two places.
@@ -294,12 +393,12 @@ fn two_cells(rt: &impl Abort, alloc: Global) -> Layout
 {
     let part = Cell {
         name: name(rt, alloc, b"PART"),
-        shapes: only(rt, alloc, square(rt, alloc)),
+        shapes: shape_alone(rt, alloc, square(rt, alloc)),
         placements: List::new(alloc),
     };
     let top = Cell {
         name: name(rt, alloc, b"TOP"),
-        shapes: List::new(alloc),
+        shapes: Shapes::new(alloc),
         placements: only(rt, alloc, part_placed(rt, alloc)),
     };
     let mut cells = only(rt, alloc, part);
@@ -320,7 +419,7 @@ fn a_layout_with_a_placement_is_on_the_grid(rt: HostRuntime) {
     let layout = two_cells(&rt, rt.alloc());
     let cells = layout.cells.as_slice();
     assert_eq!(rt; cells.len(), 2);
-    assert_eq!(rt; cells[0].shapes.as_slice().len(), 1);
+    assert_eq!(rt; cells[0].shapes.len(), 1);
     let placed = cells[1].placements.as_slice();
     assert_eq!(rt; placed.len(), 1);
     assert!(rt; placed[0].target == cells[0].name);

@@ -8,7 +8,7 @@ ghost use Rattle.oas_record.specs.Plain.{rectangle_of};
 use crate::extension::Extension;
 use crate::written::Written;
 use oas_record::{Called, Deltas, PlainRectangle, Rep};
-use oas_shapes::{PointList, Repetition};
+use oas_shapes::{PathList, PointList, Repetition};
 
 #[inline(always)]
 pub(crate) fn number_or(written: Option<u64>, before: Option<u64>) -> Option<u64>
@@ -88,12 +88,22 @@ pub(crate) fn length_of(half_width: Option<u64>, written: Option<Extension>) -> 
     }
 }
 
-/// Keeps the point list of a path where one is written.
-pub(crate) fn keep_points(kept: &mut Option<Deltas>, written: Option<Deltas>)
-    ensures { kept.new ≡ or_else written kept.old }
+// A written point list as one that paths may use again.
+fn path_again(written: Option<Deltas>) -> Option<PathList>
+    ensures { result ≡ written }
 {
     match written {
-        Some(points) => *kept = Some(points),
+        Some(points) => Some(PathList::new(points)),
+        None => None,
+    }
+}
+
+/// Keeps the point list of a path where one is written.
+pub(crate) fn keep_path_points(kept: &mut Option<PathList>, written: Option<Deltas>)
+    ensures { kept.new ≡ or_else written kept.old }
+{
+    match &written {
+        Some(_) => *kept = path_again(written),
         None => {}
     }
 }

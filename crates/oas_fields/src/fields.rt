@@ -7,13 +7,13 @@ ghost use Rattle.oas_record.specs.Plain.{rectangle_of};
 ghost use Rattle.oas_record.specs.declared.records.OasRecord.{OasRecord as ARecord};
 
 use crate::choices::{
-    cell_or, height_by, keep_points, keep_polygon_points, keep_repetition, length_of, length_or,
-    mode_or, number_or, square_height,
+    cell_or, height_by, keep_path_points, keep_polygon_points, keep_repetition, length_of,
+    length_or, mode_or, number_or, square_height,
 };
 use crate::places::{Place, Step, moved};
 use crate::written::Written;
 use oas_record::{Called, Deltas, Lists, OasRecord, PlainRectangle};
-use oas_shapes::{PointList, Repetition};
+use oas_shapes::{PathList, PointList, Repetition};
 
 /// The values that the fields of the last record have, written or not: of each modal variable the value that was written
 /// last in the same cell, None where none was, and the positions. Lengths are in grid steps.
@@ -38,7 +38,7 @@ pub struct Fields {
     /// How far a path goes beyond its last point.
     pub end: Option<i128>,
     /// The point list of a path.
-    pub path_points: Option<Deltas>,
+    pub path_points: Option<PathList>,
     /// The type of a compressed trapezoid.
     pub kind: Option<u64>,
     /// The placed cell.
@@ -154,7 +154,7 @@ impl Fields {
             repetition,
         } = lists;
         keep_polygon_points(&mut self.polygon_points, polygon_points);
-        keep_points(&mut self.path_points, path_points);
+        keep_path_points(&mut self.path_points, path_points);
         keep_repetition(&mut self.repetition, repetition);
     }
 }

@@ -5,8 +5,8 @@ ghost use Rattle.oas_reader.specs.Cells.{begun_at, closed};
 ghost use Rattle.oas_reader.specs.Readers.{AreDraftsOf, AreDraftsWithin};
 
 use crate::placing::Placing;
-use geo_stream::{List, NoMemory};
-use layout_model::KeptShape;
+use geo_stream::NoMemory;
+use layout_model::Shapes;
 use oas_record::Called;
 use std::alloc::Global;
 use std::mem::replace;
@@ -16,7 +16,7 @@ use std::mem::replace;
 pub(crate) struct Draft {
     pub(crate) at: usize,
     pub(crate) called: Called,
-    pub(crate) shapes: List<KeptShape>,
+    pub(crate) shapes: Shapes,
     pub(crate) placings: Vec<Placing>,
 }
 
@@ -31,7 +31,7 @@ struct Begun {
 #[derive(Drop)]
 pub(crate) struct Drafts {
     begun: Option<Begun>,
-    pub(crate) shapes: List<KeptShape>,
+    pub(crate) shapes: Shapes,
     placings: Vec<Placing>,
     whole: Vec<Draft>,
 }
@@ -43,7 +43,7 @@ impl Drafts {
     {
         Drafts {
             begun: None,
-            shapes: List::new(alloc),
+            shapes: Shapes::new(alloc),
             placings: Vec::new(alloc),
             whole: Vec::new(alloc),
         }
@@ -55,7 +55,7 @@ impl Drafts {
         ensures placings { OnOk result (self.new.placings.items ≡ []) }
         ensures whole { OnOk result (self.new.whole.items ≡ self.old.whole.items ++ closed self.old.begun self.old.shapes self.old.placings) }
     {
-        let shapes = replace(&mut self.shapes, List::new(alloc));
+        let shapes = replace(&mut self.shapes, Shapes::new(alloc));
         let placings = replace(&mut self.placings, Vec::new(alloc));
         let Some(begun) = self.begun else {
             return Ok(());

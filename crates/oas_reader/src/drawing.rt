@@ -12,8 +12,7 @@ ghost use Rattle.oas_reader.specs.declared.refusing.OasBad.TheVariants as faults
 use crate::bodies::{Body, Outline};
 use crate::placing::{bad_at, point_of, repetition_in};
 use crate::refusing::OasBad;
-use geo_stream::List;
-use layout_model::{KeptShape, Pair};
+use layout_model::{Pair, Shapes};
 use oas_fields::Fields;
 use oas_shapes::{Brush, Figure, Undrawn, draw_figure, draw_path, draw_polygon};
 use std::alloc::Global;
@@ -52,7 +51,8 @@ pub(crate) fn pair_of(fields: &Fields) -> Pair
     }
 }
 
-fn brush_of(fields: &Fields) -> Brush
+/// The lengths of the last path.
+pub(crate) fn brush_of(fields: &Fields) -> Brush
     ensures { result ≡ brush_in fields.now }
 {
     Brush {
@@ -110,7 +110,7 @@ fn draw_body(
     alloc: Global,
     fields: &Fields,
     outline: Outline,
-    shapes: &mut List<KeptShape>,
+    shapes: &mut Shapes,
 ) -> Result<(), Undrawn>
     requires near { IsPlaceWithin (2 ^ 40) fields.now.geometry }
     ensures shapes { OnOk result (shapes.new ≡ shapes.old ++ shapes_in outline.body fields.now (repetition_kept outline.repeats fields.now.repetition)) }
@@ -153,7 +153,7 @@ pub(crate) fn draw(
     fields: &Fields,
     outline: Outline,
     at: usize,
-    shapes: &mut List<KeptShape>,
+    shapes: &mut Shapes,
 ) -> Result<(), OasBad>
     requires near { IsPlaceWithin (2 ^ 40) fields.now.geometry }
     ensures shapes { OnOk result (shapes.new ≡ shapes.old ++ shapes_in outline.body fields.now (repetition_kept outline.repeats fields.now.repetition)) }

@@ -32,7 +32,7 @@ use crate::ids::id_of;
 use crate::naming::Names;
 use crate::order::Place;
 use crate::refusing::OasBad;
-use crate::reusing::{make_outline, uses_points_again};
+use crate::reusing::{make_points, points_again};
 use crate::taking::take_names;
 use crate::values::take_values;
 use layout_model::{Counts, Layout, NO_COUNTS, Pair, sorted_pairs};
@@ -169,8 +169,8 @@ fn make_places(alloc: Global, fields: &mut Fields, again: bool)
     }
 }
 
-// Takes the record into the fields. The places of a repetition and the outline of a point list that are used again are
-// made, once.
+// Takes the record into the fields. The places of a repetition, the outline of a polygon's point list and the rectangles of
+// a path's that are used again are made, once.
 fn take_fields(
     alloc: Global,
     bytes: &[u8],
@@ -187,10 +187,10 @@ fn take_fields(
     ensures cell { AreCalledWithin bytes.now fields.new.cell }
 {
     let again = repeats_again(&current);
-    let same_points = uses_points_again(&current);
+    let same_points = points_again(&current);
     fields.take(current);
     make_places(alloc, fields, again);
-    make_outline(alloc, sorted, fields, same_points);
+    make_points(alloc, sorted, fields, same_points);
 }
 
 // Takes a rectangle into the fields.

@@ -1,8 +1,9 @@
-//! Point lists that polygons use again.
-ghost use Rattle.std.specs.Prelude.{◌≡◌};
+//! Point lists that polygons and paths use again.
+ghost use Rattle.std.specs.Prelude.{◌≡◌, ◌^◌};
 ghost use Rattle.layout_model.specs.Pairs.{AreSorted};
+ghost use Rattle.oas_fields.specs.Values.{IsPlaceWithin};
 
-use crate::drawing::pair_of;
+use crate::drawing::{brush_of, pair_of};
 use crate::placing::point_of;
 use crate::rules::positions_are_near;
 use layout_model::{Pair, is_among};
@@ -10,18 +11,53 @@ use oas_fields::Fields;
 use oas_record::OasRecord;
 use std::alloc::Global;
 
-/// Whether the record is a polygon with the point list of the last one.
-pub(crate) fn uses_points_again(current: &OasRecord) -> bool {
-    matches!(current, OasRecord::Polygon { points: None, .. })
+/// Whose point list a record uses again.
+#[derive(Clone, Copy)]
+pub(crate) enum Again {
+    Polygon,
+    Path,
+    Nothing,
 }
 
-/// Makes the outline of the last polygon's point list where a wanted polygon uses it again, so that all records after share
-/// it. A polygon that keeps no rule there is refused next, so a list that can't be made isn't tried over and over.
-pub(crate) fn make_outline(alloc: Global, sorted: &[Pair], fields: &mut Fields, again: bool)
+/// What the record is, if it is a polygon or a path with the point list of the last one.
+pub(crate) fn points_again(current: &OasRecord) -> Again {
+    match current {
+        OasRecord::Polygon { points: None, .. } => Again::Polygon,
+        OasRecord::Path { points: None, .. } => Again::Path,
+        _ => Again::Nothing,
+    }
+}
+
+// Makes the outline of the last polygon's point list.
+fn make_outline(alloc: Global, fields: &mut Fields)
+    requires { IsPlaceWithin (2 ^ 40) fields.old.geometry }
+    ensures { fields.new ≡ fields.old }
+{
+    let at = point_of(fields.geometry);
+    if let Some(points) = &mut fields.polygon_points {
+        points.make_outline(alloc, at);
+    }
+}
+
+// Makes the rectangles of the last path's point list with the last lengths.
+fn make_rectangles(alloc: Global, fields: &mut Fields)
+    requires { IsPlaceWithin (2 ^ 40) fields.old.geometry }
+    ensures { fields.new ≡ fields.old }
+{
+    let at = point_of(fields.geometry);
+    let brush = brush_of(fields);
+    if let Some(points) = &mut fields.path_points {
+        points.make_rectangles(alloc, at, brush);
+    }
+}
+
+/// Makes what the last point list means where a wanted polygon or path uses it again, so that all records after share it. A
+/// record that keeps no rule there is refused next, so a list that can't be made isn't tried over and over.
+pub(crate) fn make_points(alloc: Global, sorted: &[Pair], fields: &mut Fields, again: Again)
     requires { AreSorted sorted.now }
     ensures { fields.new ≡ fields.old }
 {
-    if !again {
+    if matches!(again, Again::Nothing) {
         return;
     }
     if !positions_are_near(fields) {
@@ -30,8 +66,9 @@ pub(crate) fn make_outline(alloc: Global, sorted: &[Pair], fields: &mut Fields, 
     if !is_among(sorted, pair_of(fields)) {
         return;
     }
-    let at = point_of(fields.geometry);
-    if let Some(points) = &mut fields.polygon_points {
-        points.make_outline(alloc, at);
+    match again {
+        Again::Polygon => make_outline(alloc, fields),
+        Again::Path => make_rectangles(alloc, fields),
+        Again::Nothing => {}
     }
 }

@@ -87,12 +87,13 @@ fn are_drawn(alloc: Global, records: &[u8], wanted: &[Seen]) -> Result<bool, Fai
     if cells.len() == 0 {
         return Ok(false);
     }
-    let shapes = cells[0].shapes.as_slice();
+    let shapes = &cells[0].shapes;
     if shapes.len() != wanted.len() {
         return Ok(false);
     }
     for k in 0..shapes.len() {
-        let outline = shapes[k].outline();
+        let drawn = shapes.get(k);
+        let outline = drawn.outline();
         let points = outline.as_slice().unwrap_or(&[]);
         if points.len() < 3 {
             return Ok(false);
@@ -100,7 +101,7 @@ fn are_drawn(alloc: Global, records: &[u8], wanted: &[Seen]) -> Result<bool, Fai
         let shape = Seen {
             first: points[0],
             third: points[2],
-            copies: shapes[k].count(),
+            copies: drawn.count(),
         };
         if shape != wanted[k] {
             return Ok(false);
@@ -196,6 +197,72 @@ fn extends_paths(rt: HostRuntime) -> Result<(), Fail> {
     Ok(())
 }
 
+// The rectangles of stairs from the origin, of 6 steps to the right and 5 up between them, each of 4 grid steps, in half
+// units: of half width 1, and of half width 2.
+const STAIRS: [(i64, i64, i64, i64); 11] = [
+    (0, -2, 10, 2),
+    (6, -2, 10, 10),
+    (6, 6, 18, 10),
+    (14, 6, 18, 18),
+    (14, 14, 26, 18),
+    (22, 14, 26, 26),
+    (22, 22, 34, 26),
+    (30, 22, 34, 34),
+    (30, 30, 42, 34),
+    (38, 30, 42, 42),
+    (38, 38, 48, 42),
+];
+
+const WIDE_STAIRS: [(i64, i64, i64, i64); 11] = [
+    (0, -4, 12, 4),
+    (4, -4, 12, 12),
+    (4, 4, 20, 12),
+    (12, 4, 20, 20),
+    (12, 12, 28, 20),
+    (20, 12, 28, 28),
+    (20, 20, 36, 28),
+    (28, 20, 36, 36),
+    (28, 28, 44, 36),
+    (36, 28, 44, 44),
+    (36, 36, 48, 44),
+];
+
+// Puts the rectangles last, from this place, each so many times.
+fn put(
+    seen: &mut Vec<Seen>,
+    rows: &[(i64, i64, i64, i64)],
+    x: i64,
+    y: i64,
+    copies: u64,
+) -> Result<(), Fail> {
+    for (left, bottom, right, top) in rows {
+        seen.push(sight(
+            x.wrapping_add(*left),
+            y.wrapping_add(*bottom),
+            x.wrapping_add(*right),
+            y.wrapping_add(*top),
+            copies,
+        ))?;
+    }
+    Ok(())
+}
+
+// A path of 11 deltas from the origin, again from (10, 3), from (-5, -4) three times, and from (0, 20) with twice its width.
+#[test]
+fn uses_point_lists_of_paths_again(rt: HostRuntime) -> Result<(), Fail> {
+    let paths =
+        b"\x16\xFB\x01\x00\x01\x05\x00\x0B\x08\x08\x08\x08\x08\x08\x08\x08\x08\x08\x08\x00\x00\
+        \x16\x18\x14\x06\x16\x1C\x0B\x09\x02\x01\x64\x16\x58\x02\x00\x28"
+            .as_slice();
+    let mut seen = Vec::new(rt.alloc());
+    put(&mut seen, &STAIRS, 0, 0, 1)?;
+    put(&mut seen, &STAIRS, 20, 6, 1)?;
+    put(&mut seen, &STAIRS, -10, -8, 3)?;
+    put(&mut seen, &WIDE_STAIRS, 0, 40, 1)?;
+    assert!(rt; are_drawn(rt.alloc(), paths, seen.as_slice())?);
+    Ok(())
+}
+
 #[test]
 fn reads_placements(rt: HostRuntime) -> Result<(), Fail> {
     // TOP places A, by a number that a CELLNAME after it gives: flipped, turned by 270 degrees, twice as large, twice.
@@ -249,7 +316,7 @@ fn reads_tables_at_the_end(rt: HostRuntime) -> Result<(), Fail> {
     let cells = layout.cells.as_slice();
     assert_eq!(rt; cells.len(), 1);
     assert_eq!(rt; cells[0].name.bytes(), b"TOP".as_slice());
-    assert_eq!(rt; cells[0].shapes.as_slice().len(), 1);
+    assert_eq!(rt; cells[0].shapes.len(), 1);
     Ok(())
 }
 

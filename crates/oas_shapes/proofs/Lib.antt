@@ -7,3 +7,4 @@ mod VertexLemmas
 mod ArmLemmas
 mod EdgeLemmas
 mod MoveLemmas
+mod PathListLemmas

@@ -1,4 +1,4 @@
--- The outline of a polygon moved from one position to another: it is the outline there, near 0 where its box is, and on the
+-- The outline of a polygon, or the points of a path, moved from one position to another: they are those there, near 0 where its box is, and on the
 -- grid as before.
 use Rattle.std.proofs.Common.{◌≡◌, ◌^◌, ◌==◌, ℕ, ℤ, pos, neg_ℤ, ◌+ℤ◌, ◌-ℤ◌, ◌≤ℤ◌, inl, inr, Bool, true, false, cond, List, [], ◌∷◌, ◌++◌, map}
 use Rattle.std.proofs.Common.{refl, sym, ap, subst, ◌∙◌, arith}
@@ -18,7 +18,7 @@ use Rattle.layout_model.specs.Images.{moved}
 use Rattle.layout_model.specs.Layouts.{IsWithin}
 use Rattle.oas_record.specs.declared.fields.Deltas.{Deltas}
 use Rattle.oas_shapes.specs.Moves.{steps_between, way_between, low_corner, high_corner, IsItsOutline}
-use Rattle.oas_shapes.specs.Outlines.{closed, outline_of, polygon_outline}
+use Rattle.oas_shapes.specs.Outlines.{closed, outline_of, polygon_outline, path_points}
 use Rattle.oas_shapes.specs.Plane.{point, doubled, places_along, IsNear, IsNearInHalves}
 use Rattle.oas_shapes.specs.PointLists.{implied, moves_by}
 use Rattle.oas_shapes.specs.Rules.{AreNear}
@@ -90,6 +90,13 @@ there from to =
 pub polygon_moved : (from to : Point) (d : Deltas) → map (moved (way_between from to)) (polygon_outline from d) ≡ polygon_outline to d
 polygon_moved from to d =
     sym (ring_moved d.kind (steps_between from to) from (moves_by d.kind d.items)) ∙ ap (λ p. polygon_outline p d) (there from to)
+
+pub points_moved : (from to : Point) (d : Deltas) → map (moved (way_between from to)) (path_points from d) ≡ path_points to d
+points_moved from to d =
+    let steps = steps_between from to in
+    let moves = moves_by d.kind d.items in
+    sym (ap (map doubled) (places_moved steps from moves) ∙ all_doubled steps (places_along from moves))
+    ∙ ap (λ p. path_points p d) (there from to)
 
 pub outline_there : (d : Deltas) (made : Made) (to : Point) → IsItsOutline d made
     → map (moved (way_between made.at to)) made.outline ≡ polygon_outline to d

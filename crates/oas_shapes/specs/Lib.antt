@@ -15,3 +15,4 @@ pub mod Trails
 pub mod Lattices
 pub mod Vertices
 pub mod Brushes
+pub mod PathLists

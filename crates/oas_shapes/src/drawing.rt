@@ -5,7 +5,7 @@ ghost use Rattle.layout_model.specs.Layouts.{IsShapeOnGrid, AreOffsets, IsWithin
 ghost use Rattle.oas_shapes.specs.Sketches.{points_of};
 ghost use Rattle.oas_shapes.specs.Outlines.{figure_outline, polygon_outline as the_polygon_outline, outline_shape, path_shapes_of};
 ghost use Rattle.oas_shapes.specs.Repetitions.{offsets_in as all_offsets};
-ghost use Rattle.oas_shapes.specs.Rules.{AreNear, KeepsShape, KeepsFigure, KeepsPolygon, KeepsPath, IsLowest};
+ghost use Rattle.oas_shapes.specs.Rules.{AreNear, KeepsShape, KeepsFigure, KeepsPolygon, KeepsPath, IsBrush, IsLowest};
 ghost use Rattle.oas_shapes.specs.Short.{IsShortIn, HasFewPoints, HasFewVertices};
 ghost use Rattle.oas_shapes.specs.declared.drawing.Undrawn.TheVariants.{Rule, NoMemory as Wanting};
 
@@ -13,13 +13,13 @@ use crate::corners::{Outline, is_sized, outline_at};
 use crate::figures::{Brush, Figure};
 use crate::lists::{path_points, polygon_outline};
 use crate::outlines::PointList;
-use crate::paths::add_path;
+use crate::path_lists::PathList;
+use crate::paths::{add_moved, add_path};
 use crate::repetitions::{alone, offsets_in};
 use crate::sharing::Repetition;
 use crate::trails::Unplaced;
-use geo_stream::List;
 use half_grid::Point;
-use layout_model::{KeptShape, Offsets, Pair, Points, Shape, ShapeBad};
+use layout_model::{KeptShape, Offsets, Pair, Points, Shape, ShapeBad, Shapes};
 use oas_record::Deltas;
 use std::alloc::Global;
 
@@ -124,7 +124,7 @@ fn add(
     pair: Pair,
     outline: &[Point],
     repetition: Option<&Repetition>,
-    shapes: &mut List<KeptShape>,
+    shapes: &mut Shapes,
 ) -> Result<(), Undrawn>
     requires closed { IsClosed outline.now }
     requires near { AreNear outline.now }
@@ -151,7 +151,7 @@ fn add_outline(
     pair: Pair,
     outline: Outline,
     repetition: Option<&Repetition>,
-    shapes: &mut List<KeptShape>,
+    shapes: &mut Shapes,
 ) -> Result<(), Undrawn>
     requires near { AreNear (points_of outline) }
     ensures shapes { OnOk result (shapes.new ≡ shapes.old ++ outline_shape pair (points_of outline) (all_offsets (option_copied repetition.entry)) ∷ []) }
@@ -176,7 +176,7 @@ pub fn draw_figure(
     at: Point,
     figure: Figure,
     repetition: Option<&Repetition>,
-    shapes: &mut List<KeptShape>,
+    shapes: &mut Shapes,
 ) -> Result<(), Undrawn>
     requires at { IsWithin (2 ^ 40) at }
     ensures shapes { OnOk result (shapes.new ≡ shapes.old ++ outline_shape pair (figure_outline at figure) (all_offsets (option_copied repetition.entry)) ∷ []) }
@@ -202,7 +202,7 @@ fn draw_written(
     at: Point,
     points: &Deltas,
     repetition: Option<&Repetition>,
-    shapes: &mut List<KeptShape>,
+    shapes: &mut Shapes,
 ) -> Result<(), Undrawn>
     requires at { IsWithin (2 ^ 40) at }
     ensures shapes { OnOk result (shapes.new ≡ shapes.old ++ outline_shape pair (the_polygon_outline at points.now) (all_offsets (option_copied repetition.entry)) ∷ []) }
@@ -271,7 +271,7 @@ fn add_made(
     pair: Pair,
     outline: Points,
     repetition: Option<&Repetition>,
-    shapes: &mut List<KeptShape>,
+    shapes: &mut Shapes,
 ) -> Result<(), Undrawn>
     requires closed { IsClosed outline }
     requires near { AreNear outline }
@@ -299,7 +299,7 @@ pub fn draw_polygon(
     at: Point,
     points: &PointList,
     repetition: Option<&Repetition>,
-    shapes: &mut List<KeptShape>,
+    shapes: &mut Shapes,
 ) -> Result<(), Undrawn>
     requires at { IsWithin (2 ^ 40) at }
     ensures shapes { OnOk result (shapes.new ≡ shapes.old ++ outline_shape pair (the_polygon_outline at points.now) (all_offsets (option_copied repetition.entry)) ∷ []) }
@@ -319,19 +319,18 @@ pub fn draw_polygon(
     }
 }
 
-/// Adds the shapes of a PATH at this position, repeated so. One without width has none, but its numbers are looked at. A
-/// rule that it breaks is told even where memory is wanting, unless its points or the repetition list more than twelve
-/// places.
-pub fn draw_path(
+// Adds the shapes of a path at this position, whose lengths are near 0, repeated so.
+fn draw_course(
     alloc: Global,
     pair: Pair,
     at: Point,
     brush: Brush,
     points: &Deltas,
     repetition: Option<&Repetition>,
-    shapes: &mut List<KeptShape>,
+    shapes: &mut Shapes,
 ) -> Result<(), Undrawn>
     requires at { IsWithin (2 ^ 40) at }
+    requires brush { IsBrush brush }
     ensures shapes { OnOk result (shapes.new ≡ shapes.old ++ path_shapes_of pair at brush points.now (all_offsets (option_copied repetition.entry))) }
     ensures grid { All IsShapeOnGrid shapes.old → OnOk result (All IsShapeOnGrid shapes.new) }
     ensures kept { OnOk result ((rule : ℕ) → KeepsPath at brush points.now (option_copied repetition.entry) rule) }
@@ -339,9 +338,6 @@ pub fn draw_path(
     ensures memory { HasFewPoints points.now → IsShortIn (option_copied repetition.entry) → result ≡ Err Wanting
         → (rule : ℕ) → KeepsPath at brush points.now (option_copied repetition.entry) rule }
 {
-    if !brush.is_near() {
-        return Err(Undrawn::Rule(1));
-    }
     match path_points(alloc, at, points) {
         Ok(places) => add_path(
             alloc,
@@ -354,4 +350,37 @@ pub fn draw_path(
         Err(Unplaced::Far) => Err(Undrawn::Rule(1)),
         Err(_) => Err(Undrawn::NoMemory),
     }
+}
+
+/// Adds the shapes of a PATH at this position, repeated so. One without width has none, but its numbers are looked at.
+/// Where the rectangles of its list were made with its lengths, it shares them, and takes no longer than its repetition. A
+/// rule that it breaks is told even where memory is wanting, unless its points or the repetition list more than twelve
+/// places.
+pub fn draw_path(
+    alloc: Global,
+    pair: Pair,
+    at: Point,
+    brush: Brush,
+    points: &PathList,
+    repetition: Option<&Repetition>,
+    shapes: &mut Shapes,
+) -> Result<(), Undrawn>
+    requires at { IsWithin (2 ^ 40) at }
+    ensures shapes { OnOk result (shapes.new ≡ shapes.old ++ path_shapes_of pair at brush points.now (all_offsets (option_copied repetition.entry))) }
+    ensures grid { All IsShapeOnGrid shapes.old → OnOk result (All IsShapeOnGrid shapes.new) }
+    ensures kept { OnOk result ((rule : ℕ) → KeepsPath at brush points.now (option_copied repetition.entry) rule) }
+    ensures broken { (rule : ℕ) → result ≡ Err (Rule rule) → IsLowest (KeepsPath at brush points.now (option_copied repetition.entry)) rule }
+    ensures memory { HasFewPoints points.now → IsShortIn (option_copied repetition.entry) → result ≡ Err Wanting
+        → (rule : ℕ) → KeepsPath at brush points.now (option_copied repetition.entry) rule }
+{
+    if !brush.is_near() {
+        return Err(Undrawn::Rule(1));
+    }
+    let Some(made) = points.made(brush.halves()) else {
+        return draw_course(alloc, pair, at, brush, points.written(), repetition, shapes);
+    };
+    let Some(by) = made.way_to(at) else {
+        return draw_course(alloc, pair, at, brush, points.written(), repetition, shapes);
+    };
+    add_moved(alloc, pair, made.rectangles(), by, repetition, shapes)
 }

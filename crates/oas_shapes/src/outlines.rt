@@ -72,8 +72,8 @@ impl Step {
     }
 }
 
-// From one place in grid steps to another, in half units.
-fn way(from: Point, to: Point) -> Point
+/// From one place in grid steps to another, in half units.
+pub(crate) fn way(from: Point, to: Point) -> Point
     requires from { IsNear from }
     requires to { IsNear to }
     ensures { result ≡ way_between from to }
@@ -103,8 +103,8 @@ fn sum(at: i64, by: i64) -> i64
     at + by
 }
 
-// The lower left corner of a box after a move.
-fn low_after(hull: Frame, by: Point) -> Point
+/// The lower left corner of a box after a move.
+pub(crate) fn low_after(hull: Frame, by: Point) -> Point
     requires near { IsNearInHalves (low_corner hull) }
     requires by { IsWithin (2 ^ 42) by }
     ensures { result ≡ place_after by (low_corner hull) }
@@ -115,8 +115,8 @@ fn low_after(hull: Frame, by: Point) -> Point
     }
 }
 
-// Its upper right corner.
-fn high_after(hull: Frame, by: Point) -> Point
+/// Its upper right corner.
+pub(crate) fn high_after(hull: Frame, by: Point) -> Point
     requires near { IsNearInHalves (high_corner hull) }
     requires by { IsWithin (2 ^ 42) by }
     ensures { result ≡ place_after by (high_corner hull) }
@@ -127,8 +127,8 @@ fn high_after(hull: Frame, by: Point) -> Point
     }
 }
 
-// Whether it is near 0.
-fn is_near(p: Point) -> bool
+/// Whether it is near 0.
+pub(crate) fn is_near(p: Point) -> bool
     ensures { IsTrue result ↔ IsNearInHalves p }
 {
     if p.x < -FARTHEST {

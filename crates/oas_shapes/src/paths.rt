@@ -1,10 +1,14 @@
 //! The shapes of paths.
-ghost use Rattle.std.specs.Prelude.{◌≡◌, ◌⊎◌, ◌↔◌, ◌++◌, ℕ, pos, ◌≤ℤ◌, All, IsTrue, OnOk, IfOk, Err, option_copied};
+ghost use Rattle.std.specs.Prelude.{◌≡◌, ◌⊎◌, ◌↔◌, ◌++◌, ℕ, pos, ◌≤ℤ◌, All, map, false, IsTrue, OnOk, IfOk, Err, option_copied};
 ghost use Rattle.half_grid.specs.Halves.{twice};
+ghost use Rattle.half_grid.specs.Reach.{IsPointWithinReach};
+ghost use Rattle.layout_model.specs.Images.{moved as place_after};
+ghost use Rattle.layout_model.specs.Kept.{shape_with};
 ghost use Rattle.layout_model.specs.Layouts.{IsShapeOnGrid, AreOffsets};
 ghost use Rattle.layout_model.specs.PathBounds.{IsNear as IsNearInHalves};
 ghost use Rattle.oas_shapes.specs.Plane.{IsLength};
 ghost use Rattle.oas_shapes.specs.Brushes.{halves_of, AreHalves, IsDrawn, drawn_by, undrawn_by, KeepsCourse};
+ghost use Rattle.oas_shapes.specs.PathLists.{KeepsOffsets};
 ghost use Rattle.oas_shapes.specs.Repetitions.{offsets_in as all_offsets};
 ghost use Rattle.oas_shapes.specs.Rules.{AreNear, IsBrush, IsLowest};
 ghost use Rattle.oas_shapes.specs.Short.{IsShortIn};
@@ -15,20 +19,35 @@ use crate::figures::Brush;
 use crate::repetitions::{alone, offsets_in};
 use crate::sharing::Repetition;
 use crate::trails::Unplaced;
-use geo_stream::{List, NoMemory};
+use geo_stream::NoMemory;
 use half_grid::Point;
-use layout_model::{KeptShape, Offsets, Pair, PathBad, path_shapes};
+use layout_model::{KeptShape, Offsets, Pair, PathBad, Shapes, SharedRectangles, path_shapes};
 use std::alloc::Global;
 
 // At most so far from 0, in grid steps.
 const FARTHEST: i64 = 1 << 40;
 
 /// Half of a path's width and what it is longer by at its ends, in half units.
-#[derive(Clone, Copy)]
+#[derive(Clone, Copy, Debug)]
 pub(crate) struct Halves {
     half: i64,
     begin: i64,
     end: i64,
+}
+
+impl Halves {
+    /// Whether both are the same.
+    pub(crate) fn are(self, others: Halves) -> bool
+        ensures { IsTrue result → self ≡ others }
+    {
+        if self.half != others.half {
+            return false;
+        }
+        if self.begin != others.begin {
+            return false;
+        }
+        self.end == others.end
+    }
 }
 
 fn is_length(length: i128) -> bool
@@ -90,8 +109,8 @@ fn undrawn(bad: PathBad) -> Undrawn
     }
 }
 
-// The shapes of a path at these offsets.
-fn drawn(
+/// The shapes of a path at these offsets.
+pub(crate) fn drawn(
     alloc: Global,
     pair: Pair,
     points: &[Point],
@@ -174,7 +193,7 @@ fn repeated(
     }
 }
 
-fn push_all(list: &mut List<KeptShape>, shapes: Vec<KeptShape>) -> Result<(), NoMemory>
+fn push_all(list: &mut Shapes, shapes: Vec<KeptShape>) -> Result<(), NoMemory>
     ensures { OnOk result (list.new ≡ list.old ++ shapes.items) }
 {
     for shape in shapes {
@@ -190,7 +209,7 @@ pub(crate) fn add_path(
     points: &[Point],
     brush: Halves,
     repetition: Option<&Repetition>,
-    shapes: &mut List<KeptShape>,
+    shapes: &mut Shapes,
 ) -> Result<(), Undrawn>
     requires points { AreNear points.now }
     requires brush { AreHalves brush }
@@ -207,5 +226,34 @@ pub(crate) fn add_path(
             Err(_) => Err(Undrawn::NoMemory),
         },
         Err(bad) => Err(bad),
+    }
+}
+
+/// Adds rectangles, each moved so and repeated so. It takes no longer than the repetition.
+pub(crate) fn add_moved(
+    alloc: Global,
+    pair: Pair,
+    rectangles: &SharedRectangles,
+    by: Point,
+    repetition: Option<&Repetition>,
+    shapes: &mut Shapes,
+) -> Result<(), Undrawn>
+    requires near { All (λ ring. All IsPointWithinReach (map (place_after by) ring)) rectangles.now }
+    ensures shapes { OnOk result (shapes.new ≡ shapes.old ++ map (λ ring. shape_with pair (map (place_after by) ring) (all_offsets (option_copied repetition.entry)) false) rectangles.now) }
+    ensures offsets { OnOk result (AreOffsets (all_offsets (option_copied repetition.entry))) }
+    ensures kept { OnOk result ((rule : ℕ) → KeepsOffsets (option_copied repetition.entry) rule) }
+    ensures broken { (rule : ℕ) → result ≡ Err (Rule rule) → IsLowest (KeepsOffsets (option_copied repetition.entry)) rule }
+    ensures memory { IsShortIn (option_copied repetition.entry) → result ≡ Err Wanting
+        → (rule : ℕ) → KeepsOffsets (option_copied repetition.entry) rule }
+{
+    match offsets_in(alloc, repetition) {
+        Ok(offsets) => match shapes.push_moved(rectangles, by, pair, offsets, false) {
+            Ok(()) => Ok(()),
+            Err(_) => Err(Undrawn::NoMemory),
+        },
+        Err(Unplaced::Far) => Err(Undrawn::Rule(1)),
+        Err(Unplaced::Many) => Err(Undrawn::Rule(11)),
+        Err(Unplaced::Unkept) => Err(Undrawn::NoMemory),
+        Err(Unplaced::NoMemory) => Err(Undrawn::NoMemory),
     }
 }

@@ -1,11 +1,11 @@
 //! Outlines, places and offsets by hand, and the rules.
 use crate::{
-    Brush, Figure, PointList, Repetition, Undrawn, dimensions_are_allowed, draw_figure, draw_path,
-    draw_polygon, offsets_of,
+    Brush, Figure, PathList, PointList, Repetition, Undrawn, dimensions_are_allowed, draw_figure,
+    draw_path, draw_polygon, offsets_of,
 };
 use geo_stream::{List, NoMemory};
 use half_grid::Point;
-use layout_model::{KeptShape, Offsets, Pair};
+use layout_model::{Offsets, Pair, ShapeRef, Shapes};
 use oas_record::{Deltas, Rep};
 use std::alloc::Global;
 use std::test::Fail;
@@ -90,18 +90,19 @@ fn are_same(points: &[Point], wanted: &[(i64, i64)]) -> bool {
 }
 
 // Whether the shapes are one with this outline.
-fn is_one(shapes: &List<KeptShape>, outline: &[(i64, i64)]) -> bool {
-    match shapes.as_slice() {
-        [shape] => match shape.outline().as_slice() {
-            Some(points) => are_same(points, outline),
-            None => false,
-        },
-        _ => false,
+fn is_one(shapes: &Shapes, outline: &[(i64, i64)]) -> bool {
+    if shapes.len() != 1 {
+        return false;
+    }
+    let drawn = shapes.get(0).outline();
+    match drawn.as_slice() {
+        Some(points) => are_same(points, outline),
+        None => false,
     }
 }
 
 fn is_figure(alloc: Global, figure: Figure, outline: &[(i64, i64)]) -> bool {
-    let mut shapes = List::new(alloc);
+    let mut shapes = Shapes::new(alloc);
     match draw_figure(alloc, PAIR, ORIGIN, figure, None, &mut shapes) {
         Ok(()) => is_one(&shapes, outline),
         Err(_) => false,
@@ -224,7 +225,7 @@ fn is_polygon(alloc: Global, kind: u8, ways: &[(i64, i64)], outline: &[(i64, i64
         return false;
     };
     let points = PointList::new(Deltas { kind, items });
-    let mut shapes = List::new(alloc);
+    let mut shapes = Shapes::new(alloc);
     match draw_polygon(
         alloc,
         PAIR,
@@ -285,7 +286,7 @@ fn outline_of(alloc: Global, height: u16, x: i64, y: i64) -> Result<Vec<Point>, 
 // Whether the shape is the tower from this place in half units.
 fn is_tower(
     alloc: Global,
-    shape: &KeptShape,
+    shape: ShapeRef<'_>,
     height: u16,
     x: i64,
     y: i64,
@@ -300,15 +301,16 @@ fn are_towers(alloc: Global, height: u16) -> Result<bool, NoMemory> {
     let mut points = tower(alloc, height)?;
     let (here, there) = (Point { x: 1, y: 2 }, Point { x: -30, y: 7 });
     points.make_outline(alloc, here);
-    let mut shapes = List::new(alloc);
+    let mut shapes = Shapes::new(alloc);
     for at in [here, there] {
         if draw_polygon(alloc, PAIR, at, &points, None, &mut shapes).is_err() {
             return Ok(false);
         }
     }
-    let [first, second] = shapes.as_slice() else {
+    if shapes.len() != 2 {
         return Ok(false);
-    };
+    }
+    let (first, second) = (shapes.get(0), shapes.get(1));
     Ok(is_tower(alloc, first, height, 2, 4)? && is_tower(alloc, second, height, -60, 14)?)
 }
 
@@ -431,7 +433,7 @@ fn rule_of(drawn: Result<(), Undrawn>) -> u8 {
 }
 
 fn rule_of_figure(alloc: Global, figure: Figure, repetition: Option<&Repetition>) -> u8 {
-    let mut shapes = List::new(alloc);
+    let mut shapes = Shapes::new(alloc);
     rule_of(draw_figure(alloc, PAIR, ORIGIN, figure, repetition, &mut shapes))
 }
 
@@ -467,8 +469,8 @@ fn rule_of_path(alloc: Global, brush: Brush, ways: &[(i64, i64)]) -> u8 {
     let Ok(items) = moves(alloc, ways) else {
         return 255;
     };
-    let points = Deltas { kind: 4, items };
-    let mut shapes = List::new(alloc);
+    let points = PathList::new(Deltas { kind: 4, items });
+    let mut shapes = Shapes::new(alloc);
     rule_of(draw_path(alloc, PAIR, ORIGIN, brush, &points, None, &mut shapes))
 }
 
@@ -490,13 +492,13 @@ fn paths_by_their_lowest_rule(rt: HostRuntime) {
 #[test]
 fn a_path_with_its_ends(rt: HostRuntime) {
     let items = moves(rt.alloc(), &[(10, 0)]).expect(&rt, "a list");
-    let points = Deltas { kind: 2, items };
+    let points = PathList::new(Deltas { kind: 2, items });
     let brush = Brush {
         half_width: 2,
         start: 1,
         end: -3,
     };
-    let mut shapes = List::new(rt.alloc());
+    let mut shapes = Shapes::new(rt.alloc());
     let drawn = draw_path(rt.alloc(), PAIR, ORIGIN, brush, &points, None, &mut shapes);
     assert!(rt; drawn.is_ok());
     assert!(rt; is_one(&shapes, &[(-2, -4), (-2, 4), (14, 4), (14, -4), (-2, -4)]));

@@ -8,6 +8,7 @@ pub mod Opening
 pub mod FillLemmas
 pub mod Keeping
 pub mod Starting
+pub mod Buckets
 pub mod Crossing
 pub mod Stopping
 pub mod Transport

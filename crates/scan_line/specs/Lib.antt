@@ -13,6 +13,7 @@ pub mod Scans
 pub mod Turns
 pub mod Windings
 pub mod Starts
+pub mod Buckets
 pub mod OpenRuns
 pub mod OutlineStreams
 pub mod ClippedStreams

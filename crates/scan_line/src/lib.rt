@@ -3,6 +3,7 @@
 //! Numbers are half units.
 #![tactic(auto)]
 
+mod bucket_sort;
 mod clipped;
 mod edges_of;
 mod filling;

@@ -3,5 +3,5 @@ use Rattle.cell_tree.specs.Boxes.{IsHull}
 use Rattle.cell_tree.specs.HullTables.{AreInOrder, OwnVertex, hull_in}
 use Rattle.cell_tree.proofs.hulls.own_hulls.Given as goal
 
-abbrev pub invariant-loop-shape : goal.invariant-loop-shape
-invariant-loop-shape l = AreInOrder l.hulls.items × ((pair : Pair) → IsHull (OwnVertex l.shapes l.shape-index pair) (hull_in l.hulls.items pair))
+abbrev pub invariant-loop-number : goal.invariant-loop-number
+invariant-loop-number l = AreInOrder l.hulls.items × ((pair : Pair) → IsHull (OwnVertex l.shapes l.number pair) (hull_in l.hulls.items pair))

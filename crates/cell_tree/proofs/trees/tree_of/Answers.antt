@@ -3,7 +3,7 @@ use Rattle.std.proofs.lemmas.Int.{ints}
 use Rattle.cell_tree.proofs.ChainLemmas.{top_reachable}
 use Rattle.cell_tree.proofs.ReachLemmas.{near_below}
 use Rattle.cell_tree.specs.HullTables.{extent_in}
-use Rattle.cell_tree.proofs.TreeLemmas.{order_short, order_near, top_hulls, hulls_below, near_of, extent_is, extent_same}
+use Rattle.cell_tree.proofs.TreeLemmas.{order_short, order_near, top_hulls, hulls_below, only_below, near_of, extent_is, extent_same}
 use Rattle.cell_tree.proofs.trees.tree_of.Goals as goal
 
 pub hulls-requires-clause-short : goal.hulls-requires-clause-short
@@ -70,6 +70,9 @@ invariant_of-result c =
       hulls_below cells top order c.as_slice.result.now
           (map (λ list. list.items) c.in_ok-hulls.hulls.items) c.as_slice.ensures.value c.in_ok-ask_cycle.ensures.order
           c.in_ok-hulls.ensures.hulls,
+      only_below cells top order c.as_slice.result.now
+          (map (λ list. list.items) c.in_ok-hulls.hulls.items) c.as_slice.ensures.value c.in_ok-ask_cycle.ensures.order
+          c.in_ok-hulls.ensures.only,
       c.in_ok-shapes.ensures.count,
     )
 

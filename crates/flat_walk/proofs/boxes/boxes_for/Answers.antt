@@ -1,5 +1,6 @@
-use Rattle.std.proofs.Common.{◌≡◌, ◌∙◌, ap, sym, subst, arith, All, length, Some, slice_get, ◌++◌, ◌∷◌, []}
+use Rattle.std.proofs.Common.{◌≡◌, sym, subst, arith, length, Some, slice_get}
 use Rattle.layout_model.specs.Layouts.{IsShapeOnGrid}
+use Rattle.layout_model.specs.ShapeLists.{shape_in}
 use Rattle.flat_walk.specs.Boxes.{AreBoxed}
 use Rattle.flat_walk.proofs.RestLemmas.{slot_all}
 use Rattle.flat_walk.proofs.BoxLemmas.{boxed_none, boxed_more}
@@ -11,12 +12,12 @@ loop-boxes-init c = subst (AreBoxed c.args.shapes.now c.args.lists.now) (sym c.i
 pub loop-boxes-preserved : goal.loop-boxes-preserved
 loop-boxes-preserved c =
     let k : c.len-number.result ≡ length c.loop-boxes.boxes.items = omega (arith, c.len-number.ensures, c.loop-boxes.boxes.ok) in
-    let here = subst (λ k. slice_get c.args.shapes.now k ≡ Some c.shape_at.result.now) k c.shape_at.ensures in
+    let here = subst (λ k. slice_get c.args.shapes.now k ≡ Some (shape_in c.get.result)) k c.get.ensures in
     let there = subst (λ k. slice_get c.args.lists.now k ≡ Some c.pieces_at.result.now) k c.pieces_at.ensures in
     subst (AreBoxed c.args.shapes.now c.args.lists.now) (sym c.in_ok-push.ensures.items)
-    (boxed_more c.args.shapes.now c.args.lists.now c.loop-boxes.boxes.items c.shape_at.result.now
+    (boxed_more c.args.shapes.now c.args.lists.now c.loop-boxes.boxes.items (shape_in c.get.result)
     c.pieces_at.result.now c.box_of_shape-around.result c.loop-boxes.invariant here there
     c.box_of_shape-around.ensures)
 
 pub box_of_shape-around-requires : goal.box_of_shape-around-requires
-box_of_shape-around-requires c = slot_all IsShapeOnGrid c.args.shapes.now c.len-number.result c.shape_at.result.now c.requires c.shape_at.ensures
+box_of_shape-around-requires c = slot_all IsShapeOnGrid c.args.shapes.now c.len-number.result (shape_in c.get.result) c.requires c.get.ensures

@@ -6,7 +6,7 @@ use Rattle.flat_walk.proofs.boxes.shape_boxes.Given as goal
 
 -- the boxes of the cells before this one
 abbrev pub invariant-loop-alloc : goal.invariant-loop-alloc
-invariant-loop-alloc l = (n : ℕ) → AreBoxed (shapes_at l.cells n) (lists_at l.parts n) (boxes_at l.lists.items n)
+invariant-loop-alloc l = (n : ℕ) → AreBoxed (shapes_at l.tree.layout.cells n) (lists_at l.parts n) (boxes_at l.lists.items n)
 
 abbrev pub decreases-loop-alloc : goal.decreases-loop-alloc
-decreases-loop-alloc l = length l.cells - length l.lists.items
+decreases-loop-alloc l = l.count - length l.lists.items

@@ -1,4 +1,4 @@
-use Rattle.std.proofs.Common.{◌≡◌, Err, ap, sym, ◌∙◌, refl}
+use Rattle.std.proofs.Common.{◌≡◌, Err, ap}
 use Rattle.oas_shapes.specs.declared.drawing.Undrawn.TheVariants.{NoMemory as Wanting}
 use Rattle.oas_shapes.proofs.drawing.repeated.Goals as goal
 

@@ -1,4 +1,4 @@
-use Rattle.std.proofs.Common.{◌≡◌, ◌<◌, Err, ap, sym, ◌∙◌, refl, subst, arith}
+use Rattle.std.proofs.Common.{◌≡◌, Err, ap, subst, arith}
 use Rattle.oas_shapes.specs.declared.drawing.Undrawn.TheVariants.{NoMemory as Wanting}
 use Rattle.oas_shapes.specs.Rules.{AreNear}
 use Rattle.oas_shapes.proofs.NearLemmas.{offsets_near}

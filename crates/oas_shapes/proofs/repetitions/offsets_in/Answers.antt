@@ -1,6 +1,6 @@
 use Rattle.std.proofs.Common.{subst}
 use Rattle.std.specs.Prelude.{option_copied}
-use Rattle.oas_shapes.specs.Repetitions.{offsets_in, HasDimensionsIn}
+use Rattle.oas_shapes.specs.Repetitions.{offsets_in}
 use Rattle.oas_shapes.specs.Rules.{AreNear}
 use Rattle.oas_shapes.specs.Short.{IsShortIn}
 use Rattle.oas_shapes.proofs.repetitions.offsets_in.Goals as goal

@@ -1,5 +1,6 @@
 use Rattle.std.proofs.Common.{◌≡◌, ◌∙◌, sym, subst, true, false, not, ◌&&◌, nat_eq, Bool, refl, arith}
 use Rattle.layout_model.specs.declared.pair.Pair.{Pair}
+use Rattle.layout_model.specs.ShapeLists.{shape_in}
 use Rattle.flat_walk.specs.Walks.{is_on}
 use Rattle.flat_walk.proofs.BoxLemmas.{places_past}
 use Rattle.flat_walk.proofs.RestLemmas.{places_off}
@@ -11,11 +12,11 @@ not_true false h = refl
 
 pub returns-then-ne : goal.returns-then-ne
 returns-then-ne c = λ no pieces.
-    let off : is_on c.args.pair c.args.shape.now ≡ false =
+    let off : is_on c.args.pair (shape_in c.args.shape) ≡ false =
     subst (λ (p : Pair). (nat_eq p.layer c.args.pair.layer && nat_eq p.datatype c.args.pair.datatype) ≡ false) c.pair.ensures
     (not_true _ (sym c.ne.ensures ∙ c.if-ne.true)) in
-    places_off c.args.pair c.args.shape.now pieces c.args.self.now.place off
+    places_off c.args.pair (shape_in c.args.shape) pieces c.args.self.now.place off
 
 pub returns-then-count-self : goal.returns-then-count-self
 returns-then-count-self c = λ no pieces.
-    places_past c.args.pair c.args.shape.now pieces c.args.self.now.place (omega (arith, c.if-count-self.true, c.count.ensures))
+    places_past c.args.pair (shape_in c.args.shape) pieces c.args.self.now.place (omega (arith, c.if-count-self.true, c.count.ensures))

@@ -1,5 +1,6 @@
 use Rattle.std.proofs.Common.{◌∙◌, sym, ap, subst, arith, ◌+◌, ◌^◌, true, ◌≡◌, map, ◌++◌, ◌&&◌, nat_eq}
 use Rattle.layout_model.specs.Layouts.{IsMove, IsWithin}
+use Rattle.layout_model.specs.ShapeLists.{shape_in}
 use Rattle.layout_model.specs.Images.{image_of}
 use Rattle.layout_model.specs.declared.pair.Pair.{Pair}
 use Rattle.flat_walk.specs.Quads.{quad_image}
@@ -12,20 +13,20 @@ use Rattle.flat_walk.proofs.owned.Cursor.here.Goals as goal
 pub returns-clause-list : goal.returns-clause-list
 returns-clause-list c =
     let o = c.args.self.now.orient in
-    let on : is_on c.args.pair c.args.shape.now ≡ true =
+    let on : is_on c.args.pair (shape_in c.args.shape) ≡ true =
     subst (λ (p : Pair). (nat_eq p.layer c.args.pair.layer && nat_eq p.datatype c.args.pair.datatype) ≡ true) c.pair.ensures
     (not_false _ (sym c.ne.ensures ∙ c.if-ne.false)) in
-    places_on o c.args.self.now.at c.nth-by.result c.args.pair c.args.shape.now c.args.list.now c.args.self.now.place on c.nth-by.ensures
+    places_on o c.args.self.now.at c.nth-by.result c.args.pair (shape_in c.args.shape) c.args.list.now c.args.self.now.place on c.nth-by.ensures
     ∙ (ap (λ l. placed_list o (image_of o c.args.self.now.at c.nth-by.result) l ++ map
     (quad_image o c.args.self.now.at)
-    (places_rest c.args.pair c.args.shape.now c.args.list.now (c.args.self.now.place + 1)))
+    (places_rest c.args.pair (shape_in c.args.shape) c.args.list.now (c.args.self.now.place + 1)))
     (sym c.as_slice.ensures.value)
     ∙ ap (λ at. placed_list o at c.as_slice.result.now ++ map (quad_image o c.args.self.now.at)
-    (places_rest c.args.pair c.args.shape.now c.args.list.now (c.args.self.now.place + 1))) (sym c.image.ensures))
+    (places_rest c.args.pair (shape_in c.args.shape) c.args.list.now (c.args.self.now.place + 1))) (sym c.image.ensures))
 
 pub returns-clause-hand : goal.returns-clause-hand
 returns-clause-hand c =
-    let move = slot_all IsMove c.args.shape.now.offsets c.args.self.now.place c.nth-by.result c.requires.grid.offsets.moves c.nth-by.ensures in
+    let move = slot_all IsMove (shape_in c.args.shape).offsets c.args.self.now.place c.nth-by.result c.requires.grid.offsets.moves c.nth-by.ensures in
     record {
       orient = c.requires.orient;
       near = subst (IsWithin (2 ^ 60)) (sym c.image.ensures) (within_more (2 ^ 54 + 2 ^ 45) (2 ^ 60) _ (omega arith)

@@ -1,5 +1,4 @@
-use Rattle.std.proofs.Common.{◌≡◌, ◌∙◌, sym, subst, arith, All, ◌∷◌}
-use Rattle.std.proofs.lemmas.List.Elements.{All-head}
+use Rattle.std.proofs.Common.{◌∙◌, sym, subst, arith}
 use Rattle.flat_walk.proofs.BoxLemmas.{AreIn, box_corners}
 use Rattle.flat_walk.proofs.owned.Cursor.long_run.Goals as goal
 
@@ -11,13 +10,11 @@ rows_of-requires-clause-high c = (box_corners c.box_of_pieces.result c.box_of_pi
 
 pub returns : goal.returns
 returns c = record {
-  rest = c.in-Some._shapes.now;
-  pieces = c.in-Some-split_first.list.now;
-  later = c.in-Some-split_first._lists.now;
+  pieces = c.in-Some.list.now;
+  later = c.in-Some._lists.now;
   box = c.box_of_pieces.result;
-  shapes = c.in-Some.ensures.cases.0;
-  lists = c.in-Some-split_first.ensures.cases.0;
-  around = subst (AreIn c.box_of_pieces.result) (sym c.in-Some-split_first-2.ensures.cases.0 ∙ c.as_slice.ensures.value) c.box_of_pieces.ensures.around;
+  lists = c.in-Some.ensures.cases.0;
+  around = subst (AreIn c.box_of_pieces.result) (sym c.in-Some-split_first.ensures.cases.0 ∙ c.as_slice.ensures.value) c.box_of_pieces.ensures.around;
   between = c.rows_of.ensures.between;
   near = c.rows_of.ensures.near;
   inside = omega (arith, c.if-count-self.false, c.count-count.ensures);

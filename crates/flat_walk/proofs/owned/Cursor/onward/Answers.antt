@@ -2,6 +2,7 @@ use Rattle.std.proofs.Common.{◌≡◌, false, arith, subst}
 use Rattle.std.proofs.lemmas.Option.{slice_get_within}
 use Rattle.layout_model.specs.Layouts.{IsMove}
 use Rattle.layout_model.specs.Images.{image_of}
+use Rattle.layout_model.specs.ShapeLists.{shape_in}
 use Rattle.flat_walk.specs.Rises.{meets_at}
 use Rattle.flat_walk.proofs.RestLemmas.{slot_all}
 use Rattle.flat_walk.proofs.BoxLemmas.{moved_by_none}
@@ -12,18 +13,18 @@ places_in-wanted-requires-clause-rows c = let r = c.requires.rows in record { lo
 
 pub returns-in-Some-clause-inside : goal.returns-in-Some-clause-inside
 returns-in-Some-clause-inside c = let h =
-    slice_get_within c.args.shape.now.offsets c.in-Some.place c.in-Some.ensures.place c.in-Some.ensures.here in omega
+    slice_get_within (shape_in c.args.shape).offsets c.in-Some.place c.in-Some.ensures.place c.in-Some.ensures.here in omega
     (arith, h)
 
 pub returns-in-Some-clause-none : goal.returns-in-Some-clause-none
 returns-in-Some-clause-none c = λ k by after before here.
-    let near = (slot_all IsMove c.args.shape.now.offsets k by c.requires.grid.offsets.moves here).near in
+    let near = (slot_all IsMove (shape_in c.args.shape).offsets k by c.requires.grid.offsets.moves here).near in
     subst (λ p. meets_at c.args.window c.args.rows (image_of c.args.self.now.orient c.args.self.now.at p).y ≡ false)
     (moved_by_none by) (c.places_in-wanted.ensures by near (c.in-Some.ensures.none k by after before here))
 
 pub returns-in-None-clause-none : goal.returns-in-None-clause-none
 returns-in-None-clause-none c = λ k by after before here.
-    let near = (slot_all IsMove c.args.shape.now.offsets k by c.requires.grid.offsets.moves here).near in
+    let near = (slot_all IsMove (shape_in c.args.shape).offsets k by c.requires.grid.offsets.moves here).near in
     let count = c.count-count.ensures in
     subst (λ p. meets_at c.args.window c.args.rows (image_of c.args.self.now.orient c.args.self.now.at p).y ≡ false)
     (moved_by_none by) (c.places_in-wanted.ensures by near

@@ -1,6 +1,0 @@
-use Rattle.std.proofs.Common.{◌∙◌}
-use Rattle.flat_walk.proofs.ReadLemmas.{shapes_read}
-use Rattle.flat_walk.proofs.boxes.shapes_of.Goals as goal
-
-pub returns : goal.returns
-returns c = c.as_slice.ensures ∙ shapes_read c.args.cells.now c.args.cell c.index-cells-cell.result c.requires

@@ -1,0 +1,330 @@
+//! The shapes of a cell.
+ghost use Rattle.std.specs.Prelude.{◌≡◌, ◌≢◌, ◌<◌, ◌≤◌, ◌++◌, ℕ, [], ◌∷◌, All, length, map, drop, slice_get, Some, IfOk, IfSome, IsSome, OnOk, MatchOption};
+ghost use Rattle.half_grid.specs.Reach.{IsPointWithinReach};
+ghost use Rattle.layout_model.specs.Hulls.{IsLeastBoxOf};
+ghost use Rattle.layout_model.specs.Images.{moved as point_after};
+ghost use Rattle.layout_model.specs.Intervals.{HasNoneIn, IsFirstIn};
+ghost use Rattle.layout_model.specs.Kept.{points_in, shape_with};
+ghost use Rattle.layout_model.specs.ShapeLists.{shape_in, ring_of, shapes_of, AreRuns, IsRank};
+
+use crate::boxes::box_of;
+use crate::intervals::Interval;
+use crate::kept::{Corners, KeptShape, Outline};
+use crate::offsets::Offsets;
+use crate::pair::Pair;
+use crate::points::moved;
+use crate::shared_rectangles::SharedRectangles;
+use geo_stream::{List, NoMemory};
+use half_grid::{Frame, Point};
+use std::alloc::Global;
+use std::marker::Model;
+use std::rc::Rc;
+
+// Shared rectangles that are moved so, each a shape.
+#[derive(Debug, Drop)]
+struct Run {
+    rectangles: Rc<Vec<Corners>>,
+    by: Point,
+    pair: Pair,
+    offsets: Offsets,
+    is_fixed: bool,
+    // How many of the shapes that are kept by themselves stand before it.
+    after: usize,
+    // How many shapes stand before it.
+    before: usize,
+}
+
+/// The shapes of a cell, in order. Contracts see the list.
+///
+/// A shape that is pushed takes 64 bytes, and what it has boxed. Shared rectangles that are pushed moved take 88 bytes and
+/// constant time, however many they are, and what their offsets have boxed. Where none were, reading a shape is an access to
+/// a slice; else it is a bisection of as many runs as there are calls of `push_moved`.
+#[derive(Debug, Drop)]
+pub struct Shapes {
+    // Those that are kept by themselves.
+    own: List<KeptShape>,
+    runs: List<Run>,
+    count: usize,
+}
+
+impl Model for Shapes {
+    ghost use Rattle.std.specs.Prelude.{List};
+    ghost use Rattle.layout_model.specs.declared.shapes.Shape.{Shape as AShape};
+    ghost use Rattle.layout_model.specs.ShapeLists.{shapes_of, AreShapes};
+
+    ghost Value = { List AShape };
+
+    ghost view = { λ shapes. shapes_of shapes.own shapes.runs };
+
+    ghost invariant = { λ shapes. AreShapes shapes.own shapes.runs shapes.count };
+}
+
+// A shape that is kept by itself, or one of a run, by its corners where they were moved.
+#[derive(Clone, Copy)]
+enum Named<'t> {
+    Kept(&'t KeptShape),
+    Moved(Corners, &'t Run),
+}
+
+/// One of a cell's shapes: what it is, `shape_in` says.
+#[derive(Clone, Copy)]
+pub struct ShapeRef<'t> {
+    named: Named<'t>,
+}
+
+// A rectangle moved.
+#[inline(always)]
+fn moved_corners(corners: &Corners, by: Point) -> Corners
+    requires { All IsPointWithinReach (map (point_after by) (ring_of corners.now)) }
+    ensures { ring_of result ≡ map (point_after by) (ring_of corners.now) }
+{
+    Corners {
+        first: moved(&corners.first, by),
+        opposite: moved(&corners.opposite, by),
+        is_upright: corners.is_upright,
+    }
+}
+
+// One of the rectangles of a run, as its shape.
+#[inline(always)]
+fn shape_of_run<'t>(corners: &Corners, run: &'t Run) -> ShapeRef<'t>
+    requires { All IsPointWithinReach (map (point_after run.now.by) (ring_of corners.now)) }
+    ensures { shape_in result ≡ shape_with run.now.pair (map (point_after run.now.by) (ring_of corners.now)) run.now.offsets run.now.is_fixed }
+{
+    ShapeRef {
+        named: Named::Moved(moved_corners(corners, run.by), run),
+    }
+}
+
+// One of the own shapes.
+#[inline(always)]
+fn own_shape(own: &[KeptShape], k: usize) -> ShapeRef<'_>
+    requires { k < length own.now }
+    ensures { slice_get own.now k ≡ Some (shape_in result) }
+{
+    own[k].by_ref()
+}
+
+// One of the own shapes from number `after` on.
+fn own_after(own: &[KeptShape], after: usize, k: usize) -> ShapeRef<'_>
+    requires after { after ≤ length own.now }
+    requires inside { k < length (drop after own.now) }
+    ensures { slice_get (drop after own.now) k ≡ Some (shape_in result) }
+{
+    own_shape(&own[after..], k)
+}
+
+// How many of the runs have at most `k` shapes before them.
+fn rank(runs: &[Run], k: usize) -> usize
+    ensures { IsRank runs.now k result }
+{
+    let mut low = 0;
+    let mut high = runs.len();
+    while low < high {
+        let middle = low + (high - low) / 2;
+        if runs[middle].before <= k {
+            low = middle + 1;
+        } else {
+            high = middle;
+        }
+    }
+    low
+}
+
+// Shape `k` where there are runs.
+fn shape_among<'t>(own: &'t [KeptShape], runs: &'t [Run], k: usize) -> ShapeRef<'t>
+    requires runs { AreRuns (length own.now) 0 0 runs.now }
+    requires inside { k < length (shapes_of own.now runs.now) }
+    ensures { slice_get (shapes_of own.now runs.now) k ≡ Some (shape_in result) }
+{
+    let rank = rank(runs, k);
+    if rank == 0 {
+        return own_shape(own, k);
+    }
+    let run = &runs[rank - 1];
+    let rectangles = run.rectangles.as_slice();
+    let j = k - run.before;
+    if j < rectangles.len() {
+        return shape_of_run(&rectangles[j], run);
+    }
+    own_after(own, run.after, j - rectangles.len())
+}
+
+impl Shapes {
+    /// No shapes.
+    pub fn new(alloc: Global) -> Shapes
+        ensures { result ≡ [] }
+    {
+        Shapes {
+            own: List::new(alloc),
+            runs: List::new(alloc),
+            count: 0,
+        }
+    }
+
+    /// Puts a shape last.
+    #[inline(always)]
+    pub fn push(&mut self, shape: KeptShape) -> Result<(), NoMemory>
+        ensures { OnOk result (self.new ≡ self.old ++ shape ∷ []) }
+    {
+        let Some(count) = self.count.checked_add(1) else {
+            return Err(NoMemory);
+        };
+        self.own.push(shape)?;
+        self.count = count;
+        Ok(())
+    }
+
+    /// Puts rectangles last, each as a shape that is moved so, on the pair, at the offsets. It takes constant time and memory.
+    pub fn push_moved(
+        &mut self,
+        rectangles: &SharedRectangles,
+        by: Point,
+        pair: Pair,
+        offsets: Offsets,
+        fixed: bool,
+    ) -> Result<(), NoMemory>
+        requires near { All (λ ring. All IsPointWithinReach (map (point_after by) ring)) rectangles.now }
+        ensures { OnOk result (self.new ≡ self.old ++ map (λ ring. shape_with pair (map (point_after by) ring) offsets fixed) rectangles.now) }
+    {
+        let Some(count) = self.count.checked_add(rectangles.kept.len()) else {
+            return Err(NoMemory);
+        };
+        let run = Run {
+            rectangles: rectangles.kept.clone()?,
+            by,
+            pair,
+            offsets,
+            is_fixed: fixed,
+            after: self.own.as_slice().len(),
+            before: self.count,
+        };
+        self.runs.push(run)?;
+        self.count = count;
+        Ok(())
+    }
+
+    /// How many shapes there are.
+    #[inline(always)]
+    pub fn len(&self) -> usize
+        ensures { result ≡ length self.now }
+    {
+        self.count
+    }
+
+    /// Shape `k`, counted from 0, in constant time, or in the logarithm of how often point lists of paths are used again.
+    #[inline(always)]
+    pub fn get(&self, k: usize) -> ShapeRef<'_>
+        requires inside { k < length self.now }
+        ensures { slice_get self.now k ≡ Some (shape_in result) }
+    {
+        let own = self.own.as_slice();
+        let runs = self.runs.as_slice();
+        if runs.is_empty() {
+            return own_shape(own, k);
+        }
+        shape_among(own, runs, k)
+    }
+}
+
+impl<'t> ShapeRef<'t> {
+    /// Its layer and datatype.
+    #[inline(always)]
+    pub fn pair(&self) -> Pair
+        ensures { result ≡ (shape_in self.now).pair }
+    {
+        match self.named {
+            Named::Kept(shape) => shape.pair(),
+            Named::Moved(_, run) => run.pair,
+        }
+    }
+
+    /// Whether it may not be enlarged.
+    pub fn is_fixed(&self) -> bool
+        ensures { result ≡ (shape_in self.now).fixed }
+    {
+        match self.named {
+            Named::Kept(shape) => shape.is_fixed(),
+            Named::Moved(_, run) => run.is_fixed,
+        }
+    }
+
+    /// Its outline; the last point is the first.
+    #[inline(always)]
+    pub fn outline(&self) -> Outline<'t>
+        ensures { points_in result ≡ (shape_in self.now).points }
+    {
+        match self.named {
+            Named::Kept(shape) => shape.outline(),
+            Named::Moved(corners, _) => Outline::Ring(corners.ring()),
+        }
+    }
+
+    /// The least box of its outline, which isn't empty.
+    pub fn hull(&self) -> Frame
+        requires { (shape_in self.now).points ≢ [] }
+        ensures { IsLeastBoxOf (shape_in self.now).points result }
+    {
+        match self.named {
+            Named::Kept(shape) => shape.hull(),
+            Named::Moved(corners, _) => box_of(&corners.ring()),
+        }
+    }
+
+    /// How many places there are at which it is.
+    #[inline(always)]
+    pub fn count(&self) -> u64
+        ensures { result ≡ length (shape_in self.now).offsets }
+    {
+        match self.named {
+            Named::Kept(shape) => shape.count(),
+            Named::Moved(_, run) => run.offsets.count(),
+        }
+    }
+
+    /// Place `k`, counted from 0.
+    #[inline(always)]
+    pub fn nth(&self, k: u64) -> Point
+        requires { k < length (shape_in self.now).offsets }
+        ensures { slice_get (shape_in self.now).offsets k ≡ Some result }
+    {
+        match self.named {
+            Named::Kept(shape) => shape.nth(k),
+            Named::Moved(_, run) => run.offsets.nth(k),
+        }
+    }
+
+    /// The least box of its places, of which there is one at least.
+    pub fn spread(&self) -> Frame
+        requires { (shape_in self.now).offsets ≢ [] }
+        ensures { IsLeastBoxOf (shape_in self.now).offsets result }
+    {
+        match self.named {
+            Named::Kept(shape) => shape.spread(),
+            Named::Moved(_, run) => run.offsets.hull(),
+        }
+    }
+
+    /// The number of the first place in an interval of an axis, from number `from` on, if there is one, as `Offsets::first_in`
+    /// finds it.
+    pub fn first_in(&self, interval: Interval, from: u64) -> Option<u64>
+        ensures { MatchOption result (HasNoneIn interval (shape_in self.now).offsets from (length (shape_in self.now).offsets)) (IsFirstIn interval (shape_in self.now).offsets from) }
+    {
+        match self.named {
+            Named::Kept(shape) => shape.first_in(interval, from),
+            Named::Moved(_, run) => run.offsets.first_in(interval, from),
+        }
+    }
+}
+
+impl KeptShape {
+    /// The shape as one of a cell's.
+    #[inline(always)]
+    pub fn by_ref(&self) -> ShapeRef<'_>
+        ensures { shape_in result ≡ self.now }
+    {
+        ShapeRef {
+            named: Named::Kept(self),
+        }
+    }
+}
