@@ -18,6 +18,7 @@ mod PointLemmas
 mod StrideLemmas
 mod RulerLemmas
 mod PairLemmas
+mod SegmentListLemmas
 pub mod MovedPaths
 mod TurnLemmas
 mod ShapeListLemmas

@@ -48,7 +48,7 @@ module _ (P : Point → Type 0) where
       All-cons (λ (edge : Point × Point). P edge.0 × P edge.1) (a, b) (edges_of (b ∷ points))
       (All-head P a (b ∷ points) all, All-head P b points rest) (all_edges (b ∷ points) rest)
 
-  all_segments : (points : List Point) → All P points → All (λ (edge : Point × Point). P edge.0 × P edge.1) (segments_of points)
+  pub all_segments : (points : List Point) → All P points → All (λ (edge : Point × Point). P edge.0 × P edge.1) (segments_of points)
   all_segments [] all = All-nil (λ (edge : Point × Point). P edge.0 × P edge.1)
   all_segments (a ∷ points) all =
       let first = All-head P a points all in
@@ -62,7 +62,7 @@ near_stretch : (half before after : ℤ) (edge : Point × Point) → IsNear half
     → IsNearEdge edge → IsNearStretch (stretch half before after edge)
 near_stretch half before after edge h b a e = record { from = e.0; to = e.1; half = h; before = b; after = a }
 
-near_extended : (half before end : ℤ) (segments : List (Point × Point)) → IsNear half → IsNear before → IsNear end
+pub near_extended : (half before end : ℤ) (segments : List (Point × Point)) → IsNear half → IsNear before → IsNear end
     → All IsNearEdge segments → All IsNearStretch (extended half before end segments)
 near_extended half before end [] h b e all = All-nil IsNearStretch
 near_extended half before end (s ∷ []) h b e all =

@@ -1,37 +1,22 @@
 -- Runs of shapes among others: what is put last, and which shape has a number.
-use Rattle.std.proofs.Common.{◌≡◌, ◌≤◌, ◌<◌, ◌+◌, ◌-◌, ℕ, pos, zero, suc, List, [], ◌∷◌, ◌++◌, All, Bool, true, false, map, length, take, drop}
+use Rattle.std.proofs.Common.{◌≡◌, ◌≤◌, ◌<◌, ◌+◌, ◌-◌, ℕ, zero, suc, List, [], ◌∷◌, ◌++◌, length, take, drop}
 use Rattle.std.proofs.Common.{refl, sym, ap, subst, ◌∙◌, append_assoc, length-append, length-drop, arith, ◌⊎◌, inl, inr, Some, slice_get}
 use Rattle.std.proofs.lemmas.List.{length-map, drop-append-le, take-append-le, take_all, drop_all, length-take-le}
-use Rattle.std.specs.Option.{option_map}
-use Rattle.std.proofs.lemmas.Option.{slice_get_cases, slice_get_within, slice_get-map, get_or_from_slice_get}
+use Rattle.std.proofs.lemmas.Option.{slice_get_cases, slice_get_within}
 use Rattle.std.proofs.lemmas.Grind.{common_steps}
-use Rattle.half_grid.specs.Reach.{IsPointWithinReach}
-use Rattle.half_grid.specs.declared.plane.Point.{Point}
-use Rattle.layout_model.specs.Images.{moved}
+use Rattle.layout_model.specs.PathBounds.{IsNearBrush}
+use Rattle.layout_model.specs.Segments.{segments_in, AreNearAfter}
 use Rattle.layout_model.specs.declared.shapes.Shape.{Shape}
-use Rattle.layout_model.specs.declared.kept.Corners.{Corners}
 use Rattle.layout_model.specs.declared.shape_lists.Run.{Run}
-use Rattle.layout_model.specs.Kept.{ring_between, shape_with}
-use Rattle.layout_model.specs.ShapeLists.{ring_of, rings_of, shapes_of_run, shapes_from, shapes_of, IsRun, AreRuns, IsRank, AreShapes}
-
--- the outline of moved corners is the moved outline
-pub ring_moved : (a c : Point) (is_upright : Bool) (by : Point)
-    → ring_between (moved by a) (moved by c) is_upright ≡ map (moved by) (ring_between a c is_upright)
-ring_moved a c true by = refl
-ring_moved a c false by = refl
-
--- the opposite corner is the third point of the outline
-pub opposite_in_ring : (P : Point → Type 0) (a c : Point) (is_upright : Bool) (by : Point)
-    → All P (map (moved by) (ring_between a c is_upright)) → P (moved by c)
-opposite_in_ring P a c true by all = all 2 a (omega arith)
-opposite_in_ring P a c false by all = all 2 a (omega arith)
+use Rattle.layout_model.specs.ShapeLists.{shapes_of_run, shapes_from, shapes_of, IsRun, AreRuns, IsRank, AreShapes}
+use Rattle.layout_model.proofs.SegmentListLemmas.{drawn_length}
 
 -- more own shapes
 pub runs_among_more : (many more taken before : ℕ) (runs : List Run) → many ≤ more → AreRuns many taken before runs → AreRuns more taken before runs
 runs_among_more many more taken before [] h few = omega arith
 runs_among_more many more taken before (run ∷ runs) h (is, rest) = (
-  record { ascends = is.ascends; within = omega (arith, is.within); place = is.place; near = is.near },
-  runs_among_more many more run.after (run.before + length run.rectangles.value.items) runs h rest,
+  record { ascends = is.ascends; within = omega (arith, is.within); place = is.place; near = is.near; brush = is.brush },
+  runs_among_more many more run.after (run.before + length run.path.value.items) runs h rest,
 )
 
 -- an own shape put last is the last of all
@@ -43,7 +28,7 @@ own_pushed own shape taken before (run ∷ runs) (is, rest) =
     let left : run.after - taken ≤ length (drop taken own) = omega (arith, is.within, length-drop taken own) in
     rw (drop-append-le taken own (shape ∷ []) few)
     (rw (take-append-le (run.after - taken) (drop taken own) (shape ∷ []) left)
-    (rw (own_pushed own shape run.after (run.before + length run.rectangles.value.items) runs rest) (simp append_assoc)))
+    (rw (own_pushed own shape run.after (run.before + length run.path.value.items) runs rest) (simp append_assoc)))
 
 run_alone : (own : List Shape) (run : Run) (taken : ℕ) → run.after ≡ length own → taken ≤ length own
     → shapes_from own taken (run ∷ []) ≡ drop taken own ++ shapes_of_run run
@@ -58,11 +43,11 @@ pub run_pushed : (own : List Shape) (run : Run) (taken before : ℕ) (runs : Lis
     → shapes_from own taken (runs ++ run ∷ []) ≡ shapes_from own taken runs ++ shapes_of_run run
 run_pushed own run taken before [] few last = run_alone own run taken last few
 run_pushed own run taken before (next ∷ runs) (is, rest) last =
-    rw (run_pushed own run next.after (next.before + length next.rectangles.value.items) runs rest last) (simp append_assoc)
+    rw (run_pushed own run next.after (next.before + length next.path.value.items) runs rest last) (simp append_assoc)
 
--- a run has as many shapes as rectangles
-pub run_length : (run : Run) → length (shapes_of_run run) ≡ length run.rectangles.value.items
-run_length run = length-map _ _ ∙ length-map _ _
+-- a run has as many shapes as its path has segments
+pub run_length : (run : Run) → length (shapes_of_run run) ≡ length run.path.value.items
+run_length run = drawn_length run.pair run.offsets run.is_fixed _ run.brush.half run.brush.begin run.brush.end ∙ length-map _ _ ∙ length-map _ _
 
 taken_length : (own : List Shape) (taken after : ℕ) → taken ≤ after → after ≤ length own → length (take (after - taken) (drop taken own)) + taken ≡ after
 taken_length own taken after h k =
@@ -71,7 +56,7 @@ taken_length own taken after h k =
 
 -- how many shapes there are with a first run
 length_with_run : (own : List Shape) (run : Run) (taken before : ℕ) (runs : List Run) → IsRun (length own) taken before run
-    → length (shapes_from own taken (run ∷ runs)) + taken ≡ run.after + (length run.rectangles.value.items + length (shapes_from own run.after runs))
+    → length (shapes_from own taken (run ∷ runs)) + taken ≡ run.after + (length run.path.value.items + length (shapes_from own run.after runs))
 length_with_run own run taken before runs is =
     rw (length-append (take (run.after - taken) (drop taken own)) (shapes_of_run run ++ shapes_from own run.after runs))
     (rw (length-append (shapes_of_run run) (shapes_from own run.after runs), run_length run)
@@ -80,38 +65,32 @@ length_with_run own run taken before runs is =
 -- a run that stands after all is in its place
 pub runs_pushed : (own : List Shape) (run : Run) (taken before : ℕ) (runs : List Run) → AreRuns (length own) taken before runs → run.after ≡ length own
     → run.before ≡ before + length (shapes_from own taken runs)
-    → All (λ ring. All IsPointWithinReach (map (moved run.by) ring)) (rings_of run.rectangles.value.items)
+    → AreNearAfter run.by (segments_in run.path.value.items) → IsNearBrush run.brush
     → AreRuns (length own) taken before (runs ++ run ∷ [])
-runs_pushed own run taken before [] few last place near = (
-  record { ascends = omega arith; within = omega arith; place = omega (arith, length-drop taken own); near = near },
+runs_pushed own run taken before [] few last place near brush = (
+  record { ascends = omega arith; within = omega arith; place = omega (arith, length-drop taken own); near = near; brush = brush },
   omega arith,
 )
-runs_pushed own run taken before (next ∷ runs) (is, rest) last place near = (
+runs_pushed own run taken before (next ∷ runs) (is, rest) last place near brush = (
   is,
-  runs_pushed own run next.after (next.before + length next.rectangles.value.items) runs rest last
-      (omega (arith, is.place, place, length_with_run own next taken before runs is)) near,
+  runs_pushed own run next.after (next.before + length next.path.value.items) runs rest last
+      (omega (arith, is.place, place, length_with_run own next taken before runs is)) near brush,
 )
 
-pub run_keeps : (own : List Shape) (runs : List Run) (count new : ℕ) (run : Run) (rectangles : List Corners) → AreShapes own runs count
-    → run.after ≡ length own → run.before ≡ count → run.rectangles.value.items ≡ rectangles → new ≡ count + length rectangles
-    → All (λ ring. All IsPointWithinReach (map (moved run.by) ring)) (rings_of rectangles) → AreShapes own (runs ++ run ∷ []) new
-run_keeps own runs count new run rectangles sound after before same total near =
+pub run_keeps : (own : List Shape) (runs : List Run) (count new : ℕ) (run : Run) → AreShapes own runs count
+    → run.after ≡ length own → run.before ≡ count → new ≡ count + length run.path.value.items
+    → AreNearAfter run.by (segments_in run.path.value.items) → IsNearBrush run.brush → AreShapes own (runs ++ run ∷ []) new
+run_keeps own runs count new run sound after before total near brush =
     let all = ap length (run_pushed own run 0 0 runs sound.order after) in
     let sum = length-append (shapes_of own runs) (shapes_of_run run) in
-    let long : length run.rectangles.value.items ≡ length rectangles = ap length same in
     record {
-      order = runs_pushed own run 0 0 runs sound.order after (omega (arith, before, sound.total))
-          (subst (λ l. All (λ ring. All IsPointWithinReach (map (moved run.by) ring)) (rings_of l)) (sym same) near);
-      total = omega (arith, all, sum, long, run_length run, sound.total, total);
+      order = runs_pushed own run 0 0 runs sound.order after (omega (arith, before, sound.total)) near brush;
+      total = omega (arith, all, sum, run_length run, sound.total, total);
     }
 
-pub run_shows : (own : List Shape) (runs : List Run) (count : ℕ) (run : Run) (rectangles : List Corners) → AreShapes own runs count
-    → run.after ≡ length own → run.rectangles.value.items ≡ rectangles
-    → shapes_of own (runs ++ run ∷ [])
-    ≡ shapes_of own runs ++ map (λ ring. shape_with run.pair (map (moved run.by) ring) run.offsets run.is_fixed) (rings_of rectangles)
-run_shows own runs count run rectangles sound after same =
-    run_pushed own run 0 0 runs sound.order after
-    ∙ ap (λ l. shapes_of own runs ++ map (λ ring. shape_with run.pair (map (moved run.by) ring) run.offsets run.is_fixed) (rings_of l)) same
+pub run_shows : (own : List Shape) (runs : List Run) (count : ℕ) (run : Run) → AreShapes own runs count → run.after ≡ length own
+    → shapes_of own (runs ++ run ∷ []) ≡ shapes_of own runs ++ shapes_of_run run
+run_shows own runs count run sound after = run_pushed own run 0 0 runs sound.order after
 
 -- no run has fewer shapes before it than the first of all
 pub none_earlier : (many taken before : ℕ) (runs : List Run) (j : ℕ) (run : Run) → AreRuns many taken before runs
@@ -121,7 +100,7 @@ none_earlier many taken before (first ∷ runs) zero run (is, rest) at =
     let same : first ≡ run = cc in
     let e : first.before ≡ run.before = ap (λ (r : Run). r.before) same in omega (arith, is.place, is.ascends, e)
 none_earlier many taken before (first ∷ runs) (suc j) run (is, rest) at =
-    omega (arith, is.place, is.ascends, none_earlier many first.after (first.before + length first.rectangles.value.items) runs j run rest at)
+    omega (arith, is.place, is.ascends, none_earlier many first.after (first.before + length first.path.value.items) runs j run rest at)
 
 -- the item with a number: in what is dropped or taken, and in the first or the second of two lists
 get_dropped : {A : Type 0} (n : ℕ) (l : List A) (i : ℕ) → slice_get (drop n l) i ≡ slice_get l (n + i)
@@ -177,7 +156,7 @@ less_or_not (suc a) zero = inr (omega arith)
 less_or_not (suc a) (suc b) = elim (less_or_not a b) as (λ _. (suc a < suc b) ⊎ (suc b ≤ suc a)) [ inl h ↦ inl (omega arith) | inr h ↦ inr (omega arith) ]
 
 -- from a run on up to the next
-up_to_next : (own : List Shape) (run : Run) (runs : List Run) (j : ℕ) → AreRuns (length own) run.after (run.before + length run.rectangles.value.items) runs
+up_to_next : (own : List Shape) (run : Run) (runs : List Run) (j : ℕ) → AreRuns (length own) run.after (run.before + length run.path.value.items) runs
     → ((next : Run) → slice_get runs 0 ≡ Some next → run.before + j < next.before)
     → slice_get (shapes_of_run run ++ shapes_from own run.after runs) j ≡ slice_get (shapes_of_run run ++ drop run.after own) j
 up_to_next own run runs j rest next =
@@ -189,7 +168,7 @@ up_to_next own run runs j rest next =
           let i : ℕ = j - length (shapes_of_run run) in
           let e : j ≡ length (shapes_of_run run) + i = omega arith in
           get_right (shapes_of_run run) (shapes_from own run.after runs) i j e
-          ∙ before_first own run.after (run.before + length run.rectangles.value.items) runs i rest (λ r at. omega (arith, long, next r at))
+          ∙ before_first own run.after (run.before + length run.path.value.items) runs i rest (λ r at. omega (arith, long, next r at))
           ∙ sym (get_dropped run.after own i) ∙ sym (get_right (shapes_of_run run) (drop run.after own) i j e))
     ]
 
@@ -206,16 +185,16 @@ at_run own taken before (first ∷ runs) zero run k j (is, rest) at next e =
     ∙ up_to_next own first runs j rest (λ r there. omega (arith, next r there))
     ∙ ap (λ (r : Run). slice_get (shapes_of_run r ++ drop r.after own) j) same
 at_run own taken before (first ∷ runs) (suc p) run k j (is, rest) at next e =
-    let late = none_earlier (length own) first.after (first.before + length first.rectangles.value.items) runs p run rest at in
+    let late = none_earlier (length own) first.after (first.before + length first.path.value.items) runs p run rest at in
     let i : ℕ = before + k - first.before in
     let place : before + k ≡ first.before + i = omega (arith, late) in
-    let n : ℕ = i - length first.rectangles.value.items in
+    let n : ℕ = i - length first.path.value.items in
     let long = run_length first in
     let more : i ≡ length (shapes_of_run first) + n = omega (arith, late, long) in
-    let total : first.before + length first.rectangles.value.items + n ≡ before + k = omega (arith, long) in
+    let total : first.before + length first.path.value.items + n ≡ before + k = omega (arith, long) in
     from_run own taken before first runs k i is place
     ∙ get_right (shapes_of_run first) (shapes_from own first.after runs) n i more
-    ∙ at_run own first.after (first.before + length first.rectangles.value.items) runs p run n j rest at
+    ∙ at_run own first.after (first.before + length first.path.value.items) runs p run n j rest at
     (λ r there. omega (arith, total, next r there)) (omega (arith, total, e))
 
 -- a shape by a rank above 0
@@ -233,19 +212,14 @@ by_no_rank own runs k all is =
     before_first own 0 0 runs k all (λ run at. (let less : k < run.before = is.next run at in omega arith)) ∙ ap (slice_get own) (omega arith)
 
 -- a shape of a run, and one after it
-pub in_run : (own : List Shape) (run : Run) (j : ℕ) (corners : Corners) → slice_get run.rectangles.value.items j ≡ Some corners
-    → slice_get (shapes_of_run run ++ drop run.after own) j ≡ Some (shape_with run.pair (map (moved run.by) (ring_of corners)) run.offsets run.is_fixed)
-in_run own run j corners at =
-    let less : j < length (shapes_of_run run) = omega (arith, run_length run, slice_get_within run.rectangles.value.items j corners at) in
-    get_left (shapes_of_run run) (drop run.after own) j less
-    ∙ slice_get-map (λ ring. shape_with run.pair (map (moved run.by) ring) run.offsets run.is_fixed) (rings_of run.rectangles.value.items) j
-    ∙ ap (option_map (λ ring. shape_with run.pair (map (moved run.by) ring) run.offsets run.is_fixed))
-    (slice_get-map ring_of run.rectangles.value.items j ∙ ap (option_map ring_of) at)
+pub in_run : (own : List Shape) (run : Run) (j : ℕ) → j < length run.path.value.items
+    → slice_get (shapes_of_run run ++ drop run.after own) j ≡ slice_get (shapes_of_run run) j
+in_run own run j less = get_left (shapes_of_run run) (drop run.after own) j (omega (arith, run_length run))
 
-pub after_run : (own : List Shape) (run : Run) (j : ℕ) → length run.rectangles.value.items ≤ j
-    → slice_get (shapes_of_run run ++ drop run.after own) j ≡ slice_get (drop run.after own) (j - length run.rectangles.value.items)
+pub after_run : (own : List Shape) (run : Run) (j : ℕ) → length run.path.value.items ≤ j
+    → slice_get (shapes_of_run run ++ drop run.after own) j ≡ slice_get (drop run.after own) (j - length run.path.value.items)
 after_run own run j past =
-    get_right (shapes_of_run run) (drop run.after own) (j - length run.rectangles.value.items) j (omega (arith, run_length run))
+    get_right (shapes_of_run run) (drop run.after own) (j - length run.path.value.items) j (omega (arith, run_length run))
 
 -- a run stands after no more own shapes than there are
 pub run_within : (many taken before : ℕ) (runs : List Run) (p : ℕ) (run : Run) → AreRuns many taken before runs → slice_get runs p ≡ Some run → run.after ≤ many
@@ -253,32 +227,19 @@ run_within many taken before [] p run all at = absurd (omega (arith, slice_get_w
 run_within many taken before (first ∷ runs) zero run (is, rest) at =
     let same : first ≡ run = cc in omega (arith, is.within, ap (λ (r : Run). r.after) same)
 run_within many taken before (first ∷ runs) (suc p) run (is, rest) at =
-    run_within many first.after (first.before + length first.rectangles.value.items) runs p run rest at
+    run_within many first.after (first.before + length first.path.value.items) runs p run rest at
 
--- the rectangles of a run are within reach where they are moved
-run_near : (many taken before : ℕ) (runs : List Run) (p : ℕ) (run : Run) → AreRuns many taken before runs → slice_get runs p ≡ Some run
-    → All (λ ring. All IsPointWithinReach (map (moved run.by) ring)) (rings_of run.rectangles.value.items)
+-- a run's path is near 0 where it is moved, and so are its lengths
+pub run_near : (many taken before : ℕ) (runs : List Run) (p : ℕ) (run : Run) → AreRuns many taken before runs → slice_get runs p ≡ Some run
+    → AreNearAfter run.by (segments_in run.path.value.items) × IsNearBrush run.brush
 run_near many taken before [] p run all at = absurd (omega (arith, slice_get_within [] p run at))
 run_near many taken before (first ∷ runs) zero run (is, rest) at =
     let same : first ≡ run = cc in
-    subst (λ (r : Run). All (λ ring. All IsPointWithinReach (map (moved r.by) ring)) (rings_of r.rectangles.value.items)) same is.near
+    subst (λ (r : Run). AreNearAfter r.by (segments_in r.path.value.items) × IsNearBrush r.brush) same (is.near, is.brush)
 run_near many taken before (first ∷ runs) (suc p) run (is, rest) at =
-    run_near many first.after (first.before + length first.rectangles.value.items) runs p run rest at
-
-pub corners_near : (many : ℕ) (runs : List Run) (p : ℕ) (run : Run) (j : ℕ) (corners : Corners) → AreRuns many 0 0 runs → slice_get runs p ≡ Some run
-    → slice_get run.rectangles.value.items j ≡ Some corners → All IsPointWithinReach (map (moved run.by) (ring_of corners))
-corners_near many runs p run j corners all at here =
-    let less = slice_get_within run.rectangles.value.items j corners here in
-    let items = run.rectangles.value.items in
-    let ring : slice_get (rings_of items) j ≡ Some (ring_of corners) = slice_get-map ring_of items j ∙ ap (option_map ring_of) here in
-    subst (λ r. All IsPointWithinReach (map (moved run.by) r)) (get_or_from_slice_get (rings_of items) j (ring_of corners) (ring_of corners) ring)
-    (run_near many 0 0 runs p run all at j (ring_of corners) (slice_get_within (rings_of items) j (ring_of corners) ring))
+    run_near many first.after (first.before + length first.path.value.items) runs p run rest at
 
 -- where there are no runs there are own shapes alone
 pub without_runs : (own : List Shape) (runs : List Run) → length runs ≡ 0 → shapes_of own runs ≡ own
 without_runs own [] none = refl
 without_runs own (run ∷ runs) none = absurd (omega arith)
-
--- what stands for a rectangle past a list
-abbrev pub zero_corners : Corners
-zero_corners = record { first = record { x = pos 0; y = pos 0 }; opposite = record { x = pos 0; y = pos 0 }; is_upright = false }

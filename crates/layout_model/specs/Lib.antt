@@ -18,6 +18,7 @@ pub mod Counting
 -- ---- what is kept inside
 pub mod Points
 pub mod Kept
+pub mod Segments
 pub mod ShapeLists
 pub mod Strides
 pub mod Walks

@@ -175,6 +175,12 @@ pub record IsDrawable (points : List Point) (half begin end : ℤ) : Type 0 wher
   pub onward : HasNoTurnBack points
   pub ends : HasEmptyEnd (stretches points half begin end) → ⊥
 
+-- points that are a path for some lengths: some differ, each move is along an axis and none goes back
+pub record IsCourse (points : List Point) : Type 0 where
+  pub long : HasLength points
+  pub straight : HasNoDiagonal points
+  pub onward : HasNoTurnBack points
+
 abbrev pub rectangle : ℤ → ℤ → ℤ → ℤ → Rectangle
 rectangle x0 y0 x1 y1 = record { x0 = x0; y0 = y0; x1 = x1; y1 = y1 }
 
@@ -207,3 +213,8 @@ rectangle_shape pair offsets fixed r = record { pair = pair; points = rectangle_
 -- the shapes of a path in order
 abbrev pub drawn_path : Pair → List Point → Bool → List Point → ℤ → ℤ → ℤ → List Shape
 drawn_path pair offsets fixed points half begin end = map (rectangle_shape pair offsets fixed) (rectangles points half begin end)
+
+-- the shapes of these segments in order, as those of a path
+abbrev pub drawn_along : Pair → List Point → Bool → List (Point × Point) → ℤ → ℤ → ℤ → List Shape
+drawn_along pair offsets fixed segments half begin end =
+    map (rectangle_shape pair offsets fixed) (map rectangle_of (extended half begin end segments))

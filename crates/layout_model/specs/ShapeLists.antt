@@ -1,26 +1,20 @@
--- The shapes of a cell: some are kept by themselves, and rectangles that are used again are shared. Runs of shared ones
--- stand among the others.
-use Rattle.std.specs.Prelude.{ℕ, ◌≡◌, ◌≤◌, ◌<◌, ◌+◌, ◌-◌, List, [], ◌∷◌, ◌++◌, All, map, length, take, drop, slice_get, Some}
-use Rattle.half_grid.specs.Reach.{IsPointWithinReach}
-use Rattle.half_grid.specs.declared.plane.Point.{Point}
-use Rattle.layout_model.specs.Images.{moved}
+-- The shapes of a cell: some are kept by themselves, and paths that are used again are shared. Runs of the shapes of shared
+-- paths stand among the others.
+use Rattle.std.specs.Prelude.{ℕ, ◌≡◌, ◌≤◌, ◌<◌, ◌+◌, ◌-◌, List, [], ◌∷◌, ◌++◌, map, length, take, drop, slice_get, Some}
 use Rattle.layout_model.specs.declared.shapes.Shape.{Shape}
-use Rattle.layout_model.specs.declared.kept.Corners.{Corners}
 use Rattle.layout_model.specs.declared.shape_lists.Run.{Run}
 use Rattle.layout_model.specs.declared.shape_lists.ShapeRef.{ShapeRef}
 use Rattle.layout_model.specs.declared.shape_lists.Named.{Named}
-use Rattle.layout_model.specs.declared.shape_lists.Named.TheVariants.{Kept, Moved}
-use Rattle.layout_model.specs.Kept.{ring_between, shape_with}
+use Rattle.layout_model.specs.declared.shape_lists.Named.TheVariants.{Kept, Drawn}
+use Rattle.layout_model.specs.PathBounds.{IsNearBrush}
+use Rattle.layout_model.specs.Paths.{rectangle_shape, drawn_along}
+use Rattle.layout_model.specs.Segments.{segments_in, moved_segment, AreNearAfter}
 
-abbrev pub ring_of : Corners → List Point
-ring_of corners = ring_between corners.first corners.opposite corners.is_upright
-
-abbrev pub rings_of : List Corners → List (List Point)
-rings_of rectangles = map ring_of rectangles
-
--- a run's rectangles, each moved
+-- the shapes of a run's path, which is moved
 abbrev pub shapes_of_run : Run → List Shape
-shapes_of_run run = map (λ ring. shape_with run.pair (map (moved run.by) ring) run.offsets run.is_fixed) (rings_of run.rectangles.value.items)
+shapes_of_run run =
+    drawn_along run.pair run.offsets run.is_fixed (map (moved_segment run.by) (segments_in run.path.value.items))
+    run.brush.half run.brush.begin run.brush.end
 
 -- the own shapes from number `taken` on, and among them the runs, each after its number of own shapes
 abbrev pub shapes_from : List Shape → ℕ → List Run → List Shape
@@ -35,12 +29,13 @@ pub record IsRun (many taken before : ℕ) (run : Run) : Type 0 where
   pub ascends : taken ≤ run.after
   pub within : run.after ≤ many
   pub place : run.before + taken ≡ before + run.after
-  pub near : All (λ ring. All IsPointWithinReach (map (moved run.by) ring)) (rings_of run.rectangles.value.items)
+  pub near : AreNearAfter run.by (segments_in run.path.value.items)
+  pub brush : IsNearBrush run.brush
 
 -- runs in order, among so many own shapes
 abbrev pub AreRuns : ℕ → ℕ → ℕ → List Run → Type 0
 AreRuns many taken before [] = taken ≤ many
-AreRuns many taken before (run ∷ runs) = IsRun many taken before run × AreRuns many run.after (run.before + length run.rectangles.value.items) runs
+AreRuns many taken before (run ∷ runs) = IsRun many taken before run × AreRuns many run.after (run.before + length run.path.value.items) runs
 
 pub record AreShapes (own : List Shape) (runs : List Run) (count : ℕ) : Type 0 where
   pub order : AreRuns (length own) 0 0 runs
@@ -52,10 +47,10 @@ pub record IsRank (runs : List Run) (k rank : ℕ) : Type 0 where
   pub last : (j : ℕ) (run : Run) → j + 1 ≡ rank → slice_get runs j ≡ Some run → run.before ≤ k
   pub next : (run : Run) → slice_get runs rank ≡ Some run → k < run.before
 
--- one of the own shapes, or one of a run by its corners where they were moved
+-- one of the own shapes, or one of a run by its rectangle
 abbrev pub named_shape : Named → Shape
 named_shape (Kept shape) = shape.now
-named_shape (Moved corners run) = shape_with run.now.pair (ring_of corners) run.now.offsets run.now.is_fixed
+named_shape (Drawn rectangle run) = rectangle_shape run.now.pair run.now.offsets run.now.is_fixed rectangle
 
 abbrev pub shape_in : ShapeRef → Shape
 shape_in shape = named_shape shape.named

@@ -23,10 +23,10 @@ const ORIGIN: Point = Point { x: 0, y: 0 };
 
 // A rectangle by two opposite corners. Its outline goes from the first one upright or level, and on to the opposite one.
 #[derive(Clone, Copy, Debug)]
-pub(crate) struct Corners {
-    pub(crate) first: Point,
-    pub(crate) opposite: Point,
-    pub(crate) is_upright: bool,
+struct Corners {
+    first: Point,
+    opposite: Point,
+    is_upright: bool,
 }
 
 // A rectangle at the place 0.
@@ -95,10 +95,10 @@ impl<'t> Outline<'t> {
     }
 }
 
-impl Corners {
+impl Plain {
     // The outline.
     #[inline(always)]
-    pub(crate) fn ring(&self) -> [Point; 5]
+    fn ring(&self) -> [Point; 5]
         ensures { result ≡ ring_between self.now.first self.now.opposite self.now.is_upright }
     {
         let first = self.first;
@@ -115,27 +115,6 @@ impl Corners {
             return [first, above, opposite, beside, first];
         }
         [first, beside, opposite, above, first]
-    }
-}
-
-impl Plain {
-    #[inline(always)]
-    fn corners(&self) -> Corners
-        ensures { ring_between result.first result.opposite result.is_upright ≡ ring_between self.now.first self.now.opposite self.now.is_upright }
-    {
-        Corners {
-            first: self.first,
-            opposite: self.opposite,
-            is_upright: self.is_upright,
-        }
-    }
-
-    // The outline.
-    #[inline(always)]
-    fn ring(&self) -> [Point; 5]
-        ensures { result ≡ ring_between self.now.first self.now.opposite self.now.is_upright }
-    {
-        self.corners().ring()
     }
 }
 
@@ -277,19 +256,6 @@ impl KeptShape {
         }
         let kept = KeptShape::with(alloc, pair, points, offsets, false)?;
         Ok(kept)
-    }
-
-    // Two opposite corners, where it is seen to be a rectangle.
-    pub(crate) fn corners(&self) -> Option<Corners>
-        ensures { IfSome result (λ corners. ring_between corners.first corners.opposite corners.is_upright ≡ self.now.points) }
-    {
-        match &self.form {
-            Form::Rectangle(plain) => Some(plain.corners()),
-            Form::Drawn(shape) => match shape.points.as_slice() {
-                Some(points) => corners_of(points),
-                None => None,
-            },
-        }
     }
 
     /// Its layer and datatype.

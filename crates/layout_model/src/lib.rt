@@ -19,7 +19,7 @@ mod products;
 mod rectangles;
 mod shape_lists;
 mod shapes;
-mod shared_rectangles;
+mod shared_paths;
 mod stretches;
 mod strides;
 #[cfg(test)]
@@ -39,6 +39,7 @@ pub use paths::{PathBad, path_laws, path_shapes};
 pub use points::{Points, SharedPoints};
 pub use shape_lists::{ShapeRef, Shapes};
 pub use shapes::{Shape, ShapeBad, has_grid_edges};
-pub use shared_rectangles::SharedRectangles;
+pub use shared_paths::SharedPath;
+pub use stretches::Brush;
 pub use turns::{factor_in, turns_in};
 pub use wanted::{is_among, sorted_pairs};

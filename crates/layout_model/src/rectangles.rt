@@ -87,7 +87,7 @@ fn southward(s: Stretch) -> Rectangle
 }
 
 // The rectangle of a segment.
-fn outline_of(s: Stretch) -> Rectangle
+pub(crate) fn outline_of(s: Stretch) -> Rectangle
     requires { IsNearStretch s }
     ensures { result ≡ rectangle_of s }
 {
@@ -101,7 +101,7 @@ fn outline_of(s: Stretch) -> Rectangle
 }
 
 // The closed outline of a rectangle, clockwise from its lower left corner.
-fn ring(r: Rectangle) -> [Point; 5]
+pub(crate) fn ring(r: Rectangle) -> [Point; 5]
     ensures { result ≡ rectangle_ring r }
 {
     [

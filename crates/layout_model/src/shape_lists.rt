@@ -1,30 +1,35 @@
 //! The shapes of a cell.
-ghost use Rattle.std.specs.Prelude.{◌≡◌, ◌≢◌, ◌<◌, ◌≤◌, ◌++◌, ℕ, [], ◌∷◌, All, length, map, drop, slice_get, Some, IfOk, IfSome, IsSome, OnOk, MatchOption};
-ghost use Rattle.half_grid.specs.Reach.{IsPointWithinReach};
+ghost use Rattle.std.specs.Prelude.{◌≡◌, ◌≢◌, ◌<◌, ◌≤◌, ◌++◌, ℕ, [], ◌∷◌, length, map, drop, slice_get, Some, OnOk, MatchOption};
 ghost use Rattle.layout_model.specs.Hulls.{IsLeastBoxOf};
 ghost use Rattle.layout_model.specs.Images.{moved as point_after};
 ghost use Rattle.layout_model.specs.Intervals.{HasNoneIn, IsFirstIn};
-ghost use Rattle.layout_model.specs.Kept.{points_in, shape_with};
-ghost use Rattle.layout_model.specs.ShapeLists.{shape_in, ring_of, shapes_of, AreRuns, IsRank};
+ghost use Rattle.layout_model.specs.Kept.{points_in};
+ghost use Rattle.layout_model.specs.PathBounds.{IsNearPoint, IsNearBrush};
+ghost use Rattle.layout_model.specs.Paths.{drawn_along};
+ghost use Rattle.layout_model.specs.Segments.{segments_in, moved_segment, stretch_after, AreNearAfter};
+ghost use Rattle.layout_model.specs.ShapeLists.{shape_in, shapes_of, shapes_of_run, AreRuns, IsRank};
 
 use crate::boxes::box_of;
 use crate::intervals::Interval;
-use crate::kept::{Corners, KeptShape, Outline};
+use crate::kept::{KeptShape, Outline};
 use crate::offsets::Offsets;
 use crate::pair::Pair;
 use crate::points::moved;
-use crate::shared_rectangles::SharedRectangles;
+use crate::rectangles::{Rectangle, outline_of, ring};
+use crate::shared_paths::{SharedPath, stretch_at};
+use crate::stretches::{Brush, Segment, Stretch};
 use geo_stream::{List, NoMemory};
 use half_grid::{Frame, Point};
 use std::alloc::Global;
 use std::marker::Model;
 use std::rc::Rc;
 
-// Shared rectangles that are moved so, each a shape.
+// A shared path that is moved so, with its lengths. Each of its rectangles is a shape.
 #[derive(Debug, Drop)]
 struct Run {
-    rectangles: Rc<Vec<Corners>>,
+    path: Rc<Vec<Segment>>,
     by: Point,
+    brush: Brush,
     pair: Pair,
     offsets: Offsets,
     is_fixed: bool,
@@ -36,9 +41,9 @@ struct Run {
 
 /// The shapes of a cell, in order. Contracts see the list.
 ///
-/// A shape that is pushed takes 64 bytes, and what it has boxed. Shared rectangles that are pushed moved take 88 bytes and
-/// constant time, however many they are, and what their offsets have boxed. Where none were, reading a shape is an access to
-/// a slice; else it is a bisection of as many runs as there are calls of `push_moved`.
+/// A shape that is pushed takes 64 bytes, and what it has boxed. The shapes of a shared path take 112 bytes and constant
+/// time, however many they are, and what their offsets have boxed: each is made when it is asked for. Where no path was
+/// pushed, reading a shape is an access to a slice; else it is a bisection of as many runs as there are calls of `push_path`.
 #[derive(Debug, Drop)]
 pub struct Shapes {
     // Those that are kept by themselves.
@@ -59,11 +64,11 @@ impl Model for Shapes {
     ghost invariant = { λ shapes. AreShapes shapes.own shapes.runs shapes.count };
 }
 
-// A shape that is kept by itself, or one of a run, by its corners where they were moved.
+// A shape that is kept by itself, or one of a run, by its rectangle.
 #[derive(Clone, Copy)]
 enum Named<'t> {
     Kept(&'t KeptShape),
-    Moved(Corners, &'t Run),
+    Drawn(Rectangle, &'t Run),
 }
 
 /// One of a cell's shapes: what it is, `shape_in` says.
@@ -72,27 +77,34 @@ pub struct ShapeRef<'t> {
     named: Named<'t>,
 }
 
-// A rectangle moved.
+// A segment moved.
 #[inline(always)]
-fn moved_corners(corners: &Corners, by: Point) -> Corners
-    requires { All IsPointWithinReach (map (point_after by) (ring_of corners.now)) }
-    ensures { ring_of result ≡ map (point_after by) (ring_of corners.now) }
+fn moved_stretch(stretch: Stretch, by: Point) -> Stretch
+    requires from { IsNearPoint (point_after by stretch.from) }
+    requires to { IsNearPoint (point_after by stretch.to) }
+    ensures { result ≡ stretch_after by stretch }
 {
-    Corners {
-        first: moved(&corners.first, by),
-        opposite: moved(&corners.opposite, by),
-        is_upright: corners.is_upright,
+    Stretch {
+        from: moved(&stretch.from, by),
+        to: moved(&stretch.to, by),
+        half: stretch.half,
+        before: stretch.before,
+        after: stretch.after,
     }
 }
 
-// One of the rectangles of a run, as its shape.
+// One of the shapes of a run.
 #[inline(always)]
-fn shape_of_run<'t>(corners: &Corners, run: &'t Run) -> ShapeRef<'t>
-    requires { All IsPointWithinReach (map (point_after run.now.by) (ring_of corners.now)) }
-    ensures { shape_in result ≡ shape_with run.now.pair (map (point_after run.now.by) (ring_of corners.now)) run.now.offsets run.now.is_fixed }
+fn shape_of_run(run: &Run, j: usize) -> ShapeRef<'_>
+    requires near { AreNearAfter run.now.by (segments_in run.now.path.value.items) }
+    requires brush { IsNearBrush run.now.brush }
+    requires inside { j < length run.now.path.value.items }
+    ensures { slice_get (shapes_of_run run.now) j ≡ Some (shape_in result) }
 {
+    let stretch = stretch_at(run.path.as_slice(), j, run.brush);
+    let rectangle = outline_of(moved_stretch(stretch, run.by));
     ShapeRef {
-        named: Named::Moved(moved_corners(corners, run.by), run),
+        named: Named::Drawn(rectangle, run),
     }
 }
 
@@ -142,12 +154,12 @@ fn shape_among<'t>(own: &'t [KeptShape], runs: &'t [Run], k: usize) -> ShapeRef<
         return own_shape(own, k);
     }
     let run = &runs[rank - 1];
-    let rectangles = run.rectangles.as_slice();
+    let segments = run.path.as_slice();
     let j = k - run.before;
-    if j < rectangles.len() {
-        return shape_of_run(&rectangles[j], run);
+    if j < segments.len() {
+        return shape_of_run(run, j);
     }
-    own_after(own, run.after, j - rectangles.len())
+    own_after(own, run.after, j - segments.len())
 }
 
 impl Shapes {
@@ -175,24 +187,28 @@ impl Shapes {
         Ok(())
     }
 
-    /// Puts rectangles last, each as a shape that is moved so, on the pair, at the offsets. It takes constant time and memory.
-    pub fn push_moved(
+    /// Puts the shapes of a path last that is moved so, as `path_shapes` gives them with these lengths, on the pair, at the
+    /// offsets. It takes constant time and memory.
+    pub fn push_path(
         &mut self,
-        rectangles: &SharedRectangles,
+        path: &SharedPath,
         by: Point,
         pair: Pair,
+        brush: Brush,
         offsets: Offsets,
         fixed: bool,
     ) -> Result<(), NoMemory>
-        requires near { All (λ ring. All IsPointWithinReach (map (point_after by) ring)) rectangles.now }
-        ensures { OnOk result (self.new ≡ self.old ++ map (λ ring. shape_with pair (map (point_after by) ring) offsets fixed) rectangles.now) }
+        requires near { AreNearAfter by path.now }
+        requires brush { IsNearBrush brush }
+        ensures { OnOk result (self.new ≡ self.old ++ drawn_along pair offsets fixed (map (moved_segment by) path.now) brush.half brush.begin brush.end) }
     {
-        let Some(count) = self.count.checked_add(rectangles.kept.len()) else {
+        let Some(count) = self.count.checked_add(path.segments.len()) else {
             return Err(NoMemory);
         };
         let run = Run {
-            rectangles: rectangles.kept.clone()?,
+            path: path.segments.clone()?,
             by,
+            brush,
             pair,
             offsets,
             is_fixed: fixed,
@@ -235,7 +251,7 @@ impl<'t> ShapeRef<'t> {
     {
         match self.named {
             Named::Kept(shape) => shape.pair(),
-            Named::Moved(_, run) => run.pair,
+            Named::Drawn(_, run) => run.pair,
         }
     }
 
@@ -245,7 +261,7 @@ impl<'t> ShapeRef<'t> {
     {
         match self.named {
             Named::Kept(shape) => shape.is_fixed(),
-            Named::Moved(_, run) => run.is_fixed,
+            Named::Drawn(_, run) => run.is_fixed,
         }
     }
 
@@ -256,7 +272,7 @@ impl<'t> ShapeRef<'t> {
     {
         match self.named {
             Named::Kept(shape) => shape.outline(),
-            Named::Moved(corners, _) => Outline::Ring(corners.ring()),
+            Named::Drawn(rectangle, _) => Outline::Ring(ring(rectangle)),
         }
     }
 
@@ -267,7 +283,7 @@ impl<'t> ShapeRef<'t> {
     {
         match self.named {
             Named::Kept(shape) => shape.hull(),
-            Named::Moved(corners, _) => box_of(&corners.ring()),
+            Named::Drawn(rectangle, _) => box_of(&ring(rectangle)),
         }
     }
 
@@ -278,7 +294,7 @@ impl<'t> ShapeRef<'t> {
     {
         match self.named {
             Named::Kept(shape) => shape.count(),
-            Named::Moved(_, run) => run.offsets.count(),
+            Named::Drawn(_, run) => run.offsets.count(),
         }
     }
 
@@ -290,7 +306,7 @@ impl<'t> ShapeRef<'t> {
     {
         match self.named {
             Named::Kept(shape) => shape.nth(k),
-            Named::Moved(_, run) => run.offsets.nth(k),
+            Named::Drawn(_, run) => run.offsets.nth(k),
         }
     }
 
@@ -301,7 +317,7 @@ impl<'t> ShapeRef<'t> {
     {
         match self.named {
             Named::Kept(shape) => shape.spread(),
-            Named::Moved(_, run) => run.offsets.hull(),
+            Named::Drawn(_, run) => run.offsets.hull(),
         }
     }
 
@@ -312,7 +328,7 @@ impl<'t> ShapeRef<'t> {
     {
         match self.named {
             Named::Kept(shape) => shape.first_in(interval, from),
-            Named::Moved(_, run) => run.offsets.first_in(interval, from),
+            Named::Drawn(_, run) => run.offsets.first_in(interval, from),
         }
     }
 }

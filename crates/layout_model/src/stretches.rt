@@ -1,18 +1,67 @@
 //! The segments of a path, each with what it is longer by at its two ends.
-ghost use Rattle.std.specs.Prelude.{◌≡◌, ◌-ℤ◌, ◌∷◌, Some, slice_get, length, ◌-◌, IsTrue, ◌↔◌};
+ghost use Rattle.std.specs.Prelude.{◌≡◌, ◌<◌, ◌-ℤ◌, ◌∷◌, Some, slice_get, length, ◌-◌, ◌+◌, IsTrue, ◌↔◌};
 ghost use Rattle.layout_model.specs.Paths.{direction_of, later, distance_along, length_of, stretches, HasLength, HasEmptyEnd, IsEmpty};
 ghost use Rattle.layout_model.specs.PathBounds.{IsShort};
+ghost use Rattle.layout_model.specs.Segments.{segment_of, ends_of};
 ghost use Rattle.layout_model.specs.Walks.{turns_at, walk_from, walk_on, walk_round, stretch_of};
 
 use crate::directions::{Direction, direction_to, is_turn, later};
 use half_grid::Point;
 
-/// The half width of a path, and what it is longer by at its beginning and at its end.
-#[derive(Clone, Copy)]
-pub(crate) struct Brush {
+/// The lengths of a path, in half units.
+#[derive(Clone, Copy, Debug)]
+pub struct Brush {
+    /// Half of its width.
     pub half: i64,
+    /// What it is longer by at its beginning, or shorter where it is negative.
     pub begin: i64,
+    /// What it is longer by at its end, or shorter where it is negative.
     pub end: i64,
+}
+
+impl Brush {
+    // What segment `k` of a path is longer by at its beginning.
+    fn before(self, k: usize) -> i64
+        ensures first { k ≡ 0 → result ≡ self.begin }
+        ensures later { 0 < k → result ≡ self.half }
+    {
+        if k == 0 {
+            return self.begin;
+        }
+        self.half
+    }
+
+    // What segment `k` of `many` is longer by at its end.
+    fn after(self, k: usize, many: usize) -> i64
+        requires { k < many }
+        ensures last { k + 1 ≡ many → result ≡ self.end }
+        ensures earlier { k + 1 < many → result ≡ self.half }
+    {
+        if k == many - 1 {
+            return self.end;
+        }
+        self.half
+    }
+
+    // Segment `k` of `many`, with its lengths.
+    pub(crate) fn stretch(self, segment: Segment, k: usize, many: usize) -> Stretch
+        requires { k < many }
+        ensures from { result.from ≡ segment.from }
+        ensures to { result.to ≡ segment.to }
+        ensures half { result.half ≡ self.half }
+        ensures first { k ≡ 0 → result.before ≡ self.begin }
+        ensures later { 0 < k → result.before ≡ self.half }
+        ensures last { k + 1 ≡ many → result.after ≡ self.end }
+        ensures earlier { k + 1 < many → result.after ≡ self.half }
+    {
+        Stretch {
+            from: segment.from,
+            to: segment.to,
+            half: self.half,
+            before: self.before(k),
+            after: self.after(k, many),
+        }
+    }
 }
 
 /// A segment of a path with the half width, and what it is longer by at its beginning and at its end.
@@ -23,6 +72,13 @@ pub(crate) struct Stretch {
     pub half: i64,
     pub before: i64,
     pub after: i64,
+}
+
+/// A segment of a path, from corner to corner.
+#[derive(Clone, Copy, Debug)]
+pub(crate) struct Segment {
+    pub from: Point,
+    pub to: Point,
 }
 
 /// How far one has come along a path.
@@ -79,6 +135,16 @@ impl Walk {
             last: point,
             heading: direction_to(self.last, point),
             before: brush.half,
+        }
+    }
+
+    // The current segment, as far as it goes.
+    pub(crate) fn segment(self) -> Segment
+        ensures { segment_of result ≡ ends_of self }
+    {
+        Segment {
+            from: self.from,
+            to: self.last,
         }
     }
 
@@ -176,7 +242,7 @@ fn length(s: Stretch) -> i128
     distance(s.from, s.to) + s.before as i128 + s.after as i128
 }
 
-fn is_empty(s: Stretch) -> bool
+pub(crate) fn is_empty(s: Stretch) -> bool
     ensures { IsTrue result ↔ IsEmpty s }
 {
     length(s) <= 0

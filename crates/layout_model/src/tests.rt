@@ -4,11 +4,11 @@ ghost use Rattle.half_grid.specs.Outlines.{IsClosed};
 ghost use Rattle.half_grid.specs.Reach.{IsPointWithinReach};
 ghost use Rattle.layout_model.specs.Layouts.{IsWithin, IsShapeOnGrid, IsPlacementOnGrid, IsLayoutOnGrid};
 ghost use Rattle.layout_model.specs.Names.{IsName};
-ghost use Rattle.layout_model.specs.PathBounds.{IsNear};
+ghost use Rattle.layout_model.specs.PathBounds.{IsNear, IsNearBrush};
 
 use crate::{
-    Axis, Cell, Counts, Interval, KeptShape, Layout, Name, NameBad, Offsets, Orient, Pair, PathBad,
-    Placement, Points, Shape, ShapeBad, Shapes, SharedPoints, SharedRectangles, image, pair_law,
+    Axis, Brush, Cell, Counts, Interval, KeptShape, Layout, Name, NameBad, Offsets, Orient, Pair,
+    PathBad, Placement, Points, Shape, ShapeBad, Shapes, SharedPath, SharedPoints, image, pair_law,
     path_laws, path_shapes,
 };
 use geo_stream::List;
@@ -285,14 +285,21 @@ fn once(rt: &impl Abort, alloc: Global, points: &[Point], pair: Pair, place: Poi
     KeptShape::new(alloc, pair, points, places).expect(rt, "a shape")
 }
 
-// Two squares, shared: UPRIGHT by two corners, RING boxed.
-fn two_squares(rt: &impl Abort, alloc: Global) -> SharedRectangles
-    ensures { All (λ ring. All (IsWithin 100) ring) result }
+// East, with a point twice and one in the middle of a segment, and then north.
+const WIRE: [Point; 5] = [
+    Point { x: 0, y: 0 },
+    Point { x: 0, y: 0 },
+    Point { x: 20, y: 0 },
+    Point { x: 40, y: 0 },
+    Point { x: 40, y: 60 },
+];
+
+// WIRE, shared.
+fn wire(rt: &impl Abort, alloc: Global) -> SharedPath
+    ensures { All (λ segment. IsWithin 100 segment.0 × IsWithin 100 segment.1) result }
 {
-    let first = once(rt, alloc, &UPRIGHT, PAIR, point(0, 0));
-    let second = once(rt, alloc, &RING, PAIR, point(6, 8));
-    let shared = SharedRectangles::of(alloc, &[first, second]).expect(rt, "memory");
-    shared.expect(rt, "rectangles")
+    let shared = SharedPath::of(alloc, &WIRE).expect(rt, "memory");
+    shared.expect(rt, "a path")
 }
 
 const OTHER: Pair = Pair {
@@ -312,17 +319,41 @@ fn is_shape(shapes: &Shapes, k: usize, points: &[Point], pair: Pair, place: Poin
     shape.pair() == pair && shape.nth(0) == place && shape.is_fixed() == (pair == OTHER)
 }
 
-// Puts the two squares last, moved so, on the other pair, at (2, 4), not to be enlarged.
-fn push_squares(rt: &impl Abort, alloc: Global, shapes: &mut Shapes, by: Point)
-    requires { IsWithin (2 ^ 41) by }
+// Puts the two shapes of WIRE last, moved so and with these lengths, on the other pair, at (2, 4), not to be enlarged.
+fn push_wire(rt: &impl Abort, alloc: Global, shapes: &mut Shapes, by: Point, brush: Brush)
+    requires by { IsWithin (2 ^ 40) by }
+    requires brush { IsNearBrush brush }
 {
     let place = Offsets::list(alloc, &[point(2, 4)]).expect(rt, "a place");
-    let squares = two_squares(rt, alloc);
-    let pushed = shapes.push_moved(&squares, by, OTHER, place, true);
+    let wire = wire(rt, alloc);
+    let pushed = shapes.push_path(&wire, by, OTHER, brush, place, true);
     assert!(rt; pushed.is_ok(), "memory");
 }
 
-// Two own shapes, a run of two, an own shape, and another run of two.
+// The outline of a rectangle, clockwise from its lower left corner.
+fn outline(x0: i64, y0: i64, x1: i64, y1: i64) -> [Point; 5] {
+    [
+        point(x0, y0),
+        point(x0, y1),
+        point(x1, y1),
+        point(x1, y0),
+        point(x0, y0),
+    ]
+}
+
+const WIDE: Brush = Brush {
+    half: 4,
+    begin: 0,
+    end: 6,
+};
+
+const NARROW: Brush = Brush {
+    half: 2,
+    begin: -10,
+    end: 0,
+};
+
+// Two own shapes, the two shapes of a path, an own shape, and the path again with other lengths and elsewhere.
 #[test]
 fn shapes_by_number(rt: HostRuntime) {
     let alloc = rt.alloc();
@@ -331,38 +362,39 @@ fn shapes_by_number(rt: HostRuntime) {
     assert!(rt; shapes.push(first).is_ok(), "memory");
     let second = once(&rt, alloc, &TILTED, PAIR, point(10, 0));
     assert!(rt; shapes.push(second).is_ok(), "memory");
-    push_squares(&rt, alloc, &mut shapes, point(100, -40));
+    push_wire(&rt, alloc, &mut shapes, point(0, 0), WIDE);
     let third = once(&rt, alloc, &UPRIGHT, PAIR, point(0, 0));
     assert!(rt; shapes.push(third).is_ok(), "memory");
-    push_squares(&rt, alloc, &mut shapes, point(0, 0));
+    push_wire(&rt, alloc, &mut shapes, point(100, -40), NARROW);
     assert_eq!(rt; shapes.len(), 7);
-    let moved_upright = [
-        point(120, -20),
-        point(120, -40),
-        point(100, -40),
-        point(100, -20),
-        point(120, -20),
-    ];
-    let moved_ring = [
-        point(100, -40),
-        point(120, -40),
-        point(120, -20),
-        point(100, -20),
-        point(100, -40),
-    ];
+    let wide_east = outline(0, -4, 44, 4);
+    let wide_north = outline(36, -4, 44, 66);
+    let narrow_east = outline(110, -42, 142, -38);
+    let narrow_north = outline(138, -42, 142, 20);
     assert!(rt; is_shape(&shapes, 0, &RING, PAIR, point(0, 0)));
     assert!(rt; is_shape(&shapes, 1, &TILTED, PAIR, point(10, 0)));
-    assert!(rt; is_shape(&shapes, 2, &moved_upright, OTHER, point(2, 4)));
-    assert!(rt; is_shape(&shapes, 3, &moved_ring, OTHER, point(2, 4)));
+    assert!(rt; is_shape(&shapes, 2, &wide_east, OTHER, point(2, 4)));
+    assert!(rt; is_shape(&shapes, 3, &wide_north, OTHER, point(2, 4)));
     assert!(rt; is_shape(&shapes, 4, &UPRIGHT, PAIR, point(0, 0)));
-    assert!(rt; is_shape(&shapes, 5, &UPRIGHT, OTHER, point(2, 4)));
-    assert!(rt; is_shape(&shapes, 6, &RING, OTHER, point(2, 4)));
-    let tilted = [
-        once(&rt, alloc, &RING, PAIR, point(0, 0)),
-        once(&rt, alloc, &TILTED, PAIR, point(0, 0)),
-    ];
-    let refused = SharedRectangles::of(alloc, &tilted).expect(&rt, "memory");
-    assert!(rt; refused.is_none());
+    assert!(rt; is_shape(&shapes, 5, &narrow_east, OTHER, point(2, 4)));
+    assert!(rt; is_shape(&shapes, 6, &narrow_north, OTHER, point(2, 4)));
+}
+
+// A path is none by its points, or is cut short by its lengths.
+#[test]
+fn shared_paths(rt: HostRuntime) {
+    let alloc = rt.alloc();
+    let wire = wire(&rt, alloc);
+    assert!(rt; !wire.has_empty_end(NARROW));
+    let short = Brush {
+        half: 2,
+        begin: -42,
+        end: 0,
+    };
+    assert!(rt; wire.has_empty_end(short));
+    let diagonal = [point(0, 0), point(20, 20)];
+    let none = SharedPath::of(alloc, &diagonal).expect(&rt, "memory");
+    assert!(rt; none.is_none());
 }
 
 const PLACES: [Point; 2] = [Point { x: 0, y: 0 }, Point { x: 40, y: -2 }];

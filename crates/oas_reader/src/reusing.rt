@@ -3,7 +3,7 @@ ghost use Rattle.std.specs.Prelude.{◌≡◌, ◌^◌};
 ghost use Rattle.layout_model.specs.Pairs.{AreSorted};
 ghost use Rattle.oas_fields.specs.Values.{IsPlaceWithin};
 
-use crate::drawing::{brush_of, pair_of};
+use crate::drawing::pair_of;
 use crate::placing::point_of;
 use crate::rules::positions_are_near;
 use layout_model::{Pair, is_among};
@@ -39,15 +39,14 @@ fn make_outline(alloc: Global, fields: &mut Fields)
     }
 }
 
-// Makes the rectangles of the last path's point list with the last lengths.
-fn make_rectangles(alloc: Global, fields: &mut Fields)
+// Makes the segments of the last path's point list.
+fn make_segments(alloc: Global, fields: &mut Fields)
     requires { IsPlaceWithin (2 ^ 40) fields.old.geometry }
     ensures { fields.new ≡ fields.old }
 {
     let at = point_of(fields.geometry);
-    let brush = brush_of(fields);
     if let Some(points) = &mut fields.path_points {
-        points.make_rectangles(alloc, at, brush);
+        points.make_segments(alloc, at);
     }
 }
 
@@ -68,7 +67,7 @@ pub(crate) fn make_points(alloc: Global, sorted: &[Pair], fields: &mut Fields, a
     }
     match again {
         Again::Polygon => make_outline(alloc, fields),
-        Again::Path => make_rectangles(alloc, fields),
+        Again::Path => make_segments(alloc, fields),
         Again::Nothing => {}
     }
 }

@@ -1,5 +1,5 @@
 -- Where no edge is the first that isn't on the grid, all edges are on it.
-use Rattle.std.proofs.Common.{◌≡◌, ◌+◌, ◌*◌, ◌<◌, ◌≤◌, ℕ, zero, suc, Bool, true, false, ℤ, pos, negsuc, ◌&&◌, List}
+use Rattle.std.proofs.Common.{◌≡◌, ◌+◌, ◌*◌, ◌≤◌, ℕ, zero, suc, Bool, true, false, ℤ, pos, negsuc, ◌&&◌, List}
 use Rattle.std.proofs.Common.{length, get_or, refl, sym, subst, ◌∙◌, inl, inr, arith}
 use Rattle.std.specs.Prelude.{◌+ℤ◌, ◌-ℤ◌}
 use Rattle.std.specs.List.{AllWithin}
@@ -10,15 +10,13 @@ use Rattle.std.proofs.lemmas.Bool.Decides.{nat_tests}
 use Rattle.std.proofs.lemmas.Int.{ints}
 use Rattle.std.proofs.lemmas.List.{get_or_default}
 use Rattle.half_grid.specs.Halves.{half, twice, is_even}
-use Rattle.half_grid.specs.Lines.{Passes, share_rising, share_falling}
+use Rattle.half_grid.specs.Lines.{share_rising, share_falling}
 use Rattle.half_grid.specs.Outlines.{IsOnGrid, HasGridEdges}
 use Rattle.half_grid.specs.Winding.{edges_of}
-use Rattle.half_grid.specs.declared.plane.Line.{Line}
 use Rattle.half_grid.specs.declared.plane.Line.TheVariants.{Upright, Rising, Falling}
 use Rattle.half_grid.specs.declared.plane.Point.{Point}
 use Rattle.half_grid.proofs.ForCallers.{int_eq_true, int_eq_false, int_eq_same}
 use Rattle.layout_model.specs.Slants.{IsFirstSlant}
-use Rattle.oas_shapes.specs.Plane.{origin}
 
 half_even : (z : ℤ) → is_even z ≡ true → up z + 2 * down (half z) ≡ down z + 2 * up (half z)
 half_even (pos n) e = grind (arith, nat_tests)

@@ -4,9 +4,10 @@ use Rattle.std.specs.Ordering.{int_eq}
 use Rattle.half_grid.specs.Halves.{twice}
 use Rattle.half_grid.specs.declared.plane.Point.{Point}
 use Rattle.layout_model.specs.PathBounds.{IsNear}
-use Rattle.layout_model.specs.Paths.{IsDrawable, drawn_path}
+use Rattle.layout_model.specs.Paths.{IsDrawable, HasEmptyEnd, extended, drawn_path, drawn_along}
 use Rattle.layout_model.specs.declared.pair.Pair.{Pair}
 use Rattle.layout_model.specs.declared.shapes.Shape.{Shape}
+use Rattle.layout_model.specs.declared.stretches.Brush.{Brush as Lengths}
 use Rattle.layout_model.specs.declared.paths.PathBad.{PathBad}
 use Rattle.layout_model.specs.declared.paths.PathBad.TheVariants as paths
 use Rattle.oas_record.specs.declared.repetition.Rep.{Rep}
@@ -32,6 +33,17 @@ IsDrawn b points = b.half ≢ pos 0 → IsDrawable points b.half b.begin b.end
 
 abbrev pub drawn_by : Pair → Halves → List Point → List Point → List Shape
 drawn_by pair b points offsets = if int_eq b.half (pos 0) then [] else drawn_path pair offsets false points b.half b.begin b.end
+
+-- the same along these segments, where there is a width
+abbrev pub along_by : Pair → Halves → List (Point × Point) → List Point → List Shape
+along_by pair b segments offsets = drawn_along pair offsets false segments b.half b.begin b.end
+
+-- neither the first nor the last rectangle along these segments is empty
+abbrev pub IsNotCutShort : Halves → List (Point × Point) → Type 0
+IsNotCutShort b segments = HasEmptyEnd (extended b.half b.begin b.end segments) → ⊥
+
+abbrev pub lengths_of : Halves → Lengths
+lengths_of b = record { half = b.half; begin = b.begin; end = b.end }
 
 -- a path that can't be drawn breaks its rule
 abbrev pub undrawn_by : PathBad → Undrawn

@@ -14,7 +14,7 @@ use crate::figures::{Brush, Figure};
 use crate::lists::{path_points, polygon_outline};
 use crate::outlines::PointList;
 use crate::path_lists::PathList;
-use crate::paths::{add_moved, add_path};
+use crate::paths::{add_along, add_none, add_path};
 use crate::repetitions::{alone, offsets_in};
 use crate::sharing::Repetition;
 use crate::trails::Unplaced;
@@ -353,7 +353,7 @@ fn draw_course(
 }
 
 /// Adds the shapes of a PATH at this position, repeated so. One without width has none, but its numbers are looked at.
-/// Where the rectangles of its list were made with its lengths, it shares them, and takes no longer than its repetition. A
+/// Where the segments of its list were made, it shares them, and takes no longer than its repetition. A
 /// rule that it breaks is told even where memory is wanting, unless its points or the repetition list more than twelve
 /// places.
 pub fn draw_path(
@@ -376,11 +376,18 @@ pub fn draw_path(
     if !brush.is_near() {
         return Err(Undrawn::Rule(1));
     }
-    let Some(made) = points.made(brush.halves()) else {
+    let Some(made) = points.made() else {
         return draw_course(alloc, pair, at, brush, points.written(), repetition, shapes);
     };
     let Some(by) = made.way_to(at) else {
         return draw_course(alloc, pair, at, brush, points.written(), repetition, shapes);
     };
-    add_moved(alloc, pair, made.rectangles(), by, repetition, shapes)
+    let halves = brush.halves();
+    if halves.has_no_width() {
+        return add_none(alloc, repetition);
+    }
+    let Some(path) = made.drawn_by(halves) else {
+        return draw_course(alloc, pair, at, brush, points.written(), repetition, shapes);
+    };
+    add_along(alloc, pair, path, by, halves, repetition, shapes)
 }

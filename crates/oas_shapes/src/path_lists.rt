@@ -1,48 +1,40 @@
 //! Point lists that paths use again.
-ghost use Rattle.std.specs.Prelude.{◌≡◌, ◌^◌, IfSome};
+ghost use Rattle.std.specs.Prelude.{◌≡◌, ◌^◌, Some, IfSome};
 ghost use Rattle.layout_model.specs.Images.{moved as place_after};
 ghost use Rattle.layout_model.specs.Layouts.{IsWithin};
 ghost use Rattle.oas_shapes.specs.Plane.{IsNear, IsNearInHalves};
-ghost use Rattle.oas_shapes.specs.Brushes.{AreHalves};
+ghost use Rattle.oas_shapes.specs.Brushes.{IsNotCutShort};
 ghost use Rattle.oas_shapes.specs.Moves.{way_between, low_corner, high_corner};
 ghost use Rattle.oas_shapes.specs.PathLists.{IsItsPath};
 
-use crate::figures::Brush;
 use crate::lists::path_points;
 use crate::outlines::{high_after, is_near, low_after, way};
-use crate::paths::{Halves, drawn};
-use crate::repetitions::alone;
+use crate::paths::Halves;
 use half_grid::{Frame, Point};
-use layout_model::{Pair, SharedRectangles, box_of};
+use layout_model::{SharedPath, box_of};
 use oas_record::Deltas;
 use std::alloc::Global;
 use std::marker::Model;
 
-// The rectangles of a list that is as long as this or longer are kept once for all paths that use it.
+// The segments of a list that is as long as this or longer are kept once for all paths that use it.
 const LONG: usize = 10;
 
-// Rectangles are kept without a pair.
-const NO_PAIR: Pair = Pair {
-    layer: 0,
-    datatype: 0,
-};
-
-/// The rectangles of a path, made at this position, in grid steps, with these lengths.
+/// What is kept of a list at this position, in grid steps.
 #[derive(Debug, Drop)]
 pub(crate) struct MadePath {
     at: Point,
-    halves: Halves,
-    // The least box of the path's points.
+    // The bounding box of its points.
     hull: Frame,
-    rectangles: SharedRectangles,
+    // Its segments, where it is a path for some lengths.
+    path: Option<SharedPath>,
 }
 
-/// The point list of paths as it is written. The rectangles of a long one are made once, and all paths with the same lengths
-/// that use the list share them, moved to their positions. Contracts see what is written.
+/// The point list of paths as it is written. The segments of a long one are made once, and all paths that use the list share
+/// them, moved to their positions, whatever their lengths. Contracts see what is written.
 #[derive(Debug, Drop)]
 pub struct PathList {
     written: Deltas,
-    // The rectangles, once they were made.
+    // The segments, once they were made.
     made: Option<MadePath>,
 }
 
@@ -78,38 +70,33 @@ impl MadePath {
         Some(by)
     }
 
-    /// The rectangles.
-    pub(crate) fn rectangles(&self) -> &SharedRectangles
-        ensures { result.now ≡ self.now.rectangles }
+    /// Its segments, where a path with these lengths, whose width isn't 0, can be drawn. It takes constant time.
+    pub(crate) fn drawn_by(&self, brush: Halves) -> Option<&SharedPath>
+        ensures path { IfSome result (λ path. self.now.path ≡ Some path.now) }
+        ensures ends { IfSome result (λ path. IsNotCutShort brush path.now) }
     {
-        &self.rectangles
+        let Some(path) = &self.path else {
+            return None;
+        };
+        if path.has_empty_end(brush.lengths()) {
+            return None;
+        }
+        Some(path)
     }
 }
 
-// The rectangles of a list at this position, with these lengths, where they keep the rules, and where memory is there.
-fn made_path(alloc: Global, at: Point, brush: Halves, written: &Deltas) -> Option<MadePath>
+// What is kept of a list at this position, where it is near 0 there, and where memory is there.
+fn made_path(alloc: Global, at: Point, written: &Deltas) -> Option<MadePath>
     requires near { IsNear at }
-    requires brush { AreHalves brush }
     ensures { IfSome result (IsItsPath written.now) }
 {
     let Ok(points) = path_points(alloc, at, written) else {
         return None;
     };
-    let Ok(offsets) = alone(alloc) else {
-        return None;
-    };
-    let Ok(shapes) = drawn(alloc, NO_PAIR, points.as_slice(), brush, &offsets) else {
-        return None;
-    };
     let hull = box_of(points.as_slice());
-    match SharedRectangles::of(alloc, shapes.as_slice()) {
-        Ok(Some(rectangles)) => Some(MadePath {
-            at,
-            halves: brush,
-            hull,
-            rectangles,
-        }),
-        _ => None,
+    match SharedPath::of(alloc, points.as_slice()) {
+        Ok(path) => Some(MadePath { at, hull, path }),
+        Err(_) => None,
     }
 }
 
@@ -131,40 +118,27 @@ impl PathList {
         &self.written
     }
 
-    /// Makes the rectangles of a long list at this position, where they aren't made with these lengths yet, keep the rules,
-    /// and where memory is there: in the time and the memory of the list. It changes nothing else.
-    pub fn make_rectangles(&mut self, alloc: Global, at: Point, brush: Brush)
+    /// Makes the segments of a long list at this position, where they aren't made yet, the list is near 0 there, and where
+    /// memory is there: in the time and the memory of the list. It changes nothing else.
+    pub fn make_segments(&mut self, alloc: Global, at: Point)
         requires { IsWithin (2 ^ 40) at }
         ensures { self.new ≡ self.old }
     {
         if self.written.items.as_slice().len() < LONG {
             return;
         }
-        if !brush.is_near() {
+        if self.made.is_some() {
             return;
         }
-        let halves = brush.halves();
-        if self.made(halves).is_some() {
-            return;
-        }
-        if let Some(made) = made_path(alloc, at, halves, &self.written) {
+        if let Some(made) = made_path(alloc, at, &self.written) {
             self.made = Some(made);
         }
     }
 
-    /// Its rectangles, where they were made with these lengths.
-    pub(crate) fn made(&self, brush: Halves) -> Option<&MadePath>
-        ensures its { IfSome result (λ made. IsItsPath self.now made.now) }
-        ensures halves { IfSome result (λ made. made.now.halves ≡ brush) }
+    /// Its segments, where they were made.
+    pub(crate) fn made(&self) -> Option<&MadePath>
+        ensures { IfSome result (λ made. IsItsPath self.now made.now) }
     {
-        match &self.made {
-            Some(made) => {
-                if made.halves.are(brush) {
-                    return Some(made);
-                }
-                None
-            }
-            None => None,
-        }
+        self.made.as_ref()
     }
 }

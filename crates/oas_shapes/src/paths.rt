@@ -1,13 +1,11 @@
 //! The shapes of paths.
 ghost use Rattle.std.specs.Prelude.{◌≡◌, ◌⊎◌, ◌↔◌, ◌++◌, ℕ, pos, ◌≤ℤ◌, All, map, false, IsTrue, OnOk, IfOk, Err, option_copied};
 ghost use Rattle.half_grid.specs.Halves.{twice};
-ghost use Rattle.half_grid.specs.Reach.{IsPointWithinReach};
-ghost use Rattle.layout_model.specs.Images.{moved as place_after};
-ghost use Rattle.layout_model.specs.Kept.{shape_with};
 ghost use Rattle.layout_model.specs.Layouts.{IsShapeOnGrid, AreOffsets};
 ghost use Rattle.layout_model.specs.PathBounds.{IsNear as IsNearInHalves};
+ghost use Rattle.layout_model.specs.Segments.{moved_segment, AreNearAfter};
 ghost use Rattle.oas_shapes.specs.Plane.{IsLength};
-ghost use Rattle.oas_shapes.specs.Brushes.{halves_of, AreHalves, IsDrawn, drawn_by, undrawn_by, KeepsCourse};
+ghost use Rattle.oas_shapes.specs.Brushes.{halves_of, lengths_of, AreHalves, IsDrawn, drawn_by, along_by, undrawn_by, KeepsCourse};
 ghost use Rattle.oas_shapes.specs.PathLists.{KeepsOffsets};
 ghost use Rattle.oas_shapes.specs.Repetitions.{offsets_in as all_offsets};
 ghost use Rattle.oas_shapes.specs.Rules.{AreNear, IsBrush, IsLowest};
@@ -21,7 +19,9 @@ use crate::sharing::Repetition;
 use crate::trails::Unplaced;
 use geo_stream::NoMemory;
 use half_grid::Point;
-use layout_model::{KeptShape, Offsets, Pair, PathBad, Shapes, SharedRectangles, path_shapes};
+use layout_model::{
+    Brush as Lengths, KeptShape, Offsets, Pair, PathBad, Shapes, SharedPath, path_shapes,
+};
 use std::alloc::Global;
 
 // At most so far from 0, in grid steps.
@@ -36,17 +36,22 @@ pub(crate) struct Halves {
 }
 
 impl Halves {
-    /// Whether both are the same.
-    pub(crate) fn are(self, others: Halves) -> bool
-        ensures { IsTrue result → self ≡ others }
+    /// Whether the path has no width.
+    pub(crate) fn has_no_width(self) -> bool
+        ensures { IsTrue result ↔ (self.half ≡ pos 0) }
     {
-        if self.half != others.half {
-            return false;
+        self.half == 0
+    }
+
+    /// The same as a path's lengths.
+    pub(crate) fn lengths(self) -> Lengths
+        ensures { result ≡ lengths_of self }
+    {
+        Lengths {
+            half: self.half,
+            begin: self.begin,
+            end: self.end,
         }
-        if self.begin != others.begin {
-            return false;
-        }
-        self.end == others.end
     }
 }
 
@@ -109,8 +114,8 @@ fn undrawn(bad: PathBad) -> Undrawn
     }
 }
 
-/// The shapes of a path at these offsets.
-pub(crate) fn drawn(
+// The shapes of a path at these offsets.
+fn drawn(
     alloc: Global,
     pair: Pair,
     points: &[Point],
@@ -229,17 +234,36 @@ pub(crate) fn add_path(
     }
 }
 
-/// Adds rectangles, each moved so and repeated so. It takes no longer than the repetition.
-pub(crate) fn add_moved(
+/// Looks at the offsets of a path without width, which has no shapes.
+pub(crate) fn add_none(alloc: Global, repetition: Option<&Repetition>) -> Result<(), Undrawn>
+    ensures kept { OnOk result ((rule : ℕ) → KeepsOffsets (option_copied repetition.entry) rule) }
+    ensures broken { (rule : ℕ) → result ≡ Err (Rule rule) → IsLowest (KeepsOffsets (option_copied repetition.entry)) rule }
+    ensures memory { IsShortIn (option_copied repetition.entry) → result ≡ Err Wanting
+        → (rule : ℕ) → KeepsOffsets (option_copied repetition.entry) rule }
+{
+    match offsets_in(alloc, repetition) {
+        Ok(_) => Ok(()),
+        Err(Unplaced::Far) => Err(Undrawn::Rule(1)),
+        Err(Unplaced::Many) => Err(Undrawn::Rule(11)),
+        Err(Unplaced::Unkept) => Err(Undrawn::NoMemory),
+        Err(Unplaced::NoMemory) => Err(Undrawn::NoMemory),
+    }
+}
+
+/// Adds the shapes of a shared path that is moved so, with these lengths, repeated so. It takes no longer than the
+/// repetition.
+pub(crate) fn add_along(
     alloc: Global,
     pair: Pair,
-    rectangles: &SharedRectangles,
+    path: &SharedPath,
     by: Point,
+    brush: Halves,
     repetition: Option<&Repetition>,
     shapes: &mut Shapes,
 ) -> Result<(), Undrawn>
-    requires near { All (λ ring. All IsPointWithinReach (map (place_after by) ring)) rectangles.now }
-    ensures shapes { OnOk result (shapes.new ≡ shapes.old ++ map (λ ring. shape_with pair (map (place_after by) ring) (all_offsets (option_copied repetition.entry)) false) rectangles.now) }
+    requires near { AreNearAfter by path.now }
+    requires brush { AreHalves brush }
+    ensures shapes { OnOk result (shapes.new ≡ shapes.old ++ along_by pair brush (map (moved_segment by) path.now) (all_offsets (option_copied repetition.entry))) }
     ensures offsets { OnOk result (AreOffsets (all_offsets (option_copied repetition.entry))) }
     ensures kept { OnOk result ((rule : ℕ) → KeepsOffsets (option_copied repetition.entry) rule) }
     ensures broken { (rule : ℕ) → result ≡ Err (Rule rule) → IsLowest (KeepsOffsets (option_copied repetition.entry)) rule }
@@ -247,7 +271,7 @@ pub(crate) fn add_moved(
         → (rule : ℕ) → KeepsOffsets (option_copied repetition.entry) rule }
 {
     match offsets_in(alloc, repetition) {
-        Ok(offsets) => match shapes.push_moved(rectangles, by, pair, offsets, false) {
+        Ok(offsets) => match shapes.push_path(path, by, pair, brush.lengths(), offsets, false) {
             Ok(()) => Ok(()),
             Err(_) => Err(Undrawn::NoMemory),
         },

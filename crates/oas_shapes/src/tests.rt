@@ -101,6 +101,18 @@ fn is_one(shapes: &Shapes, outline: &[(i64, i64)]) -> bool {
     }
 }
 
+// Whether shape `k` has this outline.
+fn is_at(shapes: &Shapes, k: usize, outline: &[(i64, i64)]) -> bool {
+    if k >= shapes.len() {
+        return false;
+    }
+    let drawn = shapes.get(k).outline();
+    match drawn.as_slice() {
+        Some(points) => are_same(points, outline),
+        None => false,
+    }
+}
+
 fn is_figure(alloc: Global, figure: Figure, outline: &[(i64, i64)]) -> bool {
     let mut shapes = Shapes::new(alloc);
     match draw_figure(alloc, PAIR, ORIGIN, figure, None, &mut shapes) {
@@ -487,6 +499,47 @@ fn paths_by_their_lowest_rule(rt: HostRuntime) {
     assert_eq!(rt; rule_of_path(alloc, brush(0, 0), &[(5, 5)]), 0);
     assert_eq!(rt; rule_of_path(alloc, brush(0, 1 << 41), &[(5, 5)]), 1);
     assert_eq!(rt; rule_of_path(alloc, brush(0, 0), &[(1 << 41, 0)]), 1);
+}
+
+const STAIRS: [(i64, i64); 10] = [
+    (10, 0),
+    (0, 10),
+    (10, 0),
+    (0, 10),
+    (10, 0),
+    (0, 10),
+    (10, 0),
+    (0, 10),
+    (10, 0),
+    (0, 10),
+];
+
+// Stairs that are made once and drawn with three widths, of which one is 0, at another position.
+#[test]
+fn a_path_used_again(rt: HostRuntime) -> Result<(), Fail> {
+    let alloc = rt.alloc();
+    let mut points = PathList::new(Deltas {
+        kind: 2,
+        items: moves(alloc, &STAIRS)?,
+    });
+    points.make_segments(alloc, ORIGIN);
+    let mut shapes = Shapes::new(alloc);
+    for (half_width, start) in [(1u64, 0i128), (0, 5), (3, 2)] {
+        let brush = Brush {
+            half_width,
+            start,
+            end: 0,
+        };
+        let place = Point { x: 100, y: -7 };
+        let drawn = draw_path(alloc, PAIR, place, brush, &points, None, &mut shapes);
+        assert!(rt; drawn.is_ok());
+    }
+    assert_eq!(rt; shapes.len(), 20);
+    let narrow = [(200, -16), (200, -12), (222, -12), (222, -16), (200, -16)];
+    assert!(rt; is_at(&shapes, 0, &narrow));
+    let wide = [(196, -20), (196, -8), (226, -8), (226, -20), (196, -20)];
+    assert!(rt; is_at(&shapes, 10, &wide));
+    Ok(())
 }
 
 #[test]

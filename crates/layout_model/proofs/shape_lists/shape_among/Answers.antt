@@ -1,12 +1,9 @@
-use Rattle.std.proofs.Common.{◌≡◌, ℕ, ◌++◌, ◌-◌, ◌<◌, ◌≤◌, List, Some, map, length, drop, slice_get, get_or, refl, subst, sym, ap, ◌∙◌, arith}
-use Rattle.std.proofs.lemmas.Option.{slice_get_read, slice_get-get_or}
-use Rattle.layout_model.specs.Images.{moved}
-use Rattle.layout_model.specs.Kept.{shape_with}
-use Rattle.layout_model.specs.ShapeLists.{ring_of, AreRuns, shapes_of, shapes_of_run, IsRank}
-use Rattle.layout_model.specs.declared.kept.Corners.{Corners}
+use Rattle.std.proofs.Common.{◌≡◌, ℕ, ◌++◌, ◌-◌, ◌<◌, ◌≤◌, List, Some, length, drop, slice_get, get_or, refl, subst, ap, ◌∙◌, arith}
+use Rattle.std.proofs.lemmas.Option.{slice_get_read}
+use Rattle.layout_model.specs.ShapeLists.{AreRuns, shapes_of, shapes_of_run, IsRank}
 use Rattle.layout_model.specs.declared.shapes.Shape.{Shape}
 use Rattle.layout_model.specs.declared.shape_lists.Run.{Run}
-use Rattle.layout_model.proofs.ShapeListLemmas.{by_rank, by_no_rank, within_alike, in_run, after_run, run_within, corners_near, zero_corners}
+use Rattle.layout_model.proofs.ShapeListLemmas.{by_rank, by_no_rank, within_alike, in_run, after_run, run_within, run_near}
 use Rattle.layout_model.proofs.shape_lists.shape_among.Goals as goal
 
 own_alike : (own : List Shape) (runs : List Run) (k rank : ℕ) → AreRuns (length own) 0 0 runs → IsRank runs k rank → rank ≡ 0
@@ -41,35 +38,31 @@ pub overflow_sub-j : goal.overflow_sub-j
 overflow_sub-j c =
     not_after c.args.runs.now c.args.k c.rank-rank.result c.index-runs-rank.result c.rank-rank.ensures c.if-rank-eq0.false c.index-runs-rank.is
 
-pub shape_of_run-requires : goal.shape_of_run-requires
-shape_of_run-requires c =
-    let run = c.index-runs-rank.result in
-    let items : c.as_slice-rectangles.result.now ≡ run.rectangles.value.items = c.as_slice-rectangles.ensures.value ∙ ap (λ v. v.items) c.deref.ensures in
-    let j = c.args.k - run.before in
-    let less : j < length run.rectangles.value.items = subst (λ l. j < length l) items c.if-j-rectangles.true in
-    rw items
-    (corners_near (length c.args.own.now) c.args.runs.now (c.rank-rank.result - 1) run j (get_or run.rectangles.value.items j zero_corners) c.requires.runs
-    (read c.args.runs.now c.args.k c.rank-rank.result run c.rank-rank.ensures c.if-rank-eq0.false c.index-runs-rank.is)
-    (slice_get-get_or run.rectangles.value.items j zero_corners less))
-
-pub returns-then-j-rectangles : goal.returns-then-j-rectangles
-returns-then-j-rectangles c =
-    let run = c.index-runs-rank.result in
-    let items : c.as_slice-rectangles.result.now ≡ run.rectangles.value.items = c.as_slice-rectangles.ensures.value ∙ ap (λ v. v.items) c.deref.ensures in
-    let j = c.args.k - run.before in
-    let less : j < length run.rectangles.value.items = subst (λ l. j < length l) items c.if-j-rectangles.true in
-    by_run c.args.own.now c.args.runs.now c.args.k c.rank-rank.result run c.requires.runs c.rank-rank.ensures c.if-rank-eq0.false c.index-runs-rank.is
-    ∙ in_run c.args.own.now run j (get_or run.rectangles.value.items j zero_corners) (slice_get-get_or run.rectangles.value.items j zero_corners less)
-    ∙ ap (λ (l : List Corners). Some (shape_with run.pair (map (moved run.by) (ring_of (get_or l j zero_corners))) run.offsets run.is_fixed)) (sym items)
-    ∙ ap Some (sym c.shape_of_run.ensures)
-
-after_it : (own : List Shape) (runs : List Run) (k rank : ℕ) (run : Run) (rectangles : List Corners) → AreRuns (length own) 0 0 runs → IsRank runs k rank
-    → (rank ≡ 0 → ⊥) → run ≡ get_or runs (rank - 1) run → rectangles ≡ run.rectangles.value.items → length rectangles ≤ k - run.before
-    → slice_get (shapes_of own runs) k ≡ slice_get (drop run.after own) (k - run.before - length rectangles)
-after_it own runs k rank run rectangles all is some at items past =
+after_it : (own : List Shape) (runs : List Run) (k rank many : ℕ) (run : Run) → AreRuns (length own) 0 0 runs → IsRank runs k rank
+    → (rank ≡ 0 → ⊥) → run ≡ get_or runs (rank - 1) run → many ≡ length run.path.value.items → many ≤ k - run.before
+    → slice_get (shapes_of own runs) k ≡ slice_get (drop run.after own) (k - run.before - many)
+after_it own runs k rank many run all is some at items past =
     rw items
     (by_run own runs k rank run all is some at
-    ∙ after_run own run (k - run.before) (subst (λ (l : List Corners). length l ≤ k - run.before) items past))
+    ∙ after_run own run (k - run.before) (subst (λ n. n ≤ k - run.before) items past))
+
+pub shape_of_run-requires-clause-near : goal.shape_of_run-requires-clause-near
+shape_of_run-requires-clause-near c =
+    (run_near (length c.args.own.now) 0 0 c.args.runs.now (c.rank-rank.result - 1) c.index-runs-rank.result c.requires.runs
+    (read c.args.runs.now c.args.k c.rank-rank.result c.index-runs-rank.result c.rank-rank.ensures c.if-rank-eq0.false c.index-runs-rank.is)).0
+
+pub shape_of_run-requires-clause-brush : goal.shape_of_run-requires-clause-brush
+shape_of_run-requires-clause-brush c =
+    (run_near (length c.args.own.now) 0 0 c.args.runs.now (c.rank-rank.result - 1) c.index-runs-rank.result c.requires.runs
+    (read c.args.runs.now c.args.k c.rank-rank.result c.index-runs-rank.result c.rank-rank.ensures c.if-rank-eq0.false c.index-runs-rank.is)).1
+
+pub returns-then-j-segments : goal.returns-then-j-segments
+returns-then-j-segments c =
+    let run = c.index-runs-rank.result in
+    let many : length c.as_slice-segments.result.now ≡ length run.path.value.items = ap length (c.as_slice-segments.ensures.value ∙ ap (λ v. v.items) c.deref.ensures) in
+    let less : c.args.k - run.before < length run.path.value.items = subst (λ n. c.args.k - run.before < n) many c.if-j-segments.true in
+    by_run c.args.own.now c.args.runs.now c.args.k c.rank-rank.result run c.requires.runs c.rank-rank.ensures c.if-rank-eq0.false c.index-runs-rank.is
+    ∙ in_run c.args.own.now run (c.args.k - run.before) less ∙ c.shape_of_run.ensures
 
 pub own_after-requires-clause-after : goal.own_after-requires-clause-after
 own_after-requires-clause-after c =
@@ -79,15 +72,14 @@ own_after-requires-clause-after c =
 pub own_after-requires-clause-inside : goal.own_after-requires-clause-inside
 own_after-requires-clause-inside c =
     let own = c.args.own.now in let runs = c.args.runs.now in let run = c.index-runs-rank.result in
-    let rectangles = c.as_slice-rectangles.result.now in
-    within_alike (shapes_of own runs) (drop run.after own) c.args.k (c.args.k - run.before - length rectangles)
-    (after_it own runs c.args.k c.rank-rank.result run rectangles c.requires.runs c.rank-rank.ensures c.if-rank-eq0.false c.index-runs-rank.is
-    (c.as_slice-rectangles.ensures.value ∙ ap (λ v. v.items) c.deref.ensures) c.if-j-rectangles.false) c.requires.inside
+    within_alike (shapes_of own runs) (drop run.after own) c.args.k (c.args.k - run.before - length c.as_slice-segments.result.now)
+    (after_it own runs c.args.k c.rank-rank.result (length c.as_slice-segments.result.now) run c.requires.runs c.rank-rank.ensures c.if-rank-eq0.false c.index-runs-rank.is
+    (ap length (c.as_slice-segments.ensures.value ∙ ap (λ v. v.items) c.deref.ensures)) c.if-j-segments.false) c.requires.inside
 
 pub returns : goal.returns
 returns c =
     let own = c.args.own.now in let runs = c.args.runs.now in let run = c.index-runs-rank.result in
-    after_it own runs c.args.k c.rank-rank.result run c.as_slice-rectangles.result.now c.requires.runs c.rank-rank.ensures
+    after_it own runs c.args.k c.rank-rank.result (length c.as_slice-segments.result.now) run c.requires.runs c.rank-rank.ensures
     c.if-rank-eq0.false c.index-runs-rank.is
-    (c.as_slice-rectangles.ensures.value ∙ ap (λ v. v.items) c.deref.ensures) c.if-j-rectangles.false
+    (ap length (c.as_slice-segments.ensures.value ∙ ap (λ v. v.items) c.deref.ensures)) c.if-j-segments.false
     ∙ c.own_after.ensures
