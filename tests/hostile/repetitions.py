@@ -81,6 +81,12 @@ def paths_of_two_widths(points, times):
     return in_cell("OTHER", first, b"\x16\x40\x02\x16\x40\x01", times // 2)
 
 
+def paths_without_width(points, times):
+    """Each move goes back the way of the one before, which is no fault where there is no width."""
+    first = b"\x16\xFB" + unsigned(1, 0, 0, 5) + unsigned(2, points) + unsigned(*[8, 10] * (points // 2)) + signed(0, 0)
+    return in_cell("OTHER", first, b"\x16\x00", times)
+
+
 def shown_paths(points, times):
     """Of the top cell: each two rows of the stairs are one shot, but the first two, since a band ends at Y 0, and so is the last row."""
     first = b"\x16\xFB" + unsigned(1, 0, 1, 5) + unsigned(0, points) + signed(*[2] * points) + signed(0, 0)
@@ -125,6 +131,7 @@ CASES = [
     ("a path of 10,000 points that nothing reaches, 10,000 times", False, lambda: paths(1, 10000, 10000, False)),
     ("a path of 100,000 points that nothing reaches, 100,000 times", False, lambda: paths(1, 100000, 100000, False)),
     ("a path of 10,000 points with a width that changes, 20,000 times", False, lambda: paths_of_two_widths(10000, 20000)),
+    ("a path of 10,000 points without width that turns back, 100,000 times", False, lambda: paths_without_width(10000, 100000)),
     ("a path of 200 points, 200 times", True, lambda: shown_paths(200, 200)),
     ("a path of 1,000 points, 1,000 times", False, lambda: shown_paths(1000, 1000)),
 ]
