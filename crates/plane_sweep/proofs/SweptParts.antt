@@ -3,13 +3,12 @@ use Rattle.std.proofs.Common.{ℕ, ℤ, pos, negsuc, ◌*◌, ◌+◌, ◌^◌, 
 use Rattle.std.proofs.Common.{cond, List, [], ◌∷◌, ◌++◌, length, drop}
 use Rattle.std.proofs.Common.{Some, None, All, append_assoc, arith, refl, ap, sym, subst, ◌∙◌}
 use Rattle.std.proofs.Math.Nat.{mul-le-mul_right}
-use Rattle.std.specs.Prelude.{IsPermutation}
 use Rattle.std.specs.Int.{int_min, int_max}
 use Rattle.std.specs.List.{cons_option}
 use Rattle.std.proofs.lemmas.Int.{ints, clamps}
 use Rattle.std.proofs.lemmas.List.{length-drop}
 use Rattle.std.proofs.lemmas.List.Elements.{All-nil, All-cons, All-weaker}
-use Rattle.half_grid.specs.Edges.{EdgeParts, IsEdge, edge_parts, edges_winding}
+use Rattle.half_grid.specs.Edges.{EdgeParts, edge_parts, edges_winding}
 use Rattle.half_grid.specs.JoinedLists.{IsJoined, StandsBefore}
 use Rattle.half_grid.specs.Trapezoids.{Trapezoid, CoversExactly}
 use Rattle.half_grid.specs.Windows.{RowRange}
@@ -25,10 +24,10 @@ use Rattle.trap_join.specs.Maximal.{IsRunAt, IsMaximal, AreMaximal}
 use Rattle.trap_join.proofs.ForCallers.{taken_maximal, taken_after, ends_joined, ends_maximal, ends_covers}
 use Rattle.active_lines.specs.declared.item.ActiveLine.{ActiveLine}
 use Rattle.row_lists.specs.declared.event.Event.{Event}
-use Rattle.row_lists.specs.Events.{events_of}
 use Rattle.active_lines.specs.ActiveLists.{items}
 use Rattle.plane_sweep.specs.declared.next_stop.Stop.{Stop}
 use Rattle.plane_sweep.specs.NextStops.{IsStopAt}
+use Rattle.plane_sweep.specs.Sources.{AreEventsOf}
 use Rattle.plane_sweep.specs.PlaneSweeps.{SweepState, HasGiven, IsBelowAll, HasComeTo, still_to_come}
 use Rattle.plane_sweep.specs.declared.progress.Progress.{Progress}
 use Rattle.plane_sweep.specs.StopSettles.{SettlesStop}
@@ -188,17 +187,18 @@ one_less end y whole waiting rest z e fewer = let count = ap length e in omega (
 -- ---- below the window, and over a stop
 
 module _ (pre : ℤ → ℤ → Type 0) (post : ℤ → ℤ → Bool → Type 0) (rule : IsRule pre post) where
-  pub begun : (edges ps : List EdgeParts) (window : RowRange) (p : Progress) → ps ≡ parts_in window edges → IsBalanced edges window → p.window ≡ window
-      → IsBelowAll ps window p → HasComeTo post edges p []
-  begun edges ps window p same balanced in_window below =
+  pub begun : {E : Type 0} (left : E → List Event) (edges ps : List EdgeParts) (window : RowRange) (p : Progress E) → ps ≡ parts_in window edges
+      → IsBalanced edges window → p.window ≡ window → IsBelowAll left ps window p → HasComeTo left post edges p []
+  begun left edges ps window p same balanced in_window below =
       let all = parts_in window edges in
-      subst (λ (w : RowRange). IsSweptAbove post (parts_in w edges) w (p.from.y -ℤ pos 1) (items p.front.lines) p.events p.front.waiting.items) (sym in_window)
-      (subst (λ (z : ℤ). IsSweptAbove post all window (z -ℤ pos 1) (items p.front.lines) p.events p.front.waiting.items) (sym below.from)
-      (subst (λ (ls : List ActiveLine). IsSweptAbove post all window (window.y0 -ℤ pos 1) ls p.events p.front.waiting.items) (sym below.lines)
-      (subst (λ (ws : List Trapezoid). IsSweptAbove post all window (window.y0 -ℤ pos 1) [] p.events ws) (sym below.waiting)
-      (begins pre post rule all window p.events (subst (λ (es : List EdgeParts). All IsEdge es) same below.known) (parts_inside window edges)
-      (subst (λ (es : List EdgeParts). length es ≤ 2 ^ 64) same below.short) (stays_balanced window edges balanced) below.rows
-      (subst (λ (es : List EdgeParts). IsPermutation (events_of es) p.events) same below.whole) below.ascend))))
+      let events = left p.events in
+      let known = subst (λ (es : List EdgeParts). AreEventsOf es events) same below.events in
+      subst (λ (w : RowRange). IsSweptAbove post (parts_in w edges) w (p.from.y -ℤ pos 1) (items p.front.lines) events p.front.waiting.items) (sym in_window)
+      (subst (λ (z : ℤ). IsSweptAbove post all window (z -ℤ pos 1) (items p.front.lines) events p.front.waiting.items) (sym below.from)
+      (subst (λ (ls : List ActiveLine). IsSweptAbove post all window (window.y0 -ℤ pos 1) ls events p.front.waiting.items) (sym below.lines)
+      (subst (λ (ws : List Trapezoid). IsSweptAbove post all window (window.y0 -ℤ pos 1) [] events ws) (sym below.waiting)
+      (begins pre post rule all window events known.known (parts_inside window edges) known.short (stays_balanced window edges balanced) below.rows
+      known.whole known.ascend))))
 
   -- above the stop each later one is at a Y above the stop's
   pub gone_on : (edges : List EdgeParts) (window : RowRange) (y from : ℤ) (lines next : List ActiveLine) (left rest : List Event)

@@ -2,6 +2,7 @@
 pub mod SweptLists
 pub mod Lowest
 pub mod PlaneSweeps
+pub mod Sources
 pub mod Sweeps
 pub mod Settled
 pub mod StopSettles

@@ -2,8 +2,8 @@
 --
 -- Above a stop the sweep's lines are the row list of each row up to the next one. What ended at a stop or below was given, or
 -- waits to be given; the others are open at the lines. Edges count by their parts in the window.
-use Rattle.std.specs.Prelude.{ℕ, ℤ, pos, ◌+◌, ◌*◌, ◌^◌, ◌≤◌, ◌-ℤ◌, ◌≡◌, Bool, List, [], ◌++◌, length, All, IsPermutation}
-use Rattle.half_grid.specs.Edges.{EdgeParts, IsEdge}
+use Rattle.std.specs.Prelude.{ℕ, ℤ, pos, ◌+◌, ◌*◌, ◌^◌, ◌≤◌, ◌-ℤ◌, ◌≡◌, Bool, List, [], ◌++◌, length}
+use Rattle.half_grid.specs.Edges.{EdgeParts}
 use Rattle.half_grid.specs.Trapezoids.{Trapezoid}
 use Rattle.half_grid.specs.Windows.{RowRange, IsWindow}
 use Rattle.scan_line.specs.ClippedEdges.{parts_in}
@@ -11,7 +11,7 @@ use Rattle.trap_join.specs.Joins.{rows_up}
 use Rattle.active_lines.specs.ActiveLists.{items}
 use Rattle.active_lines.specs.declared.item.ActiveLine.{ActiveLine}
 use Rattle.row_lists.specs.declared.event.Event.{Event}
-use Rattle.row_lists.specs.Events.{events_of, EventsAscend}
+use Rattle.plane_sweep.specs.Sources.{AreEventsOf}
 use Rattle.plane_sweep.specs.Sweeps.{IsSweptAbove}
 use Rattle.plane_sweep.specs.declared.progress.Progress.{Progress}
 
@@ -40,20 +40,17 @@ module _ {F : Type 0} where
   left_to_give state = still_to_come state.window.y1 (state.from -ℤ pos 1) (length state.waiting)
 
 -- below the window there are no lines, and all events are still to come
-pub record IsBelowAll (edges : List EdgeParts) (window : RowRange) (p : Progress) : Type 0 where
-  pub known : All IsEdge edges
-  pub short : length edges ≤ 2 ^ 64
+pub record IsBelowAll {E : Type 0} (left : E → List Event) (edges : List EdgeParts) (window : RowRange) (p : Progress E) : Type 0 where
+  pub events : AreEventsOf edges (left p.events)
   pub rows : IsWindow window
-  pub whole : IsPermutation (events_of edges) p.events
-  pub ascend : EventsAscend p.events
   pub lines : items p.front.lines ≡ []
   pub waiting : p.front.waiting.items ≡ []
   pub from : p.from.y ≡ window.y0
 
--- what a sweep has given, by how far it has come
-abbrev pub HasComeTo : (ℤ → ℤ → Bool → Type 0) → List EdgeParts → Progress → List Trapezoid → Type 0
-HasComeTo post edges p given =
-    IsSweptAbove post (parts_in p.window edges) p.window (p.from.y -ℤ pos 1) (items p.front.lines) p.events (given ++ p.front.waiting.items)
+-- what a sweep has given, by how far it has come, and by what a source still has
+abbrev pub HasComeTo : {E : Type 0} → (E → List Event) → (ℤ → ℤ → Bool → Type 0) → List EdgeParts → Progress E → List Trapezoid → Type 0
+HasComeTo left post edges p given =
+    IsSweptAbove post (parts_in p.window edges) p.window (p.from.y -ℤ pos 1) (items p.front.lines) (left p.events) (given ++ p.front.waiting.items)
 
-abbrev pub left_in : Progress → ℕ
+abbrev pub left_in : {E : Type 0} → Progress E → ℕ
 left_in p = still_to_come p.window.y1 (p.from.y -ℤ pos 1) (length p.front.waiting.items)

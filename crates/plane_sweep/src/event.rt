@@ -6,6 +6,7 @@ ghost use Rattle.row_lists.specs.Events.{begin_of, end_of, events_of, EventsAsce
 ghost use Rattle.std.specs.Option.{option_to_list};
 ghost use Rattle.scan_line.specs.ClippedEdges.{part_in, parts_in};
 ghost use Rattle.plane_sweep.specs.Bundles.{PassesEvents, first_event};
+ghost use Rattle.plane_sweep.specs.Sources.{AreEventsOf};
 
 use crate::bundle::{Bundle, change_of};
 use crate::packed::Packed;
@@ -55,8 +56,8 @@ pub(crate) fn know_edges(edges: &[Edge])
     }
 }
 
-/// What the parts of the edges in the window are.
-pub(crate) fn know_parts(edges: &[Edge], window: Window)
+// What the parts of the edges in the window are.
+fn know_parts(edges: &[Edge], window: Window)
     ensures known { All IsEdge (parts_in window edges.now) }
     ensures short { length (parts_in window edges.now) ≤ 2 ^ 64 }
 {
@@ -128,14 +129,10 @@ impl SortedEvents {
     }
 
     /// The events of the edges' parts in the rows of the window.
-    pub(crate) fn of_parts(
-        alloc: Global,
-        edges: &[Edge],
-        window: Window,
-    ) -> Result<SortedEvents, NoMemory>
-        ensures permutation { IfOk result (λ events. IsPermutation (events_of (parts_in window edges.now)) events) }
-        ensures ascend { IfOk result (λ events. EventsAscend events) }
+    pub fn of_parts(alloc: Global, edges: &[Edge], window: Window) -> Result<SortedEvents, NoMemory>
+        ensures { IfOk result (λ events. AreEventsOf (parts_in window edges.now) events) }
     {
+        know_parts(edges, window);
         let events = events_in(alloc, edges, window)?;
         Ok(in_order(events))
     }

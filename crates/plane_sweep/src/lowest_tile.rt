@@ -10,6 +10,7 @@ ghost use Rattle.active_lines.specs.ActiveLists.{items};
 ghost use Rattle.plane_sweep.specs.Lowest.{IsLowest, TakesNone, IsSpotOf, IsSpotIn, IsFirstIn, IsFirstOfAll, IsNoLater, first_spot, open_up_to};
 ghost use Rattle.plane_sweep.specs.PlaneSweeps.{HasComeTo, left_in};
 
+use crate::event::SortedEvents;
 use crate::progress::Progress;
 use active_lines::{ActiveLine, ActiveLines};
 use geo_stream::NoMemory;
@@ -183,11 +184,15 @@ fn lowest_waiting(waiting: &mut VecDeque<Trap>) -> Option<Spot>
 }
 
 // Looks at all that ended or is open, where no more stops are to be passed before.
-fn look_at<F: Fn(i128, i128) -> bool>(progress: &mut Progress, rule: &Rule<F>, stops: u64) -> Look
+fn look_at<F: Fn(i128, i128) -> bool>(
+    progress: &mut Progress<SortedEvents>,
+    rule: &Rule<F>,
+    stops: u64,
+) -> Look
     requires rule { IsRule (F.pre rule.now) (F.post rule.now) }
-    requires come { (edges : List EdgeParts) × HasComeTo (F.post rule.now) edges progress.old [] }
-    ensures found { (edges : List EdgeParts) → HasComeTo (F.post rule.now) edges progress.old [] → IfSome result.found (IsFirstIn (IsTakenIn (F.post rule.now) edges progress.old.window)) }
-    ensures none { (edges : List EdgeParts) → HasComeTo (F.post rule.now) edges progress.old [] → IfNone result.found (HasComeTo (F.post rule.now) edges progress.new []) }
+    requires come { (edges : List EdgeParts) × HasComeTo (λ events. events) (F.post rule.now) edges progress.old [] }
+    ensures found { (edges : List EdgeParts) → HasComeTo (λ events. events) (F.post rule.now) edges progress.old [] → IfSome result.found (IsFirstIn (IsTakenIn (F.post rule.now) edges progress.old.window)) }
+    ensures none { (edges : List EdgeParts) → HasComeTo (λ events. events) (F.post rule.now) edges progress.old [] → IfNone result.found (HasComeTo (λ events. events) (F.post rule.now) edges progress.new []) }
     ensures fewer { left_in progress.new ≤ left_in progress.old }
     ensures window { progress.new.window ≡ progress.old.window }
 {
@@ -207,12 +212,12 @@ fn look_at<F: Fn(i128, i128) -> bool>(progress: &mut Progress, rule: &Rule<F>, s
 // The lowest tile that the rule takes, leftmost in its row. It ends soon after the first trapezoid is open: all lines are
 // looked at again after as many stops as there were lines, so all looks together take no longer than the stops.
 fn lowest_spot<F: Fn(i128, i128) -> bool>(
-    progress: &mut Progress,
+    progress: &mut Progress<SortedEvents>,
     rule: &Rule<F>,
 ) -> Result<Option<Spot>, NoMemory>
     requires rule { IsRule (F.pre rule.now) (F.post rule.now) }
-    requires come { (edges : List EdgeParts) × HasComeTo (F.post rule.now) edges progress.old [] }
-    ensures { (edges : List EdgeParts) → HasComeTo (F.post rule.now) edges progress.old [] → IfOk result (IsSpotIn (IsTakenIn (F.post rule.now) edges progress.old.window)) }
+    requires come { (edges : List EdgeParts) × HasComeTo (λ events. events) (F.post rule.now) edges progress.old [] }
+    ensures { (edges : List EdgeParts) → HasComeTo (λ events. events) (F.post rule.now) edges progress.old [] → IfOk result (IsSpotIn (IsTakenIn (F.post rule.now) edges progress.old.window)) }
 {
     let mut stops = 0;
     loop {

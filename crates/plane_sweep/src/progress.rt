@@ -10,9 +10,10 @@ ghost use Rattle.scan_line.specs.Rules.{IsRule};
 ghost use Rattle.scan_line.specs.Runs.{IsBalanced};
 ghost use Rattle.trap_join.specs.Joins.{IsTakenIn, IsJoinedSoFar};
 ghost use Rattle.trap_join.specs.Maximal.{IsMaximal, AreMaximal};
+ghost use Rattle.active_lines.specs.ActiveLists.{items};
 ghost use Rattle.plane_sweep.specs.PlaneSweeps.{IsBelowAll, HasComeTo, left_in};
 
-use crate::event::{SortedEvents, know_parts};
+use crate::event::{EventSource, SortedEvents};
 use crate::next_stop::next_stop;
 use crate::point::Front;
 use crate::runs::Level;
@@ -25,9 +26,9 @@ use std::collections::VecDeque;
 
 /// A sweep's lines above some stop, and what is still to come.
 #[derive(Drop)]
-pub(crate) struct Progress {
+pub(crate) struct Progress<E> {
     pub(crate) window: Window,
-    pub(crate) events: SortedEvents,
+    pub(crate) events: E,
     pub(crate) front: Front,
     /// Each stop still to come is at this Y or above it.
     pub(crate) from: Level,
@@ -48,20 +49,36 @@ fn after(level: Level) -> Level
     Level { y: level.y + 1 }
 }
 
-impl Progress {
+impl Progress<SortedEvents> {
     /// Below the window, where there are no lines. Edges count by their parts in the rows of the window.
-    pub(crate) fn begin(alloc: Global, edges: &[Edge], window: Window) -> Result<Progress, NoMemory>
-        ensures below { IfOk result (IsBelowAll (parts_in window edges.now) window) }
+    pub(crate) fn begin(
+        alloc: Global,
+        edges: &[Edge],
+        window: Window,
+    ) -> Result<Progress<SortedEvents>, NoMemory>
+        ensures below { IfOk result (IsBelowAll (λ events. events) (parts_in window edges.now) window) }
         ensures window { IfOk result (λ progress. progress.window ≡ window) }
     {
-        know_parts(edges, window);
         let events = SortedEvents::of_parts(alloc, edges, window)?;
-        Ok(Progress {
+        Ok(Progress::over(alloc, events, window))
+    }
+}
+
+impl<E: EventSource> Progress<E> {
+    /// Below the window, where there are no lines, with the events of a source.
+    pub(crate) fn over(alloc: Global, events: E, window: Window) -> Progress<E>
+        ensures events { result.events ≡ events }
+        ensures window { result.window ≡ window }
+        ensures lines { items result.front.lines ≡ [] }
+        ensures waiting { result.front.waiting.items ≡ [] }
+        ensures from { result.from.y ≡ window.y0 }
+    {
+        Progress {
             window,
             events,
             front: Front::new(alloc),
             from: Level { y: window.y0() },
-        })
+        }
     }
 
     /// Goes over the next stop. False where none is left.
@@ -70,9 +87,9 @@ impl Progress {
         rule: &Rule<F>,
     ) -> Result<bool, NoMemory>
         requires rule { IsRule (F.pre rule.now) (F.post rule.now) }
-        requires given { (edges : List EdgeParts) × (given : List Trapezoid) × HasComeTo (F.post rule.now) edges self.old given }
-        ensures given { (edges : List EdgeParts) (given : List Trapezoid) → HasComeTo (F.post rule.now) edges self.old given → OnOk result (HasComeTo (F.post rule.now) edges self.new given) }
-        ensures whole { (edges : List EdgeParts) (given : List Trapezoid) → HasComeTo (F.post rule.now) edges self.old given → IfOk result (λ more. more ≡ false → IsJoinedSoFar (F.post rule.now) (parts_in self.old.window edges) self.old.window self.old.window.y1 (given ++ self.old.front.waiting.items) []) }
+        requires given { (edges : List EdgeParts) × (given : List Trapezoid) × HasComeTo E.left (F.post rule.now) edges self.old given }
+        ensures given { (edges : List EdgeParts) (given : List Trapezoid) → HasComeTo E.left (F.post rule.now) edges self.old given → OnOk result (HasComeTo E.left (F.post rule.now) edges self.new given) }
+        ensures whole { (edges : List EdgeParts) (given : List Trapezoid) → HasComeTo E.left (F.post rule.now) edges self.old given → IfOk result (λ more. more ≡ false → IsJoinedSoFar (F.post rule.now) (parts_in self.old.window edges) self.old.window self.old.window.y1 (given ++ self.old.front.waiting.items) []) }
         ensures same { IfOk result (λ more. more ≡ false → self.new.front.waiting.items ≡ self.old.front.waiting.items) }
         ensures fewer { IfOk result (λ more. IsTrue more → left_in self.new < left_in self.old) }
         ensures never_more { OnOk result (left_in self.new ≤ left_in self.old) }
@@ -99,14 +116,14 @@ impl Progress {
         rule: &Rule<F>,
     ) -> Result<Option<Trap>, NoMemory>
         requires rule { IsRule (F.pre rule.now) (F.post rule.now) }
-        requires given { (edges : List EdgeParts) × (given : List Trapezoid) × HasComeTo (F.post rule.now) edges self.old given }
-        ensures gives { (edges : List EdgeParts) (given : List Trapezoid) → HasComeTo (F.post rule.now) edges self.old given → IfOk result (λ answer. IfSome answer (λ trap. HasComeTo (F.post rule.now) edges self.new (given ++ trap ∷ []))) }
-        ensures maximal { (edges : List EdgeParts) (given : List Trapezoid) → HasComeTo (F.post rule.now) edges self.old given → IfOk result (λ answer. IfSome answer (IsMaximal (IsTakenIn (F.post rule.now) edges self.old.window) self.old.window)) }
-        ensures in_order { (edges : List EdgeParts) (given : List Trapezoid) → HasComeTo (F.post rule.now) edges self.old given → IfOk result (λ answer. IfSome answer (λ trap. All (λ z. StandsBefore z trap) given)) }
-        ensures ends { (edges : List EdgeParts) (given : List Trapezoid) → HasComeTo (F.post rule.now) edges self.old given → IfOk result (λ answer. IfNone answer (HasComeTo (F.post rule.now) edges self.new given)) }
-        ensures joined { (edges : List EdgeParts) (given : List Trapezoid) → HasComeTo (F.post rule.now) edges self.old given → IfOk result (λ answer. IfNone answer (IsJoined self.old.window given)) }
-        ensures whole { (edges : List EdgeParts) (given : List Trapezoid) → HasComeTo (F.post rule.now) edges self.old given → IfOk result (λ answer. IfNone answer (AreMaximal (IsTakenIn (F.post rule.now) edges self.old.window) self.old.window given)) }
-        ensures covers { (edges : List EdgeParts) (given : List Trapezoid) → HasComeTo (F.post rule.now) edges self.old given → IfOk result (λ answer. IfNone answer (CoversExactly given (IsTakenIn (F.post rule.now) edges self.old.window))) }
+        requires given { (edges : List EdgeParts) × (given : List Trapezoid) × HasComeTo E.left (F.post rule.now) edges self.old given }
+        ensures gives { (edges : List EdgeParts) (given : List Trapezoid) → HasComeTo E.left (F.post rule.now) edges self.old given → IfOk result (λ answer. IfSome answer (λ trap. HasComeTo E.left (F.post rule.now) edges self.new (given ++ trap ∷ []))) }
+        ensures maximal { (edges : List EdgeParts) (given : List Trapezoid) → HasComeTo E.left (F.post rule.now) edges self.old given → IfOk result (λ answer. IfSome answer (IsMaximal (IsTakenIn (F.post rule.now) edges self.old.window) self.old.window)) }
+        ensures in_order { (edges : List EdgeParts) (given : List Trapezoid) → HasComeTo E.left (F.post rule.now) edges self.old given → IfOk result (λ answer. IfSome answer (λ trap. All (λ z. StandsBefore z trap) given)) }
+        ensures ends { (edges : List EdgeParts) (given : List Trapezoid) → HasComeTo E.left (F.post rule.now) edges self.old given → IfOk result (λ answer. IfNone answer (HasComeTo E.left (F.post rule.now) edges self.new given)) }
+        ensures joined { (edges : List EdgeParts) (given : List Trapezoid) → HasComeTo E.left (F.post rule.now) edges self.old given → IfOk result (λ answer. IfNone answer (IsJoined self.old.window given)) }
+        ensures whole { (edges : List EdgeParts) (given : List Trapezoid) → HasComeTo E.left (F.post rule.now) edges self.old given → IfOk result (λ answer. IfNone answer (AreMaximal (IsTakenIn (F.post rule.now) edges self.old.window) self.old.window given)) }
+        ensures covers { (edges : List EdgeParts) (given : List Trapezoid) → HasComeTo E.left (F.post rule.now) edges self.old given → IfOk result (λ answer. IfNone answer (CoversExactly given (IsTakenIn (F.post rule.now) edges self.old.window))) }
         ensures fewer { IfOk result (λ answer. left_in self.new + length (option_to_list answer) ≤ left_in self.old) }
         ensures window { self.new.window ≡ self.old.window }
     {

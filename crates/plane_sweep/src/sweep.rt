@@ -8,9 +8,12 @@ ghost use Rattle.scan_line.specs.Rules.{IsRule};
 ghost use Rattle.scan_line.specs.Runs.{IsBalanced};
 ghost use Rattle.trap_join.specs.Joins.{IsTakenIn};
 ghost use Rattle.trap_join.specs.Maximal.{IsMaximal, AreMaximal};
+ghost use Rattle.scan_line.specs.ClippedEdges.{parts_in};
 ghost use Rattle.plane_sweep.specs.PlaneSweeps.{HasGiven, left_to_give};
+ghost use Rattle.plane_sweep.specs.Sources.{AreEventsOf};
 ghost use Rattle.plane_sweep.specs.SweptLists.{IsSwept};
 
+use crate::event::{EventSource, SortedEvents};
 use crate::progress::Progress;
 use geo_stream::NoMemory;
 use half_grid::{Edge, Trap, Window};
@@ -21,22 +24,22 @@ use std::marker::Model;
 /// The joined list of the tiles of a window that a rule takes, swept from below, one trapezoid at a time. Each is given soon
 /// after the sweep comes to its top: what a sweep keeps are the edges' ends still to come and the lines of one row.
 #[derive(Drop)]
-pub struct Sweep<F> {
+pub struct Sweep<F, E: EventSource> {
     rule: Rule<F>,
-    progress: Progress,
+    progress: Progress<E>,
     failed: bool,
 }
 
-impl<F> Model for Sweep<F> {
+impl<F, E: EventSource> Model for Sweep<F, E> {
     ghost use Rattle.active_lines.specs.ActiveLists.{items};
     ghost use Rattle.plane_sweep.specs.PlaneSweeps.{SweepState};
 
     ghost Value = { SweepState F };
 
-    ghost view = { λ sweep. record { rule = sweep.rule; window = sweep.progress.window; from = sweep.progress.from.y; lines = items sweep.progress.front.lines; left = sweep.progress.events; waiting = sweep.progress.front.waiting.items; failed = sweep.failed } };
+    ghost view = { λ sweep. record { rule = sweep.rule; window = sweep.progress.window; from = sweep.progress.from.y; lines = items sweep.progress.front.lines; left = E.left sweep.progress.events; waiting = sweep.progress.front.waiting.items; failed = sweep.failed } };
 }
 
-impl<F: Fn(i128, i128) -> bool> Sweep<F> {
+impl<F: Fn(i128, i128) -> bool> Sweep<F, SortedEvents> {
     /// A sweep of the edges in the rows of the window, below all of them. Edges are cut to these rows, and those outside are
     /// left out. In each row of the window each operand has as many edges that go up as edges that go down.
     pub fn begin(
@@ -44,7 +47,7 @@ impl<F: Fn(i128, i128) -> bool> Sweep<F> {
         edges: Vec<Edge>,
         window: Window,
         rule: Rule<F>,
-    ) -> Result<Sweep<F>, NoMemory>
+    ) -> Result<Sweep<F, SortedEvents>, NoMemory>
         requires rule { IsRule (F.pre rule) (F.post rule) }
         requires balanced { IsBalanced edges.items window }
         ensures given { IfOk result (λ sweep. HasGiven (F.post rule) edges.items sweep []) }
@@ -52,12 +55,26 @@ impl<F: Fn(i128, i128) -> bool> Sweep<F> {
         ensures window { IfOk result (λ sweep. sweep.window ≡ window) }
         ensures going { IfOk result (λ sweep. sweep.failed ≡ false) }
     {
-        let progress = Progress::begin(alloc, edges.as_slice(), window)?;
-        Ok(Sweep {
+        let events = SortedEvents::of_parts(alloc, edges.as_slice(), window)?;
+        Ok(Sweep::begin_from(alloc, events, window, rule))
+    }
+}
+
+impl<F: Fn(i128, i128) -> bool, E: EventSource> Sweep<F, E> {
+    /// A sweep, below all of them, of edges whose events come from a source: those of the edges' parts in the rows of the
+    /// window, by ascending Y, and those of one Y from left to right.
+    pub fn begin_from(alloc: Global, events: E, window: Window, rule: Rule<F>) -> Sweep<F, E>
+        requires rule { IsRule (F.pre rule) (F.post rule) }
+        ensures given { (edges : List EdgeParts) → IsBalanced edges window → AreEventsOf (parts_in window edges) (E.left events) → HasGiven (F.post rule) edges result [] }
+        ensures rule { result.rule ≡ rule }
+        ensures window { result.window ≡ window }
+        ensures going { result.failed ≡ false }
+    {
+        Sweep {
             rule,
-            progress,
+            progress: Progress::over(alloc, events, window),
             failed: false,
-        })
+        }
     }
 
     /// The next trapezoid of the joined list of the tiles that the rule takes in the window. None where each was given.

@@ -10,13 +10,13 @@ use Rattle.plane_sweep.proofs.lowest_tile.lowest.Goals as goal
 pub lowest_spot-requires-clause-come : goal.lowest_spot-requires-clause-come
 lowest_spot-requires-clause-come g c = (
   c.args.edges.items,
-  begun _ _ c.requires.rule c.args.edges.items (parts_in c.args.window c.args.edges.items) c.args.window c.in_ok-progress.progress refl
+  begun _ _ c.requires.rule (λ events. events) c.args.edges.items (parts_in c.args.window c.args.edges.items) c.args.window c.in_ok-progress.progress refl
       c.requires.balanced c.in_ok-progress.ensures.window (rw c.as_slice.ensures.value at c.in_ok-progress.ensures.below),
 )
 
 pub returns-in_default-clause-none : goal.returns-in_default-clause-none
 returns-in_default-clause-none g c =
-    let come = begun _ _ c.requires.rule c.args.edges.items (parts_in c.args.window c.args.edges.items) c.args.window c.in_ok-progress.progress refl
+    let come = begun _ _ c.requires.rule (λ events. events) c.args.edges.items (parts_in c.args.window c.args.edges.items) c.args.window c.in_ok-progress.progress refl
     c.requires.balanced c.in_ok-progress.ensures.window (rw c.as_slice.ensures.value at c.in_ok-progress.ensures.below) in
     rw (c.in_default.is, c.in_ok-progress.ensures.window) at (c.in_ok-spot.ensures c.args.edges.items come)
 
@@ -29,7 +29,7 @@ returns-clause-found g c =
       row = simp to_z-of_z at c.tile_at.ensures.row;
       number = simp to_z-of_z at c.tile_at.ensures.number;
     } in
-    let come = begun _ (post c.args.rule) c.requires.rule c.args.edges.items (parts_in c.args.window c.args.edges.items) c.args.window
+    let come = begun _ (post c.args.rule) c.requires.rule (λ events. events) c.args.edges.items (parts_in c.args.window c.args.edges.items) c.args.window
     c.in_ok-progress.progress refl c.requires.balanced c.in_ok-progress.ensures.window (rw c.as_slice.ensures.value at c.in_ok-progress.ensures.below) in
     let first = rw (c.in-Some.is, c.in_ok-progress.ensures.window) at (c.in_ok-spot.ensures c.args.edges.items come) in
     let a : FitsSigned w128 c.winding_at.result = search rules in

@@ -6,8 +6,8 @@ use Rattle.plane_sweep.proofs.lowest_tile.lowest_spot.Given as goal
 -- nothing was found so far
 abbrev pub invariant-loop-spot : goal.invariant-loop-spot
 invariant-loop-spot g l = record {
-  come : (edges : List EdgeParts) → HasComeTo (λ a b r. g.F.Fn.post l.fn.rule (a, (b, tt)) r) edges l.initial.progress []
-      → HasComeTo (λ a b r. g.F.Fn.post l.fn.rule (a, (b, tt)) r) edges l.progress [];
+  come : (edges : List EdgeParts) → HasComeTo (λ events. events) (λ a b r. g.F.Fn.post l.fn.rule (a, (b, tt)) r) edges l.initial.progress []
+      → HasComeTo (λ events. events) (λ a b r. g.F.Fn.post l.fn.rule (a, (b, tt)) r) edges l.progress [];
   window : l.progress.window ≡ l.initial.progress.window;
 }
 

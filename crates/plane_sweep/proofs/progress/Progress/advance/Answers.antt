@@ -19,7 +19,7 @@ pass_stop-requires-clause-below g c =
     let self = c.args.self.now in
     let parts = parts_in self.window c.requires.given.0 in (
       parts,
-      subst (λ (list : ActiveList). IsBelowStop parts c.in-Some.stop.level.y (items list) self.events) (sym c.in-Some.ensures.same)
+      subst (λ (list : ActiveList). IsBelowStop parts c.in-Some.stop.level.y (items list) (g.E.EventSource.left self.events)) (sym c.in-Some.ensures.same)
           (below _ _ c.requires.rule _ _ _ _ _ _ c.requires.given.2 c.in-Some.stop c.in-Some.ensures.stop),
     )
 
@@ -31,13 +31,13 @@ returns-clause-given g c = λ edges given come.
     let self = c.args.self.now in
     let stop = c.in-Some.stop in
     let parts = parts_in self.window edges in
-    let here = subst (λ (list : ActiveList). IsBelowStop parts stop.level.y (items list) self.events) (sym c.in-Some.ensures.same)
+    let here = subst (λ (list : ActiveList). IsBelowStop parts stop.level.y (items list) (g.E.EventSource.left self.events)) (sym c.in-Some.ensures.same)
     (below _ _ c.requires.rule _ _ _ _ _ _ come stop c.in-Some.ensures.stop) in
     let settles = subst (λ (list : ActiveList). SettlesStop (λ a b r. g.F.Fn.post c.args.rule.now (a, (b, tt)) r) stop.level.y (items list)
     self.front.waiting.items (items c.pass_stop.new.front.lines) c.pass_stop.new.front.waiting.items) c.in-Some.ensures.same
     c.in_ok-pass_stop.ensures.settles in
     gone_on _ _ c.requires.rule parts self.window _ c.after-self.result.y (items self.front.lines) (items c.pass_stop.new.front.lines)
-    self.events c.pass_stop.new.events given self.front.waiting.items c.pass_stop.new.front.waiting.items come stop c.in-Some.ensures.stop
+    (g.E.EventSource.left self.events) (g.E.EventSource.left c.pass_stop.new.events) given self.front.waiting.items c.pass_stop.new.front.waiting.items come stop c.in-Some.ensures.stop
     (c.in_ok-pass_stop.ensures.above parts here) settles c.after-self.ensures
 
 pub returns-clause-fewer : goal.returns-clause-fewer

@@ -8,8 +8,8 @@ use Rattle.plane_sweep.proofs.progress.Progress.take_next.Given as goal
 abbrev pub invariant-loop-trap : goal.invariant-loop-trap
 invariant-loop-trap g l = record {
   given : (edges : List EdgeParts) (given : List Trapezoid)
-      → HasComeTo (λ a b r. g.F.Fn.post l.fn.rule (a, (b, tt)) r) edges l.initial.self given
-      → HasComeTo (λ a b r. g.F.Fn.post l.fn.rule (a, (b, tt)) r) edges l.self given;
+      → HasComeTo g.E.EventSource.left (λ a b r. g.F.Fn.post l.fn.rule (a, (b, tt)) r) edges l.initial.self given
+      → HasComeTo g.E.EventSource.left (λ a b r. g.F.Fn.post l.fn.rule (a, (b, tt)) r) edges l.self given;
   window : l.self.window ≡ l.initial.self.window;
   fewer : left_in l.self ≤ left_in l.initial.self;
 }

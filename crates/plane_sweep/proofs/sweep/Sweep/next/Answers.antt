@@ -15,7 +15,7 @@ returns-in-Ok-clause-gives g c = λ edges given has.
       window = p.window;
       from = p.from.y;
       lines = items p.front.lines;
-      left = p.events;
+      left = g.E.EventSource.left p.events;
       waiting = p.front.waiting.items;
       failed = c.self.inside.failed;
     } in
