@@ -14,6 +14,6 @@ mod unions;
 
 pub use climbs::monotone_pieces;
 pub use lone::lone_piece;
-pub use operations::{Op, combine, combine_edges};
+pub use operations::{Op, combine, combine_edges, combine_edges_within};
 pub use outline::pieces;
-pub use unions::{left_over, unite};
+pub use unions::{left_over, unite, unite_within};

@@ -1,9 +1,9 @@
-ghost use Rattle.std.specs.Prelude.{IfOk, ◌≡◌, pos, not};
+ghost use Rattle.std.specs.Prelude.{IfOk, IfSome, IfNone, ◌≡◌, ◌<◌, ◌-◌, ◌^◌, pos, not};
 ghost use Rattle.std.specs.Ordering.{int_eq};
 ghost use Rattle.bool_ops.specs.Operations.{IsJoinedOf, IsInResult, IsWoundBy, takes};
 ghost use Rattle.scan_line.specs.Runs.{IsBalanced};
 
-use column_sweep::{operand_edges, swept};
+use column_sweep::{operand_edges, swept, swept_within};
 use geo_stream::NoMemory;
 use half_grid::{Edge, Trap, Window};
 use scan_line::Rule;
@@ -67,4 +67,26 @@ pub fn combine_edges(
         ensures { result ≡ takes op (not (int_eq first (pos 0))) (not (int_eq second (pos 0))) }
     { op.takes(first != 0, second != 0) };
     swept(alloc, edges, window, Rule::new(asked))
+}
+
+/// The same list as of `combine_edges`, as long as no more edges than about so many are gone over: None where it is given up,
+/// and the edges are lost. With the greatest number it never is.
+pub fn combine_edges_within(
+    alloc: Global,
+    op: Op,
+    edges: Vec<Edge>,
+    window: Window,
+    most: u64,
+) -> Result<Option<Vec<Trap>>, NoMemory>
+    requires { IsBalanced edges.items window }
+    ensures joined { IfOk result (λ answer. IfSome answer (λ traps. IsJoinedOf window (IsWoundBy op edges.items window) traps.items)) }
+    ensures given_up { IfOk result (λ answer. IfNone answer (most < 2 ^ 64 - 1)) }
+{
+    let asked = move |first: i128, second: i128| -> bool
+        ensures { result ≡ takes op (not (int_eq first (pos 0))) (not (int_eq second (pos 0))) }
+    { op.takes(first != 0, second != 0) };
+    match swept_within(alloc, edges, window, Rule::new(asked), most)? {
+        Some(traps) => Ok(Some(traps)),
+        None => Ok(None),
+    }
 }

@@ -4,7 +4,9 @@ ghost use Rattle.std.specs.Prelude.{All};
 ghost use Rattle.half_grid.specs.Outlines.{IsClosed};
 ghost use Rattle.half_grid.specs.Reach.{IsPointWithinReach};
 
-use crate::{Op, combine, left_over, lone_piece, monotone_pieces, pieces};
+use crate::{
+    Op, combine, combine_edges_within, left_over, lone_piece, monotone_pieces, pieces, unite_within,
+};
 use column_sweep::operand_edges;
 use geo_stream::NoMemory;
 use half_grid::{Line, Point, Trap, Window, size_of};
@@ -119,6 +121,33 @@ fn what_is_left(rt: HostRuntime) -> Result<(), Fail> {
         let left = rest(rt.alloc(), a, b, rows)?;
         assert!(rt; are(left.as_slice(), wanted));
     }
+    Ok(())
+}
+
+// The first list united, and both, by sweeps that may go over as many edges as they like.
+fn all_of(
+    alloc: Global,
+    a: &[Trap],
+    b: &[Trap],
+    window: Window,
+) -> Result<[Option<Vec<Trap>>; 2], NoMemory> {
+    let one = operand_edges(alloc, a, &[], window)?;
+    let both = operand_edges(alloc, a, b, window)?;
+    Ok([
+        unite_within(alloc, one, window, u64::MAX)?,
+        combine_edges_within(alloc, Op::Or, both, window, u64::MAX)?,
+    ])
+}
+
+#[test]
+fn without_a_limit(rt: HostRuntime) -> Result<(), Fail> {
+    let low = trap(&rt, 0, 20, Line::Upright(0), Line::Upright(20));
+    let next = trap(&rt, 0, 20, Line::Upright(10), Line::Upright(30));
+    let last = trap(&rt, 0, 20, Line::Upright(30), Line::Upright(40));
+    let rows = Window::new(0, 30).ok_or("no window")?;
+    let [one, both] = all_of(rt.alloc(), &[low, next], &[last], rows)?;
+    assert!(rt; are(one.ok_or("given up")?.as_slice(), &[[0, 20, 0, 30, 0, 30]]));
+    assert!(rt; are(both.ok_or("given up")?.as_slice(), &[[0, 20, 0, 40, 0, 40]]));
     Ok(())
 }
 

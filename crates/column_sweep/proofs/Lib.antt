@@ -7,6 +7,7 @@ mod OperandEdges
 mod Adding
 mod Closing
 mod Halving
+mod CutLemmas
 mod Stepping
 mod Awaiting
 mod Lending

@@ -8,6 +8,7 @@ pub mod Tries
 pub mod Looking
 pub mod Steps
 pub mod Parts
+pub mod Cutting
 pub mod Waiting
 pub mod Dealing
 pub mod Sewing

@@ -1,11 +1,12 @@
 //! Columns swept one after another from left to right.
-ghost use Rattle.std.specs.Prelude.{◌≡◌, ◌↔◌, ◌<ℤ◌, ◌≤ℤ◌, ◌++◌, ◌+◌, ◌^◌, ℤ, pos, negsuc, true, List, [], ◌∷◌, All, IsTrue, IfOk, OnOk};
+ghost use Rattle.std.specs.Prelude.{◌≡◌, ◌↔◌, ◌<ℤ◌, ◌≤ℤ◌, ◌<◌, ◌++◌, ◌+◌, ◌-◌, ◌^◌, ℤ, pos, negsuc, true, List, [], ◌∷◌, All, IsTrue, IfOk, OnOk, IfErr};
 ghost use Rattle.half_grid.specs.Edges.{EdgeParts, IsEdge};
 ghost use Rattle.half_grid.specs.Trapezoids.{Trapezoid};
 ghost use Rattle.half_grid.specs.Reach.{IsWithinReach};
 ghost use Rattle.scan_line.specs.Rules.{IsRule, IsWinding, Takes};
 ghost use Rattle.scan_line.specs.Runs.{IsBalanced};
 ghost use Rattle.trap_join.specs.Joins.{IsTakenIn};
+ghost use Rattle.column_sweep.specs.declared.halting.Halt.TheVariants.{Long};
 ghost use Rattle.column_sweep.specs.ColumnLaws.{IsStrictlyInside};
 ghost use Rattle.column_sweep.specs.Parts.{LiesRight};
 ghost use Rattle.column_sweep.specs.Sewing.{CoverTogether, AreSewn, AreSortedBehind, AreSweptBehind, AreSweptTo, AreLeft};
@@ -13,6 +14,7 @@ ghost use Rattle.column_sweep.specs.Sweeps.{IsSwept};
 
 use crate::cuts::Cut;
 use crate::dealing::sort_for_cuts;
+use crate::halting::Halt;
 use crate::parting::parted;
 use crate::waiting::split_before;
 use geo_stream::NoMemory;
@@ -104,23 +106,34 @@ fn sort_in(sewn: &mut Sewn, trap: &Trap, column: Column) -> Result<(), NoMemory>
 }
 
 // Puts all trapezoids of a scan that gave no slab yet after those of the columns before: those strictly inside the column,
-// and those that touch a side.
+// and those that touch a side. It is given up where that, or what was done before, goes over more edges than this.
 fn sort_out<F: Fn(i128, i128) -> bool + Drop>(
     alloc: Global,
     sewn: &mut Sewn,
     scan: Scan<F>,
     column: Column,
-) -> Result<(), NoMemory>
+    most: u64,
+) -> Result<(), Halt>
     requires rule { IsRule (F.pre scan.rule) (F.post scan.rule) }
     requires fresh { scan.y ≡ scan.window.y0 }
-    ensures { OnOk result (AreSweptBehind (IsSwept (F.post scan.rule) scan.edges scan.window) column.from.x column.to.x sewn.old.finals.items sewn.old.seams.items sewn.new.finals.items sewn.new.seams.items) }
+    ensures swept { OnOk result (AreSweptBehind (IsSwept (F.post scan.rule) scan.edges scan.window) column.from.x column.to.x sewn.old.finals.items sewn.old.seams.items sewn.new.finals.items sewn.new.seams.items) }
+    ensures long { IfErr result (λ halt. halt ≡ Long → most < 2 ^ 64 - 1) }
 {
+    if most < sewn.walked {
+        return Err(Halt::Long);
+    }
     let mut join = Join::begin(alloc, scan)?;
-    while let Some(trap) = join.next()? {
-        sort_in(sewn, &trap, column)?;
+    while join.climb_within(most)? {
+        match join.next()? {
+            Some(trap) => sort_in(sewn, &trap, column)?,
+            None => {
+                sewn.walked = sewn.walked.saturating_add(join.walked());
+                return Ok(());
+            }
+        }
     }
     sewn.walked = sewn.walked.saturating_add(join.walked());
-    Ok(())
+    Err(Halt::Long)
 }
 
 // The trapezoids of one column, from edges that wind round no tile outside of it, after those of the columns before.
@@ -131,10 +144,12 @@ fn sweep_part<F: Fn(i128, i128) -> bool + Drop>(
     window: Window,
     rule: &Rule<F>,
     column: Column,
-) -> Result<(), NoMemory>
+    most: u64,
+) -> Result<(), Halt>
     requires rule { IsRule (F.pre rule.now) (F.post rule.now) }
     requires balanced { IsBalanced edges.items window }
-    ensures { OnOk result (AreSweptBehind (IsSwept (F.post rule.now) edges.items window) column.from.x column.to.x sewn.old.finals.items sewn.old.seams.items sewn.new.finals.items sewn.new.seams.items) }
+    ensures swept { OnOk result (AreSweptBehind (IsSwept (F.post rule.now) edges.items window) column.from.x column.to.x sewn.old.finals.items sewn.old.seams.items sewn.new.finals.items sewn.new.seams.items) }
+    ensures long { IfErr result (λ halt. halt ≡ Long → most < 2 ^ 64 - 1) }
 {
     let asked = Rule::new(
         |a: i128, b: i128| -> bool
@@ -145,7 +160,7 @@ fn sweep_part<F: Fn(i128, i128) -> bool + Drop>(
         { rule.asks(a, b) },
     );
     let scan = Scan::begin(alloc, edges, window, asked)?;
-    sort_out(alloc, sewn, scan, column)
+    sort_out(alloc, sewn, scan, column, most)
 }
 
 // One column further, up to the cut, with those of the waiting edges that were taken for it. None of the others lies left
@@ -157,7 +172,8 @@ fn swept_column<F: Fn(i128, i128) -> bool + Drop>(
     window: Window,
     rule: &Rule<F>,
     cut: Cut,
-) -> Result<Progress, NoMemory>
+    most: u64,
+) -> Result<Progress, Halt>
     requires rule { IsRule (F.pre rule.now) (F.post rule.now) }
     requires cut { IsWithinReach cut.x }
     ensures from { IfOk result (λ next. next.from ≡ cut) }
@@ -166,6 +182,7 @@ fn swept_column<F: Fn(i128, i128) -> bool + Drop>(
     ensures swept { (edges later : List EdgeParts) (low : ℤ) → All (LiesRight cut.x) later → low ≤ℤ progress.from.x → progress.from.x <ℤ cut.x → AreLeft progress.from.x edges ((progress.edges.items ++ taken.now) ++ later)
         → AreSweptTo (IsTakenIn (F.post rule.now) edges window) window low progress.from.x progress.sewn.finals.items progress.sewn.seams.items
         → IfOk result (λ next. AreSweptTo (IsTakenIn (F.post rule.now) edges window) window low cut.x next.sewn.finals.items next.sewn.seams.items) }
+    ensures long { IfErr result (λ halt. halt ≡ Long → most < 2 ^ 64 - 1) }
 {
     let parts = parted(alloc, progress.edges.as_slice(), taken, cut)?;
     let column = Column {
@@ -173,7 +190,7 @@ fn swept_column<F: Fn(i128, i128) -> bool + Drop>(
         to: cut,
     };
     let mut sewn = progress.sewn;
-    sweep_part(alloc, &mut sewn, parts.own, window, rule, column)?;
+    sweep_part(alloc, &mut sewn, parts.own, window, rule, column, most)?;
     Ok(Progress {
         from: cut,
         edges: parts.beyond,
@@ -188,12 +205,14 @@ fn finish<F: Fn(i128, i128) -> bool + Drop>(
     later: &[Edge],
     window: Window,
     rule: &Rule<F>,
-) -> Result<Sewn, NoMemory>
+    most: u64,
+) -> Result<Sewn, Halt>
     requires rule { IsRule (F.pre rule.now) (F.post rule.now) }
     requires balanced { IsBalanced (progress.edges.items ++ later.now) window }
-    ensures { (edges : List EdgeParts) (low : ℤ) → low ≤ℤ progress.from.x → progress.from.x <ℤ pos (2 ^ 44 + 1) → All IsEdge edges → IsBalanced edges window → AreLeft progress.from.x edges (progress.edges.items ++ later.now)
+    ensures swept { (edges : List EdgeParts) (low : ℤ) → low ≤ℤ progress.from.x → progress.from.x <ℤ pos (2 ^ 44 + 1) → All IsEdge edges → IsBalanced edges window → AreLeft progress.from.x edges (progress.edges.items ++ later.now)
         → AreSweptTo (IsTakenIn (F.post rule.now) edges window) window low progress.from.x progress.sewn.finals.items progress.sewn.seams.items
         → IfOk result (λ sewn. AreSweptTo (IsTakenIn (F.post rule.now) edges window) window low (pos (2 ^ 44 + 1)) sewn.finals.items sewn.seams.items) }
+    ensures long { IfErr result (λ halt. halt ≡ Long → most < 2 ^ 64 - 1) }
 {
     let mut edges = progress.edges;
     edges.extend_from_slice(later)?;
@@ -202,7 +221,7 @@ fn finish<F: Fn(i128, i128) -> bool + Drop>(
         to: behind_all(),
     };
     let mut sewn = progress.sewn;
-    sweep_part(alloc, &mut sewn, edges, window, rule, column)?;
+    sweep_part(alloc, &mut sewn, edges, window, rule, column, most)?;
     Ok(sewn)
 }
 
@@ -233,18 +252,20 @@ fn begin(alloc: Global) -> Progress
 }
 
 /// The area that the rule takes, swept in the columns between the cuts. A cut that isn't right of those before it, or
-/// is beyond reach, is left out.
+/// is beyond reach, is left out. It is given up where more edges are gone over than this, or some more in the last column.
 pub(crate) fn swept_columns<F: Fn(i128, i128) -> bool + Drop>(
     alloc: Global,
     edges: Vec<Edge>,
     window: Window,
     rule: &Rule<F>,
     cuts: &[Cut],
-) -> Result<Sewn, NoMemory>
+    most: u64,
+) -> Result<Sewn, Halt>
     requires rule { IsRule (F.pre rule.now) (F.post rule.now) }
     requires balanced { IsBalanced edges.items window }
     ensures sewn { IfOk result (λ sewn. AreSewn window sewn.finals.items sewn.seams.items) }
     ensures covers { IfOk result (λ sewn. CoverTogether (IsTakenIn (F.post rule.now) edges.items window) sewn.finals.items sewn.seams.items) }
+    ensures long { IfErr result (λ halt. halt ≡ Long → most < 2 ^ 64 - 1) }
 {
     let mut waiting = edges;
     sort_for_cuts(&mut waiting, cuts);
@@ -256,8 +277,8 @@ pub(crate) fn swept_columns<F: Fn(i128, i128) -> bool + Drop>(
             continue;
         }
         let (taken, rest) = split_before(later, *cut);
-        progress = swept_column(alloc, progress, taken, window, rule, *cut)?;
+        progress = swept_column(alloc, progress, taken, window, rule, *cut, most)?;
         later = rest;
     }
-    finish(alloc, progress, later, window, rule)
+    finish(alloc, progress, later, window, rule, most)
 }

@@ -6,7 +6,9 @@
 mod columns;
 mod counted;
 mod cuts;
+mod cutting;
 mod dealing;
+mod halting;
 mod laws;
 mod looking;
 mod lowest_tile;
@@ -26,4 +28,4 @@ pub use looking::lowest;
 pub use meeting::put_edge;
 pub use operands::operand_edges;
 pub use plane_sweep::LowestTile;
-pub use sweep::{plain, swept, swept_counted};
+pub use sweep::{plain, swept, swept_counted, swept_within};

@@ -30,7 +30,7 @@ struct Halves {
 }
 
 // The rows of the edge below the level, and those from it on.
-fn rows_below(edge: &Edge, level: Level) -> Slab
+pub(crate) fn rows_below(edge: &Edge, level: Level) -> Slab
     ensures bottom { result.y0 ≡ edge.now.y0 }
     ensures top { result.y1 ≡ int_min edge.now.y1 level.y }
 {
@@ -40,7 +40,7 @@ fn rows_below(edge: &Edge, level: Level) -> Slab
     }
 }
 
-fn rows_above(edge: &Edge, level: Level) -> Slab
+pub(crate) fn rows_above(edge: &Edge, level: Level) -> Slab
     ensures bottom { result.y0 ≡ int_max edge.now.y0 level.y }
     ensures top { result.y1 ≡ edge.now.y1 }
 {
@@ -51,7 +51,7 @@ fn rows_above(edge: &Edge, level: Level) -> Slab
 }
 
 // The edge's part in these of its rows.
-fn part_over(edge: &Edge, rows: Slab) -> Option<Edge>
+pub(crate) fn part_over(edge: &Edge, rows: Slab) -> Option<Edge>
     requires bottom { edge.now.y0 ≤ℤ rows.y0 }
     requires top { rows.y1 ≤ℤ edge.now.y1 }
     ensures { result ≡ part_over edge.now rows.y0 rows.y1 }

@@ -1,17 +1,19 @@
 //! Seams between columns, swept again.
-ghost use Rattle.std.specs.Prelude.{◌≡◌, ◌∷◌, [], ◌-ℤ◌, pos, not, IsPermutation, IfOk, OnOk};
+ghost use Rattle.std.specs.Prelude.{◌≡◌, ◌∷◌, [], ◌-ℤ◌, pos, not, IsPermutation, IfOk, OnOk, IfErr, ◌<◌, ◌-◌, ◌^◌};
 ghost use Rattle.std.specs.List.{flat_map};
 ghost use Rattle.std.specs.Ordering.{int_eq};
 ghost use Rattle.half_grid.specs.Edges.{edges_of_trapezoid};
 ghost use Rattle.half_grid.specs.JoinedLists.{IsJoined};
 ghost use Rattle.half_grid.specs.Trapezoids.{IsShot};
 ghost use Rattle.half_grid.specs.declared.border.Operand.TheVariants.{A};
+ghost use Rattle.column_sweep.specs.declared.halting.Halt.TheVariants.{Long};
 ghost use Rattle.column_sweep.specs.Sewing.{AreSewn, HaveSameTiles, StandSorted};
 ghost use Rattle.column_sweep.specs.Standings.{standing_of};
 
 use crate::columns::{Sewn, swept_columns};
 use crate::counted::Swept;
 use crate::cuts::{Cut, fewer};
+use crate::halting::Halt;
 use crate::sums::Level;
 use crate::sweep::plain_counted;
 use geo_stream::NoMemory;
@@ -32,10 +34,11 @@ fn edges_of(alloc: Global, traps: &[Trap]) -> Result<Vec<Edge>, NoMemory>
 }
 
 // The seams swept again, in the columns between these cuts.
-fn resewn(alloc: Global, sewn: Sewn, window: Window, cuts: &[Cut]) -> Result<Sewn, NoMemory>
+fn resewn(alloc: Global, sewn: Sewn, window: Window, cuts: &[Cut], most: u64) -> Result<Sewn, Halt>
     requires { AreSewn window sewn.finals.items sewn.seams.items }
     ensures sewn { IfOk result (λ next. AreSewn window next.finals.items next.seams.items) }
     ensures same { IfOk result (λ next. HaveSameTiles next.finals.items next.seams.items sewn.finals.items sewn.seams.items) }
+    ensures long { IfErr result (λ halt. halt ≡ Long → most < 2 ^ 64 - 1) }
 {
     let edges = edges_of(alloc, sewn.seams.as_slice())?;
     let inside = Rule::new(
@@ -43,7 +46,7 @@ fn resewn(alloc: Global, sewn: Sewn, window: Window, cuts: &[Cut]) -> Result<Sew
             ensures { result ≡ not (int_eq winding (pos 0)) }
         { winding != 0 },
     );
-    let next = swept_columns(alloc, edges, window, &inside, cuts)?;
+    let next = swept_columns(alloc, edges, window, &inside, cuts, most)?;
     let mut finals = sewn.finals;
     finals.extend_from_slice(next.finals.as_slice())?;
     Ok(Sewn {
@@ -108,21 +111,24 @@ fn put_in_order(traps: &mut Vec<Trap>) -> Result<(), NoMemory>
     Ok(())
 }
 
-/// All maximal trapezoids, from the final ones and the seams.
+/// All maximal trapezoids, from the final ones and the seams. It is given up where a sweep of seams goes over more edges
+/// than this.
 pub(crate) fn joined_seams(
     alloc: Global,
     sewn: Sewn,
     window: Window,
     cuts: &[Cut],
-) -> Result<Swept, NoMemory>
+    most: u64,
+) -> Result<Swept, Halt>
     requires { AreSewn window sewn.finals.items sewn.seams.items }
     ensures joined { IfOk result (λ swept. IsJoined window swept.traps.items) }
     ensures same { IfOk result (λ swept. HaveSameTiles swept.traps.items [] sewn.finals.items sewn.seams.items) }
+    ensures long { IfErr result (λ halt. halt ≡ Long → most < 2 ^ 64 - 1) }
 {
     let mut sewn = sewn;
     let mut cuts = fewer(alloc, cuts)?;
     while !cuts.is_empty() {
-        sewn = resewn(alloc, sewn, window, cuts.as_slice())?;
+        sewn = resewn(alloc, sewn, window, cuts.as_slice(), most)?;
         cuts = fewer(alloc, cuts.as_slice())?;
     }
     let mut swept = closed(alloc, sewn, window)?;

@@ -1,12 +1,15 @@
-ghost use Rattle.std.specs.Prelude.{IfOk, ◌≡◌, ◌↔◌, IsTrue};
+ghost use Rattle.std.specs.Prelude.{IfOk, IfErr, IfSome, IfNone, ◌≡◌, ◌↔◌, ◌<◌, ◌-◌, ◌^◌, IsTrue};
 ghost use Rattle.scan_line.specs.Rules.{IsRule, IsWinding, Takes};
 ghost use Rattle.scan_line.specs.Runs.{IsBalanced};
+ghost use Rattle.column_sweep.specs.declared.halting.Halt.TheVariants.{Long};
 ghost use Rattle.column_sweep.specs.Sweeps.{IsSwept};
-ghost use Rattle.column_sweep.specs.Tries.{IsTried};
+ghost use Rattle.column_sweep.specs.Tries.{IsGivenUpFor, IsTried};
 
 use crate::columns::swept_columns;
 use crate::counted::Swept;
 use crate::cuts::{Cut, are_often_crossed, chosen_cuts, plain_budget};
+use crate::cutting::cut_to;
+use crate::halting::Halt;
 use crate::seams::joined_seams;
 use geo_stream::NoMemory;
 use half_grid::{Edge, Trap, Window};
@@ -46,7 +49,8 @@ fn joined_within<F: Fn(i128, i128) -> bool + Drop>(
 ) -> Result<Tried, NoMemory>
     requires rule { IsRule (F.pre scan.rule) (F.post scan.rule) }
     requires fresh { scan.y ≡ scan.window.y0 }
-    ensures { IfOk result (IsTried (F.post scan.rule) scan.edges scan.window) }
+    ensures tried { IfOk result (IsTried (F.post scan.rule) scan.edges scan.window) }
+    ensures long { IfOk result (IsGivenUpFor most) }
 {
     let mut join = Join::begin(alloc, scan)?;
     let mut traps = Vec::new(alloc);
@@ -111,7 +115,8 @@ fn plain_within<F: Fn(i128, i128) -> bool + Drop>(
 ) -> Result<Tried, NoMemory>
     requires rule { IsRule (F.pre rule.now) (F.post rule.now) }
     requires balanced { IsBalanced edges.items window }
-    ensures { IfOk result (IsTried (F.post rule.now) edges.items window) }
+    ensures tried { IfOk result (IsTried (F.post rule.now) edges.items window) }
+    ensures long { IfOk result (IsGivenUpFor most) }
 {
     let asked = Rule::new(
         |a: i128, b: i128| -> bool
@@ -142,23 +147,45 @@ fn tried_plain<F: Fn(i128, i128) -> bool + Drop>(
     }
 }
 
-/// The joined list, swept in the columns between these cuts, whatever they are.
+// The joined list without columns. It is given up where that goes over more edges than this.
+fn plain_unless<F: Fn(i128, i128) -> bool + Drop>(
+    alloc: Global,
+    edges: Vec<Edge>,
+    window: Window,
+    rule: &Rule<F>,
+    most: u64,
+) -> Result<Swept, Halt>
+    requires rule { IsRule (F.pre rule.now) (F.post rule.now) }
+    requires balanced { IsBalanced edges.items window }
+    ensures swept { IfOk result (λ swept. IsSwept (F.post rule.now) edges.items window swept.traps.items) }
+    ensures long { IfErr result (λ halt. halt ≡ Long → most < 2 ^ 64 - 1) }
+{
+    match plain_within(alloc, edges, window, rule, most)? {
+        Tried::Whole(swept) => Ok(swept),
+        Tried::GivenUp(_rest, _walked) => Err(Halt::Long),
+    }
+}
+
+/// The joined list, swept in the columns between these cuts, whatever they are. It is given up where they go over more
+/// edges than this, and some more.
 pub(crate) fn swept_at<F: Fn(i128, i128) -> bool + Drop>(
     alloc: Global,
     edges: Vec<Edge>,
     window: Window,
     rule: &Rule<F>,
     cuts: &[Cut],
-) -> Result<Swept, NoMemory>
+    most: u64,
+) -> Result<Swept, Halt>
     requires rule { IsRule (F.pre rule.now) (F.post rule.now) }
     requires balanced { IsBalanced edges.items window }
-    ensures { IfOk result (λ swept. IsSwept (F.post rule.now) edges.items window swept.traps.items) }
+    ensures swept { IfOk result (λ swept. IsSwept (F.post rule.now) edges.items window swept.traps.items) }
+    ensures long { IfErr result (λ halt. halt ≡ Long → most < 2 ^ 64 - 1) }
 {
     if cuts.is_empty() {
-        return plain_counted(alloc, edges, window, rule);
+        return plain_unless(alloc, edges, window, rule, most);
     }
-    let sewn = swept_columns(alloc, edges, window, rule, cuts)?;
-    let whole = joined_seams(alloc, sewn, window, cuts)?;
+    let sewn = swept_columns(alloc, edges, window, rule, cuts, most)?;
+    let whole = joined_seams(alloc, sewn, window, cuts, most)?;
     Ok(whole)
 }
 
@@ -169,17 +196,45 @@ fn swept_by_need<F: Fn(i128, i128) -> bool + Drop>(
     edges: Vec<Edge>,
     window: Window,
     rule: Rule<F>,
-) -> Result<Swept, NoMemory>
+    most: u64,
+) -> Result<Swept, Halt>
     requires rule { IsRule (F.pre rule) (F.post rule) }
     requires balanced { IsBalanced edges.items window }
-    ensures { IfOk result (λ swept. IsSwept (F.post rule) edges.items window swept.traps.items) }
+    ensures swept { IfOk result (λ swept. IsSwept (F.post rule) edges.items window swept.traps.items) }
+    ensures long { IfErr result (λ halt. halt ≡ Long → most < 2 ^ 64 - 1) }
 {
     let cuts = chosen_cuts(alloc, edges.as_slice())?;
     if are_often_crossed(edges.as_slice(), cuts.as_slice()) {
         let traps = plane_sweep::swept(alloc, edges, window, rule)?;
         return Ok(Swept { traps, walked: 0 });
     }
-    swept_at(alloc, edges, window, &rule, cuts.as_slice())
+    swept_at(alloc, edges, window, &rule, cuts.as_slice(), most)
+}
+
+// The joined list, with the count of edges gone over. It is given up where the columns go over more edges than this, and some
+// more.
+fn swept_unless<F: Fn(i128, i128) -> bool + Drop>(
+    alloc: Global,
+    edges: Vec<Edge>,
+    window: Window,
+    rule: Rule<F>,
+    most: u64,
+) -> Result<Swept, Halt>
+    requires rule { IsRule (F.pre rule) (F.post rule) }
+    requires balanced { IsBalanced edges.items window }
+    ensures swept { IfOk result (λ swept. IsSwept (F.post rule) edges.items window swept.traps.items) }
+    ensures long { IfErr result (λ halt. halt ≡ Long → most < 2 ^ 64 - 1) }
+{
+    let mut edges = edges;
+    cut_to(&mut edges, window);
+    match tried_plain(alloc, edges, window, &rule)? {
+        Tried::Whole(swept) => Ok(swept),
+        Tried::GivenUp(rest, before) => {
+            let mut again = swept_by_need(alloc, rest, window, rule, most)?;
+            again.walked = again.walked.saturating_add(before);
+            Ok(again)
+        }
+    }
 }
 
 /// The joined list of the window's tiles that the rule takes. It is refused only where memory runs out. In each row of the
@@ -209,12 +264,30 @@ pub fn swept_counted<F: Fn(i128, i128) -> bool + Drop>(
     requires balanced { IsBalanced edges.items window }
     ensures { IfOk result (λ swept. IsSwept (F.post rule) edges.items window swept.traps.items) }
 {
-    match tried_plain(alloc, edges, window, &rule)? {
-        Tried::Whole(swept) => Ok(swept),
-        Tried::GivenUp(rest, before) => {
-            let mut again = swept_by_need(alloc, rest, window, rule)?;
-            again.walked = again.walked.saturating_add(before);
-            Ok(again)
-        }
+    match swept_unless(alloc, edges, window, rule, u64::MAX) {
+        Ok(swept) => Ok(swept),
+        Err(Halt::NoMemory) => Err(NoMemory),
+        Err(Halt::Long) => unreachable!(),
+    }
+}
+
+/// The same list as of `swept`, as long as its columns go over no more edges than about so many: None where it is given up,
+/// and the edges are lost. With the greatest number it never is.
+pub fn swept_within<F: Fn(i128, i128) -> bool + Drop>(
+    alloc: Global,
+    edges: Vec<Edge>,
+    window: Window,
+    rule: Rule<F>,
+    most: u64,
+) -> Result<Option<Vec<Trap>>, NoMemory>
+    requires rule { IsRule (F.pre rule) (F.post rule) }
+    requires balanced { IsBalanced edges.items window }
+    ensures swept { IfOk result (λ answer. IfSome answer (λ traps. IsSwept (F.post rule) edges.items window traps.items)) }
+    ensures given_up { IfOk result (λ answer. IfNone answer (most < 2 ^ 64 - 1)) }
+{
+    match swept_unless(alloc, edges, window, rule, most) {
+        Ok(swept) => Ok(Some(swept.traps)),
+        Err(Halt::NoMemory) => Err(NoMemory),
+        Err(Halt::Long) => Ok(None),
     }
 }

@@ -1,6 +1,7 @@
 // A bar, swept by the nonzero rule; a bar without a slanted one, and a bar without a wedge that leans both ways, swept in
-// columns between cuts through every kind of corner and side; the edges of two lists, and of sides that meet; and the lowest tile in which they
-// differ, looked for in the same columns; and the laws, called once.
+// columns between cuts through every kind of corner and side; a bar with many lines between its sides; the edges of two
+// lists, and of sides that meet; and the lowest tile in which they differ, looked for in the same columns; and the laws,
+// called once.
 ghost use Rattle.std.specs.Prelude.{◌≡◌, ◌&&◌, ℤ, pos, not, IfOk};
 ghost use Rattle.std.specs.Ordering.{int_eq};
 ghost use Rattle.half_grid.specs.declared.border.Operand.{Operand};
@@ -38,6 +39,28 @@ fn one_bar(rt: HostRuntime) -> Result<(), Fail> {
     Ok(())
 }
 
+// Between the sides of one bar stand those of 40,000 others, for which the rule doesn't ask.
+#[test]
+fn a_run_over_many_lines(rt: HostRuntime) -> Result<(), Fail> {
+    let bar = Trap::new(0, 8, Line::Upright(-2), Line::Upright(160_000)).ok_or("no bar")?;
+    let mut others = Vec::new(rt.alloc());
+    for n in 0..40_000i64 {
+        let left = n.saturating_mul(4);
+        let right = left.saturating_add(2);
+        others.push(Trap::new(2, 6, Line::Upright(left), Line::Upright(right)).ok_or("no bar")?)?;
+    }
+    let rows = Window::new(0, 8).ok_or("no window")?;
+    let edges = edges_in(rt.alloc(), &[bar], others.as_slice(), rows)?;
+    let rule = Rule::new(
+        |a: i128, _b: i128| -> bool
+            ensures { result ≡ not (int_eq a (pos 0)) }
+        { a != 0 },
+    );
+    let traps = plane_sweep::swept(rt.alloc(), edges, rows, rule)?;
+    assert_eq!(rt; traps.as_slice(), [bar].as_slice());
+    Ok(())
+}
+
 // The bar from 0 to 20 as A, and a slanted one across it as B, which leans to the right.
 fn two_bars(alloc: Global) -> Result<Vec<Edge>, Fail>
     ensures { IfOk result (λ edges. (o : Operand) (j : ℤ) → IsBalancedAt edges.items o j) }
@@ -61,7 +84,17 @@ fn check_cuts(rt: &HostRuntime, cuts: &[Cut]) -> Result<(), Fail> {
         { a != 0 && b == 0 },
     );
     let rows = Window::new(0, 4).ok_or("no window")?;
-    let traps = swept_at(rt.alloc(), two_bars(rt.alloc())?, rows, &rule, cuts)?.traps;
+    let traps = swept_at(
+        rt.alloc(),
+        two_bars(rt.alloc())?,
+        rows,
+        &rule,
+        cuts,
+        u64::MAX,
+    )
+    .ok()
+    .ok_or("no list")?
+    .traps;
     let left = Trap::new(0, 4, Line::Upright(0), Line::Rising(2)).ok_or("no piece")?;
     let right = Trap::new(0, 4, Line::Rising(6), Line::Upright(20)).ok_or("no piece")?;
     if traps.as_slice() != [left, right].as_slice() {
@@ -119,7 +152,10 @@ fn check_wedge(rt: &HostRuntime, cuts: &[Cut]) -> Result<(), Fail> {
     );
     let rows = Window::new(0, 8).ok_or("no window")?;
     let edges = edges_in(rt.alloc(), &[bar], &[wedge], rows)?;
-    let traps = swept_at(rt.alloc(), edges, rows, &rule, cuts)?.traps;
+    let traps = swept_at(rt.alloc(), edges, rows, &rule, cuts, u64::MAX)
+        .ok()
+        .ok_or("no list")?
+        .traps;
     let left = Trap::new(0, 8, Line::Upright(0), Line::Falling(4)).ok_or("no piece")?;
     let right = Trap::new(0, 8, Line::Rising(6), Line::Upright(20)).ok_or("no piece")?;
     if traps.as_slice() != [left, right].as_slice() {

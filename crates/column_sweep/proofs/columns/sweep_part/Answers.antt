@@ -27,8 +27,8 @@ sort_out-requires-clause-rule g c =
     (subst (λ rule. IsRule (pre rule.0.now) (post rule.0.now)) (sym c.new-asked.ensures) c.requires.rule) in
     lent_is_rule _ _ _ _ own (λ a b h k. (own, (h, k))) (λ a b r h. h) (λ a b r h. h)
 
-pub returns : goal.returns
-returns g c =
+pub returns-clause-swept : goal.returns-clause-swept
+returns-clause-swept g c =
     let post : g.row.F.Denot → ℤ → ℤ → Bool → Type 0 = λ rule a b r. g.F.Fn.post rule (a, (b, tt)) r in
     let kept : c.in_ok-scan.scan.rule.0.now ≡ c.args.rule.now = ap (λ rule. rule.0.now) c.in_ok-scan.ensures.rule ∙ ap
     (λ rule. rule.0.now) c.new-asked.ensures in
@@ -39,4 +39,4 @@ returns g c =
     c.in_ok-scan.ensures.window traps
     (lent_swept (post c.in_ok-scan.scan.rule.0.now) _ (λ a b r h. h) (λ a b r h. h) c.in_ok-scan.scan.edges c.in_ok-scan.scan.window traps swept))
     c.args.column.from.x c.args.column.to.x _ _ _ _)
-    c.sort_out.ensures
+    c.sort_out.ensures.swept

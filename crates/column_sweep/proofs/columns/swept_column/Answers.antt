@@ -25,4 +25,4 @@ returns-clause-swept g c = λ edges later low right low_from lt left before.
     (post c.args.rule.now) c.requires.rule c.args.window c.args.progress.from.x c.args.cut.x edges
     c.in_ok-parts.parts.own.items
     (part_winds edges (c.args.progress.edges.items ++ c.args.taken.now) later _ _ c.args.progress.from.x c.args.cut.x lt right left parts c.args.window)
-    low low_from lt _ _ _ _ before c.in_ok-sweep_part.ensures
+    low low_from lt _ _ _ _ before c.in_ok-sweep_part.ensures.swept

@@ -65,7 +65,7 @@ returns-clause-sewn g c =
     IfOk-weaker c.finish.result _ (λ sewn. AreSewn c.args.window sewn.finals.items sewn.seams.items)
     (λ sewn. all_sewn (IsTakenIn (post c.args.rule.now) c.args.edges.items c.args.window) c.args.window
     (negsuc (2 ^ 44)) (pos (2 ^ 44 + 1)) sewn.finals.items sewn.seams.items)
-    (c.finish.ensures c.args.edges.items (negsuc (2 ^ 44)) i.low i.high known c.requires.balanced i.left i.swept)
+    (c.finish.ensures.swept c.args.edges.items (negsuc (2 ^ 44)) i.low i.high known c.requires.balanced i.left i.swept)
 
 pub returns-clause-covers : goal.returns-clause-covers
 returns-clause-covers g c =
@@ -79,4 +79,4 @@ returns-clause-covers g c =
     (λ sewn. all_covered (IsTakenIn (post c.args.rule.now) c.args.edges.items c.args.window) c.args.window
     (negsuc (2 ^ 44)) (pos (2 ^ 44 + 1)) sewn.finals.items sewn.seams.items
     (none_behind (pre c.args.rule.now) (post c.args.rule.now) c.requires.rule c.args.window c.args.edges.items known c.requires.balanced))
-    (c.finish.ensures c.args.edges.items (negsuc (2 ^ 44)) i.low i.high known c.requires.balanced i.left i.swept)
+    (c.finish.ensures.swept c.args.edges.items (negsuc (2 ^ 44)) i.low i.high known c.requires.balanced i.left i.swept)

@@ -1,4 +1,4 @@
-use Rattle.std.proofs.Common.{ℤ, Bool, List, ◌≡◌, ◌++◌, ◌∙◌, sym, subst}
+use Rattle.std.proofs.Common.{rules, ℤ, Bool, List, ◌≡◌, ◌++◌, ◌∙◌, sym, subst}
 use Rattle.std.proofs.lemmas.List.Sorted.{IsPermutation-refl}
 use Rattle.std.specs.Prelude.{IsPermutation}
 use Rattle.half_grid.specs.Edges.{EdgeParts}
@@ -45,8 +45,8 @@ loop-traps-preserved g c =
       window = c.in_ok-trap.ensures.window ∙ (c.in_ok-climb_within.ensures.window ∙ c.loop-traps.invariant.window);
     }
 
-pub returns-in-None : goal.returns-in-None
-returns-in-None g c =
+pub returns-in-None-clause-tried : goal.returns-in-None-clause-tried
+returns-in-None-clause-tried g c =
     let post : g.row.F.Denot → ℤ → ℤ → Bool → Type 0 = λ rule a b r. g.F.Fn.post rule (a, (b, tt)) r in
     let kept : c.climb_within.new.self.rule ≡ c.args.scan.rule = c.in_ok-climb_within.ensures.rule ∙ c.loop-traps.invariant.rule in
     let edges : c.climb_within.new.self.edges ≡ c.args.scan.edges = c.in_ok-climb_within.ensures.edges ∙ c.loop-traps.invariant.edges in
@@ -63,8 +63,11 @@ returns-in-None g c =
           kept edges window (rw c.in-None.is at (c.in_ok-trap.ensures.covers c.loop-traps.traps.items ready));
     }
 
-pub returns : goal.returns
-returns g c =
+pub returns-clause-tried : goal.returns-clause-tried
+returns-clause-tried g c =
     subst (λ (edges : List EdgeParts). IsPermutation edges c.args.scan.edges)
     (sym (c.into_edges.ensures ∙ (c.in_ok-climb_within.ensures.edges ∙ c.loop-traps.invariant.edges)))
     (IsPermutation-refl c.args.scan.edges)
+
+pub returns-clause-long : goal.returns-clause-long
+returns-clause-long g c = let over = c.in_ok-climb_within.ensures.over c.if-branch.false in search (rules, over)

@@ -26,8 +26,8 @@ joined_within-requires-clause-rule g c =
     (subst (λ rule. IsRule (pre rule.0.now) (post rule.0.now)) (sym c.new-asked.ensures) c.requires.rule) in
     lent_is_rule _ _ _ _ own (λ a b h k. (own, (h, k))) (λ a b r h. h) (λ a b r h. h)
 
-pub returns : goal.returns
-returns g c =
+pub returns-clause-tried : goal.returns-clause-tried
+returns-clause-tried g c =
     let post : g.row.F.Denot → ℤ → ℤ → Bool → Type 0 = λ rule a b r. g.F.Fn.post rule (a, (b, tt)) r in
     let kept : c.in_ok-scan.scan.rule.0.now ≡ c.args.rule.now = ap (λ rule. rule.0.now) c.in_ok-scan.ensures.rule ∙ ap
     (λ rule. rule.0.now) c.new-asked.ensures in
@@ -36,4 +36,4 @@ returns g c =
     c.args.edges.items c.args.window c.in_ok-scan.scan.window kept c.in_ok-scan.ensures.edges
     c.in_ok-scan.ensures.window tried
     (lent_tried (post c.in_ok-scan.scan.rule.0.now) _ (λ a b r h. h) (λ a b r h. h) c.in_ok-scan.scan.edges c.in_ok-scan.scan.window tried h))
-    c.joined_within.ensures
+    c.joined_within.ensures.tried
