@@ -20,6 +20,7 @@ pub mod KeptLemmas
 pub mod ImageLemmas
 pub mod MoveLemmas
 pub mod OwnLayerLemmas
+pub mod PileLemmas
 pub mod ReadyLemmas
 pub mod KnownAreas
 pub mod StackLemmas

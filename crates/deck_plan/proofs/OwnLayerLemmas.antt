@@ -97,7 +97,7 @@ module _ (steps : List Step) (needs : List (Option Need)) (user : ℕ) (layers :
 -- ---- the area
 
 -- an operation on sets with the same tiles
-of_same : (op : Op) (P Q R S : Type 0) → (P → R) → (R → P) → (Q → S) → (S → Q) → OfBoth op P Q → OfBoth op R S
+pub of_same : (op : Op) (P Q R S : Type 0) → (P → R) → (R → P) → (Q → S) → (S → Q) → OfBoth op P Q → OfBoth op R S
 of_same ops.Or P Q R S f g h k (inl p) = inl (f p)
 of_same ops.Or P Q R S f g h k (inr q) = inr (h q)
 of_same ops.And P Q R S f g h k (p, q) = (f p, h q)

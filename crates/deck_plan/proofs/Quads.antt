@@ -32,21 +32,21 @@ use Rattle.deck_plan.specs.Rings.{edges_of_quad}
 use Rattle.deck_plan.proofs.AreaLists.{Decided, Tells, joined_has, of_taken, taken_of, tells_by, tested}
 use Rattle.deck_plan.proofs.Sizes.{both_balanced, wound_decided, zero_decided}
 
-abbrev winds : Operand → List Corners → Tile → ℤ
+abbrev pub winds : Operand → List Corners → Tile → ℤ
 winds o quads t = edges_winding o (flat_map (edges_of_quad o) quads) t
 
-abbrev In : Tile → Corners → Type 0
+abbrev pub In : Tile → Corners → Type 0
 In t q = IsInPolygon (ring_of q) t
 
 -- some quadrilateral has the tile, and then the edges wind round it, or none has it
-abbrev Winds : Operand → List Corners → Tile → Type 0
+abbrev pub Winds : Operand → List Corners → Tile → Type 0
 Winds o quads t = (Has (In t) quads × (pos 1 ≤ℤ winds o quads t)) ⊎ ((Has (In t) quads → ⊥) × (winds o quads t ≡ pos 0))
 
 one_more : (o : Operand) (q : Corners) (quads : List Corners) (t : Tile) → winds o (q ∷ quads) t ≡ winding (ring_of q) t +ℤ winds o quads t
 one_more o q quads t = windings_add o (edges_of_quad o q) (flat_map (edges_of_quad o) quads) t
     ∙ ap (λ w. w +ℤ winds o quads t) (winds_as_outline o (ring_of q) t)
 
-quads_wind : (o : Operand) (quads : List Corners) (t : Tile) → All IsQuad quads → Winds o quads t
+pub quads_wind : (o : Operand) (quads : List Corners) (t : Tile) → All IsQuad quads → Winds o quads t
 quads_wind o [] t all = inr (λ h. h, winding_nil o t)
 quads_wind o (q ∷ quads) t all =
     let first = All-head IsQuad q quads all in

@@ -14,7 +14,8 @@ ghost use Rattle.deck_plan.specs.LayerSets.{OfLayers};
 ghost use Rattle.deck_plan.specs.Rings.{edges_of_quad};
 
 use crate::own_layers::Layers;
-use bool_ops::{combine_edges, unite};
+use crate::piles::piled_area;
+use bool_ops::{combine, combine_edges_within, unite_within};
 use cell_tree::Tree;
 use column_sweep::put_edge;
 use flat_walk::{Boxes, Parts, Walk};
@@ -24,8 +25,8 @@ use layout_model::Pair;
 use scan_line::EdgesOf;
 use std::alloc::Global;
 
-// Puts the edges of the quadrilateral at the end, less what a side has in common with the last one.
-fn put_ring(edges: &mut Vec<Edge>, quad: &Quad, operand: Operand) -> Result<(), NoMemory>
+/// Puts the edges of the quadrilateral at the end, less what a side has in common with the last one.
+pub(crate) fn put_ring(edges: &mut Vec<Edge>, quad: &Quad, operand: Operand) -> Result<(), NoMemory>
     ensures { OnOk result (AddUpAlike edges.new.items (edges.old.items ++ edges_of_quad operand quad.now)) }
 {
     let ring = [quad.a(), quad.b(), quad.c(), quad.d(), quad.a()];
@@ -51,6 +52,59 @@ fn put_rings<S: Stream<Item = Quad>>(
     Ok(())
 }
 
+// How many edges a sweep of so many may go over before these are taken for a pile: one over another, each at the ends of
+// all others.
+fn most_of_sweep(count: usize) -> u64 {
+    (count as u64)
+        .saturating_mul(2048)
+        .saturating_add(1_048_576)
+}
+
+// The joined list, in the window, of the area of a layer whose pieces may lie one over another.
+fn piled_layer<'t>(
+    alloc: Global,
+    tree: &'t Tree,
+    parts: &'t Parts,
+    boxes: &'t Boxes,
+    pair: Pair,
+    window: Window,
+) -> Result<Vec<Trap>, NoMemory>
+    requires cut { AreCut tree.now.layout.cells tree.now.top parts.now pair }
+    requires boxed { AreAllBoxed tree.now.layout.cells tree.now.top parts.now boxes.now }
+    ensures { IfOk result (λ traps. HasArea window (IsInLayer tree.now.layout.cells tree.now.top pair) traps.items) }
+{
+    let mut walk = match Walk::begin_boxed(alloc, tree, parts, boxes, pair, window) {
+        Ok(walk) => walk,
+        Err(NoMemory) => return Err(NoMemory),
+    };
+    piled_area(alloc, &mut walk, window)
+}
+
+// The joined list, in the window, of the tiles that an operation takes of two such layers.
+fn piled_layers<'t>(
+    alloc: Global,
+    tree: &'t Tree,
+    parts: &'t Parts,
+    boxes: &'t Boxes,
+    layers: Layers,
+    window: Window,
+) -> Result<Vec<Trap>, NoMemory>
+    requires first { AreCut tree.now.layout.cells tree.now.top parts.now layers.a }
+    requires second { AreCut tree.now.layout.cells tree.now.top parts.now layers.b }
+    requires boxed { AreAllBoxed tree.now.layout.cells tree.now.top parts.now boxes.now }
+    ensures { IfOk result (λ traps. HasArea window (OfLayers tree.now.layout.cells tree.now.top layers) traps.items) }
+{
+    let first = piled_layer(alloc, tree, parts, boxes, layers.a, window)?;
+    let second = piled_layer(alloc, tree, parts, boxes, layers.b, window)?;
+    combine(
+        alloc,
+        layers.op,
+        first.as_slice(),
+        second.as_slice(),
+        window,
+    )
+}
+
 /// The joined list, in the window, of the area of a layer.
 pub(crate) fn layer_area<'t>(
     alloc: Global,
@@ -70,7 +124,11 @@ pub(crate) fn layer_area<'t>(
     };
     let mut edges = Vec::new(alloc);
     put_rings(&mut edges, &mut walk, Operand::A)?;
-    unite(alloc, edges, window)
+    let most = most_of_sweep(edges.len());
+    match unite_within(alloc, edges, window, most)? {
+        Some(area) => Ok(area),
+        None => piled_layer(alloc, tree, parts, boxes, pair, window),
+    }
 }
 
 /// The joined list, in the window, of the tiles that an operation takes of two layers: by one sweep over the edges of both.
@@ -98,5 +156,9 @@ pub(crate) fn layers_area<'t>(
     let mut edges = Vec::new(alloc);
     put_rings(&mut edges, &mut first, Operand::A)?;
     put_rings(&mut edges, &mut second, Operand::B)?;
-    combine_edges(alloc, layers.op, edges, window)
+    let most = most_of_sweep(edges.len());
+    match combine_edges_within(alloc, layers.op, edges, window, most)? {
+        Some(area) => Ok(area),
+        None => piled_layers(alloc, tree, parts, boxes, layers, window),
+    }
 }

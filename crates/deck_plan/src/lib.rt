@@ -14,6 +14,7 @@ mod mirroring;
 mod moving;
 mod needs;
 mod own_layers;
+mod piles;
 mod plans;
 mod sizing;
 mod steps;
