@@ -53,9 +53,10 @@ fn task_of(kind: &str, count: u32) -> Option<Task> {
     }
 }
 
-fn plain_task_of(word: &str, kind: &str, count: u32) -> Option<Task> {
+fn one_sweep_of(word: &str, kind: &str, count: u32) -> Option<Task> {
     match word {
         "plain" => Some(Task::Unite(Figure::named(kind, count)?, Way::Plain)),
+        "plane" => Some(Task::Unite(Figure::named(kind, count)?, Way::Plane)),
         _ => None,
     }
 }
@@ -64,7 +65,7 @@ fn asked(words: &[String]) -> Option<Task> {
     match words {
         [kind, count] => task_of(kind.as_str(), count_of(count.as_str())?),
         [word, kind, count] => {
-            plain_task_of(word.as_str(), kind.as_str(), count_of(count.as_str())?)
+            one_sweep_of(word.as_str(), kind.as_str(), count_of(count.as_str())?)
         }
         _ => None,
     }
@@ -98,7 +99,7 @@ fn run(rt: &HostRuntime) -> io::Result<()> {
     match asked(words.as_slice()) {
         Some(task) => measure(rt, alloc, task),
         None => println!(rt;
-            "words: [plain] squares or hatch SIDE, [plain] random, comb, pile, wires, jogs or mixed COUNT, walk SIDE, gds, oasis or agree COUNT; up to {MOST}"
+            "words: [plain or plane] squares or hatch SIDE, [plain or plane] random, comb, pile, wires, jogs or mixed COUNT, walk SIDE, gds, oasis or agree COUNT; up to {MOST}"
         ),
     }
 }

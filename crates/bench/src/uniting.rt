@@ -1,4 +1,4 @@
-//! Areas of trapezoids, united as the program does it, and by one plain sweep.
+//! Areas of trapezoids, united as the program does it, by one plain sweep, and by one plane sweep.
 ghost use Rattle.std.specs.Prelude.{◌≡◌, ◌||◌, not, pos};
 ghost use Rattle.std.specs.Ordering.{int_eq};
 ghost use Rattle.scan_line.specs.Rules.{IsRule};
@@ -42,6 +42,8 @@ pub(crate) enum Way {
     Usual,
     /// By one sweep of the whole window, whatever it costs.
     Plain,
+    /// By one sweep that looks only where something happens.
+    Plane,
 }
 
 impl Figure {
@@ -93,6 +95,7 @@ impl Way {
         match self {
             Way::Usual => "",
             Way::Plain => "plain ",
+            Way::Plane => "plane ",
         }
     }
 }
@@ -122,6 +125,10 @@ fn united(alloc: Global, way: Way, traps: &[Trap], window: Window) -> Result<Swe
     match way {
         Way::Usual => swept_counted(alloc, edges, window, either),
         Way::Plain => joined(alloc, Scan::begin(alloc, edges, window, either)?),
+        Way::Plane => {
+            let traps = plane_sweep::swept(alloc, edges, window, either)?;
+            Ok(Swept { traps, walked: 0 })
+        }
     }
 }
 

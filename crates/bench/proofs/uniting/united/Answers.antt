@@ -5,3 +5,6 @@ swept_counted-requires-clause-balanced c = c.in_ok-edges.ensures.balanced c.args
 
 pub begin-requires-clause-balanced : goal.begin-requires-clause-balanced
 begin-requires-clause-balanced c = c.in_ok-edges.ensures.balanced c.args.window
+
+pub swept-requires-clause-balanced : goal.swept-requires-clause-balanced
+swept-requires-clause-balanced c = c.in_ok-edges.ensures.balanced c.args.window
