@@ -25,6 +25,15 @@ def grown_layout(count, band):
     return FRACTURE, 0, f"output out.oas shots .."
 
 
+def grown_stairs(count):
+    """Squares of one grid step along a diagonal, grown so far that all of them lie on one place."""
+    gds(cell("TOP", b"".join(box(k, k, k + 1, k + 1) for k in range(40000, 40000 + count))))
+    deck("layer A 1 0", "grow G A 65536", "write G out.oas 1 0")
+    side = 2 + 2 * 65536
+    area = side * side + (count - 1) * (4 * side - 4)
+    return FRACTURE, 0, f"output out.oas shots {2 * count - 1} triangles {2 * area}"
+
+
 def framed(count, reach, is_apart):
     """An inverted layer in a narrow frame of many bands, beside which all shapes are, in the top cell or in one of their own."""
     shapes = b"".join(box(20 * k, 0, 20 * k + 10, 10) for k in range(count))
@@ -60,6 +69,8 @@ CASES = [
     ("a square grown by 65,536 255 times, band 1024", False, lambda: grown(255, 1024)),
     ("10,000 squares grown by 65,536, band 1048576", True, lambda: grown_layout(10000, 1048576)),
     ("10,000 squares grown by 65,536, band 1024", False, lambda: grown_layout(10000, 1024)),
+    ("2,000 squares along a diagonal, grown by 65,536", True, lambda: grown_stairs(2000)),
+    ("60,000 squares along a diagonal, grown by 65,536", False, lambda: grown_stairs(60000)),
     ("100,000 shapes in a cell, beside a frame of 2^31 rows, band 1024", False, lambda: framed(100000, 1 << 30, True)),
     ("100,000 shapes in the top cell, beside a frame of 2^31 rows, band 1024", False, lambda: framed(100000, 1 << 30, False)),
     ("a row doubled 20 times by its mirror image", False, lambda: mirrored(20)),

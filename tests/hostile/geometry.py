@@ -26,6 +26,14 @@ def pile(count):
     return FRACTURE, 0, f"output out.oas shots 2 triangles {2 * side * side}"
 
 
+def stairs(count):
+    """Squares, each a step to the right of the one before and above it: at each step one of them begins or ends."""
+    gds(cell("TOP", b"".join(box(k, k, k + count, k + count) for k in range(count))))
+    deck()
+    area = count * count + (count - 1) * (2 * count - 1)
+    return FRACTURE, 0, f"output out.oas shots {2 * count - 1} triangles {8 * area}"
+
+
 def same(count):
     gds(cell("TOP", polygon(SQUARE) * count))
     deck()
@@ -80,6 +88,7 @@ CASES = [
     ("100,000 slanted wires, each a step higher", False, lambda: slanted(100000, 400000, 1)),
     ("a pile of 1,000 squares", True, lambda: pile(1000)),
     ("a pile of 100,000 squares", False, lambda: pile(100000)),
+    ("a pile of 100,000 squares, each a step further", False, lambda: stairs(100000)),
     ("a square 1,000,000 times", False, lambda: same(1000000)),
     ("a polygon of 8,191 points that crosses itself at each edge", True, lambda: zigzag(4094, 100)),
     ("a polygon whose edges cross each other 40,000 times", True, lambda: woven(200, 10)),
