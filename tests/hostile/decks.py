@@ -25,13 +25,26 @@ def grown_layout(count, band):
     return FRACTURE, 0, f"output out.oas shots .."
 
 
-def grown_stairs(count):
-    """Squares of one grid step along a diagonal, grown so far that all of them lie on one place."""
+def stairs_of(count):
+    """Squares of one grid step along a diagonal, 80,000 half units from 0 and on, and the area of all once they have grown so
+    far that all of them lie on one place."""
     gds(cell("TOP", b"".join(box(k, k, k + 1, k + 1) for k in range(40000, 40000 + count))))
-    deck("layer A 1 0", "grow G A 65536", "write G out.oas 1 0")
     side = 2 + 2 * 65536
-    area = side * side + (count - 1) * (4 * side - 4)
+    return side * side + (count - 1) * (4 * side - 4)
+
+
+def grown_stairs(count):
+    """Such squares, grown so far."""
+    area = stairs_of(count)
+    deck("layer A 1 0", "grow G A 65536", "write G out.oas 1 0")
     return FRACTURE, 0, f"output out.oas shots {2 * count - 1} triangles {2 * area}"
+
+
+def shrunk_around_stairs(count):
+    """What is around such squares, shrunk so far: a frame of 268,928 a side with a hole."""
+    area = stairs_of(count)
+    deck("frame -60000 -60000 340000 340000", "layer A 1 0", "invert B A", "shrink G B 65536", "write G out.oas 1 0")
+    return FRACTURE, 0, f"output out.oas shots {2 * count + 2} triangles {2 * (268928 * 268928 - area)}"
 
 
 def framed(count, reach, is_apart):
@@ -71,6 +84,8 @@ CASES = [
     ("10,000 squares grown by 65,536, band 1024", False, lambda: grown_layout(10000, 1024)),
     ("2,000 squares along a diagonal, grown by 65,536", True, lambda: grown_stairs(2000)),
     ("60,000 squares along a diagonal, grown by 65,536", False, lambda: grown_stairs(60000)),
+    ("2,000 squares along a diagonal, around which a frame shrinks by 65,536", True, lambda: shrunk_around_stairs(2000)),
+    ("60,000 squares along a diagonal, around which a frame shrinks by 65,536", False, lambda: shrunk_around_stairs(60000)),
     ("100,000 shapes in a cell, beside a frame of 2^31 rows, band 1024", False, lambda: framed(100000, 1 << 30, True)),
     ("100,000 shapes in the top cell, beside a frame of 2^31 rows, band 1024", False, lambda: framed(100000, 1 << 30, False)),
     ("a row doubled 20 times by its mirror image", False, lambda: mirrored(20)),

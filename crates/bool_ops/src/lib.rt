@@ -16,4 +16,4 @@ pub use climbs::monotone_pieces;
 pub use lone::lone_piece;
 pub use operations::{Op, combine, combine_edges, combine_edges_within};
 pub use outline::pieces;
-pub use unions::{left_over, unite, unite_within};
+pub use unions::{left_over_within, unite, unite_within};

@@ -5,7 +5,7 @@ ghost use Rattle.half_grid.specs.Outlines.{IsClosed};
 ghost use Rattle.half_grid.specs.Reach.{IsPointWithinReach};
 
 use crate::{
-    Op, combine, combine_edges_within, left_over, lone_piece, monotone_pieces, pieces, unite_within,
+    Op, combine, combine_edges_within, left_over_within, lone_piece, monotone_pieces, pieces, unite_within,
 };
 use column_sweep::operand_edges;
 use geo_stream::NoMemory;
@@ -89,9 +89,14 @@ fn are(traps: &[Trap], wanted: &[[i64; 6]]) -> bool {
 }
 
 // What is left of the second list without the first.
-fn rest(alloc: Global, a: &[Trap], b: &[Trap], window: Window) -> Result<Vec<Trap>, NoMemory> {
+fn rest(
+    alloc: Global,
+    a: &[Trap],
+    b: &[Trap],
+    window: Window,
+) -> Result<Option<Vec<Trap>>, NoMemory> {
     let edges = operand_edges(alloc, a, b, window)?;
-    left_over(alloc, edges, window)
+    left_over_within(alloc, edges, window, u64::MAX)
 }
 
 #[test]
@@ -118,7 +123,7 @@ fn what_is_left(rt: HostRuntime) -> Result<(), Fail> {
         ),
     ];
     for (a, b, wanted) in table {
-        let left = rest(rt.alloc(), a, b, rows)?;
+        let left = rest(rt.alloc(), a, b, rows)?.ok_or("given up")?;
         assert!(rt; are(left.as_slice(), wanted));
     }
     Ok(())

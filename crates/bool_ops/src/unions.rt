@@ -42,14 +42,25 @@ pub fn unite_within(
     }
 }
 
-/// The joined list of the window's tiles at which the winding of operand B isn't 0 and that of operand A is. Want of memory
-/// is the only refusal. In each row of the window each operand has as many edges that go up as edges that go down.
-pub fn left_over(alloc: Global, edges: Vec<Edge>, window: Window) -> Result<Vec<Trap>, NoMemory>
+/// The joined list of the window's tiles at which the winding of operand B isn't 0 and that of operand A is, as long as no
+/// more edges than about so many are gone over: None where it is given up, and the edges are lost. With the greatest number it
+/// never is. Want of memory is the only refusal. In each row of the window each operand has as many edges that go up as edges
+/// that go down.
+pub fn left_over_within(
+    alloc: Global,
+    edges: Vec<Edge>,
+    window: Window,
+    most: u64,
+) -> Result<Option<Vec<Trap>>, NoMemory>
     requires { IsBalanced edges.items window }
-    ensures { IfOk result (λ traps. IsJoinedOf window (IsLeftIn edges.items window) traps.items) }
+    ensures joined { IfOk result (λ answer. IfSome answer (λ traps. IsJoinedOf window (IsLeftIn edges.items window) traps.items)) }
+    ensures given_up { IfOk result (λ answer. IfNone answer (most < 2 ^ 64 - 1)) }
 {
     let asked = |first: i128, second: i128| -> bool
         ensures { result ≡ (int_eq first (pos 0) && not (int_eq second (pos 0))) }
     { first == 0 && second != 0 };
-    swept(alloc, edges, window, Rule::new(asked))
+    match swept_within(alloc, edges, window, Rule::new(asked), most)? {
+        Some(traps) => Ok(Some(traps)),
+        None => Ok(None),
+    }
 }

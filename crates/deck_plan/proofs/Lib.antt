@@ -21,6 +21,7 @@ pub mod ImageLemmas
 pub mod MoveLemmas
 pub mod OwnLayerLemmas
 pub mod PileLemmas
+pub mod GrowthLemmas
 pub mod ReadyLemmas
 pub mod KnownAreas
 pub mod StackLemmas

@@ -14,7 +14,7 @@ ghost use Rattle.deck_plan.specs.LayerSets.{OfLayers};
 ghost use Rattle.deck_plan.specs.Rings.{edges_of_quad};
 
 use crate::own_layers::Layers;
-use crate::piles::piled_area;
+use crate::piles::{most_of_sweep, piled_area};
 use bool_ops::{combine, combine_edges_within, unite_within};
 use cell_tree::Tree;
 use column_sweep::put_edge;
@@ -50,14 +50,6 @@ fn put_rings<S: Stream<Item = Quad>>(
         put_ring(edges, &quad, operand)?;
     }
     Ok(())
-}
-
-// How many edges a sweep of so many may go over before these are taken for a pile: one over another, each at the ends of
-// all others.
-fn most_of_sweep(count: usize) -> u64 {
-    (count as u64)
-        .saturating_mul(2048)
-        .saturating_add(1_048_576)
 }
 
 // The joined list, in the window, of the area of a layer whose pieces may lie one over another.

@@ -16,6 +16,14 @@ use std::alloc::Global;
 // How many quadrilaterals are united at once. Where they lie one over another, that takes the square of it.
 const BATCH: usize = 2048;
 
+/// How many edges a sweep of so many may go over before these are taken for a pile: one over another, each at the ends of
+/// all others.
+pub(crate) fn most_of_sweep(count: usize) -> u64 {
+    (count as u64)
+        .saturating_mul(2048)
+        .saturating_add(1_048_576)
+}
+
 // Puts the edges of the next so many quadrilaterals at the end, or of all that are left.
 fn put_some<S: Stream<Item = Quad>>(
     edges: &mut Vec<Edge>,

@@ -14,14 +14,42 @@ ghost use Rattle.deck_plan.specs.Lists.{HasArea};
 ghost use Rattle.deck_plan.specs.Needs.{widened};
 ghost use Rattle.deck_plan.specs.Bounds.{HasCornersUpTo, IsAround, IsFullBox, wider};
 
+use crate::piles::most_of_sweep;
 use crate::windows::widened;
-use bool_ops::{Op, combine, left_over, unite};
+use bool_ops::{Op, combine, left_over_within, unite, unite_within};
 use column_sweep::operand_edges;
 use geo_stream::{FromSlice, NoMemory, Stream, gather};
 use half_grid::{Edge, Frame, Trap, Window};
 use square_size::Grown;
 use std::alloc::Global;
 use tone_mirror::frame_trap;
+
+// How many trapezoids of a pile are grown and united at once. Where they lie one over another then, that takes the square of it.
+const HANDFUL: usize = 1024;
+
+// The joined list, in the window, of the tiles near to some tile of trapezoids that lie one over another once they have grown.
+// Both halves are grown, each by itself, and what they have is united.
+fn piled_growth(
+    alloc: Global,
+    traps: &[Trap],
+    dx: i64,
+    dy: i64,
+    window: Window,
+) -> Result<Vec<Trap>, NoMemory>
+    requires sizing { IsSizing dx dy }
+    requires legal { All IsLegal traps.now }
+    requires near { All (HasCornersUpTo (2 ^ 43)) traps.now }
+    ensures { IfOk result (λ grown. HasArea window (IsGrown dx dy (IsInSome traps.now)) grown.items) }
+{
+    if traps.len() <= HANDFUL {
+        let edges = gather(alloc, Grown::new(alloc, FromSlice::new(traps), dx, dy))?;
+        return unite(alloc, edges, window);
+    }
+    let (first, last) = traps.split_at(traps.len() / 2);
+    let low = piled_growth(alloc, first, dx, dy, window)?;
+    let high = piled_growth(alloc, last, dx, dy, window)?;
+    combine(alloc, Op::Or, low.as_slice(), high.as_slice(), window)
+}
 
 /// The joined list, in the window, of the tiles near to some tile of the trapezoids, by a rectangle of half sides `dx`
 /// and `dy`.
@@ -38,7 +66,11 @@ pub(crate) fn grown_area(
     ensures { IfOk result (λ grown. HasArea window (IsGrown dx dy (IsInSome traps.now)) grown.items) }
 {
     let edges = gather(alloc, Grown::new(alloc, FromSlice::new(traps), dx, dy))?;
-    unite(alloc, edges, window)
+    let most = most_of_sweep(edges.len());
+    match unite_within(alloc, edges, window, most)? {
+        Some(area) => Ok(area),
+        None => piled_growth(alloc, traps, dx, dy, window),
+    }
 }
 
 // Puts the edges of the stream at the end.
@@ -153,5 +185,12 @@ pub(crate) fn shrunk_area(
     let outside = combine(alloc, Op::Sub, &around, traps, widened(window, dy))?;
     let mut edges = operand_edges(alloc, &[], &around, window)?;
     put_rings(alloc, &mut edges, outside.as_slice(), dx, dy)?;
-    left_over(alloc, edges, window)
+    let most = most_of_sweep(edges.len());
+    match left_over_within(alloc, edges, window, most)? {
+        Some(area) => Ok(area),
+        None => {
+            let grown = piled_growth(alloc, outside.as_slice(), dx, dy, window)?;
+            combine(alloc, Op::Sub, &around, grown.as_slice(), window)
+        }
+    }
 }
