@@ -25,7 +25,7 @@ help:
 	@echo 'make try             runs it on the example with nothing proved'
 	@echo 'make test            runs the tests of all crates, or of CRATE=NAME, with nothing proved'
 	@echo 'make check CRATE=N   proves one crate, over what was proved before'
-	@echo 'make gate CRATE=N    passes the gate with one crate and those below it: proofs, edits that must fail, tests'
+	@echo 'make gate CRATE=N    passes the gate with one crate: its proofs and those below it, its tests, its edits that must fail'
 	@echo 'bash .ci/run         passes the gate with all, and the checks of the repository'
 	@echo 'make example         runs the built program on example/'
 	@echo 'make system          checks the built program: answers, statuses, files, and what the system refuses'
@@ -74,10 +74,11 @@ check:
 	@test -n '$(CRATE)' || { echo 'which crate? make check CRATE=NAME, a name of crates.txt'; exit 1; }
 	cd crates/$(CRATE) && $(RT) check
 
-# One crate and those below it pass the gate.
+# One crate passes the gate: it and those below it are proved from nothing, with its tests, and its edits are tried.
 gate:
 	@test -n '$(CRATE)' || { echo 'which crate? make gate CRATE=NAME, a name of crates.txt'; exit 1; }
-	$(RT) ci $(CRATE)
+	cd crates/$(CRATE) && $(RT) verdict
+	$(RT) must-fail $(CRATE)
 
 # A square, and a block of standard cells.
 example: $(PROGRAM)

@@ -11,8 +11,6 @@ mod looking;
 mod pages;
 mod place;
 mod slices;
-#[cfg(test)]
-mod tests;
 
 pub use item::{ActiveLine, Opened, Windings};
 pub use laws::leaning_law;

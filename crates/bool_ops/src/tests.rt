@@ -5,7 +5,8 @@ ghost use Rattle.half_grid.specs.Outlines.{IsClosed};
 ghost use Rattle.half_grid.specs.Reach.{IsPointWithinReach};
 
 use crate::{
-    Op, combine, combine_edges_within, left_over_within, lone_piece, monotone_pieces, pieces, unite_within,
+    Op, combine, combine_edges_within, left_over_within, lone_piece, monotone_pieces, pieces,
+    unite_within,
 };
 use column_sweep::operand_edges;
 use geo_stream::NoMemory;

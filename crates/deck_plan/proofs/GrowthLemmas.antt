@@ -1,5 +1,6 @@
 -- What grows of two lists of trapezoids, and what shrinks by what grows outside of it.
-use Rattle.std.proofs.Common.{◌≡◌, ◌↔◌, ◌≤◌, ◌+◌, ℕ, zero, suc, ℤ, ◌⊎◌, inl, inr, List, [], ◌∷◌, ◌++◌, sym, arith}
+use Rattle.std.proofs.Common.{◌≡◌, ◌↔◌, ◌≤◌, ◌+◌, ℕ, zero, suc, ℤ, ◌⊎◌, inl, inr, List, [], ◌∷◌, ◌++◌, All, refl, subst, arith}
+use Rattle.std.proofs.lemmas.List.Elements.{All-nil, All-cons, All-head, All-tail}
 use Rattle.std.proofs.lemmas.List.Sums.{sum_by-append}
 use Rattle.half_grid.specs.Nearness.{IsNear, IsGrown, IsShrunk}
 use Rattle.half_grid.specs.Trapezoids.{Trapezoid, IsInTrapezoid, count_in}
@@ -16,6 +17,16 @@ use Rattle.deck_plan.specs.Needs.{widened}
 use Rattle.deck_plan.proofs.AreaLists.{same_area, combined_has, some_decided}
 use Rattle.deck_plan.proofs.Singles.{in_one, one_in}
 use Rattle.deck_plan.proofs.Sizes.{near_itself, near_rows}
+
+-- what holds of all of a list holds of all of either part of it
+pub first_all : (P : Trapezoid → Type 0) (xs ys whole : List Trapezoid) → whole ≡ xs ++ ys → All P whole → All P xs
+first_all P [] ys whole is all = All-nil P
+first_all P (x ∷ xs) ys whole is all = let h = subst (All P) is all in
+    All-cons P x xs (All-head P x (xs ++ ys) h) (first_all P xs ys (xs ++ ys) refl (All-tail P x (xs ++ ys) h))
+
+pub last_all : (P : Trapezoid → Type 0) (xs ys whole : List Trapezoid) → whole ≡ xs ++ ys → All P whole → All P ys
+last_all P [] ys whole is all = subst (All P) is all
+last_all P (x ∷ xs) ys whole is all = last_all P xs ys (xs ++ ys) refl (All-tail P x (xs ++ ys) (subst (All P) is all))
 
 count_both : (xs ys : List Trapezoid) (t : Tile) → count_in (xs ++ ys) t ≡ count_in xs t + count_in ys t
 count_both xs ys t = sum_by-append _ xs ys

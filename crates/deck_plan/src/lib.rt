@@ -18,8 +18,6 @@ mod piles;
 mod plans;
 mod sizing;
 mod steps;
-#[cfg(test)]
-mod tests;
 mod windows;
 
 pub use bands::{first_band, next_band};

@@ -24,11 +24,28 @@ use square_size::Grown;
 use std::alloc::Global;
 use tone_mirror::frame_trap;
 
+// The joined list, in the window, of the tiles near to some tile of the trapezoids, by one sweep.
+fn grown_at_once(
+    alloc: Global,
+    traps: &[Trap],
+    dx: i64,
+    dy: i64,
+    window: Window,
+) -> Result<Vec<Trap>, NoMemory>
+    requires sizing { IsSizing dx dy }
+    requires legal { All IsLegal traps.now }
+    requires near { All (HasCornersUpTo (2 ^ 43)) traps.now }
+    ensures { IfOk result (λ grown. HasArea window (IsGrown dx dy (IsInSome traps.now)) grown.items) }
+{
+    let edges = gather(alloc, Grown::new(alloc, FromSlice::new(traps), dx, dy))?;
+    unite(alloc, edges, window)
+}
+
 // How many trapezoids of a pile are grown and united at once. Where they lie one over another then, that takes the square of it.
 const HANDFUL: usize = 1024;
 
-// The joined list, in the window, of the tiles near to some tile of trapezoids that lie one over another once they have grown.
-// Both halves are grown, each by itself, and what they have is united.
+// The same list for trapezoids that lie one over another once they have grown: both halves are grown, each by itself, and what
+// they have is united.
 fn piled_growth(
     alloc: Global,
     traps: &[Trap],
@@ -42,8 +59,7 @@ fn piled_growth(
     ensures { IfOk result (λ grown. HasArea window (IsGrown dx dy (IsInSome traps.now)) grown.items) }
 {
     if traps.len() <= HANDFUL {
-        let edges = gather(alloc, Grown::new(alloc, FromSlice::new(traps), dx, dy))?;
-        return unite(alloc, edges, window);
+        return grown_at_once(alloc, traps, dx, dy, window);
     }
     let (first, last) = traps.split_at(traps.len() / 2);
     let low = piled_growth(alloc, first, dx, dy, window)?;

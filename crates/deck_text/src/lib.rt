@@ -16,8 +16,6 @@ mod rules;
 mod said;
 mod settings;
 mod statement;
-#[cfg(test)]
-mod tests;
 mod text;
 mod tokens;
 mod writing;

@@ -12,8 +12,6 @@ mod maps;
 mod saying;
 mod strips;
 mod tables;
-#[cfg(test)]
-mod tests;
 
 pub use entries::{Entry, Totals};
 pub use laws::density_laws;

@@ -11,8 +11,6 @@ mod part;
 mod parts;
 mod pieces;
 mod stripe;
-#[cfg(test)]
-mod tests;
 
 pub use fields::Fields;
 pub use laws::field_laws;

@@ -18,8 +18,6 @@ mod reading;
 mod reporting;
 mod splitting;
 mod stripe_lines;
-#[cfg(test)]
-mod tests;
 
 pub use job::{run, run_surely};
 pub use job_input::{DeckFault, LayoutFault};

@@ -36,6 +36,3 @@ pub use reading::record_at;
 pub use records::OasRecord;
 pub use repetition::Rep;
 pub use taking::Lists;
-
-#[cfg(test)]
-mod tests;

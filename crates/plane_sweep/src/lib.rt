@@ -20,8 +20,6 @@ mod rows;
 mod runs;
 mod stop;
 mod sweep;
-#[cfg(test)]
-mod tests;
 
 pub use event::{EventSource, SortedEvents};
 pub use laws::settle_laws;

@@ -12,8 +12,6 @@ mod reading;
 mod record;
 mod refusing;
 mod runs;
-#[cfg(test)]
-mod tests;
 
 pub use laws::{packing_laws, reading_laws};
 pub use packed_file::read_packed;

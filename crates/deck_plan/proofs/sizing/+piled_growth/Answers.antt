@@ -1,32 +1,53 @@
-use Rattle.std.proofs.Common.{◌≡◌, w64, FitsSigned, flat_map}
+use Rattle.std.proofs.Common.{◌≡◌, ◌++◌, ◌^◌, w64, FitsSigned, sym, subst, All, rules, arith}
 use Rattle.std.proofs.lemmas.Int.{to_z-of_z}
 use Rattle.std.proofs.lemmas.Result.{IfOk-weaker}
 use Rattle.half_grid.specs.Nearness.{IsGrown}
+use Rattle.half_grid.specs.Trapezoids.{IsLegal}
 use Rattle.square_size.specs.EdgeLaws.{IsInSome}
-use Rattle.square_size.specs.Edges.{edges_of_grown}
+use Rattle.deck_plan.specs.Bounds.{HasCornersUpTo}
 use Rattle.deck_plan.specs.Lists.{HasArea}
-use Rattle.deck_plan.proofs.Sizes.{grown_has, grown_balanced, rings_within}
-use Rattle.deck_plan.proofs.sizing.grown_area.Goals as goal
+use Rattle.deck_plan.proofs.GrowthLemmas.{both_grown, first_all, last_all}
+use Rattle.deck_plan.proofs.sizing.+piled_growth.Goals as goal
 
-pub new-requires-2-clause-traps : goal.new-requires-2-clause-traps
-new-requires-2-clause-traps c =
+pub piled_growth-requires : goal.piled_growth-requires
+piled_growth-requires n c =
     let dx : FitsSigned w64 c.args.dx = c.ranges.dx in
-    let dy : FitsSigned w64 c.args.dy = c.ranges.dy in
-    (c.args.traps.now, c.new.ensures.list, simp to_z-of_z (rings_within c.args.dx c.args.dy c.args.traps.now c.requires.sizing c.requires.near))
+    let dy : FitsSigned w64 c.args.dy = c.ranges.dy in (
+      search rules,
+      (
+        simp to_z-of_z c.requires.sizing,
+        (
+          first_all IsLegal c.split_at.result.0.now c.split_at.result.1.now c.args.traps.now c.split_at.ensures.by_index.0 c.requires.legal,
+          first_all (HasCornersUpTo (2 ^ 43)) c.split_at.result.0.now c.split_at.result.1.now c.args.traps.now
+              c.split_at.ensures.by_index.0 c.requires.near,
+        ),
+      ),
+    )
 
-edges_are : (c : goal.In_ok-edges) → c.in_ok-edges.edges.items ≡ flat_map (edges_of_grown c.args.dx c.args.dy) c.args.traps.now
-edges_are c =
+pub piled_growth-requires-2 : goal.piled_growth-requires-2
+piled_growth-requires-2 n c =
     let dx : FitsSigned w64 c.args.dx = c.ranges.dx in
-    let dy : FitsSigned w64 c.args.dy = c.ranges.dy in
-    simp to_z-of_z at (c.in_ok-edges.ensures _ (c.new-2.ensures.list c.args.traps.now c.new.ensures.list))
-
-pub unite-requires : goal.unite-requires
-unite-requires c = grown_balanced c.args.dx c.args.dy c.requires.sizing.rectangle c.args.traps.now c.requires.legal
-    c.in_ok-edges.edges.items (edges_are c) c.args.window
+    let dy : FitsSigned w64 c.args.dy = c.ranges.dy in (
+      search rules,
+      (
+        simp to_z-of_z c.requires.sizing,
+        (
+          last_all IsLegal c.split_at.result.0.now c.split_at.result.1.now c.args.traps.now c.split_at.ensures.by_index.0 c.requires.legal,
+          last_all (HasCornersUpTo (2 ^ 43)) c.split_at.result.0.now c.split_at.result.1.now c.args.traps.now
+              c.split_at.ensures.by_index.0 c.requires.near,
+        ),
+      ),
+    )
 
 pub returns : goal.returns
-returns c =
-    IfOk-weaker c.unite.result _ (λ grown. HasArea c.args.window (IsGrown c.args.dx c.args.dy (IsInSome c.args.traps.now)) grown.items)
-    (λ grown joined. grown_has c.args.dx c.args.dy c.requires.sizing.rectangle c.args.traps.now c.requires.legal
-    c.in_ok-edges.edges.items (edges_are c.before) c.args.window grown.items joined)
-    c.unite.ensures
+returns n c =
+    let dx : FitsSigned w64 c.args.dx = c.ranges.dx in
+    let dy : FitsSigned w64 c.args.dy = c.ranges.dy in
+    let low = simp to_z-of_z at c.in_ok-low.ensures in
+    let high = simp to_z-of_z at c.in_ok-high.ensures in
+    IfOk-weaker c.combine.result _ (λ grown. HasArea c.args.window (IsGrown c.args.dx c.args.dy (IsInSome c.args.traps.now)) grown.items)
+    (λ grown joined. subst (λ traps. HasArea c.args.window (IsGrown c.args.dx c.args.dy (IsInSome traps)) grown.items)
+    (sym c.split_at.ensures.by_index.0)
+    (both_grown c.args.dx c.args.dy c.split_at.result.0.now c.split_at.result.1.now c.args.window c.in_ok-low.low.items c.in_ok-high.high.items
+    grown.items low high (rw (c.as_slice.ensures.value, c.as_slice-2.ensures.value) at joined)))
+    c.combine.ensures

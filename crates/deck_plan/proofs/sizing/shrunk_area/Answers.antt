@@ -2,8 +2,8 @@ use Rattle.std.proofs.Common.{◌≡◌, ◌↔◌, ◌∷◌, [], ◌++◌, ◌
 use Rattle.std.proofs.lemmas.Int.{to_z-of_z}
 use Rattle.std.proofs.lemmas.Result.{IfOk-weaker}
 use Rattle.std.proofs.lemmas.List.Elements.{All-head, All-tail}
-use Rattle.half_grid.specs.Nearness.{IsShrunk}
-use Rattle.half_grid.specs.Trapezoids.{Trapezoid, IsInTrapezoid}
+use Rattle.half_grid.specs.Nearness.{IsGrown, IsShrunk}
+use Rattle.half_grid.specs.Trapezoids.{Trapezoid, IsInTrapezoid, IsLegal}
 use Rattle.half_grid.specs.declared.plane.Tile.{Tile}
 use Rattle.half_grid.specs.declared.extent.Frame.{Frame}
 use Rattle.half_grid.specs.Windows.{RowRange}
@@ -16,6 +16,7 @@ use Rattle.deck_plan.specs.Lists.{HasArea}
 use Rattle.deck_plan.specs.Bounds.{wider, HasCornersUpTo, IsAround}
 use Rattle.deck_plan.proofs.Boxes.{wider_frame, near_in_wider}
 use Rattle.deck_plan.proofs.Sizes.{shrunk_has, rings_balanced, outside_near, empty_shrunk, no_items}
+use Rattle.deck_plan.proofs.GrowthLemmas.{shrunk_left}
 use Rattle.deck_plan.proofs.sizing.shrunk_area.Goals as goal
 
 pub returns-in_default : goal.returns-in_default
@@ -48,8 +49,8 @@ put_rings-requires-clause-near c =
     (outside_near c.args.dx c.args.dy c.hull_from.result c.requires.sizing c.hull_from.ensures.full c.frame_trap.result
     tiles c.args.traps.now c.widened.result c.in_ok-outside.outside.items c.in_ok-outside.ensures)
 
-pub left_over-requires : goal.left_over-requires
-left_over-requires c =
+pub left_over_within-requires : goal.left_over_within-requires
+left_over_within-requires c =
     let dx : FitsSigned w64 c.args.dx = c.ranges.dx in
     let dy : FitsSigned w64 c.args.dy = c.ranges.dy in
     let put = simp to_z-of_z at c.in_ok-put_rings.ensures in
@@ -59,8 +60,8 @@ left_over-requires c =
     c.in_ok-outside.ensures.joined.legal c.args.window c.in_ok-edges.edges.items c.put_rings.new.edges.items
     c.in_ok-edges.ensures.a c.in_ok-edges.ensures.b edges (c.in_ok-edges.ensures.balanced c.args.window)
 
-pub returns : goal.returns
-returns c =
+pub returns-in-Some-2 : goal.returns-in-Some-2
+returns-in-Some-2 c =
     let dx : FitsSigned w64 c.args.dx = c.ranges.dx in
     let dy : FitsSigned w64 c.args.dy = c.ranges.dy in
     let is = simp to_z-of_z at c.wider.ensures in
@@ -74,10 +75,42 @@ returns c =
     let put = simp to_z-of_z at c.in_ok-put_rings.ensures in
     let edges = subst (λ (list : List Trapezoid). c.put_rings.new.edges.items ≡ c.in_ok-edges.edges.items ++ flat_map
     (edges_of_grown c.args.dx c.args.dy) list) c.as_slice.ensures.value put in
-    IfOk-weaker c.left_over.result _ (λ shrunk. HasArea c.args.window (IsShrunk c.args.dx c.args.dy (IsInSome c.args.traps.now)) shrunk.items)
-    (λ shrunk joined. shrunk_has c.args.dx c.args.dy c.requires.sizing.rectangle c.frame_trap.result
+    shrunk_has c.args.dx c.args.dy c.requires.sizing.rectangle c.frame_trap.result
     c.in_ok-outside.outside.items c.in_ok-outside.ensures.joined.legal c.args.window c.in_ok-edges.edges.items
     c.put_rings.new.edges.items
     c.in_ok-edges.ensures.a c.in_ok-edges.ensures.b edges c.args.traps.now
-    (wider c.args.dx c.args.dy c.hull_from.result) tiles around outside shrunk.items joined)
-    c.left_over.ensures
+    (wider c.args.dx c.args.dy c.hull_from.result) tiles around outside c.in-Some-2.area.items (rw c.in-Some-2.is at c.in_ok-area.ensures.joined)
+
+pub piled_growth-requires-clause-legal : goal.piled_growth-requires-clause-legal
+piled_growth-requires-clause-legal c = subst (All IsLegal) (sym c.as_slice-in-None.ensures.value) c.in_ok-outside.ensures.joined.legal
+
+pub piled_growth-requires-clause-near : goal.piled_growth-requires-clause-near
+piled_growth-requires-clause-near c =
+    let dx : FitsSigned w64 c.args.dx = c.ranges.dx in
+    let dy : FitsSigned w64 c.args.dy = c.ranges.dy in
+    let is = simp to_z-of_z at c.wider.ensures in
+    let tiles = subst (λ (frame : Frame). (t : Tile) → IsInTrapezoid c.frame_trap.result t ↔ IsInFrame frame t) is c.frame_trap.ensures.tiles in
+    subst (All (HasCornersUpTo (2 ^ 43))) (sym c.as_slice-in-None.ensures.value)
+    (outside_near c.args.dx c.args.dy c.hull_from.result c.requires.sizing c.hull_from.ensures.full c.frame_trap.result
+    tiles c.args.traps.now c.widened.result c.in_ok-outside.outside.items c.in_ok-outside.ensures)
+
+pub returns : goal.returns
+returns c =
+    let dx : FitsSigned w64 c.args.dx = c.ranges.dx in
+    let dy : FitsSigned w64 c.args.dy = c.ranges.dy in
+    let is = simp to_z-of_z at c.wider.ensures in
+    let rows = simp to_z-of_z at c.widened.ensures in
+    let tiles = subst (λ (frame : Frame). (t : Tile) → IsInTrapezoid c.frame_trap.result t ↔ IsInFrame frame t) is c.frame_trap.ensures.tiles in
+    let around = near_in_wider c.args.dx c.args.dy c.hull_from.result c.args.traps.now
+    (subst (All (IsAround c.hull_from.result)) (sym c.in-Some.ensures.cases.0) c.hull_from.ensures.around) in
+    let outside = subst (λ (w : RowRange). IsJoinedOf w
+    (IsInResult Sub (c.frame_trap.result ∷ []) c.args.traps.now w) c.in_ok-outside.outside.items) rows
+    c.in_ok-outside.ensures in
+    let grown = subst (λ (list : List Trapezoid). HasArea c.args.window (IsGrown c.args.dx c.args.dy (IsInSome list)) c.in_ok-grown-in-None.grown.items)
+    c.as_slice-in-None.ensures.value (simp to_z-of_z at c.in_ok-grown-in-None.ensures) in
+    IfOk-weaker c.combine-in-None.result _ (λ shrunk. HasArea c.args.window (IsShrunk c.args.dx c.args.dy (IsInSome c.args.traps.now)) shrunk.items)
+    (λ shrunk joined. shrunk_left c.args.dx c.args.dy c.requires.sizing.rectangle c.frame_trap.result c.args.traps.now c.in_ok-outside.outside.items
+    c.in_ok-grown-in-None.grown.items c.args.window (wider c.args.dx c.args.dy c.hull_from.result) tiles around outside grown shrunk.items
+    (subst (λ (list : List Trapezoid). IsJoinedOf c.args.window (IsInResult Sub (c.frame_trap.result ∷ []) list c.args.window) shrunk.items)
+    c.as_slice-in-None-2.ensures.value joined))
+    c.combine-in-None.ensures

@@ -3,8 +3,10 @@
 ghost use Rattle.std.specs.Prelude.{◌≡◌, ◌&&◌, pos, not};
 ghost use Rattle.std.specs.Ordering.{int_eq};
 
-use crate::{EventSource, LowestTile, RowSweep, SortedEvents, Sweep, lowest, settle_laws, swept};
 use half_grid::{Edge, Line, Operand, Side, Tile, Trap, Window};
+use plane_sweep::{
+    EventSource, LowestTile, RowSweep, SortedEvents, Sweep, lowest, settle_laws, swept,
+};
 use scan_line::Rule;
 use std::test::Fail;
 

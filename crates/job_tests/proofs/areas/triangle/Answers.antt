@@ -1,5 +1,5 @@
 use Rattle.std.proofs.Common.{rules, refl}
-use Rattle.deck_plan.proofs.tests.triangle.Goals as goal
+use Rattle.job_tests.proofs.areas.triangle.Goals as goal
 
 pub returns : goal.returns
 returns g c =

@@ -1,5 +1,5 @@
 // Decks of each form, and decks with one or two faults.
-use crate::{Deck, DeckBad, Step, Text, read_deck};
+use deck_text::{Deck, DeckBad, Step, Text, read_deck};
 use half_grid::{Frame, Limits};
 use layout_model::Pair;
 use std::alloc::Global;

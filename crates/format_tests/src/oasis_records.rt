@@ -1,4 +1,4 @@
-use crate::{PlainRectangle, RecordBad, plain_rectangle_at, record_at, record_laws};
+use oas_record::{PlainRectangle, RecordBad, plain_rectangle_at, record_at, record_laws};
 use std::alloc::{AllocError, Global};
 use std::process::Abort;
 use std::test::Fail;

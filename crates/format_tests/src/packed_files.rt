@@ -1,8 +1,8 @@
 // The shots of packed files by their bytes, both ways, and the first fault of bytes that are no packed file.
-use crate::{PackBad, pack_shots, packing_laws, read_packed, reading_laws};
 use depot::MemDepot;
 use half_grid::{Line, Trap};
 use layout_model::Pair;
+use shot_repeat::{PackBad, pack_shots, packing_laws, read_packed, reading_laws};
 use shot_writer::Head;
 use std::alloc::Global;
 use std::test::Fail;

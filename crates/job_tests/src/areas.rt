@@ -2,8 +2,8 @@
 ghost use Rattle.std.specs.Prelude.{◌≡◌, [], ◌∷◌};
 ghost use Rattle.layout_model.specs.Layouts.{AreOffsets, IsShapeOnGrid, IsLayoutOnGrid};
 
-use crate::Plan;
 use cell_tree::{Tree, resolve};
+use deck_plan::Plan;
 use deck_text::{Deck, read_deck};
 use geo_stream::List;
 use half_grid::{Point, Trap, Window};

@@ -4,7 +4,7 @@ ghost use Rattle.half_grid.specs.declared.plane.Line.TheVariants.{Upright};
 ghost use Rattle.active_lines.specs.ActiveLists.{items};
 ghost use Rattle.active_lines.specs.Points.{AscendAt};
 
-use crate::{ActiveLine, ActiveLines, Opened, Windings};
+use active_lines::{ActiveLine, ActiveLines, Opened, Windings};
 use geo_stream::NoMemory;
 use half_grid::{Line, Point};
 use std::alloc::Global;

@@ -1,4 +1,5 @@
-use Rattle.density_report.proofs.tests.shape.Goals as goal
+use Rattle.std.proofs.Common.{rules, refl}
+use Rattle.job_tests.proofs.areas.squares.Goals as goal
 
 pub returns : goal.returns
 returns g c =
@@ -7,8 +8,8 @@ returns g c =
     let edges = rw c.expect.ensures at c.new.ensures.grid in
     let places = rw c.expect-places.ensures at c.list.ensures.ok in
     record {
-      closed = rw points c.requires.closed;
+      closed = rw points refl;
       edges = rw points edges;
-      near = rw points c.requires.near;
-      offsets = rw (offsets, places) c.requires.places;
+      near = rw points (search rules);
+      offsets = rw (offsets, places) c.requires;
     }

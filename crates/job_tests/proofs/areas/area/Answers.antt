@@ -1,6 +1,6 @@
 use Rattle.std.proofs.Common.{arith}
 use Rattle.std.proofs.lemmas.Int.{ints}
-use Rattle.deck_plan.proofs.tests.area.Goals as goal
+use Rattle.job_tests.proofs.areas.area.Goals as goal
 
 pub area-requires-clause-band : goal.area-requires-clause-band
 area-requires-clause-band g c = record {

@@ -6,10 +6,10 @@ ghost use Rattle.half_grid.specs.Reach.{IsPointWithinReach};
 ghost use Rattle.layout_model.specs.Layouts.{AreOffsets, IsWithin, IsShapeOnGrid, IsLayoutOnGrid};
 ghost use Rattle.density_map.specs.Windows.{IsWindowSize};
 
-use crate::{density_laws, say_densities};
 use cell_tree::resolve;
 use deck_plan::Plan;
 use deck_text::read_deck;
+use density_report::{density_laws, say_densities};
 use depot::{DepotBad, MemDepot};
 use geo_stream::List;
 use half_grid::Point;

@@ -1,5 +1,4 @@
-use Rattle.std.proofs.Common.{rules, refl}
-use Rattle.deck_plan.proofs.tests.squares.Goals as goal
+use Rattle.job_tests.proofs.tables.shape.Goals as goal
 
 pub returns : goal.returns
 returns g c =
@@ -8,8 +7,8 @@ returns g c =
     let edges = rw c.expect.ensures at c.new.ensures.grid in
     let places = rw c.expect-places.ensures at c.list.ensures.ok in
     record {
-      closed = rw points refl;
+      closed = rw points c.requires.closed;
       edges = rw points edges;
-      near = rw points (search rules);
-      offsets = rw (offsets, places) c.requires;
+      near = rw points c.requires.near;
+      offsets = rw (offsets, places) c.requires.places;
     }

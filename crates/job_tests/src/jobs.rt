@@ -1,7 +1,7 @@
 //! The commands from end to end: files and lines that were worked out by hand, and calls that fail.
-use crate::{run, run_surely};
 use depot::{MemDepot, Refused, SureDepot};
 use geo_stream::NoMemory;
+use mdp_job::{run, run_surely};
 use std::alloc::Global;
 use std::test::Fail;
 

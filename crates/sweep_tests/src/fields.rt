@@ -1,7 +1,7 @@
 //! The pieces of shots in fields, worked out by hand, and their tiles.
 ghost use Rattle.half_grid.specs.Reach.{IsWithinReach};
 
-use crate::{Fields, Pieces, field_laws, stripes, too_wide};
+use field_split::{Fields, Pieces, field_laws, stripes, too_wide};
 use geo_stream::{FromSlice, Stream, gather};
 use half_grid::{Line, Side, Tile, Trap, covers};
 use std::alloc::Global;

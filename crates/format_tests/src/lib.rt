@@ -1,0 +1,11 @@
+//! Tests of what the crates that read and write files hand up: OASIS records, decks and packed files.
+//!
+//! They call public items alone, so they are proved by the contracts of those crates, which aren't proved once more for them.
+#![tactic(auto)]
+
+#[cfg(test)]
+mod decks;
+#[cfg(test)]
+mod oasis_records;
+#[cfg(test)]
+mod packed_files;
