@@ -199,8 +199,8 @@ fn plain_of(pair: Pair, points: &[Point], offsets: &Offsets, is_fixed: bool) -> 
 }
 
 impl KeptShape {
-    /// The rectangle with these opposite corners, once, at the place 0, which may be enlarged. Its outline goes from the
-    /// first corner upright. It takes no memory.
+    /// The rectangle with these opposite corners, once, at the place 0, which may be enlarged. Its outline goes from
+    /// the first corner upright. It takes no memory.
     #[inline(always)]
     pub fn rectangle(pair: Pair, first: Point, opposite: Point) -> KeptShape
         ensures shape { result ≡ shape_with pair (ring_between first opposite true) (origin ∷ []) false }

@@ -104,8 +104,8 @@ fn add_rectangle(
 }
 
 /// Looks at the values of the rectangle at this offset, which the fields have taken, adds it to the open cell where its
-/// pair is wanted, and says whether it is. It does what `take_values` does of such a record. The positions of placements
-/// and texts were near before it.
+/// pair is wanted, and says whether it is. It does what `take_values` does of such a record. The positions of
+/// placements and texts were near before it.
 #[inline(always)]
 pub(crate) fn take_plain(
     sorted: &[Pair],

@@ -279,8 +279,8 @@ impl<'a> Reader<'a> {
         Ok(())
     }
 
-    // Looks at the values of the rectangle at this offset, and takes what it gives, as `take_body` does. The fields have
-    // taken it.
+    // Looks at the values of the rectangle at this offset, and takes what it gives, as `take_body` does. The fields
+    // have taken it, and the positions of placements and texts were near before it.
     #[inline(always)]
     fn take_box(&mut self, bytes: &'a [u8], sorted: &[Pair], at: usize) -> Result<(), OasBad>
         requires sorted { AreSorted sorted.now }
