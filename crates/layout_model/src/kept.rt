@@ -1,10 +1,11 @@
 //! Shapes as a cell keeps them.
-ghost use Rattle.std.specs.Prelude.{◌≡◌, ◌≢◌, ◌<◌, ◌≤◌, ◌↔◌, ℕ, [], All, length, slice_get, false, Some, IfOk, IfSome, IsSome, IsTrue, MatchOption, Err};
+ghost use Rattle.std.specs.Prelude.{◌≡◌, ◌≢◌, ◌<◌, ◌≤◌, ◌↔◌, ℕ, [], ◌∷◌, All, length, slice_get, true, false, Some, IfOk, IfSome, IsSome, IsTrue, MatchOption, Err};
 ghost use Rattle.half_grid.specs.Outlines.{IsClosed, HasGridEdges};
 ghost use Rattle.half_grid.specs.Reach.{IsPointWithinReach};
 ghost use Rattle.layout_model.specs.Hulls.{IsLeastBoxOf};
 ghost use Rattle.layout_model.specs.Intervals.{HasNoneIn, IsFirstIn};
 ghost use Rattle.layout_model.specs.Kept.{corner, ring_between, rectangle_kept, shape_with, points_in};
+ghost use Rattle.layout_model.specs.Places.{origin};
 ghost use Rattle.layout_model.specs.Slants.{IsFirstSlant};
 ghost use Rattle.layout_model.specs.declared.shapes.ShapeBad.TheVariants.{Slant};
 
@@ -198,6 +199,26 @@ fn plain_of(pair: Pair, points: &[Point], offsets: &Offsets, is_fixed: bool) -> 
 }
 
 impl KeptShape {
+    /// The rectangle with these opposite corners, once, at the place 0, which may be enlarged. Its outline goes from
+    /// the first corner upright. It takes no memory.
+    #[inline(always)]
+    pub fn rectangle(pair: Pair, first: Point, opposite: Point) -> KeptShape
+        ensures shape { result ≡ shape_with pair (ring_between first opposite true) (origin ∷ []) false }
+        ensures closed { IsClosed (ring_between first opposite true) }
+        ensures edges { HasGridEdges (ring_between first opposite true) }
+    {
+        let plain = Plain {
+            first,
+            opposite,
+            pair,
+            is_upright: true,
+            is_fixed: false,
+        };
+        KeptShape {
+            form: Form::Rectangle(plain),
+        }
+    }
+
     /// Keeps a shape in a box, whatever its form.
     pub fn of(alloc: Global, shape: Shape) -> Result<KeptShape, NoMemory>
         ensures { IfOk result (λ kept. kept ≡ shape) }

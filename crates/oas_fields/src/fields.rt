@@ -1,5 +1,5 @@
 //! The values of the fields.
-ghost use Rattle.std.specs.Prelude.{List, [], ◌∷◌, ◌^◌};
+ghost use Rattle.std.specs.Prelude.{◌≡◌, List, [], ◌∷◌, ◌^◌};
 ghost use Rattle.oas_fields.specs.Steps.{AreWritten, AreKept};
 ghost use Rattle.oas_fields.specs.Values.{AreFields, ArePlacesWithin};
 ghost use Rattle.oas_fields.specs.Writes.{writes_of};
@@ -102,6 +102,8 @@ impl Fields {
     pub fn take_rectangle(&mut self, current: &PlainRectangle)
         requires near { ArePlacesWithin (2 ^ 100) self.old }
         ensures fields { (past : List ARecord) → AreFields past self.old → AreFields (rectangle_of current.now ∷ past) self.new }
+        ensures placement { self.new.placement ≡ self.old.placement }
+        ensures text { self.new.text ≡ self.old.text }
     {
         self.put_rectangle(current);
     }

@@ -12,6 +12,7 @@ mod FileLemmas
 mod BodyLemmas
 mod CountLemmas
 mod TakenLemmas
+mod PlainLemmas
 mod ReadLemmas
 mod RealLemmas
 mod PlacedLemmas

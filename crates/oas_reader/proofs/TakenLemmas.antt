@@ -23,6 +23,7 @@ use Rattle.oas_reader.specs.Names.{conflict_of}
 use Rattle.oas_reader.specs.Naming.{AreCalledWithin, AreNamesOf, HaveSpans, IsSpan, given_in, text_by}
 use Rattle.oas_reader.specs.Order.{ids_of, may_follow, is_in_order}
 use Rattle.oas_reader.specs.Places.{IsPlace}
+use Rattle.oas_reader.specs.Plain.{plain}
 use Rattle.oas_reader.specs.Readers.{AreDraftsOf}
 use Rattle.oas_reader.specs.Reading.{item, IsAllowed, IsRefused}
 use Rattle.oas_reader.specs.Rules.{KeepsToOthers}
@@ -218,13 +219,10 @@ body_allowed bytes unit wanted past at r next body is kept keeps =
 
 -- ---- a rectangle that writes no repetition
 
-abbrev pub plain_outline : Outline
-plain_outline = record { body = bodies.Rectangle; repeats = false; has_dimensions = true }
-
 pub plain_taken : (wanted sorted : List Pair) (past : List OasRecord) (p : PlainRectangle) (fields : Fields) → AreSamePairs wanted sorted
-    → AreFields (rectangle_of p ∷ past) fields → HasDimensionsIn (repetition_of past) → IsTaken wanted sorted past (rectangle_of p) plain_outline fields
+    → AreFields (rectangle_of p ∷ past) fields → HasDimensionsIn (repetition_of past) → IsTaken wanted sorted past (rectangle_of p) plain fields
 plain_taken wanted sorted past p fields same values last =
-    taken_on wanted sorted past (rectangle_of p) plain_outline fields same refl refl (λ _. tt, λ _. refl) values last
+    taken_on wanted sorted past (rectangle_of p) plain fields same refl refl (λ _. tt, λ _. refl) values last
 
 pub plain_allowed : (bytes : List ℕ) (unit : ℕ) (wanted : List Pair) (past : List Item) (at : ℕ) (p : PlainRectangle) (next : ℕ)
     → IsBodyKept bytes wanted past (rectangle_of p) → IsAllowed bytes unit wanted past at (rectangle_of p) next

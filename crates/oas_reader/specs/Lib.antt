@@ -19,5 +19,6 @@ pub mod Readers
 pub mod Files
 pub mod Placed
 pub mod Taking
+pub mod Plain
 pub mod Behind
 pub mod Geometry

@@ -1,7 +1,8 @@
 //! The counts of a file.
-ghost use Rattle.std.specs.Prelude.{◌≡◌, ◌^◌};
+ghost use Rattle.std.specs.Prelude.{◌≡◌, ◌^◌, Some as Just};
 ghost use Rattle.layout_model.specs.Counting.{AreAtMost};
 ghost use Rattle.oas_reader.specs.Drawn.{with_record};
+ghost use Rattle.oas_reader.specs.declared.bodies.Body.TheVariants as bodies;
 
 use crate::bodies::Body;
 use layout_model::Counts;
@@ -37,5 +38,18 @@ pub(crate) fn with(counts: Counts, body: Body, wanted: Option<bool>) -> Counts
             ..counts
         },
         _ => counts,
+    }
+}
+
+/// Counts one more record with a pair.
+#[inline(always)]
+pub(crate) fn count_shape(counts: &mut Counts, is_wanted: bool)
+    requires { AreAtMost (2 ^ 63) counts.old }
+    ensures { counts.new ≡ with_record (Just is_wanted) bodies.Rectangle counts.old }
+{
+    if is_wanted {
+        counts.kept += 1;
+    } else {
+        counts.other += 1;
     }
 }

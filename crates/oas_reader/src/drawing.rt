@@ -20,8 +20,9 @@ use std::alloc::Global;
 /// The rule of records that can't be on wanted pairs.
 const PAIR_RULE: u8 = 7;
 
+/// The number, or 0.
 #[inline(always)]
-fn or_none(number: Option<u64>) -> u64
+pub(crate) fn or_none(number: Option<u64>) -> u64
     ensures { result ≡ or_none number }
 {
     match number {

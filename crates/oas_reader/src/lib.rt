@@ -12,6 +12,7 @@ mod laws;
 mod naming;
 mod order;
 mod placing;
+mod plain;
 mod reading;
 mod refusing;
 mod reusing;

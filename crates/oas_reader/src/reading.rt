@@ -7,7 +7,7 @@ ghost use Rattle.oas_lex.specs.Reals.{IsWholeReal};
 ghost use Rattle.oas_record.specs.Plain.{rectangle_of};
 ghost use Rattle.oas_record.specs.Taken.{repetition_in};
 ghost use Rattle.oas_record.specs.declared.records.OasRecord.{OasRecord as ARecord};
-ghost use Rattle.oas_fields.specs.Values.{AreFields, ArePlacesWithin, repetition_of};
+ghost use Rattle.oas_fields.specs.Values.{AreFields, IsPlaceWithin, ArePlacesWithin, repetition_of};
 ghost use Rattle.oas_shapes.specs.Repetitions.{HasDimensionsIn};
 ghost use Rattle.oas_reader.specs.Bodies.{body_of};
 ghost use Rattle.layout_model.specs.Pairs.{AreSorted, AreSamePairs};
@@ -17,10 +17,12 @@ ghost use Rattle.oas_reader.specs.Items.{Item, records_in, magic, is_end, NoneEn
 ghost use Rattle.oas_reader.specs.Meaning.{counts_of};
 ghost use Rattle.oas_reader.specs.Naming.{AreCalledWithin, HaveSpans, AreNamesOf};
 ghost use Rattle.oas_reader.specs.Order.{is_in_order};
+ghost use Rattle.oas_reader.specs.Plain.{plain};
 ghost use Rattle.oas_reader.specs.Readers.{AreDraftsOf, AreDraftsWithin, IsReaderOf, IsReaderWithin};
 ghost use Rattle.oas_reader.specs.Reading.{item, IsAllowed, IsRefused, IsLayoutOf, IsFaultOf, IsFirstFault};
 ghost use Rattle.oas_reader.specs.Taking.{IsBodyWithin, IsTaken};
 ghost use Rattle.oas_reader.specs.Undefined.{is_there};
+ghost use Rattle.oas_reader.specs.declared.bodies.Body.TheVariants as bodies;
 ghost use Rattle.oas_reader.specs.declared.refusing.OasBad.{OasBad as ABad};
 ghost use Rattle.oas_reader.specs.declared.refusing.OasBad.TheVariants as bads;
 
@@ -31,6 +33,7 @@ use crate::finishing::cells_of;
 use crate::ids::id_of;
 use crate::naming::Names;
 use crate::order::Place;
+use crate::plain::take_plain;
 use crate::refusing::OasBad;
 use crate::reusing::{make_points, points_again};
 use crate::taking::take_names;
@@ -48,13 +51,6 @@ const END_SIZE: usize = 256;
 
 // The id of a RECTANGLE.
 const RECTANGLE: u8 = 20;
-
-// The outline of a RECTANGLE that writes no repetition.
-const PLAIN: Outline = Outline {
-    body: Body::Rectangle,
-    repeats: false,
-    has_dimensions: true,
-};
 
 /// What is kept of the records so far.
 #[derive(Drop)]
@@ -201,6 +197,8 @@ fn take_rectangle_fields(bytes: &[u8], fields: &mut Fields, current: &PlainRecta
     requires cell { AreCalledWithin bytes.now fields.old.cell }
     ensures fields { (past : AList ARecord) → AreFields past fields.old → AreFields (rectangle_of current.now ∷ past) fields.new }
     ensures cell { AreCalledWithin bytes.now fields.new.cell }
+    ensures placement { fields.new.placement ≡ fields.old.placement }
+    ensures text { fields.new.text ≡ fields.old.text }
 {
     fields.take_rectangle(current);
 }
@@ -281,6 +279,40 @@ impl<'a> Reader<'a> {
         Ok(())
     }
 
+    // Looks at the values of the rectangle at this offset, and takes what it gives, as `take_body` does. The fields
+    // have taken it, and the positions of placements and texts were near before it.
+    #[inline(always)]
+    fn take_box(&mut self, bytes: &'a [u8], sorted: &[Pair], at: usize) -> Result<(), OasBad>
+        requires sorted { AreSorted sorted.now }
+        requires placement { IsPlaceWithin (2 ^ 40) self.old.fields.placement }
+        requires text { IsPlaceWithin (2 ^ 40) self.old.fields.text }
+        requires few { AreAtMost (2 ^ 63) self.old.counts }
+        ensures place { self.new.place ≡ self.old.place }
+        ensures tables { self.new.tables ≡ self.old.tables }
+        ensures fields { self.new.fields ≡ self.old.fields }
+        ensures near { OnOk result (ArePlacesWithin (2 ^ 40) self.old.fields) }
+        ensures drafts { (wanted : AList APair) (past : AList Item) (r : ARecord) → IsTaken wanted sorted.now (records_in past) r plain self.old.fields
+            → AreDraftsOf wanted past self.old.drafts → OnOk result (AreDraftsOf wanted (item at r ∷ past) self.new.drafts) }
+        ensures within { AreDraftsWithin bytes.now self.old.drafts → OnOk result (AreDraftsWithin bytes.now self.new.drafts) }
+        ensures names { (past : AList Item) (r : ARecord) → bodies.Rectangle ≡ body_of r → AreNamesOf bytes.now past self.old.names
+            → OnOk result (AreNamesOf bytes.now (item at r ∷ past) self.new.names) }
+        ensures spans { HaveSpans bytes.now self.old.names → OnOk result (HaveSpans bytes.now self.new.names) }
+        ensures counts { (wanted : AList APair) (past : AList ARecord) (r : ARecord) → IsTaken wanted sorted.now past r plain self.old.fields
+            → self.old.counts ≡ counts_of wanted past → OnOk result (self.new.counts ≡ counts_of wanted (r ∷ past)) }
+        ensures kept { (wanted : AList APair) (past : AList Item) (r : ARecord) → IsTaken wanted sorted.now (records_in past) r plain self.old.fields
+            → AreNamesOf bytes.now past self.old.names → OnOk result (IsBodyKept bytes.now wanted past r) }
+        ensures bad { (wanted : AList APair) (past : AList Item) (r : ARecord) → IsTaken wanted sorted.now (records_in past) r plain self.old.fields
+            → AreNamesOf bytes.now past self.old.names → IfErr result (IsBadBody bytes.now wanted past at r) }
+    {
+        match take_plain(sorted, &self.fields, at, &mut self.drafts) {
+            Ok(is_wanted) => {
+                counting::count_shape(&mut self.counts, is_wanted);
+                Ok(())
+            }
+            Err(bad) => Err(bad),
+        }
+    }
+
     // Takes the record at this offset, which ends before `next`.
     fn take(
         &mut self,
@@ -334,7 +366,6 @@ impl<'a> Reader<'a> {
     #[inline(always)]
     fn take_rectangle(
         &mut self,
-        alloc: Global,
         bytes: &'a [u8],
         sorted: &[Pair],
         current: &PlainRectangle,
@@ -362,7 +393,7 @@ impl<'a> Reader<'a> {
             return Err(OasBad::Order(at));
         };
         take_rectangle_fields(bytes, &mut self.fields, current);
-        match self.take_body(alloc, bytes, sorted, PLAIN, at) {
+        match self.take_box(bytes, sorted, at) {
             Ok(()) => {}
             Err(bad) => return Err(bad),
         }
@@ -416,7 +447,7 @@ fn read_records(alloc: Global, bytes: &[u8], unit: u32, sorted: &[Pair]) -> Resu
     let mut at = MAGIC.len();
     'records: loop {
         if let Some((rectangle, next)) = plain_rectangle_at(bytes, at) {
-            match reader.take_rectangle(alloc, bytes, sorted, &rectangle, at) {
+            match reader.take_rectangle(bytes, sorted, &rectangle, at) {
                 Ok(()) => {}
                 Err(bad) => return Err(bad),
             }

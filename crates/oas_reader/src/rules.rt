@@ -8,11 +8,15 @@ ghost use Rattle.oas_reader.specs.Rules.{version as the_version};
 use crate::bodies::Body;
 use oas_fields::{Fields, Place};
 
+/// The rule of positions.
+pub(crate) const POSITION_RULE: u8 = 1;
+
 /// Positions, sizes, vertices and offsets aren't farther from 0.
 const FAR: i128 = 1 << 40;
 
+/// Whether a position is near.
 #[inline(always)]
-fn is_near(place: Place) -> bool
+pub(crate) fn is_near(place: Place) -> bool
     ensures { IsTrue result ↔ IsPlaceWithin (2 ^ 40) place }
 {
     if place.x < -FAR || place.x > FAR {

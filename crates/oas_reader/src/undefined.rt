@@ -8,9 +8,9 @@ use crate::bodies::Body;
 use oas_fields::{Fields, Variable};
 use oas_shapes::{uses_height, uses_width};
 
-// The first of a pair's variables that has no value.
+/// The first of a pair's variables that has no value.
 #[inline(always)]
-fn undefined_pair(fields: &Fields) -> Option<Variable>
+pub(crate) fn undefined_pair(fields: &Fields) -> Option<Variable>
     ensures { result ≡ first_in fields.now (variables.Layer ∷ variables.Datatype ∷ []) }
 {
     if fields.layer.is_none() {
@@ -22,9 +22,9 @@ fn undefined_pair(fields: &Fields) -> Option<Variable>
     None
 }
 
-// That of a box.
+/// That of a box.
 #[inline(always)]
-fn undefined_box(fields: &Fields) -> Option<Variable>
+pub(crate) fn undefined_box(fields: &Fields) -> Option<Variable>
     ensures { result ≡ first_in fields.now (variables.GeometryW ∷ variables.GeometryH ∷ []) }
 {
     if fields.width.is_none() {

@@ -23,15 +23,12 @@ use crate::cells::Drafts;
 use crate::drawing::{draw, pair_of};
 use crate::placing::{DIMENSION_RULE, placing_of};
 use crate::refusing::OasBad;
-use crate::rules::{broken_by_file, positions_are_near};
+use crate::rules::{POSITION_RULE, broken_by_file, positions_are_near};
 use crate::undefined::{first_undefined, has_pair};
 use layout_model::{Pair, is_among};
 use oas_fields::Fields;
 use oas_record::Called;
 use std::alloc::Global;
-
-/// The rule of positions.
-const POSITION_RULE: u8 = 1;
 
 // Looks at the values of a record, its shapes, its placement and its own name aside, and says of one with a pair whether
 // it is wanted.

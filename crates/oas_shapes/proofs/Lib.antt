@@ -6,5 +6,6 @@ mod ShapeLemmas
 mod VertexLemmas
 mod ArmLemmas
 mod EdgeLemmas
+mod BoxLemmas
 mod MoveLemmas
 mod PathListLemmas

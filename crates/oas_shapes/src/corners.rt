@@ -192,9 +192,9 @@ fn ring_of(figure: Figure) -> Ring
     }
 }
 
-// Whether a width or a height is at most 2^40.
+/// Whether a width or a height is at most 2^40.
 #[inline(always)]
-fn is_size(length: u64) -> bool
+pub(crate) fn is_size(length: u64) -> bool
     ensures { IsTrue result ↔ IsSize length }
 {
     length <= 1 << 40

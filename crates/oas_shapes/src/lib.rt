@@ -2,6 +2,7 @@
 //! point lists and the offsets of repetitions, or the rule of values that they break.
 #![tactic(auto)]
 
+mod boxes;
 mod corners;
 mod drawing;
 mod figures;
@@ -18,6 +19,7 @@ mod tests;
 mod trails;
 mod wide;
 
+pub use boxes::draw_rectangle;
 pub use drawing::{Undrawn, draw_figure, draw_path, draw_polygon};
 pub use figures::{Brush, Figure};
 pub use outlines::PointList;

@@ -1,5 +1,5 @@
-use Rattle.std.proofs.Common.{◌∷◌, refl, sym, subst}
-use Rattle.oas_fields.specs.Values.{AreFields}
+use Rattle.std.proofs.Common.{◌∷◌, ◌^◌, refl, sym, subst}
+use Rattle.oas_fields.specs.Values.{AreFields, IsPlaceWithin}
 use Rattle.oas_record.specs.Plain.{rectangle_of}
 use Rattle.oas_reader.specs.Items.{records_in}
 use Rattle.oas_reader.specs.Order.{ids_of}
@@ -24,7 +24,7 @@ returns-clause-reader c = λ wanted past same reader last.
     record {
       place = place_on (records_in past) r 20 c.in-Some.place refl (c.in-Some.ensures.some (ids_of (records_in past)) reader.place).1;
       tables =
-          tables_on (records_in past) r bodies.Rectangle c.args.self.now.tables c.take_body.new.self.tables c.take_body.new.self.tables
+          tables_on (records_in past) r bodies.Rectangle c.args.self.now.tables c.take_box.new.self.tables c.take_box.new.self.tables
           refl c.in-Ok.ensures.tables reader.tables refl;
       fields = subst (AreFields (r ∷ records_in past)) (sym c.in-Ok.ensures.fields) values;
       names = c.in-Ok.ensures.names past r refl reader.names;
@@ -38,3 +38,10 @@ returns-clause-allowed c = λ unit next wanted past same reader last.
     let taken = plain_taken wanted c.args.sorted.now (records_in past) c.args.current.now c.take_rectangle_fields.new.fields same
     (c.take_rectangle_fields.ensures.fields (records_in past) reader.fields) last in
     plain_allowed c.args.bytes.now unit wanted past c.args.at c.args.current.now next (c.in-Ok.ensures.kept wanted past r taken reader.names)
+
+pub take_box-requires-clause-placement : goal.take_box-requires-clause-placement
+take_box-requires-clause-placement c =
+    subst (IsPlaceWithin (2 ^ 40)) (sym c.take_rectangle_fields.ensures.placement) c.requires.within.near.placement
+
+pub take_box-requires-clause-text : goal.take_box-requires-clause-text
+take_box-requires-clause-text c = subst (IsPlaceWithin (2 ^ 40)) (sym c.take_rectangle_fields.ensures.text) c.requires.within.near.text
