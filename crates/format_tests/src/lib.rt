@@ -1,4 +1,5 @@
-//! Tests of what the crates that read and write files hand up: OASIS records, decks and packed files.
+//! Tests of what the crates that read and write files hand up: layouts, OASIS files, their records and shapes, decks and
+//! packed files.
 //!
 //! They call public items alone, so they are proved by the contracts of those crates, which aren't proved once more for them.
 #![tactic(auto)]
@@ -6,6 +7,12 @@
 #[cfg(test)]
 mod decks;
 #[cfg(test)]
+mod layouts;
+#[cfg(test)]
+mod oasis_files;
+#[cfg(test)]
 mod oasis_records;
+#[cfg(test)]
+mod oasis_shapes;
 #[cfg(test)]
 mod packed_files;

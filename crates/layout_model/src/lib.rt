@@ -22,8 +22,6 @@ mod shapes;
 mod shared_paths;
 mod stretches;
 mod strides;
-#[cfg(test)]
-mod tests;
 mod turns;
 mod wanted;
 

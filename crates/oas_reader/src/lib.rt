@@ -24,6 +24,3 @@ mod values;
 pub use laws::reading_laws;
 pub use reading::read_oas;
 pub use refusing::OasBad;
-
-#[cfg(test)]
-mod tests;

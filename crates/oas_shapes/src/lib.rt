@@ -14,8 +14,6 @@ mod paths;
 mod repetitions;
 mod sharing;
 mod tables;
-#[cfg(test)]
-mod tests;
 mod trails;
 mod wide;
 

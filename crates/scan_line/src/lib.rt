@@ -16,8 +16,6 @@ mod starts;
 mod stops;
 mod sums;
 mod sweep;
-#[cfg(test)]
-mod tests;
 
 pub use clipped::Clipped;
 pub use edges_of::EdgesOf;

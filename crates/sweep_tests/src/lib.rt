@@ -9,3 +9,5 @@ mod fields;
 mod lines;
 #[cfg(test)]
 mod plane_sweeps;
+#[cfg(test)]
+mod scans;

@@ -4,7 +4,7 @@ use Rattle.std.proofs.lemmas.List.Sums.{sum_by-append}
 use Rattle.half_grid.specs.Edges.{EdgeParts, spans, is_of}
 use Rattle.half_grid.specs.Windows.{RowRange}
 use Rattle.scan_line.specs.Runs.{IsBalanced}
-use Rattle.scan_line.proofs.tests.add_pair.Goals as goal
+use Rattle.sweep_tests.proofs.scans.add_pair.Goals as goal
 
 one_more : (p : EdgeParts → Bool) (edges : List EdgeParts) (e : EdgeParts) → count_by p (edges ++ e ∷ []) ≡ count_by p edges + cond (p e) 1 0
 one_more p edges e = let all = sum_by-append (λ (x : EdgeParts). cond (p x) 1 0) edges (e ∷ []) in omega (arith, all)

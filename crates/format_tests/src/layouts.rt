@@ -6,13 +6,13 @@ ghost use Rattle.layout_model.specs.Layouts.{IsWithin, IsShapeOnGrid, IsPlacemen
 ghost use Rattle.layout_model.specs.Names.{IsName};
 ghost use Rattle.layout_model.specs.PathBounds.{IsNear, IsNearBrush};
 
-use crate::{
+use geo_stream::List;
+use half_grid::{Point, Side, Tile, winding_at};
+use layout_model::{
     Axis, Brush, Cell, Counts, Interval, KeptShape, Layout, Name, NameBad, Offsets, Orient, Pair,
     PathBad, Placement, Points, Shape, ShapeBad, Shapes, SharedPath, SharedPoints, image, pair_law,
     path_laws, path_shapes,
 };
-use geo_stream::List;
-use half_grid::{Point, Side, Tile, winding_at};
 use std::alloc::Global;
 use std::process::Abort;
 use std::test::Fail;

@@ -1,8 +1,8 @@
 //! Files by their records, and the first fault of bytes that hold no layout.
-use crate::{OasBad, read_oas};
 use half_grid::Point;
 use layout_model::{Counts, Layout, Orient, Pair};
 use oas_fields::Variable;
+use oas_reader::{OasBad, read_oas};
 use oas_record::RecordBad;
 use std::alloc::Global;
 use std::test::Fail;

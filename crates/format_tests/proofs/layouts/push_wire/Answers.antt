@@ -6,7 +6,7 @@ use Rattle.layout_model.specs.Images.{moved}
 use Rattle.layout_model.specs.Layouts.{IsWithin}
 use Rattle.layout_model.specs.PathBounds.{IsNearPoint}
 use Rattle.layout_model.specs.Segments.{IsNearSegment, moved_segment}
-use Rattle.layout_model.proofs.tests.push_wire.Goals as goal
+use Rattle.format_tests.proofs.layouts.push_wire.Goals as goal
 
 stays_near : (by p : Point) → IsWithin (2 ^ 40) by → IsWithin 100 p → IsNearPoint (moved by p)
 stays_near by p h k = record {

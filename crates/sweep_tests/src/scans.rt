@@ -6,9 +6,9 @@ ghost use Rattle.half_grid.specs.Windows.{RowRange};
 ghost use Rattle.scan_line.specs.Rules.{IsRule};
 ghost use Rattle.scan_line.specs.Runs.{IsBalanced};
 
-use crate::{Clipped, EdgesOf, Rule, Run, Scan, Slab, clipped_laws, outline_laws};
 use geo_stream::{NoMemory, gather};
 use half_grid::{Edge, Line, Operand, Point, Tile, Trap, Window, covers, tile_at};
+use scan_line::{Clipped, EdgesOf, Rule, Run, Scan, Slab, clipped_laws, outline_laws};
 use std::alloc::Global;
 use std::process::Abort;
 use std::test::Fail;

@@ -1,12 +1,12 @@
 //! Outlines, places and offsets by hand, and the rules.
-use crate::{
-    Brush, Figure, PathList, PointList, Repetition, Undrawn, dimensions_are_allowed, draw_figure,
-    draw_path, draw_polygon, offsets_of,
-};
 use geo_stream::{List, NoMemory};
 use half_grid::Point;
 use layout_model::{Offsets, Pair, ShapeRef, Shapes};
 use oas_record::{Deltas, Rep};
+use oas_shapes::{
+    Brush, Figure, PathList, PointList, Repetition, Undrawn, dimensions_are_allowed, draw_figure,
+    draw_path, draw_polygon, offsets_of,
+};
 use std::alloc::Global;
 use std::test::Fail;
 

@@ -1,5 +1,5 @@
 use Rattle.std.proofs.Common.{◌≡◌}
-use Rattle.scan_line.proofs.tests.compare.Given as goal
+use Rattle.sweep_tests.proofs.scans.compare.Given as goal
 
 abbrev pub invariant-slabs : goal.invariant-slabs
 invariant-slabs g l = l.sweep.rule ≡ l.fn.scan.rule

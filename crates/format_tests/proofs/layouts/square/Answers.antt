@@ -1,5 +1,5 @@
 use Rattle.std.proofs.Common.{rules, refl}
-use Rattle.layout_model.proofs.tests.square.Goals as goal
+use Rattle.format_tests.proofs.layouts.square.Goals as goal
 
 pub returns : goal.returns
 returns g c =

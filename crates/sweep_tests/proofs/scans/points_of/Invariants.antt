@@ -1,6 +1,6 @@
 use Rattle.std.proofs.Common.{All}
 use Rattle.half_grid.specs.Reach.{IsPointWithinReach}
-use Rattle.scan_line.proofs.tests.points_of.Given as goal
+use Rattle.sweep_tests.proofs.scans.points_of.Given as goal
 
 abbrev pub invariant-loop-x : goal.invariant-loop-x
 invariant-loop-x l = All IsPointWithinReach l.points.items
