@@ -86,6 +86,11 @@ pub fn record_of_kind(bytes: &[u8], at: usize, kind: Kind) -> Option<Record>
     if unsigned2(bytes, at + 2) != head_code(kind) {
         return None;
     }
+    // Where one length is allowed, no other test of it is left.
+    let length = usize::from(unsigned2(bytes, at));
+    if length < HEAD || !is_allowed(content_length(kind), length - HEAD) {
+        return None;
+    }
     match record_at(bytes, at) {
         Ok(found) => Some(found),
         Err(_) => None,
