@@ -8,41 +8,23 @@ ghost use Rattle.gds_reader.specs.Meaning.{counts_of, wanted_at};
 use gds_record::{Kind, Record};
 use layout_model::Counts;
 
-/// The counts with one more record. `drawn` says of the XY of a boundary or a path whether it is on a
-/// wanted pair.
-pub(crate) fn with(counts: Counts, current: Record, drawn: Option<bool>) -> Counts
-    requires { AreAtMost (2 ^ 63) counts }
-    ensures { (bytes : List ℕ) (past : List ARecord) (wanted : List APair) → counts ≡ counts_of bytes wanted past
-        → drawn ≡ wanted_at bytes wanted past current → result ≡ counts_of bytes wanted (current ∷ past) }
+/// Counts one more record. `drawn` says of the XY of a boundary or a path whether it is on a wanted pair.
+#[inline(always)]
+pub(crate) fn count(counts: &mut Counts, current: Record, drawn: Option<bool>)
+    requires { AreAtMost (2 ^ 63) counts.old }
+    ensures { (bytes : List ℕ) (past : List ARecord) (wanted : List APair) → counts.old ≡ counts_of bytes wanted past
+        → drawn ≡ wanted_at bytes wanted past current → counts.new ≡ counts_of bytes wanted (current ∷ past) }
 {
     match current.kind {
         Kind::Xy => match drawn {
-            Some(true) => Counts {
-                kept: counts.kept + 1,
-                ..counts
-            },
-            Some(false) => Counts {
-                other: counts.other + 1,
-                ..counts
-            },
-            None => counts,
+            Some(true) => counts.kept += 1,
+            Some(false) => counts.other += 1,
+            None => {}
         },
-        Kind::Text => Counts {
-            texts: counts.texts + 1,
-            ..counts
-        },
-        Kind::Node => Counts {
-            nodes: counts.nodes + 1,
-            ..counts
-        },
-        Kind::Box => Counts {
-            boxes: counts.boxes + 1,
-            ..counts
-        },
-        Kind::PropAttr => Counts {
-            properties: counts.properties + 1,
-            ..counts
-        },
-        _ => counts,
+        Kind::Text => counts.texts += 1,
+        Kind::Node => counts.nodes += 1,
+        Kind::Box => counts.boxes += 1,
+        Kind::PropAttr => counts.properties += 1,
+        _ => {}
     }
 }

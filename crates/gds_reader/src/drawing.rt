@@ -230,6 +230,7 @@ fn draw_path(
 
 /// Draws an element with these points that is on a wanted pair. `at` is the offset of its XY. A rule that it breaks is
 /// reported even where memory runs out.
+#[inline(always)]
 pub(crate) fn draw(
     alloc: Global,
     element: &Element,

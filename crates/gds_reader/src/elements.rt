@@ -64,6 +64,7 @@ const PLAIN: Orient = Orient {
 
 impl Element {
     /// An element that begins with a record of this kind.
+    #[inline(always)]
     pub(crate) fn new(kind: Option<Kind>) -> Element
         ensures { result ≡ new_element kind }
     {
@@ -85,18 +86,20 @@ impl Element {
     }
 
     /// Whether it places a structure.
+    #[inline(always)]
     pub(crate) fn is_reference(&self) -> bool
         ensures { IsTrue result ↔ ((self.now.kind ≡ Some Sref) ⊎ (self.now.kind ≡ Some Aref)) }
     {
         matches!(self.kind, Some(Kind::Sref | Kind::Aref))
     }
 
-    /// The element with one more record, or the next element where one begins.
-    pub(crate) fn with(self, bytes: &[u8], current: Record) -> Element
+    /// Takes one more record, or begins the next element with it.
+    #[inline(always)]
+    pub(crate) fn take(&mut self, bytes: &[u8], current: Record)
         requires { IsHeld bytes.now current }
-        ensures element { (past : List ARecord) (wanted : List APair) → IsElementOf bytes.now past self → KeepsRules bytes.now wanted past current
-            → IsElementOf bytes.now (current ∷ past) result }
-        ensures orient { IsOrient self.orient → IsOrient result.orient }
+        ensures element { (past : List ARecord) (wanted : List APair) → IsElementOf bytes.now past self.old → KeepsRules bytes.now wanted past current
+            → IsElementOf bytes.now (current ∷ past) self.new }
+        ensures orient { IsOrient self.old.orient → IsOrient self.new.orient }
     {
         let first = current.first;
         match current.kind {
@@ -106,74 +109,28 @@ impl Element {
             | Kind::Aref
             | Kind::Text
             | Kind::Node
-            | Kind::Box => Element::new(Some(current.kind)),
-            Kind::Layer => {
-                let layer = u64::from(unsigned2(bytes, first));
-                Element {
-                    pair: Pair { layer, ..self.pair },
-                    ..self
-                }
-            }
-            Kind::DataType => {
-                let datatype = u64::from(unsigned2(bytes, first));
-                Element {
-                    pair: Pair {
-                        datatype,
-                        ..self.pair
-                    },
-                    ..self
-                }
-            }
-            Kind::Sname => Element {
-                target: Some(current),
-                ..self
-            },
-            Kind::PathType => Element {
-                path_type: unsigned2(bytes, first),
-                ..self
-            },
-            Kind::Width => Element {
-                width: int4(bytes, first),
-                ..self
-            },
-            Kind::BgnExtn => Element {
-                begin: int4(bytes, first),
-                ..self
-            },
-            Kind::EndExtn => Element {
-                end: int4(bytes, first),
-                ..self
-            },
-            Kind::Strans => Element {
-                orient: Orient {
-                    flip: unsigned2(bytes, first) >= 0x8000,
-                    ..self.orient
-                },
-                ..self
-            },
+            | Kind::Box => *self = Element::new(Some(current.kind)),
+            Kind::Layer => self.pair.layer = u64::from(unsigned2(bytes, first)),
+            Kind::DataType => self.pair.datatype = u64::from(unsigned2(bytes, first)),
+            Kind::Sname => self.target = Some(current),
+            Kind::PathType => self.path_type = unsigned2(bytes, first),
+            Kind::Width => self.width = int4(bytes, first),
+            Kind::BgnExtn => self.begin = int4(bytes, first),
+            Kind::EndExtn => self.end = int4(bytes, first),
+            Kind::Strans => self.orient.flip = unsigned2(bytes, first) >= 0x8000,
             Kind::Mag => match factor_of(int8(bytes, first)) {
-                Some(mag) => Element {
-                    orient: Orient { mag, ..self.orient },
-                    ..self
-                },
-                None => self,
+                Some(mag) => self.orient.mag = mag,
+                None => {}
             },
             Kind::Angle => match quarter_turns(int8(bytes, first)) {
-                Some(turns) => Element {
-                    orient: Orient {
-                        turns,
-                        ..self.orient
-                    },
-                    ..self
-                },
-                None => self,
+                Some(turns) => self.orient.turns = turns,
+                None => {}
             },
-            Kind::ColRow => Element {
-                columns: unsigned2(bytes, first),
-                rows: unsigned2(bytes, first + 2),
-                ..self
-            },
-            _ => self,
+            Kind::ColRow => {
+                self.columns = unsigned2(bytes, first);
+                self.rows = unsigned2(bytes, first + 2);
+            }
+            _ => {}
         }
     }
 }

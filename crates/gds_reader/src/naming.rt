@@ -73,6 +73,7 @@ impl<'a> Names<'a> {
 }
 
 /// Adds the name of a STRNAME, which is at this offset; other records have none.
+#[inline(always)]
 pub(crate) fn enter<'a>(
     names: &mut Names<'a>,
     bytes: &'a [u8],

@@ -107,6 +107,7 @@ fn after_library(place: Place, kind: Kind) -> Option<Place>
 }
 
 // An element begins, or the structure ends.
+#[inline(always)]
 fn begin(kind: Kind) -> Option<Place>
     ensures { result ≡ begun_place kind }
 {
@@ -123,6 +124,7 @@ fn begin(kind: Kind) -> Option<Place>
     }
 }
 
+#[inline(always)]
 fn after_name(kind: Kind) -> Option<Place>
     ensures { result ≡ classed_place kind }
 {
@@ -132,6 +134,7 @@ fn after_name(kind: Kind) -> Option<Place>
     }
 }
 
+#[inline(always)]
 fn after_plex(form: Form, kind: Kind) -> Option<Place>
     ensures { result ≡ body_place form kind }
 {
@@ -147,6 +150,7 @@ fn after_plex(form: Form, kind: Kind) -> Option<Place>
     }
 }
 
+#[inline(always)]
 fn after_flags(form: Form, kind: Kind) -> Option<Place>
     ensures { result ≡ plex_place form kind }
 {
@@ -156,6 +160,7 @@ fn after_flags(form: Form, kind: Kind) -> Option<Place>
     }
 }
 
+#[inline(always)]
 fn after_begin(form: Form, kind: Kind) -> Option<Place>
     ensures { result ≡ flags_place form kind }
 {
@@ -165,6 +170,7 @@ fn after_begin(form: Form, kind: Kind) -> Option<Place>
     }
 }
 
+#[inline(always)]
 fn after_layer(form: Form, kind: Kind) -> Option<Place>
     ensures { result ≡ typed_place form kind }
 {
@@ -215,6 +221,7 @@ fn after_target(form: Form, kind: Kind) -> Option<Place>
     }
 }
 
+#[inline(always)]
 fn before_xy(kind: Kind) -> Option<Place>
     ensures { result ≡ xy_place kind }
 {
@@ -260,6 +267,7 @@ fn after_path_layer(kind: Kind) -> Option<Place>
     }
 }
 
+#[inline(always)]
 fn after_xy(kind: Kind) -> Option<Place>
     ensures { result ≡ property_place kind }
 {
@@ -301,6 +309,7 @@ fn in_text(kind: Kind) -> Option<Place>
 
 impl Place {
     /// The place after a record of this kind, or none where it may not come here.
+    #[inline(always)]
     pub(crate) fn after(self, kind: Kind) -> Option<Place>
         ensures { result ≡ next_place self kind }
     {

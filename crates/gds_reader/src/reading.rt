@@ -6,20 +6,20 @@ ghost use Rattle.layout_model.specs.Names.{IsName};
 ghost use Rattle.layout_model.specs.declared.pair.Pair.{Pair as APair};
 ghost use Rattle.layout_model.specs.declared.cells.Layout.{Layout as ALayout};
 ghost use Rattle.gds_record.specs.Reals.{Agrees};
-ghost use Rattle.gds_record.specs.declared.kinds.Kind.TheVariants.{Xy, EndStr, StrName, Units};
+ghost use Rattle.gds_record.specs.declared.kinds.Kind.TheVariants.{Xy, EndLib, EndStr, StrName, Units};
 ghost use Rattle.gds_record.specs.declared.records.Record.{Record as ARecord};
 ghost use Rattle.layout_model.specs.Pairs.{AreSamePairs, AreSorted};
 ghost use Rattle.layout_model.specs.Counting.{AreAtMost};
 ghost use Rattle.gds_reader.specs.Elements.{IsHeld, IsElementOf, TellsShape, KeepsBy, shapes_by, placements_kept};
 ghost use Rattle.gds_reader.specs.Meaning.{wanted_at, cells_at};
-ghost use Rattle.gds_reader.specs.Readers.{IsReaderOf, IsStructureOf, IsTaken, IsRefused, IsBadXy, IsTail, cells_kept};
+ghost use Rattle.gds_reader.specs.Readers.{IsReaderOf, IsStructureOf, IsTaken, IsRefused, IsBadXy, IsStanding, IsTail, cells_kept};
 ghost use Rattle.gds_reader.specs.Reading.{IsLayoutOf, IsFirstFault, framing_fault, unit_in};
 ghost use Rattle.gds_reader.specs.Refused.{IsRefusedBy};
 ghost use Rattle.gds_reader.specs.Values.{Keeps, KeepsRules, name_in, points_in};
 ghost use Rattle.gds_reader.specs.declared.refusing.GdsBad.{GdsBad as ABad};
 ghost use Rattle.gds_reader.specs.declared.refusing.GdsBad.TheVariants as bads;
 
-use crate::counting;
+use crate::counting::count;
 use crate::drawing::draw;
 use crate::elements::Element;
 use crate::naming::{Names, enter, name_of};
@@ -28,7 +28,7 @@ use crate::placing::place;
 use crate::pointing::read_points;
 use crate::refusing::GdsBad;
 use crate::values::broken_rule;
-use gds_record::{Framing, Kind, Record, int8, record_at, unit_agrees};
+use gds_record::{Framing, Kind, Record, int8, record_at, record_of_kind, unit_agrees};
 use geo_stream::{List, NoMemory};
 use half_grid::Point;
 use layout_model::{
@@ -71,6 +71,7 @@ fn framing_bad(fault: Framing, at: usize) -> GdsBad
 }
 
 // Where UNITS has another unit, the bits of its real.
+#[inline(always)]
 fn other_unit(bytes: &[u8], unit: u32, current: Record) -> Option<u64>
     requires { IsHeld bytes.now current }
     ensures other { IfSome result (λ bits. (current.kind ≡ Units) × (bits ≡ unit_in bytes.now current) × ¬ Agrees (unit_in bytes.now current) unit) }
@@ -90,6 +91,7 @@ fn other_unit(bytes: &[u8], unit: u32, current: Record) -> Option<u64>
 }
 
 // At the XY of a boundary or a path, whether its pair is wanted.
+#[inline(always)]
 fn wanted_shape(sorted: &[Pair], element: &Element, current: Record) -> Option<bool>
     requires { AreSorted sorted.now }
     ensures wanted { (bytes : Items ℕ) (past : Items ARecord) (wanted : Items APair) → IsElementOf bytes past element.now → AreSamePairs wanted sorted.now
@@ -106,6 +108,7 @@ fn wanted_shape(sorted: &[Pair], element: &Element, current: Record) -> Option<b
 }
 
 // Takes the XY of an element, which is at this offset. `drawn` says of a shape whether its pair is wanted.
+#[inline(always)]
 fn take_points(
     alloc: Global,
     bytes: &[u8],
@@ -155,6 +158,7 @@ fn take_points(
 }
 
 // Takes a record that isn't ENDSTR into the open structure.
+#[inline(always)]
 fn take_within(
     alloc: Global,
     bytes: &[u8],
@@ -228,6 +232,7 @@ fn close(
 }
 
 // Takes a record into the open structure, and the structure into the cells where it ends.
+#[inline(always)]
 fn build(
     alloc: Global,
     bytes: &[u8],
@@ -288,6 +293,7 @@ impl<'a> Reader<'a> {
     }
 
     // Takes the record at this offset. Only the points of an XY take memory before their rules are looked at.
+    #[inline(always)]
     fn take(
         &mut self,
         alloc: Global,
@@ -348,10 +354,124 @@ impl<'a> Reader<'a> {
             Err(bad) => return Err(bad),
             Ok(()) => {}
         }
-        self.counts = counting::with(self.counts, current, drawn);
-        self.element = self.element.with(bytes, current);
+        count(&mut self.counts, current, drawn);
+        self.element.take(bytes, current);
         self.place = place;
         Ok(())
+    }
+
+    // Takes the record at this offset where one of this kind is there, and gives the offset after it; else this offset.
+    #[inline(always)]
+    fn take_kind(
+        &mut self,
+        alloc: Global,
+        bytes: &'a [u8],
+        unit: u32,
+        sorted: &[Pair],
+        at: usize,
+        kind: Kind,
+    ) -> Result<usize, GdsBad>
+        requires sorted { AreSorted sorted.now }
+        requires standing { IsStanding bytes.now unit sorted.now at self.old }
+        requires goes_on { kind ≢ EndLib }
+        ensures standing { IfOk result (λ next. IsStanding bytes.now unit sorted.now next self.new) }
+        ensures onward { IfOk result (λ next. at ≤ next) }
+        ensures first_fault { (wanted : Items APair) → AreSamePairs wanted sorted.now
+            → IfErr result (λ bad. bad ≢ bads.NoMemory → IsFirstFault bytes.now unit wanted bad) }
+    {
+        let Some(current) = record_of_kind(bytes, at, kind) else {
+            return Ok(at);
+        };
+        match self.take(alloc, bytes, unit, sorted, current, at) {
+            Ok(()) => Ok(current.next),
+            Err(bad) => Err(bad),
+        }
+    }
+
+    // Takes the points of an element and its end, as far as they are at this offset. Gives the offset after them.
+    #[inline(always)]
+    fn take_end(
+        &mut self,
+        alloc: Global,
+        bytes: &'a [u8],
+        unit: u32,
+        sorted: &[Pair],
+        at: usize,
+    ) -> Result<usize, GdsBad>
+        requires sorted { AreSorted sorted.now }
+        requires standing { IsStanding bytes.now unit sorted.now at self.old }
+        ensures standing { IfOk result (λ next. IsStanding bytes.now unit sorted.now next self.new) }
+        ensures onward { IfOk result (λ next. at ≤ next) }
+        ensures first_fault { (wanted : Items APair) → AreSamePairs wanted sorted.now
+            → IfErr result (λ bad. bad ≢ bads.NoMemory → IsFirstFault bytes.now unit wanted bad) }
+    {
+        let end = self.take_kind(alloc, bytes, unit, sorted, at, Kind::Xy)?;
+        if end == at {
+            return Ok(end);
+        }
+        self.take_kind(alloc, bytes, unit, sorted, end, Kind::EndEl)
+    }
+
+    // Takes the records of a boundary from this offset on, as far as they come in the commonest order. Gives the offset
+    // after them.
+    #[inline(always)]
+    fn take_boundary(
+        &mut self,
+        alloc: Global,
+        bytes: &'a [u8],
+        unit: u32,
+        sorted: &[Pair],
+        at: usize,
+    ) -> Result<usize, GdsBad>
+        requires sorted { AreSorted sorted.now }
+        requires standing { IsStanding bytes.now unit sorted.now at self.old }
+        ensures standing { IfOk result (λ next. IsStanding bytes.now unit sorted.now next self.new) }
+        ensures onward { IfOk result (λ next. at ≤ next) }
+        ensures first_fault { (wanted : Items APair) → AreSamePairs wanted sorted.now
+            → IfErr result (λ bad. bad ≢ bads.NoMemory → IsFirstFault bytes.now unit wanted bad) }
+    {
+        let layer = self.take_kind(alloc, bytes, unit, sorted, at, Kind::Boundary)?;
+        if layer == at {
+            return Ok(layer);
+        }
+        let datatype = self.take_kind(alloc, bytes, unit, sorted, layer, Kind::Layer)?;
+        if datatype == layer {
+            return Ok(datatype);
+        }
+        let points = self.take_kind(alloc, bytes, unit, sorted, datatype, Kind::DataType)?;
+        if points == datatype {
+            return Ok(points);
+        }
+        self.take_end(alloc, bytes, unit, sorted, points)
+    }
+
+    // Takes boundaries from this offset on, one after another. Gives the offset after them.
+    fn take_boundaries(
+        &mut self,
+        alloc: Global,
+        bytes: &'a [u8],
+        unit: u32,
+        sorted: &[Pair],
+        at: usize,
+    ) -> Result<usize, GdsBad>
+        requires sorted { AreSorted sorted.now }
+        requires standing { IsStanding bytes.now unit sorted.now at self.old }
+        ensures standing { IfOk result (λ next. IsStanding bytes.now unit sorted.now next self.new) }
+        ensures onward { IfOk result (λ next. at ≤ next) }
+        ensures first_fault { (wanted : Items APair) → AreSamePairs wanted sorted.now
+            → IfErr result (λ bad. bad ≢ bads.NoMemory → IsFirstFault bytes.now unit wanted bad) }
+    {
+        let mut from = at;
+        'boundaries: loop {
+            let next = match self.take_boundary(alloc, bytes, unit, sorted, from) {
+                Ok(next) => next,
+                Err(bad) => return Err(bad),
+            };
+            if next == from {
+                return Ok(next);
+            }
+            from = next;
+        }
     }
 }
 
@@ -399,11 +519,15 @@ fn read_records(alloc: Global, bytes: &[u8], unit: u32, sorted: &[Pair]) -> Resu
     let mut reader = Reader::new(alloc, bytes);
     let mut at = 0;
     'records: loop {
-        let current = match record_at(bytes, at) {
-            Ok(current) => current,
-            Err(fault) => return Err(framing_bad(fault, at)),
+        let from = match reader.take_boundaries(alloc, bytes, unit, sorted, at) {
+            Ok(from) => from,
+            Err(bad) => return Err(bad),
         };
-        match reader.take(alloc, bytes, unit, sorted, current, at) {
+        let current = match record_at(bytes, from) {
+            Ok(current) => current,
+            Err(fault) => return Err(framing_bad(fault, from)),
+        };
+        match reader.take(alloc, bytes, unit, sorted, current, from) {
             Ok(()) => {}
             Err(bad) => return Err(bad),
         }

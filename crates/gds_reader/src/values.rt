@@ -76,6 +76,7 @@ fn path_type_rule(sorted: &[Pair], element: &Element, number: u16) -> Option<u8>
 }
 
 // The value rule that the record breaks, the points of XY aside. `sorted` are the wanted pairs.
+#[inline(always)]
 pub(crate) fn broken_rule(
     bytes: &[u8],
     sorted: &[Pair],

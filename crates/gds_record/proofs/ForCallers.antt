@@ -5,7 +5,6 @@ use Rattle.std.specs.Prelude.{◌≢◌}
 use Rattle.byteorder.specs.Numbers.{big_from-lt}
 use Rattle.gds_record.specs.declared.kinds.Kind.TheVariants.{EndLib}
 use Rattle.gds_record.specs.declared.records.Record.{Record}
-use Rattle.gds_record.specs.declared.records.Framing.{Framing}
 use Rattle.gds_record.specs.Framing.{IsRecordAt}
 use Rattle.gds_record.specs.Heads.{content_of, IsAllowed}
 use Rattle.gds_record.specs.Numbers.{number_at}

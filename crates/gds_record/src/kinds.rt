@@ -2,7 +2,7 @@
 //! 6.0, record description).
 
 ghost use Rattle.std.specs.Prelude.{◌≡◌, ◌↔◌, IsTrue};
-ghost use Rattle.gds_record.specs.Heads.{kind_with_head, content_of, IsAllowed};
+ghost use Rattle.gds_record.specs.Heads.{head_of, kind_with_head, content_of, IsAllowed};
 
 /// What a record holds, one variant for each record type of GDSII Stream Format Manual 6.0.
 #[derive(Clone, Copy, Debug, PartialEq, Eq)]
@@ -115,6 +115,7 @@ pub enum ContentLength {
 /// The kind of the records that have this head: the record type in the high byte, the data type in
 /// the low one.
 #[tactic(auto, unfolding(crate::specs::Heads::kind_with_head))]
+#[inline(always)]
 pub(crate) fn kind_of(head: u16) -> Option<Kind>
     ensures { result ≡ kind_with_head head }
 {
@@ -169,7 +170,63 @@ pub(crate) fn kind_of(head: u16) -> Option<Kind>
     }
 }
 
+/// The head of the records of this kind.
+#[inline(always)]
+pub(crate) fn head_code(kind: Kind) -> u16
+    ensures { result ≡ head_of kind }
+{
+    match kind {
+        Kind::Header => 0x0002,
+        Kind::BgnLib => 0x0102,
+        Kind::LibName => 0x0206,
+        Kind::Units => 0x0305,
+        Kind::EndLib => 0x0400,
+        Kind::BgnStr => 0x0502,
+        Kind::StrName => 0x0606,
+        Kind::EndStr => 0x0700,
+        Kind::Boundary => 0x0800,
+        Kind::Path => 0x0900,
+        Kind::Sref => 0x0A00,
+        Kind::Aref => 0x0B00,
+        Kind::Text => 0x0C00,
+        Kind::Layer => 0x0D02,
+        Kind::DataType => 0x0E02,
+        Kind::Width => 0x0F03,
+        Kind::Xy => 0x1003,
+        Kind::EndEl => 0x1100,
+        Kind::Sname => 0x1206,
+        Kind::ColRow => 0x1302,
+        Kind::Node => 0x1500,
+        Kind::TextType => 0x1602,
+        Kind::Presentation => 0x1701,
+        Kind::String => 0x1906,
+        Kind::Strans => 0x1A01,
+        Kind::Mag => 0x1B05,
+        Kind::Angle => 0x1C05,
+        Kind::RefLibs => 0x1F06,
+        Kind::Fonts => 0x2006,
+        Kind::PathType => 0x2102,
+        Kind::Generations => 0x2202,
+        Kind::AttrTable => 0x2306,
+        Kind::ElFlags => 0x2601,
+        Kind::NodeType => 0x2A02,
+        Kind::PropAttr => 0x2B02,
+        Kind::PropValue => 0x2C06,
+        Kind::Box => 0x2D00,
+        Kind::BoxType => 0x2E02,
+        Kind::Plex => 0x2F03,
+        Kind::BgnExtn => 0x3003,
+        Kind::EndExtn => 0x3103,
+        Kind::StrClass => 0x3401,
+        Kind::Format => 0x3602,
+        Kind::LibDirSize => 0x3902,
+        Kind::SrfName => 0x3A06,
+        Kind::LibSecur => 0x3B02,
+    }
+}
+
 /// How long the content of a record of this kind may be.
+#[inline(always)]
 pub(crate) fn content_length(kind: Kind) -> ContentLength
     ensures { result ≡ content_of kind }
 {
@@ -219,6 +276,7 @@ pub(crate) fn content_length(kind: Kind) -> ContentLength
 }
 
 /// Whether a content may have this many bytes.
+#[inline(always)]
 pub(crate) fn is_allowed(content: ContentLength, bytes: usize) -> bool
     ensures { IsTrue result ↔ IsAllowed content bytes }
 {

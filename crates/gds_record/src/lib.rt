@@ -12,7 +12,7 @@ pub use kinds::Kind;
 pub use laws::records_law;
 pub use numbers::{int2, int4, int8, unsigned2};
 pub use reals::{real_whole, unit_agrees};
-pub use records::{Framing, Record, record_at};
+pub use records::{Framing, Record, record_at, record_of_kind};
 
 #[cfg(test)]
 mod tests;

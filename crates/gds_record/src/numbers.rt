@@ -6,6 +6,7 @@ ghost use Rattle.gds_record.specs.Numbers.{number_at, signed_at};
 use byteorder::{BigEndian, ByteOrder};
 
 /// The number without a sign in the two bytes from `at` on, as in a record's length and head.
+#[inline(always)]
 pub fn unsigned2(bytes: &[u8], at: usize) -> u16
     requires { at + 2 ≤ length bytes.now }
     ensures { result ≡ number_at 2 bytes.now at }

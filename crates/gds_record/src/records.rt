@@ -1,11 +1,11 @@
 //! The record at an offset, or what is wrong there.
 
-ghost use Rattle.std.specs.Prelude.{◌≡◌, ◌<◌, ◌≤◌, ◌-◌, ◌↔◌, length, IfOk};
+ghost use Rattle.std.specs.Prelude.{◌≡◌, ◌<◌, ◌≤◌, ◌-◌, ◌↔◌, Some, length, IfOk};
 ghost use Rattle.gds_record.specs.Faults.{IsFaultAt};
 ghost use Rattle.gds_record.specs.Framing.{IsRecordAt};
 ghost use Rattle.gds_record.specs.Heads.{content_of, IsAllowed};
 
-use crate::kinds::{Kind, content_length, is_allowed, kind_of};
+use crate::kinds::{Kind, content_length, head_code, is_allowed, kind_of};
 use crate::numbers::unsigned2;
 
 /// The bytes of a record before its content: its length, record type and data type.
@@ -37,6 +37,7 @@ pub enum Framing {
 
 /// The record at an offset, or the first cause why none is there, in the order Short (fewer than
 /// four bytes), Length, Short (fewer bytes than the length), Kind, Size.
+#[inline(always)]
 pub fn record_at(bytes: &[u8], at: usize) -> Result<Record, Framing>
     requires { at ≤ length bytes.now }
     ensures found { (r : Record) → (result ≡ Ok r) ↔ IsRecordAt bytes.now at r }
@@ -70,4 +71,28 @@ pub fn record_at(bytes: &[u8], at: usize) -> Result<Record, Framing>
         first: at + HEAD,
         next: at + length,
     })
+}
+
+/// The record at an offset where one of this kind is there. It costs less than `record_at` where the kind is known when
+/// the program is built.
+#[inline(always)]
+pub fn record_of_kind(bytes: &[u8], at: usize, kind: Kind) -> Option<Record>
+    requires { at ≤ length bytes.now }
+    ensures { (r : Record) → (result ≡ Some r) ↔ (IsRecordAt bytes.now at r × (r.kind ≡ kind)) }
+{
+    if bytes.len() - at < HEAD {
+        return None;
+    }
+    if unsigned2(bytes, at + 2) != head_code(kind) {
+        return None;
+    }
+    // Where one length is allowed, no other test of it is left.
+    let length = usize::from(unsigned2(bytes, at));
+    if length < HEAD || !is_allowed(content_length(kind), length - HEAD) {
+        return None;
+    }
+    match record_at(bytes, at) {
+        Ok(found) => Some(found),
+        Err(_) => None,
+    }
 }

@@ -39,15 +39,15 @@ returns-clause-reader c = λ past wanted same reader.
     ] in
     record {
       place = next_is (place_behind past) c.args.self.now.place c.in-Some.place c.args.current reader.place (sym c.after.ensures ∙ c.in-Some.is);
-      element = c.with-self-2.ensures.element past wanted reader.element rules;
-      orient = c.with-self-2.ensures.orient reader.orient;
+      element = c.take.ensures.element past wanted reader.element rules;
+      orient = c.take.ensures.orient reader.orient;
       names = c.in-Ok.ensures.names past reader.names;
       structure = c.in-Ok-built.ensures.structure past wanted reader.element drawn reader.structure;
       cells =
           c.in-Ok-built.ensures.cells past wanted reader.structure
           ∙ ap (λ cells. cells ++ cells_at c.args.bytes.now wanted past c.args.current) reader.cells;
       cells_grid = c.in-Ok-built.ensures.grid reader.cells_grid reader.structure.shapes_grid reader.structure.placements_grid;
-      counts = c.with-self.ensures c.args.bytes.now past wanted reader.counts drawn;
+      counts = c.count.ensures c.args.bytes.now past wanted reader.counts drawn;
     }
 
 pub returns-clause-taken : goal.returns-clause-taken

@@ -3,7 +3,7 @@ use Rattle.std.specs.Prelude.{IsSome}
 use Rattle.layout_model.specs.Names.{IsName}
 use Rattle.gds_record.specs.Numbers.{number_at}
 use Rattle.gds_reader.specs.Values.{name_in, IsReference, IsFactor, IsQuarterAngle, KeepsAs}
-use Rattle.gds_reader.proofs.elements.Element.with.Goals as goal
+use Rattle.gds_reader.proofs.elements.Element.take.Goals as goal
 
 not_both : (r : Option ℕ) → r ≡ None → IsSome r → ⊥
 not_both None e s = absurd (cc)
