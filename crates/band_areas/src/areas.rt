@@ -10,7 +10,7 @@ ghost use Rattle.band_areas.specs.Parts.{IsPart, IsWithin, AreAreasOf};
 
 use crate::groups::{Rise, Row, group_of};
 use crate::parts::{Part, narrowed, taken};
-use crate::rises::{aim_of, first_rise, least_rise, next_rise, strip_top};
+use crate::rises::{aim_of, first_rise, least_rise, next_rise, number_at_bottom, strip_top};
 use deck_plan::Plan;
 use geo_stream::NoMemory;
 use half_grid::{Trap, Window};
@@ -165,5 +165,33 @@ impl BandAreas {
         let part = self.part_with(alloc, plan, output, band)?;
         let cut = narrowed(alloc, &mut self.parts, part, band)?;
         Ok(cut.traps)
+    }
+
+    /// The lowest rows of what is left of a band, and the joined list in these rows of the part of the output's area in
+    /// them, as [`BandAreas::area`] gives it. They are as many as should have some tens of thousands of trapezoids, or all
+    /// that are left. To go through a band, ask for all of it first, and then for its rows above those that were given.
+    /// Want of memory is the only refusal.
+    pub fn next_part(
+        &mut self,
+        alloc: Global,
+        plan: &Plan,
+        output: usize,
+        left: Window,
+    ) -> Result<Part, NoMemory>
+        requires output { output < length plan.now.deck.outputs }
+        requires left { IsAskedBand left }
+        requires areas { AreAreasOf plan.now output self.old }
+        ensures from { IfOk result (λ part. part.rows.y0 ≡ left.y0) }
+        ensures some { IfOk result (λ part. part.rows.y0 <ℤ part.rows.y1) }
+        ensures to { IfOk result (λ part. part.rows.y1 ≤ℤ left.y1) }
+        ensures shots { IfOk result (λ part. All IsShot part.traps.items) }
+        ensures joined { IfOk result (λ part. IsJoinedOf part.rows
+            (IsInBand plan.now.cells plan.now.top plan.now.deck output part.rows) part.traps.items) }
+        ensures areas { AreAreasOf plan.now output self.new }
+    {
+        let rows = self.strip(left, Row { y: left.y0() });
+        let traps = self.area(alloc, plan, output, rows)?;
+        self.adapt(traps.len(), number_at_bottom(traps.as_slice(), rows));
+        Ok(Part { rows, traps })
     }
 }

@@ -16,4 +16,5 @@ mod strips;
 mod tests;
 
 pub use areas::BandAreas;
+pub use parts::Part;
 pub use strips::Strips;

@@ -12,9 +12,11 @@ use std::alloc::Global;
 
 /// The joined list of an output's area in some rows.
 #[derive(Drop)]
-pub(crate) struct Part {
-    pub(crate) rows: Window,
-    pub(crate) traps: Vec<Trap>,
+pub struct Part {
+    /// The rows.
+    pub rows: Window,
+    /// The list.
+    pub traps: Vec<Trap>,
 }
 
 /// The part of a part in some of its rows.

@@ -3,7 +3,7 @@ ghost use Rattle.std.specs.Prelude.{◌≡◌, ◌≤ℤ◌, ◌<ℤ◌};
 ghost use Rattle.deck_plan.specs.Needs.{IsAskedBand};
 
 use crate::groups::{Rise, Row};
-use half_grid::Window;
+use half_grid::{Trap, Window};
 
 // How many trapezoids a strip should have at least.
 const MANY: u64 = 65_536;
@@ -53,6 +53,11 @@ pub(crate) fn next_rise(rise: Rise, aim: u64, traps: usize, carried: usize) -> R
     Rise {
         rows: rows.clamp(1, MOST_ROWS),
     }
+}
+
+/// How many trapezoids of a strip are at its bottom: they pass through it, or begin there.
+pub(crate) fn number_at_bottom(traps: &[Trap], strip: Window) -> usize {
+    traps.iter().filter(|trap| trap.y0() <= strip.y0()).count()
 }
 
 fn quarter_of(rise: Rise) -> Rise {

@@ -123,7 +123,8 @@ fn are(traps: &[Trap], wanted: &[[i64; 6]]) -> bool {
         })
 }
 
-// A band of few trapezoids is one strip: nothing ends at its bottom, and then its whole list is given.
+// A band of few trapezoids is one strip: nothing ends at its bottom, and then its whole list is given. Its first part is all
+// of it.
 #[test]
 fn one_strip(rt: HostRuntime) {
     let alloc = rt.alloc();
@@ -151,6 +152,8 @@ fn one_strip(rt: HostRuntime) {
         .next(alloc, &mut areas, &plan, 0)
         .expect(&rt, "memory");
     assert!(rt; none.is_none());
+    let part = areas.next_part(alloc, &plan, 0, band).expect(&rt, "memory");
+    assert!(rt; part.rows == band && are(part.traps.as_slice(), &wanted));
 }
 
 #[test]

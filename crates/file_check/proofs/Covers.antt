@@ -11,9 +11,9 @@ use Rattle.shot_checker.specs.Verdicts as checked
 use Rattle.deck_plan.specs.Areas.{IsInBand}
 use Rattle.deck_plan.specs.Needs.{IsAskedBand}
 use Rattle.deck_plan.specs.Plans.{Planned}
-use Rattle.file_check.specs.Certificates.{area_of, IsFirstFault}
+use Rattle.file_check.specs.Certificates.{area_of, AgreesBelow, IsFirstFault}
 use Rattle.file_check.specs.Fronts.{BottomsAscend, IsFrontAt}
-use Rattle.file_check.proofs.FaultLemmas.{AgreesBelow, IsPartOf, no_fault, a_fault, nothing_below, nothing_above, agrees_at_first, covers_all}
+use Rattle.file_check.proofs.FaultLemmas.{IsPartOf, no_fault, a_fault, nothing_below, nothing_above, agrees_at_first, covers_all}
 
 -- before the first window all shots come later
 pub first_front : (shots sorted meeting later : List Trapezoid) (y : ℤ) → meeting ≡ [] → later ≡ sorted
@@ -32,6 +32,21 @@ is_band window rows low high height some few = record {
   };
   few = omega (arith, ints, height, few);
 }
+
+-- and so may what is left of it
+pub is_rest : (band rest : RowRange) → IsAskedBand band → band.y0 ≤ℤ rest.y0 → rest.y0 <ℤ rest.y1 → rest.y1 ≡ band.y1 → IsAskedBand rest
+is_rest band rest asked from some top =
+    let low = asked.is_band.low in
+    let high = asked.is_band.high in
+    let few = asked.few in
+    record {
+      is_band = record {
+        low = record { low = omega (arith, ints, low.low, from); high = omega (arith, ints, high.high, some, top) };
+        high = record { low = omega (arith, ints, high.low, top); high = omega (arith, ints, high.high, top) };
+        has_rows = some;
+      };
+      few = omega (arith, ints, few, from, top);
+    }
 
 pub fewer_rows : (a b : ℤ) → a <ℤ b → pos 0 <ℤ b → rows_up a < rows_up b
 fewer_rows (pos m) (pos n) lt some = omega (arith, ints, lt)

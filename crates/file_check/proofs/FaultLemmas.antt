@@ -10,7 +10,7 @@ use Rattle.half_grid.specs.declared.plane.Tile.{Tile}
 use Rattle.shot_checker.specs.Verdicts.{IsInRows, CoversAlike}
 use Rattle.shot_checker.specs.Verdicts as checked
 use Rattle.file_check.proofs.Passing.{none_before, none_beyond}
-use Rattle.file_check.specs.Certificates.{IsWanted, IsFirstFault}
+use Rattle.file_check.specs.Certificates.{IsWanted, AgreesBelow, IsFirstFault}
 
 -- a fault of those that meet the window is one of all shots
 pub fault_of_all : (shots now area : List Trapezoid) (window : RowRange) → ((t : Tile) → IsInRows window t → count_in now t ≡ count_in shots t)
@@ -38,21 +38,18 @@ two_wanted area t m n a b differ =
     differ (a.never none ∙ sym (b.never none))
 
 module _ (area : Tile → Type 0) (shots : List Trapezoid) where
-  abbrev pub AgreesBelow : ℤ → Type 0
-  AgreesBelow y = (t : Tile) → t.j <ℤ y → IsWanted area t (count_in shots t)
-
   -- each tile of the window is in as many of the trapezoids as it should be
   abbrev pub IsPartOf : RowRange → List Trapezoid → Type 0
   IsPartOf window traps = (t : Tile) → IsInRows window t → IsWanted area t (count_in traps t)
 
-  pub no_fault : (y : ℤ) (window : RowRange) (traps : List Trapezoid) → AgreesBelow y → window.y0 ≡ y
-      → IsPartOf window traps → CoversAlike shots traps window → AgreesBelow window.y1
+  pub no_fault : (y : ℤ) (window : RowRange) (traps : List Trapezoid) → AgreesBelow area shots y → window.y0 ≡ y
+      → IsPartOf window traps → CoversAlike shots traps window → AgreesBelow area shots window.y1
   no_fault y window traps below at part alike t lt =
       by_lt_z t.j window.y0
       (λ under. below t (rw (← at) under))
       (λ over. (let rows : IsInRows window t = record { from = over; below = lt } in rw (alike t rows) (part t rows)))
 
-  pub a_fault : (y : ℤ) (window : RowRange) (traps : List Trapezoid) → AgreesBelow y → window.y0 ≡ y → IsPartOf window traps
+  pub a_fault : (y : ℤ) (window : RowRange) (traps : List Trapezoid) → AgreesBelow area shots y → window.y0 ≡ y → IsPartOf window traps
       → (t : Tile) (count wanted : ℕ) → checked.IsFirstFault shots traps window t count wanted → IsFirstFault area shots t count wanted
   a_fault y window traps below at part t count wanted h =
       let rows = h.tile.miscovered.rows in
@@ -89,13 +86,13 @@ module _ (area : Tile → Type 0) (shots : List Trapezoid) where
     none_over : (t : Tile) (zs : List Trapezoid) → All IsShot zs → pos (2 ^ 44) ≤ℤ t.j → count_in zs t ≡ 0
     none_over t zs h le = none_beyond (pos (2 ^ 44)) zs t (All-weaker IsShot (λ z. z.y1 ≤ℤ pos (2 ^ 44)) (λ z s. s.reach.y1.high) zs h) le
 
-    pub agrees_at_first : All IsShot shots → neg_ℤ (pos 2147483648) ≤ℤ rows.y0 → AgreesBelow (neg_ℤ (pos (2 ^ 44)))
+    pub agrees_at_first : All IsShot shots → neg_ℤ (pos 2147483648) ≤ℤ rows.y0 → AgreesBelow area shots (neg_ℤ (pos (2 ^ 44)))
     agrees_at_first h low t lt = record {
       once = λ has. (let from = (inside t has).from in absurd (omega (arith, ints, from, low, lt)));
       never = λ none. none_under t shots h lt;
     }
 
-    pub covers_all : All IsShot shots → rows.y1 ≤ℤ pos 2147483648 → AgreesBelow (pos (2 ^ 44)) → CoversExactly shots area
+    pub covers_all : All IsShot shots → rows.y1 ≤ℤ pos 2147483648 → AgreesBelow area shots (pos (2 ^ 44)) → CoversExactly shots area
     covers_all h high below =
         let wanted : (t : Tile) → IsWanted area t (count_in shots t) = λ t.
         by_lt_z t.j (pos (2 ^ 44)) (below t)

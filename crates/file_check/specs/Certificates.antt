@@ -4,7 +4,7 @@
 -- shots are certified where each of them fits the deck's limits, and each tile of the plane is in as many of them as it
 -- should be. Otherwise the first shot that doesn't fit is named, and where all fit, the lowest tile that is in another
 -- number of shots than it should be, leftmost in its row.
-use Rattle.std.specs.Prelude.{ℕ, ◌≡◌, List, All}
+use Rattle.std.specs.Prelude.{ℕ, ℤ, ◌≡◌, ◌<ℤ◌, List, All}
 use Rattle.half_grid.specs.Trapezoids.{Trapezoid, CoversExactly, count_in}
 use Rattle.half_grid.specs.declared.plane.Tile.{Tile}
 use Rattle.plane_sweep.specs.Lowest.{ComesNoLater}
@@ -23,6 +23,10 @@ pub record IsWanted (area : Tile → Type 0) (t : Tile) (n : ℕ) : Type 0 where
 
 abbrev pub IsMiscovered : (Tile → Type 0) → List Trapezoid → Tile → Type 0
 IsMiscovered area shots t = IsWanted area t (count_in shots t) → ⊥
+
+-- each tile below the Y is in as many shots as it should be
+abbrev pub AgreesBelow : (Tile → Type 0) → List Trapezoid → ℤ → Type 0
+AgreesBelow area shots y = (t : Tile) → t.j <ℤ y → IsWanted area t (count_in shots t)
 
 -- the lowest miscovered tile, leftmost in its row, in how many shots it is, and in how many it should be
 pub record IsFirstFault (area : Tile → Type 0) (shots : List Trapezoid) (t : Tile) (count wanted : ℕ) : Type 0 where

@@ -1,10 +1,13 @@
 -- Shots on their way through windows, from below.
 --
 -- Some meet a window; those that begin above it come later, by ascending lower end.
-use Rattle.std.specs.Prelude.{ℤ, ◌+◌, ◌≡◌, ◌≤ℤ◌, Bool, List, [], ◌∷◌, All, int_lt}
+use Rattle.std.specs.Prelude.{ℕ, ℤ, ◌+◌, ◌≡◌, ◌≤ℤ◌, Bool, List, [], ◌∷◌, All, int_lt}
 use Rattle.half_grid.specs.Trapezoids.{Trapezoid, count_in}
 use Rattle.half_grid.specs.Windows.{RowRange}
 use Rattle.half_grid.specs.declared.plane.Tile.{Tile}
+use Rattle.deck_plan.specs.Plans.{Planned}
+use Rattle.file_check.specs.Certificates.{area_of, AgreesBelow}
+use Rattle.file_check.specs.declared.front.Front.{Front}
 
 -- no trapezoid begins below those before it
 abbrev pub BottomsAscend : List Trapezoid → Type 0
@@ -19,6 +22,11 @@ ends_above window z = int_lt window.y0 z.y1
 pub record IsFrontAt (shots : List Trapezoid) (y : ℤ) (meeting later : List Trapezoid) : Type 0 where
   pub ascend : BottomsAscend later
   pub counts : (t : Tile) → y ≤ℤ t.j → count_in meeting t + count_in later t ≡ count_in shots t
+
+-- The shots have no fault below the Y, for output k of a plan, and are gone through up to it.
+pub record IsJudgedTo (p : Planned) (k : ℕ) (shots : List Trapezoid) (y : ℤ) (front : Front) : Type 0 where
+  pub passed : IsFrontAt shots y front.meeting.items front.later.now
+  pub agrees : AgreesBelow (area_of p k) shots y
 
 -- these begin below the window's top, and the others at it or above
 pub record IsTaken (window : RowRange) (later front rest : List Trapezoid) : Type 0 where

@@ -6,6 +6,7 @@ ghost use Rattle.shot_checker.specs.Verdicts.{Fits, IsFirstTooLarge};
 ghost use Rattle.shot_checker.specs.declared.verdicts.Verdict.TheVariants.{Exact, Miscovered, TooLarge};
 ghost use Rattle.file_check.specs.Certificates.{area_of, IsFirstFault, IsCertified, IsMiscover};
 
+use crate::bands::fault_of_band;
 use crate::front::{Front, ascending, fault_in};
 use crate::outside::{rows_below, rows_from};
 use band_areas::BandAreas;
@@ -50,8 +51,7 @@ fn fault_of_output(
     }
     let mut areas = BandAreas::new(alloc, plan, output);
     while band.y0() < rows.y1() {
-        let traps = areas.area(alloc, plan, output, band)?;
-        if let Some(fault) = fault_in(alloc, &mut front, traps.as_slice(), band)? {
+        if let Some(fault) = fault_of_band(alloc, plan, output, &mut areas, &mut front, band)? {
             return Ok(Some(fault));
         }
         band = next_band(deck, band);
@@ -64,8 +64,9 @@ fn fault_of_output(
 /// in the output's area, and in none otherwise: with the lowest such tile, leftmost in its row, its number of shots and
 /// its wanted number. Otherwise Exact. Want of memory is the only refusal, and never comes where some shot doesn't fit.
 ///
-/// The area is computed band by band, from below, up to the first fault. Shots are sorted by their lower ends once, and
-/// each is looked at in the bands that it meets, and with all others in the rows below and above all bands.
+/// The area is computed band by band, each in strips of rows, from below, up to the first fault. Shots are sorted by their
+/// lower ends once, and each is looked at in the strips that it meets, and with all others in the rows below and above
+/// all bands.
 pub fn check_output(
     alloc: Global,
     plan: &Plan,

@@ -4,6 +4,7 @@
 //! Numbers are half units.
 #![tactic(auto)]
 
+mod bands;
 #[cfg(test)]
 mod certificate_tests;
 mod certificates;

@@ -6,9 +6,9 @@ use Rattle.half_grid.specs.Trapezoids.{CoversExactly}
 use Rattle.half_grid.specs.Windows.{RowRange}
 use Rattle.deck_text.specs.declared.deck.Deck.{Deck}
 use Rattle.file_check.specs.Certificates.{area_of, IsFirstFault}
-use Rattle.file_check.specs.Fronts.{IsFrontAt}
-use Rattle.file_check.proofs.FaultLemmas.{AgreesBelow, none_weaker}
-use Rattle.file_check.proofs.Covers.{first_front, is_band, fewer_rows, first_fault, first_none, band_fault, band_none, last_fault, last_none}
+use Rattle.file_check.specs.Fronts.{IsFrontAt, IsJudgedTo}
+use Rattle.file_check.proofs.FaultLemmas.{none_weaker}
+use Rattle.file_check.proofs.Covers.{first_front, is_band, fewer_rows, first_fault, first_none, last_fault, last_none}
 use Rattle.file_check.proofs.certificates.fault_of_output.Goals as goal
 
 pub returns-in-Some-clause-fault : goal.returns-in-Some-clause-fault
@@ -32,30 +32,30 @@ loop-deck-init c =
     let window : c.rows-rows.result.y0 ≤ℤ c.rows-rows.result.y1 = search rules in
     record {
       areas = c.new-areas.ensures;
-      front = subst (λ y. IsFrontAt c.args.shots.now y c.fault_in.new.front.meeting.items
-          c.fault_in.new.front.later.now) top (c.in_ok-fault.ensures.front c.args.shots.now at);
-      agrees = subst (AgreesBelow (area_of c.args.plan.now c.args.output) c.args.shots.now) top
-          (first_none c.args.plan.now c.args.output c.args.shots.now c.rows-rows.result c.rows-rows.ensures.outside
-          c.rows_below.result c.first_band-band.result.y0 c.rows_below.ensures c.first_band-band.ensures.below
-          c.rows-rows.ensures.low c.requires.shots alike);
+      judged = subst (λ y. IsJudgedTo c.args.plan.now c.args.output c.args.shots.now y c.fault_in.new.front) top
+          (record {
+            passed = c.in_ok-fault.ensures.front c.args.shots.now at;
+            agrees = first_none c.args.plan.now c.args.output c.args.shots.now c.rows-rows.result c.rows-rows.ensures.outside
+                c.rows_below.result c.first_band-band.result.y0 c.rows_below.ensures c.first_band-band.ensures.below
+                c.rows-rows.ensures.low c.requires.shots alike;
+          });
       low = c.first_band-band.ensures.low;
       high = omega (arith, ints, below, order, window);
       height = c.first_band-band.ensures.height;
     }
 
-pub area-requires-clause-band : goal.area-requires-clause-band
-area-requires-clause-band c =
+pub fault_of_band-requires-clause-judged : goal.fault_of_band-requires-clause-judged
+fault_of_band-requires-clause-judged c = (c.args.shots.now, c.loop-deck.invariant.judged)
+
+pub fault_of_band-requires-clause-band : goal.fault_of_band-requires-clause-band
+fault_of_band-requires-clause-band c =
     let i = c.loop-deck.invariant in
     let sound = c.deck-deck.ensures.sound.2 in
     let same = ap (λ (d : Deck). d.band) c.deck-deck.ensures.value in
     is_band c.loop-deck.band _ i.low i.high i.height (rw same sound.band_low) (rw same sound.band_high)
 
 pub returns-in-Some-2-clause-fault : goal.returns-in-Some-2-clause-fault
-returns-in-Some-2-clause-fault c =
-    let i = c.loop-deck.invariant in
-    let fault = rw (c.in-Some-2.is, c.as_slice-in-loop-deck.ensures.value) at (c.in_ok-fault-2.ensures.fault c.args.shots.now i.front) in
-    band_fault c.args.plan.now c.args.output c.args.shots.now c.loop-deck.band c.in_ok-traps.traps.items i.agrees c.in_ok-traps.ensures.joined.covers
-    c.in-Some-2.fault.tile c.in-Some-2.fault.count c.in-Some-2.fault.wanted fault
+returns-in-Some-2-clause-fault c = rw c.in-Some-2.is at (c.in_ok-fault-2.ensures.fault c.args.shots.now c.loop-deck.invariant.judged)
 
 pub next_band-band-requires-clause-some : goal.next_band-band-requires-clause-some
 next_band-band-requires-clause-some c =
@@ -93,15 +93,10 @@ loop-deck-preserved c =
     let high = c.y1.ensures.value in
     let test : c.y0.result <ℤ c.y1.result = search rules in
     let order = c.rows-rows.ensures.high in
-    let alike = rw (c.in_default-2.is, c.as_slice-in-loop-deck.ensures.value) at (c.in_ok-fault-2.ensures.none c.args.shots.now i.front) in
+    let judged = rw c.in_default-2.is at (c.in_ok-fault-2.ensures.none c.args.shots.now i.judged) in
     record {
-      areas = c.area.ensures.areas;
-      front = subst (λ y. IsFrontAt c.args.shots.now y c.fault_in-in-loop-deck.new.front.meeting.items
-          c.fault_in-in-loop-deck.new.front.later.now) (sym next)
-          (c.in_ok-fault-2.ensures.front c.args.shots.now i.front);
-      agrees = subst (AgreesBelow (area_of c.args.plan.now c.args.output) c.args.shots.now) (sym next)
-          (band_none c.args.plan.now c.args.output c.args.shots.now c.loop-deck.band c.in_ok-traps.traps.items i.agrees
-          c.in_ok-traps.ensures.joined.covers alike);
+      areas = c.fault_of_band.ensures.areas;
+      judged = subst (λ y. IsJudgedTo c.args.plan.now c.args.output c.args.shots.now y c.fault_of_band.new.front) (sym next) judged;
       low = omega (arith, ints, next, height, same, some, low_is);
       high = omega (arith, ints, next, height, same, few, low, high, test, order);
       height = next_top ∙ (rw next refl);
@@ -115,7 +110,7 @@ returns-clause-fault c =
     let test : c.y1.result ≤ℤ c.y0.result = search rules in
     let over : c.rows-rows.result.y1 ≤ℤ c.loop-deck.band.y0 = omega (arith, ints, low, high, test) in
     let bottom : c.rows_from.result.y0 ≡ c.loop-deck.band.y0 = ap (λ (w : RowRange). w.y0) c.rows_from.ensures in
-    let at = subst (λ y. IsFrontAt c.args.shots.now y c.loop-deck.front.meeting.items c.loop-deck.front.later.now) (sym bottom) i.front in
+    let at = subst (λ y. IsFrontAt c.args.shots.now y c.loop-deck.front.meeting.items c.loop-deck.front.later.now) (sym bottom) i.judged.passed in
     IfOk-weaker c.fault_in-2.result _
     (λ answer. IfSome answer
     (λ fault. IsFirstFault
@@ -123,7 +118,7 @@ returns-clause-fault c =
     (λ answer h. IfSome_then answer h
     (λ fault. last_fault c.args.plan.now c.args.output c.args.shots.now c.rows-rows.result
     c.rows-rows.ensures.outside c.rows_from.result c.loop-deck.band.y0 c.rows_from.ensures over
-    c.rows-rows.ensures.high c.requires.shots i.agrees fault.tile fault.count fault.wanted))
+    c.rows-rows.ensures.high c.requires.shots i.judged.agrees fault.tile fault.count fault.wanted))
     (c.fault_in-2.ensures.fault c.args.shots.now at)
 
 pub returns-clause-none : goal.returns-clause-none
@@ -134,10 +129,10 @@ returns-clause-none c =
     let test : c.y1.result ≤ℤ c.y0.result = search rules in
     let over : c.rows-rows.result.y1 ≤ℤ c.loop-deck.band.y0 = omega (arith, ints, low, high, test) in
     let bottom : c.rows_from.result.y0 ≡ c.loop-deck.band.y0 = ap (λ (w : RowRange). w.y0) c.rows_from.ensures in
-    let at = subst (λ y. IsFrontAt c.args.shots.now y c.loop-deck.front.meeting.items c.loop-deck.front.later.now) (sym bottom) i.front in
+    let at = subst (λ y. IsFrontAt c.args.shots.now y c.loop-deck.front.meeting.items c.loop-deck.front.later.now) (sym bottom) i.judged.passed in
     IfOk-weaker c.fault_in-2.result _ (λ answer. IfNone answer (CoversExactly c.args.shots.now (area_of c.args.plan.now c.args.output)))
     (λ answer. none_weaker answer
     (last_none c.args.plan.now c.args.output c.args.shots.now c.rows-rows.result c.rows-rows.ensures.outside
     c.rows_from.result c.loop-deck.band.y0 c.rows_from.ensures over c.rows-rows.ensures.high c.requires.shots
-    i.agrees))
+    i.judged.agrees))
     (c.fault_in-2.ensures.none c.args.shots.now at)

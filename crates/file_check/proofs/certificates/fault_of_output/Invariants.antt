@@ -1,17 +1,14 @@
 use Rattle.std.proofs.Common.{◌≡◌, ◌+ℤ◌, ◌-ℤ◌, ◌≤ℤ◌, pos, neg_ℤ}
 use Rattle.trap_join.specs.Joins.{rows_up}
 use Rattle.band_areas.specs.Parts.{AreAreasOf}
-use Rattle.file_check.specs.Certificates.{area_of}
-use Rattle.file_check.specs.Fronts.{IsFrontAt}
-use Rattle.file_check.proofs.FaultLemmas.{AgreesBelow}
+use Rattle.file_check.specs.Fronts.{IsJudgedTo}
 use Rattle.file_check.proofs.certificates.fault_of_output.Given as goal
 
 -- below the band there is no fault
 abbrev pub invariant-loop-deck : goal.invariant-loop-deck
 invariant-loop-deck l = record {
   areas : AreAreasOf l.plan l.output l.areas;
-  front : IsFrontAt l.shots l.band.y0 l.front.meeting.items l.front.later.now;
-  agrees : AgreesBelow (area_of l.plan l.output) l.shots l.band.y0;
+  judged : IsJudgedTo l.plan l.output l.shots l.band.y0 l.front;
   low : neg_ℤ (pos 4294967296) ≤ℤ l.band.y0;
   high : l.band.y0 ≤ℤ pos 4294967296;
   height : l.band.y1 ≡ l.band.y0 +ℤ l.deck.band;

@@ -1,0 +1,60 @@
+//! The first fault of an output's shots in a band, strip by strip.
+ghost use Rattle.std.specs.Prelude.{◌≡◌, ◌<◌, ◌≤ℤ◌, List, IfOk, IfSome, IfNone, length};
+ghost use Rattle.half_grid.specs.Trapezoids.{Trapezoid};
+ghost use Rattle.half_grid.specs.Windows.{row_range};
+ghost use Rattle.deck_plan.specs.Needs.{IsAskedBand};
+ghost use Rattle.band_areas.specs.Parts.{AreAreasOf};
+ghost use Rattle.file_check.specs.Certificates.{area_of, IsFirstFault};
+ghost use Rattle.file_check.specs.Fronts.{IsJudgedTo};
+
+use crate::front::{Front, fault_in};
+use band_areas::BandAreas;
+use deck_plan::Plan;
+use geo_stream::NoMemory;
+use half_grid::Window;
+use shot_checker::Fault;
+use std::alloc::Global;
+
+// The rows of a band above some of its rows.
+fn rows_above(rows: Window, band: Window) -> Window
+    requires { rows.y1 ≤ℤ band.y1 }
+    ensures { result ≡ row_range rows.y1 band.y1 }
+{
+    match Window::new(rows.y1(), band.y1()) {
+        Some(left) => left,
+        None => unreachable!(),
+    }
+}
+
+/// The first fault of what the shots cover of an output's area, where it is in the band, which begins where the last
+/// one ended. The area is computed strip by strip, up to the fault, and each shot is looked at in the strips that it
+/// meets.
+pub(crate) fn fault_of_band(
+    alloc: Global,
+    plan: &Plan,
+    output: usize,
+    areas: &mut BandAreas,
+    front: &mut Front,
+    band: Window,
+) -> Result<Option<Fault>, NoMemory>
+    requires output { output < length plan.now.deck.outputs }
+    requires areas { AreAreasOf plan.now output areas.old }
+    requires judged { (shots : List Trapezoid) × IsJudgedTo plan.now output shots band.y0 front.old }
+    requires band { IsAskedBand band }
+    ensures areas { AreAreasOf plan.now output areas.new }
+    ensures fault { (shots : List Trapezoid) → IsJudgedTo plan.now output shots band.y0 front.old
+        → IfOk result (λ answer. IfSome answer (λ fault.
+        IsFirstFault (area_of plan.now output) shots fault.tile fault.count fault.wanted)) }
+    ensures none { (shots : List Trapezoid) → IsJudgedTo plan.now output shots band.y0 front.old
+        → IfOk result (λ answer. IfNone answer (IsJudgedTo plan.now output shots band.y1 front.new)) }
+{
+    let mut left = band;
+    while left.y0() < left.y1() {
+        let part = areas.next_part(alloc, plan, output, left)?;
+        if let Some(fault) = fault_in(alloc, front, part.traps.as_slice(), part.rows)? {
+            return Ok(Some(fault));
+        }
+        left = rows_above(part.rows, left);
+    }
+    Ok(None)
+}
