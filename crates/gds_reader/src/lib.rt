@@ -17,6 +17,3 @@ mod values;
 pub use laws::reading_laws;
 pub use reading::read_gds;
 pub use refusing::GdsBad;
-
-#[cfg(test)]
-mod tests;

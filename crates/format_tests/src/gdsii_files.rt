@@ -1,5 +1,5 @@
 //! Files by their records, and the first fault of bytes that hold no layout.
-use crate::{GdsBad, read_gds};
+use gds_reader::{GdsBad, read_gds};
 use half_grid::Point;
 use layout_model::{Counts, Layout, Orient, Pair};
 use std::alloc::Global;
