@@ -1,4 +1,5 @@
 use Rattle.std.proofs.Common.{[], ◌++◌, IfOk, subst}
+use Rattle.deck_plan.specs.Needs.{IsAskedBand}
 use Rattle.band_areas.specs.Strips.{HasGiven, given_by}
 use Rattle.band_areas.proofs.tests.one_strip.Goals as goal
 
@@ -20,3 +21,6 @@ next-requires-3-clause-begun g c =
     let second = c.next-2.ensures.given given then in
     let all = subst (λ r. IfOk r (λ next. HasGiven plan 0 c.next-2.new.self (given ++ given_by next))) c.expect-list.ensures second in
     (given ++ given_by c.expect-list.result, all)
+
+pub next_part-requires-clause-left : goal.next_part-requires-clause-left
+next_part-requires-clause-left g c = subst IsAskedBand c.new-strips.ensures.band (c.new-strips.ensures.given c.expect-plan.result 0).band
