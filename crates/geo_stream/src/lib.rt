@@ -11,6 +11,7 @@ mod list;
 mod mapped;
 mod merged;
 mod peeked;
+mod refusal;
 mod stream;
 #[cfg(test)]
 mod tests;
@@ -22,6 +23,7 @@ pub use joined::Joined;
 pub use list::List;
 pub use mapped::Mapped;
 pub use merged::Merged;
+pub use refusal::Refusal;
 pub use stream::Stream;
 
 /// Memory ran out. What was to be changed is as before, unless the call says otherwise.

@@ -2,7 +2,9 @@
 ghost use Rattle.geo_stream.specs.Stream.{HasList};
 ghost use Rattle.std.specs.Prelude.{◌≡◌, ◌+◌};
 
-use crate::{Flattened, FromSlice, Joined, List, Mapped, Merged, NoMemory, Stream, gather};
+use crate::{
+    Flattened, FromSlice, Joined, List, Mapped, Merged, NoMemory, Refusal, Stream, gather,
+};
 use std::alloc::Global;
 
 /// Whether the stream gives just these items, and then none.
@@ -110,4 +112,22 @@ fn a_list_holds_what_was_pushed(rt: HostRuntime) -> Result<(), NoMemory> {
     let all = gather(rt.alloc(), FromSlice::new(list.as_slice()))?;
     assert_eq!(rt; all.as_slice(), [4, 1, 4].as_slice());
     Ok(())
+}
+
+/// Half of an even number, for which memory is asked first.
+fn half_of(number: u16, refused: bool) -> Result<u16, Refusal<u16>> {
+    if refused {
+        Err(NoMemory)?;
+    }
+    if number % 2 == 1 {
+        return Err(Refusal::Fault(number));
+    }
+    Ok(number / 2)
+}
+
+#[test]
+fn faults_and_memory_apart(rt: HostRuntime) {
+    assert_eq!(rt; half_of(14, false), Ok(7));
+    assert_eq!(rt; half_of(7, false), Err(Refusal::Fault(7)));
+    assert_eq!(rt; half_of(7, true), Err(Refusal::NoMemory));
 }
