@@ -44,7 +44,8 @@ extended_at half before end (a ∷ b ∷ segments) (suc k) s first last at b0 b1
     extended_at half half end (b ∷ segments) k s first last at
     (λ none. b1 (omega arith)) (λ some. b1 (omega arith)) (λ at_end. e0 (omega arith)) (λ sooner. e1 (omega arith))
 
-one_stretch : (s t : Stretch) → t.from ≡ s.from → t.to ≡ s.to → t.half ≡ s.half → record { from = s.from; to = s.to; half = s.half; before = t.before; after = t.after } ≡ t
+one_stretch : (s t : Stretch) → t.from ≡ s.from → t.to ≡ s.to → t.half ≡ s.half
+    → record { from = s.from; to = s.to; half = s.half; before = t.before; after = t.after } ≡ t
 one_stretch s t from to half = rw (← from, ← to, ← half) refl
 
 pub stretch_in : (b : Brush) (items : List Segment) (k : ℕ) (s : Segment) (t : Stretch) → slice_get items k ≡ Some s

@@ -59,7 +59,8 @@ shape_of_run-requires-clause-brush c =
 pub returns-then-j-segments : goal.returns-then-j-segments
 returns-then-j-segments c =
     let run = c.index-runs-rank.result in
-    let many : length c.as_slice-segments.result.now ≡ length run.path.value.items = ap length (c.as_slice-segments.ensures.value ∙ ap (λ v. v.items) c.deref.ensures) in
+    let many : length c.as_slice-segments.result.now ≡ length run.path.value.items =
+    ap length (c.as_slice-segments.ensures.value ∙ ap (λ v. v.items) c.deref.ensures) in
     let less : c.args.k - run.before < length run.path.value.items = subst (λ n. c.args.k - run.before < n) many c.if-j-segments.true in
     by_run c.args.own.now c.args.runs.now c.args.k c.rank-rank.result run c.requires.runs c.rank-rank.ensures c.if-rank-eq0.false c.index-runs-rank.is
     ∙ in_run c.args.own.now run (c.args.k - run.before) less ∙ c.shape_of_run.ensures
@@ -73,8 +74,8 @@ pub own_after-requires-clause-inside : goal.own_after-requires-clause-inside
 own_after-requires-clause-inside c =
     let own = c.args.own.now in let runs = c.args.runs.now in let run = c.index-runs-rank.result in
     within_alike (shapes_of own runs) (drop run.after own) c.args.k (c.args.k - run.before - length c.as_slice-segments.result.now)
-    (after_it own runs c.args.k c.rank-rank.result (length c.as_slice-segments.result.now) run c.requires.runs c.rank-rank.ensures c.if-rank-eq0.false c.index-runs-rank.is
-    (ap length (c.as_slice-segments.ensures.value ∙ ap (λ v. v.items) c.deref.ensures)) c.if-j-segments.false) c.requires.inside
+    (after_it own runs c.args.k c.rank-rank.result (length c.as_slice-segments.result.now) run c.requires.runs
+    c.rank-rank.ensures c.if-rank-eq0.false c.index-runs-rank.is (ap length (c.as_slice-segments.ensures.value ∙ ap (λ v. v.items) c.deref.ensures)) c.if-j-segments.false) c.requires.inside
 
 pub returns : goal.returns
 returns c =

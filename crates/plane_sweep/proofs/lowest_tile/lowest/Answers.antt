@@ -16,7 +16,8 @@ lowest_spot-requires-clause-come g c = (
 
 pub returns-in_default-clause-none : goal.returns-in_default-clause-none
 returns-in_default-clause-none g c =
-    let come = begun _ _ c.requires.rule (λ events. events) c.args.edges.items (parts_in c.args.window c.args.edges.items) c.args.window c.in_ok-progress.progress refl
+    let come = begun _ _ c.requires.rule (λ events. events) c.args.edges.items
+    (parts_in c.args.window c.args.edges.items) c.args.window c.in_ok-progress.progress refl
     c.requires.balanced c.in_ok-progress.ensures.window (rw c.as_slice.ensures.value at c.in_ok-progress.ensures.below) in
     rw (c.in_default.is, c.in_ok-progress.ensures.window) at (c.in_ok-spot.ensures c.args.edges.items come)
 

@@ -37,7 +37,8 @@ returns-clause-given g c = λ edges given come.
     self.front.waiting.items (items c.pass_stop.new.front.lines) c.pass_stop.new.front.waiting.items) c.in-Some.ensures.same
     c.in_ok-pass_stop.ensures.settles in
     gone_on _ _ c.requires.rule parts self.window _ c.after-self.result.y (items self.front.lines) (items c.pass_stop.new.front.lines)
-    (g.E.EventSource.left self.events) (g.E.EventSource.left c.pass_stop.new.events) given self.front.waiting.items c.pass_stop.new.front.waiting.items come stop c.in-Some.ensures.stop
+    (g.E.EventSource.left self.events) (g.E.EventSource.left c.pass_stop.new.events) given
+    self.front.waiting.items c.pass_stop.new.front.waiting.items come stop c.in-Some.ensures.stop
     (c.in_ok-pass_stop.ensures.above parts here) settles c.after-self.ensures
 
 pub returns-clause-fewer : goal.returns-clause-fewer
