@@ -1,6 +1,7 @@
 //! Each call at concrete types.
+ghost use Rattle.geo_stream.specs.Refusals.{IfFault};
 ghost use Rattle.geo_stream.specs.Stream.{HasList};
-ghost use Rattle.std.specs.Prelude.{◌≡◌, ◌+◌};
+ghost use Rattle.std.specs.Prelude.{◌≡◌, ◌+◌, ◌≤◌, ◌/◌, IfOk};
 
 use crate::{
     Flattened, FromSlice, Joined, List, Mapped, Merged, NoMemory, Refusal, Stream, gather,
@@ -115,7 +116,10 @@ fn a_list_holds_what_was_pushed(rt: HostRuntime) -> Result<(), NoMemory> {
 }
 
 /// Half of an even number, for which memory is asked first.
-fn half_of(number: u16, refused: bool) -> Result<u16, Refusal<u16>> {
+fn half_of(number: u16, refused: bool) -> Result<u16, Refusal<u16>>
+    ensures half { IfOk result (λ half. half ≡ number / 2) }
+    ensures fault { IfFault result (λ fault. fault ≡ number) }
+{
     if refused {
         Err(NoMemory)?;
     }
@@ -123,6 +127,14 @@ fn half_of(number: u16, refused: bool) -> Result<u16, Refusal<u16>> {
         return Err(Refusal::Fault(number));
     }
     Ok(number / 2)
+}
+
+/// A quarter of a number, or the number that is odd.
+fn quarter_of(number: u16) -> Result<u16, Refusal<u16>>
+    ensures fault { IfFault result (λ fault. fault ≤ number) }
+{
+    let half = half_of(number, false)?;
+    half_of(half, false)
 }
 
 #[test]
