@@ -141,8 +141,8 @@ impl BandAreas {
     }
 
     /// The joined list, in the band, of the part of the output's area in the band, by the plan and the output that these
-    /// areas were made for. The band has rows, 16,777,216 at most, and lies within reach. Want of memory is the only
-    /// refusal.
+    /// areas were made for. The band has rows, 16,777,216 at most, and lies within reach. Only memory that runs out
+    /// refuses it.
     ///
     /// Where the area looks at no more rows beyond a band than the band has, it is what [`Plan::area`] gives. Else it is
     /// computed for a group of bands together, with at least as many rows as it looks at beyond them, so each row is looked
@@ -170,7 +170,7 @@ impl BandAreas {
     /// The lowest rows of what is left of a band, and the joined list in these rows of the part of the output's area in
     /// them, as [`BandAreas::area`] gives it. They are as many as should have some tens of thousands of trapezoids, or all
     /// that are left. To go through a band, ask for all of it first, and then for its rows above those that were given.
-    /// Want of memory is the only refusal.
+    /// Only memory that runs out refuses it.
     pub fn next_part(
         &mut self,
         alloc: Global,

@@ -74,7 +74,7 @@ impl Strips {
     }
 
     /// The next trapezoids of the list, by the plan and the output that the areas were made for. None where all were given.
-    /// Want of memory is the only refusal.
+    /// Only memory that runs out refuses it.
     pub fn next(
         &mut self,
         alloc: Global,

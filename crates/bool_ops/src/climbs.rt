@@ -160,7 +160,7 @@ fn put_all(points: &[Point], traps: &mut Vec<Trap>) -> Result<bool, NoMemory>
 
 /// Puts the pieces of a closed outline, clockwise or not, into the list, in place of what it holds, where the outline goes
 /// up once and down once, as an octagon does, or an L. Answers false where it isn't known to be trapezoids one above the
-/// other, and then the list is empty. It takes no memory but the list's own. Want of memory is the only refusal.
+/// other, and then the list is empty. It takes no memory but the list's own. Only memory that runs out refuses it.
 pub fn monotone_pieces(points: &[Point], traps: &mut Vec<Trap>) -> Result<bool, NoMemory>
     requires { IsClosed points.now }
     ensures known { IfOk result (λ known. IsTrue known → CoversExactly traps.new.items (IsInPolygon points.now)) }

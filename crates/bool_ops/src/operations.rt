@@ -37,7 +37,7 @@ impl Op {
 }
 
 /// The joined list of the window's tiles that the operation takes: by whether a tile is in some trapezoid of `a`, and
-/// whether it is in some of `b`. Want of memory is the only refusal.
+/// whether it is in some of `b`. Only memory that runs out refuses it.
 pub fn combine(
     alloc: Global,
     op: Op,
@@ -52,8 +52,8 @@ pub fn combine(
 }
 
 /// The joined list of the window's tiles that the operation takes: by whether the winding of operand A isn't 0 at a tile,
-/// and whether that of operand B isn't. Want of memory is the only refusal. In each row of the window each operand has as
-/// many edges that go up as edges that go down.
+/// and whether that of operand B isn't. Only memory that runs out refuses it. In each row of the window each operand
+/// has as many edges that go up as edges that go down.
 pub fn combine_edges(
     alloc: Global,
     op: Op,

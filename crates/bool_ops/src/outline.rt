@@ -77,7 +77,7 @@ fn pieces_in(alloc: Global, points: &[Point]) -> Result<Vec<Trap>, NoMemory>
 }
 
 /// The joined list of the tiles in a shape's outline as it is drawn, moved by none of its offsets, over all its rows, by
-/// the nonzero rule. The outline is closed, on the half grid and within reach. Want of memory is the only refusal.
+/// the nonzero rule. The outline is closed, on the half grid and within reach. Only memory that runs out refuses it.
 pub fn pieces(alloc: Global, shape: ShapeRef<'_>) -> Result<Vec<Trap>, NoMemory>
     requires closed { IsClosed (shape_in shape).points }
     requires grid { HasGridEdges (shape_in shape).points }

@@ -9,8 +9,8 @@ use half_grid::{Edge, Trap, Window};
 use scan_line::Rule;
 use std::alloc::Global;
 
-/// The joined list of the window's tiles at which the winding of operand A isn't 0. Want of memory is the only refusal.
-/// In each row of the window each operand has as many edges that go up as edges that go down.
+/// The joined list of the window's tiles at which the winding of operand A isn't 0. Only memory that runs out refuses
+/// it. In each row of the window each operand has as many edges that go up as edges that go down.
 pub fn unite(alloc: Global, edges: Vec<Edge>, window: Window) -> Result<Vec<Trap>, NoMemory>
     requires { IsBalanced edges.items window }
     ensures { IfOk result (λ traps. IsJoinedOf window (IsWoundIn edges.items window) traps.items) }
@@ -44,8 +44,8 @@ pub fn unite_within(
 
 /// The joined list of the window's tiles at which the winding of operand B isn't 0 and that of operand A is, as long as no
 /// more edges than about so many are gone over: None where it is given up, and the edges are lost. With the greatest number it
-/// never is. Want of memory is the only refusal. In each row of the window each operand has as many edges that go up as edges
-/// that go down.
+/// never is. Only memory that runs out refuses it. In each row of the window each operand has as many edges that go up
+/// as edges that go down.
 pub fn left_over_within(
     alloc: Global,
     edges: Vec<Edge>,

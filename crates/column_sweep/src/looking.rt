@@ -195,8 +195,8 @@ pub(crate) fn lowest_at<F: Fn(i128, i128) -> bool + Drop>(
 }
 
 /// The lowest tile of the window that the rule takes, leftmost in its row, with its windings. None exactly where the
-/// rule takes no tile of the window. Want of memory is the only refusal. In each row of the window each operand has as
-/// many edges that go up as edges that go down.
+/// rule takes no tile of the window. Only memory that runs out refuses it. In each row of the window each operand has
+/// as many edges that go up as edges that go down.
 ///
 /// Each column is swept from below, and only below the lowest tile that another one has. So above the first column's
 /// tile nothing is looked at any more. Where edges that lean cross the cuts often, `plane_sweep` looks for it.

@@ -64,7 +64,7 @@ fn edges_of_both(
 
 /// The edges of two lists of trapezoids, the first as operand A and the second as operand B. At each tile of the window
 /// an operand's winding is the number of its trapezoids that have the tile. In each row as many edges go up as down.
-/// Want of memory is the only refusal.
+/// Only memory that runs out refuses it.
 ///
 /// Trapezoids with no row of the window give no edges, so this takes memory for the others alone. Where one meets the next
 /// in the list with an upright or slanted side, the common rows of both sides are left out, so that a row of trapezoids side

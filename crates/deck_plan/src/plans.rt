@@ -58,7 +58,7 @@ impl<'t> Model for Plan<'t> {
 }
 
 impl<'t> Plan<'t> {
-    /// The plan of a deck over a layout's tree. The deck is one that was read. Want of memory is the only refusal.
+    /// The plan of a deck over a layout's tree. The deck is one that was read. Only memory that runs out refuses it.
     ///
     /// Each shape is cut into its pieces here, once, and a box is put round them, and round what each placement shows.
     pub fn new(alloc: Global, deck: &'t Deck, tree: &'t Tree) -> Result<Plan<'t>, NoMemory>
@@ -135,7 +135,7 @@ impl<'t> Plan<'t> {
     }
 
     /// The joined list, in the band, of the part of the output's area in the band. The band has rows, 16,777,216 at most,
-    /// and lies within reach. Want of memory is the only refusal.
+    /// and lies within reach. Only memory that runs out refuses it.
     pub fn area(&self, alloc: Global, output: usize, band: Window) -> Result<Vec<Trap>, NoMemory>
         requires output { output < length self.now.deck.outputs }
         requires band { IsAskedBand band }

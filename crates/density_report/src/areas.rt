@@ -16,7 +16,7 @@ use geo_stream::NoMemory;
 use half_grid::Trap;
 use std::alloc::Global;
 
-// The joined list of an output's area in the rows of these windows. Want of memory is the only refusal.
+// The joined list of an output's area in the rows of these windows. Only memory that runs out refuses it.
 fn area_in(alloc: Global, plan: &Plan, output: usize, batch: &Batch) -> Result<Vec<Trap>, NoMemory>
     requires output { output < length plan.now.deck.outputs }
     requires batch { IsBatch batch.now }

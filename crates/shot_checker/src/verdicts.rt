@@ -68,8 +68,8 @@ fn fault_of(found: &LowestTile) -> Fault
 }
 
 /// The first fault of what shots cover in the rows of a window: the lowest tile, leftmost in its row, that is in another
-/// number of shots than of trapezoids of `area`. None exactly where there is no such tile. Want of memory is the only
-/// refusal.
+/// number of shots than of trapezoids of `area`. None exactly where there is no such tile. Only memory that runs out
+/// refuses it.
 ///
 /// Parts of shots outside of the window's rows are left out of account. The cost is that of a sweep of both lists up to
 /// the first slab with a fault.
@@ -92,7 +92,7 @@ pub fn first_fault(
 /// with the first such shot. Otherwise Miscovered where some tile of the window is in another number of shots than of
 /// trapezoids of `area`, with the lowest such tile, leftmost in its row, its number of shots and its wanted number.
 /// Otherwise Exact. So where no tile is in two trapezoids of `area`, Exact says that each tile of the window is in
-/// exactly one shot if it is in the area, and in none otherwise. Want of memory is the only refusal.
+/// exactly one shot if it is in the area, and in none otherwise. Only memory that runs out refuses it.
 pub fn check(
     alloc: Global,
     shots: &[Trap],
