@@ -1,11 +1,14 @@
 -- What the passes say of a tree.
 use Rattle.std.proofs.Common.{◌≡◌, ◌≢◌, ◌⊎◌, ℕ, ℤ, zero, suc, pos, ◌+◌, ◌-◌, ◌*◌, ◌^◌, ◌<◌, ◌≤◌, List, [], ◌∷◌, Option}
 use Rattle.std.proofs.Common.{Some, None, Bool, true, false, ◌||◌, int_lt, ◌≤ℤ◌, neg_ℤ, if◌then◌else◌, cond, find}
-use Rattle.std.proofs.Common.{true≢false, Result, Ok, Err, IfErr, OnOk, IsOk, IsErrAnd, All, map, length, get_or}
+use Rattle.std.proofs.Common.{true≢false, Result, Ok, Err, OnOk, IsOk, IsErrAnd, All, map, length, get_or}
 use Rattle.std.proofs.Common.{slice_get, refl, sym, ap, subst, ◌∙◌, inl, inr, arith}
 use Rattle.std.proofs.lemmas.Option.{none-some, same_Some, slice_get_within, slice_get-get_or, get_or_from_slice_get}
 use Rattle.std.proofs.lemmas.List.{length-map, get_or_read, get_or-map}
 use Rattle.std.proofs.lemmas.List.Elements.{All-head}
+use Rattle.geo_stream.specs.Refusals.{IsForFault, IfFault}
+use Rattle.geo_stream.specs.declared.refusal.Refusal.{Refusal}
+use Rattle.geo_stream.specs.declared.refusal.Refusal.TheVariants as refusals
 use Rattle.half_grid.specs.Outlines.{IsClosed}
 use Rattle.layout_model.specs.Images.{moved}
 use Rattle.layout_model.specs.declared.cells.Placement.{Placement}
@@ -17,7 +20,7 @@ use Rattle.cell_tree.specs.Searches.{IsFound}
 use Rattle.cell_tree.specs.Trees.{IsKnown, IsAcyclic, IsShallow, IsMild, KeepsFixed, IsNear, IsTree}
 use Rattle.cell_tree.specs.Faults.{IsFirstFault, IsUnknown, IsEnlarged, IsExtent, IsCrowded, is_beyond, first_beyond, order_of}
 use Rattle.cell_tree.specs.declared.faults.TreeBad.{TreeBad}
-use Rattle.cell_tree.specs.declared.faults.TreeBad.TheVariants.{NoTop, Unknown, Cycle, Deep, Scale, Fixed, Extent, Count, NoMemory}
+use Rattle.cell_tree.specs.declared.faults.TreeBad.TheVariants.{NoTop, Unknown, Cycle, Deep, Scale, Fixed, Extent, Count}
 use Rattle.std.specs.List.{sum_by, AllByRecursion}
 use Rattle.std.specs.Option.{option_map_or, option_and_then}
 use Rattle.std.proofs.lemmas.List.Sums.{sum_by-cons}
@@ -261,20 +264,19 @@ extent_same cells top value shown near extent same =
 
 -- ---- a tree has no fault
 
-pub no_fault : (cells : List Cell) (top : ℕ) (bad : TreeBad) → All IsCellOnGrid cells → IsTree cells top → IsFirstFault cells top bad → bad ≡ NoMemory
-no_fault cells top NoTop grid tree fault = absurd fault
-no_fault cells top (Unknown cell name) grid tree fault = absurd (tree.known fault.number fault.placement fault.reachable fault.unknown)
-no_fault cells top (Cycle names) grid tree fault = absurd (tree.acyclic fault.1.numbers fault.1.cycle)
-no_fault cells top (Deep names) grid tree fault = absurd (let low = tree.shallow fault.2.links fault.2.chain in let many = fault.2.many in omega arith)
-no_fault cells top (Scale value names) grid tree fault = absurd (let low = tree.mild fault.3.links fault.3.chain in let high = fault.3.above in omega arith)
-no_fault cells top (Fixed value cell) grid tree fault = absurd
-    (let low = tree.fixed fault.4.links fault.4.chain fault.4.fixed in let high = fault.4.above in omega arith)
-no_fault cells top (Extent value) grid tree fault = absurd (none-some value (sym (none_beyond fault.5.box
-    (least_up_to (Every cells top) fault.5.box (2 ^ 30) fault.5.least (λ p every. tree.near every.0 p every.1))) ∙ fault.5.first))
-no_fault cells top (Count cell value) grid tree fault = absurd
-    (let low = fewer_below cells grid top tree.shallow fault.6.number fault.6.reachable in let high = fault.6.many in
-    let all = tree.counted in omega arith)
-no_fault cells top NoMemory grid tree fault = refl
+pub no_fault : (cells : List Cell) (top : ℕ) (bad : TreeBad) → All IsCellOnGrid cells → IsTree cells top → IsFirstFault cells top bad → ⊥
+no_fault cells top NoTop grid tree fault = fault
+no_fault cells top (Unknown cell name) grid tree fault = tree.known fault.number fault.placement fault.reachable fault.unknown
+no_fault cells top (Cycle names) grid tree fault = tree.acyclic fault.1.numbers fault.1.cycle
+no_fault cells top (Deep names) grid tree fault = let low = tree.shallow fault.2.links fault.2.chain in let many = fault.2.many in omega arith
+no_fault cells top (Scale value names) grid tree fault = let low = tree.mild fault.3.links fault.3.chain in let high = fault.3.above in omega arith
+no_fault cells top (Fixed value cell) grid tree fault =
+    let low = tree.fixed fault.4.links fault.4.chain fault.4.fixed in let high = fault.4.above in omega arith
+no_fault cells top (Extent value) grid tree fault = none-some value (sym (none_beyond fault.5.box
+    (least_up_to (Every cells top) fault.5.box (2 ^ 30) fault.5.least (λ p every. tree.near every.0 p every.1))) ∙ fault.5.first)
+no_fault cells top (Count cell value) grid tree fault =
+    let low = fewer_below cells grid top tree.shallow fault.6.number fault.6.reachable in let high = fault.6.many in
+    let all = tree.counted in omega arith
 
 -- ---- names
 
@@ -416,10 +418,11 @@ order_short cells top order shown e in_order shallow n among = let a = among_sho
 
 -- ---- the answer
 
-pub accepted : {T : Type 0} (cells : List Cell) (top : ℕ) (r : Result T TreeBad) → All IsCellOnGrid cells
-    → IfErr r (IsFirstFault cells top) → IsTree cells top → IsOk r ⊎ (r ≡ Err NoMemory)
+pub accepted : {T : Type 0} (cells : List Cell) (top : ℕ) (r : Result T (Refusal TreeBad)) → All IsCellOnGrid cells
+    → IfFault r (IsFirstFault cells top) → IsTree cells top → IsOk r ⊎ (r ≡ Err refusals.NoMemory)
 accepted cells top (Ok tree) grid fault is = inl refl
-accepted cells top (Err bad) grid fault is = inr (ap Err (no_fault cells top bad grid is fault))
+accepted cells top (Err (refusals.Fault bad)) grid fault is = absurd (no_fault cells top bad grid is fault)
+accepted cells top (Err refusals.NoMemory) grid fault is = inr refl
 
 pub order_near : (cells : List Cell) (top : ℕ) (order shown : List ℕ) → All IsCellOnGrid cells → shown ≡ order
     → IsOrder cells top order → IsShallow cells top → IsMild cells top → (n : ℕ) → IsAmong shown n
@@ -520,38 +523,37 @@ Asked cells top (suc (suc (suc (suc (suc zero))))) = KeepsFixed cells top
 Asked cells top (suc (suc (suc (suc (suc (suc zero)))))) = IsNear cells top
 Asked cells top (suc (suc (suc (suc (suc (suc (suc k))))))) = Unit {0}
 
-asked_before : (cells : List Cell) (top : ℕ) (bad : TreeBad) → IsFirstFault cells top bad → bad ≢ NoMemory → (k : ℕ) → k < order_of bad → Asked cells top k
-asked_before cells top bad fault some zero less = tt
-asked_before cells top bad fault some (suc (suc (suc (suc (suc (suc (suc k))))))) less = tt
-asked_before cells top NoTop fault some (suc k) less = absurd fault
-asked_before cells top NoMemory fault some (suc k) less = absurd (some refl)
-asked_before cells top (Unknown cell name) fault some (suc k) less = absurd (omega arith)
-asked_before cells top (Cycle names) fault some (suc zero) less = fault.0
-asked_before cells top (Cycle names) fault some (suc (suc k)) less = absurd (omega arith)
-asked_before cells top (Deep names) fault some (suc zero) less = fault.0
-asked_before cells top (Deep names) fault some (suc (suc zero)) less = fault.1
-asked_before cells top (Deep names) fault some (suc (suc (suc k))) less = absurd (omega arith)
-asked_before cells top (Scale value names) fault some (suc zero) less = fault.0
-asked_before cells top (Scale value names) fault some (suc (suc zero)) less = fault.1
-asked_before cells top (Scale value names) fault some (suc (suc (suc zero))) less = fault.2
-asked_before cells top (Scale value names) fault some (suc (suc (suc (suc k)))) less = absurd (omega arith)
-asked_before cells top (Fixed value cell) fault some (suc zero) less = fault.0
-asked_before cells top (Fixed value cell) fault some (suc (suc zero)) less = fault.1
-asked_before cells top (Fixed value cell) fault some (suc (suc (suc zero))) less = fault.2
-asked_before cells top (Fixed value cell) fault some (suc (suc (suc (suc zero)))) less = fault.3
-asked_before cells top (Fixed value cell) fault some (suc (suc (suc (suc (suc k))))) less = absurd (omega arith)
-asked_before cells top (Extent value) fault some (suc zero) less = fault.0
-asked_before cells top (Extent value) fault some (suc (suc zero)) less = fault.1
-asked_before cells top (Extent value) fault some (suc (suc (suc zero))) less = fault.2
-asked_before cells top (Extent value) fault some (suc (suc (suc (suc zero)))) less = fault.3
-asked_before cells top (Extent value) fault some (suc (suc (suc (suc (suc zero))))) less = fault.4
-asked_before cells top (Extent value) fault some (suc (suc (suc (suc (suc (suc k)))))) less = absurd (omega arith)
-asked_before cells top (Count cell value) fault some (suc zero) less = fault.0
-asked_before cells top (Count cell value) fault some (suc (suc zero)) less = fault.1
-asked_before cells top (Count cell value) fault some (suc (suc (suc zero))) less = fault.2
-asked_before cells top (Count cell value) fault some (suc (suc (suc (suc zero)))) less = fault.3
-asked_before cells top (Count cell value) fault some (suc (suc (suc (suc (suc zero))))) less = fault.4
-asked_before cells top (Count cell value) fault some (suc (suc (suc (suc (suc (suc zero)))))) less = fault.5
+asked_before : (cells : List Cell) (top : ℕ) (bad : TreeBad) → IsFirstFault cells top bad → (k : ℕ) → k < order_of bad → Asked cells top k
+asked_before cells top bad fault zero less = tt
+asked_before cells top bad fault (suc (suc (suc (suc (suc (suc (suc k))))))) less = tt
+asked_before cells top NoTop fault (suc k) less = absurd fault
+asked_before cells top (Unknown cell name) fault (suc k) less = absurd (omega arith)
+asked_before cells top (Cycle names) fault (suc zero) less = fault.0
+asked_before cells top (Cycle names) fault (suc (suc k)) less = absurd (omega arith)
+asked_before cells top (Deep names) fault (suc zero) less = fault.0
+asked_before cells top (Deep names) fault (suc (suc zero)) less = fault.1
+asked_before cells top (Deep names) fault (suc (suc (suc k))) less = absurd (omega arith)
+asked_before cells top (Scale value names) fault (suc zero) less = fault.0
+asked_before cells top (Scale value names) fault (suc (suc zero)) less = fault.1
+asked_before cells top (Scale value names) fault (suc (suc (suc zero))) less = fault.2
+asked_before cells top (Scale value names) fault (suc (suc (suc (suc k)))) less = absurd (omega arith)
+asked_before cells top (Fixed value cell) fault (suc zero) less = fault.0
+asked_before cells top (Fixed value cell) fault (suc (suc zero)) less = fault.1
+asked_before cells top (Fixed value cell) fault (suc (suc (suc zero))) less = fault.2
+asked_before cells top (Fixed value cell) fault (suc (suc (suc (suc zero)))) less = fault.3
+asked_before cells top (Fixed value cell) fault (suc (suc (suc (suc (suc k))))) less = absurd (omega arith)
+asked_before cells top (Extent value) fault (suc zero) less = fault.0
+asked_before cells top (Extent value) fault (suc (suc zero)) less = fault.1
+asked_before cells top (Extent value) fault (suc (suc (suc zero))) less = fault.2
+asked_before cells top (Extent value) fault (suc (suc (suc (suc zero)))) less = fault.3
+asked_before cells top (Extent value) fault (suc (suc (suc (suc (suc zero))))) less = fault.4
+asked_before cells top (Extent value) fault (suc (suc (suc (suc (suc (suc k)))))) less = absurd (omega arith)
+asked_before cells top (Count cell value) fault (suc zero) less = fault.0
+asked_before cells top (Count cell value) fault (suc (suc zero)) less = fault.1
+asked_before cells top (Count cell value) fault (suc (suc (suc zero))) less = fault.2
+asked_before cells top (Count cell value) fault (suc (suc (suc (suc zero)))) less = fault.3
+asked_before cells top (Count cell value) fault (suc (suc (suc (suc (suc zero))))) less = fault.4
+asked_before cells top (Count cell value) fault (suc (suc (suc (suc (suc (suc zero)))))) less = fault.5
 
 -- a fault that isn't the last breaks what is asked at its place
 breaks : (cells : List Cell) (top : ℕ) (bad : TreeBad) → IsFirstFault cells top bad → order_of bad < 7 → Asked cells top (order_of bad) → ⊥
@@ -564,47 +566,37 @@ breaks cells top (Fixed value cell) fault less asked = let low = asked fault.4.l
 breaks cells top (Extent value) fault less asked = none-some value (sym (none_beyond fault.5.box
     (least_up_to (Every cells top) fault.5.box (2 ^ 30) fault.5.least (λ p every. asked every.0 p every.1))) ∙ fault.5.first)
 breaks cells top (Count cell value) fault less asked = omega arith
-breaks cells top NoMemory fault less asked = omega arith
 
-top_order : (bad : TreeBad) → bad ≢ NoMemory → order_of bad ≤ 7
-top_order NoTop some = omega arith
-top_order (Unknown cell name) some = omega arith
-top_order (Cycle names) some = omega arith
-top_order (Deep names) some = omega arith
-top_order (Scale value names) some = omega arith
-top_order (Fixed value cell) some = omega arith
-top_order (Extent value) some = omega arith
-top_order (Count cell value) some = omega arith
-top_order NoMemory some = absurd (some refl)
+top_order : (bad : TreeBad) → order_of bad ≤ 7
+top_order NoTop = omega arith
+top_order (Unknown cell name) = omega arith
+top_order (Cycle names) = omega arith
+top_order (Deep names) = omega arith
+top_order (Scale value names) = omega arith
+top_order (Fixed value cell) = omega arith
+top_order (Extent value) = omega arith
+top_order (Count cell value) = omega arith
 
-no_less : (cells : List Cell) (top : ℕ) (a b : TreeBad) → IsFirstFault cells top a → IsFirstFault cells top b → b ≢ NoMemory → order_of a < order_of b → ⊥
-no_less cells top a b first second some less = let most = top_order b some in breaks cells top a first (omega arith)
-    (asked_before cells top b second some (order_of a) less)
+no_less : (cells : List Cell) (top : ℕ) (a b : TreeBad) → IsFirstFault cells top a → IsFirstFault cells top b → order_of a < order_of b → ⊥
+no_less cells top a b first second less = let most = top_order b in breaks cells top a first (omega arith)
+    (asked_before cells top b second (order_of a) less)
 
-is_wanting : (bad : TreeBad) → (bad ≡ NoMemory) ⊎ (bad ≢ NoMemory)
-is_wanting NoTop = inr (λ e. cc)
-is_wanting (Unknown cell name) = inr (λ e. cc)
-is_wanting (Cycle names) = inr (λ e. cc)
-is_wanting (Deep names) = inr (λ e. cc)
-is_wanting (Scale value names) = inr (λ e. cc)
-is_wanting (Fixed value cell) = inr (λ e. cc)
-is_wanting (Extent value) = inr (λ e. cc)
-is_wanting (Count cell value) = inr (λ e. cc)
-is_wanting NoMemory = inl refl
-
-pub answered : {T : Type 0} (cells : List Cell) (top : ℕ) (r : Result T TreeBad) (bad : TreeBad)
-    → All IsCellOnGrid cells → OnOk r (IsTree cells top) → IfErr r (IsFirstFault cells top)
-    → IsFirstFault cells top bad → bad ≢ NoMemory
-    → IsErrAnd r (λ answer. (order_of answer ≡ order_of bad) ⊎ (answer ≡ NoMemory))
-answered cells top (Ok tree) bad grid is fault first some = absurd (some (no_fault cells top bad grid is first))
-answered cells top (Err answer) bad grid is fault first some = elim (is_wanting answer) [
-  | inl e ↦ inr e
-  | inr there ↦ (let a = no_less cells top answer bad fault first some in let b = no_less cells top bad answer first fault there in
-      elim (apart (order_of answer) (order_of bad)) [ inl e ↦ inl e | inr differs ↦ absurd (less_or (order_of answer) (order_of bad) differs a b) ])
-]
+same_order : (cells : List Cell) (top : ℕ) (a b : TreeBad) → IsFirstFault cells top a → IsFirstFault cells top b → order_of a ≡ order_of b
+same_order cells top a b first second =
+    elim (apart (order_of a) (order_of b)) [
+      | inl e ↦ e
+      | inr differs ↦ absurd (less_or (order_of a) (order_of b) differs (no_less cells top a b first second) (no_less cells top b a second first))
+    ]
   where
     less_or : (m n : ℕ) → (m ≡ n → ⊥) → (m < n → ⊥) → (n < m → ⊥) → ⊥
     less_or zero zero d a b = d refl
     less_or zero (suc n) d a b = a (omega arith)
     less_or (suc m) zero d a b = b (omega arith)
     less_or (suc m) (suc n) d a b = less_or m n (λ e. d (ap suc e)) (λ h. a (omega arith)) (λ h. b (omega arith))
+
+pub answered : {T : Type 0} (cells : List Cell) (top : ℕ) (r : Result T (Refusal TreeBad)) (bad : TreeBad)
+    → All IsCellOnGrid cells → OnOk r (IsTree cells top) → IfFault r (IsFirstFault cells top)
+    → IsFirstFault cells top bad → IsErrAnd r (IsForFault (λ answer. order_of answer ≡ order_of bad))
+answered cells top (Ok tree) bad grid is fault first = absurd (no_fault cells top bad grid is first)
+answered cells top (Err (refusals.Fault answer)) bad grid is fault first = same_order cells top answer bad fault first
+answered cells top (Err refusals.NoMemory) bad grid is fault first = tt

@@ -10,7 +10,7 @@ use Rattle.cell_tree.specs.Flattening.{IsVertex, shape_count}
 use Rattle.cell_tree.specs.Boxes.{IsLeastBox}
 use Rattle.cell_tree.specs.Trees.{IsKnown, IsAcyclic, IsShallow, IsMild, KeepsFixed, IsNear}
 use Rattle.cell_tree.specs.declared.faults.TreeBad.{TreeBad}
-use Rattle.cell_tree.specs.declared.faults.TreeBad.TheVariants.{NoTop, Unknown, Cycle, Deep, Scale, Fixed, Extent, Count, NoMemory}
+use Rattle.cell_tree.specs.declared.faults.TreeBad.TheVariants.{NoTop, Unknown, Cycle, Deep, Scale, Fixed, Extent, Count}
 
 -- a reachable cell places a name that no cell has
 pub record IsUnknown (cells : List Cell) (top : ℕ) (cell name : List ℕ) : Type 0 where
@@ -88,7 +88,6 @@ IsFirstFault cells top (Extent value) = IsKnown cells top × IsAcyclic cells top
     × KeepsFixed cells top × IsExtent cells top value
 IsFirstFault cells top (Count cell value) = IsKnown cells top × IsAcyclic cells top × IsShallow cells top × IsMild cells top
     × KeepsFixed cells top × IsNear cells top × IsCrowded cells top cell value
-IsFirstFault cells top NoMemory = Unit {0}
 
 -- the order in which they are looked for
 abbrev pub order_of : TreeBad → ℕ
@@ -100,4 +99,3 @@ order_of (Scale value names) = 4
 order_of (Fixed value cell) = 5
 order_of (Extent value) = 6
 order_of (Count cell value) = 7
-order_of NoMemory = 8

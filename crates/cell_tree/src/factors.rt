@@ -6,7 +6,8 @@ ghost use Rattle.cell_tree.specs.Cells.{HasFixedShape};
 ghost use Rattle.cell_tree.specs.Linking.{AreTargetsBelow};
 ghost use Rattle.cell_tree.specs.Orders.{IsUpward};
 ghost use Rattle.cell_tree.specs.Trees.{IsShallow};
-ghost use Rattle.cell_tree.specs.Factors.{IsEnd, IsFarthestOf, AreFarthest, AreFarthestBelow, IsCapped, GoesBeyond, LeadsBeyond, better, through, IsScaledChain, placed_far};
+ghost use Rattle.cell_tree.specs.Factors.{IsEnd, IsFarthestOf, AreFarthest, AreFarthestBelow, IsCapped, GoesBeyond};
+ghost use Rattle.cell_tree.specs.Factors.{LeadsBeyond, better, through, IsScaledChain, placed_far};
 ghost use Rattle.cell_tree.specs.declared.factors.Far.{Far as AFar};
 
 use crate::linked::Linked;
@@ -127,8 +128,8 @@ fn farthest_of(
     best
 }
 
-/// The end and the factor of a chain of the greatest factor from each of the cells of the order. A factor above 16 counts
-/// as 17. Where only fixed shapes are asked for, the chain ends in a cell that has one.
+/// The end and the factor of a chain of the greatest factor from each of the cells of the order. A factor above 16
+/// counts as 17. Where only fixed shapes are asked for, the chain ends in a cell that has one.
 pub(crate) fn farthest(
     alloc: Global,
     linked: &Linked,

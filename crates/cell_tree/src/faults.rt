@@ -1,6 +1,5 @@
 ghost use Rattle.std.specs.Prelude.{◌≡◌, ◌<◌, IfOk, All, map, length};
 ghost use Rattle.cell_tree.specs.Cells.{name_at};
-ghost use Rattle.cell_tree.specs.declared.faults.TreeBad.TheVariants.{NoMemory as Wanting};
 
 use geo_stream::{List, NoMemory};
 use layout_model::{Cell, Name, NameBad};
@@ -28,16 +27,6 @@ pub enum TreeBad {
     /// A cell with more than 2^40 flattened shapes, while no cell that it places has more. Their number is kept, or
     /// 2^128 - 1 where there are more.
     Count(Name, u128),
-    /// Memory ran out.
-    NoMemory,
-}
-
-impl From<NoMemory> for TreeBad {
-    ghost from_gives = { λ _ bad. bad ≡ Wanting };
-
-    fn from(_wanting: NoMemory) -> TreeBad {
-        TreeBad::NoMemory
-    }
 }
 
 /// The same name again.

@@ -1,5 +1,6 @@
 //! The least boxes of cells, pair by pair.
-ghost use Rattle.std.specs.Prelude.{◌≡◌, ◌<◌, ◌^◌, ◌≤◌, ℕ, true, false, length, map, slice_get, get_or, slice_set, insert, [], Some, None, All, IfOk, IfErr, OnOk, IfSome};
+ghost use Rattle.std.specs.Prelude.{◌≡◌, ◌<◌, ◌^◌, ◌≤◌, ℕ, true, false, length, map, slice_get, get_or, slice_set};
+ghost use Rattle.std.specs.Prelude.{insert, [], Some, None, All, IfOk, IfErr, OnOk, IfSome};
 ghost use Rattle.std.specs.Option.{option_map};
 ghost use Rattle.layout_model.specs.Images.{IsOrient};
 ghost use Rattle.layout_model.specs.ShapeLists.{shape_in};
@@ -9,7 +10,9 @@ ghost use Rattle.cell_tree.specs.Boxes.{IsLeastBox, IsBoxUpTo, joined_box};
 ghost use Rattle.cell_tree.specs.Cells.{PlacesAt};
 ghost use Rattle.cell_tree.specs.Chains.{IsShort};
 ghost use Rattle.cell_tree.specs.Orders.{IsUpward, IsAmong};
-ghost use Rattle.cell_tree.specs.HullTables.{ShapeVertex, IsMoveOf, is_before, hull_in, AreInOrder, wider, widest, widened_list, whole_from, placed_hull, hulls_at, AreOwnHulls, AreCellHulls, AreHulls, AreOnlyAmong, HasNearVertices};
+ghost use Rattle.cell_tree.specs.HullTables.{ShapeVertex, IsMoveOf, is_before, hull_in, AreInOrder, wider, widest};
+ghost use Rattle.cell_tree.specs.HullTables.{widened_list, whole_from, placed_hull, hulls_at, AreOwnHulls};
+ghost use Rattle.cell_tree.specs.HullTables.{AreCellHulls, AreHulls, AreOnlyAmong, HasNearVertices};
 ghost use Rattle.cell_tree.specs.declared.hulls.PairHull.{PairHull as APairHull};
 ghost use Rattle.half_grid.specs.declared.extent.Frame.{Frame as AFrame};
 
@@ -64,7 +67,8 @@ fn rank(hulls: &[PairHull], pair: Pair) -> usize
 fn place_of(hulls: &[PairHull], pair: Pair) -> Result<usize, usize>
     requires { AreInOrder hulls.now }
     ensures ok { IfOk result (λ k. (k < length hulls.now)
-        × ((by : AFrame) → widened_list hulls.now pair by ≡ slice_set hulls.now k (record { pair = pair; hull = joined_box (get_or hulls.now k (record { pair = pair; hull = by })).hull by }))
+        × ((by : AFrame) → widened_list hulls.now pair by ≡ slice_set hulls.now k
+        (record { pair = pair; hull = joined_box (get_or hulls.now k (record { pair = pair; hull = by })).hull by }))
         × ((here : APairHull) → hull_in hulls.now pair ≡ Some (get_or hulls.now k here).hull)) }
     ensures err { IfErr result (λ k. (k ≤ length hulls.now) × (hull_in hulls.now pair ≡ None)
         × ((by : AFrame) → widened_list hulls.now pair by ≡ insert hulls.now k (record { pair = pair; hull = by }))) }

@@ -1,5 +1,6 @@
 //! The cells below the top cell, from the leaves up.
-ghost use Rattle.std.specs.Prelude.{◌≡◌, ◌≢◌, ◌<◌, ℕ, suc, length, map, drop, [], ◌∷◌, ◌++◌, List, Some, slice_get, slice_set, IfOk, OnOk, IfSome, IfNone, replicate};
+ghost use Rattle.std.specs.Prelude.{◌≡◌, ◌≢◌, ◌<◌, ℕ, suc, length, map, drop, [], ◌∷◌, ◌++◌, List, Some, slice_get};
+ghost use Rattle.std.specs.Prelude.{slice_set, IfOk, OnOk, IfSome, IfNone, replicate};
 ghost use Rattle.cell_tree.specs.Searches.{IsStop, IsOnPath, IsSearch, IsFound, work_left};
 ghost use Rattle.cell_tree.specs.declared.orders.Mark.TheVariants.{New as IsNew, Open as IsOpen, Done as IsDone};
 
@@ -30,8 +31,8 @@ struct Stop {
 pub(crate) struct Found {
     /// The top cell.
     pub(crate) top: usize,
-    /// The reachable cells, in the order in which the search was done with them: where there is no cycle, each after all
-    /// that it places.
+    /// The reachable cells, in the order in which the search was done with them: where there is no cycle, each after
+    /// all that it places.
     pub(crate) order: Vec<usize>,
     /// A cycle, or nothing where there is none.
     pub(crate) cycle: Vec<usize>,

@@ -5,7 +5,7 @@ ghost use Rattle.layout_model.specs.Layouts.{IsMove, AreOffsets, IsShapeOnGrid, 
 
 use crate::linked::number_of;
 use crate::{Tree, TreeBad, resolve};
-use geo_stream::List;
+use geo_stream::{List, Refusal};
 use half_grid::{Frame, Point};
 use layout_model::{
     Cell, Counts, KeptShape, Layout, Name, Offsets, Orient, Pair, Placement, Shape, Shapes,
@@ -188,7 +188,7 @@ fn fixed_shapes(rt: HostRuntime) {
     let tree = resolve(alloc, of_square(&rt, alloc, 1, true), &top);
     assert!(rt; tree.is_ok());
     let refused = resolve(alloc, of_square(&rt, alloc, 2, true), &top);
-    assert!(rt; matches!(refused, Err(TreeBad::Fixed(2, _))));
+    assert!(rt; matches!(refused, Err(Refusal::Fault(TreeBad::Fixed(2, _)))));
     let tree = resolve(alloc, of_square(&rt, alloc, 16, false), &top);
     assert!(rt; tree.is_ok());
 }
@@ -200,7 +200,7 @@ fn factors_over_16(rt: HostRuntime) {
     let tree = resolve(alloc, of_placement(&rt, alloc, 4, b"C", 4), &top);
     assert!(rt; tree.is_ok());
     let refused = resolve(alloc, of_placement(&rt, alloc, 8, b"C", 4), &top);
-    assert!(rt; matches!(refused, Err(TreeBad::Scale(32, _))));
+    assert!(rt; matches!(refused, Err(Refusal::Fault(TreeBad::Scale(32, _)))));
 }
 
 #[test]
@@ -208,16 +208,16 @@ fn names_and_cycles(rt: HostRuntime) {
     let alloc = rt.alloc();
     let top = name(&rt, alloc, b"A");
     let refused = resolve(alloc, of_placement(&rt, alloc, 1, b"D", 1), &top);
-    assert!(rt; matches!(refused, Err(TreeBad::Unknown(_, _))));
+    assert!(rt; matches!(refused, Err(Refusal::Fault(TreeBad::Unknown(_, _)))));
     let refused = resolve(alloc, of_placement(&rt, alloc, 1, b"A", 1), &top);
-    assert!(rt; matches!(refused, Err(TreeBad::Cycle(_))));
+    assert!(rt; matches!(refused, Err(Refusal::Fault(TreeBad::Cycle(_)))));
     // The same cycle, which C doesn't reach.
     let top = name(&rt, alloc, b"C");
     let tree = resolve(alloc, of_placement(&rt, alloc, 1, b"A", 1), &top);
     assert!(rt; tree.is_ok());
     let top = name(&rt, alloc, b"D");
     let refused = resolve(alloc, of_square(&rt, alloc, 1, false), &top);
-    assert!(rt; matches!(refused, Err(TreeBad::NoTop)));
+    assert!(rt; matches!(refused, Err(Refusal::Fault(TreeBad::NoTop))));
 }
 
 // The layout of no cell.
@@ -305,17 +305,18 @@ fn are_bytes(names: &[Name], bytes: &[u8]) -> bool {
 }
 
 // Whether the answer is that the cells of these names are a chain of this factor.
-fn is_scale(answer: Result<Tree, TreeBad>, factor: i64, bytes: &[u8]) -> bool {
+fn is_scale(answer: Result<Tree, Refusal<TreeBad>>, factor: i64, bytes: &[u8]) -> bool {
     match answer {
-        Err(TreeBad::Scale(value, names)) => value == factor && are_bytes(names.as_slice(), bytes),
+        Err(Refusal::Fault(TreeBad::Scale(value, names))) => value == factor
+            && are_bytes(names.as_slice(), bytes),
         _ => false,
     }
 }
 
 // How many names a chain that is too long has, and 0 of other answers.
-fn depth_of(answer: Result<Tree, TreeBad>) -> usize {
+fn depth_of(answer: Result<Tree, Refusal<TreeBad>>) -> usize {
     match answer {
-        Err(TreeBad::Deep(names)) => names.as_slice().len(),
+        Err(Refusal::Fault(TreeBad::Deep(names))) => names.as_slice().len(),
         _ => 0,
     }
 }
@@ -377,7 +378,10 @@ fn ask_extent(rt: &impl Abort, alloc: Global, at: Point, beyond: Option<i64>) {
     let layout = with_placing(rt, alloc, layout, b'T', placement);
     match resolve(alloc, layout, &name(rt, alloc, b"T")) {
         Ok(_) => assert!(rt; beyond.is_none(), "beyond"),
-        Err(TreeBad::Extent(value)) => assert!(rt; beyond == Some(value), "another side"),
+        Err(Refusal::Fault(TreeBad::Extent(value))) => assert!(rt;
+            beyond == Some(value),
+            "another side"
+        ),
         Err(_) => assert!(rt; false, "another refusal"),
     }
 }
@@ -464,9 +468,10 @@ fn diamond(rt: &impl Abort, alloc: Global, shapes: Shapes) -> Layout
 }
 
 // Whether the answer is that the cell of this name has so many shapes.
-fn is_count(answer: Result<Tree, TreeBad>, byte: u8, count: u128) -> bool {
+fn is_count(answer: Result<Tree, Refusal<TreeBad>>, byte: u8, count: u128) -> bool {
     match answer {
-        Err(TreeBad::Count(name, value)) => value == count && name.bytes() == [byte].as_slice(),
+        Err(Refusal::Fault(TreeBad::Count(name, value))) => value == count
+            && name.bytes() == [byte].as_slice(),
         _ => false,
     }
 }

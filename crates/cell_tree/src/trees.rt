@@ -1,5 +1,7 @@
 //! The tree of a layout's cells.
-ghost use Rattle.std.specs.Prelude.{◌≡◌, ◌≢◌, ◌<◌, ◌^◌, ◌↔◌, ◌⊎◌, ℕ, [], length, slice_get, Some, None, Ok, Err, IfOk, IfErr, IsTrue, IsFalse, OnOk, IsOk, IsErrAnd};
+ghost use Rattle.std.specs.Prelude.{◌≡◌, ◌<◌, ◌^◌, ◌↔◌, ◌⊎◌, ℕ, [], length, slice_get, Some, None, Ok, Err, IfOk, IsTrue, IsFalse, OnOk, IsOk, IsErrAnd};
+ghost use Rattle.geo_stream.specs.Refusals.{IsForFault, IfFault};
+ghost use Rattle.geo_stream.specs.declared.refusal.Refusal.TheVariants.{Fault, NoMemory};
 ghost use Rattle.layout_model.specs.Layouts.{IsLayoutOnGrid};
 ghost use Rattle.cell_tree.specs.Cells.{cell_number};
 ghost use Rattle.cell_tree.specs.Orders.{IsOrder};
@@ -9,7 +11,7 @@ ghost use Rattle.cell_tree.specs.HullTables.{extent_in};
 ghost use Rattle.cell_tree.specs.Trees.{IsKnown, IsAcyclic, IsShallow, IsMild, KeepsFixed, IsCounted, IsNear, IsTree};
 ghost use Rattle.cell_tree.specs.Faults.{IsFirstFault, order_of};
 ghost use Rattle.cell_tree.specs.declared.faults.TreeBad.{TreeBad as ABad};
-ghost use Rattle.cell_tree.specs.declared.faults.TreeBad.TheVariants.{NoTop, NoMemory as Wanting};
+ghost use Rattle.cell_tree.specs.declared.faults.TreeBad.TheVariants.{NoTop};
 
 use crate::crowds::{Counted, count_shapes};
 use crate::extents::first_beyond;
@@ -21,6 +23,7 @@ use crate::linked::{Linked, number_of};
 use crate::orders::{Found, search_from};
 use crate::spots::{placed_box, wide};
 use crate::unknowns::find_unknown;
+use geo_stream::Refusal;
 use half_grid::Frame;
 use layout_model::{Cell, Counts, Layout, Name, Pair};
 use std::alloc::Global;
@@ -117,8 +120,8 @@ impl Tree {
         hull_on(self.hulls[cell].as_slice(), pair)
     }
 
-    /// Whether a cell has nothing to show. Where it says so, a reachable cell has no shapes of its own, and it says so of
-    /// each cell that nothing reaches.
+    /// Whether a cell has nothing to show. Where it says so, a reachable cell has no shapes of its own, and it says so
+    /// of each cell that nothing reaches.
     pub fn is_bare(&self, cell: usize) -> bool
         requires { cell < length self.now.layout.cells }
         ensures reached { IsFalse result → IsReachable self.now.layout.cells self.now.top cell }
@@ -127,8 +130,8 @@ impl Tree {
         self.hulls[cell].is_empty()
     }
 
-    /// A box round all that a placement shows, of whatever pair, as the cell that has it counts, within 2^53 of 0. It is
-    /// one where that cell is reachable.
+    /// A box round all that a placement shows, of whatever pair, as the cell that has it counts, within 2^53 of 0. It
+    /// is one where that cell is reachable.
     pub fn spot(&self, cell: usize, placement: usize) -> Frame
         requires cell { cell < length self.now.layout.cells }
         requires placement { placement < length (placements_at self.now.layout.cells cell) }
@@ -147,53 +150,56 @@ impl Tree {
 }
 
 // Whether each name that a reachable cell places is there.
-fn ask_names(alloc: Global, linked: &Linked, found: &Found) -> Result<(), TreeBad>
+fn ask_names(alloc: Global, linked: &Linked, found: &Found) -> Result<(), Refusal<TreeBad>>
     requires found { IsFound linked.now.cells found.now.top found.now.order.items found.now.cycle.items }
     ensures ok { OnOk result (IsKnown linked.now.cells found.now.top) }
-    ensures err { IfErr result (IsFirstFault linked.now.cells found.now.top) }
+    ensures err { IfFault result (IsFirstFault linked.now.cells found.now.top) }
 {
     if let Some(place) = find_unknown(linked, found.order.as_slice()) {
         let cell = copy_of(alloc, &linked.cells()[place.cell].name)?;
         let placement = &linked.placements(place.cell)[place.placement];
-        return Err(TreeBad::Unknown(cell, copy_of(alloc, &placement.target)?));
+        let target = copy_of(alloc, &placement.target)?;
+        return Err(Refusal::Fault(TreeBad::Unknown(cell, target)));
     }
     Ok(())
 }
 
 // Whether there is no cycle.
-fn ask_cycle(alloc: Global, linked: &Linked, found: &Found) -> Result<(), TreeBad>
+fn ask_cycle(alloc: Global, linked: &Linked, found: &Found) -> Result<(), Refusal<TreeBad>>
     requires top { found.now.top < length linked.now.cells }
     requires found { IsFound linked.now.cells found.now.top found.now.order.items found.now.cycle.items }
     requires known { IsKnown linked.now.cells found.now.top }
     ensures ok { OnOk result (IsAcyclic linked.now.cells found.now.top) }
     ensures order { OnOk result (IsOrder linked.now.cells found.now.top found.now.order.items) }
-    ensures err { IfErr result (IsFirstFault linked.now.cells found.now.top) }
+    ensures err { IfFault result (IsFirstFault linked.now.cells found.now.top) }
 {
     if found.cycle.is_empty() {
         return Ok(());
     }
-    Err(TreeBad::Cycle(names_of(alloc, linked.cells(), found.cycle.as_slice())?))
+    let names = names_of(alloc, linked.cells(), found.cycle.as_slice())?;
+    Err(Refusal::Fault(TreeBad::Cycle(names)))
 }
 
 // Whether no chain has more than 64 cells.
-fn ask_depth(alloc: Global, linked: &Linked, found: &Found) -> Result<(), TreeBad>
+fn ask_depth(alloc: Global, linked: &Linked, found: &Found) -> Result<(), Refusal<TreeBad>>
     requires top { found.now.top < length linked.now.cells }
     requires order { IsOrder linked.now.cells found.now.top found.now.order.items }
     requires known { IsKnown linked.now.cells found.now.top }
     requires acyclic { IsAcyclic linked.now.cells found.now.top }
     ensures ok { OnOk result (IsShallow linked.now.cells found.now.top) }
-    ensures err { IfErr result (IsFirstFault linked.now.cells found.now.top) }
+    ensures err { IfFault result (IsFirstFault linked.now.cells found.now.top) }
 {
     let heights = heights(alloc, linked, found.order.as_slice())?;
     if heights[found.top] < 65 {
         return Ok(());
     }
     let chain = deep_chain(alloc, linked, heights.as_slice(), found.top)?;
-    Err(TreeBad::Deep(names_of(alloc, linked.cells(), chain.as_slice())?))
+    let names = names_of(alloc, linked.cells(), chain.as_slice())?;
+    Err(Refusal::Fault(TreeBad::Deep(names)))
 }
 
 // Whether no chain enlarges by more than 16.
-fn ask_scale(alloc: Global, linked: &Linked, found: &Found) -> Result<(), TreeBad>
+fn ask_scale(alloc: Global, linked: &Linked, found: &Found) -> Result<(), Refusal<TreeBad>>
     requires grid { IsLayoutOnGrid linked.now }
     requires top { found.now.top < length linked.now.cells }
     requires order { IsOrder linked.now.cells found.now.top found.now.order.items }
@@ -201,7 +207,7 @@ fn ask_scale(alloc: Global, linked: &Linked, found: &Found) -> Result<(), TreeBa
     requires acyclic { IsAcyclic linked.now.cells found.now.top }
     requires shallow { IsShallow linked.now.cells found.now.top }
     ensures ok { OnOk result (IsMild linked.now.cells found.now.top) }
-    ensures err { IfErr result (IsFirstFault linked.now.cells found.now.top) }
+    ensures err { IfFault result (IsFirstFault linked.now.cells found.now.top) }
 {
     let farthest = farthest(alloc, linked, found.order.as_slice(), false)?;
     let Some(far) = farthest[found.top] else {
@@ -212,11 +218,11 @@ fn ask_scale(alloc: Global, linked: &Linked, found: &Found) -> Result<(), TreeBa
     }
     let scaled = scaled_chain(alloc, linked, farthest.as_slice(), found.top)?;
     let names = names_of(alloc, linked.cells(), scaled.cells.as_slice())?;
-    Err(TreeBad::Scale(scaled.factor as i64, names))
+    Err(Refusal::Fault(TreeBad::Scale(scaled.factor as i64, names)))
 }
 
 // Whether no fixed shape is enlarged.
-fn ask_fixed(alloc: Global, linked: &Linked, found: &Found) -> Result<(), TreeBad>
+fn ask_fixed(alloc: Global, linked: &Linked, found: &Found) -> Result<(), Refusal<TreeBad>>
     requires grid { IsLayoutOnGrid linked.now }
     requires top { found.now.top < length linked.now.cells }
     requires order { IsOrder linked.now.cells found.now.top found.now.order.items }
@@ -225,7 +231,7 @@ fn ask_fixed(alloc: Global, linked: &Linked, found: &Found) -> Result<(), TreeBa
     requires shallow { IsShallow linked.now.cells found.now.top }
     requires mild { IsMild linked.now.cells found.now.top }
     ensures ok { OnOk result (KeepsFixed linked.now.cells found.now.top) }
-    ensures err { IfErr result (IsFirstFault linked.now.cells found.now.top) }
+    ensures err { IfFault result (IsFirstFault linked.now.cells found.now.top) }
 {
     let farthest = farthest(alloc, linked, found.order.as_slice(), true)?;
     let Some(far) = farthest[found.top] else {
@@ -235,7 +241,7 @@ fn ask_fixed(alloc: Global, linked: &Linked, found: &Found) -> Result<(), TreeBa
         return Ok(());
     }
     let name = name_of(alloc, linked.cells(), far.cell)?;
-    Err(TreeBad::Fixed(far.factor as i64, name))
+    Err(Refusal::Fault(TreeBad::Fixed(far.factor as i64, name)))
 }
 
 // The first side of the box of all pairs that is beyond 2^30.
@@ -249,7 +255,7 @@ fn extent_of(hulls: &[PairHull]) -> Option<i64>
 }
 
 // The number of flattened shapes of the top cell, where each cell has at most 2^40.
-fn ask_count(alloc: Global, linked: &Linked, found: &Found) -> Result<u64, TreeBad>
+fn ask_count(alloc: Global, linked: &Linked, found: &Found) -> Result<u64, Refusal<TreeBad>>
     requires top { found.now.top < length linked.now.cells }
     requires order { IsOrder linked.now.cells found.now.top found.now.order.items }
     requires known { IsKnown linked.now.cells found.now.top }
@@ -260,26 +266,26 @@ fn ask_count(alloc: Global, linked: &Linked, found: &Found) -> Result<u64, TreeB
     requires near { IsNear linked.now.cells found.now.top }
     ensures ok { OnOk result (IsCounted linked.now.cells found.now.top) }
     ensures count { IfOk result (λ count. count ≡ shape_count linked.now.cells found.now.top) }
-    ensures err { IfErr result (IsFirstFault linked.now.cells found.now.top) }
+    ensures err { IfFault result (IsFirstFault linked.now.cells found.now.top) }
 {
     match count_shapes(alloc, linked, found.order.as_slice())? {
         Counted::Each(counts) => Ok(counts[found.top]),
         Counted::Crowded(crowd) => {
             let name = name_of(alloc, linked.cells(), crowd.cell)?;
-            Err(TreeBad::Count(name, crowd.count))
+            Err(Refusal::Fault(TreeBad::Count(name, crowd.count)))
         }
     }
 }
 
 // The tree below the top cell, by what the search found.
-fn tree_of(alloc: Global, linked: Linked, found: &Found) -> Result<Tree, TreeBad>
+fn tree_of(alloc: Global, linked: Linked, found: &Found) -> Result<Tree, Refusal<TreeBad>>
     requires grid { IsLayoutOnGrid linked }
     requires top { found.now.top < length linked.cells }
     requires found { IsFound linked.cells found.now.top found.now.order.items found.now.cycle.items }
     ensures layout { IfOk result (λ tree. tree.layout ≡ linked) }
     ensures top { IfOk result (λ tree. tree.top ≡ found.now.top) }
     ensures tree { OnOk result (IsTree linked.cells found.now.top) }
-    ensures err { IfErr result (IsFirstFault linked.cells found.now.top) }
+    ensures err { IfFault result (IsFirstFault linked.cells found.now.top) }
 {
     ask_names(alloc, &linked, found)?;
     ask_cycle(alloc, &linked, found)?;
@@ -288,7 +294,7 @@ fn tree_of(alloc: Global, linked: Linked, found: &Found) -> Result<Tree, TreeBad
     ask_fixed(alloc, &linked, found)?;
     let hulls = hulls(alloc, &linked, found.order.as_slice())?;
     if let Some(value) = extent_of(hulls[found.top].as_slice()) {
-        return Err(TreeBad::Extent(value));
+        return Err(Refusal::Fault(TreeBad::Extent(value)));
     }
     let shapes = ask_count(alloc, &linked, found)?;
     Ok(Tree {
@@ -301,26 +307,26 @@ fn tree_of(alloc: Global, linked: Linked, found: &Found) -> Result<Tree, TreeBad
 
 /// The tree of a layout below the cell of this name. The refusals are tried in the order in which `TreeBad` lists them,
 /// and ask reachable cells alone.
-pub fn resolve(alloc: Global, layout: Layout, top: &Name) -> Result<Tree, TreeBad>
+pub fn resolve(alloc: Global, layout: Layout, top: &Name) -> Result<Tree, Refusal<TreeBad>>
     requires { IsLayoutOnGrid layout }
     ensures layout { IfOk result (λ tree. tree.layout ≡ layout) }
     ensures top { IfOk result (λ tree. cell_number layout.cells top.now ≡ Some tree.top) }
     ensures tree { IfOk result (λ tree. IsTree layout.cells tree.top) }
 
     // Each refusal keeps what is there, and nothing that is looked for before it is there.
-    ensures no_top { (result ≡ Err NoTop) ↔ (cell_number layout.cells top.now ≡ None) }
-    ensures fault { (n : ℕ) → cell_number layout.cells top.now ≡ Some n → IfErr result (IsFirstFault layout.cells n) }
+    ensures no_top { (result ≡ Err (Fault NoTop)) ↔ (cell_number layout.cells top.now ≡ None) }
+    ensures fault { (n : ℕ) → cell_number layout.cells top.now ≡ Some n → IfFault result (IsFirstFault layout.cells n) }
 
     // What is there first is what is answered, or want of memory.
     ensures found { (n : ℕ) (bad : ABad) → cell_number layout.cells top.now ≡ Some n → IsFirstFault layout.cells n bad
-        → bad ≢ Wanting → IsErrAnd result (λ answer. (order_of answer ≡ order_of bad) ⊎ (answer ≡ Wanting)) }
+        → IsErrAnd result (IsForFault (λ answer. order_of answer ≡ order_of bad)) }
 
     // Where nothing that is refused is there, the layout is refused for want of memory alone.
     ensures accepted { (n : ℕ) → cell_number layout.cells top.now ≡ Some n → IsTree layout.cells n
-        → IsOk result ⊎ (result ≡ Err Wanting) }
+        → IsOk result ⊎ (result ≡ Err NoMemory) }
 {
     let Some(top) = number_of(layout.cells.as_slice(), top) else {
-        return Err(TreeBad::NoTop);
+        return Err(Refusal::Fault(TreeBad::NoTop));
     };
     let linked = Linked::new(alloc, layout)?;
     let found = search_from(alloc, &linked, top)?;

@@ -1,5 +1,6 @@
-use Rattle.std.proofs.Common.{◌≡◌, ◌<◌, Some, IfErr, OnOk, length, ap, sym, subst, ◌∙◌}
+use Rattle.std.proofs.Common.{◌≡◌, ◌<◌, Some, OnOk, length, ap, sym, subst, ◌∙◌}
 use Rattle.std.proofs.lemmas.Option.{same_Some}
+use Rattle.geo_stream.specs.Refusals.{IfFault}
 use Rattle.cell_tree.specs.Cells.{cell_number}
 use Rattle.cell_tree.specs.Trees.{IsTree}
 use Rattle.cell_tree.specs.Faults.{IsFirstFault}
@@ -27,16 +28,16 @@ returns-clause-accepted c = λ n is tree.
     let top = c.in_ok-found.found.top in
     let same : n ≡ top = same_Some n c.in-Some.top (sym is ∙ here) ∙ sym c.in_ok-found.ensures.top in
     accepted c.args.layout.cells top c.tree_of.result c.requires.cells
-    (subst (λ l. IfErr c.tree_of.result (IsFirstFault l.cells top)) c.in_ok-linked.ensures c.tree_of.ensures.err)
+    (subst (λ l. IfFault c.tree_of.result (IsFirstFault l.cells top)) c.in_ok-linked.ensures c.tree_of.ensures.err)
     (subst (IsTree c.args.layout.cells) same tree))
 
 pub returns-clause-found : goal.returns-clause-found
-returns-clause-found c = λ n bad is fault some.
+returns-clause-found c = λ n bad is fault.
     (let here : cell_number c.args.layout.cells c.args.top.now ≡ Some c.in-Some.top = sym
     (ap (λ l. cell_number l c.args.top.now) c.as_slice.ensures) ∙ sym c.number_of.ensures ∙ c.in-Some.is in
     let top = c.in_ok-found.found.top in
     let same : n ≡ top = same_Some n c.in-Some.top (sym is ∙ here) ∙ sym c.in_ok-found.ensures.top in
     answered c.args.layout.cells top c.tree_of.result bad c.requires.cells
     (subst (λ l. OnOk c.tree_of.result (IsTree l.cells top)) c.in_ok-linked.ensures c.tree_of.ensures.tree)
-    (subst (λ l. IfErr c.tree_of.result (IsFirstFault l.cells top)) c.in_ok-linked.ensures c.tree_of.ensures.err)
-    (subst (λ t. IsFirstFault c.args.layout.cells t bad) same fault) some)
+    (subst (λ l. IfFault c.tree_of.result (IsFirstFault l.cells top)) c.in_ok-linked.ensures c.tree_of.ensures.err)
+    (subst (λ t. IsFirstFault c.args.layout.cells t bad) same fault))
