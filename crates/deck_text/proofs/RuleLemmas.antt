@@ -1,6 +1,9 @@
 -- The first rule that a statement breaks.
-use Rattle.std.proofs.Common.{◌≡◌, ◌≢◌, ◌⊎◌, inl, inr, ℕ, Bool, true, false, List, Option, Some, None, refl, sym, ap, ◌∙◌}
+use Rattle.std.proofs.Common.{◌≡◌, ℕ, Bool, true, false, List, Option, Some, None, refl, sym, ap, ◌∙◌}
 use Rattle.std.specs.Prelude.{ℤ, option_map}
+use Rattle.geo_stream.specs.Refusals.{IsForFault}
+use Rattle.geo_stream.specs.declared.refusal.Refusal.{Refusal}
+use Rattle.geo_stream.specs.declared.refusal.Refusal.TheVariants as refusals
 use Rattle.deck_text.specs.Statements.{Statement, Said}
 use Rattle.deck_text.specs.Rules.{is_misplaced, repeated_line, unknown_operand, lacks_frame, out_of_range, has_odd_sum}
 use Rattle.deck_text.specs.Rules.{takes_name, is_too_many, when, or_else, broken_rule}
@@ -165,9 +168,11 @@ by_none layout deck before n s a b c d x y z h = by_rules layout deck before n s
     (lacks_frame before s) false (out_of_range s) None (has_odd_sum s) false (takes_name layout deck before s) false
     (is_too_many before s) false a b c d x y z h ∙ breaks_none n)
 
-pub by_memory : (r : Option DeckBad) (bad own : DeckBad) → r ≡ Some bad → (own ≡ bad) ⊎ (own ≡ faults.NoMemory) → own ≢ faults.NoMemory → r ≡ Some own
-by_memory r bad own e (inl same) other = e ∙ ap (λ (b : DeckBad). Some b) (sym same)
-by_memory r bad own e (inr none) other = absurd (other none)
+-- a rule whose fault takes memory
+pub by_refusal : (r : Option DeckBad) (bad : DeckBad) (own : Refusal DeckBad) → r ≡ Some bad → IsForFault (λ fault. fault ≡ bad) own
+    → IsForFault (λ fault. r ≡ Some fault) own
+by_refusal r bad (refusals.Fault own) e same = e ∙ ap (λ (b : DeckBad). Some b) (sym same)
+by_refusal r bad refusals.NoMemory e same = tt
 
 -- ---- a statement that breaks no rule
 

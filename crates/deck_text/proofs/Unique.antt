@@ -1,15 +1,17 @@
 -- Bytes have one deck at most, one first fault at most, and never both.
-use Rattle.std.proofs.Common.{◌≡◌, ◌≢◌, ◌⊎◌, inl, inr, ℕ, ◌≤◌, List, length, Option, Some, None, refl, sym, ap, ◌∙◌, arith}
+use Rattle.std.proofs.Common.{◌≡◌, ◌⊎◌, inl, inr, ℕ, ◌≤◌, List, length, Option, Some, None, refl, sym, ap, ◌∙◌, arith}
 use Rattle.std.specs.Prelude.{ℤ, pos, slice_get, Result, Ok, Err}
 use Rattle.std.proofs.lemmas.Bool.{cases_lt, false≢true}
 use Rattle.std.proofs.lemmas.Option.{slice_get_within}
+use Rattle.geo_stream.specs.Refusals.{IsForFault}
+use Rattle.geo_stream.specs.declared.refusal.Refusal.{Refusal}
+use Rattle.geo_stream.specs.declared.refusal.Refusal.TheVariants as refusals
 use Rattle.half_grid.specs.declared.shot.Limits.{Limits}
 use Rattle.half_grid.specs.declared.extent.Frame.{Frame}
 use Rattle.deck_text.specs.Lines.{lines_of}
 use Rattle.deck_text.specs.Statements.{Said}
 use Rattle.deck_text.specs.Decks.{refusal_after, AreAccepted, IsRefusedAt, IsFirstFault, IsDeckOf, IsDeck, saids_from, setting_in, unit_of, top_of}
 use Rattle.deck_text.specs.declared.refusal.DeckBad.{DeckBad}
-use Rattle.deck_text.specs.declared.refusal.DeckBad.TheVariants as faults
 use Rattle.deck_text.specs.declared.deck.Deck.{Deck}
 use Rattle.deck_text.specs.declared.deck.Step.{Step}
 use Rattle.deck_text.specs.declared.deck.Output.{Output}
@@ -95,32 +97,17 @@ one_deck bytes layout deck d e h g = deck_of_one (saids_from 1 (lines_of bytes))
 
 -- ---- answers
 
-want : (bad : DeckBad) → (bad ≡ faults.NoMemory) ⊎ (bad ≢ faults.NoMemory)
-want (faults.Line n column) = inr (λ e. cc)
-want (faults.Order n) = inr (λ e. cc)
-want (faults.Twice n m) = inr (λ e. cc)
-want (faults.Unknown n name) = inr (λ e. cc)
-want (faults.NoFrame n) = inr (λ e. cc)
-want (faults.Range n value) = inr (λ e. cc)
-want (faults.Odd n) = inr (λ e. cc)
-want (faults.Names n) = inr (λ e. cc)
-want (faults.Many n) = inr (λ e. cc)
-want faults.NoMemory = inl refl
-
 -- the answer of a refusal to bytes that have a first fault
-pub told_fault : (bytes layout deck : List ℕ) (r : Result Deck DeckBad) (own : DeckBad) → r ≡ Err own
-    → (own ≢ faults.NoMemory → IsFirstFault bytes layout deck own)
-    → (bad : DeckBad) → IsFirstFault bytes layout deck bad → (r ≡ Err bad) ⊎ (r ≡ Err faults.NoMemory)
-told_fault bytes layout deck r own e h bad f = elim (want own) [
-  | inl none ↦ inr (e ∙ ap (λ (b : DeckBad). Err b) none)
-  | inr other ↦ inl (e ∙ ap (λ (b : DeckBad). Err b) (one_fault bytes layout deck own bad (h other) f))
-]
+pub told_fault : (bytes layout deck : List ℕ) (r : Result Deck (Refusal DeckBad)) (own : Refusal DeckBad) → r ≡ Err own
+    → IsForFault (IsFirstFault bytes layout deck) own
+    → (bad : DeckBad) → IsFirstFault bytes layout deck bad → (r ≡ Err (refusals.Fault bad)) ⊎ (r ≡ Err refusals.NoMemory)
+told_fault bytes layout deck r (refusals.Fault own) e h bad f =
+    inl (e ∙ ap (λ (b : DeckBad). Err (refusals.Fault b)) (one_fault bytes layout deck own bad h f))
+told_fault bytes layout deck r refusals.NoMemory e h bad f = inr e
 
 -- and to bytes that are a deck
-pub told_deck : (bytes layout deck : List ℕ) (r : Result Deck DeckBad) (own : DeckBad) → r ≡ Err own
-    → (own ≢ faults.NoMemory → IsFirstFault bytes layout deck own)
-    → (d : Deck) → IsDeck bytes layout deck d → (r ≡ Ok d) ⊎ (r ≡ Err faults.NoMemory)
-told_deck bytes layout deck r own e h d g = elim (want own) [
-  | inl none ↦ inr (e ∙ ap (λ (b : DeckBad). Err b) none)
-  | inr other ↦ absurd (never_both bytes layout deck d own g (h other))
-]
+pub told_deck : (bytes layout deck : List ℕ) (r : Result Deck (Refusal DeckBad)) (own : Refusal DeckBad) → r ≡ Err own
+    → IsForFault (IsFirstFault bytes layout deck) own
+    → (d : Deck) → IsDeck bytes layout deck d → (r ≡ Ok d) ⊎ (r ≡ Err refusals.NoMemory)
+told_deck bytes layout deck r (refusals.Fault own) e h d g = absurd (never_both bytes layout deck d own g h)
+told_deck bytes layout deck r refusals.NoMemory e h d g = inr e

@@ -3,7 +3,9 @@ ghost use Rattle.std.specs.Prelude.{◌≡◌, ◌≤◌, length, IfOk, IfSome, 
 ghost use Rattle.std.specs.List.{list_all};
 ghost use Rattle.std.specs.Char.{is_ascii_graphic};
 ghost use Rattle.deck_text.specs.Tokens.{pieces_at};
-ghost use Rattle.deck_text.specs.Kinds.{is_letter, is_word, is_name, is_token, name_value, file_value, cell_value, number_value, taken_as, second_side, ended, Name, File, Cell, Number, Sides, taken};
+ghost use Rattle.deck_text.specs.Kinds.{is_letter, is_word, is_name, is_token, name_value, file_value, cell_value};
+ghost use Rattle.deck_text.specs.Kinds.{number_value, taken_as, second_side, ended, Name, File, Cell, Number, Sides};
+ghost use Rattle.deck_text.specs.Kinds.{taken};
 ghost use Rattle.deck_text.specs.Forms.{past};
 ghost use Rattle.deck_text.specs.Views.{Reads, Gives};
 

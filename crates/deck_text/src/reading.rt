@@ -1,5 +1,7 @@
 //! Decks read from their bytes.
-ghost use Rattle.std.specs.Prelude.{◌≡◌, ◌≢◌, ◌⊎◌, ◌≤◌, true, None, Some, length, IfOk, IfErr, OnOk};
+ghost use Rattle.std.specs.Prelude.{◌≡◌, ◌⊎◌, ◌≤◌, true, None, Some, length, IfOk, OnOk};
+ghost use Rattle.geo_stream.specs.Refusals.{IsForFault, IfFault};
+ghost use Rattle.geo_stream.specs.declared.refusal.Refusal.TheVariants.{Fault, NoMemory};
 ghost use Rattle.deck_text.specs.Lines.{lines_of};
 ghost use Rattle.deck_text.specs.Rules.{broken_rule};
 ghost use Rattle.deck_text.specs.Decks.{AreAccepted, has_output, said, saids_from, IsFirstFault, IsDeck};
@@ -23,7 +25,7 @@ use crate::said::Said;
 use crate::statement::Statement;
 use crate::text::Text;
 use crate::writing::deck_of;
-use geo_stream::NoMemory;
+use geo_stream::Refusal;
 use std::alloc::Global;
 
 /// The names that the command gives.
@@ -34,12 +36,12 @@ struct Names<'a> {
 }
 
 // The refusal of a line for an operand that isn't defined.
-fn unknown(alloc: Global, line: usize, name: &str) -> DeckBad
-    ensures { (result ≡ DeckBad.Unknown line name.now) ⊎ (result ≡ DeckBad.NoMemory) }
+fn unknown(alloc: Global, line: usize, name: &str) -> Refusal<DeckBad>
+    ensures { IsForFault (λ bad. bad ≡ DeckBad.Unknown line name.now) result }
 {
     match Text::new(alloc, name) {
-        Ok(name) => DeckBad::Unknown(line, name),
-        Err(_refused) => DeckBad::NoMemory,
+        Ok(name) => Refusal::Fault(DeckBad::Unknown(line, name)),
+        Err(_refused) => Refusal::NoMemory,
     }
 }
 
@@ -51,19 +53,20 @@ fn accepted<'a>(
     index: &Index<'a>,
     line: usize,
     says: Statement<'a>,
-) -> Result<Said<'a>, DeckBad>
+) -> Result<Said<'a>, Refusal<DeckBad>>
     requires { IsIndexOf (said_views before.now) index.now }
     ensures room { OnOk result (HasRoom index.now (statement_view says.entry)) }
     ensures new { OnOk result (HasNewName index.now (statement_view says.entry)) }
     ensures said { IfOk result (λ own. said_view own ≡ said line (statement_view says.entry)) }
     ensures ok { IfOk result (λ own. broken_rule names.entry.layout.now names.entry.deck.now (said_views before.now) line (statement_view says.entry) ≡ None) }
-    ensures refused { IfErr result (λ bad. bad ≢ DeckBad.NoMemory → broken_rule names.entry.layout.now names.entry.deck.now (said_views before.now) line (statement_view says.entry) ≡ Some bad) }
+    ensures refused { IfFault result (λ bad. broken_rule names.entry.layout.now names.entry.deck.now (said_views before.now) line (statement_view says.entry)
+        ≡ Some bad) }
 {
     if is_misplaced(before, &says) {
-        return Err(DeckBad::Order(line));
+        return Err(Refusal::Fault(DeckBad::Order(line)));
     }
     match repeated_line(before, index, &says) {
-        Some(earlier) => return Err(DeckBad::Twice(line, earlier)),
+        Some(earlier) => return Err(Refusal::Fault(DeckBad::Twice(line, earlier))),
         None => {}
     }
     match unknown_operand(index, &says) {
@@ -71,20 +74,20 @@ fn accepted<'a>(
         None => {}
     }
     if lacks_frame(before, &says) {
-        return Err(DeckBad::NoFrame(line));
+        return Err(Refusal::Fault(DeckBad::NoFrame(line)));
     }
     match out_of_range(&says) {
-        Some(value) => return Err(DeckBad::Range(line, value)),
+        Some(value) => return Err(Refusal::Fault(DeckBad::Range(line, value))),
         None => {}
     }
     if has_odd_sum(&says) {
-        return Err(DeckBad::Odd(line));
+        return Err(Refusal::Fault(DeckBad::Odd(line)));
     }
     if takes_name(names.layout, names.deck, index, &says) {
-        return Err(DeckBad::Names(line));
+        return Err(Refusal::Fault(DeckBad::Names(line)));
     }
     if is_too_many(index, &says) {
-        return Err(DeckBad::Many(line));
+        return Err(Refusal::Fault(DeckBad::Many(line)));
     }
     Ok(Said { line, says })
 }
@@ -97,14 +100,18 @@ struct Lines<'a> {
 }
 
 // The statements of all lines, or the first fault.
-fn statements<'a>(alloc: Global, bytes: &'a [u8], names: Names) -> Result<Lines<'a>, DeckBad>
+fn statements<'a>(
+    alloc: Global,
+    bytes: &'a [u8],
+    names: Names,
+) -> Result<Lines<'a>, Refusal<DeckBad>>
     requires { length bytes.now ≤ 65536 }
     ensures saids { IfOk result (λ lines. said_views lines.saids.items ≡ saids_from 1 (lines_of bytes.now)) }
     ensures index { IfOk result (λ lines. IsIndexOf (said_views lines.saids.items) lines.index) }
     ensures accepted { OnOk result (AreAccepted names.entry.layout.now names.entry.deck.now (lines_of bytes.now) (length (lines_of bytes.now))) }
     ensures some { OnOk result (has_output (saids_from 1 (lines_of bytes.now)) ≡ true) }
     ensures begun { OnOk result (IsBegun (saids_from 1 (lines_of bytes.now))) }
-    ensures refused { IfErr result (λ bad. bad ≢ DeckBad.NoMemory → IsFirstFault bytes.now names.entry.layout.now names.entry.deck.now bad) }
+    ensures refused { IfFault result (IsFirstFault bytes.now names.entry.layout.now names.entry.deck.now) }
 {
     let mut saids = Vec::new(alloc);
     let mut index = Index::new(alloc);
@@ -115,39 +122,39 @@ fn statements<'a>(alloc: Global, bytes: &'a [u8], names: Names) -> Result<Lines<
         lines += 1;
         at = next;
         match reading(line) {
-            Err(column) => return Err(DeckBad::Line(lines, column)),
+            Err(column) => return Err(Refusal::Fault(DeckBad::Line(lines, column))),
             Ok(None) => {}
             Ok(Some(says)) => {
                 let said = accepted(alloc, names, saids.as_slice(), &index, lines, says)?;
-                match index.put(said) {
-                    Ok(()) => {}
-                    Err(NoMemory) => return Err(DeckBad::NoMemory),
-                }
+                index.put(said)?;
                 match saids.push(said) {
                     Ok(()) => {}
-                    Err(_refused) => return Err(DeckBad::NoMemory),
+                    Err(_refused) => return Err(Refusal::NoMemory),
                 }
             }
         }
     }
     if !has_output(saids.as_slice()) {
-        return Err(DeckBad::Order(lines + 1));
+        return Err(Refusal::Fault(DeckBad::Order(lines + 1)));
     }
     Ok(Lines { saids, index })
 }
 
 /// The deck that the bytes are, where the command gives these names of layout and deck. Bytes that are no deck are
 /// refused by their first fault. NoMemory may come in place of any answer where memory runs out.
-pub fn read_deck(alloc: Global, bytes: &[u8], layout: &str, deck: &str) -> Result<Deck, DeckBad>
+pub fn read_deck(
+    alloc: Global,
+    bytes: &[u8],
+    layout: &str,
+    deck: &str,
+) -> Result<Deck, Refusal<DeckBad>>
     requires { length bytes.now ≤ 65536 }
     ensures found { IfOk result (IsDeck bytes.now layout.now deck.now) }
-    ensures read { (d : Deck) → IsDeck bytes.now layout.now deck.now d → (result ≡ Ok d) ⊎ (result ≡ Err DeckBad.NoMemory) }
-    ensures first_fault { IfErr result (λ bad. bad ≢ DeckBad.NoMemory → IsFirstFault bytes.now layout.now deck.now bad) }
-    ensures every_fault { (bad : DeckBad) → IsFirstFault bytes.now layout.now deck.now bad → (result ≡ Err bad) ⊎ (result ≡ Err DeckBad.NoMemory) }
+    ensures read { (d : Deck) → IsDeck bytes.now layout.now deck.now d → (result ≡ Ok d) ⊎ (result ≡ Err NoMemory) }
+    ensures first_fault { IfFault result (IsFirstFault bytes.now layout.now deck.now) }
+    ensures every_fault { (bad : DeckBad) → IsFirstFault bytes.now layout.now deck.now bad → (result ≡ Err (Fault bad)) ⊎ (result ≡ Err NoMemory) }
 {
     let lines = statements(alloc, bytes, Names { layout, deck })?;
-    match deck_of(alloc, lines.saids.as_slice(), &lines.index) {
-        Ok(deck) => Ok(deck),
-        Err(_refused) => Err(DeckBad::NoMemory),
-    }
+    let deck = deck_of(alloc, lines.saids.as_slice(), &lines.index)?;
+    Ok(deck)
 }

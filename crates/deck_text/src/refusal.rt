@@ -1,8 +1,8 @@
 //! Why bytes are no deck.
 use crate::text::Text;
 
-/// The first fault of bytes that are no deck: the first line that is refused, counted from 1, and the first rule that it
-/// breaks, in this order.
+/// The first fault of bytes that are no deck: the first line that is refused, counted from 1, and the first rule that
+/// it breaks, in this order.
 #[derive(Debug, Drop)]
 pub enum DeckBad {
     /// The line has no form of the table. The column, from 1, is that of the first token or other byte that doesn't
@@ -25,6 +25,4 @@ pub enum DeckBad {
     Names(usize),
     /// The 257th definition or the 65th output.
     Many(usize),
-    /// Memory ran out.
-    NoMemory,
 }

@@ -2,7 +2,11 @@
 ghost use Rattle.std.specs.Prelude.{◌≡◌, None, List as Items, [], ◌∷◌, false, not, find, pos, ◌+ℤ◌};
 ghost use Rattle.half_grid.specs.Halves.{is_even};
 ghost use Rattle.deck_text.specs.Statements.{LimitsAre, FrameIs, Sets, Said as ASaid};
-ghost use Rattle.deck_text.specs.Rules.{is_setting, is_output, is_unit, is_top, is_band, is_limits, is_frame, any_before, is_misplaced, sets_again, repeated_line, is_defined, unknown_operand, inverts, lacks_frame, out_of_range, has_odd_sum, takes_name, is_too_many, bounds_of_setting, bounds_of_operation, first_outside, bound, is_outside, narrow, operands_of_operation};
+ghost use Rattle.deck_text.specs.Rules.{is_setting, is_output, is_unit, is_top, is_band, is_limits, is_frame};
+ghost use Rattle.deck_text.specs.Rules.{any_before, is_misplaced, sets_again, repeated_line, is_defined};
+ghost use Rattle.deck_text.specs.Rules.{unknown_operand, inverts, lacks_frame, out_of_range, has_odd_sum, takes_name};
+ghost use Rattle.deck_text.specs.Rules.{is_too_many, bounds_of_setting, bounds_of_operation, first_outside, bound};
+ghost use Rattle.deck_text.specs.Rules.{is_outside, narrow, operands_of_operation};
 ghost use Rattle.deck_text.specs.Indexes.{IsIndexOf, HasRoom};
 ghost use Rattle.deck_text.specs.Views.{statement_view, setting_view, operation_view, Gives};
 ghost use Rattle.deck_text.specs.SaidViews.{said_views};
@@ -243,7 +247,8 @@ fn unknown_name<'a>(index: &Index, name: &'a str) -> Option<&'a str>
 
 // The first operand that isn't defined.
 fn unknown_in<'a>(index: &Index, operation: &Operation<'a>) -> Option<&'a str>
-    ensures { (saids : Items ASaid) → IsIndexOf saids index.now → Gives (λ x. x.now) result (find (λ x. not (is_defined saids x)) (operands_of_operation (operation_view operation.now))) }
+    ensures { (saids : Items ASaid) → IsIndexOf saids index.now → Gives (λ x. x.now) result
+        (find (λ x. not (is_defined saids x)) (operands_of_operation (operation_view operation.now))) }
 {
     match operation {
         Operation::Layer(_, _) => None,

@@ -50,7 +50,8 @@ fn run_end(line: &[u8], at: usize) -> usize
 pub(crate) fn next_piece(line: &[u8], at: usize) -> Option<Span>
     requires { at ≤ length line.now }
     ensures none { IfNone result (pieces_at line.now at ≡ []) }
-    ensures some { IfSome result (λ span. pieces_at line.now at ≡ piece (span.start + 1) (take (span.end - span.start) (drop span.start line.now)) ∷ pieces_at line.now span.end) }
+    ensures some { IfSome result (λ span. pieces_at line.now at
+        ≡ piece (span.start + 1) (take (span.end - span.start) (drop span.start line.now)) ∷ pieces_at line.now span.end) }
     ensures within { IfSome result (λ span. (span.start < span.end) × (span.end ≤ length line.now)) }
 {
     let start = after_blanks(line, at);

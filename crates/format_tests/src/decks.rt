@@ -1,11 +1,12 @@
 // Decks of each form, and decks with one or two faults.
 use deck_text::{Deck, DeckBad, Step, Text, read_deck};
+use geo_stream::Refusal;
 use half_grid::{Frame, Limits};
 use layout_model::Pair;
 use std::alloc::Global;
 use std::test::Fail;
 
-// A refusal with the name that it keeps lent.
+// A fault with the name that it keeps lent.
 #[derive(Clone, Copy, Debug, PartialEq, Eq)]
 enum Told<'a> {
     Line(usize, usize),
@@ -17,7 +18,6 @@ enum Told<'a> {
     Odd(usize),
     Names(usize),
     Many(usize),
-    NoMemory,
 }
 
 fn lent(bad: &DeckBad) -> Told<'_> {
@@ -31,12 +31,11 @@ fn lent(bad: &DeckBad) -> Told<'_> {
         DeckBad::Odd(line) => Told::Odd(*line),
         DeckBad::Names(line) => Told::Names(*line),
         DeckBad::Many(line) => Told::Many(*line),
-        DeckBad::NoMemory => Told::NoMemory,
     }
 }
 
 // The deck of at most 65,536 bytes, with `G.gds` as the layout and `K` as the deck.
-fn read(alloc: Global, bytes: &[u8]) -> Option<Result<Deck, DeckBad>> {
+fn read(alloc: Global, bytes: &[u8]) -> Option<Result<Deck, Refusal<DeckBad>>> {
     if 65536 < bytes.len() {
         return None;
     }
@@ -114,10 +113,13 @@ const ALONE: [(&[u8], Told<'static>); 16] = [
     (b"frame 0 0 1 1073741825", Told::Range(1, 1073741825)),
 ];
 
-// The refusal of the bytes.
+// The fault for which the bytes are refused.
 fn refusal(alloc: Global, bytes: &[u8]) -> Result<DeckBad, Fail> {
-    let bad = read(alloc, bytes).ok_or("long")?.err().ok_or("accepted")?;
-    Ok(bad)
+    match read(alloc, bytes).ok_or("long")? {
+        Ok(_) => Err(Fail::from("accepted")),
+        Err(Refusal::Fault(bad)) => Ok(bad),
+        Err(Refusal::NoMemory) => Err(Fail::from("memory")),
+    }
 }
 
 #[test]

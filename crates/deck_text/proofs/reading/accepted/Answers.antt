@@ -3,36 +3,36 @@ use Rattle.std.proofs.lemmas.Int.{to_z-of_z}
 use Rattle.deck_text.specs.SaidViews.{said_views}
 use Rattle.deck_text.specs.Views.{statement_view}
 use Rattle.deck_text.proofs.IndexLemmas.{new_name}
-use Rattle.deck_text.proofs.RuleLemmas.{by_order, by_twice, by_unknown, by_frame, by_range, by_odd, by_names, by_many, by_none, by_memory}
+use Rattle.deck_text.proofs.RuleLemmas.{by_order, by_twice, by_unknown, by_frame, by_range, by_odd, by_names, by_many, by_none, by_refusal}
 use Rattle.deck_text.proofs.reading.accepted.Goals as goal
 
 pub returns-then-is_misplaced-clause-refused : goal.returns-then-is_misplaced-clause-refused
-returns-then-is_misplaced-clause-refused c = λ other. by_order c.args.names.layout.now c.args.names.deck.now
+returns-then-is_misplaced-clause-refused c = by_order c.args.names.layout.now c.args.names.deck.now
     (said_views c.args.before.now) c.args.line (statement_view c.args.says)
     (sym c.is_misplaced.ensures ∙ c.if-is_misplaced.true)
 
 pub returns-in-Some-clause-refused : goal.returns-in-Some-clause-refused
-returns-in-Some-clause-refused c = λ other. by_twice c.args.names.layout.now c.args.names.deck.now
+returns-in-Some-clause-refused c = by_twice c.args.names.layout.now c.args.names.deck.now
     (said_views c.args.before.now) c.args.line (statement_view c.args.says) c.in-Some.earlier
     (sym c.is_misplaced.ensures ∙ c.if-is_misplaced.false) (sym c.repeated_line.ensures ∙ c.in-Some.is)
 
 pub returns-in-Some-unknown_operand-clause-refused : goal.returns-in-Some-unknown_operand-clause-refused
-returns-in-Some-unknown_operand-clause-refused c = λ other.
-    by_memory _ _ c.unknown.result
+returns-in-Some-unknown_operand-clause-refused c =
+    by_refusal _ _ c.unknown.result
     (by_unknown c.args.names.layout.now c.args.names.deck.now (said_views c.args.before.now) c.args.line
     (statement_view c.args.says) c.in-Some-unknown_operand.name.now
     (sym c.is_misplaced.ensures ∙ c.if-is_misplaced.false) (sym c.repeated_line.ensures ∙ c.in-None.is)
-    (c.in-Some-unknown_operand.ensures (said_views c.args.before.now) c.requires)) c.unknown.ensures other
+    (c.in-Some-unknown_operand.ensures (said_views c.args.before.now) c.requires)) c.unknown.ensures
 
 pub returns-then-lacks_frame-clause-refused : goal.returns-then-lacks_frame-clause-refused
-returns-then-lacks_frame-clause-refused c = λ other. by_frame c.args.names.layout.now c.args.names.deck.now
+returns-then-lacks_frame-clause-refused c = by_frame c.args.names.layout.now c.args.names.deck.now
     (said_views c.args.before.now) c.args.line (statement_view c.args.says)
     (sym c.is_misplaced.ensures ∙ c.if-is_misplaced.false) (sym c.repeated_line.ensures ∙ c.in-None.is)
     (c.in-None-unknown_operand.ensures (said_views c.args.before.now) c.requires)
     (sym c.lacks_frame.ensures ∙ c.if-lacks_frame.true)
 
 pub returns-in-Some-out_of_range-clause-refused : goal.returns-in-Some-out_of_range-clause-refused
-returns-in-Some-out_of_range-clause-refused c = λ other.
+returns-in-Some-out_of_range-clause-refused c =
     let fits : FitsSigned w64 c.in-Some-out_of_range.value = search rules in
     simp to_z-of_z (by_range c.args.names.layout.now c.args.names.deck.now (said_views c.args.before.now) c.args.line
     (statement_view c.args.says) c.in-Some-out_of_range.value
@@ -41,7 +41,7 @@ returns-in-Some-out_of_range-clause-refused c = λ other.
     (sym c.lacks_frame.ensures ∙ c.if-lacks_frame.false) (sym c.out_of_range.ensures ∙ c.in-Some-out_of_range.is))
 
 pub returns-then-has_odd_sum-clause-refused : goal.returns-then-has_odd_sum-clause-refused
-returns-then-has_odd_sum-clause-refused c = λ other. by_odd c.args.names.layout.now c.args.names.deck.now
+returns-then-has_odd_sum-clause-refused c = by_odd c.args.names.layout.now c.args.names.deck.now
     (said_views c.args.before.now) c.args.line (statement_view c.args.says)
     (sym c.is_misplaced.ensures ∙ c.if-is_misplaced.false) (sym c.repeated_line.ensures ∙ c.in-None.is)
     (c.in-None-unknown_operand.ensures (said_views c.args.before.now) c.requires)
@@ -49,7 +49,7 @@ returns-then-has_odd_sum-clause-refused c = λ other. by_odd c.args.names.layout
     (sym c.has_odd_sum.ensures ∙ c.if-has_odd_sum.true)
 
 pub returns-then-takes_name-clause-refused : goal.returns-then-takes_name-clause-refused
-returns-then-takes_name-clause-refused c = λ other. by_names c.args.names.layout.now c.args.names.deck.now
+returns-then-takes_name-clause-refused c = by_names c.args.names.layout.now c.args.names.deck.now
     (said_views c.args.before.now) c.args.line (statement_view c.args.says)
     (sym c.is_misplaced.ensures ∙ c.if-is_misplaced.false) (sym c.repeated_line.ensures ∙ c.in-None.is)
     (c.in-None-unknown_operand.ensures (said_views c.args.before.now) c.requires)
@@ -58,7 +58,7 @@ returns-then-takes_name-clause-refused c = λ other. by_names c.args.names.layou
     (sym (c.takes_name.ensures (said_views c.args.before.now) c.requires) ∙ c.if-takes_name.true)
 
 pub returns-then-is_too_many-clause-refused : goal.returns-then-is_too_many-clause-refused
-returns-then-is_too_many-clause-refused c = λ other. by_many c.args.names.layout.now c.args.names.deck.now
+returns-then-is_too_many-clause-refused c = by_many c.args.names.layout.now c.args.names.deck.now
     (said_views c.args.before.now) c.args.line (statement_view c.args.says)
     (sym c.is_misplaced.ensures ∙ c.if-is_misplaced.false) (sym c.repeated_line.ensures ∙ c.in-None.is)
     (c.in-None-unknown_operand.ensures (said_views c.args.before.now) c.requires)

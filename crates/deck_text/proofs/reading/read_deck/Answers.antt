@@ -32,18 +32,18 @@ deck_of-requires-clause-top c =
     let given = c.in_ok-lines.ensures.begun (outputs_begin (saids_from 1 (lines_of c.args.bytes.now)) c.in_ok-lines.ensures.some) in
     rw (c.as_slice.ensures.value, c.in_ok-lines.ensures.saids) given.1
 
-found : (c : goal.After-drop-lines-in-Ok-2) → IsDeck c.args.bytes.now c.args.layout.now c.args.deck.now c.in-Ok.deck
+found : (c : goal.After-drop-lines-4) → IsDeck c.args.bytes.now c.args.layout.now c.args.deck.now c.in_ok-deck.deck
 found c = record {
   accepted = c.in_ok-lines.ensures.accepted;
   some = c.in_ok-lines.ensures.some;
-  says = rw (c.as_slice.ensures.value, c.in_ok-lines.ensures.saids) at c.in-Ok.ensures;
+  says = rw (c.as_slice.ensures.value, c.in_ok-lines.ensures.saids) at c.in_ok-deck.ensures;
 }
 
-pub returns-in-Ok-clause-found : goal.returns-in-Ok-clause-found
-returns-in-Ok-clause-found c = found c
+pub returns-clause-found : goal.returns-clause-found
+returns-clause-found c = found c
 
-pub returns-in-Ok-clause-read : goal.returns-in-Ok-clause-read
-returns-in-Ok-clause-read c = λ d h. inl (ap (λ (e : Deck). Ok e) (one_deck c.args.bytes.now c.args.layout.now c.args.deck.now c.in-Ok.deck d (found c) h))
+pub returns-clause-read : goal.returns-clause-read
+returns-clause-read c = λ d h. inl (ap (λ (e : Deck). Ok e) (one_deck c.args.bytes.now c.args.layout.now c.args.deck.now c.in_ok-deck.deck d (found c) h))
 
-pub returns-in-Ok-clause-every_fault : goal.returns-in-Ok-clause-every_fault
-returns-in-Ok-clause-every_fault c = λ bad f. absurd (never_both c.args.bytes.now c.args.layout.now c.args.deck.now c.in-Ok.deck bad (found c) f)
+pub returns-clause-every_fault : goal.returns-clause-every_fault
+returns-clause-every_fault c = λ bad f. absurd (never_both c.args.bytes.now c.args.layout.now c.args.deck.now c.in_ok-deck.deck bad (found c) f)
