@@ -4,13 +4,15 @@ use Rattle.std.proofs.Common.{slice_get, All, refl, ap, sym, subst, ◌∙◌, a
 use Rattle.std.specs.List.{AllByRecursion}
 use Rattle.std.proofs.lemmas.Option.{none-some}
 use Rattle.std.proofs.lemmas.List.Elements.{recursion_from_All, All-from_recursion}
+use Rattle.std.proofs.lemmas.List.Sums.{sum_by_more, sum_by-cons}
+use Rattle.std.specs.List.{sum_by}
 use Rattle.half_grid.specs.Trapezoids.{Trapezoid, CoversExactly}
 use Rattle.half_grid.specs.Winding.{IsInPolygon}
 use Rattle.layout_model.specs.declared.shapes.Shape.{Shape}
 use Rattle.layout_model.specs.declared.cells.Cell.{Cell}
 use Rattle.cell_tree.specs.Cells.{shapes_at}
 use Rattle.cell_tree.specs.Chains.{IsReachable}
-use Rattle.flat_walk.specs.Tables.{lists_at, HaveNoPieces, with_pieces, HasShape, IsKept, AreKept, IsCut}
+use Rattle.flat_walk.specs.Tables.{lists_at, HaveNoPieces, with_pieces, HasShape, IsKept, AreKept, IsCut, count_within}
 use Rattle.flat_walk.proofs.AllThings.{each_both}
 
 set_length : {X : Type 0} (xs : List X) (n : ℕ) (x : X) → length (set xs n x) ≡ length xs
@@ -233,3 +235,18 @@ kept_more table new all kept = All-from_recursion (All IsKept) _
 
 pub nothing_yet_kept : AreKept []
 nothing_yet_kept = λ k d inside. absurd (omega arith)
+
+-- ---- how many there are
+
+-- one more item is counted
+pub counted_more : {X : Type 0} (f : X → ℕ) (xs : List X) (k count more : ℕ) (x : X) → k < length xs → get_or xs k x ≡ x
+    → count ≡ count_within (sum_by f (take k xs)) → more ≡ count_within (f x)
+    → count_within (count + more) ≡ count_within (sum_by f (take (k + 1) xs))
+counted_more f xs k count more x inside is so here =
+    let s = sum_by_more f xs k x inside in let e = ap f is in omega arith
+
+-- a sum over images
+pub sum_over : {X Y : Type 0} (f : Y → ℕ) (h : X → Y) (xs : List X) → sum_by f (map h xs) ≡ sum_by (λ x. f (h x)) xs
+sum_over f h [] = refl
+sum_over f h (x ∷ xs) =
+    sum_by-cons f (h x) (map h xs) ∙ ap (λ n. f (h x) + n) (sum_over f h xs) ∙ sym (sum_by-cons (λ y. f (h y)) x xs)

@@ -1,7 +1,8 @@
 -- The pieces of a layout's shapes: trapezoids that cover a shape's tiles, each once. They are kept by the number of the
 -- cell and the number of the shape in it. A shape for which none were put has none. A cell that isn't reachable may have no
 -- lists.
-use Rattle.std.specs.Prelude.{◌≡◌, ◌<◌, ◌^◌, ℕ, List, [], Some, map, length, get_or, set, slice_get, All}
+use Rattle.std.specs.Prelude.{◌≡◌, ◌<◌, ◌-◌, ◌^◌, ℕ, min, List, [], Some, map, length, get_or, set, slice_get, All}
+use Rattle.std.specs.List.{sum_by}
 use Rattle.half_grid.specs.Trapezoids.{Trapezoid, IsShot, CoversExactly}
 use Rattle.half_grid.specs.Winding.{IsInPolygon}
 use Rattle.layout_model.specs.declared.pair.Pair.{Pair}
@@ -35,6 +36,14 @@ pub record IsKept (pieces : List Trapezoid) : Type 0 where
 
 abbrev pub AreKept : List (List (List Trapezoid)) → Type 0
 AreKept table = All (All IsKept) table
+
+-- a number as it is counted: 2^64 - 1 is that many or more
+abbrev pub count_within : ℕ → ℕ
+count_within n = min n (2 ^ 64 - 1)
+
+-- how many pieces the shapes of all cells have
+abbrev pub piece_count : List (List (List Trapezoid)) → ℕ
+piece_count table = count_within (sum_by (sum_by length) table)
 
 -- the shape has pieces, and they cover exactly its tiles, each once
 pub record IsCut (table : List (List (List Trapezoid))) (n k : ℕ) (shape : Shape) : Type 0 where

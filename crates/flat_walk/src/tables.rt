@@ -1,8 +1,9 @@
 //! The pieces of each shape.
 ghost use Rattle.std.specs.Prelude.{◌≡◌, ◌<◌, All, IfOk, OnOk, OnErr, map, [], length};
+ghost use Rattle.std.specs.List.{sum_by};
 ghost use Rattle.cell_tree.specs.Cells.{shapes_at};
 ghost use Rattle.cell_tree.specs.Chains.{IsReachable};
-ghost use Rattle.flat_walk.specs.Tables.{HaveNoPieces, with_pieces, HasShape, IsKept, AreKept, lists_at};
+ghost use Rattle.flat_walk.specs.Tables.{HaveNoPieces, with_pieces, HasShape, IsKept, AreKept, lists_at, count_within, piece_count};
 
 use cell_tree::Tree;
 use geo_stream::NoMemory;
@@ -17,7 +18,6 @@ use std::marker::Model;
 pub struct Parts {
     alloc: Global,
     cells: Vec<Vec<Pieces>>,
-    count: u64,
 }
 
 impl Model for Parts {
@@ -146,11 +146,7 @@ impl Parts {
         ensures { IfOk result (HaveNoPieces tree.now.layout.cells tree.now.top) }
     {
         let cells = nothing_yet(alloc, tree)?;
-        Ok(Parts {
-            alloc,
-            cells,
-            count: 0,
-        })
+        Ok(Parts { alloc, cells })
     }
 
     /// Keeps the pieces of a shape, in place of those that were put earlier. The shape is one of a cell that isn't bare, by
@@ -163,13 +159,14 @@ impl Parts {
         let pieces = Pieces::of(self.alloc, traps)?;
         let lists = &mut self.cells[cell];
         lists[shape] = pieces;
-        self.count = self.count.saturating_add(traps.len() as u64);
         Ok(())
     }
 
-    /// How many pieces were put, with those that others replaced. It is for speed alone: nothing is promised of it.
-    pub fn count(&self) -> u64 {
-        self.count
+    /// How many pieces there are, or 2^64 - 1 where there are more. It looks at each shape once.
+    pub fn count(&self) -> u64
+        ensures { result ≡ piece_count self.now }
+    {
+        pieces_in(self.cells.as_slice())
     }
 
     // The pieces of the shapes of a cell.
@@ -185,6 +182,28 @@ impl Parts {
     {
         let _count = self.cells.len();
     }
+}
+
+// How many pieces these shapes have, or 2^64 - 1 where they have more.
+fn pieces_of(lists: &[Pieces]) -> u64
+    ensures { result ≡ count_within (sum_by length lists.now) }
+{
+    let mut count = 0u64;
+    for pieces in lists {
+        count = count.saturating_add(pieces.as_slice().len() as u64);
+    }
+    count
+}
+
+// How many pieces the shapes of all cells have, or 2^64 - 1 where they have more.
+fn pieces_in(table: &[Vec<Pieces>]) -> u64
+    ensures { result ≡ piece_count (map (λ lists. lists.items) table.now) }
+{
+    let mut count = 0u64;
+    for lists in table {
+        count = count.saturating_add(pieces_of(lists.as_slice()));
+    }
+    count
 }
 
 fn lists_of(table: &[Vec<Pieces>], cell: usize) -> &[Pieces]
