@@ -1,5 +1,6 @@
 //! Files by their records, and the first fault of bytes that hold no layout.
 use gds_reader::{GdsBad, read_gds};
+use geo_stream::Refusal;
 use half_grid::Point;
 use layout_model::{Counts, Layout, Orient, Pair};
 use std::alloc::Global;
@@ -146,8 +147,17 @@ fn file_of(alloc: Global, records: &[&[u8]]) -> Result<Vec<u8>, Fail> {
     Ok(bytes)
 }
 
+// The fault of these bytes, or none where they hold a layout.
+fn refusal_of(alloc: Global, bytes: &[u8], unit: u32) -> Result<Option<GdsBad>, Fail> {
+    match read_gds(alloc, bytes, unit, &WANTED) {
+        Ok(_) => Ok(None),
+        Err(Refusal::Fault(bad)) => Ok(Some(bad)),
+        Err(Refusal::NoMemory) => Err(Fail::new("memory ran out")),
+    }
+}
+
 fn refusal(alloc: Global, records: &[&[u8]]) -> Result<Option<GdsBad>, Fail> {
-    Ok(read_gds(alloc, &file_of(alloc, records)?, 1000, &WANTED).err())
+    refusal_of(alloc, &file_of(alloc, records)?, 1000)
 }
 
 fn layout_of(alloc: Global, records: &[&[u8]]) -> Result<Layout, Fail> {
@@ -326,34 +336,30 @@ fn refuses_values(rt: HostRuntime) -> Result<(), Fail> {
     Ok(())
 }
 
-fn refusal_of(alloc: Global, bytes: &[u8], unit: u32) -> Option<GdsBad> {
-    read_gds(alloc, bytes, unit, &WANTED).err()
-}
-
 #[test]
 fn refuses_files(rt: HostRuntime) -> Result<(), Fail> {
-    assert_eq!(rt; refusal_of(rt.alloc(), &[], 1000), Some(GdsBad::Short(0)));
+    assert_eq!(rt; refusal_of(rt.alloc(), &[], 1000)?, Some(GdsBad::Short(0)));
     assert_eq!(rt;
-        refusal_of(rt.alloc(), b"\x00\x03\x00\x02", 1000),
+        refusal_of(rt.alloc(), b"\x00\x03\x00\x02", 1000)?,
         Some(GdsBad::Length(0))
     );
     assert_eq!(rt;
-        refusal_of(rt.alloc(), b"\x00\x06\x00\x03\x00\x00", 1000),
+        refusal_of(rt.alloc(), b"\x00\x06\x00\x03\x00\x00", 1000)?,
         Some(GdsBad::Kind(0))
     );
     assert_eq!(rt;
-        refusal_of(rt.alloc(), b"\x00\x04\x00\x02", 1000),
+        refusal_of(rt.alloc(), b"\x00\x04\x00\x02", 1000)?,
         Some(GdsBad::Size(0))
     );
     let mut bytes = file_of(rt.alloc(), &[])?;
-    assert_eq!(rt; refusal_of(rt.alloc(), &bytes, 1000), None);
+    assert_eq!(rt; refusal_of(rt.alloc(), &bytes, 1000)?, None);
     assert_eq!(rt;
-        refusal_of(rt.alloc(), &bytes, 2000),
+        refusal_of(rt.alloc(), &bytes, 2000)?,
         Some(GdsBad::Unit(0x3944B82FA09B5A54))
     );
     bytes.extend_from_slice(&[0, 0, 1])?;
     assert_eq!(rt;
-        refusal_of(rt.alloc(), &bytes, 1000),
+        refusal_of(rt.alloc(), &bytes, 1000)?,
         Some(GdsBad::Tail(106))
     );
     let begin =
@@ -591,7 +597,7 @@ fn wrong_exchange_with(
         };
         let (mut bytes, at) = exchanged(alloc, entries, (first, second), asked)?;
         bytes.extend_from_slice(&TAIL)?;
-        if refusal_of(alloc, &bytes, 1000) != Some(GdsBad::Order(at)) {
+        if refusal_of(alloc, &bytes, 1000)? != Some(GdsBad::Order(at)) {
             return Ok(Some(first));
         }
     }
@@ -602,7 +608,7 @@ fn wrong_exchange_with(
 fn keeps_its_order(alloc: Global, entries: &[Entry]) -> Result<bool, Fail> {
     let (mut bytes, _) = exchanged(alloc, entries, (0, 0), 0)?;
     bytes.extend_from_slice(&TAIL)?;
-    if refusal_of(alloc, &bytes, 1000).is_some() {
+    if refusal_of(alloc, &bytes, 1000)?.is_some() {
         return Ok(false);
     }
     for second in 1..entries.len() {
@@ -635,7 +641,7 @@ fn takes_exchanges_with(alloc: Global, second: usize) -> Result<bool, Fail> {
     for first in 1..second {
         let (mut bytes, _) = exchanged(alloc, &TEXTS, (first, second), 0)?;
         bytes.extend_from_slice(&TAIL)?;
-        if refusal_of(alloc, &bytes, 1000).is_some() {
+        if refusal_of(alloc, &bytes, 1000)?.is_some() {
             return Ok(false);
         }
     }
@@ -654,7 +660,7 @@ fn takes_texts_in_any_order(rt: HostRuntime) -> Result<(), Fail> {
     for own in 1..BEHIND_TEXT {
         let (bytes, at) = exchanged(rt.alloc(), &TEXTS, (0, own), 0)?;
         assert_eq!(rt;
-            refusal_of(rt.alloc(), &bytes, 1000),
+            refusal_of(rt.alloc(), &bytes, 1000)?,
             Some(GdsBad::Order(at))
         );
     }
@@ -710,7 +716,7 @@ fn refusal_of_library(alloc: Global, record: &[u8]) -> Result<Option<GdsBad>, Fa
     bytes.extend_from_slice(record)?;
     bytes.extend_from_slice(&HEAD[40..])?;
     bytes.extend_from_slice(&TAIL)?;
-    Ok(read_gds(alloc, &bytes, 1000, &WANTED).err())
+    refusal_of(alloc, &bytes, 1000)
 }
 
 const ENDSTR: &[u8] = b"\x00\x04\x07\x00";
@@ -757,10 +763,10 @@ fn judges_libraries_and_long_names(rt: HostRuntime) -> Result<(), Fail> {
     // zeros after ENDLIB, then a one among them
     let mut bytes = file_of(rt.alloc(), &[])?;
     bytes.extend_from_slice(&[0; 7])?;
-    assert_eq!(rt; refusal_of(rt.alloc(), &bytes, 1000), None);
+    assert_eq!(rt; refusal_of(rt.alloc(), &bytes, 1000)?, None);
     bytes.extend_from_slice(&[1, 0])?;
     assert_eq!(rt;
-        refusal_of(rt.alloc(), &bytes, 1000),
+        refusal_of(rt.alloc(), &bytes, 1000)?,
         Some(GdsBad::Tail(111))
     );
     // names of 1,024 bytes, without NULs after and with, and of 1,025

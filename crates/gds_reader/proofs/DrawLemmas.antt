@@ -18,13 +18,11 @@ use Rattle.layout_model.specs.declared.paths.PathBad.{PathBad}
 use Rattle.layout_model.specs.declared.paths.PathBad.TheVariants as paths
 use Rattle.layout_model.specs.declared.pair.Pair.{Pair}
 use Rattle.layout_model.specs.declared.shapes.Shape.{Shape}
-use Rattle.gds_reader.specs.declared.drawing.Undrawn.{Undrawn}
-use Rattle.gds_reader.specs.declared.drawing.Undrawn.TheVariants as undrawn
-use Rattle.gds_reader.specs.declared.refusing.GdsBad.{GdsBad}
-use Rattle.gds_reader.specs.declared.refusing.GdsBad.TheVariants as bads
-use Rattle.gds_reader.specs.Brushes.{undrawn_by}
+use Rattle.geo_stream.specs.Refusals.{IsForFault}
+use Rattle.geo_stream.specs.declared.refusal.Refusal.TheVariants.{NoMemory}
+use Rattle.gds_reader.specs.Brushes.{refusal_by}
 use Rattle.gds_reader.specs.Meaning.{origin, path_shapes_of}
-use Rattle.gds_reader.specs.Refused.{IsRefusedBy, BreaksNone}
+use Rattle.gds_reader.specs.Refused.{IsRefusedBy}
 use Rattle.gds_reader.specs.Values.{KeepsBoundary, KeepsPath, IsLowest}
 use Rattle.gds_reader.proofs.GridLemmas.{origin_offsets}
 
@@ -63,23 +61,12 @@ no_rule_hidden points rule least most closed none low =
     front_on_grid points none (length (edges_of points)) (omega arith) (λ all.
     low.broken (record { count = λ e. (least, most); closed = λ e. closed; edges = λ e j d lt. all j d (omega arith) lt }))
 
-pub refused_by : (K : ℕ → Type 0) (at : ℕ) (u : Undrawn) (bad : GdsBad) → ((rule : ℕ) → u ≡ undrawn.Rule rule → bad ≡ bads.Value at rule)
-    → (u ≡ undrawn.NoMemory → bad ≡ bads.NoMemory) → ((rule : ℕ) → u ≡ undrawn.Rule rule → IsLowest K rule) → IsRefusedBy K at bad
-refused_by K at (undrawn.Rule rule) bad told wanting low = inr (rule, told rule refl, low rule refl)
-refused_by K at undrawn.NoMemory bad told wanting low = inl (wanting refl)
-
--- want of memory is told of one that is wanting alone
-pub wanting_alone : (K : ℕ → Type 0) (at : ℕ) (u : Undrawn) (bad : GdsBad) → ((rule : ℕ) → u ≡ undrawn.Rule rule → bad ≡ bads.Value at rule)
-    → (u ≡ undrawn.NoMemory → BreaksNone K) → bad ≡ bads.NoMemory → BreaksNone K
-wanting_alone K at (undrawn.Rule rule) bad told none e = absurd (let value : bads.Value at rule ≡ bads.NoMemory = sym (told rule refl) ∙ e in cc)
-wanting_alone K at undrawn.NoMemory bad told none e = none refl
-
-pub wanting_path : (bad : PathBad) → undrawn_by bad ≡ undrawn.NoMemory → bad ≡ paths.NoMemory
-wanting_path paths.NoMemory e = refl
-wanting_path paths.NoLength e = absurd (cc)
-wanting_path (paths.Diagonal k) e = absurd (cc)
-wanting_path (paths.TurnBack k) e = absurd (cc)
-wanting_path paths.EmptyEnd e = absurd (cc)
+pub wanting_path : (bad : PathBad) (at : ℕ) → refusal_by bad at ≡ NoMemory → bad ≡ paths.NoMemory
+wanting_path paths.NoMemory at e = refl
+wanting_path paths.NoLength at e = absurd (cc)
+wanting_path (paths.Diagonal k) at e = absurd (cc)
+wanting_path (paths.TurnBack k) at e = absurd (cc)
+wanting_path paths.EmptyEnd at e = absurd (cc)
 
 -- the shapes of a path, whether it has a width or not
 pub path_items : (pair : Pair) (fixed : Bool) (half begin end : ℤ) (points : List Point) (items : List Shape) (offsets : List Point)
@@ -119,19 +106,17 @@ path_grid pair fixed half begin end points items is outlines =
           grid_of (get_or items k d) (outlines k d lt) offsets
     ] is
 
-path_lowest : (half begin end : ℤ) (points : List Point) (rule : ℕ) → half ≢ pos 0 → ¬ IsDrawable points half begin end
-    → undrawn.Rule 14 ≡ undrawn.Rule rule → IsLowest (KeepsPath half begin end points) rule
-path_lowest half begin end points rule wide none e =
-    let same : 14 ≡ rule = cc in
-    record {
-      broken = λ kept. none (kept (sym same) wide);
-      lower = λ other less eq. absurd (omega arith);
-    }
+path_lowest : (half begin end : ℤ) (points : List Point) → half ≢ pos 0 → ¬ IsDrawable points half begin end → IsLowest (KeepsPath half begin end points) 14
+path_lowest half begin end points wide none = record {
+  broken = λ kept. none (kept refl wide);
+  lower = λ other less eq. absurd (omega arith);
+}
 
-pub path_broken : (half begin end : ℤ) (points : List Point) (bad : PathBad) (rule : ℕ) → undrawn_by bad ≡ undrawn.Rule rule
-    → half ≢ pos 0 → (bad ≢ paths.NoMemory → ¬ IsDrawable points half begin end) → IsLowest (KeepsPath half begin end points) rule
-path_broken half begin end points paths.NoMemory rule e wide none = absurd (cc)
-path_broken half begin end points paths.NoLength rule e wide none = path_lowest half begin end points rule wide (none (λ x. absurd (cc))) e
-path_broken half begin end points (paths.Diagonal k) rule e wide none = path_lowest half begin end points rule wide (none (λ x. absurd (cc))) e
-path_broken half begin end points (paths.TurnBack k) rule e wide none = path_lowest half begin end points rule wide (none (λ x. absurd (cc))) e
-path_broken half begin end points paths.EmptyEnd rule e wide none = path_lowest half begin end points rule wide (none (λ x. absurd (cc))) e
+-- a path with a width is refused for its rule where it can't be drawn
+pub path_broken : (half begin end : ℤ) (points : List Point) (bad : PathBad) (at : ℕ) → half ≢ pos 0
+    → (bad ≢ paths.NoMemory → ¬ IsDrawable points half begin end) → IsForFault (IsRefusedBy (KeepsPath half begin end points) at) (refusal_by bad at)
+path_broken half begin end points paths.NoMemory at wide none = tt
+path_broken half begin end points paths.NoLength at wide none = (14, refl, path_lowest half begin end points wide (none (λ x. absurd (cc))))
+path_broken half begin end points (paths.Diagonal k) at wide none = (14, refl, path_lowest half begin end points wide (none (λ x. absurd (cc))))
+path_broken half begin end points (paths.TurnBack k) at wide none = (14, refl, path_lowest half begin end points wide (none (λ x. absurd (cc))))
+path_broken half begin end points paths.EmptyEnd at wide none = (14, refl, path_lowest half begin end points wide (none (λ x. absurd (cc))))

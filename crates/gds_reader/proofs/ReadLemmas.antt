@@ -1,12 +1,15 @@
 -- From what the reader keeps to what bytes hold.
 use Rattle.std.proofs.Common.{◌≡◌, ℕ, ◌*◌, ◌^◌, ◌<◌, ◌≤◌, List, [], ◌∷◌, ◌++◌, map, reverse, length, Option, Some, None}
 use Rattle.std.proofs.Common.{Result, Ok, Err, refl, sym, ap, subst, ◌∙◌, ◌⊎◌, inl, inr, arith}
-use Rattle.std.specs.Prelude.{◌≢◌, IsSome, IfOk, IfErr, All, slice_index}
+use Rattle.std.specs.Prelude.{◌≢◌, IsSome, IfOk, All, slice_index}
 use Rattle.std.proofs.lemmas.List.{reverse-reverse}
 use Rattle.layout_model.specs.declared.pair.Pair.{Pair}
 use Rattle.layout_model.specs.declared.cells.Layout.{Layout}
 use Rattle.layout_model.specs.declared.cells.Cell.{Cell}
 use Rattle.layout_model.specs.Layouts.{IsLayoutOnGrid, IsCellOnGrid, AreDistinct}
+use Rattle.geo_stream.specs.Refusals.{IsForFault, IfFault}
+use Rattle.geo_stream.specs.declared.refusal.Refusal.{Refusal}
+use Rattle.geo_stream.specs.declared.refusal.Refusal.TheVariants.{Fault, NoMemory}
 use Rattle.gds_record.specs.Faults.{IsFaultAt}
 use Rattle.gds_record.specs.Framing.{IsRecordAt}
 use Rattle.gds_record.specs.Runs.{IsRun, NoneEnds, IsClosed, IsRecordsOf}
@@ -18,7 +21,7 @@ use Rattle.gds_reader.specs.declared.order.Place.{Place}
 use Rattle.gds_reader.specs.declared.order.Place.TheVariants as places
 use Rattle.gds_reader.specs.declared.reading.Reader.{Reader}
 use Rattle.gds_reader.specs.declared.refusing.GdsBad.{GdsBad}
-use Rattle.gds_reader.specs.declared.refusing.GdsBad.TheVariants.{Short, Length, Kind, Size, Order, Value, Tail, Unit, Twice, NoMemory}
+use Rattle.gds_reader.specs.declared.refusing.GdsBad.TheVariants.{Tail, Twice}
 use Rattle.gds_reader.specs.Grammar.{IsBeginning}
 use Rattle.layout_model.specs.Pairs.{AreSamePairs}
 use Rattle.layout_model.specs.Counting.{AreAtMost}
@@ -122,15 +125,16 @@ framing_first bytes unit wanted sorted at reader fault bad s same is bad_is = re
   fault = inl (fault, is, bad_is);
 }
 
-pub refused_first : (bytes : List ℕ) (unit : ℕ) (wanted sorted : List Pair) (at : ℕ) (reader : Reader) (r : Record) (bad : GdsBad)
+pub refused_first : (bytes : List ℕ) (unit : ℕ) (wanted sorted : List Pair) (at : ℕ) (reader : Reader) (r : Record) (refusal : Refusal GdsBad)
     → (s : IsStanding bytes unit sorted at reader) → AreSamePairs wanted sorted → IsRecordAt bytes at r
-    → IsRefused bytes unit wanted s.past r at bad → IsFirstFault bytes unit wanted bad
-refused_first bytes unit wanted sorted at reader r bad s same stands refused = record {
+    → IsForFault (IsRefused bytes unit wanted s.past r at) refusal → IsForFault (IsFirstFault bytes unit wanted) refusal
+refused_first bytes unit wanted sorted at reader r (Fault bad) s same stands refused = record {
   past = s.past;
   at = at;
   read = read_up_to bytes unit wanted sorted at reader s same;
   fault = refused_fault bytes unit wanted s.past at r reader.place bad (s.reader_is wanted same).place stands refused;
 }
+refused_first bytes unit wanted sorted at reader r NoMemory s same stands refused = tt
 
 -- a record that stands is held
 pub held : (bytes : List ℕ) (at : ℕ) (r : Record) → ((i : ℕ) → slice_index bytes i < 256) → IsRecordAt bytes at r → IsHeld bytes r
@@ -247,7 +251,7 @@ ended_tail bytes unit wanted sorted at tail reader bad s same behind within nonz
 
 -- ---- answers
 
-pub ended_ok : (bytes : List ℕ) (unit : ℕ) (wanted sorted : List Pair) (at : ℕ) (reader : Reader) (result : Result Layout GdsBad)
+pub ended_ok : (bytes : List ℕ) (unit : ℕ) (wanted sorted : List Pair) (at : ℕ) (reader : Reader) (result : Result Layout (Refusal GdsBad))
     → IsEnded bytes unit sorted at reader → AreSamePairs wanted sorted
     → IfOk result (λ layout. layout.cells ≡ reader.cells) → IfOk result (λ layout. layout.counts ≡ reader.counts)
     → IfOk result (λ _. (k : ℕ) → at ≤ k → k < length bytes → slice_index bytes k ≡ 0)
@@ -256,7 +260,7 @@ ended_ok bytes unit wanted sorted at reader (Err bad) s same cells counts blank 
 ended_ok bytes unit wanted sorted at reader (Ok layout) s same cells counts blank =
     ended_layout bytes unit wanted sorted at reader layout s same blank cells counts
 
-pub ended_grid : (bytes : List ℕ) (unit : ℕ) (sorted : List Pair) (at : ℕ) (reader : Reader) (result : Result Layout GdsBad)
+pub ended_grid : (bytes : List ℕ) (unit : ℕ) (sorted : List Pair) (at : ℕ) (reader : Reader) (result : Result Layout (Refusal GdsBad))
     → IsEnded bytes unit sorted at reader → IfOk result (λ layout. layout.cells ≡ reader.cells) → IfOk result IsLayoutOnGrid
 ended_grid bytes unit sorted at reader (Err bad) s cells = tt
 ended_grid bytes unit sorted at reader (Ok layout) s cells =
@@ -268,39 +272,25 @@ ended_grid bytes unit sorted at reader (Ok layout) s cells =
           (names_distinct bytes unit sorted (s.r ∷ s.past) (s.allowed sorted same));
     }
 
-pub ended_bad : (bytes : List ℕ) (unit : ℕ) (wanted sorted : List Pair) (at : ℕ) (reader : Reader) (result : Result Layout GdsBad)
-    → IsEnded bytes unit sorted at reader → AreSamePairs wanted sorted → IfErr result (IsTail bytes at)
-    → IfErr result (λ bad. bad ≢ NoMemory → IsFirstFault bytes unit wanted bad)
+pub ended_bad : (bytes : List ℕ) (unit : ℕ) (wanted sorted : List Pair) (at : ℕ) (reader : Reader) (result : Result Layout (Refusal GdsBad))
+    → IsEnded bytes unit sorted at reader → AreSamePairs wanted sorted → IfFault result (IsTail bytes at)
+    → IfFault result (IsFirstFault bytes unit wanted)
 ended_bad bytes unit wanted sorted at reader (Ok layout) s same tail = tt
-ended_bad bytes unit wanted sorted at reader (Err bad) s same t = λ more.
+ended_bad bytes unit wanted sorted at reader (Err (Fault bad)) s same t =
     ended_tail bytes unit wanted sorted at t.0 reader bad s same t.2 t.3 t.4 t.5 t.1
+ended_bad bytes unit wanted sorted at reader (Err NoMemory) s same tail = tt
 
-memory_or_not : (bad : GdsBad) → (bad ≡ NoMemory) ⊎ (bad ≢ NoMemory)
-memory_or_not (Short at) = inr (λ e. absurd (cc))
-memory_or_not (Length at) = inr (λ e. absurd (cc))
-memory_or_not (Kind at) = inr (λ e. absurd (cc))
-memory_or_not (Size at) = inr (λ e. absurd (cc))
-memory_or_not (Order at) = inr (λ e. absurd (cc))
-memory_or_not (Value at rule) = inr (λ e. absurd (cc))
-memory_or_not (Tail at) = inr (λ e. absurd (cc))
-memory_or_not (Unit bits) = inr (λ e. absurd (cc))
-memory_or_not (Twice first second) = inr (λ e. absurd (cc))
-memory_or_not NoMemory = inl refl
-
-pub every_layout : (bytes : List ℕ) (unit : ℕ) (wanted : List Pair) (result : Result Layout GdsBad)
-    → IfOk result (λ layout. IsLayoutOf bytes unit wanted layout) → IfErr result (λ bad. bad ≢ NoMemory → IsFirstFault bytes unit wanted bad)
+pub every_layout : (bytes : List ℕ) (unit : ℕ) (wanted : List Pair) (result : Result Layout (Refusal GdsBad))
+    → IfOk result (λ layout. IsLayoutOf bytes unit wanted layout) → IfFault result (IsFirstFault bytes unit wanted)
     → (layout : Layout) → IsLayoutOf bytes unit wanted layout → (result ≡ Ok layout) ⊎ (result ≡ Err NoMemory)
 every_layout bytes unit wanted (Ok one) found fault layout is = inl (ap Ok (one_layout bytes unit wanted one layout found is))
-every_layout bytes unit wanted (Err bad) found fault layout is = elim (memory_or_not bad) [
-  | inl memory ↦ inr (ap Err memory)
-  | inr more ↦ absurd (no_layout_with_fault bytes unit wanted layout bad is (fault more))
-]
+every_layout bytes unit wanted (Err (Fault bad)) found fault layout is = absurd (no_layout_with_fault bytes unit wanted layout bad is fault)
+every_layout bytes unit wanted (Err NoMemory) found fault layout is = inr refl
 
-pub every_first_fault : (bytes : List ℕ) (unit : ℕ) (wanted : List Pair) (result : Result Layout GdsBad)
-    → IfOk result (λ layout. IsLayoutOf bytes unit wanted layout) → IfErr result (λ bad. bad ≢ NoMemory → IsFirstFault bytes unit wanted bad)
-    → (bad : GdsBad) → IsFirstFault bytes unit wanted bad → (result ≡ Err bad) ⊎ (result ≡ Err NoMemory)
+pub every_first_fault : (bytes : List ℕ) (unit : ℕ) (wanted : List Pair) (result : Result Layout (Refusal GdsBad))
+    → IfOk result (λ layout. IsLayoutOf bytes unit wanted layout) → IfFault result (IsFirstFault bytes unit wanted)
+    → (bad : GdsBad) → IsFirstFault bytes unit wanted bad → (result ≡ Err (Fault bad)) ⊎ (result ≡ Err NoMemory)
 every_first_fault bytes unit wanted (Ok layout) found fault bad is = absurd (no_layout_with_fault bytes unit wanted layout bad found is)
-every_first_fault bytes unit wanted (Err one) found fault bad is = elim (memory_or_not one) [
-  | inl memory ↦ inr (ap Err memory)
-  | inr more ↦ inl (ap Err (one_fault bytes unit wanted one bad (fault more) is))
-]
+every_first_fault bytes unit wanted (Err (Fault one)) found fault bad is =
+    inl (ap (λ one. Err (Fault one)) (one_fault bytes unit wanted one bad fault is))
+every_first_fault bytes unit wanted (Err NoMemory) found fault bad is = inr refl

@@ -1,7 +1,10 @@
 -- What taking a record into the open structure does.
 use Rattle.std.proofs.Common.{◌≡◌, ℕ, Bool, true, false, cond, List, [], ◌∷◌, ◌++◌, Option, Some, None, Result, Ok, Err}
 use Rattle.std.proofs.Common.{refl, sym, ap, subst, ◌∙◌, ◌⊎◌, inl, inr}
-use Rattle.std.specs.Prelude.{All, OnOk, IfErr, IfSome, IsSome, ◌≢◌}
+use Rattle.std.specs.Prelude.{All, OnOk, IfSome, IsSome, ◌≢◌}
+use Rattle.geo_stream.specs.Refusals.{IfFault}
+use Rattle.geo_stream.specs.declared.refusal.Refusal.{Refusal}
+use Rattle.geo_stream.specs.declared.refusal.Refusal.TheVariants.{Fault, NoMemory}
 use Rattle.layout_model.specs.Layouts.{IsShapeOnGrid, IsPlacementOnGrid}
 use Rattle.layout_model.specs.Names.{IsName}
 use Rattle.layout_model.specs.declared.pair.Pair.{Pair}
@@ -26,7 +29,7 @@ use Rattle.gds_reader.proofs.BridgeLemmas.{shapes_of_xy, placements_of_xy, keeps
 use Rattle.gds_reader.proofs.KindLemmas.{same_kind_is, same_kind_refl}
 
 pub taken_structure : {T : Type 0} (bytes : List ℕ) (wanted : List Pair) (past : List Record) (r : Record) (e : Element) (drawn : Option Bool)
-    (result : Result T GdsBad) (old new : Structure) → r.kind ≡ Xy → IsElementOf bytes past e → drawn ≡ wanted_at bytes wanted past r
+    (result : Result T (Refusal GdsBad)) (old new : Structure) → r.kind ≡ Xy → IsElementOf bytes past e → drawn ≡ wanted_at bytes wanted past r
     → IsStructureOf bytes wanted past old → new.named ≡ old.named
     → OnOk result (new.shapes ≡ old.shapes ++ shapes_by drawn e (points_in bytes r))
     → OnOk result (new.placements ≡ old.placements ++ placements_kept e.kind bytes e (points_in bytes r))
@@ -53,18 +56,18 @@ taken_structure bytes wanted past r e drawn (Ok x) old new kind f d s named shap
 }
 
 pub taken_keeps : {T : Type 0} (bytes : List ℕ) (wanted : List Pair) (past : List Record) (r : Record) (e : Element) (drawn : Option Bool)
-    (result : Result T GdsBad) → r.kind ≡ Xy → IsElementOf bytes past e → drawn ≡ wanted_at bytes wanted past r
+    (result : Result T (Refusal GdsBad)) → r.kind ≡ Xy → IsElementOf bytes past e → drawn ≡ wanted_at bytes wanted past r
     → OnOk result ((rule : ℕ) → KeepsBy drawn e (points_in bytes r) rule) → OnOk result (r.kind ≡ Xy → KeepsRules bytes wanted past r)
 taken_keeps bytes wanted past r e drawn (Err bad) kind f d kept = tt
 taken_keeps bytes wanted past r e drawn (Ok x) kind f d kept = λ again rule. keeps_of_xy bytes wanted past r e drawn rule kind f d (kept rule)
 
 pub taken_refused : {T : Type 0} (bytes : List ℕ) (wanted : List Pair) (past : List Record) (r : Record) (e : Element) (drawn : Option Bool)
-    (result : Result T GdsBad) (at : ℕ) → r.kind ≡ Xy → IsElementOf bytes past e → drawn ≡ wanted_at bytes wanted past r
-    → IfErr result (IsRefusedBy (KeepsBy drawn e (points_in bytes r)) at) → IfErr result (IsRefusedBy (Keeps bytes wanted past r) at)
+    (result : Result T (Refusal GdsBad)) (at : ℕ) → r.kind ≡ Xy → IsElementOf bytes past e → drawn ≡ wanted_at bytes wanted past r
+    → IfFault result (IsRefusedBy (KeepsBy drawn e (points_in bytes r)) at) → IfFault result (IsRefusedBy (Keeps bytes wanted past r) at)
 taken_refused bytes wanted past r e drawn (Ok x) at kind f d refused = tt
-taken_refused bytes wanted past r e drawn (Err bad) at kind f d (inl memory) = inl memory
-taken_refused bytes wanted past r e drawn (Err bad) at kind f d (inr (rule, is, low)) =
-    inr (rule, is, lowest_of_xy bytes wanted past r e drawn rule kind f d low)
+taken_refused bytes wanted past r e drawn (Err (Fault bad)) at kind f d (rule, is, low) =
+    (rule, is, lowest_of_xy bytes wanted past r e drawn rule kind f d low)
+taken_refused bytes wanted past r e drawn (Err NoMemory) at kind f d refused = tt
 
 -- the record may follow
 pub some_next : (behind : Option Place) (place following : Place) (r : Record) → behind ≡ Some place → next_place place r.kind ≡ Some following

@@ -3,11 +3,13 @@ use Rattle.layout_model.specs.PathBounds.{IsNear}
 use Rattle.gds_reader.specs.declared.drawing.Brush.{Brush}
 use Rattle.layout_model.specs.declared.paths.PathBad.{PathBad}
 use Rattle.layout_model.specs.declared.paths.PathBad.TheVariants as paths
-use Rattle.gds_reader.specs.declared.drawing.Undrawn.{Undrawn}
-use Rattle.gds_reader.specs.declared.drawing.Undrawn.TheVariants as undrawn
+use Rattle.geo_stream.specs.declared.refusal.Refusal.{Refusal}
+use Rattle.geo_stream.specs.declared.refusal.Refusal.TheVariants as refusals
+use Rattle.gds_reader.specs.declared.refusing.GdsBad.{GdsBad}
+use Rattle.gds_reader.specs.declared.refusing.GdsBad.TheVariants.{Value}
 use Rattle.gds_reader.specs.declared.elements.Element.{Element}
 use Rattle.gds_reader.specs.Elements.{half_width_kept, begin_kept, end_kept}
-use Rattle.std.specs.Prelude.{pos, ◌≤ℤ◌}
+use Rattle.std.specs.Prelude.{ℕ, pos, ◌≤ℤ◌}
 
 abbrev pub brush_kept : Element → Brush
 brush_kept e = record { half = half_width_kept e; begin = begin_kept e; end = end_kept e }
@@ -18,10 +20,10 @@ pub record IsNearBrush (brush : Brush) : Type 0 where
   pub begin : IsNear brush.begin
   pub end : IsNear brush.end
 
--- a path that can't be drawn breaks its rule
-abbrev pub undrawn_by : PathBad → Undrawn
-undrawn_by paths.NoMemory = undrawn.NoMemory
-undrawn_by paths.NoLength = undrawn.Rule 14
-undrawn_by (paths.Diagonal k) = undrawn.Rule 14
-undrawn_by (paths.TurnBack k) = undrawn.Rule 14
-undrawn_by paths.EmptyEnd = undrawn.Rule 14
+-- a path that can't be drawn breaks its rule, at this offset
+abbrev pub refusal_by : PathBad → ℕ → Refusal GdsBad
+refusal_by paths.NoMemory at = refusals.NoMemory
+refusal_by paths.NoLength at = refusals.Fault (Value at 14)
+refusal_by (paths.Diagonal k) at = refusals.Fault (Value at 14)
+refusal_by (paths.TurnBack k) at = refusals.Fault (Value at 14)
+refusal_by paths.EmptyEnd at = refusals.Fault (Value at 14)

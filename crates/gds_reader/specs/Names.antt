@@ -1,5 +1,5 @@
 -- The table of the structures' names, as the program keeps it.
-use Rattle.std.specs.Prelude.{◌≡◌, ◌⊎◌, ◌-◌, ℕ, nat_eq, Bool, if◌then◌else◌, List, [], ◌∷◌, Option, Some, None}
+use Rattle.std.specs.Prelude.{◌≡◌, ◌-◌, ℕ, nat_eq, Bool, if◌then◌else◌, List, [], ◌∷◌, Option, Some, None}
 use Rattle.std.specs.Cmp.Lexicographic.{pointwise}
 use Rattle.indexmap.specs.IndexMap.{get_by}
 use Rattle.gds_record.specs.declared.kinds.Kind.TheVariants.{StrName}
@@ -28,8 +28,7 @@ place_in names name = get_by (λ key. same_name name key.now) names.places
 abbrev pub AreNamesOf : List ℕ → List Record → Names → Type 0
 AreNamesOf bytes past names = (name : List ℕ) → place_in names name ≡ place_of bytes name past
 
--- want of memory, or the record is a STRNAME whose name stands before
+-- the record is a STRNAME whose name stands before
 abbrev pub IsTwice : List ℕ → List Record → Record → ℕ → GdsBad → Type 0
 IsTwice bytes past r at bad =
-    (bad ≡ faults.NoMemory)
-    ⊎ ((r.kind ≡ StrName) × (first : ℕ) × (place_of bytes (name_in bytes r) past ≡ Some first) × (bad ≡ faults.Twice first at))
+    (r.kind ≡ StrName) × (first : ℕ) × (place_of bytes (name_in bytes r) past ≡ Some first) × (bad ≡ faults.Twice first at)

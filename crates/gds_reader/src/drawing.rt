@@ -1,20 +1,21 @@
 //! The shapes of boundaries and paths.
-ghost use Rattle.std.specs.Prelude.{◌≡◌, ◌≤◌, ◌↔◌, ◌++◌, ℕ, pos, ◌≤ℤ◌, unsigned_abs, true, [], ◌∷◌, length, All, IsTrue, OnOk, IfOk, IfErr, Err};
+ghost use Rattle.std.specs.Prelude.{◌≡◌, ◌≤◌, ◌↔◌, ◌++◌, ℕ, pos, ◌≤ℤ◌, unsigned_abs, true, [], ◌∷◌, length};
+ghost use Rattle.std.specs.Prelude.{All, IsTrue, OnOk, IfOk, Err};
+ghost use Rattle.geo_stream.specs.Refusals.{IfFault};
+ghost use Rattle.geo_stream.specs.declared.refusal.Refusal.TheVariants.{NoMemory as Wanting};
 ghost use Rattle.half_grid.specs.Outlines.{IsClosed};
 ghost use Rattle.layout_model.specs.Layouts.{IsShapeOnGrid};
-ghost use Rattle.gds_reader.specs.Brushes.{brush_kept, undrawn_by, IsNearBrush};
+ghost use Rattle.gds_reader.specs.Brushes.{brush_kept, refusal_by, IsNearBrush};
 ghost use Rattle.layout_model.specs.PathBounds.{IsNear};
-ghost use Rattle.gds_reader.specs.declared.drawing.Undrawn.TheVariants.{Rule, NoMemory as Wanting};
-ghost use Rattle.gds_reader.specs.declared.refusing.GdsBad.TheVariants as bads;
 ghost use Rattle.gds_reader.specs.Elements.{IsFilePoint, KeepsPathOf, KeepsOf, path_kept, shapes_kept};
 ghost use Rattle.gds_reader.specs.Meaning.{boundary_shape, path_shapes_of, is_drawn};
 ghost use Rattle.gds_reader.specs.Refused.{IsRefusedBy, BreaksNone};
-ghost use Rattle.gds_reader.specs.Values.{KeepsBoundary, KeepsPath, IsLowest, extension};
+ghost use Rattle.gds_reader.specs.Values.{KeepsBoundary, KeepsPath, extension};
 
 use crate::elements::Element;
 use crate::refusing::GdsBad;
 use gds_record::Kind;
-use geo_stream::NoMemory;
+use geo_stream::{NoMemory, Refusal};
 use half_grid::Point;
 use layout_model::{KeptShape, Offsets, Pair, PathBad, ShapeBad, Shapes, path_shapes};
 use std::alloc::Global;
@@ -24,22 +25,6 @@ pub(crate) const ORIGIN: Point = Point { x: 0, y: 0 };
 
 /// A boundary has at least this many points.
 const LEAST: usize = 4;
-
-/// Why an element can't be drawn or placed.
-pub(crate) enum Undrawn {
-    /// It breaks this value rule.
-    Rule(u8),
-    /// Memory ran out.
-    NoMemory,
-}
-
-impl From<NoMemory> for Undrawn {
-    ghost from_gives = { λ _ bad. bad ≡ Wanting };
-
-    fn from(_wanting: NoMemory) -> Undrawn {
-        Undrawn::NoMemory
-    }
-}
 
 fn are_same(a: Point, b: Point) -> bool
     ensures { IsTrue result ↔ (a ≡ b) }
@@ -55,31 +40,32 @@ fn is_closed(points: &[Point]) -> bool
     are_same(points[0], points[points.len() - 1])
 }
 
-// The shape of a boundary.
+// The shape of a boundary whose XY is at this offset.
 fn shape_of_boundary(
     alloc: Global,
     element: &Element,
     points: &[Point],
-) -> Result<KeptShape, Undrawn>
+    at: usize,
+) -> Result<KeptShape, Refusal<GdsBad>>
     requires count { length points.now ≤ 8191 }
     requires points { All IsFilePoint points.now }
     ensures shape { IfOk result (λ shape. shape ≡ boundary_shape element.now.pair points.now) }
     ensures grid { IfOk result IsShapeOnGrid }
     ensures kept { IfOk result (λ _. (rule : ℕ) → KeepsBoundary points.now rule) }
-    ensures broken { (rule : ℕ) → result ≡ Err (Rule rule) → IsLowest (KeepsBoundary points.now) rule }
-    ensures memory { result ≡ Err Wanting → (rule : ℕ) → ¬ IsLowest (KeepsBoundary points.now) rule }
+    ensures broken { IfFault result (IsRefusedBy (KeepsBoundary points.now) at) }
+    ensures memory { result ≡ Err Wanting → BreaksNone (KeepsBoundary points.now) }
 {
     if points.len() < LEAST {
-        return Err(Undrawn::Rule(10));
+        return Err(Refusal::Fault(GdsBad::Value(at, 10)));
     }
     if !is_closed(points) {
-        return Err(Undrawn::Rule(11));
+        return Err(Refusal::Fault(GdsBad::Value(at, 11)));
     }
     let offsets = Offsets::list(alloc, &[ORIGIN])?;
     match KeptShape::new(alloc, element.pair, points, offsets) {
         Ok(shape) => Ok(shape),
-        Err(ShapeBad::Slant(_)) => Err(Undrawn::Rule(12)),
-        Err(ShapeBad::NoMemory) => Err(Undrawn::NoMemory),
+        Err(ShapeBad::Slant(_)) => Err(Refusal::Fault(GdsBad::Value(at, 12))),
+        Err(ShapeBad::NoMemory) => Err(Refusal::NoMemory),
     }
 }
 
@@ -125,49 +111,40 @@ impl Element {
     }
 }
 
-// Why a path isn't drawn: it breaks its rule, or memory is wanting.
-fn undrawn_path(bad: PathBad) -> Undrawn
-    ensures { result ≡ undrawn_by bad }
+// Why a path whose XY is at this offset isn't drawn: it breaks its rule, or memory ran out.
+fn path_refusal(bad: PathBad, at: usize) -> Refusal<GdsBad>
+    ensures { result ≡ refusal_by bad at }
 {
     match bad {
-        PathBad::NoMemory => Undrawn::NoMemory,
+        PathBad::NoMemory => Refusal::NoMemory,
         PathBad::NoLength | PathBad::Diagonal(_) | PathBad::TurnBack(_) | PathBad::EmptyEnd =>
-            Undrawn::Rule(14),
+            Refusal::Fault(GdsBad::Value(at, 14)),
     }
 }
 
-// The shapes of a path.
+// The shapes of a path whose XY is at this offset.
 fn shapes_of_path(
     alloc: Global,
     pair: Pair,
     points: &[Point],
     brush: Brush,
     fixed: bool,
-) -> Result<Vec<KeptShape>, Undrawn>
+    at: usize,
+) -> Result<Vec<KeptShape>, Refusal<GdsBad>>
     requires points { All IsFilePoint points.now }
     requires brush { IsNearBrush brush }
-    ensures shapes { IfOk result (λ shapes. shapes.items ≡ path_shapes_of pair fixed brush.half brush.begin brush.end points.now) }
+    ensures shapes { IfOk result (λ shapes. shapes.items
+        ≡ path_shapes_of pair fixed brush.half brush.begin brush.end points.now) }
     ensures grid { IfOk result (λ shapes. All IsShapeOnGrid shapes.items) }
     ensures kept { IfOk result (λ _. (rule : ℕ) → KeepsPath brush.half brush.begin brush.end points.now rule) }
-    ensures broken { (rule : ℕ) → result ≡ Err (Rule rule) → IsLowest (KeepsPath brush.half brush.begin brush.end points.now) rule }
+    ensures broken { IfFault result (IsRefusedBy (KeepsPath brush.half brush.begin brush.end points.now) at) }
     ensures memory { result ≡ Err Wanting → (rule : ℕ) → KeepsPath brush.half brush.begin brush.end points.now rule }
 {
     let Brush { half, begin, end } = brush;
     let offsets = Offsets::list(alloc, &[ORIGIN])?;
     match path_shapes(alloc, pair, points, half, begin, end, &offsets, fixed) {
         Ok(shapes) => Ok(shapes),
-        Err(bad) => Err(undrawn_path(bad)),
-    }
-}
-
-/// The value rule, or that memory ran out, at this offset.
-pub(crate) fn bad_at(undrawn: Undrawn, at: usize) -> GdsBad
-    ensures rule { (rule : ℕ) → undrawn ≡ Rule rule → result ≡ bads.Value at rule }
-    ensures memory { undrawn ≡ Wanting → result ≡ bads.NoMemory }
-{
-    match undrawn {
-        Undrawn::Rule(rule) => GdsBad::Value(at, rule),
-        Undrawn::NoMemory => GdsBad::NoMemory,
+        Err(bad) => Err(path_refusal(bad, at)),
     }
 }
 
@@ -186,22 +163,18 @@ fn draw_boundary(
     points: &[Point],
     at: usize,
     shapes: &mut Shapes,
-) -> Result<(), GdsBad>
+) -> Result<(), Refusal<GdsBad>>
     requires count { length points.now ≤ 8191 }
     requires points { All IsFilePoint points.now }
     ensures shapes { OnOk result (shapes.new ≡ shapes.old ++ boundary_shape element.now.pair points.now ∷ []) }
     ensures grid { All IsShapeOnGrid shapes.old → OnOk result (All IsShapeOnGrid shapes.new) }
     ensures kept { OnOk result ((rule : ℕ) → KeepsBoundary points.now rule) }
-    ensures broken { IfErr result (IsRefusedBy (KeepsBoundary points.now) at) }
-    ensures memory { result ≡ Err bads.NoMemory → BreaksNone (KeepsBoundary points.now) }
+    ensures broken { IfFault result (IsRefusedBy (KeepsBoundary points.now) at) }
+    ensures memory { result ≡ Err Wanting → BreaksNone (KeepsBoundary points.now) }
 {
-    match shape_of_boundary(alloc, element, points) {
-        Ok(shape) => {
-            shapes.push(shape)?;
-            Ok(())
-        }
-        Err(undrawn) => Err(bad_at(undrawn, at)),
-    }
+    let shape = shape_of_boundary(alloc, element, points, at)?;
+    shapes.push(shape)?;
+    Ok(())
 }
 
 fn draw_path(
@@ -210,21 +183,21 @@ fn draw_path(
     points: &[Point],
     at: usize,
     shapes: &mut Shapes,
-) -> Result<(), GdsBad>
+) -> Result<(), Refusal<GdsBad>>
     requires points { All IsFilePoint points.now }
     ensures shapes { OnOk result (shapes.new ≡ shapes.old ++ path_kept element.now points.now) }
     ensures grid { All IsShapeOnGrid shapes.old → OnOk result (All IsShapeOnGrid shapes.new) }
     ensures kept { OnOk result ((rule : ℕ) → KeepsPathOf element.now points.now rule) }
-    ensures broken { IfErr result (IsRefusedBy (KeepsPathOf element.now points.now) at) }
-    ensures memory { result ≡ Err bads.NoMemory → BreaksNone (KeepsPathOf element.now points.now) }
+    ensures broken { IfFault result (IsRefusedBy (KeepsPathOf element.now points.now) at) }
+    ensures memory { result ≡ Err Wanting → BreaksNone (KeepsPathOf element.now points.now) }
 {
     let fixed = element.width < 0;
-    match shapes_of_path(alloc, element.pair, points, element.brush(), fixed) {
+    match shapes_of_path(alloc, element.pair, points, element.brush(), fixed, at) {
         Ok(drawn) => {
             push_all(shapes, drawn)?;
             Ok(())
         }
-        Err(undrawn) => Err(bad_at(undrawn, at)),
+        Err(refusal) => Err(refusal),
     }
 }
 
@@ -237,14 +210,15 @@ pub(crate) fn draw(
     points: &[Point],
     at: usize,
     shapes: &mut Shapes,
-) -> Result<(), GdsBad>
+) -> Result<(), Refusal<GdsBad>>
     requires count { length points.now ≤ 8191 }
     requires points { All IsFilePoint points.now }
     ensures shapes { OnOk result (shapes.new ≡ shapes.old ++ shapes_kept element.now.kind element.now points.now) }
     ensures grid { All IsShapeOnGrid shapes.old → OnOk result (All IsShapeOnGrid shapes.new) }
-    ensures kept { is_drawn element.now.kind ≡ true → OnOk result ((rule : ℕ) → KeepsOf element.now.kind element.now points.now rule) }
-    ensures broken { IfErr result (IsRefusedBy (KeepsOf element.now.kind element.now points.now) at) }
-    ensures memory { result ≡ Err bads.NoMemory → BreaksNone (KeepsOf element.now.kind element.now points.now) }
+    ensures kept { is_drawn element.now.kind ≡ true
+        → OnOk result ((rule : ℕ) → KeepsOf element.now.kind element.now points.now rule) }
+    ensures broken { IfFault result (IsRefusedBy (KeepsOf element.now.kind element.now points.now) at) }
+    ensures memory { result ≡ Err Wanting → BreaksNone (KeepsOf element.now.kind element.now points.now) }
 {
     match element.kind {
         Some(Kind::Boundary) => draw_boundary(alloc, element, points, at, shapes),

@@ -97,8 +97,8 @@ impl Element {
     #[inline(always)]
     pub(crate) fn take(&mut self, bytes: &[u8], current: Record)
         requires { IsHeld bytes.now current }
-        ensures element { (past : List ARecord) (wanted : List APair) → IsElementOf bytes.now past self.old → KeepsRules bytes.now wanted past current
-            → IsElementOf bytes.now (current ∷ past) self.new }
+        ensures element { (past : List ARecord) (wanted : List APair) → IsElementOf bytes.now past self.old
+            → KeepsRules bytes.now wanted past current → IsElementOf bytes.now (current ∷ past) self.new }
         ensures orient { IsOrient self.old.orient → IsOrient self.new.orient }
     {
         let first = current.first;

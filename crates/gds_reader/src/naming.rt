@@ -1,17 +1,18 @@
 //! Names in records, and the table of the structures' names.
-ghost use Rattle.std.specs.Prelude.{◌≡◌, ◌+◌, ℕ, List, [], ◌∷◌, Some, None, if◌then◌else◌, OnOk, IfErr, Err};
+ghost use Rattle.std.specs.Prelude.{◌≡◌, ◌+◌, ℕ, List, [], ◌∷◌, Some, None, if◌then◌else◌, OnOk, Err};
+ghost use Rattle.geo_stream.specs.Refusals.{IfFault};
+ghost use Rattle.geo_stream.specs.declared.refusal.Refusal.TheVariants.{NoMemory as Wanting};
 ghost use Rattle.gds_record.specs.declared.kinds.Kind.TheVariants.{StrName};
 ghost use Rattle.gds_record.specs.declared.records.Record.{Record as ARecord};
 ghost use Rattle.gds_reader.specs.Elements.{IsHeld};
 ghost use Rattle.gds_reader.specs.Names.{same_name, place_of as the_place_of, place_in, AreNamesOf, IsTwice};
 ghost use Rattle.gds_reader.specs.Values.{name_in, without_nuls};
-ghost use Rattle.gds_reader.specs.declared.refusing.GdsBad.TheVariants as bads;
 ghost use Rattle.indexmap.specs.IndexMap.{hasher_of};
 ghost use Rattle.keyed_hash.specs.Keys.{hasher_after, start_of};
 
 use crate::refusing::GdsBad;
 use gds_record::{Kind, Record};
-use geo_stream::NoMemory;
+use geo_stream::{NoMemory, Refusal};
 use indexmap::IndexMap;
 use keyed_hash::KeyedState;
 use std::alloc::Global;
@@ -35,8 +36,8 @@ pub(crate) fn name_of(bytes: &[u8], current: Record) -> &[u8]
     trimmed(&bytes[current.first..current.next])
 }
 
-/// The names of the structures so far, each with the offset of its STRNAME. The table's hash depends on all bytes of the
-/// file.
+/// The names of the structures so far, each with the offset of its STRNAME. The table's hash depends on all bytes of
+/// the file.
 #[derive(Drop)]
 pub(crate) struct Names<'a> {
     places: IndexMap<&'a [u8], usize, KeyedState>,
@@ -55,7 +56,8 @@ impl<'a> Names<'a> {
 
     /// The offset of the STRNAME with this name, if there is one.
     pub(crate) fn place_of(&self, name: &[u8]) -> Option<usize>
-        ensures { (bytes : List ℕ) (past : List ARecord) → AreNamesOf bytes past self.now → result ≡ the_place_of bytes name.now past }
+        ensures { (bytes : List ℕ) (past : List ARecord) → AreNamesOf bytes past self.now
+            → result ≡ the_place_of bytes name.now past }
     {
         self.places.get(name).copied()
     }
@@ -63,7 +65,8 @@ impl<'a> Names<'a> {
     /// Adds a name that isn't there, whose STRNAME is at this offset.
     pub(crate) fn put(&mut self, name: &'a [u8], at: usize) -> Result<(), NoMemory>
         ensures ok { (bytes : List ℕ) (past : List ARecord) → AreNamesOf bytes past self.old
-            → OnOk result ((other : List ℕ) → place_in self.new other ≡ (if same_name name.now other then Some at else the_place_of bytes other past)) }
+            → OnOk result ((other : List ℕ) → place_in self.new other
+            ≡ (if same_name name.now other then Some at else the_place_of bytes other past)) }
     {
         match self.places.insert(name, at) {
             Ok(_) => Ok(()),
@@ -79,15 +82,16 @@ pub(crate) fn enter<'a>(
     bytes: &'a [u8],
     current: Record,
     at: usize,
-) -> Result<(), GdsBad>
+) -> Result<(), Refusal<GdsBad>>
     requires held { IsHeld bytes.now current }
     requires at { current.first ≡ at + 4 }
-    ensures names { (past : List ARecord) → AreNamesOf bytes.now past names.old → OnOk result (AreNamesOf bytes.now (current ∷ past) names.new) }
+    ensures names { (past : List ARecord) → AreNamesOf bytes.now past names.old
+        → OnOk result (AreNamesOf bytes.now (current ∷ past) names.new) }
     ensures new { (past : List ARecord) → AreNamesOf bytes.now past names.old → current.kind ≡ StrName
         → OnOk result (the_place_of bytes.now (name_in bytes.now current) past ≡ None) }
     ensures twice { (past : List ARecord) → AreNamesOf bytes.now past names.old
-        → IfErr result (IsTwice bytes.now past current at) }
-    ensures memory { (past : List ARecord) → AreNamesOf bytes.now past names.old → result ≡ Err bads.NoMemory
+        → IfFault result (IsTwice bytes.now past current at) }
+    ensures memory { (past : List ARecord) → AreNamesOf bytes.now past names.old → result ≡ Err Wanting
         → the_place_of bytes.now (name_in bytes.now current) past ≡ None }
 {
     if current.kind != Kind::StrName {
@@ -95,7 +99,7 @@ pub(crate) fn enter<'a>(
     }
     let name = name_of(bytes, current);
     if let Some(first) = names.place_of(name) {
-        return Err(GdsBad::Twice(first, at));
+        return Err(Refusal::Fault(GdsBad::Twice(first, at)));
     }
     names.put(name, at)?;
     Ok(())

@@ -1,6 +1,10 @@
 //! The order of records: what may follow at each place of a file.
 ghost use Rattle.std.specs.Prelude.{◌≡◌};
-ghost use Rattle.gds_reader.specs.Steps.{next_place, next_library_place, begun_place, classed_place, body_place, plex_place, flags_place, typed_place, placed_place, angle_place, magnified_place, transformed_place, xy_place, end_extension_place, begin_extension_place, width_place, path_type_place, property_place, property_value_place, text_place};
+ghost use Rattle.gds_reader.specs.Steps.{next_place, next_library_place, begun_place, classed_place, body_place};
+ghost use Rattle.gds_reader.specs.Steps.{plex_place, flags_place, typed_place, placed_place, angle_place};
+ghost use Rattle.gds_reader.specs.Steps.{magnified_place, transformed_place, xy_place, end_extension_place};
+ghost use Rattle.gds_reader.specs.Steps.{begin_extension_place, width_place, path_type_place, property_place};
+ghost use Rattle.gds_reader.specs.Steps.{property_value_place, text_place};
 
 use gds_record::Kind;
 

@@ -1,5 +1,8 @@
 //! The placements of references.
-ghost use Rattle.std.specs.Prelude.{◌≡◌, ◌≢◌, ◌≤◌, ◌⊎◌, ◌++◌, ◌^◌, ℕ, ℤ, pos, neg_ℤ, ◌-ℤ◌, if◌then◌else◌, Some, length, All, OnOk, IfOk, IfErr, IfSome, IfNone, Err};
+ghost use Rattle.std.specs.Prelude.{◌≡◌, ◌≢◌, ◌≤◌, ◌⊎◌, ◌++◌, ◌^◌, ℕ, ℤ, pos, neg_ℤ, ◌-ℤ◌, if◌then◌else◌};
+ghost use Rattle.std.specs.Prelude.{Some, length, All, OnOk, IfOk, IfSome, IfNone, Err};
+ghost use Rattle.geo_stream.specs.Refusals.{IfFault};
+ghost use Rattle.geo_stream.specs.declared.refusal.Refusal.TheVariants.{NoMemory as Wanting};
 ghost use Rattle.layout_model.specs.Grids.{IsGrid, grid_places};
 ghost use Rattle.layout_model.specs.Layouts.{AreOffsets, IsPlacementOnGrid};
 ghost use Rattle.layout_model.specs.Images.{IsOrient};
@@ -7,18 +10,16 @@ ghost use Rattle.layout_model.specs.Names.{IsName};
 ghost use Rattle.gds_record.specs.declared.kinds.Kind.TheVariants.{Sref, Aref};
 ghost use Rattle.gds_reader.specs.Elements.{IsHeld, IsFilePoint, KeepsOf, place_kept, placements_kept};
 ghost use Rattle.gds_reader.specs.Meaning.{first_of, step_of, array_places as the_places};
-ghost use Rattle.gds_reader.specs.declared.drawing.Undrawn.TheVariants.{Rule, NoMemory as Wanting};
 ghost use Rattle.gds_reader.specs.Refused.{IsRefusedBy, BreaksNone};
-ghost use Rattle.gds_reader.specs.declared.refusing.GdsBad.TheVariants as bads;
 ghost use Rattle.gds_reader.specs.Steppings.{IsNear, IsEvenPart, IsPartOf, IsStepping};
-ghost use Rattle.gds_reader.specs.Values.{Divides, KeepsAref, IsLowest, name_in};
+ghost use Rattle.gds_reader.specs.Values.{Divides, KeepsAref, name_in};
 
-use crate::drawing::{ORIGIN, Undrawn, bad_at};
+use crate::drawing::ORIGIN;
 use crate::elements::Element;
 use crate::naming::name_of;
 use crate::refusing::GdsBad;
 use gds_record::Kind;
-use geo_stream::{List, NoMemory};
+use geo_stream::{List, NoMemory, Refusal};
 use half_grid::Point;
 use layout_model::{Name, NameBad, Offsets, Placement};
 use std::alloc::Global;
@@ -138,25 +139,31 @@ fn spread(alloc: Global, columns: u16, rows: u16, steps: Steps) -> Result<Offset
     }
 }
 
-// The places of an array with these points.
-fn array_places(alloc: Global, element: &Element, points: &[Point]) -> Result<Offsets, Undrawn>
+// The places of an array with these points. `at` is the offset of its XY.
+fn array_places(
+    alloc: Global,
+    element: &Element,
+    points: &[Point],
+    at: usize,
+) -> Result<Offsets, Refusal<GdsBad>>
     requires { All IsFilePoint points.now }
     ensures places { IfOk result (λ offsets. offsets ≡ the_places element.now.columns element.now.rows points.now) }
     ensures grid { IfOk result AreOffsets }
     ensures three { IfOk result (λ _. length points.now ≡ 3) }
     ensures kept { IfOk result (λ _. (rule : ℕ) → KeepsAref element.now.columns element.now.rows points.now rule) }
-    ensures broken { (rule : ℕ) → result ≡ Err (Rule rule) → IsLowest (KeepsAref element.now.columns element.now.rows points.now) rule }
-    ensures memory { result ≡ Err Wanting → (rule : ℕ) → KeepsAref element.now.columns element.now.rows points.now rule }
+    ensures broken { IfFault result (IsRefusedBy (KeepsAref element.now.columns element.now.rows points.now) at) }
+    ensures memory { result ≡ Err Wanting → (rule : ℕ)
+        → KeepsAref element.now.columns element.now.rows points.now rule }
 {
     let [origin, right, up] = points else {
-        return Err(Undrawn::Rule(8));
+        return Err(Refusal::Fault(GdsBad::Value(at, 8)));
     };
     match array_steps(element.columns, element.rows, *origin, *right, *up) {
         Some(steps) => match spread(alloc, element.columns, element.rows, steps) {
             Ok(offsets) => Ok(offsets),
-            Err(_) => Err(Undrawn::NoMemory),
+            Err(_) => Err(Refusal::NoMemory),
         },
-        None => Err(Undrawn::Rule(9)),
+        None => Err(Refusal::Fault(GdsBad::Value(at, 9))),
     }
 }
 
@@ -174,7 +181,8 @@ fn put(
     requires orient { IsOrient element.now.orient }
     requires at { IsFilePoint at }
     requires offsets { AreOffsets offsets }
-    ensures put { OnOk result (placements.new ≡ placements.old ++ place_kept bytes.now element.now element.now.target at offsets) }
+    ensures put { OnOk result (placements.new
+        ≡ placements.old ++ place_kept bytes.now element.now element.now.target at offsets) }
     ensures grid { All IsPlacementOnGrid placements.old → OnOk result (All IsPlacementOnGrid placements.new) }
 {
     let Some(named) = element.target else {
@@ -202,29 +210,26 @@ fn place_array(
     points: &[Point],
     at: usize,
     placements: &mut List<Placement>,
-) -> Result<(), GdsBad>
+) -> Result<(), Refusal<GdsBad>>
     requires points { All IsFilePoint points.now }
     requires held { IfSome element.now.target (IsHeld bytes.now) }
     requires named { IfSome element.now.target (λ r. IsName (name_in bytes.now r)) }
     requires orient { IsOrient element.now.orient }
     ensures put { OnOk result (placements.new ≡ placements.old
-        ++ place_kept bytes.now element.now element.now.target (first_of points.now) (the_places element.now.columns element.now.rows points.now)) }
+        ++ place_kept bytes.now element.now element.now.target (first_of points.now)
+        (the_places element.now.columns element.now.rows points.now)) }
     ensures grid { All IsPlacementOnGrid placements.old → OnOk result (All IsPlacementOnGrid placements.new) }
     ensures kept { OnOk result ((rule : ℕ) → KeepsAref element.now.columns element.now.rows points.now rule) }
-    ensures broken { IfErr result (IsRefusedBy (KeepsAref element.now.columns element.now.rows points.now) at) }
-    ensures memory { result ≡ Err bads.NoMemory → BreaksNone (KeepsAref element.now.columns element.now.rows points.now) }
+    ensures broken { IfFault result (IsRefusedBy (KeepsAref element.now.columns element.now.rows points.now) at) }
+    ensures memory { result ≡ Err Wanting → BreaksNone (KeepsAref element.now.columns element.now.rows points.now) }
 {
-    match array_places(alloc, element, points) {
-        Ok(offsets) => {
-            put(alloc, bytes, element, points[0], offsets, placements)?;
-            Ok(())
-        }
-        Err(undrawn) => Err(bad_at(undrawn, at)),
-    }
+    let offsets = array_places(alloc, element, points, at)?;
+    put(alloc, bytes, element, points[0], offsets, placements)?;
+    Ok(())
 }
 
-/// Places the structure of a reference with these points. `at` is the offset of its XY. A rule that it breaks is reported even
-/// where memory runs out.
+/// Places the structure of a reference with these points. `at` is the offset of its XY. A rule that it breaks is
+/// reported even where memory runs out.
 pub(crate) fn place(
     alloc: Global,
     bytes: &[u8],
@@ -232,22 +237,23 @@ pub(crate) fn place(
     points: &[Point],
     at: usize,
     placements: &mut List<Placement>,
-) -> Result<(), GdsBad>
+) -> Result<(), Refusal<GdsBad>>
     requires points { All IsFilePoint points.now }
     requires held { IfSome element.now.target (IsHeld bytes.now) }
     requires named { IfSome element.now.target (λ r. IsName (name_in bytes.now r)) }
     requires orient { IsOrient element.now.orient }
     requires kind { (element.now.kind ≡ Some Sref) ⊎ (element.now.kind ≡ Some Aref) }
-    ensures put { OnOk result (placements.new ≡ placements.old ++ placements_kept element.now.kind bytes.now element.now points.now) }
+    ensures put { OnOk result (placements.new
+        ≡ placements.old ++ placements_kept element.now.kind bytes.now element.now points.now) }
     ensures grid { All IsPlacementOnGrid placements.old → OnOk result (All IsPlacementOnGrid placements.new) }
     ensures kept { OnOk result ((rule : ℕ) → KeepsOf element.now.kind element.now points.now rule) }
-    ensures broken { IfErr result (IsRefusedBy (KeepsOf element.now.kind element.now points.now) at) }
-    ensures memory { result ≡ Err bads.NoMemory → BreaksNone (KeepsOf element.now.kind element.now points.now) }
+    ensures broken { IfFault result (IsRefusedBy (KeepsOf element.now.kind element.now points.now) at) }
+    ensures memory { result ≡ Err Wanting → BreaksNone (KeepsOf element.now.kind element.now points.now) }
 {
     match element.kind {
         Some(Kind::Sref) => {
             let [point] = points else {
-                return Err(GdsBad::Value(at, 7));
+                return Err(Refusal::Fault(GdsBad::Value(at, 7)));
             };
             let offsets = Offsets::list(alloc, &[ORIGIN])?;
             put(alloc, bytes, element, *point, offsets, placements)?;

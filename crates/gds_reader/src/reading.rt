@@ -1,5 +1,8 @@
 //! The whole file.
-ghost use Rattle.std.specs.Prelude.{◌≡◌, ◌≢◌, ◌⊎◌, ◌+◌, ◌^◌, ◌≤◌, ◌<◌, ◌++◌, ℕ, List as Items, [], ◌∷◌, Some, None, All, IfOk, IfErr, IfSome, IfNone, OnOk, Err, Ok, length, slice_index};
+ghost use Rattle.std.specs.Prelude.{◌≡◌, ◌≢◌, ◌⊎◌, ◌+◌, ◌^◌, ◌≤◌, ◌<◌, ◌++◌, ℕ, List as Items, [], ◌∷◌};
+ghost use Rattle.std.specs.Prelude.{Some, None, All, IfOk, IfSome, IfNone, OnOk, Err, Ok, length, slice_index};
+ghost use Rattle.geo_stream.specs.Refusals.{IfFault};
+ghost use Rattle.geo_stream.specs.declared.refusal.Refusal.TheVariants.{Fault, NoMemory as Wanting};
 ghost use Rattle.layout_model.specs.Layouts.{IsShapeOnGrid, IsPlacementOnGrid, IsCellOnGrid, IsLayoutOnGrid};
 ghost use Rattle.layout_model.specs.Images.{IsOrient};
 ghost use Rattle.layout_model.specs.Names.{IsName};
@@ -12,12 +15,12 @@ ghost use Rattle.layout_model.specs.Pairs.{AreSamePairs, AreSorted};
 ghost use Rattle.layout_model.specs.Counting.{AreAtMost};
 ghost use Rattle.gds_reader.specs.Elements.{IsHeld, IsElementOf, TellsShape, KeepsBy, shapes_by, placements_kept};
 ghost use Rattle.gds_reader.specs.Meaning.{wanted_at, cells_at};
-ghost use Rattle.gds_reader.specs.Readers.{IsReaderOf, IsStructureOf, IsTaken, IsRefused, IsBadXy, IsStanding, IsTail, cells_kept};
+ghost use Rattle.gds_reader.specs.Readers.{IsReaderOf, IsStructureOf, IsTaken, IsRefused, IsBadXy, IsStanding};
+ghost use Rattle.gds_reader.specs.Readers.{IsTail, cells_kept};
 ghost use Rattle.gds_reader.specs.Reading.{IsLayoutOf, IsFirstFault, framing_fault, unit_in};
 ghost use Rattle.gds_reader.specs.Refused.{IsRefusedBy};
 ghost use Rattle.gds_reader.specs.Values.{Keeps, KeepsRules, name_in, points_in};
 ghost use Rattle.gds_reader.specs.declared.refusing.GdsBad.{GdsBad as ABad};
-ghost use Rattle.gds_reader.specs.declared.refusing.GdsBad.TheVariants as bads;
 
 use crate::counting::count;
 use crate::drawing::draw;
@@ -29,7 +32,7 @@ use crate::pointing::read_points;
 use crate::refusing::GdsBad;
 use crate::values::broken_rule;
 use gds_record::{Framing, Kind, Record, int8, record_at, record_of_kind, unit_agrees};
-use geo_stream::{List, NoMemory};
+use geo_stream::{List, NoMemory, Refusal};
 use half_grid::Point;
 use layout_model::{
     Cell, Counts, Layout, NO_COUNTS, Name, Pair, Placement, Shapes, is_among, sorted_pairs,
@@ -74,7 +77,8 @@ fn framing_bad(fault: Framing, at: usize) -> GdsBad
 #[inline(always)]
 fn other_unit(bytes: &[u8], unit: u32, current: Record) -> Option<u64>
     requires { IsHeld bytes.now current }
-    ensures other { IfSome result (λ bits. (current.kind ≡ Units) × (bits ≡ unit_in bytes.now current) × ¬ Agrees (unit_in bytes.now current) unit) }
+    ensures other { IfSome result (λ bits. (current.kind ≡ Units) × (bits ≡ unit_in bytes.now current)
+        × ¬ Agrees (unit_in bytes.now current) unit) }
     ensures none { IfNone result (current.kind ≡ Units → Agrees (unit_in bytes.now current) unit) }
 {
     match current.kind {
@@ -94,7 +98,8 @@ fn other_unit(bytes: &[u8], unit: u32, current: Record) -> Option<u64>
 #[inline(always)]
 fn wanted_shape(sorted: &[Pair], element: &Element, current: Record) -> Option<bool>
     requires { AreSorted sorted.now }
-    ensures wanted { (bytes : Items ℕ) (past : Items ARecord) (wanted : Items APair) → IsElementOf bytes past element.now → AreSamePairs wanted sorted.now
+    ensures wanted { (bytes : Items ℕ) (past : Items ARecord) (wanted : Items APair)
+        → IsElementOf bytes past element.now → AreSamePairs wanted sorted.now
         → result ≡ wanted_at bytes wanted past current }
     ensures tells { current.kind ≡ Xy → TellsShape result element.now }
 {
@@ -118,7 +123,7 @@ fn take_points(
     drawn: Option<bool>,
     points: &mut Vec<Point>,
     structure: &mut Structure,
-) -> Result<(), GdsBad>
+) -> Result<(), Refusal<GdsBad>>
     requires held { IsHeld bytes.now current }
     requires kind { current.kind ≡ Xy }
     requires tells { TellsShape drawn element.now }
@@ -126,13 +131,17 @@ fn take_points(
     requires target_named { IfSome element.now.target (λ r. IsName (name_in bytes.now r)) }
     requires orient { IsOrient element.now.orient }
     ensures named { structure.new.named ≡ structure.old.named }
-    ensures shapes { OnOk result (structure.new.shapes ≡ structure.old.shapes ++ shapes_by drawn element.now (points_in bytes.now current)) }
+    ensures shapes { OnOk result (structure.new.shapes
+        ≡ structure.old.shapes ++ shapes_by drawn element.now (points_in bytes.now current)) }
     ensures placements { OnOk result (structure.new.placements
-        ≡ structure.old.placements ++ placements_kept element.now.kind bytes.now element.now (points_in bytes.now current)) }
-    ensures shapes_grid { All IsShapeOnGrid structure.old.shapes → OnOk result (All IsShapeOnGrid structure.new.shapes) }
-    ensures placements_grid { All IsPlacementOnGrid structure.old.placements → OnOk result (All IsPlacementOnGrid structure.new.placements) }
+        ≡ structure.old.placements
+        ++ placements_kept element.now.kind bytes.now element.now (points_in bytes.now current)) }
+    ensures shapes_grid { All IsShapeOnGrid structure.old.shapes
+        → OnOk result (All IsShapeOnGrid structure.new.shapes) }
+    ensures placements_grid { All IsPlacementOnGrid structure.old.placements
+        → OnOk result (All IsPlacementOnGrid structure.new.placements) }
     ensures kept { OnOk result ((rule : ℕ) → KeepsBy drawn element.now (points_in bytes.now current) rule) }
-    ensures broken { IfErr result (IsRefusedBy (KeepsBy drawn element.now (points_in bytes.now current)) at) }
+    ensures broken { IfFault result (IsRefusedBy (KeepsBy drawn element.now (points_in bytes.now current)) at) }
 {
     match drawn {
         Some(true) => {
@@ -168,7 +177,7 @@ fn take_within(
     drawn: Option<bool>,
     points: &mut Vec<Point>,
     structure: &mut Structure,
-) -> Result<(), GdsBad>
+) -> Result<(), Refusal<GdsBad>>
     requires held { IsHeld bytes.now current }
     requires kind { current.kind ≢ EndStr }
     requires tells { current.kind ≡ Xy → TellsShape drawn element.now }
@@ -184,7 +193,7 @@ fn take_within(
         → OnOk result (current.kind ≡ Xy → KeepsRules bytes.now wanted past current) }
     ensures broken { (past : Items ARecord) (wanted : Items APair) → IsElementOf bytes.now past element.now
         → drawn ≡ wanted_at bytes.now wanted past current
-        → IfErr result (IsRefusedBy (Keeps bytes.now wanted past current) at) }
+        → IfFault result (IsRefusedBy (Keeps bytes.now wanted past current) at) }
 {
     match current.kind {
         Kind::Xy => take_points(alloc, bytes, element, current, at, drawn, points, structure),
@@ -208,9 +217,10 @@ fn close(
     ensures named { OnOk result (structure.new.named ≡ None) }
     ensures shapes { OnOk result (structure.new.shapes ≡ []) }
     ensures placements { OnOk result (structure.new.placements ≡ []) }
-    ensures cells { OnOk result (cells.new ≡ cells.old ++ cells_kept bytes.now structure.old.named structure.old.shapes structure.old.placements) }
-    ensures grid { All IsCellOnGrid cells.old → All IsShapeOnGrid structure.old.shapes → All IsPlacementOnGrid structure.old.placements
-        → OnOk result (All IsCellOnGrid cells.new) }
+    ensures cells { OnOk result (cells.new ≡ cells.old
+        ++ cells_kept bytes.now structure.old.named structure.old.shapes structure.old.placements) }
+    ensures grid { All IsCellOnGrid cells.old → All IsShapeOnGrid structure.old.shapes
+        → All IsPlacementOnGrid structure.old.placements → OnOk result (All IsCellOnGrid cells.new) }
 {
     let shapes = replace(&mut structure.shapes, Shapes::new(alloc));
     let placements = replace(&mut structure.placements, List::new(alloc));
@@ -243,7 +253,7 @@ fn build(
     points: &mut Vec<Point>,
     structure: &mut Structure,
     cells: &mut List<Cell>,
-) -> Result<(), GdsBad>
+) -> Result<(), Refusal<GdsBad>>
     requires held { IsHeld bytes.now current }
     requires tells { current.kind ≡ Xy → TellsShape drawn element.now }
     requires target_held { IfSome element.now.target (IsHeld bytes.now) }
@@ -257,14 +267,14 @@ fn build(
         → OnOk result (IsStructureOf bytes.now wanted (current ∷ past) structure.new) }
     ensures cells { (past : Items ARecord) (wanted : Items APair) → IsStructureOf bytes.now wanted past structure.old
         → OnOk result (cells.new ≡ cells.old ++ cells_at bytes.now wanted past current) }
-    ensures grid { All IsCellOnGrid cells.old → All IsShapeOnGrid structure.old.shapes → All IsPlacementOnGrid structure.old.placements
-        → OnOk result (All IsCellOnGrid cells.new) }
+    ensures grid { All IsCellOnGrid cells.old → All IsShapeOnGrid structure.old.shapes
+        → All IsPlacementOnGrid structure.old.placements → OnOk result (All IsCellOnGrid cells.new) }
     ensures kept { (past : Items ARecord) (wanted : Items APair) → IsElementOf bytes.now past element.now
         → drawn ≡ wanted_at bytes.now wanted past current
         → OnOk result (current.kind ≡ Xy → KeepsRules bytes.now wanted past current) }
     ensures broken { (past : Items ARecord) (wanted : Items APair) → IsElementOf bytes.now past element.now
         → drawn ≡ wanted_at bytes.now wanted past current
-        → IfErr result (IsRefusedBy (Keeps bytes.now wanted past current) at) }
+        → IfFault result (IsRefusedBy (Keeps bytes.now wanted past current) at) }
 {
     if current.kind == Kind::EndStr {
         close(alloc, bytes, structure, cells)?;
@@ -302,7 +312,7 @@ impl<'a> Reader<'a> {
         sorted: &[Pair],
         current: Record,
         at: usize,
-    ) -> Result<(), GdsBad>
+    ) -> Result<(), Refusal<GdsBad>>
         requires held { IsHeld bytes.now current }
         requires at { current.first ≡ at + 4 }
         requires sorted { AreSorted sorted.now }
@@ -313,29 +323,30 @@ impl<'a> Reader<'a> {
         requires target_named { IfSome self.old.element.target (λ r. IsName (name_in bytes.now r)) }
         requires orient { IsOrient self.old.element.orient }
         ensures reader { (past : Items ARecord) (wanted : Items APair) → AreSamePairs wanted sorted.now
-            → IsReaderOf bytes.now wanted past self.old → OnOk result (IsReaderOf bytes.now wanted (current ∷ past) self.new) }
+            → IsReaderOf bytes.now wanted past self.old
+            → OnOk result (IsReaderOf bytes.now wanted (current ∷ past) self.new) }
         ensures taken { (past : Items ARecord) (wanted : Items APair) → AreSamePairs wanted sorted.now
             → IsReaderOf bytes.now wanted past self.old → OnOk result (IsTaken bytes.now unit wanted past current) }
         ensures refused { (past : Items ARecord) (wanted : Items APair) → AreSamePairs wanted sorted.now
             → IsReaderOf bytes.now wanted past self.old
-            → IfErr result (λ bad. bad ≢ bads.NoMemory → IsRefused bytes.now unit wanted past current at bad) }
+            → IfFault result (IsRefused bytes.now unit wanted past current at) }
         ensures memory { (past : Items ARecord) (wanted : Items APair) → AreSamePairs wanted sorted.now
-            → IsReaderOf bytes.now wanted past self.old → result ≡ Err bads.NoMemory
+            → IsReaderOf bytes.now wanted past self.old → result ≡ Err Wanting
             → (bad : ABad) → IsRefused bytes.now unit wanted past current at bad → IsBadXy past current }
     {
         let Some(place) = self.place.after(current.kind) else {
-            return Err(GdsBad::Order(at));
+            return Err(Refusal::Fault(GdsBad::Order(at)));
         };
         match broken_rule(bytes, sorted, &self.element, current) {
-            Some(rule) => return Err(GdsBad::Value(at, rule)),
+            Some(rule) => return Err(Refusal::Fault(GdsBad::Value(at, rule))),
             None => {}
         }
         match other_unit(bytes, unit, current) {
-            Some(bits) => return Err(GdsBad::Unit(bits)),
+            Some(bits) => return Err(Refusal::Fault(GdsBad::Unit(bits))),
             None => {}
         }
         match enter(&mut self.names, bytes, current, at) {
-            Err(bad) => return Err(bad),
+            Err(refusal) => return Err(refusal),
             Ok(()) => {}
         }
         let drawn = wanted_shape(sorted, &self.element, current);
@@ -351,7 +362,7 @@ impl<'a> Reader<'a> {
             &mut self.cells,
         );
         match built {
-            Err(bad) => return Err(bad),
+            Err(refusal) => return Err(refusal),
             Ok(()) => {}
         }
         count(&mut self.counts, current, drawn);
@@ -370,21 +381,21 @@ impl<'a> Reader<'a> {
         sorted: &[Pair],
         at: usize,
         kind: Kind,
-    ) -> Result<usize, GdsBad>
+    ) -> Result<usize, Refusal<GdsBad>>
         requires sorted { AreSorted sorted.now }
         requires standing { IsStanding bytes.now unit sorted.now at self.old }
         requires goes_on { kind ≢ EndLib }
         ensures standing { IfOk result (λ next. IsStanding bytes.now unit sorted.now next self.new) }
         ensures onward { IfOk result (λ next. at ≤ next) }
         ensures first_fault { (wanted : Items APair) → AreSamePairs wanted sorted.now
-            → IfErr result (λ bad. bad ≢ bads.NoMemory → IsFirstFault bytes.now unit wanted bad) }
+            → IfFault result (IsFirstFault bytes.now unit wanted) }
     {
         let Some(current) = record_of_kind(bytes, at, kind) else {
             return Ok(at);
         };
         match self.take(alloc, bytes, unit, sorted, current, at) {
             Ok(()) => Ok(current.next),
-            Err(bad) => Err(bad),
+            Err(refusal) => Err(refusal),
         }
     }
 
@@ -397,13 +408,13 @@ impl<'a> Reader<'a> {
         unit: u32,
         sorted: &[Pair],
         at: usize,
-    ) -> Result<usize, GdsBad>
+    ) -> Result<usize, Refusal<GdsBad>>
         requires sorted { AreSorted sorted.now }
         requires standing { IsStanding bytes.now unit sorted.now at self.old }
         ensures standing { IfOk result (λ next. IsStanding bytes.now unit sorted.now next self.new) }
         ensures onward { IfOk result (λ next. at ≤ next) }
         ensures first_fault { (wanted : Items APair) → AreSamePairs wanted sorted.now
-            → IfErr result (λ bad. bad ≢ bads.NoMemory → IsFirstFault bytes.now unit wanted bad) }
+            → IfFault result (IsFirstFault bytes.now unit wanted) }
     {
         let end = self.take_kind(alloc, bytes, unit, sorted, at, Kind::Xy)?;
         if end == at {
@@ -422,13 +433,13 @@ impl<'a> Reader<'a> {
         unit: u32,
         sorted: &[Pair],
         at: usize,
-    ) -> Result<usize, GdsBad>
+    ) -> Result<usize, Refusal<GdsBad>>
         requires sorted { AreSorted sorted.now }
         requires standing { IsStanding bytes.now unit sorted.now at self.old }
         ensures standing { IfOk result (λ next. IsStanding bytes.now unit sorted.now next self.new) }
         ensures onward { IfOk result (λ next. at ≤ next) }
         ensures first_fault { (wanted : Items APair) → AreSamePairs wanted sorted.now
-            → IfErr result (λ bad. bad ≢ bads.NoMemory → IsFirstFault bytes.now unit wanted bad) }
+            → IfFault result (IsFirstFault bytes.now unit wanted) }
     {
         let layer = self.take_kind(alloc, bytes, unit, sorted, at, Kind::Boundary)?;
         if layer == at {
@@ -453,20 +464,17 @@ impl<'a> Reader<'a> {
         unit: u32,
         sorted: &[Pair],
         at: usize,
-    ) -> Result<usize, GdsBad>
+    ) -> Result<usize, Refusal<GdsBad>>
         requires sorted { AreSorted sorted.now }
         requires standing { IsStanding bytes.now unit sorted.now at self.old }
         ensures standing { IfOk result (λ next. IsStanding bytes.now unit sorted.now next self.new) }
         ensures onward { IfOk result (λ next. at ≤ next) }
         ensures first_fault { (wanted : Items APair) → AreSamePairs wanted sorted.now
-            → IfErr result (λ bad. bad ≢ bads.NoMemory → IsFirstFault bytes.now unit wanted bad) }
+            → IfFault result (IsFirstFault bytes.now unit wanted) }
     {
         let mut from = at;
         'boundaries: loop {
-            let next = match self.take_boundary(alloc, bytes, unit, sorted, from) {
-                Ok(next) => next,
-                Err(bad) => return Err(bad),
-            };
+            let next = self.take_boundary(alloc, bytes, unit, sorted, from)?;
             if next == from {
                 return Ok(next);
             }
@@ -492,15 +500,15 @@ fn first_nonzero(bytes: &[u8], at: usize) -> Option<usize>
 }
 
 // The layout of a reader that has taken the end of the library, which ends at this offset.
-fn finish(bytes: &[u8], at: usize, reader: Reader<'_>) -> Result<Layout, GdsBad>
+fn finish(bytes: &[u8], at: usize, reader: Reader<'_>) -> Result<Layout, Refusal<GdsBad>>
     requires { at ≤ length bytes.now }
     ensures cells { IfOk result (λ layout. layout.cells ≡ reader.entry.cells) }
     ensures counts { IfOk result (λ layout. layout.counts ≡ reader.entry.counts) }
     ensures blank { IfOk result (λ _. (k : ℕ) → at ≤ k → k < length bytes.now → slice_index bytes.now k ≡ 0) }
-    ensures tail { IfErr result (IsTail bytes.now at) }
+    ensures tail { IfFault result (IsTail bytes.now at) }
 {
     match first_nonzero(bytes, at) {
-        Some(tail) => Err(GdsBad::Tail(tail)),
+        Some(tail) => Err(Refusal::Fault(GdsBad::Tail(tail))),
         None => Ok(Layout {
             cells: reader.cells,
             counts: reader.counts,
@@ -509,27 +517,33 @@ fn finish(bytes: &[u8], at: usize, reader: Reader<'_>) -> Result<Layout, GdsBad>
 }
 
 // The layout of the bytes. `sorted` are the wanted pairs.
-fn read_records(alloc: Global, bytes: &[u8], unit: u32, sorted: &[Pair]) -> Result<Layout, GdsBad>
+fn read_records(
+    alloc: Global,
+    bytes: &[u8],
+    unit: u32,
+    sorted: &[Pair],
+) -> Result<Layout, Refusal<GdsBad>>
     requires { AreSorted sorted.now }
-    ensures found { (wanted : Items APair) → AreSamePairs wanted sorted.now → IfOk result (λ layout. IsLayoutOf bytes.now unit wanted layout) }
+    ensures found { (wanted : Items APair) → AreSamePairs wanted sorted.now
+        → IfOk result (λ layout. IsLayoutOf bytes.now unit wanted layout) }
     ensures grid { IfOk result IsLayoutOnGrid }
     ensures first_fault { (wanted : Items APair) → AreSamePairs wanted sorted.now
-        → IfErr result (λ bad. bad ≢ bads.NoMemory → IsFirstFault bytes.now unit wanted bad) }
+        → IfFault result (IsFirstFault bytes.now unit wanted) }
 {
     let mut reader = Reader::new(alloc, bytes);
     let mut at = 0;
     'records: loop {
         let from = match reader.take_boundaries(alloc, bytes, unit, sorted, at) {
             Ok(from) => from,
-            Err(bad) => return Err(bad),
+            Err(refusal) => return Err(refusal),
         };
         let current = match record_at(bytes, from) {
             Ok(current) => current,
-            Err(fault) => return Err(framing_bad(fault, from)),
+            Err(fault) => return Err(Refusal::Fault(framing_bad(fault, from))),
         };
         match reader.take(alloc, bytes, unit, sorted, current, from) {
             Ok(()) => {}
-            Err(bad) => return Err(bad),
+            Err(refusal) => return Err(refusal),
         }
         at = current.next;
         if current.kind == Kind::EndLib {
@@ -543,15 +557,20 @@ fn read_records(alloc: Global, bytes: &[u8], unit: u32, sorted: &[Pair]) -> Resu
 /// units. Bytes that hold no layout are refused by their first fault; the first record that is refused
 /// decides, and at one record first its framing, then its order, then its value rules, then the unit or
 /// the name. NoMemory may come in place of any answer where memory runs out.
-pub fn read_gds(alloc: Global, bytes: &[u8], unit: u32, wanted: &[Pair]) -> Result<Layout, GdsBad>
+pub fn read_gds(
+    alloc: Global,
+    bytes: &[u8],
+    unit: u32,
+    wanted: &[Pair],
+) -> Result<Layout, Refusal<GdsBad>>
     ensures found { IfOk result (λ layout. IsLayoutOf bytes.now unit wanted.now layout) }
     ensures grid { IfOk result IsLayoutOnGrid }
-    ensures read { (layout : ALayout) → IsLayoutOf bytes.now unit wanted.now layout → (result ≡ Ok layout) ⊎ (result ≡ Err bads.NoMemory) }
-    ensures first_fault { IfErr result (λ bad. bad ≢ bads.NoMemory → IsFirstFault bytes.now unit wanted.now bad) }
-    ensures every_fault { (bad : ABad) → IsFirstFault bytes.now unit wanted.now bad → (result ≡ Err bad) ⊎ (result ≡ Err bads.NoMemory) }
+    ensures read { (layout : ALayout) → IsLayoutOf bytes.now unit wanted.now layout
+        → (result ≡ Ok layout) ⊎ (result ≡ Err Wanting) }
+    ensures first_fault { IfFault result (IsFirstFault bytes.now unit wanted.now) }
+    ensures every_fault { (bad : ABad) → IsFirstFault bytes.now unit wanted.now bad
+        → (result ≡ Err (Fault bad)) ⊎ (result ≡ Err Wanting) }
 {
-    match sorted_pairs(alloc, wanted) {
-        Ok(sorted) => read_records(alloc, bytes, unit, sorted.as_slice()),
-        Err(_) => Err(GdsBad::NoMemory),
-    }
+    let sorted = sorted_pairs(alloc, wanted)?;
+    read_records(alloc, bytes, unit, sorted.as_slice())
 }

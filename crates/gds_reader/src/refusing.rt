@@ -1,9 +1,4 @@
 //! Why bytes hold no layout.
-ghost use Rattle.std.specs.Prelude.{◌≡◌};
-ghost use Rattle.gds_reader.specs.declared.refusing.GdsBad.TheVariants.{NoMemory as Wanting};
-
-use gds_record::Framing;
-use geo_stream::NoMemory;
 
 /// The first fault of bytes that hold no layout. `at` is the offset of the record that has it.
 #[derive(Clone, Copy, Debug, PartialEq, Eq)]
@@ -26,14 +21,4 @@ pub enum GdsBad {
     Unit(u64),
     /// The structures' names at these two offsets are the same.
     Twice(usize, usize),
-    /// Memory ran out.
-    NoMemory,
-}
-
-impl From<NoMemory> for GdsBad {
-    ghost from_gives = { λ _ bad. bad ≡ Wanting };
-
-    fn from(_wanting: NoMemory) -> GdsBad {
-        GdsBad::NoMemory
-    }
 }

@@ -1,5 +1,6 @@
 //! The value rules of single records.
-ghost use Rattle.std.specs.Prelude.{◌≡◌, ◌≢◌, ◌+◌, ◌↔◌, ◌⊎◌, List, None, bit_and, if◌then◌else◌, IsTrue, IfSome, IfNone};
+ghost use Rattle.std.specs.Prelude.{◌≡◌, ◌≢◌, ◌+◌, ◌↔◌, ◌⊎◌, List, Some, None, bit_and, if◌then◌else◌};
+ghost use Rattle.std.specs.Prelude.{IsTrue, IfSome, IfNone};
 ghost use Rattle.std.specs.List.{list_any};
 ghost use Rattle.layout_model.specs.Names.{IsName};
 ghost use Rattle.layout_model.specs.Pairs.{same_pair, AreSamePairs, AreSorted};
@@ -8,7 +9,6 @@ ghost use Rattle.gds_record.specs.declared.kinds.Kind.TheVariants.{Xy, Path, Str
 ghost use Rattle.gds_record.specs.declared.records.Record.{Record as ARecord};
 ghost use Rattle.gds_reader.specs.Elements.{IsHeld, IsElementOf};
 ghost use Rattle.gds_reader.specs.Values.{name_in, IsCount, IsLowestBroken, KeepsRules};
-ghost use Rattle.std.specs.Prelude.{Some};
 
 use crate::elements::{Element, factor_of, quarter_turns};
 use crate::naming::name_of;
@@ -58,9 +58,11 @@ fn unless_asked(asked: bool, kept: bool, rule: u8) -> Option<u8>
 // The rule of PATHTYPE, for paths on wanted pairs.
 fn path_type_rule(sorted: &[Pair], element: &Element, number: u16) -> Option<u8>
     requires { AreSorted sorted.now }
-    ensures broken { IfSome result (λ rule. (rule ≡ 13) × (element.now.kind ≡ Some Path) × IsTrue (list_any (same_pair element.now.pair) sorted.now)
+    ensures broken { IfSome result (λ rule. (rule ≡ 13) × (element.now.kind ≡ Some Path)
+        × IsTrue (list_any (same_pair element.now.pair) sorted.now)
         × ¬ ((number ≡ 0) ⊎ (number ≡ 2) ⊎ (number ≡ 4))) }
-    ensures kept { IfNone result (element.now.kind ≡ Some Path → IsTrue (list_any (same_pair element.now.pair) sorted.now)
+    ensures kept { IfNone result (element.now.kind ≡ Some Path
+        → IsTrue (list_any (same_pair element.now.pair) sorted.now)
         → (number ≡ 0) ⊎ (number ≡ 2) ⊎ (number ≡ 4)) }
 {
     if element.kind != Some(Kind::Path) {
@@ -85,10 +87,11 @@ pub(crate) fn broken_rule(
 ) -> Option<u8>
     requires held { IsHeld bytes.now current }
     requires sorted { AreSorted sorted.now }
-    ensures broken { (past : List ARecord) (wanted : List APair) → IsElementOf bytes.now past element.now → AreSamePairs wanted sorted.now
-        → IfSome result (λ rule. IsLowestBroken bytes.now wanted past current rule) }
-    ensures kept { (past : List ARecord) (wanted : List APair) → IsElementOf bytes.now past element.now → AreSamePairs wanted sorted.now
-        → current.kind ≢ Xy → IfNone result (KeepsRules bytes.now wanted past current) }
+    ensures broken { (past : List ARecord) (wanted : List APair) → IsElementOf bytes.now past element.now
+        → AreSamePairs wanted sorted.now → IfSome result (λ rule. IsLowestBroken bytes.now wanted past current rule) }
+    ensures kept { (past : List ARecord) (wanted : List APair) → IsElementOf bytes.now past element.now
+        → AreSamePairs wanted sorted.now → current.kind ≢ Xy
+        → IfNone result (KeepsRules bytes.now wanted past current) }
     ensures name { current.kind ≡ StrName → IfNone result (IsName (name_in bytes.now current)) }
 {
     let first = current.first;

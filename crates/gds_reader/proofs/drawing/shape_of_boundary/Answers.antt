@@ -1,17 +1,18 @@
-use Rattle.std.proofs.Common.{◌≡◌, ◌∙◌, ◌^◌, All, rules, arith, subst, sym}
+use Rattle.std.proofs.Common.{◌≡◌, ◌∙◌, ◌^◌, All, rules, arith, refl, subst, sym}
 use Rattle.half_grid.specs.Outlines.{IsClosed, HasGridEdges}
 use Rattle.layout_model.specs.Layouts.{AreOffsets, IsWithin}
-use Rattle.gds_reader.specs.Values.{KeepsBoundary, IsLowest}
 use Rattle.gds_reader.proofs.drawing.shape_of_boundary.Goals as goal
 use Rattle.gds_reader.proofs.DrawLemmas.{slant_lowest, no_rule_hidden}
 use Rattle.gds_reader.proofs.GridLemmas.{all_near, origin_offsets}
 
 pub returns-in-Err-Slant-clause-broken : goal.returns-in-Err-Slant-clause-broken
-returns-in-Err-Slant-clause-broken c = λ rule e.
-    let same : 12 ≡ rule = cc in
-    let closed : IsClosed c.args.points.now = search rules in
-    subst (IsLowest (KeepsBoundary c.args.points.now)) same
-    (slant_lowest c.args.points.now c.in-Err-Slant.field-0-0 (omega arith) (omega arith) closed ((c.new.ensures.slant c.in-Err-Slant.field-0-0).0 (cc)))
+returns-in-Err-Slant-clause-broken c =
+    let closed : IsClosed c.args.points.now = search rules in (
+      12,
+      refl,
+      slant_lowest c.args.points.now c.in-Err-Slant.field-0-0 (omega arith) (omega arith) closed
+          ((c.new.ensures.slant c.in-Err-Slant.field-0-0).0 (cc)),
+    )
 
 pub returns-in-Err-NoMemory-clause-memory : goal.returns-in-Err-NoMemory-clause-memory
 returns-in-Err-NoMemory-clause-memory c = λ e rule low.

@@ -1,8 +1,11 @@
-use Rattle.std.proofs.Common.{rules, FitsSigned, w64, ◌≡◌, ◌∙◌, sym, inl, inr}
+use Rattle.std.proofs.Common.{rules, FitsSigned, w64, ◌≡◌, ◌∙◌, sym, subst, inl, inr}
 use Rattle.std.specs.Prelude.{pos, ◌≢◌}
 use Rattle.std.proofs.lemmas.Int.{to_z-of_z}
-use Rattle.gds_reader.specs.declared.drawing.Undrawn.TheVariants.{Rule, NoMemory as Wanting}
+use Rattle.geo_stream.specs.Refusals.{IsForFault}
+use Rattle.geo_stream.specs.declared.refusal.Refusal.TheVariants.{NoMemory as Wanting}
 use Rattle.layout_model.specs.declared.paths.PathBad.TheVariants as paths
+use Rattle.gds_reader.specs.Refused.{IsRefusedBy}
+use Rattle.gds_reader.specs.Values.{KeepsPath}
 use Rattle.gds_reader.proofs.drawing.shapes_of_path.Goals as goal
 use Rattle.gds_reader.proofs.GridLemmas.{all_within}
 use Rattle.gds_reader.proofs.DrawLemmas.{path_items, path_grid, path_broken, wanting_path}
@@ -41,22 +44,23 @@ returns c = record {
   shapes = tt;
   grid = tt;
   kept = tt;
-  broken = λ rule e.
+  broken =
       let half : FitsSigned w64 c.args.brush.half = search rules in
       let begin : FitsSigned w64 c.args.brush.begin = search rules in
       let end : FitsSigned w64 c.args.brush.end = search rules in
       let none = simp to_z-of_z at c.in-Err.ensures.none in
       let ok = simp to_z-of_z at c.in-Err.ensures.ok in
       let wide : c.args.brush.half ≢ pos 0 = λ zero. none zero in
-      path_broken c.args.brush.half c.args.brush.begin c.args.brush.end c.args.points.now c.in-Err.bad rule
-      (let inner : c.undrawn_path.result ≡ Rule rule = cc in sym c.undrawn_path.ensures ∙ inner) wide
-      (λ more drawable. elim (ok wide drawable) [ inl some ↦ absurd (cc) | inr wanting ↦ more (cc) ]);
+      subst (IsForFault (IsRefusedBy (KeepsPath c.args.brush.half c.args.brush.begin c.args.brush.end c.args.points.now) c.args.at))
+      (sym c.path_refusal.ensures)
+      (path_broken c.args.brush.half c.args.brush.begin c.args.brush.end c.args.points.now c.in-Err.bad c.args.at wide
+      (λ more drawable. elim (ok wide drawable) [ inl some ↦ absurd (cc) | inr wanting ↦ more (cc) ]));
   memory = λ e rule same wide.
       let half : FitsSigned w64 c.args.brush.half = search rules in
       let begin : FitsSigned w64 c.args.brush.begin = search rules in
       let end : FitsSigned w64 c.args.brush.end = search rules in
       let memory = simp to_z-of_z at c.in-Err.ensures.memory in
       let bad : c.in-Err.bad ≡ paths.NoMemory =
-      wanting_path c.in-Err.bad (let inner : c.undrawn_path.result ≡ Wanting = cc in sym c.undrawn_path.ensures ∙ inner) in
+      wanting_path c.in-Err.bad c.args.at (let inner : c.path_refusal.result ≡ Wanting = cc in sym c.path_refusal.ensures ∙ inner) in
       (memory (cc)).1;
 }

@@ -19,7 +19,7 @@ records-init c = record {
 }
 
 pub returns-in-Err-record_at-clause-first_fault : goal.returns-in-Err-record_at-clause-first_fault
-returns-in-Err-record_at-clause-first_fault c = λ wanted same more.
+returns-in-Err-record_at-clause-first_fault c = λ wanted same.
     framing_first c.args.bytes.now c.args.unit wanted c.args.sorted.now c.in-Ok.from c.take_boundaries.new.self c.in-Err-record_at.fault c.framing_bad.result
     c.in-Ok.ensures.standing same ((c.record_at.ensures.fault c.in-Err-record_at.fault).0 c.in-Err-record_at.is) c.framing_bad.ensures
 
@@ -52,10 +52,10 @@ pub take-requires-clause-orient : goal.take-requires-clause-orient
 take-requires-clause-orient c = (c.in-Ok.ensures.standing.reader_is c.args.sorted.now (λ pair. refl)).orient
 
 pub returns-in-Err-take-clause-first_fault : goal.returns-in-Err-take-clause-first_fault
-returns-in-Err-take-clause-first_fault c = λ wanted same more.
-    refused_first c.args.bytes.now c.args.unit wanted c.args.sorted.now c.in-Ok.from c.take_boundaries.new.self c.in-Ok-record_at.current c.in-Err-take.bad
+returns-in-Err-take-clause-first_fault c = λ wanted same.
+    refused_first c.args.bytes.now c.args.unit wanted c.args.sorted.now c.in-Ok.from c.take_boundaries.new.self c.in-Ok-record_at.current c.in-Err-take.refusal
     c.in-Ok.ensures.standing same ((c.record_at.ensures.found c.in-Ok-record_at.current).0 c.in-Ok-record_at.is)
-    (c.in-Err-take.ensures.refused c.in-Ok.ensures.standing.past wanted same (c.in-Ok.ensures.standing.reader_is wanted same) more)
+    (c.in-Err-take.ensures.refused c.in-Ok.ensures.standing.past wanted same (c.in-Ok.ensures.standing.reader_is wanted same))
 
 -- the library has ended
 ended : (c : goal.After-finish) → IsEnded c.args.bytes.now c.args.unit c.args.sorted.now c.in-Ok-record_at.current.next c.take.new.self

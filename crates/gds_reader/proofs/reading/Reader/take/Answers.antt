@@ -1,13 +1,16 @@
 use Rattle.std.proofs.Common.{◌≡◌, ◌++◌, refl, sym, ap, ◌∙◌, inl, inr}
+use Rattle.geo_stream.proofs.ForCallers.{for_fault_weaker}
 use Rattle.gds_record.specs.declared.kinds.Kind.TheVariants.{Xy, StrName}
 use Rattle.gds_reader.specs.Meaning.{wanted_at, cells_at}
-use Rattle.gds_reader.specs.Readers.{place_behind}
-use Rattle.gds_reader.specs.Values.{KeepsRules}
+use Rattle.gds_reader.specs.Names.{IsTwice}
+use Rattle.gds_reader.specs.Readers.{IsRefused, place_behind}
+use Rattle.gds_reader.specs.Refused.{IsRefusedBy}
+use Rattle.gds_reader.specs.Values.{Keeps, KeepsRules}
 use Rattle.gds_reader.proofs.reading.Reader.take.Goals as goal
 use Rattle.gds_reader.proofs.TakeLemmas.{some_next, next_is, kind_cases, refused_xy}
 
 pub returns-in-Some-broken_rule-clause-refused : goal.returns-in-Some-broken_rule-clause-refused
-returns-in-Some-broken_rule-clause-refused c = λ past wanted same reader more.
+returns-in-Some-broken_rule-clause-refused c = λ past wanted same reader.
     inr (inl (record {
       some = some_next (place_behind past) c.args.self.now.place c.in-Some.place c.args.current reader.place (sym c.after.ensures ∙ c.in-Some.is);
       rule = c.in-Some-broken_rule.rule;
@@ -16,18 +19,32 @@ returns-in-Some-broken_rule-clause-refused c = λ past wanted same reader more.
     }))
 
 pub returns-in-Err-clause-refused : goal.returns-in-Err-clause-refused
-returns-in-Err-clause-refused c = λ past wanted same reader more.
-    elim (c.in-Err.ensures.twice past reader.names) [
-      | inl memory ↦ absurd (more memory)
-      | inr found ↦ inr (inr (inr (record {
-        some = some_next (place_behind past) c.args.self.now.place c.in-Some.place c.args.current reader.place (sym c.after.ensures ∙ c.in-Some.is);
-        rules = c.in-None.ensures.kept past wanted reader.element same (λ xy. absurd (let k : StrName ≡ Xy = sym found.0 ∙ xy in cc));
-        kind = found.0;
-        first = found.1;
-        found = found.2;
-        bad_is = found.3;
-      })))
-    ]
+returns-in-Err-clause-refused c = λ past wanted same reader.
+    for_fault_weaker (IsTwice c.args.bytes.now past c.args.current c.args.at)
+    (IsRefused c.args.bytes.now c.args.unit wanted past c.args.current c.args.at) c.in-Err.refusal
+    (λ bad found. inr (inr (inr (record {
+      some = some_next (place_behind past) c.args.self.now.place c.in-Some.place c.args.current reader.place (sym c.after.ensures ∙ c.in-Some.is);
+      rules = c.in-None.ensures.kept past wanted reader.element same (λ xy. absurd (let k : StrName ≡ Xy = sym found.0 ∙ xy in cc));
+      kind = found.0;
+      first = found.1;
+      found = found.2;
+      bad_is = found.3;
+    }))))
+    (c.in-Err.ensures.twice past reader.names)
+
+pub returns-in-Err-built-clause-refused : goal.returns-in-Err-built-clause-refused
+returns-in-Err-built-clause-refused c = λ past wanted same reader.
+    let drawn : c.wanted_shape-drawn.result ≡ wanted_at c.args.bytes.now wanted past c.args.current =
+    c.wanted_shape-drawn.ensures.wanted c.args.bytes.now past wanted reader.element same in
+    for_fault_weaker (IsRefusedBy (Keeps c.args.bytes.now wanted past c.args.current) c.args.at)
+    (IsRefused c.args.bytes.now c.args.unit wanted past c.args.current c.args.at) c.in-Err-built.refusal
+    (λ bad broken. inr (inl (record {
+      some = some_next (place_behind past) c.args.self.now.place c.in-Some.place c.args.current reader.place (sym c.after.ensures ∙ c.in-Some.is);
+      rule = broken.0;
+      broken = broken.2;
+      bad_is = broken.1;
+    })))
+    (c.in-Err-built.ensures.broken past wanted reader.element drawn)
 
 pub returns-clause-reader : goal.returns-clause-reader
 returns-clause-reader c = λ past wanted same reader.

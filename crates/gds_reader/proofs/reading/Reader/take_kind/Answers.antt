@@ -58,7 +58,7 @@ returns-in-Ok-clause-onward c =
     omega (arith, record_onward c.args.bytes.now c.args.at c.in-Some.current at)
 
 pub returns-in-Err-clause-first_fault : goal.returns-in-Err-clause-first_fault
-returns-in-Err-clause-first_fault c = λ wanted same more.
-    refused_first c.args.bytes.now c.args.unit wanted c.args.sorted.now c.args.at c.args.self.now c.in-Some.current c.in-Err.bad
+returns-in-Err-clause-first_fault c = λ wanted same.
+    refused_first c.args.bytes.now c.args.unit wanted c.args.sorted.now c.args.at c.args.self.now c.in-Some.current c.in-Err.refusal
     c.requires.standing same ((c.record_of_kind.ensures c.in-Some.current).0 c.in-Some.is).0
-    (c.in-Err.ensures.refused c.requires.standing.past wanted same (c.requires.standing.reader_is wanted same) more)
+    (c.in-Err.ensures.refused c.requires.standing.past wanted same (c.requires.standing.reader_is wanted same))
