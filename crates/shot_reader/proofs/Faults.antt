@@ -5,6 +5,8 @@ use Rattle.std.proofs.lemmas.List.{take-append-drop, length-drop, length-append}
 use Rattle.std.proofs.Math.Seq.{take-append_seam, drop-append_seam}
 use Rattle.std.specs.Prelude.{All, flat_map, Result, Err}
 use Rattle.std.specs.List.{concat}
+use Rattle.geo_stream.specs.declared.refusal.Refusal.{Refusal}
+use Rattle.geo_stream.specs.declared.refusal.Refusal.TheVariants.{Fault, NoMemory}
 use Rattle.half_grid.specs.Trapezoids.{Trapezoid, IsShot}
 use Rattle.layout_model.specs.declared.pair.Pair.{Pair}
 use Rattle.oas_lex.specs.ShotText.{IsUnit, head, fields_of, spelling_of, shot_text, end}
@@ -325,9 +327,9 @@ pub end_fault : (first : Option Pair) (rest : List ℕ) (at : ℕ) → get_or re
 end_fault first [] at e n = absurd (omega arith)
 end_fault first (x ∷ rest) at e n = inl (refl, (rest, ap (λ (b : ℕ). b ∷ rest) e), n)
 
-pub told : {T : Type 0} (bytes : List ℕ) (own : ShotBad) (result : Result T ShotBad) → result ≡ Err own
-    → IsFirstFault bytes own → (bad : ShotBad) → IsFirstFault bytes bad → (result ≡ Err bad)
-    ⊎ (result ≡ Err faults.NoMemory)
+pub told : {T : Type 0} (bytes : List ℕ) (own : ShotBad) (result : Result T (Refusal ShotBad)) → result ≡ Err (Fault own)
+    → IsFirstFault bytes own → (bad : ShotBad) → IsFirstFault bytes bad → (result ≡ Err (Fault bad))
+    ⊎ (result ≡ Err NoMemory)
 told {T} bytes own result e f bad w =
-    let wrong : ShotBad → Result T ShotBad = λ b. Err b in
+    let wrong : ShotBad → Result T (Refusal ShotBad) = λ b. Err (Fault b) in
     inl (e ∙ ap wrong (one_fault bytes own bad f w))

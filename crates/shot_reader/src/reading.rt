@@ -1,5 +1,7 @@
 //! The whole file.
 ghost use Rattle.std.specs.Prelude.{◌≡◌, ◌≢◌, ◌⊎◌, ◌++◌, ◌<◌, ◌≤◌, ℕ, List as Items, length, drop, slice_index, All, IsTrue, ◌↔◌, IfOk, IfErr};
+ghost use Rattle.geo_stream.specs.Refusals.{IfFault};
+ghost use Rattle.geo_stream.specs.declared.refusal.Refusal.TheVariants.{Fault, NoMemory};
 ghost use Rattle.half_grid.specs.Trapezoids.{Trapezoid, IsShot};
 ghost use Rattle.oas_lex.specs.ShotText.{IsUnit, spelling_of, shot_text, end};
 ghost use Rattle.oas_lex.specs.ShotLaws.{IsNarrowPair};
@@ -11,7 +13,7 @@ use crate::corners::trap_of;
 use crate::fields::fields_at;
 use crate::head::{head_of, longest_head};
 use crate::refusing::{ShotBad, record_refusal};
-use geo_stream::List;
+use geo_stream::{List, Refusal};
 use half_grid::Trap;
 use layout_model::Pair;
 use oas_lex::end_text;
@@ -87,37 +89,37 @@ pub fn ends_at(bytes: &[u8], at: usize) -> bool
 
 /// The unit, the pair and the shots of which the bytes are the text. Bytes that are no such text are refused, by the
 /// first fault, whatever comes after it. NoMemory may come in place of any answer where memory runs out.
-pub fn read_shots(alloc: Global, bytes: &[u8]) -> Result<ShotFile, ShotBad>
+pub fn read_shots(alloc: Global, bytes: &[u8]) -> Result<ShotFile, Refusal<ShotBad>>
     ensures found { IfOk result (λ file. IsFileOf bytes.now file.unit file.pair file.shots) }
     ensures read { (unit l d : ℕ) (shots : Items Trapezoid) → IsUnit unit → IsNarrowPair l d → All IsShot shots
         → bytes.now ≡ shot_text unit l d shots
         → IfOk result (λ file. (file.unit ≡ unit) × (file.shots ≡ shots) × Agrees file.pair l d) }
     ensures refused { (unit l d : ℕ) (shots : Items Trapezoid) → IsUnit unit → IsNarrowPair l d → All IsShot shots
         → bytes.now ≡ shot_text unit l d shots
-        → IfErr result (λ bad. bad ≡ ShotBad.NoMemory) }
-    ensures first_fault { IfErr result (λ bad. bad ≢ ShotBad.NoMemory → IsFirstFault bytes.now bad) }
-    ensures every_fault { (bad : ShotBad) → IsFirstFault bytes.now bad → (result ≡ Err bad) ⊎ (result ≡ Err ShotBad.NoMemory) }
+        → IfErr result (λ refusal. refusal ≡ NoMemory) }
+    ensures first_fault { IfFault result (IsFirstFault bytes.now) }
+    ensures every_fault { (bad : ShotBad) → IsFirstFault bytes.now bad → (result ≡ Err (Fault bad)) ⊎ (result ≡ Err NoMemory) }
 {
     let Some((unit, first)) = head_of(bytes) else {
-        return Err(ShotBad::Head(longest_head(bytes)));
+        return Err(Refusal::Fault(ShotBad::Head(longest_head(bytes))));
     };
     let mut at = first;
     let mut pair = None;
     let mut shots = List::new(alloc);
     while at < bytes.len() && bytes[at] != END {
-        let record = read_record(bytes, at, pair)?;
-        match shots.push(record.shot) {
-            Ok(()) => {}
-            Err(_refused) => return Err(ShotBad::NoMemory),
-        }
+        let record = match read_record(bytes, at, pair) {
+            Ok(record) => record,
+            Err(bad) => return Err(Refusal::Fault(bad)),
+        };
+        shots.push(record.shot)?;
         pair = Some(record.pair);
         at = record.next;
     }
     if at == bytes.len() {
-        return Err(ShotBad::Record(at));
+        return Err(Refusal::Fault(ShotBad::Record(at)));
     }
     if !ends_at(bytes, at) {
-        return Err(ShotBad::End(at));
+        return Err(Refusal::Fault(ShotBad::End(at)));
     }
     Ok(ShotFile { unit, pair, shots })
 }

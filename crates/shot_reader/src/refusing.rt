@@ -18,8 +18,6 @@ pub enum ShotBad {
     Illegal(usize),
     /// The END record isn't that of a shot file, or isn't the file's end.
     End(usize),
-    /// Memory ran out.
-    NoMemory,
 }
 
 // How many numbers the record of this id has.

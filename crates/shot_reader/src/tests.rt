@@ -1,5 +1,6 @@
 // The shots of small files by their bytes, and the first fault of bytes that are no shot file.
 use crate::{ShotBad, ShotFile, read_shots, reading_laws};
+use geo_stream::Refusal;
 use half_grid::{Line, Trap};
 use layout_model::Pair;
 use std::alloc::Global;
@@ -40,9 +41,13 @@ fn file_of(alloc: Global, records: &[u8]) -> Result<Vec<u8>, Fail> {
     bytes_of(alloc, UNIT, records, &end_of(alloc)?)
 }
 
-// The refusal of the bytes.
-fn refusal(alloc: Global, bytes: &[u8]) -> Option<ShotBad> {
-    read_shots(alloc, bytes).err()
+// The first fault of the bytes, where they have one.
+fn fault_in(alloc: Global, bytes: &[u8]) -> Result<Option<ShotBad>, Fail> {
+    match read_shots(alloc, bytes) {
+        Ok(_file) => Ok(None),
+        Err(Refusal::Fault(bad)) => Ok(Some(bad)),
+        Err(Refusal::NoMemory) => Err(Fail::from("no memory")),
+    }
 }
 
 // What the file of these records says.
@@ -116,7 +121,7 @@ fn reads_each_kind(rt: HostRuntime) -> Result<(), Fail> {
 
 #[test]
 fn refuses_heads(rt: HostRuntime) -> Result<(), Fail> {
-    assert_eq!(rt; refusal(rt.alloc(), &[]), Some(ShotBad::Head(0)));
+    assert_eq!(rt; fault_in(rt.alloc(), &[])?, Some(ShotBad::Head(0)));
     // the bytes of the unit
     let rows: [(&[u8], Option<ShotBad>); 10] = [
         (&[0x02], None),
@@ -138,12 +143,12 @@ fn refuses_heads(rt: HostRuntime) -> Result<(), Fail> {
     ];
     for (unit, bad) in rows {
         let bytes = bytes_of(rt.alloc(), unit, SQUARE, &end_of(rt.alloc())?)?;
-        assert_eq!(rt; refusal(rt.alloc(), &bytes), bad);
+        assert_eq!(rt; fault_in(rt.alloc(), &bytes)?, bad);
     }
     Ok(())
 }
 
-// Records at 41, and the refusal of their file.
+// Records at 41, and the first fault of their file.
 const REFUSED: [(&[u8], ShotBad); 13] = [
     // another id
     (b"\x15\x7B\x01\x00\x14\x14\x00\x00", ShotBad::Record(41)),
@@ -199,7 +204,7 @@ const REFUSED: [(&[u8], ShotBad); 13] = [
 fn refuses_records(rt: HostRuntime) -> Result<(), Fail> {
     for (records, bad) in REFUSED {
         let bytes = file_of(rt.alloc(), records)?;
-        assert_eq!(rt; refusal(rt.alloc(), &bytes), Some(bad));
+        assert_eq!(rt; fault_in(rt.alloc(), &bytes)?, Some(bad));
     }
     Ok(())
 }
@@ -210,7 +215,7 @@ fn refuses_ends(rt: HostRuntime) -> Result<(), Fail> {
     // one byte more
     let mut more = bytes_of(rt.alloc(), UNIT, SQUARE, &end)?;
     more.push(0)?;
-    assert_eq!(rt; refusal(rt.alloc(), &more), Some(ShotBad::End(49)));
+    assert_eq!(rt; fault_in(rt.alloc(), &more)?, Some(ShotBad::End(49)));
     // each byte but the first changed
     for (index, _byte) in end.iter().enumerate() {
         let mut other = end_of(rt.alloc())?;
@@ -223,7 +228,7 @@ fn refuses_ends(rt: HostRuntime) -> Result<(), Fail> {
             ShotBad::End(49)
         };
         let bytes = bytes_of(rt.alloc(), UNIT, SQUARE, &other)?;
-        assert_eq!(rt; refusal(rt.alloc(), &bytes), Some(bad));
+        assert_eq!(rt; fault_in(rt.alloc(), &bytes)?, Some(bad));
     }
     Ok(())
 }
@@ -239,7 +244,7 @@ fn refuses_what_is_cut(rt: HostRuntime) -> Result<(), Fail> {
             49 => ShotBad::Record(49),
             _ => ShotBad::End(49),
         };
-        assert_eq!(rt; refusal(rt.alloc(), &bytes[..count]), Some(bad));
+        assert_eq!(rt; fault_in(rt.alloc(), &bytes[..count])?, Some(bad));
     }
     Ok(())
 }

@@ -1,7 +1,6 @@
 use Rattle.std.proofs.Common.{◌≡◌, ◌++◌, ℕ, List, drop, get_or, refl, ap, sym, subst, ◌∙◌, arith, inl}
 use Rattle.std.specs.Prelude.{flat_map, All}
 use Rattle.std.proofs.Math.Seq.{drop-length}
-use Rattle.std.proofs.lemmas.Result.{err_from_is_err_and}
 use Rattle.half_grid.specs.Trapezoids.{Trapezoid, IsShot}
 use Rattle.oas_lex.specs.ShotText.{spelling_of}
 use Rattle.shot_reader.specs.Refusals.{IsFirstFault}
@@ -30,46 +29,44 @@ pub returns-in_default-clause-refused : goal.returns-in_default-clause-refused
 returns-in_default-clause-refused c = λ unit l d shots h p all e. absurd (text_right c.args.bytes.now unit l d shots _ h p all e (no_head c))
 
 pub returns-in_default-clause-first_fault : goal.returns-in_default-clause-first_fault
-returns-in_default-clause-first_fault c = λ other. no_head c
+returns-in_default-clause-first_fault c = no_head c
 
 pub returns-in_default-clause-every_fault : goal.returns-in_default-clause-every_fault
 returns-in_default-clause-every_fault c = told c.args.bytes.now _ _ refl (no_head c)
 
 -- ---- a record
 
-record_fault : (c : goal.After-drop-shots-inside) → IsFirstFault c.args.bytes.now c.in_err-record.field-0.0
+record_fault : (c : goal.After-drop-shots-inside) → IsFirstFault c.args.bytes.now c.in-Err.bad
 record_fault c =
     read_fault c.args.bytes.now c.in-Some.first c.loop-at.at c.in-Some.unit c.loop-at.pair c.loop-at.shots _
     c.in-Some.ensures.found.0 c.loop-at.invariant.within c.in-Some.ensures.found.2 c.loop-at.invariant.pair
     c.loop-at.invariant.legal c.loop-at.invariant.found
-    c.in_err-record.ensures.refused
+    c.in-Err.ensures.refused
 
-pub returns-in_err-record-clause-refused : goal.returns-in_err-record-clause-refused
-returns-in_err-record-clause-refused c = λ unit l d shots h p all e. absurd (text_right c.args.bytes.now unit l d shots _ h p all e (record_fault c))
+pub returns-in-Err-clause-refused : goal.returns-in-Err-clause-refused
+returns-in-Err-clause-refused c = λ unit l d shots h p all e. absurd (text_right c.args.bytes.now unit l d shots _ h p all e (record_fault c))
 
-pub returns-in_err-record-clause-first_fault : goal.returns-in_err-record-clause-first_fault
-returns-in_err-record-clause-first_fault c =
-    let p = err_from_is_err_and c.from_residual.result c.from_residual.ensures.1 in rw (p.1, p.2) (λ other. record_fault c)
+pub returns-in-Err-clause-first_fault : goal.returns-in-Err-clause-first_fault
+returns-in-Err-clause-first_fault c = record_fault c
 
-pub returns-in_err-record-clause-every_fault : goal.returns-in_err-record-clause-every_fault
-returns-in_err-record-clause-every_fault c =
-    let p = err_from_is_err_and c.from_residual.result c.from_residual.ensures.1 in told c.args.bytes.now _ _ (rw (p.1, p.2) refl) (record_fault c)
+pub returns-in-Err-clause-every_fault : goal.returns-in-Err-clause-every_fault
+returns-in-Err-clause-every_fault c = told c.args.bytes.now _ _ refl (record_fault c)
 
 pub loop-at-preserved : goal.loop-at-preserved
 loop-at-preserved c =
-    let pushed = c.in-Ok.ensures.ok in
-    let z = c.in_ok-record.record.shot in
-    let m = c.in_ok-record.record.pair.layer in
-    let e = c.in_ok-record.record.pair.datatype in
+    let pushed = c.in_ok-push.ensures.ok in
+    let z = c.in-Ok.record.shot in
+    let m = c.in-Ok.record.pair.layer in
+    let e = c.in-Ok.record.pair.datatype in
     record {
-      within = c.in_ok-record.ensures.next.1;
-      pair = (λ w. not_nil c.loop-at.shots z (sym pushed ∙ w), c.in_ok-record.ensures.pair.0);
-      legal = subst (λ (zs : List Trapezoid). All IsShot zs) (sym pushed) (all_more c.loop-at.shots z c.loop-at.invariant.legal c.in_ok-record.ensures.shot);
+      within = c.in-Ok.ensures.next.1;
+      pair = (λ w. not_nil c.loop-at.shots z (sym pushed ∙ w), c.in-Ok.ensures.pair.0);
+      legal = subst (λ (zs : List Trapezoid). All IsShot zs) (sym pushed) (all_more c.loop-at.shots z c.loop-at.invariant.legal c.in-Ok.ensures.shot);
       found = found_next c.loop-at.pair m e c.loop-at.shots z (drop c.in-Some.first c.args.bytes.now)
           (drop c.loop-at.at c.args.bytes.now)
-          (drop c.in_ok-record.record.next c.args.bytes.now) c.loop-at.invariant.pair c.in_ok-record.ensures.pair.1
-          c.loop-at.invariant.found c.in_ok-record.ensures.found
-          ∙ ap (λ (zs : List Trapezoid). flat_map (spelling_of m e) zs ++ drop c.in_ok-record.record.next c.args.bytes.now) (sym pushed);
+          (drop c.in-Ok.record.next c.args.bytes.now) c.loop-at.invariant.pair c.in-Ok.ensures.pair.1
+          c.loop-at.invariant.found c.in-Ok.ensures.found
+          ∙ ap (λ (zs : List Trapezoid). flat_map (spelling_of m e) zs ++ drop c.in-Ok.record.next c.args.bytes.now) (sym pushed);
     }
 
 -- ---- the bytes end
@@ -86,7 +83,7 @@ pub returns-then-at-bytes-clause-refused : goal.returns-then-at-bytes-clause-ref
 returns-then-at-bytes-clause-refused c = λ unit l d shots h p all e. absurd (text_right c.args.bytes.now unit l d shots _ h p all e (cut c))
 
 pub returns-then-at-bytes-clause-first_fault : goal.returns-then-at-bytes-clause-first_fault
-returns-then-at-bytes-clause-first_fault c = λ other. cut c
+returns-then-at-bytes-clause-first_fault c = cut c
 
 pub returns-then-at-bytes-clause-every_fault : goal.returns-then-at-bytes-clause-every_fault
 returns-then-at-bytes-clause-every_fault c = told c.args.bytes.now _ _ refl (cut c)
@@ -108,7 +105,7 @@ pub returns-then-not-ends_at-clause-refused : goal.returns-then-not-ends_at-clau
 returns-then-not-ends_at-clause-refused c = λ unit l d shots h p all e. absurd (text_right c.args.bytes.now unit l d shots _ h p all e (last c))
 
 pub returns-then-not-ends_at-clause-first_fault : goal.returns-then-not-ends_at-clause-first_fault
-returns-then-not-ends_at-clause-first_fault c = λ other. last c
+returns-then-not-ends_at-clause-first_fault c = last c
 
 pub returns-then-not-ends_at-clause-every_fault : goal.returns-then-not-ends_at-clause-every_fault
 returns-then-not-ends_at-clause-every_fault c = told c.args.bytes.now _ _ refl (last c)
