@@ -1,5 +1,6 @@
 // The shots of packed files by their bytes, both ways, and the first fault of bytes that are no packed file.
 use depot::MemDepot;
+use geo_stream::Refusal;
 use half_grid::{Line, Trap};
 use layout_model::Pair;
 use shot_repeat::{PackBad, pack_shots, packing_laws, read_packed, reading_laws};
@@ -134,7 +135,7 @@ fn packs_and_reads_back(rt: HostRuntime) -> Result<(), Fail> {
     Ok(())
 }
 
-// Records at 41, and the refusal of their file.
+// Records at 41, and the first fault of their file.
 const REFUSED: [(&[u8], PackBad); 22] = [
     // another id, bit 80, another kind, bit 0 of the delta clear
     (b"\x15\x7B\x01\x00\x14\x14\x00\x00", PackBad::Record(41)),
@@ -209,10 +210,12 @@ const REFUSED: [(&[u8], PackBad); 22] = [
 #[test]
 fn refuses_records(rt: HostRuntime) -> Result<(), Fail> {
     reading_laws();
-    assert_eq!(rt; read_packed(rt.alloc(), &[]).err(), Some(PackBad::Head(0)));
+    let none = read_packed(rt.alloc(), &[]).err();
+    assert_eq!(rt; none, Some(Refusal::Fault(PackBad::Head(0))));
     for (records, bad) in REFUSED {
         let bytes = file_of(rt.alloc(), records)?;
-        assert_eq!(rt; read_packed(rt.alloc(), &bytes).err(), Some(bad));
+        let refusal = read_packed(rt.alloc(), &bytes).err();
+        assert_eq!(rt; refusal, Some(Refusal::Fault(bad)));
     }
     Ok(())
 }
@@ -227,7 +230,8 @@ fn refuses_what_is_cut(rt: HostRuntime) -> Result<(), Fail> {
             52 => PackBad::Record(52),
             _ => PackBad::End(52),
         };
-        assert_eq!(rt; read_packed(rt.alloc(), &bytes[..count]).err(), Some(bad));
+        let refusal = read_packed(rt.alloc(), &bytes[..count]).err();
+        assert_eq!(rt; refusal, Some(Refusal::Fault(bad)));
     }
     Ok(())
 }

@@ -1,9 +1,12 @@
 -- A packed shot file says one thing, and has no fault.
 use Rattle.std.proofs.Common.{◌≡◌, ◌≢◌, ◌⊎◌, ℕ, suc, ◌+◌, ◌≤◌, List, [], ◌∷◌, ◌++◌, map, length, take, drop, Option}
 use Rattle.std.proofs.Common.{Some, None, All, refl, arith, ap, sym, subst, ◌∙◌, inl, inr, append_assoc, length-append}
-use Rattle.std.specs.Prelude.{flat_map, Result, Ok, Err, IfOk, IfErr}
+use Rattle.std.specs.Prelude.{flat_map, Result, Ok, Err, IfOk}
 use Rattle.std.proofs.lemmas.List.Sums.{sum_by-append}
 use Rattle.std.proofs.Math.Seq.{take-append_seam, drop-append_seam}
+use Rattle.geo_stream.specs.Refusals.{IfFault}
+use Rattle.geo_stream.specs.declared.refusal.Refusal.{Refusal}
+use Rattle.geo_stream.specs.declared.refusal.Refusal.TheVariants.{Fault, NoMemory}
 use Rattle.half_grid.specs.Trapezoids.{Trapezoid, IsShot}
 use Rattle.layout_model.specs.declared.pair.Pair.{Pair}
 use Rattle.oas_lex.specs.ShotText.{head, end, fields_of}
@@ -17,7 +20,6 @@ use Rattle.shot_repeat.specs.Refusals.{HasFirstPair, count_given, AreRight, IsRe
 use Rattle.shot_repeat.specs.Values.{fields_in, count_of, step_of, given, all_given, AreDefined}
 use Rattle.shot_repeat.specs.declared.record.PackRecord.{PackRecord}
 use Rattle.shot_repeat.specs.declared.refusing.PackBad.{PackBad}
-use Rattle.shot_repeat.specs.declared.refusing.PackBad.TheVariants as faults
 use Rattle.shot_repeat.proofs.Gifts.{length_moved, length_map, some_given, first_given, halves, all_front, all_rest}
 use Rattle.shot_repeat.proofs.Rights.{no_fault, one_fault}
 use Rattle.shot_repeat.proofs.Unique.{one_list, narrow_rest}
@@ -164,23 +166,18 @@ pub file_right : (bytes : List ℕ) (unit : ℕ) (first : Option Pair) (shots : 
 file_right bytes unit first shots bad f fault =
     let up = file_up bytes unit first shots f in no_fault bytes up.0 f.stands.records bad up.1 up.2 fault
 
-pub told : {T : Type 0} (bytes : List ℕ) (own : PackBad) (result : Result T PackBad) → result ≡ Err own
-    → IsFirstFault bytes own → (bad : PackBad) → IsFirstFault bytes bad → (result ≡ Err bad)
-    ⊎ (result ≡ Err faults.NoMemory)
+pub told : {T : Type 0} (bytes : List ℕ) (own : PackBad) (result : Result T (Refusal PackBad)) → result ≡ Err (Fault own)
+    → IsFirstFault bytes own → (bad : PackBad) → IsFirstFault bytes bad → (result ≡ Err (Fault bad))
+    ⊎ (result ≡ Err NoMemory)
 told {T} bytes own result e f bad w =
-    let wrong : PackBad → Result T PackBad = λ b. Err b in
+    let wrong : PackBad → Result T (Refusal PackBad) = λ b. Err (Fault b) in
     inl (e ∙ ap wrong (one_fault bytes own bad f w))
 
-pub told_by : {T : Type 0} (bytes : List ℕ) (own : PackBad) (result : Result T PackBad) → result ≡ Err own
-    → (own ≡ faults.NoMemory) ⊎ IsFirstFault bytes own → (bad : PackBad) → IsFirstFault bytes bad → (result ≡ Err bad)
-    ⊎ (result ≡ Err faults.NoMemory)
-told_by {T} bytes own result e (inl m) bad w = let wrong : PackBad → Result T PackBad = λ b. Err b in inr (e ∙ ap wrong m)
-told_by {T} bytes own result e (inr f) bad w = told bytes own result e f bad w
-
 -- the same of an answer, which is no fault where the bytes have none
-pub told_of : {T : Type 0} (P : T → Type 0) (bytes : List ℕ) (result : Result T PackBad)
+pub told_of : {T : Type 0} (P : T → Type 0) (bytes : List ℕ) (result : Result T (Refusal PackBad))
     → ((x : T) → P x → (bad : PackBad) → IsFirstFault bytes bad → ⊥) → IfOk result P
-    → IfErr result (λ own. (own ≡ faults.NoMemory) ⊎ IsFirstFault bytes own) → (bad : PackBad) → IsFirstFault bytes bad
-    → (result ≡ Err bad) ⊎ (result ≡ Err faults.NoMemory)
+    → IfFault result (IsFirstFault bytes) → (bad : PackBad) → IsFirstFault bytes bad
+    → (result ≡ Err (Fault bad)) ⊎ (result ≡ Err NoMemory)
 told_of {T} P bytes (Ok x) none found refused bad w = absurd (none x found bad w)
-told_of {T} P bytes (Err own) none found refused bad w = told_by bytes own (Err own) refl refused bad w
+told_of {T} P bytes (Err (Fault own)) none found refused bad w = told bytes own (Err (Fault own)) refl refused bad w
+told_of {T} P bytes (Err NoMemory) none found refused bad w = inr refl

@@ -8,6 +8,9 @@ use Rattle.std.proofs.lemmas.List.{append-nil, map-append, take-append-drop, app
 use Rattle.std.proofs.lemmas.List.Elements.{All-append}
 use Rattle.std.proofs.lemmas.List.Sums.{sum_by-append}
 use Rattle.std.proofs.lemmas.Grind.{flat_map-append}
+use Rattle.geo_stream.specs.Refusals.{IsForFault}
+use Rattle.geo_stream.specs.declared.refusal.Refusal.{Refusal}
+use Rattle.geo_stream.specs.declared.refusal.Refusal.TheVariants.{Fault, NoMemory}
 use Rattle.half_grid.specs.Trapezoids.{Trapezoid, IsShot}
 use Rattle.half_grid.specs.declared.plane.Point.{Point}
 use Rattle.layout_model.specs.declared.pair.Pair.{Pair}
@@ -308,17 +311,10 @@ pub read_fault : (bytes : List ℕ) (unit : ℕ) (records : List PackRecord) (p 
     → IsRecordFault records (drop p.at bytes) p.at bad → IsFirstFault bytes bad
 read_fault bytes unit records p shots bad u h fault = inr (p.at, records, read_up bytes unit records p shots u h, fault)
 
-pub not_begun_by : {A B : Type 0} → A ⊎ B → (A → ⊥) → B
-not_begun_by {A} {B} (inl a) h = absurd (h a)
-not_begun_by {A} {B} (inr b) h = b
-
-pub other_by : {A B D : Type 0} → A ⊎ B → (B → D) → A ⊎ D
-other_by {A} {B} {D} (inl a) f = inl a
-other_by {A} {B} {D} (inr b) f = inr (f b)
-
-pub own_by : {A B : Type 0} → A ⊎ B → (B → ⊥) → A
-own_by {A} {B} (inl a) h = a
-own_by {A} {B} (inr b) h = absurd (h b)
+-- what is refused for no fault is refused for want of memory
+pub wanting_by : {F : Type 0} (P : F → Type 0) (refusal : Refusal F) → IsForFault P refusal → ((fault : F) → P fault → ⊥) → refusal ≡ NoMemory
+wanting_by {F} P (Fault fault) p h = absurd (h fault p)
+wanting_by {F} P NoMemory p h = refl
 
 -- what holds of an answer, by what holds of it
 pub ok_by : {T E : Type 0} (r : Result T E) (P Q : T → Type 0) → ((x : T) → P x → Q x) → IfOk r P → IfOk r Q
@@ -357,14 +353,6 @@ illegal_fault before rest after r f step count at bad n e j s m a =
     value_fault before rest after r at bad n e
     (subst (λ (b : PackBad). IsValueFault before r at b) (sym a.0)
     (not_legal before r f at j (none_as f r step count s m a.1)))
-
-pub illegal_by : (before : List PackRecord) (rest after : List ℕ) (r : PackRecord) (f : ShotFields) (step : Point)
-    (count at : ℕ) (bad : PackBad) → IsNarrow r → rest ≡ record_text r ++ after → IsJudged before r f
-    → step ≡ step_of r.repetition → count ≡ count_of r.repetition
-    → (bad ≡ faults.NoMemory) ⊎ ((bad ≡ faults.Illegal at) × ((zs : List Trapezoid) → IsGivenBy f step count zs → ⊥))
-    → (bad ≡ faults.NoMemory) ⊎ IsRecordFault before rest at bad
-illegal_by before rest after r f step count at bad n e j s m (inl a) = inl a
-illegal_by before rest after r f step count at bad n e j s m (inr a) = inr (illegal_fault before rest after r f step count at bad n e j s m a)
 
 -- the bytes end where a record is to begin
 pub cut_fault : (before : List PackRecord) (rest : List ℕ) (at : ℕ) → rest ≡ [] → IsRecordFault before rest at (faults.Record at)

@@ -1,12 +1,13 @@
 //! The shots that a record gives.
 ghost use Rattle.std.specs.Prelude.{◌≡◌, ◌⊎◌, ◌+ℤ◌, ◌++◌, ◌<◌, ◌≤◌, ◌^◌, List as Items, map, OnOk, IfErr, All, unsigned_abs};
+ghost use Rattle.geo_stream.specs.Refusals.{IfFault};
 ghost use Rattle.half_grid.specs.Trapezoids.{Trapezoid, IsShot};
 ghost use Rattle.oas_lex.specs.ShotText.{fields_of};
 ghost use Rattle.shot_repeat.specs.Values.{moved, moved_from};
 ghost use Rattle.shot_repeat.specs.Giving.{IsGivenBy};
 
 use crate::refusing::PackBad;
-use geo_stream::List;
+use geo_stream::{List, Refusal};
 use half_grid::{Point, Trap};
 use oas_lex::ShotFields;
 use shot_reader::trap_of;
@@ -39,31 +40,28 @@ pub(crate) fn put_shots(
     step: Point,
     count: u64,
     at: usize,
-) -> Result<(), PackBad>
+) -> Result<(), Refusal<PackBad>>
     requires step_x { unsigned_abs step.x < 2 ^ 62 }
     requires step_y { unsigned_abs step.y < 2 ^ 62 }
     ensures ok { OnOk result ((given : Items Trapezoid) × (shots.new ≡ shots.old ++ given) × IsGivenBy fields.now step count given) }
-    ensures refused { IfErr result (λ bad. (bad ≡ PackBad.NoMemory) ⊎ ((bad ≡ PackBad.Illegal at)
-        × ((given : Items Trapezoid) → IsGivenBy fields.now step count given → ⊥))) }
+    ensures refused { IfFault result (λ bad. (bad ≡ PackBad.Illegal at)
+        × ((given : Items Trapezoid) → IsGivenBy fields.now step count given → ⊥)) }
 {
     let mut next = *fields;
     let mut done = 0;
     while done < count {
         let Some(shot) = trap_of(&next) else {
-            return Err(PackBad::Illegal(at));
+            return Err(Refusal::Fault(PackBad::Illegal(at)));
         };
-        match shots.push(shot) {
-            Ok(()) => {}
-            Err(_refused) => return Err(PackBad::NoMemory),
-        }
+        shots.push(shot)?;
         next = stepped(&next, step);
         done += 1;
     }
     Ok(())
 }
 
-/// Whether this many shots, the first of these fields, each next one moved by one step more, are shots. Illegal with the
-/// offset where the fields of one are those of no shot. It takes no memory.
+/// Whether this many shots, the first of these fields, each next one moved by one step more, are shots. Illegal with
+/// the offset where the fields of one are those of no shot. It takes no memory.
 pub(crate) fn look_at_shots(
     fields: &ShotFields,
     step: Point,

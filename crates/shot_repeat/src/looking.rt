@@ -73,8 +73,8 @@ fn look_over(bytes: &[u8], start: &Progress) -> Result<(), PackBad>
     ends_right(bytes, progress.at)
 }
 
-/// Whether the records ask for few enough shots. Where they ask for too many the file is looked over for its first fault,
-/// still without memory.
+/// Whether the records ask for few enough shots. Where they ask for too many the file is looked over for its first
+/// fault, still without memory.
 pub(crate) fn check_number(bytes: &[u8], start: &Progress) -> Result<(), PackBad>
     requires { (unit : ℕ) × IsStart bytes.now unit start.now }
     ensures ok { OnOk result (AskForFew (drop start.now.at bytes.now)) }

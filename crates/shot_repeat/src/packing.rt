@@ -127,8 +127,8 @@ fn put_records<D: Depot>(depot: &mut D, pair: Pair, shots: &[Trap]) -> Result<u6
     Ok(records)
 }
 
-/// Makes a packed shot file of the shots, for the unit and the pair, and answers how many records it has. After a refusal
-/// the name is as before, or holds a prefix of the file's text. It takes no memory.
+/// Makes a packed shot file of the shots, for the unit and the pair, and answers how many records it has. After a
+/// refusal the name is as before, or holds a prefix of the file's text. It takes no memory.
 pub fn pack_shots<D: Depot>(
     depot: &mut D,
     name: &str,

@@ -28,8 +28,6 @@ pub enum PackBad {
     Illegal(usize),
     /// The END record isn't that of a shot file, or isn't the file's end.
     End(usize),
-    /// Memory ran out.
-    NoMemory,
 }
 
 // Where the number that begins at `at` ends: after its first byte below 80 hex.

@@ -1,4 +1,4 @@
-use Rattle.std.proofs.Common.{◌≡◌, ℕ, suc, ◌+◌, ap, subst, refl, ◌∙◌, arith, inr}
+use Rattle.std.proofs.Common.{◌≡◌, ℕ, suc, ◌+◌, ap, subst, refl, ◌∙◌, arith}
 use Rattle.oas_lex.specs.declared.fields.ShotFields.{ShotFields}
 use Rattle.shot_repeat.specs.Values.{moved}
 use Rattle.shot_repeat.proofs.Gifts.{moved_none, moved_next}
@@ -16,7 +16,7 @@ loop-done-init c = record {
 }
 
 pub returns-in_default-clause-refused : goal.returns-in_default-clause-refused
-returns-in_default-clause-refused c = inr (
+returns-in_default-clause-refused c = (
   refl,
   none_given c.args.fields.now c.loop-done.next c.args.step c.loop-done.done c.args.count c.args.shots.now
       c.loop-done.shots c.loop-done-test.true c.loop-done.invariant.put c.loop-done.invariant.next
@@ -36,5 +36,5 @@ loop-done-preserved c =
       put = subst (λ (n : ℕ). PutSoFar f step n c.args.count c.args.shots.now c.push.new.self) (next_is done)
           (one_put f c.loop-done.next step done c.args.count c.args.shots.now c.loop-done.shots c.push.new.self
           c.in-Some.shot c.loop-done-test.true c.loop-done.invariant.put c.loop-done.invariant.next
-          c.in-Some.ensures.some.0 c.in-Some.ensures.some.1 c.in-Ok.ensures.ok);
+          c.in-Some.ensures.some.0 c.in-Some.ensures.some.1 c.in_ok-push.ensures.ok);
     }

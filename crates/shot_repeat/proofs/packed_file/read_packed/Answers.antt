@@ -1,9 +1,8 @@
-use Rattle.std.proofs.Common.{refl, inl, inr, []}
-use Rattle.std.proofs.lemmas.Result.{err_from_is_err_and}
+use Rattle.std.proofs.Common.{refl, inl, []}
 use Rattle.shot_repeat.specs.Refusals.{IsFirstFault}
 use Rattle.shot_repeat.specs.declared.refusing.PackBad.TheVariants as faults
-use Rattle.shot_repeat.proofs.Files.{file_right, one_file, told, told_by, told_of}
-use Rattle.shot_repeat.proofs.Progressing.{none_read, own_by, not_begun_by, ok_by, err_by}
+use Rattle.shot_repeat.proofs.Files.{file_right, one_file, told, told_of}
+use Rattle.shot_repeat.proofs.Progressing.{none_read, wanting_by, ok_by, err_by}
 use Rattle.shot_repeat.proofs.packed_file.read_packed.Goals as goal
 
 -- ---- no head
@@ -24,7 +23,7 @@ pub returns-in_default-clause-refused : goal.returns-in_default-clause-refused
 returns-in_default-clause-refused c = λ unit pair shots f. absurd (file_right c.args.bytes.now unit pair shots _ f (no_head c))
 
 pub returns-in_default-clause-first_fault : goal.returns-in_default-clause-first_fault
-returns-in_default-clause-first_fault c = λ other. no_head c
+returns-in_default-clause-first_fault c = no_head c
 
 pub returns-in_default-clause-every_fault : goal.returns-in_default-clause-every_fault
 returns-in_default-clause-every_fault c = told c.args.bytes.now _ _ refl (no_head c)
@@ -66,20 +65,12 @@ take_file-requires-clause-start c = record {
       refl;
 }
 
-pub returns-in_err-check_number-clause-refused : goal.returns-in_err-check_number-clause-refused
-returns-in_err-check_number-clause-refused c = λ unit pair shots f. absurd
-    (file_right c.args.bytes.now unit pair shots c.in_err-check_number.field-0.0 f
-    c.in_err-check_number.ensures.refused)
+pub returns-in-Err-clause-refused : goal.returns-in-Err-clause-refused
+returns-in-Err-clause-refused c = λ unit pair shots f. absurd
+    (file_right c.args.bytes.now unit pair shots c.in-Err.bad f c.in-Err.ensures.refused)
 
-pub returns-in_err-check_number-clause-first_fault : goal.returns-in_err-check_number-clause-first_fault
-returns-in_err-check_number-clause-first_fault c =
-    let p = err_from_is_err_and c.from_residual.result c.from_residual.ensures.1 in rw (p.1, p.2) (λ other. c.in_err-check_number.ensures.refused)
-
-pub returns-in_err-check_number-clause-every_fault : goal.returns-in_err-check_number-clause-every_fault
-returns-in_err-check_number-clause-every_fault c =
-    let p = err_from_is_err_and c.from_residual.result c.from_residual.ensures.1 in
-    told_by c.args.bytes.now c.in_err-check_number.field-0.0 _ (rw (p.1, p.2) refl)
-    (inr c.in_err-check_number.ensures.refused)
+pub returns-in-Err-clause-every_fault : goal.returns-in-Err-clause-every_fault
+returns-in-Err-clause-every_fault c = told c.args.bytes.now c.in-Err.bad _ refl c.in-Err.ensures.refused
 
 -- ---- the records
 
@@ -91,10 +82,9 @@ returns-clause-read c = λ unit pair shots f.
 
 pub returns-clause-refused : goal.returns-clause-refused
 returns-clause-refused c = λ unit pair shots f.
-    err_by c.take_file.result _ _ (λ bad h. own_by h (λ w. file_right c.args.bytes.now unit pair shots bad f w)) c.take_file.ensures.refused
-
-pub returns-clause-first_fault : goal.returns-clause-first_fault
-returns-clause-first_fault c = err_by c.take_file.result _ _ (λ bad h other. not_begun_by h other) c.take_file.ensures.refused
+    err_by c.take_file.result _ _
+    (λ refusal fault. wanting_by _ refusal fault (λ bad w. file_right c.args.bytes.now unit pair shots bad f w))
+    c.take_file.ensures.refused
 
 pub returns-clause-every_fault : goal.returns-clause-every_fault
 returns-clause-every_fault c =
