@@ -1,6 +1,6 @@
 -- From the answer to shots to that to bytes, and from files to more files.
 use Rattle.std.proofs.lemmas.Int.{ints, by_lt_z}
-use Rattle.std.proofs.Common.{pos, ◌≡◌, ◌≢◌, ℕ, ◌+◌, ◌<◌, List, [], ◌∷◌, ◌++◌, length, length-append, Option, Some}
+use Rattle.std.proofs.Common.{pos, ◌≡◌, ℕ, ◌+◌, ◌<◌, List, [], ◌∷◌, ◌++◌, length, length-append, Option, Some}
 use Rattle.std.proofs.Common.{None, Result, Ok, Err, IfOk, IsSomeAnd, slice_get, slice_index_or, refl, sym, ap, ◌∙◌}
 use Rattle.std.proofs.Common.{arith}
 use Rattle.std.proofs.lemmas.Option.{slice_get_within, get_or_from_slice_get, slice_get-get_or}
@@ -9,10 +9,7 @@ use mathlib.Core.Logic.{inl, inr}
 use Rattle.depot.specs.Content.{Content, ChangesLeftOnly, IsLongerThan, IsNotThere, with_left}
 use Rattle.deck_text.specs.declared.deck.Output.{Output}
 use Rattle.deck_plan.specs.Plans.{Planned}
-use Rattle.shot_reader.specs.Refusals.{IsFirstFault}
 use Rattle.shot_reader.specs.declared.reading.ShotFile.{ShotFile}
-use Rattle.shot_reader.specs.declared.refusing.ShotBad.{ShotBad}
-use Rattle.shot_reader.specs.declared.refusing.ShotBad.TheVariants.{Head, Record, Spelling, Illegal, End, NoMemory as Wanting}
 use Rattle.shot_writer.specs.declared.parts.Sums.{Sums}
 use Rattle.file_check.specs.Certificates.{IsCertified}
 use Rattle.file_check.specs.Files.{Holds, HasHeadOf, IsTextOf, AreSumsOf, IsExactText, IsExactFile, IsFaultOf}
@@ -27,31 +24,15 @@ pub both_ok : {X E : Type 0} (r : Result X E) (P Q R : X → Type 0) → ((x : X
 both_ok (Ok x) P Q R f p q = f x p q
 both_ok (Err e) P Q R f p q = tt
 
-pub refused_bytes : (p : Planned) (k : ℕ) (output : Output) (bytes : List ℕ) (bad : ShotBad) (answer : CheckBad)
-    → (bad ≢ Wanting → answer ≡ answers.Refused k (faults.Bad bad)) → (bad ≡ Wanting → answer ≡ answers.NoMemory)
-    → (bad ≢ Wanting → IsFirstFault bytes bad) → IsBytesFault p k output bytes answer
-refused_bytes p k output bytes (Head at) answer real wanting fault = let no : Head at ≢ Wanting = λ e.
-    (let clash : ⊥ = cc in clash) in rw (real no) (refl, no, fault no)
-refused_bytes p k output bytes (Record at) answer real wanting fault = let no : Record at ≢ Wanting = λ e.
-    (let clash : ⊥ = cc in clash) in rw (real no) (refl, no, fault no)
-refused_bytes p k output bytes (Spelling at) answer real wanting fault = let no : Spelling at ≢ Wanting = λ e.
-    (let clash : ⊥ = cc in clash) in rw (real no) (refl, no, fault no)
-refused_bytes p k output bytes (Illegal at) answer real wanting fault = let no : Illegal at ≢ Wanting = λ e.
-    (let clash : ⊥ = cc in clash) in rw (real no) (refl, no, fault no)
-refused_bytes p k output bytes (End at) answer real wanting fault = let no : End at ≢ Wanting = λ e.
-    (let clash : ⊥ = cc in clash) in rw (real no) (refl, no, fault no)
-refused_bytes p k output bytes Wanting answer real wanting fault = rw (wanting refl) tt
-
 module _ (p : Planned) (k : ℕ) (output : Output) (bytes : List ℕ) (file : ShotFile)
     (text : IsTextOf bytes (data_of file)) (head : HasHeadOf p.deck output (data_of file)) where
   pub bytes_fault : (bad : CheckBad) → IsShotsFault p k file.shots bad → IsBytesFault p k output bytes bad
   bytes_fault (answers.Refused place faults.Long) h = h
   bytes_fault (answers.Refused place (faults.Bad bad)) h = absurd h
   bytes_fault (answers.Refused place faults.Head) h = absurd h
-  bytes_fault (answers.Refused place (faults.Verdict verdict)) h =
-      (h.0, record { s = data_of file; text = text; head = head; not_exact = h.1; verdict_is = h.2 })
+  bytes_fault (answers.Refused place (faults.Miscovered t count wanted)) h = (h.0, record { s = data_of file; text = text; head = head; holds_of = h.1 })
+  bytes_fault (answers.Refused place (faults.TooLarge i)) h = (h.0, record { s = data_of file; text = text; head = head; holds_of = h.1 })
   bytes_fault answers.ReadFault h = h
-  bytes_fault answers.NoMemory h = tt
 
   pub exact_text : (sums : Sums) → AreSumsOf file.shots sums → IsCertified p k file.shots → IsExactText p k output bytes sums
   exact_text sums are certified = record { s = data_of file; text = text; head = head; certified = certified; sums_are = are }
@@ -84,9 +65,10 @@ exact_before p k before now sums e h =
 cause_before : (p : Planned) (k : ℕ) (output : Output) (before now : Content) (fault : CheckFault)
     → ChangesLeftOnly before now → IsFaultOf p k output now fault → IsFaultOf p k output before fault
 cause_before p k output before now faults.Long e h = longer_before before now output.file e h
-cause_before p k output before now (faults.Bad bad) e h = (h.0, holds_before before now output.file h.0 e h.1, h.2, h.3)
+cause_before p k output before now (faults.Bad bad) e h = (h.0, holds_before before now output.file h.0 e h.1, h.2)
 cause_before p k output before now faults.Head e h = (h.0, holds_before before now output.file h.0 e h.1, h.2)
-cause_before p k output before now (faults.Verdict verdict) e h = (h.0, holds_before before now output.file h.0 e h.1, h.2)
+cause_before p k output before now (faults.Miscovered t count wanted) e h = (h.0, holds_before before now output.file h.0 e h.1, h.2)
+cause_before p k output before now (faults.TooLarge i) e h = (h.0, holds_before before now output.file h.0 e h.1, h.2)
 
 file_before : (p : Planned) (k : ℕ) (output : Output) (before now : Content) (old new : Type 0) (bad : CheckBad)
     → ChangesLeftOnly before now → (old → new) → IsFileFault p k output now old bad
@@ -94,7 +76,6 @@ file_before : (p : Planned) (k : ℕ) (output : Output) (before now : Content) (
 file_before p k output before now old new (answers.Refused place fault) e f h = (h.0, cause_before p k output before now fault e h.1)
 file_before p k output before now old new answers.ReadFault e f h =
     elim h [ inl rose ↦ inl (f rose) | inr missing ↦ inr (missing_before before now output.file e missing) ]
-file_before p k output before now old new answers.NoMemory e f h = tt
 
 pub fault_before : (p : Planned) (k : ℕ) (before now : Content) (old new : Type 0) (bad : CheckBad) → ChangesLeftOnly before now → (old → new)
     → OfOutput p k (λ output. IsFileFault p k output now old bad) → OfOutput p k (λ output. IsFileFault p k output before new bad)

@@ -18,9 +18,9 @@ use Rattle.shot_writer.specs.declared.parts.Sums.{Sums}
 use Rattle.shot_checker.specs.Verdicts.{IsFirstTooLarge}
 use Rattle.shot_checker.specs.declared.verdicts.Verdict.{Verdict}
 use Rattle.shot_checker.specs.declared.verdicts.Verdict.TheVariants.{Exact, Miscovered, TooLarge}
-use Rattle.file_check.specs.Certificates.{area_of}
+use Rattle.file_check.specs.Certificates.{area_of, IsCertified, IsMiscover}
 use Rattle.file_check.proofs.Certifying.{one_fault as one_miscover, not_covered, not_all_fit}
-use Rattle.file_check.specs.Files.{ShotData, IsTextOf, HasHeadOf, IsVerdictOn, HasOtherHead, Holds, IsExactFile}
+use Rattle.file_check.specs.Files.{ShotData, IsTextOf, HasHeadOf, HasOtherHead, HasShots, Holds, IsExactFile}
 use Rattle.file_check.specs.Files.{IsFaultOf, OfOutput, AreExactFiles, IsFileFault, IsFirstFileFault}
 use Rattle.file_check.specs.declared.faults.CheckFault.{CheckFault}
 use Rattle.file_check.specs.declared.faults.CheckFault.TheVariants as faults
@@ -50,6 +50,12 @@ pub data Class : Type 0 where
   Faulty : ShotBad → Class
   OtherHead : Class
   Judged : Verdict → Class
+
+-- what a verdict says of shots of output k
+abbrev pub IsVerdictOn : Planned → ℕ → List Trapezoid → Verdict → Type 0
+IsVerdictOn p k shots Exact = IsCertified p k shots
+IsVerdictOn p k shots (Miscovered t count wanted) = IsMiscover p k shots t count wanted
+IsVerdictOn p k shots (TooLarge i) = IsFirstTooLarge shots p.deck.limits i
 
 -- the bytes are the text of shots with this verdict
 pub record IsJudged (p : Planned) (k : ℕ) (output : Output) (bytes : List ℕ) (verdict : Verdict) : Type 0 where
@@ -152,34 +158,41 @@ abbrev pub class_of : CheckFault → Class
 class_of faults.Long = TooLong
 class_of (faults.Bad bad) = Faulty bad
 class_of faults.Head = OtherHead
-class_of (faults.Verdict verdict) = Judged verdict
+class_of (faults.Miscovered t count wanted) = Judged (Miscovered t count wanted)
+class_of (faults.TooLarge i) = Judged (TooLarge i)
+
+-- the fault of a class that is one's
+abbrev fault_of : Class → CheckFault
+fault_of Missing = faults.Long
+fault_of TooLong = faults.Long
+fault_of (Faulty bad) = faults.Bad bad
+fault_of OtherHead = faults.Head
+fault_of (Judged Exact) = faults.Long
+fault_of (Judged (Miscovered t count wanted)) = faults.Miscovered t count wanted
+fault_of (Judged (TooLarge i)) = faults.TooLarge i
+
+own_fault : (fault : CheckFault) → fault_of (class_of fault) ≡ fault
+own_fault faults.Long = refl
+own_fault (faults.Bad bad) = refl
+own_fault faults.Head = refl
+own_fault (faults.Miscovered t count wanted) = refl
+own_fault (faults.TooLarge i) = refl
 
 pub same_class : (x y : CheckFault) → class_of x ≡ class_of y → x ≡ y
-same_class faults.Long faults.Long e = refl
-same_class faults.Long (faults.Bad bad) e = let no : ⊥ = cc in absurd no
-same_class faults.Long faults.Head e = let no : ⊥ = cc in absurd no
-same_class faults.Long (faults.Verdict verdict) e = let no : ⊥ = cc in absurd no
-same_class (faults.Bad bad) faults.Long e = let no : ⊥ = cc in absurd no
-same_class (faults.Bad bad) (faults.Bad other) e = let same : bad ≡ other = cc in ap faults.Bad same
-same_class (faults.Bad bad) faults.Head e = let no : ⊥ = cc in absurd no
-same_class (faults.Bad bad) (faults.Verdict verdict) e = let no : ⊥ = cc in absurd no
-same_class faults.Head faults.Long e = let no : ⊥ = cc in absurd no
-same_class faults.Head (faults.Bad bad) e = let no : ⊥ = cc in absurd no
-same_class faults.Head faults.Head e = refl
-same_class faults.Head (faults.Verdict verdict) e = let no : ⊥ = cc in absurd no
-same_class (faults.Verdict verdict) faults.Long e = let no : ⊥ = cc in absurd no
-same_class (faults.Verdict verdict) (faults.Bad bad) e = let no : ⊥ = cc in absurd no
-same_class (faults.Verdict verdict) faults.Head e = let no : ⊥ = cc in absurd no
-same_class (faults.Verdict x) (faults.Verdict y) e = let same : x ≡ y = cc in ap faults.Verdict same
+same_class x y e = sym (own_fault x) ∙ (ap fault_of e ∙ own_fault y)
 
 module _ (p : Planned) (k : ℕ) (output : Output) (c : Content) where
+  judged_as : (bytes : List ℕ) (verdict : Verdict)
+      → HasShots p output bytes (λ shots. IsVerdictOn p k shots verdict) → IsJudged p k output bytes verdict
+  judged_as bytes verdict h = record { s = h.s; text = h.text; head = h.head; verdict_is = h.holds_of }
+
   pub fault_class : (fault : CheckFault) → IsFaultOf p k output c fault → IsClass p k output c (class_of fault) × (class_of fault ≢ Judged Exact)
   fault_class faults.Long h = (h, λ e. let no : ⊥ = cc in no)
-  fault_class (faults.Bad bad) h = ((h.0, h.1, h.3), λ e. let no : ⊥ = cc in no)
+  fault_class (faults.Bad bad) h = (h, λ e. let no : ⊥ = cc in no)
   fault_class faults.Head h = (h, λ e. let no : ⊥ = cc in no)
-  fault_class (faults.Verdict verdict) h =
-      let v = h.2 in
-      ((h.0, h.1, record { s = v.s; text = v.text; head = v.head; verdict_is = v.verdict_is }), λ e. v.not_exact (let same : verdict ≡ Exact = cc in same))
+  fault_class (faults.Miscovered t count wanted) h =
+      ((h.0, h.1, judged_as h.0 (Miscovered t count wanted) h.2), λ e. let no : ⊥ = cc in no)
+  fault_class (faults.TooLarge i) h = ((h.0, h.1, judged_as h.0 (TooLarge i) h.2), λ e. let no : ⊥ = cc in no)
 
   pub exact_class : (sums : Sums) → IsExactFile p k output c sums → IsClass p k output c (Judged Exact)
   exact_class sums h = let x = h.2 in (h.0, h.1, record { s = x.s; text = x.text; head = x.head; verdict_is = x.certified })

@@ -3,7 +3,9 @@
 -- A file is exact where it has at most 268,435,456 bytes and is the one text of a list of shots, its head has twice the
 -- deck's unit, its pair is the output's where it has shots, each shot fits the deck's limits, and each tile of the plane is
 -- in exactly one of the shots if it is in the output's area, and in none otherwise.
-use Rattle.std.specs.Prelude.{ℕ, ◌*◌, ◌≤◌, ◌≡◌, ◌≢◌, ◌⊎◌, List, length, slice_get, Option, Some, IfSome, IsSomeAnd, ⊤}
+use Rattle.std.specs.Prelude.{ℕ, ◌*◌, ◌≤◌, ◌≡◌, ◌⊎◌, List, length, slice_get, Option, Some, IfSome, IsSomeAnd, ⊤}
+use Rattle.geo_stream.specs.declared.refusal.Refusal.{Refusal}
+use Rattle.geo_stream.specs.declared.refusal.Refusal.TheVariants.{Fault, NoMemory}
 use Rattle.half_grid.specs.Trapezoids.{Trapezoid}
 use Rattle.depot.specs.Content.{Content, held_as, IsNotThere, IsLongerThan}
 use Rattle.depot.specs.Counts.{Counts, Rose}
@@ -13,12 +15,9 @@ use Rattle.deck_text.specs.declared.deck.Deck.{Deck}
 use Rattle.deck_plan.specs.Plans.{Planned}
 use Rattle.shot_reader.specs.Reading.{IsFileOf}
 use Rattle.shot_reader.specs.Refusals.{IsFirstFault}
-use Rattle.shot_reader.specs.declared.refusing.ShotBad.TheVariants.{NoMemory as Wanting}
 use Rattle.shot_writer.specs.Writing.{triangles_of}
 use Rattle.shot_writer.specs.declared.parts.Sums.{Sums}
 use Rattle.shot_checker.specs.Verdicts.{IsFirstTooLarge}
-use Rattle.shot_checker.specs.declared.verdicts.Verdict.{Verdict}
-use Rattle.shot_checker.specs.declared.verdicts.Verdict.TheVariants as verdicts
 use Rattle.file_check.specs.Certificates.{IsCertified, IsMiscover}
 use Rattle.file_check.specs.declared.faults.CheckFault.{CheckFault}
 use Rattle.file_check.specs.declared.faults.CheckFault.TheVariants as faults
@@ -39,12 +38,6 @@ IsTextOf bytes s = IsFileOf bytes s.unit s.pair s.shots
 pub record HasHeadOf (deck : Deck) (output : Output) (s : ShotData) : Type 0 where
   pub unit : s.unit ≡ 2 * deck.unit
   pub pair : IfSome s.pair (λ pair. pair ≡ output.pair)
-
--- what a verdict says of shots of output k
-abbrev pub IsVerdictOn : Planned → ℕ → List Trapezoid → Verdict → Type 0
-IsVerdictOn p k shots verdicts.Exact = IsCertified p k shots
-IsVerdictOn p k shots (verdicts.Miscovered t count wanted) = IsMiscover p k shots t count wanted
-IsVerdictOn p k shots (verdicts.TooLarge i) = IsFirstTooLarge shots p.deck.limits i
 
 -- the number of shots, and that of their triangles
 pub record AreSumsOf (shots : List Trapezoid) (sums : Sums) : Type 0 where
@@ -67,13 +60,12 @@ pub record HasOtherHead (p : Planned) (output : Output) (bytes : List ℕ) : Typ
   pub text : IsTextOf bytes s
   pub other : HasHeadOf p.deck output s → ⊥
 
--- they are the text of shots with this verdict, which isn't Exact
-pub record HasVerdict (p : Planned) (k : ℕ) (output : Output) (bytes : List ℕ) (verdict : Verdict) : Type 0 where
+-- they are the text of shots with the right head, of which this holds
+pub record HasShots (p : Planned) (output : Output) (bytes : List ℕ) (holds : List Trapezoid → Type 0) : Type 0 where
   pub s : ShotData
   pub text : IsTextOf bytes s
   pub head : HasHeadOf p.deck output s
-  pub not_exact : verdict ≢ verdicts.Exact
-  pub verdict_is : IsVerdictOn p k s.shots verdict
+  pub holds_of : holds s.shots
 
 -- ---- the file of output k
 
@@ -87,9 +79,12 @@ IsExactFile p k output c sums = (bytes : List ℕ) × Holds c output.file bytes 
 -- why the file is refused
 abbrev pub IsFaultOf : Planned → ℕ → Output → Content → CheckFault → Type 0
 IsFaultOf p k output c faults.Long = IsLongerThan 268435456 c output.file
-IsFaultOf p k output c (faults.Bad bad) = (bytes : List ℕ) × Holds c output.file bytes × (bad ≢ Wanting) × IsFirstFault bytes bad
+IsFaultOf p k output c (faults.Bad bad) = (bytes : List ℕ) × Holds c output.file bytes × IsFirstFault bytes bad
 IsFaultOf p k output c faults.Head = (bytes : List ℕ) × Holds c output.file bytes × HasOtherHead p output bytes
-IsFaultOf p k output c (faults.Verdict verdict) = (bytes : List ℕ) × Holds c output.file bytes × HasVerdict p k output bytes verdict
+IsFaultOf p k output c (faults.Miscovered t count wanted) =
+    (bytes : List ℕ) × Holds c output.file bytes × HasShots p output bytes (λ shots. IsMiscover p k shots t count wanted)
+IsFaultOf p k output c (faults.TooLarge i) =
+    (bytes : List ℕ) × Holds c output.file bytes × HasShots p output bytes (λ shots. IsFirstTooLarge shots p.deck.limits i)
 
 -- ---- all files
 
@@ -106,7 +101,6 @@ pub record AreExactFiles (p : Planned) (c : Content) (n : ℕ) (sums : List Sums
 abbrev pub IsFileFault : Planned → ℕ → Output → Content → Type 0 → CheckBad → Type 0
 IsFileFault p k output c read_rose (answers.Refused place fault) = (place ≡ k) × IsFaultOf p k output c fault
 IsFileFault p k output c read_rose answers.ReadFault = read_rose ⊎ IsNotThere c output.file
-IsFileFault p k output c read_rose answers.NoMemory = ⊤
 
 -- the files before some place are exact, and this is the answer to the file there
 pub record IsFirstFileFault (p : Planned) (c : Content) (read_rose : Type 0) (bad : CheckBad) : Type 0 where
@@ -115,17 +109,8 @@ pub record IsFirstFileFault (p : Planned) (c : Content) (read_rose : Type 0) (ba
   pub before : AreExactFiles p c place sums
   pub fault : OfOutput p place (λ output. IsFileFault p place output c read_rose bad)
 
--- a fault that is kept is never want of memory, and a verdict that is kept is never Exact
-abbrev pub IsReal : CheckBad → Type 0
-IsReal (answers.Refused place faults.Long) = ⊤
-IsReal (answers.Refused place (faults.Bad bad)) = bad ≢ Wanting
-IsReal (answers.Refused place faults.Head) = ⊤
-IsReal (answers.Refused place (faults.Verdict verdict)) = verdict ≢ verdicts.Exact
-IsReal answers.ReadFault = ⊤
-IsReal answers.NoMemory = ⊤
-
 -- what was counted: nothing, but for a fault of reading, and for want of memory, where a want of memory or nothing was
-abbrev pub CountsFor : Counts → Counts → CheckBad → Type 0
-CountsFor old new (answers.Refused place fault) = new ≡ old
-CountsFor old new answers.ReadFault = ⊤
-CountsFor old new answers.NoMemory = Rose old.refused new.refused ⊎ (new ≡ old)
+abbrev pub CountsFor : Counts → Counts → Refusal CheckBad → Type 0
+CountsFor old new (Fault (answers.Refused place fault)) = new ≡ old
+CountsFor old new (Fault answers.ReadFault) = ⊤
+CountsFor old new NoMemory = Rose old.refused new.refused ⊎ (new ≡ old)

@@ -60,13 +60,14 @@ fn fault_of_output(
 }
 
 /// The verdict on shots of an output of the deck, whoever made them. TooLarge where some shot doesn't fit the deck's
-/// limits, with the first such shot. Otherwise Miscovered where some tile of the plane isn't in exactly one shot if it is
-/// in the output's area, and in none otherwise: with the lowest such tile, leftmost in its row, its number of shots and
-/// its wanted number. Otherwise Exact. Want of memory is the only refusal, and never comes where some shot doesn't fit.
+/// limits, with the first such shot. Otherwise Miscovered where some tile of the plane isn't in exactly one shot if it
+/// is in the output's area, and in none otherwise: with the lowest such tile, leftmost in its row, its number of shots
+/// and its wanted number. Otherwise Exact. Want of memory is the only refusal, and never comes where some shot doesn't
+/// fit.
 ///
-/// The area is computed band by band, each in strips of rows, from below, up to the first fault. Shots are sorted by their
-/// lower ends once, and each is looked at in the strips that it meets, and with all others in the rows below and above
-/// all bands.
+/// The area is computed band by band, each in strips of rows, from below, up to the first fault. Shots are sorted by
+/// their lower ends once, and each is looked at in the strips that it meets, and with all others in the rows below and
+/// above all bands.
 pub fn check_output(
     alloc: Global,
     plan: &Plan,

@@ -1,13 +1,16 @@
 //! The shot files of all outputs.
 ghost use Rattle.std.specs.Prelude.{◌≡◌, ◌⊎◌, ◌<◌, [], Err, IsTrue, IfOk, IfErr, OnOk, length};
+ghost use Rattle.geo_stream.specs.Refusals.{IfFault};
+ghost use Rattle.geo_stream.specs.declared.refusal.Refusal.TheVariants.{Fault, NoMemory};
 ghost use Rattle.depot.specs.Content.{ChangesLeftOnly, with_left};
 ghost use Rattle.depot.specs.Counts.{NeverFall, Rose};
-ghost use Rattle.file_check.specs.Files.{IsExactFile, IsFileFault, OfOutput, AreExactFiles, IsFirstFileFault, IsReal, CountsFor};
+ghost use Rattle.file_check.specs.Files.{IsExactFile, IsFileFault, OfOutput, AreExactFiles, IsFirstFileFault, CountsFor};
 
 use crate::faults::{CheckBad, CheckFault};
 use crate::judging::judge;
 use deck_plan::Plan;
 use depot::{Depot, Refused, read_all};
+use geo_stream::Refusal;
 use shot_writer::Sums;
 use std::alloc::Global;
 
@@ -15,17 +18,16 @@ use std::alloc::Global;
 const LIMIT: usize = 268435456;
 
 // The answer to a file that wasn't read.
-fn refused_file(place: usize, refused: Refused) -> CheckBad
-    ensures fault { refused ≡ Refused.Fault → result ≡ CheckBad.ReadFault }
-    ensures long { refused ≡ Refused.TooLong → result ≡ CheckBad.Refused place CheckFault.Long }
-    ensures wanting { refused ≡ Refused.NoMemory → result ≡ CheckBad.NoMemory }
-    ensures read_fault { result ≡ CheckBad.ReadFault → refused ≡ Refused.Fault }
-    ensures real { IsReal result }
+fn refused_file(place: usize, refused: Refused) -> Refusal<CheckBad>
+    ensures fault { refused ≡ Refused.Fault → result ≡ Fault CheckBad.ReadFault }
+    ensures long { refused ≡ Refused.TooLong → result ≡ Fault (CheckBad.Refused place CheckFault.Long) }
+    ensures wanting { refused ≡ Refused.NoMemory → result ≡ NoMemory }
+    ensures read_fault { result ≡ Fault CheckBad.ReadFault → refused ≡ Refused.Fault }
 {
     match refused {
-        Refused::Fault => CheckBad::ReadFault,
-        Refused::TooLong => CheckBad::Refused(place, CheckFault::Long),
-        Refused::NoMemory => CheckBad::NoMemory,
+        Refused::Fault => Refusal::Fault(CheckBad::ReadFault),
+        Refused::TooLong => Refusal::Fault(CheckBad::Refused(place, CheckFault::Long)),
+        Refused::NoMemory => Refusal::NoMemory,
     }
 }
 
@@ -35,16 +37,15 @@ fn check_file<D: Depot>(
     depot: &mut D,
     plan: &Plan,
     place: usize,
-) -> Result<Sums, CheckBad>
+) -> Result<Sums, Refusal<CheckBad>>
     requires { place < length plan.now.deck.outputs }
     ensures ok { IfOk result (λ sums. IsTrue D.tells
         → OfOutput plan.now place (λ output. IsExactFile plan.now place output (D.content depot.old) sums)) }
-    ensures refused { IfErr result (λ bad. IsTrue D.tells
+    ensures refused { IfFault result (λ bad. IsTrue D.tells
         → OfOutput plan.now place (λ output. IsFileFault plan.now place output (D.content depot.old)
         (Rose (D.counts depot.old).read_faults (D.counts depot.new).read_faults) bad)) }
-    ensures read_fault { result ≡ Err CheckBad.ReadFault
+    ensures read_fault { result ≡ Err (Fault CheckBad.ReadFault)
         → Rose (D.counts depot.old).read_faults (D.counts depot.new).read_faults ⊎ IsTrue D.tells }
-    ensures real { IfErr result IsReal }
     ensures others { IsTrue D.tells → ChangesLeftOnly (D.content depot.old) (D.content depot.new) }
     ensures uncounted { OnOk result (D.counts depot.new ≡ D.counts depot.old) }
     ensures counts { IfErr result (CountsFor (D.counts depot.old) (D.counts depot.new)) }
@@ -58,25 +59,24 @@ fn check_file<D: Depot>(
     judge(alloc, plan, place, bytes.as_slice())
 }
 
-/// Reads the file of each output of the deck in its order and judges it, up to the first that isn't exact. It answers the
-/// number of shots and of triangles of each. Each file is judged wholly before the next is read: first whether it is a shot
-/// file, then its head, then the limits of its shots, then what they cover.
+/// Reads the file of each output of the deck in its order and judges it, up to the first that isn't exact. It answers
+/// the number of shots and of triangles of each. Each file is judged wholly before the next is read: first whether it
+/// is a shot file, then its head, then the limits of its shots, then what they cover.
 ///
-/// But for what is left to be read, the content of the depot is as before, whatever the answer. The clauses on content hold
-/// over a depot that tells it. The others hold over every depot.
+/// But for what is left to be read, the content of the depot is as before, whatever the answer. The clauses on content
+/// hold over a depot that tells it. The others hold over every depot.
 pub fn check_files<D: Depot>(
     alloc: Global,
     depot: &mut D,
     plan: &Plan,
-) -> Result<Vec<Sums>, CheckBad>
+) -> Result<Vec<Sums>, Refusal<CheckBad>>
     ensures ok { IfOk result (λ sums. IsTrue D.tells
         → AreExactFiles plan.now (D.content depot.old) (length plan.now.deck.outputs) sums.items) }
     ensures count { IfOk result (λ sums. length sums.items ≡ length plan.now.deck.outputs) }
-    ensures refused { IfErr result (λ bad. IsTrue D.tells → IsFirstFileFault plan.now (D.content depot.old)
+    ensures refused { IfFault result (λ bad. IsTrue D.tells → IsFirstFileFault plan.now (D.content depot.old)
         (Rose (D.counts depot.old).read_faults (D.counts depot.new).read_faults) bad) }
-    ensures read_fault { result ≡ Err CheckBad.ReadFault
+    ensures read_fault { result ≡ Err (Fault CheckBad.ReadFault)
         → Rose (D.counts depot.old).read_faults (D.counts depot.new).read_faults ⊎ IsTrue D.tells }
-    ensures real { IfErr result IsReal }
     ensures others { IsTrue D.tells → ChangesLeftOnly (D.content depot.old) (D.content depot.new) }
     ensures uncounted { OnOk result (D.counts depot.new ≡ D.counts depot.old) }
     ensures counts { IfErr result (CountsFor (D.counts depot.old) (D.counts depot.new)) }
@@ -85,13 +85,10 @@ pub fn check_files<D: Depot>(
     let count = plan.deck().outputs.as_slice().len();
     let mut all = Vec::new(alloc);
     for place in 0..count {
-        let sums = match check_file(alloc, depot, plan, place) {
-            Ok(sums) => sums,
-            Err(bad) => return Err(bad),
-        };
+        let sums = check_file(alloc, depot, plan, place)?;
         match all.push(sums) {
             Ok(()) => {}
-            Err(_refused) => return Err(CheckBad::NoMemory),
+            Err(_refused) => return Err(Refusal::NoMemory),
         }
     }
     Ok(all)

@@ -1,5 +1,7 @@
 //! The bytes of a shot file, judged for an output.
-ghost use Rattle.std.specs.Prelude.{◌≡◌, ◌≢◌, ◌≤◌, ◌<◌, ◌*◌, ◌↔◌, Err, IsTrue, IfOk, IfErr, IfSome, All, length};
+ghost use Rattle.std.specs.Prelude.{◌≡◌, ◌≤◌, ◌<◌, ◌*◌, ◌↔◌, Err, IsTrue, IfOk, IfSome, All, length};
+ghost use Rattle.geo_stream.specs.Refusals.{IfFault};
+ghost use Rattle.geo_stream.specs.declared.refusal.Refusal.TheVariants.{Fault, NoMemory};
 ghost use Rattle.shot_checker.specs.Verdicts.{Fits};
 ghost use Rattle.file_check.specs.Certificates.{IsCertified};
 ghost use Rattle.file_check.specs.Files.{HasHeadOf, AreSumsOf, IsExactText, OfOutput};
@@ -9,9 +11,10 @@ use crate::certificates::check_output;
 use crate::faults::{CheckBad, CheckFault};
 use deck_plan::Plan;
 use deck_text::Output;
+use geo_stream::Refusal;
 use half_grid::Trap;
 use shot_checker::Verdict;
-use shot_reader::{ShotBad, ShotFile, read_shots};
+use shot_reader::{ShotFile, read_shots};
 use shot_writer::{Sums, triangles_in};
 use std::alloc::Global;
 
@@ -50,44 +53,34 @@ fn sums_of(shots: &[Trap]) -> Sums
     }
 }
 
-// The answer to bytes that are no shot file.
-fn refused_shots(place: usize, bad: ShotBad) -> CheckBad
-    ensures real { bad ≢ ShotBad.NoMemory → result ≡ CheckBad.Refused place (CheckFault.Bad bad) }
-    ensures wanting { bad ≡ ShotBad.NoMemory → result ≡ CheckBad.NoMemory }
+// The refusal of the file of the output of this place, for this fault.
+fn refused(place: usize, fault: CheckFault) -> Refusal<CheckBad>
+    ensures { result ≡ Fault (CheckBad.Refused place fault) }
 {
-    match bad {
-        ShotBad::NoMemory => CheckBad::NoMemory,
-        ShotBad::Head(_)
-        | ShotBad::Record(_)
-        | ShotBad::Spelling(_)
-        | ShotBad::Illegal(_)
-        | ShotBad::End(_) => CheckBad::Refused(place, CheckFault::Bad(bad)),
-    }
+    Refusal::Fault(CheckBad::Refused(place, fault))
 }
 
 // Judges the shots of a file whose head is right. A shot that doesn't fit is told even where memory is wanting.
-fn judge_shots(alloc: Global, plan: &Plan, place: usize, shots: &[Trap]) -> Result<Sums, CheckBad>
+fn judge_shots(
+    alloc: Global,
+    plan: &Plan,
+    place: usize,
+    shots: &[Trap],
+) -> Result<Sums, Refusal<CheckBad>>
     requires place { place < length plan.now.deck.outputs }
     requires few { length shots.now ≤ 268435456 }
     ensures ok { IfOk result (AreSumsOf shots.now) }
     ensures exact { IfOk result (λ _. IsCertified plan.now place shots.now) }
-    ensures refused { IfErr result (IsShotsFault plan.now place shots.now) }
-    ensures memory { result ≡ Err CheckBad.NoMemory → All (Fits plan.now.deck.limits) shots.now }
+    ensures refused { IfFault result (IsShotsFault plan.now place shots.now) }
+    ensures memory { result ≡ Err NoMemory → All (Fits plan.now.deck.limits) shots.now }
 {
-    let verdict = match check_output(alloc, plan, place, shots) {
-        Ok(verdict) => verdict,
-        Err(_wanting) => return Err(CheckBad::NoMemory),
-    };
+    let verdict = check_output(alloc, plan, place, shots)?;
     match verdict {
         Verdict::Exact => Ok(sums_of(shots)),
         Verdict::Miscovered(tile, count, wanted) => {
-            let verdict = Verdict::Miscovered(tile, count, wanted);
-            Err(CheckBad::Refused(place, CheckFault::Verdict(verdict)))
+            Err(refused(place, CheckFault::Miscovered(tile, count, wanted)))
         }
-        Verdict::TooLarge(k) => {
-            let verdict = Verdict::TooLarge(k);
-            Err(CheckBad::Refused(place, CheckFault::Verdict(verdict)))
-        }
+        Verdict::TooLarge(k) => Err(refused(place, CheckFault::TooLarge(k))),
     }
 }
 
@@ -98,18 +91,19 @@ fn judge_text(
     place: usize,
     output: &Output,
     bytes: &[u8],
-) -> Result<Sums, CheckBad>
+) -> Result<Sums, Refusal<CheckBad>>
     requires place { place < length plan.now.deck.outputs }
     requires short { length bytes.now ≤ 268435456 }
     ensures ok { IfOk result (IsExactText plan.now place output.now bytes.now) }
-    ensures refused { IfErr result (IsBytesFault plan.now place output.now bytes.now) }
+    ensures refused { IfFault result (IsBytesFault plan.now place output.now bytes.now) }
 {
     let file = match read_shots(alloc, bytes) {
         Ok(file) => file,
-        Err(bad) => return Err(refused_shots(place, bad)),
+        Err(Refusal::Fault(bad)) => return Err(refused(place, CheckFault::Bad(bad))),
+        Err(Refusal::NoMemory) => return Err(Refusal::NoMemory),
     };
     if !has_head(&file, plan, output) {
-        return Err(CheckBad::Refused(place, CheckFault::Head));
+        return Err(refused(place, CheckFault::Head));
     }
     judge_shots(alloc, plan, place, file.shots.as_slice())
 }
@@ -120,11 +114,11 @@ pub(crate) fn judge(
     plan: &Plan,
     place: usize,
     bytes: &[u8],
-) -> Result<Sums, CheckBad>
+) -> Result<Sums, Refusal<CheckBad>>
     requires place { place < length plan.now.deck.outputs }
     requires short { length bytes.now ≤ 268435456 }
     ensures ok { IfOk result (λ sums. OfOutput plan.now place (λ output. IsExactText plan.now place output bytes.now sums)) }
-    ensures refused { IfErr result (λ bad. OfOutput plan.now place (λ output. IsBytesFault plan.now place output bytes.now bad)) }
+    ensures refused { IfFault result (λ bad. OfOutput plan.now place (λ output. IsBytesFault plan.now place output bytes.now bad)) }
 {
     let output = &plan.deck().outputs.as_slice()[place];
     judge_text(alloc, plan, place, output, bytes)

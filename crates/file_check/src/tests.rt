@@ -7,10 +7,9 @@ use cell_tree::resolve;
 use deck_plan::Plan;
 use deck_text::read_deck;
 use depot::MemDepot;
-use geo_stream::List;
+use geo_stream::{List, Refusal};
 use half_grid::{Point, Side, Tile};
 use layout_model::{Cell, Counts, KeptShape, Layout, Name, Offsets, Pair, Shapes};
-use shot_checker::Verdict;
 use shot_reader::ShotBad;
 use shot_writer::Sums;
 use std::alloc::Global;
@@ -95,9 +94,13 @@ fn file_of(rt: &impl Abort, alloc: Global, records: &[u8]) -> Vec<u8> {
     file
 }
 
-// What is said of a file with these records, and of the right one for the second output. Without records the first file
-// isn't there.
-fn said_of(rt: &impl Abort, alloc: Global, records: Option<&[u8]>) -> Result<Sums, CheckBad> {
+// What is said of a file with these records, and of the right one for the second output. Without records the first
+// file isn't there.
+fn said_of(
+    rt: &impl Abort,
+    alloc: Global,
+    records: Option<&[u8]>,
+) -> Result<Sums, Refusal<CheckBad>> {
     let mut depot = MemDepot::new(alloc);
     if let Some(records) = records {
         let first = file_of(rt, alloc, records);
@@ -113,10 +116,14 @@ fn said_of(rt: &impl Abort, alloc: Global, records: Option<&[u8]>) -> Result<Sum
     Ok(*sums.first().expect(rt, "a sum"))
 }
 
-fn miscovered(i: i64, j: i64, count: u64, wanted: u64) -> Result<Sums, CheckBad> {
+// The refusal of the first file.
+fn refused(fault: CheckFault) -> Result<Sums, Refusal<CheckBad>> {
+    Err(Refusal::Fault(CheckBad::Refused(0, fault)))
+}
+
+fn miscovered(i: i64, j: i64, count: u64, wanted: u64) -> Result<Sums, Refusal<CheckBad>> {
     let side = Side::Left;
-    let verdict = Verdict::Miscovered(Tile { i, j, side }, count, wanted);
-    Err(CheckBad::Refused(0, CheckFault::Verdict(verdict)))
+    refused(CheckFault::Miscovered(Tile { i, j, side }, count, wanted))
 }
 
 #[test]
@@ -125,8 +132,7 @@ fn files_of_a_square(rt: HostRuntime) {
         shots: 1,
         triangles: 800,
     });
-    let bad = CheckFault::Bad(ShotBad::Record(41));
-    let table: [(Option<&[u8]>, Result<Sums, CheckBad>); 7] = [
+    let table: [(Option<&[u8]>, Result<Sums, Refusal<CheckBad>>); 7] = [
         (Some(b"\x14\x7B\x01\x00\x14\x14\x00\x00"), exact),
         (Some(b""), miscovered(0, 0, 0, 1)),
         (
@@ -139,10 +145,10 @@ fn files_of_a_square(rt: HostRuntime) {
         ),
         (
             Some(b"\x14\x7B\x02\x00\x14\x14\x00\x00"),
-            Err(CheckBad::Refused(0, CheckFault::Head)),
+            refused(CheckFault::Head),
         ),
-        (Some(b"\x15"), Err(CheckBad::Refused(0, bad))),
-        (None, Err(CheckBad::ReadFault)),
+        (Some(b"\x15"), refused(CheckFault::Bad(ShotBad::Record(41)))),
+        (None, Err(Refusal::Fault(CheckBad::ReadFault))),
     ];
     for (records, wanted) in table {
         assert_eq!(rt; said_of(&rt, rt.alloc(), records), wanted);

@@ -2,9 +2,8 @@ use Rattle.std.proofs.Common.{refl}
 use Rattle.file_check.proofs.judging.judge_shots.Goals as goal
 
 pub returns-in-Miscovered-clause-refused : goal.returns-in-Miscovered-clause-refused
-returns-in-Miscovered-clause-refused c = (
+returns-in-Miscovered-clause-refused c = rw c.refused.ensures (
   refl,
-  λ e. (let clash : ⊥ = cc in clash),
-  (c.in-Ok.ensures.miscovered c.in-Miscovered.tile c.in-Miscovered.count c.in-Miscovered.wanted).0
+  (c.in_ok-verdict.ensures.miscovered c.in-Miscovered.tile c.in-Miscovered.count c.in-Miscovered.wanted).0
       c.in-Miscovered.is,
 )

@@ -1,18 +1,15 @@
 use Rattle.std.proofs.Common.{refl}
 use Rattle.std.proofs.lemmas.Result.{IfErr-weaker}
 use Rattle.file_check.specs.Files.{IsExactText}
-use Rattle.file_check.specs.Judgements.{data_of, IsBytesFault}
+use Rattle.geo_stream.specs.Refusals.{IsForFault}
+use Rattle.geo_stream.proofs.ForCallers.{for_fault_weaker}
+use Rattle.file_check.specs.Judgements.{data_of, IsShotsFault, IsBytesFault}
 use Rattle.file_check.proofs.Lengths.{few_shots}
-use Rattle.file_check.proofs.Answering.{refused_bytes, both_ok, bytes_fault, exact_text}
+use Rattle.file_check.proofs.Answering.{both_ok, bytes_fault, exact_text}
 use Rattle.file_check.proofs.judging.judge_text.Goals as goal
 
-pub returns-in-Err-clause-refused : goal.returns-in-Err-clause-refused
-returns-in-Err-clause-refused c =
-    refused_bytes c.args.plan.now c.args.place c.args.output.now c.args.bytes.now c.in-Err.bad _
-    c.refused_shots.ensures.real c.refused_shots.ensures.wanting c.in-Err.ensures.first_fault
-
 pub returns-then-not-has_head-clause-refused : goal.returns-then-not-has_head-clause-refused
-returns-then-not-has_head-clause-refused c = (
+returns-then-not-has_head-clause-refused c = rw c.refused-then-not-has_head.ensures (
   refl,
   record {
     s = data_of c.in-Ok.file;
@@ -35,6 +32,8 @@ returns-clause-ok c =
 pub returns-clause-refused : goal.returns-clause-refused
 returns-clause-refused c =
     let head = c.if-not-has_head.ensures.0 refl in
-    IfErr-weaker c.judge_shots.result _ (IsBytesFault c.args.plan.now c.args.place c.args.output.now c.args.bytes.now)
-    (bytes_fault c.args.plan.now c.args.place c.args.output.now c.args.bytes.now c.in-Ok.file c.in-Ok.ensures.found head)
+    let of_bytes = IsBytesFault c.args.plan.now c.args.place c.args.output.now c.args.bytes.now in
+    IfErr-weaker c.judge_shots.result _ (IsForFault of_bytes)
+    (λ refusal. for_fault_weaker (IsShotsFault c.args.plan.now c.args.place c.in-Ok.file.shots) of_bytes refusal
+    (bytes_fault c.args.plan.now c.args.place c.args.output.now c.args.bytes.now c.in-Ok.file c.in-Ok.ensures.found head))
     (rw c.as_slice.ensures at c.judge_shots.ensures.refused)
