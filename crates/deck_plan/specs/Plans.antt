@@ -6,7 +6,7 @@ use Rattle.half_grid.specs.Winding.{IsInPolygon}
 use Rattle.layout_model.specs.declared.shapes.Shape.{Shape}
 use Rattle.cell_tree.specs.Cells.{shapes_at}
 use Rattle.cell_tree.specs.Chains.{IsReachable}
-use Rattle.flat_walk.specs.Tables.{IsCut, HasShape, with_pieces}
+use Rattle.flat_walk.specs.Tables.{IsCut, HasShape, with_pieces, piece_count}
 use Rattle.layout_model.specs.declared.cells.Cell.{Cell}
 use Rattle.bool_ops.specs.Operations.{IsJoinedOf}
 use Rattle.deck_text.specs.Decks.{IsDeck}
@@ -37,6 +37,12 @@ pub record IsRead (deck : Deck) : Type 0 where
 -- each shape of each reachable cell has pieces that cover it
 abbrev pub AreAllCut : List Cell → ℕ → List (List (List Trapezoid)) → Type 0
 AreAllCut cells top table = (n k : ℕ) (shape : Shape) → IsReachable cells top n → slice_get (shapes_at cells n) k ≡ Some shape → IsCut table n k shape
+
+-- so many pieces cover the shapes of the reachable cells
+pub record CountsPieces (p : Planned) (count : ℕ) : Type 0 where
+  pub table : List (List (List Trapezoid))
+  pub cut : AreAllCut p.cells p.top table
+  pub is : count ≡ piece_count table
 
 -- each shape of the reachable cells before this one, and the first so many of this one
 abbrev pub AreCutUpTo : List Cell → ℕ → List (List (List Trapezoid)) → ℕ → ℕ → Type 0

@@ -1,5 +1,5 @@
 //! Plans, and the areas of their outputs.
-ghost use Rattle.std.specs.Prelude.{◌≡◌, ◌<◌, ◌≤◌, ◌+◌, ◌^◌, ◌≤ℤ◌, map, neg_ℤ, pos, ℕ, true, length, get_or, slice_get, Some, None, All, IfOk, IfSome, IsTrue, OnOk, IsSomeAnd, List};
+ghost use Rattle.std.specs.Prelude.{◌≡◌, ◌<◌, ◌≤◌, ◌+◌, ◌^◌, ◌≤ℤ◌, max, map, neg_ℤ, pos, ℕ, true, length, get_or, slice_get, Some, None, All, IfOk, IfSome, IsTrue, OnOk, IsSomeAnd, List};
 ghost use Rattle.half_grid.specs.Trapezoids.{IsLegal, IsShot, Trapezoid};
 ghost use Rattle.half_grid.specs.Windows.{RowRange};
 ghost use Rattle.half_grid.specs.declared.plane.Tile.{Tile};
@@ -11,11 +11,11 @@ ghost use Rattle.bool_ops.specs.Operations.{IsInRows, IsJoinedOf};
 ghost use Rattle.deck_plan.specs.Areas.{IsInOutput, IsInBand, IsInStep};
 ghost use Rattle.deck_plan.specs.Needs.{IsBand, IsAskedBand, IsNeeded};
 ghost use Rattle.layout_model.specs.declared.pair.Pair.{Pair as APair};
-ghost use Rattle.cell_tree.specs.Flattening.{IsInLayer};
+ghost use Rattle.cell_tree.specs.Flattening.{IsInLayer, shape_count};
 ghost use Rattle.deck_plan.specs.Halos.{AreHalos};
 ghost use Rattle.deck_plan.specs.Ready.{AreHeld, IsHeld, IsReady, ends_at};
 ghost use Rattle.deck_plan.specs.OwnLayers.{own_layers, IsLeftOut};
-ghost use Rattle.deck_plan.specs.Plans.{planned, IsRead, IsBandOf};
+ghost use Rattle.deck_plan.specs.Plans.{planned, IsRead, IsBandOf, CountsPieces};
 
 use crate::cutting::cut_parts;
 use crate::extents::Extents;
@@ -85,14 +85,18 @@ impl<'t> Plan<'t> {
     }
 
     /// About how many trapezoids the layout has: its flattened shapes, or the pieces of the shapes of its cells where these
-    /// are more. It is for speed alone: nothing is promised of it.
-    pub fn weight(&self) -> u64 {
-        self.tree.shape_count().max(self.parts.count())
+    /// are more. It is for speed alone.
+    pub fn weight(&self) -> u64
+        ensures { (pieces : ℕ) × CountsPieces self.now pieces × (result ≡ max (shape_count self.now.cells self.now.top) pieces) }
+    {
+        self.tree.shape_count().max(self.piece_count())
     }
 
-    /// How many pieces the shapes of the layout's cells have, each once, wherever their cells are placed. It is for speed
-    /// alone: nothing is promised of it.
-    pub fn piece_count(&self) -> u64 {
+    /// How many pieces the shapes of the layout's cells have, each once, wherever their cells are placed: 2^64 - 1 where
+    /// there are more. It is for speed alone.
+    pub fn piece_count(&self) -> u64
+        ensures { CountsPieces self.now result }
+    {
         self.parts.count()
     }
 
