@@ -66,6 +66,14 @@ def mirrored(times):
     return FRACTURE, 0, f"output out.oas shots {2**times} triangles {800 * 2**times}"
 
 
+def taken_twice(steps):
+    """Steps each of which takes the one before twice: the first one's area, which isn't computed 2^steps times."""
+    gds(cell("TOP", polygon(SQUARE)))
+    lines = [f"or S{k} {below} {below}" for k, below in enumerate(["A"] + [f"S{k}" for k in range(steps - 1)])]
+    deck("layer A 1 0", *lines, f"write S{steps - 1} out.oas 1 0")
+    return FRACTURE, 0, SQUARE_LINE
+
+
 def longest():
     """A deck of as many lines as fit, each of which is read before the last is refused."""
     with open("deck", "w") as file:
@@ -88,6 +96,7 @@ CASES = [
     ("60,000 squares along a diagonal, around which a frame shrinks by 65,536", False, lambda: shrunk_around_stairs(60000)),
     ("100,000 shapes in a cell, beside a frame of 2^31 rows, band 1024", False, lambda: framed(100000, 1 << 30, True)),
     ("100,000 shapes in the top cell, beside a frame of 2^31 rows, band 1024", False, lambda: framed(100000, 1 << 30, False)),
+    ("255 steps, each of which takes the one before twice", True, lambda: taken_twice(255)),
     ("a row doubled 20 times by its mirror image", False, lambda: mirrored(20)),
     ("a deck of 65,536 bytes", True, longest),
 ]

@@ -5,6 +5,7 @@ hash that they are made for is the kit's for maps where none is given: a number 
 name, the halves of the product joined. Names are searched for by a small C program, until the lowest bits of enough of them
 are 0, so that all of them begin in a few of the table's groups and go on through the same ones. It needs `cc`.
 """
+import functools
 import subprocess
 
 from records import *
@@ -54,6 +55,7 @@ int main(int count_of_words, char **words) {
 """
 
 
+@functools.cache
 def found(kind, count, bits):
     """So many names of 8 bytes, or numbers, whose hashes have as many lowest bits 0; made in the working folder."""
     with open("search.c", "w") as file:

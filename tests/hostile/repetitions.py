@@ -15,8 +15,11 @@ def spaces(count):
 
 
 def many_points(count):
-    """A staircase and back, as a point list of kind 0, whose moves are level and upright in turn."""
-    steps = [1] * (count // 2 - 2) + [3, -count]
+    """A polygon of an even number of points: stairs of one step each, then three steps to the right, down and back.
+
+    It is a point list of kind 0, whose moves are level and upright in turn; the last two sides are left to the reader.
+    """
+    steps = [1] * (count - 4) + [3, -count]
     return unsigned(0, len(steps)) + signed(*steps)
 
 
@@ -57,9 +60,14 @@ def polygons(layer, points, times, reached):
 
 
 def shown_polygons(points, times):
-    """Of a cell that TOP places: below the stairs is the first shot of those from Y 0 on, and each stair above the square is one."""
+    """Of a cell that TOP places, all copies on one place, so that the area is that of one, with TOP's square of 10.
+
+    There are n = points / 2 - 2 stairs. From Y n - points to 0 the polygon has all X from 0 to n + 3; in the row from Y k to
+    k + 1 it has those from k + 1 on. The square fills what is left of the stairs in its 10 rows. So the shots are one below Y 0,
+    where a band ends, one of these 10 rows, and one for each stair above. A square grid step has 8 triangles.
+    """
     words, status, _ = polygons(1, points, times, True)
-    stairs = points // 4 - 1
+    stairs = points // 2 - 2
     area = (stairs + 3) * (points - stairs + 10) + sum(stairs + 2 - stair for stair in range(10, stairs))
     return words, status, f"output out.oas shots {stairs - 8} triangles {8 * area}"
 
@@ -97,6 +105,17 @@ def shown_paths(points, times):
     return ["fracture", "layout", "deck"], 0, f"output out.oas shots {stairs + 2} triangles {8 * area}"
 
 
+LARGE_GRID = unsigned(1, 32766, 32766, 1, 1)  # of 2^30 places
+
+
+def most_repeated(more):
+    """2^40 rectangles on a layer that isn't written, and some more on another that is: the limit counts both."""
+    oas(oas_cell("TOP", rectangle(0, 0, 10, 10, repetition=LARGE_GRID)), b"\x14\x04\x00" * 1023, rectangle(0, 0, 10, 10, 2) * more)
+    deck("layer A 1 0", "layer B 2 0", "write B out.oas 1 0")
+    words = ["fracture", "layout", "deck"]
+    return (words, 3, f"layout refused: count TOP {2**40 + more}") if more else (words, 0, "output out.oas shots 0 triangles 0")
+
+
 def counted(repetition, count, times):
     """Shapes on the deck's layer, more than a layout may have: refused by their number."""
     oas(oas_cell("TOP", rectangle(0, 0, 10, 10, repetition=repetition)), b"\x14\x04\x00" * (times - 1))
@@ -120,13 +139,17 @@ CASES = [
     ("a list of 100,000 spaces in placements of an empty cell, 20,000 times", False, lambda: placements(spaces(100000), 20000)),
     ("a list of 100,000 moves in placements that nothing reaches, 20,000 times", False,
      lambda: placements(moves(100000), 20000, "OTHER")),
-    ("a grid of 2^30 places, 1,024 times and once more", True, lambda: counted(unsigned(1, 32766, 32766, 1, 1), 1 << 30, 1025)),
+    ("a list of 100,000 spaces in placements that nothing reaches, 20,000 times", False,
+     lambda: placements(spaces(100000), 20000, "OTHER")),
+    ("a grid of 2^30 places, 1,024 times and once more", True, lambda: counted(LARGE_GRID, 1 << 30, 1025)),
+    ("2^40 shapes, by a grid that is given again", True, lambda: most_repeated(0)),
+    ("2^40 shapes and one more, by a grid that is given again", True, lambda: most_repeated(1)),
     ("a polygon of 100,000 points on an unwanted pair, 100,000 times", False, lambda: polygons(OTHER, 100000, 100000, True)),
     ("a polygon of 1,000 points that nothing reaches, 1,000 times", True, lambda: polygons(1, 1000, 1000, False)),
     ("a polygon of 100,000 points that nothing reaches, 100,000 times", False, lambda: polygons(1, 100000, 100000, False)),
     ("a polygon of 100,000 points in records of three bytes, 100,000 times", False, lambda: rows_of_polygons(100000, 100000)),
     ("a polygon of 1,000 points, 1,000 times", True, lambda: shown_polygons(1000, 1000)),
-    ("a polygon of 100,000 points, 100,000 times", False, lambda: shown_polygons(100000, 100000)),
+    ("a polygon of 50,000 points, 1,000 times", False, lambda: shown_polygons(50000, 1000)),
     ("a path of 100,000 points on an unwanted pair, 100,000 times", False, lambda: paths(OTHER, 100000, 100000, True)),
     ("a path of 10,000 points that nothing reaches, 10,000 times", False, lambda: paths(1, 10000, 10000, False)),
     ("a path of 100,000 points that nothing reaches, 100,000 times", False, lambda: paths(1, 100000, 100000, False)),

@@ -24,11 +24,12 @@ def chain(count):
     yield cell(names[-1], polygon(SQUARE))
 
 
-def chains(count, depth):
-    """TOP places this number of chains, of which all but the first have a square beside it; with TOP each is so deep."""
-    below = depth - 1
+def chains(count, depth, deeper=0):
+    """TOP places this number of chains; the last cell of each has a square. With TOP each is so deep, the last one deeper by
+    some cells."""
     yield cell("TOP", *(place("C%d.1" % k) for k in range(count)))
     for k in range(count):
+        below = depth - 1 + (deeper if k == count - 1 else 0)
         for level in range(1, below):
             yield cell("C%d.%d" % (k, level), place("C%d.%d" % (k, level + 1)))
         yield cell("C%d.%d" % (k, below), polygon(SQUARE))
@@ -68,12 +69,20 @@ def most():
     return ["fracture", "layout", "deck"], 0, "output out.oas shots 0 triangles 0"
 
 
-def doubled(levels):
-    """Cells each of which places the next twice: 2^levels squares."""
+def doubled(levels, more=0):
+    """Cells each of which places the next twice: 2^levels squares, and some more on another layer."""
     names = ["TOP"] + ["C%d" % k for k in range(1, levels)] + ["LEAF"]
     for name, below in zip(names, names[1:]):
-        yield cell(name, place(below), place(below, 20))
+        yield cell(name, place(below), place(below, 20), *[box(0, 0, 10, 10, 2)] * (more if name == "TOP" else 0))
     yield cell("LEAF", polygon(SQUARE))
+
+
+def most_doubled(more):
+    """2^40 shapes on a layer that isn't written, and some more on another that is: the limit counts both."""
+    gds(doubled(40, more))
+    deck("layer A 1 0", "layer B 2 0", "write B out.oas 1 0")
+    words = ["fracture", "layout", "deck"]
+    return (words, 3, f"layout refused: count TOP {MOST + more}") if more else (words, 0, "output out.oas shots 0 triangles 0")
 
 
 def cycle(count):
@@ -99,10 +108,14 @@ CASES = [
     ("a chain of 65 cells", True, lambda: refused("layout refused: deep TOP " + " ".join("C%d" % k for k in range(1, 65)), chain(65))),
     ("a chain of 100,000 cells", True, lambda: refused("layout refused: deep TOP C1 ..", chain(100000))),
     ("1,600 chains of 64 cells", True, lambda: accepted(chains(1600, 64))),
+    ("1,600 chains, of which all but the last have 64 cells, and it 65", True,
+     lambda: refused("layout refused: deep TOP " + " ".join("C1599.%d" % k for k in range(1, 65)), chains(1600, 64, 1))),
     ("1,600 chains of 65 cells", True, lambda: refused("layout refused: deep TOP C..", chains(1600, 65))),
     ("a cell placed by 100,000 others", False, lambda: many_shared(100000)),
     ("2^40 shapes", True, most),
     ("2^40 shapes and one more, by arrays", True, most_nested),
+    ("2^40 shapes, by placing each cell twice", True, lambda: most_doubled(0)),
+    ("2^40 shapes and one more, by placing each cell twice", True, lambda: most_doubled(1)),
     ("2^60 shapes, by placing each cell twice", True, lambda: refused(f"layout refused: count C19 {MOST * 2}", doubled(60))),
     ("a cycle of two cells", True, lambda: refused("layout refused: cycle ..", cycle(2))),
     ("a cycle of 100,000 cells", False, lambda: refused("layout refused: cycle ..", cycle(100000))),
