@@ -2,6 +2,7 @@
 use Rattle.std.proofs.Common.{◌≡◌, inl, inr, ℕ, List, [], Err, refl, subst}
 use Rattle.depot.specs.Content.{Content, with_left}
 use Rattle.depot.specs.Counts.{Counts, Rose}
+use Rattle.geo_stream.specs.declared.refusal.Refusal.TheVariants.{Fault}
 use Rattle.layout_model.specs.Layouts.{IsLayoutOnGrid}
 use Rattle.layout_model.specs.declared.cells.Layout.{Layout}
 use Rattle.deck_text.specs.declared.deck.Deck.{Deck}
@@ -21,7 +22,7 @@ pub same_layout : (c : Content) (layout : List ℕ) (d : Deck) (f : Format) (l :
 same_layout c layout d f l h = record { bytes = h.bytes; holds = same_held c layout 268435456 h.bytes h.holds; is_layout = h.is_layout }
 
 refused_here : (c : Content) (read_rose : Type 0) (layout deck : List ℕ) (d : Deck) (bad : LayoutBad) → HoldsDeck c layout deck d
-    → IsTreeAnswer (with_left c []) read_rose layout d (Err bad) → IsInputAnswer c read_rose layout deck (Err (layout_refused bad d.top))
+    → IsTreeAnswer (with_left c []) read_rose layout d (Err (Fault bad)) → IsInputAnswer c read_rose layout deck (Err (Fault (layout_refused bad d.top)))
 refused_here c read_rose layout deck d (layouts.Refused layout_faults.Long) holds a = record { deck_is = d; top_is = refl; holds_deck = holds; long = a }
 refused_here c read_rose layout deck d (layouts.Refused (layout_faults.Gds bad)) holds (bytes, h, fault) =
     record { deck_is = d; top_is = refl; holds_deck = holds; bytes = bytes; holds = same_held c layout 268435456 bytes h; fault = fault }
@@ -31,16 +32,15 @@ refused_here c read_rose layout deck d (layouts.Refused (layout_faults.Tree bad)
     (record { deck_is = d; top_is = refl; holds_deck = holds; format_is = f; layout_is = l; holds_layout = same_layout c layout d f l h; fault = fault }, grid)
 refused_here c read_rose layout deck d layouts.ReadFault holds (inl rose) = inl rose
 refused_here c read_rose layout deck d layouts.ReadFault holds (inr missing) = inr (inr (record { deck_is = d; holds_deck = holds; missing = missing }))
-refused_here c read_rose layout deck d layouts.NoMemory holds a = tt
 
 -- what is told of a refused layout is told of both
 pub refused_for : (c m : Content) (o n p : Counts) (layout deck : List ℕ) (d : Deck) (bad : LayoutBad) → HoldsDeck c layout deck d → m ≡ with_left c [] → n ≡ o
-    → IsTreeAnswer m (Rose n.read_faults p.read_faults) layout d (Err bad)
-    → IsInputAnswer c (Rose o.read_faults p.read_faults) layout deck (Err (layout_refused bad d.top))
+    → IsTreeAnswer m (Rose n.read_faults p.read_faults) layout d (Err (Fault bad))
+    → IsInputAnswer c (Rose o.read_faults p.read_faults) layout deck (Err (Fault (layout_refused bad d.top)))
 refused_for c m o n p layout deck d bad holds left same a =
     refused_here c (Rose o.read_faults p.read_faults) layout deck d bad holds
-    (subst (λ (x : Counts). IsTreeAnswer (with_left c []) (Rose x.read_faults p.read_faults) layout d (Err bad)) same
-    (subst (λ (x : Content). IsTreeAnswer x (Rose n.read_faults p.read_faults) layout d (Err bad)) left a))
+    (subst (λ (x : Counts). IsTreeAnswer (with_left c []) (Rose x.read_faults p.read_faults) layout d (Err (Fault bad))) same
+    (subst (λ (x : Content). IsTreeAnswer x (Rose n.read_faults p.read_faults) layout d (Err (Fault bad))) left a))
 
 given_here : (c : Content) (layout deck : List ℕ) (d : Deck) (x : Found) → HoldsDeck c layout deck d
     → HoldsLayout (with_left c []) layout d x.format x.tree.layout × IsTreeFor d x.tree × IsLayoutOnGrid x.tree.layout

@@ -1,5 +1,5 @@
 -- The cause of each refusal. The deck is asked first; what is refused of the layout is refused after an accepted deck.
-use Rattle.std.specs.Prelude.{◌≡◌, ◌≢◌, ◌⊎◌, ℕ, List, Some, None}
+use Rattle.std.specs.Prelude.{◌≡◌, ◌⊎◌, ℕ, List, Some, None}
 use Rattle.depot.specs.Content.{Content, IsNotThere, IsLongerThan}
 use Rattle.layout_model.specs.declared.cells.Layout.{Layout}
 use Rattle.gds_reader.specs.Reading.{IsFirstFault as IsFirstGdsFault}
@@ -9,7 +9,7 @@ use Rattle.oas_reader.specs.declared.refusing.OasBad.{OasBad}
 use Rattle.cell_tree.specs.Cells.{cell_number}
 use Rattle.cell_tree.specs.Faults.{IsFirstFault as IsFirstTreeFault}
 use Rattle.cell_tree.specs.declared.faults.TreeBad.{TreeBad}
-use Rattle.cell_tree.specs.declared.faults.TreeBad.TheVariants.{NoTop, NoMemory as TreeWanting}
+use Rattle.cell_tree.specs.declared.faults.TreeBad.TheVariants.{NoTop}
 use Rattle.deck_text.specs.Decks.{IsFirstFault as IsFirstDeckFault, layers_of}
 use Rattle.deck_text.specs.declared.refusal.DeckBad.{DeckBad}
 use Rattle.deck_text.specs.declared.deck.Deck.{Deck}
@@ -67,7 +67,7 @@ pub record HoldsOasFault (c : Content) (layout deck : List ℕ) (bad : OasBad) (
 abbrev pub IsTreeFaultFor : Deck → Layout → TreeBad → Type 0
 IsTreeFaultFor d l bad =
     ((bad ≡ NoTop) × (cell_number l.cells d.top ≡ None))
-    ⊎ ((n : ℕ) × (cell_number l.cells d.top ≡ Some n) × (bad ≢ TreeWanting) × IsFirstTreeFault l.cells n bad)
+    ⊎ ((n : ℕ) × (cell_number l.cells d.top ≡ Some n) × IsFirstTreeFault l.cells n bad)
 
 -- the layout is one whose cells are no tree within the limits, and this is a first fault
 pub record HoldsTreeFault (c : Content) (layout deck : List ℕ) (bad : TreeBad) (top : List ℕ) : Type 0 where

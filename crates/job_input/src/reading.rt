@@ -1,14 +1,16 @@
 //! Deck and layout read from a depot.
-ghost use Rattle.std.specs.Prelude.{◌≡◌, ◌⊎◌, ℕ, List as Items, [], Ok, Err, IsTrue, IfOk, IfErr, OnOk};
+ghost use Rattle.std.specs.Prelude.{◌≡◌, ◌⊎◌, ℕ, List as Items, [], Ok, Err, IsTrue, IfOk, OnOk};
 ghost use Rattle.depot.specs.Content.{IsNotThere, IsLongerThan, ChangesLeftOnly, with_left};
 ghost use Rattle.depot.specs.Counts.{NeverFall, Rose};
+ghost use Rattle.geo_stream.specs.declared.refusal.Refusal.TheVariants.{Fault, NoMemory};
 ghost use Rattle.gds_reader.specs.declared.refusing.GdsBad.{GdsBad as AGdsBad};
 ghost use Rattle.oas_reader.specs.declared.refusing.OasBad.{OasBad as AnOasBad};
 ghost use Rattle.cell_tree.specs.declared.faults.TreeBad.{TreeBad as ATreeBad};
 ghost use Rattle.deck_text.specs.declared.refusal.DeckBad.{DeckBad as ADeckBad};
 ghost use Rattle.job_input.specs.Accepted.{HoldsInput, IsOfBytes};
-ghost use Rattle.job_input.specs.Refused.{HoldsDeckFault, IsLongLayout, HoldsGdsFault, HoldsOasFault, HoldsTreeFault, IsWanting};
-ghost use Rattle.job_input.specs.Clauses.{ComesExactlyWhere, ComesByKind, IsReal, CountsFor};
+ghost use Rattle.job_input.specs.Refused.{HoldsDeckFault, IsLongLayout, HoldsGdsFault, HoldsOasFault, HoldsTreeFault};
+ghost use Rattle.job_input.specs.Refused.{IsWanting};
+ghost use Rattle.job_input.specs.Clauses.{ComesExactlyWhere, ComesByKind, CountsFor};
 ghost use Rattle.job_input.specs.Parts.{IsInputAnswer, layout_refused};
 ghost use Rattle.job_input.specs.declared.reading.Input.{Input as AnInput};
 
@@ -19,6 +21,7 @@ use crate::refusing::{DeckFault, InputBad, LayoutBad, LayoutFault};
 use cell_tree::Tree;
 use deck_text::Deck;
 use depot::Depot;
+use geo_stream::Refusal;
 use layout_model::Name;
 use oas_reader::reading_laws;
 use std::alloc::Global;
@@ -41,7 +44,6 @@ fn layout_refused(bad: LayoutBad, top: Name) -> InputBad
     match bad {
         LayoutBad::Refused(fault) => InputBad::Layout(fault, top),
         LayoutBad::ReadFault => InputBad::ReadFault,
-        LayoutBad::NoMemory => InputBad::NoMemory,
     }
 }
 
@@ -51,17 +53,16 @@ fn read_both<D: Depot>(
     depot: &mut D,
     layout: &str,
     deck: &str,
-) -> Result<Input, InputBad>
+) -> Result<Input, Refusal<InputBad>>
     ensures answer { IsTrue D.tells → IsInputAnswer (D.content depot.old)
         (Rose (D.counts depot.old).read_faults (D.counts depot.new).read_faults) layout.now deck.now result }
-    ensures read_fault { result ≡ Err InputBad.ReadFault
+    ensures read_fault { result ≡ Err (Fault InputBad.ReadFault)
         → Rose (D.counts depot.old).read_faults (D.counts depot.new).read_faults
         ⊎ (IsTrue D.tells × IsWanting (D.content depot.old) layout.now deck.now) }
     ensures missing_deck { IsTrue D.tells → IsNotThere (D.content depot.old) deck.now
-        → (result ≡ Err InputBad.ReadFault)
-        ⊎ ((result ≡ Err InputBad.NoMemory) × Rose (D.counts depot.old).refused (D.counts depot.new).refused) }
+        → (result ≡ Err (Fault InputBad.ReadFault))
+        ⊎ ((result ≡ Err NoMemory) × Rose (D.counts depot.old).refused (D.counts depot.new).refused) }
     ensures of_bytes { IfOk result (IsOfBytes layout.now deck.now) }
-    ensures real { IfErr result IsReal }
     ensures whole { OnOk result (IsTrue D.tells
         → D.content depot.new ≡ with_left (D.content depot.old) []) }
     ensures others { IsTrue D.tells → ChangesLeftOnly (D.content depot.old) (D.content depot.new) }
@@ -75,7 +76,8 @@ fn read_both<D: Depot>(
             format: found.format,
             tree: found.tree,
         }),
-        Err(bad) => Err(layout_refused(bad, deck.top)),
+        Err(Refusal::Fault(bad)) => Err(Refusal::Fault(layout_refused(bad, deck.top))),
+        Err(Refusal::NoMemory) => Err(Refusal::NoMemory),
     }
 }
 
@@ -83,14 +85,14 @@ fn read_both<D: Depot>(
 /// as an OASIS file where its first byte is 25 hex and else as a GDSII file, and then the tree of its cells below the
 /// deck's top cell. The first refusal is answered. An output may take neither of the two names.
 ///
-/// But for what is left to be read, the content of the depot is as before, whatever the answer. The clauses on content hold
-/// over a depot that tells it. The others hold over every depot.
+/// But for what is left to be read, the content of the depot is as before, whatever the answer. The clauses on content
+/// hold over a depot that tells it. The others hold over every depot.
 pub fn read_input<D: Depot>(
     alloc: Global,
     depot: &mut D,
     layout: &str,
     deck: &str,
-) -> Result<Input, InputBad>
+) -> Result<Input, Refusal<InputBad>>
     // What is accepted is given.
     ensures given { IsTrue D.tells → (input : AnInput) → ComesExactlyWhere
         (Rose (D.counts depot.old).read_faults (D.counts depot.new).read_faults) result
@@ -99,42 +101,43 @@ pub fn read_input<D: Depot>(
     // The cause of each refusal.
     ensures deck_long { IsTrue D.tells → ComesExactlyWhere
         (Rose (D.counts depot.old).read_faults (D.counts depot.new).read_faults) result
-        (Err (InputBad.Deck DeckFault.Long)) (IsLongerThan 65536 (D.content depot.old) deck.now) }
+        (Err (Fault (InputBad.Deck DeckFault.Long))) (IsLongerThan 65536 (D.content depot.old) deck.now) }
     ensures deck_bad { IsTrue D.tells → (bad : ADeckBad) → ComesExactlyWhere
         (Rose (D.counts depot.old).read_faults (D.counts depot.new).read_faults) result
-        (Err (InputBad.Deck (DeckFault.Bad bad))) (HoldsDeckFault (D.content depot.old) layout.now deck.now bad) }
+        (Err (Fault (InputBad.Deck (DeckFault.Bad bad))))
+        (HoldsDeckFault (D.content depot.old) layout.now deck.now bad) }
     // Those of the layout keep the name of the deck's top cell.
     ensures layout_long { IsTrue D.tells → (top : Items ℕ) → ComesExactlyWhere
         (Rose (D.counts depot.old).read_faults (D.counts depot.new).read_faults) result
-        (Err (InputBad.Layout LayoutFault.Long top)) (IsLongLayout (D.content depot.old) layout.now deck.now top) }
+        (Err (Fault (InputBad.Layout LayoutFault.Long top)))
+        (IsLongLayout (D.content depot.old) layout.now deck.now top) }
     ensures layout_gds { IsTrue D.tells → (bad : AGdsBad) (top : Items ℕ) → ComesExactlyWhere
         (Rose (D.counts depot.old).read_faults (D.counts depot.new).read_faults) result
-        (Err (InputBad.Layout (LayoutFault.Gds bad) top)) (HoldsGdsFault (D.content depot.old) layout.now deck.now bad top) }
+        (Err (Fault (InputBad.Layout (LayoutFault.Gds bad) top)))
+        (HoldsGdsFault (D.content depot.old) layout.now deck.now bad top) }
     ensures layout_oas { IsTrue D.tells → (bad : AnOasBad) (top : Items ℕ) → ComesExactlyWhere
         (Rose (D.counts depot.old).read_faults (D.counts depot.new).read_faults) result
-        (Err (InputBad.Layout (LayoutFault.Oas bad) top)) (HoldsOasFault (D.content depot.old) layout.now deck.now bad top) }
+        (Err (Fault (InputBad.Layout (LayoutFault.Oas bad) top)))
+        (HoldsOasFault (D.content depot.old) layout.now deck.now bad top) }
     ensures layout_tree { IsTrue D.tells → (bad : ATreeBad) (top : Items ℕ) → ComesByKind
         (Rose (D.counts depot.old).read_faults (D.counts depot.new).read_faults) result
         bad top (HoldsTreeFault (D.content depot.old) layout.now deck.now bad top) }
 
-    // A fault of reading comes only where it was counted or a name that has to be read isn't there, and where such a name
-    // isn't there only that comes or want of memory.
-    ensures read_fault { result ≡ Err InputBad.ReadFault
+    // A fault of reading comes only where it was counted or a name that has to be read isn't there, and where such a
+    // name isn't there only that comes or want of memory.
+    ensures read_fault { result ≡ Err (Fault InputBad.ReadFault)
         → Rose (D.counts depot.old).read_faults (D.counts depot.new).read_faults
         ⊎ (IsTrue D.tells × IsWanting (D.content depot.old) layout.now deck.now) }
     ensures missing { IsTrue D.tells → IsWanting (D.content depot.old) layout.now deck.now
-        → (result ≡ Err InputBad.ReadFault) ⊎ (result ≡ Err InputBad.NoMemory) }
-    // Where the deck isn't there, want of memory comes only where it was counted. Where the layout isn't there it may also
-    // be that the deck's memory was wanting, which no depot counts.
+        → (result ≡ Err (Fault InputBad.ReadFault)) ⊎ (result ≡ Err NoMemory) }
+    // Where the deck isn't there, want of memory comes only where it was counted. Where the layout isn't there it may
+    // also be that the deck's memory was wanting, which no depot counts.
     ensures missing_deck { IsTrue D.tells → IsNotThere (D.content depot.old) deck.now
-        → (result ≡ Err InputBad.ReadFault)
-        ⊎ ((result ≡ Err InputBad.NoMemory) × Rose (D.counts depot.old).refused (D.counts depot.new).refused) }
+        → (result ≡ Err (Fault InputBad.ReadFault))
+        ⊎ ((result ≡ Err NoMemory) × Rose (D.counts depot.old).refused (D.counts depot.new).refused) }
 
     // What is given is the deck and the layout of some bytes, over every depot.
     ensures of_bytes { IfOk result (IsOfBytes layout.now deck.now) }
-
-    // No fault that is kept is want of memory.
-    ensures real { IfErr result IsReal }
 
     // What changes.
     ensures whole { OnOk result (IsTrue D.tells

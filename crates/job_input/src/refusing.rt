@@ -10,7 +10,7 @@ use oas_reader::OasBad;
 pub enum DeckFault {
     /// It has more than 65,536 bytes.
     Long,
-    /// It is no deck. This is its first fault, which is never NoMemory.
+    /// It is no deck. This is its first fault.
     Bad(DeckBad),
 }
 
@@ -19,11 +19,11 @@ pub enum DeckFault {
 pub enum LayoutFault {
     /// It has more than 268,435,456 bytes.
     Long,
-    /// It doesn't begin with the byte 25 hex and is no GDSII layout. This is its first fault, which is never NoMemory.
+    /// It doesn't begin with the byte 25 hex and is no GDSII layout. This is its first fault.
     Gds(GdsBad),
-    /// It begins with that byte and is no OASIS layout. This is its first fault, which is never NoMemory.
+    /// It begins with that byte and is no OASIS layout. This is its first fault.
     Oas(OasBad),
-    /// It is a layout, and its cells are no tree within the limits below the top cell. The fault is never NoMemory.
+    /// It is a layout, and its cells are no tree within the limits below the top cell.
     Tree(TreeBad),
 }
 
@@ -36,8 +36,6 @@ pub enum InputBad {
     Layout(LayoutFault, Name),
     /// A read failed, or a file that has to be read isn't there.
     ReadFault,
-    /// Memory ran out.
-    NoMemory,
 }
 
 /// Why there is no tree for an accepted deck.
@@ -47,6 +45,4 @@ pub(crate) enum LayoutBad {
     Refused(LayoutFault),
     /// A read failed, or the layout isn't there.
     ReadFault,
-    /// Memory ran out.
-    NoMemory,
 }

@@ -4,7 +4,7 @@ use cell_tree::TreeBad;
 use deck_text::DeckBad;
 use depot::MemDepot;
 use gds_reader::GdsBad;
-use geo_stream::NoMemory;
+use geo_stream::{NoMemory, Refusal};
 use oas_reader::OasBad;
 use std::alloc::Global;
 use std::test::Fail;
@@ -47,7 +47,7 @@ fn read(
     alloc: Global,
     layout: Option<&[u8]>,
     deck: &[u8],
-) -> Result<Result<Input, InputBad>, NoMemory> {
+) -> Result<Result<Input, Refusal<InputBad>>, NoMemory> {
     let mut depot = MemDepot::new(alloc);
     match layout {
         Some(bytes) => depot.add("G.gds", bytes)?,
@@ -77,7 +77,10 @@ fn is_long(alloc: Global) -> bool {
         return false;
     };
     let answer = read(alloc, None, &deck);
-    matches!(answer, Ok(Err(InputBad::Deck(DeckFault::Long))))
+    matches!(
+        answer,
+        Ok(Err(Refusal::Fault(InputBad::Deck(DeckFault::Long))))
+    )
 }
 
 // Whether an empty deck is refused at line 1.
@@ -85,7 +88,7 @@ fn is_empty(alloc: Global) -> bool {
     let answer = read(alloc, None, b"");
     matches!(
         answer,
-        Ok(Err(InputBad::Deck(DeckFault::Bad(DeckBad::Order(1)))))
+        Ok(Err(Refusal::Fault(InputBad::Deck(DeckFault::Bad(DeckBad::Order(1))))))
     )
 }
 
@@ -94,7 +97,7 @@ fn is_taken(alloc: Global) -> bool {
     let answer = read(alloc, None, TAKEN);
     matches!(
         answer,
-        Ok(Err(InputBad::Deck(DeckFault::Bad(DeckBad::Names(4)))))
+        Ok(Err(Refusal::Fault(InputBad::Deck(DeckFault::Bad(DeckBad::Names(4))))))
     )
 }
 
@@ -108,7 +111,8 @@ fn the_deck_is_refused_first(rt: HostRuntime) {
 
 // Whether a layout that isn't there is a read fault.
 fn is_missing(alloc: Global) -> bool {
-    matches!(read(alloc, None, DECK), Ok(Err(InputBad::ReadFault)))
+    let answer = read(alloc, None, DECK);
+    matches!(answer, Ok(Err(Refusal::Fault(InputBad::ReadFault))))
 }
 
 // Whether a layout that begins with 25 hex is refused as OASIS.
@@ -116,7 +120,7 @@ fn is_oasis(alloc: Global) -> bool {
     let answer = read(alloc, Some(b"%"), DECK);
     matches!(
         answer,
-        Ok(Err(InputBad::Layout(LayoutFault::Oas(OasBad::Magic), _)))
+        Ok(Err(Refusal::Fault(InputBad::Layout(LayoutFault::Oas(OasBad::Magic), _))))
     )
 }
 
@@ -125,14 +129,16 @@ fn is_short(alloc: Global) -> bool {
     let answer = read(alloc, Some(b""), DECK);
     matches!(
         answer,
-        Ok(Err(InputBad::Layout(LayoutFault::Gds(GdsBad::Short(0)), _)))
+        Ok(Err(Refusal::Fault(InputBad::Layout(LayoutFault::Gds(GdsBad::Short(0)), _))))
     )
 }
 
 // Whether a layout without the deck's top cell is refused with that cell's name.
 fn is_without_top(alloc: Global) -> bool {
     match read(alloc, Some(&SQUARE), OTHER) {
-        Ok(Err(InputBad::Layout(LayoutFault::Tree(TreeBad::NoTop), top))) => top.bytes() == TOP,
+        Ok(Err(Refusal::Fault(InputBad::Layout(LayoutFault::Tree(TreeBad::NoTop), top)))) => {
+            top.bytes() == TOP
+        }
         _ => false,
     }
 }

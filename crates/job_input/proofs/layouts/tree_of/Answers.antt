@@ -1,7 +1,10 @@
 use Rattle.job_input.proofs.layouts.tree_of.Goals as goal
-use Rattle.job_input.proofs.Told.{root_told}
+use Rattle.job_input.proofs.Told.{tree_fault}
 
-pub returns-in-Err-clause-told : goal.returns-in-Err-clause-told
-returns-in-Err-clause-told c =
-    root_told c.args.deck.now c.args.layout c.in-Err.bad c.tree_refused.result c.tree_refused.ensures
-    (λ e. let same = c.in-Err.ensures.no_top.1 e in cc) c.in-Err.ensures.fault
+pub returns-in-Err-Fault : goal.returns-in-Err-Fault
+returns-in-Err-Fault c =
+    let no_top = rw c.in-Err-Fault.field-0-is at c.in-Err-Fault.ensures.no_top in
+    record {
+      told = tree_fault c.args.deck.now c.args.layout c.in-Err-Fault.bad
+          (λ e. let same = no_top.1 e in cc) (rw c.in-Err-Fault.field-0-is at c.in-Err-Fault.ensures.fault);
+    }
