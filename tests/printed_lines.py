@@ -17,8 +17,6 @@ SPECS = ["crates/job_report/specs"]
 # where the lines begin, and words that are said as one name whatever they are
 ROOT = "line_of"
 AS_ONE_WORD = {"variable_name": "VARIABLE"}
-# what is in the definition and never printed: a fault that is want of memory, which has a line of its own
-NEVER = {"layout refused: oasis record at X memory"}
 
 
 def equations():
@@ -102,7 +100,7 @@ def printed():
     if ROOT not in found:
         sys.exit(f"no definition of {ROOT}")
     lines = {text for equation in found[ROOT] for text in applied(equation, ["word", "top", "status"], {}, found)}
-    return {line for line in lines if line} - NEVER
+    return {line for line in lines if line}
 
 
 def explained():

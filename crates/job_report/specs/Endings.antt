@@ -5,7 +5,7 @@ use Rattle.job_input.specs.declared.refusing.DeckFault.{DeckFault}
 use Rattle.job_input.specs.declared.refusing.DeckFault.TheVariants as deck_faults
 use Rattle.job_input.specs.declared.refusing.LayoutFault.{LayoutFault}
 use Rattle.job_input.specs.declared.refusing.LayoutFault.TheVariants as layout_faults
-use Rattle.job_report.specs.Lines.{memory_line, deck_line, gds_line, oas_line, tree_line}
+use Rattle.job_report.specs.Lines.{deck_line, gds_line, oas_line, tree_line}
 use Rattle.job_report.specs.ShotLines.{check_line}
 use Rattle.job_report.specs.declared.status.Status.{Status}
 use Rattle.job_report.specs.declared.status.Status.TheVariants.{Done, Words, Deck, Layout, ReadFault, WriteFault, NoMemory, No}
@@ -55,5 +55,5 @@ line_of file top (Deck fault) = deck_fault_line fault
 line_of file top (Layout fault) = layout_fault_line top fault
 line_of file top ReadFault = codes "read fault\n"
 line_of file top WriteFault = codes "write fault\n"
-line_of file top NoMemory = memory_line
+line_of file top NoMemory = codes "want of memory\n"
 line_of file top (No place fault) = check_line file fault

@@ -16,9 +16,6 @@ use Rattle.cell_tree.specs.declared.faults.TreeBad.{TreeBad}
 use Rattle.cell_tree.specs.declared.faults.TreeBad.TheVariants as tree_faults
 use Rattle.job_report.specs.Pieces.{hex_text, names_text}
 
-abbrev pub memory_line : List ℕ
-memory_line = codes "want of memory\n"
-
 -- a refused deck
 unfoldable pub deck_line : DeckBad → List ℕ
 deck_line (deck_faults.Line n column) = codes "deck refused: line " ++ decimal n ++ codes " column " ++ decimal column ++ codes "\n"
@@ -30,7 +27,6 @@ deck_line (deck_faults.Range n value) = codes "deck refused: line " ++ decimal n
 deck_line (deck_faults.Odd n) = codes "deck refused: line " ++ decimal n ++ codes " odd sum\n"
 deck_line (deck_faults.Names n) = codes "deck refused: line " ++ decimal n ++ codes " file name in use\n"
 deck_line (deck_faults.Many n) = codes "deck refused: line " ++ decimal n ++ codes " over the limit\n"
-deck_line deck_faults.NoMemory = memory_line
 
 -- a fault of a GDSII file at an offset
 abbrev pub gds_fault : List ℕ → ℕ → List ℕ
@@ -48,7 +44,6 @@ gds_line (gds_faults.Tail at) = gds_fault (codes "tail") at
 gds_line (gds_faults.Unit bits) = codes "layout refused: gdsii unit " ++ hex_text bits ++ codes "\n"
 gds_line (gds_faults.Twice first second) =
     codes "layout refused: gdsii name at " ++ decimal second ++ codes " repeats " ++ decimal first ++ codes "\n"
-gds_line gds_faults.NoMemory = memory_line
 
 -- the name of a modal variable
 abbrev pub variable_name : Variable → List ℕ
@@ -65,14 +60,13 @@ variable_name variables.CtrapezoidType = codes "ctrapezoid-type"
 variable_name variables.PlacementCell = codes "placement-cell"
 variable_name variables.Repetition = codes "repetition"
 
--- why no record stands at an offset, in a word; the last is never said of a refused layout
+-- why no record stands at an offset, in a word
 abbrev pub cause_name : RecordBad → List ℕ
 cause_name causes.Short = codes "short"
 cause_name causes.Wide = codes "wide"
 cause_name causes.Kind = codes "kind"
 cause_name causes.Packed = codes "packed"
 cause_name causes.Shape = codes "shape"
-cause_name causes.NoMemory = codes "memory"
 
 -- a fault of an OASIS file at an offset
 abbrev pub oas_fault : List ℕ → ℕ → List ℕ
@@ -96,7 +90,6 @@ oas_line (oas_faults.Value at rule) = oas_number (codes "layout refused: oasis v
 oas_line (oas_faults.Names first second) = oas_number (codes "layout refused: oasis names at ") first (codes " and ") second
 oas_line (oas_faults.Tail at) = oas_fault (codes "tail") at
 oas_line (oas_faults.Unit at) = oas_fault (codes "unit") at
-oas_line oas_faults.NoMemory = memory_line
 
 -- a layout that is refused below this top cell
 unfoldable pub tree_line : List ℕ → TreeBad → List ℕ
@@ -110,4 +103,3 @@ tree_line top (tree_faults.Fixed value cell) =
     codes "layout refused: fixed width " ++ cell ++ codes " scale " ++ signed_decimal value ++ codes "\n"
 tree_line top (tree_faults.Extent value) = codes "layout refused: extent " ++ signed_decimal value ++ codes "\n"
 tree_line top (tree_faults.Count cell value) = codes "layout refused: count " ++ cell ++ codes " " ++ decimal value ++ codes "\n"
-tree_line top tree_faults.NoMemory = memory_line

@@ -1,16 +1,13 @@
 -- The line of a refused shot file. It ends with LF. A number in it is decimal.
-use Rattle.std.specs.Prelude.{ℕ, List, [], ◌++◌, codes, decimal}
+use Rattle.std.specs.Prelude.{ℕ, List, ◌++◌, codes, decimal}
 use Rattle.std.specs.Fmt.{signed_decimal}
 use Rattle.half_grid.specs.declared.plane.Side.{Side}
 use Rattle.half_grid.specs.declared.plane.Side.TheVariants.{Left, Right}
 use Rattle.half_grid.specs.declared.plane.Tile.{Tile}
-use Rattle.shot_checker.specs.declared.verdicts.Verdict.{Verdict}
-use Rattle.shot_checker.specs.declared.verdicts.Verdict.TheVariants as verdicts
 use Rattle.shot_reader.specs.declared.refusing.ShotBad.{ShotBad}
-use Rattle.shot_reader.specs.declared.refusing.ShotBad.TheVariants.{Head, Record, Spelling, Illegal, End, NoMemory as Wanting}
+use Rattle.shot_reader.specs.declared.refusing.ShotBad.TheVariants.{Head, Record, Spelling, Illegal, End}
 use Rattle.shot_repeat.specs.declared.refusing.PackBad.{PackBad}
 use Rattle.shot_repeat.specs.declared.refusing.PackBad.TheVariants as packs
-use Rattle.job_report.specs.Lines.{memory_line}
 use Rattle.job_report.specs.declared.faults.CheckFault.{CheckFault}
 use Rattle.job_report.specs.declared.faults.CheckFault.TheVariants as check_faults
 
@@ -24,7 +21,6 @@ shot_line_of file (Record at) = fault_line file (codes ": record at ") at
 shot_line_of file (Spelling at) = fault_line file (codes ": spelling at ") at
 shot_line_of file (Illegal at) = fault_line file (codes ": illegal at ") at
 shot_line_of file (End at) = fault_line file (codes ": end at ") at
-shot_line_of file Wanting = memory_line
 
 -- a refused packed shot file
 abbrev pub pack_line_of : List ℕ → PackBad → List ℕ
@@ -36,7 +32,6 @@ pack_line_of file (packs.Pair at) = fault_line file (codes ": packed pair at ") 
 pack_line_of file (packs.Many at) = fault_line file (codes ": packed many at ") at
 pack_line_of file (packs.Illegal at) = fault_line file (codes ": packed illegal at ") at
 pack_line_of file (packs.End at) = fault_line file (codes ": packed end at ") at
-pack_line_of file packs.NoMemory = memory_line
 
 -- a refused shot file, by its name and what is wrong with it
 abbrev pub text_line : List ℕ → List ℕ → List ℕ
@@ -64,17 +59,12 @@ wide_line file k = codes "check refused: " ++ file ++ codes ": shot " ++ decimal
 abbrev pub stripes_line : List ℕ → ℕ → List ℕ
 stripes_line file value = codes "check refused: " ++ file ++ codes ": " ++ decimal value ++ codes " stripes\n"
 
--- the line of a verdict, which is never Exact
-abbrev pub verdict_line : List ℕ → Verdict → List ℕ
-verdict_line file verdicts.Exact = []
-verdict_line file (verdicts.Miscovered t count wanted) = tile_line file t count wanted
-verdict_line file (verdicts.TooLarge k) = too_large_line file k
-
 abbrev pub check_line : List ℕ → CheckFault → List ℕ
 check_line file check_faults.Long = text_line file (codes ": longer than 268435456 bytes\n")
 check_line file (check_faults.Bad bad) = shot_line_of file bad
 check_line file check_faults.Head = text_line file (codes ": unit or layer differs\n")
-check_line file (check_faults.Verdict verdict) = verdict_line file verdict
+check_line file (check_faults.Miscovered t count wanted) = tile_line file t count wanted
+check_line file (check_faults.TooLarge k) = too_large_line file k
 check_line file (check_faults.Pack bad) = pack_line_of file bad
 check_line file (check_faults.Wide k) = wide_line file k
 check_line file (check_faults.Stripes value) = stripes_line file value

@@ -33,7 +33,7 @@ fn one<'a>(line: usize, after: &'a [u8]) -> Line<'a>
     ]
 }
 
-/// The line of a deck's first fault. Want of memory has a line of its own.
+/// The line of a deck's first fault.
 #[tactic(auto, unfolding(crate::specs::Lines::deck_line))]
 pub fn deck_line(bad: &DeckBad) -> Line<'_>
     ensures { spelled result ≡ deck_line bad.now }
@@ -60,12 +60,5 @@ pub fn deck_line(bad: &DeckBad) -> Line<'_>
         DeckBad::Odd(line) => one(*line, b" odd sum\n"),
         DeckBad::Names(line) => one(*line, b" file name in use\n"),
         DeckBad::Many(line) => one(*line, b" over the limit\n"),
-        DeckBad::NoMemory => [
-            Piece::Text(b"want of memory\n"),
-            Piece::Text(b""),
-            Piece::Text(b""),
-            Piece::Text(b""),
-            Piece::Text(b""),
-        ],
     }
 }

@@ -108,8 +108,8 @@ fn line_of<'a>(file: &'a str, ending: &'a Ending) -> LongLine<'a>
     }
 }
 
-/// Prints the line of an ending other than Done, where the word after the command is this one. A failure to print it changes
-/// nothing.
+/// Prints the line of an ending other than Done, where the word after the command is this one. A failure to print it
+/// changes nothing.
 pub fn say_line<D: Depot>(depot: &mut D, word: &str, ending: &Ending)
     ensures done { ending.now.status ≡ Status.Done → depot.new ≡ depot.old }
     ensures said { IsTrue D.tells → IsPartSaid (D.content depot.old)

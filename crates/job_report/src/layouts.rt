@@ -19,7 +19,7 @@ fn fault_at(what: &[u8], at: usize) -> Line<'_>
     ]
 }
 
-/// The line of a GDSII file's first fault. Want of memory has a line of its own.
+/// The line of a GDSII file's first fault.
 #[tactic(auto, unfolding(crate::specs::Lines::gds_line))]
 pub fn gds_line(bad: &GdsBad) -> Line<'_>
     ensures { spelled result ≡ gds_line bad.now }
@@ -51,13 +51,6 @@ pub fn gds_line(bad: &GdsBad) -> Line<'_>
             Piece::Text(b" repeats "),
             Piece::Count(*first as u128),
             Piece::Text(b"\n"),
-        ],
-        GdsBad::NoMemory => [
-            Piece::Text(b"want of memory\n"),
-            Piece::Text(b""),
-            Piece::Text(b""),
-            Piece::Text(b""),
-            Piece::Text(b""),
         ],
     }
 }

@@ -1,6 +1,7 @@
 //! How a command ends, and what is printed of it: the report of one that was done, and the line of one that wasn't.
 //!
-//! A line is a few pieces of text and numbers. What is printed goes through a buffer on the stack. Nothing here takes memory.
+//! A line is a few pieces of text and numbers. What is printed goes through a buffer on the stack. Nothing here takes
+//! memory.
 #![tactic(auto)]
 
 mod decks;

@@ -38,7 +38,6 @@ fn cause_name(cause: &RecordBad) -> &[u8]
         RecordBad::Kind => b"kind",
         RecordBad::Packed => b"packed",
         RecordBad::Shape => b"shape",
-        RecordBad::NoMemory => b"memory",
     }
 }
 
@@ -81,7 +80,7 @@ fn number_at<'a>(what: &'a [u8], at: usize, between: &'a [u8], number: usize) ->
     ]
 }
 
-/// The line of an OASIS file's first fault. Want of memory has a line of its own.
+/// The line of an OASIS file's first fault.
 #[tactic(auto, unfolding(crate::specs::Lines::oas_line))]
 pub fn oas_line(bad: &OasBad) -> Line<'_>
     ensures { spelled result ≡ oas_line bad.now }
@@ -113,6 +112,5 @@ pub fn oas_line(bad: &OasBad) -> Line<'_>
         ),
         OasBad::Tail(at) => fault_at(b"tail", *at),
         OasBad::Unit(at) => fault_at(b"unit", *at),
-        OasBad::NoMemory => whole(b"want of memory\n"),
     }
 }

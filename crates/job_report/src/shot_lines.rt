@@ -3,12 +3,11 @@ ghost use Rattle.std.specs.Prelude.{◌≡◌, decimal};
 ghost use Rattle.std.specs.Fmt.{signed_decimal};
 ghost use Rattle.job_report.specs.Pieces.{spelled, text_of};
 ghost use Rattle.job_report.specs.ShotLines.{fault_line, shot_line_of, pack_line_of, side_text, tile_line};
-ghost use Rattle.job_report.specs.ShotLines.{too_large_line, wide_line, stripes_line, verdict_line, text_line, check_line};
+ghost use Rattle.job_report.specs.ShotLines.{too_large_line, wide_line, stripes_line, text_line, check_line};
 
 use crate::faults::CheckFault;
-use crate::pieces::{Line, LongLine, Piece, long, whole};
+use crate::pieces::{Line, LongLine, Piece, long};
 use half_grid::{Side, Tile};
-use shot_checker::Verdict;
 use shot_reader::ShotBad;
 use shot_repeat::PackBad;
 
@@ -35,7 +34,6 @@ fn shot_line<'a>(file: &'a str, bad: &ShotBad) -> Line<'a>
         ShotBad::Spelling(at) => fault_line(file, ": spelling at ", *at),
         ShotBad::Illegal(at) => fault_line(file, ": illegal at ", *at),
         ShotBad::End(at) => fault_line(file, ": end at ", *at),
-        ShotBad::NoMemory => whole(b"want of memory\n"),
     }
 }
 
@@ -52,7 +50,6 @@ fn pack_line<'a>(file: &'a str, bad: &PackBad) -> Line<'a>
         PackBad::Many(at) => fault_line(file, ": packed many at ", *at),
         PackBad::Illegal(at) => fault_line(file, ": packed illegal at ", *at),
         PackBad::End(at) => fault_line(file, ": packed end at ", *at),
-        PackBad::NoMemory => whole(b"want of memory\n"),
     }
 }
 
@@ -153,17 +150,6 @@ fn stripes_line(file: &str, stripes: u128) -> Line<'_>
     ]
 }
 
-// The line of a shot file whose shots have this verdict, which is never Exact.
-fn verdict_line<'a>(file: &'a str, verdict: &Verdict) -> LongLine<'a>
-    ensures { spelled result ≡ verdict_line file.now verdict.now }
-{
-    match verdict {
-        Verdict::Exact => long(whole(b"")),
-        Verdict::Miscovered(tile, count, wanted) => tile_line(file, tile, *count, *wanted),
-        Verdict::TooLarge(k) => long(too_large_line(file, *k)),
-    }
-}
-
 // A line of a refused shot file that ends with this text.
 fn text_line<'a>(file: &'a str, text: &'a [u8]) -> LongLine<'a>
     ensures { spelled result ≡ text_line file.now text.now }
@@ -185,7 +171,8 @@ pub(crate) fn check_line<'a>(file: &'a str, fault: &CheckFault) -> LongLine<'a>
         CheckFault::Long => text_line(file, b": longer than 268435456 bytes\n"),
         CheckFault::Bad(bad) => long(shot_line(file, bad)),
         CheckFault::Head => text_line(file, b": unit or layer differs\n"),
-        CheckFault::Verdict(verdict) => verdict_line(file, verdict),
+        CheckFault::Miscovered(tile, count, wanted) => tile_line(file, tile, *count, *wanted),
+        CheckFault::TooLarge(shot) => long(too_large_line(file, *shot)),
         CheckFault::Pack(bad) => long(pack_line(file, bad)),
         CheckFault::Wide(shot) => long(wide_line(file, *shot)),
         CheckFault::Stripes(stripes) => long(stripes_line(file, *stripes)),

@@ -32,8 +32,9 @@ fn lines_of_refusals(rt: HostRuntime) -> Result<(), Fail> {
     say_pieces(&mut depot, &tree_line(b"T", &TreeBad::NoTop))?;
     say_pieces(&mut depot, &tree_line(b"T", &TreeBad::Cycle(names)))?;
     say_pieces(&mut depot, &[])?;
-    let lines =
-        b"deck refused: line 4 column 7\ndeck refused: line 4 out of range -1\nlayout refused: gdsii unit 3944b82fa09b5a54\nlayout refused: gdsii name at 88 repeats 60\nlayout refused: no cell T\nlayout refused: cycle P Q\n";
+    let lines = b"deck refused: line 4 column 7\ndeck refused: line 4 out of range -1\n\
+        layout refused: gdsii unit 3944b82fa09b5a54\nlayout refused: gdsii name at 88 repeats 60\n\
+        layout refused: no cell T\nlayout refused: cycle P Q\n";
     assert_eq!(rt; depot.said(), lines.as_slice());
     Ok(())
 }
@@ -53,8 +54,9 @@ fn lines_of_oasis_files(rt: HostRuntime) -> Result<(), Fail> {
     say_pieces(&mut depot, &oas_line(&OasBad::Value(13, 9)))?;
     say_pieces(&mut depot, &oas_line(&OasBad::Names(34, 47)))?;
     say_pieces(&mut depot, &oas_line(&OasBad::Unit(13)))?;
-    let lines =
-        b"layout refused: oasis magic\nlayout refused: oasis record at 39 packed\nlayout refused: oasis undefined at 39 layer\nlayout refused: oasis value at 13 rule 9\nlayout refused: oasis names at 34 and 47\nlayout refused: oasis unit at 13\n";
+    let lines = b"layout refused: oasis magic\nlayout refused: oasis record at 39 packed\n\
+        layout refused: oasis undefined at 39 layer\nlayout refused: oasis value at 13 rule 9\n\
+        layout refused: oasis names at 34 and 47\nlayout refused: oasis unit at 13\n";
     assert_eq!(rt; depot.said(), lines.as_slice());
     Ok(())
 }
@@ -92,8 +94,8 @@ fn a_report(rt: HostRuntime) -> Result<(), Fail> {
         &outputs,
         &sums,
     )?;
-    let text =
-        b"format oasis\ncells 9\nkept 1\nother 2\ntexts 3\nnodes 4\nboxes 5\nproperties 6\noutput out.oas shots 1 triangles 800\n";
+    let text = b"format oasis\ncells 9\nkept 1\nother 2\ntexts 3\nnodes 4\nboxes 5\nproperties 6\n\
+        output out.oas shots 1 triangles 800\n";
     assert_eq!(rt; depot.said(), text.as_slice());
     Ok(())
 }
