@@ -38,7 +38,8 @@ output_fault : OutputFault → CheckFault → OutputFault
 output_fault other all.Long = faults.Long
 output_fault other (all.Bad bad) = faults.Bad bad
 output_fault other all.Head = faults.Head
-output_fault other (all.Verdict verdict) = faults.Verdict verdict
+output_fault other (all.Miscovered t count wanted) = faults.Miscovered t count wanted
+output_fault other (all.TooLarge shot) = faults.TooLarge shot
 output_fault other (all.Pack bad) = other
 output_fault other (all.Wide k) = other
 output_fault other (all.Stripes value) = other
@@ -48,7 +49,8 @@ unfolding output_fault
 back other faults.Long = refl
 back other (faults.Bad bad) = refl
 back other faults.Head = refl
-back other (faults.Verdict verdict) = refl
+back other (faults.Miscovered t count wanted) = refl
+back other (faults.TooLarge shot) = refl
 
 same_of : (fault other : OutputFault) → fault_of fault ≡ fault_of other → fault ≡ other
 same_of fault other e = sym (back fault fault) ∙ ap (output_fault fault) e ∙ back fault other
@@ -124,7 +126,8 @@ class_there : (fault : OutputFault) → Missing ≡ class_of fault → ⊥
 class_there faults.Long e = cc
 class_there (faults.Bad bad) e = cc
 class_there faults.Head e = cc
-class_there (faults.Verdict verdict) e = cc
+class_there (faults.Miscovered t count wanted) e = cc
+class_there (faults.TooLarge shot) e = cc
 
 refused_first : (c : Content) (layout deck : List ℕ) (place : ℕ) (fault : OutputFault)
     (h : IsRefusedAt c layout deck place fault) → IsFirstAt (plan_of h.input) c place (class_of fault)

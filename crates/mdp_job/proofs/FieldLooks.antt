@@ -112,7 +112,8 @@ module _ (size : ℤ) (c : Content) (file : List ℕ) where
   fault_there faults.Long h missing = longer_there 268435456 c file missing h
   fault_there (faults.Bad bad) h missing = bad_there c file bad h missing
   fault_there faults.Head h missing = h
-  fault_there (faults.Verdict verdict) h missing = h
+  fault_there (faults.Miscovered t count wanted) h missing = h
+  fault_there (faults.TooLarge shot) h missing = h
   fault_there (faults.Pack bad) h missing = h
   fault_there (faults.Wide k) h missing = shots_there c file h.s h.holds missing
   fault_there (faults.Stripes value) h missing = shots_there c file h.s h.holds missing
@@ -125,7 +126,8 @@ module _ (size : ℤ) (c : Content) (file : List ℕ) where
   fields_right s faults.Long h k = shots_short c file s h.holds k
   fields_right s (faults.Bad bad) h k = shots_right c file s bad h.holds k
   fields_right s faults.Head h k = k
-  fields_right s (faults.Verdict verdict) h k = k
+  fields_right s (faults.Miscovered t count wanted) h k = k
+  fields_right s (faults.TooLarge shot) h k = k
   fields_right s (faults.Pack bad) h k = k
   fields_right s (faults.Wide j) h k = not_wide s k.s j h.holds k.holds h.can.within k.wide
   fields_right s (faults.Stripes value) h k =
@@ -153,10 +155,12 @@ module _ (size : ℤ) (c : Content) (file : List ℕ) where
       ap faults.Stripes (one_number size k.s.shots value other
       (subst (λ (zs : List Trapezoid). AreManyStripes size zs value) (same_shots c file h.s k.s h.holds k.holds) h.many) k.many)
   one_fault faults.Head other h k = absurd h
-  one_fault (faults.Verdict verdict) other h k = absurd h
+  one_fault (faults.Miscovered t count wanted) other h k = absurd h
+  one_fault (faults.TooLarge shot) other h k = absurd h
   one_fault (faults.Pack bad) other h k = absurd h
   one_fault fault faults.Head h k = absurd k
-  one_fault fault (faults.Verdict verdict) h k = absurd k
+  one_fault fault (faults.Miscovered t count wanted) h k = absurd k
+  one_fault fault (faults.TooLarge shot) h k = absurd k
   one_fault fault (faults.Pack bad) h k = absurd k
 
 pub splitting_one : (size : ℤ) (out : List ℕ) → IsOneThing (splitting_command size out)

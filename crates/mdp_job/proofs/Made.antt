@@ -5,17 +5,23 @@ use Rattle.depot.specs.Counts.{Counts, NeverFall, Rose}
 use Rattle.depot.specs.declared.outside.DepotBad.{DepotBad}
 use Rattle.depot.specs.declared.outside.DepotBad.TheVariants as depot
 use Rattle.depot.proofs.ForCallers.{Rose-earlier}
+use Rattle.geo_stream.specs.Refusals.{IsForFault}
+use Rattle.geo_stream.specs.declared.refusal.Refusal.{Refusal}
+use Rattle.geo_stream.specs.declared.refusal.Refusal.TheVariants.{Fault, NoMemory}
+use Rattle.deck_plan.specs.Plans.{Planned}
 use Rattle.shot_writer.specs.declared.parts.Sums.{Sums}
 use Rattle.cell_tree.specs.declared.faults.TreeBad.{TreeBad}
 use Rattle.job_input.specs.Clauses.{Answer, ComesExactlyWhere, ComesByKind}
 use Rattle.job_input.specs.declared.reading.Input.{Input}
 use Rattle.mdp_job.specs.Runs.{run_of}
 use Rattle.mdp_job.specs.Denoted.{plan_of}
+use Rattle.mdp_job.specs.Faults.{fault_of}
 use Rattle.mdp_job.specs.Outputs.{report_on}
-use Rattle.file_check.specs.Files.{IsFirstFileFault, IsReal, CountsFor as FileCounts}
+use Rattle.file_check.specs.Files.{IsFirstFileFault, CountsFor as FileCounts}
 use Rattle.file_check.specs.declared.faults.CheckBad.{CheckBad}
 use Rattle.file_check.specs.declared.faults.CheckBad.TheVariants as checks
-use Rattle.file_check.specs.declared.faults.CheckFault.TheVariants as check_faults
+use Rattle.file_check.specs.declared.faults.CheckFault.{CheckFault as OutputFault}
+use Rattle.file_check.specs.declared.faults.CheckFault.TheVariants as faults
 use Rattle.mdp_job.specs.Certificates.{exact_report}
 use Rattle.mdp_job.specs.Parts.{fault_status, IsSaidSo, IsInputTold, IsAllWritten, IsMade, IsOutcomeBy, IsAnswerBy, IsFractured, IsAnswer, IsOfInput}
 use Rattle.mdp_job.specs.Parts.{refuses_output, CountsFor}
@@ -181,22 +187,32 @@ said_checked b m a o n p input sums s same rest exact (inr (inr (e, rose, part))
           { sums = sums; exact = exact; part = part_said b m a (exact_report input sums) rest part },
     ))
 
+-- what is told of the first file that isn't exact, of the same plan
+pub first_told : (told : Type 0) (p q : Planned) (b : Content) (rr : Type 0) (bad : Refusal CheckBad) → p ≡ q → told
+    → IsForFault (λ fault. told → IsFirstFileFault p b rr fault) bad → IsForFault (IsFirstFileFault q b rr) bad
+first_told told p q b rr (Fault fault) same is h = subst (λ (x : Planned). IsFirstFileFault x b rr fault) same (h is)
+first_told told p q b rr NoMemory same is h = tt
+
 -- what the first file that isn't exact owes
-pub refused_checked : (b a : Content) (o p : Counts) (input : Input) (bad : CheckBad) → ChangesLeftOnly b a
-    → IsFirstFileFault (plan_of input) b (Rose o.read_faults p.read_faults) bad → IsChecked (run_of b a o p) input (checked_status bad)
-refused_checked b a o p input (checks.Refused place fault) rest h = (fault, refl, h, rest)
-refused_checked b a o p input checks.ReadFault rest h = (h, rest)
-refused_checked b a o p input checks.NoMemory rest h = inl rest
+pub refused_checked : (b a : Content) (o p : Counts) (input : Input) (bad : Refusal CheckBad) → ChangesLeftOnly b a
+    → IsForFault (IsFirstFileFault (plan_of input) b (Rose o.read_faults p.read_faults)) bad → IsChecked (run_of b a o p) input (checked_status bad)
+refused_checked b a o p input (Fault (checks.Refused place fault)) rest h = (fault, refl, h, rest)
+refused_checked b a o p input (Fault checks.ReadFault) rest h = (h, rest)
+refused_checked b a o p input NoMemory rest h = inl rest
 
-pub checked_kind : (bad : CheckBad) → IsReal bad → IsOfInput refuses_output (checked_status bad)
-checked_kind (checks.Refused place check_faults.Long) h = tt
-checked_kind (checks.Refused place (check_faults.Bad bad)) h = h
-checked_kind (checks.Refused place check_faults.Head) h = tt
-checked_kind (checks.Refused place (check_faults.Verdict verdict)) h = h
-checked_kind checks.ReadFault h = tt
-checked_kind checks.NoMemory h = tt
+checked_output : (place : ℕ) (fault : OutputFault) → refuses_output place (fault_of fault)
+checked_output place faults.Long = tt
+checked_output place (faults.Bad bad) = tt
+checked_output place faults.Head = tt
+checked_output place (faults.Miscovered t count wanted) = tt
+checked_output place (faults.TooLarge shot) = tt
 
-pub checked_counts : (o n : Counts) (bad : CheckBad) → FileCounts o n bad → CountsFor o n (checked_status bad)
-checked_counts o n (checks.Refused place fault) h = h
-checked_counts o n checks.ReadFault h = h
-checked_counts o n checks.NoMemory h = h
+pub checked_kind : (bad : Refusal CheckBad) → IsOfInput refuses_output (checked_status bad)
+checked_kind (Fault (checks.Refused place fault)) = checked_output place fault
+checked_kind (Fault checks.ReadFault) = tt
+checked_kind NoMemory = tt
+
+pub checked_counts : (o n : Counts) (bad : Refusal CheckBad) → FileCounts o n bad → CountsFor o n (checked_status bad)
+checked_counts o n (Fault (checks.Refused place fault)) h = h
+checked_counts o n (Fault checks.ReadFault) h = h
+checked_counts o n NoMemory h = h

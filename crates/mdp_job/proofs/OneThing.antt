@@ -53,7 +53,8 @@ module _ (c : Content) (file : List ℕ) where
   plain_there faults.Long h missing = longer_there 268435456 c file missing h
   plain_there (faults.Bad bad) h missing = bad_there bad h missing
   plain_there faults.Head h missing = h
-  plain_there (faults.Verdict verdict) h missing = h
+  plain_there (faults.Miscovered t count wanted) h missing = h
+  plain_there (faults.TooLarge shot) h missing = h
   plain_there (faults.Pack bad) h missing = h
   plain_there (faults.Wide k) h missing = h
   plain_there (faults.Stripes value) h missing = h
@@ -62,7 +63,8 @@ module _ (c : Content) (file : List ℕ) where
   plain_right s faults.Long h k = shots_short s h k
   plain_right s (faults.Bad bad) h k = shots_right s bad h k
   plain_right s faults.Head h k = k
-  plain_right s (faults.Verdict verdict) h k = k
+  plain_right s (faults.Miscovered t count wanted) h k = k
+  plain_right s (faults.TooLarge shot) h k = k
   plain_right s (faults.Pack bad) h k = k
   plain_right s (faults.Wide j) h k = k
   plain_right s (faults.Stripes value) h k = k
@@ -73,12 +75,14 @@ module _ (c : Content) (file : List ℕ) where
   one_plain (faults.Bad bad) faults.Long h k = absurd (bad_short bad h k)
   one_plain (faults.Bad bad) (faults.Bad other) h k = ap faults.Bad (same_bad bad other h k)
   one_plain faults.Head other h k = absurd h
-  one_plain (faults.Verdict verdict) other h k = absurd h
+  one_plain (faults.Miscovered t count wanted) other h k = absurd h
+  one_plain (faults.TooLarge shot) other h k = absurd h
   one_plain (faults.Pack bad) other h k = absurd h
   one_plain (faults.Wide j) other h k = absurd h
   one_plain (faults.Stripes value) other h k = absurd h
   one_plain fault faults.Head h k = absurd k
-  one_plain fault (faults.Verdict verdict) h k = absurd k
+  one_plain fault (faults.Miscovered t count wanted) h k = absurd k
+  one_plain fault (faults.TooLarge shot) h k = absurd k
   one_plain fault (faults.Pack bad) h k = absurd k
   one_plain fault (faults.Wide j) h k = absurd k
   one_plain fault (faults.Stripes value) h k = absurd k
@@ -99,7 +103,8 @@ module _ (c : Content) (file : List ℕ) where
   pack_fault_there faults.Long h missing = longer_there 268435456 c file missing h
   pack_fault_there (faults.Bad bad) h missing = h
   pack_fault_there faults.Head h missing = h
-  pack_fault_there (faults.Verdict verdict) h missing = h
+  pack_fault_there (faults.Miscovered t count wanted) h missing = h
+  pack_fault_there (faults.TooLarge shot) h missing = h
   pack_fault_there (faults.Wide k) h missing = h
   pack_fault_there (faults.Stripes value) h missing = h
   pack_fault_there (faults.Pack bad) h missing = there (held_as c file) h.bytes h.held missing
@@ -113,7 +118,8 @@ module _ (c : Content) (file : List ℕ) where
   packed_right s faults.Long h k = too_long 268435456 c file h.bytes k h.held h.short
   packed_right s (faults.Bad bad) h k = k
   packed_right s faults.Head h k = k
-  packed_right s (faults.Verdict verdict) h k = k
+  packed_right s (faults.Miscovered t count wanted) h k = k
+  packed_right s (faults.TooLarge shot) h k = k
   packed_right s (faults.Wide j) h k = k
   packed_right s (faults.Stripes value) h k = k
   packed_right s (faults.Pack bad) h k = no_pack_fault s bad h k
@@ -130,12 +136,14 @@ module _ (c : Content) (file : List ℕ) where
   one_packed (faults.Pack bad) (faults.Pack other) h k = ap faults.Pack (same_pack_fault bad other h k)
   one_packed (faults.Bad bad) other h k = absurd h
   one_packed faults.Head other h k = absurd h
-  one_packed (faults.Verdict verdict) other h k = absurd h
+  one_packed (faults.Miscovered t count wanted) other h k = absurd h
+  one_packed (faults.TooLarge shot) other h k = absurd h
   one_packed (faults.Wide j) other h k = absurd h
   one_packed (faults.Stripes value) other h k = absurd h
   one_packed fault (faults.Bad bad) h k = absurd k
   one_packed fault faults.Head h k = absurd k
-  one_packed fault (faults.Verdict verdict) h k = absurd k
+  one_packed fault (faults.Miscovered t count wanted) h k = absurd k
+  one_packed fault (faults.TooLarge shot) h k = absurd k
   one_packed fault (faults.Wide j) h k = absurd k
   one_packed fault (faults.Stripes value) h k = absurd k
 

@@ -1,6 +1,8 @@
 -- The rows of the table of answers that speak of the reading of deck and layout, and those of `fracture`, from the answer.
 use Rattle.std.proofs.Common.{◌≡◌, ◌≢◌, ◌⊎◌, inl, inr, ℕ, Bool, List, [], Option, Some, Ok, Err, refl, sym, ap, subst, ◌∙◌}
 use Rattle.depot.specs.Content.{Content, IsNotThere, IsLongerThan, ChangesLeftOnly, with_left}
+use Rattle.geo_stream.specs.declared.refusal.Refusal.{Refusal}
+use Rattle.geo_stream.specs.declared.refusal.Refusal.TheVariants.{Fault, NoMemory}
 use Rattle.gds_reader.specs.declared.refusing.GdsBad.{GdsBad}
 use Rattle.oas_reader.specs.declared.refusing.OasBad.{OasBad}
 use Rattle.cell_tree.specs.declared.faults.TreeBad.{TreeBad}
@@ -25,41 +27,42 @@ use Rattle.job_report.specs.declared.status.Status.TheVariants as answers
 
 -- ---- answers differ
 
-done_refused : (bad : InputBad) → answers.Done ≡ status_of bad → ⊥
-done_refused (bads.Deck fault) e = cc
-done_refused (bads.Layout fault top) e = cc
-done_refused bads.ReadFault e = cc
-done_refused bads.NoMemory e = cc
+done_refused : (bad : Refusal InputBad) → answers.Done ≡ status_of bad → ⊥
+done_refused (Fault (bads.Deck fault)) e = cc
+done_refused (Fault (bads.Layout fault top)) e = cc
+done_refused (Fault bads.ReadFault) e = cc
+done_refused NoMemory e = cc
 
-write_refused : (bad : InputBad) → answers.WriteFault ≡ status_of bad → ⊥
-write_refused (bads.Deck fault) e = cc
-write_refused (bads.Layout fault top) e = cc
-write_refused bads.ReadFault e = cc
-write_refused bads.NoMemory e = cc
+write_refused : (bad : Refusal InputBad) → answers.WriteFault ≡ status_of bad → ⊥
+write_refused (Fault (bads.Deck fault)) e = cc
+write_refused (Fault (bads.Layout fault top)) e = cc
+write_refused (Fault bads.ReadFault) e = cc
+write_refused NoMemory e = cc
 
-no_refused : (place : ℕ) (fault : CheckFault) (bad : InputBad) → answers.No place fault ≡ status_of bad → ⊥
-no_refused place fault (bads.Deck other) e = cc
-no_refused place fault (bads.Layout other top) e = cc
-no_refused place fault bads.ReadFault e = cc
-no_refused place fault bads.NoMemory e = cc
+no_refused : (place : ℕ) (fault : CheckFault) (bad : Refusal InputBad) → answers.No place fault ≡ status_of bad → ⊥
+no_refused place fault (Fault (bads.Deck other)) e = cc
+no_refused place fault (Fault (bads.Layout other top)) e = cc
+no_refused place fault (Fault bads.ReadFault) e = cc
+no_refused place fault NoMemory e = cc
 
-deck_inverse : (bad : InputBad) (fault : DeckFault) → answers.Deck fault ≡ status_of bad → bad ≡ bads.Deck fault
-deck_inverse (bads.Deck other) fault e = let same : fault ≡ other = cc in ap bads.Deck (sym same)
-deck_inverse (bads.Layout other top) fault e = let no : ⊥ = cc in absurd no
-deck_inverse bads.ReadFault fault e = let no : ⊥ = cc in absurd no
-deck_inverse bads.NoMemory fault e = let no : ⊥ = cc in absurd no
+deck_inverse : (bad : Refusal InputBad) (fault : DeckFault) → answers.Deck fault ≡ status_of bad → bad ≡ Fault (bads.Deck fault)
+deck_inverse (Fault (bads.Deck other)) fault e = let same : fault ≡ other = cc in ap (λ f. Fault (bads.Deck f)) (sym same)
+deck_inverse (Fault (bads.Layout other top)) fault e = let no : ⊥ = cc in absurd no
+deck_inverse (Fault bads.ReadFault) fault e = let no : ⊥ = cc in absurd no
+deck_inverse NoMemory fault e = let no : ⊥ = cc in absurd no
 
-layout_inverse : (bad : InputBad) (fault : LayoutFault) → answers.Layout fault ≡ status_of bad → (top : List ℕ) × (bad ≡ bads.Layout fault top)
-layout_inverse (bads.Deck other) fault e = let no : ⊥ = cc in absurd no
-layout_inverse (bads.Layout other top) fault e = let same : fault ≡ other = cc in (top, ap (λ f. bads.Layout f top) (sym same))
-layout_inverse bads.ReadFault fault e = let no : ⊥ = cc in absurd no
-layout_inverse bads.NoMemory fault e = let no : ⊥ = cc in absurd no
+layout_inverse : (bad : Refusal InputBad) (fault : LayoutFault) → answers.Layout fault ≡ status_of bad
+    → (top : List ℕ) × (bad ≡ Fault (bads.Layout fault top))
+layout_inverse (Fault (bads.Deck other)) fault e = let no : ⊥ = cc in absurd no
+layout_inverse (Fault (bads.Layout other top)) fault e = let same : fault ≡ other = cc in (top, ap (λ f. Fault (bads.Layout f top)) (sym same))
+layout_inverse (Fault bads.ReadFault) fault e = let no : ⊥ = cc in absurd no
+layout_inverse NoMemory fault e = let no : ⊥ = cc in absurd no
 
-read_inverse : (bad : InputBad) → answers.ReadFault ≡ status_of bad → bad ≡ bads.ReadFault
-read_inverse (bads.Deck other) e = let no : ⊥ = cc in absurd no
-read_inverse (bads.Layout other top) e = let no : ⊥ = cc in absurd no
-read_inverse bads.ReadFault e = refl
-read_inverse bads.NoMemory e = let no : ⊥ = cc in absurd no
+read_inverse : (bad : Refusal InputBad) → answers.ReadFault ≡ status_of bad → bad ≡ Fault bads.ReadFault
+read_inverse (Fault (bads.Deck other)) e = let no : ⊥ = cc in absurd no
+read_inverse (Fault (bads.Layout other top)) e = let no : ⊥ = cc in absurd no
+read_inverse (Fault bads.ReadFault) e = refl
+read_inverse NoMemory e = let no : ⊥ = cc in absurd no
 
 -- what is made is Done, a write fault or want of memory
 made_kind : (tells : Bool) (b a : Content) (wr rr : Type 0) (input : Input) (s : Status)
@@ -93,13 +96,13 @@ pub record KeepsInput (made : Input → Status → Type 0) : Type 0 where
   pub layout : (input : Input) (fault : LayoutFault) → made input (answers.Layout fault) → ⊥
 
 deck_back : (made : Input → Status → Type 0) (r : Run) (a : Answer) (fault : DeckFault) (top : Option (List ℕ))
-    → KeepsInput made → IsOutcomeBy made r a (answers.Deck fault) top → a ≡ Err (bads.Deck fault)
+    → KeepsInput made → IsOutcomeBy made r a (answers.Deck fault) top → a ≡ Err (Fault (bads.Deck fault))
 deck_back made r (Ok input) fault top keeps (h, none) = absurd (keeps.deck input fault h)
 deck_back made r (Err bad) fault top keeps (e, name, rest) = ap Err (deck_inverse bad fault e)
 
 layout_back : (made : Input → Status → Type 0) (r : Run) (a : Answer) (fault : LayoutFault) (top : Option (List ℕ))
     → KeepsInput made → IsOutcomeBy made r a (answers.Layout fault) top
-    → (name : List ℕ) × (a ≡ Err (bads.Layout fault name)) × (top ≡ Some name)
+    → (name : List ℕ) × (a ≡ Err (Fault (bads.Layout fault name))) × (top ≡ Some name)
 layout_back made r (Ok input) fault top keeps (h, none) = absurd (keeps.layout input fault h)
 layout_back made r (Err bad) fault top keeps (e, name, rest) =
     let back = layout_inverse bad fault e in
@@ -108,16 +111,16 @@ layout_back made r (Err bad) fault top keeps (e, name, rest) =
 -- ---- and back
 
 refused_on : (made : Input → Status → Type 0) (r : Run) (a : Answer) (s : Status) (top : Option (List ℕ))
-    (bad : InputBad) → IsOutcomeBy made r a s top → a ≡ Err bad → s ≡ status_of bad
+    (bad : Refusal InputBad) → IsOutcomeBy made r a s top → a ≡ Err bad → s ≡ status_of bad
 refused_on made r a s top bad h e = (subst (λ (x : Answer). IsOutcomeBy made r x s top) e h).0
 
 -- what comes where a cause holds
-due : (made : Input → Status → Type 0) (r : Run) (a : Answer) (s : Status) (top : Option (List ℕ)) (bad : InputBad) → IsOutcomeBy made r a s top
-    → (a ≡ Err bad) ⊎ (a ≡ Err bads.NoMemory) ⊎ ((a ≡ Err bads.ReadFault) × ReadRose r) → (s ≡ status_of bad)
+due : (made : Input → Status → Type 0) (r : Run) (a : Answer) (s : Status) (top : Option (List ℕ)) (bad : Refusal InputBad) → IsOutcomeBy made r a s top
+    → (a ≡ Err bad) ⊎ (a ≡ Err NoMemory) ⊎ ((a ≡ Err (Fault bads.ReadFault)) × ReadRose r) → (s ≡ status_of bad)
     ⊎ (s ≡ answers.NoMemory) ⊎ ((s ≡ answers.ReadFault) × ReadRose r)
 due made r a s top bad h (inl e) = inl (refused_on made r a s top bad h e)
-due made r a s top bad h (inr (inl e)) = inr (inl (refused_on made r a s top bads.NoMemory h e))
-due made r a s top bad h (inr (inr (e, rose))) = inr (inr (refused_on made r a s top bads.ReadFault h e, rose))
+due made r a s top bad h (inr (inl e)) = inr (inl (refused_on made r a s top NoMemory h e))
+due made r a s top bad h (inr (inr (e, rose))) = inr (inr (refused_on made r a s top (Fault bads.ReadFault) h e, rose))
 
 turned : (made : Input → Status → Type 0) (r : Run) (a : Answer) (s t : Status) (top : Option (List ℕ))
     → IsOutcomeBy made r a s top → s ≡ t → IsOutcomeBy made r a t top
@@ -127,21 +130,21 @@ turned made r a s t top h e = subst (λ (x : Status). IsOutcomeBy made r a x top
 
 deck_row : (made : Input → Status → Type 0) (r : Run) (layout deck : List ℕ) (s : Status) (top : Option (List ℕ))
     → KeepsInput made → (h : IsAnswerBy made r layout deck s top) (fault : DeckFault) (cause : Type 0)
-    → InputComes (ReadRose r) h.a (Err (bads.Deck fault)) cause → ComesExactlyWhere (ReadRose r) s (answers.Deck fault) cause
+    → InputComes (ReadRose r) h.a (Err (Fault (bads.Deck fault))) cause → ComesExactlyWhere (ReadRose r) s (answers.Deck fault) cause
 deck_row made r layout deck s top keeps h fault cause row = record {
   only = λ e. row.only (deck_back made r h.a fault top keeps (turned made r h.a s (answers.Deck fault) top h.outcome e));
-  whenever = λ x. due made r h.a s top (bads.Deck fault) h.outcome (row.whenever x);
+  whenever = λ x. due made r h.a s top (Fault (bads.Deck fault)) h.outcome (row.whenever x);
 }
 
 layout_row : (made : Input → Status → Type 0) (r : Run) (layout deck : List ℕ) (s : Status) (top : Option (List ℕ))
     → KeepsInput made → (h : IsAnswerBy made r layout deck s top) (fault : LayoutFault) (cause : List ℕ → Type 0)
-    → ((name : List ℕ) → InputComes (ReadRose r) h.a (Err (bads.Layout fault name)) (cause name))
+    → ((name : List ℕ) → InputComes (ReadRose r) h.a (Err (Fault (bads.Layout fault name))) (cause name))
     → ComesExactlyWhere (ReadRose r) s (answers.Layout fault) ((name : List ℕ) × cause name)
 layout_row made r layout deck s top keeps h fault cause row = record {
   only = λ e.
       let back = layout_back made r h.a fault top keeps (turned made r h.a s (answers.Layout fault) top h.outcome e) in
       (back.0, (row back.0).only back.1);
-  whenever = λ (name, x). due made r h.a s top (bads.Layout fault name) h.outcome ((row name).whenever x);
+  whenever = λ (name, x). due made r h.a s top (Fault (bads.Layout fault name)) h.outcome ((row name).whenever x);
 }
 
 pub deck_long : (made : Input → Status → Type 0) (r : Run) (layout deck : List ℕ) (s : Status) (top : Option (List ℕ))
@@ -179,11 +182,11 @@ tree_due made r layout deck s top h bad name x =
     elim ((h.told.layout_tree bad name).whenever x) [
       | inl kind ↦ inl (record {
         other = kind.other;
-        answer = refused_on made r h.a s top (bads.Layout (layout_faults.Tree kind.other) name) h.outcome kind.answer;
+        answer = refused_on made r h.a s top (Fault (bads.Layout (layout_faults.Tree kind.other) name)) h.outcome kind.answer;
         same = kind.same;
       })
-      | inr (inl e) ↦ inr (inl (refused_on made r h.a s top bads.NoMemory h.outcome e))
-      | inr (inr (e, rose)) ↦ inr (inr (refused_on made r h.a s top bads.ReadFault h.outcome e, rose))
+      | inr (inl e) ↦ inr (inl (refused_on made r h.a s top NoMemory h.outcome e))
+      | inr (inr (e, rose)) ↦ inr (inr (refused_on made r h.a s top (Fault bads.ReadFault) h.outcome e, rose))
     ]
 
 pub layout_tree : (made : Input → Status → Type 0) (r : Run) (layout deck : List ℕ) (s : Status) (top : Option (List ℕ))
@@ -197,7 +200,7 @@ layout_tree made r layout deck s top keeps h bad = record {
 
 -- the name that the line of a refused layout may give
 top_deck : (b : Content) (rr fr : Type 0) (layout deck : List ℕ) (a : Answer) (fault : LayoutFault) (name : List ℕ)
-    → IsInputTold b rr fr layout deck a → a ≡ Err (bads.Layout fault name)
+    → IsInputTold b rr fr layout deck a → a ≡ Err (Fault (bads.Layout fault name))
     → (d : Deck) × HoldsDeck b layout deck d × (name ≡ d.top)
 top_deck b rr fr layout deck a layout_faults.Long name t e = let h = (t.layout_long name).only e in (h.deck_is, h.holds_deck, h.top_is)
 top_deck b rr fr layout deck a (layout_faults.Gds bad) name t e = let h = (t.layout_gds bad name).only e in (h.deck_is, h.holds_deck, h.top_is)
@@ -215,7 +218,7 @@ top_named made r layout deck s top keeps h fault e =
 -- ---- faults of reading
 
 read_back : (made : Input → Status → Type 0) (r : Run) (a : Answer) (top : Option (List ℕ)) → IsOutcomeBy made r a answers.ReadFault top
-    → (a ≡ Err bads.ReadFault) ⊎ ((input : Input) × (a ≡ Ok input) × made input answers.ReadFault)
+    → (a ≡ Err (Fault bads.ReadFault)) ⊎ ((input : Input) × (a ≡ Ok input) × made input answers.ReadFault)
 read_back made r (Ok input) top (h, none) = inr (input, refl, h)
 read_back made r (Err bad) top (e, name, rest) = inl (ap Err (read_inverse bad e))
 
@@ -233,8 +236,8 @@ pub missing_due : (made : Input → Status → Type 0) (r : Run) (layout deck : 
     → (s ≡ answers.ReadFault) ⊎ (s ≡ answers.NoMemory)
 missing_due made r layout deck s top h want =
     elim (h.told.missing want) [
-      | inl e ↦ inl (refused_on made r h.a s top bads.ReadFault h.outcome e)
-      | inr e ↦ inr (refused_on made r h.a s top bads.NoMemory h.outcome e)
+      | inl e ↦ inl (refused_on made r h.a s top (Fault bads.ReadFault) h.outcome e)
+      | inr e ↦ inr (refused_on made r h.a s top NoMemory h.outcome e)
     ]
 
 pub first_due : (made : Input → Status → Type 0) (r : Run) (layout deck : List ℕ) (s : Status) (top : Option (List ℕ))
@@ -242,8 +245,8 @@ pub first_due : (made : Input → Status → Type 0) (r : Run) (layout deck : Li
     → (s ≡ answers.ReadFault) ⊎ ((s ≡ answers.NoMemory) × RefusedRose r)
 first_due made r layout deck s top h missing =
     elim (h.told.missing_deck missing) [
-      | inl e ↦ inl (refused_on made r h.a s top bads.ReadFault h.outcome e)
-      | inr (e, rose) ↦ inr (refused_on made r h.a s top bads.NoMemory h.outcome e, rose)
+      | inl e ↦ inl (refused_on made r h.a s top (Fault bads.ReadFault) h.outcome e)
+      | inr (e, rose) ↦ inr (refused_on made r h.a s top NoMemory h.outcome e, rose)
     ]
 
 -- ---- what is accepted
@@ -256,13 +259,13 @@ pub record Given (made : Input → Status → Type 0) (r : Run) (layout deck : L
 
 given_in : (made : Input → Status → Type 0) (r : Run) (layout deck : List ℕ) (a : Answer) (s : Status)
     (top : Option (List ℕ)) → IsInputTold r.before (ReadRose r) (RefusedRose r) layout deck a → IsOutcomeBy made r a s top
-    → ((bad : InputBad) → s ≡ status_of bad → ⊥) → Given made r layout deck s
+    → ((bad : Refusal InputBad) → s ≡ status_of bad → ⊥) → Given made r layout deck s
 given_in made r layout deck (Ok input) s top told (h, none) apart = record { input = input; holds = (told.given input).only refl; is = h }
 given_in made r layout deck (Err bad) s top told (e, name, rest) apart = absurd (apart bad e)
 
 -- an answer that is none of a refused input
 pub given_by : (made : Input → Status → Type 0) (r : Run) (layout deck : List ℕ) (s : Status) (top : Option (List ℕ))
-    → IsAnswerBy made r layout deck s top → ((bad : InputBad) → s ≡ status_of bad → ⊥) → Given made r layout deck s
+    → IsAnswerBy made r layout deck s top → ((bad : Refusal InputBad) → s ≡ status_of bad → ⊥) → Given made r layout deck s
 given_by made r layout deck s top h apart = given_in made r layout deck h.a s top h.told h.outcome apart
 
 pub done_given : (made : Input → Status → Type 0) (r : Run) (layout deck : List ℕ) (s : Status) (top : Option (List ℕ))
@@ -279,11 +282,11 @@ no_given made r layout deck s top place fault h e = given_by made r layout deck 
 
 -- what comes where the input is accepted
 given_due : (made : Input → Status → Type 0) (r : Run) (a : Answer) (s : Status) (top : Option (List ℕ)) (input : Input) → IsOutcomeBy made r a s top
-    → (a ≡ Ok input) ⊎ (a ≡ Err bads.NoMemory) ⊎ ((a ≡ Err bads.ReadFault) × ReadRose r) → made input s
+    → (a ≡ Ok input) ⊎ (a ≡ Err NoMemory) ⊎ ((a ≡ Err (Fault bads.ReadFault)) × ReadRose r) → made input s
     ⊎ (s ≡ answers.NoMemory) ⊎ ((s ≡ answers.ReadFault) × ReadRose r)
 given_due made r a s top input h (inl e) = inl (subst (λ (x : Answer). IsOutcomeBy made r x s top) e h).0
-given_due made r a s top input h (inr (inl e)) = inr (inl (refused_on made r a s top bads.NoMemory h e))
-given_due made r a s top input h (inr (inr (e, rose))) = inr (inr (refused_on made r a s top bads.ReadFault h e, rose))
+given_due made r a s top input h (inr (inl e)) = inr (inl (refused_on made r a s top NoMemory h e))
+given_due made r a s top input h (inr (inr (e, rose))) = inr (inr (refused_on made r a s top (Fault bads.ReadFault) h e, rose))
 
 pub input_due : (made : Input → Status → Type 0) (r : Run) (layout deck : List ℕ) (s : Status) (top : Option (List ℕ))
     → IsAnswerBy made r layout deck s top → (input : Input) → HoldsInput r.before layout deck input

@@ -111,7 +111,8 @@ fields_fault : (size : ℤ) (c : Content) (file : List ℕ) (s : ShotData) → H
 fields_fault size c file s holds faults.Long h = absurd h
 fields_fault size c file s holds (faults.Bad bad) h = absurd h
 fields_fault size c file s holds faults.Head h = absurd h
-fields_fault size c file s holds (faults.Verdict verdict) h = absurd h
+fields_fault size c file s holds (faults.Miscovered t count wanted) h = absurd h
+fields_fault size c file s holds (faults.TooLarge shot) h = absurd h
 fields_fault size c file s holds (faults.Pack bad) h = absurd h
 fields_fault size c file s holds (faults.Wide k) h = record { s = s; holds = holds; wide = h }
 fields_fault size c file s holds (faults.Stripes value) h = record { s = s; holds = holds; within = h.0; many = h.1 }
@@ -130,7 +131,8 @@ also_fields : (size : ℤ) (c : Content) (file : List ℕ) (fault : CheckFault) 
 also_fields size c file faults.Long h = h
 also_fields size c file (faults.Bad bad) h = h
 also_fields size c file faults.Head h = absurd h
-also_fields size c file (faults.Verdict verdict) h = absurd h
+also_fields size c file (faults.Miscovered t count wanted) h = absurd h
+also_fields size c file (faults.TooLarge shot) h = absurd h
 also_fields size c file (faults.Pack bad) h = absurd h
 also_fields size c file (faults.Wide k) h = absurd h
 also_fields size c file (faults.Stripes value) h = absurd h
@@ -144,7 +146,8 @@ also_of : (fault : CheckFault) → refuses_shots fault → refuses_fields fault
 also_of faults.Long h = tt
 also_of (faults.Bad bad) h = h
 also_of faults.Head h = h
-also_of (faults.Verdict verdict) h = h
+also_of (faults.Miscovered t count wanted) h = h
+also_of (faults.TooLarge shot) h = h
 also_of (faults.Pack bad) h = h
 also_of (faults.Wide k) h = absurd h
 also_of (faults.Stripes value) h = absurd h
@@ -188,7 +191,8 @@ pub span_fault_kind : (size : ℤ) (shots : List Trapezoid) (fault : CheckFault)
 span_fault_kind size shots faults.Long h = absurd h
 span_fault_kind size shots (faults.Bad bad) h = absurd h
 span_fault_kind size shots faults.Head h = h
-span_fault_kind size shots (faults.Verdict verdict) h = h
+span_fault_kind size shots (faults.Miscovered t count wanted) h = h
+span_fault_kind size shots (faults.TooLarge shot) h = h
 span_fault_kind size shots (faults.Pack bad) h = h
 span_fault_kind size shots (faults.Wide k) h = tt
 span_fault_kind size shots (faults.Stripes value) h = tt

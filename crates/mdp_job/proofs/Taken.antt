@@ -1,5 +1,5 @@
 -- What follows of a shot file that was read, or wasn't taken; and a shot file hasn't more shots than bytes.
-use Rattle.std.proofs.Common.{◌≡◌, ◌≢◌, Some, inl, inr, ℕ, zero, suc, ◌+◌, ◌*◌, ◌/◌, ◌%◌, ◌≤◌, Bool, true, false, nat_lt, List, [], ◌∷◌, ◌++◌}
+use Rattle.std.proofs.Common.{◌≡◌, Some, inl, inr, ℕ, zero, suc, ◌+◌, ◌*◌, ◌/◌, ◌%◌, ◌≤◌, Bool, true, false, nat_lt, List, [], ◌∷◌, ◌++◌}
 use Rattle.std.proofs.Common.{length, refl, ap, subst, arith, length-append, Option}
 use Rattle.std.specs.Prelude.{flat_map, if◌then◌else◌}
 use Rattle.half_grid.specs.Trapezoids.{Trapezoid}
@@ -13,13 +13,12 @@ use Rattle.oas_lex.proofs.ForCallers.{text_opens, spelling_is}
 use Rattle.shot_reader.specs.Reading.{IsFileOf}
 use Rattle.shot_reader.specs.Refusals.{IsFirstFault}
 use Rattle.shot_reader.specs.declared.refusing.ShotBad.{ShotBad}
-use Rattle.shot_reader.specs.declared.refusing.ShotBad.TheVariants.{Head, Record, Spelling, Illegal, End, NoMemory as Wanting}
 use Rattle.shot_repeat.specs.Refusals.{IsFirstFault as IsFirstPackFault}
 use Rattle.shot_repeat.specs.declared.refusing.PackBad.{PackBad}
-use Rattle.shot_repeat.specs.declared.refusing.PackBad.TheVariants as packs
 use Rattle.mdp_job.specs.Runs.{run_of, IsEndedSo}
 use Rattle.mdp_job.specs.ShotFiles.{ShotData, IsShotsFault, IsPackedFault}
-use Rattle.mdp_job.specs.FileAnswers.{FileCommand, IsFileAnswer, IsRefusedFile, refused_shots, refused_packed}
+use Rattle.mdp_job.specs.FileAnswers.{FileCommand, IsFileAnswer, IsRefusedFile}
+use Rattle.job_report.specs.declared.faults.CheckFault.{CheckFault}
 use Rattle.job_report.specs.declared.faults.CheckFault.TheVariants as faults
 use Rattle.job_report.specs.declared.status.Status.{Status}
 use Rattle.job_report.specs.declared.status.Status.TheVariants as answers
@@ -43,31 +42,15 @@ made_answers command b m a o n p file s result holds rest same made = inl (
 
 module _ (b a : Content) (o p : Counts) (file bytes : List ℕ) (held : held_as b file ≡ Some bytes)
     (short : length bytes ≤ 268435456) (rest : a ≡ with_left b []) where
-  plain_refused : (bad : ShotBad) → IsFirstFault bytes bad → IsRefusedFile IsShotsFault (run_of b a o p) file (answers.No 0 (faults.Bad bad))
-  plain_refused bad fault = inl (faults.Bad bad, refl, record { bytes = bytes; held = held; short = short; fault = fault }, left_only b a rest)
+  pub shots_refused : (bad : ShotBad) → IsFirstFault bytes bad → IsRefusedFile IsShotsFault (run_of b a o p) file (answers.No 0 (faults.Bad bad))
+  shots_refused bad fault = inl (faults.Bad bad, refl, record { bytes = bytes; held = held; short = short; fault = fault }, left_only b a rest)
 
-  pub shots_refused : (bad : ShotBad) → (bad ≢ Wanting → IsFirstFault bytes bad) → IsRefusedFile IsShotsFault (run_of b a o p) file (refused_shots bad)
-  shots_refused (Head at) fault = plain_refused (Head at) (fault (λ e. let no : ⊥ = cc in no))
-  shots_refused (Record at) fault = plain_refused (Record at) (fault (λ e. let no : ⊥ = cc in no))
-  shots_refused (Spelling at) fault = plain_refused (Spelling at) (fault (λ e. let no : ⊥ = cc in no))
-  shots_refused (Illegal at) fault = plain_refused (Illegal at) (fault (λ e. let no : ⊥ = cc in no))
-  shots_refused (End at) fault = plain_refused (End at) (fault (λ e. let no : ⊥ = cc in no))
-  shots_refused Wanting fault = inr (inr (refl, λ missing. absurd (there (held_as b file) bytes held missing), left_only b a rest))
+  pub packed_refused : (bad : PackBad) → IsFirstPackFault bytes bad → IsRefusedFile IsPackedFault (run_of b a o p) file (answers.No 0 (faults.Pack bad))
+  packed_refused bad fault = inl (faults.Pack bad, refl, record { bytes = bytes; held = held; short = short; fault = fault }, left_only b a rest)
 
-  pack_refused : (bad : PackBad) → IsFirstPackFault bytes bad → IsRefusedFile IsPackedFault (run_of b a o p) file (answers.No 0 (faults.Pack bad))
-  pack_refused bad fault = inl (faults.Pack bad, refl, record { bytes = bytes; held = held; short = short; fault = fault }, left_only b a rest)
-
-  pub packed_refused : (bad : PackBad) → (bad ≢ packs.NoMemory → IsFirstPackFault bytes bad)
-      → IsRefusedFile IsPackedFault (run_of b a o p) file (refused_packed bad)
-  packed_refused (packs.Head at) fault = pack_refused (packs.Head at) (fault (λ e. let no : ⊥ = cc in no))
-  packed_refused (packs.Record at) fault = pack_refused (packs.Record at) (fault (λ e. let no : ⊥ = cc in no))
-  packed_refused (packs.Spelling at) fault = pack_refused (packs.Spelling at) (fault (λ e. let no : ⊥ = cc in no))
-  packed_refused (packs.Undefined at) fault = pack_refused (packs.Undefined at) (fault (λ e. let no : ⊥ = cc in no))
-  packed_refused (packs.Pair at) fault = pack_refused (packs.Pair at) (fault (λ e. let no : ⊥ = cc in no))
-  packed_refused (packs.Many at) fault = pack_refused (packs.Many at) (fault (λ e. let no : ⊥ = cc in no))
-  packed_refused (packs.Illegal at) fault = pack_refused (packs.Illegal at) (fault (λ e. let no : ⊥ = cc in no))
-  packed_refused (packs.End at) fault = pack_refused (packs.End at) (fault (λ e. let no : ⊥ = cc in no))
-  packed_refused packs.NoMemory fault = inr (inr (refl, λ missing. absurd (there (held_as b file) bytes held missing), left_only b a rest))
+  -- memory was wanting for what was read
+  pub wanting : (faulty : Content → List ℕ → CheckFault → Type 0) → IsRefusedFile faulty (run_of b a o p) file answers.NoMemory
+  wanting faulty = inr (inr (refl, λ missing. absurd (there (held_as b file) bytes held missing), left_only b a rest))
 
 -- ---- how many shots
 

@@ -1,6 +1,8 @@
 -- The table of answers for `check LAYOUT DECK`, from the answers of the reading and of the judging of files.
 use Rattle.std.specs.Prelude.{◌≡◌, ◌⊎◌, ℕ, List, length, Option, Some}
 use Rattle.depot.specs.Content.{Content, ChangesLeftOnly, with_left, with_said, IsPartSaid}
+use Rattle.geo_stream.specs.declared.refusal.Refusal.{Refusal}
+use Rattle.geo_stream.specs.declared.refusal.Refusal.TheVariants.{Fault, NoMemory}
 use Rattle.deck_text.specs.declared.deck.Output.{Output}
 use Rattle.shot_writer.specs.declared.parts.Sums.{Sums}
 use Rattle.job_input.specs.declared.reading.Input.{Input}
@@ -18,10 +20,10 @@ use Rattle.job_report.specs.declared.status.Status.{Status}
 use Rattle.job_report.specs.declared.status.Status.TheVariants as answers
 
 -- the answer to files that aren't all exact
-abbrev pub checked_status : CheckBad → Status
-checked_status (bads.Refused place fault) = answers.No place (fault_of fault)
-checked_status bads.ReadFault = answers.ReadFault
-checked_status bads.NoMemory = answers.NoMemory
+abbrev pub checked_status : Refusal CheckBad → Status
+checked_status (Fault (bads.Refused place fault)) = answers.No place (fault_of fault)
+checked_status (Fault bads.ReadFault) = answers.ReadFault
+checked_status NoMemory = answers.NoMemory
 
 -- all files are exact, with these sums
 abbrev pub AreAllExact : Content → Input → List Sums → Type 0

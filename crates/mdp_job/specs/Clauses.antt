@@ -11,7 +11,6 @@ use Rattle.cell_tree.specs.declared.faults.TreeBad.{TreeBad}
 use Rattle.deck_text.specs.declared.refusal.DeckBad.{DeckBad}
 use Rattle.deck_text.specs.declared.deck.Deck.{Deck}
 use Rattle.shot_reader.specs.declared.refusing.ShotBad.{ShotBad}
-use Rattle.shot_checker.specs.declared.verdicts.Verdict.TheVariants as verdicts
 use Rattle.shot_repeat.specs.Packed.{IsPackedText}
 use Rattle.shot_repeat.specs.declared.refusing.PackBad.{PackBad}
 use Rattle.shot_writer.specs.declared.parts.Sums.{Sums}
@@ -252,17 +251,16 @@ FileHead r words result = (place : ℕ) → FileRefused r words result place of_
 
 -- this shot is the first that doesn't fit the deck's limits
 abbrev pub FileTooLarge : Run → List (List ℕ) → Status → Type 0
-FileTooLarge r words result = (place shot : ℕ) → FileRefused r words result place (of_output.Verdict (verdicts.TooLarge shot))
+FileTooLarge r words result = (place shot : ℕ) → FileRefused r words result place (of_output.TooLarge shot)
 
 -- all shots fit, and this tile, in the lowest row and there the leftmost of those that differ, is in so many shots in
 -- place of the wanted number
 abbrev pub FileMiscovered : Run → List (List ℕ) → Status → Type 0
 FileMiscovered r words result =
-    (place : ℕ) (t : Tile) (count wanted : ℕ) → FileRefused r words result place (of_output.Verdict (verdicts.Miscovered t count wanted))
+    (place : ℕ) (t : Tile) (count wanted : ℕ) → FileRefused r words result place (of_output.Miscovered t count wanted)
 
 -- Each command has its answers. Refusals of a deck and of a layout come for `fracture`, `check` and `density` alone, and
--- those of a shot file for `check` and for the commands that read one, where its place is 0. A fault that is kept is never
--- want of memory, and a verdict that is kept never Exact.
+-- those of a shot file for `check` and for the commands that read one, where its place is 0.
 abbrev pub Belongs : List (List ℕ) → Status → Type 0
 Belongs words result = (command : Command) → AreWordsOf words command → IsOf command result
 

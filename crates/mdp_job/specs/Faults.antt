@@ -8,4 +8,5 @@ abbrev pub fault_of : OutputFault → CheckFault
 fault_of of_output.Long = faults.Long
 fault_of (of_output.Bad bad) = faults.Bad bad
 fault_of of_output.Head = faults.Head
-fault_of (of_output.Verdict verdict) = faults.Verdict verdict
+fault_of (of_output.Miscovered t count wanted) = faults.Miscovered t count wanted
+fault_of (of_output.TooLarge shot) = faults.TooLarge shot

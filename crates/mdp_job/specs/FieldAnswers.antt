@@ -8,7 +8,7 @@ use Rattle.mdp_job.specs.Runs.{IsEndedSo}
 use Rattle.mdp_job.specs.ShotFiles.{ShotData}
 use Rattle.mdp_job.specs.Splitting.{CanBeSplit, AreManyStripes, IsSplit, IsHalfSplit}
 use Rattle.job_report.specs.declared.faults.CheckFault.{CheckFault}
-use Rattle.job_report.specs.declared.faults.CheckFault.TheVariants.{Long, Bad, Head, Verdict, Pack, Wide, Stripes}
+use Rattle.job_report.specs.declared.faults.CheckFault.TheVariants.{Long, Bad, Head, Miscovered, TooLarge, Pack, Wide, Stripes}
 use Rattle.job_report.specs.declared.status.Status.{Status}
 use Rattle.job_report.specs.declared.status.Status.TheVariants as answers
 
@@ -22,7 +22,8 @@ abbrev pub IsSpanFault : ℤ → List Trapezoid → CheckFault → Type 0
 IsSpanFault size shots Long = ⊥
 IsSpanFault size shots (Bad bad) = ⊥
 IsSpanFault size shots Head = ⊥
-IsSpanFault size shots (Verdict verdict) = ⊥
+IsSpanFault size shots (Miscovered t count wanted) = ⊥
+IsSpanFault size shots (TooLarge shot) = ⊥
 IsSpanFault size shots (Pack bad) = ⊥
 IsSpanFault size shots (Wide k) = IsFirstTooWide shots k
 IsSpanFault size shots (Stripes value) = All IsFieldShot shots × AreManyStripes size shots value

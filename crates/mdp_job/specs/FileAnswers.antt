@@ -3,14 +3,9 @@ use Rattle.std.specs.Prelude.{◌≡◌, ◌⊎◌, ◌≤◌, List, ℕ, [], le
 use Rattle.depot.specs.Content.{Content, IsNotThere, ChangesLeftOnly, with_left}
 use Rattle.shot_reader.specs.Reading.{IsFileOf}
 use Rattle.shot_reader.specs.declared.reading.ShotFile.{ShotFile}
-use Rattle.shot_reader.specs.declared.refusing.ShotBad.{ShotBad}
-use Rattle.shot_reader.specs.declared.refusing.ShotBad.TheVariants as plain
 use Rattle.shot_repeat.specs.Packed.{IsPackedFile}
-use Rattle.shot_repeat.specs.declared.refusing.PackBad.{PackBad}
-use Rattle.shot_repeat.specs.declared.refusing.PackBad.TheVariants as packs
 use Rattle.file_check.specs.Files.{ShotData}
 use Rattle.job_report.specs.declared.faults.CheckFault.{CheckFault}
-use Rattle.job_report.specs.declared.faults.CheckFault.TheVariants as faults
 use Rattle.mdp_job.specs.Runs.{Run, ReadRose, WriteRose, RefusedRose, IsEndedSo}
 use Rattle.job_report.specs.declared.status.Status.{Status}
 use Rattle.job_report.specs.declared.status.Status.TheVariants as answers
@@ -67,24 +62,3 @@ IsOfRefusedFile of_fault answers.ReadFault = ⊤
 IsOfRefusedFile of_fault answers.WriteFault = ⊥
 IsOfRefusedFile of_fault answers.NoMemory = ⊤
 IsOfRefusedFile of_fault (answers.No place fault) = (place ≡ 0) × of_fault fault
-
--- the answer to bytes that are no shot file, or that no memory was left to read
-abbrev pub refused_shots : ShotBad → Status
-refused_shots (plain.Head at) = answers.No 0 (faults.Bad (plain.Head at))
-refused_shots (plain.Record at) = answers.No 0 (faults.Bad (plain.Record at))
-refused_shots (plain.Spelling at) = answers.No 0 (faults.Bad (plain.Spelling at))
-refused_shots (plain.Illegal at) = answers.No 0 (faults.Bad (plain.Illegal at))
-refused_shots (plain.End at) = answers.No 0 (faults.Bad (plain.End at))
-refused_shots plain.NoMemory = answers.NoMemory
-
--- the same of a packed one
-abbrev pub refused_packed : PackBad → Status
-refused_packed (packs.Head at) = answers.No 0 (faults.Pack (packs.Head at))
-refused_packed (packs.Record at) = answers.No 0 (faults.Pack (packs.Record at))
-refused_packed (packs.Spelling at) = answers.No 0 (faults.Pack (packs.Spelling at))
-refused_packed (packs.Undefined at) = answers.No 0 (faults.Pack (packs.Undefined at))
-refused_packed (packs.Pair at) = answers.No 0 (faults.Pack (packs.Pair at))
-refused_packed (packs.Many at) = answers.No 0 (faults.Pack (packs.Many at))
-refused_packed (packs.Illegal at) = answers.No 0 (faults.Pack (packs.Illegal at))
-refused_packed (packs.End at) = answers.No 0 (faults.Pack (packs.End at))
-refused_packed packs.NoMemory = answers.NoMemory

@@ -1,12 +1,14 @@
 -- The table of answers, part by part: what the reading of deck and layout tells, and what the writing of the outputs of an
 -- accepted input owes.
-use Rattle.std.specs.Prelude.{◌≡◌, ◌≢◌, ◌⊎◌, ℕ, Bool, List, [], length, Option, None, Some, Ok, Err, ⊤}
+use Rattle.std.specs.Prelude.{◌≡◌, ◌⊎◌, ℕ, Bool, List, [], length, Option, None, Some, Ok, Err, ⊤}
 use Rattle.depot.specs.Content.{Content, IsNotThere, IsLongerThan, ChangesLeftOnly, with_left, with_said, IsPartSaid}
 use Rattle.depot.specs.Counts.{Counts, Rose}
 use Rattle.depot.specs.declared.outside.DepotBad.{DepotBad}
 use Rattle.depot.specs.declared.outside.DepotBad.TheVariants as depot
 use Rattle.depot.specs.declared.whole.Refused.{Refused}
 use Rattle.depot.specs.declared.whole.Refused.TheVariants as reading
+use Rattle.geo_stream.specs.declared.refusal.Refusal.{Refusal}
+use Rattle.geo_stream.specs.declared.refusal.Refusal.TheVariants.{Fault, NoMemory}
 use Rattle.gds_reader.specs.declared.refusing.GdsBad.{GdsBad}
 use Rattle.oas_reader.specs.declared.refusing.OasBad.{OasBad}
 use Rattle.cell_tree.specs.declared.faults.TreeBad.{TreeBad}
@@ -15,7 +17,7 @@ use Rattle.shot_writer.specs.declared.parts.Sums.{Sums}
 use Rattle.shot_output.specs.Files.{AreWritten, AreCutShort}
 use Rattle.job_input.specs.Accepted.{HoldsInput}
 use Rattle.job_input.specs.Refused.{HoldsDeckFault, IsLongLayout, HoldsGdsFault, HoldsOasFault, HoldsTreeFault, IsWanting}
-use Rattle.job_input.specs.Clauses.{Answer, ComesExactlyWhere, ComesByKind, IsWantingOas}
+use Rattle.job_input.specs.Clauses.{Answer, ComesExactlyWhere, ComesByKind}
 use Rattle.job_input.specs.declared.reading.Input.{Input}
 use Rattle.job_input.specs.declared.refusing.InputBad.{InputBad}
 use Rattle.job_input.specs.declared.refusing.InputBad.TheVariants as bads
@@ -29,12 +31,6 @@ use Rattle.job_report.specs.declared.status.Status.TheVariants as answers
 use Rattle.job_report.specs.declared.faults.CheckFault.{CheckFault}
 use Rattle.job_report.specs.declared.faults.CheckFault.TheVariants as check_faults
 use Rattle.job_words.specs.Words.{Command, Fracture, Check, Shots, Pack, Unpack, Split, Density, Generate}
-use Rattle.shot_checker.specs.declared.verdicts.Verdict.TheVariants.{Exact}
-use Rattle.shot_reader.specs.declared.refusing.ShotBad.TheVariants.{NoMemory as Wanting}
-use Rattle.shot_repeat.specs.declared.refusing.PackBad.TheVariants.{NoMemory as PackWanting}
-use Rattle.deck_text.specs.declared.refusal.DeckBad.TheVariants.{NoMemory as DeckWanting}
-use Rattle.gds_reader.specs.declared.refusing.GdsBad.TheVariants.{NoMemory as GdsWanting}
-use Rattle.cell_tree.specs.declared.faults.TreeBad.TheVariants.{NoMemory as TreeWanting}
 
 -- the answer to a file that wasn't read
 abbrev pub refused_status : Refused → Status → Status
@@ -48,17 +44,17 @@ fault_status depot.Failed = answers.WriteFault
 fault_status depot.NoMemory = answers.NoMemory
 
 -- the answer to a refused input, and the name that its line may need
-abbrev pub status_of : InputBad → Status
-status_of (bads.Deck fault) = answers.Deck fault
-status_of (bads.Layout fault top) = answers.Layout fault
-status_of bads.ReadFault = answers.ReadFault
-status_of bads.NoMemory = answers.NoMemory
+abbrev pub status_of : Refusal InputBad → Status
+status_of (Fault (bads.Deck fault)) = answers.Deck fault
+status_of (Fault (bads.Layout fault top)) = answers.Layout fault
+status_of (Fault bads.ReadFault) = answers.ReadFault
+status_of NoMemory = answers.NoMemory
 
-abbrev pub top_of : InputBad → Option (List ℕ)
-top_of (bads.Deck fault) = None
-top_of (bads.Layout fault top) = Some top
-top_of bads.ReadFault = None
-top_of bads.NoMemory = None
+abbrev pub top_of : Refusal InputBad → Option (List ℕ)
+top_of (Fault (bads.Deck fault)) = None
+top_of (Fault (bads.Layout fault top)) = Some top
+top_of (Fault bads.ReadFault) = None
+top_of NoMemory = None
 
 -- what holds where saying a text gives the answer
 abbrev pub IsSaidSo : Content → Content → (write_rose refused_rose : Type 0) → List ℕ → Status → Type 0
@@ -70,17 +66,18 @@ IsSaidSo before now write_rose refused_rose text result =
 -- what the reading of deck and layout tells of its answer
 pub record IsInputTold (before : Content) (read_rose refused_rose : Type 0) (layout deck : List ℕ) (a : Answer) : Type 0 where
   pub given : (input : Input) → ComesExactlyWhere read_rose a (Ok input) (HoldsInput before layout deck input)
-  pub deck_long : ComesExactlyWhere read_rose a (Err (bads.Deck deck_faults.Long)) (IsLongerThan 65536 before deck)
-  pub deck_bad : (bad : DeckBad) → ComesExactlyWhere read_rose a (Err (bads.Deck (deck_faults.Bad bad))) (HoldsDeckFault before layout deck bad)
-  pub layout_long : (top : List ℕ) → ComesExactlyWhere read_rose a (Err (bads.Layout layout_faults.Long top)) (IsLongLayout before layout deck top)
+  pub deck_long : ComesExactlyWhere read_rose a (Err (Fault (bads.Deck deck_faults.Long))) (IsLongerThan 65536 before deck)
+  pub deck_bad : (bad : DeckBad) → ComesExactlyWhere read_rose a (Err (Fault (bads.Deck (deck_faults.Bad bad)))) (HoldsDeckFault before layout deck bad)
+  pub layout_long : (top : List ℕ)
+      → ComesExactlyWhere read_rose a (Err (Fault (bads.Layout layout_faults.Long top))) (IsLongLayout before layout deck top)
   pub layout_gds : (bad : GdsBad) (top : List ℕ)
-      → ComesExactlyWhere read_rose a (Err (bads.Layout (layout_faults.Gds bad) top)) (HoldsGdsFault before layout deck bad top)
+      → ComesExactlyWhere read_rose a (Err (Fault (bads.Layout (layout_faults.Gds bad) top))) (HoldsGdsFault before layout deck bad top)
   pub layout_oas : (bad : OasBad) (top : List ℕ)
-      → ComesExactlyWhere read_rose a (Err (bads.Layout (layout_faults.Oas bad) top)) (HoldsOasFault before layout deck bad top)
+      → ComesExactlyWhere read_rose a (Err (Fault (bads.Layout (layout_faults.Oas bad) top))) (HoldsOasFault before layout deck bad top)
   pub layout_tree : (bad : TreeBad) (top : List ℕ) → ComesByKind read_rose a bad top (HoldsTreeFault before layout deck bad top)
-  pub read_fault : a ≡ Err bads.ReadFault → read_rose ⊎ IsWanting before layout deck
-  pub missing : IsWanting before layout deck → (a ≡ Err bads.ReadFault) ⊎ (a ≡ Err bads.NoMemory)
-  pub missing_deck : IsNotThere before deck → (a ≡ Err bads.ReadFault) ⊎ ((a ≡ Err bads.NoMemory) × refused_rose)
+  pub read_fault : a ≡ Err (Fault bads.ReadFault) → read_rose ⊎ IsWanting before layout deck
+  pub missing : IsWanting before layout deck → (a ≡ Err (Fault bads.ReadFault)) ⊎ (a ≡ Err NoMemory)
+  pub missing_deck : IsNotThere before deck → (a ≡ Err (Fault bads.ReadFault)) ⊎ ((a ≡ Err NoMemory) × refused_rose)
 
 -- ---- writing
 
@@ -144,17 +141,12 @@ IsOfWriting answers.WriteFault = ⊤
 IsOfWriting answers.NoMemory = ⊤
 IsOfWriting (answers.No place fault) = ⊥
 
--- the answer may come of a deck and a layout that are read, where this says which files may be refused; no fault that is
--- kept is want of memory
+-- the answer may come of a deck and a layout that are read, where this says which files may be refused
 abbrev pub IsOfInput : (ℕ → CheckFault → Type 0) → Status → Type 0
 IsOfInput of_file answers.Done = ⊤
 IsOfInput of_file answers.Words = ⊥
-IsOfInput of_file (answers.Deck deck_faults.Long) = ⊤
-IsOfInput of_file (answers.Deck (deck_faults.Bad bad)) = bad ≢ DeckWanting
-IsOfInput of_file (answers.Layout layout_faults.Long) = ⊤
-IsOfInput of_file (answers.Layout (layout_faults.Gds bad)) = bad ≢ GdsWanting
-IsOfInput of_file (answers.Layout (layout_faults.Oas bad)) = IsWantingOas bad → ⊥
-IsOfInput of_file (answers.Layout (layout_faults.Tree bad)) = bad ≢ TreeWanting
+IsOfInput of_file (answers.Deck fault) = ⊤
+IsOfInput of_file (answers.Layout fault) = ⊤
 IsOfInput of_file answers.ReadFault = ⊤
 IsOfInput of_file answers.WriteFault = ⊤
 IsOfInput of_file answers.NoMemory = ⊤
@@ -175,12 +167,13 @@ IsOfFile of_fault (answers.No place fault) = (place ≡ 0) × of_fault fault
 abbrev pub refuses_none : ℕ → CheckFault → Type 0
 refuses_none place fault = ⊥
 
--- those of `check`, whose verdict is never Exact
+-- those of `check`
 abbrev pub refuses_output : ℕ → CheckFault → Type 0
 refuses_output place check_faults.Long = ⊤
-refuses_output place (check_faults.Bad bad) = bad ≢ Wanting
+refuses_output place (check_faults.Bad bad) = ⊤
 refuses_output place check_faults.Head = ⊤
-refuses_output place (check_faults.Verdict verdict) = verdict ≢ Exact
+refuses_output place (check_faults.Miscovered t count wanted) = ⊤
+refuses_output place (check_faults.TooLarge shot) = ⊤
 refuses_output place (check_faults.Pack bad) = ⊥
 refuses_output place (check_faults.Wide k) = ⊥
 refuses_output place (check_faults.Stripes value) = ⊥
@@ -188,9 +181,10 @@ refuses_output place (check_faults.Stripes value) = ⊥
 -- those of `shots` and of `pack`
 abbrev pub refuses_shots : CheckFault → Type 0
 refuses_shots check_faults.Long = ⊤
-refuses_shots (check_faults.Bad bad) = bad ≢ Wanting
+refuses_shots (check_faults.Bad bad) = ⊤
 refuses_shots check_faults.Head = ⊥
-refuses_shots (check_faults.Verdict verdict) = ⊥
+refuses_shots (check_faults.Miscovered t count wanted) = ⊥
+refuses_shots (check_faults.TooLarge shot) = ⊥
 refuses_shots (check_faults.Pack bad) = ⊥
 refuses_shots (check_faults.Wide k) = ⊥
 refuses_shots (check_faults.Stripes value) = ⊥
@@ -200,17 +194,19 @@ abbrev pub refuses_packed : CheckFault → Type 0
 refuses_packed check_faults.Long = ⊤
 refuses_packed (check_faults.Bad bad) = ⊥
 refuses_packed check_faults.Head = ⊥
-refuses_packed (check_faults.Verdict verdict) = ⊥
-refuses_packed (check_faults.Pack bad) = bad ≢ PackWanting
+refuses_packed (check_faults.Miscovered t count wanted) = ⊥
+refuses_packed (check_faults.TooLarge shot) = ⊥
+refuses_packed (check_faults.Pack bad) = ⊤
 refuses_packed (check_faults.Wide k) = ⊥
 refuses_packed (check_faults.Stripes value) = ⊥
 
 -- those of `split`
 abbrev pub refuses_fields : CheckFault → Type 0
 refuses_fields check_faults.Long = ⊤
-refuses_fields (check_faults.Bad bad) = bad ≢ Wanting
+refuses_fields (check_faults.Bad bad) = ⊤
 refuses_fields check_faults.Head = ⊥
-refuses_fields (check_faults.Verdict verdict) = ⊥
+refuses_fields (check_faults.Miscovered t count wanted) = ⊥
+refuses_fields (check_faults.TooLarge shot) = ⊥
 refuses_fields (check_faults.Pack bad) = ⊥
 refuses_fields (check_faults.Wide k) = ⊤
 refuses_fields (check_faults.Stripes value) = ⊤

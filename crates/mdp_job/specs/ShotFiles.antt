@@ -13,7 +13,7 @@ use Rattle.shot_repeat.specs.Refusals.{IsFirstFault as IsFirstPackFault}
 use Rattle.shot_repeat.specs.declared.refusing.PackBad.{PackBad}
 pub use Rattle.file_check.specs.Files.{ShotData}
 use Rattle.job_report.specs.declared.faults.CheckFault.{CheckFault}
-use Rattle.job_report.specs.declared.faults.CheckFault.TheVariants.{Long, Bad, Head, Verdict, Pack, Wide, Stripes}
+use Rattle.job_report.specs.declared.faults.CheckFault.TheVariants.{Long, Bad, Head, Miscovered, TooLarge, Pack, Wide, Stripes}
 
 -- ---- what a name holds
 
@@ -52,7 +52,8 @@ abbrev pub IsShotsFault : Content → List ℕ → CheckFault → Type 0
 IsShotsFault c file Long = IsLongerThan 268435456 c file
 IsShotsFault c file (Bad bad) = HoldsFault c file bad
 IsShotsFault c file Head = ⊥
-IsShotsFault c file (Verdict verdict) = ⊥
+IsShotsFault c file (Miscovered t count wanted) = ⊥
+IsShotsFault c file (TooLarge shot) = ⊥
 IsShotsFault c file (Pack bad) = ⊥
 IsShotsFault c file (Wide k) = ⊥
 IsShotsFault c file (Stripes value) = ⊥
@@ -62,7 +63,8 @@ abbrev pub IsPackedFault : Content → List ℕ → CheckFault → Type 0
 IsPackedFault c file Long = IsLongerThan 268435456 c file
 IsPackedFault c file (Bad bad) = ⊥
 IsPackedFault c file Head = ⊥
-IsPackedFault c file (Verdict verdict) = ⊥
+IsPackedFault c file (Miscovered t count wanted) = ⊥
+IsPackedFault c file (TooLarge shot) = ⊥
 IsPackedFault c file (Pack bad) = HoldsPackFault c file bad
 IsPackedFault c file (Wide k) = ⊥
 IsPackedFault c file (Stripes value) = ⊥

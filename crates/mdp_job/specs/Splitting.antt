@@ -12,7 +12,7 @@ use Rattle.field_output.specs.Stripes.{AreAllStripeLists, AreStripesPartWritten,
 use Rattle.field_output.specs.declared.sums.StripeSums.{StripeSums}
 use Rattle.mdp_job.specs.ShotFiles.{ShotData, HoldsShots, HoldsFault, pair_or}
 use Rattle.job_report.specs.declared.faults.CheckFault.{CheckFault}
-use Rattle.job_report.specs.declared.faults.CheckFault.TheVariants.{Long, Bad, Head as OtherHead, Verdict, Pack, Wide, Stripes}
+use Rattle.job_report.specs.declared.faults.CheckFault.TheVariants.{Long, Bad, Head as OtherHead, Miscovered, TooLarge, Pack, Wide, Stripes}
 
 -- ---- which files can be split
 
@@ -52,7 +52,8 @@ abbrev pub IsFieldsFault : ℤ → Content → List ℕ → CheckFault → Type 
 IsFieldsFault size c file Long = IsLongerThan 268435456 c file
 IsFieldsFault size c file (Bad bad) = HoldsFault c file bad
 IsFieldsFault size c file OtherHead = ⊥
-IsFieldsFault size c file (Verdict verdict) = ⊥
+IsFieldsFault size c file (Miscovered t count wanted) = ⊥
+IsFieldsFault size c file (TooLarge shot) = ⊥
 IsFieldsFault size c file (Pack bad) = ⊥
 IsFieldsFault size c file (Wide k) = HoldsWide c file k
 IsFieldsFault size c file (Stripes value) = HoldsManyStripes size c file value

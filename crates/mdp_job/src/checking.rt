@@ -12,18 +12,19 @@ use crate::reporting::say_report_on;
 use deck_plan::Plan;
 use depot::Depot;
 use file_check::{CheckBad, check_files};
+use geo_stream::Refusal;
 use job_input::{Input, read_input};
 use job_report::{Ending, Status};
 use std::alloc::Global;
 
 // The answer to files that aren't all exact.
-fn checked_status(bad: CheckBad) -> Status
-    ensures { result ≡ checked_status bad }
+fn checked_status(refusal: Refusal<CheckBad>) -> Status
+    ensures { result ≡ checked_status refusal }
 {
-    match bad {
-        CheckBad::Refused(place, fault) => Status::No(place, fault_of(fault)),
-        CheckBad::ReadFault => Status::ReadFault,
-        CheckBad::NoMemory => Status::NoMemory,
+    match refusal {
+        Refusal::Fault(CheckBad::Refused(place, fault)) => Status::No(place, fault_of(fault)),
+        Refusal::Fault(CheckBad::ReadFault) => Status::ReadFault,
+        Refusal::NoMemory => Status::NoMemory,
     }
 }
 
@@ -46,12 +47,12 @@ fn check_all<D: Depot>(alloc: Global, input: &Input, depot: &mut D) -> Status
     };
     match check_files(alloc, depot, &plan) {
         Ok(sums) => say_report_on("exact", input, &sums, depot),
-        Err(bad) => checked_status(bad),
+        Err(refusal) => checked_status(refusal),
     }
 }
 
-// Judges the files of an accepted input's outputs, and says the report where all are exact. The outputs are kept for the
-// line of a refused file.
+// Judges the files of an accepted input's outputs, and says the report where all are exact. The outputs are kept for
+// the line of a refused file.
 fn check_input<D: Depot>(alloc: Global, input: Input, depot: &mut D) -> Ending
     requires { IsRead input.deck }
     ensures checked { IsTrue D.tells → IsChecked
@@ -81,7 +82,8 @@ pub(crate) fn check<D: Depot>(alloc: Global, layout: &str, deck: &str, depot: &m
     ensures answer { IsTrue D.tells → IsCheckAnswer
         (run_of (D.content depot.old) (D.content depot.new) (D.counts depot.old) (D.counts depot.new))
         layout.now deck.now result.status result.top }
-    ensures outputs { IsTrue D.tells → HasOutputs (D.content depot.old) layout.now deck.now result.status result.outputs }
+    ensures outputs { IsTrue D.tells
+        → HasOutputs (D.content depot.old) layout.now deck.now result.status result.outputs }
     ensures write_fault { result.status ≡ Status.WriteFault
         → Rose (D.counts depot.old).write_faults (D.counts depot.new).write_faults }
     ensures read_fault { result.status ≡ Status.ReadFault
@@ -92,6 +94,6 @@ pub(crate) fn check<D: Depot>(alloc: Global, layout: &str, deck: &str, depot: &m
 {
     match read_input(alloc, depot, layout, deck) {
         Ok(input) => check_input(alloc, input, depot),
-        Err(bad) => refused_input(bad),
+        Err(refusal) => refused_input(refusal),
     }
 }

@@ -13,6 +13,7 @@ pub(crate) fn fault_of(fault: OutputFault) -> CheckFault
         OutputFault::Long => CheckFault::Long,
         OutputFault::Bad(bad) => CheckFault::Bad(bad),
         OutputFault::Head => CheckFault::Head,
-        OutputFault::Verdict(verdict) => CheckFault::Verdict(verdict),
+        OutputFault::Miscovered(tile, count, wanted) => CheckFault::Miscovered(tile, count, wanted),
+        OutputFault::TooLarge(shot) => CheckFault::TooLarge(shot),
     }
 }

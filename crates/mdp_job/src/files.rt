@@ -4,50 +4,20 @@ ghost use Rattle.depot.specs.Content.{with_left};
 ghost use Rattle.depot.specs.Counts.{NeverFall, Rose};
 ghost use Rattle.mdp_job.specs.Runs.{run_of};
 ghost use Rattle.mdp_job.specs.ShotFiles.{HoldsShots, HoldsPacked, IsShotsFault, IsPackedFault};
-ghost use Rattle.mdp_job.specs.FileAnswers.{IsRefusedFile, IsOfRefusedFile, IsPlainData, IsPackedData, shot_data, refused_shots, refused_packed};
+ghost use Rattle.mdp_job.specs.FileAnswers.{IsRefusedFile, IsOfRefusedFile, IsPlainData, IsPackedData, shot_data};
 ghost use Rattle.mdp_job.specs.Parts.{refuses_shots, refuses_packed, CountsFor};
 
 use crate::reading::refused_status;
 use depot::{Depot, read_all};
+use geo_stream::Refusal;
 use job_report::{CheckFault, Status};
 use shot_listing::MOST_SHOTS;
-use shot_reader::{ShotBad, ShotFile, read_shots};
-use shot_repeat::{PackBad, read_packed};
+use shot_reader::{ShotFile, read_shots};
+use shot_repeat::read_packed;
 use std::alloc::Global;
 
 /// A shot file has at most this many bytes, so a plain one has no more shots than that.
 const SHOTS_LIMIT: usize = MOST_SHOTS;
-
-// The answer to bytes that are no shot file.
-fn refused_shots(bad: ShotBad) -> Status
-    ensures { result ≡ refused_shots bad }
-{
-    match bad {
-        ShotBad::Head(_)
-        | ShotBad::Record(_)
-        | ShotBad::Spelling(_)
-        | ShotBad::Illegal(_)
-        | ShotBad::End(_) => Status::No(0, CheckFault::Bad(bad)),
-        ShotBad::NoMemory => Status::NoMemory,
-    }
-}
-
-// The answer to bytes that are no packed shot file.
-fn refused_packed(bad: PackBad) -> Status
-    ensures { result ≡ refused_packed bad }
-{
-    match bad {
-        PackBad::Head(_)
-        | PackBad::Record(_)
-        | PackBad::Spelling(_)
-        | PackBad::Undefined(_)
-        | PackBad::Pair(_)
-        | PackBad::Many(_)
-        | PackBad::Illegal(_)
-        | PackBad::End(_) => Status::No(0, CheckFault::Pack(bad)),
-        PackBad::NoMemory => Status::NoMemory,
-    }
-}
 
 /// Reads a plain shot file, or answers why it isn't taken.
 pub(crate) fn read_shot_file<D: Depot>(
@@ -76,7 +46,8 @@ pub(crate) fn read_shot_file<D: Depot>(
     };
     match read_shots(alloc, &bytes) {
         Ok(read) => Ok(read),
-        Err(bad) => Err(refused_shots(bad)),
+        Err(Refusal::Fault(bad)) => Err(Status::No(0, CheckFault::Bad(bad))),
+        Err(Refusal::NoMemory) => Err(Status::NoMemory),
     }
 }
 
@@ -107,6 +78,7 @@ pub(crate) fn read_packed_file<D: Depot>(
     };
     match read_packed(alloc, &bytes) {
         Ok(read) => Ok(read),
-        Err(bad) => Err(refused_packed(bad)),
+        Err(Refusal::Fault(bad)) => Err(Status::No(0, CheckFault::Pack(bad))),
+        Err(Refusal::NoMemory) => Err(Status::NoMemory),
     }
 }

@@ -4,7 +4,8 @@ ghost use Rattle.depot.specs.Counts.{NeverFall, Rose};
 ghost use Rattle.deck_plan.specs.Plans.{IsRead};
 ghost use Rattle.mdp_job.specs.Runs.{run_of};
 ghost use Rattle.mdp_job.specs.Outputs.{report_on};
-ghost use Rattle.mdp_job.specs.Parts.{status_of, top_of, IsSaidSo, IsMade, IsAnswer, IsOfInput, IsOfWriting, refuses_none, CountsFor};
+ghost use Rattle.mdp_job.specs.Parts.{status_of, top_of, IsSaidSo, IsMade, IsAnswer, IsOfInput, IsOfWriting};
+ghost use Rattle.mdp_job.specs.Parts.{refuses_none, CountsFor};
 
 use crate::ending::fault_status;
 use crate::reading::refused_input;
@@ -53,6 +54,6 @@ pub(crate) fn fracture<D: Depot>(alloc: Global, layout: &str, deck: &str, depot:
 {
     match read_input(alloc, depot, layout, deck) {
         Ok(input) => Ending::plain(write_all(alloc, &input, depot)),
-        Err(bad) => refused_input(bad),
+        Err(refusal) => refused_input(refusal),
     }
 }

@@ -7,7 +7,8 @@ ghost use Rattle.job_words.specs.Texts.{texts};
 ghost use Rattle.job_words.specs.Words.{IsNoCommand};
 ghost use Rattle.mdp_job.specs.Runs.{run_of};
 ghost use Rattle.mdp_job.specs.Headline.{Covers, Certifies};
-ghost use Rattle.mdp_job.specs.Clauses.{IsAccepted, Belongs, FaultsTold, Coverage, Acceptance, Refusals, Speech, Remains};
+ghost use Rattle.mdp_job.specs.Clauses.{IsAccepted, Belongs, FaultsTold, Coverage, Acceptance, Refusals, Speech};
+ghost use Rattle.mdp_job.specs.Clauses.{Remains};
 ghost use Rattle.mdp_job.specs.Table.{IsAnswerTo, NamesFile};
 ghost use Rattle.mdp_job.specs.Parts.{CountsFor};
 
@@ -70,25 +71,25 @@ fn answered<D: Depot>(alloc: Global, words: &[String], depot: &mut D) -> Ending
 
 /// Does what the words say, and answers how it ended. The words don't have the program's own name in them. They are
 ///
-/// - `fracture LAYOUT DECK`: of the areas that the deck denotes of the layout the shots are written into the files of the
-///   deck's outputs, and then the report is printed;
-/// - `check LAYOUT DECK`: the files of the deck's outputs, whoever made them, are judged by the areas that the deck denotes
-///   of the layout, and where all are exact the report is printed;
+/// - `fracture LAYOUT DECK`: of the areas that the deck denotes of the layout the shots are written into the files of
+///   the deck's outputs, and then the report is printed;
+/// - `check LAYOUT DECK`: the files of the deck's outputs, whoever made them, are judged by the areas that the deck
+///   denotes of the layout, and where all are exact the report is printed;
 /// - `shots FILE`: the shots of a shot file are listed on standard output;
 /// - `pack FILE OUT`: a shot file is written with modal fields and repetitions;
 /// - `unpack FILE OUT`: a packed shot file is written as a plain one;
-/// - `split SIZE FILE OUT`: the shots of a shot file are cut along the lines of square fields of that size, 16 to 16,777,216
-///   half units, and those of each stripe of fields are written into a file of its own;
-/// - `density SIZE LAYOUT DECK`: for each of the deck's outputs it is printed how many triangles of the area that the deck
-///   denotes of the layout are in each square window of that size, 64 to 16,777,216 half units;
+/// - `split SIZE FILE OUT`: the shots of a shot file are cut along the lines of square fields of that size, 16 to
+///   16,777,216 half units, and those of each stripe of fields are written into a file of its own;
+/// - `density SIZE LAYOUT DECK`: for each of the deck's outputs it is printed how many triangles of the area that the
+///   deck denotes of the layout are in each square window of that size, 64 to 16,777,216 half units;
 /// - `generate N FILE`: the generated layout of a number from 1 to 1,000 is written.
 ///
 /// An answer other than Done is printed in one line; a failure to print that line changes nothing.
 ///
 /// The first three clauses hold over every depot, the others over one that tells its content. The headline is the field
 /// `cover` of the first of these: after `fracture` ends with Done, every output file is the one text of a list of legal
-/// shots within the deck's limits; each half-grid triangle lies in exactly one of them if it lies in the area that the deck
-/// denotes of the layout, and in none otherwise.
+/// shots within the deck's limits; each half-grid triangle lies in exactly one of them if it lies in the area that the
+/// deck denotes of the layout, and in none otherwise.
 pub fn run<D: Depot>(alloc: Global, words: &[String], depot: &mut D) -> Status
     ensures words { (result ≡ Status.Words) ↔ IsNoCommand (texts words.now) }
     ensures belongs { Belongs (texts words.now) result }
@@ -117,8 +118,8 @@ pub fn run<D: Depot>(alloc: Global, words: &[String], depot: &mut D) -> Status
     ending.status
 }
 
-/// Does what the words say over a depot that never fails: the answer is then neither of the two faults, and memory aside
-/// it is Done exactly where the input is accepted.
+/// Does what the words say over a depot that never fails: the answer is then neither of the two faults, and memory
+/// aside it is Done exactly where the input is accepted.
 pub fn run_surely(alloc: Global, words: &[String], depot: &mut SureDepot) -> Status
     ensures words { (result ≡ Status.Words) ↔ IsNoCommand (texts words.now) }
     ensures accepted { result ≢ Status.NoMemory

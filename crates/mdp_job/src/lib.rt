@@ -1,5 +1,6 @@
-//! All that the program does: `run` takes the words of a command, reads from a depot and writes to it. It makes the shot
-//! files of a deck's outputs and checks them, prints how dense the outputs are, and lists, packs and splits shot files.
+//! All that the program does: `run` takes the words of a command, reads from a depot and writes to it. It makes the
+//! shot files of a deck's outputs and checks them, prints how dense the outputs are, and lists, packs and splits shot
+//! files.
 #![tactic(auto)]
 
 mod checking;

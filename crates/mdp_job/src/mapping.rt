@@ -36,8 +36,8 @@ fn count_all<D: Depot>(alloc: Global, size: u32, input: &Input, depot: &mut D) -
     }
 }
 
-/// Reads deck and layout, and prints for each of the deck's outputs how many of its triangles are in each window of this
-/// size, 64 to 16,777,216 half units.
+/// Reads deck and layout, and prints for each of the deck's outputs how many of its triangles are in each window of
+/// this size, 64 to 16,777,216 half units.
 pub(crate) fn density<D: Depot>(
     alloc: Global,
     size: u32,
@@ -60,6 +60,6 @@ pub(crate) fn density<D: Depot>(
 {
     match read_input(alloc, depot, layout, deck) {
         Ok(input) => Ending::plain(count_all(alloc, size, &input, depot)),
-        Err(bad) => refused_input(bad),
+        Err(refusal) => refused_input(refusal),
     }
 }

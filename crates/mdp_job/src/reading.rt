@@ -4,6 +4,7 @@ ghost use Rattle.std.specs.Prelude.{◌≡◌, None};
 ghost use Rattle.mdp_job.specs.Parts.{refused_status, status_of, top_of};
 
 use depot::Refused;
+use geo_stream::Refusal;
 use job_input::InputBad;
 use job_report::{Ending, Status};
 
@@ -19,19 +20,19 @@ pub(crate) fn refused_status(refused: Refused, long: Status) -> Status
 }
 
 /// The ending where deck or layout aren't accepted.
-pub(crate) fn refused_input(bad: InputBad) -> Ending
-    ensures status { result.status ≡ status_of bad }
-    ensures top { result.top ≡ top_of bad }
+pub(crate) fn refused_input(refusal: Refusal<InputBad>) -> Ending
+    ensures status { result.status ≡ status_of refusal }
+    ensures top { result.top ≡ top_of refusal }
     ensures outputs { result.outputs ≡ None }
 {
-    match bad {
-        InputBad::Deck(fault) => Ending::plain(Status::Deck(fault)),
-        InputBad::Layout(fault, top) => Ending {
+    match refusal {
+        Refusal::Fault(InputBad::Deck(fault)) => Ending::plain(Status::Deck(fault)),
+        Refusal::Fault(InputBad::Layout(fault, top)) => Ending {
             status: Status::Layout(fault),
             top: Some(top),
             outputs: None,
         },
-        InputBad::ReadFault => Ending::plain(Status::ReadFault),
-        InputBad::NoMemory => Ending::plain(Status::NoMemory),
+        Refusal::Fault(InputBad::ReadFault) => Ending::plain(Status::ReadFault),
+        Refusal::NoMemory => Ending::plain(Status::NoMemory),
     }
 }

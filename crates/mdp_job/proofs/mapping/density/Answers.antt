@@ -45,7 +45,7 @@ pub returns-in-Err-clause-answer : goal.returns-in-Err-clause-answer
 returns-in-Err-clause-answer g c = λ tells.
     let e = c.in-Err.ensures in
     record {
-      a = Err c.in-Err.bad;
+      a = Err c.in-Err.refusal;
       told = record {
         given = e.given tells;
         deck_long = e.deck_long tells;
