@@ -99,7 +99,8 @@ pub(crate) fn file(alloc: Global, count: u32) -> Result<Vec<u8>, AllocError> {
     Ok(bytes)
 }
 
-/// A structure of ten squares in a row, and this many more, each a square array of the one before, with this many a side.
+/// A structure of ten squares in a row, and this many more, each a square array of the one before, with this many a
+/// side.
 pub(crate) fn arrays(alloc: Global, levels: u8, side: u16) -> Result<Vec<u8>, AllocError> {
     let mut bytes = Vec::new(alloc);
     bytes.extend_from_slice(&START)?;

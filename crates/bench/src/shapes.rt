@@ -123,8 +123,8 @@ pub(crate) fn wires(alloc: Global, count: u32) -> Result<Vec<Trap>, AllocError> 
     Ok(traps)
 }
 
-/// Level wires with jogs, this many corners in all: each wire is a row of five hundred rectangles, each a little higher or
-/// lower than the one before.
+/// Level wires with jogs, this many corners in all: each wire is a row of five hundred rectangles, each a little higher
+/// or lower than the one before.
 pub(crate) fn jogs(alloc: Global, corners: u32) -> Result<Vec<Trap>, AllocError> {
     let mut traps = Vec::new(alloc);
     let mut state = 2u64;
@@ -146,8 +146,8 @@ pub(crate) fn jogs(alloc: Global, corners: u32) -> Result<Vec<Trap>, AllocError>
     Ok(traps)
 }
 
-/// The same wires, of each the first rectangle, then of each the second, and so on: none is next to its neighbours in the
-/// list.
+/// The same wires, of each the first rectangle, then of each the second, and so on: none is next to its neighbours in
+/// the list.
 pub(crate) fn mixed(alloc: Global, corners: u32) -> Result<Vec<Trap>, AllocError> {
     let wires = jogs(alloc, corners)?;
     let mut traps = Vec::new(alloc);

@@ -132,7 +132,8 @@ fn united(alloc: Global, way: Way, traps: &[Trap], window: Window) -> Result<Swe
     }
 }
 
-// Unites the trapezoids, and prints how many maximal ones they have, how long it took and how many edges were gone over.
+// Unites the trapezoids, and prints how many maximal ones they have, how long it took and how many edges were gone
+// over.
 fn time(rt: &HostRuntime, figure: Figure, way: Way, traps: &[Trap]) -> io::Result<()> {
     let (mark, name) = (way.mark(), figure.name());
     let Some(window) = Window::new(-1_000_000_000, 1_000_000_000) else {

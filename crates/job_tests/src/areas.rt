@@ -36,14 +36,18 @@ const THIRD_PLACES: [Point; 2] = [Point { x: 12, y: 4 }, Point { x: 16, y: 8 }];
 
 const DECK: &[u8] = b"unit 1000\ntop TOP\nframe -2 -2 24 4\n\
 layer A 1 0\nlayer N 9 0\nmirror B A 11\nxor Unused A N\n\
-or O A B\nand C A B\nsub D B A\nxor X A B\ngrow E C 1\nshrink S A 2\ninvert I A\ngrow G A 4\nshrink K G 4\nmirror Y X 0\nsub M A N\nlayer P 2 0\nlayer Q 3 0\nsub R P Q\n\
-write N n 1 0\nwrite O o 1 0\nwrite C c 1 0\nwrite D d 1 0\nwrite X x 1 0\nwrite E e 1 0\nwrite S s 1 0\nwrite I i 1 0\nwrite K k 1 0\nwrite Y y 1 0\nwrite M m 1 0\nwrite R r 1 0\n";
+or O A B\nand C A B\nsub D B A\nxor X A B\ngrow E C 1\nshrink S A 2\ninvert I A\ngrow G A 4\nshrink K G 4\n\
+mirror Y X 0\nsub M A N\nlayer P 2 0\nlayer Q 3 0\nsub R P Q\n\
+write N n 1 0\nwrite O o 1 0\nwrite C c 1 0\nwrite D d 1 0\nwrite X x 1 0\nwrite E e 1 0\nwrite S s 1 0\n\
+write I i 1 0\nwrite K k 1 0\nwrite Y y 1 0\nwrite M m 1 0\nwrite R r 1 0\n";
 
 // The same but for an operand of a definition that no output uses.
 const OTHER: &[u8] = b"unit 1000\ntop TOP\nframe -2 -2 24 4\n\
 layer A 1 0\nlayer N 9 0\nmirror B A 11\nxor Unused A B\n\
-or O A B\nand C A B\nsub D B A\nxor X A B\ngrow E C 1\nshrink S A 2\ninvert I A\ngrow G A 4\nshrink K G 4\nmirror Y X 0\nsub M A N\nlayer P 2 0\nlayer Q 3 0\nsub R P Q\n\
-write N n 1 0\nwrite O o 1 0\nwrite C c 1 0\nwrite D d 1 0\nwrite X x 1 0\nwrite E e 1 0\nwrite S s 1 0\nwrite I i 1 0\nwrite K k 1 0\nwrite Y y 1 0\nwrite M m 1 0\nwrite R r 1 0\n";
+or O A B\nand C A B\nsub D B A\nxor X A B\ngrow E C 1\nshrink S A 2\ninvert I A\ngrow G A 4\nshrink K G 4\n\
+mirror Y X 0\nsub M A N\nlayer P 2 0\nlayer Q 3 0\nsub R P Q\n\
+write N n 1 0\nwrite O o 1 0\nwrite C c 1 0\nwrite D d 1 0\nwrite X x 1 0\nwrite E e 1 0\nwrite S s 1 0\n\
+write I i 1 0\nwrite K k 1 0\nwrite Y y 1 0\nwrite M m 1 0\nwrite R r 1 0\n";
 
 // The places of outputs and definitions in the decks.
 const N_OUT: usize = 0;

@@ -34,7 +34,8 @@ const TWO: &[u8] = b"unit 1000\ntop TOP\nlayer A 1 0\nwrite A out.oas 1 0\nwrite
 const FRACTURE: [&str; 3] = ["fracture", "G.gds", "K"];
 
 const REPORT: &str =
-    "format gdsii\ncells 1\nkept 1\nother 0\ntexts 0\nnodes 0\nboxes 0\nproperties 0\noutput out.oas shots 1 triangles 800\n";
+    "format gdsii\ncells 1\nkept 1\nother 0\ntexts 0\nnodes 0\nboxes 0\nproperties 0\n\
+    output out.oas shots 1 triangles 800\n";
 
 const LISTING: &str = "unit 2000\nlayer 1 0\n0 20 0 20 0 20\nshots 1 triangles 800\n";
 
@@ -146,7 +147,8 @@ fn two_outputs(alloc: Global, call: u64) -> Result<Ended, Fail> {
 #[test]
 fn each_call_of_two_outputs_fails(rt: HostRuntime) -> Result<(), Fail> {
     let alloc = rt.alloc();
-    // the calls are: start, read, read the deck; the same for the layout; for each output start, head, shots and end; say
+    // the calls are: start, read, read the deck; the same for the layout;
+    // for each output start, head, shots and end; say
     let rows: [(u64, u8, Option<usize>, Option<usize>); 15] = [
         (0, 4, None, None),
         (1, 4, None, None),

@@ -1,6 +1,7 @@
 //! Tests of the areas of decks, of density tables, and of whole jobs.
 //!
-//! They call public items alone, so they are proved by the contracts of those crates, which aren't proved once more for them.
+//! They call public items alone, so they are proved by the contracts of those crates, which aren't proved once more for
+//! them.
 #![tactic(auto)]
 
 #[cfg(test)]

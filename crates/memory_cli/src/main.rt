@@ -1,12 +1,12 @@
-//! The program over a depot in memory, for tests: it takes files of the system into such a depot, does there what the words
-//! say, and puts what was made into files again. `tests/memory.sh` runs it.
+//! The program over a depot in memory, for tests: it takes files of the system into such a depot, does there what the
+//! words say, and puts what was made into files again. `tests/memory.sh` runs it.
 //!
 //!     memory_cli HOW HELD.. , MADE.. , WORD..
 //!
-//! HOW is `whole`, `short`, where a call moves a byte at most, or the number of a call that fails. HELD are the files that
-//! the depot holds, MADE those that it may make, WORD the words of the command. What was printed comes on standard output, and
-//! on standard error a line for each of the three counts that isn't 0. The program ends with the code of the answer, or with
-//! 8 where the depot couldn't be had or what it made couldn't be put into files.
+//! HOW is `whole`, `short`, where a call moves a byte at most, or the number of a call that fails. HELD are the files
+//! that the depot holds, MADE those that it may make, WORD the words of the command. What was printed comes on standard
+//! output, and on standard error a line for each of the three counts that isn't 0. The program ends with the code of
+//! the answer, or with 8 where the depot couldn't be had or what it made couldn't be put into files.
 #![tactic(auto)]
 
 use depot::{FileDepot, MemDepot, make_file, read_all, say_whole};
