@@ -26,7 +26,8 @@ pub loop-place-preserved : goal.loop-place-preserved
 loop-place-preserved g c =
     let i = c.loop-place.invariant in
     record {
-      exact = λ told. one_file_more c.args.plan.now (g.D.Depot.content c.args.depot.now) c.loop-place.place c.loop-place.all.items _ c.in_ok-sums.sums (i.exact told)
+      exact = λ told. one_file_more c.args.plan.now (g.D.Depot.content c.args.depot.now) c.loop-place.place
+          c.loop-place.all.items _ c.in_ok-sums.sums (i.exact told)
           (exact_before c.args.plan.now c.loop-place.place (g.D.Depot.content c.args.depot.now)
           (g.D.Depot.content c.loop-place.depot) c.in_ok-sums.sums (i.others told) (c.in_ok-sums.ensures.ok told))
           c.in-Ok.ensures.items;
