@@ -8,7 +8,6 @@ use Rattle.oas_record.specs.Parts.{IsOf, NotOf}
 use Rattle.oas_record.specs.Records.{HasRecord, NoRecord, HasRow, NoRow, row_at, info_of, fields_of, switch_of}
 use Rattle.oas_record.specs.declared.faults.RecordBad.{RecordBad}
 use Rattle.oas_record.specs.declared.faults.RecordBad.TheVariants as faults
-use Rattle.oas_record.specs.declared.faults.RecordBad.TheVariants.{NoMemory as Wanting}
 use Rattle.oas_record.specs.declared.records.OasRecord.{OasRecord}
 
 pub record_there : (bytes : List ℕ) (at id : ℕ) (tables : Bool) (r : OasRecord) (next : ℕ) → at < length bytes → id ≡ slice_index bytes at
@@ -20,15 +19,13 @@ record_there bytes at id tables r next within is h = record {
 }
 
 pub record_missing : (bytes : List ℕ) (at id : ℕ) (tables : Bool) (bad : RecordBad) → at < length bytes → id ≡ slice_index bytes at
-    → NotOf id tables bytes (at + 1) bad → (bad ≡ Wanting) ⊎ NoRecord bytes at tables bad
-record_missing bytes at id tables bad within is (inl wanting) = inl wanting
-record_missing bytes at id tables bad within is (inr h) =
-    inr (inr (record { within = within; fails = subst (λ k. NoRow (row_at k) k tables bytes (at + 1) bad) is h }))
+    → NotOf id tables bytes (at + 1) bad → NoRecord bytes at tables bad
+record_missing bytes at id tables bad within is h =
+    inr (record { within = within; fails = subst (λ k. NoRow (row_at k) k tables bytes (at + 1) bad) is h })
 
 -- START holds its own switch
 pub start_any : (tables : Bool) (bytes : List ℕ) (at : ℕ) (bad : RecordBad) → NotOf 1 false bytes at bad → NotOf 1 tables bytes at bad
-start_any tables bytes at bad (inl wanting) = inl wanting
-start_any tables bytes at bad (inr h) = inr (elim h [
+start_any tables bytes at bad h = elim h [
   | inl text ↦ inl text
   | inr h ↦ inr (
     h.0,
@@ -53,7 +50,7 @@ start_any tables bytes at bad (inr h) = inr (elim h [
       )
     ],
   )
-])
+]
 
 -- an id above 34 is no record's
 kind_far : (id : ℕ) → 35 ≤ id → faults.Kind ≡ (if nat_lt id 35 then faults.Packed else faults.Kind)
@@ -62,4 +59,4 @@ kind_far id h = grind (arith, nat_tests)
 pub far_id : (id : ℕ) (tables : Bool) (bytes : List ℕ) (at : ℕ) → 35 ≤ id → NotOf id tables bytes at faults.Kind
 far_id id tables bytes at h =
     let none : row_at id ≡ None = get_or_past (map Some rows) id None (omega arith) in
-    inr (subst (λ r. NoRow r id tables bytes at faults.Kind) (sym none) (kind_far id h))
+    subst (λ r. NoRow r id tables bytes at faults.Kind) (sym none) (kind_far id h)

@@ -20,9 +20,9 @@ pub record IsOf (id : ℕ) (tables : Bool) (bytes : List ℕ) (at : ℕ) (r : Oa
   pub id_is : id_of r ≡ id
   pub row : HasRow (row_at id) tables bytes at (info_of r) (fields_of r) next
 
--- memory was wanting, or what follows this id doesn't stand at `at`, for this cause
+-- what follows this id doesn't stand at `at`, for this cause
 abbrev pub NotOf : ℕ → Bool → List ℕ → ℕ → RecordBad → Type 0
-NotOf id tables bytes at bad = (bad ≡ faults.NoMemory) ⊎ NoRow (row_at id) id tables bytes at bad
+NotOf id tables bytes at bad = NoRow (row_at id) id tables bytes at bad
 
 -- no info byte that is allowed stands at `at`, for this cause
 abbrev pub NoInfoByte : Info → List ℕ → ℕ → RecordBad → Type 0

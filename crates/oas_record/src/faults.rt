@@ -1,8 +1,8 @@
 ghost use Rattle.std.specs.Prelude.{◌≡◌};
+ghost use Rattle.geo_stream.specs.declared.refusal.Refusal.TheVariants.{Fault};
 ghost use Rattle.oas_record.specs.Faults.{bad_of};
-ghost use Rattle.oas_record.specs.declared.faults.RecordBad.TheVariants.{NoMemory as Wanting};
 
-use geo_stream::NoMemory;
+use geo_stream::Refusal;
 use oas_lex::LexBad;
 
 /// Why no record is at an offset: what the first byte that breaks shows.
@@ -18,8 +18,6 @@ pub enum RecordBad {
     Packed,
     /// A field, an info byte, a point list or a repetition that no record has.
     Shape,
-    /// Memory ran out.
-    NoMemory,
 }
 
 impl From<LexBad> for RecordBad {
@@ -34,10 +32,10 @@ impl From<LexBad> for RecordBad {
     }
 }
 
-impl From<NoMemory> for RecordBad {
-    ghost from_gives = { λ _ bad. bad ≡ Wanting };
+impl From<RecordBad> for Refusal<RecordBad> {
+    ghost from_gives = { λ bad refusal. refusal ≡ Fault bad };
 
-    fn from(_wanting: NoMemory) -> RecordBad {
-        RecordBad::NoMemory
+    fn from(bad: RecordBad) -> Refusal<RecordBad> {
+        Refusal::Fault(bad)
     }
 }

@@ -1,14 +1,14 @@
 //! Numbers and deltas one after the other, and point lists.
 
 ghost use Rattle.std.specs.Prelude.{◌≡◌, ◌⊎◌, ◌<◌, ◌≤◌, ◌^◌, ℕ, List, length, IfOk, IfErr};
+ghost use Rattle.geo_stream.specs.Refusals.{IfFault};
 ghost use Rattle.oas_record.specs.Lists.{allows_count, HasDelta, HasDeltas, HasNumbers, HasPoints, NoDelta, NoDeltas, NoNumbers, NoPoints};
-ghost use Rattle.oas_record.specs.declared.faults.RecordBad.TheVariants.{NoMemory as Wanting};
 
 use crate::delta_form::{DeltaForm, delta_form};
 use crate::faults::RecordBad;
 use crate::fields::Deltas;
 use crate::lexical::{byte_at, number_at, signed_at};
-use geo_stream::List as Items;
+use geo_stream::{List as Items, Refusal};
 use half_grid::Point;
 use oas_lex::{delta_g, delta2, delta3};
 use std::alloc::Global;
@@ -19,11 +19,11 @@ pub(crate) fn numbers_at(
     bytes: &[u8],
     at: usize,
     count: u64,
-) -> Result<(Items<u64>, usize), RecordBad>
+) -> Result<(Items<u64>, usize), Refusal<RecordBad>>
     requires { at ≤ length bytes.now }
     ensures ok { IfOk result (λ r. HasNumbers bytes.now at r.0 r.1) }
     ensures size { IfOk result (λ r. length r.0 ≡ count) }
-    ensures bad { IfErr result (λ bad. (bad ≡ Wanting) ⊎ NoNumbers count bytes.now at bad) }
+    ensures bad { IfFault result (λ bad. NoNumbers count bytes.now at bad) }
     ensures within { IfOk result (λ r. r.1 ≤ length bytes.now) }
 {
     let mut items = Items::new(alloc);
@@ -84,11 +84,11 @@ pub(crate) fn deltas_at(
     at: usize,
     count: u64,
     form: DeltaForm,
-) -> Result<(Items<Point>, usize), RecordBad>
+) -> Result<(Items<Point>, usize), Refusal<RecordBad>>
     requires { at ≤ length bytes.now }
     ensures ok { IfOk result (λ r. HasDeltas form bytes.now at r.0 r.1) }
     ensures size { IfOk result (λ r. length r.0 ≡ count) }
-    ensures bad { IfErr result (λ bad. (bad ≡ Wanting) ⊎ NoDeltas form count bytes.now at bad) }
+    ensures bad { IfFault result (λ bad. NoDeltas form count bytes.now at bad) }
     ensures within { IfOk result (λ r. r.1 ≤ length bytes.now) }
 {
     let mut items = Items::new(alloc);
@@ -119,19 +119,19 @@ pub(crate) fn points_at(
     bytes: &[u8],
     at: usize,
     is_polygon: bool,
-) -> Result<(Deltas, usize), RecordBad>
+) -> Result<(Deltas, usize), Refusal<RecordBad>>
     requires { at ≤ length bytes.now }
     ensures ok { IfOk result (λ r. HasPoints is_polygon bytes.now at r.0 r.1) }
-    ensures bad { IfErr result (λ bad. (bad ≡ Wanting) ⊎ NoPoints is_polygon bytes.now at bad) }
+    ensures bad { IfFault result (λ bad. NoPoints is_polygon bytes.now at bad) }
     ensures within { IfOk result (λ r. r.1 ≤ length bytes.now) }
 {
     let kind = byte_at(bytes, at)?;
     let Some(form) = delta_form(kind) else {
-        return Err(RecordBad::Shape);
+        return Err(Refusal::Fault(RecordBad::Shape));
     };
     let (count, first) = number_at(bytes, at + 1)?;
     if !allows_count(is_polygon, kind, count) {
-        return Err(RecordBad::Shape);
+        return Err(Refusal::Fault(RecordBad::Shape));
     }
     let (items, next) = deltas_at(alloc, bytes, first, count, form)?;
     Ok((Deltas { kind, items }, next))

@@ -1,9 +1,9 @@
 //! Fields that are written where their bit of the info byte is set.
 
 ghost use Rattle.std.specs.Prelude.{◌≡◌, ◌⊎◌, ◌+◌, ◌<◌, ◌≤◌, Bool, length, IfOk, IfErr};
+ghost use Rattle.geo_stream.specs.Refusals.{IfFault};
 ghost use Rattle.oas_record.specs.Records.{number_or, signed_or, real_or, called_or, points_or, rep_or};
 ghost use Rattle.oas_record.specs.Rows.{Number, Signed, OneReal, NameBy, PolygonPoints, PathPoints, Repetition, TrapezoidType, HasWhere, HasName, NoWhere, NoName, IsCalled, is_set};
-ghost use Rattle.oas_record.specs.declared.faults.RecordBad.TheVariants.{NoMemory as Wanting};
 
 use crate::faults::RecordBad;
 use crate::fields::{Called, Deltas};
@@ -11,6 +11,7 @@ use crate::lexical::{number_at, real_at, signed_at, text_at};
 use crate::lists::points_at;
 use crate::repetition::Rep;
 use crate::repetition_readers::repetition_at;
+use geo_stream::Refusal;
 use oas_lex::Real;
 use std::alloc::Global;
 
@@ -167,10 +168,10 @@ pub(crate) fn polygon_where(
     bytes: &[u8],
     at: usize,
     info: u8,
-) -> Result<(Option<Deltas>, usize), RecordBad>
+) -> Result<(Option<Deltas>, usize), Refusal<RecordBad>>
     requires within { at ≤ length bytes.now }
     ensures ok { IfOk result (λ r. HasWhere (is_set 5 info) PolygonPoints info bytes.now at (points_or r.0) r.1) }
-    ensures bad { IfErr result (λ bad. (bad ≡ Wanting) ⊎ NoWhere (is_set 5 info) PolygonPoints info bytes.now at bad) }
+    ensures bad { IfFault result (λ bad. NoWhere (is_set 5 info) PolygonPoints info bytes.now at bad) }
     ensures within { IfOk result (λ r. r.1 ≤ length bytes.now) }
 {
     if !is_set(info, 5) {
@@ -186,10 +187,10 @@ pub(crate) fn path_where(
     bytes: &[u8],
     at: usize,
     info: u8,
-) -> Result<(Option<Deltas>, usize), RecordBad>
+) -> Result<(Option<Deltas>, usize), Refusal<RecordBad>>
     requires within { at ≤ length bytes.now }
     ensures ok { IfOk result (λ r. HasWhere (is_set 5 info) PathPoints info bytes.now at (points_or r.0) r.1) }
-    ensures bad { IfErr result (λ bad. (bad ≡ Wanting) ⊎ NoWhere (is_set 5 info) PathPoints info bytes.now at bad) }
+    ensures bad { IfFault result (λ bad. NoWhere (is_set 5 info) PathPoints info bytes.now at bad) }
     ensures within { IfOk result (λ r. r.1 ≤ length bytes.now) }
 {
     if !is_set(info, 5) {
@@ -206,11 +207,11 @@ pub(crate) fn repetition_where(
     at: usize,
     info: u8,
     bit: u8,
-) -> Result<(Option<Rep>, usize), RecordBad>
+) -> Result<(Option<Rep>, usize), Refusal<RecordBad>>
     requires within { at ≤ length bytes.now }
     requires bit { bit < 8 }
     ensures ok { IfOk result (λ r. HasWhere (is_set bit info) Repetition info bytes.now at (rep_or r.0) r.1) }
-    ensures bad { IfErr result (λ bad. (bad ≡ Wanting) ⊎ NoWhere (is_set bit info) Repetition info bytes.now at bad) }
+    ensures bad { IfFault result (λ bad. NoWhere (is_set bit info) Repetition info bytes.now at bad) }
     ensures within { IfOk result (λ r. r.1 ≤ length bytes.now) }
 {
     if !is_set(info, bit) {

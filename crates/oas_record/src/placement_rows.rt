@@ -1,6 +1,7 @@
 //! The fields of placements and texts.
 
 ghost use Rattle.std.specs.Prelude.{false, ◌≡◌, ◌⊎◌, ◌≤◌, length, IfOk, IfErr};
+ghost use Rattle.geo_stream.specs.Refusals.{IfFault};
 ghost use Rattle.oas_record.specs.Parts.{IsOf, NotOf};
 
 use crate::faults::RecordBad;
@@ -8,6 +9,7 @@ use crate::info::info_at;
 use crate::optional::{name_where, number_where, real_where};
 use crate::records::OasRecord;
 use crate::segments::{place_at, placed_at};
+use geo_stream::Refusal;
 use std::alloc::Global;
 
 // The rest of a record with id 17, PLACEMENT at a multiple of 90 degrees, after its id.
@@ -15,10 +17,10 @@ pub(crate) fn placement(
     alloc: Global,
     bytes: &[u8],
     at: usize,
-) -> Result<(OasRecord, usize), RecordBad>
+) -> Result<(OasRecord, usize), Refusal<RecordBad>>
     requires { at ≤ length bytes.now }
     ensures ok { IfOk result (λ r. IsOf 17 false bytes.now at r.0 r.1) }
-    ensures bad { IfErr result (λ bad. NotOf 17 false bytes.now at bad) }
+    ensures bad { IfFault result (λ bad. NotOf 17 false bytes.now at bad) }
     ensures within { IfOk result (λ r. r.1 ≤ length bytes.now) }
 {
     let info = info_at(bytes, at, 256)?;
@@ -39,10 +41,10 @@ pub(crate) fn turned_placement(
     alloc: Global,
     bytes: &[u8],
     at: usize,
-) -> Result<(OasRecord, usize), RecordBad>
+) -> Result<(OasRecord, usize), Refusal<RecordBad>>
     requires { at ≤ length bytes.now }
     ensures ok { IfOk result (λ r. IsOf 18 false bytes.now at r.0 r.1) }
-    ensures bad { IfErr result (λ bad. NotOf 18 false bytes.now at bad) }
+    ensures bad { IfFault result (λ bad. NotOf 18 false bytes.now at bad) }
     ensures within { IfOk result (λ r. r.1 ≤ length bytes.now) }
 {
     let info = info_at(bytes, at, 256)?;
@@ -67,10 +69,10 @@ pub(crate) fn text_record(
     alloc: Global,
     bytes: &[u8],
     at: usize,
-) -> Result<(OasRecord, usize), RecordBad>
+) -> Result<(OasRecord, usize), Refusal<RecordBad>>
     requires { at ≤ length bytes.now }
     ensures ok { IfOk result (λ r. IsOf 19 false bytes.now at r.0 r.1) }
-    ensures bad { IfErr result (λ bad. NotOf 19 false bytes.now at bad) }
+    ensures bad { IfFault result (λ bad. NotOf 19 false bytes.now at bad) }
     ensures within { IfOk result (λ r. r.1 ≤ length bytes.now) }
 {
     let info = info_at(bytes, at, 128)?;

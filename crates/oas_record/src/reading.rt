@@ -1,10 +1,11 @@
 //! The record at an offset.
 
 ghost use Rattle.std.specs.Prelude.{◌≡◌, ◌⊎◌, ◌<◌, ◌≤◌, ℕ, Ok, Err, length, IfOk, IfErr};
+ghost use Rattle.geo_stream.specs.Refusals.{IfFault};
+ghost use Rattle.geo_stream.specs.declared.refusal.Refusal.TheVariants.{Fault, NoMemory as Wanting};
 ghost use Rattle.oas_record.specs.Parts.{IsOf, NotOf};
 ghost use Rattle.oas_record.specs.Records.{HasRecord, NoRecord};
 ghost use Rattle.oas_record.specs.declared.faults.RecordBad.{RecordBad as ABad};
-ghost use Rattle.oas_record.specs.declared.faults.RecordBad.TheVariants.{NoMemory as Wanting};
 ghost use Rattle.oas_record.specs.declared.records.OasRecord.{OasRecord as ARecord};
 
 use crate::faults::RecordBad;
@@ -22,6 +23,7 @@ use crate::records::OasRecord;
 use crate::shape_rows::{
     circle, ctrapezoid, polygon, rectangle, trapezoid, trapezoid_a, trapezoid_b, xgeometry,
 };
+use geo_stream::Refusal;
 use std::alloc::Global;
 
 // The record of this id, whose info byte or first field stands at `at`, and the offset after it.
@@ -31,28 +33,28 @@ fn rest_at(
     at: usize,
     id: u8,
     tables: bool,
-) -> Result<(OasRecord, usize), RecordBad>
+) -> Result<(OasRecord, usize), Refusal<RecordBad>>
     requires { at ≤ length bytes.now }
     ensures ok { IfOk result (λ r. IsOf id tables bytes.now at r.0 r.1) }
-    ensures bad { IfErr result (λ bad. NotOf id tables bytes.now at bad) }
+    ensures bad { IfFault result (λ bad. NotOf id tables bytes.now at bad) }
     ensures within { IfOk result (λ r. r.1 ≤ length bytes.now) }
 {
     match id {
         0 => Ok((OasRecord::Pad, at)),
-        1 => start(bytes, at),
-        2 => end(bytes, at, tables),
-        3 => cell_name(bytes, at),
-        4 => numbered_cell_name(bytes, at),
-        5 => text_string(bytes, at),
-        6 => numbered_text_string(bytes, at),
-        7 => prop_name(bytes, at),
-        8 => numbered_prop_name(bytes, at),
-        9 => prop_string(bytes, at),
-        10 => numbered_prop_string(bytes, at),
-        11 => layer_name(bytes, at),
-        12 => text_layer_name(bytes, at),
-        13 => numbered_cell(bytes, at),
-        14 => cell(bytes, at),
+        1 => Ok(start(bytes, at)?),
+        2 => Ok(end(bytes, at, tables)?),
+        3 => Ok(cell_name(bytes, at)?),
+        4 => Ok(numbered_cell_name(bytes, at)?),
+        5 => Ok(text_string(bytes, at)?),
+        6 => Ok(numbered_text_string(bytes, at)?),
+        7 => Ok(prop_name(bytes, at)?),
+        8 => Ok(numbered_prop_name(bytes, at)?),
+        9 => Ok(prop_string(bytes, at)?),
+        10 => Ok(numbered_prop_string(bytes, at)?),
+        11 => Ok(layer_name(bytes, at)?),
+        12 => Ok(text_layer_name(bytes, at)?),
+        13 => Ok(numbered_cell(bytes, at)?),
+        14 => Ok(cell(bytes, at)?),
         15 => Ok((OasRecord::XyAbsolute, at)),
         16 => Ok((OasRecord::XyRelative, at)),
         17 => placement(alloc, bytes, at),
@@ -66,14 +68,14 @@ fn rest_at(
         25 => trapezoid_b(alloc, bytes, at),
         26 => ctrapezoid(alloc, bytes, at),
         27 => circle(alloc, bytes, at),
-        28 => property(bytes, at),
+        28 => Ok(property(bytes, at)?),
         29 => Ok((OasRecord::LastProperty, at)),
-        30 => xname(bytes, at),
-        31 => numbered_xname(bytes, at),
-        32 => xelement(bytes, at),
+        30 => Ok(xname(bytes, at)?),
+        31 => Ok(numbered_xname(bytes, at)?),
+        32 => Ok(xelement(bytes, at)?),
         33 => xgeometry(alloc, bytes, at),
-        34 => Err(RecordBad::Packed),
-        _ => Err(RecordBad::Kind),
+        34 => Err(Refusal::Fault(RecordBad::Packed)),
+        _ => Err(Refusal::Fault(RecordBad::Kind)),
     }
 }
 
@@ -83,10 +85,10 @@ fn read_record(
     bytes: &[u8],
     at: usize,
     tables: bool,
-) -> Result<(OasRecord, usize), RecordBad>
+) -> Result<(OasRecord, usize), Refusal<RecordBad>>
     requires { at ≤ length bytes.now }
     ensures ok { IfOk result (λ r. HasRecord bytes.now at tables r.0 r.1) }
-    ensures bad { IfErr result (λ bad. (bad ≡ Wanting) ⊎ NoRecord bytes.now at tables bad) }
+    ensures bad { IfFault result (λ bad. NoRecord bytes.now at tables bad) }
     ensures within { IfOk result (λ r. r.1 ≤ length bytes.now) }
 {
     let id = byte_at(bytes, at)?;
@@ -102,12 +104,12 @@ pub fn record_at(
     bytes: &[u8],
     at: usize,
     tables: bool,
-) -> Result<(OasRecord, usize), RecordBad>
+) -> Result<(OasRecord, usize), Refusal<RecordBad>>
     requires { at ≤ length bytes.now }
     ensures ok { IfOk result (λ r. HasRecord bytes.now at tables r.0 r.1) }
-    ensures bad { IfErr result (λ bad. (bad ≡ Wanting) ⊎ NoRecord bytes.now at tables bad) }
+    ensures bad { IfFault result (λ bad. NoRecord bytes.now at tables bad) }
     ensures found { (r : ARecord) (next : ℕ) → HasRecord bytes.now at tables r next → (result ≡ Ok (r, next)) ⊎ (result ≡ Err Wanting) }
-    ensures refused { (bad : ABad) → NoRecord bytes.now at tables bad → (result ≡ Err bad) ⊎ (result ≡ Err Wanting) }
+    ensures refused { (bad : ABad) → NoRecord bytes.now at tables bad → (result ≡ Err (Fault bad)) ⊎ (result ≡ Err Wanting) }
 
     // So a loop over the records ends, and the next one can be read.
     ensures onward { IfOk result (λ r. at < r.1) }

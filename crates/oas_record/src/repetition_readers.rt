@@ -1,15 +1,16 @@
 //! Repetitions among bytes.
 
 ghost use Rattle.std.specs.Prelude.{◌≡◌, ◌⊎◌, ◌+◌, ◌<◌, ◌≤◌, ◌^◌, Some, Err, [], ◌∷◌, length, IfOk, IfErr};
+ghost use Rattle.geo_stream.specs.Refusals.{IfFault};
+ghost use Rattle.geo_stream.specs.declared.refusal.Refusal.TheVariants.{NoMemory as Wanting};
 ghost use Rattle.oas_record.specs.Repetitions.{rep_rows, row_at, kind_of, dims_of, numbers_of, deltas_of, HasRow, HasRep, RowFails, NoRep};
-ghost use Rattle.oas_record.specs.declared.faults.RecordBad.TheVariants.{NoMemory as Wanting};
 
 use crate::delta_form::DeltaForm;
 use crate::faults::RecordBad;
 use crate::lexical::{byte_at, number_at};
 use crate::lists::{delta_at, deltas_at, numbers_at};
 use crate::repetition::Rep;
-use geo_stream::List;
+use geo_stream::{List, Refusal};
 use half_grid::Point;
 use std::alloc::Global;
 
@@ -58,10 +59,10 @@ fn grid(bytes: &[u8], at: usize) -> Result<(Rep, usize), RecordBad>
 }
 
 // A dimension, and one space fewer.
-fn spaces(alloc: Global, bytes: &[u8], at: usize) -> Result<(u64, List<u64>, usize), RecordBad>
+fn spaces(alloc: Global, bytes: &[u8], at: usize) -> Result<(u64, List<u64>, usize), Refusal<RecordBad>>
     requires { at ≤ length bytes.now }
     ensures ok { IfOk result (λ r. HasRow (row_at rep_rows 4) bytes.now at (r.0 ∷ []) r.1 [] r.2) }
-    ensures bad { IfErr result (λ bad. (bad ≡ Wanting) ⊎ RowFails (row_at rep_rows 4) bytes.now at bad) }
+    ensures bad { IfFault result (λ bad. RowFails (row_at rep_rows 4) bytes.now at bad) }
     ensures within { IfOk result (λ r. r.2 ≤ length bytes.now) }
 {
     let (stored, first) = number_at(bytes, at)?;
@@ -74,10 +75,10 @@ fn spaces_on_grid(
     alloc: Global,
     bytes: &[u8],
     at: usize,
-) -> Result<(u64, u64, List<u64>, usize), RecordBad>
+) -> Result<(u64, u64, List<u64>, usize), Refusal<RecordBad>>
     requires { at ≤ length bytes.now }
     ensures ok { IfOk result (λ r. HasRow (row_at rep_rows 5) bytes.now at (r.0 ∷ []) (r.1 ∷ r.2) [] r.3) }
-    ensures bad { IfErr result (λ bad. (bad ≡ Wanting) ⊎ RowFails (row_at rep_rows 5) bytes.now at bad) }
+    ensures bad { IfFault result (λ bad. RowFails (row_at rep_rows 5) bytes.now at bad) }
     ensures within { IfOk result (λ r. r.3 ≤ length bytes.now) }
 {
     let (stored, grid_at) = number_at(bytes, at)?;
@@ -125,11 +126,11 @@ fn line(bytes: &[u8], at: usize) -> Result<(Rep, usize), RecordBad>
 }
 
 // A dimension, and one move fewer.
-fn moves(alloc: Global, bytes: &[u8], at: usize) -> Result<(Rep, usize), RecordBad>
+fn moves(alloc: Global, bytes: &[u8], at: usize) -> Result<(Rep, usize), Refusal<RecordBad>>
     requires { at ≤ length bytes.now }
     ensures kind { IfOk result (λ r. kind_of r.0 ≡ 10) }
     ensures ok { IfOk result (λ r. HasRow (row_at rep_rows 10) bytes.now at (dims_of r.0) (numbers_of r.0) (deltas_of r.0) r.1) }
-    ensures bad { IfErr result (λ bad. (bad ≡ Wanting) ⊎ RowFails (row_at rep_rows 10) bytes.now at bad) }
+    ensures bad { IfFault result (λ bad. RowFails (row_at rep_rows 10) bytes.now at bad) }
     ensures within { IfOk result (λ r. r.1 ≤ length bytes.now) }
 {
     let (stored, first) = number_at(bytes, at)?;
@@ -142,11 +143,11 @@ fn moves(alloc: Global, bytes: &[u8], at: usize) -> Result<(Rep, usize), RecordB
 }
 
 // A dimension, a grid, and one move fewer than the dimension.
-fn moves_on_grid(alloc: Global, bytes: &[u8], at: usize) -> Result<(Rep, usize), RecordBad>
+fn moves_on_grid(alloc: Global, bytes: &[u8], at: usize) -> Result<(Rep, usize), Refusal<RecordBad>>
     requires { at ≤ length bytes.now }
     ensures kind { IfOk result (λ r. kind_of r.0 ≡ 11) }
     ensures ok { IfOk result (λ r. HasRow (row_at rep_rows 11) bytes.now at (dims_of r.0) (numbers_of r.0) (deltas_of r.0) r.1) }
-    ensures bad { IfErr result (λ bad. (bad ≡ Wanting) ⊎ RowFails (row_at rep_rows 11) bytes.now at bad) }
+    ensures bad { IfFault result (λ bad. RowFails (row_at rep_rows 11) bytes.now at bad) }
     ensures within { IfOk result (λ r. r.1 ≤ length bytes.now) }
 {
     let (stored, grid_at) = number_at(bytes, at)?;
@@ -161,17 +162,17 @@ fn moves_on_grid(alloc: Global, bytes: &[u8], at: usize) -> Result<(Rep, usize),
 }
 
 // The rest of a repetition of this kind, from `at` on. A kind that isn't there takes no memory.
-fn rest_of(alloc: Global, bytes: &[u8], at: usize, kind: u8) -> Result<(Rep, usize), RecordBad>
+fn rest_of(alloc: Global, bytes: &[u8], at: usize, kind: u8) -> Result<(Rep, usize), Refusal<RecordBad>>
     requires { at ≤ length bytes.now }
     ensures kind { IfOk result (λ r. kind_of r.0 ≡ kind) }
     ensures ok { IfOk result (λ r. HasRow (row_at rep_rows kind) bytes.now at (dims_of r.0) (numbers_of r.0) (deltas_of r.0) r.1) }
-    ensures bad { IfErr result (λ bad. (bad ≡ Wanting) ⊎ RowFails (row_at rep_rows kind) bytes.now at bad) }
+    ensures bad { IfFault result (λ bad. RowFails (row_at rep_rows kind) bytes.now at bad) }
     ensures memory { result ≡ Err Wanting → kind < 12 }
     ensures within { IfOk result (λ r. r.1 ≤ length bytes.now) }
 {
     match kind {
         0 => Ok((Rep::Same, at)),
-        1 => grid(bytes, at),
+        1 => Ok(grid(bytes, at)?),
         2 => {
             let (dim, space, next) = spaced(bytes, at)?;
             Ok((Rep::Row { dim, space }, next))
@@ -196,11 +197,11 @@ fn rest_of(alloc: Global, bytes: &[u8], at: usize, kind: u8) -> Result<(Rep, usi
             let (dim, grid, spaces, next) = spaces_on_grid(alloc, bytes, at)?;
             Ok((Rep::ColumnOnGrid { dim, grid, spaces }, next))
         }
-        8 => lattice(bytes, at),
-        9 => line(bytes, at),
+        8 => Ok(lattice(bytes, at)?),
+        9 => Ok(line(bytes, at)?),
         10 => moves(alloc, bytes, at),
         11 => moves_on_grid(alloc, bytes, at),
-        _ => Err(RecordBad::Shape),
+        _ => Err(Refusal::Fault(RecordBad::Shape)),
     }
 }
 
@@ -209,10 +210,10 @@ pub(crate) fn repetition_at(
     alloc: Global,
     bytes: &[u8],
     at: usize,
-) -> Result<(Rep, usize), RecordBad>
+) -> Result<(Rep, usize), Refusal<RecordBad>>
     requires { at ≤ length bytes.now }
     ensures ok { IfOk result (λ r. HasRep bytes.now at r.0 r.1) }
-    ensures bad { IfErr result (λ bad. (bad ≡ Wanting) ⊎ NoRep bytes.now at bad) }
+    ensures bad { IfFault result (λ bad. NoRep bytes.now at bad) }
     ensures within { IfOk result (λ r. r.1 ≤ length bytes.now) }
 {
     let kind = byte_at(bytes, at)?;

@@ -1,13 +1,14 @@
 //! The fields with which the records of shapes and placements begin and end.
 
 ghost use Rattle.std.specs.Prelude.{◌≡◌, ◌⊎◌, ◌≤◌, [], ◌∷◌, length, IfOk, IfErr};
+ghost use Rattle.geo_stream.specs.Refusals.{IfFault};
 ghost use Rattle.oas_record.specs.Records.{number_or, place_of};
 ghost use Rattle.oas_record.specs.Rows.{pair, box, place, placed, HasFields, NoFields};
-ghost use Rattle.oas_record.specs.declared.faults.RecordBad.TheVariants.{NoMemory as Wanting};
 
 use crate::faults::RecordBad;
 use crate::optional::{number_where, repetition_where, signed_where};
 use crate::repetition::Rep;
+use geo_stream::Refusal;
 use std::alloc::Global;
 
 // The layer and the datatype, by bits 0 and 1, and the offset after them.
@@ -50,10 +51,10 @@ pub(crate) fn place_at(
     bytes: &[u8],
     at: usize,
     info: u8,
-) -> Result<(Option<i64>, Option<i64>, Option<Rep>, usize), RecordBad>
+) -> Result<(Option<i64>, Option<i64>, Option<Rep>, usize), Refusal<RecordBad>>
     requires { at ≤ length bytes.now }
     ensures ok { IfOk result (λ r. HasFields place info bytes.now at (place_of r.0 r.1 r.2) r.3) }
-    ensures bad { IfErr result (λ bad. (bad ≡ Wanting) ⊎ NoFields place info bytes.now at bad) }
+    ensures bad { IfFault result (λ bad. NoFields place info bytes.now at bad) }
     ensures within { IfOk result (λ r. r.3 ≤ length bytes.now) }
 {
     let (x, second) = signed_where(bytes, at, info, 4)?;
@@ -68,10 +69,10 @@ pub(crate) fn placed_at(
     bytes: &[u8],
     at: usize,
     info: u8,
-) -> Result<(Option<i64>, Option<i64>, Option<Rep>, usize), RecordBad>
+) -> Result<(Option<i64>, Option<i64>, Option<Rep>, usize), Refusal<RecordBad>>
     requires { at ≤ length bytes.now }
     ensures ok { IfOk result (λ r. HasFields placed info bytes.now at (place_of r.0 r.1 r.2) r.3) }
-    ensures bad { IfErr result (λ bad. (bad ≡ Wanting) ⊎ NoFields placed info bytes.now at bad) }
+    ensures bad { IfFault result (λ bad. NoFields placed info bytes.now at bad) }
     ensures within { IfOk result (λ r. r.3 ≤ length bytes.now) }
 {
     let (x, second) = signed_where(bytes, at, info, 5)?;

@@ -1,6 +1,7 @@
 //! The fields of shapes.
 
 ghost use Rattle.std.specs.Prelude.{false, ◌≡◌, ◌⊎◌, ◌≤◌, length, IfOk, IfErr};
+ghost use Rattle.geo_stream.specs.Refusals.{IfFault};
 ghost use Rattle.oas_record.specs.Parts.{IsOf, NotOf};
 
 use crate::faults::RecordBad;
@@ -9,6 +10,7 @@ use crate::lexical::{number_at, signed_at, text_at};
 use crate::optional::{number_where, polygon_where, type_where};
 use crate::records::OasRecord;
 use crate::segments::{box_at, pair_at, place_at};
+use geo_stream::Refusal;
 use std::alloc::Global;
 
 // The rest of a record with id 20, RECTANGLE, after its id.
@@ -16,10 +18,10 @@ pub(crate) fn rectangle(
     alloc: Global,
     bytes: &[u8],
     at: usize,
-) -> Result<(OasRecord, usize), RecordBad>
+) -> Result<(OasRecord, usize), Refusal<RecordBad>>
     requires { at ≤ length bytes.now }
     ensures ok { IfOk result (λ r. IsOf 20 false bytes.now at r.0 r.1) }
-    ensures bad { IfErr result (λ bad. NotOf 20 false bytes.now at bad) }
+    ensures bad { IfFault result (λ bad. NotOf 20 false bytes.now at bad) }
     ensures within { IfOk result (λ r. r.1 ≤ length bytes.now) }
 {
     let info = square_info_at(bytes, at)?;
@@ -44,10 +46,10 @@ pub(crate) fn polygon(
     alloc: Global,
     bytes: &[u8],
     at: usize,
-) -> Result<(OasRecord, usize), RecordBad>
+) -> Result<(OasRecord, usize), Refusal<RecordBad>>
     requires { at ≤ length bytes.now }
     ensures ok { IfOk result (λ r. IsOf 21 false bytes.now at r.0 r.1) }
-    ensures bad { IfErr result (λ bad. NotOf 21 false bytes.now at bad) }
+    ensures bad { IfFault result (λ bad. NotOf 21 false bytes.now at bad) }
     ensures within { IfOk result (λ r. r.1 ≤ length bytes.now) }
 {
     let info = info_at(bytes, at, 64)?;
@@ -71,10 +73,10 @@ pub(crate) fn trapezoid(
     alloc: Global,
     bytes: &[u8],
     at: usize,
-) -> Result<(OasRecord, usize), RecordBad>
+) -> Result<(OasRecord, usize), Refusal<RecordBad>>
     requires { at ≤ length bytes.now }
     ensures ok { IfOk result (λ r. IsOf 23 false bytes.now at r.0 r.1) }
-    ensures bad { IfErr result (λ bad. NotOf 23 false bytes.now at bad) }
+    ensures bad { IfFault result (λ bad. NotOf 23 false bytes.now at bad) }
     ensures within { IfOk result (λ r. r.1 ≤ length bytes.now) }
 {
     let info = info_at(bytes, at, 256)?;
@@ -103,10 +105,10 @@ pub(crate) fn trapezoid_a(
     alloc: Global,
     bytes: &[u8],
     at: usize,
-) -> Result<(OasRecord, usize), RecordBad>
+) -> Result<(OasRecord, usize), Refusal<RecordBad>>
     requires { at ≤ length bytes.now }
     ensures ok { IfOk result (λ r. IsOf 24 false bytes.now at r.0 r.1) }
-    ensures bad { IfErr result (λ bad. NotOf 24 false bytes.now at bad) }
+    ensures bad { IfFault result (λ bad. NotOf 24 false bytes.now at bad) }
     ensures within { IfOk result (λ r. r.1 ≤ length bytes.now) }
 {
     let info = info_at(bytes, at, 256)?;
@@ -133,10 +135,10 @@ pub(crate) fn trapezoid_b(
     alloc: Global,
     bytes: &[u8],
     at: usize,
-) -> Result<(OasRecord, usize), RecordBad>
+) -> Result<(OasRecord, usize), Refusal<RecordBad>>
     requires { at ≤ length bytes.now }
     ensures ok { IfOk result (λ r. IsOf 25 false bytes.now at r.0 r.1) }
-    ensures bad { IfErr result (λ bad. NotOf 25 false bytes.now at bad) }
+    ensures bad { IfFault result (λ bad. NotOf 25 false bytes.now at bad) }
     ensures within { IfOk result (λ r. r.1 ≤ length bytes.now) }
 {
     let info = info_at(bytes, at, 256)?;
@@ -163,10 +165,10 @@ pub(crate) fn ctrapezoid(
     alloc: Global,
     bytes: &[u8],
     at: usize,
-) -> Result<(OasRecord, usize), RecordBad>
+) -> Result<(OasRecord, usize), Refusal<RecordBad>>
     requires { at ≤ length bytes.now }
     ensures ok { IfOk result (λ r. IsOf 26 false bytes.now at r.0 r.1) }
-    ensures bad { IfErr result (λ bad. NotOf 26 false bytes.now at bad) }
+    ensures bad { IfFault result (λ bad. NotOf 26 false bytes.now at bad) }
     ensures within { IfOk result (λ r. r.1 ≤ length bytes.now) }
 {
     let info = info_at(bytes, at, 256)?;
@@ -193,10 +195,10 @@ pub(crate) fn circle(
     alloc: Global,
     bytes: &[u8],
     at: usize,
-) -> Result<(OasRecord, usize), RecordBad>
+) -> Result<(OasRecord, usize), Refusal<RecordBad>>
     requires { at ≤ length bytes.now }
     ensures ok { IfOk result (λ r. IsOf 27 false bytes.now at r.0 r.1) }
-    ensures bad { IfErr result (λ bad. NotOf 27 false bytes.now at bad) }
+    ensures bad { IfFault result (λ bad. NotOf 27 false bytes.now at bad) }
     ensures within { IfOk result (λ r. r.1 ≤ length bytes.now) }
 {
     let info = info_at(bytes, at, 64)?;
@@ -220,10 +222,10 @@ pub(crate) fn xgeometry(
     alloc: Global,
     bytes: &[u8],
     at: usize,
-) -> Result<(OasRecord, usize), RecordBad>
+) -> Result<(OasRecord, usize), Refusal<RecordBad>>
     requires { at ≤ length bytes.now }
     ensures ok { IfOk result (λ r. IsOf 33 false bytes.now at r.0 r.1) }
-    ensures bad { IfErr result (λ bad. NotOf 33 false bytes.now at bad) }
+    ensures bad { IfFault result (λ bad. NotOf 33 false bytes.now at bad) }
     ensures within { IfOk result (λ r. r.1 ≤ length bytes.now) }
 {
     let info = info_at(bytes, at, 32)?;

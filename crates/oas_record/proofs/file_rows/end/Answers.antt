@@ -35,14 +35,14 @@ returns-clause-ok c =
 
 pub returns-in_err-tables-clause-bad : goal.returns-in_err-tables-clause-bad
 returns-in_err-tables-clause-bad c = handed_on _ _ _ c.from_residual.ensures.0 c.from_residual.ensures.1
-    (inr (fails_first (when (Bit 0) Tables ∷ [])
+    ((fails_first (when (Bit 0) Tables ∷ [])
     ((when Always Text ∷ []) ++ ((when Always Switch ∷ []) ++ (when NotZero FourBytes ∷ [])))
     (switch_of c.args.tables) c.args.bytes.now c.args.at c.in_err-tables.field-0.0 (inl (c.in_err-tables.ensures.bad))))
 
 pub returns-in_err-padding-clause-bad : goal.returns-in_err-padding-clause-bad
 returns-in_err-padding-clause-bad c =
     handed_on _ _ _ c.from_residual-in_err-padding.ensures.0 c.from_residual-in_err-padding.ensures.1
-    (inr (fails_then (when (Bit 0) Tables ∷ [])
+    ((fails_then (when (Bit 0) Tables ∷ [])
     ((when Always Text ∷ []) ++ ((when Always Switch ∷ []) ++ (when NotZero FourBytes ∷ []))) (switch_of c.args.tables)
     (switch_of c.args.tables) c.args.bytes.now c.args.at
     (span_or c.in_ok-tables.tables ∷ []) c.in_ok-tables.second c.in_err-padding.field-0.0 refl
@@ -54,7 +54,7 @@ returns-in_err-padding-clause-bad c =
 pub returns-in_err-scheme-clause-bad : goal.returns-in_err-scheme-clause-bad
 returns-in_err-scheme-clause-bad c =
     handed_on _ _ _ c.from_residual-in_err-scheme.ensures.0 c.from_residual-in_err-scheme.ensures.1
-    (inr (fails_then (when (Bit 0) Tables ∷ [])
+    ((fails_then (when (Bit 0) Tables ∷ [])
     ((when Always Text ∷ []) ++ ((when Always Switch ∷ []) ++ (when NotZero FourBytes ∷ []))) (switch_of c.args.tables)
     (switch_of c.args.tables) c.args.bytes.now c.args.at
     (span_or c.in_ok-tables.tables ∷ []) c.in_ok-tables.second c.in_err-scheme.field-0.0 refl
@@ -70,7 +70,7 @@ returns-in_err-scheme-clause-bad c =
 pub returns-in_err-validation-clause-bad : goal.returns-in_err-validation-clause-bad
 returns-in_err-validation-clause-bad c =
     handed_on _ _ _ c.from_residual-in_err-validation.ensures.0 c.from_residual-in_err-validation.ensures.1
-    (inr (fails_then (when (Bit 0) Tables ∷ [])
+    ((fails_then (when (Bit 0) Tables ∷ [])
     ((when Always Text ∷ []) ++ ((when Always Switch ∷ []) ++ (when NotZero FourBytes ∷ []))) (switch_of c.args.tables)
     (switch_of c.args.tables) c.args.bytes.now c.args.at
     (span_or c.in_ok-tables.tables ∷ []) c.in_ok-tables.second c.in_err-validation.field-0.0 refl

@@ -34,14 +34,14 @@ returns-clause-ok c =
 
 pub returns-in_err-version-clause-bad : goal.returns-in_err-version-clause-bad
 returns-in_err-version-clause-bad c = handed_on _ _ _ c.from_residual.ensures.0 c.from_residual.ensures.1
-    (inr (fails_first (when Always Text ∷ [])
+    ((fails_first (when Always Text ∷ [])
     ((when Always OneReal ∷ []) ++ ((when Always Switch ∷ []) ++ (when Zero Tables ∷ []))) 0 c.args.bytes.now c.args.at
     c.in_err-version.field-0.0 (inl (c.in_err-version.ensures.bad))))
 
 pub returns-in_err-unit-clause-bad : goal.returns-in_err-unit-clause-bad
 returns-in_err-unit-clause-bad c =
     handed_on _ _ _ c.from_residual-in_err-unit.ensures.0 c.from_residual-in_err-unit.ensures.1
-    (inr (fails_then (when Always Text ∷ [])
+    ((fails_then (when Always Text ∷ [])
     ((when Always OneReal ∷ []) ++ ((when Always Switch ∷ []) ++ (when Zero Tables ∷ []))) 0 0 c.args.bytes.now
     c.args.at (IsSpan c.in_ok-version.version ∷ []) c.in_ok-version.version.1 c.in_err-unit.field-0.0 refl
     (c.in_ok-version.version.1, (c.in_ok-version.version.0, c.in_ok-version.ensures.ok, refl), refl)
@@ -52,7 +52,7 @@ returns-in_err-unit-clause-bad c =
 pub returns-in_err-offset_flag-clause-bad : goal.returns-in_err-offset_flag-clause-bad
 returns-in_err-offset_flag-clause-bad c =
     handed_on _ _ _ c.from_residual-in_err-offset_flag.ensures.0 c.from_residual-in_err-offset_flag.ensures.1
-    (inr (fails_then (when Always Text ∷ [])
+    ((fails_then (when Always Text ∷ [])
     ((when Always OneReal ∷ []) ++ ((when Always Switch ∷ []) ++ (when Zero Tables ∷ []))) 0 0 c.args.bytes.now
     c.args.at (IsSpan c.in_ok-version.version ∷ []) c.in_ok-version.version.1 c.in_err-offset_flag.field-0.0 refl
     (c.in_ok-version.version.1, (c.in_ok-version.version.0, c.in_ok-version.ensures.ok, refl), refl)
@@ -67,7 +67,7 @@ returns-in_err-offset_flag-clause-bad c =
 pub returns-in_err-tables-clause-bad : goal.returns-in_err-tables-clause-bad
 returns-in_err-tables-clause-bad c =
     handed_on _ _ _ c.from_residual-in_err-tables.ensures.0 c.from_residual-in_err-tables.ensures.1
-    (inr (fails_then (when Always Text ∷ [])
+    ((fails_then (when Always Text ∷ [])
     ((when Always OneReal ∷ []) ++ ((when Always Switch ∷ []) ++ (when Zero Tables ∷ []))) 0 0 c.args.bytes.now
     c.args.at (IsSpan c.in_ok-version.version ∷ []) c.in_ok-version.version.1 c.in_err-tables.field-0.0 refl
     (c.in_ok-version.version.1, (c.in_ok-version.version.0, c.in_ok-version.ensures.ok, refl), refl)

@@ -10,4 +10,4 @@ returns-clause-ok c =
     }
 
 pub returns-in_err-name-clause-bad : goal.returns-in_err-name-clause-bad
-returns-in_err-name-clause-bad c = handed_on _ _ _ c.from_residual.ensures.0 c.from_residual.ensures.1 (inr (inl (c.in_err-name.ensures.bad)))
+returns-in_err-name-clause-bad c = handed_on _ _ _ c.from_residual.ensures.0 c.from_residual.ensures.1 (inl ((c.in_err-name.ensures.bad)))

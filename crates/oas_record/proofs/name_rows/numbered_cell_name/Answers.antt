@@ -20,13 +20,13 @@ returns-clause-ok c =
 
 pub returns-in_err-name-clause-bad : goal.returns-in_err-name-clause-bad
 returns-in_err-name-clause-bad c = handed_on _ _ _ c.from_residual.ensures.0 c.from_residual.ensures.1
-    (inr (fails_first (when Always Text ∷ [])
+    ((fails_first (when Always Text ∷ [])
     (when Always Number ∷ []) 0 c.args.bytes.now c.args.at c.in_err-name.field-0.0 (inl (c.in_err-name.ensures.bad))))
 
 pub returns-in_err-number-clause-bad : goal.returns-in_err-number-clause-bad
 returns-in_err-number-clause-bad c =
     handed_on _ _ _ c.from_residual-in_err-number.ensures.0 c.from_residual-in_err-number.ensures.1
-    (inr (fails_then (when Always Text ∷ []) (when Always Number ∷ []) 0 0 c.args.bytes.now c.args.at
+    ((fails_then (when Always Text ∷ []) (when Always Number ∷ []) 0 0 c.args.bytes.now c.args.at
     (IsSpan c.in_ok-name.name ∷ []) c.in_ok-name.name.1 c.in_err-number.field-0.0 refl
     (c.in_ok-name.name.1, (c.in_ok-name.name.0, c.in_ok-name.ensures.ok, refl), refl)
     (inl (c.in_err-number.ensures.bad))))

@@ -26,14 +26,14 @@ returns-clause-ok c =
 
 pub returns-in_err-attribute-clause-bad : goal.returns-in_err-attribute-clause-bad
 returns-in_err-attribute-clause-bad c = handed_on _ _ _ c.from_residual.ensures.0 c.from_residual.ensures.1
-    (inr (fails_first (when Always Number ∷ [])
+    ((fails_first (when Always Number ∷ [])
     ((when Always Text ∷ []) ++ (when Always Number ∷ [])) 0 c.args.bytes.now c.args.at c.in_err-attribute.field-0.0
     (inl (c.in_err-attribute.ensures.bad))))
 
 pub returns-in_err-text-clause-bad : goal.returns-in_err-text-clause-bad
 returns-in_err-text-clause-bad c =
     handed_on _ _ _ c.from_residual-in_err-text.ensures.0 c.from_residual-in_err-text.ensures.1
-    (inr (fails_then (when Always Number ∷ [])
+    ((fails_then (when Always Number ∷ [])
     ((when Always Text ∷ []) ++ (when Always Number ∷ [])) 0 0 c.args.bytes.now c.args.at
     (IsNumber c.in_ok-attribute.attribute ∷ []) c.in_ok-attribute.second c.in_err-text.field-0.0 refl
     (c.in_ok-attribute.second, (c.in_ok-attribute.attribute, c.in_ok-attribute.ensures.ok, refl), refl)
@@ -44,7 +44,7 @@ returns-in_err-text-clause-bad c =
 pub returns-in_err-number-clause-bad : goal.returns-in_err-number-clause-bad
 returns-in_err-number-clause-bad c =
     handed_on _ _ _ c.from_residual-in_err-number.ensures.0 c.from_residual-in_err-number.ensures.1
-    (inr (fails_then (when Always Number ∷ [])
+    ((fails_then (when Always Number ∷ [])
     ((when Always Text ∷ []) ++ (when Always Number ∷ [])) 0 0 c.args.bytes.now c.args.at
     (IsNumber c.in_ok-attribute.attribute ∷ []) c.in_ok-attribute.second c.in_err-number.field-0.0 refl
     (c.in_ok-attribute.second, (c.in_ok-attribute.attribute, c.in_ok-attribute.ensures.ok, refl), refl)

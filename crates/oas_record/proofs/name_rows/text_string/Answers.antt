@@ -10,4 +10,4 @@ returns-clause-ok c =
     }
 
 pub returns-in_err-text-clause-bad : goal.returns-in_err-text-clause-bad
-returns-in_err-text-clause-bad c = handed_on _ _ _ c.from_residual.ensures.0 c.from_residual.ensures.1 (inr (inl (c.in_err-text.ensures.bad)))
+returns-in_err-text-clause-bad c = handed_on _ _ _ c.from_residual.ensures.0 c.from_residual.ensures.1 (inl ((c.in_err-text.ensures.bad)))

@@ -3,7 +3,7 @@ use Rattle.oas_record.specs.Parts.{parts_at}
 use Rattle.oas_record.specs.Records.{called_or, place_of}
 use Rattle.oas_record.specs.Rows.{NameBy, Bit, Below, when, placed}
 use Rattle.oas_record.proofs.Joins.{joined, fails_first, fails_then, info_refused, fields_refused}
-use Rattle.oas_record.proofs.Refusals.{handed_on, wanting_or}
+use Rattle.oas_record.proofs.Refusals.{handed_on, fault_or}
 use Rattle.oas_record.proofs.placement_rows.placement.Goals as goal
 
 pub returns-clause-ok : goal.returns-clause-ok
@@ -24,13 +24,13 @@ returns-clause-ok c =
 
 pub returns-in_err-info-clause-bad : goal.returns-in_err-info-clause-bad
 returns-in_err-info-clause-bad c = handed_on _ _ _ c.from_residual.ensures.0 c.from_residual.ensures.1
-    (inr (info_refused (record { info = Below 256; parts = parts_at 17 }) c.args.bytes.now c.args.at
+    ((info_refused (record { info = Below 256; parts = parts_at 17 }) c.args.bytes.now c.args.at
     c.in_err-info.field-0.0 c.in_err-info.ensures.bad))
 
 pub returns-in_err-cell-clause-bad : goal.returns-in_err-cell-clause-bad
 returns-in_err-cell-clause-bad c =
     handed_on _ _ _ c.from_residual-in_err-cell.ensures.0 c.from_residual-in_err-cell.ensures.1
-    (inr (fields_refused
+    ((fields_refused
     (record { info = Below 256; parts = parts_at 17 }) c.args.bytes.now c.args.at c.in_ok-info.info
     c.in_err-cell.field-0.0 c.in_ok-info.ensures.there c.in_ok-info.ensures.ok c.in_ok-info.ensures.allowed
     (fails_first (when (Bit 7) (NameBy 6) ∷ []) placed c.in_ok-info.info c.args.bytes.now
@@ -38,10 +38,10 @@ returns-in_err-cell-clause-bad c =
 
 pub returns-in_err-x-clause-bad : goal.returns-in_err-x-clause-bad
 returns-in_err-x-clause-bad c = handed_on _ _ _ c.from_residual-in_err-x.ensures.0 c.from_residual-in_err-x.ensures.1
-    (wanting_or c.in_err-x.ensures.bad
-    (λ f. (fields_refused
+    (fault_or _ _ c.in_err-x.field-0.0 c.in_err-x.ensures.bad
+    (λ fault f. (fields_refused
     (record { info = Below 256; parts = parts_at 17 }) c.args.bytes.now c.args.at c.in_ok-info.info
-    c.in_err-x.field-0.0 c.in_ok-info.ensures.there c.in_ok-info.ensures.ok c.in_ok-info.ensures.allowed
+    fault c.in_ok-info.ensures.there c.in_ok-info.ensures.ok c.in_ok-info.ensures.allowed
     (fails_then (when (Bit 7) (NameBy 6) ∷ []) placed c.in_ok-info.info c.in_ok-info.info c.args.bytes.now
-    (c.args.at + 1) (called_or c.in_ok-cell.cell ∷ []) c.in_ok-cell.second c.in_err-x.field-0.0 refl
+    (c.args.at + 1) (called_or c.in_ok-cell.cell ∷ []) c.in_ok-cell.second fault refl
     (c.in_ok-cell.second, c.in_ok-cell.ensures.ok, refl) (f)))))

@@ -3,7 +3,7 @@ use Rattle.oas_record.specs.Parts.{parts_at}
 use Rattle.oas_record.specs.Records.{real_or, called_or, place_of}
 use Rattle.oas_record.specs.Rows.{OneReal, NameBy, Bit, Below, when, placed}
 use Rattle.oas_record.proofs.Joins.{joined, fails_first, fails_then, info_refused, fields_refused}
-use Rattle.oas_record.proofs.Refusals.{handed_on, wanting_or}
+use Rattle.oas_record.proofs.Refusals.{handed_on, fault_or}
 use Rattle.oas_record.proofs.placement_rows.turned_placement.Goals as goal
 
 pub returns-clause-ok : goal.returns-clause-ok
@@ -35,13 +35,13 @@ returns-clause-ok c =
 
 pub returns-in_err-info-clause-bad : goal.returns-in_err-info-clause-bad
 returns-in_err-info-clause-bad c = handed_on _ _ _ c.from_residual.ensures.0 c.from_residual.ensures.1
-    (inr (info_refused (record { info = Below 256; parts = parts_at 18 }) c.args.bytes.now c.args.at
+    ((info_refused (record { info = Below 256; parts = parts_at 18 }) c.args.bytes.now c.args.at
     c.in_err-info.field-0.0 c.in_err-info.ensures.bad))
 
 pub returns-in_err-cell-clause-bad : goal.returns-in_err-cell-clause-bad
 returns-in_err-cell-clause-bad c =
     handed_on _ _ _ c.from_residual-in_err-cell.ensures.0 c.from_residual-in_err-cell.ensures.1
-    (inr (fields_refused
+    ((fields_refused
     (record { info = Below 256; parts = parts_at 18 }) c.args.bytes.now c.args.at c.in_ok-info.info
     c.in_err-cell.field-0.0 c.in_ok-info.ensures.there c.in_ok-info.ensures.ok c.in_ok-info.ensures.allowed
     (fails_first (when (Bit 7) (NameBy 6) ∷ [])
@@ -51,7 +51,7 @@ returns-in_err-cell-clause-bad c =
 pub returns-in_err-magnification-clause-bad : goal.returns-in_err-magnification-clause-bad
 returns-in_err-magnification-clause-bad c =
     handed_on _ _ _ c.from_residual-in_err-magnification.ensures.0 c.from_residual-in_err-magnification.ensures.1
-    (inr (fields_refused
+    ((fields_refused
     (record { info = Below 256; parts = parts_at 18 }) c.args.bytes.now c.args.at c.in_ok-info.info
     c.in_err-magnification.field-0.0 c.in_ok-info.ensures.there c.in_ok-info.ensures.ok c.in_ok-info.ensures.allowed
     (fails_then (when (Bit 7) (NameBy 6) ∷ [])
@@ -66,7 +66,7 @@ returns-in_err-magnification-clause-bad c =
 pub returns-in_err-angle-clause-bad : goal.returns-in_err-angle-clause-bad
 returns-in_err-angle-clause-bad c =
     handed_on _ _ _ c.from_residual-in_err-angle.ensures.0 c.from_residual-in_err-angle.ensures.1
-    (inr (fields_refused
+    ((fields_refused
     (record { info = Below 256; parts = parts_at 18 }) c.args.bytes.now c.args.at c.in_ok-info.info
     c.in_err-angle.field-0.0 c.in_ok-info.ensures.there c.in_ok-info.ensures.ok c.in_ok-info.ensures.allowed
     (fails_then (when (Bit 7) (NameBy 6) ∷ [])
@@ -83,18 +83,18 @@ returns-in_err-angle-clause-bad c =
 
 pub returns-in_err-x-clause-bad : goal.returns-in_err-x-clause-bad
 returns-in_err-x-clause-bad c = handed_on _ _ _ c.from_residual-in_err-x.ensures.0 c.from_residual-in_err-x.ensures.1
-    (wanting_or c.in_err-x.ensures.bad
-    (λ f. (fields_refused
+    (fault_or _ _ c.in_err-x.field-0.0 c.in_err-x.ensures.bad
+    (λ fault f. (fields_refused
     (record { info = Below 256; parts = parts_at 18 }) c.args.bytes.now c.args.at c.in_ok-info.info
-    c.in_err-x.field-0.0 c.in_ok-info.ensures.there c.in_ok-info.ensures.ok c.in_ok-info.ensures.allowed
+    fault c.in_ok-info.ensures.there c.in_ok-info.ensures.ok c.in_ok-info.ensures.allowed
     (fails_then (when (Bit 7) (NameBy 6) ∷ [])
     ((when (Bit 2) OneReal ∷ []) ++ ((when (Bit 1) OneReal ∷ []) ++ placed)) c.in_ok-info.info c.in_ok-info.info
-    c.args.bytes.now (c.args.at + 1) (called_or c.in_ok-cell.cell ∷ []) c.in_ok-cell.second c.in_err-x.field-0.0 refl
+    c.args.bytes.now (c.args.at + 1) (called_or c.in_ok-cell.cell ∷ []) c.in_ok-cell.second fault refl
     (c.in_ok-cell.second, c.in_ok-cell.ensures.ok, refl)
     (fails_then (when (Bit 2) OneReal ∷ [])
     ((when (Bit 1) OneReal ∷ []) ++ placed) c.in_ok-info.info c.in_ok-info.info c.args.bytes.now c.in_ok-cell.second
-    (real_or c.in_ok-magnification.magnification ∷ []) c.in_ok-magnification.third c.in_err-x.field-0.0 refl
+    (real_or c.in_ok-magnification.magnification ∷ []) c.in_ok-magnification.third fault refl
     (c.in_ok-magnification.third, c.in_ok-magnification.ensures.ok, refl)
     (fails_then (when (Bit 1) OneReal ∷ []) placed c.in_ok-info.info c.in_ok-info.info c.args.bytes.now
-    c.in_ok-magnification.third (real_or c.in_ok-angle.angle ∷ []) c.in_ok-angle.fourth c.in_err-x.field-0.0 refl
+    c.in_ok-magnification.third (real_or c.in_ok-angle.angle ∷ []) c.in_ok-angle.fourth fault refl
     (c.in_ok-angle.fourth, c.in_ok-angle.ensures.ok, refl) (f)))))))

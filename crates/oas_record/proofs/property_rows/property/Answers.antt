@@ -30,13 +30,13 @@ returns-clause-ok c =
 
 pub returns-in_err-info-clause-bad : goal.returns-in_err-info-clause-bad
 returns-in_err-info-clause-bad c = handed_on _ _ _ c.from_residual.ensures.0 c.from_residual.ensures.1
-    (inr (info_refused (record { info = Below 256; parts = parts_at 28 }) c.args.bytes.now c.args.at
+    ((info_refused (record { info = Below 256; parts = parts_at 28 }) c.args.bytes.now c.args.at
     c.in_err-info.field-0.0 c.in_err-info.ensures.bad))
 
 pub returns-in_err-name-clause-bad : goal.returns-in_err-name-clause-bad
 returns-in_err-name-clause-bad c =
     handed_on _ _ _ c.from_residual-in_err-name.ensures.0 c.from_residual-in_err-name.ensures.1
-    (inr (fields_refused
+    ((fields_refused
     (record { info = Below 256; parts = parts_at 28 }) c.args.bytes.now c.args.at c.in_ok-info.info
     c.in_err-name.field-0.0 c.in_ok-info.ensures.there c.in_ok-info.ensures.ok c.in_ok-info.ensures.allowed
     (fails_first (when (Bit 2) (NameBy 1) ∷ [])
@@ -46,7 +46,7 @@ returns-in_err-name-clause-bad c =
 pub returns-in_err-count-clause-bad : goal.returns-in_err-count-clause-bad
 returns-in_err-count-clause-bad c =
     handed_on _ _ _ c.from_residual-in_err-count.ensures.0 c.from_residual-in_err-count.ensures.1
-    (inr (fields_refused
+    ((fields_refused
     (record { info = Below 256; parts = parts_at 28 }) c.args.bytes.now c.args.at c.in_ok-info.info
     c.in_err-count.field-0.0 c.in_ok-info.ensures.there c.in_ok-info.ensures.ok c.in_ok-info.ensures.allowed
     (fails_then (when (Bit 2) (NameBy 1) ∷ [])
@@ -60,7 +60,7 @@ returns-in_err-count-clause-bad c =
 pub returns-in_err-values-clause-bad : goal.returns-in_err-values-clause-bad
 returns-in_err-values-clause-bad c =
     handed_on _ _ _ c.from_residual-in_err-values.ensures.0 c.from_residual-in_err-values.ensures.1
-    (inr (fields_refused
+    ((fields_refused
     (record { info = Below 256; parts = parts_at 28 }) c.args.bytes.now c.args.at c.in_ok-info.info
     c.in_err-values.field-0.0 c.in_ok-info.ensures.there c.in_ok-info.ensures.ok c.in_ok-info.ensures.allowed
     (fails_then (when (Bit 2) (NameBy 1) ∷ [])

@@ -1,8 +1,8 @@
 use Rattle.std.proofs.Common.{refl, [], ◌∷◌, inl, inr, ◌≡◌, ◌⊎◌, arith, subst}
+use Rattle.geo_stream.specs.Refusals.{IsForFault}
 use Rattle.oas_record.specs.Lists.{NoNumbers}
 use Rattle.oas_record.specs.Repetitions.{rep_rows, row_at, RowFails, Just, AndFewer}
-use Rattle.oas_record.specs.declared.faults.RecordBad.TheVariants.{NoMemory as Wanting}
-use Rattle.oas_record.proofs.Refusals.{handed_on, wanting_or}
+use Rattle.oas_record.proofs.Refusals.{handed_on, fault_or}
 use Rattle.oas_record.proofs.RepLemmas.{one, dim, one_and_fewer, fails_after}
 use Rattle.oas_record.proofs.repetition_readers.spaces_on_grid.Goals as goal
 
@@ -29,15 +29,15 @@ returns-in_err-grid-clause-bad c =
     c.in_ok-stored.stored c.in_ok-stored.grid_at c.in_err-grid.field-0.0 refl c.in_ok-stored.ensures.ok
     (inl (subst (λ n. NoNumbers n c.args.bytes.now c.in_ok-stored.grid_at c.in_err-grid.field-0.0)
     (one_and_fewer c.in_ok-stored.stored) (inl c.in_err-grid.ensures.bad))) in
-    handed_on _ _ _ c.from_residual-in_err-grid.ensures.0 c.from_residual-in_err-grid.ensures.1 (inr fails)
+    handed_on _ _ _ c.from_residual-in_err-grid.ensures.0 c.from_residual-in_err-grid.ensures.1 fails
 
 pub returns-in_err-spaces-clause-bad : goal.returns-in_err-spaces-clause-bad
 returns-in_err-spaces-clause-bad c =
-    let fails : (c.in_err-spaces.field-0.0 ≡ Wanting) ⊎ RowFails (row_at rep_rows 5) c.args.bytes.now c.args.at c.in_err-spaces.field-0.0 =
-    wanting_or c.in_err-spaces.ensures.bad
-    (λ f. fails_after (record { dims = 1; numbers = AndFewer 1; deltas = Just 0 }) c.args.bytes.now c.args.at
-    c.in_ok-stored.stored c.in_ok-stored.grid_at c.in_err-spaces.field-0.0 refl c.in_ok-stored.ensures.ok
-    (inl (subst (λ n. NoNumbers n c.args.bytes.now c.in_ok-stored.grid_at c.in_err-spaces.field-0.0)
+    let fails : IsForFault (RowFails (row_at rep_rows 5) c.args.bytes.now c.args.at) c.in_err-spaces.field-0.0 =
+    fault_or _ _ c.in_err-spaces.field-0.0 c.in_err-spaces.ensures.bad
+    (λ fault f. fails_after (record { dims = 1; numbers = AndFewer 1; deltas = Just 0 }) c.args.bytes.now c.args.at
+    c.in_ok-stored.stored c.in_ok-stored.grid_at fault refl c.in_ok-stored.ensures.ok
+    (inl (subst (λ n. NoNumbers n c.args.bytes.now c.in_ok-stored.grid_at fault)
     (one_and_fewer c.in_ok-stored.stored)
     (inr (c.in_ok-grid.grid, c.in_ok-grid.first, c.in_ok-grid.ensures.ok, f))))) in
     handed_on _ _ _ c.from_residual-in_err-spaces.ensures.0 c.from_residual-in_err-spaces.ensures.1 fails

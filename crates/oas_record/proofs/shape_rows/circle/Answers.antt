@@ -3,7 +3,7 @@ use Rattle.oas_record.specs.Parts.{parts_at}
 use Rattle.oas_record.specs.Records.{number_or, place_of}
 use Rattle.oas_record.specs.Rows.{Number, Bit, Below, when, pair, place}
 use Rattle.oas_record.proofs.Joins.{joined, fails_first, fails_then, info_refused, fields_refused}
-use Rattle.oas_record.proofs.Refusals.{handed_on, wanting_or}
+use Rattle.oas_record.proofs.Refusals.{handed_on, fault_or}
 use Rattle.oas_record.proofs.shape_rows.circle.Goals as goal
 
 pub returns-clause-ok : goal.returns-clause-ok
@@ -28,13 +28,13 @@ returns-clause-ok c =
 
 pub returns-in_err-info-clause-bad : goal.returns-in_err-info-clause-bad
 returns-in_err-info-clause-bad c = handed_on _ _ _ c.from_residual.ensures.0 c.from_residual.ensures.1
-    (inr (info_refused (record { info = Below 64; parts = parts_at 27 }) c.args.bytes.now c.args.at
+    ((info_refused (record { info = Below 64; parts = parts_at 27 }) c.args.bytes.now c.args.at
     c.in_err-info.field-0.0 c.in_err-info.ensures.bad))
 
 pub returns-in_err-layer-clause-bad : goal.returns-in_err-layer-clause-bad
 returns-in_err-layer-clause-bad c =
     handed_on _ _ _ c.from_residual-in_err-layer.ensures.0 c.from_residual-in_err-layer.ensures.1
-    (inr (fields_refused
+    ((fields_refused
     (record { info = Below 64; parts = parts_at 27 }) c.args.bytes.now c.args.at c.in_ok-info.info
     c.in_err-layer.field-0.0 c.in_ok-info.ensures.there c.in_ok-info.ensures.ok c.in_ok-info.ensures.allowed
     (fails_first pair ((when (Bit 5) Number ∷ []) ++ place) c.in_ok-info.info c.args.bytes.now
@@ -43,7 +43,7 @@ returns-in_err-layer-clause-bad c =
 pub returns-in_err-radius-clause-bad : goal.returns-in_err-radius-clause-bad
 returns-in_err-radius-clause-bad c =
     handed_on _ _ _ c.from_residual-in_err-radius.ensures.0 c.from_residual-in_err-radius.ensures.1
-    (inr (fields_refused
+    ((fields_refused
     (record { info = Below 64; parts = parts_at 27 }) c.args.bytes.now c.args.at c.in_ok-info.info
     c.in_err-radius.field-0.0 c.in_ok-info.ensures.there c.in_ok-info.ensures.ok c.in_ok-info.ensures.allowed
     (fails_then pair ((when (Bit 5) Number ∷ []) ++ place) c.in_ok-info.info c.in_ok-info.info c.args.bytes.now
@@ -54,13 +54,13 @@ returns-in_err-radius-clause-bad c =
 
 pub returns-in_err-x-clause-bad : goal.returns-in_err-x-clause-bad
 returns-in_err-x-clause-bad c = handed_on _ _ _ c.from_residual-in_err-x.ensures.0 c.from_residual-in_err-x.ensures.1
-    (wanting_or c.in_err-x.ensures.bad
-    (λ f. (fields_refused
-    (record { info = Below 64; parts = parts_at 27 }) c.args.bytes.now c.args.at c.in_ok-info.info c.in_err-x.field-0.0
+    (fault_or _ _ c.in_err-x.field-0.0 c.in_err-x.ensures.bad
+    (λ fault f. (fields_refused
+    (record { info = Below 64; parts = parts_at 27 }) c.args.bytes.now c.args.at c.in_ok-info.info fault
     c.in_ok-info.ensures.there c.in_ok-info.ensures.ok c.in_ok-info.ensures.allowed
     (fails_then pair ((when (Bit 5) Number ∷ []) ++ place) c.in_ok-info.info c.in_ok-info.info c.args.bytes.now
     (c.args.at + 1) (number_or c.in_ok-layer.layer ∷ number_or c.in_ok-layer.datatype ∷ []) c.in_ok-layer.second
-    c.in_err-x.field-0.0 refl c.in_ok-layer.ensures.ok
+    fault refl c.in_ok-layer.ensures.ok
     (fails_then (when (Bit 5) Number ∷ []) place c.in_ok-info.info c.in_ok-info.info c.args.bytes.now
-    c.in_ok-layer.second (number_or c.in_ok-radius.radius ∷ []) c.in_ok-radius.third c.in_err-x.field-0.0 refl
+    c.in_ok-layer.second (number_or c.in_ok-radius.radius ∷ []) c.in_ok-radius.third fault refl
     (c.in_ok-radius.third, c.in_ok-radius.ensures.ok, refl) (f))))))

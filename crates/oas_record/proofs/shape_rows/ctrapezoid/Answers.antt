@@ -3,7 +3,7 @@ use Rattle.oas_record.specs.Parts.{parts_at}
 use Rattle.oas_record.specs.Records.{number_or, place_of}
 use Rattle.oas_record.specs.Rows.{TrapezoidType, Bit, Below, when, pair, box, place}
 use Rattle.oas_record.proofs.Joins.{joined, fails_first, fails_then, info_refused, fields_refused}
-use Rattle.oas_record.proofs.Refusals.{handed_on, wanting_or}
+use Rattle.oas_record.proofs.Refusals.{handed_on, fault_or}
 use Rattle.oas_record.proofs.shape_rows.ctrapezoid.Goals as goal
 
 pub returns-clause-ok : goal.returns-clause-ok
@@ -36,13 +36,13 @@ returns-clause-ok c =
 
 pub returns-in_err-info-clause-bad : goal.returns-in_err-info-clause-bad
 returns-in_err-info-clause-bad c = handed_on _ _ _ c.from_residual.ensures.0 c.from_residual.ensures.1
-    (inr (info_refused (record { info = Below 256; parts = parts_at 26 }) c.args.bytes.now c.args.at
+    ((info_refused (record { info = Below 256; parts = parts_at 26 }) c.args.bytes.now c.args.at
     c.in_err-info.field-0.0 c.in_err-info.ensures.bad))
 
 pub returns-in_err-layer-clause-bad : goal.returns-in_err-layer-clause-bad
 returns-in_err-layer-clause-bad c =
     handed_on _ _ _ c.from_residual-in_err-layer.ensures.0 c.from_residual-in_err-layer.ensures.1
-    (inr (fields_refused
+    ((fields_refused
     (record { info = Below 256; parts = parts_at 26 }) c.args.bytes.now c.args.at c.in_ok-info.info
     c.in_err-layer.field-0.0 c.in_ok-info.ensures.there c.in_ok-info.ensures.ok c.in_ok-info.ensures.allowed
     (fails_first pair ((when (Bit 7) TrapezoidType ∷ []) ++ (box ++ place)) c.in_ok-info.info c.args.bytes.now
@@ -51,7 +51,7 @@ returns-in_err-layer-clause-bad c =
 pub returns-in_err-kind-clause-bad : goal.returns-in_err-kind-clause-bad
 returns-in_err-kind-clause-bad c =
     handed_on _ _ _ c.from_residual-in_err-kind.ensures.0 c.from_residual-in_err-kind.ensures.1
-    (inr (fields_refused
+    ((fields_refused
     (record { info = Below 256; parts = parts_at 26 }) c.args.bytes.now c.args.at c.in_ok-info.info
     c.in_err-kind.field-0.0 c.in_ok-info.ensures.there c.in_ok-info.ensures.ok c.in_ok-info.ensures.allowed
     (fails_then pair ((when (Bit 7) TrapezoidType ∷ []) ++ (box ++ place)) c.in_ok-info.info c.in_ok-info.info
@@ -65,7 +65,7 @@ returns-in_err-kind-clause-bad c =
 pub returns-in_err-width-clause-bad : goal.returns-in_err-width-clause-bad
 returns-in_err-width-clause-bad c =
     handed_on _ _ _ c.from_residual-in_err-width.ensures.0 c.from_residual-in_err-width.ensures.1
-    (inr (fields_refused
+    ((fields_refused
     (record { info = Below 256; parts = parts_at 26 }) c.args.bytes.now c.args.at c.in_ok-info.info
     c.in_err-width.field-0.0 c.in_ok-info.ensures.there c.in_ok-info.ensures.ok c.in_ok-info.ensures.allowed
     (fails_then pair ((when (Bit 7) TrapezoidType ∷ []) ++ (box ++ place)) c.in_ok-info.info c.in_ok-info.info
@@ -81,18 +81,18 @@ returns-in_err-width-clause-bad c =
 
 pub returns-in_err-x-clause-bad : goal.returns-in_err-x-clause-bad
 returns-in_err-x-clause-bad c = handed_on _ _ _ c.from_residual-in_err-x.ensures.0 c.from_residual-in_err-x.ensures.1
-    (wanting_or c.in_err-x.ensures.bad
-    (λ f. (fields_refused
+    (fault_or _ _ c.in_err-x.field-0.0 c.in_err-x.ensures.bad
+    (λ fault f. (fields_refused
     (record { info = Below 256; parts = parts_at 26 }) c.args.bytes.now c.args.at c.in_ok-info.info
-    c.in_err-x.field-0.0 c.in_ok-info.ensures.there c.in_ok-info.ensures.ok c.in_ok-info.ensures.allowed
+    fault c.in_ok-info.ensures.there c.in_ok-info.ensures.ok c.in_ok-info.ensures.allowed
     (fails_then pair ((when (Bit 7) TrapezoidType ∷ []) ++ (box ++ place)) c.in_ok-info.info c.in_ok-info.info
     c.args.bytes.now (c.args.at + 1)
-    (number_or c.in_ok-layer.layer ∷ number_or c.in_ok-layer.datatype ∷ []) c.in_ok-layer.second c.in_err-x.field-0.0
+    (number_or c.in_ok-layer.layer ∷ number_or c.in_ok-layer.datatype ∷ []) c.in_ok-layer.second fault
     refl c.in_ok-layer.ensures.ok
     (fails_then (when (Bit 7) TrapezoidType ∷ [])
     (box ++ place) c.in_ok-info.info c.in_ok-info.info c.args.bytes.now c.in_ok-layer.second
-    (number_or c.in_ok-kind.kind ∷ []) c.in_ok-kind.third c.in_err-x.field-0.0 refl
+    (number_or c.in_ok-kind.kind ∷ []) c.in_ok-kind.third fault refl
     (c.in_ok-kind.third, c.in_ok-kind.ensures.ok, refl)
     (fails_then box place c.in_ok-info.info c.in_ok-info.info c.args.bytes.now c.in_ok-kind.third
-    (number_or c.in_ok-width.width ∷ number_or c.in_ok-width.height ∷ []) c.in_ok-width.fourth c.in_err-x.field-0.0
+    (number_or c.in_ok-width.width ∷ number_or c.in_ok-width.height ∷ []) c.in_ok-width.fourth fault
     refl c.in_ok-width.ensures.ok (f)))))))
