@@ -4,13 +4,8 @@ use Rattle.oas_record.specs.Faults.{NoBytes}
 use Rattle.oas_record.specs.Parts.{NoInfoByte}
 use Rattle.oas_record.specs.Records.{InfoFails}
 use Rattle.oas_record.specs.Rows.{Row, allows, Part, Field, HasFields, NoFields, switches_after}
+use Rattle.oas_record.specs.Shapes.{through}
 use Rattle.oas_record.specs.declared.faults.RecordBad.{RecordBad}
-
--- the switches after some fields
-abbrev pub through : List Part → List Field → ℕ → ℕ
-through [] fields s = s
-through (p ∷ ps) [] s = s
-through (p ∷ ps) (f ∷ fs) s = through ps fs (switches_after p.form f s)
 
 pub joined : (ps qs : List Part) (s t : ℕ) (bytes : List ℕ) (at : ℕ) (fs gs : List Field) (mid next : ℕ) → through ps fs s ≡ t
     → HasFields ps s bytes at fs mid → HasFields qs t bytes mid gs next → HasFields (ps ++ qs) s bytes at (fs ++ gs) next

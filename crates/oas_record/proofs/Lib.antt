@@ -6,6 +6,9 @@ pub mod ValueLemmas
 pub mod Joins
 pub mod Switches
 pub mod RecordLemmas
+pub mod ShapeLemmas
+pub mod NameLemmas
+pub mod PlacementLemmas
 pub mod Readers
 pub mod RepReaders
 pub mod FieldReaders

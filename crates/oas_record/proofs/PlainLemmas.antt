@@ -8,6 +8,7 @@ use Rattle.oas_record.specs.declared.faults.RecordBad.{RecordBad}
 use Rattle.oas_record.specs.declared.plain.PlainRectangle.{PlainRectangle}
 use Rattle.oas_record.specs.declared.records.OasRecord.{OasRecord}
 use Rattle.oas_record.specs.declared.records.OasRecord.TheVariants as records
+use Rattle.oas_record.specs.declared.shapes.ShapeKind.TheVariants as shapes
 use Rattle.oas_record.proofs.RecordLemmas.{record_there}
 use Rattle.oas_record.proofs.RecordReaders.{one_record}
 
@@ -23,8 +24,8 @@ rectangle_missing bytes at tables p next bad b f h = (one_record bytes at tables
 
 -- the rectangle that a record is
 plain_of : OasRecord → PlainRectangle
-plain_of (records.Rectangle info layer datatype width height x y repetition) =
-    record { info = info; layer = layer; datatype = datatype; width = width; height = height; x = x; y = y }
+plain_of (records.Shape head (shapes.Rectangle width height)) =
+    record { info = head.info; layer = head.layer; datatype = head.datatype; width = width; height = height; x = head.x; y = head.y }
 plain_of _ = record { info = 0; layer = None; datatype = None; width = None; height = None; x = None; y = None }
 
 plain_back : (p : PlainRectangle) → plain_of (rectangle_of p) ≡ p

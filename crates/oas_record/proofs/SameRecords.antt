@@ -1,14 +1,22 @@
 -- The record that an id, an info byte and fields are: fields name their record.
-use Rattle.std.proofs.Common.{◌≡◌, ℕ, ℤ, pos, Option, Some, None, List, get_or, nat_eq, if◌then◌else◌, refl, sym, ap, ◌∙◌}
+use Rattle.std.proofs.Common.{◌≡◌, ℕ, ◌+◌, ℤ, pos, true, false, Option, Some, None, List, get_or, nat_eq, if◌then◌else◌, refl, sym, ap}
+use Rattle.std.proofs.Common.{◌∙◌}
 use Rattle.oas_lex.specs.declared.reals.Real.{Real}
 use Rattle.oas_record.specs.Records.{number_or, signed_or, span_or, real_or, called_or, points_or, rep_or, id_of, info_of, fields_of}
 use Rattle.oas_record.specs.Rows.{Field, Absent, IsNumber, IsSigned, IsSpan, IsReal, IsCalled, IsInterval, IsPoints, IsRep}
 use Rattle.oas_record.specs.declared.fields.Called.{Called}
+use Rattle.oas_record.specs.declared.fields.Called.TheVariants as called
 use Rattle.oas_record.specs.declared.fields.Deltas.{Deltas}
 use Rattle.oas_record.specs.declared.fields.Interval.{Interval}
+use Rattle.oas_record.specs.declared.records.NameKind.TheVariants as names
 use Rattle.oas_record.specs.declared.records.OasRecord.{OasRecord}
 use Rattle.oas_record.specs.declared.records.OasRecord.TheVariants as records
+use Rattle.oas_record.specs.declared.records.Turn.{Turn}
 use Rattle.oas_record.specs.declared.repetition.Rep.{Rep}
+use Rattle.oas_record.specs.declared.shapes.ShapeHead.{ShapeHead}
+use Rattle.oas_record.specs.declared.shapes.ShapeKind.{ShapeKind}
+use Rattle.oas_record.specs.declared.shapes.ShapeKind.TheVariants as shapes
+use Rattle.oas_record.specs.declared.shapes.TrapezoidDeltas.TheVariants as deltas
 
 -- ---- what a field is
 
@@ -93,155 +101,135 @@ rep_back (Some x) = refl
 abbrev nth : List Field → ℕ → Field
 nth fs k = get_or fs k Absent
 
+-- the head of a shape whose layer is this field, and whose x is that one
+abbrev head_from : ℕ → List Field → ℕ → ℕ → ShapeHead
+head_from info fs layer x = record {
+  info = info;
+  layer = number_of (nth fs layer);
+  datatype = number_of (nth fs (layer + 1));
+  x = signed_of (nth fs x);
+  y = signed_of (nth fs (x + 1));
+  repetition = rep_of (nth fs (x + 2));
+}
+
+abbrev turn_from : List Field → Turn
+turn_from fs = record { magnification = real_of (nth fs 1); angle = real_of (nth fs 2) }
+
 record_from : ℕ → ℕ → List Field → OasRecord
 record_from id info fs =
     if nat_eq id 1 then records.Start (span_in (nth fs 0)) (real_in (nth fs 1)) (number_in (nth fs 2)) (span_of (nth fs 3))
     else if nat_eq id 2 then records.End (span_of (nth fs 0)) (span_in (nth fs 1)) (number_in (nth fs 2)) (span_of (nth fs 3))
-    else if nat_eq id 3 then records.CellName (span_in (nth fs 0))
-    else if nat_eq id 4 then records.NumberedCellName (span_in (nth fs 0)) (number_in (nth fs 1))
-    else if nat_eq id 5 then records.TextString (span_in (nth fs 0))
-    else if nat_eq id 6 then records.NumberedTextString (span_in (nth fs 0)) (number_in (nth fs 1))
-    else if nat_eq id 7 then records.PropName (span_in (nth fs 0))
-    else if nat_eq id 8 then records.NumberedPropName (span_in (nth fs 0)) (number_in (nth fs 1))
-    else if nat_eq id 9 then records.PropString (span_in (nth fs 0))
-    else if nat_eq id 10 then records.NumberedPropString (span_in (nth fs 0)) (number_in (nth fs 1))
-    else if nat_eq id 11 then records.LayerName (span_in (nth fs 0)) (interval_in (nth fs 1)) (interval_in (nth fs 2))
-    else if nat_eq id 12 then records.TextLayerName (span_in (nth fs 0)) (interval_in (nth fs 1)) (interval_in (nth fs 2))
-    else if nat_eq id 13 then records.NumberedCell (number_in (nth fs 0))
-    else if nat_eq id 14 then records.Cell (span_in (nth fs 0))
-    else if nat_eq id 15 then records.XyAbsolute
-    else if nat_eq id 16 then records.XyRelative
-    else if nat_eq id 17 then records.Placement info (called_of (nth fs 0)) (signed_of (nth fs 1)) (signed_of (nth fs 2)) (rep_of (nth fs 3))
-    else if nat_eq id 18 then records.TurnedPlacement info (called_of (nth fs 0)) (real_of (nth fs 1))
-    (real_of (nth fs 2)) (signed_of (nth fs 3)) (signed_of (nth fs 4)) (rep_of (nth fs 5))
+    else if nat_eq id 3 then records.Name names.Cell (span_in (nth fs 0)) None
+    else if nat_eq id 4 then records.Name names.Cell (span_in (nth fs 0)) (Some (number_in (nth fs 1)))
+    else if nat_eq id 5 then records.Name names.Text (span_in (nth fs 0)) None
+    else if nat_eq id 6 then records.Name names.Text (span_in (nth fs 0)) (Some (number_in (nth fs 1)))
+    else if nat_eq id 7 then records.Name names.Property (span_in (nth fs 0)) None
+    else if nat_eq id 8 then records.Name names.Property (span_in (nth fs 0)) (Some (number_in (nth fs 1)))
+    else if nat_eq id 9 then records.Name names.PropertyString (span_in (nth fs 0)) None
+    else if nat_eq id 10 then records.Name names.PropertyString (span_in (nth fs 0)) (Some (number_in (nth fs 1)))
+    else if nat_eq id 11 then records.LayerName false (span_in (nth fs 0)) (interval_in (nth fs 1)) (interval_in (nth fs 2))
+    else if nat_eq id 12 then records.LayerName true (span_in (nth fs 0)) (interval_in (nth fs 1)) (interval_in (nth fs 2))
+    else if nat_eq id 13 then records.Cell (called.Number (number_in (nth fs 0)))
+    else if nat_eq id 14 then records.Cell (called.Text (span_in (nth fs 0)).0 (span_in (nth fs 0)).1)
+    else if nat_eq id 15 then records.Mode false
+    else if nat_eq id 16 then records.Mode true
+    else if nat_eq id 17 then records.Placement info (called_of (nth fs 0)) None (signed_of (nth fs 1)) (signed_of (nth fs 2)) (rep_of (nth fs 3))
+    else if nat_eq id 18 then records.Placement info (called_of (nth fs 0)) (Some (turn_from fs))
+    (signed_of (nth fs 3)) (signed_of (nth fs 4)) (rep_of (nth fs 5))
     else if nat_eq id 19 then records.Text info (called_of (nth fs 0)) (number_of (nth fs 1)) (number_of (nth fs 2))
     (signed_of (nth fs 3)) (signed_of (nth fs 4)) (rep_of (nth fs 5))
-    else if nat_eq id 20 then records.Rectangle info (number_of (nth fs 0)) (number_of (nth fs 1))
-    (number_of (nth fs 2)) (number_of (nth fs 3)) (signed_of (nth fs 4)) (signed_of (nth fs 5)) (rep_of (nth fs 6))
-    else if nat_eq id 21 then records.Polygon info (number_of (nth fs 0)) (number_of (nth fs 1)) (points_of (nth fs 2))
-    (signed_of (nth fs 3)) (signed_of (nth fs 4)) (rep_of (nth fs 5))
-    else if nat_eq id 22 then records.Path info (number_of (nth fs 0)) (number_of (nth fs 1)) (number_of (nth fs 2))
-    (number_of (nth fs 3)) (signed_of (nth fs 4)) (signed_of (nth fs 5)) (points_of (nth fs 6))
-    (signed_of (nth fs 7)) (signed_of (nth fs 8)) (rep_of (nth fs 9))
-    else if nat_eq id 23 then records.Trapezoid info (number_of (nth fs 0)) (number_of (nth fs 1))
-    (number_of (nth fs 2)) (number_of (nth fs 3)) (signed_in (nth fs 4)) (signed_in (nth fs 5))
-    (signed_of (nth fs 6)) (signed_of (nth fs 7)) (rep_of (nth fs 8))
-    else if nat_eq id 24 then records.TrapezoidA info (number_of (nth fs 0)) (number_of (nth fs 1))
-    (number_of (nth fs 2)) (number_of (nth fs 3)) (signed_in (nth fs 4)) (signed_of (nth fs 5))
-    (signed_of (nth fs 6)) (rep_of (nth fs 7))
-    else if nat_eq id 25 then records.TrapezoidB info (number_of (nth fs 0)) (number_of (nth fs 1))
-    (number_of (nth fs 2)) (number_of (nth fs 3)) (signed_in (nth fs 4)) (signed_of (nth fs 5))
-    (signed_of (nth fs 6)) (rep_of (nth fs 7))
-    else if nat_eq id 26 then records.Ctrapezoid info (number_of (nth fs 0)) (number_of (nth fs 1))
-    (number_of (nth fs 2)) (number_of (nth fs 3)) (number_of (nth fs 4)) (signed_of (nth fs 5))
-    (signed_of (nth fs 6)) (rep_of (nth fs 7))
-    else if nat_eq id 27 then records.Circle info (number_of (nth fs 0)) (number_of (nth fs 1)) (number_of (nth fs 2))
-    (signed_of (nth fs 3)) (signed_of (nth fs 4)) (rep_of (nth fs 5))
+    else if nat_eq id 20 then records.Shape (head_from info fs 0 4) (shapes.Rectangle (number_of (nth fs 2)) (number_of (nth fs 3)))
+    else if nat_eq id 21 then records.Shape (head_from info fs 0 3) (shapes.Polygon (points_of (nth fs 2)))
+    else if nat_eq id 22 then records.Shape (head_from info fs 0 7)
+    (shapes.Path (number_of (nth fs 2)) (number_of (nth fs 3)) (signed_of (nth fs 4)) (signed_of (nth fs 5)) (points_of (nth fs 6)))
+    else if nat_eq id 23 then records.Shape (head_from info fs 0 6)
+    (shapes.Trapezoid (number_of (nth fs 2)) (number_of (nth fs 3)) (deltas.Both (signed_in (nth fs 4)) (signed_in (nth fs 5))))
+    else if nat_eq id 24 then records.Shape (head_from info fs 0 5)
+    (shapes.Trapezoid (number_of (nth fs 2)) (number_of (nth fs 3)) (deltas.A (signed_in (nth fs 4))))
+    else if nat_eq id 25 then records.Shape (head_from info fs 0 5)
+    (shapes.Trapezoid (number_of (nth fs 2)) (number_of (nth fs 3)) (deltas.B (signed_in (nth fs 4))))
+    else if nat_eq id 26 then records.Shape (head_from info fs 0 5) (shapes.Ctrapezoid (number_of (nth fs 2)) (number_of (nth fs 3)) (number_of (nth fs 4)))
+    else if nat_eq id 27 then records.Shape (head_from info fs 0 3) (shapes.Circle (number_of (nth fs 2)))
     else if nat_eq id 28 then records.Property info (called_of (nth fs 0)) (number_of (nth fs 1)) (span_of (nth fs 2))
     else if nat_eq id 29 then records.LastProperty
-    else if nat_eq id 30 then records.XName (number_in (nth fs 0)) (span_in (nth fs 1))
-    else if nat_eq id 31 then records.NumberedXName (number_in (nth fs 0)) (span_in (nth fs 1)) (number_in (nth fs 2))
+    else if nat_eq id 30 then records.XName (number_in (nth fs 0)) (span_in (nth fs 1)) None
+    else if nat_eq id 31 then records.XName (number_in (nth fs 0)) (span_in (nth fs 1)) (Some (number_in (nth fs 2)))
     else if nat_eq id 32 then records.XElement (number_in (nth fs 0)) (span_in (nth fs 1))
-    else if nat_eq id 33 then records.XGeometry info (number_in (nth fs 0)) (number_of (nth fs 1))
-    (number_of (nth fs 2)) (span_in (nth fs 3)) (signed_of (nth fs 4)) (signed_of (nth fs 5)) (rep_of (nth fs 6))
+    else if nat_eq id 33 then records.Shape (head_from info fs 1 4) (shapes.XGeometry (number_in (nth fs 0)) (span_in (nth fs 3)))
     else records.Pad
+
+-- a head that is read back of its fields
+abbrev read_back : ShapeHead → ShapeHead
+read_back head = record {
+  info = head.info;
+  layer = number_of (number_or head.layer);
+  datatype = number_of (number_or head.datatype);
+  x = signed_of (signed_or head.x);
+  y = signed_of (signed_or head.y);
+  repetition = rep_of (rep_or head.repetition);
+}
+
+head_back : (head : ShapeHead) → read_back head ≡ head
+head_back head = rw (number_back head.layer, number_back head.datatype, signed_back head.x, signed_back head.y, rep_back head.repetition) refl
+
+shape_back : (head : ShapeHead) (read kind : ShapeKind) → read ≡ kind → records.Shape (read_back head) read ≡ records.Shape head kind
+shape_back head read kind same = ap (λ h. records.Shape h read) (head_back head) ∙ ap (λ k. records.Shape head k) same
 
 back : (r : OasRecord) → record_from (id_of r) (info_of r) (fields_of r) ≡ r
 unfolding record_from
 back records.Pad = refl
 back (records.Start version unit offset_flag tables) = rw (span_back tables) refl
 back (records.End tables padding scheme validation) = rw (span_back tables, span_back validation) refl
-back (records.CellName name) = refl
-back (records.NumberedCellName name number) = refl
-back (records.TextString text) = refl
-back (records.NumberedTextString text number) = refl
-back (records.PropName name) = refl
-back (records.NumberedPropName name number) = refl
-back (records.PropString text) = refl
-back (records.NumberedPropString text number) = refl
-back (records.LayerName name layers datatypes) = refl
-back (records.TextLayerName name layers datatypes) = refl
-back (records.NumberedCell number) = refl
-back (records.Cell name) = refl
-back records.XyAbsolute = refl
-back records.XyRelative = refl
-back (records.Placement info cell x y repetition) = rw (called_back cell, signed_back x, signed_back y, rep_back repetition) refl
-back (records.TurnedPlacement info cell magnification angle x y repetition) = rw
-    (called_back cell, real_back magnification, real_back angle, signed_back x, signed_back y, rep_back repetition) refl
+back (records.Name names.Cell text None) = refl
+back (records.Name names.Cell text (Some number)) = refl
+back (records.Name names.Text text None) = refl
+back (records.Name names.Text text (Some number)) = refl
+back (records.Name names.Property text None) = refl
+back (records.Name names.Property text (Some number)) = refl
+back (records.Name names.PropertyString text None) = refl
+back (records.Name names.PropertyString text (Some number)) = refl
+back (records.LayerName false name layers datatypes) = refl
+back (records.LayerName true name layers datatypes) = refl
+back (records.Cell (called.Number number)) = refl
+back (records.Cell (called.Text first next)) = refl
+back (records.Mode false) = refl
+back (records.Mode true) = refl
+back (records.Placement info cell None x y repetition) = rw (called_back cell, signed_back x, signed_back y, rep_back repetition) refl
+back (records.Placement info cell (Some turn) x y repetition) = rw
+    (called_back cell, real_back turn.magnification, real_back turn.angle, signed_back x, signed_back y, rep_back repetition) refl
 back (records.Text info text textlayer texttype x y repetition) = rw
     (called_back text, number_back textlayer, number_back texttype, signed_back x, signed_back y, rep_back repetition)
     refl
-back (records.Rectangle info layer datatype width height x y repetition) = rw (
-  number_back layer,
-  number_back datatype,
-  number_back width,
-  number_back height,
-  signed_back x,
-  signed_back y,
-  rep_back repetition,
-) refl
-back (records.Polygon info layer datatype points x y repetition) = rw
-    (number_back layer, number_back datatype, points_back points, signed_back x, signed_back y, rep_back repetition)
-    refl
-back (records.Path info layer datatype half_width extension start end points x y repetition) = rw (
-  number_back layer,
-  number_back datatype,
-  number_back half_width,
-  number_back extension,
-  signed_back start,
-  signed_back end,
-  points_back points,
-  signed_back x,
-  signed_back y,
-  rep_back repetition,
-) refl
-back (records.Trapezoid info layer datatype width height delta_a delta_b x y repetition) = rw (
-  number_back layer,
-  number_back datatype,
-  number_back width,
-  number_back height,
-  signed_back x,
-  signed_back y,
-  rep_back repetition,
-) refl
-back (records.TrapezoidA info layer datatype width height delta_a x y repetition) = rw (
-  number_back layer,
-  number_back datatype,
-  number_back width,
-  number_back height,
-  signed_back x,
-  signed_back y,
-  rep_back repetition,
-) refl
-back (records.TrapezoidB info layer datatype width height delta_b x y repetition) = rw (
-  number_back layer,
-  number_back datatype,
-  number_back width,
-  number_back height,
-  signed_back x,
-  signed_back y,
-  rep_back repetition,
-) refl
-back (records.Ctrapezoid info layer datatype kind width height x y repetition) = rw (
-  number_back layer,
-  number_back datatype,
-  number_back kind,
-  number_back width,
-  number_back height,
-  signed_back x,
-  signed_back y,
-  rep_back repetition,
-) refl
-back (records.Circle info layer datatype radius x y repetition) = rw
-    (number_back layer, number_back datatype, number_back radius, signed_back x, signed_back y, rep_back repetition)
-    refl
+back (records.Shape head (shapes.Rectangle width height)) =
+    shape_back head (shapes.Rectangle (number_of (number_or width)) (number_of (number_or height))) (shapes.Rectangle width height)
+    (rw (number_back width, number_back height) refl)
+back (records.Shape head (shapes.Polygon points)) =
+    shape_back head (shapes.Polygon (points_of (points_or points))) (shapes.Polygon points) (rw (points_back points) refl)
+back (records.Shape head (shapes.Path half_width extension start end points)) =
+    shape_back head (shapes.Path (number_of (number_or half_width)) (number_of (number_or extension)) (signed_of (signed_or start))
+    (signed_of (signed_or end)) (points_of (points_or points))) (shapes.Path half_width extension start end points)
+    (rw (number_back half_width, number_back extension, signed_back start, signed_back end, points_back points) refl)
+back (records.Shape head (shapes.Trapezoid width height (deltas.Both a b))) =
+    shape_back head (shapes.Trapezoid (number_of (number_or width)) (number_of (number_or height)) (deltas.Both a b))
+    (shapes.Trapezoid width height (deltas.Both a b)) (rw (number_back width, number_back height) refl)
+back (records.Shape head (shapes.Trapezoid width height (deltas.A a))) =
+    shape_back head (shapes.Trapezoid (number_of (number_or width)) (number_of (number_or height)) (deltas.A a))
+    (shapes.Trapezoid width height (deltas.A a)) (rw (number_back width, number_back height) refl)
+back (records.Shape head (shapes.Trapezoid width height (deltas.B b))) =
+    shape_back head (shapes.Trapezoid (number_of (number_or width)) (number_of (number_or height)) (deltas.B b))
+    (shapes.Trapezoid width height (deltas.B b)) (rw (number_back width, number_back height) refl)
+back (records.Shape head (shapes.Ctrapezoid trapezoid_type width height)) =
+    shape_back head (shapes.Ctrapezoid (number_of (number_or trapezoid_type)) (number_of (number_or width)) (number_of (number_or height)))
+    (shapes.Ctrapezoid trapezoid_type width height) (rw (number_back trapezoid_type, number_back width, number_back height) refl)
+back (records.Shape head (shapes.Circle radius)) =
+    shape_back head (shapes.Circle (number_of (number_or radius))) (shapes.Circle radius) (rw (number_back radius) refl)
+back (records.Shape head (shapes.XGeometry attribute text)) =
+    shape_back head (shapes.XGeometry attribute text) (shapes.XGeometry attribute text) refl
 back (records.Property info name count values) = rw (called_back name, number_back count, span_back values) refl
 back records.LastProperty = refl
-back (records.XName attribute text) = refl
-back (records.NumberedXName attribute text number) = refl
+back (records.XName attribute text None) = refl
+back (records.XName attribute text (Some number)) = refl
 back (records.XElement attribute text) = refl
-back (records.XGeometry info attribute layer datatype text x y repetition) = rw
-    (number_back layer, number_back datatype, signed_back x, signed_back y, rep_back repetition) refl
 
 pub same_record : (r s : OasRecord) → id_of r ≡ id_of s → info_of r ≡ info_of s → fields_of r ≡ fields_of s → r ≡ s
 same_record r s id info fields =

@@ -10,3 +10,4 @@ pub mod Taken
 pub mod Plain
 -- ---- what is kept inside
 pub mod Parts
+pub mod Shapes

@@ -1,7 +1,7 @@
 -- A record at an offset of an OASIS file (SEMI P39 1.0, section 7, records): a byte for its id, an info byte where its row
 -- has one, and the fields of its row.
 use Rattle.std.specs.Prelude.{ℕ, ◌+◌, ◌<◌, ◌≡◌, ◌⊎◌, ℤ, Bool, false, IsTrue, nat_lt, if◌then◌else◌, Option, Some, None}
-use Rattle.std.specs.Prelude.{List, [], ◌∷◌, length, map, slice_index, get_or}
+use Rattle.std.specs.Prelude.{List, [], ◌∷◌, ◌++◌, length, map, slice_index, get_or}
 use Rattle.oas_lex.specs.declared.reals.Real.{Real}
 use Rattle.oas_record.specs.Faults.{NoBytes}
 use Rattle.oas_record.specs.Rows.{Field, Absent, IsNumber, IsSigned, IsSpan, IsReal, IsCalled, IsInterval, IsPoints}
@@ -9,12 +9,21 @@ use Rattle.oas_record.specs.Rows.{IsRep, Info, NoInfo, Below, Square, allows, Ro
 use Rattle.oas_record.specs.declared.faults.RecordBad.{RecordBad}
 use Rattle.oas_record.specs.declared.faults.RecordBad.TheVariants as faults
 use Rattle.oas_record.specs.declared.fields.Called.{Called}
+use Rattle.oas_record.specs.declared.fields.Called.TheVariants as called
 use Rattle.oas_record.specs.declared.fields.Deltas.{Deltas}
+use Rattle.oas_record.specs.declared.records.NameKind.{NameKind}
+use Rattle.oas_record.specs.declared.records.NameKind.TheVariants as names
 use Rattle.oas_record.specs.declared.records.OasRecord.{OasRecord}
 use Rattle.oas_record.specs.declared.records.OasRecord.TheVariants as records
+use Rattle.oas_record.specs.declared.records.Turn.{Turn}
 use Rattle.oas_record.specs.declared.repetition.Rep.{Rep}
+use Rattle.oas_record.specs.declared.shapes.ShapeHead.{ShapeHead}
+use Rattle.oas_record.specs.declared.shapes.ShapeKind.{ShapeKind}
+use Rattle.oas_record.specs.declared.shapes.ShapeKind.TheVariants as shapes
+use Rattle.oas_record.specs.declared.shapes.TrapezoidDeltas.{TrapezoidDeltas}
+use Rattle.oas_record.specs.declared.shapes.TrapezoidDeltas.TheVariants as deltas
 
--- ---- the fields of a record in the order of its row
+-- ---- fields
 
 -- a field that may be absent
 abbrev pub perhaps : {A : Type 0} → (A → Field) → Option A → Field
@@ -46,126 +55,121 @@ rep_or r = perhaps IsRep r
 abbrev pub place_of : Option ℤ → Option ℤ → Option Rep → List Field
 place_of x y repetition = signed_or x ∷ signed_or y ∷ rep_or repetition ∷ []
 
+-- ---- the id of a record
+
+-- the id of a record that may have a number at its end: the next id where it has one
+abbrev pub numbered : ℕ → Option ℕ → ℕ
+numbered id None = id
+numbered id (Some number) = id + 1
+
+abbrev pub name_id : NameKind → ℕ
+name_id names.Cell = 3
+name_id names.Text = 5
+name_id names.Property = 7
+name_id names.PropertyString = 9
+
+abbrev pub cell_id : Called → ℕ
+cell_id (called.Number number) = 13
+cell_id (called.Text first next) = 14
+
+abbrev pub placement_id : Option Turn → ℕ
+placement_id None = 17
+placement_id (Some turn) = 18
+
+abbrev pub trapezoid_id : TrapezoidDeltas → ℕ
+trapezoid_id (deltas.Both a b) = 23
+trapezoid_id (deltas.A a) = 24
+trapezoid_id (deltas.B b) = 25
+
+abbrev pub shape_id : ShapeKind → ℕ
+shape_id (shapes.Rectangle width height) = 20
+shape_id (shapes.Polygon points) = 21
+shape_id (shapes.Path half_width extension start end points) = 22
+shape_id (shapes.Trapezoid width height deltas) = trapezoid_id deltas
+shape_id (shapes.Ctrapezoid trapezoid_type width height) = 26
+shape_id (shapes.Circle radius) = 27
+shape_id (shapes.XGeometry attribute text) = 33
+
 abbrev pub id_of : OasRecord → ℕ
 id_of records.Pad = 0
 id_of (records.Start version unit offset_flag tables) = 1
 id_of (records.End tables padding scheme validation) = 2
-id_of (records.CellName name) = 3
-id_of (records.NumberedCellName name number) = 4
-id_of (records.TextString text) = 5
-id_of (records.NumberedTextString text number) = 6
-id_of (records.PropName name) = 7
-id_of (records.NumberedPropName name number) = 8
-id_of (records.PropString text) = 9
-id_of (records.NumberedPropString text number) = 10
-id_of (records.LayerName name layers datatypes) = 11
-id_of (records.TextLayerName name layers datatypes) = 12
-id_of (records.NumberedCell number) = 13
-id_of (records.Cell name) = 14
-id_of records.XyAbsolute = 15
-id_of records.XyRelative = 16
-id_of (records.Placement info cell x y repetition) = 17
-id_of (records.TurnedPlacement info cell magnification angle x y repetition) = 18
+id_of (records.Name kind text number) = numbered (name_id kind) number
+id_of (records.LayerName of_texts name layers datatypes) = if of_texts then 12 else 11
+id_of (records.Cell name) = cell_id name
+id_of (records.Mode is_relative) = if is_relative then 16 else 15
+id_of (records.Placement info cell turn x y repetition) = placement_id turn
 id_of (records.Text info text textlayer texttype x y repetition) = 19
-id_of (records.Rectangle info layer datatype width height x y repetition) = 20
-id_of (records.Polygon info layer datatype points x y repetition) = 21
-id_of (records.Path info layer datatype half_width extension start end points x y repetition) = 22
-id_of (records.Trapezoid info layer datatype width height delta_a delta_b x y repetition) = 23
-id_of (records.TrapezoidA info layer datatype width height delta_a x y repetition) = 24
-id_of (records.TrapezoidB info layer datatype width height delta_b x y repetition) = 25
-id_of (records.Ctrapezoid info layer datatype kind width height x y repetition) = 26
-id_of (records.Circle info layer datatype radius x y repetition) = 27
+id_of (records.Shape head kind) = shape_id kind
 id_of (records.Property info name count values) = 28
 id_of records.LastProperty = 29
-id_of (records.XName attribute text) = 30
-id_of (records.NumberedXName attribute text number) = 31
+id_of (records.XName attribute text number) = numbered 30 number
 id_of (records.XElement attribute text) = 32
-id_of (records.XGeometry info attribute layer datatype text x y repetition) = 33
 
 -- the info byte, 0 where there is none
 abbrev pub info_of : OasRecord → ℕ
-info_of records.Pad = 0
-info_of (records.Start version unit offset_flag tables) = 0
-info_of (records.End tables padding scheme validation) = 0
-info_of (records.CellName name) = 0
-info_of (records.NumberedCellName name number) = 0
-info_of (records.TextString text) = 0
-info_of (records.NumberedTextString text number) = 0
-info_of (records.PropName name) = 0
-info_of (records.NumberedPropName name number) = 0
-info_of (records.PropString text) = 0
-info_of (records.NumberedPropString text number) = 0
-info_of (records.LayerName name layers datatypes) = 0
-info_of (records.TextLayerName name layers datatypes) = 0
-info_of (records.NumberedCell number) = 0
-info_of (records.Cell name) = 0
-info_of records.XyAbsolute = 0
-info_of records.XyRelative = 0
-info_of (records.Placement info cell x y repetition) = info
-info_of (records.TurnedPlacement info cell magnification angle x y repetition) = info
+info_of (records.Placement info cell turn x y repetition) = info
 info_of (records.Text info text textlayer texttype x y repetition) = info
-info_of (records.Rectangle info layer datatype width height x y repetition) = info
-info_of (records.Polygon info layer datatype points x y repetition) = info
-info_of (records.Path info layer datatype half_width extension start end points x y repetition) = info
-info_of (records.Trapezoid info layer datatype width height delta_a delta_b x y repetition) = info
-info_of (records.TrapezoidA info layer datatype width height delta_a x y repetition) = info
-info_of (records.TrapezoidB info layer datatype width height delta_b x y repetition) = info
-info_of (records.Ctrapezoid info layer datatype kind width height x y repetition) = info
-info_of (records.Circle info layer datatype radius x y repetition) = info
+info_of (records.Shape head kind) = head.info
 info_of (records.Property info name count values) = info
-info_of records.LastProperty = 0
-info_of (records.XName attribute text) = 0
-info_of (records.NumberedXName attribute text number) = 0
-info_of (records.XElement attribute text) = 0
-info_of (records.XGeometry info attribute layer datatype text x y repetition) = info
+info_of _ = 0
+
+-- ---- its fields
+
+-- a number at the end of a record
+abbrev pub number_after : Option ℕ → List Field
+number_after None = []
+number_after (Some number) = IsNumber number ∷ []
+
+abbrev pub cell_field : Called → Field
+cell_field (called.Number number) = IsNumber number
+cell_field (called.Text first next) = IsSpan (first, next)
+
+abbrev pub turn_fields : Option Turn → List Field
+turn_fields None = []
+turn_fields (Some turn) = real_or turn.magnification ∷ real_or turn.angle ∷ []
+
+abbrev pub delta_fields : TrapezoidDeltas → List Field
+delta_fields (deltas.Both a b) = IsSigned a ∷ IsSigned b ∷ []
+delta_fields (deltas.A a) = IsSigned a ∷ []
+delta_fields (deltas.B b) = IsSigned b ∷ []
+
+-- the fields of a shape before its layer
+abbrev pub fields_before : ShapeKind → List Field
+fields_before (shapes.XGeometry attribute text) = IsNumber attribute ∷ []
+fields_before _ = []
+
+-- the fields of a shape between its datatype and its place
+abbrev pub own_fields : ShapeKind → List Field
+own_fields (shapes.Rectangle width height) = number_or width ∷ number_or height ∷ []
+own_fields (shapes.Polygon points) = points_or points ∷ []
+own_fields (shapes.Path half_width extension start end points) =
+    number_or half_width ∷ number_or extension ∷ signed_or start ∷ signed_or end ∷ points_or points ∷ []
+own_fields (shapes.Trapezoid width height deltas) = number_or width ∷ number_or height ∷ delta_fields deltas
+own_fields (shapes.Ctrapezoid trapezoid_type width height) = number_or trapezoid_type ∷ number_or width ∷ number_or height ∷ []
+own_fields (shapes.Circle radius) = number_or radius ∷ []
+own_fields (shapes.XGeometry attribute text) = IsSpan text ∷ []
+
+-- the fields of a shape
+abbrev pub shape_fields : ShapeHead → ShapeKind → List Field
+shape_fields head kind = fields_before kind
+    ++ (number_or head.layer ∷ number_or head.datatype ∷ (own_fields kind ++ place_of head.x head.y head.repetition))
 
 abbrev pub fields_of : OasRecord → List Field
 fields_of records.Pad = []
 fields_of (records.Start version unit offset_flag tables) = IsSpan version ∷ IsReal unit ∷ IsNumber offset_flag ∷ span_or tables ∷ []
 fields_of (records.End tables padding scheme validation) = span_or tables ∷ IsSpan padding ∷ IsNumber scheme ∷ span_or validation ∷ []
-fields_of (records.CellName name) = IsSpan name ∷ []
-fields_of (records.NumberedCellName name number) = IsSpan name ∷ IsNumber number ∷ []
-fields_of (records.TextString text) = IsSpan text ∷ []
-fields_of (records.NumberedTextString text number) = IsSpan text ∷ IsNumber number ∷ []
-fields_of (records.PropName name) = IsSpan name ∷ []
-fields_of (records.NumberedPropName name number) = IsSpan name ∷ IsNumber number ∷ []
-fields_of (records.PropString text) = IsSpan text ∷ []
-fields_of (records.NumberedPropString text number) = IsSpan text ∷ IsNumber number ∷ []
-fields_of (records.LayerName name layers datatypes) = IsSpan name ∷ IsInterval layers ∷ IsInterval datatypes ∷ []
-fields_of (records.TextLayerName name layers datatypes) = IsSpan name ∷ IsInterval layers ∷ IsInterval datatypes ∷ []
-fields_of (records.NumberedCell number) = IsNumber number ∷ []
-fields_of (records.Cell name) = IsSpan name ∷ []
-fields_of records.XyAbsolute = []
-fields_of records.XyRelative = []
-fields_of (records.Placement info cell x y repetition) = called_or cell ∷ place_of x y repetition
-fields_of (records.TurnedPlacement info cell magnification angle x y repetition) =
-    called_or cell ∷ real_or magnification ∷ real_or angle ∷ place_of x y repetition
+fields_of (records.Name kind text number) = IsSpan text ∷ number_after number
+fields_of (records.LayerName of_texts name layers datatypes) = IsSpan name ∷ IsInterval layers ∷ IsInterval datatypes ∷ []
+fields_of (records.Cell name) = cell_field name ∷ []
+fields_of (records.Mode is_relative) = []
+fields_of (records.Placement info cell turn x y repetition) = called_or cell ∷ (turn_fields turn ++ place_of x y repetition)
 fields_of (records.Text info text textlayer texttype x y repetition) = called_or text ∷ number_or textlayer ∷ number_or texttype ∷ place_of x y repetition
-fields_of (records.Rectangle info layer datatype width height x y repetition) = number_or layer ∷ number_or datatype
-    ∷ number_or width ∷ number_or height ∷ place_of x y repetition
-fields_of (records.Polygon info layer datatype points x y repetition) = number_or layer ∷ number_or datatype ∷ points_or points ∷ place_of x y repetition
-fields_of (records.Path info layer datatype half_width extension start end points x y repetition) =
-    number_or layer ∷ number_or datatype ∷ number_or half_width ∷ number_or extension ∷ signed_or start ∷ signed_or end
-    ∷ points_or points ∷ place_of x y repetition
-fields_of (records.Trapezoid info layer datatype width height delta_a delta_b x y repetition) =
-    number_or layer ∷ number_or datatype ∷ number_or width ∷ number_or height ∷ IsSigned delta_a ∷ IsSigned delta_b
-    ∷ place_of x y repetition
-fields_of (records.TrapezoidA info layer datatype width height delta_a x y repetition) =
-    number_or layer ∷ number_or datatype ∷ number_or width ∷ number_or height ∷ IsSigned delta_a
-    ∷ place_of x y repetition
-fields_of (records.TrapezoidB info layer datatype width height delta_b x y repetition) =
-    number_or layer ∷ number_or datatype ∷ number_or width ∷ number_or height ∷ IsSigned delta_b
-    ∷ place_of x y repetition
-fields_of (records.Ctrapezoid info layer datatype kind width height x y repetition) =
-    number_or layer ∷ number_or datatype ∷ number_or kind ∷ number_or width ∷ number_or height ∷ place_of x y repetition
-fields_of (records.Circle info layer datatype radius x y repetition) = number_or layer ∷ number_or datatype ∷ number_or radius ∷ place_of x y repetition
+fields_of (records.Shape head kind) = shape_fields head kind
 fields_of (records.Property info name count values) = called_or name ∷ number_or count ∷ span_or values ∷ []
 fields_of records.LastProperty = []
-fields_of (records.XName attribute text) = IsNumber attribute ∷ IsSpan text ∷ []
-fields_of (records.NumberedXName attribute text number) = IsNumber attribute ∷ IsSpan text ∷ IsNumber number ∷ []
+fields_of (records.XName attribute text number) = IsNumber attribute ∷ IsSpan text ∷ number_after number
 fields_of (records.XElement attribute text) = IsNumber attribute ∷ IsSpan text ∷ []
-fields_of (records.XGeometry info attribute layer datatype text x y repetition) = IsNumber attribute ∷ number_or layer
-    ∷ number_or datatype ∷ IsSpan text ∷ place_of x y repetition
 
 -- ---- where it stands
 

@@ -24,7 +24,9 @@ mod records;
 mod repetition;
 mod repetition_readers;
 mod segments;
+mod shape_form;
 mod shape_rows;
+mod shapes;
 mod taking;
 mod values;
 
@@ -33,6 +35,7 @@ pub use fields::{Called, Deltas, Interval};
 pub use laws::record_laws;
 pub use plain::{PlainRectangle, plain_rectangle_at};
 pub use reading::record_at;
-pub use records::OasRecord;
+pub use records::{NameKind, OasRecord, Turn};
 pub use repetition::Rep;
+pub use shapes::{ShapeHead, ShapeKind, TrapezoidDeltas};
 pub use taking::Lists;

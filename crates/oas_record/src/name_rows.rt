@@ -1,154 +1,72 @@
 //! The fields of names and cells.
 
-ghost use Rattle.std.specs.Prelude.{false, ◌≡◌, ◌⊎◌, ◌≤◌, length, IfOk, IfErr};
-ghost use Rattle.oas_record.specs.Parts.{IsOf, NotOf};
+ghost use Rattle.std.specs.Prelude.{false, ◌≡◌, ◌+◌, ◌≤◌, length, if◌then◌else◌, IfOk, IfErr};
+ghost use Rattle.oas_record.specs.Parts.{IsOf, NotOf, layer_name_id};
+ghost use Rattle.oas_record.specs.Records.{name_id};
 
 use crate::faults::RecordBad;
+use crate::fields::Called;
 use crate::lexical::{number_at, text_at};
-use crate::records::OasRecord;
+use crate::records::{NameKind, OasRecord};
 use crate::values::interval_at;
 
-// The rest of a record with id 3, CELLNAME, after its id.
-pub(crate) fn cell_name(bytes: &[u8], at: usize) -> Result<(OasRecord, usize), RecordBad>
+// The rest of a name without its number, after its id: 3, 5, 7 or 9.
+pub(crate) fn name(
+    bytes: &[u8],
+    at: usize,
+    kind: NameKind,
+) -> Result<(OasRecord, usize), RecordBad>
     requires { at ≤ length bytes.now }
-    ensures ok { IfOk result (λ r. IsOf 3 false bytes.now at r.0 r.1) }
-    ensures bad { IfErr result (λ bad. NotOf 3 false bytes.now at bad) }
-    ensures within { IfOk result (λ r. r.1 ≤ length bytes.now) }
-{
-    let name = text_at(bytes, at)?;
-    let record = OasRecord::CellName { name };
-    Ok((record, name.1))
-}
-
-// The rest of a record with id 5, TEXTSTRING, after its id.
-pub(crate) fn text_string(bytes: &[u8], at: usize) -> Result<(OasRecord, usize), RecordBad>
-    requires { at ≤ length bytes.now }
-    ensures ok { IfOk result (λ r. IsOf 5 false bytes.now at r.0 r.1) }
-    ensures bad { IfErr result (λ bad. NotOf 5 false bytes.now at bad) }
+    ensures ok { IfOk result (λ r. IsOf (name_id kind) false bytes.now at r.0 r.1) }
+    ensures bad { IfErr result (λ bad. NotOf (name_id kind) false bytes.now at bad) }
     ensures within { IfOk result (λ r. r.1 ≤ length bytes.now) }
 {
     let text = text_at(bytes, at)?;
-    let record = OasRecord::TextString { text };
+    let record = OasRecord::Name {
+        kind,
+        text,
+        number: None,
+    };
     Ok((record, text.1))
 }
 
-// The rest of a record with id 7, PROPNAME, after its id.
-pub(crate) fn prop_name(bytes: &[u8], at: usize) -> Result<(OasRecord, usize), RecordBad>
+// The rest of a name with its number, after its id: 4, 6, 8 or 10.
+pub(crate) fn numbered_name(
+    bytes: &[u8],
+    at: usize,
+    kind: NameKind,
+) -> Result<(OasRecord, usize), RecordBad>
     requires { at ≤ length bytes.now }
-    ensures ok { IfOk result (λ r. IsOf 7 false bytes.now at r.0 r.1) }
-    ensures bad { IfErr result (λ bad. NotOf 7 false bytes.now at bad) }
-    ensures within { IfOk result (λ r. r.1 ≤ length bytes.now) }
-{
-    let name = text_at(bytes, at)?;
-    let record = OasRecord::PropName { name };
-    Ok((record, name.1))
-}
-
-// The rest of a record with id 9, PROPSTRING, after its id.
-pub(crate) fn prop_string(bytes: &[u8], at: usize) -> Result<(OasRecord, usize), RecordBad>
-    requires { at ≤ length bytes.now }
-    ensures ok { IfOk result (λ r. IsOf 9 false bytes.now at r.0 r.1) }
-    ensures bad { IfErr result (λ bad. NotOf 9 false bytes.now at bad) }
-    ensures within { IfOk result (λ r. r.1 ≤ length bytes.now) }
-{
-    let text = text_at(bytes, at)?;
-    let record = OasRecord::PropString { text };
-    Ok((record, text.1))
-}
-
-// The rest of a record with id 14, CELL by its name, after its id.
-pub(crate) fn cell(bytes: &[u8], at: usize) -> Result<(OasRecord, usize), RecordBad>
-    requires { at ≤ length bytes.now }
-    ensures ok { IfOk result (λ r. IsOf 14 false bytes.now at r.0 r.1) }
-    ensures bad { IfErr result (λ bad. NotOf 14 false bytes.now at bad) }
-    ensures within { IfOk result (λ r. r.1 ≤ length bytes.now) }
-{
-    let name = text_at(bytes, at)?;
-    let record = OasRecord::Cell { name };
-    Ok((record, name.1))
-}
-
-// The rest of a record with id 4, CELLNAME with its number, after its id.
-pub(crate) fn numbered_cell_name(bytes: &[u8], at: usize) -> Result<(OasRecord, usize), RecordBad>
-    requires { at ≤ length bytes.now }
-    ensures ok { IfOk result (λ r. IsOf 4 false bytes.now at r.0 r.1) }
-    ensures bad { IfErr result (λ bad. NotOf 4 false bytes.now at bad) }
-    ensures within { IfOk result (λ r. r.1 ≤ length bytes.now) }
-{
-    let name = text_at(bytes, at)?;
-    let (number, next) = number_at(bytes, name.1)?;
-    let record = OasRecord::NumberedCellName { name, number };
-    Ok((record, next))
-}
-
-// The rest of a record with id 6, TEXTSTRING with its number, after its id.
-pub(crate) fn numbered_text_string(bytes: &[u8], at: usize) -> Result<(OasRecord, usize), RecordBad>
-    requires { at ≤ length bytes.now }
-    ensures ok { IfOk result (λ r. IsOf 6 false bytes.now at r.0 r.1) }
-    ensures bad { IfErr result (λ bad. NotOf 6 false bytes.now at bad) }
+    ensures ok { IfOk result (λ r. IsOf (name_id kind + 1) false bytes.now at r.0 r.1) }
+    ensures bad { IfErr result (λ bad. NotOf (name_id kind + 1) false bytes.now at bad) }
     ensures within { IfOk result (λ r. r.1 ≤ length bytes.now) }
 {
     let text = text_at(bytes, at)?;
     let (number, next) = number_at(bytes, text.1)?;
-    let record = OasRecord::NumberedTextString { text, number };
+    let record = OasRecord::Name {
+        kind,
+        text,
+        number: Some(number),
+    };
     Ok((record, next))
 }
 
-// The rest of a record with id 8, PROPNAME with its number, after its id.
-pub(crate) fn numbered_prop_name(bytes: &[u8], at: usize) -> Result<(OasRecord, usize), RecordBad>
+// The rest of a LAYERNAME, after its id: 11, or 12 for texts.
+pub(crate) fn layer_name(
+    bytes: &[u8],
+    at: usize,
+    of_texts: bool,
+) -> Result<(OasRecord, usize), RecordBad>
     requires { at ≤ length bytes.now }
-    ensures ok { IfOk result (λ r. IsOf 8 false bytes.now at r.0 r.1) }
-    ensures bad { IfErr result (λ bad. NotOf 8 false bytes.now at bad) }
-    ensures within { IfOk result (λ r. r.1 ≤ length bytes.now) }
-{
-    let name = text_at(bytes, at)?;
-    let (number, next) = number_at(bytes, name.1)?;
-    let record = OasRecord::NumberedPropName { name, number };
-    Ok((record, next))
-}
-
-// The rest of a record with id 10, PROPSTRING with its number, after its id.
-pub(crate) fn numbered_prop_string(bytes: &[u8], at: usize) -> Result<(OasRecord, usize), RecordBad>
-    requires { at ≤ length bytes.now }
-    ensures ok { IfOk result (λ r. IsOf 10 false bytes.now at r.0 r.1) }
-    ensures bad { IfErr result (λ bad. NotOf 10 false bytes.now at bad) }
-    ensures within { IfOk result (λ r. r.1 ≤ length bytes.now) }
-{
-    let text = text_at(bytes, at)?;
-    let (number, next) = number_at(bytes, text.1)?;
-    let record = OasRecord::NumberedPropString { text, number };
-    Ok((record, next))
-}
-
-// The rest of a record with id 11, LAYERNAME for geometry, after its id.
-pub(crate) fn layer_name(bytes: &[u8], at: usize) -> Result<(OasRecord, usize), RecordBad>
-    requires { at ≤ length bytes.now }
-    ensures ok { IfOk result (λ r. IsOf 11 false bytes.now at r.0 r.1) }
-    ensures bad { IfErr result (λ bad. NotOf 11 false bytes.now at bad) }
+    ensures ok { IfOk result (λ r. IsOf (layer_name_id of_texts) false bytes.now at r.0 r.1) }
+    ensures bad { IfErr result (λ bad. NotOf (layer_name_id of_texts) false bytes.now at bad) }
     ensures within { IfOk result (λ r. r.1 ≤ length bytes.now) }
 {
     let name = text_at(bytes, at)?;
     let (layers, third) = interval_at(bytes, name.1)?;
     let (datatypes, next) = interval_at(bytes, third)?;
     let record = OasRecord::LayerName {
-        name,
-        layers,
-        datatypes,
-    };
-    Ok((record, next))
-}
-
-// The rest of a record with id 12, LAYERNAME for texts, after its id.
-pub(crate) fn text_layer_name(bytes: &[u8], at: usize) -> Result<(OasRecord, usize), RecordBad>
-    requires { at ≤ length bytes.now }
-    ensures ok { IfOk result (λ r. IsOf 12 false bytes.now at r.0 r.1) }
-    ensures bad { IfErr result (λ bad. NotOf 12 false bytes.now at bad) }
-    ensures within { IfOk result (λ r. r.1 ≤ length bytes.now) }
-{
-    let name = text_at(bytes, at)?;
-    let (layers, third) = interval_at(bytes, name.1)?;
-    let (datatypes, next) = interval_at(bytes, third)?;
-    let record = OasRecord::TextLayerName {
+        of_texts,
         name,
         layers,
         datatypes,
@@ -164,8 +82,20 @@ pub(crate) fn numbered_cell(bytes: &[u8], at: usize) -> Result<(OasRecord, usize
     ensures within { IfOk result (λ r. r.1 ≤ length bytes.now) }
 {
     let (number, next) = number_at(bytes, at)?;
-    let record = OasRecord::NumberedCell { number };
+    let record = OasRecord::Cell(Called::Number(number));
     Ok((record, next))
+}
+
+// The rest of a record with id 14, CELL by its name, after its id.
+pub(crate) fn cell(bytes: &[u8], at: usize) -> Result<(OasRecord, usize), RecordBad>
+    requires { at ≤ length bytes.now }
+    ensures ok { IfOk result (λ r. IsOf 14 false bytes.now at r.0 r.1) }
+    ensures bad { IfErr result (λ bad. NotOf 14 false bytes.now at bad) }
+    ensures within { IfOk result (λ r. r.1 ≤ length bytes.now) }
+{
+    let name = text_at(bytes, at)?;
+    let record = OasRecord::Cell(Called::Text(name.0, name.1));
+    Ok((record, name.1))
 }
 
 // The rest of a record with id 30, XNAME, after its id.
@@ -177,7 +107,11 @@ pub(crate) fn xname(bytes: &[u8], at: usize) -> Result<(OasRecord, usize), Recor
 {
     let (attribute, second) = number_at(bytes, at)?;
     let text = text_at(bytes, second)?;
-    let record = OasRecord::XName { attribute, text };
+    let record = OasRecord::XName {
+        attribute,
+        text,
+        number: None,
+    };
     Ok((record, text.1))
 }
 
@@ -191,10 +125,10 @@ pub(crate) fn numbered_xname(bytes: &[u8], at: usize) -> Result<(OasRecord, usiz
     let (attribute, second) = number_at(bytes, at)?;
     let text = text_at(bytes, second)?;
     let (number, next) = number_at(bytes, text.1)?;
-    let record = OasRecord::NumberedXName {
+    let record = OasRecord::XName {
         attribute,
         text,
-        number,
+        number: Some(number),
     };
     Ok((record, next))
 }

@@ -1,45 +1,73 @@
 //! The fields of paths.
 
-ghost use Rattle.std.specs.Prelude.{false, ◌≡◌, ◌⊎◌, ◌≤◌, length, IfOk, IfErr};
+ghost use Rattle.std.specs.Prelude.{[], ◌≡◌, ◌∷◌, ◌≤◌, length, IfOk, IfErr};
 ghost use Rattle.geo_stream.specs.Refusals.{IfFault};
-ghost use Rattle.oas_record.specs.Parts.{IsOf, NotOf};
+ghost use Rattle.oas_record.specs.Records.{number_or, signed_or};
+ghost use Rattle.oas_record.specs.Rows.{HasFields, NoFields, with_extension};
+ghost use Rattle.oas_record.specs.Shapes.{HasOwn, end_parts, own_parts, width_parts};
+ghost use Rattle.oas_record.specs.declared.shape_form.ShapeForm.TheVariants.{Path};
 
-use crate::extensions::{end_at, extension_where, path_place_at, path_points_at, start_at};
+use crate::extensions::{end_at, extension_where, path_points_at, start_at};
 use crate::faults::RecordBad;
-use crate::info::info_at;
 use crate::optional::number_where;
-use crate::records::OasRecord;
-use crate::segments::pair_at;
+use crate::shapes::ShapeKind;
 use geo_stream::Refusal;
 use std::alloc::Global;
 
-// The rest of a record with id 22, PATH, after its id.
-pub(crate) fn path(alloc: Global, bytes: &[u8], at: usize) -> Result<(OasRecord, usize), Refusal<RecordBad>>
+// The half-width and the extension byte, by bits 6 and 7, and the offset after them.
+fn width_at(
+    bytes: &[u8],
+    at: usize,
+    info: u8,
+) -> Result<(Option<u64>, Option<u8>, usize), RecordBad>
     requires { at ≤ length bytes.now }
-    ensures ok { IfOk result (λ r. IsOf 22 false bytes.now at r.0 r.1) }
-    ensures bad { IfFault result (λ bad. NotOf 22 false bytes.now at bad) }
+    ensures ok { IfOk result (λ r. HasFields width_parts info bytes.now at (number_or r.0 ∷ number_or r.1 ∷ []) r.2) }
+    ensures bad { IfErr result (λ bad. NoFields width_parts info bytes.now at bad) }
+    ensures within { IfOk result (λ r. r.2 ≤ length bytes.now) }
+{
+    let (half_width, second) = number_where(bytes, at, info, 6)?;
+    let (extension, next) = extension_where(bytes, second, info)?;
+    Ok((half_width, extension, next))
+}
+
+// The extensions at the start and at the end, where their schemes are 3, and the offset after them.
+fn ends_at(
+    bytes: &[u8],
+    at: usize,
+    info: u8,
+    extension: Option<u8>,
+) -> Result<(Option<i64>, Option<i64>, usize), RecordBad>
+    requires { at ≤ length bytes.now }
+    ensures ok { IfOk result (λ r. HasFields end_parts (with_extension (number_or extension) info) bytes.now at (signed_or r.0 ∷ signed_or r.1 ∷ []) r.2) }
+    ensures bad { IfErr result (λ bad. NoFields end_parts (with_extension (number_or extension) info) bytes.now at bad) }
+    ensures within { IfOk result (λ r. r.2 ≤ length bytes.now) }
+{
+    let (start, second) = start_at(bytes, at, info, extension)?;
+    let (end, next) = end_at(bytes, second, info, extension)?;
+    Ok((start, end, next))
+}
+
+// The fields of a PATH between its datatype and its place, and the offset after them.
+pub(crate) fn path_at(
+    alloc: Global,
+    bytes: &[u8],
+    at: usize,
+    info: u8,
+) -> Result<(ShapeKind, usize), Refusal<RecordBad>>
+    requires { at ≤ length bytes.now }
+    ensures ok { IfOk result (λ r. HasOwn Path info bytes.now at r.0 r.1) }
+    ensures bad { IfFault result (λ bad. NoFields (own_parts Path) info bytes.now at bad) }
     ensures within { IfOk result (λ r. r.1 ≤ length bytes.now) }
 {
-    let info = info_at(bytes, at, 256)?;
-    let (layer, datatype, second) = pair_at(bytes, at + 1, info)?;
-    let (half_width, third) = number_where(bytes, second, info, 6)?;
-    let (extension, fourth) = extension_where(bytes, third, info)?;
-    let (start, fifth) = start_at(bytes, fourth, info, extension)?;
-    let (end, sixth) = end_at(bytes, fifth, info, extension)?;
-    let (points, seventh) = path_points_at(alloc, bytes, sixth, info, extension)?;
-    let (x, y, repetition, next) = path_place_at(alloc, bytes, seventh, info, extension)?;
-    let record = OasRecord::Path {
-        info,
-        layer,
-        datatype,
+    let (half_width, extension, second) = width_at(bytes, at, info)?;
+    let (start, end, third) = ends_at(bytes, second, info, extension)?;
+    let (points, next) = path_points_at(alloc, bytes, third, info, extension)?;
+    let kind = ShapeKind::Path {
         half_width,
         extension,
         start,
         end,
         points,
-        x,
-        y,
-        repetition,
     };
-    Ok((record, next))
+    Ok((kind, next))
 }

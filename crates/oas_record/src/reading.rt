@@ -12,17 +12,13 @@ use crate::faults::RecordBad;
 use crate::file_rows::{end, start};
 use crate::lexical::byte_at;
 use crate::name_rows::{
-    cell, cell_name, layer_name, numbered_cell, numbered_cell_name, numbered_prop_name,
-    numbered_prop_string, numbered_text_string, numbered_xname, prop_name, prop_string,
-    text_layer_name, text_string, xelement, xname,
+    cell, layer_name, name, numbered_cell, numbered_name, numbered_xname, xelement, xname,
 };
-use crate::path_rows::path;
-use crate::placement_rows::{placement, text_record, turned_placement};
+use crate::placement_rows::{placement, text_record};
 use crate::property_rows::property;
-use crate::records::OasRecord;
-use crate::shape_rows::{
-    circle, ctrapezoid, polygon, rectangle, trapezoid, trapezoid_a, trapezoid_b, xgeometry,
-};
+use crate::records::{NameKind, OasRecord};
+use crate::shape_form::ShapeForm;
+use crate::shape_rows::{shape, xgeometry};
 use geo_stream::Refusal;
 use std::alloc::Global;
 
@@ -43,31 +39,31 @@ fn rest_at(
         0 => Ok((OasRecord::Pad, at)),
         1 => Ok(start(bytes, at)?),
         2 => Ok(end(bytes, at, tables)?),
-        3 => Ok(cell_name(bytes, at)?),
-        4 => Ok(numbered_cell_name(bytes, at)?),
-        5 => Ok(text_string(bytes, at)?),
-        6 => Ok(numbered_text_string(bytes, at)?),
-        7 => Ok(prop_name(bytes, at)?),
-        8 => Ok(numbered_prop_name(bytes, at)?),
-        9 => Ok(prop_string(bytes, at)?),
-        10 => Ok(numbered_prop_string(bytes, at)?),
-        11 => Ok(layer_name(bytes, at)?),
-        12 => Ok(text_layer_name(bytes, at)?),
+        3 => Ok(name(bytes, at, NameKind::Cell)?),
+        4 => Ok(numbered_name(bytes, at, NameKind::Cell)?),
+        5 => Ok(name(bytes, at, NameKind::Text)?),
+        6 => Ok(numbered_name(bytes, at, NameKind::Text)?),
+        7 => Ok(name(bytes, at, NameKind::Property)?),
+        8 => Ok(numbered_name(bytes, at, NameKind::Property)?),
+        9 => Ok(name(bytes, at, NameKind::PropertyString)?),
+        10 => Ok(numbered_name(bytes, at, NameKind::PropertyString)?),
+        11 => Ok(layer_name(bytes, at, false)?),
+        12 => Ok(layer_name(bytes, at, true)?),
         13 => Ok(numbered_cell(bytes, at)?),
         14 => Ok(cell(bytes, at)?),
-        15 => Ok((OasRecord::XyAbsolute, at)),
-        16 => Ok((OasRecord::XyRelative, at)),
-        17 => placement(alloc, bytes, at),
-        18 => turned_placement(alloc, bytes, at),
+        15 => Ok((OasRecord::Mode { is_relative: false }, at)),
+        16 => Ok((OasRecord::Mode { is_relative: true }, at)),
+        17 => placement(alloc, bytes, at, false),
+        18 => placement(alloc, bytes, at, true),
         19 => text_record(alloc, bytes, at),
-        20 => rectangle(alloc, bytes, at),
-        21 => polygon(alloc, bytes, at),
-        22 => path(alloc, bytes, at),
-        23 => trapezoid(alloc, bytes, at),
-        24 => trapezoid_a(alloc, bytes, at),
-        25 => trapezoid_b(alloc, bytes, at),
-        26 => ctrapezoid(alloc, bytes, at),
-        27 => circle(alloc, bytes, at),
+        20 => shape(alloc, bytes, at, ShapeForm::Rectangle),
+        21 => shape(alloc, bytes, at, ShapeForm::Polygon),
+        22 => shape(alloc, bytes, at, ShapeForm::Path),
+        23 => shape(alloc, bytes, at, ShapeForm::Trapezoid),
+        24 => shape(alloc, bytes, at, ShapeForm::TrapezoidA),
+        25 => shape(alloc, bytes, at, ShapeForm::TrapezoidB),
+        26 => shape(alloc, bytes, at, ShapeForm::Ctrapezoid),
+        27 => shape(alloc, bytes, at, ShapeForm::Circle),
         28 => Ok(property(bytes, at)?),
         29 => Ok((OasRecord::LastProperty, at)),
         30 => Ok(xname(bytes, at)?),

@@ -1,12 +1,35 @@
-//! Records, one variant an id.
+//! Records.
 
-use crate::fields::{Called, Deltas, Interval};
+use crate::fields::{Called, Interval};
 use crate::repetition::Rep;
+use crate::shapes::{ShapeHead, ShapeKind};
 use oas_lex::Real;
 
-/// A record with its written and its absent fields, in the order in which they are written. Numbers and moves are in grid
-/// steps. Strings, table offsets, validation bytes and the values of a property are the two offsets between which their
-/// bytes are. An absent field is None: its bit of the info byte is clear.
+/// What a name record names.
+#[derive(Clone, Copy, Debug, PartialEq, Eq)]
+pub enum NameKind {
+    /// Ids 3 and 4, CELLNAME.
+    Cell,
+    /// Ids 5 and 6, TEXTSTRING.
+    Text,
+    /// Ids 7 and 8, PROPNAME.
+    Property,
+    /// Ids 9 and 10, PROPSTRING.
+    PropertyString,
+}
+
+/// The magnification and the angle of a PLACEMENT with id 18.
+#[derive(Clone, Copy, Debug, PartialEq, Eq)]
+pub struct Turn {
+    /// The magnification.
+    pub magnification: Option<Real>,
+    /// The angle, in degrees.
+    pub angle: Option<Real>,
+}
+
+/// A record with its written and its absent fields. Numbers and moves are in grid steps. Strings, table offsets,
+/// validation bytes and the values of a property are the two offsets between which their bytes are. An absent field is
+/// None: its bit of the info byte is clear.
 #[derive(Debug)]
 pub enum OasRecord {
     /// Id 0, PAD.
@@ -26,80 +49,30 @@ pub enum OasRecord {
         scheme: u64,
         validation: Option<(usize, usize)>,
     },
-    /// Id 3, CELLNAME.
-    CellName {
-        name: (usize, usize),
-    },
-    /// Id 4, CELLNAME with its number.
-    NumberedCellName {
-        name: (usize, usize),
-        number: u64,
-    },
-    /// Id 5, TEXTSTRING.
-    TextString {
+    /// Ids 3 to 10, by what is named. The even ids have a number.
+    Name {
+        kind: NameKind,
         text: (usize, usize),
+        number: Option<u64>,
     },
-    /// Id 6, TEXTSTRING with its number.
-    NumberedTextString {
-        text: (usize, usize),
-        number: u64,
-    },
-    /// Id 7, PROPNAME.
-    PropName {
-        name: (usize, usize),
-    },
-    /// Id 8, PROPNAME with its number.
-    NumberedPropName {
-        name: (usize, usize),
-        number: u64,
-    },
-    /// Id 9, PROPSTRING.
-    PropString {
-        text: (usize, usize),
-    },
-    /// Id 10, PROPSTRING with its number.
-    NumberedPropString {
-        text: (usize, usize),
-        number: u64,
-    },
-    /// Id 11, LAYERNAME for geometry.
+    /// Ids 11 and 12, LAYERNAME for geometry and for texts.
     LayerName {
+        of_texts: bool,
         name: (usize, usize),
         layers: Interval,
         datatypes: Interval,
     },
-    /// Id 12, LAYERNAME for texts.
-    TextLayerName {
-        name: (usize, usize),
-        layers: Interval,
-        datatypes: Interval,
+    /// Ids 13 and 14, CELL by the number of its name and by its name.
+    Cell(Called),
+    /// Ids 15 and 16, XYABSOLUTE and XYRELATIVE.
+    Mode {
+        is_relative: bool,
     },
-    /// Id 13, CELL by the number of its name.
-    NumberedCell {
-        number: u64,
-    },
-    /// Id 14, CELL by its name.
-    Cell {
-        name: (usize, usize),
-    },
-    /// Id 15, XYABSOLUTE.
-    XyAbsolute,
-    /// Id 16, XYRELATIVE.
-    XyRelative,
-    /// Id 17, PLACEMENT at a multiple of 90 degrees.
+    /// Id 17, PLACEMENT at a multiple of 90 degrees, and id 18, with a magnification and an angle.
     Placement {
         info: u8,
         cell: Option<Called>,
-        x: Option<i64>,
-        y: Option<i64>,
-        repetition: Option<Rep>,
-    },
-    /// Id 18, PLACEMENT with a magnification and an angle.
-    TurnedPlacement {
-        info: u8,
-        cell: Option<Called>,
-        magnification: Option<Real>,
-        angle: Option<Real>,
+        turn: Option<Turn>,
         x: Option<i64>,
         y: Option<i64>,
         repetition: Option<Rep>,
@@ -114,100 +87,10 @@ pub enum OasRecord {
         y: Option<i64>,
         repetition: Option<Rep>,
     },
-    /// Id 20, RECTANGLE.
-    Rectangle {
-        info: u8,
-        layer: Option<u64>,
-        datatype: Option<u64>,
-        width: Option<u64>,
-        height: Option<u64>,
-        x: Option<i64>,
-        y: Option<i64>,
-        repetition: Option<Rep>,
-    },
-    /// Id 21, POLYGON.
-    Polygon {
-        info: u8,
-        layer: Option<u64>,
-        datatype: Option<u64>,
-        points: Option<Deltas>,
-        x: Option<i64>,
-        y: Option<i64>,
-        repetition: Option<Rep>,
-    },
-    /// Id 22, PATH. Bits 2 and 3 of the extension byte are the scheme at the start, bits 0 and 1 at the end; an extension
-    /// is written where its scheme is 3.
-    Path {
-        info: u8,
-        layer: Option<u64>,
-        datatype: Option<u64>,
-        half_width: Option<u64>,
-        extension: Option<u8>,
-        start: Option<i64>,
-        end: Option<i64>,
-        points: Option<Deltas>,
-        x: Option<i64>,
-        y: Option<i64>,
-        repetition: Option<Rep>,
-    },
-    /// Id 23, TRAPEZOID with both deltas.
-    Trapezoid {
-        info: u8,
-        layer: Option<u64>,
-        datatype: Option<u64>,
-        width: Option<u64>,
-        height: Option<u64>,
-        delta_a: i64,
-        delta_b: i64,
-        x: Option<i64>,
-        y: Option<i64>,
-        repetition: Option<Rep>,
-    },
-    /// Id 24, TRAPEZOID with delta a alone.
-    TrapezoidA {
-        info: u8,
-        layer: Option<u64>,
-        datatype: Option<u64>,
-        width: Option<u64>,
-        height: Option<u64>,
-        delta_a: i64,
-        x: Option<i64>,
-        y: Option<i64>,
-        repetition: Option<Rep>,
-    },
-    /// Id 25, TRAPEZOID with delta b alone.
-    TrapezoidB {
-        info: u8,
-        layer: Option<u64>,
-        datatype: Option<u64>,
-        width: Option<u64>,
-        height: Option<u64>,
-        delta_b: i64,
-        x: Option<i64>,
-        y: Option<i64>,
-        repetition: Option<Rep>,
-    },
-    /// Id 26, CTRAPEZOID. The kind is 0 to 25.
-    Ctrapezoid {
-        info: u8,
-        layer: Option<u64>,
-        datatype: Option<u64>,
-        kind: Option<u64>,
-        width: Option<u64>,
-        height: Option<u64>,
-        x: Option<i64>,
-        y: Option<i64>,
-        repetition: Option<Rep>,
-    },
-    /// Id 27, CIRCLE.
-    Circle {
-        info: u8,
-        layer: Option<u64>,
-        datatype: Option<u64>,
-        radius: Option<u64>,
-        x: Option<i64>,
-        y: Option<i64>,
-        repetition: Option<Rep>,
+    /// Ids 20 to 27 and 33: a shape.
+    Shape {
+        head: ShapeHead,
+        kind: ShapeKind,
     },
     /// Id 28, PROPERTY.
     Property {
@@ -218,32 +101,16 @@ pub enum OasRecord {
     },
     /// Id 29, the last PROPERTY again.
     LastProperty,
-    /// Id 30, XNAME.
+    /// Ids 30 and 31, XNAME. Id 31 has a number.
     XName {
         attribute: u64,
         text: (usize, usize),
-    },
-    /// Id 31, XNAME with its number.
-    NumberedXName {
-        attribute: u64,
-        text: (usize, usize),
-        number: u64,
+        number: Option<u64>,
     },
     /// Id 32, XELEMENT.
     XElement {
         attribute: u64,
         text: (usize, usize),
-    },
-    /// Id 33, XGEOMETRY.
-    XGeometry {
-        info: u8,
-        attribute: u64,
-        layer: Option<u64>,
-        datatype: Option<u64>,
-        text: (usize, usize),
-        x: Option<i64>,
-        y: Option<i64>,
-        repetition: Option<Rep>,
     },
 }
 
@@ -264,40 +131,23 @@ impl Drop for OasRecord {
                 scheme: _,
                 validation: _,
             } => (),
-            OasRecord::CellName { name: _ } => (),
-            OasRecord::NumberedCellName { name: _, number: _ } => (),
-            OasRecord::TextString { text: _ } => (),
-            OasRecord::NumberedTextString { text: _, number: _ } => (),
-            OasRecord::PropName { name: _ } => (),
-            OasRecord::NumberedPropName { name: _, number: _ } => (),
-            OasRecord::PropString { text: _ } => (),
-            OasRecord::NumberedPropString { text: _, number: _ } => (),
+            OasRecord::Name {
+                kind: _,
+                text: _,
+                number: _,
+            } => (),
             OasRecord::LayerName {
+                of_texts: _,
                 name: _,
                 layers: _,
                 datatypes: _,
             } => (),
-            OasRecord::TextLayerName {
-                name: _,
-                layers: _,
-                datatypes: _,
-            } => (),
-            OasRecord::NumberedCell { number: _ } => (),
-            OasRecord::Cell { name: _ } => (),
-            OasRecord::XyAbsolute => (),
-            OasRecord::XyRelative => (),
+            OasRecord::Cell(_) => (),
+            OasRecord::Mode { is_relative: _ } => (),
             OasRecord::Placement {
                 info: _,
                 cell: _,
-                x: _,
-                y: _,
-                repetition: _,
-            } => (),
-            OasRecord::TurnedPlacement {
-                info: _,
-                cell: _,
-                magnification: _,
-                angle: _,
+                turn: _,
                 x: _,
                 y: _,
                 repetition: _,
@@ -311,92 +161,7 @@ impl Drop for OasRecord {
                 y: _,
                 repetition: _,
             } => (),
-            OasRecord::Rectangle {
-                info: _,
-                layer: _,
-                datatype: _,
-                width: _,
-                height: _,
-                x: _,
-                y: _,
-                repetition: _,
-            } => (),
-            OasRecord::Polygon {
-                info: _,
-                layer: _,
-                datatype: _,
-                points: _,
-                x: _,
-                y: _,
-                repetition: _,
-            } => (),
-            OasRecord::Path {
-                info: _,
-                layer: _,
-                datatype: _,
-                half_width: _,
-                extension: _,
-                start: _,
-                end: _,
-                points: _,
-                x: _,
-                y: _,
-                repetition: _,
-            } => (),
-            OasRecord::Trapezoid {
-                info: _,
-                layer: _,
-                datatype: _,
-                width: _,
-                height: _,
-                delta_a: _,
-                delta_b: _,
-                x: _,
-                y: _,
-                repetition: _,
-            } => (),
-            OasRecord::TrapezoidA {
-                info: _,
-                layer: _,
-                datatype: _,
-                width: _,
-                height: _,
-                delta_a: _,
-                x: _,
-                y: _,
-                repetition: _,
-            } => (),
-            OasRecord::TrapezoidB {
-                info: _,
-                layer: _,
-                datatype: _,
-                width: _,
-                height: _,
-                delta_b: _,
-                x: _,
-                y: _,
-                repetition: _,
-            } => (),
-            OasRecord::Ctrapezoid {
-                info: _,
-                layer: _,
-                datatype: _,
-                kind: _,
-                width: _,
-                height: _,
-                x: _,
-                y: _,
-                repetition: _,
-            } => (),
-            OasRecord::Circle {
-                info: _,
-                layer: _,
-                datatype: _,
-                radius: _,
-                x: _,
-                y: _,
-                repetition: _,
-            } => (),
+            OasRecord::Shape { head: _, kind: _ } => (),
             OasRecord::Property {
                 info: _,
                 name: _,
@@ -407,25 +172,11 @@ impl Drop for OasRecord {
             OasRecord::XName {
                 attribute: _,
                 text: _,
-            } => (),
-            OasRecord::NumberedXName {
-                attribute: _,
-                text: _,
                 number: _,
             } => (),
             OasRecord::XElement {
                 attribute: _,
                 text: _,
-            } => (),
-            OasRecord::XGeometry {
-                info: _,
-                attribute: _,
-                layer: _,
-                datatype: _,
-                text: _,
-                x: _,
-                y: _,
-                repetition: _,
             } => (),
         }
     }

@@ -1,10 +1,11 @@
 //! The lists of a record.
 ghost use Rattle.std.specs.Prelude.{◌≡◌, None as Nothing};
-ghost use Rattle.oas_record.specs.Taken.{polygon_points_in, path_points_in, repetition_in};
+ghost use Rattle.oas_record.specs.Taken.{polygon_points_in, polygon_points_of, path_points_in, path_points_of, repetition_in};
 
 use crate::fields::Deltas;
 use crate::records::OasRecord;
 use crate::repetition::Rep;
+use crate::shapes::ShapeKind;
 
 /// The point list and the repetition of a record, moved out of it.
 #[derive(Debug, Drop)]
@@ -30,6 +31,27 @@ fn repeated(repetition: Option<Rep>) -> Lists
     }
 }
 
+// The lists of a shape, of which the repetition is taken.
+fn lists_of_shape(repetition: Option<Rep>, kind: &mut ShapeKind) -> Lists
+    ensures polygon_points { result.polygon_points ≡ polygon_points_of kind.old }
+    ensures path_points { result.path_points ≡ path_points_of kind.old }
+    ensures repetition { result.repetition ≡ repetition }
+{
+    match kind {
+        ShapeKind::Polygon { points } => Lists {
+            polygon_points: points.take(),
+            path_points: None,
+            repetition,
+        },
+        ShapeKind::Path { points, .. } => Lists {
+            polygon_points: None,
+            path_points: points.take(),
+            repetition,
+        },
+        _ => repeated(repetition),
+    }
+}
+
 impl OasRecord {
     /// The lists of the record, which has none then. Nothing is copied.
     pub fn take_lists(&mut self) -> Lists
@@ -38,34 +60,9 @@ impl OasRecord {
         ensures repetition { result.repetition ≡ repetition_in self.old }
     {
         match self {
-            OasRecord::Polygon {
-                points,
-                repetition,
-                ..
-            } => Lists {
-                polygon_points: points.take(),
-                path_points: None,
-                repetition: repetition.take(),
-            },
-            OasRecord::Path {
-                points,
-                repetition,
-                ..
-            } => Lists {
-                polygon_points: None,
-                path_points: points.take(),
-                repetition: repetition.take(),
-            },
             OasRecord::Placement { repetition, .. } => repeated(repetition.take()),
-            OasRecord::TurnedPlacement { repetition, .. } => repeated(repetition.take()),
             OasRecord::Text { repetition, .. } => repeated(repetition.take()),
-            OasRecord::Rectangle { repetition, .. } => repeated(repetition.take()),
-            OasRecord::Trapezoid { repetition, .. } => repeated(repetition.take()),
-            OasRecord::TrapezoidA { repetition, .. } => repeated(repetition.take()),
-            OasRecord::TrapezoidB { repetition, .. } => repeated(repetition.take()),
-            OasRecord::Ctrapezoid { repetition, .. } => repeated(repetition.take()),
-            OasRecord::Circle { repetition, .. } => repeated(repetition.take()),
-            OasRecord::XGeometry { repetition, .. } => repeated(repetition.take()),
+            OasRecord::Shape { head, kind } => lists_of_shape(head.repetition.take(), kind),
             _ => repeated(None),
         }
     }

@@ -1,100 +1,57 @@
-use Rattle.std.proofs.Common.{refl, [], ◌∷◌, ◌++◌, ◌+◌, inl, inr}
+use Rattle.std.proofs.Common.{refl, [], ◌∷◌, inl, inr}
 use Rattle.oas_record.specs.Parts.{parts_at}
 use Rattle.oas_record.specs.Records.{number_or, called_or, place_of}
-use Rattle.oas_record.specs.Rows.{Number, NameBy, Bit, Below, when, place}
+use Rattle.oas_record.specs.Rows.{Below, pair, place}
 use Rattle.oas_record.proofs.Joins.{joined, fails_first, fails_then, info_refused, fields_refused}
 use Rattle.oas_record.proofs.Refusals.{handed_on, fault_or}
 use Rattle.oas_record.proofs.placement_rows.text_record.Goals as goal
 
 pub returns-clause-ok : goal.returns-clause-ok
-returns-clause-ok c =
-    record {
-      id_is = refl;
-      row = record {
-        within = c.in_ok-info.ensures.there;
-        byte = c.in_ok-info.ensures.ok;
-        allowed = c.in_ok-info.ensures.allowed;
-        fields_stand = (joined (when (Bit 6) (NameBy 5) ∷ [])
-            ((when (Bit 0) Number ∷ []) ++ ((when (Bit 1) Number ∷ []) ++ place)) c.in_ok-info.info c.in_ok-info.info
-            c.args.bytes.now (c.args.at + 1) (called_or c.in_ok-text.text ∷ [])
-            ((number_or c.in_ok-textlayer.textlayer ∷ [])
-            ++ ((number_or c.in_ok-texttype.texttype ∷ []) ++ (place_of c.in_ok-x.x c.in_ok-x.y c.in_ok-x.repetition)))
-            c.in_ok-text.second c.in_ok-x.next refl (c.in_ok-text.second, c.in_ok-text.ensures.ok, refl)
-            (joined (when (Bit 0) Number ∷ [])
-            ((when (Bit 1) Number ∷ []) ++ place) c.in_ok-info.info c.in_ok-info.info c.args.bytes.now
-            c.in_ok-text.second (number_or c.in_ok-textlayer.textlayer ∷ [])
-            ((number_or c.in_ok-texttype.texttype ∷ []) ++ (place_of c.in_ok-x.x c.in_ok-x.y c.in_ok-x.repetition))
-            c.in_ok-textlayer.third c.in_ok-x.next refl (c.in_ok-textlayer.third, c.in_ok-textlayer.ensures.ok, refl)
-            (joined (when (Bit 1) Number ∷ []) place c.in_ok-info.info c.in_ok-info.info c.args.bytes.now
-            c.in_ok-textlayer.third (number_or c.in_ok-texttype.texttype ∷ [])
-            (place_of c.in_ok-x.x c.in_ok-x.y c.in_ok-x.repetition) c.in_ok-texttype.fourth c.in_ok-x.next refl
-            (c.in_ok-texttype.fourth, c.in_ok-texttype.ensures.ok, refl) c.in_ok-x.ensures.ok)));
-      };
-    }
+returns-clause-ok c = record {
+  id_is = refl;
+  row = record {
+    within = c.in_ok-info.ensures.there;
+    byte = c.in_ok-info.ensures.ok;
+    allowed = c.in_ok-info.ensures.allowed;
+    fields_stand = (
+      c.in_ok-text.second,
+      c.in_ok-text.ensures.ok,
+      joined pair place c.in_ok-info.info c.in_ok-info.info c.args.bytes.now c.in_ok-text.second
+          (number_or c.in_ok-textlayer.textlayer ∷ number_or c.in_ok-textlayer.texttype ∷ [])
+          (place_of c.in_ok-x.x c.in_ok-x.y c.in_ok-x.repetition) c.in_ok-textlayer.third c.in_ok-x.next refl
+          c.in_ok-textlayer.ensures.ok c.in_ok-x.ensures.ok,
+    );
+  };
+}
 
 pub returns-in_err-info-clause-bad : goal.returns-in_err-info-clause-bad
 returns-in_err-info-clause-bad c = handed_on _ _ _ c.from_residual.ensures.0 c.from_residual.ensures.1
-    ((info_refused (record { info = Below 128; parts = parts_at 19 }) c.args.bytes.now c.args.at
-    c.in_err-info.field-0.0 c.in_err-info.ensures.bad))
+    (info_refused (record { info = Below 128; parts = parts_at 19 }) c.args.bytes.now c.args.at c.in_err-info.field-0.0 c.in_err-info.ensures.bad)
 
 pub returns-in_err-text-clause-bad : goal.returns-in_err-text-clause-bad
-returns-in_err-text-clause-bad c =
-    handed_on _ _ _ c.from_residual-in_err-text.ensures.0 c.from_residual-in_err-text.ensures.1
-    ((fields_refused
-    (record { info = Below 128; parts = parts_at 19 }) c.args.bytes.now c.args.at c.in_ok-info.info
-    c.in_err-text.field-0.0 c.in_ok-info.ensures.there c.in_ok-info.ensures.ok c.in_ok-info.ensures.allowed
-    (fails_first (when (Bit 6) (NameBy 5) ∷ [])
-    ((when (Bit 0) Number ∷ []) ++ ((when (Bit 1) Number ∷ []) ++ place)) c.in_ok-info.info c.args.bytes.now
-    (c.args.at + 1) c.in_err-text.field-0.0 (inl (c.in_err-text.ensures.bad)))))
+returns-in_err-text-clause-bad c = handed_on _ _ _ c.from_residual-in_err-text.ensures.0 c.from_residual-in_err-text.ensures.1
+    (fields_refused (record { info = Below 128; parts = parts_at 19 }) c.args.bytes.now c.args.at c.in_ok-info.info c.in_err-text.field-0.0
+    c.in_ok-info.ensures.there c.in_ok-info.ensures.ok c.in_ok-info.ensures.allowed (inl c.in_err-text.ensures.bad))
 
 pub returns-in_err-textlayer-clause-bad : goal.returns-in_err-textlayer-clause-bad
-returns-in_err-textlayer-clause-bad c =
-    handed_on _ _ _ c.from_residual-in_err-textlayer.ensures.0 c.from_residual-in_err-textlayer.ensures.1
-    ((fields_refused
-    (record { info = Below 128; parts = parts_at 19 }) c.args.bytes.now c.args.at c.in_ok-info.info
-    c.in_err-textlayer.field-0.0 c.in_ok-info.ensures.there c.in_ok-info.ensures.ok c.in_ok-info.ensures.allowed
-    (fails_then (when (Bit 6) (NameBy 5) ∷ [])
-    ((when (Bit 0) Number ∷ []) ++ ((when (Bit 1) Number ∷ []) ++ place)) c.in_ok-info.info c.in_ok-info.info
-    c.args.bytes.now (c.args.at + 1)
-    (called_or c.in_ok-text.text ∷ []) c.in_ok-text.second c.in_err-textlayer.field-0.0 refl
-    (c.in_ok-text.second, c.in_ok-text.ensures.ok, refl)
-    (fails_first (when (Bit 0) Number ∷ [])
-    ((when (Bit 1) Number ∷ []) ++ place) c.in_ok-info.info c.args.bytes.now c.in_ok-text.second
-    c.in_err-textlayer.field-0.0 (inl (c.in_err-textlayer.ensures.bad))))))
-
-pub returns-in_err-texttype-clause-bad : goal.returns-in_err-texttype-clause-bad
-returns-in_err-texttype-clause-bad c =
-    handed_on _ _ _ c.from_residual-in_err-texttype.ensures.0 c.from_residual-in_err-texttype.ensures.1
-    ((fields_refused
-    (record { info = Below 128; parts = parts_at 19 }) c.args.bytes.now c.args.at c.in_ok-info.info
-    c.in_err-texttype.field-0.0 c.in_ok-info.ensures.there c.in_ok-info.ensures.ok c.in_ok-info.ensures.allowed
-    (fails_then (when (Bit 6) (NameBy 5) ∷ [])
-    ((when (Bit 0) Number ∷ []) ++ ((when (Bit 1) Number ∷ []) ++ place)) c.in_ok-info.info c.in_ok-info.info
-    c.args.bytes.now (c.args.at + 1)
-    (called_or c.in_ok-text.text ∷ []) c.in_ok-text.second c.in_err-texttype.field-0.0 refl
-    (c.in_ok-text.second, c.in_ok-text.ensures.ok, refl)
-    (fails_then (when (Bit 0) Number ∷ [])
-    ((when (Bit 1) Number ∷ []) ++ place) c.in_ok-info.info c.in_ok-info.info c.args.bytes.now c.in_ok-text.second
-    (number_or c.in_ok-textlayer.textlayer ∷ []) c.in_ok-textlayer.third c.in_err-texttype.field-0.0 refl
-    (c.in_ok-textlayer.third, c.in_ok-textlayer.ensures.ok, refl)
-    (fails_first (when (Bit 1) Number ∷ []) place c.in_ok-info.info c.args.bytes.now c.in_ok-textlayer.third
-    c.in_err-texttype.field-0.0 (inl (c.in_err-texttype.ensures.bad)))))))
+returns-in_err-textlayer-clause-bad c = handed_on _ _ _ c.from_residual-in_err-textlayer.ensures.0 c.from_residual-in_err-textlayer.ensures.1
+    (fields_refused (record { info = Below 128; parts = parts_at 19 }) c.args.bytes.now c.args.at c.in_ok-info.info c.in_err-textlayer.field-0.0
+    c.in_ok-info.ensures.there c.in_ok-info.ensures.ok c.in_ok-info.ensures.allowed (inr (
+      called_or c.in_ok-text.text,
+      c.in_ok-text.second,
+      c.in_ok-text.ensures.ok,
+      fails_first pair place c.in_ok-info.info c.args.bytes.now c.in_ok-text.second c.in_err-textlayer.field-0.0 c.in_err-textlayer.ensures.bad,
+    )))
 
 pub returns-in_err-x-clause-bad : goal.returns-in_err-x-clause-bad
 returns-in_err-x-clause-bad c = handed_on _ _ _ c.from_residual-in_err-x.ensures.0 c.from_residual-in_err-x.ensures.1
     (fault_or _ _ c.in_err-x.field-0.0 c.in_err-x.ensures.bad
-    (λ fault f. (fields_refused
-    (record { info = Below 128; parts = parts_at 19 }) c.args.bytes.now c.args.at c.in_ok-info.info
-    fault c.in_ok-info.ensures.there c.in_ok-info.ensures.ok c.in_ok-info.ensures.allowed
-    (fails_then (when (Bit 6) (NameBy 5) ∷ [])
-    ((when (Bit 0) Number ∷ []) ++ ((when (Bit 1) Number ∷ []) ++ place)) c.in_ok-info.info c.in_ok-info.info
-    c.args.bytes.now (c.args.at + 1) (called_or c.in_ok-text.text ∷ []) c.in_ok-text.second fault refl
-    (c.in_ok-text.second, c.in_ok-text.ensures.ok, refl)
-    (fails_then (when (Bit 0) Number ∷ [])
-    ((when (Bit 1) Number ∷ []) ++ place) c.in_ok-info.info c.in_ok-info.info c.args.bytes.now c.in_ok-text.second
-    (number_or c.in_ok-textlayer.textlayer ∷ []) c.in_ok-textlayer.third fault refl
-    (c.in_ok-textlayer.third, c.in_ok-textlayer.ensures.ok, refl)
-    (fails_then (when (Bit 1) Number ∷ []) place c.in_ok-info.info c.in_ok-info.info c.args.bytes.now
-    c.in_ok-textlayer.third
-    (number_or c.in_ok-texttype.texttype ∷ []) c.in_ok-texttype.fourth fault refl
-    (c.in_ok-texttype.fourth, c.in_ok-texttype.ensures.ok, refl) (f)))))))
+    (λ fault f. fields_refused (record { info = Below 128; parts = parts_at 19 }) c.args.bytes.now c.args.at c.in_ok-info.info fault
+    c.in_ok-info.ensures.there c.in_ok-info.ensures.ok c.in_ok-info.ensures.allowed (inr (
+      called_or c.in_ok-text.text,
+      c.in_ok-text.second,
+      c.in_ok-text.ensures.ok,
+      fails_then pair place c.in_ok-info.info c.in_ok-info.info c.args.bytes.now c.in_ok-text.second
+          (number_or c.in_ok-textlayer.textlayer ∷ number_or c.in_ok-textlayer.texttype ∷ []) c.in_ok-textlayer.third fault refl
+          c.in_ok-textlayer.ensures.ok f,
+    ))))

@@ -1,98 +1,23 @@
-use Rattle.std.proofs.Common.{refl, [], ◌∷◌, ◌++◌, ◌+◌, inl, inr}
-use Rattle.oas_record.specs.Parts.{parts_at}
-use Rattle.oas_record.specs.Records.{number_or, place_of}
-use Rattle.oas_record.specs.Rows.{TrapezoidType, Bit, Below, when, pair, box, place}
-use Rattle.oas_record.proofs.Joins.{joined, fails_first, fails_then, info_refused, fields_refused}
-use Rattle.oas_record.proofs.Refusals.{handed_on, fault_or}
+use Rattle.std.proofs.Common.{refl, inl, inr}
+use Rattle.oas_record.specs.Records.{number_or}
+use Rattle.oas_record.proofs.Refusals.{handed_on}
 use Rattle.oas_record.proofs.shape_rows.ctrapezoid.Goals as goal
 
 pub returns-clause-ok : goal.returns-clause-ok
-returns-clause-ok c =
-    record {
-      id_is = refl;
-      row = record {
-        within = c.in_ok-info.ensures.there;
-        byte = c.in_ok-info.ensures.ok;
-        allowed = c.in_ok-info.ensures.allowed;
-        fields_stand = (joined pair
-            ((when (Bit 7) TrapezoidType ∷ []) ++ (box ++ place)) c.in_ok-info.info c.in_ok-info.info c.args.bytes.now
-            (c.args.at + 1) (number_or c.in_ok-layer.layer ∷ number_or c.in_ok-layer.datatype ∷ [])
-            ((number_or c.in_ok-kind.kind ∷ [])
-            ++ ((number_or c.in_ok-width.width ∷ number_or c.in_ok-width.height ∷ [])
-            ++ (place_of c.in_ok-x.x c.in_ok-x.y c.in_ok-x.repetition))) c.in_ok-layer.second c.in_ok-x.next refl
-            c.in_ok-layer.ensures.ok
-            (joined (when (Bit 7) TrapezoidType ∷ [])
-            (box ++ place) c.in_ok-info.info c.in_ok-info.info c.args.bytes.now c.in_ok-layer.second
-            (number_or c.in_ok-kind.kind ∷ [])
-            ((number_or c.in_ok-width.width ∷ number_or c.in_ok-width.height ∷ [])
-            ++ (place_of c.in_ok-x.x c.in_ok-x.y c.in_ok-x.repetition)) c.in_ok-kind.third c.in_ok-x.next refl
-            (c.in_ok-kind.third, c.in_ok-kind.ensures.ok, refl)
-            (joined box place c.in_ok-info.info c.in_ok-info.info c.args.bytes.now c.in_ok-kind.third
-            (number_or c.in_ok-width.width ∷ number_or c.in_ok-width.height ∷ [])
-            (place_of c.in_ok-x.x c.in_ok-x.y c.in_ok-x.repetition) c.in_ok-width.fourth c.in_ok-x.next refl
-            c.in_ok-width.ensures.ok c.in_ok-x.ensures.ok)));
-      };
-    }
+returns-clause-ok c = record {
+  id = refl;
+  before = refl;
+  switches = refl;
+  fields = (c.in_ok-trapezoid_type.second, c.in_ok-trapezoid_type.ensures.ok, c.in_ok-width.ensures.ok);
+}
 
-pub returns-in_err-info-clause-bad : goal.returns-in_err-info-clause-bad
-returns-in_err-info-clause-bad c = handed_on _ _ _ c.from_residual.ensures.0 c.from_residual.ensures.1
-    ((info_refused (record { info = Below 256; parts = parts_at 26 }) c.args.bytes.now c.args.at
-    c.in_err-info.field-0.0 c.in_err-info.ensures.bad))
-
-pub returns-in_err-layer-clause-bad : goal.returns-in_err-layer-clause-bad
-returns-in_err-layer-clause-bad c =
-    handed_on _ _ _ c.from_residual-in_err-layer.ensures.0 c.from_residual-in_err-layer.ensures.1
-    ((fields_refused
-    (record { info = Below 256; parts = parts_at 26 }) c.args.bytes.now c.args.at c.in_ok-info.info
-    c.in_err-layer.field-0.0 c.in_ok-info.ensures.there c.in_ok-info.ensures.ok c.in_ok-info.ensures.allowed
-    (fails_first pair ((when (Bit 7) TrapezoidType ∷ []) ++ (box ++ place)) c.in_ok-info.info c.args.bytes.now
-    (c.args.at + 1) c.in_err-layer.field-0.0 (c.in_err-layer.ensures.bad))))
-
-pub returns-in_err-kind-clause-bad : goal.returns-in_err-kind-clause-bad
-returns-in_err-kind-clause-bad c =
-    handed_on _ _ _ c.from_residual-in_err-kind.ensures.0 c.from_residual-in_err-kind.ensures.1
-    ((fields_refused
-    (record { info = Below 256; parts = parts_at 26 }) c.args.bytes.now c.args.at c.in_ok-info.info
-    c.in_err-kind.field-0.0 c.in_ok-info.ensures.there c.in_ok-info.ensures.ok c.in_ok-info.ensures.allowed
-    (fails_then pair ((when (Bit 7) TrapezoidType ∷ []) ++ (box ++ place)) c.in_ok-info.info c.in_ok-info.info
-    c.args.bytes.now (c.args.at + 1)
-    (number_or c.in_ok-layer.layer ∷ number_or c.in_ok-layer.datatype ∷ []) c.in_ok-layer.second
-    c.in_err-kind.field-0.0 refl c.in_ok-layer.ensures.ok
-    (fails_first (when (Bit 7) TrapezoidType ∷ [])
-    (box ++ place) c.in_ok-info.info c.args.bytes.now c.in_ok-layer.second c.in_err-kind.field-0.0
-    (inl (c.in_err-kind.ensures.bad))))))
+pub returns-in_err-trapezoid_type-clause-bad : goal.returns-in_err-trapezoid_type-clause-bad
+returns-in_err-trapezoid_type-clause-bad c = handed_on _ _ _ c.from_residual.ensures.0 c.from_residual.ensures.1 (inl c.in_err-trapezoid_type.ensures.bad)
 
 pub returns-in_err-width-clause-bad : goal.returns-in_err-width-clause-bad
-returns-in_err-width-clause-bad c =
-    handed_on _ _ _ c.from_residual-in_err-width.ensures.0 c.from_residual-in_err-width.ensures.1
-    ((fields_refused
-    (record { info = Below 256; parts = parts_at 26 }) c.args.bytes.now c.args.at c.in_ok-info.info
-    c.in_err-width.field-0.0 c.in_ok-info.ensures.there c.in_ok-info.ensures.ok c.in_ok-info.ensures.allowed
-    (fails_then pair ((when (Bit 7) TrapezoidType ∷ []) ++ (box ++ place)) c.in_ok-info.info c.in_ok-info.info
-    c.args.bytes.now (c.args.at + 1)
-    (number_or c.in_ok-layer.layer ∷ number_or c.in_ok-layer.datatype ∷ []) c.in_ok-layer.second
-    c.in_err-width.field-0.0 refl c.in_ok-layer.ensures.ok
-    (fails_then (when (Bit 7) TrapezoidType ∷ [])
-    (box ++ place) c.in_ok-info.info c.in_ok-info.info c.args.bytes.now c.in_ok-layer.second
-    (number_or c.in_ok-kind.kind ∷ []) c.in_ok-kind.third c.in_err-width.field-0.0 refl
-    (c.in_ok-kind.third, c.in_ok-kind.ensures.ok, refl)
-    (fails_first box place c.in_ok-info.info c.args.bytes.now c.in_ok-kind.third c.in_err-width.field-0.0
-    (c.in_err-width.ensures.bad))))))
-
-pub returns-in_err-x-clause-bad : goal.returns-in_err-x-clause-bad
-returns-in_err-x-clause-bad c = handed_on _ _ _ c.from_residual-in_err-x.ensures.0 c.from_residual-in_err-x.ensures.1
-    (fault_or _ _ c.in_err-x.field-0.0 c.in_err-x.ensures.bad
-    (λ fault f. (fields_refused
-    (record { info = Below 256; parts = parts_at 26 }) c.args.bytes.now c.args.at c.in_ok-info.info
-    fault c.in_ok-info.ensures.there c.in_ok-info.ensures.ok c.in_ok-info.ensures.allowed
-    (fails_then pair ((when (Bit 7) TrapezoidType ∷ []) ++ (box ++ place)) c.in_ok-info.info c.in_ok-info.info
-    c.args.bytes.now (c.args.at + 1)
-    (number_or c.in_ok-layer.layer ∷ number_or c.in_ok-layer.datatype ∷ []) c.in_ok-layer.second fault
-    refl c.in_ok-layer.ensures.ok
-    (fails_then (when (Bit 7) TrapezoidType ∷ [])
-    (box ++ place) c.in_ok-info.info c.in_ok-info.info c.args.bytes.now c.in_ok-layer.second
-    (number_or c.in_ok-kind.kind ∷ []) c.in_ok-kind.third fault refl
-    (c.in_ok-kind.third, c.in_ok-kind.ensures.ok, refl)
-    (fails_then box place c.in_ok-info.info c.in_ok-info.info c.args.bytes.now c.in_ok-kind.third
-    (number_or c.in_ok-width.width ∷ number_or c.in_ok-width.height ∷ []) c.in_ok-width.fourth fault
-    refl c.in_ok-width.ensures.ok (f)))))))
+returns-in_err-width-clause-bad c = handed_on _ _ _ c.from_residual-in_err-width.ensures.0 c.from_residual-in_err-width.ensures.1 (inr (
+  number_or c.in_ok-trapezoid_type.trapezoid_type,
+  c.in_ok-trapezoid_type.second,
+  c.in_ok-trapezoid_type.ensures.ok,
+  c.in_err-width.ensures.bad,
+))
