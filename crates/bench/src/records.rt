@@ -1,6 +1,6 @@
 //! OASIS records of rectangles, and files of them.
 
-use oas_record::{OasRecord, record_at};
+use oas_record::{OasRecord, ShapeKind, record_at};
 use std::alloc::{AllocError, Global};
 
 // RECTANGLE with x and y alone.
@@ -54,7 +54,10 @@ pub(crate) fn file(alloc: Global, count: u32, is_whole: bool) -> Result<Vec<u8>,
 // Whether the record is a rectangle that has its place.
 fn is_placed(record: &OasRecord) -> bool {
     match record {
-        OasRecord::Rectangle { x, y, .. } => x.is_some() && y.is_some(),
+        OasRecord::Shape {
+            head,
+            kind: ShapeKind::Rectangle { .. },
+        } => head.x.is_some() && head.y.is_some(),
         _ => false,
     }
 }
