@@ -25,7 +25,10 @@ fn shown(alloc: Global, bytes: &[u8]) -> Result<String, AllocError> {
 fn is_one(rt: &impl Abort, alloc: Global, bytes: &[u8]) {
     assert_eq!(rt; end_of(alloc, bytes, false), Ok(bytes.len()));
     for cut in 0..bytes.len() {
-        assert_eq!(rt; end_of(alloc, &bytes[..cut], false), Err(Some(RecordBad::Short)));
+        assert_eq!(rt;
+            end_of(alloc, &bytes[..cut], false),
+            Err(Some(RecordBad::Short))
+        );
     }
 }
 
@@ -60,22 +63,34 @@ const NAMED: [Case; 24] = [
         &[0x02, 0, 1, 0xAA, 0xBB, 0xCC, 0xDD],
         "End { tables: None, padding: (2, 2), scheme: 1, validation: Some((3, 7)) }",
     ),
-    (&[0x03, 1, 0x41], "Name { kind: Cell, text: (2, 3), number: None }"),
+    (
+        &[0x03, 1, 0x41],
+        "Name { kind: Cell, text: (2, 3), number: None }",
+    ),
     (
         &[0x04, 1, 0x41, 5],
         "Name { kind: Cell, text: (2, 3), number: Some(5) }",
     ),
-    (&[0x05, 1, 0x41], "Name { kind: Text, text: (2, 3), number: None }"),
+    (
+        &[0x05, 1, 0x41],
+        "Name { kind: Text, text: (2, 3), number: None }",
+    ),
     (
         &[0x06, 1, 0x41, 5],
         "Name { kind: Text, text: (2, 3), number: Some(5) }",
     ),
-    (&[0x07, 1, 0x41], "Name { kind: Property, text: (2, 3), number: None }"),
+    (
+        &[0x07, 1, 0x41],
+        "Name { kind: Property, text: (2, 3), number: None }",
+    ),
     (
         &[0x08, 1, 0x41, 5],
         "Name { kind: Property, text: (2, 3), number: Some(5) }",
     ),
-    (&[0x09, 1, 0x41], "Name { kind: PropertyString, text: (2, 3), number: None }"),
+    (
+        &[0x09, 1, 0x41],
+        "Name { kind: PropertyString, text: (2, 3), number: None }",
+    ),
     (
         &[0x0A, 1, 0x41, 5],
         "Name { kind: PropertyString, text: (2, 3), number: Some(5) }",
@@ -93,7 +108,10 @@ const NAMED: [Case; 24] = [
     (&[0x0F], "Mode { is_relative: false }"),
     (&[0x10], "Mode { is_relative: true }"),
     (&[0x1D], "LastProperty"),
-    (&[0x1E, 1, 1, 0x41], "XName { attribute: 1, text: (3, 4), number: None }"),
+    (
+        &[0x1E, 1, 1, 0x41],
+        "XName { attribute: 1, text: (3, 4), number: None }",
+    ),
     (
         &[0x1F, 1, 1, 0x41, 2],
         "XName { attribute: 1, text: (3, 4), number: Some(2) }",
@@ -216,7 +234,10 @@ const LISTS: [Case; 7] = [
 
 // The kinds of repetitions.
 const REPEATED: [Case; 12] = [
-    (&[0x14, 4, 0], "repetition: Some(Same) }, kind: Rectangle { width: None, height: None } }"),
+    (
+        &[0x14, 4, 0],
+        "repetition: Some(Same) }, kind: Rectangle { width: None, height: None } }",
+    ),
     (
         &[0x14, 4, 1, 0, 1, 5, 6],
         "repetition: Some(Grid { x_dim: 2, y_dim: 3, x_space: 5, y_space: 6 }) }, kind: Rectangle { width: None, height: None } }",
@@ -501,7 +522,10 @@ fn refuses_at_the_first_byte_that_breaks(rt: HostRuntime) {
     are_refused(&rt, alloc, &WIDE, RecordBad::Wide);
     are_refused(&rt, alloc, &[&[0x22]], RecordBad::Packed);
     // With table offsets END is longer.
-    assert_eq!(rt; end_of(alloc, &[0x02, 0, 0], true), Err(Some(RecordBad::Short)));
+    assert_eq!(rt;
+        end_of(alloc, &[0x02, 0, 0], true),
+        Err(Some(RecordBad::Short))
+    );
     assert_eq!(rt;
         end_of(
             alloc,

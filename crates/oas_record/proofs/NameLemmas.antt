@@ -1,11 +1,11 @@
 -- The record of a name, by what is named.
-use Rattle.std.proofs.Common.{◌≡◌, ◌+◌, ℕ, Bool, true, false, Some, None, List, [], ◌∷◌, inl, inr, refl}
+use Rattle.std.proofs.Common.{◌+◌, ℕ, Bool, true, false, Some, None, List, [], ◌∷◌, inl, inr, refl}
 use Rattle.oas_lex.specs.Numbers.{HasUnsigned}
 use Rattle.oas_lex.specs.Strings.{HasText}
 use Rattle.oas_record.specs.Faults.{NoNumber, NoText}
 use Rattle.oas_record.specs.Parts.{IsOf, NotOf, layer_name_id}
 use Rattle.oas_record.specs.Records.{name_id}
-use Rattle.oas_record.specs.Rows.{Text, Range, IsSpan, IsInterval, Always, when, HasFields, NoFields}
+use Rattle.oas_record.specs.Rows.{Text, Range, IsSpan, Always, when, NoFields}
 use Rattle.oas_record.specs.Values.{HasInterval}
 use Rattle.oas_record.specs.declared.faults.RecordBad.{RecordBad}
 use Rattle.oas_record.specs.declared.fields.Interval.{Interval}

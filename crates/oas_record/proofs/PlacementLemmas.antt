@@ -1,5 +1,5 @@
 -- The record of a placement, with a magnification and an angle or without.
-use Rattle.std.proofs.Common.{◌≡◌, ◌⊎◌, ◌<◌, ◌+◌, ℕ, ℤ, Bool, true, false, IsTrue, Option, List, [], ◌∷◌, ◌++◌, length, slice_index, refl}
+use Rattle.std.proofs.Common.{◌≡◌, ◌⊎◌, ◌<◌, ◌+◌, ℕ, ℤ, Bool, true, false, IsTrue, Option, List, ◌∷◌, ◌++◌, length, slice_index}
 use Rattle.oas_record.specs.Faults.{NoBytes}
 use Rattle.oas_record.specs.Parts.{IsOf, NotOf, NoInfoByte, turned_id, turn_parts}
 use Rattle.oas_record.specs.Records.{called_or, place_of, placement_id, turn_fields, row_at, HasInfo, HasRow, InfoFails}

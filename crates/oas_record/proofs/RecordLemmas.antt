@@ -1,5 +1,5 @@
 -- A record whose id is read.
-use Rattle.std.proofs.Common.{◌≡◌, ◌⊎◌, ◌<◌, ◌≤◌, ◌+◌, ℕ, Bool, false, Some, None, List, [], ◌∷◌, length, map}
+use Rattle.std.proofs.Common.{◌≡◌, ◌<◌, ◌≤◌, ◌+◌, ℕ, Bool, false, Some, None, List, [], ◌∷◌, length, map}
 use Rattle.std.proofs.Common.{slice_index, nat_lt, if◌then◌else◌, arith, inl, inr, subst, sym, ◌∙◌}
 use Rattle.oas_record.specs.Rows.{rows, NoFields, when, Zero, Tables, with_switch}
 use Rattle.std.proofs.lemmas.List.{get_or_past}

@@ -59,7 +59,11 @@ fn grid(bytes: &[u8], at: usize) -> Result<(Rep, usize), RecordBad>
 }
 
 // A dimension, and one space fewer.
-fn spaces(alloc: Global, bytes: &[u8], at: usize) -> Result<(u64, List<u64>, usize), Refusal<RecordBad>>
+fn spaces(
+    alloc: Global,
+    bytes: &[u8],
+    at: usize,
+) -> Result<(u64, List<u64>, usize), Refusal<RecordBad>>
     requires { at ≤ length bytes.now }
     ensures ok { IfOk result (λ r. HasRow (row_at rep_rows 4) bytes.now at (r.0 ∷ []) r.1 [] r.2) }
     ensures bad { IfFault result (λ bad. RowFails (row_at rep_rows 4) bytes.now at bad) }
@@ -162,7 +166,12 @@ fn moves_on_grid(alloc: Global, bytes: &[u8], at: usize) -> Result<(Rep, usize),
 }
 
 // The rest of a repetition of this kind, from `at` on. A kind that isn't there takes no memory.
-fn rest_of(alloc: Global, bytes: &[u8], at: usize, kind: u8) -> Result<(Rep, usize), Refusal<RecordBad>>
+fn rest_of(
+    alloc: Global,
+    bytes: &[u8],
+    at: usize,
+    kind: u8,
+) -> Result<(Rep, usize), Refusal<RecordBad>>
     requires { at ≤ length bytes.now }
     ensures kind { IfOk result (λ r. kind_of r.0 ≡ kind) }
     ensures ok { IfOk result (λ r. HasRow (row_at rep_rows kind) bytes.now at (dims_of r.0) (numbers_of r.0) (deltas_of r.0) r.1) }

@@ -57,8 +57,8 @@ pub enum ShapeKind {
     Polygon {
         points: Option<Deltas>,
     },
-    /// Id 22, PATH. Bits 2 and 3 of the extension byte are the scheme at the start, bits 0 and 1 at the end; an extension
-    /// is written where its scheme is 3.
+    /// Id 22, PATH. Bits 2 and 3 of the extension byte are the scheme at the start, bits 0 and 1 at the end; an
+    /// extension is written where its scheme is 3.
     Path {
         half_width: Option<u64>,
         extension: Option<u8>,

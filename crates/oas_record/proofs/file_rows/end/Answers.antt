@@ -1,4 +1,4 @@
-use Rattle.std.proofs.Common.{refl, [], ◌∷◌, ◌++◌, inl, inr}
+use Rattle.std.proofs.Common.{refl, [], ◌∷◌, ◌++◌, inl}
 use Rattle.oas_record.specs.Records.{span_or, switch_of}
 use Rattle.oas_record.specs.Rows.{Text, Switch, Tables, FourBytes, IsNumber, IsSpan, Always, Bit, NotZero, when}
 use Rattle.oas_record.proofs.Joins.{joined, fails_first, fails_then}

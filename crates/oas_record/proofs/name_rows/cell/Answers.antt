@@ -1,4 +1,4 @@
-use Rattle.std.proofs.Common.{refl, inl, inr}
+use Rattle.std.proofs.Common.{refl, inl}
 use Rattle.oas_record.proofs.Refusals.{handed_on}
 use Rattle.oas_record.proofs.name_rows.cell.Goals as goal
 

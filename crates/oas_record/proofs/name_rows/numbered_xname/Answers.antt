@@ -1,4 +1,4 @@
-use Rattle.std.proofs.Common.{refl, [], ◌∷◌, ◌++◌, inl, inr}
+use Rattle.std.proofs.Common.{refl, [], ◌∷◌, ◌++◌, inl}
 use Rattle.oas_record.specs.Rows.{Number, Text, IsNumber, IsSpan, Always, when}
 use Rattle.oas_record.proofs.Joins.{joined, fails_first, fails_then}
 use Rattle.oas_record.proofs.Refusals.{handed_on}

@@ -1,4 +1,4 @@
-use Rattle.std.proofs.Common.{refl, [], ◌∷◌, ◌++◌, ◌+◌, inl, inr}
+use Rattle.std.proofs.Common.{refl, [], ◌∷◌, ◌++◌, ◌+◌, inl}
 use Rattle.oas_record.specs.Parts.{parts_at}
 use Rattle.oas_record.specs.Records.{number_or, span_or, called_or}
 use Rattle.oas_record.specs.Rows.{NameBy, Count, Values, Bit, Clear, Fifteen, Below, when, with_count}

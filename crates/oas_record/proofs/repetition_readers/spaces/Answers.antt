@@ -1,4 +1,4 @@
-use Rattle.std.proofs.Common.{refl, [], ◌∷◌, inl, ◌≡◌, ◌⊎◌, subst, ◌∙◌}
+use Rattle.std.proofs.Common.{refl, [], ◌∷◌, inl, subst, ◌∙◌}
 use Rattle.geo_stream.specs.Refusals.{IsForFault}
 use Rattle.oas_record.specs.Lists.{NoNumbers}
 use Rattle.oas_record.specs.Repetitions.{rep_rows, row_at, RowFails, Just, AndFewer}

@@ -1,4 +1,4 @@
-use Rattle.std.proofs.Common.{refl, [], ◌∷◌, ◌++◌, ◌+◌, inl, inr}
+use Rattle.std.proofs.Common.{refl, [], ◌∷◌, ◌++◌, ◌+◌, inl}
 use Rattle.oas_record.specs.Parts.{parts_at}
 use Rattle.oas_record.specs.Records.{number_or, place_of}
 use Rattle.oas_record.specs.Rows.{Number, Text, IsNumber, IsSpan, Always, Below, when, pair, place}
