@@ -15,8 +15,8 @@ use crate::written::Written;
 use oas_record::{Called, Deltas, Lists, OasRecord, PlainRectangle};
 use oas_shapes::{PathList, PointList, Repetition};
 
-/// The values that the fields of the last record have, written or not: of each modal variable the value that was written
-/// last in the same cell, None where none was, and the positions. Lengths are in grid steps.
+/// The values that the fields of the last record have, written or not: of each modal variable the value that was
+/// written last in the same cell, None where none was, and the positions. Lengths are in grid steps.
 #[derive(Debug, Drop)]
 pub struct Fields {
     /// Whether positions are relative.
@@ -96,8 +96,8 @@ impl Fields {
         self.keep(lists);
     }
 
-    /// Takes a RECTANGLE that writes no repetition: the values are those of its own fields then. Positions before it are
-    /// within 2^100 of 0.
+    /// Takes a RECTANGLE that writes no repetition: the values are those of its own fields then. Positions before it
+    /// are within 2^100 of 0.
     #[inline(always)]
     pub fn take_rectangle(&mut self, current: &PlainRectangle)
         requires near { ArePlacesWithin (2 ^ 100) self.old }

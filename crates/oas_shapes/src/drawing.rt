@@ -58,8 +58,8 @@ fn shape_of(
     }
 }
 
-// The rule that an outline breaks whose repetition has too large a dimension. Where memory is wanting for its shape, its
-// edges have been looked at.
+// The rule that an outline breaks whose repetition has too large a dimension. Where memory is wanting for its shape,
+// its edges have been looked at.
 fn rule_of_many(alloc: Global, pair: Pair, outline: &[Point]) -> Undrawn
     requires closed { IsClosed outline.now }
     requires near { AreNear outline.now }
@@ -167,8 +167,8 @@ fn add_outline(
     }
 }
 
-/// Adds the shape of a RECTANGLE, a TRAPEZOID or a CTRAPEZOID at this position, repeated so. A rule that it breaks is told
-/// even where memory is wanting, unless the repetition lists more than twelve places.
+/// Adds the shape of a RECTANGLE, a TRAPEZOID or a CTRAPEZOID at this position, repeated so. A rule that it breaks is
+/// told even where memory is wanting, unless the repetition lists more than twelve places.
 #[inline(always)]
 pub fn draw_figure(
     alloc: Global,
@@ -290,9 +290,9 @@ fn add_made(
     }
 }
 
-/// Adds the shape of a POLYGON at this position, repeated so. Where the outline of its list was made, it shares the points,
-/// and takes no longer than its repetition. A rule that it breaks is told even where memory is wanting, unless its outline
-/// or the repetition has more than twelve places.
+/// Adds the shape of a POLYGON at this position, repeated so. Where the outline of its list was made, it shares the
+/// points, and takes no longer than its repetition. A rule that it breaks is told even where memory is wanting, unless
+/// its outline or the repetition has more than twelve places.
 pub fn draw_polygon(
     alloc: Global,
     pair: Pair,

@@ -15,8 +15,8 @@ pub enum Figure {
         a: i64,
         b: i64,
     },
-    /// A TRAPEZOID with upright sides in its box: the lower side goes up by `-a` on its way to the right, the upper side
-    /// by `-b`.
+    /// A TRAPEZOID with upright sides in its box: the lower side goes up by `-a` on its way to the right, the upper
+    /// side by `-b`.
     Vertical {
         width: u64,
         height: u64,

@@ -32,8 +32,8 @@ pub(crate) struct Made {
     outline: SharedPoints,
 }
 
-/// The point list of polygons as it is written. The outline of a long one is made once, and all polygons that use the list
-/// share it, each moved to its position. Contracts see what is written.
+/// The point list of polygons as it is written. The outline of a long one is made once, and all polygons that use the
+/// list share it, each moved to its position. Contracts see what is written.
 #[derive(Debug, Drop)]
 pub struct PointList {
     written: Deltas,
@@ -208,8 +208,8 @@ impl PointList {
         &self.written
     }
 
-    /// Makes the outline of a long list at this position, where it isn't made yet, keeps the rules, and where memory is there:
-    /// in the time and the memory of the list. It changes nothing else.
+    /// Makes the outline of a long list at this position, where it isn't made yet, keeps the rules, and where memory is
+    /// there: in the time and the memory of the list. It changes nothing else.
     pub fn make_outline(&mut self, alloc: Global, at: Point)
         requires { IsWithin (2 ^ 40) at }
         ensures { self.new ≡ self.old }

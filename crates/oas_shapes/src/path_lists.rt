@@ -29,8 +29,8 @@ pub(crate) struct MadePath {
     path: Option<SharedPath>,
 }
 
-/// The point list of paths as it is written. The segments of a long one are made once, and all paths that use the list share
-/// them, moved to their positions, whatever their lengths. Contracts see what is written.
+/// The point list of paths as it is written. The segments of a long one are made once, and all paths that use the list
+/// share them, moved to their positions, whatever their lengths. Contracts see what is written.
 #[derive(Debug, Drop)]
 pub struct PathList {
     written: Deltas,
@@ -118,8 +118,8 @@ impl PathList {
         &self.written
     }
 
-    /// Makes the segments of a long list at this position, where they aren't made yet, the list is near 0 there, and where
-    /// memory is there: in the time and the memory of the list. It changes nothing else.
+    /// Makes the segments of a long list at this position, where they aren't made yet, the list is near 0 there, and
+    /// where memory is there: in the time and the memory of the list. It changes nothing else.
     pub fn make_segments(&mut self, alloc: Global, at: Point)
         requires { IsWithin (2 ^ 40) at }
         ensures { self.new ≡ self.old }

@@ -138,8 +138,8 @@ fn drawn(
     }
 }
 
-// The rule that a path breaks whose repetition has too large a dimension. Where memory is wanting for its shapes, it has
-// been looked at whether it can be drawn.
+// The rule that a path breaks whose repetition has too large a dimension. Where memory is wanting for its shapes, it
+// has been looked at whether it can be drawn.
 fn rule_of_many(alloc: Global, pair: Pair, points: &[Point], brush: Halves) -> Undrawn
     requires points { AreNear points.now }
     requires brush { AreHalves brush }

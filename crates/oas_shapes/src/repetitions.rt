@@ -274,8 +274,8 @@ pub(crate) fn offsets_in(
     }
 }
 
-/// The offsets of a repetition in half units: those of a placement, say. One that is regular is kept as a grid. Whatever
-/// rule one of at most twelve places or a regular one breaks is told, also where memory is wanting.
+/// The offsets of a repetition in half units: those of a placement, say. One that is regular is kept as a grid.
+/// Whatever rule one of at most twelve places or a regular one breaks is told, also where memory is wanting.
 pub fn offsets_of(alloc: Global, repetition: &Repetition) -> Result<Offsets, Undrawn>
     ensures offsets { IfOk result (λ offsets. offsets ≡ the_offsets_of repetition.now) }
     ensures grid { IfOk result AreOffsets }

@@ -13,8 +13,8 @@ use oas_record::Rep;
 use std::alloc::Global;
 use std::marker::Model;
 
-/// A repetition as it is written. The places of one that lists them are made once, and all shapes and placements that are
-/// repeated so share them. Contracts see what is written.
+/// A repetition as it is written. The places of one that lists them are made once, and all shapes and placements that
+/// are repeated so share them. Contracts see what is written.
 #[derive(Debug, Drop)]
 pub struct Repetition {
     written: Rep,
@@ -61,8 +61,8 @@ impl Repetition {
         &self.written
     }
 
-    /// Makes its places, where it lists them and they aren't made yet, and where memory is there: in the time and the memory
-    /// of the list. It changes nothing else.
+    /// Makes its places, where it lists them and they aren't made yet, and where memory is there: in the time and the
+    /// memory of the list. It changes nothing else.
     pub fn make_places(&mut self, alloc: Global)
         ensures { self.new ≡ self.old }
     {

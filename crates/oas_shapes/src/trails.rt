@@ -153,8 +153,8 @@ pub(crate) fn along_grid(alloc: Global, grid: u64, moves: &[Point]) -> Result<Pl
     trail.finish()
 }
 
-/// The places along a row, or along a column where it is upright, at these spaces times the grid. Up to twelve places take
-/// no memory.
+/// The places along a row, or along a column where it is upright, at these spaces times the grid. Up to twelve places
+/// take no memory.
 pub(crate) fn along_spaces(
     alloc: Global,
     is_upright: bool,

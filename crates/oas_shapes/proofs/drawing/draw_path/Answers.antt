@@ -7,7 +7,8 @@ use Rattle.oas_shapes.specs.Brushes.{halves_of, AreHalves}
 use Rattle.oas_shapes.specs.Outlines.{path_points}
 use Rattle.oas_shapes.specs.Repetitions.{offsets_in}
 use Rattle.oas_shapes.specs.Rules.{KeepsPath, IsLowest}
-use Rattle.oas_shapes.proofs.PathListLemmas.{added, its_path, reach_by, near_by, drawn_by_brush, drawn_without_width, on_ok_two, all_on_grid, course_keeps, course_lowest}
+use Rattle.oas_shapes.proofs.PathListLemmas.{added, its_path, reach_by, near_by, drawn_by_brush, drawn_without_width, on_ok_two, all_on_grid}
+use Rattle.oas_shapes.proofs.PathListLemmas.{course_keeps, course_lowest}
 use Rattle.oas_shapes.proofs.RuleLemmas.{path_keeps, path_lowest}
 use Rattle.oas_shapes.proofs.drawing.draw_path.Goals as goal
 
