@@ -87,30 +87,17 @@ called_first parts bytes at info cell fields next h =
 -- a record that stands keeps its strings within the bytes
 pub body_within : (bytes : List ℕ) (at : ℕ) (tables : Bool) (r : OasRecord) (next : ℕ) → HasRecord bytes at tables r next
     → IsBodyWithin bytes (body_of r)
-body_within bytes at tables records.Pad next h = tt
 body_within bytes at tables (records.Start version real offset_flag offsets) next h =
     text_first (when Always OneReal ∷ when Always Switch ∷ when Zero Tables ∷ []) tables bytes (at + 1) 0 version
     (IsReal real ∷ IsNumber offset_flag ∷ span_or offsets ∷ []) next
     (row_of bytes at tables (records.Start version real offset_flag offsets) next h)
-body_within bytes at tables (records.End offsets padding scheme validation) next h = tt
 body_within bytes at tables (records.CellName name) next h =
     text_first [] tables bytes (at + 1) 0 name [] next (row_of bytes at tables (records.CellName name) next h)
 body_within bytes at tables (records.NumberedCellName name number) next h =
     text_first (when Always ANumber ∷ []) tables bytes (at + 1) 0 name (IsNumber number ∷ []) next
     (row_of bytes at tables (records.NumberedCellName name number) next h)
-body_within bytes at tables (records.TextString text) next h = tt
-body_within bytes at tables (records.NumberedTextString text number) next h = tt
-body_within bytes at tables (records.PropName name) next h = tt
-body_within bytes at tables (records.NumberedPropName name number) next h = tt
-body_within bytes at tables (records.PropString text) next h = tt
-body_within bytes at tables (records.NumberedPropString text number) next h = tt
-body_within bytes at tables (records.LayerName name layers datatypes) next h = tt
-body_within bytes at tables (records.TextLayerName name layers datatypes) next h = tt
-body_within bytes at tables (records.NumberedCell number) next h = tt
 body_within bytes at tables (records.Cell name) next h =
     text_first [] tables bytes (at + 1) 0 name [] next (row_of bytes at tables (records.Cell name) next h)
-body_within bytes at tables records.XyAbsolute next h = tt
-body_within bytes at tables records.XyRelative next h = tt
 body_within bytes at tables (records.Placement info cell x y repetition) next h = (
   called_first placed bytes (at + 1) info cell (place_of x y repetition) next (row_of bytes at tables (records.Placement info cell x y repetition) next h),
   omega arith,
@@ -121,59 +108,14 @@ body_within bytes at tables (records.TurnedPlacement info cell magnification ang
       (row_of bytes at tables (records.TurnedPlacement info cell magnification angle x y repetition) next h),
   tt,
 )
-body_within bytes at tables (records.Text info text textlayer texttype x y repetition) next h = tt
-body_within bytes at tables (records.Rectangle info layer datatype width height x y repetition) next h = tt
-body_within bytes at tables (records.Polygon info layer datatype points x y repetition) next h = tt
-body_within bytes at tables (records.Path info layer datatype half_width extension start end points x y repetition) next h = tt
-body_within bytes at tables (records.Trapezoid info layer datatype width height delta_a delta_b x y repetition) next h = tt
-body_within bytes at tables (records.TrapezoidA info layer datatype width height delta_a x y repetition) next h = tt
-body_within bytes at tables (records.TrapezoidB info layer datatype width height delta_b x y repetition) next h = tt
-body_within bytes at tables (records.Ctrapezoid info layer datatype kind width height x y repetition) next h = tt
-body_within bytes at tables (records.Circle info layer datatype radius x y repetition) next h = tt
-body_within bytes at tables (records.Property info name count values) next h = tt
-body_within bytes at tables records.LastProperty next h = tt
-body_within bytes at tables (records.XName attribute text) next h = tt
-body_within bytes at tables (records.NumberedXName attribute text number) next h = tt
-body_within bytes at tables (records.XElement attribute text) next h = tt
-body_within bytes at tables (records.XGeometry info attribute layer datatype text x y repetition) next h = tt
+body_within bytes at tables r next h = tt
 
 -- ---- the placed cell
 
 cell_written : (bytes : List ℕ) (r : OasRecord) → IsBodyWithin bytes (body_of r) → AreCalledWithin bytes (writes_of r).cell
-cell_written bytes records.Pad h = tt
-cell_written bytes (records.Start version real offset_flag offsets) h = tt
-cell_written bytes (records.End offsets padding scheme validation) h = tt
-cell_written bytes (records.CellName name) h = tt
-cell_written bytes (records.NumberedCellName name number) h = tt
-cell_written bytes (records.TextString text) h = tt
-cell_written bytes (records.NumberedTextString text number) h = tt
-cell_written bytes (records.PropName name) h = tt
-cell_written bytes (records.NumberedPropName name number) h = tt
-cell_written bytes (records.PropString text) h = tt
-cell_written bytes (records.NumberedPropString text number) h = tt
-cell_written bytes (records.LayerName name layers datatypes) h = tt
-cell_written bytes (records.TextLayerName name layers datatypes) h = tt
-cell_written bytes (records.NumberedCell number) h = tt
-cell_written bytes (records.Cell name) h = tt
-cell_written bytes records.XyAbsolute h = tt
-cell_written bytes records.XyRelative h = tt
 cell_written bytes (records.Placement info cell x y repetition) h = h.0
 cell_written bytes (records.TurnedPlacement info cell magnification angle x y repetition) h = h.0
-cell_written bytes (records.Text info text textlayer texttype x y repetition) h = tt
-cell_written bytes (records.Rectangle info layer datatype width height x y repetition) h = tt
-cell_written bytes (records.Polygon info layer datatype points x y repetition) h = tt
-cell_written bytes (records.Path info layer datatype half_width extension start end points x y repetition) h = tt
-cell_written bytes (records.Trapezoid info layer datatype width height delta_a delta_b x y repetition) h = tt
-cell_written bytes (records.TrapezoidA info layer datatype width height delta_a x y repetition) h = tt
-cell_written bytes (records.TrapezoidB info layer datatype width height delta_b x y repetition) h = tt
-cell_written bytes (records.Ctrapezoid info layer datatype kind width height x y repetition) h = tt
-cell_written bytes (records.Circle info layer datatype radius x y repetition) h = tt
-cell_written bytes (records.Property info name count values) h = tt
-cell_written bytes records.LastProperty h = tt
-cell_written bytes (records.XName attribute text) h = tt
-cell_written bytes (records.NumberedXName attribute text number) h = tt
-cell_written bytes (records.XElement attribute text) h = tt
-cell_written bytes (records.XGeometry info attribute layer datatype text x y repetition) h = tt
+cell_written bytes r h = tt
 
 called_either : (bytes : List ℕ) (ends : Bool) (one other : Option Called) → AreCalledWithin bytes one → AreCalledWithin bytes other
     → AreCalledWithin bytes (if ends then None else or_else one other)
@@ -189,150 +131,24 @@ cell_more bytes past r within before = called_either bytes (begins_cell r) (writ
 -- ---- the name that it writes
 
 pub own_name : (bytes : List ℕ) (r : OasRecord) → KeepsName bytes r → KeepsOwnName bytes r
-own_name bytes records.Pad h = tt
-own_name bytes (records.Start version real offset_flag offsets) h = tt
-own_name bytes (records.End offsets padding scheme validation) h = tt
 own_name bytes (records.CellName name) h = h
 own_name bytes (records.NumberedCellName name number) h = h
-own_name bytes (records.TextString text) h = tt
-own_name bytes (records.NumberedTextString text number) h = tt
-own_name bytes (records.PropName name) h = tt
-own_name bytes (records.NumberedPropName name number) h = tt
-own_name bytes (records.PropString text) h = tt
-own_name bytes (records.NumberedPropString text number) h = tt
-own_name bytes (records.LayerName name layers datatypes) h = tt
-own_name bytes (records.TextLayerName name layers datatypes) h = tt
-own_name bytes (records.NumberedCell number) h = tt
 own_name bytes (records.Cell name) h = h
-own_name bytes records.XyAbsolute h = tt
-own_name bytes records.XyRelative h = tt
-own_name bytes (records.Placement info cell x y repetition) h = tt
-own_name bytes (records.TurnedPlacement info cell magnification angle x y repetition) h = tt
-own_name bytes (records.Text info text textlayer texttype x y repetition) h = tt
-own_name bytes (records.Rectangle info layer datatype width height x y repetition) h = tt
-own_name bytes (records.Polygon info layer datatype points x y repetition) h = tt
-own_name bytes (records.Path info layer datatype half_width extension start end points x y repetition) h = tt
-own_name bytes (records.Trapezoid info layer datatype width height delta_a delta_b x y repetition) h = tt
-own_name bytes (records.TrapezoidA info layer datatype width height delta_a x y repetition) h = tt
-own_name bytes (records.TrapezoidB info layer datatype width height delta_b x y repetition) h = tt
-own_name bytes (records.Ctrapezoid info layer datatype kind width height x y repetition) h = tt
-own_name bytes (records.Circle info layer datatype radius x y repetition) h = tt
-own_name bytes (records.Property info name count values) h = tt
-own_name bytes records.LastProperty h = tt
-own_name bytes (records.XName attribute text) h = tt
-own_name bytes (records.NumberedXName attribute text number) h = tt
-own_name bytes (records.XElement attribute text) h = tt
-own_name bytes (records.XGeometry info attribute layer datatype text x y repetition) h = tt
+own_name bytes r h = tt
 
 -- ---- START and END
 
 pub tables_is : (tables : Bool) (r : OasRecord) → tables_by (body_of r) tables ≡ (if is_flagged r then true else tables)
 tables_is tables records.Pad = refl
-tables_is tables (records.Start version real offset_flag offsets) = refl
-tables_is tables (records.End offsets padding scheme validation) = refl
-tables_is tables (records.CellName name) = refl
-tables_is tables (records.NumberedCellName name number) = refl
-tables_is tables (records.TextString text) = refl
-tables_is tables (records.NumberedTextString text number) = refl
-tables_is tables (records.PropName name) = refl
-tables_is tables (records.NumberedPropName name number) = refl
-tables_is tables (records.PropString text) = refl
-tables_is tables (records.NumberedPropString text number) = refl
-tables_is tables (records.LayerName name layers datatypes) = refl
-tables_is tables (records.TextLayerName name layers datatypes) = refl
-tables_is tables (records.NumberedCell number) = refl
-tables_is tables (records.Cell name) = refl
-tables_is tables records.XyAbsolute = refl
-tables_is tables records.XyRelative = refl
-tables_is tables (records.Placement info cell x y repetition) = refl
-tables_is tables (records.TurnedPlacement info cell magnification angle x y repetition) = refl
-tables_is tables (records.Text info text textlayer texttype x y repetition) = refl
-tables_is tables (records.Rectangle info layer datatype width height x y repetition) = refl
-tables_is tables (records.Polygon info layer datatype points x y repetition) = refl
-tables_is tables (records.Path info layer datatype half_width extension start end points x y repetition) = refl
-tables_is tables (records.Trapezoid info layer datatype width height delta_a delta_b x y repetition) = refl
-tables_is tables (records.TrapezoidA info layer datatype width height delta_a x y repetition) = refl
-tables_is tables (records.TrapezoidB info layer datatype width height delta_b x y repetition) = refl
-tables_is tables (records.Ctrapezoid info layer datatype kind width height x y repetition) = refl
-tables_is tables (records.Circle info layer datatype radius x y repetition) = refl
-tables_is tables (records.Property info name count values) = refl
-tables_is tables records.LastProperty = refl
-tables_is tables (records.XName attribute text) = refl
-tables_is tables (records.NumberedXName attribute text number) = refl
-tables_is tables (records.XElement attribute text) = refl
-tables_is tables (records.XGeometry info attribute layer datatype text x y repetition) = refl
+tables_is tables r = refl
 
 pub unit_kept : (bytes : List ℕ) (unit at next : ℕ) (r : OasRecord) → KeepsFile bytes unit (body_of r) at next → HasUnit unit r
-unit_kept bytes unit at next records.Pad h = tt
 unit_kept bytes unit at next (records.Start version real offset_flag offsets) h = h
-unit_kept bytes unit at next (records.End offsets padding scheme validation) h = tt
-unit_kept bytes unit at next (records.CellName name) h = tt
-unit_kept bytes unit at next (records.NumberedCellName name number) h = tt
-unit_kept bytes unit at next (records.TextString text) h = tt
-unit_kept bytes unit at next (records.NumberedTextString text number) h = tt
-unit_kept bytes unit at next (records.PropName name) h = tt
-unit_kept bytes unit at next (records.NumberedPropName name number) h = tt
-unit_kept bytes unit at next (records.PropString text) h = tt
-unit_kept bytes unit at next (records.NumberedPropString text number) h = tt
-unit_kept bytes unit at next (records.LayerName name layers datatypes) h = tt
-unit_kept bytes unit at next (records.TextLayerName name layers datatypes) h = tt
-unit_kept bytes unit at next (records.NumberedCell number) h = tt
-unit_kept bytes unit at next (records.Cell name) h = tt
-unit_kept bytes unit at next records.XyAbsolute h = tt
-unit_kept bytes unit at next records.XyRelative h = tt
-unit_kept bytes unit at next (records.Placement info cell x y repetition) h = tt
-unit_kept bytes unit at next (records.TurnedPlacement info cell magnification angle x y repetition) h = tt
-unit_kept bytes unit at next (records.Text info text textlayer texttype x y repetition) h = tt
-unit_kept bytes unit at next (records.Rectangle info layer datatype width height x y repetition) h = tt
-unit_kept bytes unit at next (records.Polygon info layer datatype points x y repetition) h = tt
-unit_kept bytes unit at next (records.Path info layer datatype half_width extension start end points x y repetition) h = tt
-unit_kept bytes unit at next (records.Trapezoid info layer datatype width height delta_a delta_b x y repetition) h = tt
-unit_kept bytes unit at next (records.TrapezoidA info layer datatype width height delta_a x y repetition) h = tt
-unit_kept bytes unit at next (records.TrapezoidB info layer datatype width height delta_b x y repetition) h = tt
-unit_kept bytes unit at next (records.Ctrapezoid info layer datatype kind width height x y repetition) h = tt
-unit_kept bytes unit at next (records.Circle info layer datatype radius x y repetition) h = tt
-unit_kept bytes unit at next (records.Property info name count values) h = tt
-unit_kept bytes unit at next records.LastProperty h = tt
-unit_kept bytes unit at next (records.XName attribute text) h = tt
-unit_kept bytes unit at next (records.NumberedXName attribute text number) h = tt
-unit_kept bytes unit at next (records.XElement attribute text) h = tt
-unit_kept bytes unit at next (records.XGeometry info attribute layer datatype text x y repetition) h = tt
+unit_kept bytes unit at next r h = tt
 
 pub tail_kept : (bytes : List ℕ) (unit at next : ℕ) (r : OasRecord) → KeepsFile bytes unit (body_of r) at next → is_end r ≡ true → IsTail bytes at next
-tail_kept bytes unit at next records.Pad h ends = absurd (cc)
-tail_kept bytes unit at next (records.Start version real offset_flag offsets) h ends = absurd (cc)
 tail_kept bytes unit at next (records.End offsets padding scheme validation) h ends = h
-tail_kept bytes unit at next (records.CellName name) h ends = absurd (cc)
-tail_kept bytes unit at next (records.NumberedCellName name number) h ends = absurd (cc)
-tail_kept bytes unit at next (records.TextString text) h ends = absurd (cc)
-tail_kept bytes unit at next (records.NumberedTextString text number) h ends = absurd (cc)
-tail_kept bytes unit at next (records.PropName name) h ends = absurd (cc)
-tail_kept bytes unit at next (records.NumberedPropName name number) h ends = absurd (cc)
-tail_kept bytes unit at next (records.PropString text) h ends = absurd (cc)
-tail_kept bytes unit at next (records.NumberedPropString text number) h ends = absurd (cc)
-tail_kept bytes unit at next (records.LayerName name layers datatypes) h ends = absurd (cc)
-tail_kept bytes unit at next (records.TextLayerName name layers datatypes) h ends = absurd (cc)
-tail_kept bytes unit at next (records.NumberedCell number) h ends = absurd (cc)
-tail_kept bytes unit at next (records.Cell name) h ends = absurd (cc)
-tail_kept bytes unit at next records.XyAbsolute h ends = absurd (cc)
-tail_kept bytes unit at next records.XyRelative h ends = absurd (cc)
-tail_kept bytes unit at next (records.Placement info cell x y repetition) h ends = absurd (cc)
-tail_kept bytes unit at next (records.TurnedPlacement info cell magnification angle x y repetition) h ends = absurd (cc)
-tail_kept bytes unit at next (records.Text info text textlayer texttype x y repetition) h ends = absurd (cc)
-tail_kept bytes unit at next (records.Rectangle info layer datatype width height x y repetition) h ends = absurd (cc)
-tail_kept bytes unit at next (records.Polygon info layer datatype points x y repetition) h ends = absurd (cc)
-tail_kept bytes unit at next (records.Path info layer datatype half_width extension start end points x y repetition) h ends = absurd (cc)
-tail_kept bytes unit at next (records.Trapezoid info layer datatype width height delta_a delta_b x y repetition) h ends = absurd (cc)
-tail_kept bytes unit at next (records.TrapezoidA info layer datatype width height delta_a x y repetition) h ends = absurd (cc)
-tail_kept bytes unit at next (records.TrapezoidB info layer datatype width height delta_b x y repetition) h ends = absurd (cc)
-tail_kept bytes unit at next (records.Ctrapezoid info layer datatype kind width height x y repetition) h ends = absurd (cc)
-tail_kept bytes unit at next (records.Circle info layer datatype radius x y repetition) h ends = absurd (cc)
-tail_kept bytes unit at next (records.Property info name count values) h ends = absurd (cc)
-tail_kept bytes unit at next records.LastProperty h ends = absurd (cc)
-tail_kept bytes unit at next (records.XName attribute text) h ends = absurd (cc)
-tail_kept bytes unit at next (records.NumberedXName attribute text number) h ends = absurd (cc)
-tail_kept bytes unit at next (records.XElement attribute text) h ends = absurd (cc)
-tail_kept bytes unit at next (records.XGeometry info attribute layer datatype text x y repetition) h ends = absurd (cc)
+tail_kept bytes unit at next r h ends = absurd (cc)
 
 abbrev pub BreaksUnit : ℕ → ℕ → OasRecord → OasBad → Type 0
 BreaksUnit unit at r bad = (HasUnit unit r → ⊥) × (bad ≡ faults.Unit at)
@@ -342,37 +158,6 @@ BreaksTail bytes unit at next r bad = HasUnit unit r × (is_end r ≡ true) × (
 
 pub file_broken : (bytes : List ℕ) (unit at next : ℕ) (bad : OasBad) (r : OasRecord) → BreaksFile bytes unit (body_of r) at next bad
     → BreaksUnit unit at r bad ⊎ BreaksTail bytes unit at next r bad
-file_broken bytes unit at next bad records.Pad h = absurd h
 file_broken bytes unit at next bad (records.Start version real offset_flag offsets) h = inl h
 file_broken bytes unit at next bad (records.End offsets padding scheme validation) h = inr (tt, refl, h.0, h.1)
-file_broken bytes unit at next bad (records.CellName name) h = absurd h
-file_broken bytes unit at next bad (records.NumberedCellName name number) h = absurd h
-file_broken bytes unit at next bad (records.TextString text) h = absurd h
-file_broken bytes unit at next bad (records.NumberedTextString text number) h = absurd h
-file_broken bytes unit at next bad (records.PropName name) h = absurd h
-file_broken bytes unit at next bad (records.NumberedPropName name number) h = absurd h
-file_broken bytes unit at next bad (records.PropString text) h = absurd h
-file_broken bytes unit at next bad (records.NumberedPropString text number) h = absurd h
-file_broken bytes unit at next bad (records.LayerName name layers datatypes) h = absurd h
-file_broken bytes unit at next bad (records.TextLayerName name layers datatypes) h = absurd h
-file_broken bytes unit at next bad (records.NumberedCell number) h = absurd h
-file_broken bytes unit at next bad (records.Cell name) h = absurd h
-file_broken bytes unit at next bad records.XyAbsolute h = absurd h
-file_broken bytes unit at next bad records.XyRelative h = absurd h
-file_broken bytes unit at next bad (records.Placement info cell x y repetition) h = absurd h
-file_broken bytes unit at next bad (records.TurnedPlacement info cell magnification angle x y repetition) h = absurd h
-file_broken bytes unit at next bad (records.Text info text textlayer texttype x y repetition) h = absurd h
-file_broken bytes unit at next bad (records.Rectangle info layer datatype width height x y repetition) h = absurd h
-file_broken bytes unit at next bad (records.Polygon info layer datatype points x y repetition) h = absurd h
-file_broken bytes unit at next bad (records.Path info layer datatype half_width extension start end points x y repetition) h = absurd h
-file_broken bytes unit at next bad (records.Trapezoid info layer datatype width height delta_a delta_b x y repetition) h = absurd h
-file_broken bytes unit at next bad (records.TrapezoidA info layer datatype width height delta_a x y repetition) h = absurd h
-file_broken bytes unit at next bad (records.TrapezoidB info layer datatype width height delta_b x y repetition) h = absurd h
-file_broken bytes unit at next bad (records.Ctrapezoid info layer datatype kind width height x y repetition) h = absurd h
-file_broken bytes unit at next bad (records.Circle info layer datatype radius x y repetition) h = absurd h
-file_broken bytes unit at next bad (records.Property info name count values) h = absurd h
-file_broken bytes unit at next bad records.LastProperty h = absurd h
-file_broken bytes unit at next bad (records.XName attribute text) h = absurd h
-file_broken bytes unit at next bad (records.NumberedXName attribute text number) h = absurd h
-file_broken bytes unit at next bad (records.XElement attribute text) h = absurd h
-file_broken bytes unit at next bad (records.XGeometry info attribute layer datatype text x y repetition) h = absurd h
+file_broken bytes unit at next bad r h = absurd h

@@ -58,29 +58,6 @@ properties_in past = count_in (λ _ r. is_property r) past
 
 pub counted : (wanted : List Pair) (past : List OasRecord) (r : OasRecord) → KeepsToOthers (is_wanted wanted (r ∷ past)) r
     → with_record (wanting_of wanted past r) (body_of r) (counts_of wanted past) ≡ counts_of wanted (r ∷ past)
-counted wanted past records.Pad h = none_more (kept_in wanted past) (other_in wanted past) (texts_in past) (properties_in past)
-counted wanted past (records.Start version real offset_flag offsets) h = none_more (kept_in wanted past)
-    (other_in wanted past) (texts_in past) (properties_in past)
-counted wanted past (records.End offsets padding scheme validation) h = none_more (kept_in wanted past)
-    (other_in wanted past) (texts_in past) (properties_in past)
-counted wanted past (records.CellName name) h = none_more (kept_in wanted past) (other_in wanted past) (texts_in past) (properties_in past)
-counted wanted past (records.NumberedCellName name number) h = none_more (kept_in wanted past) (other_in wanted past) (texts_in past) (properties_in past)
-counted wanted past (records.TextString text) h = none_more (kept_in wanted past) (other_in wanted past) (texts_in past) (properties_in past)
-counted wanted past (records.NumberedTextString text number) h = none_more (kept_in wanted past) (other_in wanted past) (texts_in past) (properties_in past)
-counted wanted past (records.PropName name) h = none_more (kept_in wanted past) (other_in wanted past) (texts_in past) (properties_in past)
-counted wanted past (records.NumberedPropName name number) h = none_more (kept_in wanted past) (other_in wanted past) (texts_in past) (properties_in past)
-counted wanted past (records.PropString text) h = none_more (kept_in wanted past) (other_in wanted past) (texts_in past) (properties_in past)
-counted wanted past (records.NumberedPropString text number) h = none_more (kept_in wanted past) (other_in wanted past) (texts_in past) (properties_in past)
-counted wanted past (records.LayerName name layers datatypes) h = none_more (kept_in wanted past) (other_in wanted past) (texts_in past) (properties_in past)
-counted wanted past (records.TextLayerName name layers datatypes) h = none_more (kept_in wanted past)
-    (other_in wanted past) (texts_in past) (properties_in past)
-counted wanted past (records.NumberedCell number) h = none_more (kept_in wanted past) (other_in wanted past) (texts_in past) (properties_in past)
-counted wanted past (records.Cell name) h = none_more (kept_in wanted past) (other_in wanted past) (texts_in past) (properties_in past)
-counted wanted past records.XyAbsolute h = none_more (kept_in wanted past) (other_in wanted past) (texts_in past) (properties_in past)
-counted wanted past records.XyRelative h = none_more (kept_in wanted past) (other_in wanted past) (texts_in past) (properties_in past)
-counted wanted past (records.Placement info cell x y repetition) h = none_more (kept_in wanted past) (other_in wanted past) (texts_in past) (properties_in past)
-counted wanted past (records.TurnedPlacement info cell magnification angle x y repetition) h = none_more
-    (kept_in wanted past) (other_in wanted past) (texts_in past) (properties_in past)
 counted wanted past (records.Text info text textlayer texttype x y repetition) h = text_more (kept_in wanted past)
     (other_in wanted past) (texts_in past) (properties_in past)
 counted wanted past (records.Rectangle info layer datatype width height x y repetition) h = shape_more
@@ -118,14 +95,11 @@ counted wanted past (records.Circle info layer datatype radius x y repetition) h
 counted wanted past (records.Property info name count values) h = property_more (kept_in wanted past)
     (other_in wanted past) (texts_in past) (properties_in past)
 counted wanted past records.LastProperty h = property_more (kept_in wanted past) (other_in wanted past) (texts_in past) (properties_in past)
-counted wanted past (records.XName attribute text) h = none_more (kept_in wanted past) (other_in wanted past) (texts_in past) (properties_in past)
-counted wanted past (records.NumberedXName attribute text number) h = none_more (kept_in wanted past)
-    (other_in wanted past) (texts_in past) (properties_in past)
-counted wanted past (records.XElement attribute text) h = none_more (kept_in wanted past) (other_in wanted past) (texts_in past) (properties_in past)
 counted wanted past (records.XGeometry info attribute layer datatype text x y repetition) h = undrawn_more
     (kept_in wanted past) (other_in wanted past) (texts_in past) (properties_in past)
     (body_of (records.XGeometry info attribute layer datatype text x y repetition))
     (is_wanted wanted ((records.XGeometry info attribute layer datatype text x y repetition) ∷ past)) h
+counted wanted past r h = none_more (kept_in wanted past) (other_in wanted past) (texts_in past) (properties_in past)
 
 -- ---- as many as the records at most
 

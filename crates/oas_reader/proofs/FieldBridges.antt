@@ -56,23 +56,6 @@ repeated_is (Some rep) = refl
 
 needs_are : (past : List OasRecord) (r : OasRecord) → needs_of past r
     ≡ pair_needs (has_a_pair (body_of r)) ++ (form_needs (body_of r) (kind_of (r ∷ past)) ++ repetition_needs (is_there (repetition_in r)))
-needs_are past records.Pad = refl
-needs_are past (records.Start version unit offset_flag tables) = refl
-needs_are past (records.End tables padding scheme validation) = refl
-needs_are past (records.CellName name) = refl
-needs_are past (records.NumberedCellName name number) = refl
-needs_are past (records.TextString text) = refl
-needs_are past (records.NumberedTextString text number) = refl
-needs_are past (records.PropName name) = refl
-needs_are past (records.NumberedPropName name number) = refl
-needs_are past (records.PropString text) = refl
-needs_are past (records.NumberedPropString text number) = refl
-needs_are past (records.LayerName name layers datatypes) = refl
-needs_are past (records.TextLayerName name layers datatypes) = refl
-needs_are past (records.NumberedCell number) = refl
-needs_are past (records.Cell name) = refl
-needs_are past records.XyAbsolute = refl
-needs_are past records.XyRelative = refl
 needs_are past (records.Placement info cell x y repetition) = rw (repeated_is repetition) refl
 needs_are past (records.TurnedPlacement info cell magnification angle x y repetition) = rw (repeated_is repetition) refl
 needs_are past (records.Text info text textlayer texttype x y repetition) = rw (repeated_is repetition) refl
@@ -84,12 +67,8 @@ needs_are past (records.TrapezoidA info layer datatype width height delta_a x y 
 needs_are past (records.TrapezoidB info layer datatype width height delta_b x y repetition) = rw (repeated_is repetition) refl
 needs_are past (records.Ctrapezoid info layer datatype kind width height x y repetition) = rw (repeated_is repetition) refl
 needs_are past (records.Circle info layer datatype radius x y repetition) = rw (repeated_is repetition) refl
-needs_are past (records.Property info name count values) = refl
-needs_are past records.LastProperty = refl
-needs_are past (records.XName attribute text) = refl
-needs_are past (records.NumberedXName attribute text number) = refl
-needs_are past (records.XElement attribute text) = refl
 needs_are past (records.XGeometry info attribute layer datatype text x y repetition) = rw (repeated_is repetition) refl
+needs_are past r = refl
 
 joined : (all : List OasRecord) (fields : Fields) → AreFields all fields → (pair form repetition : List Variable)
     → or_else (first_in fields pair) (or_else (first_in fields form) (first_in fields repetition)) ≡ first_undefined all (pair ++ (form ++ repetition))

@@ -21,54 +21,21 @@ use Rattle.oas_reader.specs.declared.bodies.Body.TheVariants as bodies
 
 pub figure_drawn : (body : Body) (fields : Fields) (rep : Option Rep) (figure : Figure) → figure_in body fields ≡ Some figure
     → shapes_in body fields rep ≡ outline_shape (pair_in fields) (figure_outline (at_in fields) figure) (offsets_in rep) ∷ []
-figure_drawn (bodies.Start version unit offset_flag) fields rep figure e = ap (λ f. figure_shapes f (pair_in fields) (at_in fields) (offsets_in rep)) e
-figure_drawn (bodies.End scheme) fields rep figure e = ap (λ f. figure_shapes f (pair_in fields) (at_in fields) (offsets_in rep)) e
-figure_drawn (bodies.CellName name number) fields rep figure e = ap (λ f. figure_shapes f (pair_in fields) (at_in fields) (offsets_in rep)) e
-figure_drawn (bodies.Cell called) fields rep figure e = ap (λ f. figure_shapes f (pair_in fields) (at_in fields) (offsets_in rep)) e
-figure_drawn (bodies.Placement called flips turning) fields rep figure e = ap (λ f. figure_shapes f (pair_in fields) (at_in fields) (offsets_in rep)) e
-figure_drawn bodies.Text fields rep figure e = ap (λ f. figure_shapes f (pair_in fields) (at_in fields) (offsets_in rep)) e
-figure_drawn bodies.Rectangle fields rep figure e = ap (λ f. figure_shapes f (pair_in fields) (at_in fields) (offsets_in rep)) e
-figure_drawn (bodies.Trapezoid is_upright a b) fields rep figure e = ap (λ f. figure_shapes f (pair_in fields) (at_in fields) (offsets_in rep)) e
-figure_drawn bodies.Ctrapezoid fields rep figure e = ap (λ f. figure_shapes f (pair_in fields) (at_in fields) (offsets_in rep)) e
 figure_drawn bodies.Polygon fields rep figure e = absurd (cc)
 figure_drawn bodies.Path fields rep figure e = absurd (cc)
-figure_drawn bodies.Undrawn fields rep figure e = ap (λ f. figure_shapes f (pair_in fields) (at_in fields) (offsets_in rep)) e
-figure_drawn bodies.Property fields rep figure e = ap (λ f. figure_shapes f (pair_in fields) (at_in fields) (offsets_in rep)) e
-figure_drawn bodies.Other fields rep figure e = ap (λ f. figure_shapes f (pair_in fields) (at_in fields) (offsets_in rep)) e
+figure_drawn body fields rep figure e = ap (λ f. figure_shapes f (pair_in fields) (at_in fields) (offsets_in rep)) e
 
 pub figure_keeps : (body : Body) (fields : Fields) (rep : Option Rep) (figure : Figure) (rule : ℕ) → figure_in body fields ≡ Some figure
     → KeepsFigure (at_in fields) figure rep rule → KeepsDrawnIn body fields rep rule
-figure_keeps (bodies.Start version unit offset_flag) fields rep figure rule e k = subst (λ f. FigureKeeps f (at_in fields) rep rule) (sym e) k
-figure_keeps (bodies.End scheme) fields rep figure rule e k = subst (λ f. FigureKeeps f (at_in fields) rep rule) (sym e) k
-figure_keeps (bodies.CellName name number) fields rep figure rule e k = subst (λ f. FigureKeeps f (at_in fields) rep rule) (sym e) k
-figure_keeps (bodies.Cell called) fields rep figure rule e k = subst (λ f. FigureKeeps f (at_in fields) rep rule) (sym e) k
-figure_keeps (bodies.Placement called flips turning) fields rep figure rule e k = subst (λ f. FigureKeeps f (at_in fields) rep rule) (sym e) k
-figure_keeps bodies.Text fields rep figure rule e k = subst (λ f. FigureKeeps f (at_in fields) rep rule) (sym e) k
-figure_keeps bodies.Rectangle fields rep figure rule e k = subst (λ f. FigureKeeps f (at_in fields) rep rule) (sym e) k
-figure_keeps (bodies.Trapezoid is_upright a b) fields rep figure rule e k = subst (λ f. FigureKeeps f (at_in fields) rep rule) (sym e) k
-figure_keeps bodies.Ctrapezoid fields rep figure rule e k = subst (λ f. FigureKeeps f (at_in fields) rep rule) (sym e) k
 figure_keeps bodies.Polygon fields rep figure rule e k = absurd (cc)
 figure_keeps bodies.Path fields rep figure rule e k = absurd (cc)
-figure_keeps bodies.Undrawn fields rep figure rule e k = subst (λ f. FigureKeeps f (at_in fields) rep rule) (sym e) k
-figure_keeps bodies.Property fields rep figure rule e k = subst (λ f. FigureKeeps f (at_in fields) rep rule) (sym e) k
-figure_keeps bodies.Other fields rep figure rule e k = subst (λ f. FigureKeeps f (at_in fields) rep rule) (sym e) k
+figure_keeps body fields rep figure rule e k = subst (λ f. FigureKeeps f (at_in fields) rep rule) (sym e) k
 
 pub figure_kept : (body : Body) (fields : Fields) (rep : Option Rep) (figure : Figure) (rule : ℕ) → figure_in body fields ≡ Some figure
     → KeepsDrawnIn body fields rep rule → KeepsFigure (at_in fields) figure rep rule
-figure_kept (bodies.Start version unit offset_flag) fields rep figure rule e k = subst (λ f. FigureKeeps f (at_in fields) rep rule) e k
-figure_kept (bodies.End scheme) fields rep figure rule e k = subst (λ f. FigureKeeps f (at_in fields) rep rule) e k
-figure_kept (bodies.CellName name number) fields rep figure rule e k = subst (λ f. FigureKeeps f (at_in fields) rep rule) e k
-figure_kept (bodies.Cell called) fields rep figure rule e k = subst (λ f. FigureKeeps f (at_in fields) rep rule) e k
-figure_kept (bodies.Placement called flips turning) fields rep figure rule e k = subst (λ f. FigureKeeps f (at_in fields) rep rule) e k
-figure_kept bodies.Text fields rep figure rule e k = subst (λ f. FigureKeeps f (at_in fields) rep rule) e k
-figure_kept bodies.Rectangle fields rep figure rule e k = subst (λ f. FigureKeeps f (at_in fields) rep rule) e k
-figure_kept (bodies.Trapezoid is_upright a b) fields rep figure rule e k = subst (λ f. FigureKeeps f (at_in fields) rep rule) e k
-figure_kept bodies.Ctrapezoid fields rep figure rule e k = subst (λ f. FigureKeeps f (at_in fields) rep rule) e k
 figure_kept bodies.Polygon fields rep figure rule e k = absurd (cc)
 figure_kept bodies.Path fields rep figure rule e k = absurd (cc)
-figure_kept bodies.Undrawn fields rep figure rule e k = subst (λ f. FigureKeeps f (at_in fields) rep rule) e k
-figure_kept bodies.Property fields rep figure rule e k = subst (λ f. FigureKeeps f (at_in fields) rep rule) e k
-figure_kept bodies.Other fields rep figure rule e k = subst (λ f. FigureKeeps f (at_in fields) rep rule) e k
+figure_kept body fields rep figure rule e k = subst (λ f. FigureKeeps f (at_in fields) rep rule) e k
 
 pub figure_lowest : (body : Body) (fields : Fields) (rep : Option Rep) (figure : Figure) (rule : ℕ) → figure_in body fields ≡ Some figure
     → IsLowest (KeepsFigure (at_in fields) figure rep) rule → IsLowest (KeepsDrawnIn body fields rep) rule

@@ -6,7 +6,6 @@ use Rattle.half_grid.specs.declared.plane.Point.{Point}
 use Rattle.layout_model.specs.declared.pair.Pair.{Pair}
 use Rattle.layout_model.specs.declared.shapes.Shape.{Shape}
 use Rattle.oas_record.specs.Taken.{repetition_in}
-use Rattle.oas_record.specs.declared.fields.Called.TheVariants.{Number, Text}
 use Rattle.oas_record.specs.declared.fields.Deltas.{Deltas}
 use Rattle.oas_record.specs.declared.records.OasRecord.{OasRecord}
 use Rattle.oas_record.specs.declared.records.OasRecord.TheVariants as records
@@ -21,8 +20,8 @@ use Rattle.oas_fields.specs.Writes.{repetition_written, repetition_by as the_wri
 use Rattle.oas_fields.specs.declared.variables.Variable.{Variable}
 use Rattle.oas_fields.specs.declared.variables.Variable.TheVariants.{Layer, Datatype, PolygonPoints, PathHalfWidth, PathStart, PathEnd, PathPoints}
 use Rattle.oas_reader.specs.Bodies.{body_of}
-use Rattle.oas_reader.specs.Drawn.{repetition_kept}
-use Rattle.oas_reader.specs.Geometry.{shapes_if, placings_in, KeepsGeometry}
+use Rattle.oas_reader.specs.Drawn.{repetition_kept, KeepsDrawnIn, KeepsWantedIn}
+use Rattle.oas_reader.specs.Geometry.{shapes_if, placings_in, KeepsShapes, KeepsGeometry}
 use Rattle.oas_reader.specs.Items.{Item, records_in}
 use Rattle.oas_reader.specs.Kept.{fields_at, has_a_pair, KeepsVersionBy, KeepsSchemeBy}
 use Rattle.oas_reader.specs.Meaning.{repetition_by, repetition_at, is_wanted, has_pair, shapes_drawn, placings_at, figure_of, at_of, brush_of}
@@ -33,144 +32,28 @@ use Rattle.oas_reader.specs.Rules.{KeepsToOthers, KeepsVersion, KeepsScheme, Fig
 use Rattle.oas_reader.specs.Rules.{KeepsDrawn, Keeps}
 use Rattle.oas_reader.specs.Taking.{KeepsOwnName, wanting_of}
 use Rattle.oas_reader.specs.Undefined.{is_there, is_defined, first_undefined, undefined_of}
-use Rattle.oas_reader.specs.declared.bodies.Body.TheVariants as bodies
 use Rattle.oas_reader.proofs.DrawBridges.{keeps_to, keeps_from}
 
 -- ---- pairs and cells
 
 pub has_pair_is : (r : OasRecord) → has_a_pair (body_of r) ≡ has_pair r
 has_pair_is records.Pad = refl
-has_pair_is (records.Start version unit offset_flag tables) = refl
-has_pair_is (records.End tables padding scheme validation) = refl
-has_pair_is (records.CellName name) = refl
-has_pair_is (records.NumberedCellName name number) = refl
-has_pair_is (records.TextString text) = refl
-has_pair_is (records.NumberedTextString text number) = refl
-has_pair_is (records.PropName name) = refl
-has_pair_is (records.NumberedPropName name number) = refl
-has_pair_is (records.PropString text) = refl
-has_pair_is (records.NumberedPropString text number) = refl
-has_pair_is (records.LayerName name layers datatypes) = refl
-has_pair_is (records.TextLayerName name layers datatypes) = refl
-has_pair_is (records.NumberedCell number) = refl
-has_pair_is (records.Cell name) = refl
-has_pair_is records.XyAbsolute = refl
-has_pair_is records.XyRelative = refl
-has_pair_is (records.Placement info cell x y repetition) = refl
-has_pair_is (records.TurnedPlacement info cell magnification angle x y repetition) = refl
-has_pair_is (records.Text info text textlayer texttype x y repetition) = refl
-has_pair_is (records.Rectangle info layer datatype width height x y repetition) = refl
-has_pair_is (records.Polygon info layer datatype points x y repetition) = refl
-has_pair_is (records.Path info layer datatype half_width extension start end points x y repetition) = refl
-has_pair_is (records.Trapezoid info layer datatype width height delta_a delta_b x y repetition) = refl
-has_pair_is (records.TrapezoidA info layer datatype width height delta_a x y repetition) = refl
-has_pair_is (records.TrapezoidB info layer datatype width height delta_b x y repetition) = refl
-has_pair_is (records.Ctrapezoid info layer datatype kind width height x y repetition) = refl
-has_pair_is (records.Circle info layer datatype radius x y repetition) = refl
-has_pair_is (records.Property info name count values) = refl
-has_pair_is records.LastProperty = refl
-has_pair_is (records.XName attribute text) = refl
-has_pair_is (records.NumberedXName attribute text number) = refl
-has_pair_is (records.XElement attribute text) = refl
-has_pair_is (records.XGeometry info attribute layer datatype text x y repetition) = refl
+has_pair_is r = refl
 
 -- a record that begins no cell calls none
 pub calls_none : (r : OasRecord) → begins_cell r ≡ false → cell_called r ≡ None
-calls_none records.Pad e = refl
-calls_none (records.Start version unit offset_flag tables) e = refl
-calls_none (records.End tables padding scheme validation) e = refl
-calls_none (records.CellName name) e = refl
-calls_none (records.NumberedCellName name number) e = refl
-calls_none (records.TextString text) e = refl
-calls_none (records.NumberedTextString text number) e = refl
-calls_none (records.PropName name) e = refl
-calls_none (records.NumberedPropName name number) e = refl
-calls_none (records.PropString text) e = refl
-calls_none (records.NumberedPropString text number) e = refl
-calls_none (records.LayerName name layers datatypes) e = refl
-calls_none (records.TextLayerName name layers datatypes) e = refl
 calls_none (records.NumberedCell number) e = absurd (cc)
 calls_none (records.Cell name) e = absurd (cc)
-calls_none records.XyAbsolute e = refl
-calls_none records.XyRelative e = refl
-calls_none (records.Placement info cell x y repetition) e = refl
-calls_none (records.TurnedPlacement info cell magnification angle x y repetition) e = refl
-calls_none (records.Text info text textlayer texttype x y repetition) e = refl
-calls_none (records.Rectangle info layer datatype width height x y repetition) e = refl
-calls_none (records.Polygon info layer datatype points x y repetition) e = refl
-calls_none (records.Path info layer datatype half_width extension start end points x y repetition) e = refl
-calls_none (records.Trapezoid info layer datatype width height delta_a delta_b x y repetition) e = refl
-calls_none (records.TrapezoidA info layer datatype width height delta_a x y repetition) e = refl
-calls_none (records.TrapezoidB info layer datatype width height delta_b x y repetition) e = refl
-calls_none (records.Ctrapezoid info layer datatype kind width height x y repetition) e = refl
-calls_none (records.Circle info layer datatype radius x y repetition) e = refl
-calls_none (records.Property info name count values) e = refl
-calls_none records.LastProperty e = refl
-calls_none (records.XName attribute text) e = refl
-calls_none (records.NumberedXName attribute text number) e = refl
-calls_none (records.XElement attribute text) e = refl
-calls_none (records.XGeometry info attribute layer datatype text x y repetition) e = refl
+calls_none r e = refl
 
 -- ---- what is placed and drawn
 
 pub placings_are : (past : List OasRecord) (r : OasRecord)
     → placings_in (body_of r) (fields_at (r ∷ past)) (repetition_at past r) ≡ placings_at past r
 placings_are past records.Pad = refl
-placings_are past (records.Start version unit offset_flag tables) = refl
-placings_are past (records.End tables padding scheme validation) = refl
-placings_are past (records.CellName name) = refl
-placings_are past (records.NumberedCellName name number) = refl
-placings_are past (records.TextString text) = refl
-placings_are past (records.NumberedTextString text number) = refl
-placings_are past (records.PropName name) = refl
-placings_are past (records.NumberedPropName name number) = refl
-placings_are past (records.PropString text) = refl
-placings_are past (records.NumberedPropString text number) = refl
-placings_are past (records.LayerName name layers datatypes) = refl
-placings_are past (records.TextLayerName name layers datatypes) = refl
-placings_are past (records.NumberedCell number) = refl
-placings_are past (records.Cell name) = refl
-placings_are past records.XyAbsolute = refl
-placings_are past records.XyRelative = refl
-placings_are past (records.Placement info cell x y repetition) = refl
-placings_are past (records.TurnedPlacement info cell magnification angle x y repetition) = refl
-placings_are past (records.Text info text textlayer texttype x y repetition) = refl
-placings_are past (records.Rectangle info layer datatype width height x y repetition) = refl
-placings_are past (records.Polygon info layer datatype points x y repetition) = refl
-placings_are past (records.Path info layer datatype half_width extension start end points x y repetition) = refl
-placings_are past (records.Trapezoid info layer datatype width height delta_a delta_b x y repetition) = refl
-placings_are past (records.TrapezoidA info layer datatype width height delta_a x y repetition) = refl
-placings_are past (records.TrapezoidB info layer datatype width height delta_b x y repetition) = refl
-placings_are past (records.Ctrapezoid info layer datatype kind width height x y repetition) = refl
-placings_are past (records.Circle info layer datatype radius x y repetition) = refl
-placings_are past (records.Property info name count values) = refl
-placings_are past records.LastProperty = refl
-placings_are past (records.XName attribute text) = refl
-placings_are past (records.NumberedXName attribute text number) = refl
-placings_are past (records.XElement attribute text) = refl
-placings_are past (records.XGeometry info attribute layer datatype text x y repetition) = refl
+placings_are past r = refl
 
 undrawn : (r : OasRecord) (all : List OasRecord) (offsets : List Point) → has_pair r ≡ false → shapes_drawn r all offsets ≡ []
-undrawn records.Pad all offsets e = refl
-undrawn (records.Start version unit offset_flag tables) all offsets e = refl
-undrawn (records.End tables padding scheme validation) all offsets e = refl
-undrawn (records.CellName name) all offsets e = refl
-undrawn (records.NumberedCellName name number) all offsets e = refl
-undrawn (records.TextString text) all offsets e = refl
-undrawn (records.NumberedTextString text number) all offsets e = refl
-undrawn (records.PropName name) all offsets e = refl
-undrawn (records.NumberedPropName name number) all offsets e = refl
-undrawn (records.PropString text) all offsets e = refl
-undrawn (records.NumberedPropString text number) all offsets e = refl
-undrawn (records.LayerName name layers datatypes) all offsets e = refl
-undrawn (records.TextLayerName name layers datatypes) all offsets e = refl
-undrawn (records.NumberedCell number) all offsets e = refl
-undrawn (records.Cell name) all offsets e = refl
-undrawn records.XyAbsolute all offsets e = refl
-undrawn records.XyRelative all offsets e = refl
-undrawn (records.Placement info cell x y repetition) all offsets e = refl
-undrawn (records.TurnedPlacement info cell magnification angle x y repetition) all offsets e = refl
-undrawn (records.Text info text textlayer texttype x y repetition) all offsets e = refl
 undrawn (records.Rectangle info layer datatype width height x y repetition) all offsets e = absurd (cc)
 undrawn (records.Polygon info layer datatype points x y repetition) all offsets e = absurd (cc)
 undrawn (records.Path info layer datatype half_width extension start end points x y repetition) all offsets e = absurd (cc)
@@ -178,13 +61,7 @@ undrawn (records.Trapezoid info layer datatype width height delta_a delta_b x y 
 undrawn (records.TrapezoidA info layer datatype width height delta_a x y repetition) all offsets e = absurd (cc)
 undrawn (records.TrapezoidB info layer datatype width height delta_b x y repetition) all offsets e = absurd (cc)
 undrawn (records.Ctrapezoid info layer datatype kind width height x y repetition) all offsets e = absurd (cc)
-undrawn (records.Circle info layer datatype radius x y repetition) all offsets e = refl
-undrawn (records.Property info name count values) all offsets e = refl
-undrawn records.LastProperty all offsets e = refl
-undrawn (records.XName attribute text) all offsets e = refl
-undrawn (records.NumberedXName attribute text number) all offsets e = refl
-undrawn (records.XElement attribute text) all offsets e = refl
-undrawn (records.XGeometry info attribute layer datatype text x y repetition) all offsets e = refl
+undrawn r all offsets e = refl
 
 shapes_by : (has wanted : Bool) (drawn : List Shape) → (has ≡ false → drawn ≡ [])
     → shapes_if (if has then Some wanted else None) drawn ≡ (if wanted then drawn else [])
@@ -214,34 +91,14 @@ in_force past r e = rw e refl
 written_allowed : (written last : Option Rep) → HasDimensionsIn (repetition_by written (or_else (the_written written) last)) → HasDimensionsIn written
 written_allowed None last h = tt
 written_allowed (Some reps.Same) last h = All-nil IsDimension
-written_allowed (Some (reps.Grid x_dim y_dim x_space y_space)) last h = h
-written_allowed (Some (reps.Row dim space)) last h = h
-written_allowed (Some (reps.Column dim space)) last h = h
-written_allowed (Some (reps.RowSpaces dim spaces)) last h = h
-written_allowed (Some (reps.RowOnGrid dim grid spaces)) last h = h
-written_allowed (Some (reps.ColumnSpaces dim spaces)) last h = h
-written_allowed (Some (reps.ColumnOnGrid dim grid spaces)) last h = h
-written_allowed (Some (reps.Lattice n_dim m_dim u v)) last h = h
-written_allowed (Some (reps.Line dim u)) last h = h
-written_allowed (Some (reps.Moves dim moves)) last h = h
-written_allowed (Some (reps.MovesOnGrid dim grid moves)) last h = h
+written_allowed (Some rep) last h = h
 
 -- and the one in force where it is, and the last one was
 force_allowed : (written last : Option Rep) → HasDimensionsIn written → HasDimensionsIn last
     → HasDimensionsIn (repetition_by written (or_else (the_written written) last))
 force_allowed None last h before = tt
 force_allowed (Some reps.Same) last h before = before
-force_allowed (Some (reps.Grid x_dim y_dim x_space y_space)) last h before = h
-force_allowed (Some (reps.Row dim space)) last h before = h
-force_allowed (Some (reps.Column dim space)) last h before = h
-force_allowed (Some (reps.RowSpaces dim spaces)) last h before = h
-force_allowed (Some (reps.RowOnGrid dim grid spaces)) last h before = h
-force_allowed (Some (reps.ColumnSpaces dim spaces)) last h before = h
-force_allowed (Some (reps.ColumnOnGrid dim grid spaces)) last h before = h
-force_allowed (Some (reps.Lattice n_dim m_dim u v)) last h before = h
-force_allowed (Some (reps.Line dim u)) last h before = h
-force_allowed (Some (reps.Moves dim moves)) last h before = h
-force_allowed (Some (reps.MovesOnGrid dim grid moves)) last h before = h
+force_allowed (Some rep) last h before = h
 
 written_kept : (past : List OasRecord) (r : OasRecord) → begins_cell r ≡ false
     → HasDimensionsIn (repetition_at past r) → HasDimensionsIn (repetition_in r)
@@ -325,376 +182,160 @@ either : {A : Type 0} (wanted : Bool) → (IsTrue wanted → A) → ((Some wante
 either true on off = on refl
 either false on off = off (λ e. absurd (cc))
 
+-- what is looked at of other records holds of one with a pair
+record IsBare (bytes : List ℕ) (past : List OasRecord) (r : OasRecord) : Type 0 where
+  begins : begins_cell r ≡ false
+  offsets : KeepsOffsets past r
+  name : KeepsName bytes r
+  magnification : KeepsMagnification r
+  angle : KeepsAngle r
+  version : KeepsVersion bytes r
+  scheme : KeepsScheme r
+
+bare : (bytes : List ℕ) (past : List OasRecord) (r : OasRecord) → has_pair r ≡ true → IsBare bytes past r
+bare bytes past (records.Start version unit offset_flag tables) h = absurd (cc)
+bare bytes past (records.End tables padding scheme validation) h = absurd (cc)
+bare bytes past (records.CellName name) h = absurd (cc)
+bare bytes past (records.NumberedCellName name number) h = absurd (cc)
+bare bytes past (records.NumberedCell number) h = absurd (cc)
+bare bytes past (records.Cell name) h = absurd (cc)
+bare bytes past (records.Placement info cell x y repetition) h = absurd (cc)
+bare bytes past (records.TurnedPlacement info cell magnification angle x y repetition) h = absurd (cc)
+bare bytes past r h =
+    record { begins = refl; offsets = tt; name = tt; magnification = tt; angle = tt; version = tt; scheme = tt }
+
+-- a shape that keeps the rules of its geometry keeps all
+shape_kept : (bytes : List ℕ) (wanted : List Pair) (past : List OasRecord) (r : OasRecord) (dims : Bool) (rule : ℕ)
+    → IsLookedAt bytes past r dims rule → has_pair r ≡ true
+    → KeepsShapes (body_of r) dims (Some (is_wanted wanted (r ∷ past))) (fields_at (r ∷ past)) (repetition_at past r) rule
+    → (IsTrue (is_wanted wanted (r ∷ past)) → rule ≡ 11 → HasDimensionsIn (repetition_at past r))
+    → (rule ≡ 7 → KeepsToOthers (is_wanted wanted (r ∷ past)) r)
+    → (IsTrue (is_wanted wanted (r ∷ past)) → KeepsDrawnIn (body_of r) (fields_at (r ∷ past)) (repetition_at past r) rule)
+    → Keeps bytes wanted past r rule
+shape_kept bytes wanted past r dims rule l pair g dimension other drawn =
+    let b = bare bytes past r pair in
+    keeps_all bytes wanted past r rule l.positions (λ e. b.offsets) (λ e. b.name) (λ e. b.magnification) (λ e. b.angle) other
+    (λ e. b.version) (λ e. b.scheme)
+    (λ e. either (is_wanted wanted (r ∷ past)) (λ on. written_kept past r b.begins (dimension on e)) (λ off. l.dimensions.0 (g.dimension off e)))
+    (λ on. keeps_to r (r ∷ past) (repetition_at past r) rule (drawn on))
+
 -- a record that keeps the rules of its geometry keeps all
 pub keeps_geometry : (bytes : List ℕ) (wanted : List Pair) (past : List OasRecord) (r : OasRecord) (dims : Bool) (rule : ℕ)
     → IsLookedAt bytes past r dims rule
     → (rule ≡ 11 → KeepsGeometry bytes (body_of r) dims (wanting_of wanted past r) (fields_at (r ∷ past)) (repetition_at past r) 7)
     → KeepsGeometry bytes (body_of r) dims (wanting_of wanted past r) (fields_at (r ∷ past)) (repetition_at past r) rule
     → Keeps bytes wanted past r rule
-keeps_geometry bytes wanted past records.Pad dims rule l s g =
-    keeps_all bytes wanted past records.Pad rule l.positions (λ e. tt) (λ e. tt) (λ e. tt) (λ e. tt) (λ e. tt) (λ e. tt) (λ e. tt) (λ e. tt) (λ e. tt)
 keeps_geometry bytes wanted past (records.Start version unit offset_flag tables) dims rule l s g =
-    keeps_all bytes wanted past (records.Start version unit offset_flag tables) rule l.positions (λ e. tt) (λ e. tt)
-    (λ e. tt) (λ e. tt) (λ e. tt) (λ e. l.version) (λ e. tt) (λ e. tt) (λ e. tt)
+    keeps_all bytes wanted past _ rule l.positions (λ e. tt) (λ e. tt) (λ e. tt) (λ e. tt) (λ e. tt) (λ e. l.version) (λ e. tt) (λ e. tt) (λ e. tt)
 keeps_geometry bytes wanted past (records.End tables padding scheme validation) dims rule l s g =
-    keeps_all bytes wanted past (records.End tables padding scheme validation) rule l.positions (λ e. tt) (λ e. tt)
-    (λ e. tt) (λ e. tt) (λ e. tt) (λ e. tt) (λ e. l.scheme) (λ e. tt) (λ e. tt)
+    keeps_all bytes wanted past _ rule l.positions (λ e. tt) (λ e. tt) (λ e. tt) (λ e. tt) (λ e. tt) (λ e. tt) (λ e. l.scheme) (λ e. tt) (λ e. tt)
 keeps_geometry bytes wanted past (records.CellName name) dims rule l s g =
-    keeps_all bytes wanted past (records.CellName name) rule l.positions (λ e. tt) l.own (λ e. tt) (λ e. tt) (λ e. tt) (λ e. tt) (λ e. tt) (λ e. tt) (λ e. tt)
+    keeps_all bytes wanted past _ rule l.positions (λ e. tt) l.own (λ e. tt) (λ e. tt) (λ e. tt) (λ e. tt) (λ e. tt) (λ e. tt) (λ e. tt)
 keeps_geometry bytes wanted past (records.NumberedCellName name number) dims rule l s g =
-    keeps_all bytes wanted past (records.NumberedCellName name number) rule l.positions (λ e. tt) l.own (λ e. tt)
-    (λ e. tt) (λ e. tt) (λ e. tt) (λ e. tt) (λ e. tt) (λ e. tt)
-keeps_geometry bytes wanted past (records.TextString text) dims rule l s g =
-    keeps_all bytes wanted past (records.TextString text) rule l.positions (λ e. tt) (λ e. tt) (λ e. tt) (λ e. tt)
-    (λ e. tt) (λ e. tt) (λ e. tt) (λ e. tt) (λ e. tt)
-keeps_geometry bytes wanted past (records.NumberedTextString text number) dims rule l s g =
-    keeps_all bytes wanted past (records.NumberedTextString text number) rule l.positions (λ e. tt) (λ e. tt) (λ e. tt)
-    (λ e. tt) (λ e. tt) (λ e. tt) (λ e. tt) (λ e. tt) (λ e. tt)
-keeps_geometry bytes wanted past (records.PropName name) dims rule l s g =
-    keeps_all bytes wanted past (records.PropName name) rule l.positions (λ e. tt) (λ e. tt) (λ e. tt) (λ e. tt)
-    (λ e. tt) (λ e. tt) (λ e. tt) (λ e. tt) (λ e. tt)
-keeps_geometry bytes wanted past (records.NumberedPropName name number) dims rule l s g =
-    keeps_all bytes wanted past (records.NumberedPropName name number) rule l.positions (λ e. tt) (λ e. tt) (λ e. tt)
-    (λ e. tt) (λ e. tt) (λ e. tt) (λ e. tt) (λ e. tt) (λ e. tt)
-keeps_geometry bytes wanted past (records.PropString text) dims rule l s g =
-    keeps_all bytes wanted past (records.PropString text) rule l.positions (λ e. tt) (λ e. tt) (λ e. tt) (λ e. tt)
-    (λ e. tt) (λ e. tt) (λ e. tt) (λ e. tt) (λ e. tt)
-keeps_geometry bytes wanted past (records.NumberedPropString text number) dims rule l s g =
-    keeps_all bytes wanted past (records.NumberedPropString text number) rule l.positions (λ e. tt) (λ e. tt) (λ e. tt)
-    (λ e. tt) (λ e. tt) (λ e. tt) (λ e. tt) (λ e. tt) (λ e. tt)
-keeps_geometry bytes wanted past (records.LayerName name layers datatypes) dims rule l s g =
-    keeps_all bytes wanted past (records.LayerName name layers datatypes) rule l.positions (λ e. tt) (λ e. tt)
-    (λ e. tt) (λ e. tt) (λ e. tt) (λ e. tt) (λ e. tt) (λ e. tt) (λ e. tt)
-keeps_geometry bytes wanted past (records.TextLayerName name layers datatypes) dims rule l s g =
-    keeps_all bytes wanted past (records.TextLayerName name layers datatypes) rule l.positions (λ e. tt) (λ e. tt)
-    (λ e. tt) (λ e. tt) (λ e. tt) (λ e. tt) (λ e. tt) (λ e. tt) (λ e. tt)
-keeps_geometry bytes wanted past (records.NumberedCell number) dims rule l s g =
-    keeps_all bytes wanted past (records.NumberedCell number) rule l.positions (λ e. tt) (λ e. tt) (λ e. tt) (λ e. tt)
-    (λ e. tt) (λ e. tt) (λ e. tt) (λ e. tt) (λ e. tt)
+    keeps_all bytes wanted past _ rule l.positions (λ e. tt) l.own (λ e. tt) (λ e. tt) (λ e. tt) (λ e. tt) (λ e. tt) (λ e. tt) (λ e. tt)
 keeps_geometry bytes wanted past (records.Cell name) dims rule l s g =
-    keeps_all bytes wanted past (records.Cell name) rule l.positions (λ e. tt) l.own (λ e. tt) (λ e. tt) (λ e. tt) (λ e. tt) (λ e. tt) (λ e. tt) (λ e. tt)
-keeps_geometry bytes wanted past records.XyAbsolute dims rule l s g =
-    keeps_all bytes wanted past records.XyAbsolute rule l.positions (λ e. tt) (λ e. tt) (λ e. tt) (λ e. tt) (λ e. tt) (λ e. tt) (λ e. tt) (λ e. tt) (λ e. tt)
-keeps_geometry bytes wanted past records.XyRelative dims rule l s g =
-    keeps_all bytes wanted past records.XyRelative rule l.positions (λ e. tt) (λ e. tt) (λ e. tt) (λ e. tt) (λ e. tt) (λ e. tt) (λ e. tt) (λ e. tt) (λ e. tt)
+    keeps_all bytes wanted past _ rule l.positions (λ e. tt) l.own (λ e. tt) (λ e. tt) (λ e. tt) (λ e. tt) (λ e. tt) (λ e. tt) (λ e. tt)
 keeps_geometry bytes wanted past (records.Placement info cell x y repetition) dims rule l s g =
-    keeps_all bytes wanted past (records.Placement info cell x y repetition) rule l.positions g.near g.name (λ e. tt)
-    (λ e. tt) (λ e. tt) (λ e. tt) (λ e. tt)
+    keeps_all bytes wanted past _ rule l.positions g.near g.name (λ e. tt) (λ e. tt) (λ e. tt) (λ e. tt) (λ e. tt)
     (λ e. written_kept past (records.Placement info cell x y repetition) refl (g.dimension e)) (λ e. tt)
 keeps_geometry bytes wanted past (records.TurnedPlacement info cell magnification angle x y repetition) dims rule l s g =
-    keeps_all bytes wanted past
-    (records.TurnedPlacement info cell magnification angle x y repetition) rule l.positions g.near g.name
-    g.magnification g.angle (λ e. tt) (λ e. tt) (λ e. tt)
-    (λ e. written_kept past (records.TurnedPlacement info cell magnification angle x y repetition) refl
-    (g.dimension e)) (λ e. tt)
+    keeps_all bytes wanted past _ rule l.positions g.near g.name g.magnification g.angle (λ e. tt) (λ e. tt) (λ e. tt)
+    (λ e. written_kept past (records.TurnedPlacement info cell magnification angle x y repetition) refl (g.dimension e)) (λ e. tt)
 keeps_geometry bytes wanted past (records.Text info text textlayer texttype x y repetition) dims rule l s g =
-    keeps_all bytes wanted past (records.Text info text textlayer texttype x y repetition) rule l.positions (λ e. tt)
-    (λ e. tt) (λ e. tt) (λ e. tt) (λ e. tt) (λ e. tt) (λ e. tt)
+    keeps_all bytes wanted past _ rule l.positions (λ e. tt) (λ e. tt) (λ e. tt) (λ e. tt) (λ e. tt) (λ e. tt) (λ e. tt)
     (λ e. l.dimensions.0 (g.dimension (λ e. absurd (cc)) e)) (λ e. tt)
 keeps_geometry bytes wanted past (records.Rectangle info layer datatype width height x y repetition) dims rule l s g =
-    keeps_all bytes wanted past (records.Rectangle info layer datatype width height x y repetition) rule l.positions
-    (λ e. tt) (λ e. tt) (λ e. tt) (λ e. tt) (λ e. tt) (λ e. tt) (λ e. tt)
-    (λ e. either (is_wanted wanted ((records.Rectangle info layer datatype width height x y repetition) ∷ past))
-    (λ on. written_kept past (records.Rectangle info layer datatype width height x y repetition) refl
-    (figure_dimension _ _ _ rule (g.drawn (ap Some on)) e)) (λ off. l.dimensions.0 (g.dimension off e)))
-    (λ on. keeps_to (records.Rectangle info layer datatype width height x y repetition)
-    ((records.Rectangle info layer datatype width height x y repetition) ∷ past)
-    (repetition_at past (records.Rectangle info layer datatype width height x y repetition)) rule
-    (g.drawn (ap Some on)))
-keeps_geometry bytes wanted past (records.Polygon info layer datatype points x y repetition) dims rule l s g =
-    keeps_all bytes wanted past (records.Polygon info layer datatype points x y repetition) rule l.positions (λ e. tt)
-    (λ e. tt) (λ e. tt) (λ e. tt) (λ e. tt) (λ e. tt) (λ e. tt)
-    (λ e. either (is_wanted wanted ((records.Polygon info layer datatype points x y repetition) ∷ past))
-    (λ on. written_kept past (records.Polygon info layer datatype points x y repetition) refl
-    (polygon_dimension _ _ _ rule
-    (third ((records.Polygon info layer datatype points x y repetition) ∷ past) Layer Datatype PolygonPoints _
-    l.defined) (g.drawn (ap Some on)) e)) (λ off. l.dimensions.0 (g.dimension off e)))
-    (λ on. keeps_to (records.Polygon info layer datatype points x y repetition)
-    ((records.Polygon info layer datatype points x y repetition) ∷ past)
-    (repetition_at past (records.Polygon info layer datatype points x y repetition)) rule (g.drawn (ap Some on)))
-keeps_geometry bytes wanted past (records.Path info layer datatype half_width extension start end points x y repetition) dims rule l s g =
-    keeps_all bytes wanted past
-    (records.Path info layer datatype half_width extension start end points x y repetition) rule l.positions
-    (λ e. tt) (λ e. tt) (λ e. tt) (λ e. tt) (λ e. tt) (λ e. tt) (λ e. tt)
-    (λ e. either (is_wanted wanted
-    ((records.Path info layer datatype half_width extension start end points x y repetition) ∷ past))
-    (λ on. written_kept past
-    (records.Path info layer datatype half_width extension start end points x y repetition) refl
-    (path_dimension _ _ _ _ rule
-    (sixth ((records.Path info layer datatype half_width extension start end points x y repetition) ∷ past) Layer
-    Datatype PathHalfWidth PathStart PathEnd PathPoints _ l.defined) (g.drawn (ap Some on)) e))
-    (λ off. l.dimensions.0 (g.dimension off e)))
-    (λ on. keeps_to (records.Path info layer datatype half_width extension start end points x y repetition)
-    ((records.Path info layer datatype half_width extension start end points x y repetition) ∷ past)
-    (repetition_at past (records.Path info layer datatype half_width extension start end points x y repetition))
-    rule (g.drawn (ap Some on)))
+    shape_kept bytes wanted past _ dims rule l refl g (λ on. figure_dimension _ _ _ rule (g.drawn (ap Some on))) (λ e. tt) (λ on. g.drawn (ap Some on))
 keeps_geometry bytes wanted past (records.Trapezoid info layer datatype width height delta_a delta_b x y repetition) dims rule l s g =
-    keeps_all bytes wanted past
-    (records.Trapezoid info layer datatype width height delta_a delta_b x y repetition) rule l.positions (λ e. tt)
-    (λ e. tt) (λ e. tt) (λ e. tt) (λ e. tt) (λ e. tt) (λ e. tt)
-    (λ e. either (is_wanted wanted
-    ((records.Trapezoid info layer datatype width height delta_a delta_b x y repetition) ∷ past))
-    (λ on. written_kept past
-    (records.Trapezoid info layer datatype width height delta_a delta_b x y repetition) refl
-    (figure_dimension _ _ _ rule (g.drawn (ap Some on)) e)) (λ off. l.dimensions.0 (g.dimension off e)))
-    (λ on. keeps_to (records.Trapezoid info layer datatype width height delta_a delta_b x y repetition)
-    ((records.Trapezoid info layer datatype width height delta_a delta_b x y repetition) ∷ past)
-    (repetition_at past (records.Trapezoid info layer datatype width height delta_a delta_b x y repetition)) rule
-    (g.drawn (ap Some on)))
+    shape_kept bytes wanted past _ dims rule l refl g (λ on. figure_dimension _ _ _ rule (g.drawn (ap Some on))) (λ e. tt) (λ on. g.drawn (ap Some on))
 keeps_geometry bytes wanted past (records.TrapezoidA info layer datatype width height delta_a x y repetition) dims rule l s g =
-    keeps_all bytes wanted past
-    (records.TrapezoidA info layer datatype width height delta_a x y repetition) rule l.positions (λ e. tt)
-    (λ e. tt) (λ e. tt) (λ e. tt) (λ e. tt) (λ e. tt) (λ e. tt)
-    (λ e. either (is_wanted wanted
-    ((records.TrapezoidA info layer datatype width height delta_a x y repetition) ∷ past))
-    (λ on. written_kept past (records.TrapezoidA info layer datatype width height delta_a x y repetition) refl
-    (figure_dimension _ _ _ rule (g.drawn (ap Some on)) e)) (λ off. l.dimensions.0 (g.dimension off e)))
-    (λ on. keeps_to (records.TrapezoidA info layer datatype width height delta_a x y repetition)
-    ((records.TrapezoidA info layer datatype width height delta_a x y repetition) ∷ past)
-    (repetition_at past (records.TrapezoidA info layer datatype width height delta_a x y repetition)) rule
-    (g.drawn (ap Some on)))
+    shape_kept bytes wanted past _ dims rule l refl g (λ on. figure_dimension _ _ _ rule (g.drawn (ap Some on))) (λ e. tt) (λ on. g.drawn (ap Some on))
 keeps_geometry bytes wanted past (records.TrapezoidB info layer datatype width height delta_b x y repetition) dims rule l s g =
-    keeps_all bytes wanted past
-    (records.TrapezoidB info layer datatype width height delta_b x y repetition) rule l.positions (λ e. tt)
-    (λ e. tt) (λ e. tt) (λ e. tt) (λ e. tt) (λ e. tt) (λ e. tt)
-    (λ e. either (is_wanted wanted
-    ((records.TrapezoidB info layer datatype width height delta_b x y repetition) ∷ past))
-    (λ on. written_kept past (records.TrapezoidB info layer datatype width height delta_b x y repetition) refl
-    (figure_dimension _ _ _ rule (g.drawn (ap Some on)) e)) (λ off. l.dimensions.0 (g.dimension off e)))
-    (λ on. keeps_to (records.TrapezoidB info layer datatype width height delta_b x y repetition)
-    ((records.TrapezoidB info layer datatype width height delta_b x y repetition) ∷ past)
-    (repetition_at past (records.TrapezoidB info layer datatype width height delta_b x y repetition)) rule
-    (g.drawn (ap Some on)))
+    shape_kept bytes wanted past _ dims rule l refl g (λ on. figure_dimension _ _ _ rule (g.drawn (ap Some on))) (λ e. tt) (λ on. g.drawn (ap Some on))
 keeps_geometry bytes wanted past (records.Ctrapezoid info layer datatype kind width height x y repetition) dims rule l s g =
-    keeps_all bytes wanted past
-    (records.Ctrapezoid info layer datatype kind width height x y repetition) rule l.positions (λ e. tt) (λ e. tt)
-    (λ e. tt) (λ e. tt) (λ e. tt) (λ e. tt) (λ e. tt)
-    (λ e. either (is_wanted wanted
-    ((records.Ctrapezoid info layer datatype kind width height x y repetition) ∷ past))
-    (λ on. written_kept past (records.Ctrapezoid info layer datatype kind width height x y repetition) refl
-    (figure_dimension _ _ _ rule (g.drawn (ap Some on)) e)) (λ off. l.dimensions.0 (g.dimension off e)))
-    (λ on. keeps_to (records.Ctrapezoid info layer datatype kind width height x y repetition)
-    ((records.Ctrapezoid info layer datatype kind width height x y repetition) ∷ past)
-    (repetition_at past (records.Ctrapezoid info layer datatype kind width height x y repetition)) rule
-    (g.drawn (ap Some on)))
+    shape_kept bytes wanted past _ dims rule l refl g (λ on. figure_dimension _ _ _ rule (g.drawn (ap Some on))) (λ e. tt) (λ on. g.drawn (ap Some on))
+keeps_geometry bytes wanted past (records.Polygon info layer datatype points x y repetition) dims rule l s g =
+    let there = third (records.Polygon info layer datatype points x y repetition ∷ past) Layer Datatype PolygonPoints _ l.defined in
+    shape_kept bytes wanted past _ dims rule l refl g (λ on. polygon_dimension _ _ _ rule there (g.drawn (ap Some on))) (λ e. tt)
+    (λ on. g.drawn (ap Some on))
+keeps_geometry bytes wanted past (records.Path info layer datatype half_width extension start end points x y repetition) dims rule l s g =
+    let all = records.Path info layer datatype half_width extension start end points x y repetition ∷ past in
+    let there = sixth all Layer Datatype PathHalfWidth PathStart PathEnd PathPoints _ l.defined in
+    shape_kept bytes wanted past _ dims rule l refl g (λ on. path_dimension _ _ _ _ rule there (g.drawn (ap Some on))) (λ e. tt)
+    (λ on. g.drawn (ap Some on))
 keeps_geometry bytes wanted past (records.Circle info layer datatype radius x y repetition) dims rule l s g =
-    keeps_all bytes wanted past (records.Circle info layer datatype radius x y repetition) rule l.positions (λ e. tt)
-    (λ e. tt) (λ e. tt) (λ e. tt) (λ e on. g.drawn (ap Some on) e) (λ e. tt) (λ e. tt)
-    (λ e. either (is_wanted wanted ((records.Circle info layer datatype radius x y repetition) ∷ past))
-    (λ on. absurd ((s e).drawn (ap Some on) refl)) (λ off. l.dimensions.0 (g.dimension off e))) (λ e. tt)
-keeps_geometry bytes wanted past (records.Property info name count values) dims rule l s g =
-    keeps_all bytes wanted past (records.Property info name count values) rule l.positions (λ e. tt) (λ e. tt)
-    (λ e. tt) (λ e. tt) (λ e. tt) (λ e. tt) (λ e. tt) (λ e. tt) (λ e. tt)
-keeps_geometry bytes wanted past records.LastProperty dims rule l s g =
-    keeps_all bytes wanted past records.LastProperty rule l.positions (λ e. tt) (λ e. tt) (λ e. tt) (λ e. tt) (λ e. tt) (λ e. tt) (λ e. tt) (λ e. tt) (λ e. tt)
-keeps_geometry bytes wanted past (records.XName attribute text) dims rule l s g =
-    keeps_all bytes wanted past (records.XName attribute text) rule l.positions (λ e. tt) (λ e. tt) (λ e. tt) (λ e. tt)
-    (λ e. tt) (λ e. tt) (λ e. tt) (λ e. tt) (λ e. tt)
-keeps_geometry bytes wanted past (records.NumberedXName attribute text number) dims rule l s g =
-    keeps_all bytes wanted past (records.NumberedXName attribute text number) rule l.positions (λ e. tt) (λ e. tt)
-    (λ e. tt) (λ e. tt) (λ e. tt) (λ e. tt) (λ e. tt) (λ e. tt) (λ e. tt)
-keeps_geometry bytes wanted past (records.XElement attribute text) dims rule l s g =
-    keeps_all bytes wanted past (records.XElement attribute text) rule l.positions (λ e. tt) (λ e. tt) (λ e. tt)
-    (λ e. tt) (λ e. tt) (λ e. tt) (λ e. tt) (λ e. tt) (λ e. tt)
+    shape_kept bytes wanted past _ dims rule l refl g (λ on e. absurd ((s e).drawn (ap Some on) refl)) (λ e on. g.drawn (ap Some on) e) (λ on. tt)
 keeps_geometry bytes wanted past (records.XGeometry info attribute layer datatype text x y repetition) dims rule l s g =
-    keeps_all bytes wanted past (records.XGeometry info attribute layer datatype text x y repetition) rule l.positions
-    (λ e. tt) (λ e. tt) (λ e. tt) (λ e. tt) (λ e on. g.drawn (ap Some on) e) (λ e. tt) (λ e. tt)
-    (λ e. either (is_wanted wanted ((records.XGeometry info attribute layer datatype text x y repetition) ∷ past))
-    (λ on. absurd ((s e).drawn (ap Some on) refl)) (λ off. l.dimensions.0 (g.dimension off e))) (λ e. tt)
+    shape_kept bytes wanted past _ dims rule l refl g (λ on e. absurd ((s e).drawn (ap Some on) refl)) (λ e on. g.drawn (ap Some on) e) (λ on. tt)
+keeps_geometry bytes wanted past r dims rule l s g =
+    keeps_all bytes wanted past r rule l.positions (λ e. tt) (λ e. tt) (λ e. tt) (λ e. tt) (λ e. tt) (λ e. tt) (λ e. tt) (λ e. tt) (λ e. tt)
 
 some_is : (b : Bool) → Some b ≡ Some true → IsTrue b
 some_is true e = refl
 some_is false e = absurd (cc)
 
+-- a shape that keeps all rules keeps those of its geometry
+shape_keeps : (bytes : List ℕ) (wanted : List Pair) (past : List OasRecord) (r : OasRecord) (dims : Bool) (rule : ℕ)
+    → (IsTrue dims ↔ HasDimensionsIn (repetition_in r)) → Keeps bytes wanted past r rule
+    → (IsTrue (is_wanted wanted (r ∷ past)) → KeepsWantedIn (body_of r) (fields_at (r ∷ past)) (repetition_at past r) rule)
+    → KeepsShapes (body_of r) dims (Some (is_wanted wanted (r ∷ past))) (fields_at (r ∷ past)) (repetition_at past r) rule
+shape_keeps bytes wanted past r dims rule d k drawn =
+    record { drawn = λ on. drawn (some_is (is_wanted wanted (r ∷ past)) on); dimension = λ off e. d.1 (k.dimension e) }
+
 -- a record that keeps all rules keeps those of its geometry
 pub geometry_keeps : (bytes : List ℕ) (wanted : List Pair) (past : List OasRecord) (r : OasRecord) (dims : Bool) (rule : ℕ)
     → (IsTrue dims ↔ HasDimensionsIn (repetition_in r)) → HasDimensionsIn (repetition_of past) → Keeps bytes wanted past r rule
     → KeepsGeometry bytes (body_of r) dims (wanting_of wanted past r) (fields_at (r ∷ past)) (repetition_at past r) rule
-geometry_keeps bytes wanted past records.Pad dims rule d before k = record { drawn = λ on. absurd (cc); dimension = λ off e. d.1 (k.dimension e) }
-geometry_keeps bytes wanted past (records.Start version unit offset_flag tables) dims rule d before k =
-    record { drawn = λ on. absurd (cc); dimension = λ off e. d.1 (k.dimension e) }
-geometry_keeps bytes wanted past (records.End tables padding scheme validation) dims rule d before k =
-    record { drawn = λ on. absurd (cc); dimension = λ off e. d.1 (k.dimension e) }
-geometry_keeps bytes wanted past (records.CellName name) dims rule d before k = record { drawn = λ on. absurd (cc); dimension = λ off e. d.1 (k.dimension e) }
-geometry_keeps bytes wanted past (records.NumberedCellName name number) dims rule d before k =
-    record { drawn = λ on. absurd (cc); dimension = λ off e. d.1 (k.dimension e) }
-geometry_keeps bytes wanted past (records.TextString text) dims rule d before k = record { drawn = λ on. absurd (cc); dimension = λ off e. d.1 (k.dimension e) }
-geometry_keeps bytes wanted past (records.NumberedTextString text number) dims rule d before k =
-    record { drawn = λ on. absurd (cc); dimension = λ off e. d.1 (k.dimension e) }
-geometry_keeps bytes wanted past (records.PropName name) dims rule d before k = record { drawn = λ on. absurd (cc); dimension = λ off e. d.1 (k.dimension e) }
-geometry_keeps bytes wanted past (records.NumberedPropName name number) dims rule d before k =
-    record { drawn = λ on. absurd (cc); dimension = λ off e. d.1 (k.dimension e) }
-geometry_keeps bytes wanted past (records.PropString text) dims rule d before k = record { drawn = λ on. absurd (cc); dimension = λ off e. d.1 (k.dimension e) }
-geometry_keeps bytes wanted past (records.NumberedPropString text number) dims rule d before k =
-    record { drawn = λ on. absurd (cc); dimension = λ off e. d.1 (k.dimension e) }
-geometry_keeps bytes wanted past (records.LayerName name layers datatypes) dims rule d before k =
-    record { drawn = λ on. absurd (cc); dimension = λ off e. d.1 (k.dimension e) }
-geometry_keeps bytes wanted past (records.TextLayerName name layers datatypes) dims rule d before k =
-    record { drawn = λ on. absurd (cc); dimension = λ off e. d.1 (k.dimension e) }
-geometry_keeps bytes wanted past (records.NumberedCell number) dims rule d before k =
-    record { drawn = λ on. absurd (cc); dimension = λ off e. d.1 (k.dimension e) }
-geometry_keeps bytes wanted past (records.Cell name) dims rule d before k = record { drawn = λ on. absurd (cc); dimension = λ off e. d.1 (k.dimension e) }
-geometry_keeps bytes wanted past records.XyAbsolute dims rule d before k = record { drawn = λ on. absurd (cc); dimension = λ off e. d.1 (k.dimension e) }
-geometry_keeps bytes wanted past records.XyRelative dims rule d before k = record { drawn = λ on. absurd (cc); dimension = λ off e. d.1 (k.dimension e) }
-geometry_keeps bytes wanted past (records.Placement info cell x y repetition) dims rule d before k =
-    record {
-      near = k.offsets;
-      name = k.name;
-      magnification = (λ e. tt);
-      angle = (λ e. tt);
-      dimension = λ e.
-          force_kept past (records.Placement info cell x y repetition) refl before (k.dimension e);
-    }
-geometry_keeps bytes wanted past
-    (records.TurnedPlacement info cell magnification angle x y repetition) dims rule d before k =
-    record {
-      near = k.offsets;
-      name = k.name;
-      magnification = k.magnification;
-      angle = k.angle;
-      dimension = λ e.
-          force_kept past (records.TurnedPlacement info cell magnification angle x y repetition) refl before (k.dimension e);
-    }
-geometry_keeps bytes wanted past (records.Text info text textlayer texttype x y repetition) dims rule d before k =
-    record { drawn = λ on. absurd (cc); dimension = λ off e. d.1 (k.dimension e) }
-geometry_keeps bytes wanted past
-    (records.Rectangle info layer datatype width height x y repetition) dims rule d before k =
-    record {
-      drawn = λ on. keeps_from (records.Rectangle info layer datatype width height x y repetition)
-          ((records.Rectangle info layer datatype width height x y repetition) ∷ past)
-          (repetition_at past (records.Rectangle info layer datatype width height x y repetition)) rule
-          (k.drawn (some_is (is_wanted wanted ((records.Rectangle info layer datatype width height x y repetition) ∷ past))
-          on));
-      dimension = λ off e. d.1 (k.dimension e);
-    }
+geometry_keeps bytes wanted past (records.Placement info cell x y repetition) dims rule d before k = record {
+  near = k.offsets;
+  name = k.name;
+  magnification = λ e. tt;
+  angle = λ e. tt;
+  dimension = λ e. force_kept past (records.Placement info cell x y repetition) refl before (k.dimension e);
+}
+geometry_keeps bytes wanted past (records.TurnedPlacement info cell magnification angle x y repetition) dims rule d before k = record {
+  near = k.offsets;
+  name = k.name;
+  magnification = k.magnification;
+  angle = k.angle;
+  dimension = λ e. force_kept past (records.TurnedPlacement info cell magnification angle x y repetition) refl before (k.dimension e);
+}
+geometry_keeps bytes wanted past (records.Rectangle info layer datatype width height x y repetition) dims rule d before k =
+    let r = records.Rectangle info layer datatype width height x y repetition in
+    shape_keeps bytes wanted past r dims rule d k (λ on. keeps_from r (r ∷ past) (repetition_at past r) rule (k.drawn on))
+geometry_keeps bytes wanted past (records.Trapezoid info layer datatype width height delta_a delta_b x y repetition) dims rule d before k =
+    let r = records.Trapezoid info layer datatype width height delta_a delta_b x y repetition in
+    shape_keeps bytes wanted past r dims rule d k (λ on. keeps_from r (r ∷ past) (repetition_at past r) rule (k.drawn on))
+geometry_keeps bytes wanted past (records.TrapezoidA info layer datatype width height delta_a x y repetition) dims rule d before k =
+    let r = records.TrapezoidA info layer datatype width height delta_a x y repetition in
+    shape_keeps bytes wanted past r dims rule d k (λ on. keeps_from r (r ∷ past) (repetition_at past r) rule (k.drawn on))
+geometry_keeps bytes wanted past (records.TrapezoidB info layer datatype width height delta_b x y repetition) dims rule d before k =
+    let r = records.TrapezoidB info layer datatype width height delta_b x y repetition in
+    shape_keeps bytes wanted past r dims rule d k (λ on. keeps_from r (r ∷ past) (repetition_at past r) rule (k.drawn on))
+geometry_keeps bytes wanted past (records.Ctrapezoid info layer datatype kind width height x y repetition) dims rule d before k =
+    let r = records.Ctrapezoid info layer datatype kind width height x y repetition in
+    shape_keeps bytes wanted past r dims rule d k (λ on. keeps_from r (r ∷ past) (repetition_at past r) rule (k.drawn on))
 geometry_keeps bytes wanted past (records.Polygon info layer datatype points x y repetition) dims rule d before k =
-    record {
-      drawn = λ on. keeps_from (records.Polygon info layer datatype points x y repetition)
-          ((records.Polygon info layer datatype points x y repetition) ∷ past)
-          (repetition_at past (records.Polygon info layer datatype points x y repetition)) rule
-          (k.drawn (some_is (is_wanted wanted ((records.Polygon info layer datatype points x y repetition) ∷ past)) on));
-      dimension = λ off e. d.1 (k.dimension e);
-    }
-geometry_keeps bytes wanted past
-    (records.Path info layer datatype half_width extension start end points x y repetition) dims rule d before k =
-    record {
-      drawn = λ on. keeps_from
-          (records.Path info layer datatype half_width extension start end points x y repetition)
-          ((records.Path info layer datatype half_width extension start end points x y repetition) ∷ past)
-          (repetition_at past (records.Path info layer datatype half_width extension start end points x y repetition)) rule
-          (k.drawn (some_is (is_wanted wanted
-          ((records.Path info layer datatype half_width extension start end points x y repetition) ∷ past)) on));
-      dimension =
-          λ off e. d.1 (k.dimension e);
-    }
-geometry_keeps bytes wanted past
-    (records.Trapezoid info layer datatype width height delta_a delta_b x y repetition) dims rule d before k =
-    record {
-      drawn = λ on. keeps_from
-          (records.Trapezoid info layer datatype width height delta_a delta_b x y repetition)
-          ((records.Trapezoid info layer datatype width height delta_a delta_b x y repetition) ∷ past)
-          (repetition_at past (records.Trapezoid info layer datatype width height delta_a delta_b x y repetition)) rule
-          (k.drawn (some_is (is_wanted wanted
-          ((records.Trapezoid info layer datatype width height delta_a delta_b x y repetition) ∷ past)) on));
-      dimension =
-          λ off e. d.1 (k.dimension e);
-    }
-geometry_keeps bytes wanted past
-    (records.TrapezoidA info layer datatype width height delta_a x y repetition) dims rule d before k =
-    record {
-      drawn = λ on. keeps_from (records.TrapezoidA info layer datatype width height delta_a x y repetition)
-          ((records.TrapezoidA info layer datatype width height delta_a x y repetition) ∷ past)
-          (repetition_at past (records.TrapezoidA info layer datatype width height delta_a x y repetition)) rule
-          (k.drawn (some_is (is_wanted wanted
-          ((records.TrapezoidA info layer datatype width height delta_a x y repetition) ∷ past)) on));
-      dimension = λ off e.
-          d.1 (k.dimension e);
-    }
-geometry_keeps bytes wanted past
-    (records.TrapezoidB info layer datatype width height delta_b x y repetition) dims rule d before k =
-    record {
-      drawn = λ on. keeps_from (records.TrapezoidB info layer datatype width height delta_b x y repetition)
-          ((records.TrapezoidB info layer datatype width height delta_b x y repetition) ∷ past)
-          (repetition_at past (records.TrapezoidB info layer datatype width height delta_b x y repetition)) rule
-          (k.drawn (some_is (is_wanted wanted
-          ((records.TrapezoidB info layer datatype width height delta_b x y repetition) ∷ past)) on));
-      dimension = λ off e.
-          d.1 (k.dimension e);
-    }
-geometry_keeps bytes wanted past
-    (records.Ctrapezoid info layer datatype kind width height x y repetition) dims rule d before k =
-    record {
-      drawn = λ on. keeps_from (records.Ctrapezoid info layer datatype kind width height x y repetition)
-          ((records.Ctrapezoid info layer datatype kind width height x y repetition) ∷ past)
-          (repetition_at past (records.Ctrapezoid info layer datatype kind width height x y repetition)) rule
-          (k.drawn (some_is (is_wanted wanted
-          ((records.Ctrapezoid info layer datatype kind width height x y repetition) ∷ past)) on));
-      dimension = λ off e. d.1
-          (k.dimension e);
-    }
+    let r = records.Polygon info layer datatype points x y repetition in
+    shape_keeps bytes wanted past r dims rule d k (λ on. keeps_from r (r ∷ past) (repetition_at past r) rule (k.drawn on))
+geometry_keeps bytes wanted past (records.Path info layer datatype half_width extension start end points x y repetition) dims rule d before k =
+    let r = records.Path info layer datatype half_width extension start end points x y repetition in
+    shape_keeps bytes wanted past r dims rule d k (λ on. keeps_from r (r ∷ past) (repetition_at past r) rule (k.drawn on))
 geometry_keeps bytes wanted past (records.Circle info layer datatype radius x y repetition) dims rule d before k =
-    record {
-      drawn = λ on seven. k.other seven
-          (some_is (is_wanted wanted ((records.Circle info layer datatype radius x y repetition) ∷ past)) on);
-      dimension =
-          λ off e. d.1 (k.dimension e);
-    }
-geometry_keeps bytes wanted past (records.Property info name count values) dims rule d before k =
-    record { drawn = λ on. absurd (cc); dimension = λ off e. d.1 (k.dimension e) }
-geometry_keeps bytes wanted past records.LastProperty dims rule d before k = record { drawn = λ on. absurd (cc); dimension = λ off e. d.1 (k.dimension e) }
-geometry_keeps bytes wanted past (records.XName attribute text) dims rule d before k =
-    record { drawn = λ on. absurd (cc); dimension = λ off e. d.1 (k.dimension e) }
-geometry_keeps bytes wanted past (records.NumberedXName attribute text number) dims rule d before k =
-    record { drawn = λ on. absurd (cc); dimension = λ off e. d.1 (k.dimension e) }
-geometry_keeps bytes wanted past (records.XElement attribute text) dims rule d before k =
-    record { drawn = λ on. absurd (cc); dimension = λ off e. d.1 (k.dimension e) }
-geometry_keeps bytes wanted past
-    (records.XGeometry info attribute layer datatype text x y repetition) dims rule d before k =
-    record {
-      drawn = λ on seven. k.other seven
-          (some_is (is_wanted wanted ((records.XGeometry info attribute layer datatype text x y repetition) ∷ past)) on);
-      dimension = λ off e. d.1 (k.dimension e);
-    }
+    shape_keeps bytes wanted past _ dims rule d k (λ on seven. k.other seven on)
+geometry_keeps bytes wanted past (records.XGeometry info attribute layer datatype text x y repetition) dims rule d before k =
+    shape_keeps bytes wanted past _ dims rule d k (λ on seven. k.other seven on)
+geometry_keeps bytes wanted past r dims rule d before k = record { drawn = λ on. absurd (cc); dimension = λ off e. d.1 (k.dimension e) }
 
 -- one that breaks a rule of its geometry has no name of its own to look at
 pub own_kept : (bytes : List ℕ) (wanted : List Pair) (past : List OasRecord) (r : OasRecord) (dims : Bool) (rule : ℕ)
     → (IsTrue dims ↔ HasDimensionsIn (repetition_in r))
     → (KeepsGeometry bytes (body_of r) dims (wanting_of wanted past r) (fields_at (r ∷ past)) (repetition_at past r) rule → ⊥) → KeepsOwnName bytes r
-own_kept bytes wanted past records.Pad dims rule d wrong = tt
-own_kept bytes wanted past (records.Start version unit offset_flag tables) dims rule d wrong = tt
-own_kept bytes wanted past (records.End tables padding scheme validation) dims rule d wrong = tt
 own_kept bytes wanted past (records.CellName name) dims rule d wrong = absurd (wrong (record { drawn = λ on. absurd (cc); dimension = λ off e. d.1 tt }))
 own_kept bytes wanted past (records.NumberedCellName name number) dims rule d wrong = absurd
     (wrong (record { drawn = λ on. absurd (cc); dimension = λ off e. d.1 tt }))
-own_kept bytes wanted past (records.TextString text) dims rule d wrong = tt
-own_kept bytes wanted past (records.NumberedTextString text number) dims rule d wrong = tt
-own_kept bytes wanted past (records.PropName name) dims rule d wrong = tt
-own_kept bytes wanted past (records.NumberedPropName name number) dims rule d wrong = tt
-own_kept bytes wanted past (records.PropString text) dims rule d wrong = tt
-own_kept bytes wanted past (records.NumberedPropString text number) dims rule d wrong = tt
-own_kept bytes wanted past (records.LayerName name layers datatypes) dims rule d wrong = tt
-own_kept bytes wanted past (records.TextLayerName name layers datatypes) dims rule d wrong = tt
-own_kept bytes wanted past (records.NumberedCell number) dims rule d wrong = tt
 own_kept bytes wanted past (records.Cell name) dims rule d wrong = absurd (wrong (record { drawn = λ on. absurd (cc); dimension = λ off e. d.1 tt }))
-own_kept bytes wanted past records.XyAbsolute dims rule d wrong = tt
-own_kept bytes wanted past records.XyRelative dims rule d wrong = tt
-own_kept bytes wanted past (records.Placement info cell x y repetition) dims rule d wrong = tt
-own_kept bytes wanted past (records.TurnedPlacement info cell magnification angle x y repetition) dims rule d wrong = tt
-own_kept bytes wanted past (records.Text info text textlayer texttype x y repetition) dims rule d wrong = tt
-own_kept bytes wanted past (records.Rectangle info layer datatype width height x y repetition) dims rule d wrong = tt
-own_kept bytes wanted past (records.Polygon info layer datatype points x y repetition) dims rule d wrong = tt
-own_kept bytes wanted past (records.Path info layer datatype half_width extension start end points x y repetition) dims rule d wrong = tt
-own_kept bytes wanted past (records.Trapezoid info layer datatype width height delta_a delta_b x y repetition) dims rule d wrong = tt
-own_kept bytes wanted past (records.TrapezoidA info layer datatype width height delta_a x y repetition) dims rule d wrong = tt
-own_kept bytes wanted past (records.TrapezoidB info layer datatype width height delta_b x y repetition) dims rule d wrong = tt
-own_kept bytes wanted past (records.Ctrapezoid info layer datatype kind width height x y repetition) dims rule d wrong = tt
-own_kept bytes wanted past (records.Circle info layer datatype radius x y repetition) dims rule d wrong = tt
-own_kept bytes wanted past (records.Property info name count values) dims rule d wrong = tt
-own_kept bytes wanted past records.LastProperty dims rule d wrong = tt
-own_kept bytes wanted past (records.XName attribute text) dims rule d wrong = tt
-own_kept bytes wanted past (records.NumberedXName attribute text number) dims rule d wrong = tt
-own_kept bytes wanted past (records.XElement attribute text) dims rule d wrong = tt
-own_kept bytes wanted past (records.XGeometry info attribute layer datatype text x y repetition) dims rule d wrong = tt
+own_kept bytes wanted past r dims rule d wrong = tt
 
 -- ---- rules that are broken before
 
@@ -724,26 +365,6 @@ path_below (Some points) at brush rep rule less = record {
 
 -- there is no rule 0
 drawn_below : (r : OasRecord) (all : List OasRecord) (rep : Option Rep) (rule : ℕ) → rule < 1 → KeepsDrawn r all rep rule
-drawn_below records.Pad all rep rule less = tt
-drawn_below (records.Start version unit offset_flag tables) all rep rule less = tt
-drawn_below (records.End tables padding scheme validation) all rep rule less = tt
-drawn_below (records.CellName name) all rep rule less = tt
-drawn_below (records.NumberedCellName name number) all rep rule less = tt
-drawn_below (records.TextString text) all rep rule less = tt
-drawn_below (records.NumberedTextString text number) all rep rule less = tt
-drawn_below (records.PropName name) all rep rule less = tt
-drawn_below (records.NumberedPropName name number) all rep rule less = tt
-drawn_below (records.PropString text) all rep rule less = tt
-drawn_below (records.NumberedPropString text number) all rep rule less = tt
-drawn_below (records.LayerName name layers datatypes) all rep rule less = tt
-drawn_below (records.TextLayerName name layers datatypes) all rep rule less = tt
-drawn_below (records.NumberedCell number) all rep rule less = tt
-drawn_below (records.Cell name) all rep rule less = tt
-drawn_below records.XyAbsolute all rep rule less = tt
-drawn_below records.XyRelative all rep rule less = tt
-drawn_below (records.Placement info cell x y repetition) all rep rule less = tt
-drawn_below (records.TurnedPlacement info cell magnification angle x y repetition) all rep rule less = tt
-drawn_below (records.Text info text textlayer texttype x y repetition) all rep rule less = tt
 drawn_below (records.Rectangle info layer datatype width height x y repetition) all rep rule less = figure_below
     (figure_of (records.Rectangle info layer datatype width height x y repetition) all) (at_of all) rep rule less
 drawn_below (records.Polygon info layer datatype points x y repetition) all rep rule less = polygon_below (polygon_points_of all) (at_of all) rep rule less
@@ -760,13 +381,7 @@ drawn_below (records.TrapezoidB info layer datatype width height delta_b x y rep
     (at_of all) rep rule less
 drawn_below (records.Ctrapezoid info layer datatype kind width height x y repetition) all rep rule less = figure_below
     (figure_of (records.Ctrapezoid info layer datatype kind width height x y repetition) all) (at_of all) rep rule less
-drawn_below (records.Circle info layer datatype radius x y repetition) all rep rule less = tt
-drawn_below (records.Property info name count values) all rep rule less = tt
-drawn_below records.LastProperty all rep rule less = tt
-drawn_below (records.XName attribute text) all rep rule less = tt
-drawn_below (records.NumberedXName attribute text number) all rep rule less = tt
-drawn_below (records.XElement attribute text) all rep rule less = tt
-drawn_below (records.XGeometry info attribute layer datatype text x y repetition) all rep rule less = tt
+drawn_below r all rep rule less = tt
 
 pub positions_lowest : (bytes : List ℕ) (wanted : List Pair) (past : List OasRecord) (r : OasRecord) → (ArePositionsNear (r ∷ past) → ⊥)
     → IsLowest (Keeps bytes wanted past r) 1
@@ -780,102 +395,28 @@ positions_lowest bytes wanted past r wrong = record {
 
 pub version_lowest : (bytes : List ℕ) (wanted : List Pair) (past : List OasRecord) (r : OasRecord) → (KeepsVersionBy bytes (body_of r) → ⊥)
     → ArePositionsNear (r ∷ past) → IsLowest (Keeps bytes wanted past r) 9
-version_lowest bytes wanted past records.Pad wrong near = absurd (wrong tt)
 version_lowest bytes wanted past (records.Start version unit offset_flag tables) wrong near = record {
   broken = λ k. wrong (k.version refl);
   lower = λ other less.
       keeps_all bytes wanted past (records.Start version unit offset_flag tables) other (λ e. near) (λ e. tt) (λ e. tt)
       (λ e. tt) (λ e. tt) (λ e. tt) (λ e. absurd (omega arith)) (λ e. tt) (λ e. tt) (λ e. tt);
 }
-version_lowest bytes wanted past (records.End tables padding scheme validation) wrong near = absurd (wrong tt)
-version_lowest bytes wanted past (records.CellName name) wrong near = absurd (wrong tt)
-version_lowest bytes wanted past (records.NumberedCellName name number) wrong near = absurd (wrong tt)
-version_lowest bytes wanted past (records.TextString text) wrong near = absurd (wrong tt)
-version_lowest bytes wanted past (records.NumberedTextString text number) wrong near = absurd (wrong tt)
-version_lowest bytes wanted past (records.PropName name) wrong near = absurd (wrong tt)
-version_lowest bytes wanted past (records.NumberedPropName name number) wrong near = absurd (wrong tt)
-version_lowest bytes wanted past (records.PropString text) wrong near = absurd (wrong tt)
-version_lowest bytes wanted past (records.NumberedPropString text number) wrong near = absurd (wrong tt)
-version_lowest bytes wanted past (records.LayerName name layers datatypes) wrong near = absurd (wrong tt)
-version_lowest bytes wanted past (records.TextLayerName name layers datatypes) wrong near = absurd (wrong tt)
-version_lowest bytes wanted past (records.NumberedCell number) wrong near = absurd (wrong tt)
-version_lowest bytes wanted past (records.Cell name) wrong near = absurd (wrong tt)
-version_lowest bytes wanted past records.XyAbsolute wrong near = absurd (wrong tt)
-version_lowest bytes wanted past records.XyRelative wrong near = absurd (wrong tt)
-version_lowest bytes wanted past (records.Placement info cell x y repetition) wrong near = absurd (wrong tt)
-version_lowest bytes wanted past (records.TurnedPlacement info cell magnification angle x y repetition) wrong near = absurd (wrong tt)
-version_lowest bytes wanted past (records.Text info text textlayer texttype x y repetition) wrong near = absurd (wrong tt)
-version_lowest bytes wanted past (records.Rectangle info layer datatype width height x y repetition) wrong near = absurd (wrong tt)
-version_lowest bytes wanted past (records.Polygon info layer datatype points x y repetition) wrong near = absurd (wrong tt)
-version_lowest bytes wanted past (records.Path info layer datatype half_width extension start end points x y repetition) wrong near = absurd (wrong tt)
-version_lowest bytes wanted past (records.Trapezoid info layer datatype width height delta_a delta_b x y repetition) wrong near = absurd (wrong tt)
-version_lowest bytes wanted past (records.TrapezoidA info layer datatype width height delta_a x y repetition) wrong near = absurd (wrong tt)
-version_lowest bytes wanted past (records.TrapezoidB info layer datatype width height delta_b x y repetition) wrong near = absurd (wrong tt)
-version_lowest bytes wanted past (records.Ctrapezoid info layer datatype kind width height x y repetition) wrong near = absurd (wrong tt)
-version_lowest bytes wanted past (records.Circle info layer datatype radius x y repetition) wrong near = absurd (wrong tt)
-version_lowest bytes wanted past (records.Property info name count values) wrong near = absurd (wrong tt)
-version_lowest bytes wanted past records.LastProperty wrong near = absurd (wrong tt)
-version_lowest bytes wanted past (records.XName attribute text) wrong near = absurd (wrong tt)
-version_lowest bytes wanted past (records.NumberedXName attribute text number) wrong near = absurd (wrong tt)
-version_lowest bytes wanted past (records.XElement attribute text) wrong near = absurd (wrong tt)
-version_lowest bytes wanted past (records.XGeometry info attribute layer datatype text x y repetition) wrong near = absurd (wrong tt)
+version_lowest bytes wanted past r wrong near = absurd (wrong tt)
 
 pub scheme_lowest : (bytes : List ℕ) (wanted : List Pair) (past : List OasRecord) (r : OasRecord) → (KeepsSchemeBy (body_of r) → ⊥)
     → ArePositionsNear (r ∷ past) → IsLowest (Keeps bytes wanted past r) 10
-scheme_lowest bytes wanted past records.Pad wrong near = absurd (wrong tt)
-scheme_lowest bytes wanted past (records.Start version unit offset_flag tables) wrong near = absurd (wrong tt)
 scheme_lowest bytes wanted past (records.End tables padding scheme validation) wrong near = record {
   broken = λ k. wrong (k.scheme refl);
   lower = λ other less.
       keeps_all bytes wanted past (records.End tables padding scheme validation) other (λ e. near) (λ e. tt) (λ e. tt)
       (λ e. tt) (λ e. tt) (λ e. tt) (λ e. tt) (λ e. absurd (omega arith)) (λ e. tt) (λ e. tt);
 }
-scheme_lowest bytes wanted past (records.CellName name) wrong near = absurd (wrong tt)
-scheme_lowest bytes wanted past (records.NumberedCellName name number) wrong near = absurd (wrong tt)
-scheme_lowest bytes wanted past (records.TextString text) wrong near = absurd (wrong tt)
-scheme_lowest bytes wanted past (records.NumberedTextString text number) wrong near = absurd (wrong tt)
-scheme_lowest bytes wanted past (records.PropName name) wrong near = absurd (wrong tt)
-scheme_lowest bytes wanted past (records.NumberedPropName name number) wrong near = absurd (wrong tt)
-scheme_lowest bytes wanted past (records.PropString text) wrong near = absurd (wrong tt)
-scheme_lowest bytes wanted past (records.NumberedPropString text number) wrong near = absurd (wrong tt)
-scheme_lowest bytes wanted past (records.LayerName name layers datatypes) wrong near = absurd (wrong tt)
-scheme_lowest bytes wanted past (records.TextLayerName name layers datatypes) wrong near = absurd (wrong tt)
-scheme_lowest bytes wanted past (records.NumberedCell number) wrong near = absurd (wrong tt)
-scheme_lowest bytes wanted past (records.Cell name) wrong near = absurd (wrong tt)
-scheme_lowest bytes wanted past records.XyAbsolute wrong near = absurd (wrong tt)
-scheme_lowest bytes wanted past records.XyRelative wrong near = absurd (wrong tt)
-scheme_lowest bytes wanted past (records.Placement info cell x y repetition) wrong near = absurd (wrong tt)
-scheme_lowest bytes wanted past (records.TurnedPlacement info cell magnification angle x y repetition) wrong near = absurd (wrong tt)
-scheme_lowest bytes wanted past (records.Text info text textlayer texttype x y repetition) wrong near = absurd (wrong tt)
-scheme_lowest bytes wanted past (records.Rectangle info layer datatype width height x y repetition) wrong near = absurd (wrong tt)
-scheme_lowest bytes wanted past (records.Polygon info layer datatype points x y repetition) wrong near = absurd (wrong tt)
-scheme_lowest bytes wanted past (records.Path info layer datatype half_width extension start end points x y repetition) wrong near = absurd (wrong tt)
-scheme_lowest bytes wanted past (records.Trapezoid info layer datatype width height delta_a delta_b x y repetition) wrong near = absurd (wrong tt)
-scheme_lowest bytes wanted past (records.TrapezoidA info layer datatype width height delta_a x y repetition) wrong near = absurd (wrong tt)
-scheme_lowest bytes wanted past (records.TrapezoidB info layer datatype width height delta_b x y repetition) wrong near = absurd (wrong tt)
-scheme_lowest bytes wanted past (records.Ctrapezoid info layer datatype kind width height x y repetition) wrong near = absurd (wrong tt)
-scheme_lowest bytes wanted past (records.Circle info layer datatype radius x y repetition) wrong near = absurd (wrong tt)
-scheme_lowest bytes wanted past (records.Property info name count values) wrong near = absurd (wrong tt)
-scheme_lowest bytes wanted past records.LastProperty wrong near = absurd (wrong tt)
-scheme_lowest bytes wanted past (records.XName attribute text) wrong near = absurd (wrong tt)
-scheme_lowest bytes wanted past (records.NumberedXName attribute text number) wrong near = absurd (wrong tt)
-scheme_lowest bytes wanted past (records.XElement attribute text) wrong near = absurd (wrong tt)
-scheme_lowest bytes wanted past (records.XGeometry info attribute layer datatype text x y repetition) wrong near = absurd (wrong tt)
+scheme_lowest bytes wanted past r wrong near = absurd (wrong tt)
 
 last_allowed : (written last : Option Rep) → HasDimensionsIn written → HasDimensionsIn last → HasDimensionsIn (or_else (the_written written) last)
 last_allowed None last h before = before
 last_allowed (Some reps.Same) last h before = before
-last_allowed (Some (reps.Grid x_dim y_dim x_space y_space)) last h before = h
-last_allowed (Some (reps.Row dim space)) last h before = h
-last_allowed (Some (reps.Column dim space)) last h before = h
-last_allowed (Some (reps.RowSpaces dim spaces)) last h before = h
-last_allowed (Some (reps.RowOnGrid dim grid spaces)) last h before = h
-last_allowed (Some (reps.ColumnSpaces dim spaces)) last h before = h
-last_allowed (Some (reps.ColumnOnGrid dim grid spaces)) last h before = h
-last_allowed (Some (reps.Lattice n_dim m_dim u v)) last h before = h
-last_allowed (Some (reps.Line dim u)) last h before = h
-last_allowed (Some (reps.Moves dim moves)) last h before = h
-last_allowed (Some (reps.MovesOnGrid dim grid moves)) last h before = h
+last_allowed (Some rep) last h before = h
 
 -- the last repetition of records that keep the rules has allowed dimensions
 written_last : (past : List OasRecord) (r : OasRecord) → HasDimensionsIn (repetition_in r) → HasDimensionsIn (repetition_of past)
