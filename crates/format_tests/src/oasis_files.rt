@@ -1,4 +1,5 @@
 //! Files by their records, and the first fault of bytes that hold no layout.
+use geo_stream::Refusal;
 use half_grid::Point;
 use layout_model::{Counts, Layout, Orient, Pair};
 use oas_fields::Variable;
@@ -41,7 +42,7 @@ fn file_of(alloc: Global, records: &[u8]) -> Result<Vec<u8>, Fail> {
     with_end(alloc, bytes.as_slice())
 }
 
-fn refusal(alloc: Global, records: &[u8]) -> Result<Option<OasBad>, Fail> {
+fn refusal(alloc: Global, records: &[u8]) -> Result<Option<Refusal<OasBad>>, Fail> {
     let bytes = file_of(alloc, records)?;
     Ok(read_oas(alloc, bytes.as_slice(), 1000, &WANTED).err())
 }
@@ -57,7 +58,7 @@ fn layout_of(alloc: Global, records: &[u8]) -> Result<Layout, Fail> {
 // Whether each of these records is refused so.
 fn are_refused(alloc: Global, cases: &[(&[u8], OasBad)]) -> Result<bool, Fail> {
     for (records, bad) in cases {
-        if refusal(alloc, records)? != Some(*bad) {
+        if refusal(alloc, records)? != Some(Refusal::Fault(*bad)) {
             return Ok(false);
         }
     }
@@ -449,20 +450,20 @@ fn refuses_files(rt: HostRuntime) -> Result<(), Fail> {
     let alloc = rt.alloc();
     assert_eq!(rt;
         read_oas(alloc, b"%SEMI-OASIS\r", 1000, &WANTED).err(),
-        Some(OasBad::Magic)
+        Some(Refusal::Fault(OasBad::Magic))
     );
     let bytes = file_of(alloc, RECTANGLE)?;
     let read = read_oas(alloc, bytes.as_slice(), 2000, &WANTED);
-    assert_eq!(rt; read.err(), Some(OasBad::Unit(13)));
+    assert_eq!(rt; read.err(), Some(Refusal::Fault(OasBad::Unit(13))));
     let mut bytes = file_of(alloc, RECTANGLE)?;
     bytes.push(0)?;
     let read = read_oas(alloc, bytes.as_slice(), 1000, &WANTED);
-    assert_eq!(rt; read.err(), Some(OasBad::Tail(47)));
+    assert_eq!(rt; read.err(), Some(Refusal::Fault(OasBad::Tail(47))));
     let bytes = with_end(
         alloc,
         b"%SEMI-OASIS\r\n\x01\x031.1\x00\xE8\x07\x00\0\0\0\0\0\0\0\0\0\0\0\0",
     )?;
     let read = read_oas(alloc, bytes.as_slice(), 1000, &WANTED);
-    assert_eq!(rt; read.err(), Some(OasBad::Value(13, 9)));
+    assert_eq!(rt; read.err(), Some(Refusal::Fault(OasBad::Value(13, 9))));
     Ok(())
 }

@@ -1,11 +1,14 @@
 -- The cells of a whole file, by the cells that are kept.
-use Rattle.std.proofs.Common.{◌≡◌, ◌≢◌, ◌⊎◌, ℕ, nat_eq, Bool, true, false, if◌then◌else◌, ◌&&◌, List, [], ◌∷◌, ◌++◌}
-use Rattle.std.proofs.Common.{Option, Some, None, Result, Ok, Err, map, reverse, All, inl, inr, refl, sym, ap, subst}
+use Rattle.std.proofs.Common.{◌≡◌, ◌≢◌, ℕ, nat_eq, Bool, true, false, if◌then◌else◌, ◌&&◌, List, [], ◌∷◌, ◌++◌}
+use Rattle.std.proofs.Common.{Option, Some, None, Result, Ok, Err, map, reverse, All, inr, refl, sym, ap, subst}
 use Rattle.std.proofs.Common.{◌∙◌, append-nil, arith}
 use Rattle.std.specs.Prelude.{IfOk, OnOk, is_some}
 use Rattle.std.proofs.lemmas.List.{map-append, reverse-append, reverse-reverse}
 use Rattle.std.proofs.lemmas.List.Elements.{All-nil, All-cons, All-head, All-tail, All-push, All-same}
 use mathlib.Core.List.{reverse-cons}
+use Rattle.geo_stream.specs.Refusals.{IsForFault}
+use Rattle.geo_stream.specs.declared.refusal.Refusal.{Refusal}
+use Rattle.geo_stream.specs.declared.refusal.Refusal.TheVariants.{Fault, NoMemory}
 use Rattle.layout_model.specs.Layouts.{AreDistinct}
 use Rattle.layout_model.specs.declared.cells.Cell.{Cell}
 use Rattle.layout_model.specs.declared.pair.Pair.{Pair}
@@ -17,7 +20,6 @@ use Rattle.oas_fields.specs.Values.{or_else, begins_cell}
 use Rattle.oas_reader.specs.declared.cells.Begun.{Begun}
 use Rattle.oas_reader.specs.declared.cells.Draft.{Draft}
 use Rattle.oas_reader.specs.declared.refusing.OasBad.{OasBad}
-use Rattle.oas_reader.specs.declared.refusing.OasBad.TheVariants as faults
 use Rattle.oas_reader.specs.Behind.{AreCellsBehind}
 use Rattle.oas_reader.specs.Finished.{cell_by, cells_by, cell_item, cell_items, AreTwins}
 use Rattle.oas_reader.specs.Items.{Item, records_in, NoneEnds, is_end, given}
@@ -354,9 +356,9 @@ distinct_behind bytes all wanted past drafts cells are known cells_are distinct 
     subst (λ xs. AreDistinct (map (λ (cell : Cell). cell.name) xs)) (sym cells_are)
     (distinct_by bytes all drafts distinct (known_behind bytes all wanted past drafts are known))
 
-pub fault_behind : (bytes : List ℕ) (wanted : List Pair) (past : List Item) (drafts : List Draft) (bad : OasBad)
+pub fault_behind : (bytes : List ℕ) (wanted : List Pair) (past : List Item) (drafts : List Draft) (refusal : Refusal OasBad)
     → map whole_cell drafts ≡ all_whole wanted past → first_unknown bytes (records_in past) past ≡ None
-    → AreTwins bytes (records_in past) (cell_items drafts) bad → (bad ≡ faults.NoMemory) ⊎ IsFaultOf bytes past bad
-fault_behind bytes wanted past drafts bad are known (inl memory) = inl memory
-fault_behind bytes wanted past drafts bad are known (inr (first, second, twins, is)) =
-    inr (inr (first, second, known, sym (twins_behind bytes (records_in past) wanted past drafts are) ∙ twins, is))
+    → IsForFault (AreTwins bytes (records_in past) (cell_items drafts)) refusal → IsForFault (IsFaultOf bytes past) refusal
+fault_behind bytes wanted past drafts (Fault bad) are known (first, second, twins, is) =
+    inr (first, second, known, sym (twins_behind bytes (records_in past) wanted past drafts are) ∙ twins, is)
+fault_behind bytes wanted past drafts NoMemory are known h = tt

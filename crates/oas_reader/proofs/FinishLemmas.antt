@@ -1,8 +1,11 @@
 -- Cells of one name, over the CELL records alone.
 use Rattle.std.proofs.Common.{◌≡◌, ℕ, false, Option, Some, None, List, [], ◌∷◌, ◌++◌, ◌+◌, length, map, reverse, take}
-use Rattle.std.proofs.Common.{drop, All, inl, inr, refl, sym, ap, subst, ◌∙◌, arith}
+use Rattle.std.proofs.Common.{drop, All, refl, sym, ap, subst, ◌∙◌, arith}
 use Rattle.std.proofs.lemmas.List.{reverse-append, map-append, take-append-drop}
 use Rattle.std.proofs.lemmas.List.Elements.{All-nil, All-cons, All-head, All-tail, All-push}
+use Rattle.geo_stream.specs.Refusals.{IsForFault}
+use Rattle.geo_stream.specs.declared.refusal.Refusal.{Refusal}
+use Rattle.geo_stream.specs.declared.refusal.Refusal.TheVariants.{Fault, NoMemory}
 use Rattle.oas_record.specs.declared.fields.Called.{Called}
 use Rattle.oas_record.specs.declared.fields.Called.TheVariants.{Number, Text}
 use Rattle.oas_record.specs.declared.records.OasRecord.{OasRecord}
@@ -59,12 +62,13 @@ twins_kept bytes all (x ∷ more) past twins e =
     (twins_kept bytes all more past twins e)
 
 -- a cell that has the name of an earlier one, and those after it
-pub twin_found : (bytes : List ℕ) (all : List OasRecord) (drafts : List Draft) (i : ℕ) (draft : Draft) (name : List ℕ) (bad : OasBad)
+pub twin_found : (bytes : List ℕ) (all : List OasRecord) (drafts : List Draft) (i : ℕ) (draft : Draft) (name : List ℕ)
+    (refusal : Refusal OasBad)
     → first_twins bytes all (cell_items (take i drafts)) ≡ None → name_called bytes all draft.called ≡ Some name
-    → take (i + 1) drafts ≡ take i drafts ++ draft ∷ [] → IsTwin bytes all (cell_items (take i drafts)) name draft.at bad
-    → AreTwins bytes all (cell_items drafts) bad
-twin_found bytes all drafts i draft name bad before called taken (inl memory) = inl memory
-twin_found bytes all drafts i draft name bad before called taken (inr (first, twin, is)) =
+    → take (i + 1) drafts ≡ take i drafts ++ draft ∷ [] → IsForFault (IsTwin bytes all (cell_items (take i drafts)) name draft.at) refusal
+    → IsForFault (AreTwins bytes all (cell_items drafts)) refusal
+twin_found bytes all drafts i draft name NoMemory before called taken h = tt
+twin_found bytes all drafts i draft name (Fault bad) before called taken (first, twin, is) =
     let name_is = ap (cell_name bytes all) (called_back draft.called) ∙ called in
     let here : first_twins bytes all (cell_items (take (i + 1) drafts)) ≡ Some (first, draft.at) =
     ap (λ ds. first_twins bytes all (cell_items ds)) taken
@@ -73,7 +77,7 @@ twin_found bytes all drafts i draft name bad before called taken (inr (first, tw
     let whole : first_twins bytes all (cell_items (take (i + 1) drafts ++ drop (i + 1) drafts)) ≡ Some (first, draft.at) =
     ap (first_twins bytes all) (items_append (take (i + 1) drafts) (drop (i + 1) drafts))
     ∙ twins_kept bytes all (cell_items (drop (i + 1) drafts)) (cell_items (take (i + 1) drafts)) (first, draft.at) here in
-    inr (first, draft.at, subst (λ ds. first_twins bytes all (cell_items ds) ≡ Some (first, draft.at)) (take-append-drop (i + 1) drafts) whole, is)
+    (first, draft.at, subst (λ ds. first_twins bytes all (cell_items ds) ≡ Some (first, draft.at)) (take-append-drop (i + 1) drafts) whole, is)
 
 -- ---- records that begin no cell
 

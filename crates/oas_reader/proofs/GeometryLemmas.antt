@@ -1,8 +1,11 @@
 -- What a record adds to the open cell.
-use Rattle.std.proofs.Common.{◌≡◌, ℕ, Bool, Option, List, [], ◌∷◌, ◌++◌, Result, Ok, Err, refl, sym, ap, subst, ◌∙◌, inl, inr}
+use Rattle.std.proofs.Common.{◌≡◌, ℕ, Bool, Option, List, [], ◌∷◌, ◌++◌, Result, Ok, Err, refl, sym, ap, subst, ◌∙◌}
 use Rattle.std.specs.Prelude.{All, IfErr}
 use Rattle.std.proofs.lemmas.List.{append-nil}
 use Rattle.std.proofs.lemmas.List.Elements.{All-nil, All-cons, All-append}
+use Rattle.geo_stream.specs.Refusals.{IsForFault}
+use Rattle.geo_stream.specs.declared.refusal.Refusal.{Refusal}
+use Rattle.geo_stream.specs.declared.refusal.Refusal.TheVariants.{Fault, NoMemory}
 use Rattle.layout_model.specs.Layouts.{IsShapeOnGrid}
 use Rattle.oas_record.specs.declared.fields.Called.{Called}
 use Rattle.oas_record.specs.declared.repetition.Rep.{Rep}
@@ -49,59 +52,24 @@ abbrev pub IsUnplaced : Body → Type 0
 IsUnplaced body = (called : Option Called) (flips : Bool) (turning : Turning) → body ≡ bodies.Placement called flips turning → ⊥
 
 pub no_placings : (body : Body) (fields : Fields) (rep : Option Rep) → IsUnplaced body → placings_in body fields rep ≡ []
-no_placings (bodies.Start version unit offset_flag) fields rep other = refl
-no_placings (bodies.End scheme) fields rep other = refl
-no_placings (bodies.CellName name number) fields rep other = refl
-no_placings (bodies.Cell called) fields rep other = refl
 no_placings (bodies.Placement called flips turning) fields rep other = absurd (other called flips turning refl)
-no_placings bodies.Text fields rep other = refl
-no_placings bodies.Rectangle fields rep other = refl
-no_placings (bodies.Trapezoid is_upright a b) fields rep other = refl
-no_placings bodies.Ctrapezoid fields rep other = refl
-no_placings bodies.Polygon fields rep other = refl
-no_placings bodies.Path fields rep other = refl
-no_placings bodies.Undrawn fields rep other = refl
-no_placings bodies.Property fields rep other = refl
-no_placings bodies.Other fields rep other = refl
+no_placings body fields rep other = refl
 
 pub shapes_keep : (bytes : List ℕ) (body : Body) (dims : Bool) (wanting : Option Bool) (fields : Fields) (rep : Option Rep) (rule : ℕ)
     → IsUnplaced body → KeepsShapes body dims wanting fields rep rule → KeepsGeometry bytes body dims wanting fields rep rule
-shapes_keep bytes (bodies.Start version unit offset_flag) dims wanting fields rep rule other k = k
-shapes_keep bytes (bodies.End scheme) dims wanting fields rep rule other k = k
-shapes_keep bytes (bodies.CellName name number) dims wanting fields rep rule other k = k
-shapes_keep bytes (bodies.Cell called) dims wanting fields rep rule other k = k
 shapes_keep bytes (bodies.Placement called flips turning) dims wanting fields rep rule other k = absurd (other called flips turning refl)
-shapes_keep bytes bodies.Text dims wanting fields rep rule other k = k
-shapes_keep bytes bodies.Rectangle dims wanting fields rep rule other k = k
-shapes_keep bytes (bodies.Trapezoid is_upright a b) dims wanting fields rep rule other k = k
-shapes_keep bytes bodies.Ctrapezoid dims wanting fields rep rule other k = k
-shapes_keep bytes bodies.Polygon dims wanting fields rep rule other k = k
-shapes_keep bytes bodies.Path dims wanting fields rep rule other k = k
-shapes_keep bytes bodies.Undrawn dims wanting fields rep rule other k = k
-shapes_keep bytes bodies.Property dims wanting fields rep rule other k = k
-shapes_keep bytes bodies.Other dims wanting fields rep rule other k = k
+shapes_keep bytes body dims wanting fields rep rule other k = k
 
 shapes_kept : (bytes : List ℕ) (body : Body) (dims : Bool) (wanting : Option Bool) (fields : Fields) (rep : Option Rep) (rule : ℕ)
     → IsUnplaced body → KeepsGeometry bytes body dims wanting fields rep rule → KeepsShapes body dims wanting fields rep rule
-shapes_kept bytes (bodies.Start version unit offset_flag) dims wanting fields rep rule other k = k
-shapes_kept bytes (bodies.End scheme) dims wanting fields rep rule other k = k
-shapes_kept bytes (bodies.CellName name number) dims wanting fields rep rule other k = k
-shapes_kept bytes (bodies.Cell called) dims wanting fields rep rule other k = k
 shapes_kept bytes (bodies.Placement called flips turning) dims wanting fields rep rule other k = absurd (other called flips turning refl)
-shapes_kept bytes bodies.Text dims wanting fields rep rule other k = k
-shapes_kept bytes bodies.Rectangle dims wanting fields rep rule other k = k
-shapes_kept bytes (bodies.Trapezoid is_upright a b) dims wanting fields rep rule other k = k
-shapes_kept bytes bodies.Ctrapezoid dims wanting fields rep rule other k = k
-shapes_kept bytes bodies.Polygon dims wanting fields rep rule other k = k
-shapes_kept bytes bodies.Path dims wanting fields rep rule other k = k
-shapes_kept bytes bodies.Undrawn dims wanting fields rep rule other k = k
-shapes_kept bytes bodies.Property dims wanting fields rep rule other k = k
-shapes_kept bytes bodies.Other dims wanting fields rep rule other k = k
+shapes_kept bytes body dims wanting fields rep rule other k = k
 
-pub shapes_refused : (bytes : List ℕ) (body : Body) (dims : Bool) (wanting : Option Bool) (fields : Fields) (rep : Option Rep) (at : ℕ) (bad : OasBad)
-    → IsUnplaced body → IsRefusedBy (KeepsShapes body dims wanting fields rep) at bad → IsRefusedBy (KeepsGeometry bytes body dims wanting fields rep) at bad
-shapes_refused bytes body dims wanting fields rep at bad other (inl none) = inl none
-shapes_refused bytes body dims wanting fields rep at bad other (inr (rule, told, low)) = inr (
+pub shapes_refused : (bytes : List ℕ) (body : Body) (dims : Bool) (wanting : Option Bool) (fields : Fields) (rep : Option Rep) (at : ℕ)
+    (refusal : Refusal OasBad) → IsUnplaced body → IsForFault (IsRefusedBy (KeepsShapes body dims wanting fields rep) at) refusal
+    → IsForFault (IsRefusedBy (KeepsGeometry bytes body dims wanting fields rep) at) refusal
+shapes_refused bytes body dims wanting fields rep at NoMemory other h = tt
+shapes_refused bytes body dims wanting fields rep at (Fault bad) other (rule, told, low) = (
   rule,
   told,
   record {

@@ -1,7 +1,7 @@
 -- The tables of names after one more record, and the numbers that no record gives.
-use Rattle.std.proofs.Common.{◌≡◌, ℕ, ◌+◌, Bool, true, false, cond, ◌&&◌, nat_eq, Option, Some, None, Result, Ok, Err}
+use Rattle.std.proofs.Common.{◌≡◌, ℕ, ◌+◌, Bool, true, false, cond, ◌&&◌, nat_eq, Option, Some, None}
 use Rattle.std.proofs.Common.{List, [], ◌∷◌, ◌++◌, refl, sym, ap, subst, ◌∙◌, arith}
-use Rattle.std.specs.Prelude.{OnOk, is_some}
+use Rattle.std.specs.Prelude.{is_some}
 use Rattle.std.specs.Cmp.Lexicographic.{same_text}
 use Rattle.std.specs.Map.{lookup}
 use Rattle.std.proofs.lemmas.Bool.{eqb-true}
@@ -160,10 +160,6 @@ none_conflicts bytes [] = refl
 none_conflicts bytes (x ∷ past) =
     ap (λ o. or_else o (some_if (do_conflict (claim_of bytes (records_in past) x.r) NoClaim) x.at)) (none_conflicts bytes past)
     ∙ ap (λ b. some_if b x.at) (no_claim (claim_of bytes (records_in past) x.r))
-
-pub on_ok : {T E P : Type 0} → (r : Result T E) → P → OnOk r P
-on_ok (Ok x) p = p
-on_ok (Err e) p = tt
 
 -- ---- numbers that are written
 

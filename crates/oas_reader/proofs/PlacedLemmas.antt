@@ -1,6 +1,9 @@
 -- Placements, and why they are refused.
 use Rattle.std.proofs.Common.{◌≡◌, ℕ, ◌≤◌, true, false, nat_eq, Option, Some, List, refl, inl, inr, arith}
 use Rattle.std.proofs.lemmas.Bool.{cases_lt}
+use Rattle.geo_stream.specs.Refusals.{IsForFault}
+use Rattle.geo_stream.specs.declared.refusal.Refusal.{Refusal}
+use Rattle.geo_stream.specs.declared.refusal.Refusal.TheVariants.{Fault, NoMemory}
 use Rattle.oas_record.specs.declared.fields.Called.{Called}
 use Rattle.oas_record.specs.declared.repetition.Rep.{Rep}
 use Rattle.oas_shapes.specs.Repetitions.{offsets_in}
@@ -13,7 +16,6 @@ use Rattle.oas_reader.specs.Reals.{IsFactor, IsQuarterAngle}
 use Rattle.oas_reader.specs.Rules.{IsNamed}
 use Rattle.oas_reader.specs.declared.bodies.Turning.{Turning}
 use Rattle.oas_reader.specs.declared.refusing.OasBad.{OasBad}
-use Rattle.oas_reader.specs.declared.refusing.OasBad.TheVariants as faults
 
 -- ---- offsets
 
@@ -90,12 +92,13 @@ lowest_first bytes called turning rep rule first low = record {
   };
 }
 
-pub refused_first : (bytes : List ℕ) (called : Option Called) (turning : Turning) (rep : Option Rep) (at : ℕ) (u : Undrawn) (bad : OasBad)
-    → bad ≡ bad_at u at → is_first u ≡ true → ((rule : ℕ) → u ≡ undrawns.Rule rule → IsLowest (KeepsOffsetsIn rep) rule)
-    → IsRefusedBy (KeepsPlaced bytes called turning rep) at bad
-refused_first bytes called turning rep at (undrawns.Rule rule) bad told first low =
-    inr (rule, told, lowest_first bytes called turning rep rule (first_is rule first) (low rule refl))
-refused_first bytes called turning rep at undrawns.NoMemory bad told first low = inl told
+pub refused_first : (bytes : List ℕ) (called : Option Called) (turning : Turning) (rep : Option Rep) (at : ℕ) (u : Undrawn)
+    (refusal : Refusal OasBad) → refusal ≡ bad_at u at → is_first u ≡ true
+    → ((rule : ℕ) → u ≡ undrawns.Rule rule → IsLowest (KeepsOffsetsIn rep) rule)
+    → IsForFault (IsRefusedBy (KeepsPlaced bytes called turning rep) at) refusal
+refused_first bytes called turning rep at (undrawns.Rule rule) refusal told first low =
+    rw told (rule, refl, lowest_first bytes called turning rep rule (first_is rule first) (low rule refl))
+refused_first bytes called turning rep at undrawns.NoMemory refusal told first low = rw told tt
 
 lowest_last : (bytes : List ℕ) (called : Option Called) (turning : Turning) (rep : Option Rep) (rule : ℕ)
     → IsLowest (KeepsOffsetsIn rep) rule → ((other : ℕ) → KeepsTurned bytes called turning other)
@@ -105,12 +108,12 @@ lowest_last bytes called turning rep rule low t = record {
   lower = λ other less. both_keep bytes called turning rep other (low.lower other less) (t other);
 }
 
-pub refused_last : (bytes : List ℕ) (called : Option Called) (turning : Turning) (rep : Option Rep) (at : ℕ) (u : Undrawn) (bad : OasBad)
-    → bad ≡ bad_at u at → ((rule : ℕ) → u ≡ undrawns.Rule rule → IsLowest (KeepsOffsetsIn rep) rule)
-    → ((other : ℕ) → KeepsTurned bytes called turning other) → IsRefusedBy (KeepsPlaced bytes called turning rep) at bad
-refused_last bytes called turning rep at (undrawns.Rule rule) bad told low t =
-    inr (rule, told, lowest_last bytes called turning rep rule (low rule refl) t)
-refused_last bytes called turning rep at undrawns.NoMemory bad told low t = inl told
+pub refused_last : (bytes : List ℕ) (called : Option Called) (turning : Turning) (rep : Option Rep) (at : ℕ) (u : Undrawn)
+    (refusal : Refusal OasBad) → refusal ≡ bad_at u at → ((rule : ℕ) → u ≡ undrawns.Rule rule → IsLowest (KeepsOffsetsIn rep) rule)
+    → ((other : ℕ) → KeepsTurned bytes called turning other) → IsForFault (IsRefusedBy (KeepsPlaced bytes called turning rep) at) refusal
+refused_last bytes called turning rep at (undrawns.Rule rule) refusal told low t =
+    rw told (rule, refl, lowest_last bytes called turning rep rule (low rule refl) t)
+refused_last bytes called turning rep at undrawns.NoMemory refusal told low t = rw told tt
 
 -- the rules of the name and of the turning are up to 5
 few_turned : (bytes : List ℕ) (called : Option Called) (turning : Turning) (rule : ℕ) → IsLowest (KeepsTurned bytes called turning) rule → rule ≤ 5
@@ -132,8 +135,9 @@ lowest_turned bytes called turning rep rule near few low = record {
       both_keep bytes called turning rep other (record { near = λ e. near; dimension = λ e. absurd (omega arith) }) (low.lower other less);
 }
 
-pub refused_turned : (bytes : List ℕ) (called : Option Called) (turning : Turning) (rep : Option Rep) (at : ℕ) (bad : OasBad)
-    → AreNear (offsets_in rep) → IsRefusedBy (KeepsTurned bytes called turning) at bad → IsRefusedBy (KeepsPlaced bytes called turning rep) at bad
-refused_turned bytes called turning rep at bad near (inl none) = inl none
-refused_turned bytes called turning rep at bad near (inr (rule, told, low)) =
-    inr (rule, told, lowest_turned bytes called turning rep rule near (few_turned bytes called turning rule low) low)
+pub refused_turned : (bytes : List ℕ) (called : Option Called) (turning : Turning) (rep : Option Rep) (at : ℕ)
+    (refusal : Refusal OasBad) → AreNear (offsets_in rep) → IsForFault (IsRefusedBy (KeepsTurned bytes called turning) at) refusal
+    → IsForFault (IsRefusedBy (KeepsPlaced bytes called turning rep) at) refusal
+refused_turned bytes called turning rep at (Fault bad) near (rule, told, low) =
+    (rule, told, lowest_turned bytes called turning rep rule near (few_turned bytes called turning rule low) low)
+refused_turned bytes called turning rep at NoMemory near h = tt

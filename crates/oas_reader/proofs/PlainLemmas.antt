@@ -1,5 +1,8 @@
 -- A rectangle that writes no repetition.
-use Rattle.std.proofs.Common.{◌≡◌, ℕ, ◌^◌, Bool, true, false, Some, None, List, ◌++◌, refl, sym, ap, ◌∙◌, inl, inr}
+use Rattle.std.proofs.Common.{◌≡◌, ℕ, ◌^◌, Bool, true, false, Some, None, List, ◌++◌, refl, sym, ap, ◌∙◌}
+use Rattle.geo_stream.specs.Refusals.{IsForFault}
+use Rattle.geo_stream.specs.declared.refusal.Refusal.{Refusal}
+use Rattle.geo_stream.specs.declared.refusal.Refusal.TheVariants.{Fault, NoMemory}
 use Rattle.layout_model.specs.declared.pair.Pair.{Pair}
 use Rattle.oas_fields.specs.Values.{ArePlacesWithin}
 use Rattle.oas_fields.specs.declared.fields.Fields.{Fields}
@@ -32,11 +35,11 @@ pub plain_unplaced : (fields : Fields) (old new : Drafts) → new.placings ≡ o
 plain_unplaced fields old new e = placings_still bodies.Rectangle fields None old new (λ called flips turning same. absurd (cc)) e
 
 -- a rectangle on a wanted pair that is refused
-pub plain_refused : (fields : Fields) (is_wanted : Bool) (at : ℕ) (bad : OasBad) → is_wanted ≡ true
-    → IsRefusedBy (KeepsDrawnIn bodies.Rectangle fields None) at bad
-    → IsRefusedBy (KeepsShapes bodies.Rectangle true (Some is_wanted) fields None) at bad
-plain_refused fields is_wanted at bad is (inl none) = inl none
-plain_refused fields is_wanted at bad is (inr (rule, told, low)) = inr (
+pub plain_refused : (fields : Fields) (is_wanted : Bool) (at : ℕ) (refusal : Refusal OasBad) → is_wanted ≡ true
+    → IsForFault (IsRefusedBy (KeepsDrawnIn bodies.Rectangle fields None) at) refusal
+    → IsForFault (IsRefusedBy (KeepsShapes bodies.Rectangle true (Some is_wanted) fields None) at) refusal
+plain_refused fields is_wanted at NoMemory is h = tt
+plain_refused fields is_wanted at (Fault bad) is (rule, told, low) = (
   rule,
   told,
   record {

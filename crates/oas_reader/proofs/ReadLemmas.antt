@@ -1,20 +1,22 @@
 -- From what the reader keeps to what the bytes hold.
 use Rattle.std.proofs.Common.{◌≡◌, ℕ, ◌^◌, ◌<◌, ◌≤◌, nat_eq, true, false, List, [], ◌∷◌, length, take, Result, Ok, Err}
 use Rattle.std.proofs.Common.{refl, sym, ap, subst, ◌∙◌, ◌⊎◌, inl, inr, arith}
-use Rattle.std.specs.Prelude.{◌≢◌, IfOk, IfErr}
+use Rattle.std.specs.Prelude.{IfOk}
 use Rattle.std.proofs.lemmas.Grind.{common_steps}
 use Rattle.std.proofs.lemmas.List.{length-take}
+use Rattle.geo_stream.specs.Refusals.{IsForFault, IfFault}
+use Rattle.geo_stream.specs.declared.refusal.Refusal.{Refusal}
+use Rattle.geo_stream.specs.declared.refusal.Refusal.TheVariants.{Fault, NoMemory}
 use Rattle.layout_model.specs.declared.cells.Layout.{Layout}
 use Rattle.layout_model.specs.declared.pair.Pair.{Pair}
 use Rattle.oas_record.specs.Laws.{OneRecord, RecordOrFault, OneFault as OneCause}
 use Rattle.oas_record.specs.Records.{HasRecord, NoRecord, id_of}
 use Rattle.oas_record.specs.declared.faults.RecordBad.{RecordBad}
-use Rattle.oas_record.specs.declared.faults.RecordBad.TheVariants as causes
 use Rattle.oas_record.specs.declared.records.OasRecord.{OasRecord}
 use Rattle.oas_record.proofs.ForCallers.{one_record}
 use Rattle.layout_model.specs.Pairs.{AreSamePairs}
 use Rattle.layout_model.specs.Counting.{AreAtMost}
-use Rattle.oas_reader.specs.Files.{lexical_fault, HaveRecords, IsStanding, IsLayoutBehind}
+use Rattle.oas_reader.specs.Files.{lexical_refusal, HaveRecords, IsStanding, IsLayoutBehind}
 use Rattle.oas_reader.specs.Items.{Item, records_in, tables_at_end, magic, is_end}
 use Rattle.oas_reader.specs.Names.{is_unnumbered}
 use Rattle.oas_reader.specs.Order.{is_in_order}
@@ -22,7 +24,6 @@ use Rattle.oas_reader.specs.Readers.{IsReaderOf, IsReaderWithin}
 use Rattle.oas_reader.specs.Reading.{item, IsAllowed, IsReadUpTo, IsWhole, IsLayoutOf, IsRefused, IsFaultOf, IsFirstFault}
 use Rattle.oas_reader.specs.declared.reading.Reader.{Reader}
 use Rattle.oas_reader.specs.declared.refusing.OasBad.{OasBad}
-use Rattle.oas_reader.specs.declared.refusing.OasBad.TheVariants.{Magic, Lexical, Order, Undefined, Value, Names, Tail, Unit, NoMemory}
 use Rattle.oas_reader.proofs.CountLemmas.{count_few, items_few, counts_few}
 use Rattle.oas_reader.proofs.LawLemmas.{one_layout, one_fault, no_layout_with_fault}
 
@@ -102,41 +103,26 @@ stands_there bytes unit wanted sorted at reader r next s same stands =
 
 -- ---- refusals
 
-lexical_is : (cause : RecordBad) (at : ℕ) → (lexical_fault cause at ≡ NoMemory) ⊎ (lexical_fault cause at ≡ Lexical at cause)
-lexical_is causes.Short at = inr refl
-lexical_is causes.Wide at = inr refl
-lexical_is causes.Kind at = inr refl
-lexical_is causes.Packed at = inr refl
-lexical_is causes.Shape at = inr refl
-lexical_is causes.NoMemory at = inl refl
-
-lexical_more : (cause : RecordBad) (at : ℕ) (bad : OasBad) → bad ≡ lexical_fault cause at → bad ≢ NoMemory → bad ≡ Lexical at cause
-lexical_more cause at bad is more = elim (lexical_is cause at) [
-  | inl memory ↦ absurd (more (is ∙ memory))
-  | inr fault ↦ is ∙ fault
-]
-
-pub lexical_first : (bytes : List ℕ) (unit : ℕ) (wanted sorted : List Pair) (at : ℕ) (reader : Reader) (cause : RecordBad) (bad : OasBad)
-    → IsStanding bytes unit sorted at reader → AreSamePairs wanted sorted → (cause ≡ causes.NoMemory) ⊎ NoRecord bytes at reader.tables cause
-    → bad ≡ lexical_fault cause at → bad ≢ NoMemory → IsFirstFault bytes unit wanted bad
-lexical_first bytes unit wanted sorted at reader cause bad s same (inl memory) is more =
-    absurd (more (is ∙ ap (λ c. lexical_fault c at) memory))
-lexical_first bytes unit wanted sorted at reader cause bad s same (inr none) is more =
-    inr (inl (record {
+pub lexical_first : (bytes : List ℕ) (unit : ℕ) (wanted sorted : List Pair) (at : ℕ) (reader : Reader) (none : Refusal RecordBad)
+    (refusal : Refusal OasBad) → IsStanding bytes unit sorted at reader → AreSamePairs wanted sorted
+    → IsForFault (NoRecord bytes at reader.tables) none → refusal ≡ lexical_refusal none at → IsForFault (IsFirstFault bytes unit wanted) refusal
+lexical_first bytes unit wanted sorted at reader (Fault cause) refusal s same stands told =
+    rw told (inr (inl (record {
       past = s.past;
       at = at;
       read = read_up_to bytes unit wanted sorted at reader s same;
       fault = inl (record {
         cause = cause;
-        none = subst (λ t. NoRecord bytes at t cause) (s.reader_is wanted same).tables none;
-        bad_is = lexical_more cause at bad is more;
+        none = subst (λ t. NoRecord bytes at t cause) (s.reader_is wanted same).tables stands;
+        bad_is = refl;
       });
-    }))
+    })))
+lexical_first bytes unit wanted sorted at reader NoMemory refusal s same stands told = rw told tt
 
-pub refused_first : (bytes : List ℕ) (unit : ℕ) (wanted sorted : List Pair) (at : ℕ) (reader : Reader) (r : OasRecord) (next : ℕ) (bad : OasBad)
-    → (s : IsStanding bytes unit sorted at reader) → AreSamePairs wanted sorted → HasRecord bytes at reader.tables r next
-    → IsRefused bytes unit wanted s.past at r next bad → IsFirstFault bytes unit wanted bad
-refused_first bytes unit wanted sorted at reader r next bad s same stands refused =
+pub refused_first : (bytes : List ℕ) (unit : ℕ) (wanted sorted : List Pair) (at : ℕ) (reader : Reader) (r : OasRecord) (next : ℕ)
+    (refusal : Refusal OasBad) → (s : IsStanding bytes unit sorted at reader) → AreSamePairs wanted sorted → HasRecord bytes at reader.tables r next
+    → IsForFault (IsRefused bytes unit wanted s.past at r next) refusal → IsForFault (IsFirstFault bytes unit wanted) refusal
+refused_first bytes unit wanted sorted at reader r next (Fault bad) s same stands refused =
     inr (inl (record {
       past = s.past;
       at = at;
@@ -148,6 +134,7 @@ refused_first bytes unit wanted sorted at reader r next bad s same stands refuse
         refused = refused;
       });
     }))
+refused_first bytes unit wanted sorted at reader r next NoMemory s same stands refused = tt
 
 -- ---- one more record
 
@@ -202,7 +189,7 @@ whole bytes unit wanted sorted at old new r next s same stands end taken = recor
 }
 
 pub ended_ok : (bytes : List ℕ) (unit : ℕ) (wanted sorted : List Pair) (at : ℕ) (old new : Reader) (r : OasRecord) (next : ℕ)
-    (result : Result Layout OasBad) → (s : IsStanding bytes unit sorted at old) → AreSamePairs wanted sorted → HasRecord bytes at old.tables r next
+    (result : Result Layout (Refusal OasBad)) → (s : IsStanding bytes unit sorted at old) → AreSamePairs wanted sorted → HasRecord bytes at old.tables r next
     → is_end r ≡ true → IsTakenOn bytes unit wanted s.past at r next new → IfOk result (IsLayoutBehind bytes wanted (item at r ∷ s.past))
     → IfOk result (λ layout. IsLayoutOf bytes unit wanted layout)
 ended_ok bytes unit wanted sorted at old new r next (Err bad) s same stands end taken behind = tt
@@ -216,50 +203,36 @@ ended_ok bytes unit wanted sorted at old new r next (Ok layout) s same stands en
   layout_is = behind.layout_is;
 }
 
-ended_fault : (bytes : List ℕ) (unit : ℕ) (wanted : List Pair) (last : Item) (past : List Item) (next : ℕ) (bad : OasBad)
-    → IsWhole bytes unit wanted last past next → (bad ≡ NoMemory) ⊎ IsFaultOf bytes (last ∷ past) bad → bad ≢ NoMemory
-    → IsFirstFault bytes unit wanted bad
-ended_fault bytes unit wanted last past next bad all (inl memory) more = absurd (more memory)
-ended_fault bytes unit wanted last past next bad all (inr fault) more =
-    inr (inr (record { last = last; past = past; next = next; whole = all; fault = fault }))
-
 pub ended_bad : (bytes : List ℕ) (unit : ℕ) (wanted sorted : List Pair) (at : ℕ) (old new : Reader) (r : OasRecord) (next : ℕ)
-    (result : Result Layout OasBad) → (s : IsStanding bytes unit sorted at old) → AreSamePairs wanted sorted → HasRecord bytes at old.tables r next
-    → is_end r ≡ true → IsTakenOn bytes unit wanted s.past at r next new
-    → IfErr result (λ bad. (bad ≡ NoMemory) ⊎ IsFaultOf bytes (item at r ∷ s.past) bad)
-    → IfErr result (λ bad. bad ≢ NoMemory → IsFirstFault bytes unit wanted bad)
-ended_bad bytes unit wanted sorted at old new r next (Ok layout) s same stands end taken bad = tt
-ended_bad bytes unit wanted sorted at old new r next (Err one) s same stands end taken fault =
-    ended_fault bytes unit wanted (item at r) s.past next one (whole bytes unit wanted sorted at old new r next s same stands end taken) fault
+    (result : Result Layout (Refusal OasBad)) → (s : IsStanding bytes unit sorted at old) → AreSamePairs wanted sorted
+    → HasRecord bytes at old.tables r next → is_end r ≡ true → IsTakenOn bytes unit wanted s.past at r next new
+    → IfFault result (IsFaultOf bytes (item at r ∷ s.past)) → IfFault result (IsFirstFault bytes unit wanted)
+ended_bad bytes unit wanted sorted at old new r next (Ok layout) s same stands end taken fault = tt
+ended_bad bytes unit wanted sorted at old new r next (Err NoMemory) s same stands end taken fault = tt
+ended_bad bytes unit wanted sorted at old new r next (Err (Fault bad)) s same stands end taken fault =
+    inr (inr (record {
+      last = item at r;
+      past = s.past;
+      next = next;
+      whole = whole bytes unit wanted sorted at old new r next s same stands end taken;
+      fault = fault;
+    }))
 
 -- ---- every layout and every fault
 
-memory_or_not : (bad : OasBad) → (bad ≡ NoMemory) ⊎ (bad ≢ NoMemory)
-memory_or_not Magic = inr (λ e. absurd (cc))
-memory_or_not (Lexical at cause) = inr (λ e. absurd (cc))
-memory_or_not (Order at) = inr (λ e. absurd (cc))
-memory_or_not (Undefined at variable) = inr (λ e. absurd (cc))
-memory_or_not (Value at rule) = inr (λ e. absurd (cc))
-memory_or_not (Names first second) = inr (λ e. absurd (cc))
-memory_or_not (Tail at) = inr (λ e. absurd (cc))
-memory_or_not (Unit at) = inr (λ e. absurd (cc))
-memory_or_not NoMemory = inl refl
-
-pub every_layout : (bytes : List ℕ) (unit : ℕ) (wanted : List Pair) (result : Result Layout OasBad)
-    → IfOk result (λ layout. IsLayoutOf bytes unit wanted layout) → IfErr result (λ bad. bad ≢ NoMemory → IsFirstFault bytes unit wanted bad)
+pub every_layout : (bytes : List ℕ) (unit : ℕ) (wanted : List Pair) (result : Result Layout (Refusal OasBad))
+    → IfOk result (λ layout. IsLayoutOf bytes unit wanted layout) → IfFault result (IsFirstFault bytes unit wanted)
     → (layout : Layout) → IsLayoutOf bytes unit wanted layout → (result ≡ Ok layout) ⊎ (result ≡ Err NoMemory)
 every_layout bytes unit wanted (Ok one) found fault layout is = inl (ap Ok (one_layout one_law bytes unit wanted one layout found is))
-every_layout bytes unit wanted (Err bad) found fault layout is = elim (memory_or_not bad) [
-  | inl memory ↦ inr (ap Err memory)
-  | inr more ↦ absurd (no_layout_with_fault one_law apart_law bytes unit wanted layout bad is (fault more))
-]
+every_layout bytes unit wanted (Err NoMemory) found fault layout is = inr refl
+every_layout bytes unit wanted (Err (Fault bad)) found fault layout is =
+    absurd (no_layout_with_fault one_law apart_law bytes unit wanted layout bad is fault)
 
-pub every_first_fault : (bytes : List ℕ) (unit : ℕ) (wanted : List Pair) (result : Result Layout OasBad)
-    → IfOk result (λ layout. IsLayoutOf bytes unit wanted layout) → IfErr result (λ bad. bad ≢ NoMemory → IsFirstFault bytes unit wanted bad)
-    → (bad : OasBad) → IsFirstFault bytes unit wanted bad → (result ≡ Err bad) ⊎ (result ≡ Err NoMemory)
+pub every_first_fault : (bytes : List ℕ) (unit : ℕ) (wanted : List Pair) (result : Result Layout (Refusal OasBad))
+    → IfOk result (λ layout. IsLayoutOf bytes unit wanted layout) → IfFault result (IsFirstFault bytes unit wanted)
+    → (bad : OasBad) → IsFirstFault bytes unit wanted bad → (result ≡ Err (Fault bad)) ⊎ (result ≡ Err NoMemory)
 every_first_fault bytes unit wanted (Ok layout) found fault bad is =
     absurd (no_layout_with_fault one_law apart_law bytes unit wanted layout bad found is)
-every_first_fault bytes unit wanted (Err one) found fault bad is = elim (memory_or_not one) [
-  | inl memory ↦ inr (ap Err memory)
-  | inr more ↦ inl (ap Err (one_fault one_law apart_law cause_law bytes unit wanted one bad (fault more) is))
-]
+every_first_fault bytes unit wanted (Err NoMemory) found fault bad is = inr refl
+every_first_fault bytes unit wanted (Err (Fault one)) found fault bad is =
+    inl (ap (λ b. Err (Fault b)) (one_fault one_law apart_law cause_law bytes unit wanted one bad fault is))

@@ -2,6 +2,9 @@
 use Rattle.std.proofs.Common.{◌≡◌, ℕ, ◌^◌, Bool, false, if◌then◌else◌, Option, Some, None, List, ◌∷◌, ◌++◌, map, refl, sym, ap, subst, ◌∙◌, inl, inr, arith}
 use Rattle.std.specs.Prelude.{◌↔◌, IsTrue}
 use Rattle.std.specs.List.{list_any}
+use Rattle.geo_stream.specs.Refusals.{IsForFault}
+use Rattle.geo_stream.specs.declared.refusal.Refusal.{Refusal}
+use Rattle.geo_stream.specs.declared.refusal.Refusal.TheVariants.{Fault, NoMemory}
 use Rattle.layout_model.specs.declared.pair.Pair.{Pair}
 use Rattle.oas_record.specs.Taken.{repetition_in}
 use Rattle.oas_record.specs.declared.records.OasRecord.{OasRecord}
@@ -148,26 +151,26 @@ values_kept bytes wanted sorted past r outline fields wanting t l k =
 pub look_bad : (bytes : List ℕ) (wanted sorted : List Pair) (past : List OasRecord) (r : OasRecord) (outline : Outline) (fields : Fields) (at : ℕ)
     (bad : OasBad) → IsTaken wanted sorted past r outline fields → IsBadLook bytes outline fields at bad → IsBadValue bytes wanted past at r bad
 look_bad bytes wanted sorted past r outline fields at bad t (inl (variable, wanting, told)) =
-    let b = bridge wanted sorted past r outline fields t in inr (inl (variable, sym b.undefined ∙ wanting, told))
+    let b = bridge wanted sorted past r outline fields t in inl (variable, sym b.undefined ∙ wanting, told)
 look_bad bytes wanted sorted past r outline fields at bad t (inr (inl (defined, far, told))) =
     let b = bridge wanted sorted past r outline fields t in
-    inr (inr (1, sym b.undefined ∙ defined, positions_lowest bytes wanted past r (λ n. far (near_from (r ∷ past) fields b.fields_are n)), told))
+    inr (1, sym b.undefined ∙ defined, positions_lowest bytes wanted past r (λ n. far (near_from (r ∷ past) fields b.fields_are n)), told)
 look_bad bytes wanted sorted past r outline fields at bad t (inr (inr (inl (defined, near, wrong, told)))) =
     let b = bridge wanted sorted past r outline fields t in
-    inr (inr (
+    inr (
       9,
       sym b.undefined ∙ defined,
       version_lowest bytes wanted past r (λ k. wrong (subst (KeepsVersionBy bytes) (sym b.body) k)) (near_to (r ∷ past) fields b.fields_are near),
       told,
-    ))
+    )
 look_bad bytes wanted sorted past r outline fields at bad t (inr (inr (inr (defined, near, wrong, told)))) =
     let b = bridge wanted sorted past r outline fields t in
-    inr (inr (
+    inr (
       10,
       sym b.undefined ∙ defined,
       scheme_lowest bytes wanted past r (λ k. wrong (subst KeepsSchemeBy (sym b.body) k)) (near_to (r ∷ past) fields b.fields_are near),
       told,
-    ))
+    )
 
 lowest_of : (bytes : List ℕ) (wanted sorted : List Pair) (past : List OasRecord) (r : OasRecord) (outline : Outline) (fields : Fields)
     (wanting : Option Bool) (rule : ℕ) → IsBridge wanted sorted past r outline fields → IsLooked bytes sorted outline fields wanting
@@ -186,13 +189,14 @@ lowest_of bytes wanted sorted past r outline fields wanting rule b l low =
     }
 
 pub geometry_bad : (bytes : List ℕ) (wanted sorted : List Pair) (past : List OasRecord) (r : OasRecord) (outline : Outline) (fields : Fields)
-    (wanting : Option Bool) (at : ℕ) (bad : OasBad) → IsTaken wanted sorted past r outline fields → IsLooked bytes sorted outline fields wanting
-    → IsRefusedBy (KeepsGeometry bytes outline.body outline.has_dimensions wanting fields (rep_in outline fields)) at bad
-    → IsBadValue bytes wanted past at r bad
-geometry_bad bytes wanted sorted past r outline fields wanting at bad t l (inl none) = inl none
-geometry_bad bytes wanted sorted past r outline fields wanting at bad t l (inr (rule, told, low)) =
+    (wanting : Option Bool) (at : ℕ) (refusal : Refusal OasBad) → IsTaken wanted sorted past r outline fields
+    → IsLooked bytes sorted outline fields wanting
+    → IsForFault (IsRefusedBy (KeepsGeometry bytes outline.body outline.has_dimensions wanting fields (rep_in outline fields)) at) refusal
+    → IsForFault (IsBadValue bytes wanted past at r) refusal
+geometry_bad bytes wanted sorted past r outline fields wanting at NoMemory t l h = tt
+geometry_bad bytes wanted sorted past r outline fields wanting at (Fault bad) t l (rule, told, low) =
     let b = bridge wanted sorted past r outline fields t in
-    inr (inr (rule, sym b.undefined ∙ l.defined, lowest_of bytes wanted sorted past r outline fields wanting rule b l low, told))
+    inr (rule, sym b.undefined ∙ l.defined, lowest_of bytes wanted sorted past r outline fields wanting rule b l low, told)
 
 -- ---- the open cell
 

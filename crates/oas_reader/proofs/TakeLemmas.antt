@@ -1,5 +1,8 @@
 -- Records by what is kept of them: those that name a cell.
-use Rattle.std.proofs.Common.{◌≡◌, ℕ, Bool, true, false, List, ◌∷◌, Option, Some, None, refl, sym, ap, subst, ◌∙◌, inl, inr}
+use Rattle.std.proofs.Common.{◌≡◌, ℕ, Bool, true, false, List, ◌∷◌, Option, Some, None, refl, sym, ap, subst, ◌∙◌, inr}
+use Rattle.geo_stream.specs.Refusals.{IsForFault}
+use Rattle.geo_stream.specs.declared.refusal.Refusal.{Refusal}
+use Rattle.geo_stream.specs.declared.refusal.Refusal.TheVariants.{Fault, NoMemory}
 use Rattle.layout_model.specs.Names.{IsName}
 use Rattle.oas_record.specs.declared.fields.Called.{Called}
 use Rattle.oas_record.specs.declared.records.OasRecord.{OasRecord}
@@ -113,10 +116,10 @@ pub own_name : (bytes : List ℕ) (name : ℕ × ℕ) (number : Option ℕ) → 
 own_name bytes name None is = is
 own_name bytes name (Some number) is = is
 
-pub bad_name : (bytes : List ℕ) (past : List Item) (at : ℕ) (r : OasRecord) (bad : OasBad) → KeepsOwnName bytes r → IsConflict bytes past r at bad
-    → IsBadName bytes past at r bad
-bad_name bytes past at r bad own (inl memory) = inl memory
-bad_name bytes past at r bad own (inr (first, conflict, is)) = inr (inr (own, first, conflict, is))
+pub bad_name : (bytes : List ℕ) (past : List Item) (at : ℕ) (r : OasRecord) (refusal : Refusal OasBad) → KeepsOwnName bytes r
+    → IsForFault (IsConflict bytes past r at) refusal → IsForFault (IsBadName bytes past at r) refusal
+bad_name bytes past at r (Fault bad) own (first, conflict, is) = inr (own, first, conflict, is)
+bad_name bytes past at r NoMemory own h = tt
 
 -- ---- a record of no names
 

@@ -1,7 +1,10 @@
 -- What is kept and what is refused of one record.
 use Rattle.std.proofs.Common.{◌≡◌, ℕ, ◌^◌, Bool, true, false, Option, Some, None, List, [], ◌∷◌, pos, refl, sym, ap, subst, ◌∙◌, ◌⊎◌, inl, inr, arith}
-use Rattle.std.specs.Prelude.{◌≢◌, ◌↔◌, IfSome, IsTrue}
+use Rattle.std.specs.Prelude.{◌↔◌, IfSome, IsTrue}
 use Rattle.std.proofs.lemmas.Int.{ints}
+use Rattle.geo_stream.specs.Refusals.{IsForFault}
+use Rattle.geo_stream.specs.declared.refusal.Refusal.{Refusal}
+use Rattle.geo_stream.specs.declared.refusal.Refusal.TheVariants.{Fault, NoMemory}
 use Rattle.layout_model.specs.declared.cells.Counts.{Counts}
 use Rattle.layout_model.specs.declared.pair.Pair.{Pair}
 use Rattle.oas_record.specs.Plain.{rectangle_of}
@@ -38,7 +41,6 @@ use Rattle.oas_reader.specs.declared.naming.Given.{Given}
 use Rattle.oas_reader.specs.declared.naming.Names.{Names}
 use Rattle.oas_reader.specs.declared.order.Place.{Place}
 use Rattle.oas_reader.specs.declared.refusing.OasBad.{OasBad}
-use Rattle.oas_reader.specs.declared.refusing.OasBad.TheVariants as faults
 use Rattle.oas_reader.proofs.BodyLemmas.{own_name, tables_is, unit_kept, tail_kept, BreaksUnit, BreaksTail, file_broken}
 use Rattle.oas_reader.proofs.CountLemmas.{counted}
 
@@ -116,17 +118,17 @@ pub body_kept : (bytes : List ℕ) (wanted : List Pair) (past : List Item) (r : 
     → KeepsOwnName bytes r → conflict_of bytes past r ≡ None → IsBodyKept bytes wanted past r
 body_kept bytes wanted past r kept own new = record { defined = kept.defined; rules = λ rule. kept.rules rule (λ _. own); names = new }
 
-pub bad_value : (bytes : List ℕ) (wanted : List Pair) (past : List Item) (at : ℕ) (r : OasRecord) (bad : OasBad)
-    → IsBadValue bytes wanted (records_in past) at r bad → IsBadBody bytes wanted past at r bad
-bad_value bytes wanted past at r bad (inl memory) = inl memory
-bad_value bytes wanted past at r bad (inr (inl f)) = inr (inl f)
-bad_value bytes wanted past at r bad (inr (inr f)) = inr (inr (inl f))
+pub bad_value : (bytes : List ℕ) (wanted : List Pair) (past : List Item) (at : ℕ) (r : OasRecord) (refusal : Refusal OasBad)
+    → IsForFault (IsBadValue bytes wanted (records_in past) at r) refusal → IsForFault (IsBadBody bytes wanted past at r) refusal
+bad_value bytes wanted past at r (Fault bad) (inl f) = inl f
+bad_value bytes wanted past at r (Fault bad) (inr f) = inr (inl f)
+bad_value bytes wanted past at r NoMemory h = tt
 
-pub bad_name : (bytes : List ℕ) (wanted : List Pair) (past : List Item) (at : ℕ) (r : OasRecord) (bad : OasBad)
-    → AreValuesKept bytes wanted (records_in past) r → IsBadName bytes past at r bad → IsBadBody bytes wanted past at r bad
-bad_name bytes wanted past at r bad kept (inl memory) = inl memory
-bad_name bytes wanted past at r bad kept (inr (inl f)) =
-    inr (inr (inl (
+pub bad_name : (bytes : List ℕ) (wanted : List Pair) (past : List Item) (at : ℕ) (r : OasRecord) (refusal : Refusal OasBad)
+    → AreValuesKept bytes wanted (records_in past) r → IsForFault (IsBadName bytes past at r) refusal
+    → IsForFault (IsBadBody bytes wanted past at r) refusal
+bad_name bytes wanted past at r (Fault bad) kept (inl f) =
+    inr (inl (
       2,
       kept.defined,
       record {
@@ -134,20 +136,20 @@ bad_name bytes wanted past at r bad kept (inr (inl f)) =
         lower = λ other below. kept.rules other (λ two. absurd (omega (arith, two, below)));
       },
       f.1,
-    )))
-bad_name bytes wanted past at r bad kept (inr (inr f)) = inr (inr (inr (f.1, kept.defined, (λ rule. kept.rules rule (λ _. f.0)), f.2, f.3)))
+    ))
+bad_name bytes wanted past at r (Fault bad) kept (inr f) = inr (inr (f.1, kept.defined, (λ rule. kept.rules rule (λ _. f.0)), f.2, f.3))
+bad_name bytes wanted past at r NoMemory kept h = tt
 
 -- ---- refusals
 
-pub body_refused : (bytes : List ℕ) (unit : ℕ) (wanted : List Pair) (past : List Item) (at : ℕ) (r : OasRecord) (next : ℕ) (bad : OasBad)
-    → is_in_order (records_in past) r ≡ true → bad ≢ faults.NoMemory → IsBadBody bytes wanted past at r bad
-    → IsRefused bytes unit wanted past at r next bad
-body_refused bytes unit wanted past at r next bad order more (inl memory) = absurd (more memory)
-body_refused bytes unit wanted past at r next bad order more (inr (inl f)) =
+pub body_refused : (bytes : List ℕ) (unit : ℕ) (wanted : List Pair) (past : List Item) (at : ℕ) (r : OasRecord) (next : ℕ)
+    (refusal : Refusal OasBad) → is_in_order (records_in past) r ≡ true → IsForFault (IsBadBody bytes wanted past at r) refusal
+    → IsForFault (IsRefused bytes unit wanted past at r next) refusal
+body_refused bytes unit wanted past at r next (Fault bad) order (inl f) =
     inr (inl (record { order = order; variable = f.0; undefined = f.1; bad_is = f.2 }))
-body_refused bytes unit wanted past at r next bad order more (inr (inr (inl f))) =
+body_refused bytes unit wanted past at r next (Fault bad) order (inr (inl f)) =
     inr (inr (inl (record { defined = record { order = order; defined = f.1 }; rule = f.0; broken = f.2; bad_is = f.3 })))
-body_refused bytes unit wanted past at r next bad order more (inr (inr (inr f))) =
+body_refused bytes unit wanted past at r next (Fault bad) order (inr (inr f)) =
     inr (inr (inr (inl (record {
       defined = record { order = order; defined = f.1 };
       rules = f.2;
@@ -155,6 +157,7 @@ body_refused bytes unit wanted past at r next bad order more (inr (inr (inr f)))
       conflict = f.3;
       bad_is = f.4;
     }))))
+body_refused bytes unit wanted past at r next NoMemory order h = tt
 
 file_refused_by : (bytes : List ℕ) (unit : ℕ) (wanted : List Pair) (past : List Item) (at : ℕ) (r : OasRecord) (next : ℕ) (bad : OasBad)
     → is_in_order (records_in past) r ≡ true → IsBodyKept bytes wanted past r

@@ -1,5 +1,7 @@
 -- What a record draws or places, by what the program keeps of it.
-use Rattle.std.specs.Prelude.{◌≡◌, ◌⊎◌, ◌+◌, ℕ, ℤ, Bool, true, false, nat_eq, List, Option, Some, None}
+use Rattle.std.specs.Prelude.{◌≡◌, ◌+◌, ℕ, ℤ, Bool, true, false, nat_eq, List, Option, Some, None}
+use Rattle.geo_stream.specs.declared.refusal.Refusal.{Refusal}
+use Rattle.geo_stream.specs.declared.refusal.Refusal.TheVariants.{Fault, NoMemory}
 use Rattle.half_grid.specs.declared.plane.Point.{Point}
 use Rattle.layout_model.specs.declared.cells.Counts.{Counts}
 use Rattle.layout_model.specs.declared.pair.Pair.{Pair}
@@ -109,14 +111,14 @@ with_record None body counts = with_body body counts
 
 -- ---- refusals
 
--- want of memory, or the lowest rule that isn't kept, at this offset
+-- the lowest rule that isn't kept, at this offset
 abbrev pub IsRefusedBy : (ℕ → Type 0) → ℕ → OasBad → Type 0
-IsRefusedBy Kept at bad = (bad ≡ faults.NoMemory) ⊎ ((rule : ℕ) × (bad ≡ faults.Value at rule) × IsLowest Kept rule)
+IsRefusedBy Kept at bad = (rule : ℕ) × (bad ≡ faults.Value at rule) × IsLowest Kept rule
 
 -- the refusal at this offset of what can't be drawn or placed
-abbrev pub bad_at : Undrawn → ℕ → OasBad
-bad_at (undrawns.Rule rule) at = faults.Value at rule
-bad_at undrawns.NoMemory at = faults.NoMemory
+abbrev pub bad_at : Undrawn → ℕ → Refusal OasBad
+bad_at (undrawns.Rule rule) at = Fault (faults.Value at rule)
+bad_at undrawns.NoMemory at = NoMemory
 
 -- it comes before those of the name and of the turning
 abbrev pub is_first : Undrawn → Bool

@@ -1,10 +1,11 @@
 -- What the whole file gives, by what the program keeps of the records.
 use Rattle.std.specs.Prelude.{◌≡◌, ◌⊎◌, ◌≤◌, ℕ, pos, nat_eq, Bool, true, if◌then◌else◌, List, Some, None, length, take}
+use Rattle.geo_stream.specs.declared.refusal.Refusal.{Refusal}
+use Rattle.geo_stream.specs.declared.refusal.Refusal.TheVariants.{Fault, NoMemory}
 use Rattle.layout_model.specs.declared.cells.Layout.{Layout}
 use Rattle.layout_model.specs.declared.pair.Pair.{Pair}
 use Rattle.oas_lex.specs.Reals.{IsWholeReal}
 use Rattle.oas_record.specs.declared.faults.RecordBad.{RecordBad}
-use Rattle.oas_record.specs.declared.faults.RecordBad.TheVariants as causes
 use Rattle.oas_record.specs.declared.records.OasRecord.{OasRecord}
 use Rattle.oas_fields.specs.Values.{AreFields}
 use Rattle.oas_fields.specs.declared.fields.Fields.{Fields}
@@ -43,9 +44,9 @@ tables_by _ tables = tables
 
 -- ---- bytes that are no record
 
-abbrev pub lexical_fault : RecordBad → ℕ → OasBad
-lexical_fault causes.NoMemory at = faults.NoMemory
-lexical_fault bad at = faults.Lexical at bad
+abbrev pub lexical_refusal : Refusal RecordBad → ℕ → Refusal OasBad
+lexical_refusal (Fault bad) at = Fault (faults.Lexical at bad)
+lexical_refusal NoMemory at = NoMemory
 
 -- ---- one record
 
@@ -60,11 +61,10 @@ pub record IsBodyKept (bytes : List ℕ) (wanted : List Pair) (past : List Item)
   pub rules : KeepsRules bytes wanted (records_in past) r
   pub names : conflict_of bytes past r ≡ None
 
--- want of memory, a value that isn't there, the lowest rule that is broken, or a conflict with an earlier record
+-- a value that isn't there, the lowest rule that is broken, or a conflict with an earlier record
 abbrev pub IsBadBody : List ℕ → List Pair → List Item → ℕ → OasRecord → OasBad → Type 0
 IsBadBody bytes wanted past at r bad =
-    (bad ≡ faults.NoMemory)
-    ⊎ ((variable : Variable) × (undefined_of (records_in past) r ≡ Some variable) × (bad ≡ faults.Undefined at variable))
+    ((variable : Variable) × (undefined_of (records_in past) r ≡ Some variable) × (bad ≡ faults.Undefined at variable))
     ⊎ ((rule : ℕ) × (undefined_of (records_in past) r ≡ None) × IsLowestBroken bytes wanted (records_in past) r rule
     × (bad ≡ faults.Value at rule))
     ⊎ ((first : ℕ) × (undefined_of (records_in past) r ≡ None) × KeepsRules bytes wanted (records_in past) r

@@ -1,5 +1,5 @@
 -- The cells by name, as the program makes them of what it keeps.
-use Rattle.std.specs.Prelude.{◌≡◌, ◌⊎◌, ℕ, List, Some, map, reverse}
+use Rattle.std.specs.Prelude.{◌≡◌, ℕ, List, Some, map, reverse}
 use Rattle.layout_model.specs.declared.cells.Cell.{Cell}
 use Rattle.oas_record.specs.declared.records.OasRecord.{OasRecord}
 use Rattle.oas_reader.specs.declared.cells.Draft.{Draft}
@@ -30,8 +30,7 @@ cell_item draft = item draft.at (cell_record draft.called)
 abbrev pub cell_items : List Draft → List Item
 cell_items drafts = reverse (map cell_item drafts)
 
--- want of memory, or the first two of one name
+-- the first two of one name
 abbrev pub AreTwins : List ℕ → List OasRecord → List Item → OasBad → Type 0
 AreTwins bytes all items bad =
-    (bad ≡ faults.NoMemory)
-    ⊎ ((first : ℕ) × (second : ℕ) × (first_twins bytes all items ≡ Some (first, second)) × (bad ≡ faults.Names first second))
+    (first : ℕ) × (second : ℕ) × (first_twins bytes all items ≡ Some (first, second)) × (bad ≡ faults.Names first second)

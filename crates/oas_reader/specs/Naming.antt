@@ -1,5 +1,5 @@
 -- The tables of names, as the program keeps them.
-use Rattle.std.specs.Prelude.{◌≡◌, ◌⊎◌, ◌≤◌, ℕ, nat_eq, Bool, false, if◌then◌else◌, List, [], ◌∷◌, Option, Some, None, IfSome, length}
+use Rattle.std.specs.Prelude.{◌≡◌, ◌≤◌, ℕ, nat_eq, Bool, false, if◌then◌else◌, List, [], ◌∷◌, Option, Some, None, IfSome, length}
 use Rattle.indexmap.specs.IndexMap.{get, get_by}
 use Rattle.layout_model.specs.Names.{IsName}
 use Rattle.oas_record.specs.declared.fields.Called.{Called}
@@ -32,9 +32,9 @@ abbrev pub AreCalledWithin : List ℕ → Option Called → Type 0
 AreCalledWithin bytes None = Unit {0}
 AreCalledWithin bytes (Some called) = IsCalledWithin bytes called
 
--- want of memory, or the bytes are no name
+-- the bytes are no name
 abbrev pub IsNoName : List ℕ → ℕ → OasBad → Type 0
-IsNoName name at bad = (bad ≡ faults.NoMemory) ⊎ ((IsName name → ⊥) × (bad ≡ faults.Value at 2))
+IsNoName name at bad = (IsName name → ⊥) × (bad ≡ faults.Value at 2)
 
 -- ---- records of names
 
@@ -46,10 +46,9 @@ abbrev pub cell_record : Called → OasRecord
 cell_record (Number number) = records.NumberedCell number
 cell_record (Text first next) = records.Cell (first, next)
 
--- want of memory, or the record conflicts with an earlier one
+-- the record conflicts with an earlier one
 abbrev pub IsConflict : List ℕ → List Item → OasRecord → ℕ → OasBad → Type 0
-IsConflict bytes past r at bad =
-    (bad ≡ faults.NoMemory) ⊎ ((first : ℕ) × (conflict_of bytes past r ≡ Some first) × (bad ≡ faults.Names first at))
+IsConflict bytes past r at bad = (first : ℕ) × (conflict_of bytes past r ≡ Some first) × (bad ≡ faults.Names first at)
 
 -- ---- what the tables have
 
@@ -125,7 +124,7 @@ place_in cells name = get_by (λ key. same_name name key.now) cells.places
 abbrev pub AreCellsOf : List ℕ → List OasRecord → List Item → Cells → Type 0
 AreCellsOf bytes all past cells = (name : List ℕ) → place_in cells name ≡ first_named bytes all (Some name) past
 
--- want of memory, or an earlier cell has the name
+-- an earlier cell has the name
 abbrev pub IsTwin : List ℕ → List OasRecord → List Item → List ℕ → ℕ → OasBad → Type 0
 IsTwin bytes all past name at bad =
-    (bad ≡ faults.NoMemory) ⊎ ((first : ℕ) × (first_named bytes all (Some name) past ≡ Some first) × (bad ≡ faults.Names first at))
+    (first : ℕ) × (first_named bytes all (Some name) past ≡ Some first) × (bad ≡ faults.Names first at)

@@ -63,18 +63,16 @@ pub record AreValuesKept (bytes : List ℕ) (wanted : List Pair) (past : List Oa
   pub defined : undefined_of past r ≡ None
   pub rules : (rule : ℕ) → (rule ≡ 2 → KeepsOwnName bytes r) → Keeps bytes wanted past r rule
 
--- want of memory, a value that isn't there, or the lowest rule that is broken
+-- a value that isn't there, or the lowest rule that is broken
 abbrev pub IsBadValue : List ℕ → List Pair → List OasRecord → ℕ → OasRecord → OasBad → Type 0
 IsBadValue bytes wanted past at r bad =
-    (bad ≡ faults.NoMemory)
-    ⊎ ((variable : Variable) × (undefined_of past r ≡ Some variable) × (bad ≡ faults.Undefined at variable))
+    ((variable : Variable) × (undefined_of past r ≡ Some variable) × (bad ≡ faults.Undefined at variable))
     ⊎ ((rule : ℕ) × (undefined_of past r ≡ None) × IsLowestBroken bytes wanted past r rule × (bad ≡ faults.Value at rule))
 
 -- ---- names
 
--- want of memory, bytes that are no name, or a conflict with an earlier record
+-- bytes that are no name, or a conflict with an earlier record
 abbrev pub IsBadName : List ℕ → List Item → ℕ → OasRecord → OasBad → Type 0
 IsBadName bytes past at r bad =
-    (bad ≡ faults.NoMemory)
-    ⊎ ((KeepsOwnName bytes r → ⊥) × (bad ≡ faults.Value at 2))
+    ((KeepsOwnName bytes r → ⊥) × (bad ≡ faults.Value at 2))
     ⊎ (KeepsOwnName bytes r × (first : ℕ) × (conflict_of bytes past r ≡ Some first) × (bad ≡ faults.Names first at))

@@ -1,5 +1,7 @@
 //! Shapes on wanted pairs.
-ghost use Rattle.std.specs.Prelude.{◌≡◌, ◌++◌, ◌^◌, ℕ, All, OnOk, IfErr, Err};
+ghost use Rattle.std.specs.Prelude.{◌≡◌, ◌++◌, ◌^◌, ℕ, All, OnOk, Err};
+ghost use Rattle.geo_stream.specs.Refusals.{IfFault};
+ghost use Rattle.geo_stream.specs.declared.refusal.Refusal.TheVariants as refusals;
 ghost use Rattle.layout_model.specs.Layouts.{IsShapeOnGrid};
 ghost use Rattle.oas_fields.specs.Values.{IsPlaceWithin, or_zero};
 ghost use Rattle.oas_shapes.specs.Rules.{IsLowest};
@@ -7,11 +9,11 @@ ghost use Rattle.oas_shapes.specs.Short.{IsShortIn};
 ghost use Rattle.oas_shapes.specs.declared.drawing.Undrawn.TheVariants.{Rule, NoMemory as Wanting};
 ghost use Rattle.oas_reader.specs.Meaning.{or_none};
 ghost use Rattle.oas_reader.specs.Drawn.{pair_in, brush_in, trapezoid_in, figure_in, repetition_kept, shapes_in, HasShortList, KeepsDrawnIn, KeepsWantedIn, IsRefusedBy};
-ghost use Rattle.oas_reader.specs.declared.refusing.OasBad.TheVariants as faults;
 
 use crate::bodies::{Body, Outline};
 use crate::placing::{bad_at, point_of, repetition_in};
 use crate::refusing::OasBad;
+use geo_stream::Refusal;
 use layout_model::{Pair, Shapes};
 use oas_fields::Fields;
 use oas_shapes::{Brush, Figure, Undrawn, draw_figure, draw_path, draw_polygon};
@@ -155,18 +157,18 @@ pub(crate) fn draw(
     outline: Outline,
     at: usize,
     shapes: &mut Shapes,
-) -> Result<(), OasBad>
+) -> Result<(), Refusal<OasBad>>
     requires near { IsPlaceWithin (2 ^ 40) fields.now.geometry }
     ensures shapes { OnOk result (shapes.new ≡ shapes.old ++ shapes_in outline.body fields.now (repetition_kept outline.repeats fields.now.repetition)) }
     ensures grid { All IsShapeOnGrid shapes.old → OnOk result (All IsShapeOnGrid shapes.new) }
     ensures kept { OnOk result ((rule : ℕ) → KeepsWantedIn outline.body fields.now (repetition_kept outline.repeats fields.now.repetition) rule) }
-    ensures broken { IfErr result (IsRefusedBy (KeepsWantedIn outline.body fields.now (repetition_kept outline.repeats fields.now.repetition)) at) }
+    ensures broken { IfFault result (IsRefusedBy (KeepsWantedIn outline.body fields.now (repetition_kept outline.repeats fields.now.repetition)) at) }
     ensures memory { HasShortList outline.body fields.now → IsShortIn (repetition_kept outline.repeats fields.now.repetition)
-        → result ≡ Err faults.NoMemory
+        → result ≡ Err refusals.NoMemory
         → (rule : ℕ) → KeepsWantedIn outline.body fields.now (repetition_kept outline.repeats fields.now.repetition) rule }
 {
     match outline.body {
-        Body::Undrawn => Err(OasBad::Value(at, PAIR_RULE)),
+        Body::Undrawn => Err(Refusal::Fault(OasBad::Value(at, PAIR_RULE))),
         _ => match draw_body(alloc, fields, outline, shapes) {
             Ok(()) => Ok(()),
             Err(undrawn) => Err(bad_at(undrawn, at)),

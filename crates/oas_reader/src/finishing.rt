@@ -1,5 +1,6 @@
 //! What comes after END: names.
-ghost use Rattle.std.specs.Prelude.{◌≡◌, ◌⊎◌, Some, None, List as AList, ◌∷◌, true, map, All, OnOk, IfOk, IfErr};
+ghost use Rattle.std.specs.Prelude.{◌≡◌, Some, None, List as AList, ◌∷◌, true, map, All, OnOk, IfOk};
+ghost use Rattle.geo_stream.specs.Refusals.{IfFault};
 ghost use Rattle.layout_model.specs.Layouts.{IsPlacementOnGrid, IsCellOnGrid, AreDistinct};
 ghost use Rattle.layout_model.specs.declared.pair.Pair.{Pair as APair};
 ghost use Rattle.oas_reader.specs.Behind.{AreCellsBehind};
@@ -10,28 +11,26 @@ ghost use Rattle.oas_reader.specs.Names.{name_called, first_twins};
 ghost use Rattle.oas_reader.specs.Reading.{IsFaultOf};
 ghost use Rattle.oas_reader.specs.Readers.{placings_of, ArePlacingsWithin, IsPlacingOnGrid, IsDraftWithin, IsDraftOnGrid, AreDraftsWithin, AreDraftsOf};
 ghost use Rattle.oas_reader.specs.Naming.{IsCalledWithin, HaveSpans, AreNamesOf};
-ghost use Rattle.oas_reader.specs.declared.refusing.OasBad.TheVariants as bads;
 
 use crate::cells::{Draft, Drafts};
 use crate::naming::{Cells, Names, name_of};
 use crate::placing::Placing;
 use crate::refusing::OasBad;
-use geo_stream::List;
+use geo_stream::{List, NoMemory, Refusal};
 use layout_model::{Cell, Name, Placement};
 use oas_record::Called;
 use std::alloc::Global;
 
 // The bytes of a name, which is there.
-fn bytes_of<'a>(names: &Names<'a>, bytes: &'a [u8], called: Called) -> Result<&'a [u8], OasBad>
+fn bytes_of<'a>(names: &Names<'a>, bytes: &'a [u8], called: Called) -> Result<&'a [u8], NoMemory>
     requires spans { HaveSpans bytes.now names.now }
     requires called { IsCalledWithin bytes.now called }
     ensures ok { (past : AList Item) → AreNamesOf bytes.now past names.now
         → IfOk result (λ name. name_called bytes.now (records_in past) called ≡ Some name.now) }
-    ensures bad { IfErr result (λ bad. bad ≡ bads.NoMemory) }
 {
     match names.name_called(bytes, called) {
         Some(name) => Ok(name),
-        None => Err(OasBad::NoMemory),
+        None => Err(NoMemory),
     }
 }
 
@@ -41,13 +40,13 @@ fn look_at_cells<'a>(
     bytes: &'a [u8],
     names: &Names<'a>,
     drafts: &[Draft],
-) -> Result<(), OasBad>
+) -> Result<(), Refusal<OasBad>>
     requires spans { HaveSpans bytes.now names.now }
     requires called { All (λ draft. IsCalledWithin bytes.now draft.called) drafts.now }
     ensures distinct { (past : AList Item) → AreNamesOf bytes.now past names.now
         → OnOk result (first_twins bytes.now (records_in past) (cell_items drafts.now) ≡ None) }
     ensures twins { (past : AList Item) → AreNamesOf bytes.now past names.now
-        → IfErr result (AreTwins bytes.now (records_in past) (cell_items drafts.now)) }
+        → IfFault result (AreTwins bytes.now (records_in past) (cell_items drafts.now)) }
 {
     let mut cells = Cells::new(alloc, names.key());
     for draft in drafts {
@@ -65,18 +64,14 @@ fn name_by<'a>(
     bytes: &'a [u8],
     names: &Names<'a>,
     called: Called,
-) -> Result<Name, OasBad>
+) -> Result<Name, NoMemory>
     requires spans { HaveSpans bytes.now names.now }
     requires called { IsCalledWithin bytes.now called }
     ensures ok { (past : AList Item) → AreNamesOf bytes.now past names.now
         → IfOk result (λ name. name_called bytes.now (records_in past) called ≡ Some name) }
-    ensures bad { IfErr result (λ bad. bad ≡ bads.NoMemory) }
 {
     let name = bytes_of(names, bytes, called)?;
-    match name_of(alloc, name) {
-        Ok(name) => Ok(name),
-        Err(_) => Err(OasBad::NoMemory),
-    }
+    name_of(alloc, name)
 }
 
 // The placements by name.
@@ -85,13 +80,12 @@ fn placements_of<'a>(
     bytes: &'a [u8],
     names: &Names<'a>,
     placings: Vec<Placing>,
-) -> Result<List<Placement>, OasBad>
+) -> Result<List<Placement>, NoMemory>
     requires spans { HaveSpans bytes.now names.now }
     requires called { ArePlacingsWithin bytes.now placings.items }
     ensures ok { (past : AList Item) → AreNamesOf bytes.now past names.now
         → IfOk result (λ placements. placements ≡ named bytes.now (records_in past) (placings_of placings.items)) }
     ensures grid { All IsPlacingOnGrid placings.items → IfOk result (All IsPlacementOnGrid) }
-    ensures bad { IfErr result (λ bad. bad ≡ bads.NoMemory) }
 {
     let mut placements = List::new(alloc);
     for placing in placings {
@@ -110,7 +104,7 @@ fn placements_of<'a>(
         };
         match placements.push(placement) {
             Ok(()) => {}
-            Err(_) => return Err(OasBad::NoMemory),
+            Err(_) => return Err(NoMemory),
         }
     }
     Ok(placements)
@@ -121,13 +115,12 @@ fn cell_of<'a>(
     bytes: &'a [u8],
     names: &Names<'a>,
     draft: Draft,
-) -> Result<Cell, OasBad>
+) -> Result<Cell, NoMemory>
     requires spans { HaveSpans bytes.now names.now }
     requires within { IsDraftWithin bytes.now draft }
     ensures ok { (past : AList Item) → AreNamesOf bytes.now past names.now
         → IfOk result (λ cell. cell ≡ cell_by bytes.now (records_in past) draft) }
     ensures grid { IsDraftOnGrid draft → IfOk result IsCellOnGrid }
-    ensures bad { IfErr result (λ bad. bad ≡ bads.NoMemory) }
 {
     let Draft {
         called,
@@ -150,20 +143,19 @@ fn cells_by<'a>(
     bytes: &'a [u8],
     names: &Names<'a>,
     drafts: Vec<Draft>,
-) -> Result<List<Cell>, OasBad>
+) -> Result<List<Cell>, NoMemory>
     requires spans { HaveSpans bytes.now names.now }
     requires within { All (IsDraftWithin bytes.now) drafts.items }
     ensures ok { (past : AList Item) → AreNamesOf bytes.now past names.now
         → IfOk result (λ cells. cells ≡ the_cells_by bytes.now (records_in past) drafts.items) }
     ensures grid { All IsDraftOnGrid drafts.items → IfOk result (All IsCellOnGrid) }
-    ensures bad { IfErr result (λ bad. bad ≡ bads.NoMemory) }
 {
     let mut cells = List::new(alloc);
     for draft in drafts {
         let cell = cell_of(alloc, bytes, names, draft)?;
         match cells.push(cell) {
             Ok(()) => {}
-            Err(_) => return Err(OasBad::NoMemory),
+            Err(_) => return Err(NoMemory),
         }
     }
     Ok(cells)
@@ -175,7 +167,7 @@ fn distinct_cells<'a>(
     bytes: &'a [u8],
     names: &Names<'a>,
     drafts: Vec<Draft>,
-) -> Result<List<Cell>, OasBad>
+) -> Result<List<Cell>, Refusal<OasBad>>
     requires spans { HaveSpans bytes.now names.now }
     requires within { All (IsDraftWithin bytes.now) drafts.items }
     ensures ok { (past : AList Item) → AreNamesOf bytes.now past names.now
@@ -184,10 +176,11 @@ fn distinct_cells<'a>(
     ensures distinct { (past : AList Item) → AreNamesOf bytes.now past names.now
         → OnOk result (first_twins bytes.now (records_in past) (cell_items drafts.items) ≡ None) }
     ensures twins { (past : AList Item) → AreNamesOf bytes.now past names.now
-        → IfErr result (AreTwins bytes.now (records_in past) (cell_items drafts.items)) }
+        → IfFault result (AreTwins bytes.now (records_in past) (cell_items drafts.items)) }
 {
     look_at_cells(alloc, bytes, names, drafts.as_slice())?;
-    cells_by(alloc, bytes, names, drafts)
+    let cells = cells_by(alloc, bytes, names, drafts)?;
+    Ok(cells)
 }
 
 /// The cells of a whole file by name, where each number is given and no two cells have one name.
@@ -196,7 +189,7 @@ pub(crate) fn cells_of<'a>(
     bytes: &'a [u8],
     names: &Names<'a>,
     drafts: Drafts,
-) -> Result<List<Cell>, OasBad>
+) -> Result<List<Cell>, Refusal<OasBad>>
     requires spans { HaveSpans bytes.now names.now }
     requires within { AreDraftsWithin bytes.now drafts }
     ensures ok { (wanted : AList APair) (past : AList Item) (last : Item) → AreNamesOf bytes.now (last ∷ past) names.now
@@ -208,14 +201,14 @@ pub(crate) fn cells_of<'a>(
         → IfOk result (λ cells. AreDistinct (map (λ cell. cell.name) cells)) }
     ensures bad { (wanted : AList APair) (past : AList Item) (last : Item) → AreNamesOf bytes.now (last ∷ past) names.now
         → AreDraftsOf wanted (last ∷ past) drafts → is_end last.r ≡ true → NoneEnds past
-        → IfErr result (λ bad. (bad ≡ bads.NoMemory) ⊎ IsFaultOf bytes.now (last ∷ past) bad) }
+        → IfFault result (IsFaultOf bytes.now (last ∷ past)) }
 {
     match names.all_known() {
         Ok(()) => {}
-        Err(bad) => return Err(bad),
+        Err(bad) => return Err(Refusal::Fault(bad)),
     }
     match drafts.finish(alloc) {
         Ok(drafts) => distinct_cells(alloc, bytes, names, drafts),
-        Err(_) => Err(OasBad::NoMemory),
+        Err(_) => Err(Refusal::NoMemory),
     }
 }

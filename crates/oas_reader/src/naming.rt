@@ -1,5 +1,7 @@
 //! Names of cells, by number and by text.
-ghost use Rattle.std.specs.Prelude.{◌≡◌, ◌⊎◌, ◌<◌, ◌^◌, ℕ, List, [], ◌∷◌, Some, None, Ok, Err, OnOk, IfErr, IfOk, IfSome, IfNone};
+ghost use Rattle.std.specs.Prelude.{◌≡◌, ◌<◌, ◌^◌, ℕ, List, [], ◌∷◌, Some, None, Ok, Err, OnOk, IfErr, IfOk, IfSome, IfNone};
+ghost use Rattle.geo_stream.specs.Refusals.{IfFault};
+ghost use Rattle.geo_stream.specs.declared.refusal.Refusal.TheVariants.{Fault};
 ghost use Rattle.layout_model.specs.Names.{IsName};
 ghost use Rattle.oas_record.specs.declared.records.OasRecord.{OasRecord as ARecord};
 ghost use Rattle.oas_reader.specs.declared.refusing.OasBad.TheVariants as bads;
@@ -12,7 +14,7 @@ ghost use Rattle.indexmap.specs.IndexMap.{hasher_of};
 ghost use Rattle.keyed_hash.specs.Keys.{hasher_after, start_of};
 
 use crate::refusing::OasBad;
-use geo_stream::NoMemory;
+use geo_stream::{NoMemory, Refusal};
 use indexmap::IndexMap;
 use keyed_hash::KeyedState;
 use layout_model::{Name, NameBad};
@@ -62,16 +64,16 @@ pub(crate) fn look_at_name(
     first: usize,
     next: usize,
     at: usize,
-) -> Result<(), OasBad>
+) -> Result<(), Refusal<OasBad>>
     requires { IsSpan bytes.now (first, next) }
     ensures ok { OnOk result (IsName (text_in bytes.now (first, next))) }
-    ensures bad { IfErr result (IsNoName (text_in bytes.now (first, next)) at) }
-    ensures no_name { (IsName (text_in bytes.now (first, next)) → ⊥) → result ≡ Err (bads.Value at 2) }
+    ensures bad { IfFault result (IsNoName (text_in bytes.now (first, next)) at) }
+    ensures no_name { (IsName (text_in bytes.now (first, next)) → ⊥) → result ≡ Err (Fault (bads.Value at 2)) }
 {
     match Name::new(alloc, &bytes[first..next]) {
         Ok(_) => Ok(()),
-        Err(NameBad::Form) => Err(OasBad::Value(at, NAME_RULE)),
-        Err(NameBad::NoMemory) => Err(OasBad::NoMemory),
+        Err(NameBad::Form) => Err(Refusal::Fault(OasBad::Value(at, NAME_RULE))),
+        Err(NameBad::NoMemory) => Err(Refusal::NoMemory),
     }
 }
 
@@ -81,11 +83,11 @@ pub(crate) fn look_at_called(
     bytes: &[u8],
     called: Option<Called>,
     at: usize,
-) -> Result<(), OasBad>
+) -> Result<(), Refusal<OasBad>>
     requires { AreCalledWithin bytes.now called }
     ensures ok { OnOk result (IsNamed bytes.now called) }
-    ensures bad { IfErr result (λ bad. (bad ≡ bads.NoMemory) ⊎ ((IsNamed bytes.now called → ⊥) × (bad ≡ bads.Value at 2))) }
-    ensures no_name { (IsNamed bytes.now called → ⊥) → result ≡ Err (bads.Value at 2) }
+    ensures bad { IfFault result (λ bad. (IsNamed bytes.now called → ⊥) × (bad ≡ bads.Value at 2)) }
+    ensures no_name { (IsNamed bytes.now called → ⊥) → result ≡ Err (Fault (bads.Value at 2)) }
 {
     match called {
         Some(Called::Text(first, next)) => look_at_name(alloc, bytes, first, next, at),
@@ -139,7 +141,7 @@ impl<'a> Names<'a> {
         name: (usize, usize),
         written: Option<u64>,
         at: usize,
-    ) -> Result<(), OasBad>
+    ) -> Result<(), Refusal<OasBad>>
         requires { self.old.counted < 2 ^ 63 }
         ensures names { (bytes : List ℕ) (past : List Item) → AreNamesOf bytes past self.old
             → OnOk result (AreNamesOf bytes (item at (cell_name_record name written) ∷ past) self.new) }
@@ -147,7 +149,7 @@ impl<'a> Names<'a> {
         ensures new { (bytes : List ℕ) (past : List Item) → AreNamesOf bytes past self.old
             → OnOk result (conflict_of bytes past (cell_name_record name written) ≡ None) }
         ensures twice { (bytes : List ℕ) (past : List Item) → AreNamesOf bytes past self.old
-            → IfErr result (IsConflict bytes past (cell_name_record name written) at) }
+            → IfFault result (IsConflict bytes past (cell_name_record name written) at) }
     {
         let number = match written {
             Some(number) => number,
@@ -155,7 +157,7 @@ impl<'a> Names<'a> {
         };
         let is_written = written.is_some();
         if let Some(first) = self.conflict(is_written, number) {
-            return Err(OasBad::Names(first, at));
+            return Err(Refusal::Fault(OasBad::Names(first, at)));
         }
         if !is_written {
             self.counted += 1;
@@ -170,12 +172,17 @@ impl<'a> Names<'a> {
         };
         match self.given.insert(number, given) {
             Ok(_) => Ok(()),
-            Err(_) => Err(OasBad::NoMemory),
+            Err(_) => Err(Refusal::NoMemory),
         }
     }
 
     /// Takes what a CELL record at this offset calls its cell.
-    pub(crate) fn begin(&mut self, bytes: &'a [u8], called: Called, at: usize) -> Result<(), OasBad>
+    pub(crate) fn begin(
+        &mut self,
+        bytes: &'a [u8],
+        called: Called,
+        at: usize,
+    ) -> Result<(), Refusal<OasBad>>
         requires { IsCalledWithin bytes.now called }
         ensures names { (past : List Item) → AreNamesOf bytes.now past self.old
             → OnOk result (AreNamesOf bytes.now (item at (cell_record called) ∷ past) self.new) }
@@ -183,45 +190,46 @@ impl<'a> Names<'a> {
         ensures new { (past : List Item) → AreNamesOf bytes.now past self.old
             → OnOk result (conflict_of bytes.now past (cell_record called) ≡ None) }
         ensures twice { (past : List Item) → AreNamesOf bytes.now past self.old
-            → IfErr result (IsConflict bytes.now past (cell_record called) at) }
+            → IfFault result (IsConflict bytes.now past (cell_record called) at) }
     {
         match called {
-            Called::Number(number) => self.mention(number, at),
+            Called::Number(number) => {
+                self.mention(number, at)?;
+                Ok(())
+            }
             Called::Text(first, next) => {
                 let name = &bytes[first..next];
                 if let Some(earlier) = self.cells.get(name).copied() {
-                    return Err(OasBad::Names(earlier, at));
+                    return Err(Refusal::Fault(OasBad::Names(earlier, at)));
                 }
                 match self.cells.insert(name, at) {
                     Ok(_) => Ok(()),
-                    Err(_) => Err(OasBad::NoMemory),
+                    Err(_) => Err(Refusal::NoMemory),
                 }
             }
         }
     }
 
     /// Takes a number that a record at this offset writes.
-    pub(crate) fn mention(&mut self, number: u64, at: usize) -> Result<(), OasBad>
+    pub(crate) fn mention(&mut self, number: u64, at: usize) -> Result<(), NoMemory>
         ensures names { (bytes : List ℕ) (past : List Item) (r : ARecord) → AreNamesOf bytes past self.old → Mentions bytes (records_in past) r number
             → OnOk result (AreNamesOf bytes (item at r ∷ past) self.new) }
         ensures given { OnOk result (self.new.given ≡ self.old.given) }
-        ensures bad { IfErr result (λ bad. bad ≡ bads.NoMemory) }
     {
         if self.used.get(&number).is_some() {
             return Ok(());
         }
         match self.used.insert(number, at) {
             Ok(_) => Ok(()),
-            Err(_) => Err(OasBad::NoMemory),
+            Err(_) => Err(NoMemory),
         }
     }
 
     /// Takes what a record at this offset calls the placed cell, where it writes it.
-    pub(crate) fn place(&mut self, called: Option<Called>, at: usize) -> Result<(), OasBad>
+    pub(crate) fn place(&mut self, called: Option<Called>, at: usize) -> Result<(), NoMemory>
         ensures names { (bytes : List ℕ) (past : List Item) (r : ARecord) → AreNamesOf bytes past self.old → Calls bytes (records_in past) r called
             → OnOk result (AreNamesOf bytes (item at r ∷ past) self.new) }
         ensures given { OnOk result (self.new.given ≡ self.old.given) }
-        ensures bad { IfErr result (λ bad. bad ≡ bads.NoMemory) }
     {
         match called {
             None => Ok(()),
@@ -292,20 +300,20 @@ impl<'a> Cells<'a> {
     }
 
     /// Takes the name of the cell whose CELL record is at this offset, which comes after those before.
-    pub(crate) fn enter(&mut self, name: &'a [u8], at: usize) -> Result<(), OasBad>
+    pub(crate) fn enter(&mut self, name: &'a [u8], at: usize) -> Result<(), Refusal<OasBad>>
         ensures cells { (bytes : List ℕ) (all : List ARecord) (past : List Item) (r : ARecord) → AreCellsOf bytes all past self.old
             → cell_name bytes all (cell_called r) ≡ Some name.now → OnOk result (AreCellsOf bytes all (item at r ∷ past) self.new) }
         ensures new { (bytes : List ℕ) (all : List ARecord) (past : List Item) → AreCellsOf bytes all past self.old
             → OnOk result (first_named bytes all (Some name.now) past ≡ None) }
         ensures twin { (bytes : List ℕ) (all : List ARecord) (past : List Item) → AreCellsOf bytes all past self.old
-            → IfErr result (IsTwin bytes all past name.now at) }
+            → IfFault result (IsTwin bytes all past name.now at) }
     {
         if let Some(earlier) = self.places.get(name).copied() {
-            return Err(OasBad::Names(earlier, at));
+            return Err(Refusal::Fault(OasBad::Names(earlier, at)));
         }
         match self.places.insert(name, at) {
             Ok(_) => Ok(()),
-            Err(_) => Err(OasBad::NoMemory),
+            Err(_) => Err(Refusal::NoMemory),
         }
     }
 }

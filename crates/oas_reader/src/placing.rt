@@ -1,5 +1,6 @@
 //! Placements.
 ghost use Rattle.std.specs.Prelude.{◌≡◌, ◌^◌, ◌≤◌, ◌<◌, ℕ, IfSome, IfNone, IfOk, IfErr, IsSome, Err, option_copied};
+ghost use Rattle.geo_stream.specs.Refusals.{IfFault};
 ghost use Rattle.layout_model.specs.Images.{IsOrient};
 ghost use Rattle.layout_model.specs.Layouts.{IsWithin, IsMove, AreOffsets};
 ghost use Rattle.oas_fields.specs.Values.{IsPlaceWithin};
@@ -17,6 +18,7 @@ ghost use Rattle.oas_reader.specs.Reals.{IsFactor, IsQuarterAngle, factor_of as 
 use crate::bodies::{Outline, Turning};
 use crate::naming::look_at_called;
 use crate::refusing::OasBad;
+use geo_stream::Refusal;
 use half_grid::Point;
 use layout_model::{Offsets, Orient, factor_in, turns_in};
 use oas_fields::{Fields, Place};
@@ -114,20 +116,20 @@ fn named_orient(
     flips: bool,
     turning: Turning,
     at: usize,
-) -> Result<Orient, OasBad>
+) -> Result<Orient, Refusal<OasBad>>
     requires turning { IsTurning turning }
     requires called { AreCalledWithin bytes.now called }
     ensures value { IfOk result (λ orient. orient ≡ orient_in flips turning) }
     ensures grid { IfOk result IsOrient }
     ensures kept { IfOk result (λ _. (rule : ℕ) → KeepsTurned bytes.now called turning rule) }
-    ensures broken { IfErr result (IsRefusedBy (KeepsTurned bytes.now called turning) at) }
+    ensures broken { IfFault result (IsRefusedBy (KeepsTurned bytes.now called turning) at) }
 {
     if let Err(bad) = look_at_called(alloc, bytes, called, at) {
         return Err(bad);
     }
     match orient_of(flips, turning, at) {
         Ok(orient) => Ok(orient),
-        Err(bad) => Err(bad),
+        Err(bad) => Err(Refusal::Fault(bad)),
     }
 }
 
@@ -187,12 +189,12 @@ fn offsets_in(alloc: Global, repetition: Option<&Repetition>) -> Result<Offsets,
 }
 
 /// The refusal at this offset of what can't be drawn or placed.
-pub(crate) fn bad_at(undrawn: Undrawn, at: usize) -> OasBad
+pub(crate) fn bad_at(undrawn: Undrawn, at: usize) -> Refusal<OasBad>
     ensures { result ≡ bad_at undrawn at }
 {
     match undrawn {
-        Undrawn::Rule(rule) => OasBad::Value(at, rule),
-        Undrawn::NoMemory => OasBad::NoMemory,
+        Undrawn::Rule(rule) => Refusal::Fault(OasBad::Value(at, rule)),
+        Undrawn::NoMemory => Refusal::NoMemory,
     }
 }
 
@@ -216,7 +218,7 @@ pub(crate) fn placing_of(
     flips: bool,
     turning: Turning,
     at: usize,
-) -> Result<Placing, OasBad>
+) -> Result<Placing, Refusal<OasBad>>
     requires near { IsPlaceWithin (2 ^ 40) fields.now.placement }
     requires turning { IsTurning turning }
     requires called { AreCalledWithin bytes.now called }
@@ -224,7 +226,7 @@ pub(crate) fn placing_of(
     ensures placed { IfOk result (λ p. the_placing_of p ≡ placed_by fields.now flips turning (repetition_kept outline.repeats fields.now.repetition)) }
     ensures grid { IfOk result IsPlacingOnGrid }
     ensures kept { IfOk result (λ _. (rule : ℕ) → KeepsPlaced bytes.now called turning (repetition_kept outline.repeats fields.now.repetition) rule) }
-    ensures broken { IfErr result (IsRefusedBy (KeepsPlaced bytes.now called turning (repetition_kept outline.repeats fields.now.repetition)) at) }
+    ensures broken { IfFault result (IsRefusedBy (KeepsPlaced bytes.now called turning (repetition_kept outline.repeats fields.now.repetition)) at) }
 {
     let repetition = repetition_in(fields, outline.repeats);
     let offsets = match offsets_in(alloc, repetition) {
@@ -244,7 +246,7 @@ pub(crate) fn placing_of(
         Err(bad) => return Err(bad),
     };
     let Some(target) = fields.cell else {
-        return Err(OasBad::NoMemory);
+        return Err(Refusal::NoMemory);
     };
     let at = doubled(point_of(fields.placement));
     Ok(Placing {

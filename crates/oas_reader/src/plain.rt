@@ -1,5 +1,6 @@
 //! Rectangles that write no repetition, the commonest records.
 ghost use Rattle.std.specs.Prelude.{◌≡◌, ◌^◌, ◌++◌, ℕ, true, false, List, ◌∷◌, None as Nothing, Some as Just, All, OnOk, IfOk, IfErr};
+ghost use Rattle.geo_stream.specs.Refusals.{IfFault};
 ghost use Rattle.layout_model.specs.Layouts.{IsShapeOnGrid};
 ghost use Rattle.layout_model.specs.Pairs.{AreSorted};
 ghost use Rattle.layout_model.specs.declared.pair.Pair.{Pair as APair};
@@ -21,6 +22,7 @@ use crate::placing::{bad_at, point_of};
 use crate::refusing::OasBad;
 use crate::rules::{POSITION_RULE, is_near};
 use crate::undefined::{undefined_box, undefined_pair};
+use geo_stream::Refusal;
 use layout_model::{Pair, Shapes, is_among};
 use oas_fields::{Fields, Variable};
 use oas_shapes::draw_rectangle;
@@ -59,12 +61,12 @@ fn look_at_rectangle(sorted: &[Pair], fields: &Fields, at: usize) -> Result<bool
 
 // Adds the shape of a rectangle whose pair is wanted.
 #[inline(always)]
-fn draw_plain(fields: &Fields, at: usize, shapes: &mut Shapes) -> Result<(), OasBad>
+fn draw_plain(fields: &Fields, at: usize, shapes: &mut Shapes) -> Result<(), Refusal<OasBad>>
     requires near { IsPlaceWithin (2 ^ 40) fields.now.geometry }
     ensures shapes { OnOk result (shapes.new ≡ shapes.old ++ shapes_in bodies.Rectangle fields.now Nothing) }
     ensures grid { All IsShapeOnGrid shapes.old → OnOk result (All IsShapeOnGrid shapes.new) }
     ensures kept { OnOk result ((rule : ℕ) → KeepsDrawnIn bodies.Rectangle fields.now Nothing rule) }
-    ensures broken { IfErr result (IsRefusedBy (KeepsDrawnIn bodies.Rectangle fields.now Nothing) at) }
+    ensures broken { IfFault result (IsRefusedBy (KeepsDrawnIn bodies.Rectangle fields.now Nothing) at) }
 {
     let pair = pair_of(fields);
     let place = point_of(fields.geometry);
@@ -83,7 +85,7 @@ fn add_rectangle(
     is_wanted: bool,
     at: usize,
     drafts: &mut Drafts,
-) -> Result<(), OasBad>
+) -> Result<(), Refusal<OasBad>>
     requires near { IsPlaceWithin (2 ^ 40) fields.now.geometry }
     ensures shapes { OnOk result (drafts.new.shapes
         ≡ drafts.old.shapes ++ shapes_if (Just is_wanted) (shapes_in bodies.Rectangle fields.now Nothing)) }
@@ -92,7 +94,7 @@ fn add_rectangle(
     ensures whole { OnOk result (drafts.new.whole ≡ drafts.old.whole) }
     ensures within { (bytes : List ℕ) → AreDraftsWithin bytes drafts.old → OnOk result (AreDraftsWithin bytes drafts.new) }
     ensures kept { OnOk result ((rule : ℕ) → KeepsShapes bodies.Rectangle true (Just is_wanted) fields.now Nothing rule) }
-    ensures broken { IfErr result (IsRefusedBy (KeepsShapes bodies.Rectangle true (Just is_wanted) fields.now Nothing) at) }
+    ensures broken { IfFault result (IsRefusedBy (KeepsShapes bodies.Rectangle true (Just is_wanted) fields.now Nothing) at) }
 {
     if !is_wanted {
         return Ok(());
@@ -112,7 +114,7 @@ pub(crate) fn take_plain(
     fields: &Fields,
     at: usize,
     drafts: &mut Drafts,
-) -> Result<bool, OasBad>
+) -> Result<bool, Refusal<OasBad>>
     requires sorted { AreSorted sorted.now }
     requires placement { IsPlaceWithin (2 ^ 40) fields.now.placement }
     requires text { IsPlaceWithin (2 ^ 40) fields.now.text }
@@ -125,11 +127,11 @@ pub(crate) fn take_plain(
         → begins_cell r ≡ false → AreDraftsOf wanted past drafts.old → OnOk result (AreDraftsOf wanted (item at r ∷ past) drafts.new) }
     ensures within { (bytes : List ℕ) → AreDraftsWithin bytes drafts.old → OnOk result (AreDraftsWithin bytes drafts.new) }
     ensures bad { (bytes : List ℕ) (wanted : List APair) (past : List ARecord) (r : ARecord) → IsTaken wanted sorted.now past r plain fields.now
-        → IfErr result (IsBadValue bytes wanted past at r) }
+        → IfFault result (IsBadValue bytes wanted past at r) }
 {
     let is_wanted = match look_at_rectangle(sorted, fields, at) {
         Ok(is_wanted) => is_wanted,
-        Err(bad) => return Err(bad),
+        Err(bad) => return Err(Refusal::Fault(bad)),
     };
     match add_rectangle(fields, is_wanted, at, drafts) {
         Ok(()) => Ok(is_wanted),

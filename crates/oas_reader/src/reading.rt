@@ -1,5 +1,7 @@
 //! The whole file.
-ghost use Rattle.std.specs.Prelude.{◌≡◌, ◌≢◌, ◌⊎◌, ◌≤◌, ◌<◌, ◌^◌, ◌↔◌, ℕ, pos, List as AList, [], ◌∷◌, true, Err, Ok, IfOk, IfErr, OnOk, IsTrue, option_copied, take as the_take};
+ghost use Rattle.std.specs.Prelude.{◌≡◌, ◌⊎◌, ◌≤◌, ◌<◌, ◌^◌, ◌↔◌, ℕ, pos, List as AList, [], ◌∷◌, true, Err, Ok, IfOk, IfErr, OnOk, IsTrue, option_copied, take as the_take};
+ghost use Rattle.geo_stream.specs.Refusals.{IfFault};
+ghost use Rattle.geo_stream.specs.declared.refusal.Refusal.TheVariants.{Fault, NoMemory};
 ghost use Rattle.layout_model.specs.Layouts.{IsLayoutOnGrid};
 ghost use Rattle.layout_model.specs.declared.cells.Layout.{Layout as ALayout};
 ghost use Rattle.layout_model.specs.declared.pair.Pair.{Pair as APair};
@@ -12,7 +14,7 @@ ghost use Rattle.oas_shapes.specs.Repetitions.{HasDimensionsIn};
 ghost use Rattle.oas_reader.specs.Bodies.{body_of};
 ghost use Rattle.layout_model.specs.Pairs.{AreSorted, AreSamePairs};
 ghost use Rattle.layout_model.specs.Counting.{AreAtMost};
-ghost use Rattle.oas_reader.specs.Files.{KeepsFile, BreaksFile, lexical_fault, tables_by, HaveRecords, IsBodyKept, IsBadBody, IsLayoutBehind};
+ghost use Rattle.oas_reader.specs.Files.{KeepsFile, BreaksFile, lexical_refusal, tables_by, HaveRecords, IsBodyKept, IsBadBody, IsLayoutBehind};
 ghost use Rattle.oas_reader.specs.Items.{Item, records_in, magic, is_end, NoneEnds};
 ghost use Rattle.oas_reader.specs.Meaning.{counts_of};
 ghost use Rattle.oas_reader.specs.Naming.{AreCalledWithin, HaveSpans, AreNamesOf};
@@ -24,7 +26,6 @@ ghost use Rattle.oas_reader.specs.Taking.{IsBodyWithin, IsTaken};
 ghost use Rattle.oas_reader.specs.Undefined.{is_there};
 ghost use Rattle.oas_reader.specs.declared.bodies.Body.TheVariants as bodies;
 ghost use Rattle.oas_reader.specs.declared.refusing.OasBad.{OasBad as ABad};
-ghost use Rattle.oas_reader.specs.declared.refusing.OasBad.TheVariants as bads;
 
 use crate::bodies::{Body, Outline};
 use crate::cells::Drafts;
@@ -38,6 +39,7 @@ use crate::refusing::OasBad;
 use crate::reusing::{make_points, points_again};
 use crate::taking::take_names;
 use crate::values::take_values;
+use geo_stream::Refusal;
 use layout_model::{Counts, Layout, NO_COUNTS, Pair, sorted_pairs};
 use oas_fields::Fields;
 use oas_lex::{Real, real_whole};
@@ -165,8 +167,8 @@ fn make_places(alloc: Global, fields: &mut Fields, again: bool)
     }
 }
 
-// Takes the record into the fields. The places of a repetition, the outline of a polygon's point list and the rectangles of
-// a path's that are used again are made, once.
+// Takes the record into the fields. The places of a repetition, the outline of a polygon's point list and the
+// rectangles of a path's that are used again are made, once.
 fn take_fields(
     alloc: Global,
     bytes: &[u8],
@@ -227,7 +229,7 @@ impl<'a> Reader<'a> {
         sorted: &[Pair],
         outline: Outline,
         at: usize,
-    ) -> Result<(), OasBad>
+    ) -> Result<(), Refusal<OasBad>>
         requires body { IsBodyWithin bytes.now outline.body }
         requires cell { AreCalledWithin bytes.now self.old.fields.cell }
         requires sorted { AreSorted sorted.now }
@@ -248,7 +250,7 @@ impl<'a> Reader<'a> {
         ensures kept { (wanted : AList APair) (past : AList Item) (r : ARecord) → IsTaken wanted sorted.now (records_in past) r outline self.old.fields
             → AreNamesOf bytes.now past self.old.names → OnOk result (IsBodyKept bytes.now wanted past r) }
         ensures bad { (wanted : AList APair) (past : AList Item) (r : ARecord) → IsTaken wanted sorted.now (records_in past) r outline self.old.fields
-            → AreNamesOf bytes.now past self.old.names → IfErr result (IsBadBody bytes.now wanted past at r) }
+            → AreNamesOf bytes.now past self.old.names → IfFault result (IsBadBody bytes.now wanted past at r) }
     {
         let valued = take_values(
             alloc,
@@ -282,7 +284,12 @@ impl<'a> Reader<'a> {
     // Looks at the values of the rectangle at this offset, and takes what it gives, as `take_body` does. The fields
     // have taken it, and the positions of placements and texts were near before it.
     #[inline(always)]
-    fn take_box(&mut self, bytes: &'a [u8], sorted: &[Pair], at: usize) -> Result<(), OasBad>
+    fn take_box(
+        &mut self,
+        bytes: &'a [u8],
+        sorted: &[Pair],
+        at: usize,
+    ) -> Result<(), Refusal<OasBad>>
         requires sorted { AreSorted sorted.now }
         requires placement { IsPlaceWithin (2 ^ 40) self.old.fields.placement }
         requires text { IsPlaceWithin (2 ^ 40) self.old.fields.text }
@@ -302,7 +309,7 @@ impl<'a> Reader<'a> {
         ensures kept { (wanted : AList APair) (past : AList Item) (r : ARecord) → IsTaken wanted sorted.now (records_in past) r plain self.old.fields
             → AreNamesOf bytes.now past self.old.names → OnOk result (IsBodyKept bytes.now wanted past r) }
         ensures bad { (wanted : AList APair) (past : AList Item) (r : ARecord) → IsTaken wanted sorted.now (records_in past) r plain self.old.fields
-            → AreNamesOf bytes.now past self.old.names → IfErr result (IsBadBody bytes.now wanted past at r) }
+            → AreNamesOf bytes.now past self.old.names → IfFault result (IsBadBody bytes.now wanted past at r) }
     {
         match take_plain(sorted, &self.fields, at, &mut self.drafts) {
             Ok(is_wanted) => {
@@ -323,7 +330,7 @@ impl<'a> Reader<'a> {
         current: OasRecord,
         at: usize,
         next: usize,
-    ) -> Result<(), OasBad>
+    ) -> Result<(), Refusal<OasBad>>
         requires at { at ≤ next }
         requires body { IsBodyWithin bytes.now (body_of current) }
         requires sorted { AreSorted sorted.now }
@@ -342,10 +349,10 @@ impl<'a> Reader<'a> {
             → OnOk result (IsAllowed bytes.now unit wanted past at current next) }
         ensures refused { (wanted : AList APair) (past : AList Item) → AreSamePairs wanted sorted.now → IsReaderOf bytes.now wanted past self.old
             → HasDimensionsIn (repetition_of (records_in past))
-            → IfErr result (λ bad. bad ≢ bads.NoMemory → IsRefused bytes.now unit wanted past at current next bad) }
+            → IfFault result (IsRefused bytes.now unit wanted past at current next) }
     {
         let Some(place) = self.place.after(id_of(&current)) else {
-            return Err(OasBad::Order(at));
+            return Err(Refusal::Fault(OasBad::Order(at)));
         };
         let outline = outline_of(&current);
         take_fields(alloc, bytes, sorted, &mut self.fields, current);
@@ -355,7 +362,7 @@ impl<'a> Reader<'a> {
         }
         match look_at_file(bytes, unit, outline.body, at, next) {
             Ok(()) => {}
-            Err(bad) => return Err(bad),
+            Err(bad) => return Err(Refusal::Fault(bad)),
         }
         self.tables = tables_after(self.tables, outline.body);
         self.place = place;
@@ -370,7 +377,7 @@ impl<'a> Reader<'a> {
         sorted: &[Pair],
         current: &PlainRectangle,
         at: usize,
-    ) -> Result<(), OasBad>
+    ) -> Result<(), Refusal<OasBad>>
         requires sorted { AreSorted sorted.now }
         requires within { IsReaderWithin bytes.now self.old }
         requires some { HaveRecords self.old.fields }
@@ -387,10 +394,10 @@ impl<'a> Reader<'a> {
             → OnOk result (IsAllowed bytes.now unit wanted past at (rectangle_of current.now) next) }
         ensures refused { (unit next : ℕ) (wanted : AList APair) (past : AList Item) → AreSamePairs wanted sorted.now
             → IsReaderOf bytes.now wanted past self.old → HasDimensionsIn (repetition_of (records_in past))
-            → IfErr result (λ bad. bad ≢ bads.NoMemory → IsRefused bytes.now unit wanted past at (rectangle_of current.now) next bad) }
+            → IfFault result (IsRefused bytes.now unit wanted past at (rectangle_of current.now) next) }
     {
         let Some(place) = self.place.after(RECTANGLE) else {
-            return Err(OasBad::Order(at));
+            return Err(Refusal::Fault(OasBad::Order(at)));
         };
         take_rectangle_fields(bytes, &mut self.fields, current);
         match self.take_box(bytes, sorted, at) {
@@ -403,7 +410,7 @@ impl<'a> Reader<'a> {
 }
 
 // The layout of a reader that has taken END.
-fn finish<'a>(alloc: Global, bytes: &'a [u8], reader: Reader<'a>) -> Result<Layout, OasBad>
+fn finish<'a>(alloc: Global, bytes: &'a [u8], reader: Reader<'a>) -> Result<Layout, Refusal<OasBad>>
     requires spans { HaveSpans bytes.now reader.names }
     requires within { AreDraftsWithin bytes.now reader.drafts }
     ensures ok { (wanted : AList APair) (past : AList Item) (last : Item) → IsReaderOf bytes.now wanted (last ∷ past) reader.entry
@@ -411,7 +418,7 @@ fn finish<'a>(alloc: Global, bytes: &'a [u8], reader: Reader<'a>) -> Result<Layo
     ensures grid { (wanted : AList APair) (past : AList Item) (last : Item) → IsReaderOf bytes.now wanted (last ∷ past) reader.entry
         → is_end last.r ≡ true → NoneEnds past → IfOk result IsLayoutOnGrid }
     ensures bad { (wanted : AList APair) (past : AList Item) (last : Item) → IsReaderOf bytes.now wanted (last ∷ past) reader.entry
-        → is_end last.r ≡ true → NoneEnds past → IfErr result (λ bad. (bad ≡ bads.NoMemory) ⊎ IsFaultOf bytes.now (last ∷ past) bad) }
+        → is_end last.r ≡ true → NoneEnds past → IfFault result (IsFaultOf bytes.now (last ∷ past)) }
 {
     let Reader {
         names,
@@ -425,23 +432,28 @@ fn finish<'a>(alloc: Global, bytes: &'a [u8], reader: Reader<'a>) -> Result<Layo
     }
 }
 
-fn lexical_bad(bad: RecordBad, at: usize) -> OasBad
-    ensures { result ≡ lexical_fault bad at }
+// The refusal of bytes at this offset that are no record.
+fn lexical_bad(bad: Refusal<RecordBad>, at: usize) -> Refusal<OasBad>
+    ensures { result ≡ lexical_refusal bad at }
 {
     match bad {
-        RecordBad::NoMemory => OasBad::NoMemory,
-        _ => OasBad::Lexical(at, bad),
+        Refusal::Fault(bad) => Refusal::Fault(OasBad::Lexical(at, bad)),
+        Refusal::NoMemory => Refusal::NoMemory,
     }
 }
 
 // The layout of the bytes, which begin as they have to. `sorted` are the wanted pairs.
-fn read_records(alloc: Global, bytes: &[u8], unit: u32, sorted: &[Pair]) -> Result<Layout, OasBad>
+fn read_records(
+    alloc: Global,
+    bytes: &[u8],
+    unit: u32,
+    sorted: &[Pair],
+) -> Result<Layout, Refusal<OasBad>>
     requires begins { the_take 13 bytes.now ≡ magic }
     requires sorted { AreSorted sorted.now }
     ensures found { (wanted : AList APair) → AreSamePairs wanted sorted.now → IfOk result (λ layout. IsLayoutOf bytes.now unit wanted layout) }
     ensures grid { IfOk result IsLayoutOnGrid }
-    ensures first_fault { (wanted : AList APair) → AreSamePairs wanted sorted.now
-        → IfErr result (λ bad. bad ≢ bads.NoMemory → IsFirstFault bytes.now unit wanted bad) }
+    ensures first_fault { (wanted : AList APair) → AreSamePairs wanted sorted.now → IfFault result (IsFirstFault bytes.now unit wanted) }
 {
     let mut reader = Reader::new(alloc, bytes);
     let mut at = MAGIC.len();
@@ -474,19 +486,24 @@ fn read_records(alloc: Global, bytes: &[u8], unit: u32, sorted: &[Pair]) -> Resu
 /// alone. A micrometre has `unit` grid steps, and lengths of the layout are half units. Bytes that hold no layout are
 /// refused by their first fault; the first record that is refused decides, and at one record first its bytes, then its
 /// order, a value that isn't there, its value rules, its names, the unit and the end of the file. Names by number are
-/// looked at after END. NoMemory may come in place of any answer where memory runs out.
-pub fn read_oas(alloc: Global, bytes: &[u8], unit: u32, wanted: &[Pair]) -> Result<Layout, OasBad>
+/// looked at after END. `Refusal::NoMemory` may come in place of any answer where memory runs out.
+pub fn read_oas(
+    alloc: Global,
+    bytes: &[u8],
+    unit: u32,
+    wanted: &[Pair],
+) -> Result<Layout, Refusal<OasBad>>
     ensures found { IfOk result (λ layout. IsLayoutOf bytes.now unit wanted.now layout) }
     ensures grid { IfOk result IsLayoutOnGrid }
-    ensures read { (layout : ALayout) → IsLayoutOf bytes.now unit wanted.now layout → (result ≡ Ok layout) ⊎ (result ≡ Err bads.NoMemory) }
-    ensures first_fault { IfErr result (λ bad. bad ≢ bads.NoMemory → IsFirstFault bytes.now unit wanted.now bad) }
-    ensures every_fault { (bad : ABad) → IsFirstFault bytes.now unit wanted.now bad → (result ≡ Err bad) ⊎ (result ≡ Err bads.NoMemory) }
+    ensures read { (layout : ALayout) → IsLayoutOf bytes.now unit wanted.now layout → (result ≡ Ok layout) ⊎ (result ≡ Err NoMemory) }
+    ensures first_fault { IfFault result (IsFirstFault bytes.now unit wanted.now) }
+    ensures every_fault { (bad : ABad) → IsFirstFault bytes.now unit wanted.now bad → (result ≡ Err (Fault bad)) ⊎ (result ≡ Err NoMemory) }
 {
     if !bytes.starts_with(MAGIC) {
-        return Err(OasBad::Magic);
+        return Err(Refusal::Fault(OasBad::Magic));
     }
     match sorted_pairs(alloc, wanted) {
         Ok(sorted) => read_records(alloc, bytes, unit, sorted.as_slice()),
-        Err(_) => Err(OasBad::NoMemory),
+        Err(_) => Err(Refusal::NoMemory),
     }
 }

@@ -23,6 +23,4 @@ pub enum OasBad {
     Tail(usize),
     /// The unit of START is another.
     Unit(usize),
-    /// Memory ran out.
-    NoMemory,
 }

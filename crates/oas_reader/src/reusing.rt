@@ -50,8 +50,8 @@ fn make_segments(alloc: Global, fields: &mut Fields)
     }
 }
 
-/// Makes what the last point list means where a wanted polygon or path uses it again, so that all records after share it. A
-/// record that keeps no rule there is refused next, so a list that can't be made isn't tried over and over.
+/// Makes what the last point list means where a wanted polygon or path uses it again, so that all records after share
+/// it. A record that keeps no rule there is refused next, so a list that can't be made isn't tried over and over.
 pub(crate) fn make_points(alloc: Global, sorted: &[Pair], fields: &mut Fields, again: Again)
     requires { AreSorted sorted.now }
     ensures { fields.new ≡ fields.old }

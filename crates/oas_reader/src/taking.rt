@@ -1,5 +1,6 @@
 //! The names of a record.
-ghost use Rattle.std.specs.Prelude.{◌≡◌, ◌<◌, ◌^◌, true, false, List, ◌∷◌, None as Nothing, OnOk, IfErr};
+ghost use Rattle.std.specs.Prelude.{◌≡◌, ◌<◌, ◌^◌, true, false, List, ◌∷◌, None as Nothing, OnOk};
+ghost use Rattle.geo_stream.specs.Refusals.{IfFault};
 ghost use Rattle.layout_model.specs.declared.pair.Pair.{Pair as APair};
 ghost use Rattle.oas_record.specs.declared.records.OasRecord.{OasRecord as ARecord};
 ghost use Rattle.oas_fields.specs.Values.{begins_cell};
@@ -15,6 +16,7 @@ use crate::bodies::Body;
 use crate::cells::Drafts;
 use crate::naming::{Names, look_at_called, look_at_name};
 use crate::refusing::OasBad;
+use geo_stream::Refusal;
 use oas_record::Called;
 use std::alloc::Global;
 
@@ -26,7 +28,7 @@ fn take_cell_name<'a>(
     name: (usize, usize),
     number: Option<u64>,
     at: usize,
-) -> Result<(), OasBad>
+) -> Result<(), Refusal<OasBad>>
     requires span { IsSpan bytes.now name }
     requires counted { names.old.counted < 2 ^ 63 }
     ensures own { OnOk result (KeepsOwnName bytes.now (cell_name_record name number)) }
@@ -36,7 +38,7 @@ fn take_cell_name<'a>(
         → OnOk result (AreNamesOf bytes.now (item at (cell_name_record name number) ∷ past) names.new) }
     ensures spans { HaveSpans bytes.now names.old → OnOk result (HaveSpans bytes.now names.new) }
     ensures bad { (past : List Item) → AreNamesOf bytes.now past names.old
-        → IfErr result (IsBadName bytes.now past at (cell_name_record name number)) }
+        → IfFault result (IsBadName bytes.now past at (cell_name_record name number)) }
 {
     look_at_name(alloc, bytes, name.0, name.1, at)?;
     names.give(name, number, at)
@@ -50,7 +52,7 @@ fn take_cell<'a>(
     drafts: &mut Drafts,
     called: Called,
     at: usize,
-) -> Result<(), OasBad>
+) -> Result<(), Refusal<OasBad>>
     requires called { IsCalledWithin bytes.now called }
     ensures own { OnOk result (KeepsOwnName bytes.now (cell_record called)) }
     ensures new { (past : List Item) → AreNamesOf bytes.now past names.old
@@ -62,14 +64,12 @@ fn take_cell<'a>(
         → OnOk result (AreDraftsOf wanted (item at (cell_record called) ∷ past) drafts.new) }
     ensures within { AreDraftsWithin bytes.now drafts.old → OnOk result (AreDraftsWithin bytes.now drafts.new) }
     ensures bad { (past : List Item) → AreNamesOf bytes.now past names.old
-        → IfErr result (IsBadName bytes.now past at (cell_record called)) }
+        → IfFault result (IsBadName bytes.now past at (cell_record called)) }
 {
     look_at_called(alloc, bytes, Some(called), at)?;
     names.begin(bytes, called, at)?;
-    match drafts.begin(alloc, called, at) {
-        Ok(()) => Ok(()),
-        Err(_) => Err(OasBad::NoMemory),
-    }
+    drafts.begin(alloc, called, at)?;
+    Ok(())
 }
 
 /// Takes what the record at this offset names, looks at its own name, and begins the cell of a CELL record.
@@ -81,7 +81,7 @@ pub(crate) fn take_names<'a>(
     drafts: &mut Drafts,
     body: Body,
     at: usize,
-) -> Result<(), OasBad>
+) -> Result<(), Refusal<OasBad>>
     requires body { IsBodyWithin bytes.now body }
     requires counted { names.old.counted < 2 ^ 63 }
     ensures own { (r : ARecord) → body ≡ body_of r → OnOk result (KeepsOwnName bytes.now r) }
@@ -95,12 +95,15 @@ pub(crate) fn take_names<'a>(
     ensures drafts { (r : ARecord) → body ≡ body_of r → begins_cell r ≡ false → OnOk result (drafts.new ≡ drafts.old) }
     ensures within { AreDraftsWithin bytes.now drafts.old → OnOk result (AreDraftsWithin bytes.now drafts.new) }
     ensures bad { (past : List Item) (r : ARecord) → body ≡ body_of r → AreNamesOf bytes.now past names.old
-        → IfErr result (IsBadName bytes.now past at r) }
+        → IfFault result (IsBadName bytes.now past at r) }
 {
     match body {
         Body::CellName { name, number } => take_cell_name(alloc, bytes, names, name, number, at),
         Body::Cell(called) => take_cell(alloc, bytes, names, drafts, called, at),
-        Body::Placement { called, .. } => names.place(called, at),
+        Body::Placement { called, .. } => {
+            names.place(called, at)?;
+            Ok(())
+        }
         _ => Ok(()),
     }
 }

@@ -1,5 +1,7 @@
 //! The values of a record: whether they are there and keep the rules, and what they draw or place.
 ghost use Rattle.std.specs.Prelude.{◌≡◌, ◌^◌, ◌++◌, ℕ, true, false, List, [], ◌∷◌, None as Nothing, IsSome, OnOk, IfOk, IfErr, Err};
+ghost use Rattle.geo_stream.specs.Refusals.{IfFault};
+ghost use Rattle.geo_stream.specs.declared.refusal.Refusal.TheVariants as refusals;
 ghost use Rattle.layout_model.specs.declared.pair.Pair.{Pair as APair};
 ghost use Rattle.oas_record.specs.declared.fields.Called.{Called as ACalled};
 ghost use Rattle.oas_record.specs.declared.records.OasRecord.{OasRecord as ARecord};
@@ -16,7 +18,6 @@ ghost use Rattle.oas_reader.specs.Readers.{placings_of, AreDraftsOf, AreDraftsWi
 ghost use Rattle.oas_reader.specs.Taking.{IsBodyWithin, IsTaken, wanting_of, AreValuesKept, IsBadValue};
 ghost use Rattle.layout_model.specs.Pairs.{AreSorted};
 ghost use Rattle.oas_reader.specs.declared.bodies.Body.TheVariants as bodies;
-ghost use Rattle.oas_reader.specs.declared.refusing.OasBad.TheVariants as faults;
 
 use crate::bodies::{Body, Outline, Turning};
 use crate::cells::Drafts;
@@ -25,13 +26,14 @@ use crate::placing::{DIMENSION_RULE, placing_of};
 use crate::refusing::OasBad;
 use crate::rules::{POSITION_RULE, broken_by_file, positions_are_near};
 use crate::undefined::{first_undefined, has_pair};
+use geo_stream::Refusal;
 use layout_model::{Pair, is_among};
 use oas_fields::Fields;
 use oas_record::Called;
 use std::alloc::Global;
 
-// Looks at the values of a record, its shapes, its placement and its own name aside, and says of one with a pair whether
-// it is wanted.
+// Looks at the values of a record, its shapes, its placement and its own name aside, and says of one with a pair
+// whether it is wanted.
 #[inline(always)]
 fn look_at_values(
     bytes: &[u8],
@@ -75,7 +77,7 @@ fn take_placing(
     turning: Turning,
     at: usize,
     drafts: &mut Drafts,
-) -> Result<(), OasBad>
+) -> Result<(), Refusal<OasBad>>
     requires near { IsPlaceWithin (2 ^ 40) fields.now.placement }
     requires turning { IsTurning turning }
     requires called { AreCalledWithin bytes.now called }
@@ -88,7 +90,7 @@ fn take_placing(
     ensures whole { OnOk result (drafts.new.whole ≡ drafts.old.whole) }
     ensures within { AreDraftsWithin bytes.now drafts.old → OnOk result (AreDraftsWithin bytes.now drafts.new) }
     ensures kept { OnOk result ((rule : ℕ) → KeepsPlaced bytes.now called turning (rep_in outline fields.now) rule) }
-    ensures broken { IfErr result (IsRefusedBy (KeepsPlaced bytes.now called turning (rep_in outline fields.now)) at) }
+    ensures broken { IfFault result (IsRefusedBy (KeepsPlaced bytes.now called turning (rep_in outline fields.now)) at) }
 {
     let placing = match placing_of(alloc, bytes, fields, outline, called, flips, turning, at) {
         Ok(placing) => placing,
@@ -96,7 +98,7 @@ fn take_placing(
     };
     match drafts.place(placing) {
         Ok(()) => Ok(()),
-        Err(_) => Err(OasBad::NoMemory),
+        Err(_) => Err(Refusal::NoMemory),
     }
 }
 
@@ -109,7 +111,7 @@ fn take_shapes(
     wanted: Option<bool>,
     at: usize,
     drafts: &mut Drafts,
-) -> Result<(), OasBad>
+) -> Result<(), Refusal<OasBad>>
     requires near { IsPlaceWithin (2 ^ 40) fields.now.geometry }
     ensures shapes { OnOk result (drafts.new.shapes
         ≡ drafts.old.shapes ++ shapes_if wanted (shapes_in outline.body fields.now (rep_in outline fields.now))) }
@@ -119,8 +121,8 @@ fn take_shapes(
     ensures still { wanted ≡ Nothing → OnOk result (drafts.new ≡ drafts.old) }
     ensures within { (bytes : List ℕ) → AreDraftsWithin bytes drafts.old → OnOk result (AreDraftsWithin bytes drafts.new) }
     ensures kept { OnOk result ((rule : ℕ) → KeepsShapes outline.body outline.has_dimensions wanted fields.now (rep_in outline fields.now) rule) }
-    ensures broken { IfErr result (IsRefusedBy (KeepsShapes outline.body outline.has_dimensions wanted fields.now (rep_in outline fields.now)) at) }
-    ensures memory { HasShortList outline.body fields.now → IsShortIn (rep_in outline fields.now) → result ≡ Err faults.NoMemory
+    ensures broken { IfFault result (IsRefusedBy (KeepsShapes outline.body outline.has_dimensions wanted fields.now (rep_in outline fields.now)) at) }
+    ensures memory { HasShortList outline.body fields.now → IsShortIn (rep_in outline fields.now) → result ≡ Err refusals.NoMemory
         → (rule : ℕ) → KeepsShapes outline.body outline.has_dimensions wanted fields.now (rep_in outline fields.now) rule }
 {
     match wanted {
@@ -132,7 +134,7 @@ fn take_shapes(
             if outline.has_dimensions {
                 return Ok(());
             }
-            Err(OasBad::Value(at, DIMENSION_RULE))
+            Err(Refusal::Fault(OasBad::Value(at, DIMENSION_RULE)))
         }
     }
 }
@@ -148,7 +150,7 @@ fn take_geometry(
     wanted: Option<bool>,
     at: usize,
     drafts: &mut Drafts,
-) -> Result<(), OasBad>
+) -> Result<(), Refusal<OasBad>>
     requires near { ArePlacesWithin (2 ^ 40) fields.now }
     requires body { IsBodyWithin bytes.now outline.body }
     requires defined { undefined_in outline.body outline.repeats fields.now ≡ Nothing }
@@ -162,7 +164,7 @@ fn take_geometry(
     ensures still { (called : ACalled) → outline.body ≡ bodies.Cell called → wanted ≡ Nothing → OnOk result (drafts.new ≡ drafts.old) }
     ensures within { AreDraftsWithin bytes.now drafts.old → OnOk result (AreDraftsWithin bytes.now drafts.new) }
     ensures kept { OnOk result ((rule : ℕ) → KeepsGeometry bytes.now outline.body outline.has_dimensions wanted fields.now (rep_in outline fields.now) rule) }
-    ensures broken { IfErr result (IsRefusedBy (KeepsGeometry bytes.now outline.body outline.has_dimensions wanted fields.now (rep_in outline fields.now)) at) }
+    ensures broken { IfFault result (IsRefusedBy (KeepsGeometry bytes.now outline.body outline.has_dimensions wanted fields.now (rep_in outline fields.now)) at) }
 {
     match outline.body {
         Body::Placement {
@@ -176,8 +178,8 @@ fn take_geometry(
     }
 }
 
-/// Looks at the values of the record at this offset, which the fields have taken, its own name aside, adds what it draws
-/// or places to the open cell, and says of one with a pair whether it is wanted.
+/// Looks at the values of the record at this offset, which the fields have taken, its own name aside, adds what it
+/// draws or places to the open cell, and says of one with a pair whether it is wanted.
 #[inline(always)]
 pub(crate) fn take_values(
     alloc: Global,
@@ -187,7 +189,7 @@ pub(crate) fn take_values(
     outline: Outline,
     at: usize,
     drafts: &mut Drafts,
-) -> Result<Option<bool>, OasBad>
+) -> Result<Option<bool>, Refusal<OasBad>>
     requires body { IsBodyWithin bytes.now outline.body }
     requires cell { AreCalledWithin bytes.now fields.now.cell }
     requires sorted { AreSorted sorted.now }
@@ -202,11 +204,11 @@ pub(crate) fn take_values(
         → begins_cell r ≡ true → OnOk result (drafts.new ≡ drafts.old) }
     ensures within { AreDraftsWithin bytes.now drafts.old → OnOk result (AreDraftsWithin bytes.now drafts.new) }
     ensures bad { (wanted : List APair) (past : List ARecord) (r : ARecord) → IsTaken wanted sorted.now past r outline fields.now
-        → IfErr result (IsBadValue bytes.now wanted past at r) }
+        → IfFault result (IsBadValue bytes.now wanted past at r) }
 {
     let wanted = match look_at_values(bytes, sorted, fields, outline, at) {
         Ok(wanted) => wanted,
-        Err(bad) => return Err(bad),
+        Err(bad) => return Err(Refusal::Fault(bad)),
     };
     match take_geometry(alloc, bytes, fields, outline, wanted, at, drafts) {
         Ok(()) => Ok(wanted),

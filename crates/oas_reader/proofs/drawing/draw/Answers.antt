@@ -1,5 +1,5 @@
 use Rattle.std.proofs.Common.{◌≡◌, Err, ap}
-use Rattle.oas_reader.specs.declared.refusing.OasBad.TheVariants as faults
+use Rattle.geo_stream.specs.declared.refusal.Refusal.TheVariants.{NoMemory}
 use Rattle.oas_reader.proofs.WantedLemmas.{wanted_keeps, wanted_lowest, refused_by, wanting_by}
 use Rattle.oas_reader.proofs.drawing.draw.Goals as goal
 
@@ -21,7 +21,7 @@ returns-in-Err c = record {
       refused_by _ c.args.at c.in-Err.undrawn _ c.bad_at.ensures
       (λ rule e. wanted_lowest c.args.outline.body c.args.fields.now _ rule c.in_default.not-Undrawn (c.in-Err.ensures.broken rule (ap Err e)));
   memory = λ few short e rule.
-      let bad : c.bad_at.result ≡ faults.NoMemory = cc in
+      let bad : c.bad_at.result ≡ NoMemory = cc in
       let wanting = wanting_by c.args.at c.in-Err.undrawn c.bad_at.result c.bad_at.ensures bad in
       wanted_keeps c.args.outline.body c.args.fields.now _ rule c.in_default.not-Undrawn (c.in-Err.ensures.memory few short (ap Err wanting) rule);
 }

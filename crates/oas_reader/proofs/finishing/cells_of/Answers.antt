@@ -1,9 +1,9 @@
-use Rattle.std.proofs.Common.{◌≡◌, ◌⊎◌, None, ◌∷◌, map, inl, inr, ap, ◌∙◌}
+use Rattle.std.proofs.Common.{◌≡◌, None, ◌∷◌, map, inl, ap, ◌∙◌}
 use Rattle.std.proofs.lemmas.List.Elements.{All-same}
 use Rattle.std.proofs.lemmas.Result.{IfErr-weaker}
+use Rattle.geo_stream.specs.Refusals.{IsForFault}
 use Rattle.layout_model.specs.Layouts.{AreDistinct}
 use Rattle.layout_model.specs.declared.cells.Cell.{Cell}
-use Rattle.oas_reader.specs.declared.refusing.OasBad.TheVariants as faults
 use Rattle.oas_reader.specs.Behind.{AreCellsBehind}
 use Rattle.oas_reader.specs.Finished.{AreTwins, cells_by, cell_items}
 use Rattle.oas_reader.specs.Items.{records_in}
@@ -20,7 +20,7 @@ distinct_cells-requires-clause-within c =
     (all_within c.args.bytes.now c.args.drafts c.requires.within)
 
 pub returns-in-Err-clause-bad : goal.returns-in-Err-clause-bad
-returns-in-Err-clause-bad c = λ wanted past last names are ends none. inr (inl (c.in-Err.ensures.unknown c.args.bytes.now (last ∷ past) names))
+returns-in-Err-clause-bad c = λ wanted past last names are ends none. inl (c.in-Err.ensures.unknown c.args.bytes.now (last ∷ past) names)
 
 pub returns-in-Ok-finish-clause-ok : goal.returns-in-Ok-finish-clause-ok
 returns-in-Ok-finish-clause-ok c = λ wanted past last names are ends none.
@@ -58,5 +58,5 @@ returns-in-Ok-finish-clause-bad c = λ wanted past last names are ends none.
     let drafts = c.in-Ok-finish.drafts.items in
     let whole = ap (map whole_cell) c.in-Ok-finish.ensures ∙ all_cells wanted (last ∷ past) c.args.drafts are in
     let known = c.in-Ok.ensures.known bytes (last ∷ past) names in
-    IfErr-weaker c.distinct_cells.result (AreTwins bytes all (cell_items drafts)) (λ bad. (bad ≡ faults.NoMemory) ⊎ IsFaultOf bytes (last ∷ past) bad)
-    (λ bad twins. fault_behind bytes wanted (last ∷ past) drafts bad whole known twins) (c.distinct_cells.ensures.twins (last ∷ past) names)
+    IfErr-weaker c.distinct_cells.result (IsForFault (AreTwins bytes all (cell_items drafts))) (IsForFault (IsFaultOf bytes (last ∷ past)))
+    (λ refusal twins. fault_behind bytes wanted (last ∷ past) drafts refusal whole known twins) (c.distinct_cells.ensures.twins (last ∷ past) names)

@@ -26,11 +26,11 @@ take_rectangle-requires-clause-few c =
     counts_small c.args.bytes.now c.args.unit c.args.sorted.now c.records.at c.records.reader c.records.invariant small
 
 pub returns-in-Err-clause-first_fault : goal.returns-in-Err-clause-first_fault
-returns-in-Err-clause-first_fault c = λ wanted same more.
+returns-in-Err-clause-first_fault c = λ wanted same.
     refused_first c.args.bytes.now c.args.unit wanted c.args.sorted.now c.records.at c.records.reader (rectangle_of c.in-Some.rectangle) c.in-Some.next
     c.in-Err.bad c.records.invariant same (c.in-Some.ensures.some c.records.reader.tables)
     (c.in-Err.ensures.refused c.args.unit c.in-Some.next wanted c.records.invariant.past same (c.records.invariant.reader_is wanted same)
-    (dimensions_behind c.args.bytes.now c.args.unit wanted c.records.invariant.past c.records.at (c.records.invariant.allowed wanted same)) more)
+    (dimensions_behind c.args.bytes.now c.args.unit wanted c.records.invariant.past c.records.at (c.records.invariant.allowed wanted same)))
 
 pub records-preserved-in-Some : goal.records-preserved-in-Some
 records-preserved-in-Some c =
@@ -47,9 +47,9 @@ records-preserved-in-Some c =
     })
 
 pub returns-in-Err-record_at-clause-first_fault : goal.returns-in-Err-record_at-clause-first_fault
-returns-in-Err-record_at-clause-first_fault c = λ wanted same more.
+returns-in-Err-record_at-clause-first_fault c = λ wanted same.
     lexical_first c.args.bytes.now c.args.unit wanted c.args.sorted.now c.records.at c.records.reader c.in-Err-record_at.bad c.lexical_bad.result
-    c.records.invariant same c.in-Err-record_at.ensures.bad c.lexical_bad.ensures more
+    c.records.invariant same c.in-Err-record_at.ensures.bad c.lexical_bad.ensures
 
 pub take-requires-clause-body : goal.take-requires-clause-body
 take-requires-clause-body c =
@@ -69,12 +69,12 @@ take-requires-clause-few c =
     counts_small c.args.bytes.now c.args.unit c.args.sorted.now c.records.at c.records.reader c.records.invariant small
 
 pub returns-in-Err-take-clause-first_fault : goal.returns-in-Err-take-clause-first_fault
-returns-in-Err-take-clause-first_fault c = λ wanted same more.
+returns-in-Err-take-clause-first_fault c = λ wanted same.
     refused_first c.args.bytes.now c.args.unit wanted c.args.sorted.now c.records.at c.records.reader
     c.in-Ok-record_at.found.0 c.in-Ok-record_at.found.1 c.in-Err-take.bad
     c.records.invariant same c.in-Ok-record_at.ensures.ok
     (c.in-Err-take.ensures.refused wanted c.records.invariant.past same (c.records.invariant.reader_is wanted same)
-    (dimensions_behind c.args.bytes.now c.args.unit wanted c.records.invariant.past c.records.at (c.records.invariant.allowed wanted same)) more)
+    (dimensions_behind c.args.bytes.now c.args.unit wanted c.records.invariant.past c.records.at (c.records.invariant.allowed wanted same)))
 
 pub records-preserved : goal.records-preserved
 records-preserved c =

@@ -1,4 +1,5 @@
 use Rattle.std.proofs.lemmas.Result.{IfErr-weaker}
+use Rattle.geo_stream.specs.Refusals.{IsForFault}
 use Rattle.oas_reader.specs.Naming.{cell_name_record, IsConflict}
 use Rattle.oas_reader.specs.Taking.{IsBadName}
 use Rattle.oas_reader.proofs.TakeLemmas.{own_name, bad_name}
@@ -11,5 +12,5 @@ pub returns-clause-bad : goal.returns-clause-bad
 returns-clause-bad c = λ past are.
     let r = cell_name_record c.args.name c.args.number in
     let own = own_name c.args.bytes.now c.args.name c.args.number c.in_ok-look_at_name.ensures.ok in
-    IfErr-weaker c.give.result (IsConflict c.args.bytes.now past r c.args.at) (IsBadName c.args.bytes.now past c.args.at r)
-    (λ bad. bad_name c.args.bytes.now past c.args.at r bad own) (c.give.ensures.twice c.args.bytes.now past are)
+    IfErr-weaker c.give.result (IsForFault (IsConflict c.args.bytes.now past r c.args.at)) (IsForFault (IsBadName c.args.bytes.now past c.args.at r))
+    (λ refusal. bad_name c.args.bytes.now past c.args.at r refusal own) (c.give.ensures.twice c.args.bytes.now past are)

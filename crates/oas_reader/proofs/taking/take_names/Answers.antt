@@ -1,7 +1,6 @@
 use Rattle.std.proofs.Common.{◌≡◌, None, OnOk, refl, sym, subst, ◌∙◌}
 use Rattle.oas_reader.specs.Items.{records_in}
 use Rattle.oas_reader.specs.Names.{conflict_of}
-use Rattle.oas_reader.proofs.NameLemmas.{on_ok}
 use Rattle.oas_reader.proofs.TakeLemmas.{silent_by, silent, name_back, calls_by, no_conflict}
 use Rattle.oas_reader.proofs.taking.take_names.Goals as goal
 
@@ -15,10 +14,15 @@ returns-in-Cell-clause-new c = λ past r e are.
     let is = name_back r _ (sym c.in-Cell.is ∙ e) refl in
     subst (λ s. OnOk c.take_cell.result (conflict_of c.args.bytes.now past s ≡ None)) is (c.take_cell.ensures.new past are)
 
-pub returns-in-Placement-clause-new : goal.returns-in-Placement-clause-new
-returns-in-Placement-clause-new c = λ past r e are.
+pub returns-in_ok-place-in-Placement-clause-new : goal.returns-in_ok-place-in-Placement-clause-new
+returns-in_ok-place-in-Placement-clause-new c = λ past r e are.
     let calls = calls_by c.args.bytes.now (records_in past) r c.in-Placement.called c.in-Placement.flips c.in-Placement.turning (sym c.in-Placement.is ∙ e) in
-    on_ok c.place.result (no_conflict c.args.bytes.now past r calls.claims)
+    no_conflict c.args.bytes.now past r calls.claims
+
+pub returns-in_ok-place-in-Placement-clause-names : goal.returns-in_ok-place-in-Placement-clause-names
+returns-in_ok-place-in-Placement-clause-names c = λ past r e are.
+    let calls = calls_by c.args.bytes.now (records_in past) r c.in-Placement.called c.in-Placement.flips c.in-Placement.turning (sym c.in-Placement.is ∙ e) in
+    c.in_ok-place-in-Placement.ensures.names c.args.bytes.now past r are calls
 
 pub returns-in_default : goal.returns-in_default
 returns-in_default c =

@@ -16,6 +16,6 @@ returns-in_default c = record {
       (λ kept rule. shapes_keep c.args.bytes.now c.args.outline.body _ _ _ _ rule c.in_default.not-Placement
       (kept rule)) c.take_shapes.ensures.kept;
   broken = err_weaker c.take_shapes.result
-      (λ bad. shapes_refused c.args.bytes.now c.args.outline.body _ _ _ _ _ bad c.in_default.not-Placement)
+      (λ refusal. shapes_refused c.args.bytes.now c.args.outline.body _ _ _ _ _ refusal c.in_default.not-Placement)
       c.take_shapes.ensures.broken;
 }

@@ -1,15 +1,22 @@
 use Rattle.std.proofs.Common.{rules, ◌≡◌, None, refl, sym, ap, subst, ◌∙◌}
+use Rattle.oas_record.specs.declared.fields.Called.TheVariants.{Number}
 use Rattle.oas_reader.specs.Items.{text_in}
 use Rattle.oas_reader.specs.Naming.{cell_in, cell_record, AreNamesOf}
 use Rattle.oas_reader.specs.Names.{conflict_of}
 use Rattle.oas_reader.specs.Reading.{item}
 use Rattle.std.proofs.Common.{◌∷◌}
 use Rattle.oas_reader.proofs.naming.Names.begin.Goals as goal
-use Rattle.oas_reader.proofs.NameLemmas.{begun_text, none_conflicts, on_ok}
+use Rattle.oas_reader.proofs.NameLemmas.{begun_text, none_conflicts}
 
-pub returns-in-Number-clause-new : goal.returns-in-Number-clause-new
-returns-in-Number-clause-new c = λ past are.
-    on_ok c.mention.result (ap (λ k. conflict_of c.args.bytes.now past (cell_record k)) c.in-Number.is ∙ none_conflicts c.args.bytes.now past)
+pub returns-in_ok-mention-in-Number-clause-new : goal.returns-in_ok-mention-in-Number-clause-new
+returns-in_ok-mention-in-Number-clause-new c = λ past are.
+    ap (λ k. conflict_of c.args.bytes.now past (cell_record k)) c.in-Number.is ∙ none_conflicts c.args.bytes.now past
+
+pub returns-in_ok-mention-in-Number-clause-names : goal.returns-in_ok-mention-in-Number-clause-names
+returns-in_ok-mention-in-Number-clause-names c = λ past are.
+    subst (λ k. AreNamesOf c.args.bytes.now (item c.args.at (cell_record k) ∷ past) c.mention.new.self) (sym c.in-Number.is)
+    (c.in_ok-mention-in-Number.ensures.names c.args.bytes.now past (cell_record (Number c.in-Number.number)) are
+    (record { written = refl; claims = refl; gives = refl; counts = refl }))
 
 pub returns-in-Ok-clause-names : goal.returns-in-Ok-clause-names
 returns-in-Ok-clause-names c = λ past are.

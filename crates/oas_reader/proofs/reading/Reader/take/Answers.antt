@@ -6,16 +6,16 @@ use Rattle.oas_reader.proofs.TakenLemmas.{order_on, place_on, taken_on, body_ref
 use Rattle.oas_reader.proofs.reading.Reader.take.Goals as goal
 
 pub returns-in-Err-clause-refused : goal.returns-in-Err-clause-refused
-returns-in-Err-clause-refused c = λ wanted past same reader last more.
+returns-in-Err-clause-refused c = λ wanted past same reader last.
     let outline = c.outline_of-outline.ensures in
     let taken = taken_on wanted c.args.sorted.now (records_in past) c.args.current c.outline_of-outline.result c.take_fields.new.fields same outline.body
     outline.repeats outline.dimensions (c.take_fields.ensures.fields (records_in past) reader.fields) last in
     body_refused c.args.bytes.now c.args.unit wanted past c.args.at c.args.current c.args.next c.in-Err.bad
     (order_on (records_in past) c.args.current c.id_of.result c.id_of.ensures (c.in-Some.ensures.some (ids_of (records_in past)) reader.place).0)
-    more (c.in-Err.ensures.bad wanted past c.args.current taken reader.names)
+    (c.in-Err.ensures.bad wanted past c.args.current taken reader.names)
 
 pub returns-in-Err-look_at_file-clause-refused : goal.returns-in-Err-look_at_file-clause-refused
-returns-in-Err-look_at_file-clause-refused c = λ wanted past same reader last more.
+returns-in-Err-look_at_file-clause-refused c = λ wanted past same reader last.
     let outline = c.outline_of-outline.ensures in
     let taken = taken_on wanted c.args.sorted.now (records_in past) c.args.current c.outline_of-outline.result c.take_fields.new.fields same outline.body
     outline.repeats outline.dimensions (c.take_fields.ensures.fields (records_in past) reader.fields) last in

@@ -8,13 +8,13 @@ use Rattle.oas_reader.proofs.TakenLemmas.{order_on, place_on, plain_taken, plain
 use Rattle.oas_reader.proofs.reading.Reader.take_rectangle.Goals as goal
 
 pub returns-in-Err-clause-refused : goal.returns-in-Err-clause-refused
-returns-in-Err-clause-refused c = λ unit next wanted past same reader last more.
+returns-in-Err-clause-refused c = λ unit next wanted past same reader last.
     let r = rectangle_of c.args.current.now in
     let taken = plain_taken wanted c.args.sorted.now (records_in past) c.args.current.now c.take_rectangle_fields.new.fields same
     (c.take_rectangle_fields.ensures.fields (records_in past) reader.fields) last in
     body_refused c.args.bytes.now unit wanted past c.args.at r next c.in-Err.bad
     (order_on (records_in past) r 20 refl (c.in-Some.ensures.some (ids_of (records_in past)) reader.place).0)
-    more (c.in-Err.ensures.bad wanted past r taken reader.names)
+    (c.in-Err.ensures.bad wanted past r taken reader.names)
 
 pub returns-clause-reader : goal.returns-clause-reader
 returns-clause-reader c = λ wanted past same reader last.
