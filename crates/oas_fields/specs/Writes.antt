@@ -5,11 +5,13 @@
 -- what a record stores in it, is this program's choice. The string, the layer and the type of a TEXT and the radius of a
 -- CIRCLE are looked at nowhere.
 use Rattle.std.specs.Prelude.{ℕ, ◌/◌, ◌%◌, ℤ, Bool, true, false, Option, Some, None, nat_le, nat_eq, if◌then◌else◌}
-use Rattle.oas_record.specs.declared.fields.Called.{Called}
 use Rattle.oas_record.specs.declared.records.OasRecord.{OasRecord}
 use Rattle.oas_record.specs.declared.records.OasRecord.TheVariants as records
 use Rattle.oas_record.specs.declared.repetition.Rep.{Rep}
 use Rattle.oas_record.specs.declared.repetition.Rep.TheVariants as reps
+use Rattle.oas_record.specs.declared.shapes.ShapeHead.{ShapeHead}
+use Rattle.oas_record.specs.declared.shapes.ShapeKind.{ShapeKind}
+use Rattle.oas_record.specs.declared.shapes.ShapeKind.TheVariants as shapes
 use Rattle.oas_record.specs.Taken.{repetition_in}
 use Rattle.oas_fields.specs.declared.extension.Extension.{Extension}
 use Rattle.oas_fields.specs.declared.extension.Extension.TheVariants as ends
@@ -69,68 +71,37 @@ nothing = record {
   text = step None None;
 }
 
--- a shape on this pair at this place
-abbrev pub shape : Option ℕ → Option ℕ → Option ℤ → Option ℤ → Written
-shape layer datatype x y = record nothing {
-  layer = layer;
-  datatype = datatype;
-  geometry = step x y;
+-- what all shapes write
+abbrev pub shape : ShapeHead → Written
+shape head = record nothing {
+  layer = head.layer;
+  datatype = head.datatype;
+  geometry = step head.x head.y;
 }
 
 -- a shape with a width and a height
-abbrev pub box : Option ℕ → Option ℕ → Option ℕ → Option ℕ → Option ℤ → Option ℤ → Written
-box layer datatype width height x y = record (shape layer datatype x y) {
-  width = width;
-  height = height;
-}
+abbrev pub box : ShapeHead → Option ℕ → Option ℕ → Written
+box head width height = record (shape head) { width = width; height = height }
 
-abbrev pub placement : Option Called → Option ℤ → Option ℤ → Written
-placement cell x y = record nothing {
-  cell = cell;
-  placement = step x y;
+-- a shape by its kind; POLYGON, CIRCLE and XGEOMETRY write nothing else
+abbrev pub shape_writes : ShapeHead → ShapeKind → Written
+shape_writes head (shapes.Rectangle width height) = record (box head width height) { is_square = is_square head.info }
+shape_writes head (shapes.Path half_width extension start end points) = record (shape head) {
+  half_width = half_width;
+  start = start_by extension start;
+  end = end_by extension end;
 }
+shape_writes head (shapes.Trapezoid width height deltas) = box head width height
+shape_writes head (shapes.Ctrapezoid trapezoid_type width height) = record (box head width height) { kind = trapezoid_type }
+shape_writes head _ = shape head
 
--- a record by its id; one that isn't named writes nothing. Lists are below.
+-- a record; one that isn't named writes nothing. Lists are below.
 abbrev pub writes_of : OasRecord → Written
--- 13, 14 CELL
-writes_of (records.NumberedCell number) = record nothing { begins_cell = true }
 writes_of (records.Cell name) = record nothing { begins_cell = true }
--- 15, 16 XYABSOLUTE, XYRELATIVE
-writes_of records.XyAbsolute = record nothing { is_relative = Some false }
-writes_of records.XyRelative = record nothing { is_relative = Some true }
--- 17, 18 PLACEMENT
-writes_of (records.Placement info cell x y repetition) = placement cell x y
-writes_of (records.TurnedPlacement info cell magnification angle x y repetition) = placement cell x y
--- 19 TEXT
-writes_of (records.Text info text textlayer texttype x y repetition) = record nothing {
-  text = step x y;
-}
--- 20 RECTANGLE
-writes_of (records.Rectangle info layer datatype width height x y repetition) =
-    record (box layer datatype width height x y) { is_square = is_square info }
--- 21 POLYGON
-writes_of (records.Polygon info layer datatype points x y repetition) = shape layer datatype x y
--- 22 PATH
-writes_of (records.Path info layer datatype half_width extension start end points x y repetition) =
-    record (shape layer datatype x y) {
-      half_width = half_width;
-      start = start_by extension start;
-      end = end_by extension end;
-    }
--- 23, 24, 25 TRAPEZOID
-writes_of (records.Trapezoid info layer datatype width height delta_a delta_b x y repetition) =
-    box layer datatype width height x y
-writes_of (records.TrapezoidA info layer datatype width height delta_a x y repetition) =
-    box layer datatype width height x y
-writes_of (records.TrapezoidB info layer datatype width height delta_b x y repetition) =
-    box layer datatype width height x y
--- 26 CTRAPEZOID
-writes_of (records.Ctrapezoid info layer datatype kind width height x y repetition) =
-    record (box layer datatype width height x y) { kind = kind }
--- 27 CIRCLE
-writes_of (records.Circle info layer datatype radius x y repetition) = shape layer datatype x y
--- 33 XGEOMETRY
-writes_of (records.XGeometry info attribute layer datatype text x y repetition) = shape layer datatype x y
+writes_of (records.Mode is_relative) = record nothing { is_relative = Some is_relative }
+writes_of (records.Placement info cell turn x y repetition) = record nothing { cell = cell; placement = step x y }
+writes_of (records.Text info text textlayer texttype x y repetition) = record nothing { text = step x y }
+writes_of (records.Shape head kind) = shape_writes head kind
 writes_of _ = nothing
 
 -- kind 0, the last repetition again, writes none

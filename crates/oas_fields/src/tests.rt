@@ -3,7 +3,7 @@ ghost use Rattle.std.specs.Prelude.{◌≡◌, ◌^◌, true};
 ghost use Rattle.oas_fields.specs.Values.{IsPlaceWithin, ArePlacesWithin};
 
 use crate::{Fields, Place};
-use oas_record::{OasRecord, PlainRectangle, Rep};
+use oas_record::{Called, OasRecord, PlainRectangle, Rep, ShapeHead, ShapeKind};
 use std::process::Abort;
 use std::rt::HostRuntime;
 
@@ -44,32 +44,36 @@ fn has_a_row(fields: &Fields) -> bool {
 
 // A square on layer 3.
 fn square(width: Option<u64>, x: Option<i64>, repetition: Option<Rep>) -> OasRecord {
-    OasRecord::Rectangle {
-        info: 0x80,
-        layer: Some(3),
-        datatype: None,
-        width,
-        height: None,
-        x,
-        y: None,
-        repetition,
+    OasRecord::Shape {
+        head: ShapeHead {
+            info: 0x80,
+            layer: Some(3),
+            datatype: None,
+            x,
+            y: None,
+            repetition,
+        },
+        kind: ShapeKind::Rectangle {
+            width,
+            height: None,
+        },
     }
 }
 
 #[test]
 fn values_last_to_the_end_of_a_cell(rt: HostRuntime) {
     let mut fields = Fields::new();
-    take(&rt, &mut fields, OasRecord::NumberedCell { number: 0 });
+    take(&rt, &mut fields, OasRecord::Cell(Called::Number(0)));
     let row = Rep::Row { dim: 2, space: 9 };
     take(&rt, &mut fields, square(Some(7), Some(5), Some(row)));
-    take(&rt, &mut fields, OasRecord::XyRelative);
+    take(&rt, &mut fields, OasRecord::Mode { is_relative: true });
     take(&rt, &mut fields, square(None, Some(6), Some(Rep::Same)));
     assert_eq!(rt; fields.layer, Some(3));
     assert_eq!(rt; fields.datatype, None);
     assert_eq!(rt; fields.height, Some(7));
     assert_eq!(rt; fields.geometry.x, 11);
     assert!(rt; has_a_row(&fields));
-    take(&rt, &mut fields, OasRecord::NumberedCell { number: 1 });
+    take(&rt, &mut fields, OasRecord::Cell(Called::Number(1)));
     assert_eq!(rt; fields.layer, None);
     assert_eq!(rt; fields.geometry.x, 0);
     assert!(rt; !fields.is_relative);
@@ -80,7 +84,7 @@ fn takes_a_plain_rectangle(rt: HostRuntime) {
     let mut fields = Fields::new();
     let row = Rep::Row { dim: 2, space: 9 };
     take(&rt, &mut fields, square(Some(7), Some(5), Some(row)));
-    take(&rt, &mut fields, OasRecord::XyRelative);
+    take(&rt, &mut fields, OasRecord::Mode { is_relative: true });
     let plain = PlainRectangle {
         info: 0x80,
         layer: None,

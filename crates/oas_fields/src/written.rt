@@ -1,10 +1,10 @@
 //! What a record writes.
 ghost use Rattle.std.specs.Prelude.{◌≡◌};
-ghost use Rattle.oas_fields.specs.Writes.{writes_of, nothing, shape};
+ghost use Rattle.oas_fields.specs.Writes.{writes_of, nothing, shape, shape_writes};
 
 use crate::extension::{Extension, end_by, start_by};
 use crate::places::Step;
-use oas_record::{Called, OasRecord};
+use oas_record::{Called, OasRecord, ShapeHead, ShapeKind};
 
 /// What a record writes of the modal variables but for lists; None where it leaves one as it was.
 #[derive(Clone, Copy, Debug, PartialEq, Eq)]
@@ -43,14 +43,14 @@ pub(crate) struct Written {
 
 const KEPT: Step = Step { x: None, y: None };
 
-fn shape(layer: Option<u64>, datatype: Option<u64>, geometry: Step) -> Written
-    ensures { result ≡ shape layer datatype geometry.x geometry.y }
+fn nothing() -> Written
+    ensures { result ≡ nothing }
 {
     Written {
         begins_cell: false,
         is_relative: None,
-        layer,
-        datatype,
+        layer: None,
+        datatype: None,
         width: None,
         height: None,
         is_square: false,
@@ -60,15 +60,65 @@ fn shape(layer: Option<u64>, datatype: Option<u64>, geometry: Step) -> Written
         kind: None,
         cell: None,
         placement: KEPT,
-        geometry,
+        geometry: KEPT,
         text: KEPT,
     }
 }
 
-fn nothing() -> Written
-    ensures { result ≡ nothing }
+// What all shapes write.
+fn shape(head: &ShapeHead) -> Written
+    ensures { result ≡ shape head.now }
 {
-    shape(None, None, KEPT)
+    Written {
+        layer: head.layer,
+        datatype: head.datatype,
+        geometry: Step {
+            x: head.x,
+            y: head.y,
+        },
+        ..nothing()
+    }
+}
+
+fn shape_writes(head: &ShapeHead, kind: &ShapeKind) -> Written
+    ensures { result ≡ shape_writes head.now kind.now }
+{
+    match kind {
+        ShapeKind::Rectangle { width, height } => Written {
+            width: *width,
+            height: *height,
+            is_square: head.info >= 128,
+            ..shape(head)
+        },
+        ShapeKind::Path {
+            half_width,
+            extension,
+            start,
+            end,
+            ..
+        } => Written {
+            half_width: *half_width,
+            start: start_by(*extension, *start),
+            end: end_by(*extension, *end),
+            ..shape(head)
+        },
+        ShapeKind::Trapezoid { width, height, .. } => Written {
+            width: *width,
+            height: *height,
+            ..shape(head)
+        },
+        ShapeKind::Ctrapezoid {
+            trapezoid_type,
+            width,
+            height,
+        } => Written {
+            kind: *trapezoid_type,
+            width: *width,
+            height: *height,
+            ..shape(head)
+        },
+        _ => shape(head),
+    }
 }
 
 impl Written {
@@ -77,20 +127,15 @@ impl Written {
         ensures { result ≡ writes_of current.now }
     {
         match current {
-            OasRecord::NumberedCell { .. } | OasRecord::Cell { .. } => Written {
+            OasRecord::Cell(_) => Written {
                 begins_cell: true,
                 ..nothing()
             },
-            OasRecord::XyAbsolute => Written {
-                is_relative: Some(false),
+            OasRecord::Mode { is_relative } => Written {
+                is_relative: Some(*is_relative),
                 ..nothing()
             },
-            OasRecord::XyRelative => Written {
-                is_relative: Some(true),
-                ..nothing()
-            },
-            OasRecord::Placement { cell, x, y, .. }
-            | OasRecord::TurnedPlacement { cell, x, y, .. } => Written {
+            OasRecord::Placement { cell, x, y, .. } => Written {
                 cell: *cell,
                 placement: Step { x: *x, y: *y },
                 ..nothing()
@@ -99,104 +144,7 @@ impl Written {
                 text: Step { x: *x, y: *y },
                 ..nothing()
             },
-            OasRecord::Rectangle {
-                info,
-                layer,
-                datatype,
-                width,
-                height,
-                x,
-                y,
-                ..
-            } => Written {
-                width: *width,
-                height: *height,
-                is_square: *info >= 128,
-                ..shape(*layer, *datatype, Step { x: *x, y: *y })
-            },
-            OasRecord::Polygon {
-                layer,
-                datatype,
-                x,
-                y,
-                ..
-            }
-            | OasRecord::Circle {
-                layer,
-                datatype,
-                x,
-                y,
-                ..
-            }
-            | OasRecord::XGeometry {
-                layer,
-                datatype,
-                x,
-                y,
-                ..
-            } => shape(*layer, *datatype, Step { x: *x, y: *y }),
-            OasRecord::Path {
-                layer,
-                datatype,
-                half_width,
-                extension,
-                start,
-                end,
-                x,
-                y,
-                ..
-            } => Written {
-                half_width: *half_width,
-                start: start_by(*extension, *start),
-                end: end_by(*extension, *end),
-                ..shape(*layer, *datatype, Step { x: *x, y: *y })
-            },
-            OasRecord::Trapezoid {
-                layer,
-                datatype,
-                width,
-                height,
-                x,
-                y,
-                ..
-            }
-            | OasRecord::TrapezoidA {
-                layer,
-                datatype,
-                width,
-                height,
-                x,
-                y,
-                ..
-            }
-            | OasRecord::TrapezoidB {
-                layer,
-                datatype,
-                width,
-                height,
-                x,
-                y,
-                ..
-            } => Written {
-                width: *width,
-                height: *height,
-                ..shape(*layer, *datatype, Step { x: *x, y: *y })
-            },
-            OasRecord::Ctrapezoid {
-                layer,
-                datatype,
-                kind,
-                width,
-                height,
-                x,
-                y,
-                ..
-            } => Written {
-                kind: *kind,
-                width: *width,
-                height: *height,
-                ..shape(*layer, *datatype, Step { x: *x, y: *y })
-            },
+            OasRecord::Shape { head, kind } => shape_writes(head, kind),
             _ => nothing(),
         }
     }
