@@ -16,6 +16,7 @@ use Rattle.layout_model.specs.declared.shapes.Shape.{Shape}
 use Rattle.oas_record.specs.declared.fields.Called.{Called}
 use Rattle.oas_record.specs.declared.records.OasRecord.{OasRecord}
 use Rattle.oas_record.specs.declared.records.OasRecord.TheVariants as records
+use Rattle.oas_record.specs.declared.shapes.ShapeKind.TheVariants as shapes
 use Rattle.oas_fields.specs.Values.{or_else, begins_cell}
 use Rattle.oas_reader.specs.declared.cells.Begun.{Begun}
 use Rattle.oas_reader.specs.declared.cells.Draft.{Draft}
@@ -162,8 +163,7 @@ items_whole [] = refl
 items_whole (draft ∷ drafts) = ap (λ items. cell_item draft ∷ items) (items_whole drafts)
 
 begins_called : (r : OasRecord) → begins_cell r ≡ is_some (cell_called r)
-begins_called (records.NumberedCell number) = refl
-begins_called (records.Cell name) = refl
+begins_called (records.Shape head (shapes.Circle radius)) = refl
 begins_called r = refl
 
 last_item : (before : List WholeCell) (w : WholeCell) → reverse (map item_whole (before ++ w ∷ [])) ≡ item_whole w ∷ reverse (map item_whole before)

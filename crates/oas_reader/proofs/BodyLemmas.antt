@@ -7,8 +7,10 @@ use Rattle.oas_record.specs.Rows.{HasForm, HasName, HasWhere, HasFields, Text as
 use Rattle.oas_record.specs.Rows.{Number as ANumber, NameBy, Always, Bit, Zero, when, placed, is_set, is_written}
 use Rattle.oas_record.specs.declared.fields.Called.{Called}
 use Rattle.oas_record.specs.declared.fields.Called.TheVariants.{Number, Text}
+use Rattle.oas_record.specs.declared.records.NameKind.TheVariants as kinds
 use Rattle.oas_record.specs.declared.records.OasRecord.{OasRecord}
 use Rattle.oas_record.specs.declared.records.OasRecord.TheVariants as records
+use Rattle.oas_record.specs.declared.shapes.ShapeKind.TheVariants as shapes
 use Rattle.oas_fields.specs.Values.{or_else, begins_cell, cell_of}
 use Rattle.oas_fields.specs.Writes.{writes_of}
 use Rattle.oas_reader.specs.Bodies.{body_of}
@@ -91,30 +93,33 @@ body_within bytes at tables (records.Start version real offset_flag offsets) nex
     text_first (when Always OneReal ∷ when Always Switch ∷ when Zero Tables ∷ []) tables bytes (at + 1) 0 version
     (IsReal real ∷ IsNumber offset_flag ∷ span_or offsets ∷ []) next
     (row_of bytes at tables (records.Start version real offset_flag offsets) next h)
-body_within bytes at tables (records.CellName name) next h =
-    text_first [] tables bytes (at + 1) 0 name [] next (row_of bytes at tables (records.CellName name) next h)
-body_within bytes at tables (records.NumberedCellName name number) next h =
-    text_first (when Always ANumber ∷ []) tables bytes (at + 1) 0 name (IsNumber number ∷ []) next
-    (row_of bytes at tables (records.NumberedCellName name number) next h)
-body_within bytes at tables (records.Cell name) next h =
-    text_first [] tables bytes (at + 1) 0 name [] next (row_of bytes at tables (records.Cell name) next h)
-body_within bytes at tables (records.Placement info cell x y repetition) next h = (
-  called_first placed bytes (at + 1) info cell (place_of x y repetition) next (row_of bytes at tables (records.Placement info cell x y repetition) next h),
+body_within bytes at tables (records.Name kinds.Cell text None) next h =
+    text_first [] tables bytes (at + 1) 0 text [] next (row_of bytes at tables (records.Name kinds.Cell text None) next h)
+body_within bytes at tables (records.Name kinds.Cell text (Some number)) next h =
+    text_first (when Always ANumber ∷ []) tables bytes (at + 1) 0 text (IsNumber number ∷ []) next
+    (row_of bytes at tables (records.Name kinds.Cell text (Some number)) next h)
+body_within bytes at tables (records.Cell (Text first last)) next h =
+    text_first [] tables bytes (at + 1) 0 (first, last) [] next (row_of bytes at tables (records.Cell (Text first last)) next h)
+body_within bytes at tables (records.Placement info cell None x y repetition) next h = (
+  called_first placed bytes (at + 1) info cell (place_of x y repetition) next
+      (row_of bytes at tables (records.Placement info cell None x y repetition) next h),
   omega arith,
 )
-body_within bytes at tables (records.TurnedPlacement info cell magnification angle x y repetition) next h = (
+body_within bytes at tables (records.Placement info cell (Some turn) x y repetition) next h = (
   called_first (when (Bit 2) OneReal ∷ when (Bit 1) OneReal ∷ placed) bytes (at + 1) info cell
-      (real_or magnification ∷ real_or angle ∷ place_of x y repetition) next
-      (row_of bytes at tables (records.TurnedPlacement info cell magnification angle x y repetition) next h),
+      (real_or turn.magnification ∷ real_or turn.angle ∷ place_of x y repetition) next
+      (row_of bytes at tables (records.Placement info cell (Some turn) x y repetition) next h),
   tt,
 )
+body_within bytes at tables (records.Shape head (shapes.Circle radius)) next h = tt
 body_within bytes at tables r next h = tt
 
 -- ---- the placed cell
 
 cell_written : (bytes : List ℕ) (r : OasRecord) → IsBodyWithin bytes (body_of r) → AreCalledWithin bytes (writes_of r).cell
-cell_written bytes (records.Placement info cell x y repetition) h = h.0
-cell_written bytes (records.TurnedPlacement info cell magnification angle x y repetition) h = h.0
+cell_written bytes (records.Name kinds.Cell text number) h = tt
+cell_written bytes (records.Placement info cell turn x y repetition) h = h.0
+cell_written bytes (records.Shape head (shapes.Circle radius)) h = tt
 cell_written bytes r h = tt
 
 called_either : (bytes : List ℕ) (ends : Bool) (one other : Option Called) → AreCalledWithin bytes one → AreCalledWithin bytes other
@@ -131,14 +136,15 @@ cell_more bytes past r within before = called_either bytes (begins_cell r) (writ
 -- ---- the name that it writes
 
 pub own_name : (bytes : List ℕ) (r : OasRecord) → KeepsName bytes r → KeepsOwnName bytes r
-own_name bytes (records.CellName name) h = h
-own_name bytes (records.NumberedCellName name number) h = h
+own_name bytes (records.Name kinds.Cell text number) h = h
 own_name bytes (records.Cell name) h = h
 own_name bytes r h = tt
 
 -- ---- START and END
 
 pub tables_is : (tables : Bool) (r : OasRecord) → tables_by (body_of r) tables ≡ (if is_flagged r then true else tables)
+tables_is tables (records.Name kinds.Cell text number) = refl
+tables_is tables (records.Shape head (shapes.Circle radius)) = refl
 tables_is tables records.Pad = refl
 tables_is tables r = refl
 
@@ -160,4 +166,6 @@ pub file_broken : (bytes : List ℕ) (unit at next : ℕ) (bad : OasBad) (r : Oa
     → BreaksUnit unit at r bad ⊎ BreaksTail bytes unit at next r bad
 file_broken bytes unit at next bad (records.Start version real offset_flag offsets) h = inl h
 file_broken bytes unit at next bad (records.End offsets padding scheme validation) h = inr (tt, refl, h.0, h.1)
+file_broken bytes unit at next bad (records.Name kinds.Cell text number) h = absurd h
+file_broken bytes unit at next bad (records.Shape head (shapes.Circle radius)) h = absurd h
 file_broken bytes unit at next bad r h = absurd h

@@ -2,9 +2,13 @@
 use Rattle.std.proofs.Common.{◌≡◌, ℕ, ◌+◌, ◌≤◌, suc, Bool, true, false, if◌then◌else◌, not, IsTrue, Some, List, [], ◌∷◌, refl, length, arith}
 use Rattle.layout_model.specs.declared.cells.Counts.{Counts}
 use Rattle.layout_model.specs.declared.pair.Pair.{Pair}
+use Rattle.oas_record.specs.declared.records.NameKind.TheVariants as kinds
 use Rattle.oas_record.specs.declared.records.OasRecord.{OasRecord}
 use Rattle.oas_record.specs.declared.records.OasRecord.TheVariants as records
-use Rattle.oas_reader.specs.Bodies.{body_of}
+use Rattle.oas_record.specs.declared.shapes.ShapeHead.{ShapeHead}
+use Rattle.oas_record.specs.declared.shapes.ShapeKind.{ShapeKind}
+use Rattle.oas_record.specs.declared.shapes.ShapeKind.TheVariants as shapes
+use Rattle.oas_reader.specs.Bodies.{body_of, shape_body}
 use Rattle.layout_model.specs.Counting.{AreAtMost}
 use Rattle.oas_reader.specs.Drawn.{with_record}
 use Rattle.oas_reader.specs.Items.{Item, records_in, count_in}
@@ -12,6 +16,7 @@ use Rattle.oas_reader.specs.Meaning.{counts_of, is_kept, is_other, is_text, is_p
 use Rattle.oas_reader.specs.Rules.{KeepsToOthers}
 use Rattle.oas_reader.specs.Taking.{wanting_of}
 use Rattle.oas_reader.specs.declared.bodies.Body.{Body}
+use Rattle.oas_reader.specs.declared.bodies.Body.TheVariants as bodies
 
 abbrev counts : ℕ → ℕ → ℕ → ℕ → Counts
 counts k o t p = record { kept = k; other = o; texts = t; nodes = 0; boxes = 0; properties = p }
@@ -56,49 +61,29 @@ texts_in past = count_in (λ _ r. is_text r) past
 abbrev properties_in : List OasRecord → ℕ
 properties_in past = count_in (λ _ r. is_property r) past
 
+shape_counted : (wanted : List Pair) (past : List OasRecord) (head : ShapeHead) (kind : ShapeKind)
+    → KeepsToOthers (is_wanted wanted (records.Shape head kind ∷ past)) (records.Shape head kind)
+    → with_record (Some (is_wanted wanted (records.Shape head kind ∷ past))) (shape_body head.info kind) (counts_of wanted past)
+    ≡ counts_of wanted (records.Shape head kind ∷ past)
+shape_counted wanted past head (shapes.Circle radius) h =
+    undrawn_more (kept_in wanted past) (other_in wanted past) (texts_in past) (properties_in past) bodies.Undrawn
+    (is_wanted wanted (records.Shape head (shapes.Circle radius) ∷ past)) h
+shape_counted wanted past head (shapes.XGeometry attribute text) h =
+    undrawn_more (kept_in wanted past) (other_in wanted past) (texts_in past) (properties_in past) bodies.Undrawn
+    (is_wanted wanted (records.Shape head (shapes.XGeometry attribute text) ∷ past)) h
+shape_counted wanted past head kind h =
+    shape_more (kept_in wanted past) (other_in wanted past) (texts_in past) (properties_in past) (shape_body head.info kind)
+    (is_wanted wanted (records.Shape head kind ∷ past))
+
 pub counted : (wanted : List Pair) (past : List OasRecord) (r : OasRecord) → KeepsToOthers (is_wanted wanted (r ∷ past)) r
     → with_record (wanting_of wanted past r) (body_of r) (counts_of wanted past) ≡ counts_of wanted (r ∷ past)
-counted wanted past (records.Text info text textlayer texttype x y repetition) h = text_more (kept_in wanted past)
-    (other_in wanted past) (texts_in past) (properties_in past)
-counted wanted past (records.Rectangle info layer datatype width height x y repetition) h = shape_more
-    (kept_in wanted past) (other_in wanted past) (texts_in past) (properties_in past)
-    (body_of (records.Rectangle info layer datatype width height x y repetition))
-    (is_wanted wanted ((records.Rectangle info layer datatype width height x y repetition) ∷ past))
-counted wanted past (records.Polygon info layer datatype points x y repetition) h = shape_more (kept_in wanted past)
-    (other_in wanted past) (texts_in past) (properties_in past)
-    (body_of (records.Polygon info layer datatype points x y repetition))
-    (is_wanted wanted ((records.Polygon info layer datatype points x y repetition) ∷ past))
-counted wanted past (records.Path info layer datatype half_width extension start end points x y repetition) h =
-    shape_more (kept_in wanted past) (other_in wanted past) (texts_in past) (properties_in past)
-    (body_of (records.Path info layer datatype half_width extension start end points x y repetition))
-    (is_wanted wanted ((records.Path info layer datatype half_width extension start end points x y repetition) ∷ past))
-counted wanted past (records.Trapezoid info layer datatype width height delta_a delta_b x y repetition) h = shape_more
-    (kept_in wanted past) (other_in wanted past) (texts_in past) (properties_in past)
-    (body_of (records.Trapezoid info layer datatype width height delta_a delta_b x y repetition))
-    (is_wanted wanted ((records.Trapezoid info layer datatype width height delta_a delta_b x y repetition) ∷ past))
-counted wanted past (records.TrapezoidA info layer datatype width height delta_a x y repetition) h = shape_more
-    (kept_in wanted past) (other_in wanted past) (texts_in past) (properties_in past)
-    (body_of (records.TrapezoidA info layer datatype width height delta_a x y repetition))
-    (is_wanted wanted ((records.TrapezoidA info layer datatype width height delta_a x y repetition) ∷ past))
-counted wanted past (records.TrapezoidB info layer datatype width height delta_b x y repetition) h = shape_more
-    (kept_in wanted past) (other_in wanted past) (texts_in past) (properties_in past)
-    (body_of (records.TrapezoidB info layer datatype width height delta_b x y repetition))
-    (is_wanted wanted ((records.TrapezoidB info layer datatype width height delta_b x y repetition) ∷ past))
-counted wanted past (records.Ctrapezoid info layer datatype kind width height x y repetition) h = shape_more
-    (kept_in wanted past) (other_in wanted past) (texts_in past) (properties_in past)
-    (body_of (records.Ctrapezoid info layer datatype kind width height x y repetition))
-    (is_wanted wanted ((records.Ctrapezoid info layer datatype kind width height x y repetition) ∷ past))
-counted wanted past (records.Circle info layer datatype radius x y repetition) h = undrawn_more (kept_in wanted past)
-    (other_in wanted past) (texts_in past) (properties_in past)
-    (body_of (records.Circle info layer datatype radius x y repetition))
-    (is_wanted wanted ((records.Circle info layer datatype radius x y repetition) ∷ past)) h
-counted wanted past (records.Property info name count values) h = property_more (kept_in wanted past)
-    (other_in wanted past) (texts_in past) (properties_in past)
+counted wanted past (records.Name kinds.Cell text number) h = none_more (kept_in wanted past) (other_in wanted past) (texts_in past) (properties_in past)
+counted wanted past (records.Text info text textlayer texttype x y repetition) h =
+    text_more (kept_in wanted past) (other_in wanted past) (texts_in past) (properties_in past)
+counted wanted past (records.Shape head kind) h = shape_counted wanted past head kind h
+counted wanted past (records.Property info name count values) h =
+    property_more (kept_in wanted past) (other_in wanted past) (texts_in past) (properties_in past)
 counted wanted past records.LastProperty h = property_more (kept_in wanted past) (other_in wanted past) (texts_in past) (properties_in past)
-counted wanted past (records.XGeometry info attribute layer datatype text x y repetition) h = undrawn_more
-    (kept_in wanted past) (other_in wanted past) (texts_in past) (properties_in past)
-    (body_of (records.XGeometry info attribute layer datatype text x y repetition))
-    (is_wanted wanted ((records.XGeometry info attribute layer datatype text x y repetition) ∷ past)) h
 counted wanted past r h = none_more (kept_in wanted past) (other_in wanted past) (texts_in past) (properties_in past)
 
 -- ---- as many as the records at most

@@ -1,9 +1,12 @@
 -- What the program keeps is what the records say.
-use Rattle.std.proofs.Common.{◌≡◌, Bool, true, false, if◌then◌else◌, Option, Some, None, List, [], ◌∷◌, ◌++◌, refl, sym, ap, ◌∙◌}
+use Rattle.std.proofs.Common.{◌≡◌, ℕ, Bool, true, false, if◌then◌else◌, Option, Some, None, List, [], ◌∷◌, ◌++◌, refl, sym, ap, ◌∙◌}
 use Rattle.oas_record.specs.Taken.{repetition_in}
+use Rattle.oas_record.specs.declared.records.NameKind.TheVariants as kinds
 use Rattle.oas_record.specs.declared.records.OasRecord.{OasRecord}
 use Rattle.oas_record.specs.declared.records.OasRecord.TheVariants as records
 use Rattle.oas_record.specs.declared.repetition.Rep.{Rep}
+use Rattle.oas_record.specs.declared.shapes.ShapeKind.{ShapeKind}
+use Rattle.oas_record.specs.declared.shapes.ShapeKind.TheVariants as shapes
 use Rattle.oas_fields.specs.Values.{AreFields, or_else, kind_of}
 use Rattle.oas_fields.specs.declared.fields.Fields.{Fields}
 use Rattle.oas_fields.specs.declared.variables.Variable.{Variable}
@@ -11,9 +14,9 @@ use Rattle.oas_fields.specs.declared.variables.Variable.TheVariants.{Layer, Data
 use Rattle.oas_fields.specs.declared.variables.Variable.TheVariants.{PolygonPoints, PathHalfWidth, PathStart, PathEnd}
 use Rattle.oas_fields.specs.declared.variables.Variable.TheVariants.{PathPoints, CtrapezoidType, PlacementCell}
 use Rattle.oas_fields.specs.declared.variables.Variable.TheVariants.{Repetition}
-use Rattle.oas_reader.specs.Bodies.{body_of}
+use Rattle.oas_reader.specs.Bodies.{body_of, shape_body}
 use Rattle.oas_reader.specs.Kept.{is_defined_in, first_in, form_needs, has_a_pair, pair_needs, repetition_needs, undefined_in}
-use Rattle.oas_reader.specs.Undefined.{is_there, is_defined, repeated, needs_of, first_undefined, undefined_of}
+use Rattle.oas_reader.specs.Undefined.{is_there, is_defined, repeated, shape_needs, needs_of, first_undefined, undefined_of}
 
 -- ---- values that are needed
 
@@ -54,20 +57,18 @@ repeated_is : (repetition : Option Rep) → repeated repetition ≡ repetition_n
 repeated_is None = refl
 repeated_is (Some rep) = refl
 
+shape_needs_are : (info : ℕ) (kind : ShapeKind) (trapezoid_type : Option ℕ) (repetition : Option Rep)
+    → Layer ∷ Datatype ∷ (shape_needs kind trapezoid_type ++ repeated repetition)
+    ≡ pair_needs (has_a_pair (shape_body info kind)) ++ (form_needs (shape_body info kind) trapezoid_type ++ repetition_needs (is_there repetition))
+shape_needs_are info (shapes.Circle radius) trapezoid_type repetition = rw (repeated_is repetition) refl
+shape_needs_are info kind trapezoid_type repetition = rw (repeated_is repetition) refl
+
 needs_are : (past : List OasRecord) (r : OasRecord) → needs_of past r
     ≡ pair_needs (has_a_pair (body_of r)) ++ (form_needs (body_of r) (kind_of (r ∷ past)) ++ repetition_needs (is_there (repetition_in r)))
-needs_are past (records.Placement info cell x y repetition) = rw (repeated_is repetition) refl
-needs_are past (records.TurnedPlacement info cell magnification angle x y repetition) = rw (repeated_is repetition) refl
+needs_are past (records.Name kinds.Cell text number) = refl
+needs_are past (records.Placement info cell turn x y repetition) = rw (repeated_is repetition) refl
 needs_are past (records.Text info text textlayer texttype x y repetition) = rw (repeated_is repetition) refl
-needs_are past (records.Rectangle info layer datatype width height x y repetition) = rw (repeated_is repetition) refl
-needs_are past (records.Polygon info layer datatype points x y repetition) = rw (repeated_is repetition) refl
-needs_are past (records.Path info layer datatype half_width extension start end points x y repetition) = rw (repeated_is repetition) refl
-needs_are past (records.Trapezoid info layer datatype width height delta_a delta_b x y repetition) = rw (repeated_is repetition) refl
-needs_are past (records.TrapezoidA info layer datatype width height delta_a x y repetition) = rw (repeated_is repetition) refl
-needs_are past (records.TrapezoidB info layer datatype width height delta_b x y repetition) = rw (repeated_is repetition) refl
-needs_are past (records.Ctrapezoid info layer datatype kind width height x y repetition) = rw (repeated_is repetition) refl
-needs_are past (records.Circle info layer datatype radius x y repetition) = rw (repeated_is repetition) refl
-needs_are past (records.XGeometry info attribute layer datatype text x y repetition) = rw (repeated_is repetition) refl
+needs_are past (records.Shape head kind) = shape_needs_are head.info kind (kind_of (records.Shape head kind ∷ past)) head.repetition
 needs_are past r = refl
 
 joined : (all : List OasRecord) (fields : Fields) → AreFields all fields → (pair form repetition : List Variable)
@@ -87,5 +88,3 @@ undefined_is past r fields a =
     (pair_needs (has_a_pair (body_of r))
     ++ (form_needs (body_of r) kind ++ repetition_needs (is_there (repetition_in r))))) a.kind
     ∙ sym (ap (λ needs. first_undefined (r ∷ past) needs) (needs_are past r))
-
--- ---- pairs and shapes

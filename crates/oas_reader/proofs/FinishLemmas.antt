@@ -7,7 +7,6 @@ use Rattle.geo_stream.specs.Refusals.{IsForFault}
 use Rattle.geo_stream.specs.declared.refusal.Refusal.{Refusal}
 use Rattle.geo_stream.specs.declared.refusal.Refusal.TheVariants.{Fault, NoMemory}
 use Rattle.oas_record.specs.declared.fields.Called.{Called}
-use Rattle.oas_record.specs.declared.fields.Called.TheVariants.{Number, Text}
 use Rattle.oas_record.specs.declared.records.OasRecord.{OasRecord}
 use Rattle.oas_fields.specs.Values.{or_else}
 use Rattle.oas_reader.specs.declared.cells.Draft.{Draft}
@@ -32,8 +31,7 @@ pub items_append : (drafts more : List Draft) → cell_items (drafts ++ more) �
 items_append drafts more = ap reverse (map-append cell_item drafts more) ∙ reverse-append (map cell_item drafts) (map cell_item more)
 
 pub called_back : (called : Called) → cell_called (cell_record called) ≡ Some called
-called_back (Number number) = refl
-called_back (Text first next) = refl
+called_back called = refl
 
 -- the next CELL record has a name of its own
 pub distinct_more : (bytes : List ℕ) (all : List OasRecord) (past : List Item) (at : ℕ) (r : OasRecord) (name : List ℕ)

@@ -133,7 +133,7 @@ pub begun_text : (bytes : List ℕ) (past : List Item) (at first next : ℕ) (ol
     → ((other : List ℕ) → cell_in new other ≡ cond (same_name (text_in bytes (first, next)) other) (Some at) (cell_in old other))
     → cell_in old (text_in bytes (first, next)) ≡ None
     → new.given ≡ old.given → new.numbering ≡ old.numbering → new.counted ≡ old.counted → new.used ≡ old.used
-    → AreNamesOf bytes past old → AreNamesOf bytes (item at (records.Cell (first, next)) ∷ past) new
+    → AreNamesOf bytes past old → AreNamesOf bytes (item at (records.Cell (Text first next)) ∷ past) new
 begun_text bytes past at first next old new puts none given numbering counted used are = record {
   numbers = λ is_written number.
       ap (λ o. conflict_with o is_written (place_by (given_in new number))) numbering

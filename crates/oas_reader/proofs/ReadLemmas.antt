@@ -1,8 +1,7 @@
 -- From what the reader keeps to what the bytes hold.
-use Rattle.std.proofs.Common.{◌≡◌, ℕ, ◌^◌, ◌<◌, ◌≤◌, nat_eq, true, false, List, [], ◌∷◌, length, take, Result, Ok, Err}
-use Rattle.std.proofs.Common.{refl, sym, ap, subst, ◌∙◌, ◌⊎◌, inl, inr, arith}
+use Rattle.std.proofs.Common.{◌≡◌, ℕ, ◌^◌, ◌<◌, ◌≤◌, true, false, List, [], ◌∷◌, length, take, Result, Ok, Err}
+use Rattle.std.proofs.Common.{refl, sym, ap, subst, ◌⊎◌, inl, inr, arith}
 use Rattle.std.specs.Prelude.{IfOk}
-use Rattle.std.proofs.lemmas.Grind.{common_steps}
 use Rattle.std.proofs.lemmas.List.{length-take}
 use Rattle.geo_stream.specs.Refusals.{IsForFault, IfFault}
 use Rattle.geo_stream.specs.declared.refusal.Refusal.{Refusal}
@@ -10,7 +9,7 @@ use Rattle.geo_stream.specs.declared.refusal.Refusal.TheVariants.{Fault, NoMemor
 use Rattle.layout_model.specs.declared.cells.Layout.{Layout}
 use Rattle.layout_model.specs.declared.pair.Pair.{Pair}
 use Rattle.oas_record.specs.Laws.{OneRecord, RecordOrFault, OneFault as OneCause}
-use Rattle.oas_record.specs.Records.{HasRecord, NoRecord, id_of}
+use Rattle.oas_record.specs.Records.{HasRecord, NoRecord}
 use Rattle.oas_record.specs.declared.faults.RecordBad.{RecordBad}
 use Rattle.oas_record.specs.declared.records.OasRecord.{OasRecord}
 use Rattle.oas_record.proofs.ForCallers.{one_record}
@@ -164,18 +163,6 @@ stands_on bytes unit sorted at old new r next s stands onward least more within 
     }
 
 -- ---- END
-
-same_end : (id : ℕ) → id ≡ 2 → nat_eq id 2 ≡ true
-same_end id e = grind (arith, common_steps)
-
-other_end : (id : ℕ) → (id ≡ 2 → ⊥) → nat_eq id 2 ≡ false
-other_end id e = grind (arith, common_steps)
-
-pub ends : (r : OasRecord) (id : ℕ) → id ≡ id_of r → id ≡ 2 → is_end r ≡ true
-ends r id is e = same_end (id_of r) (sym is ∙ e)
-
-pub goes_on : (r : OasRecord) (id : ℕ) → id ≡ id_of r → (id ≡ 2 → ⊥) → is_end r ≡ false
-goes_on r id is e = other_end (id_of r) (λ two. e (is ∙ two))
 
 whole : (bytes : List ℕ) (unit : ℕ) (wanted sorted : List Pair) (at : ℕ) (old new : Reader) (r : OasRecord) (next : ℕ)
     → (s : IsStanding bytes unit sorted at old) → AreSamePairs wanted sorted → HasRecord bytes at old.tables r next → is_end r ≡ true

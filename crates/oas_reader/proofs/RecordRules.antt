@@ -7,10 +7,14 @@ use Rattle.layout_model.specs.declared.pair.Pair.{Pair}
 use Rattle.layout_model.specs.declared.shapes.Shape.{Shape}
 use Rattle.oas_record.specs.Taken.{repetition_in}
 use Rattle.oas_record.specs.declared.fields.Deltas.{Deltas}
+use Rattle.oas_record.specs.declared.records.NameKind.TheVariants as kinds
 use Rattle.oas_record.specs.declared.records.OasRecord.{OasRecord}
 use Rattle.oas_record.specs.declared.records.OasRecord.TheVariants as records
 use Rattle.oas_record.specs.declared.repetition.Rep.{Rep}
 use Rattle.oas_record.specs.declared.repetition.Rep.TheVariants as reps
+use Rattle.oas_record.specs.declared.shapes.ShapeHead.{ShapeHead}
+use Rattle.oas_record.specs.declared.shapes.ShapeKind.{ShapeKind}
+use Rattle.oas_record.specs.declared.shapes.ShapeKind.TheVariants as shapes
 use Rattle.oas_shapes.specs.Repetitions.{IsDimension, HasDimensionsIn}
 use Rattle.oas_shapes.specs.Rules.{IsLowest}
 use Rattle.oas_shapes.specs.declared.figures.Brush.{Brush}
@@ -19,9 +23,9 @@ use Rattle.oas_fields.specs.Values.{begins_cell, or_else, polygon_points_of, pat
 use Rattle.oas_fields.specs.Writes.{repetition_written, repetition_by as the_written}
 use Rattle.oas_fields.specs.declared.variables.Variable.{Variable}
 use Rattle.oas_fields.specs.declared.variables.Variable.TheVariants.{Layer, Datatype, PolygonPoints, PathHalfWidth, PathStart, PathEnd, PathPoints}
-use Rattle.oas_reader.specs.Bodies.{body_of}
-use Rattle.oas_reader.specs.Drawn.{repetition_kept, KeepsDrawnIn, KeepsWantedIn}
-use Rattle.oas_reader.specs.Geometry.{shapes_if, placings_in, KeepsShapes, KeepsGeometry}
+use Rattle.oas_reader.specs.Bodies.{body_of, shape_body}
+use Rattle.oas_reader.specs.Drawn.{repetition_kept}
+use Rattle.oas_reader.specs.Geometry.{shapes_if, placings_in, KeepsGeometry}
 use Rattle.oas_reader.specs.Items.{Item, records_in}
 use Rattle.oas_reader.specs.Kept.{fields_at, has_a_pair, KeepsVersionBy, KeepsSchemeBy}
 use Rattle.oas_reader.specs.Meaning.{repetition_by, repetition_at, is_wanted, has_pair, shapes_drawn, placings_at, figure_of, at_of, brush_of}
@@ -29,20 +33,20 @@ use Rattle.oas_reader.specs.Names.{cell_called}
 use Rattle.oas_reader.specs.Reading.{AreAllowed}
 use Rattle.oas_reader.specs.Rules.{ArePositionsNear, KeepsOffsets, KeepsName, KeepsMagnification, KeepsAngle}
 use Rattle.oas_reader.specs.Rules.{KeepsToOthers, KeepsVersion, KeepsScheme, FigureKeeps, PolygonKeeps, PathKeeps}
-use Rattle.oas_reader.specs.Rules.{KeepsDrawn, Keeps}
+use Rattle.oas_reader.specs.Rules.{KindKeeps, KeepsDrawn, Keeps}
 use Rattle.oas_reader.specs.Taking.{KeepsOwnName, wanting_of}
 use Rattle.oas_reader.specs.Undefined.{is_there, is_defined, first_undefined, undefined_of}
-use Rattle.oas_reader.proofs.DrawBridges.{keeps_to, keeps_from}
 
 -- ---- pairs and cells
 
 pub has_pair_is : (r : OasRecord) → has_a_pair (body_of r) ≡ has_pair r
+has_pair_is (records.Name kinds.Cell text number) = refl
+has_pair_is (records.Shape head (shapes.Circle radius)) = refl
 has_pair_is records.Pad = refl
 has_pair_is r = refl
 
 -- a record that begins no cell calls none
 pub calls_none : (r : OasRecord) → begins_cell r ≡ false → cell_called r ≡ None
-calls_none (records.NumberedCell number) e = absurd (cc)
 calls_none (records.Cell name) e = absurd (cc)
 calls_none r e = refl
 
@@ -50,17 +54,14 @@ calls_none r e = refl
 
 pub placings_are : (past : List OasRecord) (r : OasRecord)
     → placings_in (body_of r) (fields_at (r ∷ past)) (repetition_at past r) ≡ placings_at past r
+placings_are past (records.Name kinds.Cell text number) = refl
+placings_are past (records.Placement info cell None x y repetition) = refl
+placings_are past (records.Shape head (shapes.Circle radius)) = refl
 placings_are past records.Pad = refl
 placings_are past r = refl
 
 undrawn : (r : OasRecord) (all : List OasRecord) (offsets : List Point) → has_pair r ≡ false → shapes_drawn r all offsets ≡ []
-undrawn (records.Rectangle info layer datatype width height x y repetition) all offsets e = absurd (cc)
-undrawn (records.Polygon info layer datatype points x y repetition) all offsets e = absurd (cc)
-undrawn (records.Path info layer datatype half_width extension start end points x y repetition) all offsets e = absurd (cc)
-undrawn (records.Trapezoid info layer datatype width height delta_a delta_b x y repetition) all offsets e = absurd (cc)
-undrawn (records.TrapezoidA info layer datatype width height delta_a x y repetition) all offsets e = absurd (cc)
-undrawn (records.TrapezoidB info layer datatype width height delta_b x y repetition) all offsets e = absurd (cc)
-undrawn (records.Ctrapezoid info layer datatype kind width height x y repetition) all offsets e = absurd (cc)
+undrawn (records.Shape head kind) all offsets e = absurd (cc)
 undrawn r all offsets e = refl
 
 shapes_by : (has wanted : Bool) (drawn : List Shape) → (has ≡ false → drawn ≡ [])
@@ -182,42 +183,50 @@ either : {A : Type 0} (wanted : Bool) → (IsTrue wanted → A) → ((Some wante
 either true on off = on refl
 either false on off = off (λ e. absurd (cc))
 
--- what is looked at of other records holds of one with a pair
-record IsBare (bytes : List ℕ) (past : List OasRecord) (r : OasRecord) : Type 0 where
-  begins : begins_cell r ≡ false
-  offsets : KeepsOffsets past r
-  name : KeepsName bytes r
-  magnification : KeepsMagnification r
-  angle : KeepsAngle r
-  version : KeepsVersion bytes r
-  scheme : KeepsScheme r
+shape_begins : (head : ShapeHead) (kind : ShapeKind) → begins_cell (records.Shape head kind) ≡ false
+shape_begins head (shapes.Circle radius) = refl
+shape_begins head kind = refl
 
-bare : (bytes : List ℕ) (past : List OasRecord) (r : OasRecord) → has_pair r ≡ true → IsBare bytes past r
-bare bytes past (records.Start version unit offset_flag tables) h = absurd (cc)
-bare bytes past (records.End tables padding scheme validation) h = absurd (cc)
-bare bytes past (records.CellName name) h = absurd (cc)
-bare bytes past (records.NumberedCellName name number) h = absurd (cc)
-bare bytes past (records.NumberedCell number) h = absurd (cc)
-bare bytes past (records.Cell name) h = absurd (cc)
-bare bytes past (records.Placement info cell x y repetition) h = absurd (cc)
-bare bytes past (records.TurnedPlacement info cell magnification angle x y repetition) h = absurd (cc)
-bare bytes past r h =
-    record { begins = refl; offsets = tt; name = tt; magnification = tt; angle = tt; version = tt; scheme = tt }
+-- all rules of a shape: those of its dimensions, of CIRCLE and XGEOMETRY, and of what is drawn
+shape_all : (bytes : List ℕ) (wanted : List Pair) (past : List OasRecord) (head : ShapeHead) (kind : ShapeKind) (dims : Bool) (rule : ℕ)
+    → IsLookedAt bytes past (records.Shape head kind) dims rule
+    → ((Some (is_wanted wanted (records.Shape head kind ∷ past)) ≡ Some true → ⊥) → rule ≡ 11 → IsTrue dims)
+    → (IsTrue (is_wanted wanted (records.Shape head kind ∷ past)) → rule ≡ 11 → HasDimensionsIn (repetition_at past (records.Shape head kind)))
+    → (rule ≡ 7 → KeepsToOthers (is_wanted wanted (records.Shape head kind ∷ past)) (records.Shape head kind))
+    → (IsTrue (is_wanted wanted (records.Shape head kind ∷ past))
+    → KindKeeps head kind (records.Shape head kind ∷ past) (repetition_at past (records.Shape head kind)) rule)
+    → Keeps bytes wanted past (records.Shape head kind) rule
+shape_all bytes wanted past head kind dims rule l off on other drawn =
+    let r = records.Shape head kind in
+    keeps_all bytes wanted past r rule l.positions (λ e. tt) (λ e. tt) (λ e. tt) (λ e. tt) other (λ e. tt) (λ e. tt)
+    (λ e. either (is_wanted wanted (r ∷ past)) (λ yes. written_kept past r (shape_begins head kind) (on yes e)) (λ no. l.dimensions.0 (off no e)))
+    drawn
 
--- a shape that keeps the rules of its geometry keeps all
-shape_kept : (bytes : List ℕ) (wanted : List Pair) (past : List OasRecord) (r : OasRecord) (dims : Bool) (rule : ℕ)
-    → IsLookedAt bytes past r dims rule → has_pair r ≡ true
-    → KeepsShapes (body_of r) dims (Some (is_wanted wanted (r ∷ past))) (fields_at (r ∷ past)) (repetition_at past r) rule
-    → (IsTrue (is_wanted wanted (r ∷ past)) → rule ≡ 11 → HasDimensionsIn (repetition_at past r))
-    → (rule ≡ 7 → KeepsToOthers (is_wanted wanted (r ∷ past)) r)
-    → (IsTrue (is_wanted wanted (r ∷ past)) → KeepsDrawnIn (body_of r) (fields_at (r ∷ past)) (repetition_at past r) rule)
-    → Keeps bytes wanted past r rule
-shape_kept bytes wanted past r dims rule l pair g dimension other drawn =
-    let b = bare bytes past r pair in
-    keeps_all bytes wanted past r rule l.positions (λ e. b.offsets) (λ e. b.name) (λ e. b.magnification) (λ e. b.angle) other
-    (λ e. b.version) (λ e. b.scheme)
-    (λ e. either (is_wanted wanted (r ∷ past)) (λ on. written_kept past r b.begins (dimension on e)) (λ off. l.dimensions.0 (g.dimension off e)))
-    (λ on. keeps_to r (r ∷ past) (repetition_at past r) rule (drawn on))
+shape_kept : (bytes : List ℕ) (wanted : List Pair) (past : List OasRecord) (head : ShapeHead) (kind : ShapeKind) (dims : Bool) (rule : ℕ)
+    → IsLookedAt bytes past (records.Shape head kind) dims rule
+    → (rule ≡ 11 → KeepsGeometry bytes (shape_body head.info kind) dims (Some (is_wanted wanted (records.Shape head kind ∷ past)))
+    (fields_at (records.Shape head kind ∷ past)) (repetition_at past (records.Shape head kind)) 7)
+    → KeepsGeometry bytes (shape_body head.info kind) dims (Some (is_wanted wanted (records.Shape head kind ∷ past)))
+    (fields_at (records.Shape head kind ∷ past)) (repetition_at past (records.Shape head kind)) rule
+    → Keeps bytes wanted past (records.Shape head kind) rule
+shape_kept bytes wanted past head (shapes.Polygon points) dims rule l s g =
+    let there = third (records.Shape head (shapes.Polygon points) ∷ past) Layer Datatype PolygonPoints _ l.defined in
+    shape_all bytes wanted past head (shapes.Polygon points) dims rule l g.dimension
+    (λ on. polygon_dimension _ _ _ rule there (g.drawn (ap Some on))) (λ e. tt) (λ on. g.drawn (ap Some on))
+shape_kept bytes wanted past head (shapes.Path half_width extension start end points) dims rule l s g =
+    let kind = shapes.Path half_width extension start end points in
+    let there = sixth (records.Shape head kind ∷ past) Layer Datatype PathHalfWidth PathStart PathEnd PathPoints _ l.defined in
+    shape_all bytes wanted past head kind dims rule l g.dimension
+    (λ on. path_dimension _ _ _ _ rule there (g.drawn (ap Some on))) (λ e. tt) (λ on. g.drawn (ap Some on))
+shape_kept bytes wanted past head (shapes.Circle radius) dims rule l s g =
+    shape_all bytes wanted past head (shapes.Circle radius) dims rule l g.dimension
+    (λ on e. absurd ((s e).drawn (ap Some on) refl)) (λ e on. g.drawn (ap Some on) e) (λ on. tt)
+shape_kept bytes wanted past head (shapes.XGeometry attribute text) dims rule l s g =
+    shape_all bytes wanted past head (shapes.XGeometry attribute text) dims rule l g.dimension
+    (λ on e. absurd ((s e).drawn (ap Some on) refl)) (λ e on. g.drawn (ap Some on) e) (λ on. tt)
+shape_kept bytes wanted past head kind dims rule l s g =
+    shape_all bytes wanted past head kind dims rule l g.dimension
+    (λ on. figure_dimension _ _ _ rule (g.drawn (ap Some on))) (λ e. tt) (λ on. g.drawn (ap Some on))
 
 -- a record that keeps the rules of its geometry keeps all
 pub keeps_geometry : (bytes : List ℕ) (wanted : List Pair) (past : List OasRecord) (r : OasRecord) (dims : Bool) (rule : ℕ)
@@ -229,44 +238,20 @@ keeps_geometry bytes wanted past (records.Start version unit offset_flag tables)
     keeps_all bytes wanted past _ rule l.positions (λ e. tt) (λ e. tt) (λ e. tt) (λ e. tt) (λ e. tt) (λ e. l.version) (λ e. tt) (λ e. tt) (λ e. tt)
 keeps_geometry bytes wanted past (records.End tables padding scheme validation) dims rule l s g =
     keeps_all bytes wanted past _ rule l.positions (λ e. tt) (λ e. tt) (λ e. tt) (λ e. tt) (λ e. tt) (λ e. tt) (λ e. l.scheme) (λ e. tt) (λ e. tt)
-keeps_geometry bytes wanted past (records.CellName name) dims rule l s g =
-    keeps_all bytes wanted past _ rule l.positions (λ e. tt) l.own (λ e. tt) (λ e. tt) (λ e. tt) (λ e. tt) (λ e. tt) (λ e. tt) (λ e. tt)
-keeps_geometry bytes wanted past (records.NumberedCellName name number) dims rule l s g =
+keeps_geometry bytes wanted past (records.Name kinds.Cell text number) dims rule l s g =
     keeps_all bytes wanted past _ rule l.positions (λ e. tt) l.own (λ e. tt) (λ e. tt) (λ e. tt) (λ e. tt) (λ e. tt) (λ e. tt) (λ e. tt)
 keeps_geometry bytes wanted past (records.Cell name) dims rule l s g =
     keeps_all bytes wanted past _ rule l.positions (λ e. tt) l.own (λ e. tt) (λ e. tt) (λ e. tt) (λ e. tt) (λ e. tt) (λ e. tt) (λ e. tt)
-keeps_geometry bytes wanted past (records.Placement info cell x y repetition) dims rule l s g =
+keeps_geometry bytes wanted past (records.Placement info cell None x y repetition) dims rule l s g =
     keeps_all bytes wanted past _ rule l.positions g.near g.name (λ e. tt) (λ e. tt) (λ e. tt) (λ e. tt) (λ e. tt)
-    (λ e. written_kept past (records.Placement info cell x y repetition) refl (g.dimension e)) (λ e. tt)
-keeps_geometry bytes wanted past (records.TurnedPlacement info cell magnification angle x y repetition) dims rule l s g =
+    (λ e. written_kept past (records.Placement info cell None x y repetition) refl (g.dimension e)) (λ e. tt)
+keeps_geometry bytes wanted past (records.Placement info cell (Some turn) x y repetition) dims rule l s g =
     keeps_all bytes wanted past _ rule l.positions g.near g.name g.magnification g.angle (λ e. tt) (λ e. tt) (λ e. tt)
-    (λ e. written_kept past (records.TurnedPlacement info cell magnification angle x y repetition) refl (g.dimension e)) (λ e. tt)
+    (λ e. written_kept past (records.Placement info cell (Some turn) x y repetition) refl (g.dimension e)) (λ e. tt)
 keeps_geometry bytes wanted past (records.Text info text textlayer texttype x y repetition) dims rule l s g =
     keeps_all bytes wanted past _ rule l.positions (λ e. tt) (λ e. tt) (λ e. tt) (λ e. tt) (λ e. tt) (λ e. tt) (λ e. tt)
     (λ e. l.dimensions.0 (g.dimension (λ e. absurd (cc)) e)) (λ e. tt)
-keeps_geometry bytes wanted past (records.Rectangle info layer datatype width height x y repetition) dims rule l s g =
-    shape_kept bytes wanted past _ dims rule l refl g (λ on. figure_dimension _ _ _ rule (g.drawn (ap Some on))) (λ e. tt) (λ on. g.drawn (ap Some on))
-keeps_geometry bytes wanted past (records.Trapezoid info layer datatype width height delta_a delta_b x y repetition) dims rule l s g =
-    shape_kept bytes wanted past _ dims rule l refl g (λ on. figure_dimension _ _ _ rule (g.drawn (ap Some on))) (λ e. tt) (λ on. g.drawn (ap Some on))
-keeps_geometry bytes wanted past (records.TrapezoidA info layer datatype width height delta_a x y repetition) dims rule l s g =
-    shape_kept bytes wanted past _ dims rule l refl g (λ on. figure_dimension _ _ _ rule (g.drawn (ap Some on))) (λ e. tt) (λ on. g.drawn (ap Some on))
-keeps_geometry bytes wanted past (records.TrapezoidB info layer datatype width height delta_b x y repetition) dims rule l s g =
-    shape_kept bytes wanted past _ dims rule l refl g (λ on. figure_dimension _ _ _ rule (g.drawn (ap Some on))) (λ e. tt) (λ on. g.drawn (ap Some on))
-keeps_geometry bytes wanted past (records.Ctrapezoid info layer datatype kind width height x y repetition) dims rule l s g =
-    shape_kept bytes wanted past _ dims rule l refl g (λ on. figure_dimension _ _ _ rule (g.drawn (ap Some on))) (λ e. tt) (λ on. g.drawn (ap Some on))
-keeps_geometry bytes wanted past (records.Polygon info layer datatype points x y repetition) dims rule l s g =
-    let there = third (records.Polygon info layer datatype points x y repetition ∷ past) Layer Datatype PolygonPoints _ l.defined in
-    shape_kept bytes wanted past _ dims rule l refl g (λ on. polygon_dimension _ _ _ rule there (g.drawn (ap Some on))) (λ e. tt)
-    (λ on. g.drawn (ap Some on))
-keeps_geometry bytes wanted past (records.Path info layer datatype half_width extension start end points x y repetition) dims rule l s g =
-    let all = records.Path info layer datatype half_width extension start end points x y repetition ∷ past in
-    let there = sixth all Layer Datatype PathHalfWidth PathStart PathEnd PathPoints _ l.defined in
-    shape_kept bytes wanted past _ dims rule l refl g (λ on. path_dimension _ _ _ _ rule there (g.drawn (ap Some on))) (λ e. tt)
-    (λ on. g.drawn (ap Some on))
-keeps_geometry bytes wanted past (records.Circle info layer datatype radius x y repetition) dims rule l s g =
-    shape_kept bytes wanted past _ dims rule l refl g (λ on e. absurd ((s e).drawn (ap Some on) refl)) (λ e on. g.drawn (ap Some on) e) (λ on. tt)
-keeps_geometry bytes wanted past (records.XGeometry info attribute layer datatype text x y repetition) dims rule l s g =
-    shape_kept bytes wanted past _ dims rule l refl g (λ on e. absurd ((s e).drawn (ap Some on) refl)) (λ e on. g.drawn (ap Some on) e) (λ on. tt)
+keeps_geometry bytes wanted past (records.Shape head kind) dims rule l s g = shape_kept bytes wanted past head kind dims rule l s g
 keeps_geometry bytes wanted past r dims rule l s g =
     keeps_all bytes wanted past r rule l.positions (λ e. tt) (λ e. tt) (λ e. tt) (λ e. tt) (λ e. tt) (λ e. tt) (λ e. tt) (λ e. tt) (λ e. tt)
 
@@ -274,66 +259,46 @@ some_is : (b : Bool) → Some b ≡ Some true → IsTrue b
 some_is true e = refl
 some_is false e = absurd (cc)
 
--- a shape that keeps all rules keeps those of its geometry
-shape_keeps : (bytes : List ℕ) (wanted : List Pair) (past : List OasRecord) (r : OasRecord) (dims : Bool) (rule : ℕ)
-    → (IsTrue dims ↔ HasDimensionsIn (repetition_in r)) → Keeps bytes wanted past r rule
-    → (IsTrue (is_wanted wanted (r ∷ past)) → KeepsWantedIn (body_of r) (fields_at (r ∷ past)) (repetition_at past r) rule)
-    → KeepsShapes (body_of r) dims (Some (is_wanted wanted (r ∷ past))) (fields_at (r ∷ past)) (repetition_at past r) rule
-shape_keeps bytes wanted past r dims rule d k drawn =
-    record { drawn = λ on. drawn (some_is (is_wanted wanted (r ∷ past)) on); dimension = λ off e. d.1 (k.dimension e) }
+shape_geometry : (bytes : List ℕ) (wanted : List Pair) (past : List OasRecord) (head : ShapeHead) (kind : ShapeKind) (dims : Bool) (rule : ℕ)
+    → (IsTrue dims ↔ HasDimensionsIn head.repetition) → Keeps bytes wanted past (records.Shape head kind) rule
+    → KeepsGeometry bytes (shape_body head.info kind) dims (Some (is_wanted wanted (records.Shape head kind ∷ past)))
+    (fields_at (records.Shape head kind ∷ past)) (repetition_at past (records.Shape head kind)) rule
+shape_geometry bytes wanted past head (shapes.Circle radius) dims rule d k =
+    record { drawn = λ on seven. k.other seven (some_is _ on); dimension = λ off e. d.1 (k.dimension e) }
+shape_geometry bytes wanted past head (shapes.XGeometry attribute text) dims rule d k =
+    record { drawn = λ on seven. k.other seven (some_is _ on); dimension = λ off e. d.1 (k.dimension e) }
+shape_geometry bytes wanted past head kind dims rule d k =
+    record { drawn = λ on. k.drawn (some_is _ on); dimension = λ off e. d.1 (k.dimension e) }
 
 -- a record that keeps all rules keeps those of its geometry
 pub geometry_keeps : (bytes : List ℕ) (wanted : List Pair) (past : List OasRecord) (r : OasRecord) (dims : Bool) (rule : ℕ)
     → (IsTrue dims ↔ HasDimensionsIn (repetition_in r)) → HasDimensionsIn (repetition_of past) → Keeps bytes wanted past r rule
     → KeepsGeometry bytes (body_of r) dims (wanting_of wanted past r) (fields_at (r ∷ past)) (repetition_at past r) rule
-geometry_keeps bytes wanted past (records.Placement info cell x y repetition) dims rule d before k = record {
+geometry_keeps bytes wanted past (records.Name kinds.Cell text number) dims rule d before k =
+    record { drawn = λ on. absurd (cc); dimension = λ off e. d.1 (k.dimension e) }
+geometry_keeps bytes wanted past (records.Placement info cell None x y repetition) dims rule d before k = record {
   near = k.offsets;
   name = k.name;
   magnification = λ e. tt;
   angle = λ e. tt;
-  dimension = λ e. force_kept past (records.Placement info cell x y repetition) refl before (k.dimension e);
+  dimension = λ e. force_kept past (records.Placement info cell None x y repetition) refl before (k.dimension e);
 }
-geometry_keeps bytes wanted past (records.TurnedPlacement info cell magnification angle x y repetition) dims rule d before k = record {
+geometry_keeps bytes wanted past (records.Placement info cell (Some turn) x y repetition) dims rule d before k = record {
   near = k.offsets;
   name = k.name;
   magnification = k.magnification;
   angle = k.angle;
-  dimension = λ e. force_kept past (records.TurnedPlacement info cell magnification angle x y repetition) refl before (k.dimension e);
+  dimension = λ e. force_kept past (records.Placement info cell (Some turn) x y repetition) refl before (k.dimension e);
 }
-geometry_keeps bytes wanted past (records.Rectangle info layer datatype width height x y repetition) dims rule d before k =
-    let r = records.Rectangle info layer datatype width height x y repetition in
-    shape_keeps bytes wanted past r dims rule d k (λ on. keeps_from r (r ∷ past) (repetition_at past r) rule (k.drawn on))
-geometry_keeps bytes wanted past (records.Trapezoid info layer datatype width height delta_a delta_b x y repetition) dims rule d before k =
-    let r = records.Trapezoid info layer datatype width height delta_a delta_b x y repetition in
-    shape_keeps bytes wanted past r dims rule d k (λ on. keeps_from r (r ∷ past) (repetition_at past r) rule (k.drawn on))
-geometry_keeps bytes wanted past (records.TrapezoidA info layer datatype width height delta_a x y repetition) dims rule d before k =
-    let r = records.TrapezoidA info layer datatype width height delta_a x y repetition in
-    shape_keeps bytes wanted past r dims rule d k (λ on. keeps_from r (r ∷ past) (repetition_at past r) rule (k.drawn on))
-geometry_keeps bytes wanted past (records.TrapezoidB info layer datatype width height delta_b x y repetition) dims rule d before k =
-    let r = records.TrapezoidB info layer datatype width height delta_b x y repetition in
-    shape_keeps bytes wanted past r dims rule d k (λ on. keeps_from r (r ∷ past) (repetition_at past r) rule (k.drawn on))
-geometry_keeps bytes wanted past (records.Ctrapezoid info layer datatype kind width height x y repetition) dims rule d before k =
-    let r = records.Ctrapezoid info layer datatype kind width height x y repetition in
-    shape_keeps bytes wanted past r dims rule d k (λ on. keeps_from r (r ∷ past) (repetition_at past r) rule (k.drawn on))
-geometry_keeps bytes wanted past (records.Polygon info layer datatype points x y repetition) dims rule d before k =
-    let r = records.Polygon info layer datatype points x y repetition in
-    shape_keeps bytes wanted past r dims rule d k (λ on. keeps_from r (r ∷ past) (repetition_at past r) rule (k.drawn on))
-geometry_keeps bytes wanted past (records.Path info layer datatype half_width extension start end points x y repetition) dims rule d before k =
-    let r = records.Path info layer datatype half_width extension start end points x y repetition in
-    shape_keeps bytes wanted past r dims rule d k (λ on. keeps_from r (r ∷ past) (repetition_at past r) rule (k.drawn on))
-geometry_keeps bytes wanted past (records.Circle info layer datatype radius x y repetition) dims rule d before k =
-    shape_keeps bytes wanted past _ dims rule d k (λ on seven. k.other seven on)
-geometry_keeps bytes wanted past (records.XGeometry info attribute layer datatype text x y repetition) dims rule d before k =
-    shape_keeps bytes wanted past _ dims rule d k (λ on seven. k.other seven on)
+geometry_keeps bytes wanted past (records.Shape head kind) dims rule d before k = shape_geometry bytes wanted past head kind dims rule d k
 geometry_keeps bytes wanted past r dims rule d before k = record { drawn = λ on. absurd (cc); dimension = λ off e. d.1 (k.dimension e) }
 
 -- one that breaks a rule of its geometry has no name of its own to look at
 pub own_kept : (bytes : List ℕ) (wanted : List Pair) (past : List OasRecord) (r : OasRecord) (dims : Bool) (rule : ℕ)
     → (IsTrue dims ↔ HasDimensionsIn (repetition_in r))
     → (KeepsGeometry bytes (body_of r) dims (wanting_of wanted past r) (fields_at (r ∷ past)) (repetition_at past r) rule → ⊥) → KeepsOwnName bytes r
-own_kept bytes wanted past (records.CellName name) dims rule d wrong = absurd (wrong (record { drawn = λ on. absurd (cc); dimension = λ off e. d.1 tt }))
-own_kept bytes wanted past (records.NumberedCellName name number) dims rule d wrong = absurd
-    (wrong (record { drawn = λ on. absurd (cc); dimension = λ off e. d.1 tt }))
+own_kept bytes wanted past (records.Name kinds.Cell text number) dims rule d wrong =
+    absurd (wrong (record { drawn = λ on. absurd (cc); dimension = λ off e. d.1 tt }))
 own_kept bytes wanted past (records.Cell name) dims rule d wrong = absurd (wrong (record { drawn = λ on. absurd (cc); dimension = λ off e. d.1 tt }))
 own_kept bytes wanted past r dims rule d wrong = tt
 
@@ -363,24 +328,15 @@ path_below (Some points) at brush rep rule less = record {
   dimension = λ e. absurd (omega arith);
 }
 
+kind_below : (head : ShapeHead) (kind : ShapeKind) (all : List OasRecord) (rep : Option Rep) (rule : ℕ) → rule < 1 → KindKeeps head kind all rep rule
+kind_below head (shapes.Polygon points) all rep rule less = polygon_below (polygon_points_of all) (at_of all) rep rule less
+kind_below head (shapes.Path half_width extension start end points) all rep rule less =
+    path_below (path_points_of all) (at_of all) (brush_of all) rep rule less
+kind_below head kind all rep rule less = figure_below (figure_of head kind all) (at_of all) rep rule less
+
 -- there is no rule 0
 drawn_below : (r : OasRecord) (all : List OasRecord) (rep : Option Rep) (rule : ℕ) → rule < 1 → KeepsDrawn r all rep rule
-drawn_below (records.Rectangle info layer datatype width height x y repetition) all rep rule less = figure_below
-    (figure_of (records.Rectangle info layer datatype width height x y repetition) all) (at_of all) rep rule less
-drawn_below (records.Polygon info layer datatype points x y repetition) all rep rule less = polygon_below (polygon_points_of all) (at_of all) rep rule less
-drawn_below (records.Path info layer datatype half_width extension start end points x y repetition) all rep rule less =
-    path_below (path_points_of all) (at_of all) (brush_of all) rep rule less
-drawn_below (records.Trapezoid info layer datatype width height delta_a delta_b x y repetition) all rep rule less =
-    figure_below (figure_of (records.Trapezoid info layer datatype width height delta_a delta_b x y repetition) all)
-    (at_of all) rep rule less
-drawn_below (records.TrapezoidA info layer datatype width height delta_a x y repetition) all rep rule less =
-    figure_below (figure_of (records.TrapezoidA info layer datatype width height delta_a x y repetition) all)
-    (at_of all) rep rule less
-drawn_below (records.TrapezoidB info layer datatype width height delta_b x y repetition) all rep rule less =
-    figure_below (figure_of (records.TrapezoidB info layer datatype width height delta_b x y repetition) all)
-    (at_of all) rep rule less
-drawn_below (records.Ctrapezoid info layer datatype kind width height x y repetition) all rep rule less = figure_below
-    (figure_of (records.Ctrapezoid info layer datatype kind width height x y repetition) all) (at_of all) rep rule less
+drawn_below (records.Shape head kind) all rep rule less = kind_below head kind all rep rule less
 drawn_below r all rep rule less = tt
 
 pub positions_lowest : (bytes : List ℕ) (wanted : List Pair) (past : List OasRecord) (r : OasRecord) → (ArePositionsNear (r ∷ past) → ⊥)
@@ -401,6 +357,8 @@ version_lowest bytes wanted past (records.Start version unit offset_flag tables)
       keeps_all bytes wanted past (records.Start version unit offset_flag tables) other (λ e. near) (λ e. tt) (λ e. tt)
       (λ e. tt) (λ e. tt) (λ e. tt) (λ e. absurd (omega arith)) (λ e. tt) (λ e. tt) (λ e. tt);
 }
+version_lowest bytes wanted past (records.Name kinds.Cell text number) wrong near = absurd (wrong tt)
+version_lowest bytes wanted past (records.Shape head (shapes.Circle radius)) wrong near = absurd (wrong tt)
 version_lowest bytes wanted past r wrong near = absurd (wrong tt)
 
 pub scheme_lowest : (bytes : List ℕ) (wanted : List Pair) (past : List OasRecord) (r : OasRecord) → (KeepsSchemeBy (body_of r) → ⊥)
@@ -411,6 +369,8 @@ scheme_lowest bytes wanted past (records.End tables padding scheme validation) w
       keeps_all bytes wanted past (records.End tables padding scheme validation) other (λ e. near) (λ e. tt) (λ e. tt)
       (λ e. tt) (λ e. tt) (λ e. tt) (λ e. tt) (λ e. absurd (omega arith)) (λ e. tt) (λ e. tt);
 }
+scheme_lowest bytes wanted past (records.Name kinds.Cell text number) wrong near = absurd (wrong tt)
+scheme_lowest bytes wanted past (records.Shape head (shapes.Circle radius)) wrong near = absurd (wrong tt)
 scheme_lowest bytes wanted past r wrong near = absurd (wrong tt)
 
 last_allowed : (written last : Option Rep) → HasDimensionsIn written → HasDimensionsIn last → HasDimensionsIn (or_else (the_written written) last)

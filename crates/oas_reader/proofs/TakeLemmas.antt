@@ -1,15 +1,16 @@
 -- Records by what is kept of them: those that name a cell.
-use Rattle.std.proofs.Common.{◌≡◌, ℕ, Bool, true, false, List, ◌∷◌, Option, Some, None, refl, sym, ap, subst, ◌∙◌, inr}
+use Rattle.std.proofs.Common.{◌≡◌, ℕ, Bool, true, false, List, ◌∷◌, Option, None, refl, sym, ap, subst, ◌∙◌, inr}
 use Rattle.geo_stream.specs.Refusals.{IsForFault}
 use Rattle.geo_stream.specs.declared.refusal.Refusal.{Refusal}
 use Rattle.geo_stream.specs.declared.refusal.Refusal.TheVariants.{Fault, NoMemory}
-use Rattle.layout_model.specs.Names.{IsName}
 use Rattle.oas_record.specs.declared.fields.Called.{Called}
+use Rattle.oas_record.specs.declared.records.NameKind.TheVariants as kinds
 use Rattle.oas_record.specs.declared.records.OasRecord.{OasRecord}
 use Rattle.oas_record.specs.declared.records.OasRecord.TheVariants as records
+use Rattle.oas_record.specs.declared.shapes.ShapeKind.TheVariants as shapes
 use Rattle.oas_fields.specs.Values.{begins_cell}
 use Rattle.oas_reader.specs.Bodies.{body_of}
-use Rattle.oas_reader.specs.Items.{Item, records_in, text_in}
+use Rattle.oas_reader.specs.Items.{Item, records_in}
 use Rattle.oas_reader.specs.Names.{NoClaim, claim_of, conflict_of, first_conflict}
 use Rattle.oas_reader.specs.Naming.{cell_name_record, cell_record, Calls, IsConflict, AreNamesOf}
 use Rattle.oas_reader.specs.Reading.{item}
@@ -64,41 +65,36 @@ silent_by body no_name no_cell no_placement = refl
 -- ---- records
 
 named_back : (r : OasRecord) → is_named (body_of r) ≡ true → record_of (body_of r) ≡ r
-named_back (records.CellName name) h = refl
-named_back (records.NumberedCellName name number) h = refl
-named_back (records.NumberedCell number) h = refl
+named_back (records.Name kinds.Cell text number) h = refl
 named_back (records.Cell name) h = refl
+named_back (records.Shape head (shapes.Circle radius)) h = absurd (cc)
 named_back r h = absurd (cc)
 
 pub name_back : (r : OasRecord) (body : Body) → body ≡ body_of r → is_named body ≡ true → record_of body ≡ r
 name_back r body e named = ap record_of e ∙ named_back r (sym (ap is_named e) ∙ named)
 
 pub cell_begins : (r : OasRecord) → begins_cell r ≡ is_cell (body_of r)
-cell_begins (records.NumberedCell number) = refl
-cell_begins (records.Cell name) = refl
+cell_begins (records.Name kinds.Cell text number) = refl
+cell_begins (records.Shape head (shapes.Circle radius)) = refl
 cell_begins r = refl
 
 pub own_kept : (bytes : List ℕ) (r : OasRecord) → is_named (body_of r) ≡ false → KeepsOwnName bytes r
-own_kept bytes (records.CellName name) h = absurd (cc)
-own_kept bytes (records.NumberedCellName name number) h = absurd (cc)
+own_kept bytes (records.Name kinds.Cell text number) h = absurd (cc)
 own_kept bytes (records.Cell name) h = absurd (cc)
 own_kept bytes r h = tt
 
 pub silent_others : (bytes : List ℕ) (past : List OasRecord) (r : OasRecord) → is_silent (body_of r) ≡ true → NamesNothing bytes past r
-silent_others bytes past (records.CellName name) h = absurd (cc)
-silent_others bytes past (records.NumberedCellName name number) h = absurd (cc)
-silent_others bytes past (records.NumberedCell number) h = absurd (cc)
+silent_others bytes past (records.Name kinds.Cell text number) h = absurd (cc)
 silent_others bytes past (records.Cell name) h = absurd (cc)
-silent_others bytes past (records.Placement info cell x y repetition) h = absurd (cc)
-silent_others bytes past (records.TurnedPlacement info cell magnification angle x y repetition) h = absurd (cc)
+silent_others bytes past (records.Placement info cell turn x y repetition) h = absurd (cc)
 silent_others bytes past r h = record { claims = refl; gives = refl; counts = refl; writes = λ test. refl }
 
 placement_calls : (bytes : List ℕ) (past : List OasRecord) (r : OasRecord) → is_placement (body_of r) ≡ true
     → Calls bytes past r (called_in (body_of r))
-placement_calls bytes past (records.Placement info cell x y repetition) h =
+placement_calls bytes past (records.Name kinds.Cell text number) h = absurd (cc)
+placement_calls bytes past (records.Placement info cell turn x y repetition) h =
     record { written = refl; claims = refl; gives = refl; counts = refl }
-placement_calls bytes past (records.TurnedPlacement info cell magnification angle x y repetition) h =
-    record { written = refl; claims = refl; gives = refl; counts = refl }
+placement_calls bytes past (records.Shape head (shapes.Circle radius)) h = absurd (cc)
 placement_calls bytes past r h = absurd (cc)
 
 pub calls_by : (bytes : List ℕ) (past : List OasRecord) (r : OasRecord) (called : Option Called) (flips : Bool) (turning : Turning)
@@ -111,10 +107,6 @@ pub no_conflict : (bytes : List ℕ) (past : List Item) (r : OasRecord) → clai
 no_conflict bytes past r none = ap (λ claim. first_conflict bytes claim past) none ∙ none_conflicts bytes past
 
 -- ---- names of their own
-
-pub own_name : (bytes : List ℕ) (name : ℕ × ℕ) (number : Option ℕ) → IsName (text_in bytes name) → KeepsOwnName bytes (cell_name_record name number)
-own_name bytes name None is = is
-own_name bytes name (Some number) is = is
 
 pub bad_name : (bytes : List ℕ) (past : List Item) (at : ℕ) (r : OasRecord) (refusal : Refusal OasBad) → KeepsOwnName bytes r
     → IsForFault (IsConflict bytes past r at) refusal → IsForFault (IsBadName bytes past at r) refusal

@@ -1,5 +1,5 @@
 -- What a record draws or places, by what the program keeps of it.
-use Rattle.std.specs.Prelude.{◌≡◌, ◌+◌, ℕ, ℤ, Bool, true, false, nat_eq, List, Option, Some, None}
+use Rattle.std.specs.Prelude.{◌≡◌, ◌+◌, ℕ, Bool, true, false, nat_eq, List, Option, Some, None}
 use Rattle.geo_stream.specs.declared.refusal.Refusal.{Refusal}
 use Rattle.geo_stream.specs.declared.refusal.Refusal.TheVariants.{Fault, NoMemory}
 use Rattle.half_grid.specs.declared.plane.Point.{Point}
@@ -18,7 +18,7 @@ use Rattle.oas_shapes.specs.declared.drawing.Undrawn.TheVariants as undrawns
 use Rattle.oas_shapes.specs.declared.figures.Brush.{Brush}
 use Rattle.oas_shapes.specs.declared.figures.Figure.{Figure}
 use Rattle.oas_shapes.specs.declared.figures.Figure.TheVariants as figures
-use Rattle.oas_reader.specs.Meaning.{or_none, point_at, figure_shapes, polygon_shapes, path_shapes}
+use Rattle.oas_reader.specs.Meaning.{or_none, point_at, trapezoid, figure_shapes, polygon_shapes, path_shapes}
 use Rattle.oas_reader.specs.Rules.{FigureKeeps, PolygonKeeps, PathKeeps}
 use Rattle.oas_reader.specs.declared.bodies.Body.{Body}
 use Rattle.oas_reader.specs.declared.bodies.Body.TheVariants as bodies
@@ -47,14 +47,10 @@ repetition_kept false last = None
 
 -- ---- shapes
 
-abbrev pub trapezoid_in : Bool → ℕ → ℕ → ℤ → ℤ → Figure
-trapezoid_in true width height a b = figures.Vertical width height a b
-trapezoid_in false width height a b = figures.Horizontal width height a b
-
 abbrev pub figure_in : Body → Fields → Option Figure
 figure_in bodies.Rectangle fields = Some (figures.Rectangle (or_none fields.width) (or_none fields.height))
 figure_in (bodies.Trapezoid is_upright a b) fields =
-    Some (trapezoid_in is_upright (or_none fields.width) (or_none fields.height) a b)
+    Some (trapezoid is_upright (or_none fields.width) (or_none fields.height) a b)
 figure_in bodies.Ctrapezoid fields =
     Some (figures.Ctrapezoid (or_none fields.kind) (or_none fields.width) (or_none fields.height))
 figure_in _ fields = None

@@ -1,7 +1,7 @@
 -- Records that stand one after the other. In these definitions the records before one, its past, stand with the last one
 -- first.
 use Rattle.std.specs.Prelude.{◌≡◌, ◌+◌, ℕ, nat_eq, Bool, true, false, if◌then◌else◌, List, [], ◌∷◌, ◌++◌, map, slice_range}
-use Rattle.oas_record.specs.Records.{HasRecord, id_of}
+use Rattle.oas_record.specs.Records.{HasRecord}
 use Rattle.oas_record.specs.declared.records.OasRecord.{OasRecord}
 use Rattle.oas_record.specs.declared.records.OasRecord.TheVariants as records
 
@@ -33,7 +33,8 @@ IsRun bytes (item ∷ past) at =
     HasRecord bytes item.at (tables_at_end (records_in past)) item.r at × IsRun bytes past item.at
 
 abbrev pub is_end : OasRecord → Bool
-is_end r = nat_eq (id_of r) 2
+is_end (records.End tables padding scheme validation) = true
+is_end _ = false
 
 -- none of them is END
 abbrev pub NoneEnds : List Item → Type 0

@@ -2,7 +2,7 @@
 --
 -- Each CELL record gives a cell, with the shapes on wanted pairs and the placements up to the next CELL record. Lengths
 -- of a layout are half units, those of a file whole grid steps.
-use Rattle.std.specs.Prelude.{◌/◌, ◌%◌, ◌&&◌, ℕ, ℤ, pos, nat_eq, nat_le, Bool, true, not, if◌then◌else◌, List, [], ◌∷◌, ◌++◌, Option, Some, None, map, ◌||◌}
+use Rattle.std.specs.Prelude.{◌/◌, ◌%◌, ◌&&◌, ℕ, ℤ, pos, nat_eq, nat_le, Bool, true, false, not, if◌then◌else◌, List, [], ◌∷◌, ◌++◌, Option, Some, None, map}
 use Rattle.std.specs.List.{list_any}
 use Rattle.half_grid.specs.declared.plane.Point.{Point}
 use Rattle.layout_model.specs.Pairs.{same_pair}
@@ -13,13 +13,18 @@ use Rattle.layout_model.specs.declared.cells.Cell.{Cell}
 use Rattle.layout_model.specs.declared.cells.Counts.{Counts}
 use Rattle.layout_model.specs.declared.cells.Layout.{Layout}
 use Rattle.layout_model.specs.declared.pair.Pair.{Pair}
-use Rattle.oas_record.specs.Records.{id_of}
 use Rattle.oas_record.specs.Taken.{repetition_in}
 use Rattle.oas_record.specs.declared.fields.Called.{Called}
 use Rattle.oas_record.specs.declared.fields.Deltas.{Deltas}
 use Rattle.oas_record.specs.declared.records.OasRecord.{OasRecord}
 use Rattle.oas_record.specs.declared.records.OasRecord.TheVariants as records
+use Rattle.oas_record.specs.declared.records.Turn.{Turn}
 use Rattle.oas_record.specs.declared.repetition.Rep.{Rep}
+use Rattle.oas_record.specs.declared.shapes.ShapeHead.{ShapeHead}
+use Rattle.oas_record.specs.declared.shapes.ShapeKind.{ShapeKind}
+use Rattle.oas_record.specs.declared.shapes.ShapeKind.TheVariants as shapes
+use Rattle.oas_record.specs.declared.shapes.TrapezoidDeltas.{TrapezoidDeltas}
+use Rattle.oas_record.specs.declared.shapes.TrapezoidDeltas.TheVariants as deltas
 use Rattle.oas_shapes.specs.Outlines.{figure_outline, polygon_outline, path_shapes_of, outline_shape}
 use Rattle.oas_shapes.specs.Plane.{doubled}
 use Rattle.oas_shapes.specs.Repetitions.{offsets_in}
@@ -67,10 +72,21 @@ is_wanted wanted all = list_any (same_pair (pair_of all)) wanted
 
 -- ---- shapes
 
--- bit 7 of a TRAPEZOID is set where its parallel sides are upright
-abbrev pub trapezoid : ℕ → ℕ → ℕ → ℤ → ℤ → Figure
-trapezoid info width height a b =
-    if nat_le 128 info then figures.Vertical width height a b else figures.Horizontal width height a b
+-- a delta that isn't written is 0
+abbrev pub delta_a : TrapezoidDeltas → ℤ
+delta_a (deltas.Both a b) = a
+delta_a (deltas.A a) = a
+delta_a (deltas.B b) = pos 0
+
+abbrev pub delta_b : TrapezoidDeltas → ℤ
+delta_b (deltas.Both a b) = b
+delta_b (deltas.A a) = pos 0
+delta_b (deltas.B b) = b
+
+-- a TRAPEZOID whose parallel sides are upright, or aren't
+abbrev pub trapezoid : Bool → ℕ → ℕ → ℤ → ℤ → Figure
+trapezoid true width height a b = figures.Vertical width height a b
+trapezoid false width height a b = figures.Horizontal width height a b
 
 abbrev pub box_width : List OasRecord → ℕ
 box_width all = or_none (width_of all)
@@ -78,19 +94,14 @@ box_width all = or_none (width_of all)
 abbrev pub box_height : List OasRecord → ℕ
 box_height all = or_none (height_of all)
 
--- the rectangle or the trapezoid of the first of these records, the last of the file
-abbrev pub figure_of : OasRecord → List OasRecord → Option Figure
-figure_of (records.Rectangle info layer datatype width height x y repetition) all =
-    Some (figures.Rectangle (box_width all) (box_height all))
-figure_of (records.Trapezoid info layer datatype width height delta_a delta_b x y repetition) all =
-    Some (trapezoid info (box_width all) (box_height all) delta_a delta_b)
-figure_of (records.TrapezoidA info layer datatype width height delta_a x y repetition) all =
-    Some (trapezoid info (box_width all) (box_height all) delta_a (pos 0))
-figure_of (records.TrapezoidB info layer datatype width height delta_b x y repetition) all =
-    Some (trapezoid info (box_width all) (box_height all) (pos 0) delta_b)
-figure_of (records.Ctrapezoid info layer datatype kind width height x y repetition) all =
+-- the rectangle or the trapezoid of a shape, the last record of the file; bit 7 of a TRAPEZOID is set where its sides are upright
+abbrev pub figure_of : ShapeHead → ShapeKind → List OasRecord → Option Figure
+figure_of head (shapes.Rectangle width height) all = Some (figures.Rectangle (box_width all) (box_height all))
+figure_of head (shapes.Trapezoid width height deltas) all =
+    Some (trapezoid (nat_le 128 head.info) (box_width all) (box_height all) (delta_a deltas) (delta_b deltas))
+figure_of head (shapes.Ctrapezoid trapezoid_type width height) all =
     Some (figures.Ctrapezoid (or_none (kind_of all)) (box_width all) (box_height all))
-figure_of _ all = None
+figure_of head _ all = None
 
 abbrev pub brush_of : List OasRecord → Brush
 brush_of all = record {
@@ -111,13 +122,16 @@ abbrev pub path_shapes : Option Deltas → Pair → Point → Brush → List Poi
 path_shapes None pair at brush offsets = []
 path_shapes (Some deltas) pair at brush offsets = path_shapes_of pair at brush deltas offsets
 
+abbrev pub kind_drawn : ShapeHead → ShapeKind → List OasRecord → List Point → List Shape
+kind_drawn head (shapes.Polygon points) all offsets = polygon_shapes (polygon_points_of all) (pair_of all) (at_of all) offsets
+kind_drawn head (shapes.Path half_width extension start end points) all offsets =
+    path_shapes (path_points_of all) (pair_of all) (at_of all) (brush_of all) offsets
+kind_drawn head kind all offsets = figure_shapes (figure_of head kind all) (pair_of all) (at_of all) offsets
+
 -- the shapes of a record whose pair is wanted
 abbrev pub shapes_drawn : OasRecord → List OasRecord → List Point → List Shape
-shapes_drawn (records.Polygon info layer datatype points x y repetition) all offsets =
-    polygon_shapes (polygon_points_of all) (pair_of all) (at_of all) offsets
-shapes_drawn (records.Path info layer datatype half_width extension start end points x y repetition) all offsets =
-    path_shapes (path_points_of all) (pair_of all) (at_of all) (brush_of all) offsets
-shapes_drawn r all offsets = figure_shapes (figure_of r all) (pair_of all) (at_of all) offsets
+shapes_drawn (records.Shape head kind) all offsets = kind_drawn head kind all offsets
+shapes_drawn _ all offsets = []
 
 abbrev pub shapes_at : List Pair → List OasRecord → OasRecord → List Shape
 shapes_at wanted past r =
@@ -125,9 +139,10 @@ shapes_at wanted past r =
 
 -- ---- placements
 
--- PLACEMENT 17: bit 0 flips, bits 1 and 2 count quarter turns
-abbrev pub plain_orient : ℕ → Orient
-plain_orient info = record { flip = nat_eq (info % 2) 1; turns = info / 2 % 4; mag = 1 }
+-- bit 0 of a PLACEMENT flips; bits 1 and 2 count quarter turns where it has no angle
+abbrev pub orient_by : ℕ → Option Turn → Orient
+orient_by info None = record { flip = nat_eq (info % 2) 1; turns = info / 2 % 4; mag = 1 }
+orient_by info (Some turn) = record { flip = nat_eq (info % 2) 1; turns = turns_of turn.angle; mag = factor_of turn.magnification }
 
 -- where a placement stands, in half units, and what it calls the placed cell
 pub record Placing : Type 0 where
@@ -145,11 +160,8 @@ placing orient past r = record {
 } ∷ []
 
 abbrev pub placings_at : List OasRecord → OasRecord → List Placing
-placings_at past (records.Placement info cell x y repetition) =
-    placing (plain_orient info) past (records.Placement info cell x y repetition)
-placings_at past (records.TurnedPlacement info cell magnification angle x y repetition) =
-    placing (record { flip = nat_eq (info % 2) 1; turns = turns_of angle; mag = factor_of magnification }) past
-    (records.TurnedPlacement info cell magnification angle x y repetition)
+placings_at past (records.Placement info cell turn x y repetition) =
+    placing (orient_by info turn) past (records.Placement info cell turn x y repetition)
 placings_at past _ = []
 
 -- a name that is there
@@ -199,11 +211,15 @@ cells_at bytes all wanted past r = if ends_cell r then cells_called bytes all wa
 
 -- RECTANGLE to CTRAPEZOID
 abbrev pub is_drawn : OasRecord → Bool
-is_drawn r = nat_le 20 (id_of r) && nat_le (id_of r) 26
+is_drawn (records.Shape head (shapes.Circle radius)) = false
+is_drawn (records.Shape head (shapes.XGeometry attribute text)) = false
+is_drawn (records.Shape head kind) = true
+is_drawn _ = false
 
 -- those, CIRCLE and XGEOMETRY
 abbrev pub has_pair : OasRecord → Bool
-has_pair r = if nat_eq (id_of r) 33 then true else nat_le 20 (id_of r) && nat_le (id_of r) 27
+has_pair (records.Shape head kind) = true
+has_pair _ = false
 
 abbrev pub is_kept : List Pair → List OasRecord → OasRecord → Bool
 is_kept wanted past r = is_drawn r && is_wanted wanted (r ∷ past)
@@ -212,10 +228,13 @@ abbrev pub is_other : List Pair → List OasRecord → OasRecord → Bool
 is_other wanted past r = has_pair r && not (is_wanted wanted (r ∷ past))
 
 abbrev pub is_text : OasRecord → Bool
-is_text r = nat_eq (id_of r) 19
+is_text (records.Text info text textlayer texttype x y repetition) = true
+is_text _ = false
 
 abbrev pub is_property : OasRecord → Bool
-is_property r = nat_eq (id_of r) 28 || nat_eq (id_of r) 29
+is_property (records.Property info name count values) = true
+is_property records.LastProperty = true
+is_property _ = false
 
 abbrev pub counts_of : List Pair → List OasRecord → Counts
 counts_of wanted all = record {

@@ -7,6 +7,7 @@ use Rattle.std.specs.Prelude.{ℕ, nat_eq, Bool, true, false, not, ◌||◌, if�
 use Rattle.std.specs.Cmp.Lexicographic.{pointwise}
 use Rattle.oas_record.specs.declared.fields.Called.{Called}
 use Rattle.oas_record.specs.declared.fields.Called.TheVariants.{Number, Text}
+use Rattle.oas_record.specs.declared.records.NameKind.TheVariants as kinds
 use Rattle.oas_record.specs.declared.records.OasRecord.{OasRecord}
 use Rattle.oas_record.specs.declared.records.OasRecord.TheVariants as records
 use Rattle.oas_fields.specs.Values.{or_else}
@@ -17,32 +18,30 @@ same_name a b = pointwise nat_eq a b
 
 -- ---- what a record gives
 
+-- a CELLNAME that doesn't write its number
 abbrev pub is_unnumbered : OasRecord → Bool
-is_unnumbered (records.CellName name) = true
+is_unnumbered (records.Name kinds.Cell text None) = true
 is_unnumbered _ = false
 
 -- the number that a CELLNAME gives its name
 abbrev pub number_given : List OasRecord → OasRecord → Option ℕ
-number_given past (records.CellName name) = Some (count_in (λ _ r. is_unnumbered r) past)
-number_given past (records.NumberedCellName name number) = Some number
+number_given past (records.Name kinds.Cell text None) = Some (count_in (λ _ r. is_unnumbered r) past)
+number_given past (records.Name kinds.Cell text (Some number)) = Some number
 number_given past _ = None
 
 -- the name that it gives
 abbrev pub name_given : List ℕ → OasRecord → List ℕ
-name_given bytes (records.CellName name) = text_in bytes name
-name_given bytes (records.NumberedCellName name number) = text_in bytes name
+name_given bytes (records.Name kinds.Cell text number) = text_in bytes text
 name_given bytes _ = []
 
 -- what a CELL record calls its cell
 abbrev pub cell_called : OasRecord → Option Called
-cell_called (records.NumberedCell number) = Some (Number number)
-cell_called (records.Cell (first, next)) = Some (Text first next)
+cell_called (records.Cell name) = Some name
 cell_called _ = None
 
 -- what a PLACEMENT calls the placed cell, where it writes it
 abbrev pub target_called : OasRecord → Option Called
-target_called (records.Placement info cell x y repetition) = cell
-target_called (records.TurnedPlacement info cell magnification angle x y repetition) = cell
+target_called (records.Placement info cell turn x y repetition) = cell
 target_called _ = None
 
 -- ---- conflicts while the records are read
@@ -54,9 +53,9 @@ pub data Claim : Type 0 where
   OfName : List ℕ → Claim
 
 abbrev pub claim_of : List ℕ → List OasRecord → OasRecord → Claim
-claim_of bytes past (records.CellName name) = OfNumber false (count_in (λ _ r. is_unnumbered r) past)
-claim_of bytes past (records.NumberedCellName name number) = OfNumber true number
-claim_of bytes past (records.Cell name) = OfName (text_in bytes name)
+claim_of bytes past (records.Name kinds.Cell text None) = OfNumber false (count_in (λ _ r. is_unnumbered r) past)
+claim_of bytes past (records.Name kinds.Cell text (Some number)) = OfNumber true number
+claim_of bytes past (records.Cell (Text first next)) = OfName (text_in bytes (first, next))
 claim_of bytes past _ = NoClaim
 
 abbrev pub same_bool : Bool → Bool → Bool

@@ -4,6 +4,7 @@ use Rattle.indexmap.specs.IndexMap.{get, get_by}
 use Rattle.layout_model.specs.Names.{IsName}
 use Rattle.oas_record.specs.declared.fields.Called.{Called}
 use Rattle.oas_record.specs.declared.fields.Called.TheVariants.{Number, Text}
+use Rattle.oas_record.specs.declared.records.NameKind.TheVariants as kinds
 use Rattle.oas_record.specs.declared.records.OasRecord.{OasRecord}
 use Rattle.oas_record.specs.declared.records.OasRecord.TheVariants as records
 use Rattle.oas_fields.specs.Values.{or_else}
@@ -39,12 +40,10 @@ IsNoName name at bad = (IsName name → ⊥) × (bad ≡ faults.Value at 2)
 -- ---- records of names
 
 abbrev pub cell_name_record : ℕ × ℕ → Option ℕ → OasRecord
-cell_name_record name None = records.CellName name
-cell_name_record name (Some number) = records.NumberedCellName name number
+cell_name_record name number = records.Name kinds.Cell name number
 
 abbrev pub cell_record : Called → OasRecord
-cell_record (Number number) = records.NumberedCell number
-cell_record (Text first next) = records.Cell (first, next)
+cell_record called = records.Cell called
 
 -- the record conflicts with an earlier one
 abbrev pub IsConflict : List ℕ → List Item → OasRecord → ℕ → OasBad → Type 0

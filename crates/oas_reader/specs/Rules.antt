@@ -14,9 +14,14 @@ use Rattle.oas_record.specs.Taken.{repetition_in}
 use Rattle.oas_record.specs.declared.fields.Called.{Called}
 use Rattle.oas_record.specs.declared.fields.Called.TheVariants.{Number, Text}
 use Rattle.oas_record.specs.declared.fields.Deltas.{Deltas}
+use Rattle.oas_record.specs.declared.records.NameKind.TheVariants as kinds
 use Rattle.oas_record.specs.declared.records.OasRecord.{OasRecord}
 use Rattle.oas_record.specs.declared.records.OasRecord.TheVariants as records
+use Rattle.oas_record.specs.declared.records.Turn.{Turn}
 use Rattle.oas_record.specs.declared.repetition.Rep.{Rep}
+use Rattle.oas_record.specs.declared.shapes.ShapeHead.{ShapeHead}
+use Rattle.oas_record.specs.declared.shapes.ShapeKind.{ShapeKind}
+use Rattle.oas_record.specs.declared.shapes.ShapeKind.TheVariants as shapes
 use Rattle.oas_shapes.specs.Repetitions.{HasDimensionsIn, offsets_in}
 use Rattle.oas_shapes.specs.Rules.{AreNear, KeepsFigure, KeepsPolygon, KeepsPath, IsLowest}
 use Rattle.oas_shapes.specs.declared.figures.Brush.{Brush}
@@ -42,25 +47,31 @@ IsNamed bytes (Some (Text first next)) = IsName (text_in bytes (first, next))
 
 -- what is written of a cell's name
 abbrev pub KeepsName : List ℕ → OasRecord → Type 0
-KeepsName bytes (records.CellName name) = IsName (text_in bytes name)
-KeepsName bytes (records.NumberedCellName name number) = IsName (text_in bytes name)
-KeepsName bytes (records.Cell name) = IsName (text_in bytes name)
-KeepsName bytes (records.Placement info cell x y repetition) = IsNamed bytes cell
-KeepsName bytes (records.TurnedPlacement info cell magnification angle x y repetition) = IsNamed bytes cell
+KeepsName bytes (records.Name kinds.Cell text number) = IsName (text_in bytes text)
+KeepsName bytes (records.Cell name) = IsNamed bytes (Some name)
+KeepsName bytes (records.Placement info cell turn x y repetition) = IsNamed bytes cell
 KeepsName bytes _ = Unit {0}
 
+abbrev pub TurnKeepsMagnification : Option Turn → Type 0
+TurnKeepsMagnification None = Unit {0}
+TurnKeepsMagnification (Some turn) = IsFactor turn.magnification
+
 abbrev pub KeepsMagnification : OasRecord → Type 0
-KeepsMagnification (records.TurnedPlacement info cell magnification angle x y repetition) = IsFactor magnification
+KeepsMagnification (records.Placement info cell turn x y repetition) = TurnKeepsMagnification turn
 KeepsMagnification _ = Unit {0}
 
+abbrev pub TurnKeepsAngle : Option Turn → Type 0
+TurnKeepsAngle None = Unit {0}
+TurnKeepsAngle (Some turn) = IsQuarterAngle turn.angle
+
 abbrev pub KeepsAngle : OasRecord → Type 0
-KeepsAngle (records.TurnedPlacement info cell magnification angle x y repetition) = IsQuarterAngle angle
+KeepsAngle (records.Placement info cell turn x y repetition) = TurnKeepsAngle turn
 KeepsAngle _ = Unit {0}
 
 -- CIRCLE and XGEOMETRY
 abbrev pub KeepsToOthers : Bool → OasRecord → Type 0
-KeepsToOthers is_wanted (records.Circle info layer datatype radius x y repetition) = IsTrue is_wanted → ⊥
-KeepsToOthers is_wanted (records.XGeometry info attribute layer datatype text x y repetition) = IsTrue is_wanted → ⊥
+KeepsToOthers is_wanted (records.Shape head (shapes.Circle radius)) = IsTrue is_wanted → ⊥
+KeepsToOthers is_wanted (records.Shape head (shapes.XGeometry attribute text)) = IsTrue is_wanted → ⊥
 KeepsToOthers is_wanted _ = Unit {0}
 
 -- 1.0
@@ -78,10 +89,8 @@ KeepsScheme _ = Unit {0}
 -- ---- what a record places or draws
 
 abbrev pub KeepsOffsets : List OasRecord → OasRecord → Type 0
-KeepsOffsets past (records.Placement info cell x y repetition) =
-    AreNear (offsets_in (repetition_at past (records.Placement info cell x y repetition)))
-KeepsOffsets past (records.TurnedPlacement info cell magnification angle x y repetition) =
-    AreNear (offsets_in (repetition_at past (records.TurnedPlacement info cell magnification angle x y repetition)))
+KeepsOffsets past (records.Placement info cell turn x y repetition) =
+    AreNear (offsets_in (repetition_at past (records.Placement info cell turn x y repetition)))
 KeepsOffsets past _ = Unit {0}
 
 abbrev pub FigureKeeps : Option Figure → Point → Option Rep → ℕ → Type 0
@@ -96,13 +105,16 @@ abbrev pub PathKeeps : Option Deltas → Point → Brush → Option Rep → ℕ 
 PathKeeps None at brush rep rule = Unit {0}
 PathKeeps (Some deltas) at brush rep rule = KeepsPath at brush deltas rep rule
 
+abbrev pub KindKeeps : ShapeHead → ShapeKind → List OasRecord → Option Rep → ℕ → Type 0
+KindKeeps head (shapes.Polygon points) all rep rule = PolygonKeeps (polygon_points_of all) (at_of all) rep rule
+KindKeeps head (shapes.Path half_width extension start end points) all rep rule =
+    PathKeeps (path_points_of all) (at_of all) (brush_of all) rep rule
+KindKeeps head kind all rep rule = FigureKeeps (figure_of head kind all) (at_of all) rep rule
+
 -- a shape on a wanted pair keeps rules 1, 6, 8 and 11
 abbrev pub KeepsDrawn : OasRecord → List OasRecord → Option Rep → ℕ → Type 0
-KeepsDrawn (records.Polygon info layer datatype points x y repetition) all rep rule =
-    PolygonKeeps (polygon_points_of all) (at_of all) rep rule
-KeepsDrawn (records.Path info layer datatype half_width extension start end points x y repetition) all rep rule =
-    PathKeeps (path_points_of all) (at_of all) (brush_of all) rep rule
-KeepsDrawn r all rep rule = FigureKeeps (figure_of r all) (at_of all) rep rule
+KeepsDrawn (records.Shape head kind) all rep rule = KindKeeps head kind all rep rule
+KeepsDrawn _ all rep rule = Unit {0}
 
 -- ---- all of them
 

@@ -3,6 +3,7 @@ use Rattle.std.specs.Prelude.{◌≡◌, ◌⊎◌, ◌↔◌, ℕ, IsTrue, Bool
 use Rattle.layout_model.specs.Names.{IsName}
 use Rattle.layout_model.specs.declared.pair.Pair.{Pair}
 use Rattle.oas_record.specs.Taken.{repetition_in}
+use Rattle.oas_record.specs.declared.records.NameKind.TheVariants as kinds
 use Rattle.oas_record.specs.declared.records.OasRecord.{OasRecord}
 use Rattle.oas_record.specs.declared.records.OasRecord.TheVariants as records
 use Rattle.oas_shapes.specs.Repetitions.{HasDimensionsIn}
@@ -15,7 +16,7 @@ use Rattle.oas_reader.specs.Meaning.{is_wanted, has_pair}
 use Rattle.oas_reader.specs.Names.{conflict_of}
 use Rattle.oas_reader.specs.Naming.{IsSpan, IsCalledWithin, AreCalledWithin}
 use Rattle.oas_reader.specs.Placed.{IsTurning}
-use Rattle.oas_reader.specs.Rules.{Keeps, IsLowestBroken}
+use Rattle.oas_reader.specs.Rules.{IsNamed, Keeps, IsLowestBroken}
 use Rattle.oas_reader.specs.Undefined.{is_there, undefined_of}
 use Rattle.layout_model.specs.Pairs.{AreSamePairs}
 use Rattle.oas_reader.specs.declared.bodies.Body.{Body}
@@ -53,9 +54,8 @@ wanting_of wanted past r = if has_pair r then Some (is_wanted wanted (r ∷ past
 
 -- the name that a CELLNAME or CELL record writes is one
 abbrev pub KeepsOwnName : List ℕ → OasRecord → Type 0
-KeepsOwnName bytes (records.CellName name) = IsName (text_in bytes name)
-KeepsOwnName bytes (records.NumberedCellName name number) = IsName (text_in bytes name)
-KeepsOwnName bytes (records.Cell name) = IsName (text_in bytes name)
+KeepsOwnName bytes (records.Name kinds.Cell text number) = IsName (text_in bytes text)
+KeepsOwnName bytes (records.Cell name) = IsNamed bytes (Some name)
 KeepsOwnName bytes _ = Unit {0}
 
 -- all values that it needs are there, and it keeps all rules but that of its own name

@@ -3,6 +3,8 @@ use Rattle.std.specs.Prelude.{ℕ, Bool, true, false, if◌then◌else◌, List,
 use Rattle.oas_record.specs.declared.records.OasRecord.{OasRecord}
 use Rattle.oas_record.specs.declared.records.OasRecord.TheVariants as records
 use Rattle.oas_record.specs.declared.repetition.Rep.{Rep}
+use Rattle.oas_record.specs.declared.shapes.ShapeKind.{ShapeKind}
+use Rattle.oas_record.specs.declared.shapes.ShapeKind.TheVariants as shapes
 use Rattle.oas_shapes.specs.Figures.{uses_width, uses_height}
 use Rattle.oas_fields.specs.Values.{layer_of, datatype_of, width_of, height_of, polygon_points_of, half_width_of}
 use Rattle.oas_fields.specs.Values.{start_of, end_of, path_points_of, kind_of, cell_of, repetition_of}
@@ -45,32 +47,21 @@ abbrev pub dimensions : Option ℕ → List Variable
 dimensions None = []
 dimensions (Some kind) = needed_if (uses_width kind) GeometryW ++ needed_if (uses_height kind) GeometryH
 
-abbrev pub pair_and : List Variable → List Variable
-pair_and variables = Layer ∷ Datatype ∷ variables
+-- what a shape needs after its pair, where a CTRAPEZOID has this type
+abbrev pub shape_needs : ShapeKind → Option ℕ → List Variable
+shape_needs (shapes.Rectangle width height) kind = GeometryW ∷ GeometryH ∷ []
+shape_needs (shapes.Polygon points) kind = PolygonPoints ∷ []
+shape_needs (shapes.Path half_width extension start end points) kind = PathHalfWidth ∷ PathStart ∷ PathEnd ∷ PathPoints ∷ []
+shape_needs (shapes.Trapezoid width height deltas) kind = GeometryW ∷ GeometryH ∷ []
+shape_needs (shapes.Ctrapezoid trapezoid_type width height) kind = CtrapezoidType ∷ dimensions kind
+shape_needs _ kind = []
 
 -- the variables whose values a record needs, after its past, in the order of its row
 abbrev pub needs_of : List OasRecord → OasRecord → List Variable
-needs_of past (records.Placement info cell x y repetition) = PlacementCell ∷ repeated repetition
-needs_of past (records.TurnedPlacement info cell magnification angle x y repetition) = PlacementCell ∷ repeated repetition
+needs_of past (records.Placement info cell turn x y repetition) = PlacementCell ∷ repeated repetition
 needs_of past (records.Text info text textlayer texttype x y repetition) = repeated repetition
-needs_of past (records.Rectangle info layer datatype width height x y repetition) =
-    pair_and (GeometryW ∷ GeometryH ∷ repeated repetition)
-needs_of past (records.Polygon info layer datatype points x y repetition) = pair_and (PolygonPoints ∷ repeated repetition)
-needs_of past (records.Path info layer datatype half_width extension start end points x y repetition) =
-    pair_and (PathHalfWidth ∷ PathStart ∷ PathEnd ∷ PathPoints ∷ repeated repetition)
-needs_of past (records.Trapezoid info layer datatype width height delta_a delta_b x y repetition) =
-    pair_and (GeometryW ∷ GeometryH ∷ repeated repetition)
-needs_of past (records.TrapezoidA info layer datatype width height delta_a x y repetition) =
-    pair_and (GeometryW ∷ GeometryH ∷ repeated repetition)
-needs_of past (records.TrapezoidB info layer datatype width height delta_b x y repetition) =
-    pair_and (GeometryW ∷ GeometryH ∷ repeated repetition)
-needs_of past (records.Ctrapezoid info layer datatype kind width height x y repetition) =
-    pair_and (
-    CtrapezoidType ∷ (
-    dimensions (kind_of (records.Ctrapezoid info layer datatype kind width height x y repetition ∷ past))
-    ++ repeated repetition))
-needs_of past (records.Circle info layer datatype radius x y repetition) = pair_and (repeated repetition)
-needs_of past (records.XGeometry info attribute layer datatype text x y repetition) = pair_and (repeated repetition)
+needs_of past (records.Shape head kind) =
+    Layer ∷ Datatype ∷ (shape_needs kind (kind_of (records.Shape head kind ∷ past)) ++ repeated head.repetition)
 needs_of past _ = []
 
 -- the first of these that has no value after these records

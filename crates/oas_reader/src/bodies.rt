@@ -1,9 +1,10 @@
 //! What of a record is looked at beside its modal fields.
 ghost use Rattle.std.specs.Prelude.{◌≡◌};
-ghost use Rattle.oas_reader.specs.Bodies.{body_of, trapezoid_body, placement_body};
+ghost use Rattle.oas_reader.specs.Bodies.{body_of, name_body, shape_body, turning_by};
+ghost use Rattle.oas_reader.specs.Meaning.{delta_a, delta_b};
 
 use oas_lex::Real;
-use oas_record::{Called, OasRecord};
+use oas_record::{Called, NameKind, OasRecord, ShapeKind, TrapezoidDeltas, Turn};
 
 /// How a placement turns and enlarges the placed cell.
 #[derive(Clone, Copy)]
@@ -56,23 +57,62 @@ pub(crate) enum Body {
     Other,
 }
 
-fn trapezoid(info: u8, delta_a: i64, delta_b: i64) -> Body
-    ensures { result ≡ trapezoid_body info delta_a delta_b }
+fn turning_by(info: u8, turn: Option<Turn>) -> Turning
+    ensures { result ≡ turning_by info turn }
 {
-    Body::Trapezoid {
-        is_upright: info >= 128,
-        delta_a,
-        delta_b,
+    match turn {
+        None => Turning::Quarters(info / 2 % 4),
+        Some(turn) => Turning::Reals {
+            magnification: turn.magnification,
+            angle: turn.angle,
+        },
     }
 }
 
-fn placement(info: u8, called: Option<Called>, turning: Turning) -> Body
-    ensures { result ≡ placement_body info called turning }
+fn name_body(kind: NameKind, text: (usize, usize), number: Option<u64>) -> Body
+    ensures { result ≡ name_body kind text number }
 {
-    Body::Placement {
-        called,
-        flips: info % 2 == 1,
-        turning,
+    match kind {
+        NameKind::Cell => Body::CellName { name: text, number },
+        _ => Body::Other,
+    }
+}
+
+fn delta_a(deltas: TrapezoidDeltas) -> i64
+    ensures { result ≡ delta_a deltas }
+{
+    match deltas {
+        TrapezoidDeltas::Both(a, _) => a,
+        TrapezoidDeltas::A(a) => a,
+        TrapezoidDeltas::B(_) => 0,
+    }
+}
+
+fn delta_b(deltas: TrapezoidDeltas) -> i64
+    ensures { result ≡ delta_b deltas }
+{
+    match deltas {
+        TrapezoidDeltas::Both(_, b) => b,
+        TrapezoidDeltas::A(_) => 0,
+        TrapezoidDeltas::B(b) => b,
+    }
+}
+
+fn shape_body(info: u8, kind: &ShapeKind) -> Body
+    ensures { result ≡ shape_body info kind.now }
+{
+    match kind {
+        ShapeKind::Rectangle { .. } => Body::Rectangle,
+        ShapeKind::Polygon { .. } => Body::Polygon,
+        ShapeKind::Path { .. } => Body::Path,
+        ShapeKind::Trapezoid { deltas, .. } => Body::Trapezoid {
+            is_upright: info >= 128,
+            delta_a: delta_a(*deltas),
+            delta_b: delta_b(*deltas),
+        },
+        ShapeKind::Ctrapezoid { .. } => Body::Ctrapezoid,
+        ShapeKind::Circle { .. } => Body::Undrawn,
+        ShapeKind::XGeometry { .. } => Body::Undrawn,
     }
 }
 
@@ -93,48 +133,20 @@ impl Body {
                 offset_flag: *offset_flag,
             },
             OasRecord::End { scheme, .. } => Body::End { scheme: *scheme },
-            OasRecord::CellName { name } => Body::CellName {
-                name: *name,
-                number: None,
-            },
-            OasRecord::NumberedCellName { name, number } => Body::CellName {
-                name: *name,
-                number: Some(*number),
-            },
-            OasRecord::NumberedCell { number } => Body::Cell(Called::Number(*number)),
-            OasRecord::Cell { name } => Body::Cell(Called::Text(name.0, name.1)),
-            OasRecord::Placement { info, cell, .. } => {
-                placement(*info, *cell, Turning::Quarters(*info / 2 % 4))
-            }
-            OasRecord::TurnedPlacement {
+            OasRecord::Name { kind, text, number } => name_body(*kind, *text, *number),
+            OasRecord::Cell(name) => Body::Cell(*name),
+            OasRecord::Placement {
                 info,
                 cell,
-                magnification,
-                angle,
+                turn,
                 ..
-            } => placement(
-                *info,
-                *cell,
-                Turning::Reals {
-                    magnification: *magnification,
-                    angle: *angle,
-                },
-            ),
+            } => Body::Placement {
+                called: *cell,
+                flips: *info % 2 == 1,
+                turning: turning_by(*info, *turn),
+            },
             OasRecord::Text { .. } => Body::Text,
-            OasRecord::Rectangle { .. } => Body::Rectangle,
-            OasRecord::Polygon { .. } => Body::Polygon,
-            OasRecord::Path { .. } => Body::Path,
-            OasRecord::Trapezoid {
-                info,
-                delta_a,
-                delta_b,
-                ..
-            } => trapezoid(*info, *delta_a, *delta_b),
-            OasRecord::TrapezoidA { info, delta_a, .. } => trapezoid(*info, *delta_a, 0),
-            OasRecord::TrapezoidB { info, delta_b, .. } => trapezoid(*info, 0, *delta_b),
-            OasRecord::Ctrapezoid { .. } => Body::Ctrapezoid,
-            OasRecord::Circle { .. } => Body::Undrawn,
-            OasRecord::XGeometry { .. } => Body::Undrawn,
+            OasRecord::Shape { head, kind } => shape_body(head.info, kind),
             OasRecord::Property { .. } => Body::Property,
             OasRecord::LastProperty => Body::Property,
             _ => Body::Other,

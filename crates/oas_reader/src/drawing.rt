@@ -7,8 +7,8 @@ ghost use Rattle.oas_fields.specs.Values.{IsPlaceWithin, or_zero};
 ghost use Rattle.oas_shapes.specs.Rules.{IsLowest};
 ghost use Rattle.oas_shapes.specs.Short.{IsShortIn};
 ghost use Rattle.oas_shapes.specs.declared.drawing.Undrawn.TheVariants.{Rule, NoMemory as Wanting};
-ghost use Rattle.oas_reader.specs.Meaning.{or_none};
-ghost use Rattle.oas_reader.specs.Drawn.{pair_in, brush_in, trapezoid_in, figure_in, repetition_kept, shapes_in, HasShortList, KeepsDrawnIn, KeepsWantedIn, IsRefusedBy};
+ghost use Rattle.oas_reader.specs.Meaning.{or_none, trapezoid};
+ghost use Rattle.oas_reader.specs.Drawn.{pair_in, brush_in, figure_in, repetition_kept, shapes_in, HasShortList, KeepsDrawnIn, KeepsWantedIn, IsRefusedBy};
 
 use crate::bodies::{Body, Outline};
 use crate::placing::{bad_at, point_of, repetition_in};
@@ -66,7 +66,7 @@ pub(crate) fn brush_of(fields: &Fields) -> Brush
 }
 
 fn trapezoid(is_upright: bool, width: u64, height: u64, a: i64, b: i64) -> Figure
-    ensures { result ≡ trapezoid_in is_upright width height a b }
+    ensures { result ≡ trapezoid is_upright width height a b }
 {
     if is_upright {
         return Figure::Vertical {

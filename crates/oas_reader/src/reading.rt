@@ -31,7 +31,7 @@ use crate::bodies::{Body, Outline};
 use crate::cells::Drafts;
 use crate::counting;
 use crate::finishing::cells_of;
-use crate::ids::id_of;
+use crate::ids::{id_of, is_end};
 use crate::naming::Names;
 use crate::order::Place;
 use crate::plain::take_plain;
@@ -72,17 +72,8 @@ fn written_repetition(current: &OasRecord) -> Option<&Rep>
 {
     match current {
         OasRecord::Placement { repetition, .. } => repetition.as_ref(),
-        OasRecord::TurnedPlacement { repetition, .. } => repetition.as_ref(),
         OasRecord::Text { repetition, .. } => repetition.as_ref(),
-        OasRecord::Rectangle { repetition, .. } => repetition.as_ref(),
-        OasRecord::Polygon { repetition, .. } => repetition.as_ref(),
-        OasRecord::Path { repetition, .. } => repetition.as_ref(),
-        OasRecord::Trapezoid { repetition, .. } => repetition.as_ref(),
-        OasRecord::TrapezoidA { repetition, .. } => repetition.as_ref(),
-        OasRecord::TrapezoidB { repetition, .. } => repetition.as_ref(),
-        OasRecord::Ctrapezoid { repetition, .. } => repetition.as_ref(),
-        OasRecord::Circle { repetition, .. } => repetition.as_ref(),
-        OasRecord::XGeometry { repetition, .. } => repetition.as_ref(),
+        OasRecord::Shape { head, .. } => head.repetition.as_ref(),
         _ => None,
     }
 }
@@ -470,7 +461,7 @@ fn read_records(
             Ok(found) => found,
             Err(bad) => return Err(lexical_bad(bad, at)),
         };
-        let is_last = id_of(&current) == 2;
+        let is_last = is_end(&current);
         match reader.take(alloc, bytes, unit, sorted, current, at, next) {
             Ok(()) => {}
             Err(bad) => return Err(bad),

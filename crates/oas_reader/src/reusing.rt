@@ -8,7 +8,7 @@ use crate::placing::point_of;
 use crate::rules::positions_are_near;
 use layout_model::{Pair, is_among};
 use oas_fields::Fields;
-use oas_record::OasRecord;
+use oas_record::{OasRecord, ShapeKind};
 use std::alloc::Global;
 
 /// Whose point list a record uses again.
@@ -22,8 +22,14 @@ pub(crate) enum Again {
 /// What the record is, if it is a polygon or a path with the point list of the last one.
 pub(crate) fn points_again(current: &OasRecord) -> Again {
     match current {
-        OasRecord::Polygon { points: None, .. } => Again::Polygon,
-        OasRecord::Path { points: None, .. } => Again::Path,
+        OasRecord::Shape {
+            kind: ShapeKind::Polygon { points: None },
+            ..
+        } => Again::Polygon,
+        OasRecord::Shape {
+            kind: ShapeKind::Path { points: None, .. },
+            ..
+        } => Again::Path,
         _ => Again::Nothing,
     }
 }

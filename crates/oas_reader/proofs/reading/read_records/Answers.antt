@@ -1,10 +1,10 @@
-use Rattle.std.proofs.Common.{rules, ◌<◌, ◌^◌, length, refl}
+use Rattle.std.proofs.Common.{rules, ◌<◌, ◌^◌, ◌∙◌, length, refl, sym}
 use Rattle.oas_record.specs.Plain.{rectangle_of}
 use Rattle.layout_model.specs.Pairs.{AreSamePairs}
 use Rattle.oas_reader.proofs.BodyLemmas.{body_within}
 use Rattle.oas_reader.proofs.RecordRules.{dimensions_behind}
 use Rattle.oas_reader.proofs.ReadLemmas.{stands_first, have_records, counted_few, counts_small, lexical_first}
-use Rattle.oas_reader.proofs.ReadLemmas.{refused_first, stands_on, ends, goes_on, ended_ok, ended_bad}
+use Rattle.oas_reader.proofs.ReadLemmas.{refused_first, stands_on, ended_ok, ended_bad}
 use Rattle.oas_reader.proofs.reading.read_records.Goals as goal
 
 pub records-init : goal.records-init
@@ -80,7 +80,7 @@ pub records-preserved : goal.records-preserved
 records-preserved c =
     stands_on c.args.bytes.now c.args.unit c.args.sorted.now c.records.at c.records.reader c.take.new.self c.in-Ok-record_at.found.0 c.in-Ok-record_at.found.1
     c.records.invariant c.in-Ok-record_at.ensures.ok c.in-Ok-record_at.ensures.onward c.in-Ok-record_at.ensures.within
-    (goes_on c.in-Ok-record_at.found.0 c.id_of-is_last.result c.id_of-is_last.ensures c.if-is_last.false)
+    (sym c.is_end-is_last.ensures ∙ c.if-is_last.false)
     c.in-Ok-take.ensures.within
     (λ wanted same.
     let reader = c.records.invariant.reader_is wanted same in
@@ -95,7 +95,7 @@ pub returns-then-is_last-clause-found : goal.returns-then-is_last-clause-found
 returns-then-is_last-clause-found c = λ wanted same.
     let reader = c.records.invariant.reader_is wanted same in
     let last = dimensions_behind c.args.bytes.now c.args.unit wanted c.records.invariant.past c.records.at (c.records.invariant.allowed wanted same) in
-    let end = ends c.in-Ok-record_at.found.0 c.id_of-is_last.result c.id_of-is_last.ensures c.if-is_last.true in
+    let end = sym c.is_end-is_last.ensures ∙ c.if-is_last.true in
     let now = c.in-Ok-take.ensures.reader wanted c.records.invariant.past same reader last in
     ended_ok c.args.bytes.now c.args.unit wanted c.args.sorted.now c.records.at c.records.reader c.take.new.self
     c.in-Ok-record_at.found.0 c.in-Ok-record_at.found.1
@@ -113,7 +113,7 @@ returns-then-is_last-clause-grid c =
     let reader = c.records.invariant.reader_is c.args.sorted.now same in
     let last = dimensions_behind c.args.bytes.now c.args.unit c.args.sorted.now c.records.invariant.past c.records.at
     (c.records.invariant.allowed c.args.sorted.now same) in
-    let end = ends c.in-Ok-record_at.found.0 c.id_of-is_last.result c.id_of-is_last.ensures c.if-is_last.true in
+    let end = sym c.is_end-is_last.ensures ∙ c.if-is_last.true in
     let now = c.in-Ok-take.ensures.reader c.args.sorted.now c.records.invariant.past same reader last in
     c.finish.ensures.grid c.args.sorted.now c.records.invariant.past _ now end c.records.invariant.goes_on
 
@@ -121,7 +121,7 @@ pub returns-then-is_last-clause-first_fault : goal.returns-then-is_last-clause-f
 returns-then-is_last-clause-first_fault c = λ wanted same.
     let reader = c.records.invariant.reader_is wanted same in
     let last = dimensions_behind c.args.bytes.now c.args.unit wanted c.records.invariant.past c.records.at (c.records.invariant.allowed wanted same) in
-    let end = ends c.in-Ok-record_at.found.0 c.id_of-is_last.result c.id_of-is_last.ensures c.if-is_last.true in
+    let end = sym c.is_end-is_last.ensures ∙ c.if-is_last.true in
     let now = c.in-Ok-take.ensures.reader wanted c.records.invariant.past same reader last in
     ended_bad c.args.bytes.now c.args.unit wanted c.args.sorted.now c.records.at c.records.reader c.take.new.self
     c.in-Ok-record_at.found.0 c.in-Ok-record_at.found.1
