@@ -10,6 +10,7 @@ With `quick` only the cases run that take less than a second each, with other wo
 What today's program can't do within the limits is listed in beyond.txt, a case a line, with what was measured. Such a case
 is run too, and named where it fails and where it doesn't any more; it doesn't make the whole fail.
 """
+import multiprocessing
 import os
 import resource
 import signal
@@ -62,18 +63,36 @@ def answer(program, words):
     return child.returncode, lines[-1] if lines else "", usage.ru_utime + usage.ru_stime, usage.ru_maxrss / 1000
 
 
+def answers_of(program):
+    """A pipe to a process that runs the program in a folder with some words, and gives what `answer` does. It is begun while
+    this one is small: what the making of cases takes would else be counted as memory of the program."""
+    here, there = multiprocessing.Pipe()
+    if os.fork() == 0:
+        here.close()
+        try:
+            while True:
+                folder, words = there.recv()
+                os.chdir(folder)
+                there.send(answer(program, words))
+        except (EOFError, KeyboardInterrupt):
+            os._exit(0)
+    there.close()
+    return here
+
+
 def fits(line, wanted):
     return line.startswith(wanted[:-2]) if wanted.endswith("..") else line == wanted
 
 
-def run(program, make):
+def run(answers, make):
     """What was measured of a case, and what is wrong with its answer, or nothing."""
     home = os.getcwd()
     with tempfile.TemporaryDirectory() as folder:
         os.chdir(folder)
         try:
             words, wanted, line = make()
-            status, said, seconds, memory = answer(program, words)
+            answers.send((folder, words))
+            status, said, seconds, memory = answers.recv()
         finally:
             os.chdir(home)
     if status == 1 and wanted != 1 and said == "words refused":
@@ -95,13 +114,14 @@ def chosen(words):
 
 def main(program, words):
     program = os.path.realpath(program)
+    answers = answers_of(program)
     known = beyond()
     failed = past = 0
     begun = time.monotonic()
     cases = chosen(words)
     for name, _, make in cases:
         try:
-            measured, fault = run(program, make)
+            measured, fault = run(answers, make)
         except FileNotFoundError as missing:
             print(f"skipped: {name}, since there is no {missing.filename}", flush=True)
             continue
