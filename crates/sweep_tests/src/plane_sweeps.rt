@@ -3,12 +3,66 @@
 ghost use Rattle.std.specs.Prelude.{◌≡◌, ◌&&◌, pos, not};
 ghost use Rattle.std.specs.Ordering.{int_eq};
 
+use crate::scans::{Part, edges_of};
+use geo_stream::NoMemory;
 use half_grid::{Edge, Line, Operand, Side, Tile, Trap, Window};
 use plane_sweep::{
     EventSource, LowestTile, RowSweep, SortedEvents, Sweep, lowest, settle_laws, swept,
 };
 use scan_line::Rule;
+use std::alloc::Global;
+use std::process::Abort;
 use std::test::Fail;
+
+fn part_of(rt: &impl Abort, y0: i64, y1: i64, left: Line, right: Line, operand: Operand) -> Part {
+    Part {
+        trap: Trap::new(y0, y1, left, right).expect(rt, "a legal trapezoid"),
+        operand,
+        up: true,
+    }
+}
+
+// The bar number k of those that are two wide and two apart, from X = 0 on.
+fn bar(rt: &impl Abort, y0: i64, y1: i64, k: i64, operand: Operand) -> Part {
+    let x = k.saturating_mul(4);
+    let right = Line::Upright(x.saturating_add(2));
+    part_of(rt, y0, y1, Line::Upright(x), right, operand)
+}
+
+// Puts the bars of these numbers, all over the same rows.
+fn put_bars(
+    rt: &impl Abort,
+    parts: &mut Vec<Part>,
+    from: i64,
+    to: i64,
+    y0: i64,
+    y1: i64,
+    operand: Operand,
+) -> Result<(), NoMemory> {
+    for k in from..to {
+        parts.push(bar(rt, y0, y1, k, operand))?;
+    }
+    Ok(())
+}
+
+// What the parts of A have and those of B don't.
+fn first_alone(rt: &impl Abort, alloc: Global, parts: &[Part]) -> Result<Vec<Trap>, NoMemory> {
+    let rows = Window::new(-40, 40).expect(rt, "a window");
+    let edges = edges_of(rt, alloc, parts)?;
+    let rule = Rule::new(
+        |a: i128, b: i128| -> bool
+            ensures { result ≡ not (int_eq a (pos 0)) && int_eq b (pos 0) }
+        { a != 0 && b == 0 },
+    );
+    swept(alloc, edges, rows, rule)
+}
+
+fn compare_with(rt: &impl Abort, traps: &[Trap], parts: &[Part]) {
+    assert_eq!(rt; traps.len(), parts.len());
+    for (trap, part) in traps.iter().zip(parts.iter()) {
+        assert_eq!(rt; *trap, part.trap);
+    }
+}
 
 #[test]
 fn events_one_by_one(rt: HostRuntime) -> Result<(), Fail> {
@@ -145,6 +199,81 @@ fn through_one_point(rt: HostRuntime) -> Result<(), Fail> {
     for (trap, due) in traps.iter().zip(wanted.iter()) {
         assert_eq!(rt; Some(*trap), *due);
     }
+    Ok(())
+}
+
+#[test]
+fn one_run_over_a_thousand_chunks(rt: HostRuntime) -> Result<(), Fail> {
+    // 64,200 sides of bars in an area that becomes wider at Y 4, where the trapezoid that was open left of them all ends; a
+    // chunk has 64 lines at most
+    let alloc = rt.alloc();
+    let (left, right, further) = (
+        Line::Upright(-2),
+        Line::Upright(200_000),
+        Line::Upright(200_002),
+    );
+    let mut parts = Vec::new(alloc);
+    parts.push(part_of(&rt, 0, 4, left, right, Operand::A))?;
+    parts.push(part_of(&rt, 4, 8, left, further, Operand::A))?;
+    let mut wanted = Vec::new(alloc);
+    wanted.push(part_of(&rt, 0, 4, left, right, Operand::A))?;
+    wanted.push(part_of(&rt, 4, 8, left, further, Operand::A))?;
+    put_bars(&rt, &mut parts, 0, 32_100, 0, 8, Operand::A)?;
+    let traps = first_alone(&rt, alloc, parts.as_slice())?;
+    compare_with(&rt, traps.as_slice(), wanted.as_slice());
+    Ok(())
+}
+
+#[test]
+fn chunks_that_empty_again(rt: HostRuntime) -> Result<(), Fail> {
+    // all lines of some chunks in the middle end at Y 4, others come there at Y 6, and all end at last
+    let alloc = rt.alloc();
+    let mut parts = Vec::new(alloc);
+    put_bars(&rt, &mut parts, 50, 150, 0, 4, Operand::A)?;
+    put_bars(&rt, &mut parts, 50, 150, 6, 10, Operand::A)?;
+    put_bars(&rt, &mut parts, 0, 50, 0, 12, Operand::A)?;
+    put_bars(&rt, &mut parts, 150, 200, 0, 12, Operand::A)?;
+    let traps = first_alone(&rt, alloc, parts.as_slice())?;
+    compare_with(&rt, traps.as_slice(), parts.as_slice());
+    Ok(())
+}
+
+#[test]
+fn many_lines_end_and_begin_at_a_point(rt: HostRuntime) -> Result<(), Fail> {
+    // at (0, 0) end four sides and begin six; one of A and one of B pass
+    let alloc = rt.alloc();
+    let (upright, rising, falling) = (Line::Upright(0), Line::Rising(0), Line::Falling(0));
+    let (far, wide) = (Line::Rising(10), Line::Upright(-30));
+    let mut parts = Vec::new(alloc);
+    parts.push(part_of(&rt, -8, 0, rising, upright, Operand::A))?;
+    parts.push(part_of(&rt, -8, 0, upright, falling, Operand::A))?;
+    parts.push(part_of(&rt, 0, 8, falling, upright, Operand::A))?;
+    parts.push(part_of(&rt, 0, 8, upright, rising, Operand::A))?;
+    parts.push(part_of(&rt, -8, 8, rising, far, Operand::A))?;
+    parts.push(part_of(&rt, -8, 8, wide, upright, Operand::B))?;
+    parts.push(part_of(&rt, 0, 8, upright, rising, Operand::B))?;
+    // below Y 0 B has all left of X = 0, and above it all left of the rising line
+    let mut wanted = Vec::new(alloc);
+    wanted.push(part_of(&rt, -8, 0, upright, far, Operand::A))?;
+    wanted.push(part_of(&rt, 0, 8, rising, far, Operand::A))?;
+    let traps = first_alone(&rt, alloc, parts.as_slice())?;
+    compare_with(&rt, traps.as_slice(), wanted.as_slice());
+    Ok(())
+}
+
+#[test]
+fn one_ends_and_another_begins_on_its_lines(rt: HostRuntime) -> Result<(), Fail> {
+    // sides end and begin on the same lines at Y 4, where one trapezoid goes on; from Y 6 to 9 B is there too
+    let alloc = rt.alloc();
+    let mut parts = Vec::new(alloc);
+    put_bars(&rt, &mut parts, 0, 2, 0, 4, Operand::A)?;
+    put_bars(&rt, &mut parts, 0, 2, 4, 12, Operand::A)?;
+    put_bars(&rt, &mut parts, 0, 2, 6, 9, Operand::B)?;
+    let mut wanted = Vec::new(alloc);
+    put_bars(&rt, &mut wanted, 0, 2, 0, 6, Operand::A)?;
+    put_bars(&rt, &mut wanted, 0, 2, 9, 12, Operand::A)?;
+    let traps = first_alone(&rt, alloc, parts.as_slice())?;
+    compare_with(&rt, traps.as_slice(), wanted.as_slice());
     Ok(())
 }
 

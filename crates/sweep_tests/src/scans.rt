@@ -14,10 +14,10 @@ use std::process::Abort;
 use std::test::Fail;
 
 #[derive(Drop)]
-struct Part {
-    trap: Trap,
-    operand: Operand,
-    up: bool,
+pub(crate) struct Part {
+    pub(crate) trap: Trap,
+    pub(crate) operand: Operand,
+    pub(crate) up: bool,
 }
 
 // Adds two edges over the same rows, of which one goes up and one down.
@@ -46,7 +46,11 @@ fn add_edges(rt: &impl Abort, edges: &mut Vec<Edge>, part: &Part) -> Result<(), 
     add_pair(edges, left, right)
 }
 
-fn edges_of(rt: &impl Abort, alloc: Global, parts: &[Part]) -> Result<Vec<Edge>, NoMemory>
+pub(crate) fn edges_of(
+    rt: &impl Abort,
+    alloc: Global,
+    parts: &[Part],
+) -> Result<Vec<Edge>, NoMemory>
     ensures { IfOk result (λ edges. (window : RowRange) → IsBalanced edges.items window) }
 {
     let mut edges = Vec::new(alloc);
