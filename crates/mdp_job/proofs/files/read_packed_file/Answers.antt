@@ -12,8 +12,8 @@ returns-in-Err-Fault-clause-refused g c = λ told.
     (omega (arith, ap length c.deref.ensures.value, c.deref.ensures.len, c.in-Ok.ensures.within)) (c.in-Ok.ensures.whole told)
     c.in-Err-Fault.bad (rw (c.deref.ensures.value, c.in-Err-Fault.field-0-is) at c.in-Err-Fault.ensures.first_fault)
 
-pub returns-in-Err-NoMemory-clause-refused : goal.returns-in-Err-NoMemory-clause-refused
-returns-in-Err-NoMemory-clause-refused g c = λ told.
+pub returns-clause-refused : goal.returns-clause-refused
+returns-clause-refused g c = λ told.
     let at = g.D.Depot.content in
     let counts = g.D.Depot.counts in
     wanting (at c.args.depot.now) (at c.read_all.new.depot) (counts c.args.depot.now)
