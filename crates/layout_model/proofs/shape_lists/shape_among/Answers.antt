@@ -75,7 +75,8 @@ own_after-requires-clause-inside c =
     let own = c.args.own.now in let runs = c.args.runs.now in let run = c.index-runs-rank.result in
     within_alike (shapes_of own runs) (drop run.after own) c.args.k (c.args.k - run.before - length c.as_slice-segments.result.now)
     (after_it own runs c.args.k c.rank-rank.result (length c.as_slice-segments.result.now) run c.requires.runs
-    c.rank-rank.ensures c.if-rank-eq0.false c.index-runs-rank.is (ap length (c.as_slice-segments.ensures.value ∙ ap (λ v. v.items) c.deref.ensures)) c.if-j-segments.false) c.requires.inside
+    c.rank-rank.ensures c.if-rank-eq0.false c.index-runs-rank.is
+    (ap length (c.as_slice-segments.ensures.value ∙ ap (λ v. v.items) c.deref.ensures)) c.if-j-segments.false) c.requires.inside
 
 pub returns : goal.returns
 returns c =
