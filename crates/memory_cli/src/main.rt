@@ -1,5 +1,5 @@
 //! The program over a depot in memory, for tests: it takes files of the system into such a depot, does there what the
-//! words say, and puts what was made into files again. `tests/memory.sh` runs it.
+//! words say, and puts what was made into files again. `tests/refusals.sh` and `tests/short.sh` run it.
 //!
 //!     memory_cli HOW HELD.. , MADE.. , WORD..
 //!
