@@ -150,6 +150,7 @@ CASES = [
     ("a polygon of 100,000 points in records of three bytes, 100,000 times", False, lambda: rows_of_polygons(100000, 100000)),
     ("a polygon of 1,000 points, 1,000 times", True, lambda: shown_polygons(1000, 1000)),
     ("a polygon of 20,000 points, 1,000 times", False, lambda: shown_polygons(20000, 1000)),
+    ("a polygon of 100,000 points, 100,000 times", False, lambda: shown_polygons(100000, 100000)),
     ("a path of 100,000 points on an unwanted pair, 100,000 times", False, lambda: paths(OTHER, 100000, 100000, True)),
     ("a path of 10,000 points that nothing reaches, 10,000 times", False, lambda: paths(1, 10000, 10000, False)),
     ("a path of 100,000 points that nothing reaches, 100,000 times", False, lambda: paths(1, 100000, 100000, False)),
