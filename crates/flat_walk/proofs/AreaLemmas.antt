@@ -1,6 +1,6 @@
 -- The quadrilaterals of a walk and the area of a pair: a tile of the window's rows is in one of them exactly where it is in
 -- the area.
-use Rattle.std.proofs.Common.{◌≡◌, ◌≢◌, inl, inr, ℕ, ℤ, zero, suc, pos, neg_ℤ, ◌≤◌, ◌≤ℤ◌, ◌<ℤ◌, Bool, true, false, cond}
+use Rattle.std.proofs.Common.{◌≡◌, ◌≢◌, ◌⊎◌, inl, inr, ℕ, ℤ, zero, suc, pos, neg_ℤ, ◌≤◌, ◌≤ℤ◌, ◌<ℤ◌, Bool, true, false, cond}
 use Rattle.std.proofs.Common.{List, [], ◌∷◌, Option, Some, None, map, slice_get, int_lt, nat_eq, ◌&&◌, refl, sym, ap}
 use Rattle.std.proofs.Common.{subst, ◌∙◌, arith}
 use Rattle.std.specs.Int.{int_min, int_max}
@@ -122,12 +122,12 @@ same_on pair shape e = both_true _ _ (eq_yes _ _ (ap (λ p. p.layer) e)) (eq_yes
     both_true a b p q = rw (p, q) refl
 
 module _ (scene : Scene) (sc : IsScene scene) where
-  shape_cut : (n k : ℕ) (shape : Shape) (pieces : List Trapezoid) → IsReachable (cells_of scene) scene.tree.now.top n
+  shape_shown : (n k : ℕ) (shape : Shape) (pieces : List Trapezoid) → IsReachable (cells_of scene) scene.tree.now.top n
       → slice_get (shapes_at (cells_of scene) n) k ≡ Some shape → slice_get (lists_at scene.parts.now n) k ≡ Some pieces
-      → is_on scene.pair shape ≡ true → CoversExactly pieces (IsInPolygon shape.points)
-  shape_cut n k shape pieces reach here kept on =
-      let cut = sc.cut n k shape reach here (pair_is scene.pair shape on) in
-      subst (λ l. CoversExactly l (IsInPolygon shape.points)) (same_Some cut.pieces pieces (sym cut.kept ∙ kept)) cut.covers
+      → is_on scene.pair shape ≡ true → (pieces ≡ []) ⊎ CoversExactly pieces (IsInPolygon shape.points)
+  shape_shown n k shape pieces reach here kept on =
+      let once = sc.cut n k shape reach here (pair_is scene.pair shape on) in
+      subst (λ l. (l ≡ []) ⊎ CoversExactly l (IsInPolygon shape.points)) (same_Some once.pieces pieces (sym once.kept ∙ kept)) once.inside
 
   -- ---- own
 
@@ -154,7 +154,7 @@ module _ (scene : Scene) (sc : IsScene scene) where
       let wound : winding shape.points before ≢ pos 0 = λ none. z.3
       (e ∙ ring_outside trap before shot.legal
       (λ inside. piece_wound shape.points p.pieces z.0 trap
-      (shape_cut n p.number shape p.pieces reach p.here p.kept p.on) z.2 before inside none)) in
+      (shape_shown n p.number shape p.pieces reach p.here p.kept p.on) z.2 before inside none)) in
       let f = move_winding by t shape.points move.even_x move.even_y loop in
       flat_has (On scene.pair t) flats_of_shape (shapes_at (cells_of scene) n)
       (slot_has (λ s. Has (On scene.pair t) (flats_of_shape s)) (shapes_at (cells_of scene) n) p.number shape p.here
@@ -174,18 +174,19 @@ module _ (scene : Scene) (sc : IsScene scene) where
       (has_map (On scene.pair t) (λ b. (let fl : Flat = record { pair = shape.pair; points = map (moved b) shape.points } in fl)) shape.offsets s.3) in
       let by : Point = o.1 in
       let move = slot_all IsMove shape.offsets o.0 by grid.offsets.moves o.2 in
-      let cut = sc.cut n s.0 shape reach s.2 o.3.0 in
+      let shown = sc.cut n s.0 shape reach s.2 o.3.0 in
+      let cut = shown.cut in
       let before = before_move by t in
       let f = move_winding by t shape.points move.even_x move.even_y (shape_closed shape grid) in
       let once = cut.covers.once before (λ none. o.3.1 (f ∙ none)) in
       let z = has_slot (λ piece. trapezoid_has before piece ≡ true) cut.pieces (found_piece before cut.pieces once) in
       let trap : Trapezoid = z.1 in
-      let kept = slot_all IsKept (lists_at scene.parts.now n) s.0 cut.pieces (kept_at scene.parts.now n sc.kept) cut.kept in
+      let kept = slot_all IsKept (lists_at scene.parts.now n) shown.twin cut.pieces (kept_at scene.parts.now n sc.kept) cut.kept in
       let shot = slot_all IsShot cut.pieces z.0 trap kept.shots z.2 in
       let inside = ring_inside trap before shot.legal (has_in before trap z.3) in
       let e = move_winding by t (ring_of (corners_of trap)) move.even_x move.even_y (shot_ring trap shot).loop in
       of_piece (Wound t) scene.pair (shapes_at (cells_of scene) n)
-      (lists_at scene.parts.now n) s.0 shape cut.pieces s.2 cut.kept (same_on scene.pair shape o.3.0)
+      (lists_at scene.parts.now n) shown.twin shape cut.pieces shown.same cut.kept (same_on scene.pair shape o.3.0)
       (flat_has (Wound t) (λ b. map (λ piece. moved_quad b (corners_of piece)) cut.pieces) shape.offsets
       (slot_has (λ b. Has (Wound t) (map (λ piece. moved_quad b (corners_of piece)) cut.pieces)) shape.offsets o.0 by o.2
       (map_has (Wound t) (λ piece. moved_quad by (corners_of piece)) cut.pieces

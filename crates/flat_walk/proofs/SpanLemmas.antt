@@ -58,9 +58,10 @@ count_some t (y ∷ pieces) (suc k) z at has = let e = count_by-cons (trapezoid_
 
 -- an outline winds round the tiles of its pieces
 pub piece_wound : (points : List Point) (pieces : List Trapezoid) (k : ℕ) (z : Trapezoid)
-    → CoversExactly pieces (IsInPolygon points) → slice_get pieces k ≡ Some z → (t : Tile) → IsInTrapezoid z t
+    → (pieces ≡ []) ⊎ CoversExactly pieces (IsInPolygon points) → slice_get pieces k ≡ Some z → (t : Tile) → IsInTrapezoid z t
     → winding points t ≢ pos 0
-piece_wound points pieces k z covers at t inside none =
+piece_wound points pieces k z (inl empty) at t inside none = absurd (none-some z (sym (ap (λ l. slice_get l k) empty) ∙ at))
+piece_wound points pieces k z (inr covers) at t inside none =
     let zero_count = covers.never t (λ wound. wound none) in
     let some = count_some t pieces k z at (in_has t z inside) in
     absurd (omega (arith, zero_count, some))
@@ -116,9 +117,9 @@ module _ (scene : Scene) (sc : IsScene scene) where
   own_shown n reach k shape pieces at_shape at_pieces on =
       let grid = slot_all IsShapeOnGrid (shapes_at (cells_of scene) n) k shape (shapes_on_grid (cells_of scene) sc.grid.cells n) at_shape in
       let pair = pair_is scene.pair shape on in
-      let cut = sc.cut n k shape reach at_shape pair in
-      let same : cut.pieces ≡ pieces = same_Some cut.pieces pieces (sym cut.kept ∙ at_pieces) in
-      let covers = subst (λ l. CoversExactly l (IsInPolygon shape.points)) same cut.covers in
+      let once = sc.cut n k shape reach at_shape pair in
+      let same : once.pieces ≡ pieces = same_Some once.pieces pieces (sym once.kept ∙ at_pieces) in
+      let in_shape = subst (λ l. (l ≡ []) ⊎ CoversExactly l (IsInPolygon shape.points)) same once.inside in
       let kept = slot_all IsKept (lists_at scene.parts.now n) k pieces (kept_at scene.parts.now n sc.kept) at_pieces in
       let loop = shape_closed shape grid in
       let short = short_below (cells_of scene) scene.tree.now.top n sc.tree.shallow reach in
@@ -136,7 +137,7 @@ module _ (scene : Scene) (sc : IsScene scene) where
               on_pair = pair;
               vertex = record { place = j; by = by; offset = at_by; corner = one.0; v = v; point = one.1; is = refl };
             }))
-            (corners_amid shape.points z loop shot.legal (piece_wound shape.points pieces i z covers at_z)),
+            (corners_amid shape.points z loop shot.legal (piece_wound shape.points pieces i z in_shape at_z)),
         ring_moved by (corners_of z) move.even_x move.even_y (shot_ring z shot),
       )))))
 

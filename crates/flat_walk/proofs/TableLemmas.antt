@@ -12,7 +12,7 @@ use Rattle.layout_model.specs.declared.shapes.Shape.{Shape}
 use Rattle.layout_model.specs.declared.cells.Cell.{Cell}
 use Rattle.cell_tree.specs.Cells.{shapes_at}
 use Rattle.cell_tree.specs.Chains.{IsReachable}
-use Rattle.flat_walk.specs.Tables.{lists_at, HaveNoPieces, with_pieces, HasShape, IsKept, AreKept, IsCut, count_within}
+use Rattle.flat_walk.specs.Tables.{lists_at, HaveNoPieces, with_pieces, HasShape, IsKept, AreKept, IsCut, IsShownOnce, count_within}
 use Rattle.flat_walk.proofs.AllThings.{each_both}
 
 set_length : {X : Type 0} (xs : List X) (n : ℕ) (x : X) → length (set xs n x) ≡ length xs
@@ -77,13 +77,21 @@ shape_stays table n k m j pieces inside has = record {
   ];
 }
 
+put_here : (table : List (List (List Trapezoid))) (n k : ℕ) (pieces : List Trapezoid) → HasShape table n k
+    → slice_get (lists_at (with_pieces table n k pieces) n) k ≡ Some pieces
+put_here table n k pieces has = ap (λ lists. slice_get lists k) (lists_put table n k pieces has.cell) ∙ slot_here (lists_at table n) k pieces has.shape
+
+put_apart : (table : List (List (List Trapezoid))) (n k j : ℕ) (pieces : List Trapezoid) → n < length table → k ≢ j
+    → slice_get (lists_at (with_pieces table n k pieces) n) j ≡ slice_get (lists_at table n) j
+put_apart table n k j pieces inside apart = ap (λ lists. slice_get lists j) (lists_put table n k pieces inside) ∙ slot_apart (lists_at table n) k j pieces apart
+
 -- a shape whose pieces are put is cut
 pub cut_here : (table : List (List (List Trapezoid))) (n k : ℕ) (shape : Shape) (pieces : List Trapezoid)
     → HasShape table n k → CoversExactly pieces (IsInPolygon shape.points)
     → IsCut (with_pieces table n k pieces) n k shape
 cut_here table n k shape pieces has covers = record {
   pieces = pieces;
-  kept = ap (λ lists. slice_get lists k) (lists_put table n k pieces has.cell) ∙ slot_here (lists_at table n) k pieces has.shape;
+  kept = put_here table n k pieces has;
   covers = covers;
 }
 
@@ -101,8 +109,61 @@ pub cut_beside : (table : List (List (List Trapezoid))) (n k j : ℕ) (shape : S
     → n < length table → k ≢ j → IsCut table n j shape → IsCut (with_pieces table n k pieces) n j shape
 cut_beside table n k j shape pieces inside apart cut = record {
   pieces = cut.pieces;
-  kept = ap (λ lists. slice_get lists j) (lists_put table n k pieces inside) ∙ (slot_apart (lists_at table n) k j pieces apart ∙ cut.kept);
+  kept = put_apart table n k j pieces inside apart ∙ cut.kept;
   covers = cut.covers;
+}
+
+-- a shape whose pieces are put is shown once
+pub once_here : (cells : List Cell) (table : List (List (List Trapezoid))) (n k : ℕ) (shape : Shape) (pieces : List Trapezoid)
+    → HasShape table n k → slice_get (shapes_at cells n) k ≡ Some shape → CoversExactly pieces (IsInPolygon shape.points)
+    → IsShownOnce cells (with_pieces table n k pieces) n k shape
+once_here cells table n k shape pieces has here covers = record {
+  pieces = pieces;
+  kept = put_here table n k pieces has;
+  inside = inr covers;
+  twin = k;
+  early = omega arith;
+  same = here;
+  cut = cut_here table n k shape pieces has covers;
+}
+
+-- a shape that stands earlier in the cell is shown once where it is given no pieces
+pub once_again : (cells : List Cell) (table : List (List (List Trapezoid))) (n k j : ℕ) (shape : Shape)
+    → HasShape table n k → j < k → IsShownOnce cells table n j shape → IsShownOnce cells (with_pieces table n k []) n k shape
+once_again cells table n k j shape has before once = let early = once.early in record {
+  pieces = [];
+  kept = put_here table n k [] has;
+  inside = inl refl;
+  twin = once.twin;
+  early = omega (arith, before, early);
+  same = once.same;
+  cut = cut_beside table n k once.twin shape [] has.cell (λ e. omega (arith, before, early, e)) once.cut;
+}
+
+-- a shape of another cell stays shown once
+pub once_elsewhere : (cells : List Cell) (table : List (List (List Trapezoid))) (n k m j : ℕ) (shape : Shape) (pieces : List Trapezoid)
+    → n ≢ m → IsShownOnce cells table m j shape → IsShownOnce cells (with_pieces table n k pieces) m j shape
+once_elsewhere cells table n k m j shape pieces apart once = record {
+  pieces = once.pieces;
+  kept = ap (λ lists. slice_get lists j) (lists_apart table n m k pieces apart) ∙ once.kept;
+  inside = once.inside;
+  twin = once.twin;
+  early = once.early;
+  same = once.same;
+  cut = cut_elsewhere table n k m once.twin shape pieces apart once.cut;
+}
+
+-- an earlier shape of the same cell stays shown once
+pub once_beside : (cells : List Cell) (table : List (List (List Trapezoid))) (n k j : ℕ) (shape : Shape) (pieces : List Trapezoid)
+    → n < length table → j < k → IsShownOnce cells table n j shape → IsShownOnce cells (with_pieces table n k pieces) n j shape
+once_beside cells table n k j shape pieces inside before once = let early = once.early in record {
+  pieces = once.pieces;
+  kept = put_apart table n k j pieces inside (λ e. omega (arith, before, e)) ∙ once.kept;
+  inside = once.inside;
+  twin = once.twin;
+  early = early;
+  same = once.same;
+  cut = cut_beside table n k once.twin shape pieces inside (λ e. omega (arith, before, early, e)) once.cut;
 }
 
 none_of : {X Y : Type 0} (xs : List X) (k : ℕ) (x : X) (y : Y) → slice_get xs k ≡ Some x → k < length (map (λ _. y) xs)

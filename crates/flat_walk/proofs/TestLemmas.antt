@@ -25,8 +25,8 @@ use Rattle.layout_model.specs.declared.cells.Placement.{Placement}
 use Rattle.cell_tree.specs.Cells.{shapes_at, placements_at, cell_number}
 use Rattle.cell_tree.specs.Chains.{IsReachable}
 use Rattle.cell_tree.proofs.ForCallers.{reach_more}
-use Rattle.flat_walk.specs.Tables.{HasShape, IsCut, AreCut, HaveNoPieces, with_pieces}
-use Rattle.flat_walk.proofs.TableLemmas.{cut_here, shape_stays, shape_at_first}
+use Rattle.flat_walk.specs.Tables.{HasShape, IsShownOnce, AreCut, HaveNoPieces, with_pieces}
+use Rattle.flat_walk.proofs.TableLemmas.{once_here, shape_stays, shape_at_first}
 
 -- ---- a piece covers its ring
 
@@ -84,9 +84,10 @@ pub all_cut : (cells : List Cell) (top : ℕ) (shape : Shape) (table : List (Lis
 all_cut cells top shape table piece shot only points has pair = λ n k other reach there on.
     let e = one_triangle cells shape other n k only there in
     let covers = subst (λ ps. CoversExactly (piece ∷ []) (IsInPolygon ps)) (sym (ap (λ s. s.points) e.2 ∙ points)) (ring_covered piece shot) in
-    subst (λ i. IsCut (with_pieces table 0 0 (piece ∷ [])) i k other) (sym e.0)
-    (subst (λ j. IsCut (with_pieces table 0 0 (piece ∷ [])) 0 j other) (sym e.1)
-    (cut_here table 0 0 other (piece ∷ []) has covers))
+    let here = subst (λ i. slice_get (shapes_at cells i) 0 ≡ Some other) e.0 (subst (λ j. slice_get (shapes_at cells n) j ≡ Some other) e.1 there) in
+    subst (λ i. IsShownOnce cells (with_pieces table 0 0 (piece ∷ [])) i k other) (sym e.0)
+    (subst (λ j. IsShownOnce cells (with_pieces table 0 0 (piece ∷ [])) 0 j other) (sym e.1)
+    (once_here cells table 0 0 other (piece ∷ []) has here covers))
 
 slot_first : {X : Type 0} (xs : List X) → 0 < length xs → (x : X) × (slice_get xs 0 ≡ Some x)
 slot_first [] some = absurd (omega arith)

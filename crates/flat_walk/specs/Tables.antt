@@ -1,7 +1,7 @@
 -- The pieces of a layout's shapes: trapezoids that cover a shape's tiles, each once. They are kept by the number of the
 -- cell and the number of the shape in it. A shape for which none were put has none. A cell that isn't reachable may have no
 -- lists.
-use Rattle.std.specs.Prelude.{◌≡◌, ◌<◌, ◌-◌, ◌^◌, ℕ, min, List, [], Some, map, length, get_or, set, slice_get, All}
+use Rattle.std.specs.Prelude.{◌≡◌, ◌⊎◌, ◌<◌, ◌≤◌, ◌-◌, ◌^◌, ℕ, min, List, [], Some, map, length, get_or, set, slice_get, All}
 use Rattle.std.specs.List.{sum_by}
 use Rattle.half_grid.specs.Trapezoids.{Trapezoid, IsShot, CoversExactly}
 use Rattle.half_grid.specs.Winding.{IsInPolygon}
@@ -51,7 +51,17 @@ pub record IsCut (table : List (List (List Trapezoid))) (n k : ℕ) (shape : Sha
   pub kept : slice_get (lists_at table n) k ≡ Some pieces
   pub covers : CoversExactly pieces (IsInPolygon shape.points)
 
--- each shape on the pair in a reachable cell is cut
+-- shape k of cell n has its pieces, or none where the same shape stands earlier in the cell and has them there
+pub record IsShownOnce (cells : List Cell) (table : List (List (List Trapezoid))) (n k : ℕ) (shape : Shape) : Type 0 where
+  pub pieces : List Trapezoid
+  pub kept : slice_get (lists_at table n) k ≡ Some pieces
+  pub inside : (pieces ≡ []) ⊎ CoversExactly pieces (IsInPolygon shape.points)
+  pub twin : ℕ
+  pub early : twin ≤ k
+  pub same : slice_get (shapes_at cells n) twin ≡ Some shape
+  pub cut : IsCut table n twin shape
+
+-- each shape on the pair in a reachable cell is cut, or given once more
 abbrev pub AreCut : List Cell → ℕ → List (List (List Trapezoid)) → Pair → Type 0
 AreCut cells top table pair = (n k : ℕ) (shape : Shape) → IsReachable cells top n → slice_get (shapes_at cells n) k ≡ Some shape → shape.pair ≡ pair
-    → IsCut table n k shape
+    → IsShownOnce cells table n k shape

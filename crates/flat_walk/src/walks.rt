@@ -125,7 +125,7 @@ fn enter_top<'t>(levels: &mut Vec<Level<'t>>, scene: &Scene<'t>) -> Own<'t>
 impl<'t> Walk<'t> {
     /// A stream of the images of the pieces of all flattened shapes on the pair that have a row in the window, depth
     /// first in the order of the file. Each shape on the pair in a reachable cell of the tree has its pieces, and they
-    /// cover exactly the shape's tiles, each once.
+    /// cover exactly the shape's tiles, each once; or it has none, and the same shape stands earlier in the cell.
     pub fn begin(
         alloc: Global,
         tree: &'t Tree,
