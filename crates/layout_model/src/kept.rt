@@ -322,6 +322,17 @@ impl KeptShape {
         }
     }
 
+    /// Whether it is another shape, as `Shape::is_again` says it. A rectangle that is kept in place isn't seen to be.
+    #[inline(always)]
+    pub(crate) fn is_again(&self, other: &KeptShape) -> bool
+        ensures { IsTrue result → self.now ≡ other.now }
+    {
+        match (&self.form, &other.form) {
+            (Form::Drawn(shape), Form::Drawn(other)) => shape.is_again(other),
+            _ => false,
+        }
+    }
+
     /// How many places there are at which it is.
     #[inline(always)]
     pub fn count(&self) -> u64

@@ -1,4 +1,4 @@
-ghost use Rattle.std.specs.Prelude.{◌≡◌, ◌≢◌, ◌<◌, ◌≤◌, ◌+ℤ◌, [], length, map, All, IfOk, IsOk, IfSome, IsSome};
+ghost use Rattle.std.specs.Prelude.{◌≡◌, ◌≢◌, ◌<◌, ◌≤◌, ◌+ℤ◌, [], length, map, All, IfOk, IsOk, IfSome, IsSome, IsTrue};
 ghost use Rattle.half_grid.specs.Reach.{IsPointWithinReach, IsWithinReach};
 ghost use Rattle.layout_model.specs.Hulls.{IsLeastBoxOf};
 ghost use Rattle.layout_model.specs.Images.{moved as point_after};
@@ -98,6 +98,13 @@ fn all_moved(alloc: Global, points: &[Point], by: Point) -> Result<Vec<Point>, N
     Ok(list)
 }
 
+// Whether two lists of points are the same.
+fn are_same(points: &[Point], others: &[Point]) -> bool
+    ensures { IsTrue result → points.now ≡ others.now }
+{
+    points == others
+}
+
 // The least box of points moved, by that of the points.
 fn hull_moved(hull: Frame, by: Point) -> Frame
     requires x0 { IsWithinReach (hull.x0 +ℤ by.x) }
@@ -147,6 +154,25 @@ impl Points {
         match &self.held {
             Held::Own(points) => Ok(Vec::from_slice(alloc, points.as_slice())?),
             Held::Shared(many, by) => all_moved(alloc, many.points.as_slice(), *by),
+        }
+    }
+
+    /// Whether these are the points of another list that shares them with this one, on the same place: a pass over them.
+    /// False, in constant time, where they aren't shared.
+    pub fn is_again(&self, other: &Points) -> bool
+        ensures { IsTrue result → self.now ≡ other.now }
+    {
+        match (&self.held, &other.held) {
+            (Held::Shared(many, by), Held::Shared(same, to)) => {
+                if !Rc::ptr_eq(many, same) {
+                    return false;
+                }
+                if *by != *to {
+                    return false;
+                }
+                are_same(many.points.as_slice(), same.points.as_slice())
+            }
+            _ => false,
         }
     }
 

@@ -1,5 +1,5 @@
 //! The shapes of a cell.
-ghost use Rattle.std.specs.Prelude.{◌≡◌, ◌≢◌, ◌<◌, ◌≤◌, ◌++◌, ℕ, [], ◌∷◌, length, map, drop, slice_get, Some, OnOk, MatchOption};
+ghost use Rattle.std.specs.Prelude.{◌≡◌, ◌≢◌, ◌<◌, ◌≤◌, ◌++◌, ℕ, [], ◌∷◌, length, map, drop, slice_get, Some, OnOk, MatchOption, IsTrue};
 ghost use Rattle.layout_model.specs.Hulls.{IsLeastBoxOf};
 ghost use Rattle.layout_model.specs.Images.{moved as point_after};
 ghost use Rattle.layout_model.specs.Intervals.{HasNoneIn, IsFirstIn};
@@ -252,6 +252,17 @@ impl<'t> ShapeRef<'t> {
         match self.named {
             Named::Kept(shape) => shape.pair(),
             Named::Drawn(_, run) => run.pair,
+        }
+    }
+
+    /// Whether it is another shape, given again: both are once at the place 0, and share their points. False where that
+    /// isn't known: at once where the points aren't shared, else after a pass over them.
+    pub fn is_again(&self, other: ShapeRef<'_>) -> bool
+        ensures { IsTrue result → shape_in self.now ≡ shape_in other.entry }
+    {
+        match (self.named, other.named) {
+            (Named::Kept(shape), Named::Kept(other)) => shape.is_again(other),
+            _ => false,
         }
     }
 

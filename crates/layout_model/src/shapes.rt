@@ -109,4 +109,24 @@ impl Shape {
             fixed: false,
         })
     }
+
+    /// Whether it is another shape that shares its points with this one, both at the place 0 alone. False where that isn't
+    /// known: at once where the points aren't shared, else after a pass over them.
+    pub fn is_again(&self, other: &Shape) -> bool
+        ensures { IsTrue result → self.now ≡ other.now }
+    {
+        if self.pair != other.pair {
+            return false;
+        }
+        if self.fixed != other.fixed {
+            return false;
+        }
+        if !self.offsets.is_origin() {
+            return false;
+        }
+        if !other.offsets.is_origin() {
+            return false;
+        }
+        self.points.is_again(&other.points)
+    }
 }

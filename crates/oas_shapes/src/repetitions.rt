@@ -1,7 +1,7 @@
 //! The offsets of repetitions.
 ghost use Rattle.std.specs.Prelude.{◌≡◌, ◌↔◌, ℕ, map, All, [], ◌∷◌, IsTrue, IsOk, IfOk, Err, option_copied, false};
 ghost use Rattle.layout_model.specs.Layouts.{AreOffsets};
-ghost use Rattle.oas_shapes.specs.Plane.{origin, doubled as in_halves, places_along};
+ghost use Rattle.oas_shapes.specs.Plane.{origin, east, north, doubled as in_halves, places_along};
 ghost use Rattle.oas_shapes.specs.Ways.{way_of, towards as towards_of};
 ghost use Rattle.oas_shapes.specs.Lattices.{IsLattice, places_of};
 ghost use Rattle.layout_model.specs.Images.{enlarged};
@@ -186,6 +186,56 @@ fn by_step(alloc: Global, dim: u64, step: Wide, is_allowed: bool) -> Result<Offs
     steps.offsets(alloc, is_allowed)
 }
 
+// A regular repetition in columns and rows, which go right and up by these spaces.
+fn by_grid(
+    alloc: Global,
+    columns: u64,
+    rows: u64,
+    x_space: u64,
+    y_space: u64,
+    is_allowed: bool,
+) -> Result<Offsets, Unplaced>
+    requires { IsTrue is_allowed → All IsDimension (columns ∷ rows ∷ []) }
+    ensures ok { IfOk result (λ offsets. (offsets ≡ map in_halves (grid_places columns rows (east x_space) (north y_space))) × AreOffsets offsets × IsTrue is_allowed) }
+    ensures far { result ≡ Err Far → ¬ AreNear (map in_halves (grid_places columns rows (east x_space) (north y_space))) }
+    ensures many { result ≡ Err Many → AreNear (map in_halves (grid_places columns rows (east x_space) (north y_space))) × (is_allowed ≡ false) }
+    ensures unkept { result ≡ Err Unkept → AreNear (map in_halves (grid_places columns rows (east x_space) (north y_space))) × IsTrue is_allowed }
+    ensures wanting { (result ≡ Err Wanting) → ⊥ }
+{
+    let steps = Lattice {
+        nu: columns,
+        nv: rows,
+        u: towards(false, x_space),
+        v: towards(true, y_space),
+    };
+    steps.offsets(alloc, is_allowed)
+}
+
+// A regular repetition in two directions.
+fn by_lattice(
+    alloc: Global,
+    nu: u64,
+    nv: u64,
+    u: Point,
+    v: Point,
+    is_allowed: bool,
+) -> Result<Offsets, Unplaced>
+    requires { IsTrue is_allowed → All IsDimension (nu ∷ nv ∷ []) }
+    ensures ok { IfOk result (λ offsets. (offsets ≡ map in_halves (grid_places nu nv u v)) × AreOffsets offsets × IsTrue is_allowed) }
+    ensures far { result ≡ Err Far → ¬ AreNear (map in_halves (grid_places nu nv u v)) }
+    ensures many { result ≡ Err Many → AreNear (map in_halves (grid_places nu nv u v)) × (is_allowed ≡ false) }
+    ensures unkept { result ≡ Err Unkept → AreNear (map in_halves (grid_places nu nv u v)) × IsTrue is_allowed }
+    ensures wanting { (result ≡ Err Wanting) → ⊥ }
+{
+    let steps = Lattice {
+        nu,
+        nv,
+        u: widened(u),
+        v: widened(v),
+    };
+    steps.offsets(alloc, is_allowed)
+}
+
 /// The offsets of a repetition in half units.
 pub(crate) fn spread(alloc: Global, repetition: &Rep, is_allowed: bool) -> Result<Offsets, Unplaced>
     requires { IsTrue is_allowed → HasDimensions repetition.now }
@@ -202,15 +252,7 @@ pub(crate) fn spread(alloc: Global, repetition: &Rep, is_allowed: bool) -> Resul
             y_dim,
             x_space,
             y_space,
-        } => {
-            let steps = Lattice {
-                nu: *x_dim,
-                nv: *y_dim,
-                u: towards(false, *x_space),
-                v: towards(true, *y_space),
-            };
-            steps.offsets(alloc, is_allowed)
-        }
+        } => by_grid(alloc, *x_dim, *y_dim, *x_space, *y_space, is_allowed),
         Rep::Row { dim, space } => by_step(alloc, *dim, towards(false, *space), is_allowed),
         Rep::Column { dim, space } => by_step(alloc, *dim, towards(true, *space), is_allowed),
         Rep::RowSpaces { spaces, .. } => by_own_spaces(alloc, false, spaces.as_slice(), is_allowed),
@@ -234,15 +276,9 @@ pub(crate) fn spread(alloc: Global, repetition: &Rep, is_allowed: bool) -> Resul
             spaces.as_slice(),
             is_allowed,
         ),
-        Rep::Lattice { n_dim, m_dim, u, v } => {
-            let steps = Lattice {
-                nu: *n_dim,
-                nv: *m_dim,
-                u: widened(*u),
-                v: widened(*v),
-            };
-            steps.offsets(alloc, is_allowed)
-        }
+        Rep::Lattice { n_dim, m_dim, u, v } => by_lattice(
+            alloc, *n_dim, *m_dim, *u, *v, is_allowed,
+        ),
         Rep::Line { dim, u } => by_step(alloc, *dim, widened(*u), is_allowed),
         Rep::Moves { moves, .. } => by_moves(alloc, moves.as_slice(), is_allowed),
         Rep::MovesOnGrid { grid, moves, .. } => by_moves_on_grid(
