@@ -59,23 +59,30 @@ def polygons(layer, points, times, reached):
     return in_cell("OTHER", first, b"\x15\x00", times, reached)
 
 
-def shown_polygons(points, times):
-    """Of a cell that TOP places, all copies on one place, so that the area is that of one, with TOP's square of 10.
+def stairs_and_square(points, steps):
+    """The line of `fracture` for a polygon of stairs and its copies, each a step to the right, with TOP's square of 10.
 
     There are n = points / 2 - 2 stairs. From Y n - points to 0 the polygon has all X from 0 to n + 3; in the row from Y k to
-    k + 1 it has those from k + 1 on. The square fills what is left of the stairs in its 10 rows. So the shots are one below Y 0,
-    where a band ends, one of these 10 rows, and one for each stair above. A square grid step has 8 triangles.
+    k + 1 it has those from k + 1 on; the copies add as many X on the right. The square fills what is left of the stairs in its
+    10 rows. So the shots are one below Y 0, where a band ends, one of these 10 rows, and one for each stair above. A square grid
+    step has 8 triangles.
     """
-    words, status, _ = polygons(1, points, times, True)
     stairs = points // 2 - 2
-    area = (stairs + 3) * (points - stairs + 10) + sum(stairs + 2 - stair for stair in range(10, stairs))
-    return words, status, f"output out.oas shots {stairs - 8} triangles {8 * area}"
+    area = (stairs + 3 + steps) * (points - stairs + 10) + sum(stairs + 2 + steps - stair for stair in range(10, stairs))
+    return f"output out.oas shots {stairs - 8} triangles {8 * area}"
 
 
-def rows_of_polygons(points, times):
+def shown_polygons(points, times):
+    """Of a cell that TOP places, all copies on one place, so that the area is that of one."""
+    words, status, _ = polygons(1, points, times, True)
+    return words, status, stairs_and_square(points, 0)
+
+
+def rows_of_polygons(points, times, reached=False):
     """Each a step to the right of the one before: a record of three bytes."""
     first = b"\x15\x3B" + unsigned(1, 0) + many_points(points) + signed(0, 0)
-    return in_cell("OTHER", b"\x10" + first, b"\x15\x10" + signed(1), times)
+    words, status, line = in_cell("OTHER", b"\x10" + first, b"\x15\x10" + signed(1), times, reached)
+    return words, status, stairs_and_square(points, times) if reached else line
 
 
 def paths(layer, points, times, reached):
@@ -149,8 +156,9 @@ CASES = [
     ("a polygon of 100,000 points that nothing reaches, 100,000 times", False, lambda: polygons(1, 100000, 100000, False)),
     ("a polygon of 100,000 points in records of three bytes, 100,000 times", False, lambda: rows_of_polygons(100000, 100000)),
     ("a polygon of 1,000 points, 1,000 times", True, lambda: shown_polygons(1000, 1000)),
-    ("a polygon of 20,000 points, 1,000 times", False, lambda: shown_polygons(20000, 1000)),
     ("a polygon of 100,000 points, 100,000 times", False, lambda: shown_polygons(100000, 100000)),
+    ("a polygon of 1,000 points, 100 times, each a step further", True, lambda: rows_of_polygons(1000, 100, True)),
+    ("a polygon of 20,000 points, 1,000 times, each a step further", False, lambda: rows_of_polygons(20000, 1000, True)),
     ("a path of 100,000 points on an unwanted pair, 100,000 times", False, lambda: paths(OTHER, 100000, 100000, True)),
     ("a path of 10,000 points that nothing reaches, 10,000 times", False, lambda: paths(1, 10000, 10000, False)),
     ("a path of 100,000 points that nothing reaches, 100,000 times", False, lambda: paths(1, 100000, 100000, False)),

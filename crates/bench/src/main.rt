@@ -99,7 +99,7 @@ fn run(rt: &HostRuntime) -> io::Result<()> {
     match asked(words.as_slice()) {
         Some(task) => measure(rt, alloc, task),
         None => println!(rt;
-            "words: [plain or plane] squares or hatch SIDE, [plain or plane] random, comb, pile, wires, jogs or mixed COUNT, walk SIDE, gds, oasis or agree COUNT; up to {MOST}"
+            "words: [plain or plane] squares or hatch SIDE, [plain or plane] random, comb, pile, wires, leaning, jogs or mixed COUNT, walk SIDE, gds, oasis or agree COUNT; up to {MOST}"
         ),
     }
 }

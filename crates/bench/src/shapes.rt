@@ -123,6 +123,23 @@ pub(crate) fn wires(alloc: Global, count: u32) -> Result<Vec<Trap>, AllocError> 
     Ok(traps)
 }
 
+/// So many wires side by side that go up to the right at 45 degrees, each twice as high as all of them are wide, and each a
+/// little higher than the one before.
+pub(crate) fn leaning(alloc: Global, count: u32) -> Result<Vec<Trap>, AllocError> {
+    let mut traps = Vec::new(alloc);
+    for k in 0..count {
+        let k = i64::from(k);
+        let low = k.saturating_mul(2);
+        let high = low.saturating_add(40i64.saturating_mul(i64::from(count)));
+        let left = Line::Rising(10i64.saturating_mul(k));
+        let right = Line::Rising(10i64.saturating_mul(k).saturating_add(4));
+        if let Some(trap) = Trap::new(low, high, left, right) {
+            traps.push(trap)?;
+        }
+    }
+    Ok(traps)
+}
+
 /// Level wires with jogs, this many corners in all: each wire is a row of five hundred rectangles, each a little higher
 /// or lower than the one before.
 pub(crate) fn jogs(alloc: Global, corners: u32) -> Result<Vec<Trap>, AllocError> {

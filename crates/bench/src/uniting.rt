@@ -29,6 +29,8 @@ pub(crate) enum Figure {
     Pile(u32),
     /// So many random rectangles, and upright wires over all of them.
     Wires(u32),
+    /// So many long wires at 45 degrees.
+    Leaning(u32),
     /// Wires with this many corners in all, each corner a jog.
     Jogs(u32),
     /// The same wires, their rectangles in an order in which neighbours don't follow one another.
@@ -56,6 +58,7 @@ impl Figure {
             "hatch" => Some(Figure::Hatch(count.min(1000))),
             "pile" => Some(Figure::Pile(count.min(10_000))),
             "wires" => Some(Figure::Wires(count)),
+            "leaning" => Some(Figure::Leaning(count.min(100_000))),
             "jogs" => Some(Figure::Jogs(count)),
             "mixed" => Some(Figure::Mixed(count)),
             _ => None,
@@ -70,6 +73,7 @@ impl Figure {
             Figure::Hatch(_) => "hatch",
             Figure::Pile(_) => "pile",
             Figure::Wires(_) => "wires",
+            Figure::Leaning(_) => "leaning",
             Figure::Jogs(_) => "jogs",
             Figure::Mixed(_) => "mixed",
         }
@@ -83,6 +87,7 @@ impl Figure {
             Figure::Hatch(count) => shapes::hatch(alloc, count),
             Figure::Pile(count) => shapes::pile(alloc, count),
             Figure::Wires(count) => shapes::wires(alloc, count),
+            Figure::Leaning(count) => shapes::leaning(alloc, count),
             Figure::Jogs(corners) => shapes::jogs(alloc, corners),
             Figure::Mixed(corners) => shapes::mixed(alloc, corners),
         }

@@ -9,16 +9,15 @@ use Rattle.half_grid.specs.Trapezoids.{Trapezoid, CoversExactly}
 use Rattle.half_grid.specs.Windows.{RowRange, row_range}
 use Rattle.half_grid.specs.Winding.{IsInPolygon}
 use Rattle.half_grid.specs.declared.plane.Point.{Point}
-use Rattle.layout_model.specs.Layouts.{IsCellOnGrid, IsShapeOnGrid}
+use Rattle.layout_model.specs.Layouts.{IsShapeOnGrid}
 use Rattle.layout_model.specs.declared.shapes.Shape.{Shape}
 use Rattle.layout_model.specs.declared.cells.Cell.{Cell}
 use Rattle.cell_tree.specs.Cells.{shapes_at}
 use Rattle.cell_tree.specs.Chains.{IsReachable}
-use Rattle.cell_tree.proofs.ForCallers.{shapes_on_grid}
-use Rattle.flat_walk.specs.Tables.{HasShape, HaveNoPieces, IsCut, lists_at, with_pieces}
-use Rattle.flat_walk.proofs.ForCallers.{shape_stays, cut_here, cut_elsewhere, cut_beside}
+use Rattle.flat_walk.specs.Tables.{HasShape, HaveNoPieces, IsShownOnce, lists_at, with_pieces}
+use Rattle.flat_walk.proofs.ForCallers.{shape_stays, once_here, once_again, once_elsewhere, once_beside}
 use Rattle.bool_ops.specs.Operations.{AreRowsOf, ArePieces}
-use Rattle.deck_plan.specs.Plans.{AreAllCut, AreCutUpTo, HaveShapes}
+use Rattle.deck_plan.specs.Plans.{AreAllCut, AreCutUpTo, HaveShapes, IsGivenAgain}
 
 all_cons : {X : Type 0} (P : X → Type 0) (x : X) (xs : List X) → P x → All P xs → All P (x ∷ xs)
 all_cons P x xs p all zero d inside = p
@@ -71,11 +70,9 @@ pieces_cover (a ∷ points) traps closed pieces = let r = rows_of a points in (p
 
 -- ---- shape by shape
 
-pub shape_on_grid : (cells : List Cell) → All IsCellOnGrid cells → (n k : ℕ) (shape : Shape)
-    → slice_get (shapes_at cells n) k ≡ Some shape → IsShapeOnGrid shape
-shape_on_grid cells all n k shape here =
-    subst IsShapeOnGrid (get_or_from_slice_get (shapes_at cells n) k shape shape here)
-    (shapes_on_grid cells all n k shape (slice_get_within (shapes_at cells n) k shape here))
+pub shape_on_grid : (shapes : List Shape) → All IsShapeOnGrid shapes → (k : ℕ) (shape : Shape) → slice_get shapes k ≡ Some shape → IsShapeOnGrid shape
+shape_on_grid shapes all k shape here =
+    subst IsShapeOnGrid (get_or_from_slice_get shapes k shape shape here) (all k shape (slice_get_within shapes k shape here))
 
 none_long : (shapes : List Shape) (lists : List (List Trapezoid)) → lists ≡ map (λ shape. []) shapes → length lists ≡ length shapes
 none_long shapes lists e = ap length e ∙ by shapes
@@ -110,36 +107,36 @@ before_or_at (suc k) (suc n) early apart = let h = before_or_at k n (omega (arit
 
 module _ (cells : List Cell) (table : List (List (List Trapezoid))) (cell number : ℕ) (shape : Shape)
     (pieces : List Trapezoid) (top : ℕ) (reached : IsReachable cells top cell)
-    (here : slice_get (shapes_at cells cell) number ≡ Some shape) (shapes : HaveShapes cells top table)
-    (covers : CoversExactly pieces (IsInPolygon shape.points)) where
+    (here : slice_get (shapes_at cells cell) number ≡ Some shape) (shapes : HaveShapes cells top table) where
   pub place : HasShape table cell number
   place = shapes cell number reached (slice_get_within (shapes_at cells cell) number shape here)
 
   pub shapes_put : HaveShapes cells top (with_pieces table cell number pieces)
   shapes_put = λ n k reach in_shapes. shape_stays table cell number n k pieces place.cell (shapes n k reach in_shapes)
 
-  cut_old : (n k : ℕ) (other : Shape) → ((n ≡ cell) × (k ≡ number) → ⊥) → IsCut table n k other → IsCut (with_pieces table cell number pieces) n k other
-  cut_old n k other apart cut = elim (apart_or_same cell n) [
-    | inl e ↦ subst (λ m. IsCut (with_pieces table cell number pieces) m k other) e
-        (cut_beside table cell number k other pieces place.cell (λ same. apart (sym e, sym same)) (subst (λ m. IsCut table m k other) (sym e) cut))
-    | inr d ↦ cut_elsewhere table cell number n k other pieces d cut
+  -- the shape that is put
+  cut_new : CoversExactly pieces (IsInPolygon shape.points) ⊎ ((pieces ≡ []) × IsGivenAgain (shapes_at cells cell) number shape)
+      → AreCutUpTo cells top table cell number → IsShownOnce cells (with_pieces table cell number pieces) cell number shape
+  cut_new puts cut = elim puts [
+    | inl covers ↦ once_here cells table cell number shape pieces place here covers
+    | inr again ↦ subst (λ (list : List Trapezoid). IsShownOnce cells (with_pieces table cell number list) cell number shape) (sym again.0)
+        (once_again cells table cell number again.1.earlier shape place again.1.before
+        (cut cell again.1.earlier shape reached (inr (refl, again.1.before)) again.1.same))
   ]
 
-  cut_new : (n k : ℕ) (other : Shape) → n ≡ cell → k ≡ number → slice_get (shapes_at cells n) k ≡ Some other
-      → IsCut (with_pieces table cell number pieces) n k other
-  cut_new n k other e f there =
-      let same : shape ≡ other = same_Some shape other (sym here ∙ (rw (sym e, sym f) there)) in
-      subst (λ (s : Shape). IsCut (with_pieces table cell number pieces) n k s) same
-      (subst (λ m. IsCut (with_pieces table cell number pieces) m k shape) (sym e)
-      (subst (λ m. IsCut (with_pieces table cell number pieces) cell m shape) (sym f)
-      (cut_here table cell number shape pieces place covers)))
-
-  pub cut_more : AreCutUpTo cells top table cell number → AreCutUpTo cells top (with_pieces table cell number pieces) cell (number + 1)
-  cut_more cut = λ n k other reach early there. elim early [
-    | inl before ↦ cut_old n k other (λ both. (let e = both.0 in omega (arith, before, e))) (cut n k other reach (inl before) there)
+  pub cut_more : CoversExactly pieces (IsInPolygon shape.points) ⊎ ((pieces ≡ []) × IsGivenAgain (shapes_at cells cell) number shape)
+      → AreCutUpTo cells top table cell number → AreCutUpTo cells top (with_pieces table cell number pieces) cell (number + 1)
+  cut_more puts cut = λ n k other reach early there. elim early [
+    | inl before ↦ once_elsewhere cells table cell number n k other pieces (λ e. omega (arith, before, e)) (cut n k other reach (inl before) there)
     | inr own ↦ elim (apart_or_same k number) [
-      | inl e ↦ cut_new n k other own.0 e there
-      | inr d ↦ cut_old n k other (λ both. d both.1) (cut n k other reach (inr (own.0, before_or_at k number own.1 d)) there)
+      | inl e ↦ (let same : shape ≡ other = same_Some shape other (sym here ∙ (rw (sym own.0, sym e) there)) in
+          subst (λ (s : Shape). IsShownOnce cells (with_pieces table cell number pieces) n k s) same
+          (subst (λ m. IsShownOnce cells (with_pieces table cell number pieces) m k shape) (sym own.0)
+          (subst (λ m. IsShownOnce cells (with_pieces table cell number pieces) cell m shape) (sym e) (cut_new puts cut))))
+      | inr d ↦ (let early = before_or_at k number own.1 d in
+          subst (λ m. IsShownOnce cells (with_pieces table cell number pieces) m k other) (sym own.0)
+          (once_beside cells table cell number k other pieces place.cell early
+          (subst (λ m. IsShownOnce cells table m k other) own.0 (cut n k other reach (inr (own.0, early)) there))))
     ]
   ]
 

@@ -1,12 +1,12 @@
 -- What a plan is seen as: a deck, and the cells of a layout with the number of its top cell.
-use Rattle.std.specs.Prelude.{◌≡◌, ◌<◌, ◌⊎◌, ℕ, List, All, Some, slice_get, length}
+use Rattle.std.specs.Prelude.{◌≡◌, ◌<◌, ◌⊎◌, ℕ, List, [], All, Some, slice_get, length}
 use Rattle.half_grid.specs.Trapezoids.{Trapezoid, CoversExactly, IsShot}
 use Rattle.half_grid.specs.Windows.{RowRange}
 use Rattle.half_grid.specs.Winding.{IsInPolygon}
 use Rattle.layout_model.specs.declared.shapes.Shape.{Shape}
 use Rattle.cell_tree.specs.Cells.{shapes_at}
 use Rattle.cell_tree.specs.Chains.{IsReachable}
-use Rattle.flat_walk.specs.Tables.{IsCut, HasShape, with_pieces, piece_count}
+use Rattle.flat_walk.specs.Tables.{IsShownOnce, HasShape, with_pieces, piece_count}
 use Rattle.layout_model.specs.declared.cells.Cell.{Cell}
 use Rattle.bool_ops.specs.Operations.{IsJoinedOf}
 use Rattle.deck_text.specs.Decks.{IsDeck}
@@ -34,9 +34,10 @@ pub record IsRead (deck : Deck) : Type 0 where
   pub deck_name : List ℕ
   pub is : IsDeck bytes layout_name deck_name deck
 
--- each shape of each reachable cell has pieces that cover it
+-- each shape of each reachable cell has pieces that cover it, or none where the same shape stands earlier in the cell
 abbrev pub AreAllCut : List Cell → ℕ → List (List (List Trapezoid)) → Type 0
-AreAllCut cells top table = (n k : ℕ) (shape : Shape) → IsReachable cells top n → slice_get (shapes_at cells n) k ≡ Some shape → IsCut table n k shape
+AreAllCut cells top table = (n k : ℕ) (shape : Shape) → IsReachable cells top n → slice_get (shapes_at cells n) k ≡ Some shape
+    → IsShownOnce cells table n k shape
 
 -- so many pieces cover the shapes of the reachable cells
 pub record CountsPieces (p : Planned) (count : ℕ) : Type 0 where
@@ -47,12 +48,26 @@ pub record CountsPieces (p : Planned) (count : ℕ) : Type 0 where
 -- each shape of the reachable cells before this one, and the first so many of this one
 abbrev pub AreCutUpTo : List Cell → ℕ → List (List (List Trapezoid)) → ℕ → ℕ → Type 0
 AreCutUpTo cells top table cell count = (n k : ℕ) (shape : Shape) → IsReachable cells top n → (n < cell) ⊎ ((n ≡ cell) × (k < count))
-    → slice_get (shapes_at cells n) k ≡ Some shape → IsCut table n k shape
+    → slice_get (shapes_at cells n) k ≡ Some shape → IsShownOnce cells table n k shape
 
 -- a list that covers the shape's own tiles exactly is put in the place of shape k of cell n
 pub record IsPutFor (shape : Shape) (before : List (List (List Trapezoid))) (n k : ℕ) (after : List (List (List Trapezoid))) : Type 0 where
   pub pieces : List Trapezoid
   pub covers : CoversExactly pieces (IsInPolygon shape.points)
+  pub is : after ≡ with_pieces before n k pieces
+
+-- shape k stands among the shapes before it, too
+pub record IsGivenAgain (shapes : List Shape) (k : ℕ) (shape : Shape) : Type 0 where
+  pub earlier : ℕ
+  pub before : earlier < k
+  pub same : slice_get shapes earlier ≡ Some shape
+
+-- of these shapes of cell n, a list that covers the tiles of shape k exactly is put in its place, or none where it is given again
+pub record IsPutAmong (shapes : List Shape) (before : List (List (List Trapezoid))) (n k : ℕ) (after : List (List (List Trapezoid))) : Type 0 where
+  pub shape : Shape
+  pub here : slice_get shapes k ≡ Some shape
+  pub pieces : List Trapezoid
+  pub covers : CoversExactly pieces (IsInPolygon shape.points) ⊎ ((pieces ≡ []) × IsGivenAgain shapes k shape)
   pub is : after ≡ with_pieces before n k pieces
 
 -- each shape of each reachable cell has a place in the table

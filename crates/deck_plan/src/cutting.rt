@@ -1,13 +1,14 @@
 //! The pieces of a layout's shapes.
-ghost use Rattle.std.specs.Prelude.{◌≡◌, ◌<◌, ◌≤◌, ◌+◌, ℕ, [], ◌∷◌, length, All, IsTrue, IfOk, IfSome, OnOk};
+ghost use Rattle.std.specs.Prelude.{◌≡◌, ◌<◌, ◌≤◌, ◌+◌, ℕ, [], ◌∷◌, length, slice_get, Some, All, IsTrue, IfOk, IfSome, OnOk};
 ghost use Rattle.layout_model.specs.Layouts.{IsCellOnGrid, IsShapeOnGrid};
+ghost use Rattle.layout_model.specs.declared.shapes.Shape.{Shape as AShape};
 ghost use Rattle.layout_model.specs.ShapeLists.{shape_in};
 ghost use Rattle.bool_ops.specs.Operations.{ArePieces};
 ghost use Rattle.cell_tree.specs.Cells.{shapes_at};
-ghost use Rattle.flat_walk.specs.Tables.{HasShape, IsCut, with_pieces};
+ghost use Rattle.flat_walk.specs.Tables.{HasShape, with_pieces};
 ghost use Rattle.half_grid.specs.Trapezoids.{CoversExactly};
 ghost use Rattle.half_grid.specs.Winding.{IsInPolygon};
-ghost use Rattle.deck_plan.specs.Plans.{AreAllCut, AreCutUpTo, HaveShapes, IsPutFor};
+ghost use Rattle.deck_plan.specs.Plans.{AreAllCut, AreCutUpTo, HaveShapes, IsGivenAgain, IsPutAmong, IsPutFor};
 
 use bool_ops::{lone_piece, monotone_pieces, pieces};
 use cell_tree::Tree;
@@ -81,6 +82,41 @@ fn cut_shape(
     parts.put(cell, number, swept.as_slice())
 }
 
+// Whether one of the shapes is the one before it, given again.
+fn is_given_again(shapes: &Shapes, number: usize) -> bool
+    requires { number < length shapes.now }
+    ensures { IsTrue result → (shape : AShape) → slice_get shapes.now number ≡ Some shape → IsGivenAgain shapes.now number shape }
+{
+    if number == 0 {
+        return false;
+    }
+    shapes.get(number - 1).is_again(shapes.get(number))
+}
+
+// Puts the pieces of one of the shapes of a cell, by its number, as `cut_shape` does. A shape that is given again has none:
+// it shows what it showed the first time.
+fn put_shape(
+    alloc: Global,
+    parts: &mut Parts,
+    traps: &mut Vec<Trap>,
+    cell: usize,
+    shapes: &Shapes,
+    number: usize,
+) -> Result<(), NoMemory>
+    requires inside { number < length shapes.now }
+    requires grid { All IsShapeOnGrid shapes.now }
+    requires place { HasShape parts.old cell number }
+    ensures { OnOk result (IsPutAmong shapes.now parts.old cell number parts.new) }
+{
+    let shape = shapes.get(number);
+    if is_given_again(shapes, number) {
+        parts.put(cell, number, &[])?;
+        return Ok(());
+    }
+    cut_shape(alloc, parts, traps, cell, number, shape)?;
+    Ok(())
+}
+
 // The pieces of the shapes of a cell, or none where it has nothing to show.
 fn cut_cell(
     alloc: Global,
@@ -102,14 +138,15 @@ fn cut_cell(
     let shapes = shapes_of(tree, cell);
     let mut number = 0;
     while number < shapes.len() {
-        cut_shape(alloc, parts, traps, cell, number, shapes.get(number))?;
+        put_shape(alloc, parts, traps, cell, shapes, number)?;
         number += 1;
     }
     Ok(())
 }
 
-/// The pieces of each shape of the cells that are reached from the top cell. Of the other cells nothing is cut. Want of
-/// memory is the only refusal.
+/// The pieces of each shape of the cells that are reached from the top cell, but none of a shape that is the one before it in
+/// its cell, given again: a long outline that a modal variable gives a thousand times is cut once. Of the other cells nothing
+/// is cut. Want of memory is the only refusal.
 pub fn cut_parts(alloc: Global, tree: &Tree) -> Result<Parts, NoMemory>
     ensures { IfOk result (λ parts. AreAllCut tree.now.layout.cells tree.now.top parts) }
 {

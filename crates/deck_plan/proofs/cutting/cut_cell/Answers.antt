@@ -1,40 +1,35 @@
-use Rattle.std.proofs.Common.{◌≡◌, ◌+◌, ap, sym, subst, List, Some, slice_get, length, arith}
-use Rattle.std.proofs.lemmas.Option.{slice_get_within}
+use Rattle.std.proofs.Common.{◌≡◌, ◌+◌, ◌<◌, ap, sym, subst, List, All, length, arith}
 use Rattle.half_grid.specs.Trapezoids.{Trapezoid}
-use Rattle.layout_model.specs.ShapeLists.{shape_in}
+use Rattle.layout_model.specs.Layouts.{IsShapeOnGrid}
 use Rattle.layout_model.specs.declared.shapes.Shape.{Shape}
-use Rattle.cell_tree.specs.Cells.{shapes_at}
-use Rattle.deck_plan.specs.Plans.{AreCutUpTo, HaveShapes}
-use Rattle.deck_plan.proofs.PieceLemmas.{shape_on_grid, shapes_put, cut_more, cell_cut, cell_bare}
+use Rattle.cell_tree.proofs.ForCallers.{shapes_on_grid}
+use Rattle.deck_plan.specs.Plans.{AreCutUpTo, HaveShapes, IsPutAmong}
+use Rattle.deck_plan.proofs.PieceLemmas.{shapes_put, cut_more, cell_cut, cell_bare}
 use Rattle.deck_plan.proofs.cutting.cut_cell.Goals as goal
 
-pub cut_shape-requires-clause-grid : goal.cut_shape-requires-clause-grid
-cut_shape-requires-clause-grid c =
-    let shape : Shape = shape_in c.get.result in
-    let here = subst (λ (shapes : List Shape). slice_get shapes c.loop-number.number ≡ Some shape) c.shapes_of-shapes.ensures c.get.ensures in
-    shape_on_grid c.args.tree.now.layout.cells c.requires.grid c.args.cell c.loop-number.number shape here
+pub put_shape-requires-clause-grid : goal.put_shape-requires-clause-grid
+put_shape-requires-clause-grid c =
+    subst (λ (shapes : List Shape). All IsShapeOnGrid shapes) (sym c.shapes_of-shapes.ensures)
+    (shapes_on_grid c.args.tree.now.layout.cells c.requires.grid c.args.cell)
 
-pub cut_shape-requires-clause-place : goal.cut_shape-requires-clause-place
-cut_shape-requires-clause-place c =
-    let shape : Shape = shape_in c.get.result in
-    let here = subst (λ (shapes : List Shape). slice_get shapes c.loop-number.number ≡ Some shape) c.shapes_of-shapes.ensures c.get.ensures in
+pub put_shape-requires-clause-place : goal.put_shape-requires-clause-place
+put_shape-requires-clause-place c =
     c.loop-number.invariant.shapes c.args.cell c.loop-number.number (c.is_bare.ensures.reached c.if-is_bare.false)
-    (slice_get_within (shapes_at c.args.tree.now.layout.cells c.args.cell) c.loop-number.number shape here)
+    (subst (λ (shapes : List Shape). c.loop-number.number < length shapes) c.shapes_of-shapes.ensures c.loop-number-test.true)
 
 pub loop-number-preserved : goal.loop-number-preserved
 loop-number-preserved c =
     let cells = c.args.tree.now.layout.cells in
     let top = c.args.tree.now.top in
     let n = c.loop-number.number in
-    let shape : Shape = shape_in c.get.result in
-    let here = subst (λ (shapes : List Shape). slice_get shapes n ≡ Some shape) c.shapes_of-shapes.ensures c.get.ensures in
-    let put = c.in_ok-cut_shape.ensures in
+    let put = subst (λ (shapes : List Shape). IsPutAmong shapes c.loop-number.parts c.args.cell n c.in_ok-put_shape.new.parts)
+    c.shapes_of-shapes.ensures c.in_ok-put_shape.ensures in
     let reached = c.is_bare.ensures.reached c.if-is_bare.false in
     record {
       shapes = subst (HaveShapes cells top) (sym put.is)
-          (shapes_put cells c.loop-number.parts c.args.cell n shape put.pieces top reached here c.loop-number.invariant.shapes put.covers);
+          (shapes_put cells c.loop-number.parts c.args.cell n put.shape put.pieces top reached put.here c.loop-number.invariant.shapes);
       cut = subst (λ (table : List (List (List Trapezoid))). AreCutUpTo cells top table c.args.cell (n + 1)) (sym put.is)
-          (cut_more cells c.loop-number.parts c.args.cell n shape put.pieces top reached here c.loop-number.invariant.shapes put.covers
+          (cut_more cells c.loop-number.parts c.args.cell n put.shape put.pieces top reached put.here c.loop-number.invariant.shapes put.covers
           c.loop-number.invariant.cut);
       few = omega (arith, c.loop-number-test.true);
     }
