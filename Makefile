@@ -140,6 +140,7 @@ ifndef WHAT
 	for what in steps files densities strips; do tools/measure $(PROGRAM) build/bench $$what || exit 1; done
 	tools/check_bench $(PROGRAM) build/bench 400000
 	tools/measure $(BENCH) build/bench layers
+	tools/sweeps $(BENCH) build/bench
 endif
 
 # All that is measured, put into docs/.

@@ -5,6 +5,7 @@
 
 mod ascents;
 mod climbs;
+mod lengths;
 mod lone;
 mod operations;
 mod outline;

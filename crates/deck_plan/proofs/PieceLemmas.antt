@@ -17,7 +17,7 @@ use Rattle.cell_tree.specs.Chains.{IsReachable}
 use Rattle.flat_walk.specs.Tables.{HasShape, HaveNoPieces, IsShownOnce, lists_at, with_pieces}
 use Rattle.flat_walk.proofs.ForCallers.{shape_stays, once_here, once_again, once_elsewhere, once_beside}
 use Rattle.bool_ops.specs.Operations.{AreRowsOf, ArePieces}
-use Rattle.deck_plan.specs.Plans.{AreAllCut, AreCutUpTo, HaveShapes, IsGivenAgain}
+use Rattle.deck_plan.specs.Plans.{AreAllCut, AreCutUpTo, HaveShapes, IsGivenAgain, IsPutAmong}
 
 all_cons : {X : Type 0} (P : X → Type 0) (x : X) (xs : List X) → P x → All P xs → All P (x ∷ xs)
 all_cons P x xs p all zero d inside = p
@@ -139,6 +139,10 @@ module _ (cells : List Cell) (table : List (List (List Trapezoid))) (cell number
           (subst (λ m. IsShownOnce cells table m k other) own.0 (cut n k other reach (inr (own.0, early)) there))))
     ]
   ]
+
+pub put_in : (shapes others : List Shape) (before : List (List (List Trapezoid))) (n k : ℕ) (after : List (List (List Trapezoid)))
+    → shapes ≡ others → IsPutAmong shapes before n k after → IsPutAmong others before n k after
+put_in shapes others before n k after e put = subst (λ (list : List Shape). IsPutAmong list before n k after) e put
 
 -- the cell is cut
 pub cell_cut : (cells : List Cell) (top : ℕ) (table : List (List (List Trapezoid))) (cell number : ℕ)

@@ -3,8 +3,8 @@ use Rattle.half_grid.specs.Trapezoids.{Trapezoid}
 use Rattle.layout_model.specs.Layouts.{IsShapeOnGrid}
 use Rattle.layout_model.specs.declared.shapes.Shape.{Shape}
 use Rattle.cell_tree.proofs.ForCallers.{shapes_on_grid}
-use Rattle.deck_plan.specs.Plans.{AreCutUpTo, HaveShapes, IsPutAmong}
-use Rattle.deck_plan.proofs.PieceLemmas.{shapes_put, cut_more, cell_cut, cell_bare}
+use Rattle.deck_plan.specs.Plans.{AreCutUpTo, HaveShapes}
+use Rattle.deck_plan.proofs.PieceLemmas.{put_in, shapes_put, cut_more, cell_cut, cell_bare}
 use Rattle.deck_plan.proofs.cutting.cut_cell.Goals as goal
 
 pub put_shape-requires-clause-grid : goal.put_shape-requires-clause-grid
@@ -15,15 +15,15 @@ put_shape-requires-clause-grid c =
 pub put_shape-requires-clause-place : goal.put_shape-requires-clause-place
 put_shape-requires-clause-place c =
     c.loop-number.invariant.shapes c.args.cell c.loop-number.number (c.is_bare.ensures.reached c.if-is_bare.false)
-    (subst (λ (shapes : List Shape). c.loop-number.number < length shapes) c.shapes_of-shapes.ensures c.loop-number-test.true)
+    (let inside = c.loop-number-test.true in let long = c.len.ensures in
+    let same = ap (λ (shapes : List Shape). length shapes) c.shapes_of-shapes.ensures in omega (arith, inside, long, same))
 
 pub loop-number-preserved : goal.loop-number-preserved
 loop-number-preserved c =
     let cells = c.args.tree.now.layout.cells in
     let top = c.args.tree.now.top in
     let n = c.loop-number.number in
-    let put = subst (λ (shapes : List Shape). IsPutAmong shapes c.loop-number.parts c.args.cell n c.in_ok-put_shape.new.parts)
-    c.shapes_of-shapes.ensures c.in_ok-put_shape.ensures in
+    let put = put_in _ _ c.loop-number.parts c.args.cell n _ c.shapes_of-shapes.ensures c.in_ok-put_shape.ensures in
     let reached = c.is_bare.ensures.reached c.if-is_bare.false in
     record {
       shapes = subst (HaveShapes cells top) (sym put.is)

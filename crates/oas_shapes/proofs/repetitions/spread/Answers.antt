@@ -3,7 +3,6 @@ use Rattle.half_grid.specs.declared.plane.Point.{Point}
 use Rattle.layout_model.specs.Grids.{grid_places}
 use Rattle.layout_model.specs.Images.{enlarged}
 use Rattle.oas_shapes.specs.Plane.{origin, east, north, places_along}
-use Rattle.oas_shapes.specs.Ways.{way_of}
 use Rattle.oas_shapes.specs.Repetitions.{steps_of}
 use Rattle.oas_shapes.specs.Short.{AreFew, IsShort}
 use Rattle.oas_shapes.proofs.ArmLemmas.{arm_ok, arm_far, arm_unkept, arm_same}
@@ -91,18 +90,12 @@ returns-in-Same-clause-ok c = arm_same c.args.repetition.now _ c.in-Same.is c.al
 pub returns-in-Grid-clause-far : goal.returns-in-Grid-clause-far
 returns-in-Grid-clause-far c =
     let g = c.in-Grid in
-    arm_far c.args.repetition.now (grid_places g.x_dim g.y_dim (way_of c.towards.result) (way_of c.towards-in-Grid.result)) _
-    (ap (λ u. grid_places g.x_dim g.y_dim u (way_of c.towards-in-Grid.result)) c.towards.ensures
-    ∙ ap (λ v. grid_places g.x_dim g.y_dim (east g.x_space) v) c.towards-in-Grid.ensures ∙ sym (ap steps_of g.is))
-    c.offsets.ensures.far
+    arm_far c.args.repetition.now (grid_places g.x_dim g.y_dim (east g.x_space) (north g.y_space)) _ (sym (ap steps_of g.is)) c.by_grid.ensures.far
 
 pub returns-in-Lattice-clause-far : goal.returns-in-Lattice-clause-far
 returns-in-Lattice-clause-far c =
     let g = c.in-Lattice in
-    arm_far c.args.repetition.now (grid_places g.n_dim g.m_dim (way_of c.widened.result) (way_of c.widened-in-Lattice.result)) _
-    (ap (λ u. grid_places g.n_dim g.m_dim u (way_of c.widened-in-Lattice.result)) c.widened.ensures
-    ∙ ap (λ v. grid_places g.n_dim g.m_dim g.u v) c.widened-in-Lattice.ensures ∙ sym (ap steps_of g.is))
-    c.offsets-in-Lattice.ensures.far
+    arm_far c.args.repetition.now (grid_places g.n_dim g.m_dim g.u g.v) _ (sym (ap steps_of g.is)) c.by_lattice.ensures.far
 
 pub returns-in-RowSpaces-clause-unkept : goal.returns-in-RowSpaces-clause-unkept
 returns-in-RowSpaces-clause-unkept c =
@@ -167,15 +160,10 @@ returns-in-MovesOnGrid-clause-few c = λ short.
 pub returns-in-Grid-clause-unkept : goal.returns-in-Grid-clause-unkept
 returns-in-Grid-clause-unkept c =
     let g = c.in-Grid in
-    arm_unkept c.args.repetition.now c.args.is_allowed (grid_places g.x_dim g.y_dim (way_of c.towards.result) (way_of c.towards-in-Grid.result)) _
-    (ap (λ u. grid_places g.x_dim g.y_dim u (way_of c.towards-in-Grid.result)) c.towards.ensures
-    ∙ ap (λ v. grid_places g.x_dim g.y_dim (east g.x_space) v) c.towards-in-Grid.ensures ∙ sym (ap steps_of g.is))
-    c.offsets.ensures.unkept
+    arm_unkept c.args.repetition.now c.args.is_allowed (grid_places g.x_dim g.y_dim (east g.x_space) (north g.y_space)) _
+    (sym (ap steps_of g.is)) c.by_grid.ensures.unkept
 
 pub returns-in-Lattice-clause-unkept : goal.returns-in-Lattice-clause-unkept
 returns-in-Lattice-clause-unkept c =
     let g = c.in-Lattice in
-    arm_unkept c.args.repetition.now c.args.is_allowed (grid_places g.n_dim g.m_dim (way_of c.widened.result) (way_of c.widened-in-Lattice.result)) _
-    (ap (λ u. grid_places g.n_dim g.m_dim u (way_of c.widened-in-Lattice.result)) c.widened.ensures
-    ∙ ap (λ v. grid_places g.n_dim g.m_dim g.u v) c.widened-in-Lattice.ensures ∙ sym (ap steps_of g.is))
-    c.offsets-in-Lattice.ensures.unkept
+    arm_unkept c.args.repetition.now c.args.is_allowed (grid_places g.n_dim g.m_dim g.u g.v) _ (sym (ap steps_of g.is)) c.by_lattice.ensures.unkept
