@@ -82,6 +82,31 @@ def wide(word, count):
     return ["shots", "out.oas"], 0, f"shots {count} triangles {count << 45}"
 
 
+def spiral(corners):
+    """A path of width 4 that winds outward, 10 from turn to turn, as one polygon: each row crosses up to half of its sides.
+
+    Its legs are level and upright in turn, and each is a shot, from corner to corner where it is level. The upright ones, but for
+    the first, are cut at Y 0, where a band ends, and so is the first leg. An area of a path that ends in its last corner is its
+    width times its length.
+    """
+    legs = [10 * (k // 2 + 1) * (1 if k % 4 < 2 else -1) for k in range(corners - 1)]
+    centre, normals = [(0, 0)], []
+    for k, leg in enumerate(legs):
+        x, y = centre[-1]
+        centre.append((x + leg, y) if k % 2 == 0 else (x, y + leg))
+        normals.append((0, 2 if leg > 0 else -2) if k % 2 == 0 else (-2 if leg > 0 else 2, 0))
+    beside = [normals[:1]] + [list(pair) for pair in zip(normals, normals[1:])] + [normals[-1:]]
+    moves = [(sum(x for x, _ in some), sum(y for _, y in some)) for some in beside]
+    left = [(x + dx, y + dy) for (x, y), (dx, dy) in zip(centre, moves)]
+    right = [(x - dx, y - dy) for (x, y), (dx, dy) in zip(centre, moves)]
+    points = left + right[::-1]
+    steps = [a - c or b - d for (a, b), (c, d) in zip(points[1:-1], points)]
+    oas(oas_cell("TOP", b"\x15\x3B" + unsigned(1, 0, 0, len(steps)) + signed(*steps, *points[0])))
+    deck()
+    area = 4 * sum(abs(leg) for leg in legs)
+    return ["fracture", "layout", "deck"], 0, f"output out.oas shots {len(legs) + len(legs) // 2} triangles {8 * area}"
+
+
 CASES = [
     ("300 slanted wires, each a step higher", True, lambda: slanted(300, 400000, 1)),
     ("100,000 slanted wires, side by side", False, lambda: slanted(100000, 400000, 0)),
@@ -91,6 +116,7 @@ CASES = [
     ("a pile of 100,000 squares, each a step further", False, lambda: stairs(100000)),
     ("a square 1,000,000 times", False, lambda: same(1000000)),
     ("a polygon of 8,191 points that crosses itself at each edge", True, lambda: zigzag(4094, 100)),
+    ("a spiral of 100,000 points", True, lambda: spiral(50000)),
     ("a polygon whose edges cross each other 40,000 times", True, lambda: woven(200, 10)),
     ("a polygon whose edges cross each other 4,000,000 times", False, lambda: woven(2000, 10)),
     ("a shot 1,000,000 times, checked", False, lambda: check_same(1000000)),

@@ -2,13 +2,13 @@
 
 use half_grid::{Edge, x_at};
 
-// So many pairs of edges are looked at, or twice as many.
+// About so many pairs of edges are looked at, or twice as many.
 const SAMPLE: usize = 4096;
 // A column has about so many edges side by side.
 const SIDE_BY_SIDE: u128 = 14;
 // Where a level side crosses more columns than this, they cost more than a sweep that has none, unless shapes cross each other
 // as often.
-const OFTEN: u128 = 32;
+const OFTEN: u128 = 20;
 
 // Sums over pairs of edges that follow one another, and the box round them.
 #[derive(Clone, Copy)]
@@ -90,7 +90,8 @@ impl Extent {
 /// Whether the shapes of these edges are so long, and so many stand side by side, that columns would cut each of them often: a
 /// spiral, say. It looks at some thousand of the edges.
 pub(crate) fn are_long(edges: &[Edge]) -> bool {
-    let step = (edges.len() / SAMPLE).max(2);
+    // An odd step: what is to be seen may come with every second edge, or with every fourth.
+    let step = (edges.len() / SAMPLE / 2).max(1) * 2 + 1;
     let mut extent = Extent::none();
     for some in edges.chunks(step) {
         if let Some((edge, others)) = some.split_first() {
