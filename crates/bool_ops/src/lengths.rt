@@ -9,6 +9,8 @@ const SIDE_BY_SIDE: u128 = 14;
 // Where a level side crosses more columns than this, they cost more than a sweep that has none, unless shapes cross each other
 // as often.
 const OFTEN: u128 = 20;
+// Where so many shapes lie one over another, that sweep goes over each line whose windings change.
+const PILED: u128 = 4;
 
 // Sums over pairs of edges that follow one another, and the box round them.
 #[derive(Clone, Copy)]
@@ -25,6 +27,10 @@ struct Extent {
 // An edge's X at its lower end.
 fn lower_x(edge: &Edge) -> i64 {
     x_at(edge.line(), edge.y0())
+}
+
+fn upper_x(edge: &Edge) -> i64 {
+    x_at(edge.line(), edge.y1())
 }
 
 fn height_of(edge: &Edge) -> u64 {
@@ -44,6 +50,17 @@ fn length_between(edge: &Edge, next: &Edge) -> u64 {
         return lower_x(edge).abs_diff(lower_x(next));
     }
     0
+}
+
+// The edge's part of twice the area inside, each part as often as shapes lie on it: its height, times the sum of the X of its
+// ends.
+fn area_of(edge: &Edge) -> i128 {
+    let ends = i128::from(lower_x(edge)).wrapping_add(i128::from(upper_x(edge)));
+    let area = ends.wrapping_mul(i128::from(height_of(edge)));
+    if edge.is_up() {
+        return area.wrapping_neg();
+    }
+    area
 }
 
 impl Extent {
@@ -85,10 +102,21 @@ impl Extent {
         let columns = alive / SIDE_BY_SIDE;
         (self.lengths / pairs).wrapping_mul(columns) / width
     }
+
+    // How many shapes lie on a point of the box round these edges.
+    fn depth(self, edges: &[Edge]) -> u128 {
+        let height = u128::from(self.top.abs_diff(self.bottom)).max(1);
+        let width = u128::from(self.right.abs_diff(self.left)).max(1);
+        let mut area = 0i128;
+        for edge in edges {
+            area = area.wrapping_add(area_of(edge));
+        }
+        area.unsigned_abs() / 2 / height.wrapping_mul(width).max(1)
+    }
 }
 
-/// Whether the shapes of these edges are so long, and so many stand side by side, that columns would cut each of them often: a
-/// spiral, say. It looks at some thousand of the edges.
+/// Whether the shapes of these edges are so long, and so many stand side by side and not one over another, that columns would
+/// cut each of them often: a spiral, say. It looks at some thousand of the edges, and at all of them where it seems so.
 pub(crate) fn are_long(edges: &[Edge]) -> bool {
     // An odd step: what is to be seen may come with every second edge, or with every fourth.
     let step = (edges.len() / SAMPLE / 2).max(1) * 2 + 1;
@@ -100,5 +128,5 @@ pub(crate) fn are_long(edges: &[Edge]) -> bool {
             }
         }
     }
-    extent.crossings(edges.len()) > OFTEN
+    extent.crossings(edges.len()) > OFTEN && extent.depth(edges) < PILED
 }
