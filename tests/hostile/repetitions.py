@@ -165,5 +165,7 @@ CASES = [
     ("a path of 10,000 points with a width that changes, 20,000 times", False, lambda: paths_of_two_widths(10000, 20000)),
     ("a path of 10,000 points without width that turns back, 100,000 times", False, lambda: paths_without_width(10000, 100000)),
     ("a path of 200 points, 200 times", True, lambda: shown_paths(200, 200)),
+    ("a polygon of 100,000 points, 100,000 times, each a step further", False, lambda: rows_of_polygons(100000, 100000, True)),
+    ("a path of 100,000 points, 100,000 times", False, lambda: shown_paths(100000, 100000)),
     ("a path of 1,000 points, 1,000 times", False, lambda: shown_paths(1000, 1000)),
 ]
