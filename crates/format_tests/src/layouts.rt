@@ -184,14 +184,14 @@ fn shapes_have_grid_edges(rt: HostRuntime) {
     assert!(rt; matches!(refused, Err(ShapeBad::Slant(2))));
 }
 
-// A layout may have millions of shapes, most of them rectangles, which are kept in 64 bytes. A shape of another form, or at
+// A layout may have millions of shapes, most of them rectangles, which are kept in 32 bytes. A shape of another form, or at
 // other places, takes 200 bytes beside: 16 for its pair, 152 for its points, 24 for its offsets and 8 for its mark.
 #[test]
 fn a_shape_is_lean(rt: HostRuntime) {
     assert_eq!(rt; size_of::<Points>(), 152);
     assert_eq!(rt; size_of::<Offsets>(), 24);
     assert_eq!(rt; size_of::<Shape>(), 200);
-    assert_eq!(rt; size_of::<KeptShape>(), 64);
+    assert_eq!(rt; size_of::<KeptShape>(), 32);
 }
 
 fn name(rt: &impl Abort, alloc: Global, bytes: &[u8]) -> Name

@@ -5,6 +5,7 @@ use Rattle.layout_model.specs.Places.{origin}
 use Rattle.layout_model.specs.declared.pair.Pair.{Pair}
 use Rattle.layout_model.specs.declared.shapes.Shape.{Shape}
 use Rattle.layout_model.specs.declared.kept.Plain.{Plain}
+use Rattle.layout_model.specs.declared.kept.ShortPoint.{ShortPoint}
 use Rattle.layout_model.specs.declared.kept.Outline.{Outline}
 use Rattle.layout_model.specs.declared.kept.Outline.TheVariants.{Ring, Kept}
 use Rattle.layout_model.specs.declared.kept.Form.{Form}
@@ -22,8 +23,15 @@ ring_between a c false = a ∷ corner c a ∷ c ∷ corner a c ∷ a ∷ []
 abbrev pub shape_with : Pair → List Point → List Point → Bool → Shape
 shape_with pair points offsets fixed = record { pair = pair; points = points; offsets = offsets; fixed = fixed }
 
+abbrev pub point_from : ShortPoint → Point
+point_from few = record { x = few.x; y = few.y }
+
+abbrev pub pair_from : Plain → Pair
+pair_from plain = record { layer = plain.layer; datatype = plain.datatype }
+
 abbrev pub rectangle_kept : Plain → Shape
-rectangle_kept plain = shape_with plain.pair (ring_between plain.first plain.opposite plain.is_upright) (origin ∷ []) plain.is_fixed
+rectangle_kept plain =
+    shape_with (pair_from plain) (ring_between (point_from plain.first) (point_from plain.opposite) plain.is_upright) (origin ∷ []) plain.is_fixed
 
 abbrev pub kept_shape : Form → Shape
 kept_shape (Rectangle plain) = rectangle_kept plain

@@ -4,7 +4,7 @@ ghost use Rattle.half_grid.specs.Outlines.{IsClosed, HasGridEdges};
 ghost use Rattle.half_grid.specs.Reach.{IsPointWithinReach};
 ghost use Rattle.layout_model.specs.Hulls.{IsLeastBoxOf};
 ghost use Rattle.layout_model.specs.Intervals.{HasNoneIn, IsFirstIn};
-ghost use Rattle.layout_model.specs.Kept.{corner, ring_between, rectangle_kept, shape_with, points_in};
+ghost use Rattle.layout_model.specs.Kept.{point_from, pair_from, corner, ring_between, rectangle_kept, shape_with, points_in};
 ghost use Rattle.layout_model.specs.Places.{origin};
 ghost use Rattle.layout_model.specs.Slants.{IsFirstSlant};
 ghost use Rattle.layout_model.specs.declared.shapes.ShapeBad.TheVariants.{Slant};
@@ -22,6 +22,12 @@ use std::marker::Model;
 
 const ORIGIN: Point = Point { x: 0, y: 0 };
 
+// The least coordinate that takes more than 32 bits.
+const LEAST_BEYOND: i64 = 1 << 31;
+
+// The greatest number that takes 32 bits.
+const GREATEST: u64 = (1 << 32) - 1;
+
 // A rectangle by two opposite corners. Its outline goes from the first one upright or level, and on to the opposite one.
 #[derive(Clone, Copy, Debug)]
 struct Corners {
@@ -30,25 +36,34 @@ struct Corners {
     is_upright: bool,
 }
 
-// A rectangle at the place 0.
+// A point in 64 bits.
+#[derive(Clone, Copy, Debug)]
+struct ShortPoint {
+    x: i32,
+    y: i32,
+}
+
+// A rectangle at the place 0 whose coordinates, layer and datatype are of 32 bits each.
 #[derive(Clone, Copy, Debug)]
 struct Plain {
-    first: Point,
-    opposite: Point,
-    pair: Pair,
+    first: ShortPoint,
+    opposite: ShortPoint,
+    layer: u32,
+    datatype: u32,
     is_upright: bool,
     is_fixed: bool,
 }
 
-// Most shapes are rectangles at the place 0. What is seldom is boxed, so that a kept shape stays small.
+// Most shapes are such rectangles. What is seldom is boxed, so that a kept shape stays small.
 #[derive(Debug, Drop)]
 enum Form {
     Rectangle(Plain),
     Drawn(Box<Shape>),
 }
 
-/// A shape as a cell keeps it, in 64 bytes. A rectangle that is once at the place 0, as most shapes are, takes no more
-/// memory than that, and each other shape is boxed. Contracts see the shape.
+/// A shape as a cell keeps it, in 32 bytes. A rectangle that is once at the place 0, as most shapes are, takes no more
+/// memory than that where its coordinates, layer and datatype are of at most 32 bits, and each other shape is boxed.
+/// Contracts see the shape.
 #[derive(Debug, Drop)]
 pub struct KeptShape {
     form: Form,
@@ -96,11 +111,58 @@ impl<'t> Outline<'t> {
     }
 }
 
-impl Plain {
+// A coordinate in 32 bits, if they hold it.
+#[inline(always)]
+fn short(at: i64) -> Option<i32>
+    ensures { IfSome result (λ few. few ≡ at) }
+{
+    if at < -LEAST_BEYOND {
+        return None;
+    }
+    if at >= LEAST_BEYOND {
+        return None;
+    }
+    Some(at as i32)
+}
+
+// The number of a layer or datatype in 32 bits, if they hold it.
+#[inline(always)]
+fn short_number(number: u64) -> Option<u32>
+    ensures { IfSome result (λ few. few ≡ number) }
+{
+    if number > GREATEST {
+        return None;
+    }
+    Some(number as u32)
+}
+
+impl ShortPoint {
+    // The point in 64 bits, if they hold it.
+    #[inline(always)]
+    fn of(point: Point) -> Option<ShortPoint>
+        ensures { IfSome result (λ few. point_from few ≡ point) }
+    {
+        let x = short(point.x)?;
+        let y = short(point.y)?;
+        Some(ShortPoint { x, y })
+    }
+
+    #[inline(always)]
+    fn point(self) -> Point
+        ensures { result ≡ point_from self }
+    {
+        Point {
+            x: self.x as i64,
+            y: self.y as i64,
+        }
+    }
+}
+
+impl Corners {
     // The outline.
     #[inline(always)]
-    fn ring(&self) -> [Point; 5]
-        ensures { result ≡ ring_between self.now.first self.now.opposite self.now.is_upright }
+    fn ring(self) -> [Point; 5]
+        ensures { result ≡ ring_between self.first self.opposite self.is_upright }
     {
         let first = self.first;
         let opposite = self.opposite;
@@ -116,6 +178,50 @@ impl Plain {
             return [first, above, opposite, beside, first];
         }
         [first, beside, opposite, above, first]
+    }
+}
+
+impl Plain {
+    // The rectangle in 32 bytes, if they hold it.
+    #[inline(always)]
+    fn of(pair: Pair, corners: Corners, is_fixed: bool) -> Option<Plain>
+        ensures { IfSome result (λ plain. rectangle_kept plain ≡ shape_with pair (ring_between corners.first corners.opposite corners.is_upright) (origin ∷ []) is_fixed) }
+    {
+        let first = ShortPoint::of(corners.first)?;
+        let opposite = ShortPoint::of(corners.opposite)?;
+        let layer = short_number(pair.layer)?;
+        let datatype = short_number(pair.datatype)?;
+        Some(Plain {
+            first,
+            opposite,
+            layer,
+            datatype,
+            is_upright: corners.is_upright,
+            is_fixed,
+        })
+    }
+
+    #[inline(always)]
+    fn pair(&self) -> Pair
+        ensures { result ≡ pair_from self.now }
+    {
+        Pair {
+            layer: self.layer as u64,
+            datatype: self.datatype as u64,
+        }
+    }
+
+    // The outline.
+    #[inline(always)]
+    fn ring(&self) -> [Point; 5]
+        ensures { result ≡ ring_between (point_from self.now.first) (point_from self.now.opposite) self.now.is_upright }
+    {
+        let corners = Corners {
+            first: self.first.point(),
+            opposite: self.opposite.point(),
+            is_upright: self.is_upright,
+        };
+        corners.ring()
     }
 }
 
@@ -172,7 +278,7 @@ fn corners_of(points: &[Point]) -> Option<Corners>
     None
 }
 
-// The rectangle of these points at these offsets, where it is one and is at the place 0 alone.
+// The rectangle of these points at these offsets, where it is one, is at the place 0 alone and 32 bytes hold it.
 #[inline(always)]
 fn plain_of(pair: Pair, points: &[Point], offsets: &Offsets, is_fixed: bool) -> Option<Plain>
     ensures { IfSome result (λ plain. rectangle_kept plain ≡ shape_with pair points.now offsets.now is_fixed) }
@@ -181,42 +287,52 @@ fn plain_of(pair: Pair, points: &[Point], offsets: &Offsets, is_fixed: bool) -> 
         return None;
     }
     match corners_of(points) {
-        Some(
-            Corners {
-                first,
-                opposite,
-                is_upright,
-            },
-        ) => Some(Plain {
-            first,
-            opposite,
-            pair,
-            is_upright,
-            is_fixed,
-        }),
+        Some(corners) => Plain::of(pair, corners, is_fixed),
         None => None,
     }
 }
 
 impl KeptShape {
     /// The rectangle with these opposite corners, once, at the place 0, which may be enlarged. Its outline goes from
-    /// the first corner upright. It takes no memory.
+    /// the first corner upright. It takes no memory where its coordinates, layer and datatype are of at most 32 bits.
     #[inline(always)]
-    pub fn rectangle(pair: Pair, first: Point, opposite: Point) -> KeptShape
-        ensures shape { result ≡ shape_with pair (ring_between first opposite true) (origin ∷ []) false }
+    pub fn rectangle(
+        alloc: Global,
+        pair: Pair,
+        first: Point,
+        opposite: Point,
+    ) -> Result<KeptShape, NoMemory>
+        ensures shape { IfOk result (λ kept. kept ≡ shape_with pair (ring_between first opposite true) (origin ∷ []) false) }
         ensures closed { IsClosed (ring_between first opposite true) }
         ensures edges { HasGridEdges (ring_between first opposite true) }
     {
-        let plain = Plain {
+        let corners = Corners {
             first,
             opposite,
-            pair,
             is_upright: true,
-            is_fixed: false,
         };
-        KeptShape {
-            form: Form::Rectangle(plain),
+        if let Some(plain) = Plain::of(pair, corners, false) {
+            let form = Form::Rectangle(plain);
+            return Ok(KeptShape { form });
         }
+        KeptShape::wide(alloc, pair, corners)
+    }
+
+    // The rectangle with these corners, once, at the place 0, in a box.
+    fn wide(alloc: Global, pair: Pair, corners: Corners) -> Result<KeptShape, NoMemory>
+        ensures { IfOk result (λ kept. kept ≡ shape_with pair (ring_between corners.first corners.opposite corners.is_upright) (origin ∷ []) false) }
+    {
+        let points = Points::new(alloc, &corners.ring())?;
+        let offsets = Offsets::list(alloc, &[ORIGIN])?;
+        KeptShape::of(
+            alloc,
+            Shape {
+                pair,
+                points,
+                offsets,
+                fixed: false,
+            },
+        )
     }
 
     /// Keeps a shape in a box, whatever its form.
@@ -285,7 +401,7 @@ impl KeptShape {
         ensures { result ≡ self.now.pair }
     {
         match &self.form {
-            Form::Rectangle(plain) => plain.pair,
+            Form::Rectangle(plain) => plain.pair(),
             Form::Drawn(shape) => shape.pair,
         }
     }

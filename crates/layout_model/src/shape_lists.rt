@@ -41,7 +41,7 @@ struct Run {
 
 /// The shapes of a cell, in order. Contracts see the list.
 ///
-/// A shape that is pushed takes 64 bytes, and what it has boxed. The shapes of a shared path take 112 bytes and constant
+/// A shape that is pushed takes 32 bytes, and what it has boxed. The shapes of a shared path take 112 bytes and constant
 /// time, however many they are, and what their offsets have boxed: each is made when it is asked for. Where no path was
 /// pushed, reading a shape is an access to a slice; else it is a bisection of as many runs as there are calls of `push_path`.
 #[derive(Debug, Drop)]

@@ -26,6 +26,7 @@ use geo_stream::Refusal;
 use layout_model::{Pair, Shapes, is_among};
 use oas_fields::{Fields, Variable};
 use oas_shapes::draw_rectangle;
+use std::alloc::Global;
 
 // The first variable that a rectangle needs and that has no value.
 #[inline(always)]
@@ -61,7 +62,12 @@ fn look_at_rectangle(sorted: &[Pair], fields: &Fields, at: usize) -> Result<bool
 
 // Adds the shape of a rectangle whose pair is wanted.
 #[inline(always)]
-fn draw_plain(fields: &Fields, at: usize, shapes: &mut Shapes) -> Result<(), Refusal<OasBad>>
+fn draw_plain(
+    alloc: Global,
+    fields: &Fields,
+    at: usize,
+    shapes: &mut Shapes,
+) -> Result<(), Refusal<OasBad>>
     requires near { IsPlaceWithin (2 ^ 40) fields.now.geometry }
     ensures shapes { OnOk result (shapes.new ≡ shapes.old ++ shapes_in bodies.Rectangle fields.now Nothing) }
     ensures grid { All IsShapeOnGrid shapes.old → OnOk result (All IsShapeOnGrid shapes.new) }
@@ -72,7 +78,7 @@ fn draw_plain(fields: &Fields, at: usize, shapes: &mut Shapes) -> Result<(), Ref
     let place = point_of(fields.geometry);
     let width = or_none(fields.width);
     let height = or_none(fields.height);
-    match draw_rectangle(pair, place, width, height, shapes) {
+    match draw_rectangle(alloc, pair, place, width, height, shapes) {
         Ok(()) => Ok(()),
         Err(undrawn) => Err(bad_at(undrawn, at)),
     }
@@ -81,6 +87,7 @@ fn draw_plain(fields: &Fields, at: usize, shapes: &mut Shapes) -> Result<(), Ref
 // Adds the shape of a rectangle to the open cell, where its pair is wanted.
 #[inline(always)]
 fn add_rectangle(
+    alloc: Global,
     fields: &Fields,
     is_wanted: bool,
     at: usize,
@@ -99,7 +106,7 @@ fn add_rectangle(
     if !is_wanted {
         return Ok(());
     }
-    match draw_plain(fields, at, &mut drafts.shapes) {
+    match draw_plain(alloc, fields, at, &mut drafts.shapes) {
         Ok(()) => Ok(()),
         Err(bad) => Err(bad),
     }
@@ -110,6 +117,7 @@ fn add_rectangle(
 /// placements and texts were near before it.
 #[inline(always)]
 pub(crate) fn take_plain(
+    alloc: Global,
     sorted: &[Pair],
     fields: &Fields,
     at: usize,
@@ -133,7 +141,7 @@ pub(crate) fn take_plain(
         Ok(is_wanted) => is_wanted,
         Err(bad) => return Err(Refusal::Fault(bad)),
     };
-    match add_rectangle(fields, is_wanted, at, drafts) {
+    match add_rectangle(alloc, fields, is_wanted, at, drafts) {
         Ok(()) => Ok(is_wanted),
         Err(bad) => Err(bad),
     }

@@ -277,6 +277,7 @@ impl<'a> Reader<'a> {
     #[inline(always)]
     fn take_box(
         &mut self,
+        alloc: Global,
         bytes: &'a [u8],
         sorted: &[Pair],
         at: usize,
@@ -302,7 +303,7 @@ impl<'a> Reader<'a> {
         ensures bad { (wanted : AList APair) (past : AList Item) (r : ARecord) → IsTaken wanted sorted.now (records_in past) r plain self.old.fields
             → AreNamesOf bytes.now past self.old.names → IfFault result (IsBadBody bytes.now wanted past at r) }
     {
-        match take_plain(sorted, &self.fields, at, &mut self.drafts) {
+        match take_plain(alloc, sorted, &self.fields, at, &mut self.drafts) {
             Ok(is_wanted) => {
                 counting::count_shape(&mut self.counts, is_wanted);
                 Ok(())
@@ -364,6 +365,7 @@ impl<'a> Reader<'a> {
     #[inline(always)]
     fn take_rectangle(
         &mut self,
+        alloc: Global,
         bytes: &'a [u8],
         sorted: &[Pair],
         current: &PlainRectangle,
@@ -391,7 +393,7 @@ impl<'a> Reader<'a> {
             return Err(Refusal::Fault(OasBad::Order(at)));
         };
         take_rectangle_fields(bytes, &mut self.fields, current);
-        match self.take_box(bytes, sorted, at) {
+        match self.take_box(alloc, bytes, sorted, at) {
             Ok(()) => {}
             Err(bad) => return Err(bad),
         }
@@ -450,7 +452,7 @@ fn read_records(
     let mut at = MAGIC.len();
     'records: loop {
         if let Some((rectangle, next)) = plain_rectangle_at(bytes, at) {
-            match reader.take_rectangle(bytes, sorted, &rectangle, at) {
+            match reader.take_rectangle(alloc, bytes, sorted, &rectangle, at) {
                 Ok(()) => {}
                 Err(bad) => return Err(bad),
             }

@@ -1,7 +1,10 @@
 //! Rectangles without a repetition.
-ghost use Rattle.std.specs.Prelude.{◌≡◌, ◌++◌, ℕ, pos, ◌+ℤ◌, [], ◌∷◌, All, OnOk, IfSome, IfNone, Err, None as Nothing};
+ghost use Rattle.std.specs.Prelude.{◌≡◌, ◌++◌, ℕ, pos, ◌+ℤ◌, true, false, [], ◌∷◌, All, OnOk, IfSome, IfNone, Err, None as Nothing};
 ghost use Rattle.layout_model.specs.Images.{moved as place_after};
+ghost use Rattle.half_grid.specs.Outlines.{IsClosed, HasGridEdges};
+ghost use Rattle.layout_model.specs.Kept.{ring_between, shape_with};
 ghost use Rattle.layout_model.specs.Layouts.{IsShapeOnGrid};
+ghost use Rattle.layout_model.specs.Places.{origin};
 ghost use Rattle.oas_shapes.specs.Figures.{IsSize};
 ghost use Rattle.oas_shapes.specs.Outlines.{figure_outline, outline_shape};
 ghost use Rattle.oas_shapes.specs.Plane.{point, IsLength, IsNear};
@@ -13,8 +16,10 @@ ghost use Rattle.oas_shapes.specs.declared.figures.Figure.TheVariants.{Rectangle
 use crate::corners::is_size;
 use crate::drawing::Undrawn;
 use crate::wide::doubled;
+use geo_stream::NoMemory;
 use half_grid::Point;
 use layout_model::{KeptShape, Pair, Shapes};
+use std::alloc::Global;
 
 // How far from 0 a coordinate is at most, in grid steps.
 const FARTHEST: i64 = 1 << 40;
@@ -69,10 +74,28 @@ fn opposite(at: Point, width: u64, height: u64) -> Option<Point>
     }
 }
 
+// Puts the rectangle with these corners in half units last.
+#[inline(always)]
+fn push_rectangle(
+    alloc: Global,
+    pair: Pair,
+    low: Point,
+    high: Point,
+    shapes: &mut Shapes,
+) -> Result<(), NoMemory>
+    ensures shapes { OnOk result (shapes.new ≡ shapes.old ++ shape_with pair (ring_between low high true) (origin ∷ []) false ∷ []) }
+    ensures closed { IsClosed (ring_between low high true) }
+    ensures edges { HasGridEdges (ring_between low high true) }
+{
+    let kept = KeptShape::rectangle(alloc, pair, low, high)?;
+    shapes.push(kept)
+}
+
 /// Adds the shape of a RECTANGLE at this position that isn't repeated, as `draw_figure` does. It makes no outline: a
 /// rectangle is near 0 where two of its corners are.
 #[inline(always)]
 pub fn draw_rectangle(
+    alloc: Global,
     pair: Pair,
     at: Point,
     width: u64,
@@ -95,8 +118,7 @@ pub fn draw_rectangle(
     let Some(high) = opposite(at, width, height) else {
         return Err(Undrawn::Rule(1));
     };
-    let kept = KeptShape::rectangle(pair, doubled(at), doubled(high));
-    match shapes.push(kept) {
+    match push_rectangle(alloc, pair, doubled(at), doubled(high), shapes) {
         Ok(()) => Ok(()),
         Err(_) => Err(Undrawn::NoMemory),
     }
