@@ -10,17 +10,17 @@ found : (c : goal.In-Ok) → IsBox c.args.at c.args.width c.args.height c.double
 found c =
     box_of c.args.at c.args.width c.args.height c.in-Some.high c.doubled.result c.doubled-2.result (c.if-not-is_size.ensures.0 refl)
     (c.if-not-is_size-2.ensures.0 refl) c.requires.at c.in-Some.ensures.some c.doubled.ensures c.doubled-2.ensures
-    c.rectangle-kept.ensures.edges c.rectangle-kept.ensures.closed
+    c.push_rectangle.ensures.edges c.push_rectangle.ensures.closed
 
 pub returns-in-Ok-clause-shapes : goal.returns-in-Ok-clause-shapes
 returns-in-Ok-clause-shapes c =
-    c.in-Ok.ensures
-    ∙ ap (λ shape. c.args.shapes.now ++ shape ∷ []) (c.rectangle-kept.ensures.shape ∙ box_shape c.args.pair c.args.at c.args.width c.args.height _ _ (found c))
+    c.in-Ok.ensures.shapes
+    ∙ ap (λ shape. c.args.shapes.now ++ shape ∷ []) (box_shape c.args.pair c.args.at c.args.width c.args.height _ _ (found c))
 
 pub returns-in-Ok-clause-grid : goal.returns-in-Ok-clause-grid
 returns-in-Ok-clause-grid c = λ old.
-    let shape = c.rectangle-kept.ensures.shape ∙ box_shape c.args.pair c.args.at c.args.width c.args.height _ _ (found c) in
-    subst (All IsShapeOnGrid) (sym c.in-Ok.ensures)
+    let shape = box_shape c.args.pair c.args.at c.args.width c.args.height _ _ (found c) in
+    subst (All IsShapeOnGrid) (sym c.in-Ok.ensures.shapes)
     (All-push IsShapeOnGrid _ _ old
     (subst IsShapeOnGrid (sym shape) (box_on_grid c.args.pair c.args.at c.args.width c.args.height _ _ (found c))))
 
@@ -32,4 +32,4 @@ returns-in-Err-clause-memory c = λ e.
     box_keeps c.args.at c.args.width c.args.height _ _
     (box_of c.args.at c.args.width c.args.height c.in-Some.high c.doubled.result c.doubled-2.result (c.if-not-is_size.ensures.0 refl)
     (c.if-not-is_size-2.ensures.0 refl) c.requires.at c.in-Some.ensures.some c.doubled.ensures c.doubled-2.ensures
-    c.rectangle-kept.ensures.edges c.rectangle-kept.ensures.closed)
+    c.push_rectangle.ensures.edges c.push_rectangle.ensures.closed)
