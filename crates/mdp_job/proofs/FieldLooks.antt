@@ -1,5 +1,5 @@
 -- A name holds one shot file that can be split, or one reason why it isn't.
-use Rattle.std.proofs.Common.{◌≡◌, ℕ, ◌<◌, ◌≤◌, ℤ, pos, ◌+ℤ◌, ◌-ℤ◌, ◌*ℤ◌, ◌≤ℤ◌, ◌<ℤ◌, List, [], ◌∷◌, All, slice_get, Some, refl, sym, ap, subst, ◌∙◌, arith}
+use Rattle.std.proofs.Common.{◌≡◌, ℕ, ℤ, pos, ◌+ℤ◌, ◌-ℤ◌, ◌≤ℤ◌, ◌<ℤ◌, List, [], ◌∷◌, All, slice_get, Some, refl, sym, ap, subst, arith}
 use Rattle.std.proofs.lemmas.Int.{ints, by_lt_z}
 use Rattle.std.proofs.lemmas.Option.{get_or_from_slice_get, slice_get_within}
 use Rattle.std.proofs.lemmas.List.Elements.{All-get_or, All-contains}
@@ -10,7 +10,7 @@ use Rattle.field_split.specs.Fields.{IsInStretch}
 use Rattle.field_split.specs.Looks.{IsFieldShot, IsFirstTooWide, MeetsStripe, IsWithinStripes, AreStripesOf}
 use Rattle.field_split.proofs.ForCallers.{fewer, next_start}
 use Rattle.mdp_job.specs.ShotFiles.{ShotData, HoldsShots}
-use Rattle.mdp_job.specs.Splitting.{CanBeSplit, HoldsFields, HoldsWide, HoldsManyStripes, AreManyStripes, IsFieldsFault}
+use Rattle.mdp_job.specs.Splitting.{CanBeSplit, HoldsFields, AreManyStripes, IsFieldsFault}
 use Rattle.mdp_job.specs.Table.{splitting_command}
 use Rattle.job_report.specs.declared.faults.CheckFault.{CheckFault}
 use Rattle.job_report.specs.declared.faults.CheckFault.TheVariants as faults

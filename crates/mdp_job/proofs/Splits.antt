@@ -1,5 +1,5 @@
 -- How the parts of the command `split` fit together.
-use Rattle.std.proofs.Common.{◌≡◌, ◌⊎◌, inl, inr, ℕ, ℤ, pos, ◌-ℤ◌, ◌<ℤ◌, List, [], Option, None, Some, All, refl, ap, subst, ◌∙◌}
+use Rattle.std.proofs.Common.{◌≡◌, ◌⊎◌, inl, inr, ℕ, ℤ, pos, List, [], Option, None, Some, All, refl, ap, subst, ◌∙◌}
 use Rattle.half_grid.specs.Trapezoids.{Trapezoid, IsShot}
 use Rattle.depot.specs.Content.{Content, with_left, with_said, IsPartSaid}
 use Rattle.depot.specs.Counts.{Counts, Rose}
@@ -14,7 +14,7 @@ use Rattle.field_output.specs.declared.sums.Stripes.{Stripes}
 use Rattle.mdp_job.specs.Runs.{Run, run_of}
 use Rattle.mdp_job.specs.Parts.{fault_status, IsSaidSo, IsOfFile, IsOfWriting, refuses_shots, refuses_fields, CountsFor}
 use Rattle.mdp_job.specs.ShotFiles.{ShotData, HoldsShots, IsShotsFault}
-use Rattle.mdp_job.specs.Splitting.{CanBeSplit, head_of, lines_of_stripes, split_text, IsFieldsFault, IsSplit, IsCutShort, IsUnsaid}
+use Rattle.mdp_job.specs.Splitting.{CanBeSplit, head_of, lines_of_stripes, split_text, IsFieldsFault}
 use Rattle.mdp_job.specs.FieldAnswers.{IsSpan, IsSpanFault, IsSplitSo, IsSplitFile}
 use Rattle.mdp_job.specs.FileAnswers.{IsFileAnswer, IsRefusedFile, IsOfRefusedFile}
 use Rattle.mdp_job.specs.Table.{splitting_command}

@@ -1,9 +1,8 @@
 -- The files of stripes: what was said while they were made, and that their lists are one.
-use Rattle.std.proofs.Common.{◌≡◌, ◌⊎◌, inl, inr, ℕ, suc, ℤ, pos, ◌+ℤ◌, List, [], ◌∷◌, ◌++◌, length, take, All, refl, sym, ap, subst, ◌∙◌, arith}
+use Rattle.std.proofs.Common.{◌≡◌, inl, inr, ℕ, ℤ, pos, ◌+ℤ◌, List, [], ◌∷◌, ◌++◌, length, take, All, refl, sym, ap, subst, ◌∙◌, arith}
 use Rattle.std.proofs.lemmas.Int.{ints}
 use Rattle.half_grid.specs.Trapezoids.{Trapezoid, IsShot}
-use Rattle.geo_stream.specs.Flattened.{end_to_end}
-use Rattle.depot.specs.Content.{Content, with_left, with_file, with_said, IsPartSaid}
+use Rattle.depot.specs.Content.{Content, with_left, with_file, with_said}
 use Rattle.shot_writer.specs.declared.parts.Head.{Head}
 use Rattle.field_split.specs.Fields.{IsFieldSize, AreStripeLists}
 use Rattle.field_split.proofs.ForCallers.{one_stripe_list}

@@ -19,7 +19,7 @@ use Rattle.mdp_job.specs.Table.{listing_command, packing_command, unpacking_comm
 use Rattle.job_report.specs.Endings.{name_of, file_of, file_at, file_or}
 use Rattle.mdp_job.specs.Certificates.{IsFileAt}
 use Rattle.mdp_job.specs.Clauses.{IsInputOf, IsAccepted, IsUnreadableBy, IsUnreadable, IsUnreadableAtOnceBy, ReadFaults, WriteFaults, DeckLong}
-use Rattle.mdp_job.specs.Clauses.{DeckBroken, LayoutLong, GdsBroken, OasBroken, TreeBroken, FileRefused, ReadsShots, ReadsFile, ShotsLong, ShotsBad}
+use Rattle.mdp_job.specs.Clauses.{DeckBroken, LayoutLong, GdsBroken, OasBroken, TreeBroken, FileRefused, ReadsFile, ShotsLong, ShotsBad}
 use Rattle.mdp_job.specs.Clauses.{PackedBad, SplitWide, SplitStripes, Acceptance, Refusals, IsTopOf, IsFileOf, Belongs}
 use Rattle.job_report.specs.declared.faults.CheckFault.TheVariants as faults
 use Rattle.job_report.specs.declared.status.Status.{Status}

@@ -1,7 +1,5 @@
 use Rattle.std.proofs.Common.{ap}
 use Rattle.std.specs.Prelude.{IsTrue}
-use Rattle.job_words.specs.Texts.{texts}
-use Rattle.mdp_job.specs.Runs.{run_of}
 use Rattle.mdp_job.proofs.Table.{table_later, accepts, accepts_after, refuses, refuses_after}
 use Rattle.mdp_job.proofs.Ends.{ends_of}
 use Rattle.mdp_job.proofs.Finals.{coverage, certifies, faults_told}
@@ -11,81 +9,48 @@ use Rattle.mdp_job.proofs.job.run.Goals as goal
 
 pub returns-clause-covers : goal.returns-clause-covers
 returns-clause-covers g c = λ told.
-    coverage g.D.Depot.tells (g.D.Depot.content c.args.depot.now) (g.D.Depot.content c.answered-ending.new.depot) (g.D.Depot.content c.say_line.new.depot)
-    (g.D.Depot.counts c.args.depot.now) (g.D.Depot.counts c.answered-ending.new.depot) (g.D.Depot.counts c.say_line.new.depot) (texts c.args.words.now)
-    c.answered-ending.result.status c.answered-ending.result.top
-    (ends_of g.D.Depot.tells (g.D.Depot.content c.args.depot.now) (g.D.Depot.content c.answered-ending.new.depot) (g.D.Depot.content c.say_line.new.depot)
-    (g.D.Depot.counts c.args.depot.now) (g.D.Depot.counts c.answered-ending.new.depot) (g.D.Depot.counts c.say_line.new.depot) (texts c.args.words.now)
-    c.answered-ending.result.status c.answered-ending.result.top c.answered-ending.result.outputs told (c.answered-ending.ensures.table told)
-    (c.answered-ending.ensures.file told) c.answered-ending.ensures.counts c.answered-ending.ensures.counted c.say_line.ensures.counted
+    coverage _ _ _ _ _ _ _ _ _ _
+    (ends_of _ _ _ _ _ _ _ _ _ _ _ told (c.answered-ending.ensures.table told) (c.answered-ending.ensures.file told)
+    c.answered-ending.ensures.counts c.answered-ending.ensures.counted c.say_line.ensures.counted
     (λ e. ap g.D.Depot.content (c.say_line.ensures.done e)) (rw c.file_word.ensures at (c.say_line.ensures.said told))
     (rw c.file_word.ensures at (c.say_line.ensures.whole told)))
 
 pub returns-clause-certifies : goal.returns-clause-certifies
 returns-clause-certifies g c = λ told.
-    certifies g.D.Depot.tells (g.D.Depot.content c.args.depot.now) (g.D.Depot.content c.answered-ending.new.depot) (g.D.Depot.content c.say_line.new.depot)
-    (g.D.Depot.counts c.args.depot.now) (g.D.Depot.counts c.answered-ending.new.depot) (g.D.Depot.counts c.say_line.new.depot) (texts c.args.words.now)
-    c.answered-ending.result.status c.answered-ending.result.top
-    (ends_of g.D.Depot.tells (g.D.Depot.content c.args.depot.now) (g.D.Depot.content c.answered-ending.new.depot) (g.D.Depot.content c.say_line.new.depot)
-    (g.D.Depot.counts c.args.depot.now) (g.D.Depot.counts c.answered-ending.new.depot) (g.D.Depot.counts c.say_line.new.depot) (texts c.args.words.now)
-    c.answered-ending.result.status c.answered-ending.result.top c.answered-ending.result.outputs told (c.answered-ending.ensures.table told)
-    (c.answered-ending.ensures.file told) c.answered-ending.ensures.counts c.answered-ending.ensures.counted c.say_line.ensures.counted
+    certifies _ _ _ _ _ _ _ _ _ _
+    (ends_of _ _ _ _ _ _ _ _ _ _ _ told (c.answered-ending.ensures.table told) (c.answered-ending.ensures.file told)
+    c.answered-ending.ensures.counts c.answered-ending.ensures.counted c.say_line.ensures.counted
     (λ e. ap g.D.Depot.content (c.say_line.ensures.done e)) (rw c.file_word.ensures at (c.say_line.ensures.said told))
     (rw c.file_word.ensures at (c.say_line.ensures.whole told)))
 
 pub returns-clause-leaves : goal.returns-clause-leaves
 returns-clause-leaves g c = λ told.
-    leaves g.D.Depot.tells (g.D.Depot.content c.args.depot.now) (g.D.Depot.content c.answered-ending.new.depot) (g.D.Depot.content c.say_line.new.depot)
-    (g.D.Depot.counts c.args.depot.now) (g.D.Depot.counts c.answered-ending.new.depot) (g.D.Depot.counts c.say_line.new.depot) (texts c.args.words.now)
-    c.answered-ending.result.status c.answered-ending.result.top
-    (ends_of g.D.Depot.tells (g.D.Depot.content c.args.depot.now) (g.D.Depot.content c.answered-ending.new.depot) (g.D.Depot.content c.say_line.new.depot)
-    (g.D.Depot.counts c.args.depot.now) (g.D.Depot.counts c.answered-ending.new.depot) (g.D.Depot.counts c.say_line.new.depot) (texts c.args.words.now)
-    c.answered-ending.result.status c.answered-ending.result.top c.answered-ending.result.outputs told (c.answered-ending.ensures.table told)
-    (c.answered-ending.ensures.file told) c.answered-ending.ensures.counts c.answered-ending.ensures.counted c.say_line.ensures.counted
+    leaves _ _ _ _ _ _ _ _ _ _
+    (ends_of _ _ _ _ _ _ _ _ _ _ _ told (c.answered-ending.ensures.table told) (c.answered-ending.ensures.file told)
+    c.answered-ending.ensures.counts c.answered-ending.ensures.counted c.say_line.ensures.counted
     (λ e. ap g.D.Depot.content (c.say_line.ensures.done e)) (rw c.file_word.ensures at (c.say_line.ensures.said told))
     (rw c.file_word.ensures at (c.say_line.ensures.whole told)))
 
 pub returns-clause-says : goal.returns-clause-says
 returns-clause-says g c = λ told.
-    speaks g.D.Depot.tells (g.D.Depot.content c.args.depot.now) (g.D.Depot.content c.answered-ending.new.depot) (g.D.Depot.content c.say_line.new.depot)
-    (g.D.Depot.counts c.args.depot.now) (g.D.Depot.counts c.answered-ending.new.depot) (g.D.Depot.counts c.say_line.new.depot) (texts c.args.words.now)
-    c.answered-ending.result.status c.answered-ending.result.top
-    (ends_of g.D.Depot.tells (g.D.Depot.content c.args.depot.now) (g.D.Depot.content c.answered-ending.new.depot) (g.D.Depot.content c.say_line.new.depot)
-    (g.D.Depot.counts c.args.depot.now) (g.D.Depot.counts c.answered-ending.new.depot) (g.D.Depot.counts c.say_line.new.depot) (texts c.args.words.now)
-    c.answered-ending.result.status c.answered-ending.result.top c.answered-ending.result.outputs told (c.answered-ending.ensures.table told)
-    (c.answered-ending.ensures.file told) c.answered-ending.ensures.counts c.answered-ending.ensures.counted c.say_line.ensures.counted
+    speaks _ _ _ _ _ _ _ _ _ _
+    (ends_of _ _ _ _ _ _ _ _ _ _ _ told (c.answered-ending.ensures.table told) (c.answered-ending.ensures.file told)
+    c.answered-ending.ensures.counts c.answered-ending.ensures.counted c.say_line.ensures.counted
     (λ e. ap g.D.Depot.content (c.say_line.ensures.done e)) (rw c.file_word.ensures at (c.say_line.ensures.said told))
     (rw c.file_word.ensures at (c.say_line.ensures.whole told)))
 
 pub returns-clause-accepts : goal.returns-clause-accepts
 returns-clause-accepts g c = λ told.
-    accepts_after (g.D.Depot.content c.args.depot.now) (g.D.Depot.content c.answered-ending.new.depot)
-    (g.D.Depot.content c.say_line.new.depot) (g.D.Depot.counts c.args.depot.now)
-    (g.D.Depot.counts c.say_line.new.depot) (texts c.args.words.now) c.answered-ending.result.status
-    (accepts g.D.Depot.tells (run_of (g.D.Depot.content c.args.depot.now)
-    (g.D.Depot.content c.answered-ending.new.depot) (g.D.Depot.counts c.args.depot.now)
-    (g.D.Depot.counts c.say_line.new.depot)) (texts c.args.words.now) c.answered-ending.result.status c.answered-ending.result.top
-    (table_later g.D.Depot.tells (g.D.Depot.content c.args.depot.now) (g.D.Depot.content c.answered-ending.new.depot)
-    (g.D.Depot.counts c.args.depot.now) (g.D.Depot.counts c.answered-ending.new.depot)
-    (g.D.Depot.counts c.say_line.new.depot) (texts c.args.words.now) c.answered-ending.result.status
-    c.answered-ending.result.top c.say_line.ensures.counted (c.answered-ending.ensures.table told)))
+    accepts_after _ _ _ _ _ _ _
+    (accepts _ _ _ _ _ (table_later _ _ _ _ _ _ _ _ _ c.say_line.ensures.counted (c.answered-ending.ensures.table told)))
 
 pub returns-clause-refuses : goal.returns-clause-refuses
 returns-clause-refuses g c = λ told.
-    refuses_after (g.D.Depot.content c.args.depot.now) (g.D.Depot.content c.answered-ending.new.depot)
-    (g.D.Depot.content c.say_line.new.depot) (g.D.Depot.counts c.args.depot.now)
-    (g.D.Depot.counts c.say_line.new.depot) (texts c.args.words.now) c.answered-ending.result.status
-    (refuses g.D.Depot.tells (run_of (g.D.Depot.content c.args.depot.now)
-    (g.D.Depot.content c.answered-ending.new.depot) (g.D.Depot.counts c.args.depot.now)
-    (g.D.Depot.counts c.say_line.new.depot)) (texts c.args.words.now) c.answered-ending.result.status c.answered-ending.result.top
-    (table_later g.D.Depot.tells (g.D.Depot.content c.args.depot.now) (g.D.Depot.content c.answered-ending.new.depot)
-    (g.D.Depot.counts c.args.depot.now) (g.D.Depot.counts c.answered-ending.new.depot)
-    (g.D.Depot.counts c.say_line.new.depot) (texts c.args.words.now) c.answered-ending.result.status
-    c.answered-ending.result.top c.say_line.ensures.counted (c.answered-ending.ensures.table told)))
+    refuses_after _ _ _ _ _ _ _
+    (refuses _ _ _ _ _ (table_later _ _ _ _ _ _ _ _ _ c.say_line.ensures.counted (c.answered-ending.ensures.table told)))
 
 pub returns-clause-faults_told : goal.returns-clause-faults_told
 returns-clause-faults_told g c =
-    faults_told (g.D.Depot.counts c.args.depot.now) (g.D.Depot.counts c.answered-ending.new.depot)
-    (g.D.Depot.counts c.say_line.new.depot) (IsTrue g.D.Depot.tells) c.answered-ending.result.status
+    faults_told _ _ _ (IsTrue g.D.Depot.tells) c.answered-ending.result.status
     c.answered-ending.ensures.counts c.answered-ending.ensures.counted c.say_line.ensures.counted
     c.say_line.ensures.reads (λ e. ap g.D.Depot.counts (c.say_line.ensures.done e)) c.answered-ending.ensures.read_fault c.answered-ending.ensures.write_fault

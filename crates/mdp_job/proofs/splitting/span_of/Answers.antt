@@ -1,4 +1,4 @@
-use Rattle.std.proofs.Common.{ℤ, FitsSigned, w64, rules, arith, ◌-ℤ◌, ◌<ℤ◌, pos}
+use Rattle.std.proofs.Common.{FitsSigned, w64, rules, arith, ◌-ℤ◌, ◌<ℤ◌, pos}
 use Rattle.std.proofs.lemmas.Int.{ints, to_z-of_z}
 use Rattle.mdp_job.proofs.splitting.span_of.Goals as goal
 

@@ -1,4 +1,4 @@
-use Rattle.std.proofs.Common.{◌≡◌, ◌⊎◌, inl, inr, Err, ap, subst, sym}
+use Rattle.std.proofs.Common.{inl, inr, Err, ap, subst, sym}
 use Rattle.depot.specs.Counts.{Counts, Rose}
 use Rattle.field_output.specs.Stripes.{AreStripesWritten, AreStripesPartWritten, AreStripeSums}
 use Rattle.mdp_job.specs.FileAnswers.{shot_data}

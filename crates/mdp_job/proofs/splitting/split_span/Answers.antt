@@ -1,4 +1,4 @@
-use Rattle.std.proofs.Common.{subst, Some, None}
+use Rattle.std.proofs.Common.{subst}
 use Rattle.mdp_job.specs.FieldAnswers.{IsSpan}
 use Rattle.mdp_job.specs.FileAnswers.{shot_data}
 use Rattle.mdp_job.proofs.Splits.{none_ended}
