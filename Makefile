@@ -138,6 +138,7 @@ bench: $(BENCH) $(PROGRAM)
 	tools/bench $(PROGRAM) build/bench $(or $(WHAT),$(SIZE))
 ifndef WHAT
 	for what in steps files densities strips; do tools/measure $(PROGRAM) build/bench $$what || exit 1; done
+	tools/reading $(PROGRAM) build/bench
 	tools/check_bench $(PROGRAM) build/bench 400000
 	tools/measure $(BENCH) build/bench layers
 	tools/sweeps $(BENCH) build/bench

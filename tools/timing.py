@@ -2,10 +2,20 @@
 import os
 import resource
 import subprocess
+from importlib.machinery import SourceFileLoader
+from types import ModuleType
 
 HERE = os.path.dirname(os.path.abspath(__file__))
 # A run that needs more processor seconds is ended.
 MOST_SECONDS = 100
+
+
+def loaded(name):
+    """A script of this folder, as a module."""
+    module = ModuleType(name)
+    module.__file__ = os.path.join(HERE, name)
+    SourceFileLoader(name, module.__file__).exec_module(module)
+    return module
 
 
 def limited():
