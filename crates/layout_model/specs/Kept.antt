@@ -1,5 +1,5 @@
 -- What a kept shape is: a rectangle at the place 0 by two of its corners, or a shape as it was drawn.
-use Rattle.std.specs.Prelude.{Bool, true, false, List, [], ◌∷◌}
+use Rattle.std.specs.Prelude.{Bool, true, false, List, [], ◌∷◌, ℕ, ℤ, pos, neg_ℤ, ◌≤ℤ◌, ◌<ℤ◌, ◌<◌, ◌^◌}
 use Rattle.half_grid.specs.declared.plane.Point.{Point}
 use Rattle.layout_model.specs.Places.{origin}
 use Rattle.layout_model.specs.declared.pair.Pair.{Pair}
@@ -22,6 +22,20 @@ ring_between a c false = a ∷ corner c a ∷ c ∷ corner a c ∷ a ∷ []
 
 abbrev pub shape_with : Pair → List Point → List Point → Bool → Shape
 shape_with pair points offsets fixed = record { pair = pair; points = points; offsets = offsets; fixed = fixed }
+
+-- a coordinate of 32 bits
+pub record IsShort (z : ℤ) : Type 0 where
+  pub low : neg_ℤ (pos (2 ^ 31)) ≤ℤ z
+  pub high : z <ℤ pos (2 ^ 31)
+
+pub record IsShortPoint (p : Point) : Type 0 where
+  pub x : IsShort p.x
+  pub y : IsShort p.y
+
+-- a layer and a datatype of 32 bits each
+pub record IsShortPair (pair : Pair) : Type 0 where
+  pub layer : pair.layer < 2 ^ 32
+  pub datatype : pair.datatype < 2 ^ 32
 
 abbrev pub point_from : ShortPoint → Point
 point_from few = record { x = few.x; y = few.y }

@@ -1,10 +1,10 @@
 //! Shapes as a cell keeps them.
-ghost use Rattle.std.specs.Prelude.{◌≡◌, ◌≢◌, ◌<◌, ◌≤◌, ◌↔◌, ℕ, [], ◌∷◌, All, length, slice_get, true, false, Some, IfOk, IfSome, IsSome, IsTrue, MatchOption, Err};
+ghost use Rattle.std.specs.Prelude.{◌≡◌, ◌≢◌, ◌<◌, ◌≤◌, ◌↔◌, ℕ, ◌^◌, [], ◌∷◌, All, length, slice_get, true, false, Some, IfOk, IfSome, IsOk, IsSome, IsTrue, MatchOption, Err};
 ghost use Rattle.half_grid.specs.Outlines.{IsClosed, HasGridEdges};
 ghost use Rattle.half_grid.specs.Reach.{IsPointWithinReach};
 ghost use Rattle.layout_model.specs.Hulls.{IsLeastBoxOf};
 ghost use Rattle.layout_model.specs.Intervals.{HasNoneIn, IsFirstIn};
-ghost use Rattle.layout_model.specs.Kept.{point_from, pair_from, corner, ring_between, rectangle_kept, shape_with, points_in};
+ghost use Rattle.layout_model.specs.Kept.{IsShort, IsShortPoint, IsShortPair, point_from, pair_from, corner, ring_between, rectangle_kept, shape_with, points_in};
 ghost use Rattle.layout_model.specs.Places.{origin};
 ghost use Rattle.layout_model.specs.Slants.{IsFirstSlant};
 ghost use Rattle.layout_model.specs.declared.shapes.ShapeBad.TheVariants.{Slant};
@@ -114,7 +114,8 @@ impl<'t> Outline<'t> {
 // A coordinate in 32 bits, if they hold it.
 #[inline(always)]
 fn short(at: i64) -> Option<i32>
-    ensures { IfSome result (λ few. few ≡ at) }
+    ensures same { IfSome result (λ few. few ≡ at) }
+    ensures few { IsShort at → IsSome result }
 {
     if at < -LEAST_BEYOND {
         return None;
@@ -128,7 +129,8 @@ fn short(at: i64) -> Option<i32>
 // The number of a layer or datatype in 32 bits, if they hold it.
 #[inline(always)]
 fn short_number(number: u64) -> Option<u32>
-    ensures { IfSome result (λ few. few ≡ number) }
+    ensures same { IfSome result (λ few. few ≡ number) }
+    ensures few { number < 2 ^ 32 → IsSome result }
 {
     if number > GREATEST {
         return None;
@@ -140,7 +142,8 @@ impl ShortPoint {
     // The point in 64 bits, if they hold it.
     #[inline(always)]
     fn of(point: Point) -> Option<ShortPoint>
-        ensures { IfSome result (λ few. point_from few ≡ point) }
+        ensures same { IfSome result (λ few. point_from few ≡ point) }
+        ensures few { IsShortPoint point → IsSome result }
     {
         let x = short(point.x)?;
         let y = short(point.y)?;
@@ -185,7 +188,8 @@ impl Plain {
     // The rectangle in 32 bytes, if they hold it.
     #[inline(always)]
     fn of(pair: Pair, corners: Corners, is_fixed: bool) -> Option<Plain>
-        ensures { IfSome result (λ plain. rectangle_kept plain ≡ shape_with pair (ring_between corners.first corners.opposite corners.is_upright) (origin ∷ []) is_fixed) }
+        ensures few { IsShortPair pair → IsShortPoint corners.first → IsShortPoint corners.opposite → IsSome result }
+        ensures shape { IfSome result (λ plain. rectangle_kept plain ≡ shape_with pair (ring_between corners.first corners.opposite corners.is_upright) (origin ∷ []) is_fixed) }
     {
         let first = ShortPoint::of(corners.first)?;
         let opposite = ShortPoint::of(corners.opposite)?;
@@ -305,6 +309,7 @@ impl KeptShape {
         ensures shape { IfOk result (λ kept. kept ≡ shape_with pair (ring_between first opposite true) (origin ∷ []) false) }
         ensures closed { IsClosed (ring_between first opposite true) }
         ensures edges { HasGridEdges (ring_between first opposite true) }
+        ensures few { IsShortPair pair → IsShortPoint first → IsShortPoint opposite → IsOk result }
     {
         let corners = Corners {
             first,
