@@ -94,3 +94,15 @@ kinds =
 -- the kind whose records have this head, if there is one
 unfoldable pub kind_with_head : ℕ → Option Kind
 kind_with_head head = find (λ kind. head_of kind == head) kinds
+
+-- each kind of an element's records, from its first to ENDEL, once
+abbrev pub element_kinds : List Kind
+element_kinds =
+    Boundary ∷ Path ∷ Sref ∷ Aref ∷ Text ∷ Layer ∷ DataType ∷ Width ∷
+    Xy ∷ EndEl ∷ Sname ∷ ColRow ∷ Node ∷ TextType ∷ Presentation ∷ String ∷
+    Strans ∷ Mag ∷ Angle ∷ PathType ∷ ElFlags ∷ NodeType ∷ PropAttr ∷ PropValue ∷
+    Box ∷ BoxType ∷ Plex ∷ BgnExtn ∷ EndExtn ∷ []
+
+-- the kind of an element's records that have this head, if there is one
+unfoldable pub element_kind_with_head : ℕ → Option Kind
+element_kind_with_head head = find (λ kind. head_of kind == head) element_kinds

@@ -1,8 +1,8 @@
 //! The kinds of records, their heads and the lengths of their contents (GDSII Stream Format Manual
 //! 6.0, record description).
 
-ghost use Rattle.std.specs.Prelude.{◌≡◌, ◌↔◌, IsTrue};
-ghost use Rattle.gds_record.specs.Heads.{head_of, kind_with_head, content_of, IsAllowed};
+ghost use Rattle.std.specs.Prelude.{◌≡◌, ◌↔◌, IsTrue, Some};
+ghost use Rattle.gds_record.specs.Heads.{head_of, kind_with_head, element_kind_with_head, content_of, IsAllowed};
 
 /// What a record holds, one variant for each record type of GDSII Stream Format Manual 6.0.
 #[derive(Clone, Copy, Debug, PartialEq, Eq)]
@@ -113,8 +113,8 @@ pub enum ContentLength {
 }
 
 /// The kind of the records that have this head: the record type in the high byte, the data type in
-/// the low one.
-#[tactic(auto, unfolding(crate::specs::Heads::kind_with_head))]
+/// the low one. The rows are the records of a library and a structure outside elements.
+#[tactic(auto, unfolding(crate::specs::Heads::kind_with_head, crate::specs::Heads::element_kind_with_head))]
 #[inline(always)]
 pub(crate) fn kind_of(head: u16) -> Option<Kind>
     ensures { result ≡ kind_with_head head }
@@ -128,6 +128,26 @@ pub(crate) fn kind_of(head: u16) -> Option<Kind>
         0x0502 => Some(Kind::BgnStr),
         0x0606 => Some(Kind::StrName),
         0x0700 => Some(Kind::EndStr),
+        0x1F06 => Some(Kind::RefLibs),
+        0x2006 => Some(Kind::Fonts),
+        0x2202 => Some(Kind::Generations),
+        0x2306 => Some(Kind::AttrTable),
+        0x3401 => Some(Kind::StrClass),
+        0x3602 => Some(Kind::Format),
+        0x3902 => Some(Kind::LibDirSize),
+        0x3A06 => Some(Kind::SrfName),
+        0x3B02 => Some(Kind::LibSecur),
+        _ => element_kind_of(head),
+    }
+}
+
+/// The kind of the records of an element that have this head.
+#[tactic(auto, unfolding(crate::specs::Heads::element_kind_with_head))]
+#[inline(always)]
+fn element_kind_of(head: u16) -> Option<Kind>
+    ensures { result ≡ element_kind_with_head head }
+{
+    match head {
         0x0800 => Some(Kind::Boundary),
         0x0900 => Some(Kind::Path),
         0x0A00 => Some(Kind::Sref),
@@ -147,11 +167,7 @@ pub(crate) fn kind_of(head: u16) -> Option<Kind>
         0x1A01 => Some(Kind::Strans),
         0x1B05 => Some(Kind::Mag),
         0x1C05 => Some(Kind::Angle),
-        0x1F06 => Some(Kind::RefLibs),
-        0x2006 => Some(Kind::Fonts),
         0x2102 => Some(Kind::PathType),
-        0x2202 => Some(Kind::Generations),
-        0x2306 => Some(Kind::AttrTable),
         0x2601 => Some(Kind::ElFlags),
         0x2A02 => Some(Kind::NodeType),
         0x2B02 => Some(Kind::PropAttr),
@@ -161,16 +177,12 @@ pub(crate) fn kind_of(head: u16) -> Option<Kind>
         0x2F03 => Some(Kind::Plex),
         0x3003 => Some(Kind::BgnExtn),
         0x3103 => Some(Kind::EndExtn),
-        0x3401 => Some(Kind::StrClass),
-        0x3602 => Some(Kind::Format),
-        0x3902 => Some(Kind::LibDirSize),
-        0x3A06 => Some(Kind::SrfName),
-        0x3B02 => Some(Kind::LibSecur),
         _ => None,
     }
 }
 
-/// The head of the records of this kind.
+/// The head of the records of this kind. The rows are as in `kind_of`.
+#[tactic(auto, unfolding(crate::specs::Heads::element_kind_with_head))]
 #[inline(always)]
 pub(crate) fn head_code(kind: Kind) -> u16
     ensures { result ≡ head_of kind }
@@ -184,6 +196,27 @@ pub(crate) fn head_code(kind: Kind) -> u16
         Kind::BgnStr => 0x0502,
         Kind::StrName => 0x0606,
         Kind::EndStr => 0x0700,
+        Kind::RefLibs => 0x1F06,
+        Kind::Fonts => 0x2006,
+        Kind::Generations => 0x2202,
+        Kind::AttrTable => 0x2306,
+        Kind::StrClass => 0x3401,
+        Kind::Format => 0x3602,
+        Kind::LibDirSize => 0x3902,
+        Kind::SrfName => 0x3A06,
+        Kind::LibSecur => 0x3B02,
+        _ => element_head_code(kind),
+    }
+}
+
+/// The head of the records of this kind, which is one of an element.
+#[tactic(auto, unfolding(crate::specs::Heads::element_kind_with_head))]
+#[inline(always)]
+fn element_head_code(kind: Kind) -> u16
+    requires { element_kind_with_head (head_of kind) ≡ Some kind }
+    ensures { result ≡ head_of kind }
+{
+    match kind {
         Kind::Boundary => 0x0800,
         Kind::Path => 0x0900,
         Kind::Sref => 0x0A00,
@@ -203,11 +236,7 @@ pub(crate) fn head_code(kind: Kind) -> u16
         Kind::Strans => 0x1A01,
         Kind::Mag => 0x1B05,
         Kind::Angle => 0x1C05,
-        Kind::RefLibs => 0x1F06,
-        Kind::Fonts => 0x2006,
         Kind::PathType => 0x2102,
-        Kind::Generations => 0x2202,
-        Kind::AttrTable => 0x2306,
         Kind::ElFlags => 0x2601,
         Kind::NodeType => 0x2A02,
         Kind::PropAttr => 0x2B02,
@@ -217,11 +246,7 @@ pub(crate) fn head_code(kind: Kind) -> u16
         Kind::Plex => 0x2F03,
         Kind::BgnExtn => 0x3003,
         Kind::EndExtn => 0x3103,
-        Kind::StrClass => 0x3401,
-        Kind::Format => 0x3602,
-        Kind::LibDirSize => 0x3902,
-        Kind::SrfName => 0x3A06,
-        Kind::LibSecur => 0x3B02,
+        _ => unreachable!(),
     }
 }
 

@@ -114,70 +114,25 @@ pub enum OasRecord {
     },
 }
 
-// Written out, so that it is proved once here, and not again in each crate that lets one go.
+// Written out, so that it is proved once here, and not again in each crate that lets one go. A row a variant.
 impl Drop for OasRecord {
     fn drop(self) {
+        #[rattlefmt::skip]
         match self {
             OasRecord::Pad => (),
-            OasRecord::Start {
-                version: _,
-                unit: _,
-                offset_flag: _,
-                tables: _,
-            } => (),
-            OasRecord::End {
-                tables: _,
-                padding: _,
-                scheme: _,
-                validation: _,
-            } => (),
-            OasRecord::Name {
-                kind: _,
-                text: _,
-                number: _,
-            } => (),
-            OasRecord::LayerName {
-                of_texts: _,
-                name: _,
-                layers: _,
-                datatypes: _,
-            } => (),
+            OasRecord::Start { version: _, unit: _, offset_flag: _, tables: _ } => (),
+            OasRecord::End { tables: _, padding: _, scheme: _, validation: _ } => (),
+            OasRecord::Name { kind: _, text: _, number: _ } => (),
+            OasRecord::LayerName { of_texts: _, name: _, layers: _, datatypes: _ } => (),
             OasRecord::Cell(_) => (),
             OasRecord::Mode { is_relative: _ } => (),
-            OasRecord::Placement {
-                info: _,
-                cell: _,
-                turn: _,
-                x: _,
-                y: _,
-                repetition: _,
-            } => (),
-            OasRecord::Text {
-                info: _,
-                text: _,
-                textlayer: _,
-                texttype: _,
-                x: _,
-                y: _,
-                repetition: _,
-            } => (),
+            OasRecord::Placement { info: _, cell: _, turn: _, x: _, y: _, repetition: _ } => (),
+            OasRecord::Text { info: _, text: _, textlayer: _, texttype: _, x: _, y: _, repetition: _ } => (),
             OasRecord::Shape { head: _, kind: _ } => (),
-            OasRecord::Property {
-                info: _,
-                name: _,
-                count: _,
-                values: _,
-            } => (),
+            OasRecord::Property { info: _, name: _, count: _, values: _ } => (),
             OasRecord::LastProperty => (),
-            OasRecord::XName {
-                attribute: _,
-                text: _,
-                number: _,
-            } => (),
-            OasRecord::XElement {
-                attribute: _,
-                text: _,
-            } => (),
+            OasRecord::XName { attribute: _, text: _, number: _ } => (),
+            OasRecord::XElement { attribute: _, text: _ } => (),
         }
     }
 }
