@@ -74,6 +74,6 @@ pub top_reaches : (points : List Point) (by : Point) (box : Frame) → IsLeastBo
     → IsWithinReach (box.y1 +ℤ by.y)
 top_reaches points by box least all = side_reaches (λ p. p.y) points by box.y1 (λ p near. near.y) least.top all
 
--- a list with more than eight items has some
-pub many_some : (points : List Point) → 8 < length points → points ≢ []
+-- a list with more than nine items has some
+pub many_some : (points : List Point) → 9 < length points → points ≢ []
 many_some points many none = absurd (let count : length points ≡ 0 = ap length none in omega (arith, many, count))

@@ -12,9 +12,9 @@ abbrev pub points_of : Held → List Point
 points_of (Own points) = points.items
 points_of (Shared many by) = map (moved by) many.value.points.items
 
--- points that are shared: more than eight, with their least box
+-- points that are shared: more than nine, with their least box
 pub record AreMany (points : List Point) (box : Frame) : Type 0 where
-  pub many : 8 < length points
+  pub many : 9 < length points
   pub hull : IsLeastBoxOf points box
 
 abbrev pub AreSound : Held → Type 0

@@ -88,11 +88,11 @@ pub enum Outline<'t> {
 }
 
 impl<'t> Outline<'t> {
-    /// The points in order, where they are in place: those of up to eight points always are. None where they are shared.
+    /// The points in order, where they are in place: those of up to nine points always are. None where they are shared.
     #[inline(always)]
     pub fn as_slice(&self) -> Option<&[Point]>
         ensures own { IfSome result (λ points. points.now ≡ points_in self.now) }
-        ensures few { length (points_in self.now) ≤ 8 → IsSome result }
+        ensures few { length (points_in self.now) ≤ 9 → IsSome result }
     {
         match self {
             Outline::Ring(ring) => Some(ring.as_slice()),

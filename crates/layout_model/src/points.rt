@@ -12,7 +12,7 @@ use std::marker::Model;
 use std::rc::Rc;
 
 // So many points take no memory.
-const FEW: usize = 8;
+const FEW: usize = 9;
 
 // Points one by one, and their least box.
 #[derive(Debug, Drop)]
@@ -28,8 +28,8 @@ enum Held {
     Shared(Rc<Many>, Point),
 }
 
-/// A list of points. Up to eight of them take no memory, and those of a list that was made from a `SharedPoints` are
-/// shared. Contracts see the list.
+/// A list of points. Up to nine of them, as an octagon's outline has, take no memory, and those of a list that was made
+/// from a `SharedPoints` are shared. Contracts see the list.
 #[derive(Debug, Drop)]
 pub struct Points {
     held: Held,
@@ -48,7 +48,7 @@ impl Model for Points {
     ghost invariant = { λ points. AreSound points.held };
 }
 
-/// More than eight points that are kept once, however many lists are made from them. Contracts see the list.
+/// More than nine points that are kept once, however many lists are made from them. Contracts see the list.
 #[derive(Debug, Drop)]
 pub struct SharedPoints {
     kept: Rc<Many>,
@@ -125,21 +125,21 @@ fn hull_moved(hull: Frame, by: Point) -> Frame
 }
 
 impl Points {
-    /// The list of these points. Up to eight points take no memory.
+    /// The list of these points. Up to nine points take no memory.
     #[inline(always)]
     pub fn new(alloc: Global, points: &[Point]) -> Result<Points, NoMemory>
         ensures ok { IfOk result (λ list. list ≡ points.now) }
-        ensures few { length points.now ≤ 8 → IsOk result }
+        ensures few { length points.now ≤ 9 → IsOk result }
     {
         let held = Held::Own(SmallVec::from_slice(alloc, points)?);
         Ok(Points { held })
     }
 
-    /// The points in order, where they are the list's own: those of up to eight points always are. None where they are shared.
+    /// The points in order, where they are the list's own: those of up to nine points always are. None where they are shared.
     #[inline(always)]
     pub fn as_slice(&self) -> Option<&[Point]>
         ensures own { IfSome result (λ points. points.now ≡ self.now) }
-        ensures few { length self.now ≤ 8 → IsSome result }
+        ensures few { length self.now ≤ 9 → IsSome result }
     {
         match &self.held {
             Held::Own(points) => Some(points.as_slice()),
@@ -189,9 +189,9 @@ impl Points {
 }
 
 impl SharedPoints {
-    /// These points, of which there are more than eight.
+    /// These points, of which there are more than nine.
     pub fn new(alloc: Global, points: &[Point]) -> Result<SharedPoints, NoMemory>
-        requires { 8 < length points.now }
+        requires { 9 < length points.now }
         ensures { IfOk result (λ list. list ≡ points.now) }
     {
         let hull = box_of(points);

@@ -79,7 +79,7 @@ pub fn has_grid_edges(points: &[Point]) -> bool
 }
 
 impl Shape {
-    /// The shape of this outline, which may be enlarged. A shape of up to eight points takes no memory. The list isn't
+    /// The shape of this outline, which may be enlarged. A shape of up to nine points takes no memory. The list isn't
     /// empty, its last point is its first, and all points are within reach.
     #[inline(always)]
     pub fn new(
@@ -96,7 +96,7 @@ impl Shape {
         ensures free { IfOk result (λ shape. shape.fixed ≡ false) }
         ensures grid { IfOk result (λ _. HasGridEdges points.now) }
         ensures slant { (k : ℕ) → (result ≡ Err (Slant k)) ↔ IsFirstSlant points.now k }
-        ensures few { length points.now ≤ 8 → HasGridEdges points.now → IsOk result }
+        ensures few { length points.now ≤ 9 → HasGridEdges points.now → IsOk result }
     {
         if let Some(k) = first_slant(points) {
             return Err(ShapeBad::Slant(k));

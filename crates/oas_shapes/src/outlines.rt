@@ -20,7 +20,7 @@ use std::marker::Model;
 const LONG: usize = 10;
 
 // An outline has so many points at most in place.
-const FEW: usize = 8;
+const FEW: usize = 9;
 
 // At most so far from 0, in half units.
 const FARTHEST: i64 = 1 << 41;
