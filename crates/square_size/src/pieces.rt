@@ -1,6 +1,7 @@
 //! The edges of one ring.
-ghost use Rattle.std.specs.Prelude.{◌≡◌, [], ◌++◌, IfNone};
+ghost use Rattle.std.specs.Prelude.{◌≡◌, ◌≢◌, [], ◌++◌, IfNone, IfSome};
 ghost use Rattle.std.specs.Option.{option_to_list};
+ghost use Rattle.half_grid.specs.Lines.{line_of, Passes};
 ghost use Rattle.half_grid.specs.Reach.{IsPointWithinReach};
 ghost use Rattle.half_grid.specs.declared.border.Operand.TheVariants.{A};
 ghost use Rattle.square_size.specs.Edges.{edge_between, edges_of_grown};
@@ -9,16 +10,33 @@ ghost use Rattle.square_size.specs.Rings.{HasRingWithinReach, IsSizing};
 use crate::rings::{
     HalfSides, left_bend, lower_left, lower_right, right_bend, upper_left, upper_right,
 };
-use half_grid::{Edge, Operand, Point, Trap, line_through};
+use half_grid::{Edge, Line, Operand, Point, Trap, line_through};
 use std::marker::Model;
 
+// The line through two points of different Y, where there is one. Upright lines, the most frequent, come first.
+#[tactic(auto, unfolding(half_grid::specs::Lines::line_of))]
+#[inline(always)]
+fn line_between(a: Point, b: Point) -> Option<Line>
+    ensures exact { result ≡ line_of a b }
+    ensures through { IfSome result (λ line. Passes line a × Passes line b × (a.y ≢ b.y)) }
+{
+    if a.y == b.y {
+        return None;
+    }
+    if a.x == b.x {
+        return Some(Line::Upright(a.x));
+    }
+    line_through(a, b)
+}
+
 // The edge from a to b, where they have different Y and lie on a line of the half grid.
+#[inline(always)]
 fn edge_between(a: Point, b: Point) -> Option<Edge>
     requires first { IsPointWithinReach a }
     requires second { IsPointWithinReach b }
     ensures { result ≡ edge_between A a b }
 {
-    match line_through(a, b) {
+    match line_between(a, b) {
         None => None,
         Some(line) => {
             if a.y < b.y {
