@@ -11,4 +11,5 @@ pub mod EdgeWindings
 pub mod GrownLists
 pub mod Balance
 pub mod Taking
+pub mod Uprights
 pub mod ForCallers

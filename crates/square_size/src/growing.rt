@@ -56,7 +56,7 @@ impl<S: Stream<Item = Trap>> Stream for Grown<S> {
                 return Some(edge);
             }
             match self.source.next() {
-                Some(trap) => self.in_hand = Pieces::of(&trap, self.by),
+                Some(trap) => self.in_hand.fill(&trap, self.by),
                 None => return None,
             }
         }

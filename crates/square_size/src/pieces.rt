@@ -1,11 +1,11 @@
 //! The edges of one ring.
-ghost use Rattle.std.specs.Prelude.{◌≡◌, ◌≢◌, [], ◌++◌, IfNone, IfSome};
+ghost use Rattle.std.specs.Prelude.{◌≡◌, ◌≢◌, ◌<ℤ◌, [], ◌++◌, IfNone, IfSome};
 ghost use Rattle.std.specs.Option.{option_to_list};
 ghost use Rattle.half_grid.specs.Lines.{line_of, Passes};
 ghost use Rattle.half_grid.specs.Reach.{IsPointWithinReach};
 ghost use Rattle.half_grid.specs.declared.border.Operand.TheVariants.{A};
 ghost use Rattle.square_size.specs.Edges.{edge_between, edges_of_grown};
-ghost use Rattle.square_size.specs.Rings.{HasRingWithinReach, IsSizing};
+ghost use Rattle.square_size.specs.Rings.{HasRingWithinReach, IsSizing, lower_left, upper_left, lower_right, upper_right, left_bend, right_bend};
 
 use crate::rings::{
     HalfSides, left_bend, lower_left, lower_right, right_bend, upper_left, upper_right,
@@ -48,6 +48,82 @@ fn edge_between(a: Point, b: Point) -> Option<Edge>
     }
 }
 
+// The upright edge from a up to b, which has the same X.
+#[inline(always)]
+fn up_between(a: Point, b: Point) -> Option<Edge>
+    requires first { IsPointWithinReach a }
+    requires second { IsPointWithinReach b }
+    requires upright { a.x ≡ b.x }
+    requires up { a.y <ℤ b.y }
+    ensures { result ≡ edge_between A a b }
+{
+    Edge::new(a.y, b.y, Line::Upright(a.x), true, Operand::A)
+}
+
+// The upright edge from a down to b, which has the same X.
+#[inline(always)]
+fn down_between(a: Point, b: Point) -> Option<Edge>
+    requires first { IsPointWithinReach a }
+    requires second { IsPointWithinReach b }
+    requires upright { a.x ≡ b.x }
+    requires down { b.y <ℤ a.y }
+    ensures { result ≡ edge_between A a b }
+{
+    Edge::new(b.y, a.y, Line::Upright(a.x), false, Operand::A)
+}
+
+// Puts the two pieces of the ring's left side in place. Where the side is upright the second is none.
+fn put_left(first: &mut Option<Edge>, second: &mut Option<Edge>, trap: &Trap, by: HalfSides)
+    requires sizing { IsSizing by.dx by.dy }
+    requires reach { HasRingWithinReach by.dx by.dy trap.now }
+    ensures first { first.new ≡ edge_between A (lower_left by.dx by.dy trap.now) (left_bend by.dx by.dy trap.now.y0 trap.now.y1 trap.now.left) }
+    ensures second { second.new ≡ edge_between A (left_bend by.dx by.dy trap.now.y0 trap.now.y1 trap.now.left) (upper_left by.dx by.dy trap.now) }
+{
+    if let Line::Upright(c) = trap.left() {
+        let x = c - by.dx;
+        let low = Point {
+            x,
+            y: trap.y0() - by.dy,
+        };
+        let high = Point {
+            x,
+            y: trap.y1() + by.dy,
+        };
+        *first = up_between(low, high);
+        *second = None;
+        return;
+    }
+    let bend = left_bend(trap, by);
+    *first = edge_between(lower_left(trap, by), bend);
+    *second = edge_between(bend, upper_left(trap, by));
+}
+
+// Puts the two pieces of the ring's right side in place. Where the side is upright the first is none.
+fn put_right(first: &mut Option<Edge>, second: &mut Option<Edge>, trap: &Trap, by: HalfSides)
+    requires sizing { IsSizing by.dx by.dy }
+    requires reach { HasRingWithinReach by.dx by.dy trap.now }
+    ensures first { first.new ≡ edge_between A (upper_right by.dx by.dy trap.now) (right_bend by.dx by.dy trap.now.y0 trap.now.y1 trap.now.right) }
+    ensures second { second.new ≡ edge_between A (right_bend by.dx by.dy trap.now.y0 trap.now.y1 trap.now.right) (lower_right by.dx by.dy trap.now) }
+{
+    if let Line::Upright(c) = trap.right() {
+        let x = c + by.dx;
+        let high = Point {
+            x,
+            y: trap.y1() + by.dy,
+        };
+        let low = Point {
+            x,
+            y: trap.y0() - by.dy,
+        };
+        *first = None;
+        *second = down_between(high, low);
+        return;
+    }
+    let bend = right_bend(trap, by);
+    *first = edge_between(upper_right(trap, by), bend);
+    *second = edge_between(bend, lower_right(trap, by));
+}
+
 /// What is still to come of the edges of a ring that aren't horizontal: two up at the left, two down at the right.
 /// Where a side is upright its second piece is none. Contracts see the list.
 #[derive(Drop)]
@@ -81,19 +157,14 @@ impl Pieces {
         }
     }
 
-    /// The edges of the ring of the grown trapezoid.
-    pub(crate) fn of(trap: &Trap, by: HalfSides) -> Pieces
+    /// The edges of the ring of the grown trapezoid come in the place of what was there.
+    pub(crate) fn fill(&mut self, trap: &Trap, by: HalfSides)
         requires sizing { IsSizing by.dx by.dy }
         requires reach { HasRingWithinReach by.dx by.dy trap.now }
-        ensures { result ≡ edges_of_grown by.dx by.dy trap.now }
+        ensures { self.new ≡ edges_of_grown by.dx by.dy trap.now }
     {
-        let (left, right) = (left_bend(trap, by), right_bend(trap, by));
-        Pieces {
-            first: edge_between(lower_left(trap, by), left),
-            second: edge_between(left, upper_left(trap, by)),
-            third: edge_between(upper_right(trap, by), right),
-            fourth: edge_between(right, lower_right(trap, by)),
-        }
+        put_left(&mut self.first, &mut self.second, trap, by);
+        put_right(&mut self.third, &mut self.fourth, trap, by);
     }
 
     /// The next edge, which is removed. None exactly where there is none.

@@ -27,11 +27,11 @@ returns-in-Some-clause-first g c = λ items before.
 pub next-requires : goal.next-requires
 next-requires g c = let p = c.loop-edge.invariant.same c.requires.0 c.requires.1 in (p.traps, p.given)
 
-pub of-self-requires-clause-sizing : goal.of-self-requires-clause-sizing
-of-self-requires-clause-sizing g c = (c.loop-edge.invariant.same c.requires.0 c.requires.1).sizing
+pub fill-requires-clause-sizing : goal.fill-requires-clause-sizing
+fill-requires-clause-sizing g c = (c.loop-edge.invariant.same c.requires.0 c.requires.1).sizing
 
-pub of-self-requires-clause-reach : goal.of-self-requires-clause-reach
-of-self-requires-clause-reach g c =
+pub fill-requires-clause-reach : goal.fill-requires-clause-reach
+fill-requires-clause-reach g c =
     let by = c.loop-edge.self.by in
     let p = c.loop-edge.invariant.same c.requires.0 c.requires.1 in
     let first = c.in-Some-next.ensures.first p.traps p.given in
@@ -41,7 +41,7 @@ pub loop-edge-preserved : goal.loop-edge-preserved
 loop-edge-preserved g c =
     let by = c.loop-edge.self.by in
     let few = four_at_most by.dx by.dy c.in-Some-next.trap in
-    let length_is = ap length c.of-self.ensures in
+    let length_is = ap length c.fill.ensures in
     record {
       same = λ items before.
           let p = c.loop-edge.invariant.same items before in
@@ -52,8 +52,8 @@ loop-edge-preserved g c =
             sizing = p.sizing;
             within = All-tail (HasRingWithinReach by.dx by.dy) c.in-Some-next.trap first.0 (subst (All (HasRingWithinReach by.dx by.dy)) first.1 p.within);
             few = omega (arith, few, length_is);
-            is = p.is ∙ turned by.dx by.dy c.loop-edge.self.in_hand c.of-self.result p.traps first.0
-                c.in-Some-next.trap c.in_default.ensures.none first.1 c.of-self.ensures;
+            is = p.is ∙ turned by.dx by.dy c.loop-edge.self.in_hand c.fill.new.self p.traps first.0
+                c.in-Some-next.trap c.in_default.ensures.none first.1 c.fill.ensures;
           };
       size = omega (arith, c.loop-edge.invariant.size, c.in-Some-next.ensures.size, few, length_is);
     }

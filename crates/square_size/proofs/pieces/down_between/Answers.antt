@@ -1,0 +1,12 @@
+use Rattle.std.proofs.Common.{FitsSigned, w64, rules}
+use Rattle.std.proofs.lemmas.Int.{to_z-of_z}
+use Rattle.square_size.proofs.Uprights.{upright_down}
+use Rattle.square_size.proofs.pieces.down_between.Goals as goal
+
+pub returns : goal.returns
+returns c =
+    let x : FitsSigned w64 c.args.a.x = search rules in
+    let y : FitsSigned w64 c.args.a.y = search rules in
+    let end : FitsSigned w64 c.args.b.y = search rules in
+    let made = simp to_z-of_z at c.new.ensures in
+    upright_down c.args.a c.args.b c.new.result c.requires.first c.requires.second c.requires.upright c.requires.down made
