@@ -172,13 +172,16 @@ impl Pieces {
         ensures first { self.old ≡ option_to_list result ++ self.new }
         ensures none { IfNone result (self.old ≡ []) }
     {
-        if let Some(edge) = self.first.take() {
+        if let Some(edge) = self.first {
+            self.first = None;
             return Some(edge);
         }
-        if let Some(edge) = self.second.take() {
+        if let Some(edge) = self.second {
+            self.second = None;
             return Some(edge);
         }
-        if let Some(edge) = self.third.take() {
+        if let Some(edge) = self.third {
+            self.third = None;
             return Some(edge);
         }
         self.fourth.take()
