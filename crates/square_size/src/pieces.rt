@@ -125,7 +125,7 @@ fn put_right(first: &mut Option<Edge>, second: &mut Option<Edge>, trap: &Trap, b
 }
 
 /// What is still to come of the edges of a ring that aren't horizontal: two up at the left, two down at the right.
-/// Where a side is upright its second piece is none. Contracts see the list.
+/// Where a side is upright one of its two is none. Contracts see the list.
 #[derive(Drop)]
 pub(crate) struct Pieces {
     first: Option<Edge>,
