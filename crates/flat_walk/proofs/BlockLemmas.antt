@@ -5,7 +5,7 @@ use Rattle.std.proofs.Common.{refl, sym, ap, subst, ◌∙◌, arith, length-app
 use Rattle.std.specs.List.{filter, flat_map, AllByRecursion}
 use Rattle.std.proofs.lemmas.Int.{ints, clamps}
 use Rattle.std.proofs.lemmas.List.{length-drop}
-use Rattle.std.proofs.lemmas.List.Elements.{recursion_from_All, All-tail}
+use Rattle.std.proofs.lemmas.List.Elements.{recursion_from_All, All-tail, All-weaker}
 use Rattle.std.proofs.lemmas.Option.{none-some, same_Some, slice_get-get_or}
 use Rattle.half_grid.specs.Quads.{Corners}
 use Rattle.half_grid.specs.Trapezoids.{Trapezoid}
@@ -30,6 +30,7 @@ use Rattle.flat_walk.specs.Blocks.{IsRound, IsRoundThose, AreBlocks, ShowNothing
 use Rattle.flat_walk.specs.Boxes.{IsQuadIn, HasBox, AreBoxed, AreNear, AreSpots}
 use Rattle.flat_walk.specs.Hands.{steps_from}
 use Rattle.flat_walk.specs.Quads.{quad_image, has_row_in}
+use Rattle.flat_walk.specs.Walks.{pieces_of_shape}
 use Rattle.flat_walk.specs.Rests.{Skips, marked_image, shows_in, placed_rest}
 use Rattle.flat_walk.specs.Ways.{IsScene, cells_of, marked_of, things_at, placements_rest}
 use Rattle.flat_walk.specs.declared.scenes.Scene.{Scene}
@@ -129,25 +130,30 @@ round_one boxes from end a is there k c after early at =
     let e : from ≡ k = omega (arith, is, after, early) in
     subst (IsRound a) (same_Some a c (sym there ∙ (ap (slice_get boxes) e ∙ at))) (round_itself a)
 
+pub point_round : (block box : Frame) (p : Point) → IsRound block box → IsInBox box p → IsInBox block p
+point_round block box p r h = record {
+  left = omega (arith, ints, r.left, h.left);
+  bottom = omega (arith, ints, r.bottom, h.bottom);
+  right = omega (arith, ints, r.right, h.right);
+  top = omega (arith, ints, r.top, h.top);
+}
+
 quad_round : (block box : Frame) (q : Corners) → IsRound block box → IsQuadIn box q → IsQuadIn block q
 quad_round block box q r inside =
     record {
-      a = point_round q.a inside.a;
-      b = point_round q.b inside.b;
-      c = point_round q.c inside.c;
-      d =
-          point_round q.d inside.d;
+      a = point_round block box q.a r inside.a;
+      b = point_round block box q.b r inside.b;
+      c = point_round block box q.c r inside.c;
+      d = point_round block box q.d r inside.d;
     }
-  where
-    point_round : (p : Point) → IsInBox box p → IsInBox block p
-    point_round p h = record {
-      left = omega (arith, ints, r.left, h.left);
-      bottom = omega
-          (arith, ints, r.bottom, h.bottom);
-      right = omega (arith, ints, r.right, h.right);
-      top = omega
-          (arith, ints, r.top, h.top);
-    }
+
+-- a box round that of a shape
+pub has_round : (shape : Shape) (pieces : List Trapezoid) (block box : Frame) → IsRound block box
+    → IsBoxUpTo (2 ^ 53) block → HasBox shape pieces box → HasBox shape pieces block
+has_round shape pieces block box r near has = record {
+  around = All-weaker (IsQuadIn box) (IsQuadIn block) (λ q. quad_round block box q r) (pieces_of_shape shape pieces) has.around;
+  near = near;
+}
 
 -- where a box shows nothing, those that it is round don't
 pub block_hides : (w : RowRange) (orient : Orient) (at : Point) (boxes : List Frame) (from end : ℕ) (block : Frame) → IsRoundThose boxes from end block

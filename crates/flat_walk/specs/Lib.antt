@@ -6,6 +6,7 @@ pub mod Walks
 pub mod Boxes
 -- ---- what is kept inside
 pub mod Blocks
+pub mod ShortBoxes
 pub mod Hands
 pub mod Poses
 pub mod Rests

@@ -11,16 +11,17 @@ ghost use Rattle.flat_walk.specs.Blocks.{IsRoundThose, AreBlocks, ShowNothing, b
 use crate::boxes::joined;
 use crate::levels::{raised, rows_of};
 use crate::rows::meet;
+use crate::short_boxes::ShortBox;
 use geo_stream::NoMemory;
 use half_grid::{Frame, Point, Window};
 use layout_model::Orient;
 use std::alloc::Global;
 use std::marker::Model;
 
-/// Boxes in order, and a box round each 64 of them. Contracts see the boxes.
+/// Boxes in order, of 16 bytes each, and a box round each 64 of them. Contracts see the boxes.
 #[derive(Drop)]
 pub(crate) struct BoxList {
-    boxes: Vec<Frame>,
+    boxes: Vec<ShortBox>,
     blocks: Vec<Frame>,
 }
 
@@ -53,15 +54,15 @@ fn end_of(count: usize, start: usize) -> usize
     start + BLOCK
 }
 
-fn box_at(boxes: &[Frame], number: usize) -> Frame
+fn box_at(boxes: &[ShortBox], number: usize) -> Frame
     requires { number < length boxes.now }
     ensures { slice_get boxes.now number ≡ Some result }
 {
-    boxes[number]
+    boxes[number].frame()
 }
 
 // A box round those of the 64 boxes from this number on that are there.
-fn block_from(boxes: &[Frame], start: usize) -> Frame
+fn block_from(boxes: &[ShortBox], start: usize) -> Frame
     requires inside { start < length boxes.now }
     requires near { AreNear boxes.now }
     ensures around { IsRoundThose boxes.now start (start + 64) result }
@@ -78,7 +79,7 @@ fn block_from(boxes: &[Frame], start: usize) -> Frame
 }
 
 // A box round each 64 boxes, of which there may be some more.
-fn blocks_of(alloc: Global, boxes: &[Frame]) -> Result<Vec<Frame>, NoMemory>
+fn blocks_of(alloc: Global, boxes: &[ShortBox]) -> Result<Vec<Frame>, NoMemory>
     requires { AreNear boxes.now }
     ensures { IfOk result (λ blocks. AreBlocks boxes.now blocks.items) }
 {
@@ -104,7 +105,7 @@ fn may_show(around: &Frame, orient: Orient, at: Point, window: Window) -> bool
 
 impl BoxList {
     /// The boxes in this order.
-    pub(crate) fn of(alloc: Global, boxes: Vec<Frame>) -> Result<BoxList, NoMemory>
+    pub(crate) fn of(alloc: Global, boxes: Vec<ShortBox>) -> Result<BoxList, NoMemory>
         requires { AreNear boxes.items }
         ensures { IfOk result (λ list. list ≡ boxes.items) }
     {
@@ -129,7 +130,8 @@ impl BoxList {
                 }
             }
         }
-        if may_show(&self.boxes[number], orient, at, window) {
+        let around = box_at(self.boxes.as_slice(), number);
+        if may_show(&around, orient, at, window) {
             return number;
         }
         number + 1

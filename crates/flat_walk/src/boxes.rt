@@ -13,6 +13,7 @@ ghost use Rattle.flat_walk.specs.Boxes.{IsQuadIn, HasBox, AreBoxed, AreNear, Are
 ghost use Rattle.flat_walk.specs.Tables.{lists_at};
 
 use crate::blocks::BoxList;
+use crate::short_boxes::ShortBox;
 use crate::tables::{Parts, Pieces, shapes_of};
 use cell_tree::Tree;
 use geo_stream::NoMemory;
@@ -118,7 +119,7 @@ fn pieces_at(lists: &[Pieces], number: usize) -> &Pieces
 }
 
 // The boxes of a cell's shapes.
-fn boxes_for(alloc: Global, shapes: &Shapes, lists: &[Pieces]) -> Result<Vec<Frame>, NoMemory>
+fn boxes_for(alloc: Global, shapes: &Shapes, lists: &[Pieces]) -> Result<Vec<ShortBox>, NoMemory>
     requires { All IsShapeOnGrid shapes.now }
     ensures { IfOk result (λ boxes. AreBoxed shapes.now lists.now boxes.items) }
 {
@@ -126,13 +127,18 @@ fn boxes_for(alloc: Global, shapes: &Shapes, lists: &[Pieces]) -> Result<Vec<Fra
     while boxes.len() < shapes.len() && boxes.len() < lists.len() {
         let number = boxes.len();
         let around = box_of_shape(shapes.get(number), pieces_at(lists, number));
-        boxes.push(around)?;
+        boxes.push(ShortBox::round(around))?;
     }
     Ok(boxes)
 }
 
 // The boxes of a cell's shapes, and none for one that is bare.
-fn own_boxes(alloc: Global, tree: &Tree, parts: &Parts, cell: usize) -> Result<Vec<Frame>, NoMemory>
+fn own_boxes(
+    alloc: Global,
+    tree: &Tree,
+    parts: &Parts,
+    cell: usize,
+) -> Result<Vec<ShortBox>, NoMemory>
     requires { cell < length tree.now.layout.cells }
     ensures { IfOk result (λ boxes. AreBoxed (shapes_at tree.now.layout.cells cell) (lists_at parts.now cell) boxes.items) }
 {
@@ -166,7 +172,7 @@ fn count_of(cells: &[Cell], cell: usize) -> usize
 }
 
 // The boxes of a cell's placements.
-fn spots_for(alloc: Global, tree: &Tree, cell: usize) -> Result<Vec<Frame>, NoMemory>
+fn spots_for(alloc: Global, tree: &Tree, cell: usize) -> Result<Vec<ShortBox>, NoMemory>
     requires { cell < length tree.now.layout.cells }
     ensures near { IfOk result (λ boxes. AreNear boxes.items) }
     ensures around { IfOk result (λ boxes. IsReachable tree.now.layout.cells tree.now.top cell
@@ -177,7 +183,7 @@ fn spots_for(alloc: Global, tree: &Tree, cell: usize) -> Result<Vec<Frame>, NoMe
     while boxes.len() < count {
         let number = boxes.len();
         let around = tree.spot(cell, number);
-        boxes.push(around)?;
+        boxes.push(ShortBox::round(around))?;
     }
     Ok(boxes)
 }

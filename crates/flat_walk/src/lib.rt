@@ -11,6 +11,7 @@ mod owned;
 mod rises;
 mod rows;
 mod scenes;
+mod short_boxes;
 mod tables;
 #[cfg(test)]
 mod tests;

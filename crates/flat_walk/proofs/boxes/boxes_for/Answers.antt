@@ -4,6 +4,7 @@ use Rattle.layout_model.specs.ShapeLists.{shape_in}
 use Rattle.flat_walk.specs.Boxes.{AreBoxed}
 use Rattle.flat_walk.proofs.RestLemmas.{slot_all}
 use Rattle.flat_walk.proofs.BoxLemmas.{boxed_none, boxed_more}
+use Rattle.flat_walk.proofs.BlockLemmas.{has_round}
 use Rattle.flat_walk.proofs.boxes.boxes_for.Goals as goal
 
 pub loop-boxes-init : goal.loop-boxes-init
@@ -16,8 +17,9 @@ loop-boxes-preserved c =
     let there = subst (λ k. slice_get c.args.lists.now k ≡ Some c.pieces_at.result.now) k c.pieces_at.ensures in
     subst (AreBoxed c.args.shapes.now c.args.lists.now) (sym c.in_ok-push.ensures.items)
     (boxed_more c.args.shapes.now c.args.lists.now c.loop-boxes.boxes.items (shape_in c.get.result)
-    c.pieces_at.result.now c.box_of_shape-around.result c.loop-boxes.invariant here there
-    c.box_of_shape-around.ensures)
+    c.pieces_at.result.now c.round.result c.loop-boxes.invariant here there
+    (has_round (shape_in c.get.result) c.pieces_at.result.now c.round.result c.box_of_shape-around.result
+    c.round.ensures.around c.round.ensures.near c.box_of_shape-around.ensures))
 
 pub box_of_shape-around-requires : goal.box_of_shape-around-requires
 box_of_shape-around-requires c = slot_all IsShapeOnGrid c.args.shapes.now c.len-number.result (shape_in c.get.result) c.requires c.get.ensures

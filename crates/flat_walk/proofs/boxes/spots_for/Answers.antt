@@ -3,7 +3,7 @@ use Rattle.layout_model.specs.Hulls.{IsInBox}
 use Rattle.cell_tree.specs.Boxes.{IsBoxUpTo}
 use Rattle.cell_tree.specs.Cells.{placements_at}
 use Rattle.flat_walk.specs.Boxes.{AreNear, AreSpots}
-use Rattle.flat_walk.proofs.BlockLemmas.{near_more, spot_more, none_near}
+use Rattle.flat_walk.proofs.BlockLemmas.{near_more, spot_more, none_near, point_round}
 use Rattle.flat_walk.proofs.BoxLemmas.{no_spots}
 use Rattle.flat_walk.proofs.boxes.spots_for.Goals as goal
 
@@ -24,10 +24,11 @@ loop-boxes-preserved c =
     let long : c.len-number.result ≡ length before = omega (arith, c.len-number.ensures, c.loop-boxes.boxes.ok) in
     let items = sym c.in_ok-push.ensures.items in
     record {
-      near = subst AreNear items (near_more before c.spot-around.result c.loop-boxes.invariant.near s.near);
+      near = subst AreNear items (near_more before c.round.result c.loop-boxes.invariant.near c.round.ensures.near);
       around = λ reach. subst (AreSpots cells (placements_at cells c.args.cell)) items
-          (spot_more cells (placements_at cells c.args.cell) before c.spot-around.result
+          (spot_more cells (placements_at cells c.args.cell) before c.round.result
           (c.loop-boxes.invariant.around reach)
-          (λ placement p here vertex. s.around placement p reach
-          (subst (λ k. slice_get (placements_at cells c.args.cell) k ≡ Some placement) (sym long) here) vertex));
+          (λ placement p here vertex. point_round c.round.result c.spot-around.result p c.round.ensures.around
+          (s.around placement p reach
+          (subst (λ k. slice_get (placements_at cells c.args.cell) k ≡ Some placement) (sym long) here) vertex)));
     }

@@ -1,5 +1,4 @@
-use Rattle.std.proofs.Common.{◌≡◌, ◌<◌, ◌+◌, ◌*◌, ◌/◌, sym, subst, refl, arith, length}
-use Rattle.std.proofs.lemmas.Option.{slice_get_read}
+use Rattle.std.proofs.Common.{◌≡◌, ◌+◌, ◌*◌, ◌/◌, Some, subst, refl, arith, slice_get}
 use Rattle.flat_walk.specs.Blocks.{IsRoundThose, ShowNothing}
 use Rattle.flat_walk.proofs.BlockLemmas.{block_hides, nothing_there}
 use Rattle.flat_walk.proofs.WayLemmas.{looked_up}
@@ -27,15 +26,13 @@ returns-then-not-may_show-clause-none c =
 pub may_show-requires-2-clause-near : goal.may_show-requires-2-clause-near
 may_show-requires-2-clause-near c =
     let n = c.args.number in
-    c.self.invariant.0 n c.index.result.now
-    (slice_get_read c.self.inside.boxes.items _ n c.index.result.now refl
-    (subst (λ l. n < length l) (sym c.self.view_is) c.requires.number) c.index.ensures)
+    c.self.invariant.0 n c.box_at-around.result
+    (subst (λ l. slice_get l n ≡ Some c.box_at-around.result) c.as_slice.ensures.value c.box_at-around.ensures)
 
 pub returns-clause-none : goal.returns-clause-none
 returns-clause-none c =
     let n = c.args.number in
-    let at = slice_get_read c.self.inside.boxes.items _ n c.index.result.now refl
-    (subst (λ l. n < length l) (sym c.self.view_is) c.requires.number) c.index.ensures in
+    let at = subst (λ l. slice_get l n ≡ Some c.box_at-around.result) c.as_slice.ensures.value c.box_at-around.ensures in
     subst (λ l. ShowNothing c.args.window c.args.orient c.args.at l n (n + 1)) c.self.view_is
-    (nothing_there c.args.window c.args.orient c.args.at c.self.inside.boxes.items n (n + 1) c.index.result.now refl at
+    (nothing_there c.args.window c.args.orient c.args.at c.self.inside.boxes.items n (n + 1) c.box_at-around.result refl at
     (c.may_show-2.ensures c.if-may_show.false))
