@@ -90,7 +90,7 @@ fn high_side(at: i64) -> i32
 }
 
 impl ShortBox {
-    /// One round a box: the box itself, where the sides are of 32 bits.
+    /// One round a box: each side is at its place, or farther out where 32 bits don't hold that.
     pub(crate) fn round(around: Frame) -> ShortBox
         requires { IsBoxUpTo (2 ^ 53) around }
         ensures around { IsRound result around }
