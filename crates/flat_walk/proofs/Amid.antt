@@ -1,5 +1,5 @@
 -- Points that stand between others.
-use Rattle.std.proofs.Common.{◌≡◌, ℕ, ℤ, zero, suc, pos, neg_ℤ, ◌+ℤ◌, ◌*ℤ◌, ◌≤ℤ◌, Bool, true, false, refl, sym, subst, arith}
+use Rattle.std.proofs.Common.{◌≡◌, ℕ, ℤ, zero, suc, neg_ℤ, ◌≤ℤ◌, Bool, true, false, refl, sym, subst, arith}
 use Rattle.std.proofs.lemmas.Int.{ints}
 use Rattle.half_grid.specs.Quads.{Corners}
 use Rattle.half_grid.specs.declared.plane.Point.{Point}

@@ -1,6 +1,6 @@
 -- The quadrilaterals of a walk and the area of a pair: a tile of the window's rows is in one of them exactly where it is in
 -- the area.
-use Rattle.std.proofs.Common.{◌≡◌, ◌≢◌, ◌⊎◌, inl, inr, ℕ, ℤ, zero, suc, pos, neg_ℤ, ◌≤◌, ◌≤ℤ◌, ◌<ℤ◌, Bool, true, false, cond}
+use Rattle.std.proofs.Common.{◌≡◌, ◌≢◌, ◌⊎◌, inl, inr, ℕ, ℤ, zero, suc, pos, neg_ℤ, ◌≤ℤ◌, ◌<ℤ◌, Bool, true, false, cond}
 use Rattle.std.proofs.Common.{List, [], ◌∷◌, Option, Some, None, map, slice_get, int_lt, nat_eq, ◌&&◌, refl, sym, ap}
 use Rattle.std.proofs.Common.{subst, ◌∙◌, arith}
 use Rattle.std.specs.Int.{int_min, int_max}
@@ -32,7 +32,7 @@ use Rattle.flat_walk.specs.Tables.{lists_at, IsKept}
 use Rattle.flat_walk.specs.Walks.{is_on, pieces_of_shape, pieces_of_shapes, own_pieces, placed_pieces, pieces_in, CoversLayer}
 use Rattle.flat_walk.specs.Ways.{IsScene, cells_of}
 use Rattle.flat_walk.specs.declared.scenes.Scene.{Scene}
-use Rattle.flat_walk.proofs.AllThings.{each_map, each_flat, all_things}
+use Rattle.flat_walk.proofs.AllThings.{each_flat, all_things}
 use Rattle.flat_walk.proofs.Motions.{IsLoop, signed, before_move, before_image, move_loop, move_winding, image_loop, image_winding, even_sum}
 use Rattle.flat_walk.proofs.RestLemmas.{slot_all}
 use Rattle.flat_walk.proofs.RingImages.{IsRing, ring_image, quad_winding, shot_ring}

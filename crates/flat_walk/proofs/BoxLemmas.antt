@@ -1,13 +1,12 @@
 -- Boxes round what shapes show, and shapes that are passed by.
-use Rattle.std.proofs.Common.{◌≡◌, ℕ, ℤ, zero, suc, pos, neg_ℤ, ◌+◌, ◌-◌, ◌*◌, ◌^◌, ◌<◌, ◌≤◌, ◌+ℤ◌, ◌≤ℤ◌, Bool, true}
-use Rattle.std.proofs.Common.{false, int_lt, if◌then◌else◌, List, [], ◌∷◌, ◌++◌, Option, Some, None, All, Any, map}
+use Rattle.std.proofs.Common.{◌≡◌, ℕ, ℤ, zero, suc, pos, ◌+◌, ◌-◌, ◌^◌, ◌<◌, ◌≤◌, ◌+ℤ◌, Bool, true}
+use Rattle.std.proofs.Common.{false, int_lt, if◌then◌else◌, List, [], ◌∷◌, ◌++◌, Option, Some, All, Any, map}
 use Rattle.std.proofs.Common.{drop, length, get_or, slice_get, refl, sym, ap, subst, ◌∙◌, arith, append_assoc}
-use Rattle.std.proofs.Common.{length-append}
 use Rattle.std.specs.Int.{int_min, int_max}
 use Rattle.std.specs.List.{filter, flat_map, AllByRecursion}
 use Rattle.std.proofs.lemmas.Int.{ints, clamps}
 use Rattle.std.proofs.lemmas.List.{length-drop}
-use Rattle.std.proofs.lemmas.List.Elements.{filter-append, recursion_from_All, All-from_recursion, All-head, All-tail}
+use Rattle.std.proofs.lemmas.List.Elements.{recursion_from_All, All-from_recursion}
 use Rattle.std.proofs.lemmas.Option.{none-some, same_Some, slice_get-get_or}
 use Rattle.half_grid.specs.Quads.{Corners, corners_of}
 use Rattle.half_grid.specs.Reach.{IsPointWithinReach}
@@ -32,7 +31,7 @@ use Rattle.flat_walk.specs.Quads.{quad_image, moved_quad, has_row_in}
 use Rattle.flat_walk.specs.Walks.{is_on, pieces_of_shape, pieces_of_shapes}
 use Rattle.flat_walk.specs.Rests.{Skips, shows_in, ShowsNothing, placed_list, places_rest, placed_rest}
 use Rattle.flat_walk.specs.Hands.{steps_from}
-use Rattle.flat_walk.specs.Ways.{IsBetweenRows, HasRowsBetween, low_corner, high_corner}
+use Rattle.flat_walk.specs.Ways.{IsBetweenRows, low_corner, high_corner}
 use Rattle.flat_walk.proofs.RestLemmas.{skip_on, skip_same, skip_front, placed_rest_is, shapes_from_first, marks_apart}
 use Rattle.flat_walk.proofs.RestLemmas.{slot_all, places_on, places_off, drop_past}
 use Rattle.flat_walk.proofs.PointLemmas.{same_point}

@@ -1,17 +1,15 @@
 -- What one edge adds to the winding at a tile, by the place of the edge's line.
-use Rattle.std.proofs.Common.{◌≡◌, ◌≢◌, ◌⊎◌, inl, inr, ℕ, Bool, true, false, ℤ, pos, ◌+ℤ◌, ◌-ℤ◌, neg_ℤ, ◌≤ℤ◌, ◌<ℤ◌}
-use Rattle.std.proofs.Common.{◌&&◌, not, arith, refl, ap, sym, ◌∙◌, List, [], ◌∷◌, map, int_le, int_lt}
-use Rattle.std.proofs.lemmas.Int.{ints, by_lt_z}
-use Rattle.std.specs.List.{AllByRecursion}
+use Rattle.std.proofs.Common.{◌≡◌, ◌≢◌, ℕ, Bool, true, false, ℤ, pos, ◌-ℤ◌, ◌≤ℤ◌, ◌<ℤ◌}
+use Rattle.std.proofs.Common.{◌&&◌, not, arith, refl, ap, sym, ◌∙◌, int_le, int_lt}
+use Rattle.std.proofs.lemmas.Int.{ints}
 use Rattle.half_grid.specs.Lines.{Passes, line_of}
 use Rattle.half_grid.specs.Rows.{place, number_in_row}
-use Rattle.half_grid.specs.Outlines.{IsOnGrid, IsClosed, last_of}
-use Rattle.half_grid.specs.Winding.{is_right_of, rises_past, edges_of, crossing_of, count_one, winding}
+use Rattle.half_grid.specs.Winding.{is_right_of, rises_past, crossing_of, count_one}
 use Rattle.half_grid.specs.declared.plane.Tile.{Tile}
 use Rattle.half_grid.specs.declared.plane.Point.{Point}
 use Rattle.half_grid.specs.declared.plane.Line.{Line}
-use Rattle.half_grid.proofs.ForCallers.{line_is, right_by_place, left_by_place, le_yes, le_no, winding_from}
-use Rattle.half_grid.proofs.ForCallers.{winding_along, crossing_up, crossing_down, crossing_none}
+use Rattle.half_grid.proofs.ForCallers.{line_is, right_by_place, left_by_place, le_yes, le_no}
+use Rattle.half_grid.proofs.ForCallers.{crossing_up, crossing_down, crossing_none}
 
 rises_low : (t : Tile) (a b : Point) → rises_past t a b ≡ true → a.y ≤ℤ t.j
 rises_low t a b h = grind (arith, ints)

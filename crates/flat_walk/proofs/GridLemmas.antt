@@ -1,6 +1,6 @@
 -- The edges of the quadrilaterals of a walk are on the half grid.
 use Rattle.std.proofs.Common.{List, [], ◌∷◌, Option, Some, None, All, IfSome, subst}
-use Rattle.std.specs.List.{filter, AllByRecursion}
+use Rattle.std.specs.List.{AllByRecursion}
 use Rattle.std.proofs.lemmas.List.Elements.{All-from_recursion}
 use Rattle.half_grid.specs.Outlines.{HasGridEdges, IsOnGrid}
 use Rattle.half_grid.specs.Quads.{Corners, ring_of}

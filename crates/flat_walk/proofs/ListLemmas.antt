@@ -1,14 +1,13 @@
 -- The list of a walk: its marks, that it is of quadrilaterals, and how long it is.
-use Rattle.std.proofs.Common.{◌≡◌, ℕ, ℤ, zero, suc, pos, neg_ℤ, ◌+◌, ◌*◌, ◌^◌, ◌<◌, ◌≤◌, ◌+ℤ◌, ◌*ℤ◌, ◌≤ℤ◌, Bool, true}
-use Rattle.std.proofs.Common.{false, cond, List, [], ◌∷◌, ◌++◌, Option, Some, None, All, IfSome, map, length, refl, sym}
+use Rattle.std.proofs.Common.{◌≡◌, ℕ, ℤ, zero, suc, pos, ◌*◌, ◌^◌, ◌≤◌, ◌+ℤ◌, ◌*ℤ◌, Bool, true}
+use Rattle.std.proofs.Common.{false, cond, List, [], ◌∷◌, ◌++◌, Option, Some, None, All, IfSome, map, length, refl}
 use Rattle.std.proofs.Common.{ap, subst, ◌∙◌, arith, length-append}
 use Rattle.std.specs.List.{filter, flat_map, AllByRecursion}
 use Rattle.std.specs.Option.{option_map_or}
 use Rattle.std.proofs.Math.IntN.{zero-*ℤ, suc_ℤ-*ℤ}
-use Rattle.std.proofs.Math.Nat.{mul-le-mul_left}
 use Rattle.std.proofs.lemmas.Int.{ints}
 use Rattle.std.proofs.lemmas.List.{length-map}
-use Rattle.std.proofs.lemmas.List.Elements.{All-from_recursion, recursion_from_All, All-head, All-tail}
+use Rattle.std.proofs.lemmas.List.Elements.{All-from_recursion, recursion_from_All}
 use Rattle.half_grid.specs.Quads.{Corners, corners, IsQuad, corners_of}
 use Rattle.half_grid.specs.Reach.{IsPointWithinReach}
 use Rattle.half_grid.specs.Trapezoids.{Trapezoid}
@@ -22,11 +21,10 @@ use Rattle.layout_model.specs.declared.shapes.Shape.{Shape}
 use Rattle.layout_model.specs.declared.cells.Placement.{Placement}
 use Rattle.layout_model.specs.declared.cells.Cell.{Cell}
 use Rattle.cell_tree.specs.Cells.{shapes_at, placements_at, cell_number}
-use Rattle.cell_tree.specs.Chains.{IsReachable}
 use Rattle.cell_tree.specs.Flattening.{placed_things, things_within, Flat, flats_of_shape, own_flats, flat_image, flattened, IsVertex}
 use Rattle.cell_tree.proofs.ForCallers.{top_reachable}
-use Rattle.flat_walk.specs.Quads.{with_corners, quad_image, moved_quad, has_row_in}
-use Rattle.flat_walk.specs.Tables.{lists_at, IsKept, AreKept}
+use Rattle.flat_walk.specs.Quads.{quad_image, moved_quad, has_row_in}
+use Rattle.flat_walk.specs.Tables.{lists_at, IsKept}
 use Rattle.flat_walk.specs.Walks.{is_on, pieces_of_shape, pieces_of_shapes, own_pieces, placed_pieces, pieces_in}
 use Rattle.flat_walk.specs.Rests.{marked_image, marked_own, marked, shows_in, IsMarkedQuad}
 use Rattle.flat_walk.specs.Ways.{IsScene, cells_of, marked_of}
@@ -34,7 +32,7 @@ use Rattle.flat_walk.specs.declared.scenes.Scene.{Scene}
 use Rattle.flat_walk.proofs.Amid.{IsAmid, IsSpanned}
 use Rattle.flat_walk.proofs.PointLemmas.{same_point}
 use Rattle.flat_walk.proofs.RingImages.{IsRing}
-use Rattle.flat_walk.proofs.SpanLemmas.{IsShown, all_shown}
+use Rattle.flat_walk.proofs.SpanLemmas.{all_shown}
 
 -- ---- a cell that is neither turned nor moved
 

@@ -1,18 +1,17 @@
 -- Maps of the plane that keep the half grid, and the winding of an outline's image.
-use Rattle.std.proofs.Common.{◌≡◌, ◌≢◌, ◌⊎◌, inl, inr, ℕ, zero, suc, Bool, true, false, ℤ, pos, negsuc, ◌+◌, ◌*◌, ◌≤◌}
+use Rattle.std.proofs.Common.{◌≡◌, ◌⊎◌, inl, inr, ℕ, zero, suc, Bool, true, false, ℤ, pos, negsuc, ◌≤◌}
 use Rattle.std.proofs.Common.{◌<◌, ◌/◌, ◌%◌, ◌+ℤ◌, ◌-ℤ◌, ◌*ℤ◌, neg_ℤ, ◌≤ℤ◌, ◌<ℤ◌, ◌&&◌, not, mod-lt, map-id, arith}
-use Rattle.std.proofs.Common.{refl, ap, sym, subst, ◌∙◌, List, [], ◌∷◌, map, int_le, int_lt, cond}
+use Rattle.std.proofs.Common.{refl, ap, sym, subst, ◌∙◌, List, [], ◌∷◌, map, int_le, cond}
 use Rattle.std.proofs.lemmas.Int.{ints, by_lt_z}
 use Rattle.std.proofs.lemmas.Bool.Decides.{nat_tests}
 use Rattle.std.proofs.Math.IntN.{zero-*ℤ, suc_ℤ-*ℤ}
 use Rattle.std.proofs.Math.Nat.{div-add-mod}
 use Rattle.std.specs.List.{AllByRecursion}
 use Rattle.half_grid.specs.Halves.{half, is_even, twice}
-use Rattle.half_grid.specs.Lines.{Passes, line_of}
+use Rattle.half_grid.specs.Lines.{Passes}
 use Rattle.half_grid.specs.Rows.{place, number_in_row}
-use Rattle.half_grid.specs.Outlines.{IsOnGrid, IsClosed, ShareLine, last_of}
+use Rattle.half_grid.specs.Outlines.{IsOnGrid, IsClosed, last_of}
 use Rattle.half_grid.specs.Winding.{edges_of, crossing_of, count_one, winding}
-use Rattle.half_grid.specs.declared.plane.Side.TheVariants.{Left, Right}
 use Rattle.half_grid.specs.declared.plane.Tile.{Tile}
 use Rattle.half_grid.specs.declared.plane.Point.{Point}
 use Rattle.half_grid.specs.declared.plane.Line.{Line}

@@ -1,12 +1,11 @@
 -- One image after another.
-use Rattle.std.proofs.Common.{◌≡◌, ℕ, ℤ, zero, suc, pos, negsuc, neg_ℤ, ◌+ℤ◌, ◌*ℤ◌, ◌+◌, ◌*◌, ◌%◌, ◌-◌, ◌<◌, Bool, true}
-use Rattle.std.proofs.Common.{false, not, List, [], ◌∷◌, map, refl, sym, ap, subst, ◌∙◌, arith}
+use Rattle.std.proofs.Common.{◌≡◌, ℕ, ℤ, zero, suc, pos, neg_ℤ, ◌+ℤ◌, ◌*ℤ◌, ◌+◌, ◌*◌, ◌%◌, ◌-◌, ◌<◌, Bool, true}
+use Rattle.std.proofs.Common.{false, refl, sym, ap, ◌∙◌, arith}
 use Rattle.std.proofs.Math.IntN.{zero-*ℤ, suc_ℤ-*ℤ}
 use Rattle.std.proofs.lemmas.Int.{ints}
 use Rattle.half_grid.specs.declared.plane.Point.{Point}
-use Rattle.half_grid.specs.Quads.{Corners, corners, corners_of}
-use Rattle.half_grid.specs.Trapezoids.{Trapezoid}
-use Rattle.layout_model.specs.Images.{IsOrient, moved, turned, flipped, enlarged, quarter_turn, image_of}
+use Rattle.half_grid.specs.Quads.{Corners, corners}
+use Rattle.layout_model.specs.Images.{moved, turned, flipped, enlarged, quarter_turn, image_of}
 use Rattle.layout_model.specs.declared.orient.Orient.{Orient}
 use Rattle.flat_walk.specs.Poses.{oriented, turns_after, flips_after, composed}
 use Rattle.flat_walk.specs.Quads.{with_corners, turned_round, quad_image, moved_quad}

@@ -1,17 +1,15 @@
 -- Quadrilaterals that wind once round their tiles, and their images.
-use Rattle.std.proofs.Common.{◌≡◌, ◌≢◌, inl, inr, ℕ, ℤ, pos, neg_ℤ, ◌+ℤ◌, ◌≤◌, Bool, true, false, List, [], ◌∷◌, map, refl, sym, ap, subst, ◌∙◌, arith}
-use Rattle.std.specs.List.{AllByRecursion}
+use Rattle.std.proofs.Common.{◌≡◌, inl, inr, ℤ, pos, neg_ℤ, ◌≤◌, Bool, true, false, [], ◌∷◌, refl, sym, ◌∙◌, arith}
 use Rattle.std.proofs.lemmas.Int.{ints, by_lt_z}
 use Rattle.half_grid.specs.Halves.{is_even}
 use Rattle.half_grid.specs.Outlines.{IsOnGrid}
 use Rattle.half_grid.specs.Rows.{place, number_in_row}
-use Rattle.half_grid.specs.Quads.{Corners, corners, ring_of, corners_of}
+use Rattle.half_grid.specs.Quads.{Corners, ring_of, corners_of}
 use Rattle.half_grid.specs.Trapezoids.{Trapezoid, IsShot}
-use Rattle.half_grid.specs.Winding.{winding, IsInPolygon, crossing_of, counts_up, counts_down, count_one, rises_past}
+use Rattle.half_grid.specs.Winding.{winding, IsInPolygon, crossing_of}
 use Rattle.half_grid.specs.declared.plane.Tile.{Tile}
 use Rattle.half_grid.specs.declared.plane.Point.{Point}
-use Rattle.layout_model.specs.Images.{image_of, moved}
-use Rattle.layout_model.specs.Layouts.{IsMove}
+use Rattle.layout_model.specs.Images.{image_of}
 use Rattle.layout_model.specs.declared.orient.Orient.{Orient}
 use Rattle.half_grid.proofs.ForCallers.{winding_along, quad_of_shot}
 use Rattle.flat_walk.specs.Quads.{with_corners, turned_round, quad_image, moved_quad}

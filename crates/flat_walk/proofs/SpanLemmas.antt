@@ -1,12 +1,10 @@
 -- Each corner of what a cell shows stands between vertices of the cell, and each quadrilateral winds once round its tiles.
-use Rattle.std.proofs.Common.{◌≡◌, ◌≢◌, ◌⊎◌, inl, inr, ℕ, ℤ, zero, suc, pos, ◌+◌, ◌<◌, ◌≤◌, ◌≤ℤ◌, Bool, true, false}
-use Rattle.std.proofs.Common.{cond, List, [], ◌∷◌, ◌++◌, Option, Some, None, All, Contains, IfSome, map, length}
-use Rattle.std.proofs.Common.{slice_get, get_or, nat_eq, ◌&&◌, refl, sym, ap, subst, ◌∙◌, arith}
-use Rattle.std.specs.List.{AllByRecursion, flat_map}
-use Rattle.std.proofs.lemmas.Int.{ints}
+use Rattle.std.proofs.Common.{◌≡◌, ◌≢◌, ◌⊎◌, inl, inr, ℕ, zero, suc, pos, ◌≤◌, Bool, true, false}
+use Rattle.std.proofs.Common.{cond, List, [], ◌∷◌, Option, Some, None, All, IfSome, map, length}
+use Rattle.std.proofs.Common.{slice_get, nat_eq, ◌&&◌, refl, sym, ap, subst, ◌∙◌, arith}
+use Rattle.std.specs.List.{AllByRecursion}
 use Rattle.std.proofs.lemmas.List.Elements.{recursion_from_All, All-from_recursion, All-head, All-tail}
-use Rattle.half_grid.specs.Halves.{is_even}
-use Rattle.half_grid.specs.Quads.{Corners, ring_of, corners_of}
+use Rattle.half_grid.specs.Quads.{Corners, corners_of}
 use Rattle.half_grid.specs.Trapezoids.{Trapezoid, IsShot, IsInTrapezoid, CoversExactly, count_in, trapezoid_has}
 use Rattle.half_grid.specs.Winding.{winding, IsInPolygon}
 use Rattle.half_grid.specs.declared.plane.Tile.{Tile}
@@ -15,10 +13,8 @@ use Rattle.half_grid.proofs.ForCallers.{in_has, count_by-cons}
 use Rattle.layout_model.specs.Images.{image_of, moved}
 use Rattle.layout_model.specs.Layouts.{IsMove, IsShapeOnGrid, IsPlacementOnGrid}
 use Rattle.layout_model.specs.declared.pair.Pair.{Pair}
-use Rattle.layout_model.specs.declared.orient.Orient.{Orient}
 use Rattle.layout_model.specs.declared.shapes.Shape.{Shape}
 use Rattle.layout_model.specs.declared.cells.Placement.{Placement}
-use Rattle.layout_model.specs.declared.cells.Cell.{Cell}
 use Rattle.cell_tree.specs.Cells.{shapes_at, placements_at, cell_number}
 use Rattle.cell_tree.specs.Chains.{IsReachable}
 use Rattle.cell_tree.specs.Flattening.{IsVertex}
@@ -31,7 +27,7 @@ use Rattle.flat_walk.specs.Quads.{moved_quad}
 use Rattle.flat_walk.specs.Tables.{lists_at, IsKept, AreKept}
 use Rattle.flat_walk.specs.Walks.{is_on, pieces_of_shape, pieces_of_shapes, own_pieces}
 use Rattle.flat_walk.proofs.AllThings.{each_both, each_map, each_flat, all_things}
-use Rattle.flat_walk.proofs.Amid.{IsAmid, IsSpanned, spanned_image, spanned_moved}
+use Rattle.flat_walk.proofs.Amid.{IsSpanned, spanned_image, spanned_moved}
 use Rattle.flat_walk.proofs.AmidLemmas.{IsIn, corners_amid}
 use Rattle.flat_walk.proofs.Motions.{IsLoop, even_sum}
 use Rattle.flat_walk.proofs.RestLemmas.{slot_all}

@@ -1,6 +1,6 @@
 -- The cells on the way, and what they still place.
 use Rattle.std.proofs.Common.{◌≡◌, ℕ, ℤ, pos, neg_ℤ, ◌+◌, ◌*◌, ◌^◌, ◌<◌, ◌≤◌, ◌≤ℤ◌, true, false, List, [], ◌∷◌, ◌++◌}
-use Rattle.std.proofs.Common.{Option, Some, None, All, IfSome, MatchOption, is_some, ltb, map, drop, length, get_or}
+use Rattle.std.proofs.Common.{Option, Some, None, IfSome, MatchOption, is_some, ltb, map, drop, length, get_or}
 use Rattle.std.proofs.Common.{slice_get, refl, sym, ap, subst, ◌∙◌, arith, append_assoc, length-append}
 use Rattle.std.specs.List.{flat_map, AllByRecursion}
 use Rattle.std.proofs.lemmas.Int.{ints}

@@ -1,6 +1,6 @@
 -- How far up the image of a point is, by one of its coordinates, and which coordinates bring a cell's rows into a window.
 -- This is for the contracts of the walk's own functions.
-use Rattle.std.specs.Prelude.{◌≡◌, ◌<◌, ◌<ℤ◌, ◌≤ℤ◌, ◌+ℤ◌, ◌*ℤ◌, ◌≤◌, ℕ, ℤ, zero, suc, pos, neg_ℤ, List, Bool, true, false, not, Some, slice_get, int_lt}
+use Rattle.std.specs.Prelude.{◌≡◌, ◌<◌, ◌<ℤ◌, ◌≤ℤ◌, ◌+ℤ◌, ◌≤◌, ℕ, ℤ, zero, suc, pos, neg_ℤ, List, Bool, true, false, not, Some, slice_get, int_lt}
 use Rattle.std.specs.Int.{int_min, int_max}
 use Rattle.half_grid.specs.Windows.{RowRange}
 use Rattle.half_grid.specs.declared.plane.Point.{Point}

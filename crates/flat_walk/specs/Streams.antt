@@ -1,7 +1,6 @@
 -- A walk stands for the quadrilaterals still to come that have a row in its window, and the laws of this.
 use Rattle.std.proofs.Common.{◌≡◌, ℕ, ◌≤◌, ◌^◌, List, [], ◌∷◌, ◌++◌, Option, Some, All, map, length, refl, ap, sym, ◌∙◌, arith}
 use Rattle.std.specs.List.{filter}
-use Rattle.std.specs.Vec.{vec_capacity}
 use Rattle.std.proofs.lemmas.List.{length-map}
 use Rattle.half_grid.specs.Quads.{Corners}
 use Rattle.flat_walk.specs.Rests.{IsMarkedQuad, shows_in}

@@ -3,13 +3,12 @@
 --
 -- A cell shows the pieces of its own shapes on the pair in order, each shape at its offsets in order, and at each of them
 -- its pieces in the order put; and then what its placements show, as the flattened layout says it.
-use Rattle.std.specs.Prelude.{◌≡◌, ◌≤ℤ◌, ◌<ℤ◌, ◌↔◌, ◌&&◌, ℕ, nat_eq, Bool, List, [], ◌∷◌, ◌++◌, map, Any, if◌then◌else◌}
+use Rattle.std.specs.Prelude.{◌≤ℤ◌, ◌<ℤ◌, ◌↔◌, ◌&&◌, ℕ, nat_eq, Bool, List, [], ◌∷◌, ◌++◌, map, Any, if◌then◌else◌}
 use Rattle.std.specs.List.{filter, flat_map}
 use Rattle.half_grid.specs.Quads.{Corners, corners_of, ring_of}
 use Rattle.half_grid.specs.Trapezoids.{Trapezoid}
 use Rattle.half_grid.specs.Winding.{IsInPolygon}
 use Rattle.half_grid.specs.Windows.{RowRange}
-use Rattle.half_grid.specs.declared.plane.Point.{Point}
 use Rattle.half_grid.specs.declared.plane.Tile.{Tile}
 use Rattle.layout_model.specs.declared.pair.Pair.{Pair}
 use Rattle.layout_model.specs.declared.shapes.Shape.{Shape}

@@ -1,4 +1,4 @@
-use Rattle.std.proofs.Common.{◌≡◌, ◌≤◌, ◌+◌, ◌*◌, sym, ap, subst, arith, length, length-append, ◌∷◌, []}
+use Rattle.std.proofs.Common.{◌≤◌, ◌+◌, sym, ap, subst, arith, length, length-append, ◌∷◌, []}
 use Rattle.flat_walk.specs.Blocks.{IsRoundThose, AreBlocks}
 use Rattle.flat_walk.proofs.BlockLemmas.{no_blocks, blocks_more}
 use Rattle.flat_walk.proofs.blocks.blocks_of.Goals as goal

@@ -1,4 +1,3 @@
-use Rattle.std.proofs.Common.{◌≡◌, ◌∙◌, ap, sym, subst}
 use Rattle.flat_walk.proofs.ShowLemmas.{meet_off}
 use Rattle.flat_walk.proofs.BoxLemmas.{box_hides}
 use Rattle.flat_walk.proofs.blocks.may_show.Goals as goal

@@ -1,4 +1,4 @@
-use Rattle.std.proofs.Common.{◌≡◌, ◌^◌, sym, ap, subst, ◌∙◌}
+use Rattle.std.proofs.Common.{◌^◌, sym, subst}
 use Rattle.half_grid.specs.Reach.{IsPointWithinReach}
 use Rattle.layout_model.specs.Hulls.{IsInBox}
 use Rattle.flat_walk.specs.Boxes.{IsQuadIn}

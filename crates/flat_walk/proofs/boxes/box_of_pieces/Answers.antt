@@ -1,8 +1,6 @@
-use Rattle.std.proofs.Common.{◌≡◌, ◌∙◌, ◌^◌, ◌+◌, ap, sym, subst, ◌∷◌, ◌++◌, [], take, refl, arith}
+use Rattle.std.proofs.Common.{◌≡◌, ◌∙◌, ◌^◌, ◌+◌, ap, sym, subst, ◌∷◌, ◌++◌, [], take, arith}
 use Rattle.std.proofs.lemmas.List.{take_more, take_all}
-use Rattle.half_grid.specs.Quads.{corners_of}
 use Rattle.cell_tree.specs.Boxes.{IsBoxUpTo}
-use Rattle.flat_walk.specs.Boxes.{IsQuadIn}
 use Rattle.flat_walk.proofs.BoxLemmas.{AreIn, one_in, more_in, near_both}
 use Rattle.flat_walk.proofs.boxes.box_of_pieces.Goals as goal
 

@@ -1,6 +1,4 @@
-use Rattle.std.proofs.Common.{◌≡◌, ◌∙◌, ◌<◌, ◌^◌, ap, sym, subst, length, arith, ◌++◌, ◌∷◌, [], Some, slice_get}
-use Rattle.layout_model.specs.Hulls.{IsInBox}
-use Rattle.cell_tree.specs.Boxes.{IsBoxUpTo}
+use Rattle.std.proofs.Common.{◌≡◌, sym, subst, length, arith, Some, slice_get}
 use Rattle.cell_tree.specs.Cells.{placements_at}
 use Rattle.flat_walk.specs.Boxes.{AreNear, AreSpots}
 use Rattle.flat_walk.proofs.BlockLemmas.{near_more, spot_more, none_near, point_round}

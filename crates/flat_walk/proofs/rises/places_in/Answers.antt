@@ -1,4 +1,4 @@
-use Rattle.std.proofs.Common.{◌≡◌, ◌≤◌, ℤ, pos, ◌+ℤ◌, ◌-ℤ◌, subst, sym, ap, ◌∙◌}
+use Rattle.std.proofs.Common.{◌≤◌, ℤ, pos, ◌+ℤ◌, ◌-ℤ◌, subst, sym, ap, ◌∙◌}
 use Rattle.std.specs.Int.{int_div_euclid}
 use Rattle.layout_model.specs.Intervals.{along}
 use Rattle.flat_walk.specs.Rises.{signed, IsAmid}

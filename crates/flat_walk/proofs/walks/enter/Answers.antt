@@ -1,7 +1,7 @@
 use Rattle.std.proofs.Common.{◌∙◌, sym, ap, subst, arith, ◌+◌, ◌≡◌, [], ◌∷◌, ◌++◌, None, length, length-append}
 use Rattle.flat_walk.specs.Rests.{Skips}
 use Rattle.flat_walk.specs.Hands.{own_rest}
-use Rattle.flat_walk.specs.Ways.{levels_rest, AreLevels, IsLevel}
+use Rattle.flat_walk.specs.Ways.{levels_rest, AreLevels}
 use Rattle.flat_walk.proofs.WayLemmas.{level_shallow}
 use Rattle.flat_walk.proofs.WalkLemmas.{levels_pushed, levels_front, levels_last, enters, leaves}
 use Rattle.flat_walk.proofs.walks.enter.Goals as goal

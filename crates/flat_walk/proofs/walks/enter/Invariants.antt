@@ -1,4 +1,4 @@
-use Rattle.std.proofs.Common.{◌≡◌, ◌≤◌, length, vec_capacity}
+use Rattle.std.proofs.Common.{◌≡◌, length, vec_capacity}
 use Rattle.flat_walk.specs.Rests.{Skips}
 use Rattle.flat_walk.specs.Ways.{levels_rest, AreLevels}
 use Rattle.flat_walk.proofs.walks.enter.Given as goal

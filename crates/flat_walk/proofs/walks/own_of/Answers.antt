@@ -1,9 +1,6 @@
-use Rattle.std.proofs.Common.{◌∙◌, sym, ap, subst, ◌<◌, ◌^◌, length, All, map, Some}
+use Rattle.std.proofs.Common.{sym, subst, ◌<◌, ◌^◌, length, All}
 use Rattle.cell_tree.proofs.ForCallers.{shapes_on_grid}
-use Rattle.cell_tree.specs.Cells.{shapes_at}
 use Rattle.layout_model.specs.Layouts.{IsShapeOnGrid, IsWithin}
-use Rattle.flat_walk.specs.Tables.{lists_at}
-use Rattle.flat_walk.specs.Rests.{placed_rest}
 use Rattle.flat_walk.specs.Ways.{cells_of}
 use Rattle.flat_walk.proofs.WayLemmas.{level_within, level_near}
 use Rattle.flat_walk.proofs.walks.own_of.Goals as goal

@@ -1,6 +1,5 @@
-use Rattle.std.proofs.Common.{◌≡◌, false, ltb, ◌∙◌, sym, ap, subst, ◌<◌, ◌≤◌, ◌+◌, length, refl}
-use Rattle.flat_walk.specs.Rests.{Skips}
-use Rattle.flat_walk.specs.Ways.{cells_of, level_rest, IsLevel}
+use Rattle.std.proofs.Common.{◌≡◌, false, ltb, ◌∙◌, sym, subst, length, refl}
+use Rattle.flat_walk.specs.Ways.{level_rest}
 use Rattle.flat_walk.proofs.RestLemmas.{skip_on}
 use Rattle.flat_walk.proofs.WayLemmas.{level_within, level_with, level_found, level_none, level_onward, level_ends, same_place_on, ltb_no, looked_up}
 use Rattle.flat_walk.proofs.levels.Level.next.Goals as goal

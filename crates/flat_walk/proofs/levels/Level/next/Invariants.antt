@@ -1,4 +1,4 @@
-use Rattle.std.proofs.Common.{◌≡◌, ◌-◌, length}
+use Rattle.std.proofs.Common.{◌-◌, length}
 use Rattle.cell_tree.specs.Cells.{placements_at}
 use Rattle.flat_walk.specs.Rests.{Skips}
 use Rattle.flat_walk.specs.Ways.{cells_of, level_rest, IsLevel, IsSamePlace}

@@ -1,4 +1,4 @@
-use Rattle.std.proofs.Common.{◌∙◌, sym, ap, subst}
+use Rattle.std.proofs.Common.{◌∙◌, sym, ap}
 use Rattle.layout_model.specs.Images.{image_of, moved}
 use Rattle.flat_walk.proofs.WayLemmas.{level_near, inner_is}
 use Rattle.flat_walk.proofs.levels.Level.next_spot.Goals as goal

@@ -1,5 +1,4 @@
-use Rattle.std.proofs.Common.{◌^◌, sym, subst}
-use Rattle.layout_model.specs.Layouts.{IsWithin}
+use Rattle.std.proofs.Common.{sym, subst}
 use Rattle.cell_tree.specs.Cells.{placements_at}
 use Rattle.flat_walk.specs.Blocks.{boxes_in}
 use Rattle.flat_walk.specs.Boxes.{AreSpots}

@@ -1,10 +1,9 @@
-use Rattle.std.proofs.Common.{◌∙◌, sym, ap, subst, refl, Some, map}
-use Rattle.cell_tree.specs.Cells.{cell_number}
+use Rattle.std.proofs.Common.{ap, map}
 use Rattle.cell_tree.proofs.ForCallers.{on_grid}
 use Rattle.layout_model.specs.Layouts.{IsPlacementOnGrid}
 use Rattle.cell_tree.specs.Cells.{placements_at}
 use Rattle.flat_walk.specs.Rests.{marked_image}
-use Rattle.flat_walk.specs.Ways.{cells_of, marked_of, things_at, run_rest, spots_rest}
+use Rattle.flat_walk.specs.Ways.{cells_of, marked_of}
 use Rattle.flat_walk.proofs.RestLemmas.{slot_all, skip_all, skip_same}
 use Rattle.flat_walk.proofs.ShowLemmas.{nothing_shown}
 use Rattle.flat_walk.proofs.WayLemmas.{placed_reached, placed_mild, hull_rows, no_hull, box_within, things_are_placed}

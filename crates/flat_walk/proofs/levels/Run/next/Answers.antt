@@ -1,4 +1,4 @@
-use Rattle.std.proofs.Common.{◌∙◌, sym, ap, subst, arith, ◌+◌, ◌*◌, ◌^◌, ◌≡◌, false, map, ◌++◌, Some}
+use Rattle.std.proofs.Common.{◌∙◌, sym, ap, subst, arith, ◌+◌, ◌*◌, ◌^◌, map, ◌++◌, Some}
 use Rattle.half_grid.specs.declared.plane.Point.{Point}
 use Rattle.layout_model.specs.Layouts.{IsMove, IsWithin}
 use Rattle.layout_model.specs.Images.{image_of, moved}

@@ -1,11 +1,11 @@
-use Rattle.std.proofs.Common.{◌∙◌, sym, ap, subst, ◌≡◌, ◌≤◌, ◌<◌, ◌+◌, ◌++◌, ◌∷◌, [], List, Option, Some, None, All, length, vec_capacity}
+use Rattle.std.proofs.Common.{◌∙◌, sym, ap, subst, ◌≡◌, ◌≤◌, ◌+◌, ◌++◌, ◌∷◌, [], List, Some, None, All, vec_capacity}
 use Rattle.half_grid.specs.Quads.{Corners}
 use Rattle.flat_walk.specs.Rests.{Skips, Gives, IsMarkedQuad}
 use Rattle.flat_walk.specs.Hands.{own_rest}
 use Rattle.flat_walk.specs.Ways.{levels_rest, AreLevels}
 use Rattle.flat_walk.specs.Streams.{rest_of, StandsForWalk, walk_size}
 use Rattle.flat_walk.proofs.RestLemmas.{skip_on, skip_left, skip_over, skip_quads, marked_left}
-use Rattle.flat_walk.proofs.WalkLemmas.{walk_gives, walk_ends, size_falls, walk_enters, walk_shorter}
+use Rattle.flat_walk.proofs.WalkLemmas.{walk_gives, walk_ends, size_falls, walk_enters}
 use Rattle.flat_walk.proofs.walks.WalkStream.next.Goals as goal
 
 pub next-requires-clause-quads : goal.next-requires-clause-quads

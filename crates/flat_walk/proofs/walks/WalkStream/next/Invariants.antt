@@ -1,7 +1,7 @@
-use Rattle.std.proofs.Common.{◌≡◌, ◌≤◌, length, All, vec_capacity}
+use Rattle.std.proofs.Common.{◌≡◌, length, All, vec_capacity}
 use Rattle.flat_walk.specs.Rests.{Skips, IsMarkedQuad}
-use Rattle.flat_walk.specs.Hands.{own_rest, IsOwn}
-use Rattle.flat_walk.specs.Ways.{IsScene, levels_rest, AreLevels}
+use Rattle.flat_walk.specs.Hands.{IsOwn}
+use Rattle.flat_walk.specs.Ways.{AreLevels}
 use Rattle.flat_walk.specs.Streams.{rest_of}
 use Rattle.flat_walk.proofs.walks.WalkStream.next.Given as goal
 
