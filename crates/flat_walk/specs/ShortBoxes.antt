@@ -1,6 +1,6 @@
 -- Boxes whose sides are kept in 32 bits. The least number of 32 bits stands for the lowest place that a side may have, and the
 -- greatest one for the highest, so that each box has one round it that is kept so. Sides are in half units.
-use Rattle.std.specs.Prelude.{◌≡◌, ◌^◌, ◌-◌, ℤ, pos, neg_ℤ, if◌then◌else◌}
+use Rattle.std.specs.Prelude.{◌≡◌, ◌<ℤ◌, ◌^◌, ◌-◌, ℤ, pos, neg_ℤ, if◌then◌else◌}
 use Rattle.std.proofs.Common.{arith}
 use Rattle.std.proofs.lemmas.Int.{ints}
 use Rattle.std.specs.Ordering.{int_eq}
@@ -17,6 +17,17 @@ side_of z = if int_eq z (neg_ℤ (pos (2 ^ 31))) then neg_ℤ (pos (2 ^ 53))
 abbrev pub side_from : ℤ → ℤ
 side_from z = if int_eq z (neg_ℤ (pos (2 ^ 53))) then neg_ℤ (pos (2 ^ 31))
     else if int_eq z (pos (2 ^ 53)) then pos (2 ^ 31 - 1) else z
+
+-- a place that is kept as it is
+pub record IsKeptSide (z : ℤ) : Type 0 where
+  pub low : neg_ℤ (pos (2 ^ 31)) <ℤ z
+  pub high : z <ℤ pos (2 ^ 31 - 1)
+
+pub record IsKeptBox (frame : Frame) : Type 0 where
+  pub x0 : IsKeptSide frame.x0
+  pub y0 : IsKeptSide frame.y0
+  pub x1 : IsKeptSide frame.x1
+  pub y1 : IsKeptSide frame.y1
 
 abbrev pub frame_of : Inside → Frame
 frame_of sides = record { x0 = side_of sides.x0; y0 = side_of sides.y0; x1 = side_of sides.x1; y1 = side_of sides.y1 }

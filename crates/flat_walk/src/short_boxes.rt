@@ -3,7 +3,7 @@ ghost use Rattle.std.specs.Prelude.{◌≡◌, ◌^◌, ◌≤ℤ◌};
 ghost use Rattle.cell_tree.specs.Boxes.{IsUpTo, IsBoxUpTo};
 ghost use Rattle.layout_model.specs.Kept.{IsShort};
 ghost use Rattle.flat_walk.specs.Blocks.{IsRound};
-ghost use Rattle.flat_walk.specs.ShortBoxes.{side_of};
+ghost use Rattle.flat_walk.specs.ShortBoxes.{side_of, IsKeptSide, IsKeptBox};
 
 use half_grid::Frame;
 use std::marker::Model;
@@ -62,6 +62,7 @@ fn low_side(at: i64) -> i32
     requires { IsUpTo (2 ^ 53) at }
     ensures short { IsShort result }
     ensures around { side_of result ≤ℤ at }
+    ensures same { IsKeptSide at → side_of result ≡ at }
     ensures near { IsUpTo (2 ^ 53) (side_of result) }
 {
     if at <= LEAST {
@@ -78,6 +79,7 @@ fn high_side(at: i64) -> i32
     requires { IsUpTo (2 ^ 53) at }
     ensures short { IsShort result }
     ensures around { at ≤ℤ side_of result }
+    ensures same { IsKeptSide at → side_of result ≡ at }
     ensures near { IsUpTo (2 ^ 53) (side_of result) }
 {
     if at >= GREATEST {
@@ -95,6 +97,7 @@ impl ShortBox {
         requires { IsBoxUpTo (2 ^ 53) around }
         ensures around { IsRound result around }
         ensures near { IsBoxUpTo (2 ^ 53) result }
+        ensures same { IsKeptBox around → result ≡ around }
     {
         ShortBox {
             x0: low_side(around.x0),
