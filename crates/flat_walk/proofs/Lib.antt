@@ -22,3 +22,4 @@ pub mod ForCallers
 pub mod GridLemmas
 pub mod RiseLemmas
 pub mod TestLemmas
+pub mod ShortLemmas

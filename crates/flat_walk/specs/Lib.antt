@@ -13,3 +13,4 @@ pub mod Rests
 pub mod Streams
 pub mod Ways
 pub mod Rises
+pub mod ShortPieces

@@ -13,11 +13,12 @@ ghost use Rattle.flat_walk.specs.Boxes.{IsQuadIn, HasBox, AreBoxed, AreNear, Are
 ghost use Rattle.flat_walk.specs.Tables.{lists_at};
 
 use crate::blocks::BoxList;
+use crate::kept_pieces::Piece;
 use crate::short_boxes::ShortBox;
 use crate::tables::{Parts, Pieces, shapes_of};
 use cell_tree::Tree;
 use geo_stream::NoMemory;
-use half_grid::{Frame, Point, Quad, Trap};
+use half_grid::{Frame, Point};
 use layout_model::{Cell, ShapeRef, Shapes};
 use std::alloc::Global;
 use std::marker::Model;
@@ -78,18 +79,18 @@ fn box_of(p: Point) -> Frame
 }
 
 // The box of the corners of a piece.
-fn box_of_piece(piece: &Trap) -> Frame
+fn box_of_piece(piece: &Piece) -> Frame
     ensures around { IsQuadIn result (corners_of piece.now) }
     ensures near { IsBoxUpTo (2 ^ 44) result }
 {
-    let quad = Quad::of(piece);
+    let quad = piece.quad();
     let left = joined(box_of(quad.a()), box_of(quad.b()));
     let right = joined(box_of(quad.c()), box_of(quad.d()));
     joined(left, right)
 }
 
 /// The box of pieces, of which there is one at least.
-pub(crate) fn box_of_pieces(first: &Trap, others: &[Trap]) -> Frame
+pub(crate) fn box_of_pieces(first: &Piece, others: &[Piece]) -> Frame
     ensures around { All (λ piece. IsQuadIn result (corners_of piece)) (first.now ∷ others.now) }
     ensures near { IsBoxUpTo (2 ^ 44) result }
 {

@@ -15,12 +15,13 @@ ghost use Rattle.flat_walk.specs.Hands.{hand_list, IsHand, shapes_left, cursor_l
 
 use crate::blocks::{BoxList, next_in};
 use crate::boxes::box_of_pieces;
+use crate::kept_pieces::Piece;
 use crate::levels::rows_of;
 use crate::rises::places_in;
 use crate::rows::{Rows, has_row};
 use crate::tables::Pieces;
 use crate::turning::image;
-use half_grid::{Point, Quad, Trap, Window};
+use half_grid::{Point, Quad, Window};
 use layout_model::{Orient, Pair, ShapeRef, Shapes};
 
 // The places of a shape that has no more of them are gone through one by one.
@@ -31,7 +32,7 @@ const ORIGIN: Point = Point { x: 0, y: 0 };
 // Pieces of a shape at one of its offsets, and how they are enlarged, mirrored, turned and moved.
 #[derive(Clone, Copy)]
 pub(crate) struct Hand<'t> {
-    pieces: &'t [Trap],
+    pieces: &'t [Piece],
     orient: Orient,
     at: Point,
 }
@@ -60,13 +61,13 @@ pub(crate) struct Own<'t> {
 }
 
 // The image of a piece's corners. They run clockwise.
-fn placed(piece: &Trap, orient: Orient, at: Point) -> Quad
+fn placed(piece: &Piece, orient: Orient, at: Point) -> Quad
     requires orient { IsOrient orient }
     requires at { IsWithin (2 ^ 60) at }
     requires quad { IsQuad (quad_image orient at (corners_of piece.now)) }
     ensures { result ≡ quad_image orient at (corners_of piece.now) }
 {
-    let quad = Quad::of(piece);
+    let quad = piece.quad();
     let a = image(orient, at, quad.a());
     let b = image(orient, at, quad.b());
     let c = image(orient, at, quad.c());

@@ -5,6 +5,7 @@ ghost use Rattle.cell_tree.specs.Cells.{shapes_at};
 ghost use Rattle.cell_tree.specs.Chains.{IsReachable};
 ghost use Rattle.flat_walk.specs.Tables.{HaveNoPieces, with_pieces, HasShape, IsKept, AreKept, lists_at, count_within, piece_count};
 
+use crate::kept_pieces::Piece;
 use cell_tree::Tree;
 use geo_stream::NoMemory;
 use half_grid::Trap;
@@ -32,13 +33,14 @@ impl Model for Parts {
     ghost invariant = { λ parts. AreKept (map (λ list. list.items) parts.cells.items) };
 }
 
-// The pieces of one shape. Most shapes are rectangles, of one piece, which takes no memory.
+// The pieces of one shape. Most shapes are rectangles, of one piece, which takes no memory but its own 24 bytes.
 #[derive(Drop)]
 enum Stored {
-    One([Trap; 1]),
-    More(Vec<Trap>),
+    One([Piece; 1]),
+    More(Vec<Piece>),
 }
 
+// The pieces of one shape, in 32 bytes: a layout may have millions of shapes.
 #[derive(Drop)]
 pub(crate) struct Pieces {
     stored: Stored,
@@ -65,14 +67,14 @@ impl Pieces {
     {
         are_kept(traps);
         if traps.len() == 1 {
-            let stored = Stored::One([traps[0]]);
+            let stored = Stored::One([Piece::of(alloc, &traps[0])?]);
             return Ok(Pieces { stored });
         }
-        let stored = Stored::More(Vec::from_slice(alloc, traps)?);
+        let stored = Stored::More(several(alloc, traps)?);
         Ok(Pieces { stored })
     }
 
-    pub(crate) fn as_slice(&self) -> &[Trap]
+    pub(crate) fn as_slice(&self) -> &[Piece]
         ensures value { result.now ≡ self.now }
         ensures kept { IsKept result.now }
     {
@@ -81,6 +83,17 @@ impl Pieces {
             Stored::More(traps) => traps.as_slice(),
         }
     }
+}
+
+// The pieces, in a list.
+fn several(alloc: Global, traps: &[Trap]) -> Result<Vec<Piece>, NoMemory>
+    ensures { IfOk result (λ pieces. pieces.items ≡ traps.now) }
+{
+    let mut pieces = Vec::with_capacity(alloc, traps.len())?;
+    for trap in traps {
+        pieces.push(Piece::of(alloc, trap)?)?;
+    }
+    Ok(pieces)
 }
 
 // Trapezoids in memory are shots, fewer than 2^64. It costs nothing.

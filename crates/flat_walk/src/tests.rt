@@ -11,6 +11,7 @@ ghost use Rattle.layout_model.specs.declared.shapes.Shape.{Shape as AShape};
 ghost use Rattle.cell_tree.specs.Chains.{IsReachable};
 ghost use Rattle.flat_walk.specs.Tables.{AreCut, HasShape, with_pieces};
 
+use crate::tables::Pieces;
 use crate::{Parts, Walk};
 use cell_tree::{Tree, resolve};
 use geo_stream::{List, gather};
@@ -19,6 +20,7 @@ use layout_model::{
     Cell, Counts, KeptShape, Layout, Name, Offsets, Orient, Pair, Placement, Shapes,
 };
 use std::alloc::Global;
+use std::mem::size_of;
 use std::process::Abort;
 
 const METAL: Pair = Pair {
@@ -428,4 +430,9 @@ fn later_pieces_replace_earlier_ones(rt: HostRuntime) {
     let parts = cut_again(&rt, alloc, &tree);
     let triangle = [(0, 0), (8, 8), (8, 8), (8, 0)];
     ask(&rt, alloc, &tree, &parts, ALL, 1, triangle);
+}
+
+#[test]
+fn pieces_of_a_shape_take_32_bytes(rt: HostRuntime) {
+    assert_eq!(rt; size_of::<Pieces>(), 32);
 }

@@ -7,8 +7,8 @@ use Rattle.flat_walk.proofs.boxes.box_of_piece.Goals as goal
 
 pub returns-clause-around : goal.returns-clause-around
 returns-clause-around c =
-    subst (IsQuadIn c.joined.result) c.of-quad.ensures.corners
-    (four_in c.of-quad.result c.box_of.result c.box_of-2.result c.box_of-3.result c.box_of-4.result c.joined-left.result c.joined-right.result c.joined.result
+    subst (IsQuadIn c.joined.result) c.quad-quad.ensures
+    (four_in c.quad-quad.result c.box_of.result c.box_of-2.result c.box_of-3.result c.box_of-4.result c.joined-left.result c.joined-right.result c.joined.result
     (subst (IsInBox c.box_of.result) c.a.ensures.value c.box_of.ensures.inside) (subst (IsInBox c.box_of-2.result) c.b.ensures.value c.box_of-2.ensures.inside)
     (subst (IsInBox c.box_of-3.result) c.c.ensures.value c.box_of-3.ensures.inside)
     (subst (IsInBox c.box_of-4.result) c.d.ensures.value c.box_of-4.ensures.inside)
