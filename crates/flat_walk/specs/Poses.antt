@@ -1,5 +1,5 @@
--- One orientation after another.
-use Rattle.std.specs.Prelude.{ℕ, ◌+◌, ◌-◌, ◌*◌, ◌%◌, Bool, true, false, not}
+-- One orientation after another, and the one that leaves all as it is.
+use Rattle.std.specs.Prelude.{◌≡◌, ℕ, ◌+◌, ◌-◌, ◌*◌, ◌%◌, Bool, true, false, not}
 use Rattle.half_grid.specs.declared.plane.Point.{Point}
 use Rattle.layout_model.specs.Images.{turned, flipped, enlarged}
 use Rattle.layout_model.specs.declared.orient.Orient.{Orient}
@@ -24,3 +24,9 @@ composed outer inner = record {
   turns = turns_after outer.flip outer.turns inner.turns;
   mag = outer.mag * inner.mag;
 }
+
+-- neither enlarged, mirrored nor turned
+pub record IsUsual (orient : Orient) : Type 0 where
+  pub flip : orient.flip ≡ false
+  pub turns : orient.turns ≡ 0
+  pub mag : orient.mag ≡ 1

@@ -1,11 +1,12 @@
 //! The pieces of a cell's own shapes, where the cell is placed.
-ghost use Rattle.std.specs.Prelude.{◌≡◌, ◌^◌, ◌<◌, ◌+◌, [], ◌∷◌, ◌++◌, map, Some, All, MatchOption, OnSome, IfSome, length, ◌≤◌, drop, List, false};
+ghost use Rattle.std.specs.Prelude.{◌≡◌, ◌^◌, ◌<◌, ◌+◌, [], ◌∷◌, ◌++◌, map, Some, All, MatchOption, OnSome, IfSome, IsTrue, length, ◌≤◌, drop, List, false};
 ghost use Rattle.half_grid.specs.Quads.{IsQuad, corners_of};
 ghost use Rattle.layout_model.specs.Images.{IsOrient};
 ghost use Rattle.layout_model.specs.declared.pair.Pair.{Pair as APair};
 ghost use Rattle.layout_model.specs.Layouts.{IsShapeOnGrid, IsWithin};
 ghost use Rattle.layout_model.specs.ShapeLists.{shape_in};
-ghost use Rattle.flat_walk.specs.Quads.{quad_image};
+ghost use Rattle.flat_walk.specs.Poses.{IsUsual};
+ghost use Rattle.flat_walk.specs.Quads.{quad_image, moved_quad};
 ghost use Rattle.flat_walk.specs.Rests.{IsMarkedQuad, Skips, Gives, places_rest, placed_rest};
 ghost use Rattle.half_grid.specs.Trapezoids.{Trapezoid};
 ghost use Rattle.flat_walk.specs.Blocks.{boxes_in};
@@ -20,7 +21,7 @@ use crate::levels::rows_of;
 use crate::rises::places_in;
 use crate::rows::{Rows, has_row};
 use crate::tables::Pieces;
-use crate::turning::image;
+use crate::turning::{image, moved};
 use half_grid::{Point, Quad, Window};
 use layout_model::{Orient, Pair, ShapeRef, Shapes};
 
@@ -60,6 +61,34 @@ pub(crate) struct Own<'t> {
     cursor: Cursor<'t>,
 }
 
+// Whether the orientation neither enlarges, mirrors nor turns, as most do.
+#[inline(always)]
+fn is_usual(orient: Orient) -> bool
+    ensures { IsTrue result → IsUsual orient }
+{
+    if orient.flip {
+        return false;
+    }
+    if orient.turns != 0 {
+        return false;
+    }
+    orient.mag == 1
+}
+
+// The quadrilateral moved.
+#[inline(always)]
+fn moved_quad(at: Point, quad: Quad) -> Quad
+    requires at { IsWithin (2 ^ 60) at }
+    requires quad { IsQuad (moved_quad at quad) }
+    ensures { result ≡ moved_quad at quad }
+{
+    let a = moved(at, quad.a());
+    let b = moved(at, quad.b());
+    let c = moved(at, quad.c());
+    let d = moved(at, quad.d());
+    Quad::new(a, b, c, d)
+}
+
 // The image of a piece's corners. They run clockwise.
 fn placed(piece: &Piece, orient: Orient, at: Point) -> Quad
     requires orient { IsOrient orient }
@@ -68,6 +97,9 @@ fn placed(piece: &Piece, orient: Orient, at: Point) -> Quad
     ensures { result ≡ quad_image orient at (corners_of piece.now) }
 {
     let quad = piece.quad();
+    if is_usual(orient) {
+        return moved_quad(at, quad);
+    }
     let a = image(orient, at, quad.a());
     let b = image(orient, at, quad.b());
     let c = image(orient, at, quad.c());
