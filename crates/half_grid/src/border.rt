@@ -117,6 +117,22 @@ impl Edge {
         })
     }
 
+    /// The same edge where it is known to have a row and ends within reach, so that nothing is looked at again.
+    #[inline(always)]
+    pub fn of(y0: i64, y1: i64, line: Line, up: bool, operand: Operand) -> Edge
+        requires { IsEdge (edge_parts y0 y1 line up operand) }
+        ensures { result ≡ edge_parts y0 y1 line up operand }
+    {
+        Edge {
+            y0,
+            y1,
+            number: first_strip(line),
+            way: way_of(line),
+            up,
+            operand,
+        }
+    }
+
     /// The edge along the left line of a trapezoid, which goes up.
     #[inline]
     pub fn left_of(trap: &Trap, operand: Operand) -> Edge

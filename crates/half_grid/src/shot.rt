@@ -100,6 +100,20 @@ impl Trap {
         })
     }
 
+    /// The same trapezoid where it is known to be legal and within reach, so that nothing is looked at again.
+    #[inline(always)]
+    pub fn of(y0: i64, y1: i64, left: Line, right: Line) -> Trap
+        requires { IsShot (trapezoid y0 y1 left right) }
+        ensures { result ≡ trapezoid y0 y1 left right }
+    {
+        Trap {
+            y0,
+            y1,
+            left,
+            right,
+        }
+    }
+
     /// Its lowest Y, which is its first row.
     #[inline]
     pub fn y0(&self) -> i64
