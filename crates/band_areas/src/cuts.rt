@@ -8,16 +8,8 @@ ghost use Rattle.band_areas.specs.Cuts.{cut_to, ends_in, reaches_top, top_place,
 
 use crate::groups::Row;
 use geo_stream::NoMemory;
-use half_grid::{Line, Trap, Window, place_of};
+use half_grid::{Trap, Window, place_of};
 use std::alloc::Global;
-
-// The trapezoid of these four parts, which is known to be a shot.
-pub(crate) fn shot(y0: i64, y1: i64, left: Line, right: Line) -> Trap
-    requires { IsShot (trapezoid y0 y1 left right) }
-    ensures { result ≡ trapezoid y0 y1 left right }
-{
-    Trap::new(y0, y1, left, right).unwrap()
-}
 
 // The rows of a trapezoid that lie in the window, of which it has some.
 fn cut_to(trap: &Trap, rows: Window) -> Trap
@@ -27,7 +19,7 @@ fn cut_to(trap: &Trap, rows: Window) -> Trap
 {
     let bottom = trap.y0().max(rows.y0());
     let top = trap.y1().min(rows.y1());
-    shot(bottom, top, trap.left(), trap.right())
+    Trap::of(bottom, top, trap.left(), trap.right())
 }
 
 // Whether a trapezoid ends in the rows, below their top.

@@ -7,7 +7,7 @@ ghost use Rattle.trap_join.specs.Fronts.{is_same_line};
 ghost use Rattle.deck_plan.specs.Stacks.{goes_on, lengthened, ended};
 ghost use Rattle.band_areas.specs.Growing.{AreGrowing, TopsAscend, IsNumberBelow, going_on, IsStack};
 
-use crate::cuts::{shot, top_place};
+use crate::cuts::top_place;
 use crate::groups::Row;
 use geo_stream::NoMemory;
 use half_grid::{Line, Trap};
@@ -101,7 +101,7 @@ fn both(trap: &Trap, above: &Trap) -> Trap
     requires { goes_on trap.now above.now ≡ true }
     ensures { result ≡ trapezoid trap.now.y0 above.now.y1 above.now.left above.now.right }
 {
-    shot(trap.y0(), above.y1(), above.left(), above.right())
+    Trap::of(trap.y0(), above.y1(), above.left(), above.right())
 }
 
 // The trapezoid with the rows of the one that goes on in it, which is marked.

@@ -22,6 +22,6 @@ impl Part {
     pub(crate) fn trap(self) -> Trap
         ensures { result ≡ shape_of self }
     {
-        Trap::new(self.y0, self.y1, self.left, self.right).unwrap()
+        Trap::of(self.y0, self.y1, self.left, self.right)
     }
 }

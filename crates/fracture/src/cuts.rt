@@ -5,7 +5,7 @@ ghost use Rattle.geo_stream.specs.Stream.{HasList};
 ghost use Rattle.half_grid.specs.Trapezoids.{Trapezoid, IsShot, trapezoid};
 ghost use Rattle.fracture.specs.Limits.{AreLimits};
 
-use crate::parts::{cut_by_height, cut_by_width, legal};
+use crate::parts::{cut_by_height, cut_by_width};
 use geo_stream::Stream;
 use half_grid::{Limits, Line, Trap};
 
@@ -47,7 +47,7 @@ impl Rest {
     fn trap(self) -> Trap
         ensures { result ≡ trapezoid self.y0 self.y1 self.left self.right }
     {
-        legal(self.y0, self.y1, self.left, self.right)
+        Trap::of(self.y0, self.y1, self.left, self.right)
     }
 }
 

@@ -14,14 +14,6 @@ pub(crate) struct Cut {
     pub(crate) rest: Option<Trap>,
 }
 
-/// The trapezoid of these four parts, which is known to be legal and within reach.
-pub(crate) fn legal(y0: i64, y1: i64, left: Line, right: Line) -> Trap
-    requires { IsShot (trapezoid y0 y1 left right) }
-    ensures { result ≡ trapezoid y0 y1 left right }
-{
-    Trap::new(y0, y1, left, right).unwrap()
-}
-
 // The least X on its right line.
 fn least_right(trap: &Trap) -> i64
     ensures { result ≡ least_right trap.now }
@@ -57,8 +49,8 @@ pub(crate) fn cut_by_height(trap: &Trap, limits: &Limits) -> Cut
     }
     let y = y0 + limits.height;
     Cut {
-        part: legal(y0, y, trap.left(), trap.right()),
-        rest: Some(legal(y, y1, trap.left(), trap.right())),
+        part: Trap::of(y0, y, trap.left(), trap.right()),
+        rest: Some(Trap::of(y, y1, trap.left(), trap.right())),
     }
 }
 
@@ -82,7 +74,7 @@ pub(crate) fn cut_by_width(piece: &Trap, limits: &Limits) -> Cut
     }
     let middle = Line::Upright(cut_at(piece, limits));
     Cut {
-        part: legal(y0, y1, piece.left(), middle),
-        rest: Some(legal(y0, y1, middle, piece.right())),
+        part: Trap::of(y0, y1, piece.left(), middle),
+        rest: Some(Trap::of(y0, y1, middle, piece.right())),
     }
 }

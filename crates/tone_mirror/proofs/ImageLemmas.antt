@@ -1,5 +1,5 @@
 -- Mirror images by numbers and places: the tile with the number n goes to 4m - 1 - n, and a place k to 4m - k.
-use Rattle.std.proofs.Common.{SomeIff, IsSome, Option, Some, None, ◌≡◌, Bool, true, false, ℤ, pos, ◌+ℤ◌, ◌-ℤ◌, ◌↔◌}
+use Rattle.std.proofs.Common.{◌≡◌, Bool, true, false, ℤ, pos, ◌+ℤ◌, ◌-ℤ◌, ◌↔◌}
 use Rattle.std.proofs.Common.{List, [], ◌∷◌, map, arith, refl, ap, ◌∙◌, sym}
 use Rattle.std.proofs.lemmas.Int.{ints}
 use Rattle.half_grid.specs.Halves.{twice}
@@ -116,11 +116,3 @@ mirror_within m z h image =
 
 pub image_is_shot : (m : ℤ) (z : Trapezoid) → IsShot z → HasImageWithinReach m z → IsShot (mirrored_trapezoid m z)
 image_is_shot m z h image = record { legal = image_is_legal m z h.legal; reach = image }
-
-pub some_given : {T : Type 0} (r : Option T) (P : Type 0) (v : T) → SomeIff r P v → P → IsSome r
-some_given None P v h p = absurd (h p)
-some_given (Some x) P v h p = refl
-
-pub is_value : {T : Type 0} (r : Option T) (P : Type 0) (v x : T) → SomeIff r P v → r ≡ Some x → x ≡ v
-is_value None P v x h e = absurd (let no : ⊥ = cc in no)
-is_value (Some y) P v x h e = let s : y ≡ x = cc in sym s ∙ h.1

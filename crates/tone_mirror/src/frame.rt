@@ -16,5 +16,5 @@ pub fn frame_trap(frame: &Frame) -> Trap
     ensures tiles { (t : Tile) → IsInTrapezoid result t ↔ IsInFrame frame.now t }
 {
     let (left, right) = (Line::Upright(frame.x0), Line::Upright(frame.x1));
-    Trap::new(frame.y0, frame.y1, left, right).unwrap()
+    Trap::of(frame.y0, frame.y1, left, right)
 }

@@ -31,5 +31,5 @@ pub fn mirrored(trap: &Trap, m: i64) -> Trap
 {
     let left = mirrored_line(trap.right(), m);
     let right = mirrored_line(trap.left(), m);
-    Trap::new(trap.y0(), trap.y1(), left, right).unwrap()
+    Trap::of(trap.y0(), trap.y1(), left, right)
 }

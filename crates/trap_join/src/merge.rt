@@ -55,7 +55,7 @@ fn ended_at(growing: &Growing, y: i64) -> Trap
     requires { IsShot (ended_at y growing.now) }
     ensures { result ≡ ended_at y growing.now }
 {
-    Trap::new(growing.y0, y, growing.left, growing.right).unwrap()
+    Trap::of(growing.y0, y, growing.left, growing.right)
 }
 
 // The trapezoid that the run begins at the stop.

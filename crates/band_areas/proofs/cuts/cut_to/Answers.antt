@@ -3,8 +3,8 @@ use Rattle.std.proofs.lemmas.Int.{to_z-of_z}
 use Rattle.band_areas.proofs.CutLemmas.{cut_shot_at, cut_meets}
 use Rattle.band_areas.proofs.cuts.cut_to.Goals as goal
 
-pub shot-requires : goal.shot-requires
-shot-requires c =
+pub of-requires : goal.of-requires
+of-requires c =
     let a : FitsSigned w64 c.y0.result = search rules in
     let b : FitsSigned w64 c.y0-2.result = search rules in
     let d : FitsSigned w64 c.y1.result = search rules in
@@ -27,5 +27,5 @@ returns c =
     let g : FitsSigned w64 c.min-top.result = search rules in
     let low = rw (c.y0.ensures.value, c.y0-2.ensures.value) at (simp to_z-of_z at c.max-bottom.ensures.value) in
     let high = rw (c.y1.ensures.value, c.y1-2.ensures.value) at (simp to_z-of_z at c.min-top.ensures.value) in
-    let is = simp to_z-of_z at c.shot.ensures in
+    let is = simp to_z-of_z at c.of.ensures in
     is ∙ (rw (low, high, c.left.ensures.value, c.right.ensures.value) refl)

@@ -5,8 +5,8 @@ use Rattle.fracture.specs.Cutting.{height_of}
 use Rattle.fracture.proofs.PartLemmas.{left_is_shot, beyond_is_low, for_some}
 use Rattle.fracture.proofs.parts.cut_by_width.Goals as goal
 
-pub legal-requires : goal.legal-requires
-legal-requires c =
+pub of-requires : goal.of-requires
+of-requires c =
     let bottom : FitsSigned w64 c.y0-y0.result = search rules in
     let top : FitsSigned w64 c.y1-y1.result = search rules in
     let at : FitsSigned w64 c.cut_at.result = search rules in
@@ -14,8 +14,8 @@ legal-requires c =
     let shot = left_is_shot _ _ c.requires.limits c.args.piece.now (record { shot = c.y0-y0.ensures.shot; low = c.requires.low }) over in
     simp to_z-of_z (simp (c.y0-y0.ensures.value, c.y1-y1.ensures.value, c.left.ensures.value, c.cut_at.ensures) shot)
 
-pub legal-requires-2 : goal.legal-requires-2
-legal-requires-2 c =
+pub of-requires-2 : goal.of-requires-2
+of-requires-2 c =
     let bottom : FitsSigned w64 c.y0-y0.result = search rules in
     let top : FitsSigned w64 c.y1-y1.result = search rules in
     let at : FitsSigned w64 c.cut_at.result = search rules in
@@ -28,8 +28,8 @@ returns-clause-cut c = λ over.
     let bottom : FitsSigned w64 c.y0-y0.result = search rules in
     let top : FitsSigned w64 c.y1-y1.result = search rules in
     let at : FitsSigned w64 c.cut_at.result = search rules in
-    let left = simp to_z-of_z at c.legal.ensures in
-    let right = simp to_z-of_z at c.legal-2.ensures in
+    let left = simp to_z-of_z at c.of.ensures in
+    let right = simp to_z-of_z at c.of-2.ensures in
     rw (left, right) (simp (c.y0-y0.ensures.value, c.y1-y1.ensures.value, c.left.ensures.value, c.right.ensures.value, c.cut_at.ensures))
 
 pub returns-clause-low : goal.returns-clause-low

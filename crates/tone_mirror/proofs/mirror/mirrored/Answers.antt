@@ -3,7 +3,7 @@ use Rattle.std.proofs.lemmas.Int.{to_z-of_z}
 use Rattle.half_grid.specs.Trapezoids.{Trapezoid, IsInTrapezoid}
 use Rattle.half_grid.proofs.ForCallers.{strip_within}
 use Rattle.tone_mirror.specs.Mirrors.{mirrored_tile}
-use Rattle.tone_mirror.proofs.ImageLemmas.{mirror_within, image_is_shot, image_has_tile, some_given, is_value}
+use Rattle.tone_mirror.proofs.ImageLemmas.{mirror_within, image_is_shot, image_has_tile}
 use Rattle.tone_mirror.proofs.mirror.mirrored.Goals as goal
 
 pub mirrored_line-left-requires : goal.mirrored_line-left-requires
@@ -26,16 +26,16 @@ mirrored_line-right-requires-clause-mirror c =
     let m : FitsSigned w64 c.args.m = c.ranges.m in
     simp to_z-of_z (mirror_within c.args.m c.args.trap.now c.left.ensures.shot c.requires)
 
-pub unwrap-requires : goal.unwrap-requires
-unwrap-requires c =
+pub of-requires : goal.of-requires
+of-requires c =
     let m : FitsSigned w64 c.args.m = c.ranges.m in
     let y0 : FitsSigned w64 c.y0.result = search rules in
     let y1 : FitsSigned w64 c.y1.result = search rules in
     let left = simp to_z-of_z at c.mirrored_line-left.ensures in
     let right = simp to_z-of_z at c.mirrored_line-right.ensures in
-    let made = simp to_z-of_z at c.new.ensures in
-    let image = simp (left, right, c.right.ensures.value, c.left.ensures.value, c.y0.ensures.value, c.y1.ensures.value) at made in
-    some_given _ _ _ image (image_is_shot c.args.m c.args.trap.now c.y0.ensures.shot c.requires)
+    simp to_z-of_z
+    (simp (left, right, c.right.ensures.value, c.left.ensures.value, c.y0.ensures.value, c.y1.ensures.value)
+    (image_is_shot c.args.m c.args.trap.now c.y0.ensures.shot c.requires))
 
 pub returns-clause-image : goal.returns-clause-image
 returns-clause-image c =
@@ -44,9 +44,8 @@ returns-clause-image c =
     let y1 : FitsSigned w64 c.y1.result = search rules in
     let left = simp to_z-of_z at c.mirrored_line-left.ensures in
     let right = simp to_z-of_z at c.mirrored_line-right.ensures in
-    let made = simp to_z-of_z at c.new.ensures in
-    let image = simp (left, right, c.right.ensures.value, c.left.ensures.value, c.y0.ensures.value, c.y1.ensures.value) at made in
-    is_value _ _ _ _ image c.unwrap.ensures
+    let made = simp to_z-of_z at c.of.ensures in
+    simp (left, right, c.right.ensures.value, c.left.ensures.value, c.y0.ensures.value, c.y1.ensures.value) at made
 
 pub returns-clause-tiles : goal.returns-clause-tiles
 returns-clause-tiles c = λ t.
