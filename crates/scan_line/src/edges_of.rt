@@ -35,9 +35,9 @@ fn edge_between(a: Point, b: Point, operand: Operand) -> Option<Edge>
         None => None,
         Some(line) => {
             if a.y < b.y {
-                return Edge::new(a.y, b.y, line, true, operand);
+                return Some(Edge::of(a.y, b.y, line, true, operand));
             }
-            Edge::new(b.y, a.y, line, false, operand)
+            Some(Edge::of(b.y, a.y, line, false, operand))
         }
     }
 }
