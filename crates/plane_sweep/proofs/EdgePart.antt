@@ -1,7 +1,7 @@
 -- The part of an edge in a window.
 use Rattle.std.proofs.Common.{ℕ, suc, ◌≤◌, Bool, false, cond, length, All, ℤ, ◌≡◌, ◌≤ℤ◌, ◌<ℤ◌, true, List}
 use Rattle.std.proofs.Common.{[], ◌∷◌, ◌++◌, Option, Some, None, append_assoc, append-nil, refl, sym, ap, subst, ◌∙◌, arith}
-use Rattle.std.specs.Prelude.{SomeIff, int_lt}
+use Rattle.std.specs.Prelude.{int_lt}
 use Rattle.std.specs.Int.{int_min, int_max}
 use Rattle.std.specs.List.{cons_option}
 use Rattle.std.specs.Option.{option_to_list}
@@ -18,11 +18,7 @@ use Rattle.scan_line.proofs.ForCallers.{x_within, y_within}
 lt_yes : (x y : ℤ) → x <ℤ y → int_lt x y ≡ true
 lt_yes x y h = grind (arith, ints)
 
-some_by : (r : Option EdgeParts) (e : EdgeParts) → SomeIff r (IsEdge e) e → IsEdge e → r ≡ Some e
-some_by None e h is = absurd (h is)
-some_by (Some x) e h is = ap Some h.1
-
-part_is_edge : (window : RowRange) (e : EdgeParts) (rows : Slab) → IsEdge e → rows.y0 ≡ int_max e.y0 window.y0
+pub part_is_edge : (window : RowRange) (e : EdgeParts) (rows : Slab) → IsEdge e → rows.y0 ≡ int_max e.y0 window.y0
     → rows.y1 ≡ int_min e.y1 window.y1 → rows.y0 <ℤ rows.y1 → IsEdge (edge_parts rows.y0 rows.y1 e.line e.up e.operand)
 part_is_edge window e rows is bottom top lt =
     let low : e.y0 ≤ℤ rows.y0 = omega (arith, ints, clamps, bottom) in
@@ -37,15 +33,13 @@ part_is_edge window e rows is bottom top lt =
       upper_end = x_within e rows.y1 is high_end high;
     }
 
-pub part_some : (window : RowRange) (e : EdgeParts) (rows : Slab) (r : Option EdgeParts) → IsEdge e
-    → rows.y0 ≡ int_max e.y0 window.y0 → rows.y1 ≡ int_min e.y1 window.y1 → rows.y0 <ℤ rows.y1
-    → SomeIff r (IsEdge (edge_parts rows.y0 rows.y1 e.line e.up e.operand)) (edge_parts rows.y0 rows.y1 e.line e.up e.operand) → r ≡ part_in window e
-part_some window e rows r is bottom top lt h =
-    let some = some_by r (edge_parts rows.y0 rows.y1 e.line e.up e.operand) h (part_is_edge window e rows is bottom top lt) in
+pub part_some : (window : RowRange) (e : EdgeParts) (rows : Slab) → rows.y0 ≡ int_max e.y0 window.y0 → rows.y1 ≡ int_min e.y1 window.y1
+    → rows.y0 <ℤ rows.y1 → Some (edge_parts rows.y0 rows.y1 e.line e.up e.operand) ≡ part_in window e
+part_some window e rows bottom top lt =
     let test : int_lt (int_max e.y0 window.y0) (int_min e.y1 window.y1) ≡ true = subst
     (λ (x : ℤ). int_lt x (int_min e.y1 window.y1) ≡ true) bottom
     (subst (λ (y : ℤ). int_lt rows.y0 y ≡ true) top (lt_yes rows.y0 rows.y1 lt)) in
-    rw test (some ∙ ap Some (rw (bottom, top) refl))
+    rw test (rw (bottom, top) refl)
 
 -- ---- the parts of edges are edges, and no more than those
 

@@ -25,5 +25,5 @@ pub(crate) fn part_in(edge: &Edge, window: Window) -> Option<Edge>
     if rows.y1 <= rows.y0 {
         return None;
     }
-    Edge::new(rows.y0, rows.y1, edge.line(), edge.is_up(), edge.operand())
+    Some(Edge::of(rows.y0, rows.y1, edge.line(), edge.is_up(), edge.operand()))
 }
