@@ -1,5 +1,6 @@
 //! Edges that share rows on one line, one up and the other down, as sides of shapes that meet do.
-ghost use Rattle.std.specs.Prelude.{◌≡◌, ◌∷◌, ◌++◌, [], true, OnOk};
+ghost use Rattle.std.specs.Prelude.{◌≡◌, ◌∷◌, ◌++◌, ◌-◌, [], Some, length, slice_get, true, OnOk};
+ghost use Rattle.half_grid.specs.Edges.{EdgeParts};
 ghost use Rattle.column_sweep.specs.Parts.{rests};
 ghost use Rattle.column_sweep.specs.RowSums.{AddUpAlike};
 
@@ -27,6 +28,17 @@ fn do_meet(e: &Edge, f: &Edge) -> bool
     is_of(e.operand(), f.operand())
 }
 
+// Whether there is a last edge, and it meets the other.
+fn meets_last(edges: &[Edge], edge: &Edge) -> bool
+    ensures { (last : EdgeParts) → slice_get edges.now (length edges.now - 1) ≡ Some last → result ≡ true
+        → AddUpAlike (rests last edge.now) (last ∷ edge.now ∷ []) }
+{
+    match edges.last() {
+        Some(last) => do_meet(last, edge),
+        None => false,
+    }
+}
+
 // Puts what each of the edges has besides the rows of the other at the end.
 fn put_rests(edges: &mut Vec<Edge>, e: &Edge, f: &Edge) -> Result<(), NoMemory>
     ensures { OnOk result (edges.new.items ≡ edges.old.items ++ rests e.now f.now) }
@@ -43,14 +55,11 @@ fn put_rests(edges: &mut Vec<Edge>, e: &Edge, f: &Edge) -> Result<(), NoMemory>
 pub fn put_edge(edges: &mut Vec<Edge>, edge: Edge) -> Result<(), NoMemory>
     ensures { OnOk result (AddUpAlike edges.new.items (edges.old.items ++ edge ∷ [])) }
 {
-    let Some(last) = edges.pop() else {
-        edges.push(edge)?;
-        return Ok(());
-    };
-    if do_meet(&last, &edge) {
-        return put_rests(edges, &last, &edge);
+    if meets_last(edges.as_slice(), &edge) {
+        if let Some(last) = edges.pop() {
+            return put_rests(edges, &last, &edge);
+        }
     }
-    edges.push(last)?;
     edges.push(edge)?;
     Ok(())
 }
