@@ -1,13 +1,13 @@
 -- One image after another.
 use Rattle.std.proofs.Common.{◌≡◌, ℕ, ℤ, zero, suc, pos, negsuc, neg_ℤ, ◌+ℤ◌, ◌*ℤ◌, ◌+◌, ◌*◌, ◌%◌, ◌-◌, ◌<◌, Bool, true}
-use Rattle.std.proofs.Common.{false, not, refl, sym, ap, ◌∙◌, arith}
+use Rattle.std.proofs.Common.{false, refl, sym, ap, ◌∙◌, arith}
 use Rattle.std.proofs.Math.IntN.{zero-*ℤ, suc_ℤ-*ℤ, pos-*ℤ-pos, pos-*ℤ-negsuc}
 use Rattle.std.proofs.lemmas.Int.{ints}
 use Rattle.half_grid.specs.declared.plane.Point.{Point}
 use Rattle.half_grid.specs.Quads.{Corners, corners}
 use Rattle.layout_model.specs.Images.{moved, turned, flipped, enlarged, quarter_turn, image_of}
 use Rattle.layout_model.specs.declared.orient.Orient.{Orient}
-use Rattle.flat_walk.specs.Poses.{oriented, turns_after, flips_after, composed, IsUsual}
+use Rattle.flat_walk.specs.Poses.{oriented, turns_after, flips_after, composed, IsPlain}
 use Rattle.flat_walk.specs.Quads.{with_corners, turned_round, quad_image, moved_quad}
 use Rattle.flat_walk.proofs.Motions.{mul_add}
 use Rattle.flat_walk.proofs.PointLemmas.{same_point}
@@ -155,11 +155,11 @@ one_times (negsuc n) = rw (pos-*ℤ-negsuc 1 n) (omega (arith, ints))
 not_enlarged : (p : Point) → enlarged 1 p ≡ p
 not_enlarged p = same_point _ _ (one_times p.x) (one_times p.y)
 
-usual_by : (flip : Bool) (turns mag : ℕ) (at : Point) (q : Corners) → flip ≡ false → turns ≡ 0 → mag ≡ 1
+plain_by : (flip : Bool) (turns mag : ℕ) (at : Point) (q : Corners) → flip ≡ false → turns ≡ 0 → mag ≡ 1
     → turned_round flip (with_corners (λ p. moved at (turned turns (flipped flip (enlarged mag p)))) q) ≡ moved_quad at q
-usual_by flip turns mag at q f t m = rw (f, t, m)
+plain_by flip turns mag at q f t m = rw (f, t, m)
     (λ i. corners (moved at (not_enlarged q.a i)) (moved at (not_enlarged q.b i)) (moved at (not_enlarged q.c i)) (moved at (not_enlarged q.d i)))
 
 -- what is neither enlarged, mirrored nor turned is moved
-pub usual_image : (orient : Orient) (at : Point) (q r : Corners) → r ≡ q → IsUsual orient → quad_image orient at q ≡ moved_quad at r
-usual_image orient at q r e u = usual_by orient.flip orient.turns orient.mag at q u.flip u.turns u.mag ∙ ap (moved_quad at) (sym e)
+pub plain_image : (orient : Orient) (at : Point) (q r : Corners) → r ≡ q → IsPlain orient → quad_image orient at q ≡ moved_quad at r
+plain_image orient at q r e u = plain_by orient.flip orient.turns orient.mag at q u.flip u.turns u.mag ∙ ap (moved_quad at) (sym e)

@@ -26,7 +26,7 @@ composed outer inner = record {
 }
 
 -- neither enlarged, mirrored nor turned
-pub record IsUsual (orient : Orient) : Type 0 where
+pub record IsPlain (orient : Orient) : Type 0 where
   pub flip : orient.flip ≡ false
   pub turns : orient.turns ≡ 0
   pub mag : orient.mag ≡ 1

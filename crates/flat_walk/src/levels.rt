@@ -1,5 +1,5 @@
 //! The cells on the way from the top cell to the one whose shapes are shown, and what they still place.
-ghost use Rattle.std.specs.Prelude.{◌≡◌, ◌^◌, ◌<◌, ◌≤◌, ◌+ℤ◌, true, false, [], ◌++◌, None, Some, map, length, slice_get, MatchOption, IfSome};
+ghost use Rattle.std.specs.Prelude.{◌≡◌, ◌^◌, ◌<◌, ◌≤◌, ◌+ℤ◌, [], ◌++◌, None, Some, map, length, slice_get, MatchOption, IfSome};
 ghost use Rattle.half_grid.specs.declared.plane.Point.{Point as APoint};
 ghost use Rattle.layout_model.specs.Hulls.{IsInBox};
 ghost use Rattle.layout_model.specs.declared.cells.Placement.{Placement as APlacement};
@@ -13,9 +13,9 @@ ghost use Rattle.flat_walk.specs.Ways.{low_corner, high_corner, IsScene, cells_o
 use crate::blocks::next_in;
 use crate::boxes::spots_in;
 use crate::rises::places_in;
-use crate::rows::{Rows, meet, rows_between};
+use crate::rows::{Rows, are_within, meet, rows_between};
 use crate::scenes::Scene;
-use crate::turning::{composed, image, moved, oriented};
+use crate::turning::{composed, image, is_plain, moved, oriented};
 use half_grid::{Frame, Point, Window};
 use layout_model::{Orient, Placement};
 
@@ -38,6 +38,8 @@ pub(crate) struct Level<'t> {
     at: Point,
     // How many cells it is below the top.
     depth: u8,
+    // Whether all that it shows is known to be in the window, so that no box need be looked at.
+    is_whole: bool,
     // The places of the placement before this one.
     run: Option<Run<'t>>,
     next: usize,
@@ -137,21 +139,6 @@ fn high_corner(hull: &Frame) -> Point
     }
 }
 
-// Whether nothing is enlarged, mirrored or turned.
-fn is_plain(orient: Orient) -> bool
-    ensures flip { result ≡ true → orient.flip ≡ false }
-    ensures turns { result ≡ true → orient.turns ≡ 0 }
-    ensures mag { result ≡ true → orient.mag ≡ 1 }
-{
-    if orient.flip {
-        return false;
-    }
-    if orient.turns != 0 {
-        return false;
-    }
-    orient.mag == 1
-}
-
 /// The rows of a box that is turned so.
 pub(crate) fn rows_of(orient: Orient, hull: Frame) -> Rows
     requires orient { IsOrient orient }
@@ -179,11 +166,12 @@ fn placements_of<'t>(scene: &Scene<'t>, cell: usize) -> &'t [Placement]
 
 impl<'t> Level<'t> {
     /// A cell that is placed so, of which nothing was shown.
-    pub(crate) fn of(cell: usize, orient: Orient, at: Point, depth: u8) -> Level<'t>
+    pub(crate) fn of(cell: usize, orient: Orient, at: Point, depth: u8, is_whole: bool) -> Level<'t>
         ensures cell { result.cell ≡ cell }
         ensures orient { result.orient ≡ orient }
         ensures at { result.at ≡ at }
         ensures depth { result.depth ≡ depth }
+        ensures whole { result.is_whole ≡ is_whole }
         ensures run { result.run ≡ None }
         ensures next { result.next ≡ 0 }
     {
@@ -192,6 +180,7 @@ impl<'t> Level<'t> {
             orient,
             at,
             depth,
+            is_whole,
             run: None,
             next: 0,
         }
@@ -202,6 +191,13 @@ impl<'t> Level<'t> {
         ensures { result ≡ self.now.cell }
     {
         self.cell
+    }
+
+    /// Whether all that it shows is known to be in the window.
+    pub(crate) fn is_whole(&self) -> bool
+        ensures { result ≡ self.now.is_whole }
+    {
+        self.is_whole
     }
 
     /// How the cell is enlarged, mirrored and turned.
@@ -235,7 +231,10 @@ impl<'t> Level<'t> {
             None => None,
             Some(run) => match run.next(scene, self.cell, self.orient, self.at) {
                 None => None,
-                Some(spot) => Some(Level::of(run.target, run.orient, spot, self.depth + 1)),
+                Some(spot) => {
+                    let is_whole = are_within(run.rows, spot.y, scene.window);
+                    Some(Level::of(run.target, run.orient, spot, self.depth + 1, is_whole))
+                }
             },
         }
     }

@@ -5,7 +5,6 @@ ghost use Rattle.layout_model.specs.Images.{IsOrient};
 ghost use Rattle.layout_model.specs.declared.pair.Pair.{Pair as APair};
 ghost use Rattle.layout_model.specs.Layouts.{IsShapeOnGrid, IsWithin};
 ghost use Rattle.layout_model.specs.ShapeLists.{shape_in};
-ghost use Rattle.flat_walk.specs.Poses.{IsUsual};
 ghost use Rattle.flat_walk.specs.Quads.{quad_image, moved_quad};
 ghost use Rattle.flat_walk.specs.Rests.{IsMarkedQuad, Skips, Gives, places_rest, placed_rest};
 ghost use Rattle.half_grid.specs.Trapezoids.{Trapezoid};
@@ -21,7 +20,7 @@ use crate::levels::rows_of;
 use crate::rises::places_in;
 use crate::rows::{Rows, has_row};
 use crate::tables::Pieces;
-use crate::turning::{image, moved};
+use crate::turning::{image, is_plain, moved};
 use half_grid::{Point, Quad, Window};
 use layout_model::{Orient, Pair, ShapeRef, Shapes};
 
@@ -61,20 +60,6 @@ pub(crate) struct Own<'t> {
     cursor: Cursor<'t>,
 }
 
-// Whether the orientation neither enlarges, mirrors nor turns, as most do.
-#[inline(always)]
-fn is_usual(orient: Orient) -> bool
-    ensures { IsTrue result → IsUsual orient }
-{
-    if orient.flip {
-        return false;
-    }
-    if orient.turns != 0 {
-        return false;
-    }
-    orient.mag == 1
-}
-
 // The quadrilateral moved.
 #[inline(always)]
 fn moved_quad(at: Point, quad: Quad) -> Quad
@@ -97,7 +82,7 @@ fn placed(piece: &Piece, orient: Orient, at: Point) -> Quad
     ensures { result ≡ quad_image orient at (corners_of piece.now) }
 {
     let quad = piece.quad();
-    if is_usual(orient) {
+    if is_plain(orient) {
         return moved_quad(at, quad);
     }
     let a = image(orient, at, quad.a());

@@ -1,5 +1,5 @@
 //! Ranges of rows.
-ghost use Rattle.std.specs.Prelude.{◌≡◌, int_lt};
+ghost use Rattle.std.specs.Prelude.{◌≡◌, ◌≤ℤ◌, ◌+ℤ◌, int_lt, IsTrue};
 ghost use Rattle.std.specs.Int.{int_min, int_max};
 ghost use Rattle.flat_walk.specs.Quads.{lowest_of, highest_of, has_row_in};
 
@@ -62,6 +62,23 @@ pub(crate) fn meet(rows: Rows, window: Window) -> bool
 {
     let shared = shared(rows, window);
     shared.low < shared.high
+}
+
+/// Whether all of the rows, moved up by so much, are in the window. False where 64 bits don't hold a sum.
+pub(crate) fn are_within(rows: Rows, by: i64, window: Window) -> bool
+    ensures low { IsTrue result → window.y0 ≤ℤ (rows.low +ℤ by) }
+    ensures high { IsTrue result → (rows.high +ℤ by) ≤ℤ window.y1 }
+{
+    let Some(low) = rows.low.checked_add(by) else {
+        return false;
+    };
+    let Some(high) = rows.high.checked_add(by) else {
+        return false;
+    };
+    if low < window.y0() {
+        return false;
+    }
+    high <= window.y1()
 }
 
 /// Whether some row of the window is one of the quadrilateral.

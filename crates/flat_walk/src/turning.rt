@@ -1,8 +1,8 @@
 //! Images of points, and one orientation after another.
-ghost use Rattle.std.specs.Prelude.{◌≡◌, ◌^◌, ◌≤◌, ◌<◌, ◌*◌};
+ghost use Rattle.std.specs.Prelude.{◌≡◌, ◌^◌, ◌≤◌, ◌<◌, ◌*◌, IsTrue};
 ghost use Rattle.layout_model.specs.Images.{IsOrient, moved, image_of};
 ghost use Rattle.layout_model.specs.Layouts.{IsWithin};
-ghost use Rattle.flat_walk.specs.Poses.{oriented, turns_after, flips_after, composed};
+ghost use Rattle.flat_walk.specs.Poses.{oriented, turns_after, flips_after, composed, IsPlain};
 
 use half_grid::Point;
 use layout_model::Orient;
@@ -19,6 +19,20 @@ pub(crate) fn image(orient: Orient, at: Point, p: Point) -> Point
     ensures { result ≡ image_of orient at p }
 {
     layout_model::image(orient, at, p)
+}
+
+/// Whether nothing is enlarged, mirrored or turned, as of most cells.
+#[inline(always)]
+pub(crate) fn is_plain(orient: Orient) -> bool
+    ensures { IsTrue result → IsPlain orient }
+{
+    if orient.flip {
+        return false;
+    }
+    if orient.turns != 0 {
+        return false;
+    }
+    orient.mag == 1
 }
 
 /// The point enlarged, mirrored and turned.

@@ -68,7 +68,7 @@ fn shapes_of<'t>(scene: &Scene<'t>, cell: usize) -> &'t Shapes
     &cells[cell].shapes
 }
 
-// All that the own shapes of a cell on the way show.
+// All that the own shapes of a cell on the way show. Where all of the cell is in the window, no boxes are looked at.
 fn own_of<'t>(scene: &Scene<'t>, level: &Level<'t>) -> Own<'t>
     requires scene { IsScene scene.now }
     requires level { IsLevel scene.now level.now }
@@ -78,8 +78,12 @@ fn own_of<'t>(scene: &Scene<'t>, level: &Level<'t>) -> Own<'t>
 {
     let shapes = shapes_of(scene, level.cell());
     let lists = scene.parts.lists(level.cell());
+    let (orient, at) = (level.orient(), level.at());
+    if level.is_whole() {
+        return Own::of(shapes, lists, None, orient, at);
+    }
     let boxes = shapes_in(scene.boxes, level.cell());
-    Own::of(shapes, lists, boxes, level.orient(), level.at())
+    Own::of(shapes, lists, boxes, orient, at)
 }
 
 // Enters the next placed cell that may have rows in the window.
@@ -116,7 +120,7 @@ fn enter_top<'t>(levels: &mut Vec<Level<'t>>, scene: &Scene<'t>) -> Own<'t>
     if !top_meets(scene) {
         return Own::nothing(shapes_of(scene, scene.tree.top()), UPRIGHT, ORIGIN);
     }
-    let level = Level::of(scene.tree.top(), UPRIGHT, ORIGIN, 0);
+    let level = Level::of(scene.tree.top(), UPRIGHT, ORIGIN, 0, false);
     let own = own_of(scene, &level);
     levels.push_reserved(level);
     own

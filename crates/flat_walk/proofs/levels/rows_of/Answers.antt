@@ -1,16 +1,15 @@
-use Rattle.std.proofs.Common.{sym}
+use Rattle.std.proofs.Common.{sym, refl}
 use Rattle.flat_walk.proofs.ShowLemmas.{box_between_by, plain_point}
 use Rattle.flat_walk.proofs.levels.rows_of.Goals as goal
 
 pub returns-then-is_plain-clause-between : goal.returns-then-is_plain-clause-between
 returns-then-is_plain-clause-between c = λ p inside.
-    let e = c.is_plain.ensures in
-    let yes = c.if-is_plain.true in
+    let e = c.if-is_plain.ensures refl in
     let o = c.args.orient in
     let low = c.low_corner-low.result in
     let high = c.high_corner-high.result in
     box_between_by o c.args.hull p low high low high c.rows_between.result.low c.rows_between.result.high c.rows_between.ensures.low c.rows_between.ensures.high
-    (sym (plain_point o low (e.flip yes) (e.turns yes) (e.mag yes))) (sym (plain_point o high (e.flip yes) (e.turns yes) (e.mag yes)))
+    (sym (plain_point o low e.flip e.turns e.mag)) (sym (plain_point o high e.flip e.turns e.mag))
     c.low_corner-low.ensures c.high_corner-high.ensures c.requires.orient.turns inside
 
 pub returns-clause-between : goal.returns-clause-between

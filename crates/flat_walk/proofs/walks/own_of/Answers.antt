@@ -10,8 +10,15 @@ shapes_of-shapes-requires c = subst (λ n. n < length (cells_of c.args.scene.now
     (level_within c.args.scene.now c.args.level.now c.requires.scene c.requires.level)
 
 pub of-requires-clause-near : goal.of-requires-clause-near
-of-requires-clause-near c = subst (IsWithin (2 ^ 54)) (sym c.at.ensures) (level_near c.args.scene.now c.args.level.now c.requires.scene c.requires.level)
+of-requires-clause-near c = subst (IsWithin (2 ^ 54)) (sym c.at-at.ensures) (level_near c.args.scene.now c.args.level.now c.requires.scene c.requires.level)
 
 pub of-requires-clause-grid : goal.of-requires-clause-grid
 of-requires-clause-grid c = subst (All IsShapeOnGrid) (sym c.shapes_of-shapes.ensures)
+    (shapes_on_grid (cells_of c.args.scene.now) c.requires.scene.grid.cells c.cell.result)
+
+pub of-requires-2-clause-near : goal.of-requires-2-clause-near
+of-requires-2-clause-near c = subst (IsWithin (2 ^ 54)) (sym c.at-at.ensures) (level_near c.args.scene.now c.args.level.now c.requires.scene c.requires.level)
+
+pub of-requires-2-clause-grid : goal.of-requires-2-clause-grid
+of-requires-2-clause-grid c = subst (All IsShapeOnGrid) (sym c.shapes_of-shapes.ensures)
     (shapes_on_grid (cells_of c.args.scene.now) c.requires.scene.grid.cells c.cell.result)

@@ -1,4 +1,4 @@
-use Rattle.std.proofs.Common.{◌∙◌, sym, ap, Some, map, subst, ◌≡◌, false}
+use Rattle.std.proofs.Common.{◌∙◌, sym, ap, Some, map, ◌≡◌, false}
 use Rattle.half_grid.specs.Quads.{corners_of}
 use Rattle.flat_walk.specs.Quads.{quad_image, has_row_in}
 use Rattle.flat_walk.specs.Hands.{hand_list}

@@ -1,4 +1,4 @@
-use Rattle.std.proofs.Common.{◌≡◌, All, Some, map, length}
+use Rattle.std.proofs.Common.{All, Some, map, length}
 use Rattle.half_grid.specs.Quads.{IsQuad}
 use Rattle.flat_walk.specs.Rests.{Skips}
 use Rattle.flat_walk.specs.Hands.{hand_list, IsHand}
