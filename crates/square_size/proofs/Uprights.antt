@@ -2,7 +2,7 @@
 use Rattle.std.proofs.Common.{◌≡◌, ◌<ℤ◌, ℤ, true, false, Option, Some, None, refl, sym, ap, ◌∙◌, arith}
 use Rattle.std.proofs.lemmas.Int.{ints}
 use Rattle.std.specs.Ordering.{int_eq}
-use Rattle.std.specs.Prelude.{SomeIff}
+use Rattle.std.specs.Prelude.{IfSome}
 use Rattle.half_grid.specs.Edges.{EdgeParts, IsEdge, edge_parts}
 use Rattle.half_grid.specs.Lines.{line_of}
 use Rattle.half_grid.specs.Reach.{IsPointWithinReach}
@@ -19,27 +19,32 @@ upright_line : (a b : Point) → a.x ≡ b.x → int_eq a.y b.y ≡ false → li
 unfolding line_of
 upright_line a b x y = rw (y, int_eq_same a.x b.x x) refl
 
-some_by : (r : Option EdgeParts) (e : EdgeParts) → SomeIff r (IsEdge e) e → IsEdge e → r ≡ Some e
-some_by None e h is = absurd (h is)
-some_by (Some x) e h is = ap Some h.1
-
 -- an upright edge that goes up
-pub upright_up : (a b : Point) (r : Option EdgeParts) → IsPointWithinReach a → IsPointWithinReach b → a.x ≡ b.x → a.y <ℤ b.y
-    → SomeIff r (IsEdge (edge_parts a.y b.y (Upright a.x) true A)) (edge_parts a.y b.y (Upright a.x) true A) → r ≡ edge_between A a b
-upright_up a b r wa wb x up made =
+pub up_edge : (a b : Point) → IsPointWithinReach a → IsPointWithinReach b → a.x ≡ b.x → a.y <ℤ b.y → IsEdge (edge_parts a.y b.y (Upright a.x) true A)
+up_edge a b wa wb x up = record { has_rows = up; y0 = wa.y; y1 = wb.y; lower_end = wa.x; upper_end = wa.x }
+
+pub upright_up : (a b : Point) (e : EdgeParts) → a.x ≡ b.x → a.y <ℤ b.y → e ≡ edge_parts a.y b.y (Upright a.x) true A → Some e ≡ edge_between A a b
+upright_up a b e x up made =
     let differ = int_eq_other a.y b.y (λ e. omega (arith, ints, e, up)) in
-    let edge : IsEdge (edge_parts a.y b.y (Upright a.x) true A) =
-    record { has_rows = up; y0 = wa.y; y1 = wb.y; lower_end = wa.x; upper_end = wa.x } in
-    some_by r _ made edge ∙ sym (ap (edge_along A a b) (upright_line a b x differ) ∙ (rw (lt_yes a.y b.y up) refl))
+    ap Some made ∙ sym (ap (edge_along A a b) (upright_line a b x differ) ∙ (rw (lt_yes a.y b.y up) refl))
 
 -- an upright edge that goes down
-pub upright_down : (a b : Point) (r : Option EdgeParts) → IsPointWithinReach a → IsPointWithinReach b → a.x ≡ b.x → b.y <ℤ a.y
-    → SomeIff r (IsEdge (edge_parts b.y a.y (Upright a.x) false A)) (edge_parts b.y a.y (Upright a.x) false A) → r ≡ edge_between A a b
-upright_down a b r wa wb x down made =
+pub down_edge : (a b : Point) → IsPointWithinReach a → IsPointWithinReach b → a.x ≡ b.x → b.y <ℤ a.y → IsEdge (edge_parts b.y a.y (Upright a.x) false A)
+down_edge a b wa wb x down = record { has_rows = down; y0 = wb.y; y1 = wa.y; lower_end = wa.x; upper_end = wa.x }
+
+pub upright_down : (a b : Point) (e : EdgeParts) → a.x ≡ b.x → b.y <ℤ a.y → e ≡ edge_parts b.y a.y (Upright a.x) false A → Some e ≡ edge_between A a b
+upright_down a b e x down made =
     let differ = int_eq_other a.y b.y (λ e. omega (arith, ints, e, down)) in
-    let edge : IsEdge (edge_parts b.y a.y (Upright a.x) false A) =
-    record { has_rows = down; y0 = wb.y; y1 = wa.y; lower_end = wa.x; upper_end = wa.x } in
-    some_by r _ made edge ∙ sym (ap (edge_along A a b) (upright_line a b x differ) ∙ (rw (lt_no a.y b.y (omega (arith, ints, down))) refl))
+    ap Some made ∙ sym (ap (edge_along A a b) (upright_line a b x differ) ∙ (rw (lt_no a.y b.y (omega (arith, ints, down))) refl))
+
+-- where there is an edge, it is the one that a list of pieces has
+pub this_edge : (r o : Option EdgeParts) → r ≡ o → IfSome r (λ e. Some e ≡ o)
+this_edge None o h = tt
+this_edge (Some e) o h = h
+
+pub no_edge : (r o : Option EdgeParts) → None ≡ o → IfSome r (λ e. None ≡ o)
+no_edge None o h = tt
+no_edge (Some e) o h = h
 
 -- a side of no height has no edge
 pub level_edge : (a b : Point) → a.y ≡ b.y → None ≡ edge_between A a b

@@ -10,4 +10,5 @@ mod tests;
 
 pub use growing::Grown;
 pub use laws::{near_law, ring_laws};
+pub use pieces::put_grown;
 pub use rings::grown;

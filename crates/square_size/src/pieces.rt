@@ -1,8 +1,9 @@
 //! The edges of one ring.
-ghost use Rattle.std.specs.Prelude.{◌≡◌, ◌≢◌, ◌<ℤ◌, [], ◌++◌, IfNone, IfSome};
+ghost use Rattle.std.specs.Prelude.{◌≡◌, ◌≢◌, ◌<ℤ◌, [], ◌++◌, None, Some, IfNone, IfSome, OnOk};
 ghost use Rattle.std.specs.Option.{option_to_list};
 ghost use Rattle.half_grid.specs.Lines.{line_of, Passes};
 ghost use Rattle.half_grid.specs.Reach.{IsPointWithinReach};
+ghost use Rattle.half_grid.specs.Trapezoids.{IsShot};
 ghost use Rattle.half_grid.specs.declared.border.Operand.TheVariants.{A};
 ghost use Rattle.square_size.specs.Edges.{edge_between, edges_of_grown};
 ghost use Rattle.square_size.specs.Rings.{HasRingWithinReach, IsSizing, lower_left, upper_left, lower_right, upper_right, left_bend, right_bend};
@@ -10,6 +11,7 @@ ghost use Rattle.square_size.specs.Rings.{HasRingWithinReach, IsSizing, lower_le
 use crate::rings::{
     HalfSides, left_bend, lower_left, lower_right, right_bend, upper_left, upper_right,
 };
+use geo_stream::NoMemory;
 use half_grid::{Edge, Line, Operand, Point, Trap, line_through};
 use std::marker::Model;
 
@@ -40,9 +42,9 @@ fn edge_between(a: Point, b: Point) -> Option<Edge>
         None => None,
         Some(line) => {
             if a.y < b.y {
-                Edge::new(a.y, b.y, line, true, Operand::A)
+                Some(Edge::of(a.y, b.y, line, true, Operand::A))
             } else {
-                Edge::new(b.y, a.y, line, false, Operand::A)
+                Some(Edge::of(b.y, a.y, line, false, Operand::A))
             }
         }
     }
@@ -57,7 +59,7 @@ fn up_between(a: Point, b: Point) -> Option<Edge>
     requires up { a.y <ℤ b.y }
     ensures { result ≡ edge_between A a b }
 {
-    Edge::new(a.y, b.y, Line::Upright(a.x), true, Operand::A)
+    Some(Edge::of(a.y, b.y, Line::Upright(a.x), true, Operand::A))
 }
 
 // The upright edge from a down to b, which has the same X.
@@ -69,15 +71,17 @@ fn down_between(a: Point, b: Point) -> Option<Edge>
     requires down { b.y <ℤ a.y }
     ensures { result ≡ edge_between A a b }
 {
-    Edge::new(b.y, a.y, Line::Upright(a.x), false, Operand::A)
+    Some(Edge::of(b.y, a.y, Line::Upright(a.x), false, Operand::A))
 }
 
-// Puts the two pieces of the ring's left side in place. Where the side is upright the second is none.
-fn put_left(first: &mut Option<Edge>, second: &mut Option<Edge>, trap: &Trap, by: HalfSides)
+// The ring's left side where it is upright, which is then one edge: its second piece is none.
+#[inline(always)]
+fn upright_left(trap: &Trap, by: HalfSides) -> Option<Edge>
     requires sizing { IsSizing by.dx by.dy }
     requires reach { HasRingWithinReach by.dx by.dy trap.now }
-    ensures first { first.new ≡ edge_between A (lower_left by.dx by.dy trap.now) (left_bend by.dx by.dy trap.now.y0 trap.now.y1 trap.now.left) }
-    ensures second { second.new ≡ edge_between A (left_bend by.dx by.dy trap.now.y0 trap.now.y1 trap.now.left) (upper_left by.dx by.dy trap.now) }
+    ensures first { IfSome result (λ edge. Some edge ≡ edge_between A (lower_left by.dx by.dy trap.now) (left_bend by.dx by.dy trap.now.y0 trap.now.y1 trap.now.left)) }
+    ensures second { IfSome result (λ edge. None ≡ edge_between A (left_bend by.dx by.dy trap.now.y0 trap.now.y1 trap.now.left) (upper_left by.dx by.dy trap.now)) }
+    ensures shot { IsShot trap.now }
 {
     if let Line::Upright(c) = trap.left() {
         let x = c - by.dx;
@@ -89,7 +93,44 @@ fn put_left(first: &mut Option<Edge>, second: &mut Option<Edge>, trap: &Trap, by
             x,
             y: trap.y1() + by.dy,
         };
-        *first = up_between(low, high);
+        return up_between(low, high);
+    }
+    None
+}
+
+// The ring's right side where it is upright, which is then one edge: its first piece is none.
+#[inline(always)]
+fn upright_right(trap: &Trap, by: HalfSides) -> Option<Edge>
+    requires sizing { IsSizing by.dx by.dy }
+    requires reach { HasRingWithinReach by.dx by.dy trap.now }
+    ensures first { IfSome result (λ edge. None ≡ edge_between A (upper_right by.dx by.dy trap.now) (right_bend by.dx by.dy trap.now.y0 trap.now.y1 trap.now.right)) }
+    ensures second { IfSome result (λ edge. Some edge ≡ edge_between A (right_bend by.dx by.dy trap.now.y0 trap.now.y1 trap.now.right) (lower_right by.dx by.dy trap.now)) }
+    ensures shot { IsShot trap.now }
+{
+    if let Line::Upright(c) = trap.right() {
+        let x = c + by.dx;
+        let high = Point {
+            x,
+            y: trap.y1() + by.dy,
+        };
+        let low = Point {
+            x,
+            y: trap.y0() - by.dy,
+        };
+        return down_between(high, low);
+    }
+    None
+}
+
+// Puts the two pieces of the ring's left side in place. Where the side is upright the second is none.
+fn put_left(first: &mut Option<Edge>, second: &mut Option<Edge>, trap: &Trap, by: HalfSides)
+    requires sizing { IsSizing by.dx by.dy }
+    requires reach { HasRingWithinReach by.dx by.dy trap.now }
+    ensures first { first.new ≡ edge_between A (lower_left by.dx by.dy trap.now) (left_bend by.dx by.dy trap.now.y0 trap.now.y1 trap.now.left) }
+    ensures second { second.new ≡ edge_between A (left_bend by.dx by.dy trap.now.y0 trap.now.y1 trap.now.left) (upper_left by.dx by.dy trap.now) }
+{
+    if let Some(edge) = upright_left(trap, by) {
+        *first = Some(edge);
         *second = None;
         return;
     }
@@ -105,23 +146,73 @@ fn put_right(first: &mut Option<Edge>, second: &mut Option<Edge>, trap: &Trap, b
     ensures first { first.new ≡ edge_between A (upper_right by.dx by.dy trap.now) (right_bend by.dx by.dy trap.now.y0 trap.now.y1 trap.now.right) }
     ensures second { second.new ≡ edge_between A (right_bend by.dx by.dy trap.now.y0 trap.now.y1 trap.now.right) (lower_right by.dx by.dy trap.now) }
 {
-    if let Line::Upright(c) = trap.right() {
-        let x = c + by.dx;
-        let high = Point {
-            x,
-            y: trap.y1() + by.dy,
-        };
-        let low = Point {
-            x,
-            y: trap.y0() - by.dy,
-        };
+    if let Some(edge) = upright_right(trap, by) {
         *first = None;
-        *second = down_between(high, low);
+        *second = Some(edge);
         return;
     }
     let bend = right_bend(trap, by);
     *first = edge_between(upper_right(trap, by), bend);
     *second = edge_between(bend, lower_right(trap, by));
+}
+
+// Puts an edge, where there is one, at the end.
+#[inline(always)]
+fn put_some(edges: &mut Vec<Edge>, piece: Option<Edge>) -> Result<(), NoMemory>
+    ensures { OnOk result (edges.new.items ≡ edges.old.items ++ option_to_list piece) }
+{
+    if let Some(edge) = piece {
+        edges.push(edge)?;
+    }
+    Ok(())
+}
+
+// Puts the edges of the ring's left side at the end.
+fn add_left(edges: &mut Vec<Edge>, trap: &Trap, by: HalfSides) -> Result<(), NoMemory>
+    requires sizing { IsSizing by.dx by.dy }
+    requires reach { HasRingWithinReach by.dx by.dy trap.now }
+    ensures { OnOk result (edges.new.items ≡ edges.old.items ++ (option_to_list (edge_between A (lower_left by.dx by.dy trap.now) (left_bend by.dx by.dy trap.now.y0 trap.now.y1 trap.now.left)) ++ option_to_list (edge_between A (left_bend by.dx by.dy trap.now.y0 trap.now.y1 trap.now.left) (upper_left by.dx by.dy trap.now)))) }
+{
+    if let Some(edge) = upright_left(trap, by) {
+        edges.push(edge)?;
+        return Ok(());
+    }
+    let bend = left_bend(trap, by);
+    put_some(edges, edge_between(lower_left(trap, by), bend))?;
+    put_some(edges, edge_between(bend, upper_left(trap, by)))?;
+    Ok(())
+}
+
+// Puts the edges of the ring's right side at the end.
+fn add_right(edges: &mut Vec<Edge>, trap: &Trap, by: HalfSides) -> Result<(), NoMemory>
+    requires sizing { IsSizing by.dx by.dy }
+    requires reach { HasRingWithinReach by.dx by.dy trap.now }
+    ensures { OnOk result (edges.new.items ≡ edges.old.items ++ (option_to_list (edge_between A (upper_right by.dx by.dy trap.now) (right_bend by.dx by.dy trap.now.y0 trap.now.y1 trap.now.right)) ++ option_to_list (edge_between A (right_bend by.dx by.dy trap.now.y0 trap.now.y1 trap.now.right) (lower_right by.dx by.dy trap.now)))) }
+{
+    if let Some(edge) = upright_right(trap, by) {
+        edges.push(edge)?;
+        return Ok(());
+    }
+    let bend = right_bend(trap, by);
+    put_some(edges, edge_between(upper_right(trap, by), bend))?;
+    put_some(edges, edge_between(bend, lower_right(trap, by)))?;
+    Ok(())
+}
+
+/// Puts the edges of the ring of a trapezoid that grows by the rectangle of half sides `dx` and `dy`, in half units, at
+/// the end of a list of edges: those that the stream [`Grown`](crate::Grown) gives for it, in the same order. An upright
+/// side takes one edge. Sizing, which sweeps the rings of a whole list, calls it trapezoid by trapezoid.
+///
+/// `dx` and `dy` are 0 to 65,536, their sum is even, and the ring is within reach.
+pub fn put_grown(edges: &mut Vec<Edge>, trap: &Trap, dx: i64, dy: i64) -> Result<(), NoMemory>
+    requires sizing { IsSizing dx dy }
+    requires reach { HasRingWithinReach dx dy trap.now }
+    ensures { OnOk result (edges.new.items ≡ edges.old.items ++ edges_of_grown dx dy trap.now) }
+{
+    let by = HalfSides { dx, dy };
+    add_left(edges, trap, by)?;
+    add_right(edges, trap, by)?;
+    Ok(())
 }
 
 /// What is still to come of the edges of a ring that aren't horizontal: two up at the left, two down at the right.

@@ -4,7 +4,7 @@ ghost use Rattle.half_grid.specs.Reach.{IsTileWithinReach};
 ghost use Rattle.half_grid.specs.Trapezoids.{trapezoid};
 ghost use Rattle.square_size.specs.Rings.{HasRingWithinReach, IsSizing};
 
-use crate::{Grown, grown, near_law, ring_laws};
+use crate::{Grown, grown, near_law, put_grown, ring_laws};
 use geo_stream::{FromSlice, NoMemory, gather};
 use half_grid::{Edge, Line, Operand, Point, REACH, Side, Tile, Trap, covers, near, winding_at};
 use std::alloc::Global;
@@ -233,5 +233,10 @@ fn edges_come_ring_by_ring(rt: HostRuntime) -> Result<(), NoMemory> {
         Grown::new(rt.alloc(), FromSlice::new(&traps), 3, 1),
     )?;
     assert_eq!(rt; edges.as_slice(), wanted.as_slice());
+    let mut put = Vec::new(rt.alloc());
+    for trap in &traps {
+        put_grown(&mut put, trap, 3, 1)?;
+    }
+    assert_eq!(rt; put.as_slice(), wanted.as_slice());
     Ok(())
 }

@@ -1,50 +1,9 @@
-use Rattle.std.proofs.Common.{arith, sym, ◌∙◌, ◌+ℤ◌, ◌-ℤ◌, refl}
-use Rattle.std.proofs.lemmas.Int.{ints}
 use Rattle.square_size.proofs.RingPoints.{lower_right_within, upper_right_within, right_bend_within}
-use Rattle.square_size.proofs.Uprights.{level_edge, point_within, same_edge}
 use Rattle.square_size.proofs.pieces.put_right.Goals as goal
-
-pub down_between-requires-clause-first : goal.down_between-requires-clause-first
-down_between-requires-clause-first c =
-    let kind = sym c.right.ensures.value ∙ c.in-Upright.is in
-    let shot = c.right.ensures.shot in
-    let here = rw kind at shot.reach.top_right in
-    let ring = upper_right_within c.args.by.dx c.args.by.dy c.args.trap.now c.requires.sizing.rectangle shot c.requires.reach in
-    point_within _ _ (c.in-Upright.c +ℤ c.args.by.dx) (c.args.trap.now.y1 +ℤ c.args.by.dy)
-    (omega (arith, ints, here, c.requires.sizing.rectangle.columns, c.requires.sizing.columns))
-    (omega (arith, ints, c.y1.ensures.value, shot.reach.y1, c.requires.sizing.rectangle.rows, c.requires.sizing.rows))
-    (rw kind at ring)
-
-pub down_between-requires-clause-second : goal.down_between-requires-clause-second
-down_between-requires-clause-second c =
-    let kind = sym c.right.ensures.value ∙ c.in-Upright.is in
-    let shot = c.right.ensures.shot in
-    let here = rw kind at shot.reach.bottom_right in
-    let ring = lower_right_within c.args.by.dx c.args.by.dy c.args.trap.now c.requires.sizing.rectangle shot c.requires.reach in
-    point_within _ _ (c.in-Upright.c +ℤ c.args.by.dx) (c.args.trap.now.y0 -ℤ c.args.by.dy)
-    (omega (arith, ints, here, c.requires.sizing.rectangle.columns, c.requires.sizing.columns))
-    (omega (arith, ints, c.y0.ensures.value, shot.reach.y0, c.requires.sizing.rectangle.rows, c.requires.sizing.rows))
-    (rw kind at ring)
-
-pub returns-in-Upright-clause-second : goal.returns-in-Upright-clause-second
-returns-in-Upright-clause-second c =
-    let kind = sym c.right.ensures.value ∙ c.in-Upright.is in
-    let shot = c.right.ensures.shot in
-    let here = rw kind at shot.reach.bottom_right in
-    rw kind (same_edge _ _ _ _ _ _ _ _ _ c.down_between.ensures
-    (omega (arith, ints, here, c.requires.sizing.rectangle.columns, c.requires.sizing.columns))
-    (omega (arith, ints, c.y1.ensures.value, shot.reach.y1, c.requires.sizing.rectangle.rows, c.requires.sizing.rows))
-    (omega (arith, ints, here, c.requires.sizing.rectangle.columns, c.requires.sizing.columns))
-    (omega (arith, ints, c.y0.ensures.value, shot.reach.y0, c.requires.sizing.rectangle.rows, c.requires.sizing.rows)))
-
-pub returns-in-Upright-clause-first : goal.returns-in-Upright-clause-first
-returns-in-Upright-clause-first c =
-    let kind = sym c.right.ensures.value ∙ c.in-Upright.is in
-    rw kind (level_edge _ _ refl)
 
 pub edge_between-requires : goal.edge_between-requires
 edge_between-requires c =
-    let shot = c.right.ensures.shot in
+    let shot = c.upright_right.ensures.shot in
     record {
       first = rw c.upper_right.ensures (upper_right_within c.args.by.dx c.args.by.dy c.args.trap.now c.requires.sizing.rectangle shot c.requires.reach);
       second = rw c.right_bend-bend.ensures (right_bend_within c.args.by.dx c.args.by.dy c.args.trap.now c.requires.sizing.rectangle shot c.requires.reach);
@@ -52,7 +11,7 @@ edge_between-requires c =
 
 pub edge_between-requires-2 : goal.edge_between-requires-2
 edge_between-requires-2 c =
-    let shot = c.right.ensures.shot in
+    let shot = c.upright_right.ensures.shot in
     record {
       first = rw c.right_bend-bend.ensures (right_bend_within c.args.by.dx c.args.by.dy c.args.trap.now c.requires.sizing.rectangle shot c.requires.reach);
       second = rw c.lower_right.ensures (lower_right_within c.args.by.dx c.args.by.dy c.args.trap.now c.requires.sizing.rectangle shot c.requires.reach);
