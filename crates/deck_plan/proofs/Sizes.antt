@@ -95,7 +95,7 @@ pub grown_balanced : (dx dy : ℤ) → IsRectangle dx dy → (traps : List Trape
     → (window : RowRange) → IsBalanced edges window
 grown_balanced dx dy r traps legal edges is window = λ o j low high. rw is (grown_are_balanced dx dy traps o j r legal)
 
-ring_within : (dx dy : ℤ) (z : Trapezoid) → IsSizing dx dy → HasCornersUpTo (2 ^ 43) z → HasRingWithinReach dx dy z
+pub ring_within : (dx dy : ℤ) (z : Trapezoid) → IsSizing dx dy → HasCornersUpTo (2 ^ 43) z → HasRingWithinReach dx dy z
 ring_within dx dy z s h = record {
   left = record {
     low = omega (arith, ints, clamps, h.bottom_left.low, h.top_left.low, s.columns);
@@ -138,13 +138,20 @@ near_rows dx dy window t u rows near =
           (arith, ints, rows.below, near.rows.above, near.rows.below);
     }
 
-pub one_edge_put : (edges after rest more whole : List EdgeParts) (edge : EdgeParts) → after ≡ edges ++ edge ∷ []
-    → rest ≡ edge ∷ more → edges ++ rest ≡ whole → after ++ more ≡ whole
-one_edge_put edges after rest more whole edge put first before =
-    ap (λ (es : List EdgeParts). es ++ more) put ∙ (append_assoc edges (edge ∷ []) more ∙ (ap (λ (es : List EdgeParts). edges ++ es) (sym first) ∙ before))
+-- one ring is put at the end, of those that are still to come
+pub ring_put : (dx dy : ℤ) (z : Trapezoid) (rest more : List Trapezoid) (edges after whole : List EdgeParts) → rest ≡ z ∷ more
+    → after ≡ edges ++ edges_of_grown dx dy z → edges ++ flat_map (edges_of_grown dx dy) rest ≡ whole → after ++ flat_map (edges_of_grown dx dy) more ≡ whole
+ring_put dx dy z rest more edges after whole first put before =
+    ap (λ (es : List EdgeParts). es ++ flat_map (edges_of_grown dx dy) more) put
+    ∙ append_assoc edges (edges_of_grown dx dy z) (flat_map (edges_of_grown dx dy) more)
+    ∙ ap (λ (zs : List Trapezoid). edges ++ flat_map (edges_of_grown dx dy) zs) (sym first)
+    ∙ before
 
-pub all_edges_put : (edges rest whole : List EdgeParts) → rest ≡ [] → edges ++ rest ≡ whole → edges ≡ whole
-all_edges_put edges rest whole none all = sym (append-nil edges) ∙ (ap (λ (es : List EdgeParts). edges ++ es) (sym none) ∙ all)
+-- and none is left
+pub rings_put : (dx dy : ℤ) (rest : List Trapezoid) (edges whole : List EdgeParts) → rest ≡ []
+    → edges ++ flat_map (edges_of_grown dx dy) rest ≡ whole → edges ≡ whole
+rings_put dx dy rest edges whole none all =
+    sym (append-nil edges) ∙ (ap (λ (zs : List Trapezoid). edges ++ flat_map (edges_of_grown dx dy) zs) (sym none) ∙ all)
 
 some_of : (n : ℕ) → (n ≡ 0 → ⊥) → 1 ≤ n
 some_of zero f = absurd (f refl)

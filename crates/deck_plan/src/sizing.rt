@@ -1,7 +1,6 @@
 //! Areas that grow and shrink.
-ghost use Rattle.std.specs.Prelude.{◌≡◌, ◌≢◌, ◌^◌, ℤ, pos, ◌+ℤ◌, ◌-ℤ◌, ◌≤ℤ◌, ◌++◌, All, List, [], ◌∷◌, IfOk, OnOk, MatchOption, Contains};
+ghost use Rattle.std.specs.Prelude.{◌≡◌, ◌≢◌, ◌^◌, ℤ, pos, ◌+ℤ◌, ◌-ℤ◌, ◌≤ℤ◌, ◌++◌, All, [], ◌∷◌, IfOk, OnOk, MatchOption, Contains};
 ghost use Rattle.std.specs.List.{flat_map};
-ghost use Rattle.half_grid.specs.Edges.{EdgeParts};
 ghost use Rattle.half_grid.specs.Nearness.{IsGrown, IsShrunk};
 ghost use Rattle.half_grid.specs.Trapezoids.{IsLegal, IsShot};
 ghost use Rattle.half_grid.specs.Lines.{x_on};
@@ -18,9 +17,9 @@ use crate::piles::most_of_sweep;
 use crate::windows::widened;
 use bool_ops::{Op, combine, left_over_within, unite, unite_within};
 use column_sweep::operand_edges;
-use geo_stream::{FromSlice, NoMemory, Stream, gather};
+use geo_stream::{FromSlice, NoMemory, gather};
 use half_grid::{Edge, Frame, Trap, Window};
-use square_size::Grown;
+use square_size::{Grown, put_grown};
 use std::alloc::Global;
 use tone_mirror::frame_trap;
 
@@ -89,31 +88,16 @@ pub(crate) fn grown_area(
     }
 }
 
-// Puts the edges of the stream at the end.
-fn put_all<S: Stream<Item = Edge>>(edges: &mut Vec<Edge>, stream: &mut S) -> Result<(), NoMemory>
-    requires { (list : List EdgeParts) × S.stands_for stream.old list }
-    ensures { (list : List EdgeParts) → S.stands_for stream.old list → OnOk result (edges.new.items ≡ edges.old.items ++ list) }
-{
-    while let Some(edge) = stream.next() {
-        edges.push(edge)?;
-    }
-    Ok(())
-}
-
 // Puts the edges of the rings of the grown trapezoids at the end.
-fn put_rings(
-    alloc: Global,
-    edges: &mut Vec<Edge>,
-    traps: &[Trap],
-    dx: i64,
-    dy: i64,
-) -> Result<(), NoMemory>
+fn put_rings(edges: &mut Vec<Edge>, traps: &[Trap], dx: i64, dy: i64) -> Result<(), NoMemory>
     requires sizing { IsSizing dx dy }
     requires near { All (HasCornersUpTo (2 ^ 43)) traps.now }
     ensures { OnOk result (edges.new.items ≡ edges.old.items ++ flat_map (edges_of_grown dx dy) traps.now) }
 {
-    let mut rings = Grown::new(alloc, FromSlice::new(traps), dx, dy);
-    put_all(edges, &mut rings)
+    for trap in traps {
+        put_grown(edges, trap, dx, dy)?;
+    }
+    Ok(())
 }
 
 // The box of one trapezoid.
@@ -200,7 +184,7 @@ pub(crate) fn shrunk_area(
     let around = [frame_trap(&wider(&hull_from(first, rest), dx, dy))];
     let outside = combine(alloc, Op::Sub, &around, traps, widened(window, dy))?;
     let mut edges = operand_edges(alloc, &[], &around, window)?;
-    put_rings(alloc, &mut edges, outside.as_slice(), dx, dy)?;
+    put_rings(&mut edges, outside.as_slice(), dx, dy)?;
     let most = most_of_sweep(edges.len());
     match left_over_within(alloc, edges, window, most)? {
         Some(area) => Ok(area),
