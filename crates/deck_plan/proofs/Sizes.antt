@@ -2,7 +2,7 @@
 use Rattle.std.proofs.Common.{◌≡◌, ◌≢◌, ◌↔◌, ◌^◌, ◌≤◌, ℕ, zero, suc, ℤ, pos, ◌+ℤ◌, ◌≤ℤ◌, Bool, true, false, ◌⊎◌, inl}
 use Rattle.std.proofs.Common.{inr, List, [], ◌∷◌, ◌++◌, flat_map, length, append_assoc, ap, sym, refl, ◌∙◌, arith, All}
 use Rattle.std.proofs.lemmas.Int.{ints, by_lt_z, clamps}
-use Rattle.std.proofs.lemmas.List.Elements.{All-weaker, All-head, All-tail}
+use Rattle.std.proofs.lemmas.List.Elements.{All-head, All-tail}
 use Rattle.std.proofs.lemmas.List.{append-nil}
 use Rattle.std.proofs.lemmas.List.Sums.{sum_by-append}
 use Rattle.half_grid.specs.Edges.{EdgeParts, edges_winding}
@@ -110,9 +110,6 @@ ring_within dx dy z s h = record {
   bottom = record { low = omega (arith, ints, h.y0.low, s.rows); high = omega (arith, ints, h.y0.high, s.rectangle.rows) };
   top = record { low = omega (arith, ints, h.y1.low, s.rectangle.rows); high = omega (arith, ints, h.y1.high, s.rows) };
 }
-
-pub rings_within : (dx dy : ℤ) (traps : List Trapezoid) → IsSizing dx dy → All (HasCornersUpTo (2 ^ 43)) traps → All (HasRingWithinReach dx dy) traps
-rings_within dx dy traps s all = All-weaker (HasCornersUpTo (2 ^ 43)) (HasRingWithinReach dx dy) (λ z h. ring_within dx dy z s h) traps all
 
 -- ---- shrunk
 

@@ -17,11 +17,34 @@ use crate::piles::most_of_sweep;
 use crate::windows::widened;
 use bool_ops::{Op, combine, left_over_within, unite, unite_within};
 use column_sweep::operand_edges;
-use geo_stream::{FromSlice, NoMemory, gather};
+use geo_stream::NoMemory;
 use half_grid::{Edge, Frame, Trap, Window};
-use square_size::{Grown, put_grown};
+use square_size::put_grown;
 use std::alloc::Global;
 use tone_mirror::frame_trap;
+
+// Puts the edges of the rings of the grown trapezoids at the end.
+fn put_rings(edges: &mut Vec<Edge>, traps: &[Trap], dx: i64, dy: i64) -> Result<(), NoMemory>
+    requires sizing { IsSizing dx dy }
+    requires near { All (HasCornersUpTo (2 ^ 43)) traps.now }
+    ensures { OnOk result (edges.new.items ≡ edges.old.items ++ flat_map (edges_of_grown dx dy) traps.now) }
+{
+    for trap in traps {
+        put_grown(edges, trap, dx, dy)?;
+    }
+    Ok(())
+}
+
+// The edges of the rings of the grown trapezoids.
+fn rings(alloc: Global, traps: &[Trap], dx: i64, dy: i64) -> Result<Vec<Edge>, NoMemory>
+    requires sizing { IsSizing dx dy }
+    requires near { All (HasCornersUpTo (2 ^ 43)) traps.now }
+    ensures { IfOk result (λ edges. edges.items ≡ flat_map (edges_of_grown dx dy) traps.now) }
+{
+    let mut edges = Vec::new(alloc);
+    put_rings(&mut edges, traps, dx, dy)?;
+    Ok(edges)
+}
 
 // The joined list, in the window, of the tiles near to some tile of the trapezoids, by one sweep.
 fn grown_at_once(
@@ -36,7 +59,7 @@ fn grown_at_once(
     requires near { All (HasCornersUpTo (2 ^ 43)) traps.now }
     ensures { IfOk result (λ grown. HasArea window (IsGrown dx dy (IsInSome traps.now)) grown.items) }
 {
-    let edges = gather(alloc, Grown::new(alloc, FromSlice::new(traps), dx, dy))?;
+    let edges = rings(alloc, traps, dx, dy)?;
     unite(alloc, edges, window)
 }
 
@@ -80,24 +103,12 @@ pub(crate) fn grown_area(
     requires near { All (HasCornersUpTo (2 ^ 43)) traps.now }
     ensures { IfOk result (λ grown. HasArea window (IsGrown dx dy (IsInSome traps.now)) grown.items) }
 {
-    let edges = gather(alloc, Grown::new(alloc, FromSlice::new(traps), dx, dy))?;
+    let edges = rings(alloc, traps, dx, dy)?;
     let most = most_of_sweep(edges.len());
     match unite_within(alloc, edges, window, most)? {
         Some(area) => Ok(area),
         None => piled_growth(alloc, traps, dx, dy, window),
     }
-}
-
-// Puts the edges of the rings of the grown trapezoids at the end.
-fn put_rings(edges: &mut Vec<Edge>, traps: &[Trap], dx: i64, dy: i64) -> Result<(), NoMemory>
-    requires sizing { IsSizing dx dy }
-    requires near { All (HasCornersUpTo (2 ^ 43)) traps.now }
-    ensures { OnOk result (edges.new.items ≡ edges.old.items ++ flat_map (edges_of_grown dx dy) traps.now) }
-{
-    for trap in traps {
-        put_grown(edges, trap, dx, dy)?;
-    }
-    Ok(())
 }
 
 // The box of one trapezoid.

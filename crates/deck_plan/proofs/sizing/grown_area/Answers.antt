@@ -1,21 +1,15 @@
 use Rattle.std.proofs.Common.{◌≡◌, w64, FitsSigned, flat_map}
 use Rattle.std.proofs.lemmas.Int.{to_z-of_z}
 use Rattle.square_size.specs.Edges.{edges_of_grown}
-use Rattle.deck_plan.proofs.Sizes.{grown_has, grown_balanced, rings_within}
+use Rattle.deck_plan.proofs.Sizes.{grown_has, grown_balanced}
 use Rattle.deck_plan.proofs.sizing.grown_area.Goals as goal
-
-pub new-requires-2-clause-traps : goal.new-requires-2-clause-traps
-new-requires-2-clause-traps c =
-    let dx : FitsSigned w64 c.args.dx = c.ranges.dx in
-    let dy : FitsSigned w64 c.args.dy = c.ranges.dy in
-    (c.args.traps.now, c.new.ensures.list, simp to_z-of_z (rings_within c.args.dx c.args.dy c.args.traps.now c.requires.sizing c.requires.near))
 
 pub unite_within-requires : goal.unite_within-requires
 unite_within-requires c =
     let dx : FitsSigned w64 c.args.dx = c.ranges.dx in
     let dy : FitsSigned w64 c.args.dy = c.ranges.dy in
     let edges : c.in_ok-edges.edges.items ≡ flat_map (edges_of_grown c.args.dx c.args.dy) c.args.traps.now =
-    simp to_z-of_z at (c.in_ok-edges.ensures _ (c.new-2.ensures.list c.args.traps.now c.new.ensures.list)) in
+    simp to_z-of_z at c.in_ok-edges.ensures in
     grown_balanced c.args.dx c.args.dy c.requires.sizing.rectangle c.args.traps.now c.requires.legal c.in_ok-edges.edges.items edges c.args.window
 
 pub returns-in-Some : goal.returns-in-Some
@@ -23,6 +17,6 @@ returns-in-Some c =
     let dx : FitsSigned w64 c.args.dx = c.ranges.dx in
     let dy : FitsSigned w64 c.args.dy = c.ranges.dy in
     let edges : c.in_ok-edges.edges.items ≡ flat_map (edges_of_grown c.args.dx c.args.dy) c.args.traps.now =
-    simp to_z-of_z at (c.in_ok-edges.ensures _ (c.new-2.ensures.list c.args.traps.now c.new.ensures.list)) in
+    simp to_z-of_z at c.in_ok-edges.ensures in
     grown_has c.args.dx c.args.dy c.requires.sizing.rectangle c.args.traps.now c.requires.legal c.in_ok-edges.edges.items edges
     c.args.window c.in-Some.area.items (rw c.in-Some.is at c.in_ok-area.ensures.joined)

@@ -5,20 +5,14 @@ use Rattle.half_grid.specs.Nearness.{IsGrown}
 use Rattle.square_size.specs.EdgeLaws.{IsInSome}
 use Rattle.square_size.specs.Edges.{edges_of_grown}
 use Rattle.deck_plan.specs.Lists.{HasArea}
-use Rattle.deck_plan.proofs.Sizes.{grown_has, grown_balanced, rings_within}
+use Rattle.deck_plan.proofs.Sizes.{grown_has, grown_balanced}
 use Rattle.deck_plan.proofs.sizing.grown_at_once.Goals as goal
-
-pub new-requires-2-clause-traps : goal.new-requires-2-clause-traps
-new-requires-2-clause-traps c =
-    let dx : FitsSigned w64 c.args.dx = c.ranges.dx in
-    let dy : FitsSigned w64 c.args.dy = c.ranges.dy in
-    (c.args.traps.now, c.new.ensures.list, simp to_z-of_z (rings_within c.args.dx c.args.dy c.args.traps.now c.requires.sizing c.requires.near))
 
 edges_are : (c : goal.In_ok-edges) → c.in_ok-edges.edges.items ≡ flat_map (edges_of_grown c.args.dx c.args.dy) c.args.traps.now
 edges_are c =
     let dx : FitsSigned w64 c.args.dx = c.ranges.dx in
     let dy : FitsSigned w64 c.args.dy = c.ranges.dy in
-    simp to_z-of_z at (c.in_ok-edges.ensures _ (c.new-2.ensures.list c.args.traps.now c.new.ensures.list))
+    simp to_z-of_z at c.in_ok-edges.ensures
 
 pub unite-requires : goal.unite-requires
 unite-requires c = grown_balanced c.args.dx c.args.dy c.requires.sizing.rectangle c.args.traps.now c.requires.legal
