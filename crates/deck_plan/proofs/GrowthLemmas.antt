@@ -15,7 +15,7 @@ use Rattle.bool_ops.specs.Operations.{IsInRows, IsInResult, IsJoinedOf}
 use Rattle.deck_plan.specs.Lists.{HasArea}
 use Rattle.deck_plan.specs.Needs.{widened}
 use Rattle.deck_plan.proofs.AreaLists.{same_area, combined_has, some_decided}
-use Rattle.deck_plan.proofs.Singles.{in_one, one_in}
+use Rattle.deck_plan.proofs.Singles.{one_in}
 use Rattle.deck_plan.proofs.Sizes.{near_itself, near_rows}
 
 -- what holds of all of a list holds of all of either part of it

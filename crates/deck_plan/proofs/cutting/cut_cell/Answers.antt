@@ -1,4 +1,4 @@
-use Rattle.std.proofs.Common.{◌≡◌, ◌+◌, ◌<◌, ap, sym, subst, List, All, length, arith}
+use Rattle.std.proofs.Common.{◌+◌, ap, sym, subst, List, All, length, arith}
 use Rattle.half_grid.specs.Trapezoids.{Trapezoid}
 use Rattle.layout_model.specs.Layouts.{IsShapeOnGrid}
 use Rattle.layout_model.specs.declared.shapes.Shape.{Shape}

@@ -1,4 +1,4 @@
-use Rattle.std.proofs.Common.{◌≡◌, ◌++◌, ◌^◌, w64, FitsSigned, sym, subst, All, rules, arith}
+use Rattle.std.proofs.Common.{◌^◌, w64, FitsSigned, sym, subst, rules}
 use Rattle.std.proofs.lemmas.Int.{to_z-of_z}
 use Rattle.std.proofs.lemmas.Result.{IfOk-weaker}
 use Rattle.half_grid.specs.Nearness.{IsGrown}
