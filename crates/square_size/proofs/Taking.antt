@@ -26,15 +26,18 @@ pub same_listed : (a b c d e f g h : Option EdgeParts) → a ≡ e → b ≡ f �
 same_listed a b c d e f g h p q r s = rw (p, q, r, s) refl
 
 -- four pieces, two and two
-two_and_two : (before between after a b c d : List EdgeParts) → between ≡ before ++ (a ++ b) → after ≡ between ++ (c ++ d) → after ≡ before ++ (a ++ (b ++ (c ++ d)))
+two_and_two : (before between after a b c d : List EdgeParts) → between ≡ before ++ (a ++ b) → after ≡ between ++ (c ++ d)
+    → after ≡ before ++ (a ++ (b ++ (c ++ d)))
 two_and_two before between after a b c d first second =
     second ∙ ap (λ (es : List EdgeParts). es ++ (c ++ d)) first ∙ append_assoc before (a ++ b) (c ++ d)
     ∙ ap (λ (es : List EdgeParts). before ++ es) (append_assoc a b (c ++ d))
 
 -- what the left side puts at the end and then the right side are the edges of the ring
 pub sides_put : (dx dy : ℤ) (z : Trapezoid) (before between after : List EdgeParts)
-    → between ≡ before ++ (option_to_list (edge_between A (lower_left dx dy z) (left_bend dx dy z.y0 z.y1 z.left)) ++ option_to_list (edge_between A (left_bend dx dy z.y0 z.y1 z.left) (upper_left dx dy z)))
-    → after ≡ between ++ (option_to_list (edge_between A (upper_right dx dy z) (right_bend dx dy z.y0 z.y1 z.right)) ++ option_to_list (edge_between A (right_bend dx dy z.y0 z.y1 z.right) (lower_right dx dy z)))
+    → between ≡ before ++ (option_to_list (edge_between A (lower_left dx dy z) (left_bend dx dy z.y0 z.y1 z.left))
+    ++ option_to_list (edge_between A (left_bend dx dy z.y0 z.y1 z.left) (upper_left dx dy z)))
+    → after ≡ between ++ (option_to_list (edge_between A (upper_right dx dy z) (right_bend dx dy z.y0 z.y1 z.right))
+    ++ option_to_list (edge_between A (right_bend dx dy z.y0 z.y1 z.right) (lower_right dx dy z)))
     → after ≡ before ++ edges_of_grown dx dy z
 sides_put dx dy z before between after first second =
     two_and_two before between after (option_to_list (edge_between A (lower_left dx dy z) (left_bend dx dy z.y0 z.y1 z.left)))
