@@ -92,11 +92,12 @@ def shape(chance, lists):
 
 
 def layouts(chance):
-    """Both files: a cell of such records, which the top cell shows plain, turned and mirrored."""
+    """Both files: a cell of such records, which the top cell shows plain, turned, mirrored and enlarged."""
     lists = Lists(chance)
     pairs = [shape(chance, lists) for _ in range(chance.randrange(3, 30))]
     inner = oas_cell("INNER", b"\x14\x7B" + unsigned(1, 0, 30, 20) + signed(0, 0))
     places = b"".join(b"\x11" + bytes([0xB0 | way]) + text("C") + signed(x, y) for way, x, y in [(0, 0, 0), (2, 9000, 100), (5, -700, 9000)])
+    places += b"\x12\xB6" + text("C") + unsigned(0, 2, 0, 90) + signed(-30000, 20000)
     return [OAS_HEAD + inner + oas_cell("C", *records) + oas_cell("TOP", places) + END for records in zip(*pairs)]
 
 

@@ -100,6 +100,7 @@ check 'small layouts give what was worked out for them' bash tests/rows.sh "$pro
 check 'each cut file is refused where it is cut' tests/cuts.py "$program"
 check 'random layouts give what a plain program gives' tests/plain.py "$program" 20
 check 'cells in any order, turned and repeated, give what their boxes give' tests/walks.py "$program"
+check 'a layout in both formats gives the same files' tests/formats.py "$program" 12
 check 'records that use lists again give what whole records give' tests/again.py "$program"
 check 'hostile files are answered in time' tests/hostile/run.py "$program" quick
 check 'layouts in strips give what one run gives' bash tests/strips.sh "$program"
