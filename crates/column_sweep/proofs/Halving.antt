@@ -1,12 +1,12 @@
 -- An edge's parts below and above a Y, and on both sides of an upright line.
 use Rattle.std.proofs.Common.{FitsSigned, w64, to_z, of_z, ◌*ℤ◌, ◌≡◌, Bool, true, false, ◌&&◌, not, ℤ, pos, ◌+ℤ◌, ◌-ℤ◌}
-use Rattle.std.proofs.Common.{◌≤ℤ◌, ◌<ℤ◌, arith, refl, sym, ap, ◌∙◌, cond, List, [], ◌∷◌, ◌++◌, Option, Some, None}
+use Rattle.std.proofs.Common.{◌≤ℤ◌, ◌<ℤ◌, arith, refl, sym, ap, ◌∙◌, cond, List, [], ◌∷◌, ◌++◌, Some, None}
 use Rattle.std.proofs.lemmas.Int.{ints, clamps, by_lt_z, to_z-of_z}
 use Rattle.std.proofs.lemmas.List.Elements.{All-cons, All-nil}
 use Rattle.std.specs.List.{All}
 use Rattle.std.specs.Option.{option_to_list}
 use Rattle.std.specs.Int.{int_min, int_max}
-use Rattle.std.specs.Prelude.{int_lt, int_le, SomeIff}
+use Rattle.std.specs.Prelude.{int_lt, int_le}
 use Rattle.half_grid.specs.Lines.{x_on, first_strip}
 use Rattle.half_grid.specs.Reach.{IsWithinReach}
 use Rattle.half_grid.specs.Winding.{count_one}
@@ -16,7 +16,7 @@ use Rattle.half_grid.specs.declared.plane.Line.TheVariants.{Upright, Rising, Fal
 use Rattle.half_grid.specs.declared.border.Operand.{Operand}
 use Rattle.half_grid.proofs.ForCallers.{strip_within}
 use Rattle.column_sweep.specs.RowSums.{sum_among, AddUpAlike}
-use Rattle.column_sweep.specs.Parts.{LiesLeft, LiesRight, part_over, part_below, part_above, rests, AddUp}
+use Rattle.column_sweep.specs.Parts.{LiesLeft, LiesRight, part_over, part_below, part_above, rests, turned, AddUp}
 use Rattle.column_sweep.proofs.Adding.{sum_nil, sum_one, sum_cons, sum_append, sum_none}
 
 pub between : (a b y : ℤ) → IsWithinReach a → IsWithinReach b → a ≤ℤ y → y ≤ℤ b → IsWithinReach y
@@ -30,10 +30,10 @@ line_between (Falling c) y0 y1 y a b l h = record { low = omega (arith, ints, b.
 pub strip_of_edge : (e : EdgeParts) → IsEdge e → IsWithinReach (first_strip e.line)
 strip_of_edge e h = strip_within e.line e.y0 h.y0 h.lower_end
 
-abbrev over : EdgeParts → ℤ → ℤ → EdgeParts
+abbrev pub over : EdgeParts → ℤ → ℤ → EdgeParts
 over e low high = edge_parts low high e.line e.up e.operand
 
-over_is_edge : (e : EdgeParts) (low high : ℤ) → IsEdge e → e.y0 ≤ℤ low → high ≤ℤ e.y1 → low <ℤ high → IsEdge (over e low high)
+pub over_is_edge : (e : EdgeParts) (low high : ℤ) → IsEdge e → e.y0 ≤ℤ low → high ≤ℤ e.y1 → low <ℤ high → IsEdge (over e low high)
 over_is_edge e low high is from to lt =
     let low_end : low ≤ℤ e.y1 = omega (arith, ints, lt, to) in
     let high_end : e.y0 ≤ℤ high = omega (arith, ints, lt, from) in
@@ -45,13 +45,8 @@ over_is_edge e low high is from to lt =
       upper_end = line_between e.line e.y0 e.y1 high is.lower_end is.upper_end high_end to;
     }
 
-some_by : (r : Option EdgeParts) (e : EdgeParts) → SomeIff r (IsEdge e) e → IsEdge e → r ≡ Some e
-some_by None e h is = absurd (h is)
-some_by (Some x) e h is = ap Some h.1
-
-none_by : (r : Option EdgeParts) (e : EdgeParts) → SomeIff r (IsEdge e) e → (IsEdge e → ⊥) → r ≡ None
-none_by None e h not = refl
-none_by (Some x) e h not = absurd (not h.0)
+pub turned_is_edge : (e : EdgeParts) → IsEdge e → IsEdge (turned e)
+turned_is_edge e is = record { has_rows = is.has_rows; y0 = is.y0; y1 = is.y1; lower_end = is.lower_end; upper_end = is.upper_end }
 
 lt_yes : (x y : ℤ) → x <ℤ y → int_lt x y ≡ true
 lt_yes x y h = grind (arith, ints)
@@ -59,13 +54,11 @@ lt_yes x y h = grind (arith, ints)
 lt_no : (x y : ℤ) → y ≤ℤ x → int_lt x y ≡ false
 lt_no x y h = grind (arith, ints)
 
--- what is made of these rows is the part
-pub part_is : (e : EdgeParts) (low high : ℤ) (r : Option EdgeParts) → IsEdge e → e.y0 ≤ℤ low → high ≤ℤ e.y1
-    → SomeIff r (IsEdge (over e low high)) (over e low high) → r ≡ part_over e low high
-part_is e low high r is from to h =
-    by_lt_z low high
-    (λ lt. some_by r (over e low high) h (over_is_edge e low high is from to lt) ∙ (rw (lt_yes low high lt) refl))
-    (λ ge. none_by r (over e low high) h (λ k. (let rows = k.has_rows in omega (arith, ints, rows, ge))) ∙ (rw (lt_no low high ge) refl))
+pub part_some : (e : EdgeParts) (low high : ℤ) → low <ℤ high → Some (over e low high) ≡ part_over e low high
+part_some e low high lt = rw (lt_yes low high lt) refl
+
+pub part_none : (e : EdgeParts) (low high : ℤ) → high ≤ℤ low → None ≡ part_over e low high
+part_none e low high le = rw (lt_no low high le) refl
 
 -- ---- what the parts add up to
 

@@ -1,14 +1,14 @@
 -- The levels at which sums over rows change, and upright edges made of them.
-use Rattle.std.proofs.Common.{◌≡◌, ℕ, ◌+◌, Bool, true, false, ◌&&◌, not, ℤ, pos, ◌+ℤ◌, ◌-ℤ◌, ◌≤ℤ◌, ◌<ℤ◌, arith, refl}
-use Rattle.std.proofs.Common.{sym, ap, ◌∙◌, subst, cond, List, [], ◌∷◌, ◌++◌, Option, Some, None, length}
-use Rattle.std.proofs.lemmas.Int.{ints, by_lt_z}
+use Rattle.std.proofs.Common.{◌≡◌, ℕ, ◌+◌, Bool, true, false, ◌&&◌, not, ℤ, pos, ◌+ℤ◌, ◌-ℤ◌, ◌<ℤ◌, arith, refl}
+use Rattle.std.proofs.Common.{sym, ap, ◌∙◌, subst, cond, List, [], ◌∷◌, ◌++◌, Some, None, length}
+use Rattle.std.proofs.lemmas.Int.{ints}
 use Rattle.std.proofs.lemmas.List.{length-append}
 use Rattle.std.proofs.lemmas.List.Sums.{sum_by-append}
 use Rattle.std.proofs.lemmas.List.Sorted.{sum_by-IsPermutation, length_permutation, All-permutation}
 use Rattle.std.proofs.lemmas.List.Elements.{All-cons, All-nil, All-append, All-head, All-tail}
 use Rattle.std.specs.List.{All}
 use Rattle.std.specs.Option.{option_to_list}
-use Rattle.std.specs.Prelude.{int_lt, int_le, IsPermutation, SomeIff, if◌then◌else◌}
+use Rattle.std.specs.Prelude.{int_lt, int_le, IsPermutation, if◌then◌else◌}
 use Rattle.half_grid.specs.Reach.{IsWithinReach}
 use Rattle.half_grid.specs.Winding.{count_one}
 use Rattle.half_grid.specs.Edges.{EdgeParts, IsEdge, edge_parts, spans, is_of}
@@ -267,7 +267,7 @@ same_operand o p q b c e is h = ap (λ (r : Operand). is_of o r) (sym e) ∙ (sy
 
 -- ---- an upright edge for two steps
 
-abbrev made : ℤ → ℤ → ℤ → Bool → Operand → EdgeParts
+abbrev pub made : ℤ → ℤ → ℤ → Bool → Operand → EdgeParts
 made x low high up p = edge_parts low high (Upright x) up p
 
 sum_of_made : (o : Operand) (j : ℤ) (x low high : ℤ) (up : Bool) (p : Operand) → low <ℤ high → row_sum o j (made x low high up p ∷ [])
@@ -296,39 +296,19 @@ none_made : (j : ℤ) (r f : Level) (b : Bool) → r.y ≡ f.y → pos 0 ≡ con
 none_made j r f true same = sym (same_one j r f same)
 none_made j r f false same = refl
 
-made_is_edge : (x low high : ℤ) (up : Bool) (p : Operand) → IsWithinReach x → IsWithinReach low → IsWithinReach high
-    → low <ℤ high → IsEdge (made x low high up p)
-made_is_edge x low high up p hx hl hh lt = record { has_rows = lt; y0 = hl; y1 = hh; lower_end = hx; upper_end = hx }
-
 single_on : (x low high : ℤ) (up : Bool) (p : Operand) → All (λ e. e.line ≡ Upright x) (made x low high up p ∷ [])
 single_on x low high up p = All-cons (λ e. e.line ≡ Upright x) (made x low high up p) [] refl (All-nil (λ e. e.line ≡ Upright x))
 
-some_by : (s : Option EdgeParts) (e : EdgeParts) → SomeIff s (IsEdge e) e → IsEdge e → s ≡ Some e
-some_by None e h is = absurd (h is)
-some_by (Some x) e h is = ap Some h.1
+pub up_sum : (x : ℤ) (p : Operand) (r f : Level) → r.y <ℤ f.y
+    → AreSumsOf x p (λ j. height j (r ∷ []) (f ∷ [])) (option_to_list (Some (made x r.y f.y true p)))
+up_sum x p r f lt = record { same = λ o j. up_made o j x p r f (is_of o p) refl lt; on_line = single_on x r.y f.y true p }
 
-none_by : (s : Option EdgeParts) (e : EdgeParts) → SomeIff s (IsEdge e) e → (IsEdge e → ⊥) → s ≡ None
-none_by None e h not = refl
-none_by (Some x) e h not = absurd (not h.0)
+pub down_sum : (x : ℤ) (p : Operand) (r f : Level) → f.y <ℤ r.y
+    → AreSumsOf x p (λ j. height j (r ∷ []) (f ∷ [])) (option_to_list (Some (made x f.y r.y false p)))
+down_sum x p r f lt = record { same = λ o j. down_made o j x p r f (is_of o p) refl lt; on_line = single_on x f.y r.y false p }
 
-pub up_sum : (x : ℤ) (p : Operand) (r f : Level) (s : Option EdgeParts) → IsWithinReach x → IsWithinReach r.y → IsWithinReach f.y → r.y <ℤ f.y
-    → SomeIff s (IsEdge (made x r.y f.y true p)) (made x r.y f.y true p) → AreSumsOf x p (λ j. height j (r ∷ []) (f ∷ [])) (option_to_list s)
-up_sum x p r f s hx hr hf lt h =
-    let is = some_by s (made x r.y f.y true p) h (made_is_edge x r.y f.y true p hx hr hf lt) in
-    subst (λ (u : Option EdgeParts). AreSumsOf x p (λ j. height j (r ∷ []) (f ∷ [])) (option_to_list u)) (sym is)
-    (record { same = λ o j. up_made o j x p r f (is_of o p) refl lt; on_line = single_on x r.y f.y true p })
-
-pub down_sum : (x : ℤ) (p : Operand) (r f : Level) (s : Option EdgeParts) → IsWithinReach x → IsWithinReach r.y → IsWithinReach f.y → f.y ≤ℤ r.y
-    → SomeIff s (IsEdge (made x f.y r.y false p)) (made x f.y r.y false p) → AreSumsOf x p (λ j. height j (r ∷ []) (f ∷ [])) (option_to_list s)
-down_sum x p r f s hx hr hf le h =
-    by_lt_z f.y r.y
-    (λ lt. (let is = some_by s (made x f.y r.y false p) h (made_is_edge x f.y r.y false p hx hf hr lt) in
-    subst (λ (u : Option EdgeParts). AreSumsOf x p (λ j. height j (r ∷ []) (f ∷ [])) (option_to_list u)) (sym is)
-    (record { same = λ o j. down_made o j x p r f (is_of o p) refl lt; on_line = single_on x f.y r.y false p })))
-    (λ ge. (let same : r.y ≡ f.y = omega (arith, ints, le, ge) in
-    let is = none_by s (made x f.y r.y false p) h (λ k. (let rows = k.has_rows in omega (arith, ints, rows, same))) in
-    subst (λ (u : Option EdgeParts). AreSumsOf x p (λ j. height j (r ∷ []) (f ∷ [])) (option_to_list u)) (sym is)
-    (record { same = λ o j. sum_nil o j any_line ∙ none_made j r f (is_of o p) same; on_line = All-nil (λ e. e.line ≡ Upright x) })))
+pub no_sum : (x : ℤ) (p : Operand) (r f : Level) → r.y ≡ f.y → AreSumsOf x p (λ j. height j (r ∷ []) (f ∷ [])) (option_to_list None)
+no_sum x p r f same = record { same = λ o j. sum_nil o j any_line ∙ none_made j r f (is_of o p) same; on_line = All-nil (λ e. e.line ≡ Upright x) }
 
 -- ---- upright edges for steps, two by two
 

@@ -56,7 +56,10 @@ pub(crate) fn part_over(edge: &Edge, rows: Slab) -> Option<Edge>
     requires top { rows.y1 ≤ℤ edge.now.y1 }
     ensures { result ≡ part_over edge.now rows.y0 rows.y1 }
 {
-    Edge::new(rows.y0, rows.y1, edge.line(), edge.is_up(), edge.operand())
+    if rows.y1 <= rows.y0 {
+        return None;
+    }
+    Some(Edge::of(rows.y0, rows.y1, edge.line(), edge.is_up(), edge.operand()))
 }
 
 /// The edge's part below the level.
@@ -135,16 +138,13 @@ fn split(parts: &mut Parts, edges: &[Edge], cut: Cut) -> Result<(), NoMemory>
 fn turned(edge: &Edge) -> Edge
     ensures { result ≡ turned edge.now }
 {
-    match Edge::new(
+    Edge::of(
         edge.y0(),
         edge.y1(),
         edge.line(),
         !edge.is_up(),
         edge.operand(),
-    ) {
-        Some(other) => other,
-        None => unreachable!(),
-    }
+    )
 }
 
 // Puts each edge into `beyond`, and the other way into `own`.

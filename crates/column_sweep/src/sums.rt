@@ -179,21 +179,24 @@ fn sum_edge(step: Step, cut: Cut, operand: Operand) -> Option<Edge>
     ensures { AreSumsOf cut.x operand (λ j. height j (step.rise ∷ []) (step.fall ∷ [])) (option_to_list result) }
 {
     if step.rise.y < step.fall.y {
-        return Edge::new(
+        return Some(Edge::of(
             step.rise.y,
             step.fall.y,
             Line::Upright(cut.x),
             true,
             operand,
-        );
+        ));
     }
-    Edge::new(
-        step.fall.y,
-        step.rise.y,
-        Line::Upright(cut.x),
-        false,
-        operand,
-    )
+    if step.fall.y < step.rise.y {
+        return Some(Edge::of(
+            step.fall.y,
+            step.rise.y,
+            Line::Upright(cut.x),
+            false,
+            operand,
+        ));
+    }
+    None
 }
 
 /// Puts the edge at the end, where there is one.
