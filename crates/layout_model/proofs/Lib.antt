@@ -21,5 +21,5 @@ mod PairLemmas
 mod SegmentListLemmas
 pub mod MovedPaths
 mod TurnLemmas
-mod RepeatLemmas
+pub mod RepeatLemmas
 mod ShapeListLemmas

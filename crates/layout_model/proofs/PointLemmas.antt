@@ -1,6 +1,9 @@
 -- Points moved: their least box, and how many they are.
 use Rattle.std.proofs.Common.{◌≡◌, ◌<◌, ℕ, ℤ, ◌+ℤ◌, List, [], All, Any, map, length, get_or, ap, sym, subst, ◌∙◌, arith}
-use Rattle.std.specs.Prelude.{◌≢◌}
+use Rattle.std.specs.Prelude.{◌≢◌, ◌&&◌}
+use Rattle.std.specs.Bool.{Decides}
+use Rattle.std.specs.Ordering.{int_eq}
+use Rattle.std.proofs.lemmas.Bool.Decides.{Decides-int_eq, Decides-and}
 use Rattle.std.proofs.lemmas.Int.{ints}
 use Rattle.std.proofs.lemmas.List.{length-map}
 use Rattle.std.proofs.lemmas.List.Elements.{All-map, All-weaker}
@@ -77,3 +80,9 @@ top_reaches points by box least all = side_reaches (λ p. p.y) points by box.y1 
 -- a list with more than nine items has some
 pub many_some : (points : List Point) → 9 < length points → points ≢ []
 many_some points many none = absurd (let count : length points ≡ 0 = ap length none in omega (arith, many, count))
+
+-- `==` of points decides whether they are the same
+pub points_decide : (p q : Point) → Decides (int_eq p.x q.x && int_eq p.y q.y) (p ≡ q)
+points_decide p q =
+    let both = Decides-and (int_eq p.x q.x) (int_eq p.y q.y) (Decides-int_eq p.x q.x) (Decides-int_eq p.y q.y) in
+    (λ e. (let s = both.0 e in λ i. record { x = s.0 i; y = s.1 i }), λ e. both.1 (ap (λ r. r.x) e, ap (λ r. r.y) e))

@@ -291,6 +291,16 @@ impl Offsets {
         }
     }
 
+    // Whether these are the one place of others. False where there are more of them.
+    pub(crate) fn is_again(&self, other: &Offsets) -> bool
+        ensures { IsTrue result → self.now ≡ other.now }
+    {
+        match (&self.places, &other.places) {
+            (Places::One(place), Places::One(same)) => *place == *same,
+            _ => false,
+        }
+    }
+
     /// How many places there are.
     pub fn count(&self) -> u64
         ensures { result ≡ length self.now }

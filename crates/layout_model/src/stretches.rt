@@ -9,7 +9,7 @@ use crate::directions::{Direction, direction_to, is_turn, later};
 use half_grid::Point;
 
 /// The lengths of a path, in half units.
-#[derive(Clone, Copy, Debug)]
+#[derive(Clone, Copy, Debug, PartialEq)]
 pub struct Brush {
     /// Half of its width.
     pub half: i64,
@@ -75,7 +75,7 @@ pub(crate) struct Stretch {
 }
 
 /// A segment of a path, from corner to corner.
-#[derive(Clone, Copy, Debug)]
+#[derive(Clone, Copy, Debug, PartialEq)]
 pub(crate) struct Segment {
     pub from: Point,
     pub to: Point,
