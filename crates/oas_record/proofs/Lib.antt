@@ -10,6 +10,7 @@ pub mod ShapeLemmas
 pub mod NameLemmas
 pub mod PlacementLemmas
 pub mod Readers
+pub mod DecodedLemmas
 pub mod RepReaders
 pub mod FieldReaders
 pub mod SameRecords

@@ -115,7 +115,7 @@ real1 bytes at = widened _ _ (real_reader bytes at)
 pub bytes1 : (bytes : List ℕ) (at count : ℕ) → IsReader (λ (next : ℕ). HasBytes bytes at count next) (NoBytes bytes at count)
 bytes1 bytes at count = widened _ _ (bytes_reader bytes at count)
 
-delta1 : (form : DeltaForm) (bytes : List ℕ) (at : ℕ) → IsReader (λ (v : Point × ℕ). HasDelta form bytes at v.0 v.1) (NoDelta form bytes at)
+pub delta1 : (form : DeltaForm) (bytes : List ℕ) (at : ℕ) → IsReader (λ (v : Point × ℕ). HasDelta form bytes at v.0 v.1) (NoDelta form bytes at)
 delta1 AlongX bytes at = made (HasSigned bytes at) (NoNumber bytes at) (λ z. move z (pos 0)) (signed1 bytes at)
 delta1 AlongY bytes at = made (HasSigned bytes at) (NoNumber bytes at) (λ z. move (pos 0) z) (signed1 bytes at)
 delta1 TwoDelta bytes at = widened _ _ (delta2_reader bytes at)

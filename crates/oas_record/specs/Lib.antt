@@ -1,6 +1,7 @@
 -- ---- what is promised, in reading order
 pub mod Faults
 pub mod Lists
+pub mod Decoded
 pub mod Repetitions
 pub mod Values
 pub mod Rows

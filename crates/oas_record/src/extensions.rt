@@ -1,7 +1,6 @@
 //! The fields of a path from its extension byte on.
 
 ghost use Rattle.std.specs.Prelude.{◌≡◌, ◌⊎◌, ◌≤◌, length, IfOk, IfErr};
-ghost use Rattle.geo_stream.specs.Refusals.{IfFault};
 ghost use Rattle.oas_record.specs.Records.{number_or, signed_or, points_or, place_of};
 ghost use Rattle.oas_record.specs.Rows.{Bit, Both, Extension, PathPoints, Signed, HasFields, HasWhere, NoFields, NoWhere, is_set, is_written, place, with_extension};
 
@@ -11,8 +10,6 @@ use crate::lexical::byte_at;
 use crate::optional::{is_set, path_where, signed_if};
 use crate::repetition::Rep;
 use crate::segments::place_at;
-use geo_stream::Refusal;
-use std::alloc::Global;
 
 // The extension byte at `at` where bit 7 is set, and the offset after it.
 pub(crate) fn extension_where(
@@ -87,32 +84,30 @@ pub(crate) fn end_at(
 
 // The point list at `at` where bit 5 is set, and the offset after it.
 pub(crate) fn path_points_at(
-    alloc: Global,
     bytes: &[u8],
     at: usize,
     info: u8,
     _extension: Option<u8>,
-) -> Result<(Option<Deltas>, usize), Refusal<RecordBad>>
+) -> Result<(Option<Deltas<'_>>, usize), RecordBad>
     requires { at ≤ length bytes.now }
     ensures ok { IfOk result (λ r. HasWhere (is_written (Bit 5) (with_extension (number_or _extension) info)) PathPoints (with_extension (number_or _extension) info) bytes.now at (points_or r.0) r.1) }
-    ensures bad { IfFault result (λ bad. NoWhere (is_written (Bit 5) (with_extension (number_or _extension) info)) PathPoints (with_extension (number_or _extension) info) bytes.now at bad) }
+    ensures bad { IfErr result (λ bad. NoWhere (is_written (Bit 5) (with_extension (number_or _extension) info)) PathPoints (with_extension (number_or _extension) info) bytes.now at bad) }
     ensures within { IfOk result (λ r. r.1 ≤ length bytes.now) }
 {
-    path_where(alloc, bytes, at, info)
+    path_where(bytes, at, info)
 }
 
 // The x, the y and the repetition, and the offset after them.
 pub(crate) fn path_place_at(
-    alloc: Global,
     bytes: &[u8],
     at: usize,
     info: u8,
     _extension: Option<u8>,
-) -> Result<(Option<i64>, Option<i64>, Option<Rep>, usize), Refusal<RecordBad>>
+) -> Result<(Option<i64>, Option<i64>, Option<Rep<'_>>, usize), RecordBad>
     requires { at ≤ length bytes.now }
     ensures ok { IfOk result (λ r. HasFields place (with_extension (number_or _extension) info) bytes.now at (place_of r.0 r.1 r.2) r.3) }
-    ensures bad { IfFault result (λ bad. NoFields place (with_extension (number_or _extension) info) bytes.now at bad) }
+    ensures bad { IfErr result (λ bad. NoFields place (with_extension (number_or _extension) info) bytes.now at bad) }
     ensures within { IfOk result (λ r. r.3 ≤ length bytes.now) }
 {
-    place_at(alloc, bytes, at, info)
+    place_at(bytes, at, info)
 }

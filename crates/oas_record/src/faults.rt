@@ -1,8 +1,6 @@
 ghost use Rattle.std.specs.Prelude.{◌≡◌};
-ghost use Rattle.geo_stream.specs.declared.refusal.Refusal.TheVariants.{Fault};
 ghost use Rattle.oas_record.specs.Faults.{bad_of};
 
-use geo_stream::Refusal;
 use oas_lex::LexBad;
 
 /// Why no record is at an offset: what the first byte that breaks shows.
@@ -29,13 +27,5 @@ impl From<LexBad> for RecordBad {
             LexBad::Wide => RecordBad::Wide,
             LexBad::RealKind => RecordBad::Kind,
         }
-    }
-}
-
-impl From<RecordBad> for Refusal<RecordBad> {
-    ghost from_gives = { λ bad refusal. refusal ≡ Fault bad };
-
-    fn from(bad: RecordBad) -> Refusal<RecordBad> {
-        Refusal::Fault(bad)
     }
 }

@@ -1,7 +1,6 @@
 //! Fields of a record that aren't numbers, reals or strings.
 
-use geo_stream::List;
-use half_grid::Point;
+use crate::items::Moves;
 
 /// A name, by its number or by its string.
 #[derive(Clone, Copy, Debug, PartialEq, Eq)]
@@ -25,16 +24,16 @@ pub struct Interval {
 
 /// A point list as it is stored, in grid steps: each delta as a point, before any adding up.
 #[derive(Debug)]
-pub struct Deltas {
+pub struct Deltas<'f> {
     /// 0 and 1 deltas along x and y by turns, 0 horizontal first and 1 vertical first; 2 along x or y; 3 at multiples of
     /// 45 degrees; 4 any; 5 any, each added to the delta before.
     pub kind: u8,
     /// The stored deltas.
-    pub items: List<Point>,
+    pub items: Moves<'f>,
 }
 
 // Written out, so that it is proved once here, and not again in each crate that lets one go.
-impl Drop for Deltas {
+impl<'f> Drop for Deltas<'f> {
     fn drop(self) {
         let Deltas { kind: _, items: _ } = self;
     }

@@ -3,12 +3,14 @@
 #![tactic(auto)]
 
 mod delta_form;
+mod deltas;
 mod extensions;
 mod faults;
 mod fields;
 mod file_fields;
 mod file_rows;
 mod info;
+mod items;
 mod laws;
 mod lexical;
 mod lists;
@@ -32,6 +34,7 @@ mod values;
 
 pub use faults::RecordBad;
 pub use fields::{Called, Deltas, Interval};
+pub use items::{Moves, Numbers};
 pub use laws::record_laws;
 pub use plain::{PlainRectangle, plain_rectangle_at};
 pub use reading::record_at;

@@ -11,7 +11,7 @@ use crate::records::{NameKind, OasRecord};
 use crate::values::interval_at;
 
 // The rest of a name without its number, after its id: 3, 5, 7 or 9.
-pub(crate) fn name(bytes: &[u8], at: usize, kind: NameKind) -> Result<(OasRecord, usize), RecordBad>
+pub(crate) fn name(bytes: &[u8], at: usize, kind: NameKind) -> Result<(OasRecord<'_>, usize), RecordBad>
     requires { at ≤ length bytes.now }
     ensures ok { IfOk result (λ r. IsOf (name_id kind) false bytes.now at r.0 r.1) }
     ensures bad { IfErr result (λ bad. NotOf (name_id kind) false bytes.now at bad) }
@@ -31,7 +31,7 @@ pub(crate) fn numbered_name(
     bytes: &[u8],
     at: usize,
     kind: NameKind,
-) -> Result<(OasRecord, usize), RecordBad>
+) -> Result<(OasRecord<'_>, usize), RecordBad>
     requires { at ≤ length bytes.now }
     ensures ok { IfOk result (λ r. IsOf (name_id kind + 1) false bytes.now at r.0 r.1) }
     ensures bad { IfErr result (λ bad. NotOf (name_id kind + 1) false bytes.now at bad) }
@@ -52,7 +52,7 @@ pub(crate) fn layer_name(
     bytes: &[u8],
     at: usize,
     of_texts: bool,
-) -> Result<(OasRecord, usize), RecordBad>
+) -> Result<(OasRecord<'_>, usize), RecordBad>
     requires { at ≤ length bytes.now }
     ensures ok { IfOk result (λ r. IsOf (layer_name_id of_texts) false bytes.now at r.0 r.1) }
     ensures bad { IfErr result (λ bad. NotOf (layer_name_id of_texts) false bytes.now at bad) }
@@ -71,7 +71,7 @@ pub(crate) fn layer_name(
 }
 
 // The rest of a record with id 13, CELL by the number of its name, after its id.
-pub(crate) fn numbered_cell(bytes: &[u8], at: usize) -> Result<(OasRecord, usize), RecordBad>
+pub(crate) fn numbered_cell(bytes: &[u8], at: usize) -> Result<(OasRecord<'_>, usize), RecordBad>
     requires { at ≤ length bytes.now }
     ensures ok { IfOk result (λ r. IsOf 13 false bytes.now at r.0 r.1) }
     ensures bad { IfErr result (λ bad. NotOf 13 false bytes.now at bad) }
@@ -83,7 +83,7 @@ pub(crate) fn numbered_cell(bytes: &[u8], at: usize) -> Result<(OasRecord, usize
 }
 
 // The rest of a record with id 14, CELL by its name, after its id.
-pub(crate) fn cell(bytes: &[u8], at: usize) -> Result<(OasRecord, usize), RecordBad>
+pub(crate) fn cell(bytes: &[u8], at: usize) -> Result<(OasRecord<'_>, usize), RecordBad>
     requires { at ≤ length bytes.now }
     ensures ok { IfOk result (λ r. IsOf 14 false bytes.now at r.0 r.1) }
     ensures bad { IfErr result (λ bad. NotOf 14 false bytes.now at bad) }
@@ -95,7 +95,7 @@ pub(crate) fn cell(bytes: &[u8], at: usize) -> Result<(OasRecord, usize), Record
 }
 
 // The rest of a record with id 30, XNAME, after its id.
-pub(crate) fn xname(bytes: &[u8], at: usize) -> Result<(OasRecord, usize), RecordBad>
+pub(crate) fn xname(bytes: &[u8], at: usize) -> Result<(OasRecord<'_>, usize), RecordBad>
     requires { at ≤ length bytes.now }
     ensures ok { IfOk result (λ r. IsOf 30 false bytes.now at r.0 r.1) }
     ensures bad { IfErr result (λ bad. NotOf 30 false bytes.now at bad) }
@@ -112,7 +112,7 @@ pub(crate) fn xname(bytes: &[u8], at: usize) -> Result<(OasRecord, usize), Recor
 }
 
 // The rest of a record with id 31, XNAME with its number, after its id.
-pub(crate) fn numbered_xname(bytes: &[u8], at: usize) -> Result<(OasRecord, usize), RecordBad>
+pub(crate) fn numbered_xname(bytes: &[u8], at: usize) -> Result<(OasRecord<'_>, usize), RecordBad>
     requires { at ≤ length bytes.now }
     ensures ok { IfOk result (λ r. IsOf 31 false bytes.now at r.0 r.1) }
     ensures bad { IfErr result (λ bad. NotOf 31 false bytes.now at bad) }
@@ -130,7 +130,7 @@ pub(crate) fn numbered_xname(bytes: &[u8], at: usize) -> Result<(OasRecord, usiz
 }
 
 // The rest of a record with id 32, XELEMENT, after its id.
-pub(crate) fn xelement(bytes: &[u8], at: usize) -> Result<(OasRecord, usize), RecordBad>
+pub(crate) fn xelement(bytes: &[u8], at: usize) -> Result<(OasRecord<'_>, usize), RecordBad>
     requires { at ≤ length bytes.now }
     ensures ok { IfOk result (λ r. IsOf 32 false bytes.now at r.0 r.1) }
     ensures bad { IfErr result (λ bad. NotOf 32 false bytes.now at bad) }

@@ -1,7 +1,6 @@
 //! Fields that are written where their bit of the info byte is set.
 
 ghost use Rattle.std.specs.Prelude.{◌≡◌, ◌⊎◌, ◌+◌, ◌<◌, ◌≤◌, Bool, length, IfOk, IfErr};
-ghost use Rattle.geo_stream.specs.Refusals.{IfFault};
 ghost use Rattle.oas_record.specs.Records.{number_or, signed_or, real_or, called_or, points_or, rep_or};
 ghost use Rattle.oas_record.specs.Rows.{Number, Signed, OneReal, NameBy, PolygonPoints, PathPoints, Repetition, TrapezoidType, HasWhere, HasName, NoWhere, NoName, IsCalled, is_set};
 
@@ -11,9 +10,7 @@ use crate::lexical::{number_at, real_at, signed_at, text_at};
 use crate::lists::points_at;
 use crate::repetition::Rep;
 use crate::repetition_readers::repetition_at;
-use geo_stream::Refusal;
 use oas_lex::Real;
-use std::alloc::Global;
 
 /// The greatest type of a CTRAPEZOID.
 const LAST_TYPE: u64 = 25;
@@ -164,59 +161,56 @@ pub(crate) fn type_where(
 
 // The point list of a polygon at `at` where bit 5 is set, and the offset after it.
 pub(crate) fn polygon_where(
-    alloc: Global,
     bytes: &[u8],
     at: usize,
     info: u8,
-) -> Result<(Option<Deltas>, usize), Refusal<RecordBad>>
+) -> Result<(Option<Deltas<'_>>, usize), RecordBad>
     requires within { at ≤ length bytes.now }
     ensures ok { IfOk result (λ r. HasWhere (is_set 5 info) PolygonPoints info bytes.now at (points_or r.0) r.1) }
-    ensures bad { IfFault result (λ bad. NoWhere (is_set 5 info) PolygonPoints info bytes.now at bad) }
+    ensures bad { IfErr result (λ bad. NoWhere (is_set 5 info) PolygonPoints info bytes.now at bad) }
     ensures within { IfOk result (λ r. r.1 ≤ length bytes.now) }
 {
     if !is_set(info, 5) {
         return Ok((None, at));
     }
-    let (points, next) = points_at(alloc, bytes, at, true)?;
+    let (points, next) = points_at(bytes, at, true)?;
     Ok((Some(points), next))
 }
 
 // The point list of a path at `at` where bit 5 is set, and the offset after it.
 pub(crate) fn path_where(
-    alloc: Global,
     bytes: &[u8],
     at: usize,
     info: u8,
-) -> Result<(Option<Deltas>, usize), Refusal<RecordBad>>
+) -> Result<(Option<Deltas<'_>>, usize), RecordBad>
     requires within { at ≤ length bytes.now }
     ensures ok { IfOk result (λ r. HasWhere (is_set 5 info) PathPoints info bytes.now at (points_or r.0) r.1) }
-    ensures bad { IfFault result (λ bad. NoWhere (is_set 5 info) PathPoints info bytes.now at bad) }
+    ensures bad { IfErr result (λ bad. NoWhere (is_set 5 info) PathPoints info bytes.now at bad) }
     ensures within { IfOk result (λ r. r.1 ≤ length bytes.now) }
 {
     if !is_set(info, 5) {
         return Ok((None, at));
     }
-    let (points, next) = points_at(alloc, bytes, at, false)?;
+    let (points, next) = points_at(bytes, at, false)?;
     Ok((Some(points), next))
 }
 
 // The repetition at `at` where the bit is set, and the offset after it.
 pub(crate) fn repetition_where(
-    alloc: Global,
     bytes: &[u8],
     at: usize,
     info: u8,
     bit: u8,
-) -> Result<(Option<Rep>, usize), Refusal<RecordBad>>
+) -> Result<(Option<Rep<'_>>, usize), RecordBad>
     requires within { at ≤ length bytes.now }
     requires bit { bit < 8 }
     ensures ok { IfOk result (λ r. HasWhere (is_set bit info) Repetition info bytes.now at (rep_or r.0) r.1) }
-    ensures bad { IfFault result (λ bad. NoWhere (is_set bit info) Repetition info bytes.now at bad) }
+    ensures bad { IfErr result (λ bad. NoWhere (is_set bit info) Repetition info bytes.now at bad) }
     ensures within { IfOk result (λ r. r.1 ≤ length bytes.now) }
 {
     if !is_set(info, bit) {
         return Ok((None, at));
     }
-    let (repetition, next) = repetition_at(alloc, bytes, at)?;
+    let (repetition, next) = repetition_at(bytes, at)?;
     Ok((Some(repetition), next))
 }

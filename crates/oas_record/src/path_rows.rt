@@ -1,7 +1,6 @@
 //! The fields of paths.
 
 ghost use Rattle.std.specs.Prelude.{[], ◌≡◌, ◌∷◌, ◌≤◌, length, IfOk, IfErr};
-ghost use Rattle.geo_stream.specs.Refusals.{IfFault};
 ghost use Rattle.oas_record.specs.Records.{number_or, signed_or};
 ghost use Rattle.oas_record.specs.Rows.{HasFields, NoFields, with_extension};
 ghost use Rattle.oas_record.specs.Shapes.{HasOwn, end_parts, own_parts, width_parts};
@@ -11,8 +10,6 @@ use crate::extensions::{end_at, extension_where, path_points_at, start_at};
 use crate::faults::RecordBad;
 use crate::optional::number_where;
 use crate::shapes::ShapeKind;
-use geo_stream::Refusal;
-use std::alloc::Global;
 
 // The half-width and the extension byte, by bits 6 and 7, and the offset after them.
 fn width_at(
@@ -49,19 +46,18 @@ fn ends_at(
 
 // The fields of a PATH between its datatype and its place, and the offset after them.
 pub(crate) fn path_at(
-    alloc: Global,
     bytes: &[u8],
     at: usize,
     info: u8,
-) -> Result<(ShapeKind, usize), Refusal<RecordBad>>
+) -> Result<(ShapeKind<'_>, usize), RecordBad>
     requires { at ≤ length bytes.now }
     ensures ok { IfOk result (λ r. HasOwn Path info bytes.now at r.0 r.1) }
-    ensures bad { IfFault result (λ bad. NoFields (own_parts Path) info bytes.now at bad) }
+    ensures bad { IfErr result (λ bad. NoFields (own_parts Path) info bytes.now at bad) }
     ensures within { IfOk result (λ r. r.1 ≤ length bytes.now) }
 {
     let (half_width, extension, second) = width_at(bytes, at, info)?;
     let (start, end, third) = ends_at(bytes, second, info, extension)?;
-    let (points, next) = path_points_at(alloc, bytes, third, info, extension)?;
+    let (points, next) = path_points_at(bytes, third, info, extension)?;
     let kind = ShapeKind::Path {
         half_width,
         extension,

@@ -1,7 +1,6 @@
 //! The fields of placements and texts.
 
 ghost use Rattle.std.specs.Prelude.{true, false, ◌≡◌, ◌≤◌, Some, length, IfOk, IfErr};
-ghost use Rattle.geo_stream.specs.Refusals.{IfFault};
 ghost use Rattle.oas_record.specs.Parts.{IsOf, NotOf, turn_parts, turned_id};
 ghost use Rattle.oas_record.specs.Records.{placement_id, turn_fields};
 ghost use Rattle.oas_record.specs.Rows.{HasFields, NoFields};
@@ -12,8 +11,6 @@ use crate::info::info_at;
 use crate::optional::{name_where, real_where};
 use crate::records::{OasRecord, Turn};
 use crate::segments::{pair_at, place_at, placed_at};
-use geo_stream::Refusal;
-use std::alloc::Global;
 
 // The magnification and the angle, by bits 2 and 1, and the offset after them.
 fn turn_at(bytes: &[u8], at: usize, info: u8) -> Result<(Turn, usize), RecordBad>
@@ -56,20 +53,19 @@ fn turn_if(
 // The rest of a PLACEMENT, after its id: 17, or 18 with a magnification and an angle.
 #[inline(always)]
 pub(crate) fn placement(
-    alloc: Global,
     bytes: &[u8],
     at: usize,
     is_turned: bool,
-) -> Result<(OasRecord, usize), Refusal<RecordBad>>
+) -> Result<(OasRecord<'_>, usize), RecordBad>
     requires { at ≤ length bytes.now }
     ensures ok { IfOk result (λ r. IsOf (turned_id is_turned) false bytes.now at r.0 r.1) }
-    ensures bad { IfFault result (λ bad. NotOf (turned_id is_turned) false bytes.now at bad) }
+    ensures bad { IfErr result (λ bad. NotOf (turned_id is_turned) false bytes.now at bad) }
     ensures within { IfOk result (λ r. r.1 ≤ length bytes.now) }
 {
     let info = info_at(bytes, at, 256)?;
     let (cell, second) = name_where(bytes, at + 1, info, 7, 6)?;
     let (turn, third) = turn_if(bytes, second, info, is_turned)?;
-    let (x, y, repetition, next) = placed_at(alloc, bytes, third, info)?;
+    let (x, y, repetition, next) = placed_at(bytes, third, info)?;
     let record = OasRecord::Placement {
         info,
         cell,
@@ -83,19 +79,18 @@ pub(crate) fn placement(
 
 // The rest of a record with id 19, TEXT, after its id.
 pub(crate) fn text_record(
-    alloc: Global,
     bytes: &[u8],
     at: usize,
-) -> Result<(OasRecord, usize), Refusal<RecordBad>>
+) -> Result<(OasRecord<'_>, usize), RecordBad>
     requires { at ≤ length bytes.now }
     ensures ok { IfOk result (λ r. IsOf 19 false bytes.now at r.0 r.1) }
-    ensures bad { IfFault result (λ bad. NotOf 19 false bytes.now at bad) }
+    ensures bad { IfErr result (λ bad. NotOf 19 false bytes.now at bad) }
     ensures within { IfOk result (λ r. r.1 ≤ length bytes.now) }
 {
     let info = info_at(bytes, at, 128)?;
     let (text, second) = name_where(bytes, at + 1, info, 6, 5)?;
     let (textlayer, texttype, third) = pair_at(bytes, second, info)?;
-    let (x, y, repetition, next) = place_at(alloc, bytes, third, info)?;
+    let (x, y, repetition, next) = place_at(bytes, third, info)?;
     let record = OasRecord::Text {
         info,
         text,

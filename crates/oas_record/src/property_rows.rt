@@ -10,7 +10,7 @@ use crate::property_values::{count_where, values_at};
 use crate::records::OasRecord;
 
 // The rest of a record with id 28, PROPERTY, after its id.
-pub(crate) fn property(bytes: &[u8], at: usize) -> Result<(OasRecord, usize), RecordBad>
+pub(crate) fn property(bytes: &[u8], at: usize) -> Result<(OasRecord<'_>, usize), RecordBad>
     requires { at ≤ length bytes.now }
     ensures ok { IfOk result (λ r. IsOf 28 false bytes.now at r.0 r.1) }
     ensures bad { IfErr result (λ bad. NotOf 28 false bytes.now at bad) }

@@ -29,9 +29,9 @@ pub struct Turn {
 
 /// A record with its written and its absent fields. Numbers and moves are in grid steps. Strings, table offsets,
 /// validation bytes and the values of a property are the two offsets between which their bytes are. An absent field is
-/// None: its bit of the info byte is clear.
+/// None: its bit of the info byte is clear. The items of lists stay in the file too.
 #[derive(Debug)]
-pub enum OasRecord {
+pub enum OasRecord<'f> {
     /// Id 0, PAD.
     Pad,
     /// Id 1, START. The table offsets are here where the offset flag is 0.
@@ -75,7 +75,7 @@ pub enum OasRecord {
         turn: Option<Turn>,
         x: Option<i64>,
         y: Option<i64>,
-        repetition: Option<Rep>,
+        repetition: Option<Rep<'f>>,
     },
     /// Id 19, TEXT.
     Text {
@@ -85,12 +85,12 @@ pub enum OasRecord {
         texttype: Option<u64>,
         x: Option<i64>,
         y: Option<i64>,
-        repetition: Option<Rep>,
+        repetition: Option<Rep<'f>>,
     },
     /// Ids 20 to 27 and 33: a shape.
     Shape {
-        head: ShapeHead,
-        kind: ShapeKind,
+        head: ShapeHead<'f>,
+        kind: ShapeKind<'f>,
     },
     /// Id 28, PROPERTY.
     Property {
@@ -115,7 +115,7 @@ pub enum OasRecord {
 }
 
 // Written out, so that it is proved once here, and not again in each crate that lets one go. A row a variant.
-impl Drop for OasRecord {
+impl<'f> Drop for OasRecord<'f> {
     fn drop(self) {
         #[rattlefmt::skip]
         match self {

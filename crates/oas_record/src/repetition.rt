@@ -1,12 +1,12 @@
 //! Repetitions.
 
-use geo_stream::List;
+use crate::items::{Moves, Numbers};
 use half_grid::Point;
 
 /// How a shape or a placement is repeated, in grid steps, one variant a kind. Dimensions are the numbers of copies, at
-/// least 2, and each is stored less 2.
+/// least 2, and each is stored less 2. Spaces and moves stay in the file.
 #[derive(Debug)]
-pub enum Rep {
+pub enum Rep<'f> {
     /// Kind 0: as the last repetition.
     Same,
     /// Kind 1: at `(a * x_space, b * y_space)`.
@@ -29,24 +29,24 @@ pub enum Rep {
     /// Kind 4: a row, the distances between copies one by one.
     RowSpaces {
         dim: u64,
-        spaces: List<u64>,
+        spaces: Numbers<'f>,
     },
     /// Kind 5: a row, each distance to be multiplied by the grid.
     RowOnGrid {
         dim: u64,
         grid: u64,
-        spaces: List<u64>,
+        spaces: Numbers<'f>,
     },
     /// Kind 6: a column, the distances between copies one by one.
     ColumnSpaces {
         dim: u64,
-        spaces: List<u64>,
+        spaces: Numbers<'f>,
     },
     /// Kind 7: a column, each distance to be multiplied by the grid.
     ColumnOnGrid {
         dim: u64,
         grid: u64,
-        spaces: List<u64>,
+        spaces: Numbers<'f>,
     },
     /// Kind 8: at `a * u + b * v`.
     Lattice {
@@ -63,18 +63,18 @@ pub enum Rep {
     /// Kind 10: the moves from copy to copy one by one.
     Moves {
         dim: u64,
-        moves: List<Point>,
+        moves: Moves<'f>,
     },
     /// Kind 11: each move to be multiplied by the grid.
     MovesOnGrid {
         dim: u64,
         grid: u64,
-        moves: List<Point>,
+        moves: Moves<'f>,
     },
 }
 
 // Written out, so that it is proved once here, and not again in each crate that lets one go.
-impl Drop for Rep {
+impl<'f> Drop for Rep<'f> {
     fn drop(self) {
         match self {
             Rep::Same => (),

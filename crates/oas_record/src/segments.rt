@@ -1,15 +1,12 @@
 //! The fields with which the records of shapes and placements begin and end.
 
 ghost use Rattle.std.specs.Prelude.{◌≡◌, ◌⊎◌, ◌≤◌, [], ◌∷◌, length, IfOk, IfErr};
-ghost use Rattle.geo_stream.specs.Refusals.{IfFault};
 ghost use Rattle.oas_record.specs.Records.{number_or, place_of};
 ghost use Rattle.oas_record.specs.Rows.{pair, box, place, placed, HasFields, NoFields};
 
 use crate::faults::RecordBad;
 use crate::optional::{number_where, repetition_where, signed_where};
 use crate::repetition::Rep;
-use geo_stream::Refusal;
-use std::alloc::Global;
 
 // The layer and the datatype, by bits 0 and 1, and the offset after them.
 #[inline(always)]
@@ -47,36 +44,34 @@ pub(crate) fn box_at(
 
 // The x, the y and the repetition of a shape or a text, by bits 4, 3 and 2, and the offset after them.
 pub(crate) fn place_at(
-    alloc: Global,
     bytes: &[u8],
     at: usize,
     info: u8,
-) -> Result<(Option<i64>, Option<i64>, Option<Rep>, usize), Refusal<RecordBad>>
+) -> Result<(Option<i64>, Option<i64>, Option<Rep<'_>>, usize), RecordBad>
     requires { at ≤ length bytes.now }
     ensures ok { IfOk result (λ r. HasFields place info bytes.now at (place_of r.0 r.1 r.2) r.3) }
-    ensures bad { IfFault result (λ bad. NoFields place info bytes.now at bad) }
+    ensures bad { IfErr result (λ bad. NoFields place info bytes.now at bad) }
     ensures within { IfOk result (λ r. r.3 ≤ length bytes.now) }
 {
     let (x, second) = signed_where(bytes, at, info, 4)?;
     let (y, third) = signed_where(bytes, second, info, 3)?;
-    let (repetition, next) = repetition_where(alloc, bytes, third, info, 2)?;
+    let (repetition, next) = repetition_where(bytes, third, info, 2)?;
     Ok((x, y, repetition, next))
 }
 
 // The x, the y and the repetition of a placement, by bits 5, 4 and 3, and the offset after them.
 pub(crate) fn placed_at(
-    alloc: Global,
     bytes: &[u8],
     at: usize,
     info: u8,
-) -> Result<(Option<i64>, Option<i64>, Option<Rep>, usize), Refusal<RecordBad>>
+) -> Result<(Option<i64>, Option<i64>, Option<Rep<'_>>, usize), RecordBad>
     requires { at ≤ length bytes.now }
     ensures ok { IfOk result (λ r. HasFields placed info bytes.now at (place_of r.0 r.1 r.2) r.3) }
-    ensures bad { IfFault result (λ bad. NoFields placed info bytes.now at bad) }
+    ensures bad { IfErr result (λ bad. NoFields placed info bytes.now at bad) }
     ensures within { IfOk result (λ r. r.3 ≤ length bytes.now) }
 {
     let (x, second) = signed_where(bytes, at, info, 5)?;
     let (y, third) = signed_where(bytes, second, info, 4)?;
-    let (repetition, next) = repetition_where(alloc, bytes, third, info, 3)?;
+    let (repetition, next) = repetition_where(bytes, third, info, 3)?;
     Ok((x, y, repetition, next))
 }

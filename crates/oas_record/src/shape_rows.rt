@@ -1,7 +1,6 @@
 //! The fields of shapes.
 
 ghost use Rattle.std.specs.Prelude.{false, ◌≡◌, ◌<◌, ◌≤◌, IsTrue, length, slice_index, IfOk, IfErr};
-ghost use Rattle.geo_stream.specs.Refusals.{IfFault};
 ghost use Rattle.oas_record.specs.Parts.{IsOf, NotOf, NoInfoByte};
 ghost use Rattle.oas_record.specs.Rows.{allows, NoFields};
 ghost use Rattle.oas_record.specs.Shapes.{HasOwn, form_id, info_of_form, own_parts};
@@ -16,8 +15,6 @@ use crate::records::OasRecord;
 use crate::segments::{box_at, pair_at, place_at};
 use crate::shape_form::ShapeForm;
 use crate::shapes::{ShapeHead, ShapeKind, TrapezoidDeltas};
-use geo_stream::Refusal;
-use std::alloc::Global;
 
 // The info byte of a shape of this form at `at`.
 #[inline(always)]
@@ -41,7 +38,7 @@ fn shape_info_at(bytes: &[u8], at: usize, form: ShapeForm) -> Result<u8, RecordB
 }
 
 // The fields of a TRAPEZOID with both deltas between its datatype and its place, and the offset after them.
-fn trapezoid(bytes: &[u8], at: usize, info: u8) -> Result<(ShapeKind, usize), RecordBad>
+fn trapezoid(bytes: &[u8], at: usize, info: u8) -> Result<(ShapeKind<'_>, usize), RecordBad>
     requires { at ≤ length bytes.now }
     ensures ok { IfOk result (λ r. HasOwn Trapezoid info bytes.now at r.0 r.1) }
     ensures bad { IfErr result (λ bad. NoFields (own_parts Trapezoid) info bytes.now at bad) }
@@ -59,7 +56,7 @@ fn trapezoid(bytes: &[u8], at: usize, info: u8) -> Result<(ShapeKind, usize), Re
 }
 
 // The same of a TRAPEZOID with delta a alone.
-fn trapezoid_a(bytes: &[u8], at: usize, info: u8) -> Result<(ShapeKind, usize), RecordBad>
+fn trapezoid_a(bytes: &[u8], at: usize, info: u8) -> Result<(ShapeKind<'_>, usize), RecordBad>
     requires { at ≤ length bytes.now }
     ensures ok { IfOk result (λ r. HasOwn TrapezoidA info bytes.now at r.0 r.1) }
     ensures bad { IfErr result (λ bad. NoFields (own_parts TrapezoidA) info bytes.now at bad) }
@@ -76,7 +73,7 @@ fn trapezoid_a(bytes: &[u8], at: usize, info: u8) -> Result<(ShapeKind, usize), 
 }
 
 // The same of a TRAPEZOID with delta b alone.
-fn trapezoid_b(bytes: &[u8], at: usize, info: u8) -> Result<(ShapeKind, usize), RecordBad>
+fn trapezoid_b(bytes: &[u8], at: usize, info: u8) -> Result<(ShapeKind<'_>, usize), RecordBad>
     requires { at ≤ length bytes.now }
     ensures ok { IfOk result (λ r. HasOwn TrapezoidB info bytes.now at r.0 r.1) }
     ensures bad { IfErr result (λ bad. NoFields (own_parts TrapezoidB) info bytes.now at bad) }
@@ -93,7 +90,7 @@ fn trapezoid_b(bytes: &[u8], at: usize, info: u8) -> Result<(ShapeKind, usize), 
 }
 
 // The same of a CTRAPEZOID.
-fn ctrapezoid(bytes: &[u8], at: usize, info: u8) -> Result<(ShapeKind, usize), RecordBad>
+fn ctrapezoid(bytes: &[u8], at: usize, info: u8) -> Result<(ShapeKind<'_>, usize), RecordBad>
     requires { at ≤ length bytes.now }
     ensures ok { IfOk result (λ r. HasOwn Ctrapezoid info bytes.now at r.0 r.1) }
     ensures bad { IfErr result (λ bad. NoFields (own_parts Ctrapezoid) info bytes.now at bad) }
@@ -112,15 +109,14 @@ fn ctrapezoid(bytes: &[u8], at: usize, info: u8) -> Result<(ShapeKind, usize), R
 // The fields of a shape of this form between its datatype and its place, and the offset after them.
 #[inline(always)]
 fn kind_at(
-    alloc: Global,
     bytes: &[u8],
     at: usize,
     info: u8,
     form: ShapeForm,
-) -> Result<(ShapeKind, usize), Refusal<RecordBad>>
+) -> Result<(ShapeKind<'_>, usize), RecordBad>
     requires { at ≤ length bytes.now }
     ensures ok { IfOk result (λ r. HasOwn form info bytes.now at r.0 r.1) }
-    ensures bad { IfFault result (λ bad. NoFields (own_parts form) info bytes.now at bad) }
+    ensures bad { IfErr result (λ bad. NoFields (own_parts form) info bytes.now at bad) }
     ensures within { IfOk result (λ r. r.1 ≤ length bytes.now) }
 {
     match form {
@@ -129,14 +125,14 @@ fn kind_at(
             Ok((ShapeKind::Rectangle { width, height }, next))
         }
         ShapeForm::Polygon => {
-            let (points, next) = polygon_where(alloc, bytes, at, info)?;
+            let (points, next) = polygon_where(bytes, at, info)?;
             Ok((ShapeKind::Polygon { points }, next))
         }
-        ShapeForm::Path => path_at(alloc, bytes, at, info),
-        ShapeForm::Trapezoid => Ok(trapezoid(bytes, at, info)?),
-        ShapeForm::TrapezoidA => Ok(trapezoid_a(bytes, at, info)?),
-        ShapeForm::TrapezoidB => Ok(trapezoid_b(bytes, at, info)?),
-        ShapeForm::Ctrapezoid => Ok(ctrapezoid(bytes, at, info)?),
+        ShapeForm::Path => path_at(bytes, at, info),
+        ShapeForm::Trapezoid => trapezoid(bytes, at, info),
+        ShapeForm::TrapezoidA => trapezoid_a(bytes, at, info),
+        ShapeForm::TrapezoidB => trapezoid_b(bytes, at, info),
+        ShapeForm::Ctrapezoid => ctrapezoid(bytes, at, info),
         ShapeForm::Circle => {
             let (radius, next) = number_where(bytes, at, info, 5)?;
             Ok((ShapeKind::Circle { radius }, next))
@@ -147,20 +143,19 @@ fn kind_at(
 // The rest of a record with the id of this form, after its id.
 #[inline(always)]
 pub(crate) fn shape(
-    alloc: Global,
     bytes: &[u8],
     at: usize,
     form: ShapeForm,
-) -> Result<(OasRecord, usize), Refusal<RecordBad>>
+) -> Result<(OasRecord<'_>, usize), RecordBad>
     requires { at ≤ length bytes.now }
     ensures ok { IfOk result (λ r. IsOf (form_id form) false bytes.now at r.0 r.1) }
-    ensures bad { IfFault result (λ bad. NotOf (form_id form) false bytes.now at bad) }
+    ensures bad { IfErr result (λ bad. NotOf (form_id form) false bytes.now at bad) }
     ensures within { IfOk result (λ r. r.1 ≤ length bytes.now) }
 {
     let info = shape_info_at(bytes, at, form)?;
     let (layer, datatype, second) = pair_at(bytes, at + 1, info)?;
-    let (kind, third) = kind_at(alloc, bytes, second, info, form)?;
-    let (x, y, repetition, next) = place_at(alloc, bytes, third, info)?;
+    let (kind, third) = kind_at(bytes, second, info, form)?;
+    let (x, y, repetition, next) = place_at(bytes, third, info)?;
     let head = ShapeHead {
         info,
         layer,
@@ -174,20 +169,19 @@ pub(crate) fn shape(
 
 // The rest of a record with id 33, XGEOMETRY, after its id.
 pub(crate) fn xgeometry(
-    alloc: Global,
     bytes: &[u8],
     at: usize,
-) -> Result<(OasRecord, usize), Refusal<RecordBad>>
+) -> Result<(OasRecord<'_>, usize), RecordBad>
     requires { at ≤ length bytes.now }
     ensures ok { IfOk result (λ r. IsOf 33 false bytes.now at r.0 r.1) }
-    ensures bad { IfFault result (λ bad. NotOf 33 false bytes.now at bad) }
+    ensures bad { IfErr result (λ bad. NotOf 33 false bytes.now at bad) }
     ensures within { IfOk result (λ r. r.1 ≤ length bytes.now) }
 {
     let info = info_at(bytes, at, 32)?;
     let (attribute, second) = number_at(bytes, at + 1)?;
     let (layer, datatype, third) = pair_at(bytes, second, info)?;
     let text = text_at(bytes, third)?;
-    let (x, y, repetition, next) = place_at(alloc, bytes, text.1, info)?;
+    let (x, y, repetition, next) = place_at(bytes, text.1, info)?;
     let head = ShapeHead {
         info,
         layer,

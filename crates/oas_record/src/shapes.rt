@@ -5,7 +5,7 @@ use crate::repetition::Rep;
 
 /// What the records of all shapes have in common. An absent field is None: its bit of the info byte is clear.
 #[derive(Debug)]
-pub struct ShapeHead {
+pub struct ShapeHead<'f> {
     /// The info byte.
     pub info: u8,
     /// The layer.
@@ -17,11 +17,11 @@ pub struct ShapeHead {
     /// The y of its place.
     pub y: Option<i64>,
     /// How it is repeated.
-    pub repetition: Option<Rep>,
+    pub repetition: Option<Rep<'f>>,
 }
 
 // Written out, so that it is proved once here, and not again in each crate that lets one go.
-impl Drop for ShapeHead {
+impl<'f> Drop for ShapeHead<'f> {
     fn drop(self) {
         let ShapeHead {
             info: _,
@@ -47,7 +47,7 @@ pub enum TrapezoidDeltas {
 
 /// What the record of a shape has beside its head.
 #[derive(Debug)]
-pub enum ShapeKind {
+pub enum ShapeKind<'f> {
     /// Id 20, RECTANGLE.
     Rectangle {
         width: Option<u64>,
@@ -55,7 +55,7 @@ pub enum ShapeKind {
     },
     /// Id 21, POLYGON.
     Polygon {
-        points: Option<Deltas>,
+        points: Option<Deltas<'f>>,
     },
     /// Id 22, PATH. Bits 2 and 3 of the extension byte are the scheme at the start, bits 0 and 1 at the end; an
     /// extension is written where its scheme is 3.
@@ -64,7 +64,7 @@ pub enum ShapeKind {
         extension: Option<u8>,
         start: Option<i64>,
         end: Option<i64>,
-        points: Option<Deltas>,
+        points: Option<Deltas<'f>>,
     },
     /// Ids 23 to 25, TRAPEZOID.
     Trapezoid {
@@ -90,7 +90,7 @@ pub enum ShapeKind {
 }
 
 // Written out, as that of the head.
-impl Drop for ShapeKind {
+impl<'f> Drop for ShapeKind<'f> {
     fn drop(self) {
         match self {
             ShapeKind::Polygon { points: _ } => (),

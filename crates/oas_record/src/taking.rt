@@ -9,17 +9,17 @@ use crate::shapes::ShapeKind;
 
 /// The point list and the repetition of a record, moved out of it.
 #[derive(Debug, Drop)]
-pub struct Lists {
+pub struct Lists<'f> {
     /// The point list of a POLYGON.
-    pub polygon_points: Option<Deltas>,
+    pub polygon_points: Option<Deltas<'f>>,
     /// The point list of a PATH.
-    pub path_points: Option<Deltas>,
+    pub path_points: Option<Deltas<'f>>,
     /// How the record is repeated.
-    pub repetition: Option<Rep>,
+    pub repetition: Option<Rep<'f>>,
 }
 
 // The lists of a record with no point list.
-fn repeated(repetition: Option<Rep>) -> Lists
+fn repeated(repetition: Option<Rep<'_>>) -> Lists<'_>
     ensures polygon_points { result.polygon_points ≡ Nothing }
     ensures path_points { result.path_points ≡ Nothing }
     ensures repetition { result.repetition ≡ repetition }
@@ -32,7 +32,7 @@ fn repeated(repetition: Option<Rep>) -> Lists
 }
 
 // The lists of a shape, of which the repetition is taken.
-fn lists_of_shape(repetition: Option<Rep>, kind: &mut ShapeKind) -> Lists
+fn lists_of_shape<'f>(repetition: Option<Rep<'f>>, kind: &mut ShapeKind<'f>) -> Lists<'f>
     ensures polygon_points { result.polygon_points ≡ polygon_points_of kind.old }
     ensures path_points { result.path_points ≡ path_points_of kind.old }
     ensures repetition { result.repetition ≡ repetition }
@@ -52,9 +52,9 @@ fn lists_of_shape(repetition: Option<Rep>, kind: &mut ShapeKind) -> Lists
     }
 }
 
-impl OasRecord {
+impl<'f> OasRecord<'f> {
     /// The lists of the record, which has none then. Nothing is copied.
-    pub fn take_lists(&mut self) -> Lists
+    pub fn take_lists(&mut self) -> Lists<'f>
         ensures polygon_points { result.polygon_points ≡ polygon_points_in self.old }
         ensures path_points { result.path_points ≡ path_points_in self.old }
         ensures repetition { result.repetition ≡ repetition_in self.old }

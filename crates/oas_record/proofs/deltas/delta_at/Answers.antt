@@ -1,6 +1,6 @@
 use Rattle.std.proofs.Common.{refl}
 use Rattle.oas_record.proofs.Ends.{delta_g_within}
-use Rattle.oas_record.proofs.lists.delta_at.Goals as goal
+use Rattle.oas_record.proofs.deltas.delta_at.Goals as goal
 
 pub returns-in_ok-delta2-in-TwoDelta-clause-ok : goal.returns-in_ok-delta2-in-TwoDelta-clause-ok
 returns-in_ok-delta2-in-TwoDelta-clause-ok c = rw c.in-TwoDelta.is
