@@ -55,7 +55,7 @@ fn time_records(rt: &HostRuntime, alloc: Global, count: u32, is_whole: bool) -> 
         return println!(rt; "oasis records, {fields}: want of memory");
     };
     let start = Instant::now(rt)?;
-    let placed = records::placed(alloc, bytes.as_slice());
+    let placed = records::placed(bytes.as_slice());
     let nanoseconds = start.elapsed(rt)?.as_nanos();
     println!(rt;
         "oasis records, {fields}: {} bytes, {placed} rectangles, {} ms, {} MB/s",

@@ -52,7 +52,7 @@ pub(crate) fn file(alloc: Global, count: u32, is_whole: bool) -> Result<Vec<u8>,
 }
 
 // Whether the record is a rectangle that has its place.
-fn is_placed(record: &OasRecord) -> bool {
+fn is_placed(record: &OasRecord<'_>) -> bool {
     match record {
         OasRecord::Shape {
             head,
@@ -63,14 +63,14 @@ fn is_placed(record: &OasRecord) -> bool {
 }
 
 /// How many of the records are rectangles that have their place, up to the first that can't be read.
-pub(crate) fn placed(alloc: Global, bytes: &[u8]) -> usize {
+pub(crate) fn placed(bytes: &[u8]) -> usize {
     let mut at = 0;
     let mut found: usize = 0;
     for _ in 0..bytes.len() {
         if at >= bytes.len() {
             return found;
         }
-        let Ok((record, next)) = record_at(alloc, bytes, at, false) else {
+        let Ok((record, next)) = record_at(bytes, at, false) else {
             return found;
         };
         if is_placed(&record) {

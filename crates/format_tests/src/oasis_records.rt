@@ -1,33 +1,31 @@
-use geo_stream::Refusal;
 use oas_record::{PlainRectangle, RecordBad, plain_rectangle_at, record_at, record_laws};
 use std::alloc::{AllocError, Global};
 use std::process::Abort;
 use std::test::Fail;
 
-// Where the record at 0 ends, or its fault, which is None where memory ran out.
-fn end_of(alloc: Global, bytes: &[u8], tables: bool) -> Result<usize, Option<RecordBad>> {
-    match &record_at(alloc, bytes, 0, tables) {
+// Where the record at 0 ends, or its fault.
+fn end_of(bytes: &[u8], tables: bool) -> Result<usize, RecordBad> {
+    match &record_at(bytes, 0, tables) {
         Ok((_record, next)) => Ok(*next),
-        Err(Refusal::Fault(bad)) => Err(Some(*bad)),
-        Err(Refusal::NoMemory) => Err(None),
+        Err(bad) => Err(*bad),
     }
 }
 
 // The record at 0 as text, or its fault.
 fn shown(alloc: Global, bytes: &[u8]) -> Result<String, AllocError> {
-    match &record_at(alloc, bytes, 0, false) {
+    match &record_at(bytes, 0, false) {
         Ok((record, _next)) => format!(in alloc; "{record:?}"),
         Err(bad) => format!(in alloc; "{bad:?}"),
     }
 }
 
 // The bytes are one record, and cut anywhere they are too short.
-fn is_one(rt: &impl Abort, alloc: Global, bytes: &[u8]) {
-    assert_eq!(rt; end_of(alloc, bytes, false), Ok(bytes.len()));
+fn is_one(rt: &impl Abort, bytes: &[u8]) {
+    assert_eq!(rt; end_of(bytes, false), Ok(bytes.len()));
     for cut in 0..bytes.len() {
         assert_eq!(rt;
-            end_of(alloc, &bytes[..cut], false),
-            Err(Some(RecordBad::Short))
+            end_of(&bytes[..cut], false),
+            Err(RecordBad::Short)
         );
     }
 }
@@ -37,7 +35,7 @@ type Case<'a> = (&'a [u8], &'a str);
 
 fn are_records(rt: &impl Abort, alloc: Global, cases: &[Case]) -> Result<(), AllocError> {
     for (bytes, wanted) in cases {
-        is_one(rt, alloc, bytes);
+        is_one(rt, bytes);
         let text = shown(alloc, bytes)?;
         assert!(rt; text.as_str().ends_with(*wanted), "{text}");
     }
@@ -447,22 +445,22 @@ fn with_info(id: u8, info: u8) -> [u8; 20] {
 }
 
 fn are_written(rt: &impl Abort, alloc: Global, id: u8, bits: &[Bit]) -> Result<(), AllocError> {
-    let plain = end_of(alloc, &with_info(id, 0), false);
+    let plain = end_of(&with_info(id, 0), false);
     let mut info: u8 = 1;
     for (more, field) in bits {
         let bytes = with_info(id, info);
         let text = shown(alloc, &bytes)?;
         assert!(rt; text.as_str().contains(*field), "{text}");
         assert_eq!(rt;
-            end_of(alloc, &bytes, false),
+            end_of(&bytes, false),
             plain.map(|end| end.wrapping_add(*more))
         );
         info = info.wrapping_mul(2);
     }
     if info != 0 {
         assert_eq!(rt;
-            end_of(alloc, &with_info(id, info), false),
-            Err(Some(RecordBad::Shape))
+            end_of(&with_info(id, info), false),
+            Err(RecordBad::Shape)
         );
     }
     Ok(())
@@ -476,9 +474,9 @@ fn writes_a_field_by_its_bit(rt: HostRuntime) -> Result<(), Fail> {
     Ok(())
 }
 
-fn are_refused(rt: &impl Abort, alloc: Global, cases: &[&[u8]], bad: RecordBad) {
+fn are_refused(rt: &impl Abort, cases: &[&[u8]], bad: RecordBad) {
     for bytes in cases {
-        assert_eq!(rt; end_of(alloc, bytes, false), Err(Some(bad)));
+        assert_eq!(rt; end_of(bytes, false), Err(bad));
     }
 }
 
@@ -516,19 +514,18 @@ const WIDE: [&[u8]; 1] = [&[
 #[test]
 fn refuses_at_the_first_byte_that_breaks(rt: HostRuntime) {
     let alloc = rt.alloc();
-    are_refused(&rt, alloc, &MISSHAPEN, RecordBad::Shape);
-    are_refused(&rt, alloc, &UNKNOWN, RecordBad::Kind);
-    are_refused(&rt, alloc, &CUT, RecordBad::Short);
-    are_refused(&rt, alloc, &WIDE, RecordBad::Wide);
-    are_refused(&rt, alloc, &[&[0x22]], RecordBad::Packed);
+    are_refused(&rt, &MISSHAPEN, RecordBad::Shape);
+    are_refused(&rt, &UNKNOWN, RecordBad::Kind);
+    are_refused(&rt, &CUT, RecordBad::Short);
+    are_refused(&rt, &WIDE, RecordBad::Wide);
+    are_refused(&rt, &[&[0x22]], RecordBad::Packed);
     // With table offsets END is longer.
     assert_eq!(rt;
-        end_of(alloc, &[0x02, 0, 0], true),
-        Err(Some(RecordBad::Short))
+        end_of(&[0x02, 0, 0], true),
+        Err(RecordBad::Short)
     );
     assert_eq!(rt;
         end_of(
-            alloc,
             &[0x02, 0, 0, 0, 0, 0, 0, 0, 0, 0, 0, 0, 0, 0, 0],
             true
         ),

@@ -1,8 +1,8 @@
 //! Outlines, places and offsets by hand, and the rules.
-use geo_stream::{List, NoMemory};
+use geo_stream::NoMemory;
 use half_grid::Point;
 use layout_model::{Offsets, Pair, ShapeRef, Shapes};
-use oas_record::{Deltas, Rep};
+use oas_record::{Deltas, Rep, record_at};
 use oas_shapes::{
     Brush, Figure, PathList, PointList, Repetition, Undrawn, dimensions_are_allowed, draw_figure,
     draw_path, draw_polygon, offsets_of,
@@ -190,53 +190,59 @@ fn trapezoids_both_ways(rt: HostRuntime) {
     assert!(rt; are_slanted(rt.alloc(), &SLANTED));
 }
 
-fn moves(alloc: Global, ways: &[(i64, i64)]) -> Result<List<Point>, NoMemory> {
-    let mut list = List::new(alloc);
-    for (x, y) in ways {
-        list.push(Point { x: *x, y: *y })?;
+// The point list of this record.
+fn points_in(bytes: &[u8]) -> Option<Deltas<'_>> {
+    let Ok((record, _next)) = record_at(bytes, 0, false) else {
+        return None;
+    };
+    let lists = record.into_lists();
+    if lists.polygon_points.is_some() {
+        return lists.polygon_points;
     }
-    Ok(list)
+    lists.path_points
 }
 
-fn numbers(alloc: Global, numbers: &[u64]) -> Result<List<u64>, NoMemory> {
-    let mut list = List::new(alloc);
-    for number in numbers {
-        list.push(*number)?;
-    }
-    Ok(list)
+// The repetition of this record.
+fn repetition_in(bytes: &[u8]) -> Option<Rep<'_>> {
+    let Ok((record, _next)) = record_at(bytes, 0, false) else {
+        return None;
+    };
+    record.into_lists().repetition
 }
 
-// Point lists: kind, stored deltas, the outline of the polygon from (1, 2) in half units.
-const POLYGONS: [(u8, &[(i64, i64)], &[(i64, i64)]); 6] = [
+// Records of polygons with point lists of kinds 0 to 5, and the outline of each from (1, 2) in half units.
+const POLYGONS: [(&[u8], &[(i64, i64)]); 6] = [
     (
-        0,
-        &[(5, 0), (0, 3)],
+        &[0x15, 0x20, 0, 2, 10, 6],
         &[(2, 4), (12, 4), (12, 10), (2, 10), (2, 4)],
     ),
     (
-        1,
-        &[(0, 3), (5, 0)],
+        &[0x15, 0x20, 1, 2, 6, 10],
         &[(2, 4), (2, 10), (12, 10), (12, 4), (2, 4)],
     ),
     (
-        2,
-        &[(0, 3), (5, 0), (0, -3)],
+        &[0x15, 0x20, 2, 3, 13, 20, 15],
         &[(2, 4), (2, 10), (12, 10), (12, 4), (2, 4)],
     ),
-    (3, &[(4, 4), (0, -4)], &[(2, 4), (10, 12), (10, 4), (2, 4)]),
-    (4, &[(6, 0), (-3, 3)], &[(2, 4), (14, 4), (8, 10), (2, 4)]),
     (
-        5,
-        &[(0, 3), (3, -3), (-3, -3)],
+        &[0x15, 0x20, 3, 2, 36, 35],
+        &[(2, 4), (10, 12), (10, 4), (2, 4)],
+    ),
+    (
+        &[0x15, 0x20, 4, 2, 25, 0, 15, 6],
+        &[(2, 4), (14, 4), (8, 10), (2, 4)],
+    ),
+    (
+        &[0x15, 0x20, 5, 3, 1, 6, 13, 7, 15, 7],
         &[(2, 4), (2, 10), (8, 10), (8, 4), (2, 4)],
     ),
 ];
 
-fn is_polygon(alloc: Global, kind: u8, ways: &[(i64, i64)], outline: &[(i64, i64)]) -> bool {
-    let Ok(items) = moves(alloc, ways) else {
+fn is_polygon(alloc: Global, bytes: &[u8], outline: &[(i64, i64)]) -> bool {
+    let Some(written) = points_in(bytes) else {
         return false;
     };
-    let points = PointList::new(Deltas { kind, items });
+    let points = PointList::new(written);
     let mut shapes = Shapes::new(alloc);
     match draw_polygon(
         alloc,
@@ -251,9 +257,9 @@ fn is_polygon(alloc: Global, kind: u8, ways: &[(i64, i64)], outline: &[(i64, i64
     }
 }
 
-fn are_polygons(alloc: Global, rows: &[(u8, &[(i64, i64)], &[(i64, i64)])]) -> bool {
-    for (kind, ways, outline) in rows {
-        if !is_polygon(alloc, *kind, ways, outline) {
+fn are_polygons(alloc: Global, rows: &[(&[u8], &[(i64, i64)])]) -> bool {
+    for (bytes, outline) in rows {
+        if !is_polygon(alloc, bytes, outline) {
             return false;
         }
     }
@@ -265,18 +271,25 @@ fn polygons_of_each_kind(rt: HostRuntime) {
     assert!(rt; are_polygons(rt.alloc(), &POLYGONS));
 }
 
-// The list of a tower of 5 by this height, a vertex at each step on its left side.
-fn tower(alloc: Global, height: u16) -> Result<PointList, NoMemory> {
-    let mut items = List::new(alloc);
+// Puts a number below 2^21 last.
+fn put_number(bytes: &mut Vec<u8>, number: u32) -> Result<(), NoMemory> {
+    bytes.push((number % 128) as u8 | 0x80)?;
+    bytes.push((number / 128 % 128) as u8 | 0x80)?;
+    bytes.push((number / 16384 % 128) as u8)?;
+    Ok(())
+}
+
+// The record of a tower of 5 by this height, a vertex at each step on its left side.
+fn tower(alloc: Global, height: u16) -> Result<Vec<u8>, NoMemory> {
+    let mut bytes = Vec::new(alloc);
+    bytes.extend_from_slice(&[0x15, 0x20, 2])?;
+    put_number(&mut bytes, u32::from(height).wrapping_add(2))?;
     for _step in 0..height {
-        items.push(Point { x: 0, y: 1 })?;
+        bytes.push(5)?;
     }
-    items.push(Point { x: 5, y: 0 })?;
-    items.push(Point {
-        x: 0,
-        y: -i64::from(height),
-    })?;
-    Ok(PointList::new(Deltas { kind: 2, items }))
+    bytes.push(20)?;
+    put_number(&mut bytes, u32::from(height).wrapping_mul(4) | 3)?;
+    Ok(bytes)
 }
 
 // The outline of the tower from this place in half units.
@@ -310,7 +323,11 @@ fn is_tower(
 
 // The outlines of a tower whose list was made at one place and is used at this and at another.
 fn are_towers(alloc: Global, height: u16) -> Result<bool, NoMemory> {
-    let mut points = tower(alloc, height)?;
+    let bytes = tower(alloc, height)?;
+    let Some(written) = points_in(bytes.as_slice()) else {
+        return Ok(false);
+    };
+    let mut points = PointList::new(written);
     let (here, there) = (Point { x: 1, y: 2 }, Point { x: -30, y: 7 });
     points.make_outline(alloc, here);
     let mut shapes = Shapes::new(alloc);
@@ -335,62 +352,32 @@ fn lists_that_polygons_use_again(rt: HostRuntime) -> Result<(), Fail> {
     Ok(())
 }
 
-// The repetition of this kind: two dimensions, two spaces, a grid, spaces and moves.
-fn repetition(alloc: Global, kind: u8) -> Result<Rep, NoMemory> {
-    let spaces = numbers(alloc, &[5, 7])?;
-    let moves = moves(alloc, &[(5, -1), (0, 3)])?;
-    let (u, v) = (Point { x: 5, y: 1 }, Point { x: 0, y: -4 });
-    Ok(match kind {
-        0 => Rep::Same,
-        1 => Rep::Grid {
-            x_dim: 3,
-            y_dim: 2,
-            x_space: 5,
-            y_space: 7,
-        },
-        2 => Rep::Row { dim: 3, space: 5 },
-        3 => Rep::Column { dim: 3, space: 5 },
-        4 => Rep::RowSpaces { dim: 3, spaces },
-        5 => Rep::RowOnGrid {
-            dim: 3,
-            grid: 10,
-            spaces,
-        },
-        6 => Rep::ColumnSpaces { dim: 3, spaces },
-        7 => Rep::ColumnOnGrid {
-            dim: 3,
-            grid: 10,
-            spaces,
-        },
-        8 => Rep::Lattice {
-            n_dim: 2,
-            m_dim: 2,
-            u,
-            v,
-        },
-        9 => Rep::Line { dim: 3, u },
-        10 => Rep::Moves { dim: 3, moves },
-        _ => Rep::MovesOnGrid {
-            dim: 3,
-            grid: 10,
-            moves,
-        },
-    })
-}
-
-const REPEATED: [(u8, &[(i64, i64)]); 12] = [
-    (0, &[(0, 0)]),
-    (1, &[(0, 0), (10, 0), (20, 0), (0, 14), (10, 14), (20, 14)]),
-    (2, &[(0, 0), (10, 0), (20, 0)]),
-    (3, &[(0, 0), (0, 10), (0, 20)]),
-    (4, &[(0, 0), (10, 0), (24, 0)]),
-    (5, &[(0, 0), (100, 0), (240, 0)]),
-    (6, &[(0, 0), (0, 10), (0, 24)]),
-    (7, &[(0, 0), (0, 100), (0, 240)]),
-    (8, &[(0, 0), (10, 2), (0, -8), (10, -6)]),
-    (9, &[(0, 0), (10, 2), (20, 4)]),
-    (10, &[(0, 0), (10, -2), (10, 4)]),
-    (11, &[(0, 0), (100, -20), (100, 40)]),
+// Texts with repetitions of kinds 0 to 11, and the offsets of each in half units.
+const REPEATED: [(&[u8], &[(i64, i64)]); 12] = [
+    (&[0x13, 4, 0], &[(0, 0)]),
+    (
+        &[0x13, 4, 1, 1, 0, 5, 7],
+        &[(0, 0), (10, 0), (20, 0), (0, 14), (10, 14), (20, 14)],
+    ),
+    (&[0x13, 4, 2, 1, 5], &[(0, 0), (10, 0), (20, 0)]),
+    (&[0x13, 4, 3, 1, 5], &[(0, 0), (0, 10), (0, 20)]),
+    (&[0x13, 4, 4, 1, 5, 7], &[(0, 0), (10, 0), (24, 0)]),
+    (&[0x13, 4, 5, 1, 10, 5, 7], &[(0, 0), (100, 0), (240, 0)]),
+    (&[0x13, 4, 6, 1, 5, 7], &[(0, 0), (0, 10), (0, 24)]),
+    (&[0x13, 4, 7, 1, 10, 5, 7], &[(0, 0), (0, 100), (0, 240)]),
+    (
+        &[0x13, 4, 8, 0, 0, 21, 2, 1, 9],
+        &[(0, 0), (10, 2), (0, -8), (10, -6)],
+    ),
+    (&[0x13, 4, 9, 1, 21, 2], &[(0, 0), (10, 2), (20, 4)]),
+    (
+        &[0x13, 4, 10, 1, 21, 3, 1, 6],
+        &[(0, 0), (10, -2), (10, 4)],
+    ),
+    (
+        &[0x13, 4, 11, 1, 10, 21, 3, 1, 6],
+        &[(0, 0), (100, -20), (100, 40)],
+    ),
 ];
 
 fn are_offsets(offsets: &Offsets, wanted: &[(i64, i64)]) -> bool {
@@ -406,8 +393,8 @@ fn are_offsets(offsets: &Offsets, wanted: &[(i64, i64)]) -> bool {
     true
 }
 
-fn is_repeated(alloc: Global, kind: u8, wanted: &[(i64, i64)]) -> bool {
-    let Ok(written) = repetition(alloc, kind) else {
+fn is_repeated(alloc: Global, bytes: &[u8], wanted: &[(i64, i64)]) -> bool {
+    let Some(written) = repetition_in(bytes) else {
         return false;
     };
     let is_allowed = dimensions_are_allowed(&written);
@@ -422,9 +409,9 @@ fn is_repeated(alloc: Global, kind: u8, wanted: &[(i64, i64)]) -> bool {
     }
 }
 
-fn are_repeated(alloc: Global, rows: &[(u8, &[(i64, i64)])]) -> bool {
-    for (kind, wanted) in rows {
-        if !is_repeated(alloc, *kind, wanted) {
+fn are_repeated(alloc: Global, rows: &[(&[u8], &[(i64, i64)])]) -> bool {
+    for (bytes, wanted) in rows {
+        if !is_repeated(alloc, bytes, wanted) {
             return false;
         }
     }
@@ -444,7 +431,7 @@ fn rule_of(drawn: Result<(), Undrawn>) -> u8 {
     }
 }
 
-fn rule_of_figure(alloc: Global, figure: Figure, repetition: Option<&Repetition>) -> u8 {
+fn rule_of_figure(alloc: Global, figure: Figure, repetition: Option<&Repetition<'_>>) -> u8 {
     let mut shapes = Shapes::new(alloc);
     rule_of(draw_figure(alloc, PAIR, ORIGIN, figure, repetition, &mut shapes))
 }
@@ -477,14 +464,21 @@ fn figures_by_their_lowest_rule(rt: HostRuntime) {
     assert_eq!(rt; rule_of_figure(alloc, square(1), Some(&many)), 11);
 }
 
-fn rule_of_path(alloc: Global, brush: Brush, ways: &[(i64, i64)]) -> u8 {
-    let Ok(items) = moves(alloc, ways) else {
+fn rule_of_path(alloc: Global, brush: Brush, bytes: &[u8]) -> u8 {
+    let Some(written) = points_in(bytes) else {
         return 255;
     };
-    let points = PathList::new(Deltas { kind: 4, items });
+    let points = PathList::new(written);
     let mut shapes = Shapes::new(alloc);
     rule_of(draw_path(alloc, PAIR, ORIGIN, brush, &points, None, &mut shapes))
 }
+
+// Paths that go along x and along y, at 45 degrees, and 2^41 to the right.
+const BENT: &[u8] = &[0x16, 0x20, 4, 2, 21, 0, 1, 10];
+const SLANTED: &[u8] = &[0x16, 0x20, 4, 1, 21, 10];
+const FAR: &[u8] = &[
+    0x16, 0x20, 4, 1, 0x81, 0x80, 0x80, 0x80, 0x80, 0x80, 2, 0,
+];
 
 #[test]
 fn paths_by_their_lowest_rule(rt: HostRuntime) {
@@ -494,34 +488,22 @@ fn paths_by_their_lowest_rule(rt: HostRuntime) {
         start: 0,
         end,
     };
-    assert_eq!(rt; rule_of_path(alloc, brush(2, 0), &[(5, 0), (0, 5)]), 0);
-    assert_eq!(rt; rule_of_path(alloc, brush(2, 0), &[(5, 5)]), 8);
-    assert_eq!(rt; rule_of_path(alloc, brush(0, 0), &[(5, 5)]), 0);
-    assert_eq!(rt; rule_of_path(alloc, brush(0, 1 << 41), &[(5, 5)]), 1);
-    assert_eq!(rt; rule_of_path(alloc, brush(0, 0), &[(1 << 41, 0)]), 1);
+    assert_eq!(rt; rule_of_path(alloc, brush(2, 0), BENT), 0);
+    assert_eq!(rt; rule_of_path(alloc, brush(2, 0), SLANTED), 8);
+    assert_eq!(rt; rule_of_path(alloc, brush(0, 0), SLANTED), 0);
+    assert_eq!(rt; rule_of_path(alloc, brush(0, 1 << 41), SLANTED), 1);
+    assert_eq!(rt; rule_of_path(alloc, brush(0, 0), FAR), 1);
 }
 
-const STAIRS: [(i64, i64); 10] = [
-    (10, 0),
-    (0, 10),
-    (10, 0),
-    (0, 10),
-    (10, 0),
-    (0, 10),
-    (10, 0),
-    (0, 10),
-    (10, 0),
-    (0, 10),
+const STAIRS: &[u8] = &[
+    0x16, 0x20, 2, 10, 40, 41, 40, 41, 40, 41, 40, 41, 40, 41,
 ];
 
 // Stairs that are made once and drawn with three widths, of which one is 0, at another position.
 #[test]
 fn a_path_used_again(rt: HostRuntime) -> Result<(), Fail> {
     let alloc = rt.alloc();
-    let mut points = PathList::new(Deltas {
-        kind: 2,
-        items: moves(alloc, &STAIRS)?,
-    });
+    let mut points = PathList::new(points_in(STAIRS).expect(&rt, "a list"));
     points.make_segments(alloc, ORIGIN);
     let mut shapes = Shapes::new(alloc);
     for (half_width, start) in [(1u64, 0i128), (0, 5), (3, 2)] {
@@ -544,8 +526,8 @@ fn a_path_used_again(rt: HostRuntime) -> Result<(), Fail> {
 
 #[test]
 fn a_path_with_its_ends(rt: HostRuntime) {
-    let items = moves(rt.alloc(), &[(10, 0)]).expect(&rt, "a list");
-    let points = PathList::new(Deltas { kind: 2, items });
+    let written = points_in(&[0x16, 0x20, 2, 1, 40]).expect(&rt, "a list");
+    let points = PathList::new(written);
     let brush = Brush {
         half_width: 2,
         start: 1,

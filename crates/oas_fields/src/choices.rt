@@ -89,8 +89,8 @@ pub(crate) fn length_of(half_width: Option<u64>, written: Option<Extension>) -> 
 }
 
 // A written point list as one that paths may use again.
-fn path_again(written: Option<Deltas>) -> Option<PathList>
-    ensures { result ≡ written }
+fn path_again(written: Option<Deltas<'_>>) -> Option<PathList<'_>>
+    ensures { result ≡ written.entry }
 {
     match written {
         Some(points) => Some(PathList::new(points)),
@@ -99,8 +99,11 @@ fn path_again(written: Option<Deltas>) -> Option<PathList>
 }
 
 /// Keeps the point list of a path where one is written.
-pub(crate) fn keep_path_points(kept: &mut Option<PathList>, written: Option<Deltas>)
-    ensures { kept.new ≡ or_else written kept.old }
+pub(crate) fn keep_path_points<'f>(
+    kept: &mut Option<PathList<'f>>,
+    written: Option<Deltas<'f>>,
+)
+    ensures { kept.new ≡ or_else written.entry kept.old }
 {
     match &written {
         Some(_) => *kept = path_again(written),
@@ -109,8 +112,8 @@ pub(crate) fn keep_path_points(kept: &mut Option<PathList>, written: Option<Delt
 }
 
 // A written point list as one that polygons may use again.
-fn points_again(written: Option<Deltas>) -> Option<PointList>
-    ensures { result ≡ written }
+fn points_again(written: Option<Deltas<'_>>) -> Option<PointList<'_>>
+    ensures { result ≡ written.entry }
 {
     match written {
         Some(points) => Some(PointList::new(points)),
@@ -119,8 +122,11 @@ fn points_again(written: Option<Deltas>) -> Option<PointList>
 }
 
 /// Keeps the point list of a polygon where one is written.
-pub(crate) fn keep_polygon_points(kept: &mut Option<PointList>, written: Option<Deltas>)
-    ensures { kept.new ≡ or_else written kept.old }
+pub(crate) fn keep_polygon_points<'f>(
+    kept: &mut Option<PointList<'f>>,
+    written: Option<Deltas<'f>>,
+)
+    ensures { kept.new ≡ or_else written.entry kept.old }
 {
     match &written {
         Some(_) => *kept = points_again(written),
@@ -129,8 +135,8 @@ pub(crate) fn keep_polygon_points(kept: &mut Option<PointList>, written: Option<
 }
 
 // A written repetition as one that records may use again.
-fn used_again(written: Option<Rep>) -> Option<Repetition>
-    ensures { result ≡ written }
+fn used_again(written: Option<Rep<'_>>) -> Option<Repetition<'_>>
+    ensures { result ≡ written.entry }
 {
     match written {
         Some(repetition) => Some(Repetition::new(repetition)),
@@ -139,8 +145,8 @@ fn used_again(written: Option<Rep>) -> Option<Repetition>
 }
 
 /// Keeps a repetition where one is written; kind 0 is the last one again.
-pub(crate) fn keep_repetition(kept: &mut Option<Repetition>, written: Option<Rep>)
-    ensures { kept.new ≡ or_else (repetition_by written) kept.old }
+pub(crate) fn keep_repetition<'f>(kept: &mut Option<Repetition<'f>>, written: Option<Rep<'f>>)
+    ensures { kept.new ≡ or_else (repetition_by written.entry) kept.old }
 {
     match &written {
         Some(Rep::Same) => {}

@@ -18,7 +18,7 @@ use oas_shapes::{PathList, PointList, Repetition};
 /// The values that the fields of the last record have, written or not: of each modal variable the value that was
 /// written last in the same cell, None where none was, and the positions. Lengths are in grid steps.
 #[derive(Debug, Drop)]
-pub struct Fields {
+pub struct Fields<'f> {
     /// Whether positions are relative.
     pub is_relative: bool,
     /// The layer.
@@ -30,7 +30,7 @@ pub struct Fields {
     /// Their height.
     pub height: Option<u64>,
     /// The point list of a polygon.
-    pub polygon_points: Option<PointList>,
+    pub polygon_points: Option<PointList<'f>>,
     /// The half width of a path.
     pub half_width: Option<u64>,
     /// How far a path goes beyond its first point.
@@ -38,13 +38,13 @@ pub struct Fields {
     /// How far a path goes beyond its last point.
     pub end: Option<i128>,
     /// The point list of a path.
-    pub path_points: Option<PathList>,
+    pub path_points: Option<PathList<'f>>,
     /// The type of a compressed trapezoid.
     pub kind: Option<u64>,
     /// The placed cell.
     pub cell: Option<Called>,
     /// The repetition.
-    pub repetition: Option<Repetition>,
+    pub repetition: Option<Repetition<'f>>,
     /// The position of placements.
     pub placement: Place,
     /// The position of geometry.
@@ -55,9 +55,9 @@ pub struct Fields {
 
 const ORIGIN: Place = Place { x: 0, y: 0 };
 
-impl Fields {
+impl<'f> Fields<'f> {
     /// The values before the first record: there are none, and all positions are 0 and absolute.
-    pub fn new() -> Fields
+    pub fn new() -> Fields<'f>
         ensures { AreFields [] result }
     {
         Fields {
@@ -80,14 +80,13 @@ impl Fields {
         }
     }
 
-    /// Takes a record: the values are those of its own fields then. Lists are moved out of it. Positions before it are
-    /// within 2^100 of 0.
-    pub fn take(&mut self, mut current: OasRecord)
+    /// Takes a record: the values are those of its own fields then. Positions before it are within 2^100 of 0.
+    pub fn take(&mut self, current: OasRecord<'f>)
         requires near { ArePlacesWithin (2 ^ 100) self.old }
-        ensures fields { (past : List ARecord) → AreFields past self.old → AreFields (current ∷ past) self.new }
+        ensures fields { (past : List ARecord) → AreFields past self.old → AreFields (current.entry ∷ past) self.new }
     {
         let written = Written::of(&current);
-        let lists = current.take_lists();
+        let lists = current.into_lists();
         if written.begins_cell {
             *self = Fields::new();
             return;
@@ -147,8 +146,8 @@ impl Fields {
     }
 
     // Takes the lists of a record.
-    fn keep(&mut self, lists: Lists)
-        ensures { AreKept lists self.old self.new }
+    fn keep(&mut self, lists: Lists<'f>)
+        ensures { AreKept lists.entry self.old self.new }
     {
         let Lists {
             polygon_points,

@@ -18,7 +18,7 @@ fn is_near(place: Place) -> bool
     -MOST <= place.y && place.y <= MOST
 }
 
-fn are_near(fields: &Fields) -> bool
+fn are_near(fields: &Fields<'_>) -> bool
     ensures { result ≡ true → ArePlacesWithin (2 ^ 100) fields.now }
 {
     if !is_near(fields.placement) {
@@ -30,12 +30,12 @@ fn are_near(fields: &Fields) -> bool
     is_near(fields.text)
 }
 
-fn take(rt: &impl Abort, fields: &mut Fields, current: OasRecord) {
+fn take<'f>(rt: &impl Abort, fields: &mut Fields<'f>, current: OasRecord<'f>) {
     assert!(rt; are_near(fields));
     fields.take(current);
 }
 
-fn has_a_row(fields: &Fields) -> bool {
+fn has_a_row(fields: &Fields<'_>) -> bool {
     match &fields.repetition {
         Some(repetition) => matches!(repetition.written(), Rep::Row { dim: 2, .. }),
         None => false,
@@ -43,7 +43,7 @@ fn has_a_row(fields: &Fields) -> bool {
 }
 
 // A square on layer 3.
-fn square(width: Option<u64>, x: Option<i64>, repetition: Option<Rep>) -> OasRecord {
+fn square(width: Option<u64>, x: Option<i64>, repetition: Option<Rep<'_>>) -> OasRecord<'_> {
     OasRecord::Shape {
         head: ShapeHead {
             info: 0x80,

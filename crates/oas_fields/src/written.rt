@@ -66,7 +66,7 @@ fn nothing() -> Written
 }
 
 // What all shapes write.
-fn shape(head: &ShapeHead) -> Written
+fn shape(head: &ShapeHead<'_>) -> Written
     ensures { result ≡ shape head.now }
 {
     Written {
@@ -80,7 +80,7 @@ fn shape(head: &ShapeHead) -> Written
     }
 }
 
-fn shape_writes(head: &ShapeHead, kind: &ShapeKind) -> Written
+fn shape_writes(head: &ShapeHead<'_>, kind: &ShapeKind<'_>) -> Written
     ensures { result ≡ shape_writes head.now kind.now }
 {
     match kind {
@@ -123,7 +123,7 @@ fn shape_writes(head: &ShapeHead, kind: &ShapeKind) -> Written
 
 impl Written {
     /// What the record writes but for lists.
-    pub(crate) fn of(current: &OasRecord) -> Written
+    pub(crate) fn of(current: &OasRecord<'_>) -> Written
         ensures { result ≡ writes_of current.now }
     {
         match current {

@@ -102,10 +102,10 @@ stands_there bytes unit wanted sorted at reader r next s same stands =
 
 -- ---- refusals
 
-pub lexical_first : (bytes : List ℕ) (unit : ℕ) (wanted sorted : List Pair) (at : ℕ) (reader : Reader) (none : Refusal RecordBad)
+pub lexical_first : (bytes : List ℕ) (unit : ℕ) (wanted sorted : List Pair) (at : ℕ) (reader : Reader) (cause : RecordBad)
     (refusal : Refusal OasBad) → IsStanding bytes unit sorted at reader → AreSamePairs wanted sorted
-    → IsForFault (NoRecord bytes at reader.tables) none → refusal ≡ lexical_refusal none at → IsForFault (IsFirstFault bytes unit wanted) refusal
-lexical_first bytes unit wanted sorted at reader (Fault cause) refusal s same stands told =
+    → NoRecord bytes at reader.tables cause → refusal ≡ lexical_refusal cause at → IsForFault (IsFirstFault bytes unit wanted) refusal
+lexical_first bytes unit wanted sorted at reader cause refusal s same stands told =
     rw told (inr (inl (record {
       past = s.past;
       at = at;
@@ -116,7 +116,6 @@ lexical_first bytes unit wanted sorted at reader (Fault cause) refusal s same st
         bad_is = refl;
       });
     })))
-lexical_first bytes unit wanted sorted at reader NoMemory refusal s same stands told = rw told tt
 
 pub refused_first : (bytes : List ℕ) (unit : ℕ) (wanted sorted : List Pair) (at : ℕ) (reader : Reader) (r : OasRecord) (next : ℕ)
     (refusal : Refusal OasBad) → (s : IsStanding bytes unit sorted at reader) → AreSamePairs wanted sorted → HasRecord bytes at reader.tables r next

@@ -1,7 +1,7 @@
 -- What the whole file gives, by what the program keeps of the records.
 use Rattle.std.specs.Prelude.{◌≡◌, ◌⊎◌, ◌≤◌, ℕ, pos, nat_eq, Bool, true, if◌then◌else◌, List, Some, None, length, take}
 use Rattle.geo_stream.specs.declared.refusal.Refusal.{Refusal}
-use Rattle.geo_stream.specs.declared.refusal.Refusal.TheVariants.{Fault, NoMemory}
+use Rattle.geo_stream.specs.declared.refusal.Refusal.TheVariants.{Fault}
 use Rattle.layout_model.specs.declared.cells.Layout.{Layout}
 use Rattle.layout_model.specs.declared.pair.Pair.{Pair}
 use Rattle.oas_lex.specs.Reals.{IsWholeReal}
@@ -44,9 +44,8 @@ tables_by _ tables = tables
 
 -- ---- bytes that are no record
 
-abbrev pub lexical_refusal : Refusal RecordBad → ℕ → Refusal OasBad
-lexical_refusal (Fault bad) at = Fault (faults.Lexical at bad)
-lexical_refusal NoMemory at = NoMemory
+abbrev pub lexical_refusal : RecordBad → ℕ → Refusal OasBad
+lexical_refusal bad at = Fault (faults.Lexical at bad)
 
 -- ---- one record
 

@@ -98,7 +98,7 @@ fn delta_b(deltas: TrapezoidDeltas) -> i64
     }
 }
 
-fn shape_body(info: u8, kind: &ShapeKind) -> Body
+fn shape_body(info: u8, kind: &ShapeKind<'_>) -> Body
     ensures { result ≡ shape_body info kind.now }
 {
     match kind {
@@ -118,7 +118,7 @@ fn shape_body(info: u8, kind: &ShapeKind) -> Body
 
 impl Body {
     /// What of the record is looked at.
-    pub(crate) fn of(current: &OasRecord) -> Body
+    pub(crate) fn of(current: &OasRecord<'_>) -> Body
         ensures { result ≡ body_of current.now }
     {
         match current {

@@ -45,7 +45,7 @@ fn or_zero(length: Option<i128>) -> i128
 
 /// The pair of the last record.
 #[inline(always)]
-pub(crate) fn pair_of(fields: &Fields) -> Pair
+pub(crate) fn pair_of(fields: &Fields<'_>) -> Pair
     ensures { result ≡ pair_in fields.now }
 {
     Pair {
@@ -55,7 +55,7 @@ pub(crate) fn pair_of(fields: &Fields) -> Pair
 }
 
 /// The lengths of the last path.
-pub(crate) fn brush_of(fields: &Fields) -> Brush
+pub(crate) fn brush_of(fields: &Fields<'_>) -> Brush
     ensures { result ≡ brush_in fields.now }
 {
     Brush {
@@ -86,7 +86,7 @@ fn trapezoid(is_upright: bool, width: u64, height: u64, a: i64, b: i64) -> Figur
 
 // The rectangle or trapezoid of a body, if it is one.
 #[inline(always)]
-fn figure_of(body: Body, fields: &Fields) -> Option<Figure>
+fn figure_of(body: Body, fields: &Fields<'_>) -> Option<Figure>
     ensures { result ≡ figure_in body fields.now }
 {
     let width = or_none(fields.width);
@@ -111,7 +111,7 @@ fn figure_of(body: Body, fields: &Fields) -> Option<Figure>
 #[inline(always)]
 fn draw_body(
     alloc: Global,
-    fields: &Fields,
+    fields: &Fields<'_>,
     outline: Outline,
     shapes: &mut Shapes,
 ) -> Result<(), Undrawn>
@@ -153,7 +153,7 @@ fn draw_body(
 #[inline(always)]
 pub(crate) fn draw(
     alloc: Global,
-    fields: &Fields,
+    fields: &Fields<'_>,
     outline: Outline,
     at: usize,
     shapes: &mut Shapes,

@@ -74,7 +74,7 @@ fn trapezoid_id(deltas: TrapezoidDeltas) -> u8
     }
 }
 
-fn shape_id(kind: &ShapeKind) -> u8
+fn shape_id(kind: &ShapeKind<'_>) -> u8
     ensures { result ≡ shape_id kind.now }
 {
     match kind {
@@ -89,7 +89,7 @@ fn shape_id(kind: &ShapeKind) -> u8
 }
 
 /// The id of the record.
-pub(crate) fn id_of(current: &OasRecord) -> u8
+pub(crate) fn id_of(current: &OasRecord<'_>) -> u8
     ensures { result ≡ id_of current.now }
 {
     match current {
@@ -111,7 +111,7 @@ pub(crate) fn id_of(current: &OasRecord) -> u8
 }
 
 /// Whether the record is END.
-pub(crate) fn is_end(current: &OasRecord) -> bool
+pub(crate) fn is_end(current: &OasRecord<'_>) -> bool
     ensures { result ≡ is_end current.now }
 {
     matches!(current, OasRecord::End { .. })

@@ -160,7 +160,10 @@ fn doubled(point: Point) -> Point
 
 /// The repetition of a record, if it has one.
 #[inline(always)]
-pub(crate) fn repetition_in(fields: &Fields, repeats: bool) -> Option<&Repetition>
+pub(crate) fn repetition_in<'r, 'f>(
+    fields: &'r Fields<'f>,
+    repeats: bool,
+) -> Option<&'r Repetition<'f>>
     ensures { option_copied result ≡ repetition_kept repeats fields.now.repetition }
 {
     if repeats {
@@ -170,7 +173,7 @@ pub(crate) fn repetition_in(fields: &Fields, repeats: bool) -> Option<&Repetitio
 }
 
 // The offsets of a placement.
-fn offsets_in(alloc: Global, repetition: Option<&Repetition>) -> Result<Offsets, Undrawn>
+fn offsets_in(alloc: Global, repetition: Option<&Repetition<'_>>) -> Result<Offsets, Undrawn>
     ensures offsets { IfOk result (λ offsets. offsets ≡ the_offsets_in (option_copied repetition.entry)) }
     ensures grid { IfOk result AreOffsets }
     ensures kept { IfOk result (λ _. (rule : ℕ) → KeepsOffsetsIn (option_copied repetition.entry) rule) }
@@ -212,7 +215,7 @@ fn is_first(undrawn: Undrawn) -> bool
 pub(crate) fn placing_of(
     alloc: Global,
     bytes: &[u8],
-    fields: &Fields,
+    fields: &Fields<'_>,
     outline: Outline,
     called: Option<Called>,
     flips: bool,

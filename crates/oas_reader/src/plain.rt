@@ -30,7 +30,7 @@ use std::alloc::Global;
 
 // The first variable that a rectangle needs and that has no value.
 #[inline(always)]
-fn first_undefined(fields: &Fields) -> Option<Variable>
+fn first_undefined(fields: &Fields<'_>) -> Option<Variable>
     ensures { result ≡ undefined_in bodies.Rectangle false fields.now }
 {
     if let Some(variable) = undefined_pair(fields) {
@@ -42,7 +42,7 @@ fn first_undefined(fields: &Fields) -> Option<Variable>
 // Looks at the values of a rectangle, its shape aside, and says whether its pair is wanted. The positions of placements
 // and texts are near.
 #[inline(always)]
-fn look_at_rectangle(sorted: &[Pair], fields: &Fields, at: usize) -> Result<bool, OasBad>
+fn look_at_rectangle(sorted: &[Pair], fields: &Fields<'_>, at: usize) -> Result<bool, OasBad>
     requires sorted { AreSorted sorted.now }
     requires placement { IsPlaceWithin (2 ^ 40) fields.now.placement }
     requires text { IsPlaceWithin (2 ^ 40) fields.now.text }
@@ -64,7 +64,7 @@ fn look_at_rectangle(sorted: &[Pair], fields: &Fields, at: usize) -> Result<bool
 #[inline(always)]
 fn draw_plain(
     alloc: Global,
-    fields: &Fields,
+    fields: &Fields<'_>,
     at: usize,
     shapes: &mut Shapes,
 ) -> Result<(), Refusal<OasBad>>
@@ -88,7 +88,7 @@ fn draw_plain(
 #[inline(always)]
 fn add_rectangle(
     alloc: Global,
-    fields: &Fields,
+    fields: &Fields<'_>,
     is_wanted: bool,
     at: usize,
     drafts: &mut Drafts,
@@ -119,7 +119,7 @@ fn add_rectangle(
 pub(crate) fn take_plain(
     alloc: Global,
     sorted: &[Pair],
-    fields: &Fields,
+    fields: &Fields<'_>,
     at: usize,
     drafts: &mut Drafts,
 ) -> Result<bool, Refusal<OasBad>>

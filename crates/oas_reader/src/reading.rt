@@ -60,14 +60,14 @@ struct Reader<'a> {
     place: Place,
     // Whether END holds the table offsets.
     tables: bool,
-    fields: Fields,
+    fields: Fields<'a>,
     names: Names<'a>,
     drafts: Drafts,
     counts: Counts,
 }
 
 // How a record is repeated, where that is written.
-fn written_repetition(current: &OasRecord) -> Option<&Rep>
+fn written_repetition<'r, 'f>(current: &'r OasRecord<'f>) -> Option<&'r Rep<'f>>
     ensures { option_copied result ≡ repetition_in current.now }
 {
     match current {
@@ -78,7 +78,7 @@ fn written_repetition(current: &OasRecord) -> Option<&Rep>
     }
 }
 
-fn outline_of(current: &OasRecord) -> Outline
+fn outline_of(current: &OasRecord<'_>) -> Outline
     ensures body { result.body ≡ body_of current.now }
     ensures repeats { result.repeats ≡ is_there (repetition_in current.now) }
     ensures dimensions { IsTrue result.has_dimensions ↔ HasDimensionsIn (repetition_in current.now) }
@@ -142,12 +142,12 @@ fn tables_after(tables: bool, body: Body) -> bool
 }
 
 // Whether the record is repeated as the last one before it that was.
-fn repeats_again(current: &OasRecord) -> bool {
+fn repeats_again(current: &OasRecord<'_>) -> bool {
     matches!(written_repetition(current), Some(Rep::Same))
 }
 
 // Makes the places of the last repetition where it is used again, so that all records after share them.
-fn make_places(alloc: Global, fields: &mut Fields, again: bool)
+fn make_places(alloc: Global, fields: &mut Fields<'_>, again: bool)
     ensures { fields.new ≡ fields.old }
 {
     if !again {
@@ -160,19 +160,19 @@ fn make_places(alloc: Global, fields: &mut Fields, again: bool)
 
 // Takes the record into the fields. The places of a repetition, the outline of a polygon's point list and the
 // rectangles of a path's that are used again are made, once.
-fn take_fields(
+fn take_fields<'f>(
     alloc: Global,
     bytes: &[u8],
     sorted: &[Pair],
-    fields: &mut Fields,
-    current: OasRecord,
+    fields: &mut Fields<'f>,
+    current: OasRecord<'f>,
 )
     requires sorted { AreSorted sorted.now }
     requires near { ArePlacesWithin (2 ^ 100) fields.old }
     requires some { HaveRecords fields.old }
     requires cell { AreCalledWithin bytes.now fields.old.cell }
     requires body { IsBodyWithin bytes.now (body_of current) }
-    ensures fields { (past : AList ARecord) → AreFields past fields.old → AreFields (current ∷ past) fields.new }
+    ensures fields { (past : AList ARecord) → AreFields past fields.old → AreFields (current.entry ∷ past) fields.new }
     ensures cell { AreCalledWithin bytes.now fields.new.cell }
 {
     let again = repeats_again(&current);
@@ -184,7 +184,7 @@ fn take_fields(
 
 // Takes a rectangle into the fields.
 #[inline(always)]
-fn take_rectangle_fields(bytes: &[u8], fields: &mut Fields, current: &PlainRectangle)
+fn take_rectangle_fields(bytes: &[u8], fields: &mut Fields<'_>, current: &PlainRectangle)
     requires near { ArePlacesWithin (2 ^ 100) fields.old }
     requires some { HaveRecords fields.old }
     requires cell { AreCalledWithin bytes.now fields.old.cell }
@@ -319,7 +319,7 @@ impl<'a> Reader<'a> {
         bytes: &'a [u8],
         unit: u32,
         sorted: &[Pair],
-        current: OasRecord,
+        current: OasRecord<'a>,
         at: usize,
         next: usize,
     ) -> Result<(), Refusal<OasBad>>
@@ -332,16 +332,16 @@ impl<'a> Reader<'a> {
         requires few { AreAtMost (2 ^ 63) self.old.counts }
         ensures reader { (wanted : AList APair) (past : AList Item) → AreSamePairs wanted sorted.now → IsReaderOf bytes.now wanted past self.old
             → HasDimensionsIn (repetition_of (records_in past))
-            → OnOk result (IsReaderOf bytes.now wanted (item at current ∷ past) self.new) }
+            → OnOk result (IsReaderOf bytes.now wanted (item at current.entry ∷ past) self.new) }
         ensures within { OnOk result (IsReaderWithin bytes.now self.new) }
         ensures order { (wanted : AList APair) (past : AList Item) → AreSamePairs wanted sorted.now → IsReaderOf bytes.now wanted past self.old
-            → OnOk result (is_in_order (records_in past) current ≡ true) }
+            → OnOk result (is_in_order (records_in past) current.entry ≡ true) }
         ensures allowed { (wanted : AList APair) (past : AList Item) → AreSamePairs wanted sorted.now → IsReaderOf bytes.now wanted past self.old
             → HasDimensionsIn (repetition_of (records_in past))
-            → OnOk result (IsAllowed bytes.now unit wanted past at current next) }
+            → OnOk result (IsAllowed bytes.now unit wanted past at current.entry next) }
         ensures refused { (wanted : AList APair) (past : AList Item) → AreSamePairs wanted sorted.now → IsReaderOf bytes.now wanted past self.old
             → HasDimensionsIn (repetition_of (records_in past))
-            → IfFault result (IsRefused bytes.now unit wanted past at current next) }
+            → IfFault result (IsRefused bytes.now unit wanted past at current.entry next) }
     {
         let Some(place) = self.place.after(id_of(&current)) else {
             return Err(Refusal::Fault(OasBad::Order(at)));
@@ -426,13 +426,10 @@ fn finish<'a>(alloc: Global, bytes: &'a [u8], reader: Reader<'a>) -> Result<Layo
 }
 
 // The refusal of bytes at this offset that are no record.
-fn lexical_bad(bad: Refusal<RecordBad>, at: usize) -> Refusal<OasBad>
+fn lexical_bad(bad: RecordBad, at: usize) -> Refusal<OasBad>
     ensures { result ≡ lexical_refusal bad at }
 {
-    match bad {
-        Refusal::Fault(bad) => Refusal::Fault(OasBad::Lexical(at, bad)),
-        Refusal::NoMemory => Refusal::NoMemory,
-    }
+    Refusal::Fault(OasBad::Lexical(at, bad))
 }
 
 // The layout of the bytes, which begin as they have to. `sorted` are the wanted pairs.
@@ -459,7 +456,7 @@ fn read_records(
             at = next;
             continue 'records;
         }
-        let (current, next) = match record_at(alloc, bytes, at, reader.tables) {
+        let (current, next) = match record_at(bytes, at, reader.tables) {
             Ok(found) => found,
             Err(bad) => return Err(lexical_bad(bad, at)),
         };

@@ -20,7 +20,7 @@ pub(crate) enum Again {
 }
 
 /// What the record is, if it is a polygon or a path with the point list of the last one.
-pub(crate) fn points_again(current: &OasRecord) -> Again {
+pub(crate) fn points_again(current: &OasRecord<'_>) -> Again {
     match current {
         OasRecord::Shape {
             kind: ShapeKind::Polygon { points: None },
@@ -35,7 +35,7 @@ pub(crate) fn points_again(current: &OasRecord) -> Again {
 }
 
 // Makes the outline of the last polygon's point list.
-fn make_outline(alloc: Global, fields: &mut Fields)
+fn make_outline(alloc: Global, fields: &mut Fields<'_>)
     requires { IsPlaceWithin (2 ^ 40) fields.old.geometry }
     ensures { fields.new ≡ fields.old }
 {
@@ -46,7 +46,7 @@ fn make_outline(alloc: Global, fields: &mut Fields)
 }
 
 // Makes the segments of the last path's point list.
-fn make_segments(alloc: Global, fields: &mut Fields)
+fn make_segments(alloc: Global, fields: &mut Fields<'_>)
     requires { IsPlaceWithin (2 ^ 40) fields.old.geometry }
     ensures { fields.new ≡ fields.old }
 {
@@ -58,7 +58,7 @@ fn make_segments(alloc: Global, fields: &mut Fields)
 
 /// Makes what the last point list means where a wanted polygon or path uses it again, so that all records after share
 /// it. A record that keeps no rule there is refused next, so a list that can't be made isn't tried over and over.
-pub(crate) fn make_points(alloc: Global, sorted: &[Pair], fields: &mut Fields, again: Again)
+pub(crate) fn make_points(alloc: Global, sorted: &[Pair], fields: &mut Fields<'_>, again: Again)
     requires { AreSorted sorted.now }
     ensures { fields.new ≡ fields.old }
 {

@@ -30,7 +30,7 @@ pub(crate) fn is_near(place: Place) -> bool
 
 /// Whether all three positions are near.
 #[inline(always)]
-pub(crate) fn positions_are_near(fields: &Fields) -> bool
+pub(crate) fn positions_are_near(fields: &Fields<'_>) -> bool
     ensures { IsTrue result ↔ ArePlacesWithin (2 ^ 40) fields.now }
 {
     if !is_near(fields.geometry) {

@@ -10,7 +10,7 @@ use oas_shapes::{uses_height, uses_width};
 
 /// The first of a pair's variables that has no value.
 #[inline(always)]
-pub(crate) fn undefined_pair(fields: &Fields) -> Option<Variable>
+pub(crate) fn undefined_pair(fields: &Fields<'_>) -> Option<Variable>
     ensures { result ≡ first_in fields.now (variables.Layer ∷ variables.Datatype ∷ []) }
 {
     if fields.layer.is_none() {
@@ -24,7 +24,7 @@ pub(crate) fn undefined_pair(fields: &Fields) -> Option<Variable>
 
 /// That of a box.
 #[inline(always)]
-pub(crate) fn undefined_box(fields: &Fields) -> Option<Variable>
+pub(crate) fn undefined_box(fields: &Fields<'_>) -> Option<Variable>
     ensures { result ≡ first_in fields.now (variables.GeometryW ∷ variables.GeometryH ∷ []) }
 {
     if fields.width.is_none() {
@@ -37,7 +37,7 @@ pub(crate) fn undefined_box(fields: &Fields) -> Option<Variable>
 }
 
 // That of a path.
-fn undefined_path(fields: &Fields) -> Option<Variable>
+fn undefined_path(fields: &Fields<'_>) -> Option<Variable>
     ensures { result ≡ first_in fields.now (variables.PathHalfWidth ∷ variables.PathStart ∷ variables.PathEnd ∷ variables.PathPoints ∷ []) }
 {
     if fields.half_width.is_none() {
@@ -56,7 +56,7 @@ fn undefined_path(fields: &Fields) -> Option<Variable>
 }
 
 // That of a compressed trapezoid: it needs the dimensions of its type.
-fn undefined_ctrapezoid(fields: &Fields) -> Option<Variable>
+fn undefined_ctrapezoid(fields: &Fields<'_>) -> Option<Variable>
     ensures { result ≡ first_in fields.now (variables.CtrapezoidType ∷ dimensions fields.now.kind) }
 {
     let Some(kind) = fields.kind else {
@@ -71,7 +71,7 @@ fn undefined_ctrapezoid(fields: &Fields) -> Option<Variable>
     None
 }
 
-fn undefined_points(fields: &Fields) -> Option<Variable>
+fn undefined_points(fields: &Fields<'_>) -> Option<Variable>
     ensures { result ≡ first_in fields.now (variables.PolygonPoints ∷ []) }
 {
     if fields.polygon_points.is_none() {
@@ -80,7 +80,7 @@ fn undefined_points(fields: &Fields) -> Option<Variable>
     None
 }
 
-fn undefined_cell(fields: &Fields) -> Option<Variable>
+fn undefined_cell(fields: &Fields<'_>) -> Option<Variable>
     ensures { result ≡ first_in fields.now (variables.PlacementCell ∷ []) }
 {
     if fields.cell.is_none() {
@@ -91,7 +91,7 @@ fn undefined_cell(fields: &Fields) -> Option<Variable>
 
 // The first variable without a value of those that the body needs after its pair.
 #[inline(always)]
-fn undefined_form(body: Body, fields: &Fields) -> Option<Variable>
+fn undefined_form(body: Body, fields: &Fields<'_>) -> Option<Variable>
     ensures { result ≡ first_in fields.now (form_needs body fields.now.kind) }
 {
     match body {
@@ -124,7 +124,7 @@ pub(crate) fn has_pair(body: Body) -> bool
 /// The first variable, in the order of the record's fields, that the record needs and that has no value. The fields
 /// have taken the record.
 #[inline(always)]
-pub(crate) fn first_undefined(body: Body, repeats: bool, fields: &Fields) -> Option<Variable>
+pub(crate) fn first_undefined(body: Body, repeats: bool, fields: &Fields<'_>) -> Option<Variable>
     ensures { result ≡ undefined_in body repeats fields.now }
 {
     if has_pair(body) {

@@ -38,7 +38,7 @@ use std::alloc::Global;
 fn look_at_values(
     bytes: &[u8],
     sorted: &[Pair],
-    fields: &Fields,
+    fields: &Fields<'_>,
     outline: Outline,
     at: usize,
 ) -> Result<Option<bool>, OasBad>
@@ -70,7 +70,7 @@ fn look_at_values(
 fn take_placing(
     alloc: Global,
     bytes: &[u8],
-    fields: &Fields,
+    fields: &Fields<'_>,
     outline: Outline,
     called: Option<Called>,
     flips: bool,
@@ -106,7 +106,7 @@ fn take_placing(
 #[inline(always)]
 fn take_shapes(
     alloc: Global,
-    fields: &Fields,
+    fields: &Fields<'_>,
     outline: Outline,
     wanted: Option<bool>,
     at: usize,
@@ -145,7 +145,7 @@ fn take_shapes(
 fn take_geometry(
     alloc: Global,
     bytes: &[u8],
-    fields: &Fields,
+    fields: &Fields<'_>,
     outline: Outline,
     wanted: Option<bool>,
     at: usize,
@@ -185,7 +185,7 @@ pub(crate) fn take_values(
     alloc: Global,
     bytes: &[u8],
     sorted: &[Pair],
-    fields: &Fields,
+    fields: &Fields<'_>,
     outline: Outline,
     at: usize,
     drafts: &mut Drafts,

@@ -1,5 +1,5 @@
 -- Items as their bytes are read are the items that stand there.
-use Rattle.std.proofs.Common.{◌≡◌, ℕ, zero, suc, ◌+◌, ◌-◌, ◌/◌, ◌%◌, ◌<◌, ◌≤◌, pos, ℤ, List, [], ◌∷◌, length, take, drop}
+use Rattle.std.proofs.Common.{◌≡◌, ℕ, zero, suc, ◌-◌, ◌/◌, ◌%◌, ◌<◌, ◌≤◌, pos, ℤ, List, [], ◌∷◌, length, take, drop}
 use Rattle.std.proofs.Common.{slice_range, inl, inr, refl, sym, ap, subst, ◌∙◌, arith}
 use Rattle.std.proofs.lemmas.Bool.{lt-ltb, le-ltb}
 use Rattle.std.proofs.lemmas.List.{length-take-le, length-drop}
@@ -124,17 +124,23 @@ deltas_by form count bytes at ps next size h = subst (λ k. deltas_from form k b
 
 pub numbers_hold : (count : ℕ) (bytes : List ℕ) (at : ℕ) → at ≤ length bytes
     → (ns : List ℕ) × (next : ℕ) × (length ns ≡ count) × HasNumbers bytes at ns next → (next : ℕ) × AreNumbers count bytes at next
-numbers_hold count bytes at within h = (h.1, record {
-  within = within;
-  stand = subst (λ ns. HasNumbers bytes at ns h.1) (sym (numbers_by count bytes at h.0 h.1 h.2 h.3)) h.3;
-})
+numbers_hold count bytes at within h = (
+  h.1,
+  record {
+    within = within;
+    stand = subst (λ ns. HasNumbers bytes at ns h.1) (sym (numbers_by count bytes at h.0 h.1 h.2 h.3)) h.3;
+  },
+)
 
 pub deltas_hold : (form : DeltaForm) (count : ℕ) (bytes : List ℕ) (at : ℕ) → at ≤ length bytes
     → (ps : List Point) × (next : ℕ) × (length ps ≡ count) × HasDeltas form bytes at ps next → (next : ℕ) × AreDeltas form count bytes at next
-deltas_hold form count bytes at within h = (h.1, record {
-  within = within;
-  stand = subst (λ ps. HasDeltas form bytes at ps h.1) (sym (deltas_by form count bytes at h.0 h.1 h.2 h.3)) h.3;
-})
+deltas_hold form count bytes at within h = (
+  h.1,
+  record {
+    within = within;
+    stand = subst (λ ps. HasDeltas form bytes at ps h.1) (sym (deltas_by form count bytes at h.0 h.1 h.2 h.3)) h.3;
+  },
+)
 
 pub numbers_count : (count : ℕ) (bytes : List ℕ) (at : ℕ) → count ≡ length (numbers_from count bytes at)
 numbers_count zero bytes at = refl

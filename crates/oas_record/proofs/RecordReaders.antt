@@ -1,12 +1,9 @@
 -- One record stands at a place, with one end, or it fails for one cause.
 use Rattle.std.proofs.Common.{◌≡◌, ◌⊎◌, ℕ, ◌+◌, Bool, false, IsTrue, Option, Some, None, List, slice_index, nat_lt}
-use Rattle.std.proofs.Common.{if◌then◌else◌, Result, Ok, Err, inl, inr, refl, sym, ap, subst, ◌∙◌, ◌++◌, take, length}
+use Rattle.std.proofs.Common.{if◌then◌else◌, Result, Ok, Err, inl, inr, sym, ap, subst, ◌∙◌, ◌++◌, take, length}
 use Rattle.std.proofs.Math.Seq.{take-append_seam}
 use Rattle.std.proofs.lemmas.List.{append_cancel_left}
-use Rattle.std.specs.Result.{IfOk}
-use Rattle.geo_stream.specs.Refusals.{IfFault}
-use Rattle.geo_stream.specs.declared.refusal.Refusal.{Refusal}
-use Rattle.geo_stream.specs.declared.refusal.Refusal.TheVariants.{Fault, NoMemory}
+use Rattle.std.specs.Result.{IfOk, IfErr}
 use Rattle.oas_lex.proofs.ForCallers.{IsReader, pair_is}
 use Rattle.oas_record.specs.Faults.{NoBytes}
 use Rattle.oas_record.specs.Records.{id_of, info_of, fields_of, row_at, switch_of, HasInfo, HasBody, HasRow, HasRecord, InfoFails, NoBody, NoRow, NoRecord}
@@ -108,18 +105,14 @@ one_record bytes at tables =
 -- ---- what a result says, unless memory ran out
 
 pub read_back : {V : Type 0} (H : V → Type 0) (F : RecordBad → Type 0) → IsReader H F
-    → (r : Result V (Refusal RecordBad)) → IfOk r H → IfFault r F
-    → (v : V) → H v → (r ≡ Ok v) ⊎ (r ≡ Err NoMemory)
-read_back H F s (Ok w) p q v h = inl (ap Ok (s.one w v p h))
-read_back H F s (Err NoMemory) p q v h = inr refl
-read_back H F s (Err (Fault e)) p f v h = absurd (s.apart v e h f)
+    → (r : Result V RecordBad) → IfOk r H → IfErr r F → (v : V) → H v → r ≡ Ok v
+read_back H F s (Ok w) p q v h = ap Ok (s.one w v p h)
+read_back H F s (Err e) p f v h = absurd (s.apart v e h f)
 
 pub refused_back : {V : Type 0} (H : V → Type 0) (F : RecordBad → Type 0) → IsReader H F
-    → (r : Result V (Refusal RecordBad)) → IfOk r H → IfFault r F
-    → (e : RecordBad) → F e → (r ≡ Err (Fault e)) ⊎ (r ≡ Err NoMemory)
+    → (r : Result V RecordBad) → IfOk r H → IfErr r F → (e : RecordBad) → F e → r ≡ Err e
 refused_back H F s (Ok w) p q e f = absurd (s.apart w e p f)
-refused_back H F s (Err NoMemory) p q e f = inr refl
-refused_back H F s (Err (Fault d)) p g e f = inl (ap (λ b. Err (Fault b)) (s.cause d e g f))
+refused_back H F s (Err d) p g e f = ap Err (s.cause d e g f)
 
 -- ---- no record begins another
 

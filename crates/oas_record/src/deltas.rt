@@ -34,4 +34,3 @@ pub(crate) fn delta_at(
         DeltaForm::GDelta => Ok(delta_g(bytes, at)?),
     }
 }
-

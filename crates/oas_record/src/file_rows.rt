@@ -29,7 +29,11 @@ pub(crate) fn start(bytes: &[u8], at: usize) -> Result<(OasRecord<'_>, usize), R
 }
 
 // The rest of a record with id 2, END, after its id.
-pub(crate) fn end(bytes: &[u8], at: usize, tables: bool) -> Result<(OasRecord<'_>, usize), RecordBad>
+pub(crate) fn end(
+    bytes: &[u8],
+    at: usize,
+    tables: bool,
+) -> Result<(OasRecord<'_>, usize), RecordBad>
     requires { at ≤ length bytes.now }
     ensures ok { IfOk result (λ r. IsOf 2 tables bytes.now at r.0 r.1) }
     ensures bad { IfErr result (λ bad. NotOf 2 tables bytes.now at bad) }

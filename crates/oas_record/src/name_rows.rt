@@ -11,7 +11,11 @@ use crate::records::{NameKind, OasRecord};
 use crate::values::interval_at;
 
 // The rest of a name without its number, after its id: 3, 5, 7 or 9.
-pub(crate) fn name(bytes: &[u8], at: usize, kind: NameKind) -> Result<(OasRecord<'_>, usize), RecordBad>
+pub(crate) fn name(
+    bytes: &[u8],
+    at: usize,
+    kind: NameKind,
+) -> Result<(OasRecord<'_>, usize), RecordBad>
     requires { at ≤ length bytes.now }
     ensures ok { IfOk result (λ r. IsOf (name_id kind) false bytes.now at r.0 r.1) }
     ensures bad { IfErr result (λ bad. NotOf (name_id kind) false bytes.now at bad) }

@@ -78,10 +78,7 @@ pub(crate) fn placement(
 }
 
 // The rest of a record with id 19, TEXT, after its id.
-pub(crate) fn text_record(
-    bytes: &[u8],
-    at: usize,
-) -> Result<(OasRecord<'_>, usize), RecordBad>
+pub(crate) fn text_record(bytes: &[u8], at: usize) -> Result<(OasRecord<'_>, usize), RecordBad>
     requires { at ≤ length bytes.now }
     ensures ok { IfOk result (λ r. IsOf 19 false bytes.now at r.0 r.1) }
     ensures bad { IfErr result (λ bad. NotOf 19 false bytes.now at bad) }

@@ -71,11 +71,7 @@ fn rest_at(
 }
 
 // The record at `at`, and the offset after it.
-fn read_record(
-    bytes: &[u8],
-    at: usize,
-    tables: bool,
-) -> Result<(OasRecord<'_>, usize), RecordBad>
+fn read_record(bytes: &[u8], at: usize, tables: bool) -> Result<(OasRecord<'_>, usize), RecordBad>
     requires { at ≤ length bytes.now }
     ensures ok { IfOk result (λ r. HasRecord bytes.now at tables r.0 r.1) }
     ensures bad { IfErr result (λ bad. NoRecord bytes.now at tables bad) }
@@ -89,11 +85,7 @@ fn read_record(
 /// breaks shows. `tables` says whether END holds the table offsets.
 ///
 /// It takes no memory: the items of a list stay in the file, and are read again as they are asked for.
-pub fn record_at(
-    bytes: &[u8],
-    at: usize,
-    tables: bool,
-) -> Result<(OasRecord<'_>, usize), RecordBad>
+pub fn record_at(bytes: &[u8], at: usize, tables: bool) -> Result<(OasRecord<'_>, usize), RecordBad>
     requires { at ≤ length bytes.now }
     ensures ok { IfOk result (λ r. HasRecord bytes.now at tables r.0 r.1) }
     ensures bad { IfErr result (λ bad. NoRecord bytes.now at tables bad) }

@@ -30,7 +30,7 @@ pub struct Turn {
 /// A record with its written and its absent fields. Numbers and moves are in grid steps. Strings, table offsets,
 /// validation bytes and the values of a property are the two offsets between which their bytes are. An absent field is
 /// None: its bit of the info byte is clear. The items of lists stay in the file too.
-#[derive(Debug)]
+#[derive(Debug, Drop)]
 pub enum OasRecord<'f> {
     /// Id 0, PAD.
     Pad,
@@ -112,27 +112,4 @@ pub enum OasRecord<'f> {
         attribute: u64,
         text: (usize, usize),
     },
-}
-
-// Written out, so that it is proved once here, and not again in each crate that lets one go. A row a variant.
-impl<'f> Drop for OasRecord<'f> {
-    fn drop(self) {
-        #[rattlefmt::skip]
-        match self {
-            OasRecord::Pad => (),
-            OasRecord::Start { version: _, unit: _, offset_flag: _, tables: _ } => (),
-            OasRecord::End { tables: _, padding: _, scheme: _, validation: _ } => (),
-            OasRecord::Name { kind: _, text: _, number: _ } => (),
-            OasRecord::LayerName { of_texts: _, name: _, layers: _, datatypes: _ } => (),
-            OasRecord::Cell(_) => (),
-            OasRecord::Mode { is_relative: _ } => (),
-            OasRecord::Placement { info: _, cell: _, turn: _, x: _, y: _, repetition: _ } => (),
-            OasRecord::Text { info: _, text: _, textlayer: _, texttype: _, x: _, y: _, repetition: _ } => (),
-            OasRecord::Shape { head: _, kind: _ } => (),
-            OasRecord::Property { info: _, name: _, count: _, values: _ } => (),
-            OasRecord::LastProperty => (),
-            OasRecord::XName { attribute: _, text: _, number: _ } => (),
-            OasRecord::XElement { attribute: _, text: _ } => (),
-        }
-    }
 }

@@ -57,10 +57,7 @@ fn grid(bytes: &[u8], at: usize) -> Result<(Rep<'_>, usize), RecordBad>
 }
 
 // A dimension, and one space fewer.
-fn spaces(
-    bytes: &[u8],
-    at: usize,
-) -> Result<(u64, Numbers<'_>, usize), RecordBad>
+fn spaces(bytes: &[u8], at: usize) -> Result<(u64, Numbers<'_>, usize), RecordBad>
     requires { at ≤ length bytes.now }
     ensures ok { IfOk result (λ r. HasRow (row_at rep_rows 4) bytes.now at (r.0 ∷ []) r.1 [] r.2) }
     ensures bad { IfErr result (λ bad. RowFails (row_at rep_rows 4) bytes.now at bad) }
@@ -72,10 +69,7 @@ fn spaces(
 }
 
 // A dimension, a grid, and one space fewer than the dimension.
-fn spaces_on_grid(
-    bytes: &[u8],
-    at: usize,
-) -> Result<(u64, u64, Numbers<'_>, usize), RecordBad>
+fn spaces_on_grid(bytes: &[u8], at: usize) -> Result<(u64, u64, Numbers<'_>, usize), RecordBad>
     requires { at ≤ length bytes.now }
     ensures ok { IfOk result (λ r. HasRow (row_at rep_rows 5) bytes.now at (r.0 ∷ []) (r.1 ∷ r.2) [] r.3) }
     ensures bad { IfErr result (λ bad. RowFails (row_at rep_rows 5) bytes.now at bad) }
@@ -162,11 +156,7 @@ fn moves_on_grid(bytes: &[u8], at: usize) -> Result<(Rep<'_>, usize), RecordBad>
 }
 
 // The rest of a repetition of this kind, from `at` on.
-fn rest_of(
-    bytes: &[u8],
-    at: usize,
-    kind: u8,
-) -> Result<(Rep<'_>, usize), RecordBad>
+fn rest_of(bytes: &[u8], at: usize, kind: u8) -> Result<(Rep<'_>, usize), RecordBad>
     requires { at ≤ length bytes.now }
     ensures kind { IfOk result (λ r. kind_of r.0 ≡ kind) }
     ensures ok { IfOk result (λ r. HasRow (row_at rep_rows kind) bytes.now at (dims_of r.0) (numbers_of r.0) (deltas_of r.0) r.1) }
@@ -209,10 +199,7 @@ fn rest_of(
 }
 
 // The repetition at `at`, and the offset after it.
-pub(crate) fn repetition_at(
-    bytes: &[u8],
-    at: usize,
-) -> Result<(Rep<'_>, usize), RecordBad>
+pub(crate) fn repetition_at(bytes: &[u8], at: usize) -> Result<(Rep<'_>, usize), RecordBad>
     requires { at ≤ length bytes.now }
     ensures ok { IfOk result (λ r. HasRep bytes.now at r.0 r.1) }
     ensures bad { IfErr result (λ bad. NoRep bytes.now at bad) }

@@ -168,10 +168,7 @@ pub(crate) fn shape(
 }
 
 // The rest of a record with id 33, XGEOMETRY, after its id.
-pub(crate) fn xgeometry(
-    bytes: &[u8],
-    at: usize,
-) -> Result<(OasRecord<'_>, usize), RecordBad>
+pub(crate) fn xgeometry(bytes: &[u8], at: usize) -> Result<(OasRecord<'_>, usize), RecordBad>
     requires { at ≤ length bytes.now }
     ensures ok { IfOk result (λ r. IsOf 33 false bytes.now at r.0 r.1) }
     ensures bad { IfErr result (λ bad. NotOf 33 false bytes.now at bad) }

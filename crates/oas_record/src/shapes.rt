@@ -4,7 +4,7 @@ use crate::fields::Deltas;
 use crate::repetition::Rep;
 
 /// What the records of all shapes have in common. An absent field is None: its bit of the info byte is clear.
-#[derive(Debug)]
+#[derive(Debug, Drop)]
 pub struct ShapeHead<'f> {
     /// The info byte.
     pub info: u8,
@@ -20,20 +20,6 @@ pub struct ShapeHead<'f> {
     pub repetition: Option<Rep<'f>>,
 }
 
-// Written out, so that it is proved once here, and not again in each crate that lets one go.
-impl<'f> Drop for ShapeHead<'f> {
-    fn drop(self) {
-        let ShapeHead {
-            info: _,
-            layer: _,
-            datatype: _,
-            x: _,
-            y: _,
-            repetition: _,
-        } = self;
-    }
-}
-
 /// The deltas of a TRAPEZOID, by its id.
 #[derive(Clone, Copy, Debug, PartialEq, Eq)]
 pub enum TrapezoidDeltas {
@@ -46,7 +32,7 @@ pub enum TrapezoidDeltas {
 }
 
 /// What the record of a shape has beside its head.
-#[derive(Debug)]
+#[derive(Debug, Drop)]
 pub enum ShapeKind<'f> {
     /// Id 20, RECTANGLE.
     Rectangle {
@@ -87,39 +73,4 @@ pub enum ShapeKind<'f> {
         attribute: u64,
         text: (usize, usize),
     },
-}
-
-// Written out, as that of the head.
-impl<'f> Drop for ShapeKind<'f> {
-    fn drop(self) {
-        match self {
-            ShapeKind::Polygon { points: _ } => (),
-            ShapeKind::Path {
-                half_width: _,
-                extension: _,
-                start: _,
-                end: _,
-                points: _,
-            } => (),
-            ShapeKind::Rectangle {
-                width: _,
-                height: _,
-            } => (),
-            ShapeKind::Trapezoid {
-                width: _,
-                height: _,
-                deltas: _,
-            } => (),
-            ShapeKind::Ctrapezoid {
-                trapezoid_type: _,
-                width: _,
-                height: _,
-            } => (),
-            ShapeKind::Circle { radius: _ } => (),
-            ShapeKind::XGeometry {
-                attribute: _,
-                text: _,
-            } => (),
-        }
-    }
 }

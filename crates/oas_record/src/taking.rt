@@ -5,7 +5,7 @@ ghost use Rattle.oas_record.specs.Taken.{polygon_points_in, polygon_points_of, p
 use crate::fields::Deltas;
 use crate::records::OasRecord;
 use crate::repetition::Rep;
-use crate::shapes::ShapeKind;
+use crate::shapes::{ShapeHead, ShapeKind};
 
 /// The point list and the repetition of a record, moved out of it.
 #[derive(Debug, Drop)]
@@ -22,7 +22,7 @@ pub struct Lists<'f> {
 fn repeated(repetition: Option<Rep<'_>>) -> Lists<'_>
     ensures polygon_points { result.polygon_points ≡ Nothing }
     ensures path_points { result.path_points ≡ Nothing }
-    ensures repetition { result.repetition ≡ repetition }
+    ensures repetition { result.repetition ≡ repetition.entry }
 {
     Lists {
         polygon_points: None,
@@ -31,21 +31,29 @@ fn repeated(repetition: Option<Rep<'_>>) -> Lists<'_>
     }
 }
 
-// The lists of a shape, of which the repetition is taken.
-fn lists_of_shape<'f>(repetition: Option<Rep<'f>>, kind: &mut ShapeKind<'f>) -> Lists<'f>
-    ensures polygon_points { result.polygon_points ≡ polygon_points_of kind.old }
-    ensures path_points { result.path_points ≡ path_points_of kind.old }
-    ensures repetition { result.repetition ≡ repetition }
+// The repetition of a shape.
+fn repetition_of(head: ShapeHead<'_>) -> Option<Rep<'_>>
+    ensures { result ≡ head.entry.repetition }
+{
+    let ShapeHead { repetition, .. } = head;
+    repetition
+}
+
+// The lists of a shape with this repetition.
+fn lists_of_shape<'f>(repetition: Option<Rep<'f>>, kind: ShapeKind<'f>) -> Lists<'f>
+    ensures polygon_points { result.polygon_points ≡ polygon_points_of kind.entry }
+    ensures path_points { result.path_points ≡ path_points_of kind.entry }
+    ensures repetition { result.repetition ≡ repetition.entry }
 {
     match kind {
         ShapeKind::Polygon { points } => Lists {
-            polygon_points: points.take(),
+            polygon_points: points,
             path_points: None,
             repetition,
         },
         ShapeKind::Path { points, .. } => Lists {
             polygon_points: None,
-            path_points: points.take(),
+            path_points: points,
             repetition,
         },
         _ => repeated(repetition),
@@ -53,16 +61,16 @@ fn lists_of_shape<'f>(repetition: Option<Rep<'f>>, kind: &mut ShapeKind<'f>) -> 
 }
 
 impl<'f> OasRecord<'f> {
-    /// The lists of the record, which has none then. Nothing is copied.
-    pub fn take_lists(&mut self) -> Lists<'f>
-        ensures polygon_points { result.polygon_points ≡ polygon_points_in self.old }
-        ensures path_points { result.path_points ≡ path_points_in self.old }
-        ensures repetition { result.repetition ≡ repetition_in self.old }
+    /// The lists of the record.
+    pub fn into_lists(self) -> Lists<'f>
+        ensures polygon_points { result.polygon_points ≡ polygon_points_in self.entry }
+        ensures path_points { result.path_points ≡ path_points_in self.entry }
+        ensures repetition { result.repetition ≡ repetition_in self.entry }
     {
         match self {
-            OasRecord::Placement { repetition, .. } => repeated(repetition.take()),
-            OasRecord::Text { repetition, .. } => repeated(repetition.take()),
-            OasRecord::Shape { head, kind } => lists_of_shape(head.repetition.take(), kind),
+            OasRecord::Placement { repetition, .. } => repeated(repetition),
+            OasRecord::Text { repetition, .. } => repeated(repetition),
+            OasRecord::Shape { head, kind } => lists_of_shape(repetition_of(head), kind),
             _ => repeated(None),
         }
     }

@@ -1,8 +1,8 @@
 -- Places that are listed one by one.
-use Rattle.std.proofs.Common.{◌≡◌, ◌+◌, ◌<◌, ◌≤◌, length, ℤ, pos, List, [], ◌∷◌, ◌++◌, map, sym, ap, subst, ◌∙◌, arith, Result, Ok, Err}
+use Rattle.std.proofs.Common.{◌≡◌, ◌↔◌, ◌+◌, ◌<◌, ◌≤◌, length, ℤ, pos, List, [], ◌∷◌, ◌++◌, map, sym, ap, subst, ◌∙◌, arith, Result, Ok, Err}
 use Rattle.std.specs.Prelude.{IsOk, IfOk, IfErr, ◌≢◌, ◌*ℤ◌, ◌+ℤ◌, ◌-ℤ◌}
 use Rattle.std.proofs.lemmas.List.{length-map}
-use Rattle.std.proofs.lemmas.List.Elements.{All-head, All-tail}
+use Rattle.std.proofs.lemmas.List.Elements.{All-nil, All-cons, All-head, All-tail}
 use Rattle.std.proofs.lemmas.Int.{ints}
 use Rattle.half_grid.specs.declared.plane.Point.{Point}
 use Rattle.layout_model.specs.Images.{moved, enlarged}
@@ -12,7 +12,7 @@ use Rattle.oas_shapes.specs.Rules.{AreNear}
 use Rattle.oas_shapes.specs.Trails.{IsTrail}
 use Rattle.oas_shapes.specs.declared.trails.Trail.{Trail}
 use Rattle.smallvec.specs.SmallVec.{SmallVec}
-use Rattle.oas_shapes.proofs.NearLemmas.{near_halves, all_after, same_point}
+use Rattle.oas_shapes.proofs.NearLemmas.{near_halves, halves_near, all_after, same_point}
 
 pub first_place : (p : Point) (moves : List Point) → AreNear (map doubled (places_along p moves)) → IsNear p
 first_place p [] h = near_halves p (All-head IsNearInHalves (doubled p) [] h)
@@ -56,6 +56,21 @@ pub changes_on : (whole : List Point) (old new : Trail) (next move : Point) (res
     → next.y ≡ new.at.y -ℤ old.at.y → new.at ≡ moved old.at move → IsTrail whole new (added_up move rest) → IsTrail whole new (added_up next rest)
 changes_on whole old new next move rest x y e t =
     subst (λ w. IsTrail whole new (added_up w rest)) (sym (way_by next old.at new.at move x y e)) t
+
+-- ---- places that are gone over without a list
+
+pub stays_on : (at move : Point) (moves : List Point) → IsNear at
+    → AreNear (map doubled (places_along (moved at move) moves)) ↔ AreNear (map doubled (places_along at (move ∷ moves)))
+stays_on at move moves near =
+    let rest = map doubled (places_along (moved at move) moves) in
+    (λ after. All-cons IsNearInHalves (doubled at) rest (halves_near at near) after, λ all. All-tail IsNearInHalves (doubled at) rest all)
+
+pub strays : (whole : List Point) (at move : Point) (moves : List Point) → IsNear at
+    → (AreNear (map doubled (places_along at (move ∷ moves))) ↔ AreNear whole) → ¬ IsNear (moved at move) → ¬ AreNear whole
+strays whole at move moves near same far all = far (first_place (moved at move) moves ((stays_on at move moves near).1 (same.1 all)))
+
+pub stayed : (whole : List Point) (at : Point) → IsNear at → (AreNear (map doubled (places_along at [])) ↔ AreNear whole) → AreNear whole
+stayed whole at near same = same.0 (All-cons IsNearInHalves (doubled at) [] (halves_near at near) (All-nil IsNearInHalves))
 
 -- ---- how many places there are
 

@@ -97,7 +97,7 @@ fn repeated(
     alloc: Global,
     pair: Pair,
     outline: &[Point],
-    repetition: Option<&Repetition>,
+    repetition: Option<&Repetition<'_>>,
 ) -> Result<KeptShape, Undrawn>
     requires closed { IsClosed outline.now }
     requires near { AreNear outline.now }
@@ -123,7 +123,7 @@ fn add(
     alloc: Global,
     pair: Pair,
     outline: &[Point],
-    repetition: Option<&Repetition>,
+    repetition: Option<&Repetition<'_>>,
     shapes: &mut Shapes,
 ) -> Result<(), Undrawn>
     requires closed { IsClosed outline.now }
@@ -150,7 +150,7 @@ fn add_outline(
     alloc: Global,
     pair: Pair,
     outline: Outline,
-    repetition: Option<&Repetition>,
+    repetition: Option<&Repetition<'_>>,
     shapes: &mut Shapes,
 ) -> Result<(), Undrawn>
     requires near { AreNear (points_of outline) }
@@ -175,7 +175,7 @@ pub fn draw_figure(
     pair: Pair,
     at: Point,
     figure: Figure,
-    repetition: Option<&Repetition>,
+    repetition: Option<&Repetition<'_>>,
     shapes: &mut Shapes,
 ) -> Result<(), Undrawn>
     requires at { IsWithin (2 ^ 40) at }
@@ -200,8 +200,8 @@ fn draw_written(
     alloc: Global,
     pair: Pair,
     at: Point,
-    points: &Deltas,
-    repetition: Option<&Repetition>,
+    points: &Deltas<'_>,
+    repetition: Option<&Repetition<'_>>,
     shapes: &mut Shapes,
 ) -> Result<(), Undrawn>
     requires at { IsWithin (2 ^ 40) at }
@@ -246,7 +246,7 @@ fn repeated_made(
     alloc: Global,
     pair: Pair,
     outline: Points,
-    repetition: Option<&Repetition>,
+    repetition: Option<&Repetition<'_>>,
 ) -> Result<KeptShape, Undrawn>
     requires closed { IsClosed outline }
     requires near { AreNear outline }
@@ -270,7 +270,7 @@ fn add_made(
     alloc: Global,
     pair: Pair,
     outline: Points,
-    repetition: Option<&Repetition>,
+    repetition: Option<&Repetition<'_>>,
     shapes: &mut Shapes,
 ) -> Result<(), Undrawn>
     requires closed { IsClosed outline }
@@ -297,8 +297,8 @@ pub fn draw_polygon(
     alloc: Global,
     pair: Pair,
     at: Point,
-    points: &PointList,
-    repetition: Option<&Repetition>,
+    points: &PointList<'_>,
+    repetition: Option<&Repetition<'_>>,
     shapes: &mut Shapes,
 ) -> Result<(), Undrawn>
     requires at { IsWithin (2 ^ 40) at }
@@ -325,8 +325,8 @@ fn draw_course(
     pair: Pair,
     at: Point,
     brush: Brush,
-    points: &Deltas,
-    repetition: Option<&Repetition>,
+    points: &Deltas<'_>,
+    repetition: Option<&Repetition<'_>>,
     shapes: &mut Shapes,
 ) -> Result<(), Undrawn>
     requires at { IsWithin (2 ^ 40) at }
@@ -361,8 +361,8 @@ pub fn draw_path(
     pair: Pair,
     at: Point,
     brush: Brush,
-    points: &PathList,
-    repetition: Option<&Repetition>,
+    points: &PathList<'_>,
+    repetition: Option<&Repetition<'_>>,
     shapes: &mut Shapes,
 ) -> Result<(), Undrawn>
     requires at { IsWithin (2 ^ 40) at }

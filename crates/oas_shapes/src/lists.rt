@@ -14,7 +14,7 @@ use oas_record::Deltas;
 use std::alloc::Global;
 
 /// The points of a path from this position, in half units.
-pub(crate) fn path_points(alloc: Global, at: Point, points: &Deltas) -> Result<Places, Unplaced>
+pub(crate) fn path_points(alloc: Global, at: Point, points: &Deltas<'_>) -> Result<Places, Unplaced>
     requires { IsNear at }
     ensures places { IfOk result (λ places. places.items ≡ the_path_points at points.now) }
     ensures near { IfOk result (λ places. AreNear places.items) }
@@ -23,9 +23,9 @@ pub(crate) fn path_points(alloc: Global, at: Point, points: &Deltas) -> Result<P
     ensures room { IfOk result (λ places. 12 ≤ places.capacity) }
 {
     if points.kind == 5 {
-        return along_changes(alloc, at, points.items.as_slice());
+        return along_changes(alloc, at, &points.items);
     }
-    along(alloc, at, points.items.as_slice())
+    along(alloc, at, &points.items)
 }
 
 // The vertex from which a level and an upright edge lead back to the first, in half units.
@@ -98,7 +98,7 @@ fn closed(kind: u8, vertices: Places) -> Result<Places, Unplaced>
 }
 
 /// The outline of a polygon at this position, in half units. One of up to twelve points takes no memory.
-pub(crate) fn polygon_outline(alloc: Global, at: Point, points: &Deltas) -> Result<Places, Unplaced>
+pub(crate) fn polygon_outline(alloc: Global, at: Point, points: &Deltas<'_>) -> Result<Places, Unplaced>
     requires { IsNear at }
     ensures outline { IfOk result (λ outline. outline.items ≡ the_polygon_outline at points.now) }
     ensures near { IfOk result (λ outline. AreNear outline.items) }

@@ -17,7 +17,7 @@ use std::alloc::Global;
 use std::marker::Model;
 
 // A list that is as long as this or longer is kept once for all polygons that use it.
-const LONG: usize = 10;
+const LONG: u64 = 10;
 
 // An outline has so many points at most in place.
 const FEW: usize = 9;
@@ -35,13 +35,13 @@ pub(crate) struct Made {
 /// The point list of polygons as it is written. The outline of a long one is made once, and all polygons that use the
 /// list share it, each moved to its position. Contracts see what is written.
 #[derive(Debug, Drop)]
-pub struct PointList {
-    written: Deltas,
+pub struct PointList<'f> {
+    written: Deltas<'f>,
     // The outline, once it was made.
     made: Option<Made>,
 }
 
-impl Model for PointList {
+impl<'f> Model for PointList<'f> {
     ghost use Rattle.oas_record.specs.declared.fields.Deltas.{Deltas as ADeltas};
     ghost use Rattle.oas_shapes.specs.Moves.{IsMade};
 
@@ -169,7 +169,7 @@ impl Made {
 }
 
 // The outline of a long list at this position, where it is near 0 and on the grid, and where memory is there.
-fn made_at(alloc: Global, at: Point, written: &Deltas) -> Option<Made>
+fn made_at(alloc: Global, at: Point, written: &Deltas<'_>) -> Option<Made>
     requires near { IsNear at }
     requires long { 10 ≤ length written.now.items }
     ensures { IfSome result (IsItsOutline written.now) }
@@ -190,9 +190,9 @@ fn made_at(alloc: Global, at: Point, written: &Deltas) -> Option<Made>
     }
 }
 
-impl PointList {
+impl<'f> PointList<'f> {
     /// The list that is written so.
-    pub fn new(written: Deltas) -> PointList
+    pub fn new(written: Deltas<'f>) -> PointList<'f>
         ensures { result ≡ written }
     {
         PointList {
@@ -202,7 +202,7 @@ impl PointList {
     }
 
     /// What is written.
-    pub fn written(&self) -> &Deltas
+    pub fn written(&self) -> &Deltas<'f>
         ensures { result.now ≡ self.now }
     {
         &self.written
@@ -217,7 +217,7 @@ impl PointList {
         if self.made.is_some() {
             return;
         }
-        if self.written.items.as_slice().len() < LONG {
+        if self.written.items.len() < LONG {
             return;
         }
         if let Some(made) = made_at(alloc, at, &self.written) {

@@ -17,7 +17,7 @@ use std::alloc::Global;
 use std::marker::Model;
 
 // The segments of a list that is as long as this or longer are kept once for all paths that use it.
-const LONG: usize = 10;
+const LONG: u64 = 10;
 
 /// What is kept of a list at this position, in grid steps.
 #[derive(Debug, Drop)]
@@ -32,13 +32,13 @@ pub(crate) struct MadePath {
 /// The point list of paths as it is written. The segments of a long one are made once, and all paths that use the list
 /// share them, moved to their positions, whatever their lengths. Contracts see what is written.
 #[derive(Debug, Drop)]
-pub struct PathList {
-    written: Deltas,
+pub struct PathList<'f> {
+    written: Deltas<'f>,
     // The segments, once they were made.
     made: Option<MadePath>,
 }
 
-impl Model for PathList {
+impl<'f> Model for PathList<'f> {
     ghost use Rattle.oas_record.specs.declared.fields.Deltas.{Deltas as ADeltas};
     ghost use Rattle.oas_shapes.specs.PathLists.{IsMadePath};
 
@@ -86,7 +86,7 @@ impl MadePath {
 }
 
 // What is kept of a list at this position, where it is near 0 there, and where memory is there.
-fn made_path(alloc: Global, at: Point, written: &Deltas) -> Option<MadePath>
+fn made_path(alloc: Global, at: Point, written: &Deltas<'_>) -> Option<MadePath>
     requires near { IsNear at }
     ensures { IfSome result (IsItsPath written.now) }
 {
@@ -100,9 +100,9 @@ fn made_path(alloc: Global, at: Point, written: &Deltas) -> Option<MadePath>
     }
 }
 
-impl PathList {
+impl<'f> PathList<'f> {
     /// The list that is written so.
-    pub fn new(written: Deltas) -> PathList
+    pub fn new(written: Deltas<'f>) -> PathList<'f>
         ensures { result ≡ written }
     {
         PathList {
@@ -112,7 +112,7 @@ impl PathList {
     }
 
     /// What is written.
-    pub fn written(&self) -> &Deltas
+    pub fn written(&self) -> &Deltas<'f>
         ensures { result.now ≡ self.now }
     {
         &self.written
@@ -124,7 +124,7 @@ impl PathList {
         requires { IsWithin (2 ^ 40) at }
         ensures { self.new ≡ self.old }
     {
-        if self.written.items.as_slice().len() < LONG {
+        if self.written.items.len() < LONG {
             return;
         }
         if self.made.is_some() {

@@ -178,7 +178,7 @@ fn repeated(
     pair: Pair,
     points: &[Point],
     brush: Halves,
-    repetition: Option<&Repetition>,
+    repetition: Option<&Repetition<'_>>,
 ) -> Result<Vec<KeptShape>, Undrawn>
     requires points { AreNear points.now }
     requires brush { AreHalves brush }
@@ -213,7 +213,7 @@ pub(crate) fn add_path(
     pair: Pair,
     points: &[Point],
     brush: Halves,
-    repetition: Option<&Repetition>,
+    repetition: Option<&Repetition<'_>>,
     shapes: &mut Shapes,
 ) -> Result<(), Undrawn>
     requires points { AreNear points.now }
@@ -235,7 +235,7 @@ pub(crate) fn add_path(
 }
 
 /// Looks at the offsets of a path without width, which has no shapes.
-pub(crate) fn add_none(alloc: Global, repetition: Option<&Repetition>) -> Result<(), Undrawn>
+pub(crate) fn add_none(alloc: Global, repetition: Option<&Repetition<'_>>) -> Result<(), Undrawn>
     ensures kept { OnOk result ((rule : ℕ) → KeepsOffsets (option_copied repetition.entry) rule) }
     ensures broken { (rule : ℕ) → result ≡ Err (Rule rule) → IsLowest (KeepsOffsets (option_copied repetition.entry)) rule }
     ensures memory { IsShortIn (option_copied repetition.entry) → result ≡ Err Wanting
@@ -258,7 +258,7 @@ pub(crate) fn add_along(
     path: &SharedPath,
     by: Point,
     brush: Halves,
-    repetition: Option<&Repetition>,
+    repetition: Option<&Repetition<'_>>,
     shapes: &mut Shapes,
 ) -> Result<(), Undrawn>
     requires near { AreNearAfter by path.now }

@@ -16,11 +16,13 @@ ghost use Rattle.oas_shapes.specs.declared.trails.Unplaced.TheVariants.{Far, Man
 use crate::drawing::Undrawn;
 use crate::lattices::Lattice;
 use crate::sharing::Repetition;
-use crate::trails::{Unplaced, along, along_grid, along_spaces, towards};
+use crate::trails::{
+    Unplaced, along, along_grid, along_spaces, moves_stay_near, spaces_stay_near, towards,
+};
 use crate::wide::{ORIGIN, Wide, widened};
 use half_grid::Point;
 use layout_model::Offsets;
-use oas_record::Rep;
+use oas_record::{Moves, Numbers, Rep};
 use std::alloc::Global;
 
 // No move.
@@ -45,7 +47,7 @@ fn are_allowed(columns: u64, rows: u64) -> bool
 }
 
 /// Whether its dimensions are 2 to 16,777,216.
-pub fn dimensions_are_allowed(repetition: &Rep) -> bool
+pub fn dimensions_are_allowed(repetition: &Rep<'_>) -> bool
     ensures { IsTrue result ↔ HasDimensions repetition.now }
 {
     match repetition {
@@ -80,30 +82,41 @@ pub(crate) fn alone(alloc: Global) -> Result<Offsets, Unplaced>
     }
 }
 
-// These places, where there may be so many.
-fn listed(alloc: Global, places: &[Point], is_allowed: bool) -> Result<Offsets, Unplaced>
-    requires { IsTrue is_allowed → AreOffsets places.now }
-    ensures ok { IfOk result (λ offsets. (offsets ≡ places.now) × AreOffsets offsets × IsTrue is_allowed) }
+// These places, of which there may be so many.
+fn listed(alloc: Global, places: &[Point]) -> Result<Offsets, Unplaced>
+    requires { AreOffsets places.now }
+    ensures ok { IfOk result (λ offsets. (offsets ≡ places.now) × AreOffsets offsets) }
     ensures far { (result ≡ Err Far) → ⊥ }
-    ensures many { result ≡ Err Many → is_allowed ≡ false }
-    ensures unkept { result ≡ Err Unkept → IsTrue is_allowed }
+    ensures many { (result ≡ Err Many) → ⊥ }
     ensures wanting { (result ≡ Err Wanting) → ⊥ }
 {
-    if !is_allowed {
-        return Err(Unplaced::Many);
-    }
     match Offsets::list(alloc, places) {
         Ok(offsets) => Ok(offsets),
         Err(_) => Err(Unplaced::Unkept),
     }
 }
 
-// A row, or a column where it is upright. Up to twelve places take no memory until all of them are known to be near.
+// Why places of which there are too many can't be listed, where this says whether all of them are near.
+fn refused(are_near: bool) -> Unplaced
+    ensures far { result ≡ Far → are_near ≡ false }
+    ensures many { result ≡ Many → IsTrue are_near }
+    ensures unkept { (result ≡ Unkept) → ⊥ }
+    ensures wanting { (result ≡ Wanting) → ⊥ }
+{
+    if are_near {
+        Unplaced::Many
+    } else {
+        Unplaced::Far
+    }
+}
+
+// A row, or a column where it is upright. Up to twelve places take no memory until all of them are known to be near, and
+// too many of them take none.
 fn by_spaces(
     alloc: Global,
     is_upright: bool,
     grid: u64,
-    spaces: &[u64],
+    spaces: &Numbers<'_>,
     is_allowed: bool,
 ) -> Result<Offsets, Unplaced>
     ensures ok { IfOk result (λ offsets. (offsets ≡ map in_halves (places_along origin (map (λ space. enlarged grid (towards_of is_upright space)) spaces.now))) × AreOffsets offsets × IsTrue is_allowed) }
@@ -112,8 +125,11 @@ fn by_spaces(
     ensures unkept { result ≡ Err Unkept → AreNear (map in_halves (places_along origin (map (λ space. enlarged grid (towards_of is_upright space)) spaces.now))) × IsTrue is_allowed }
     ensures few { AreFew spaces.now → result ≡ Err Wanting → ⊥ }
 {
+    if !is_allowed {
+        return Err(refused(spaces_stay_near(is_upright, grid, spaces)));
+    }
     match along_spaces(alloc, is_upright, grid, spaces) {
-        Ok(places) => listed(alloc, places.as_slice(), is_allowed),
+        Ok(places) => listed(alloc, places.as_slice()),
         Err(Unplaced::Far) => Err(Unplaced::Far),
         Err(_) => Err(Unplaced::NoMemory),
     }
@@ -123,7 +139,7 @@ fn by_spaces(
 fn by_own_spaces(
     alloc: Global,
     is_upright: bool,
-    spaces: &[u64],
+    spaces: &Numbers<'_>,
     is_allowed: bool,
 ) -> Result<Offsets, Unplaced>
     ensures ok { IfOk result (λ offsets. (offsets ≡ map in_halves (places_along origin (map (towards_of is_upright) spaces.now))) × AreOffsets offsets × IsTrue is_allowed) }
@@ -135,15 +151,18 @@ fn by_own_spaces(
     by_spaces(alloc, is_upright, 1, spaces, is_allowed)
 }
 
-fn by_moves(alloc: Global, moves: &[Point], is_allowed: bool) -> Result<Offsets, Unplaced>
+fn by_moves(alloc: Global, moves: &Moves<'_>, is_allowed: bool) -> Result<Offsets, Unplaced>
     ensures ok { IfOk result (λ offsets. (offsets ≡ map in_halves (places_along origin moves.now)) × AreOffsets offsets × IsTrue is_allowed) }
     ensures far { result ≡ Err Far → ¬ AreNear (map in_halves (places_along origin moves.now)) }
     ensures many { result ≡ Err Many → AreNear (map in_halves (places_along origin moves.now)) × (is_allowed ≡ false) }
     ensures unkept { result ≡ Err Unkept → AreNear (map in_halves (places_along origin moves.now)) × IsTrue is_allowed }
     ensures few { AreFew moves.now → result ≡ Err Wanting → ⊥ }
 {
+    if !is_allowed {
+        return Err(refused(moves_stay_near(1, moves)));
+    }
     match along(alloc, ORIGIN, moves) {
-        Ok(places) => listed(alloc, places.as_slice(), is_allowed),
+        Ok(places) => listed(alloc, places.as_slice()),
         Err(Unplaced::Far) => Err(Unplaced::Far),
         Err(_) => Err(Unplaced::NoMemory),
     }
@@ -152,7 +171,7 @@ fn by_moves(alloc: Global, moves: &[Point], is_allowed: bool) -> Result<Offsets,
 fn by_moves_on_grid(
     alloc: Global,
     grid: u64,
-    moves: &[Point],
+    moves: &Moves<'_>,
     is_allowed: bool,
 ) -> Result<Offsets, Unplaced>
     ensures ok { IfOk result (λ offsets. (offsets ≡ map in_halves (places_along origin (map (enlarged grid) moves.now))) × AreOffsets offsets × IsTrue is_allowed) }
@@ -161,8 +180,11 @@ fn by_moves_on_grid(
     ensures unkept { result ≡ Err Unkept → AreNear (map in_halves (places_along origin (map (enlarged grid) moves.now))) × IsTrue is_allowed }
     ensures few { AreFew moves.now → result ≡ Err Wanting → ⊥ }
 {
+    if !is_allowed {
+        return Err(refused(moves_stay_near(grid, moves)));
+    }
     match along_grid(alloc, grid, moves) {
-        Ok(places) => listed(alloc, places.as_slice(), is_allowed),
+        Ok(places) => listed(alloc, places.as_slice()),
         Err(Unplaced::Far) => Err(Unplaced::Far),
         Err(_) => Err(Unplaced::NoMemory),
     }
@@ -237,7 +259,7 @@ fn by_lattice(
 }
 
 /// The offsets of a repetition in half units.
-pub(crate) fn spread(alloc: Global, repetition: &Rep, is_allowed: bool) -> Result<Offsets, Unplaced>
+pub(crate) fn spread(alloc: Global, repetition: &Rep<'_>, is_allowed: bool) -> Result<Offsets, Unplaced>
     requires { IsTrue is_allowed → HasDimensions repetition.now }
     ensures ok { IfOk result (λ offsets. (offsets ≡ the_offsets_of repetition.now) × AreOffsets offsets × HasDimensions repetition.now) }
     ensures far { result ≡ Err Far → ¬ AreNear (the_offsets_of repetition.now) }
@@ -255,36 +277,36 @@ pub(crate) fn spread(alloc: Global, repetition: &Rep, is_allowed: bool) -> Resul
         } => by_grid(alloc, *x_dim, *y_dim, *x_space, *y_space, is_allowed),
         Rep::Row { dim, space } => by_step(alloc, *dim, towards(false, *space), is_allowed),
         Rep::Column { dim, space } => by_step(alloc, *dim, towards(true, *space), is_allowed),
-        Rep::RowSpaces { spaces, .. } => by_own_spaces(alloc, false, spaces.as_slice(), is_allowed),
+        Rep::RowSpaces { spaces, .. } => by_own_spaces(alloc, false, spaces, is_allowed),
         Rep::RowOnGrid { grid, spaces, .. } => by_spaces(
             alloc,
             false,
             *grid,
-            spaces.as_slice(),
+            spaces,
             is_allowed,
         ),
         Rep::ColumnSpaces { spaces, .. } => by_own_spaces(
             alloc,
             true,
-            spaces.as_slice(),
+            spaces,
             is_allowed,
         ),
         Rep::ColumnOnGrid { grid, spaces, .. } => by_spaces(
             alloc,
             true,
             *grid,
-            spaces.as_slice(),
+            spaces,
             is_allowed,
         ),
         Rep::Lattice { n_dim, m_dim, u, v } => by_lattice(
             alloc, *n_dim, *m_dim, *u, *v, is_allowed,
         ),
         Rep::Line { dim, u } => by_step(alloc, *dim, widened(*u), is_allowed),
-        Rep::Moves { moves, .. } => by_moves(alloc, moves.as_slice(), is_allowed),
+        Rep::Moves { moves, .. } => by_moves(alloc, moves, is_allowed),
         Rep::MovesOnGrid { grid, moves, .. } => by_moves_on_grid(
             alloc,
             *grid,
-            moves.as_slice(),
+            moves,
             is_allowed,
         ),
     }
@@ -294,7 +316,7 @@ pub(crate) fn spread(alloc: Global, repetition: &Rep, is_allowed: bool) -> Resul
 #[inline(always)]
 pub(crate) fn offsets_in(
     alloc: Global,
-    repetition: Option<&Repetition>,
+    repetition: Option<&Repetition<'_>>,
 ) -> Result<Offsets, Unplaced>
     ensures offsets { IfOk result (λ offsets. offsets ≡ all_offsets (option_copied repetition.entry)) }
     ensures grid { IfOk result AreOffsets }
@@ -312,7 +334,7 @@ pub(crate) fn offsets_in(
 
 /// The offsets of a repetition in half units: those of a placement, say. One that is regular is kept as a grid.
 /// Whatever rule one of at most twelve places or a regular one breaks is told, also where memory is wanting.
-pub fn offsets_of(alloc: Global, repetition: &Repetition) -> Result<Offsets, Undrawn>
+pub fn offsets_of(alloc: Global, repetition: &Rep<'_>etition) -> Result<Offsets, Undrawn>
     ensures offsets { IfOk result (λ offsets. offsets ≡ the_offsets_of repetition.now) }
     ensures grid { IfOk result AreOffsets }
     ensures kept { IfOk result (λ _. (rule : ℕ) → KeepsRepetition repetition.now rule) }

@@ -16,13 +16,13 @@ use std::marker::Model;
 /// A repetition as it is written. The places of one that lists them are made once, and all shapes and placements that
 /// are repeated so share them. Contracts see what is written.
 #[derive(Debug, Drop)]
-pub struct Repetition {
-    written: Rep,
+pub struct Repetition<'f> {
+    written: Rep<'f>,
     // Its places, once they were made.
     places: Option<Offsets>,
 }
 
-impl Model for Repetition {
+impl<'f> Model for Repetition<'f> {
     ghost use Rattle.oas_record.specs.declared.repetition.Rep.{Rep as ARep};
     ghost use Rattle.oas_shapes.specs.Sharing.{IsShared};
 
@@ -34,7 +34,7 @@ impl Model for Repetition {
 }
 
 // Whether it lists spaces or moves.
-fn is_listed(repetition: &Rep) -> bool {
+fn is_listed(repetition: &Rep<'_>) -> bool {
     match repetition {
         Rep::RowSpaces { .. } | Rep::RowOnGrid { .. } => true,
         Rep::ColumnSpaces { .. } | Rep::ColumnOnGrid { .. } => true,
@@ -43,9 +43,9 @@ fn is_listed(repetition: &Rep) -> bool {
     }
 }
 
-impl Repetition {
+impl<'f> Repetition<'f> {
     /// The repetition that is written so.
-    pub fn new(written: Rep) -> Repetition
+    pub fn new(written: Rep<'f>) -> Repetition<'f>
         ensures { result ≡ written }
     {
         Repetition {
@@ -55,7 +55,7 @@ impl Repetition {
     }
 
     /// What is written.
-    pub fn written(&self) -> &Rep
+    pub fn written(&self) -> &Rep<'f>
         ensures { result.now ≡ self.now }
     {
         &self.written

@@ -1,5 +1,5 @@
 //! Places along moves, in half units.
-ghost use Rattle.std.specs.Prelude.{◌≡◌, ◌<◌, ◌≤◌, ◌-ℤ◌, List, [], ◌∷◌, length, map, IsOk, OnOk, IfOk, IfErr, Err};
+ghost use Rattle.std.specs.Prelude.{◌≡◌, ◌<◌, ◌≤◌, ◌↔◌, ◌-ℤ◌, List, [], ◌∷◌, length, map, IsTrue, IsOk, OnOk, IfOk, IfErr, IfSome, IfNone, Err};
 ghost use Rattle.half_grid.specs.declared.plane.Point.{Point as APoint};
 ghost use Rattle.layout_model.specs.Images.{enlarged, moved as place_after};
 ghost use Rattle.oas_shapes.specs.Plane.{IsNear, east, north, origin, doubled as in_halves, places_along};
@@ -11,6 +11,7 @@ ghost use Rattle.oas_shapes.specs.declared.trails.Unplaced.TheVariants.{Far, NoM
 
 use crate::wide::{ORIGIN, Wide, doubled, joined, moved, times, widened};
 use half_grid::Point;
+use oas_record::{Moves, Numbers};
 use smallvec::SmallVec;
 use std::alloc::Global;
 
@@ -89,7 +90,7 @@ impl Trail {
 }
 
 /// The places along these moves. Up to twelve places take no memory.
-pub(crate) fn along(alloc: Global, start: Point, moves: &[Point]) -> Result<Places, Unplaced>
+pub(crate) fn along(alloc: Global, start: Point, moves: &Moves<'_>) -> Result<Places, Unplaced>
     requires { IsNear start }
     ensures places { IfOk result (λ places. places.items ≡ map in_halves (places_along start moves.now)) }
     ensures near { IfOk result (λ places. AreNear places.items) }
@@ -98,8 +99,9 @@ pub(crate) fn along(alloc: Global, start: Point, moves: &[Point]) -> Result<Plac
     ensures room { IfOk result (λ places. 12 ≤ places.capacity) }
 {
     let mut trail = Trail::new(alloc, start);
-    for step in moves {
-        match trail.go(widened(*step)) {
+    let mut rest = moves.items();
+    while let Some(step) = rest.next() {
+        match trail.go(widened(step)) {
             Ok(()) => (),
             Err(bad) => return Err(bad),
         }
@@ -111,7 +113,7 @@ pub(crate) fn along(alloc: Global, start: Point, moves: &[Point]) -> Result<Plac
 pub(crate) fn along_changes(
     alloc: Global,
     start: Point,
-    changes: &[Point],
+    changes: &Moves<'_>,
 ) -> Result<Places, Unplaced>
     requires { IsNear start }
     ensures places { IfOk result (λ places. places.items ≡ map in_halves (places_along start (added_up origin changes.now))) }
@@ -122,9 +124,10 @@ pub(crate) fn along_changes(
 {
     let mut trail = Trail::new(alloc, start);
     let mut way = ORIGIN;
-    for change in changes {
+    let mut rest = changes.items();
+    while let Some(change) = rest.next() {
         let from = trail.at;
-        match trail.go(joined(way, *change)) {
+        match trail.go(joined(way, change)) {
             Ok(()) => (),
             Err(bad) => return Err(bad),
         }
@@ -134,15 +137,16 @@ pub(crate) fn along_changes(
 }
 
 /// The places along moves that are multiplied by a grid. Up to twelve places take no memory.
-pub(crate) fn along_grid(alloc: Global, grid: u64, moves: &[Point]) -> Result<Places, Unplaced>
+pub(crate) fn along_grid(alloc: Global, grid: u64, moves: &Moves<'_>) -> Result<Places, Unplaced>
     ensures places { IfOk result (λ places. places.items ≡ map in_halves (places_along origin (map (enlarged grid) moves.now))) }
     ensures near { IfOk result (λ places. AreNear places.items) }
     ensures far { result ≡ Err Far → ¬ AreNear (map in_halves (places_along origin (map (enlarged grid) moves.now))) }
     ensures few { length moves.now < 12 → IfErr result (λ bad. bad ≡ Far) }
 {
     let mut trail = Trail::new(alloc, ORIGIN);
-    for step in moves {
-        let Some(way) = times(grid, widened(*step)) else {
+    let mut rest = moves.items();
+    while let Some(step) = rest.next() {
+        let Some(way) = times(grid, widened(step)) else {
             return Err(Unplaced::Far);
         };
         match trail.go(way) {
@@ -159,7 +163,7 @@ pub(crate) fn along_spaces(
     alloc: Global,
     is_upright: bool,
     grid: u64,
-    spaces: &[u64],
+    spaces: &Numbers<'_>,
 ) -> Result<Places, Unplaced>
     ensures places { IfOk result (λ places. places.items ≡ map in_halves (places_along origin (map (λ space. enlarged grid (towards is_upright space)) spaces.now))) }
     ensures near { IfOk result (λ places. AreNear places.items) }
@@ -167,8 +171,9 @@ pub(crate) fn along_spaces(
     ensures few { length spaces.now < 12 → IfErr result (λ bad. bad ≡ Far) }
 {
     let mut trail = Trail::new(alloc, ORIGIN);
-    for space in spaces {
-        let Some(way) = times(grid, towards(is_upright, *space)) else {
+    let mut rest = spaces.items();
+    while let Some(space) = rest.next() {
+        let Some(way) = times(grid, towards(is_upright, space)) else {
             return Err(Unplaced::Far);
         };
         match trail.go(way) {
@@ -177,6 +182,49 @@ pub(crate) fn along_spaces(
         }
     }
     trail.finish()
+}
+
+// Whether all places along these moves, times the grid, are near 0. It takes no memory.
+pub(crate) fn moves_stay_near(grid: u64, moves: &Moves<'_>) -> bool
+    ensures { IsTrue result ↔ AreNear (map in_halves (places_along origin (map (enlarged grid) moves.now))) }
+{
+    let mut at = ORIGIN;
+    let mut rest = moves.items();
+    while let Some(step) = rest.next() {
+        match place_by(at, grid, widened(step)) {
+            Some(next) => at = next,
+            None => return false,
+        }
+    }
+    true
+}
+
+// Whether all places along a row, or along a column where it is upright, at these spaces times the grid are near 0. It
+// takes no memory.
+pub(crate) fn spaces_stay_near(is_upright: bool, grid: u64, spaces: &Numbers<'_>) -> bool
+    ensures { IsTrue result ↔ AreNear (map in_halves (places_along origin (map (λ space. enlarged grid (towards is_upright space)) spaces.now))) }
+{
+    let mut at = ORIGIN;
+    let mut rest = spaces.items();
+    while let Some(space) = rest.next() {
+        match place_by(at, grid, towards(is_upright, space)) {
+            Some(next) => at = next,
+            None => return false,
+        }
+    }
+    true
+}
+
+// The place after this move, times the grid, if it is near 0.
+fn place_by(at: Point, grid: u64, way: Wide) -> Option<Point>
+    requires { IsNear at }
+    ensures some { IfSome result (λ next. (next ≡ place_after at (enlarged grid (way_of way))) × IsNear next) }
+    ensures none { IfNone result (¬ IsNear (place_after at (enlarged grid (way_of way)))) }
+{
+    match times(grid, way) {
+        Some(way) => moved(at, way),
+        None => None,
+    }
 }
 
 // A distance to the right or upward.

@@ -1,5 +1,5 @@
 use Rattle.oas_record.specs.Records.{signed_or, rep_or}
-use Rattle.oas_record.proofs.Refusals.{ok_weaker, err_weaker, fault_or}
+use Rattle.oas_record.proofs.Refusals.{ok_weaker, err_weaker}
 use Rattle.oas_record.proofs.Switches.{place_moved, no_place_moved}
 use Rattle.oas_record.proofs.extensions.path_place_at.Goals as goal
 
@@ -10,5 +10,5 @@ returns-clause-ok c = ok_weaker _ _ c.place_at.result
 
 pub returns-clause-bad : goal.returns-clause-bad
 returns-clause-bad c = err_weaker _ _ c.place_at.result
-    (λ refusal h. fault_or _ _ refusal h (no_place_moved c.args._extension c.args.info c.args.bytes.now c.args.at))
+    (no_place_moved c.args._extension c.args.info c.args.bytes.now c.args.at)
     c.place_at.ensures.bad

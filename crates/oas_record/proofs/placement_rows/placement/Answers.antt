@@ -4,7 +4,7 @@ use Rattle.oas_record.specs.Records.{called_or, turn_fields}
 use Rattle.oas_record.specs.Rows.{placed}
 use Rattle.oas_record.proofs.Joins.{fails_first, fails_then}
 use Rattle.oas_record.proofs.PlacementLemmas.{placement_there, info_missing, fields_missing}
-use Rattle.oas_record.proofs.Refusals.{handed_on, fault_or}
+use Rattle.oas_record.proofs.Refusals.{handed_on}
 use Rattle.oas_record.proofs.placement_rows.placement.Goals as goal
 
 pub returns-clause-ok : goal.returns-clause-ok
@@ -35,12 +35,11 @@ returns-in_err-turn-clause-bad c = handed_on _ _ _ c.from_residual-in_err-turn.e
 
 pub returns-in_err-x-clause-bad : goal.returns-in_err-x-clause-bad
 returns-in_err-x-clause-bad c = handed_on _ _ _ c.from_residual-in_err-x.ensures.0 c.from_residual-in_err-x.ensures.1
-    (fault_or _ _ c.in_err-x.field-0.0 c.in_err-x.ensures.bad
-    (λ fault f. fields_missing c.args.is_turned c.args.bytes.now c.args.at c.in_ok-info.info fault
+    (fields_missing c.args.is_turned c.args.bytes.now c.args.at c.in_ok-info.info c.in_err-x.field-0.0
     c.in_ok-info.ensures.there c.in_ok-info.ensures.ok c.in_ok-info.ensures.allowed (inr (
       called_or c.in_ok-cell.cell,
       c.in_ok-cell.second,
       c.in_ok-cell.ensures.ok,
       fails_then (turn_parts c.args.is_turned) placed c.in_ok-info.info c.in_ok-info.info c.args.bytes.now c.in_ok-cell.second
-          (turn_fields c.in_ok-turn.turn) c.in_ok-turn.third fault c.in_ok-turn.ensures.keeps c.in_ok-turn.ensures.ok f,
-    ))))
+          (turn_fields c.in_ok-turn.turn) c.in_ok-turn.third c.in_err-x.field-0.0 c.in_ok-turn.ensures.keeps c.in_ok-turn.ensures.ok c.in_err-x.ensures.bad,
+    )))

@@ -1,4 +1,4 @@
-use Rattle.oas_record.proofs.Refusals.{ok_weaker, err_weaker, fault_or}
+use Rattle.oas_record.proofs.Refusals.{ok_weaker, err_weaker}
 use Rattle.oas_record.proofs.RecordLemmas.{record_there, record_missing}
 use Rattle.oas_record.proofs.reading.read_record.Goals as goal
 
@@ -9,6 +9,5 @@ returns-clause-ok c = ok_weaker _ _ c.rest_at.result
 
 pub returns-clause-bad : goal.returns-clause-bad
 returns-clause-bad c = err_weaker _ _ c.rest_at.result
-    (λ refusal h. fault_or _ _ refusal h
     (λ bad. record_missing c.args.bytes.now c.args.at c.in_ok-id.id c.args.tables bad c.in_ok-id.ensures.there
-    c.in_ok-id.ensures.ok)) c.rest_at.ensures.bad
+    c.in_ok-id.ensures.ok) c.rest_at.ensures.bad

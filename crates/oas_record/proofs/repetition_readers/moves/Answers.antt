@@ -1,9 +1,8 @@
 use Rattle.std.proofs.Common.{refl, [], ◌∷◌, inr, subst, ◌∙◌}
-use Rattle.geo_stream.specs.Refusals.{IsForFault}
 use Rattle.oas_record.specs.Lists.{NoDeltas}
 use Rattle.oas_record.specs.Repetitions.{rep_rows, row_at, RowFails, Just, AndFewer}
 use Rattle.oas_record.specs.declared.delta_form.DeltaForm.TheVariants.{GDelta}
-use Rattle.oas_record.proofs.Refusals.{handed_on, fault_or}
+use Rattle.oas_record.proofs.Refusals.{handed_on}
 use Rattle.oas_record.proofs.RepLemmas.{one, dim, fewer, fails_after}
 use Rattle.oas_record.proofs.repetition_readers.moves.Goals as goal
 
@@ -25,16 +24,15 @@ returns-clause-ok c = (
 
 pub returns-in_err-moves-clause-bad : goal.returns-in_err-moves-clause-bad
 returns-in_err-moves-clause-bad c =
-    let fails : IsForFault (RowFails (row_at rep_rows 10) c.args.bytes.now c.args.at) c.in_err-moves.field-0.0 =
-    fault_or _ _ c.in_err-moves.field-0.0 c.in_err-moves.ensures.bad
-    (λ fault f. fails_after (record { dims = 1; numbers = Just 0; deltas = AndFewer 0 }) c.args.bytes.now c.args.at
-    c.in_ok-stored.stored c.in_ok-stored.first fault refl c.in_ok-stored.ensures.ok
+    let fails : RowFails (row_at rep_rows 10) c.args.bytes.now c.args.at c.in_err-moves.field-0.0 =
+    fails_after (record { dims = 1; numbers = Just 0; deltas = AndFewer 0 }) c.args.bytes.now c.args.at
+    c.in_ok-stored.stored c.in_ok-stored.first c.in_err-moves.field-0.0 refl c.in_ok-stored.ensures.ok
     (inr (
       [],
       c.in_ok-stored.first,
       (refl, refl),
       subst
-          (λ n. NoDeltas GDelta n c.args.bytes.now c.in_ok-stored.first fault)
-          (fewer c.in_ok-stored.stored) f,
-    ))) in
+          (λ n. NoDeltas GDelta n c.args.bytes.now c.in_ok-stored.first c.in_err-moves.field-0.0)
+          (fewer c.in_ok-stored.stored) c.in_err-moves.ensures.bad,
+    )) in
     handed_on _ _ _ c.from_residual-in_err-moves.ensures.0 c.from_residual-in_err-moves.ensures.1 fails

@@ -1,9 +1,8 @@
 use Rattle.std.proofs.Common.{refl, [], ◌∷◌, inl, inr, subst, ◌∙◌}
-use Rattle.geo_stream.specs.Refusals.{IsForFault}
 use Rattle.oas_record.specs.Lists.{NoDeltas}
 use Rattle.oas_record.specs.Repetitions.{rep_rows, row_at, RowFails, Just, AndFewer}
 use Rattle.oas_record.specs.declared.delta_form.DeltaForm.TheVariants.{GDelta}
-use Rattle.oas_record.proofs.Refusals.{handed_on, fault_or}
+use Rattle.oas_record.proofs.Refusals.{handed_on}
 use Rattle.oas_record.proofs.RepLemmas.{one, dim, fewer, fails_after}
 use Rattle.oas_record.proofs.repetition_readers.moves_on_grid.Goals as goal
 
@@ -33,10 +32,9 @@ returns-in_err-grid-clause-bad c =
 
 pub returns-in_err-moves-clause-bad : goal.returns-in_err-moves-clause-bad
 returns-in_err-moves-clause-bad c =
-    let fails : IsForFault (RowFails (row_at rep_rows 11) c.args.bytes.now c.args.at) c.in_err-moves.field-0.0 =
-    fault_or _ _ c.in_err-moves.field-0.0 c.in_err-moves.ensures.bad
-    (λ fault f. fails_after (record { dims = 1; numbers = Just 1; deltas = AndFewer 0 }) c.args.bytes.now c.args.at
-    c.in_ok-stored.stored c.in_ok-stored.grid_at fault refl c.in_ok-stored.ensures.ok
+    let fails : RowFails (row_at rep_rows 11) c.args.bytes.now c.args.at c.in_err-moves.field-0.0 =
+    fails_after (record { dims = 1; numbers = Just 1; deltas = AndFewer 0 }) c.args.bytes.now c.args.at
+    c.in_ok-stored.stored c.in_ok-stored.grid_at c.in_err-moves.field-0.0 refl c.in_ok-stored.ensures.ok
     (inr (
       c.in_ok-grid.grid ∷ [],
       c.in_ok-grid.first,
@@ -46,7 +44,7 @@ returns-in_err-moves-clause-bad c =
             c.in_ok-grid.ensures.ok,
       ),
       subst
-          (λ n. NoDeltas GDelta n c.args.bytes.now c.in_ok-grid.first fault)
-          (fewer c.in_ok-stored.stored) f,
-    ))) in
+          (λ n. NoDeltas GDelta n c.args.bytes.now c.in_ok-grid.first c.in_err-moves.field-0.0)
+          (fewer c.in_ok-stored.stored) c.in_err-moves.ensures.bad,
+    )) in
     handed_on _ _ _ c.from_residual-in_err-moves.ensures.0 c.from_residual-in_err-moves.ensures.1 fails

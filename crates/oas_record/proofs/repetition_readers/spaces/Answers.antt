@@ -1,8 +1,7 @@
 use Rattle.std.proofs.Common.{refl, [], ◌∷◌, inl, subst, ◌∙◌}
-use Rattle.geo_stream.specs.Refusals.{IsForFault}
 use Rattle.oas_record.specs.Lists.{NoNumbers}
 use Rattle.oas_record.specs.Repetitions.{rep_rows, row_at, RowFails, Just, AndFewer}
-use Rattle.oas_record.proofs.Refusals.{handed_on, fault_or}
+use Rattle.oas_record.proofs.Refusals.{handed_on}
 use Rattle.oas_record.proofs.RepLemmas.{one, dim, fewer, fails_after}
 use Rattle.oas_record.proofs.repetition_readers.spaces.Goals as goal
 
@@ -24,10 +23,9 @@ returns-clause-ok c = (
 
 pub returns-in_err-spaces-clause-bad : goal.returns-in_err-spaces-clause-bad
 returns-in_err-spaces-clause-bad c =
-    let fails : IsForFault (RowFails (row_at rep_rows 4) c.args.bytes.now c.args.at) c.in_err-spaces.field-0.0 =
-    fault_or _ _ c.in_err-spaces.field-0.0 c.in_err-spaces.ensures.bad
-    (λ fault f. fails_after (record { dims = 1; numbers = AndFewer 0; deltas = Just 0 }) c.args.bytes.now c.args.at
-    c.in_ok-stored.stored c.in_ok-stored.first fault refl c.in_ok-stored.ensures.ok
-    (inl (subst (λ n. NoNumbers n c.args.bytes.now c.in_ok-stored.first fault)
-    (fewer c.in_ok-stored.stored) f))) in
+    let fails : RowFails (row_at rep_rows 4) c.args.bytes.now c.args.at c.in_err-spaces.field-0.0 =
+    fails_after (record { dims = 1; numbers = AndFewer 0; deltas = Just 0 }) c.args.bytes.now c.args.at
+    c.in_ok-stored.stored c.in_ok-stored.first c.in_err-spaces.field-0.0 refl c.in_ok-stored.ensures.ok
+    (inl (subst (λ n. NoNumbers n c.args.bytes.now c.in_ok-stored.first c.in_err-spaces.field-0.0)
+    (fewer c.in_ok-stored.stored) c.in_err-spaces.ensures.bad)) in
     handed_on _ _ _ c.from_residual-in_err-spaces.ensures.0 c.from_residual-in_err-spaces.ensures.1 fails

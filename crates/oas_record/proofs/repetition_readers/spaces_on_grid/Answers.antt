@@ -1,8 +1,7 @@
 use Rattle.std.proofs.Common.{refl, [], ◌∷◌, inl, inr, arith, subst}
-use Rattle.geo_stream.specs.Refusals.{IsForFault}
 use Rattle.oas_record.specs.Lists.{NoNumbers}
 use Rattle.oas_record.specs.Repetitions.{rep_rows, row_at, RowFails, Just, AndFewer}
-use Rattle.oas_record.proofs.Refusals.{handed_on, fault_or}
+use Rattle.oas_record.proofs.Refusals.{handed_on}
 use Rattle.oas_record.proofs.RepLemmas.{one, dim, one_and_fewer, fails_after}
 use Rattle.oas_record.proofs.repetition_readers.spaces_on_grid.Goals as goal
 
@@ -33,11 +32,10 @@ returns-in_err-grid-clause-bad c =
 
 pub returns-in_err-spaces-clause-bad : goal.returns-in_err-spaces-clause-bad
 returns-in_err-spaces-clause-bad c =
-    let fails : IsForFault (RowFails (row_at rep_rows 5) c.args.bytes.now c.args.at) c.in_err-spaces.field-0.0 =
-    fault_or _ _ c.in_err-spaces.field-0.0 c.in_err-spaces.ensures.bad
-    (λ fault f. fails_after (record { dims = 1; numbers = AndFewer 1; deltas = Just 0 }) c.args.bytes.now c.args.at
-    c.in_ok-stored.stored c.in_ok-stored.grid_at fault refl c.in_ok-stored.ensures.ok
-    (inl (subst (λ n. NoNumbers n c.args.bytes.now c.in_ok-stored.grid_at fault)
+    let fails : RowFails (row_at rep_rows 5) c.args.bytes.now c.args.at c.in_err-spaces.field-0.0 =
+    fails_after (record { dims = 1; numbers = AndFewer 1; deltas = Just 0 }) c.args.bytes.now c.args.at
+    c.in_ok-stored.stored c.in_ok-stored.grid_at c.in_err-spaces.field-0.0 refl c.in_ok-stored.ensures.ok
+    (inl (subst (λ n. NoNumbers n c.args.bytes.now c.in_ok-stored.grid_at c.in_err-spaces.field-0.0)
     (one_and_fewer c.in_ok-stored.stored)
-    (inr (c.in_ok-grid.grid, c.in_ok-grid.first, c.in_ok-grid.ensures.ok, f))))) in
+    (inr (c.in_ok-grid.grid, c.in_ok-grid.first, c.in_ok-grid.ensures.ok, c.in_err-spaces.ensures.bad)))) in
     handed_on _ _ _ c.from_residual-in_err-spaces.ensures.0 c.from_residual-in_err-spaces.ensures.1 fails

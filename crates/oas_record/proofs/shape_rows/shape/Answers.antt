@@ -3,7 +3,7 @@ use Rattle.oas_record.specs.Records.{number_or, own_fields}
 use Rattle.oas_record.specs.Rows.{pair, place}
 use Rattle.oas_record.specs.Shapes.{own_parts, switches_by}
 use Rattle.oas_record.proofs.Joins.{fails_first, fails_then}
-use Rattle.oas_record.proofs.Refusals.{handed_on, fault_or}
+use Rattle.oas_record.proofs.Refusals.{handed_on}
 use Rattle.oas_record.proofs.ShapeLemmas.{shape_there, info_missing, fields_missing, no_place_by}
 use Rattle.oas_record.proofs.shape_rows.shape.Goals as goal
 
@@ -31,20 +31,18 @@ returns-in_err-layer-clause-bad c = handed_on _ _ _ c.from_residual-in_err-layer
 
 pub returns-in_err-kind-clause-bad : goal.returns-in_err-kind-clause-bad
 returns-in_err-kind-clause-bad c = handed_on _ _ _ c.from_residual-in_err-kind.ensures.0 c.from_residual-in_err-kind.ensures.1
-    (fault_or _ _ c.in_err-kind.field-0.0 c.in_err-kind.ensures.bad
-    (λ fault f. fields_missing c.args.form c.args.bytes.now c.args.at c.in_ok-info.info fault
+    (fields_missing c.args.form c.args.bytes.now c.args.at c.in_ok-info.info c.in_err-kind.field-0.0
     c.in_ok-info.ensures.there c.in_ok-info.ensures.ok c.in_ok-info.ensures.allowed
     (fails_then pair (own_parts c.args.form ++ place) c.in_ok-info.info c.in_ok-info.info c.args.bytes.now (c.args.at + 1)
-    (number_or c.in_ok-layer.layer ∷ number_or c.in_ok-layer.datatype ∷ []) c.in_ok-layer.second fault refl c.in_ok-layer.ensures.ok
-    (fails_first (own_parts c.args.form) place c.in_ok-info.info c.args.bytes.now c.in_ok-layer.second fault f))))
+    (number_or c.in_ok-layer.layer ∷ number_or c.in_ok-layer.datatype ∷ []) c.in_ok-layer.second c.in_err-kind.field-0.0 refl c.in_ok-layer.ensures.ok
+    (fails_first (own_parts c.args.form) place c.in_ok-info.info c.args.bytes.now c.in_ok-layer.second c.in_err-kind.field-0.0 c.in_err-kind.ensures.bad)))
 
 pub returns-in_err-x-clause-bad : goal.returns-in_err-x-clause-bad
 returns-in_err-x-clause-bad c = handed_on _ _ _ c.from_residual-in_err-x.ensures.0 c.from_residual-in_err-x.ensures.1
-    (fault_or _ _ c.in_err-x.field-0.0 c.in_err-x.ensures.bad
-    (λ fault f. fields_missing c.args.form c.args.bytes.now c.args.at c.in_ok-info.info fault
+    (fields_missing c.args.form c.args.bytes.now c.args.at c.in_ok-info.info c.in_err-x.field-0.0
     c.in_ok-info.ensures.there c.in_ok-info.ensures.ok c.in_ok-info.ensures.allowed
     (fails_then pair (own_parts c.args.form ++ place) c.in_ok-info.info c.in_ok-info.info c.args.bytes.now (c.args.at + 1)
-    (number_or c.in_ok-layer.layer ∷ number_or c.in_ok-layer.datatype ∷ []) c.in_ok-layer.second fault refl c.in_ok-layer.ensures.ok
+    (number_or c.in_ok-layer.layer ∷ number_or c.in_ok-layer.datatype ∷ []) c.in_ok-layer.second c.in_err-x.field-0.0 refl c.in_ok-layer.ensures.ok
     (fails_then (own_parts c.args.form) place c.in_ok-info.info (switches_by c.in_ok-kind.kind c.in_ok-info.info) c.args.bytes.now
-    c.in_ok-layer.second (own_fields c.in_ok-kind.kind) c.in_ok-kind.third fault c.in_ok-kind.ensures.ok.switches c.in_ok-kind.ensures.ok.fields
-    (no_place_by c.in_ok-kind.kind c.in_ok-info.info c.args.bytes.now c.in_ok-kind.third fault f)))))
+    c.in_ok-layer.second (own_fields c.in_ok-kind.kind) c.in_ok-kind.third c.in_err-x.field-0.0 c.in_ok-kind.ensures.ok.switches c.in_ok-kind.ensures.ok.fields
+    (no_place_by c.in_ok-kind.kind c.in_ok-info.info c.args.bytes.now c.in_ok-kind.third c.in_err-x.field-0.0 c.in_err-x.ensures.bad))))

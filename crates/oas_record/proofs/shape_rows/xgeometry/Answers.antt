@@ -3,7 +3,7 @@ use Rattle.oas_record.specs.Parts.{parts_at}
 use Rattle.oas_record.specs.Records.{number_or, place_of}
 use Rattle.oas_record.specs.Rows.{Number, Text, IsNumber, IsSpan, Always, Below, when, pair, place}
 use Rattle.oas_record.proofs.Joins.{joined, fails_first, fails_then, info_refused, fields_refused}
-use Rattle.oas_record.proofs.Refusals.{handed_on, fault_or}
+use Rattle.oas_record.proofs.Refusals.{handed_on}
 use Rattle.oas_record.proofs.shape_rows.xgeometry.Goals as goal
 
 pub returns-clause-ok : goal.returns-clause-ok
@@ -79,18 +79,17 @@ returns-in_err-text-clause-bad c =
 
 pub returns-in_err-x-clause-bad : goal.returns-in_err-x-clause-bad
 returns-in_err-x-clause-bad c = handed_on _ _ _ c.from_residual-in_err-x.ensures.0 c.from_residual-in_err-x.ensures.1
-    (fault_or _ _ c.in_err-x.field-0.0 c.in_err-x.ensures.bad
-    (λ fault f. (fields_refused
-    (record { info = Below 32; parts = parts_at 33 }) c.args.bytes.now c.args.at c.in_ok-info.info fault
+    ((fields_refused
+    (record { info = Below 32; parts = parts_at 33 }) c.args.bytes.now c.args.at c.in_ok-info.info c.in_err-x.field-0.0
     c.in_ok-info.ensures.there c.in_ok-info.ensures.ok c.in_ok-info.ensures.allowed
     (fails_then (when Always Number ∷ [])
     (pair ++ ((when Always Text ∷ []) ++ place)) c.in_ok-info.info c.in_ok-info.info c.args.bytes.now (c.args.at + 1)
-    (IsNumber c.in_ok-attribute.attribute ∷ []) c.in_ok-attribute.second fault refl
+    (IsNumber c.in_ok-attribute.attribute ∷ []) c.in_ok-attribute.second c.in_err-x.field-0.0 refl
     (c.in_ok-attribute.second, (c.in_ok-attribute.attribute, c.in_ok-attribute.ensures.ok, refl), refl)
     (fails_then pair ((when Always Text ∷ []) ++ place) c.in_ok-info.info c.in_ok-info.info c.args.bytes.now
     c.in_ok-attribute.second
-    (number_or c.in_ok-layer.layer ∷ number_or c.in_ok-layer.datatype ∷ []) c.in_ok-layer.third fault
+    (number_or c.in_ok-layer.layer ∷ number_or c.in_ok-layer.datatype ∷ []) c.in_ok-layer.third c.in_err-x.field-0.0
     refl c.in_ok-layer.ensures.ok
     (fails_then (when Always Text ∷ []) place c.in_ok-info.info c.in_ok-info.info c.args.bytes.now c.in_ok-layer.third
-    (IsSpan c.in_ok-text.text ∷ []) c.in_ok-text.text.1 fault refl
-    (c.in_ok-text.text.1, (c.in_ok-text.text.0, c.in_ok-text.ensures.ok, refl), refl) (f)))))))
+    (IsSpan c.in_ok-text.text ∷ []) c.in_ok-text.text.1 c.in_err-x.field-0.0 refl
+    (c.in_ok-text.text.1, (c.in_ok-text.text.0, c.in_ok-text.ensures.ok, refl), refl) (c.in_err-x.ensures.bad))))))
