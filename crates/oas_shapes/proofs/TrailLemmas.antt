@@ -1,5 +1,5 @@
 -- Places that are listed one by one.
-use Rattle.std.proofs.Common.{◌≡◌, ◌↔◌, ◌+◌, ◌<◌, ◌≤◌, length, ℤ, pos, List, [], ◌∷◌, ◌++◌, map, sym, ap, subst, ◌∙◌, arith, Result, Ok, Err}
+use Rattle.std.proofs.Common.{◌≡◌, ◌↔◌, ◌+◌, ◌<◌, ◌≤◌, length, ℤ, pos, List, [], ◌∷◌, ◌++◌, map, refl, sym, ap, subst, ◌∙◌, arith, Result, Ok, Err}
 use Rattle.std.specs.Prelude.{IsOk, IfOk, IfErr, ◌≢◌, ◌*ℤ◌, ◌+ℤ◌, ◌-ℤ◌}
 use Rattle.std.proofs.lemmas.List.{length-map}
 use Rattle.std.proofs.lemmas.List.Elements.{All-nil, All-cons, All-head, All-tail}
@@ -38,6 +38,10 @@ one_time z = omega (arith, ints)
 
 pub once : (p : Point) → enlarged 1 p ≡ p
 once p = same_point (pos 1 *ℤ p.x) p.x (pos 1 *ℤ p.y) p.y (one_time p.x) (one_time p.y)
+
+pub all_once : (ps : List Point) → map (enlarged 1) ps ≡ ps
+all_once [] = refl
+all_once (p ∷ ps) = ap (λ q. q ∷ map (enlarged 1) ps) (once p) ∙ ap (λ qs. p ∷ qs) (all_once ps)
 
 -- the move from one place to another
 pub way_is : (from to way : Point) → to ≡ moved from way → point (to.x -ℤ from.x) (to.y -ℤ from.y) ≡ way

@@ -98,7 +98,11 @@ fn closed(kind: u8, vertices: Places) -> Result<Places, Unplaced>
 }
 
 /// The outline of a polygon at this position, in half units. One of up to twelve points takes no memory.
-pub(crate) fn polygon_outline(alloc: Global, at: Point, points: &Deltas<'_>) -> Result<Places, Unplaced>
+pub(crate) fn polygon_outline(
+    alloc: Global,
+    at: Point,
+    points: &Deltas<'_>,
+) -> Result<Places, Unplaced>
     requires { IsNear at }
     ensures outline { IfOk result (λ outline. outline.items ≡ the_polygon_outline at points.now) }
     ensures near { IfOk result (λ outline. AreNear outline.items) }

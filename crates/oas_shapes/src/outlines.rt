@@ -193,7 +193,7 @@ fn made_at(alloc: Global, at: Point, written: &Deltas<'_>) -> Option<Made>
 impl<'f> PointList<'f> {
     /// The list that is written so.
     pub fn new(written: Deltas<'f>) -> PointList<'f>
-        ensures { result ≡ written }
+        ensures { result ≡ written.entry }
     {
         PointList {
             written,

@@ -103,7 +103,7 @@ fn made_path(alloc: Global, at: Point, written: &Deltas<'_>) -> Option<MadePath>
 impl<'f> PathList<'f> {
     /// The list that is written so.
     pub fn new(written: Deltas<'f>) -> PathList<'f>
-        ensures { result ≡ written }
+        ensures { result ≡ written.entry }
     {
         PathList {
             written,

@@ -259,7 +259,11 @@ fn by_lattice(
 }
 
 /// The offsets of a repetition in half units.
-pub(crate) fn spread(alloc: Global, repetition: &Rep<'_>, is_allowed: bool) -> Result<Offsets, Unplaced>
+pub(crate) fn spread(
+    alloc: Global,
+    repetition: &Rep<'_>,
+    is_allowed: bool,
+) -> Result<Offsets, Unplaced>
     requires { IsTrue is_allowed → HasDimensions repetition.now }
     ensures ok { IfOk result (λ offsets. (offsets ≡ the_offsets_of repetition.now) × AreOffsets offsets × HasDimensions repetition.now) }
     ensures far { result ≡ Err Far → ¬ AreNear (the_offsets_of repetition.now) }
@@ -278,37 +282,15 @@ pub(crate) fn spread(alloc: Global, repetition: &Rep<'_>, is_allowed: bool) -> R
         Rep::Row { dim, space } => by_step(alloc, *dim, towards(false, *space), is_allowed),
         Rep::Column { dim, space } => by_step(alloc, *dim, towards(true, *space), is_allowed),
         Rep::RowSpaces { spaces, .. } => by_own_spaces(alloc, false, spaces, is_allowed),
-        Rep::RowOnGrid { grid, spaces, .. } => by_spaces(
-            alloc,
-            false,
-            *grid,
-            spaces,
-            is_allowed,
-        ),
-        Rep::ColumnSpaces { spaces, .. } => by_own_spaces(
-            alloc,
-            true,
-            spaces,
-            is_allowed,
-        ),
-        Rep::ColumnOnGrid { grid, spaces, .. } => by_spaces(
-            alloc,
-            true,
-            *grid,
-            spaces,
-            is_allowed,
-        ),
+        Rep::RowOnGrid { grid, spaces, .. } => by_spaces(alloc, false, *grid, spaces, is_allowed),
+        Rep::ColumnSpaces { spaces, .. } => by_own_spaces(alloc, true, spaces, is_allowed),
+        Rep::ColumnOnGrid { grid, spaces, .. } => by_spaces(alloc, true, *grid, spaces, is_allowed),
         Rep::Lattice { n_dim, m_dim, u, v } => by_lattice(
             alloc, *n_dim, *m_dim, *u, *v, is_allowed,
         ),
         Rep::Line { dim, u } => by_step(alloc, *dim, widened(*u), is_allowed),
         Rep::Moves { moves, .. } => by_moves(alloc, moves, is_allowed),
-        Rep::MovesOnGrid { grid, moves, .. } => by_moves_on_grid(
-            alloc,
-            *grid,
-            moves,
-            is_allowed,
-        ),
+        Rep::MovesOnGrid { grid, moves, .. } => by_moves_on_grid(alloc, *grid, moves, is_allowed),
     }
 }
 
@@ -334,7 +316,7 @@ pub(crate) fn offsets_in(
 
 /// The offsets of a repetition in half units: those of a placement, say. One that is regular is kept as a grid.
 /// Whatever rule one of at most twelve places or a regular one breaks is told, also where memory is wanting.
-pub fn offsets_of(alloc: Global, repetition: &Rep<'_>etition) -> Result<Offsets, Undrawn>
+pub fn offsets_of(alloc: Global, repetition: &Repetition<'_>) -> Result<Offsets, Undrawn>
     ensures offsets { IfOk result (λ offsets. offsets ≡ the_offsets_of repetition.now) }
     ensures grid { IfOk result AreOffsets }
     ensures kept { IfOk result (λ _. (rule : ℕ) → KeepsRepetition repetition.now rule) }

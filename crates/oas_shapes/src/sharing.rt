@@ -46,7 +46,7 @@ fn is_listed(repetition: &Rep<'_>) -> bool {
 impl<'f> Repetition<'f> {
     /// The repetition that is written so.
     pub fn new(written: Rep<'f>) -> Repetition<'f>
-        ensures { result ≡ written }
+        ensures { result ≡ written.entry }
     {
         Repetition {
             written,

@@ -8,7 +8,7 @@ use Rattle.oas_shapes.proofs.TrailLemmas.{some_places}
 use Rattle.oas_shapes.proofs.repetitions.by_moves_on_grid.Goals as goal
 
 pub listed-requires : goal.listed-requires
-listed-requires c = λ yes.
+listed-requires c =
     subst AreOffsets (sym (c.as_slice.ensures ∙ c.in-Ok.ensures.places))
     (are_offsets (places_along origin (map (enlarged c.args.grid) c.args.moves.now))
     (some_places origin (map (enlarged c.args.grid) c.args.moves.now))

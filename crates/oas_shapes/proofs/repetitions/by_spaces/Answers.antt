@@ -9,7 +9,7 @@ use Rattle.oas_shapes.proofs.TrailLemmas.{some_places}
 use Rattle.oas_shapes.proofs.repetitions.by_spaces.Goals as goal
 
 pub listed-requires : goal.listed-requires
-listed-requires c = λ yes.
+listed-requires c =
     subst AreOffsets (sym (c.as_slice.ensures ∙ c.in-Ok.ensures.places))
     (are_offsets (places_along origin
     (map (λ space. enlarged c.args.grid (towards c.args.is_upright space)) c.args.spaces.now))

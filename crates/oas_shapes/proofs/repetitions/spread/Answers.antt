@@ -11,77 +11,77 @@ use Rattle.oas_shapes.proofs.repetitions.spread.Goals as goal
 pub returns-in-RowSpaces-clause-ok : goal.returns-in-RowSpaces-clause-ok
 returns-in-RowSpaces-clause-ok c =
     let places : List ℕ → List Point = λ xs. places_along origin (map east xs) in
-    arm_ok c.args.repetition.now c.args.is_allowed (places c.as_slice.result.now) _ c.requires
-    (ap places c.as_slice.ensures ∙ sym (ap steps_of c.in-RowSpaces.is)) c.by_own_spaces.ensures.ok
+    arm_ok c.args.repetition.now c.args.is_allowed (places c.in-RowSpaces.spaces) _ c.requires
+    (sym (ap steps_of c.in-RowSpaces.is)) c.by_own_spaces.ensures.ok
 
 pub returns-in-RowSpaces-clause-far : goal.returns-in-RowSpaces-clause-far
 returns-in-RowSpaces-clause-far c =
     let places : List ℕ → List Point = λ xs. places_along origin (map east xs) in
-    arm_far c.args.repetition.now (places c.as_slice.result.now) _ (ap places c.as_slice.ensures ∙ sym (ap steps_of c.in-RowSpaces.is))
+    arm_far c.args.repetition.now (places c.in-RowSpaces.spaces) _ (sym (ap steps_of c.in-RowSpaces.is))
     c.by_own_spaces.ensures.far
 
 pub returns-in-ColumnSpaces-clause-ok : goal.returns-in-ColumnSpaces-clause-ok
 returns-in-ColumnSpaces-clause-ok c =
     let places : List ℕ → List Point = λ xs. places_along origin (map north xs) in
-    arm_ok c.args.repetition.now c.args.is_allowed (places c.as_slice-in-ColumnSpaces.result.now) _ c.requires
-    (ap places c.as_slice-in-ColumnSpaces.ensures ∙ sym (ap steps_of c.in-ColumnSpaces.is)) c.by_own_spaces-in-ColumnSpaces.ensures.ok
+    arm_ok c.args.repetition.now c.args.is_allowed (places c.in-ColumnSpaces.spaces) _ c.requires
+    (sym (ap steps_of c.in-ColumnSpaces.is)) c.by_own_spaces-in-ColumnSpaces.ensures.ok
 
 pub returns-in-ColumnSpaces-clause-far : goal.returns-in-ColumnSpaces-clause-far
 returns-in-ColumnSpaces-clause-far c =
     let places : List ℕ → List Point = λ xs. places_along origin (map north xs) in
-    arm_far c.args.repetition.now (places c.as_slice-in-ColumnSpaces.result.now) _
-    (ap places c.as_slice-in-ColumnSpaces.ensures ∙ sym (ap steps_of c.in-ColumnSpaces.is))
+    arm_far c.args.repetition.now (places c.in-ColumnSpaces.spaces) _
+    (sym (ap steps_of c.in-ColumnSpaces.is))
     c.by_own_spaces-in-ColumnSpaces.ensures.far
 
 pub returns-in-RowOnGrid-clause-ok : goal.returns-in-RowOnGrid-clause-ok
 returns-in-RowOnGrid-clause-ok c =
     let places : List ℕ → List Point = λ xs. places_along origin (map (λ space. enlarged c.in-RowOnGrid.grid (east space)) xs) in
-    arm_ok c.args.repetition.now c.args.is_allowed (places c.as_slice-in-RowOnGrid.result.now) _ c.requires
-    (ap places c.as_slice-in-RowOnGrid.ensures ∙ sym (ap steps_of c.in-RowOnGrid.is)) c.by_spaces.ensures.ok
+    arm_ok c.args.repetition.now c.args.is_allowed (places c.in-RowOnGrid.spaces) _ c.requires
+    (sym (ap steps_of c.in-RowOnGrid.is)) c.by_spaces.ensures.ok
 
 pub returns-in-RowOnGrid-clause-far : goal.returns-in-RowOnGrid-clause-far
 returns-in-RowOnGrid-clause-far c =
     let places : List ℕ → List Point = λ xs. places_along origin (map (λ space. enlarged c.in-RowOnGrid.grid (east space)) xs) in
-    arm_far c.args.repetition.now (places c.as_slice-in-RowOnGrid.result.now) _
-    (ap places c.as_slice-in-RowOnGrid.ensures ∙ sym (ap steps_of c.in-RowOnGrid.is))
+    arm_far c.args.repetition.now (places c.in-RowOnGrid.spaces) _
+    (sym (ap steps_of c.in-RowOnGrid.is))
     c.by_spaces.ensures.far
 
 pub returns-in-ColumnOnGrid-clause-ok : goal.returns-in-ColumnOnGrid-clause-ok
 returns-in-ColumnOnGrid-clause-ok c =
     let places : List ℕ → List Point = λ xs. places_along origin (map (λ space. enlarged c.in-ColumnOnGrid.grid (north space)) xs) in
-    arm_ok c.args.repetition.now c.args.is_allowed (places c.as_slice-in-ColumnOnGrid.result.now) _ c.requires
-    (ap places c.as_slice-in-ColumnOnGrid.ensures ∙ sym (ap steps_of c.in-ColumnOnGrid.is)) c.by_spaces-in-ColumnOnGrid.ensures.ok
+    arm_ok c.args.repetition.now c.args.is_allowed (places c.in-ColumnOnGrid.spaces) _ c.requires
+    (sym (ap steps_of c.in-ColumnOnGrid.is)) c.by_spaces-in-ColumnOnGrid.ensures.ok
 
 pub returns-in-ColumnOnGrid-clause-far : goal.returns-in-ColumnOnGrid-clause-far
 returns-in-ColumnOnGrid-clause-far c =
     let places : List ℕ → List Point = λ xs. places_along origin (map (λ space. enlarged c.in-ColumnOnGrid.grid (north space)) xs) in
-    arm_far c.args.repetition.now (places c.as_slice-in-ColumnOnGrid.result.now) _
-    (ap places c.as_slice-in-ColumnOnGrid.ensures ∙ sym (ap steps_of c.in-ColumnOnGrid.is))
+    arm_far c.args.repetition.now (places c.in-ColumnOnGrid.spaces) _
+    (sym (ap steps_of c.in-ColumnOnGrid.is))
     c.by_spaces-in-ColumnOnGrid.ensures.far
 
 pub returns-in-Moves-clause-ok : goal.returns-in-Moves-clause-ok
 returns-in-Moves-clause-ok c =
     let places : List Point → List Point = λ xs. places_along origin xs in
-    arm_ok c.args.repetition.now c.args.is_allowed (places c.as_slice-in-Moves.result.now) _ c.requires
-    (ap places c.as_slice-in-Moves.ensures ∙ sym (ap steps_of c.in-Moves.is)) c.by_moves.ensures.ok
+    arm_ok c.args.repetition.now c.args.is_allowed (places c.in-Moves.moves) _ c.requires
+    (sym (ap steps_of c.in-Moves.is)) c.by_moves.ensures.ok
 
 pub returns-in-Moves-clause-far : goal.returns-in-Moves-clause-far
 returns-in-Moves-clause-far c =
     let places : List Point → List Point = λ xs. places_along origin xs in
-    arm_far c.args.repetition.now (places c.as_slice-in-Moves.result.now) _ (ap places c.as_slice-in-Moves.ensures ∙ sym (ap steps_of c.in-Moves.is))
+    arm_far c.args.repetition.now (places c.in-Moves.moves) _ (sym (ap steps_of c.in-Moves.is))
     c.by_moves.ensures.far
 
 pub returns-in-MovesOnGrid-clause-ok : goal.returns-in-MovesOnGrid-clause-ok
 returns-in-MovesOnGrid-clause-ok c =
     let places : List Point → List Point = λ xs. places_along origin (map (enlarged c.in-MovesOnGrid.grid) xs) in
-    arm_ok c.args.repetition.now c.args.is_allowed (places c.as_slice-in-MovesOnGrid.result.now) _ c.requires
-    (ap places c.as_slice-in-MovesOnGrid.ensures ∙ sym (ap steps_of c.in-MovesOnGrid.is)) c.by_moves_on_grid.ensures.ok
+    arm_ok c.args.repetition.now c.args.is_allowed (places c.in-MovesOnGrid.moves) _ c.requires
+    (sym (ap steps_of c.in-MovesOnGrid.is)) c.by_moves_on_grid.ensures.ok
 
 pub returns-in-MovesOnGrid-clause-far : goal.returns-in-MovesOnGrid-clause-far
 returns-in-MovesOnGrid-clause-far c =
     let places : List Point → List Point = λ xs. places_along origin (map (enlarged c.in-MovesOnGrid.grid) xs) in
-    arm_far c.args.repetition.now (places c.as_slice-in-MovesOnGrid.result.now) _
-    (ap places c.as_slice-in-MovesOnGrid.ensures ∙ sym (ap steps_of c.in-MovesOnGrid.is))
+    arm_far c.args.repetition.now (places c.in-MovesOnGrid.moves) _
+    (sym (ap steps_of c.in-MovesOnGrid.is))
     c.by_moves_on_grid.ensures.far
 
 pub returns-in-Same-clause-ok : goal.returns-in-Same-clause-ok
@@ -100,62 +100,62 @@ returns-in-Lattice-clause-far c =
 pub returns-in-RowSpaces-clause-unkept : goal.returns-in-RowSpaces-clause-unkept
 returns-in-RowSpaces-clause-unkept c =
     let places : List ℕ → List Point = λ xs. places_along origin (map east xs) in
-    arm_unkept c.args.repetition.now c.args.is_allowed (places c.as_slice.result.now) _
-    (ap places c.as_slice.ensures ∙ sym (ap steps_of c.in-RowSpaces.is)) c.by_own_spaces.ensures.unkept
+    arm_unkept c.args.repetition.now c.args.is_allowed (places c.in-RowSpaces.spaces) _
+    (sym (ap steps_of c.in-RowSpaces.is)) c.by_own_spaces.ensures.unkept
 
 pub returns-in-RowSpaces-clause-few : goal.returns-in-RowSpaces-clause-few
 returns-in-RowSpaces-clause-few c = λ short.
-    c.by_own_spaces.ensures.few (subst AreFew (sym c.as_slice.ensures) (subst IsShort c.in-RowSpaces.is short))
+    c.by_own_spaces.ensures.few (subst IsShort c.in-RowSpaces.is short)
 
 pub returns-in-ColumnSpaces-clause-unkept : goal.returns-in-ColumnSpaces-clause-unkept
 returns-in-ColumnSpaces-clause-unkept c =
     let places : List ℕ → List Point = λ xs. places_along origin (map north xs) in
-    arm_unkept c.args.repetition.now c.args.is_allowed (places c.as_slice-in-ColumnSpaces.result.now) _
-    (ap places c.as_slice-in-ColumnSpaces.ensures ∙ sym (ap steps_of c.in-ColumnSpaces.is)) c.by_own_spaces-in-ColumnSpaces.ensures.unkept
+    arm_unkept c.args.repetition.now c.args.is_allowed (places c.in-ColumnSpaces.spaces) _
+    (sym (ap steps_of c.in-ColumnSpaces.is)) c.by_own_spaces-in-ColumnSpaces.ensures.unkept
 
 pub returns-in-ColumnSpaces-clause-few : goal.returns-in-ColumnSpaces-clause-few
 returns-in-ColumnSpaces-clause-few c = λ short.
-    c.by_own_spaces-in-ColumnSpaces.ensures.few (subst AreFew (sym c.as_slice-in-ColumnSpaces.ensures) (subst IsShort c.in-ColumnSpaces.is short))
+    c.by_own_spaces-in-ColumnSpaces.ensures.few (subst IsShort c.in-ColumnSpaces.is short)
 
 pub returns-in-RowOnGrid-clause-unkept : goal.returns-in-RowOnGrid-clause-unkept
 returns-in-RowOnGrid-clause-unkept c =
     let places : List ℕ → List Point = λ xs. places_along origin (map (λ space. enlarged c.in-RowOnGrid.grid (east space)) xs) in
-    arm_unkept c.args.repetition.now c.args.is_allowed (places c.as_slice-in-RowOnGrid.result.now) _
-    (ap places c.as_slice-in-RowOnGrid.ensures ∙ sym (ap steps_of c.in-RowOnGrid.is)) c.by_spaces.ensures.unkept
+    arm_unkept c.args.repetition.now c.args.is_allowed (places c.in-RowOnGrid.spaces) _
+    (sym (ap steps_of c.in-RowOnGrid.is)) c.by_spaces.ensures.unkept
 
 pub returns-in-RowOnGrid-clause-few : goal.returns-in-RowOnGrid-clause-few
 returns-in-RowOnGrid-clause-few c = λ short.
-    c.by_spaces.ensures.few (subst AreFew (sym c.as_slice-in-RowOnGrid.ensures) (subst IsShort c.in-RowOnGrid.is short))
+    c.by_spaces.ensures.few (subst IsShort c.in-RowOnGrid.is short)
 
 pub returns-in-ColumnOnGrid-clause-unkept : goal.returns-in-ColumnOnGrid-clause-unkept
 returns-in-ColumnOnGrid-clause-unkept c =
     let places : List ℕ → List Point = λ xs. places_along origin (map (λ space. enlarged c.in-ColumnOnGrid.grid (north space)) xs) in
-    arm_unkept c.args.repetition.now c.args.is_allowed (places c.as_slice-in-ColumnOnGrid.result.now) _
-    (ap places c.as_slice-in-ColumnOnGrid.ensures ∙ sym (ap steps_of c.in-ColumnOnGrid.is)) c.by_spaces-in-ColumnOnGrid.ensures.unkept
+    arm_unkept c.args.repetition.now c.args.is_allowed (places c.in-ColumnOnGrid.spaces) _
+    (sym (ap steps_of c.in-ColumnOnGrid.is)) c.by_spaces-in-ColumnOnGrid.ensures.unkept
 
 pub returns-in-ColumnOnGrid-clause-few : goal.returns-in-ColumnOnGrid-clause-few
 returns-in-ColumnOnGrid-clause-few c = λ short.
-    c.by_spaces-in-ColumnOnGrid.ensures.few (subst AreFew (sym c.as_slice-in-ColumnOnGrid.ensures) (subst IsShort c.in-ColumnOnGrid.is short))
+    c.by_spaces-in-ColumnOnGrid.ensures.few (subst IsShort c.in-ColumnOnGrid.is short)
 
 pub returns-in-Moves-clause-unkept : goal.returns-in-Moves-clause-unkept
 returns-in-Moves-clause-unkept c =
     let places : List Point → List Point = λ xs. places_along origin xs in
-    arm_unkept c.args.repetition.now c.args.is_allowed (places c.as_slice-in-Moves.result.now) _
-    (ap places c.as_slice-in-Moves.ensures ∙ sym (ap steps_of c.in-Moves.is)) c.by_moves.ensures.unkept
+    arm_unkept c.args.repetition.now c.args.is_allowed (places c.in-Moves.moves) _
+    (sym (ap steps_of c.in-Moves.is)) c.by_moves.ensures.unkept
 
 pub returns-in-Moves-clause-few : goal.returns-in-Moves-clause-few
 returns-in-Moves-clause-few c = λ short.
-    c.by_moves.ensures.few (subst AreFew (sym c.as_slice-in-Moves.ensures) (subst IsShort c.in-Moves.is short))
+    c.by_moves.ensures.few (subst IsShort c.in-Moves.is short)
 
 pub returns-in-MovesOnGrid-clause-unkept : goal.returns-in-MovesOnGrid-clause-unkept
 returns-in-MovesOnGrid-clause-unkept c =
     let places : List Point → List Point = λ xs. places_along origin (map (enlarged c.in-MovesOnGrid.grid) xs) in
-    arm_unkept c.args.repetition.now c.args.is_allowed (places c.as_slice-in-MovesOnGrid.result.now) _
-    (ap places c.as_slice-in-MovesOnGrid.ensures ∙ sym (ap steps_of c.in-MovesOnGrid.is)) c.by_moves_on_grid.ensures.unkept
+    arm_unkept c.args.repetition.now c.args.is_allowed (places c.in-MovesOnGrid.moves) _
+    (sym (ap steps_of c.in-MovesOnGrid.is)) c.by_moves_on_grid.ensures.unkept
 
 pub returns-in-MovesOnGrid-clause-few : goal.returns-in-MovesOnGrid-clause-few
 returns-in-MovesOnGrid-clause-few c = λ short.
-    c.by_moves_on_grid.ensures.few (subst AreFew (sym c.as_slice-in-MovesOnGrid.ensures) (subst IsShort c.in-MovesOnGrid.is short))
+    c.by_moves_on_grid.ensures.few (subst IsShort c.in-MovesOnGrid.is short)
 
 pub returns-in-Grid-clause-unkept : goal.returns-in-Grid-clause-unkept
 returns-in-Grid-clause-unkept c =
