@@ -36,7 +36,7 @@ use crate::naming::Names;
 use crate::order::Place;
 use crate::plain::take_plain;
 use crate::refusing::OasBad;
-use crate::reusing::{make_points, points_again};
+use crate::reusing::{make_places, make_points, points_again, repeated_again};
 use crate::taking::take_names;
 use crate::values::take_values;
 use geo_stream::Refusal;
@@ -141,23 +141,6 @@ fn tables_after(tables: bool, body: Body) -> bool
     }
 }
 
-// Whether the record is repeated as the last one before it that was.
-fn repeats_again(current: &OasRecord<'_>) -> bool {
-    matches!(written_repetition(current), Some(Rep::Same))
-}
-
-// Makes the places of the last repetition where it is used again, so that all records after share them.
-fn make_places(alloc: Global, fields: &mut Fields<'_>, again: bool)
-    ensures { fields.new ≡ fields.old }
-{
-    if !again {
-        return;
-    }
-    if let Some(repetition) = &mut fields.repetition {
-        repetition.make_places(alloc);
-    }
-}
-
 // Takes the record into the fields. The places of a repetition, the outline of a polygon's point list and the
 // rectangles of a path's that are used again are made, once.
 fn take_fields<'f>(
@@ -175,10 +158,10 @@ fn take_fields<'f>(
     ensures fields { (past : AList ARecord) → AreFields past fields.old → AreFields (current.entry ∷ past) fields.new }
     ensures cell { AreCalledWithin bytes.now fields.new.cell }
 {
-    let again = repeats_again(&current);
+    let again = repeated_again(&current);
     let same_points = points_again(&current);
     fields.take(current);
-    make_places(alloc, fields, again);
+    make_places(alloc, sorted, fields, again);
     make_points(alloc, sorted, fields, same_points);
 }
 

@@ -1,4 +1,4 @@
-//! Point lists that polygons and paths use again.
+//! Point lists and repetitions that records use again.
 ghost use Rattle.std.specs.Prelude.{◌≡◌, ◌^◌};
 ghost use Rattle.layout_model.specs.Pairs.{AreSorted};
 ghost use Rattle.oas_fields.specs.Values.{IsPlaceWithin};
@@ -8,7 +8,7 @@ use crate::placing::point_of;
 use crate::rules::positions_are_near;
 use layout_model::{Pair, is_among};
 use oas_fields::Fields;
-use oas_record::{OasRecord, ShapeKind};
+use oas_record::{OasRecord, Rep, ShapeKind};
 use std::alloc::Global;
 
 /// Whose point list a record uses again.
@@ -75,5 +75,55 @@ pub(crate) fn make_points(alloc: Global, sorted: &[Pair], fields: &mut Fields<'_
         Again::Polygon => make_outline(alloc, fields),
         Again::Path => make_segments(alloc, fields),
         Again::Nothing => {}
+    }
+}
+
+/// What uses the last repetition again.
+#[derive(Clone, Copy)]
+pub(crate) enum Repeated {
+    Placement,
+    Shape,
+    Nothing,
+}
+
+/// What the record is, if it is a placement or a shape that is repeated as the last record before it that was.
+pub(crate) fn repeated_again(current: &OasRecord<'_>) -> Repeated {
+    match current {
+        OasRecord::Placement {
+            repetition: Some(Rep::Same),
+            ..
+        } => Repeated::Placement,
+        OasRecord::Shape { head, .. } => {
+            if matches!(&head.repetition, Some(Rep::Same)) {
+                return Repeated::Shape;
+            }
+            Repeated::Nothing
+        }
+        _ => Repeated::Nothing,
+    }
+}
+
+// Whether the places are those of a placement or of a shape on a wanted pair.
+fn are_wanted(sorted: &[Pair], fields: &Fields<'_>, again: Repeated) -> bool
+    requires { AreSorted sorted.now }
+{
+    match again {
+        Repeated::Placement => true,
+        Repeated::Shape => is_among(sorted, pair_of(fields)),
+        Repeated::Nothing => false,
+    }
+}
+
+/// Makes the places of the last repetition where a placement or a wanted shape uses it again, so that all records after
+/// share them.
+pub(crate) fn make_places(alloc: Global, sorted: &[Pair], fields: &mut Fields<'_>, again: Repeated)
+    requires { AreSorted sorted.now }
+    ensures { fields.new ≡ fields.old }
+{
+    if !are_wanted(sorted, fields, again) {
+        return;
+    }
+    if let Some(repetition) = &mut fields.repetition {
+        repetition.make_places(alloc);
     }
 }

@@ -180,7 +180,8 @@ pub deltas_off : (form : DeltaForm) (count : ℕ) (bytes : List ℕ) (at : ℕ) 
     → deltas_from form count bytes at ≡ p ∷ deltas_from (turned form) (count - 1) bytes mid
 deltas_off form zero bytes at p mid some h = absurd (omega (arith, some))
 deltas_off form (suc count) bytes at p mid some h =
-    rw (one_less count) (both (delta_in form bytes at) p (deltas_from (turned form) count bytes (after_delta form bytes at)) (deltas_from (turned form) count bytes mid)
+    rw (one_less count)
+    (both (delta_in form bytes at) p (deltas_from (turned form) count bytes (after_delta form bytes at)) (deltas_from (turned form) count bytes mid)
     (delta_there form bytes at p mid h) (ap (λ (k : ℕ). deltas_from (turned form) count bytes k) (delta_ends form bytes at p mid h)))
 
 pub deltas_left : (form : DeltaForm) (count : ℕ) (bytes : List ℕ) (at : ℕ) (p : Point) (mid next : ℕ) → 0 < count
@@ -191,7 +192,8 @@ deltas_left form (suc count) bytes at p mid next some a h within =
     let after = delta_ends form bytes at p mid h in
     let same : a.stand.0 ≡ mid = sym (delta_ends form bytes at (delta_in form bytes at) a.stand.0 a.stand.1) ∙ after in
     let rest = subst (λ k. HasDeltas (turned form) bytes k (deltas_from (turned form) count bytes (after_delta form bytes at)) next) same a.stand.2 in
-    rw (one_less count) (record { within = within; stand = subst (λ k. HasDeltas (turned form) bytes mid (deltas_from (turned form) count bytes k) next) after rest })
+    let stand = subst (λ k. HasDeltas (turned form) bytes mid (deltas_from (turned form) count bytes k) next) after rest in
+    rw (one_less count) (record { within = within; stand = stand })
 
 pub deltas_stand : (form : DeltaForm) (count : ℕ) (bytes : List ℕ) (at next : ℕ) (bad : RecordBad) → 0 < count
     → AreDeltas form count bytes at next → NoDelta form bytes at bad → ⊥

@@ -43,4 +43,5 @@ returns-in_err-points-clause-bad c = handed_on _ _ _ c.from_residual-in_err-poin
     (number_or c.in_ok-half_width.half_width ∷ number_or c.in_ok-half_width.extension ∷ []) c.in_ok-half_width.second c.in_err-points.field-0.0 refl
     c.in_ok-half_width.ensures.ok
     (fails_then end_parts (when (Bit 5) PathPoints ∷ []) switches switches c.args.bytes.now c.in_ok-half_width.second
-    (signed_or c.in_ok-start.start ∷ signed_or c.in_ok-start.end ∷ []) c.in_ok-start.third c.in_err-points.field-0.0 refl c.in_ok-start.ensures.ok (inl c.in_err-points.ensures.bad)))
+    (signed_or c.in_ok-start.start ∷ signed_or c.in_ok-start.end ∷ []) c.in_ok-start.third c.in_err-points.field-0.0 refl
+    c.in_ok-start.ensures.ok (inl c.in_err-points.ensures.bad)))

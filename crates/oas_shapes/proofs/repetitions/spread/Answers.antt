@@ -1,10 +1,10 @@
-use Rattle.std.proofs.Common.{ℕ, List, ◌∙◌, map, sym, ap, subst}
+use Rattle.std.proofs.Common.{ℕ, List, map, sym, ap, subst}
 use Rattle.half_grid.specs.declared.plane.Point.{Point}
 use Rattle.layout_model.specs.Grids.{grid_places}
 use Rattle.layout_model.specs.Images.{enlarged}
 use Rattle.oas_shapes.specs.Plane.{origin, east, north, places_along}
 use Rattle.oas_shapes.specs.Repetitions.{steps_of}
-use Rattle.oas_shapes.specs.Short.{AreFew, IsShort}
+use Rattle.oas_shapes.specs.Short.{IsShort}
 use Rattle.oas_shapes.proofs.ArmLemmas.{arm_ok, arm_far, arm_unkept, arm_same}
 use Rattle.oas_shapes.proofs.repetitions.spread.Goals as goal
 

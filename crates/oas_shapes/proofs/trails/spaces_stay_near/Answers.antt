@@ -30,12 +30,14 @@ returns-in-None c =
     let at = c.loop-space.at in
     let same = subst (λ xs. AreNear (map doubled (places_along at (map way xs))) ↔ AreNear (map doubled whole)) c.in-Some.ensures c.loop-space.invariant.same in
     let far = subst (λ q. ¬ IsNear (moved at (enlarged c.args.grid q))) c.towards.ensures c.in-None.ensures.none in
-    (λ yes. absurd (cc), λ near. absurd (strays (map doubled whole) at (way c.in-Some.space) (map way c.next.new.self) c.loop-space.invariant.here same far near))
+    (λ yes. absurd (cc),
+    λ near. absurd (strays (map doubled whole) at (way c.in-Some.space) (map way c.next.new.self) c.loop-space.invariant.here same far near))
 
 pub returns : goal.returns
 returns c =
     let way : ℕ → Point = (λ space. enlarged c.args.grid (towards c.args.is_upright space)) in
     let whole = places_along origin (map way c.args.spaces.now) in
     let at = c.loop-space.at in
-    let same = subst (λ xs. AreNear (map doubled (places_along at (map way xs))) ↔ AreNear (map doubled whole)) c.in_default.ensures c.loop-space.invariant.same in
+    let same = subst (λ xs. AreNear (map doubled (places_along at (map way xs))) ↔ AreNear (map doubled whole))
+    c.in_default.ensures c.loop-space.invariant.same in
     (λ yes. stayed (map doubled whole) at c.loop-space.invariant.here same, λ near. refl)

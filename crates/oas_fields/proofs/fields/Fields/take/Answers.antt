@@ -14,12 +14,12 @@ pub returns : goal.returns
 returns c =
     let begins : begins_cell c.args.current ≡ false = ap (λ w. w.begins_cell) (sym c.of-written.ensures) ∙ c.if-written.false in
     let written : AreWritten (writes_of c.args.current) c.args.self.now c.put.new.self = rw (sym c.of-written.ensures) c.put.ensures in
-    let lists : AreListsOf c.args.current c.take_lists-lists.result = record {
-      polygon_points = c.take_lists-lists.ensures.polygon_points;
-      path_points = c.take_lists-lists.ensures.path_points;
-      repetition = c.take_lists-lists.ensures.repetition;
+    let lists : AreListsOf c.args.current c.into_lists-lists.result = record {
+      polygon_points = c.into_lists-lists.ensures.polygon_points;
+      path_points = c.into_lists-lists.ensures.path_points;
+      repetition = c.into_lists-lists.ensures.repetition;
     } in
     record {
       fields = λ past before.
-          taken_on c.args.current past c.take_lists-lists.result c.args.self.now c.put.new.self c.keep.new.self begins before written lists c.keep.ensures;
+          taken_on c.args.current past c.into_lists-lists.result c.args.self.now c.put.new.self c.keep.new.self begins before written lists c.keep.ensures;
     }
