@@ -1,5 +1,5 @@
 -- The values of the fields of a record, by what it writes and by the values before it.
-use Rattle.std.proofs.Common.{◌≡◌, ℕ, ℤ, pos, ◌+ℤ◌, Bool, true, false, if◌then◌else◌, Option, Some, None, List, [], ◌∷◌, refl, sym, ap, ◌∙◌, arith}
+use Rattle.std.proofs.Common.{◌≡◌, ℤ, Bool, true, false, Option, Some, None, List, [], ◌∷◌, refl, sym, ap, ◌∙◌, arith}
 use Rattle.std.proofs.lemmas.Int.{ints}
 use Rattle.oas_record.specs.Taken.{polygon_points_in, path_points_in, repetition_in}
 use Rattle.oas_record.specs.declared.records.OasRecord.{OasRecord}
@@ -8,7 +8,7 @@ use Rattle.oas_fields.specs.Steps.{AreWritten, AreKept, value_or, height_by, coo
 use Rattle.oas_fields.specs.Values.{AreFields, or_else, begins_cell, last_written, layer_of, datatype_of, width_of}
 use Rattle.oas_fields.specs.Values.{height_of, height_written, polygon_points_of, half_width_of, length_of, start_of}
 use Rattle.oas_fields.specs.Values.{end_of, path_points_of, kind_of, cell_of, repetition_of, or_false, is_relative}
-use Rattle.oas_fields.specs.Values.{coordinate, place_of, placement_of, geometry_of, text_of}
+use Rattle.oas_fields.specs.Values.{coordinate, place_of}
 use Rattle.oas_fields.specs.Writes.{writes_of, repetition_by, repetition_written}
 use Rattle.oas_fields.specs.declared.fields.Fields.{Fields}
 use Rattle.oas_fields.specs.declared.places.Place.{Place}

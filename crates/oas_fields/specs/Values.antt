@@ -4,7 +4,7 @@
 -- the last absolute value that was written, or 0 at the cell's start, and the sum of the relative values since. In these
 -- definitions the records of a file stand with the last one first. What a record writes itself counts: so the value of a
 -- field of a record, written or absent, is that of the list that begins with this record.
-use Rattle.std.specs.Prelude.{ℕ, ◌≡◌, ◌^◌, ℤ, pos, neg_ℤ, ◌+ℤ◌, ◌≤ℤ◌, Bool, true, false, if◌then◌else◌, Option, Some, None, List, [], ◌∷◌}
+use Rattle.std.specs.Prelude.{ℕ, ◌≡◌, ℤ, pos, neg_ℤ, ◌+ℤ◌, ◌≤ℤ◌, Bool, true, false, if◌then◌else◌, Option, Some, None, List, [], ◌∷◌}
 use Rattle.oas_record.specs.declared.fields.Called.{Called}
 use Rattle.oas_record.specs.declared.fields.Deltas.{Deltas}
 use Rattle.oas_record.specs.declared.records.OasRecord.{OasRecord}

@@ -99,10 +99,7 @@ fn path_again(written: Option<Deltas<'_>>) -> Option<PathList<'_>>
 }
 
 /// Keeps the point list of a path where one is written.
-pub(crate) fn keep_path_points<'f>(
-    kept: &mut Option<PathList<'f>>,
-    written: Option<Deltas<'f>>,
-)
+pub(crate) fn keep_path_points<'f>(kept: &mut Option<PathList<'f>>, written: Option<Deltas<'f>>)
     ensures { kept.new ≡ or_else written.entry kept.old }
 {
     match &written {
@@ -122,10 +119,7 @@ fn points_again(written: Option<Deltas<'_>>) -> Option<PointList<'_>>
 }
 
 /// Keeps the point list of a polygon where one is written.
-pub(crate) fn keep_polygon_points<'f>(
-    kept: &mut Option<PointList<'f>>,
-    written: Option<Deltas<'f>>,
-)
+pub(crate) fn keep_polygon_points<'f>(kept: &mut Option<PointList<'f>>, written: Option<Deltas<'f>>)
     ensures { kept.new ≡ or_else written.entry kept.old }
 {
     match &written {
