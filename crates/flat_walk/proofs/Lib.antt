@@ -1,5 +1,6 @@
 pub mod SpanLemmas
 pub mod TableLemmas
+pub mod EntryLemmas
 pub mod WalkLemmas
 pub mod WayLemmas
 pub mod AllThings

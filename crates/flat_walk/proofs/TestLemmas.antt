@@ -1,8 +1,9 @@
 -- A layout of three cells, one of which is a triangle, and the piece that covers it.
 use Rattle.std.proofs.Common.{◌≡◌, ◌≢◌, ◌<◌, ◌≤◌, ◌*◌, ◌/◌, ◌%◌, ◌+ℤ◌, ◌*ℤ◌, ℕ, zero, suc, pos, Bool, true, false, List}
-use Rattle.std.proofs.Common.{[], ◌∷◌, All, Some, map, length, slice_get, get_or, refl, sym, ap, subst, ◌∙◌}
+use Rattle.std.proofs.Common.{[], ◌∷◌, ◌++◌, All, Some, map, length, slice_get, get_or, refl, sym, ap, subst, ◌∙◌}
 use Rattle.std.proofs.Common.{arith}
 use Rattle.std.proofs.lemmas.Int.{ints}
+use Rattle.std.proofs.lemmas.List.{length-map}
 use Rattle.std.proofs.lemmas.Option.{none-some, same_Some}
 use Rattle.std.proofs.lemmas.List.Elements.{All-cons, All-nil}
 use Rattle.half_grid.specs.Quads.{ring_of, corners_of}
@@ -21,12 +22,9 @@ use Rattle.layout_model.specs.declared.pair.Pair.{Pair}
 use Rattle.layout_model.specs.declared.shapes.Shape.{Shape}
 use Rattle.layout_model.specs.declared.cells.Cell.{Cell}
 use Rattle.layout_model.specs.declared.cells.Counts.{Counts}
-use Rattle.layout_model.specs.declared.cells.Placement.{Placement}
-use Rattle.cell_tree.specs.Cells.{shapes_at, placements_at, cell_number}
-use Rattle.cell_tree.specs.Chains.{IsReachable}
-use Rattle.cell_tree.proofs.ForCallers.{reach_more}
-use Rattle.flat_walk.specs.Tables.{HasShape, IsShownOnce, AreCut, HaveNoPieces, with_pieces}
-use Rattle.flat_walk.proofs.TableLemmas.{once_here, shape_stays, shape_at_first}
+use Rattle.cell_tree.specs.Cells.{shapes_at}
+use Rattle.flat_walk.specs.Tables.{lists_at, IsShownOnce, AreCut, HaveNoLists, with_lists}
+use Rattle.flat_walk.proofs.TableLemmas.{lists_pushed, pushed_length, once_here}
 
 -- ---- a piece covers its ring
 
@@ -50,16 +48,16 @@ ring_covered z shot = record {
 
 -- ---- three cells
 
-one_triangle : (cells : List Cell) (shape other : Shape) (n k : ℕ)
-    → map (λ cell. cell.shapes) cells ≡ (shape ∷ []) ∷ [] ∷ [] ∷ [] → slice_get (shapes_at cells n) k ≡ Some other
-    → (n ≡ 0) × (k ≡ 0) × (other ≡ shape)
-one_triangle [] shape other n k e there = absurd (let clash : ⊥ = cc in clash)
-one_triangle (c ∷ cells) shape other zero k e there = let p = first c.shapes k (ap (λ l. get_or l 0 []) e) there in (refl, p.0, p.1)
-  where
-    first : (shapes : List Shape) (k : ℕ) → shapes ≡ shape ∷ [] → slice_get shapes k ≡ Some other → (k ≡ 0) × (other ≡ shape)
-    first shapes zero is at = (refl, same_Some other shape (sym at ∙ ap (λ l. slice_get l 0) is))
-    first shapes (suc k) is at = absurd (none-some other (sym (ap (λ l. slice_get l (suc k)) is) ∙ at))
-one_triangle (c ∷ cells) shape other (suc n) k e there = absurd (later cells n (ap tail_of e) there)
+three_long : (cells : List Cell) (shapes : List Shape) → map (λ cell. cell.shapes) cells ≡ shapes ∷ [] ∷ [] ∷ [] → length cells ≡ 3
+three_long cells shapes e = sym (length-map cells (λ cell. cell.shapes)) ∙ ap length e
+
+-- only the first cell has shapes
+only_first : (cells : List Cell) (shapes : List Shape) (other : Shape) (n k : ℕ)
+    → map (λ cell. cell.shapes) cells ≡ shapes ∷ [] ∷ [] ∷ [] → slice_get (shapes_at cells n) k ≡ Some other
+    → (n ≡ 0) × (slice_get shapes k ≡ Some other)
+only_first [] shapes other n k e there = absurd (let clash : ⊥ = cc in clash)
+only_first (c ∷ cells) shapes other zero k e there = (refl, ap (λ l. slice_get (get_or l 0 []) k) (sym e) ∙ there)
+only_first (c ∷ cells) shapes other (suc n) k e there = absurd (later cells n (ap tail_of e) there)
   where
     tail_of : List (List Shape) → List (List Shape)
     tail_of [] = []
@@ -76,39 +74,61 @@ one_triangle (c ∷ cells) shape other (suc n) k e there = absurd (later cells n
     later (b ∷ a ∷ []) (suc (suc n)) e at = none-some other at
     later (b ∷ a ∷ z ∷ cells) (suc (suc n)) e at = let clash : ⊥ = cc in clash
 
--- the piece that was put last covers the only shape
-pub all_cut : (cells : List Cell) (top : ℕ) (shape : Shape) (table : List (List (List Trapezoid))) (piece : Trapezoid)
-    → IsShot piece → map (λ cell. cell.shapes) cells ≡ (shape ∷ []) ∷ [] ∷ [] ∷ []
-    → shape.points ≡ ring_of (corners_of piece)
-    → HasShape table 0 0 → (pair : Pair) → AreCut cells top (with_pieces table 0 0 (piece ∷ [])) pair
-all_cut cells top shape table piece shot only points has pair = λ n k other reach there on.
-    let e = one_triangle cells shape other n k only there in
-    let covers = subst (λ ps. CoversExactly (piece ∷ []) (IsInPolygon ps)) (sym (ap (λ s. s.points) e.2 ∙ points)) (ring_covered piece shot) in
-    let here = subst (λ i. slice_get (shapes_at cells i) 0 ≡ Some other) e.0 (subst (λ j. slice_get (shapes_at cells n) j ≡ Some other) e.1 there) in
-    subst (λ i. IsShownOnce cells (with_pieces table 0 0 (piece ∷ [])) i k other) (sym e.0)
-    (subst (λ j. IsShownOnce cells (with_pieces table 0 0 (piece ∷ [])) 0 j other) (sym e.1)
-    (once_here cells table 0 0 other (piece ∷ []) has here covers))
+covers_points : (piece : Trapezoid) (shape other : Shape) → IsShot piece → shape ≡ other → shape.points ≡ ring_of (corners_of piece)
+    → CoversExactly (piece ∷ []) (IsInPolygon other.points)
+covers_points piece shape other shot same points =
+    subst (λ ps. CoversExactly (piece ∷ []) (IsInPolygon ps)) (sym (ap (λ s. s.points) (sym same) ∙ points)) (ring_covered piece shot)
 
-slot_first : {X : Type 0} (xs : List X) → 0 < length xs → (x : X) × (slice_get xs 0 ≡ Some x)
-slot_first [] some = absurd (omega arith)
-slot_first (x ∷ xs) some = (x, refl)
+pub has_cell : (cells : List Cell) (table : List (List (List Trapezoid))) (shapes : List Shape) → HaveNoLists cells table
+    → map (λ cell. cell.shapes) cells ≡ shapes ∷ [] ∷ [] ∷ [] → 0 < length table
+has_cell cells table shapes none only = let c = three_long cells shapes only in let l = none.long in omega (arith, c, l)
 
--- the cell that the first placement of a reachable cell places
-pub placed_below : (cells : List Cell) (top n m : ℕ) → IsReachable cells top n → 0 < length (placements_at cells n)
-    → ((placed : Placement) → slice_get (placements_at cells n) 0 ≡ Some placed → cell_number cells placed.target ≡ Some m) → IsReachable cells top m
-placed_below cells top n m reach some each = let first = slot_first (placements_at cells n) some in
-    reach_more cells top n m reach (first.0, record { number = 0; placed = first.1; target = each first.0 first.1 })
+module _ (cells : List Cell) (top : ℕ) (table : List (List (List Trapezoid))) (piece : Trapezoid) (shot : IsShot piece) (none : HaveNoLists cells table) where
+  -- the piece that was pushed covers the only shape
+  pub all_cut : (shape : Shape) → map (λ cell. cell.shapes) cells ≡ (shape ∷ []) ∷ [] ∷ [] ∷ []
+      → shape.points ≡ ring_of (corners_of piece) → (pair : Pair) → AreCut cells top (with_lists table 0 ((piece ∷ []) ∷ [])) pair
+  all_cut shape only points pair = λ n k other reach there on.
+      let e = only_first cells (shape ∷ []) other n k only there in
+      subst (λ i. IsShownOnce cells (with_lists table 0 ((piece ∷ []) ∷ [])) i k other) (sym e.0)
+      (by other k e.1 (subst (λ i. slice_get (shapes_at cells i) k ≡ Some other) e.0 there))
+    where
+      by : (other : Shape) (k : ℕ) → slice_get (shape ∷ []) k ≡ Some other → slice_get (shapes_at cells 0) k ≡ Some other
+          → IsShownOnce cells (with_lists table 0 ((piece ∷ []) ∷ [])) 0 k other
+      by other zero at there = once_here cells table 0 0 other (piece ∷ []) (has_cell cells table (shape ∷ []) none only) (sym (ap length (none.none 0))) there
+          (covers_points piece shape other shot (same_Some shape other at) points)
+      by other (suc k) at there = absurd (none-some other at)
 
-first_there : (cells : List Cell) (shape : Shape) → map (λ cell. cell.shapes) cells ≡ (shape ∷ []) ∷ [] ∷ [] ∷ [] → slice_get (shapes_at cells 0) 0 ≡ Some shape
-first_there [] shape e = absurd (let clash : ⊥ = cc in clash)
-first_there (c ∷ cells) shape e = ap (λ l. slice_get (get_or l 0 []) 0) e
+  -- the piece that was pushed last covers the only shape on the pair
+  pub third_cut : (a b shape : Shape) → map (λ cell. cell.shapes) cells ≡ (a ∷ b ∷ shape ∷ []) ∷ [] ∷ [] ∷ []
+      → a.pair.layer ≡ 2 → b.pair.layer ≡ 2 → shape.points ≡ ring_of (corners_of piece)
+      → (pair : Pair) → pair.layer ≡ 1 → AreCut cells top (with_lists (with_lists table 0 ([] ∷ [] ∷ [])) 0 ((piece ∷ []) ∷ [])) pair
+  third_cut a b shape only on_a on_b points pair one = λ n k other reach there on.
+      let e = only_first cells (a ∷ b ∷ shape ∷ []) other n k only there in
+      subst (λ i. IsShownOnce cells (with_lists two 0 ((piece ∷ []) ∷ [])) i k other) (sym e.0)
+      (by other k (ap (λ p. p.layer) on ∙ one) e.1 (subst (λ i. slice_get (shapes_at cells i) k ≡ Some other) e.0 there))
+    where
+      two : List (List (List Trapezoid))
+      two = with_lists table 0 ([] ∷ [] ∷ [])
 
-pub has_first : (cells : List Cell) (top : ℕ) (table : List (List (List Trapezoid))) (shape : Shape)
-    → map (λ cell. cell.shapes) cells ≡ (shape ∷ []) ∷ [] ∷ [] ∷ [] → HaveNoPieces cells top table → IsReachable cells top 0 → HasShape table 0 0
-has_first cells top table shape e none reach = shape_at_first cells top table 0 0 shape none reach (first_there cells shape e)
+      off : (s other : Shape) → s.pair.layer ≡ 2 → other.pair.layer ≡ 1 → Some s ≡ Some other → ⊥
+      off s other h g at = let f = ap (λ s. s.pair.layer) (same_Some s other at) in omega (arith, h, g, f)
 
-pub has_still : (table : List (List (List Trapezoid))) (pieces : List Trapezoid) → HasShape table 0 0 → HasShape (with_pieces table 0 0 pieces) 0 0
-has_still table pieces has = shape_stays table 0 0 0 0 pieces has.cell has
+      some : 0 < length table
+      some = has_cell cells table (a ∷ b ∷ shape ∷ []) none only
+
+      third : 2 ≡ length (lists_at two 0)
+      third = sym (ap length (lists_pushed table 0 ([] ∷ [] ∷ []) some ∙ ap (λ l. l ++ [] ∷ [] ∷ []) (none.none 0)))
+
+      still : 0 < length two
+      still = let e = pushed_length table 0 ([] ∷ [] ∷ []) in omega (arith, e, some)
+
+      by : (other : Shape) (k : ℕ) → other.pair.layer ≡ 1 → slice_get (a ∷ b ∷ shape ∷ []) k ≡ Some other → slice_get (shapes_at cells 0) k ≡ Some other
+          → IsShownOnce cells (with_lists two 0 ((piece ∷ []) ∷ [])) 0 k other
+      by other zero on at there = absurd (off a other on_a on at)
+      by other (suc zero) on at there = absurd (off b other on_b on at)
+      by other (suc (suc zero)) on at there = once_here cells two 0 2 other (piece ∷ []) still third there
+          (covers_points piece shape other shot (same_Some shape other at) points)
+      by other (suc (suc (suc k))) on at there = absurd (none-some other at)
 
 -- ---- three cells with different names
 

@@ -1,6 +1,6 @@
 -- What a walk keeps of the cell that it entered last, and what that still shows. This is for the contracts of the walk's
 -- own functions.
-use Rattle.std.specs.Prelude.{◌≡◌, ◌^◌, ◌+◌, ◌<◌, ℕ, List, [], ◌∷◌, ◌++◌, Option, Some, map, length, drop, All}
+use Rattle.std.specs.Prelude.{◌≡◌, ◌^◌, ◌+◌, ◌-◌, ◌<◌, ℕ, List, [], ◌∷◌, ◌++◌, Option, Some, map, length, drop, All}
 use Rattle.half_grid.specs.Quads.{Corners, corners_of}
 use Rattle.half_grid.specs.Trapezoids.{Trapezoid}
 use Rattle.half_grid.specs.declared.plane.Point.{Point}
@@ -12,6 +12,7 @@ use Rattle.layout_model.specs.declared.pair.Pair.{Pair}
 use Rattle.layout_model.specs.declared.shapes.Shape.{Shape}
 use Rattle.flat_walk.specs.Boxes.{IsQuadIn, AreBoxed}
 use Rattle.flat_walk.specs.Blocks.{boxes_in}
+use Rattle.flat_walk.specs.Kept.{Entry, all_lists, AreSingle}
 use Rattle.flat_walk.specs.Ways.{IsBetweenRows}
 use Rattle.flat_walk.specs.declared.rows.Rows.{Rows}
 use Rattle.flat_walk.specs.Rests.{placed_list, placed_rest}
@@ -30,22 +31,28 @@ abbrev pub shapes_left : Cursor → List Shape
 shapes_left cursor = drop cursor.number cursor.shapes.now
 
 abbrev pub cursor_list : Pair → Cursor → List Corners
-cursor_list pair cursor = placed_rest cursor.orient cursor.at pair (shapes_left cursor) cursor.lists.now cursor.place
+cursor_list pair cursor = placed_rest cursor.orient cursor.at pair (shapes_left cursor) (all_lists cursor.lists.now) cursor.place
 
 pub record IsCursor (cursor : Cursor) : Type 0 where
   pub orient : IsOrient cursor.orient
   pub near : IsWithin (2 ^ 54) cursor.at
   pub grid : All IsShapeOnGrid cursor.shapes.now
-  pub boxed : AreBoxed (shapes_left cursor) cursor.lists.now (drop cursor.number (boxes_in cursor.boxes))
+  pub single : AreSingle (cursor.single - cursor.number) cursor.lists.now
+  pub boxed : AreBoxed (shapes_left cursor) (all_lists cursor.lists.now) (drop cursor.number (boxes_in cursor.boxes))
 
 -- the first shape that is left, and there is a number after its own
 pub record IsFirst (cursor : Cursor) (shape : Shape) : Type 0 where
   pub is : shapes_left cursor ≡ shape ∷ drop (cursor.number + 1) cursor.shapes.now
   pub few : cursor.number + 1 < 2 ^ 64
 
--- from the first shape on to the next
+-- how many shapes the first entry stands for, or one where there is no entry
+abbrev pub first_count : List Entry → ℕ
+first_count [] = 1
+first_count (entry ∷ entries) = entry.more + 1
+
+-- from the first entry on to the next
 pub record IsNext (before after : Cursor) : Type 0 where
-  pub shapes : shapes_left after ≡ drop (before.number + 1) before.shapes.now
+  pub shapes : shapes_left after ≡ drop (first_count before.lists.now) (shapes_left before)
   pub lists : after.lists.now ≡ drop 1 before.lists.now
   pub place : after.place ≡ 0
   pub orient : after.orient ≡ before.orient
@@ -76,7 +83,7 @@ pub record IsLongRun (cursor : Cursor) (shape : Shape) (rows : Rows) : Type 0 wh
   pub pieces : List Trapezoid
   pub later : List (List Trapezoid)
   pub box : Frame
-  pub lists : cursor.lists.now ≡ pieces ∷ later
+  pub lists : all_lists cursor.lists.now ≡ pieces ∷ later
   pub around : All (λ piece. IsQuadIn box (corners_of piece)) pieces
   pub between : (p : Point) → IsInBox box p → IsBetweenRows cursor.orient rows.low rows.high p
   pub near : IsWithin (2 ^ 58) (record { x = rows.low; y = rows.high })

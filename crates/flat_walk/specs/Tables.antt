@@ -1,7 +1,6 @@
 -- The pieces of a layout's shapes: trapezoids that cover a shape's tiles, each once. They are kept by the number of the
--- cell and the number of the shape in it. A shape for which none were put has none. A cell that isn't reachable may have no
--- lists.
-use Rattle.std.specs.Prelude.{◌≡◌, ◌⊎◌, ◌<◌, ◌≤◌, ◌-◌, ◌^◌, ℕ, min, List, [], Some, map, length, get_or, set, slice_get, All}
+-- cell and the number of the shape in it. The lists of a cell come one after another, in the order of its shapes.
+use Rattle.std.specs.Prelude.{◌≡◌, ◌⊎◌, ◌<◌, ◌≤◌, ◌-◌, ◌^◌, ◌++◌, ℕ, min, List, [], Some, length, get_or, set, slice_get, All}
 use Rattle.std.specs.List.{sum_by}
 use Rattle.half_grid.specs.Trapezoids.{Trapezoid, IsShot, CoversExactly}
 use Rattle.half_grid.specs.Winding.{IsInPolygon}
@@ -15,19 +14,14 @@ use Rattle.cell_tree.specs.Chains.{IsReachable}
 abbrev pub lists_at : List (List (List Trapezoid)) → ℕ → List (List Trapezoid)
 lists_at table n = get_or table n []
 
--- no pieces yet, for the shapes of the cells that are reachable from this one
-pub record HaveNoPieces (cells : List Cell) (top : ℕ) (table : List (List (List Trapezoid))) : Type 0 where
+-- no lists yet, of so many cells
+pub record HaveNoLists (cells : List Cell) (table : List (List (List Trapezoid))) : Type 0 where
   pub long : length table ≡ length cells
-  pub lists : (n : ℕ) → IsReachable cells top n → lists_at table n ≡ map (λ shape. []) (shapes_at cells n)
+  pub none : (n : ℕ) → lists_at table n ≡ []
 
--- the table with these pieces of shape k of cell n, in place of earlier ones
-unfoldable pub with_pieces : List (List (List Trapezoid)) → ℕ → ℕ → List Trapezoid → List (List (List Trapezoid))
-with_pieces table n k pieces = set table n (set (lists_at table n) k pieces)
-
--- shape k of cell n has a list
-pub record HasShape (table : List (List (List Trapezoid))) (n k : ℕ) : Type 0 where
-  pub cell : n < length table
-  pub shape : k < length (lists_at table n)
+-- the table with these lists of cell n after those that it has
+unfoldable pub with_lists : List (List (List Trapezoid)) → ℕ → List (List Trapezoid) → List (List (List Trapezoid))
+with_lists table n lists = set table n (lists_at table n ++ lists)
 
 -- what is kept are shots, fewer of a shape than 2^64
 pub record IsKept (pieces : List Trapezoid) : Type 0 where

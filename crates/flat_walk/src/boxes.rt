@@ -10,12 +10,14 @@ ghost use Rattle.cell_tree.specs.Cells.{shapes_at, placements_at};
 ghost use Rattle.cell_tree.specs.Chains.{IsReachable};
 ghost use Rattle.flat_walk.specs.Blocks.{boxes_in, boxed_in};
 ghost use Rattle.flat_walk.specs.Boxes.{IsQuadIn, HasBox, AreBoxed, AreNear, AreSpots, AreAllBoxed, boxes_at};
+ghost use Rattle.flat_walk.specs.Kept.{all_lists, AreSingle};
 ghost use Rattle.flat_walk.specs.Tables.{lists_at};
 
 use crate::blocks::BoxList;
+use crate::entries::{Entries, Pieces};
 use crate::kept_pieces::Piece;
 use crate::short_boxes::ShortBox;
-use crate::tables::{Parts, Pieces, shapes_of};
+use crate::tables::{Parts, shapes_of};
 use cell_tree::Tree;
 use geo_stream::NoMemory;
 use half_grid::{Frame, Point};
@@ -23,8 +25,8 @@ use layout_model::{Cell, ShapeRef, Shapes};
 use std::alloc::Global;
 use std::marker::Model;
 
-/// For each shape of a tree's cells a box round its pieces at all its places, and for each placement one round what it
-/// shows. Contracts see two tables that hold, by cell, a list of boxes.
+/// For shapes of a tree's cells a box round its pieces at all its places, and for each placement one round what it shows.
+/// The boxes of a cell's shapes are those of the first ones, up to the first that many shapes without pieces follow. Contracts see two tables that hold, by cell, a list of boxes.
 #[derive(Drop)]
 pub struct Boxes {
     shapes: Vec<BoxList>,
@@ -104,7 +106,7 @@ pub(crate) fn box_of_pieces(first: &Piece, others: &[Piece]) -> Frame
 // The box of a shape's pieces at all its places.
 fn box_of_shape(shape: ShapeRef, pieces: &Pieces) -> Frame
     requires { IsShapeOnGrid (shape_in shape) }
-    ensures { HasBox (shape_in shape.entry) pieces.now result }
+    ensures { HasBox (shape_in shape.entry) pieces.now.pieces result }
 {
     match pieces.as_slice().split_first() {
         Some((first, others)) => summed(box_of_pieces(first, others), shape.spread()),
@@ -112,22 +114,24 @@ fn box_of_shape(shape: ShapeRef, pieces: &Pieces) -> Frame
     }
 }
 
-fn pieces_at(lists: &[Pieces], number: usize) -> &Pieces
-    requires { number < length lists.now }
-    ensures { slice_get lists.now number ≡ Some result.now }
+fn pieces_at(entries: &[Pieces], number: usize) -> &Pieces
+    requires { number < length entries.now }
+    ensures { slice_get entries.now number ≡ Some result.now }
 {
-    &lists[number]
+    &entries[number]
 }
 
-// The boxes of a cell's shapes.
-fn boxes_for(alloc: Global, shapes: &Shapes, lists: &[Pieces]) -> Result<Vec<ShortBox>, NoMemory>
-    requires { All IsShapeOnGrid shapes.now }
-    ensures { IfOk result (λ boxes. AreBoxed shapes.now lists.now boxes.items) }
+// The boxes of a cell's shapes, up to the first that has no entry of its own.
+fn boxes_for(alloc: Global, shapes: &Shapes, entries: Entries) -> Result<Vec<ShortBox>, NoMemory>
+    requires grid { All IsShapeOnGrid shapes.now }
+    requires single { AreSingle entries.single entries.list.now }
+    ensures { IfOk result (λ boxes. AreBoxed shapes.now (all_lists entries.entry.list.now) boxes.items) }
 {
-    let mut boxes = Vec::with_capacity(alloc, shapes.len())?;
-    while boxes.len() < shapes.len() && boxes.len() < lists.len() {
+    let count = shapes.len().min(entries.single);
+    let mut boxes = Vec::with_capacity(alloc, count)?;
+    while boxes.len() < count {
         let number = boxes.len();
-        let around = box_of_shape(shapes.get(number), pieces_at(lists, number));
+        let around = box_of_shape(shapes.get(number), pieces_at(entries.list, number));
         boxes.push(ShortBox::round(around))?;
     }
     Ok(boxes)

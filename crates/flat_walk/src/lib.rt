@@ -6,6 +6,7 @@
 
 mod blocks;
 mod boxes;
+mod entries;
 mod kept_pieces;
 mod levels;
 mod owned;

@@ -1,5 +1,5 @@
 //! The pieces of a cell's own shapes, where the cell is placed.
-ghost use Rattle.std.specs.Prelude.{◌≡◌, ◌^◌, ◌<◌, ◌+◌, [], ◌∷◌, ◌++◌, map, Some, All, MatchOption, OnSome, IfSome, IsTrue, length, ◌≤◌, drop, List, false};
+ghost use Rattle.std.specs.Prelude.{◌≡◌, ◌^◌, ◌<◌, ◌+◌, [], ◌∷◌, ◌++◌, map, min, Some, All, MatchOption, OnSome, IfSome, IsTrue, length, ◌≤◌, drop, List, false};
 ghost use Rattle.half_grid.specs.Quads.{IsQuad, corners_of};
 ghost use Rattle.layout_model.specs.Images.{IsOrient};
 ghost use Rattle.layout_model.specs.declared.pair.Pair.{Pair as APair};
@@ -10,16 +10,17 @@ ghost use Rattle.flat_walk.specs.Rests.{IsMarkedQuad, Skips, Gives, places_rest,
 ghost use Rattle.half_grid.specs.Trapezoids.{Trapezoid};
 ghost use Rattle.flat_walk.specs.Blocks.{boxes_in};
 ghost use Rattle.flat_walk.specs.Boxes.{AreBoxed};
+ghost use Rattle.flat_walk.specs.Kept.{all_lists, AreSingle};
 ghost use Rattle.flat_walk.specs.Rises.{HasNoPlaceBefore};
-ghost use Rattle.flat_walk.specs.Hands.{hand_list, IsHand, shapes_left, cursor_list, IsCursor, IsFirst, IsNext, steps_left, own_rest, IsOwn, IsLongRun};
+ghost use Rattle.flat_walk.specs.Hands.{hand_list, IsHand, shapes_left, cursor_list, IsCursor, first_count, IsFirst, IsNext, steps_left, own_rest, IsOwn, IsLongRun};
 
 use crate::blocks::{BoxList, next_in};
 use crate::boxes::box_of_pieces;
+use crate::entries::{Entries, Pieces};
 use crate::kept_pieces::Piece;
 use crate::levels::rows_of;
 use crate::rises::places_in;
 use crate::rows::{Rows, has_row};
-use crate::tables::Pieces;
 use crate::turning::{image, is_plain, moved};
 use half_grid::{Point, Quad, Window};
 use layout_model::{Orient, Pair, ShapeRef, Shapes};
@@ -43,8 +44,9 @@ pub(crate) struct Hand<'t> {
 pub(crate) struct Cursor<'t> {
     // All of the cell's shapes.
     shapes: &'t Shapes,
-    // The pieces of those that are left.
+    // The entries of those that are left. Each shape whose number is below `single` has an entry of its own.
     lists: &'t [Pieces],
+    single: usize,
     boxes: Option<&'t BoxList>,
     // The number of the first shape that is left.
     number: usize,
@@ -135,9 +137,9 @@ impl<'t> Cursor<'t> {
         requires near { IsWithin (2 ^ 54) self.now.at }
         requires grid { IsShapeOnGrid (shape_in shape) }
         ensures hand { IfSome result IsHand }
-        ensures list { MatchOption result (places_rest pair (shape_in shape.entry) list.now self.now.place ≡ [])
-            (λ hand. map (quad_image self.now.orient self.now.at) (places_rest pair (shape_in shape.entry) list.now self.now.place)
-            ≡ hand_list hand ++ map (quad_image self.now.orient self.now.at) (places_rest pair (shape_in shape.entry) list.now (self.now.place + 1))) }
+        ensures list { MatchOption result (places_rest pair (shape_in shape.entry) list.now.pieces self.now.place ≡ [])
+            (λ hand. map (quad_image self.now.orient self.now.at) (places_rest pair (shape_in shape.entry) list.now.pieces self.now.place)
+            ≡ hand_list hand ++ map (quad_image self.now.orient self.now.at) (places_rest pair (shape_in shape.entry) list.now.pieces (self.now.place + 1))) }
         ensures inside { OnSome result (self.now.place < length (shape_in shape.entry).offsets) }
     {
         if shape.pair() != pair {
@@ -154,26 +156,46 @@ impl<'t> Cursor<'t> {
         })
     }
 
-    // Goes on to the next shape.
+    // The number of the shape after those of the first entry, or how many shapes there are. The entry is looked at only
+    // where it may stand for more than one.
+    fn after_first(&self) -> usize
+        requires cursor { IsCursor self.now }
+        requires few { self.now.number + 1 < 2 ^ 64 }
+        requires inside { self.now.number < length self.now.shapes.now }
+        ensures { result ≡ min (self.now.number + first_count self.now.lists.now) (length self.now.shapes.now) }
+    {
+        if self.number < self.single {
+            return self.number + 1;
+        }
+        let Some((entry, _entries)) = self.lists.split_first() else {
+            return self.number + 1;
+        };
+        let next = (self.number + 1).saturating_add(entry.more());
+        next.min(self.shapes.len())
+    }
+
+    // Goes on to the shape after those of the first entry.
     fn skip(&mut self)
         requires cursor { IsCursor self.old }
         requires few { self.old.number + 1 < 2 ^ 64 }
+        requires inside { self.old.number < length self.old.shapes.now }
         ensures cursor { IsCursor self.new }
         ensures next { IsNext self.old self.new }
     {
+        let next = self.after_first();
         self.lists = rest(self.lists, 1);
-        self.number += 1;
+        self.number = next;
         self.place = 0;
     }
 
-    // Goes on to the next place of the first shape, or to the next shape.
+    // Goes on to the next place of the first shape, or to the next entry.
     fn advance(&mut self, shape: ShapeRef<'t>)
         requires cursor { IsCursor self.old }
         requires first { IsFirst self.old (shape_in shape) }
         requires inside { self.old.place < length (shape_in shape).offsets }
         ensures cursor { IsCursor self.new }
         ensures list { (pair : APair) → cursor_list pair self.new
-            ≡ placed_rest self.old.orient self.old.at pair (shapes_left self.old) self.old.lists.now (self.old.place + 1) }
+            ≡ placed_rest self.old.orient self.old.at pair (shapes_left self.old) (all_lists self.old.lists.now) (self.old.place + 1) }
         ensures steps { steps_left self.new < steps_left self.old }
     {
         let count = shape.count();
@@ -241,6 +263,9 @@ impl<'t> Cursor<'t> {
     {
         let next = next_in(self.boxes, self.number, self.orient, self.at, window);
         if next == self.number {
+            return;
+        }
+        if next > self.single {
             return;
         }
         let count = next - self.number;
@@ -348,7 +373,7 @@ impl<'t> Own<'t> {
     /// All that a cell's own shapes show, where it is placed so.
     pub(crate) fn of(
         shapes: &'t Shapes,
-        lists: &'t [Pieces],
+        entries: Entries<'t>,
         boxes: Option<&'t BoxList>,
         orient: Orient,
         at: Point,
@@ -356,15 +381,17 @@ impl<'t> Own<'t> {
         requires orient { IsOrient orient }
         requires near { IsWithin (2 ^ 54) at }
         requires grid { All IsShapeOnGrid shapes.now }
-        requires boxed { AreBoxed shapes.now lists.now (boxes_in boxes) }
+        requires single { AreSingle entries.single entries.list.now }
+        requires boxed { AreBoxed shapes.now (all_lists entries.list.now) (boxes_in boxes) }
         ensures own { IsOwn result }
-        ensures list { (pair : APair) → own_rest pair result ≡ map Some (placed_rest orient at pair shapes.now lists.now 0) }
+        ensures list { (pair : APair) → own_rest pair result ≡ map Some (placed_rest orient at pair shapes.now (all_lists entries.entry.list.now) 0) }
     {
         Own {
             hand: Hand::empty(orient, at),
             cursor: Cursor {
                 shapes,
-                lists,
+                lists: entries.list,
+                single: entries.single,
                 boxes,
                 number: 0,
                 place: 0,
@@ -382,7 +409,11 @@ impl<'t> Own<'t> {
         ensures own { IsOwn result }
         ensures list { (pair : APair) → own_rest pair result ≡ [] }
     {
-        Own::of(shapes, &[], None, orient, at)
+        let none = Entries {
+            list: &[],
+            single: 0,
+        };
+        Own::of(shapes, none, None, orient, at)
     }
 
     /// The next piece that has a row in the window.

@@ -1,6 +1,6 @@
 //! Placed triangles, by hand.
 
-ghost use Rattle.std.specs.Prelude.{◌≡◌, ◌≤◌, ◌<◌, [], ◌∷◌, ◌++◌, pos, map, All};
+ghost use Rattle.std.specs.Prelude.{◌≡◌, ◌≤◌, ◌<◌, [], ◌∷◌, ◌++◌, pos, map, length, replicate, All};
 ghost use Rattle.half_grid.specs.Quads.{ring_of, corners_of};
 ghost use Rattle.half_grid.specs.Trapezoids.{trapezoid};
 ghost use Rattle.half_grid.specs.declared.plane.Line.TheVariants.{Upright, Rising};
@@ -8,11 +8,10 @@ ghost use Rattle.layout_model.specs.Images.{IsOrient};
 ghost use Rattle.layout_model.specs.Layouts.{IsMove, AreOffsets, IsShapeOnGrid, IsPlacementOnGrid, IsCellOnGrid, IsLayoutOnGrid};
 ghost use Rattle.layout_model.specs.declared.pair.Pair.{Pair as APair};
 ghost use Rattle.layout_model.specs.declared.shapes.Shape.{Shape as AShape};
-ghost use Rattle.cell_tree.specs.Chains.{IsReachable};
-ghost use Rattle.flat_walk.specs.Tables.{AreCut, HasShape, with_pieces};
+ghost use Rattle.flat_walk.specs.Tables.{AreCut, with_lists};
 
-use crate::tables::Pieces;
-use crate::{Parts, Walk};
+use crate::entries::Pieces;
+use crate::{Boxes, Parts, Walk};
 use cell_tree::{Tree, resolve};
 use geo_stream::{List, gather};
 use half_grid::{Line, Point, Quad, Trap, Window};
@@ -83,12 +82,17 @@ fn only<T: Drop>(rt: &impl Abort, alloc: Global, item: T) -> List<T>
     list
 }
 
+fn with_shape(rt: &impl Abort, mut shapes: Shapes, shape: KeptShape) -> Shapes
+    ensures { result ≡ shapes ++ shape ∷ [] }
+{
+    assert!(rt; shapes.push(shape).is_ok(), "memory");
+    shapes
+}
+
 fn only_shape(rt: &impl Abort, alloc: Global, shape: KeptShape) -> Shapes
     ensures { result ≡ shape ∷ [] }
 {
-    let mut shapes = Shapes::new(alloc);
-    assert!(rt; shapes.push(shape).is_ok(), "memory");
-    shapes
+    with_shape(rt, Shapes::new(alloc), shape)
 }
 
 fn more(rt: &impl Abort, mut cells: List<Cell>, cell: Cell) -> List<Cell>
@@ -98,12 +102,13 @@ fn more(rt: &impl Abort, mut cells: List<Cell>, cell: Cell) -> List<Cell>
     cells
 }
 
-fn triangle(rt: &impl Abort, alloc: Global, offsets: Offsets) -> KeptShape
+fn triangle(rt: &impl Abort, alloc: Global, pair: Pair, offsets: Offsets) -> KeptShape
     requires { AreOffsets offsets }
     ensures grid { IsShapeOnGrid result }
+    ensures pair { result.pair ≡ pair }
     ensures points { result.points ≡ ring_of (corners_of (trapezoid (pos 0) (pos 8) (Rising (pos 0)) (Upright (pos 8)))) }
 {
-    KeptShape::new(alloc, METAL, &RING, offsets).expect(rt, "a shape")
+    KeptShape::new(alloc, pair, &RING, offsets).expect(rt, "a shape")
 }
 
 // An array of places.
@@ -152,24 +157,23 @@ fn cell(name: Name, shapes: Shapes, placements: List<Placement>) -> Cell
     }
 }
 
-// C is a triangle, B places C and A places B.
+// C has shapes, B places C and A places B.
 fn layout(
     rt: &impl Abort,
     alloc: Global,
-    shape: KeptShape,
+    shapes: Shapes,
     inner: Placement,
     outer: Placement,
 ) -> Layout
-    requires shape { IsShapeOnGrid shape }
+    requires shapes { All IsShapeOnGrid shapes }
     requires inner { IsPlacementOnGrid inner }
     requires outer { IsPlacementOnGrid outer }
     ensures grid { IsLayoutOnGrid result }
-    ensures shapes { map (λ cell. cell.shapes) result.cells ≡ (shape ∷ []) ∷ [] ∷ [] ∷ [] }
+    ensures shapes { map (λ cell. cell.shapes) result.cells ≡ shapes ∷ [] ∷ [] ∷ [] }
 {
     let name_a = name(rt, alloc, b"A");
     let name_b = name(rt, alloc, b"B");
     let name_c = name(rt, alloc, b"C");
-    let shapes = only_shape(rt, alloc, shape);
     let only_inner = only(rt, alloc, inner);
     let only_outer = only(rt, alloc, outer);
     let c = cell(name_c, shapes, List::new(alloc));
@@ -189,21 +193,13 @@ fn layout(
     Layout { cells, counts }
 }
 
-fn tree(
-    rt: &impl Abort,
-    alloc: Global,
-    shape: KeptShape,
-    inner: Placement,
-    outer: Placement,
-) -> Tree
-    requires grid { IsShapeOnGrid shape }
-    requires points { shape.points ≡ ring_of (corners_of (trapezoid (pos 0) (pos 8) (Rising (pos 0)) (Upright (pos 8)))) }
+fn tree(rt: &impl Abort, alloc: Global, shapes: Shapes, inner: Placement, outer: Placement) -> Tree
+    requires shapes { All IsShapeOnGrid shapes }
     requires inner { IsPlacementOnGrid inner }
     requires outer { IsPlacementOnGrid outer }
-    ensures { (shape : AShape) × (map (λ cell. cell.shapes) result.layout.cells ≡ (shape ∷ []) ∷ [] ∷ [] ∷ [])
-        × (shape.points ≡ ring_of (corners_of (trapezoid (pos 0) (pos 8) (Rising (pos 0)) (Upright (pos 8))))) }
+    ensures { map (λ cell. cell.shapes) result.layout.cells ≡ shapes ∷ [] ∷ [] ∷ [] }
 {
-    let layout = layout(rt, alloc, shape, inner, outer);
+    let layout = layout(rt, alloc, shapes, inner, outer);
     let top = name(rt, alloc, b"A");
     resolve(alloc, layout, &top).expect(rt, "a tree")
 }
@@ -215,34 +211,19 @@ fn piece(rt: &impl Abort) -> Trap
     Trap::new(0, 8, Line::Rising(0), Line::Upright(8)).expect(rt, "a trapezoid")
 }
 
-fn put(rt: &impl Abort, parts: &mut Parts, piece: &Trap)
-    requires { HasShape parts.old 0 0 }
-    ensures { parts.new ≡ with_pieces parts.old 0 0 (piece.now ∷ []) }
+fn push(rt: &impl Abort, parts: &mut Parts, piece: &Trap)
+    requires { 0 < length parts.old }
+    ensures { parts.new ≡ with_lists parts.old 0 ((piece.now ∷ []) ∷ []) }
 {
-    assert!(rt; parts.put(0, 0, &[*piece]).is_ok(), "memory");
+    assert!(rt; parts.push(0, &[*piece]).is_ok(), "memory");
 }
 
-// The cell that the first placement of a cell places.
-fn below(rt: &impl Abort, tree: &Tree, cell: usize) -> usize
-    requires { IsReachable tree.now.layout.cells tree.now.top cell }
-    ensures { IsReachable tree.now.layout.cells tree.now.top result }
+fn push_none(rt: &impl Abort, parts: &mut Parts, count: usize)
+    requires { 0 < length parts.old }
+    ensures { parts.new ≡ with_lists parts.old 0 (replicate count []) }
 {
-    let cells = tree.cells();
-    assert!(rt; cell < cells.len());
-    let count = cells[cell].placements.as_slice().len();
-    assert!(rt; 0 < count);
-    tree.target(cell, 0)
-}
-
-// No pieces yet, for the triangle.
-fn uncut(rt: &impl Abort, alloc: Global, tree: &Tree) -> Parts
-    requires { (shape : AShape) × (map (λ cell. cell.shapes) tree.now.layout.cells ≡ (shape ∷ []) ∷ [] ∷ [] ∷ [])
-        × (shape.points ≡ ring_of (corners_of (trapezoid (pos 0) (pos 8) (Rising (pos 0)) (Upright (pos 8))))) }
-    ensures { HasShape result 0 0 }
-{
-    let lowest = below(rt, tree, below(rt, tree, tree.top()));
-    assert_eq!(rt; lowest, 0);
-    Parts::new(alloc, tree).expect(rt, "memory")
+    assert!(rt; parts.reserve(0, 2).is_ok(), "memory");
+    assert!(rt; parts.push_none(0, count).is_ok(), "memory");
 }
 
 // The piece of the triangle.
@@ -251,10 +232,10 @@ fn cut(rt: &impl Abort, alloc: Global, tree: &Tree) -> Parts
         × (shape.points ≡ ring_of (corners_of (trapezoid (pos 0) (pos 8) (Rising (pos 0)) (Upright (pos 8))))) }
     ensures { (pair : APair) → AreCut tree.now.layout.cells tree.now.top result pair }
 {
-    let mut parts = uncut(rt, alloc, tree);
+    let mut parts = Parts::new(alloc, tree).expect(rt, "memory");
     let whole = piece(rt);
     let _bottom = whole.y0();
-    put(rt, &mut parts, &whole);
+    push(rt, &mut parts, &whole);
     parts
 }
 
@@ -311,8 +292,8 @@ fn placed_twice(rt: &impl Abort, alloc: Global, inner: Placement, outer: Placeme
     ensures { (shape : AShape) × (map (λ cell. cell.shapes) result.layout.cells ≡ (shape ∷ []) ∷ [] ∷ [] ∷ [])
         × (shape.points ≡ ring_of (corners_of (trapezoid (pos 0) (pos 8) (Rising (pos 0)) (Upright (pos 8))))) }
 {
-    let shape = triangle(rt, alloc, places(rt, alloc, 1, 1));
-    tree(rt, alloc, shape, inner, outer)
+    let shape = triangle(rt, alloc, METAL, places(rt, alloc, 1, 1));
+    tree(rt, alloc, only_shape(rt, alloc, shape), inner, outer)
 }
 
 // One place of a cell.
@@ -406,30 +387,50 @@ fn eight_orientations_enlarge_an_array(rt: HostRuntime) {
     }
 }
 
-// The square round the triangle, and later the triangle in its place.
-fn cut_again(rt: &impl Abort, alloc: Global, tree: &Tree) -> Parts
-    requires { (shape : AShape) × (map (λ cell. cell.shapes) tree.now.layout.cells ≡ (shape ∷ []) ∷ [] ∷ [] ∷ [])
+// Two triangles on another pair and then one, by itself.
+fn after_two(rt: &impl Abort, alloc: Global) -> Tree
+    ensures { (a : AShape) × (b : AShape) × (shape : AShape) × (map (λ cell. cell.shapes) result.layout.cells ≡ (a ∷ b ∷ shape ∷ []) ∷ [] ∷ [] ∷ [])
+        × (a.pair.layer ≡ 2) × (b.pair.layer ≡ 2)
         × (shape.points ≡ ring_of (corners_of (trapezoid (pos 0) (pos 8) (Rising (pos 0)) (Upright (pos 8))))) }
-    ensures { (pair : APair) → AreCut tree.now.layout.cells tree.now.top result pair }
 {
-    let mut parts = uncut(rt, alloc, tree);
-    let square = Trap::new(0, 8, Line::Upright(0), Line::Upright(8)).expect(rt, "a trapezoid");
-    put(rt, &mut parts, &square);
+    let first = triangle(rt, alloc, OTHER, places(rt, alloc, 3, 2));
+    let second = triangle(rt, alloc, OTHER, places(rt, alloc, 1, 1));
+    let last = triangle(rt, alloc, METAL, places(rt, alloc, 1, 1));
+    let two = with_shape(rt, only_shape(rt, alloc, first), second);
+    let shapes = with_shape(rt, two, last);
+    let inner = once(rt, alloc, b"C", orient(false, 0, 1), ORIGIN);
+    let outer = once(rt, alloc, b"B", orient(false, 0, 1), ORIGIN);
+    tree(rt, alloc, shapes, inner, outer)
+}
+
+// No pieces of the first two shapes, and that of the third.
+fn cut_third(rt: &impl Abort, alloc: Global, tree: &Tree) -> Parts
+    requires { (a : AShape) × (b : AShape) × (shape : AShape) × (map (λ cell. cell.shapes) tree.now.layout.cells ≡ (a ∷ b ∷ shape ∷ []) ∷ [] ∷ [] ∷ [])
+        × (a.pair.layer ≡ 2) × (b.pair.layer ≡ 2)
+        × (shape.points ≡ ring_of (corners_of (trapezoid (pos 0) (pos 8) (Rising (pos 0)) (Upright (pos 8))))) }
+    ensures { AreCut tree.now.layout.cells tree.now.top result (record { layer = 1; datatype = 0 }) }
+{
+    let mut parts = Parts::new(alloc, tree).expect(rt, "memory");
+    push_none(rt, &mut parts, 2);
     let whole = piece(rt);
     let _bottom = whole.y0();
-    put(rt, &mut parts, &whole);
+    push(rt, &mut parts, &whole);
     parts
 }
 
 #[test]
-fn later_pieces_replace_earlier_ones(rt: HostRuntime) {
+fn shapes_without_pieces_are_passed_by(rt: HostRuntime) {
     let alloc = rt.alloc();
-    let inner = once(&rt, alloc, b"C", orient(false, 0, 1), ORIGIN);
-    let outer = once(&rt, alloc, b"B", orient(false, 0, 1), ORIGIN);
-    let tree = placed_twice(&rt, alloc, inner, outer);
-    let parts = cut_again(&rt, alloc, &tree);
-    let triangle = [(0, 0), (8, 8), (8, 8), (8, 0)];
-    ask(&rt, alloc, &tree, &parts, ALL, 1, triangle);
+    let tree = after_two(&rt, alloc);
+    let parts = cut_third(&rt, alloc, &tree);
+    assert_eq!(rt; parts.count(), 1);
+    let quads = shown(&rt, alloc, &tree, &parts, METAL, ALL);
+    assert_eq!(rt; quads.len(), 1);
+    let boxes = Boxes::of(alloc, &tree, &parts).expect(&rt, "memory");
+    let window = Window::new(0, 8).expect(&rt, "a window");
+    let walk = Walk::begin_boxed(alloc, &tree, &parts, &boxes, METAL, window).expect(&rt, "memory");
+    let boxed = gather(alloc, walk).expect(&rt, "memory");
+    assert_eq!(rt; boxed.len(), 1);
 }
 
 #[test]

@@ -77,13 +77,13 @@ fn own_of<'t>(scene: &Scene<'t>, level: &Level<'t>) -> Own<'t>
         ≡ map Some (placed_rest level.now.orient level.now.at scene.now.pair (shapes_at (cells_of scene.now) level.now.cell) (lists_at scene.now.parts.now level.now.cell) 0) }
 {
     let shapes = shapes_of(scene, level.cell());
-    let lists = scene.parts.lists(level.cell());
+    let entries = scene.parts.lists(level.cell());
     let (orient, at) = (level.orient(), level.at());
     if level.is_whole() {
-        return Own::of(shapes, lists, None, orient, at);
+        return Own::of(shapes, entries, None, orient, at);
     }
     let boxes = shapes_in(scene.boxes, level.cell());
-    Own::of(shapes, lists, boxes, orient, at)
+    Own::of(shapes, entries, boxes, orient, at)
 }
 
 // Enters the next placed cell that may have rows in the window.

@@ -2,18 +2,17 @@ use Rattle.std.proofs.Common.{length, arith, ap, sym, ◌∙◌}
 use Rattle.std.specs.List.{sum_by}
 use Rattle.std.proofs.lemmas.List.{take_all}
 use Rattle.flat_walk.specs.Tables.{count_within}
-use Rattle.flat_walk.proofs.TableLemmas.{counted_more, sum_over}
+use Rattle.flat_walk.proofs.TableLemmas.{counted_more}
 use Rattle.flat_walk.proofs.tables.pieces_in.Goals as goal
 
 pub loop-lists-preserved : goal.loop-lists-preserved
 loop-lists-preserved c =
-    let here = c.pieces_of.ensures ∙ ap (λ l. count_within (sum_by length l)) c.as_slice.ensures.value in
-    let h = counted_more (λ lists. sum_by length lists.items) c.args.table.now c.loop-lists.lists-index c.loop-lists.count c.pieces_of.result
+    let here = c.pieces_of.ensures ∙ ap (λ l. count_within (sum_by length l)) c.entries.ensures.lists in
+    let h = counted_more (sum_by length) c.args.table.now c.loop-lists.lists-index c.loop-lists.count c.pieces_of.result
     c.lists-item.result (omega arith) (sym c.lists-item.is) c.loop-lists.invariant here in
     omega (arith, h)
 
 pub returns : goal.returns
 returns c =
-    c.loop-lists.invariant ∙ ap (λ l. count_within (sum_by (λ lists. sum_by length lists.items) l))
+    c.loop-lists.invariant ∙ ap (λ l. count_within (sum_by (sum_by length) l))
     (take_all c.loop-lists.lists-index c.args.table.now c.loop-lists-test.false)
-    ∙ ap count_within (sym (sum_over (sum_by length) (λ lists. lists.items) c.args.table.now))

@@ -4,4 +4,4 @@ use Rattle.flat_walk.specs.Tables.{count_within}
 use Rattle.flat_walk.proofs.tables.pieces_in.Given as goal
 
 abbrev pub invariant-loop-lists : goal.invariant-loop-lists
-invariant-loop-lists l = l.count ≡ count_within (sum_by (λ lists. sum_by length lists.items) (take l.lists-index l.table))
+invariant-loop-lists l = l.count ≡ count_within (sum_by (sum_by length) (take l.lists-index l.table))

@@ -4,4 +4,4 @@ use Rattle.flat_walk.specs.Tables.{count_within}
 use Rattle.flat_walk.proofs.tables.pieces_of.Given as goal
 
 abbrev pub invariant-loop-pieces : goal.invariant-loop-pieces
-invariant-loop-pieces l = l.count ≡ count_within (sum_by length (take l.pieces-index l.lists))
+invariant-loop-pieces l = l.count ≡ count_within (sum_by (λ entry. length entry.pieces) (take l.pieces-index l.entries))

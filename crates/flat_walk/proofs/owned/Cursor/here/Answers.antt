@@ -16,13 +16,13 @@ returns-clause-list c =
     let on : is_on c.args.pair (shape_in c.args.shape) ≡ true =
     subst (λ (p : Pair). (nat_eq p.layer c.args.pair.layer && nat_eq p.datatype c.args.pair.datatype) ≡ true) c.pair.ensures
     (not_false _ (sym c.ne.ensures ∙ c.if-ne.false)) in
-    places_on o c.args.self.now.at c.nth-by.result c.args.pair (shape_in c.args.shape) c.args.list.now c.args.self.now.place on c.nth-by.ensures
+    places_on o c.args.self.now.at c.nth-by.result c.args.pair (shape_in c.args.shape) c.args.list.now.pieces c.args.self.now.place on c.nth-by.ensures
     ∙ (ap (λ l. placed_list o (image_of o c.args.self.now.at c.nth-by.result) l ++ map
     (quad_image o c.args.self.now.at)
-    (places_rest c.args.pair (shape_in c.args.shape) c.args.list.now (c.args.self.now.place + 1)))
+    (places_rest c.args.pair (shape_in c.args.shape) c.args.list.now.pieces (c.args.self.now.place + 1)))
     (sym c.as_slice.ensures.value)
     ∙ ap (λ at. placed_list o at c.as_slice.result.now ++ map (quad_image o c.args.self.now.at)
-    (places_rest c.args.pair (shape_in c.args.shape) c.args.list.now (c.args.self.now.place + 1))) (sym c.image.ensures))
+    (places_rest c.args.pair (shape_in c.args.shape) c.args.list.now.pieces (c.args.self.now.place + 1))) (sym c.image.ensures))
 
 pub returns-clause-hand : goal.returns-clause-hand
 returns-clause-hand c =

@@ -1,4 +1,5 @@
-use Rattle.std.proofs.Common.{◌∙◌, sym, subst, arith}
+use Rattle.std.proofs.Common.{◌∙◌, ◌++◌, [], replicate, ap, sym, subst, arith}
+use Rattle.flat_walk.specs.Kept.{all_lists}
 use Rattle.flat_walk.proofs.BoxLemmas.{AreIn, box_corners}
 use Rattle.flat_walk.proofs.owned.Cursor.long_run.Goals as goal
 
@@ -10,10 +11,10 @@ rows_of-requires-clause-high c = (box_corners c.box_of_pieces.result c.box_of_pi
 
 pub returns : goal.returns
 returns c = record {
-  pieces = c.in-Some.list.now;
-  later = c.in-Some._lists.now;
+  pieces = c.in-Some.list.now.pieces;
+  later = replicate c.in-Some.list.now.more [] ++ all_lists c.in-Some._lists.now;
   box = c.box_of_pieces.result;
-  lists = c.in-Some.ensures.cases.0;
+  lists = ap all_lists c.in-Some.ensures.cases.0;
   around = subst (AreIn c.box_of_pieces.result) (sym c.in-Some-split_first.ensures.cases.0 ∙ c.as_slice.ensures.value) c.box_of_pieces.ensures.around;
   between = c.rows_of.ensures.between;
   near = c.rows_of.ensures.near;

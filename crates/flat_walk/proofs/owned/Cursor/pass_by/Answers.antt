@@ -1,8 +1,8 @@
-use Rattle.std.proofs.Common.{◌∙◌, ◌+◌, sym, ap, arith, refl, map, Some, drop, length}
+use Rattle.std.proofs.Common.{◌∙◌, ◌+◌, sym, ap, arith, refl, map, Some, drop}
 use Rattle.layout_model.specs.ShapeLists.{shape_in}
 use Rattle.flat_walk.specs.Hands.{shapes_left}
 use Rattle.flat_walk.proofs.RestLemmas.{skip_same, skip_on}
-use Rattle.flat_walk.proofs.CursorLemmas.{list_over, next_list, next_steps}
+use Rattle.flat_walk.proofs.CursorLemmas.{first_inside, list_over, next_list, next_shorter, next_steps}
 use Rattle.flat_walk.proofs.owned.Cursor.pass_by.Goals as goal
 
 pub loop-pair-init : goal.loop-pair-init
@@ -24,9 +24,13 @@ loop-pair-preserved c =
 
 pub loop-pair-smaller : goal.loop-pair-smaller
 loop-pair-smaller c =
-    let before = ap length c.in-Some.ensures.is in
-    let after = ap length c.skip.ensures.next.shapes in
-    omega (arith, before, after, c.pass_boxes.ensures.shorter)
+    let shorter = next_shorter c.pass_boxes.new.self c.skip.new.self (shape_in c.in-Some.shape) c.in-Some.ensures c.skip.ensures.next in
+    omega (arith, shorter, c.pass_boxes.ensures.shorter)
+
+pub skip-requires-clause-inside : goal.skip-requires-clause-inside
+skip-requires-clause-inside c =
+    let s = c.pass_boxes.new.self in
+    first_inside s.number s.shapes.now (drop (s.number + 1) s.shapes.now) (shape_in c.in-Some.shape) c.in-Some.ensures.is
 
 pub returns-then-is_empty-clause-skips : goal.returns-then-is_empty-clause-skips
 returns-then-is_empty-clause-skips c = skip_on c.args.window _ _ _ c.loop-pair.invariant.skips (c.pass_boxes.ensures.skips c.args.pair)

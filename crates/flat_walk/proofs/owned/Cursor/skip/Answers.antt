@@ -1,13 +1,33 @@
+use Rattle.std.proofs.Common.{length, refl}
 use Rattle.flat_walk.specs.Blocks.{boxes_in}
-use Rattle.flat_walk.proofs.CursorLemmas.{boxed_on}
+use Rattle.flat_walk.proofs.EntryLemmas.{single_next}
+use Rattle.flat_walk.proofs.CursorLemmas.{boxed_on, shapes_next}
 use Rattle.flat_walk.proofs.owned.Cursor.skip.Goals as goal
 
 pub returns-clause-cursor : goal.returns-clause-cursor
 returns-clause-cursor c =
     let s = c.args.self.now in
+    let next = c.after_first-next in
     record {
       orient = c.requires.cursor.orient;
       near = c.requires.cursor.near;
       grid = c.requires.cursor.grid;
-      boxed = boxed_on s.number s.shapes.now s.lists.now c.rest-self.result.now (boxes_in s.boxes) c.rest-self.ensures c.requires.cursor.boxed;
+      single = rw c.rest-self.ensures
+          (single_next s.single s.number (length s.shapes.now) next.result s.lists.now
+          c.requires.cursor.single c.requires.inside next.ensures);
+      boxed = rw c.rest-self.ensures
+          (boxed_on s.number next.result s.shapes.now s.lists.now (boxes_in s.boxes)
+          c.requires.inside next.ensures c.requires.cursor.boxed);
+    }
+
+pub returns-clause-next : goal.returns-clause-next
+returns-clause-next c =
+    let s = c.args.self.now in
+    let next = c.after_first-next in
+    record {
+      shapes = shapes_next s.number next.result s.lists.now s.shapes.now next.ensures;
+      lists = c.rest-self.ensures;
+      place = refl;
+      orient = refl;
+      at = refl;
     }

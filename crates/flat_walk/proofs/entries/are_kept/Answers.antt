@@ -2,7 +2,7 @@ use Rattle.std.proofs.Common.{rules, subst, sym, arith, take}
 use Rattle.std.proofs.lemmas.List.{take_all}
 use Rattle.std.proofs.lemmas.List.Elements.{All-more, All-same}
 use Rattle.half_grid.specs.Trapezoids.{IsShot}
-use Rattle.flat_walk.proofs.tables.are_kept.Goals as goal
+use Rattle.flat_walk.proofs.entries.are_kept.Goals as goal
 
 pub loop-trap-preserved : goal.loop-trap-preserved
 loop-trap-preserved c =

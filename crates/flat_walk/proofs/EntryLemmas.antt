@@ -1,0 +1,107 @@
+-- What entries of a cell stand for.
+use Rattle.std.proofs.Common.{◌≡◌, ℕ, zero, suc, ◌+◌, ◌-◌, ◌<◌, ◌≤◌, min, List, [], ◌∷◌, ◌++◌, Some, length, drop, replicate, slice_get}
+use Rattle.std.proofs.Common.{refl, ap, sym, subst, ◌∙◌, arith, append-nil}
+use Rattle.std.specs.List.{sum_by, AllByRecursion}
+use Rattle.std.proofs.lemmas.Grind.{flat_map-append}
+use Rattle.std.proofs.lemmas.List.Sums.{sum_by-cons}
+use Rattle.std.proofs.lemmas.Option.{same_Some}
+use Rattle.half_grid.specs.Trapezoids.{Trapezoid}
+use Rattle.flat_walk.specs.Hands.{first_count}
+use Rattle.flat_walk.specs.Kept.{Entry, lists_of, all_lists, AreSingle}
+use Rattle.flat_walk.specs.Tables.{IsKept}
+use Rattle.flat_walk.proofs.TableLemmas.{none_kept}
+
+pub lists_more : (entries : List Entry) (entry : Entry) → all_lists (entries ++ entry ∷ []) ≡ all_lists entries ++ lists_of entry
+lists_more entries entry = flat_map-append lists_of entries (entry ∷ []) ∙ ap (λ l. all_lists entries ++ l) (append-nil (lists_of entry))
+
+-- ---- the first entries stand for one shape each
+
+pub single_more : (count : ℕ) (entries : List Entry) (entry : Entry) → AreSingle count entries → AreSingle count (entries ++ entry ∷ [])
+single_more zero entries entry single = tt
+single_more (suc count) [] entry single = absurd single
+single_more (suc count) (e ∷ entries) entry single = (single.0, single_more count entries entry single.1)
+
+pub single_last : (count next : ℕ) (entries : List Entry) (entry : Entry) → count ≡ length entries → next ≡ count + 1 → AreSingle count entries
+    → entry.more ≡ 0 → AreSingle next (entries ++ entry ∷ [])
+single_last count zero entries entry long is single one = tt
+single_last zero (suc next) [] entry long is single one = subst (λ n. AreSingle (suc n) (entry ∷ [])) (let e : 0 ≡ next = omega (arith, is) in e) (one, tt)
+single_last (suc count) (suc next) [] entry long is single one = absurd single
+single_last zero (suc next) (e ∷ entries) entry long is single one = absurd (omega (arith, long))
+single_last (suc count) (suc next) (e ∷ entries) entry long is single one =
+    (single.0, single_last count next entries entry (omega (arith, long)) (omega (arith, is)) single.1 one)
+
+pub single_inside : (count : ℕ) (entries : List Entry) → AreSingle count entries → count ≤ length entries
+single_inside zero entries single = omega arith
+single_inside (suc count) [] single = absurd single
+single_inside (suc count) (e ∷ entries) single = let h = single_inside count entries single.1 in omega (arith, h)
+
+-- the list of a shape is that of its entry
+pub single_slot : (count k : ℕ) (entries : List Entry) (entry : Entry) → AreSingle count entries → k < count → slice_get entries k ≡ Some entry
+    → slice_get (all_lists entries) k ≡ Some entry.pieces
+single_slot zero k entries entry single inside there = absurd (omega (arith, inside))
+single_slot (suc count) k [] entry single inside there = absurd single
+single_slot (suc count) zero (e ∷ entries) entry single inside there = ap (λ x. Some x.pieces) (same_Some e entry there)
+single_slot (suc count) (suc k) (e ∷ entries) entry single inside there =
+    ap (λ m. slice_get (replicate m [] ++ all_lists entries) k) single.0 ∙ single_slot count k entries entry single.1 (omega (arith, inside)) there
+
+pub single_dropped : (passed count : ℕ) (entries : List Entry) → passed ≤ count → AreSingle count entries → AreSingle (count - passed) (drop passed entries)
+single_dropped zero count entries few single = subst (λ n. AreSingle n entries) (let f : count ≡ count - 0 = omega arith in f) single
+single_dropped (suc passed) zero entries few single = absurd (omega (arith, few))
+single_dropped (suc passed) (suc count) [] few single = absurd single
+single_dropped (suc passed) (suc count) (e ∷ entries) few single =
+    subst (λ n. AreSingle n (drop passed entries)) (let f : count - passed ≡ suc count - suc passed = omega arith in f)
+    (single_dropped passed count entries (omega (arith, few)) single.1)
+
+-- so many entries are passed by, and with them as many lists
+pub lists_dropped : (passed count : ℕ) (entries : List Entry) → passed ≤ count → AreSingle count entries
+    → all_lists (drop passed entries) ≡ drop passed (all_lists entries)
+lists_dropped zero count entries few single = refl
+lists_dropped (suc passed) zero entries few single = absurd (omega (arith, few))
+lists_dropped (suc passed) (suc count) [] few single = refl
+lists_dropped (suc passed) (suc count) (e ∷ entries) few single =
+    lists_dropped passed count entries (omega (arith, few)) single.1
+    ∙ ap (λ m. drop passed (replicate m [] ++ all_lists entries)) (sym single.0)
+
+-- an entry that is the only one of its shape
+pub first_alone : (count : ℕ) (entries : List Entry) → 0 < count → AreSingle count entries → first_count entries ≡ 1
+first_alone zero entries some single = absurd (omega (arith, some))
+first_alone (suc count) [] some single = absurd single
+first_alone (suc count) (e ∷ entries) some single = omega (arith, single.0)
+
+-- the first entry is passed by
+pub single_next : (single number all next : ℕ) (entries : List Entry) → AreSingle (single - number) entries → number < all
+    → next ≡ min (number + first_count entries) all → AreSingle (single - next) (drop 1 entries)
+single_next single number all next entries are inside is = by (single - number) refl
+  where
+    by : (left : ℕ) → single - number ≡ left → AreSingle (single - next) (drop 1 entries)
+    by zero e = subst (λ k. AreSingle k (drop 1 entries)) (let f : 0 ≡ single - next = omega (arith, e, is, inside) in f) tt
+    by (suc left) e =
+        let here : AreSingle (suc left) entries = subst (λ k. AreSingle k entries) e are in
+        let one = first_alone (suc left) entries (omega arith) here in
+        subst (λ k. AreSingle k (drop 1 entries)) (let f : suc left - 1 ≡ single - next = omega (arith, e, is, inside, one) in f)
+        (single_dropped 1 (suc left) entries (omega arith) here)
+
+-- ---- how many pieces there are
+
+none_counted : (count : ℕ) (lists : List (List Trapezoid)) → sum_by length (replicate count [] ++ lists) ≡ sum_by length lists
+none_counted zero lists = refl
+none_counted (suc count) lists =
+    let e = sum_by-cons length [] (replicate count [] ++ lists) in let h = none_counted count lists in omega (arith, e, h)
+
+pub counted_lists : (entries : List Entry) → sum_by length (all_lists entries) ≡ sum_by (λ entry. length entry.pieces) entries
+counted_lists [] = refl
+counted_lists (e ∷ entries) =
+    sum_by-cons length e.pieces (replicate e.more [] ++ all_lists entries)
+    ∙ (ap (λ n. length e.pieces + n) (none_counted e.more (all_lists entries) ∙ counted_lists entries)
+    ∙ sym (sum_by-cons (λ entry. length entry.pieces) e entries))
+
+-- ---- what is pushed
+
+pub alone_is : (entry : Entry) (pieces : List Trapezoid) → entry.pieces ≡ pieces → entry.more ≡ 0 → lists_of entry ≡ pieces ∷ []
+alone_is entry pieces is alone = ap (λ m. entry.pieces ∷ replicate m []) alone ∙ ap (λ l. l ∷ []) is
+
+pub none_is : (entry : Entry) (count : ℕ) → entry.pieces ≡ [] → suc entry.more ≡ count → lists_of entry ≡ replicate count []
+none_is entry count is long = ap (λ l. l ∷ replicate entry.more []) is ∙ ap (λ m. replicate {A = List Trapezoid} m []) long
+
+pub lists_kept : (entry : Entry) → IsKept entry.pieces → AllByRecursion IsKept (lists_of entry)
+lists_kept entry kept = (kept, none_kept entry.more)
