@@ -23,10 +23,7 @@ fn shown(alloc: Global, bytes: &[u8]) -> Result<String, AllocError> {
 fn is_one(rt: &impl Abort, bytes: &[u8]) {
     assert_eq!(rt; end_of(bytes, false), Ok(bytes.len()));
     for cut in 0..bytes.len() {
-        assert_eq!(rt;
-            end_of(&bytes[..cut], false),
-            Err(RecordBad::Short)
-        );
+        assert_eq!(rt; end_of(&bytes[..cut], false), Err(RecordBad::Short));
     }
 }
 
@@ -458,10 +455,7 @@ fn are_written(rt: &impl Abort, alloc: Global, id: u8, bits: &[Bit]) -> Result<(
         info = info.wrapping_mul(2);
     }
     if info != 0 {
-        assert_eq!(rt;
-            end_of(&with_info(id, info), false),
-            Err(RecordBad::Shape)
-        );
+        assert_eq!(rt; end_of(&with_info(id, info), false), Err(RecordBad::Shape));
     }
     Ok(())
 }
@@ -520,15 +514,9 @@ fn refuses_at_the_first_byte_that_breaks(rt: HostRuntime) {
     are_refused(&rt, &WIDE, RecordBad::Wide);
     are_refused(&rt, &[&[0x22]], RecordBad::Packed);
     // With table offsets END is longer.
+    assert_eq!(rt; end_of(&[0x02, 0, 0], true), Err(RecordBad::Short));
     assert_eq!(rt;
-        end_of(&[0x02, 0, 0], true),
-        Err(RecordBad::Short)
-    );
-    assert_eq!(rt;
-        end_of(
-            &[0x02, 0, 0, 0, 0, 0, 0, 0, 0, 0, 0, 0, 0, 0, 0],
-            true
-        ),
+        end_of(&[0x02, 0, 0, 0, 0, 0, 0, 0, 0, 0, 0, 0, 0, 0, 0], true),
         Ok(15)
     );
 }

@@ -370,10 +370,7 @@ const REPEATED: [(&[u8], &[(i64, i64)]); 12] = [
         &[(0, 0), (10, 2), (0, -8), (10, -6)],
     ),
     (&[0x13, 4, 9, 1, 21, 2], &[(0, 0), (10, 2), (20, 4)]),
-    (
-        &[0x13, 4, 10, 1, 21, 3, 1, 6],
-        &[(0, 0), (10, -2), (10, 4)],
-    ),
+    (&[0x13, 4, 10, 1, 21, 3, 1, 6], &[(0, 0), (10, -2), (10, 4)]),
     (
         &[0x13, 4, 11, 1, 10, 21, 3, 1, 6],
         &[(0, 0), (100, -20), (100, 40)],
@@ -474,11 +471,11 @@ fn rule_of_path(alloc: Global, brush: Brush, bytes: &[u8]) -> u8 {
 }
 
 // Paths that go along x and along y, at 45 degrees, and 2^41 to the right.
-const BENT: &[u8] = &[0x16, 0x20, 4, 2, 21, 0, 1, 10];
-const SLANTED: &[u8] = &[0x16, 0x20, 4, 1, 21, 10];
-const FAR: &[u8] = &[
-    0x16, 0x20, 4, 1, 0x81, 0x80, 0x80, 0x80, 0x80, 0x80, 2, 0,
-];
+const BENT_PATH: &[u8] = &[0x16, 0x20, 4, 2, 21, 0, 1, 10];
+
+const SLANTED_PATH: &[u8] = &[0x16, 0x20, 4, 1, 21, 10];
+
+const FAR_PATH: &[u8] = &[0x16, 0x20, 4, 1, 0x81, 0x80, 0x80, 0x80, 0x80, 0x80, 2, 0];
 
 #[test]
 fn paths_by_their_lowest_rule(rt: HostRuntime) {
@@ -488,16 +485,14 @@ fn paths_by_their_lowest_rule(rt: HostRuntime) {
         start: 0,
         end,
     };
-    assert_eq!(rt; rule_of_path(alloc, brush(2, 0), BENT), 0);
-    assert_eq!(rt; rule_of_path(alloc, brush(2, 0), SLANTED), 8);
-    assert_eq!(rt; rule_of_path(alloc, brush(0, 0), SLANTED), 0);
-    assert_eq!(rt; rule_of_path(alloc, brush(0, 1 << 41), SLANTED), 1);
-    assert_eq!(rt; rule_of_path(alloc, brush(0, 0), FAR), 1);
+    assert_eq!(rt; rule_of_path(alloc, brush(2, 0), BENT_PATH), 0);
+    assert_eq!(rt; rule_of_path(alloc, brush(2, 0), SLANTED_PATH), 8);
+    assert_eq!(rt; rule_of_path(alloc, brush(0, 0), SLANTED_PATH), 0);
+    assert_eq!(rt; rule_of_path(alloc, brush(0, 1 << 41), SLANTED_PATH), 1);
+    assert_eq!(rt; rule_of_path(alloc, brush(0, 0), FAR_PATH), 1);
 }
 
-const STAIRS: &[u8] = &[
-    0x16, 0x20, 2, 10, 40, 41, 40, 41, 40, 41, 40, 41, 40, 41,
-];
+const STAIRS: &[u8] = &[0x16, 0x20, 2, 10, 40, 41, 40, 41, 40, 41, 40, 41, 40, 41];
 
 // Stairs that are made once and drawn with three widths, of which one is 0, at another position.
 #[test]
