@@ -1,4 +1,4 @@
-use Rattle.std.proofs.Common.{◌≡◌, ◌<◌, [], ◌∷◌, length, sym, ap, subst, refl, ◌∙◌, arith}
+use Rattle.std.proofs.Common.{◌<◌, [], ◌∷◌, length, sym, ap, subst, refl, ◌∙◌}
 use Rattle.half_grid.specs.Quads.{ring_of, corners_of}
 use Rattle.flat_walk.specs.Tables.{AreCut, with_lists}
 use Rattle.flat_walk.proofs.TableLemmas.{pushed_length}

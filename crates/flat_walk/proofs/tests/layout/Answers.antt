@@ -1,4 +1,4 @@
-use Rattle.std.proofs.Common.{◌∙◌, ap, map}
+use Rattle.std.proofs.Common.{◌∙◌}
 use Rattle.flat_walk.proofs.TestLemmas.{three_cells}
 use Rattle.flat_walk.proofs.tests.layout.Goals as goal
 
