@@ -1,12 +1,12 @@
 -- What a plan is seen as: a deck, and the cells of a layout with the number of its top cell.
-use Rattle.std.specs.Prelude.{◌≡◌, ◌<◌, ◌⊎◌, ℕ, List, [], All, Some, slice_get, length}
+use Rattle.std.specs.Prelude.{◌≡◌, ◌<◌, ◌⊎◌, ℕ, List, [], ◌∷◌, All, Some, slice_get, length}
 use Rattle.half_grid.specs.Trapezoids.{Trapezoid, CoversExactly, IsShot}
 use Rattle.half_grid.specs.Windows.{RowRange}
 use Rattle.half_grid.specs.Winding.{IsInPolygon}
 use Rattle.layout_model.specs.declared.shapes.Shape.{Shape}
 use Rattle.cell_tree.specs.Cells.{shapes_at}
 use Rattle.cell_tree.specs.Chains.{IsReachable}
-use Rattle.flat_walk.specs.Tables.{IsShownOnce, HasShape, with_pieces, piece_count}
+use Rattle.flat_walk.specs.Tables.{IsShownOnce, lists_at, with_lists, piece_count}
 use Rattle.layout_model.specs.declared.cells.Cell.{Cell}
 use Rattle.bool_ops.specs.Operations.{IsJoinedOf}
 use Rattle.deck_text.specs.Decks.{IsDeck}
@@ -45,16 +45,20 @@ pub record CountsPieces (p : Planned) (count : ℕ) : Type 0 where
   pub cut : AreAllCut p.cells p.top table
   pub is : count ≡ piece_count table
 
--- each shape of the reachable cells before this one, and the first so many of this one
-abbrev pub AreCutUpTo : List Cell → ℕ → List (List (List Trapezoid)) → ℕ → ℕ → Type 0
-AreCutUpTo cells top table cell count = (n k : ℕ) (shape : Shape) → IsReachable cells top n → (n < cell) ⊎ ((n ≡ cell) × (k < count))
-    → slice_get (shapes_at cells n) k ≡ Some shape → IsShownOnce cells table n k shape
+-- each shape of the reachable cells before this one is cut, or given once more, and so is each of the first so many of this
+-- one; there are no other lists of this cell, and none of later cells
+pub record AreCutUpTo (cells : List Cell) (top : ℕ) (table : List (List (List Trapezoid))) (cell count : ℕ) : Type 0 where
+  pub long : length table ≡ length cells
+  pub own : length (lists_at table cell) ≡ count
+  pub later : (n : ℕ) → cell < n → lists_at table n ≡ []
+  pub cut : (n k : ℕ) (shape : Shape) → IsReachable cells top n → (n < cell) ⊎ ((n ≡ cell) × (k < count))
+      → slice_get (shapes_at cells n) k ≡ Some shape → IsShownOnce cells table n k shape
 
--- a list that covers the shape's own tiles exactly is put in the place of shape k of cell n
-pub record IsPutFor (shape : Shape) (before : List (List (List Trapezoid))) (n k : ℕ) (after : List (List (List Trapezoid))) : Type 0 where
+-- a list that covers the shape's own tiles exactly is pushed for cell n
+pub record IsPushedFor (shape : Shape) (before : List (List (List Trapezoid))) (n : ℕ) (after : List (List (List Trapezoid))) : Type 0 where
   pub pieces : List Trapezoid
   pub covers : CoversExactly pieces (IsInPolygon shape.points)
-  pub is : after ≡ with_pieces before n k pieces
+  pub is : after ≡ with_lists before n (pieces ∷ [])
 
 -- shape k stands among the shapes before it, too
 pub record IsGivenAgain (shapes : List Shape) (k : ℕ) (shape : Shape) : Type 0 where
@@ -62,14 +66,10 @@ pub record IsGivenAgain (shapes : List Shape) (k : ℕ) (shape : Shape) : Type 0
   pub before : earlier < k
   pub same : slice_get shapes earlier ≡ Some shape
 
--- of these shapes of cell n, a list that covers the tiles of shape k exactly is put in its place, or none where it is given again
-pub record IsPutAmong (shapes : List Shape) (before : List (List (List Trapezoid))) (n k : ℕ) (after : List (List (List Trapezoid))) : Type 0 where
+-- of these shapes of cell n, a list that covers the tiles of shape k exactly is pushed, or an empty one where it is given again
+pub record IsPushedAmong (shapes : List Shape) (before : List (List (List Trapezoid))) (n k : ℕ) (after : List (List (List Trapezoid))) : Type 0 where
   pub shape : Shape
   pub here : slice_get shapes k ≡ Some shape
   pub pieces : List Trapezoid
   pub covers : CoversExactly pieces (IsInPolygon shape.points) ⊎ ((pieces ≡ []) × IsGivenAgain shapes k shape)
-  pub is : after ≡ with_pieces before n k pieces
-
--- each shape of each reachable cell has a place in the table
-abbrev pub HaveShapes : List Cell → ℕ → List (List (List Trapezoid)) → Type 0
-HaveShapes cells top table = (n k : ℕ) → IsReachable cells top n → k < length (shapes_at cells n) → HasShape table n k
+  pub is : after ≡ with_lists before n (pieces ∷ [])

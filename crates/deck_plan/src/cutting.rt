@@ -1,21 +1,22 @@
 //! The pieces of a layout's shapes.
-ghost use Rattle.std.specs.Prelude.{◌≡◌, ◌<◌, ◌≤◌, ◌+◌, ℕ, [], ◌∷◌, length, slice_get, Some, All, IsTrue, IfOk, IfSome, OnOk};
+ghost use Rattle.std.specs.Prelude.{◌≡◌, ◌<◌, ◌≤◌, ◌+◌, ◌*◌, ◌^◌, [], ◌∷◌, length, slice_get, Some, All, IsTrue, IfOk, IfSome, OnOk};
 ghost use Rattle.layout_model.specs.Layouts.{IsCellOnGrid, IsShapeOnGrid};
 ghost use Rattle.layout_model.specs.declared.shapes.Shape.{Shape as AShape};
 ghost use Rattle.layout_model.specs.ShapeLists.{shape_in};
+ghost use Rattle.layout_model.specs.Repeats.{AreCopies};
 ghost use Rattle.bool_ops.specs.Operations.{ArePieces};
 ghost use Rattle.cell_tree.specs.Cells.{shapes_at};
-ghost use Rattle.flat_walk.specs.Tables.{HasShape, with_pieces};
+ghost use Rattle.cell_tree.specs.Chains.{IsReachable};
 ghost use Rattle.half_grid.specs.Trapezoids.{CoversExactly};
 ghost use Rattle.half_grid.specs.Winding.{IsInPolygon};
-ghost use Rattle.deck_plan.specs.Plans.{AreAllCut, AreCutUpTo, HaveShapes, IsGivenAgain, IsPutAmong, IsPutFor};
+ghost use Rattle.deck_plan.specs.Plans.{AreAllCut, AreCutUpTo, IsGivenAgain, IsPushedAmong, IsPushedFor};
 
 use bool_ops::{lone_piece, monotone_pieces, pieces};
 use cell_tree::Tree;
 use flat_walk::Parts;
 use geo_stream::NoMemory;
 use half_grid::Trap;
-use layout_model::{ShapeRef, Shapes};
+use layout_model::{Copies, ShapeRef, Shapes};
 use std::alloc::Global;
 
 // The pieces of one shape.
@@ -58,28 +59,27 @@ fn known_pieces(shape: ShapeRef<'_>, traps: &mut Vec<Trap>) -> Result<bool, NoMe
     }
 }
 
-// Puts the pieces of one shape, and uses the list `traps` on the way, which may hold anything. A rectangle needs neither a
+// Pushes the pieces of one shape, and uses the list `traps` on the way, which may hold anything. A rectangle needs neither a
 // sweep nor a list, and most other outlines no sweep.
 fn cut_shape(
     alloc: Global,
     parts: &mut Parts,
     traps: &mut Vec<Trap>,
     cell: usize,
-    number: usize,
     shape: ShapeRef<'_>,
 ) -> Result<(), NoMemory>
     requires grid { IsShapeOnGrid (shape_in shape) }
-    requires place { HasShape parts.old cell number }
-    ensures { OnOk result (IsPutFor (shape_in shape.entry) parts.old cell number parts.new) }
+    requires cell { cell < length parts.old }
+    ensures { OnOk result (IsPushedFor (shape_in shape.entry) parts.old cell parts.new) }
 {
     if let Some(trap) = lone_piece_of(shape) {
-        return parts.put(cell, number, &[trap]);
+        return parts.push(cell, &[trap]);
     }
     if known_pieces(shape, traps)? {
-        return parts.put(cell, number, traps.as_slice());
+        return parts.push(cell, traps.as_slice());
     }
     let swept = pieces_of(alloc, shape)?;
-    parts.put(cell, number, swept.as_slice())
+    parts.push(cell, swept.as_slice())
 }
 
 // Whether one of the shapes is the one before it, given again.
@@ -93,9 +93,9 @@ fn is_given_again(shapes: &Shapes, number: usize) -> bool
     shapes.get(number - 1).is_again(shapes.get(number))
 }
 
-// Puts the pieces of one of the shapes of a cell, by its number, as `cut_shape` does. A shape that is given again has none:
+// Pushes the pieces of one of the shapes of a cell, by its number, as `cut_shape` does. A shape that is given again has none:
 // it shows what it showed the first time.
-fn put_shape(
+fn push_shape(
     alloc: Global,
     parts: &mut Parts,
     traps: &mut Vec<Trap>,
@@ -105,16 +105,75 @@ fn put_shape(
 ) -> Result<(), NoMemory>
     requires inside { number < length shapes.now }
     requires grid { All IsShapeOnGrid shapes.now }
-    requires place { HasShape parts.old cell number }
-    ensures { OnOk result (IsPutAmong shapes.now parts.old cell number parts.new) }
+    requires cell { cell < length parts.old }
+    ensures { OnOk result (IsPushedAmong shapes.now parts.old cell number parts.new) }
 {
     let shape = shapes.get(number);
     if is_given_again(shapes, number) {
-        parts.put(cell, number, &[])?;
+        parts.push(cell, &[])?;
         return Ok(());
     }
-    cut_shape(alloc, parts, traps, cell, number, shape)?;
+    cut_shape(alloc, parts, traps, cell, shape)?;
     Ok(())
+}
+
+// Pushes the pieces of the shapes of a cell from one number on and below another.
+fn cut_some(
+    alloc: Global,
+    parts: &mut Parts,
+    traps: &mut Vec<Trap>,
+    tree: &Tree,
+    cell: usize,
+    first: usize,
+    end: usize,
+) -> Result<(), NoMemory>
+    requires grid { All IsCellOnGrid tree.now.layout.cells }
+    requires cell { cell < length tree.now.layout.cells }
+    requires reached { IsReachable tree.now.layout.cells tree.now.top cell }
+    requires some { first ≤ end }
+    requires inside { end ≤ length (shapes_at tree.now.layout.cells cell) }
+    requires before { AreCutUpTo tree.now.layout.cells tree.now.top parts.old cell first }
+    ensures { OnOk result (AreCutUpTo tree.now.layout.cells tree.now.top parts.new cell end) }
+{
+    let shapes = shapes_of(tree, cell);
+    let mut number = first;
+    while number < end {
+        push_shape(alloc, parts, traps, cell, shapes, number)?;
+        number += 1;
+    }
+    Ok(())
+}
+
+// The pieces of shapes of a cell, from one number on, of which the first ones are given so many times, one after another. They
+// are cut once, and the others have no pieces.
+fn cut_copies(
+    alloc: Global,
+    parts: &mut Parts,
+    traps: &mut Vec<Trap>,
+    tree: &Tree,
+    cell: usize,
+    number: usize,
+    copies: Copies,
+) -> Result<(), NoMemory>
+    requires grid { All IsCellOnGrid tree.now.layout.cells }
+    requires cell { cell < length tree.now.layout.cells }
+    requires reached { IsReachable tree.now.layout.cells tree.now.top cell }
+    requires copies { AreCopies (shapes_at tree.now.layout.cells cell) number copies.period copies.times }
+    requires few { number + copies.times * copies.period < 2 ^ 64 }
+    requires before { AreCutUpTo tree.now.layout.cells tree.now.top parts.old cell number }
+    ensures { OnOk result (AreCutUpTo tree.now.layout.cells tree.now.top parts.new cell (number + copies.times * copies.period)) }
+{
+    parts.reserve(cell, copies.period)?;
+    cut_some(
+        alloc,
+        parts,
+        traps,
+        tree,
+        cell,
+        number,
+        number + copies.period,
+    )?;
+    parts.push_none(cell, (copies.times - 1) * copies.period)
 }
 
 // The pieces of the shapes of a cell, or none where it has nothing to show.
@@ -127,10 +186,8 @@ fn cut_cell(
 ) -> Result<(), NoMemory>
     requires grid { All IsCellOnGrid tree.now.layout.cells }
     requires cell { cell < length tree.now.layout.cells }
-    requires shapes { HaveShapes tree.now.layout.cells tree.now.top parts.old }
     requires before { AreCutUpTo tree.now.layout.cells tree.now.top parts.old cell 0 }
-    ensures shapes { OnOk result (HaveShapes tree.now.layout.cells tree.now.top parts.new) }
-    ensures cut { OnOk result (AreCutUpTo tree.now.layout.cells tree.now.top parts.new (cell + 1) 0) }
+    ensures { OnOk result (AreCutUpTo tree.now.layout.cells tree.now.top parts.new (cell + 1) 0) }
 {
     if tree.is_bare(cell) {
         return Ok(());
@@ -138,15 +195,17 @@ fn cut_cell(
     let shapes = shapes_of(tree, cell);
     let mut number = 0;
     while number < shapes.len() {
-        put_shape(alloc, parts, traps, cell, shapes, number)?;
-        number += 1;
+        let copies = shapes.copies_at(number);
+        cut_copies(alloc, parts, traps, tree, cell, number, copies)?;
+        number += copies.times * copies.period;
     }
     Ok(())
 }
 
 /// The pieces of each shape of the cells that are reached from the top cell, but none of a shape that is the one before it in
-/// its cell, given again: a long outline that a modal variable gives a thousand times is cut once. Of the other cells nothing
-/// is cut. Want of memory is the only refusal.
+/// its cell, given again: a long outline that a modal variable gives a thousand times is cut once. Of a path that is given
+/// again and again only the first one's shapes are cut, and the others aren't looked at. Of the other cells nothing is cut.
+/// Want of memory is the only refusal.
 pub fn cut_parts(alloc: Global, tree: &Tree) -> Result<Parts, NoMemory>
     ensures { IfOk result (λ parts. AreAllCut tree.now.layout.cells tree.now.top parts) }
 {

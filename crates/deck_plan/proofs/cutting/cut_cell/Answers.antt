@@ -1,45 +1,36 @@
-use Rattle.std.proofs.Common.{◌+◌, ap, sym, subst, List, All, length, arith}
-use Rattle.half_grid.specs.Trapezoids.{Trapezoid}
-use Rattle.layout_model.specs.Layouts.{IsShapeOnGrid}
+use Rattle.std.proofs.Common.{ap, subst, List, length, arith}
+use Rattle.layout_model.specs.Repeats.{AreCopies}
 use Rattle.layout_model.specs.declared.shapes.Shape.{Shape}
-use Rattle.cell_tree.proofs.ForCallers.{shapes_on_grid}
-use Rattle.deck_plan.specs.Plans.{AreCutUpTo, HaveShapes}
-use Rattle.deck_plan.proofs.PieceLemmas.{put_in, shapes_put, cut_more, cell_cut, cell_bare}
+use Rattle.deck_plan.proofs.PieceLemmas.{cell_cut, cell_bare, some_copies}
 use Rattle.deck_plan.proofs.cutting.cut_cell.Goals as goal
 
-pub put_shape-requires-clause-grid : goal.put_shape-requires-clause-grid
-put_shape-requires-clause-grid c =
-    subst (λ (shapes : List Shape). All IsShapeOnGrid shapes) (sym c.shapes_of-shapes.ensures)
-    (shapes_on_grid c.args.tree.now.layout.cells c.requires.grid c.args.cell)
+pub cut_copies-requires-clause-reached : goal.cut_copies-requires-clause-reached
+cut_copies-requires-clause-reached c = c.is_bare.ensures.reached c.if-is_bare.false
 
-pub put_shape-requires-clause-place : goal.put_shape-requires-clause-place
-put_shape-requires-clause-place c =
-    c.loop-number.invariant.shapes c.args.cell c.loop-number.number (c.is_bare.ensures.reached c.if-is_bare.false)
-    (let inside = c.loop-number-test.true in let long = c.len.ensures in
-    let same = ap (λ (shapes : List Shape). length shapes) c.shapes_of-shapes.ensures in omega (arith, inside, long, same))
+pub cut_copies-requires-clause-copies : goal.cut_copies-requires-clause-copies
+cut_copies-requires-clause-copies c =
+    subst (λ (shapes : List Shape). AreCopies shapes c.loop-number.number c.copies_at-copies.result.period c.copies_at-copies.result.times)
+    c.shapes_of-shapes.ensures c.copies_at-copies.ensures
+
+pub cut_copies-requires-clause-few : goal.cut_copies-requires-clause-few
+cut_copies-requires-clause-few c = let h = c.copies_at-copies.ensures.within in let e = c.len.ensures in omega (arith, h, e)
 
 pub loop-number-preserved : goal.loop-number-preserved
-loop-number-preserved c =
-    let cells = c.args.tree.now.layout.cells in
-    let top = c.args.tree.now.top in
-    let n = c.loop-number.number in
-    let put = put_in _ _ c.loop-number.parts c.args.cell n _ c.shapes_of-shapes.ensures c.in_ok-put_shape.ensures in
-    let reached = c.is_bare.ensures.reached c.if-is_bare.false in
-    record {
-      shapes = subst (HaveShapes cells top) (sym put.is)
-          (shapes_put cells c.loop-number.parts c.args.cell n put.shape put.pieces top reached put.here c.loop-number.invariant.shapes);
-      cut = subst (λ (table : List (List (List Trapezoid))). AreCutUpTo cells top table c.args.cell (n + 1)) (sym put.is)
-          (cut_more cells c.loop-number.parts c.args.cell n put.shape put.pieces top reached put.here c.loop-number.invariant.shapes put.covers
-          c.loop-number.invariant.cut);
-      few = omega (arith, c.loop-number-test.true);
-    }
+loop-number-preserved c = record { cut = c.in_ok-cut_copies.ensures; few = c.copies_at-copies.ensures.within }
 
-pub returns-clause-cut : goal.returns-clause-cut
-returns-clause-cut c =
+pub loop-number-smaller : goal.loop-number-smaller
+loop-number-smaller c =
+    let copies = c.copies_at-copies.ensures in
+    let some = some_copies c.copies_at-copies.result.period c.copies_at-copies.result.times copies.some copies.once in
+    let h = copies.within in
+    omega (arith, some, h)
+
+pub returns : goal.returns
+returns c =
     let all = ap (λ (shapes : List Shape). length shapes) c.shapes_of-shapes.ensures in
     cell_cut c.args.tree.now.layout.cells c.args.tree.now.top c.loop-number.parts c.args.cell c.loop-number.number
-    (omega (arith, all, c.loop-number-test.false)) c.loop-number.invariant.cut
+    (omega (arith, all, c.loop-number-test.false, c.len.ensures)) c.loop-number.invariant.cut
 
-pub returns-then-is_bare-clause-cut : goal.returns-then-is_bare-clause-cut
-returns-then-is_bare-clause-cut c =
+pub returns-then-is_bare : goal.returns-then-is_bare
+returns-then-is_bare c =
     cell_bare c.args.tree.now.layout.cells c.args.tree.now.top c.args.parts.now c.args.cell (c.is_bare.ensures.bare c.if-is_bare.true) c.requires.before

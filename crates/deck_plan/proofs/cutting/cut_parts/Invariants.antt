@@ -1,11 +1,10 @@
 use Rattle.std.proofs.Common.{◌≤◌, ◌-◌, length}
-use Rattle.deck_plan.specs.Plans.{AreCutUpTo, HaveShapes}
+use Rattle.deck_plan.specs.Plans.{AreCutUpTo}
 use Rattle.deck_plan.proofs.cutting.cut_parts.Given as goal
 
 -- the shapes of the first cells are cut
 abbrev pub invariant-loop-cell : goal.invariant-loop-cell
 invariant-loop-cell l = record {
-  shapes : HaveShapes l.fn.tree.layout.cells l.fn.tree.top l.parts;
   cut : AreCutUpTo l.fn.tree.layout.cells l.fn.tree.top l.parts l.cell 0;
   few : l.cell ≤ length l.fn.tree.layout.cells;
 }

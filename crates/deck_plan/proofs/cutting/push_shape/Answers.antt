@@ -1,7 +1,7 @@
 use Rattle.std.proofs.Common.{[], inl, inr, refl}
 use Rattle.layout_model.specs.ShapeLists.{shape_in}
 use Rattle.deck_plan.proofs.PieceLemmas.{shape_on_grid}
-use Rattle.deck_plan.proofs.cutting.put_shape.Goals as goal
+use Rattle.deck_plan.proofs.cutting.push_shape.Goals as goal
 
 pub cut_shape-requires-clause-grid : goal.cut_shape-requires-clause-grid
 cut_shape-requires-clause-grid c = shape_on_grid c.args.shapes.now c.requires.grid c.args.number (shape_in c.get-shape.result) c.get-shape.ensures
@@ -12,14 +12,14 @@ returns-then-is_given_again c = record {
   here = c.get-shape.ensures;
   pieces = [];
   covers = inr (refl, c.is_given_again.ensures c.if-is_given_again.true (shape_in c.get-shape.result) c.get-shape.ensures);
-  is = c.in_ok-put.ensures.ok;
+  is = c.in_ok-push.ensures.ok;
 }
 
 pub returns : goal.returns
-returns c = let put = c.in_ok-cut_shape.ensures in record {
+returns c = let pushed = c.in_ok-cut_shape.ensures in record {
   shape = shape_in c.get-shape.result;
   here = c.get-shape.ensures;
-  pieces = put.pieces;
-  covers = inl put.covers;
-  is = put.is;
+  pieces = pushed.pieces;
+  covers = inl pushed.covers;
+  is = pushed.is;
 }
