@@ -13,6 +13,7 @@ mod HullLemmas
 mod ReachLemmas
 mod TreeLemmas
 mod OwnLemmas
+mod CopyLemmas
 mod SpotLemmas
 mod TestLemmas
 pub mod ForCallers

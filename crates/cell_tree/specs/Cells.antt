@@ -2,7 +2,7 @@
 -- placement names the cell that it places. No two cells of a layout have one name.
 --
 -- GDSII Stream Format Manual 6.0, SREF and AREF with SNAME; SEMI P39, PLACEMENT records.
-use Rattle.std.specs.Prelude.{◌≡◌, ℕ, nat_eq, true, List, [], Option, Some, None, map, slice_get, position}
+use Rattle.std.specs.Prelude.{◌≡◌, ◌≤◌, ◌<◌, ℕ, nat_eq, true, List, [], Option, Some, None, map, slice_get, position}
 use Rattle.std.specs.Option.{option_map_or}
 use Rattle.std.specs.Cmp.Lexicographic.{pointwise}
 use Rattle.layout_model.specs.declared.shapes.Shape.{Shape}
@@ -65,3 +65,7 @@ pub record HasFixedShape (shapes : List Shape) : Type 0 where
 
 abbrev pub HasFixed : List Cell → ℕ → Type 0
 HasFixed cells n = HasFixedShape (shapes_at cells n)
+
+-- each of the shapes with these numbers may be enlarged
+abbrev pub HasNoneFixed : List Shape → ℕ → ℕ → Type 0
+HasNoneFixed shapes from to = (k : ℕ) (shape : Shape) → from ≤ k → k < to → slice_get shapes k ≡ Some shape → shape.fixed ≡ true → ⊥

@@ -103,8 +103,12 @@ pub record PlacedVertex (cells : List Cell) (n bound : ℕ) (pair : Pair) (p : P
   pub vertex : IsVertex cells target pair v
   pub is : image_of placement.orient (moved by placement.at) v ≡ p
 
+-- the least box of each pair of the first shapes
+abbrev pub AreFirstHulls : List Shape → ℕ → List PairHull → Type 0
+AreFirstHulls shapes bound hulls = AreInOrder hulls × ((pair : Pair) → IsHull (OwnVertex shapes bound pair) (hull_in hulls pair))
+
 abbrev pub AreOwnHulls : List Shape → List PairHull → Type 0
-AreOwnHulls shapes hulls = AreInOrder hulls × ((pair : Pair) → IsHull (OwnVertex shapes (length shapes) pair) (hull_in hulls pair))
+AreOwnHulls shapes hulls = AreFirstHulls shapes (length shapes) hulls
 
 -- the least box of each pair of the cell
 abbrev pub AreCellHulls : List Cell → ℕ → List PairHull → Type 0

@@ -1,5 +1,5 @@
 //! How many flattened shapes there are.
-ghost use Rattle.std.specs.Prelude.{◌≡◌, ◌<◌, ◌≤◌, ◌^◌, ℕ, length, slice_index, IfOk, IfSome};
+ghost use Rattle.std.specs.Prelude.{◌≡◌, ◌<◌, ◌≤◌, ◌-◌, ◌^◌, ℕ, length, take, drop, slice_index, IfOk, IfSome};
 ghost use Rattle.cell_tree.specs.Cells.{PlacesAt};
 ghost use Rattle.cell_tree.specs.Chains.{IsShort};
 ghost use Rattle.cell_tree.specs.Orders.{IsUpward, IsAmong};
@@ -21,13 +21,31 @@ pub(crate) struct Crowd {
     pub(crate) count: u128,
 }
 
-// How often the shapes stand.
+// How often the shapes from a number on up to another stand.
+fn count_between(shapes: &Shapes, from: usize, end: usize) -> u128
+    requires order { from ≤ end }
+    requires within { end ≤ length shapes.now }
+    ensures { result ≡ saturated (own_count (take (end - from) (drop from shapes.now))) }
+{
+    let mut count = 0u128;
+    for number in from..end {
+        count = count.saturating_add(u128::from(shapes.get(number).count()));
+    }
+    count
+}
+
+// How often the shapes stand. Those that are given again and again are gone through once.
 fn own_count(shapes: &Shapes) -> u128
     ensures { result ≡ saturated (own_count shapes.now) }
 {
+    let many = shapes.len();
     let mut count = 0u128;
-    for number in 0..shapes.len() {
-        count = count.saturating_add(u128::from(shapes.get(number).count()));
+    let mut k = 0;
+    while k < many {
+        let copies = shapes.copies_at(k);
+        let once = count_between(shapes, k, k + copies.period);
+        count = count.saturating_add(once.saturating_mul(copies.times as u128));
+        k += copies.times * copies.period;
     }
     count
 }

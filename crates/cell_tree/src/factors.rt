@@ -1,8 +1,8 @@
 //! What chains of placements enlarge by.
 
-ghost use Rattle.std.specs.Prelude.{◌≡◌, ◌<◌, ◌≤◌, ◌↔◌, ◌*◌, ℕ, length, slice_get, get_or, Some, None, IsTrue, IfOk, IfSome, IfNone, MatchOption, All, false};
+ghost use Rattle.std.specs.Prelude.{◌≡◌, ◌<◌, ◌≤◌, ◌↔◌, ◌*◌, ℕ, length, slice_get, get_or, Some, None, IsTrue, IsFalse, IfOk, IfSome, IfNone, MatchOption, All, false};
 ghost use Rattle.layout_model.specs.Layouts.{IsLayoutOnGrid};
-ghost use Rattle.cell_tree.specs.Cells.{HasFixedShape};
+ghost use Rattle.cell_tree.specs.Cells.{HasFixedShape, HasNoneFixed};
 ghost use Rattle.cell_tree.specs.Linking.{AreTargetsBelow};
 ghost use Rattle.cell_tree.specs.Orders.{IsUpward};
 ghost use Rattle.cell_tree.specs.Trees.{IsShallow};
@@ -35,14 +35,32 @@ pub(crate) struct Scaled {
     pub(crate) factor: u64,
 }
 
-// Whether one of the shapes may not be enlarged.
-fn has_fixed(shapes: &Shapes) -> bool
-    ensures { IsTrue result ↔ HasFixedShape shapes.now }
+// Whether one of the shapes from a number on up to another may not be enlarged.
+fn has_fixed_between(shapes: &Shapes, from: usize, end: usize) -> bool
+    requires { end ≤ length shapes.now }
+    ensures yes { IsTrue result → HasFixedShape shapes.now }
+    ensures no { IsFalse result → HasNoneFixed shapes.now from end }
 {
-    for number in 0..shapes.len() {
+    for number in from..end {
         if shapes.get(number).is_fixed() {
             return true;
         }
+    }
+    false
+}
+
+// Whether one of the shapes may not be enlarged. Those that are given again and again are gone through once.
+fn has_fixed(shapes: &Shapes) -> bool
+    ensures { IsTrue result ↔ HasFixedShape shapes.now }
+{
+    let many = shapes.len();
+    let mut k = 0;
+    while k < many {
+        let copies = shapes.copies_at(k);
+        if has_fixed_between(shapes, k, k + copies.period) {
+            return true;
+        }
+        k += copies.times * copies.period;
     }
     false
 }

@@ -11,7 +11,7 @@ ghost use Rattle.cell_tree.specs.Cells.{PlacesAt};
 ghost use Rattle.cell_tree.specs.Chains.{IsShort};
 ghost use Rattle.cell_tree.specs.Orders.{IsUpward, IsAmong};
 ghost use Rattle.cell_tree.specs.HullTables.{ShapeVertex, IsMoveOf, is_before, hull_in, AreInOrder, wider, widest};
-ghost use Rattle.cell_tree.specs.HullTables.{widened_list, whole_from, placed_hull, hulls_at, AreOwnHulls};
+ghost use Rattle.cell_tree.specs.HullTables.{widened_list, whole_from, placed_hull, hulls_at, AreFirstHulls, AreOwnHulls};
 ghost use Rattle.cell_tree.specs.HullTables.{AreCellHulls, AreHulls, AreOnlyAmong, HasNearVertices};
 ghost use Rattle.cell_tree.specs.declared.hulls.PairHull.{PairHull as APairHull};
 ghost use Rattle.half_grid.specs.declared.extent.Frame.{Frame as AFrame};
@@ -139,15 +139,38 @@ fn shape_hull(shape: ShapeRef<'_>) -> Frame
     summed(outline, moves)
 }
 
-// The boxes of shapes.
+// Widens the boxes of the shapes before a number by those of the shapes from there on up to another.
+fn widen_between(
+    hulls: &mut Vec<PairHull>,
+    shapes: &Shapes,
+    from: usize,
+    end: usize,
+) -> Result<(), NoMemory>
+    requires grid { All IsShapeOnGrid shapes.now }
+    requires order { from ≤ end }
+    requires within { end ≤ length shapes.now }
+    requires old { AreFirstHulls shapes.now from hulls.old.items }
+    ensures { OnOk result (AreFirstHulls shapes.now end hulls.new.items) }
+{
+    for number in from..end {
+        let shape = shapes.get(number);
+        widen(hulls, shape.pair(), shape_hull(shape))?;
+    }
+    Ok(())
+}
+
+// The boxes of shapes. Those that are given again and again are gone through once.
 fn own_hulls(alloc: Global, shapes: &Shapes) -> Result<Vec<PairHull>, NoMemory>
     requires { All IsShapeOnGrid shapes.now }
     ensures { IfOk result (λ hulls. AreOwnHulls shapes.now hulls.items) }
 {
+    let many = shapes.len();
     let mut hulls = Vec::new(alloc);
-    for number in 0..shapes.len() {
-        let shape = shapes.get(number);
-        widen(&mut hulls, shape.pair(), shape_hull(shape))?;
+    let mut k = 0;
+    while k < many {
+        let copies = shapes.copies_at(k);
+        widen_between(&mut hulls, shapes, k, k + copies.period)?;
+        k += copies.times * copies.period;
     }
     Ok(hulls)
 }

@@ -1,9 +1,10 @@
 use Rattle.std.proofs.Common.{arith}
-use Rattle.layout_model.specs.ShapeLists.{shape_in}
-use Rattle.cell_tree.proofs.CountLemmas.{shape_counted}
+use Rattle.cell_tree.proofs.CopyLemmas.{counted_copies}
 use Rattle.cell_tree.proofs.crowds.own_count.Goals as goal
 
-pub loop-number-preserved : goal.loop-number-preserved
-loop-number-preserved c =
-    let h = shape_counted c.args.shapes.now c.loop-number.number c.loop-number.count (shape_in c.get.result) c.get.ensures
-    c.loop-number.invariant in omega (arith, h)
+pub loop-k-preserved : goal.loop-k-preserved
+loop-k-preserved c =
+    let copies = c.copies_at-copies.result in
+    let h = counted_copies c.args.shapes.now c.loop-k.k copies.period copies.times c.loop-k.count c.count_between-once.result c.copies_at-copies.ensures
+    c.loop-k.invariant.1 c.count_between-once.ensures in
+    (c.copies_at-copies.ensures.within, omega (arith, h))

@@ -1,6 +1,9 @@
-use Rattle.std.proofs.Common.{◌≡◌, ℕ, ◌<◌, Some, slice_get, true}
-use Rattle.layout_model.specs.declared.shapes.Shape.{Shape}
+use Rattle.std.proofs.Common.{◌≤◌, ◌-◌, length}
+use Rattle.cell_tree.specs.Cells.{HasNoneFixed}
 use Rattle.cell_tree.proofs.factors.has_fixed.Given as goal
 
-abbrev pub invariant-loop-number : goal.invariant-loop-number
-invariant-loop-number l = (k : ℕ) (s : Shape) → k < l.number → slice_get l.shapes k ≡ Some s → s.fixed ≡ true → ⊥
+abbrev pub invariant-loop-k : goal.invariant-loop-k
+invariant-loop-k l = (l.k ≤ length l.shapes) × HasNoneFixed l.shapes 0 l.k
+
+abbrev pub decreases-loop-k : goal.decreases-loop-k
+decreases-loop-k l = length l.shapes - l.k

@@ -1,7 +1,9 @@
-use Rattle.layout_model.specs.declared.pair.Pair.{Pair}
-use Rattle.cell_tree.specs.Boxes.{IsHull}
-use Rattle.cell_tree.specs.HullTables.{AreInOrder, OwnVertex, hull_in}
+use Rattle.std.proofs.Common.{◌≤◌, ◌-◌, length}
+use Rattle.cell_tree.specs.HullTables.{AreFirstHulls}
 use Rattle.cell_tree.proofs.hulls.own_hulls.Given as goal
 
-abbrev pub invariant-loop-number : goal.invariant-loop-number
-invariant-loop-number l = AreInOrder l.hulls.items × ((pair : Pair) → IsHull (OwnVertex l.shapes l.number pair) (hull_in l.hulls.items pair))
+abbrev pub invariant-loop-k : goal.invariant-loop-k
+invariant-loop-k l = (l.k ≤ length l.shapes) × AreFirstHulls l.shapes l.k l.hulls.items
+
+abbrev pub decreases-loop-k : goal.decreases-loop-k
+decreases-loop-k l = length l.shapes - l.k
