@@ -11,7 +11,8 @@ use Rattle.layout_model.specs.declared.shapes.Shape.{Shape}
 use Rattle.layout_model.specs.declared.shape_lists.Run.{Run}
 use Rattle.layout_model.specs.Repeats.{repeated, AreCopies}
 use Rattle.layout_model.specs.ShapeLists.{copy_of_run, shapes_of_run, once_more, shapes_from, shapes_of, IsRun, AreRuns, IsRank, AreShapes}
-use Rattle.layout_model.proofs.RepeatLemmas.{get_dropped, get_taken, get_left, get_right, repeated_length, repeated_at, given_once, given_more, once_alone, copies_from}
+use Rattle.layout_model.proofs.RepeatLemmas.{get_dropped, get_taken, get_left, get_right}
+use Rattle.layout_model.proofs.RepeatLemmas.{repeated_length, repeated_at, given_once, given_more, once_alone, copies_from}
 use Rattle.layout_model.proofs.SegmentListLemmas.{drawn_length}
 
 -- more own shapes
@@ -204,7 +205,8 @@ less_or_not (suc a) zero = inr (omega arith)
 less_or_not (suc a) (suc b) = elim (less_or_not a b) as (λ _. (suc a < suc b) ⊎ (suc b ≤ suc a)) [ inl h ↦ inl (omega arith) | inr h ↦ inr (omega arith) ]
 
 -- from a run on up to the next
-up_to_next : (own : List Shape) (run : Run) (runs : List Run) (j : ℕ) → AreRuns (length own) run.after (run.before + run.times * length run.path.value.items) runs
+up_to_next : (own : List Shape) (run : Run) (runs : List Run) (j : ℕ)
+    → AreRuns (length own) run.after (run.before + run.times * length run.path.value.items) runs
     → ((next : Run) → slice_get runs 0 ≡ Some next → run.before + j < next.before)
     → slice_get (shapes_of_run run ++ shapes_from own run.after runs) j ≡ slice_get (shapes_of_run run ++ drop run.after own) j
 up_to_next own run runs j rest next =
