@@ -7,6 +7,7 @@ pub mod Boxes
 -- ---- what is kept inside
 pub mod Blocks
 pub mod ShortBoxes
+pub mod BoxLaws
 pub mod Hands
 pub mod Poses
 pub mod Rests

@@ -1,8 +1,6 @@
 -- Boxes whose sides are kept in 32 bits. The least number of 32 bits stands for the lowest place that a side may have, and the
 -- greatest one for the highest, so that each box has one round it that is kept so. Sides are in half units.
 use Rattle.std.specs.Prelude.{◌≡◌, ◌<ℤ◌, ◌^◌, ◌-◌, ℤ, pos, neg_ℤ, if◌then◌else◌}
-use Rattle.std.proofs.Common.{arith}
-use Rattle.std.proofs.lemmas.Int.{ints}
 use Rattle.std.specs.Ordering.{int_eq}
 use Rattle.half_grid.specs.declared.extent.Frame.{Frame}
 use Rattle.layout_model.specs.Kept.{IsShort}
@@ -40,15 +38,3 @@ pub record AreShort (sides : Inside) : Type 0 where
   pub y0 : IsShort sides.y0
   pub x1 : IsShort sides.x1
   pub y1 : IsShort sides.y1
-
-side_back : (z : ℤ) → IsShort z → side_from (side_of z) ≡ z
-side_back z s = grind (arith, ints, s.low, s.high)
-
--- the sides can be had back from the box
-pub same_box : (sides : Inside) → AreShort sides → box_from (frame_of sides) ≡ sides
-same_box sides short i = record {
-  x0 = side_back sides.x0 short.x0 i;
-  y0 = side_back sides.y0 short.y0 i;
-  x1 = side_back sides.x1 short.x1 i;
-  y1 = side_back sides.y1 short.y1 i;
-}

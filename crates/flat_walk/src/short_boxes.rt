@@ -32,7 +32,8 @@ impl Model for ShortBox {
 
     ghost Value = { AFrame };
 
-    ghost use Rattle.flat_walk.specs.ShortBoxes.{frame_of, box_from, AreShort, same_box};
+    ghost use Rattle.flat_walk.specs.ShortBoxes.{frame_of, box_from, AreShort};
+    ghost use Rattle.flat_walk.specs.BoxLaws.{same_box};
 
     ghost view = { frame_of };
 
