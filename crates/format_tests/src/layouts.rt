@@ -320,13 +320,20 @@ fn is_shape(shapes: &Shapes, k: usize, points: &[Point], pair: Pair, place: Poin
 }
 
 // Puts the two shapes of WIRE last, moved so and with these lengths, on the other pair, at (2, 4), not to be enlarged.
-fn push_wire(rt: &impl Abort, alloc: Global, shapes: &mut Shapes, by: Point, brush: Brush)
+fn push_wire(
+    rt: &impl Abort,
+    alloc: Global,
+    shapes: &mut Shapes,
+    wire: &SharedPath,
+    by: Point,
+    brush: Brush,
+)
+    requires wire { All (λ segment. IsWithin 100 segment.0 × IsWithin 100 segment.1) wire.now }
     requires by { IsWithin (2 ^ 40) by }
     requires brush { IsNearBrush brush }
 {
     let place = Offsets::list(alloc, &[point(2, 4)]).expect(rt, "a place");
-    let wire = wire(rt, alloc);
-    let pushed = shapes.push_path(&wire, by, OTHER, brush, place, true);
+    let pushed = shapes.push_path(wire, by, OTHER, brush, place, true);
     assert!(rt; pushed.is_ok(), "memory");
 }
 
@@ -357,15 +364,16 @@ const NARROW: Brush = Brush {
 #[test]
 fn shapes_by_number(rt: HostRuntime) {
     let alloc = rt.alloc();
+    let wire = wire(&rt, alloc);
     let mut shapes = Shapes::new(alloc);
     let first = once(&rt, alloc, &RING, PAIR, point(0, 0));
     assert!(rt; shapes.push(first).is_ok(), "memory");
     let second = once(&rt, alloc, &TILTED, PAIR, point(10, 0));
     assert!(rt; shapes.push(second).is_ok(), "memory");
-    push_wire(&rt, alloc, &mut shapes, point(0, 0), WIDE);
+    push_wire(&rt, alloc, &mut shapes, &wire, point(0, 0), WIDE);
     let third = once(&rt, alloc, &UPRIGHT, PAIR, point(0, 0));
     assert!(rt; shapes.push(third).is_ok(), "memory");
-    push_wire(&rt, alloc, &mut shapes, point(100, -40), NARROW);
+    push_wire(&rt, alloc, &mut shapes, &wire, point(100, -40), NARROW);
     assert_eq!(rt; shapes.len(), 7);
     let wide_east = outline(0, -4, 44, 4);
     let wide_north = outline(36, -4, 44, 66);
@@ -378,6 +386,44 @@ fn shapes_by_number(rt: HostRuntime) {
     assert!(rt; is_shape(&shapes, 4, &UPRIGHT, PAIR, point(0, 0)));
     assert!(rt; is_shape(&shapes, 5, &narrow_east, OTHER, point(2, 4)));
     assert!(rt; is_shape(&shapes, 6, &narrow_north, OTHER, point(2, 4)));
+}
+
+// Whether so many shapes from shape `k` on are given so often.
+fn is_block(shapes: &Shapes, k: usize, period: usize, times: usize) -> bool {
+    if k >= shapes.len() {
+        return false;
+    }
+    let copies = shapes.copies_at(k);
+    copies.period == period && copies.times == times
+}
+
+// A path three times, an own shape, the path again, and then elsewhere, and there with other lengths.
+#[test]
+fn paths_given_again(rt: HostRuntime) {
+    let alloc = rt.alloc();
+    let wire = wire(&rt, alloc);
+    let mut shapes = Shapes::new(alloc);
+    for _time in 0..3 {
+        push_wire(&rt, alloc, &mut shapes, &wire, point(0, 0), WIDE);
+    }
+    let own = once(&rt, alloc, &RING, PAIR, point(0, 0));
+    assert!(rt; shapes.push(own).is_ok(), "memory");
+    push_wire(&rt, alloc, &mut shapes, &wire, point(0, 0), WIDE);
+    push_wire(&rt, alloc, &mut shapes, &wire, point(100, -40), WIDE);
+    push_wire(&rt, alloc, &mut shapes, &wire, point(100, -40), NARROW);
+    assert_eq!(rt; shapes.len(), 13);
+    assert!(rt; is_block(&shapes, 0, 2, 3) && is_block(&shapes, 6, 1, 1));
+    assert!(rt; is_block(&shapes, 7, 2, 1) && is_block(&shapes, 9, 2, 1));
+    assert!(rt; is_block(&shapes, 11, 2, 1));
+    let east = outline(0, -4, 44, 4);
+    let north = outline(36, -4, 44, 66);
+    let narrow_north = outline(138, -42, 142, 20);
+    assert!(rt; is_shape(&shapes, 1, &north, OTHER, point(2, 4)));
+    assert!(rt; is_shape(&shapes, 4, &east, OTHER, point(2, 4)));
+    assert!(rt; is_shape(&shapes, 5, &north, OTHER, point(2, 4)));
+    assert!(rt; is_shape(&shapes, 6, &RING, PAIR, point(0, 0)));
+    assert!(rt; is_shape(&shapes, 8, &north, OTHER, point(2, 4)));
+    assert!(rt; is_shape(&shapes, 12, &narrow_north, OTHER, point(2, 4)));
 }
 
 // A path is none by its points, or is cut short by its lengths.

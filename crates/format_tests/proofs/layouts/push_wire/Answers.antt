@@ -19,6 +19,6 @@ IsClose segment = IsWithin 100 segment.0 × IsWithin 100 segment.1
 
 pub push_path-pushed-requires-clause-near : goal.push_path-pushed-requires-clause-near
 push_path-pushed-requires-clause-near g c =
-    All-map IsNearSegment (moved_segment c.args.by) c.wire-wire.result
+    All-map IsNearSegment (moved_segment c.args.by) c.args.wire.now
     (All-weaker IsClose (λ s. IsNearSegment (moved_segment c.args.by s))
-    (λ s near. (stays_near c.args.by s.0 c.requires.by near.0, stays_near c.args.by s.1 c.requires.by near.1)) c.wire-wire.result c.wire-wire.ensures)
+    (λ s near. (stays_near c.args.by s.0 c.requires.by near.0, stays_near c.args.by s.1 c.requires.by near.1)) c.args.wire.now c.requires.wire)
