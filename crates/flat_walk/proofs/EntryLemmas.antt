@@ -1,13 +1,14 @@
 -- What entries of a cell stand for.
 use Rattle.std.proofs.Common.{◌≡◌, ℕ, zero, suc, ◌+◌, ◌-◌, ◌<◌, ◌≤◌, min, List, [], ◌∷◌, ◌++◌, Some, length, drop, replicate, slice_get}
-use Rattle.std.proofs.Common.{refl, ap, sym, subst, ◌∙◌, arith, append-nil}
+use Rattle.std.proofs.Common.{refl, ap, sym, subst, ◌∙◌, arith, append-nil, length-append}
 use Rattle.std.specs.List.{sum_by, AllByRecursion}
 use Rattle.std.proofs.lemmas.Grind.{flat_map-append}
+use Rattle.std.proofs.lemmas.List.{length-replicate}
 use Rattle.std.proofs.lemmas.List.Sums.{sum_by-cons}
 use Rattle.std.proofs.lemmas.Option.{same_Some}
 use Rattle.half_grid.specs.Trapezoids.{Trapezoid}
 use Rattle.flat_walk.specs.Hands.{first_count}
-use Rattle.flat_walk.specs.Kept.{Entry, lists_of, all_lists, AreSingle}
+use Rattle.flat_walk.specs.Kept.{Entry, lists_of, all_lists, bare, AreSingle}
 use Rattle.flat_walk.specs.Tables.{IsKept}
 use Rattle.flat_walk.proofs.TableLemmas.{none_kept}
 
@@ -20,6 +21,46 @@ pub single_more : (count : ℕ) (entries : List Entry) (entry : Entry) → AreSi
 single_more zero entries entry single = tt
 single_more (suc count) [] entry single = absurd single
 single_more (suc count) (e ∷ entries) entry single = (single.0, single_more count entries entry single.1)
+
+single_beside : (count : ℕ) (entries later : List Entry) → AreSingle count entries → AreSingle count (entries ++ later)
+single_beside zero entries later single = tt
+single_beside (suc count) [] later single = absurd single
+single_beside (suc count) (e ∷ entries) later single = (single.0, single_beside count entries later single.1)
+
+bare_single : (count : ℕ) → AreSingle count (replicate count bare)
+bare_single zero = tt
+bare_single (suc count) = (refl, bare_single count)
+
+single_then : (count many next : ℕ) (entries : List Entry) → count ≡ length entries → next ≡ count + many → AreSingle count entries
+    → AreSingle next (entries ++ replicate many bare)
+single_then zero many next [] long is single = subst (λ n. AreSingle n (replicate many bare)) (let e : many ≡ next = omega (arith, is) in e) (bare_single many)
+single_then zero many next (e ∷ entries) long is single = absurd (omega (arith, long))
+single_then (suc count) many next [] long is single = absurd single
+single_then (suc count) many zero (e ∷ entries) long is single = absurd (omega (arith, is))
+single_then (suc count) many (suc next) (e ∷ entries) long is single =
+    (single.0, single_then count many next entries (omega (arith, long)) (omega (arith, is)) single.1)
+
+-- many entries more, each of one shape
+pub single_each : (count many : ℕ) (entries all : List Entry) → all ≡ entries ++ replicate many bare → AreSingle count entries → AreSingle count all
+single_each count many entries all is single = subst (AreSingle count) (sym is) (single_beside count entries (replicate many bare) single)
+
+pub single_all : (count many next : ℕ) (entries all : List Entry) → all ≡ entries ++ replicate many bare → count ≡ length entries → next ≡ length all
+    → AreSingle count entries → AreSingle next all
+single_all count many next entries all is long end single =
+    let e = ap length is in
+    let f = length-append entries (replicate many bare) in
+    let g = length-replicate many bare in
+    subst (AreSingle next) (sym is) (single_then count many next entries long (omega (arith, e, f, g, long, end)) single)
+
+none_each : (many : ℕ) → all_lists (replicate many bare) ≡ replicate many []
+none_each zero = refl
+none_each (suc many) = ap (λ l. [] ∷ l) (none_each many)
+
+pub lists_each : (many : ℕ) (entries all : List Entry) → all ≡ entries ++ replicate many bare → all_lists all ≡ all_lists entries ++ replicate many []
+lists_each many entries all is = ap all_lists is ∙ (flat_map-append lists_of entries (replicate many bare) ∙ ap (λ l. all_lists entries ++ l) (none_each many))
+
+pub is_bare : (entry : Entry) → entry.pieces ≡ [] → entry.more ≡ 0 → entry ≡ bare
+is_bare entry none alone = λ i. record { pieces = none i; more = alone i }
 
 pub single_last : (count next : ℕ) (entries : List Entry) (entry : Entry) → count ≡ length entries → next ≡ count + 1 → AreSingle count entries
     → entry.more ≡ 0 → AreSingle next (entries ++ entry ∷ [])

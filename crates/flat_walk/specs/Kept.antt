@@ -15,6 +15,10 @@ entry_of (One traps) = record { pieces = traps; more = 0 }
 entry_of (More traps) = record { pieces = traps.items; more = 0 }
 entry_of (Without more) = record { pieces = []; more = more }
 
+-- no pieces of one shape
+abbrev pub bare : Entry
+bare = record { pieces = []; more = 0 }
+
 abbrev pub lists_of : Entry → List (List Trapezoid)
 lists_of entry = entry.pieces ∷ replicate entry.more []
 

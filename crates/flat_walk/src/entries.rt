@@ -1,6 +1,7 @@
 //! The pieces of a cell's shapes, entry by entry.
-ghost use Rattle.std.specs.Prelude.{◌≡◌, [], ◌++◌, IfOk, IsTrue, OnOk, OnErr};
-ghost use Rattle.flat_walk.specs.Kept.{lists_of, all_lists, AreSingle};
+ghost use Rattle.std.specs.Prelude.{◌≡◌, ◌≤◌, ◌+◌, [], ◌++◌, IfOk, IsTrue, OnOk, OnErr, replicate};
+ghost use Rattle.std.specs.Vec.{vec_len, vec_capacity};
+ghost use Rattle.flat_walk.specs.Kept.{lists_of, all_lists, bare, AreSingle};
 ghost use Rattle.flat_walk.specs.Tables.{IsKept};
 
 use crate::kept_pieces::Piece;
@@ -111,6 +112,16 @@ fn are_kept(traps: &[Trap])
     }
 }
 
+// So many entries more, each of one shape without pieces. There is memory for them.
+fn push_each(entries: &mut Vec<Pieces>, count: usize)
+    requires { vec_len entries.old + count ≤ vec_capacity entries.old }
+    ensures { entries.new.items ≡ entries.old.items ++ replicate count bare }
+{
+    for _number in 0..count {
+        entries.push_reserved(Pieces::without(0));
+    }
+}
+
 /// Entries in order, of which each of the first `single` stands for one shape.
 #[derive(Clone, Copy)]
 pub(crate) struct Entries<'t> {
@@ -177,6 +188,21 @@ impl CellLists {
         if alone {
             self.single = self.entries.len();
         }
+        Ok(())
+    }
+
+    /// So many shapes more without pieces, each by an entry of its own. Refused, all is as before.
+    pub(crate) fn push_each(&mut self, count: usize) -> Result<(), NoMemory>
+        ensures ok { OnOk result (self.new ≡ self.old ++ replicate count []) }
+        ensures err { OnErr result (self.new ≡ self.old) }
+    {
+        self.entries.reserve(count)?;
+        if self.single == self.entries.len() {
+            push_each(&mut self.entries, count);
+            self.single = self.entries.len();
+            return Ok(());
+        }
+        push_each(&mut self.entries, count);
         Ok(())
     }
 

@@ -14,12 +14,17 @@ use std::alloc::Global;
 use std::marker::Model;
 
 /// The pieces of the shapes of a tree's cells. Contracts see a table that holds, by cell and by shape, a list of
-/// trapezoids. Shapes without pieces that follow one another take as much memory as one shape.
+/// trapezoids. Many shapes without pieces that follow one another take as much memory as one shape.
 #[derive(Drop)]
 pub struct Parts {
     alloc: Global,
     cells: Vec<CellLists>,
+    // So many shapes without pieces may still have entries of their own.
+    spare: usize,
 }
+
+// So many shapes without pieces have entries of their own, so that the boxes of a cell's shapes go on after them.
+const SPARE: usize = 1 << 20;
 
 impl Model for Parts {
     ghost use Rattle.std.specs.Prelude.{List};
@@ -58,8 +63,19 @@ impl Parts {
     pub fn new(alloc: Global, tree: &Tree) -> Result<Parts, NoMemory>
         ensures { IfOk result (HaveNoLists tree.now.layout.cells) }
     {
+        Parts::with_spare(alloc, tree, SPARE)
+    }
+
+    // The same, where so many shapes without pieces may have entries of their own.
+    pub(crate) fn with_spare(alloc: Global, tree: &Tree, spare: usize) -> Result<Parts, NoMemory>
+        ensures { IfOk result (HaveNoLists tree.now.layout.cells) }
+    {
         let cells = nothing_yet(alloc, tree.cells().len())?;
-        Ok(Parts { alloc, cells })
+        Ok(Parts {
+            alloc,
+            cells,
+            spare,
+        })
     }
 
     /// Takes memory for so many more shapes of a cell that have pieces. The table is as before.
@@ -80,8 +96,8 @@ impl Parts {
         self.cells[cell].push(pieces)
     }
 
-    /// So many next shapes of the cell have no pieces. Together they take as much memory as one shape. Refused, the table is
-    /// as before.
+    /// So many next shapes of the cell have no pieces. They take as much memory as others while there are no more than
+    /// 1,048,576 such shapes, and together as much as one where there are more. Refused, the table is as before.
     pub fn push_none(&mut self, cell: usize, count: usize) -> Result<(), NoMemory>
         requires { cell < length self.old }
         ensures ok { OnOk result (self.new ≡ with_lists self.old cell (replicate count [])) }
@@ -89,6 +105,10 @@ impl Parts {
     {
         if count == 0 {
             return Ok(());
+        }
+        if count <= self.spare {
+            self.spare -= count;
+            return self.cells[cell].push_each(count);
         }
         let pieces = Pieces::without(count - 1);
         self.cells[cell].push(pieces)

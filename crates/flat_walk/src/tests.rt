@@ -404,13 +404,13 @@ fn after_two(rt: &impl Abort, alloc: Global) -> Tree
 }
 
 // No pieces of the first two shapes, and that of the third.
-fn cut_third(rt: &impl Abort, alloc: Global, tree: &Tree) -> Parts
+fn cut_third(rt: &impl Abort, alloc: Global, tree: &Tree, spare: usize) -> Parts
     requires { (a : AShape) × (b : AShape) × (shape : AShape) × (map (λ cell. cell.shapes) tree.now.layout.cells ≡ (a ∷ b ∷ shape ∷ []) ∷ [] ∷ [] ∷ [])
         × (a.pair.layer ≡ 2) × (b.pair.layer ≡ 2)
         × (shape.points ≡ ring_of (corners_of (trapezoid (pos 0) (pos 8) (Rising (pos 0)) (Upright (pos 8))))) }
     ensures { AreCut tree.now.layout.cells tree.now.top result (record { layer = 1; datatype = 0 }) }
 {
-    let mut parts = Parts::new(alloc, tree).expect(rt, "memory");
+    let mut parts = Parts::with_spare(alloc, tree, spare).expect(rt, "memory");
     push_none(rt, &mut parts, 2);
     let whole = piece(rt);
     let _bottom = whole.y0();
@@ -418,19 +418,26 @@ fn cut_third(rt: &impl Abort, alloc: Global, tree: &Tree) -> Parts
     parts
 }
 
+// The pieces that a walk over the third shape gives, with boxes and without.
+fn ask_third(rt: &impl Abort, alloc: Global, spare: usize) {
+    let tree = after_two(rt, alloc);
+    let parts = cut_third(rt, alloc, &tree, spare);
+    assert_eq!(rt; parts.count(), 1);
+    let quads = shown(rt, alloc, &tree, &parts, METAL, ALL);
+    assert_eq!(rt; quads.len(), 1);
+    let boxes = Boxes::of(alloc, &tree, &parts).expect(rt, "memory");
+    let window = Window::new(0, 8).expect(rt, "a window");
+    let walk = Walk::begin_boxed(alloc, &tree, &parts, &boxes, METAL, window).expect(rt, "memory");
+    let boxed = gather(alloc, walk).expect(rt, "memory");
+    assert_eq!(rt; boxed.len(), 1);
+}
+
+// By one entry, and by an entry each.
 #[test]
 fn shapes_without_pieces_are_passed_by(rt: HostRuntime) {
     let alloc = rt.alloc();
-    let tree = after_two(&rt, alloc);
-    let parts = cut_third(&rt, alloc, &tree);
-    assert_eq!(rt; parts.count(), 1);
-    let quads = shown(&rt, alloc, &tree, &parts, METAL, ALL);
-    assert_eq!(rt; quads.len(), 1);
-    let boxes = Boxes::of(alloc, &tree, &parts).expect(&rt, "memory");
-    let window = Window::new(0, 8).expect(&rt, "a window");
-    let walk = Walk::begin_boxed(alloc, &tree, &parts, &boxes, METAL, window).expect(&rt, "memory");
-    let boxed = gather(alloc, walk).expect(&rt, "memory");
-    assert_eq!(rt; boxed.len(), 1);
+    ask_third(&rt, alloc, 0);
+    ask_third(&rt, alloc, 2);
 }
 
 #[test]
