@@ -27,9 +27,10 @@ returns-in-None c =
     let whole = places_along origin (map way c.args.moves.now) in
     let at = c.loop-step.at in
     let same = subst (λ xs. AreNear (map doubled (places_along at (map way xs))) ↔ AreNear (map doubled whole)) c.in-Some.ensures c.loop-step.invariant.same in
-    let far = subst (λ q. ¬ IsNear (moved at (enlarged c.args.grid q))) c.widened.ensures c.in-None.ensures.none in
-    (λ yes. absurd (cc),
-    λ near. absurd (strays (map doubled whole) at (way c.in-Some.step) (map way c.next.new.self) c.loop-step.invariant.here same far near))
+    let far = subst (λ q. ¬ IsNear (moved at (enlarged c.args.grid q))) c.widened.ensures c.in-None.ensures.none in (
+      λ yes. absurd (cc),
+      λ near. absurd (strays (map doubled whole) at (way c.in-Some.step) (map way c.next.new.self) c.loop-step.invariant.here same far near),
+    )
 
 pub returns : goal.returns
 returns c =

@@ -29,9 +29,10 @@ returns-in-None c =
     let whole = places_along origin (map way c.args.spaces.now) in
     let at = c.loop-space.at in
     let same = subst (λ xs. AreNear (map doubled (places_along at (map way xs))) ↔ AreNear (map doubled whole)) c.in-Some.ensures c.loop-space.invariant.same in
-    let far = subst (λ q. ¬ IsNear (moved at (enlarged c.args.grid q))) c.towards.ensures c.in-None.ensures.none in
-    (λ yes. absurd (cc),
-    λ near. absurd (strays (map doubled whole) at (way c.in-Some.space) (map way c.next.new.self) c.loop-space.invariant.here same far near))
+    let far = subst (λ q. ¬ IsNear (moved at (enlarged c.args.grid q))) c.towards.ensures c.in-None.ensures.none in (
+      λ yes. absurd (cc),
+      λ near. absurd (strays (map doubled whole) at (way c.in-Some.space) (map way c.next.new.self) c.loop-space.invariant.here same far near),
+    )
 
 pub returns : goal.returns
 returns c =

@@ -22,7 +22,8 @@ pub invariant_of-self-2 : goal.invariant_of-self-2
 invariant_of-self-2 c =
     let e = c.without-pieces.result in
     kept_after c.push.result c.self.inside.cells.items c.args.cell c.index_mut-2.result.now c.push.new.self (lists_of e)
-    (rw c.self.view_is c.requires) c.index_mut-2.ensures.value c.self.invariant (lists_kept e c.without-pieces.ensures.kept) c.push.ensures.ok c.push.ensures.err
+    (rw c.self.view_is c.requires) c.index_mut-2.ensures.value c.self.invariant (lists_kept e c.without-pieces.ensures.kept)
+    c.push.ensures.ok c.push.ensures.err
 
 pub returns-clause-ok : goal.returns-clause-ok
 returns-clause-ok c =
