@@ -1,6 +1,6 @@
 -- Boxes whose sides are kept in 32 bits. The least number of 32 bits stands for the lowest place that a side may have, and the
 -- greatest one for the highest, so that each box has one round it that is kept so. Sides are in half units.
-use Rattle.std.specs.Prelude.{◌≡◌, ◌<ℤ◌, ◌^◌, ◌-◌, ℤ, pos, neg_ℤ, if◌then◌else◌}
+use Rattle.std.specs.Prelude.{◌<ℤ◌, ◌^◌, ◌-◌, ℤ, pos, neg_ℤ, if◌then◌else◌}
 use Rattle.std.specs.Ordering.{int_eq}
 use Rattle.half_grid.specs.declared.extent.Frame.{Frame}
 use Rattle.layout_model.specs.Kept.{IsShort}
