@@ -12,7 +12,6 @@ use Rattle.oas_reader.specs.Cells.{begun_at, draft_of, closed}
 use Rattle.oas_reader.specs.Items.{Item, records_in}
 use Rattle.oas_reader.specs.Meaning.{given_in_cell, shapes_at, placings_at}
 use Rattle.oas_reader.specs.Naming.{IsCalledWithin}
-use Rattle.oas_reader.specs.Reading.{item}
 use Rattle.oas_reader.specs.Readers.{placings_of, IsPlacingOnGrid, begun_of, whole_by, whole_of, whole_cell}
 use Rattle.oas_reader.specs.Readers.{ArePlacingsWithin, IsDraftWithin, IsBegunWithin, IsDraftOnGrid, AreDraftsWithin}
 use Rattle.oas_reader.specs.Readers.{AreDraftsOf}
