@@ -6,16 +6,12 @@ last repetition again where they can; in the other each writes its own. Both mus
 the number of the first case, which is its seed.
 """
 import os
-import random
-import subprocess
 import sys
-import tempfile
+
+from pairs import agree
 
 sys.path.insert(0, os.path.join(os.path.dirname(os.path.abspath(__file__)), "hostile"))
 from records import END, OAS_HEAD, oas_cell, signed, text, unsigned  # noqa: E402
-
-DECK = "unit 1000\ntop TOP\nlayer A 1 0\nlayer B 2 0\nwrite A a.oas 1 0\nwrite B b.oas 1 0\n"
-FILES = ["a.oas", "b.oas"]
 
 
 class Lists:
@@ -101,37 +97,6 @@ def layouts(chance):
     return [OAS_HEAD + inner + oas_cell("C", *records) + oas_cell("TOP", places) + END for records in zip(*pairs)]
 
 
-def outcome(program, layout):
-    """The status, the last line without the place of a fault, and both files."""
-    with open("layout", "wb") as file:
-        file.write(layout)
-    ended = subprocess.run([program, "fracture", "layout", "deck"], capture_output=True, check=False)
-    files = []
-    for name in FILES:
-        if os.path.exists(name):
-            with open(name, "rb") as file:
-                files.append(file.read())
-            os.unlink(name)
-    return ended.returncode, ended.stdout if ended.returncode == 0 else b"", files
-
-
-def main(program, cases=60, first=0):
-    program = os.path.realpath(program)
-    failed = whole = 0
-    with tempfile.TemporaryDirectory() as folder:
-        os.chdir(folder)
-        with open("deck", "w") as deck:
-            deck.write(DECK)
-        for seed in range(first, first + cases):
-            short, long = (outcome(program, layout) for layout in layouts(random.Random(seed)))
-            whole += long[0] == 0
-            if short != long:
-                failed += 1
-                print(f"case {seed}: statuses {short[0]} and {long[0]}")
-    print(f"{cases} layouts, {whole} accepted, {failed} differ")
-    return 1 if failed or whole < cases // 2 else 0
-
-
 if len(sys.argv) >= 2:
-    sys.exit(main(sys.argv[1], *map(int, sys.argv[2:])))
+    sys.exit(not agree(sys.argv[1], layouts, lambda outcome: outcome, *map(int, sys.argv[2:])))
 sys.exit(__doc__)

@@ -7,14 +7,13 @@ enlarged. `tools/gds` and `tools/oas` write it, and both files must give the sam
 the first case, which is its seed.
 """
 import os
-import random
 import subprocess
 import sys
 import tempfile
 
+from pairs import agree
+
 TOOLS = os.path.join(os.path.dirname(os.path.abspath(__file__)), "..", "tools")
-DECK = "unit 1000\ntop TOP\nlayer A 1 0\nlayer B 2 0\nwrite A a.oas 1 0\nwrite B b.oas 1 0\n"
-FILES = ["a.oas", "b.oas"]
 OCTANTS = [(1, 0), (1, 1), (0, 1), (-1, 1), (-1, 0), (-1, -1), (0, -1), (1, -1)]
 
 
@@ -93,7 +92,7 @@ def placement(chance, name):
     return f"aref {name}{way(chance)} size={columns}x{rows} " + words([(x, y), (x + columns * dx, y), (x, y + rows * dy)])
 
 
-def layout(chance):
+def description(chance):
     """The description of a layout for both tools."""
     lines = ["cell LEAF"]
     lines += [chance.choice([box, polygon, path])(chance) for _ in range(chance.randrange(1, 12))]
@@ -104,37 +103,26 @@ def layout(chance):
     return "\n".join(lines) + "\n"
 
 
-def outcome(program, tool, text):
-    """The status, and both files."""
-    subprocess.run([sys.executable, os.path.join(TOOLS, tool), "layout"], input=text.encode(), check=True)
-    ended = subprocess.run([program, "fracture", "layout", "deck"], capture_output=True, check=False)
-    files = []
-    for name in FILES:
-        if os.path.exists(name):
-            with open(name, "rb") as file:
-                files.append(file.read())
-            os.unlink(name)
-    return ended.returncode, files
-
-
-def main(program, cases=60, first=0):
-    program = os.path.realpath(program)
-    failed = whole = 0
+def written(tool, text):
+    """The file that the tool makes of a description."""
     with tempfile.TemporaryDirectory() as folder:
-        os.chdir(folder)
-        with open("deck", "w") as deck:
-            deck.write(DECK)
-        for seed in range(first, first + cases):
-            text = layout(random.Random(seed))
-            gdsii, oasis = outcome(program, "gds", text), outcome(program, "oas", text)
-            whole += gdsii[0] == 0
-            if gdsii != oasis:
-                failed += 1
-                print(f"case {seed}: statuses {gdsii[0]} and {oasis[0]}")
-    print(f"{cases} layouts, {whole} accepted, {failed} differ")
-    return 1 if failed or whole < cases // 2 else 0
+        name = os.path.join(folder, "layout")
+        subprocess.run([sys.executable, os.path.join(TOOLS, tool), name], input=text.encode(), check=True)
+        with open(name, "rb") as file:
+            return file.read()
+
+
+def layouts(chance):
+    """Both files of a layout."""
+    text = description(chance)
+    return [written("gds", text), written("oas", text)]
+
+
+def status_and_files(outcome):
+    """What is compared: the report has the format."""
+    return outcome[0], outcome[2]
 
 
 if len(sys.argv) >= 2:
-    sys.exit(main(sys.argv[1], *map(int, sys.argv[2:])))
+    sys.exit(not agree(sys.argv[1], layouts, status_and_files, *map(int, sys.argv[2:])))
 sys.exit(__doc__)
