@@ -132,6 +132,14 @@ impl Linked {
         &self.cells()[cell].shapes
     }
 
+    /// Looks for paths that are given again and again in a cell, as `Shapes::find_copies` does.
+    pub(crate) fn find_copies(&mut self, cell: usize)
+        requires { cell < length self.old.cells }
+        ensures { self.new ≡ self.old }
+    {
+        self.layout.cells.item_mut(cell).shapes.find_copies();
+    }
+
     /// The placements of a cell.
     pub(crate) fn placements(&self, cell: usize) -> &[Placement]
         requires { cell < length self.now.cells }

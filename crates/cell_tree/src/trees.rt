@@ -1,5 +1,5 @@
 //! The tree of a layout's cells.
-ghost use Rattle.std.specs.Prelude.{◌≡◌, ◌<◌, ◌^◌, ◌↔◌, ◌⊎◌, ℕ, [], length, slice_get, Some, None, Ok, Err, IfOk, IsTrue, IsFalse, OnOk, IsOk, IsErrAnd};
+ghost use Rattle.std.specs.Prelude.{◌≡◌, ◌<◌, ◌^◌, ◌↔◌, ◌⊎◌, ℕ, [], All, length, slice_get, Some, None, Ok, Err, IfOk, IsTrue, IsFalse, OnOk, IsOk, IsErrAnd};
 ghost use Rattle.geo_stream.specs.Refusals.{IsForFault, IfFault};
 ghost use Rattle.geo_stream.specs.declared.refusal.Refusal.TheVariants.{Fault, NoMemory};
 ghost use Rattle.layout_model.specs.Layouts.{IsLayoutOnGrid};
@@ -305,6 +305,16 @@ fn tree_of(alloc: Global, linked: Linked, found: &Found) -> Result<Tree, Refusal
     })
 }
 
+// Looks for paths that are given again and again in reachable cells. Those that nothing reaches cost nothing.
+fn find_copies(linked: &mut Linked, order: &[usize])
+    requires { All (λ n. n < length linked.old.cells) order.now }
+    ensures { linked.new ≡ linked.old }
+{
+    for cell in order {
+        linked.find_copies(*cell);
+    }
+}
+
 /// The tree of a layout below the cell of this name. The refusals are tried in the order in which `TreeBad` lists them,
 /// and ask reachable cells alone.
 pub fn resolve(alloc: Global, layout: Layout, top: &Name) -> Result<Tree, Refusal<TreeBad>>
@@ -328,7 +338,8 @@ pub fn resolve(alloc: Global, layout: Layout, top: &Name) -> Result<Tree, Refusa
     let Some(top) = number_of(layout.cells.as_slice(), top) else {
         return Err(Refusal::Fault(TreeBad::NoTop));
     };
-    let linked = Linked::new(alloc, layout)?;
+    let mut linked = Linked::new(alloc, layout)?;
     let found = search_from(alloc, &linked, top)?;
+    find_copies(&mut linked, found.order.as_slice());
     tree_of(alloc, linked, &found)
 }

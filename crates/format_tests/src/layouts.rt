@@ -411,6 +411,8 @@ fn paths_given_again(rt: HostRuntime) {
     push_wire(&rt, alloc, &mut shapes, &wire, point(0, 0), WIDE);
     push_wire(&rt, alloc, &mut shapes, &wire, point(100, -40), WIDE);
     push_wire(&rt, alloc, &mut shapes, &wire, point(100, -40), NARROW);
+    assert!(rt; is_block(&shapes, 0, 2, 1) && is_block(&shapes, 4, 2, 1));
+    shapes.find_copies();
     assert_eq!(rt; shapes.len(), 13);
     assert!(rt; is_block(&shapes, 0, 2, 3) && is_block(&shapes, 6, 1, 1));
     assert!(rt; is_block(&shapes, 7, 2, 1) && is_block(&shapes, 9, 2, 1));

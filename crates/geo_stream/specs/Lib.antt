@@ -2,6 +2,7 @@
 pub mod Flattened
 pub mod Mapped
 pub mod Merged
+pub mod Lending
 pub mod Refusals
 pub mod Stream
 -- ---- what is kept inside

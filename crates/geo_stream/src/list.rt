@@ -1,5 +1,7 @@
 //! A list that grows at its end.
-ghost use Rattle.std.specs.Prelude.{◌≡◌, [], ◌∷◌, ◌++◌, OnOk, OnErr};
+ghost use Rattle.std.specs.Prelude.{◌≡◌, ◌<◌, [], ◌∷◌, ◌++◌, length, slice_get, Some, OnOk, OnErr};
+ghost use Rattle.std.specs.Borrow.{sem};
+ghost use Rattle.geo_stream.specs.Lending.{LendsItem};
 
 use crate::NoMemory;
 use std::alloc::Global;
@@ -38,6 +40,15 @@ impl<T> List<T> {
     {
         self.items.push(item)?;
         Ok(())
+    }
+
+    /// Item `k`, counted from 0, to be changed in its place.
+    pub fn item_mut(&mut self, k: usize) -> &mut T
+        requires { k < length self.old }
+        ensures value { slice_get self.old k ≡ Some result.now }
+        ensures* writes_back { sem 𝓛 (LendsItem T.row self.entry k result) }
+    {
+        &mut self.items[k]
     }
 
     /// The items in order.

@@ -102,7 +102,7 @@ fn with_room(alloc: Global, room: usize) -> Result<Vec<u8>, NoMemory> {
 }
 
 #[test]
-fn a_list_holds_what_was_pushed(rt: HostRuntime) -> Result<(), NoMemory> {
+fn a_list_holds_what_was_pushed_and_changed(rt: HostRuntime) -> Result<(), NoMemory> {
     assert!(rt; with_room(rt.alloc(), 4)?.is_empty());
     let mut list = List::new(rt.alloc());
     assert!(rt; list.as_slice().is_empty());
@@ -112,6 +112,8 @@ fn a_list_holds_what_was_pushed(rt: HostRuntime) -> Result<(), NoMemory> {
     assert_eq!(rt; list.as_slice(), [4, 1, 4].as_slice());
     let all = gather(rt.alloc(), FromSlice::new(list.as_slice()))?;
     assert_eq!(rt; all.as_slice(), [4, 1, 4].as_slice());
+    *list.item_mut(2) = 9;
+    assert_eq!(rt; list.as_slice(), [4, 1, 9].as_slice());
     Ok(())
 }
 

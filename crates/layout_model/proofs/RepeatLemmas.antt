@@ -38,12 +38,6 @@ get_right (x ∷ xs) ys i (suc k) e = get_right xs ys i k (omega arith)
 pub given_once : {A : Type 0} (items : List A) → repeated 1 items ≡ items
 given_once items = append-nil items
 
-pub given_more : {A : Type 0} (times : ℕ) (items : List A) → repeated (times + 1) items ≡ repeated times items ++ items
-given_more zero items = append-nil items
-given_more (suc times) items =
-    let e : suc times + 1 ≡ suc (times + 1) = omega arith in
-    ap (λ n. repeated n items) e ∙ ap (λ l. items ++ l) (given_more times items) ∙ sym (append_assoc items (repeated times items) items)
-
 pub repeated_length : {A : Type 0} (times : ℕ) (items : List A) → length (repeated times items) ≡ times * length items
 repeated_length zero items = omega arith
 repeated_length (suc times) items = length-append items (repeated times items) ∙ omega (arith, repeated_length times items)

@@ -1,5 +1,5 @@
 -- What a kept shape is: a rectangle at the place 0 by two of its corners, or a shape as it was drawn.
-use Rattle.std.specs.Prelude.{Bool, true, false, List, [], ◌∷◌, ℕ, ℤ, pos, neg_ℤ, ◌≤ℤ◌, ◌<ℤ◌, ◌<◌, ◌^◌}
+use Rattle.std.specs.Prelude.{Bool, true, false, List, [], ◌∷◌, ℤ, pos, neg_ℤ, ◌≤ℤ◌, ◌<ℤ◌, ◌<◌, ◌^◌}
 use Rattle.half_grid.specs.declared.plane.Point.{Point}
 use Rattle.layout_model.specs.Places.{origin}
 use Rattle.layout_model.specs.declared.pair.Pair.{Pair}

@@ -1,6 +1,5 @@
 //! The shapes of a cell.
-ghost use Rattle.std.specs.Prelude.{◌≡◌, ◌≢◌, ◌<◌, ◌≤◌, ◌+◌, ◌*◌, ◌%◌, ◌++◌, ℕ, [], ◌∷◌, length, map, drop, slice_get, slice_set, Some};
-ghost use Rattle.std.specs.Prelude.{OnOk, OnErr, IfSome, IfNone, MatchOption, IsTrue};
+ghost use Rattle.std.specs.Prelude.{◌≡◌, ◌≢◌, ◌<◌, ◌≤◌, ◌+◌, ◌++◌, [], ◌∷◌, length, map, drop, slice_get, Some, OnOk, MatchOption, IsTrue};
 ghost use Rattle.layout_model.specs.Hulls.{IsLeastBoxOf};
 ghost use Rattle.layout_model.specs.Images.{moved as point_after};
 ghost use Rattle.layout_model.specs.Intervals.{HasNoneIn, IsFirstIn};
@@ -9,7 +8,7 @@ ghost use Rattle.layout_model.specs.PathBounds.{IsNearPoint, IsNearBrush};
 ghost use Rattle.layout_model.specs.Paths.{drawn_along};
 ghost use Rattle.layout_model.specs.Repeats.{AreCopies};
 ghost use Rattle.layout_model.specs.Segments.{segments_in, moved_segment, stretch_after, AreNearAfter};
-ghost use Rattle.layout_model.specs.ShapeLists.{shape_in, shapes_of, copy_of_run, once_more, AreRuns, IsRank};
+ghost use Rattle.layout_model.specs.ShapeLists.{shape_in, shapes_of, shapes_of_run, IsAgain, AreRuns, AreKept, IsRank};
 ghost use Rattle.layout_model.specs.declared.shape_lists.Run.{Run as ARun};
 
 use crate::boxes::box_of;
@@ -27,8 +26,7 @@ use std::alloc::Global;
 use std::marker::Model;
 use std::rc::Rc;
 
-// A shared path that is moved so, with its lengths. Each of its rectangles is a shape. It is given so many times, at least
-// once, with nothing between.
+// A shared path that is moved so, with its lengths. Each of its rectangles is a shape.
 #[derive(Debug, Drop)]
 struct Run {
     path: Rc<Vec<Segment>>,
@@ -37,6 +35,7 @@ struct Run {
     pair: Pair,
     offsets: Offsets,
     is_fixed: bool,
+    // So many runs from it on, at least itself, are the same ones with nothing between, as far as was looked.
     times: usize,
     // How many of the shapes that are kept by themselves stand before it.
     after: usize,
@@ -47,15 +46,13 @@ struct Run {
 /// The shapes of a cell, in order. Contracts see the list.
 ///
 /// A shape that is pushed takes 32 bytes, and what it has boxed. The shapes of a shared path take 120 bytes and constant
-/// time, however many they are, and what their offsets have boxed: each is made when it is asked for. Where the path was
-/// the last thing pushed, at the same one place and with the same lengths, they take no more memory, and a pass over its
-/// segments. Where no path was pushed, reading a shape is an access to a slice; else it is a bisection of as many runs as
-/// there are calls of `push_path`.
+/// time, however many they are, and what their offsets have boxed: each is made when it is asked for. Where no path was
+/// pushed, reading a shape is an access to a slice; else it is a bisection of as many runs as there are calls of `push_path`.
 #[derive(Debug, Drop)]
 pub struct Shapes {
     // Those that are kept by themselves.
     own: List<KeptShape>,
-    runs: Vec<Run>,
+    runs: List<Run>,
     count: usize,
 }
 
@@ -66,9 +63,9 @@ impl Model for Shapes {
 
     ghost Value = { List AShape };
 
-    ghost view = { λ shapes. shapes_of shapes.own shapes.runs.items };
+    ghost view = { λ shapes. shapes_of shapes.own shapes.runs };
 
-    ghost invariant = { λ shapes. AreShapes shapes.own shapes.runs.items shapes.count };
+    ghost invariant = { λ shapes. AreShapes shapes.own shapes.runs shapes.count };
 }
 
 // A shape that is kept by itself, or one of a run, by its rectangle.
@@ -109,13 +106,13 @@ fn moved_stretch(stretch: Stretch, by: Point) -> Stretch
     }
 }
 
-// One of the shapes of a run that is given once.
+// One of the shapes of a run.
 #[inline(always)]
 fn shape_of_run(run: &Run, j: usize) -> ShapeRef<'_>
     requires near { AreNearAfter run.now.by (segments_in run.now.path.value.items) }
     requires brush { IsNearBrush run.now.brush }
     requires inside { j < length run.now.path.value.items }
-    ensures { slice_get (copy_of_run run.now) j ≡ Some (shape_in result) }
+    ensures { slice_get (shapes_of_run run.now) j ≡ Some (shape_in result) }
 {
     let stretch = stretch_at(run.path.as_slice(), j, run.brush);
     let rectangle = outline_of(moved_stretch(stretch, run.by));
@@ -159,20 +156,6 @@ fn rank(runs: &[Run], k: usize) -> usize
     low
 }
 
-// Which of so many shapes, given so many times one after another, is number `j`. None where it comes after them.
-fn number_in(many: usize, times: usize, j: usize) -> Option<usize>
-    ensures some { IfSome result (λ s. (s ≡ j % many) × (s < many) × (j < times * many)) }
-    ensures none { IfNone result (times * many ≤ j) }
-{
-    if many == 0 {
-        return None;
-    }
-    if j / many < times {
-        return Some(j % many);
-    }
-    None
-}
-
 // Shape `k` where there are runs.
 fn shape_among<'t>(own: &'t [KeptShape], runs: &'t [Run], k: usize) -> ShapeRef<'t>
     requires runs { AreRuns (length own.now) 0 0 runs.now }
@@ -184,12 +167,12 @@ fn shape_among<'t>(own: &'t [KeptShape], runs: &'t [Run], k: usize) -> ShapeRef<
         return own_shape(own, k);
     }
     let run = &runs[rank - 1];
-    let many = run.path.as_slice().len();
+    let segments = run.path.as_slice();
     let j = k - run.before;
-    match number_in(many, run.times, j) {
-        Some(s) => shape_of_run(run, s),
-        None => own_after(own, run.after, j - run.times * many),
+    if j < segments.len() {
+        return shape_of_run(run, j);
     }
+    own_after(own, run.after, j - segments.len())
 }
 
 // Where the run of a number begins, or where all shapes end.
@@ -211,10 +194,10 @@ fn are_same(segments: &[Segment], others: &[Segment]) -> bool
 }
 
 impl Run {
-    // Whether it is another run, given again: it has as many own shapes before it, both are once at one place, and they
-    // share their segments. False where that isn't known: at once where they aren't shared, else after a pass over them.
+    // Whether another run is this one, given again: it has as many own shapes before it, both are once at one place, and
+    // they share their segments. False where that isn't known: at once where they aren't shared, else after a pass over them.
     fn is_again(&self, other: &Run) -> bool
-        ensures { IsTrue result → (self.now.after ≡ other.now.after) × (copy_of_run self.now ≡ copy_of_run other.now) }
+        ensures { IsTrue result → IsAgain self.now other.now }
     {
         if self.after != other.after {
             return false;
@@ -241,33 +224,31 @@ impl Run {
     }
 }
 
-// The number of the last run, where this one is that run, given again.
-fn last_again(runs: &[Run], run: &Run) -> Option<usize>
-    ensures last { IfSome result (λ k. k + 1 ≡ length runs.now) }
-    ensures same { (last : ARun) → IfSome result (λ k. slice_get runs.now k ≡ Some last
-        → (last.after ≡ run.now.after) × (copy_of_run last ≡ copy_of_run run.now)) }
+// Notes of a run whether the next one is the same: then it is given once more than that.
+fn note(runs: &mut List<Run>, k: usize)
+    requires { k + 1 < length runs.old }
+    ensures { AreKept runs.old runs.new }
 {
-    if runs.is_empty() {
-        return None;
+    let run = &runs.as_slice()[k];
+    let next = &runs.as_slice()[k + 1];
+    if !run.is_again(next) {
+        return;
     }
-    let last = runs.len() - 1;
-    if runs[last].is_again(run) {
-        return Some(last);
-    }
-    None
+    let Some(times) = next.times.checked_add(1) else {
+        return;
+    };
+    runs.item_mut(k).times = times;
 }
 
-// Gives a run once more.
-fn give_again(runs: &mut Vec<Run>, k: usize) -> Result<(), NoMemory>
-    requires { k < length runs.old.items }
-    ensures ok { (run : ARun) → slice_get runs.old.items k ≡ Some run → OnOk result (runs.new.items ≡ slice_set runs.old.items k (once_more run)) }
-    ensures err { OnErr result (runs.new.items ≡ runs.old.items) }
+// Notes it of all runs, from the last one down.
+fn note_all(runs: &mut List<Run>)
+    ensures { AreKept runs.old runs.new }
 {
-    let Some(times) = runs[k].times.checked_add(1) else {
-        return Err(NoMemory);
-    };
-    runs[k].times = times;
-    Ok(())
+    let mut k = runs.as_slice().len();
+    while k > 1 {
+        k -= 1;
+        note(runs, k - 1);
+    }
 }
 
 impl Shapes {
@@ -277,7 +258,7 @@ impl Shapes {
     {
         Shapes {
             own: List::new(alloc),
-            runs: Vec::new(alloc),
+            runs: List::new(alloc),
             count: 0,
         }
     }
@@ -296,7 +277,7 @@ impl Shapes {
     }
 
     /// Puts the shapes of a path last that is moved so, as `path_shapes` gives them with these lengths, on the pair, at the
-    /// offsets. It takes constant time and memory; where it is the last thing again, a pass over the segments and no memory.
+    /// offsets. It takes constant time and memory.
     pub fn push_path(
         &mut self,
         path: &SharedPath,
@@ -324,11 +305,6 @@ impl Shapes {
             after: self.own.as_slice().len(),
             before: self.count,
         };
-        if let Some(k) = last_again(self.runs.as_slice(), &run) {
-            give_again(&mut self.runs, k)?;
-            self.count = count;
-            return Ok(());
-        }
         self.runs.push(run)?;
         self.count = count;
         Ok(())
@@ -356,10 +332,19 @@ impl Shapes {
         shape_among(own, runs, k)
     }
 
-    /// How many shapes from shape `k` on are given how often, one after another. A path that is put last again and again,
-    /// with nothing between, is one such block, asked for at its first shape; the shapes up to the next one of these are a
-    /// block that is given once. So a pass over all shapes goes from block to block, and over the shapes of each once.
-    /// It takes a bisection of the runs.
+    /// Looks for paths that were put last again and again, on their one place, with nothing between. The shapes stay the
+    /// same: `copies_at` says more of them. It takes a pass over the segments of each path that was put last again, and
+    /// no memory.
+    pub fn find_copies(&mut self)
+        ensures { self.new ≡ self.old }
+    {
+        note_all(&mut self.runs);
+    }
+
+    /// How many shapes from shape `k` on are given how often, one after another. A path that `find_copies` found to be put
+    /// again and again is one such block, asked for at its first shape; the shapes up to the next path are a block that is
+    /// given once. So a pass over all shapes goes from block to block, and over the shapes of each once. It takes a bisection
+    /// of the runs.
     pub fn copies_at(&self, k: usize) -> Copies
         requires inside { k < length self.now }
         ensures { AreCopies self.now k result.period result.times }

@@ -18,7 +18,7 @@ pub tree_of-requires-clause-top : goal.tree_of-requires-clause-top
 tree_of-requires-clause-top c =
     let here : cell_number c.args.layout.cells c.args.top.now ≡ Some c.in-Some.top = sym
     (ap (λ l. cell_number l c.args.top.now) c.as_slice.ensures) ∙ sym c.number_of.ensures ∙ c.in-Some.is in
-    subst (λ l. c.in_ok-found.found.top < length l.cells) (sym c.in_ok-linked.ensures)
+    subst (λ l. c.in_ok-found.found.top < length l.cells) (sym (c.find_copies.ensures ∙ c.in_ok-linked.ensures))
     (subst (λ t. t < length c.args.layout.cells) (sym c.in_ok-found.ensures.top) (number_within c.args.layout.cells c.args.top.now c.in-Some.top here))
 
 pub returns-clause-accepted : goal.returns-clause-accepted
@@ -28,7 +28,7 @@ returns-clause-accepted c = λ n is tree.
     let top = c.in_ok-found.found.top in
     let same : n ≡ top = same_Some n c.in-Some.top (sym is ∙ here) ∙ sym c.in_ok-found.ensures.top in
     accepted c.args.layout.cells top c.tree_of.result c.requires.cells
-    (subst (λ l. IfFault c.tree_of.result (IsFirstFault l.cells top)) c.in_ok-linked.ensures c.tree_of.ensures.err)
+    (subst (λ l. IfFault c.tree_of.result (IsFirstFault l.cells top)) (c.find_copies.ensures ∙ c.in_ok-linked.ensures) c.tree_of.ensures.err)
     (subst (IsTree c.args.layout.cells) same tree))
 
 pub returns-clause-found : goal.returns-clause-found
@@ -38,6 +38,6 @@ returns-clause-found c = λ n bad is fault.
     let top = c.in_ok-found.found.top in
     let same : n ≡ top = same_Some n c.in-Some.top (sym is ∙ here) ∙ sym c.in_ok-found.ensures.top in
     answered c.args.layout.cells top c.tree_of.result bad c.requires.cells
-    (subst (λ l. OnOk c.tree_of.result (IsTree l.cells top)) c.in_ok-linked.ensures c.tree_of.ensures.tree)
-    (subst (λ l. IfFault c.tree_of.result (IsFirstFault l.cells top)) c.in_ok-linked.ensures c.tree_of.ensures.err)
+    (subst (λ l. OnOk c.tree_of.result (IsTree l.cells top)) (c.find_copies.ensures ∙ c.in_ok-linked.ensures) c.tree_of.ensures.tree)
+    (subst (λ l. IfFault c.tree_of.result (IsFirstFault l.cells top)) (c.find_copies.ensures ∙ c.in_ok-linked.ensures) c.tree_of.ensures.err)
     (subst (λ t. IsFirstFault c.args.layout.cells t bad) same fault))

@@ -1,6 +1,6 @@
-use Rattle.std.proofs.Common.{◌≡◌, ℕ, ◌++◌, ◌-◌, ◌*◌, ◌%◌, ◌<◌, ◌≤◌, List, Some, length, drop, slice_get, get_or, refl, subst, ap, ◌∙◌, arith}
+use Rattle.std.proofs.Common.{◌≡◌, ℕ, ◌++◌, ◌-◌, ◌<◌, ◌≤◌, List, Some, length, drop, slice_get, get_or, refl, subst, ap, ◌∙◌, arith}
 use Rattle.std.proofs.lemmas.Option.{slice_get_read}
-use Rattle.layout_model.specs.ShapeLists.{AreRuns, shapes_of, shapes_of_run, copy_of_run, IsRank}
+use Rattle.layout_model.specs.ShapeLists.{AreRuns, shapes_of, shapes_of_run, IsRank}
 use Rattle.layout_model.specs.declared.shapes.Shape.{Shape}
 use Rattle.layout_model.specs.declared.shape_lists.Run.{Run}
 use Rattle.layout_model.proofs.ShapeListLemmas.{by_rank, by_no_rank, within_alike, in_run, after_run, run_within, run_near}
@@ -39,20 +39,12 @@ overflow_sub-j c =
     not_after c.args.runs.now c.args.k c.rank-rank.result c.index-runs-rank.result c.rank-rank.ensures c.if-rank-eq0.false c.index-runs-rank.is
 
 after_it : (own : List Shape) (runs : List Run) (k rank many : ℕ) (run : Run) → AreRuns (length own) 0 0 runs → IsRank runs k rank
-    → (rank ≡ 0 → ⊥) → run ≡ get_or runs (rank - 1) run → many ≡ length run.path.value.items → run.times * many ≤ k - run.before
-    → slice_get (shapes_of own runs) k ≡ slice_get (drop run.after own) (k - run.before - run.times * many)
+    → (rank ≡ 0 → ⊥) → run ≡ get_or runs (rank - 1) run → many ≡ length run.path.value.items → many ≤ k - run.before
+    → slice_get (shapes_of own runs) k ≡ slice_get (drop run.after own) (k - run.before - many)
 after_it own runs k rank many run all is some at items past =
     rw items
     (by_run own runs k rank run all is some at
-    ∙ after_run own run (k - run.before) (subst (λ n. run.times * n ≤ k - run.before) items past))
-
-in_it : (own : List Shape) (runs : List Run) (k rank many s : ℕ) (run : Run) → AreRuns (length own) 0 0 runs → IsRank runs k rank
-    → (rank ≡ 0 → ⊥) → run ≡ get_or runs (rank - 1) run → many ≡ length run.path.value.items
-    → (s ≡ (k - run.before) % many) × (s < many) × (k - run.before < run.times * many)
-    → slice_get (shapes_of own runs) k ≡ slice_get (copy_of_run run) s
-in_it own runs k rank many s run all is some at items there =
-    let here = subst (λ n. (s ≡ (k - run.before) % n) × (s < n) × (k - run.before < run.times * n)) items there in
-    by_run own runs k rank run all is some at ∙ in_run own run (k - run.before) s here.0 here.1 here.2
+    ∙ after_run own run (k - run.before) (subst (λ n. n ≤ k - run.before) items past))
 
 pub shape_of_run-requires-clause-near : goal.shape_of_run-requires-clause-near
 shape_of_run-requires-clause-near c =
@@ -64,16 +56,14 @@ shape_of_run-requires-clause-brush c =
     (run_near (length c.args.own.now) 0 0 c.args.runs.now (c.rank-rank.result - 1) c.index-runs-rank.result c.requires.runs
     (read c.args.runs.now c.args.k c.rank-rank.result c.index-runs-rank.result c.rank-rank.ensures c.if-rank-eq0.false c.index-runs-rank.is)).1
 
-pub shape_of_run-requires-clause-inside : goal.shape_of_run-requires-clause-inside
-shape_of_run-requires-clause-inside c =
-    subst (λ n. c.in-Some.s < n) (ap length (c.as_slice-many.ensures.value ∙ ap (λ v. v.items) c.deref.ensures)) c.in-Some.ensures.some.1
-
-pub returns-in-Some : goal.returns-in-Some
-returns-in-Some c =
-    let many = ap length (c.as_slice-many.ensures.value ∙ ap (λ v. v.items) c.deref.ensures) in
-    in_it c.args.own.now c.args.runs.now c.args.k c.rank-rank.result (length c.as_slice-many.result.now) c.in-Some.s c.index-runs-rank.result
-    c.requires.runs c.rank-rank.ensures c.if-rank-eq0.false c.index-runs-rank.is many c.in-Some.ensures.some
-    ∙ c.shape_of_run.ensures
+pub returns-then-j-segments : goal.returns-then-j-segments
+returns-then-j-segments c =
+    let run = c.index-runs-rank.result in
+    let many : length c.as_slice-segments.result.now ≡ length run.path.value.items =
+    ap length (c.as_slice-segments.ensures.value ∙ ap (λ v. v.items) c.deref.ensures) in
+    let less : c.args.k - run.before < length run.path.value.items = subst (λ n. c.args.k - run.before < n) many c.if-j-segments.true in
+    by_run c.args.own.now c.args.runs.now c.args.k c.rank-rank.result run c.requires.runs c.rank-rank.ensures c.if-rank-eq0.false c.index-runs-rank.is
+    ∙ in_run c.args.own.now run (c.args.k - run.before) less ∙ c.shape_of_run.ensures
 
 pub own_after-requires-clause-after : goal.own_after-requires-clause-after
 own_after-requires-clause-after c =
@@ -83,15 +73,15 @@ own_after-requires-clause-after c =
 pub own_after-requires-clause-inside : goal.own_after-requires-clause-inside
 own_after-requires-clause-inside c =
     let own = c.args.own.now in let runs = c.args.runs.now in let run = c.index-runs-rank.result in
-    let many = length c.as_slice-many.result.now in
-    within_alike (shapes_of own runs) (drop run.after own) c.args.k (c.args.k - run.before - run.times * many)
-    (after_it own runs c.args.k c.rank-rank.result many run c.requires.runs
+    within_alike (shapes_of own runs) (drop run.after own) c.args.k (c.args.k - run.before - length c.as_slice-segments.result.now)
+    (after_it own runs c.args.k c.rank-rank.result (length c.as_slice-segments.result.now) run c.requires.runs
     c.rank-rank.ensures c.if-rank-eq0.false c.index-runs-rank.is
-    (ap length (c.as_slice-many.ensures.value ∙ ap (λ v. v.items) c.deref.ensures)) c.in-None.ensures.none) c.requires.inside
+    (ap length (c.as_slice-segments.ensures.value ∙ ap (λ v. v.items) c.deref.ensures)) c.if-j-segments.false) c.requires.inside
 
-pub returns-in-None : goal.returns-in-None
-returns-in-None c =
-    after_it c.args.own.now c.args.runs.now c.args.k c.rank-rank.result (length c.as_slice-many.result.now) c.index-runs-rank.result
-    c.requires.runs c.rank-rank.ensures c.if-rank-eq0.false c.index-runs-rank.is
-    (ap length (c.as_slice-many.ensures.value ∙ ap (λ v. v.items) c.deref.ensures)) c.in-None.ensures.none
+pub returns : goal.returns
+returns c =
+    let own = c.args.own.now in let runs = c.args.runs.now in let run = c.index-runs-rank.result in
+    after_it own runs c.args.k c.rank-rank.result (length c.as_slice-segments.result.now) run c.requires.runs c.rank-rank.ensures
+    c.if-rank-eq0.false c.index-runs-rank.is
+    (ap length (c.as_slice-segments.ensures.value ∙ ap (λ v. v.items) c.deref.ensures)) c.if-j-segments.false
     ∙ c.own_after.ensures

@@ -4,7 +4,7 @@ use Rattle.std.specs.Bool.{Decides}
 use Rattle.std.specs.Cmp.{booleans_Decides}
 use Rattle.std.specs.Ordering.{int_eq}
 use Rattle.std.proofs.lemmas.Bool.Decides.{Decides-int_eq, Decides-eqb, Decides-and}
-use Rattle.layout_model.specs.ShapeLists.{copy_of_run}
+use Rattle.layout_model.specs.ShapeLists.{shapes_of_run}
 use Rattle.layout_model.specs.declared.pair.Pair.{Pair}
 use Rattle.layout_model.specs.declared.stretches.Brush.{Brush}
 use Rattle.layout_model.specs.declared.shape_lists.Run.{Run}
@@ -29,17 +29,19 @@ same : {P : Type 0} (r : Bool) → Decides r P → false ≡ not r → P
 same true d e = d.0 refl
 same false d e = absurd (cc)
 
-same_copy : (a b : Run) → a.by ≡ b.by → a.pair ≡ b.pair → a.brush ≡ b.brush → a.is_fixed ≡ b.is_fixed → a.offsets ≡ b.offsets
-    → a.path.value.items ≡ b.path.value.items → copy_of_run a ≡ copy_of_run b
-same_copy a b by pair brush fixed offsets items = rw (by, pair, brush, fixed, offsets, items) refl
+same_shapes : (a b : Run) → a.by ≡ b.by → a.pair ≡ b.pair → a.brush ≡ b.brush → a.is_fixed ≡ b.is_fixed → a.offsets ≡ b.offsets
+    → a.path.value.items ≡ b.path.value.items → shapes_of_run a ≡ shapes_of_run b
+same_shapes a b by pair brush fixed offsets items = rw (by, pair, brush, fixed, offsets, items) refl
 
 pub returns : goal.returns
 returns c is =
     let a = c.args.self.now in let b = c.args.other.now in
     let items = sym (c.as_slice.ensures.value ∙ ap (λ v. v.items) c.deref.ensures)
-    ∙ c.are_same.ensures is ∙ c.as_slice-2.ensures.value ∙ ap (λ v. v.items) c.deref-2.ensures in (
-      c.if-self-other.false,
-      same_copy a b (same _ (points_decide a.by b.by) c.if-ne.ensures) (same _ (pairs_decide a.pair b.pair) c.if-ne-2.ensures)
+    ∙ c.are_same.ensures is ∙ c.as_slice-2.ensures.value ∙ ap (λ v. v.items) c.deref-2.ensures in
+    record {
+      after = sym c.if-self-other.false;
+      shapes = sym
+          (same_shapes a b (same _ (points_decide a.by b.by) c.if-ne.ensures) (same _ (pairs_decide a.pair b.pair) c.if-ne-2.ensures)
           (same _ (brushes_decide a.brush b.brush) c.if-ne-3.ensures) (same _ (booleans_Decides a.is_fixed b.is_fixed) (sym c.if-self-other-2.false))
-          (c.if-not-is_again.ensures refl) items,
-    )
+          (c.if-not-is_again.ensures refl) items);
+    }

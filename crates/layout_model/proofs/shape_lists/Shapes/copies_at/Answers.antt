@@ -16,7 +16,7 @@ begun own runs read shapes count k rank many run sound is alike some at begins i
     slice_get_read runs (length runs) (rank - 1) run refl (omega (arith, is.within)) (subst (λ l. run ≡ get_or l (rank - 1) run) alike at) in
     subst (λ l. AreCopies l k many run.times) all
     (subst (λ n. AreCopies (shapes_of own runs) k n run.times) (sym items)
-    (run_copies own runs (rank - 1) run k sound.order here begins (subst (λ n. 0 < n) items more)))
+    (run_copies own runs (rank - 1) run k count sound here begins (subst (λ n. 0 < n) items more)))
 
 -- no run begins there, as it was read
 between : (own : List Shape) (runs read : List Run) (shapes : List Shape) (count k rank start : ℕ) → AreShapes own runs count → IsRank read k rank
@@ -29,21 +29,21 @@ between own runs read shapes count k rank start sound is alike inside some none 
 
 pub returns-then-many-gt0 : goal.returns-then-many-gt0
 returns-then-many-gt0 c =
-    begun c.self.inside.own c.self.inside.runs.items c.as_slice-runs.result.now c.args.self.now c.self.inside.count c.args.k c.rank-rank.result
+    begun c.self.inside.own c.self.inside.runs c.as_slice-runs.result.now c.args.self.now c.self.inside.count c.args.k c.rank-rank.result
     (length c.as_slice-many.result.now) c.index-runs-rank.result c.self.invariant
-    (subst (λ l. IsRank l c.args.k c.rank-rank.result) c.as_slice-runs.ensures.value c.rank-rank.ensures) c.as_slice-runs.ensures.value
+    (subst (λ l. IsRank l c.args.k c.rank-rank.result) c.as_slice-runs.ensures c.rank-rank.ensures) c.as_slice-runs.ensures
     c.if-rank-gt0.true c.index-runs-rank.is c.if-run-k.true
     (ap length (c.as_slice-many.ensures.value ∙ ap (λ v. v.items) c.deref.ensures)) c.if-many-gt0.true c.self.view_is
 
 pub overflow_sub-result : goal.overflow_sub-result
 overflow_sub-result c =
-    let there = between c.self.inside.own c.self.inside.runs.items c.as_slice-runs.result.now c.args.self.now c.self.inside.count c.args.k
-    c.rank-rank.result c.start_of.result c.self.invariant c.rank-rank.ensures c.as_slice-runs.ensures.value c.requires.inside
+    let there = between c.self.inside.own c.self.inside.runs c.as_slice-runs.result.now c.args.self.now c.self.inside.count c.args.k
+    c.rank-rank.result c.start_of.result c.self.invariant c.rank-rank.ensures c.as_slice-runs.ensures c.requires.inside
     c.start_of.ensures.some c.start_of.ensures.none c.self.view_is in
     omega (arith, there.0)
 
 pub returns : goal.returns
 returns c =
-    (between c.self.inside.own c.self.inside.runs.items c.as_slice-runs.result.now c.args.self.now c.self.inside.count c.args.k
-    c.rank-rank.result c.start_of.result c.self.invariant c.rank-rank.ensures c.as_slice-runs.ensures.value c.requires.inside
+    (between c.self.inside.own c.self.inside.runs c.as_slice-runs.result.now c.args.self.now c.self.inside.count c.args.k
+    c.rank-rank.result c.start_of.result c.self.invariant c.rank-rank.ensures c.as_slice-runs.ensures c.requires.inside
     c.start_of.ensures.some c.start_of.ensures.none c.self.view_is).1

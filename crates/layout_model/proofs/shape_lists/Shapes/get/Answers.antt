@@ -12,12 +12,12 @@ own_alone own read shapes runs seen same alike none all = same ∙ sym (without_
 pub own_shape-requires : goal.own_shape-requires
 own_shape-requires c =
     let none : length c.as_slice-runs.result.now ≡ 0 = grind (arith, common_steps, c.is_empty.ensures, c.if-is_empty.true) in
-    rw (own_alone c.self.inside.own c.as_slice-own.result.now c.args.self.now c.self.inside.runs.items c.as_slice-runs.result.now
-    c.as_slice-own.ensures c.as_slice-runs.ensures.value none c.self.view_is) c.requires.inside
+    rw (own_alone c.self.inside.own c.as_slice-own.result.now c.args.self.now c.self.inside.runs c.as_slice-runs.result.now
+    c.as_slice-own.ensures c.as_slice-runs.ensures none c.self.view_is) c.requires.inside
 
 pub returns-then-is_empty : goal.returns-then-is_empty
 returns-then-is_empty c =
     let none : length c.as_slice-runs.result.now ≡ 0 = grind (arith, common_steps, c.is_empty.ensures, c.if-is_empty.true) in
     ap (λ l. slice_get l c.args.k)
-    (sym (own_alone c.self.inside.own c.as_slice-own.result.now c.args.self.now c.self.inside.runs.items c.as_slice-runs.result.now
-    c.as_slice-own.ensures c.as_slice-runs.ensures.value none c.self.view_is)) ∙ c.own_shape.ensures
+    (sym (own_alone c.self.inside.own c.as_slice-own.result.now c.args.self.now c.self.inside.runs c.as_slice-runs.result.now
+    c.as_slice-own.ensures c.as_slice-runs.ensures none c.self.view_is)) ∙ c.own_shape.ensures
