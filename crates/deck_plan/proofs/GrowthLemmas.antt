@@ -1,6 +1,6 @@
 -- What grows of two lists of trapezoids, and what shrinks by what grows outside of it.
-use Rattle.std.proofs.Common.{◌≡◌, ◌↔◌, ◌≤◌, ◌+◌, ℕ, zero, suc, ℤ, ◌⊎◌, inl, inr, List, [], ◌∷◌, ◌++◌, All, refl, subst, arith}
-use Rattle.std.proofs.lemmas.List.Elements.{All-nil, All-cons, All-head, All-tail}
+use Rattle.std.proofs.Common.{◌≡◌, ◌↔◌, ◌≤◌, ◌+◌, ℕ, zero, suc, ℤ, ◌⊎◌, inl, inr, List, [], ◌∷◌, ◌++◌, All, Contains, refl, subst, arith}
+use Rattle.std.proofs.lemmas.List.Elements.{All-nil, All-cons, All-head, All-tail, All-weaker, All-contains, All-contains_itself}
 use Rattle.std.proofs.lemmas.List.Sums.{sum_by-append}
 use Rattle.half_grid.specs.Nearness.{IsNear, IsGrown, IsShrunk}
 use Rattle.half_grid.specs.Trapezoids.{Trapezoid, IsInTrapezoid, count_in}
@@ -94,3 +94,19 @@ module _ (dx dy : ℤ) (r : IsRectangle dx dy) (z : Trapezoid) (traps outside gr
       same_area window (λ t. IsInSome (z ∷ []) t × (IsInSome grown t → ⊥)) (IsShrunk dx dy (IsInSome traps)) shrunk
       (λ t rows h. kept t rows h.0 h.1) (λ t rows all. left t all)
       (combined_has Sub (z ∷ []) grown window shrunk joined)
+
+-- what is left of the lone trapezoids of a list and of its rest, united
+pub apart_shrunk : (dx dy : ℤ) (traps lone rest left both : List Trapezoid) (window : RowRange)
+    → ((t : Tile) → IsShrunk dx dy (IsInSome traps) t ↔ (IsInSome lone t ⊎ IsShrunk dx dy (IsInSome rest) t))
+    → HasArea window (IsShrunk dx dy (IsInSome rest)) left → IsJoinedOf window (IsInResult Or lone left window) both
+    → HasArea window (IsShrunk dx dy (IsInSome traps)) both
+apart_shrunk dx dy traps lone rest left both window parted has joined =
+    same_area window (λ t. IsInSome lone t ⊎ IsInSome left t) (IsShrunk dx dy (IsInSome traps)) both
+    (λ t rows h. elim h [ inl a ↦ (parted t).1 (inl a) | inr a ↦ (parted t).1 (inr (has.inside t a).1) ])
+    (λ t rows s. elim ((parted t).0 s) [ inl a ↦ inl a | inr a ↦ inr (has.all t rows a) ])
+    (combined_has Or lone left window both joined)
+
+-- what holds of all of a list holds of all whose trapezoids are among them
+pub all_among : (P : Trapezoid → Type 0) (traps some : List Trapezoid) → ((z : Trapezoid) → Contains some z → Contains traps z) → All P traps → All P some
+all_among P traps some among all =
+    All-weaker (Contains some) P (λ z h. All-contains P traps z all (among z h)) some (All-contains_itself some)

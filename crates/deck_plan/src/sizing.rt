@@ -1,5 +1,5 @@
 //! Areas that grow and shrink.
-ghost use Rattle.std.specs.Prelude.{◌≡◌, ◌≢◌, ◌^◌, ℤ, pos, ◌+ℤ◌, ◌-ℤ◌, ◌≤ℤ◌, ◌++◌, All, [], ◌∷◌, IfOk, OnOk, MatchOption, Contains};
+ghost use Rattle.std.specs.Prelude.{◌≡◌, ◌≢◌, ◌^◌, ℤ, pos, ◌+ℤ◌, ◌-ℤ◌, ◌≤ℤ◌, ◌++◌, All, [], ◌∷◌, IfOk, IfSome, OnOk, MatchOption, Contains};
 ghost use Rattle.std.specs.List.{flat_map};
 ghost use Rattle.half_grid.specs.Nearness.{IsGrown, IsShrunk};
 ghost use Rattle.half_grid.specs.Trapezoids.{IsLegal, IsShot};
@@ -9,7 +9,7 @@ ghost use Rattle.square_size.specs.EdgeLaws.{IsInSome};
 ghost use Rattle.square_size.specs.Edges.{edges_of_grown};
 ghost use Rattle.square_size.specs.Rings.{IsSizing};
 ghost use Rattle.cell_tree.specs.Boxes.{IsUpTo};
-ghost use Rattle.deck_plan.specs.Lists.{HasArea};
+ghost use Rattle.deck_plan.specs.Lists.{HasArea, IsJoinedSomewhere};
 ghost use Rattle.deck_plan.specs.Needs.{widened};
 ghost use Rattle.deck_plan.specs.Bounds.{HasCornersUpTo, IsAround, IsFullBox, wider};
 
@@ -19,6 +19,7 @@ use bool_ops::{Op, combine, left_over_within, unite, unite_within};
 use column_sweep::operand_edges;
 use geo_stream::NoMemory;
 use half_grid::{Edge, Frame, Trap, Window};
+use lone_traps::shrink_lone;
 use square_size::put_grown;
 use std::alloc::Global;
 use tone_mirror::frame_trap;
@@ -171,13 +172,12 @@ fn wider(hull: &Frame, dx: i64, dy: i64) -> Frame
     }
 }
 
-/// The joined list, in the window, of the tiles all of whose near ones are in the trapezoids, by a rectangle of half
-/// sides `dx` and `dy`.
-///
-/// Their hull, widened by the half sides, has all tiles that are near to one of theirs. What isn't in them of that grows, and
-/// its edges are swept with those of the widened hull: what is left are the tiles of the latter that nothing of it winds
-/// round, and all of these are theirs.
-pub(crate) fn shrunk_area(
+// The joined list, in the window, of the tiles all of whose near ones are in the trapezoids, by two sweeps.
+//
+// Their hull, widened by the half sides, has all tiles that are near to one of theirs. What isn't in them of that grows, and
+// its edges are swept with those of the widened hull: what is left are the tiles of the latter that nothing of it winds
+// round, and all of these are theirs.
+fn shrunk_by_sweeps(
     alloc: Global,
     traps: &[Trap],
     dx: i64,
@@ -205,5 +205,65 @@ pub(crate) fn shrunk_area(
             let grown = piled_growth(alloc, outside.as_slice(), dx, dy, window)?;
             combine(alloc, Op::Sub, &around, grown.as_slice(), window)
         }
+    }
+}
+
+// The same list where the half sides are one amount and most of the trapezoids touch no other one: these shrink by themselves,
+// the rest by sweeps, and what is left of both is united. None where that isn't so.
+fn shrunk_apart(
+    alloc: Global,
+    traps: &[Trap],
+    dx: i64,
+    dy: i64,
+    window: Window,
+) -> Result<Option<Vec<Trap>>, NoMemory>
+    requires sizing { IsSizing dx dy }
+    requires legal { All IsLegal traps.now }
+    requires joined { IsJoinedSomewhere traps.now }
+    requires near { All (HasCornersUpTo (2 ^ 42)) traps.now }
+    requires low { IsUpTo (2 ^ 50) window.y0 }
+    requires high { IsUpTo (2 ^ 50) window.y1 }
+    ensures { IfOk result (λ answer. IfSome answer (λ shrunk. HasArea window (IsShrunk dx dy (IsInSome traps.now)) shrunk.items)) }
+{
+    if dx != dy || dx < 1 {
+        return Ok(None);
+    }
+    let Some(parted) = shrink_lone(alloc, traps, dx)? else {
+        return Ok(None);
+    };
+    if traps.len() / 2 < parted.rest.len() {
+        return Ok(None);
+    }
+    let rest = shrunk_by_sweeps(alloc, parted.rest.as_slice(), dx, dy, window)?;
+    let area = combine(
+        alloc,
+        Op::Or,
+        parted.shrunk.as_slice(),
+        rest.as_slice(),
+        window,
+    )?;
+    Ok(Some(area))
+}
+
+/// The joined list, in the window, of the tiles all of whose near ones are in the trapezoids, by a rectangle of half
+/// sides `dx` and `dy`.
+pub(crate) fn shrunk_area(
+    alloc: Global,
+    traps: &[Trap],
+    dx: i64,
+    dy: i64,
+    window: Window,
+) -> Result<Vec<Trap>, NoMemory>
+    requires sizing { IsSizing dx dy }
+    requires legal { All IsLegal traps.now }
+    requires joined { IsJoinedSomewhere traps.now }
+    requires near { All (HasCornersUpTo (2 ^ 42)) traps.now }
+    requires low { IsUpTo (2 ^ 50) window.y0 }
+    requires high { IsUpTo (2 ^ 50) window.y1 }
+    ensures { IfOk result (λ shrunk. HasArea window (IsShrunk dx dy (IsInSome traps.now)) shrunk.items) }
+{
+    match shrunk_apart(alloc, traps, dx, dy, window)? {
+        Some(area) => Ok(area),
+        None => shrunk_by_sweeps(alloc, traps, dx, dy, window),
     }
 }

@@ -188,3 +188,6 @@ returns-in-Mirror c =
     (λ list t. IsInSome list (mirrored_tile c.in-Mirror.m t)) c.in-Mirror.a c.list-in-Mirror.result.now traps.items
     c.list-in-Mirror.ensures h))
     made
+
+pub shrunk_area-requires-clause-joined : goal.shrunk_area-requires-clause-joined
+shrunk_area-requires-clause-joined c = subst IsJoinedSomewhere (sym c.list-in-Shrink.ensures) (c.requires.joined c.in-Shrink.a)

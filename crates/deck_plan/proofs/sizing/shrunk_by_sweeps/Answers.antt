@@ -17,7 +17,7 @@ use Rattle.deck_plan.specs.Bounds.{wider, HasCornersUpTo, IsAround}
 use Rattle.deck_plan.proofs.Boxes.{wider_frame, near_in_wider}
 use Rattle.deck_plan.proofs.Sizes.{shrunk_has, rings_balanced, outside_near, empty_shrunk, no_items}
 use Rattle.deck_plan.proofs.GrowthLemmas.{shrunk_left}
-use Rattle.deck_plan.proofs.sizing.shrunk_area.Goals as goal
+use Rattle.deck_plan.proofs.sizing.shrunk_by_sweeps.Goals as goal
 
 pub returns-in_default : goal.returns-in_default
 returns-in_default c =

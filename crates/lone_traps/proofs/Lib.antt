@@ -1,0 +1,10 @@
+pub mod Touching
+pub mod Leaving
+pub mod Entering
+pub mod Members
+pub mod LevelOrder
+pub mod MarkLemmas
+pub mod TouchLemmas
+pub mod ShrinkLemmas
+pub mod BandLemmas
+pub mod PartLemmas
