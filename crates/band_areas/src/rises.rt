@@ -21,7 +21,7 @@ pub(crate) fn least_rise(halo: Rise) -> Rise {
 /// How many trapezoids a strip should have, by how many pieces the cells have: each strip may have to look at each of them,
 /// so there should be few strips where most pieces are shown once.
 pub(crate) fn aim_of(pieces: u64) -> u64 {
-    (pieces / 4).max(MANY)
+    (pieces / 24).max(MANY)
 }
 
 /// The rows of the first strip, by about how many trapezoids the layout has, by how many a strip should have, and by the

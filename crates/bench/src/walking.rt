@@ -74,7 +74,7 @@ fn count_all<S: Stream<Item = Quad>>(quads: &mut S) -> u64
 }
 
 // How many pieces the window has.
-fn count_in(alloc: Global, tree: &Tree, parts: &Parts, window: Window) -> Option<u64>
+fn count_in(alloc: Global, tree: &Tree, parts: &Parts<'_>, window: Window) -> Option<u64>
     requires { AreAllCut tree.now.layout.cells tree.now.top parts.now }
 {
     let mut walk = match Walk::begin(alloc, tree, parts, METAL, window) {
@@ -85,7 +85,7 @@ fn count_in(alloc: Global, tree: &Tree, parts: &Parts, window: Window) -> Option
 }
 
 // How many pieces the windows have.
-fn count_over(alloc: Global, tree: &Tree, parts: &Parts, windows: Windows) -> Option<u64>
+fn count_over(alloc: Global, tree: &Tree, parts: &Parts<'_>, windows: Windows) -> Option<u64>
     requires { AreAllCut tree.now.layout.cells tree.now.top parts.now }
 {
     let mut count = 0u64;
@@ -104,7 +104,7 @@ fn time(
     rt: &HostRuntime,
     kind: &str,
     tree: &Tree,
-    parts: &Parts,
+    parts: &Parts<'_>,
     windows: Windows,
 ) -> io::Result<()>
     requires { AreAllCut tree.now.layout.cells tree.now.top parts.now }

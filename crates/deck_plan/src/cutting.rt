@@ -63,7 +63,7 @@ fn known_pieces(shape: ShapeRef<'_>, traps: &mut Vec<Trap>) -> Result<bool, NoMe
 // sweep nor a list, and most other outlines no sweep.
 fn cut_shape(
     alloc: Global,
-    parts: &mut Parts,
+    parts: &mut Parts<'_>,
     traps: &mut Vec<Trap>,
     cell: usize,
     shape: ShapeRef<'_>,
@@ -97,7 +97,7 @@ fn is_given_again(shapes: &Shapes, number: usize) -> bool
 // it shows what it showed the first time.
 fn push_shape(
     alloc: Global,
-    parts: &mut Parts,
+    parts: &mut Parts<'_>,
     traps: &mut Vec<Trap>,
     cell: usize,
     shapes: &Shapes,
@@ -120,7 +120,7 @@ fn push_shape(
 // Pushes the pieces of the shapes of a cell from one number on and below another.
 fn cut_some(
     alloc: Global,
-    parts: &mut Parts,
+    parts: &mut Parts<'_>,
     traps: &mut Vec<Trap>,
     tree: &Tree,
     cell: usize,
@@ -148,7 +148,7 @@ fn cut_some(
 // are cut once, and the others have no pieces.
 fn cut_copies(
     alloc: Global,
-    parts: &mut Parts,
+    parts: &mut Parts<'_>,
     traps: &mut Vec<Trap>,
     tree: &Tree,
     cell: usize,
@@ -179,7 +179,7 @@ fn cut_copies(
 // The pieces of the shapes of a cell, or none where it has nothing to show.
 fn cut_cell(
     alloc: Global,
-    parts: &mut Parts,
+    parts: &mut Parts<'_>,
     traps: &mut Vec<Trap>,
     tree: &Tree,
     cell: usize,
@@ -206,7 +206,7 @@ fn cut_cell(
 /// its cell, given again: a long outline that a modal variable gives a thousand times is cut once. Of a path that is given
 /// again and again only the first one's shapes are cut, and the others aren't looked at. Of the other cells nothing is cut.
 /// Want of memory is the only refusal.
-pub fn cut_parts(alloc: Global, tree: &Tree) -> Result<Parts, NoMemory>
+pub fn cut_parts<'t>(alloc: Global, tree: &'t Tree) -> Result<Parts<'t>, NoMemory>
     ensures { IfOk result (λ parts. AreAllCut tree.now.layout.cells tree.now.top parts) }
 {
     let cells = tree.cells();

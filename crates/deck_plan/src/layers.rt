@@ -56,7 +56,7 @@ fn put_rings<S: Stream<Item = Quad>>(
 fn piled_layer<'t>(
     alloc: Global,
     tree: &'t Tree,
-    parts: &'t Parts,
+    parts: &'t Parts<'t>,
     boxes: &'t Boxes,
     pair: Pair,
     window: Window,
@@ -76,7 +76,7 @@ fn piled_layer<'t>(
 fn piled_layers<'t>(
     alloc: Global,
     tree: &'t Tree,
-    parts: &'t Parts,
+    parts: &'t Parts<'t>,
     boxes: &'t Boxes,
     layers: Layers,
     window: Window,
@@ -101,7 +101,7 @@ fn piled_layers<'t>(
 pub(crate) fn layer_area<'t>(
     alloc: Global,
     tree: &'t Tree,
-    parts: &'t Parts,
+    parts: &'t Parts<'t>,
     boxes: &'t Boxes,
     pair: Pair,
     window: Window,
@@ -127,7 +127,7 @@ pub(crate) fn layer_area<'t>(
 pub(crate) fn layers_area<'t>(
     alloc: Global,
     tree: &'t Tree,
-    parts: &'t Parts,
+    parts: &'t Parts<'t>,
     boxes: &'t Boxes,
     layers: Layers,
     window: Window,

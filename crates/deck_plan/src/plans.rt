@@ -42,7 +42,7 @@ use std::marker::Model;
 pub struct Plan<'t> {
     deck: &'t Deck,
     tree: &'t Tree,
-    parts: Parts,
+    parts: Parts<'t>,
     boxes: Boxes,
 }
 

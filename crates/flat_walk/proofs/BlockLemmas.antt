@@ -1,5 +1,6 @@
 -- Lists of boxes, and the shapes and placements that are passed by.
-use Rattle.std.proofs.Common.{◌≡◌, ◌⊎◌, inl, inr, ℕ, zero, suc, pos, ◌+◌, ◌-◌, ◌*◌, ◌^◌, ◌<◌, ◌≤◌, false, List}
+use Rattle.std.specs.Int.{int_min, int_max}
+use Rattle.std.proofs.Common.{◌≡◌, ◌≤ℤ◌, ◌+ℤ◌, ◌-ℤ◌, int_lt, ℤ, ◌⊎◌, inl, inr, ℕ, zero, suc, pos, ◌+◌, ◌-◌, ◌*◌, ◌^◌, ◌<◌, ◌≤◌, false, List}
 use Rattle.std.proofs.Common.{[], ◌∷◌, ◌++◌, Option, Some, None, IfSome, All, map, drop, length, slice_get, get_or}
 use Rattle.std.proofs.Common.{refl, sym, ap, subst, ◌∙◌, arith, length-append}
 use Rattle.std.specs.List.{filter, AllByRecursion}
@@ -26,9 +27,12 @@ use Rattle.cell_tree.specs.Chains.{IsReachable}
 use Rattle.cell_tree.specs.Flattening.{IsVertex, placed_things}
 use Rattle.cell_tree.specs.Spots.{IsSpotVertex}
 use Rattle.cell_tree.proofs.ForCallers.{reach_more}
-use Rattle.flat_walk.specs.Blocks.{IsRound, IsRoundThose, AreBlocks, ShowNothing}
+use Rattle.flat_walk.specs.Blocks.{IsRound, IsBeside, AreRowsFor, IsRoundThose, AreBlocks, ShowNothing}
 use Rattle.flat_walk.specs.Boxes.{IsQuadIn, HasBox, AreBoxed, AreNear, AreSpots}
 use Rattle.flat_walk.specs.Hands.{steps_from}
+use Rattle.flat_walk.specs.Poses.{IsPlain}
+use Rattle.flat_walk.specs.ShortBoxes.{side_of}
+use Rattle.flat_walk.specs.declared.short_boxes.KeptRows.{KeptRows}
 use Rattle.flat_walk.specs.Quads.{quad_image, has_row_in}
 use Rattle.flat_walk.specs.Walks.{pieces_of_shape}
 use Rattle.flat_walk.specs.Rests.{Skips, marked_image, shows_in, placed_rest}
@@ -36,9 +40,9 @@ use Rattle.flat_walk.specs.Ways.{IsScene, cells_of, marked_of, things_at, placem
 use Rattle.flat_walk.specs.declared.scenes.Scene.{Scene}
 use Rattle.flat_walk.proofs.AllThings.{each_map, each_flat}
 use Rattle.flat_walk.proofs.Amid.{IsAmid, IsSpanned, spanned_image}
-use Rattle.flat_walk.proofs.BoxLemmas.{box_shows_none, shape_passed}
+use Rattle.flat_walk.proofs.BoxLemmas.{box_hides, box_shows_none, shape_passed}
 use Rattle.flat_walk.proofs.RestLemmas.{skip_on, skip_same, skip_front, steps_skip}
-use Rattle.flat_walk.proofs.ShowLemmas.{nothing_shown}
+use Rattle.flat_walk.proofs.ShowLemmas.{nothing_shown, plain_point}
 use Rattle.flat_walk.proofs.SpanLemmas.{marked_spanned}
 use Rattle.flat_walk.proofs.WayLemmas.{things_are_placed, placements_step, placements_end}
 
@@ -85,6 +89,28 @@ pub spot_more : (cells : List Cell) (placements : List Placement) (boxes : List 
 spot_more cells placements boxes new are last k placement box p here there vertex =
     slot_pushed boxes new box k (λ i f. slice_get placements i ≡ Some placement → IsInBox f p) there
     (λ at. last placement p at vertex) (λ i f at on. are i placement f p on at vertex) here
+
+-- ---- rows of a window in a cell that is only moved
+
+pub both_some : {X : Type 0} (found : Option X) (P Q R : X → Type 0) → IfSome found P → IfSome found Q → ((x : X) → P x → Q x → R x) → IfSome found R
+both_some (Some x) P Q R p q r = r x p q
+both_some None P Q R p q r = tt
+
+rows_apart : (w : RowRange) (y bottom top : ℤ) (rows : KeptRows) (box : Frame) → bottom ≡ w.y0 -ℤ y → top ≡ w.y1 -ℤ y
+    → side_of rows.low ≤ℤ bottom → top ≤ℤ side_of rows.high → IsBeside rows box
+    → int_lt (int_max w.y0 (box.y0 +ℤ y)) (int_min w.y1 (box.y1 +ℤ y)) ≡ false
+rows_apart w y bottom top rows box eb et under over (inl h) = grind (arith, ints, clamps, eb, et, under, over, h)
+rows_apart w y bottom top rows box eb et under over (inr h) = grind (arith, ints, clamps, eb, et, under, over, h)
+
+pub rows_hide : (w : RowRange) (orient : Orient) (at : Point) (bottom top : ℤ) (rows : KeptRows) → IsPlain orient
+    → bottom ≡ w.y0 -ℤ at.y → top ≡ w.y1 -ℤ at.y → side_of rows.low ≤ℤ bottom → top ≤ℤ side_of rows.high → AreRowsFor w orient at rows
+rows_hide w orient at bottom top rows plain eb et under over = λ box q beside inside.
+    box_hides w orient at box.y0 box.y1 box
+    (λ p h. record {
+      above = subst (λ r. box.y0 ≤ℤ r.y) (sym (plain_point orient p plain.flip plain.turns plain.mag)) h.bottom;
+      below = subst (λ r. r.y ≤ℤ box.y1) (sym (plain_point orient p plain.flip plain.turns plain.mag)) h.top;
+    })
+    (rows_apart w at.y bottom top rows box eb et under over beside) q inside
 
 -- ---- boxes round boxes
 

@@ -5,6 +5,7 @@ use Rattle.std.specs.List.{flat_map}
 use Rattle.half_grid.specs.Quads.{corners_of}
 use Rattle.flat_walk.specs.Quads.{moved_quad}
 use Rattle.flat_walk.specs.Walks.{is_on}
+use Rattle.flat_walk.specs.EntryLists.{entries_in}
 use Rattle.flat_walk.specs.Kept.{Entry, all_lists}
 use Rattle.std.proofs.lemmas.List.{length-drop}
 use Rattle.std.proofs.lemmas.List.Elements.{All-head}
@@ -171,19 +172,20 @@ first_inside n shapes rest shape is = let e = ap length is in let long = length-
 
 pub next_list : (pair : Pair) (before after : Cursor) → IsNext before after
     → cursor_list pair after
-    ≡ placed_rest before.orient before.at pair (drop (first_count before.lists.now) (shapes_left before)) (all_lists (drop 1 before.lists.now)) 0
+    ≡ placed_rest before.orient before.at pair (drop (first_count (entries_in before.lists)) (shapes_left before))
+    (all_lists (drop 1 (entries_in before.lists))) 0
 next_list pair before after next = rw (next.orient, next.at, next.shapes, next.lists, next.place) refl
 
 pub next_steps : (before after : Cursor) (shape : Shape) → IsFirst before shape → IsNext before after → steps_left after < steps_left before
 next_steps before after shape first next =
     rw (next.shapes, next.place) (steps_over (shapes_left before) (drop (before.number + 1) before.shapes.now) shape before.place
-    (first_count before.lists.now) first.is (first_some before.lists.now))
+    (first_count (entries_in before.lists)) first.is (first_some (entries_in before.lists)))
 
 pub next_shorter : (before after : Cursor) (shape : Shape) → IsFirst before shape → IsNext before after
     → length (shapes_left after) < length (shapes_left before)
 next_shorter before after shape first next =
     let e = ap length next.shapes in
-    let long = length-drop (first_count before.lists.now) (shapes_left before) in
-    let some = first_some before.lists.now in
+    let long = length-drop (first_count (entries_in before.lists)) (shapes_left before) in
+    let some = first_some (entries_in before.lists) in
     let f = ap length first.is in
     omega (arith, e, long, some, f)

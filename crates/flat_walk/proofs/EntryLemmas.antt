@@ -1,16 +1,17 @@
 -- What entries of a cell stand for.
-use Rattle.std.proofs.Common.{◌≡◌, ℕ, zero, suc, ◌+◌, ◌-◌, ◌<◌, ◌≤◌, min, List, [], ◌∷◌, ◌++◌, Some, length, drop, replicate, slice_get}
+use Rattle.std.proofs.Common.{Result, Ok, Err, OnOk, OnErr, ◌≡◌, ℕ, zero, suc, ◌+◌, ◌-◌, ◌<◌, ◌≤◌}
+use Rattle.std.proofs.Common.{min, List, [], ◌∷◌, ◌++◌, Some, length, drop, replicate, slice_get, get_or, take, ◌^◌}
 use Rattle.std.proofs.Common.{refl, ap, sym, subst, ◌∙◌, arith, append-nil, length-append}
-use Rattle.std.specs.List.{sum_by, AllByRecursion}
+use Rattle.std.specs.List.{sum_by}
 use Rattle.std.proofs.lemmas.Grind.{flat_map-append}
 use Rattle.std.proofs.lemmas.List.{length-replicate}
 use Rattle.std.proofs.lemmas.List.Sums.{sum_by-cons}
 use Rattle.std.proofs.lemmas.Option.{same_Some}
 use Rattle.half_grid.specs.Trapezoids.{Trapezoid}
 use Rattle.flat_walk.specs.Hands.{first_count}
-use Rattle.flat_walk.specs.Kept.{Entry, lists_of, all_lists, bare, AreSingle}
-use Rattle.flat_walk.specs.Tables.{IsKept}
-use Rattle.flat_walk.proofs.TableLemmas.{none_kept}
+use Rattle.flat_walk.specs.Kept.{Entry, lists_of, all_lists, bare, bare_ones, AreSingle}
+use Rattle.flat_walk.specs.Tables.{count_within}
+use Rattle.flat_walk.proofs.TableLemmas.{counted_more}
 
 pub lists_more : (entries : List Entry) (entry : Entry) → all_lists (entries ++ entry ∷ []) ≡ all_lists entries ++ lists_of entry
 lists_more entries entry = flat_map-append lists_of entries (entry ∷ []) ∙ ap (λ l. all_lists entries ++ l) (append-nil (lists_of entry))
@@ -58,9 +59,6 @@ none_each (suc many) = ap (λ l. [] ∷ l) (none_each many)
 
 pub lists_each : (many : ℕ) (entries all : List Entry) → all ≡ entries ++ replicate many bare → all_lists all ≡ all_lists entries ++ replicate many []
 lists_each many entries all is = ap all_lists is ∙ (flat_map-append lists_of entries (replicate many bare) ∙ ap (λ l. all_lists entries ++ l) (none_each many))
-
-pub is_bare : (entry : Entry) → entry.pieces ≡ [] → entry.more ≡ 0 → entry ≡ bare
-is_bare entry none alone = λ i. record { pieces = none i; more = alone i }
 
 pub single_last : (count next : ℕ) (entries : List Entry) (entry : Entry) → count ≡ length entries → next ≡ count + 1 → AreSingle count entries
     → entry.more ≡ 0 → AreSingle next (entries ++ entry ∷ [])
@@ -136,13 +134,42 @@ counted_lists (e ∷ entries) =
     ∙ (ap (λ n. length e.pieces + n) (none_counted e.more (all_lists entries) ∙ counted_lists entries)
     ∙ sym (sum_by-cons (λ entry. length entry.pieces) e entries))
 
+-- the pieces of one more entry are counted
+there : (entries : List Entry) (k : ℕ) → k < length entries → (entry : Entry) × (slice_get entries k ≡ Some entry) × (get_or entries k entry ≡ entry)
+there [] k inside = absurd (omega (arith, inside))
+there (e ∷ entries) zero inside = (e, refl, refl)
+there (e ∷ entries) (suc k) inside = there entries k (omega (arith, inside))
+
+pub counted_entry : (entries : List Entry) (k count more : ℕ) → k < length entries
+    → count ≡ count_within (sum_by (λ entry. length entry.pieces) (take k entries))
+    → ((entry : Entry) → slice_get entries k ≡ Some entry → more ≡ length entry.pieces) → more < 2 ^ 64
+    → count_within (count + more) ≡ count_within (sum_by (λ entry. length entry.pieces) (take (k + 1) entries))
+counted_entry entries k count more inside so is few =
+    let at = there entries k inside in
+    let here = is at.0 at.1 in
+    counted_more (λ entry. length entry.pieces) entries k count more at.0 inside at.2 so (omega (arith, here, few))
+
 -- ---- what is pushed
 
-pub alone_is : (entry : Entry) (pieces : List Trapezoid) → entry.pieces ≡ pieces → entry.more ≡ 0 → lists_of entry ≡ pieces ∷ []
-alone_is entry pieces is alone = ap (λ m. entry.pieces ∷ replicate m []) alone ∙ ap (λ l. l ∷ []) is
+-- after one more entry was pushed, or none was
+module _ {T E : Type 0} (result : Result T E) where
+  pub single_pushed : (single : ℕ) (old new : List Entry) (entry : Entry) → OnOk result (new ≡ old ++ entry ∷ []) → OnErr result (new ≡ old)
+      → AreSingle single old → AreSingle single new
+  single_pushed single old new entry = by result
+    where
+      by : (result : Result T E) → OnOk result (new ≡ old ++ entry ∷ []) → OnErr result (new ≡ old) → AreSingle single old → AreSingle single new
+      by (Ok x) is same all = subst (AreSingle single) (sym is) (single_more single old entry all)
+      by (Err x) is same all = subst (AreSingle single) (sym same) all
 
-pub none_is : (entry : Entry) (count : ℕ) → entry.pieces ≡ [] → suc entry.more ≡ count → lists_of entry ≡ replicate count []
-none_is entry count is long = ap (λ l. l ∷ replicate entry.more []) is ∙ ap (λ m. replicate {A = List Trapezoid} m []) long
+  pub lists_pushed : (old new : List Entry) (more : ℕ) (lists : List (List Trapezoid)) → OnOk result (new ≡ old ++ bare_ones more ∷ [])
+      → all_lists old ≡ lists → OnOk result (all_lists new ≡ lists ++ replicate (more + 1) [])
+  lists_pushed old new more lists = by result
+    where
+      e : more + 1 ≡ suc more
+      e = omega arith
 
-pub lists_kept : (entry : Entry) → IsKept entry.pieces → AllByRecursion IsKept (lists_of entry)
-lists_kept entry kept = (kept, none_kept entry.more)
+      by : (result : Result T E) → OnOk result (new ≡ old ++ bare_ones more ∷ []) → all_lists old ≡ lists
+          → OnOk result (all_lists new ≡ lists ++ replicate (more + 1) [])
+      by (Ok x) is view =
+          ap all_lists is ∙ (lists_more old (bare_ones more) ∙ (ap (λ l. l ++ replicate (suc more) []) view ∙ ap (λ k. lists ++ replicate k []) (sym e)))
+      by (Err x) is view = tt

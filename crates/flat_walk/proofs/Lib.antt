@@ -1,6 +1,7 @@
 pub mod SpanLemmas
 pub mod TableLemmas
 pub mod EntryLemmas
+pub mod StoreLemmas
 pub mod WalkLemmas
 pub mod WayLemmas
 pub mod AllThings
@@ -24,3 +25,4 @@ pub mod GridLemmas
 pub mod RiseLemmas
 pub mod TestLemmas
 pub mod ShortLemmas
+pub mod CodeLemmas

@@ -12,7 +12,9 @@ use Rattle.layout_model.specs.declared.pair.Pair.{Pair}
 use Rattle.layout_model.specs.declared.shapes.Shape.{Shape}
 use Rattle.flat_walk.specs.Boxes.{IsQuadIn, AreBoxed}
 use Rattle.flat_walk.specs.Blocks.{boxes_in}
+use Rattle.flat_walk.specs.EntryLists.{entries_in}
 use Rattle.flat_walk.specs.Kept.{Entry, all_lists, AreSingle}
+use Rattle.flat_walk.specs.PieceLists.{listed, AreShots}
 use Rattle.flat_walk.specs.Ways.{IsBetweenRows}
 use Rattle.flat_walk.specs.declared.rows.Rows.{Rows}
 use Rattle.flat_walk.specs.Rests.{placed_list, placed_rest}
@@ -21,24 +23,25 @@ use Rattle.flat_walk.specs.declared.owned.Cursor.{Cursor}
 use Rattle.flat_walk.specs.declared.owned.Own.{Own}
 
 abbrev pub hand_list : Hand → List Corners
-hand_list hand = placed_list hand.orient hand.at hand.pieces.now
+hand_list hand = placed_list hand.orient hand.at (listed hand.pieces)
 
 pub record IsHand (hand : Hand) : Type 0 where
   pub orient : IsOrient hand.orient
   pub near : IsWithin (2 ^ 60) hand.at
+  pub shots : AreShots hand.pieces
 
 abbrev pub shapes_left : Cursor → List Shape
 shapes_left cursor = drop cursor.number cursor.shapes.now
 
 abbrev pub cursor_list : Pair → Cursor → List Corners
-cursor_list pair cursor = placed_rest cursor.orient cursor.at pair (shapes_left cursor) (all_lists cursor.lists.now) cursor.place
+cursor_list pair cursor = placed_rest cursor.orient cursor.at pair (shapes_left cursor) (all_lists (entries_in cursor.lists)) cursor.place
 
 pub record IsCursor (cursor : Cursor) : Type 0 where
   pub orient : IsOrient cursor.orient
   pub near : IsWithin (2 ^ 54) cursor.at
   pub grid : All IsShapeOnGrid cursor.shapes.now
-  pub single : AreSingle (cursor.single - cursor.number) cursor.lists.now
-  pub boxed : AreBoxed (shapes_left cursor) (all_lists cursor.lists.now) (drop cursor.number (boxes_in cursor.boxes))
+  pub single : AreSingle (cursor.single - cursor.number) (entries_in cursor.lists)
+  pub boxed : AreBoxed (shapes_left cursor) (all_lists (entries_in cursor.lists)) (drop cursor.number (boxes_in cursor.boxes))
 
 -- the first shape that is left, and there is a number after its own
 pub record IsFirst (cursor : Cursor) (shape : Shape) : Type 0 where
@@ -52,8 +55,8 @@ first_count (entry ∷ entries) = entry.more + 1
 
 -- from the first entry on to the next
 pub record IsNext (before after : Cursor) : Type 0 where
-  pub shapes : shapes_left after ≡ drop (first_count before.lists.now) (shapes_left before)
-  pub lists : after.lists.now ≡ drop 1 before.lists.now
+  pub shapes : shapes_left after ≡ drop (first_count (entries_in before.lists)) (shapes_left before)
+  pub lists : entries_in after.lists ≡ drop 1 (entries_in before.lists)
   pub place : after.place ≡ 0
   pub orient : after.orient ≡ before.orient
   pub at : after.at ≡ before.at
@@ -83,7 +86,7 @@ pub record IsLongRun (cursor : Cursor) (shape : Shape) (rows : Rows) : Type 0 wh
   pub pieces : List Trapezoid
   pub later : List (List Trapezoid)
   pub box : Frame
-  pub lists : all_lists cursor.lists.now ≡ pieces ∷ later
+  pub lists : all_lists (entries_in cursor.lists) ≡ pieces ∷ later
   pub around : All (λ piece. IsQuadIn box (corners_of piece)) pieces
   pub between : (p : Point) → IsInBox box p → IsBetweenRows cursor.orient rows.low rows.high p
   pub near : IsWithin (2 ^ 58) (record { x = rows.low; y = rows.high })

@@ -2,22 +2,23 @@
 use Rattle.std.specs.Prelude.{◌≡◌, ℕ, zero, suc, List, [], ◌∷◌, replicate}
 use Rattle.std.specs.List.{flat_map}
 use Rattle.half_grid.specs.Trapezoids.{Trapezoid}
-use Rattle.flat_walk.specs.declared.entries.Stored.{Stored}
-use Rattle.flat_walk.specs.declared.entries.Stored.TheVariants.{One, More, Without}
 
 -- the pieces of a shape, and so many shapes after it that have none
 pub record Entry : Type 0 where
   pub pieces : List Trapezoid
   pub more : ℕ
 
-abbrev pub entry_of : Stored → Entry
-entry_of (One traps) = record { pieces = traps; more = 0 }
-entry_of (More traps) = record { pieces = traps.items; more = 0 }
-entry_of (Without more) = record { pieces = []; more = more }
+-- the pieces of one shape
+abbrev pub alone : List Trapezoid → Entry
+alone pieces = record { pieces = pieces; more = 0 }
+
+-- no pieces, of a shape and of so many more
+abbrev pub bare_ones : ℕ → Entry
+bare_ones more = record { pieces = []; more = more }
 
 -- no pieces of one shape
 abbrev pub bare : Entry
-bare = record { pieces = []; more = 0 }
+bare = bare_ones 0
 
 abbrev pub lists_of : Entry → List (List Trapezoid)
 lists_of entry = entry.pieces ∷ replicate entry.more []

@@ -15,3 +15,7 @@ pub mod Streams
 pub mod Ways
 pub mod Rises
 pub mod ShortPieces
+pub mod PieceLists
+pub mod Stores
+pub mod Entries
+pub mod EntryLists

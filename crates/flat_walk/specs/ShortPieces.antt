@@ -1,5 +1,4 @@
--- What a kept piece is: a trapezoid whose numbers are of 32 bits, with its lines by their ways and numbers, or one as it was
--- cut.
+-- What a kept piece is: a trapezoid whose numbers are of 32 bits, with its lines by their ways and numbers.
 use Rattle.std.specs.Prelude.{ℤ}
 use Rattle.half_grid.specs.Lines.{first_strip}
 use Rattle.half_grid.specs.Trapezoids.{Trapezoid, trapezoid}
@@ -8,9 +7,7 @@ use Rattle.half_grid.specs.declared.plane.Line.TheVariants as line
 use Rattle.layout_model.specs.Kept.{IsShort}
 use Rattle.flat_walk.specs.declared.kept_pieces.Kind.{Kind}
 use Rattle.flat_walk.specs.declared.kept_pieces.Kind.TheVariants.{Upright, Rising, Falling}
-use Rattle.flat_walk.specs.declared.kept_pieces.ShortPiece.{ShortPiece}
-use Rattle.flat_walk.specs.declared.kept_pieces.PieceForm.{PieceForm}
-use Rattle.flat_walk.specs.declared.kept_pieces.PieceForm.TheVariants.{Short, Wide}
+use Rattle.flat_walk.specs.declared.kept_pieces.ShortPiece.TheInside.{Inside}
 
 -- which way a line goes
 abbrev pub kind_of : Line → Kind
@@ -24,12 +21,8 @@ line_from Upright number = line.Upright number
 line_from Rising number = line.Rising number
 line_from Falling number = line.Falling number
 
-abbrev pub trapezoid_from : ShortPiece → Trapezoid
+abbrev pub trapezoid_from : Inside → Trapezoid
 trapezoid_from few = trapezoid few.y0 few.y1 (line_from few.left_kind few.left) (line_from few.right_kind few.right)
-
-abbrev pub piece_from : PieceForm → Trapezoid
-piece_from (Short few) = trapezoid_from few
-piece_from (Wide trap) = trap.value
 
 -- its rows and its lines have numbers of 32 bits
 pub record IsShortTrapezoid (z : Trapezoid) : Type 0 where

@@ -1,17 +1,18 @@
 //! Lists of boxes in which those beside a window are passed by 64 at a time.
-ghost use Rattle.std.specs.Prelude.{◌≡◌, ◌^◌, ◌<◌, ◌≤◌, ◌+◌, ℕ, false, IfOk, Some, length, slice_get};
+ghost use Rattle.std.specs.Prelude.{◌≡◌, ◌^◌, ◌<◌, ◌≤◌, ◌+◌, ℕ, false, IfOk, IfSome, Some, length, slice_get};
 ghost use Rattle.half_grid.specs.Quads.{Corners};
 ghost use Rattle.layout_model.specs.Images.{IsOrient};
 ghost use Rattle.layout_model.specs.Layouts.{IsWithin};
 ghost use Rattle.cell_tree.specs.Boxes.{IsBoxUpTo};
 ghost use Rattle.flat_walk.specs.Boxes.{IsQuadIn, AreNear};
 ghost use Rattle.flat_walk.specs.Quads.{quad_image, has_row_in};
-ghost use Rattle.flat_walk.specs.Blocks.{IsRoundThose, AreBlocks, ShowNothing, boxes_in};
+ghost use Rattle.flat_walk.specs.Blocks.{AreRowsFor, IsRoundThose, AreBlocks, ShowNothing, boxes_in};
 
 use crate::boxes::joined;
 use crate::levels::{raised, rows_of};
 use crate::rows::meet;
-use crate::short_boxes::ShortBox;
+use crate::short_boxes::{KeptRows, ShortBox};
+use crate::turning::is_plain;
 use geo_stream::NoMemory;
 use half_grid::{Frame, Point, Window};
 use layout_model::Orient;
@@ -103,6 +104,49 @@ fn may_show(around: &Frame, orient: Orient, at: Point, window: Window) -> bool
     meet(raised(rows_of(orient, *around), at), window)
 }
 
+// The rows of the window in a cell that is only moved, where they are near enough.
+fn rows_for(orient: Orient, at: Point, window: Window) -> Option<KeptRows>
+    requires { IsOrient orient }
+    ensures { IfSome result (AreRowsFor window orient at) }
+{
+    if !is_plain(orient) {
+        return None;
+    }
+    KeptRows::round(
+        window.y0().checked_sub(at.y)?,
+        window.y1().checked_sub(at.y)?,
+    )
+}
+
+// Whether what a kept box is round may have a row in the window, by rows that are for it, if there are some.
+#[inline(always)]
+fn kept_may_show(
+    around: &ShortBox,
+    rows: Option<KeptRows>,
+    orient: Orient,
+    at: Point,
+    window: Window,
+) -> bool
+    requires near { IsBoxUpTo (2 ^ 53) around.now }
+    requires rows { IfSome rows (AreRowsFor window orient at) }
+    requires orient { IsOrient orient }
+    requires at { IsWithin (2 ^ 54) at }
+    ensures { result ≡ false → (q : Corners) → IsQuadIn around.now q → has_row_in window (quad_image orient at q) ≡ false }
+{
+    match rows {
+        Some(rows) => around.meets(rows),
+        None => may_show(&around.frame(), orient, at, window),
+    }
+}
+
+// One of the boxes.
+fn box_in(boxes: &[ShortBox], number: usize) -> &ShortBox
+    requires { number < length boxes.now }
+    ensures { slice_get boxes.now number ≡ Some result.now }
+{
+    &boxes[number]
+}
+
 impl BoxList {
     /// The boxes in this order.
     pub(crate) fn of(alloc: Global, boxes: Vec<ShortBox>) -> Result<BoxList, NoMemory>
@@ -115,8 +159,17 @@ impl BoxList {
 
     // The number after the 64 boxes from this one on, or after this one, where nothing in them has a row in the window; and
     // else the number itself.
-    fn after(&self, number: usize, orient: Orient, at: Point, window: Window) -> usize
+    #[inline(always)]
+    fn after(
+        &self,
+        number: usize,
+        rows: Option<KeptRows>,
+        orient: Orient,
+        at: Point,
+        window: Window,
+    ) -> usize
         requires number { number < length self.now }
+        requires rows { IfSome rows (AreRowsFor window orient at) }
         requires orient { IsOrient orient }
         requires at { IsWithin (2 ^ 54) at }
         ensures later { number ≤ result }
@@ -130,8 +183,8 @@ impl BoxList {
                 }
             }
         }
-        let around = box_at(self.boxes.as_slice(), number);
-        if may_show(&around, orient, at, window) {
+        let around = box_in(self.boxes.as_slice(), number);
+        if kept_may_show(around, rows, orient, at, window) {
             return number;
         }
         number + 1
@@ -145,9 +198,10 @@ impl BoxList {
         ensures inside { from < result → result ≤ length self.now }
         ensures none { ShowNothing window orient at self.now from result }
     {
+        let rows = rows_for(orient, at, window);
         let mut next = from;
         while next < self.boxes.len() {
-            let after = self.after(next, orient, at, window);
+            let after = self.after(next, rows, orient, at, window);
             if after == next {
                 return next;
             }

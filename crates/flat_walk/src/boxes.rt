@@ -1,5 +1,5 @@
 //! Boxes round what shapes and placements show.
-ghost use Rattle.std.specs.Prelude.{◌≡◌, ◌^◌, ◌<◌, ◌∷◌, ℕ, All, IfOk, length, slice_get, Some};
+ghost use Rattle.std.specs.Prelude.{◌≡◌, ◌^◌, ◌<◌, ◌∷◌, ℕ, All, IfOk, IfSome, MatchOption, [], length, slice_get, Some};
 ghost use Rattle.half_grid.specs.Quads.{corners_of};
 ghost use Rattle.half_grid.specs.Reach.{IsPointWithinReach};
 ghost use Rattle.layout_model.specs.Hulls.{IsInBox};
@@ -10,17 +10,21 @@ ghost use Rattle.cell_tree.specs.Cells.{shapes_at, placements_at};
 ghost use Rattle.cell_tree.specs.Chains.{IsReachable};
 ghost use Rattle.flat_walk.specs.Blocks.{boxes_in, boxed_in};
 ghost use Rattle.flat_walk.specs.Boxes.{IsQuadIn, HasBox, AreBoxed, AreNear, AreSpots, AreAllBoxed, boxes_at};
+ghost use Rattle.flat_walk.specs.EntryLists.{entries_in};
 ghost use Rattle.flat_walk.specs.Kept.{all_lists, AreSingle};
+ghost use Rattle.flat_walk.specs.PieceLists.{listed, AreShots};
+ghost use Rattle.flat_walk.specs.Stores.{entry_in};
 ghost use Rattle.flat_walk.specs.Tables.{lists_at};
 
 use crate::blocks::BoxList;
-use crate::entries::{Entries, Pieces};
-use crate::kept_pieces::Piece;
+use crate::entry_lists::{Entries, EntryList};
+use crate::piece_lists::PieceList;
 use crate::short_boxes::ShortBox;
+use crate::stores::EntryRef;
 use crate::tables::{Parts, shapes_of};
 use cell_tree::Tree;
 use geo_stream::NoMemory;
-use half_grid::{Frame, Point};
+use half_grid::{Frame, Point, Quad};
 use layout_model::{Cell, ShapeRef, Shapes};
 use std::alloc::Global;
 use std::marker::Model;
@@ -80,58 +84,72 @@ fn box_of(p: Point) -> Frame
     }
 }
 
-// The box of the corners of a piece.
-fn box_of_piece(piece: &Piece) -> Frame
-    ensures around { IsQuadIn result (corners_of piece.now) }
+// The box of the corners.
+fn box_of_quad(quad: &Quad) -> Frame
+    ensures around { IsQuadIn result quad.now }
     ensures near { IsBoxUpTo (2 ^ 44) result }
 {
-    let quad = piece.quad();
     let left = joined(box_of(quad.a()), box_of(quad.b()));
     let right = joined(box_of(quad.c()), box_of(quad.d()));
     joined(left, right)
 }
 
-/// The box of pieces, of which there is one at least.
-pub(crate) fn box_of_pieces(first: &Piece, others: &[Piece]) -> Frame
-    ensures around { All (λ piece. IsQuadIn result (corners_of piece)) (first.now ∷ others.now) }
-    ensures near { IsBoxUpTo (2 ^ 44) result }
+/// A box of pieces, if there are some.
+pub(crate) fn box_of_pieces(pieces: PieceList<'_>) -> Option<Frame>
+    requires { AreShots pieces }
+    ensures around { MatchOption result (listed pieces.entry ≡ []) (λ around. All (λ piece. IsQuadIn around (corners_of piece)) (listed pieces.entry)) }
+    ensures near { IfSome result (IsBoxUpTo (2 ^ 44)) }
 {
-    let mut around = box_of_piece(first);
-    for piece in others {
-        around = joined(around, box_of_piece(piece));
+    let mut rest = pieces;
+    let Some(first) = rest.next() else {
+        return None;
+    };
+    let mut around = box_of_quad(&first);
+    while let Some(quad) = rest.next() {
+        around = joined(around, box_of_quad(&quad));
     }
-    around
+    Some(around)
 }
 
 // The box of a shape's pieces at all its places.
-fn box_of_shape(shape: ShapeRef, pieces: &Pieces) -> Frame
-    requires { IsShapeOnGrid (shape_in shape) }
-    ensures { HasBox (shape_in shape.entry) pieces.now.pieces result }
+fn box_of_shape(shape: ShapeRef<'_>, pieces: PieceList<'_>) -> Frame
+    requires grid { IsShapeOnGrid (shape_in shape) }
+    requires shots { AreShots pieces }
+    ensures { HasBox (shape_in shape.entry) (listed pieces.entry) result }
 {
-    match pieces.as_slice().split_first() {
-        Some((first, others)) => summed(box_of_pieces(first, others), shape.spread()),
+    match box_of_pieces(pieces) {
+        Some(around) => summed(around, shape.spread()),
         None => box_of(Point { x: 0, y: 0 }),
     }
 }
 
-fn pieces_at(entries: &[Pieces], number: usize) -> &Pieces
-    requires { number < length entries.now }
-    ensures { slice_get entries.now number ≡ Some result.now }
+// An entry that is there.
+fn entry_at(entries: EntryList<'_>, number: usize) -> EntryRef<'_>
+    requires { number < length (entries_in entries) }
+    ensures there { slice_get (entries_in entries.entry) number ≡ Some (entry_in result) }
+    ensures shots { AreShots result.pieces }
 {
-    &entries[number]
+    match entries.get(number) {
+        Some(entry) => entry,
+        None => unreachable!(),
+    }
 }
 
 // The boxes of a cell's shapes, up to the first that has no entry of its own.
-fn boxes_for(alloc: Global, shapes: &Shapes, entries: Entries) -> Result<Vec<ShortBox>, NoMemory>
+fn boxes_for(
+    alloc: Global,
+    shapes: &Shapes,
+    entries: Entries<'_>,
+) -> Result<Vec<ShortBox>, NoMemory>
     requires grid { All IsShapeOnGrid shapes.now }
-    requires single { AreSingle entries.single entries.list.now }
-    ensures { IfOk result (λ boxes. AreBoxed shapes.now (all_lists entries.entry.list.now) boxes.items) }
+    requires single { AreSingle entries.single (entries_in entries.list) }
+    ensures { IfOk result (λ boxes. AreBoxed shapes.now (all_lists (entries_in entries.entry.list)) boxes.items) }
 {
     let count = shapes.len().min(entries.single);
     let mut boxes = Vec::with_capacity(alloc, count)?;
     while boxes.len() < count {
         let number = boxes.len();
-        let around = box_of_shape(shapes.get(number), pieces_at(entries.list, number));
+        let around = box_of_shape(shapes.get(number), entry_at(entries.list, number).pieces);
         boxes.push(ShortBox::round(around))?;
     }
     Ok(boxes)
@@ -141,7 +159,7 @@ fn boxes_for(alloc: Global, shapes: &Shapes, entries: Entries) -> Result<Vec<Sho
 fn own_boxes(
     alloc: Global,
     tree: &Tree,
-    parts: &Parts,
+    parts: &Parts<'_>,
     cell: usize,
 ) -> Result<Vec<ShortBox>, NoMemory>
     requires { cell < length tree.now.layout.cells }
@@ -154,7 +172,7 @@ fn own_boxes(
 }
 
 // The boxes of the shapes of the tree's cells.
-fn shape_boxes(alloc: Global, tree: &Tree, parts: &Parts) -> Result<Vec<BoxList>, NoMemory>
+fn shape_boxes(alloc: Global, tree: &Tree, parts: &Parts<'_>) -> Result<Vec<BoxList>, NoMemory>
     ensures { IfOk result (λ lists. (n : ℕ) → AreBoxed (shapes_at tree.now.layout.cells n) (lists_at parts.now n) (boxes_at lists.items n)) }
 {
     let count = tree.cells().len();
@@ -241,7 +259,7 @@ pub(crate) fn spots_in(boxes: Option<&Boxes>, cell: usize) -> Option<&BoxList>
 
 impl Boxes {
     /// The box of each shape and placement of the tree's cells.
-    pub fn of(alloc: Global, tree: &Tree, parts: &Parts) -> Result<Boxes, NoMemory>
+    pub fn of(alloc: Global, tree: &Tree, parts: &Parts<'_>) -> Result<Boxes, NoMemory>
         ensures { IfOk result (λ boxes. AreAllBoxed tree.now.layout.cells tree.now.top parts.now boxes) }
     {
         let shapes = shape_boxes(alloc, tree, parts)?;

@@ -1,219 +1,228 @@
 //! The pieces of a cell's shapes, entry by entry.
-ghost use Rattle.std.specs.Prelude.{◌≡◌, ◌≤◌, ◌+◌, [], ◌++◌, IfOk, IsTrue, OnOk, OnErr, replicate};
+ghost use Rattle.std.specs.Prelude.{◌≡◌, ◌<◌, ◌≤◌, ◌+◌, ◌^◌, [], ◌∷◌, ◌++◌, IfOk, IfSome, IsTrue, OnOk, OnErr, MatchOption, Some, drop, length, replicate, slice_get};
 ghost use Rattle.std.specs.Vec.{vec_len, vec_capacity};
-ghost use Rattle.flat_walk.specs.Kept.{lists_of, all_lists, bare, AreSingle};
-ghost use Rattle.flat_walk.specs.Tables.{IsKept};
+ghost use Rattle.half_grid.specs.Trapezoids.{IsShot};
+ghost use Rattle.layout_model.specs.ShapeLists.{shape_in};
+ghost use Rattle.flat_walk.specs.Hands.{first_count};
+ghost use Rattle.flat_walk.specs.Kept.{Entry, alone, bare, bare_ones};
+ghost use Rattle.flat_walk.specs.Entries.{own_frame, own_pieces, IsOwnShape};
+ghost use Rattle.flat_walk.specs.PieceLists.{listed, upright, AreShots};
+ghost use Rattle.flat_walk.specs.Stores.{entry_in};
 
-use crate::kept_pieces::Piece;
+use crate::piece_lists::PieceList;
+use crate::stores::{EntryRef, PieceStore};
 use geo_stream::NoMemory;
-use half_grid::Trap;
+use half_grid::{Frame, Line, Trap};
+use layout_model::{ShapeRef, Shapes};
 use std::alloc::Global;
 use std::marker::Model;
 
-// Most shapes are rectangles, of one piece, which takes no memory but its own 24 bytes.
-#[derive(Drop)]
-enum Stored {
-    One([Piece; 1]),
-    More(Vec<Piece>),
-    // No pieces, of a shape and of so many more after it.
-    Without(usize),
-}
-
-/// The pieces of a shape, or any number of shapes without pieces, in 32 bytes: a layout may have millions of shapes, and
-/// billions that are copies of others and have no pieces. Contracts see the pieces of the first shape, and how many shapes
+/// The pieces of a cell's shapes, entry by entry. A layout may have millions of shapes, and billions that are copies of others
+/// and have no pieces. An entry takes 4 bytes where it is that of a rectangle, whose one piece is had from the shape itself,
+/// and 16 and what its pieces take where it isn't. Contracts see the entries: the pieces of a shape, and how many shapes
 /// without pieces come after it.
 #[derive(Drop)]
-pub(crate) struct Pieces {
-    stored: Stored,
+pub(crate) struct EntryTable<'t> {
+    shapes: &'t Shapes,
+    store: PieceStore,
+    // For each entry 0, where it is the rectangle that the shape of the same number is, or 1 more than its number in the store.
+    codes: Vec<u32>,
 }
 
-impl Model for Pieces {
-    ghost use Rattle.flat_walk.specs.Tables.{IsKept};
-    ghost use Rattle.flat_walk.specs.Kept.{Entry, entry_of};
+impl<'t> Model for EntryTable<'t> {
+    ghost use Rattle.std.specs.Prelude.{List};
+    ghost use Rattle.flat_walk.specs.Kept.{Entry};
+    ghost use Rattle.flat_walk.specs.Entries.{entries_from, AreCoded};
 
-    ghost Value = { Entry };
+    ghost Value = { List Entry };
 
-    ghost view = { λ pieces. entry_of pieces.stored };
+    ghost view = { λ table. entries_from table.shapes.now table.store 0 table.codes.items };
 
-    ghost invariant = { λ pieces. IsKept (entry_of pieces.stored).pieces };
+    ghost invariant = { λ table. AreCoded table.shapes.now table.store 0 table.codes.items };
 }
 
-impl Pieces {
-    /// The pieces of a shape.
-    pub(crate) fn of(alloc: Global, traps: &[Trap]) -> Result<Pieces, NoMemory>
-        ensures value { IfOk result (λ entry. entry.pieces ≡ traps.now) }
-        ensures alone { IfOk result (λ entry. entry.more ≡ 0) }
-        ensures kept { IfOk result (λ entry. IsKept entry.pieces) }
-    {
-        are_kept(traps);
-        if traps.is_empty() {
-            return Ok(Pieces::without(0));
-        }
-        if traps.len() == 1 {
-            let stored = Stored::One([Piece::of(alloc, &traps[0])?]);
-            return Ok(Pieces { stored });
-        }
-        let stored = Stored::More(several(alloc, traps)?);
-        Ok(Pieces { stored })
-    }
+// The greatest number of 32 bits.
+const GREATEST: usize = (1 << 32) - 1;
 
-    /// No pieces, of a shape and of so many more after it.
-    pub(crate) fn without(more: usize) -> Pieces
-        ensures value { result.pieces ≡ [] }
-        ensures more { result.more ≡ more }
-        ensures kept { IsKept result.pieces }
-    {
-        are_kept(&[]);
-        let stored = Stored::Without(more);
-        Pieces { stored }
-    }
-
-    /// The pieces of the first shape.
-    pub(crate) fn as_slice(&self) -> &[Piece]
-        ensures value { result.now ≡ self.now.pieces }
-        ensures kept { IsKept result.now }
-    {
-        match &self.stored {
-            Stored::One(traps) => traps.as_slice(),
-            Stored::More(traps) => traps.as_slice(),
-            Stored::Without(_) => &[],
-        }
-    }
-
-    /// How many shapes without pieces come after the first.
-    pub(crate) fn more(&self) -> usize
-        ensures { result ≡ self.now.more }
-    {
-        match &self.stored {
-            Stored::One(_) => 0,
-            Stored::More(_) => 0,
-            Stored::Without(more) => *more,
-        }
-    }
-}
-
-// The pieces, in a list.
-fn several(alloc: Global, traps: &[Trap]) -> Result<Vec<Piece>, NoMemory>
-    ensures { IfOk result (λ pieces. pieces.items ≡ traps.now) }
+// The box of two opposite corners, if the shape has four corners.
+#[inline(always)]
+fn own_frame(shape: ShapeRef<'_>) -> Option<Frame>
+    ensures { result ≡ own_frame (shape_in shape.entry).points }
 {
-    let mut pieces = Vec::with_capacity(alloc, traps.len())?;
-    for trap in traps {
-        pieces.push(Piece::of(alloc, trap)?)?;
-    }
-    Ok(pieces)
-}
-
-// Trapezoids in memory are shots, fewer than 2^64. It costs nothing.
-fn are_kept(traps: &[Trap])
-    ensures { IsKept traps.now }
-{
-    for trap in traps {
-        let _bottom = trap.y0();
+    match shape.outline().as_slice() {
+        Some([a, _, c, _, _]) => Some(Frame {
+            x0: a.x.min(c.x),
+            y0: a.y.min(c.y),
+            x1: a.x.max(c.x),
+            y1: a.y.max(c.y),
+        }),
+        _ => None,
     }
 }
 
-// So many entries more, each of one shape without pieces. There is memory for them.
-fn push_each(entries: &mut Vec<Pieces>, count: usize)
-    requires { vec_len entries.old + count ≤ vec_capacity entries.old }
-    ensures { entries.new.items ≡ entries.old.items ++ replicate count bare }
+// Whether the trapezoid is the box, filled.
+fn is_upright(trap: &Trap, frame: &Frame) -> bool
+    ensures is { IsTrue result → trap.now ≡ upright frame.now }
+    ensures shot { IsShot trap.now }
 {
-    for _number in 0..count {
-        entries.push_reserved(Pieces::without(0));
-    }
-}
-
-/// Entries in order, of which each of the first `single` stands for one shape.
-#[derive(Clone, Copy)]
-pub(crate) struct Entries<'t> {
-    pub(crate) list: &'t [Pieces],
-    pub(crate) single: usize,
-}
-
-// Whether an entry stands for one shape, and the entries before it, which are `count`, do all.
-fn is_single(entry: &Pieces, single: usize, count: usize) -> bool
-    ensures { IsTrue result → (entry.now.more ≡ 0) × (single ≡ count) }
-{
-    if entry.more() > 0 {
+    if trap.y0() != frame.y0 || trap.y1() != frame.y1 {
         return false;
     }
-    single == count
+    match (trap.left(), trap.right()) {
+        (Line::Upright(left), Line::Upright(right)) => left == frame.x0 && right == frame.x1,
+        _ => false,
+    }
 }
 
-/// The pieces of a cell's shapes. Contracts see the list of each shape.
-#[derive(Drop)]
-pub(crate) struct CellLists {
-    entries: Vec<Pieces>,
-    // Each of so many of the first entries stands for one shape.
-    single: usize,
+// Whether the pieces are the rectangle that the shape of this number is.
+fn is_own(shapes: &Shapes, number: usize, traps: &[Trap]) -> bool
+    ensures shape { IsTrue result → IsOwnShape shapes.now number }
+    ensures pieces { IsTrue result → own_pieces (slice_get shapes.now number) ≡ traps.now }
+{
+    if traps.len() != 1 || number >= shapes.len() {
+        return false;
+    }
+    match own_frame(shapes.get(number)) {
+        Some(frame) => is_upright(&traps[0], &frame),
+        None => false,
+    }
 }
 
-impl Model for CellLists {
-    ghost use Rattle.std.specs.Prelude.{List};
-    ghost use Rattle.half_grid.specs.Trapezoids.{Trapezoid};
-    ghost use Rattle.flat_walk.specs.Kept.{all_lists, AreSingle};
-
-    ghost Value = { List (List Trapezoid) };
-
-    ghost view = { λ lists. all_lists lists.entries.items };
-
-    ghost invariant = { λ lists. AreSingle lists.single lists.entries.items };
+// The one piece of the shape of this number.
+#[inline(always)]
+fn own(shapes: &Shapes, number: usize) -> PieceList<'_>
+    requires { IsOwnShape shapes.now number }
+    ensures list { listed result ≡ own_pieces (slice_get shapes.now number) }
+    ensures shots { AreShots result }
+{
+    match own_frame(shapes.get(number)) {
+        Some(frame) => PieceList::Only(frame),
+        None => unreachable!(),
+    }
 }
 
-impl CellLists {
-    /// No lists yet.
-    pub(crate) fn none(alloc: Global) -> CellLists
+// The code of the entry that was put last into the store. It has 32 bits: 4,294,967,296 entries, which take 64 GB at least,
+// count as want of memory.
+fn code_of(store: &PieceStore) -> Result<u32, NoMemory>
+    ensures { IfOk result (λ code. code ≡ length store.now) }
+{
+    let code = store.len();
+    if code > GREATEST {
+        return Err(NoMemory);
+    }
+    Ok(code as u32)
+}
+
+// Puts the code at the end so many times. There is memory for it.
+fn put_each(codes: &mut Vec<u32>, code: u32, count: usize)
+    requires { vec_len codes.old + count ≤ vec_capacity codes.old }
+    ensures { codes.new.items ≡ codes.old.items ++ replicate count code }
+{
+    for _number in 0..count {
+        codes.push_reserved(code);
+    }
+}
+
+impl<'t> EntryTable<'t> {
+    /// No entries yet, of a cell with these shapes. It takes no memory.
+    pub(crate) fn new(alloc: Global, shapes: &'t Shapes) -> EntryTable<'t>
         ensures { result ≡ [] }
     {
-        CellLists {
-            entries: Vec::new(alloc),
-            single: 0,
+        EntryTable {
+            shapes,
+            store: PieceStore::new(alloc),
+            codes: Vec::new(alloc),
         }
+    }
+
+    /// How many entries there are.
+    pub(crate) fn len(&self) -> usize
+        ensures { result ≡ length self.now }
+    {
+        self.codes.len()
     }
 
     /// Takes memory for so many more entries.
     pub(crate) fn reserve(&mut self, count: usize) -> Result<(), NoMemory>
         ensures { self.new ≡ self.old }
     {
-        self.entries.reserve(count)?;
+        self.codes.reserve(count)?;
         Ok(())
     }
 
-    /// The lists of one more entry at the end. Refused, all is as before.
-    pub(crate) fn push(&mut self, entry: Pieces) -> Result<(), NoMemory>
-        ensures ok { OnOk result (self.new ≡ self.old ++ lists_of entry) }
+    /// Puts the pieces of a shape at the end. Refused, all is as before.
+    pub(crate) fn push(&mut self, alloc: Global, traps: &[Trap]) -> Result<(), NoMemory>
+        ensures ok { OnOk result (self.new ≡ self.old ++ alone traps.now ∷ []) }
         ensures err { OnErr result (self.new ≡ self.old) }
     {
-        let alone = is_single(&entry, self.single, self.entries.len());
-        self.entries.push(entry)?;
-        if alone {
-            self.single = self.entries.len();
-        }
-        Ok(())
-    }
-
-    /// So many shapes more without pieces, each by an entry of its own. Refused, all is as before.
-    pub(crate) fn push_each(&mut self, count: usize) -> Result<(), NoMemory>
-        ensures ok { OnOk result (self.new ≡ self.old ++ replicate count []) }
-        ensures err { OnErr result (self.new ≡ self.old) }
-    {
-        self.entries.reserve(count)?;
-        if self.single == self.entries.len() {
-            push_each(&mut self.entries, count);
-            self.single = self.entries.len();
+        if is_own(self.shapes, self.codes.len(), traps) {
+            self.codes.push(0)?;
             return Ok(());
         }
-        push_each(&mut self.entries, count);
+        self.store.push(alloc, traps)?;
+        let code = code_of(&self.store)?;
+        self.codes.push(code)?;
         Ok(())
     }
 
-    /// All entries.
-    pub(crate) fn entries(&self) -> Entries
-        ensures lists { all_lists result.list.now ≡ self.now }
-        ensures single { AreSingle result.single result.list.now }
+    /// Puts a shape without pieces at the end, and so many more after it. Refused, all is as before.
+    pub(crate) fn push_without(&mut self, more: usize) -> Result<(), NoMemory>
+        ensures ok { OnOk result (self.new ≡ self.old ++ bare_ones more ∷ []) }
+        ensures err { OnErr result (self.new ≡ self.old) }
     {
-        Entries {
-            list: self.entries.as_slice(),
-            single: self.single,
+        self.store.push_without(more)?;
+        let code = code_of(&self.store)?;
+        self.codes.push(code)?;
+        Ok(())
+    }
+
+    /// Puts so many shapes without pieces at the end, each by an entry of its own. Refused, all is as before.
+    pub(crate) fn push_each(&mut self, count: usize) -> Result<(), NoMemory>
+        ensures ok { OnOk result (self.new ≡ self.old ++ replicate count bare) }
+        ensures err { OnErr result (self.new ≡ self.old) }
+    {
+        self.store.push_without(0)?;
+        let code = code_of(&self.store)?;
+        self.codes.reserve(count)?;
+        put_each(&mut self.codes, code, count);
+        Ok(())
+    }
+
+    /// An entry, if there are so many.
+    #[inline(always)]
+    pub(crate) fn get(&self, number: usize) -> Option<EntryRef<'_>>
+        ensures there { MatchOption result (length self.now ≤ number) (λ entry. slice_get self.now number ≡ Some (entry_in entry)) }
+        ensures shots { IfSome result (λ entry. AreShots entry.pieces) }
+    {
+        let code = *self.codes.get(number)?;
+        if code == 0 {
+            return Some(EntryRef {
+                pieces: own(self.shapes, number),
+                more: 0,
+            });
+        }
+        Some(self.store.get(code as usize - 1))
+    }
+
+    /// How many shapes without pieces come after the first shape of an entry, or none where there is no entry.
+    pub(crate) fn more(&self, number: usize) -> usize
+        ensures { first_count (drop number self.now) ≡ result + 1 }
+    {
+        match self.codes.get(number) {
+            None => 0,
+            Some(0) => 0,
+            Some(code) => self.store.get(*code as usize - 1).more,
+        }
+    }
+
+    /// How many pieces an entry has, or none where there is no entry.
+    pub(crate) fn count(&self, number: usize) -> usize
+        ensures { (entry : Entry) → slice_get self.now number ≡ Some entry → result ≡ length entry.pieces }
+    {
+        match self.codes.get(number) {
+            None => 0,
+            Some(0) => 1,
+            Some(code) => self.store.get(*code as usize - 1).pieces.len(),
         }
     }
 }

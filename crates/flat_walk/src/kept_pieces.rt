@@ -6,9 +6,7 @@ ghost use Rattle.half_grid.specs.Trapezoids.{IsShot};
 ghost use Rattle.layout_model.specs.Kept.{IsShort};
 ghost use Rattle.flat_walk.specs.ShortPieces.{kind_of, line_from, trapezoid_from, IsShortTrapezoid};
 
-use geo_stream::NoMemory;
 use half_grid::{Line, Point, Quad, Trap, x_at};
-use std::alloc::Global;
 use std::marker::Model;
 
 // The least number that takes more than 32 bits.
@@ -22,9 +20,10 @@ enum Kind {
     Falling,
 }
 
-// A piece whose rows and lines have numbers of 32 bits each, in half units. Kinds stand last, so that it takes 20 bytes.
-#[derive(Clone, Copy)]
-struct ShortPiece {
+/// A piece whose rows and lines have numbers of 32 bits each, in half units, in 20 bytes, where a `Trap` takes 48: nearly all
+/// pieces are so. Kinds stand last, for its size. Contracts see the trapezoid.
+#[derive(Drop)]
+pub(crate) struct ShortPiece {
     y0: i32,
     y1: i32,
     left: i32,
@@ -33,29 +32,15 @@ struct ShortPiece {
     right_kind: Kind,
 }
 
-// Nearly all pieces are short. What is seldom is boxed, so that a kept piece stays small.
-#[derive(Drop)]
-enum PieceForm {
-    Short(ShortPiece),
-    Wide(Box<Trap>),
-}
-
-/// A piece as a shape keeps it, in 24 bytes, where a `Trap` takes 48. It takes no more memory than that where the numbers of
-/// its rows and lines are of 32 bits, and each other piece is boxed. Contracts see the trapezoid.
-#[derive(Drop)]
-pub(crate) struct Piece {
-    form: PieceForm,
-}
-
-impl Model for Piece {
+impl Model for ShortPiece {
     ghost use Rattle.half_grid.specs.Trapezoids.{Trapezoid, IsShot};
-    ghost use Rattle.flat_walk.specs.ShortPieces.{piece_from};
+    ghost use Rattle.flat_walk.specs.ShortPieces.{trapezoid_from};
 
     ghost Value = { Trapezoid };
 
-    ghost view = { λ piece. piece_from piece.form };
+    ghost view = { trapezoid_from };
 
-    ghost invariant = { λ piece. IsShot (piece_from piece.form) };
+    ghost invariant = { λ few. IsShot (trapezoid_from few) };
 }
 
 // A number in 32 bits, if they hold it.
@@ -107,11 +92,10 @@ fn line_from(kind: Kind, number: i32) -> Line
 }
 
 impl ShortPiece {
-    // The piece in 20 bytes, if they hold it.
-    fn of(trap: &Trap) -> Option<ShortPiece>
-        ensures same { IfSome result (λ few. trapezoid_from few ≡ trap.now) }
+    /// The piece in 20 bytes, if they hold it.
+    pub(crate) fn of(trap: &Trap) -> Option<ShortPiece>
+        ensures same { IfSome result (λ piece. piece ≡ trap.now) }
         ensures few { IsShortTrapezoid trap.now → IsSome result }
-        ensures shot { IsShot trap.now }
     {
         let y0 = short(trap.y0())?;
         let y1 = short(trap.y1())?;
@@ -127,11 +111,10 @@ impl ShortPiece {
         })
     }
 
-    // Its corners, from the lower left one up and round.
+    /// Its corners, from the lower left one up and round.
     #[inline(always)]
-    fn quad(&self) -> Quad
-        requires { IsShot (trapezoid_from self.now) }
-        ensures { result ≡ corners_of (trapezoid_from self.now) }
+    pub(crate) fn quad(&self) -> Quad
+        ensures { result ≡ corners_of self.now }
     {
         let left = line_from(self.left_kind, self.left);
         let right = line_from(self.right_kind, self.right);
@@ -154,31 +137,5 @@ impl ShortPiece {
                 y: bottom,
             },
         )
-    }
-}
-
-impl Piece {
-    /// Keeps a piece. It takes no memory of its own where its numbers are of 32 bits.
-    pub(crate) fn of(alloc: Global, trap: &Trap) -> Result<Piece, NoMemory>
-        ensures same { IfOk result (λ piece. piece ≡ trap.now) }
-        ensures few { IsShortTrapezoid trap.now → IsOk result }
-    {
-        if let Some(short) = ShortPiece::of(trap) {
-            let form = PieceForm::Short(short);
-            return Ok(Piece { form });
-        }
-        let form = PieceForm::Wide(Box::new(alloc, *trap)?);
-        Ok(Piece { form })
-    }
-
-    /// Its corners, from the lower left one up and round.
-    #[inline(always)]
-    pub(crate) fn quad(&self) -> Quad
-        ensures { result ≡ corners_of self.now }
-    {
-        match &self.form {
-            PieceForm::Short(short) => short.quad(),
-            PieceForm::Wide(trap) => Quad::of(trap),
-        }
     }
 }

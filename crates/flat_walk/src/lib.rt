@@ -6,14 +6,18 @@
 
 mod blocks;
 mod boxes;
+mod cell_lists;
 mod entries;
+mod entry_lists;
 mod kept_pieces;
 mod levels;
 mod owned;
+mod piece_lists;
 mod rises;
 mod rows;
 mod scenes;
 mod short_boxes;
+mod stores;
 mod tables;
 #[cfg(test)]
 mod tests;

@@ -10,15 +10,17 @@ ghost use Rattle.flat_walk.specs.Rests.{IsMarkedQuad, Skips, Gives, places_rest,
 ghost use Rattle.half_grid.specs.Trapezoids.{Trapezoid};
 ghost use Rattle.flat_walk.specs.Blocks.{boxes_in};
 ghost use Rattle.flat_walk.specs.Boxes.{AreBoxed};
+ghost use Rattle.flat_walk.specs.EntryLists.{entries_in};
 ghost use Rattle.flat_walk.specs.Kept.{all_lists, AreSingle};
+ghost use Rattle.flat_walk.specs.PieceLists.{listed, AreShots};
 ghost use Rattle.flat_walk.specs.Rises.{HasNoPlaceBefore};
 ghost use Rattle.flat_walk.specs.Hands.{hand_list, IsHand, shapes_left, cursor_list, IsCursor, first_count, IsFirst, IsNext, steps_left, own_rest, IsOwn, IsLongRun};
 
 use crate::blocks::{BoxList, next_in};
 use crate::boxes::box_of_pieces;
-use crate::entries::{Entries, Pieces};
-use crate::kept_pieces::Piece;
+use crate::entry_lists::{Entries, EntryList};
 use crate::levels::rows_of;
+use crate::piece_lists::PieceList;
 use crate::rises::places_in;
 use crate::rows::{Rows, has_row};
 use crate::turning::{image, is_plain, moved};
@@ -33,7 +35,7 @@ const ORIGIN: Point = Point { x: 0, y: 0 };
 // Pieces of a shape at one of its offsets, and how they are enlarged, mirrored, turned and moved.
 #[derive(Clone, Copy)]
 pub(crate) struct Hand<'t> {
-    pieces: &'t [Piece],
+    pieces: PieceList<'t>,
     orient: Orient,
     at: Point,
 }
@@ -45,7 +47,7 @@ pub(crate) struct Cursor<'t> {
     // All of the cell's shapes.
     shapes: &'t Shapes,
     // The entries of those that are left. Each shape whose number is below `single` has an entry of its own.
-    lists: &'t [Pieces],
+    lists: EntryList<'t>,
     single: usize,
     boxes: Option<&'t BoxList>,
     // The number of the first shape that is left.
@@ -76,14 +78,13 @@ fn moved_quad(at: Point, quad: Quad) -> Quad
     Quad::new(a, b, c, d)
 }
 
-// The image of a piece's corners. They run clockwise.
-fn placed(piece: &Piece, orient: Orient, at: Point) -> Quad
+// The image of corners. They run clockwise.
+fn placed(quad: Quad, orient: Orient, at: Point) -> Quad
     requires orient { IsOrient orient }
     requires at { IsWithin (2 ^ 60) at }
-    requires quad { IsQuad (quad_image orient at (corners_of piece.now)) }
-    ensures { result ≡ quad_image orient at (corners_of piece.now) }
+    requires quad { IsQuad (quad_image orient at quad) }
+    ensures { result ≡ quad_image orient at quad }
 {
-    let quad = piece.quad();
     if is_plain(orient) {
         return moved_quad(at, quad);
     }
@@ -106,7 +107,7 @@ impl<'t> Hand<'t> {
         ensures list { hand_list result ≡ [] }
     {
         Hand {
-            pieces: &[],
+            pieces: PieceList::none(),
             orient,
             at,
         }
@@ -119,9 +120,8 @@ impl<'t> Hand<'t> {
         ensures hand { IsHand self.new }
         ensures gives { Gives window (map Some (hand_list self.old)) result (map Some (hand_list self.new)) }
     {
-        while let Some((piece, pieces)) = self.pieces.split_first() {
-            self.pieces = pieces;
-            let quad = placed(piece, self.orient, self.at);
+        while let Some(corners) = self.pieces.next() {
+            let quad = placed(corners, self.orient, self.at);
             if has_row(&quad, window) {
                 return Some(quad);
             }
@@ -132,14 +132,15 @@ impl<'t> Hand<'t> {
 
 impl<'t> Cursor<'t> {
     // The pieces of the first shape at the current offset, where it is on the pair and has that offset.
-    fn here(&self, shape: ShapeRef<'t>, list: &'t Pieces, pair: Pair) -> Option<Hand<'t>>
+    fn here(&self, shape: ShapeRef<'t>, pieces: PieceList<'t>, pair: Pair) -> Option<Hand<'t>>
         requires orient { IsOrient self.now.orient }
         requires near { IsWithin (2 ^ 54) self.now.at }
         requires grid { IsShapeOnGrid (shape_in shape) }
+        requires shots { AreShots pieces }
         ensures hand { IfSome result IsHand }
-        ensures list { MatchOption result (places_rest pair (shape_in shape.entry) list.now.pieces self.now.place ≡ [])
-            (λ hand. map (quad_image self.now.orient self.now.at) (places_rest pair (shape_in shape.entry) list.now.pieces self.now.place)
-            ≡ hand_list hand ++ map (quad_image self.now.orient self.now.at) (places_rest pair (shape_in shape.entry) list.now.pieces (self.now.place + 1))) }
+        ensures list { MatchOption result (places_rest pair (shape_in shape.entry) (listed pieces.entry) self.now.place ≡ [])
+            (λ hand. map (quad_image self.now.orient self.now.at) (places_rest pair (shape_in shape.entry) (listed pieces.entry) self.now.place)
+            ≡ hand_list hand ++ map (quad_image self.now.orient self.now.at) (places_rest pair (shape_in shape.entry) (listed pieces.entry) (self.now.place + 1))) }
         ensures inside { OnSome result (self.now.place < length (shape_in shape.entry).offsets) }
     {
         if shape.pair() != pair {
@@ -150,7 +151,7 @@ impl<'t> Cursor<'t> {
         }
         let by = shape.nth(self.place);
         Some(Hand {
-            pieces: list.as_slice(),
+            pieces,
             orient: self.orient,
             at: image(self.orient, self.at, by),
         })
@@ -162,15 +163,12 @@ impl<'t> Cursor<'t> {
         requires cursor { IsCursor self.now }
         requires few { self.now.number + 1 < 2 ^ 64 }
         requires inside { self.now.number < length self.now.shapes.now }
-        ensures { result ≡ min (self.now.number + first_count self.now.lists.now) (length self.now.shapes.now) }
+        ensures { result ≡ min (self.now.number + first_count (entries_in self.now.lists)) (length self.now.shapes.now) }
     {
         if self.number < self.single {
             return self.number + 1;
         }
-        let Some((entry, _entries)) = self.lists.split_first() else {
-            return self.number + 1;
-        };
-        let next = (self.number + 1).saturating_add(entry.more());
+        let next = (self.number + 1).saturating_add(self.lists.more());
         next.min(self.shapes.len())
     }
 
@@ -183,7 +181,7 @@ impl<'t> Cursor<'t> {
         ensures next { IsNext self.old self.new }
     {
         let next = self.after_first();
-        self.lists = rest(self.lists, 1);
+        self.lists = self.lists.after(1);
         self.number = next;
         self.place = 0;
     }
@@ -195,7 +193,7 @@ impl<'t> Cursor<'t> {
         requires inside { self.old.place < length (shape_in shape).offsets }
         ensures cursor { IsCursor self.new }
         ensures list { (pair : APair) → cursor_list pair self.new
-            ≡ placed_rest self.old.orient self.old.at pair (shapes_left self.old) (all_lists self.old.lists.now) (self.old.place + 1) }
+            ≡ placed_rest self.old.orient self.old.at pair (shapes_left self.old) (all_lists (entries_in self.old.lists)) (self.old.place + 1) }
         ensures steps { steps_left self.new < steps_left self.old }
     {
         let count = shape.count();
@@ -218,11 +216,11 @@ impl<'t> Cursor<'t> {
         ensures steps { steps_left self.new < steps_left self.old }
     {
         let none = Hand::empty(self.orient, self.at);
-        let Some((list, _lists)) = self.lists.split_first() else {
+        let Some(entry) = self.lists.first() else {
             self.skip();
             return none;
         };
-        let Some(hand) = self.here(shape, list, pair) else {
+        let Some(hand) = self.here(shape, entry.pieces, pair) else {
             self.skip();
             return none;
         };
@@ -269,7 +267,7 @@ impl<'t> Cursor<'t> {
             return;
         }
         let count = next - self.number;
-        self.lists = rest(self.lists, count);
+        self.lists = self.lists.after(count);
         self.number = next;
         self.place = 0;
     }
@@ -333,13 +331,13 @@ impl<'t> Cursor<'t> {
         if count <= self.place {
             return None;
         }
-        let Some((list, _lists)) = self.lists.split_first() else {
+        let Some(entry) = self.lists.first() else {
             return None;
         };
-        let Some((first, others)) = list.as_slice().split_first() else {
+        let Some(around) = box_of_pieces(entry.pieces) else {
             return None;
         };
-        Some(rows_of(self.orient, box_of_pieces(first, others)))
+        Some(rows_of(self.orient, around))
     }
 
     // Passes by the places of the first shape, from the current one on, at which it has nothing in the window.
@@ -358,17 +356,6 @@ impl<'t> Cursor<'t> {
     }
 }
 
-// All but so many, or none where there are fewer.
-fn rest<T>(items: &[T], count: usize) -> &[T]
-    ensures { result.now ≡ drop count items.now }
-{
-    if count <= items.len() {
-        &items[count..]
-    } else {
-        &[]
-    }
-}
-
 impl<'t> Own<'t> {
     /// All that a cell's own shapes show, where it is placed so.
     pub(crate) fn of(
@@ -381,10 +368,10 @@ impl<'t> Own<'t> {
         requires orient { IsOrient orient }
         requires near { IsWithin (2 ^ 54) at }
         requires grid { All IsShapeOnGrid shapes.now }
-        requires single { AreSingle entries.single entries.list.now }
-        requires boxed { AreBoxed shapes.now (all_lists entries.list.now) (boxes_in boxes) }
+        requires single { AreSingle entries.single (entries_in entries.list) }
+        requires boxed { AreBoxed shapes.now (all_lists (entries_in entries.list)) (boxes_in boxes) }
         ensures own { IsOwn result }
-        ensures list { (pair : APair) → own_rest pair result ≡ map Some (placed_rest orient at pair shapes.now (all_lists entries.entry.list.now) 0) }
+        ensures list { (pair : APair) → own_rest pair result ≡ map Some (placed_rest orient at pair shapes.now (all_lists (entries_in entries.entry.list)) 0) }
     {
         Own {
             hand: Hand::empty(orient, at),
@@ -410,7 +397,7 @@ impl<'t> Own<'t> {
         ensures list { (pair : APair) → own_rest pair result ≡ [] }
     {
         let none = Entries {
-            list: &[],
+            list: EntryList::none(),
             single: 0,
         };
         Own::of(shapes, none, None, orient, at)

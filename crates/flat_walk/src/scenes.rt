@@ -11,7 +11,7 @@ use layout_model::Pair;
 #[derive(Clone, Copy)]
 pub(crate) struct Scene<'t> {
     pub(crate) tree: &'t Tree,
-    pub(crate) parts: &'t Parts,
+    pub(crate) parts: &'t Parts<'t>,
     pub(crate) boxes: Option<&'t Boxes>,
     pub(crate) pair: Pair,
     pub(crate) window: Window,

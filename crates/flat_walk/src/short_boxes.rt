@@ -1,8 +1,8 @@
 //! Boxes in 16 bytes.
-ghost use Rattle.std.specs.Prelude.{◌≡◌, ◌^◌, ◌≤ℤ◌};
+ghost use Rattle.std.specs.Prelude.{◌≡◌, ◌^◌, ◌≤ℤ◌, IfSome, false};
 ghost use Rattle.cell_tree.specs.Boxes.{IsUpTo, IsBoxUpTo};
 ghost use Rattle.layout_model.specs.Kept.{IsShort};
-ghost use Rattle.flat_walk.specs.Blocks.{IsRound};
+ghost use Rattle.flat_walk.specs.Blocks.{IsRound, IsBeside};
 ghost use Rattle.flat_walk.specs.ShortBoxes.{side_of, IsKeptSide, IsKeptBox};
 
 use half_grid::Frame;
@@ -92,6 +92,29 @@ fn high_side(at: i64) -> i32
     at as i32
 }
 
+/// Rows from one kept side up to another.
+#[derive(Clone, Copy)]
+pub(crate) struct KeptRows {
+    low: i32,
+    high: i32,
+}
+
+impl KeptRows {
+    /// Rows among which are those from `low` up to below `high`, if these are near enough to be kept.
+    pub(crate) fn round(low: i64, high: i64) -> Option<KeptRows>
+        ensures low { IfSome result (λ rows. side_of rows.low ≤ℤ low) }
+        ensures high { IfSome result (λ rows. high ≤ℤ side_of rows.high) }
+    {
+        if low < -FAR || FAR < low || high < -FAR || FAR < high {
+            return None;
+        }
+        Some(KeptRows {
+            low: low_side(low),
+            high: high_side(high),
+        })
+    }
+}
+
 impl ShortBox {
     /// One round a box: each side is at its place, or farther out where 32 bits don't hold that.
     pub(crate) fn round(around: Frame) -> ShortBox
@@ -106,6 +129,16 @@ impl ShortBox {
             x1: high_side(around.x1),
             y1: high_side(around.y1),
         }
+    }
+
+    /// Whether some of its rows may be among these. By one comparison, since nothing tells how the next box compares.
+    #[inline(always)]
+    pub(crate) fn meets(&self, rows: KeptRows) -> bool
+        ensures { result ≡ false → IsBeside rows self.now }
+    {
+        let above = self.y0 as i64 - rows.high as i64;
+        let below = rows.low as i64 - self.y1 as i64;
+        above.max(below) < 0
     }
 
     /// The box.

@@ -2,10 +2,12 @@
 ghost use Rattle.std.specs.Prelude.{◌≡◌, ◌<◌, IfOk, OnOk, OnErr, ◌∷◌, [], length, replicate};
 ghost use Rattle.std.specs.List.{sum_by};
 ghost use Rattle.cell_tree.specs.Cells.{shapes_at};
+ghost use Rattle.flat_walk.specs.EntryLists.{entries_in};
 ghost use Rattle.flat_walk.specs.Kept.{all_lists, AreSingle};
-ghost use Rattle.flat_walk.specs.Tables.{HaveNoLists, with_lists, AreKept, lists_at, count_within, piece_count};
+ghost use Rattle.flat_walk.specs.Tables.{HaveNoLists, with_lists, IsKept, AreKept, lists_at, piece_count};
 
-use crate::entries::{CellLists, Entries, Pieces};
+use crate::cell_lists::CellLists;
+use crate::entry_lists::{Entries, EntryList};
 use cell_tree::Tree;
 use geo_stream::NoMemory;
 use half_grid::Trap;
@@ -16,9 +18,9 @@ use std::marker::Model;
 /// The pieces of the shapes of a tree's cells. Contracts see a table that holds, by cell and by shape, a list of
 /// trapezoids. Many shapes without pieces that follow one another take as much memory as one shape.
 #[derive(Drop)]
-pub struct Parts {
+pub struct Parts<'t> {
     alloc: Global,
-    cells: Vec<CellLists>,
+    cells: Vec<CellLists<'t>>,
     // So many shapes without pieces may still have entries of their own.
     spare: usize,
 }
@@ -26,7 +28,7 @@ pub struct Parts {
 // So many shapes without pieces have entries of their own, so that the boxes of a cell's shapes go on after them.
 const SPARE: usize = 1 << 20;
 
-impl Model for Parts {
+impl<'t> Model for Parts<'t> {
     ghost use Rattle.std.specs.Prelude.{List};
     ghost use Rattle.half_grid.specs.Trapezoids.{Trapezoid};
     ghost use Rattle.flat_walk.specs.Tables.{AreKept};
@@ -46,31 +48,44 @@ pub(crate) fn shapes_of(cells: &[Cell], cell: usize) -> &Shapes
     &cells[cell].shapes
 }
 
-// No lists yet, of so many cells.
-fn nothing_yet(alloc: Global, count: usize) -> Result<Vec<CellLists>, NoMemory>
-    ensures { IfOk result (λ table. table.items ≡ replicate count []) }
+// No lists yet, of these cells.
+fn nothing_yet<'t>(alloc: Global, cells: &'t [Cell]) -> Result<Vec<CellLists<'t>>, NoMemory>
+    ensures { IfOk result (λ table. table.items ≡ replicate (length cells.now) []) }
 {
-    let mut table = Vec::with_capacity(alloc, count)?;
-    for _cell in 0..count {
-        table.push(CellLists::none(alloc))?;
+    let mut table = Vec::with_capacity(alloc, cells.len())?;
+    for cell in cells {
+        table.push(CellLists::none(alloc, &cell.shapes))?;
     }
     Ok(table)
 }
 
-impl Parts {
+// Trapezoids in memory are shots, fewer than 2^64. It costs nothing.
+fn are_kept(traps: &[Trap])
+    ensures { IsKept traps.now }
+{
+    for trap in traps {
+        let _bottom = trap.y0();
+    }
+}
+
+impl<'t> Parts<'t> {
     /// A table of the tree's cells that has no lists yet. The lists of a cell's shapes are then pushed in the order of the
     /// shapes. A cell for which none are pushed costs nothing for its shapes.
-    pub fn new(alloc: Global, tree: &Tree) -> Result<Parts, NoMemory>
+    pub fn new(alloc: Global, tree: &'t Tree) -> Result<Parts<'t>, NoMemory>
         ensures { IfOk result (HaveNoLists tree.now.layout.cells) }
     {
         Parts::with_spare(alloc, tree, SPARE)
     }
 
     // The same, where so many shapes without pieces may have entries of their own.
-    pub(crate) fn with_spare(alloc: Global, tree: &Tree, spare: usize) -> Result<Parts, NoMemory>
+    pub(crate) fn with_spare(
+        alloc: Global,
+        tree: &'t Tree,
+        spare: usize,
+    ) -> Result<Parts<'t>, NoMemory>
         ensures { IfOk result (HaveNoLists tree.now.layout.cells) }
     {
-        let cells = nothing_yet(alloc, tree.cells().len())?;
+        let cells = nothing_yet(alloc, tree.cells())?;
         Ok(Parts {
             alloc,
             cells,
@@ -92,8 +107,8 @@ impl Parts {
         ensures ok { OnOk result (self.new ≡ with_lists self.old cell (traps.now ∷ [])) }
         ensures err { OnErr result (self.new ≡ self.old) }
     {
-        let pieces = Pieces::of(self.alloc, traps)?;
-        self.cells[cell].push(pieces)
+        are_kept(traps);
+        self.cells[cell].push(self.alloc, traps)
     }
 
     /// So many next shapes of the cell have no pieces. They take as much memory as others while there are no more than
@@ -110,8 +125,7 @@ impl Parts {
             self.spare -= count;
             return self.cells[cell].push_each(count);
         }
-        let pieces = Pieces::without(count - 1);
-        self.cells[cell].push(pieces)
+        self.cells[cell].push_without(count - 1)
     }
 
     /// How many pieces there are, or 2^64 - 1 where there are more. It looks at each shape that has some once.
@@ -122,14 +136,14 @@ impl Parts {
     }
 
     // The pieces of the shapes of a cell.
-    pub(crate) fn lists(&self, cell: usize) -> Entries
-        ensures lists { all_lists result.list.now ≡ lists_at self.now cell }
-        ensures single { AreSingle result.single result.list.now }
+    pub(crate) fn lists(&self, cell: usize) -> Entries<'_>
+        ensures lists { all_lists (entries_in result.list) ≡ lists_at self.now cell }
+        ensures single { AreSingle result.single (entries_in result.list) }
     {
         match self.cells.get(cell) {
             Some(lists) => lists.entries(),
             None => Entries {
-                list: &[],
+                list: EntryList::none(),
                 single: 0,
             },
         }
@@ -143,24 +157,13 @@ impl Parts {
     }
 }
 
-// How many pieces there are in these entries, or 2^64 - 1 where there are more.
-fn pieces_of(entries: &[Pieces]) -> u64
-    ensures { result ≡ count_within (sum_by length (all_lists entries.now)) }
-{
-    let mut count = 0u64;
-    for pieces in entries {
-        count = count.saturating_add(pieces.as_slice().len() as u64);
-    }
-    count
-}
-
 // How many pieces the shapes of all cells have, or 2^64 - 1 where they have more.
-fn pieces_in(table: &[CellLists]) -> u64
+fn pieces_in(table: &[CellLists<'_>]) -> u64
     ensures { result ≡ piece_count table.now }
 {
     let mut count = 0u64;
     for lists in table {
-        count = count.saturating_add(pieces_of(lists.entries().list));
+        count = count.saturating_add(lists.piece_count());
     }
     count
 }

@@ -10,7 +10,7 @@ ghost use Rattle.layout_model.specs.declared.pair.Pair.{Pair as APair};
 ghost use Rattle.layout_model.specs.declared.shapes.Shape.{Shape as AShape};
 ghost use Rattle.flat_walk.specs.Tables.{AreCut, with_lists};
 
-use crate::entries::Pieces;
+use crate::kept_pieces::ShortPiece;
 use crate::{Boxes, Parts, Walk};
 use cell_tree::{Tree, resolve};
 use geo_stream::{List, gather};
@@ -211,14 +211,14 @@ fn piece(rt: &impl Abort) -> Trap
     Trap::new(0, 8, Line::Rising(0), Line::Upright(8)).expect(rt, "a trapezoid")
 }
 
-fn push(rt: &impl Abort, parts: &mut Parts, piece: &Trap)
+fn push(rt: &impl Abort, parts: &mut Parts<'_>, piece: &Trap)
     requires { 0 < length parts.old }
     ensures { parts.new ≡ with_lists parts.old 0 ((piece.now ∷ []) ∷ []) }
 {
     assert!(rt; parts.push(0, &[*piece]).is_ok(), "memory");
 }
 
-fn push_none(rt: &impl Abort, parts: &mut Parts, count: usize)
+fn push_none(rt: &impl Abort, parts: &mut Parts<'_>, count: usize)
     requires { 0 < length parts.old }
     ensures { parts.new ≡ with_lists parts.old 0 (replicate count []) }
 {
@@ -227,7 +227,7 @@ fn push_none(rt: &impl Abort, parts: &mut Parts, count: usize)
 }
 
 // The piece of the triangle.
-fn cut(rt: &impl Abort, alloc: Global, tree: &Tree) -> Parts
+fn cut<'t>(rt: &impl Abort, alloc: Global, tree: &'t Tree) -> Parts<'t>
     requires { (shape : AShape) × (map (λ cell. cell.shapes) tree.now.layout.cells ≡ (shape ∷ []) ∷ [] ∷ [] ∷ [])
         × (shape.points ≡ ring_of (corners_of (trapezoid (pos 0) (pos 8) (Rising (pos 0)) (Upright (pos 8))))) }
     ensures { (pair : APair) → AreCut tree.now.layout.cells tree.now.top result pair }
@@ -244,7 +244,7 @@ fn shown(
     rt: &impl Abort,
     alloc: Global,
     tree: &Tree,
-    parts: &Parts,
+    parts: &Parts<'_>,
     pair: Pair,
     rows: (i64, i64),
 ) -> Vec<Quad>
@@ -271,7 +271,7 @@ fn ask(
     rt: &impl Abort,
     alloc: Global,
     tree: &Tree,
-    parts: &Parts,
+    parts: &Parts<'_>,
     rows: (i64, i64),
     count: usize,
     first: [(i64, i64); 4],
@@ -404,7 +404,7 @@ fn after_two(rt: &impl Abort, alloc: Global) -> Tree
 }
 
 // No pieces of the first two shapes, and that of the third.
-fn cut_third(rt: &impl Abort, alloc: Global, tree: &Tree, spare: usize) -> Parts
+fn cut_third<'t>(rt: &impl Abort, alloc: Global, tree: &'t Tree, spare: usize) -> Parts<'t>
     requires { (a : AShape) × (b : AShape) × (shape : AShape) × (map (λ cell. cell.shapes) tree.now.layout.cells ≡ (a ∷ b ∷ shape ∷ []) ∷ [] ∷ [] ∷ [])
         × (a.pair.layer ≡ 2) × (b.pair.layer ≡ 2)
         × (shape.points ≡ ring_of (corners_of (trapezoid (pos 0) (pos 8) (Rising (pos 0)) (Upright (pos 8))))) }
@@ -418,29 +418,41 @@ fn cut_third(rt: &impl Abort, alloc: Global, tree: &Tree, spare: usize) -> Parts
     parts
 }
 
+// How many quadrilaterals the rows of the triangle have, by boxes.
+fn count_boxed(rt: &impl Abort, alloc: Global, tree: &Tree, parts: &Parts<'_>) -> usize
+    requires { AreCut tree.now.layout.cells tree.now.top parts.now (record { layer = 1; datatype = 0 }) }
+{
+    let boxes = Boxes::of(alloc, tree, parts).expect(rt, "memory");
+    let window = Window::new(0, 8).expect(rt, "a window");
+    let walk = Walk::begin_boxed(alloc, tree, parts, &boxes, METAL, window).expect(rt, "memory");
+    gather(alloc, walk).expect(rt, "memory").len()
+}
+
 // The pieces that a walk over the third shape gives, with boxes and without.
-fn ask_third(rt: &impl Abort, alloc: Global, spare: usize) {
+fn ask_third(rt: &impl Abort, alloc: Global, tree: &Tree, parts: &Parts<'_>)
+    requires { AreCut tree.now.layout.cells tree.now.top parts.now (record { layer = 1; datatype = 0 }) }
+{
+    assert_eq!(rt; parts.count(), 1);
+    assert_eq!(rt; shown(rt, alloc, tree, parts, METAL, ALL).len(), 1);
+    assert_eq!(rt; count_boxed(rt, alloc, tree, parts), 1);
+}
+
+// The third shape alone has pieces, and so many shapes without have entries of their own.
+fn walk_third(rt: &impl Abort, alloc: Global, spare: usize) {
     let tree = after_two(rt, alloc);
     let parts = cut_third(rt, alloc, &tree, spare);
-    assert_eq!(rt; parts.count(), 1);
-    let quads = shown(rt, alloc, &tree, &parts, METAL, ALL);
-    assert_eq!(rt; quads.len(), 1);
-    let boxes = Boxes::of(alloc, &tree, &parts).expect(rt, "memory");
-    let window = Window::new(0, 8).expect(rt, "a window");
-    let walk = Walk::begin_boxed(alloc, &tree, &parts, &boxes, METAL, window).expect(rt, "memory");
-    let boxed = gather(alloc, walk).expect(rt, "memory");
-    assert_eq!(rt; boxed.len(), 1);
+    ask_third(rt, alloc, &tree, &parts);
 }
 
 // By one entry, and by an entry each.
 #[test]
 fn shapes_without_pieces_are_passed_by(rt: HostRuntime) {
     let alloc = rt.alloc();
-    ask_third(&rt, alloc, 0);
-    ask_third(&rt, alloc, 2);
+    walk_third(&rt, alloc, 0);
+    walk_third(&rt, alloc, 2);
 }
 
 #[test]
-fn pieces_of_a_shape_take_32_bytes(rt: HostRuntime) {
-    assert_eq!(rt; size_of::<Pieces>(), 32);
+fn a_short_piece_takes_20_bytes(rt: HostRuntime) {
+    assert_eq!(rt; size_of::<ShortPiece>(), 20);
 }

@@ -133,7 +133,7 @@ impl<'t> Walk<'t> {
     pub fn begin(
         alloc: Global,
         tree: &'t Tree,
-        parts: &'t Parts,
+        parts: &'t Parts<'t>,
         pair: Pair,
         window: Window,
     ) -> Result<Walk<'t>, NoMemory>
@@ -166,7 +166,7 @@ impl<'t> Walk<'t> {
     pub fn begin_boxed(
         alloc: Global,
         tree: &'t Tree,
-        parts: &'t Parts,
+        parts: &'t Parts<'t>,
         boxes: &'t Boxes,
         pair: Pair,
         window: Window,

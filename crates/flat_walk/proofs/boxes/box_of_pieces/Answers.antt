@@ -1,35 +1,35 @@
-use Rattle.std.proofs.Common.{◌≡◌, ◌∙◌, ◌^◌, ◌+◌, ap, sym, subst, ◌∷◌, ◌++◌, [], take, arith}
-use Rattle.std.proofs.lemmas.List.{take_more, take_all}
+use Rattle.std.proofs.Common.{◌∙◌, ◌^◌, ap, sym, subst, ◌∷◌, ◌++◌, [], append_assoc}
 use Rattle.cell_tree.specs.Boxes.{IsBoxUpTo}
-use Rattle.flat_walk.proofs.BoxLemmas.{AreIn, one_in, more_in, near_both}
+use Rattle.flat_walk.specs.Boxes.{IsQuadIn}
+use Rattle.flat_walk.specs.PieceLists.{listed}
+use Rattle.flat_walk.proofs.BoxLemmas.{one_in, more_in, near_both}
 use Rattle.flat_walk.proofs.boxes.box_of_pieces.Goals as goal
 
-pub loop-piece-init : goal.loop-piece-init
-loop-piece-init c = record {
-  around =
-      one_in c.box_of_piece-around.result c.args.first.now c.box_of_piece-around.ensures.around;
-  near =
-      c.box_of_piece-around.ensures.near;
-}
-
-pub loop-piece-preserved : goal.loop-piece-preserved
-loop-piece-preserved c =
-    let item = c.piece-item.result in
-    let before = take c.loop-piece.piece-index c.args.others.now in
-    let more : take (c.loop-piece.piece-index + 1) c.args.others.now ≡ before ++ item ∷ [] =
-    take_more c.args.others.now c.loop-piece.piece-index item (omega arith) ∙ ap (λ x. before ++ x ∷ [])
-    (sym c.piece-item.is) in
+pub loop-quad-init : goal.loop-quad-init
+loop-quad-init c =
+    let first = c.in-Some.ensures.next in
     record {
-      around = subst (λ xs. AreIn c.joined-around.result (c.args.first.now ∷ xs)) (sym more)
-          (more_in c.loop-piece.around c.box_of_piece.result c.joined-around.result
-          (c.args.first.now ∷ before) item c.loop-piece.invariant.around c.box_of_piece.ensures.around
-          c.joined-around.ensures);
-      near = subst (IsBoxUpTo (2 ^ 44)) (sym c.joined-around.ensures)
-          (near_both (2 ^ 44) c.loop-piece.around c.box_of_piece.result c.loop-piece.invariant.near
-          c.box_of_piece.ensures.near);
+      shots = c.in-Some.ensures.shots;
+      around = (
+        first.piece ∷ [],
+        first.is,
+        one_in c.box_of_quad-around.result first.piece (subst (IsQuadIn c.box_of_quad-around.result) first.corners c.box_of_quad-around.ensures.around),
+      );
+      near = c.box_of_quad-around.ensures.near;
     }
 
-pub returns-clause-around : goal.returns-clause-around
-returns-clause-around c =
-    subst (λ xs. AreIn c.loop-piece.around (c.args.first.now ∷ xs))
-    (take_all c.loop-piece.piece-index c.args.others.now c.loop-piece-test.false) c.loop-piece.invariant.around
+pub loop-quad-preserved : goal.loop-quad-preserved
+loop-quad-preserved c =
+    let next = c.in-Some-next.ensures.next in
+    let before = c.loop-quad.invariant.around in
+    record {
+      shots = c.in-Some-next.ensures.shots;
+      around = (
+        before.0 ++ next.piece ∷ [],
+        before.1 ∙ (ap (λ l. before.0 ++ l) next.is ∙ sym (append_assoc before.0 (next.piece ∷ []) (listed c.next-in-loop-quad.new.self))),
+        more_in c.loop-quad.around c.box_of_quad.result c.joined-around.result before.0 next.piece before.2
+            (subst (IsQuadIn c.box_of_quad.result) next.corners c.box_of_quad.ensures.around) c.joined-around.ensures,
+      );
+      near = subst (IsBoxUpTo (2 ^ 44)) (sym c.joined-around.ensures)
+          (near_both (2 ^ 44) c.loop-quad.around c.box_of_quad.result c.loop-quad.invariant.near c.box_of_quad.ensures.near);
+    }

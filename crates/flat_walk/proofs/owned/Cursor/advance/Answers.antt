@@ -1,5 +1,6 @@
 use Rattle.std.proofs.Common.{◌∙◌, ◌+◌, sym, arith, drop}
 use Rattle.layout_model.specs.ShapeLists.{shape_in}
+use Rattle.flat_walk.specs.EntryLists.{entries_in}
 use Rattle.flat_walk.specs.Hands.{shapes_left}
 use Rattle.flat_walk.proofs.CursorLemmas.{first_inside, list_past, next_list, next_steps, steps_next}
 use Rattle.flat_walk.proofs.owned.Cursor.advance.Goals as goal
@@ -10,7 +11,7 @@ returns-clause-list c = λ pair.
     let count = c.count-count.ensures in
     next_list pair s c.skip.new.self c.skip.ensures.next
     ∙ sym (list_past s.orient s.at pair (shapes_left s) (drop (s.number + 1) s.shapes.now) (shape_in c.args.shape)
-    s.lists.now (s.place + 1) c.requires.first.is (omega (arith, count, c.if-next-count.false)))
+    (entries_in s.lists) (s.place + 1) c.requires.first.is (omega (arith, count, c.if-next-count.false)))
 
 pub skip-requires-clause-inside : goal.skip-requires-clause-inside
 skip-requires-clause-inside c =

@@ -1,5 +1,6 @@
 use Rattle.std.proofs.Common.{◌+◌, refl, drop}
 use Rattle.layout_model.specs.ShapeLists.{shape_in}
+use Rattle.flat_walk.specs.EntryLists.{entries_in}
 use Rattle.flat_walk.specs.Hands.{shapes_left}
 use Rattle.flat_walk.specs.Kept.{all_lists}
 use Rattle.flat_walk.proofs.RestLemmas.{skip_same}
@@ -16,7 +17,7 @@ returns-clause-skips c = λ pair.
     let run = c.in-Some.ensures in
     let on = c.onward-self.ensures in
     places_passed c.args.window s.orient s.at c.in-Some.rows.low c.in-Some.rows.high run.box pair (shapes_left s)
-    (drop (s.number + 1) s.shapes.now) (shape_in c.args.shape) (all_lists s.lists.now) run.later run.pieces s.place c.onward-self.result
+    (drop (s.number + 1) s.shapes.now) (shape_in c.args.shape) (all_lists (entries_in s.lists)) run.later run.pieces s.place c.onward-self.result
     c.requires.first.is run.lists run.between run.around on.later on.inside on.none
 
 pub returns-clause-steps : goal.returns-clause-steps

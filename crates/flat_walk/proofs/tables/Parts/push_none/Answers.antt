@@ -1,6 +1,4 @@
-use Rattle.std.proofs.Common.{[], replicate, sym, arith}
-use Rattle.flat_walk.specs.Kept.{lists_of}
-use Rattle.flat_walk.proofs.EntryLemmas.{lists_kept, none_is}
+use Rattle.std.proofs.Common.{◌≡◌, ◌+◌, ◌-◌, [], replicate, sym, arith}
 use Rattle.flat_walk.proofs.TableLemmas.{none_kept, view_after, kept_after, with_none}
 use Rattle.flat_walk.proofs.tables.Parts.push_none.Goals as goal
 
@@ -20,15 +18,15 @@ returns-then-count-self-clause-ok c =
 
 pub invariant_of-self-2 : goal.invariant_of-self-2
 invariant_of-self-2 c =
-    let e = c.without-pieces.result in
-    kept_after c.push.result c.self.inside.cells.items c.args.cell c.index_mut-2.result.now c.push.new.self (lists_of e)
-    (rw c.self.view_is c.requires) c.index_mut-2.ensures.value c.self.invariant (lists_kept e c.without-pieces.ensures.kept)
-    c.push.ensures.ok c.push.ensures.err
+    kept_after c.push_without.result c.self.inside.cells.items c.args.cell c.index_mut-2.result.now c.push_without.new.self
+    (replicate ((c.args.count - 1) + 1) [])
+    (rw c.self.view_is c.requires) c.index_mut-2.ensures.value c.self.invariant (none_kept ((c.args.count - 1) + 1))
+    c.push_without.ensures.ok c.push_without.ensures.err
 
 pub returns-clause-ok : goal.returns-clause-ok
 returns-clause-ok c =
-    let e = c.without-pieces.result in
-    let none = none_is e c.args.count c.without-pieces.ensures.value (omega (arith, c.without-pieces.ensures.more, c.if-count-eq0.false)) in
-    rw (sym c.self.view_is, sym none)
-    (view_after c.push.result c.self.inside.cells.items c.args.cell c.index_mut-2.result.now c.push.new.self (lists_of e)
-    (rw c.self.view_is c.requires) c.index_mut-2.ensures.value c.push.ensures.ok)
+    let many : (c.args.count - 1) + 1 ≡ c.args.count = omega (arith, c.if-count-eq0.false) in
+    rw (sym c.self.view_is, sym many)
+    (view_after c.push_without.result c.self.inside.cells.items c.args.cell c.index_mut-2.result.now c.push_without.new.self
+    (replicate ((c.args.count - 1) + 1) [])
+    (rw c.self.view_is c.requires) c.index_mut-2.ensures.value c.push_without.ensures.ok)
