@@ -5,7 +5,7 @@ ghost use Rattle.deck_plan.specs.Needs.{IsAskedBand};
 use crate::groups::{Rise, Row};
 use half_grid::{Trap, Window};
 
-// How many trapezoids a strip should have at least.
+// How many trapezoids a strip should have where the cells have few pieces.
 const MANY: u64 = 65_536;
 
 // No area is asked for in more rows at once.
@@ -18,10 +18,11 @@ pub(crate) fn least_rise(halo: Rise) -> Rise {
     }
 }
 
-/// How many trapezoids a strip should have, by how many pieces the cells have: each strip may have to look at each of them,
-/// so there should be few strips where most pieces are shown once.
+/// How many trapezoids a strip should have, by how many pieces the cells have. The more there are the more memory these take,
+/// and the less is left for a strip; but each strip may have to look at each of them, so there should be few strips where most
+/// pieces are shown once.
 pub(crate) fn aim_of(pieces: u64) -> u64 {
-    (pieces / 24).max(MANY)
+    (pieces / 32).max(MANY.saturating_sub(pieces / 64))
 }
 
 /// The rows of the first strip, by about how many trapezoids the layout has, by how many a strip should have, and by the
@@ -33,6 +34,13 @@ pub(crate) fn first_rise(weight: u64, aim: u64, output: Window) -> Rise {
     }
 }
 
+// As many of the rows as have so many trapezoids, where these have `traps`.
+fn share(rise: Rise, aim: u64, traps: u64) -> i64 {
+    let rows = rise.rows.clamp(1, MOST_ROWS) as u64;
+    let share = rows.saturating_mul(aim) / traps.max(1);
+    share.min(MOST_ROWS as u64) as i64
+}
+
 /// The rows of the next strip, by those of the last one, by how many trapezoids a strip should have, how many that one had
 /// and how many reached it from below. Where most of them only pass through, strips are cut for nothing, and where they are
 /// few, they cost more than they save.
@@ -41,14 +49,10 @@ pub(crate) fn next_rise(rise: Rise, aim: u64, traps: usize, carried: usize) -> R
     let passing = (carried as u64).saturating_mul(2);
     let rows = if traps < aim / 4 || traps < passing {
         rise.rows.saturating_mul(4)
-    } else if traps < aim / 2 {
-        rise.rows.saturating_mul(2)
     } else if aim.saturating_mul(4) < traps {
         rise.rows / 4
-    } else if aim < traps {
-        rise.rows / 2
     } else {
-        rise.rows
+        share(rise, aim, traps)
     };
     Rise {
         rows: rows.clamp(1, MOST_ROWS),

@@ -163,3 +163,10 @@ plain_by flip turns mag at q f t m = rw (f, t, m)
 -- what is neither enlarged, mirrored nor turned is moved
 pub plain_image : (orient : Orient) (at : Point) (q r : Corners) → r ≡ q → IsPlain orient → quad_image orient at q ≡ moved_quad at r
 plain_image orient at q r e u = plain_by orient.flip orient.turns orient.mag at q u.flip u.turns u.mag ∙ ap (moved_quad at) (sym e)
+
+plain_point_by : (flip : Bool) (turns mag : ℕ) (at p : Point) → flip ≡ false → turns ≡ 0 → mag ≡ 1
+    → moved at (turned turns (flipped flip (enlarged mag p))) ≡ moved at p
+plain_point_by flip turns mag at p f t m = rw (f, t, m) (ap (moved at) (not_enlarged p))
+
+pub plain_point : (orient : Orient) (at p : Point) → IsPlain orient → image_of orient at p ≡ moved at p
+plain_point orient at p u = plain_point_by orient.flip orient.turns orient.mag at p u.flip u.turns u.mag

@@ -1,6 +1,9 @@
 //! Lists of boxes in which those beside a window are passed by 64 at a time.
 ghost use Rattle.std.specs.Prelude.{◌≡◌, ◌^◌, ◌<◌, ◌≤◌, ◌+◌, ℕ, false, IfOk, IfSome, Some, length, slice_get};
 ghost use Rattle.half_grid.specs.Quads.{Corners};
+ghost use Rattle.half_grid.specs.Windows.{RowRange};
+ghost use Rattle.half_grid.specs.declared.plane.Point.{Point as APoint};
+ghost use Rattle.layout_model.specs.declared.orient.Orient.{Orient as AnOrient};
 ghost use Rattle.layout_model.specs.Images.{IsOrient};
 ghost use Rattle.layout_model.specs.Layouts.{IsWithin};
 ghost use Rattle.cell_tree.specs.Boxes.{IsBoxUpTo};
@@ -118,33 +121,39 @@ fn rows_for(orient: Orient, at: Point, window: Window) -> Option<KeptRows>
     )
 }
 
-// Whether what a kept box is round may have a row in the window, by rows that are for it, if there are some.
-#[inline(always)]
-fn kept_may_show(
-    around: &ShortBox,
-    rows: Option<KeptRows>,
-    orient: Orient,
-    at: Point,
-    window: Window,
-) -> bool
-    requires near { IsBoxUpTo (2 ^ 53) around.now }
-    requires rows { IfSome rows (AreRowsFor window orient at) }
-    requires orient { IsOrient orient }
-    requires at { IsWithin (2 ^ 54) at }
-    ensures { result ≡ false → (q : Corners) → IsQuadIn around.now q → has_row_in window (quad_image orient at q) ≡ false }
-{
-    match rows {
-        Some(rows) => around.meets(rows),
-        None => may_show(&around.frame(), orient, at, window),
-    }
-}
-
 // One of the boxes.
 fn box_in(boxes: &[ShortBox], number: usize) -> &ShortBox
     requires { number < length boxes.now }
     ensures { slice_get boxes.now number ≡ Some result.now }
 {
     &boxes[number]
+}
+
+// The number of the first box, from one on and before `end`, that may have some of the rows, or `end`.
+fn first_among(boxes: &[ShortBox], from: usize, end: usize, rows: KeptRows) -> usize
+    requires order { from ≤ end }
+    requires inside { end ≤ length boxes.now }
+    ensures later { from ≤ result }
+    ensures before { result ≤ end }
+    ensures none { (window : RowRange) (orient : AnOrient) (at : APoint) → AreRowsFor window orient at rows → ShowNothing window orient at boxes.now from result }
+{
+    let mut next = from;
+    while next < end {
+        if box_in(boxes, next).meets(rows) {
+            return next;
+        }
+        next += 1;
+    }
+    next
+}
+
+// The number after the last box of the 64 among which this one is.
+fn block_end(count: usize, number: usize) -> usize
+    requires { number < count }
+    ensures later { number < result }
+    ensures inside { result ≤ count }
+{
+    end_of(count, number - number % BLOCK)
 }
 
 impl BoxList {
@@ -157,9 +166,24 @@ impl BoxList {
         Ok(BoxList { boxes, blocks })
     }
 
-    // The number after the 64 boxes from this one on, or after this one, where nothing in them has a row in the window; and
-    // else the number itself.
-    #[inline(always)]
+    // The number of this box, or after it where nothing in it has a row in the window.
+    fn after_one(&self, number: usize, orient: Orient, at: Point, window: Window) -> usize
+        requires number { number < length self.now }
+        requires orient { IsOrient orient }
+        requires at { IsWithin (2 ^ 54) at }
+        ensures later { number ≤ result }
+        ensures inside { result ≤ length self.now }
+        ensures none { ShowNothing window orient at self.now number result }
+    {
+        let around = box_in(self.boxes.as_slice(), number).frame();
+        if may_show(&around, orient, at, window) {
+            return number;
+        }
+        number + 1
+    }
+
+    // A number from this one on, up to which nothing in the boxes has a row in the window: the number itself where the box may
+    // have one, and else at most that after the 64 boxes among which it is.
     fn after(
         &self,
         number: usize,
@@ -183,11 +207,11 @@ impl BoxList {
                 }
             }
         }
-        let around = box_in(self.boxes.as_slice(), number);
-        if kept_may_show(around, rows, orient, at, window) {
-            return number;
-        }
-        number + 1
+        let Some(rows) = rows else {
+            return self.after_one(number, orient, at, window);
+        };
+        let end = block_end(self.boxes.len(), number);
+        first_among(self.boxes.as_slice(), number, end, rows)
     }
 
     // The number of the next box, from this one on, in which something may have a row in the window, or how many there are.
@@ -213,6 +237,7 @@ impl BoxList {
 
 /// The number of the next box, from this one on, in which something may have a row in the window, where their cell is
 /// placed so; or how many boxes there are. Past the boxes it is the number itself.
+#[inline(always)]
 pub(crate) fn next_in(
     boxes: Option<&BoxList>,
     from: usize,

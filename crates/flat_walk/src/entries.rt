@@ -12,8 +12,8 @@ ghost use Rattle.flat_walk.specs.Stores.{entry_in};
 use crate::piece_lists::PieceList;
 use crate::stores::{EntryRef, PieceStore};
 use geo_stream::NoMemory;
-use half_grid::{Frame, Line, Trap};
-use layout_model::{ShapeRef, Shapes};
+use half_grid::{Frame, Line, Point, Trap};
+use layout_model::{Outline, Points, ShapeRef, Shapes};
 use std::alloc::Global;
 use std::marker::Model;
 
@@ -44,19 +44,39 @@ impl<'t> Model for EntryTable<'t> {
 // The greatest number of 32 bits.
 const GREATEST: usize = (1 << 32) - 1;
 
+// The box of the first and the third corner of a ring of four.
+#[inline(always)]
+fn frame_of_ring(ring: [Point; 5]) -> Frame
+    ensures { own_frame ring ≡ Some result }
+{
+    let [a, _, c, _, _] = ring;
+    Frame {
+        x0: a.x.min(c.x),
+        y0: a.y.min(c.y),
+        x1: a.x.max(c.x),
+        y1: a.y.max(c.y),
+    }
+}
+
+// The box of two opposite corners, if the points are four corners.
+#[inline(always)]
+fn frame_of_points(points: &Points) -> Option<Frame>
+    ensures { result ≡ own_frame points.now }
+{
+    match points.as_slice() {
+        Some([a, b, c, d, e]) => Some(frame_of_ring([*a, *b, *c, *d, *e])),
+        _ => None,
+    }
+}
+
 // The box of two opposite corners, if the shape has four corners.
 #[inline(always)]
 fn own_frame(shape: ShapeRef<'_>) -> Option<Frame>
     ensures { result ≡ own_frame (shape_in shape.entry).points }
 {
-    match shape.outline().as_slice() {
-        Some([a, _, c, _, _]) => Some(Frame {
-            x0: a.x.min(c.x),
-            y0: a.y.min(c.y),
-            x1: a.x.max(c.x),
-            y1: a.y.max(c.y),
-        }),
-        _ => None,
+    match shape.outline() {
+        Outline::Ring(ring) => Some(frame_of_ring(ring)),
+        Outline::Kept(points) => frame_of_points(points),
     }
 }
 

@@ -1,5 +1,5 @@
 //! The pieces of a cell's own shapes, where the cell is placed.
-ghost use Rattle.std.specs.Prelude.{◌≡◌, ◌^◌, ◌<◌, ◌+◌, [], ◌∷◌, ◌++◌, map, min, Some, All, MatchOption, OnSome, IfSome, IsTrue, length, ◌≤◌, drop, List, false};
+ghost use Rattle.std.specs.Prelude.{◌≡◌, ◌^◌, ◌<◌, ◌+◌, [], ◌∷◌, ◌++◌, map, min, Some, All, MatchOption, IfSome, IsTrue, length, ◌≤◌, drop, List, true, false};
 ghost use Rattle.half_grid.specs.Quads.{IsQuad, corners_of};
 ghost use Rattle.layout_model.specs.Images.{IsOrient};
 ghost use Rattle.layout_model.specs.declared.pair.Pair.{Pair as APair};
@@ -14,6 +14,7 @@ ghost use Rattle.flat_walk.specs.EntryLists.{entries_in};
 ghost use Rattle.flat_walk.specs.Kept.{all_lists, AreSingle};
 ghost use Rattle.flat_walk.specs.PieceLists.{listed, AreShots};
 ghost use Rattle.flat_walk.specs.Rises.{HasNoPlaceBefore};
+ghost use Rattle.flat_walk.specs.Walks.{is_on};
 ghost use Rattle.flat_walk.specs.Hands.{hand_list, IsHand, shapes_left, cursor_list, IsCursor, first_count, IsFirst, IsNext, steps_left, own_rest, IsOwn, IsLongRun};
 
 use crate::blocks::{BoxList, next_in};
@@ -131,21 +132,18 @@ impl<'t> Hand<'t> {
 }
 
 impl<'t> Cursor<'t> {
-    // The pieces of the first shape at the current offset, where it is on the pair and has that offset.
-    fn here(&self, shape: ShapeRef<'t>, pieces: PieceList<'t>, pair: Pair) -> Option<Hand<'t>>
+    // The pieces of the first shape at the current offset, where it has that offset.
+    fn here(&self, shape: ShapeRef<'t>, pieces: PieceList<'t>) -> Option<Hand<'t>>
         requires orient { IsOrient self.now.orient }
         requires near { IsWithin (2 ^ 54) self.now.at }
         requires grid { IsShapeOnGrid (shape_in shape) }
         requires shots { AreShots pieces }
         ensures hand { IfSome result IsHand }
-        ensures list { MatchOption result (places_rest pair (shape_in shape.entry) (listed pieces.entry) self.now.place ≡ [])
-            (λ hand. map (quad_image self.now.orient self.now.at) (places_rest pair (shape_in shape.entry) (listed pieces.entry) self.now.place)
+        ensures there { MatchOption result (length (shape_in shape.entry).offsets ≤ self.now.place) (λ hand. self.now.place < length (shape_in shape.entry).offsets) }
+        ensures list { IfSome result (λ hand. (pair : APair) → is_on pair (shape_in shape.entry) ≡ true
+            → map (quad_image self.now.orient self.now.at) (places_rest pair (shape_in shape.entry) (listed pieces.entry) self.now.place)
             ≡ hand_list hand ++ map (quad_image self.now.orient self.now.at) (places_rest pair (shape_in shape.entry) (listed pieces.entry) (self.now.place + 1))) }
-        ensures inside { OnSome result (self.now.place < length (shape_in shape.entry).offsets) }
     {
-        if shape.pair() != pair {
-            return None;
-        }
         if self.place >= shape.count() {
             return None;
         }
@@ -205,24 +203,23 @@ impl<'t> Cursor<'t> {
         self.skip();
     }
 
-    // The pieces of the first shape at the current offset, after which those at the next are left. Where it has none there on
-    // the pair, none, and the next shape is then the first.
-    fn step(&mut self, shape: ShapeRef<'t>, pair: Pair) -> Hand<'t>
+    // The pieces of the first shape at the current offset, after which those at the next are left. Where it has none there,
+    // none, and the next shape is then the first.
+    fn step(&mut self, shape: ShapeRef<'t>) -> Hand<'t>
         requires cursor { IsCursor self.old }
         requires first { IsFirst self.old (shape_in shape) }
         ensures cursor { IsCursor self.new }
         ensures hand { IsHand result }
-        ensures list { cursor_list pair self.old ≡ hand_list result ++ cursor_list pair self.new }
+        ensures list { (pair : APair) → is_on pair (shape_in shape.entry) ≡ true → cursor_list pair self.old ≡ hand_list result ++ cursor_list pair self.new }
         ensures steps { steps_left self.new < steps_left self.old }
     {
-        let none = Hand::empty(self.orient, self.at);
         let Some(entry) = self.lists.first() else {
             self.skip();
-            return none;
+            return Hand::empty(self.orient, self.at);
         };
-        let Some(hand) = self.here(shape, entry.pieces, pair) else {
+        let Some(hand) = self.here(shape, entry.pieces) else {
             self.skip();
-            return none;
+            return Hand::empty(self.orient, self.at);
         };
         self.advance(shape);
         hand
@@ -230,7 +227,8 @@ impl<'t> Cursor<'t> {
 
     // Whether the first shape is on the pair and has a place left.
     fn has_more(&self, shape: ShapeRef<'t>, pair: Pair) -> bool
-        ensures { result ≡ false → (pieces : List Trapezoid) → places_rest pair (shape_in shape.entry) pieces self.now.place ≡ [] }
+        ensures less { result ≡ false → (pieces : List Trapezoid) → places_rest pair (shape_in shape.entry) pieces self.now.place ≡ [] }
+        ensures on { IsTrue result → is_on pair (shape_in shape.entry) ≡ true }
     {
         if shape.pair() != pair {
             return false;
@@ -280,6 +278,7 @@ impl<'t> Cursor<'t> {
         ensures skips { Skips window (map Some (cursor_list pair self.old)) (map Some (cursor_list pair self.new)) }
         ensures steps { steps_left self.new ≤ steps_left self.old }
         ensures first { MatchOption result (cursor_list pair self.new ≡ []) (λ shape. IsFirst self.new (shape_in shape)) }
+        ensures on { IfSome result (λ shape. is_on pair (shape_in shape) ≡ true) }
     {
         loop {
             self.pass_boxes(window);
@@ -418,7 +417,7 @@ impl<'t> Own<'t> {
                 return None;
             };
             self.cursor.pass_places(shape, window);
-            self.hand = self.cursor.step(shape, pair);
+            self.hand = self.cursor.step(shape);
         }
     }
 }

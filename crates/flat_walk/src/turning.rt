@@ -18,6 +18,9 @@ pub(crate) fn image(orient: Orient, at: Point, p: Point) -> Point
     requires near { IsWithin (2 ^ 53) p }
     ensures { result ≡ image_of orient at p }
 {
+    if is_plain(orient) {
+        return moved(at, p);
+    }
     layout_model::image(orient, at, p)
 }
 

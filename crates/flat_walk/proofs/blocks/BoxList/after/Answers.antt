@@ -23,16 +23,9 @@ returns-then-not-may_show-clause-none c =
     subst (λ l. ShowNothing c.args.window c.args.orient c.args.at l n (n + 64)) c.self.view_is
     (block_hides c.args.window c.args.orient c.args.at boxes n (n + 64) c.in-Some.block.now those (c.may_show.ensures c.if-not-may_show.true))
 
-pub kept_may_show-requires-clause-near : goal.kept_may_show-requires-clause-near
-kept_may_show-requires-clause-near c =
-    let n = c.args.number in
-    c.self.invariant.0 n c.box_in-around.result.now
-    (subst (λ l. slice_get l n ≡ Some c.box_in-around.result.now) c.as_slice.ensures.value c.box_in-around.ensures)
-
 pub returns-clause-none : goal.returns-clause-none
 returns-clause-none c =
     let n = c.args.number in
-    let at = subst (λ l. slice_get l n ≡ Some c.box_in-around.result.now) c.as_slice.ensures.value c.box_in-around.ensures in
-    subst (λ l. ShowNothing c.args.window c.args.orient c.args.at l n (n + 1)) c.self.view_is
-    (nothing_there c.args.window c.args.orient c.args.at c.self.inside.boxes.items n (n + 1) c.box_in-around.result.now refl at
-    (c.kept_may_show.ensures c.if-kept_may_show.false))
+    subst (λ l. ShowNothing c.args.window c.args.orient c.args.at l n c.first_among.result) c.self.view_is
+    (subst (λ l. ShowNothing c.args.window c.args.orient c.args.at l n c.first_among.result) c.as_slice.ensures.value
+    (c.first_among.ensures.none c.args.window c.args.orient c.args.at (rw c.in-Some-rows.is at c.requires.rows)))

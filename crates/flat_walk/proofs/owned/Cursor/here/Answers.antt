@@ -11,14 +11,11 @@ use Rattle.flat_walk.proofs.PointLemmas.{image_within, within_more}
 use Rattle.flat_walk.proofs.owned.Cursor.here.Goals as goal
 
 pub returns-clause-list : goal.returns-clause-list
-returns-clause-list c =
+returns-clause-list c = λ pair on.
     let o = c.args.self.now.orient in
-    let on : is_on c.args.pair (shape_in c.args.shape) ≡ true =
-    subst (λ (p : Pair). (nat_eq p.layer c.args.pair.layer && nat_eq p.datatype c.args.pair.datatype) ≡ true) c.pair.ensures
-    (not_false _ (sym c.ne.ensures ∙ c.if-ne.false)) in
-    places_on o c.args.self.now.at c.nth-by.result c.args.pair (shape_in c.args.shape) (listed c.args.pieces) c.args.self.now.place on c.nth-by.ensures
+    places_on o c.args.self.now.at c.nth-by.result pair (shape_in c.args.shape) (listed c.args.pieces) c.args.self.now.place on c.nth-by.ensures
     ∙ ap (λ at. placed_list o at (listed c.args.pieces) ++ map (quad_image o c.args.self.now.at)
-    (places_rest c.args.pair (shape_in c.args.shape) (listed c.args.pieces) (c.args.self.now.place + 1))) (sym c.image.ensures)
+    (places_rest pair (shape_in c.args.shape) (listed c.args.pieces) (c.args.self.now.place + 1))) (sym c.image.ensures)
 
 pub returns-clause-hand : goal.returns-clause-hand
 returns-clause-hand c =

@@ -19,7 +19,7 @@ loop-pair-preserved c =
       cursor = c.skip.ensures.cursor;
       skips = skip_on c.args.window _ _ _ i.skips (skip_on c.args.window _ _ _ (p.skips c.args.pair) (skip_same c.args.window _ _ (ap (map Some)
           (list_over s.orient s.at c.args.pair (shapes_left s) (drop (s.number + 1) s.shapes.now) (shape_in c.in-Some.shape) (entries_in s.lists) s.place
-          first.is (c.has_more.ensures c.if-has_more.false) ∙ sym (next_list c.args.pair s c.skip.new.self c.skip.ensures.next)))));
+          first.is (c.has_more.ensures.less c.if-has_more.false) ∙ sym (next_list c.args.pair s c.skip.new.self c.skip.ensures.next)))));
       steps = let h = next_steps s c.skip.new.self (shape_in c.in-Some.shape) first c.skip.ensures.next in omega (arith, h, p.steps, i.steps);
     }
 

@@ -27,7 +27,7 @@ loop-quad-preserved c =
     (cursor_list c.args.pair c.loop-quad.self.cursor) (cursor_list c.args.pair c.pass_places.new.self)
     c.loop-quad.invariant.skips c.in_default.ensures.gives.0
     (skip_on c.args.window _ _ _ c.pass_by.ensures.skips (c.pass_places.ensures.skips c.args.pair)))
-    step.list in
+    (step.list c.args.pair c.in-Some-pass_by.ensures.on) in
     record {
       own = record { hand = step.hand; cursor = step.cursor };
       skips = skips;
