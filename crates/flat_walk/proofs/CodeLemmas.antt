@@ -182,21 +182,20 @@ module _ (shapes : List Shape) where
 
   -- ---- what a table answers
 
-  pub past_long : (store : List Entry) (codes given : List ℕ) (entries : List Entry) (k : ℕ) → given ≡ codes → false ≡ nat_lt k (length given)
+  pub past_long : (store : List Entry) (codes : List ℕ) (entries : List Entry) (k : ℕ) → length codes ≤ k
       → entries_from shapes store 0 codes ≡ entries → length entries ≤ k
-  past_long store codes given entries k same past is =
-      let e : length entries ≡ length given = ap length (sym is) ∙ (entries_long store 0 codes ∙ ap length (sym same)) in
-      let f = ltb-false k (length given) (sym past) in
-      omega (arith, e, f)
+  past_long store codes entries k past is =
+      let e : length entries ≡ length codes = ap length (sym is) ∙ entries_long store 0 codes in
+      omega (arith, e, past)
 
-  pub not_there : (store : List Entry) (codes given : List ℕ) (entries : List Entry) (k : ℕ) (entry : Entry) → given ≡ codes
-      → false ≡ nat_lt k (length given) → entries_from shapes store 0 codes ≡ entries → slice_get entries k ≡ Some entry → ⊥
-  not_there store codes given entries k entry same past is at =
-      none-some entry (sym (slice_get_past entries k (past_long store codes given entries k same past is)) ∙ at)
+  pub not_there : (store : List Entry) (codes : List ℕ) (entries : List Entry) (k : ℕ) (entry : Entry) → length codes ≤ k
+      → entries_from shapes store 0 codes ≡ entries → slice_get entries k ≡ Some entry → ⊥
+  not_there store codes entries k entry past is at =
+      none-some entry (sym (slice_get_past entries k (past_long store codes entries k past is)) ∙ at)
 
-  pub past_count : (store : List Entry) (codes given : List ℕ) (entries : List Entry) (k : ℕ) → given ≡ codes
-      → false ≡ nat_lt k (length given) → entries_from shapes store 0 codes ≡ entries → first_count (drop k entries) ≡ 1
-  past_count store codes given entries k same past is = rw (drop_past entries k (past_long store codes given entries k same past is)) refl
+  pub past_count : (store : List Entry) (codes : List ℕ) (entries : List Entry) (k : ℕ) → length codes ≤ k
+      → entries_from shapes store 0 codes ≡ entries → first_count (drop k entries) ≡ 1
+  past_count store codes entries k past is = rw (drop_past entries k (past_long store codes entries k past is)) refl
 
   pub own_count : (store : List Entry) (codes : List ℕ) (entries : List Entry) (k : ℕ) (entry : Entry) → AreCoded shapes store 0 codes
       → slice_get codes k ≡ Some 0 → entries_from shapes store 0 codes ≡ entries → slice_get entries k ≡ Some entry → 1 ≡ length entry.pieces

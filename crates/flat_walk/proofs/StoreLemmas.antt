@@ -1,5 +1,5 @@
 -- Entries whose pieces stand one after another in one list: what stays where more is put at the end, and what is read.
-use Rattle.std.proofs.Common.{◌≡◌, ℕ, zero, suc, ◌+◌, ◌-◌, ◌<◌, ◌≤◌, List, [], ◌∷◌, ◌++◌, Some, map, take, drop, length, get_or, slice_get}
+use Rattle.std.proofs.Common.{◌≡◌, ℕ, zero, suc, ◌+◌, ◌-◌, ◌/◌, ◌%◌, ◌^◌, ◌<◌, ◌≤◌, List, [], ◌∷◌, ◌++◌, Some, map, take, drop, length, get_or, slice_get}
 use Rattle.std.proofs.Common.{Result, Ok, Err, OnErr, refl, ap, sym, subst, ◌∙◌, arith, append-nil, length-append}
 use Rattle.std.proofs.Math.Seq.{drop-append_seam, get_or-append_seam}
 use Rattle.std.proofs.lemmas.List.{drop-append-le, take-append-le, take_all, length-drop, length-map, map-append, get_or_append_left}
@@ -7,7 +7,7 @@ use Rattle.std.proofs.lemmas.Option.{same_Some, slice_get-map, slice_get_within,
 use Rattle.std.specs.Option.{option_map}
 use Rattle.half_grid.specs.Trapezoids.{Trapezoid}
 use Rattle.flat_walk.specs.Kept.{Entry, alone, bare}
-use Rattle.flat_walk.specs.Stores.{place_entry, IsPlace, ArePlaces}
+use Rattle.flat_walk.specs.Stores.{place_entry, IsPlace, ArePlaces, number_from, seldom_place}
 use Rattle.flat_walk.specs.declared.stores.Place.{Place}
 use Rattle.flat_walk.specs.declared.stores.Place.TheVariants.{Short, Seldom}
 
@@ -21,11 +21,11 @@ take_drop_more first count xs ys inside =
 module _ (pieces added : List Trapezoid) (seldom more : List Entry) where
   place_stays : (place : Place) → IsPlace pieces seldom place → IsPlace (pieces ++ added) (seldom ++ more) place
   place_stays (Short first count) inside = let e = length-append pieces added in omega (arith, e, inside)
-  place_stays (Seldom number) inside = let e = length-append seldom more in omega (arith, e, inside)
+  place_stays (Seldom low high) inside = let e = length-append seldom more in omega (arith, e, inside)
 
   entry_stays : (place : Place) → IsPlace pieces seldom place → place_entry (pieces ++ added) (seldom ++ more) place ≡ place_entry pieces seldom place
   entry_stays (Short first count) inside = ap alone (take_drop_more first count pieces added inside)
-  entry_stays (Seldom number) inside = get_or_append_left seldom more bare number inside
+  entry_stays (Seldom low high) inside = get_or_append_left seldom more bare (number_from low high) inside
 
   places_stay : (places : List Place) → ArePlaces pieces seldom places → ArePlaces (pieces ++ added) (seldom ++ more) places
   places_stay [] are = tt
@@ -83,16 +83,21 @@ placed_then pieces seldom places places' place before entry is are view inside h
           ∙ (ap (λ l. l ++ place_entry pieces seldom place ∷ []) view ∙ ap (λ e. before ++ e ∷ []) here);
     })
 
+number_back : (n : ℕ) → number_from (n % 2 ^ 32) (n / 2 ^ 32) ≡ n
+number_back n = omega arith
+
 -- what is seldom is put at the end
 pub seldom_then : (pieces : List Trapezoid) (seldom seldom' : List Entry) (places places' : List Place) (before : List Entry) (number : ℕ) (entry : Entry)
-    → number ≡ length seldom → seldom' ≡ seldom ++ entry ∷ [] → places' ≡ places ++ Seldom number ∷ [] → ArePlaces pieces seldom places
+    → number ≡ length seldom → seldom' ≡ seldom ++ entry ∷ [] → places' ≡ places ++ seldom_place number ∷ [] → ArePlaces pieces seldom places
     → map (place_entry pieces seldom) places ≡ before → AreThen pieces seldom' places' before entry
 seldom_then pieces seldom seldom' places places' before number entry at is placed are view =
     let stays = seldom_before pieces seldom (entry ∷ []) seldom' places places before is refl are view in
     let e = length-append seldom (entry ∷ []) in
     let f = ap length is in
-    placed_then pieces seldom' places places' (Seldom number) before entry placed stays.there stays.view (omega (arith, e, f, at))
-    (ap (λ l. get_or l number bare) is ∙ (ap (λ n. get_or (seldom ++ entry ∷ []) n bare) at ∙ get_or-append_seam seldom entry [] bare))
+    let g = number_back number in
+    placed_then pieces seldom' places places' (seldom_place number) before entry placed stays.there stays.view (omega (arith, e, f, g, at))
+    (ap (λ l. get_or l (number_from (number % 2 ^ 32) (number / 2 ^ 32)) bare) is
+    ∙ (ap (λ n. get_or (seldom ++ entry ∷ []) n bare) (g ∙ at) ∙ get_or-append_seam seldom entry [] bare))
 
 -- the pieces of a shape are put at the end
 pub short_then : (pieces added pieces' : List Trapezoid) (seldom : List Entry) (places places' : List Place) (before : List Entry) (first count : ℕ)

@@ -1,6 +1,5 @@
 //! The pieces of a cell's shapes, entry by entry.
-ghost use Rattle.std.specs.Prelude.{◌≡◌, ◌<◌, ◌≤◌, ◌+◌, ◌^◌, [], ◌∷◌, ◌++◌, IfOk, IfSome, IsTrue, OnOk, OnErr, MatchOption, Some, drop, length, replicate, slice_get};
-ghost use Rattle.std.specs.Vec.{vec_len, vec_capacity};
+ghost use Rattle.std.specs.Prelude.{◌≡◌, ◌<◌, ◌≤◌, ◌+◌, ◌^◌, [], ◌∷◌, ◌++◌, IfSome, IsTrue, OnOk, OnErr, MatchOption, Some, drop, length, replicate, slice_get};
 ghost use Rattle.half_grid.specs.Trapezoids.{IsShot};
 ghost use Rattle.layout_model.specs.ShapeLists.{shape_in};
 ghost use Rattle.flat_walk.specs.Hands.{first_count};
@@ -9,6 +8,7 @@ ghost use Rattle.flat_walk.specs.Entries.{own_frame, own_pieces, IsOwnShape};
 ghost use Rattle.flat_walk.specs.PieceLists.{listed, upright, AreShots};
 ghost use Rattle.flat_walk.specs.Stores.{entry_in};
 
+use crate::codes::CodeList;
 use crate::piece_lists::PieceList;
 use crate::stores::{EntryRef, PieceStore};
 use geo_stream::NoMemory;
@@ -26,7 +26,7 @@ pub(crate) struct EntryTable<'t> {
     shapes: &'t Shapes,
     store: PieceStore,
     // For each entry 0, where it is the rectangle that the shape of the same number is, or 1 more than its number in the store.
-    codes: Vec<u32>,
+    codes: CodeList,
 }
 
 impl<'t> Model for EntryTable<'t> {
@@ -36,13 +36,10 @@ impl<'t> Model for EntryTable<'t> {
 
     ghost Value = { List Entry };
 
-    ghost view = { λ table. entries_from table.shapes.now table.store 0 table.codes.items };
+    ghost view = { λ table. entries_from table.shapes.now table.store 0 table.codes };
 
-    ghost invariant = { λ table. AreCoded table.shapes.now table.store 0 table.codes.items };
+    ghost invariant = { λ table. AreCoded table.shapes.now table.store 0 table.codes };
 }
-
-// The greatest number of 32 bits.
-const GREATEST: usize = (1 << 32) - 1;
 
 // The box of the first and the third corner of a ring of four.
 #[inline(always)]
@@ -121,28 +118,6 @@ fn own(shapes: &Shapes, number: usize) -> PieceList<'_>
     }
 }
 
-// The code of the entry that was put last into the store. It has 32 bits: 4,294,967,296 entries, which take 64 GB at least,
-// count as want of memory.
-fn code_of(store: &PieceStore) -> Result<u32, NoMemory>
-    ensures { IfOk result (λ code. code ≡ length store.now) }
-{
-    let code = store.len();
-    if code > GREATEST {
-        return Err(NoMemory);
-    }
-    Ok(code as u32)
-}
-
-// Puts the code at the end so many times. There is memory for it.
-fn put_each(codes: &mut Vec<u32>, code: u32, count: usize)
-    requires { vec_len codes.old + count ≤ vec_capacity codes.old }
-    ensures { codes.new.items ≡ codes.old.items ++ replicate count code }
-{
-    for _number in 0..count {
-        codes.push_reserved(code);
-    }
-}
-
 impl<'t> EntryTable<'t> {
     /// No entries yet, of a cell with these shapes. It takes no memory.
     pub(crate) fn new(alloc: Global, shapes: &'t Shapes) -> EntryTable<'t>
@@ -151,7 +126,7 @@ impl<'t> EntryTable<'t> {
         EntryTable {
             shapes,
             store: PieceStore::new(alloc),
-            codes: Vec::new(alloc),
+            codes: CodeList::new(alloc),
         }
     }
 
@@ -166,8 +141,7 @@ impl<'t> EntryTable<'t> {
     pub(crate) fn reserve(&mut self, count: usize) -> Result<(), NoMemory>
         ensures { self.new ≡ self.old }
     {
-        self.codes.reserve(count)?;
-        Ok(())
+        self.codes.reserve(count)
     }
 
     /// Puts the pieces of a shape at the end. Refused, all is as before.
@@ -180,7 +154,7 @@ impl<'t> EntryTable<'t> {
             return Ok(());
         }
         self.store.push(alloc, traps)?;
-        let code = code_of(&self.store)?;
+        let code = self.store.len();
         self.codes.push(code)?;
         Ok(())
     }
@@ -191,7 +165,7 @@ impl<'t> EntryTable<'t> {
         ensures err { OnErr result (self.new ≡ self.old) }
     {
         self.store.push_without(more)?;
-        let code = code_of(&self.store)?;
+        let code = self.store.len();
         self.codes.push(code)?;
         Ok(())
     }
@@ -202,9 +176,8 @@ impl<'t> EntryTable<'t> {
         ensures err { OnErr result (self.new ≡ self.old) }
     {
         self.store.push_without(0)?;
-        let code = code_of(&self.store)?;
-        self.codes.reserve(count)?;
-        put_each(&mut self.codes, code, count);
+        let code = self.store.len();
+        self.codes.push_each(code, count)?;
         Ok(())
     }
 
@@ -214,14 +187,14 @@ impl<'t> EntryTable<'t> {
         ensures there { MatchOption result (length self.now ≤ number) (λ entry. slice_get self.now number ≡ Some (entry_in entry)) }
         ensures shots { IfSome result (λ entry. AreShots entry.pieces) }
     {
-        let code = *self.codes.get(number)?;
+        let code = self.codes.get(number)?;
         if code == 0 {
             return Some(EntryRef {
                 pieces: own(self.shapes, number),
                 more: 0,
             });
         }
-        Some(self.store.get(code as usize - 1))
+        Some(self.store.get(code - 1))
     }
 
     /// How many shapes without pieces come after the first shape of an entry, or none where there is no entry.
@@ -231,7 +204,7 @@ impl<'t> EntryTable<'t> {
         match self.codes.get(number) {
             None => 0,
             Some(0) => 0,
-            Some(code) => self.store.get(*code as usize - 1).more,
+            Some(code) => self.store.get(code - 1).more,
         }
     }
 
@@ -242,7 +215,7 @@ impl<'t> EntryTable<'t> {
         match self.codes.get(number) {
             None => 0,
             Some(0) => 1,
-            Some(code) => self.store.get(*code as usize - 1).pieces.len(),
+            Some(code) => self.store.get(code - 1).pieces.len(),
         }
     }
 }

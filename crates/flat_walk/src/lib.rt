@@ -7,6 +7,7 @@
 mod blocks;
 mod boxes;
 mod cell_lists;
+mod codes;
 mod entries;
 mod entry_lists;
 mod kept_pieces;

@@ -3,7 +3,7 @@ ghost use Rattle.std.specs.Prelude.{◌≡◌, ◌<◌, ◌^◌, ◌++◌, [], �
 ghost use Rattle.half_grid.specs.Trapezoids.{Trapezoid};
 ghost use Rattle.flat_walk.specs.Kept.{Entry, alone, bare_ones};
 ghost use Rattle.flat_walk.specs.PieceLists.{AreShots};
-ghost use Rattle.flat_walk.specs.Stores.{entry_in, entry_of};
+ghost use Rattle.flat_walk.specs.Stores.{entry_in, entry_of, number_from, seldom_place};
 
 use crate::kept_pieces::ShortPiece;
 use crate::piece_lists::PieceList;
@@ -34,11 +34,11 @@ impl Model for Seldom {
     ghost view = { λ seldom. entry_of seldom.form };
 }
 
-// Where an entry is: so many short pieces from one on, or among what is seldom.
+// Where an entry is: so many short pieces from one on, or at a place among what is seldom, by 32 bits and those above them.
 #[derive(Clone, Copy)]
 enum Place {
     Short(u32, u32),
-    Seldom(u32),
+    Seldom(u32, u32),
 }
 
 /// The pieces of a shape, or any number of shapes without pieces.
@@ -74,6 +74,9 @@ impl Model for PieceStore {
 // The greatest number of 32 bits.
 const GREATEST: usize = (1 << 32) - 1;
 
+// The least number that takes more than 32 bits.
+const BEYOND: usize = 1 << 32;
+
 // Puts the pieces at the end, up to the first that isn't short. Whether all are.
 fn put_short(pieces: &mut Vec<ShortPiece>, traps: &[Trap]) -> Result<bool, NoMemory>
     ensures added { (added : List Trapezoid) × (pieces.new.items ≡ pieces.old.items ++ added) }
@@ -86,6 +89,20 @@ fn put_short(pieces: &mut Vec<ShortPiece>, traps: &[Trap]) -> Result<bool, NoMem
         pieces.push(piece)?;
     }
     Ok(true)
+}
+
+// The place of this number among what is seldom.
+fn seldom_place(number: usize) -> Place
+    ensures { result ≡ seldom_place number }
+{
+    Place::Seldom((number % BEYOND) as u32, (number / BEYOND) as u32)
+}
+
+// A number by its 32 lower bits and those above them.
+fn number_from(low: u32, high: u32) -> usize
+    ensures { result ≡ number_from low high }
+{
+    high as usize * BEYOND + low as usize
 }
 
 impl PieceStore {
@@ -107,17 +124,14 @@ impl PieceStore {
         self.places.len()
     }
 
-    // Puts an entry at the end that is seldom. More than 4,294,967,296 of them, each of 32 bytes, count as want of memory.
+    // Puts an entry at the end that is seldom.
     fn push_seldom(&mut self, form: Form) -> Result<(), NoMemory>
         ensures ok { OnOk result (self.new ≡ self.old ++ entry_of form ∷ []) }
         ensures err { OnErr result (self.new ≡ self.old) }
     {
         let number = self.seldom.len();
-        if number > GREATEST {
-            return Err(NoMemory);
-        }
         self.seldom.push(Seldom { form })?;
-        self.places.push(Place::Seldom(number as u32))?;
+        self.places.push(seldom_place(number))?;
         Ok(())
     }
 
@@ -173,7 +187,7 @@ impl PieceStore {
                     more: 0,
                 }
             }
-            Place::Seldom(seldom) => match &self.seldom[seldom as usize].form {
+            Place::Seldom(low, high) => match &self.seldom[number_from(low, high)].form {
                 Form::Wide(traps) => EntryRef {
                     pieces: PieceList::Wide(traps.as_slice()),
                     more: 0,

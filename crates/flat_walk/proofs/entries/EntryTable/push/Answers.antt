@@ -6,55 +6,42 @@ use Rattle.flat_walk.proofs.entries.EntryTable.push.Goals as goal
 pub invariant_of-self-then-is_own : goal.invariant_of-self-then-is_own
 invariant_of-self-then-is_own c =
     let s = c.self.inside in
-    coded_own s.shapes.now s.store s.codes.items c.push.new.self.items c.len.result
-    (let n = c.len.ensures in omega (arith, n, s.codes.ok)) c.in_ok-push.ensures.items
+    coded_own s.shapes.now s.store s.codes c.push.new.self c.len.result
+    c.len.ensures c.in_ok-push.ensures.ok
     (c.if-is_own.ensures.shape refl) c.self.invariant
 
 pub returns-then-is_own-clause-ok : goal.returns-then-is_own-clause-ok
 returns-then-is_own-clause-ok c =
     let s = c.self.inside in
-    own_pushed s.shapes.now s.store s.codes.items c.push.new.self.items c.len.result c.args.traps.now
-    (let n = c.len.ensures in omega (arith, n, s.codes.ok)) c.in_ok-push.ensures.items
+    own_pushed s.shapes.now s.store s.codes c.push.new.self c.len.result c.args.traps.now
+    c.len.ensures c.in_ok-push.ensures.ok
     (c.if-is_own.ensures.pieces refl) ∙ ap (λ l. l ++ alone c.args.traps.now ∷ []) c.self.view_is
-
-pub invariant_of-self-in_err-code : goal.invariant_of-self-in_err-code
-invariant_of-self-in_err-code c =
-    let s = c.self.inside in
-    stored_more s.shapes.now s.store c.push-2.new.self (alone c.args.traps.now)
-    s.codes.items s.codes.items c.in_ok-push-2.ensures.ok refl c.self.invariant
-
-pub returns-in_err-code-clause-err : goal.returns-in_err-code-clause-err
-returns-in_err-code-clause-err c =
-    let s = c.self.inside in
-    let same = store_more s.shapes.now s.store c.push-2.new.self (alone c.args.traps.now)
-    s.codes.items s.codes.items c.in_ok-push-2.ensures.ok refl c.self.invariant in
-    on_err c.from_residual-in_err-code.result (same ∙ c.self.view_is)
 
 pub invariant_of-self-in_err-push-3 : goal.invariant_of-self-in_err-push-3
 invariant_of-self-in_err-push-3 c =
     let s = c.self.inside in
     stored_more s.shapes.now s.store c.push-2.new.self (alone c.args.traps.now)
-    s.codes.items c.push-3.new.self.items c.in_ok-push-2.ensures.ok c.in_err-push-3.ensures.items
+    s.codes c.push-3.new.self c.in_ok-push-2.ensures.ok c.in_err-push-3.ensures.err
     c.self.invariant
 
 pub returns-in_err-push-3-clause-err : goal.returns-in_err-push-3-clause-err
 returns-in_err-push-3-clause-err c =
     let s = c.self.inside in
     let same = store_more s.shapes.now s.store c.push-2.new.self (alone c.args.traps.now)
-    s.codes.items c.push-3.new.self.items c.in_ok-push-2.ensures.ok
-    c.in_err-push-3.ensures.items c.self.invariant in
+    s.codes c.push-3.new.self c.in_ok-push-2.ensures.ok
+    c.in_err-push-3.ensures.err c.self.invariant in
     on_err c.from_residual-in_err-push-3.result (same ∙ c.self.view_is)
 
 pub invariant_of-self-2 : goal.invariant_of-self-2
 invariant_of-self-2 c =
     let s = c.self.inside in
     coded_pushed s.shapes.now s.store c.push-2.new.self (alone c.args.traps.now)
-    s.codes.items c.push-3.new.self.items c.in_ok-code.code c.in_ok-push-2.ensures.ok
-    c.in_ok-push-3.ensures.items c.in_ok-code.ensures c.self.invariant
+    s.codes c.push-3.new.self c.len-code.result c.in_ok-push-2.ensures.ok
+    c.in_ok-push-3.ensures.ok c.len-code.ensures c.self.invariant
 
 pub returns-clause-ok : goal.returns-clause-ok
 returns-clause-ok c =
     let s = c.self.inside in
     code_pushed s.shapes.now s.store c.push-2.new.self (alone c.args.traps.now)
-    s.codes.items c.push-3.new.self.items c.in_ok-code.code c.in_ok-push-2.ensures.ok
-    c.in_ok-push-3.ensures.items c.in_ok-code.ensures c.self.invariant ∙ ap (λ l. l ++ alone c.args.traps.now ∷ []) c.self.view_is
+    s.codes c.push-3.new.self c.len-code.result c.in_ok-push-2.ensures.ok
+    c.in_ok-push-3.ensures.ok c.len-code.ensures c.self.invariant ∙ ap (λ l. l ++ alone c.args.traps.now ∷ []) c.self.view_is

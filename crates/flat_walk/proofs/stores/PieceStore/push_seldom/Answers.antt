@@ -1,4 +1,4 @@
-use Rattle.std.proofs.Common.{◌∷◌, [], arith}
+use Rattle.std.proofs.Common.{◌∙◌, ◌++◌, ◌∷◌, [], ap, arith}
 use Rattle.flat_walk.specs.Stores.{entry_of}
 use Rattle.flat_walk.proofs.StoreLemmas.{seldom_before, seldom_then, err_from, AreAsBefore, AreThen}
 use Rattle.flat_walk.proofs.stores.PieceStore.push_seldom.Goals as goal
@@ -20,7 +20,8 @@ then c =
     let s = c.self.inside in
     seldom_then s.pieces.items s.seldom.items c.push.new.self.items s.places.items c.push-2.new.self.items c.args.self.now
     c.len-number.result (entry_of c.args.form)
-    (omega (arith, c.len-number.ensures, s.seldom.ok)) c.in_ok-push.ensures.items c.in_ok-push-2.ensures.items c.self.invariant c.self.view_is
+    (omega (arith, c.len-number.ensures, s.seldom.ok)) c.in_ok-push.ensures.items
+    (c.in_ok-push-2.ensures.items ∙ ap (λ p. s.places.items ++ p ∷ []) c.seldom_place.ensures) c.self.invariant c.self.view_is
 
 pub invariant_of-self-2 : goal.invariant_of-self-2
 invariant_of-self-2 c = (then c).there
