@@ -36,6 +36,7 @@ fn put_each<T: Copy>(codes: &mut Vec<T>, code: T, count: usize)
 }
 
 // The number at a place, if there are so many.
+#[inline(never)]
 fn wide_at(wide: &[usize], number: usize) -> Option<usize>
     ensures { MatchOption result (length wide.now ≤ number) (λ code. slice_get wide.now number ≡ Some code) }
 {

@@ -1,6 +1,6 @@
 //! The entries of a cell from one on.
-ghost use Rattle.std.specs.Prelude.{◌≡◌, ◌≤◌, ◌+◌, [], ◌∷◌, IsTrue, MatchOption, IfSome, Some, length, drop, slice_get};
-ghost use Rattle.flat_walk.specs.EntryLists.{entries_in};
+ghost use Rattle.std.specs.Prelude.{◌≡◌, ◌<◌, ◌≤◌, ◌+◌, ◌^◌, [], ◌∷◌, IsTrue, MatchOption, IfSome, Some, length, drop, slice_get};
+ghost use Rattle.flat_walk.specs.EntryLists.{entries_in, table_entries};
 ghost use Rattle.flat_walk.specs.Hands.{first_count};
 ghost use Rattle.flat_walk.specs.PieceLists.{AreShots};
 ghost use Rattle.flat_walk.specs.Stores.{entry_in};
@@ -64,6 +64,7 @@ impl<'t> EntryList<'t> {
     }
 
     /// How many shapes without pieces come after the first shape of the first entry.
+    #[inline(never)]
     pub(crate) fn more(&self) -> usize
         ensures { result + 1 ≡ first_count (entries_in self.now) }
     {
@@ -82,16 +83,25 @@ impl<'t> EntryList<'t> {
         self.after(number).first()
     }
 
+    // The table has fewer than 2^64 entries. It costs nothing.
+    #[inline(always)]
+    fn are_few(&self)
+        ensures { length (table_entries self.now.table) < 2 ^ 64 }
+    {
+        if let Some(table) = self.table {
+            let _count = table.len();
+        }
+    }
+
     /// All but the first so many.
+    #[inline(always)]
     pub(crate) fn after(&self, count: usize) -> EntryList<'t>
         ensures { entries_in result ≡ drop count (entries_in self.now) }
     {
-        let Some(table) = self.table else {
-            return EntryList::none();
-        };
+        self.are_few();
         EntryList {
-            table: Some(table),
-            first: self.first.saturating_add(count).min(table.len()),
+            table: self.table,
+            first: self.first.saturating_add(count),
         }
     }
 }

@@ -282,14 +282,14 @@ impl<'t> Cursor<'t> {
     {
         loop {
             self.pass_boxes(window);
-            if self.lists.is_empty() {
-                return None;
-            }
             let Some(shape) = self.first() else {
                 return None;
             };
             if self.has_more(shape, pair) {
                 return Some(shape);
+            }
+            if self.lists.is_empty() {
+                return None;
             }
             self.skip();
         }

@@ -6,13 +6,13 @@ use Rattle.flat_walk.proofs.RestLemmas.{skip_same, skip_on}
 use Rattle.flat_walk.proofs.CursorLemmas.{first_inside, list_over, next_list, next_shorter, next_steps}
 use Rattle.flat_walk.proofs.owned.Cursor.pass_by.Goals as goal
 
-pub loop-pair-init : goal.loop-pair-init
-loop-pair-init c = record { cursor = c.requires; skips = skip_same c.args.window _ _ refl; steps = omega arith }
+pub loop-shape-init : goal.loop-shape-init
+loop-shape-init c = record { cursor = c.requires; skips = skip_same c.args.window _ _ refl; steps = omega arith }
 
-pub loop-pair-preserved : goal.loop-pair-preserved
-loop-pair-preserved c =
+pub loop-shape-preserved : goal.loop-shape-preserved
+loop-shape-preserved c =
     let s = c.pass_boxes.new.self in
-    let i = c.loop-pair.invariant in
+    let i = c.loop-shape.invariant in
     let p = c.pass_boxes.ensures in
     let first = c.in-Some.ensures in
     record {
@@ -23,8 +23,8 @@ loop-pair-preserved c =
       steps = let h = next_steps s c.skip.new.self (shape_in c.in-Some.shape) first c.skip.ensures.next in omega (arith, h, p.steps, i.steps);
     }
 
-pub loop-pair-smaller : goal.loop-pair-smaller
-loop-pair-smaller c =
+pub loop-shape-smaller : goal.loop-shape-smaller
+loop-shape-smaller c =
     let shorter = next_shorter c.pass_boxes.new.self c.skip.new.self (shape_in c.in-Some.shape) c.in-Some.ensures c.skip.ensures.next in
     omega (arith, shorter, c.pass_boxes.ensures.shorter)
 
@@ -34,10 +34,10 @@ skip-requires-clause-inside c =
     first_inside s.number s.shapes.now (drop (s.number + 1) s.shapes.now) (shape_in c.in-Some.shape) c.in-Some.ensures.is
 
 pub returns-then-is_empty-clause-skips : goal.returns-then-is_empty-clause-skips
-returns-then-is_empty-clause-skips c = skip_on c.args.window _ _ _ c.loop-pair.invariant.skips (c.pass_boxes.ensures.skips c.args.pair)
+returns-then-is_empty-clause-skips c = skip_on c.args.window _ _ _ c.loop-shape.invariant.skips (c.pass_boxes.ensures.skips c.args.pair)
 
 pub returns-in_default-clause-skips : goal.returns-in_default-clause-skips
-returns-in_default-clause-skips c = skip_on c.args.window _ _ _ c.loop-pair.invariant.skips (c.pass_boxes.ensures.skips c.args.pair)
+returns-in_default-clause-skips c = skip_on c.args.window _ _ _ c.loop-shape.invariant.skips (c.pass_boxes.ensures.skips c.args.pair)
 
 pub returns-then-has_more-clause-skips : goal.returns-then-has_more-clause-skips
-returns-then-has_more-clause-skips c = skip_on c.args.window _ _ _ c.loop-pair.invariant.skips (c.pass_boxes.ensures.skips c.args.pair)
+returns-then-has_more-clause-skips c = skip_on c.args.window _ _ _ c.loop-shape.invariant.skips (c.pass_boxes.ensures.skips c.args.pair)
