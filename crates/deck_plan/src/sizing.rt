@@ -30,8 +30,8 @@ fn put_rings(edges: &mut Vec<Edge>, traps: &[Trap], dx: i64, dy: i64) -> Result<
     requires near { All (HasCornersUpTo (2 ^ 43)) traps.now }
     ensures { OnOk result (edges.new.items ≡ edges.old.items ++ flat_map (edges_of_grown dx dy) traps.now) }
 {
-    // Most sides are upright, and have one edge each.
-    edges.reserve(traps.len().saturating_mul(2))?;
+    // A side that isn't upright has two edges.
+    edges.reserve(traps.len().saturating_mul(4))?;
     for trap in traps {
         put_grown(edges, trap, dx, dy)?;
     }

@@ -2,11 +2,13 @@
 #![tactic(auto)]
 
 mod ending;
+mod memory;
 mod usage;
 mod words;
 
 use depot::FileDepot;
 use ending::exit_code;
+use memory::keep_what_is_given_back;
 use progress_line::{Screen, ShownDepot};
 use std::io::{IsTerminal, Stderr};
 use std::process::ExitCode;
@@ -24,6 +26,7 @@ fn screen(rt: HostRuntime) -> Option<Screen<HostRuntime, Stderr>> {
 }
 
 fn main(rt: HostRuntime) -> ExitCode {
+    keep_what_is_given_back(rt.alloc());
     let words = words(&rt, rt.alloc());
     let mut depot = ShownDepot::new(FileDepot::new(rt), screen(rt));
     let code = exit_code(rt.alloc(), &words, &mut depot);

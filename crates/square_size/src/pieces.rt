@@ -1,5 +1,5 @@
 //! The edges of one ring.
-ghost use Rattle.std.specs.Prelude.{◌≡◌, ◌≢◌, ◌<ℤ◌, [], ◌++◌, None, Some, IfNone, IfSome, OnOk};
+ghost use Rattle.std.specs.Prelude.{◌≡◌, ◌≢◌, ◌+◌, ◌<◌, ◌≤◌, ◌<ℤ◌, [], ◌++◌, None, Some, IfNone, IfSome, OnOk, vec_len, vec_capacity};
 ghost use Rattle.std.specs.Option.{option_to_list};
 ghost use Rattle.half_grid.specs.Lines.{line_of, Passes};
 ghost use Rattle.half_grid.specs.Reach.{IsPointWithinReach};
@@ -158,45 +158,49 @@ fn put_right(first: &mut Option<Edge>, second: &mut Option<Edge>, trap: &Trap, b
 
 // Puts an edge, where there is one, at the end.
 #[inline(always)]
-fn put_some(edges: &mut Vec<Edge>, piece: Option<Edge>) -> Result<(), NoMemory>
-    ensures { OnOk result (edges.new.items ≡ edges.old.items ++ option_to_list piece) }
+fn put_some(edges: &mut Vec<Edge>, piece: Option<Edge>)
+    requires room { vec_len edges.old < vec_capacity edges.old }
+    ensures items { edges.new.items ≡ edges.old.items ++ option_to_list piece }
+    ensures len { vec_len edges.new ≤ vec_len edges.old + 1 }
+    ensures room { vec_capacity edges.new ≡ vec_capacity edges.old }
 {
     if let Some(edge) = piece {
-        edges.push(edge)?;
+        edges.push_reserved(edge);
     }
-    Ok(())
 }
 
-// Puts the edges of the ring's left side at the end.
-fn add_left(edges: &mut Vec<Edge>, trap: &Trap, by: HalfSides) -> Result<(), NoMemory>
+// Puts the edges of the ring's left side at the end, two at most.
+fn add_left(edges: &mut Vec<Edge>, trap: &Trap, by: HalfSides)
     requires sizing { IsSizing by.dx by.dy }
     requires reach { HasRingWithinReach by.dx by.dy trap.now }
-    ensures { OnOk result (edges.new.items ≡ edges.old.items ++ (option_to_list (edge_between A (lower_left by.dx by.dy trap.now) (left_bend by.dx by.dy trap.now.y0 trap.now.y1 trap.now.left)) ++ option_to_list (edge_between A (left_bend by.dx by.dy trap.now.y0 trap.now.y1 trap.now.left) (upper_left by.dx by.dy trap.now)))) }
+    requires room { vec_len edges.old + 2 ≤ vec_capacity edges.old }
+    ensures items { edges.new.items ≡ edges.old.items ++ (option_to_list (edge_between A (lower_left by.dx by.dy trap.now) (left_bend by.dx by.dy trap.now.y0 trap.now.y1 trap.now.left)) ++ option_to_list (edge_between A (left_bend by.dx by.dy trap.now.y0 trap.now.y1 trap.now.left) (upper_left by.dx by.dy trap.now))) }
+    ensures len { vec_len edges.new ≤ vec_len edges.old + 2 }
+    ensures room { vec_capacity edges.new ≡ vec_capacity edges.old }
 {
     if let Some(edge) = upright_left(trap, by) {
-        edges.push(edge)?;
-        return Ok(());
+        edges.push_reserved(edge);
+        return;
     }
     let bend = left_bend(trap, by);
-    put_some(edges, edge_between(lower_left(trap, by), bend))?;
-    put_some(edges, edge_between(bend, upper_left(trap, by)))?;
-    Ok(())
+    put_some(edges, edge_between(lower_left(trap, by), bend));
+    put_some(edges, edge_between(bend, upper_left(trap, by)));
 }
 
-// Puts the edges of the ring's right side at the end.
-fn add_right(edges: &mut Vec<Edge>, trap: &Trap, by: HalfSides) -> Result<(), NoMemory>
+// Puts the edges of the ring's right side at the end, two at most.
+fn add_right(edges: &mut Vec<Edge>, trap: &Trap, by: HalfSides)
     requires sizing { IsSizing by.dx by.dy }
     requires reach { HasRingWithinReach by.dx by.dy trap.now }
-    ensures { OnOk result (edges.new.items ≡ edges.old.items ++ (option_to_list (edge_between A (upper_right by.dx by.dy trap.now) (right_bend by.dx by.dy trap.now.y0 trap.now.y1 trap.now.right)) ++ option_to_list (edge_between A (right_bend by.dx by.dy trap.now.y0 trap.now.y1 trap.now.right) (lower_right by.dx by.dy trap.now)))) }
+    requires room { vec_len edges.old + 2 ≤ vec_capacity edges.old }
+    ensures items { edges.new.items ≡ edges.old.items ++ (option_to_list (edge_between A (upper_right by.dx by.dy trap.now) (right_bend by.dx by.dy trap.now.y0 trap.now.y1 trap.now.right)) ++ option_to_list (edge_between A (right_bend by.dx by.dy trap.now.y0 trap.now.y1 trap.now.right) (lower_right by.dx by.dy trap.now))) }
 {
     if let Some(edge) = upright_right(trap, by) {
-        edges.push(edge)?;
-        return Ok(());
+        edges.push_reserved(edge);
+        return;
     }
     let bend = right_bend(trap, by);
-    put_some(edges, edge_between(upper_right(trap, by), bend))?;
-    put_some(edges, edge_between(bend, lower_right(trap, by)))?;
-    Ok(())
+    put_some(edges, edge_between(upper_right(trap, by), bend));
+    put_some(edges, edge_between(bend, lower_right(trap, by)));
 }
 
 /// Puts the edges of the ring of a trapezoid that grows by the rectangle of half sides `dx` and `dy`, in half units, at
@@ -210,8 +214,9 @@ pub fn put_grown(edges: &mut Vec<Edge>, trap: &Trap, dx: i64, dy: i64) -> Result
     ensures { OnOk result (edges.new.items ≡ edges.old.items ++ edges_of_grown dx dy trap.now) }
 {
     let by = HalfSides { dx, dy };
-    add_left(edges, trap, by)?;
-    add_right(edges, trap, by)?;
+    edges.reserve(4)?;
+    add_left(edges, trap, by);
+    add_right(edges, trap, by);
     Ok(())
 }
 
