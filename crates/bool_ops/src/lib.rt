@@ -5,7 +5,6 @@
 
 mod ascents;
 mod climbs;
-mod lengths;
 mod lone;
 mod operations;
 mod outline;

@@ -1,11 +1,8 @@
 ghost use Rattle.std.specs.Prelude.{IfOk, IfSome, IfNone, ◌≡◌, ◌<◌, ◌-◌, ◌^◌, ◌&&◌, pos, not};
 ghost use Rattle.std.specs.Ordering.{int_eq};
 ghost use Rattle.bool_ops.specs.Operations.{IsJoinedOf, IsLeftIn, IsWoundIn};
-ghost use Rattle.column_sweep.specs.Sweeps.{IsSwept};
-ghost use Rattle.scan_line.specs.Rules.{IsRule};
 ghost use Rattle.scan_line.specs.Runs.{IsBalanced};
 
-use crate::lengths::are_long;
 use column_sweep::{swept, swept_within};
 use geo_stream::NoMemory;
 use half_grid::{Edge, Trap, Window};
@@ -21,32 +18,7 @@ pub fn unite(alloc: Global, edges: Vec<Edge>, window: Window) -> Result<Vec<Trap
     let asked = |first: i128, _second: i128| -> bool
         ensures { result ≡ not (int_eq first (pos 0)) }
     { first != 0 };
-    let rule = Rule::new(asked);
-    if are_long(edges.as_slice()) {
-        return plane_sweep::swept(alloc, edges, window, rule);
-    }
-    swept(alloc, edges, window, rule)
-}
-
-// The joined list of the window's tiles that a rule takes, by the sweep that suits the edges. It is given up where the columns
-// go over more edges than about so many.
-fn swept_unless<F: Fn(i128, i128) -> bool + Drop>(
-    alloc: Global,
-    edges: Vec<Edge>,
-    window: Window,
-    rule: Rule<F>,
-    most: u64,
-) -> Result<Option<Vec<Trap>>, NoMemory>
-    requires rule { IsRule (F.pre rule) (F.post rule) }
-    requires balanced { IsBalanced edges.items window }
-    ensures swept { IfOk result (λ answer. IfSome answer (λ traps. IsSwept (F.post rule) edges.items window traps.items)) }
-    ensures given_up { IfOk result (λ answer. IfNone answer (most < 2 ^ 64 - 1)) }
-{
-    if are_long(edges.as_slice()) {
-        let traps = plane_sweep::swept(alloc, edges, window, rule)?;
-        return Ok(Some(traps));
-    }
-    swept_within(alloc, edges, window, rule, most)
+    swept(alloc, edges, window, Rule::new(asked))
 }
 
 /// The same list as of `unite`, as long as no more edges than about so many are gone over: None where it is given up, and the
@@ -64,7 +36,7 @@ pub fn unite_within(
     let asked = |winding: i128, _other: i128| -> bool
         ensures { result ≡ not (int_eq winding (pos 0)) }
     { winding != 0 };
-    match swept_unless(alloc, edges, window, Rule::new(asked), most)? {
+    match swept_within(alloc, edges, window, Rule::new(asked), most)? {
         Some(traps) => Ok(Some(traps)),
         None => Ok(None),
     }
@@ -87,7 +59,7 @@ pub fn left_over_within(
     let asked = |first: i128, second: i128| -> bool
         ensures { result ≡ (int_eq first (pos 0) && not (int_eq second (pos 0))) }
     { first == 0 && second != 0 };
-    match swept_unless(alloc, edges, window, Rule::new(asked), most)? {
+    match swept_within(alloc, edges, window, Rule::new(asked), most)? {
         Some(traps) => Ok(Some(traps)),
         None => Ok(None),
     }

@@ -10,6 +10,7 @@ mod cutting;
 mod dealing;
 mod halting;
 mod laws;
+mod lengths;
 mod looking;
 mod lowest_tile;
 mod meeting;

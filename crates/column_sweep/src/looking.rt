@@ -11,6 +11,7 @@ ghost use Rattle.column_sweep.specs.Parts.{LiesRight};
 use crate::columns::{before_all, is_next, know_edges};
 use crate::cuts::{Cut, are_often_crossed, chosen_cuts};
 use crate::dealing::sort_for_cuts;
+use crate::lengths::are_long;
 use crate::lowest_tile::lowest_within;
 use crate::parting::parted;
 use crate::waiting::split_before;
@@ -199,7 +200,8 @@ pub(crate) fn lowest_at<F: Fn(i128, i128) -> bool + Drop>(
 /// as many edges that go up as edges that go down.
 ///
 /// Each column is swept from below, and only below the lowest tile that another one has. So above the first column's
-/// tile nothing is looked at any more. Where edges that lean cross the cuts often, `plane_sweep` looks for it.
+/// tile nothing is looked at any more. Where edges that lean cross the cuts often, or long shapes stand side by side,
+/// `plane_sweep` looks for it.
 pub fn lowest<F: Fn(i128, i128) -> bool + Drop>(
     alloc: Global,
     edges: Vec<Edge>,
@@ -211,6 +213,9 @@ pub fn lowest<F: Fn(i128, i128) -> bool + Drop>(
     ensures found { IfOk result (λ answer. IfSome answer (IsLowest (F.post rule) edges.items window)) }
     ensures none { IfOk result (λ answer. IfNone answer (TakesNone (F.post rule) edges.items window)) }
 {
+    if are_long(edges.as_slice()) {
+        return plane_sweep::lowest(alloc, edges, window, rule);
+    }
     let cuts = chosen_cuts(alloc, edges.as_slice())?;
     if are_often_crossed(edges.as_slice(), cuts.as_slice()) {
         return plane_sweep::lowest(alloc, edges, window, rule);

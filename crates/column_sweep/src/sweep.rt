@@ -10,6 +10,7 @@ use crate::counted::Swept;
 use crate::cuts::{Cut, are_often_crossed, chosen_cuts, plain_budget};
 use crate::cutting::cut_to;
 use crate::halting::Halt;
+use crate::lengths::are_long;
 use crate::seams::joined_seams;
 use geo_stream::NoMemory;
 use half_grid::{Edge, Trap, Window};
@@ -211,8 +212,8 @@ fn swept_by_need<F: Fn(i128, i128) -> bool + Drop>(
     swept_at(alloc, edges, window, &rule, cuts.as_slice(), most)
 }
 
-// The joined list, with the count of edges gone over. It is given up where the columns go over more edges than this, and some
-// more.
+// The joined list by the sweep that suits the edges, with the count of edges gone over. It is given up where the columns go
+// over more edges than this, and some more.
 fn swept_unless<F: Fn(i128, i128) -> bool + Drop>(
     alloc: Global,
     edges: Vec<Edge>,
@@ -225,6 +226,10 @@ fn swept_unless<F: Fn(i128, i128) -> bool + Drop>(
     ensures swept { IfOk result (λ swept. IsSwept (F.post rule) edges.items window swept.traps.items) }
     ensures long { IfErr result (λ halt. halt ≡ Long → most < 2 ^ 64 - 1) }
 {
+    if are_long(edges.as_slice()) {
+        let traps = plane_sweep::swept(alloc, edges, window, rule)?;
+        return Ok(Swept { traps, walked: 0 });
+    }
     let mut edges = edges;
     cut_to(&mut edges, window);
     match tried_plain(alloc, edges, window, &rule)? {

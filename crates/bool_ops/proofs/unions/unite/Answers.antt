@@ -4,15 +4,8 @@ use Rattle.bool_ops.specs.Operations.{IsWoundIn, IsJoinedOf}
 use Rattle.bool_ops.proofs.TakingLemmas.{swept_union}
 use Rattle.bool_ops.proofs.unions.unite.Goals as goal
 
-pub returns-then-are_long : goal.returns-then-are_long
-returns-then-are_long c =
-    IfOk-weaker c.swept.result _ (λ traps. IsJoinedOf c.args.window (IsWoundIn c.args.edges.items c.args.window) traps.items)
-    (λ traps plane. swept_union c.args.window _ (λ x y r h. h) (λ x y. refl) c.args.edges.items traps.items
-    (record { joined = plane.joined; covers = plane.covers }))
-    c.swept.ensures
-
 pub returns : goal.returns
 returns c =
-    IfOk-weaker c.swept-2.result _ (λ traps. IsJoinedOf c.args.window (IsWoundIn c.args.edges.items c.args.window) traps.items)
+    IfOk-weaker c.swept.result _ (λ traps. IsJoinedOf c.args.window (IsWoundIn c.args.edges.items c.args.window) traps.items)
     (λ traps. swept_union c.args.window _ (λ x y r h. h) (λ x y. refl) c.args.edges.items traps.items)
-    c.swept-2.ensures
+    c.swept.ensures
