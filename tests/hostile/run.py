@@ -26,12 +26,13 @@ import further
 import geometry
 import names
 import repetitions
+import rings
 import trees
 
 MEMORY, SECONDS = 4 << 30, 60
 # The last line that is printed has fewer bytes.
 LONGEST_LINE = 1 << 24
-CASES = [case for module in (names, repetitions, trees, geometry, decks, further) for case in module.CASES]
+CASES = [case for module in (names, repetitions, trees, geometry, rings, decks, further) for case in module.CASES]
 
 
 class Skipped(Exception):
