@@ -1,0 +1,2 @@
+mod KnownAreas
+mod BandLemmas

@@ -1,0 +1,3 @@
+-- ---- what is promised, in reading order
+pub mod AreaLaws
+pub mod BandLaws
