@@ -10,4 +10,8 @@ pub mod Filing
 pub mod Memory
 pub mod Sure
 -- ---- what is kept inside
+pub mod Shelves
+pub mod Targets
+pub mod Tallies
+pub mod Keeping
 pub mod System

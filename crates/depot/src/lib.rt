@@ -3,16 +3,21 @@
 #![tactic(auto)]
 
 mod buffer;
+mod disk;
+mod fault;
 mod filing;
+mod keeper;
 mod memory;
 mod outside;
 mod printing;
 mod real;
 mod store;
 mod sure;
+mod system;
 mod whole;
 
 pub use buffer::{BUFFER_SIZE, Buffer};
+pub use fault::{FaultCause, SystemFault};
 pub use memory::MemDepot;
 pub use outside::{Depot, DepotBad, Progress};
 pub use printing::{flush, put_piece};

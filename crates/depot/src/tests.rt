@@ -1,7 +1,7 @@
 // One happy path of each public call over each depot, and a refusal of each kind.
 use crate::{
-    Buffer, Depot, FileDepot, MemDepot, Progress, Refused, SureDepot, flush, make_file,
-    nothing_fails, put_piece, read_all, say_whole, write_whole,
+    Buffer, Depot, DepotBad, FaultCause, FileDepot, MemDepot, Progress, Refused, SureDepot, flush,
+    make_file, nothing_fails, put_piece, read_all, say_whole, write_whole,
 };
 use std::alloc::Global;
 use std::fs;
@@ -112,17 +112,32 @@ fn limits_and_missing_files(rt: HostRuntime) -> Result<(), Fail> {
     Ok(())
 }
 
+const REAL: &str = "depot-test.tmp";
+
+// A file of the system with these bytes, made by a depot of its own.
+fn make_real(rt: HostRuntime, bytes: &[u8]) -> Result<(), Fail> {
+    let mut depot = FileDepot::new(rt);
+    make_file(&mut depot, REAL, bytes)?;
+    depot.finish()?;
+    Ok(())
+}
+
 #[test]
 fn real_files(rt: HostRuntime) -> Result<(), Fail> {
+    make_real(rt.clone()?, b"a longer file before")?;
+    make_real(rt.clone()?, b"\x00abc")?;
     let mut depot = FileDepot::new(rt.clone()?);
-    make_file(&mut depot, "depot-test.tmp", b"a longer file before")?;
-    make_file(&mut depot, "depot-test.tmp", b"\x00abc")?;
-    let bytes = read_all(rt.alloc(), &mut depot, "depot-test.tmp", LIMIT)?;
-    fs::remove_file(&rt, "depot-test.tmp")?;
+    let bytes = read_all(rt.alloc(), &mut depot, REAL, LIMIT)?;
     assert_eq!(rt; bytes.as_slice(), b"\x00abc".as_slice());
-    let missing = read_all(rt.alloc(), &mut depot, "depot-test.tmp", LIMIT);
+    let input = make_file(&mut depot, REAL, b"ab");
+    assert_eq!(rt; input.err(), Some(DepotBad::Failed));
+    let fault = depot.fault().ok_or("no fault")?;
+    assert_eq!(rt; (fault.name(), fault.cause()), (REAL, FaultCause::IsInput));
+    fs::remove_file(&rt, REAL)?;
+    let missing = read_all(rt.alloc(), &mut depot, REAL, LIMIT);
     assert_eq!(rt; missing.err(), Some(Refused::Fault));
     say_whole(&mut depot, b"done\n")?;
+    assert!(rt; depot.leftovers().is_empty());
     Ok(())
 }
 

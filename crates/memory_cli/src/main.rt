@@ -67,6 +67,7 @@ fn put_out(files: &mut FileDepot<HostRuntime>, depot: &MemDepot, made: &[String]
             make_file(files, name.as_str(), bytes).ok()?;
         }
     }
+    files.finish().ok()?;
     say_whole(files, depot.said()).ok()
 }
 
