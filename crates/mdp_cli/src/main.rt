@@ -15,6 +15,9 @@ use std::process::ExitCode;
 use usage::tell_usage;
 use words::words;
 
+/// What is said where memory ran out, which may be in the middle of a file that no call of the depot refused.
+const WANT_OF_MEMORY: &[u8] = b"want of memory\n";
+
 // Standard error, where it is a terminal.
 fn screen(rt: HostRuntime) -> Option<Screen<HostRuntime, Stderr>> {
     let to = rt.stderr();
@@ -28,7 +31,9 @@ fn screen(rt: HostRuntime) -> Option<Screen<HostRuntime, Stderr>> {
 fn main(rt: HostRuntime) -> ExitCode {
     keep_what_is_given_back(rt.alloc());
     let words = words(&rt, rt.alloc());
-    let mut depot = ShownDepot::new(FileDepot::new(rt), screen(rt));
+    let mut files = FileDepot::new(rt);
+    files.give_up_at(WANT_OF_MEMORY);
+    let mut depot = ShownDepot::new(files, screen(rt));
     let code = exit_code(rt.alloc(), &words, &mut depot);
     depot.wipe();
     tell_usage(&rt, code);
