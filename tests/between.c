@@ -1,5 +1,6 @@
 // Stands between the program and the C library: it counts what the program itself asks for, from the start of `main` on.
-// REFUSE_ALLOCATION and REFUSE_CALL are the numbers, from 1, of what is refused; MOST is the number of bytes that a read or
+// REFUSE_ALLOCATION and REFUSE_CALL are the numbers, from 1, of what is refused, calls being those that open, make, look at,
+// read, write, sync and rename files and set their modes; MOST is the number of bytes that a read or
 // a write moves at most; COUNTS is a file that gets both counts at the end.
 #define _GNU_SOURCE
 #include <errno.h>
@@ -7,6 +8,7 @@
 #include <stdarg.h>
 #include <stdio.h>
 #include <stdlib.h>
+#include <sys/stat.h>
 #include <sys/syscall.h>
 #include <unistd.h>
 
@@ -66,6 +68,22 @@ int open(const char *name, int flags, ...) {
     int mode = va_arg(rest, int);
     va_end(rest);
     return call_fails() ? -1 : syscall(SYS_openat, AT_FDCWD, name, flags, mode);
+}
+
+int rename(const char *from, const char *to) {
+    return call_fails() ? -1 : syscall(SYS_renameat, AT_FDCWD, from, AT_FDCWD, to);
+}
+
+int statx(int folder, const char *name, int flags, unsigned mask, struct statx *found) {
+    return call_fails() ? -1 : syscall(SYS_statx, folder, name, flags, mask, found);
+}
+
+int fchmod(int file, mode_t mode) {
+    return call_fails() ? -1 : syscall(SYS_fchmod, file, mode);
+}
+
+int fsync(int file) {
+    return call_fails() ? -1 : syscall(SYS_fsync, file);
 }
 
 static size_t moved(size_t count) {

@@ -1,12 +1,13 @@
 #!/usr/bin/env bash
-# Refuses each allocation of some small runs in turn, and lets each of their calls for files fail in turn (opening, reading,
-# writing, also what is said), and judges what is left: status and line, and that all outputs before some place are whole,
-# the one there as before, empty or the beginning of the right text, and those after it as before. A run over two bands is
-# once refused memory when the first band's shot is written and nothing of the second: bands are written one by one.
+# Refuses each allocation of some small runs in turn, and lets each of their calls for files fail in turn (opening, making,
+# looking at, reading, writing, also what is said, syncing and renaming), and judges what is left: status and line, and that
+# all outputs before some place are whole, those from there on as before, and that nothing is left beside them.
 #
 # A small library is put between the program and the C library for that, which cc makes: it needs Linux and glibc. With
 # MEMORY, the built program of crates/memory_cli, the same is done once more over a depot in memory, which counts what it
-# refuses: there the calls that fail are those of the depot, until a run has fewer.
+# refuses: there the calls that fail are those of the depot, until a run has fewer, and one output may be empty or the
+# beginning of the right text. A run over two bands is once refused memory there when the first band's shot is written and
+# nothing of the second: bands are written one by one.
 #
 #     usage: tests/refusals.sh PROGRAM [MEMORY]
 set -u
@@ -59,17 +60,27 @@ begins() {
     [ -e "$1" ] && cmp -s "$1" <(head -c "$(stat -c %s "$1")" "right/$1")
 }
 
-# outputs_are_sound HOW: some outputs are whole, one may be cut, those after it are as before
+# outputs_are_sound HOW: some outputs are whole, those after them are as before; over a depot in memory one may be cut
 outputs_are_sound() {
     local name place=no
+    nothing_is_beside || return 1
     for name in "${outputs[@]}"; do
         if [ "$place" = yes ]; then
             as_before "$name" "$1" || return 1
         elif ! cmp -s "$name" "right/$name"; then
             place=yes
-            as_before "$name" "$1" || begins "$name" || return 1
+            as_before "$name" "$1" || { is_over_memory && begins "$name"; } || return 1
         fi
     done
+}
+
+# No file is left that was to take an output's place.
+nothing_is_beside() {
+    [ -z "$(find . -name '*nettletide-part*')" ]
+}
+
+is_over_memory() {
+    [ "${over[0]}" != "$program" ]
 }
 
 inputs_are_untouched() {
@@ -104,7 +115,7 @@ nothing_began() {
 # The program did without it, and the run ended as ever.
 ended_as_ever() {
     local name
-    [ "$status" -eq "$wanted" ] && cmp -s said right/said || return 1
+    [ "$status" -eq "$wanted" ] && cmp -s said right/said && nothing_is_beside || return 1
     for name in "${outputs[@]}"; do
         cmp -s "$name" "right/$name" || return 1
     done
@@ -177,7 +188,6 @@ row() {
         done
     done
     printf '%s: %d allocations and %d calls, each refused twice\n' "$row" "$allocations" "$calls"
-    file_sizes=$sizes
     [ -z "$memory" ] || row_over_memory
 }
 
@@ -208,14 +218,12 @@ row_over_memory() {
     printf '%s: %d allocations and %d calls, each refused\n' "$row" "$allocations" "$calls"
 }
 
-# In some run where memory is refused, the head and the first band's shot are all that is written.
+# In some run over a depot in memory where memory is refused, the head and the first band's shot are all that is written.
 first_band_alone() {
-    local lengths
-    for lengths in "$file_sizes" "$sizes"; do
-        [[ "$lengths" != *' 53 '* ]] || continue
-        printf 'FAILED: %s: no run ends with the first band alone, but with files of these lengths:%s\n' "$row" "$lengths"
+    if [ -n "$memory" ] && [[ "$sizes" != *' 53 '* ]]; then
+        printf 'FAILED: %s: no run ends with the first band alone, but with files of these lengths:%s\n' "$row" "$sizes"
         failed=$((failed + 1))
-    done
+    fi
     if ! cmp -s <(head -c 53 right/out.oas | tail -c 12) <(printf '\x18\x7B\x01\x00\xD0\x0F\x80\x08\x80\x10\x00\x00'); then
         printf 'FAILED: %s: the first band has another shot\n' "$row"
         failed=$((failed + 1))

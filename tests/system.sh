@@ -171,12 +171,12 @@ within() {
     )
 }
 
-# The output stops in the middle of END, which is one piece.
+# The output stops in the middle of END, which is one piece. What was written is taken away.
 stops_in_file() {
     local status=0
     rm -f square.oas
     within 300 "$program" fracture square.gds square.deck >/dev/null || status=$?
-    [ "$status" -eq 5 ] && cmp square.oas <(head -c 300 expected.oas)
+    [ "$status" -eq 5 ] && [ -z "$(find . -name 'square.oas*')" ]
 }
 
 # The listing stops in the middle of its one piece, and so the line of the answer has no room either.
