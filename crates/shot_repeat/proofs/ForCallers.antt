@@ -3,3 +3,5 @@
 pub use Rattle.shot_repeat.proofs.Files.{one_file, file_right}
 pub use Rattle.shot_repeat.proofs.Rights.{one_fault}
 pub use Rattle.shot_repeat.proofs.Packings.{text_stands, text_is_file}
+-- It is no longer than the plain text.
+pub use Rattle.shot_repeat.proofs.Shorter.{text_is_short}

@@ -15,5 +15,6 @@ pub mod Others
 pub mod Repeated
 pub mod Followers
 pub mod Packings
+pub mod Shorter
 pub mod Written
 pub mod ForCallers

@@ -3,7 +3,7 @@ use Rattle.std.specs.Prelude.{ℕ, ◌≤◌, length, map, List, Option, All}
 use Rattle.half_grid.specs.Trapezoids.{Trapezoid, IsShot}
 use Rattle.layout_model.specs.declared.pair.Pair.{Pair}
 use Rattle.oas_lex.specs.ShotLaws.{IsNarrowPair}
-use Rattle.oas_lex.specs.ShotText.{IsUnit, fields_of}
+use Rattle.oas_lex.specs.ShotText.{IsUnit, fields_of, shot_text}
 use Rattle.shot_reader.specs.Reading.{IsPairOf, Agrees}
 use Rattle.shot_repeat.specs.Packed.{IsPackedText, IsPackedFile, most_of_file}
 use Rattle.shot_repeat.specs.Packing.{run_length, IsRun, packed_text}
@@ -21,6 +21,11 @@ TextIsFile =
     (unit layer datatype : ℕ) (pair : Option Pair) (shots : List Trapezoid)
     → IsUnit unit → IsNarrowPair layer datatype → All IsShot shots → IsPairOf pair shots → Agrees pair layer datatype
     → length shots ≤ most_of_file → IsPackedFile (packed_text unit layer datatype shots) unit pair shots
+
+-- It has no more bytes than the plain text of these shots.
+abbrev pub TextIsShort : Type 0
+TextIsShort = (unit layer datatype : ℕ) (shots : List Trapezoid)
+    → length (packed_text unit layer datatype shots) ≤ length (shot_text unit layer datatype shots)
 
 -- The length of the run from the first shot of a list on is the greatest of all runs.
 pub record RunIsLongest : Type 0 where
