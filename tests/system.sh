@@ -117,6 +117,7 @@ expected >expected.oas
 head -n 3 square.deck >short.deck
 
 check 'no words end with status 1' says_with 1 'words refused'
+check 'a word that is no UTF-8 ends with status 8, and nothing is printed' says_with 8 '' shots $'\xff.oas'
 check 'a deck without an output ends with status 2' ends_with 2 square.gds short.deck
 check 'a layout of another form ends with status 3' ends_with 3 width.gds square.deck
 check 'a missing layout ends with status 4' ends_with 4 missing.gds square.deck

@@ -4,7 +4,7 @@ use Rattle.job_words.specs.Words.{IsNoCommand}
 use Rattle.job_report.specs.Codes.{code_of}
 use Rattle.mdp_job.specs.Runs.{Run}
 use Rattle.mdp_job.specs.Headline.{Certifies}
-use Rattle.mdp_job.specs.Clauses.{Coverage, Acceptance, Refusals, Remains, Speech, FaultsTold}
+use Rattle.mdp_job.specs.Clauses.{Belongs, Coverage, Acceptance, Refusals, Remains, Speech, FaultsTold}
 use Rattle.job_report.specs.declared.status.Status.{Status}
 use Rattle.job_report.specs.declared.status.Status.TheVariants as answers
 
@@ -13,6 +13,7 @@ pub record IsEnd (tells : Bool) (r : Run) (words : List (List ℕ)) (number : �
   pub answer : Status
   pub is : number ≡ code_of answer
   pub refused : (answer ≡ answers.Words) ↔ IsNoCommand words
+  pub belongs : Belongs words answer
   pub faults_told : FaultsTold r.old r.new (IsTrue tells) answer
   pub covers : IsTrue tells → Coverage r words answer
   pub certifies : IsTrue tells → Certifies r words answer

@@ -20,6 +20,7 @@ returns-in-Some-clause-end g c =
       answer = c.run.result;
       is = c.number.ensures;
       refused = c.run.ensures.words;
+      belongs = c.run.ensures.belongs;
       faults_told = c.run.ensures.faults_told;
       covers = c.run.ensures.covers;
       certifies = c.run.ensures.certifies;
