@@ -71,6 +71,11 @@ unsaid b a = record a { said = b.said }
 pub quiet_is : (b m a : Content) (x : List ℕ) → m.said ≡ b.said → a ≡ with_said m x → unsaid b a ≡ m
 quiet_is b m a x same e = ap (unsaid b) e ∙ ap (λ (t : List ℕ). record m { said = t }) (sym same)
 
+-- something was made while nothing was said, then a text was said, and then something more
+pub made_quiet : (b c m a : Content) (front x : List ℕ) → c.said ≡ b.said → m ≡ with_said c front → a ≡ with_said m x → unsaid b a ≡ c
+made_quiet b c m a front x same f e =
+    ap (unsaid b) e ∙ ap (λ (d : Content). unsaid b (with_said d x)) f ∙ ap (λ (t : List ℕ). record c { said = t }) (sym same)
+
 pub quiet_left : (b a : Content) (left x : List ℕ) → a ≡ record (with_left b left) { said = x } → ChangesLeftOnly b (unsaid b a)
 quiet_left b a left x e = subst (λ (c : Content). ChangesLeftOnly b (unsaid b c)) (sym e) refl
 

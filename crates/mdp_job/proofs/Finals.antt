@@ -1,14 +1,17 @@
 -- What holds after Done, from the table of answers.
-use Rattle.std.proofs.Common.{◌≡◌, ◌≢◌, ◌⊎◌, inl, inr, ℕ, pos, ◌≤◌, Bool, List, [], ◌++◌, Option, None, Some, refl, sym, ap, subst, ◌∙◌, arith}
-use Rattle.depot.specs.Content.{Content, with_left}
+use Rattle.std.proofs.Common.{◌≡◌, ◌≢◌, ◌⊎◌, inl, inr, ℕ, pos, ◌≤◌, Bool, List, [], ◌++◌, length, Option, None, Some, refl, sym, ap, subst, ◌∙◌, arith}
+use Rattle.depot.specs.Content.{Content, held_as, with_left}
 use Rattle.depot.specs.Counts.{Counts, NeverFall, Rose}
 use Rattle.depot.proofs.ForCallers.{Rose-earlier}
 use Rattle.layout_model.specs.declared.pair.Pair.{Pair}
+use Rattle.std.proofs.lemmas.Int.{ints}
 use Rattle.half_grid.specs.Trapezoids.{Trapezoid}
+use Rattle.field_split.specs.Fields.{IsFieldSize}
 use Rattle.oas_lex.specs.ShotLaws.{IsNarrowPair}
+use Rattle.oas_lex.specs.ShotText.{shot_text}
 use Rattle.shot_reader.specs.Reading.{IsPairOf, Agrees, IsFileOf as IsTextFile}
-use Rattle.shot_repeat.specs.Packed.{IsPackedText}
-use Rattle.shot_repeat.proofs.ForCallers.{text_stands}
+use Rattle.shot_repeat.specs.Packed.{IsPackedText, IsPackedFile}
+use Rattle.shot_repeat.proofs.ForCallers.{one_file, text_stands, text_is_file, text_is_short}
 use Rattle.job_input.specs.Accepted.{HoldsInput}
 use Rattle.job_input.specs.declared.reading.Input.{Input}
 use Rattle.job_words.specs.Words.{Fracture, Check, Shots, Pack, Unpack, Split, Density, Generate, IsFracture, IsCheck}
@@ -16,8 +19,7 @@ use Rattle.mdp_job.specs.Runs.{run_of}
 use Rattle.mdp_job.specs.Headline.{Covers, Certifies}
 use Rattle.mdp_job.specs.Outputs.{AreEconomic, AreSummed, IsReported, report_on}
 use Rattle.mdp_job.specs.Certificates.{IsExactReported}
-use Rattle.mdp_job.specs.ShotFiles.{ShotData, pair_or, packed_of}
-use Rattle.mdp_job.specs.Splitting.{IsSplit}
+use Rattle.mdp_job.specs.ShotFiles.{ShotData, pair_or, packed_of, IsGivenBack}
 use Rattle.mdp_job.specs.Densities.{AreTablesSaid}
 use Rattle.mdp_job.specs.Parts.{IsDone, IsMade, IsFractured}
 use Rattle.mdp_job.specs.Table.{listing_command, packing_command, unpacking_command, splitting_command}
@@ -31,6 +33,9 @@ use Rattle.mdp_job.proofs.DensityRows.{density_done}
 use Rattle.mdp_job.proofs.FileRows.{done_is, ended_done, memory_done, write_done}
 use Rattle.mdp_job.proofs.Exactness.{all_summed as exact_summed}
 use Rattle.mdp_job.proofs.Table.{answer_for}
+use Rattle.mdp_job.proofs.Contents.{one_content}
+use Rattle.mdp_job.proofs.Taken.{fewer_shots}
+use Rattle.mdp_job.proofs.SplitCovers.{lists_keep}
 use Rattle.mdp_job.proofs.Ends.{Ends, input_rules}
 use Rattle.mdp_job.proofs.Written.{all_economic, all_summed, covered_then, written_said}
 
@@ -56,10 +61,56 @@ agrees_or : (pair : Option Pair) → Agrees pair (pair_or pair).layer (pair_or p
 agrees_or None = tt
 agrees_or (Some pair) = (refl, refl)
 
+-- the packed text stands for the shots of a file, and is read again
 packed_stands : (bytes : List ℕ) (s : ShotData) → IsTextFile bytes s.unit s.pair s.shots → IsPackedText (packed_of s) s.unit s.pair s.shots
 packed_stands bytes s f =
     text_stands s.unit (pair_or s.pair).layer (pair_or s.pair).datatype s.pair s.shots f.unit_fits
     (narrow_or s.pair s.shots f.pair_fits) f.legal f.pair_fits (agrees_or s.pair)
+
+packed_is_file : (bytes : List ℕ) (s : ShotData) → IsTextFile bytes s.unit s.pair s.shots → length bytes ≤ 268435456 → IsPackedFile
+    (packed_of s) s.unit s.pair s.shots
+packed_is_file bytes s f short =
+    text_is_file s.unit (pair_or s.pair).layer (pair_or s.pair).datatype s.pair s.shots f.unit_fits
+    (narrow_or s.pair s.shots f.pair_fits) f.legal f.pair_fits (agrees_or s.pair) (fewer_shots bytes s.unit s.pair s.shots f short)
+
+-- a file has the text of its shots with its pair, which is no shorter than their packed text
+plain_is : (unit l d : ℕ) (pair : Option Pair) (shots : List Trapezoid) → IsPairOf pair shots → Agrees pair l d
+    → shot_text unit (pair_or pair).layer (pair_or pair).datatype shots ≡ shot_text unit l d shots
+unfolding shot_text
+plain_is unit l d None shots none agrees = subst (λ (zs : List Trapezoid). shot_text unit 0 0 zs ≡ shot_text unit l d zs) (sym none) refl
+plain_is unit l d (Some pair) shots fits agrees =
+    ap (λ (k : ℕ). shot_text unit k pair.datatype shots) agrees.0 ∙ ap (λ (k : ℕ). shot_text unit l k shots) agrees.1
+
+packed_short : (bytes : List ℕ) (s : ShotData) → IsTextFile bytes s.unit s.pair s.shots → length (packed_of s) ≤ length bytes
+packed_short bytes s f =
+    omega (
+      arith,
+      text_is_short s.unit (pair_or s.pair).layer (pair_or s.pair).datatype s.shots,
+      ap length (plain_is s.unit f.layer f.datatype s.pair s.shots f.pair_fits f.agrees),
+      ap length f.text,
+    )
+
+same_data : (s t : ShotData) → s.unit ≡ t.unit → s.pair ≡ t.pair → s.shots ≡ t.shots → s ≡ t
+same_data s t p q r =
+    ap (λ (u : ℕ). let d : ShotData = record { unit = u; pair = s.pair; shots = s.shots } in d) p
+    ∙ (ap (λ (o : Option Pair). let d : ShotData = record { unit = t.unit; pair = o; shots = s.shots } in d) q
+    ∙ ap (λ (zs : List Trapezoid). let d : ShotData = record { unit = t.unit; pair = t.pair; shots = zs } in d) r)
+
+given_back : (bytes : List ℕ) (s : ShotData) → IsTextFile bytes s.unit s.pair s.shots → length bytes ≤ 268435456 → IsGivenBack s
+given_back bytes s f short = record {
+  taken = λ c name held. record {
+    bytes = packed_of s;
+    held = held;
+    short = omega (arith, packed_short bytes s f, short);
+    form = packed_is_file bytes s f short;
+  };
+  alone = λ c name other held h. (
+      let same = one_content (held_as c name) h.bytes (packed_of s) h.held held in
+      let one = one_file (packed_of s) other.unit s.unit other.pair s.pair other.shots s.shots
+      (subst (λ (text : List ℕ). IsPackedText text other.unit other.pair other.shots) same h.form.stands) (packed_stands bytes s f) in
+      same_data other s one.0 one.1 one.2
+      );
+}
 
 module _ (tells : Bool) (b m a : Content) (o p q : Counts) (words : List (List ℕ)) (s : Status) (top : Option (List ℕ))
     (h : Ends tells b m a o p q words s top) where
@@ -92,7 +143,7 @@ module _ (tells : Bool) (b m a : Content) (o p q : Counts) (words : List (List �
   packs : Packs (run_of b a o q) words s
   packs file out is e =
       let x = done_is (packing_command out) (run_of b m o p) file s (answer_for tells (run_of b m o p) words s top h.table (Pack file out) is) e in
-      (x.0, x.1, packed_stands x.1.bytes x.0 x.1.form, h.done e ∙ x.2)
+      (x.0, x.1, packed_stands x.1.bytes x.0 x.1.form, h.done e ∙ x.2, given_back x.1.bytes x.0 x.1.form x.1.short)
 
   unpacks : Unpacks (run_of b a o q) words s
   unpacks file out is e =
@@ -103,7 +154,12 @@ module _ (tells : Bool) (b m a : Content) (o p q : Counts) (words : List (List �
   splits size file out is e =
       let x = done_is (splitting_command (pos size) out) (run_of b m o p) file s
       (answer_for tells (run_of b m o p) words s top h.table (Split size file out) is) e in
-      (x.0, x.1, subst (λ (c : Content). IsSplit (with_left b []) c (pos size) out x.0) (sym (h.done e)) x.2)
+      let sized : IsFieldSize (pos size) = record { least = omega (arith, ints, is.number.from); most = omega (arith, ints, is.number.to) } in (
+        x.0,
+        x.1,
+        record { made = x.2.made; text = x.2.text; all = x.2.all; said = h.done e ∙ x.2.said },
+        lists_keep (pos size) sized x.0.shots x.1.holds.form.legal x.2.all.first x.2.all.lists x.2.all.stripes,
+      )
 
   generates : Generates (run_of b a o q) words s
   generates n file is e = h.done e ∙ ended_done _ _ _ _ s (answer_for tells (run_of b m o p) words s top h.table (Generate n file) is) e

@@ -2,7 +2,7 @@
 use Rattle.std.proofs.Common.{◌≡◌, ◌≢◌, ◌⊎◌, inl, inr, ℕ, ℤ, pos, Bool, List, [], ◌++◌, take, Option, refl, sym, ap, subst, ◌∙◌, append_assoc}
 use Rattle.std.specs.Prelude.{IsTrue}
 use Rattle.depot.specs.Content.{Content, ChangesLeftOnly, with_left, with_said, IsPartMade}
-use Rattle.depot.specs.Counts.{Counts, Rose}
+use Rattle.depot.specs.Counts.{Counts, NeverFall, Rose}
 use Rattle.depot.proofs.ForCallers.{Rose-earlier}
 use Rattle.layout_gen.specs.Generated.{generated}
 use Rattle.shot_output.specs.Files.{AreCutShort}
@@ -23,7 +23,7 @@ use Rattle.mdp_job.specs.Parts.{IsUnsaid, IsMade, IsFractured, IsAnswer}
 use Rattle.mdp_job.specs.Checking.{IsChecked, IsCheckAnswer}
 use Rattle.mdp_job.specs.FileAnswers.{FileCommand, IsFileAnswer}
 use Rattle.mdp_job.specs.Table.{listing_command, packing_command, unpacking_command, splitting_command, IsAnswerOf, IsAnswerTo}
-use Rattle.mdp_job.specs.Clauses.{IsRefusal, IsQuietCommand, IsLeftBy, Remains}
+use Rattle.mdp_job.specs.Clauses.{IsRefusal, IsQuietCommand, IsLeftBy, IsWantTold, Remains}
 use Rattle.job_report.specs.declared.status.Status.{Status}
 use Rattle.job_report.specs.declared.status.Status.TheVariants as answers
 use Rattle.mdp_job.proofs.Rows.{left_or_made, refusal_left}
@@ -209,12 +209,34 @@ module _ (tells : Bool) (b m a : Content) (o p : Counts) (s : Status) (top : Opt
   answer_leaves q (Density size layout deck) told n answer = density_keeps (pos size) layout deck answer
   answer_leaves q (Generate k file) told n answer = generated_leaves k file n answer
 
--- ---- all together
+-- ---- where memory ran out
 
 generated_wants : (wr rr done half : Type 0) (s : Status) → IsEndedSo wr rr done half s → s ≡ answers.NoMemory → rr
 generated_wants wr rr done half s (inl x) e = absurd (memory_done (sym e ∙ x.0))
 generated_wants wr rr done half s (inr (inl x)) e = absurd (memory_write (sym e ∙ x.0))
 generated_wants wr rr done half s (inr (inr x)) e = x.1
+
+module _ (tells : Bool) (b m a : Content) (o p : Counts) (s : Status) (top : Option (List ℕ)) (x : List ℕ) (f : a ≡ with_said m x) (q : Counts) (later : NeverFall p q) where
+  file_wants : (of : FileCommand) (file : List ℕ) → s ≡ answers.NoMemory → IsFileAnswer of (run_of b m o p) file s
+      → ChangesLeftOnly b (unsaid b a) ⊎ Rose o.refused q.refused
+  file_wants of file e answer =
+      elim (left_or_half of (run_of b m o p) file s answer (not_done s (inr e))) [
+        | inl rest ↦ inl (left_then b m a x rest f)
+        | inr (inl wrote, d, holds, half) ↦ absurd (memory_write (sym e ∙ wrote))
+        | inr (inr (want, rose), d, holds, half) ↦ inr (Rose-earlier o.refused p.refused q.refused rose later.refused)
+      ]
+
+  wants_told : (command : Command) → s ≡ answers.NoMemory → IsAnswerOf tells (run_of b m o p) command s top → IsWantTold (run_of b a o q) command
+  wants_told (Fracture layout deck) e answer = tt
+  wants_told (Check layout deck) e answer = check_keeps tells b m a o p s top x f layout deck answer
+  wants_told (Shots file) e answer = listing_keeps b m a o p file s x answer f
+  wants_told (Pack file out) e answer = file_wants (packing_command out) file e answer
+  wants_told (Unpack file out) e answer = file_wants (unpacking_command out) file e answer
+  wants_told (Split size file out) e answer = file_wants (splitting_command (pos size) out) file e answer
+  wants_told (Density size layout deck) e answer = density_keeps tells b m a o p s top x f (pos size) layout deck answer
+  wants_told (Generate n file) e answer = Rose-earlier o.refused p.refused q.refused (generated_wants _ _ _ _ s answer e) later.refused
+
+-- ---- all together
 
 pub leaves : (tells : Bool) (b m a : Content) (o p q : Counts) (words : List (List ℕ)) (s : Status)
     (top : Option (List ℕ)) → Ends tells b m a o p q words s top → Remains (run_of b a o q) words s
@@ -226,7 +248,6 @@ leaves tells b m a o p q words s top h =
       keeps = λ command is quiet. quiet_keeps tells b m a o p s top x h.part.2 command quiet (answer command is);
       spoiled = record {
         left = λ command is which. answer_leaves tells b m a o p s top x h.part.2 q command h.told (not_done s which) (answer command is);
-        counted = λ n file is e.
-            Rose-earlier o.refused p.refused q.refused (generated_wants _ _ _ _ s (answer (Generate n file) is) e) h.later.refused;
+        counted = λ command is e. wants_told tells b m a o p s top x h.part.2 q h.later command e (answer command is);
       };
     }

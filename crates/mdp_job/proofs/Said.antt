@@ -3,19 +3,20 @@ use Rattle.std.proofs.Common.{◌≡◌, ◌≢◌, ◌⊎◌, inl, inr, ℕ, po
 use Rattle.std.specs.Prelude.{IsTrue}
 use Rattle.std.proofs.lemmas.List.{append-nil}
 use Rattle.std.proofs.Math.Seq.{take-length}
-use Rattle.depot.specs.Content.{Content, with_left, with_said}
+use Rattle.depot.specs.Content.{Content, with_left, with_file, with_said}
 use Rattle.depot.specs.Counts.{Counts, NeverFall, Rose}
 use Rattle.depot.proofs.ForCallers.{Rose-later, Rose-earlier}
 use Rattle.layout_gen.specs.Generated.{generated}
 use Rattle.job_input.specs.Accepted.{HoldsInput}
 use Rattle.job_input.specs.declared.reading.Input.{Input}
 use Rattle.job_words.specs.Words.{Command, Fracture, Check, Shots, Pack, Unpack, Split, Density, Generate, AreWordsOf}
-use Rattle.job_words.specs.Words.{IsFracture, IsCheck, IsDensity, IsGenerate, IsSplit as IsSplitting}
+use Rattle.job_words.specs.Words.{IsFracture, IsCheck, IsDensity, IsSplit as IsSplitting}
 use Rattle.mdp_job.specs.Runs.{run_of}
 use Rattle.mdp_job.specs.Outputs.{report_on, AreSummed}
 use Rattle.mdp_job.specs.Certificates.{exact_report}
 use Rattle.mdp_job.specs.ShotFiles.{ShotData, listed, packed_of, packed_said, plain_of, unpacked_said}
-use Rattle.mdp_job.specs.Splitting.{HoldsFields, IsHalfSplit, split_text}
+use Rattle.mdp_job.specs.Splitting.{HoldsFields}
+use Rattle.mdp_job.specs.FieldAnswers.{IsHalfSplit}
 use Rattle.mdp_job.specs.Densities.{IsCounted, IsDensityAnswer, AreTablesCutShort}
 use Rattle.mdp_job.specs.Filing.{IsHalfFiled}
 use Rattle.mdp_job.specs.Generating.{generated_line}
@@ -30,11 +31,11 @@ use Rattle.job_report.specs.declared.status.Status.TheVariants as answers
 use Rattle.mdp_job.proofs.Rows.{left_or_made}
 use Rattle.mdp_job.proofs.Exactness.{all_exact, all_summed as exact_summed}
 use Rattle.mdp_job.proofs.FileRows.{left_or_half}
-use Rattle.mdp_job.proofs.StripeFiles.{cut_said as stripes_cut_said, all_quiet, all_said}
+use Rattle.mdp_job.proofs.StripeFiles.{cut_said as stripes_cut_said, made_said, all_quiet}
 use Rattle.mdp_job.proofs.DensityRows.{NotCounted, not_counted}
 use Rattle.mdp_job.proofs.Table.{top_of}
 use Rattle.mdp_job.proofs.Written.{all_summed, covered_then, cut_said, written_said}
-use Rattle.mdp_job.proofs.Ends.{Ends, input_rules, left_said, part_made_said}
+use Rattle.mdp_job.proofs.Ends.{Ends, input_rules, unsaid, made_quiet, left_said, part_made_said}
 use Rattle.mdp_job.proofs.Finals.{reports, lists, tabulates}
 
 module _ (b m a : Content) (o p q : Counts) (words : List (List ℕ)) (s : Status) where
@@ -117,11 +118,13 @@ module _ (b m a : Content) (o p q : Counts) (words : List (List ℕ)) (s : Statu
   -- ---- commands on a shot file
 
   -- what was said of a half that is a file or a part of it, and of its line
-  filed_middle : (command : Command) → AreWordsOf words command → MayBreakOff (run_of b a o q) command s
-      → (out bytes line : List ℕ) → IsTextBy (run_of b a o q) command line
-      → IsHalfFiled (with_left b []) m out bytes line → Middle
-  filed_middle command is may out bytes line by (inl part) = silent (part_made_said (with_left b []) m out bytes part)
-  filed_middle command is may out bytes line by (inr (n, few, e)) = spoken command is may line by n (ap (λ (c : Content). c.said) e)
+  filed_middle : (command : Command) → AreWordsOf words command → MayBreakOff (run_of b a o q) command s → (c : Content) (out bytes line x : List ℕ)
+      → c.said ≡ b.said → a ≡ with_said m x → (unsaid b a ≡ with_file c out bytes → IsTextBy (run_of b a o q) command line)
+      → IsHalfFiled c m out bytes line → Middle
+  filed_middle command is may c out bytes line x same e by (inl part) = silent (part_made_said c m out bytes part ∙ same)
+  filed_middle command is may c out bytes line x same e by (inr (n, few, f)) =
+      spoken command is may line (by (made_quiet b (with_file c out bytes) m a (take n line) x same f e)) n
+      (ap (λ (d : Content). d.said) f ∙ ap (λ t. t ++ take n line) same)
 
   file_middle : (of : FileCommand) (file : List ℕ) → NeverFall p q → s ≢ answers.Done → IsFileAnswer of (run_of b m o p) file s
       → ((d : ShotData) → Broken → of.holds b file d → of.half (with_left b []) m d → Middle) → Middle
@@ -131,10 +134,6 @@ module _ (b m a : Content) (o p q : Counts) (words : List (List ℕ)) (s : Statu
         | inr (which, d, holds, half) ↦ then d (broken_later later which) holds half
       ]
 
-  generated_middle : (n : ℕ) (file : List ℕ) → IsGenerate words n file → Broken → IsHalfFiled b m file (generated n) (generated_line n) → Middle
-  generated_middle n file is which (inl part) = silent (part_made_said b m file (generated n) part)
-  generated_middle n file is which (inr (k, few, e)) = spoken (Generate n file) is which (generated_line n) refl k (ap (λ (c : Content). c.said) e)
-
 -- a part of the lines of stripes was said, and then something more
 split_middle : (b m a : Content) (o p q : Counts) (words : List (List ℕ)) (s : Status) (size : ℕ) (file out : List ℕ)
     (d : ShotData) (x : List ℕ) → a ≡ with_said m x
@@ -142,28 +141,18 @@ split_middle : (b m a : Content) (o p q : Counts) (words : List (List ℕ)) (s :
     → IsHalfSplit (with_left b []) m (pos size) out d → Middle b m a o p q words s
 split_middle b m a o p q words s size file out d x e is which holds (inl cut) =
     silent b m a o p q words s (stripes_cut_said (with_left b []) m (pos size) out d cut)
-split_middle b m a o p q words s size file out d x e is which holds (inr u) =
-    let text = split_text u.first u.lists in
-    spoken b m a o p q words s (Split size file out) is which text (
-      d,
-      holds,
-      record {
-        first = u.first;
-        lists = u.lists;
-        stripes = u.stripes;
-        content = all_quiet b m a (pos size) out d x u e;
-        is = refl;
-      },
-    )
-    u.part.0 (all_said (with_left b []) m (pos size) out d u)
+split_middle b m a o p q words s size file out d x e is which holds (inr (c, text, all, (n, few, f))) =
+    spoken b m a o p q words s (Split size file out) is which text
+    (d, holds, all_quiet b c m a (pos size) out d text (take n text) x all f e)
+    n (ap (λ (k : Content). k.said) f ∙ ap (λ t. t ++ take n text) (made_said (with_left b []) c (pos size) out d text all))
 
 -- a part of the tables was said
 tables_middle : (b m a : Content) (o p q : Counts) (words : List (List ℕ)) (s : Status) (size : ℕ) (layout deck : List ℕ) (input : Input)
     → IsDensity words size layout deck → (s ≡ answers.WriteFault) ⊎ (s ≡ answers.NoMemory) → HoldsInput b layout deck input
     → AreTablesCutShort (with_left b []) m (pos size) input → Middle b m a o p q words s
 tables_middle b m a o p q words s size layout deck input is which holds (inl same) = silent b m a o p q words s (ap (λ (c : Content). c.said) same)
-tables_middle b m a o p q words s size layout deck input is which holds (inr (text, beginning, (n, few, e))) =
-    spoken b m a o p q words s (Density size layout deck) is which text (input, holds, beginning) n (ap (λ (c : Content). c.said) e)
+tables_middle b m a o p q words s size layout deck input is which holds (inr (text, tables, (n, few, e))) =
+    spoken b m a o p q words s (Density size layout deck) is which text (input, holds, tables) n (ap (λ (c : Content). c.said) e)
 
 counted_middle : (b m a : Content) (o p q : Counts) (words : List (List ℕ)) (s : Status) (size : ℕ) (layout deck : List ℕ) (input : Input)
     → IsDensity words size layout deck → HoldsInput b layout deck input → NotCounted (run_of b m o p) (pos size) input s → Middle b m a o p q words s
@@ -228,18 +217,22 @@ module _ (tells : Bool) (b m a : Content) (o p q : Counts) (words : List (List �
       spoken b m a o p q words s (Shots file) is which (listed d) (d, holds, refl) half.0 (ap (λ (c : Content). c.said) half.2))
   answer_middle x told later e n (Pack file out) is answer =
       file_middle b m a o p q words s (packing_command out) file later n answer
-      (λ d which holds half. filed_middle b m a o p q words s (Pack file out) is which out (packed_of d) (packed_said d) (d, holds, refl) half)
+      (λ d which holds half. filed_middle b m a o p q words s (Pack file out) is which (with_left b []) out (packed_of d)
+      (packed_said d) x refl e (λ whole. (d, holds, whole, refl)) half)
   answer_middle x told later e n (Unpack file out) is answer =
       file_middle b m a o p q words s (unpacking_command out) file later n answer
-      (λ d which holds half. filed_middle b m a o p q words s (Unpack file out) is which out (plain_of d) (unpacked_said d) (d, holds, refl) half)
+      (λ d which holds half. filed_middle b m a o p q words s (Unpack file out) is which (with_left b []) out (plain_of d)
+      (unpacked_said d) x refl e (λ whole. (d, holds, whole, refl)) half)
   answer_middle x told later e n (Split size file out) is answer =
       file_middle b m a o p q words s (splitting_command (pos size) out) file later n answer
       (λ d which holds half. split_middle b m a o p q words s size file out d x e is which holds half)
   answer_middle x told later e n (Density size layout deck) is answer = density_middle b m a o p q words s top size layout deck x e n is answer
   answer_middle x told later e n (Generate k file) is (inl y) = absurd (n y.0)
-  answer_middle x told later e n (Generate k file) is (inr (inl (f, rose, half))) = generated_middle b m a o p q words s k file is (inl f) half
+  answer_middle x told later e n (Generate k file) is (inr (inl (f, rose, half))) =
+      filed_middle b m a o p q words s (Generate k file) is (inl f) b file (generated k) (generated_line k) x refl e (λ whole. (whole, refl)) half
   answer_middle x told later e n (Generate k file) is (inr (inr (f, rose, half))) =
-      generated_middle b m a o p q words s k file is (inr (f, Rose-earlier o.refused p.refused q.refused rose later.refused)) half
+      filed_middle b m a o p q words s (Generate k file) is (inr (f, Rose-earlier o.refused p.refused q.refused rose later.refused)) b file
+      (generated k) (generated_line k) x refl e (λ whole. (whole, refl)) half
 
   middle : (x : List ℕ) → IsTrue tells → NeverFall p q → a ≡ with_said m x
       → IsAnswerTo tells (run_of b m o p) words s top → s ≢ answers.Done → Middle b m a o p q words s

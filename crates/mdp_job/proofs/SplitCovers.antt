@@ -1,5 +1,5 @@
--- The shots of the files of stripes cover what those of the file do.
-use Rattle.std.proofs.Common.{◌≡◌, inl, inr, ℤ, pos, ◌+ℤ◌, List, [], ◌∷◌, ◌++◌, All, refl, sym, ap, subst, ◌∙◌}
+-- What the shots of the files of stripes keep of those of the file.
+use Rattle.std.proofs.Common.{◌≡◌, inl, inr, ℤ, pos, ◌+ℤ◌, List, [], ◌∷◌, All, sym, ap, subst, ◌∙◌}
 use Rattle.std.proofs.lemmas.List.Elements.{All-nil, All-append}
 use Rattle.half_grid.specs.Trapezoids.{Trapezoid, IsShot, FitsLimits, CoversExactly, count_in}
 use Rattle.half_grid.specs.declared.plane.Tile.{Tile}
@@ -10,7 +10,7 @@ use Rattle.field_split.proofs.ForCallers.{pieces_are_shots, pieces_fit, pieces_i
 use Rattle.field_output.specs.Stripes.{AreAllStripeLists}
 use Rattle.mdp_job.specs.Denoted.{area_of}
 use Rattle.mdp_job.specs.Splitting.{AreAllLists}
-use Rattle.mdp_job.specs.SplitLaws.{LieInFields, IsSplitCover, SplitKeepsCover}
+use Rattle.mdp_job.specs.Keeping.{LieInFields, AreKept}
 
 module _ (size : ℤ) (sized : IsFieldSize size) (shots : List Trapezoid) (legal : All IsShot shots) where
   -- what holds of each piece of each stripe list holds of all
@@ -23,33 +23,32 @@ module _ (size : ℤ) (sized : IsFieldSize size) (shots : List Trapezoid) (legal
   in_fields k [] h = tt
   in_fields k (pieces ∷ lists) h = (pieces_in_fields size k sized shots pieces legal h.0, in_fields (k +ℤ pos 1) lists h.1)
 
-  module _ (height width : ℤ) (within : All (FitsLimits height width) shots) (area : Tile → Type 0) (cover : CoversExactly shots area) where
-    stripes_cover : (first last : ℤ) (lists : List (List Trapezoid)) → AreStripesOf size shots first last → AreAllStripeLists shots size first last lists
-        → IsSplitCover size height width area first lists
-    stripes_cover first last lists stripes all =
-        let same : (t : Tile) → count_in (end_to_end lists) t ≡ count_in shots t =
-        λ t. all_counted size sized t first last shots lists stripes.within all.each all.number in
-        record {
-          legal = all_pieces IsShot (λ k pieces list. pieces_are_shots size k sized shots pieces legal list) first lists all.each;
-          within = all_pieces (FitsLimits height width)
-              (λ k pieces list. pieces_fit size k sized height width shots pieces legal within list) first lists all.each;
-          cover = record { once = λ t here. same t ∙ cover.once t here; never = λ t gone. same t ∙ cover.never t gone };
-          fields = in_fields first lists all.each;
-        }
+  covers : (xs ys : List Trapezoid) (area : Tile → Type 0) → ((t : Tile) → count_in xs t ≡ count_in ys t) → CoversExactly ys area → CoversExactly xs area
+  covers xs ys area same cover = record { once = λ t here. same t ∙ cover.once t here; never = λ t gone. same t ∙ cover.never t gone }
 
-    nothing_covers : (first : ℤ) → shots ≡ [] → IsSplitCover size height width area first []
-    nothing_covers first none = record {
-      legal = All-nil IsShot;
-      within = All-nil (FitsLimits height width);
-      cover = subst (λ (zs : List Trapezoid). CoversExactly zs area) none cover;
-      fields = tt;
-    }
+  stripes_keep : (first last : ℤ) (lists : List (List Trapezoid)) → AreStripesOf size shots first last → AreAllStripeLists shots size first last lists
+      → AreKept size shots first lists
+  stripes_keep first last lists stripes all =
+      let same : (t : Tile) → count_in (end_to_end lists) t ≡ count_in shots t =
+      λ t. all_counted size sized t first last shots lists stripes.within all.each all.number in
+      record {
+        same = same;
+        legal = all_pieces IsShot (λ k pieces list. pieces_are_shots size k sized shots pieces legal list) first lists all.each;
+        fields = in_fields first lists all.each;
+        within = λ height width within. all_pieces (FitsLimits height width)
+            (λ k pieces list. pieces_fit size k sized height width shots pieces legal within list) first lists all.each;
+        cover = λ input output cover. covers (end_to_end lists) shots (area_of input output) same cover;
+      }
 
-    lists_cover : (first : ℤ) (lists : List (List Trapezoid)) → AreAllLists size shots first lists → IsSplitCover size height width area first lists
-    lists_cover first lists (inl (none, empty)) =
-        subst (λ (ls : List (List Trapezoid)). IsSplitCover size height width area first ls) (sym empty) (nothing_covers first none)
-    lists_cover first lists (inr (last, stripes, all)) = stripes_cover first last lists stripes all
+  nothing_kept : (first : ℤ) → shots ≡ [] → AreKept size shots first []
+  nothing_kept first none = record {
+    same = λ t. ap (λ (zs : List Trapezoid). count_in zs t) (sym none);
+    legal = All-nil IsShot;
+    fields = tt;
+    within = λ height width within. All-nil (FitsLimits height width);
+    cover = λ input output cover. subst (λ (zs : List Trapezoid). CoversExactly zs (area_of input output)) none cover;
+  }
 
-pub split_keeps_cover : SplitKeepsCover
-split_keeps_cover size first input output bytes file lists sized all =
-    lists_cover size sized file.shots file.legal input.deck.limits.height input.deck.limits.width file.within (area_of input output) file.cover first lists all
+  pub lists_keep : (first : ℤ) (lists : List (List Trapezoid)) → AreAllLists size shots first lists → AreKept size shots first lists
+  lists_keep first lists (inl (none, empty)) = subst (λ (ls : List (List Trapezoid)). AreKept size shots first ls) (sym empty) (nothing_kept first none)
+  lists_keep first lists (inr (last, stripes, all)) = stripes_keep first last lists stripes all

@@ -1,7 +1,7 @@
 -- How the parts of the command `split` fit together.
 use Rattle.std.proofs.Common.{◌≡◌, ◌⊎◌, inl, inr, ℕ, ℤ, pos, List, [], Option, None, Some, All, refl, ap, subst, ◌∙◌}
 use Rattle.half_grid.specs.Trapezoids.{Trapezoid, IsShot}
-use Rattle.depot.specs.Content.{Content, with_left, with_said, IsPartSaid}
+use Rattle.depot.specs.Content.{Content, with_left}
 use Rattle.depot.specs.Counts.{Counts, Rose}
 use Rattle.depot.specs.declared.outside.DepotBad.{DepotBad}
 use Rattle.depot.specs.declared.outside.DepotBad.TheVariants as depot
@@ -14,7 +14,7 @@ use Rattle.field_output.specs.declared.sums.Stripes.{Stripes}
 use Rattle.mdp_job.specs.Runs.{Run, run_of}
 use Rattle.mdp_job.specs.Parts.{fault_status, IsSaidSo, IsOfFile, IsOfWriting, refuses_shots, refuses_fields, CountsFor}
 use Rattle.mdp_job.specs.ShotFiles.{ShotData, HoldsShots, IsShotsFault}
-use Rattle.mdp_job.specs.Splitting.{CanBeSplit, head_of, lines_of_stripes, split_text, IsFieldsFault}
+use Rattle.mdp_job.specs.Splitting.{CanBeSplit, head_of, lines_of_stripes, split_text, IsFieldsFault, AreAllMade}
 use Rattle.mdp_job.specs.FieldAnswers.{IsSpan, IsSpanFault, IsSplitSo, IsSplitFile}
 use Rattle.mdp_job.specs.FileAnswers.{IsFileAnswer, IsRefusedFile, IsOfRefusedFile}
 use Rattle.mdp_job.specs.Table.{splitting_command}
@@ -33,40 +33,14 @@ use Rattle.mdp_job.proofs.StripeFiles.{all_lists_one}
 module _ (b m a : Content) (wr wr₁ rr rr₁ : Type 0) (wider : wr₁ → wr) (more : rr₁ → rr) (size : ℤ) (out : List ℕ)
     (s : ShotData) (first last : ℤ) (stripes : AreStripesOf size s.shots first last) where
   -- all files are made, and their lines are said as their making tells
+  all_made : (w : AreStripesWritten b out (head_of s) s.shots size first last m) → AreAllMade b m size out s (split_text first w.lists)
+  all_made w = record { first = first; lists = w.lists; stripes = inr (last, stripes, w.stripes); content = w.files; lines = refl }
+
   lines_ended : (result : Status) (w : AreStripesWritten b out (head_of s) s.shots size first last m)
       → IsSaidSo m a wr₁ rr₁ (split_text first w.lists) result → IsSplitSo b a wr rr size out s result
-  lines_ended result w (inl (e, content)) =
-      inl (inl (
-        e,
-        record {
-          first = first;
-          lists = w.lists;
-          stripes = inr (last, stripes, w.stripes);
-          content = content ∙ ap (λ (c : Content). with_said c (split_text first w.lists)) w.files;
-        },
-      ))
-  lines_ended result w (inr (inl (e, rose, part))) =
-      inl (inr (inl (
-        e,
-        wider rose,
-        inr (record {
-          first = first;
-          lists = w.lists;
-          stripes = inr (last, stripes, w.stripes);
-          part = subst (λ (c : Content). IsPartSaid c (split_text first w.lists) a) w.files part;
-        }),
-      )))
-  lines_ended result w (inr (inr (e, rose, part))) =
-      inl (inr (inr (
-        e,
-        more rose,
-        inr (record {
-          first = first;
-          lists = w.lists;
-          stripes = inr (last, stripes, w.stripes);
-          part = subst (λ (c : Content). IsPartSaid c (split_text first w.lists) a) w.files part;
-        }),
-      )))
+  lines_ended result w (inl (e, content)) = inl (inl (e, record { made = m; text = split_text first w.lists; all = all_made w; said = content }))
+  lines_ended result w (inr (inl (e, rose, part))) = inl (inr (inl (e, wider rose, inr (m, split_text first w.lists, all_made w, part))))
+  lines_ended result w (inr (inr (e, rose, part))) = inl (inr (inr (e, more rose, inr (m, split_text first w.lists, all_made w, part))))
 
   pub stripes_ended : (written : Stripes) (result : Status) → IsFieldSize size → All IsShot s.shots
       → AreStripesWritten b out (head_of s) s.shots size first last m
@@ -98,10 +72,12 @@ pub none_ended : (b a : Content) (wr rr : Type 0) (size : ℤ) (out : List ℕ) 
     → IsSaidSo b a wr rr (lines_of_stripes [] none) result → IsSplitSo b a wr rr size out s result
 none_ended b a wr rr size out s none result empty e₁ e₂ said =
     let lines : lines_of_stripes [] none ≡ split_text (pos 0) [] = rw (e₁, e₂) refl in
+    let all : AreAllMade b b size out s (split_text (pos 0) []) =
+    record { first = pos 0; lists = []; stripes = inl (empty, refl); content = refl; lines = refl } in
     elim (subst (λ (t : List ℕ). IsSaidSo b a wr rr t result) lines said) [
-      | inl (f, content) ↦ inl (inl (f, record { first = pos 0; lists = []; stripes = inl (empty, refl); content = content }))
-      | inr (inl (f, rose, part)) ↦ inl (inr (inl (f, rose, inr (record { first = pos 0; lists = []; stripes = inl (empty, refl); part = part }))))
-      | inr (inr (f, rose, part)) ↦ inl (inr (inr (f, rose, inr (record { first = pos 0; lists = []; stripes = inl (empty, refl); part = part }))))
+      | inl (f, content) ↦ inl (inl (f, record { made = b; text = split_text (pos 0) []; all = all; said = content }))
+      | inr (inl (f, rose, part)) ↦ inl (inr (inl (f, rose, inr (b, split_text (pos 0) [], all, part))))
+      | inr (inr (f, rose, part)) ↦ inl (inr (inr (f, rose, inr (b, split_text (pos 0) [], all, part))))
     ]
 
 -- ---- the file

@@ -1,5 +1,5 @@
 -- The files of stripes: what was said while they were made, and that their lists are one.
-use Rattle.std.proofs.Common.{◌≡◌, inl, inr, ℕ, ℤ, pos, ◌+ℤ◌, List, [], ◌∷◌, ◌++◌, length, take, All, refl, sym, ap, subst, ◌∙◌, arith}
+use Rattle.std.proofs.Common.{◌≡◌, inl, inr, ℕ, ℤ, pos, ◌+ℤ◌, List, [], ◌∷◌, length, take, All, refl, sym, ap, subst, ◌∙◌, arith}
 use Rattle.std.proofs.lemmas.Int.{ints}
 use Rattle.half_grid.specs.Trapezoids.{Trapezoid, IsShot}
 use Rattle.depot.specs.Content.{Content, with_left, with_file, with_said}
@@ -8,8 +8,9 @@ use Rattle.field_split.specs.Fields.{IsFieldSize, AreStripeLists}
 use Rattle.field_split.proofs.ForCallers.{one_stripe_list}
 use Rattle.field_output.specs.Stripes.{AreAllStripeLists, with_stripe_files, stripe_name, stripe_text}
 use Rattle.mdp_job.specs.ShotFiles.{ShotData}
-use Rattle.mdp_job.specs.Splitting.{head_of, with_all_stripes, split_text, IsCutShort, IsUnsaid, IsHalfSplit, IsPartSplit}
-use Rattle.mdp_job.proofs.Ends.{unsaid, quiet_is, part_made_said}
+use Rattle.mdp_job.specs.Splitting.{head_of, AreAllMade, IsCutShort, IsPartSplit}
+use Rattle.mdp_job.specs.FieldAnswers.{IsHalfSplit}
+use Rattle.mdp_job.proofs.Ends.{unsaid, quiet_is, made_quiet, part_made_said}
 
 -- ---- what was said
 
@@ -23,25 +24,23 @@ module _ (b m : Content) (size : ℤ) (out : List ℕ) (s : ShotData) where
       let w = cut.files in
       part_made_said (with_stripe_files b out (head_of s) cut.first w.whole) m _ _ w.files ∙ stripes_said b out (head_of s) cut.first w.whole
 
-  pub all_said : (u : IsUnsaid b m size out s) → m.said ≡ b.said ++ take u.part.0 (split_text u.first u.lists)
-  all_said u =
-      ap (λ (c : Content). c.said) u.part.2
-      ∙ ap (λ (t : List ℕ). t ++ take u.part.0 (split_text u.first u.lists)) (stripes_said b out (head_of s) u.first u.lists)
+  -- while all files were made nothing was said
+  pub made_said : (text : List ℕ) → AreAllMade b m size out s text → m.said ≡ b.said
+  made_said text all = ap (λ (c : Content). c.said) all.content ∙ stripes_said b out (head_of s) all.first all.lists
 
 -- all files were made and a part of their lines said, and then something more: but for what was said they are made
-pub all_quiet : (b m a : Content) (size : ℤ) (out : List ℕ) (s : ShotData) (x : List ℕ) (u : IsUnsaid (with_left b []) m size out s) → a ≡ with_said m x
-    → unsaid b a ≡ with_all_stripes (with_left b []) out s u.first u.lists
-all_quiet b m a size out s x u e =
-    let w = with_all_stripes (with_left b []) out s u.first u.lists in
-    ap (unsaid b) e ∙ ap (λ (c : Content). unsaid b (with_said c x)) u.part.2
-    ∙ ap (λ (t : List ℕ). record w { said = t }) (sym (stripes_said (with_left b []) out (head_of s) u.first u.lists))
+pub all_quiet : (b c m a : Content) (size : ℤ) (out : List ℕ) (s : ShotData) (text front x : List ℕ) → AreAllMade (with_left b []) c size out s text
+    → m ≡ with_said c front → a ≡ with_said m x → AreAllMade (with_left b []) (unsaid b a) size out s text
+all_quiet b c m a size out s text front x all f e =
+    let quiet = made_quiet b c m a front x (made_said (with_left b []) c size out s text all) f e in
+    subst (λ (d : Content). AreAllMade (with_left b []) d size out s text) (sym quiet) all
 
 pub half_quiet : (b m a : Content) (size : ℤ) (out : List ℕ) (s : ShotData) (x : List ℕ) → IsHalfSplit (with_left b []) m size out s → a ≡ with_said m x
     → IsPartSplit (with_left b []) (unsaid b a) size out s
 half_quiet b m a size out s x (inl cut) e =
     let quiet = quiet_is b m a x (cut_said (with_left b []) m size out s cut) e in
     inl (subst (λ (c : Content). IsCutShort (with_left b []) c size out s) (sym quiet) cut)
-half_quiet b m a size out s x (inr u) e = inr (record { first = u.first; lists = u.lists; stripes = u.stripes; content = all_quiet b m a size out s x u e })
+half_quiet b m a size out s x (inr (c, text, all, (n, few, f))) e = inr (text, all_quiet b c m a size out s text (take n text) x all f e)
 
 -- ---- there is one list of stripe lists
 

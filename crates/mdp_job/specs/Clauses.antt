@@ -2,7 +2,7 @@
 -- there before the command and after it, the words and the answer.
 use Rattle.std.specs.Prelude.{◌≡◌, ◌≢◌, ◌⊎◌, ◌↔◌, ℕ, pos, List, [], ◌++◌, take, ⊤}
 use Rattle.half_grid.specs.declared.plane.Tile.{Tile}
-use Rattle.depot.specs.Content.{Content, IsNotThere, IsLongerThan, ChangesLeftOnly, with_left, with_said, IsPartMade}
+use Rattle.depot.specs.Content.{Content, IsNotThere, IsLongerThan, ChangesLeftOnly, with_left, with_file, with_said, IsPartMade}
 use Rattle.depot.specs.Counts.{Counts, NeverFall, Rose}
 use Rattle.gds_reader.specs.declared.refusing.GdsBad.{GdsBad}
 use Rattle.oas_reader.specs.declared.refusing.OasBad.{OasBad}
@@ -29,8 +29,9 @@ use Rattle.mdp_job.specs.Runs.{Run, ReadRose, WriteRose, RefusedRose, ComesExact
 use Rattle.mdp_job.specs.Headline.{AreCovered, AreExact, Covers, Accepts}
 use Rattle.mdp_job.specs.Outputs.{AreEconomic, IsReported, AreSummed, AreSpoiled, report_on}
 use Rattle.mdp_job.specs.Certificates.{IsRefusedAt, HasNoFile, IsFileAt, AreExactSums, exact_report, IsExactReported}
-use Rattle.mdp_job.specs.ShotFiles.{ShotData, HoldsShots, HoldsPacked, HoldsFault, HoldsPackFault, listed, packed_of, packed_said, plain_of, unpacked_said}
-use Rattle.mdp_job.specs.Splitting.{HoldsFields, HoldsWide, HoldsManyStripes, IsSplit, IsPartSplit, IsSplitText}
+use Rattle.mdp_job.specs.ShotFiles.{ShotData, HoldsShots, HoldsPacked, HoldsFault, HoldsPackFault, listed, packed_of, packed_said, plain_of, unpacked_said, IsGivenBack}
+use Rattle.mdp_job.specs.Splitting.{HoldsFields, HoldsWide, HoldsManyStripes, AreAllMade, IsSplit, IsPartSplit}
+use Rattle.mdp_job.specs.Keeping.{AreKept}
 use Rattle.mdp_job.specs.Densities.{IsDensityBeginning, AreTablesSaid}
 use Rattle.mdp_job.specs.Filing.{IsFiled}
 use Rattle.mdp_job.specs.Generating.{generated_line}
@@ -117,12 +118,12 @@ Generates r words result =
     → IsFiled r.before r.after file (generated n) (generated_line n)
 
 -- OUT holds the packed text of FILE's shots, which stands for them in their order, the line was said, and nothing else has
--- changed but what is left to be read.
+-- changed but what is left to be read. `unpack` takes the text, and it gives back the same shots and no others.
 abbrev pub Packs : Run → List (List ℕ) → Status → Type 0
 Packs r words result =
     (file out : List ℕ) → IsPack words file out → result ≡ answers.Done
     → (s : ShotData) × HoldsShots r.before file s × IsPackedText (packed_of s) s.unit s.pair s.shots
-    × IsFiled (with_left r.before []) r.after out (packed_of s) (packed_said s)
+    × IsFiled (with_left r.before []) r.after out (packed_of s) (packed_said s) × IsGivenBack s
 
 -- OUT holds the plain text of the shots for which FILE stands, the line was said, and nothing else has changed but what is
 -- left to be read.
@@ -132,11 +133,13 @@ Unpacks r words result =
     → (s : ShotData) × HoldsPacked r.before file s × IsFiled (with_left r.before []) r.after out (plain_of s) (unpacked_said s)
 
 -- Each stripe's file holds the text of its stripe list, the lines were said, and nothing else has changed but what is left to
--- be read.
+-- be read. For any FILE, each tile is in as many shots of all stripes' files together as of FILE's; what FILE's shots cover
+-- exactly, all of these together do.
 abbrev pub Splits : Run → List (List ℕ) → Status → Type 0
 Splits r words result =
     (size : ℕ) (file out : List ℕ) → IsSplitting words size file out → result ≡ answers.Done
-    → (s : ShotData) × HoldsFields (pos size) r.before file s × IsSplit (with_left r.before []) r.after (pos size) out s
+    → (s : ShotData) × HoldsFields (pos size) r.before file s × (split : IsSplit (with_left r.before []) r.after (pos size) out s)
+    × AreKept (pos size) s.shots split.all.first split.all.lists
 
 -- `covers`: what commands make
 pub record Coverage (r : Run) (words : List (List ℕ)) (result : Status) : Type 0 where
@@ -321,9 +324,13 @@ Tabulates r words result =
     → (input : Input) × HoldsInput r.before layout deck input
     × AreTablesSaid (with_left r.before []) r.after (pos size) input
 
+-- the same, but for what was said
+abbrev pub quiet : Run → Run
+quiet r = record r { after = record r.after { said = r.before.said } }
+
 -- A text of the command: the report on an accepted input, all of whose outputs are covered, or all of whose files are
--- exact; the counts of windows; the listing of an accepted shot file; or the lines of the files that were made of one, or
--- of a generated layout.
+-- exact; the tables of its outputs; the listing of an accepted shot file; or the lines of the files that were made of one,
+-- or of a generated layout, each of which is whole.
 abbrev pub IsTextBy : Run → Command → List ℕ → Type 0
 IsTextBy r (Fracture layout deck) text =
     (input : Input) × HoldsInput r.before layout deck input × AreCovered r.before r.after input
@@ -332,13 +339,15 @@ IsTextBy r (Check layout deck) text =
     (input : Input) × HoldsInput r.before layout deck input × AreExact r.before input
     × (sums : List Sums) × AreExactSums r.before input sums × (text ≡ exact_report input sums)
 IsTextBy r (Shots file) text = (s : ShotData) × HoldsShots r.before file s × (text ≡ listed s)
-IsTextBy r (Pack file out) text = (s : ShotData) × HoldsShots r.before file s × (text ≡ packed_said s)
-IsTextBy r (Unpack file out) text = (s : ShotData) × HoldsPacked r.before file s × (text ≡ unpacked_said s)
+IsTextBy r (Pack file out) text =
+    (s : ShotData) × HoldsShots r.before file s × ((quiet r).after ≡ with_file (with_left r.before []) out (packed_of s)) × (text ≡ packed_said s)
+IsTextBy r (Unpack file out) text =
+    (s : ShotData) × HoldsPacked r.before file s × ((quiet r).after ≡ with_file (with_left r.before []) out (plain_of s)) × (text ≡ unpacked_said s)
 IsTextBy r (Split size file out) text =
     (s : ShotData) × HoldsFields (pos size) r.before file s
-    × IsSplitText (with_left r.before []) (record r.after { said = r.before.said }) (pos size) out s text
+    × AreAllMade (with_left r.before []) (quiet r).after (pos size) out s text
 IsTextBy r (Density size layout deck) text = (input : Input) × HoldsInput r.before layout deck input × IsDensityBeginning (pos size) input text
-IsTextBy r (Generate n file) text = text ≡ generated_line n
+IsTextBy r (Generate n file) text = ((quiet r).after ≡ with_file r.before file (generated n)) × (text ≡ generated_line n)
 
 -- Saying it may have ended early: it failed, or a want of memory was counted. `density` computes what it says as it goes, so
 -- any want of memory may end it.
@@ -400,10 +409,6 @@ pub record Speech (r : Run) (words : List (List ℕ)) (result : Status) : Type 0
 
 -- ---- what stays
 
--- the same, but for what was said
-abbrev pub quiet : Run → Run
-quiet r = record r { after = record r.after { said = r.before.said } }
-
 -- an answer by which nothing is written
 abbrev pub IsRefusal : Status → Type 0
 IsRefusal answers.Done = ⊥
@@ -460,10 +465,22 @@ IsLeftBy r (Split size file out) =
 IsLeftBy r (Density size layout deck) = ChangesLeftOnly r.before (quiet r).after
 IsLeftBy r (Generate n file) = IsPartMade r.before file (generated n) (quiet r).after
 
+-- Where want of memory is the answer, it was counted once a byte of OUT may be out: else nothing but what is left to be read
+-- and what was said has changed. `generate` takes no memory of its own. `fracture` computes the area of a band after it has
+-- written those below, so any want of memory may cut its outputs short.
+abbrev pub IsWantTold : Run → Command → Type 0
+IsWantTold r (Fracture layout deck) = ⊤
+IsWantTold r (Check layout deck) = ChangesLeftOnly r.before (quiet r).after
+IsWantTold r (Shots file) = ChangesLeftOnly r.before (quiet r).after
+IsWantTold r (Pack file out) = ChangesLeftOnly r.before (quiet r).after ⊎ RefusedRose r
+IsWantTold r (Unpack file out) = ChangesLeftOnly r.before (quiet r).after ⊎ RefusedRose r
+IsWantTold r (Split size file out) = ChangesLeftOnly r.before (quiet r).after ⊎ RefusedRose r
+IsWantTold r (Density size layout deck) = ChangesLeftOnly r.before (quiet r).after
+IsWantTold r (Generate n file) = RefusedRose r
+
 pub record Spoils (r : Run) (words : List (List ℕ)) (result : Status) : Type 0 where
   pub left : (command : Command) → AreWordsOf words command → (result ≡ answers.WriteFault) ⊎ (result ≡ answers.NoMemory) → IsLeftBy r command
-  -- `generate` takes no memory of its own
-  pub counted : (n : ℕ) (file : List ℕ) → IsGenerate words n file → result ≡ answers.NoMemory → RefusedRose r
+  pub counted : (command : Command) → AreWordsOf words command → result ≡ answers.NoMemory → IsWantTold r command
 
 -- `leaves`: what stays
 pub record Remains (r : Run) (words : List (List ℕ)) (result : Status) : Type 0 where

@@ -2,11 +2,11 @@
 use Rattle.std.specs.Prelude.{◌≡◌, ◌⊎◌, ℕ, ℤ, pos, ◌-ℤ◌, ◌<ℤ◌, List, [], Option, None, Some}
 use Rattle.std.specs.List.{All}
 use Rattle.half_grid.specs.Trapezoids.{Trapezoid}
-use Rattle.depot.specs.Content.{Content}
+use Rattle.depot.specs.Content.{Content, IsPartSaid}
 use Rattle.field_split.specs.Looks.{IsFieldShot, IsFirstTooWide, AreStripesOf}
 use Rattle.mdp_job.specs.Runs.{IsEndedSo}
 use Rattle.mdp_job.specs.ShotFiles.{ShotData}
-use Rattle.mdp_job.specs.Splitting.{CanBeSplit, AreManyStripes, IsSplit, IsHalfSplit}
+use Rattle.mdp_job.specs.Splitting.{CanBeSplit, AreManyStripes, AreAllMade, IsSplit, IsCutShort}
 use Rattle.job_report.specs.declared.faults.CheckFault.{CheckFault}
 use Rattle.job_report.specs.declared.faults.CheckFault.TheVariants.{Long, Bad, Head, Miscovered, TooLarge, Pack, Wide, Stripes}
 use Rattle.job_report.specs.declared.status.Status.{Status}
@@ -27,6 +27,12 @@ IsSpanFault size shots (TooLarge shot) = ⊥
 IsSpanFault size shots (Pack bad) = ⊥
 IsSpanFault size shots (Wide k) = IsFirstTooWide shots k
 IsSpanFault size shots (Stripes value) = All IsFieldShot shots × AreManyStripes size shots value
+
+-- the making of the files was cut short, or all are made and a prefix of their lines was said
+abbrev pub IsHalfSplit : Content → Content → ℤ → List ℕ → ShotData → Type 0
+IsHalfSplit before now size out s =
+    IsCutShort before now size out s
+    ⊎ ((made : Content) × (text : List ℕ) × AreAllMade before made size out s text × IsPartSaid made text now)
 
 -- what holds where the splitting of shots that can be split gives the answer: memory may be wanting before a file is begun
 abbrev pub IsSplitSo : Content → Content → (write_rose refused_rose : Type 0) → ℤ → List ℕ → ShotData → Status → Type 0

@@ -1,34 +1,25 @@
--- What holds of the files of stripes together, in the words of the headline.
-use Rattle.std.specs.Prelude.{ℕ, ℤ, pos, ◌+ℤ◌, List, [], ◌∷◌}
+-- What holds of the files of all stripes together, whatever FILE is.
+use Rattle.std.specs.Prelude.{◌≡◌, ℤ, pos, ◌+ℤ◌, List, [], ◌∷◌}
 use Rattle.std.specs.List.{All}
-use Rattle.half_grid.specs.Trapezoids.{Trapezoid, IsShot, FitsLimits, CoversExactly}
+use Rattle.half_grid.specs.Trapezoids.{Trapezoid, IsShot, FitsLimits, CoversExactly, count_in}
 use Rattle.half_grid.specs.declared.plane.Tile.{Tile}
 use Rattle.geo_stream.specs.Flattened.{end_to_end}
-use Rattle.field_split.specs.Fields.{IsFieldSize}
 use Rattle.field_split.specs.Laws.{LiesInOneField}
 use Rattle.deck_text.specs.declared.deck.Output.{Output}
 use Rattle.job_input.specs.declared.reading.Input.{Input}
 use Rattle.mdp_job.specs.Denoted.{area_of}
-use Rattle.mdp_job.specs.Headline.{IsShotFile}
-use Rattle.mdp_job.specs.Splitting.{AreAllLists}
 
 -- each shot of the first list lies in one field of stripe k, and so on for the lists after it
 abbrev pub LieInFields : ℤ → ℤ → List (List Trapezoid) → Type 0
 LieInFields size k [] = Unit {0}
 LieInFields size k (pieces ∷ lists) = All (LiesInOneField size k) pieces × LieInFields size (k +ℤ pos 1) lists
 
--- All shots of these files together are legal and within the limits, and each tile is in exactly one of them where it is in
--- the area, and in none otherwise. Each lies in one field.
-pub record IsSplitCover (size : ℤ) (height width : ℤ) (area : Tile → Type 0) (first : ℤ) (lists : List (List Trapezoid)) : Type 0 where
+-- Each tile is in as many shots of all stripes' files together as of FILE's. All these shots are legal, each lies in one
+-- field, and they are within limits that FILE's shots are within. Where FILE's shots cover exactly an area that a deck
+-- denotes of a layout, so do they.
+pub record AreKept (size : ℤ) (shots : List Trapezoid) (first : ℤ) (lists : List (List Trapezoid)) : Type 0 where
+  pub same : (t : Tile) → count_in (end_to_end lists) t ≡ count_in shots t
   pub legal : All IsShot (end_to_end lists)
-  pub within : All (FitsLimits height width) (end_to_end lists)
-  pub cover : CoversExactly (end_to_end lists) area
   pub fields : LieInFields size first lists
-
--- Where a file is one of those that `fracture` makes, or `check` finds exact, the files of its stripes together cover the
--- same area, within the same limits.
-abbrev pub SplitKeepsCover : Type 0
-SplitKeepsCover =
-    (size first : ℤ) (input : Input) (output : Output) (bytes : List ℕ) (file : IsShotFile input output bytes)
-    (lists : List (List Trapezoid)) → IsFieldSize size
-    → AreAllLists size file.shots first lists → IsSplitCover size input.deck.limits.height input.deck.limits.width (area_of input output) first lists
+  pub within : (height width : ℤ) → All (FitsLimits height width) shots → All (FitsLimits height width) (end_to_end lists)
+  pub cover : (input : Input) (output : Output) → CoversExactly shots (area_of input output) → CoversExactly (end_to_end lists) (area_of input output)

@@ -6,7 +6,7 @@ pub mod Outputs
 pub mod Certificates
 pub mod ShotFiles
 pub mod Splitting
-pub mod SplitLaws
+pub mod Keeping
 pub mod Densities
 pub mod Generating
 pub mod Filing

@@ -102,3 +102,9 @@ unpacked_line shots = codes "unpacked " ++ decimal shots ++ codes " shots\n"
 -- the line of `unpack`
 abbrev pub unpacked_said : ShotData → List ℕ
 unpacked_said s = unpacked_line (length s.shots)
+
+-- Where a name holds the packed text, in any depot, it is a packed shot file within the limit, of the same number, pair and
+-- shots, and of no others.
+pub record IsGivenBack (s : ShotData) : Type 0 where
+  pub taken : (c : Content) (name : List ℕ) → held_as c name ≡ Some (packed_of s) → HoldsPacked c name s
+  pub alone : (c : Content) (name : List ℕ) (other : ShotData) → held_as c name ≡ Some (packed_of s) → HoldsPacked c name other → other ≡ s

@@ -4,7 +4,7 @@ use Rattle.std.specs.Fmt.{signed_decimal}
 use Rattle.std.specs.List.{All}
 use Rattle.half_grid.specs.Trapezoids.{Trapezoid}
 use Rattle.geo_stream.specs.Flattened.{end_to_end}
-use Rattle.depot.specs.Content.{Content, IsLongerThan, with_said, IsPartSaid}
+use Rattle.depot.specs.Content.{Content, IsLongerThan, with_said}
 use Rattle.shot_writer.specs.declared.parts.Head.{Head}
 use Rattle.shot_writer.specs.declared.parts.Sums.{Sums}
 use Rattle.field_split.specs.Looks.{IsFieldShot, IsFirstTooWide, AreStripesOf}
@@ -95,46 +95,29 @@ split_text first lists = lines_of_stripes (sums_from first lists) (sums_of (end_
 
 -- ---- how it ends
 
--- the files of all stripes are made, and their lines said
-pub record IsSplit (before now : Content) (size : ℤ) (out : List ℕ) (s : ShotData) : Type 0 where
+-- the files of all stripes are made, each whole, and nothing else has changed; the text is that of their lines
+pub record AreAllMade (before now : Content) (size : ℤ) (out : List ℕ) (s : ShotData) (text : List ℕ) : Type 0 where
   pub first : ℤ
   pub lists : List (List Trapezoid)
   pub stripes : AreAllLists size s.shots first lists
-  pub content : now ≡ with_said (with_all_stripes before out s first lists) (split_text first lists)
+  pub content : now ≡ with_all_stripes before out s first lists
+  pub lines : text ≡ split_text first lists
 
--- the making of the files was cut short
+-- the files of all stripes are made, and then their lines were said
+pub record IsSplit (before now : Content) (size : ℤ) (out : List ℕ) (s : ShotData) : Type 0 where
+  pub made : Content
+  pub text : List ℕ
+  pub all : AreAllMade before made size out s text
+  pub said : now ≡ with_said made text
+
+-- The making of the files was cut short: those of the stripes below some stripe are whole, its own is as before or holds a
+-- prefix of its text, and those above it are as before.
 pub record IsCutShort (before now : Content) (size : ℤ) (out : List ℕ) (s : ShotData) : Type 0 where
   pub first : ℤ
   pub last : ℤ
   pub stripes : AreStripesOf size s.shots first last
   pub files : AreStripesPartWritten before out (head_of s) s.shots size first last now
 
--- the files of all stripes are made, and a prefix of their lines was said
-pub record IsUnsaid (before now : Content) (size : ℤ) (out : List ℕ) (s : ShotData) : Type 0 where
-  pub first : ℤ
-  pub lists : List (List Trapezoid)
-  pub stripes : AreAllLists size s.shots first lists
-  pub part : IsPartSaid (with_all_stripes before out s first lists) (split_text first lists) now
-
-abbrev pub IsHalfSplit : Content → Content → ℤ → List ℕ → ShotData → Type 0
-IsHalfSplit before now size out s = IsCutShort before now size out s ⊎ IsUnsaid before now size out s
-
--- the files of all stripes are made, and nothing was said
-pub record AreAllMade (before now : Content) (size : ℤ) (out : List ℕ) (s : ShotData) : Type 0 where
-  pub first : ℤ
-  pub lists : List (List Trapezoid)
-  pub stripes : AreAllLists size s.shots first lists
-  pub content : now ≡ with_all_stripes before out s first lists
-
--- The files of the stripes below some stripe are whole, its own is as before or holds a prefix of its text, and those above
--- it are as before; or all are whole.
+-- or all are whole
 abbrev pub IsPartSplit : Content → Content → ℤ → List ℕ → ShotData → Type 0
-IsPartSplit before now size out s = IsCutShort before now size out s ⊎ AreAllMade before now size out s
-
--- the text is that of all stripes, whose files are made in what is there but for what was said
-pub record IsSplitText (before now : Content) (size : ℤ) (out : List ℕ) (s : ShotData) (text : List ℕ) : Type 0 where
-  pub first : ℤ
-  pub lists : List (List Trapezoid)
-  pub stripes : AreAllLists size s.shots first lists
-  pub content : now ≡ with_all_stripes before out s first lists
-  pub is : text ≡ split_text first lists
+IsPartSplit before now size out s = IsCutShort before now size out s ⊎ ((text : List ℕ) × AreAllMade before now size out s text)

@@ -5,9 +5,10 @@ use Rattle.deck_text.specs.declared.deck.Output.{Output}
 use Rattle.job_words.specs.Words.{Command, Fracture, Check, Shots, Pack, Unpack, Split, Density, Generate, AreWordsOf, IsNoCommand, IsCheck}
 use Rattle.mdp_job.specs.Runs.{Run, WriteRose, RefusedRose}
 use Rattle.mdp_job.specs.ShotFiles.{HoldsShots, HoldsPacked, IsShotsFault, IsPackedFault, listed, packed_of, packed_said, plain_of, unpacked_said}
-use Rattle.mdp_job.specs.Splitting.{HoldsFields, IsFieldsFault, IsSplit, IsHalfSplit}
+use Rattle.mdp_job.specs.Splitting.{HoldsFields, IsFieldsFault, IsSplit}
 use Rattle.mdp_job.specs.Densities.{IsDensityAnswer}
 use Rattle.mdp_job.specs.Filing.{IsFiled, IsHalfFiled}
+use Rattle.mdp_job.specs.FieldAnswers.{IsHalfSplit}
 use Rattle.mdp_job.specs.FileAnswers.{FileCommand, IsFileAnswer}
 use Rattle.mdp_job.specs.Generating.{IsGeneratedSo}
 use Rattle.mdp_job.specs.Parts.{IsAnswer}
