@@ -1,17 +1,19 @@
 -- What begins the text of tables is a prefix of it.
 use Rattle.std.proofs.Common.{ℕ, zero, suc, ◌≤◌, ◌<◌, ◌≡◌, ◌⊎◌, inl, inr, ℤ, List, [], ◌∷◌, ◌++◌, length, take, drop}
 use Rattle.std.proofs.Common.{flat_map, slice_get, Some, arith, refl, sym, ap, ◌∙◌, append_assoc}
-use Rattle.std.proofs.lemmas.List.{append-nil}
+use Rattle.std.proofs.lemmas.List.{append-nil, length-append, take-append-le}
 use Rattle.std.proofs.lemmas.Grind.{flat_map-append}
 use Rattle.std.proofs.lemmas.Option.{same_Some, slice_get_within}
 use Rattle.std.specs.List.{zip}
+use Rattle.depot.specs.Content.{Content, with_said}
+use Rattle.density_map.specs.Windows.{IsWindowSize}
 use Rattle.deck_text.specs.declared.deck.Output.{Output}
 use Rattle.deck_plan.specs.Plans.{Planned}
 use Rattle.density_report.specs.declared.entries.Entry.{Entry}
 use Rattle.density_report.specs.Tables.{Table}
 use Rattle.density_report.specs.Texts.{entry_line, most_line, triangles_line, size_line, front_text, table_text, tables_text}
-use Rattle.density_report.specs.Saying.{area_of, AreTables, IsFront}
-use Rattle.density_report.specs.Laws.{BeginningIsPrefix}
+use Rattle.density_report.specs.Saying.{area_of, AreTables, IsCutShort}
+use Rattle.density_report.specs.Rows.{IsFront, IsBeginning, IsBeginningSaid}
 use Rattle.density_report.proofs.OneTable.{entries_begin, one_table}
 
 -- ---- lists, place by place
@@ -87,7 +89,9 @@ rest_begins size outputs tables n output table here there =
     ∙ flat_map-append (table_text size) ((output, table) ∷ []) (zip (drop (suc n) outputs) (drop (suc n) tables))
     ∙ ap (λ (l : List ℕ). l ++ tables_text size (drop (suc n) outputs) (drop (suc n) tables)) (append-nil (table_text size (output, table)))
 
-pub beginning_is_prefix : BeginningIsPrefix
+beginning_is_prefix : (p : Planned) (size : ℤ) (bytes : List ℕ) (tables : List Table) → IsWindowSize size → IsBeginning p size bytes
+    → AreTables p size (length p.deck.outputs) tables
+    → (rest : List ℕ) × (tables_text size p.deck.outputs tables ≡ bytes ++ rest)
 beginning_is_prefix p size bytes tables h b all = by b.front
   where
     by : (b.rest ≡ []) ⊎ IsFront p size b.n b.rest → (rest : List ℕ) × (tables_text size p.deck.outputs tables ≡ bytes ++ rest)
@@ -117,3 +121,19 @@ beginning_is_prefix p size bytes tables h b all = by b.front
           text_cut size p.deck.outputs tables b.n (sym all.count) ∙ ap (λ (l : List ℕ). start ++ l) rest ∙ sym (append_assoc start b.rest (end ++ after))
               ∙ ap (λ (l : List ℕ). l ++ (end ++ after)) (sym is),
         )
+
+-- so what was said of it is a prefix of the text
+pub cut_short : (p : Planned) (size : ℤ) (tables : List Table) (before now : Content) → IsWindowSize size
+    → AreTables p size (length p.deck.outputs) tables → IsBeginningSaid p size before now → IsCutShort p size before now
+cut_short p size tables before now h all (bytes, begins, (n, few, e)) =
+    let on = beginning_is_prefix p size bytes tables h begins all in
+    let long = ap (λ (l : List ℕ). length l) on.1 in
+    record {
+      tables = tables;
+      are = all;
+      part = (
+        n,
+        omega (arith, few, long, length-append bytes on.0),
+        e ∙ ap (λ (l : List ℕ). with_said before l) (sym (ap (take n) on.1 ∙ take-append-le n bytes on.0 few)),
+      );
+    }

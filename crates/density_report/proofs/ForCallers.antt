@@ -1,4 +1,3 @@
--- What the crates above may cite: what holds of the density table of each output, and that an area has one.
-pub use Rattle.density_report.proofs.BoundLemmas.{add_up, most_of_all}
+-- What the crates above may cite: the numbers of a table are true of its area, and an output has one table.
+pub use Rattle.density_report.proofs.BoundLemmas.{true_numbers}
 pub use Rattle.density_report.proofs.OneTable.{one_table}
-pub use Rattle.density_report.proofs.BeginLemmas.{beginning_is_prefix}

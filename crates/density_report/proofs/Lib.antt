@@ -11,4 +11,5 @@ pub mod RowSteps
 pub mod MapLemmas
 pub mod AreaLemmas
 pub mod TableSteps
+pub mod Existing
 pub mod ForCallers

@@ -10,7 +10,7 @@ use Rattle.half_grid.specs.declared.plane.Tile.{Tile}
 use Rattle.density_map.specs.Windows.{IsWindowSize, IsInWindow}
 use Rattle.density_report.specs.declared.entries.Entry.{Entry}
 use Rattle.density_report.specs.Tables.{Table, IsBefore, AreAscending, AreEntries, tiles_for, listed, IsMost, IsDensityTable}
-use Rattle.density_report.specs.Saying.{IsBelow}
+use Rattle.density_report.specs.Rows.{IsBelow}
 use Rattle.density_report.proofs.NumberLemmas.{one_number}
 use Rattle.density_report.proofs.EntryLemmas.{for_own, none_later}
 use Rattle.density_report.proofs.TableLemmas.{high_count, low_count}

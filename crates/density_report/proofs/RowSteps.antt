@@ -29,9 +29,9 @@ use Rattle.density_report.specs.declared.entries.Entry.{Entry}
 use Rattle.density_report.specs.declared.entries.Totals.{Totals}
 use Rattle.density_report.specs.Tables.{AreEntries}
 use Rattle.density_report.specs.Texts.{entry_line}
-use Rattle.density_report.specs.Saying.{area_of, IsBelow}
+use Rattle.density_report.specs.Saying.{area_of}
 use Rattle.density_report.specs.declared.strips.Batch.{Batch}
-use Rattle.density_report.specs.Rows.{rows_of, entry_of, entries_of, counted_line, triangles_of, sum_of, AreTotals}
+use Rattle.density_report.specs.Rows.{IsBelow, rows_of, entry_of, entries_of, counted_line, triangles_of, sum_of, AreTotals}
 use Rattle.density_report.specs.Rows.{AreRowCounts, AreRowsPut, AreRowsCut, AreTrapsOf, HasNone}
 use Rattle.density_report.proofs.NumberLemmas.{either_way, number_few}
 use Rattle.density_report.proofs.EntryLemmas.{AreBelow, below_next, sum_here}
@@ -60,7 +60,7 @@ within_by : (t : Tile) (z : Trapezoid) (b : Bool) → trapezoid_has t z ≡ b �
 within_by t z true e shot rest = tile_of_shot_within z t shot (has_in t z e)
 within_by t z false e shot rest = rest (ap count_one e)
 
-some_within : (t : Tile) (traps : List Trapezoid) → All IsShot traps → 1 ≤ count_in traps t → IsTileWithinReach t
+pub some_within : (t : Tile) (traps : List Trapezoid) → All IsShot traps → 1 ≤ count_in traps t → IsTileWithinReach t
 some_within t [] shots some = absurd (omega (arith, some))
 some_within t (z ∷ traps) shots some =
     within_by t z (trapezoid_has t z) refl (All-head IsShot z traps shots)

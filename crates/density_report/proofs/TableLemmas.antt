@@ -17,8 +17,7 @@ use Rattle.density_map.specs.Windows.{IsWindowSize, IsInWindow, IsNumberIn, IsWi
 use Rattle.density_map.proofs.ForCallers.{next_side, multiples, floor_of}
 use Rattle.density_report.specs.declared.entries.Entry.{Entry}
 use Rattle.density_report.specs.Tables.{IsBefore, AreAscending, AreEntries, tiles_for, listed}
-use Rattle.density_report.specs.Saying.{IsBelow}
-use Rattle.density_report.specs.Rows.{entries_of, sum_of, AreRowCounts, HasNone}
+use Rattle.density_report.specs.Rows.{IsBelow, entries_of, sum_of, AreRowCounts, HasNone}
 use Rattle.density_report.proofs.NumberLemmas.{number_same, number_none, number_sum}
 use Rattle.density_report.proofs.EntryLemmas.{listed_both, listed_own, AreBelow, listed_above, listed_here, listed_else}
 use Rattle.density_report.proofs.EntryLemmas.{ascending_here, above_zero_here, row_here, ascending_both}
@@ -198,7 +197,7 @@ pub record IsInOneOf (area : Tile → Type 0) (size : ℤ) (es : List Entry) (t 
   pub taken : area t
   pub inside : IsInOne size es t
 
-abbrev HaveCounts : (Tile → Type 0) → ℤ → List Entry → Type 0
+abbrev pub HaveCounts : (Tile → Type 0) → ℤ → List Entry → Type 0
 HaveCounts area size es = All (λ (e : Entry). IsWindowCount area size e.column e.row e.tiles) es
 
 numbers : (area : Tile → Type 0) (size : ℤ) (es : List Entry) → pos 0 <ℤ size → AreAscending es
@@ -237,7 +236,7 @@ is_in_one size i j (e ∷ es) t inside some =
     (λ none. is_in_one size i j es t inside (let one = sum_by-cons (tiles_for i j) e es in omega (arith, one, none, some)))
 
 -- all counts are those of windows
-have_counts : (area : Tile → Type 0) (size : ℤ) (es : List Entry) → AreEntries area size es → HaveCounts area size es
+pub have_counts : (area : Tile → Type 0) (size : ℤ) (es : List Entry) → AreEntries area size es → HaveCounts area size es
 have_counts area size es are k d inside =
     let e = slice_index_or es k d in
     subst (λ (n : ℕ). IsWindowCount area size e.column e.row n) (listed_own es are.ascending k d inside) (are.counts e.column e.row)

@@ -19,8 +19,8 @@ use Rattle.density_report.specs.declared.entries.Entry.{Entry}
 use Rattle.density_report.specs.declared.entries.Totals.{Totals}
 use Rattle.density_report.specs.Tables.{Table, AreEntries, IsDensityTable}
 use Rattle.density_report.specs.Texts.{size_line, entry_line, most_line, triangles_line, front_text, table_text, tables_text}
-use Rattle.density_report.specs.Saying.{area_of, AreTables, IsSaid, IsCutShort}
-use Rattle.density_report.specs.Rows.{HasRows, AreTotals, AreRowsPut, AreRowsCut, IsTablePut, IsTableCut, AreTablesPut}
+use Rattle.density_report.specs.Saying.{area_of, AreTables, IsSaid}
+use Rattle.density_report.specs.Rows.{HasRows, AreTotals, AreRowsPut, AreRowsCut, IsTablePut, IsTableCut, AreTablesPut, IsBeginningSaid}
 use Rattle.density_report.proofs.TableLemmas.{no_entries, total}
 
 -- ---- one output
@@ -153,7 +153,7 @@ module _ (p : Planned) (size : ℤ) where
   pub no_tables : AreTables p size 0 []
   no_tables = record { each = λ k less. absurd (omega (arith, less)); count = refl }
 
-  next_tables : (n : ℕ) (tables : List Table) (table : Table) → AreTables p size n tables
+  pub next_tables : (n : ℕ) (tables : List Table) (table : Table) → AreTables p size n tables
       → IsDensityTable (area_of p n) size table → AreTables p size (suc n) (tables ++ table ∷ [])
   next_tables n tables table are is = record {
     each = λ k less. by k less (nat_lt k n) refl;
@@ -208,7 +208,7 @@ module _ (p : Planned) (size : ℤ) where
 
     pub one_cut : (n : ℕ) (now later : Content) (held : List ℕ) → n < length p.deck.outputs
         → AreTablesPut p n size tells before held now → IsTrue tells → IsTableCut p n size now held later
-        → IsCutShort p size before later
+        → IsBeginningSaid p size before later
     one_cut n now later held less all told (bytes, inl front, part) = (
       tables_text size (take n p.deck.outputs) all.tables ++ bytes,
       record { n = n; inside = omega (arith, less); tables = all.tables; are = all.are; rest = bytes; front = inr front; text = refl },
@@ -232,7 +232,7 @@ module _ (p : Planned) (size : ℤ) where
     -- what was held at the end is said, or a prefix of it
     pub last_cut : (n : ℕ) (now later : Content) (held : List ℕ) → n ≤ length p.deck.outputs
         → AreTablesPut p n size tells before held now → IsTrue tells → IsPartSaid now held later
-        → IsCutShort p size before later
+        → IsBeginningSaid p size before later
     last_cut n now later held inside all told part = (
       tables_text size (take n p.deck.outputs) all.tables,
       record {

@@ -1,6 +1,6 @@
 -- A row of windows of an output's area, and what is put to a buffer for it, row after row.
 use Rattle.std.specs.Prelude.{ℕ, ℤ, pos, neg_ℤ, ◌≡◌, ◌⊎◌, ◌+◌, ◌^◌, ◌<◌, ◌≤◌, ◌+ℤ◌, ◌-ℤ◌, ◌*ℤ◌, ◌≤ℤ◌, ◌<ℤ◌, Bool}
-use Rattle.std.specs.Prelude.{IsTrue, List, ◌++◌, length, map, flat_map, sum_by, slice_get, slice_index_or, take, Some}
+use Rattle.std.specs.Prelude.{IsTrue, List, [], ◌++◌, length, map, flat_map, sum_by, slice_get, slice_index_or, take, Some}
 use Rattle.std.specs.Int.{int_gap}
 use Rattle.std.specs.List.{All}
 use Rattle.half_grid.specs.Reach.{IsTileWithinReach}
@@ -22,8 +22,8 @@ use Rattle.density_report.specs.declared.entries.Totals.{Totals}
 use Rattle.density_report.specs.declared.strips.Batch.{Batch}
 use Rattle.density_report.specs.declared.strips.Portion.{Portion}
 use Rattle.density_report.specs.Tables.{Table, AreEntries, IsMost, IsDensityTable}
-use Rattle.density_report.specs.Texts.{entry_line, table_text, tables_text}
-use Rattle.density_report.specs.Saying.{area_of, IsBelow, IsFront, AreTables}
+use Rattle.density_report.specs.Texts.{entry_line, front_text, table_text, tables_text}
+use Rattle.density_report.specs.Saying.{area_of, AreTables}
 
 -- a count of a row of windows, as an entry, and all of them
 abbrev pub entry_of : ℤ → Counted → Entry
@@ -59,6 +59,11 @@ pub record AreRowCounts (area : Tile → Type 0) (size row : ℤ) (counts : List
 abbrev pub HasRows : Planned → ℕ → RowRange → Type 0
 HasRows p k rows = (t : Tile) → area_of p k t → IsInRows rows t
 
+-- the tiles of an area below some row of windows
+pub record IsBelow (area : Tile → Type 0) (size row : ℤ) (t : Tile) : Type 0 where
+  pub below : t.j <ℤ (row *ℤ size)
+  pub taken : area t
+
 -- the entries of all rows were put, and the totals are theirs
 pub record AreRowsPut (p : Planned) (k : ℕ) (size : ℤ) (tells : Bool) (before : Content) (held : List ℕ) (totals : Totals) (left : List ℕ)
     (now : Content) : Type 0 where
@@ -82,6 +87,15 @@ pub record IsTablePut (p : Planned) (k : ℕ) (size : ℤ) (tells : Bool) (befor
   pub is : IsDensityTable (area_of p k) size table
   pub content : IsTrue tells → IsSaidButFor before (held ++ table_text size (output, table)) left now
 
+-- the bytes are the first lines of the table of output k: those of the windows below some row of windows
+pub record IsFront (p : Planned) (size : ℤ) (k : ℕ) (bytes : List ℕ) : Type 0 where
+  pub output : Output
+  pub here : slice_get p.deck.outputs k ≡ Some output
+  pub row : ℤ
+  pub entries : List Entry
+  pub are : AreEntries (IsBelow (area_of p k) size row) size entries
+  pub text : bytes ≡ front_text size output.file entries
+
 -- the bytes begin the text of the table of output k: they are its first lines or the whole
 abbrev pub BeginsTable : Planned → ℕ → ℤ → List ℕ → Type 0
 BeginsTable p k size bytes =
@@ -98,6 +112,21 @@ pub record AreTablesPut (p : Planned) (n : ℕ) (size : ℤ) (tells : Bool) (bef
   pub tables : List Table
   pub are : AreTables p size n tables
   pub content : IsTrue tells → IsSaidButFor before (tables_text size (take n p.deck.outputs) tables) held now
+
+-- The bytes begin the text of the tables: they are the text of the tables of the first n outputs, and after it nothing or
+-- the first lines of the next table.
+pub record IsBeginning (p : Planned) (size : ℤ) (bytes : List ℕ) : Type 0 where
+  pub n : ℕ
+  pub inside : n ≤ length p.deck.outputs
+  pub tables : List Table
+  pub are : AreTables p size n tables
+  pub rest : List ℕ
+  pub front : (rest ≡ []) ⊎ IsFront p size n rest
+  pub text : bytes ≡ tables_text size (take n p.deck.outputs) tables ++ rest
+
+-- a prefix of what begins it was said
+abbrev pub IsBeginningSaid : Planned → ℤ → Content → Content → Type 0
+IsBeginningSaid p size before now = (bytes : List ℕ) × IsBeginning p size bytes × IsPartSaid before bytes now
 
 -- ---- rows of windows, as numbers
 

@@ -55,3 +55,11 @@ pub record IsDensityTable (area : Tile → Type 0) (size : ℤ) (table : Table) 
   pub entries : AreEntries area size table.entries
   pub most : IsMost table.entries table.most
   pub triangles : IsNumberIn area table.triangles
+
+-- What its numbers are: each that is listed is the number of the area's tiles in its window, they add up to the number of
+-- all tiles of the area, and no window has more than the one that is named for having the most.
+pub record HasTrueNumbers (area : Tile → Type 0) (size : ℤ) (table : Table) : Type 0 where
+  pub each : All (λ e. IsWindowCount area size e.column e.row e.tiles) table.entries
+  pub sum : sum_by (λ e. e.tiles) table.entries ≡ table.triangles
+  pub all : IsNumberIn area table.triangles
+  pub most : (i j : ℤ) (n : ℕ) (greatest : Entry) → table.most ≡ Some greatest → IsWindowCount area size i j n → n ≤ greatest.tiles

@@ -11,6 +11,7 @@ mod lines;
 mod maps;
 mod saying;
 mod strips;
+mod tabled;
 mod tables;
 
 pub use entries::{Entry, Totals};

@@ -4,13 +4,14 @@ ghost use Rattle.depot.specs.Counting.{CountsWritesInMemory};
 ghost use Rattle.density_map.specs.Windows.{IsWindowSize};
 ghost use Rattle.deck_plan.specs.Bands.{AreRowsNear};
 ghost use Rattle.density_report.specs.Saying.{IsSaid, IsCutShort};
-ghost use Rattle.density_report.specs.Rows.{HasRows, AreRowsPut, AreRowsCut, IsTablePut, IsTableCut};
+ghost use Rattle.density_report.specs.Rows.{HasRows, AreRowsPut, AreRowsCut, IsTablePut, IsTableCut, IsBeginningSaid};
 
 use crate::areas::fill;
 use crate::entries::{Totals, count_row};
 use crate::maps::take_first;
 use crate::saying::{say_row, say_size, say_totals};
 use crate::strips::{Mesh, Strip, after_first, batch_of, first_portion};
+use crate::tabled::have_tables;
 use deck_plan::Plan;
 use depot::{Buffer, Depot, DepotBad, flush};
 use half_grid::Window;
@@ -99,7 +100,7 @@ fn say_tables<D: Depot>(
     requires { IsWindowSize mesh.now.size }
     ensures ok { OnOk result (IsSaid plan.now mesh.now.size D.tells (D.content depot.old) (D.content depot.new)) }
     ensures refused { OnErr result (IsTrue D.tells
-        → IsCutShort plan.now mesh.now.size (D.content depot.old) (D.content depot.new)) }
+        → IsBeginningSaid plan.now mesh.now.size (D.content depot.old) (D.content depot.new)) }
     ensures counts { CountsWritesInMemory (D.counts depot.old) (D.counts depot.new) result }
 {
     let count = plan.deck().outputs.as_slice().len();
@@ -111,8 +112,7 @@ fn say_tables<D: Depot>(
 }
 
 /// Prints the density table of each output of the deck, in its order, for windows of this size. After a refusal a prefix
-/// of what begins their text was printed; memory may have run out for an area or a row of windows, which no depot
-/// counts.
+/// of their text was printed; memory may have run out for an area or a row of windows, which no depot counts.
 ///
 /// From the first row of windows that has some of the output's rows to the last, the area is computed for 64 rows of
 /// windows at once, or for as many as have 16,777,216 rows together, and for fewer where these have many trapezoids. Where the output has nothing in them, it is computed
@@ -133,5 +133,6 @@ pub fn say_densities<D: Depot>(
     ensures counts { CountsWritesInMemory (D.counts depot.old) (D.counts depot.new) result }
 {
     let mesh = Mesh { size };
+    have_tables(plan, &mesh);
     say_tables(alloc, depot, plan, &mesh)
 }

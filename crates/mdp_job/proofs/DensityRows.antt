@@ -1,13 +1,25 @@
 -- The rows of the table of answers that speak of `density`, from its answer.
-use Rattle.std.proofs.Common.{◌≡◌, ◌≢◌, ◌⊎◌, inl, inr, ℕ, ℤ, List, [], Option, refl, subst}
+use Rattle.std.proofs.Common.{◌≡◌, ◌≢◌, ◌⊎◌, inl, inr, ℕ, ℤ, Bool, List, [], length, Option, refl, sym, subst, ◌∙◌, arith}
+use Rattle.std.specs.Prelude.{IsTrue}
+use Rattle.std.proofs.lemmas.Option.{same_Some, slice_get_within}
 use Rattle.depot.specs.Content.{Content, with_left}
 use Rattle.depot.specs.Counts.{Counts, NeverFall, Rose}
+use Rattle.depot.specs.declared.outside.DepotBad.{DepotBad}
+use Rattle.depot.specs.declared.outside.DepotBad.TheVariants as depot
 use Rattle.depot.proofs.ForCallers.{Rose-earlier}
+use Rattle.density_map.specs.Windows.{IsWindowSize}
+use Rattle.density_report.specs.Tables.{Table, HasTrueNumbers}
+use Rattle.density_report.specs.Texts.{tables_text}
+use Rattle.density_report.specs.Saying.{area_of as output_area, AreTables, IsSaid, IsCutShort}
+use Rattle.density_report.proofs.ForCallers.{true_numbers}
+use Rattle.deck_plan.specs.Plans.{Planned}
 use Rattle.job_input.specs.Accepted.{HoldsInput}
 use Rattle.job_input.specs.Refused.{IsWanting}
 use Rattle.job_input.specs.declared.reading.Input.{Input}
 use Rattle.mdp_job.specs.Runs.{Run, run_of, ReadRose, WriteRose}
-use Rattle.mdp_job.specs.Densities.{AreTablesSaid, AreTablesCutShort, AreCounted, IsCounted, IsDensityAnswer}
+use Rattle.mdp_job.specs.Densities.{IsDensityText, AreTablesSaid, AreTablesCutShort, AreCounted, IsCounted, IsDensityAnswer}
+use Rattle.mdp_job.specs.Denoted.{plan_of}
+use Rattle.mdp_job.specs.Parts.{fault_status}
 use Rattle.job_report.specs.declared.status.Status.{Status}
 use Rattle.job_report.specs.declared.status.Status.TheVariants as answers
 use Rattle.mdp_job.proofs.Rows.{KeepsInput, done_given, write_given, read_cause, input_due}
@@ -15,6 +27,41 @@ use Rattle.mdp_job.proofs.Made.{answer_later}
 
 pub counted_keeps : (r : Run) (size : ℤ) → KeepsInput (IsCounted r size)
 counted_keeps r size = record { deck = λ input fault x. x; layout = λ input fault x. x }
+
+-- ---- what was said
+
+-- the text of the tables of an input's outputs
+text_of_tables : (size : ℤ) (input : Input) (tables : List Table) → IsWindowSize size
+    → AreTables (plan_of input) size (length input.deck.outputs) tables
+    → IsDensityText size input (tables_text size input.deck.outputs tables)
+text_of_tables size input tables h are = record {
+  tables = tables;
+  are = are;
+  numbers = λ k table here. (
+      let inside = slice_get_within tables k table here in
+      let own = are.each k (omega (arith, inside, are.count)) in
+      subst (λ (t : Table). HasTrueNumbers (output_area (plan_of input) k) size t) (same_Some own.0 table (sym own.1 ∙ here))
+      (true_numbers (output_area (plan_of input) k) size own.0 h own.2)
+      );
+  is = refl;
+}
+
+pub counted_done : (p : Planned) (size : ℤ) (tells : Bool) (b a : Content) (wr : Type 0) (input : Input) → p ≡ plan_of input → IsWindowSize size
+    → IsTrue tells → IsSaid p size tells b a → AreCounted b a wr size input answers.Done
+counted_done p size tells b a wr input same h told said =
+    let all = subst (λ (q : Planned). IsSaid q size tells b a) same said in
+    (tables_text size input.deck.outputs all.tables, text_of_tables size input all.tables h all.are, all.content told)
+
+cut_by : (p : Planned) (size : ℤ) (b a : Content) (input : Input) → p ≡ plan_of input → IsWindowSize size → IsCutShort p size b a
+    → AreTablesCutShort b a size input
+cut_by p size b a input same h cut =
+    let all = subst (λ (q : Planned). IsCutShort q size b a) same cut in
+    inr (tables_text size input.deck.outputs all.tables, text_of_tables size input all.tables h all.are, all.part)
+
+pub counted_cut : (p : Planned) (size : ℤ) (b a : Content) (wr : Type 0) (input : Input) (bad : DepotBad) → p ≡ plan_of input → IsWindowSize size
+    → (bad ≡ depot.Failed → wr) → IsCutShort p size b a → AreCounted b a wr size input (fault_status bad)
+counted_cut p size b a wr input depot.Failed same h failed cut = (failed refl, cut_by p size b a input same h cut)
+counted_cut p size b a wr input depot.NoMemory same h failed cut = cut_by p size b a input same h cut
 
 -- ---- later, and from the content before the reading
 

@@ -32,7 +32,7 @@ use Rattle.mdp_job.specs.Certificates.{IsRefusedAt, HasNoFile, IsFileAt, AreExac
 use Rattle.mdp_job.specs.ShotFiles.{ShotData, HoldsShots, HoldsPacked, HoldsFault, HoldsPackFault, listed, packed_of, packed_said, plain_of, unpacked_said, IsGivenBack}
 use Rattle.mdp_job.specs.Splitting.{HoldsFields, HoldsWide, HoldsManyStripes, AreAllMade, IsSplit, IsPartSplit}
 use Rattle.mdp_job.specs.Keeping.{AreKept}
-use Rattle.mdp_job.specs.Densities.{IsDensityBeginning, AreTablesSaid}
+use Rattle.mdp_job.specs.Densities.{IsDensityText, AreTablesSaid}
 use Rattle.mdp_job.specs.Filing.{IsFiled}
 use Rattle.mdp_job.specs.Generating.{generated_line}
 use Rattle.mdp_job.specs.Parts.{IsOf}
@@ -317,7 +317,8 @@ Lists r words result =
     (file : List ℕ) → IsShots words file → result ≡ answers.Done
     → (s : ShotData) × HoldsShots r.before file s × (r.after ≡ with_said (with_left r.before []) (listed s))
 
--- The windows of each output were said with their counts, and nothing else has changed but what is left to be read.
+-- The windows of each output were said with their counts, which are true and add up, and nothing else has changed but what
+-- is left to be read.
 abbrev pub Tabulates : Run → List (List ℕ) → Status → Type 0
 Tabulates r words result =
     (size : ℕ) (layout deck : List ℕ) → IsDensity words size layout deck → result ≡ answers.Done
@@ -346,7 +347,7 @@ IsTextBy r (Unpack file out) text =
 IsTextBy r (Split size file out) text =
     (s : ShotData) × HoldsFields (pos size) r.before file s
     × AreAllMade (with_left r.before []) (quiet r).after (pos size) out s text
-IsTextBy r (Density size layout deck) text = (input : Input) × HoldsInput r.before layout deck input × IsDensityBeginning (pos size) input text
+IsTextBy r (Density size layout deck) text = (input : Input) × HoldsInput r.before layout deck input × IsDensityText (pos size) input text
 IsTextBy r (Generate n file) text = ((quiet r).after ≡ with_file r.before file (generated n)) × (text ≡ generated_line n)
 
 -- Saying it may have ended early: it failed, or a want of memory was counted. `density` computes what it says as it goes, so

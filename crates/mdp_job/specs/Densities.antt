@@ -1,10 +1,10 @@
 -- What the program owes for `density SIZE LAYOUT DECK`: the windows of each output with their counts, which are said and no
 -- file is made.
-use Rattle.std.specs.Prelude.{◌≡◌, ◌⊎◌, ℕ, ℤ, List, [], length, Option}
-use Rattle.depot.specs.Content.{Content, with_left, with_said}
-use Rattle.density_report.specs.Tables.{Table}
+use Rattle.std.specs.Prelude.{◌≡◌, ◌⊎◌, ℕ, ℤ, List, [], length, slice_get, Option, Some}
+use Rattle.depot.specs.Content.{Content, with_left, with_said, IsPartSaid}
+use Rattle.density_report.specs.Tables.{Table, HasTrueNumbers}
 use Rattle.density_report.specs.Texts.{tables_text}
-use Rattle.density_report.specs.Saying.{AreTables, IsBeginning, IsCutShort}
+use Rattle.density_report.specs.Saying.{area_of as output_area, AreTables}
 use Rattle.job_input.specs.declared.reading.Input.{Input}
 use Rattle.mdp_job.specs.Runs.{Run, WriteRose}
 use Rattle.mdp_job.specs.Denoted.{plan_of}
@@ -12,23 +12,22 @@ use Rattle.mdp_job.specs.Parts.{IsAnswerBy}
 use Rattle.job_report.specs.declared.status.Status.{Status}
 use Rattle.job_report.specs.declared.status.Status.TheVariants as answers
 
--- the text is that of the table of each output's area, in the order of the deck
+-- The text is that of the table of each output's area, in the order of the deck. Each number in a table is that of the
+-- area's triangles in its window, they add up to the number of the area's triangles, and no window has more than the one
+-- that is named for having the most.
 pub record IsDensityText (size : ℤ) (input : Input) (text : List ℕ) : Type 0 where
   pub tables : List Table
   pub are : AreTables (plan_of input) size (length input.deck.outputs) tables
+  pub numbers : (k : ℕ) (table : Table) → slice_get tables k ≡ Some table → HasTrueNumbers (output_area (plan_of input) k) size table
   pub is : text ≡ tables_text size input.deck.outputs tables
-
--- the text begins such a one: the tables of the first outputs, and the first lines of the next
-abbrev pub IsDensityBeginning : ℤ → Input → List ℕ → Type 0
-IsDensityBeginning size input text = IsBeginning (plan_of input) size text
 
 -- the tables were said, and nothing else has changed
 abbrev pub AreTablesSaid : Content → Content → ℤ → Input → Type 0
 AreTablesSaid before now size input = (text : List ℕ) × IsDensityText size input text × (now ≡ with_said before text)
 
--- nothing has changed, or a prefix of such a beginning was said
+-- nothing has changed, or a prefix of such a text was said
 abbrev pub AreTablesCutShort : Content → Content → ℤ → Input → Type 0
-AreTablesCutShort before now size input = (now ≡ before) ⊎ IsCutShort (plan_of input) size before now
+AreTablesCutShort before now size input = (now ≡ before) ⊎ ((text : List ℕ) × IsDensityText size input text × IsPartSaid before text now)
 
 -- what holds where the counting of an accepted input's windows gives the answer
 abbrev pub AreCounted : Content → Content → (write_rose : Type 0) → ℤ → Input → Status → Type 0
