@@ -1,0 +1,156 @@
+"""How the tools end and write: one line for what is wrong, and files that are whole or as they were.
+
+    run(main, doc)        runs main(words) of a tool; --help prints doc; a fault is one line and status 2
+    replacing(path, ..)   a file to write that takes its place once it is whole; an input as output is refused
+    Refused               what a tool raises with the text of its line
+"""
+from __future__ import annotations
+
+import contextlib
+import io
+import os
+import shutil
+import stat
+import sys
+from typing import Callable, Iterable, Iterator, List, Optional
+
+HERE = os.path.dirname(os.path.abspath(__file__))
+
+
+class Refused(Exception):
+    """Why a tool can't do what it is asked: one line, which names the file and the line or byte where there are such."""
+
+
+def tool_name() -> str:
+    return os.path.basename(sys.argv[0])
+
+
+def usage(doc: str) -> str:
+    """The tool's text with its installed name in place of tools/NAME, where it runs under that."""
+    name = tool_name()
+    short = name[len("nettletide-"):] if name.startswith("nettletide-") else name
+    return doc.strip().replace(f"tools/{short}", name) if short != name else doc.strip()
+
+
+def fault_text(fault: BaseException) -> str:
+    """The line that says what a fault is about."""
+    if isinstance(fault, OSError) and fault.strerror:
+        return f"{fault.filename}: {fault.strerror}" if fault.filename is not None else fault.strerror
+    if isinstance(fault, MemoryError):
+        return "memory runs out"
+    return str(fault) or type(fault).__name__
+
+
+def run(main: Callable[[List[str]], Optional[int]], doc: str, refused: int = 2) -> None:
+    """Runs a tool and ends. A fault is one line on standard error, and the status is `refused`."""
+    words = sys.argv[1:]
+    if words[:1] in (["--help"], ["-h"]):
+        print(usage(doc))
+        sys.exit(0)
+    try:
+        status = main(words) or 0
+        sys.stdout.flush()
+    except BrokenPipeError:
+        os.dup2(os.open(os.devnull, os.O_WRONLY), sys.stdout.fileno())
+        status = 0
+    except KeyboardInterrupt:
+        status = 130
+    except (Refused, OSError, ValueError, MemoryError, RecursionError) as fault:
+        line = " ".join(fault_text(fault).split("\n"))
+        print(f"{tool_name()}: {line}", file=sys.stderr)
+        status = refused
+    sys.exit(status)
+
+
+def wrong_words(doc: str) -> Refused:
+    """For words that aren't those of the usage: its first line that names the tool."""
+    lines = [line.strip() for line in usage(doc).splitlines() if f"{tool_name()} " in line]
+    return Refused(f"wrong words; usage: {lines[0].split('usage: ')[-1] if lines else tool_name()} (--help says more)")
+
+
+def is_same_file(a: str, b: str) -> bool:
+    """Whether two names are one real file."""
+    try:
+        return os.path.samefile(a, b)
+    except OSError:
+        return False
+
+
+def check_output(path: str, inputs: Iterable[str]) -> None:
+    """Refuses an output that is one of the inputs, by whatever name."""
+    for name in inputs:
+        if is_same_file(path, name):
+            raise Refused(f"{path}: is the input {name}, which would be lost")
+
+
+def is_plain(path: str) -> bool:
+    """Whether a name is that of a regular file or of none yet."""
+    try:
+        return stat.S_ISREG(os.stat(path).st_mode)
+    except FileNotFoundError:
+        return True
+
+
+@contextlib.contextmanager
+def replacing(path: str, inputs: Iterable[str] = (), is_text: bool = False) -> Iterator[io.IOBase]:
+    """A file to write. It is made beside `path` and takes its place at the end; after a fault `path` is as it was.
+
+    A link is followed, the permissions of a file that was there are kept, and what is no regular file (a device, a pipe) is
+    written straight. A path that is one of the inputs is refused.
+    """
+    check_output(path, inputs)
+    mode, encoding = ("w", "utf-8") if is_text else ("wb", None)
+    if not is_plain(path):
+        with open(path, mode, encoding=encoding) as file:
+            yield file
+        return
+    target = os.path.realpath(path)
+    part = f"{target}.{tool_name()}-{os.getpid()}.part"
+    try:
+        with open(part, mode.replace("w", "x"), encoding=encoding) as file:
+            yield file
+        if os.path.exists(target):
+            shutil.copymode(target, part)
+        os.replace(part, target)
+    except OSError as fault:
+        if fault.filename == part:
+            fault.filename, fault.filename2 = path, None
+        raise
+    finally:
+        if os.path.exists(part):
+            os.remove(part)
+
+
+def read_bytes(path: str) -> bytes:
+    """All bytes of a file, which isn't empty."""
+    with open(path, "rb") as file:
+        data = file.read()
+    if not data:
+        raise Refused(f"{path}: is empty")
+    return data
+
+
+def read_lines(path: str) -> List[str]:
+    """The lines of a text, which isn't empty; - is standard input."""
+    if path == "-":
+        return sys.stdin.read().split("\n")
+    try:
+        text = read_bytes(path).decode("utf-8")
+    except UnicodeDecodeError as fault:
+        raise Refused(f"{path}: byte {fault.start}: is no text") from None
+    return text.split("\n")
+
+
+def program() -> str:
+    """The program nettletide: what the environment names as NETTLETIDE, else the one beside the tools, else that on PATH."""
+    named = os.environ.get("NETTLETIDE")
+    if named:
+        found = shutil.which(os.path.abspath(named))
+        if not found:
+            raise Refused(f"{named}: is no program, and the environment names it as NETTLETIDE")
+        return found
+    beside = [os.path.join(HERE, "..", "build", "nettletide"), os.path.join(HERE, "..", "..", "bin", "nettletide")]
+    for path in [*beside, shutil.which("nettletide") or ""]:
+        if path and os.path.isfile(path) and os.access(path, os.X_OK):
+            return os.path.abspath(path)
+    raise Refused("no program nettletide beside the tools or on PATH: make it, or name it in the environment as NETTLETIDE")
