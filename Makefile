@@ -133,20 +133,20 @@ slurm: $(PROGRAM)
 	tests/slurm.sh $(PROGRAM)
 
 # Single layers, timed on inputs that the program makes in memory; then whole runs on layouts in build/bench, beside KLayout
-# and Boost.Polygon where they are installed, and what the program alone takes. WHAT chooses one of the tables of tools/bench.
+# and Boost.Polygon where they are installed, and what the program alone takes. WHAT chooses one of the tables of measure/bench.
 bench: $(BENCH) $(PROGRAM)
-	tools/bench $(PROGRAM) build/bench $(or $(WHAT),$(SIZE))
+	measure/bench $(PROGRAM) build/bench $(or $(WHAT),$(SIZE))
 ifndef WHAT
-	for what in steps files densities strips; do tools/measure $(PROGRAM) build/bench $$what || exit 1; done
-	tools/reading $(PROGRAM) build/bench
-	tools/check_bench $(PROGRAM) build/bench 400000
-	tools/measure $(BENCH) build/bench layers
-	tools/sweeps $(BENCH) build/bench
+	for what in steps files densities strips; do measure/measure $(PROGRAM) build/bench $$what || exit 1; done
+	measure/reading $(PROGRAM) build/bench
+	measure/check_bench $(PROGRAM) build/bench 400000
+	measure/measure $(BENCH) build/bench layers
+	measure/sweeps $(BENCH) build/bench
 endif
 
 # All that is measured, put into docs/.
 figures: $(BENCH) $(PROGRAM)
-	tools/figures $(PROGRAM) $(BENCH) build/bench
+	measure/figures $(PROGRAM) $(BENCH) build/bench
 
 # Ten thousand random cases, swept as the program does it, slab by slab and by the plane sweep: all must give the same trapezoids.
 agree: $(BENCH)

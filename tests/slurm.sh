@@ -131,7 +131,7 @@ timeout 120 sbatch --wait --array=2 strips/array.sbatch >/dev/null 2>&1
 check 'the status of a strip is that of its task' test $? -eq 5
 check 'and Slurm tells it' grep -q 'JobState=FAILED.*ExitCode=5:0' <(scontrol -o show job | tail -n 1)
 
-"$tools/make_layout" random 100000 strips/layout
+"$tools/../measure/make_layout" random 100000 strips/layout
 timeout 120 sbatch --wait --array=2 --mem=8 strips/array.sbatch >/dev/null 2>&1
 check 'a strip with too little memory ends with status 6' test "$? $(<strips/strip-2/status)" = '6 6'
 

@@ -108,7 +108,7 @@ same 'spaces, remarks and line ends' 2
 is_refused() {
     rm -rf strips
     "$tools/strips" K "${2:-G.gds}" 4 strips 2>told && return 1
-    grep -q "^strips refused: $1" told && [ ! -e strips ] && return
+    grep -q "^strips: $1" told && [ ! -e strips ] && return
     cat told
     return 1
 }

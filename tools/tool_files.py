@@ -44,11 +44,12 @@ def fault_text(fault: BaseException) -> str:
 def run(main: Callable[[List[str]], Optional[int]], doc: str, refused: int = 2) -> None:
     """Runs a tool and ends. A fault is one line on standard error, and the status is `refused`."""
     words = sys.argv[1:]
-    if words[:1] in (["--help"], ["-h"]):
-        print(usage(doc))
-        sys.exit(0)
     try:
-        status = main(words) or 0
+        if words[:1] in (["--help"], ["-h"]):
+            print(usage(doc))
+            status = 0
+        else:
+            status = main(words) or 0
         sys.stdout.flush()
     except BrokenPipeError:
         os.dup2(os.open(os.devnull, os.O_WRONLY), sys.stdout.fileno())

@@ -3,7 +3,7 @@
 // Reads layer 1, datatype 0 of the cell TOP of a GDSII file, unites its shapes on doubled coordinates, cuts the union into
 // trapezoids with level sides, writes them to OUT as OASIS records, and prints the processor's seconds of reading (the cells
 // flattened), of the sweep and of writing, and how many trapezoids there are. KIND is 45, or 90 for layouts with level and upright edges
-// alone. It reads what tools/make_layout and `generate` write: BOUNDARY, PATH of the types 0 and 2 with level and upright
+// alone. It reads what measure/make_layout and `generate` write: BOUNDARY, PATH of the types 0 and 2 with level and upright
 // pieces, SREF and AREF without magnification. No rule of the format is looked at.
 #include <boost/polygon/polygon.hpp>
 #include <boost/version.hpp>

@@ -2,10 +2,14 @@
 import os
 import resource
 import subprocess
+import sys
 from importlib.machinery import SourceFileLoader
 from types import ModuleType
 
 HERE = os.path.dirname(os.path.abspath(__file__))
+TOOLS = os.path.join(HERE, "..", "tools")
+# The modules that read and write layouts are among the tools.
+sys.path.insert(0, TOOLS)
 # A run that needs more processor seconds is ended.
 MOST_SECONDS = 100
 
