@@ -15,9 +15,9 @@ from tool_files import Refused, read_lines, replacing, wrong_words
 FORMS = {
     "unit": "unit N, before all else",
     "cell": "cell NAME",
-    "boundary": "boundary L D X,Y X,Y X,Y ..",
+    "boundary": "boundary L D X,Y ..",
     "box": "box L D X0,Y0 X1,Y1",
-    "path": "path L D [type=T] [width=W] X,Y X,Y ..",
+    "path": "path L D [type=T] [width=W] X,Y ..",
     "sref": "sref CELL [flip] [mag=M] [angle=A] X,Y",
     "aref": "aref CELL [flip] [mag=M] [angle=A] size=COLUMNSxROWS X,Y X,Y X,Y",
     "text": "text L X,Y STRING",
@@ -58,7 +58,7 @@ def element(writer, kind: str, words: List[str]) -> bytes:
     if kind in ("boundary", "box", "path"):
         layer, datatype = numbers(words[:2], 2)
         if kind == "boundary":
-            return writer.boundary(points(words[2:], 3), layer, datatype)
+            return writer.boundary(points(words[2:], 1), layer, datatype)
         if kind == "box":
             (x0, y0), (x1, y1) = points(words[2:], 2, 2)
             return writer.box(x0, y0, x1, y1, layer, datatype)
