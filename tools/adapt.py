@@ -1,4 +1,6 @@
 """Writes a layout that Nettletide reads, by KLayout; tools/adapt runs it, and says what the words are."""
+from fractions import Fraction
+
 import pya
 
 
@@ -91,10 +93,25 @@ def adapt_references(layout, counts):
         counts["references made shapes"] += len(others)
 
 
+def scale(layout, micrometres):
+    """Scales all cells to another grid, so that lengths in micrometres stay; says whether they are rounded."""
+    factor = Fraction(str(round(layout.dbu, 12))) / micrometres
+    above = layout.create_cell("ABOVE")
+    for cell in layout.top_cells():
+        if cell.cell_index() != above.cell_index():
+            above.insert(pya.CellInstArray(cell.cell_index(), pya.Trans()))
+    layout.scale_and_snap(above, 1, factor.numerator, factor.denominator)
+    layout.delete_cell(above.cell_index())
+    layout.dbu = float(micrometres)
+    print(f"scaled by {factor}" + ("" if factor.denominator == 1 else ", and rounded"))
+
+
 def main():
     layout, counts = pya.Layout(True), dict.fromkeys(
         ("references made shapes", "paths made polygons", "polygons given steps", "polygons put on another datatype"), 0)
     layout.read(source)
+    if grid:
+        scale(layout, Fraction(grid))
     adapt_references(layout, counts)
     for index in layout.layer_indexes():
         info = layout.get_info(index)

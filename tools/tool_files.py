@@ -11,10 +11,11 @@ import io
 import os
 import shutil
 import stat
+import subprocess
 import sys
-from typing import Callable, Iterable, Iterator, List, Optional
+from typing import Callable, Iterable, Iterator, List, Optional, Sequence
 
-HERE = os.path.dirname(os.path.abspath(__file__))
+HERE = os.path.dirname(os.path.realpath(__file__))
 
 
 class Refused(Exception):
@@ -122,6 +123,28 @@ def replacing(path: str, inputs: Iterable[str] = (), is_text: bool = False) -> I
             os.remove(part)
 
 
+@contextlib.contextmanager
+def replacing_name(path: str, inputs: Iterable[str] = ()) -> Iterator[str]:
+    """The same for another program that writes: the name of the file that it is to make, which ends as `path` does."""
+    check_output(path, inputs)
+    if not is_plain(path):
+        yield path
+        return
+    target = os.path.realpath(path)
+    root, ending = os.path.splitext(target)
+    part = f"{root}.{tool_name()}-{os.getpid()}.part{ending}"
+    open(part, "xb").close()  # a folder that can't be written is found before the program runs
+    os.remove(part)
+    try:
+        yield part
+        if os.path.exists(target):
+            shutil.copymode(target, part)
+        os.replace(part, target)
+    finally:
+        if os.path.exists(part):
+            os.remove(part)
+
+
 def read_bytes(path: str) -> bytes:
     """All bytes of a file, which isn't empty."""
     with open(path, "rb") as file:
@@ -140,6 +163,29 @@ def read_lines(path: str) -> List[str]:
     except UnicodeDecodeError as fault:
         raise Refused(f"{path}: byte {fault.start}: is no text") from None
     return text.split("\n")
+
+
+def check_input(path: str) -> None:
+    """Refuses a file that isn't there, can't be read or is empty."""
+    with open(path, "rb") as file:
+        if not file.read(1):
+            raise Refused(f"{path}: is empty")
+
+
+def klayout(script: str, words: Sequence[str], has_window: bool = False, **values: str) -> str:
+    """Runs a script beside the tools in KLayout with values for its names, and gives what it printed."""
+    if not shutil.which("klayout"):
+        raise Refused("KLayout is not installed")
+    given = [word for name, value in values.items() for word in ("-rd", f"{name}={value}")]
+    environment = dict(os.environ) if has_window else {**os.environ, "QT_QPA_PLATFORM": "offscreen"}
+    ended = subprocess.run(["klayout", *words[:-1], *given, words[-1], os.path.join(HERE, script)], env=environment,
+                           stdout=subprocess.PIPE, stderr=None if has_window else subprocess.PIPE)
+    said = ended.stdout.decode(errors="replace")
+    if ended.returncode != 0:
+        lines = [line for line in (said + (ended.stderr or b"").decode(errors="replace")).splitlines() if line.strip()]
+        errors = [line for line in lines if "rror" in line]
+        raise Refused(f"KLayout ended with status {ended.returncode}: {(errors or lines or ['it said nothing'])[-1].strip()}")
+    return said
 
 
 def program() -> str:

@@ -1,12 +1,14 @@
 """Shows a layout and shots side by side in KLayout; tools/view runs it, and says what the words are.
 
-Each panel right of the layout has shots in the layout's scale, and above it the numbers that the report of `fracture` has, as
-KLayout counts them in the files: how many shots, and their area in triangles of the half grid.
+Each panel after the layout has shots in the layout's scale, and above it the numbers that the report of `fracture` has, as
+KLayout counts them in the files: how many shots, and their area in triangles of the half grid. Panels are in rows.
 """
 import pya
 
 # A panel of more files than this has one line, with their sums.
 MOST_LINES = 4
+# As wide as a picture is, in pixels, and about as wide as a letter above a panel.
+PAGE, LETTER = 1600, 8
 COLOURS = [0x1F77B4, 0xD62728, 0x2CA02C, 0x9467BD, 0xFF7F0E, 0x17BECF]
 
 
@@ -41,16 +43,33 @@ def numbers(layout):
 
 
 def show(view, layers):
-    """Shows these layers: source, colour, and by how many micrometres each is moved to the right."""
+    """Shows these layers: source, colour, and the move of each in micrometres."""
     view.clear_layers()
     for source, colour, move in layers:
         layer = pya.LayerPropertiesNode()
         layer.source = source
-        layer.trans = [pya.DCplxTrans(1.0, 0.0, False, move, 0.0)]
+        layer.trans = [pya.DCplxTrans(1.0, 0.0, False, move.x, move.y)]
         layer.fill_color = layer.frame_color = colour
         layer.dither_pattern = 3
         view.insert_layer(view.end_layers(), layer)
     view.update_content()
+
+
+class Grid:
+    """Where panels are: in rows, so that all together are about as wide as high; lines are said above each."""
+
+    def __init__(self, box, count, lines):
+        self.columns = next(k for k in range(1, count + 1) if k * box.width() >= -(-count // k) * box.height() or k == count)
+        self.line = 0.05 * box.width()
+        self.step = pya.DVector(1.15 * box.width(), -(box.height() + (lines + 1.5) * self.line))
+        self.most = int(PAGE / self.columns / 1.15 / LETTER)
+
+    def move(self, place):
+        return pya.DVector(self.step.x * (place % self.columns), self.step.y * (place // self.columns))
+
+    def fitted(self, text):
+        """The text, with its middle left out where it is wider than a panel."""
+        return text if len(text) <= self.most else text[:self.most // 3] + ".." + text[len(text) - 2 * self.most // 3 + 2:]
 
 
 def label(view, x, y, text):
@@ -74,7 +93,7 @@ def load_layout(view, name, deck):
     view.cellview(number).cell = layout.cell(top)
     layers, box = [], pya.DBox()
     for pair in dict.fromkeys((int(line[2]), int(line[3])) for line in deck if line[0] == "layer"):
-        layers.append((f"{pair[0]}/{pair[1]}@{number + 1}", COLOURS[len(layers) % len(COLOURS)], 0.0))
+        layers.append((f"{pair[0]}/{pair[1]}@{number + 1}", COLOURS[len(layers) % len(COLOURS)], pya.DVector()))
         index = layout.find_layer(*pair)
         if index is not None:
             box += layout.cell(top).dbbox_per_layer(index)
@@ -95,25 +114,26 @@ def load_panel(view, names, move, first):
         sums = [sums[0] + shots, sums[1] + triangles]
     if len(names) > MOST_LINES:
         said = [f"{len(names)} files shots {sums[0]} triangles {sums[1]}"]
-    return layers, box.moved(move, 0.0), said
+    return layers, box.moved(move), said
 
 
 def fill(view, layout_name, deck_name, words):
     """Fills the view, and gives the box of all."""
     deck = deck_lines(deck_name)
     layers, box = load_layout(view, layout_name, deck)
-    step, height, line_height = 1.15 * box.width(), box.height(), 0.05 * box.width()
-    whole, first = box + pya.DPoint(box.left, box.top + 2 * line_height), 0
-    label(view, box.left, box.top + line_height, layout_name)
-    for place, names in enumerate(panels_of(words, deck)):
-        move = step * (place + 1)
+    panels, first = panels_of(words, deck), 0
+    grid = Grid(box, 1 + len(panels), max([1, *(len(names) for names in panels if len(names) <= MOST_LINES)]))
+    whole = box + pya.DPoint(box.left, box.top + 2 * grid.line)
+    label(view, box.left, box.top + grid.line, grid.fitted(layout_name))
+    for place, names in enumerate(panels, 1):
+        move = grid.move(place)
         some, shots, said = load_panel(view, names, move, first)
         layers += some
         first += len(names)
-        for row, line in enumerate(reversed(said)):
-            label(view, box.left + move, box.top + (row + 1) * line_height, line)
+        for row, line in enumerate(reversed(said), 1):
+            label(view, box.left + move.x, box.top + move.y + row * grid.line, grid.fitted(line))
         print("\n".join(said))
-        whole += shots + pya.DPoint(box.left + move, box.top + (len(said) + 1) * line_height)
+        whole += shots + pya.DPoint(box.left + move.x, box.top + move.y + (len(said) + 1) * grid.line) + box.moved(move)
     show(view, layers)
     return whole
 
