@@ -10,10 +10,14 @@ SOURCES := crates.txt HANDLES $(shell find crates -name out -prune -o \( -name '
 
 VERSION := $(shell cat VERSION)
 
-# where `make install` puts the program, its man page and its documents
+# the tools that are installed, those of them that there are
+TOOLS := $(notdir $(wildcard $(addprefix tools/, \
+    readable stats report compare recast strips join draw view gds oas adapt density)))
+
+# where `make install` puts the program, the tools, the man page and the documents
 PREFIX := /usr/local
 
-.PHONY: all help try test check gate example system readme pictures compare hostile fuzz slurm bench figures agree install dist clean
+.PHONY: all help try test check gate example system tools readme pictures compare hostile fuzz slurm bench figures agree install dist clean
 
 # how large the layouts of `make bench` are: small, or large, which has up to 16 million shots
 SIZE := small
@@ -29,6 +33,7 @@ help:
 	@echo 'bash .ci/run         passes the gate with all, and the checks of the repository'
 	@echo 'make example         runs the built program on example/'
 	@echo 'make system          checks the built program: answers, statuses, files, and what the system refuses'
+	@echo 'make tools           checks the tools beside it, and them installed'
 	@echo 'make readme          runs the commands of README.md and compares what they print'
 	@echo 'make compare         compares it with a plain program, and refuses each allocation and each call for a file'
 	@echo 'make hostile         gives it layouts that are made to be hard'
@@ -38,7 +43,7 @@ help:
 	@echo 'make bench           measures whole runs beside peers, and single layers; SIZE=large for the large layouts'
 	@echo 'make figures         measures all, and puts the tables into docs/: an hour'
 	@echo 'make pictures        draws the pictures of docs/'
-	@echo 'make install         puts program, man page and documents under PREFIX, /usr/local if not given'
+	@echo 'make install         puts program, tools, man page and documents under PREFIX, /usr/local if not given'
 	@echo 'make dist            packs them into build/nettletide-$(VERSION).tar.gz, with a checksum'
 	@echo 'make clean           removes build/, and what the example wrote'
 
@@ -90,6 +95,12 @@ example: $(PROGRAM)
 # The built program on small inputs, with files that the system refuses.
 system: $(PROGRAM)
 	tests/system.sh $(PROGRAM)
+
+# The tools: their modules, what they make, what they refuse, and all of them installed.
+tools: $(PROGRAM)
+	tests/layout_bytes.py $(PROGRAM)
+	tests/compare.py $(PROGRAM)
+	tests/tools.sh $(PROGRAM)
 
 # The commands of README.md and docs/FIELDS.md, each with what it prints.
 readme: $(PROGRAM)
@@ -153,13 +164,22 @@ agree: $(BENCH)
 	$(BENCH) agree 10000 | tee build/agree.txt
 	grep -q 'each way' build/agree.txt
 
-# The program, its man page and its documents.
+# The program, the tools with their modules, the man page and the documents. A tool is PREFIX/bin/nettletide-NAME, a link to the
+# script in PREFIX/share/nettletide, where it finds its modules.
+install: BIN := $(DESTDIR)$(PREFIX)/bin
+install: SHARE := $(DESTDIR)$(PREFIX)/share
 install: $(PROGRAM)
-	install -d $(DESTDIR)$(PREFIX)/bin $(DESTDIR)$(PREFIX)/share/man/man1 $(DESTDIR)$(PREFIX)/share/doc/nettletide/pictures
-	install -m 755 $(PROGRAM) $(DESTDIR)$(PREFIX)/bin/nettletide
-	install -m 644 docs/nettletide.1 $(DESTDIR)$(PREFIX)/share/man/man1
-	install -m 644 VERSION CHANGELOG.md docs/*.md $(DESTDIR)$(PREFIX)/share/doc/nettletide
-	install -m 644 docs/pictures/*.svg $(DESTDIR)$(PREFIX)/share/doc/nettletide/pictures
+	install -d $(BIN) $(SHARE)/nettletide $(SHARE)/man/man1 $(SHARE)/doc/nettletide/pictures
+	install -m 755 $(PROGRAM) $(BIN)/nettletide
+	install -m 644 tools/*.py $(SHARE)/nettletide
+	install -m 755 $(TOOLS:%=tools/%) $(SHARE)/nettletide
+	for tool in $(TOOLS); do \
+	    ln -sf ../share/nettletide/$$tool $(BIN)/nettletide-$$tool && \
+	    echo '.so man1/nettletide.1' >$(SHARE)/man/man1/nettletide-$$tool.1 || exit 1; \
+	done
+	install -m 644 docs/nettletide.1 $(SHARE)/man/man1
+	install -m 644 VERSION CHANGELOG.md docs/*.md $(SHARE)/doc/nettletide
+	install -m 644 docs/pictures/*.svg $(SHARE)/doc/nettletide/pictures
 
 # The same in an archive, with its checksum.
 dist: PACKED := nettletide-$(VERSION)

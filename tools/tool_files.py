@@ -9,6 +9,7 @@ from __future__ import annotations
 import contextlib
 import io
 import os
+import re
 import shutil
 import stat
 import subprocess
@@ -27,10 +28,9 @@ def tool_name() -> str:
 
 
 def usage(doc: str) -> str:
-    """The tool's text with its installed name in place of tools/NAME, where it runs under that."""
-    name = tool_name()
-    short = name[len("nettletide-"):] if name.startswith("nettletide-") else name
-    return doc.strip().replace(f"tools/{short}", name) if short != name else doc.strip()
+    """The tool's text; where it runs under its installed name, with those names in place of tools/NAME."""
+    text = doc.strip()
+    return re.sub(r"\btools/([a-z]+)\b", r"nettletide-\1", text) if tool_name().startswith("nettletide-") else text
 
 
 def fault_text(fault: BaseException) -> str:
@@ -65,9 +65,9 @@ def run(main: Callable[[List[str]], Optional[int]], doc: str, refused: int = 2) 
 
 
 def wrong_words(doc: str) -> Refused:
-    """For words that aren't those of the usage: its first line that names the tool."""
-    lines = [line.strip() for line in usage(doc).splitlines() if f"{tool_name()} " in line]
-    return Refused(f"wrong words; usage: {lines[0].split('usage: ')[-1] if lines else tool_name()} (--help says more)")
+    """For words that aren't those of the usage: the line of the text that begins with `usage: `."""
+    lines = [line.strip() for line in usage(doc).splitlines() if "usage: " in line]
+    return Refused(f"wrong words; {lines[0] if lines else 'usage: ' + tool_name()} (--help says more)")
 
 
 def is_same_file(a: str, b: str) -> bool:
@@ -183,7 +183,7 @@ def klayout(script: str, words: Sequence[str], has_window: bool = False, **value
     said = ended.stdout.decode(errors="replace")
     if ended.returncode != 0:
         lines = [line for line in (said + (ended.stderr or b"").decode(errors="replace")).splitlines() if line.strip()]
-        errors = [line for line in lines if "rror" in line]
+        errors = [line for line in lines if "error" in line.lower()]
         raise Refused(f"KLayout ended with status {ended.returncode}: {(errors or lines or ['it said nothing'])[-1].strip()}")
     return said
 
