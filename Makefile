@@ -17,7 +17,7 @@ TOOLS := $(notdir $(wildcard $(addprefix tools/, \
 # where `make install` puts the program, the tools, the man page and the documents
 PREFIX := /usr/local
 
-.PHONY: all help try test check gate example system tools readme pictures compare hostile fuzz slurm bench figures agree install dist clean
+.PHONY: all help try test check gate example system tools readme pictures compare hostile fuzz slurm bench figures agree install put-in-place dist clean
 
 # how large the layouts of `make bench` are: small, or large, which has up to 16 million shots
 SIZE := small
@@ -166,9 +166,13 @@ agree: $(BENCH)
 
 # The program, the tools with their modules, the man page and the documents. A tool is PREFIX/bin/nettletide-NAME, a link to the
 # script in PREFIX/share/nettletide, where it finds its modules.
-install: BIN := $(DESTDIR)$(PREFIX)/bin
-install: SHARE := $(DESTDIR)$(PREFIX)/share
 install: $(PROGRAM)
+	$(MAKE) --no-print-directory put-in-place
+
+# The same with the program as it is, which PROGRAM may name.
+put-in-place: BIN := $(DESTDIR)$(PREFIX)/bin
+put-in-place: SHARE := $(DESTDIR)$(PREFIX)/share
+put-in-place:
 	install -d $(BIN) $(SHARE)/nettletide $(SHARE)/man/man1 $(SHARE)/doc/nettletide/pictures
 	install -m 755 $(PROGRAM) $(BIN)/nettletide
 	install -m 644 tools/*.py $(SHARE)/nettletide
@@ -185,7 +189,7 @@ install: $(PROGRAM)
 dist: PACKED := nettletide-$(VERSION)
 dist: $(PROGRAM)
 	rm -rf build/$(PACKED)
-	$(MAKE) --no-print-directory install DESTDIR= PREFIX=build/$(PACKED)
+	$(MAKE) --no-print-directory put-in-place DESTDIR= PREFIX=build/$(PACKED)
 	tar -C build --sort=name --owner=0 --group=0 --numeric-owner --mtime="@$$(git log -1 --format=%ct)" \
 	    -czf build/$(PACKED).tar.gz $(PACKED)
 	cd build && sha256sum $(PACKED).tar.gz >$(PACKED).tar.gz.sha256
