@@ -188,4 +188,6 @@ def main(names, size):
     print(f"KLayout {pya.Application.instance().version().split()[-1]}: {len(folders)} decks, {files} files, {failed} failed")
 
 
-main(cases, int(stripe))
+# Where another script of this folder imports it, it only has the functions.
+if "cases" in globals():
+    main(cases, int(stripe))

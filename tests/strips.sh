@@ -123,9 +123,9 @@ strips_refused 'grown beyond the reach' 'area C may reach further' far.gds
 deck 'band 1025' -- "$write" >K
 strips_refused 'a band beyond the reach' 'a band of 1025 rows straddles' far.gds
 deck 'band 1024' -- 'write C out.oas 1 0' >K
-strips_refused 'a deck that the program refuses' 'the deck: deck refused: line 6 unknown C'
+strips_refused 'a deck that the program refuses' 'K: deck refused: line 6 unknown C'
 deck 'band 1024' -- "$write" >K
-strips_refused 'a layout that the program refuses' 'the layout: layout refused: gdsii' told
+strips_refused 'a layout that the program refuses' 'told: layout refused: gdsii' told
 for ((k = 0; k < 254; k++)); do echo "layer X$k $k 1"; done >more
 deck 'band 1024' -- "$(<more)" "$write" >K
 strips_refused 'too many definitions' 'the deck has no room for 3 more definitions'

@@ -11,7 +11,7 @@ export NETTLETIDE
 top=$(realpath "$(dirname "$0")/..") || exit 1
 room=$(mktemp -d) || exit 1
 trap 'rm -rf "$room"' EXIT
-cd "$room" || exit 1
+mkdir "$room/work" && cd "$room/work" || exit 1
 tools=$top/tools
 
 # The block of the example with its shots, and what the tools take of it.
@@ -23,22 +23,22 @@ printf '\x00\x01\xffno file of any tool\n' >wrong
 printf 'unit 1000\ntop TOP\nwrite A\n' >wrong.deck
 ln -s block.gds link.gds
 ln -s block_open.oas link.oas
-ls >before
-sha256sum ./* 2>/dev/null | grep -v ' ./before$' >sums
+ls >"$room/before"
+sha256sum ./* >"$room/sums"
 
 # ends NAMED WORD..: the tool with these words ends with status 2 and one line that names NAMED, and nothing is changed
 ends() {
     local named=$1 status
     shift
-    timeout 60 "$tools/$1" "${@:2}" >/dev/null 2>said </dev/null
+    timeout 60 "$tools/$1" "${@:2}" >/dev/null 2>"$room/said" </dev/null
     status=$?
-    if [ "$status" -ne 2 ] || [ "$(wc -l <said)" -ne 1 ] || ! grep -qF -- "$named" said || grep -q Traceback said; then
+    if [ "$status" -ne 2 ] || [ "$(wc -l <"$room/said")" -ne 1 ] || ! grep -qF -- "$named" "$room/said" \
+        || grep -q Traceback "$room/said"; then
         printf 'tools/%s: status %d\n' "$*" "$status"
-        cat said
+        cat "$room/said"
         return 1
     fi
-    rm -f said
-    [ "$(ls)" = "$(<before)" ] && sha256sum -c --quiet sums
+    [ "$(ls)" = "$(<"$room/before")" ] && sha256sum -c --quiet "$room/sums"
 }
 
 # refuses NAMED TOOL WORD..: the same, counted
@@ -67,7 +67,7 @@ for file in none empty; do
     refuses "$file" compare $file block.deck
 done
 refuses 'the program says' compare wrong block.deck
-refuses 'the layout' strips block.deck wrong 2 folder
+refuses 'wrong: layout refused' strips block.deck wrong 2 folder
 refuses 'wrong.deck: line 3' compare block.gds wrong.deck
 check 'readable says what a wrong file is' grep -q 'no GDSII record' <("$tools/readable" wrong)
 refuses 'listing: line 1' density -o out.svg listing
@@ -88,7 +88,7 @@ refuses 1-0 recast --layer 1-0 block_open.oas out.oas
 refuses few compare --most few block.gds block.deck
 refuses many strips block.deck block.gds many folder
 refuses 'no program' readable block.gds none
-refuses 'line 1' gds out.gds block.deck
+refuses 'line 2' gds out.gds block.deck
 
 # An input as output, by its name and by a link.
 for out in block.txt ./block.txt; do
@@ -137,7 +137,7 @@ mkdir elsewhere && cd elsewhere || exit 1
 has_help() {
     local name=nettletide-$1
     "$name" --help >said && grep -q "usage: $name " said && ! grep -q 'tools/' said || return 1
-    [ -f "$room/root/usr/share/man/man1/$name.1" ] && grep -q "^\.SS.*$name\|^\.B $name" "$room/root/usr/share/man/man1/nettletide.1"
+    [ -f "$room/root/usr/share/man/man1/$name.1" ] && grep -q "^\.SS nettletide\\\\-$1 " "$room/root/usr/share/man/man1/nettletide.1"
 }
 for tool in "$room"/root/usr/bin/nettletide-*; do
     check "help and page of $(basename "$tool")" has_help "$(basename "$tool" | cut -d - -f 2)"
@@ -157,7 +157,7 @@ cp ../block.deck . && cp ../block_gates.oas ../block_open.oas .
 check 'installed: compare' runs nettletide-compare -o m.lyrdb b.gds block.deck
 check 'installed: strips' runs nettletide-strips block.deck b.gds 2 strips
 joins() {
-    seq 0 2 | xargs -n 1 strips/run && nettletide-join strips g.oas o.oas && cmp g.oas block_gates.oas && cmp o.oas block_open.oas
+    seq 0 $(($(wc -l <strips/jobs) - 1)) | xargs -n 1 strips/run && nettletide-join strips g.oas o.oas && cmp g.oas block_gates.oas && cmp o.oas block_open.oas
 }
 check 'installed: join' runs joins
 if command -v klayout >/dev/null; then

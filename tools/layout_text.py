@@ -109,7 +109,7 @@ def layout_of(lines: List[str], where: str, writer) -> bytes:
 
 def write(words: List[str], doc: str, writer) -> None:
     """What the tools do: FILE [DESCRIPTION]."""
-    if not 1 <= len(words) <= 2:
+    if not 1 <= len(words) <= 2 or words[0].startswith("--"):
         raise wrong_words(doc)
     source = words[1] if len(words) == 2 else "-"
     if source == "-" and sys.stdin.isatty():
