@@ -15,6 +15,8 @@ from tool_files import Refused
 HEIGHT, WIDTH = 1048576, 2097152
 # The most and the fewest shots that are outlined in a picture, and the most in the pictures of all files.
 MOST_OUTLINES, FEWEST_OUTLINES, ALL_OUTLINES = 8000, 500, 48000
+# Of more files than these one is named in a warning.
+MOST_WARNINGS = 8
 # For so many files at most: how many windows of a map, and points of a picture, are side by side.
 SIDES = ((2, 40, 1000), (8, 40, 500), (64, 24, 250))
 
@@ -167,9 +169,13 @@ class Output:
     def is_sliver(self, shot):
         return self.measures.is_thin(thickness2(shot))
 
+    def counts_of(self, kind):
+        """The counts of shots or of triangles."""
+        return [numbers[kind] for numbers in self.numbers.values() if kind in numbers]
+
     def is_same(self, kind):
-        """Whether all that counted shots or triangles found as many."""
-        return len({numbers[kind] for numbers in self.numbers.values() if kind in numbers}) == 1
+        """Whether all that counted found as many."""
+        return len(set(self.counts_of(kind))) == 1
 
 
 class Job:
@@ -260,18 +266,24 @@ class Job:
         """What a reader should know first, beside what `check` refused."""
         if ["kept", "0"] in self.counts:
             self.warnings.append("The layout has nothing on the layers that the deck takes.")
-        for output in self.outputs:
-            it, name = output.measures, f'<a href="#{output.anchor}">{shown(output.name)}</a>'
-            for kind in ("shots", "triangles"):
-                if not output.is_same(kind):
-                    self.warnings.append(f"{name}: not all counts of {kind} are the same; see "
-                                         '<a href="#compared">Numbers compared</a>.')
-            if not it.shots:
-                self.warnings.append(f"{name}: no shots.")
-            if it.slivers:
-                self.warnings.append(f"{name}: {counted(it.slivers, 'sliver', 'slivers')}, "
-                                     f"{share(it.slivers, it.shots)} of its shots, thinner than "
-                                     f"{length(it.median4, 40 * self.unit)} µm.")
+        for kind in ("shots", "triangles"):
+            self.warn_of([output for output in self.outputs if not output.is_same(kind)],
+                         lambda _: f"not all counts of {kind} are the same; see Numbers compared")
+        self.warn_of([output for output in self.outputs if not output.measures.shots], lambda _: "no shots")
+        self.warn_of(sorted((output for output in self.outputs if output.measures.slivers),
+                            key=lambda output: -output.measures.slivers), self.sliver_words)
+
+    def warn_of(self, outputs, words):
+        """A warning for each of these files; many are one warning, with the words of the first."""
+        lines = [f'<a href="#{output.anchor}">{shown(output.name)}</a>: {words(output)}' for output in outputs]
+        if len(lines) > MOST_WARNINGS:
+            lines = [f"{lines[0]}; and {len(lines) - 1} more files likewise, see Outputs"]
+        self.warnings += [f"{line}." for line in lines]
+
+    def sliver_words(self, output):
+        it = output.measures
+        return (f"{counted(it.slivers, 'sliver', 'slivers')}, {share(it.slivers, it.shots)} of its shots, thinner than "
+                f"{length(it.median4, 40 * self.unit)} µm")
 
     def is_bad(self):
         kinds = [(output, kind) for output in self.outputs for kind in ("shots", "triangles")]

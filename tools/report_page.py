@@ -159,6 +159,8 @@ def compared(job, output, kind):
         more = f' data-file="{shown(output.name)}" data-kind="{kind}" data-by="{by}"'
         cells.append(number("" if count is None else grouped(count), more))
     words = cell("the same", "good") if output.is_same(kind) else cell("different", "bad")
+    if len(output.counts_of(kind)) == 1:
+        words = cell("not compared", "quiet")
     return [cell(shown(output.name)), cell(kind), words, *cells]
 
 
