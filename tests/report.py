@@ -25,22 +25,38 @@ TOP = os.path.join(os.path.dirname(os.path.abspath(__file__)), "..")
 TOOLS = os.path.join(TOP, "tools")
 BROWSERS = ("chromium", "chromium-browser", "google-chrome")
 LOADING = {"src", "href", "srcset", "data", "action", "poster"}
-# Clicks on the buttons of the first picture; leaves how wide it is and how long its bar is drawn, as a part of what
-# the bar says, at first and after +, after + and -, and after "all".
+# Enlarges the first picture: by +, by + and -, by "all", by the wheel with Ctrl, by the key 0, by the wheel alone.
+# Leaves after each, and before all, how wide it is and how long its bar is drawn, as a part of what the bar says; and
+# how far the place that is shown of the picture's middle is from there, in half units.
 CLICKS = """<script>
 (function () {
   var figure = document.querySelector("figure"), svg = figure.querySelector("svg"), said = [];
-  var bar = figure.querySelector(".bar"), buttons = figure.querySelectorAll("button");
+  var bar = figure.querySelector(".bar"), buttons = figure.querySelectorAll("button"), data = svg.dataset;
+  var box = svg.getBoundingClientRect(), middle = { clientX: box.left + box.width / 2, clientY: box.top + box.height / 2 };
   function look() {
     var wide = Number(svg.getAttribute("viewBox").split(" ")[2]), drawn = svg.getBoundingClientRect().width;
     var length = parseFloat(figure.querySelector(".length").textContent.replace(",", ""));
     said.push(wide, bar.getBoundingClientRect().width / drawn * wide / Number(svg.dataset.unit) / length);
+  }
+  function wheel(isHeld) {
+    var more = { deltaY: -1, ctrlKey: isHeld, bubbles: true, cancelable: true };
+    svg.dispatchEvent(new WheelEvent("wheel", Object.assign(more, middle)));
+    look();
   }
   look();
   [[0], [0, 1], [2]].forEach(function (row) {
     row.forEach(function (number) { buttons[number].click(); });
     look();
   });
+  wheel(true);
+  svg.dispatchEvent(new KeyboardEvent("keydown", { key: "0" }));
+  look();
+  wheel(false);
+  svg.dispatchEvent(new PointerEvent("pointermove", middle));
+  var place = figure.querySelector(".place").textContent.replace(/,/g, "").match(/-?[0-9.]+/g).map(Number);
+  var whole = svg.getAttribute("viewBox").split(" ").map(Number);
+  said.push(Math.abs(place[0] * data.unit - Number(data.left) - whole[2] / 2),
+    Math.abs(Number(data.top) - whole[3] / 2 - place[1] * data.unit));
   document.body.setAttribute("data-clicks", said.join(" "));
 })();
 </script>
@@ -270,10 +286,11 @@ def judge_loaded(tally, browser, path, *texts):
     tally.check(f"{path}: the script came to its end", 'data-ready="yes"' in shown and "button" in page.tags)
     tally.check(f"{path}: the console says nothing: {console}", not console)
     found = re.search(r'data-clicks="([^"]*)"', shown)
-    numbers = list(map(float, found.group(1).split())) if found else [1.0] * 8
+    *numbers, x, y = list(map(float, found.group(1).split())) if found else [1.0] * 16
     widths, bars = [width / numbers[0] for width in numbers[0::2]], numbers[1::2]
-    tally.check(f"{path}: + doubles, - halves, all shows all: {widths}", widths == [1.0, 0.5, 0.5, 1.0])
+    tally.check(f"{path}: it is enlarged and reduced: {widths}", widths == [1.0, 0.5, 0.5, 1.0, 0.8, 1.0, 1.0])
     tally.check(f"{path}: bars are as long as they say: {bars}", all(abs(bar - 1) < 0.03 for bar in bars))
+    tally.check(f"{path}: the pointer's place is off by {x} and {y} half units", max(x, y) <= 1)
 
 
 def judge_screens(tally, browser, path):
