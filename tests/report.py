@@ -32,7 +32,8 @@ CLICKS = """<script>
 (function () {
   var figure = document.querySelector("figure"), svg = figure.querySelector("svg"), said = [];
   var bar = figure.querySelector(".bar"), buttons = figure.querySelectorAll("button"), data = svg.dataset;
-  var box = svg.getBoundingClientRect(), middle = { clientX: box.left + box.width / 2, clientY: box.top + box.height / 2 };
+  var box = svg.getBoundingClientRect();
+  var middle = { clientX: box.left + box.width / 2, clientY: box.top + box.height / 2 };
   function look() {
     var wide = Number(svg.getAttribute("viewBox").split(" ")[2]), drawn = svg.getBoundingClientRect().width;
     var length = parseFloat(figure.querySelector(".length").textContent.replace(",", ""));
@@ -231,6 +232,7 @@ def judge_refusals(tally, program):
     """Each is one line with the file's name and status 2, and leaves no file."""
     said_by(program, "fracture", "block.gds", "block.deck")
     write("bad.deck", "unit 1000\ntop TOP\nlayer A 1\n")
+    write("unknown.deck", "unit 1000\ntop TOP\nwrite B b.oas 1 0\n")
     write("bad.gds", "no layout")
     write("lost.deck", "unit 1000\ntop TOP\nlayer A 1 0\nwrite A lost.oas 1 0\n")
     write("cut.deck", "unit 1000\ntop TOP\nlayer A 1 0\nwrite A cut.oas 11 0\n")
@@ -239,13 +241,15 @@ def judge_refusals(tally, program):
     before, pair = sorted(os.listdir(".")), "block.gds block.deck"
     for words, line in (("missing.gds block.deck", "missing.gds: No such file"),
                         ("block.gds missing.deck", "missing.deck: No such file"),
-                        ("block.gds bad.deck", "bad.deck: line 3 column 10"),
+                        ("block.gds bad.deck", "bad.deck: line 3"),
+                        ("block.gds unknown.deck", "unknown.deck: line 3 unknown B"),
                         ("bad.gds block.deck", "bad.gds: gdsii "),
                         ("--files block.gds lost.deck", "lost.oas: No such file"),
                         ("--files block.gds cut.deck", "cut.oas: record at "),
                         (f"--output block_open.oas {pair}", "block_open.oas: "),
-                        (f"--output ./block.gds {pair}", "block.gds: "), (f"--output no/page {pair}", "no/page: "),
-                        (f"--output . {pair}", ".: "), ("block.gds", "wrong words"), (f"--wrong {pair}", "wrong words")):
+                        (f"--output ./block.gds {pair}", "block.gds: "),
+                        (f"--output no/page {pair}", "no/page: "), (f"--output . {pair}", ".: "),
+                        ("block.gds", "wrong words"), (f"--wrong {pair}", "wrong words")):
         ended = report(program, *words.split())
         tally.check(f"{words} is refused: {ended.stderr}", (ended.returncode, ended.stdout) == (2, "")
                     and ended.stderr.startswith("report: ") and line in ended.stderr and ended.stderr.count("\n") == 1)
@@ -329,7 +333,8 @@ def judge_all(tally, program, browser, is_large):
         judge(tally, program)
     if browser:
         judge_console(tally, browser)
-        judge_loaded(tally, browser, "block.html", "Each of the 2 files is exact.", "The frame is the window with most shots.",
+        judge_loaded(tally, browser, "block.html", "Each of the 2 files is exact.",
+                     "The frame is the window with most shots.",
                      "56 shots have their middle in this window of 1 by 1 µm")
         judge_screens(tally, browser, "block.html")
         judge_loaded(tally, browser, "thin.html", "Shots of a&<b>.gds by a&amp;.deck", "Red are slivers.")

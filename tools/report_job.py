@@ -6,13 +6,12 @@ import subprocess
 import time
 from collections import Counter
 
+from deck import read_deck
 from report_shots import (Measures, Shots, densest_window, fine_size, map_size, thickness2,
                           window_box)
 from report_text import counted, length, share, shown
 from tool_files import Refused
 
-# The limits of shots where a deck doesn't say them, in half units.
-HEIGHT, WIDTH = 1048576, 2097152
 # The most and the fewest shots that are outlined in a picture, and the most in the pictures of all files.
 MOST_OUTLINES, FEWEST_OUTLINES, ALL_OUTLINES = 8000, 500, 48000
 # Of more files than these one is named in a warning.
@@ -42,25 +41,6 @@ def size_and_sum(path):
             digest.update(block)
             size += len(block)
     return size, digest.hexdigest()
-
-
-class Deck:
-    """What a deck says: all of one that the program accepts, and of another what looks right."""
-
-    def __init__(self, path):
-        with open(path, encoding="utf-8", errors="backslashreplace", newline="\n") as file:
-            self.text = file.read()
-        lines = [line.split() for line in self.text.split("\n")]
-        settings = [words for words in lines if words[:1] in (["unit"], ["top"], ["limits"])]
-        self.settings = {name: words for name, *words in settings}
-        self.writes = [words[1:] for words in lines if words[:1] == ["write"] and len(words) == 5]
-
-    def unit(self):
-        """Half units a micrometre."""
-        return 2 * int(self.settings["unit"][0])
-
-    def limits(self):
-        return tuple(map(int, self.settings.get("limits", (HEIGHT, WIDTH))))
 
 
 # ---- the program
@@ -146,12 +126,12 @@ class Output:
     triangles by who counted them."""
 
     def __init__(self, number, area, name, layer, datatype):
+        self.file = File(name)
         self.area, self.name, self.anchor = area, name, f"output-{number}"
         self.pair, self.numbers, self.figures = f"{layer}/{datatype}", {}, []
 
     def measure(self, unit, most, windows):
         """Reads the shots, of which at most so many are kept for a picture."""
-        self.file = File(self.name)
         shots = Shots(self.name)
         if shots.unit != unit:
             raise Refused(f"{self.name}: has {shots.unit} half units a micrometre, and the deck {unit}")
@@ -184,6 +164,8 @@ class Job:
     def __init__(self, layout, deck, program, is_made):
         self.began = time.strftime("%Y-%m-%d %H:%M:%S UTC", time.gmtime())
         self.layout, self.deck_file, self.program = File(layout), File(deck), File(program)
+        self.deck = read_deck(deck)
+        self.unit = 2 * self.deck.unit
         self.is_made, self.runs = is_made, Program(program)
         self.version, self.times, self.reports = self.runs.version(), self.runs.times, self.runs.reports
         processors = counted(os.cpu_count() or 1, "processor", "processors")
@@ -205,17 +187,15 @@ class Job:
             if status != 0:
                 raise self.refused(status, text)
             sums["fracture"] = sums_of(text, "output")
+        self.outputs = [Output(number, *words) for number, words in enumerate(self.deck.outputs)]
         status, text = self.runs.report("check", *words)
         if status not in (0, 7):
             raise self.refused(status, text)
         sums["check"] = sums_of(text, "exact")
-        self.deck = Deck(self.deck_file.path)
-        self.unit = self.deck.unit()
         if status == 7:
             self.refusal = Refusal(text, self.unit)
         if status == 0 or self.is_made:
             self.counts = [line.split(" ", 1) for line in self.reports[0][1].split("\n")[:8]]
-        self.outputs = [Output(number, *words) for number, words in enumerate(self.deck.writes)]
         for output in self.outputs:
             output.numbers.update((by, some[output.name]) for by, some in sums.items() if output.name in some)
 
@@ -227,9 +207,6 @@ class Job:
             return Refused(f"{self.deck_file.path}: {rest}")
         if kind == "layout refused":
             return Refused(f"{self.layout.path}: {rest}")
-        if status == 4:
-            for words in Deck(self.deck_file.path).writes:
-                File(words[1])  # the one that can't be read is named by the fault
         return Refused(f"{self.layout.path}, {self.deck_file.path}: {line}")
 
     def measure(self):
@@ -282,8 +259,8 @@ class Job:
 
     def sliver_words(self, output):
         it = output.measures
-        return (f"{counted(it.slivers, 'sliver', 'slivers')}, {share(it.slivers, it.shots)} of its shots, thinner than "
-                f"{length(it.median4, 40 * self.unit)} µm")
+        return (f"{counted(it.slivers, 'sliver', 'slivers')}, {share(it.slivers, it.shots)} of its shots, "
+                f"thinner than {length(it.median4, 40 * self.unit)} µm")
 
     def is_bad(self):
         kinds = [(output, kind) for output in self.outputs for kind in ("shots", "triangles")]

@@ -1,6 +1,7 @@
 """The page: what it says of a job and of each file, in HTML that needs nothing else."""
 from report_style import SCRIPT, STYLE
 from report_text import area, class_words, counted, grouped, length, seconds, share, shown
+from tool_files import read_bytes
 
 # Nothing is loaded from anywhere, whatever names a page has in it.
 POLICY = "default-src 'none'; style-src 'unsafe-inline'; script-src 'unsafe-inline'; img-src data:"
@@ -124,10 +125,10 @@ def outputs_section(job):
 
 
 def job_section(job):
-    high, wide = job.deck.limits()
+    high, wide = job.deck.limits
     made = "<code>fracture</code> wrote them for this page"
     rows = [("Layout", shown(job.layout.path)), ("Deck", shown(job.deck_file.path)),
-            ("Top cell", shown(job.deck.settings["top"][0])),
+            ("Top cell", shown(job.deck.top)),
             ("Unit", f"{grouped(job.unit // 2)} grid steps of the layout are 1 µm; "
                      f"a half unit is {length(1, job.unit)} µm"),
             ("Limits of a shot", f"{length(high, job.unit)} µm high, {length(wide, job.unit)} µm wide "
@@ -247,7 +248,7 @@ def output_section(job, output):
 # ---- the rest
 
 def texts_section(job):
-    lines = job.deck.text.rstrip("\n").split("\n")
+    lines = read_bytes(job.deck_file.path).decode("utf-8", "backslashreplace").rstrip("\n").split("\n")
     deck = [line.rstrip("\r").expandtabs(4) for line in lines[:MOST_DECK_LINES]]
     if len(lines) > MOST_DECK_LINES:
         deck.append(f".. {grouped(len(lines) - MOST_DECK_LINES)} more lines")

@@ -4,13 +4,15 @@ STYLE = """
 :root {
   color-scheme: light dark;
   --paper: #ffffff; --text: #1b1f24; --quiet: #59626d; --rule: #d3d8de; --panel: #f5f6f8;
-  --shot: #2c67b2; --fill: rgba(44, 103, 178, .22); --ink: rgb(44, 103, 178); --sliver: #c4261d; --mark: #b35c00;
+  --shot: #2c67b2; --fill: rgba(44, 103, 178, .22); --ink: rgb(44, 103, 178); --sliver: #c4261d;
+  --mark: #b35c00;
   --good: #1a6b3c; --bad: #b3261e; --warn: #8a5300;
 }
 @media (prefers-color-scheme: dark) {
   :root {
     --paper: #14171b; --text: #e3e6ea; --quiet: #9ba5b0; --rule: #363c44; --panel: #1b1f24;
-    --shot: #74a9e6; --fill: rgba(116, 169, 230, .25); --ink: rgb(116, 169, 230); --sliver: #ff7367; --mark: #f0a23c;
+    --shot: #74a9e6; --fill: rgba(116, 169, 230, .25); --ink: rgb(116, 169, 230); --sliver: #ff7367;
+    --mark: #f0a23c;
     --good: #6cc894; --bad: #ff7d72; --warn: #eab04f;
   }
 }
@@ -18,7 +20,8 @@ STYLE = """
   :root {
     color-scheme: light;
     --paper: #fff; --text: #000; --quiet: #333; --rule: #999; --panel: #fff;
-    --shot: #2c67b2; --fill: rgba(44, 103, 178, .22); --ink: rgb(44, 103, 178); --sliver: #c4261d; --mark: #b35c00;
+    --shot: #2c67b2; --fill: rgba(44, 103, 178, .22); --ink: rgb(44, 103, 178); --sliver: #c4261d;
+    --mark: #b35c00;
     --good: #000; --bad: #000; --warn: #000;
   }
 }
@@ -27,15 +30,19 @@ body { margin: 0; background: var(--paper); color: var(--text);
   font: 15px/1.5 system-ui, "Segoe UI", "Liberation Sans", "DejaVu Sans", sans-serif; }
 main { max-width: 1120px; margin: 0 auto; padding: 28px 24px 60px; }
 h1 { font-size: 25px; line-height: 1.25; margin: 0 0 4px; overflow-wrap: anywhere; }
-h2 { font-size: 19px; margin: 44px 0 10px; padding-top: 12px; border-top: 2px solid var(--text); overflow-wrap: anywhere; }
+h2 { font-size: 19px; margin: 44px 0 10px; padding-top: 12px; border-top: 2px solid var(--text);
+  overflow-wrap: anywhere; }
 h3 { font-size: 15px; margin: 26px 0 8px; }
 p { margin: 6px 0; max-width: 78ch; }
 a { color: inherit; text-decoration-color: var(--quiet); text-underline-offset: 2px; }
 .quiet, caption, figcaption, .legend { color: var(--quiet); }
-code, pre, .sum { font-family: ui-monospace, "Liberation Mono", "DejaVu Sans Mono", monospace; font-size: 12.5px; }
-pre { background: var(--panel); border: 1px solid var(--rule); padding: 10px 12px; overflow-x: auto; margin: 8px 0; }
+code, pre, .sum { font-family: ui-monospace, "Liberation Mono", "DejaVu Sans Mono", monospace;
+  font-size: 12.5px; }
+pre { background: var(--panel); border: 1px solid var(--rule); padding: 10px 12px; overflow-x: auto;
+  margin: 8px 0; }
 .sum { overflow-wrap: anywhere; min-width: 33ch; }
-.says { border: 1px solid var(--rule); border-left: 6px solid var(--good); background: var(--panel); padding: 12px 18px;
+.says { border: 1px solid var(--rule); border-left: 6px solid var(--good); background: var(--panel);
+  padding: 12px 18px;
   margin: 20px 0 8px; }
 .says.bad { border-left-color: var(--bad); }
 .says.warn { border-left-color: var(--warn); }
@@ -47,7 +54,8 @@ pre { background: var(--panel); border: 1px solid var(--rule); padding: 10px 12p
 .wide { overflow-x: auto; }
 table { border-collapse: collapse; margin: 8px 0 14px; font-variant-numeric: tabular-nums; }
 caption { text-align: left; padding: 4px 0; }
-th, td { padding: 4px 14px 4px 0; text-align: left; vertical-align: top; border-bottom: 1px solid var(--rule); }
+th, td { padding: 4px 14px 4px 0; text-align: left; vertical-align: top;
+  border-bottom: 1px solid var(--rule); }
 thead th { border-bottom: 1.5px solid var(--text); vertical-align: bottom; font-weight: 600; }
 tbody th { font-weight: 400; }
 .number { text-align: right; white-space: nowrap; }
@@ -56,16 +64,20 @@ th .unit { font-weight: 400; color: var(--quiet); }
 .pictures, .histograms, .told { display: grid; grid-template-columns: minmax(0, 1fr) minmax(0, 1fr); }
 .pictures { gap: 26px 30px; align-items: start; }
 figure { margin: 0; min-width: 0; }
-figcaption { color: var(--text); font-weight: 600; margin-bottom: 6px; display: flex; align-items: end; min-height: 30px; }
+figcaption { color: var(--text); font-weight: 600; margin-bottom: 6px; display: flex; align-items: end;
+  min-height: 30px; }
 figcaption .tools { margin-left: auto; white-space: nowrap; }
-.tools button { font: inherit; font-weight: 400; font-size: 13px; line-height: 1; color: var(--text); background: var(--panel);
+.tools button { font: inherit; font-weight: 400; font-size: 13px; line-height: 1; color: var(--text);
+  background: var(--panel);
   border: 1px solid var(--rule); padding: 6px 9px; margin-left: 4px; cursor: pointer; }
 .tools button:hover { border-color: var(--quiet); }
-figure svg { display: block; width: 100%; height: auto; border: 1px solid var(--rule); background: var(--paper);
+figure svg { display: block; width: 100%; height: auto; border: 1px solid var(--rule);
+  background: var(--paper);
   print-color-adjust: exact; -webkit-print-color-adjust: exact; }
 figure svg:focus-visible { outline: 2px solid var(--shot); outline-offset: 1px; }
 .shot { fill: var(--fill); stroke: var(--shot); stroke-width: .8; vector-effect: non-scaling-stroke; }
-.sliver { fill: var(--sliver); stroke: var(--sliver); stroke-width: 1.6; vector-effect: non-scaling-stroke; }
+.sliver { fill: var(--sliver); stroke: var(--sliver); stroke-width: 1.6; vector-effect: non-scaling-stroke;
+  }
 .ink { fill: var(--ink); }
 .ink rect { shape-rendering: crispEdges; }
 .mark, .field { fill: none; stroke: var(--mark); stroke-width: 1.6; vector-effect: non-scaling-stroke; }
@@ -73,12 +85,14 @@ figure svg:focus-visible { outline: 2px solid var(--shot); outline-offset: 1px; 
 .wrong { fill: none; stroke: var(--sliver); stroke-width: 3; vector-effect: non-scaling-stroke; }
 .near image { image-rendering: pixelated; }
 .told { gap: 0 30px; }
-.scale { display: flex; align-items: center; gap: 8px; margin: 6px 0 2px; max-width: none; font-size: 13px; min-height: 22px; }
+.scale { display: flex; align-items: center; gap: 8px; margin: 6px 0 2px; max-width: none; font-size: 13px;
+  min-height: 22px; }
 .bar { display: block; flex: none; height: 7px; border: 1.5px solid var(--text); border-top: 0; }
 .place { margin-left: auto; color: var(--quiet); font-variant-numeric: tabular-nums; white-space: nowrap; }
 .legend { font-size: 13px; margin: 2px 0 0; }
 .swatches { display: flex; flex-wrap: wrap; gap: 2px 10px; font-size: 12px; margin: 4px 0; }
-.swatches i { display: inline-block; width: 15px; height: 11px; margin-right: 4px; border: 1px solid var(--rule);
+.swatches i { display: inline-block; width: 15px; height: 11px; margin-right: 4px;
+  border: 1px solid var(--rule);
   position: relative; vertical-align: -1px; }
 .swatches i b { position: absolute; inset: 0; background: var(--ink); }
 .swatches i b, .counts i { print-color-adjust: exact; -webkit-print-color-adjust: exact; }
@@ -184,7 +198,8 @@ SCRIPT = """
 
     function point(event) {
       var box = svg.getBoundingClientRect();
-      return [at[0] + (event.clientX - box.left) / box.width * at[2], at[1] + (event.clientY - box.top) / box.height * at[3]];
+      return [at[0] + (event.clientX - box.left) / box.width * at[2],
+        at[1] + (event.clientY - box.top) / box.height * at[3]];
     }
 
     function button(text, title, action) {
