@@ -19,7 +19,7 @@ mod whole;
 pub use buffer::{BUFFER_SIZE, Buffer};
 pub use fault::{FaultCause, SystemFault};
 pub use memory::MemDepot;
-pub use outside::{Depot, DepotBad, Progress};
+pub use outside::{Depot, DepotBad, Phase, Progress};
 pub use printing::{flush, put_piece};
 pub use real::FileDepot;
 pub use sure::{SureDepot, nothing_fails};

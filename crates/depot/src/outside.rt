@@ -1,5 +1,6 @@
 // What a program uses of the outside.
 ghost use Rattle.std.specs.Prelude.{◌≡◌, ◌⊎◌, ℕ, ◌<◌, ◌≤◌, [], Bool, IsTrue, IsSome, IfOk, OnOk, OnErr, IsErrOf, length, take};
+ghost use Rattle.std.specs.Int.{int_gap, int_min};
 ghost use Rattle.depot.specs.Content.{Content, IsNotThere, with_left, StartsReading, TakesFirst, begun, IsNotBegun, with_written, with_said};
 ghost use Rattle.depot.specs.Counts.{Counts};
 ghost use Rattle.depot.specs.Counting.{CountsReads, CountsStarts, CountsWrites};
@@ -13,15 +14,61 @@ pub enum DepotBad {
     NoMemory,
 }
 
-/// How far the writing of an output is that is made band by band.
+/// What is done with a file, or with the rows of an output.
+#[derive(Clone, Copy, Debug, PartialEq, Eq)]
+pub enum Phase {
+    /// A file is read.
+    Reading,
+    /// What was read is judged.
+    Judging,
+    /// The area of an output is covered by shots.
+    Covering,
+    /// A file is written.
+    Writing,
+    /// The shots of a file are compared with the area of its output.
+    Checking,
+    /// The triangles of an output's area are counted.
+    Counting,
+}
+
+/// How far the work on an output is that is done row by row, from below.
 #[derive(Clone, Copy, Debug, PartialEq, Eq)]
 pub struct Progress {
-    /// How many of its bands are written.
-    pub band: u64,
-    /// How many bands it has.
-    pub bands: u64,
+    /// What is done with the rows.
+    pub phase: Phase,
+    /// How many of the output's rows are done.
+    pub rows: u64,
+    /// How many rows the output has.
+    pub all_rows: u64,
     /// How many shots are written.
     pub shots: u128,
+}
+
+// How many rows there are from one row up to another. None where the other isn't above it.
+fn rows_between(bottom: i64, top: i64) -> u64
+    ensures { result ≡ int_gap bottom top }
+{
+    if top <= bottom {
+        return 0;
+    }
+    top.abs_diff(bottom)
+}
+
+impl Progress {
+    /// How far the work is on an output with the rows from `bottom` up to `top`, once all of them below `row` are done.
+    pub fn up_to(phase: Phase, bottom: i64, top: i64, row: i64, shots: u128) -> Progress
+        ensures phase { result.phase ≡ phase }
+        ensures rows { result.rows ≡ int_gap bottom (int_min row top) }
+        ensures all_rows { result.all_rows ≡ int_gap bottom top }
+        ensures shots { result.shots ≡ shots }
+    {
+        Progress {
+            phase,
+            rows: rows_between(bottom, row.min(top)),
+            all_rows: rows_between(bottom, top),
+            shots,
+        }
+    }
 }
 
 /// A store of files, and standard output: all that the program uses of the outside. One file at a time is
@@ -88,8 +135,8 @@ pub trait Depot {
         ensures refused { OnErr result (IsTrue tells → content self.new ≡ content self.old) }
         ensures counts { CountsWrites (counts self.old) (counts self.new) result };
 
-    /// Takes note of how far the output is that is being written, so that it can show it. It does nothing else: its content
-    /// and its counts are as before.
+    /// Takes note of how far the work on an output is, so that it can show it. It does nothing else: its content and its counts
+    /// are as before.
     fn note(&mut self, progress: Progress)
         ensures content { content self.new ≡ content self.old }
         ensures counts { counts self.new ≡ counts self.old };

@@ -1,7 +1,7 @@
 // One happy path of each public call over each depot, and a refusal of each kind.
 use crate::{
-    Buffer, Depot, DepotBad, FaultCause, FileDepot, MemDepot, Progress, Refused, SureDepot, flush,
-    make_file, nothing_fails, put_piece, read_all, say_whole, write_whole,
+    Buffer, Depot, DepotBad, FaultCause, FileDepot, MemDepot, Phase, Progress, Refused, SureDepot,
+    flush, make_file, nothing_fails, put_piece, read_all, say_whole, write_whole,
 };
 use std::alloc::Global;
 use std::fs;
@@ -13,11 +13,7 @@ const LIMIT: usize = 268_435_456;
 fn copy<D: Depot>(alloc: Global, depot: &mut D) -> Result<(), Refused> {
     let bytes = read_all(alloc, depot, "in", LIMIT)?;
     make_file(depot, "out", &bytes)?;
-    depot.note(Progress {
-        band: 1,
-        bands: 1,
-        shots: 2,
-    });
+    depot.note(Progress::up_to(Phase::Writing, -1, 3, 3, 2));
     say_whole(depot, b"done\n")?;
     Ok(())
 }
