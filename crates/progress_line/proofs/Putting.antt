@@ -1,10 +1,10 @@
 -- Texts that are put at the end of a line, one after another.
 use Rattle.std.proofs.Common.{◌≡◌, ℕ, zero, suc, ◌+◌, ◌-◌, ◌<◌, ◌≤◌, List, [], ◌∷◌, ◌++◌, length, take, map, drop}
-use Rattle.std.proofs.Common.{codes, Bool, true, false, IsTrue, nat_le, if◌then◌else◌, slice_set, get_or, refl, sym, ap}
+use Rattle.std.proofs.Common.{codes, decimal, Bool, true, false, IsTrue, nat_le, nat_lt, if◌then◌else◌, slice_set, get_or, refl, sym, ap}
 use Rattle.std.proofs.Common.{◌∙◌, append_assoc, arith}
 use Rattle.std.proofs.lemmas.Bool.Decides.{nat_tests}
 use Rattle.std.proofs.lemmas.List.{map-append, take_all, take-append-le, take_more, take_more_set, length-append, length-drop, length-take-le, append-nil}
-use Rattle.progress_line.specs.Text.{shown, put, short_name}
+use Rattle.progress_line.specs.Text.{shown, put, short_name, some_shots}
 
 -- what is cut off can't be seen of what is put after it
 take_again : (n : ℕ) (a b : List ℕ) → take n (take n a ++ b) ≡ take n (a ++ b)
@@ -16,33 +16,33 @@ take_again (suc n) (x ∷ a) b = ap (λ l. x ∷ l) (take_again n a b)
 pub put_twice : (line a b : List ℕ) → put (put line a) b ≡ put line (a ++ b)
 unfolding put
 put_twice line a b =
-    take_again 79 (line ++ map shown a) (map shown b)
-    ∙ ap (take 79) (append_assoc line (map shown a) (map shown b) ∙ ap (λ l. line ++ l) (sym (map-append shown a b)))
+    take_again 120 (line ++ map shown a) (map shown b)
+    ∙ ap (take 120) (append_assoc line (map shown a) (map shown b) ∙ ap (λ l. line ++ l) (sym (map-append shown a b)))
 
 -- to put nothing changes nothing
-pub put_nothing : (line : List ℕ) → length line ≤ 79 → line ≡ put line []
+pub put_nothing : (line : List ℕ) → length line ≤ 120 → line ≡ put line []
 unfolding put
-put_nothing line short = sym (ap (take 79) (append-nil line) ∙ take_all 79 line short)
+put_nothing line short = sym (ap (take 120) (append-nil line) ∙ take_all 120 line short)
 
 -- a character that is stored at the end of a line is put
-pub put_more : (bytes : List ℕ) (used b stored : ℕ) → stored ≡ shown b → length bytes ≡ 79 → used < 79
+pub put_more : (bytes : List ℕ) (used b stored : ℕ) → stored ≡ shown b → length bytes ≡ 120 → used < 120
     → take (used + 1) (slice_set bytes used stored) ≡ put (take used bytes) (b ∷ [])
 unfolding put
 put_more bytes used b stored is size room =
     take_more_set bytes used stored (omega arith)
     ∙ ap (λ s. take used bytes ++ s ∷ []) is
-    ∙ sym (take_all 79 (take used bytes ++ shown b ∷ []) (short (length-append (take used bytes) (shown b ∷ [])) (length-take-le used bytes (omega arith))))
+    ∙ sym (take_all 120 (take used bytes ++ shown b ∷ []) (short (length-append (take used bytes) (shown b ∷ [])) (length-take-le used bytes (omega arith))))
   where
-    short : {n m : ℕ} → n ≡ m + 1 → m ≡ used → n ≤ 79
+    short : {n m : ℕ} → n ≡ m + 1 → m ≡ used → n ≤ 120
     short e f = omega arith
 
 -- a full line takes nothing more
-pub put_full : (line : List ℕ) (b : ℕ) → length line ≡ 79 → line ≡ put line (b ∷ [])
+pub put_full : (line : List ℕ) (b : ℕ) → length line ≡ 120 → line ≡ put line (b ∷ [])
 unfolding put
-put_full line b full = sym (take-append-le 79 line (shown b ∷ []) (omega arith) ∙ take_all 79 line (omega arith))
+put_full line b full = sym (take-append-le 120 line (shown b ∷ []) (omega arith) ∙ take_all 120 line (omega arith))
 
 -- how long a line is of which so many characters are used
-pub used_length : (bytes line : List ℕ) (used : ℕ) → take used bytes ≡ line → length bytes ≡ 79 → used ≤ 79 → length line ≡ used
+pub used_length : (bytes line : List ℕ) (used : ℕ) → take used bytes ≡ line → length bytes ≡ 120 → used ≤ 120 → length line ≡ used
 used_length bytes line used is size within = ap length (sym is) ∙ length-take-le used bytes (omega arith)
 
 -- one more character of a text is put
@@ -66,6 +66,18 @@ put_three l₀ l₁ l₂ l₃ a b c e f g = put_two l₀ l₂ l₃ (a ++ b) c (p
 -- the first text of a line
 pub put_first : (line later text meant : List ℕ) → line ≡ [] → later ≡ put line text → text ≡ meant → later ≡ put [] meant
 put_first line later text meant none e is = e ∙ ap (λ l. put l text) none ∙ ap (put []) is
+
+-- some shots are told
+pub some_shots_is : (n : ℕ) → (n ≡ 0 → ⊥) → decimal n ++ codes " shots, " ≡ some_shots n
+some_shots_is n some = picked (nat_lt 0 n) (not_none n some) _
+  where
+    not_none : (n : ℕ) → (n ≡ 0 → ⊥) → nat_lt 0 n ≡ false → ⊥
+    not_none zero some none = some refl
+    not_none (suc n) some none = grind (arith, nat_tests)
+
+    picked : (b : Bool) → (b ≡ false → ⊥) → (x : List ℕ) → x ≡ (if b then x else [])
+    picked true never x = refl
+    picked false never x = absurd (never refl)
 
 -- the last bytes of a long name
 pub long_name : (name : List ℕ) → 24 < length name → codes ".." ++ take (length name - (length name - 22)) (drop (length name - 22) name) ≡ short_name name

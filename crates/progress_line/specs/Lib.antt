@@ -1,3 +1,4 @@
 -- ---- what is promised, in reading order
 pub mod Pace
 pub mod Text
+pub mod Frames

@@ -4,8 +4,8 @@ ghost use Rattle.progress_line.specs.Text.{shown, put};
 
 use std::marker::Model;
 
-/// How many columns a line has at most. A terminal has at least one more, so that no line goes on in the next row.
-pub const COLUMNS: usize = 79;
+/// How many columns a line has at most. A terminal may have fewer, and is shown the first of them.
+pub const COLUMNS: usize = 120;
 
 /// Visible ASCII characters and spaces, at most `COLUMNS` of them. Contracts see the list of them.
 #[derive(Drop)]
@@ -21,7 +21,7 @@ impl Model for Line {
 
     ghost view = { λ l. take l.used l.bytes };
 
-    ghost invariant = { λ l. l.used ≤ 79 };
+    ghost invariant = { λ l. l.used ≤ 120 };
 }
 
 // A byte as the line has it: a visible one as it is, and another as `?`.

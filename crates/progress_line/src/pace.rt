@@ -1,11 +1,11 @@
 //! How often a line is shown.
-ghost use Rattle.std.specs.Prelude.{◌≡◌, ◌↔◌, ◌<◌, ◌-◌, IsTrue};
+ghost use Rattle.std.specs.Prelude.{◌≡◌, ◌↔◌, ◌<◌, ◌-◌, max, IsTrue};
 ghost use Rattle.progress_line.specs.Pace.{refilled};
 
 /// How many lines may be shown at once.
-pub const MOST: u64 = 4;
+pub const MOST: u64 = 8;
 
-/// A pace of at most five lines in any second: one more may be shown for each second that has gone by, and at most
+/// A pace of at most nine lines in any second: one more may be shown for each second that has gone by, and at most
 /// `MOST` are saved up.
 #[derive(Drop)]
 pub struct Pace {
@@ -36,6 +36,7 @@ impl Pace {
     pub fn is_due(&mut self, second: u64) -> bool
         ensures due { IsTrue result ↔ 0 < refilled self.old.left self.old.second second }
         ensures left { self.new.left ≡ refilled self.old.left self.old.second second - 1 }
+        ensures second { self.new.second ≡ max self.old.second second }
     {
         let gone = second.saturating_sub(self.second);
         if gone > 0 {

@@ -1,16 +1,16 @@
 //! A terminal on which one line is shown, over and over.
-ghost use Rattle.std.specs.Prelude.{◌≡◌, ◌+◌, ◌-◌, ◌^◌, min, false, None, Some, codes};
+ghost use Rattle.std.specs.Prelude.{◌≡◌, ◌+◌, ◌-◌, ◌^◌, min, false, None, Some};
+ghost use Rattle.depot.specs.declared.outside.Phase.TheVariants.{Reading, Writing, Judging};
 ghost use Rattle.progress_line.specs.Text.{label};
+ghost use Rattle.progress_line.specs.Frames.{IsShownOnce};
 
 use crate::file::FileLine;
+use crate::frame::{WIPE, frame};
 use crate::pace::Pace;
-use depot::Progress;
+use depot::{Phase, Progress};
 use std::fs::{Files, metadata};
 use std::io::Write;
 use std::time::Clock;
-
-/// Removes what is in the row, and goes to its first column.
-const WIPE: &[u8] = b"\r\x1b[K";
 
 /// A terminal with one line of progress: its clock and files tell the time and how long a file is, and its writer is
 /// where the line goes. A refusal of any of them is passed over.
@@ -18,68 +18,87 @@ const WIPE: &[u8] = b"\r\x1b[K";
 pub struct Screen<R: Drop, W: Drop> {
     rt: R,
     to: W,
+    columns: usize,
     pace: Pace,
     file: FileLine,
+    since: u64,
     is_shown: bool,
 }
 
 impl<R: Clock + Files + Drop, W: Write + Drop> Screen<R, W> {
-    /// A terminal on which nothing is shown yet.
-    pub fn new(rt: R, to: W) -> Screen<R, W>
-        ensures { result.is_shown ≡ false }
+    /// A terminal on which nothing is shown yet. A line has at most that many columns.
+    pub fn new(rt: R, to: W, columns: usize) -> Screen<R, W>
+        ensures shown { result.is_shown ≡ false }
+        ensures columns { result.columns ≡ columns }
     {
         Screen {
             rt,
             to,
+            columns,
             pace: Pace::new(),
-            file: FileLine::new("", "", None),
+            file: FileLine::new(Phase::Reading, "", None),
+            since: 0,
             is_shown: false,
         }
     }
 
     /// A file is read from its first byte.
     pub fn start_read(&mut self, name: &str)
-        ensures label { self.new.file.label ≡ label (codes "reading") name.now }
+        ensures name { self.new.file.name ≡ label name.now }
+        ensures phase { self.new.file.phase ≡ Reading }
         ensures done { self.new.file.done ≡ 0 }
     {
         let size = match metadata(&self.rt, name) {
             Ok(data) => Some(data.len()),
             Err(_) => None,
         };
-        self.file = FileLine::new("reading", name, size);
-        self.show();
+        self.file = FileLine::new(Phase::Reading, name, size);
+        self.begin();
     }
 
     /// A file is written anew.
     pub fn start_write(&mut self, name: &str)
-        ensures label { self.new.file.label ≡ label (codes "writing") name.now }
+        ensures name { self.new.file.name ≡ label name.now }
+        ensures phase { self.new.file.phase ≡ Writing }
         ensures done { self.new.file.done ≡ 0 }
         ensures all { self.new.file.all ≡ None }
     {
-        self.file = FileLine::new("writing", name, None);
-        self.show();
+        self.file = FileLine::new(Phase::Writing, name, None);
+        self.begin();
     }
 
     /// That many more bytes of the file are read or written. They are shown once a second, so that what is saved up of
     /// the pace is left for the names of files.
-    pub fn advance(&mut self, count: usize)
-        ensures label { self.new.file.label ≡ self.old.file.label }
+    pub fn advance(&mut self, phase: Phase, count: usize)
+        ensures name { self.new.file.name ≡ self.old.file.name }
+        ensures phase { self.new.file.phase ≡ phase }
         ensures done { self.new.file.done ≡ min (self.old.file.done + count) (2 ^ 64 - 1) }
     {
-        self.file.advance(count);
+        self.file.advance(phase, count);
         self.show_once();
     }
 
-    /// The file's bands and shots are that far. How many bands there are is shown at once, and then what is done once a
-    /// second.
+    /// All of the file is read, and it is judged from here on.
+    pub fn judge(&mut self)
+        ensures name { self.new.file.name ≡ self.old.file.name }
+        ensures phase { self.new.file.phase ≡ Judging }
+        ensures done { self.new.file.done ≡ self.old.file.done }
+    {
+        self.file.judge();
+        self.begin();
+    }
+
+    /// The rows and shots of an output are that far. How many rows there are is shown at once, and then what is done once
+    /// a second.
     pub fn note(&mut self, progress: Progress)
-        ensures bands { self.new.file.bands ≡ Some progress }
-        ensures label { self.new.file.label ≡ self.old.file.label }
+        ensures work { self.new.file.work ≡ Some progress }
+        ensures phase { self.new.file.phase ≡ progress.phase }
+        ensures name { self.new.file.name ≡ self.old.file.name }
         ensures done { self.new.file.done ≡ self.old.file.done }
     {
         self.file.note(progress);
-        if progress.band == 0 {
-            self.show();
+        if progress.rows == 0 {
+            self.begin();
         } else {
             self.show_once();
         }
@@ -87,12 +106,23 @@ impl<R: Clock + Files + Drop, W: Write + Drop> Screen<R, W> {
 
     /// Takes the line away.
     pub fn wipe(&mut self)
-        ensures { self.new.is_shown ≡ false }
+        ensures shown { self.new.is_shown ≡ false }
+        ensures file { self.new.file ≡ self.old.file }
     {
         if self.is_shown {
             let _refused = self.to.write_all(WIPE);
             self.is_shown = false;
         }
+    }
+
+    // Shows the line of work that begins now.
+    fn begin(&mut self)
+        ensures { self.new.file ≡ self.old.file }
+    {
+        if let Ok(time) = self.rt.monotonic() {
+            self.since = time.as_secs();
+        }
+        self.show();
     }
 
     // Shows the line, where none was shown in this second.
@@ -107,18 +137,20 @@ impl<R: Clock + Files + Drop, W: Write + Drop> Screen<R, W> {
         }
     }
 
-    // Shows the line, where that is due.
+    // Shows the line, where that is due, by one write.
     fn show(&mut self)
-        ensures { self.new.file ≡ self.old.file }
+        ensures file { self.new.file ≡ self.old.file }
+        ensures once { IsShownOnce self.old.file self.old.columns (W.contents self.old.to) (W.contents self.new.to) }
     {
         let Ok(time) = self.rt.monotonic() else {
             return;
         };
-        if self.pace.is_due(time.as_secs()) {
-            let line = self.file.line();
-            let _wiped = self.to.write_all(WIPE);
-            let _shown = self.to.write_all(line.bytes());
-            self.is_shown = true;
+        if !self.pace.is_due(time.as_secs()) {
+            return;
         }
+        let line = self.file.line(time.as_secs().saturating_sub(self.since));
+        let frame = frame(line.bytes(), self.columns);
+        let _shown = self.to.write(frame.bytes());
+        self.is_shown = true;
     }
 }

@@ -1,8 +1,9 @@
 //! A depot that shows what goes through another one.
-ghost use Rattle.std.specs.Prelude.{◌≡◌};
+ghost use Rattle.std.specs.Prelude.{◌≡◌, false, IfSome, nat_lt, if◌then◌else◌};
+ghost use Rattle.depot.specs.declared.outside.Phase.TheVariants.{Reading, Judging, Writing};
 
 use crate::screen::Screen;
-use depot::{Depot, DepotBad, Progress};
+use depot::{Depot, DepotBad, Phase, Progress};
 use std::fs::Files;
 use std::io::Write;
 use std::time::Clock;
@@ -20,25 +21,51 @@ impl<D: Depot + Drop, R: Clock + Files + Drop, W: Write + Drop> ShownDepot<D, R,
     pub fn new(depot: D, screen: Option<Screen<R, W>>) -> ShownDepot<D, R, W>
         ensures content { ⟦<ShownDepot<D, R, W> as Depot>⟧.content result ≡ D.content depot }
         ensures counts { ⟦<ShownDepot<D, R, W> as Depot>⟧.counts result ≡ D.counts depot }
+        ensures depot { result.depot ≡ depot }
+        ensures screen { result.screen ≡ screen }
     {
         ShownDepot { depot, screen }
     }
 
+    /// The depot inside.
+    pub fn depot(&self) -> &D
+        ensures { result.now ≡ self.now.depot }
+    {
+        &self.depot
+    }
+
     /// Takes the line off the screen. The depot is as before.
     pub fn wipe(&mut self)
-        ensures { self.new.depot ≡ self.old.depot }
+        ensures depot { self.new.depot ≡ self.old.depot }
+        ensures screen { IfSome self.new.screen (λ s. s.is_shown ≡ false) }
     {
         if let Some(screen) = &mut self.screen {
             screen.wipe();
         }
     }
 
-    // Says to the screen that bytes were moved.
-    fn advance(&mut self, count: usize)
-        ensures { self.new.depot ≡ self.old.depot }
+    // Says to the screen that bytes were read. Where there are none, the file is at its end, and is judged.
+    fn has_read(&mut self, count: usize)
+        ensures depot { self.new.depot ≡ self.old.depot }
+        ensures phase { IfSome self.new.screen (λ s. s.file.phase ≡ (if nat_lt 0 count then Reading else Judging)) }
+    {
+        let Some(screen) = &mut self.screen else {
+            return;
+        };
+        if count == 0 {
+            screen.judge();
+        } else {
+            screen.advance(Phase::Reading, count);
+        }
+    }
+
+    // Says to the screen that bytes were written.
+    fn has_written(&mut self, count: usize)
+        ensures depot { self.new.depot ≡ self.old.depot }
+        ensures phase { IfSome self.new.screen (λ s. s.file.phase ≡ Writing) }
     {
         if let Some(screen) = &mut self.screen {
-            screen.advance(count);
+            screen.advance(Phase::Writing, count);
         }
     }
 }
@@ -59,7 +86,7 @@ impl<D: Depot + Drop, R: Clock + Files + Drop, W: Write + Drop> Depot for ShownD
 
     fn read(&mut self, buf: &mut [u8]) -> Result<usize, DepotBad> {
         let count = self.depot.read(buf)?;
-        self.advance(count);
+        self.has_read(count);
         Ok(count)
     }
 
@@ -72,7 +99,7 @@ impl<D: Depot + Drop, R: Clock + Files + Drop, W: Write + Drop> Depot for ShownD
 
     fn write(&mut self, bytes: &[u8]) -> Result<usize, DepotBad> {
         let count = self.depot.write(bytes)?;
-        self.advance(count);
+        self.has_written(count);
         Ok(count)
     }
 

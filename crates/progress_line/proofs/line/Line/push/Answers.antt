@@ -13,5 +13,5 @@ returns-else-self-lt-COLUMNS c =
     put_full _ _ (used_length c.self.inside.bytes _ c.self.inside.used c.self.view_is c.self.told c.self.invariant
     ∙ full c.if-self-lt-COLUMNS.false c.self.invariant)
   where
-    full : {n : ℕ} → 79 ≤ n → n ≤ 79 → n ≡ 79
+    full : {n : ℕ} → 120 ≤ n → n ≤ 120 → n ≡ 120
     full a b = omega arith

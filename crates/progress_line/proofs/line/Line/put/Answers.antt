@@ -5,7 +5,7 @@ use Rattle.progress_line.proofs.line.Line.put.Goals as goal
 pub loop-byte-init : goal.loop-byte-init
 loop-byte-init c = record {
   value = put_nothing _
-      (subst (λ n. n ≤ 79)
+      (subst (λ n. n ≤ 120)
       (sym (used_length c.self.inside.bytes _ c.self.inside.used c.self.view_is c.self.told c.self.invariant))
       c.self.invariant);
 }

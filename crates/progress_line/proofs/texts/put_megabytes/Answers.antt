@@ -1,6 +1,6 @@
 use Rattle.std.proofs.Common.{◌∙◌}
 use Rattle.progress_line.proofs.Putting.{put_as, put_three}
-use Rattle.progress_line.proofs.file.put_megabytes.Goals as goal
+use Rattle.progress_line.proofs.texts.put_megabytes.Goals as goal
 
 pub returns : goal.returns
 returns c =
