@@ -9,7 +9,7 @@ mod words;
 use depot::FileDepot;
 use ending::exit_code;
 use memory::keep_what_is_given_back;
-use progress_line::{Screen, ShownDepot};
+use progress_line::{Screen, ShownDepot, columns};
 use std::io::{IsTerminal, Stderr};
 use std::process::ExitCode;
 use usage::tell_usage;
@@ -22,7 +22,8 @@ const WANT_OF_MEMORY: &[u8] = b"want of memory\n";
 fn screen(rt: HostRuntime) -> Option<Screen<HostRuntime, Stderr>> {
     let to = rt.stderr();
     if to.is_terminal() {
-        Some(Screen::new(rt, to))
+        let (columns, alloc) = (columns(&rt), rt.alloc());
+        Some(Screen::new(rt, to, columns, alloc))
     } else {
         None
     }
@@ -36,6 +37,9 @@ fn main(rt: HostRuntime) -> ExitCode {
     let mut depot = ShownDepot::new(files, screen(rt));
     let code = exit_code(rt.alloc(), &words, &mut depot);
     depot.wipe();
+    if code == 0 {
+        depot.summarize();
+    }
     tell_usage(&rt, code);
     ExitCode::from(code)
 }

@@ -7,10 +7,13 @@
 
 mod file;
 mod frame;
+mod ledger;
 mod line;
 mod pace;
+mod peak;
 mod screen;
 mod shown;
+mod tally;
 #[cfg(test)]
 mod tests;
 mod texts;

@@ -1,13 +1,17 @@
 //! A terminal on which one line is shown, over and over.
-ghost use Rattle.std.specs.Prelude.{◌≡◌, ◌+◌, ◌-◌, ◌^◌, min, false, None, Some};
+ghost use Rattle.std.specs.Prelude.{◌≡◌, ◌+◌, ◌-◌, ◌^◌, min, length, false, None, Some};
 ghost use Rattle.depot.specs.declared.outside.Phase.TheVariants.{Reading, Writing, Judging};
 ghost use Rattle.progress_line.specs.Text.{label};
 ghost use Rattle.progress_line.specs.Frames.{IsShownOnce};
 
 use crate::file::FileLine;
 use crate::frame::{WIPE, frame};
+use crate::ledger::Ledger;
+use crate::line::Line;
 use crate::pace::Pace;
+use crate::peak::peak;
 use depot::{Phase, Progress};
+use std::alloc::Global;
 use std::fs::{Files, metadata};
 use std::io::Write;
 use std::time::Clock;
@@ -22,22 +26,42 @@ pub struct Screen<R: Drop, W: Drop> {
     pace: Pace,
     file: FileLine,
     since: u64,
+    ledger: Ledger,
     is_shown: bool,
+}
+
+/// How many lines are told of files after a job.
+const LINES: usize = 40;
+
+// The second of the clock, or this one where it tells none.
+fn second_of<R: Clock>(rt: &R, usual: u64) -> u64 {
+    match rt.monotonic() {
+        Ok(time) => time.as_secs(),
+        Err(_) => usual,
+    }
+}
+
+// Writes a line. A refusal is passed over.
+fn put_line<W: Write>(to: &mut W, line: &Line) {
+    let _line = to.write_all(line.bytes());
+    let _end = to.write_all(b"\n");
 }
 
 impl<R: Clock + Files + Drop, W: Write + Drop> Screen<R, W> {
     /// A terminal on which nothing is shown yet. A line has at most that many columns.
-    pub fn new(rt: R, to: W, columns: usize) -> Screen<R, W>
+    pub fn new(rt: R, to: W, columns: usize, alloc: Global) -> Screen<R, W>
         ensures shown { result.is_shown ≡ false }
         ensures columns { result.columns ≡ columns }
     {
+        let second = second_of(&rt, 0);
         Screen {
             rt,
             to,
             columns,
             pace: Pace::new(),
             file: FileLine::new(Phase::Reading, "", None),
-            since: 0,
+            since: second,
+            ledger: Ledger::new(alloc, second),
             is_shown: false,
         }
     }
@@ -54,6 +78,7 @@ impl<R: Clock + Files + Drop, W: Write + Drop> Screen<R, W> {
         };
         self.file = FileLine::new(Phase::Reading, name, size);
         self.begin();
+        self.ledger.start(Phase::Reading, name, self.since);
     }
 
     /// A file is written anew.
@@ -65,16 +90,18 @@ impl<R: Clock + Files + Drop, W: Write + Drop> Screen<R, W> {
     {
         self.file = FileLine::new(Phase::Writing, name, None);
         self.begin();
+        self.ledger.start(Phase::Writing, name, self.since);
     }
 
-    /// That many more bytes of the file are read or written. They are shown once a second, so that what is saved up of
-    /// the pace is left for the names of files.
-    pub fn advance(&mut self, phase: Phase, count: usize)
+    /// More bytes of the file are read or written. They are shown once a second, so that what is saved up of the pace is
+    /// left for the names of files.
+    pub fn advance(&mut self, phase: Phase, bytes: &[u8])
         ensures name { self.new.file.name ≡ self.old.file.name }
         ensures phase { self.new.file.phase ≡ phase }
-        ensures done { self.new.file.done ≡ min (self.old.file.done + count) (2 ^ 64 - 1) }
+        ensures done { self.new.file.done ≡ min (self.old.file.done + length bytes.now) (2 ^ 64 - 1) }
     {
-        self.file.advance(phase, count);
+        self.ledger.take(bytes);
+        self.file.advance(phase, bytes.len());
         self.show_once();
     }
 
@@ -119,10 +146,24 @@ impl<R: Clock + Files + Drop, W: Write + Drop> Screen<R, W> {
     fn begin(&mut self)
         ensures { self.new.file ≡ self.old.file }
     {
-        if let Ok(time) = self.rt.monotonic() {
-            self.since = time.as_secs();
-        }
+        self.since = second_of(&self.rt, self.since);
         self.show();
+    }
+
+    /// Tells of the files and of the job, in lines that stay.
+    pub fn summarize(&mut self) {
+        let second = second_of(&self.rt, self.since);
+        self.ledger.end(second);
+        let mut lines = 0;
+        for file in self.ledger.files() {
+            if let Some(line) = file.line() {
+                if lines < LINES {
+                    put_line(&mut self.to, &line);
+                    lines += 1;
+                }
+            }
+        }
+        put_line(&mut self.to, &self.ledger.line(second, peak(&self.rt)));
     }
 
     // Shows the line, where none was shown in this second.

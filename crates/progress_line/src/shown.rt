@@ -1,5 +1,5 @@
 //! A depot that shows what goes through another one.
-ghost use Rattle.std.specs.Prelude.{◌≡◌, false, IfSome, nat_lt, if◌then◌else◌};
+ghost use Rattle.std.specs.Prelude.{◌≡◌, false, IfSome, length, nat_lt, if◌then◌else◌};
 ghost use Rattle.depot.specs.declared.outside.Phase.TheVariants.{Reading, Judging, Writing};
 
 use crate::screen::Screen;
@@ -44,28 +44,37 @@ impl<D: Depot + Drop, R: Clock + Files + Drop, W: Write + Drop> ShownDepot<D, R,
         }
     }
 
-    // Says to the screen that bytes were read. Where there are none, the file is at its end, and is judged.
-    fn has_read(&mut self, count: usize)
+    /// Tells on the screen, in lines that stay, of the shot files and of the job. The depot is as before.
+    pub fn summarize(&mut self)
         ensures depot { self.new.depot ≡ self.old.depot }
-        ensures phase { IfSome self.new.screen (λ s. s.file.phase ≡ (if nat_lt 0 count then Reading else Judging)) }
+    {
+        if let Some(screen) = &mut self.screen {
+            screen.summarize();
+        }
+    }
+
+    // Says to the screen that these bytes were read. Where there are none, the file is at its end, and is judged.
+    fn has_read(&mut self, bytes: &[u8])
+        ensures depot { self.new.depot ≡ self.old.depot }
+        ensures phase { IfSome self.new.screen (λ s. s.file.phase ≡ (if nat_lt 0 (length bytes.now) then Reading else Judging)) }
     {
         let Some(screen) = &mut self.screen else {
             return;
         };
-        if count == 0 {
+        if bytes.is_empty() {
             screen.judge();
         } else {
-            screen.advance(Phase::Reading, count);
+            screen.advance(Phase::Reading, bytes);
         }
     }
 
-    // Says to the screen that bytes were written.
-    fn has_written(&mut self, count: usize)
+    // Says to the screen that these bytes were written.
+    fn has_written(&mut self, bytes: &[u8])
         ensures depot { self.new.depot ≡ self.old.depot }
         ensures phase { IfSome self.new.screen (λ s. s.file.phase ≡ Writing) }
     {
         if let Some(screen) = &mut self.screen {
-            screen.advance(Phase::Writing, count);
+            screen.advance(Phase::Writing, bytes);
         }
     }
 }
@@ -86,7 +95,7 @@ impl<D: Depot + Drop, R: Clock + Files + Drop, W: Write + Drop> Depot for ShownD
 
     fn read(&mut self, buf: &mut [u8]) -> Result<usize, DepotBad> {
         let count = self.depot.read(buf)?;
-        self.has_read(count);
+        self.has_read(&buf[..count]);
         Ok(count)
     }
 
@@ -99,7 +108,7 @@ impl<D: Depot + Drop, R: Clock + Files + Drop, W: Write + Drop> Depot for ShownD
 
     fn write(&mut self, bytes: &[u8]) -> Result<usize, DepotBad> {
         let count = self.depot.write(bytes)?;
-        self.has_written(count);
+        self.has_written(&bytes[..count]);
         Ok(count)
     }
 

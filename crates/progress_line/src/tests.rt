@@ -1,5 +1,6 @@
 // Lines that were worked out by hand, the pace, and a depot in memory that is shown.
 use crate::file::FileLine;
+use crate::ledger::Ledger;
 use crate::pace::Pace;
 use crate::{Screen, ShownDepot};
 use depot::{Depot, Phase, Progress, SureDepot, make_file, read_all, say_whole};
@@ -62,14 +63,36 @@ fn at_most_nine_in_a_second(rt: HostRuntime) {
 
 #[test]
 fn a_shown_depot_answers_as_the_other(rt: HostRuntime) -> Result<(), Fail> {
-    let mut inside = SureDepot::new(rt.alloc());
+    let alloc = rt.alloc();
+    let mut inside = SureDepot::new(alloc);
     inside.add("in", b"abc")?;
-    let mut depot = ShownDepot::new(inside, Some(Screen::new(rt, sink(), 79)));
-    let bytes = read_all(rt.alloc(), &mut depot, "in", 10)?;
+    let mut depot = ShownDepot::new(inside, Some(Screen::new(rt, sink(), 79, alloc)));
+    let bytes = read_all(alloc, &mut depot, "in", 10)?;
     assert_eq!(rt; bytes.as_slice(), b"abc".as_slice());
     make_file(&mut depot, "out", &bytes)?;
     depot.note(Progress::up_to(Phase::Covering, 0, 1, 0, 0));
     say_whole(&mut depot, b"done\n")?;
     depot.wipe();
+    Ok(())
+}
+
+#[test]
+fn two_shots_are_summed(rt: HostRuntime) -> Result<(), Fail> {
+    let mut ledger = Ledger::new(rt.alloc(), 100);
+    ledger.start(Phase::Writing, "metal.oas", 103);
+    ledger.take(b"%SEMI-OASIS\r\n\x01\x031.0\x00\xd0\x0f\0\0\0\0\0\0\0\0\0\0\0\0\0\x0e\x05SHOTS");
+    // 100 wide, 40 high, from (0, 0); then 64 wide below and 32 above, 16 high, from (-1, 64), both its sides slanted.
+    ledger.take(
+        b"\x0e\x7b\x01\x00\x64\x28\x00\x00\x11\x7b\x01\x00\x40\x10\x20\x21\x03\x80\x01\x02",
+    );
+    ledger.end(110);
+    let file = ledger.files().first().ok_or("no file")?;
+    let line = file.line().ok_or("no shot file")?;
+    let told = b"metal.oas: 2 shots, 0.001 um2, least width 0.016 um, least height 0.008 um, 7 s";
+    assert_eq!(rt; line.bytes(), told.as_slice());
+    assert_eq!(rt;
+        ledger.line(112, Some(20480)).bytes(),
+        b"reading 0 s, in all 12 s, 20 MB of memory at most".as_slice()
+    );
     Ok(())
 }
