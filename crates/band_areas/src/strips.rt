@@ -52,6 +52,13 @@ impl Strips {
         }
     }
 
+    /// The row up to which the band was gone through: what isn't given yet of the rows below it waits, or may still grow.
+    pub fn row(&self) -> i64
+        ensures { result ≡ self.now.next.y }
+    {
+        self.next.y
+    }
+
     // Puts the list of the next strip, and answers what ends at its bottom.
     fn put(&mut self, alloc: Global, rows: Window, strip: Vec<Trap>) -> Result<Vec<Trap>, NoMemory>
         requires begun { IsBegun self.old }

@@ -1,9 +1,10 @@
 //! The bands of an output, put to its writer one after another.
-ghost use Rattle.std.specs.Prelude.{◌≡◌, ◌⊎◌, pos, ◌-ℤ◌, ◌≤ℤ◌, ◌<ℤ◌, ◌<◌, ◌+◌, ◌-◌, ◌^◌, min, unsigned_abs, List, None, IsTrue, IsSome, IfOk, IfErr, OnOk, OnErr, length, ◌++◌};
-ghost use Rattle.std.specs.Int.{div_ceil};
+ghost use Rattle.std.specs.Prelude.{◌≡◌, ◌⊎◌, pos, ◌≤ℤ◌, ◌<ℤ◌, ◌<◌, ◌+◌, ◌^◌, List, None, IsTrue, IsSome, IfOk, IfErr, OnOk, OnErr, length, ◌++◌};
+ghost use Rattle.std.specs.Int.{int_gap, int_min};
 ghost use Rattle.depot.specs.Counting.{CountsWritesInMemory};
 ghost use Rattle.depot.specs.Doing.{Writes};
 ghost use Rattle.depot.specs.declared.outside.DepotBad.TheVariants.{NoMemory};
+ghost use Rattle.depot.specs.declared.outside.Phase.TheVariants.{Covering};
 ghost use Rattle.half_grid.specs.Trapezoids.{Trapezoid};
 ghost use Rattle.shot_writer.specs.Writing.{AreSumsAfter, no_sums, records_of, triangles_of};
 ghost use Rattle.shot_writer.specs.WriterView.{pair_of, sums_of, refusal_of};
@@ -17,34 +18,22 @@ ghost use Rattle.shot_output.specs.Bands.{band_shots, HasRoomFor, IsBandPut, IsB
 
 use band_areas::{BandAreas, Strips};
 use deck_plan::{Plan, first_band, next_band};
-use deck_text::Deck;
-use depot::{Depot, DepotBad, Progress};
+use depot::{Depot, DepotBad, Phase, Progress};
 use fracture::Cuts;
 use geo_stream::FromSlice;
 use half_grid::{Trap, Window};
 use shot_writer::ShotWriter;
 use std::alloc::Global;
 
-/// How many bands of the deck have the rows from the first one of this band up to the end of the window.
-fn bands_up(deck: &Deck, band: Window, rows: Window) -> u64
-    requires { pos 0 <ℤ deck.now.band }
-    ensures { result ≡ div_ceil (unsigned_abs (rows.y1 -ℤ band.y0)) (unsigned_abs deck.now.band) }
-{
-    let height = deck.band.unsigned_abs();
-    rows.y1().abs_diff(band.y0()).div_ceil(height)
-}
-
-/// How far an output is of which one more band was put to the writer.
-fn further(progress: Progress, writer: &ShotWriter) -> Progress
-    ensures band { result.band ≡ min (progress.band + 1) (2 ^ 64 - 1) }
-    ensures bands { result.bands ≡ progress.bands }
+/// How far an output with these rows is, once the rows below this one are put to the writer.
+fn progress_at(rows: Window, row: i64, writer: &ShotWriter) -> Progress
+    ensures phase { result.phase ≡ Covering }
+    ensures rows { result.rows ≡ int_gap rows.y0 (int_min row rows.y1) }
+    ensures all_rows { result.all_rows ≡ int_gap rows.y0 rows.y1 }
     ensures shots { result.shots ≡ (sums_of writer.now).shots }
 {
-    Progress {
-        band: progress.band.saturating_add(1),
-        bands: progress.bands,
-        shots: writer.sums().shots,
-    }
+    let shots = writer.sums().shots;
+    Progress::up_to(Phase::Covering, rows.y0(), rows.y1(), row, shots)
 }
 
 // Puts the shots of some trapezoids to the writer.
@@ -95,7 +84,8 @@ fn next_traps(
     }
 }
 
-/// Puts the shots of one band of an output to the writer. After a refusal a prefix of their records is written.
+/// Puts the shots of one band of an output to the writer, strip by strip, and tells the depot how far the output with these
+/// rows is. After a refusal a prefix of their records is written.
 fn put_band<D: Depot>(
     alloc: Global,
     depot: &mut D,
@@ -103,6 +93,7 @@ fn put_band<D: Depot>(
     plan: &Plan,
     areas: &mut BandAreas,
     output: usize,
+    rows: Window,
     band: Window,
 ) -> Result<(), DepotBad>
     requires output { output < length plan.now.deck.outputs }
@@ -125,6 +116,7 @@ fn put_band<D: Depot>(
     let mut strips = Strips::new(alloc, band);
     while let Some(traps) = next_traps(alloc, &mut strips, plan, areas, output)? {
         put_traps(depot, writer, plan, traps.as_slice())?;
+        depot.note(progress_at(rows, strips.row(), writer));
     }
     Ok(())
 }
@@ -158,17 +150,10 @@ pub(crate) fn put_bands<D: Depot>(
     plan.has_lists(output);
     let deck = plan.deck();
     let mut band = first_band(deck, rows);
-    let mut progress = Progress {
-        band: 0,
-        bands: bands_up(deck, band, rows),
-        shots: 0,
-    };
-    depot.note(progress);
+    depot.note(progress_at(rows, rows.y0(), writer));
     let mut areas = BandAreas::new(alloc, plan, output);
     while band.y0() < rows.y1() {
-        put_band(alloc, depot, writer, plan, &mut areas, output, band)?;
-        progress = further(progress, writer);
-        depot.note(progress);
+        put_band(alloc, depot, writer, plan, &mut areas, output, rows, band)?;
         band = next_band(deck, band);
     }
     Ok(())

@@ -1,6 +1,6 @@
 use Rattle.std.proofs.Common.{◌∙◌, List, [], ◌++◌, arith, refl, sym, ap, subst, IsSome}
 use Rattle.depot.proofs.ForCallers.{refused}
-use Rattle.depot.specs.Content.{with_written, IsPartWritten}
+use Rattle.depot.specs.Content.{Content, with_written, IsPartWritten}
 use Rattle.half_grid.specs.Trapezoids.{Trapezoid}
 use Rattle.half_grid.specs.Windows.{RowRange}
 use Rattle.layout_model.specs.declared.pair.Pair.{Pair}
@@ -96,7 +96,8 @@ loop-strips-preserved g c =
       has = then;
       band = c.in_ok-traps.ensures.band ∙ i.band;
       content = λ told.
-          content_more p k (pair_of c.args.writer.now) (g.D.Depot.content c.args.depot.now) (g.D.Depot.content c.loop-strips.depot)
+          c.note.ensures.content
+          ∙ content_more p k (pair_of c.args.writer.now) (g.D.Depot.content c.args.depot.now) (g.D.Depot.content c.loop-strips.depot)
           (g.D.Depot.content c.put_traps.new.depot) i.given more (i.content told)
           (c.in_ok-put_traps.ensures.content.ok told
           ∙ ap (λ (pair : Pair). with_written (g.D.Depot.content c.loop-strips.depot) (records_of pair (band_shots p c.as_slice.result.now))) i.pair
@@ -107,6 +108,6 @@ loop-strips-preserved g c =
       areas = c.in_ok-traps.ensures.areas;
       pair = c.put_traps.ensures.pair ∙ i.pair;
       kept = c.in_ok-put_traps.ensures.kept;
-      current = λ told. subst IsSome (sym (c.put_traps.ensures.current told)) (i.current told);
-      uncounted = c.in_ok-put_traps.ensures.counts.uncounted ∙ i.uncounted;
+      current = λ told. subst IsSome (sym (ap (λ (now : Content). now.current) c.note.ensures.content ∙ c.put_traps.ensures.current told)) (i.current told);
+      uncounted = c.note.ensures.counts ∙ c.in_ok-put_traps.ensures.counts.uncounted ∙ i.uncounted;
     }

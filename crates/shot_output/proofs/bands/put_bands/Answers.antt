@@ -87,20 +87,19 @@ loop-deck-preserved g c =
     let next : row_range c.loop-deck.band.y1 (c.loop-deck.band.y1 +ℤ c.args.plan.now.deck.band) ≡ c.next_band-band.result =
     sym (c.next_band-band.ensures ∙ ap (λ (d : Deck). row_range c.loop-deck.band.y1 (c.loop-deck.band.y1 +ℤ d.band)) c.deck-deck.ensures.value) in
     record {
-      put = put_told c.note-in-loop-deck.ensures.content
-          (subst (λ (w : RowRange). IsPutBelow c.args.plan.now c.args.output w
+      put = subst (λ (w : RowRange). IsPutBelow c.args.plan.now c.args.output w
           (pair_of c.args.writer.now) g.D.Depot.tells (g.D.Depot.content c.args.depot.now)
           (g.D.Depot.content c.put_band.new.depot) (sums_of c.put_band.new.writer)) next
           (put_next c.args.plan.now c.args.output c.loop-deck.band (pair_of c.args.writer.now) g.D.Depot.tells
           (g.D.Depot.content c.args.depot.now) (g.D.Depot.content c.loop-deck.depot)
           (sums_of c.loop-deck.writer) i.put (g.D.Depot.content c.put_band.new.depot)
-          (sums_of c.put_band.new.writer) done));
+          (sums_of c.put_band.new.writer) done);
       areas = c.put_band.ensures.areas;
       pair = c.put_band.ensures.pair ∙ i.pair;
       kept = c.in_ok-put_band.ensures.kept;
       low = omega (arith, ints, low, height, i.low, c.requires.rules.some_rows);
       high = omega (arith, ints, low, height, test, c.y0.ensures.value, c.y1.ensures.value, near.high, c.requires.few);
-      uncounted = c.note-in-loop-deck.ensures.counts ∙ c.in_ok-put_band.ensures.counts.uncounted ∙ i.uncounted;
+      uncounted = c.in_ok-put_band.ensures.counts.uncounted ∙ i.uncounted;
     }
 
 pub returns-clause-ok : goal.returns-clause-ok
