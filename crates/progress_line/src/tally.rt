@@ -12,6 +12,21 @@ const TAIL: &[u8] = b"\0\0\0\0\0\0\0\0\0\0\0\0\0\x0e\x05SHOTS";
 /// The second byte of a shot.
 const INFO: u8 = 0x7b;
 
+/// A rectangle, of which no side is slanted.
+const RECTANGLE: u8 = 0x14;
+
+/// A shot whose left and right sides are slanted.
+const BOTH_SLANTED: u8 = 0x17;
+
+/// A shot whose left side is slanted.
+const LEFT_SLANTED: u8 = 0x18;
+
+/// A shot whose right side is slanted.
+const RIGHT_SLANTED: u8 = 0x19;
+
+/// The last record.
+const END: u8 = 2;
+
 /// A number of a shot, in the order of its record.
 #[derive(Clone, Copy, Debug, PartialEq, Eq)]
 enum Field {
@@ -116,11 +131,11 @@ impl Sizes {
     }
 
     fn has_left_move(&self) -> bool {
-        self.id == 17 || self.id == 18
+        self.id == BOTH_SLANTED || self.id == LEFT_SLANTED
     }
 
     fn has_right_move(&self) -> bool {
-        self.id == 17 || self.id == 19
+        self.id == BOTH_SLANTED || self.id == RIGHT_SLANTED
     }
 
     // The number after one of them. None after the last.
@@ -225,8 +240,8 @@ impl Tally {
     // A record begins with this byte.
     fn begin(&mut self, id: u8) -> Step {
         match id {
-            2 => Step::End,
-            14 | 17 | 18 | 19 => {
+            END => Step::End,
+            RECTANGLE | BOTH_SLANTED | LEFT_SLANTED | RIGHT_SLANTED => {
                 self.sizes = Sizes {
                     id,
                     width: 0,

@@ -83,7 +83,7 @@ fn two_shots_are_summed(rt: HostRuntime) -> Result<(), Fail> {
     ledger.take(b"%SEMI-OASIS\r\n\x01\x031.0\x00\xd0\x0f\0\0\0\0\0\0\0\0\0\0\0\0\0\x0e\x05SHOTS");
     // 100 wide, 40 high, from (0, 0); then 64 wide below and 32 above, 16 high, from (-1, 64), both its sides slanted.
     ledger.take(
-        b"\x0e\x7b\x01\x00\x64\x28\x00\x00\x11\x7b\x01\x00\x40\x10\x20\x21\x03\x80\x01\x02",
+        b"\x14\x7b\x01\x00\x64\x28\x00\x00\x17\x7b\x01\x00\x40\x10\x20\x21\x03\x80\x01\x02\xfc\x01",
     );
     ledger.end(110);
     let file = ledger.files().first().ok_or("no file")?;
