@@ -1,12 +1,14 @@
 #!/usr/bin/env python3
-"""Compares the lines that a refusal may print with those that docs/DECK.md explains.
+"""Compares the lines that a refusal may print with those that docs/DECK.md explains, and what the program tells of each on
+standard error with what the tables there say.
 
     tests/printed_lines.py
 
 The lines are those of `line_of`, the definition of which the program is proved to print; each number, name or word that
 changes is one word in capitals. In docs/DECK.md they are what is in backquotes in the first column of the tables
-under `## What is refused, and what to do`, after the text that the column's title ends with. Ends with status 1 where a
-line isn't explained, or one is explained that is never printed.
+under `## What is refused, and what to do`, after the text that the column's title ends with; a rule's number is such a word
+too. What the program tells are the texts of `ADVICE`, each after the line that it is about; the second and the third column
+have the same texts. Ends with status 1 where a line isn't explained, one is explained that is never printed, or texts differ.
 """
 import re
 import sys
@@ -14,6 +16,7 @@ from pathlib import Path
 
 TOP = Path(__file__).resolve().parent.parent
 SPECS = ["crates/job_report/specs"]
+ADVICE = "crates/explain/src"
 # where the lines begin, and words that are said as one name whatever they are
 ROOT = "line_of"
 AS_ONE_WORD = {"variable_name": "VARIABLE"}
@@ -103,30 +106,59 @@ def printed():
     return {line for line in lines if line}
 
 
-def explained():
+def rows():
+    """The rows of the tables: the line, or what a file is, and whether it is a line; what it means; what to do."""
     text = (TOP / "docs/DECK.md").read_text()
     text = text[text.index("## What is refused, and what to do"):]
-    lines, begin = set(), ""
+    begin, is_line = "", True
     for row in text.splitlines():
-        if not row.startswith("|"):
+        cells = row.split(" | ")
+        if not row.startswith("|") or len(cells) != 3:
             continue
-        cell = row.split(" | ")[0].strip("| ")
-        spans = re.findall(r"`([^`]*)`", cell)
-        if cell.startswith("line printed"):
-            begin = spans[0] if spans else ""
+        first = cells[0].strip("| ")
+        spans = re.findall(r"`([^`]*)`", first)
+        if not first.startswith("`"):
+            begin, is_line = spans[0] if spans else "", first.startswith("line printed")
             continue
         for span in spans:
-            lines.add(re.sub(r"\b[A-Z]+\b", "X", begin + span))
-    return lines
+            yield begin + span, is_line, cells[1].strip(), cells[2].strip("| ")
+
+
+def explained():
+    lines = [line for line, is_line, _, _ in rows() if is_line]
+    return {re.sub(r"\b[A-Z]+\b|(?<= rule )\d+", "X", line) for line in lines}
+
+
+def told():
+    """What the program tells: the line, or what a file is, to what it means and what to do."""
+    entry = re.compile(
+        r"/// `([^`]*)`\n"
+        r"pub\(crate\) const \w+: Advice = Advice \{\s*"
+        r'means: "([^"]*)",\s*'
+        r'advice: "([^"]*)",\s*\};'
+    )
+    found = {}
+    for path in sorted((TOP / ADVICE).glob("*advice.rt")):
+        text = path.read_text()
+        entries = entry.findall(text)
+        if len(entries) != text.count("Advice = Advice {"):
+            sys.exit(f"{path}: a text stands after no line")
+        for line, means, advice in entries:
+            found[line] = (means, advice)
+    return found
 
 
 def main():
-    wanted, told = printed(), explained()
-    for line in sorted(wanted - told):
-        print(f"docs/DECK.md doesn't explain: {line}")
-    for line in sorted(told - wanted):
-        print(f"docs/DECK.md explains what is never printed: {line}")
-    sys.exit(0 if wanted == told else 1)
+    wanted, lines = printed(), explained()
+    faults = [f"docs/DECK.md doesn't explain: {line}" for line in sorted(wanted - lines)]
+    faults += [f"docs/DECK.md explains what is never printed: {line}" for line in sorted(lines - wanted)]
+    texts, table = told(), {line: (means, advice) for line, _, means, advice in rows()}
+    for line in sorted(texts.keys() | table.keys()):
+        if texts.get(line) != table.get(line):
+            faults.append(f"{line}: told {texts.get(line)}, and docs/DECK.md has {table.get(line)}")
+    for fault in faults:
+        print(fault)
+    sys.exit(1 if faults else 0)
 
 
 main()

@@ -1,17 +1,21 @@
-//! The program: it takes the words of the command, does them over the real files, and ends with the code of the answer.
+//! The program: it takes the words of the command, does them over the real files, explains the answer on standard
+//! error, and ends with its code.
 #![tactic(auto)]
 
 mod ending;
 mod memory;
+mod telling;
 mod usage;
 mod words;
 
 use depot::FileDepot;
-use ending::exit_code;
+use ending::{answer_to, exit_code};
+use explain::HeardDepot;
 use memory::keep_what_is_given_back;
 use progress_line::{Screen, ShownDepot, columns};
 use std::io::{IsTerminal, Stderr};
 use std::process::ExitCode;
+use telling::tell_end;
 use usage::tell_usage;
 use words::words;
 
@@ -34,12 +38,14 @@ fn main(rt: HostRuntime) -> ExitCode {
     let words = words(&rt, rt.alloc());
     let mut files = FileDepot::new(rt);
     files.give_up_at(WANT_OF_MEMORY);
-    let mut depot = ShownDepot::new(files, screen(rt));
-    let code = exit_code(rt.alloc(), &words, &mut depot);
+    let mut depot = ShownDepot::new(HeardDepot::new(files), screen(rt));
+    let answer = answer_to(rt.alloc(), &words, &mut depot);
+    let code = exit_code(&answer);
     depot.wipe();
     if code == 0 {
         depot.summarize();
     }
+    tell_end(rt, &words, &answer, depot.depot());
     tell_usage(&rt, code);
     ExitCode::from(code)
 }

@@ -1,0 +1,2 @@
+-- ---- what is promised, in reading order
+pub mod Shown
