@@ -96,6 +96,13 @@ pub record AreRowsSoFar (p : Planned) (k : ℕ) (size row : ℤ) (tells : Bool) 
   pub totals_of : AreTotals entries totals
   pub content : IsTrue tells → IsSaidButFor before (held ++ flat_map entry_line entries) left now
 
+-- a depot that took note of how far that is holds the same
+pub rows_told : {p : Planned} {k : ℕ} {size row : ℤ} {tells : Bool} {before : Content} {held : List ℕ} {totals : Totals} {left : List ℕ}
+    {now later : Content} → later ≡ now → AreRowsSoFar p k size row tells before held totals left now
+    → AreRowsSoFar p k size row tells before held totals left later
+rows_told {p} {k} {size} {row} {tells} {before} {held} {totals} {left} same s =
+    subst (λ (now : Content). AreRowsSoFar p k size row tells before held totals left now) (sym same) s
+
 -- none yet
 pub no_rows : (p : Planned) (k : ℕ) (size row : ℤ) (tells : Bool) (before : Content) (held : List ℕ) (totals : Totals) (rows : RowRange) → AreTotals [] totals
     → ((t : Tile) → area_of p k t → IsInRows rows t) → (row *ℤ size) ≤ℤ rows.y0 → AreRowsSoFar p k size row tells before held totals held before

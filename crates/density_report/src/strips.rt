@@ -1,10 +1,12 @@
 //! Rows of windows, as numbers.
 ghost use Rattle.std.specs.Prelude.{◌≡◌, pos, neg_ℤ, ◌^◌, ◌+ℤ◌, ◌-ℤ◌, ◌*ℤ◌, ◌≤ℤ◌, ◌<ℤ◌};
-ghost use Rattle.std.specs.Int.{int_gap};
+ghost use Rattle.std.specs.Int.{int_gap, int_min};
+ghost use Rattle.depot.specs.declared.outside.Phase.TheVariants.{Counting};
 ghost use Rattle.density_map.specs.Frames.{IsNear};
 ghost use Rattle.density_map.specs.Windows.{IsWindowSize};
 ghost use Rattle.density_report.specs.Rows.{rows_of, AreNearRows, HoldRows, IsBatch, IsPart, IsPortion};
 
+use depot::{Phase, Progress};
 use half_grid::Window;
 
 /// How many rows of the half grid an area is asked for at once, at most.
@@ -186,4 +188,13 @@ pub(crate) fn lower(left: &Batch, portion: &Portion) -> Batch
         row: left.row,
         end: row_of(&left.mesh, top).min(left.end),
     }
+}
+
+/// How far the rows of windows are of which these are left.
+pub(crate) fn counted_to(all: &Batch, left: &Batch) -> Progress
+    ensures phase { result.phase ≡ Counting }
+    ensures rows { result.rows ≡ int_gap all.now.row (int_min left.now.row all.now.end) }
+    ensures all_rows { result.all_rows ≡ int_gap all.now.row all.now.end }
+{
+    Progress::up_to(Phase::Counting, all.row, all.end, left.row, 0)
 }

@@ -10,15 +10,15 @@ use crate::areas::fill;
 use crate::entries::{Totals, count_row};
 use crate::maps::take_first;
 use crate::saying::{say_row, say_size, say_totals};
-use crate::strips::{Mesh, Strip, after_first, batch_of, first_portion};
+use crate::strips::{Mesh, Strip, after_first, batch_of, counted_to, first_portion};
 use crate::tabled::have_tables;
 use deck_plan::Plan;
 use depot::{Buffer, Depot, DepotBad, flush};
 use half_grid::Window;
 use std::alloc::Global;
 
-// Puts the lines of all windows of an output, row by row, and answers the totals. No tile of its area lies outside
-// these rows.
+// Puts the lines of all windows of an output, row by row, tells the depot how far that is, and answers the totals. No tile of
+// its area lies outside these rows.
 fn say_rows<D: Depot>(
     alloc: Global,
     depot: &mut D,
@@ -44,6 +44,8 @@ fn say_rows<D: Depot>(
     };
     let portion = first_portion(mesh, plan.weight(), rows);
     let mut left = batch_of(mesh, rows);
+    let all = left;
+    depot.note(counted_to(&all, &left));
     let mut maps = Vec::new(alloc);
     while left.row < left.end {
         let Some(map) = take_first(&mut maps) else {
@@ -61,6 +63,7 @@ fn say_rows<D: Depot>(
         count_row(&mut totals, &strip, counts);
         say_row(depot, buffer, &strip, counts)?;
         left = after_first(&left);
+        depot.note(counted_to(&all, &left));
     }
     Ok(totals)
 }

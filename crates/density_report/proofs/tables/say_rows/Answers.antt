@@ -1,5 +1,5 @@
 use Rattle.std.proofs.Common.{FitsSigned, w64, ℕ, ◌<ℤ◌, ◌≡◌, ◌<◌, ℤ, pos, ◌+ℤ◌, ◌*ℤ◌, ◌≤ℤ◌, List, ◌∷◌, [], ◌++◌, length}
-use Rattle.std.proofs.Common.{flat_map, ap, subst, sym, refl, ◌∙◌, arith, rules}
+use Rattle.std.proofs.Common.{flat_map, ap, subst, sym, ◌∙◌, arith, rules}
 use Rattle.std.proofs.lemmas.Int.{ints, to_z-of_z}
 use Rattle.std.proofs.lemmas.List.{length-append}
 use Rattle.depot.specs.Content.{IsPartSaid}
@@ -14,7 +14,7 @@ use Rattle.density_report.specs.Rows.{counted_line, entries_of, AreCountsFrom, A
 use Rattle.density_report.proofs.MapLemmas.{last_counts, rest_counts, no_counts}
 use Rattle.density_report.proofs.StripLemmas.{batch_of_rows, near_of_rows, from_parts, steps_left, steps_fall, filled_falls}
 use Rattle.density_report.proofs.TotalsLemmas.{no_totals}
-use Rattle.density_report.proofs.RowSteps.{no_rows, stopped, few, row_cut, row_put, rows_passed, rows_put}
+use Rattle.density_report.proofs.RowSteps.{rows_told, no_rows, stopped, few, row_cut, row_put, rows_passed, rows_put}
 use Rattle.density_report.proofs.tables.say_rows.Goals as goal
 
 pub batch_of-left-requires-clause-near : goal.batch_of-left-requires-clause-near
@@ -27,16 +27,17 @@ loop-left-init g c =
     let ascending = batch.ascending in
     let none = ap (λ (l : List RowMap). length l) c.new-maps.ensures.items in
     record {
-      rows = no_rows c.args.plan.now c.args.output c.args.mesh.now.size c.batch_of-left.result.row g.D.Depot.tells
+      rows = rows_told c.note.ensures.content
+          (no_rows c.args.plan.now c.args.output c.args.mesh.now.size c.batch_of-left.result.row g.D.Depot.tells
           (g.D.Depot.content c.args.depot.now) c.args.buffer.now _ c.args.rows no_totals
-          c.requires.outside hold.from;
+          c.requires.outside hold.from);
       counts = no_counts (area_of c.args.plan.now c.args.output) c.args.mesh.now.size c.batch_of-left.result.row
           c.new-maps.result.items c.new-maps.ensures.items;
       batch = batch;
       mesh = c.batch_of-left.ensures.mesh;
       inside = omega (arith, ints, ascending, none);
       last = hold.up_to;
-      uncounted = refl;
+      uncounted = c.note.ensures.counts;
     }
 
 pub returns-in-Err-clause-refused : goal.returns-in-Err-clause-refused
@@ -135,7 +136,8 @@ loop-left-preserved g c =
     (area_of c.args.plan.now c.args.output) c.args.mesh.now.size l.left.row l.maps.items c.take_first.new.maps.items
     c.in-Some.map whole l.invariant.counts in
     record {
-      rows = row_put c.args.plan.now c.args.output c.args.mesh.now.size l.left.row g.D.Depot.tells
+      rows = rows_told c.note-in-loop-left.ensures.content
+          (row_put c.args.plan.now c.args.output c.args.mesh.now.size l.left.row g.D.Depot.tells
           (g.D.Depot.content c.args.depot.now) c.args.buffer.now l.totals l.buffer
           (g.D.Depot.content l.depot) l.invariant.rows
           c.counts-counts.result.now c.requires.size c.counts-counts.ensures.counts
@@ -150,7 +152,7 @@ loop-left-preserved g c =
           (λ told. subst (λ (r : ℤ). IsSaidButFor (g.D.Depot.content l.depot)
           (l.buffer ++ flat_map (counted_line r) c.counts-counts.result.now)
           c.say_row.new.buffer (g.D.Depot.content c.say_row.new.depot))
-          (to_z-of_z w64 l.left.row fl) (c.in_ok-say_row.ensures.content.ok told));
+          (to_z-of_z w64 l.left.row fl) (c.in_ok-say_row.ensures.content.ok told)));
       counts = subst (λ (r : ℤ). AreCountsFrom
           (area_of c.args.plan.now c.args.output) c.args.mesh.now.size r c.take_first.new.maps.items)
           (sym c.after_first-left.ensures.row)
@@ -163,7 +165,7 @@ loop-left-preserved g c =
       mesh = c.after_first-left.ensures.mesh ∙ l.invariant.mesh;
       inside = omega (arith, ints, within, both, count, row, same);
       last = subst (λ (e : ℤ). c.args.rows.y1 ≤ℤ (e *ℤ c.args.mesh.now.size)) (sym c.after_first-left.ensures.end) l.invariant.last;
-      uncounted = c.in_ok-say_row.ensures.counts.uncounted ∙ l.invariant.uncounted;
+      uncounted = c.note-in-loop-left.ensures.counts ∙ c.in_ok-say_row.ensures.counts.uncounted ∙ l.invariant.uncounted;
     }
 
 pub loop-left-smaller-in_default : goal.loop-left-smaller-in_default
