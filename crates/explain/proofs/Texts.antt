@@ -1,5 +1,5 @@
 -- Texts that grow step by step.
-use Rattle.std.proofs.Common.{◌≡◌, ℕ, suc, ◌<◌, ◌≤◌, ◌+◌, ◌-◌, List, [], ◌∷◌, ◌++◌, length, drop, slice_index_or, append_assoc, ap, ◌∙◌, arith}
+use Rattle.std.proofs.Common.{◌≡◌, ℕ, suc, ◌<◌, ◌≤◌, ◌+◌, ◌-◌, List, [], ◌∷◌, ◌++◌, length, drop, slice_index_or, ap, ◌∙◌, arith}
 use Rattle.std.proofs.lemmas.List.{at_drop_more, at_drop_all, length-drop}
 use Rattle.explain.specs.Shown.{blanks, comma_after, grouped}
 
@@ -27,7 +27,3 @@ grouped_step xs i d less =
 pub grouped_none : (xs : List ℕ) (i : ℕ) → length xs ≤ i → grouped (drop i xs) ≡ []
 unfolding grouped
 grouped_none xs i all = at_drop_all grouped xs i all
-
--- five pieces, one after another
-pub five_pieces : (o a b c d e : List ℕ) → ((((o ++ a) ++ b) ++ c) ++ d) ++ e ≡ o ++ ((((a ++ b) ++ c) ++ d) ++ e)
-five_pieces o a b c d e = simp append_assoc

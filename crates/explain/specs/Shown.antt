@@ -1,5 +1,5 @@
 -- How bytes and numbers are shown.
-use Rattle.std.specs.Prelude.{ℕ, zero, suc, ◌-◌, ◌%◌, List, [], ◌∷◌, ◌++◌, ◌&&◌, nat_eq, nat_lt, nat_le, length, drop, take, map, codes, if◌then◌else◌}
+use Rattle.std.specs.Prelude.{ℕ, zero, suc, ◌%◌, List, [], ◌∷◌, ◌++◌, ◌&&◌, nat_eq, nat_le, length, if◌then◌else◌}
 
 -- a visible ASCII character or a space as it is, a tab as a space, and another byte as `?`
 abbrev pub shown : ℕ → ℕ
@@ -18,12 +18,3 @@ grouped (d ∷ ds) = d ∷ (comma_after (length ds) ++ grouped ds)
 unfoldable pub blanks : ℕ → List ℕ
 blanks zero = []
 blanks (suc n) = 32 ∷ blanks n
-
--- how many bytes of a line aren't shown before those that are, where the mark is at this column, counted from 1
-abbrev pub hidden : ℕ → ℕ
-hidden column = if nat_lt column 96 then 0 else column - 48
-
--- 96 bytes of a line as they are shown, and below them a mark under the byte of this column
-abbrev pub marked : List ℕ → ℕ → List ℕ
-marked line column =
-    codes "    " ++ map shown (take 96 (drop (hidden column) line)) ++ codes "\n    " ++ blanks (column - hidden column - 1) ++ codes "^"

@@ -1,6 +1,6 @@
 //! Where a deck is refused: its line, with a mark under what doesn't fit, and what would.
-ghost use Rattle.std.specs.Prelude.{◌≡◌, ◌++◌, OnOk, take, drop};
-ghost use Rattle.explain.specs.Shown.{hidden, marked};
+ghost use Rattle.std.specs.Prelude.{◌≡◌, ◌++◌, OnOk, codes};
+ghost use Rattle.explain.specs.Shown.{blanks};
 
 use crate::deck_forms::{COMMANDS, form_of, is_definition, is_setting, kind_of, range_of};
 use crate::deck_lines::{
@@ -28,46 +28,44 @@ pub(crate) struct Source<'a> {
 }
 
 // How many bytes of a line aren't shown before those that are, where the mark is at this column.
-fn hidden(column: usize) -> usize
-    ensures { result ≡ hidden column }
-{
+fn hidden_before(column: usize) -> usize {
     if column < SHOWN {
         return 0;
     }
-    column - BEFORE
+    column.saturating_sub(BEFORE)
 }
 
 // The first bytes, as many as are shown.
-fn first_bytes(bytes: &[u8]) -> &[u8]
-    ensures { result.now ≡ take 96 bytes.now }
-{
-    if bytes.len() <= SHOWN {
-        return bytes;
+fn first_bytes(bytes: &[u8]) -> &[u8] {
+    match bytes.get(..SHOWN) {
+        Some(first) => first,
+        None => bytes,
     }
-    &bytes[..SHOWN]
 }
 
 // The bytes of a line that are shown after those that aren't.
-fn shown_after(line: &[u8], hidden: usize) -> &[u8]
-    ensures { result.now ≡ take 96 (drop hidden line.now) }
-{
-    if line.len() <= hidden {
-        return &[];
+fn shown_after(line: &[u8], hidden: usize) -> &[u8] {
+    match line.get(hidden..) {
+        Some(rest) => first_bytes(rest),
+        None => &[],
     }
-    first_bytes(&line[hidden..])
+}
+
+// Tells a mark after so many blanks.
+fn tell_mark(note: &mut Note, before: usize) -> Result<(), NoMemory>
+    ensures ok { OnOk result (note.new ≡ (note.old ++ blanks before) ++ codes "^") }
+{
+    note.put_blanks(before)?;
+    note.put("^")
 }
 
 // Tells a line, and below it the mark at a column, counted from 1.
-fn tell_line(note: &mut Note, line: &[u8], column: usize) -> Result<(), NoMemory>
-    ensures ok { OnOk result (note.new ≡ note.old ++ marked line.now column) }
-{
-    let left_out = hidden(column);
+fn tell_line(note: &mut Note, line: &[u8], column: usize) -> Result<(), NoMemory> {
+    let hidden = hidden_before(column);
     note.put("    ")?;
-    note.put_bytes(shown_after(line, left_out))?;
+    note.put_bytes(shown_after(line, hidden))?;
     note.put("\n    ")?;
-    note.put_blanks((column - left_out).saturating_sub(1))?;
-    note.put("^")?;
-    Ok(())
+    tell_mark(note, column.saturating_sub(hidden).saturating_sub(1))
 }
 
 // Tells what could stand at a column of a line.
