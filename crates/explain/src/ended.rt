@@ -31,9 +31,8 @@ pub struct Ended<'a> {
 }
 
 /// What is told where the system doesn't hand over the words of the command.
-pub fn without_words() -> &'static str {
-    "nettletide: the system didn't hand over the words of the command, or memory for them ran out\n"
-}
+pub const WITHOUT_WORDS: &str =
+    "nettletide: the system didn't hand over the words of the command, or memory for them ran out\n";
 
 // Tells of a refusal of the system.
 fn tell_system(note: &mut Note, ended: &Ended, advice: Advice) -> Result<(), NoMemory> {

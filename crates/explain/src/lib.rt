@@ -33,5 +33,5 @@ mod units;
 mod warning;
 mod words;
 
-pub use ended::{Ended, explain, without_words};
+pub use ended::{Ended, WITHOUT_WORDS, explain};
 pub use heard::HeardDepot;

@@ -1,6 +1,6 @@
 //! What the program tells on standard error of a command that has ended. No contract speaks of standard error.
 use depot::FileDepot;
-use explain::{Ended, HeardDepot, explain, without_words};
+use explain::{Ended, HeardDepot, WITHOUT_WORDS, explain};
 use mdp_job::Status;
 use std::io::Write;
 
@@ -13,7 +13,7 @@ pub(crate) fn tell_end(
     heard: &HeardDepot<FileDepot<HostRuntime>>,
 ) {
     let (Some(words), Some(status)) = (words, answer) else {
-        let _told = rt.eprint(without_words());
+        let _told = rt.eprint(WITHOUT_WORDS);
         return;
     };
     let ended = Ended {
