@@ -1,10 +1,11 @@
 #!/usr/bin/env python3
 """Tests tools/compare and tools/recast against a plain count: tests/compare.py PROGRAM [CASES [FIRST]]
 
-Makes CASES layouts of a few shapes (20 where it isn't given), and shot files that are wrong in a few places: shots that are left
-out, given twice, moved or added. In each triangle of the half grid the shots are counted, and what `compare` tells of missing,
-outside and doubled area must be just that; so must the areas of the polygons in its marker file. All is done in strips of a few
-shots too. `recast` must give the shots back from OASIS polygons and GDSII boundaries in any order of their corners.
+Makes CASES layouts of a few shapes (20 where it isn't given), and shot files that are wrong in a few places:
+shots that are left out, given twice, moved or added. In each triangle of the half grid the shots are
+counted, and what `compare` tells of missing, outside and doubled area must be just that; so must the areas
+of the polygons in its marker file. All is done in strips of a few shots too. `recast` must give the shots
+back from OASIS polygons and GDSII boundaries in any order of their corners.
 """
 import os
 import random
@@ -25,7 +26,8 @@ DECK = "unit 1000\ntop TOP\nlimits 12 30\nlayer A 1 0\nwrite A shots.oas 1 0\n"
 
 
 def run(words, folder, program, status=0):
-    ended = subprocess.run(words, cwd=folder, stdout=subprocess.PIPE, stderr=subprocess.STDOUT, env={**os.environ, "NETTLETIDE": program})
+    ended = subprocess.run(words, cwd=folder, stdout=subprocess.PIPE, stderr=subprocess.STDOUT,
+                           env={**os.environ, "NETTLETIDE": program})
     said = ended.stdout.decode()
     assert ended.returncode == status, (words, ended.returncode, said)
     return said
@@ -45,7 +47,7 @@ def layout(some):
         x, y, size = some.randrange(0, 14), some.randrange(0, 14), some.randrange(4, 12)
         cut = some.randrange(0, size // 2 + 1)
         corners = [(x + cut, y), (x, y + cut), (x, y + size), (x + size, y + size), (x + size, y)]
-        shapes.append(oasis_polygon(corners if some.random() < 0.6 else [(x, y), (x, y + size), (x + size, y + size), (x + size, y)]))
+        shapes.append(oasis_polygon(corners if some.random() < 0.6 else [(x, y), *corners[2:]]))
     return oasis_head(1000) + oasis_cell("TOP", *shapes) + END
 
 
@@ -148,7 +150,7 @@ def recast_case(case, folder, program, shots):
         corners = (corners[k:] + corners[:k])[::some.choice((1, -1))]
         outlines.append(corners)
     for name, data in (("P.oas", oasis_head(2000) + oasis_cell("T", *map(oasis_polygon, outlines)) + END),
-                       ("P.gds", gds_head(bytes.fromhex("3944B82FA09B5A54")) + gds_cell("T", *map(gds_boundary, outlines)) + GDS_END)):
+                       ("P.gds", gds_head() + gds_cell("T", *map(gds_boundary, outlines)) + GDS_END)):
         with open(os.path.join(folder, name), "wb") as file:
             file.write(data)
         options = ["--unit", "500"] if name == "P.gds" else []

@@ -1,10 +1,10 @@
 #!/usr/bin/env python3
 """Tests the modules that read and write layouts and shot files: tests/layout_bytes.py [PROGRAM [FILES]]
 
-What tools/layout_bytes.py writes must be the bytes that docs/FORMATS.md shows, and what it reads must be what was written.
-Shot files that are changed at random are read by tools/nettletide_shots.py with numpy, where it is there, and without: both must
-give the same shots and the same fault, and with PROGRAM those that `nettletide shots` prints. FILES is their number, 300 where it
-isn't given.
+What tools/layout_bytes.py writes must be the bytes that docs/FORMATS.md shows, and what it reads must be
+what was written. Shot files that are changed at random are read by tools/nettletide_shots.py with numpy,
+where it is there, and without: both must give the same shots and the same fault, and with PROGRAM those that
+`nettletide shots` prints. FILES is their number, 300 where it isn't given.
 """
 import os
 import random
@@ -105,11 +105,12 @@ def random_shot(some):
 def random_file(some, path):
     """A shot file of up to 400 shots, which is changed in up to two places."""
     layer, datatype = some.choice(((1, 0), (10, 0), (300, 7)))
-    ns.write_shots(path, some.choice((2, 2000, 500000)), layer, datatype, [random_shot(some) for _ in range(some.randint(0, 400))])
+    shots = [random_shot(some) for _ in range(some.randint(0, 400))]
+    ns.write_shots(path, some.choice((2, 2000, 500000)), layer, datatype, shots)
     with open(path, "rb") as file:
         data = bytearray(file.read())
     for _ in range(some.choice((0, 1, 1, 2))):
-        at = some.choice((some.randrange(len(data)), some.randrange(min(len(data), 60)), some.randrange(41, len(data) - 254)))
+        at = some.choice((some.randrange(len(data)), some.randrange(60), some.randrange(41, len(data) - 254)))
         change = some.randrange(4)
         if change == 0:
             data[at] ^= 1 << some.randrange(8)
@@ -134,7 +135,8 @@ def test_what_is_written():
         file = ns.ShotFile(path)
         assert (file.unit, file.layer, file.datatype) == (2000, 5, 6) and list(file) == shots
         size = os.path.getsize(path)
-        for shot, inputs in (((0, 0, 0, 1, 0, 1), ()), ((0, 2, 0, 5, 1, 5), ()), ((0, 2, 1, 5, 3, 5), ()), ((0, 1, 0, 1, 0, 1), [path])):
+        flat, other_angle, off_the_grid, right = (0, 0, 0, 1, 0, 1), (0, 2, 0, 5, 1, 5), (0, 2, 1, 5, 3, 5), (0, 1, 0, 1, 0, 1)
+        for shot, inputs in ((flat, ()), (other_angle, ()), (off_the_grid, ()), (right, [path])):
             try:
                 ns.write_shots(path, 2000, 5, 6, [shot], inputs)
             except (ValueError, Refused):

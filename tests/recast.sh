@@ -1,10 +1,12 @@
 #!/usr/bin/env bash
-# Recasts shots that KLayout made or saved. KLayout cuts the areas of ten decks into trapezoids in two ways of its own: as shot files
-# `check` must find them exact, or name a tile. Shot files that KLayout read and saved must come back with the same shots.
+# Recasts shots that KLayout made or saved. KLayout cuts the areas of ten decks into trapezoids in two ways
+# of its own: as shot files `check` must find them exact, or name a tile. Shot files that KLayout read and
+# saved must come back with the same shots.
 #
 #     usage: tests/recast.sh PROGRAM [COUNT [FIRST]]
 #
-# COUNT random layouts with their decks (8 where it is missing, the first with the number FIRST) are taken beside the examples.
+# COUNT random layouts with their decks (8 where it is missing, the first with the number FIRST) are taken
+# beside the examples.
 set -u
 . "$(dirname "$0")/check.sh" || exit 1
 program=$(realpath "$1") || exit 1

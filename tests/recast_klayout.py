@@ -2,9 +2,10 @@
 
     klayout -b -rd list=FILE -r tests/recast_klayout.py
 
-Each line of FILE names a folder, and a layout and a deck in it, whose outputs are there. For each output OUT the area is cut into
-trapezoids by KLayout, with either of its ways to do that, as OUT.simple.oas and OUT.level.gds; and OUT itself is read and saved with
-KLayout's own options, as OUT.saved.oas and OUT.saved.gds.
+Each line of FILE names a folder, and a layout and a deck in it, whose outputs are there. For each output OUT
+the area is cut into trapezoids by KLayout, with either of its ways to do that, as OUT.simple.oas and
+OUT.level.gds; and OUT itself is read and saved with KLayout's own options, as OUT.saved.oas and
+OUT.saved.gds.
 """
 import os
 import sys

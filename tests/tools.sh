@@ -1,7 +1,7 @@
 #!/usr/bin/env bash
-# Tests how the tools end: with a file that isn't there, an empty one, a wrong one, a mistyped word, and an input as output each must
-# print one line that names what is wrong, end with status 2, and leave all files as they were. Then all tools are run once as
-# they are installed, from another folder.
+# Tests how the tools end: with a file that isn't there, an empty one, a wrong one, a mistyped word, and an
+# input as output each must print one line that names what is wrong, end with status 2, and leave all files
+# as they were. Then all tools are run once as they are installed, from another folder.
 #
 #     usage: tests/tools.sh PROGRAM
 set -u
@@ -26,7 +26,8 @@ ln -s block_open.oas link.oas
 ls >"$room/before"
 sha256sum ./* >"$room/sums"
 
-# ends NAMED WORD..: the tool with these words ends with status 2 and one line that names NAMED, and nothing is changed
+# ends NAMED WORD..: the tool with these words ends with status 2 and one line that names NAMED, and nothing
+# is changed
 ends() {
     local named=$1 status
     shift
@@ -157,7 +158,8 @@ cp ../block.deck . && cp ../block_gates.oas ../block_open.oas .
 check 'installed: compare' runs nettletide-compare -o m.lyrdb b.gds block.deck
 check 'installed: strips' runs nettletide-strips block.deck b.gds 2 strips
 joins() {
-    seq 0 $(($(wc -l <strips/jobs) - 1)) | xargs -n 1 strips/run && nettletide-join strips g.oas o.oas && cmp g.oas block_gates.oas && cmp o.oas block_open.oas
+    seq 0 $(($(wc -l <strips/jobs) - 1)) | xargs -n 1 strips/run && nettletide-join strips g.oas o.oas \
+        && cmp g.oas block_gates.oas && cmp o.oas block_open.oas
 }
 check 'installed: join' runs joins
 if command -v klayout >/dev/null; then

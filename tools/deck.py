@@ -6,7 +6,8 @@ from typing import Dict, List, NamedTuple, Optional, Set, Tuple
 from tool_files import Refused, read_bytes
 
 SETTINGS = {"unit": 2, "top": 2, "band": 2, "limits": 3, "frame": 5}
-STEPS = {"layer": (4,), "or": (4,), "and": (4,), "sub": (4,), "xor": (4,), "grow": (4, 5), "shrink": (4, 5), "invert": (3,), "mirror": (4,)}
+STEPS = {"layer": (4,), "or": (4,), "and": (4,), "sub": (4,), "xor": (4,), "grow": (4, 5), "shrink": (4, 5),
+         "invert": (3,), "mirror": (4,)}
 DEFAULT_BAND = 1 << 20
 DEFAULT_LIMITS = (1 << 20, 1 << 21)
 
@@ -47,7 +48,8 @@ class Deck:
             self.outputs.append(Output(words[1], words[2], int(words[3]), int(words[4])))
         elif kind in STEPS and len(words) in STEPS[kind]:
             self.steps.append(words)
-            list(map(int, words[2 if kind == "layer" else 3:] if kind in ("layer", "grow", "shrink", "mirror") else []))
+            if kind in ("layer", "grow", "shrink", "mirror"):
+                list(map(int, words[2 if kind == "layer" else 3:]))
         else:
             raise ValueError(kind)
 

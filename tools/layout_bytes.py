@@ -1,6 +1,7 @@
 """The bytes of GDSII and OASIS files: what writes them, and what reads them.
 
-Lengths are grid steps of the file. What writes gives `bytes`; what reads raises LayoutFault, which has the place.
+Lengths are grid steps of the file. What writes gives `bytes`; what reads raises LayoutFault, which has the
+place.
 
     writing GDSII   gds_record, gds_name, gds_int16, gds_int32, gds_real_bytes, gds_head, GDS_END, gds_cell,
                     gds_boundary, gds_box, gds_path, gds_placement, gds_text
@@ -31,7 +32,8 @@ class LayoutFault(ValueError):
 # ---- GDSII, written
 
 NO_DATES = bytes(24)
-# A thousandth and a billionth, as eight-byte reals: the grid is a nanometre, and a thousandth of the user's unit.
+# A thousandth and a billionth, as eight-byte reals: the grid is a nanometre, and a thousandth of the user's
+# unit.
 THOUSANDTH = bytes.fromhex("3E4189374BC6A7F0")
 NANOMETRE = bytes.fromhex("3944B82FA09B5A54")
 

@@ -1,7 +1,7 @@
 """Layouts written as plain text, a line for each thing: what the tools gds and oas have in common.
 
-A format's writer has `begin(unit)` (with the word of the line `unit`, or None), `cell(name, elements)` and `end`, and for each kind
-of line a method that gives its bytes.
+A format's writer has `begin(unit)` (with the word of the line `unit`, or None), `cell(name, elements)` and
+`end`, and for each kind of line a method that gives its bytes.
 """
 from __future__ import annotations
 

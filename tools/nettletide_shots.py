@@ -5,8 +5,9 @@
     for y0, y1, a, b, c, d in read_shots("block.oas"):
         ...
 
-A shot is a tuple of six numbers, as in a line of `nettletide shots`: its lower and its upper Y, the X of its lower side's left
-and right end, and the X of its upper side's left and right end. Lengths are half units of the deck.
+A shot is a tuple of six numbers, as in a line of `nettletide shots`: its lower and its upper Y, the X of its
+lower side's left and right end, and the X of its upper side's left and right end. Lengths are half units of
+the deck.
 
     read_shots(path)      the shots one after another, as tuples
     read_columns(path)    the same in pieces of six columns, which are numpy arrays where numpy is there, else lists
@@ -17,11 +18,12 @@ and right end, and the X of its upper side's left and right end. Lengths are hal
     triangles(shot), box_width(shot), is_legal(shot)      its area in triangles of the half grid, the width of its box, and whether
                           six numbers are a shot
 
-A file is taken exactly where `nettletide shots` takes it, but for its length, which may be any. Every other file raises ShotFault
-with the file, the fault and the byte in the program's words, once the shots before it were given. Only a piece of the file is in
-memory. With numpy a piece is decoded an array at a time: the bytes that end numbers give where numbers begin, and the seventh bits
-are put together for all numbers at once. Without it a regular expression finds the records, and numbers are looked up among those
-that were seen before.
+A file is taken exactly where `nettletide shots` takes it, but for its length, which may be any. Every other
+file raises ShotFault with the file, the fault and the byte in the program's words, once the shots before it
+were given. Only a piece of the file is in memory. With numpy a piece is decoded an array at a time: the
+bytes that end numbers give where numbers begin, and the seventh bits are put together for all numbers at
+once. Without it a regular expression finds the records, and numbers are looked up among those that were seen
+before.
 """
 from __future__ import annotations
 

@@ -2,8 +2,8 @@
 
     areas(shots)     the connected areas of shots, lowest first, each an Area: its size, its box, and its polygons
 
-Two trapezoids belong to one area where they share a part of a side. Nothing is intersected here: what sides have in common is
-dropped, and the rest is walked along.
+Two trapezoids belong to one area where they share a part of a side. Nothing is intersected here: what sides
+have in common is dropped, and the rest is walked along.
 """
 from __future__ import annotations
 

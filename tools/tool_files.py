@@ -97,8 +97,8 @@ def is_plain(path: str) -> bool:
 def replacing(path: str, inputs: Iterable[str] = (), is_text: bool = False) -> Iterator[io.IOBase]:
     """A file to write. It is made beside `path` and takes its place at the end; after a fault `path` is as it was.
 
-    A link is followed, the permissions of a file that was there are kept, and what is no regular file (a device, a pipe) is
-    written straight. A path that is one of the inputs is refused.
+    A link is followed, the permissions of a file that was there are kept, and what is no regular file (a
+    device, a pipe) is written straight. A path that is one of the inputs is refused.
     """
     check_output(path, inputs)
     mode, encoding = ("w", "utf-8") if is_text else ("wb", None)

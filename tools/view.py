@@ -1,7 +1,8 @@
 """Shows a layout and shots side by side in KLayout; tools/view runs it, and says what the words are.
 
-Each panel after the layout has shots in the layout's scale, and above it the numbers that the report of `fracture` has, as
-KLayout counts them in the files: how many shots, and their area in triangles of the half grid. Panels are in rows.
+Each panel after the layout has shots in the layout's scale, and above it the numbers that the report of
+`fracture` has, as KLayout counts them in the files: how many shots, and their area in triangles of the half
+grid. Panels are in rows.
 """
 import pya
 
