@@ -1,4 +1,4 @@
-use Rattle.std.proofs.Common.{◌≡◌, ℤ, pos, Err, FitsSigned, w64, rules, to_z, of_z, ap, subst, sym, ◌∙◌, arith}
+use Rattle.std.proofs.Common.{ℤ, pos, Err, FitsSigned, w64, rules, ap, subst, sym, ◌∙◌, arith}
 use Rattle.std.proofs.lemmas.Int.{ints, to_z-of_z}
 use Rattle.depot.specs.Counts.{Rose}
 use Rattle.density_map.specs.Windows.{IsWindowSize}
@@ -14,10 +14,11 @@ returns-in-Ok-say_densities-clause-counted_so g c = λ told.
     let sized : IsWindowSize (pos c.args.size) =
     record { low = omega (arith, ints, c.requires.size.0); high = omega (arith, ints, c.requires.size.1) } in
     let fits : FitsSigned w64 c.from.result = search rules in
-    let same : to_z w64 (of_z w64 c.from.result) ≡ pos c.args.size = first_of (c.from.ensures, to_z-of_z w64 c.from.result fits ∙ c.from.ensures) in
+    let said : IsSaid c.in-Ok.plan (pos c.args.size) g.D.Depot.tells (at c.args.depot.now) (at c.say_densities.new.depot) =
+    subst (λ (z : ℤ). IsSaid c.in-Ok.plan z g.D.Depot.tells (at c.args.depot.now) (at c.say_densities.new.depot))
+    (to_z-of_z w64 c.from.result fits ∙ c.from.ensures) c.in-Ok-say_densities.ensures.ok in
     counted_done c.in-Ok.plan (pos c.args.size) g.D.Depot.tells (at c.args.depot.now) (at c.say_densities.new.depot) _
-    c.args.input.now c.in-Ok.ensures sized told
-    (subst (λ (z : ℤ). IsSaid c.in-Ok.plan z g.D.Depot.tells (at c.args.depot.now) (at c.say_densities.new.depot)) same c.in-Ok-say_densities.ensures.ok)
+    c.args.input.now c.in-Ok.ensures sized told said
 
 pub returns-clause-counted_so : goal.returns-clause-counted_so
 returns-clause-counted_so g c = λ told.
@@ -26,10 +27,11 @@ returns-clause-counted_so g c = λ told.
     let sized : IsWindowSize (pos c.args.size) =
     record { low = omega (arith, ints, c.requires.size.0); high = omega (arith, ints, c.requires.size.1) } in
     let fits : FitsSigned w64 c.from.result = search rules in
-    let same : to_z w64 (of_z w64 c.from.result) ≡ pos c.args.size = first_of (c.from.ensures, to_z-of_z w64 c.from.result fits ∙ c.from.ensures) in
+    let cut : IsCutShort c.in-Ok.plan (pos c.args.size) (at c.args.depot.now) (at c.say_densities.new.depot) =
+    subst (λ (z : ℤ). IsCutShort c.in-Ok.plan z (at c.args.depot.now) (at c.say_densities.new.depot))
+    (to_z-of_z w64 c.from.result fits ∙ c.from.ensures) (c.in-Err.ensures.refused told) in
     subst (λ (s : Status). AreCounted (at c.args.depot.now) (at c.say_densities.new.depot)
     (Rose (counts c.args.depot.now).write_faults (counts c.say_densities.new.depot).write_faults) (pos c.args.size)
     c.args.input.now s) (sym c.fault_status.ensures)
     (counted_cut c.in-Ok.plan (pos c.args.size) (at c.args.depot.now) (at c.say_densities.new.depot) _ c.args.input.now
-    c.in-Err.bad c.in-Ok.ensures sized (λ e. c.in-Err.ensures.counts.failed (ap Err e))
-    (subst (λ (z : ℤ). IsCutShort c.in-Ok.plan z (at c.args.depot.now) (at c.say_densities.new.depot)) same (c.in-Err.ensures.refused told)))
+    c.in-Err.bad c.in-Ok.ensures sized (λ e. c.in-Err.ensures.counts.failed (ap Err e)) cut)
