@@ -244,15 +244,26 @@ no_matter_where() {
     [ "$status" -eq 1 ] && cmp said.txt <(echo 'words refused') && cmp report.txt <(report) && is_expected
 }
 
-# The example on a pseudo terminal: what is shown of the files, that it is removed in the end, and the same answers.
+# The example on a pseudo terminal: what is shown of the files, that it is removed before the report, the lines after it, and the
+# same answers.
 is_shown() {
-    local wipe=$'\r\033[K'
+    local begin=$'\r\033[K\033[?7l' end=$'\033[?7h'
     rm -f square.oas
-    script -qec "$program fracture square.gds square.deck >report.txt" /dev/null </dev/null >shown.txt || return 1
+    env -u COLUMNS script -qec "$program fracture square.gds square.deck >report.txt" /dev/null </dev/null >shown.txt || return 1
     cmp report.txt <(report) && is_expected || return 1
-    grep -qF "${wipe}reading square.gds: 0.0 of 0.0 MB" shown.txt && grep -qF "${wipe}writing square.oas: 0.0 MB" shown.txt &&
-        grep -qF "${wipe}writing square.oas: band 0 of " shown.txt &&
-        cmp <(tail -c 4 shown.txt) <(printf '%s' "$wipe")
+    grep -qF "${begin}reading square.gds: 0:00, 0 of 168 bytes$end" shown.txt && grep -qF "${begin}judging square.gds: 0:0" shown.txt &&
+        grep -qF "${begin}covering square.oas: 0 of 20 rows, 0:00" shown.txt || return 1
+    # what stays is after the last time that the row was wiped
+    sed 's/.*\r\o033\[K//' shown.txt | tail -n 2 | tr -d '\r' >stays.txt
+    grep -qx 'square.oas: 1 shots, 0.000 um2, least width 0.010 um, least height 0.010 um, [0-9]* s' stays.txt &&
+        grep -qx 'reading [0-9]* s, in all [0-9]* s\(, [0-9]* MB of memory at most\)\?' stays.txt
+}
+
+# no_longer_than COLUMNS: where the environment tells that number of columns, each line is shorter and ends with a word
+no_longer_than() {
+    COLUMNS=$1 script -qec "$program fracture square.gds square.deck >report.txt" /dev/null </dev/null >shown.txt || return 1
+    tr '\r' '\n' <shown.txt | sed -n 's/.*\o033\[?7l\(.*\)\o033\[?7h.*/\1/p' >lines.txt
+    [ -s lines.txt ] && ! grep -q "^.\{$1\}" lines.txt && grep -qx 'reading square.gds:' lines.txt
 }
 
 for words in '' help --help -h --version 'fracture square.gds' 'fracture square.gds square.deck more' 'generate 0 a.gds'; do
@@ -266,6 +277,7 @@ if [ -c /dev/full ]; then
 fi
 if script -qec true /dev/null </dev/null >/dev/null 2>&1; then
     check 'progress is shown on a terminal and removed' is_shown
+    check 'no line is longer than a narrow terminal' no_longer_than 20
 else
     echo 'skipped: a pseudo terminal, since there is no script'
 fi
