@@ -136,7 +136,7 @@ strips_refused 'too many definitions' 'the deck has no room for 3 more definitio
 not_joined() {
     rm -f joined.oas
     "$tools/join" strips joined.oas 2>told >/dev/null && return 1
-    grep -q "$1" told && [ ! -e joined.oas ] && [ ! -e joined.oas.part ] && return
+    grep -q "$1" told && [ ! -e joined.oas ] && [ ! -e joined.oas.nettletide-part0 ] && return
     cat told
     return 1
 }

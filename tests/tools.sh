@@ -121,7 +121,7 @@ is_replaced() {
     cp block_gates.oas old.oas && chmod 600 old.oas && ln -s old.oas new.oas && "$tools/recast" block_open.oas new.oas >/dev/null \
         && cmp old.oas block_open.oas && [ -L new.oas ] && [ "$(stat -c %a old.oas)" = 600 ] || return 1
     ! (ulimit -f 1 && trap '' XFSZ && exec "$tools/recast" block_gates.oas old.oas >/dev/null 2>&1) && cmp old.oas block_open.oas \
-        && [ -z "$(find . -name '*.part*')" ]
+        && [ -z "$(find . -name '*part*')" ]
 }
 check 'a file is replaced whole, through a link, with its permissions' is_replaced
 rm -f old.oas new.oas

@@ -93,56 +93,65 @@ def is_plain(path: str) -> bool:
         return True
 
 
-@contextlib.contextmanager
-def replacing(path: str, inputs: Iterable[str] = (), is_text: bool = False) -> Iterator[io.IOBase]:
-    """A file to write. It is made beside `path` and takes its place at the end; after a fault `path` is as it was.
+def make_part(target: str, ending: str = "") -> str:
+    """Makes the file that is to become `target`, and gives its name. Where `target` is there it must be one that may be written."""
+    if os.path.exists(target):
+        open(target, "r+b").close()
+    for number in range(1000):
+        part = f"{target[:len(target) - len(ending)]}.nettletide-part{number}{ending}"
+        try:
+            open(part, "xb").close()
+            return part
+        except FileExistsError:
+            pass  # another run may be writing it
+    raise Refused(f"{target}: a thousand files like {part} are beside it: remove those that no run writes")
 
-    A link is followed, the permissions of a file that was there are kept, and what is no regular file (a
-    device, a pipe) is written straight. A path that is one of the inputs is refused.
+
+def put_in_place(part: str, target: str) -> None:
+    """Puts a whole file in its place, with the permissions of the one that was there."""
+    with open(part, "rb") as file:
+        os.fsync(file.fileno())
+    if os.path.exists(target):
+        shutil.copymode(target, part)
+    os.replace(part, target)
+
+
+@contextlib.contextmanager
+def replacing_name(path: str, inputs: Iterable[str] = (), ending: str = "") -> Iterator[str]:
+    """The name of a file to write, which is beside `path` and takes its place at the end; after a fault `path` is as it was.
+
+    A link is followed, the permissions of a file that was there are kept, and what is no regular file (a device, a pipe)
+    is written straight. A path that is one of the inputs is refused. The name ends as asked, where `path` does.
     """
-    check_output(path, inputs)
-    mode, encoding = ("w", "utf-8") if is_text else ("wb", None)
-    if not is_plain(path):
-        with open(path, mode, encoding=encoding) as file:
-            yield file
-        return
-    target = os.path.realpath(path)
-    part = f"{target}.{tool_name()}-{os.getpid()}.part"
-    try:
-        with open(part, mode.replace("w", "x"), encoding=encoding) as file:
-            yield file
-        if os.path.exists(target):
-            shutil.copymode(target, part)
-        os.replace(part, target)
-    except OSError as fault:
-        if fault.filename == part:
-            fault.filename, fault.filename2 = path, None
-        raise
-    finally:
-        if os.path.exists(part):
-            os.remove(part)
-
-
-@contextlib.contextmanager
-def replacing_name(path: str, inputs: Iterable[str] = ()) -> Iterator[str]:
-    """The same for another program that writes: the name of the file that it is to make, which ends as `path` does."""
     check_output(path, inputs)
     if not is_plain(path):
         yield path
         return
     target = os.path.realpath(path)
-    root, ending = os.path.splitext(target)
-    part = f"{root}.{tool_name()}-{os.getpid()}.part{ending}"
-    open(part, "xb").close()  # a folder that can't be written is found before the program runs
-    os.remove(part)
+    try:
+        part = make_part(target, ending)
+    except OSError as fault:
+        fault.filename = path
+        raise
     try:
         yield part
-        if os.path.exists(target):
-            shutil.copymode(target, part)
-        os.replace(part, target)
+        put_in_place(part, target)
     finally:
         if os.path.exists(part):
             os.remove(part)
+
+
+@contextlib.contextmanager
+def replacing(path: str, inputs: Iterable[str] = (), is_text: bool = False) -> Iterator[io.IOBase]:
+    """The same, as an open file."""
+    with replacing_name(path, inputs) as name:
+        try:
+            with open(name, "w" if is_text else "wb", encoding="utf-8" if is_text else None) as file:
+                yield file
+        except OSError as fault:
+            if fault.filename in (None, name):
+                fault.filename = path  # a full disk, say
+            raise
 
 
 def read_bytes(path: str) -> bytes:
