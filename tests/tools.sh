@@ -57,6 +57,7 @@ for file in none empty wrong; do
     refuses "$file" recast $file out.oas
     refuses "$file" compare block.gds block.deck block_gates.oas $file
     refuses "$file" compare block.gds $file
+    refuses "$file" report block.gds $file
     refuses "$file" join $file out.oas
     refuses "$file" strips $file block.gds 2 folder
     if [ $file != wrong ]; then
@@ -78,7 +79,7 @@ refuses '2 outputs' compare block.gds block.deck block_open.oas
 refuses 'byte' recast block.gds out.oas
 
 # Words that aren't those of the usage.
-for tool in gds oas draw density recast compare join strips readable view adapt; do
+for tool in gds oas draw density recast compare report join strips readable view adapt; do
     refuses usage $tool
     refuses usage $tool --mistyped
 done
@@ -102,6 +103,7 @@ for out in block_open.oas link.oas; do
     refuses 'is the input' compare -o $out block.gds block.deck
 done
 refuses 'is the input' density -o densities densities
+refuses 'is the input' report --files --output link.oas block.gds block.deck
 refuses 'is the input' compare -o link.gds block.gds block.deck
 refuses "isn't an empty folder" strips block.deck block.gds 2 .
 if command -v klayout >/dev/null; then
@@ -156,6 +158,7 @@ check 'installed: density' runs nettletide-density -o e.svg ../densities
 check 'installed: recast' runs nettletide-recast ../block_open.oas r.oas
 cp ../block.deck . && cp ../block_gates.oas ../block_open.oas .
 check 'installed: compare' runs nettletide-compare -o m.lyrdb b.gds block.deck
+check 'installed: report' runs nettletide-report --files b.gds block.deck
 check 'installed: strips' runs nettletide-strips block.deck b.gds 2 strips
 joins() {
     seq 0 $(($(wc -l <strips/jobs) - 1)) | xargs -n 1 strips/run && nettletide-join strips g.oas o.oas \
