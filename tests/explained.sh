@@ -11,6 +11,7 @@
 #     base                  a layout G.gds with one square, and a deck K for it
 #     deck LINE..           a deck K of unit 1000, top TOP and these lines
 #     gds FILE, oas FILE    make a layout from a description, as tools/gds and tools/oas do
+#     made FILE TEXT        makes a file of the bytes of a Python expression over tools/layout_bytes.py
 #     hex FILE DIGITS       put bytes after those of a file
 #     set FILE OFFSET DIGITS    put bytes in the place of those at an offset
 #
@@ -29,6 +30,7 @@ deck() { printf '%s\n' 'unit 1000' 'top TOP' "\$@" >K; }
 base() { printf 'cell TOP\nbox 7 0 0,0 100,100\n' | gds G.gds; deck 'layer A 7 0' 'write A a.oas 1 0'; }
 gds() { "$top/tools/gds" "\$1"; }
 oas() { "$top/tools/oas" "\$1"; }
+made() { PYTHONPATH="$top/tools" python3 -Bc "import sys; from layout_bytes import *; sys.stdout.buffer.write(\$2)" >"\$1"; }
 hex() { printf "\$(printf '%s' "\$2" | sed 's/../\\\\x&/g')" >>"\$1"; }
 set() { printf "\$(printf '%s' "\$3" | sed 's/../\\\\x&/g')" | dd of="\$1" bs=1 seek="\$2" conv=notrunc status=none; }
 END
