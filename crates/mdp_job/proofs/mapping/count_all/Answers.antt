@@ -11,14 +11,16 @@ use Rattle.mdp_job.proofs.mapping.count_all.Goals as goal
 pub returns-in-Ok-say_densities-clause-counted_so : goal.returns-in-Ok-say_densities-clause-counted_so
 returns-in-Ok-say_densities-clause-counted_so g c = λ told.
     let at = g.D.Depot.content in
+    let counts = g.D.Depot.counts in
     let sized : IsWindowSize (pos c.args.size) =
     record { low = omega (arith, ints, c.requires.size.0); high = omega (arith, ints, c.requires.size.1) } in
     let fits : FitsSigned w64 c.from.result = search rules in
     let said : IsSaid c.in-Ok.plan (pos c.args.size) g.D.Depot.tells (at c.args.depot.now) (at c.say_densities.new.depot) =
     subst (λ (z : ℤ). IsSaid c.in-Ok.plan z g.D.Depot.tells (at c.args.depot.now) (at c.say_densities.new.depot))
     (to_z-of_z w64 c.from.result fits ∙ c.from.ensures) c.in-Ok-say_densities.ensures.ok in
-    counted_done c.in-Ok.plan (pos c.args.size) g.D.Depot.tells (at c.args.depot.now) (at c.say_densities.new.depot) _
-    c.args.input.now c.in-Ok.ensures sized told said
+    counted_done c.in-Ok.plan (pos c.args.size) g.D.Depot.tells (at c.args.depot.now) (at c.say_densities.new.depot)
+    (Rose (counts c.args.depot.now).write_faults (counts c.say_densities.new.depot).write_faults) c.args.input.now
+    c.in-Ok.ensures sized told said
 
 pub returns-clause-counted_so : goal.returns-clause-counted_so
 returns-clause-counted_so g c = λ told.
