@@ -1,10 +1,7 @@
 //! Texts that were worked out by hand.
+use crate::HeardDepot;
 use crate::note::Note;
-use crate::{Ended, HeardDepot, explain};
-use deck_text::DeckBad;
 use depot::{MemDepot, say_whole};
-use job_input::DeckFault;
-use job_report::Status;
 use std::test::Fail;
 
 #[test]
@@ -24,32 +21,6 @@ fn numbers_and_lengths(rt: HostRuntime) -> Result<(), Fail> {
         text.as_slice(),
         b"1,208,114 999 -1.200 617.2835 0.666666".as_slice()
     );
-    Ok(())
-}
-
-#[test]
-fn a_misspelt_command(rt: HostRuntime) -> Result<(), Fail> {
-    let mut depot = MemDepot::new(rt.alloc());
-    depot.add("K", b"unit 1000\ntop TOP\n  wriet A a.oas 1 0\n")?;
-    let words = ["fracture", "G.gds", "K"];
-    let mut list = Vec::new(rt.alloc());
-    for word in words {
-        list.push(String::from_str(rt.alloc(), word)?)?;
-    }
-    let status = Status::Deck(DeckFault::Bad(DeckBad::Line(3, 3)));
-    let ended = Ended {
-        words: list.as_slice(),
-        status: &status,
-        fault: None,
-        empty_outputs: 0,
-    };
-    let told = explain(rt.alloc(), &ended, &mut depot);
-    let wanted = "nettletide: K: line 3: a line has a word that can't stand there, or ends too early
-      wriet A a.oas 1 0
-      ^ unknown command 'wriet': unit, top, band, limits, frame, layer, or, and, sub, xor, grow, shrink, invert, mirror, write
-    compare it with the tables of DECK.md; a number has at most 18 digits, a name begins with none
-";
-    assert_eq!(rt; told.as_deref(), Some(wanted.as_bytes()));
     Ok(())
 }
 
