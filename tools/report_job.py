@@ -2,6 +2,7 @@
 import hashlib
 import os
 import platform
+import re
 import subprocess
 import time
 from collections import Counter
@@ -53,13 +54,13 @@ class Program:
 
     def version(self):
         ended = subprocess.run([self.path, "--version"], stdout=subprocess.DEVNULL, stderr=subprocess.PIPE)
-        words = ended.stderr.decode(errors="replace").split()
-        return " ".join(words[:2]) if words[:1] == ["nettletide"] else "a program that says no version"
+        said = re.search(r"^nettletide \d\S*", ended.stderr.decode(errors="replace"), re.MULTILINE)
+        return said[0] if said else "a program that says no version"
 
     def run(self, *words):
         """Status and text of a command."""
         began = time.monotonic()
-        ended = subprocess.run([self.path, *words], stdout=subprocess.PIPE)
+        ended = subprocess.run([self.path, *words], stdout=subprocess.PIPE, stderr=subprocess.DEVNULL)
         self.times.append((words[0], time.monotonic() - began))
         return ended.returncode, ended.stdout.decode(errors="backslashreplace")
 
