@@ -125,7 +125,8 @@ strips_refused 'a band beyond the reach' 'a band of 1025 rows straddles' far.gds
 deck 'band 1024' -- 'write C out.oas 1 0' >K
 strips_refused 'a deck that the program refuses' 'K: deck refused: line 6 unknown C'
 deck 'band 1024' -- "$write" >K
-strips_refused 'a layout that the program refuses' 'told: layout refused: gdsii' told
+echo 'no layout' >none.gds
+strips_refused 'a layout that the program refuses' 'none.gds: layout refused: gdsii' none.gds
 for ((k = 0; k < 254; k++)); do echo "layer X$k $k 1"; done >more
 deck 'band 1024' -- "$(<more)" "$write" >K
 strips_refused 'too many definitions' 'the deck has no room for 3 more definitions'

@@ -156,13 +156,13 @@ def gds_real(content: bytes) -> Fraction:
 
 def gds_numbers(content: bytes, size: int) -> Tuple[int, ...]:
     """Numbers of two or four bytes with their signs."""
-    form = {2: "h", 4: "i"}[size]
-    return struct.unpack(f">{len(content) // size}{form}", content)
+    count, form = len(content) // size, {2: "h", 4: "i"}[size]
+    return struct.unpack_from(f">{count}{form}", content)
 
 
 def gds_points(content: bytes) -> List[Point]:
     """The points of an XY record."""
-    flat = gds_numbers(content[:len(content) // 8 * 8], 4)
+    flat = gds_numbers(content, 4)
     return list(zip(flat[::2], flat[1::2]))
 
 
