@@ -58,6 +58,7 @@ for file in none empty wrong; do
     refuses "$file" compare block.gds block.deck block_gates.oas $file
     refuses "$file" compare block.gds $file
     refuses "$file" report block.gds $file
+    refuses "$file" stats block_open.oas $file
     refuses "$file" join $file out.oas
     refuses "$file" strips $file block.gds 2 folder
     if [ $file != wrong ]; then
@@ -79,7 +80,7 @@ refuses '2 outputs' compare block.gds block.deck block_open.oas
 refuses 'byte' recast block.gds out.oas
 
 # Words that aren't those of the usage.
-for tool in gds oas draw density recast compare report join strips readable view adapt; do
+for tool in gds oas draw density recast compare report stats join strips readable view adapt; do
     refuses usage $tool
     refuses usage $tool --mistyped
 done
@@ -158,6 +159,7 @@ check 'installed: density' runs nettletide-density -o e.svg ../densities
 check 'installed: recast' runs nettletide-recast ../block_open.oas r.oas
 cp ../block.deck . && cp ../block_gates.oas ../block_open.oas .
 check 'installed: compare' runs nettletide-compare -o m.lyrdb b.gds block.deck
+check 'installed: stats' runs nettletide-stats block_open.oas
 check 'installed: report' runs nettletide-report --files b.gds block.deck
 check 'installed: strips' runs nettletide-strips block.deck b.gds 2 strips
 joins() {
