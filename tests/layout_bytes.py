@@ -133,7 +133,8 @@ def test_what_is_written():
         path = os.path.join(folder, "shots.oas")
         assert ns.write_shots(path, 2000, 5, 6, shots) == 10000
         file = ns.ShotFile(path)
-        assert (file.unit, file.layer, file.datatype) == (2000, 5, 6) and list(file) == shots
+        assert (file.unit, file.layer, file.datatype) == (2000, 5, 6)
+        assert all(read(path, way) == (shots, "") for way in each_way())
         size = os.path.getsize(path)
         flat, other_angle, off_the_grid, right = (0, 0, 0, 1, 0, 1), (0, 2, 0, 5, 1, 5), (0, 2, 1, 5, 3, 5), (0, 1, 0, 1, 0, 1)
         for shot, inputs in ((flat, ()), (other_angle, ()), (off_the_grid, ()), (right, [path])):
@@ -143,6 +144,14 @@ def test_what_is_written():
                 assert os.path.getsize(path) == size and os.listdir(folder) == ["shots.oas"]
             else:
                 raise AssertionError(f"{shot} was written")
+
+
+def each_way():
+    """Tuples and columns, with numpy, where it is there, and without it."""
+    numpy = ns.numpy
+    for ns.numpy in {numpy, None}:
+        yield from ("tuples", "columns")
+    ns.numpy = numpy
 
 
 def read(path, way):
@@ -177,17 +186,13 @@ def test_shot_files(program, count):
         faults = set()
         for number in range(count):
             random_file(some, path)
-            answers = []
-            for way in ("tuples", "columns"):
-                for ns.numpy in {numpy, None}:
-                    answers.append(read(path, way))
+            answers = [read(path, way) for way in each_way()]
             assert all(answer == answers[0] for answer in answers), (number, [answer[1] for answer in answers])
             shots, fault = answers[0]
             faults.add(fault.split(" ")[0])
             if program:
                 listed, said = printed(program, path)
                 assert said == fault and (fault or listed == shots), (number, said, fault)
-        ns.numpy = numpy
     assert faults == {"", "head", "record", "spelling", "illegal", "end"} or count < 300, faults
     return "numpy and without" if numpy else "no numpy here"
 
