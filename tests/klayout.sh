@@ -135,6 +135,17 @@ adapted() {
 adapted steps.gds 10
 adapted steps.oas 10
 
+# On another grid it is as large in micrometres.
+regridded() {
+    "$top/tools/adapt" --grid "$1" odd.gds grid.oas 10 >grid.said && grep -qx "$2" grid.said \
+        && grep -q "^oasis, unit $3, " <("$top/tools/readable" grid.oas) && return
+    printf 'FAILED: tools/adapt --grid %s\n' "$1"
+    cat grid.said
+    failed=$((failed + 1))
+}
+regridded 0.0005 'scaled by 2' 2000
+regridded 0.002 'scaled by 1/2, and rounded' 500
+
 [ $packs = yes ] || echo 'skipped: packed files, since the program has no command pack'
 [ $splits = yes ] || echo 'skipped: stripes, since the program has no command split'
 klayout -b -rd cases="$room/cases" -rd stripe=$stripe -r "$top/tests/klayout.py" | tee "$room/said"

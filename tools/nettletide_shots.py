@@ -197,6 +197,10 @@ class Shapes(dict):
         self.skipped = 2 + pair_length
         self.parities: Dict[bytes, int] = {}
 
+    def clear(self) -> None:
+        super().clear()
+        self.parities.clear()
+
     def __missing__(self, begin: bytes) -> Tuple[int, int, int, int, int]:
         numbers = []
         for spelled in re.findall(NUMBER, begin[self.skipped:]):

@@ -188,8 +188,8 @@ def klayout(script: str, words: Sequence[str], has_window: bool = False, **value
     given = [word for name, value in values.items() for word in ("-rd", f"{name}={value}")]
     environment = dict(os.environ) if has_window else {**os.environ, "QT_QPA_PLATFORM": "offscreen"}
     ended = subprocess.run(["klayout", *words[:-1], *given, words[-1], os.path.join(HERE, script)], env=environment,
-                           stdout=subprocess.PIPE, stderr=None if has_window else subprocess.PIPE)
-    said = ended.stdout.decode(errors="replace")
+                           stdout=None if has_window else subprocess.PIPE, stderr=None if has_window else subprocess.PIPE)
+    said = (ended.stdout or b"").decode(errors="replace")
     if ended.returncode != 0:
         lines = [line for line in (said + (ended.stderr or b"").decode(errors="replace")).splitlines() if line.strip()]
         errors = [line for line in lines if "error" in line.lower()]
