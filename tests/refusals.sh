@@ -121,15 +121,25 @@ ended_as_ever() {
     done
 }
 
-# line_is_lost WHAT NUMBER: the last call was to say the line of a refusal, which changes no status. Over a depot in memory
-# that may want memory, which the depot counts.
+# line_is_lost WHAT NUMBER: the call was to say the line of a refusal, which changes no status; there is one such call. Over a
+# depot in memory that may want memory, which the depot counts.
 line_is_lost() {
     [ "$wanted" -ne 0 ] && [ "$status" -eq "$wanted" ] && [ ! -s said ] || return 1
     if [ "$1" = call ]; then
-        [ "$2" -eq "$calls" ]
+        [ "$2" -eq "${lost:=$2}" ]
     else
         [ "$(cat told)" = 'counted: want of memory' ]
     fi
+}
+
+# The program of the test puts out what the depot in memory has after the run, and that was refused.
+was_put_out_in_part() {
+    is_over_memory && [ "$status" -eq 8 ] && [ ! -s said ] && outputs_are_sound "$1"
+}
+
+# What is told of a refusal on standard error may be refused, which changes nothing else.
+explained_less() {
+    [ "$wanted" -ne 0 ] && ended_as_ever
 }
 
 # judge WHAT NUMBER HOW LINE..
@@ -140,7 +150,8 @@ judge() {
     # how long the output is where want of memory is the answer, and no depot counted one
     [ "$what" != allocation ] || [ "$status" -ne 6 ] || [ ! -e out.oas ] || [ -s told ] || sizes+=" $(stat -c %s out.oas) "
     if inputs_are_untouched; then
-        [ "$what" = allocation ] && { nothing_began "$how" || ended_as_ever; } && return
+        [ "$what" = allocation ] && { nothing_began "$how" || ended_as_ever || was_put_out_in_part "$how"; } && return
+        explained_less && return
         line_is_lost "$what" "$number" && return
         line_is_right "$@" && outputs_are_sound "$how" && return
     fi
@@ -166,6 +177,7 @@ row() {
     shift 2
     outputs=("$@")
     sizes=
+    lost=
     over=("$program")
     prepare absent
     run_with COUNTS=counts
@@ -196,6 +208,7 @@ row_over_memory() {
     local allocations calls number
     row="$row, over a depot in memory"
     sizes=
+    lost=
     over_memory whole
     prepare absent
     run_with COUNTS=counts
