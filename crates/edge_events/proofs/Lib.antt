@@ -1,0 +1,4 @@
+mod EdgeParts
+mod EventLemmas
+mod Orders
+mod ByNumber

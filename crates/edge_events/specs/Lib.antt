@@ -1,0 +1,4 @@
+-- ---- what is promised, in reading order
+pub mod EventNumbers
+pub mod Orders
+pub mod Sources
