@@ -52,9 +52,9 @@ pub record IsPlaced (e : Event) : Type 0 where
   pub on_line : e.x ≡ x_on e.line e.y
   pub within : IsWithinReach e.x
 
--- four times the X of the line at the Y, and its rank: in order of these, lines stand in the row above the Y
-abbrev pub key_on : Line → ℤ → ℤ
-key_on line y = twice (twice (x_on line y)) +ℤ pos (rank_of line)
+-- four times its X, and the rank of its line: by these keys the lines of one Y's events stand as in the row above it
+abbrev pub key_of : Event → ℤ
+key_of e = twice (twice e.x) +ℤ pos (rank_of e.line)
 
 -- the kind is one of the twelve that there are
 abbrev pub IsNumber : EventNumber → Type 0

@@ -1,5 +1,5 @@
 //! An event as a number.
-ghost use Rattle.std.specs.Prelude.{◌≡◌, ◌≤◌, ◌%◌, ◌^◌, ◌+ℤ◌, ◌-ℤ◌, pos};
+ghost use Rattle.std.specs.Prelude.{◌≡◌, ◌≤◌, ◌/◌, ◌%◌, ◌^◌, ◌+ℤ◌, ◌-ℤ◌, pos};
 ghost use Rattle.half_grid.specs.Halves.{half};
 ghost use Rattle.half_grid.specs.Reach.{IsWithinReach};
 ghost use Rattle.edge_events.specs.EventNumbers.{rank_of, operand_kind, way_kind, kind_of, line_at, operand_at, event_at, x_of};
@@ -77,6 +77,14 @@ fn x_of(place: u64) -> i64
     (place / 16) as i64 - REACH
 }
 
+// A quarter of the place, moved back.
+#[inline]
+fn moved_back(place: u64) -> i64
+    ensures { result ≡ pos (place / 4) -ℤ pos (2 ^ 46) }
+{
+    (place / 4) as i64 - 4 * REACH
+}
+
 // Half the difference, rounded down.
 #[inline]
 fn half_difference(point: Point) -> i64
@@ -132,7 +140,7 @@ fn event_at(kind: u64, point: Point) -> Event
 }
 
 impl EventNumber {
-    ghost use Rattle.edge_events.specs.EventNumbers.{IsPlaced, event_of, key_on};
+    ghost use Rattle.edge_events.specs.EventNumbers.{IsPlaced, IsNumber, event_of, key_of};
 
     /// The number of an event that is on its line, within reach.
     #[inline]
@@ -157,5 +165,30 @@ impl EventNumber {
             y: self.y,
         };
         event_at(self.place % 16, point)
+    }
+
+    /// Four times its X, and the rank of its line: 0 where that falls, 1 where it is upright, 2 where it rises.
+    #[inline]
+    pub fn key(self) -> i64
+        requires { IsNumber self }
+        ensures { result ≡ key_of (event_of self) }
+    {
+        moved_back(self.place)
+    }
+
+    /// Whether the weight of the line is greater above it.
+    #[inline]
+    pub fn is_up(self) -> bool
+        ensures { result ≡ (event_of self).up }
+    {
+        self.place % 2 == 0
+    }
+
+    /// The operand whose weight changes.
+    #[inline]
+    pub fn operand(self) -> Operand
+        ensures { result ≡ (event_of self).operand }
+    {
+        operand_at(self.place % 16)
     }
 }
