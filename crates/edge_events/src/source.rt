@@ -9,7 +9,7 @@ ghost use Rattle.edge_events.specs.Sources.{AreSortedEvents};
 
 use crate::clipping::part_in;
 use crate::number::EventNumber;
-use crate::sorting::sorted;
+use crate::sorting::sort_numbers;
 use geo_stream::NoMemory;
 use half_grid::{Edge, Window};
 use row_lists::Event;
@@ -101,8 +101,8 @@ pub fn sorted_events(
     ensures { IfOk result (λ numbers. AreSortedEvents (parts_in window edges.items) (map event_of numbers.items)) }
 {
     know_parts(edges.as_slice(), window);
-    let numbers = numbers_in(alloc, edges.as_slice(), window)?;
+    let mut numbers = numbers_in(alloc, edges.as_slice(), window)?;
     drop(edges);
-    let sorted = sorted(alloc, numbers)?;
-    Ok(sorted)
+    sort_numbers(alloc, numbers.as_mut_slice())?;
+    Ok(numbers)
 }
