@@ -19,9 +19,6 @@ PREFIX := /usr/local
 
 .PHONY: all help try test check gate example system tools readme pictures compare hostile fuzz slurm bench figures agree install put-in-place dist clean
 
-# how large the layouts of `make bench` are: small, or large, which has up to 16 million shots
-SIZE := small
-
 all: $(PROGRAM)
 
 help:
@@ -40,8 +37,8 @@ help:
 	@echo 'make fuzz            gives it broken files'
 	@echo 'make slurm           runs strips on the batch system Slurm, where it is installed'
 	@echo 'make agree           sweeps 10,000 random cases in three ways, and compares'
-	@echo 'make bench           measures whole runs beside peers, and single layers; SIZE=large for the large layouts'
-	@echo 'make figures         measures all, and puts the tables into docs/: an hour'
+	@echo 'make bench           measures whole runs beside peers, and single layers; WHAT=layers, kinds, peers, .. one of these'
+	@echo 'make figures         measures whole runs, and puts the tables into docs/: ten minutes'
 	@echo 'make pictures        draws the pictures of docs/'
 	@echo 'make install         puts program, tools, man page and documents under PREFIX, /usr/local if not given'
 	@echo 'make dist            packs them into build/nettletide-$(VERSION).tar.gz, with a checksum'
@@ -143,21 +140,27 @@ fuzz: $(PROGRAM)
 slurm: $(PROGRAM)
 	tests/slurm.sh $(PROGRAM)
 
-# Single layers, timed on inputs that the program makes in memory; then whole runs on layouts in build/bench, beside KLayout
-# and Boost.Polygon where they are installed, and what the program alone takes. WHAT chooses one of the tables of measure/bench.
-bench: $(BENCH) $(PROGRAM)
-	measure/bench $(PROGRAM) build/bench $(or $(WHAT),$(SIZE))
-ifndef WHAT
-	for what in steps files densities strips; do measure/measure $(PROGRAM) build/bench $$what || exit 1; done
+# Whole runs on layouts in build/bench, beside KLayout and Boost.Polygon where they are installed, and what the program alone
+# takes; then single layers, timed on inputs that the program `bench` makes in memory. WHAT chooses one of these tables.
+WHOLE_RUNS := kinds peers shots counts
+ALONE := steps files densities strips
+bench: $(PROGRAM) $(if $(filter-out layers,$(WHAT)),,$(BENCH))
+	for what in $(filter $(WHOLE_RUNS),$(or $(WHAT),kinds peers shots)); do \
+	    measure/bench $(PROGRAM) build/bench $$what || exit 1; \
+	done
+	for what in $(filter $(ALONE),$(or $(WHAT),$(ALONE))); do measure/measure $(PROGRAM) build/bench $$what || exit 1; done
+ifeq ($(WHAT),)
 	measure/reading $(PROGRAM) build/bench
 	measure/check_bench $(PROGRAM) build/bench 400000
+endif
+ifeq ($(filter-out layers,$(WHAT)),)
 	measure/measure $(BENCH) build/bench layers
 	measure/sweeps $(BENCH) build/bench
 endif
 
-# All that is measured, put into docs/.
-figures: $(BENCH) $(PROGRAM)
-	measure/figures $(PROGRAM) $(BENCH) build/bench
+# Whole runs, measured and put into docs/.
+figures: $(PROGRAM)
+	measure/figures $(PROGRAM) build/bench
 
 # Ten thousand random cases, swept as the program does it, slab by slab and by the plane sweep: all must give the same trapezoids.
 agree: $(BENCH)
