@@ -24,12 +24,12 @@ pub(crate) const READ_FAULT: Advice = Advice {
 
 /// `write fault`
 pub(crate) const WRITE_FAULT: Advice = Advice {
-    means: "a file or the report couldn't be written: the files before it are whole, that one is cut",
+    means: "a file or the report couldn't be written: the files before it are whole, that one is as it was",
     advice: "look for a missing folder, a full disk, or a file that you may not write",
 };
 
 /// `want of memory`
 pub(crate) const WANT_OF_MEMORY: Advice = Advice {
-    means: "the system refused memory: the files before it are whole, one may be cut",
+    means: "the system refused memory: files that are there are whole, the others are as they were",
     advice: "take a machine with more memory, or a smaller `band` where shapes are as tall as the chip",
 };
